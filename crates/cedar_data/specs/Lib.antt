@@ -1,0 +1,5 @@
+pub mod Entries
+pub mod Fed
+pub mod NonEmpty
+pub mod Text
+pub mod formers

@@ -1,0 +1,18 @@
+//! Data that contracts see plainly: texts as lists of characters, and lists, maps and boxes as what they hold.
+#![tactic(auto)]
+
+pub mod boxed;
+pub mod clone_in;
+pub mod laws;
+pub mod list;
+pub mod map;
+pub mod non_empty;
+pub mod text;
+
+pub use boxed::Boxed;
+pub use clone_in::CloneIn;
+pub use laws::lawful;
+pub use list::List;
+pub use map::Map;
+pub use non_empty::{NonEmpty, NonEmptyIter};
+pub use text::Text;

@@ -1,0 +1,3 @@
+pub mod ThinTokens
+pub mod ThinGrammar
+pub mod ThinMeaning
