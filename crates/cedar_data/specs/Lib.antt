@@ -1,5 +1,6 @@
 pub mod Entries
 pub mod Fed
 pub mod NonEmpty
+pub mod Span
 pub mod Text
 pub mod formers

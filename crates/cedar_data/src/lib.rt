@@ -5,7 +5,9 @@ pub mod boxed;
 pub mod clone_in;
 pub mod laws;
 pub mod list;
+pub mod loc;
 pub mod map;
+pub mod node;
 pub mod non_empty;
 pub mod text;
 
@@ -13,6 +15,8 @@ pub use boxed::Boxed;
 pub use clone_in::CloneIn;
 pub use laws::lawful;
 pub use list::List;
+pub use loc::Loc;
 pub use map::Map;
+pub use node::Node;
 pub use non_empty::{NonEmpty, NonEmptyIter};
 pub use text::Text;

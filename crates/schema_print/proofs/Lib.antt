@@ -1,0 +1,10 @@
+mod Ascii
+mod Joined
+mod Later
+mod Meant
+mod Parsed
+mod Paths
+mod Pushed
+mod ReadsBack
+mod Scanned
+mod Tokens
