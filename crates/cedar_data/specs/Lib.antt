@@ -1,5 +1,6 @@
 pub mod Entries
 pub mod Fed
+pub mod Halving
 pub mod NonEmpty
 pub mod Span
 pub mod Text

@@ -20,3 +20,6 @@ pub use map::Map;
 pub use node::Node;
 pub use non_empty::{NonEmpty, NonEmptyIter};
 pub use text::Text;
+
+#[cfg(test)]
+mod tests;

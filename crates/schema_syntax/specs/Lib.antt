@@ -1,3 +1,5 @@
 pub mod ThinTokens
 pub mod ThinGrammar
 pub mod ThinMeaning
+pub mod ThinReading
+pub mod ThinGives

@@ -1,0 +1,5 @@
+mod OnePlan
+mod Planned
+mod Ran
+mod TakenBytes
+mod Written

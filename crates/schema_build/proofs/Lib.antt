@@ -1,0 +1,12 @@
+mod Paths
+mod Marked
+mod Steps
+mod Rising
+mod Found
+mod Rows
+mod Order
+mod Places
+mod Names
+mod Undefined
+mod Closing
+mod OneMeaning

@@ -1,0 +1,4 @@
+pub mod CloseFault
+pub mod Graph
+pub mod Marks
+pub mod Ranks

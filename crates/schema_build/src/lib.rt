@@ -1,0 +1,14 @@
+//! What the declarations of a schema mean, and why they mean nothing.
+#![tactic(auto)]
+
+pub mod close;
+pub mod close_fault;
+pub mod laws;
+mod ranks;
+mod reach;
+#[cfg(test)]
+mod tests;
+
+pub use close::close_thin;
+pub use close_fault::CloseFault;
+pub use laws::{faults_exclude_meaning, one_fault, one_meaning};

@@ -1,0 +1,7 @@
+pub mod Tokens
+pub mod Scans
+pub mod Names
+pub mod Words
+pub mod Sound
+pub mod Complete
+pub mod Decls
