@@ -60,7 +60,8 @@ impl<T> NonEmpty<T> {
 impl<T: Drop> NonEmpty<T> {
     /// The list of these items, and `None` exactly where there is none. It takes no memory.
     pub fn from_vec(mut items: Vec<T>) -> Option<NonEmpty<T>>
-        ensures { MatchOption result (items.items ≡ []) (λ list. list ≡ items.items) }
+        ensures none { IfNone result (items.items ≡ []) }
+        ensures some { IfSome result (λ list. (list ≡ items.items) × (0 < length list)) }
     {
         if items.is_empty() {
             return None;

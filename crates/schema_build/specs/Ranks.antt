@@ -58,10 +58,11 @@ IsUpToRepeats pairs place = (k : ℕ) → IsRepeatAt pairs k → place ≤ (pair
 abbrev pub IsRepeated : List (List ℕ × ℕ) → ℕ → Type 0
 IsRepeated pairs place = (k : ℕ) × IsRepeatAt pairs k × ((pair_at pairs (k + 1)).1 ≡ place)
 
--- one of the names is this one, or none
+-- whether the name is one of these
 abbrev pub is_named : List (List ℕ) → List ℕ → Bool
 is_named names name = list_any (λ n. bytes_eq n name) names
 
+-- whether it is none of them
 abbrev pub is_unnamed : List (List ℕ) → List ℕ → Bool
 is_unnamed names name = not (is_named names name)
 

@@ -117,10 +117,6 @@ pub fn parent_ranks(
     }
     match NonEmpty::from_vec(undefined) {
         None => Ok(graph),
-        Some(parents) => {
-            // What `first` ensures tells that there is one.
-            let _ = parents.first();
-            Err(CloseFault::Undefined(parents))
-        }
+        Some(parents) => Err(CloseFault::Undefined(parents)),
     }
 }

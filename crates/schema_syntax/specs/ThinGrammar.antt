@@ -1,5 +1,5 @@
 -- The grammar of plain entity declarations, one case for each production. A list of tokens is the lists of its parts, joined.
-use Rattle.std.specs.Prelude.{◌≡◌, ◌≢◌, ℕ, Bool, false, List, [], ◌∷◌, ◌++◌, codes, All}
+use Rattle.std.specs.Prelude.{◌≡◌, ◌≢◌, ℕ, false, List, [], ◌∷◌, ◌++◌, codes, All}
 use Rattle.std.specs.List.{list_any}
 use Rattle.std.specs.Str.{bytes_eq}
 use Rattle.schema_syntax.specs.declared.thin_decl.ThinDecl.{ThinDecl}

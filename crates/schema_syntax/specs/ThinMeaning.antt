@@ -1,5 +1,5 @@
 -- What plain entity declarations mean.
-use Rattle.std.specs.Prelude.{◌≡◌, ◌≢◌, ◌↔◌, ◌<◌, ℕ, Bool, not, List, [], ◌∷◌, ◌++◌, All, AllPairs, Contains, map, filter, length}
+use Rattle.std.specs.Prelude.{◌≡◌, ◌≢◌, ◌↔◌, ◌<◌, ℕ, Bool, not, List, ◌∷◌, ◌++◌, All, AllPairs, Contains, map, filter, length}
 use Rattle.std.specs.List.{flat_map, list_any}
 use Rattle.std.specs.List.Sorted.{IsPermutation, IsStrictlySortedBy}
 use Rattle.std.specs.Str.{bytes_eq}

@@ -35,7 +35,7 @@ returns-in-None-clause-declared c =
     let names = c.args.names.now in
     let places = c.args.places.now in
     undefined_none decls names places c.requires.ranked
-    (sym (undefined_end (λ place. filter (is_unnamed names) (decl_at decls place).parents) places l.place-index l.undefined.items c.loop-place-test.false l.invariant.undefined) ∙ c.in-None.ensures)
+    (sym (undefined_end (λ place. filter (is_unnamed names) (decl_at decls place).parents) places l.place-index l.undefined.items c.loop-place-test.false l.invariant.undefined) ∙ c.in-None.ensures.none)
 
 pub returns-in-Some-clause-fault : goal.returns-in-Some-clause-fault
 returns-in-Some-clause-fault c =
@@ -44,5 +44,5 @@ returns-in-Some-clause-fault c =
     let names = c.args.names.now in
     let places = c.args.places.now in
     let all : c.in-Some.parents ≡ flat_map (λ place. filter (is_unnamed names) (decl_at decls place).parents) places =
-    c.in-Some.ensures ∙ undefined_end (λ place. filter (is_unnamed names) (decl_at decls place).parents) places l.place-index l.undefined.items c.loop-place-test.false l.invariant.undefined in
-    (c.requires.no_repeat, undefined_all decls names places c.requires.ranked c.in-Some.parents all (subst (λ ps. 0 < length ps) (sym c.first.ensures.1) (omega arith)))
+    c.in-Some.ensures.some.0 ∙ undefined_end (λ place. filter (is_unnamed names) (decl_at decls place).parents) places l.place-index l.undefined.items c.loop-place-test.false l.invariant.undefined in
+    (c.requires.no_repeat, undefined_all decls names places c.requires.ranked c.in-Some.parents all c.in-Some.ensures.some.1)
