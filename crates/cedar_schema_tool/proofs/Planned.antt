@@ -1,6 +1,6 @@
 -- What the program is to do.
 use Rattle.std.proofs.Common.{◌≡◌, ◌<◌, ◌≤◌, ℕ, List, [], ◌∷◌, length, get_or, Result, Bool, Option, Some, None, refl, sym, ap, ◌∙◌, subst, arith, IsUtf8, String, Global}
-use Rattle.std.specs.Prelude.{map, codes}
+use Rattle.std.specs.Prelude.{map}
 use Rattle.std.specs.Bool.{IsTrue}
 use Rattle.std.specs.Result.{IfOk}
 use Rattle.std.specs.Str.{encode_utf8_all, bytes_eq}
@@ -8,14 +8,13 @@ use Rattle.std.specs.String.{string_bytes}
 use Rattle.std.specs.declared.alloc.AllocError.{AllocError}
 use Rattle.std.proofs.lemmas.Result.{IfOk-weaker}
 use Rattle.std.proofs.lemmas.Slice.Eq.{bytes_eq-Decides}
-use Rattle.cedar_names.specs.CanonicalText.{canonical_text}
 use Rattle.schema_syntax.specs.ThinMeaning.{TextMeaning, IsValid}
 use Rattle.cedar_schema_tool.specs.declared.reply.Reply.{Reply}
 use Rattle.cedar_schema_tool.specs.declared.recover.Recovered.{Recovered}
 use Rattle.cedar_schema_tool.specs.declared.status.Status.TheVariants.{Done}
 use Rattle.cedar_schema_tool.specs.Recovery.{IsRecovered}
 use Rattle.cedar_schema_tool.specs.Replies.{report_of}
-use Rattle.cedar_schema_tool.specs.Plan.{Report, IsRecover, IsRecoverPlan, IsPlan, not_text, refused, done, recover, done_report, not_text_report, refused_report}
+use Rattle.cedar_schema_tool.specs.Plan.{Report, IsRecover, IsRecoverPlan, not_text, refused, done, recover, done_report, not_text_report, refused_report}
 use Rattle.cedar_schema_tool.specs.Input.{HadLeft, max_input}
 use Rattle.cedar_schema_tool.specs.Run.{Device, LeftAs, IsReported, planned}
 use Rattle.cedar_names.specs.Outside.{IsEnd}
@@ -26,9 +25,10 @@ pub one_word : (words : List (String Global)) (word : String Global) (text targe
 one_word [] word text target r some few e t d = absurd (omega arith)
 one_word (w ∷ v ∷ ws) word text target r some few e t d = absurd (omega arith)
 one_word (w ∷ []) word text target r some few e t d =
-    let same : text ≡ string_bytes w = t ∙ ap string_bytes e in
-    ( (λ h. ap (λ b. b ∷ []) (sym same ∙ (bytes_eq-Decides text target).0 (sym d ∙ h)))
-    , (λ h. d ∙ (bytes_eq-Decides text target).1 (same ∙ (let head : string_bytes w ≡ target = cc in head))) )
+    let same : text ≡ string_bytes w = t ∙ ap string_bytes e in (
+      (λ h. ap (λ b. b ∷ []) (sym same ∙ (bytes_eq-Decides text target).0 (sym d ∙ h))),
+      (λ h. d ∙ (bytes_eq-Decides text target).1 (same ∙ (let head : string_bytes w ≡ target = cc in head))),
+    )
 
 -- some bytes were left
 pub had_some : (o : Option (List ℕ)) → (bytes : List ℕ) × HadLeft o bytes
@@ -43,7 +43,7 @@ module _ (bytes : List ℕ) where
       → IsRecoverPlan bytes (report_of (record { status = Done; out = recovered.text; err = err }))
   done_planned text recovered err same utf8 r none =
       let e : done_report r.meaning ≡ report_of (record { status = Done; out = recovered.text; err = err }) =
-          λ i. record { status = Done; out = encode_utf8_all (sym r.canonical i); err = encode_utf8_all (sym none i) } in
+      λ i. record { status = Done; out = encode_utf8_all (sym r.canonical i); err = encode_utf8_all (sym none i) } in
       subst (IsRecoverPlan bytes) e (done utf8 r.meaning (subst (λ t. TextMeaning t r.meaning) same r.means))
 
   pub refused_planned : (r : Result Reply AllocError) (text : List ℕ) → text ≡ bytes → IsUtf8 bytes → IfOk r (λ reply. (IsValid text → ⊥) × (report_of reply ≡ refused_report))
@@ -67,4 +67,4 @@ module _ (words : List (List ℕ)) (source : Device) where
       → IfOk r (λ reply. IsRecoverPlan lent (report_of reply)) → IfOk r (λ reply. IsReported words source (report_of reply))
   input_reported r lent bytes same is had short end told =
       IfOk-weaker r _ _ (λ reply h. let plan : IsRecoverPlan bytes (report_of reply) = subst (λ b. IsRecoverPlan b (report_of reply)) same h in
-          planned bytes had (recover is short plan) (left_at_end bytes source (report_of reply) plan end)) told
+      planned bytes had (recover is short plan) (left_at_end bytes source (report_of reply) plan end)) told

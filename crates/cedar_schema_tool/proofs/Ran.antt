@@ -1,14 +1,13 @@
 -- What follows from how a run went.
-use Rattle.std.proofs.Common.{◌≡◌, ◌≤◌, ◌⊎◌, ℕ, List, [], length, Option, Some, None, inl, inr, refl, sym, ap, ◌∙◌, subst, arith}
+use Rattle.std.proofs.Common.{◌≡◌, ◌≤◌, ◌⊎◌, ℕ, List, length, Option, Some, None, inl, inr, refl, sym, ap, ◌∙◌, subst, arith}
 use Rattle.std.specs.Str.{encode_utf8_all}
 use Rattle.cedar_names.specs.CanonicalText.{canonical_text}
-use Rattle.cedar_names.specs.Outside.{Appends, IsEnd}
 use Rattle.cedar_names.specs.declared.thin_entry.ThinEntry.{ThinEntry}
 use Rattle.schema_syntax.specs.ThinMeaning.{TextMeaning}
 use Rattle.cedar_schema_tool.specs.declared.status.Status.{Status}
 use Rattle.cedar_schema_tool.specs.declared.status.Status.TheVariants.{Done, Refused, Usage, ReadFault, WriteFault, NotText, TooLong, Memory}
 use Rattle.cedar_schema_tool.specs.Input.{HadLeft}
-use Rattle.cedar_schema_tool.specs.Plan.{Report, IsRecover, IsPlan, IsRecoverPlan, usage, too_long, recover, not_text, refused, done, read_fault_report}
+use Rattle.cedar_schema_tool.specs.Plan.{Report, IsPlan, IsRecoverPlan, usage, too_long, recover, not_text, refused, done, read_fault_report}
 use Rattle.cedar_schema_tool.specs.Run.{Device, LeftAs, IsReported, planned, read_fault, TookWhole, IsDelivered, whole, out_failed, err_failed, IsRun, delivered, wanted_memory, Recovers, NoFault}
 
 -- what was left is what is told
@@ -18,7 +17,6 @@ told (Some left) all bytes e h = let same : left ≡ all = cc in sym same ∙ h
 
 module _ (one : (words : List (List ℕ)) (bytes : List ℕ) (report other : Report) → IsPlan words bytes report → IsPlan words bytes other → report ≡ other)
     (words : List (List ℕ)) (source : Device) (bytes : List ℕ) (left : source.before ≡ Some bytes) (plan : Report) (is : IsPlan words bytes plan) where
-
   -- the report is the plan, where no read failed
   same_report : (report : Report) → IsReported words source report → (report ≡ plan) ⊎ (report ≡ read_fault_report)
   same_report report (planned all had p l) = inl (one words bytes report plan (subst (λ b. IsPlan words b report) (sym (told source.before bytes all left had)) p) is)
@@ -70,7 +68,6 @@ memory_done e = cc
 
 module _ (survives : (text : List ℕ) (meaning : List ThinEntry) → TextMeaning text meaning → TextMeaning (encode_utf8_all (canonical_text meaning)) meaning)
     (words : List (List ℕ)) (source out err : Device) where
-
   recovers_from : (bytes : List ℕ) (report : Report) → HadLeft source.before bytes → IsRecoverPlan bytes report → LeftAs source report.status → TookWhole out report.out → TookWhole err report.err
       → report.status ≡ Done → Recovers source out err
   recovers_from bytes report had (not_text h) l o e d = absurd (not_text_done d)

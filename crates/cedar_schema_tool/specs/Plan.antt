@@ -1,5 +1,5 @@
 -- What the program is to do, for its words and its input.
-use Rattle.std.specs.Prelude.{◌≡◌, ◌≢◌, ◌<◌, ◌≤◌, ◌++◌, ℕ, List, [], ◌∷◌, length, codes, IsUtf8}
+use Rattle.std.specs.Prelude.{◌≡◌, ◌<◌, ◌≤◌, ℕ, List, [], ◌∷◌, length, codes, IsUtf8}
 use Rattle.std.specs.Str.{encode_utf8_all}
 use Rattle.cedar_names.specs.declared.thin_entry.ThinEntry.{ThinEntry}
 use Rattle.cedar_names.specs.CanonicalText.{canonical_text}

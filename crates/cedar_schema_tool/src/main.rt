@@ -9,7 +9,6 @@ mod reply;
 mod run;
 mod status;
 mod std_streams;
-
 #[cfg(test)]
 mod tests;
 

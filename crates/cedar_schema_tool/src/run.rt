@@ -69,11 +69,7 @@ fn recover_reply(alloc: Global, bytes: &[u8]) -> Result<Reply, AllocError>
 }
 
 // Reads the input where the words ask for it, and takes all memory that the run needs.
-fn prepare<S: Source>(
-    alloc: Global,
-    words: &[String],
-    source: &mut S,
-) -> Result<Reply, AllocError>
+fn prepare<S: Source>(alloc: Global, words: &[String], source: &mut S) -> Result<Reply, AllocError>
     ensures reported { IfOk result (λ reply. IsReported (map string_bytes words.now) (device S.left S.faults source.old source.new) (report_of reply)) }
     ensures taken { TookAtMost (max_input + 1) (S.left source.old) (S.left source.new) }
     ensures later { S.faults source.old ≤ S.faults source.new }

@@ -75,11 +75,20 @@ fn a_valid_text_is_recovered(rt: HostRuntime) -> Result<(), Fail> {
 
 #[test]
 fn an_invalid_text_is_refused(rt: HostRuntime) -> Result<(), Fail> {
-    for text in ["action a;", "entity A; entity A;", "entity A in X;", "entity A"] {
+    for text in [
+        "action a;",
+        "entity A; entity A;",
+        "entity A in X;",
+        "entity A",
+    ] {
         let ran = recover_of(rt.alloc(), text.as_bytes())?;
         assert_eq!(rt; ran.status, Status::Refused, "at {text}");
         assert_eq!(rt; ran.out.as_slice(), b"".as_slice(), "at {text}");
-        assert_eq!(rt; ran.err.as_slice(), b"error: refused\n".as_slice(), "at {text}");
+        assert_eq!(rt;
+            ran.err.as_slice(),
+            b"error: refused\n".as_slice(),
+            "at {text}"
+        );
     }
     Ok(())
 }
@@ -87,12 +96,18 @@ fn an_invalid_text_is_refused(rt: HostRuntime) -> Result<(), Fail> {
 #[test]
 fn a_refusal_names_its_cause(rt: HostRuntime) -> Result<(), Fail> {
     let alloc = rt.alloc();
-    assert!(rt; matches!(recover_schema(alloc, "action a;"), Err(RecoverError::NotBuilt)));
+    assert!(rt;
+        matches!(
+            recover_schema(alloc, "action a;"),
+            Err(RecoverError::NotBuilt)
+        )
+    );
     let repeat = recover_schema(alloc, "entity B; entity A; entity A; entity B;");
     assert!(rt; matches!(&repeat, Err(RecoverError::Duplicate(name)) if name.as_str() == "A"));
-    let Err(RecoverError::Undefined(names)) =
-        recover_schema(alloc, "entity B in [Y, B, Z]; entity A in X;")
-    else {
+    let Err(RecoverError::Undefined(names)) = recover_schema(
+        alloc,
+        "entity B in [Y, B, Z]; entity A in X;",
+    ) else {
         assert!(rt; false, "the parents are not declared");
         return Ok(());
     };
@@ -105,7 +120,7 @@ fn a_refusal_names_its_cause(rt: HostRuntime) -> Result<(), Fail> {
     }
     assert_eq!(rt; at, wanted.len());
     let recovered = recover_schema(alloc, "entity B; entity A;");
-    assert!(rt; matches!(recovered, Ok(r) if r.entity_types == 2 && r.actions == 0));
+    assert!(rt; matches!(&recovered, Ok(r) if r.entity_types == 2 && r.actions == 0));
     Ok(())
 }
 
@@ -130,7 +145,10 @@ fn bytes_that_are_no_text_are_told(rt: HostRuntime) -> Result<(), Fail> {
     let ran = recover_of(rt.alloc(), b"\xff")?;
     assert_eq!(rt; ran.status, Status::NotText);
     assert_eq!(rt; ran.out.as_slice(), b"".as_slice());
-    assert_eq!(rt; ran.err.as_slice(), b"error: the input is not UTF-8\n".as_slice());
+    assert_eq!(rt;
+        ran.err.as_slice(),
+        b"error: the input is not UTF-8\n".as_slice()
+    );
     Ok(())
 }
 
@@ -154,7 +172,7 @@ fn an_input_past_the_limit_is_too_long(rt: HostRuntime) -> Result<(), Fail> {
 #[test]
 fn a_failed_read_is_told(rt: HostRuntime) -> Result<(), Fail> {
     let mut text = b"entity A in A;".to_vec(rt.alloc())?;
-    while text.len() < 8193 {
+    for _ in text.len()..8193 {
         text.push(b' ')?;
     }
     for k in 1..6u64 {
@@ -164,7 +182,11 @@ fn a_failed_read_is_told(rt: HostRuntime) -> Result<(), Fail> {
         if k < 5 {
             assert_eq!(rt; ran.status, Status::ReadFault, "at {k}");
             assert_eq!(rt; ran.out.as_slice(), b"".as_slice(), "at {k}");
-            assert_eq!(rt; ran.err.as_slice(), b"error: reading failed\n".as_slice(), "at {k}");
+            assert_eq!(rt;
+                ran.err.as_slice(),
+                b"error: reading failed\n".as_slice(),
+                "at {k}"
+            );
         } else {
             assert_eq!(rt; ran.status, Status::Done, "the fourth read is the last");
         }
@@ -178,7 +200,11 @@ fn a_full_output_is_told(rt: HostRuntime) -> Result<(), Fail> {
     for room in 0..whole.len() + 1 {
         let mut source = SteadySource::new(b"entity A in A;".to_vec(rt.alloc())?);
         let ran = run_on(rt.alloc(), &["recover"], &mut source, room, AMPLE)?;
-        let status = if room < whole.len() { Status::WriteFault } else { Status::Done };
+        let status = if room < whole.len() {
+            Status::WriteFault
+        } else {
+            Status::Done
+        };
         assert_eq!(rt; ran.status, status, "with room {room}");
         assert!(rt; room <= whole.len());
         assert_eq!(rt; ran.out.as_slice(), &whole[..room], "with room {room}");
@@ -196,7 +222,13 @@ fn a_full_output_is_told(rt: HostRuntime) -> Result<(), Fail> {
 fn a_sink_that_tells_nothing_serves_too(rt: HostRuntime) -> Result<(), Fail> {
     let mut source = SteadySource::new(b"entity A;".to_vec(rt.alloc())?);
     let words = words_of(rt.alloc(), &["recover"])?;
-    let status = run_tool(rt.alloc(), &words, &mut source, &mut NullSink, &mut NullSink);
+    let status = run_tool(
+        rt.alloc(),
+        &words,
+        &mut source,
+        &mut NullSink,
+        &mut NullSink,
+    );
     assert_eq!(rt; status, Status::Done);
     Ok(())
 }

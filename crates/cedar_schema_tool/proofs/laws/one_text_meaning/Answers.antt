@@ -1,4 +1,4 @@
-use Rattle.std.proofs.Common.{◌≡◌, subst}
+use Rattle.std.proofs.Common.{subst}
 use Rattle.schema_syntax.specs.ThinMeaning.{IsMeaning}
 use Rattle.cedar_schema_tool.proofs.laws.one_text_meaning.Goals as goal
 

@@ -1,4 +1,4 @@
-use Rattle.std.proofs.Common.{◌≡◌, ap, ◌∙◌, sym, subst, List, length, refl}
+use Rattle.std.proofs.Common.{◌≡◌, ap, ◌∙◌, sym, subst, length, refl}
 use Rattle.std.specs.Str.{encode_utf8_all}
 use Rattle.cedar_names.specs.CanonicalText.{canonical_text}
 use Rattle.schema_syntax.specs.ThinMeaning.{TextMeaning, NoRepeat, AllDeclared, IsMeaning, IsFirstRepeat, AreUndefined}
@@ -22,7 +22,7 @@ returns-clause-recovered c =
     } in
     let canonical : c.in-Ok-print_thin.text ≡ canonical_text entries = c.in-Ok-print_thin.ensures.text ∙ ap canonical_text there in
     let back : TextMeaning (encode_utf8_all c.in-Ok-print_thin.text) c.deref-2.result.now =
-        c.in-Ok-print_thin.ensures.reads_back c.args.text.now (subst (TextMeaning c.args.text.now) (sym there) means) in
+    c.in-Ok-print_thin.ensures.reads_back c.args.text.now (subst (TextMeaning c.args.text.now) (sym there) means) in
     record {
       meaning = entries;
       means = means;

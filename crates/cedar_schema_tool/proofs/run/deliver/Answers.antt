@@ -1,4 +1,4 @@
-use Rattle.std.proofs.Common.{◌≡◌, [], refl, subst, ap, ◌∙◌, sym}
+use Rattle.std.proofs.Common.{refl, subst, ◌∙◌}
 use Rattle.cedar_names.specs.Outside.{Appends, AppendsPart}
 use Rattle.cedar_schema_tool.specs.Run.{whole, out_failed, err_failed}
 use Rattle.cedar_schema_tool.proofs.run.deliver.Goals as goal

@@ -16,10 +16,10 @@ returns-in-Ok-clause-reported g c =
 pub returns-in-Err-Failed-clause-reported : goal.returns-in-Err-Failed-clause-reported
 returns-in-Err-Failed-clause-reported g c =
     line_reported _ _ c.line-in-Err-Failed.result read_fault_report
-        (read_fault (c.is_recover.ensures.0 c.if-not-is_recover.false) (c.read_input.ensures.failed (rw c.in-Err-Failed.field-0-is at c.in-Err-Failed.is))) c.line-in-Err-Failed.ensures
+    (read_fault (c.is_recover.ensures.0 c.if-not-is_recover.false) (c.read_input.ensures.failed (rw c.in-Err-Failed.field-0-is at c.in-Err-Failed.is))) c.line-in-Err-Failed.ensures
 
 pub returns-in-Err-TooLong-clause-reported : goal.returns-in-Err-TooLong-clause-reported
 returns-in-Err-TooLong-clause-reported g c =
     let long = c.read_input.ensures.too_long (rw c.in-Err-TooLong.field-0-is at c.in-Err-TooLong.is) in
     line_reported _ _ c.line-in-Err-TooLong.result too_long_report
-        (planned long.0 long.1 (too_long (c.is_recover.ensures.0 c.if-not-is_recover.false) long.2) tt) c.line-in-Err-TooLong.ensures
+    (planned long.0 long.1 (too_long (c.is_recover.ensures.0 c.if-not-is_recover.false) long.2) tt) c.line-in-Err-TooLong.ensures

@@ -1,7 +1,6 @@
-use Rattle.std.proofs.Common.{ap, ◌∙◌, ◌≡◌, List, ℕ, [], sym}
+use Rattle.std.proofs.Common.{ap, ◌∙◌, ◌≡◌, []}
 use Rattle.std.specs.Str.{encode_utf8_all}
 use Rattle.std.proofs.lemmas.Str.{encodes-chars}
-use Rattle.cedar_schema_tool.specs.Plan.{Report}
 use Rattle.cedar_schema_tool.proofs.reply.Reply.line.Goals as goal
 
 pub returns : goal.returns

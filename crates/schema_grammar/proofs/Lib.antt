@@ -1,0 +1,9 @@
+pub mod Stops
+pub mod Theory
+pub mod Accept
+pub mod Complete
+pub mod Sound
+pub mod Main
+pub mod Faults
+pub mod Ends
+pub mod LawLemmas

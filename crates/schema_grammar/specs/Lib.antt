@@ -1,0 +1,4 @@
+pub mod Grammar
+pub mod Fault
+pub mod Table
+pub mod Machine
