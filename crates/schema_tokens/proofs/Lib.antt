@@ -1,0 +1,14 @@
+mod Blank
+mod Bodies
+mod ByCharacters
+mod Digits
+mod Ends
+mod Lawful
+mod Longest
+mod OneString
+mod Pieces
+mod Quotation
+mod Quoting
+mod Unique
+mod Values
+mod Whole

@@ -1,0 +1,17 @@
+//! The tokens of Cedar schema texts, and what their strings stand for.
+#![tactic(auto)]
+
+mod blanks;
+pub mod escapes;
+pub mod laws;
+mod places;
+pub mod quotes;
+pub mod scanner;
+mod strings;
+pub mod token;
+mod words;
+
+pub use escapes::{Refusal, unescape};
+pub use quotes::push_quoted;
+pub use scanner::{Scanned, scan};
+pub use token::{Token, string_body, token_text};
