@@ -1,4 +1,4 @@
-ghost use Rattle.std.specs.Prelude.{None};
+ghost use Rattle.std.specs.Prelude.{◌≡◌, None};
 
 use cedar_names::{Failed, Sink, Source};
 use std::io::{Read, Write};
@@ -11,7 +11,11 @@ pub struct StdSource<R: Drop> {
 }
 
 impl<R: Read + Drop> StdSource<R> {
-    pub fn new(input: R) -> StdSource<R> {
+    /// The source of this input, with no fault counted yet.
+    pub fn new(input: R) -> StdSource<R>
+        ensures input { result.input ≡ input }
+        ensures faults { result.faults ≡ 0 }
+    {
         StdSource { input, faults: 0 }
     }
 }
@@ -41,7 +45,11 @@ pub struct StdSink<W: Drop> {
 }
 
 impl<W: Write + Drop> StdSink<W> {
-    pub fn new(output: W) -> StdSink<W> {
+    /// The sink of this output, with no fault counted yet.
+    pub fn new(output: W) -> StdSink<W>
+        ensures output { result.output ≡ output }
+        ensures faults { result.faults ≡ 0 }
+    {
         StdSink { output, faults: 0 }
     }
 }

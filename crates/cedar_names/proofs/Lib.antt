@@ -1,0 +1,10 @@
+mod Ascii
+mod Blanks
+mod Components
+mod Cut
+mod Joins
+mod Normal
+mod Ordered
+mod Pieces
+mod Reading
+mod Unique
