@@ -1,4 +1,5 @@
 mod Paths
+mod Known
 mod Marked
 mod Steps
 mod Rising
@@ -7,6 +8,8 @@ mod Rows
 mod Order
 mod Places
 mod Names
+mod RankRows
+mod Entries
 mod Undefined
 mod Closing
 mod OneMeaning

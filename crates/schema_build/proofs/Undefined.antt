@@ -70,6 +70,11 @@ module _ (decls : List ThinDecl) (names : List (List ℕ)) (places : List ℕ) (
     some = some;
   }
 
+  -- each parent has a name among the names
+  pub named_declared : All (λ d. All (λ n. is_named names n ≡ true) d.parents) decls → AllDeclared decls
+  named_declared all = All-weaker (λ d. All (λ n. is_named names n ≡ true) d.parents) (λ d. All (Contains (names_of decls)) d.parents)
+      (λ d named. All-weaker (λ n. is_named names n ≡ true) (Contains (names_of decls)) (λ n t. name_declared n (true_named names n t)) d.parents named) decls all
+
   -- there is none
   pub undefined_none : flat_map undefined_at places ≡ [] → AllDeclared decls
   undefined_none e =

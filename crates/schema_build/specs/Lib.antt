@@ -2,3 +2,4 @@ pub mod CloseFault
 pub mod Graph
 pub mod Marks
 pub mod Ranks
+pub mod Rows

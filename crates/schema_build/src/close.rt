@@ -3,7 +3,8 @@ ghost use Rattle.schema_syntax.specs.ThinMeaning.{NoRepeat, AllDeclared, IsMeani
 ghost use Rattle.schema_build.specs.CloseFault.{IsCloseFault};
 
 use crate::close_fault::CloseFault;
-use crate::ranks::{parent_ranks, ranked};
+use crate::parents::parent_ranks;
+use crate::ranks::ranked;
 use crate::reach::entries_of;
 use cedar_names::ThinEntry;
 use schema_syntax::ThinDecl;
@@ -18,5 +19,5 @@ pub fn close_thin(alloc: Global, decls: &[ThinDecl]) -> Result<Vec<ThinEntry>, C
 {
     let (names, places) = ranked(alloc, decls)?;
     let graph = parent_ranks(alloc, decls, &names, &places)?;
-    Ok(entries_of(alloc, &names, &graph)?)
+    Ok(entries_of(alloc, names, &graph)?)
 }

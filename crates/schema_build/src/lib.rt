@@ -4,6 +4,7 @@
 pub mod close;
 pub mod close_fault;
 pub mod laws;
+mod parents;
 mod ranks;
 mod reach;
 #[cfg(test)]

@@ -1,13 +1,11 @@
-ghost use Rattle.std.specs.Prelude.{◌≡◌, ◌<◌, ◌≤◌, ◌++◌, [], false, length, filter, IfOk, IfErr, IfSome, IfNone, OnOk, slice_index_or};
-ghost use Rattle.std.specs.List.Sorted.{IsStrictlySortedBy};
+ghost use Rattle.std.specs.Prelude.{◌≡◌, ◌<◌, ◌≤◌, length, IfOk, IfErr, OnOk};
 ghost use Rattle.std.specs.Map.{keys_of, values_of};
-ghost use Rattle.cedar_names.specs.Text.{text_cmp};
-ghost use Rattle.schema_syntax.specs.ThinMeaning.{NoRepeat, AllDeclared};
+ghost use Rattle.schema_syntax.specs.ThinMeaning.{NoRepeat};
 ghost use Rattle.schema_build.specs.CloseFault.{IsCloseFault};
-ghost use Rattle.schema_build.specs.Ranks.{ArePlaced, IsRepeated, IsUpToRepeats, AreRanked, AreRanksOf, AreParentRanks, is_named, is_unnamed};
+ghost use Rattle.schema_build.specs.Ranks.{ArePlaced, IsRepeated, IsUpToRepeats, AreRanked};
 
 use crate::close_fault::CloseFault;
-use cedar_names::{CloneIn, NonEmpty, Text};
+use cedar_names::{CloneIn, Text};
 use schema_syntax::ThinDecl;
 use std::alloc::{AllocError, Global};
 
@@ -15,11 +13,11 @@ use std::alloc::{AllocError, Global};
 fn names_in_order(alloc: Global, decls: &[ThinDecl]) -> Result<Vec<(Text, usize)>, AllocError>
     ensures { IfOk result (λ pairs. ArePlaced decls.now pairs.items) }
 {
-    let mut pairs = Vec::new(alloc);
+    let mut pairs = Vec::with_capacity(alloc, decls.len())?;
     for (place, decl) in decls.iter().enumerate() {
         pairs.push((decl.name.clone_in(alloc)?, place))?;
     }
-    pairs.sort()?;
+    pairs.sort_unstable();
     Ok(pairs)
 }
 
@@ -43,8 +41,8 @@ fn parts_of(alloc: Global, pairs: Vec<(Text, usize)>) -> Result<(Vec<Text>, Vec<
     ensures names { IfOk result (λ parts. parts.0.items ≡ keys_of pairs.items) }
     ensures places { IfOk result (λ parts. parts.1.items ≡ values_of pairs.items) }
 {
-    let mut names = Vec::new(alloc);
-    let mut places = Vec::new(alloc);
+    let mut names = Vec::with_capacity(alloc, pairs.len())?;
+    let mut places = Vec::with_capacity(alloc, pairs.len())?;
     for (name, place) in pairs {
         names.push(name)?;
         places.push(place)?;
@@ -64,59 +62,4 @@ pub fn ranked(alloc: Global, decls: &[ThinDecl]) -> Result<(Vec<Text>, Vec<usize
         return Err(CloseFault::Duplicate(decls[repeat].name.clone_in(alloc)?));
     }
     Ok(parts_of(alloc, pairs)?)
-}
-
-/// The rank of a name among names in order, where it is one of them.
-fn rank_of(names: &[Text], name: &Text) -> Option<usize>
-    requires { IsStrictlySortedBy text_cmp names.now }
-    ensures found { IfSome result (λ rank. (rank < length names.now) × (slice_index_or names.now rank [] ≡ name.now)) }
-    ensures none { IfNone result (is_named names.now name.now ≡ false) }
-{
-    names.binary_search(name).ok()
-}
-
-/// The ranks of those parents that are declared. The other parents are added to the undefined ones.
-fn ranks_of(
-    alloc: Global,
-    names: &[Text],
-    parents: &[Text],
-    undefined: &mut Vec<Text>,
-) -> Result<Vec<usize>, AllocError>
-    requires { IsStrictlySortedBy text_cmp names.now }
-    ensures ranks { IfOk result (λ row. AreRanksOf names.now parents.now row.items) }
-    ensures undefined { OnOk result (undefined.new.items ≡ undefined.old.items ++ filter (is_unnamed names.now) parents.now) }
-{
-    let mut row = Vec::new(alloc);
-    for parent in parents {
-        match rank_of(names, parent) {
-            Some(rank) => row.push(rank)?,
-            None => undefined.push(parent.clone_in(alloc)?)?,
-        }
-    }
-    Ok(row)
-}
-
-/// For each rank the ranks of the parents.
-pub fn parent_ranks(
-    alloc: Global,
-    decls: &[ThinDecl],
-    names: &[Text],
-    places: &[usize],
-) -> Result<Vec<Vec<usize>>, CloseFault>
-    requires ranked { AreRanked decls.now names.now places.now }
-    requires no_repeat { NoRepeat decls.now }
-    ensures graph { IfOk result (λ graph. AreParentRanks decls.now names.now places.now graph.items) }
-    ensures declared { OnOk result (AllDeclared decls.now) }
-    ensures fault { IfErr result (IsCloseFault decls.now) }
-{
-    let mut graph = Vec::new(alloc);
-    let mut undefined = Vec::new(alloc);
-    for &place in places {
-        let parents = decls[place].parents.as_slice();
-        graph.push(ranks_of(alloc, names, parents, &mut undefined)?)?;
-    }
-    match NonEmpty::from_vec(undefined) {
-        None => Ok(graph),
-        Some(parents) => Err(CloseFault::Undefined(parents)),
-    }
 }

@@ -28,64 +28,82 @@ fn add_new(
     Ok(())
 }
 
-/// The vertices that some path with at least one step leads to, in rising order.
+/// Puts the vertices that some path with at least one step leads to into `found`, in rising order, in place of what it held.
 /// A vertex is marked in this round where its mark is the stamp, which is larger than all marks before.
-fn reached(
-    alloc: Global,
+fn find_reached(
     graph: &[Vec<usize>],
     start: usize,
+    found: &mut Vec<usize>,
     marks: &mut [usize],
     stamp: usize,
-) -> Result<Vec<usize>, AllocError>
+) -> Result<(), AllocError>
     requires graph { InRange (length graph.now) graph.now }
     requires start { start < length graph.now }
     requires marks { length marks.old ≡ length graph.now }
     requires stamp { All (λ m. m < stamp) marks.old }
-    ensures reached { IfOk result (λ found. AreReached graph.now start found.items) }
-    ensures below { IfOk result (λ found. All (λ v. v < length graph.now) found.items) }
+    ensures reached { OnOk result (AreReached graph.now start found.new.items) }
+    ensures below { OnOk result (All (λ v. v < length graph.now) found.new.items) }
     ensures marks { OnOk result (All (λ m. m ≤ stamp) marks.new) }
 {
-    let mut found = Vec::new(alloc);
-    add_new(&mut found, marks, stamp, &graph[start])?;
+    found.clear();
+    add_new(found, marks, stamp, &graph[start])?;
     let mut at = 0;
     while at < found.len() {
         let next = found[at];
-        add_new(&mut found, marks, stamp, &graph[next])?;
+        add_new(found, marks, stamp, &graph[next])?;
         at += 1;
     }
     found.sort_unstable();
-    Ok(found)
+    Ok(())
+}
+
+/// An entry for each name, with no ancestors yet.
+fn bare_entries(alloc: Global, names: Vec<Text>) -> Result<Vec<ThinEntry>, AllocError>
+    ensures { IfOk result (λ entries. map (λ entry. entry.name) entries.items ≡ names.items) }
+{
+    let mut entries = Vec::with_capacity(alloc, names.len())?;
+    for name in names {
+        entries.push(ThinEntry {
+            name,
+            ancestors: List::new(alloc),
+        })?;
+    }
+    Ok(entries)
 }
 
 /// Copies of the names of these ranks.
-fn names_of_ranks(alloc: Global, names: &[Text], ranks: &[usize]) -> Result<List<Text>, AllocError>
-    requires { All (λ rank. rank < length names.now) ranks.now }
-    ensures { IfOk result (λ list. list ≡ map (name_at names.now) ranks.now) }
+fn names_of_ranks(
+    alloc: Global,
+    entries: &[ThinEntry],
+    ranks: &[usize],
+) -> Result<List<Text>, AllocError>
+    requires { All (λ rank. rank < length entries.now) ranks.now }
+    ensures { IfOk result (λ list. list ≡ map (name_at (map (λ entry. entry.name) entries.now)) ranks.now) }
 {
-    let mut list = List::new(alloc);
+    let mut copies = Vec::with_capacity(alloc, ranks.len())?;
     for &rank in ranks {
-        list.push(names[rank].clone_in(alloc)?)?;
+        copies.push(entries[rank].name.clone_in(alloc)?)?;
     }
-    Ok(list)
+    Ok(List::from_vec(copies))
 }
 
 /// For each rank its name, and the names of the ranks that it reaches.
 pub fn entries_of(
     alloc: Global,
-    names: &[Text],
+    names: Vec<Text>,
     graph: &[Vec<usize>],
 ) -> Result<Vec<ThinEntry>, AllocError>
-    requires same { length graph.now ≡ length names.now }
+    requires same { length graph.now ≡ length names.items }
     requires graph { InRange (length graph.now) graph.now }
-    ensures { IfOk result (λ entries. AreEntriesOf names.now graph.now entries.items) }
+    ensures { IfOk result (λ entries. AreEntriesOf names.items graph.now entries.items) }
 {
+    let mut entries = bare_entries(alloc, names)?;
     let mut marks = vec![in alloc; 0; graph.len()]?;
-    let mut entries = Vec::new(alloc);
+    let mut found = Vec::new(alloc);
     for rank in 0..graph.len() {
-        let found = reached(alloc, graph, rank, &mut marks, rank + 1)?;
-        let name = names[rank].clone_in(alloc)?;
-        let ancestors = names_of_ranks(alloc, names, &found)?;
-        entries.push(ThinEntry { name, ancestors })?;
+        find_reached(graph, rank, &mut found, &mut marks, rank + 1)?;
+        let ancestors = names_of_ranks(alloc, &entries, &found)?;
+        entries[rank].ancestors = ancestors;
     }
     Ok(entries)
 }

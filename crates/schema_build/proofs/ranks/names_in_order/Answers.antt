@@ -7,4 +7,4 @@ returns c =
     let decls = c.args.decls.now in
     let l = c.loop-place in
     let end : l.place ≡ length decls = omega arith in
-    placed decls l.pairs.items (subst (λ n. IsListed decls n l.pairs.items) end l.invariant) c.sort.new.self.items c.in_ok-sort.ensures.permutation c.in_ok-sort.ensures.sorted
+    placed decls l.pairs.items (subst (λ n. IsListed decls n l.pairs.items) end l.invariant) c.sort_unstable.new.self.items c.sort_unstable.ensures.permutation c.sort_unstable.ensures.sorted

@@ -1,5 +1,5 @@
 use Rattle.std.proofs.Common.{◌≡◌, ◌<◌, ◌+◌, ℕ, All, length, Some}
-use Rattle.std.specs.Prelude.{slice_get}
+use Rattle.std.specs.Prelude.{map, slice_get}
 use Rattle.cedar_names.specs.declared.thin_entry.ThinEntry.{ThinEntry}
 use Rattle.schema_build.specs.Graph.{IsEntryAt}
 use Rattle.schema_build.proofs.reach.entries_of.Given as goal
@@ -8,6 +8,6 @@ abbrev pub invariant-loop-rank : goal.invariant-loop-rank
 invariant-loop-rank l = record {
   long : length l.marks.items ≡ length l.graph;
   fresh : All (λ m. m < l.rank + 1) l.marks.items;
-  same : length l.entries.items ≡ l.rank;
-  each : (k : ℕ) (entry : ThinEntry) → slice_get l.entries.items k ≡ Some entry → IsEntryAt l.names l.graph k entry;
+  names : map (λ entry. entry.name) l.entries.items ≡ l.fn.names.items;
+  each : (k : ℕ) (entry : ThinEntry) → k < l.rank → slice_get l.entries.items k ≡ Some entry → IsEntryAt l.fn.names.items l.graph k entry;
 }

@@ -4,4 +4,4 @@ use Rattle.schema_build.specs.Ranks.{name_at}
 use Rattle.schema_build.proofs.reach.names_of_ranks.Given as goal
 
 abbrev pub invariant-loop-rank : goal.invariant-loop-rank
-invariant-loop-rank l = l.list ≡ map (name_at l.names) (take l.rank-index l.ranks)
+invariant-loop-rank l = l.copies.items ≡ map (name_at (map (λ entry. entry.name) l.entries)) (take l.rank-index l.ranks)

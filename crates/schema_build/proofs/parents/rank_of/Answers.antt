@@ -1,5 +1,5 @@
 use Rattle.schema_build.proofs.Names.{rank_found, rank_none}
-use Rattle.schema_build.proofs.ranks.rank_of.Goals as goal
+use Rattle.schema_build.proofs.parents.rank_of.Goals as goal
 
 pub returns-clause-found : goal.returns-clause-found
 returns-clause-found c = rank_found c.args.names.now c.args.name.now c.binary_search.result c.ok.result c.ok.ensures.value c.binary_search.ensures.bound c.binary_search.ensures.ok
