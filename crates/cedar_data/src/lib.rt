@@ -18,7 +18,7 @@ pub use list::List;
 pub use loc::Loc;
 pub use map::Map;
 pub use node::Node;
-pub use non_empty::{NonEmpty, NonEmptyIter};
+pub use non_empty::{NonEmpty, NonEmptyIntoIter, NonEmptyIter};
 pub use text::Text;
 
 #[cfg(test)]

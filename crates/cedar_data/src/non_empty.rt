@@ -1,14 +1,15 @@
 ghost use Rattle.std.specs.Prelude.{◌≡◌, ◌≢◌, ◌+◌, ◌<◌, ◌^◌, [], ◌∷◌, length, IfOk, IfSome, IfNone, MatchOption};
-ghost use Rattle.cedar_data.specs.NonEmpty.{items_left};
+ghost use Rattle.cedar_data.specs.NonEmpty.{items_left, items_to_come};
 ghost use Rattle.cedar_data.specs.Fed.{first_and_rest, first_and_rest_alike};
 ghost use Rattle.std.specs.Cmp.Lexicographic.{slice_cmp, slice_partial_cmp, pointwise, lists_equiv, lists_agrees, lists_total, lists_ties, lists_po, lists_per};
-ghost use Rattle.std.specs.Iterator.{YieldsFirstRef, item_count};
+ghost use Rattle.std.specs.Iterator.{YieldsFirst, YieldsFirstRef, item_count};
 
 use crate::clone_in::CloneIn;
 use std::alloc::{AllocError, Global};
 use std::cmp::Ordering;
 use std::hash::{Hash, Hasher};
 use std::marker::Model;
+use std::vec::IntoIter;
 
 /// A list with at least one item. Contracts see it as the list.
 #[derive(Debug, Drop)]
@@ -37,6 +38,21 @@ impl<T> NonEmpty<T> {
             head,
             tail: Vec::new(alloc),
         }
+    }
+
+    /// The list of this item and those behind it, which takes no memory.
+    pub fn from_parts(head: T, tail: Vec<T>) -> NonEmpty<T>
+        ensures { result ≡ head ∷ tail.items }
+    {
+        NonEmpty { head, tail }
+    }
+
+    /// The first item, and those behind it.
+    pub fn into_parts(self) -> (T, Vec<T>)
+        ensures { self ≡ result.0 ∷ result.1.items }
+    {
+        let NonEmpty { head, tail } = self;
+        (head, tail)
     }
 
     /// The first item.
@@ -172,5 +188,43 @@ impl<'a, T> Iterator for NonEmptyIter<'a, T> {
         let (first, others) = self.tail.split_first()?;
         self.tail = others;
         Some(first)
+    }
+}
+
+/// The items of a list that isn't empty, handed over in order.
+#[derive(Drop)]
+pub struct NonEmptyIntoIter<T> {
+    head: Option<T>,
+    tail: IntoIter<T>,
+}
+
+impl<T: Drop> Iterator for NonEmptyIntoIter<T> {
+    type Item = T;
+
+    ghost next_gives = { YieldsFirst items_to_come };
+
+    ghost remaining = { item_count items_to_come };
+
+    fn next(&mut self) -> Option<T> {
+        if let Some(head) = self.head.take() {
+            return Some(head);
+        }
+        self.tail.next()
+    }
+}
+
+impl<T: Drop> IntoIterator for NonEmpty<T> {
+    type Item = T;
+
+    type IntoIter = NonEmptyIntoIter<T>;
+
+    ghost into_iter_gives = { λ list items. items_to_come items ≡ list };
+
+    fn into_iter(self) -> NonEmptyIntoIter<T> {
+        let NonEmpty { head, tail } = self;
+        NonEmptyIntoIter {
+            head: Some(head),
+            tail: tail.into_iter(),
+        }
     }
 }

@@ -80,6 +80,15 @@ fn a_list_that_is_not_empty_has_a_first_item(rt: HostRuntime) -> Result<(), Fail
         seen.push(*item)?;
     }
     assert_eq!(rt; seen.as_slice(), [3, 1, 2].as_slice());
+    let (head, tail) = some.into_parts();
+    assert_eq!(rt; head, 3);
+    assert_eq!(rt; tail.as_slice(), [1, 2].as_slice());
+    let parts = NonEmpty::from_parts(head, tail);
+    let mut taken = Vec::new(alloc);
+    for item in parts {
+        taken.push(item)?;
+    }
+    assert_eq!(rt; taken.as_slice(), [3, 1, 2].as_slice());
     let one = NonEmpty::new(alloc, text(alloc, "a")?);
     assert_eq!(rt; one.len(), 1);
     assert!(rt; one == copy_of(&one, alloc)?);
@@ -106,8 +115,9 @@ fn a_map_finds_each_of_its_keys(rt: HostRuntime) -> Result<(), Fail> {
         assert!(rt; map.get(&text(alloc, key)?).is_none(), "{key}");
     }
     assert_eq!(rt; map.as_slice().len(), 5);
-    let again = Map::from_sorted_vec(map.into_vec());
-    assert!(rt; again == again);
+    let again = Map::from_sorted_vec(copy_of(&map, alloc)?.into_vec());
+    assert!(rt; again == map);
+    copy_of(&(), alloc)?;
     assert!(rt; Map::<Text, u8>::new(alloc).as_slice().is_empty());
     Ok(())
 }

@@ -2,6 +2,7 @@
 //! schema with its canonical text.
 #![tactic(auto)]
 
+pub mod annotations;
 pub mod any_id;
 pub mod conditional_name;
 pub mod eid;
@@ -22,8 +23,11 @@ pub mod severity;
 pub mod thin_entry;
 pub mod unreserved_id;
 
+pub use annotations::Annotations;
 pub use any_id::AnyId;
-pub use cedar_data::{Boxed, CloneIn, List, Loc, Map, Node, NonEmpty, NonEmptyIter, Text, lawful};
+pub use cedar_data::{
+    Boxed, CloneIn, List, Loc, Map, Node, NonEmpty, NonEmptyIntoIter, NonEmptyIter, Text, lawful,
+};
 pub use cedar_outside::{Failed, MemorySink, MemorySource, NullSink, Sink, Source, SteadySource};
 pub use conditional_name::ConditionalName;
 pub use eid::Eid;

@@ -1,0 +1,31 @@
+ghost use Rattle.std.specs.Prelude.{◌≡◌, ◌↔◌, true, []};
+
+use crate::any_id::AnyId;
+use cedar_data::{CloneIn, Map, Text};
+use std::alloc::{AllocError, Global};
+
+/// What is said beside an item: keys, each with a value or without one.
+#[derive(PartialEq, Eq, PartialOrd, Ord, Hash, Drop)]
+pub struct Annotations(pub Map<AnyId, Option<Text>>);
+
+impl Annotations {
+    /// No annotation, which takes no memory.
+    pub fn new(alloc: Global) -> Annotations
+        ensures { result.0 ≡ [] }
+    {
+        Annotations(Map::new(alloc))
+    }
+
+    /// Whether there is no annotation.
+    pub fn is_empty(&self) -> bool
+        ensures { result ≡ true ↔ self.now.0 ≡ [] }
+    {
+        self.0.as_slice().is_empty()
+    }
+}
+
+impl CloneIn for Annotations {
+    fn clone_in(&self, alloc: Global) -> Result<Self, AllocError> {
+        Ok(Annotations(self.0.clone_in(alloc)?))
+    }
+}

@@ -1,0 +1,20 @@
+use cedar_data::CloneIn;
+use cedar_names::Annotations;
+use std::alloc::{AllocError, Global};
+
+/// An item, and the annotations that stand before it.
+#[derive(Drop)]
+#[derive_where(PartialEq, Eq, PartialOrd, Ord, Hash; T)]
+pub struct Annotated<T> {
+    pub item: T,
+    pub annotations: Annotations,
+}
+
+impl<T: CloneIn> CloneIn for Annotated<T> {
+    fn clone_in(&self, alloc: Global) -> Result<Self, AllocError> {
+        Ok(Annotated {
+            item: self.item.clone_in(alloc)?,
+            annotations: self.annotations.clone_in(alloc)?,
+        })
+    }
+}

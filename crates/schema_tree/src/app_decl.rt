@@ -1,0 +1,40 @@
+use crate::annotated::Annotated;
+use crate::either::Either;
+use crate::path::Path;
+use crate::pr::PR;
+use crate::types::AttrDecl;
+use cedar_data::{CloneIn, List, Node, NonEmpty};
+use std::alloc::{AllocError, Global};
+
+/// The entity types of an action's principals or resources, where the list that was written is not empty.
+#[derive(Drop)]
+pub struct PRAppDecl {
+    pub kind: Node<PR>,
+    pub entity_tys: Option<NonEmpty<Path>>,
+}
+
+/// What an action says of its principals, its resources or its context. The context is a type's name or the attributes of
+/// a record.
+#[derive(Drop)]
+pub enum AppDecl {
+    PR(PRAppDecl),
+    Context(Either<Path, Node<List<Node<Annotated<AttrDecl>>>>>),
+}
+
+impl CloneIn for PRAppDecl {
+    fn clone_in(&self, alloc: Global) -> Result<Self, AllocError> {
+        Ok(PRAppDecl {
+            kind: self.kind.clone_in(alloc)?,
+            entity_tys: self.entity_tys.clone_in(alloc)?,
+        })
+    }
+}
+
+impl CloneIn for AppDecl {
+    fn clone_in(&self, alloc: Global) -> Result<Self, AllocError> {
+        match self {
+            AppDecl::PR(types) => Ok(AppDecl::PR(types.clone_in(alloc)?)),
+            AppDecl::Context(context) => Ok(AppDecl::Context(context.clone_in(alloc)?)),
+        }
+    }
+}

@@ -1,0 +1,23 @@
+use crate::action_decl::ActionDecl;
+use crate::entity_decl::EntityDecl;
+use crate::type_decl::TypeDecl;
+use cedar_data::CloneIn;
+use std::alloc::{AllocError, Global};
+
+/// A declaration: of entity types, of actions or of a common type.
+#[derive(Drop)]
+pub enum Declaration {
+    Entity(EntityDecl),
+    Action(ActionDecl),
+    Common(TypeDecl),
+}
+
+impl CloneIn for Declaration {
+    fn clone_in(&self, alloc: Global) -> Result<Self, AllocError> {
+        match self {
+            Declaration::Entity(entity) => Ok(Declaration::Entity(entity.clone_in(alloc)?)),
+            Declaration::Action(action) => Ok(Declaration::Action(action.clone_in(alloc)?)),
+            Declaration::Common(common) => Ok(Declaration::Common(common.clone_in(alloc)?)),
+        }
+    }
+}

@@ -1,0 +1,18 @@
+use cedar_data::CloneIn;
+use std::alloc::{AllocError, Global};
+
+/// One of two.
+#[derive(Drop)]
+pub enum Either<A, B> {
+    Left(A),
+    Right(B),
+}
+
+impl<A: CloneIn, B: CloneIn> CloneIn for Either<A, B> {
+    fn clone_in(&self, alloc: Global) -> Result<Self, AllocError> {
+        match self {
+            Either::Left(left) => Ok(Either::Left(left.clone_in(alloc)?)),
+            Either::Right(right) => Ok(Either::Right(right.clone_in(alloc)?)),
+        }
+    }
+}

@@ -1,0 +1,38 @@
+ghost use Rattle.std.specs.Prelude.{◌≡◌, ◌↔◌, true, None};
+
+use crate::annotated::Annotated;
+use crate::declaration::Declaration;
+use crate::path::Path;
+use cedar_data::{CloneIn, List, Loc, Node};
+use std::alloc::{AllocError, Global};
+
+/// A schema: its namespaces, in the order of the text.
+pub type Schema = List<Annotated<Namespace>>;
+
+/// A namespace with its declarations, in the order of the text. The one without a name holds what stands outside of
+/// every other.
+#[derive(Drop)]
+pub struct Namespace {
+    pub name: Option<Path>,
+    pub decls: List<Annotated<Node<Declaration>>>,
+    pub loc: Option<Loc>,
+}
+
+impl Namespace {
+    /// Whether the namespace has no name.
+    pub fn is_unqualified(&self) -> bool
+        ensures { result ≡ true ↔ self.now.name ≡ None }
+    {
+        self.name.is_none()
+    }
+}
+
+impl CloneIn for Namespace {
+    fn clone_in(&self, alloc: Global) -> Result<Self, AllocError> {
+        Ok(Namespace {
+            name: self.name.clone_in(alloc)?,
+            decls: self.decls.clone_in(alloc)?,
+            loc: self.loc,
+        })
+    }
+}

@@ -1,0 +1,83 @@
+ghost use Rattle.std.specs.Prelude.{◌≡◌, IfOk};
+
+use crate::annotated::Annotated;
+use crate::path::Path;
+use cedar_data::{Boxed, CloneIn, List, Node, Text};
+use std::alloc::{AllocError, Global};
+
+/// A type: a set, a name, or a record with its attributes in the order of the text.
+#[cycle(types)]
+#[derive(Drop)]
+pub enum Type {
+    /// The sets of a type.
+    Set(Boxed<Node<Type>>),
+    /// What the path names, a common type or an entity type.
+    Ident(Path),
+    /// The records with these attributes.
+    Record(List<Node<Annotated<AttrDecl>>>),
+}
+
+/// An attribute, whether each record has it, and its type.
+#[cycle(types)]
+#[derive(Drop)]
+pub struct AttrDecl {
+    pub name: Node<Text>,
+    pub required: bool,
+    pub ty: Node<Type>,
+}
+
+impl CloneIn for Type {
+    #[cycle(clone_in)]
+    fn clone_in(&self, alloc: Global) -> Result<Self, AllocError> {
+        match self {
+            Type::Set(element) => {
+                let element = element.get();
+                let copy = Node {
+                    node: element.node.clone_in(alloc)?,
+                    loc: element.loc,
+                };
+                Ok(Type::Set(Boxed::new(alloc, copy)?))
+            }
+            Type::Ident(path) => Ok(Type::Ident(path.clone_in(alloc)?)),
+            Type::Record(attributes) => Ok(Type::Record(List::from_vec(clone_attributes(
+                attributes.as_slice(),
+                alloc,
+            )?))),
+        }
+    }
+}
+
+impl CloneIn for AttrDecl {
+    #[cycle(clone_in)]
+    fn clone_in(&self, alloc: Global) -> Result<Self, AllocError> {
+        Ok(AttrDecl {
+            name: self.name.clone_in(alloc)?,
+            required: self.required,
+            ty: Node {
+                node: self.ty.node.clone_in(alloc)?,
+                loc: self.ty.loc,
+            },
+        })
+    }
+}
+
+// Copies of the attributes, in order.
+#[cycle(clone_in)]
+fn clone_attributes(
+    attributes: &[Node<Annotated<AttrDecl>>],
+    alloc: Global,
+) -> Result<Vec<Node<Annotated<AttrDecl>>>, AllocError>
+    ensures { IfOk result (λ copy. copy.items ≡ attributes.now) }
+{
+    let mut copy = Vec::new(alloc);
+    for attribute in attributes {
+        copy.push(Node {
+            node: Annotated {
+                item: attribute.node.item.clone_in(alloc)?,
+                annotations: attribute.node.annotations.clone_in(alloc)?,
+            },
+            loc: attribute.loc,
+        })?;
+    }
+    Ok(copy)
+}
