@@ -1,0 +1,7 @@
+mod Ascii
+mod Helps
+mod LastVisible
+mod Listing
+mod SameKinds
+mod SameParseErrors
+mod SameTexts

@@ -1,0 +1,5 @@
+pub mod ExpectedText
+pub mod FaultHelps
+pub mod FaultLabels
+pub mod FaultTexts
+pub mod SameFaults

@@ -1,0 +1,14 @@
+use cedar_data::CloneIn;
+use std::alloc::{AllocError, Global};
+
+/// A backslash that begins no escape, by its byte offset in the text.
+#[derive(Clone, Copy, PartialEq, Eq, Debug)]
+pub struct UnescapeError {
+    pub at: usize,
+}
+
+impl CloneIn for UnescapeError {
+    fn clone_in(&self, _alloc: Global) -> Result<Self, AllocError> {
+        Ok(*self)
+    }
+}
