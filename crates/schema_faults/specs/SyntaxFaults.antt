@@ -8,6 +8,8 @@ use Rattle.schema_grammar.specs.Fault.{IsFault}
 use Rattle.schema_tokens.specs.declared.token.Token.{Token}
 use Rattle.schema_tokens.specs.Scans.{Scans}
 use Rattle.schema_faults.specs.declared.syntax_fault.SyntaxFault.{SyntaxFault}
+use Rattle.schema_faults.specs.declared.syntax_fault.Refused.{Refused}
+use Rattle.schema_faults.specs.declared.syntax_fault.Refused.TheVariants.{Fault, Memory}
 use Rattle.schema_faults.specs.declared.syntax_fault.SyntaxFault.TheVariants.{InvalidToken, UnrecognizedToken, UnrecognizedEof}
 
 -- the kinds of the tokens
@@ -28,6 +30,11 @@ pub record IsSentence (text : List ℕ) : Type 0 where
   pub tokens : List Token
   pub scans : Scans text tokens (length text)
   pub sentence : Sentence (kinds_of tokens)
+
+-- what a refusal says of the text
+abbrev pub IsRefused : List ℕ → Refused → Type 0
+IsRefused text (Fault fault) = IsSyntaxFault text fault
+IsRefused text Memory = Unit {0}
 
 -- the fault is the token at this place
 abbrev pub IsTokenAt : List ℕ → List Token → ℕ → List TokenKind → SyntaxFault → Type 0

@@ -5,7 +5,7 @@ pub mod laws;
 pub mod syntax_fault;
 
 pub use laws::{faulty_or_sentence, one_syntax_fault};
-pub use syntax_fault::{SyntaxFault, syntax_fault_of};
+pub use syntax_fault::{Refused, SyntaxFault, sentence_of, syntax_fault_of};
 
 #[cfg(test)]
 mod tests;

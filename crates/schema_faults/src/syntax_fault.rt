@@ -1,7 +1,8 @@
-ghost use Rattle.std.specs.Prelude.{◌≡◌, ◌<◌, ◌≤◌, List, length, IfOk, MatchOption, slice_get, Some, slice_range, map};
+ghost use Rattle.std.specs.Prelude.{◌≡◌, ◌<◌, ◌≤◌, List, length, IfOk, IfErr, MatchOption, slice_get, Some, slice_range, map};
 ghost use Rattle.std.specs.List.{All};
+ghost use Rattle.schema_grammar.specs.Grammar.{Sentence};
 ghost use Rattle.schema_tokens.specs.Scans.{Scans, IsPlaced};
-ghost use Rattle.schema_faults.specs.SyntaxFaults.{kinds_of, IsSyntaxFault, IsSentence, IsTokenAt, IsEndOf};
+ghost use Rattle.schema_faults.specs.SyntaxFaults.{kinds_of, IsSyntaxFault, IsSentence, IsRefused, IsTokenAt, IsEndOf};
 
 use cedar_data::Text;
 use schema_grammar::{Fault, TokenKind, fault_of};
@@ -57,29 +58,62 @@ fn unrecognized_eof(tokens: &[Token], expected: Vec<TokenKind>) -> SyntaxFault
     SyntaxFault::UnrecognizedEof(loc.end, cedar_data::List::from_vec(expected))
 }
 
-/// The one syntax fault of the text, and None exactly where its tokens reach its end and are those of a schema.
-pub fn syntax_fault_of(alloc: Global, text: &str) -> Result<Option<SyntaxFault>, AllocError>
-    ensures { IfOk result (λ found. MatchOption found (IsSentence text.now) (IsSyntaxFault text.now)) }
+/// Why a text has no tokens of a schema.
+#[derive(Drop)]
+pub enum Refused {
+    /// The text has this syntax fault.
+    Fault(SyntaxFault),
+    /// Memory was wanted.
+    Memory,
+}
+
+impl From<AllocError> for Refused {
+    ghost use Rattle.schema_faults.specs.declared.syntax_fault.Refused.TheVariants.{Memory};
+
+    ghost from_gives = { λ _ refused. refused ≡ Memory };
+
+    fn from(_error: AllocError) -> Refused {
+        Refused::Memory
+    }
+}
+
+/// The tokens of the text, where they reach its end and are those of a schema.
+pub fn sentence_of(alloc: Global, text: &str) -> Result<Vec<Token>, Refused>
+    ensures scans { IfOk result (λ tokens. Scans text.now tokens.items (length text.now)) }
+    ensures placed { IfOk result (λ tokens. All (IsPlaced text.now) tokens.items) }
+    ensures sentence { IfOk result (λ tokens. Sentence (kinds_of tokens.items)) }
+    ensures fault { IfErr result (IsRefused text.now) }
 {
     let Scanned { tokens, at } = scan(alloc, text)?;
     let kinds = kinds(alloc, &tokens)?;
     match fault_of(alloc, &kinds)? {
         None => {
             if at < text.len() {
-                Ok(Some(SyntaxFault::InvalidToken(at)))
+                Err(Refused::Fault(SyntaxFault::InvalidToken(at)))
             } else {
-                Ok(None)
+                Ok(tokens)
             }
         }
         Some(Fault { place, expected }) => {
             if place < tokens.len() {
                 let fault = unrecognized_token(alloc, text, &tokens, place, expected)?;
-                Ok(Some(fault))
+                Err(Refused::Fault(fault))
             } else if at < text.len() {
-                Ok(Some(SyntaxFault::InvalidToken(at)))
+                Err(Refused::Fault(SyntaxFault::InvalidToken(at)))
             } else {
-                Ok(Some(unrecognized_eof(&tokens, expected)))
+                Err(Refused::Fault(unrecognized_eof(&tokens, expected)))
             }
         }
+    }
+}
+
+/// The one syntax fault of the text, and None exactly where its tokens reach its end and are those of a schema.
+pub fn syntax_fault_of(alloc: Global, text: &str) -> Result<Option<SyntaxFault>, AllocError>
+    ensures { IfOk result (λ found. MatchOption found (IsSentence text.now) (IsSyntaxFault text.now)) }
+{
+    match sentence_of(alloc, text) {
+        Ok(_) => Ok(None),
+        Err(Refused::Fault(fault)) => Ok(Some(fault)),
+        Err(Refused::Memory) => Err(AllocError),
     }
 }

@@ -1,0 +1,5 @@
+pub mod Back
+pub mod Heads
+pub mod Loops
+pub mod Made
+pub mod Places

@@ -1,0 +1,29 @@
+ghost use Rattle.std.specs.Prelude.{◌≡◌, List, IfOk};
+ghost use Rattle.schema_grammar.specs.Grammar.{Sentence};
+ghost use Rattle.schema_tokens.specs.declared.token.Token.{Token as Part};
+ghost use Rattle.schema_parse.specs.declared.syntax.ItemSyntax.{ItemSyntax as Item};
+ghost use Rattle.schema_parse.specs.Syntax.{IsSyntax, kinds_of};
+
+use crate::items::items;
+use crate::stop::Stop;
+use crate::syntax::ItemSyntax;
+use cedar_data::List;
+use schema_tokens::Token;
+use std::alloc::{AllocError, Global};
+
+/// The one syntax of the tokens, whose kinds are those of a schema.
+pub fn syntax_of(alloc: Global, tokens: &[Token]) -> Result<List<ItemSyntax>, AllocError>
+    requires sentence { Sentence (kinds_of tokens.now) }
+    ensures syntax { IfOk result (IsSyntax tokens.now) }
+{
+    match items(alloc, tokens) {
+        Ok((items, _)) => Ok(items),
+        Err(Stop::Mismatch) => unreachable!(),
+        Err(Stop::Memory) => Err(AllocError),
+    }
+}
+
+/// A list of tokens has at most one syntax.
+pub fn one_syntax()
+    ensures { (tokens : List Part) (items others : List Item) → IsSyntax tokens items → IsSyntax tokens others → items ≡ others }
+{}
