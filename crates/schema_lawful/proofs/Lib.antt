@@ -1,0 +1,17 @@
+pub mod Bodies
+pub mod Builders
+pub mod Built
+pub mod Fits
+pub mod Keys
+pub mod LeafSteps
+pub mod Loops
+pub mod NoteFaults
+pub mod Order
+pub mod PlacedWords
+pub mod Places
+pub mod ReadSteps
+pub mod Rising
+pub mod RisingNotes
+pub mod SiteEquations
+pub mod SiteFaults
+pub mod TypeSteps
