@@ -1,3 +1,4 @@
+pub mod TreeOrError
 pub mod Tokens
 pub mod Scans
 pub mod Names

@@ -1,3 +1,4 @@
+pub mod ParseAnswers
 pub mod ThinTokens
 pub mod ThinGrammar
 pub mod ThinMeaning

@@ -1,0 +1,38 @@
+//! Runs one part of the front end over standard input, for `bench/parse.py` to time.
+#![tactic(auto)]
+
+use schema_faults::syntax_fault_of;
+use schema_syntax::{parse_schema, scan};
+use std::alloc::{AllocError, Global};
+use std::process::ExitCode;
+use std::{env, io};
+
+// Whether the part that the word names takes the text.
+fn takes(alloc: Global, word: &str, text: &str) -> Result<bool, AllocError> {
+    match word {
+        "scan" => Ok(scan(alloc, text)?.at == text.len()),
+        "faults" => Ok(syntax_fault_of(alloc, text)?.is_none()),
+        "parse" => Ok(parse_schema(alloc, text).is_ok()),
+        _ => Ok(false),
+    }
+}
+
+// The first word after the program's name, and the whole of standard input.
+fn given(rt: &HostRuntime) -> io::Result<(String, String)> {
+    let word = match env::args(rt)?.nth(1) {
+        Some(word) => word,
+        None => String::new(rt.alloc()),
+    };
+    let text = io::read_to_string(rt.alloc(), rt.stdin())?;
+    Ok((word, text))
+}
+
+fn main(rt: HostRuntime) -> ExitCode {
+    match given(&rt) {
+        Ok((word, text)) => match takes(rt.alloc(), &word, &text) {
+            Ok(true) => ExitCode::SUCCESS,
+            _ => ExitCode::from(1),
+        },
+        Err(_) => ExitCode::from(2),
+    }
+}
