@@ -9,6 +9,7 @@ pub mod loc;
 pub mod map;
 pub mod node;
 pub mod non_empty;
+pub mod set;
 pub mod text;
 
 pub use boxed::Boxed;
@@ -19,6 +20,7 @@ pub use loc::Loc;
 pub use map::Map;
 pub use node::Node;
 pub use non_empty::{NonEmpty, NonEmptyIntoIter, NonEmptyIter};
+pub use set::Set;
 pub use text::Text;
 
 #[cfg(test)]

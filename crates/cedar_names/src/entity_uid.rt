@@ -1,6 +1,13 @@
-use crate::eid::Eid;
-use crate::name::Name;
+ghost use Rattle.std.specs.Prelude.{◌≡◌, ◌↔◌, true};
+ghost use Rattle.std.specs.Str.{encode_utf8_all};
+ghost use Rattle.std.specs.Cmp.Lexicographic.{slice_cmp};
+ghost use Rattle.std.specs.Ordering.{ordering_then};
+ghost use Rattle.cedar_data.specs.Text.{text_cmp};
+ghost use Rattle.cedar_identifiers.specs.Names.{components_of};
+
 use cedar_data::{CloneIn, Loc};
+use cedar_identifiers::name_laws::declared_names_go_by_components;
+use cedar_identifiers::{Eid, Name};
 use std::alloc::{AllocError, Global};
 
 /// An entity: its type and its id, with a place that no comparison sees. It is ordered by type, then by the bytes of its id.
@@ -21,4 +28,12 @@ impl CloneIn for EntityUID {
             loc: self.loc,
         })
     }
+}
+
+/// Entities are ordered by type, then by the bytes of their ids; their places are not seen.
+pub fn entities_go_by_type_and_id(a: &EntityUID, b: &EntityUID)
+    ensures order { ⟦<EntityUID as Ord>⟧.cmp a.now b.now ≡ ordering_then (slice_cmp text_cmp (components_of a.now.ty.name) (components_of b.now.ty.name)) (text_cmp a.now.eid.0 b.now.eid.0) }
+    ensures equal { ⟦<EntityUID as PartialEq>⟧.eq a.now b.now ≡ true ↔ ((components_of a.now.ty.name ≡ components_of b.now.ty.name) × (encode_utf8_all a.now.eid.0 ≡ encode_utf8_all b.now.eid.0)) }
+{
+    declared_names_go_by_components(&a.ty, &b.ty);
 }

@@ -1,49 +1,19 @@
-//! What every part of the front end speaks of: plain data, where bytes come from and go to, names, and the meaning of a
-//! schema with its canonical text.
+//! What every part of the front end speaks of: plain data, where bytes come from and go to, names, which names are defined,
+//! and the meaning of a schema with its canonical text.
 #![tactic(auto)]
 
-pub mod annotations;
-pub mod any_id;
-pub mod conditional_name;
-pub mod eid;
 pub mod entity_uid;
-pub mod id;
-pub mod internal_name;
-pub mod label;
-pub mod name;
-pub mod name_fault;
-pub mod name_kind;
-pub mod name_laws;
-mod name_pieces;
-mod name_reader;
-pub mod name_text;
-pub mod raw_name;
-pub mod reference_type;
-pub mod severity;
-pub mod thin_entry;
-pub mod unreserved_id;
 
-pub use annotations::Annotations;
-pub use any_id::AnyId;
 pub use cedar_data::{
-    Boxed, CloneIn, List, Loc, Map, Node, NonEmpty, NonEmptyIntoIter, NonEmptyIter, Text, lawful,
+    Boxed, CloneIn, List, Loc, Map, Node, NonEmpty, NonEmptyIntoIter, NonEmptyIter, Set, Text,
+    lawful,
+};
+pub use cedar_identifiers::{
+    Annotations, AnyId, ConditionalName, Eid, Id, InternalName, Label, Name, NameFault, NameKind,
+    NameText, RawName, ReferenceType, Severity, UnreservedId,
 };
 pub use cedar_outside::{Failed, MemorySink, MemorySource, NullSink, Sink, Source, SteadySource};
-pub use conditional_name::ConditionalName;
-pub use eid::Eid;
 pub use entity_uid::EntityUID;
-pub use id::Id;
-pub use internal_name::InternalName;
-pub use label::Label;
-pub use name::Name;
-pub use name_fault::NameFault;
-pub use name_kind::NameKind;
-pub use name_text::NameText;
-pub use raw_name::RawName;
-pub use reference_type::ReferenceType;
-pub use severity::Severity;
-pub use thin_entry::ThinEntry;
-pub use unreserved_id::UnreservedId;
 
 #[cfg(test)]
 mod tests;

@@ -17,7 +17,7 @@ use Rattle.cedar_schema_tool.specs.Replies.{report_of}
 use Rattle.cedar_schema_tool.specs.Plan.{Report, IsRecover, IsRecoverPlan, not_text, refused, done, recover, done_report, not_text_report, refused_report}
 use Rattle.cedar_schema_tool.specs.Input.{HadLeft, max_input}
 use Rattle.cedar_schema_tool.specs.Run.{Device, LeftAs, IsReported, planned}
-use Rattle.cedar_names.specs.Outside.{IsEnd}
+use Rattle.cedar_identifiers.specs.Outside.{IsEnd}
 
 -- one word, and what it is compared with
 pub one_word : (words : List (String Global)) (word : String Global) (text target : List ℕ) (r : Bool) → 1 ≤ length words → length words < 2 → word ≡ get_or words 0 word → text ≡ string_bytes word → r ≡ bytes_eq text target

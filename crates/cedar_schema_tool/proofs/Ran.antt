@@ -1,8 +1,8 @@
 -- What follows from how a run went.
 use Rattle.std.proofs.Common.{◌≡◌, ◌≤◌, ◌⊎◌, ℕ, List, length, Option, Some, None, inl, inr, refl, sym, ap, ◌∙◌, subst, arith}
 use Rattle.std.specs.Str.{encode_utf8_all}
-use Rattle.cedar_names.specs.CanonicalText.{canonical_text}
-use Rattle.cedar_names.specs.declared.thin_entry.ThinEntry.{ThinEntry}
+use Rattle.cedar_identifiers.specs.CanonicalText.{canonical_text}
+use Rattle.cedar_identifiers.specs.declared.thin_entry.ThinEntry.{ThinEntry}
 use Rattle.schema_syntax.specs.ThinMeaning.{TextMeaning}
 use Rattle.cedar_schema_tool.specs.declared.status.Status.{Status}
 use Rattle.cedar_schema_tool.specs.declared.status.Status.TheVariants.{Done, Refused, Usage, ReadFault, WriteFault, NotText, TooLong, Memory}

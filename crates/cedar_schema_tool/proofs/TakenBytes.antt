@@ -1,6 +1,6 @@
 -- Bytes that are taken of a source piece by piece.
 use Rattle.std.proofs.Common.{◌≡◌, ℕ, ◌<◌, ◌++◌, List, length, Option, Some, None, refl, sym, ◌∙◌, ap, arith, append_assoc, length-append}
-use Rattle.cedar_names.specs.Outside.{Took}
+use Rattle.cedar_identifiers.specs.Outside.{Took}
 use Rattle.cedar_schema_tool.specs.Input.{HadLeft}
 
 pub took_more : (o p q : Option (List ℕ)) (a b : List ℕ) → Took o a p → Took p b q → Took o (a ++ b) q

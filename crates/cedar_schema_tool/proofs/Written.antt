@@ -2,7 +2,7 @@
 use Rattle.std.proofs.Common.{◌≡◌, ℕ, ◌+◌, ◌<◌, ◌++◌, List, length, take, drop, Option, Some, None, sym, ◌∙◌, ap, subst, arith, append_assoc, length-drop, take-add, ◌-◌, Result, Ok, Err}
 use Rattle.std.specs.Result.{OnErr}
 use Rattle.std.proofs.lemmas.List.{take-append-drop, take_all}
-use Rattle.cedar_names.specs.Outside.{Appends, AppendsPart}
+use Rattle.cedar_identifiers.specs.Outside.{Appends, AppendsPart}
 
 appends_more : (o p q : Option (List ℕ)) (a b : List ℕ) → Appends o a p → Appends p b q → Appends o (a ++ b) q
 appends_more None None q a b s t = t

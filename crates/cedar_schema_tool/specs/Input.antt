@@ -1,6 +1,6 @@
 -- What is read of a source.
 use Rattle.std.specs.Prelude.{◌≡◌, ◌≤◌, ℕ, List, Option, Some, None, length}
-use Rattle.cedar_names.specs.Outside.{Took}
+use Rattle.cedar_identifiers.specs.Outside.{Took}
 
 -- how many bytes an input may have
 abbrev pub max_input : ℕ

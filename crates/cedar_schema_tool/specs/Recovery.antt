@@ -1,8 +1,8 @@
 -- What is recovered from a text, and why nothing is.
 use Rattle.std.specs.Prelude.{◌≡◌, ℕ, List, length}
 use Rattle.std.specs.Str.{encode_utf8_all}
-use Rattle.cedar_names.specs.declared.thin_entry.ThinEntry.{ThinEntry}
-use Rattle.cedar_names.specs.CanonicalText.{canonical_text}
+use Rattle.cedar_identifiers.specs.declared.thin_entry.ThinEntry.{ThinEntry}
+use Rattle.cedar_identifiers.specs.CanonicalText.{canonical_text}
 use Rattle.schema_syntax.specs.declared.thin_decl.ThinDecl.{ThinDecl}
 use Rattle.schema_syntax.specs.ThinGrammar.{ThinReads}
 use Rattle.schema_syntax.specs.ThinMeaning.{NoRepeat, IsFirstRepeat, AreUndefined, TextMeaning}

@@ -1,13 +1,13 @@
 -- What a run did. A source or a sink is known by what it tells before and after.
 use Rattle.std.specs.Prelude.{◌≡◌, ℕ, List, [], Option}
-use Rattle.cedar_names.specs.Outside.{Rose, IsEnd, Appends, AppendsPart}
+use Rattle.cedar_identifiers.specs.Outside.{Rose, IsEnd, Appends, AppendsPart}
 use Rattle.cedar_schema_tool.specs.declared.status.Status.{Status}
 use Rattle.cedar_schema_tool.specs.declared.status.Status.TheVariants.{Done, Refused, Usage, ReadFault, WriteFault, NotText, TooLong, Memory}
 use Rattle.cedar_schema_tool.specs.Input.{HadLeft}
 use Rattle.cedar_schema_tool.specs.Plan.{Report, IsRecover, IsPlan, read_fault_report}
 use Rattle.std.specs.Str.{encode_utf8_all}
-use Rattle.cedar_names.specs.declared.thin_entry.ThinEntry.{ThinEntry}
-use Rattle.cedar_names.specs.CanonicalText.{canonical_text}
+use Rattle.cedar_identifiers.specs.declared.thin_entry.ThinEntry.{ThinEntry}
+use Rattle.cedar_identifiers.specs.CanonicalText.{canonical_text}
 use Rattle.schema_syntax.specs.ThinMeaning.{TextMeaning}
 
 -- a source or a sink before and after: what it tells, its count of faults, and that it stands as before

@@ -1,8 +1,8 @@
 ghost use Rattle.std.specs.Prelude.{◌≡◌, ◌≤◌, ◌<◌, ◌+◌, ℕ, List, length, IfOk, OnOk, IsErrOf};
-ghost use Rattle.cedar_names.specs.Outside.{Rose, IsEnd};
+ghost use Rattle.cedar_identifiers.specs.Outside.{Rose, IsEnd};
 ghost use Rattle.cedar_schema_tool.specs.Input.{HadLeft, TookAtMost, max_input};
 
-use cedar_names::Source;
+use cedar_identifiers::Source;
 use std::alloc::Global;
 
 /// How many bytes an input may have.

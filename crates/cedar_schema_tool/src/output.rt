@@ -1,7 +1,7 @@
 ghost use Rattle.std.specs.Prelude.{◌≡◌, ◌≤◌, [], length, OnOk, OnErr, IsOk};
-ghost use Rattle.cedar_names.specs.Outside.{Rose, Appends, AppendsPart};
+ghost use Rattle.cedar_identifiers.specs.Outside.{Rose, Appends, AppendsPart};
 
-use cedar_names::{Failed, Sink};
+use cedar_identifiers::{Failed, Sink};
 
 /// Writes the text whole, unless the sink fails.
 pub fn write_text<O: Sink>(sink: &mut O, text: &str) -> Result<(), Failed>

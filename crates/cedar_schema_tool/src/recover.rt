@@ -2,7 +2,7 @@ ghost use Rattle.std.specs.Prelude.{◌≢◌, IfOk, IfErr};
 ghost use Rattle.schema_syntax.specs.ThinMeaning.{IsValid};
 ghost use Rattle.cedar_schema_tool.specs.Recovery.{IsRecovered, IsRefusal};
 
-use cedar_names::{NonEmpty, Text};
+use cedar_identifiers::{NonEmpty, Text};
 use schema_build::{CloseFault, close_thin, faults_exclude_meaning};
 use schema_print::print_thin;
 use schema_syntax::{ThinFault, one_thin_reading, parse_thin};

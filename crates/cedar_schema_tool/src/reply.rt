@@ -1,7 +1,7 @@
 ghost use Rattle.std.specs.Prelude.{◌≡◌, [], IfOk};
 
 use crate::status::Status;
-use cedar_names::Text;
+use cedar_identifiers::Text;
 use std::alloc::{AllocError, Global};
 
 /// How a run is to end, and what it is to write: all that is taken from memory before the first write.

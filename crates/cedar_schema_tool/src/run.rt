@@ -1,9 +1,9 @@
 ghost use Rattle.std.specs.Prelude.{◌≡◌, ◌≢◌, ◌+◌, ◌≤◌, ◌⊎◌, ◌↔◌, ℕ, List, Some, IfOk, IsTrue, length, map};
 ghost use Rattle.std.specs.String.{string_bytes};
 ghost use Rattle.std.specs.Str.{encode_utf8_all};
-ghost use Rattle.cedar_names.specs.Outside.{Rose, Appends};
-ghost use Rattle.cedar_names.specs.CanonicalText.{canonical_text};
-ghost use Rattle.cedar_names.specs.declared.thin_entry.ThinEntry.{ThinEntry};
+ghost use Rattle.cedar_identifiers.specs.Outside.{Rose, Appends};
+ghost use Rattle.cedar_identifiers.specs.CanonicalText.{canonical_text};
+ghost use Rattle.cedar_identifiers.specs.declared.thin_entry.ThinEntry.{ThinEntry};
 ghost use Rattle.schema_syntax.specs.ThinMeaning.{TextMeaning};
 ghost use Rattle.cedar_schema_tool.specs.Plan.{Report, IsRecover, IsPlan, IsRecoverPlan, refused_report, read_fault_report};
 ghost use Rattle.cedar_schema_tool.specs.Input.{TookAtMost, max_input};
@@ -16,7 +16,7 @@ use crate::output::write_text;
 use crate::recover::{RecoverError, recover_schema};
 use crate::reply::Reply;
 use crate::status::Status;
-use cedar_names::{Sink, Source, Text};
+use cedar_identifiers::{Sink, Source, Text};
 use std::alloc::{AllocError, Global};
 
 const USAGE: &str = "usage: cedar_schema_tool COMMAND [NAME..]\n";

@@ -1,6 +1,6 @@
 ghost use Rattle.std.specs.Prelude.{◌≡◌, None};
 
-use cedar_names::{Failed, Sink, Source};
+use cedar_identifiers::{Failed, Sink, Source};
 use std::io::{Read, Write};
 
 /// Standard input, which tells no content. A fault is counted at each error.

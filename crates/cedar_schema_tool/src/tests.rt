@@ -2,7 +2,7 @@ use crate::recover::{RecoverError, recover_schema};
 use crate::run::run_tool;
 use crate::status::Status;
 use crate::std_streams::{StdSink, StdSource};
-use cedar_names::{Failed, MemorySink, MemorySource, NullSink, Sink, Source, SteadySource};
+use cedar_identifiers::{Failed, MemorySink, MemorySource, NullSink, Sink, Source, SteadySource};
 use std::alloc::{AllocError, Global};
 use std::io;
 use std::io::{Read, Write};

@@ -1,7 +1,7 @@
 -- Where the faults of parsing point to.
 use Rattle.std.specs.Prelude.{ℕ, List, [], ◌∷◌, ◌++◌, Option, Some, None, max}
 use Rattle.cedar_data.specs.Span.{Span}
-use Rattle.cedar_names.specs.declared.label.Label.{Label}
+use Rattle.cedar_identifiers.specs.declared.label.Label.{Label}
 use Rattle.schema_grammar.specs.declared.token_kind.TokenKind.{TokenKind}
 use Rattle.parse_errors.specs.ExpectedText.{expected_text_of}
 use Rattle.parse_errors.specs.declared.user_error.UserError.{UserError}

@@ -5,7 +5,7 @@ ghost use Rattle.parse_errors.specs.FaultLabels.{annotation_error_labels};
 use crate::message::message;
 use crate::user_error::UserError;
 use cedar_data::{CloneIn, Text};
-use cedar_names::{Label, Severity};
+use cedar_identifiers::{Label, Severity};
 use std::alloc::{AllocError, AllocFailed, Global};
 
 /// Why annotations were not put on an item: a key stands twice, or want of memory.

@@ -3,7 +3,7 @@ ghost use Rattle.parse_errors.specs.FaultLabels.{bare, told};
 
 use crate::expected::expected_text;
 use cedar_data::Loc;
-use cedar_names::Label;
+use cedar_identifiers::Label;
 use schema_grammar::TokenKind;
 use std::alloc::{AllocError, Global};
 

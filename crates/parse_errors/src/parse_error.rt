@@ -9,7 +9,7 @@ use crate::labels::{bare_label, expected_label, place};
 use crate::message::{around, message};
 use crate::user_error::UserError;
 use cedar_data::{CloneIn, List, Loc, Text};
-use cedar_names::{Label, Severity};
+use cedar_identifiers::{Label, Severity};
 use schema_grammar::TokenKind;
 use std::alloc::{AllocError, Global};
 

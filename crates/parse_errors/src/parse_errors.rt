@@ -7,7 +7,7 @@ ghost use Rattle.parse_errors.specs.FaultLabels.{first_error_labels, primary_spa
 
 use crate::parse_error::ParseError;
 use cedar_data::{CloneIn, Loc, NonEmpty, NonEmptyIntoIter, NonEmptyIter, Text};
-use cedar_names::{Label, Severity};
+use cedar_identifiers::{Label, Severity};
 use std::alloc::{AllocError, Global};
 
 /// The faults of a text, at least one. They speak by the first.

@@ -6,7 +6,7 @@ ghost use Rattle.parse_errors.specs.FaultLabels.{parse_schema_error_labels};
 use crate::message::message;
 use crate::parse_errors::ParseErrors;
 use cedar_data::{CloneIn, Text};
-use cedar_names::{Label, Severity};
+use cedar_identifiers::{Label, Severity};
 use std::alloc::{AllocError, AllocFailed, Global};
 
 /// Why a text was not read as a schema: its faults, or want of memory.

@@ -9,7 +9,7 @@ use crate::{
     expected_text,
 };
 use cedar_data::{CloneIn, List, Loc, Node, NonEmpty, Text};
-use cedar_names::{AnyId, Label, Severity};
+use cedar_identifiers::{AnyId, Label, Severity};
 use schema_grammar::{ALL_KINDS, TokenKind};
 use std::alloc::{AllocError, Global};
 use std::test::Fail;

@@ -7,7 +7,7 @@ use crate::labels::{bare_label, bare_labels};
 use crate::message::{around, message};
 use crate::unescape_error::UnescapeError;
 use cedar_data::{CloneIn, Loc, Node, NonEmpty, Text};
-use cedar_names::{AnyId, Label, Severity};
+use cedar_identifiers::{AnyId, Label, Severity};
 use std::alloc::{AllocError, Global};
 
 /// What a text that follows the grammar still may not have.

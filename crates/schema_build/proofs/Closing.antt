@@ -8,9 +8,9 @@ use Rattle.std.proofs.lemmas.List.{get_or-map, length-map, ext_get_or}
 use Rattle.std.proofs.lemmas.List.Elements.{All-contains, All-contains_itself, All-filter, Contains-get_or, All-weaker}
 use Rattle.std.proofs.lemmas.List.Sorted.{Contains-permutation}
 use Rattle.std.proofs.lemmas.Option.{slice_get-get_or, slice_get_cases}
-use Rattle.cedar_names.specs.Text.{text_cmp}
-use Rattle.cedar_names.specs.Paths.{Leads, Reaches}
-use Rattle.cedar_names.specs.declared.thin_entry.ThinEntry.{ThinEntry}
+use Rattle.cedar_identifiers.specs.Text.{text_cmp}
+use Rattle.cedar_identifiers.specs.Paths.{Leads, Reaches}
+use Rattle.cedar_identifiers.specs.declared.thin_entry.ThinEntry.{ThinEntry}
 use Rattle.schema_syntax.specs.declared.thin_decl.ThinDecl.{ThinDecl}
 use Rattle.schema_syntax.specs.ThinMeaning.{names_of, IsParent, IsAncestor, AllDeclared, IsMeaning}
 use Rattle.schema_build.specs.Graph.{targets_of, HasEdge, InRange, AreReached, IsEntryAt, AreEntriesOf}

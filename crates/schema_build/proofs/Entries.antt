@@ -7,7 +7,7 @@ use Rattle.std.proofs.Math.Seq.{map-set_same}
 use Rattle.std.proofs.lemmas.Bool.{cases_lt}
 use Rattle.std.proofs.lemmas.List.{get_or-map, get_or-set_same, get_or-set_other, length-map}
 use Rattle.std.proofs.lemmas.Option.{get_or_from_slice_get, slice_get_read}
-use Rattle.cedar_names.specs.declared.thin_entry.ThinEntry.{ThinEntry}
+use Rattle.cedar_identifiers.specs.declared.thin_entry.ThinEntry.{ThinEntry}
 use Rattle.schema_build.specs.Graph.{IsEntryAt}
 use Rattle.schema_build.specs.Ranks.{name_at}
 

@@ -8,7 +8,7 @@ use Rattle.std.proofs.lemmas.Option.{slice_get_read}
 use Rattle.std.proofs.lemmas.List.{take_all, take-append-le, length-append}
 use Rattle.std.proofs.lemmas.List.Elements.{All-append, All-weaker, All-contains, All-contains_itself, All-more, Contains-append_left}
 use Rattle.std.proofs.lemmas.List.Sorted.{Contains-permutation, IsPermutation-sym}
-use Rattle.cedar_names.specs.Paths.{Reaches}
+use Rattle.cedar_identifiers.specs.Paths.{Reaches}
 use Rattle.schema_build.specs.Graph.{targets_of, HasEdge, AreReached}
 use Rattle.schema_build.specs.Marks.{AddsFrom, IsApart}
 use Rattle.schema_build.proofs.Paths.{reaches_one, reaches_on, reaches_within}

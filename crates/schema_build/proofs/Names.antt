@@ -14,7 +14,7 @@ use Rattle.std.proofs.lemmas.List.Folds.{list_any_at, Any-from_list_any}
 use Rattle.std.proofs.lemmas.List.Sorted.{searchable_from_sorted}
 use Rattle.std.proofs.lemmas.Map.Keys.{Less-from_sorted}
 use Rattle.std.proofs.lemmas.Slice.Eq.{bytes_eq-Decides}
-use Rattle.cedar_names.specs.Text.{text_cmp}
+use Rattle.cedar_identifiers.specs.Text.{text_cmp}
 use Rattle.schema_build.specs.Ranks.{name_at, is_named, is_unnamed, AreRanksOf}
 use Rattle.schema_build.proofs.Order.{text_total, text_exact, not_less}
 

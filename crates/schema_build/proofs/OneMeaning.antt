@@ -7,8 +7,8 @@ use Rattle.std.proofs.lemmas.Bool.{cases_lt}
 use Rattle.std.proofs.lemmas.List.{get_or-map, get_or_default, length-map, length-append, ext_get_or, get_or_append_left, get_or_at, map-append}
 use Rattle.std.proofs.lemmas.List.Elements.{All-weaker, All-head, All-tail, Contains-get_or}
 use Rattle.std.proofs.lemmas.List.Sorted.{IsPermutation-sym, IsPermutation-trans, IsPermutation-map, All-permutation, Contains-permutation, length_permutation}
-use Rattle.cedar_names.specs.Text.{text_cmp}
-use Rattle.cedar_names.specs.declared.thin_entry.ThinEntry.{ThinEntry}
+use Rattle.cedar_identifiers.specs.Text.{text_cmp}
+use Rattle.cedar_identifiers.specs.declared.thin_entry.ThinEntry.{ThinEntry}
 use Rattle.schema_syntax.specs.declared.thin_decl.ThinDecl.{ThinDecl}
 use Rattle.schema_syntax.specs.ThinMeaning.{names_of, is_undeclared, NoRepeat, AllDeclared, AreUndefined, IsFirstRepeat, IsMeaning, IsAncestor}
 use Rattle.schema_build.proofs.Names.{named_true}

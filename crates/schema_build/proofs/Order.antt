@@ -13,7 +13,7 @@ use Rattle.std.proofs.lemmas.Map.Keys.{sorted_head, sorted_tail, Less-from_sorte
 use Rattle.std.proofs.lemmas.Map.Lookups.{CmpEqualImpliesEq, exact_bytes}
 use Rattle.std.proofs.lemmas.Map.Made.{Contains-tail}
 use Rattle.std.proofs.lemmas.Str.{encodes_same}
-use Rattle.cedar_names.specs.Text.{text_cmp}
+use Rattle.cedar_identifiers.specs.Text.{text_cmp}
 
 pub text_total : IsTotalOrder text_cmp
 text_total = on_total encode_utf8_all nat_list_cmp_total

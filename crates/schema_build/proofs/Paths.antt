@@ -1,6 +1,6 @@
 -- Paths, step by step.
 use Rattle.std.proofs.Common.{List, [], ◌∷◌, ◌++◌, refl, subst, sym}
-use Rattle.cedar_names.specs.Paths.{Leads, Reaches}
+use Rattle.cedar_identifiers.specs.Paths.{Leads, Reaches}
 
 module _ {A : Type 0} (E : A → A → Type 0) where
   leads_on : (steps : List A) (a b c : A) → Leads E a steps b → E b c → Leads E a (steps ++ c ∷ []) c

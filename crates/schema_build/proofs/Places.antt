@@ -17,7 +17,7 @@ use Rattle.std.proofs.lemmas.Map.Lookups.{CmpEqualImpliesEq, exact_pairs, exact_
 use Rattle.std.specs.Str.{bytes_eq, encode_utf8_all}
 use Rattle.std.proofs.lemmas.Slice.Eq.{bytes_eq-Decides}
 use Rattle.std.proofs.lemmas.Str.{encodes_same}
-use Rattle.cedar_names.specs.Text.{text_cmp}
+use Rattle.cedar_identifiers.specs.Text.{text_cmp}
 use Rattle.schema_syntax.specs.declared.thin_decl.ThinDecl.{ThinDecl}
 use Rattle.schema_syntax.specs.ThinMeaning.{names_of, NoRepeat, IsFirstRepeat}
 use Rattle.schema_build.specs.Ranks.{decl_at, decls_at, pair_cmp, pair_at, ArePlaced, AreRanked, IsRepeatAt, IsUpToRepeats, IsRepeated}

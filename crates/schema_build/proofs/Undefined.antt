@@ -10,7 +10,7 @@ use Rattle.std.proofs.lemmas.List.Concat.{flat_map-append}
 use Rattle.std.proofs.lemmas.List.Elements.{All-nil, All-cons, All-map, All-weaker, filter_agree}
 use Rattle.std.proofs.lemmas.List.Folds.{flat_map-map}
 use Rattle.std.proofs.lemmas.List.Sorted.{list_any-IsPermutation, IsPermutation-sym, IsPermutation-map, All-permutation, Contains-permutation}
-use Rattle.cedar_names.specs.Text.{text_cmp}
+use Rattle.cedar_identifiers.specs.Text.{text_cmp}
 use Rattle.schema_syntax.specs.declared.thin_decl.ThinDecl.{ThinDecl}
 use Rattle.schema_syntax.specs.ThinMeaning.{names_of, is_undeclared, AllDeclared, AreUndefined}
 use Rattle.schema_build.specs.Ranks.{decl_at, decls_at, AreRanked, is_named, is_unnamed}

@@ -6,7 +6,7 @@ use crate::close_fault::CloseFault;
 use crate::parents::parent_ranks;
 use crate::ranks::ranked;
 use crate::reach::entries_of;
-use cedar_names::ThinEntry;
+use cedar_identifiers::ThinEntry;
 use schema_syntax::ThinDecl;
 use std::alloc::Global;
 

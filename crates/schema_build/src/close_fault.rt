@@ -1,4 +1,4 @@
-use cedar_names::{NonEmpty, Text};
+use cedar_identifiers::{NonEmpty, Text};
 use std::alloc::{AllocError, AllocFailed};
 
 /// Why declarations mean nothing.

@@ -1,5 +1,5 @@
 ghost use Rattle.std.specs.Prelude.{◌≡◌, List, ℕ};
-ghost use Rattle.cedar_names.specs.declared.thin_entry.ThinEntry.{ThinEntry};
+ghost use Rattle.cedar_identifiers.specs.declared.thin_entry.ThinEntry.{ThinEntry};
 ghost use Rattle.schema_syntax.specs.declared.thin_decl.ThinDecl.{ThinDecl};
 ghost use Rattle.schema_syntax.specs.ThinMeaning.{NoRepeat, AllDeclared, AreUndefined, IsFirstRepeat, IsMeaning};
 

@@ -1,14 +1,14 @@
 ghost use Rattle.std.specs.Prelude.{◌≡◌, ◌<◌, ◌≤◌, ◌++◌, [], true, false, All, length, map, filter, IfOk, IfErr, IfSome, IfNone, OnOk, slice_index_or};
 ghost use Rattle.std.specs.List.{flat_map};
 ghost use Rattle.std.specs.List.Sorted.{IsStrictlySortedBy};
-ghost use Rattle.cedar_names.specs.Text.{text_cmp};
+ghost use Rattle.cedar_identifiers.specs.Text.{text_cmp};
 ghost use Rattle.schema_syntax.specs.ThinMeaning.{NoRepeat, AllDeclared};
 ghost use Rattle.schema_build.specs.CloseFault.{IsCloseFault};
 ghost use Rattle.schema_build.specs.Ranks.{decl_at, is_named, is_unnamed, AreRanked, AreRanksOf, AreParentRanks};
 ghost use Rattle.schema_build.specs.Rows.{row_at, AreKnown, AddsRanks, AreRows};
 
 use crate::close_fault::CloseFault;
-use cedar_names::{CloneIn, NonEmpty, Text};
+use cedar_identifiers::{CloneIn, NonEmpty, Text};
 use schema_syntax::ThinDecl;
 use std::alloc::{AllocError, Global};
 use std::collections::HashMap;

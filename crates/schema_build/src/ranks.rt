@@ -5,7 +5,7 @@ ghost use Rattle.schema_build.specs.CloseFault.{IsCloseFault};
 ghost use Rattle.schema_build.specs.Ranks.{ArePlaced, IsRepeated, IsUpToRepeats, AreRanked};
 
 use crate::close_fault::CloseFault;
-use cedar_names::{CloneIn, Text};
+use cedar_identifiers::{CloneIn, Text};
 use schema_syntax::ThinDecl;
 use std::alloc::{AllocError, Global};
 

@@ -3,7 +3,7 @@ ghost use Rattle.schema_build.specs.Graph.{InRange, AreReached, AreEntriesOf};
 ghost use Rattle.schema_build.specs.Marks.{IsMarked, AddsFrom};
 ghost use Rattle.schema_build.specs.Ranks.{name_at};
 
-use cedar_names::{CloneIn, List, Text, ThinEntry};
+use cedar_identifiers::{CloneIn, List, Text, ThinEntry};
 use std::alloc::{AllocError, Global};
 
 /// Adds those of the targets that aren't marked yet, and marks them.

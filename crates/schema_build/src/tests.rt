@@ -1,5 +1,5 @@
 use crate::*;
-use cedar_names::{List, Text, ThinEntry};
+use cedar_identifiers::{List, Text, ThinEntry};
 use schema_syntax::ThinDecl;
 use std::alloc::{AllocError, Global};
 use std::test::Fail;

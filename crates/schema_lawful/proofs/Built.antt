@@ -6,8 +6,8 @@ use Rattle.std.proofs.lemmas.List.{append-nil}
 use Rattle.std.proofs.lemmas.Grind.{flat_map-append}
 use Rattle.cedar_data.specs.Span.{Span}
 use Rattle.cedar_data.specs.declared.node.Node.{Node}
-use Rattle.cedar_names.specs.declared.id.Id.{Id}
-use Rattle.cedar_names.specs.declared.annotations.Annotations.{Annotations}
+use Rattle.cedar_identifiers.specs.declared.id.Id.{Id}
+use Rattle.cedar_identifiers.specs.declared.annotations.Annotations.{Annotations}
 use Rattle.schema_grammar.specs.declared.token_kind.TokenKind.{TokenKind}
 use Rattle.schema_grammar.specs.declared.token_kind.TokenKind.TheVariants.{StringLit}
 use Rattle.schema_grammar.specs.Grammar.{is_ident}

@@ -19,8 +19,8 @@ use Rattle.std.proofs.lemmas.Map.Text.{is_eq-slice_cmp}
 use Rattle.std.proofs.lemmas.Slice.Eq.{bytes_eq-Decides}
 use Rattle.std.proofs.lemmas.Str.{encodes-IsAscii}
 use Rattle.cedar_data.specs.Text.{text_cmp}
-use Rattle.cedar_names.specs.declared.any_id.AnyId.{AnyId}
-use Rattle.cedar_names.specs.Same.{any_id_same}
+use Rattle.cedar_identifiers.specs.declared.any_id.AnyId.{AnyId}
+use Rattle.cedar_identifiers.specs.Same.{any_id_same}
 use Rattle.parse_errors.specs.declared.user_error.UserError.TheVariants.{DuplicateAnnotations}
 use Rattle.schema_lawful.specs.declared.annotations.Kept.{Kept}
 use Rattle.schema_lawful.specs.Deduplicated.{Placed, key_of, key_place, HaveOtherKeys, IsTwice}

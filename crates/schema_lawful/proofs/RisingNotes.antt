@@ -12,7 +12,7 @@ use Rattle.std.proofs.lemmas.List.Sorted.{IsPermutation-sym, IsPermutation-map, 
 use Rattle.std.proofs.lemmas.Map.Text.{is_eq-slice_cmp}
 use Rattle.std.proofs.lemmas.Slice.Eq.{bytes_eq-Decides}
 use Rattle.cedar_data.specs.Text.{text_cmp}
-use Rattle.cedar_names.specs.declared.any_id.AnyId.{AnyId}
+use Rattle.cedar_identifiers.specs.declared.any_id.AnyId.{AnyId}
 use Rattle.schema_lawful.specs.declared.annotations.Kept.{Kept}
 use Rattle.schema_lawful.specs.Leaves.{Notes}
 use Rattle.schema_lawful.specs.Deduplicated.{Placed, key_of, value_of, note_of, HaveOtherKeys, AreKept}

@@ -1,7 +1,7 @@
 -- The faults of a site, by what the site is.
 use Rattle.std.proofs.Common.{◌≡◌, ℕ, true, false, List, ◌∷◌, ◌++◌, Some, ◌⊎◌, inl, inr, refl, sym, ◌∙◌, subst, arith}
 use Rattle.cedar_data.specs.Span.{Span}
-use Rattle.cedar_names.specs.Words.{is_reserved}
+use Rattle.cedar_identifiers.specs.Words.{is_reserved}
 use Rattle.schema_tokens.specs.declared.token.Token.{Token}
 use Rattle.schema_parse.specs.declared.syntax.AnnotationSyntax.{AnnotationSyntax}
 use Rattle.parse_errors.specs.declared.user_error.UserError.{UserError}

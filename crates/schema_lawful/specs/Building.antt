@@ -2,9 +2,9 @@
 use Rattle.std.specs.Prelude.{◌≡◌, ℕ, ◌-◌, length, take, List, [], ◌∷◌, ◌++◌, Option, Some, None, Result, Ok, Err}
 use Rattle.cedar_data.specs.Span.{Span}
 use Rattle.cedar_data.specs.declared.node.Node.{Node}
-use Rattle.cedar_names.specs.declared.id.Id.{Id}
-use Rattle.cedar_names.specs.declared.eid.Eid.{Eid}
-use Rattle.cedar_names.specs.declared.annotations.Annotations.{Annotations}
+use Rattle.cedar_identifiers.specs.declared.id.Id.{Id}
+use Rattle.cedar_identifiers.specs.declared.eid.Eid.{Eid}
+use Rattle.cedar_identifiers.specs.declared.annotations.Annotations.{Annotations}
 use Rattle.schema_tokens.specs.declared.token.Token.{Token}
 use Rattle.schema_parse.specs.Syntax.{place_of}
 use Rattle.schema_parse.specs.declared.syntax.PathSyntax.{PathSyntax}

@@ -6,7 +6,7 @@ use Rattle.std.specs.Option.{option_map}
 use Rattle.cedar_data.specs.Span.{Span}
 use Rattle.cedar_data.specs.Text.{text_cmp}
 use Rattle.cedar_data.specs.declared.node.Node.{Node}
-use Rattle.cedar_names.specs.declared.any_id.AnyId.{AnyId}
+use Rattle.cedar_identifiers.specs.declared.any_id.AnyId.{AnyId}
 use Rattle.parse_errors.specs.declared.user_error.UserError.{UserError}
 use Rattle.parse_errors.specs.declared.user_error.UserError.TheVariants.{DuplicateAnnotations}
 use Rattle.parse_errors.specs.declared.annotation_error.AnnotationError.{AnnotationError}

@@ -5,7 +5,7 @@ use Rattle.std.specs.List.Sorted.{IsStrictlySortedBy}
 use Rattle.std.specs.Map.{lookup}
 use Rattle.std.specs.Str.{chars, bytes_eq}
 use Rattle.cedar_data.specs.Text.{text_cmp}
-use Rattle.cedar_names.specs.declared.any_id.AnyId.{AnyId}
+use Rattle.cedar_identifiers.specs.declared.any_id.AnyId.{AnyId}
 use Rattle.schema_tokens.specs.declared.token.Token.{Token}
 use Rattle.schema_tokens.specs.Escapes.{Unescapes}
 use Rattle.schema_parse.specs.declared.syntax.AnnotationSyntax.{AnnotationSyntax}

@@ -1,7 +1,7 @@
 -- Why the sites of a text were not read. Only contracts inside the crate cite this.
 use Rattle.std.specs.Prelude.{◌≡◌, ◌≤◌, ℕ, true, List, [], ◌∷◌, Some}
 use Rattle.schema_grammar.specs.Grammar.{is_word}
-use Rattle.cedar_names.specs.Words.{is_reserved}
+use Rattle.cedar_identifiers.specs.Words.{is_reserved}
 use Rattle.schema_tokens.specs.declared.token.Token.{Token}
 use Rattle.schema_tokens.specs.Scans.{IsPlaced}
 use Rattle.parse_errors.specs.declared.user_error.UserError.{UserError}

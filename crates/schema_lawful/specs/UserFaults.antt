@@ -2,8 +2,8 @@
 use Rattle.std.specs.Prelude.{◌≡◌, ℕ, ◌+◌, ◌≤◌, true, List, [], ◌∷◌, ◌++◌, Some}
 use Rattle.std.specs.List.{All}
 use Rattle.cedar_data.specs.Span.{Span}
-use Rattle.cedar_names.specs.Words.{is_reserved}
-use Rattle.cedar_names.specs.declared.any_id.AnyId.{AnyId}
+use Rattle.cedar_identifiers.specs.Words.{is_reserved}
+use Rattle.cedar_identifiers.specs.declared.any_id.AnyId.{AnyId}
 use Rattle.schema_tokens.specs.declared.token.Token.{Token}
 use Rattle.schema_tokens.specs.Escapes.{BadEscape}
 use Rattle.schema_parse.specs.declared.syntax.AnnotationSyntax.{AnnotationSyntax}

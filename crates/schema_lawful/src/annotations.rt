@@ -9,7 +9,7 @@ ghost use Rattle.schema_lawful.specs.Deduplicated.{AreKept, AreRefused};
 ghost use Rattle.schema_lawful.specs.Collected.{HasRead, note_of_entry};
 
 use cedar_data::{Loc, Map, Node, Text};
-use cedar_names::{Annotations, AnyId};
+use cedar_identifiers::{Annotations, AnyId};
 use parse_errors::{AnnotationError, UserError};
 use schema_tree::Annotated;
 use std::alloc::{AllocError, Global};

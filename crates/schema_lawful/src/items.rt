@@ -7,7 +7,7 @@ use crate::parts::{Part, all};
 use crate::paths::path;
 use crate::stop::Stop;
 use cedar_data::{List, Loc, Node};
-use cedar_names::Annotations;
+use cedar_identifiers::Annotations;
 use schema_parse::{DeclaredSyntax, ItemSyntax, PathSyntax};
 use schema_tree::{Annotated, Declaration, Namespace};
 use std::alloc::Global;

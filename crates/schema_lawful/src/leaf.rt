@@ -1,5 +1,5 @@
 use cedar_data::Text;
-use cedar_names::{Annotations, Id};
+use cedar_identifiers::{Annotations, Id};
 
 /// What a site stands for.
 #[derive(Drop)]

@@ -4,7 +4,7 @@ use crate::leaf::Leaf;
 use crate::parts::Part;
 use crate::stop::Stop;
 use cedar_data::{Node, Text};
-use cedar_names::{Annotations, Eid, Id};
+use cedar_identifiers::{Annotations, Eid, Id};
 use schema_tokens::Token;
 use std::alloc::Global;
 use std::collections::VecDeque;

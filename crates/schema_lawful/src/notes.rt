@@ -14,7 +14,7 @@ use crate::stopped::Stopped;
 use crate::strings::string_value;
 use crate::words::any_word;
 use cedar_data::{Loc, Node, Text};
-use cedar_names::{Annotations, AnyId};
+use cedar_identifiers::{Annotations, AnyId};
 use parse_errors::{AnnotationError, UserError};
 use schema_parse::AnnotationSyntax;
 use schema_tokens::Token;

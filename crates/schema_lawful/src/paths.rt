@@ -7,7 +7,7 @@ use crate::names::{BareIds, name};
 use crate::parts::{Part, all};
 use crate::stop::Stop;
 use cedar_data::{Loc, Node};
-use cedar_names::Id;
+use cedar_identifiers::Id;
 use schema_parse::PathSyntax;
 use schema_tokens::Token;
 use schema_tree::{Path, QualName};

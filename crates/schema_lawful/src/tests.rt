@@ -4,7 +4,7 @@ ghost use Rattle.schema_lawful.specs.Placed.{IsPlacedNote, Rise, note_tokens};
 
 use crate::{Leaf, PlacedAnnotation, Site, Stopped, deduplicate_annotations, leaves_of};
 use cedar_data::{Loc, Node, Text};
-use cedar_names::{Annotations, AnyId};
+use cedar_identifiers::{Annotations, AnyId};
 use parse_errors::{AnnotationError, UserError};
 use schema_grammar::TokenKind;
 use schema_parse::AnnotationSyntax;

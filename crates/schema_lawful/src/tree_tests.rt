@@ -7,7 +7,7 @@ use crate::items::Items;
 use crate::leaf::Leaf;
 use crate::parts::all;
 use cedar_data::{List, Map, Node, Text};
-use cedar_names::{Annotations, AnyId, Id};
+use cedar_identifiers::{Annotations, AnyId, Id};
 use schema_grammar::{TokenKind, is_sentence};
 use schema_parse::{ItemSyntax, syntax_of};
 use schema_tokens::{Token, scan};

@@ -1,14 +1,14 @@
 //! What words stand for.
 ghost use Rattle.std.specs.Prelude.{◌≡◌, true, false, IfOk, IfErr, OnOk};
 ghost use Rattle.schema_grammar.specs.Grammar.{is_word};
-ghost use Rattle.cedar_names.specs.Words.{is_reserved};
+ghost use Rattle.cedar_identifiers.specs.Words.{is_reserved};
 ghost use Rattle.schema_tokens.specs.Scans.{IsPlaced};
 ghost use Rattle.schema_lawful.specs.Leaves.{word_at};
 ghost use Rattle.schema_lawful.specs.Stops.{IsPlacedWord, IsReservedStop};
 
 use crate::stopped::Stopped;
 use cedar_data::{Node, Text};
-use cedar_names::{AnyId, Id};
+use cedar_identifiers::{AnyId, Id};
 use parse_errors::UserError;
 use schema_tokens::{Token, token_text};
 use std::alloc::{AllocError, Global};

@@ -8,8 +8,8 @@ use Rattle.std.proofs.lemmas.Str.{IsAscii-append}
 use Rattle.std.proofs.lemmas.Str.Ascii.{IsAscii-from_all, IsAscii-nil}
 use Rattle.std.specs.List.{All, flat_map, list_all}
 use Rattle.std.specs.Str.{IsAscii}
-use Rattle.cedar_names.specs.declared.thin_entry.ThinEntry.{ThinEntry}
-use Rattle.cedar_names.specs.CanonicalText.{joined, parents_text, entry_text, canonical_text}
+use Rattle.cedar_identifiers.specs.declared.thin_entry.ThinEntry.{ThinEntry}
+use Rattle.cedar_identifiers.specs.CanonicalText.{joined, parents_text, entry_text, canonical_text}
 use Rattle.schema_syntax.specs.ThinTokens.{is_word_part, IsWord}
 use Rattle.schema_print.specs.Later.{behind_comma, behind_line}
 use Rattle.schema_print.proofs.Joined.{joined_names, joined_entries}

@@ -2,8 +2,8 @@
 use Rattle.std.proofs.Common.{◌≡◌, ◌<◌, ◌≤◌, ℕ, List, [], ◌∷◌, ◌++◌, refl, sym, ap, ◌∙◌, append_assoc, append-nil, length, drop, get_or, arith}
 use Rattle.std.specs.Prelude.{map, codes}
 use Rattle.std.specs.List.{flat_map}
-use Rattle.cedar_names.specs.declared.thin_entry.ThinEntry.{ThinEntry}
-use Rattle.cedar_names.specs.CanonicalText.{joined, parents_text, entry_text, canonical_text}
+use Rattle.cedar_identifiers.specs.declared.thin_entry.ThinEntry.{ThinEntry}
+use Rattle.cedar_identifiers.specs.CanonicalText.{joined, parents_text, entry_text, canonical_text}
 use Rattle.schema_print.specs.Later.{behind_comma, behind_line}
 
 -- the first piece, and then each other behind the separator

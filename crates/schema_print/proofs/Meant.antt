@@ -9,8 +9,8 @@ use Rattle.std.specs.List.{All, AllPairs, Contains}
 use Rattle.std.specs.List.Sorted.{IsStrictlySortedBy}
 use Rattle.std.specs.Ordering.{ordering_reverse}
 use Rattle.std.specs.Str.{encode_utf8_all}
-use Rattle.cedar_names.specs.Text.{text_cmp}
-use Rattle.cedar_names.specs.declared.thin_entry.ThinEntry.{ThinEntry}
+use Rattle.cedar_identifiers.specs.Text.{text_cmp}
+use Rattle.cedar_identifiers.specs.declared.thin_entry.ThinEntry.{ThinEntry}
 use Rattle.schema_syntax.specs.declared.thin_decl.ThinDecl.{ThinDecl}
 use Rattle.schema_syntax.specs.ThinMeaning.{names_of, IsParent, IsAncestor, NoRepeat, AllDeclared, IsMeaning}
 use Rattle.schema_print.proofs.Parsed.{decl_of}

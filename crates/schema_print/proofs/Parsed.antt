@@ -2,7 +2,7 @@
 use Rattle.std.proofs.Common.{ℕ, List, [], ◌∷◌, ◌++◌, map, codes}
 use Rattle.std.proofs.lemmas.List.Elements.{All-head, All-tail, All-nil, All-cons}
 use Rattle.std.specs.List.{All, flat_map}
-use Rattle.cedar_names.specs.declared.thin_entry.ThinEntry.{ThinEntry}
+use Rattle.cedar_identifiers.specs.declared.thin_entry.ThinEntry.{ThinEntry}
 use Rattle.schema_syntax.specs.declared.thin_decl.ThinDecl.{ThinDecl}
 use Rattle.schema_syntax.specs.ThinGrammar.{IsIdent, IsNames, last_name, more_names, listed_types, IsDecl, plain, under, IsSchema, no_decl, more_decls}
 use Rattle.schema_print.proofs.Scanned.{Tokens, later_tokens, parents_tokens, entry_tokens}

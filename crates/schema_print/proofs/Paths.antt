@@ -1,6 +1,6 @@
 -- Paths over any relation.
 use Rattle.std.proofs.Common.{List, [], ◌∷◌, ◌++◌, refl, subst, sym}
-use Rattle.cedar_names.specs.Paths.{Leads, Reaches}
+use Rattle.cedar_identifiers.specs.Paths.{Leads, Reaches}
 
 module _ {A : Type 0} (Step : A → A → Type 0) where
   -- a path that goes on by another

@@ -4,8 +4,8 @@ use Rattle.std.proofs.lemmas.List.Elements.{All-head, All-tail}
 use Rattle.std.proofs.lemmas.List.Sums.{AllPass-from_list_all}
 use Rattle.std.proofs.lemmas.Str.{encode_ascii}
 use Rattle.std.specs.List.{All, flat_map}
-use Rattle.cedar_names.specs.declared.thin_entry.ThinEntry.{ThinEntry}
-use Rattle.cedar_names.specs.CanonicalText.{parents_text, entry_text, canonical_text}
+use Rattle.cedar_identifiers.specs.declared.thin_entry.ThinEntry.{ThinEntry}
+use Rattle.cedar_identifiers.specs.CanonicalText.{parents_text, entry_text, canonical_text}
 use Rattle.schema_syntax.specs.ThinTokens.{is_word_part, IsWord, is_mark, IsBlank, none, more, ThinScans}
 use Rattle.schema_print.specs.Later.{behind_comma, behind_line}
 use Rattle.schema_print.proofs.Joined.{joined_names, joined_entries}

@@ -1,7 +1,7 @@
 -- What comes behind the first of several.
 use Rattle.std.specs.Prelude.{ℕ, List, ◌∷◌, ◌++◌, codes}
-use Rattle.cedar_names.specs.declared.thin_entry.ThinEntry.{ThinEntry}
-use Rattle.cedar_names.specs.CanonicalText.{entry_text}
+use Rattle.cedar_identifiers.specs.declared.thin_entry.ThinEntry.{ThinEntry}
+use Rattle.cedar_identifiers.specs.CanonicalText.{entry_text}
 
 -- a name behind a comma and a space
 abbrev pub behind_comma : List ℕ → List ℕ

@@ -1,7 +1,7 @@
 ghost use Rattle.std.specs.Prelude.{List, ℕ};
 ghost use Rattle.std.specs.Str.{encode_utf8_all};
-ghost use Rattle.cedar_names.specs.CanonicalText.{canonical_text};
-ghost use Rattle.cedar_names.specs.declared.thin_entry.ThinEntry.{ThinEntry};
+ghost use Rattle.cedar_identifiers.specs.CanonicalText.{canonical_text};
+ghost use Rattle.cedar_identifiers.specs.declared.thin_entry.ThinEntry.{ThinEntry};
 ghost use Rattle.schema_syntax.specs.ThinMeaning.{TextMeaning};
 
 /// The canonical text of what any text means reads back with that meaning.

@@ -1,5 +1,5 @@
 use crate::{canonical_text_reads_back, print_thin};
-use cedar_names::{List, Text, ThinEntry};
+use cedar_identifiers::{List, Text, ThinEntry};
 use std::alloc::{AllocError, Global};
 use std::test::Fail;
 

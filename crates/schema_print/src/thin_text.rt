@@ -1,11 +1,11 @@
 ghost use Rattle.std.specs.Prelude.{◌≡◌, ◌++◌, ◌∷◌, List, ℕ, OnOk, IfOk};
 ghost use Rattle.std.specs.List.{flat_map};
 ghost use Rattle.std.specs.Str.{encode_utf8_all};
-ghost use Rattle.cedar_names.specs.CanonicalText.{joined, parents_text, entry_text, canonical_text};
+ghost use Rattle.cedar_identifiers.specs.CanonicalText.{joined, parents_text, entry_text, canonical_text};
 ghost use Rattle.schema_syntax.specs.ThinMeaning.{TextMeaning};
 ghost use Rattle.schema_print.specs.Later.{behind_comma, behind_line};
 
-use cedar_names::{Text, ThinEntry};
+use cedar_identifiers::{Text, ThinEntry};
 use std::alloc::{AllocError, Global};
 
 // Adds each name behind a comma and a space.

@@ -3,9 +3,9 @@ use Rattle.std.specs.Prelude.{◌≡◌, ◌≢◌, ◌↔◌, ◌<◌, ℕ, Boo
 use Rattle.std.specs.List.{flat_map, list_any}
 use Rattle.std.specs.List.Sorted.{IsPermutation, IsStrictlySortedBy}
 use Rattle.std.specs.Str.{bytes_eq}
-use Rattle.cedar_names.specs.Text.{text_cmp}
-use Rattle.cedar_names.specs.declared.thin_entry.ThinEntry.{ThinEntry}
-use Rattle.cedar_names.specs.Paths.{Reaches}
+use Rattle.cedar_identifiers.specs.Text.{text_cmp}
+use Rattle.cedar_identifiers.specs.declared.thin_entry.ThinEntry.{ThinEntry}
+use Rattle.cedar_identifiers.specs.Paths.{Reaches}
 use Rattle.schema_syntax.specs.declared.thin_decl.ThinDecl.{ThinDecl}
 use Rattle.schema_syntax.specs.ThinGrammar.{ThinReads}
 

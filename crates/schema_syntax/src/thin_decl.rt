@@ -1,4 +1,4 @@
-use cedar_names::{CloneIn, List, Text};
+use cedar_identifiers::{CloneIn, List, Text};
 use std::alloc::{AllocError, Global};
 
 /// A plain entity declaration as it is written: the declared name, and the names of its parents in order.

@@ -9,7 +9,7 @@ ghost use Rattle.schema_syntax.specs.ThinGives.{Gives, turn_of};
 
 use crate::thin_decl::ThinDecl;
 use crate::thin_scanner::{is_word_start, next_token, past_blanks};
-use cedar_names::Text;
+use cedar_identifiers::Text;
 use std::alloc::{AllocError, AllocFailed, Global};
 
 /// Why there are no declarations. `NotBuilt` says that the text is no list of plain entity declarations, or that one of
@@ -208,7 +208,7 @@ fn decl(alloc: Global, text: &str) -> Result<(ThinDecl, &str), ThinFault>
     let (parents, rest) = parents(alloc, rest)?;
     let decl = ThinDecl {
         name,
-        parents: cedar_names::List::from_vec(parents),
+        parents: cedar_identifiers::List::from_vec(parents),
     };
     Ok((decl, rest))
 }

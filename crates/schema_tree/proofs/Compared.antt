@@ -12,9 +12,9 @@ use Rattle.std.proofs.lemmas.Slice.Eq.{bytes_eq-Decides}
 use Rattle.std.proofs.lemmas.Str.{encodes-IsAscii}
 use Rattle.std.proofs.lemmas.Str.Ascii.{IsAscii-nil, IsAscii-cons}
 use Rattle.cedar_data.specs.Text.{text_cmp}
-use Rattle.cedar_names.specs.Words.{is_word_start, is_word_part, is_word, is_reserved}
-use Rattle.cedar_names.specs.Names.{texts_of}
-use Rattle.cedar_names.specs.declared.id.Id.{Id}
+use Rattle.cedar_identifiers.specs.Words.{is_word_start, is_word_part, is_word, is_reserved}
+use Rattle.cedar_identifiers.specs.Names.{texts_of}
+use Rattle.cedar_identifiers.specs.declared.id.Id.{Id}
 
 part_ascii : (b : ℕ) → is_word_part b ≡ true → b < 128
 part_ascii b h = grind (arith, nat_tests)

@@ -3,9 +3,9 @@ use Rattle.std.proofs.Common.{◌≡◌, ℕ, List, [], ◌∷◌, ◌++◌, sym
 use Rattle.std.specs.Str.{chars}
 use Rattle.std.proofs.lemmas.Str.{chars-IsAscii}
 use Rattle.std.proofs.lemmas.Str.Ascii.{IsAscii-nil, IsAscii-cons}
-use Rattle.cedar_names.specs.CanonicalText.{joined}
-use Rattle.cedar_names.specs.Names.{texts_of}
-use Rattle.cedar_names.specs.declared.id.Id.{Id}
+use Rattle.cedar_identifiers.specs.CanonicalText.{joined}
+use Rattle.cedar_identifiers.specs.Names.{texts_of}
+use Rattle.cedar_identifiers.specs.declared.id.Id.{Id}
 
 -- the texts behind another, each after a separator
 abbrev pub behind : List ℕ → List (List ℕ) → List ℕ

@@ -1,7 +1,7 @@
 -- The names that a declaration gives.
 use Rattle.std.specs.Prelude.{ℕ, List}
 use Rattle.cedar_data.specs.declared.node.Node.{Node}
-use Rattle.cedar_names.specs.declared.id.Id.{Id}
+use Rattle.cedar_identifiers.specs.declared.id.Id.{Id}
 use Rattle.schema_tree.specs.declared.entity_decl.EntityDecl.{EntityDecl}
 use Rattle.schema_tree.specs.declared.entity_decl.EntityDecl.TheVariants.{Standard, Enum, External}
 use Rattle.schema_tree.specs.declared.action_decl.ActionDecl.{ActionDecl}

@@ -4,8 +4,8 @@ use Rattle.std.specs.Option.{option_to_list}
 use Rattle.cedar_data.specs.NonEmpty.{items_left}
 use Rattle.cedar_data.specs.Span.{Span}
 use Rattle.cedar_data.specs.declared.node.Node.{Node}
-use Rattle.cedar_names.specs.Words.{is_cedar}
-use Rattle.cedar_names.specs.declared.id.Id.{Id}
+use Rattle.cedar_identifiers.specs.Words.{is_cedar}
+use Rattle.cedar_identifiers.specs.declared.id.Id.{Id}
 use Rattle.schema_tree.specs.declared.path.PathIter.{PathIter}
 use Rattle.schema_tree.specs.declared.path.PathIntoIter.{PathIntoIter}
 

@@ -1,5 +1,5 @@
 use cedar_data::CloneIn;
-use cedar_names::Annotations;
+use cedar_identifiers::Annotations;
 use std::alloc::{AllocError, Global};
 
 /// An item, and the annotations that stand before it.

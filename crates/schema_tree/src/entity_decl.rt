@@ -6,7 +6,7 @@ use crate::annotated::Annotated;
 use crate::path::Path;
 use crate::types::{AttrDecl, Type};
 use cedar_data::{CloneIn, List, Node, NonEmpty, NonEmptyIter};
-use cedar_names::{Eid, Id};
+use cedar_identifiers::{Eid, Id};
 use std::alloc::{AllocError, Global};
 
 /// The declaration of one or more entity types that are alike but for their names.

@@ -3,7 +3,7 @@ ghost use Rattle.std.specs.Cmp.{IsEquivalence, IsTotalOrder};
 ghost use Rattle.std.specs.Cmp.Lexicographic.{slice_cmp};
 ghost use Rattle.std.specs.Ordering.{eq_by_cmp};
 ghost use Rattle.cedar_data.specs.Text.{text_cmp};
-ghost use Rattle.cedar_names.specs.Names.{texts_of};
+ghost use Rattle.cedar_identifiers.specs.Names.{texts_of};
 ghost use Rattle.schema_tree.specs.declared.annotated.Annotated.{Annotated as Beside};
 
 use crate::annotated::Annotated;

@@ -1,12 +1,12 @@
 ghost use Rattle.std.specs.Prelude.{◌≡◌, [], ◌∷◌, ◌++◌, codes, IfOk};
 ghost use Rattle.std.specs.Option.{option_copied};
 ghost use Rattle.std.specs.Iterator.{YieldsFirst, YieldsFirstRef, item_count};
-ghost use Rattle.cedar_names.specs.CanonicalText.{joined};
-ghost use Rattle.cedar_names.specs.Names.{texts_of};
+ghost use Rattle.cedar_identifiers.specs.CanonicalText.{joined};
+ghost use Rattle.cedar_identifiers.specs.Names.{texts_of};
 ghost use Rattle.schema_tree.specs.Paths.{placed, ids_left, nodes_left, is_in_cedar};
 
 use cedar_data::{CloneIn, Loc, Node, NonEmpty, NonEmptyIter, Text};
-use cedar_names::Id;
+use cedar_identifiers::Id;
 use std::alloc::{AllocError, Global};
 use std::collections::VecDeque;
 use std::mem;

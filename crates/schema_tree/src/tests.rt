@@ -7,7 +7,7 @@ use crate::{
     annotated_items_are_lawful, paths_go_by_ids,
 };
 use cedar_data::{Boxed, CloneIn, List, Loc, Map, Node, NonEmpty, Text, lawful};
-use cedar_names::{Annotations, AnyId, Eid, Id, NameFault};
+use cedar_identifiers::{Annotations, AnyId, Eid, Id, NameFault};
 use std::alloc::{AllocError, Global};
 use std::cmp::Ordering;
 use std::collections::BTreeMap;

@@ -3,7 +3,7 @@ ghost use Rattle.std.specs.Prelude.{[], ◌∷◌};
 use crate::decl::Decl;
 use crate::types::Type;
 use cedar_data::{CloneIn, Node, Text};
-use cedar_names::Id;
+use cedar_identifiers::Id;
 use std::alloc::{AllocError, Global};
 
 /// The declaration of a common type: its name, and the type that it stands for.

@@ -2,7 +2,7 @@
 
 use crate::*;
 use cedar_data::{List, Loc, Node, NonEmpty, Text};
-use cedar_names::{Annotations, Eid, Id};
+use cedar_identifiers::{Annotations, Eid, Id};
 use std::alloc::Global;
 use std::fmt::Write;
 use std::test::Fail;

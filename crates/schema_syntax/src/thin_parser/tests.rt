@@ -1,5 +1,5 @@
 use super::*;
-use cedar_names::CloneIn;
+use cedar_identifiers::CloneIn;
 use std::test::Fail;
 
 // Texts, each with the names that it declares and their parents in parentheses, or `!` where nothing is built.

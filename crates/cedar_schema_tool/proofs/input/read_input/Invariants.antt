@@ -1,5 +1,5 @@
 use Rattle.std.proofs.Common.{◌≤◌, ◌-◌, vec_len}
-use Rattle.cedar_names.specs.Outside.{Took}
+use Rattle.cedar_identifiers.specs.Outside.{Took}
 use Rattle.cedar_schema_tool.proofs.input.read_input.Given as goal
 
 abbrev pub invariant-loop-piece : goal.invariant-loop-piece

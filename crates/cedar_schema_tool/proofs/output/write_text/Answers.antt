@@ -1,5 +1,5 @@
 use Rattle.std.proofs.Common.{◌≡◌, ◌<◌, ◌-◌, length, take, drop, subst, ap, ◌∙◌, arith, length-drop}
-use Rattle.cedar_names.specs.Outside.{Appends, AppendsPart}
+use Rattle.cedar_identifiers.specs.Outside.{Appends, AppendsPart}
 use Rattle.cedar_schema_tool.proofs.Written.{appends_take, appends_part, on_err, piece}
 use Rattle.cedar_schema_tool.proofs.output.write_text.Goals as goal
 

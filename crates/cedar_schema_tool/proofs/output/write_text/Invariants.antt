@@ -1,5 +1,5 @@
 use Rattle.std.proofs.Common.{◌≤◌, ◌≡◌, ◌+◌, ◌-◌, [], length, take}
-use Rattle.cedar_names.specs.Outside.{Appends}
+use Rattle.cedar_identifiers.specs.Outside.{Appends}
 use Rattle.cedar_schema_tool.proofs.output.write_text.Given as goal
 
 abbrev pub invariant-loop-at : goal.invariant-loop-at

@@ -1,6 +1,6 @@
 use Rattle.std.proofs.Common.{◌≡◌, ap, ◌∙◌, sym, subst, length, refl}
 use Rattle.std.specs.Str.{encode_utf8_all}
-use Rattle.cedar_names.specs.CanonicalText.{canonical_text}
+use Rattle.cedar_identifiers.specs.CanonicalText.{canonical_text}
 use Rattle.schema_syntax.specs.ThinMeaning.{TextMeaning, NoRepeat, AllDeclared, IsMeaning, IsFirstRepeat, AreUndefined}
 use Rattle.cedar_schema_tool.proofs.recover.recover_schema.Goals as goal
 

@@ -1,5 +1,5 @@
 use Rattle.std.proofs.Common.{refl, subst, ◌∙◌}
-use Rattle.cedar_names.specs.Outside.{Appends, AppendsPart}
+use Rattle.cedar_identifiers.specs.Outside.{Appends, AppendsPart}
 use Rattle.cedar_schema_tool.specs.Run.{whole, out_failed, err_failed}
 use Rattle.cedar_schema_tool.proofs.run.deliver.Goals as goal
 

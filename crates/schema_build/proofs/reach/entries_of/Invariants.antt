@@ -1,6 +1,6 @@
 use Rattle.std.proofs.Common.{◌≡◌, ◌<◌, ◌+◌, ℕ, All, length, Some}
 use Rattle.std.specs.Prelude.{map, slice_get}
-use Rattle.cedar_names.specs.declared.thin_entry.ThinEntry.{ThinEntry}
+use Rattle.cedar_identifiers.specs.declared.thin_entry.ThinEntry.{ThinEntry}
 use Rattle.schema_build.specs.Graph.{IsEntryAt}
 use Rattle.schema_build.proofs.reach.entries_of.Given as goal
 

@@ -1,7 +1,7 @@
 use Rattle.std.proofs.Common.{◌≤◌, ◌-◌, length, All, Contains, take}
 use Rattle.schema_build.specs.Marks.{IsMarked}
 use Rattle.schema_build.specs.Graph.{targets_of, HasEdge}
-use Rattle.cedar_names.specs.Paths.{Reaches}
+use Rattle.cedar_identifiers.specs.Paths.{Reaches}
 use Rattle.schema_build.proofs.reach.find_reached.Given as goal
 
 abbrev pub invariant-loop-at : goal.invariant-loop-at

@@ -1,6 +1,6 @@
 use Rattle.std.proofs.Common.{◌≡◌, slice_range, Some, false, sym, ap, ◌∙◌}
 use Rattle.std.specs.Str.{chars}
-use Rattle.cedar_names.specs.Words.{is_reserved, is_id}
+use Rattle.cedar_identifiers.specs.Words.{is_reserved, is_id}
 use Rattle.parse_errors.specs.declared.user_error.UserError.TheVariants.{ReservedIdentifierUsed}
 use Rattle.schema_lawful.specs.Leaves.{word_at}
 use Rattle.schema_lawful.proofs.PlacedWords.{word_is_bytes, id_there}

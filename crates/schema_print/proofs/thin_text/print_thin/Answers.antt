@@ -1,7 +1,7 @@
 use Rattle.std.proofs.Common.{◌∙◌, ap, ◌++◌, ◌≡◌, drop, sym, length, ◌-◌, arith, length-drop}
 use Rattle.std.proofs.lemmas.List.{take_all}
 use Rattle.std.specs.List.{flat_map}
-use Rattle.cedar_names.specs.CanonicalText.{entry_text, canonical_text}
+use Rattle.cedar_identifiers.specs.CanonicalText.{entry_text, canonical_text}
 use Rattle.schema_print.specs.Later.{behind_line}
 use Rattle.schema_print.proofs.Joined.{canonical_none, canonical_parts}
 use Rattle.schema_print.proofs.ReadsBack.{written_reads_back}

@@ -1,5 +1,5 @@
 use Rattle.std.proofs.Common.{◌∙◌, ap, ◌++◌, codes, refl}
-use Rattle.cedar_names.specs.CanonicalText.{parents_text}
+use Rattle.cedar_identifiers.specs.CanonicalText.{parents_text}
 use Rattle.schema_print.proofs.Pushed.{of_entity, of_end, four_parts, on_end}
 use Rattle.schema_print.proofs.thin_text.push_entry.Goals as goal
 

@@ -1,5 +1,5 @@
 use Rattle.std.proofs.Common.{◌∙◌, ap, ◌++◌}
-use Rattle.cedar_names.specs.CanonicalText.{entry_text}
+use Rattle.cedar_identifiers.specs.CanonicalText.{entry_text}
 use Rattle.schema_print.proofs.Pushed.{of_line}
 use Rattle.schema_print.proofs.Later.{later_more}
 use Rattle.schema_print.proofs.thin_text.push_later_entries.Goals as goal

@@ -1,6 +1,6 @@
 use Rattle.std.proofs.Common.{◌≡◌, ◌++◌, codes}
-use Rattle.cedar_names.specs.CanonicalText.{joined}
-use Rattle.cedar_names.specs.Names.{texts_of}
+use Rattle.cedar_identifiers.specs.CanonicalText.{joined}
+use Rattle.cedar_identifiers.specs.Names.{texts_of}
 use Rattle.schema_tree.specs.Paths.{ids_left}
 use Rattle.schema_tree.proofs.Joins.{behind}
 use Rattle.schema_tree.proofs.path.Path.text.Given as goal

@@ -1,0 +1,111 @@
+ghost use Rattle.std.specs.List.{list_all};
+ghost use Rattle.std.specs.Char.{is_ascii};
+ghost use Rattle.std.specs.Prelude.{◌≡◌, true, ◌++◌, [], Ok, None, IfOk, IsOkAnd};
+ghost use Rattle.cedar_identifiers.specs.FaultTexts.{name_fault_text};
+
+use crate::label::Label;
+use crate::severity::Severity;
+use cedar_data::{CloneIn, Text};
+use std::alloc::{AllocError, AllocFailed, Global};
+
+/// Why a text is no name: it ends where a word is due, a piece cannot stand where it does, no piece stands there, it has
+/// blanks, or a component is a reserved word.
+#[derive(Debug, Drop)]
+pub enum NameFault {
+    End,
+    Token(Text),
+    Invalid,
+    NotNormalized,
+    Reserved(Text),
+    Memory,
+}
+
+impl NameFault {
+    /// What the fault says.
+    pub fn text(&self, alloc: Global) -> Result<Text, AllocError>
+        ensures text { IfOk result (λ text. text ≡ name_fault_text self.now) }
+    {
+        match self {
+            NameFault::End => message(alloc, "unexpected end of input"),
+            NameFault::Token(token) => around(alloc, "unexpected token `", token, "`"),
+            NameFault::Invalid => message(alloc, "invalid token"),
+            NameFault::NotNormalized => message(alloc, "the name is not normalized"),
+            NameFault::Reserved(word) => around(alloc, "the word `", word, "` is reserved"),
+            NameFault::Memory => message(alloc, "out of memory"),
+        }
+    }
+
+    /// Advice, of which it has none.
+    pub fn help(&self, _alloc: Global, _source: &str) -> Result<Option<Text>, AllocError>
+        ensures none { result ≡ Ok None }
+    {
+        Ok(None)
+    }
+
+    /// The places that it points to, of which it has none.
+    pub fn labels(&self, alloc: Global) -> Result<Vec<Label>, AllocError>
+        ensures none { IsOkAnd result (λ labels. labels.items ≡ []) }
+    {
+        Ok(Vec::new(alloc))
+    }
+
+    /// How grave it is.
+    pub fn severity(&self) -> Severity
+        ensures error { result ≡ Severity.Error }
+    {
+        Severity::Error
+    }
+}
+
+// An ASCII text.
+fn message(alloc: Global, text: &str) -> Result<Text, AllocError>
+    requires { list_all is_ascii text.now ≡ true }
+    ensures { IfOk result (λ copy. copy ≡ text.now) }
+{
+    Text::from_str(alloc, text)
+}
+
+// The text between two ASCII texts.
+fn around(alloc: Global, before: &str, text: &Text, after: &str) -> Result<Text, AllocError>
+    requires before { list_all is_ascii before.now ≡ true }
+    requires after { list_all is_ascii after.now ≡ true }
+    ensures { IfOk result (λ whole. whole ≡ before.now ++ (text.now ++ after.now)) }
+{
+    let mut whole = message(alloc, before)?;
+    whole.push_text(text)?;
+    whole.push_str(after)?;
+    Ok(whole)
+}
+
+impl From<AllocError> for NameFault {
+    ghost use Rattle.cedar_identifiers.specs.declared.name_fault.NameFault.TheVariants.{Memory};
+
+    ghost from_gives = { λ _ e. e ≡ Memory };
+
+    fn from(_e: AllocError) -> NameFault {
+        NameFault::Memory
+    }
+}
+
+impl<T: Drop> From<AllocFailed<T>> for NameFault {
+    ghost use Rattle.cedar_identifiers.specs.declared.name_fault.NameFault.TheVariants.{Memory};
+
+    ghost from_gives = { λ _ e. e ≡ Memory };
+
+    fn from(_e: AllocFailed<T>) -> NameFault {
+        NameFault::Memory
+    }
+}
+
+impl CloneIn for NameFault {
+    fn clone_in(&self, alloc: Global) -> Result<Self, AllocError> {
+        match self {
+            NameFault::End => Ok(NameFault::End),
+            NameFault::Token(token) => Ok(NameFault::Token(token.clone_in(alloc)?)),
+            NameFault::Invalid => Ok(NameFault::Invalid),
+            NameFault::NotNormalized => Ok(NameFault::NotNormalized),
+            NameFault::Reserved(word) => Ok(NameFault::Reserved(word.clone_in(alloc)?)),
+            NameFault::Memory => Ok(NameFault::Memory),
+        }
+    }
+}

@@ -1,0 +1,48 @@
+ghost use Rattle.std.specs.Prelude.{◌≡◌};
+ghost use Rattle.std.specs.List.{list_any};
+ghost use Rattle.std.specs.Str.{bytes_eq};
+ghost use Rattle.cedar_identifiers.specs.Words.{is_reserved};
+ghost use Rattle.cedar_identifiers.specs.NameReading.{is_single, refuses};
+
+/// What a text is read as.
+#[derive(Clone, Copy, PartialEq, Eq, Debug)]
+pub enum NameKind {
+    AnyId,
+    Id,
+    UnreservedId,
+    InternalName,
+    Name,
+}
+
+impl NameKind {
+    // Whether it is one word, and no path.
+    pub(crate) fn is_single(self) -> bool
+        ensures { result ≡ is_single self }
+    {
+        match self {
+            NameKind::AnyId | NameKind::Id | NameKind::UnreservedId => true,
+            NameKind::InternalName | NameKind::Name => false,
+        }
+    }
+
+    // Whether no component may be this word.
+    pub(crate) fn refuses(self, word: &str) -> bool
+        ensures { result ≡ refuses self word.now }
+    {
+        match self {
+            NameKind::AnyId => false,
+            NameKind::Id | NameKind::InternalName => is_reserved(word),
+            NameKind::UnreservedId | NameKind::Name => is_reserved(word) || word == "__cedar",
+        }
+    }
+}
+
+// Whether the word is one of the nine that are no names.
+fn is_reserved(word: &str) -> bool
+    ensures { result ≡ is_reserved word.now }
+{
+    match word {
+        "in" | "true" | "false" | "if" | "then" | "else" | "is" | "like" | "has" => true,
+        _ => false,
+    }
+}

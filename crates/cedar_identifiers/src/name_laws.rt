@@ -1,0 +1,59 @@
+ghost use Rattle.std.specs.Prelude.{◌≡◌, ◌↔◌, true};
+ghost use Rattle.std.specs.Cmp.Lexicographic.{slice_cmp};
+ghost use Rattle.cedar_data.specs.Text.{text_cmp};
+ghost use Rattle.cedar_identifiers.specs.Names.{components_of};
+ghost use Rattle.cedar_identifiers.specs.OneReading.{OneName, NoFault, OneFault};
+
+use crate::any_id::AnyId;
+use crate::id::Id;
+use crate::internal_name::InternalName;
+use crate::name::Name;
+use crate::raw_name::RawName;
+use crate::unreserved_id::UnreservedId;
+
+/// A text reads as one name, or has one fault: besides want of memory, which may come at any text, no other answer is
+/// right.
+pub fn one_reading(text: &str)
+    ensures one_name { OneName text.now }
+    ensures no_fault { NoFault text.now }
+    ensures one_fault { OneFault text.now }
+{}
+
+/// Words are ordered by bytes, and words with the same text are the same.
+pub fn any_ids_go_by_text(a: &AnyId, b: &AnyId)
+    ensures order { ⟦<AnyId as Ord>⟧.cmp a.now b.now ≡ text_cmp a.now.text b.now.text }
+    ensures equal { ⟦<AnyId as PartialEq>⟧.eq a.now b.now ≡ true ↔ a.now ≡ b.now }
+    ensures same { a.now.text ≡ b.now.text → a.now ≡ b.now }
+{}
+
+/// The same of words that may stand in names.
+pub fn ids_go_by_text(a: &Id, b: &Id)
+    ensures order { ⟦<Id as Ord>⟧.cmp a.now b.now ≡ text_cmp a.now.text b.now.text }
+    ensures equal { ⟦<Id as PartialEq>⟧.eq a.now b.now ≡ true ↔ a.now ≡ b.now }
+    ensures same { a.now.text ≡ b.now.text → a.now ≡ b.now }
+{}
+
+/// The same of words that may stand in declared names.
+pub fn unreserved_ids_go_by_text(a: &UnreservedId, b: &UnreservedId)
+    ensures order { ⟦<UnreservedId as Ord>⟧.cmp a.now b.now ≡ text_cmp a.now.id.text b.now.id.text }
+    ensures equal { ⟦<UnreservedId as PartialEq>⟧.eq a.now b.now ≡ true ↔ a.now ≡ b.now }
+    ensures same { a.now.id.text ≡ b.now.id.text → a.now ≡ b.now }
+{}
+
+/// Names are ordered by their components, the outermost first and each by bytes; their places are not seen.
+pub fn names_go_by_components(a: &InternalName, b: &InternalName)
+    ensures order { ⟦<InternalName as Ord>⟧.cmp a.now b.now ≡ slice_cmp text_cmp (components_of a.now) (components_of b.now) }
+    ensures equal { ⟦<InternalName as PartialEq>⟧.eq a.now b.now ≡ true ↔ (components_of a.now ≡ components_of b.now) }
+{}
+
+/// The same of names without `__cedar`.
+pub fn declared_names_go_by_components(a: &Name, b: &Name)
+    ensures order { ⟦<Name as Ord>⟧.cmp a.now b.now ≡ slice_cmp text_cmp (components_of a.now.name) (components_of b.now.name) }
+    ensures equal { ⟦<Name as PartialEq>⟧.eq a.now b.now ≡ true ↔ (components_of a.now.name ≡ components_of b.now.name) }
+{}
+
+/// The same of names as written.
+pub fn raw_names_go_by_components(a: &RawName, b: &RawName)
+    ensures order { ⟦<RawName as Ord>⟧.cmp a.now b.now ≡ slice_cmp text_cmp (components_of a.now.name) (components_of b.now.name) }
+    ensures equal { ⟦<RawName as PartialEq>⟧.eq a.now b.now ≡ true ↔ (components_of a.now.name ≡ components_of b.now.name) }
+{}

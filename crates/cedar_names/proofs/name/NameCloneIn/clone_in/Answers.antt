@@ -1,5 +1,0 @@
-use Rattle.cedar_names.specs.Same.{name_same}
-use Rattle.cedar_names.proofs.name.NameCloneIn.clone_in.Goals as goal
-
-pub returns : goal.returns
-returns c = name_same _ _ c.in_ok-clone_in.ensures

@@ -1,7 +1,0 @@
-use Rattle.std.proofs.Common.{◌≡◌, ◌∷◌, take, codes}
-use Rattle.cedar_names.specs.CanonicalText.{joined}
-use Rattle.cedar_names.specs.Names.{texts_of}
-use Rattle.cedar_names.proofs.name_text.InternalNameNameText.text.Given as goal
-
-abbrev pub invariant-loop-id : goal.invariant-loop-id
-invariant-loop-id l = l.text ≡ joined (codes "::") (texts_of (l.self.first ∷ take l.id-index l.id-items))

@@ -1,5 +1,0 @@
-use Rattle.cedar_names.specs.Same.{unreserved_id_is}
-use Rattle.cedar_names.proofs.unreserved_id.UnreservedIdCloneIn.clone_in.Goals as goal
-
-pub returns : goal.returns
-returns c = unreserved_id_is _ _ c.in_ok-clone_in.ensures

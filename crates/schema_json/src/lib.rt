@@ -1,0 +1,15 @@
+//! Fragments of a schema as data, generic in how names are written: with comparisons that see no place, copies and
+//! accessors.
+#![tactic(auto)]
+
+pub mod action_type;
+pub mod common_type;
+pub mod entity_type;
+pub mod fragment;
+pub mod types;
+
+pub use action_type::{ActionEntityUID, ActionType, ApplySpec};
+pub use common_type::{CommonType, CommonTypeId};
+pub use entity_type::{AttributesOrContext, EntityType, EntityTypeKind, StandardEntityType};
+pub use fragment::{Fragment, NamespaceDefinition};
+pub use types::{RecordType, Type, TypeOfAttribute, TypeVariant};
