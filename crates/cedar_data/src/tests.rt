@@ -1,4 +1,4 @@
-use crate::{Boxed, CloneIn, List, Loc, Map, Node, NonEmpty, Text, lawful};
+use crate::{Boxed, CloneIn, List, Loc, Map, Node, NonEmpty, Set, Text, lawful};
 use std::alloc::{AllocError, Global};
 use std::cmp::Ordering;
 use std::collections::BTreeMap;
@@ -123,6 +123,35 @@ fn a_map_finds_each_of_its_keys(rt: HostRuntime) -> Result<(), Fail> {
 }
 
 #[test]
+fn a_map_of_entries_keeps_the_last_value(rt: HostRuntime) -> Result<(), Fail> {
+    let alloc = rt.alloc();
+    let mut entries = Vec::new(alloc);
+    for (key, value) in [("b", "first"), ("a", "only"), ("b", "last")] {
+        entries.push((text(alloc, key)?, text(alloc, value)?))?;
+    }
+    let map = Map::from_entries(alloc, entries)?;
+    assert_eq!(rt; map.as_slice().len(), 2);
+    for (key, value) in [("a", "only"), ("b", "last")] {
+        let found = map.get(&text(alloc, key)?);
+        assert!(rt;
+            matches!(found, Some(found) if found.as_str() == value),
+            "{key}"
+        );
+    }
+    Ok(())
+}
+
+#[test]
+fn a_set_keeps_its_items(rt: HostRuntime) -> Result<(), Fail> {
+    let alloc = rt.alloc();
+    let set = Set::<Text>::new(alloc);
+    let copy = Set::from_sorted_vec(copy_of(&set, alloc)?.into_vec());
+    assert!(rt; copy == set);
+    assert!(rt; set.as_slice().is_empty());
+    Ok(())
+}
+
+#[test]
 fn places_are_not_compared(rt: HostRuntime) -> Result<(), Fail> {
     let alloc = rt.alloc();
     let here = Loc::new(1, 3);
@@ -149,4 +178,5 @@ fn comparisons_are_lawful() {
     lawful::<Node<Text>>();
     lawful::<Boxed<Text>>();
     lawful::<Map<Text, List<Text>>>();
+    lawful::<Set<Text>>();
 }
