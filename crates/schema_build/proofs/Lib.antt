@@ -7,6 +7,7 @@ mod Found
 mod Rows
 mod Order
 mod Places
+mod Lent
 mod Names
 mod RankRows
 mod Entries

@@ -1,4 +1,5 @@
 -- Declarations by their rank, the place of their name among the declared names in order.
+use denote.Ref.{Bor}
 use Rattle.std.specs.Prelude.{◌≡◌, ◌+◌, ◌<◌, ◌≤◌, ℕ, Bool, not, List, [], Vec, All, Contains, map, filter, length, slice_index_or, slice_get, Some}
 use Rattle.std.specs.List.{list_any}
 use Rattle.std.specs.List.Sorted.{IsPermutation, IsStrictlySortedBy}
@@ -41,6 +42,10 @@ pub record ArePlaced (decls : List ThinDecl) (pairs : List (List ℕ × ℕ)) : 
   pub named : All (λ pair. (decl_at decls pair.1).name ≡ pair.0) pairs
   pub each : (place : ℕ) → place < length decls → Contains pairs ((decl_at decls place).name, place)
   pub rising : IsStrictlySortedBy pair_cmp pairs
+
+-- what stands at the place of a pair: its name, and the place
+abbrev pub named_at : List ThinDecl → Bor (List ℕ) × ℕ → List ℕ × ℕ
+named_at decls pair = ((decl_at decls pair.1).name, pair.1)
 
 -- the pair that stands at k
 abbrev pub pair_at : List (List ℕ × ℕ) → ℕ → List ℕ × ℕ

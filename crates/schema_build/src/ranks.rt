@@ -1,23 +1,53 @@
-ghost use Rattle.std.specs.Prelude.{◌≡◌, ◌<◌, ◌≤◌, length, IfOk, IfErr, OnOk};
+ghost use Rattle.std.specs.Prelude.{◌≡◌, ◌<◌, ◌≤◌, All, length, map, IfOk, IfErr, OnOk};
 ghost use Rattle.std.specs.Map.{keys_of, values_of};
 ghost use Rattle.schema_syntax.specs.ThinMeaning.{NoRepeat};
 ghost use Rattle.schema_build.specs.CloseFault.{IsCloseFault};
-ghost use Rattle.schema_build.specs.Ranks.{ArePlaced, IsRepeated, IsUpToRepeats, AreRanked};
+ghost use Rattle.schema_build.specs.Ranks.{named_at, ArePlaced, IsRepeated, IsUpToRepeats, AreRanked};
 
 use crate::close_fault::CloseFault;
 use cedar_identifiers::{CloneIn, Text};
 use schema_syntax::ThinDecl;
 use std::alloc::{AllocError, Global};
 
+/// The declared names in order, lent, each with the place of its declaration. Of one name, the lower place comes first.
+fn lent_in_order<'a>(
+    alloc: Global,
+    decls: &'a [ThinDecl],
+) -> Result<Vec<(&'a str, usize)>, AllocError>
+    ensures placed { IfOk result (λ lent. ArePlaced decls.now (map (named_at decls.now) lent.items)) }
+    ensures below { IfOk result (λ lent. All (λ pair. pair.1 < length decls.now) lent.items) }
+{
+    let mut lent = Vec::with_capacity(alloc, decls.len())?;
+    for (place, decl) in decls.iter().enumerate() {
+        lent.push((decl.name.as_str(), place))?;
+    }
+    lent.sort_unstable();
+    Ok(lent)
+}
+
+/// Copies of the names of these declarations, each with its place, one after the other: later passes over them go through
+/// memory as it lies.
+fn copied(
+    alloc: Global,
+    decls: &[ThinDecl],
+    lent: &[(&str, usize)],
+) -> Result<Vec<(Text, usize)>, AllocError>
+    requires { All (λ pair. pair.1 < length decls.now) lent.now }
+    ensures { IfOk result (λ pairs. pairs.items ≡ map (named_at decls.now) lent.now) }
+{
+    let mut pairs = Vec::with_capacity(alloc, lent.len())?;
+    for (_, place) in lent {
+        pairs.push((decls[*place].name.clone_in(alloc)?, *place))?;
+    }
+    Ok(pairs)
+}
+
 /// The declared names in order, each with the place of its declaration. Of one name, the lower place comes first.
 fn names_in_order(alloc: Global, decls: &[ThinDecl]) -> Result<Vec<(Text, usize)>, AllocError>
     ensures { IfOk result (λ pairs. ArePlaced decls.now pairs.items) }
 {
-    let mut pairs = Vec::with_capacity(alloc, decls.len())?;
-    for (place, decl) in decls.iter().enumerate() {
-        pairs.push((decl.name.clone_in(alloc)?, place))?;
-    }
-    pairs.sort_unstable();
+    let lent = lent_in_order(alloc, decls)?;
+    let pairs = copied(alloc, decls, &lent)?;
     Ok(pairs)
 }
 
