@@ -3,6 +3,9 @@
 #![tactic(auto)]
 
 pub mod entity_uid;
+pub mod extension_table;
+pub mod table_error;
+mod table_words;
 
 pub use cedar_data::{
     Boxed, CloneIn, List, Loc, Map, Node, NonEmpty, NonEmptyIntoIter, NonEmptyIter, Set, Text,
@@ -14,6 +17,8 @@ pub use cedar_identifiers::{
 };
 pub use cedar_outside::{Failed, MemorySink, MemorySource, NullSink, Sink, Source, SteadySource};
 pub use entity_uid::EntityUID;
+pub use extension_table::{ExtensionTable, Extensions};
+pub use table_error::TableError;
 
 #[cfg(test)]
 mod tests;

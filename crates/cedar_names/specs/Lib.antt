@@ -1,0 +1,2 @@
+pub mod TableNames
+pub mod Tables
