@@ -50,49 +50,15 @@ id_bytes n = encodes-IsAscii n.id.text (word_ascii n.id.text (first_so (is_word 
 pub by_bytes : (x y : UnreservedId) → text_cmp x.id.text y.id.text ≡ slice_cmp nat_cmp x.id.text y.id.text
 by_bytes x y = λ i. slice_cmp nat_cmp (id_bytes x i) (id_bytes y i)
 
-at_text : (x y : UnreservedId) (a : Ordering) → a ≡ slice_cmp nat_cmp x.id.text y.id.text → is_eq a ≡ bytes_eq x.id.text y.id.text
-at_text x y a e = ap is_eq e ∙ is_eq-slice_cmp x.id.text y.id.text
+-- a word has another's text exactly where the order sees no difference
+pub at_text : (R : UnreservedId → UnreservedId → Ordering) → ((x y : UnreservedId) → R x y ≡ slice_cmp nat_cmp x.id.text y.id.text) → (x y : UnreservedId) → is_eq (R x y) ≡ bytes_eq x.id.text y.id.text
+at_text R e x y = ap is_eq (e x y) ∙ is_eq-slice_cmp x.id.text y.id.text
 
-or_last : (a : Bool) → (a || false) ≡ (false || a)
-or_last true = refl
-or_last false = refl
-
-or_swap : (a b c : Bool) → (a || (b || c)) ≡ ((b || c) || a)
-or_swap true true c = refl
-or_swap true false true = refl
-or_swap true false false = refl
-or_swap false true c = refl
-or_swap false false true = refl
-or_swap false false false = refl
-
-or_there : (b c : Bool) → (b || c) ≡ ((b || c) || b)
-or_there true c = refl
-or_there false true = refl
-or_there false false = refl
-
-or_right : (b c a : Bool) → (b || (c || a)) ≡ ((b || c) || a)
-or_right true c a = refl
-or_right false c a = refl
+-- texts that are the same have the same properties
+pub same_text : {A : Type 0} (f : List ℕ → A) (a b : List ℕ) → bytes_eq a b ≡ true → f a ≡ f b
+same_text f a b h = ap f ((bytes_eq-Decides a b).0 h)
 
 module _ (R : UnreservedId → UnreservedId → Ordering) (e : (x y : UnreservedId) → R x y ≡ slice_cmp nat_cmp x.id.text y.id.text) where
-  -- a set has a word exactly where some word there has its text
-  pub found : (q : UnreservedId) (ks : List UnreservedId) → list_any (is_at (R q)) ks ≡ list_any (λ n. bytes_eq q.id.text n.id.text) ks
-  found q [] = refl
-  found q (k ∷ ks) = λ i. at_text q k (R q k) (e q k) i || found q ks i
-
-  -- a text that some word has, once one more is there
-  pub inserted : (f : List ℕ → Bool) (ks : List UnreservedId) (k : UnreservedId) → list_any (λ n. f n.id.text) (insert_key R ks k) ≡ (list_any (λ n. f n.id.text) ks || f k.id.text)
-  inserted f [] k = or_last (f k.id.text)
-  inserted f (x ∷ xs) k = turn (inserted f xs k) (R k x) refl
-    where
-      turn : list_any (λ n. f n.id.text) (insert_key R xs k) ≡ (list_any (λ n. f n.id.text) xs || f k.id.text) → (o : Ordering) → R k x ≡ o → list_any (λ n. f n.id.text) (match_ordering o (k ∷ x ∷ xs) (x ∷ xs) (x ∷ insert_key R xs k)) ≡ ((f x.id.text || list_any (λ n. f n.id.text) xs) || f k.id.text)
-      turn rest Less h = or_swap (f k.id.text) (f x.id.text) (list_any (λ n. f n.id.text) xs)
-      turn rest Equal h =
-          let same : bytes_eq k.id.text x.id.text ≡ true = sym (at_text k x (R k x) (e k x)) ∙ ap is_eq h in
-          let texts : k.id.text ≡ x.id.text = (bytes_eq-Decides k.id.text x.id.text).0 same in
-          or_there (f x.id.text) (list_any (λ n. f n.id.text) xs) ∙ ap (λ t. (f x.id.text || list_any (λ n. f n.id.text) xs) || f t) (sym texts)
-      turn rest Greater h = ap (λ b. f x.id.text || b) rest ∙ or_right (f x.id.text) (list_any (λ n. f n.id.text) xs) (f k.id.text)
-
   module _ (o : IsTotalOrder (slice_cmp nat_cmp)) (names : List UnreservedId) (up : IsStrictlySortedBy R names) (q : List ℕ) where
     rises : (i j : ℕ) (d : UnreservedId) → i < j → j < length names → slice_cmp nat_cmp (get_or names i d).id.text (get_or names j d).id.text ≡ Less
     rises i j d lt h = sym (e (get_or names i d) (get_or names j d)) ∙ Less-from_sorted R names i j d up lt h

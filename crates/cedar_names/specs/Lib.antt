@@ -1,2 +1,4 @@
+pub mod Definitions
+pub mod EntityTexts
 pub mod TableNames
 pub mod Tables

@@ -2,11 +2,13 @@
 //! and the meaning of a schema with its canonical text.
 #![tactic(auto)]
 
+pub mod all_defs;
 pub mod entity_uid;
 pub mod extension_table;
 pub mod table_error;
 mod table_words;
 
+pub use all_defs::AllDefs;
 pub use cedar_data::{
     Boxed, CloneIn, List, Loc, Map, Node, NonEmpty, NonEmptyIntoIter, NonEmptyIter, Set, Text,
     lawful,
