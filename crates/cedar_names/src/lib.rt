@@ -5,6 +5,7 @@
 pub mod all_defs;
 pub mod entity_uid;
 pub mod extension_table;
+pub mod meaning_laws;
 pub mod table_error;
 mod table_words;
 

@@ -1,5 +1,4 @@
 use Rattle.std.proofs.Common.{ap, ◌∙◌}
-use Rattle.cedar_identifiers.specs.Names.{components_of}
 use Rattle.cedar_names.specs.Definitions.{action_of, among_actions}
 use Rattle.cedar_names.proofs.Defined.{action_found}
 use Rattle.cedar_names.proofs.all_defs.AllDefs.is_defined_as_action.Goals as goal

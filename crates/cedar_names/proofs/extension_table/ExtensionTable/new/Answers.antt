@@ -1,4 +1,4 @@
-use Rattle.std.proofs.Common.{◌≡◌, ◌<◌, List, [], ℕ, Bool, true, false, not, ◌||◌, length, take, get_or, map, refl, sym, ap, ◌∙◌, arith, below_more}
+use Rattle.std.proofs.Common.{◌≡◌, ◌<◌, List, [], ℕ, false, ◌||◌, length, take, get_or, map, sym, ap, ◌∙◌, arith, below_more}
 use Rattle.std.specs.List.{list_any}
 use Rattle.std.specs.Str.{bytes_eq}
 use Rattle.std.specs.String.{string_bytes}
