@@ -42,6 +42,11 @@ impl AllDefs {
         }
     }
 
+    /// The allocator that the sets take their memory from.
+    pub fn alloc(&self) -> Global {
+        self.alloc
+    }
+
     /// Whether a common type of this name is defined.
     pub fn is_defined_as_common(&self, name: &InternalName) -> bool
         ensures { result ≡ among self.now.commons (components_of name.now) }
