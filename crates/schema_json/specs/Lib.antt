@@ -1,3 +1,6 @@
+pub mod Keywords
 pub mod Presence
 pub mod Same
+pub mod Shapes
 pub mod Sizes
+pub mod Walk
