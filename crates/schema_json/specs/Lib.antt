@@ -1,4 +1,6 @@
+pub mod Comparisons
 pub mod Keywords
+pub mod Places
 pub mod Presence
 pub mod Same
 pub mod Shapes

@@ -9,6 +9,8 @@ pub mod common_type;
 pub mod entity_type;
 pub mod extension;
 pub mod fragment;
+pub mod laws;
+pub mod placeless;
 pub mod reserved;
 pub mod typed_name;
 pub mod types;
