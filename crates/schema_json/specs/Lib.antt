@@ -1,3 +1,4 @@
+pub mod Actions
 pub mod Comparisons
 pub mod Keywords
 pub mod Places
