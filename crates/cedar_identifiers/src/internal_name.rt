@@ -62,8 +62,8 @@ impl InternalName {
         self.loc.as_ref()
     }
 
-    // Whether some component is `__cedar`.
-    pub(crate) fn has_cedar(&self) -> bool
+    /// Whether some component is `__cedar`.
+    pub fn has_cedar(&self) -> bool
         ensures { result ≡ has_cedar (components_of self.now) }
     {
         if self.first.as_str() == "__cedar" {

@@ -1,0 +1,57 @@
+//! Laws of the comparisons of fragments. Each law is what its function ensures; the functions do nothing.
+ghost use Rattle.schema_json.specs.Comparisons.{IsLawful};
+
+use crate::action_type::{ActionEntityUID, ActionType, ApplySpec};
+use crate::common_type::{CommonType, CommonTypeId};
+use crate::entity_type::{AttributesOrContext, EntityType, EntityTypeKind, StandardEntityType};
+use crate::fragment::{Fragment, NamespaceDefinition};
+use crate::types::{RecordType, Type, TypeOfAttribute, TypeVariant};
+use cedar_data::lawful;
+use cedar_identifiers::NameText;
+use std::hash::Hash;
+
+/// Comparisons of types are lawful for every lawful type of names: equality is an equivalence, the order is total and
+/// agrees with it, and equal values hash alike.
+pub fn types_are_lawful<N: Ord + Hash>()
+    ensures types { IsLawful ⟦<Type<N> as PartialEq>⟧.eq ⟦<Type<N> as Ord>⟧.cmp ⟦<Type<N> as Hash>⟧.hash_input }
+    ensures shapes { IsLawful ⟦<TypeVariant<N> as PartialEq>⟧.eq ⟦<TypeVariant<N> as Ord>⟧.cmp ⟦<TypeVariant<N> as Hash>⟧.hash_input }
+    ensures records { IsLawful ⟦<RecordType<N> as PartialEq>⟧.eq ⟦<RecordType<N> as Ord>⟧.cmp ⟦<RecordType<N> as Hash>⟧.hash_input }
+    ensures attributes { IsLawful ⟦<TypeOfAttribute<N> as PartialEq>⟧.eq ⟦<TypeOfAttribute<N> as Ord>⟧.cmp ⟦<TypeOfAttribute<N> as Hash>⟧.hash_input }
+{
+    lawful::<Type<N>>();
+    lawful::<TypeVariant<N>>();
+    lawful::<RecordType<N>>();
+    lawful::<TypeOfAttribute<N>>();
+}
+
+/// So are comparisons of common types and entity types.
+pub fn declared_types_are_lawful<N: Ord + Hash>()
+    ensures common_ids { IsLawful ⟦<CommonTypeId as PartialEq>⟧.eq ⟦<CommonTypeId as Ord>⟧.cmp ⟦<CommonTypeId as Hash>⟧.hash_input }
+    ensures common_types { IsLawful ⟦<CommonType<N> as PartialEq>⟧.eq ⟦<CommonType<N> as Ord>⟧.cmp ⟦<CommonType<N> as Hash>⟧.hash_input }
+    ensures entity_types { IsLawful ⟦<EntityType<N> as PartialEq>⟧.eq ⟦<EntityType<N> as Ord>⟧.cmp ⟦<EntityType<N> as Hash>⟧.hash_input }
+    ensures kinds { IsLawful ⟦<EntityTypeKind<N> as PartialEq>⟧.eq ⟦<EntityTypeKind<N> as Ord>⟧.cmp ⟦<EntityTypeKind<N> as Hash>⟧.hash_input }
+    ensures standard { IsLawful ⟦<StandardEntityType<N> as PartialEq>⟧.eq ⟦<StandardEntityType<N> as Ord>⟧.cmp ⟦<StandardEntityType<N> as Hash>⟧.hash_input }
+    ensures shapes { IsLawful ⟦<AttributesOrContext<N> as PartialEq>⟧.eq ⟦<AttributesOrContext<N> as Ord>⟧.cmp ⟦<AttributesOrContext<N> as Hash>⟧.hash_input }
+{
+    lawful::<CommonTypeId>();
+    lawful::<CommonType<N>>();
+    lawful::<EntityType<N>>();
+    lawful::<EntityTypeKind<N>>();
+    lawful::<StandardEntityType<N>>();
+    lawful::<AttributesOrContext<N>>();
+}
+
+/// So are comparisons of actions, namespaces and fragments.
+pub fn fragments_are_lawful<N: NameText + Ord + Hash>()
+    ensures action_types { IsLawful ⟦<ActionType<N> as PartialEq>⟧.eq ⟦<ActionType<N> as Ord>⟧.cmp ⟦<ActionType<N> as Hash>⟧.hash_input }
+    ensures applies_to { IsLawful ⟦<ApplySpec<N> as PartialEq>⟧.eq ⟦<ApplySpec<N> as Ord>⟧.cmp ⟦<ApplySpec<N> as Hash>⟧.hash_input }
+    ensures action_uids { IsLawful ⟦<ActionEntityUID<N> as PartialEq>⟧.eq ⟦<ActionEntityUID<N> as Ord>⟧.cmp ⟦<ActionEntityUID<N> as Hash>⟧.hash_input }
+    ensures namespaces { IsLawful ⟦<NamespaceDefinition<N> as PartialEq>⟧.eq ⟦<NamespaceDefinition<N> as Ord>⟧.cmp ⟦<NamespaceDefinition<N> as Hash>⟧.hash_input }
+    ensures fragments { IsLawful ⟦<Fragment<N> as PartialEq>⟧.eq ⟦<Fragment<N> as Ord>⟧.cmp ⟦<Fragment<N> as Hash>⟧.hash_input }
+{
+    lawful::<ActionType<N>>();
+    lawful::<ApplySpec<N>>();
+    lawful::<ActionEntityUID<N>>();
+    lawful::<NamespaceDefinition<N>>();
+    lawful::<Fragment<N>>();
+}

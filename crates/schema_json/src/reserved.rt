@@ -1,0 +1,69 @@
+ghost use Rattle.std.specs.Prelude.{◌≡◌, Ok, None, [], IfOk, IsOkAnd};
+ghost use Rattle.schema_json.specs.Keywords.{reserved_text};
+
+use cedar_data::{CloneIn, Text};
+use cedar_identifiers::{InternalName, Label, Severity, UnreservedId};
+use std::alloc::{AllocError, Global};
+
+/// The name of a common type is one that names a type or a kind of types already.
+#[derive(PartialEq, Eq, Debug, Drop)]
+pub struct ReservedCommonTypeBasenameError {
+    pub id: UnreservedId,
+}
+
+impl ReservedCommonTypeBasenameError {
+    /// What the error says.
+    pub fn text(&self, alloc: Global) -> Result<Text, AllocError>
+        ensures text { IfOk result (λ text. text ≡ reserved_text self.now.id.id.text) }
+    {
+        let mut text = Text::from_str(
+            alloc,
+            "this is reserved and cannot be the basename of a common-type declaration: ",
+        )?;
+        text.push_text(&self.id.id.text)?;
+        Ok(text)
+    }
+
+    /// Advice, of which it has none.
+    pub fn help(&self, _alloc: Global, _source: &str) -> Result<Option<Text>, AllocError>
+        ensures none { result ≡ Ok None }
+    {
+        Ok(None)
+    }
+
+    /// The places that it points to, of which it has none.
+    pub fn labels(&self, alloc: Global) -> Result<Vec<Label>, AllocError>
+        ensures none { IsOkAnd result (λ labels. labels.items ≡ []) }
+    {
+        Ok(Vec::new(alloc))
+    }
+
+    /// How grave it is.
+    pub fn severity(&self) -> Severity
+        ensures error { result ≡ Severity.Error }
+    {
+        Severity::Error
+    }
+}
+
+impl CloneIn for ReservedCommonTypeBasenameError {
+    fn clone_in(&self, alloc: Global) -> Result<Self, AllocError> {
+        Ok(ReservedCommonTypeBasenameError {
+            id: self.id.clone_in(alloc)?,
+        })
+    }
+}
+
+/// A component of the name is `__cedar`, which no entity's type may have.
+#[derive(Debug, Drop)]
+pub struct ReservedNameError {
+    pub name: InternalName,
+}
+
+impl CloneIn for ReservedNameError {
+    fn clone_in(&self, alloc: Global) -> Result<Self, AllocError> {
+        Ok(ReservedNameError {
+            name: self.name.clone_in(alloc)?,
+        })
+    }
+}
