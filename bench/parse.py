@@ -89,4 +89,5 @@ def main():
 
 
 RUNS = int(sys.argv[1]) if len(sys.argv) > 1 else 5
-main()
+if __name__ == "__main__":
+    main()

@@ -1,0 +1,49 @@
+#!/usr/bin/env python3
+"""Times the translation of generated schemas to fragments, and the resolution of the names in them, and prints ratios.
+
+usage: bench/translate.py [RUNS]      (from the top of the repository, with crates/schema_bench built: rt run schema_bench)
+
+The texts of `bench/parse.py` with 1, 2 and 4 MiB are translated; then fragments with 25,000, 50,000 and 100,000 references
+to half as many names, shuffled, are translated and resolved. Wanted: growth of at most 2.3 for a doubled text, and for a
+doubled number of references and names.
+"""
+
+import os
+import random
+
+import parse
+
+
+def references(count):
+    """A schema with so many references to half as many entity types, under names that are shuffled."""
+    chance = random.Random(count)
+    names = [f"Type{i:06}" for i in range(count // 2)]
+    chance.shuffle(names)
+    parts = [f"entity {name} = {{ a: {chance.choice(names)}, b?: Set<{chance.choice(names)}> }};\n" for name in names]
+    return "namespace Area {\n" + "".join(parts) + "}\n"
+
+
+def measure(name, word, text, path, last):
+    with open(path, "w") as file:
+        file.write(text)
+    seconds, memory = parse.timed(word, path)
+    parsing, _ = parse.timed("parse", path)
+    growth = f"  growth {seconds / last:4.2f}" if last else ""
+    print(f"{name:24} {word:9} {seconds:7.3f} s  {seconds / parsing:4.2f} of parsing  memory {memory / len(text):5.1f} times the text{growth}")
+    return seconds
+
+
+def main():
+    os.makedirs(parse.WORK, exist_ok=True)
+    path = os.path.join(parse.WORK, "in")
+    last = None
+    for size in (1, 2, 4):
+        last = measure(f"{size} MiB", "translate", parse.generated(size * parse.MIB), path, last)
+    for word in ("translate", "resolve"):
+        last = None
+        for count in (25_000, 50_000, 100_000):
+            last = measure(f"{count} references", word, references(count), path, last)
+
+
+if __name__ == "__main__":
+    main()
