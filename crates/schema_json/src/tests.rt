@@ -6,14 +6,15 @@ use crate::laws::{
 use crate::placeless::{declared_types_see_no_place, fragments_see_no_place, types_see_no_place};
 use crate::{
     ActionEntityUID, ActionType, ApplySpec, AttributesOrContext, CommonType, CommonTypeId,
-    EntityType, EntityTypeKind, Fragment, NamespaceDefinition, RecordType, StandardEntityType,
-    Type, TypeOfAttribute, TypeVariant, TypedName, action_name,
+    EntityType, EntityTypeKind, Fragment, NamespaceDefinition, RecordType,
+    ReservedCommonTypeBasenameError, ReservedNameError, StandardEntityType, Type, TypeOfAttribute,
+    TypeVariant, TypedName, action_name,
 };
-use cedar_data::{Boxed, CloneIn, List, Loc, Map, NonEmpty, Set, Text};
+use cedar_data::{Boxed, CloneIn, List, Loc, Map, Text};
 use cedar_identifiers::{
-    Annotations, ConditionalName, Eid, InternalName, Name, NameText, RawName, ReferenceType,
-    Severity, UnreservedId,
+    Annotations, InternalName, Name, NameText, RawName, ReferenceType, Severity, UnreservedId,
 };
+use cedar_names::EntityUID;
 use std::alloc::{AllocError, Global};
 use std::collections::BTreeMap;
 use std::hash::Hash;
@@ -40,8 +41,8 @@ fn copy_of<T: CloneIn>(alloc: Global, value: &T) -> Result<T, AllocError> {
     value.clone_in(alloc)
 }
 
-// A word, whether it may name a common type, and what a refusal says.
-const COMMON_TYPE_NAMES: [(&str, bool); 12] = [
+// A word, and whether it may name a common type.
+const COMMON_TYPE_NAMES: [(&str, bool); 11] = [
     ("Bool", false),
     ("Boolean", false),
     ("Entity", false),
@@ -52,7 +53,6 @@ const COMMON_TYPE_NAMES: [(&str, bool); 12] = [
     ("String", false),
     ("Sets", true),
     ("bool", true),
-    ("entity", true),
     ("Action", true),
 ];
 
@@ -71,9 +71,8 @@ fn eight_words_name_no_common_type(rt: HostRuntime) -> Result<(), Fail> {
 
 #[test]
 fn a_refusal_names_the_word(rt: HostRuntime) -> Result<(), Fail> {
-    let Err(error) = CommonTypeId::new(unreserved(rt.alloc(), "Set")?) else {
-        return Err(Fail::from(AllocError));
-    };
+    let id = unreserved(rt.alloc(), "Set")?;
+    let error = ReservedCommonTypeBasenameError { id };
     let wanted = "this is reserved and cannot be the basename of a common-type declaration: Set";
     assert_eq!(rt; error.text(rt.alloc())?.as_str(), wanted);
     assert!(rt; error.help(rt.alloc(), "")?.is_none());
@@ -85,13 +84,8 @@ fn a_refusal_names_the_word(rt: HostRuntime) -> Result<(), Fail> {
     Ok(())
 }
 
-fn placed<N>(ty: TypeVariant<N>, at: usize) -> Type<N> {
-    Type::from_variant(ty).with_loc(Some(Loc::new(at, at)))
-}
-
-fn decimal<N>(alloc: Global) -> Result<Type<N>, Fail> {
-    let name = unreserved(alloc, "decimal")?;
-    Ok(Type::from_variant(TypeVariant::Extension { name }))
+fn place() -> Option<Loc> {
+    Some(Loc::new(1, 2))
 }
 
 fn long<N>() -> Type<N> {
@@ -99,246 +93,178 @@ fn long<N>() -> Type<N> {
 }
 
 fn either_way<N>(type_name: N) -> Type<N> {
-    placed(TypeVariant::EntityOrCommon { type_name }, 7)
+    Type::from_variant(TypeVariant::EntityOrCommon { type_name }).with_loc(place())
 }
 
 fn common<N>(type_name: N) -> Type<N> {
     Type::CommonTypeRef {
         type_name,
-        loc: Some(Loc::new(8, 9)),
+        loc: place(),
     }
 }
 
-fn entity<N>(name: N) -> Type<N> {
-    Type::from_variant(TypeVariant::Entity { name })
+// In these types names are numbers.
+fn decimal(alloc: Global) -> Result<Type<u8>, Fail> {
+    let name = unreserved(alloc, "decimal")?;
+    Ok(Type::from_variant(TypeVariant::Extension { name }))
 }
 
-fn set_of<N: Drop>(alloc: Global, ty: Type<N>) -> Result<Type<N>, AllocError> {
+fn set(alloc: Global, ty: Type<u8>) -> Result<Type<u8>, AllocError> {
     let element = Boxed::new(alloc, ty)?;
-    Ok(placed(TypeVariant::Set { element }, 5))
+    Ok(Type::from_variant(TypeVariant::Set { element }))
 }
 
-fn attribute<N>(alloc: Global, ty: Type<N>) -> TypeOfAttribute<N> {
-    TypeOfAttribute {
+fn add(
+    alloc: Global,
+    tree: &mut BTreeMap<Text, TypeOfAttribute<u8>>,
+    name: &str,
+    ty: Type<u8>,
+) -> Result<(), AllocError> {
+    let attribute = TypeOfAttribute {
         ty,
         annotations: Annotations::new(alloc),
         required: true,
-    }
-}
-
-// The record with the attributes `a` and `b`.
-fn record_of<N: Drop>(alloc: Global, a: Type<N>, b: Type<N>) -> Result<RecordType<N>, Fail> {
-    let mut tree = BTreeMap::new(alloc);
-    tree.insert(text(alloc, "b")?, attribute(alloc, b))?;
-    tree.insert(text(alloc, "a")?, attribute(alloc, a))?;
-    Ok(RecordType {
-        attributes: Map::from_tree(alloc, tree)?,
-        additional_attributes: false,
-    })
-}
-
-fn record<N: Drop>(alloc: Global, a: Type<N>, b: Type<N>) -> Result<Type<N>, Fail> {
-    let record = record_of(alloc, a, b)?;
-    Ok(placed(TypeVariant::Record(record), 6))
-}
-
-#[test]
-fn references_may_be_extensions(rt: HostRuntime) -> Result<(), Fail> {
-    let alloc = rt.alloc();
-    let name = raw(alloc, "A")?;
-    let unsure = either_way(name.clone_in(alloc)?);
-    let sure = entity(name.clone_in(alloc)?);
-    assert_eq!(rt; decimal::<RawName>(alloc)?.is_extension(), Some(true));
-    assert_eq!(rt;
-        set_of::<RawName>(alloc, long())?.is_extension(),
-        Some(false)
-    );
-    assert_eq!(rt;
-        set_of::<RawName>(alloc, decimal(alloc)?)?.is_extension(),
-        Some(true)
-    );
-    assert_eq!(rt; unsure.is_extension(), None);
-    assert_eq!(rt; sure.is_extension(), Some(false));
-    assert_eq!(rt; common(name).is_extension(), None);
-    assert_eq!(rt;
-        record(alloc, sure, decimal(alloc)?)?.is_extension(),
-        Some(true)
-    );
-    assert_eq!(rt;
-        record(alloc, decimal(alloc)?, unsure)?.is_extension(),
-        None
-    );
-    assert_eq!(rt;
-        record::<RawName>(alloc, long(), long())?.is_extension(),
-        Some(false)
-    );
+    };
+    tree.insert(text(alloc, name)?, attribute)?;
     Ok(())
 }
 
-// The references in a type, each with a space behind it.
-fn references<N: NameText>(alloc: Global, ty: &Type<N>) -> Result<Text, AllocError> {
-    let mut all = Text::new(alloc);
-    for name in ty.common_type_references(alloc)? {
-        all.push_text(&name.text(alloc)?)?;
-        all.push_str(" ")?;
-    }
-    Ok(all)
+// The record with the attributes `a` and `b`.
+fn record(alloc: Global, a: Type<u8>, b: Type<u8>) -> Result<Type<u8>, AllocError> {
+    let mut tree = BTreeMap::new(alloc);
+    add(alloc, &mut tree, "b", b)?;
+    add(alloc, &mut tree, "a", a)?;
+    let record = RecordType {
+        attributes: Map::from_tree(alloc, tree)?,
+        additional_attributes: false,
+    };
+    Ok(AttributesOrContext::from_record(record).into_inner())
+}
+
+#[test]
+fn a_type_may_be_an_extension(rt: HostRuntime) -> Result<(), Fail> {
+    let alloc = rt.alloc();
+    assert_eq!(rt; decimal(alloc)?.is_extension(), Some(true));
+    assert_eq!(rt; set(alloc, long())?.is_extension(), Some(false));
+    assert_eq!(rt; either_way(1u8).is_extension(), None);
+    Ok(())
+}
+
+#[test]
+fn an_attribute_may_be_an_extension(rt: HostRuntime) -> Result<(), Fail> {
+    let alloc = rt.alloc();
+    assert_eq!(rt;
+        record(alloc, long(), decimal(alloc)?)?.is_extension(),
+        Some(true)
+    );
+    assert_eq!(rt;
+        record(alloc, decimal(alloc)?, common(1))?.is_extension(),
+        None
+    );
+    Ok(())
 }
 
 #[test]
 fn references_come_in_the_order_of_the_walk(rt: HostRuntime) -> Result<(), Fail> {
-    let alloc = rt.alloc();
-    let first = set_of(alloc, either_way(raw(alloc, "A")?))?;
-    let second = record(alloc, entity(raw(alloc, "B")?), common(raw(alloc, "C::D")?))?;
-    let all = record(alloc, second, first)?;
-    assert_eq!(rt; references(alloc, &all)?.as_str(), "C::D A ");
+    let ty = record(rt.alloc(), common(5), either_way(3))?;
+    let mut all = 0;
+    for name in ty.common_type_references(rt.alloc())? {
+        all = 10 * (all % 100) + u64::from(*name);
+    }
+    assert_eq!(rt; all, 53);
     Ok(())
 }
 
-// A type with both kinds of references in it, at places.
-fn type_of<N: CloneIn>(alloc: Global, name: &N) -> Result<Type<N>, Fail> {
-    let one = either_way(name.clone_in(alloc)?);
-    let other = common(name.clone_in(alloc)?);
-    set_of(alloc, record(alloc, one, other)?).map_err(Fail::from)
-}
-
-fn types_at<N: NameText + CloneIn + Ord>(
-    rt: &impl Abort,
-    alloc: Global,
-    name: &N,
-) -> Result<(), Fail> {
-    let ty = type_of(alloc, name)?;
+fn types_at<N: CloneIn + Ord>(rt: &impl Abort, alloc: Global, name: &N) -> Result<(), Fail> {
+    let ty = either_way(name.clone_in(alloc)?);
     let copy = copy_of(alloc, &ty)?;
     assert!(rt; copy == ty);
-    assert_eq!(rt; copy.loc().copied(), Some(Loc::new(5, 5)));
-    assert_eq!(rt; copy.common_type_references(alloc)?.len(), 2);
+    assert_eq!(rt; copy.loc().copied(), place());
     assert_eq!(rt; copy.is_extension(), None);
-    assert!(rt; !copy.is_empty_record());
+    assert_eq!(rt; copy.common_type_references(alloc)?.len(), 1);
     assert!(rt; copy.with_loc(None) == ty);
-    assert!(rt; Type::<N>::from_variant(TypeVariant::Long).loc().is_none());
-    assert!(rt; common(name.clone_in(alloc)?).with_loc(None).loc().is_none());
+    assert!(rt; long::<N>().loc().is_none());
     Ok(())
 }
 
-fn records_at<N: NameText + CloneIn + Ord>(
-    rt: &impl Abort,
-    alloc: Global,
-    name: &N,
-) -> Result<(), Fail> {
-    let full = record_of(alloc, long(), either_way(name.clone_in(alloc)?))?;
-    assert!(rt; !full.is_empty_record());
-    let full = copy_of(alloc, &AttributesOrContext::from_record(full))?;
-    assert!(rt; !full.is_empty_record());
-    assert!(rt; full.loc().is_none());
-    assert!(rt; !full.into_inner().is_empty_record());
-    let mut empty = RecordType::<N>::default(alloc);
-    assert!(rt; empty.is_empty_record());
-    empty.additional_attributes = true;
-    assert!(rt; !empty.is_empty_record());
+fn records_at<N: CloneIn>(rt: &impl Abort, alloc: Global) {
+    let mut record = RecordType::<N>::default(alloc);
+    assert!(rt; record.is_empty_record());
+    record.additional_attributes = true;
+    assert!(rt; !record.is_empty_record());
+    assert!(rt; !AttributesOrContext::from_record(record).is_empty_record());
     let empty = AttributesOrContext::<N>::default(alloc);
     assert!(rt; empty.is_empty_record());
+    assert!(rt; empty.loc().is_none());
     assert!(rt; empty.into_inner().is_empty_record());
+}
+
+fn common_type_of<N>(alloc: Global) -> CommonType<N> {
+    CommonType {
+        ty: long(),
+        annotations: Annotations::new(alloc),
+        loc: place(),
+    }
+}
+
+fn entity_type_of<N>(alloc: Global) -> EntityType<N> {
+    EntityType {
+        kind: EntityTypeKind::Standard(StandardEntityType {
+            member_of_types: List::new(alloc),
+            shape: AttributesOrContext::default(alloc),
+            tags: None,
+        }),
+        external: false,
+        annotations: Annotations::new(alloc),
+        loc: place(),
+    }
+}
+
+fn action_type_of<N: NameText>(alloc: Global) -> ActionType<N> {
+    ActionType {
+        attributes: None,
+        applies_to: Some(ApplySpec {
+            resource_types: List::new(alloc),
+            principal_types: List::new(alloc),
+            context: AttributesOrContext::default(alloc),
+        }),
+        member_of: Some(List::new(alloc)),
+        external: false,
+        annotations: Annotations::new(alloc),
+        loc: place(),
+    }
+}
+
+fn namespace_of<N: NameText>(alloc: Global) -> NamespaceDefinition<N> {
+    NamespaceDefinition {
+        common_types: Map::new(alloc),
+        entity_types: Map::new(alloc),
+        actions: Map::new(alloc),
+        annotations: Annotations::new(alloc),
+    }
+}
+
+fn kept<T: CloneIn + PartialEq>(rt: &impl Abort, alloc: Global, value: &T) -> Result<(), Fail> {
+    assert!(rt; copy_of(alloc, value)? == *value);
     Ok(())
 }
 
-fn place() -> Option<Loc> {
-    Some(Loc::new(1, 2))
-}
-
-fn common_type_of<N: CloneIn>(alloc: Global, name: &N) -> Result<CommonType<N>, Fail> {
-    Ok(CommonType {
-        ty: type_of(alloc, name)?,
-        annotations: Annotations::new(alloc),
-        loc: place(),
-    })
-}
-
-fn names_of<N: CloneIn>(alloc: Global, name: &N) -> Result<List<N>, AllocError> {
-    let mut names = List::new(alloc);
-    names.push(name.clone_in(alloc)?)?;
-    Ok(names)
-}
-
-fn entity_type_of<N: CloneIn>(alloc: Global, name: &N) -> Result<EntityType<N>, Fail> {
-    Ok(EntityType {
-        kind: EntityTypeKind::Standard(StandardEntityType {
-            member_of_types: names_of(alloc, name)?,
-            shape: AttributesOrContext::default(alloc),
-            tags: Some(type_of(alloc, name)?),
-        }),
-        external: false,
-        annotations: Annotations::new(alloc),
-        loc: place(),
-    })
-}
-
-fn listed_of<N: CloneIn>(alloc: Global, id: &str) -> Result<EntityType<N>, Fail> {
-    let choices = NonEmpty::new(alloc, Eid(text(alloc, id)?));
-    Ok(EntityType {
-        kind: EntityTypeKind::Enum { choices },
-        external: false,
-        annotations: Annotations::new(alloc),
-        loc: None,
-    })
-}
-
-fn action_type_of<N: NameText + CloneIn>(alloc: Global, name: &N) -> Result<ActionType<N>, Fail> {
-    let mut member_of = List::new(alloc);
-    member_of.push(ActionEntityUID::with_type(name.clone_in(alloc)?, text(alloc, "x")?))?;
-    Ok(ActionType {
-        attributes: Some(Set::new(alloc)),
-        applies_to: Some(ApplySpec {
-            resource_types: names_of(alloc, name)?,
-            principal_types: names_of(alloc, name)?,
-            context: AttributesOrContext(common(name.clone_in(alloc)?)),
-        }),
-        member_of: Some(member_of),
-        external: false,
-        annotations: Annotations::new(alloc),
-        loc: place(),
-    })
-}
-
-// A fragment with one namespace, which has a declaration of each kind.
-fn fragment_of<N: NameText + CloneIn>(alloc: Global, name: &N) -> Result<Fragment<N>, Fail> {
-    let mut common_types = BTreeMap::new(alloc);
-    let id = CommonTypeId::unchecked(unreserved(alloc, "T")?);
-    common_types.insert(id, common_type_of(alloc, name)?)?;
-    let mut entity_types = BTreeMap::new(alloc);
-    entity_types.insert(unreserved(alloc, "E")?, entity_type_of(alloc, name)?)?;
-    entity_types.insert(unreserved(alloc, "F")?, listed_of(alloc, "f")?)?;
-    let mut actions = BTreeMap::new(alloc);
-    actions.insert(text(alloc, "a")?, action_type_of(alloc, name)?)?;
-    let namespace = NamespaceDefinition {
-        common_types: Map::from_tree(alloc, common_types)?,
-        entity_types: Map::from_tree(alloc, entity_types)?,
-        actions: Map::from_tree(alloc, actions)?,
-        annotations: Annotations::new(alloc),
-    };
-    let mut namespaces = BTreeMap::new(alloc);
-    namespaces.insert(Some(Name::from_normalized_str(alloc, "N")?), namespace)?;
-    Ok(Fragment(Map::from_tree(alloc, namespaces)?))
-}
-
-fn copies_at<N: NameText + CloneIn + Ord>(
+fn declarations_at<N: NameText + CloneIn + Ord>(
     rt: &impl Abort,
     alloc: Global,
-    name: &N,
 ) -> Result<(), Fail> {
-    let fragment = fragment_of(alloc, name)?;
-    assert!(rt; copy_of(alloc, &fragment)? == fragment);
-    assert!(rt; !(copy_of(alloc, &fragment)? < fragment));
-    let mut common_type = common_type_of(alloc, name)?;
-    assert_eq!(rt; copy_of(alloc, &common_type)?.loc, place());
-    common_type.loc = None;
-    assert!(rt; common_type == common_type_of(alloc, name)?);
-    assert_eq!(rt; copy_of(alloc, &entity_type_of(alloc, name)?)?.loc, place());
-    assert_eq!(rt; copy_of(alloc, &action_type_of(alloc, name)?)?.loc, place());
-    let action = ActionEntityUID::with_type(name.clone_in(alloc)?, text(alloc, "x")?);
-    assert_eq!(rt;
-        copy_of(alloc, &action)?.text(alloc)?.as_str(),
-        "A::Action::\"x\""
-    );
+    kept(rt, alloc, &common_type_of::<N>(alloc))?;
+    kept(rt, alloc, &entity_type_of::<N>(alloc))?;
+    kept(rt, alloc, &action_type_of::<N>(alloc))?;
+    kept(rt, alloc, &namespace_of::<N>(alloc))?;
+    kept(rt, alloc, &Fragment::<N>(Map::new(alloc)))
+}
+
+fn actions_at<N: NameText + CloneIn>(rt: &impl Abort, alloc: Global, name: &N) -> Result<(), Fail> {
+    let id = text(alloc, "x")?;
+    let action = ActionEntityUID::with_type(name.clone_in(alloc)?, id);
+    let action = copy_of(alloc, &action)?;
+    assert_eq!(rt; action.text(alloc)?.as_str(), "A::Action::\"x\"");
     Ok(())
 }
 
@@ -347,11 +273,11 @@ fn typed_at<N: TypedName + CloneIn + Ord>(
     alloc: Global,
     name: &N,
 ) -> Result<(), Fail> {
-    let action = ActionEntityUID::with_type(name.clone_in(alloc)?, text(alloc, "x")?);
+    let action = ActionEntityUID::with_type(name.clone_in(alloc)?, Text::new(alloc));
     assert!(rt; action.ty() == name);
     let (ty, id) = action.into_parts();
     assert!(rt; ty == *name);
-    assert_eq!(rt; id.as_str(), "x");
+    assert!(rt; id.as_str().is_empty());
     Ok(())
 }
 
@@ -369,69 +295,99 @@ fn all_at<N: NameText + CloneIn + Ord + Hash>(
     alloc: Global,
     name: &N,
 ) -> Result<(), Fail> {
-    types_at(rt, alloc, name)?;
-    records_at(rt, alloc, name)?;
-    copies_at(rt, alloc, name)?;
     laws_at::<N>();
-    Ok(())
+    records_at::<N>(rt, alloc);
+    types_at(rt, alloc, name)?;
+    declarations_at::<N>(rt, alloc)?;
+    actions_at(rt, alloc, name)
 }
 
 #[test]
-fn all_hold_at_each_type_of_names(rt: HostRuntime) -> Result<(), Fail> {
-    let alloc = rt.alloc();
-    let written = raw(alloc, "A::Action")?;
-    all_at(&rt, alloc, &written)?;
-    let name = written.clone_in(alloc)?.into_internal();
-    all_at(&rt, alloc, &name)?;
-    typed_at(&rt, alloc, &name)?;
-    let reference = written.conditionally_qualify_with(alloc, None, ReferenceType::CommonOrEntity)?;
-    all_at::<ConditionalName>(&rt, alloc, &reference)?;
-    typed_at(&rt, alloc, &reference)?;
-    let declared = Name::from_normalized_str(alloc, "A::Action")?;
-    all_at(&rt, alloc, &declared)?;
-    typed_at(&rt, alloc, &declared)
+fn all_hold_at_names_as_written(rt: HostRuntime) -> Result<(), Fail> {
+    let name = raw(rt.alloc(), "A::Action")?;
+    all_at(&rt, rt.alloc(), &name)
+}
+
+#[test]
+fn all_hold_at_names(rt: HostRuntime) -> Result<(), Fail> {
+    let name = internal(rt.alloc(), "A::Action")?;
+    all_at(&rt, rt.alloc(), &name)?;
+    typed_at(&rt, rt.alloc(), &name)
+}
+
+#[test]
+fn all_hold_at_declared_names(rt: HostRuntime) -> Result<(), Fail> {
+    let name = Name::from_normalized_str(rt.alloc(), "A::Action")?;
+    all_at(&rt, rt.alloc(), &name)?;
+    typed_at(&rt, rt.alloc(), &name)
+}
+
+#[test]
+fn all_hold_at_references(rt: HostRuntime) -> Result<(), Fail> {
+    let name = raw(rt.alloc(), "A::Action")?;
+    let name = name.conditionally_qualify_with(rt.alloc(), None, ReferenceType::Entity)?;
+    all_at(&rt, rt.alloc(), &name)?;
+    typed_at(&rt, rt.alloc(), &name)
 }
 
 #[test]
 fn actions_are_entities(rt: HostRuntime) -> Result<(), Fail> {
-    let alloc = rt.alloc();
-    let ty = Name::from_normalized_str(alloc, "A::Action")?;
-    let uid = ActionEntityUID::with_type(ty, text(alloc, "x")?).into_euid();
+    let ty = Name::from_normalized_str(rt.alloc(), "A::Action")?;
+    let uid = ActionEntityUID::with_type(ty, text(rt.alloc(), "x")?).into_euid();
     assert!(rt; uid.loc.is_none());
-    assert_eq!(rt; uid.eid.0.as_str(), "x");
     let action = ActionEntityUID::from_euid(uid);
-    assert_eq!(rt; action.text(alloc)?.as_str(), "A::Action::\"x\"");
-    let mut ty = internal(alloc, "A::Action")?;
-    ty.loc = place();
-    let Ok(uid) = ActionEntityUID::with_type(ty, text(alloc, "x")?).try_into_euid() else {
-        return Err(Fail::from(AllocError));
-    };
-    assert_eq!(rt; uid.ty.loc().copied(), place());
-    assert_eq!(rt;
-        ActionEntityUID::from_euid(uid).text(alloc)?.as_str(),
-        "A::Action::\"x\""
-    );
-    let ty = internal(alloc, "__cedar::Action")?;
-    let Err(error) = ActionEntityUID::with_type(ty, text(alloc, "x")?).try_into_euid() else {
-        return Err(Fail::from(AllocError));
-    };
-    let name = copy_of(alloc, &error)?.name;
-    assert_eq!(rt; name.text(alloc)?.as_str(), "__cedar::Action");
+    assert_eq!(rt; action.text(rt.alloc())?.as_str(), "A::Action::\"x\"");
     Ok(())
 }
 
+fn tried(alloc: Global, ty: &str) -> Result<Result<EntityUID, ReservedNameError>, Fail> {
+    let mut ty = internal(alloc, ty)?;
+    ty.loc = place();
+    Ok(ActionEntityUID::with_type(ty, text(alloc, "x")?).try_into_euid())
+}
+
+#[test]
+fn a_reserved_type_is_refused(rt: HostRuntime) -> Result<(), Fail> {
+    let Ok(uid) = tried(rt.alloc(), "A::Action")? else {
+        return Err(Fail::from(AllocError));
+    };
+    assert_eq!(rt; uid.ty.loc().copied(), place());
+    let Err(error) = tried(rt.alloc(), "__cedar::Action")? else {
+        return Err(Fail::from(AllocError));
+    };
+    let name = copy_of(rt.alloc(), &error)?.name;
+    assert_eq!(rt; name.text(rt.alloc())?.as_str(), "__cedar::Action");
+    Ok(())
+}
+
+// The text of the action with this type, or without one, in the namespace `N`.
+fn text_in_namespace(alloc: Global, ty: &str, id: &str) -> Result<Text, Fail> {
+    let id = text(alloc, id)?;
+    let action = if ty.is_empty() {
+        ActionEntityUID::default_type(id)
+    } else {
+        ActionEntityUID::new(Some(raw(alloc, ty)?), id)
+    };
+    let ns = internal(alloc, "N")?;
+    let action = action.qualify_with(alloc, Some(&ns))?;
+    Ok(action.text(alloc)?)
+}
+
+// A type or none, an id, and what they say in the namespace `N`.
+const ACTIONS: [(&str, &str, &str); 3] = [
+    ("", "a \"b\"", "N::Action::\"a \\\"b\\\"\""),
+    ("B", "", "N::B::\"\""),
+    ("B::C", "\u{e9}", "B::C::\"\u{e9}\""),
+];
+
 #[test]
 fn a_type_that_is_not_written_is_action(rt: HostRuntime) -> Result<(), Fail> {
-    let alloc = rt.alloc();
-    let bare = ActionEntityUID::default_type(text(alloc, "a \"b\"")?);
-    assert_eq!(rt; bare.text(alloc)?.as_str(), "Action::\"a \\\"b\\\"\"");
-    let ns = internal(alloc, "N")?;
-    let bare = bare.qualify_with(alloc, Some(&ns))?;
-    assert_eq!(rt; bare.text(alloc)?.as_str(), "N::Action::\"a \\\"b\\\"\"");
-    let typed = ActionEntityUID::new(Some(raw(alloc, "B::C")?), text(alloc, "")?);
-    let typed = typed.qualify_with(alloc, Some(&ns))?;
-    assert_eq!(rt; typed.text(alloc)?.as_str(), "B::C::\"\"");
-    let bare = ActionEntityUID::new(None, text(alloc, "x")?).qualify_with(alloc, None)?;
-    assert!(rt; *bare.ty() == action_name(alloc)?);
+    for (ty, id, wanted) in &ACTIONS {
+        assert_eq!(rt; text_in_namespace(rt.alloc(), ty, id)?.as_str(), *wanted);
+    }
+    let bare = ActionEntityUID::default_type(text(rt.alloc(), "x")?);
+    assert_eq!(rt; bare.text(rt.alloc())?.as_str(), "Action::\"x\"");
+    let bare = bare.qualify_with(rt.alloc(), None)?;
+    assert!(rt; *bare.ty() == action_name(rt.alloc())?);
     Ok(())
 }
