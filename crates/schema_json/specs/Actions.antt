@@ -1,5 +1,5 @@
 -- What a reference to an action says: its type, where none is written, and its text.
-use Rattle.std.specs.Prelude.{◌≡◌, refl, ℕ, List, [], ◌++◌, Option, Some, None, codes}
+use Rattle.std.specs.Prelude.{refl, ℕ, List, [], ◌++◌, Option, Some, None, codes}
 use Rattle.std.specs.Str.{chars}
 use Rattle.cedar_identifiers.specs.Names.{name_text}
 use Rattle.cedar_identifiers.specs.declared.internal_name.InternalName.{InternalName}

@@ -1,5 +1,5 @@
 -- A fragment and each of its parts with every place erased. The names keep theirs.
-use Rattle.std.specs.Prelude.{ℕ, List, map, Option, None}
+use Rattle.std.specs.Prelude.{List, map, Option, None}
 use Rattle.std.specs.Option.{option_map}
 use Rattle.cedar_data.specs.declared.text.Text.{Text}
 use Rattle.cedar_identifiers.specs.declared.name.Name.{Name}

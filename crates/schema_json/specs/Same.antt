@@ -1,5 +1,5 @@
 -- References to actions with the same id and the same type are the same.
-use Rattle.std.specs.Prelude.{◌≡◌, Bool, true, Option}
+use Rattle.std.specs.Prelude.{◌≡◌, true, Option}
 use Rattle.std.proofs.Math.Bool.{Bool-set}
 use Rattle.std.proofs.Common.{subst}
 use Rattle.cedar_data.specs.declared.text.Text.{Text}

@@ -107,10 +107,7 @@ impl ActionEntityUID<RawName> {
     {
         let ActionEntityUID { id, ty } = self;
         let written = written_type(alloc, ty)?;
-        Ok(ActionEntityUID::with_type(
-            written.qualify_with(alloc, ns)?,
-            id,
-        ))
+        Ok(ActionEntityUID::with_type(written.qualify_with(alloc, ns)?, id))
     }
 }
 

@@ -1,13 +1,16 @@
 //! Laws of the comparisons of fragments. Each law is what its function ensures; the functions do nothing.
+ghost use Rattle.std.specs.Prelude.{◌≡◌, ◌↔◌, true};
 ghost use Rattle.schema_json.specs.Comparisons.{IsLawful};
 
 use crate::action_type::{ActionEntityUID, ActionType, ApplySpec};
 use crate::common_type::{CommonType, CommonTypeId};
 use crate::entity_type::{AttributesOrContext, EntityType, EntityTypeKind, StandardEntityType};
 use crate::fragment::{Fragment, NamespaceDefinition};
+use crate::reserved::ReservedCommonTypeBasenameError;
 use crate::types::{RecordType, Type, TypeOfAttribute, TypeVariant};
 use cedar_data::lawful;
 use cedar_identifiers::NameText;
+use cedar_identifiers::name_laws::unreserved_ids_go_by_text;
 use std::hash::Hash;
 
 /// Comparisons of types are lawful for every lawful type of names: equality is an equivalence, the order is total and
@@ -54,4 +57,14 @@ pub fn fragments_are_lawful<N: NameText + Ord + Hash>()
     lawful::<ActionEntityUID<N>>();
     lawful::<NamespaceDefinition<N>>();
     lawful::<Fragment<N>>();
+}
+
+/// Refusals of common types are equal exactly where they are the same.
+pub fn reserved_errors_by_value(
+    a: &ReservedCommonTypeBasenameError,
+    b: &ReservedCommonTypeBasenameError,
+)
+    ensures { ⟦<ReservedCommonTypeBasenameError as PartialEq>⟧.eq a.now b.now ≡ true ↔ a.now ≡ b.now }
+{
+    unreserved_ids_go_by_text(&a.id, &b.id);
 }

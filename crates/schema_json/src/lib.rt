@@ -17,9 +17,13 @@ pub mod types;
 pub mod walk;
 
 pub use action_type::{ActionEntityUID, ActionType, ApplySpec};
+pub use action_uid::action_name;
 pub use common_type::{CommonType, CommonTypeId};
 pub use entity_type::{AttributesOrContext, EntityType, EntityTypeKind, StandardEntityType};
 pub use fragment::{Fragment, NamespaceDefinition};
 pub use reserved::{ReservedCommonTypeBasenameError, ReservedNameError};
 pub use typed_name::TypedName;
 pub use types::{RecordType, Type, TypeOfAttribute, TypeVariant};
+
+#[cfg(test)]
+mod tests;

@@ -1,5 +1,4 @@
-use Rattle.std.proofs.Common.{◌≡◌, true, refl, ap, ◌∙◌, codes, [], None}
-use Rattle.std.specs.Str.{chars}
+use Rattle.std.proofs.Common.{refl, ap, ◌∙◌, codes, None}
 use Rattle.cedar_identifiers.specs.Words.{is_id}
 use Rattle.cedar_identifiers.specs.Same.{id_same}
 use Rattle.schema_json.specs.Actions.{action_name}

@@ -1,4 +1,4 @@
-use Rattle.std.proofs.Common.{◌≡◌, ◌++◌, ap, ◌∙◌, refl, codes}
+use Rattle.std.proofs.Common.{◌++◌, ap, ◌∙◌, refl, codes}
 use Rattle.schema_json.proofs.Ascii.{chars-from_test}
 use Rattle.schema_json.proofs.reserved.ReservedCommonTypeBasenameError.text.Goals as goal
 
