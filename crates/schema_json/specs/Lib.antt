@@ -1,1 +1,3 @@
 pub mod Presence
+pub mod Same
+pub mod Sizes

@@ -2,8 +2,9 @@ ghost use Rattle.std.specs.Prelude.{◌≡◌, true};
 ghost use Rattle.schema_json.specs.Presence.{is_where_due};
 
 use crate::entity_type::AttributesOrContext;
-use cedar_data::{List, Loc, Set, Text};
+use cedar_data::{CloneIn, List, Loc, Set, Text};
 use cedar_identifiers::{Annotations, NameText};
+use std::alloc::{AllocError, Global};
 
 /// A declared action, with a place that no comparison sees.
 #[derive(Drop)]
@@ -36,4 +37,36 @@ pub struct ActionEntityUID<N: NameText> {
     pub id: Text,
     pub ty: Option<N>,
     pub ghost typed: { is_where_due N.TYPED ty ≡ true },
+}
+
+impl<N: CloneIn + NameText> CloneIn for ActionType<N> {
+    fn clone_in(&self, alloc: Global) -> Result<Self, AllocError> {
+        Ok(ActionType {
+            attributes: self.attributes.clone_in(alloc)?,
+            applies_to: self.applies_to.clone_in(alloc)?,
+            member_of: self.member_of.clone_in(alloc)?,
+            external: self.external,
+            annotations: self.annotations.clone_in(alloc)?,
+            loc: self.loc,
+        })
+    }
+}
+
+impl<N: CloneIn> CloneIn for ApplySpec<N> {
+    fn clone_in(&self, alloc: Global) -> Result<Self, AllocError> {
+        Ok(ApplySpec {
+            resource_types: self.resource_types.clone_in(alloc)?,
+            principal_types: self.principal_types.clone_in(alloc)?,
+            context: self.context.clone_in(alloc)?,
+        })
+    }
+}
+
+impl<N: CloneIn + NameText> CloneIn for ActionEntityUID<N> {
+    fn clone_in(&self, alloc: Global) -> Result<Self, AllocError> {
+        Ok(ActionEntityUID {
+            id: self.id.clone_in(alloc)?,
+            ty: self.ty.clone_in(alloc)?,
+        })
+    }
 }

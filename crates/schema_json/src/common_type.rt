@@ -1,6 +1,7 @@
 use crate::types::Type;
-use cedar_data::Loc;
+use cedar_data::{CloneIn, Loc};
 use cedar_identifiers::{Annotations, UnreservedId};
+use std::alloc::{AllocError, Global};
 
 /// The name of a declared common type.
 #[derive(PartialEq, Eq, PartialOrd, Ord, Hash, Drop)]
@@ -16,4 +17,22 @@ pub struct CommonType<N> {
     pub annotations: Annotations,
     #[derive_where(skip(EqHashOrd))]
     pub loc: Option<Loc>,
+}
+
+impl CloneIn for CommonTypeId {
+    fn clone_in(&self, alloc: Global) -> Result<Self, AllocError> {
+        Ok(CommonTypeId {
+            id: self.id.clone_in(alloc)?,
+        })
+    }
+}
+
+impl<N: CloneIn> CloneIn for CommonType<N> {
+    fn clone_in(&self, alloc: Global) -> Result<Self, AllocError> {
+        Ok(CommonType {
+            ty: self.ty.clone_in(alloc)?,
+            annotations: self.annotations.clone_in(alloc)?,
+            loc: self.loc,
+        })
+    }
 }

@@ -1,6 +1,7 @@
 use crate::types::Type;
-use cedar_data::{List, Loc, NonEmpty};
+use cedar_data::{CloneIn, List, Loc, NonEmpty};
 use cedar_identifiers::{Annotations, Eid};
+use std::alloc::{AllocError, Global};
 
 /// A declared entity type, with a place that no comparison sees.
 #[derive(Drop)]
@@ -36,3 +37,43 @@ pub struct StandardEntityType<N> {
 #[derive(Drop)]
 #[derive_where(PartialEq, Eq, PartialOrd, Ord, Hash; N)]
 pub struct AttributesOrContext<N>(pub Type<N>);
+
+impl<N: CloneIn> CloneIn for EntityType<N> {
+    fn clone_in(&self, alloc: Global) -> Result<Self, AllocError> {
+        Ok(EntityType {
+            kind: self.kind.clone_in(alloc)?,
+            external: self.external,
+            annotations: self.annotations.clone_in(alloc)?,
+            loc: self.loc,
+        })
+    }
+}
+
+impl<N: CloneIn> CloneIn for EntityTypeKind<N> {
+    fn clone_in(&self, alloc: Global) -> Result<Self, AllocError> {
+        match self {
+            EntityTypeKind::Standard(standard) => {
+                Ok(EntityTypeKind::Standard(standard.clone_in(alloc)?))
+            }
+            EntityTypeKind::Enum { choices } => Ok(EntityTypeKind::Enum {
+                choices: choices.clone_in(alloc)?,
+            }),
+        }
+    }
+}
+
+impl<N: CloneIn> CloneIn for StandardEntityType<N> {
+    fn clone_in(&self, alloc: Global) -> Result<Self, AllocError> {
+        Ok(StandardEntityType {
+            member_of_types: self.member_of_types.clone_in(alloc)?,
+            shape: self.shape.clone_in(alloc)?,
+            tags: self.tags.clone_in(alloc)?,
+        })
+    }
+}
+
+impl<N: CloneIn> CloneIn for AttributesOrContext<N> {
+    fn clone_in(&self, alloc: Global) -> Result<Self, AllocError> {
+        Ok(AttributesOrContext(self.0.clone_in(alloc)?))
+    }
+}

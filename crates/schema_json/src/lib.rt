@@ -3,13 +3,16 @@
 #![tactic(auto)]
 
 pub mod action_type;
+pub mod action_uid;
 pub mod common_type;
 pub mod entity_type;
 pub mod fragment;
+pub mod typed_name;
 pub mod types;
 
 pub use action_type::{ActionEntityUID, ActionType, ApplySpec};
 pub use common_type::{CommonType, CommonTypeId};
 pub use entity_type::{AttributesOrContext, EntityType, EntityTypeKind, StandardEntityType};
 pub use fragment::{Fragment, NamespaceDefinition};
+pub use typed_name::TypedName;
 pub use types::{RecordType, Type, TypeOfAttribute, TypeVariant};

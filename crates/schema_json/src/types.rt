@@ -1,5 +1,8 @@
-use cedar_data::{Boxed, Loc, Map, Text};
+ghost use Rattle.std.specs.Prelude.{◌≡◌, IfOk};
+
+use cedar_data::{Boxed, CloneIn, Loc, Map, Text};
 use cedar_identifiers::{Annotations, UnreservedId};
+use std::alloc::{AllocError, Global};
 
 /// A type as it is written in a fragment, with a place that no comparison sees.
 #[cycle(types)]
@@ -56,4 +59,82 @@ pub struct TypeOfAttribute<N> {
     pub ty: Type<N>,
     pub annotations: Annotations,
     pub required: bool,
+}
+
+impl<N: CloneIn> CloneIn for Type<N> {
+    #[cycle(clone_in)]
+    fn clone_in(&self, alloc: Global) -> Result<Self, AllocError> {
+        match self {
+            Type::Variant { ty, loc } => Ok(Type::Variant {
+                ty: ty.clone_in(alloc)?,
+                loc: *loc,
+            }),
+            Type::CommonTypeRef { type_name, loc } => Ok(Type::CommonTypeRef {
+                type_name: type_name.clone_in(alloc)?,
+                loc: *loc,
+            }),
+        }
+    }
+}
+
+impl<N: CloneIn> CloneIn for TypeVariant<N> {
+    #[cycle(clone_in)]
+    fn clone_in(&self, alloc: Global) -> Result<Self, AllocError> {
+        match self {
+            TypeVariant::String => Ok(TypeVariant::String),
+            TypeVariant::Long => Ok(TypeVariant::Long),
+            TypeVariant::Boolean => Ok(TypeVariant::Boolean),
+            TypeVariant::Set { element } => Ok(TypeVariant::Set {
+                element: Boxed::new(alloc, element.get().clone_in(alloc)?)?,
+            }),
+            TypeVariant::Record(record) => Ok(TypeVariant::Record(record.clone_in(alloc)?)),
+            TypeVariant::Entity { name } => Ok(TypeVariant::Entity {
+                name: name.clone_in(alloc)?,
+            }),
+            TypeVariant::EntityOrCommon { type_name } => Ok(TypeVariant::EntityOrCommon {
+                type_name: type_name.clone_in(alloc)?,
+            }),
+            TypeVariant::Extension { name } => Ok(TypeVariant::Extension {
+                name: name.clone_in(alloc)?,
+            }),
+        }
+    }
+}
+
+impl<N: CloneIn> CloneIn for RecordType<N> {
+    #[cycle(clone_in)]
+    fn clone_in(&self, alloc: Global) -> Result<Self, AllocError> {
+        Ok(RecordType {
+            attributes: Map::from_sorted_vec(clone_attributes(alloc, self.attributes.as_slice())?),
+            additional_attributes: self.additional_attributes,
+        })
+    }
+}
+
+impl<N: CloneIn> CloneIn for TypeOfAttribute<N> {
+    #[cycle(clone_in)]
+    fn clone_in(&self, alloc: Global) -> Result<Self, AllocError> {
+        Ok(TypeOfAttribute {
+            ty: self.ty.clone_in(alloc)?,
+            annotations: self.annotations.clone_in(alloc)?,
+            required: self.required,
+        })
+    }
+}
+
+// Copies of the attributes, in order.
+#[cycle(clone_in)]
+fn clone_attributes<N: CloneIn>(
+    alloc: Global,
+    entries: &[(Text, TypeOfAttribute<N>)],
+) -> Result<Vec<(Text, TypeOfAttribute<N>)>, AllocError>
+    ensures { IfOk result (λ copy. copy.items ≡ entries.now) }
+{
+    let mut copy = Vec::new(alloc);
+    for (name, attribute) in entries {
+        let name = name.clone_in(alloc)?;
+        let attribute = attribute.clone_in(alloc)?;
+        copy.push((name, attribute))?;
+    }
+    Ok(copy)
 }
