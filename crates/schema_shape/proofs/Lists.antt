@@ -11,3 +11,8 @@ module _ {A B : Type 0} (f : A → B) where
   pub none_left : (done : List B) (left : List A) (all : List B) → done ++ map f left ≡ all → length left ≡ 0 → done ≡ all
   none_left done [] all h e = sym (append-nil done) ∙ h
   none_left done (x ∷ left) all h e = absurd (omega arith)
+
+-- nothing is gathered of no items
+pub none_gathered : {A B : Type 0} (f : List A → List B) (done : List B) (left : List A) (all : List B) → done ++ f left ≡ all → length left ≡ 0 → f [] ≡ [] → done ≡ all
+none_gathered f done [] all h e n = sym (append-nil done) ∙ (ap (λ l. done ++ l) (sym n) ∙ h)
+none_gathered f done (x ∷ left) all h e n = absurd (omega arith)

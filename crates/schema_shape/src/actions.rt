@@ -44,16 +44,15 @@ fn references(
     let Some(parents) = parents else {
         return Ok(None);
     };
-    let references: Vec<ActionEntityUID<RawName>> =
-        parents.into_iter().map(reference).collect(alloc)?;
+    let references: Vec<ActionEntityUID<RawName>> = parents
+        .into_iter()
+        .map(reference)
+        .collect(alloc)?;
     Ok(Some(List::from_vec(references)))
 }
 
 // The types of a member, and none for `[]`.
-fn member_types(
-    alloc: Global,
-    types: Option<NonEmpty<Path>>,
-) -> Result<List<RawName>, AllocError>
+fn member_types(alloc: Global, types: Option<NonEmpty<Path>>) -> Result<List<RawName>, AllocError>
     ensures { IfOk result (λ out. out ≡ member_types types) }
 {
     match types {

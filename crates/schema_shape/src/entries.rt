@@ -2,8 +2,7 @@ ghost use Rattle.std.specs.Prelude.{◌≡◌, ◌++◌, OnOk};
 ghost use Rattle.schema_shape.specs.Declarations.{each_with};
 
 use cedar_data::CloneIn;
-use std::alloc::AllocError;
-use std::alloc::Global;
+use std::alloc::{AllocError, Global};
 use std::mem;
 
 /// Adds each of the names with the same beside it: the item itself for the last name, and copies for the others.

@@ -10,6 +10,6 @@ pub mod namespaces;
 pub mod types;
 
 pub use into_variant::IntoVariant;
-pub use namespaces::fragment_of;
 pub use names::{path_to_internal_name, path_to_raw_name};
+pub use namespaces::fragment_of;
 pub use types::cedar_type_to_json_type;

@@ -13,9 +13,7 @@ use cedar_identifiers::{Annotations, Id, InternalName, Name, RawName, Unreserved
 use schema_json::{
     ActionType, CommonType, CommonTypeId, EntityType, Fragment, NamespaceDefinition,
 };
-use schema_tree::{
-    ActionDecl, Annotated, Declaration, EntityDecl, Namespace, Path, TypeDecl,
-};
+use schema_tree::{ActionDecl, Annotated, Declaration, EntityDecl, Namespace, Path, TypeDecl};
 use std::alloc::{AllocError, Global};
 
 // What declarations declare, by kind.
