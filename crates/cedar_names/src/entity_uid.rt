@@ -5,9 +5,10 @@ ghost use Rattle.std.specs.Ordering.{ordering_then};
 ghost use Rattle.cedar_data.specs.Text.{text_cmp};
 ghost use Rattle.cedar_identifiers.specs.Names.{components_of};
 
-use cedar_data::{CloneIn, Loc};
+use cedar_data::{CloneIn, Loc, Text};
 use cedar_identifiers::name_laws::declared_names_go_by_components;
-use cedar_identifiers::{Eid, Name};
+use cedar_identifiers::{Eid, Name, NameText};
+use schema_tokens::push_quoted;
 use std::alloc::{AllocError, Global};
 
 /// An entity: its type and its id, with a place that no comparison sees. It is ordered by type, then by the bytes of its id.
@@ -18,6 +19,21 @@ pub struct EntityUID {
     pub eid: Eid,
     #[derive_where(skip(EqHashOrd))]
     pub loc: Option<Loc>,
+}
+
+impl EntityUID {
+    ghost use Rattle.std.specs.Prelude.{IfOk};
+    ghost use Rattle.cedar_names.specs.EntityTexts.{entity_text};
+
+    /// The entity's text: its type, `::` and its id as a string.
+    pub fn text(&self, alloc: Global) -> Result<Text, AllocError>
+        ensures { IfOk result (λ text. text ≡ entity_text self.now) }
+    {
+        let mut text = self.ty.text(alloc)?;
+        text.push_str("::")?;
+        push_quoted(&mut text, self.eid.0.as_str())?;
+        Ok(text)
+    }
 }
 
 impl CloneIn for EntityUID {

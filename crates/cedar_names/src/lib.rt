@@ -2,8 +2,14 @@
 //! and the meaning of a schema with its canonical text.
 #![tactic(auto)]
 
+pub mod all_defs;
 pub mod entity_uid;
+pub mod extension_table;
+pub mod meaning_laws;
+pub mod table_error;
+mod table_words;
 
+pub use all_defs::AllDefs;
 pub use cedar_data::{
     Boxed, CloneIn, List, Loc, Map, Node, NonEmpty, NonEmptyIntoIter, NonEmptyIter, Set, Text,
     lawful,
@@ -14,6 +20,8 @@ pub use cedar_identifiers::{
 };
 pub use cedar_outside::{Failed, MemorySink, MemorySource, NullSink, Sink, Source, SteadySource};
 pub use entity_uid::EntityUID;
+pub use extension_table::{ExtensionTable, Extensions};
+pub use table_error::TableError;
 
 #[cfg(test)]
 mod tests;

@@ -1,0 +1,4 @@
+mod Defined
+mod Faults
+mod Found
+mod Members
