@@ -5,7 +5,6 @@ use Rattle.std.specs.List.{filter_map, flat_map}
 use Rattle.std.specs.declared.cmp.Ordering.{Ordering}
 use Rattle.cedar_data.specs.Text.{text_cmp}
 use Rattle.cedar_data.specs.declared.node.Node.{Node}
-use Rattle.cedar_identifiers.specs.Names.{texts_of}
 use Rattle.cedar_identifiers.specs.declared.id.Id.{Id}
 use Rattle.schema_tree.specs.DeclaredNames.{entity_names, action_names}
 use Rattle.schema_tree.specs.declared.annotated.Annotated.{Annotated}
@@ -51,5 +50,8 @@ id_cmp a b = text_cmp a.node.text b.node.text
 abbrev pub action_cmp : Node (List ℕ) → Node (List ℕ) → Ordering
 action_cmp a b = text_cmp a.node b.node
 
+abbrev pub word_cmp : Id → Id → Ordering
+word_cmp a b = text_cmp a.text b.text
+
 abbrev pub path_cmp : Path → Path → Ordering
-path_cmp a b = slice_cmp text_cmp (texts_of a.ids) (texts_of b.ids)
+path_cmp a b = slice_cmp word_cmp a.ids b.ids

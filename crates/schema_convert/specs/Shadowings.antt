@@ -5,9 +5,7 @@ use Rattle.std.specs.List.{flat_map, list_any}
 use Rattle.std.specs.Map.{lookup}
 use Rattle.std.specs.Option.{option_cmp}
 use Rattle.std.specs.Str.{bytes_eq}
-use Rattle.std.specs.declared.cmp.Ordering.{Ordering}
 use Rattle.cedar_data.specs.Maps.{map_of}
-use Rattle.cedar_data.specs.Text.{text_cmp}
 use Rattle.cedar_data.specs.declared.node.Node.{Node}
 use Rattle.cedar_identifiers.specs.declared.id.Id.{Id}
 use Rattle.cedar_names.specs.Tables.{table_has}
@@ -17,12 +15,9 @@ use Rattle.schema_tree.specs.declared.declaration.Declaration.{Declaration}
 use Rattle.schema_tree.specs.declared.namespace.Namespace.{Namespace}
 use Rattle.schema_tree.specs.declared.path.Path.{Path}
 use Rattle.schema_convert.specs.Joined.{joined}
-use Rattle.schema_convert.specs.NamesIn.{entities_in, commons_in, path_cmp}
+use Rattle.schema_convert.specs.NamesIn.{entities_in, commons_in, word_cmp, path_cmp}
 use Rattle.schema_convert.specs.declared.warnings.SchemaWarning.{SchemaWarning}
 use Rattle.schema_convert.specs.declared.warnings.SchemaWarning.TheVariants.{ShadowsBuiltin, ShadowsEntity}
-
-abbrev pub word_cmp : Id → Id → Ordering
-word_cmp a b = text_cmp a.text b.text
 
 -- declared names, sorted by their texts
 abbrev pub by_id : List (Node Id) → List (Id × Node Id)

@@ -24,7 +24,8 @@ fn by_id<'a>(
         let name = *name;
         entries.push((&name.node, name))?;
     }
-    Map::from_entries(alloc, entries)
+    let sorted = Map::from_entries(alloc, entries)?;
+    Ok(sorted)
 }
 
 // Whether the word is the name of a type that every schema has.
@@ -98,7 +99,8 @@ fn push_common(
     let key = &common.node;
     let entity = entities.get(&key).copied();
     push_entity(alloc, warnings, entity, common)?;
-    push_builtin(alloc, warnings, table, common)
+    push_builtin(alloc, warnings, table, common)?;
+    Ok(())
 }
 
 // Adds the warnings of the common types.
@@ -141,12 +143,13 @@ fn push_declared(
 ) -> Result<(), AllocError>
     ensures { OnOk result (warnings.new.items ≡ warnings.old.items ++ declared_warnings table.now decls.now) }
 {
-    let commons = commons_in(alloc, decls)?;
-    let commons = by_id(alloc, commons.as_slice())?;
-    let entities = entities_in(alloc, decls)?;
-    let entities = by_id(alloc, entities.as_slice())?;
+    let common_names = commons_in(alloc, decls)?;
+    let entity_names = entities_in(alloc, decls)?;
+    let commons = by_id(alloc, common_names.as_slice())?;
+    let entities = by_id(alloc, entity_names.as_slice())?;
     push_commons(alloc, warnings, table, &entities, commons.as_slice())?;
-    push_entities(alloc, warnings, table, entities.as_slice())
+    push_entities(alloc, warnings, table, entities.as_slice())?;
+    Ok(())
 }
 
 // The namespaces, sorted by their names.
@@ -160,7 +163,8 @@ fn by_name<'a>(
     for namespace in namespaces {
         entries.push((namespace.item.name.as_ref(), namespace))?;
     }
-    Map::from_entries(alloc, entries)
+    let sorted = Map::from_entries(alloc, entries)?;
+    Ok(sorted)
 }
 
 /// The warnings of these namespaces, in order.

@@ -14,7 +14,7 @@ loop-item-init g c =
 pub loop-item-preserved : goal.loop-item-preserved
 loop-item-preserved g c =
     let R = λ (a b : Bor g.row.T.Denot). g.T.Ord.cmp a.now b.now in
-    pushed R c.args.items.now (on_total (λ (p : Bor g.row.T.Denot). p.now) g.met.T.Ord.total) c.loop-item.item-index c.loop-item.seen.entries _ c.item-item.result c.loop-item.invariant c.loop-item-test.true c.item-item.is (sym c.in-None.ensures.value) c.in_ok-insert.ensures.updates.0
+    pushed R c.args.items.now (on_total (λ (p : Bor g.row.T.Denot). p.now) g.met.T.Ord.total) c.loop-item.item-index c.loop-item.seen.entries _ c.item-item.result c.loop-item.invariant c.loop-item-test.true c.item-item.is (sym c.in-None.ensures.value) c.in_ok-insert-in-None.ensures.updates.0
 
 pub returns-in-Some : goal.returns-in-Some
 returns-in-Some g c =

@@ -9,4 +9,6 @@ loop-name-preserved c =
     more_at id_entries (λ n. id_entry n ∷ []) refl (λ x xs. refl) _ _ c.args.names.now c.loop-name.name-index c.name-item.result _ c.loop-name.invariant c.loop-name-test.true c.name-item.is (pushed_now entry_now _ _ _ _ c.in_ok-push.ensures.items refl)
 
 pub returns : goal.returns
-returns c = ?
+returns c =
+    ids_sorted c.args.names.now c.loop-name.entries.items c.in_ok-sorted.sorted c.in_ok-sorted.ensures.entries
+    (over_at id_entries (λ n. id_entry n ∷ []) refl (λ x xs. refl) _ c.args.names.now c.loop-name.name-index _ c.loop-name.invariant c.loop-name-test.false)
