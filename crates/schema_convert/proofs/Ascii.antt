@@ -17,4 +17,3 @@ IsAscii-from_test (b ∷ bs) h =
 
 pub chars-from_test : (bs : List ℕ) → list_all is_ascii bs ≡ true → chars bs ≡ bs
 chars-from_test bs h = chars-IsAscii bs (IsAscii-from_test bs h)
-

@@ -61,11 +61,11 @@ module _ {K : Type 0} (R : K → K → Ordering) (items : List K) where
         → ((q : K) → lookup (is_at (R q)) entries' ≡ cond (is_at (R x) q) (Some x) (lookup (is_at (R q)) entries)) → Seen R items (i + 1) entries'
     pushed i entries entries' x h lt e at into = record {
       seen = λ q.
-        let same : is_eq (R x q) ≡ true → lookup (is_at (R q)) entries ≡ None = λ t. (λ j. lookup (λ k. is_eq (sym (o.congr x q k (equal_from (R x q) t)) j)) entries) ∙ at in
-        into q ∙ (by_test x q (lookup (is_at (R q)) entries) (is_eq (R x q)) refl same ∙ (ap (λ l. option_or l (find (is_at (R q)) (x ∷ []))) (h.seen q) ∙ (sym (find-append (is_at (R q)) (take i items) (x ∷ [])) ∙ ap (find (is_at (R q))) (sym (take_one items i x lt e)))));
+          let same : is_eq (R x q) ≡ true → lookup (is_at (R q)) entries ≡ None = λ t. (λ j. lookup (λ k. is_eq (sym (o.congr x q k (equal_from (R x q) t)) j)) entries) ∙ at in
+          into q ∙ (by_test x q (lookup (is_at (R q)) entries) (is_eq (R x q)) refl same ∙ (ap (λ l. option_or l (find (is_at (R q)) (x ∷ []))) (h.seen q) ∙ (sym (find-append (is_at (R q)) (take i items) (x ∷ [])) ∙ ap (find (is_at (R q))) (sym (take_one items i x lt e)))));
       rest =
-        ap (λ l. repeat_behind R l (drop (i + 1) items)) (take_one items i x lt e)
-        ∙ (sym (ap (repeat_behind R (take i items)) (drop_one items i x lt e) ∙ ap (λ l. or_later l x (repeat_behind R (take i items ++ x ∷ []) (drop (i + 1) items))) (sym (h.seen x) ∙ at)) ∙ h.rest);
+          ap (λ l. repeat_behind R l (drop (i + 1) items)) (take_one items i x lt e)
+          ∙ (sym (ap (repeat_behind R (take i items)) (drop_one items i x lt e) ∙ ap (λ l. or_later l x (repeat_behind R (take i items ++ x ∷ []) (drop (i + 1) items))) (sym (h.seen x) ∙ at)) ∙ h.rest);
     }
 
 -- what references point to, in place of them

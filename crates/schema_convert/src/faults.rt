@@ -248,10 +248,7 @@ fn applies_fault(
 }
 
 // The fault of a declaration of actions.
-fn action_fault(
-    alloc: Global,
-    decl: &Declaration,
-) -> Result<Option<ToJsonSchemaError>, AllocError>
+fn action_fault(alloc: Global, decl: &Declaration) -> Result<Option<ToJsonSchemaError>, AllocError>
     ensures { IfOk result (λ fault. fault ≡ action_fault decl.now) }
 {
     match decl {
@@ -263,10 +260,7 @@ fn action_fault(
 }
 
 // All reserved names of entity types.
-fn entity_faults(
-    alloc: Global,
-    ids: &[&Node<Id>],
-) -> Result<Vec<ToJsonSchemaError>, AllocError>
+fn entity_faults(alloc: Global, ids: &[&Node<Id>]) -> Result<Vec<ToJsonSchemaError>, AllocError>
     ensures { IfOk result (λ faults. faults.items ≡ filter_map reserved_id (map (λ x. x.now) ids.now)) }
 {
     let mut faults = Vec::new(alloc);
@@ -293,10 +287,7 @@ fn action_faults(
 }
 
 // The first fault of a common type's name.
-fn first_common(
-    alloc: Global,
-    ids: &[&Node<Id>],
-) -> Result<Option<ToJsonSchemaError>, AllocError>
+fn first_common(alloc: Global, ids: &[&Node<Id>]) -> Result<Option<ToJsonSchemaError>, AllocError>
     ensures { IfOk result (λ fault. fault ≡ first_some common_fault (map (λ x. x.now) ids.now)) }
 {
     for id in ids {
@@ -308,10 +299,7 @@ fn first_common(
 }
 
 // The same, as a list.
-fn common_faults(
-    alloc: Global,
-    ids: &[&Node<Id>],
-) -> Result<Vec<ToJsonSchemaError>, AllocError>
+fn common_faults(alloc: Global, ids: &[&Node<Id>]) -> Result<Vec<ToJsonSchemaError>, AllocError>
     ensures { IfOk result (λ faults. faults.items ≡ option_to_list (first_some common_fault (map (λ x. x.now) ids.now))) }
 {
     let fault = first_common(alloc, ids)?;

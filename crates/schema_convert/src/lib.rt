@@ -20,10 +20,14 @@ pub use errors::{
     MissingOrEmpty, NoPrincipalOrResource, ReservedName, ReservedSchemaKeyword, ToJsonSchemaError,
     UnknownTypeName,
 };
-pub use warnings::{SchemaWarning, ShadowsBuiltinWarning, ShadowsEntityWarning};
 pub use schema_shape::{
     IntoVariant, cedar_type_to_json_type, path_to_internal_name, path_to_raw_name,
 };
+pub use warnings::{SchemaWarning, ShadowsBuiltinWarning, ShadowsEntityWarning};
 
 /// What an action without principals or resources is told.
-pub const NO_PR_HELP_MSG: &str = "Every action must define both `principal` and `resource` targets, and the `principal` and `resource` lists must not be `[]`.";
+pub const NO_PR_HELP_MSG: &str =
+    "Every action must define both `principal` and `resource` targets, and the `principal` and `resource` lists must not be `[]`.";
+
+#[cfg(test)]
+mod tests;

@@ -96,11 +96,7 @@ fn empty_role(
     Ok(ToJsonSchemaError::NoPrincipalOrResource(fault))
 }
 
-fn missing_role(
-    alloc: Global,
-    name: &Node<Text>,
-    kind: PR,
-) -> Result<ToJsonSchemaError, AllocError>
+fn missing_role(alloc: Global, name: &Node<Text>, kind: PR) -> Result<ToJsonSchemaError, AllocError>
     ensures { IfOk result (λ fault. fault ≡ missing_role name.now kind) }
 {
     let fault = NoPrincipalOrResource {

@@ -9,10 +9,7 @@ use schema_tree::{ActionDecl, Annotated, Declaration, Namespace, Path};
 use std::alloc::{AllocError, Global};
 
 // Adds the items, in order.
-fn push_all<'a, T>(
-    items: &mut Vec<&'a T>,
-    more: NonEmptyIter<'a, T>,
-) -> Result<(), AllocError>
+fn push_all<'a, T>(items: &mut Vec<&'a T>, more: NonEmptyIter<'a, T>) -> Result<(), AllocError>
     ensures { OnOk result (map (λ x. x.now) items.new.items ≡ map (λ x. x.now) items.old.items ++ items_left more.entry) }
 {
     for item in more {
@@ -22,10 +19,7 @@ fn push_all<'a, T>(
 }
 
 // Adds the names of the entity types that the declaration declares.
-fn push_entities<'a>(
-    names: &mut Vec<&'a Node<Id>>,
-    decl: &'a Declaration,
-) -> Result<(), AllocError>
+fn push_entities<'a>(names: &mut Vec<&'a Node<Id>>, decl: &'a Declaration) -> Result<(), AllocError>
     ensures { OnOk result (map (λ x. x.now) names.new.items ≡ map (λ x. x.now) names.old.items ++ entities_of decl.now) }
 {
     match decl {
@@ -49,10 +43,7 @@ fn push_actions<'a>(
 }
 
 // Adds the name of the common type.
-fn push_common<'a>(
-    names: &mut Vec<&'a Node<Id>>,
-    decl: &'a Declaration,
-) -> Result<(), AllocError>
+fn push_common<'a>(names: &mut Vec<&'a Node<Id>>, decl: &'a Declaration) -> Result<(), AllocError>
     ensures { OnOk result (map (λ x. x.now) names.new.items ≡ map (λ x. x.now) names.old.items ++ commons_of decl.now) }
 {
     if let Declaration::Common(decl) = decl {

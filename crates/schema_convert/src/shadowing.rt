@@ -13,10 +13,7 @@ use schema_tree::{Annotated, Declaration, Namespace, Path};
 use std::alloc::{AllocError, Global};
 
 // The names, sorted.
-fn by_id<'a>(
-    alloc: Global,
-    names: &[&'a Node<Id>],
-) -> Result<Map<&'a Id, &'a Node<Id>>, AllocError>
+fn by_id<'a>(alloc: Global, names: &[&'a Node<Id>]) -> Result<Map<&'a Id, &'a Node<Id>>, AllocError>
     ensures { IfOk result (λ sorted. map entry_now sorted ≡ by_id (map (λ x. x.now) names.now)) }
 {
     let mut entries = Vec::new(alloc);

@@ -44,7 +44,8 @@ impl ShadowsBuiltinWarning {
         ensures { IfOk result (λ text. text ≡ builtin_text self.now) }
     {
         let mut text = message(alloc, "The name `")?;
-        let middle = "` shadows a builtin Cedar name. You'll have to refer to the builtin as `__cedar::";
+        let middle =
+            "` shadows a builtin Cedar name. You'll have to refer to the builtin as `__cedar::";
         push_both(&mut text, &self.name, middle)?;
         push_both(&mut text, &self.name, "`.")?;
         Ok(text)
