@@ -1,8 +1,8 @@
 //! What the parts of a schema's tree become in a fragment: names, types, declarations and namespaces.
 #![tactic(auto)]
 
-pub mod actions;
-pub mod entities;
+mod actions;
+mod entities;
 mod entries;
 pub mod into_variant;
 pub mod names;
