@@ -1,0 +1,5 @@
+mod Ascii
+mod Borrowed
+mod Gathered
+mod Seen
+mod Sorted

@@ -1,0 +1,10 @@
+use Rattle.std.proofs.Common.{◌≡◌, ◌++◌}
+use Rattle.std.specs.Vec.Iter.{into_iter_items}
+use Rattle.schema_convert.specs.Joined.{named, outside}
+use Rattle.schema_convert.proofs.joined.joined.Given as goal
+
+abbrev pub invariant-loop-namespace : goal.invariant-loop-namespace
+invariant-loop-namespace l = record {
+  named : l.namespaces.items ++ named (into_iter_items l.namespace-iterator) ≡ named l.fn.schema;
+  outside : l.outside.items ++ outside (into_iter_items l.namespace-iterator) ≡ outside l.fn.schema;
+}

@@ -1,0 +1,57 @@
+-- The names that declarations give, by kind.
+use Rattle.std.specs.Prelude.{ℕ, List, [], ◌∷◌, Option, Some, None}
+use Rattle.std.specs.Cmp.Lexicographic.{slice_cmp}
+use Rattle.std.specs.List.{filter_map, flat_map}
+use Rattle.std.specs.declared.cmp.Ordering.{Ordering}
+use Rattle.cedar_data.specs.Text.{text_cmp}
+use Rattle.cedar_data.specs.declared.node.Node.{Node}
+use Rattle.cedar_identifiers.specs.declared.id.Id.{Id}
+use Rattle.schema_tree.specs.DeclaredNames.{entity_names, action_names}
+use Rattle.schema_tree.specs.declared.annotated.Annotated.{Annotated}
+use Rattle.schema_tree.specs.declared.declaration.Declaration.{Declaration}
+use Rattle.schema_tree.specs.declared.declaration.Declaration.TheVariants.{Entity, Action, Common}
+use Rattle.schema_tree.specs.declared.namespace.Namespace.{Namespace}
+use Rattle.schema_tree.specs.declared.path.Path.{Path}
+
+-- the names of entity types, of actions and of a common type that a declaration gives
+abbrev pub entities_of : Declaration → List (Node Id)
+entities_of (Entity d) = entity_names d
+entities_of (Action d) = []
+entities_of (Common d) = []
+
+abbrev pub actions_of : Declaration → List (Node (List ℕ))
+actions_of (Entity d) = []
+actions_of (Action d) = action_names d
+actions_of (Common d) = []
+
+abbrev pub commons_of : Declaration → List (Node Id)
+commons_of (Entity d) = []
+commons_of (Action d) = []
+commons_of (Common d) = d.name ∷ []
+
+-- the same of declarations, in the order of the text
+abbrev pub entities_in : List (Annotated (Node Declaration)) → List (Node Id)
+entities_in decls = flat_map (λ d. entities_of d.item.node) decls
+
+abbrev pub actions_in : List (Annotated (Node Declaration)) → List (Node (List ℕ))
+actions_in decls = flat_map (λ d. actions_of d.item.node) decls
+
+abbrev pub commons_in : List (Annotated (Node Declaration)) → List (Node Id)
+commons_in decls = flat_map (λ d. commons_of d.item.node) decls
+
+-- the names of namespaces that have one
+abbrev pub paths_in : List (Annotated Namespace) → List Path
+paths_in namespaces = filter_map (λ n. n.item.name) namespaces
+
+-- names go by their texts, and paths by the texts of their ids; no place is seen
+abbrev pub id_cmp : Node Id → Node Id → Ordering
+id_cmp a b = text_cmp a.node.text b.node.text
+
+abbrev pub action_cmp : Node (List ℕ) → Node (List ℕ) → Ordering
+action_cmp a b = text_cmp a.node b.node
+
+abbrev pub word_cmp : Id → Id → Ordering
+word_cmp a b = text_cmp a.text b.text
+
+abbrev pub path_cmp : Path → Path → Ordering
+path_cmp a b = slice_cmp word_cmp a.ids b.ids

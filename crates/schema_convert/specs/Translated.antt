@@ -1,0 +1,49 @@
+-- What a tree, and a text, is translated to, or why it is not.
+use Rattle.std.specs.Prelude.{◌≡◌, ◌≢◌, ℕ, List, []}
+use Rattle.cedar_identifiers.specs.declared.raw_name.RawName.{RawName}
+use Rattle.cedar_names.specs.declared.extension_table.ExtensionTable.{ExtensionTable}
+use Rattle.parse_errors.specs.declared.parse_schema_error.ParseSchemaError.TheVariants as parse
+use Rattle.schema_tree.specs.declared.annotated.Annotated.{Annotated}
+use Rattle.schema_tree.specs.declared.namespace.Namespace.{Namespace}
+use Rattle.schema_syntax.specs.ParseAnswers.{IsTreeOfText, IsRefusalOf}
+use Rattle.schema_json.specs.declared.fragment.Fragment.{Fragment}
+use Rattle.schema_shape.specs.Declarations.{as_written}
+use Rattle.schema_shape.specs.Fragments.{fragment_of}
+use Rattle.schema_convert.specs.Faults.{translation_faults}
+use Rattle.schema_convert.specs.Joined.{joined}
+use Rattle.schema_convert.specs.Shadowings.{shadowings}
+use Rattle.schema_convert.specs.declared.error_list.CedarSchemaParseErrors.{CedarSchemaParseErrors}
+use Rattle.schema_convert.specs.declared.error_list.CedarSchemaParseErrors.TheVariants.{SyntaxError, JsonError, Memory}
+use Rattle.schema_convert.specs.declared.error_list.ToJsonSchemaErrors.{ToJsonSchemaErrors}
+use Rattle.schema_convert.specs.declared.error_list.ToJsonSchemaFailure.{ToJsonSchemaFailure}
+use Rattle.schema_convert.specs.declared.error_list.ToJsonSchemaFailure.TheVariants as failure
+use Rattle.schema_convert.specs.declared.warnings.SchemaWarning.{SchemaWarning}
+
+-- the fragment of a tree without faults: that of its joined namespaces
+abbrev pub translated : List (Annotated Namespace) → Fragment RawName as_written
+translated tree = fragment_of (joined tree)
+
+-- the tree has no fault, and this is its fragment, with these warnings
+pub record IsTranslation (tree : List (Annotated Namespace)) (table : ExtensionTable) (fragment : Fragment RawName as_written) (warnings : List SchemaWarning) : Type 0 where
+  pub lawful : translation_faults tree ≡ []
+  pub is : fragment ≡ translated tree
+  pub warned : warnings ≡ shadowings tree table
+
+-- the tree has faults, and these are all of them
+pub record AreItsFaults (tree : List (Annotated Namespace)) (errors : ToJsonSchemaErrors) : Type 0 where
+  pub all : errors.errors ≡ translation_faults tree
+  pub some : translation_faults tree ≢ []
+
+abbrev pub IsFailureOf : List (Annotated Namespace) → ToJsonSchemaFailure → Type 0
+IsFailureOf tree (failure.Errors errors) = AreItsFaults tree errors
+IsFailureOf tree failure.Memory = Unit {0}
+
+-- the text has a tree, and this is its translation
+abbrev pub IsTranslationOfText : List ℕ → ExtensionTable → Fragment RawName as_written → List SchemaWarning → Type 0
+IsTranslationOfText text table fragment warnings = (tree : List (Annotated Namespace)) × IsTreeOfText text tree × IsTranslation tree table fragment warnings
+
+-- the text has no tree, and this is its fault, or its tree has these faults
+abbrev pub IsParseFailureOf : List ℕ → CedarSchemaParseErrors → Type 0
+IsParseFailureOf text (SyntaxError errors) = IsRefusalOf text (parse.Errors errors)
+IsParseFailureOf text (JsonError errors) = (tree : List (Annotated Namespace)) × IsTreeOfText text tree × AreItsFaults tree errors
+IsParseFailureOf text Memory = Unit {0}

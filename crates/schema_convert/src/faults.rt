@@ -1,0 +1,375 @@
+ghost use Rattle.std.specs.Prelude.{◌≡◌, [], ◌∷◌, ◌++◌, map, IfOk, OnOk};
+ghost use Rattle.std.specs.List.{filter_map};
+ghost use Rattle.std.specs.Option.{option_to_list};
+ghost use Rattle.schema_convert.specs.Faults.{is_reserved_path, reserved_namespace, id_twice, action_twice, declared_twice, name_fault, namespace_twice, namespace_repeated, reserved_id, is_keyword, keyword, common_fault, first_some, first_name, applies_fault, action_fault, action_faults, declaration_faults, all_declaration_faults, faults_in};
+
+use crate::errors::{
+    DuplicateDeclarations, DuplicateNamespace, ReservedName, ReservedSchemaKeyword,
+    ToJsonSchemaError,
+};
+use crate::members::block_fault;
+use crate::names_in::{actions_in, commons_in, entities_in, paths_in};
+use crate::repeats::first_repeat;
+use cedar_data::{CloneIn, Node, NonEmpty, Text};
+use cedar_identifiers::Id;
+use schema_tree::{ActionDecl, Annotated, AppDecl, Declaration, Namespace, Path};
+use std::alloc::{AllocError, Global};
+
+// Whether an id of the path is `__cedar`.
+fn is_reserved_path(path: &Path) -> bool
+    ensures { result ≡ is_reserved_path path.now }
+{
+    for id in path.iter() {
+        if id.as_str() == "__cedar" {
+            return true;
+        }
+    }
+    false
+}
+
+// The fault of a namespace whose name is reserved.
+fn reserved_namespace(
+    alloc: Global,
+    name: &Option<Path>,
+) -> Result<Option<ToJsonSchemaError>, AllocError>
+    ensures { IfOk result (λ fault. fault ≡ reserved_namespace name.now) }
+{
+    let Some(path) = name else {
+        return Ok(None);
+    };
+    if !is_reserved_path(path) {
+        return Ok(None);
+    }
+    let fault = ReservedName {
+        name: path.text(alloc)?,
+        loc: path.loc().copied(),
+    };
+    Ok(Some(ToJsonSchemaError::ReservedName(fault)))
+}
+
+// The fault of a name that stands twice.
+fn twice<T>(
+    alloc: Global,
+    text: &Text,
+    first: &Node<T>,
+    second: &Node<T>,
+) -> Result<ToJsonSchemaError, AllocError>
+    ensures { IfOk result (λ fault. fault ≡ ToJsonSchemaError.DuplicateDeclarations (record { decl = text.now; loc1 = first.now.loc; loc2 = second.now.loc })) }
+{
+    let fault = DuplicateDeclarations {
+        decl: text.clone_in(alloc)?,
+        loc1: first.loc,
+        loc2: second.loc,
+    };
+    Ok(ToJsonSchemaError::DuplicateDeclarations(fault))
+}
+
+// The first of the ids that stands twice.
+fn id_twice(alloc: Global, names: &[&Node<Id>]) -> Result<Option<ToJsonSchemaError>, AllocError>
+    ensures { IfOk result (λ fault. fault ≡ id_twice (map (λ x. x.now) names.now)) }
+{
+    match first_repeat(alloc, names)? {
+        None => Ok(None),
+        Some((first, second)) => Ok(Some(twice(alloc, &second.node.text, first, second)?)),
+    }
+}
+
+// The first of the actions that stands twice.
+fn action_twice(
+    alloc: Global,
+    names: &[&Node<Text>],
+) -> Result<Option<ToJsonSchemaError>, AllocError>
+    ensures { IfOk result (λ fault. fault ≡ action_twice (map (λ x. x.now) names.now)) }
+{
+    match first_repeat(alloc, names)? {
+        None => Ok(None),
+        Some((first, second)) => Ok(Some(twice(alloc, &second.node, first, second)?)),
+    }
+}
+
+// The first repeat of the entity types, or else of the actions, or else of the common types.
+fn declared_twice(
+    alloc: Global,
+    decls: &[Annotated<Node<Declaration>>],
+) -> Result<Option<ToJsonSchemaError>, AllocError>
+    ensures { IfOk result (λ fault. fault ≡ declared_twice decls.now) }
+{
+    let entities = entities_in(alloc, decls)?;
+    if let Some(fault) = id_twice(alloc, entities.as_slice())? {
+        return Ok(Some(fault));
+    }
+    let actions = actions_in(alloc, decls)?;
+    if let Some(fault) = action_twice(alloc, actions.as_slice())? {
+        return Ok(Some(fault));
+    }
+    let commons = commons_in(alloc, decls)?;
+    id_twice(alloc, commons.as_slice())
+}
+
+// The fault of the namespace's name, or else a repeat in it.
+fn name_fault(
+    alloc: Global,
+    namespace: &Annotated<Namespace>,
+) -> Result<Option<ToJsonSchemaError>, AllocError>
+    ensures { IfOk result (λ fault. fault ≡ name_fault namespace.now) }
+{
+    match reserved_namespace(alloc, &namespace.item.name)? {
+        Some(fault) => Ok(Some(fault)),
+        None => declared_twice(alloc, namespace.item.decls.as_slice()),
+    }
+}
+
+// Adds the fault, where there is one.
+fn push_fault(
+    faults: &mut Vec<ToJsonSchemaError>,
+    fault: Option<ToJsonSchemaError>,
+) -> Result<(), AllocError>
+    ensures { OnOk result (faults.new.items ≡ faults.old.items ++ option_to_list fault) }
+{
+    if let Some(fault) = fault {
+        faults.push(fault)?;
+    }
+    Ok(())
+}
+
+// The faults of the first step.
+fn name_faults(
+    alloc: Global,
+    namespaces: &[Annotated<Namespace>],
+) -> Result<Vec<ToJsonSchemaError>, AllocError>
+    ensures { IfOk result (λ faults. faults.items ≡ filter_map name_fault namespaces.now) }
+{
+    let mut faults = Vec::new(alloc);
+    for namespace in namespaces {
+        let fault = name_fault(alloc, namespace)?;
+        push_fault(&mut faults, fault)?;
+    }
+    Ok(faults)
+}
+
+// The fault of the second step: the first namespace whose name stood before.
+fn namespace_repeated(
+    alloc: Global,
+    paths: &[&Path],
+) -> Result<Option<ToJsonSchemaError>, AllocError>
+    ensures { IfOk result (λ fault. fault ≡ namespace_repeated (map (λ x. x.now) paths.now)) }
+{
+    match first_repeat(alloc, paths)? {
+        None => Ok(None),
+        Some((first, second)) => Ok(Some(namespace_twice(alloc, first, second)?)),
+    }
+}
+
+// The fault of a namespace whose name stood before.
+fn namespace_twice(
+    alloc: Global,
+    first: &Path,
+    second: &Path,
+) -> Result<ToJsonSchemaError, AllocError>
+    ensures { IfOk result (λ fault. fault ≡ namespace_twice first.now second.now) }
+{
+    let fault = DuplicateNamespace {
+        namespace_id: second.text(alloc)?,
+        loc1: second.loc().copied(),
+        loc2: first.loc().copied(),
+    };
+    Ok(ToJsonSchemaError::DuplicateNamespaces(fault))
+}
+
+// The list of the one fault.
+fn only(alloc: Global, fault: ToJsonSchemaError) -> Result<Vec<ToJsonSchemaError>, AllocError>
+    ensures { IfOk result (λ faults. faults.items ≡ fault ∷ []) }
+{
+    let mut faults = Vec::new(alloc);
+    faults.push(fault)?;
+    Ok(faults)
+}
+
+// The fault of a name that is reserved.
+fn reserved_id(alloc: Global, id: &Node<Id>) -> Result<Option<ToJsonSchemaError>, AllocError>
+    ensures { IfOk result (λ fault. fault ≡ reserved_id id.now) }
+{
+    if id.node.as_str() != "__cedar" {
+        return Ok(None);
+    }
+    let fault = ReservedName {
+        name: id.node.text.clone_in(alloc)?,
+        loc: id.loc,
+    };
+    Ok(Some(ToJsonSchemaError::ReservedName(fault)))
+}
+
+// Whether the word is one of the eight that no common type may have for its name.
+fn is_keyword(word: &str) -> bool
+    ensures { result ≡ is_keyword word.now }
+{
+    match word {
+        "Bool" | "Boolean" | "Entity" | "Extension" | "Long" | "Record" | "Set" | "String" => true,
+        _ => false,
+    }
+}
+
+// The fault of a common type that is named by one of these.
+fn keyword(alloc: Global, id: &Node<Id>) -> Result<Option<ToJsonSchemaError>, AllocError>
+    ensures { IfOk result (λ fault. fault ≡ keyword id.now) }
+{
+    if !is_keyword(id.node.as_str()) {
+        return Ok(None);
+    }
+    let fault = ReservedSchemaKeyword {
+        keyword: id.node.text.clone_in(alloc)?,
+        loc: id.loc,
+    };
+    Ok(Some(ToJsonSchemaError::ReservedSchemaKeyword(fault)))
+}
+
+// The fault of a common type's name.
+fn common_fault(alloc: Global, id: &Node<Id>) -> Result<Option<ToJsonSchemaError>, AllocError>
+    ensures { IfOk result (λ fault. fault ≡ common_fault id.now) }
+{
+    match reserved_id(alloc, id)? {
+        Some(fault) => Ok(Some(fault)),
+        None => keyword(alloc, id),
+    }
+}
+
+// The fault of an action declaration's block.
+fn applies_fault(
+    alloc: Global,
+    names: &NonEmpty<Node<Text>>,
+    block: &Option<Node<NonEmpty<Node<AppDecl>>>>,
+) -> Result<Option<ToJsonSchemaError>, AllocError>
+    ensures { IfOk result (λ fault. fault ≡ applies_fault (first_name names.now) block.now) }
+{
+    match block {
+        None => Ok(None),
+        Some(block) => block_fault(alloc, names.first(), &block.node),
+    }
+}
+
+// The fault of a declaration of actions.
+fn action_fault(alloc: Global, decl: &Declaration) -> Result<Option<ToJsonSchemaError>, AllocError>
+    ensures { IfOk result (λ fault. fault ≡ action_fault decl.now) }
+{
+    match decl {
+        Declaration::Action(ActionDecl::Defined(decl)) => {
+            applies_fault(alloc, &decl.names, &decl.app_decls)
+        }
+        _ => Ok(None),
+    }
+}
+
+// All reserved names of entity types.
+fn entity_faults(alloc: Global, ids: &[&Node<Id>]) -> Result<Vec<ToJsonSchemaError>, AllocError>
+    ensures { IfOk result (λ faults. faults.items ≡ filter_map reserved_id (map (λ x. x.now) ids.now)) }
+{
+    let mut faults = Vec::new(alloc);
+    for id in ids {
+        let fault = reserved_id(alloc, *id)?;
+        push_fault(&mut faults, fault)?;
+    }
+    Ok(faults)
+}
+
+// The first fault of each declaration of actions.
+fn action_faults(
+    alloc: Global,
+    decls: &[Annotated<Node<Declaration>>],
+) -> Result<Vec<ToJsonSchemaError>, AllocError>
+    ensures { IfOk result (λ faults. faults.items ≡ action_faults decls.now) }
+{
+    let mut faults = Vec::new(alloc);
+    for decl in decls {
+        let fault = action_fault(alloc, &decl.item.node)?;
+        push_fault(&mut faults, fault)?;
+    }
+    Ok(faults)
+}
+
+// The first fault of a common type's name.
+fn first_common(alloc: Global, ids: &[&Node<Id>]) -> Result<Option<ToJsonSchemaError>, AllocError>
+    ensures { IfOk result (λ fault. fault ≡ first_some common_fault (map (λ x. x.now) ids.now)) }
+{
+    for id in ids {
+        if let Some(fault) = common_fault(alloc, *id)? {
+            return Ok(Some(fault));
+        }
+    }
+    Ok(None)
+}
+
+// The same, as a list.
+fn common_faults(alloc: Global, ids: &[&Node<Id>]) -> Result<Vec<ToJsonSchemaError>, AllocError>
+    ensures { IfOk result (λ faults. faults.items ≡ option_to_list (first_some common_fault (map (λ x. x.now) ids.now))) }
+{
+    let fault = first_common(alloc, ids)?;
+    let mut faults = Vec::new(alloc);
+    push_fault(&mut faults, fault)?;
+    Ok(faults)
+}
+
+// The faults of the third step in one namespace.
+fn declaration_faults(
+    alloc: Global,
+    decls: &[Annotated<Node<Declaration>>],
+) -> Result<Vec<ToJsonSchemaError>, AllocError>
+    ensures { IfOk result (λ faults. faults.items ≡ declaration_faults decls.now) }
+{
+    let entities = entities_in(alloc, decls)?;
+    let faults = entity_faults(alloc, entities.as_slice())?;
+    if !faults.is_empty() {
+        return Ok(faults);
+    }
+    let faults = action_faults(alloc, decls)?;
+    if !faults.is_empty() {
+        return Ok(faults);
+    }
+    let commons = commons_in(alloc, decls)?;
+    common_faults(alloc, commons.as_slice())
+}
+
+// Adds faults.
+fn push_faults(
+    faults: &mut Vec<ToJsonSchemaError>,
+    more: Vec<ToJsonSchemaError>,
+) -> Result<(), AllocError>
+    ensures { OnOk result (faults.new.items ≡ faults.old.items ++ more.items) }
+{
+    for fault in more {
+        faults.push(fault)?;
+    }
+    Ok(())
+}
+
+// The faults of the third step in all namespaces.
+fn all_declaration_faults(
+    alloc: Global,
+    namespaces: &[Annotated<Namespace>],
+) -> Result<Vec<ToJsonSchemaError>, AllocError>
+    ensures { IfOk result (λ faults. faults.items ≡ all_declaration_faults namespaces.now) }
+{
+    let mut faults = Vec::new(alloc);
+    for namespace in namespaces {
+        let more = declaration_faults(alloc, namespace.item.decls.as_slice())?;
+        push_faults(&mut faults, more)?;
+    }
+    Ok(faults)
+}
+
+/// What keeps these namespaces from being a fragment, in order; nothing where they are one.
+pub fn faults_in(
+    alloc: Global,
+    namespaces: &[Annotated<Namespace>],
+) -> Result<Vec<ToJsonSchemaError>, AllocError>
+    ensures { IfOk result (λ faults. faults.items ≡ faults_in namespaces.now) }
+{
+    let faults = name_faults(alloc, namespaces)?;
+    if !faults.is_empty() {
+        return Ok(faults);
+    }
+    let paths = paths_in(alloc, namespaces)?;
+    if let Some(fault) = namespace_repeated(alloc, paths.as_slice())? {
+        return only(alloc, fault);
+    }
+    all_declaration_faults(alloc, namespaces)
+}

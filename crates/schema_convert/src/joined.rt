@@ -1,0 +1,74 @@
+ghost use Rattle.std.specs.Prelude.{◌≡◌, ◌++◌, IfOk, OnOk};
+ghost use Rattle.schema_convert.specs.Joined.{named_so, unnamed_so, empty_namespace, joined};
+
+use cedar_data::{List, Node};
+use cedar_identifiers::Annotations;
+use schema_tree::{Annotated, Declaration, Namespace, Schema};
+use std::alloc::{AllocError, Global};
+
+// Adds the namespace where it has a name, and else its declarations to those outside.
+fn push_namespace(
+    alloc: Global,
+    namespaces: &mut Vec<Annotated<Namespace>>,
+    outside: &mut Vec<Annotated<Node<Declaration>>>,
+    namespace: Annotated<Namespace>,
+) -> Result<(), AllocError>
+    ensures named { OnOk result (namespaces.new.items ≡ namespaces.old.items ++ named_so namespace.item.name namespace) }
+    ensures outside { OnOk result (outside.new.items ≡ outside.old.items ++ unnamed_so namespace.item.name namespace.item.decls) }
+{
+    if namespace.item.name.is_some() {
+        namespaces.push(namespace)?;
+        return Ok(());
+    }
+    push_all(outside, namespace.item.decls)
+}
+
+// Adds the declarations.
+fn push_all(
+    outside: &mut Vec<Annotated<Node<Declaration>>>,
+    decls: List<Annotated<Node<Declaration>>>,
+) -> Result<(), AllocError>
+    ensures { OnOk result (outside.new.items ≡ outside.old.items ++ decls) }
+{
+    for decl in decls.into_vec() {
+        outside.push(decl)?;
+    }
+    Ok(())
+}
+
+// Adds the namespace of the declarations outside of every other, where there are any.
+fn push_empty(
+    alloc: Global,
+    namespaces: &mut Vec<Annotated<Namespace>>,
+    outside: Vec<Annotated<Node<Declaration>>>,
+) -> Result<(), AllocError>
+    ensures { OnOk result (namespaces.new.items ≡ namespaces.old.items ++ empty_namespace outside.items) }
+{
+    if outside.is_empty() {
+        return Ok(());
+    }
+    let item = Namespace {
+        name: None,
+        decls: List::from_vec(outside),
+        loc: None,
+    };
+    namespaces.push(Annotated {
+        item,
+        annotations: Annotations::new(alloc),
+    })?;
+    Ok(())
+}
+
+/// The namespaces that a tree has: those with a name, in order, and behind them the one of all declarations that stand
+/// outside of these, where there are any.
+pub fn joined(alloc: Global, schema: Schema) -> Result<Vec<Annotated<Namespace>>, AllocError>
+    ensures { IfOk result (λ namespaces. namespaces.items ≡ joined schema) }
+{
+    let mut namespaces = Vec::new(alloc);
+    let mut outside = Vec::new(alloc);
+    for namespace in schema.into_vec() {
+        push_namespace(alloc, &mut namespaces, &mut outside, namespace)?;
+    }
+    push_empty(alloc, &mut namespaces, outside)?;
+    Ok(namespaces)
+}

@@ -1,0 +1,119 @@
+ghost use Rattle.std.specs.Prelude.{◌≡◌, ◌++◌, map, IfOk, OnOk};
+ghost use Rattle.std.specs.Option.{option_to_list};
+ghost use Rattle.cedar_data.specs.NonEmpty.{items_left};
+ghost use Rattle.schema_convert.specs.NamesIn.{entities_of, actions_of, commons_of, entities_in, actions_in, commons_in, paths_in};
+
+use cedar_data::{Node, NonEmptyIter, Text};
+use cedar_identifiers::Id;
+use schema_tree::{ActionDecl, Annotated, Declaration, Namespace, Path};
+use std::alloc::{AllocError, Global};
+
+// Adds the items, in order.
+fn push_all<'a, T>(items: &mut Vec<&'a T>, more: NonEmptyIter<'a, T>) -> Result<(), AllocError>
+    ensures { OnOk result (map (λ x. x.now) items.new.items ≡ map (λ x. x.now) items.old.items ++ items_left more.entry) }
+{
+    for item in more {
+        items.push(item)?;
+    }
+    Ok(())
+}
+
+// Adds the names of the entity types that the declaration declares.
+fn push_entities<'a>(names: &mut Vec<&'a Node<Id>>, decl: &'a Declaration) -> Result<(), AllocError>
+    ensures { OnOk result (map (λ x. x.now) names.new.items ≡ map (λ x. x.now) names.old.items ++ entities_of decl.now) }
+{
+    match decl {
+        Declaration::Entity(decl) => push_all(names, decl.names()),
+        _ => Ok(()),
+    }
+}
+
+// Adds the names of the actions.
+fn push_actions<'a>(
+    names: &mut Vec<&'a Node<Text>>,
+    decl: &'a Declaration,
+) -> Result<(), AllocError>
+    ensures { OnOk result (map (λ x. x.now) names.new.items ≡ map (λ x. x.now) names.old.items ++ actions_of decl.now) }
+{
+    match decl {
+        Declaration::Action(ActionDecl::Defined(decl)) => push_all(names, decl.names.iter()),
+        Declaration::Action(ActionDecl::External(decl)) => push_all(names, decl.names.iter()),
+        _ => Ok(()),
+    }
+}
+
+// Adds the name of the common type.
+fn push_common<'a>(names: &mut Vec<&'a Node<Id>>, decl: &'a Declaration) -> Result<(), AllocError>
+    ensures { OnOk result (map (λ x. x.now) names.new.items ≡ map (λ x. x.now) names.old.items ++ commons_of decl.now) }
+{
+    if let Declaration::Common(decl) = decl {
+        names.push(&decl.name)?;
+    }
+    Ok(())
+}
+
+/// The names of the entity types that the declarations declare, in order.
+pub fn entities_in<'a>(
+    alloc: Global,
+    decls: &'a [Annotated<Node<Declaration>>],
+) -> Result<Vec<&'a Node<Id>>, AllocError>
+    ensures { IfOk result (λ names. map (λ x. x.now) names.items ≡ entities_in decls.now) }
+{
+    let mut names = Vec::new(alloc);
+    for decl in decls {
+        push_entities(&mut names, &decl.item.node)?;
+    }
+    Ok(names)
+}
+
+/// The names of the actions.
+pub fn actions_in<'a>(
+    alloc: Global,
+    decls: &'a [Annotated<Node<Declaration>>],
+) -> Result<Vec<&'a Node<Text>>, AllocError>
+    ensures { IfOk result (λ names. map (λ x. x.now) names.items ≡ actions_in decls.now) }
+{
+    let mut names = Vec::new(alloc);
+    for decl in decls {
+        push_actions(&mut names, &decl.item.node)?;
+    }
+    Ok(names)
+}
+
+/// The names of the common types.
+pub fn commons_in<'a>(
+    alloc: Global,
+    decls: &'a [Annotated<Node<Declaration>>],
+) -> Result<Vec<&'a Node<Id>>, AllocError>
+    ensures { IfOk result (λ names. map (λ x. x.now) names.items ≡ commons_in decls.now) }
+{
+    let mut names = Vec::new(alloc);
+    for decl in decls {
+        push_common(&mut names, &decl.item.node)?;
+    }
+    Ok(names)
+}
+
+/// The names of the namespaces that have one.
+pub fn paths_in<'a>(
+    alloc: Global,
+    namespaces: &'a [Annotated<Namespace>],
+) -> Result<Vec<&'a Path>, AllocError>
+    ensures { IfOk result (λ paths. map (λ x. x.now) paths.items ≡ paths_in namespaces.now) }
+{
+    let mut paths = Vec::new(alloc);
+    for namespace in namespaces {
+        push_path(&mut paths, &namespace.item.name)?;
+    }
+    Ok(paths)
+}
+
+// Adds the path, where there is one.
+fn push_path<'a>(paths: &mut Vec<&'a Path>, path: &'a Option<Path>) -> Result<(), AllocError>
+    ensures { OnOk result (map (λ x. x.now) paths.new.items ≡ map (λ x. x.now) paths.old.items ++ option_to_list path.now) }
+{
+    if let Some(path) = path {
+        paths.push(path)?;
+    }
+    Ok(())
+}

@@ -1,0 +1,181 @@
+ghost use Rattle.std.specs.Prelude.{◌≡◌, ◌++◌, map, option_map, IfOk, OnOk};
+ghost use Rattle.std.specs.List.{flat_map};
+ghost use Rattle.std.specs.Option.{option_copied};
+ghost use Rattle.schema_convert.specs.Borrowed.{entry_now, optional_now};
+ghost use Rattle.schema_convert.specs.Shadowings.{by_id, is_builtin, is_taken, builtin_shadowed, entity_shadowed, common_warnings, warnings_in, declared_warnings, by_name, warnings_of};
+
+use crate::names_in::{commons_in, entities_in};
+use crate::warnings::{SchemaWarning, ShadowsBuiltinWarning, ShadowsEntityWarning};
+use cedar_data::{CloneIn, Map, Node};
+use cedar_identifiers::Id;
+use cedar_names::ExtensionTable;
+use schema_tree::{Annotated, Declaration, Namespace, Path};
+use std::alloc::{AllocError, Global};
+
+// The names, sorted.
+fn by_id<'a>(alloc: Global, names: &[&'a Node<Id>]) -> Result<Map<&'a Id, &'a Node<Id>>, AllocError>
+    ensures { IfOk result (λ sorted. map entry_now sorted ≡ by_id (map (λ x. x.now) names.now)) }
+{
+    let mut entries = Vec::new(alloc);
+    for name in names {
+        let name = *name;
+        entries.push((&name.node, name))?;
+    }
+    let sorted = Map::from_entries(alloc, entries)?;
+    Ok(sorted)
+}
+
+// Whether the word is the name of a type that every schema has.
+fn is_builtin(word: &str) -> bool
+    ensures { result ≡ is_builtin word.now }
+{
+    match word {
+        "Long" | "String" | "Bool" => true,
+        _ => false,
+    }
+}
+
+// Whether it is that, or one of the table's.
+fn is_taken(table: &ExtensionTable, word: &str) -> bool
+    ensures { result ≡ is_taken table.now word.now }
+{
+    is_builtin(word) || table.has(word)
+}
+
+// Adds the warning of a declared type that is named so.
+fn push_builtin(
+    alloc: Global,
+    warnings: &mut Vec<SchemaWarning>,
+    table: &ExtensionTable,
+    name: &Node<Id>,
+) -> Result<(), AllocError>
+    ensures { OnOk result (warnings.new.items ≡ warnings.old.items ++ builtin_shadowed table.now name.now) }
+{
+    if !is_taken(table, name.node.as_str()) {
+        return Ok(());
+    }
+    let warning = ShadowsBuiltinWarning {
+        name: name.node.text.clone_in(alloc)?,
+        loc: name.loc,
+    };
+    warnings.push(SchemaWarning::ShadowsBuiltin(warning))?;
+    Ok(())
+}
+
+// Adds the warning of a common type that is named like this entity type.
+fn push_entity(
+    alloc: Global,
+    warnings: &mut Vec<SchemaWarning>,
+    entity: Option<&Node<Id>>,
+    common: &Node<Id>,
+) -> Result<(), AllocError>
+    ensures { OnOk result (warnings.new.items ≡ warnings.old.items ++ entity_shadowed (option_copied entity.entry) common.now) }
+{
+    let Some(entity) = entity else {
+        return Ok(());
+    };
+    let warning = ShadowsEntityWarning {
+        name: common.node.text.clone_in(alloc)?,
+        entity_loc: entity.loc,
+        common_loc: common.loc,
+    };
+    warnings.push(SchemaWarning::ShadowsEntity(warning))?;
+    Ok(())
+}
+
+// Adds the warnings of a common type.
+fn push_common(
+    alloc: Global,
+    warnings: &mut Vec<SchemaWarning>,
+    table: &ExtensionTable,
+    entities: &Map<&Id, &Node<Id>>,
+    common: &Node<Id>,
+) -> Result<(), AllocError>
+    ensures { OnOk result (warnings.new.items ≡ warnings.old.items ++ common_warnings table.now (map entry_now entities.now) common.now) }
+{
+    let key = &common.node;
+    let entity = entities.get(&key).copied();
+    push_entity(alloc, warnings, entity, common)?;
+    push_builtin(alloc, warnings, table, common)?;
+    Ok(())
+}
+
+// Adds the warnings of the common types.
+fn push_commons(
+    alloc: Global,
+    warnings: &mut Vec<SchemaWarning>,
+    table: &ExtensionTable,
+    entities: &Map<&Id, &Node<Id>>,
+    commons: &[(&Id, &Node<Id>)],
+) -> Result<(), AllocError>
+    ensures { OnOk result (warnings.new.items ≡ warnings.old.items ++ flat_map (λ c. common_warnings table.now (map entry_now entities.now) c.1) (map entry_now commons.now)) }
+{
+    for common in commons {
+        push_common(alloc, warnings, table, entities, common.1)?;
+    }
+    Ok(())
+}
+
+// Adds the warnings of the entity types.
+fn push_entities(
+    alloc: Global,
+    warnings: &mut Vec<SchemaWarning>,
+    table: &ExtensionTable,
+    entities: &[(&Id, &Node<Id>)],
+) -> Result<(), AllocError>
+    ensures { OnOk result (warnings.new.items ≡ warnings.old.items ++ flat_map (λ e. builtin_shadowed table.now e.1) (map entry_now entities.now)) }
+{
+    for entity in entities {
+        push_builtin(alloc, warnings, table, entity.1)?;
+    }
+    Ok(())
+}
+
+// Adds the warnings of a namespace.
+fn push_declared(
+    alloc: Global,
+    warnings: &mut Vec<SchemaWarning>,
+    table: &ExtensionTable,
+    decls: &[Annotated<Node<Declaration>>],
+) -> Result<(), AllocError>
+    ensures { OnOk result (warnings.new.items ≡ warnings.old.items ++ declared_warnings table.now decls.now) }
+{
+    let common_names = commons_in(alloc, decls)?;
+    let entity_names = entities_in(alloc, decls)?;
+    let commons = by_id(alloc, common_names.as_slice())?;
+    let entities = by_id(alloc, entity_names.as_slice())?;
+    push_commons(alloc, warnings, table, &entities, commons.as_slice())?;
+    push_entities(alloc, warnings, table, entities.as_slice())?;
+    Ok(())
+}
+
+// The namespaces, sorted by their names.
+fn by_name<'a>(
+    alloc: Global,
+    namespaces: &'a [Annotated<Namespace>],
+) -> Result<Map<Option<&'a Path>, &'a Annotated<Namespace>>, AllocError>
+    ensures { IfOk result (λ sorted. map optional_now sorted ≡ by_name namespaces.now) }
+{
+    let mut entries = Vec::new(alloc);
+    for namespace in namespaces {
+        entries.push((namespace.item.name.as_ref(), namespace))?;
+    }
+    let sorted = Map::from_entries(alloc, entries)?;
+    Ok(sorted)
+}
+
+/// The warnings of these namespaces, in order.
+pub fn warnings_of(
+    alloc: Global,
+    namespaces: &[Annotated<Namespace>],
+    table: &ExtensionTable,
+) -> Result<Vec<SchemaWarning>, AllocError>
+    ensures { IfOk result (λ warnings. warnings.items ≡ warnings_of table.now namespaces.now) }
+{
+    let sorted = by_name(alloc, namespaces)?;
+    let mut warnings = Vec::new(alloc);
+    for entry in sorted.as_slice() {
+        push_declared(alloc, &mut warnings, table, entry.1.item.decls.as_slice())?;
+    }
+    Ok(warnings)
+}

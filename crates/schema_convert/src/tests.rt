@@ -1,0 +1,218 @@
+// Faults and warnings of texts, against a table that an independent program made, and what a fragment has.
+
+mod dump;
+mod table;
+
+use crate::*;
+use cedar_data::{CloneIn, Loc, Node, NonEmpty, Text};
+use cedar_identifiers::{Id, NameText, RawName, Severity};
+use cedar_names::ExtensionTable;
+use dump::{push_fragment, push_place};
+use schema_json::TypeVariant;
+use schema_tree::{Path, PrimitiveType};
+use std::alloc::{AllocError, Global};
+use std::test::Fail;
+use table::{fault_lines, fragment_lines, warning_lines};
+
+// A word, a name and two places.
+fn push_named(
+    line: &mut String,
+    word: &str,
+    name: &Text,
+    first: Option<Loc>,
+    second: Option<Option<Loc>>,
+) -> Result<(), Fail> {
+    line.push_str(word)?;
+    line.push_str(" ")?;
+    line.push_str(name.as_str())?;
+    push_place(line, first)?;
+    if let Some(second) = second {
+        push_place(line, second)?;
+    }
+    Ok(())
+}
+
+fn push_missing(line: &mut String, fault: &NoPrincipalOrResource) -> Result<(), Fail> {
+    match fault.missing_or_empty {
+        MissingOrEmpty::Missing => {
+            line.push_str("missing ")?;
+            push_named(line, fault.kind.as_str(), &fault.name, fault.name_loc, None)
+        }
+        MissingOrEmpty::Empty { loc } => {
+            line.push_str("empty ")?;
+            let kind = fault.kind.as_str();
+            push_named(line, kind, &fault.name, fault.name_loc, Some(loc))
+        }
+    }
+}
+
+fn push_fault(line: &mut String, fault: &ToJsonSchemaError) -> Result<(), Fail> {
+    match fault {
+        ToJsonSchemaError::DuplicateDeclarations(f) => {
+            push_named(line, "twice", &f.decl, f.loc1, Some(f.loc2))
+        }
+        ToJsonSchemaError::DuplicateContext(f) => {
+            push_named(line, "context", &f.name, f.loc1, Some(f.loc2))
+        }
+        ToJsonSchemaError::DuplicatePrincipalOrResource(f) => {
+            push_named(line, f.kind.as_str(), &f.name, f.loc1, Some(f.loc2))
+        }
+        ToJsonSchemaError::NoPrincipalOrResource(f) => push_missing(line, f),
+        ToJsonSchemaError::DuplicateNamespaces(f) => {
+            push_named(line, "namespace", &f.namespace_id, f.loc1, Some(f.loc2))
+        }
+        ToJsonSchemaError::UnknownTypeName(f) => push_named(line, "unknown", &f.name, f.loc, None),
+        ToJsonSchemaError::ReservedName(f) => push_named(line, "reserved", &f.name, f.loc, None),
+        ToJsonSchemaError::ReservedSchemaKeyword(f) => {
+            push_named(line, "keyword", &f.keyword, f.loc, None)
+        }
+    }
+}
+
+fn faults_line(alloc: Global, errors: &ToJsonSchemaErrors) -> Result<String, Fail> {
+    let mut line = String::new(alloc);
+    for fault in errors.iter() {
+        if !line.is_empty() {
+            line.push_str("; ")?;
+        }
+        push_fault(&mut line, fault)?;
+    }
+    Ok(line)
+}
+
+fn push_warning(line: &mut String, warning: &SchemaWarning) -> Result<(), Fail> {
+    line.push_str("; ")?;
+    match warning {
+        SchemaWarning::ShadowsBuiltin(w) => push_named(line, "builtin", &w.name, w.loc, None),
+        SchemaWarning::ShadowsEntity(w) => {
+            push_named(line, "entity", &w.name, w.entity_loc, Some(w.common_loc))
+        }
+    }
+}
+
+// What is found of the text.
+fn found_in(alloc: Global, text: &str) -> Result<String, Fail> {
+    let table = ExtensionTable::all_available(alloc)?;
+    match parse_cedar_schema_fragment(alloc, text, &table) {
+        Ok((_, warnings)) => {
+            let mut line = String::new(alloc);
+            line.push_str("ok")?;
+            for warning in warnings.iter() {
+                push_warning(&mut line, warning)?;
+            }
+            Ok(line)
+        }
+        Err(CedarSchemaParseErrors::JsonError(errors)) => faults_line(alloc, &errors),
+        Err(_) => Ok(String::new(alloc)),
+    }
+}
+
+// Is what the line says found of its text?
+fn agrees(alloc: Global, line: &str) -> Result<bool, Fail> {
+    let (answer, text) = line.split_once('|').unwrap_or(("", ""));
+    let found = found_in(alloc, text)?;
+    Ok(found.as_str() == answer)
+}
+
+#[test]
+fn faults_and_warnings_agree_with_table(rt: HostRuntime) -> Result<(), Fail> {
+    for line in fault_lines().lines() {
+        assert!(rt; agrees(rt.alloc(), line)?, "{line}");
+    }
+    for line in warning_lines().lines() {
+        assert!(rt; agrees(rt.alloc(), line)?, "{line}");
+    }
+    Ok(())
+}
+
+// Is the line's answer the fragment of its text?
+fn is_fragment(alloc: Global, line: &str) -> Result<bool, Fail> {
+    let (answer, text) = line.split_once('|').unwrap_or(("", ""));
+    let table = ExtensionTable::none(alloc);
+    let mut found = String::new(alloc);
+    if let Ok((fragment, _)) = parse_cedar_schema_fragment(alloc, text, &table) {
+        push_fragment(&mut found, &fragment)?;
+    }
+    Ok(found.as_str() == answer)
+}
+
+#[test]
+fn fragments_agree_with_table(rt: HostRuntime) -> Result<(), Fail> {
+    for line in fragment_lines().lines() {
+        assert!(rt; is_fragment(rt.alloc(), line)?, "{line}");
+    }
+    Ok(())
+}
+
+// The path `foo::bar::baz` at 0 to 13.
+fn path(alloc: Global) -> Result<Path, Fail> {
+    let mut namespace = Vec::new(alloc);
+    namespace.push(Id::from_normalized_str(alloc, "foo").map_err(|_| AllocError)?)?;
+    namespace.push(Id::from_normalized_str(alloc, "bar").map_err(|_| AllocError)?)?;
+    let basename = Id::from_normalized_str(alloc, "baz").map_err(|_| AllocError)?;
+    Ok(Path::new(basename, namespace, Some(Loc::new(0, 13))))
+}
+
+#[test]
+fn calls_on_paths_and_types(rt: HostRuntime) -> Result<(), Fail> {
+    let alloc = rt.alloc();
+    let raw = path_to_raw_name(alloc, path(alloc)?)?;
+    assert_eq!(rt; raw.text(alloc)?.as_str(), "foo::bar::baz");
+    let internal = path_to_internal_name(alloc, path(alloc)?)?;
+    assert_eq!(rt; internal.text(alloc)?.as_str(), "foo::bar::baz");
+    let long: TypeVariant<RawName> = PrimitiveType::Long.into_variant();
+    assert!(rt; matches!(long, TypeVariant::Long));
+    let ty = Node::with_maybe_source_loc(schema_tree::Type::Ident(path(alloc)?), None);
+    let ty = cedar_type_to_json_type(alloc, ty)?;
+    assert!(rt; matches!(ty, schema_json::Type::Variant { loc: None, .. }));
+    Ok(())
+}
+
+fn reserved(alloc: Global, name: &str) -> Result<ToJsonSchemaError, AllocError> {
+    Ok(ToJsonSchemaError::ReservedName(ReservedName {
+        name: Text::from_str(alloc, name)?,
+        loc: Some(Loc::new(2, 3)),
+    }))
+}
+
+#[test]
+fn calls_on_lists_of_faults(rt: HostRuntime) -> Result<(), Fail> {
+    let alloc = rt.alloc();
+    let one = ToJsonSchemaErrors::from_one(alloc, reserved(alloc, "a")?);
+    let same = ToJsonSchemaErrors::new(NonEmpty::new(alloc, reserved(alloc, "a")?));
+    assert!(rt; one == same);
+    assert!(rt; one.clone_in(alloc)? == one);
+    let other = ToJsonSchemaErrors::from_one(alloc, reserved(alloc, "b")?);
+    assert!(rt; one != other);
+    assert_eq!(rt; one.iter().count(), 1);
+    assert_eq!(rt; other.into_iter().count(), 1);
+    Ok(())
+}
+
+#[test]
+fn warnings_say(rt: HostRuntime) -> Result<(), Fail> {
+    let alloc = rt.alloc();
+    let builtin = SchemaWarning::ShadowsBuiltin(ShadowsBuiltinWarning {
+        name: Text::from_str(alloc, "String")?,
+        loc: Some(Loc::new(7, 13)),
+    });
+    let says =
+        "The name `String` shadows a builtin Cedar name. You'll have to refer to the builtin as `__cedar::String`.";
+    assert_eq!(rt; builtin.text(alloc)?.as_str(), says);
+    assert_eq!(rt; builtin.labels(alloc)?.len(), 1);
+    assert!(rt; builtin.help(alloc, "")?.is_none());
+    assert!(rt; builtin.severity() == Severity::Warning);
+    let entity = SchemaWarning::ShadowsEntity(ShadowsEntityWarning {
+        name: Text::from_str(alloc, "A")?,
+        entity_loc: Some(Loc::new(1, 2)),
+        common_loc: Some(Loc::new(3, 4)),
+    });
+    assert_eq!(rt;
+        entity.text(alloc)?.as_str(),
+        "The common type name A shadows an entity name"
+    );
+    assert_eq!(rt; entity.labels(alloc)?.len(), 2);
+    assert!(rt; entity.clone_in(alloc)? == entity);
+    assert!(rt; NO_PR_HELP_MSG.starts_with("Every action must define both"));
+    Ok(())
+}

@@ -1,0 +1,4 @@
+mod Definitions
+mod Lists
+mod Reserved
+mod TypeSteps

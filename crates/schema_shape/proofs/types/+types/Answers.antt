@@ -1,0 +1,17 @@
+use Rattle.std.proofs.Common.{sym, ◌∙◌}
+use Rattle.cedar_data.specs.Maps.{map_of}
+use Rattle.cedar_data.specs.Text.{text_cmp}
+use Rattle.cedar_identifiers.specs.declared.raw_name.RawName.{RawName}
+use Rattle.schema_json.specs.declared.types.RecordType.{roll-RecordType}
+use Rattle.schema_shape.specs.Types.{Attribute, attribute_of}
+use Rattle.schema_shape.proofs.Lists.{one_more, none_left}
+use Rattle.schema_shape.proofs.TypeSteps.{attribute_made, record_made}
+use Rattle.schema_shape.proofs.types.+types.Goals as goal
+
+pub record_of-loop-attribute-preserved : goal.record_of-loop-attribute-preserved
+record_of-loop-attribute-preserved t c =
+    one_more attribute_of _ _ _ _ c.in-Some.attribute _ _ c.loop-attribute.invariant c.in-Some.ensures.steps.0 c.in_ok-push.ensures.items (attribute_made c.in-Some.attribute c.in_ok-ty.ty c.in_ok-ty.ensures)
+
+pub record_of-returns : goal.record_of-returns
+record_of-returns t c =
+    record_made _ _ _ c.in_ok-attributes.ensures.entries (none_left attribute_of _ _ _ c.loop-attribute.invariant (sym c.loop-attribute.attribute-iterator.rest.ok.0 ∙ c.in-None.ensures.steps.0))

@@ -1,0 +1,5 @@
+pub mod Declarations
+pub mod Fragments
+pub mod Names
+pub mod Primitives
+pub mod Types

@@ -1,0 +1,15 @@
+//! What the parts of a schema's tree become in a fragment: names, types, declarations and namespaces.
+#![tactic(auto)]
+
+mod actions;
+mod entities;
+mod entries;
+pub mod into_variant;
+pub mod names;
+pub mod namespaces;
+pub mod types;
+
+pub use into_variant::IntoVariant;
+pub use names::{path_to_internal_name, path_to_raw_name};
+pub use namespaces::fragment_of;
+pub use types::cedar_type_to_json_type;
