@@ -1,6 +1,8 @@
 //! Runs one part of the front end over standard input, for `bench/parse.py` to time.
 #![tactic(auto)]
 
+use cedar_names::ExtensionTable;
+use schema_convert::parse_cedar_schema_fragment;
 use schema_faults::syntax_fault_of;
 use schema_syntax::{parse_schema, scan};
 use std::alloc::{AllocError, Global};
@@ -13,6 +15,10 @@ fn takes(alloc: Global, word: &str, text: &str) -> Result<bool, AllocError> {
         "scan" => Ok(scan(alloc, text)?.at == text.len()),
         "faults" => Ok(syntax_fault_of(alloc, text)?.is_none()),
         "parse" => Ok(parse_schema(alloc, text).is_ok()),
+        "translate" => {
+            let table = ExtensionTable::all_available(alloc)?;
+            Ok(parse_cedar_schema_fragment(alloc, text, &table).is_ok())
+        }
         _ => Ok(false),
     }
 }
