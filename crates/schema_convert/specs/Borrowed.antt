@@ -1,5 +1,5 @@
 -- Entries whose keys and values are borrowed.
-use Rattle.std.specs.Prelude.{List, map, Option, option_map}
+use Rattle.std.specs.Prelude.{Option, option_map}
 use Rattle.std.specs.Borrow.{Bor}
 
 -- what an entry points to

@@ -1,5 +1,5 @@
 -- What keeps a tree from being a fragment.
-use Rattle.std.specs.Prelude.{ℕ, Bool, true, false, List, [], ◌∷◌, ◌++◌, map, Option, Some, None, codes, if◌then◌else◌}
+use Rattle.std.specs.Prelude.{ℕ, Bool, List, [], ◌∷◌, Option, Some, None, codes, if◌then◌else◌}
 use Rattle.std.specs.List.{filter_map, flat_map, list_any}
 use Rattle.std.specs.Option.{option_map, option_or, option_to_list}
 use Rattle.std.specs.Str.{bytes_eq}
@@ -8,7 +8,6 @@ use Rattle.cedar_identifiers.specs.CanonicalText.{joined as spelled}
 use Rattle.cedar_identifiers.specs.Names.{texts_of}
 use Rattle.cedar_identifiers.specs.Words.{is_cedar}
 use Rattle.cedar_identifiers.specs.declared.id.Id.{Id}
-use Rattle.schema_tree.specs.declared.action_decl.ActionDecl.{ActionDecl}
 use Rattle.schema_tree.specs.declared.action_decl.ActionDecl.TheVariants.{Defined, External}
 use Rattle.schema_tree.specs.declared.annotated.Annotated.{Annotated}
 use Rattle.schema_tree.specs.declared.app_decl.AppDecl.{AppDecl}

@@ -1,5 +1,5 @@
 -- The declarations of a tree, in a fragment.
-use Rattle.std.specs.Prelude.{◌≡◌, ℕ, Bool, true, false, List, [], ◌∷◌, ◌++◌, map, Option, Some, None, option_map, refl}
+use Rattle.std.specs.Prelude.{◌≡◌, Bool, true, false, List, [], ◌∷◌, map, Option, Some, None, option_map, refl}
 use Rattle.std.specs.List.{filter_map}
 use Rattle.cedar_data.specs.Span.{Span}
 use Rattle.cedar_data.specs.declared.node.Node.{Node}
@@ -20,7 +20,6 @@ use Rattle.schema_tree.specs.declared.action_decl.ActionDecl.{ActionDecl}
 use Rattle.schema_tree.specs.declared.action_decl.ActionDecl.TheVariants as action
 use Rattle.schema_tree.specs.declared.app_decl.AppDecl.{AppDecl}
 use Rattle.schema_tree.specs.declared.app_decl.AppDecl.TheVariants as member
-use Rattle.schema_tree.specs.declared.app_decl.PRAppDecl.{PRAppDecl}
 use Rattle.schema_tree.specs.declared.either.Either.{Either}
 use Rattle.schema_tree.specs.declared.either.Either.TheVariants.{Left, Right}
 use Rattle.schema_tree.specs.declared.pr.PR.{PR}

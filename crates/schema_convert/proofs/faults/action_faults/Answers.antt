@@ -1,4 +1,4 @@
-use Rattle.std.proofs.Common.{refl, ap, ◌∙◌, ◌++◌, map}
+use Rattle.std.proofs.Common.{refl, ap, ◌∙◌, ◌++◌}
 use Rattle.std.specs.Option.{option_to_list}
 use Rattle.schema_convert.specs.Faults.{action_fault, action_faults}
 use Rattle.schema_convert.proofs.Gathered.{consed, more_at, over_at}

@@ -1,6 +1,6 @@
-use Rattle.std.proofs.Common.{refl, ap, ◌∙◌, ◌++◌, map}
+use Rattle.std.proofs.Common.{refl, ap, ◌∙◌, ◌++◌}
 use Rattle.schema_convert.specs.Faults.{declaration_faults, all_declaration_faults}
-use Rattle.schema_convert.proofs.Gathered.{consed, more_at, over_at}
+use Rattle.schema_convert.proofs.Gathered.{more_at, over_at}
 use Rattle.schema_convert.proofs.faults.all_declaration_faults.Goals as goal
 
 pub loop-namespace-preserved : goal.loop-namespace-preserved

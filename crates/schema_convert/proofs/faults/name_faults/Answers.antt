@@ -1,4 +1,4 @@
-use Rattle.std.proofs.Common.{refl, ap, ◌∙◌, ◌++◌, map}
+use Rattle.std.proofs.Common.{refl, ap, ◌∙◌, ◌++◌}
 use Rattle.std.specs.List.{filter_map}
 use Rattle.std.specs.Option.{option_to_list}
 use Rattle.schema_convert.specs.Faults.{name_fault}

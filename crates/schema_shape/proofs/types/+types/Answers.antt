@@ -1,9 +1,5 @@
 use Rattle.std.proofs.Common.{sym, ◌∙◌}
-use Rattle.cedar_data.specs.Maps.{map_of}
-use Rattle.cedar_data.specs.Text.{text_cmp}
-use Rattle.cedar_identifiers.specs.declared.raw_name.RawName.{RawName}
-use Rattle.schema_json.specs.declared.types.RecordType.{roll-RecordType}
-use Rattle.schema_shape.specs.Types.{Attribute, attribute_of}
+use Rattle.schema_shape.specs.Types.{attribute_of}
 use Rattle.schema_shape.proofs.Lists.{one_more, none_left}
 use Rattle.schema_shape.proofs.TypeSteps.{attribute_made, record_made}
 use Rattle.schema_shape.proofs.types.+types.Goals as goal
