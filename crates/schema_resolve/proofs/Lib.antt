@@ -1,0 +1,2 @@
+mod Equations
+mod Lists

@@ -1,0 +1,64 @@
+-- What each of a list gives, item by item.
+use Rattle.std.proofs.Common.{◌≡◌, ℕ, zero, suc, ◌+◌, ◌<◌, ◌≤◌, List, [], ◌∷◌, ◌++◌, map, length, get_or, take, drop, refl, sym, ap, ◌∙◌, subst, append_assoc, append-nil, add-one, arith}
+use Rattle.std.proofs.Common.{Result, Ok, Err}
+use Rattle.std.specs.Result.{IsErrAnd, IfErr}
+use Rattle.std.proofs.Math.Seq.{take-suc, drop-cons}
+use Rattle.std.proofs.lemmas.List.{map-append, take_all}
+use Rattle.schema_json.specs.Walk.{joined}
+use Rattle.schema_resolve.specs.Walk.{each}
+use Rattle.schema_resolve.specs.Undefined.{Undefined}
+use Rattle.schema_resolve.specs.Faults.{NamesFirst}
+use Rattle.schema_resolve.specs.declared.resolve_error.ResolveError.{ResolveError}
+use Rattle.schema_resolve.specs.declared.resolve_error.ResolveError.TheVariants.{TypeNotDefined, ActionNotDefined, Memory}
+
+-- the first of the front, and the first behind where the front has none
+pub front_first : (us vs : List Undefined) (e : ResolveError) → NamesFirst us e → NamesFirst (us ++ vs) e
+front_first us vs Memory h = tt
+front_first [] vs (TypeNotDefined e) h = absurd h
+front_first [] vs (ActionNotDefined e) h = absurd h
+front_first (u ∷ us) vs (TypeNotDefined e) h = h
+front_first (u ∷ us) vs (ActionNotDefined e) h = h
+
+pub behind_first : (us vs : List Undefined) (e : ResolveError) → us ≡ [] → NamesFirst vs e → NamesFirst (us ++ vs) e
+behind_first us vs e none h = subst (λ l. NamesFirst (l ++ vs) e) (sym none) h
+
+pub both_none : {A : Type 0} (us vs : List A) → us ≡ [] → vs ≡ [] → us ++ vs ≡ []
+both_none us vs p q = ap (λ l. l ++ vs) p ∙ q
+
+module _ {A U : Type 0} (u : A → List U) where
+  each_parts : (xs ys : List A) → each u (xs ++ ys) ≡ each u xs ++ each u ys
+  each_parts [] ys = refl
+  each_parts (x ∷ xs) ys = ap (λ l. u x ++ l) (each_parts xs ys) ∙ sym (append_assoc (u x) (each u xs) (each u ys))
+
+  -- one more
+  pub each_more : (xs : List A) (i : ℕ) (d : A) → i < length xs → d ≡ get_or xs i d → each u (take i xs) ≡ [] → u d ≡ [] → each u (take (i + 1) xs) ≡ []
+  each_more xs i d h e none here =
+      rw (add-one, take-suc xs i d h, each_parts (take i xs) (get_or xs i d ∷ [])) (both_none (each u (take i xs)) (u (get_or xs i d) ++ []) none (append-nil (u (get_or xs i d)) ∙ ap u (sym e) ∙ here))
+
+  -- all
+  pub each_all : (xs : List A) (i : ℕ) → length xs ≤ i → each u (take i xs) ≡ [] → each u xs ≡ []
+  each_all xs i h none = ap (each u) (sym (take_all i xs h)) ∙ none
+
+  each_split : (xs : List A) (i : ℕ) (d : A) → i < length xs → d ≡ get_or xs i d → each u xs ≡ each u (take i xs) ++ (u d ++ each u (drop (suc i) xs))
+  each_split [] i d h e = absurd (omega arith)
+  each_split (x ∷ xs) zero d h e = ap (λ a. u a ++ each u xs) (sym e)
+  each_split (x ∷ xs) (suc i) d h e = ap (λ l. u x ++ l) (each_split xs i d (omega arith) e) ∙ sym (append_assoc (u x) (each u (take i xs)) (u d ++ each u (drop (suc i) xs)))
+
+-- the first of an item, where those before it give none
+pub each_first : {A : Type 0} (u : A → List Undefined) (xs : List A) (i : ℕ) (d : A) (e : ResolveError) → i < length xs → d ≡ get_or xs i d → each u (take i xs) ≡ [] → NamesFirst (u d) e → NamesFirst (each u xs) e
+each_first u xs i d e h at none here =
+    subst (λ l. NamesFirst l e) (sym (each_split u xs i d h at)) (behind_first (each u (take i xs)) (u d ++ each u (drop (suc i) xs)) e none (front_first (u d) (each u (drop (suc i) xs)) e here))
+
+module _ {A B : Type 0} (h : A → B) where
+  -- one more
+  pub map_more : (xs : List A) (i : ℕ) (d : A) → i < length xs → d ≡ get_or xs i d → map h (take (i + 1) xs) ≡ map h (take i xs) ++ h d ∷ []
+  map_more xs i d l e = rw (add-one, take-suc xs i d l, map-append) (ap (λ x. map h (take i xs) ++ h x ∷ []) (sym e))
+
+  -- all
+  pub map_all : (xs : List A) (i : ℕ) → length xs ≤ i → map h (take i xs) ≡ map h xs
+  map_all xs i l = ap (map h) (take_all i xs l)
+
+-- what `?` hands on
+pub refused : {T : Type 0} (r : Result T ResolveError) (e : ResolveError) (us : List Undefined) → IsErrAnd r (λ y. y ≡ e) → NamesFirst us e → IfErr r (NamesFirst us)
+refused (Ok x) e us h k = tt
+refused (Err y) e us h k = subst (NamesFirst us) (sym h) k

@@ -1,0 +1,11 @@
+use Rattle.std.proofs.Common.{◌≡◌, [], map, take}
+use Rattle.cedar_data.specs.Entries.{on_value}
+use Rattle.schema_resolve.specs.Renamed.{renamed_action}
+use Rattle.schema_resolve.specs.Walk.{each_value, of_action}
+use Rattle.schema_resolve.proofs.rename_namespaces.rename_actions.Given as goal
+
+abbrev pub invariant-loop-id : goal.invariant-loop-id
+invariant-loop-id g l = record {
+  out : l.out.items ≡ map (on_value (renamed_action (g.R.Renamer.becomes l.renamer) (g.R.ActionRenamer.action_becomes l.renamer))) (take l.id-index l.id-items);
+  defined : each_value (of_action (g.R.Renamer.lacks l.renamer) (g.R.ActionRenamer.lacks_action l.renamer)) (take l.id-index l.id-items) ≡ [];
+}

@@ -1,0 +1,64 @@
+use Rattle.std.proofs.Common.{◌≡◌, ◌∷◌, ◌++◌, [], ap, sym, ◌∙◌, get_or, rules, arith, subst}
+use Rattle.cedar_data.specs.Entries.{on_value, keys_on_values}
+use Rattle.schema_json.specs.declared.types.TypeOfAttribute.{size-TypeOfAttribute}
+use Rattle.schema_json.specs.Sizes.{most_at}
+use Rattle.schema_resolve.specs.Renamed.{renamed_attribute}
+use Rattle.schema_resolve.specs.Walk.{of_attribute, of_record, of_entries}
+use Rattle.schema_resolve.specs.Faults.{NamesFirst}
+use Rattle.schema_resolve.proofs.Lists.{each_more, each_first, map_more, refused}
+use Rattle.schema_resolve.proofs.Equations.{record_renamed, variant_renamed, record_walked, variant_walked}
+use Rattle.schema_resolve.proofs.rename_types.+rename.Goals as goal
+
+pub rename_entries-rename_attribute-requires : goal.rename_entries-rename_attribute-requires
+rename_entries-rename_attribute-requires g t c κs within =
+    let size = size-TypeOfAttribute g.row.N.Denot in
+    let it = c.loop-name-item.result in
+    let le = most_at size c.args.entries.now c.loop-name.name-index it c.loop-name-test.true in
+    let same : size it.1 ≡ size (get_or c.args.entries.now c.loop-name.name-index it).1 = ap (λ p. size p.1) c.loop-name-item.is in
+    (omega (arith, le, same, c.decreases), search rules)
+
+pub rename_entries-loop-name-preserved : goal.rename_entries-loop-name-preserved
+rename_entries-loop-name-preserved g t c =
+    let f = g.R.Renamer.becomes c.args.renamer.now in
+    let u = g.R.Renamer.lacks c.args.renamer.now in
+    let es = c.args.entries.now in
+    let i = c.loop-name.name-index in
+    let it = c.loop-name-item.result in
+    record {
+      out = c.in_ok-push.ensures.items ∙ (λ k. c.loop-name.invariant.out k ++ (c.in_ok-name.ensures k, c.in_ok-attribute.ensures.out k) ∷ []) ∙ sym (map_more (on_value (renamed_attribute f)) es i it c.loop-name-test.true c.loop-name-item.is);
+      defined = each_more (λ e. of_attribute u e.1) es i it c.loop-name-test.true c.loop-name-item.is c.loop-name.invariant.defined c.in_ok-attribute.ensures.defined;
+    }
+
+pub rename_entries-returns-in_err-attribute-clause-err : goal.rename_entries-returns-in_err-attribute-clause-err
+rename_entries-returns-in_err-attribute-clause-err g t c =
+    let u = g.R.Renamer.lacks c.args.renamer.now in
+    let es = c.args.entries.now in
+    refused c.from_residual-in_err-attribute.result c.in_err-attribute.field-0.0 (of_entries u es) c.from_residual-in_err-attribute.ensures.1
+    (each_first (λ e. of_attribute u e.1) es c.loop-name.name-index c.loop-name-item.result c.in_err-attribute.field-0.0 c.loop-name-test.true c.loop-name-item.is c.loop-name.invariant.defined c.in_err-attribute.ensures.err)
+
+pub rename_record-returns-in_err-rename_entries-clause-err : goal.rename_record-returns-in_err-rename_entries-clause-err
+rename_record-returns-in_err-rename_entries-clause-err g t c =
+    let u = g.R.Renamer.lacks c.args.renamer.now in
+    let e = c.in_err-rename_entries.field-0.0 in
+    refused c.from_residual.result e (of_record u c.args.fields.now) c.from_residual.ensures.1
+    (rw (record_walked u c.args.fields.now, ← c.as_slice.ensures.entries) c.in_err-rename_entries.ensures.err)
+
+pub rename_record-from_sorted_vec-requires : goal.rename_record-from_sorted_vec-requires
+rename_record-from_sorted_vec-requires g t c =
+    rw (c.in_ok-rename_entries.ensures.out, keys_on_values (renamed_attribute (g.R.Renamer.becomes c.args.renamer.now)) c.as_slice.result.now, c.as_slice.ensures.entries) c.as_slice.ensures.sorted
+
+pub rename_record-returns-clause-out : goal.rename_record-returns-clause-out
+rename_record-returns-clause-out g t c =
+    rw (c.from_sorted_vec.ensures, c.in_ok-rename_entries.ensures.out, c.as_slice.ensures.entries, record_renamed (g.R.Renamer.becomes c.args.renamer.now) c.args.fields.now)
+
+pub rename_record-returns-clause-defined : goal.rename_record-returns-clause-defined
+rename_record-returns-clause-defined g t c =
+    rw (record_walked (g.R.Renamer.lacks c.args.renamer.now) c.args.fields.now, ← c.as_slice.ensures.entries) c.in_ok-rename_entries.ensures.defined
+
+pub rename_variant-returns-in_ok-rename_record-in-Record-clause-out : goal.rename_variant-returns-in_ok-rename_record-in-Record-clause-out
+rename_variant-returns-in_ok-rename_record-in-Record-clause-out g t c =
+    rw (c.in-Record.is, variant_renamed (g.R.Renamer.becomes c.args.renamer.now) c.in-Record.fields, c.in_ok-rename_record-in-Record.ensures.out)
+
+pub rename_variant-returns-in_ok-rename_record-in-Record-clause-defined : goal.rename_variant-returns-in_ok-rename_record-in-Record-clause-defined
+rename_variant-returns-in_ok-rename_record-in-Record-clause-defined g t c =
+    rw (c.in-Record.is, variant_walked (g.R.Renamer.lacks c.args.renamer.now) c.in-Record.fields) c.in_ok-rename_record-in-Record.ensures.defined

@@ -1,0 +1,22 @@
+-- Which error names a reference that means nothing.
+use Rattle.std.specs.Prelude.{◌≡◌, ℕ, List, [], ◌∷◌, Option, ⊤}
+use Rattle.cedar_identifiers.specs.declared.conditional_name.ConditionalName.{ConditionalName}
+use Rattle.schema_resolve.specs.Undefined.{Undefined, type_reference, action_reference}
+use Rattle.schema_resolve.specs.declared.resolve_error.ResolveError.{ResolveError}
+use Rattle.schema_resolve.specs.declared.resolve_error.ResolveError.TheVariants.{TypeNotDefined, ActionNotDefined, Memory}
+
+-- the error names this reference and no other; want of memory may come at any
+abbrev pub Names : Undefined → ResolveError → Type 0
+Names u Memory = ⊤
+Names (type_reference c) (TypeNotDefined e) = e.undefined_types ≡ c ∷ []
+Names (type_reference c) (ActionNotDefined e) = ⊥
+Names (action_reference id ty) (TypeNotDefined e) = ⊥
+Names (action_reference id ty) (ActionNotDefined e) = (only : _) × (e.0 ≡ only ∷ []) × (only.id ≡ id) × (only.ty ≡ ty)
+
+-- the error names the first of these
+abbrev pub NamesFirst : List Undefined → ResolveError → Type 0
+NamesFirst us Memory = ⊤
+NamesFirst [] (TypeNotDefined e) = ⊥
+NamesFirst [] (ActionNotDefined e) = ⊥
+NamesFirst (u ∷ us) (TypeNotDefined e) = Names u (TypeNotDefined e)
+NamesFirst (u ∷ us) (ActionNotDefined e) = Names u (ActionNotDefined e)

@@ -1,0 +1,92 @@
+-- Fragments with each name replaced by another, which may be of another kind. Shapes, annotations, flags and places stay.
+use Rattle.std.specs.Prelude.{◌≡◌, refl, ℕ, Bool, true, false, not, ◌||◌, List, map, Option, Some, None}
+use Rattle.std.specs.Option.{option_map}
+use Rattle.cedar_data.specs.Entries.{on_value}
+use Rattle.cedar_identifiers.specs.declared.reference_type.ReferenceType.{ReferenceType}
+use Rattle.cedar_identifiers.specs.declared.reference_type.ReferenceType.TheVariants.{Common, Entity, CommonOrEntity}
+use Rattle.cedar_identifiers.specs.declared.name_text.NameText as named
+use Rattle.schema_json.specs.declared.types.Type.{«Type», Type-F, fold-Type, roll-Type}
+use Rattle.schema_json.specs.declared.types.TypeVariant.{TypeVariant, TypeVariant-F, fold-TypeVariant, roll-TypeVariant}
+use Rattle.schema_json.specs.declared.types.RecordType.{RecordType, RecordType-F, fold-RecordType, roll-RecordType}
+use Rattle.schema_json.specs.declared.types.TypeOfAttribute.{TypeOfAttribute, TypeOfAttribute-F, fold-TypeOfAttribute, roll-TypeOfAttribute}
+use Rattle.schema_json.specs.declared.entity_type.AttributesOrContext.{AttributesOrContext}
+use Rattle.schema_json.specs.declared.entity_type.StandardEntityType.{StandardEntityType}
+use Rattle.schema_json.specs.declared.entity_type.EntityTypeKind.{EntityTypeKind}
+use Rattle.schema_json.specs.declared.entity_type.EntityTypeKind.TheVariants.{Standard, Enum}
+use Rattle.schema_json.specs.declared.entity_type.EntityType.{EntityType}
+use Rattle.schema_json.specs.declared.common_type.CommonType.{CommonType}
+use Rattle.schema_json.specs.declared.action_type.ApplySpec.{ApplySpec}
+use Rattle.schema_json.specs.declared.action_type.ActionEntityUID.{ActionEntityUID}
+use Rattle.schema_json.specs.declared.action_type.ActionType.{ActionType}
+use Rattle.schema_json.specs.declared.fragment.NamespaceDefinition.{NamespaceDefinition}
+
+pub due_there : (b : Bool) → (not b || true) ≡ true
+due_there true = refl
+due_there false = refl
+
+-- f says what a name becomes that asks for a type of a kind
+module _ {N M : Type 0} (f : ReferenceType → N → M) where
+  abbrev pub type_step : Type-F N («Type» M) (TypeVariant M) (RecordType M) (TypeOfAttribute M) → «Type» M
+  type_step (Type-F.Variant ty loc) = roll-Type M (Type-F.Variant ty loc)
+  type_step (Type-F.CommonTypeRef name loc) = roll-Type M (Type-F.CommonTypeRef (f Common name) loc)
+
+  abbrev pub variant_step : TypeVariant-F N («Type» M) (TypeVariant M) (RecordType M) (TypeOfAttribute M) → TypeVariant M
+  variant_step TypeVariant-F.String = roll-TypeVariant M TypeVariant-F.String
+  variant_step TypeVariant-F.Long = roll-TypeVariant M TypeVariant-F.Long
+  variant_step TypeVariant-F.Boolean = roll-TypeVariant M TypeVariant-F.Boolean
+  variant_step (TypeVariant-F.Set element) = roll-TypeVariant M (TypeVariant-F.Set element)
+  variant_step (TypeVariant-F.Record r) = roll-TypeVariant M (TypeVariant-F.Record r)
+  variant_step (TypeVariant-F.Entity name) = roll-TypeVariant M (TypeVariant-F.Entity (f Entity name))
+  variant_step (TypeVariant-F.EntityOrCommon name) = roll-TypeVariant M (TypeVariant-F.EntityOrCommon (f CommonOrEntity name))
+  variant_step (TypeVariant-F.Extension name) = roll-TypeVariant M (TypeVariant-F.Extension name)
+
+  abbrev pub record_step : RecordType-F N («Type» M) (TypeVariant M) (RecordType M) (TypeOfAttribute M) → RecordType M
+  record_step r = roll-RecordType M (record { attributes = r.attributes; additional_attributes = r.additional_attributes })
+
+  abbrev pub attribute_step : TypeOfAttribute-F N («Type» M) (TypeVariant M) (RecordType M) (TypeOfAttribute M) → TypeOfAttribute M
+  attribute_step a = roll-TypeOfAttribute M (record { ty = a.ty; annotations = a.annotations; required = a.required })
+
+  abbrev pub renamed : «Type» N → «Type» M
+  renamed = fold-Type N («Type» M) (TypeVariant M) (RecordType M) (TypeOfAttribute M) type_step variant_step record_step attribute_step
+
+  abbrev pub renamed_variant : TypeVariant N → TypeVariant M
+  renamed_variant = fold-TypeVariant N («Type» M) (TypeVariant M) (RecordType M) (TypeOfAttribute M) type_step variant_step record_step attribute_step
+
+  abbrev pub renamed_record : RecordType N → RecordType M
+  renamed_record = fold-RecordType N («Type» M) (TypeVariant M) (RecordType M) (TypeOfAttribute M) type_step variant_step record_step attribute_step
+
+  abbrev pub renamed_attribute : TypeOfAttribute N → TypeOfAttribute M
+  renamed_attribute = fold-TypeOfAttribute N («Type» M) (TypeVariant M) (RecordType M) (TypeOfAttribute M) type_step variant_step record_step attribute_step
+
+  abbrev pub renamed_entries : List (List ℕ × TypeOfAttribute N) → List (List ℕ × TypeOfAttribute M)
+  renamed_entries entries = map (on_value renamed_attribute) entries
+
+  abbrev pub renamed_common : CommonType N → CommonType M
+  renamed_common c = record { ty = renamed c.ty; annotations = c.annotations; loc = c.loc }
+
+  abbrev pub renamed_context : AttributesOrContext N → AttributesOrContext M
+  renamed_context c = record { 0 = renamed c.0 }
+
+  abbrev pub renamed_standard : StandardEntityType N → StandardEntityType M
+  renamed_standard s = record { member_of_types = map (f Entity) s.member_of_types; shape = renamed_context s.shape; tags = option_map renamed s.tags }
+
+  abbrev pub renamed_kind : EntityTypeKind N → EntityTypeKind M
+  renamed_kind (Standard s) = Standard (renamed_standard s)
+  renamed_kind (Enum choices) = Enum choices
+
+  abbrev pub renamed_entity : EntityType N → EntityType M
+  renamed_entity e = record { kind = renamed_kind e.kind; external = e.external; annotations = e.annotations; loc = e.loc }
+
+  abbrev pub renamed_apply : ApplySpec N → ApplySpec M
+  renamed_apply s = record { resource_types = map (f Entity) s.resource_types; principal_types = map (f Entity) s.principal_types; context = renamed_context s.context }
+
+  -- h says what the type of an action with an id becomes, which is always written then
+  module _ (h : List ℕ → Option N → M) where
+    abbrev pub renamed_uid : {G : named.Ghosts N} {H : named.Ghosts M} → ActionEntityUID N G → ActionEntityUID M H
+    renamed_uid {G} {H} a = record { id = a.id; ty = Some (h a.id a.ty); typed = due_there H.TYPED }
+
+    abbrev pub renamed_action : {G : named.Ghosts N} {H : named.Ghosts M} → ActionType N G → ActionType M H
+    renamed_action a = record { attributes = a.attributes; applies_to = option_map renamed_apply a.applies_to; member_of = option_map (map renamed_uid) a.member_of; external = a.external; annotations = a.annotations; loc = a.loc }
+
+    abbrev pub renamed_namespace : {G : named.Ghosts N} {H : named.Ghosts M} → NamespaceDefinition N G → NamespaceDefinition M H
+    renamed_namespace n = record { common_types = map (on_value renamed_common) n.common_types; entity_types = map (on_value renamed_entity) n.entity_types; actions = map (on_value renamed_action) n.actions; annotations = n.annotations }

@@ -1,0 +1,96 @@
+-- What the references of a fragment give, in the order of the walk: common types, entity types and actions by name; of an
+-- entity type its parents, its shape and its tags; of an action its parents, its principals, its resources and its context.
+use Rattle.std.specs.Prelude.{ℕ, List, [], ◌∷◌, ◌++◌, map, Option, Some, None}
+use Rattle.cedar_identifiers.specs.declared.name_text.NameText as named
+use Rattle.schema_json.specs.Walk.{joined}
+use Rattle.schema_json.specs.declared.types.Type.{«Type», Type-F, fold-Type}
+use Rattle.schema_json.specs.declared.types.TypeVariant.{TypeVariant, TypeVariant-F, fold-TypeVariant}
+use Rattle.schema_json.specs.declared.types.RecordType.{RecordType, RecordType-F, fold-RecordType}
+use Rattle.schema_json.specs.declared.types.TypeOfAttribute.{TypeOfAttribute, TypeOfAttribute-F, fold-TypeOfAttribute}
+use Rattle.schema_json.specs.declared.entity_type.AttributesOrContext.{AttributesOrContext}
+use Rattle.schema_json.specs.declared.entity_type.StandardEntityType.{StandardEntityType}
+use Rattle.schema_json.specs.declared.entity_type.EntityTypeKind.{EntityTypeKind}
+use Rattle.schema_json.specs.declared.entity_type.EntityTypeKind.TheVariants.{Standard, Enum}
+use Rattle.schema_json.specs.declared.entity_type.EntityType.{EntityType}
+use Rattle.schema_json.specs.declared.common_type.CommonType.{CommonType}
+use Rattle.schema_json.specs.declared.action_type.ApplySpec.{ApplySpec}
+use Rattle.schema_json.specs.declared.action_type.ActionEntityUID.{ActionEntityUID}
+use Rattle.schema_json.specs.declared.action_type.ActionType.{ActionType}
+use Rattle.schema_json.specs.declared.fragment.NamespaceDefinition.{NamespaceDefinition}
+
+-- what an optional part gives
+abbrev pub if_there : {A U : Type 0} → (A → List U) → Option A → List U
+if_there u None = []
+if_there u (Some a) = u a
+
+-- what each of a list gives
+abbrev pub each : {A U : Type 0} → (A → List U) → List A → List U
+each u xs = joined (map u xs)
+
+-- what the values of a map give, by key
+abbrev pub each_value : {K A U : Type 0} → (A → List U) → List (K × A) → List U
+each_value u xs = joined (map (λ e. u e.1) xs)
+
+-- u says what a name gives that asks for a type
+module _ {N U : Type 0} (u : N → List U) where
+  abbrev pub type_part : Type-F N (List U) (List U) (List U) (List U) → List U
+  type_part (Type-F.Variant ty loc) = ty
+  type_part (Type-F.CommonTypeRef name loc) = u name
+
+  abbrev pub variant_part : TypeVariant-F N (List U) (List U) (List U) (List U) → List U
+  variant_part (TypeVariant-F.Set element) = element
+  variant_part (TypeVariant-F.Record r) = r
+  variant_part (TypeVariant-F.Entity name) = u name
+  variant_part (TypeVariant-F.EntityOrCommon name) = u name
+  variant_part _ = []
+
+  abbrev pub record_part : RecordType-F N (List U) (List U) (List U) (List U) → List U
+  record_part r = joined (map (λ p. p.1) r.attributes)
+
+  abbrev pub attribute_part : TypeOfAttribute-F N (List U) (List U) (List U) (List U) → List U
+  attribute_part a = a.ty
+
+  abbrev pub of_type : «Type» N → List U
+  of_type = fold-Type N (List U) (List U) (List U) (List U) type_part variant_part record_part attribute_part
+
+  abbrev pub of_variant : TypeVariant N → List U
+  of_variant = fold-TypeVariant N (List U) (List U) (List U) (List U) type_part variant_part record_part attribute_part
+
+  abbrev pub of_record : RecordType N → List U
+  of_record = fold-RecordType N (List U) (List U) (List U) (List U) type_part variant_part record_part attribute_part
+
+  abbrev pub of_attribute : TypeOfAttribute N → List U
+  of_attribute = fold-TypeOfAttribute N (List U) (List U) (List U) (List U) type_part variant_part record_part attribute_part
+
+  abbrev pub of_entries : List (List ℕ × TypeOfAttribute N) → List U
+  of_entries entries = each_value of_attribute entries
+
+  abbrev pub of_common : CommonType N → List U
+  of_common c = of_type c.ty
+
+  abbrev pub of_context : AttributesOrContext N → List U
+  of_context c = of_type c.0
+
+  abbrev pub of_standard : StandardEntityType N → List U
+  of_standard s = each u s.member_of_types ++ (of_context s.shape ++ if_there of_type s.tags)
+
+  abbrev pub of_kind : EntityTypeKind N → List U
+  of_kind (Standard s) = of_standard s
+  of_kind (Enum choices) = []
+
+  abbrev pub of_entity : EntityType N → List U
+  of_entity e = of_kind e.kind
+
+  abbrev pub of_apply : ApplySpec N → List U
+  of_apply s = each u s.principal_types ++ (each u s.resource_types ++ of_context s.context)
+
+  -- w says what a reference to an action gives, by its id and its type
+  module _ (w : List ℕ → Option N → List U) where
+    abbrev pub of_uid : {G : named.Ghosts N} → ActionEntityUID N G → List U
+    of_uid a = w a.id a.ty
+
+    abbrev pub of_action : {G : named.Ghosts N} → ActionType N G → List U
+    of_action a = if_there (each of_uid) a.member_of ++ if_there of_apply a.applies_to
+
+    abbrev pub of_namespace : {G : named.Ghosts N} → NamespaceDefinition N G → List U
+    of_namespace n = each_value of_common n.common_types ++ (each_value of_entity n.entity_types ++ each_value of_action n.actions)

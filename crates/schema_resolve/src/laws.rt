@@ -1,0 +1,22 @@
+ghost use Rattle.std.specs.Prelude.{Some};
+ghost use Rattle.std.specs.Option.{option_copied};
+ghost use Rattle.schema_resolve.specs.FirstCandidate.{OwnThenPlain, ItselfOrNothing};
+
+use cedar_identifiers::{InternalName, RawName, ReferenceType};
+use cedar_names::AllDefs;
+
+/// An unqualified name in a namespace means what is defined there, and else what is defined in the empty namespace, each in
+/// the kind that is asked for.
+pub fn own_namespace_first(defs: &AllDefs, ns: &InternalName, kind: ReferenceType, name: &RawName)
+    ensures { OwnThenPlain defs.now ns.now kind name.now }
+{}
+
+/// A qualified name means itself or nothing, and so does any name in the empty namespace.
+pub fn itself_or_nothing(
+    defs: &AllDefs,
+    ns: Option<&InternalName>,
+    kind: ReferenceType,
+    name: &RawName,
+)
+    ensures { ItselfOrNothing defs.now (option_copied ns.entry) kind name.now }
+{}

@@ -1,0 +1,244 @@
+ghost use Rattle.std.specs.Prelude.{◌≡◌, [], map, IfOk, IfErr, OnOk};
+ghost use Rattle.std.specs.Option.{option_map};
+ghost use Rattle.schema_resolve.specs.Faults.{NamesFirst};
+ghost use Rattle.schema_resolve.specs.Renamed.{renamed, renamed_common, renamed_context, renamed_standard, renamed_kind, renamed_entity, renamed_apply, renamed_uid, renamed_action};
+ghost use Rattle.schema_resolve.specs.Walk.{each, if_there, of_type, of_common, of_context, of_standard, of_kind, of_entity, of_apply, of_uid, of_action};
+
+use crate::rename_types::rename_type;
+use crate::renamer::{ActionRenamer, Renamer};
+use crate::resolve_error::ResolveError;
+use cedar_data::{CloneIn, List};
+use cedar_identifiers::{NameText, ReferenceType};
+use schema_json::{
+    ActionEntityUID, ActionType, ApplySpec, AttributesOrContext, CommonType, EntityType,
+    EntityTypeKind, StandardEntityType, Type,
+};
+use std::alloc::Global;
+
+// The entity types that are named, each replaced.
+fn rename_names<N, M: Drop, R: Renamer<N, M>>(
+    alloc: Global,
+    renamer: &R,
+    names: &[N],
+) -> Result<List<M>, ResolveError>
+    ensures out { IfOk result (λ out. out ≡ map (R.becomes renamer.now ReferenceType.Entity) names.now) }
+    ensures defined { OnOk result (each (R.lacks renamer.now) names.now ≡ []) }
+    ensures err { IfErr result (NamesFirst (each (R.lacks renamer.now) names.now)) }
+{
+    let mut out = Vec::new(alloc);
+    for name in names {
+        let name = renamer.rename(alloc, ReferenceType::Entity, name)?;
+        out.push(name)?;
+    }
+    Ok(List::from_vec(out))
+}
+
+// A declared common type, with each name replaced.
+pub(crate) fn rename_common<N, M: Drop, R: Renamer<N, M>>(
+    alloc: Global,
+    renamer: &R,
+    common: &CommonType<N>,
+) -> Result<CommonType<M>, ResolveError>
+    ensures out { IfOk result (λ out. out ≡ renamed_common (R.becomes renamer.now) common.now) }
+    ensures defined { OnOk result (of_common (R.lacks renamer.now) common.now ≡ []) }
+    ensures err { IfErr result (NamesFirst (of_common (R.lacks renamer.now) common.now)) }
+{
+    Ok(CommonType {
+        ty: rename_type(alloc, renamer, &common.ty)?,
+        annotations: common.annotations.clone_in(alloc)?,
+        loc: common.loc,
+    })
+}
+
+// The same of a shape or a context.
+pub(crate) fn rename_context<N, M: Drop, R: Renamer<N, M>>(
+    alloc: Global,
+    renamer: &R,
+    context: &AttributesOrContext<N>,
+) -> Result<AttributesOrContext<M>, ResolveError>
+    ensures out { IfOk result (λ out. out ≡ renamed_context (R.becomes renamer.now) context.now) }
+    ensures defined { OnOk result (of_context (R.lacks renamer.now) context.now ≡ []) }
+    ensures err { IfErr result (NamesFirst (of_context (R.lacks renamer.now) context.now)) }
+{
+    Ok(AttributesOrContext(rename_type(alloc, renamer, &context.0)?))
+}
+
+// The same of the type of tags.
+fn rename_tags<N, M: Drop, R: Renamer<N, M>>(
+    alloc: Global,
+    renamer: &R,
+    tags: &Option<Type<N>>,
+) -> Result<Option<Type<M>>, ResolveError>
+    ensures out { IfOk result (λ out. out ≡ option_map (renamed (R.becomes renamer.now)) tags.now) }
+    ensures defined { OnOk result (if_there (of_type (R.lacks renamer.now)) tags.now ≡ []) }
+    ensures err { IfErr result (NamesFirst (if_there (of_type (R.lacks renamer.now)) tags.now)) }
+{
+    match tags {
+        Some(tags) => Ok(Some(rename_type(alloc, renamer, tags)?)),
+        None => Ok(None),
+    }
+}
+
+// The same of what is declared of an entity type that is no enum.
+fn rename_standard<N, M: Drop, R: Renamer<N, M>>(
+    alloc: Global,
+    renamer: &R,
+    standard: &StandardEntityType<N>,
+) -> Result<StandardEntityType<M>, ResolveError>
+    ensures out { IfOk result (λ out. out ≡ renamed_standard (R.becomes renamer.now) standard.now) }
+    ensures defined { OnOk result (of_standard (R.lacks renamer.now) standard.now ≡ []) }
+    ensures err { IfErr result (NamesFirst (of_standard (R.lacks renamer.now) standard.now)) }
+{
+    let member_of_types = rename_names(alloc, renamer, standard.member_of_types.as_slice())?;
+    let shape = rename_context(alloc, renamer, &standard.shape)?;
+    let tags = rename_tags(alloc, renamer, &standard.tags)?;
+    Ok(StandardEntityType {
+        member_of_types,
+        shape,
+        tags,
+    })
+}
+
+// The same of what is declared of any entity type.
+fn rename_kind<N, M: Drop, R: Renamer<N, M>>(
+    alloc: Global,
+    renamer: &R,
+    kind: &EntityTypeKind<N>,
+) -> Result<EntityTypeKind<M>, ResolveError>
+    ensures out { IfOk result (λ out. out ≡ renamed_kind (R.becomes renamer.now) kind.now) }
+    ensures defined { OnOk result (of_kind (R.lacks renamer.now) kind.now ≡ []) }
+    ensures err { IfErr result (NamesFirst (of_kind (R.lacks renamer.now) kind.now)) }
+{
+    match kind {
+        EntityTypeKind::Standard(standard) => Ok(EntityTypeKind::Standard(rename_standard(
+            alloc, renamer, standard,
+        )?)),
+        EntityTypeKind::Enum { choices } => Ok(EntityTypeKind::Enum {
+            choices: choices.clone_in(alloc)?,
+        }),
+    }
+}
+
+// The same of an entity type.
+pub(crate) fn rename_entity<N, M: Drop, R: Renamer<N, M>>(
+    alloc: Global,
+    renamer: &R,
+    entity: &EntityType<N>,
+) -> Result<EntityType<M>, ResolveError>
+    ensures out { IfOk result (λ out. out ≡ renamed_entity (R.becomes renamer.now) entity.now) }
+    ensures defined { OnOk result (of_entity (R.lacks renamer.now) entity.now ≡ []) }
+    ensures err { IfErr result (NamesFirst (of_entity (R.lacks renamer.now) entity.now)) }
+{
+    Ok(EntityType {
+        kind: rename_kind(alloc, renamer, &entity.kind)?,
+        external: entity.external,
+        annotations: entity.annotations.clone_in(alloc)?,
+        loc: entity.loc,
+    })
+}
+
+// The same of what an action applies to: its principals, its resources, its context.
+pub(crate) fn rename_apply<N, M: Drop, R: Renamer<N, M>>(
+    alloc: Global,
+    renamer: &R,
+    spec: &ApplySpec<N>,
+) -> Result<ApplySpec<M>, ResolveError>
+    ensures out { IfOk result (λ out. out ≡ renamed_apply (R.becomes renamer.now) spec.now) }
+    ensures defined { OnOk result (of_apply (R.lacks renamer.now) spec.now ≡ []) }
+    ensures err { IfErr result (NamesFirst (of_apply (R.lacks renamer.now) spec.now)) }
+{
+    let principal_types = rename_names(alloc, renamer, spec.principal_types.as_slice())?;
+    let resource_types = rename_names(alloc, renamer, spec.resource_types.as_slice())?;
+    let context = rename_context(alloc, renamer, &spec.context)?;
+    Ok(ApplySpec {
+        resource_types,
+        principal_types,
+        context,
+    })
+}
+
+// The same of a reference to an action.
+pub(crate) fn rename_uid<N: NameText, M: NameText + Drop, R: Renamer<N, M> + ActionRenamer<N, M>>(
+    alloc: Global,
+    renamer: &R,
+    uid: &ActionEntityUID<N>,
+) -> Result<ActionEntityUID<M>, ResolveError>
+    ensures out { IfOk result (λ out. out ≡ renamed_uid (R.becomes renamer.now) (R.action_becomes renamer.now) uid.now) }
+    ensures defined { OnOk result (of_uid (R.lacks renamer.now) (R.lacks_action renamer.now) uid.now ≡ []) }
+    ensures err { IfErr result (NamesFirst (of_uid (R.lacks renamer.now) (R.lacks_action renamer.now) uid.now)) }
+{
+    let ty = renamer.rename_action(alloc, uid)?;
+    Ok(ActionEntityUID::with_type(ty, uid.id.clone_in(alloc)?))
+}
+
+// The same of references to actions.
+fn rename_uids<N: NameText, M: NameText + Drop, R: Renamer<N, M> + ActionRenamer<N, M>>(
+    alloc: Global,
+    renamer: &R,
+    uids: &[ActionEntityUID<N>],
+) -> Result<List<ActionEntityUID<M>>, ResolveError>
+    ensures out { IfOk result (λ out. out ≡ map (renamed_uid (R.becomes renamer.now) (R.action_becomes renamer.now)) uids.now) }
+    ensures defined { OnOk result (each (of_uid (R.lacks renamer.now) (R.lacks_action renamer.now)) uids.now ≡ []) }
+    ensures err { IfErr result (NamesFirst (each (of_uid (R.lacks renamer.now) (R.lacks_action renamer.now)) uids.now)) }
+{
+    let mut out = Vec::new(alloc);
+    for uid in uids {
+        let uid = rename_uid(alloc, renamer, uid)?;
+        out.push(uid)?;
+    }
+    Ok(List::from_vec(out))
+}
+
+// The same of an action's parents.
+fn rename_parents<N: NameText, M: NameText + Drop, R: Renamer<N, M> + ActionRenamer<N, M>>(
+    alloc: Global,
+    renamer: &R,
+    parents: &Option<List<ActionEntityUID<N>>>,
+) -> Result<Option<List<ActionEntityUID<M>>>, ResolveError>
+    ensures out { IfOk result (λ out. out ≡ option_map (map (renamed_uid (R.becomes renamer.now) (R.action_becomes renamer.now))) parents.now) }
+    ensures defined { OnOk result (if_there (each (of_uid (R.lacks renamer.now) (R.lacks_action renamer.now))) parents.now ≡ []) }
+    ensures err { IfErr result (NamesFirst (if_there (each (of_uid (R.lacks renamer.now) (R.lacks_action renamer.now))) parents.now)) }
+{
+    match parents {
+        Some(parents) => Ok(Some(rename_uids(alloc, renamer, parents.as_slice())?)),
+        None => Ok(None),
+    }
+}
+
+// The same of what an action applies to, where that is said.
+fn rename_application<N, M: Drop, R: Renamer<N, M>>(
+    alloc: Global,
+    renamer: &R,
+    spec: &Option<ApplySpec<N>>,
+) -> Result<Option<ApplySpec<M>>, ResolveError>
+    ensures out { IfOk result (λ out. out ≡ option_map (renamed_apply (R.becomes renamer.now)) spec.now) }
+    ensures defined { OnOk result (if_there (of_apply (R.lacks renamer.now)) spec.now ≡ []) }
+    ensures err { IfErr result (NamesFirst (if_there (of_apply (R.lacks renamer.now)) spec.now)) }
+{
+    match spec {
+        Some(spec) => Ok(Some(rename_apply(alloc, renamer, spec)?)),
+        None => Ok(None),
+    }
+}
+
+// The same of an action: its parents, then what it applies to.
+pub(crate) fn rename_action<
+    N: NameText,
+    M: NameText + Drop,
+    R: Renamer<N, M> + ActionRenamer<N, M>,
+>(alloc: Global, renamer: &R, action: &ActionType<N>) -> Result<ActionType<M>, ResolveError>
+    ensures out { IfOk result (λ out. out ≡ renamed_action (R.becomes renamer.now) (R.action_becomes renamer.now) action.now) }
+    ensures defined { OnOk result (of_action (R.lacks renamer.now) (R.lacks_action renamer.now) action.now ≡ []) }
+    ensures err { IfErr result (NamesFirst (of_action (R.lacks renamer.now) (R.lacks_action renamer.now) action.now)) }
+{
+    let member_of = rename_parents(alloc, renamer, &action.member_of)?;
+    let applies_to = rename_application(alloc, renamer, &action.applies_to)?;
+    Ok(ActionType {
+        attributes: action.attributes.clone_in(alloc)?,
+        applies_to,
+        member_of,
+        external: action.external,
+        annotations: action.annotations.clone_in(alloc)?,
+        loc: action.loc,
+    })
+}

@@ -1,0 +1,129 @@
+ghost use Rattle.std.specs.Prelude.{◌≡◌, [], IfOk, IfErr, OnOk};
+ghost use Rattle.schema_resolve.specs.Faults.{NamesFirst};
+ghost use Rattle.schema_resolve.specs.Renamed.{renamed, renamed_variant, renamed_record, renamed_attribute, renamed_entries};
+ghost use Rattle.schema_resolve.specs.Walk.{of_type, of_variant, of_record, of_attribute, of_entries};
+
+use crate::renamer::Renamer;
+use crate::resolve_error::ResolveError;
+use cedar_data::{Boxed, CloneIn, Map, Text};
+use cedar_identifiers::ReferenceType;
+use schema_json::{RecordType, Type, TypeOfAttribute, TypeVariant};
+use std::alloc::Global;
+
+// The type with each name replaced, or its first reference that means nothing.
+#[cycle(rename)]
+pub(crate) fn rename_type<N, M: Drop, R: Renamer<N, M>>(
+    alloc: Global,
+    renamer: &R,
+    ty: &Type<N>,
+) -> Result<Type<M>, ResolveError>
+    ensures out { IfOk result (λ out. out ≡ renamed (R.becomes renamer.now) ty.now) }
+    ensures defined { OnOk result (of_type (R.lacks renamer.now) ty.now ≡ []) }
+    ensures err { IfErr result (NamesFirst (of_type (R.lacks renamer.now) ty.now)) }
+{
+    match ty {
+        Type::Variant { ty, loc } => Ok(Type::Variant {
+            ty: rename_variant(alloc, renamer, ty)?,
+            loc: *loc,
+        }),
+        Type::CommonTypeRef { type_name, loc } => Ok(Type::CommonTypeRef {
+            type_name: renamer.rename(alloc, ReferenceType::Common, type_name)?,
+            loc: *loc,
+        }),
+    }
+}
+
+// The same of a shape.
+#[cycle(rename)]
+pub(crate) fn rename_variant<N, M: Drop, R: Renamer<N, M>>(
+    alloc: Global,
+    renamer: &R,
+    ty: &TypeVariant<N>,
+) -> Result<TypeVariant<M>, ResolveError>
+    ensures out { IfOk result (λ out. out ≡ renamed_variant (R.becomes renamer.now) ty.now) }
+    ensures defined { OnOk result (of_variant (R.lacks renamer.now) ty.now ≡ []) }
+    ensures err { IfErr result (NamesFirst (of_variant (R.lacks renamer.now) ty.now)) }
+{
+    match ty {
+        TypeVariant::String => Ok(TypeVariant::String),
+        TypeVariant::Long => Ok(TypeVariant::Long),
+        TypeVariant::Boolean => Ok(TypeVariant::Boolean),
+        TypeVariant::Set { element } => {
+            let element = rename_type(alloc, renamer, element.get())?;
+            Ok(TypeVariant::Set {
+                element: Boxed::new(alloc, element)?,
+            })
+        }
+        TypeVariant::Record(fields) => {
+            Ok(TypeVariant::Record(rename_record(alloc, renamer, fields)?))
+        }
+        TypeVariant::Entity { name } => Ok(TypeVariant::Entity {
+            name: renamer.rename(alloc, ReferenceType::Entity, name)?,
+        }),
+        TypeVariant::EntityOrCommon { type_name } => Ok(TypeVariant::EntityOrCommon {
+            type_name: renamer.rename(alloc, ReferenceType::CommonOrEntity, type_name)?,
+        }),
+        TypeVariant::Extension { name } => Ok(TypeVariant::Extension {
+            name: name.clone_in(alloc)?,
+        }),
+    }
+}
+
+// The same of a record type.
+#[cycle(rename)]
+pub(crate) fn rename_record<N, M: Drop, R: Renamer<N, M>>(
+    alloc: Global,
+    renamer: &R,
+    fields: &RecordType<N>,
+) -> Result<RecordType<M>, ResolveError>
+    ensures out { IfOk result (λ out. out ≡ renamed_record (R.becomes renamer.now) fields.now) }
+    ensures defined { OnOk result (of_record (R.lacks renamer.now) fields.now ≡ []) }
+    ensures err { IfErr result (NamesFirst (of_record (R.lacks renamer.now) fields.now)) }
+{
+    Ok(RecordType {
+        attributes: Map::from_sorted_vec(rename_entries(
+            alloc,
+            renamer,
+            fields.attributes.as_slice(),
+        )?),
+        additional_attributes: fields.additional_attributes,
+    })
+}
+
+// The same of an attribute's type.
+#[cycle(rename)]
+pub(crate) fn rename_attribute<N, M: Drop, R: Renamer<N, M>>(
+    alloc: Global,
+    renamer: &R,
+    attribute: &TypeOfAttribute<N>,
+) -> Result<TypeOfAttribute<M>, ResolveError>
+    ensures out { IfOk result (λ out. out ≡ renamed_attribute (R.becomes renamer.now) attribute.now) }
+    ensures defined { OnOk result (of_attribute (R.lacks renamer.now) attribute.now ≡ []) }
+    ensures err { IfErr result (NamesFirst (of_attribute (R.lacks renamer.now) attribute.now)) }
+{
+    Ok(TypeOfAttribute {
+        ty: rename_type(alloc, renamer, &attribute.ty)?,
+        annotations: attribute.annotations.clone_in(alloc)?,
+        required: attribute.required,
+    })
+}
+
+// The same of attributes, in order.
+#[cycle(rename)]
+fn rename_entries<N, M: Drop, R: Renamer<N, M>>(
+    alloc: Global,
+    renamer: &R,
+    entries: &[(Text, TypeOfAttribute<N>)],
+) -> Result<Vec<(Text, TypeOfAttribute<M>)>, ResolveError>
+    ensures out { IfOk result (λ out. out.items ≡ renamed_entries (R.becomes renamer.now) entries.now) }
+    ensures defined { OnOk result (of_entries (R.lacks renamer.now) entries.now ≡ []) }
+    ensures err { IfErr result (NamesFirst (of_entries (R.lacks renamer.now) entries.now)) }
+{
+    let mut out = Vec::new(alloc);
+    for (name, attribute) in entries {
+        let name = name.clone_in(alloc)?;
+        let attribute = rename_attribute(alloc, renamer, attribute)?;
+        out.push((name, attribute))?;
+    }
+    Ok(out)
+}

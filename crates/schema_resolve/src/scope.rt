@@ -1,0 +1,70 @@
+ghost use Rattle.std.specs.Prelude.{◌≡◌, [], Ok, IfOk};
+ghost use Rattle.std.specs.Option.{option_copied};
+ghost use Rattle.cedar_identifiers.specs.declared.reference_type.ReferenceType.TheVariants.{Entity};
+ghost use Rattle.schema_json.specs.Actions.{written_type};
+ghost use Rattle.schema_resolve.specs.Qualified.{in_namespace, type_in_namespace};
+
+use crate::renamer::{ActionRenamer, Renamer};
+use crate::resolve_error::ResolveError;
+use cedar_data::CloneIn;
+use cedar_identifiers::{ConditionalName, InternalName, RawName, ReferenceType};
+use schema_json::ActionEntityUID;
+use schema_json::action_uid::action_name;
+use std::alloc::{AllocError, Global};
+
+// The namespace that names stand in.
+#[derive(Drop)]
+pub(crate) struct Scope<'a> {
+    pub(crate) ns: Option<&'a InternalName>,
+}
+
+impl<'a> Renamer<RawName, ConditionalName> for Scope<'a> {
+    ghost becomes = { λ s role name. in_namespace (option_copied s.ns) role name };
+
+    ghost lacks = { λ _ _. [] };
+
+    fn rename(
+        &self,
+        alloc: Global,
+        role: ReferenceType,
+        name: &RawName,
+    ) -> Result<ConditionalName, ResolveError> {
+        let copy = name.clone_in(alloc)?;
+        Ok(copy.conditionally_qualify_with(alloc, self.ns, role)?)
+    }
+}
+
+impl<'a> ActionRenamer<RawName, ConditionalName> for Scope<'a> {
+    ghost action_becomes = { λ s id ty. type_in_namespace (option_copied s.ns) id ty };
+
+    ghost lacks_action = { λ _ _ _. [] };
+
+    fn rename_action(
+        &self,
+        alloc: Global,
+        uid: &ActionEntityUID<RawName>,
+    ) -> Result<ConditionalName, ResolveError> {
+        let ty = written(alloc, &uid.ty)?;
+        Ok(ty.conditionally_qualify_with(alloc, self.ns, ReferenceType::Entity)?)
+    }
+}
+
+// The type as it is written, and `Action` where none is.
+fn written(alloc: Global, ty: &Option<RawName>) -> Result<RawName, AllocError>
+    ensures { IfOk result (λ name. name ≡ record { name = written_type ty.now }) }
+{
+    match ty {
+        Some(ty) => ty.clone_in(alloc),
+        None => Ok(RawName::from_internal(action_name(alloc)?)),
+    }
+}
+
+// The answer, or want of memory.
+pub(crate) fn or_memory<T>(answer: Result<T, ResolveError>) -> Result<T, AllocError>
+    ensures { IfOk result (λ out. answer ≡ Ok out) }
+{
+    match answer {
+        Ok(out) => Ok(out),
+        Err(_) => Err(AllocError),
+    }
+}

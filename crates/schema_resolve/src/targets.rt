@@ -1,0 +1,116 @@
+ghost use Rattle.std.specs.Prelude.{◌≡◌, [], Ok, IfOk, find};
+ghost use Rattle.std.specs.Option.{option_copied};
+ghost use Rattle.cedar_identifiers.specs.Names.{components_of};
+ghost use Rattle.schema_resolve.specs.Targets.{is_defined, is_action, target_name, action_target_name, lacks, lacks_action};
+
+use crate::renamer::{ActionRenamer, Renamer};
+use crate::resolve_error::{ActionNotDefinedError, ResolveError, TypeNotDefinedError};
+use cedar_data::{CloneIn, NonEmpty, Text};
+use cedar_identifiers::{ConditionalName, Eid, InternalName, Name, ReferenceType};
+use cedar_names::{AllDefs, EntityUID};
+use schema_json::ActionEntityUID;
+use std::alloc::{AllocError, Global};
+
+// Whether the name is defined in the kind that is asked for.
+fn is_defined(defs: &AllDefs, kind: ReferenceType, name: &InternalName) -> bool
+    ensures { result ≡ is_defined defs.now kind (components_of name.now) }
+{
+    match kind {
+        ReferenceType::Common => defs.is_defined_as_common(name),
+        ReferenceType::Entity => defs.is_defined_as_entity(name),
+        ReferenceType::CommonOrEntity => {
+            defs.is_defined_as_common(name) || defs.is_defined_as_entity(name)
+        }
+    }
+}
+
+// The first of the names that is defined in the kind that is asked for.
+fn first_defined<'a>(
+    defs: &AllDefs,
+    kind: ReferenceType,
+    names: &'a NonEmpty<InternalName>,
+) -> Option<&'a InternalName>
+    ensures { option_copied result ≡ find (λ name. is_defined defs.now kind (components_of name)) names.now }
+{
+    for name in names.iter() {
+        if is_defined(defs, kind, name) {
+            return Some(name);
+        }
+    }
+    None
+}
+
+impl Renamer<ConditionalName, InternalName> for AllDefs {
+    ghost becomes = { target_name };
+
+    ghost lacks = { lacks };
+
+    fn rename(
+        &self,
+        alloc: Global,
+        _role: ReferenceType,
+        name: &ConditionalName,
+    ) -> Result<InternalName, ResolveError> {
+        match first_defined(self, name.reference_type, &name.possibilities) {
+            Some(target) => Ok(target.clone_in(alloc)?),
+            None => Err(ResolveError::TypeNotDefined(TypeNotDefinedError {
+                undefined_types: NonEmpty::new(alloc, name.clone_in(alloc)?),
+            })),
+        }
+    }
+}
+
+// Whether an action with this type and id is defined.
+fn is_action(
+    alloc: Global,
+    defs: &AllDefs,
+    id: &Text,
+    ty: &InternalName,
+) -> Result<bool, AllocError>
+    ensures { IfOk result (λ answer. answer ≡ is_action defs.now id.now ty.now) }
+{
+    match Name::from_internal(ty.clone_in(alloc)?) {
+        Some(ty) => {
+            let eid = Eid(id.clone_in(alloc)?);
+            Ok(defs.is_defined_as_action(&EntityUID { ty, eid, loc: None }))
+        }
+        None => Ok(false),
+    }
+}
+
+// The first of the types with which the action is defined.
+fn first_action<'a>(
+    alloc: Global,
+    defs: &AllDefs,
+    id: &Text,
+    types: &'a NonEmpty<InternalName>,
+) -> Result<Option<&'a InternalName>, AllocError>
+    ensures { IfOk result (λ found. option_copied found ≡ find (is_action defs.now id.now) types.now) }
+{
+    for ty in types.iter() {
+        if is_action(alloc, defs, id, ty)? {
+            return Ok(Some(ty));
+        }
+    }
+    Ok(None)
+}
+
+impl ActionRenamer<ConditionalName, InternalName> for AllDefs {
+    ghost action_becomes = { action_target_name };
+
+    ghost lacks_action = { lacks_action };
+
+    fn rename_action(
+        &self,
+        alloc: Global,
+        uid: &ActionEntityUID<ConditionalName>,
+    ) -> Result<InternalName, ResolveError> {
+        match first_action(alloc, self, &uid.id, &uid.ty().possibilities)? {
+            Some(target) => Ok(target.clone_in(alloc)?),
+            None => Err(ResolveError::ActionNotDefined(ActionNotDefinedError(NonEmpty::new(
+                alloc,
+                uid.clone_in(alloc)?,
+            )))),
+        }
+    }
+}

@@ -1,0 +1,261 @@
+use crate::laws::{itself_or_nothing, own_namespace_first};
+use crate::{FullyQualify, Qualify, ResolveError};
+use cedar_data::{List, Map, Text};
+use cedar_identifiers::{
+    Annotations, Eid, InternalName, Name, NameText, RawName, ReferenceType, UnreservedId,
+};
+use cedar_names::{AllDefs, EntityUID};
+use schema_json::{
+    ActionEntityUID, ActionType, ApplySpec, AttributesOrContext, EntityType, EntityTypeKind,
+    NamespaceDefinition, RecordType, StandardEntityType, Type, TypeOfAttribute, TypeVariant,
+};
+use std::alloc::{AllocError, Global};
+use std::collections::BTreeMap;
+use std::test::Fail;
+
+fn name(alloc: Global, text: &str) -> Result<InternalName, Fail> {
+    Ok(InternalName::from_normalized_str(alloc, text)?)
+}
+
+fn raw(alloc: Global, text: &str) -> Result<RawName, Fail> {
+    Ok(RawName::from_normalized_str(alloc, text)?)
+}
+
+/// The common types `N::T`, `V` and `E`, the entity types `N::T`, `U` and `N::M::T`, and the action `a` of `N`.
+fn definitions(alloc: Global) -> Result<AllDefs, Fail> {
+    let mut defs = AllDefs::new(alloc);
+    for common in ["N::T", "V", "E"] {
+        defs.mark_as_defined_as_common_type(name(alloc, common)?)?;
+    }
+    for entity in ["N::T", "U", "N::M::T", "N::V"] {
+        defs.mark_as_defined_as_entity_type(name(alloc, entity)?)?;
+    }
+    defs.mark_as_defined_as_action(EntityUID {
+        ty: Name::from_normalized_str(alloc, "N::Action")?,
+        eid: Eid(Text::from_str(alloc, "a")?),
+        loc: None,
+    })?;
+    Ok(defs)
+}
+
+/// A type that refers to this name, and must or may mean a common type.
+fn reference<N>(kind: ReferenceType, type_name: N) -> Type<N> {
+    match kind {
+        ReferenceType::Common => Type::CommonTypeRef {
+            type_name,
+            loc: None,
+        },
+        ReferenceType::Entity => Type::Variant {
+            ty: TypeVariant::Entity { name: type_name },
+            loc: None,
+        },
+        ReferenceType::CommonOrEntity => Type::Variant {
+            ty: TypeVariant::EntityOrCommon { type_name },
+            loc: None,
+        },
+    }
+}
+
+// A name in the namespace `N`, what it asks for, and the name of what it means, if it means something.
+const REFERENCES: [(&str, ReferenceType, &str); 9] = [
+    ("T", ReferenceType::CommonOrEntity, "N::T"),
+    ("T", ReferenceType::Entity, "N::T"),
+    ("V", ReferenceType::CommonOrEntity, "N::V"),
+    ("V", ReferenceType::Common, "V"),
+    ("V", ReferenceType::Entity, "N::V"),
+    ("U", ReferenceType::Entity, "U"),
+    ("U", ReferenceType::Common, ""),
+    ("M::T", ReferenceType::CommonOrEntity, ""),
+    ("N::M::T", ReferenceType::CommonOrEntity, "N::M::T"),
+];
+
+/// The type that a type of names means in the namespace, if it means something.
+fn meant(
+    alloc: Global,
+    defs: &AllDefs,
+    ns: &InternalName,
+    ty: Type<RawName>,
+) -> Result<Option<Type<InternalName>>, Fail> {
+    let qualified = ty.conditionally_qualify_type_references(alloc, Some(ns))?;
+    match qualified.fully_qualify_type_references(defs) {
+        Ok(ty) => Ok(Some(ty)),
+        Err(ResolveError::TypeNotDefined(_)) => Ok(None),
+        Err(_) => Err(Fail::from(AllocError)),
+    }
+}
+
+#[test]
+fn references_mean_the_first_candidate(rt: HostRuntime) -> Result<(), Fail> {
+    let defs = definitions(rt.alloc())?;
+    let ns = name(rt.alloc(), "N")?;
+    for (text, kind, target) in &REFERENCES {
+        let written = reference(*kind, raw(rt.alloc(), text)?);
+        match meant(rt.alloc(), &defs, &ns, written)? {
+            Some(ty) => {
+                let expected = reference(*kind, name(rt.alloc(), target)?);
+                assert!(rt; ty == expected, "{text}");
+            }
+            None => assert!(rt; target.is_empty(), "{text}"),
+        }
+    }
+    own_namespace_first(&defs, &ns, ReferenceType::Entity, &raw(rt.alloc(), "T")?);
+    itself_or_nothing(&defs, None, ReferenceType::Entity, &raw(rt.alloc(), "T")?);
+    Ok(())
+}
+
+/// The answer, which is no error.
+fn done<T>(answer: Result<T, ResolveError>) -> Result<T, Fail> {
+    match answer {
+        Ok(out) => Ok(out),
+        Err(_) => Err(Fail::from(AllocError)),
+    }
+}
+
+/// The records with an attribute `k` of this type.
+fn record<N: Drop>(alloc: Global, ty: Type<N>) -> Result<RecordType<N>, Fail> {
+    let mut attributes = BTreeMap::new(alloc);
+    attributes.insert(Text::from_str(alloc, "k")?, attribute(alloc, ty))?;
+    Ok(RecordType {
+        attributes: Map::from_tree(alloc, attributes)?,
+        additional_attributes: false,
+    })
+}
+
+/// A required attribute.
+fn attribute<N: Drop>(alloc: Global, ty: Type<N>) -> TypeOfAttribute<N> {
+    TypeOfAttribute {
+        ty,
+        annotations: Annotations::new(alloc),
+        required: true,
+    }
+}
+
+/// An entity type with this parent and tags of this type.
+fn entity<N: Drop>(
+    alloc: Global,
+    parent: N,
+    shape: N,
+    tags: Type<N>,
+) -> Result<EntityType<N>, Fail> {
+    let mut member_of_types = List::new(alloc);
+    member_of_types.push(parent)?;
+    Ok(EntityType {
+        kind: EntityTypeKind::Standard(StandardEntityType {
+            member_of_types,
+            shape: AttributesOrContext(reference(ReferenceType::Common, shape)),
+            tags: Some(tags),
+        }),
+        external: false,
+        annotations: Annotations::new(alloc),
+        loc: None,
+    })
+}
+
+/// An action with this parent, that applies to this principal in this context.
+fn action<N: NameText + Drop>(
+    alloc: Global,
+    parent: ActionEntityUID<N>,
+    principal: N,
+    context: N,
+) -> Result<ActionType<N>, Fail> {
+    let mut parents = List::new(alloc);
+    parents.push(parent)?;
+    let mut principal_types = List::new(alloc);
+    principal_types.push(principal)?;
+    Ok(ActionType {
+        attributes: None,
+        applies_to: Some(ApplySpec {
+            resource_types: List::new(alloc),
+            principal_types,
+            context: AttributesOrContext(reference(ReferenceType::Common, context)),
+        }),
+        member_of: Some(parents),
+        external: false,
+        annotations: Annotations::new(alloc),
+        loc: None,
+    })
+}
+
+/// A namespace with an entity type `A` and an action `b`.
+fn namespace<N: NameText + Drop>(
+    alloc: Global,
+    entity: EntityType<N>,
+    action: ActionType<N>,
+) -> Result<NamespaceDefinition<N>, Fail> {
+    let mut entity_types = BTreeMap::new(alloc);
+    entity_types.insert(UnreservedId::from_normalized_str(alloc, "A")?, entity)?;
+    let mut actions = BTreeMap::new(alloc);
+    actions.insert(Text::from_str(alloc, "b")?, action)?;
+    Ok(NamespaceDefinition {
+        common_types: Map::new(alloc),
+        entity_types: Map::from_tree(alloc, entity_types)?,
+        actions: Map::from_tree(alloc, actions)?,
+        annotations: Annotations::new(alloc),
+    })
+}
+
+#[test]
+fn records_and_attributes_are_resolved(rt: HostRuntime) -> Result<(), Fail> {
+    let alloc = rt.alloc();
+    let defs = definitions(alloc)?;
+    let written = record(alloc, reference(ReferenceType::Common, raw(alloc, "V")?))?;
+    let found = written.conditionally_qualify_type_references(alloc, None)?;
+    let expected = record(alloc, reference(ReferenceType::Common, name(alloc, "V")?))?;
+    assert!(rt; done(found.fully_qualify_type_references(&defs))? == expected);
+
+    let written = attribute(alloc, reference(ReferenceType::Entity, raw(alloc, "U")?));
+    let found = written.conditionally_qualify_type_references(alloc, None)?;
+    let expected = attribute(alloc, reference(ReferenceType::Entity, name(alloc, "U")?));
+    assert!(rt; done(found.fully_qualify_type_references(&defs))? == expected);
+
+    let written = TypeVariant::Entity {
+        name: raw(alloc, "U")?,
+    };
+    let found = written.conditionally_qualify_type_references(alloc, None)?;
+    let expected = TypeVariant::Entity {
+        name: name(alloc, "U")?,
+    };
+    assert!(rt; done(found.fully_qualify_type_references(&defs))? == expected);
+
+    let written = AttributesOrContext(reference(ReferenceType::Common, raw(alloc, "V")?));
+    let found = written.conditionally_qualify_type_references(alloc, None)?;
+    let expected = AttributesOrContext(reference(ReferenceType::Common, name(alloc, "V")?));
+    assert!(rt; done(found.fully_qualify_type_references(&defs))? == expected);
+    Ok(())
+}
+
+#[test]
+fn namespaces_are_resolved(rt: HostRuntime) -> Result<(), Fail> {
+    let alloc = rt.alloc();
+    let defs = definitions(alloc)?;
+    let ns = name(alloc, "N")?;
+    let written = namespace(
+        alloc,
+        entity(
+            alloc,
+            raw(alloc, "T")?,
+            raw(alloc, "E")?,
+            reference(ReferenceType::Entity, raw(alloc, "U")?),
+        )?,
+        action(
+            alloc,
+            ActionEntityUID::default_type(Text::from_str(alloc, "a")?),
+            raw(alloc, "V")?,
+            raw(alloc, "V")?,
+        )?,
+    )?;
+    let found = written.conditionally_qualify_type_references(alloc, Some(&ns))?;
+    let uid = ActionEntityUID::with_type(name(alloc, "N::Action")?, Text::from_str(alloc, "a")?);
+    let expected = namespace(
+        alloc,
+        entity(
+            alloc,
+            name(alloc, "N::T")?,
+            name(alloc, "E")?,
+            reference(ReferenceType::Entity, name(alloc, "U")?),
+        )?,
+        action(alloc, uid, name(alloc, "N::V")?, name(alloc, "V")?)?,
+    )?;
+    assert!(rt; done(found.fully_qualify_type_references(&defs))? == expected);
+    Ok(())
+}
