@@ -1,11 +1,10 @@
 #!/usr/bin/env python3
-"""Times the translation of generated schemas to fragments, and the resolution of the names in them, and prints ratios.
+"""Times the translation of generated schemas to fragments, and prints ratios.
 
 usage: bench/translate.py [RUNS]      (from the top of the repository, with crates/schema_bench built: rt run schema_bench)
 
-The texts of `bench/parse.py` with 1, 2 and 4 MiB are translated; then fragments with 25,000, 50,000 and 100,000 references
-to half as many names, shuffled, are translated and resolved. Wanted: growth of at most 2.3 for a doubled text, and for a
-doubled number of references and names.
+The texts of `bench/parse.py` with 1, 2 and 4 MiB are translated, and then schemas of one namespace with 25,000, 50,000 and
+100,000 references to half as many entity types, shuffled. Wanted: growth of at most 2.3 where either is doubled.
 """
 
 import os
@@ -23,13 +22,13 @@ def references(count):
     return "namespace Area {\n" + "".join(parts) + "}\n"
 
 
-def measure(name, word, text, path, last):
+def measure(name, text, path, last):
     with open(path, "w") as file:
         file.write(text)
-    seconds, memory = parse.timed(word, path)
+    seconds, memory = parse.timed("translate", path)
     parsing, _ = parse.timed("parse", path)
     growth = f"  growth {seconds / last:4.2f}" if last else ""
-    print(f"{name:24} {word:9} {seconds:7.3f} s  {seconds / parsing:4.2f} of parsing  memory {memory / len(text):5.1f} times the text{growth}")
+    print(f"{name:20} {seconds:7.3f} s  {seconds / parsing:4.2f} of parsing  memory {memory / len(text):5.1f} times the text{growth}")
     return seconds
 
 
@@ -38,11 +37,10 @@ def main():
     path = os.path.join(parse.WORK, "in")
     last = None
     for size in (1, 2, 4):
-        last = measure(f"{size} MiB", "translate", parse.generated(size * parse.MIB), path, last)
-    for word in ("translate", "resolve"):
-        last = None
-        for count in (25_000, 50_000, 100_000):
-            last = measure(f"{count} references", word, references(count), path, last)
+        last = measure(f"{size} MiB", parse.generated(size * parse.MIB), path, last)
+    last = None
+    for count in (25_000, 50_000, 100_000):
+        last = measure(f"{count} references", references(count), path, last)
 
 
 if __name__ == "__main__":
