@@ -1,5 +1,6 @@
 ghost use Rattle.std.specs.Prelude.{Some};
 ghost use Rattle.std.specs.Option.{option_copied};
+ghost use Rattle.schema_defined.specs.Tests.{tests_of};
 ghost use Rattle.schema_resolve.specs.FirstCandidate.{OwnThenPlain, ItselfOrNothing};
 
 use cedar_identifiers::{InternalName, RawName, ReferenceType};
@@ -8,7 +9,7 @@ use cedar_names::AllDefs;
 /// An unqualified name in a namespace means what is defined there, and else what is defined in the empty namespace, each in
 /// the kind that is asked for.
 pub fn own_namespace_first(defs: &AllDefs, ns: &InternalName, kind: ReferenceType, name: &RawName)
-    ensures { OwnThenPlain defs.now ns.now kind name.now }
+    ensures { OwnThenPlain (tests_of defs.now) ns.now kind name.now }
 {}
 
 /// A qualified name means itself or nothing, and so does any name in the empty namespace.
@@ -18,5 +19,5 @@ pub fn itself_or_nothing(
     kind: ReferenceType,
     name: &RawName,
 )
-    ensures { ItselfOrNothing defs.now (option_copied ns.entry) kind name.now }
+    ensures { ItselfOrNothing (tests_of defs.now) (option_copied ns.entry) kind name.now }
 {}

@@ -21,9 +21,9 @@ fn rename_names<N, M: Drop, R: Renamer<N, M>>(
     renamer: &R,
     names: &[N],
 ) -> Result<List<M>, ResolveError>
-    ensures out { IfOk result (λ out. out ≡ map (R.becomes renamer.now ReferenceType.Entity) names.now) }
-    ensures defined { OnOk result (each (R.lacks renamer.now) names.now ≡ []) }
-    ensures err { IfErr result (NamesFirst (each (R.lacks renamer.now) names.now)) }
+    ensures out { IfOk result (λ out. out ≡ map ((R.becomes renamer.now).name ReferenceType.Entity) names.now) }
+    ensures defined { OnOk result (each (R.lacks renamer.now ReferenceType.Entity) names.now ≡ []) }
+    ensures err { IfErr result (NamesFirst (each (R.lacks renamer.now ReferenceType.Entity) names.now)) }
 {
     let mut out = Vec::new(alloc);
     for name in names {

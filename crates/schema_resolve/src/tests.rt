@@ -77,7 +77,7 @@ fn meant(
     ty: Type<RawName>,
 ) -> Result<Option<Type<InternalName>>, Fail> {
     let qualified = ty.conditionally_qualify_type_references(alloc, Some(ns))?;
-    match qualified.fully_qualify_type_references(defs) {
+    match qualified.fully_qualify_type_references(alloc, defs) {
         Ok(ty) => Ok(Some(ty)),
         Err(ResolveError::TypeNotDefined(_)) => Ok(None),
         Err(_) => Err(Fail::from(AllocError)),
@@ -201,12 +201,12 @@ fn records_and_attributes_are_resolved(rt: HostRuntime) -> Result<(), Fail> {
     let written = record(alloc, reference(ReferenceType::Common, raw(alloc, "V")?))?;
     let found = written.conditionally_qualify_type_references(alloc, None)?;
     let expected = record(alloc, reference(ReferenceType::Common, name(alloc, "V")?))?;
-    assert!(rt; done(found.fully_qualify_type_references(&defs))? == expected);
+    assert!(rt; done(found.fully_qualify_type_references(alloc, &defs))? == expected);
 
     let written = attribute(alloc, reference(ReferenceType::Entity, raw(alloc, "U")?));
     let found = written.conditionally_qualify_type_references(alloc, None)?;
     let expected = attribute(alloc, reference(ReferenceType::Entity, name(alloc, "U")?));
-    assert!(rt; done(found.fully_qualify_type_references(&defs))? == expected);
+    assert!(rt; done(found.fully_qualify_type_references(alloc, &defs))? == expected);
 
     let written = TypeVariant::Entity {
         name: raw(alloc, "U")?,
@@ -215,12 +215,12 @@ fn records_and_attributes_are_resolved(rt: HostRuntime) -> Result<(), Fail> {
     let expected = TypeVariant::Entity {
         name: name(alloc, "U")?,
     };
-    assert!(rt; done(found.fully_qualify_type_references(&defs))? == expected);
+    assert!(rt; done(found.fully_qualify_type_references(alloc, &defs))? == expected);
 
     let written = AttributesOrContext(reference(ReferenceType::Common, raw(alloc, "V")?));
     let found = written.conditionally_qualify_type_references(alloc, None)?;
     let expected = AttributesOrContext(reference(ReferenceType::Common, name(alloc, "V")?));
-    assert!(rt; done(found.fully_qualify_type_references(&defs))? == expected);
+    assert!(rt; done(found.fully_qualify_type_references(alloc, &defs))? == expected);
     Ok(())
 }
 
@@ -256,7 +256,7 @@ fn namespaces_are_resolved(rt: HostRuntime) -> Result<(), Fail> {
         )?,
         action(alloc, uid, name(alloc, "N::V")?, name(alloc, "V")?)?,
     )?;
-    assert!(rt; done(found.fully_qualify_type_references(&defs))? == expected);
+    assert!(rt; done(found.fully_qualify_type_references(alloc, &defs))? == expected);
     Ok(())
 }
 
@@ -266,7 +266,7 @@ fn undefined_type(alloc: Global, text: &str, at: usize) -> Result<TypeNotDefined
     name.loc = Some(Loc::new(at, at));
     let written = reference(ReferenceType::Entity, RawName::from_internal(name));
     let found = written.conditionally_qualify_type_references(alloc, None)?;
-    match found.fully_qualify_type_references(&AllDefs::new(alloc)) {
+    match found.fully_qualify_type_references(alloc, &AllDefs::new(alloc)) {
         Err(ResolveError::TypeNotDefined(error)) => Ok(error),
         _ => Err(Fail::from(AllocError)),
     }
@@ -276,7 +276,7 @@ fn undefined_type(alloc: Global, text: &str, at: usize) -> Result<TypeNotDefined
 fn undefined_action(alloc: Global, id: &str) -> Result<ActionNotDefinedError, Fail> {
     let written = ActionEntityUID::default_type(Text::from_str(alloc, id)?);
     let found = written.conditionally_qualify_type_references(alloc, None)?;
-    match found.fully_qualify_type_references(&AllDefs::new(alloc)) {
+    match found.fully_qualify_type_references(alloc, &AllDefs::new(alloc)) {
         Err(ResolveError::ActionNotDefined(error)) => Ok(error),
         _ => Err(Fail::from(AllocError)),
     }
