@@ -1,2 +1,3 @@
 mod Equations
+mod First
 mod Lists

@@ -1,5 +1,5 @@
 -- What a reference means.
-use Rattle.std.specs.Prelude.{◌≡◌, ℕ, Bool, true, false, List, ◌∷◌, ◌++◌, Option, if◌then◌else◌}
+use Rattle.std.specs.Prelude.{◌≡◌, ◌↔◌, Bool, true, false, List, ◌∷◌, ◌++◌, Option, Some, if◌then◌else◌}
 use Rattle.std.specs.List.{list_any}
 use Rattle.std.specs.Option.{option_map}
 use Rattle.cedar_identifiers.specs.Names.{components_of}
@@ -7,9 +7,10 @@ use Rattle.cedar_identifiers.specs.declared.reference_type.ReferenceType.{Refere
 use Rattle.cedar_identifiers.specs.declared.reference_type.ReferenceType.TheVariants.{Common, Entity, CommonOrEntity}
 use Rattle.cedar_identifiers.specs.declared.internal_name.InternalName.{InternalName}
 use Rattle.cedar_identifiers.specs.declared.raw_name.RawName.{RawName}
+use Rattle.cedar_identifiers.specs.declared.conditional_name.ConditionalName.{ConditionalName}
 use Rattle.schema_defined.specs.Tests.{Tests}
-use Rattle.schema_resolve.specs.Qualified.{in_namespace, type_in_namespace}
-use Rattle.schema_resolve.specs.Targets.{is_defined, target, action_target}
+use Rattle.schema_resolve.specs.Qualified.{in_namespace}
+use Rattle.schema_resolve.specs.Targets.{is_defined, target}
 
 -- what a name is that a reference of this kind means: of a name that is both, the common type
 abbrev pub kind_there : Tests → ReferenceType → InternalName → ReferenceType
@@ -21,10 +22,20 @@ kind_there t CommonOrEntity name = if t.is_common (components_of name) then Comm
 abbrev pub means : Tests → Option InternalName → ReferenceType → RawName → Option (InternalName × ReferenceType)
 means t ns kind name = option_map (λ n. (n, kind_there t kind n)) (target t (in_namespace ns kind name))
 
--- the name is a candidate, it is defined in the kind that is asked for, and no candidate before it is
-pub record IsTarget (t : Tests) (kind : ReferenceType) (candidates : List InternalName) (name : InternalName) : Type 0 where
-  pub before : List InternalName
-  pub behind : List InternalName
-  pub candidate : candidates ≡ before ++ name ∷ behind
-  pub defined : is_defined t kind (components_of name) ≡ true
-  pub first : list_any (λ n. is_defined t kind (components_of n)) before ≡ false
+-- x is among them and passes, and none before it does
+pub record IsFirst {A : Type 0} (passes : A → Bool) (xs : List A) (x : A) : Type 0 where
+  pub before : List A
+  pub behind : List A
+  pub among : xs ≡ before ++ x ∷ behind
+  pub here : passes x ≡ true
+  pub none_before : list_any passes before ≡ false
+
+-- the name is the first candidate that is defined in the kind that is asked for
+abbrev pub IsTarget : Tests → ConditionalName → InternalName → Type 0
+IsTarget t c = IsFirst (λ p. is_defined t c.reference_type (components_of p)) c.possibilities
+
+abbrev pub TargetIsFirst : Tests → ConditionalName → Type 0
+TargetIsFirst t c = (name : InternalName) → (target t c ≡ Some name) ↔ IsTarget t c name
+
+abbrev pub TargetIsOne : Tests → ConditionalName → Type 0
+TargetIsOne t c = (a b : InternalName) → IsTarget t c a → IsTarget t c b → a ≡ b

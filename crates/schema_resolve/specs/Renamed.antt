@@ -117,5 +117,8 @@ module _ {N M : Type 0} (f : Renaming N M) where
 
 -- a fragment, where the renaming may depend on the namespace
 module _ {N M : Type 0} (f : Option Name → Renaming N M) (h : Option Name → List ℕ → Option N → M) where
+  abbrev pub renamed_entry : {G : named.Ghosts N} {H : named.Ghosts M} → Option Name × NamespaceDefinition N G → Option Name × NamespaceDefinition M H
+  renamed_entry e = (e.0, renamed_namespace (f e.0) (h e.0) e.1)
+
   abbrev pub renamed_fragment : {G : named.Ghosts N} {H : named.Ghosts M} → Fragment N G → Fragment M H
-  renamed_fragment p = record { 0 = map (λ e. (e.0, renamed_namespace (f e.0) (h e.0) e.1)) p.0 }
+  renamed_fragment p = record { 0 = map renamed_entry p.0 }

@@ -102,5 +102,8 @@ module _ {N U : Type 0} (u : ReferenceType → N → List U) where
 
 -- a fragment, where what a name gives may depend on the namespace
 module _ {N U : Type 0} (u : Option Name → ReferenceType → N → List U) (w : Option Name → List ℕ → Option N → List U) where
+  abbrev pub of_entry : {G : named.Ghosts N} → Option Name × NamespaceDefinition N G → List U
+  of_entry e = of_namespace (u e.0) (w e.0) e.1
+
   abbrev pub of_fragment : {G : named.Ghosts N} → Fragment N G → List U
-  of_fragment p = each (λ e. of_namespace (u e.0) (w e.0) e.1) p.0
+  of_fragment p = each of_entry p.0

@@ -66,11 +66,11 @@ impl Designate for NamespaceDefinition<InternalName> {
 }
 
 impl<'a> FragmentRenamer<InternalName, InternalName> for Designator<'a> {
-    ghost becomes_in = { λ d _. designating (tests_of d.defs) };
+    ghost becomes_in = { λ d _. designating (tests_of d.defs.now) };
 
     ghost action_becomes_in = { λ _ _. type_as_written };
 
-    ghost lacks_in = { λ d _. undesignated (tests_of d.defs) };
+    ghost lacks_in = { λ d _. undesignated (tests_of d.defs.now) };
 
     ghost lacks_action_in = { λ _ _. no_action };
 

@@ -20,9 +20,9 @@ pub(crate) struct Designator<'a> {
 }
 
 impl<'a> Renamer<InternalName, InternalName> for Designator<'a> {
-    ghost becomes = { λ d. designating (tests_of d.defs) };
+    ghost becomes = { λ d. designating (tests_of d.defs.now) };
 
-    ghost lacks = { λ d. undesignated (tests_of d.defs) };
+    ghost lacks = { λ d. undesignated (tests_of d.defs.now) };
 
     fn rename(
         &self,

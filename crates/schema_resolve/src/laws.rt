@@ -1,9 +1,10 @@
 ghost use Rattle.std.specs.Prelude.{Some};
 ghost use Rattle.std.specs.Option.{option_copied};
 ghost use Rattle.schema_defined.specs.Tests.{tests_of};
+ghost use Rattle.schema_resolve.specs.Meanings.{TargetIsFirst, TargetIsOne};
 ghost use Rattle.schema_resolve.specs.FirstCandidate.{OwnThenPlain, ItselfOrNothing};
 
-use cedar_identifiers::{InternalName, RawName, ReferenceType};
+use cedar_identifiers::{ConditionalName, InternalName, RawName, ReferenceType};
 use cedar_names::AllDefs;
 
 /// An unqualified name in a namespace means what is defined there, and else what is defined in the empty namespace, each in
@@ -20,4 +21,10 @@ pub fn itself_or_nothing(
     name: &RawName,
 )
     ensures { ItselfOrNothing (tests_of defs.now) (option_copied ns.entry) kind name.now }
+{}
+
+/// A reference has at most one target: the first candidate that is defined in the kind that is asked for.
+pub fn one_target(defs: &AllDefs, reference: &ConditionalName)
+    ensures found { TargetIsFirst (tests_of defs.now) reference.now }
+    ensures one { TargetIsOne (tests_of defs.now) reference.now }
 {}

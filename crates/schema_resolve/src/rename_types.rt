@@ -1,4 +1,5 @@
 ghost use Rattle.std.specs.Prelude.{◌≡◌, [], IfOk, IfErr, OnOk};
+ghost use Rattle.schema_json.specs.declared.types.Type.{Variant};
 ghost use Rattle.schema_resolve.specs.Faults.{NamesFirst};
 ghost use Rattle.schema_resolve.specs.Renamed.{renamed, renamed_at, renamed_variant, renamed_record, renamed_attribute, renamed_entries};
 ghost use Rattle.schema_resolve.specs.Walk.{of_type, of_variant, of_record, of_attribute, of_entries};
@@ -42,28 +43,36 @@ fn rename_at<N, M: Drop, R: Renamer<N, M>>(
     ensures defined { OnOk result (of_variant (R.lacks renamer.now) shape.now ≡ []) }
     ensures err { IfErr result (NamesFirst (of_variant (R.lacks renamer.now) shape.now)) }
 {
-    let ty = match shape {
-        TypeVariant::EntityOrCommon { type_name } => {
-            return renamer.rename_either(alloc, type_name, loc);
-        }
-        TypeVariant::String => TypeVariant::String,
-        TypeVariant::Long => TypeVariant::Long,
-        TypeVariant::Boolean => TypeVariant::Boolean,
+    match shape {
+        TypeVariant::EntityOrCommon { type_name } => renamer.rename_either(alloc, type_name, loc),
+        TypeVariant::String => Ok(placed(TypeVariant::String, loc)),
+        TypeVariant::Long => Ok(placed(TypeVariant::Long, loc)),
+        TypeVariant::Boolean => Ok(placed(TypeVariant::Boolean, loc)),
         TypeVariant::Set { element } => {
             let element = rename_type(alloc, renamer, element.get())?;
-            TypeVariant::Set {
-                element: Boxed::new(alloc, element)?,
-            }
+            let element = Boxed::new(alloc, element)?;
+            Ok(placed(TypeVariant::Set { element }, loc))
         }
-        TypeVariant::Record(fields) => TypeVariant::Record(rename_record(alloc, renamer, fields)?),
-        TypeVariant::Entity { name } => TypeVariant::Entity {
-            name: renamer.rename(alloc, ReferenceType::Entity, name)?,
-        },
-        TypeVariant::Extension { name } => TypeVariant::Extension {
-            name: name.clone_in(alloc)?,
-        },
-    };
-    Ok(Type::Variant { ty, loc })
+        TypeVariant::Record(fields) => {
+            let fields = rename_record(alloc, renamer, fields)?;
+            Ok(placed(TypeVariant::Record(fields), loc))
+        }
+        TypeVariant::Entity { name } => {
+            let name = renamer.rename(alloc, ReferenceType::Entity, name)?;
+            Ok(placed(TypeVariant::Entity { name }, loc))
+        }
+        TypeVariant::Extension { name } => {
+            let name = name.clone_in(alloc)?;
+            Ok(placed(TypeVariant::Extension { name }, loc))
+        }
+    }
+}
+
+// A shape at a place.
+fn placed<M>(ty: TypeVariant<M>, loc: Option<Loc>) -> Type<M>
+    ensures { result ≡ Variant ty loc }
+{
+    Type::Variant { ty, loc }
 }
 
 // A shape by itself, in which a reference that may mean either kind stays one.

@@ -16,6 +16,7 @@ use crate::scope::Scope;
 use cedar_identifiers::{InternalName, Name, RawName};
 use cedar_names::{AllDefs, ExtensionTable};
 use schema_defined::all_definitions;
+use schema_defined::declared::name_of;
 use schema_json::{Fragment, NamespaceDefinition};
 use std::alloc::Global;
 
@@ -57,26 +58,9 @@ impl FragmentRenamer<RawName, InternalName> for AllDefs {
         ns: &Option<Name>,
         definition: &NamespaceDefinition<RawName>,
     ) -> Result<NamespaceDefinition<InternalName>, ResolveError> {
-        let ns = match ns {
-            Some(ns) => Some(&ns.name),
-            None => None,
-        };
-        let scope = Scope { ns };
+        let scope = Scope { ns: name_of(ns) };
         rename_namespace(alloc, &Resolver { defs: self, scope }, definition)
     }
-}
-
-// What the names mean where this is defined.
-fn resolve(
-    alloc: Global,
-    defs: &AllDefs,
-    fragment: &Fragment<RawName>,
-) -> Result<Fragment<InternalName>, ResolveError>
-    ensures out { IfOk result (λ out. out ≡ resolved (tests_of defs.now) fragment.now) }
-    ensures defined { OnOk result (undefined (tests_of defs.now) fragment.now ≡ []) }
-    ensures err { IfErr result (NamesFirst (undefined (tests_of defs.now) fragment.now)) }
-{
-    rename_fragment(alloc, defs, fragment)
 }
 
 impl ResolveFragment for Fragment<RawName> {
@@ -92,6 +76,6 @@ impl ResolveFragment for Fragment<RawName> {
         table: &ExtensionTable,
     ) -> Result<Fragment<InternalName>, ResolveError> {
         let defs = all_definitions(alloc, self, table)?;
-        resolve(alloc, &defs, self)
+        rename_fragment(alloc, &defs, self)
     }
 }

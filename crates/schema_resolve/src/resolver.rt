@@ -21,9 +21,9 @@ pub(crate) struct Resolver<'a> {
 }
 
 impl<'a> Renamer<RawName, InternalName> for Resolver<'a> {
-    ghost becomes = { λ r. resolving_in (tests_of r.defs) (option_copied r.scope.ns) };
+    ghost becomes = { λ r. resolving_in (tests_of r.defs.now) (option_copied r.scope.ns) };
 
-    ghost lacks = { λ r. lacks_in (tests_of r.defs) (option_copied r.scope.ns) };
+    ghost lacks = { λ r. lacks_in (tests_of r.defs.now) (option_copied r.scope.ns) };
 
     fn rename(
         &self,
@@ -48,9 +48,9 @@ impl<'a> Renamer<RawName, InternalName> for Resolver<'a> {
 }
 
 impl<'a> ActionRenamer<RawName, InternalName> for Resolver<'a> {
-    ghost action_becomes = { λ r. meant_type (tests_of r.defs) (option_copied r.scope.ns) };
+    ghost action_becomes = { λ r. meant_type (tests_of r.defs.now) (option_copied r.scope.ns) };
 
-    ghost lacks_action = { λ r. lacks_action_in (tests_of r.defs) (option_copied r.scope.ns) };
+    ghost lacks_action = { λ r. lacks_action_in (tests_of r.defs.now) (option_copied r.scope.ns) };
 
     fn rename_action(
         &self,

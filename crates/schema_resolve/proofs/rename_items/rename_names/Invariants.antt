@@ -5,6 +5,6 @@ use Rattle.schema_resolve.proofs.rename_items.rename_names.Given as goal
 
 abbrev pub invariant-loop-name : goal.invariant-loop-name
 invariant-loop-name g l = record {
-  out : l.out.items ≡ map (g.R.Renamer.becomes l.renamer Entity) (take l.name-index l.names);
-  defined : each (g.R.Renamer.lacks l.renamer) (take l.name-index l.names) ≡ [];
+  out : l.out.items ≡ map ((g.R.Renamer.becomes l.renamer).name Entity) (take l.name-index l.names);
+  defined : each (g.R.Renamer.lacks l.renamer Entity) (take l.name-index l.names) ≡ [];
 }
