@@ -1,4 +1,3 @@
-pub mod ErrorTexts
 pub mod Faults
 pub mod FirstCandidate
 pub mod Qualified

@@ -9,9 +9,9 @@ ghost use Rattle.schema_resolve.specs.Walk.{of_type, of_variant, of_record, of_a
 use crate::rename_items::{rename_action, rename_apply, rename_context, rename_entity, rename_uid};
 use crate::rename_namespaces::rename_namespace;
 use crate::rename_types::{rename_attribute, rename_record, rename_type, rename_variant};
-use crate::resolve_error::ResolveError;
 use cedar_identifiers::{ConditionalName, InternalName};
 use cedar_names::AllDefs;
+use resolve_errors::ResolveError;
 use schema_json::{
     ActionEntityUID, ActionType, ApplySpec, AttributesOrContext, EntityType, NamespaceDefinition,
     RecordType, Type, TypeOfAttribute, TypeVariant,

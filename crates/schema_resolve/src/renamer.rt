@@ -3,8 +3,8 @@ ghost use Rattle.cedar_identifiers.specs.declared.reference_type.ReferenceType.{
 ghost use Rattle.schema_resolve.specs.Undefined.{Undefined};
 ghost use Rattle.schema_resolve.specs.Faults.{NamesFirst};
 
-use crate::resolve_error::ResolveError;
 use cedar_identifiers::{NameText, ReferenceType};
+use resolve_errors::ResolveError;
 use schema_json::ActionEntityUID;
 use std::alloc::Global;
 

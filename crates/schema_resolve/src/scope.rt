@@ -5,9 +5,9 @@ ghost use Rattle.schema_json.specs.Actions.{written_type};
 ghost use Rattle.schema_resolve.specs.Qualified.{in_namespace, type_in_namespace};
 
 use crate::renamer::{ActionRenamer, Renamer};
-use crate::resolve_error::ResolveError;
 use cedar_data::CloneIn;
 use cedar_identifiers::{ConditionalName, InternalName, RawName, ReferenceType};
+use resolve_errors::ResolveError;
 use schema_json::ActionEntityUID;
 use schema_json::action_uid::action_name;
 use std::alloc::{AllocError, Global};

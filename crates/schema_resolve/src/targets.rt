@@ -4,10 +4,10 @@ ghost use Rattle.cedar_identifiers.specs.Names.{components_of};
 ghost use Rattle.schema_resolve.specs.Targets.{is_defined, is_action, target_name, action_target_name, lacks, lacks_action};
 
 use crate::renamer::{ActionRenamer, Renamer};
-use crate::resolve_error::{ActionNotDefinedError, ResolveError, TypeNotDefinedError};
 use cedar_data::{CloneIn, NonEmpty, Text};
 use cedar_identifiers::{ConditionalName, Eid, InternalName, Name, ReferenceType};
 use cedar_names::{AllDefs, EntityUID};
+use resolve_errors::{ActionNotDefinedError, ResolveError, TypeNotDefinedError};
 use schema_json::ActionEntityUID;
 use std::alloc::{AllocError, Global};
 

@@ -1,8 +1,8 @@
 use crate::laws::{itself_or_nothing, own_namespace_first};
-use crate::{ActionNotDefinedError, FullyQualify, Qualify, ResolveError, TypeNotDefinedError};
-use cedar_data::{CloneIn, List, Loc, Map, NonEmpty, Text};
+use crate::{FullyQualify, Qualify, ResolveError};
+use cedar_data::{List, Map, Text};
 use cedar_identifiers::{
-    Annotations, Eid, InternalName, Name, NameText, RawName, ReferenceType, Severity, UnreservedId,
+    Annotations, Eid, InternalName, Name, NameText, RawName, ReferenceType, UnreservedId,
 };
 use cedar_names::{AllDefs, EntityUID};
 use schema_json::{
@@ -257,55 +257,5 @@ fn namespaces_are_resolved(rt: HostRuntime) -> Result<(), Fail> {
         action(alloc, uid, name(alloc, "N::V")?, name(alloc, "V")?)?,
     )?;
     assert!(rt; done(found.fully_qualify_type_references(&defs))? == expected);
-    Ok(())
-}
-
-/// The error that a type's name at this place gives where nothing is defined.
-fn undefined_type(alloc: Global, text: &str, at: usize) -> Result<TypeNotDefinedError, Fail> {
-    let mut name = name(alloc, text)?;
-    name.loc = Some(Loc::new(at, at));
-    let written = reference(ReferenceType::Entity, RawName::from_internal(name));
-    let found = written.conditionally_qualify_type_references(alloc, None)?;
-    match found.fully_qualify_type_references(&AllDefs::new(alloc)) {
-        Err(ResolveError::TypeNotDefined(error)) => Ok(error),
-        _ => Err(Fail::from(AllocError)),
-    }
-}
-
-/// The error that an action without a type gives where nothing is defined.
-fn undefined_action(alloc: Global, id: &str) -> Result<ActionNotDefinedError, Fail> {
-    let written = ActionEntityUID::default_type(Text::from_str(alloc, id)?);
-    let found = written.conditionally_qualify_type_references(alloc, None)?;
-    match found.fully_qualify_type_references(&AllDefs::new(alloc)) {
-        Err(ResolveError::ActionNotDefined(error)) => Ok(error),
-        _ => Err(Fail::from(AllocError)),
-    }
-}
-
-#[test]
-fn undefined_types_are_joined_in_order(rt: HostRuntime) -> Result<(), Fail> {
-    let alloc = rt.alloc();
-    let mut others = Vec::new(alloc);
-    others.push(undefined_type(alloc, "y", 2)?)?;
-    let errors = NonEmpty::from_parts(undefined_type(alloc, "x", 1)?, others);
-    let joined = TypeNotDefinedError::join_nonempty(alloc, errors)?.clone_in(alloc)?;
-    let labels = joined.labels(alloc)?;
-    for (k, label) in labels.iter().enumerate() {
-        assert_eq!(rt; label.span.start, k + 1);
-    }
-    assert_eq!(rt; labels.len(), 2);
-    assert!(rt; joined.help(alloc, "")?.is_none());
-    assert_eq!(rt; joined.severity(), Severity::Error);
-    Ok(())
-}
-
-#[test]
-fn undefined_actions_have_advice(rt: HostRuntime) -> Result<(), Fail> {
-    let alloc = rt.alloc();
-    let errors = NonEmpty::new(alloc, undefined_action(alloc, "a")?);
-    let joined = ActionNotDefinedError::join_nonempty(alloc, errors)?.clone_in(alloc)?;
-    assert!(rt; joined.labels(alloc)?.is_empty());
-    assert!(rt; joined.help(alloc, "")?.is_some());
-    assert_eq!(rt; joined.severity(), Severity::Error);
     Ok(())
 }

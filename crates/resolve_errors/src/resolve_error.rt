@@ -23,7 +23,7 @@ pub enum ResolveError {
 
 impl From<AllocError> for ResolveError {
     ghost use Rattle.std.specs.Prelude.{◌≡◌};
-    ghost use Rattle.schema_resolve.specs.declared.resolve_error.ResolveError.TheVariants.{Memory};
+    ghost use Rattle.resolve_errors.specs.declared.resolve_error.ResolveError.TheVariants.{Memory};
 
     ghost from_gives = { λ _ e. e ≡ Memory };
 
@@ -34,7 +34,7 @@ impl From<AllocError> for ResolveError {
 
 impl<T: Drop> From<AllocFailed<T>> for ResolveError {
     ghost use Rattle.std.specs.Prelude.{◌≡◌};
-    ghost use Rattle.schema_resolve.specs.declared.resolve_error.ResolveError.TheVariants.{Memory};
+    ghost use Rattle.resolve_errors.specs.declared.resolve_error.ResolveError.TheVariants.{Memory};
 
     ghost from_gives = { λ _ e. e ≡ Memory };
 

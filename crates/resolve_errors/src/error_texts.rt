@@ -1,5 +1,5 @@
 ghost use Rattle.std.specs.Prelude.{◌≡◌, ◌++◌, Ok, None, IfOk, IsSomeAnd, OnOk};
-ghost use Rattle.schema_resolve.specs.ErrorTexts.{undeclared_actions_help, name_labels, type_labels, action_labels};
+ghost use Rattle.resolve_errors.specs.ErrorTexts.{undeclared_actions_help, name_labels, type_labels, action_labels};
 
 use crate::resolve_error::{ActionNotDefinedError, TypeNotDefinedError};
 use cedar_data::Text;

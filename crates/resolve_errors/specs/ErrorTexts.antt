@@ -7,7 +7,7 @@ use Rattle.cedar_identifiers.specs.declared.internal_name.InternalName.{Internal
 use Rattle.cedar_identifiers.specs.declared.conditional_name.ConditionalName.{ConditionalName}
 use Rattle.cedar_identifiers.specs.declared.name_text.NameText as named
 use Rattle.schema_json.specs.declared.action_type.ActionEntityUID.{ActionEntityUID}
-use Rattle.schema_resolve.specs.Walk.{each, if_there}
+use Rattle.resolve_errors.specs.Gathered.{each, if_there}
 
 abbrev pub label_at : Loc → List Label
 label_at span = record { span = span; text = None } ∷ []
