@@ -3,6 +3,8 @@
 
 mod error_texts;
 mod joining;
+pub mod lists;
+mod message;
 pub mod resolve_error;
 
 pub use resolve_error::{ActionNotDefinedError, ResolveError, TypeNotDefinedError};
