@@ -1,6 +1,6 @@
 -- What the references of a fragment give, in the order of the walk: common types, entity types and actions by name; of an
 -- entity type its parents, its shape and its tags; of an action its parents, its principals, its resources and its context.
-use Rattle.std.specs.Prelude.{ℕ, List, [], ◌∷◌, ◌++◌, map, Option, Some, None}
+use Rattle.std.specs.Prelude.{ℕ, List, [], ◌++◌, map, Option}
 use Rattle.cedar_identifiers.specs.declared.name_text.NameText as named
 use Rattle.resolve_errors.specs.Gathered.{each, if_there}
 use Rattle.schema_json.specs.Walk.{joined}
