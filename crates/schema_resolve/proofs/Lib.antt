@@ -1,3 +1,4 @@
 mod Equations
 mod First
 mod Lists
+mod Meant

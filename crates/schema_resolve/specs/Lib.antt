@@ -1,5 +1,4 @@
 pub mod Designated
-pub mod ErrorTexts
 pub mod Faults
 pub mod FirstCandidate
 pub mod Meanings

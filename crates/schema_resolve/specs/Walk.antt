@@ -1,11 +1,12 @@
 -- What the references of a fragment give, in the order of the walk: common types, entity types and actions by name; of an
 -- entity type its parents, its shape and its tags; of an action its parents, its principals, its resources and its context.
 -- Of a fragment its namespaces by name, the empty one first.
-use Rattle.std.specs.Prelude.{ℕ, List, [], ◌∷◌, ◌++◌, map, Option, Some, None}
+use Rattle.std.specs.Prelude.{ℕ, List, [], ◌++◌, map, Option}
 use Rattle.cedar_identifiers.specs.declared.name.Name.{Name}
 use Rattle.cedar_identifiers.specs.declared.name_text.NameText as named
 use Rattle.cedar_identifiers.specs.declared.reference_type.ReferenceType.{ReferenceType}
 use Rattle.cedar_identifiers.specs.declared.reference_type.ReferenceType.TheVariants.{Common, Entity, CommonOrEntity}
+use Rattle.resolve_errors.specs.Gathered.{each, if_there}
 use Rattle.schema_json.specs.Walk.{joined}
 use Rattle.schema_json.specs.declared.types.Type.{«Type», Type-F, fold-Type}
 use Rattle.schema_json.specs.declared.types.TypeVariant.{TypeVariant, TypeVariant-F, fold-TypeVariant}
@@ -22,15 +23,6 @@ use Rattle.schema_json.specs.declared.action_type.ActionEntityUID.{ActionEntityU
 use Rattle.schema_json.specs.declared.action_type.ActionType.{ActionType}
 use Rattle.schema_json.specs.declared.fragment.NamespaceDefinition.{NamespaceDefinition}
 use Rattle.schema_json.specs.declared.fragment.Fragment.{Fragment}
-
--- what an optional part gives
-abbrev pub if_there : {A U : Type 0} → (A → List U) → Option A → List U
-if_there u None = []
-if_there u (Some a) = u a
-
--- what each of a list gives
-abbrev pub each : {A U : Type 0} → (A → List U) → List A → List U
-each u xs = joined (map u xs)
 
 -- what the values of a map give, by key
 abbrev pub each_value : {K A U : Type 0} → (A → List U) → List (K × A) → List U

@@ -11,9 +11,9 @@ use crate::designator::Designator;
 use crate::rename_fragments::{FragmentRenamer, rename_fragment};
 use crate::rename_namespaces::rename_namespace;
 use crate::rename_types::rename_type;
-use crate::resolve_error::ResolveError;
 use cedar_identifiers::{InternalName, Name};
 use cedar_names::AllDefs;
+use resolve_errors::ResolveError;
 use schema_json::{Fragment, NamespaceDefinition, Type};
 use std::alloc::Global;
 

@@ -5,11 +5,11 @@ ghost use Rattle.schema_resolve.specs.Faults.{NamesFirst};
 ghost use Rattle.schema_resolve.specs.References.{reference_to};
 
 use crate::renamer::{ActionRenamer, Renamer};
-use crate::resolve_error::{ResolveError, TypeNotDefinedError};
 use crate::targets::is_defined;
 use cedar_data::{CloneIn, Loc, NonEmpty};
 use cedar_identifiers::{InternalName, RawName, ReferenceType};
 use cedar_names::AllDefs;
+use resolve_errors::{ResolveError, TypeNotDefinedError};
 use schema_json::{ActionEntityUID, Type, TypeVariant};
 use std::alloc::Global;
 

@@ -10,9 +10,9 @@ ghost use Rattle.schema_resolve.specs.Walk.{of_type, of_variant, of_record, of_a
 use crate::rename_items::{rename_action, rename_apply, rename_context, rename_entity, rename_uid};
 use crate::rename_namespaces::rename_namespace;
 use crate::rename_types::{rename_attribute, rename_record, rename_type, rename_variant};
-use crate::resolve_error::ResolveError;
 use cedar_identifiers::{ConditionalName, InternalName};
 use cedar_names::AllDefs;
+use resolve_errors::ResolveError;
 use schema_json::{
     ActionEntityUID, ActionType, ApplySpec, AttributesOrContext, EntityType, NamespaceDefinition,
     RecordType, Type, TypeOfAttribute, TypeVariant,
@@ -30,7 +30,11 @@ pub trait FullyQualify {
 
     /// The same with each reference replaced by the name of what it means, or the first reference of the walk that means
     /// nothing.
-    fn fully_qualify_type_references(self, alloc: Global, all_defs: &AllDefs) -> Result<Self::Out, ResolveError>
+    fn fully_qualify_type_references(
+        self,
+        alloc: Global,
+        all_defs: &AllDefs,
+    ) -> Result<Self::Out, ResolveError>
         ensures out { IfOk result (λ out. out ≡ resolved all_defs.now self) }
         ensures defined { OnOk result (undefined all_defs.now self ≡ []) }
         ensures err { IfErr result (NamesFirst (undefined all_defs.now self)) };
@@ -43,7 +47,11 @@ impl FullyQualify for Type<ConditionalName> {
 
     ghost undefined = { λ d. of_type (lacks (tests_of d)) };
 
-    fn fully_qualify_type_references(self, alloc: Global, all_defs: &AllDefs) -> Result<Self::Out, ResolveError> {
+    fn fully_qualify_type_references(
+        self,
+        alloc: Global,
+        all_defs: &AllDefs,
+    ) -> Result<Self::Out, ResolveError> {
         rename_type(alloc, all_defs, &self)
     }
 }
@@ -55,7 +63,11 @@ impl FullyQualify for TypeVariant<ConditionalName> {
 
     ghost undefined = { λ d. of_variant (lacks (tests_of d)) };
 
-    fn fully_qualify_type_references(self, alloc: Global, all_defs: &AllDefs) -> Result<Self::Out, ResolveError> {
+    fn fully_qualify_type_references(
+        self,
+        alloc: Global,
+        all_defs: &AllDefs,
+    ) -> Result<Self::Out, ResolveError> {
         rename_variant(alloc, all_defs, &self)
     }
 }
@@ -67,7 +79,11 @@ impl FullyQualify for RecordType<ConditionalName> {
 
     ghost undefined = { λ d. of_record (lacks (tests_of d)) };
 
-    fn fully_qualify_type_references(self, alloc: Global, all_defs: &AllDefs) -> Result<Self::Out, ResolveError> {
+    fn fully_qualify_type_references(
+        self,
+        alloc: Global,
+        all_defs: &AllDefs,
+    ) -> Result<Self::Out, ResolveError> {
         rename_record(alloc, all_defs, &self)
     }
 }
@@ -79,7 +95,11 @@ impl FullyQualify for TypeOfAttribute<ConditionalName> {
 
     ghost undefined = { λ d. of_attribute (lacks (tests_of d)) };
 
-    fn fully_qualify_type_references(self, alloc: Global, all_defs: &AllDefs) -> Result<Self::Out, ResolveError> {
+    fn fully_qualify_type_references(
+        self,
+        alloc: Global,
+        all_defs: &AllDefs,
+    ) -> Result<Self::Out, ResolveError> {
         rename_attribute(alloc, all_defs, &self)
     }
 }
@@ -91,7 +111,11 @@ impl FullyQualify for AttributesOrContext<ConditionalName> {
 
     ghost undefined = { λ d. of_context (lacks (tests_of d)) };
 
-    fn fully_qualify_type_references(self, alloc: Global, all_defs: &AllDefs) -> Result<Self::Out, ResolveError> {
+    fn fully_qualify_type_references(
+        self,
+        alloc: Global,
+        all_defs: &AllDefs,
+    ) -> Result<Self::Out, ResolveError> {
         rename_context(alloc, all_defs, &self)
     }
 }
@@ -103,7 +127,11 @@ impl FullyQualify for EntityType<ConditionalName> {
 
     ghost undefined = { λ d. of_entity (lacks (tests_of d)) };
 
-    fn fully_qualify_type_references(self, alloc: Global, all_defs: &AllDefs) -> Result<Self::Out, ResolveError> {
+    fn fully_qualify_type_references(
+        self,
+        alloc: Global,
+        all_defs: &AllDefs,
+    ) -> Result<Self::Out, ResolveError> {
         rename_entity(alloc, all_defs, &self)
     }
 }
@@ -115,7 +143,11 @@ impl FullyQualify for ApplySpec<ConditionalName> {
 
     ghost undefined = { λ d. of_apply (lacks (tests_of d)) };
 
-    fn fully_qualify_type_references(self, alloc: Global, all_defs: &AllDefs) -> Result<Self::Out, ResolveError> {
+    fn fully_qualify_type_references(
+        self,
+        alloc: Global,
+        all_defs: &AllDefs,
+    ) -> Result<Self::Out, ResolveError> {
         rename_apply(alloc, all_defs, &self)
     }
 }
@@ -127,7 +159,11 @@ impl FullyQualify for ActionEntityUID<ConditionalName> {
 
     ghost undefined = { λ d. of_uid (lacks (tests_of d)) (lacks_action (tests_of d)) };
 
-    fn fully_qualify_type_references(self, alloc: Global, all_defs: &AllDefs) -> Result<Self::Out, ResolveError> {
+    fn fully_qualify_type_references(
+        self,
+        alloc: Global,
+        all_defs: &AllDefs,
+    ) -> Result<Self::Out, ResolveError> {
         rename_uid(alloc, all_defs, &self)
     }
 }
@@ -139,7 +175,11 @@ impl FullyQualify for ActionType<ConditionalName> {
 
     ghost undefined = { λ d. of_action (lacks (tests_of d)) (lacks_action (tests_of d)) };
 
-    fn fully_qualify_type_references(self, alloc: Global, all_defs: &AllDefs) -> Result<Self::Out, ResolveError> {
+    fn fully_qualify_type_references(
+        self,
+        alloc: Global,
+        all_defs: &AllDefs,
+    ) -> Result<Self::Out, ResolveError> {
         rename_action(alloc, all_defs, &self)
     }
 }
@@ -151,7 +191,11 @@ impl FullyQualify for NamespaceDefinition<ConditionalName> {
 
     ghost undefined = { λ d. of_namespace (lacks (tests_of d)) (lacks_action (tests_of d)) };
 
-    fn fully_qualify_type_references(self, alloc: Global, all_defs: &AllDefs) -> Result<Self::Out, ResolveError> {
+    fn fully_qualify_type_references(
+        self,
+        alloc: Global,
+        all_defs: &AllDefs,
+    ) -> Result<Self::Out, ResolveError> {
         rename_namespace(alloc, all_defs, &self)
     }
 }

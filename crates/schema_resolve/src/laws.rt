@@ -1,7 +1,7 @@
 ghost use Rattle.std.specs.Prelude.{Some};
 ghost use Rattle.std.specs.Option.{option_copied};
 ghost use Rattle.schema_defined.specs.Tests.{tests_of};
-ghost use Rattle.schema_resolve.specs.Meanings.{TargetIsFirst, TargetIsOne};
+ghost use Rattle.schema_resolve.specs.Meanings.{TargetIsFirst, TargetIsOne, ResolvesWhatIsMeant};
 ghost use Rattle.schema_resolve.specs.FirstCandidate.{OwnThenPlain, ItselfOrNothing};
 
 use cedar_identifiers::{ConditionalName, InternalName, RawName, ReferenceType};
@@ -27,4 +27,15 @@ pub fn itself_or_nothing(
 pub fn one_target(defs: &AllDefs, reference: &ConditionalName)
     ensures found { TargetIsFirst (tests_of defs.now) reference.now }
     ensures one { TargetIsOne (tests_of defs.now) reference.now }
+{}
+
+/// A reference is resolved to what it means: the name is that of what is meant, and a reference that may mean a common type
+/// or an entity type becomes one to the kind that is meant.
+pub fn resolves_what_is_meant(
+    defs: &AllDefs,
+    ns: Option<&InternalName>,
+    kind: ReferenceType,
+    name: &RawName,
+)
+    ensures { ResolvesWhatIsMeant (tests_of defs.now) (option_copied ns.entry) kind name.now }
 {}

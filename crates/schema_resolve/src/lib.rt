@@ -3,9 +3,7 @@
 
 pub mod designate;
 mod designator;
-mod error_texts;
 pub mod fully_qualify;
-mod joining;
 pub mod laws;
 pub mod qualify;
 mod rename_fragments;
@@ -13,7 +11,6 @@ mod rename_items;
 mod rename_namespaces;
 mod rename_types;
 mod renamer;
-pub mod resolve_error;
 pub mod resolve_fragment;
 mod resolver;
 mod scope;
@@ -22,7 +19,7 @@ mod targets;
 pub use designate::Designate;
 pub use fully_qualify::FullyQualify;
 pub use qualify::Qualify;
-pub use resolve_error::{ActionNotDefinedError, ResolveError, TypeNotDefinedError};
+pub use resolve_errors::{ActionNotDefinedError, ResolveError, TypeNotDefinedError};
 pub use resolve_fragment::ResolveFragment;
 pub use schema_defined::single_fragment;
 

@@ -6,9 +6,9 @@ ghost use Rattle.schema_resolve.specs.Renamed.{Renaming, renamed_namespace, rena
 ghost use Rattle.schema_resolve.specs.Undefined.{Undefined};
 ghost use Rattle.schema_resolve.specs.Walk.{of_namespace, of_fragment};
 
-use crate::resolve_error::ResolveError;
 use cedar_data::{CloneIn, Map};
 use cedar_identifiers::{Name, NameText};
+use resolve_errors::ResolveError;
 use schema_json::{Fragment, NamespaceDefinition};
 use std::alloc::Global;
 

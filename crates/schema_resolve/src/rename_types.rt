@@ -5,9 +5,9 @@ ghost use Rattle.schema_resolve.specs.Renamed.{renamed, renamed_at, renamed_vari
 ghost use Rattle.schema_resolve.specs.Walk.{of_type, of_variant, of_record, of_attribute, of_entries};
 
 use crate::renamer::Renamer;
-use crate::resolve_error::ResolveError;
 use cedar_data::{Boxed, CloneIn, Loc, Map, Text};
 use cedar_identifiers::ReferenceType;
+use resolve_errors::ResolveError;
 use schema_json::{RecordType, Type, TypeOfAttribute, TypeVariant};
 use std::alloc::Global;
 

@@ -4,9 +4,9 @@ ghost use Rattle.schema_resolve.specs.Undefined.{Undefined};
 ghost use Rattle.schema_resolve.specs.Faults.{NamesFirst};
 ghost use Rattle.schema_resolve.specs.Renamed.{Renaming};
 
-use crate::resolve_error::ResolveError;
 use cedar_data::Loc;
 use cedar_identifiers::{NameText, ReferenceType};
+use resolve_errors::ResolveError;
 use schema_json::{ActionEntityUID, Type};
 use std::alloc::Global;
 

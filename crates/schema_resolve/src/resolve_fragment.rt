@@ -10,11 +10,11 @@ ghost use Rattle.schema_resolve.specs.Undefined.{Undefined};
 
 use crate::rename_fragments::{FragmentRenamer, rename_fragment};
 use crate::rename_namespaces::rename_namespace;
-use crate::resolve_error::ResolveError;
 use crate::resolver::Resolver;
 use crate::scope::Scope;
 use cedar_identifiers::{InternalName, Name, RawName};
 use cedar_names::{AllDefs, ExtensionTable};
+use resolve_errors::ResolveError;
 use schema_defined::all_definitions;
 use schema_defined::declared::name_of;
 use schema_json::{Fragment, NamespaceDefinition};

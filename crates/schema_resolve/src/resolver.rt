@@ -5,11 +5,11 @@ ghost use Rattle.schema_resolve.specs.Resolved.{resolving_in, meant_type, lacks_
 use crate::designator::reference_to;
 use crate::rename_items::rename_uid;
 use crate::renamer::{ActionRenamer, Renamer};
-use crate::resolve_error::ResolveError;
 use crate::scope::Scope;
 use cedar_data::Loc;
 use cedar_identifiers::{InternalName, RawName, ReferenceType};
 use cedar_names::AllDefs;
+use resolve_errors::ResolveError;
 use schema_json::{ActionEntityUID, Type};
 use std::alloc::Global;
 

@@ -5,10 +5,10 @@ ghost use Rattle.schema_defined.specs.Tests.{tests_of};
 ghost use Rattle.schema_resolve.specs.Targets.{is_defined, is_action, resolving, action_target_name, lacks, lacks_action};
 
 use crate::renamer::{ActionRenamer, Renamer};
-use crate::resolve_error::{ActionNotDefinedError, ResolveError, TypeNotDefinedError};
 use cedar_data::{CloneIn, Loc, NonEmpty, Text};
 use cedar_identifiers::{ConditionalName, Eid, InternalName, Name, ReferenceType};
 use cedar_names::{AllDefs, EntityUID};
+use resolve_errors::{ActionNotDefinedError, ResolveError, TypeNotDefinedError};
 use schema_json::{ActionEntityUID, Type, TypeVariant};
 use std::alloc::{AllocError, Global};
 
