@@ -1,9 +1,10 @@
-//! Runs one part of the front end over standard input, for `bench/parse.py` to time.
+//! Runs one part of the front end over standard input, for the scripts in `bench` to time.
 #![tactic(auto)]
 
 use cedar_names::ExtensionTable;
 use schema_convert::parse_cedar_schema_fragment;
 use schema_faults::syntax_fault_of;
+use schema_resolve::ResolveFragment;
 use schema_syntax::{parse_schema, scan};
 use std::alloc::{AllocError, Global};
 use std::process::ExitCode;
@@ -19,7 +20,19 @@ fn takes(alloc: Global, word: &str, text: &str) -> Result<bool, AllocError> {
             let table = ExtensionTable::all_available(alloc)?;
             Ok(parse_cedar_schema_fragment(alloc, text, &table).is_ok())
         }
+        "resolve" => resolves(alloc, text),
         _ => Ok(false),
+    }
+}
+
+// Whether each name of the text means something.
+fn resolves(alloc: Global, text: &str) -> Result<bool, AllocError> {
+    let table = ExtensionTable::all_available(alloc)?;
+    match parse_cedar_schema_fragment(alloc, text, &table) {
+        Ok((fragment, _)) => {
+            Ok(fragment.to_internal_name_fragment_with_resolved_types(alloc, &table).is_ok())
+        }
+        Err(_) => Ok(false),
     }
 }
 

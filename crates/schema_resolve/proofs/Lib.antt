@@ -1,2 +1,4 @@
 mod Equations
+mod First
 mod Lists
+mod Meant

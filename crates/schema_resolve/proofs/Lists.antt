@@ -2,14 +2,15 @@
 use Rattle.std.proofs.Common.{◌≡◌, ℕ, zero, suc, ◌+◌, ◌<◌, ◌≤◌, List, [], ◌∷◌, ◌++◌, map, length, get_or, take, drop, refl, sym, ap, ◌∙◌, subst, append_assoc, append-nil, add-one, arith}
 use Rattle.std.proofs.Common.{Result, Ok, Err}
 use Rattle.std.specs.Result.{IsErrAnd, IfErr}
+use Rattle.std.specs.Map.{keys_of}
 use Rattle.std.proofs.Math.Seq.{take-suc, drop-cons}
 use Rattle.std.proofs.lemmas.List.{map-append, take_all}
 use Rattle.schema_json.specs.Walk.{joined}
-use Rattle.schema_resolve.specs.Walk.{each}
+use Rattle.resolve_errors.specs.Gathered.{each}
 use Rattle.schema_resolve.specs.Undefined.{Undefined}
 use Rattle.schema_resolve.specs.Faults.{NamesFirst}
-use Rattle.schema_resolve.specs.declared.resolve_error.ResolveError.{ResolveError}
-use Rattle.schema_resolve.specs.declared.resolve_error.ResolveError.TheVariants.{TypeNotDefined, ActionNotDefined, Memory}
+use Rattle.resolve_errors.specs.declared.resolve_error.ResolveError.{ResolveError}
+use Rattle.resolve_errors.specs.declared.resolve_error.ResolveError.TheVariants.{TypeNotDefined, ActionNotDefined, Memory}
 
 -- the first of the front, and the first behind where the front has none
 pub front_first : (us vs : List Undefined) (e : ResolveError) → NamesFirst us e → NamesFirst (us ++ vs) e
@@ -62,3 +63,8 @@ module _ {A B : Type 0} (h : A → B) where
 pub refused : {T : Type 0} (r : Result T ResolveError) (e : ResolveError) (us : List Undefined) → IsErrAnd r (λ y. y ≡ e) → NamesFirst us e → IfErr r (NamesFirst us)
 refused (Ok x) e us h k = tt
 refused (Err y) e us h k = subst (NamesFirst us) (sym h) k
+
+-- keys stay where each entry keeps its own
+pub keys_kept : {K A B : Type 0} (h : K × A → K × B) → ((e : K × A) → (h e).0 ≡ e.0) → (es : List (K × A)) → keys_of (map h es) ≡ keys_of es
+keys_kept h same [] = refl
+keys_kept h same (e ∷ es) = λ i. same e i ∷ keys_kept h same es i

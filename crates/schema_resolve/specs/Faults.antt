@@ -2,8 +2,8 @@
 use Rattle.std.specs.Prelude.{◌≡◌, ℕ, List, [], ◌∷◌, Option, ⊤}
 use Rattle.cedar_identifiers.specs.declared.conditional_name.ConditionalName.{ConditionalName}
 use Rattle.schema_resolve.specs.Undefined.{Undefined, type_reference, action_reference}
-use Rattle.schema_resolve.specs.declared.resolve_error.ResolveError.{ResolveError}
-use Rattle.schema_resolve.specs.declared.resolve_error.ResolveError.TheVariants.{TypeNotDefined, ActionNotDefined, Memory}
+use Rattle.resolve_errors.specs.declared.resolve_error.ResolveError.{ResolveError}
+use Rattle.resolve_errors.specs.declared.resolve_error.ResolveError.TheVariants.{TypeNotDefined, ActionNotDefined, Memory}
 
 -- the error names this reference and no other; want of memory may come at any
 abbrev pub Names : Undefined → ResolveError → Type 0

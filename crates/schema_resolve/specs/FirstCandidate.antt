@@ -5,17 +5,17 @@ use Rattle.cedar_identifiers.specs.Candidates.{behind, is_unqualified}
 use Rattle.cedar_identifiers.specs.declared.reference_type.ReferenceType.{ReferenceType}
 use Rattle.cedar_identifiers.specs.declared.internal_name.InternalName.{InternalName}
 use Rattle.cedar_identifiers.specs.declared.raw_name.RawName.{RawName}
-use Rattle.cedar_names.specs.Definitions.{Definitions}
+use Rattle.schema_defined.specs.Tests.{Tests}
 use Rattle.schema_resolve.specs.Qualified.{in_namespace}
 use Rattle.schema_resolve.specs.Targets.{is_defined, target}
 
-abbrev pub if_defined : Definitions → ReferenceType → InternalName → Option InternalName → Option InternalName
-if_defined d kind name other = if is_defined d kind (components_of name) then Some name else other
+abbrev pub if_defined : Tests → ReferenceType → InternalName → Option InternalName → Option InternalName
+if_defined t kind name other = if is_defined t kind (components_of name) then Some name else other
 
 -- an unqualified name in a namespace means itself there, else itself as it is, each where it is defined in the kind asked for
-abbrev pub OwnThenPlain : Definitions → InternalName → ReferenceType → RawName → Type 0
-OwnThenPlain d ns kind name = is_unqualified name.name ≡ true → target d (in_namespace (Some ns) kind name) ≡ if_defined d kind (behind ns name.name) (if_defined d kind name.name None)
+abbrev pub OwnThenPlain : Tests → InternalName → ReferenceType → RawName → Type 0
+OwnThenPlain t ns kind name = is_unqualified name.name ≡ true → target t (in_namespace (Some ns) kind name) ≡ if_defined t kind (behind ns name.name) (if_defined t kind name.name None)
 
 -- a qualified name means itself, where that is defined, and else nothing; so does any name in the empty namespace
-abbrev pub ItselfOrNothing : Definitions → Option InternalName → ReferenceType → RawName → Type 0
-ItselfOrNothing d ns kind name = (is_unqualified name.name ≡ false) ⊎ (ns ≡ None) → target d (in_namespace ns kind name) ≡ if_defined d kind name.name None
+abbrev pub ItselfOrNothing : Tests → Option InternalName → ReferenceType → RawName → Type 0
+ItselfOrNothing t ns kind name = (is_unqualified name.name ≡ false) ⊎ (ns ≡ None) → target t (in_namespace ns kind name) ≡ if_defined t kind name.name None

@@ -1,8 +1,11 @@
-pub mod ErrorTexts
+pub mod Designated
 pub mod Faults
 pub mod FirstCandidate
+pub mod Meanings
 pub mod Qualified
+pub mod References
 pub mod Renamed
+pub mod Resolved
 pub mod Targets
 pub mod Undefined
 pub mod Walk

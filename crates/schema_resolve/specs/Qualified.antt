@@ -1,13 +1,14 @@
 -- References as a namespace makes them of names.
-use Rattle.std.specs.Prelude.{Option}
+use Rattle.std.specs.Prelude.{ℕ, List, Option}
 use Rattle.cedar_identifiers.specs.Candidates.{candidates}
 use Rattle.cedar_identifiers.specs.declared.reference_type.ReferenceType.{ReferenceType}
-use Rattle.cedar_identifiers.specs.declared.reference_type.ReferenceType.TheVariants.{Entity}
+use Rattle.cedar_identifiers.specs.declared.reference_type.ReferenceType.TheVariants.{Entity, CommonOrEntity}
 use Rattle.cedar_identifiers.specs.declared.internal_name.InternalName.{InternalName}
 use Rattle.cedar_identifiers.specs.declared.raw_name.RawName.{RawName}
 use Rattle.cedar_identifiers.specs.declared.conditional_name.ConditionalName.{ConditionalName}
 use Rattle.schema_json.specs.Actions.{written_type}
-use Rattle.std.specs.Prelude.{ℕ, List}
+use Rattle.schema_resolve.specs.Renamed.{Renaming}
+use Rattle.schema_resolve.specs.References.{either_way}
 
 -- what the name may stand for in the namespace, and what it asks for
 abbrev pub in_namespace : Option InternalName → ReferenceType → RawName → ConditionalName
@@ -16,3 +17,6 @@ in_namespace ns role name = record { possibilities = candidates ns name.name; ra
 -- the same of the type of an action, which is `Action` where none is written
 abbrev pub type_in_namespace : Option InternalName → List ℕ → Option RawName → ConditionalName
 type_in_namespace ns id ty = in_namespace ns Entity (record { name = written_type ty })
+
+abbrev pub qualifying : Option InternalName → Renaming RawName ConditionalName
+qualifying ns = record { name = in_namespace ns; either = λ name. either_way (in_namespace ns CommonOrEntity name) }

@@ -1,12 +1,15 @@
--- Fragments with each name replaced by another, which may be of another kind. Shapes, annotations, flags and places stay.
+-- Fragments with each name replaced by another, which may be of another kind, and each reference that may mean either kind
+-- of type by a type. All else stays: shapes, annotations, flags and places.
 use Rattle.std.specs.Prelude.{◌≡◌, refl, ℕ, Bool, true, false, not, ◌||◌, List, map, Option, Some, None}
 use Rattle.std.specs.Option.{option_map}
+use Rattle.cedar_data.specs.declared.loc.Loc.{Loc}
 use Rattle.cedar_data.specs.Entries.{on_value}
+use Rattle.cedar_identifiers.specs.declared.name.Name.{Name}
 use Rattle.cedar_identifiers.specs.declared.reference_type.ReferenceType.{ReferenceType}
 use Rattle.cedar_identifiers.specs.declared.reference_type.ReferenceType.TheVariants.{Common, Entity, CommonOrEntity}
 use Rattle.cedar_identifiers.specs.declared.name_text.NameText as named
 use Rattle.schema_json.specs.declared.types.Type.{«Type», Type-F, fold-Type, roll-Type}
-use Rattle.schema_json.specs.declared.types.TypeVariant.{TypeVariant, TypeVariant-F, fold-TypeVariant, roll-TypeVariant}
+use Rattle.schema_json.specs.declared.types.TypeVariant.{TypeVariant, TypeVariant-F, fold-TypeVariant, roll-TypeVariant, out-TypeVariant}
 use Rattle.schema_json.specs.declared.types.RecordType.{RecordType, RecordType-F, fold-RecordType, roll-RecordType}
 use Rattle.schema_json.specs.declared.types.TypeOfAttribute.{TypeOfAttribute, TypeOfAttribute-F, fold-TypeOfAttribute, roll-TypeOfAttribute}
 use Rattle.schema_json.specs.declared.entity_type.AttributesOrContext.{AttributesOrContext}
@@ -19,44 +22,65 @@ use Rattle.schema_json.specs.declared.action_type.ApplySpec.{ApplySpec}
 use Rattle.schema_json.specs.declared.action_type.ActionEntityUID.{ActionEntityUID}
 use Rattle.schema_json.specs.declared.action_type.ActionType.{ActionType}
 use Rattle.schema_json.specs.declared.fragment.NamespaceDefinition.{NamespaceDefinition}
+use Rattle.schema_json.specs.declared.fragment.Fragment.{Fragment}
 
 pub due_there : (b : Bool) → (not b || true) ≡ true
 due_there true = refl
 due_there false = refl
 
--- f says what a name becomes that asks for a type of a kind
-module _ {N M : Type 0} (f : ReferenceType → N → M) where
-  abbrev pub type_step : Type-F N («Type» M) (TypeVariant M) (RecordType M) (TypeOfAttribute M) → «Type» M
-  type_step (Type-F.Variant ty loc) = roll-Type M (Type-F.Variant ty loc)
-  type_step (Type-F.CommonTypeRef name loc) = roll-Type M (Type-F.CommonTypeRef (f Common name) loc)
+-- what a name becomes that asks for a type of a kind, and what a reference at a place becomes that may mean either kind
+pub record Renaming (N M : Type 0) : Type 0 where
+  pub name : ReferenceType → N → M
+  pub either : N → Option Loc → «Type» M
 
-  abbrev pub variant_step : TypeVariant-F N («Type» M) (TypeVariant M) (RecordType M) (TypeOfAttribute M) → TypeVariant M
-  variant_step TypeVariant-F.String = roll-TypeVariant M TypeVariant-F.String
-  variant_step TypeVariant-F.Long = roll-TypeVariant M TypeVariant-F.Long
-  variant_step TypeVariant-F.Boolean = roll-TypeVariant M TypeVariant-F.Boolean
-  variant_step (TypeVariant-F.Set element) = roll-TypeVariant M (TypeVariant-F.Set element)
-  variant_step (TypeVariant-F.Record r) = roll-TypeVariant M (TypeVariant-F.Record r)
-  variant_step (TypeVariant-F.Entity name) = roll-TypeVariant M (TypeVariant-F.Entity (f Entity name))
-  variant_step (TypeVariant-F.EntityOrCommon name) = roll-TypeVariant M (TypeVariant-F.EntityOrCommon (f CommonOrEntity name))
-  variant_step (TypeVariant-F.Extension name) = roll-TypeVariant M (TypeVariant-F.Extension name)
+module _ {N M : Type 0} (f : Renaming N M) where
+  abbrev pub type_step : Type-F N («Type» M) (Option Loc → «Type» M) (RecordType M) (TypeOfAttribute M) → «Type» M
+  type_step (Type-F.Variant shape loc) = shape loc
+  type_step (Type-F.CommonTypeRef name loc) = roll-Type M (Type-F.CommonTypeRef (f.name Common name) loc)
 
-  abbrev pub record_step : RecordType-F N («Type» M) (TypeVariant M) (RecordType M) (TypeOfAttribute M) → RecordType M
+  -- a shape is a type at a place
+  abbrev pub shape_step : TypeVariant-F N («Type» M) (Option Loc → «Type» M) (RecordType M) (TypeOfAttribute M) → Option Loc → «Type» M
+  shape_step TypeVariant-F.String loc = roll-Type M (Type-F.Variant (roll-TypeVariant M TypeVariant-F.String) loc)
+  shape_step TypeVariant-F.Long loc = roll-Type M (Type-F.Variant (roll-TypeVariant M TypeVariant-F.Long) loc)
+  shape_step TypeVariant-F.Boolean loc = roll-Type M (Type-F.Variant (roll-TypeVariant M TypeVariant-F.Boolean) loc)
+  shape_step (TypeVariant-F.Set element) loc = roll-Type M (Type-F.Variant (roll-TypeVariant M (TypeVariant-F.Set element)) loc)
+  shape_step (TypeVariant-F.Record r) loc = roll-Type M (Type-F.Variant (roll-TypeVariant M (TypeVariant-F.Record r)) loc)
+  shape_step (TypeVariant-F.Entity name) loc = roll-Type M (Type-F.Variant (roll-TypeVariant M (TypeVariant-F.Entity (f.name Entity name))) loc)
+  shape_step (TypeVariant-F.EntityOrCommon name) loc = f.either name loc
+  shape_step (TypeVariant-F.Extension name) loc = roll-Type M (Type-F.Variant (roll-TypeVariant M (TypeVariant-F.Extension name)) loc)
+
+  abbrev pub record_step : RecordType-F N («Type» M) (Option Loc → «Type» M) (RecordType M) (TypeOfAttribute M) → RecordType M
   record_step r = roll-RecordType M (record { attributes = r.attributes; additional_attributes = r.additional_attributes })
 
-  abbrev pub attribute_step : TypeOfAttribute-F N («Type» M) (TypeVariant M) (RecordType M) (TypeOfAttribute M) → TypeOfAttribute M
+  abbrev pub attribute_step : TypeOfAttribute-F N («Type» M) (Option Loc → «Type» M) (RecordType M) (TypeOfAttribute M) → TypeOfAttribute M
   attribute_step a = roll-TypeOfAttribute M (record { ty = a.ty; annotations = a.annotations; required = a.required })
 
   abbrev pub renamed : «Type» N → «Type» M
-  renamed = fold-Type N («Type» M) (TypeVariant M) (RecordType M) (TypeOfAttribute M) type_step variant_step record_step attribute_step
+  renamed = fold-Type N («Type» M) (Option Loc → «Type» M) (RecordType M) (TypeOfAttribute M) type_step shape_step record_step attribute_step
 
-  abbrev pub renamed_variant : TypeVariant N → TypeVariant M
-  renamed_variant = fold-TypeVariant N («Type» M) (TypeVariant M) (RecordType M) (TypeOfAttribute M) type_step variant_step record_step attribute_step
+  -- the type of this shape at a place
+  abbrev pub renamed_at : TypeVariant N → Option Loc → «Type» M
+  renamed_at = fold-TypeVariant N («Type» M) (Option Loc → «Type» M) (RecordType M) (TypeOfAttribute M) type_step shape_step record_step attribute_step
 
   abbrev pub renamed_record : RecordType N → RecordType M
-  renamed_record = fold-RecordType N («Type» M) (TypeVariant M) (RecordType M) (TypeOfAttribute M) type_step variant_step record_step attribute_step
+  renamed_record = fold-RecordType N («Type» M) (Option Loc → «Type» M) (RecordType M) (TypeOfAttribute M) type_step shape_step record_step attribute_step
 
   abbrev pub renamed_attribute : TypeOfAttribute N → TypeOfAttribute M
-  renamed_attribute = fold-TypeOfAttribute N («Type» M) (TypeVariant M) (RecordType M) (TypeOfAttribute M) type_step variant_step record_step attribute_step
+  renamed_attribute = fold-TypeOfAttribute N («Type» M) (Option Loc → «Type» M) (RecordType M) (TypeOfAttribute M) type_step shape_step record_step attribute_step
+
+  -- a shape by itself, in which a reference that may mean either kind stays one
+  abbrev pub shape_of : TypeVariant-F N («Type» N) (TypeVariant N) (RecordType N) (TypeOfAttribute N) → TypeVariant M
+  shape_of TypeVariant-F.String = roll-TypeVariant M TypeVariant-F.String
+  shape_of TypeVariant-F.Long = roll-TypeVariant M TypeVariant-F.Long
+  shape_of TypeVariant-F.Boolean = roll-TypeVariant M TypeVariant-F.Boolean
+  shape_of (TypeVariant-F.Set element) = roll-TypeVariant M (TypeVariant-F.Set (renamed element))
+  shape_of (TypeVariant-F.Record r) = roll-TypeVariant M (TypeVariant-F.Record (renamed_record r))
+  shape_of (TypeVariant-F.Entity name) = roll-TypeVariant M (TypeVariant-F.Entity (f.name Entity name))
+  shape_of (TypeVariant-F.EntityOrCommon name) = roll-TypeVariant M (TypeVariant-F.EntityOrCommon (f.name CommonOrEntity name))
+  shape_of (TypeVariant-F.Extension name) = roll-TypeVariant M (TypeVariant-F.Extension name)
+
+  abbrev pub renamed_variant : TypeVariant N → TypeVariant M
+  renamed_variant v = shape_of (out-TypeVariant N v)
 
   abbrev pub renamed_entries : List (List ℕ × TypeOfAttribute N) → List (List ℕ × TypeOfAttribute M)
   renamed_entries entries = map (on_value renamed_attribute) entries
@@ -68,7 +92,7 @@ module _ {N M : Type 0} (f : ReferenceType → N → M) where
   renamed_context c = record { 0 = renamed c.0 }
 
   abbrev pub renamed_standard : StandardEntityType N → StandardEntityType M
-  renamed_standard s = record { member_of_types = map (f Entity) s.member_of_types; shape = renamed_context s.shape; tags = option_map renamed s.tags }
+  renamed_standard s = record { member_of_types = map (f.name Entity) s.member_of_types; shape = renamed_context s.shape; tags = option_map renamed s.tags }
 
   abbrev pub renamed_kind : EntityTypeKind N → EntityTypeKind M
   renamed_kind (Standard s) = Standard (renamed_standard s)
@@ -78,7 +102,7 @@ module _ {N M : Type 0} (f : ReferenceType → N → M) where
   renamed_entity e = record { kind = renamed_kind e.kind; external = e.external; annotations = e.annotations; loc = e.loc }
 
   abbrev pub renamed_apply : ApplySpec N → ApplySpec M
-  renamed_apply s = record { resource_types = map (f Entity) s.resource_types; principal_types = map (f Entity) s.principal_types; context = renamed_context s.context }
+  renamed_apply s = record { resource_types = map (f.name Entity) s.resource_types; principal_types = map (f.name Entity) s.principal_types; context = renamed_context s.context }
 
   -- h says what the type of an action with an id becomes, which is always written then
   module _ (h : List ℕ → Option N → M) where
@@ -90,3 +114,11 @@ module _ {N M : Type 0} (f : ReferenceType → N → M) where
 
     abbrev pub renamed_namespace : {G : named.Ghosts N} {H : named.Ghosts M} → NamespaceDefinition N G → NamespaceDefinition M H
     renamed_namespace n = record { common_types = map (on_value renamed_common) n.common_types; entity_types = map (on_value renamed_entity) n.entity_types; actions = map (on_value renamed_action) n.actions; annotations = n.annotations }
+
+-- a fragment, where the renaming may depend on the namespace
+module _ {N M : Type 0} (f : Option Name → Renaming N M) (h : Option Name → List ℕ → Option N → M) where
+  abbrev pub renamed_entry : {G : named.Ghosts N} {H : named.Ghosts M} → Option Name × NamespaceDefinition N G → Option Name × NamespaceDefinition M H
+  renamed_entry e = (e.0, renamed_namespace (f e.0) (h e.0) e.1)
+
+  abbrev pub renamed_fragment : {G : named.Ghosts N} {H : named.Ghosts M} → Fragment N G → Fragment M H
+  renamed_fragment p = record { 0 = map renamed_entry p.0 }

@@ -1,7 +1,12 @@
 -- What the references of a fragment give, in the order of the walk: common types, entity types and actions by name; of an
 -- entity type its parents, its shape and its tags; of an action its parents, its principals, its resources and its context.
-use Rattle.std.specs.Prelude.{ℕ, List, [], ◌∷◌, ◌++◌, map, Option, Some, None}
+-- Of a fragment its namespaces by name, the empty one first.
+use Rattle.std.specs.Prelude.{ℕ, List, [], ◌++◌, map, Option}
+use Rattle.cedar_identifiers.specs.declared.name.Name.{Name}
 use Rattle.cedar_identifiers.specs.declared.name_text.NameText as named
+use Rattle.cedar_identifiers.specs.declared.reference_type.ReferenceType.{ReferenceType}
+use Rattle.cedar_identifiers.specs.declared.reference_type.ReferenceType.TheVariants.{Common, Entity, CommonOrEntity}
+use Rattle.resolve_errors.specs.Gathered.{each, if_there}
 use Rattle.schema_json.specs.Walk.{joined}
 use Rattle.schema_json.specs.declared.types.Type.{«Type», Type-F, fold-Type}
 use Rattle.schema_json.specs.declared.types.TypeVariant.{TypeVariant, TypeVariant-F, fold-TypeVariant}
@@ -17,31 +22,23 @@ use Rattle.schema_json.specs.declared.action_type.ApplySpec.{ApplySpec}
 use Rattle.schema_json.specs.declared.action_type.ActionEntityUID.{ActionEntityUID}
 use Rattle.schema_json.specs.declared.action_type.ActionType.{ActionType}
 use Rattle.schema_json.specs.declared.fragment.NamespaceDefinition.{NamespaceDefinition}
-
--- what an optional part gives
-abbrev pub if_there : {A U : Type 0} → (A → List U) → Option A → List U
-if_there u None = []
-if_there u (Some a) = u a
-
--- what each of a list gives
-abbrev pub each : {A U : Type 0} → (A → List U) → List A → List U
-each u xs = joined (map u xs)
+use Rattle.schema_json.specs.declared.fragment.Fragment.{Fragment}
 
 -- what the values of a map give, by key
 abbrev pub each_value : {K A U : Type 0} → (A → List U) → List (K × A) → List U
 each_value u xs = joined (map (λ e. u e.1) xs)
 
--- u says what a name gives that asks for a type
-module _ {N U : Type 0} (u : N → List U) where
+-- u says what a name gives that asks for a type of a kind
+module _ {N U : Type 0} (u : ReferenceType → N → List U) where
   abbrev pub type_part : Type-F N (List U) (List U) (List U) (List U) → List U
   type_part (Type-F.Variant ty loc) = ty
-  type_part (Type-F.CommonTypeRef name loc) = u name
+  type_part (Type-F.CommonTypeRef name loc) = u Common name
 
   abbrev pub variant_part : TypeVariant-F N (List U) (List U) (List U) (List U) → List U
   variant_part (TypeVariant-F.Set element) = element
   variant_part (TypeVariant-F.Record r) = r
-  variant_part (TypeVariant-F.Entity name) = u name
-  variant_part (TypeVariant-F.EntityOrCommon name) = u name
+  variant_part (TypeVariant-F.Entity name) = u Entity name
+  variant_part (TypeVariant-F.EntityOrCommon name) = u CommonOrEntity name
   variant_part _ = []
 
   abbrev pub record_part : RecordType-F N (List U) (List U) (List U) (List U) → List U
@@ -72,7 +69,7 @@ module _ {N U : Type 0} (u : N → List U) where
   of_context c = of_type c.0
 
   abbrev pub of_standard : StandardEntityType N → List U
-  of_standard s = each u s.member_of_types ++ (of_context s.shape ++ if_there of_type s.tags)
+  of_standard s = each (u Entity) s.member_of_types ++ (of_context s.shape ++ if_there of_type s.tags)
 
   abbrev pub of_kind : EntityTypeKind N → List U
   of_kind (Standard s) = of_standard s
@@ -82,7 +79,7 @@ module _ {N U : Type 0} (u : N → List U) where
   of_entity e = of_kind e.kind
 
   abbrev pub of_apply : ApplySpec N → List U
-  of_apply s = each u s.principal_types ++ (each u s.resource_types ++ of_context s.context)
+  of_apply s = each (u Entity) s.principal_types ++ (each (u Entity) s.resource_types ++ of_context s.context)
 
   -- w says what a reference to an action gives, by its id and its type
   module _ (w : List ℕ → Option N → List U) where
@@ -94,3 +91,11 @@ module _ {N U : Type 0} (u : N → List U) where
 
     abbrev pub of_namespace : {G : named.Ghosts N} → NamespaceDefinition N G → List U
     of_namespace n = each_value of_common n.common_types ++ (each_value of_entity n.entity_types ++ each_value of_action n.actions)
+
+-- a fragment, where what a name gives may depend on the namespace
+module _ {N U : Type 0} (u : Option Name → ReferenceType → N → List U) (w : Option Name → List ℕ → Option N → List U) where
+  abbrev pub of_entry : {G : named.Ghosts N} → Option Name × NamespaceDefinition N G → List U
+  of_entry e = of_namespace (u e.0) (w e.0) e.1
+
+  abbrev pub of_fragment : {G : named.Ghosts N} → Fragment N G → List U
+  of_fragment p = each of_entry p.0

@@ -1,21 +1,23 @@
 ghost use Rattle.std.specs.Prelude.{◌≡◌, [], List, IfOk, IfErr, OnOk};
 ghost use Rattle.cedar_names.specs.Definitions.{Definitions};
+ghost use Rattle.schema_defined.specs.Tests.{tests_of};
 ghost use Rattle.schema_resolve.specs.Undefined.{Undefined};
 ghost use Rattle.schema_resolve.specs.Faults.{NamesFirst};
-ghost use Rattle.schema_resolve.specs.Targets.{target_name, action_target_name, lacks, lacks_action};
+ghost use Rattle.schema_resolve.specs.Targets.{resolving, action_target_name, lacks, lacks_action};
 ghost use Rattle.schema_resolve.specs.Renamed.{renamed, renamed_variant, renamed_record, renamed_attribute, renamed_context, renamed_entity, renamed_apply, renamed_uid, renamed_action, renamed_namespace};
 ghost use Rattle.schema_resolve.specs.Walk.{of_type, of_variant, of_record, of_attribute, of_context, of_entity, of_apply, of_uid, of_action, of_namespace};
 
 use crate::rename_items::{rename_action, rename_apply, rename_context, rename_entity, rename_uid};
 use crate::rename_namespaces::rename_namespace;
 use crate::rename_types::{rename_attribute, rename_record, rename_type, rename_variant};
-use crate::resolve_error::ResolveError;
 use cedar_identifiers::{ConditionalName, InternalName};
 use cedar_names::AllDefs;
+use resolve_errors::ResolveError;
 use schema_json::{
     ActionEntityUID, ActionType, ApplySpec, AttributesOrContext, EntityType, NamespaceDefinition,
     RecordType, Type, TypeOfAttribute, TypeVariant,
 };
+use std::alloc::Global;
 
 /// What references mean, where it is known what is defined.
 pub trait FullyQualify {
@@ -28,7 +30,11 @@ pub trait FullyQualify {
 
     /// The same with each reference replaced by the name of what it means, or the first reference of the walk that means
     /// nothing.
-    fn fully_qualify_type_references(self, all_defs: &AllDefs) -> Result<Self::Out, ResolveError>
+    fn fully_qualify_type_references(
+        self,
+        alloc: Global,
+        all_defs: &AllDefs,
+    ) -> Result<Self::Out, ResolveError>
         ensures out { IfOk result (λ out. out ≡ resolved all_defs.now self) }
         ensures defined { OnOk result (undefined all_defs.now self ≡ []) }
         ensures err { IfErr result (NamesFirst (undefined all_defs.now self)) };
@@ -37,119 +43,159 @@ pub trait FullyQualify {
 impl FullyQualify for Type<ConditionalName> {
     type Out = Type<InternalName>;
 
-    ghost resolved = { λ d. renamed (target_name d) };
+    ghost resolved = { λ d. renamed (resolving (tests_of d)) };
 
-    ghost undefined = { λ d. of_type (lacks d) };
+    ghost undefined = { λ d. of_type (lacks (tests_of d)) };
 
-    fn fully_qualify_type_references(self, all_defs: &AllDefs) -> Result<Self::Out, ResolveError> {
-        rename_type(all_defs.alloc(), all_defs, &self)
+    fn fully_qualify_type_references(
+        self,
+        alloc: Global,
+        all_defs: &AllDefs,
+    ) -> Result<Self::Out, ResolveError> {
+        rename_type(alloc, all_defs, &self)
     }
 }
 
 impl FullyQualify for TypeVariant<ConditionalName> {
     type Out = TypeVariant<InternalName>;
 
-    ghost resolved = { λ d. renamed_variant (target_name d) };
+    ghost resolved = { λ d. renamed_variant (resolving (tests_of d)) };
 
-    ghost undefined = { λ d. of_variant (lacks d) };
+    ghost undefined = { λ d. of_variant (lacks (tests_of d)) };
 
-    fn fully_qualify_type_references(self, all_defs: &AllDefs) -> Result<Self::Out, ResolveError> {
-        rename_variant(all_defs.alloc(), all_defs, &self)
+    fn fully_qualify_type_references(
+        self,
+        alloc: Global,
+        all_defs: &AllDefs,
+    ) -> Result<Self::Out, ResolveError> {
+        rename_variant(alloc, all_defs, &self)
     }
 }
 
 impl FullyQualify for RecordType<ConditionalName> {
     type Out = RecordType<InternalName>;
 
-    ghost resolved = { λ d. renamed_record (target_name d) };
+    ghost resolved = { λ d. renamed_record (resolving (tests_of d)) };
 
-    ghost undefined = { λ d. of_record (lacks d) };
+    ghost undefined = { λ d. of_record (lacks (tests_of d)) };
 
-    fn fully_qualify_type_references(self, all_defs: &AllDefs) -> Result<Self::Out, ResolveError> {
-        rename_record(all_defs.alloc(), all_defs, &self)
+    fn fully_qualify_type_references(
+        self,
+        alloc: Global,
+        all_defs: &AllDefs,
+    ) -> Result<Self::Out, ResolveError> {
+        rename_record(alloc, all_defs, &self)
     }
 }
 
 impl FullyQualify for TypeOfAttribute<ConditionalName> {
     type Out = TypeOfAttribute<InternalName>;
 
-    ghost resolved = { λ d. renamed_attribute (target_name d) };
+    ghost resolved = { λ d. renamed_attribute (resolving (tests_of d)) };
 
-    ghost undefined = { λ d. of_attribute (lacks d) };
+    ghost undefined = { λ d. of_attribute (lacks (tests_of d)) };
 
-    fn fully_qualify_type_references(self, all_defs: &AllDefs) -> Result<Self::Out, ResolveError> {
-        rename_attribute(all_defs.alloc(), all_defs, &self)
+    fn fully_qualify_type_references(
+        self,
+        alloc: Global,
+        all_defs: &AllDefs,
+    ) -> Result<Self::Out, ResolveError> {
+        rename_attribute(alloc, all_defs, &self)
     }
 }
 
 impl FullyQualify for AttributesOrContext<ConditionalName> {
     type Out = AttributesOrContext<InternalName>;
 
-    ghost resolved = { λ d. renamed_context (target_name d) };
+    ghost resolved = { λ d. renamed_context (resolving (tests_of d)) };
 
-    ghost undefined = { λ d. of_context (lacks d) };
+    ghost undefined = { λ d. of_context (lacks (tests_of d)) };
 
-    fn fully_qualify_type_references(self, all_defs: &AllDefs) -> Result<Self::Out, ResolveError> {
-        rename_context(all_defs.alloc(), all_defs, &self)
+    fn fully_qualify_type_references(
+        self,
+        alloc: Global,
+        all_defs: &AllDefs,
+    ) -> Result<Self::Out, ResolveError> {
+        rename_context(alloc, all_defs, &self)
     }
 }
 
 impl FullyQualify for EntityType<ConditionalName> {
     type Out = EntityType<InternalName>;
 
-    ghost resolved = { λ d. renamed_entity (target_name d) };
+    ghost resolved = { λ d. renamed_entity (resolving (tests_of d)) };
 
-    ghost undefined = { λ d. of_entity (lacks d) };
+    ghost undefined = { λ d. of_entity (lacks (tests_of d)) };
 
-    fn fully_qualify_type_references(self, all_defs: &AllDefs) -> Result<Self::Out, ResolveError> {
-        rename_entity(all_defs.alloc(), all_defs, &self)
+    fn fully_qualify_type_references(
+        self,
+        alloc: Global,
+        all_defs: &AllDefs,
+    ) -> Result<Self::Out, ResolveError> {
+        rename_entity(alloc, all_defs, &self)
     }
 }
 
 impl FullyQualify for ApplySpec<ConditionalName> {
     type Out = ApplySpec<InternalName>;
 
-    ghost resolved = { λ d. renamed_apply (target_name d) };
+    ghost resolved = { λ d. renamed_apply (resolving (tests_of d)) };
 
-    ghost undefined = { λ d. of_apply (lacks d) };
+    ghost undefined = { λ d. of_apply (lacks (tests_of d)) };
 
-    fn fully_qualify_type_references(self, all_defs: &AllDefs) -> Result<Self::Out, ResolveError> {
-        rename_apply(all_defs.alloc(), all_defs, &self)
+    fn fully_qualify_type_references(
+        self,
+        alloc: Global,
+        all_defs: &AllDefs,
+    ) -> Result<Self::Out, ResolveError> {
+        rename_apply(alloc, all_defs, &self)
     }
 }
 
 impl FullyQualify for ActionEntityUID<ConditionalName> {
     type Out = ActionEntityUID<InternalName>;
 
-    ghost resolved = { λ d. renamed_uid (target_name d) (action_target_name d) };
+    ghost resolved = { λ d. renamed_uid (resolving (tests_of d)) (action_target_name (tests_of d)) };
 
-    ghost undefined = { λ d. of_uid (lacks d) (lacks_action d) };
+    ghost undefined = { λ d. of_uid (lacks (tests_of d)) (lacks_action (tests_of d)) };
 
-    fn fully_qualify_type_references(self, all_defs: &AllDefs) -> Result<Self::Out, ResolveError> {
-        rename_uid(all_defs.alloc(), all_defs, &self)
+    fn fully_qualify_type_references(
+        self,
+        alloc: Global,
+        all_defs: &AllDefs,
+    ) -> Result<Self::Out, ResolveError> {
+        rename_uid(alloc, all_defs, &self)
     }
 }
 
 impl FullyQualify for ActionType<ConditionalName> {
     type Out = ActionType<InternalName>;
 
-    ghost resolved = { λ d. renamed_action (target_name d) (action_target_name d) };
+    ghost resolved = { λ d. renamed_action (resolving (tests_of d)) (action_target_name (tests_of d)) };
 
-    ghost undefined = { λ d. of_action (lacks d) (lacks_action d) };
+    ghost undefined = { λ d. of_action (lacks (tests_of d)) (lacks_action (tests_of d)) };
 
-    fn fully_qualify_type_references(self, all_defs: &AllDefs) -> Result<Self::Out, ResolveError> {
-        rename_action(all_defs.alloc(), all_defs, &self)
+    fn fully_qualify_type_references(
+        self,
+        alloc: Global,
+        all_defs: &AllDefs,
+    ) -> Result<Self::Out, ResolveError> {
+        rename_action(alloc, all_defs, &self)
     }
 }
 
 impl FullyQualify for NamespaceDefinition<ConditionalName> {
     type Out = NamespaceDefinition<InternalName>;
 
-    ghost resolved = { λ d. renamed_namespace (target_name d) (action_target_name d) };
+    ghost resolved = { λ d. renamed_namespace (resolving (tests_of d)) (action_target_name (tests_of d)) };
 
-    ghost undefined = { λ d. of_namespace (lacks d) (lacks_action d) };
+    ghost undefined = { λ d. of_namespace (lacks (tests_of d)) (lacks_action (tests_of d)) };
 
-    fn fully_qualify_type_references(self, all_defs: &AllDefs) -> Result<Self::Out, ResolveError> {
-        rename_namespace(all_defs.alloc(), all_defs, &self)
+    fn fully_qualify_type_references(
+        self,
+        alloc: Global,
+        all_defs: &AllDefs,
+    ) -> Result<Self::Out, ResolveError> {
+        rename_namespace(alloc, all_defs, &self)
     }
 }

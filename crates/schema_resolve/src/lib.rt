@@ -1,22 +1,27 @@
 //! What the names of a fragment mean: names qualified by the namespace that they stand in, and resolved to what is defined.
 #![tactic(auto)]
 
-mod error_texts;
+pub mod designate;
+mod designator;
 pub mod fully_qualify;
-mod joining;
 pub mod laws;
 pub mod qualify;
+mod rename_fragments;
 mod rename_items;
 mod rename_namespaces;
 mod rename_types;
 mod renamer;
-pub mod resolve_error;
+pub mod resolve_fragment;
+mod resolver;
 mod scope;
 mod targets;
 
+pub use designate::Designate;
 pub use fully_qualify::FullyQualify;
 pub use qualify::Qualify;
-pub use resolve_error::{ActionNotDefinedError, ResolveError, TypeNotDefinedError};
+pub use resolve_errors::{ActionNotDefinedError, ResolveError, TypeNotDefinedError};
+pub use resolve_fragment::ResolveFragment;
+pub use schema_defined::single_fragment;
 
 #[cfg(test)]
 mod tests;

@@ -1,7 +1,7 @@
 ghost use Rattle.std.specs.Prelude.{◌≡◌, [], Option, IfOk, OnOk};
 ghost use Rattle.std.specs.Option.{option_copied};
 ghost use Rattle.cedar_identifiers.specs.declared.internal_name.InternalName.{InternalName};
-ghost use Rattle.schema_resolve.specs.Qualified.{in_namespace, type_in_namespace};
+ghost use Rattle.schema_resolve.specs.Qualified.{qualifying, type_in_namespace};
 ghost use Rattle.schema_resolve.specs.Renamed.{renamed, renamed_variant, renamed_record, renamed_attribute, renamed_context, renamed_entity, renamed_apply, renamed_uid, renamed_action, renamed_namespace};
 
 use crate::rename_items::{rename_action, rename_apply, rename_context, rename_entity, rename_uid};
@@ -33,7 +33,7 @@ pub trait Qualify {
 impl Qualify for Type<RawName> {
     type Out = Type<ConditionalName>;
 
-    ghost qualified = { λ ns. renamed (in_namespace ns) };
+    ghost qualified = { λ ns. renamed (qualifying ns) };
 
     fn conditionally_qualify_type_references(
         self,
@@ -47,7 +47,7 @@ impl Qualify for Type<RawName> {
 impl Qualify for TypeVariant<RawName> {
     type Out = TypeVariant<ConditionalName>;
 
-    ghost qualified = { λ ns. renamed_variant (in_namespace ns) };
+    ghost qualified = { λ ns. renamed_variant (qualifying ns) };
 
     fn conditionally_qualify_type_references(
         self,
@@ -61,7 +61,7 @@ impl Qualify for TypeVariant<RawName> {
 impl Qualify for RecordType<RawName> {
     type Out = RecordType<ConditionalName>;
 
-    ghost qualified = { λ ns. renamed_record (in_namespace ns) };
+    ghost qualified = { λ ns. renamed_record (qualifying ns) };
 
     fn conditionally_qualify_type_references(
         self,
@@ -75,7 +75,7 @@ impl Qualify for RecordType<RawName> {
 impl Qualify for TypeOfAttribute<RawName> {
     type Out = TypeOfAttribute<ConditionalName>;
 
-    ghost qualified = { λ ns. renamed_attribute (in_namespace ns) };
+    ghost qualified = { λ ns. renamed_attribute (qualifying ns) };
 
     fn conditionally_qualify_type_references(
         self,
@@ -89,7 +89,7 @@ impl Qualify for TypeOfAttribute<RawName> {
 impl Qualify for AttributesOrContext<RawName> {
     type Out = AttributesOrContext<ConditionalName>;
 
-    ghost qualified = { λ ns. renamed_context (in_namespace ns) };
+    ghost qualified = { λ ns. renamed_context (qualifying ns) };
 
     fn conditionally_qualify_type_references(
         self,
@@ -103,7 +103,7 @@ impl Qualify for AttributesOrContext<RawName> {
 impl Qualify for EntityType<RawName> {
     type Out = EntityType<ConditionalName>;
 
-    ghost qualified = { λ ns. renamed_entity (in_namespace ns) };
+    ghost qualified = { λ ns. renamed_entity (qualifying ns) };
 
     fn conditionally_qualify_type_references(
         self,
@@ -117,7 +117,7 @@ impl Qualify for EntityType<RawName> {
 impl Qualify for ApplySpec<RawName> {
     type Out = ApplySpec<ConditionalName>;
 
-    ghost qualified = { λ ns. renamed_apply (in_namespace ns) };
+    ghost qualified = { λ ns. renamed_apply (qualifying ns) };
 
     fn conditionally_qualify_type_references(
         self,
@@ -131,7 +131,7 @@ impl Qualify for ApplySpec<RawName> {
 impl Qualify for ActionEntityUID<RawName> {
     type Out = ActionEntityUID<ConditionalName>;
 
-    ghost qualified = { λ ns. renamed_uid (in_namespace ns) (type_in_namespace ns) };
+    ghost qualified = { λ ns. renamed_uid (qualifying ns) (type_in_namespace ns) };
 
     fn conditionally_qualify_type_references(
         self,
@@ -145,7 +145,7 @@ impl Qualify for ActionEntityUID<RawName> {
 impl Qualify for ActionType<RawName> {
     type Out = ActionType<ConditionalName>;
 
-    ghost qualified = { λ ns. renamed_action (in_namespace ns) (type_in_namespace ns) };
+    ghost qualified = { λ ns. renamed_action (qualifying ns) (type_in_namespace ns) };
 
     fn conditionally_qualify_type_references(
         self,
@@ -159,7 +159,7 @@ impl Qualify for ActionType<RawName> {
 impl Qualify for NamespaceDefinition<RawName> {
     type Out = NamespaceDefinition<ConditionalName>;
 
-    ghost qualified = { λ ns. renamed_namespace (in_namespace ns) (type_in_namespace ns) };
+    ghost qualified = { λ ns. renamed_namespace (qualifying ns) (type_in_namespace ns) };
 
     fn conditionally_qualify_type_references(
         self,

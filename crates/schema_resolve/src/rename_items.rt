@@ -2,13 +2,14 @@ ghost use Rattle.std.specs.Prelude.{◌≡◌, [], map, IfOk, IfErr, OnOk};
 ghost use Rattle.std.specs.Option.{option_map};
 ghost use Rattle.schema_resolve.specs.Faults.{NamesFirst};
 ghost use Rattle.schema_resolve.specs.Renamed.{renamed, renamed_common, renamed_context, renamed_standard, renamed_kind, renamed_entity, renamed_apply, renamed_uid, renamed_action};
-ghost use Rattle.schema_resolve.specs.Walk.{each, if_there, of_type, of_common, of_context, of_standard, of_kind, of_entity, of_apply, of_uid, of_action};
+ghost use Rattle.resolve_errors.specs.Gathered.{each, if_there};
+ghost use Rattle.schema_resolve.specs.Walk.{of_type, of_common, of_context, of_standard, of_kind, of_entity, of_apply, of_uid, of_action};
 
 use crate::rename_types::rename_type;
 use crate::renamer::{ActionRenamer, Renamer};
-use crate::resolve_error::ResolveError;
 use cedar_data::{CloneIn, List};
 use cedar_identifiers::{NameText, ReferenceType};
+use resolve_errors::ResolveError;
 use schema_json::{
     ActionEntityUID, ActionType, ApplySpec, AttributesOrContext, CommonType, EntityType,
     EntityTypeKind, StandardEntityType, Type,
@@ -21,9 +22,9 @@ fn rename_names<N, M: Drop, R: Renamer<N, M>>(
     renamer: &R,
     names: &[N],
 ) -> Result<List<M>, ResolveError>
-    ensures out { IfOk result (λ out. out ≡ map (R.becomes renamer.now ReferenceType.Entity) names.now) }
-    ensures defined { OnOk result (each (R.lacks renamer.now) names.now ≡ []) }
-    ensures err { IfErr result (NamesFirst (each (R.lacks renamer.now) names.now)) }
+    ensures out { IfOk result (λ out. out ≡ map ((R.becomes renamer.now).name ReferenceType.Entity) names.now) }
+    ensures defined { OnOk result (each (R.lacks renamer.now ReferenceType.Entity) names.now ≡ []) }
+    ensures err { IfErr result (NamesFirst (each (R.lacks renamer.now ReferenceType.Entity) names.now)) }
 {
     let mut out = Vec::new(alloc);
     for name in names {

@@ -6,9 +6,9 @@ ghost use Rattle.schema_resolve.specs.Walk.{each_value, of_common, of_entity, of
 
 use crate::rename_items::{rename_action, rename_common, rename_entity};
 use crate::renamer::{ActionRenamer, Renamer};
-use crate::resolve_error::ResolveError;
 use cedar_data::{CloneIn, Map, Text};
 use cedar_identifiers::{NameText, UnreservedId};
+use resolve_errors::ResolveError;
 use schema_json::{ActionType, CommonType, CommonTypeId, EntityType, NamespaceDefinition};
 use std::alloc::Global;
 

@@ -1,12 +1,13 @@
 ghost use Rattle.std.specs.Prelude.{◌≡◌, [], IfOk, IfErr, OnOk};
+ghost use Rattle.schema_json.specs.declared.types.Type.{Variant};
 ghost use Rattle.schema_resolve.specs.Faults.{NamesFirst};
-ghost use Rattle.schema_resolve.specs.Renamed.{renamed, renamed_variant, renamed_record, renamed_attribute, renamed_entries};
+ghost use Rattle.schema_resolve.specs.Renamed.{renamed, renamed_at, renamed_variant, renamed_record, renamed_attribute, renamed_entries};
 ghost use Rattle.schema_resolve.specs.Walk.{of_type, of_variant, of_record, of_attribute, of_entries};
 
 use crate::renamer::Renamer;
-use crate::resolve_error::ResolveError;
-use cedar_data::{Boxed, CloneIn, Map, Text};
+use cedar_data::{Boxed, CloneIn, Loc, Map, Text};
 use cedar_identifiers::ReferenceType;
+use resolve_errors::ResolveError;
 use schema_json::{RecordType, Type, TypeOfAttribute, TypeVariant};
 use std::alloc::Global;
 
@@ -22,10 +23,7 @@ pub(crate) fn rename_type<N, M: Drop, R: Renamer<N, M>>(
     ensures err { IfErr result (NamesFirst (of_type (R.lacks renamer.now) ty.now)) }
 {
     match ty {
-        Type::Variant { ty, loc } => Ok(Type::Variant {
-            ty: rename_variant(alloc, renamer, ty)?,
-            loc: *loc,
-        }),
+        Type::Variant { ty, loc } => rename_at(alloc, renamer, ty, *loc),
         Type::CommonTypeRef { type_name, loc } => Ok(Type::CommonTypeRef {
             type_name: renamer.rename(alloc, ReferenceType::Common, type_name)?,
             loc: *loc,
@@ -33,18 +31,61 @@ pub(crate) fn rename_type<N, M: Drop, R: Renamer<N, M>>(
     }
 }
 
-// The same of a shape.
+// The type of a shape at a place.
 #[cycle(rename)]
+fn rename_at<N, M: Drop, R: Renamer<N, M>>(
+    alloc: Global,
+    renamer: &R,
+    shape: &TypeVariant<N>,
+    loc: Option<Loc>,
+) -> Result<Type<M>, ResolveError>
+    ensures out { IfOk result (λ out. out ≡ renamed_at (R.becomes renamer.now) shape.now loc) }
+    ensures defined { OnOk result (of_variant (R.lacks renamer.now) shape.now ≡ []) }
+    ensures err { IfErr result (NamesFirst (of_variant (R.lacks renamer.now) shape.now)) }
+{
+    match shape {
+        TypeVariant::EntityOrCommon { type_name } => renamer.rename_either(alloc, type_name, loc),
+        TypeVariant::String => Ok(placed(TypeVariant::String, loc)),
+        TypeVariant::Long => Ok(placed(TypeVariant::Long, loc)),
+        TypeVariant::Boolean => Ok(placed(TypeVariant::Boolean, loc)),
+        TypeVariant::Set { element } => {
+            let element = rename_type(alloc, renamer, element.get())?;
+            let element = Boxed::new(alloc, element)?;
+            Ok(placed(TypeVariant::Set { element }, loc))
+        }
+        TypeVariant::Record(fields) => {
+            let fields = rename_record(alloc, renamer, fields)?;
+            Ok(placed(TypeVariant::Record(fields), loc))
+        }
+        TypeVariant::Entity { name } => {
+            let name = renamer.rename(alloc, ReferenceType::Entity, name)?;
+            Ok(placed(TypeVariant::Entity { name }, loc))
+        }
+        TypeVariant::Extension { name } => {
+            let name = name.clone_in(alloc)?;
+            Ok(placed(TypeVariant::Extension { name }, loc))
+        }
+    }
+}
+
+// A shape at a place.
+fn placed<M>(ty: TypeVariant<M>, loc: Option<Loc>) -> Type<M>
+    ensures { result ≡ Variant ty loc }
+{
+    Type::Variant { ty, loc }
+}
+
+// A shape by itself, in which a reference that may mean either kind stays one.
 pub(crate) fn rename_variant<N, M: Drop, R: Renamer<N, M>>(
     alloc: Global,
     renamer: &R,
-    ty: &TypeVariant<N>,
+    shape: &TypeVariant<N>,
 ) -> Result<TypeVariant<M>, ResolveError>
-    ensures out { IfOk result (λ out. out ≡ renamed_variant (R.becomes renamer.now) ty.now) }
-    ensures defined { OnOk result (of_variant (R.lacks renamer.now) ty.now ≡ []) }
-    ensures err { IfErr result (NamesFirst (of_variant (R.lacks renamer.now) ty.now)) }
+    ensures out { IfOk result (λ out. out ≡ renamed_variant (R.becomes renamer.now) shape.now) }
+    ensures defined { OnOk result (of_variant (R.lacks renamer.now) shape.now ≡ []) }
+    ensures err { IfErr result (NamesFirst (of_variant (R.lacks renamer.now) shape.now)) }
 {
-    match ty {
+    match shape {
         TypeVariant::String => Ok(TypeVariant::String),
         TypeVariant::Long => Ok(TypeVariant::Long),
         TypeVariant::Boolean => Ok(TypeVariant::Boolean),

@@ -2,23 +2,36 @@ ghost use Rattle.std.specs.Prelude.{◌≡◌, [], List, ℕ, Option, IfOk, IfEr
 ghost use Rattle.cedar_identifiers.specs.declared.reference_type.ReferenceType.{ReferenceType};
 ghost use Rattle.schema_resolve.specs.Undefined.{Undefined};
 ghost use Rattle.schema_resolve.specs.Faults.{NamesFirst};
+ghost use Rattle.schema_resolve.specs.Renamed.{Renaming};
 
-use crate::resolve_error::ResolveError;
+use cedar_data::Loc;
 use cedar_identifiers::{NameText, ReferenceType};
-use schema_json::ActionEntityUID;
+use resolve_errors::ResolveError;
+use schema_json::{ActionEntityUID, Type};
 use std::alloc::Global;
 
 // What each name becomes, or that it means nothing.
 pub(crate) trait Renamer<N, M> {
-    ghost becomes: { Self → ReferenceType → N → M };
+    ghost becomes: { Self → Renaming N M };
 
     // the reference, where it means nothing
-    ghost lacks: { Self → N → List Undefined };
+    ghost lacks: { Self → ReferenceType → N → List Undefined };
 
     fn rename(&self, alloc: Global, role: ReferenceType, name: &N) -> Result<M, ResolveError>
-        ensures name { IfOk result (λ out. out ≡ becomes self.now role name.now) }
-        ensures defined { OnOk result (lacks self.now name.now ≡ []) }
-        ensures err { IfErr result (NamesFirst (lacks self.now name.now)) };
+        ensures name { IfOk result (λ out. out ≡ (becomes self.now).name role name.now) }
+        ensures defined { OnOk result (lacks self.now role name.now ≡ []) }
+        ensures err { IfErr result (NamesFirst (lacks self.now role name.now)) };
+
+    // What becomes of a reference at a place that may mean a common type or an entity type.
+    fn rename_either(
+        &self,
+        alloc: Global,
+        name: &N,
+        loc: Option<Loc>,
+    ) -> Result<Type<M>, ResolveError>
+        ensures ty { IfOk result (λ out. out ≡ (becomes self.now).either name.now loc) }
+        ensures defined { OnOk result (lacks self.now ReferenceType.CommonOrEntity name.now ≡ []) }
+        ensures err { IfErr result (NamesFirst (lacks self.now ReferenceType.CommonOrEntity name.now)) };
 }
 
 // The same of the type of each reference to an action.

@@ -1,15 +1,14 @@
 ghost use Rattle.std.specs.Prelude.{◌≡◌, [], Ok, IfOk};
 ghost use Rattle.std.specs.Option.{option_copied};
-ghost use Rattle.cedar_identifiers.specs.declared.reference_type.ReferenceType.TheVariants.{Entity};
 ghost use Rattle.schema_json.specs.Actions.{written_type};
-ghost use Rattle.schema_resolve.specs.Qualified.{in_namespace, type_in_namespace};
+ghost use Rattle.schema_resolve.specs.Qualified.{qualifying, type_in_namespace};
 
 use crate::renamer::{ActionRenamer, Renamer};
-use crate::resolve_error::ResolveError;
-use cedar_data::CloneIn;
+use cedar_data::{CloneIn, Loc};
 use cedar_identifiers::{ConditionalName, InternalName, RawName, ReferenceType};
-use schema_json::ActionEntityUID;
+use resolve_errors::ResolveError;
 use schema_json::action_uid::action_name;
+use schema_json::{ActionEntityUID, Type, TypeVariant};
 use std::alloc::{AllocError, Global};
 
 // The namespace that names stand in.
@@ -19,9 +18,9 @@ pub(crate) struct Scope<'a> {
 }
 
 impl<'a> Renamer<RawName, ConditionalName> for Scope<'a> {
-    ghost becomes = { λ s role name. in_namespace (option_copied s.ns) role name };
+    ghost becomes = { λ s. qualifying (option_copied s.ns) };
 
-    ghost lacks = { λ _ _. [] };
+    ghost lacks = { λ _ _ _. [] };
 
     fn rename(
         &self,
@@ -31,6 +30,19 @@ impl<'a> Renamer<RawName, ConditionalName> for Scope<'a> {
     ) -> Result<ConditionalName, ResolveError> {
         let copy = name.clone_in(alloc)?;
         Ok(copy.conditionally_qualify_with(alloc, self.ns, role)?)
+    }
+
+    fn rename_either(
+        &self,
+        alloc: Global,
+        name: &RawName,
+        loc: Option<Loc>,
+    ) -> Result<Type<ConditionalName>, ResolveError> {
+        let type_name = self.rename(alloc, ReferenceType::CommonOrEntity, name)?;
+        Ok(Type::Variant {
+            ty: TypeVariant::EntityOrCommon { type_name },
+            loc,
+        })
     }
 }
 

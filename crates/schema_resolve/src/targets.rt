@@ -1,19 +1,20 @@
 ghost use Rattle.std.specs.Prelude.{◌≡◌, [], Ok, IfOk, find};
 ghost use Rattle.std.specs.Option.{option_copied};
 ghost use Rattle.cedar_identifiers.specs.Names.{components_of};
-ghost use Rattle.schema_resolve.specs.Targets.{is_defined, is_action, target_name, action_target_name, lacks, lacks_action};
+ghost use Rattle.schema_defined.specs.Tests.{tests_of};
+ghost use Rattle.schema_resolve.specs.Targets.{is_defined, is_action, resolving, action_target_name, lacks, lacks_action};
 
 use crate::renamer::{ActionRenamer, Renamer};
-use crate::resolve_error::{ActionNotDefinedError, ResolveError, TypeNotDefinedError};
-use cedar_data::{CloneIn, NonEmpty, Text};
+use cedar_data::{CloneIn, Loc, NonEmpty, Text};
 use cedar_identifiers::{ConditionalName, Eid, InternalName, Name, ReferenceType};
 use cedar_names::{AllDefs, EntityUID};
-use schema_json::ActionEntityUID;
+use resolve_errors::{ActionNotDefinedError, ResolveError, TypeNotDefinedError};
+use schema_json::{ActionEntityUID, Type, TypeVariant};
 use std::alloc::{AllocError, Global};
 
 // Whether the name is defined in the kind that is asked for.
-fn is_defined(defs: &AllDefs, kind: ReferenceType, name: &InternalName) -> bool
-    ensures { result ≡ is_defined defs.now kind (components_of name.now) }
+pub(crate) fn is_defined(defs: &AllDefs, kind: ReferenceType, name: &InternalName) -> bool
+    ensures { result ≡ is_defined (tests_of defs.now) kind (components_of name.now) }
 {
     match kind {
         ReferenceType::Common => defs.is_defined_as_common(name),
@@ -30,7 +31,7 @@ fn first_defined<'a>(
     kind: ReferenceType,
     names: &'a NonEmpty<InternalName>,
 ) -> Option<&'a InternalName>
-    ensures { option_copied result ≡ find (λ name. is_defined defs.now kind (components_of name)) names.now }
+    ensures { option_copied result ≡ find (λ name. is_defined (tests_of defs.now) kind (components_of name)) names.now }
 {
     for name in names.iter() {
         if is_defined(defs, kind, name) {
@@ -41,9 +42,9 @@ fn first_defined<'a>(
 }
 
 impl Renamer<ConditionalName, InternalName> for AllDefs {
-    ghost becomes = { target_name };
+    ghost becomes = { λ d. resolving (tests_of d) };
 
-    ghost lacks = { lacks };
+    ghost lacks = { λ d. lacks (tests_of d) };
 
     fn rename(
         &self,
@@ -58,6 +59,19 @@ impl Renamer<ConditionalName, InternalName> for AllDefs {
             })),
         }
     }
+
+    fn rename_either(
+        &self,
+        alloc: Global,
+        name: &ConditionalName,
+        loc: Option<Loc>,
+    ) -> Result<Type<InternalName>, ResolveError> {
+        let type_name = self.rename(alloc, ReferenceType::CommonOrEntity, name)?;
+        Ok(Type::Variant {
+            ty: TypeVariant::EntityOrCommon { type_name },
+            loc,
+        })
+    }
 }
 
 // Whether an action with this type and id is defined.
@@ -67,7 +81,7 @@ fn is_action(
     id: &Text,
     ty: &InternalName,
 ) -> Result<bool, AllocError>
-    ensures { IfOk result (λ answer. answer ≡ is_action defs.now id.now ty.now) }
+    ensures { IfOk result (λ answer. answer ≡ is_action (tests_of defs.now) id.now ty.now) }
 {
     match Name::from_internal(ty.clone_in(alloc)?) {
         Some(ty) => {
@@ -85,7 +99,7 @@ fn first_action<'a>(
     id: &Text,
     types: &'a NonEmpty<InternalName>,
 ) -> Result<Option<&'a InternalName>, AllocError>
-    ensures { IfOk result (λ found. option_copied found ≡ find (is_action defs.now id.now) types.now) }
+    ensures { IfOk result (λ found. option_copied found ≡ find (is_action (tests_of defs.now) id.now) types.now) }
 {
     for ty in types.iter() {
         if is_action(alloc, defs, id, ty)? {
@@ -96,9 +110,9 @@ fn first_action<'a>(
 }
 
 impl ActionRenamer<ConditionalName, InternalName> for AllDefs {
-    ghost action_becomes = { action_target_name };
+    ghost action_becomes = { λ d. action_target_name (tests_of d) };
 
-    ghost lacks_action = { lacks_action };
+    ghost lacks_action = { λ d. lacks_action (tests_of d) };
 
     fn rename_action(
         &self,

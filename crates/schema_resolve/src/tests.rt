@@ -1,13 +1,14 @@
-use crate::laws::{itself_or_nothing, own_namespace_first};
-use crate::{ActionNotDefinedError, FullyQualify, Qualify, ResolveError, TypeNotDefinedError};
-use cedar_data::{CloneIn, List, Loc, Map, NonEmpty, Text};
+use crate::laws::{itself_or_nothing, one_target, own_namespace_first, resolves_what_is_meant};
+use crate::{Designate, FullyQualify, Qualify, ResolveError, ResolveFragment};
+use cedar_data::{List, Map, Text};
 use cedar_identifiers::{
-    Annotations, Eid, InternalName, Name, NameText, RawName, ReferenceType, Severity, UnreservedId,
+    Annotations, Eid, InternalName, Name, NameText, RawName, ReferenceType, UnreservedId,
 };
-use cedar_names::{AllDefs, EntityUID};
+use cedar_names::{AllDefs, EntityUID, ExtensionTable};
 use schema_json::{
-    ActionEntityUID, ActionType, ApplySpec, AttributesOrContext, EntityType, EntityTypeKind,
-    NamespaceDefinition, RecordType, StandardEntityType, Type, TypeOfAttribute, TypeVariant,
+    ActionEntityUID, ActionType, ApplySpec, AttributesOrContext, CommonType, CommonTypeId,
+    EntityType, EntityTypeKind, Fragment, NamespaceDefinition, RecordType, StandardEntityType,
+    Type, TypeOfAttribute, TypeVariant,
 };
 use std::alloc::{AllocError, Global};
 use std::collections::BTreeMap;
@@ -77,7 +78,7 @@ fn meant(
     ty: Type<RawName>,
 ) -> Result<Option<Type<InternalName>>, Fail> {
     let qualified = ty.conditionally_qualify_type_references(alloc, Some(ns))?;
-    match qualified.fully_qualify_type_references(defs) {
+    match qualified.fully_qualify_type_references(alloc, defs) {
         Ok(ty) => Ok(Some(ty)),
         Err(ResolveError::TypeNotDefined(_)) => Ok(None),
         Err(_) => Err(Fail::from(AllocError)),
@@ -100,6 +101,15 @@ fn references_mean_the_first_candidate(rt: HostRuntime) -> Result<(), Fail> {
     }
     own_namespace_first(&defs, &ns, ReferenceType::Entity, &raw(rt.alloc(), "T")?);
     itself_or_nothing(&defs, None, ReferenceType::Entity, &raw(rt.alloc(), "T")?);
+    resolves_what_is_meant(
+        &defs,
+        Some(&ns),
+        ReferenceType::Entity,
+        &raw(rt.alloc(), "T")?,
+    );
+    let reference = raw(rt.alloc(), "T")?;
+    let reference = reference.conditionally_qualify_with(rt.alloc(), None, ReferenceType::Entity)?;
+    one_target(&defs, &reference);
     Ok(())
 }
 
@@ -151,6 +161,17 @@ fn entity<N: Drop>(
     })
 }
 
+/// What applies to this principal in this context.
+fn apply<N: Drop>(alloc: Global, principal: N, context: N) -> Result<ApplySpec<N>, Fail> {
+    let mut principal_types = List::new(alloc);
+    principal_types.push(principal)?;
+    Ok(ApplySpec {
+        resource_types: List::new(alloc),
+        principal_types,
+        context: AttributesOrContext(reference(ReferenceType::Common, context)),
+    })
+}
+
 /// An action with this parent, that applies to this principal in this context.
 fn action<N: NameText + Drop>(
     alloc: Global,
@@ -160,15 +181,9 @@ fn action<N: NameText + Drop>(
 ) -> Result<ActionType<N>, Fail> {
     let mut parents = List::new(alloc);
     parents.push(parent)?;
-    let mut principal_types = List::new(alloc);
-    principal_types.push(principal)?;
     Ok(ActionType {
         attributes: None,
-        applies_to: Some(ApplySpec {
-            resource_types: List::new(alloc),
-            principal_types,
-            context: AttributesOrContext(reference(ReferenceType::Common, context)),
-        }),
+        applies_to: Some(apply(alloc, principal, context)?),
         member_of: Some(parents),
         external: false,
         annotations: Annotations::new(alloc),
@@ -176,18 +191,33 @@ fn action<N: NameText + Drop>(
     })
 }
 
-/// A namespace with an entity type `A` and an action `b`.
+/// A common type that stands for `Long`.
+fn long<N: Drop>(alloc: Global) -> CommonType<N> {
+    CommonType {
+        ty: Type::Variant {
+            ty: TypeVariant::Long,
+            loc: None,
+        },
+        annotations: Annotations::new(alloc),
+        loc: None,
+    }
+}
+
+/// A namespace with a common type `E`, an entity type `A` and an action `b`.
 fn namespace<N: NameText + Drop>(
     alloc: Global,
     entity: EntityType<N>,
     action: ActionType<N>,
 ) -> Result<NamespaceDefinition<N>, Fail> {
+    let mut common_types = BTreeMap::new(alloc);
+    let id = UnreservedId::from_normalized_str(alloc, "E")?;
+    common_types.insert(CommonTypeId { id }, long(alloc))?;
     let mut entity_types = BTreeMap::new(alloc);
     entity_types.insert(UnreservedId::from_normalized_str(alloc, "A")?, entity)?;
     let mut actions = BTreeMap::new(alloc);
     actions.insert(Text::from_str(alloc, "b")?, action)?;
     Ok(NamespaceDefinition {
-        common_types: Map::new(alloc),
+        common_types: Map::from_tree(alloc, common_types)?,
         entity_types: Map::from_tree(alloc, entity_types)?,
         actions: Map::from_tree(alloc, actions)?,
         annotations: Annotations::new(alloc),
@@ -201,12 +231,12 @@ fn records_and_attributes_are_resolved(rt: HostRuntime) -> Result<(), Fail> {
     let written = record(alloc, reference(ReferenceType::Common, raw(alloc, "V")?))?;
     let found = written.conditionally_qualify_type_references(alloc, None)?;
     let expected = record(alloc, reference(ReferenceType::Common, name(alloc, "V")?))?;
-    assert!(rt; done(found.fully_qualify_type_references(&defs))? == expected);
+    assert!(rt; done(found.fully_qualify_type_references(alloc, &defs))? == expected);
 
     let written = attribute(alloc, reference(ReferenceType::Entity, raw(alloc, "U")?));
     let found = written.conditionally_qualify_type_references(alloc, None)?;
     let expected = attribute(alloc, reference(ReferenceType::Entity, name(alloc, "U")?));
-    assert!(rt; done(found.fully_qualify_type_references(&defs))? == expected);
+    assert!(rt; done(found.fully_qualify_type_references(alloc, &defs))? == expected);
 
     let written = TypeVariant::Entity {
         name: raw(alloc, "U")?,
@@ -215,12 +245,67 @@ fn records_and_attributes_are_resolved(rt: HostRuntime) -> Result<(), Fail> {
     let expected = TypeVariant::Entity {
         name: name(alloc, "U")?,
     };
-    assert!(rt; done(found.fully_qualify_type_references(&defs))? == expected);
+    assert!(rt; done(found.fully_qualify_type_references(alloc, &defs))? == expected);
 
     let written = AttributesOrContext(reference(ReferenceType::Common, raw(alloc, "V")?));
     let found = written.conditionally_qualify_type_references(alloc, None)?;
     let expected = AttributesOrContext(reference(ReferenceType::Common, name(alloc, "V")?));
-    assert!(rt; done(found.fully_qualify_type_references(&defs))? == expected);
+    assert!(rt; done(found.fully_qualify_type_references(alloc, &defs))? == expected);
+    Ok(())
+}
+
+/// The entity type `A` as it is written in the namespace `N`.
+fn written_entity(alloc: Global) -> Result<EntityType<RawName>, Fail> {
+    let tags = reference(ReferenceType::CommonOrEntity, raw(alloc, "U")?);
+    entity(alloc, raw(alloc, "T")?, raw(alloc, "E")?, tags)
+}
+
+/// The same with full names.
+fn full_entity(alloc: Global, tags: ReferenceType) -> Result<EntityType<InternalName>, Fail> {
+    let tags = reference(tags, name(alloc, "U")?);
+    entity(alloc, name(alloc, "N::T")?, name(alloc, "E")?, tags)
+}
+
+/// The action `b` as it is written in the namespace `N`.
+fn written_action(alloc: Global) -> Result<ActionType<RawName>, Fail> {
+    let parent = ActionEntityUID::default_type(Text::from_str(alloc, "a")?);
+    action(alloc, parent, raw(alloc, "V")?, raw(alloc, "V")?)
+}
+
+/// The action `a` with its full type.
+fn full_parent(alloc: Global) -> Result<ActionEntityUID<InternalName>, Fail> {
+    let id = Text::from_str(alloc, "a")?;
+    Ok(ActionEntityUID::with_type(name(alloc, "N::Action")?, id))
+}
+
+/// The action `b` with full names.
+fn full_action(alloc: Global) -> Result<ActionType<InternalName>, Fail> {
+    let parent = full_parent(alloc)?;
+    action(alloc, parent, name(alloc, "N::V")?, name(alloc, "V")?)
+}
+
+#[test]
+fn items_are_resolved(rt: HostRuntime) -> Result<(), Fail> {
+    let alloc = rt.alloc();
+    let defs = definitions(alloc)?;
+    let ns = name(alloc, "N")?;
+    let found = written_entity(alloc)?.conditionally_qualify_type_references(alloc, Some(&ns))?;
+    let expected = full_entity(alloc, ReferenceType::CommonOrEntity)?;
+    assert!(rt; done(found.fully_qualify_type_references(alloc, &defs))? == expected);
+
+    let found = written_action(alloc)?.conditionally_qualify_type_references(alloc, Some(&ns))?;
+    let expected = full_action(alloc)?;
+    assert!(rt; done(found.fully_qualify_type_references(alloc, &defs))? == expected);
+
+    let written = apply(alloc, raw(alloc, "V")?, raw(alloc, "V")?)?;
+    let found = written.conditionally_qualify_type_references(alloc, Some(&ns))?;
+    let expected = apply(alloc, name(alloc, "N::V")?, name(alloc, "V")?)?;
+    assert!(rt; done(found.fully_qualify_type_references(alloc, &defs))? == expected);
+
+    let written = ActionEntityUID::default_type(Text::from_str(alloc, "a")?);
+    let found = written.conditionally_qualify_type_references(alloc, Some(&ns))?;
+    let expected = full_parent(alloc)?;
+    assert!(rt; done(found.fully_qualify_type_references(alloc, &defs))? == expected);
     Ok(())
 }
 
@@ -229,83 +314,82 @@ fn namespaces_are_resolved(rt: HostRuntime) -> Result<(), Fail> {
     let alloc = rt.alloc();
     let defs = definitions(alloc)?;
     let ns = name(alloc, "N")?;
-    let written = namespace(
-        alloc,
-        entity(
-            alloc,
-            raw(alloc, "T")?,
-            raw(alloc, "E")?,
-            reference(ReferenceType::Entity, raw(alloc, "U")?),
-        )?,
-        action(
-            alloc,
-            ActionEntityUID::default_type(Text::from_str(alloc, "a")?),
-            raw(alloc, "V")?,
-            raw(alloc, "V")?,
-        )?,
-    )?;
+    let written = namespace(alloc, written_entity(alloc)?, written_action(alloc)?)?;
     let found = written.conditionally_qualify_type_references(alloc, Some(&ns))?;
-    let uid = ActionEntityUID::with_type(name(alloc, "N::Action")?, Text::from_str(alloc, "a")?);
-    let expected = namespace(
-        alloc,
-        entity(
-            alloc,
-            name(alloc, "N::T")?,
-            name(alloc, "E")?,
-            reference(ReferenceType::Entity, name(alloc, "U")?),
-        )?,
-        action(alloc, uid, name(alloc, "N::V")?, name(alloc, "V")?)?,
-    )?;
-    assert!(rt; done(found.fully_qualify_type_references(&defs))? == expected);
+    let found = done(found.fully_qualify_type_references(alloc, &defs))?;
+    let tags = ReferenceType::CommonOrEntity;
+    let expected = namespace(alloc, full_entity(alloc, tags)?, full_action(alloc)?)?;
+    assert!(rt; found == expected);
+
+    let found = done(found.resolve_entity_or_common_types(alloc, &defs))?;
+    let tags = ReferenceType::Entity;
+    let expected = namespace(alloc, full_entity(alloc, tags)?, full_action(alloc)?)?;
+    assert!(rt; found == expected);
     Ok(())
 }
 
-/// The error that a type's name at this place gives where nothing is defined.
-fn undefined_type(alloc: Global, text: &str, at: usize) -> Result<TypeNotDefinedError, Fail> {
-    let mut name = name(alloc, text)?;
-    name.loc = Some(Loc::new(at, at));
-    let written = reference(ReferenceType::Entity, RawName::from_internal(name));
-    let found = written.conditionally_qualify_type_references(alloc, None)?;
-    match found.fully_qualify_type_references(&AllDefs::new(alloc)) {
-        Err(ResolveError::TypeNotDefined(error)) => Ok(error),
-        _ => Err(Fail::from(AllocError)),
-    }
+/// The fragment of this namespace `N` alone.
+fn fragment<N: NameText + Drop>(
+    alloc: Global,
+    definition: NamespaceDefinition<N>,
+) -> Result<Fragment<N>, Fail> {
+    let mut namespaces = BTreeMap::new(alloc);
+    let n = Name::from_normalized_str(alloc, "N")?;
+    namespaces.insert(Some(n), definition)?;
+    Ok(Fragment(Map::from_tree(alloc, namespaces)?))
 }
 
-/// The error that an action without a type gives where nothing is defined.
-fn undefined_action(alloc: Global, id: &str) -> Result<ActionNotDefinedError, Fail> {
-    let written = ActionEntityUID::default_type(Text::from_str(alloc, id)?);
-    let found = written.conditionally_qualify_type_references(alloc, None)?;
-    match found.fully_qualify_type_references(&AllDefs::new(alloc)) {
-        Err(ResolveError::ActionNotDefined(error)) => Ok(error),
-        _ => Err(Fail::from(AllocError)),
-    }
+/// A fragment whose names its own declarations define.
+fn written_fragment(alloc: Global) -> Result<Fragment<RawName>, Fail> {
+    let tags = reference(ReferenceType::CommonOrEntity, raw(alloc, "Long")?);
+    let entity = entity(alloc, raw(alloc, "A")?, raw(alloc, "E")?, tags)?;
+    let parent = ActionEntityUID::default_type(Text::from_str(alloc, "b")?);
+    let action = action(alloc, parent, raw(alloc, "A")?, raw(alloc, "E")?)?;
+    fragment(alloc, namespace(alloc, entity, action)?)
+}
+
+/// The same with full names.
+fn full_fragment(alloc: Global) -> Result<Fragment<InternalName>, Fail> {
+    let tags = reference(ReferenceType::Common, name(alloc, "Long")?);
+    let entity = entity(alloc, name(alloc, "N::A")?, name(alloc, "N::E")?, tags)?;
+    let parent = ActionEntityUID::with_type(name(alloc, "N::Action")?, Text::from_str(alloc, "b")?);
+    let action = action(alloc, parent, name(alloc, "N::A")?, name(alloc, "N::E")?)?;
+    fragment(alloc, namespace(alloc, entity, action)?)
 }
 
 #[test]
-fn undefined_types_are_joined_in_order(rt: HostRuntime) -> Result<(), Fail> {
+fn fragments_are_resolved(rt: HostRuntime) -> Result<(), Fail> {
     let alloc = rt.alloc();
-    let mut others = Vec::new(alloc);
-    others.push(undefined_type(alloc, "y", 2)?)?;
-    let errors = NonEmpty::from_parts(undefined_type(alloc, "x", 1)?, others);
-    let joined = TypeNotDefinedError::join_nonempty(alloc, errors)?.clone_in(alloc)?;
-    let labels = joined.labels(alloc)?;
-    for (k, label) in labels.iter().enumerate() {
-        assert_eq!(rt; label.span.start, k + 1);
-    }
-    assert_eq!(rt; labels.len(), 2);
-    assert!(rt; joined.help(alloc, "")?.is_none());
-    assert_eq!(rt; joined.severity(), Severity::Error);
+    let table = ExtensionTable::none(alloc);
+    let written = written_fragment(alloc)?;
+    let found = done(written.to_internal_name_fragment_with_resolved_types(alloc, &table))?;
+    assert!(rt; found == full_fragment(alloc)?);
+    let again = done(found.resolve_entity_or_common_types(alloc, &AllDefs::new(alloc)))?;
+    assert!(rt; again == full_fragment(alloc)?);
     Ok(())
 }
 
+// A name that may be of either kind, and what it is, if it is a common type or an entity type.
+const DESIGNATED: [(&str, Option<ReferenceType>); 4] = [
+    ("V", Some(ReferenceType::Common)),
+    ("U", Some(ReferenceType::Entity)),
+    ("N::T", Some(ReferenceType::Common)),
+    ("T", None),
+];
+
 #[test]
-fn undefined_actions_have_advice(rt: HostRuntime) -> Result<(), Fail> {
+fn references_are_designated(rt: HostRuntime) -> Result<(), Fail> {
     let alloc = rt.alloc();
-    let errors = NonEmpty::new(alloc, undefined_action(alloc, "a")?);
-    let joined = ActionNotDefinedError::join_nonempty(alloc, errors)?.clone_in(alloc)?;
-    assert!(rt; joined.labels(alloc)?.is_empty());
-    assert!(rt; joined.help(alloc, "")?.is_some());
-    assert_eq!(rt; joined.severity(), Severity::Error);
+    let defs = definitions(alloc)?;
+    for (text, kind) in &DESIGNATED {
+        let written = reference(ReferenceType::CommonOrEntity, name(alloc, text)?);
+        match written.resolve_entity_or_common_types(alloc, &defs) {
+            Ok(found) => match kind {
+                Some(kind) => assert!(rt; found == reference(*kind, name(alloc, text)?), "{text}"),
+                None => assert!(rt; false, "{text}"),
+            },
+            Err(_) => assert!(rt; kind.is_none(), "{text}"),
+        }
+    }
     Ok(())
 }

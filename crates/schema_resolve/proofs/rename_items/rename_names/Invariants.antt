@@ -1,10 +1,10 @@
 use Rattle.std.proofs.Common.{◌≡◌, [], map, take}
 use Rattle.cedar_identifiers.specs.declared.reference_type.ReferenceType.TheVariants.{Entity}
-use Rattle.schema_resolve.specs.Walk.{each}
+use Rattle.resolve_errors.specs.Gathered.{each}
 use Rattle.schema_resolve.proofs.rename_items.rename_names.Given as goal
 
 abbrev pub invariant-loop-name : goal.invariant-loop-name
 invariant-loop-name g l = record {
-  out : l.out.items ≡ map (g.R.Renamer.becomes l.renamer Entity) (take l.name-index l.names);
-  defined : each (g.R.Renamer.lacks l.renamer) (take l.name-index l.names) ≡ [];
+  out : l.out.items ≡ map ((g.R.Renamer.becomes l.renamer).name Entity) (take l.name-index l.names);
+  defined : each (g.R.Renamer.lacks l.renamer Entity) (take l.name-index l.names) ≡ [];
 }

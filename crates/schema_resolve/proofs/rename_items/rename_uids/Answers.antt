@@ -1,5 +1,6 @@
 use Rattle.std.proofs.Common.{◌≡◌, ◌∷◌, ◌++◌, [], map, sym, ◌∙◌}
-use Rattle.schema_resolve.specs.Walk.{each, of_uid}
+use Rattle.resolve_errors.specs.Gathered.{each}
+use Rattle.schema_resolve.specs.Walk.{of_uid}
 use Rattle.schema_resolve.proofs.Lists.{each_more, each_first, map_more, refused}
 use Rattle.schema_resolve.specs.Renamed.{renamed_uid}
 use Rattle.schema_resolve.proofs.rename_items.rename_uids.Goals as goal

@@ -1,6 +1,7 @@
 use Rattle.std.proofs.Common.{◌≡◌, [], map, take}
 use Rattle.schema_resolve.specs.Renamed.{renamed_uid}
-use Rattle.schema_resolve.specs.Walk.{each, of_uid}
+use Rattle.resolve_errors.specs.Gathered.{each}
+use Rattle.schema_resolve.specs.Walk.{of_uid}
 use Rattle.schema_resolve.proofs.rename_items.rename_uids.Given as goal
 
 abbrev pub invariant-loop-uid : goal.invariant-loop-uid

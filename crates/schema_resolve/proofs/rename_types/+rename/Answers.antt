@@ -2,11 +2,13 @@ use Rattle.std.proofs.Common.{◌≡◌, ◌∷◌, ◌++◌, [], ap, sym, ◌�
 use Rattle.cedar_data.specs.Entries.{on_value, keys_on_values}
 use Rattle.schema_json.specs.declared.types.TypeOfAttribute.{size-TypeOfAttribute}
 use Rattle.schema_json.specs.Sizes.{most_at}
+use Rattle.schema_json.specs.declared.types.Type.TheVariants.{Variant}
+use Rattle.schema_json.specs.declared.types.TypeVariant.TheVariants.{Record}
 use Rattle.schema_resolve.specs.Renamed.{renamed_attribute}
 use Rattle.schema_resolve.specs.Walk.{of_attribute, of_record, of_entries}
 use Rattle.schema_resolve.specs.Faults.{NamesFirst}
 use Rattle.schema_resolve.proofs.Lists.{each_more, each_first, map_more, refused}
-use Rattle.schema_resolve.proofs.Equations.{record_renamed, variant_renamed, record_walked, variant_walked}
+use Rattle.schema_resolve.proofs.Equations.{record_renamed, record_renamed_at, record_walked, variant_walked}
 use Rattle.schema_resolve.proofs.rename_types.+rename.Goals as goal
 
 pub rename_entries-rename_attribute-requires : goal.rename_entries-rename_attribute-requires
@@ -55,10 +57,10 @@ pub rename_record-returns-clause-defined : goal.rename_record-returns-clause-def
 rename_record-returns-clause-defined g t c =
     rw (record_walked (g.R.Renamer.lacks c.args.renamer.now) c.args.fields.now, ← c.as_slice.ensures.entries) c.in_ok-rename_entries.ensures.defined
 
-pub rename_variant-returns-in_ok-rename_record-in-Record-clause-out : goal.rename_variant-returns-in_ok-rename_record-in-Record-clause-out
-rename_variant-returns-in_ok-rename_record-in-Record-clause-out g t c =
-    rw (c.in-Record.is, variant_renamed (g.R.Renamer.becomes c.args.renamer.now) c.in-Record.fields, c.in_ok-rename_record-in-Record.ensures.out)
+pub rename_at-returns-in_ok-fields-in-Record-clause-out : goal.rename_at-returns-in_ok-fields-in-Record-clause-out
+rename_at-returns-in_ok-fields-in-Record-clause-out g t c =
+    rw (c.in-Record.is, record_renamed_at (g.R.Renamer.becomes c.args.renamer.now) c.in-Record.fields c.args.loc) (c.placed-in-Record.ensures ∙ ap (λ r. Variant (Record r) c.args.loc) c.in_ok-fields-in-Record.ensures.out)
 
-pub rename_variant-returns-in_ok-rename_record-in-Record-clause-defined : goal.rename_variant-returns-in_ok-rename_record-in-Record-clause-defined
-rename_variant-returns-in_ok-rename_record-in-Record-clause-defined g t c =
-    rw (c.in-Record.is, variant_walked (g.R.Renamer.lacks c.args.renamer.now) c.in-Record.fields) c.in_ok-rename_record-in-Record.ensures.defined
+pub rename_at-returns-in_ok-fields-in-Record-clause-defined : goal.rename_at-returns-in_ok-fields-in-Record-clause-defined
+rename_at-returns-in_ok-fields-in-Record-clause-defined g t c =
+    rw (c.in-Record.is, variant_walked (g.R.Renamer.lacks c.args.renamer.now) c.in-Record.fields) c.in_ok-fields-in-Record.ensures.defined

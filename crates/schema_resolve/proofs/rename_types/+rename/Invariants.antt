@@ -15,8 +15,8 @@ decreases-rename_type g l = 2 * goal.size-rename_type g l
 abbrev pub decreases-rename_attribute : goal.decreases-rename_attribute
 decreases-rename_attribute g l = 2 * goal.size-rename_attribute g l
 
-abbrev pub decreases-rename_variant : goal.decreases-rename_variant
-decreases-rename_variant g l = 2 * goal.size-rename_variant g l
+abbrev pub decreases-rename_at : goal.decreases-rename_at
+decreases-rename_at g l = 2 * goal.size-rename_at g l
 
 abbrev pub decreases-rename_entries : goal.decreases-rename_entries
 decreases-rename_entries g l = 2 * most (size-TypeOfAttribute g.row.N.Denot) (values_of l.entries.now) + 1

@@ -1,8 +1,9 @@
 use Rattle.std.proofs.Common.{◌≡◌, find}
 use Rattle.cedar_data.specs.NonEmpty.{items_left}
 use Rattle.cedar_identifiers.specs.Names.{components_of}
+use Rattle.schema_defined.specs.Tests.{tests_of}
 use Rattle.schema_resolve.specs.Targets.{is_defined}
 use Rattle.schema_resolve.proofs.targets.first_defined.Given as goal
 
 abbrev pub invariant-loop-name : goal.invariant-loop-name
-invariant-loop-name l = find (λ name. is_defined l.defs l.kind (components_of name)) (items_left l.name-iterator) ≡ find (λ name. is_defined l.defs l.kind (components_of name)) l.names
+invariant-loop-name l = find (λ name. is_defined (tests_of l.defs) l.kind (components_of name)) (items_left l.name-iterator) ≡ find (λ name. is_defined (tests_of l.defs) l.kind (components_of name)) l.names

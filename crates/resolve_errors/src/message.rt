@@ -1,0 +1,14 @@
+ghost use Rattle.std.specs.List.{list_all};
+ghost use Rattle.std.specs.Char.{is_ascii};
+ghost use Rattle.std.specs.Prelude.{◌≡◌, true, IfOk};
+
+use cedar_data::Text;
+use std::alloc::{AllocError, Global};
+
+/// An ASCII text.
+pub fn message(alloc: Global, text: &str) -> Result<Text, AllocError>
+    requires { list_all is_ascii text.now ≡ true }
+    ensures { IfOk result (λ copy. copy ≡ text.now) }
+{
+    Text::from_str(alloc, text)
+}

@@ -1,0 +1,5 @@
+mod Actions
+mod Ascii
+mod Builtins
+mod Sets
+mod Types

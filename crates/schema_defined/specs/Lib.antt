@@ -1,0 +1,4 @@
+pub mod Added
+pub mod Declared
+pub mod Defined
+pub mod Tests

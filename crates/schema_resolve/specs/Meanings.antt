@@ -1,0 +1,60 @@
+-- What a reference means.
+use Rattle.std.specs.Prelude.{◌≡◌, ◌↔◌, Bool, true, false, List, ◌∷◌, ◌++◌, Option, Some, if◌then◌else◌}
+use Rattle.std.specs.List.{list_any}
+use Rattle.std.specs.Option.{option_map}
+use Rattle.cedar_data.specs.declared.loc.Loc.{Loc}
+use Rattle.cedar_identifiers.specs.Names.{components_of}
+use Rattle.cedar_identifiers.specs.declared.reference_type.ReferenceType.{ReferenceType}
+use Rattle.cedar_identifiers.specs.declared.reference_type.ReferenceType.TheVariants.{Common, Entity, CommonOrEntity}
+use Rattle.cedar_identifiers.specs.declared.internal_name.InternalName.{InternalName}
+use Rattle.cedar_identifiers.specs.declared.raw_name.RawName.{RawName}
+use Rattle.cedar_identifiers.specs.declared.conditional_name.ConditionalName.{ConditionalName}
+use Rattle.schema_defined.specs.Tests.{Tests}
+use Rattle.schema_json.specs.declared.types.Type.{«Type», Variant, CommonTypeRef}
+use Rattle.schema_json.specs.declared.types.TypeVariant.TheVariants as variant
+use Rattle.schema_resolve.specs.Qualified.{in_namespace}
+use Rattle.schema_resolve.specs.References.{either_way}
+use Rattle.schema_resolve.specs.Resolved.{meant_name, resolving_in}
+use Rattle.schema_resolve.specs.Targets.{is_defined, target}
+
+-- what a name is that a reference of this kind means: of a name that is both, the common type
+abbrev pub kind_there : Tests → ReferenceType → InternalName → ReferenceType
+kind_there t Common name = Common
+kind_there t Entity name = Entity
+kind_there t CommonOrEntity name = if t.is_common (components_of name) then Common else Entity
+
+-- the name that a reference in a namespace means, and what it is there, if it means something
+abbrev pub means : Tests → Option InternalName → ReferenceType → RawName → Option (InternalName × ReferenceType)
+means t ns kind name = option_map (λ n. (n, kind_there t kind n)) (target t (in_namespace ns kind name))
+
+-- x is among them and passes, and none before it does
+pub record IsFirst {A : Type 0} (passes : A → Bool) (xs : List A) (x : A) : Type 0 where
+  pub before : List A
+  pub behind : List A
+  pub among : xs ≡ before ++ x ∷ behind
+  pub here : passes x ≡ true
+  pub none_before : list_any passes before ≡ false
+
+-- the name is the first candidate that is defined in the kind that is asked for
+abbrev pub IsTarget : Tests → ConditionalName → InternalName → Type 0
+IsTarget t c = IsFirst (λ p. is_defined t c.reference_type (components_of p)) c.possibilities
+
+abbrev pub TargetIsFirst : Tests → ConditionalName → Type 0
+TargetIsFirst t c = (name : InternalName) → (target t c ≡ Some name) ↔ IsTarget t c name
+
+abbrev pub TargetIsOne : Tests → ConditionalName → Type 0
+TargetIsOne t c = (a b : InternalName) → IsTarget t c a → IsTarget t c b → a ≡ b
+
+-- a reference to the name as a type of a kind
+abbrev pub reference_as : ReferenceType → InternalName → Option Loc → «Type» InternalName
+reference_as Common name loc = CommonTypeRef name loc
+reference_as Entity name loc = Variant (variant.Entity name) loc
+reference_as CommonOrEntity name loc = either_way name loc
+
+-- a resolved name is that of what is meant, and a reference that may mean either kind becomes one to what is meant
+pub record ResolvesAsItMeans (t : Tests) (ns : Option InternalName) (kind : ReferenceType) (name : RawName) (meant : InternalName × ReferenceType) : Type 0 where
+  pub name_is : meant_name t ns kind name ≡ meant.0
+  pub reference_is : kind ≡ CommonOrEntity → (loc : Option Loc) → (resolving_in t ns).either name loc ≡ reference_as meant.1 meant.0 loc
+
+abbrev pub ResolvesWhatIsMeant : Tests → Option InternalName → ReferenceType → RawName → Type 0
+ResolvesWhatIsMeant t ns kind name = (meant : InternalName × ReferenceType) → means t ns kind name ≡ Some meant → ResolvesAsItMeans t ns kind name meant

@@ -1,0 +1,98 @@
+ghost use Rattle.std.specs.Prelude.{◌≡◌, [], OnOk, IfErr};
+ghost use Rattle.schema_defined.specs.Tests.{tests_of};
+ghost use Rattle.schema_resolve.specs.Designated.{designating, type_as_written, undesignated, no_action};
+ghost use Rattle.schema_resolve.specs.Faults.{NamesFirst};
+ghost use Rattle.schema_resolve.specs.References.{reference_to};
+
+use crate::renamer::{ActionRenamer, Renamer};
+use crate::targets::is_defined;
+use cedar_data::{CloneIn, Loc, NonEmpty};
+use cedar_identifiers::{InternalName, RawName, ReferenceType};
+use cedar_names::AllDefs;
+use resolve_errors::{ResolveError, TypeNotDefinedError};
+use schema_json::{ActionEntityUID, Type, TypeVariant};
+use std::alloc::Global;
+
+// What each name is that a reference may mean either way.
+#[derive(Drop)]
+pub(crate) struct Designator<'a> {
+    pub(crate) defs: &'a AllDefs,
+}
+
+impl<'a> Renamer<InternalName, InternalName> for Designator<'a> {
+    ghost becomes = { λ d. designating (tests_of d.defs.now) };
+
+    ghost lacks = { λ d. undesignated (tests_of d.defs.now) };
+
+    fn rename(
+        &self,
+        alloc: Global,
+        role: ReferenceType,
+        name: &InternalName,
+    ) -> Result<InternalName, ResolveError> {
+        match role {
+            ReferenceType::Common | ReferenceType::Entity => Ok(name.clone_in(alloc)?),
+            ReferenceType::CommonOrEntity => {
+                look_up(alloc, self.defs, name)?;
+                Ok(name.clone_in(alloc)?)
+            }
+        }
+    }
+
+    fn rename_either(
+        &self,
+        alloc: Global,
+        name: &InternalName,
+        loc: Option<Loc>,
+    ) -> Result<Type<InternalName>, ResolveError> {
+        look_up(alloc, self.defs, name)?;
+        let copy = name.clone_in(alloc)?;
+        Ok(reference_to(self.defs.is_defined_as_common(name), copy, loc))
+    }
+}
+
+impl<'a> ActionRenamer<InternalName, InternalName> for Designator<'a> {
+    ghost action_becomes = { λ _. type_as_written };
+
+    ghost lacks_action = { λ _. no_action };
+
+    fn rename_action(
+        &self,
+        alloc: Global,
+        uid: &ActionEntityUID<InternalName>,
+    ) -> Result<InternalName, ResolveError> {
+        Ok(uid.ty().clone_in(alloc)?)
+    }
+}
+
+// The error of a name that is neither a common type nor an entity type.
+fn look_up(alloc: Global, defs: &AllDefs, name: &InternalName) -> Result<(), ResolveError>
+    ensures defined { OnOk result (undesignated (tests_of defs.now) ReferenceType.CommonOrEntity name.now ≡ []) }
+    ensures err { IfErr result (NamesFirst (undesignated (tests_of defs.now) ReferenceType.CommonOrEntity name.now)) }
+{
+    if is_defined(defs, ReferenceType::CommonOrEntity, name) {
+        return Ok(());
+    }
+    let raw = RawName::from_internal(name.clone_in(alloc)?);
+    let undefined = raw.conditionally_qualify_with(alloc, None, ReferenceType::CommonOrEntity)?;
+    Err(ResolveError::TypeNotDefined(TypeNotDefinedError {
+        undefined_types: NonEmpty::new(alloc, undefined),
+    }))
+}
+
+// A reference to a common type, or to an entity type.
+pub(crate) fn reference_to<N>(is_common: bool, name: N, loc: Option<Loc>) -> Type<N>
+    ensures { result ≡ reference_to is_common name loc }
+{
+    if is_common {
+        Type::CommonTypeRef {
+            type_name: name,
+            loc,
+        }
+    } else {
+        Type::Variant {
+            ty: TypeVariant::Entity { name },
+            loc,
+        }
+    }
+}

@@ -1,0 +1,52 @@
+ghost use Rattle.std.specs.Prelude.{◌≡◌, [], List, ℕ, Option, IfOk, IfErr, OnOk};
+ghost use Rattle.cedar_identifiers.specs.declared.name.Name.{Name};
+ghost use Rattle.cedar_identifiers.specs.declared.reference_type.ReferenceType.{ReferenceType};
+ghost use Rattle.schema_resolve.specs.Faults.{NamesFirst};
+ghost use Rattle.schema_resolve.specs.Renamed.{Renaming, renamed_namespace, renamed_fragment};
+ghost use Rattle.schema_resolve.specs.Undefined.{Undefined};
+ghost use Rattle.schema_resolve.specs.Walk.{of_namespace, of_fragment};
+
+use cedar_data::{CloneIn, Map};
+use cedar_identifiers::{Name, NameText};
+use resolve_errors::ResolveError;
+use schema_json::{Fragment, NamespaceDefinition};
+use std::alloc::Global;
+
+// What each name in each namespace becomes.
+pub(crate) trait FragmentRenamer<N: NameText, M: NameText> {
+    ghost becomes_in: { Self → Option Name → Renaming N M };
+
+    ghost action_becomes_in: { Self → Option Name → List ℕ → Option N → M };
+
+    ghost lacks_in: { Self → Option Name → ReferenceType → N → List Undefined };
+
+    ghost lacks_action_in: { Self → Option Name → List ℕ → Option N → List Undefined };
+
+    fn rename_in(
+        &self,
+        alloc: Global,
+        ns: &Option<Name>,
+        definition: &NamespaceDefinition<N>,
+    ) -> Result<NamespaceDefinition<M>, ResolveError>
+        ensures out { IfOk result (λ out. out ≡ renamed_namespace (becomes_in self.now ns.now) (action_becomes_in self.now ns.now) definition.now) }
+        ensures defined { OnOk result (of_namespace (lacks_in self.now ns.now) (lacks_action_in self.now ns.now) definition.now ≡ []) }
+        ensures err { IfErr result (NamesFirst (of_namespace (lacks_in self.now ns.now) (lacks_action_in self.now ns.now) definition.now)) };
+}
+
+// A fragment with each name that its declarations use replaced.
+pub(crate) fn rename_fragment<N: NameText, M: NameText + Drop, R: FragmentRenamer<N, M>>(
+    alloc: Global,
+    renamer: &R,
+    fragment: &Fragment<N>,
+) -> Result<Fragment<M>, ResolveError>
+    ensures out { IfOk result (λ out. out ≡ renamed_fragment (R.becomes_in renamer.now) (R.action_becomes_in renamer.now) fragment.now) }
+    ensures defined { OnOk result (of_fragment (R.lacks_in renamer.now) (R.lacks_action_in renamer.now) fragment.now ≡ []) }
+    ensures err { IfErr result (NamesFirst (of_fragment (R.lacks_in renamer.now) (R.lacks_action_in renamer.now) fragment.now)) }
+{
+    let mut out = Vec::new(alloc);
+    for (ns, definition) in fragment.0.as_slice() {
+        let definition = renamer.rename_in(alloc, ns, definition)?;
+        out.push((ns.clone_in(alloc)?, definition))?;
+    }
+    Ok(Fragment(Map::from_sorted_vec(out)))
+}

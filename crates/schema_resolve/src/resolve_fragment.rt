@@ -1,0 +1,81 @@
+ghost use Rattle.std.specs.Prelude.{◌≡◌, [], List, IfOk, IfErr, OnOk};
+ghost use Rattle.cedar_identifiers.specs.declared.internal_name.InternalName.{InternalName};
+ghost use Rattle.cedar_names.specs.declared.extension_table.ExtensionTable.{ExtensionTable};
+ghost use Rattle.schema_defined.specs.Declared.{name_of};
+ghost use Rattle.schema_defined.specs.Defined.{defined};
+ghost use Rattle.schema_defined.specs.Tests.{tests_of};
+ghost use Rattle.schema_resolve.specs.Faults.{NamesFirst};
+ghost use Rattle.schema_resolve.specs.Resolved.{resolving_in, meant_type, lacks_in, lacks_action_in, resolved, undefined};
+ghost use Rattle.schema_resolve.specs.Undefined.{Undefined};
+
+use crate::rename_fragments::{FragmentRenamer, rename_fragment};
+use crate::rename_namespaces::rename_namespace;
+use crate::resolver::Resolver;
+use crate::scope::Scope;
+use cedar_identifiers::{InternalName, Name, RawName};
+use cedar_names::{AllDefs, ExtensionTable};
+use resolve_errors::ResolveError;
+use schema_defined::all_definitions;
+use schema_defined::declared::name_of;
+use schema_json::{Fragment, NamespaceDefinition};
+use std::alloc::Global;
+
+/// What the names of a fragment mean where it stands alone.
+pub trait ResolveFragment {
+    /// The fragment of what the names mean.
+    type Out;
+
+    ghost resolved: { Self → ExtensionTable → Self.Out };
+
+    // the references that mean nothing, in the order of the walk
+    ghost undefined: { Self → ExtensionTable → List Undefined };
+
+    /// The same fragment with each reference as one to what it means under this table, or the first reference of the walk
+    /// that means nothing.
+    fn to_internal_name_fragment_with_resolved_types(
+        &self,
+        alloc: Global,
+        table: &ExtensionTable,
+    ) -> Result<Self::Out, ResolveError>
+        ensures out { IfOk result (λ out. out ≡ resolved self.now table.now) }
+        ensures defined { OnOk result (undefined self.now table.now ≡ []) }
+        ensures err { IfErr result (NamesFirst (undefined self.now table.now)) };
+}
+
+// What each name in each namespace means.
+impl FragmentRenamer<RawName, InternalName> for AllDefs {
+    ghost becomes_in = { λ d ns. resolving_in (tests_of d) (name_of ns) };
+
+    ghost action_becomes_in = { λ d ns. meant_type (tests_of d) (name_of ns) };
+
+    ghost lacks_in = { λ d ns. lacks_in (tests_of d) (name_of ns) };
+
+    ghost lacks_action_in = { λ d ns. lacks_action_in (tests_of d) (name_of ns) };
+
+    fn rename_in(
+        &self,
+        alloc: Global,
+        ns: &Option<Name>,
+        definition: &NamespaceDefinition<RawName>,
+    ) -> Result<NamespaceDefinition<InternalName>, ResolveError> {
+        let scope = Scope { ns: name_of(ns) };
+        rename_namespace(alloc, &Resolver { defs: self, scope }, definition)
+    }
+}
+
+impl ResolveFragment for Fragment<RawName> {
+    type Out = Fragment<InternalName>;
+
+    ghost resolved = { λ f table. resolved (tests_of (defined f table)) f };
+
+    ghost undefined = { λ f table. undefined (tests_of (defined f table)) f };
+
+    fn to_internal_name_fragment_with_resolved_types(
+        &self,
+        alloc: Global,
+        table: &ExtensionTable,
+    ) -> Result<Fragment<InternalName>, ResolveError> {
+        let defs = all_definitions(alloc, self, table)?;
+        rename_fragment(alloc, &defs, self)
+    }
+}
