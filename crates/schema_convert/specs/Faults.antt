@@ -15,12 +15,12 @@ use Rattle.schema_tree.specs.declared.declaration.Declaration.{Declaration}
 use Rattle.schema_tree.specs.declared.declaration.Declaration.TheVariants.{Entity, Action, Common}
 use Rattle.schema_tree.specs.declared.namespace.Namespace.{Namespace}
 use Rattle.schema_tree.specs.declared.path.Path.{Path}
+use Rattle.convert_errors.specs.declared.errors.ToJsonSchemaError.{ToJsonSchemaError}
+use Rattle.convert_errors.specs.declared.errors.ToJsonSchemaError.TheVariants.{DuplicateDeclarations, DuplicateNamespaces, ReservedName, ReservedSchemaKeyword}
 use Rattle.schema_convert.specs.Joined.{joined}
 use Rattle.schema_convert.specs.Members.{block_fault}
 use Rattle.schema_convert.specs.NamesIn.{entities_in, actions_in, commons_in, paths_in, id_cmp, action_cmp, path_cmp}
 use Rattle.schema_convert.specs.Repeats.{first_repeat}
-use Rattle.schema_convert.specs.declared.errors.ToJsonSchemaError.{ToJsonSchemaError}
-use Rattle.schema_convert.specs.declared.errors.ToJsonSchemaError.TheVariants.{DuplicateDeclarations, DuplicateNamespaces, ReservedName, ReservedSchemaKeyword}
 
 -- the ids with `::` between two
 abbrev pub path_text : Path → List ℕ
