@@ -3,6 +3,7 @@
 
 pub mod error_list;
 pub mod errors;
+pub mod laws;
 mod message;
 pub mod warnings;
 
