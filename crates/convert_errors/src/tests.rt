@@ -3,6 +3,7 @@
 use crate::*;
 use cedar_data::{CloneIn, Loc, NonEmpty, Text};
 use cedar_identifiers::Severity;
+use schema_tree::PR;
 use std::alloc::{AllocError, Global};
 use std::test::Fail;
 
@@ -52,5 +53,70 @@ fn warnings_say(rt: HostRuntime) -> Result<(), Fail> {
     assert_eq!(rt; entity.labels(alloc)?.len(), 2);
     assert!(rt; entity.clone_in(alloc)? == entity);
     assert!(rt; NO_PR_HELP_MSG.starts_with("Every action must define both"));
+    Ok(())
+}
+
+// Whether a copy equals its source.
+fn is_kept<T: CloneIn + PartialEq>(alloc: Global, fault: T) -> Result<bool, AllocError> {
+    let copy = fault.clone_in(alloc)?;
+    Ok(copy == fault)
+}
+
+fn named(alloc: Global) -> Result<Text, AllocError> {
+    Text::from_str(alloc, "a")
+}
+
+#[test]
+fn copies_of_faults_equal_them(rt: HostRuntime) -> Result<(), Fail> {
+    let alloc = rt.alloc();
+    let loc1 = Some(Loc::new(1, 2));
+    let loc2 = Some(Loc::new(3, 4));
+    let decl = named(alloc)?;
+    assert!(rt; is_kept(alloc, DuplicateDeclarations { decl, loc1, loc2 })?);
+    let name = named(alloc)?;
+    assert!(rt; is_kept(alloc, DuplicateContext { name, loc1, loc2 })?);
+    let name = named(alloc)?;
+    let kind = PR::Resource;
+    assert!(rt;
+        is_kept(
+            alloc,
+            DuplicatePrincipalOrResource {
+                name,
+                kind,
+                loc1,
+                loc2
+            }
+        )?
+    );
+    let name = named(alloc)?;
+    let missing_or_empty = MissingOrEmpty::Empty { loc: loc2 };
+    assert!(rt;
+        is_kept(
+            alloc,
+            NoPrincipalOrResource {
+                kind,
+                name,
+                missing_or_empty,
+                name_loc: loc1
+            }
+        )?
+    );
+    let namespace_id = named(alloc)?;
+    assert!(rt;
+        is_kept(
+            alloc,
+            DuplicateNamespace {
+                namespace_id,
+                loc1,
+                loc2
+            }
+        )?
+    );
+    let name = named(alloc)?;
+    assert!(rt; is_kept(alloc, UnknownTypeName { name, loc: loc1 })?);
+    let name = named(alloc)?;
+    assert!(rt; is_kept(alloc, ReservedName { name, loc: loc1 })?);
+    let keyword = named(alloc)?;
+    assert!(rt; is_kept(alloc, ReservedSchemaKeyword { keyword, loc: loc1 })?);
     Ok(())
 }
