@@ -107,9 +107,22 @@ fn found_in(alloc: Global, text: &str) -> Result<String, Fail> {
     }
 }
 
+// The line with the line feeds that its signs stand for.
+fn with_line_feeds(alloc: Global, line: &str) -> Result<String, AllocError> {
+    let mut text = String::new(alloc);
+    for letter in line.chars() {
+        match letter {
+            '\u{2424}' => text.push('\n')?,
+            _ => text.push(letter)?,
+        }
+    }
+    Ok(text)
+}
+
 // Is what the line says found of its text?
 fn agrees(alloc: Global, line: &str) -> Result<bool, Fail> {
-    let (answer, text) = line.split_once('|').unwrap_or(("", ""));
+    let line = with_line_feeds(alloc, line)?;
+    let (answer, text) = line.as_str().split_once('|').unwrap_or(("", ""));
     let found = found_in(alloc, text)?;
     Ok(found.as_str() == answer)
 }
