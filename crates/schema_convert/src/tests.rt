@@ -21,7 +21,7 @@ fn push_named(
     name: &Text,
     first: Option<Loc>,
     second: Option<Option<Loc>>,
-) -> Result<(), Fail> {
+) -> Result<(), AllocError> {
     line.push_str(word)?;
     line.push_str(" ")?;
     line.push_str(name.as_str())?;
@@ -32,7 +32,7 @@ fn push_named(
     Ok(())
 }
 
-fn push_missing(line: &mut String, fault: &NoPrincipalOrResource) -> Result<(), Fail> {
+fn push_missing(line: &mut String, fault: &NoPrincipalOrResource) -> Result<(), AllocError> {
     match fault.missing_or_empty {
         MissingOrEmpty::Missing => {
             line.push_str("missing ")?;
@@ -46,7 +46,7 @@ fn push_missing(line: &mut String, fault: &NoPrincipalOrResource) -> Result<(), 
     }
 }
 
-fn push_fault(line: &mut String, fault: &ToJsonSchemaError) -> Result<(), Fail> {
+fn push_fault(line: &mut String, fault: &ToJsonSchemaError) -> Result<(), AllocError> {
     match fault {
         ToJsonSchemaError::DuplicateDeclarations(f) => {
             push_named(line, "twice", &f.decl, f.loc1, Some(f.loc2))
@@ -69,7 +69,7 @@ fn push_fault(line: &mut String, fault: &ToJsonSchemaError) -> Result<(), Fail> 
     }
 }
 
-fn faults_line(alloc: Global, errors: &ToJsonSchemaErrors) -> Result<String, Fail> {
+fn faults_line(alloc: Global, errors: &ToJsonSchemaErrors) -> Result<String, AllocError> {
     let mut line = String::new(alloc);
     for fault in errors.iter() {
         if !line.is_empty() {
@@ -80,7 +80,7 @@ fn faults_line(alloc: Global, errors: &ToJsonSchemaErrors) -> Result<String, Fai
     Ok(line)
 }
 
-fn push_warning(line: &mut String, warning: &SchemaWarning) -> Result<(), Fail> {
+fn push_warning(line: &mut String, warning: &SchemaWarning) -> Result<(), AllocError> {
     line.push_str("; ")?;
     match warning {
         SchemaWarning::ShadowsBuiltin(w) => push_named(line, "builtin", &w.name, w.loc, None),
@@ -91,7 +91,7 @@ fn push_warning(line: &mut String, warning: &SchemaWarning) -> Result<(), Fail> 
 }
 
 // What is found of the text.
-fn found_in(alloc: Global, text: &str) -> Result<String, Fail> {
+fn found_in(alloc: Global, text: &str) -> Result<String, AllocError> {
     let table = ExtensionTable::all_available(alloc)?;
     match parse_cedar_schema_fragment(alloc, text, &table) {
         Ok((_, warnings)) => {
@@ -120,26 +120,32 @@ fn with_line_feeds(alloc: Global, line: &str) -> Result<String, AllocError> {
 }
 
 // Is what the line says found of its text?
-fn agrees(alloc: Global, line: &str) -> Result<bool, Fail> {
+fn agrees(alloc: Global, line: &str) -> Result<bool, AllocError> {
     let line = with_line_feeds(alloc, line)?;
     let (answer, text) = line.as_str().split_once('|').unwrap_or(("", ""));
     let found = found_in(alloc, text)?;
     Ok(found.as_str() == answer)
 }
 
+// The first of the lines that does not agree, or nothing.
+fn first_wrong(alloc: Global, lines: &str) -> Result<&str, AllocError> {
+    for line in lines.lines() {
+        if !agrees(alloc, line)? {
+            return Ok(line);
+        }
+    }
+    Ok("")
+}
+
 #[test]
 fn faults_and_warnings_agree_with_table(rt: HostRuntime) -> Result<(), Fail> {
-    for line in fault_lines().lines() {
-        assert!(rt; agrees(rt.alloc(), line)?, "{line}");
-    }
-    for line in warning_lines().lines() {
-        assert!(rt; agrees(rt.alloc(), line)?, "{line}");
-    }
+    assert_eq!(rt; first_wrong(rt.alloc(), fault_lines())?, "");
+    assert_eq!(rt; first_wrong(rt.alloc(), warning_lines())?, "");
     Ok(())
 }
 
 // Is the line's answer the fragment of its text?
-fn is_fragment(alloc: Global, line: &str) -> Result<bool, Fail> {
+fn is_fragment(alloc: Global, line: &str) -> Result<bool, AllocError> {
     let (answer, text) = line.split_once('|').unwrap_or(("", ""));
     let table = ExtensionTable::none(alloc);
     let mut found = String::new(alloc);
@@ -158,7 +164,7 @@ fn fragments_agree_with_table(rt: HostRuntime) -> Result<(), Fail> {
 }
 
 // The path `foo::bar::baz` at 0 to 13.
-fn path(alloc: Global) -> Result<Path, Fail> {
+fn path(alloc: Global) -> Result<Path, AllocError> {
     let mut namespace = Vec::new(alloc);
     namespace.push(Id::from_normalized_str(alloc, "foo").map_err(|_| AllocError)?)?;
     namespace.push(Id::from_normalized_str(alloc, "bar").map_err(|_| AllocError)?)?;
@@ -166,17 +172,30 @@ fn path(alloc: Global) -> Result<Path, Fail> {
     Ok(Path::new(basename, namespace, Some(Loc::new(0, 13))))
 }
 
+// The texts of the path as a name of either kind.
+fn raw_text(alloc: Global) -> Result<Text, AllocError> {
+    let name = path_to_raw_name(alloc, path(alloc)?)?;
+    name.text(alloc)
+}
+
+fn internal_text(alloc: Global) -> Result<Text, AllocError> {
+    let name = path_to_internal_name(alloc, path(alloc)?)?;
+    name.text(alloc)
+}
+
+// Whether a type without a place becomes one without a place.
+fn stays_unplaced(alloc: Global) -> Result<bool, AllocError> {
+    let ty = Node::with_maybe_source_loc(schema_tree::Type::Ident(path(alloc)?), None);
+    let shape = cedar_type_to_json_type(alloc, ty)?;
+    Ok(matches!(shape, schema_json::Type::Variant { loc: None, .. }))
+}
+
 #[test]
 fn calls_on_paths_and_types(rt: HostRuntime) -> Result<(), Fail> {
-    let alloc = rt.alloc();
-    let raw = path_to_raw_name(alloc, path(alloc)?)?;
-    assert_eq!(rt; raw.text(alloc)?.as_str(), "foo::bar::baz");
-    let internal = path_to_internal_name(alloc, path(alloc)?)?;
-    assert_eq!(rt; internal.text(alloc)?.as_str(), "foo::bar::baz");
+    assert_eq!(rt; raw_text(rt.alloc())?.as_str(), "foo::bar::baz");
+    assert_eq!(rt; internal_text(rt.alloc())?.as_str(), "foo::bar::baz");
     let long: TypeVariant<RawName> = PrimitiveType::Long.into_variant();
     assert!(rt; matches!(long, TypeVariant::Long));
-    let ty = Node::with_maybe_source_loc(schema_tree::Type::Ident(path(alloc)?), None);
-    let ty = cedar_type_to_json_type(alloc, ty)?;
-    assert!(rt; matches!(ty, schema_json::Type::Variant { loc: None, .. }));
+    assert!(rt; stays_unplaced(rt.alloc())?);
     Ok(())
 }
