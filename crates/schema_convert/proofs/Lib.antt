@@ -1,4 +1,3 @@
-mod Ascii
 mod Borrowed
 mod Gathered
 mod Seen

@@ -14,10 +14,10 @@ use Rattle.schema_tree.specs.declared.annotated.Annotated.{Annotated}
 use Rattle.schema_tree.specs.declared.namespace.Namespace.{Namespace}
 use Rattle.schema_tree.specs.declared.path.Path.{Path}
 use Rattle.cedar_names.specs.declared.extension_table.ExtensionTable.{ExtensionTable}
+use Rattle.convert_errors.specs.declared.warnings.SchemaWarning.{SchemaWarning}
 use Rattle.schema_convert.specs.Borrowed.{entry_now, optional_now}
 use Rattle.schema_convert.specs.NamesIn.{word_cmp, path_cmp}
 use Rattle.schema_convert.specs.Shadowings.{by_id, by_name, builtin_shadowed, entity_shadowed, common_warnings, warnings_in, declared_warnings}
-use Rattle.schema_convert.specs.declared.warnings.SchemaWarning.{SchemaWarning}
 use Rattle.schema_convert.proofs.Borrowed.{map_of_is, lookup_is}
 
 abbrev pub id_entry : Bor (Node Id) → Id × Node Id

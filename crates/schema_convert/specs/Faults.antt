@@ -2,7 +2,6 @@
 use Rattle.std.specs.Prelude.{ℕ, Bool, List, [], ◌∷◌, Option, Some, None, codes, if◌then◌else◌}
 use Rattle.std.specs.List.{filter_map, flat_map, list_any}
 use Rattle.std.specs.Option.{option_map, option_or, option_to_list}
-use Rattle.std.specs.Str.{bytes_eq}
 use Rattle.cedar_data.specs.declared.node.Node.{Node}
 use Rattle.cedar_identifiers.specs.CanonicalText.{joined as spelled}
 use Rattle.cedar_identifiers.specs.Names.{texts_of}
@@ -15,12 +14,13 @@ use Rattle.schema_tree.specs.declared.declaration.Declaration.{Declaration}
 use Rattle.schema_tree.specs.declared.declaration.Declaration.TheVariants.{Entity, Action, Common}
 use Rattle.schema_tree.specs.declared.namespace.Namespace.{Namespace}
 use Rattle.schema_tree.specs.declared.path.Path.{Path}
+use Rattle.schema_json.specs.Keywords.{is_keyword_name}
+use Rattle.convert_errors.specs.declared.errors.ToJsonSchemaError.{ToJsonSchemaError}
+use Rattle.convert_errors.specs.declared.errors.ToJsonSchemaError.TheVariants.{DuplicateDeclarations, DuplicateNamespaces, ReservedName, ReservedSchemaKeyword}
 use Rattle.schema_convert.specs.Joined.{joined}
 use Rattle.schema_convert.specs.Members.{block_fault}
 use Rattle.schema_convert.specs.NamesIn.{entities_in, actions_in, commons_in, paths_in, id_cmp, action_cmp, path_cmp}
 use Rattle.schema_convert.specs.Repeats.{first_repeat}
-use Rattle.schema_convert.specs.declared.errors.ToJsonSchemaError.{ToJsonSchemaError}
-use Rattle.schema_convert.specs.declared.errors.ToJsonSchemaError.TheVariants.{DuplicateDeclarations, DuplicateNamespaces, ReservedName, ReservedSchemaKeyword}
 
 -- the ids with `::` between two
 abbrev pub path_text : Path → List ℕ
@@ -65,13 +65,9 @@ namespace_repeated paths = option_map (λ p. namespace_twice p.0 p.1) (first_rep
 abbrev pub reserved_id : Node Id → Option ToJsonSchemaError
 reserved_id id = if is_cedar id.node.text then Some (ReservedName (record { name = id.node.text; loc = id.loc })) else None
 
--- the eight words that no common type may have for its name
-abbrev pub is_keyword : List ℕ → Bool
-is_keyword w =
-    list_any (λ k. bytes_eq w k) (codes "Bool" ∷ codes "Boolean" ∷ codes "Entity" ∷ codes "Extension" ∷ codes "Long" ∷ codes "Record" ∷ codes "Set" ∷ codes "String" ∷ [])
-
+-- a common type's name that is one of the eight words that no common type may have
 abbrev pub keyword : Node Id → Option ToJsonSchemaError
-keyword id = if is_keyword id.node.text then Some (ReservedSchemaKeyword (record { keyword = id.node.text; loc = id.loc })) else None
+keyword id = if is_keyword_name id.node.text then Some (ReservedSchemaKeyword (record { keyword = id.node.text; loc = id.loc })) else None
 
 abbrev pub common_fault : Node Id → Option ToJsonSchemaError
 common_fault id = option_or (reserved_id id) (keyword id)

@@ -6,4 +6,3 @@ pub mod NamesIn
 pub mod Repeats
 pub mod Shadowings
 pub mod Translated
-pub mod WarningTexts

@@ -14,10 +14,10 @@ use Rattle.schema_tree.specs.declared.annotated.Annotated.{Annotated}
 use Rattle.schema_tree.specs.declared.declaration.Declaration.{Declaration}
 use Rattle.schema_tree.specs.declared.namespace.Namespace.{Namespace}
 use Rattle.schema_tree.specs.declared.path.Path.{Path}
+use Rattle.convert_errors.specs.declared.warnings.SchemaWarning.{SchemaWarning}
+use Rattle.convert_errors.specs.declared.warnings.SchemaWarning.TheVariants.{ShadowsBuiltin, ShadowsEntity}
 use Rattle.schema_convert.specs.Joined.{joined}
 use Rattle.schema_convert.specs.NamesIn.{entities_in, commons_in, word_cmp, path_cmp}
-use Rattle.schema_convert.specs.declared.warnings.SchemaWarning.{SchemaWarning}
-use Rattle.schema_convert.specs.declared.warnings.SchemaWarning.TheVariants.{ShadowsBuiltin, ShadowsEntity}
 
 -- declared names, sorted by their texts
 abbrev pub by_id : List (Node Id) → List (Id × Node Id)

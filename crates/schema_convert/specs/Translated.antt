@@ -9,15 +9,15 @@ use Rattle.schema_syntax.specs.ParseAnswers.{IsTreeOfText, IsRefusalOf}
 use Rattle.schema_json.specs.declared.fragment.Fragment.{Fragment}
 use Rattle.schema_shape.specs.Declarations.{as_written}
 use Rattle.schema_shape.specs.Fragments.{fragment_of}
+use Rattle.convert_errors.specs.declared.error_list.CedarSchemaParseErrors.{CedarSchemaParseErrors}
+use Rattle.convert_errors.specs.declared.error_list.CedarSchemaParseErrors.TheVariants.{SyntaxError, JsonError, Memory}
+use Rattle.convert_errors.specs.declared.error_list.ToJsonSchemaErrors.{ToJsonSchemaErrors}
+use Rattle.convert_errors.specs.declared.error_list.ToJsonSchemaFailure.{ToJsonSchemaFailure}
+use Rattle.convert_errors.specs.declared.error_list.ToJsonSchemaFailure.TheVariants as failure
+use Rattle.convert_errors.specs.declared.warnings.SchemaWarning.{SchemaWarning}
 use Rattle.schema_convert.specs.Faults.{translation_faults}
 use Rattle.schema_convert.specs.Joined.{joined}
 use Rattle.schema_convert.specs.Shadowings.{shadowings}
-use Rattle.schema_convert.specs.declared.error_list.CedarSchemaParseErrors.{CedarSchemaParseErrors}
-use Rattle.schema_convert.specs.declared.error_list.CedarSchemaParseErrors.TheVariants.{SyntaxError, JsonError, Memory}
-use Rattle.schema_convert.specs.declared.error_list.ToJsonSchemaErrors.{ToJsonSchemaErrors}
-use Rattle.schema_convert.specs.declared.error_list.ToJsonSchemaFailure.{ToJsonSchemaFailure}
-use Rattle.schema_convert.specs.declared.error_list.ToJsonSchemaFailure.TheVariants as failure
-use Rattle.schema_convert.specs.declared.warnings.SchemaWarning.{SchemaWarning}
 
 -- the fragment of a tree without faults: that of its joined namespaces
 abbrev pub translated : List (Annotated Namespace) → Fragment RawName as_written

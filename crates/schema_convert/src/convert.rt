@@ -1,14 +1,15 @@
 ghost use Rattle.std.specs.Prelude.{◌≡◌, IfOk, IfErr};
 ghost use Rattle.schema_convert.specs.Translated.{IsTranslation, IsFailureOf, IsTranslationOfText, IsParseFailureOf};
 
-use crate::error_list::{CedarSchemaParseErrors, ToJsonSchemaErrors, ToJsonSchemaFailure};
 use crate::faults::faults_in;
 use crate::joined::joined;
 use crate::shadowing::warnings_of;
-use crate::warnings::SchemaWarning;
 use cedar_data::NonEmpty;
 use cedar_identifiers::RawName;
 use cedar_names::ExtensionTable;
+use convert_errors::{
+    CedarSchemaParseErrors, SchemaWarning, ToJsonSchemaErrors, ToJsonSchemaFailure,
+};
 use schema_json::Fragment;
 use schema_shape::fragment_of;
 use schema_syntax::{ParseSchemaError, parse_schema};

@@ -1,17 +1,18 @@
 ghost use Rattle.std.specs.Prelude.{◌≡◌, [], ◌∷◌, ◌++◌, map, IfOk, OnOk};
 ghost use Rattle.std.specs.List.{filter_map};
 ghost use Rattle.std.specs.Option.{option_to_list};
-ghost use Rattle.schema_convert.specs.Faults.{is_reserved_path, reserved_namespace, id_twice, action_twice, declared_twice, name_fault, namespace_twice, namespace_repeated, reserved_id, is_keyword, keyword, common_fault, first_some, first_name, applies_fault, action_fault, action_faults, declaration_faults, all_declaration_faults, faults_in};
+ghost use Rattle.schema_json.specs.Keywords.{is_keyword_name};
+ghost use Rattle.schema_convert.specs.Faults.{is_reserved_path, reserved_namespace, id_twice, action_twice, declared_twice, name_fault, namespace_twice, namespace_repeated, reserved_id, keyword, common_fault, first_some, first_name, applies_fault, action_fault, action_faults, declaration_faults, all_declaration_faults, faults_in};
 
-use crate::errors::{
-    DuplicateDeclarations, DuplicateNamespace, ReservedName, ReservedSchemaKeyword,
-    ToJsonSchemaError,
-};
 use crate::members::block_fault;
 use crate::names_in::{actions_in, commons_in, entities_in, paths_in};
 use crate::repeats::first_repeat;
 use cedar_data::{CloneIn, Node, NonEmpty, Text};
 use cedar_identifiers::Id;
+use convert_errors::{
+    DuplicateDeclarations, DuplicateNamespace, ReservedName, ReservedSchemaKeyword,
+    ToJsonSchemaError,
+};
 use schema_tree::{ActionDecl, Annotated, AppDecl, Declaration, Namespace, Path};
 use std::alloc::{AllocError, Global};
 
@@ -201,7 +202,7 @@ fn reserved_id(alloc: Global, id: &Node<Id>) -> Result<Option<ToJsonSchemaError>
 
 // Whether the word is one of the eight that no common type may have for its name.
 fn is_keyword(word: &str) -> bool
-    ensures { result ≡ is_keyword word.now }
+    ensures { result ≡ is_keyword_name word.now }
 {
     match word {
         "Bool" | "Boolean" | "Entity" | "Extension" | "Long" | "Record" | "Set" | "String" => true,

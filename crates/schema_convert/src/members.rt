@@ -1,11 +1,11 @@
 ghost use Rattle.std.specs.Prelude.{◌≡◌, IfOk};
 ghost use Rattle.schema_convert.specs.Members.{met_role, meet_role, second_role, second_context, empty_role, missing_role, role_meets, context_meets, meets, missing, block_fault};
 
-use crate::errors::{
+use cedar_data::{CloneIn, Loc, Node, NonEmpty, Text};
+use convert_errors::{
     DuplicateContext, DuplicatePrincipalOrResource, MissingOrEmpty, NoPrincipalOrResource,
     ToJsonSchemaError,
 };
-use cedar_data::{CloneIn, Loc, Node, NonEmpty, Text};
 use schema_tree::{AppDecl, PR};
 use std::alloc::{AllocError, Global};
 

@@ -5,10 +5,10 @@ ghost use Rattle.schema_convert.specs.Borrowed.{entry_now, optional_now};
 ghost use Rattle.schema_convert.specs.Shadowings.{by_id, is_builtin, is_taken, builtin_shadowed, entity_shadowed, common_warnings, warnings_in, declared_warnings, by_name, warnings_of};
 
 use crate::names_in::{commons_in, entities_in};
-use crate::warnings::{SchemaWarning, ShadowsBuiltinWarning, ShadowsEntityWarning};
 use cedar_data::{CloneIn, Map, Node};
 use cedar_identifiers::Id;
 use cedar_names::ExtensionTable;
+use convert_errors::{SchemaWarning, ShadowsBuiltinWarning, ShadowsEntityWarning};
 use schema_tree::{Annotated, Declaration, Namespace, Path};
 use std::alloc::{AllocError, Global};
 

@@ -6,20 +6,20 @@ use schema_json::{
     ActionEntityUID, ActionType, ApplySpec, CommonType, EntityType, EntityTypeKind, Fragment,
     NamespaceDefinition, Type, TypeOfAttribute, TypeVariant,
 };
+use std::alloc::AllocError;
 use std::fmt::Write;
-use std::test::Fail;
 
 /// The place.
-pub fn push_place(line: &mut String, place: Option<Loc>) -> Result<(), Fail> {
+pub fn push_place(line: &mut String, place: Option<Loc>) -> Result<(), AllocError> {
     match place {
         None => line.push_str("@-")?,
-        Some(loc) => write!(line, "@{}-{}", loc.start, loc.end)?,
+        Some(loc) => write!(line, "@{}-{}", loc.start, loc.end).map_err(|_| AllocError)?,
     }
     Ok(())
 }
 
 // The components with a dot before each, and the place.
-fn push_name(line: &mut String, name: &RawName) -> Result<(), Fail> {
+fn push_name(line: &mut String, name: &RawName) -> Result<(), AllocError> {
     line.push_str(" .")?;
     line.push_str(name.name.first.as_str())?;
     for id in name.name.others.as_slice() {
@@ -29,14 +29,14 @@ fn push_name(line: &mut String, name: &RawName) -> Result<(), Fail> {
     push_place(line, name.name.loc)
 }
 
-fn push_names(line: &mut String, names: &[RawName]) -> Result<(), Fail> {
+fn push_names(line: &mut String, names: &[RawName]) -> Result<(), AllocError> {
     for name in names {
         push_name(line, name)?;
     }
     Ok(())
 }
 
-fn push_notes(line: &mut String, notes: &Annotations) -> Result<(), Fail> {
+fn push_notes(line: &mut String, notes: &Annotations) -> Result<(), AllocError> {
     for (key, value) in notes.0.as_slice() {
         line.push_str(" #")?;
         line.push_str(key.as_str())?;
@@ -49,7 +49,7 @@ fn push_notes(line: &mut String, notes: &Annotations) -> Result<(), Fail> {
 }
 
 // A type, at most so deep.
-fn push_type(line: &mut String, ty: &Type<RawName>, depth: u8) -> Result<(), Fail> {
+fn push_type(line: &mut String, ty: &Type<RawName>, depth: u8) -> Result<(), AllocError> {
     if depth == 0 {
         return Ok(());
     }
@@ -88,7 +88,7 @@ fn push_attribute(
     line: &mut String,
     name: &Text,
     attribute: &TypeOfAttribute<RawName>,
-) -> Result<(), Fail> {
+) -> Result<(), AllocError> {
     push_notes(line, &attribute.annotations)?;
     line.push_str(" ")?;
     line.push_str(name.as_str())?;
@@ -106,14 +106,14 @@ fn push_declared(
     name: &str,
     notes: &Annotations,
     loc: Option<Loc>,
-) -> Result<(), Fail> {
+) -> Result<(), AllocError> {
     push_notes(line, notes)?;
     line.push_str(word)?;
     line.push_str(name)?;
     push_place(line, loc)
 }
 
-fn push_entity(line: &mut String, name: &str, of: &EntityType<RawName>) -> Result<(), Fail> {
+fn push_entity(line: &mut String, name: &str, of: &EntityType<RawName>) -> Result<(), AllocError> {
     if of.external {
         line.push_str(" external")?;
     }
@@ -138,7 +138,7 @@ fn push_entity(line: &mut String, name: &str, of: &EntityType<RawName>) -> Resul
     Ok(())
 }
 
-fn push_reference(line: &mut String, parent: &ActionEntityUID<RawName>) -> Result<(), Fail> {
+fn push_reference(line: &mut String, parent: &ActionEntityUID<RawName>) -> Result<(), AllocError> {
     line.push_str(" in ")?;
     line.push_str(parent.id.as_str())?;
     if let Some(ty) = &parent.ty {
@@ -147,7 +147,7 @@ fn push_reference(line: &mut String, parent: &ActionEntityUID<RawName>) -> Resul
     Ok(())
 }
 
-fn push_applies(line: &mut String, spec: &ApplySpec<RawName>) -> Result<(), Fail> {
+fn push_applies(line: &mut String, spec: &ApplySpec<RawName>) -> Result<(), AllocError> {
     line.push_str(" principal")?;
     push_names(line, spec.principal_types.as_slice())?;
     line.push_str(" resource")?;
@@ -156,7 +156,7 @@ fn push_applies(line: &mut String, spec: &ApplySpec<RawName>) -> Result<(), Fail
     push_type(line, &spec.context.0, 9)
 }
 
-fn push_action(line: &mut String, name: &str, of: &ActionType<RawName>) -> Result<(), Fail> {
+fn push_action(line: &mut String, name: &str, of: &ActionType<RawName>) -> Result<(), AllocError> {
     if of.external {
         line.push_str(" external")?;
     }
@@ -176,7 +176,7 @@ fn push_action(line: &mut String, name: &str, of: &ActionType<RawName>) -> Resul
     Ok(())
 }
 
-fn push_common(line: &mut String, name: &str, of: &CommonType<RawName>) -> Result<(), Fail> {
+fn push_common(line: &mut String, name: &str, of: &CommonType<RawName>) -> Result<(), AllocError> {
     push_declared(line, " type ", name, &of.annotations, of.loc)?;
     push_type(line, &of.ty, 9)
 }
@@ -184,7 +184,7 @@ fn push_common(line: &mut String, name: &str, of: &CommonType<RawName>) -> Resul
 fn push_definition(
     line: &mut String,
     definition: &NamespaceDefinition<RawName>,
-) -> Result<(), Fail> {
+) -> Result<(), AllocError> {
     push_notes(line, &definition.annotations)?;
     for (name, of) in definition.common_types.as_slice() {
         push_common(line, name.id.as_str(), of)?;
@@ -199,7 +199,7 @@ fn push_definition(
 }
 
 /// The fragment.
-pub fn push_fragment(line: &mut String, fragment: &Fragment<RawName>) -> Result<(), Fail> {
+pub fn push_fragment(line: &mut String, fragment: &Fragment<RawName>) -> Result<(), AllocError> {
     for (name, definition) in fragment.0.as_slice() {
         line.push_str("[")?;
         if let Some(name) = name {

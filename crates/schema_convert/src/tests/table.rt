@@ -6,6 +6,8 @@ pub fn fault_lines() -> &'static str {
     "\
 twice A@7-8@10-11|entity A, A;
 twice A@7-8@10-11|entity A, A, A;
+twice a␤@7-12@14-19|action \"a\\n\", \"a\\n\";
+missing resource a␤@7-12|action \"a\\n\" appliesTo { principal: A };
 twice A@21-22@24-25; twice b@50-51@53-54|namespace N { entity A, A; } namespace M { action b, b; }
 missing resource a@17-18|entity A; action a appliesTo { principal: A };
 namespace N@25-26@10-11|namespace N {} namespace N {}

@@ -94,7 +94,7 @@ impl CloneIn for CedarSchemaParseErrors {
 }
 
 impl From<AllocError> for ToJsonSchemaFailure {
-    ghost use Rattle.schema_convert.specs.declared.error_list.ToJsonSchemaFailure.TheVariants.{Memory};
+    ghost use Rattle.convert_errors.specs.declared.error_list.ToJsonSchemaFailure.TheVariants.{Memory};
 
     ghost from_gives = { λ _ e. e ≡ Memory };
 

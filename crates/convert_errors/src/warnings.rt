@@ -1,5 +1,5 @@
 ghost use Rattle.std.specs.Prelude.{◌≡◌, ◌++◌, Ok, None, IfOk, OnOk};
-ghost use Rattle.schema_convert.specs.WarningTexts.{builtin_text, entity_text, warning_text, bare, builtin_labels, entity_labels, warning_labels};
+ghost use Rattle.convert_errors.specs.WarningTexts.{builtin_text, entity_text, warning_text, bare, builtin_labels, entity_labels, warning_labels};
 
 use crate::message::{message, push_both};
 use cedar_data::{CloneIn, Loc, Text};

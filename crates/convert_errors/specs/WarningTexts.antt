@@ -2,10 +2,10 @@
 use Rattle.std.specs.Prelude.{ℕ, List, [], ◌∷◌, ◌++◌, Option, Some, None, codes}
 use Rattle.cedar_data.specs.Span.{Span}
 use Rattle.cedar_identifiers.specs.declared.label.Label.{Label}
-use Rattle.schema_convert.specs.declared.warnings.SchemaWarning.{SchemaWarning}
-use Rattle.schema_convert.specs.declared.warnings.SchemaWarning.TheVariants.{ShadowsBuiltin, ShadowsEntity}
-use Rattle.schema_convert.specs.declared.warnings.ShadowsBuiltinWarning.{ShadowsBuiltinWarning}
-use Rattle.schema_convert.specs.declared.warnings.ShadowsEntityWarning.{ShadowsEntityWarning}
+use Rattle.convert_errors.specs.declared.warnings.SchemaWarning.{SchemaWarning}
+use Rattle.convert_errors.specs.declared.warnings.SchemaWarning.TheVariants.{ShadowsBuiltin, ShadowsEntity}
+use Rattle.convert_errors.specs.declared.warnings.ShadowsBuiltinWarning.{ShadowsBuiltinWarning}
+use Rattle.convert_errors.specs.declared.warnings.ShadowsEntityWarning.{ShadowsEntityWarning}
 
 abbrev pub builtin_text : ShadowsBuiltinWarning → List ℕ
 builtin_text w = (codes "The name `" ++ (w.name ++ codes "` shadows a builtin Cedar name. You'll have to refer to the builtin as `__cedar::")) ++ (w.name ++ codes "`.")

@@ -1,6 +1,6 @@
 use Rattle.std.proofs.Common.{◌≡◌, ap, ◌∙◌, ◌++◌, append_assoc}
-use Rattle.schema_convert.proofs.Ascii.{chars-from_test}
-use Rattle.schema_convert.proofs.message.push_both.Goals as goal
+use Rattle.convert_errors.proofs.Ascii.{chars-from_test}
+use Rattle.convert_errors.proofs.message.push_both.Goals as goal
 
 pub returns : goal.returns
 returns c =
