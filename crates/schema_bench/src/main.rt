@@ -30,7 +30,11 @@ fn resolves(alloc: Global, text: &str) -> Result<bool, AllocError> {
     let table = ExtensionTable::all_available(alloc)?;
     match parse_cedar_schema_fragment(alloc, text, &table) {
         Ok((fragment, _)) => {
-            Ok(fragment.to_internal_name_fragment_with_resolved_types(alloc, &table).is_ok())
+            Ok(
+                fragment
+                    .to_internal_name_fragment_with_resolved_types(alloc, &table)
+                    .is_ok(),
+            )
         }
         Err(_) => Ok(false),
     }

@@ -5,7 +5,7 @@ use Rattle.cedar_identifiers.specs.declared.reference_type.ReferenceType.{Refere
 use Rattle.schema_json.specs.Walk.{joined}
 use Rattle.schema_json.specs.declared.types.Type.{«Type», Type-F, roll-Type}
 use Rattle.schema_json.specs.declared.types.Type.TheVariants.{Variant, rolls-Variant}
-use Rattle.schema_json.specs.declared.types.TypeVariant.{TypeVariant, TypeVariant-F, fold-roll-TypeVariant}
+use Rattle.schema_json.specs.declared.types.TypeVariant.{TypeVariant-F, fold-roll-TypeVariant}
 use Rattle.schema_json.specs.declared.types.TypeVariant.TheVariants.{Record, rolls-Record}
 use Rattle.schema_json.specs.declared.types.RecordType.{RecordType, out-RecordType, roll-RecordType, fold_out-RecordType}
 use Rattle.schema_json.specs.declared.types.TypeOfAttribute.{TypeOfAttribute}

@@ -1,11 +1,11 @@
 -- What is meant is what a reference is resolved to.
-use Rattle.std.proofs.Common.{◌≡◌, Bool, true, false, Option, Some, None, refl, sym, ap, ◌∙◌, subst}
+use Rattle.std.proofs.Common.{◌≡◌, Bool, true, false, Option, Some, None, refl, sym, ap, ◌∙◌}
 use Rattle.std.specs.Option.{option_map, unwrap_or}
 use Rattle.std.specs.Prelude.{if◌then◌else◌}
 use Rattle.cedar_data.specs.declared.loc.Loc.{Loc}
 use Rattle.cedar_identifiers.specs.Names.{components_of}
 use Rattle.cedar_identifiers.specs.declared.reference_type.ReferenceType.{ReferenceType}
-use Rattle.cedar_identifiers.specs.declared.reference_type.ReferenceType.TheVariants.{Common, Entity, CommonOrEntity}
+use Rattle.cedar_identifiers.specs.declared.reference_type.ReferenceType.TheVariants.{Common, Entity}
 use Rattle.cedar_identifiers.specs.declared.internal_name.InternalName.{InternalName}
 use Rattle.cedar_identifiers.specs.declared.raw_name.RawName.{RawName}
 use Rattle.schema_defined.specs.Tests.{Tests}
@@ -13,7 +13,7 @@ use Rattle.schema_resolve.specs.Designated.{designated_reference}
 use Rattle.schema_resolve.specs.Meanings.{kind_there, means, reference_as, ResolvesAsItMeans}
 use Rattle.schema_resolve.specs.Qualified.{in_namespace}
 use Rattle.schema_resolve.specs.References.{reference_to}
-use Rattle.schema_resolve.specs.Resolved.{meant_name, resolving_in}
+use Rattle.schema_resolve.specs.Resolved.{meant_name}
 use Rattle.schema_resolve.specs.Targets.{target}
 
 -- a target with its kind

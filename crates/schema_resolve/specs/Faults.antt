@@ -1,6 +1,5 @@
 -- Which error names a reference that means nothing.
-use Rattle.std.specs.Prelude.{◌≡◌, ℕ, List, [], ◌∷◌, Option, ⊤}
-use Rattle.cedar_identifiers.specs.declared.conditional_name.ConditionalName.{ConditionalName}
+use Rattle.std.specs.Prelude.{◌≡◌, List, [], ◌∷◌, ⊤}
 use Rattle.schema_resolve.specs.Undefined.{Undefined, type_reference, action_reference}
 use Rattle.resolve_errors.specs.declared.resolve_error.ResolveError.{ResolveError}
 use Rattle.resolve_errors.specs.declared.resolve_error.ResolveError.TheVariants.{TypeNotDefined, ActionNotDefined, Memory}

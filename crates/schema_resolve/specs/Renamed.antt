@@ -1,6 +1,6 @@
 -- Fragments with each name replaced by another, which may be of another kind, and each reference that may mean either kind
 -- of type by a type. All else stays: shapes, annotations, flags and places.
-use Rattle.std.specs.Prelude.{◌≡◌, refl, ℕ, Bool, true, false, not, ◌||◌, List, map, Option, Some, None}
+use Rattle.std.specs.Prelude.{◌≡◌, refl, ℕ, Bool, true, false, not, ◌||◌, List, map, Option, Some}
 use Rattle.std.specs.Option.{option_map}
 use Rattle.cedar_data.specs.declared.loc.Loc.{Loc}
 use Rattle.cedar_data.specs.Entries.{on_value}

@@ -3,16 +3,14 @@ use Rattle.std.specs.Prelude.{ℕ, List, Option, Some}
 use Rattle.cedar_identifiers.specs.declared.reference_type.ReferenceType.{ReferenceType}
 use Rattle.cedar_identifiers.specs.declared.reference_type.ReferenceType.TheVariants.{CommonOrEntity}
 use Rattle.cedar_identifiers.specs.declared.internal_name.InternalName.{InternalName}
-use Rattle.cedar_identifiers.specs.declared.name.Name.{Name}
 use Rattle.cedar_identifiers.specs.declared.name_text.NameText as named
 use Rattle.cedar_identifiers.specs.declared.raw_name.RawName.{RawName}
 use Rattle.schema_defined.specs.Declared.{name_of}
 use Rattle.schema_defined.specs.Tests.{Tests}
-use Rattle.schema_json.specs.declared.fragment.NamespaceDefinition.{NamespaceDefinition}
 use Rattle.schema_json.specs.declared.fragment.Fragment.{Fragment}
 use Rattle.schema_resolve.specs.Designated.{designated_reference}
 use Rattle.schema_resolve.specs.Qualified.{in_namespace, type_in_namespace}
-use Rattle.schema_resolve.specs.Renamed.{Renaming, renamed_namespace, renamed_fragment}
+use Rattle.schema_resolve.specs.Renamed.{Renaming, renamed_fragment}
 use Rattle.schema_resolve.specs.Targets.{target_name, action_target_name, lacks, lacks_action}
 use Rattle.schema_resolve.specs.Undefined.{Undefined}
 use Rattle.schema_resolve.specs.Walk.{of_fragment}

@@ -1,4 +1,4 @@
-use Rattle.std.proofs.Common.{◌≡◌, ◌∷◌, ◌++◌, [], map, refl, sym, ap, ◌∙◌}
+use Rattle.std.proofs.Common.{◌∷◌, ◌++◌, [], map, refl, sym, ap, ◌∙◌}
 use Rattle.schema_resolve.specs.Renamed.{renamed_entry}
 use Rattle.resolve_errors.specs.Gathered.{each}
 use Rattle.schema_resolve.specs.Walk.{of_entry}

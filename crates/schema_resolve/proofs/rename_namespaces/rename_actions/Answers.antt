@@ -1,4 +1,4 @@
-use Rattle.std.proofs.Common.{◌≡◌, ◌∷◌, ◌++◌, [], map, sym, ap, ◌∙◌}
+use Rattle.std.proofs.Common.{◌∷◌, ◌++◌, [], map, sym, ap, ◌∙◌}
 use Rattle.cedar_data.specs.Entries.{on_value, keys_on_values}
 use Rattle.schema_resolve.specs.Renamed.{renamed_action}
 use Rattle.schema_resolve.specs.Walk.{each_value, of_action}

@@ -1,4 +1,4 @@
-use Rattle.std.proofs.Common.{◌≡◌, ◌∷◌, ◌++◌, [], ap, sym, ◌∙◌, get_or, rules, arith, subst}
+use Rattle.std.proofs.Common.{◌≡◌, ◌∷◌, ◌++◌, [], ap, sym, ◌∙◌, get_or, rules, arith}
 use Rattle.cedar_data.specs.Entries.{on_value, keys_on_values}
 use Rattle.schema_json.specs.declared.types.TypeOfAttribute.{size-TypeOfAttribute}
 use Rattle.schema_json.specs.Sizes.{most_at}
@@ -6,7 +6,6 @@ use Rattle.schema_json.specs.declared.types.Type.TheVariants.{Variant}
 use Rattle.schema_json.specs.declared.types.TypeVariant.TheVariants.{Record}
 use Rattle.schema_resolve.specs.Renamed.{renamed_attribute}
 use Rattle.schema_resolve.specs.Walk.{of_attribute, of_record, of_entries}
-use Rattle.schema_resolve.specs.Faults.{NamesFirst}
 use Rattle.schema_resolve.proofs.Lists.{each_more, each_first, map_more, refused}
 use Rattle.schema_resolve.proofs.Equations.{record_renamed, record_renamed_at, record_walked, variant_walked}
 use Rattle.schema_resolve.proofs.rename_types.+rename.Goals as goal
