@@ -4,6 +4,12 @@
 /// Texts that are resolved.
 pub fn resolved_lines() -> &'static str {
     "\
+[ entity User { a: cString}]|entity User { a: String };
+[ entity User { a: cdecimal}]|entity User { a: decimal };
+[ entity User { a: eUser}]|entity User { a: User };
+[ entity User { a: eAction} action A principal resource context {}]|entity User { a: Action }; action A;
+[ type T cLong entity User { a: cT}]|type T = Long; entity User { a: T };
+[ entity User { a: cNS::T}][NS type T cLong]|namespace NS { type T = Long; } entity User { a: NS::T };
 [N type T cLong entity A { x: cN::T} entity T {}]|namespace N { entity T; type T = Long; entity A { x: T }; }
 [ type R {}][N entity R {} entity T {} action a principal N::T resource N::T context cR]|type R = {}; namespace N { entity R; entity T; action a appliesTo { principal: T, resource: T, context: R }; }
 [ type R {}][N type R {} entity T {} action a principal N::T resource N::T context cN::R]|type R = {}; namespace N { type R = {}; entity T; action a appliesTo { principal: T, resource: T, context: R }; }
@@ -99,6 +105,7 @@ pub fn resolved_lines() -> &'static str {
 /// Texts with a reference that means nothing.
 pub fn refused_lines() -> &'static str {
     "\
+!type X|entity User { a: X };
 !type M::T|namespace N { entity A { x: M::T }; } namespace N::M { entity T; }
 !type B|namespace M { entity A in [B, N::B] {y: A, x: Set<C>}; }
 !type M::T|entity B in [M::T, A]; namespace N::M { entity A enum [\"u\"]; entity T in [N::T, A] tags A; action b in [b, Action::\"a\"]; }
