@@ -1,19 +1,23 @@
 ghost use Rattle.std.specs.Prelude.{◌≡◌};
+ghost use Rattle.schema_tree.specs.declared.primitive_type.PrimitiveType.{PrimitiveType};
 ghost use Rattle.schema_shape.specs.Primitives.{primitive_variant};
 
 use schema_json::TypeVariant;
 use schema_tree::PrimitiveType;
 
-/// What stands for one shape of types in every fragment.
+/// What stands for one of the primitive types.
 pub trait IntoVariant {
-    /// The shape, in a fragment with any names.
-    fn into_variant<N>(self) -> TypeVariant<N>;
+    ghost primitive: { Self → PrimitiveType };
+
+    /// The shape of that type, in a fragment with any names.
+    fn into_variant<N>(self) -> TypeVariant<N>
+        ensures { result ≡ primitive_variant (primitive self) };
 }
 
 impl IntoVariant for PrimitiveType {
-    fn into_variant<N>(self) -> TypeVariant<N>
-        ensures { result ≡ primitive_variant self }
-    {
+    ghost primitive = { λ ty. ty };
+
+    fn into_variant<N>(self) -> TypeVariant<N> {
         match self {
             PrimitiveType::Long => TypeVariant::Long,
             PrimitiveType::String => TypeVariant::String,
