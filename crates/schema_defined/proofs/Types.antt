@@ -8,7 +8,7 @@ use Rattle.cedar_identifiers.specs.Names.{components_of, texts_of, has_cedar}
 use Rattle.cedar_identifiers.specs.declared.id.Id.{Id}
 use Rattle.cedar_identifiers.specs.declared.name.Name.{Name}
 use Rattle.schema_json.specs.Actions.{action_name}
-use Rattle.schema_defined.specs.Declared.{action_type}
+use Rattle.schema_defined.specs.Declarations.{action_type}
 use Rattle.schema_defined.proofs.Sets.{or_none}
 
 -- nor has a name behind a namespace without it

@@ -7,7 +7,7 @@ use Rattle.cedar_names.specs.Tables.{table_names}
 use Rattle.cedar_names.specs.declared.extension_table.ExtensionTable.{ExtensionTable}
 use Rattle.schema_json.specs.Walk.{joined}
 use Rattle.schema_json.specs.declared.fragment.Fragment.{Fragment}
-use Rattle.schema_defined.specs.Declared.{declared}
+use Rattle.schema_defined.specs.Declarations.{declared}
 use Rattle.schema_defined.specs.Tests.{Tests, tests_of}
 
 -- the primitive types, and the extension types of the table

@@ -1,4 +1,4 @@
 pub mod Added
-pub mod Declared
+pub mod Declarations
 pub mod Defined
 pub mod Tests

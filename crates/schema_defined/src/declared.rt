@@ -1,7 +1,7 @@
 ghost use Rattle.std.specs.Prelude.{◌≡◌, map, IfOk, OnOk};
 ghost use Rattle.std.specs.Option.{option_copied};
 ghost use Rattle.cedar_identifiers.specs.Names.{components_of};
-ghost use Rattle.schema_defined.specs.Declared.{name_of, alone, declared_name, action_type, commons_in, entities_in, actions_in, declared};
+ghost use Rattle.schema_defined.specs.Declarations.{name_of, alone, declared_name, action_type, commons_in, entities_in, actions_in, declared};
 ghost use Rattle.schema_defined.specs.Added.{AddsNames, AddsActions};
 ghost use Rattle.schema_defined.specs.Tests.{tests_of};
 

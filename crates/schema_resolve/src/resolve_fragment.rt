@@ -1,7 +1,7 @@
 ghost use Rattle.std.specs.Prelude.{◌≡◌, [], List, IfOk, IfErr, OnOk};
 ghost use Rattle.cedar_identifiers.specs.declared.internal_name.InternalName.{InternalName};
 ghost use Rattle.cedar_names.specs.declared.extension_table.ExtensionTable.{ExtensionTable};
-ghost use Rattle.schema_defined.specs.Declared.{name_of};
+ghost use Rattle.schema_defined.specs.Declarations.{name_of};
 ghost use Rattle.schema_defined.specs.Defined.{defined};
 ghost use Rattle.schema_defined.specs.Tests.{tests_of};
 ghost use Rattle.schema_resolve.specs.Faults.{NamesFirst};

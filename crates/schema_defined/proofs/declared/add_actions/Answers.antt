@@ -1,7 +1,7 @@
 use Rattle.std.proofs.Common.{◌∙◌, ◌||◌, ℕ, List, map, take, sym, subst}
 use Rattle.cedar_identifiers.specs.Names.{components_of}
 use Rattle.cedar_names.specs.Definitions.{among_actions, same_action}
-use Rattle.schema_defined.specs.Declared.{action_type}
+use Rattle.schema_defined.specs.Declarations.{action_type}
 use Rattle.schema_defined.specs.Added.{AddsActions}
 use Rattle.schema_defined.proofs.Sets.{add_one, map_more}
 use Rattle.schema_defined.proofs.declared.add_actions.Goals as goal

@@ -1,6 +1,6 @@
 use Rattle.std.proofs.Common.{◌≡◌, map, take}
 use Rattle.cedar_identifiers.specs.Names.{components_of}
-use Rattle.schema_defined.specs.Declared.{action_type}
+use Rattle.schema_defined.specs.Declarations.{action_type}
 use Rattle.schema_defined.specs.Added.{AddsActions}
 use Rattle.schema_defined.proofs.declared.add_actions.Given as goal
 

@@ -1,7 +1,7 @@
 use Rattle.std.proofs.Common.{◌∙◌, ◌||◌, map, take, sym, ap, subst}
 use Rattle.cedar_identifiers.specs.Names.{components_of}
 use Rattle.cedar_names.specs.Definitions.{among, same_name}
-use Rattle.schema_defined.specs.Declared.{declared_name}
+use Rattle.schema_defined.specs.Declarations.{declared_name}
 use Rattle.schema_defined.specs.Added.{AddsNames}
 use Rattle.schema_defined.proofs.Sets.{add_one, map_more}
 use Rattle.schema_defined.proofs.declared.add_commons.Goals as goal

@@ -1,6 +1,6 @@
 use Rattle.std.proofs.Common.{◌≡◌, map, take}
 use Rattle.cedar_identifiers.specs.Names.{components_of}
-use Rattle.schema_defined.specs.Declared.{declared_name}
+use Rattle.schema_defined.specs.Declarations.{declared_name}
 use Rattle.schema_defined.specs.Added.{AddsNames}
 use Rattle.schema_defined.proofs.declared.add_commons.Given as goal
 

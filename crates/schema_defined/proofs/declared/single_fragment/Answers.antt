@@ -1,7 +1,7 @@
 use Rattle.std.proofs.Common.{◌∙◌, [], map, take, sym, ap, subst}
 use Rattle.cedar_names.specs.Definitions.{among, among_actions, same_name, same_action}
 use Rattle.schema_json.specs.Walk.{joined}
-use Rattle.schema_defined.specs.Declared.{commons_in, entities_in, actions_in}
+use Rattle.schema_defined.specs.Declarations.{commons_in, entities_in, actions_in}
 use Rattle.schema_defined.specs.Added.{AddsNames, AddsActions}
 use Rattle.schema_defined.proofs.Sets.{add_both, joined_more, map_all}
 use Rattle.schema_defined.proofs.declared.single_fragment.Goals as goal

@@ -1,6 +1,6 @@
 use Rattle.std.proofs.Common.{[], map, take}
 use Rattle.schema_json.specs.Walk.{joined}
-use Rattle.schema_defined.specs.Declared.{commons_in, entities_in, actions_in}
+use Rattle.schema_defined.specs.Declarations.{commons_in, entities_in, actions_in}
 use Rattle.schema_defined.specs.Added.{AddsNames, AddsActions}
 use Rattle.schema_defined.proofs.declared.single_fragment.Given as goal
 

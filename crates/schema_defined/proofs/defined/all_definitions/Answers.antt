@@ -3,7 +3,7 @@ use Rattle.std.proofs.lemmas.List.Folds.{list_any-append}
 use Rattle.cedar_names.specs.Definitions.{Definitions, among, among_actions, same_name}
 use Rattle.cedar_names.specs.Tables.{table_names}
 use Rattle.schema_defined.specs.Added.{AddsNames}
-use Rattle.schema_defined.specs.Declared.{declared}
+use Rattle.schema_defined.specs.Declarations.{declared}
 use Rattle.schema_defined.specs.Defined.{all_builtin_names, completed}
 use Rattle.schema_defined.specs.Tests.{tests_of}
 use Rattle.schema_defined.proofs.Actions.{types_alike}
