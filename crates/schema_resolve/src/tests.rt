@@ -10,7 +10,7 @@ use schema_json::{
     EntityType, EntityTypeKind, Fragment, NamespaceDefinition, RecordType, StandardEntityType,
     Type, TypeOfAttribute, TypeVariant,
 };
-use std::alloc::{AllocError, Global};
+use std::alloc::Global;
 use std::collections::BTreeMap;
 use std::test::Fail;
 
@@ -70,55 +70,78 @@ const REFERENCES: [(&str, ReferenceType, &str); 9] = [
     ("N::M::T", ReferenceType::CommonOrEntity, "N::M::T"),
 ];
 
-/// The type that a type of names means in the namespace, if it means something.
-fn meant(
-    alloc: Global,
-    defs: &AllDefs,
-    ns: &InternalName,
-    ty: Type<RawName>,
-) -> Result<Option<Type<InternalName>>, Fail> {
-    let qualified = ty.conditionally_qualify_type_references(alloc, Some(ns))?;
-    match qualified.fully_qualify_type_references(alloc, defs) {
+/// The type that a type of names means in the namespace `N`, if it means something.
+fn meant(alloc: Global, ty: Type<RawName>) -> Result<Option<Type<InternalName>>, Fail> {
+    let defs = definitions(alloc)?;
+    let ns = name(alloc, "N")?;
+    let qualified = ty.conditionally_qualify_type_references(alloc, Some(&ns))?;
+    match qualified.fully_qualify_type_references(alloc, &defs) {
         Ok(ty) => Ok(Some(ty)),
-        Err(ResolveError::TypeNotDefined(_)) => Ok(None),
-        Err(_) => Err(Fail::from(AllocError)),
+        Err(_) => Ok(None),
+    }
+}
+
+fn means(alloc: Global, text: &str, kind: ReferenceType, target: &str) -> Result<bool, Fail> {
+    let written = reference(kind, raw(alloc, text)?);
+    match meant(alloc, written)? {
+        Some(ty) => Ok(ty == reference(kind, name(alloc, target)?)),
+        None => Ok(target.is_empty()),
     }
 }
 
 #[test]
 fn references_mean_the_first_candidate(rt: HostRuntime) -> Result<(), Fail> {
-    let defs = definitions(rt.alloc())?;
-    let ns = name(rt.alloc(), "N")?;
     for (text, kind, target) in &REFERENCES {
-        let written = reference(*kind, raw(rt.alloc(), text)?);
-        match meant(rt.alloc(), &defs, &ns, written)? {
-            Some(ty) => {
-                let expected = reference(*kind, name(rt.alloc(), target)?);
-                assert!(rt; ty == expected, "{text}");
-            }
-            None => assert!(rt; target.is_empty(), "{text}"),
-        }
+        assert!(rt; means(rt.alloc(), text, *kind, target)?, "{text}");
     }
-    own_namespace_first(&defs, &ns, ReferenceType::Entity, &raw(rt.alloc(), "T")?);
-    itself_or_nothing(&defs, None, ReferenceType::Entity, &raw(rt.alloc(), "T")?);
-    resolves_what_is_meant(
-        &defs,
-        Some(&ns),
-        ReferenceType::Entity,
-        &raw(rt.alloc(), "T")?,
-    );
-    let reference = raw(rt.alloc(), "T")?;
-    let reference = reference.conditionally_qualify_with(rt.alloc(), None, ReferenceType::Entity)?;
+    Ok(())
+}
+
+fn state_laws(alloc: Global, ns: &InternalName, reference: &RawName) -> Result<(), Fail> {
+    let defs = definitions(alloc)?;
+    own_namespace_first(&defs, ns, ReferenceType::Entity, reference);
+    itself_or_nothing(&defs, None, ReferenceType::Entity, reference);
+    resolves_what_is_meant(&defs, Some(ns), ReferenceType::Entity, reference);
+    Ok(())
+}
+
+fn state_one_target(alloc: Global) -> Result<(), Fail> {
+    let defs = definitions(alloc)?;
+    let reference = raw(alloc, "T")?;
+    let reference = reference.conditionally_qualify_with(alloc, None, ReferenceType::Entity)?;
     one_target(&defs, &reference);
     Ok(())
 }
 
-/// The answer, which is no error.
-fn done<T>(answer: Result<T, ResolveError>) -> Result<T, Fail> {
+#[test]
+fn laws_are_stated(rt: HostRuntime) -> Result<(), Fail> {
+    let ns = name(rt.alloc(), "N")?;
+    let reference = raw(rt.alloc(), "T")?;
+    state_laws(rt.alloc(), &ns, &reference)?;
+    state_one_target(rt.alloc())
+}
+
+/// Whether the answer is what is expected.
+fn is<T: PartialEq + Drop>(answer: Result<T, ResolveError>, expected: T) -> bool {
     match answer {
-        Ok(out) => Ok(out),
-        Err(_) => Err(Fail::from(AllocError)),
+        Ok(out) => out == expected,
+        Err(_) => false,
     }
+}
+
+/// Whether the part, as it is written in the namespace, is resolved to what is expected.
+fn resolves<Q: FullyQualify, T: Qualify<Out = Q> + Drop>(
+    alloc: Global,
+    ns: Option<&InternalName>,
+    written: T,
+    expected: Q::Out,
+) -> Result<bool, Fail>
+where
+    Q::Out: PartialEq + Drop,
+{
+    let defs = definitions(alloc)?;
+    let found = written.conditionally_qualify_type_references(alloc, ns)?;
+    Ok(is(found.fully_qualify_type_references(alloc, &defs), expected))
 }
 
 /// The records with an attribute `k` of this type.
@@ -224,33 +247,40 @@ fn namespace<N: NameText + Drop>(
     })
 }
 
-#[test]
-fn records_and_attributes_are_resolved(rt: HostRuntime) -> Result<(), Fail> {
-    let alloc = rt.alloc();
-    let defs = definitions(alloc)?;
+fn record_is_resolved(alloc: Global) -> Result<bool, Fail> {
     let written = record(alloc, reference(ReferenceType::Common, raw(alloc, "V")?))?;
-    let found = written.conditionally_qualify_type_references(alloc, None)?;
     let expected = record(alloc, reference(ReferenceType::Common, name(alloc, "V")?))?;
-    assert!(rt; done(found.fully_qualify_type_references(alloc, &defs))? == expected);
+    resolves(alloc, None, written, expected)
+}
 
+fn attribute_is_resolved(alloc: Global) -> Result<bool, Fail> {
     let written = attribute(alloc, reference(ReferenceType::Entity, raw(alloc, "U")?));
-    let found = written.conditionally_qualify_type_references(alloc, None)?;
     let expected = attribute(alloc, reference(ReferenceType::Entity, name(alloc, "U")?));
-    assert!(rt; done(found.fully_qualify_type_references(alloc, &defs))? == expected);
+    resolves(alloc, None, written, expected)
+}
 
+fn shape_is_resolved(alloc: Global) -> Result<bool, Fail> {
     let written = TypeVariant::Entity {
         name: raw(alloc, "U")?,
     };
-    let found = written.conditionally_qualify_type_references(alloc, None)?;
     let expected = TypeVariant::Entity {
         name: name(alloc, "U")?,
     };
-    assert!(rt; done(found.fully_qualify_type_references(alloc, &defs))? == expected);
+    resolves(alloc, None, written, expected)
+}
 
+fn context_is_resolved(alloc: Global) -> Result<bool, Fail> {
     let written = AttributesOrContext(reference(ReferenceType::Common, raw(alloc, "V")?));
-    let found = written.conditionally_qualify_type_references(alloc, None)?;
     let expected = AttributesOrContext(reference(ReferenceType::Common, name(alloc, "V")?));
-    assert!(rt; done(found.fully_qualify_type_references(alloc, &defs))? == expected);
+    resolves(alloc, None, written, expected)
+}
+
+#[test]
+fn records_and_attributes_are_resolved(rt: HostRuntime) -> Result<(), Fail> {
+    assert!(rt; record_is_resolved(rt.alloc())?);
+    assert!(rt; attribute_is_resolved(rt.alloc())?);
+    assert!(rt; shape_is_resolved(rt.alloc())?);
+    assert!(rt; context_is_resolved(rt.alloc())?);
     Ok(())
 }
 
@@ -284,47 +314,73 @@ fn full_action(alloc: Global) -> Result<ActionType<InternalName>, Fail> {
     action(alloc, parent, name(alloc, "N::V")?, name(alloc, "V")?)
 }
 
+fn entity_is_resolved(alloc: Global) -> Result<bool, Fail> {
+    let ns = name(alloc, "N")?;
+    let expected = full_entity(alloc, ReferenceType::CommonOrEntity)?;
+    resolves(alloc, Some(&ns), written_entity(alloc)?, expected)
+}
+
+fn action_is_resolved(alloc: Global) -> Result<bool, Fail> {
+    let ns = name(alloc, "N")?;
+    resolves(
+        alloc,
+        Some(&ns),
+        written_action(alloc)?,
+        full_action(alloc)?,
+    )
+}
+
+fn application_is_resolved(alloc: Global) -> Result<bool, Fail> {
+    let ns = name(alloc, "N")?;
+    let written = apply(alloc, raw(alloc, "V")?, raw(alloc, "V")?)?;
+    let expected = apply(alloc, name(alloc, "N::V")?, name(alloc, "V")?)?;
+    resolves(alloc, Some(&ns), written, expected)
+}
+
+fn parent_is_resolved(alloc: Global) -> Result<bool, Fail> {
+    let ns = name(alloc, "N")?;
+    let written = ActionEntityUID::default_type(Text::from_str(alloc, "a")?);
+    resolves(alloc, Some(&ns), written, full_parent(alloc)?)
+}
+
 #[test]
 fn items_are_resolved(rt: HostRuntime) -> Result<(), Fail> {
-    let alloc = rt.alloc();
-    let defs = definitions(alloc)?;
-    let ns = name(alloc, "N")?;
-    let found = written_entity(alloc)?.conditionally_qualify_type_references(alloc, Some(&ns))?;
-    let expected = full_entity(alloc, ReferenceType::CommonOrEntity)?;
-    assert!(rt; done(found.fully_qualify_type_references(alloc, &defs))? == expected);
-
-    let found = written_action(alloc)?.conditionally_qualify_type_references(alloc, Some(&ns))?;
-    let expected = full_action(alloc)?;
-    assert!(rt; done(found.fully_qualify_type_references(alloc, &defs))? == expected);
-
-    let written = apply(alloc, raw(alloc, "V")?, raw(alloc, "V")?)?;
-    let found = written.conditionally_qualify_type_references(alloc, Some(&ns))?;
-    let expected = apply(alloc, name(alloc, "N::V")?, name(alloc, "V")?)?;
-    assert!(rt; done(found.fully_qualify_type_references(alloc, &defs))? == expected);
-
-    let written = ActionEntityUID::default_type(Text::from_str(alloc, "a")?);
-    let found = written.conditionally_qualify_type_references(alloc, Some(&ns))?;
-    let expected = full_parent(alloc)?;
-    assert!(rt; done(found.fully_qualify_type_references(alloc, &defs))? == expected);
+    assert!(rt; entity_is_resolved(rt.alloc())?);
+    assert!(rt; action_is_resolved(rt.alloc())?);
+    assert!(rt; application_is_resolved(rt.alloc())?);
+    assert!(rt; parent_is_resolved(rt.alloc())?);
     Ok(())
+}
+
+/// The namespace with full names, whose tags refer so.
+fn full_namespace(
+    alloc: Global,
+    tags: ReferenceType,
+) -> Result<NamespaceDefinition<InternalName>, Fail> {
+    namespace(alloc, full_entity(alloc, tags)?, full_action(alloc)?)
+}
+
+fn namespace_is_resolved(alloc: Global) -> Result<bool, Fail> {
+    let ns = name(alloc, "N")?;
+    let written = namespace(alloc, written_entity(alloc)?, written_action(alloc)?)?;
+    let expected = full_namespace(alloc, ReferenceType::CommonOrEntity)?;
+    resolves(alloc, Some(&ns), written, expected)
+}
+
+fn namespace_is_designated(alloc: Global) -> Result<bool, Fail> {
+    let defs = definitions(alloc)?;
+    let written = full_namespace(alloc, ReferenceType::CommonOrEntity)?;
+    let expected = full_namespace(alloc, ReferenceType::Entity)?;
+    Ok(is(
+        written.resolve_entity_or_common_types(alloc, &defs),
+        expected,
+    ))
 }
 
 #[test]
 fn namespaces_are_resolved(rt: HostRuntime) -> Result<(), Fail> {
-    let alloc = rt.alloc();
-    let defs = definitions(alloc)?;
-    let ns = name(alloc, "N")?;
-    let written = namespace(alloc, written_entity(alloc)?, written_action(alloc)?)?;
-    let found = written.conditionally_qualify_type_references(alloc, Some(&ns))?;
-    let found = done(found.fully_qualify_type_references(alloc, &defs))?;
-    let tags = ReferenceType::CommonOrEntity;
-    let expected = namespace(alloc, full_entity(alloc, tags)?, full_action(alloc)?)?;
-    assert!(rt; found == expected);
-
-    let found = done(found.resolve_entity_or_common_types(alloc, &defs))?;
-    let tags = ReferenceType::Entity;
-    let expected = namespace(alloc, full_entity(alloc, tags)?, full_action(alloc)?)?;
-    assert!(rt; found == expected);
+    assert!(rt; namespace_is_resolved(rt.alloc())?);
+    assert!(rt; namespace_is_designated(rt.alloc())?);
     Ok(())
 }
 
@@ -339,33 +395,74 @@ fn fragment<N: NameText + Drop>(
     Ok(Fragment(Map::from_tree(alloc, namespaces)?))
 }
 
-/// A fragment whose names its own declarations define.
-fn written_fragment(alloc: Global) -> Result<Fragment<RawName>, Fail> {
+/// An entity type `A` whose names the fragment itself defines.
+fn own_entity(alloc: Global) -> Result<EntityType<RawName>, Fail> {
     let tags = reference(ReferenceType::CommonOrEntity, raw(alloc, "Long")?);
-    let entity = entity(alloc, raw(alloc, "A")?, raw(alloc, "E")?, tags)?;
+    entity(alloc, raw(alloc, "A")?, raw(alloc, "E")?, tags)
+}
+
+/// The same with full names.
+fn own_full_entity(alloc: Global) -> Result<EntityType<InternalName>, Fail> {
+    let tags = reference(ReferenceType::Common, name(alloc, "Long")?);
+    entity(alloc, name(alloc, "N::A")?, name(alloc, "N::E")?, tags)
+}
+
+/// An action `b` whose names the fragment itself defines.
+fn own_action(alloc: Global) -> Result<ActionType<RawName>, Fail> {
     let parent = ActionEntityUID::default_type(Text::from_str(alloc, "b")?);
-    let action = action(alloc, parent, raw(alloc, "A")?, raw(alloc, "E")?)?;
-    fragment(alloc, namespace(alloc, entity, action)?)
+    action(alloc, parent, raw(alloc, "A")?, raw(alloc, "E")?)
+}
+
+/// The action `b` with its full type.
+fn own_parent(alloc: Global) -> Result<ActionEntityUID<InternalName>, Fail> {
+    let id = Text::from_str(alloc, "b")?;
+    Ok(ActionEntityUID::with_type(name(alloc, "N::Action")?, id))
+}
+
+/// The action with full names.
+fn own_full_action(alloc: Global) -> Result<ActionType<InternalName>, Fail> {
+    let parent = own_parent(alloc)?;
+    action(alloc, parent, name(alloc, "N::A")?, name(alloc, "N::E")?)
+}
+
+/// A fragment of these.
+fn written_fragment(alloc: Global) -> Result<Fragment<RawName>, Fail> {
+    let entity = own_entity(alloc)?;
+    let definition = namespace(alloc, entity, own_action(alloc)?)?;
+    fragment(alloc, definition)
 }
 
 /// The same with full names.
 fn full_fragment(alloc: Global) -> Result<Fragment<InternalName>, Fail> {
-    let tags = reference(ReferenceType::Common, name(alloc, "Long")?);
-    let entity = entity(alloc, name(alloc, "N::A")?, name(alloc, "N::E")?, tags)?;
-    let parent = ActionEntityUID::with_type(name(alloc, "N::Action")?, Text::from_str(alloc, "b")?);
-    let action = action(alloc, parent, name(alloc, "N::A")?, name(alloc, "N::E")?)?;
-    fragment(alloc, namespace(alloc, entity, action)?)
+    let entity = own_full_entity(alloc)?;
+    let definition = namespace(alloc, entity, own_full_action(alloc)?)?;
+    fragment(alloc, definition)
+}
+
+fn fragment_is_resolved(alloc: Global) -> Result<bool, Fail> {
+    let table = ExtensionTable::none(alloc);
+    let written = written_fragment(alloc)?;
+    let expected = full_fragment(alloc)?;
+    Ok(is(
+        written.to_internal_name_fragment_with_resolved_types(alloc, &table),
+        expected,
+    ))
+}
+
+fn fragment_stays(alloc: Global) -> Result<bool, Fail> {
+    let defs = AllDefs::new(alloc);
+    let written = full_fragment(alloc)?;
+    let expected = full_fragment(alloc)?;
+    Ok(is(
+        written.resolve_entity_or_common_types(alloc, &defs),
+        expected,
+    ))
 }
 
 #[test]
 fn fragments_are_resolved(rt: HostRuntime) -> Result<(), Fail> {
-    let alloc = rt.alloc();
-    let table = ExtensionTable::none(alloc);
-    let written = written_fragment(alloc)?;
-    let found = done(written.to_internal_name_fragment_with_resolved_types(alloc, &table))?;
-    assert!(rt; found == full_fragment(alloc)?);
-    let again = done(found.resolve_entity_or_common_types(alloc, &AllDefs::new(alloc)))?;
-    assert!(rt; again == full_fragment(alloc)?);
+    assert!(rt; fragment_is_resolved(rt.alloc())?);
+    assert!(rt; fragment_stays(rt.alloc())?);
     Ok(())
 }
 
@@ -377,19 +474,22 @@ const DESIGNATED: [(&str, Option<ReferenceType>); 4] = [
     ("T", None),
 ];
 
+fn is_designated(alloc: Global, text: &str, kind: Option<ReferenceType>) -> Result<bool, Fail> {
+    let defs = definitions(alloc)?;
+    let written = reference(ReferenceType::CommonOrEntity, name(alloc, text)?);
+    match written.resolve_entity_or_common_types(alloc, &defs) {
+        Ok(found) => match kind {
+            Some(kind) => Ok(found == reference(kind, name(alloc, text)?)),
+            None => Ok(false),
+        },
+        Err(_) => Ok(kind.is_none()),
+    }
+}
+
 #[test]
 fn references_are_designated(rt: HostRuntime) -> Result<(), Fail> {
-    let alloc = rt.alloc();
-    let defs = definitions(alloc)?;
     for (text, kind) in &DESIGNATED {
-        let written = reference(ReferenceType::CommonOrEntity, name(alloc, text)?);
-        match written.resolve_entity_or_common_types(alloc, &defs) {
-            Ok(found) => match kind {
-                Some(kind) => assert!(rt; found == reference(*kind, name(alloc, text)?), "{text}"),
-                None => assert!(rt; false, "{text}"),
-            },
-            Err(_) => assert!(rt; kind.is_none(), "{text}"),
-        }
+        assert!(rt; is_designated(rt.alloc(), text, *kind)?, "{text}");
     }
     Ok(())
 }
