@@ -3,7 +3,7 @@ use Rattle.std.proofs.Common.{◌≡◌, ℕ, ◌+◌, ◌<◌, ◌≤◌, List,
 use Rattle.std.specs.Str.{chars}
 use Rattle.cedar_identifiers.proofs.Ascii.{chars-from_test}
 use Rattle.std.proofs.lemmas.List.{take_more, map-append}
-use Rattle.cedar_identifiers.specs.CanonicalText.{joined}
+use Rattle.plain_syntax.specs.CanonicalText.{joined}
 use Rattle.cedar_identifiers.specs.Names.{texts_of}
 use Rattle.cedar_identifiers.specs.declared.id.Id.{Id}
 

@@ -3,7 +3,7 @@ use Rattle.std.proofs.Common.{◌≡◌, ◌≢◌, ℕ, Bool, true, false, cond
 use Rattle.std.specs.List.{All}
 use Rattle.std.specs.Option.{option_and_then}
 use Rattle.std.proofs.lemmas.List.Elements.{All-head, All-tail}
-use Rattle.cedar_identifiers.specs.CanonicalText.{joined}
+use Rattle.plain_syntax.specs.CanonicalText.{joined}
 use Rattle.cedar_identifiers.specs.NamePieces.{Begins, NothingStands}
 use Rattle.cedar_identifiers.specs.NameReading.{is_single, refuses, due_next, due_behind, separated, HasWords, ReadsAs, NameFaultOf}
 use Rattle.cedar_identifiers.specs.OneReading.{OneName, NoFault, OneFault}

@@ -1,5 +1,4 @@
 pub mod Candidates
-pub mod CanonicalText
 pub mod FaultTexts
 pub mod Fronts
 pub mod NamePieces
@@ -7,9 +6,5 @@ pub mod NameReading
 pub mod NameTexts
 pub mod Names
 pub mod OneReading
-pub mod Paths
 pub mod Same
 pub mod Words
-pub use Rattle.cedar_data.specs.NonEmpty
-pub use Rattle.cedar_data.specs.Text
-pub use Rattle.cedar_outside.specs.Outside

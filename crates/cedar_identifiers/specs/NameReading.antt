@@ -1,7 +1,7 @@
 -- How a text reads as a name, and what keeps it from being one.
 use Rattle.std.specs.Prelude.{◌≡◌, ◌≢◌, ℕ, Bool, true, false, ◌||◌, List, [], ◌∷◌, ◌++◌, Option, Some, None, option_and_then, codes, find, if◌then◌else◌}
 use Rattle.std.specs.Str.{bytes_eq}
-use Rattle.cedar_identifiers.specs.CanonicalText.{joined}
+use Rattle.plain_syntax.specs.CanonicalText.{joined}
 use Rattle.cedar_identifiers.specs.Words.{is_word, is_reserved, is_cedar}
 use Rattle.cedar_identifiers.specs.NamePieces.{Begins, NothingStands}
 use Rattle.cedar_identifiers.specs.declared.name_kind.NameKind.{NameKind}

@@ -3,7 +3,7 @@ use Rattle.std.specs.Prelude.{◌≡◌, ℕ, Bool, true, false, not, ◌&&◌, 
 use Rattle.std.specs.List.{list_all}
 use Rattle.std.proofs.Common.{arith, ap, sym, ◌∙◌}
 use Rattle.std.proofs.lemmas.Bool.Decides.{nat_tests}
-use Rattle.cedar_identifiers.specs.CanonicalText.{joined}
+use Rattle.plain_syntax.specs.CanonicalText.{joined}
 use Rattle.cedar_identifiers.specs.Words.{is_word_start, is_word_part, is_word, is_reserved, is_id}
 use Rattle.cedar_identifiers.specs.Names.{texts_of, components_of}
 use Rattle.cedar_identifiers.specs.declared.id.Id.{Id}

@@ -1,7 +1,7 @@
 -- The components of a name, and its text.
 use Rattle.std.specs.Prelude.{ℕ, Bool, List, ◌∷◌, codes, map}
 use Rattle.std.specs.List.{list_any}
-use Rattle.cedar_identifiers.specs.CanonicalText.{joined}
+use Rattle.plain_syntax.specs.CanonicalText.{joined}
 use Rattle.cedar_identifiers.specs.Words.{is_cedar}
 use Rattle.cedar_identifiers.specs.declared.id.Id.{Id}
 use Rattle.cedar_identifiers.specs.declared.internal_name.InternalName.{InternalName}

@@ -7,7 +7,6 @@ pub mod conditional_name;
 pub mod eid;
 pub mod id;
 pub mod internal_name;
-pub mod label;
 pub mod name;
 pub mod name_fault;
 pub mod name_kind;
@@ -17,31 +16,18 @@ mod name_reader;
 pub mod name_text;
 pub mod raw_name;
 pub mod reference_type;
-pub mod severity;
-pub mod thin_entry;
 pub mod unreserved_id;
 
 pub use annotations::Annotations;
 pub use any_id::AnyId;
-pub use cedar_data::{
-    Boxed, CloneIn, List, Loc, Map, Node, NonEmpty, NonEmptyIntoIter, NonEmptyIter, Set, Text,
-    lawful,
-};
-pub use cedar_outside::{Failed, MemorySink, MemorySource, NullSink, Sink, Source, SteadySource};
 pub use conditional_name::ConditionalName;
 pub use eid::Eid;
 pub use id::Id;
 pub use internal_name::InternalName;
-pub use label::Label;
 pub use name::Name;
 pub use name_fault::NameFault;
 pub use name_kind::NameKind;
 pub use name_text::NameText;
 pub use raw_name::RawName;
 pub use reference_type::ReferenceType;
-pub use severity::Severity;
-pub use thin_entry::ThinEntry;
 pub use unreserved_id::UnreservedId;
-
-#[cfg(test)]
-mod tests;

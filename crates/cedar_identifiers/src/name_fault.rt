@@ -3,8 +3,6 @@ ghost use Rattle.std.specs.Char.{is_ascii};
 ghost use Rattle.std.specs.Prelude.{◌≡◌, true, ◌++◌, [], Ok, None, IfOk, IsOkAnd};
 ghost use Rattle.cedar_identifiers.specs.FaultTexts.{name_fault_text};
 
-use crate::label::Label;
-use crate::severity::Severity;
 use cedar_data::{CloneIn, Text};
 use std::alloc::{AllocError, AllocFailed, Global};
 

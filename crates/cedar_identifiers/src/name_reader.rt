@@ -2,7 +2,7 @@
 ghost use Rattle.std.specs.Prelude.{◌≡◌, ◌≢◌, [], ◌∷◌, Some, None, true, false, IfOk, IfErr, MatchOption, MatchResult, find, codes, if◌then◌else◌};
 ghost use Rattle.std.specs.List.{list_all};
 ghost use Rattle.std.specs.Str.{bytes_eq};
-ghost use Rattle.cedar_identifiers.specs.CanonicalText.{joined};
+ghost use Rattle.plain_syntax.specs.CanonicalText.{joined};
 ghost use Rattle.cedar_identifiers.specs.Words.{is_word, is_word_part};
 ghost use Rattle.cedar_identifiers.specs.Names.{components_of, texts_of};
 ghost use Rattle.cedar_identifiers.specs.NamePieces.{Begins};

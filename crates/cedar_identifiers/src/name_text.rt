@@ -1,5 +1,5 @@
 ghost use Rattle.std.specs.Prelude.{◌≡◌, ◌↔◌, ℕ, Bool, List, IfOk, codes, true, false};
-ghost use Rattle.cedar_identifiers.specs.CanonicalText.{joined};
+ghost use Rattle.plain_syntax.specs.CanonicalText.{joined};
 ghost use Rattle.cedar_identifiers.specs.Names.{components_of};
 ghost use Rattle.cedar_identifiers.specs.NameTexts.{told};
 

@@ -3,8 +3,8 @@ use Rattle.std.specs.Prelude.{ℕ, zero, suc, ◌+◌, Bool, List, [], ◌∷◌
 use Rattle.std.specs.BTreeSet.{insert_key}
 use Rattle.std.specs.Cmp.Lexicographic.{slice_cmp}
 use Rattle.cedar_data.specs.Text.{text_cmp}
-use Rattle.schema_tokens.specs.Quotes.{quoted}
-use Rattle.cedar_identifiers.specs.CanonicalText.{joined, parents_text}
+use Rattle.schema_syntax_tokens.specs.Quotes.{quoted}
+use Rattle.plain_syntax.specs.CanonicalText.{joined, parents_text}
 use Rattle.cedar_identifiers.specs.Words.{is_id}
 use Rattle.cedar_identifiers.specs.Names.{name_text}
 use Rattle.cedar_names.specs.Definitions.{same_name}

@@ -1,7 +1,7 @@
 -- How an entity is written.
 use Rattle.std.specs.Prelude.{ℕ, List, ◌++◌, codes}
 use Rattle.std.specs.Str.{chars}
-use Rattle.schema_tokens.specs.Quotes.{quoted}
+use Rattle.schema_syntax_tokens.specs.Quotes.{quoted}
 use Rattle.cedar_identifiers.specs.Names.{components_of, name_text}
 use Rattle.cedar_names.specs.declared.entity_uid.EntityUID.{EntityUID}
 

@@ -8,7 +8,7 @@ ghost use Rattle.cedar_identifiers.specs.Names.{components_of};
 use cedar_data::{CloneIn, Loc, Text};
 use cedar_identifiers::name_laws::declared_names_go_by_components;
 use cedar_identifiers::{Eid, Name, NameText};
-use schema_tokens::push_quoted;
+use schema_syntax_tokens::push_quoted;
 use std::alloc::{AllocError, Global};
 
 /// An entity: its type and its id, with a place that no comparison sees. It is ordered by type, then by the bytes of its id.

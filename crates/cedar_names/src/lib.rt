@@ -11,17 +11,14 @@ mod table_words;
 
 pub use all_defs::AllDefs;
 pub use cedar_data::{
-    Boxed, CloneIn, List, Loc, Map, Node, NonEmpty, NonEmptyIntoIter, NonEmptyIter, Set, Text,
-    lawful,
+    Boxed, CloneIn, Label, List, Loc, Map, Node, NonEmpty, NonEmptyIntoIter, NonEmptyIter, Set,
+    Severity, Text, lawful,
 };
 pub use cedar_identifiers::{
-    Annotations, AnyId, ConditionalName, Eid, Id, InternalName, Label, Name, NameFault, NameKind,
-    NameText, RawName, ReferenceType, Severity, UnreservedId,
+    Annotations, AnyId, ConditionalName, Eid, Id, InternalName, Name, NameFault, NameKind, NameText,
+    RawName, ReferenceType, UnreservedId,
 };
-pub use cedar_outside::{Failed, MemorySink, MemorySource, NullSink, Sink, Source, SteadySource};
+pub use cedar_io::{Failed, MemorySink, MemorySource, NullSink, Sink, Source, SteadySource};
 pub use entity_uid::EntityUID;
 pub use extension_table::{ExtensionTable, Extensions};
 pub use table_error::TableError;
-
-#[cfg(test)]
-mod tests;

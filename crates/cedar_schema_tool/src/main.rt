@@ -1,20 +1,7 @@
 //! The program: `recover` reads a schema and writes its canonical text.
 #![tactic(auto)]
 
-mod input;
-mod laws;
-mod output;
-mod recover;
-mod reply;
-mod run;
-mod status;
-mod std_streams;
-#[cfg(test)]
-mod tests;
-
-use crate::run::run_tool;
-use crate::status::Status;
-use crate::std_streams::{StdSink, StdSource};
+use cedar_schema_core::{Status, StdSink, StdSource, run_tool};
 use std::process::ExitCode;
 use std::{env, io};
 

@@ -3,9 +3,9 @@
 
 use cedar_names::ExtensionTable;
 use schema_convert::parse_cedar_schema_fragment;
-use schema_faults::syntax_fault_of;
+
 use schema_resolve::ResolveFragment;
-use schema_syntax::{parse_schema, scan};
+use schema_syntax::{parse_schema, scan, syntax_fault_of};
 use std::alloc::{AllocError, Global};
 use std::process::ExitCode;
 use std::{env, io};

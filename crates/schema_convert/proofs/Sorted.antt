@@ -10,11 +10,11 @@ use Rattle.std.proofs.lemmas.List.{map-append}
 use Rattle.cedar_data.specs.Maps.{map_of}
 use Rattle.cedar_data.specs.declared.node.Node.{Node}
 use Rattle.cedar_identifiers.specs.declared.id.Id.{Id}
-use Rattle.schema_tree.specs.declared.annotated.Annotated.{Annotated}
-use Rattle.schema_tree.specs.declared.namespace.Namespace.{Namespace}
-use Rattle.schema_tree.specs.declared.path.Path.{Path}
+use Rattle.schema_syntax_tree.specs.declared.annotated.Annotated.{Annotated}
+use Rattle.schema_syntax_tree.specs.declared.namespace.Namespace.{Namespace}
+use Rattle.schema_syntax_tree.specs.declared.path.Path.{Path}
 use Rattle.cedar_names.specs.declared.extension_table.ExtensionTable.{ExtensionTable}
-use Rattle.convert_errors.specs.declared.warnings.SchemaWarning.{SchemaWarning}
+use Rattle.schema_convert_errors.specs.declared.warnings.SchemaWarning.{SchemaWarning}
 use Rattle.schema_convert.specs.Borrowed.{entry_now, optional_now}
 use Rattle.schema_convert.specs.NamesIn.{word_cmp, path_cmp}
 use Rattle.schema_convert.specs.Shadowings.{by_id, by_name, builtin_shadowed, entity_shadowed, common_warnings, warnings_in, declared_warnings}

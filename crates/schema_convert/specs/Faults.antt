@@ -3,20 +3,20 @@ use Rattle.std.specs.Prelude.{ℕ, Bool, List, [], ◌∷◌, Option, Some, None
 use Rattle.std.specs.List.{filter_map, flat_map, list_any}
 use Rattle.std.specs.Option.{option_map, option_or, option_to_list}
 use Rattle.cedar_data.specs.declared.node.Node.{Node}
-use Rattle.cedar_identifiers.specs.CanonicalText.{joined as spelled}
+use Rattle.plain_syntax.specs.CanonicalText.{joined as spelled}
 use Rattle.cedar_identifiers.specs.Names.{texts_of}
 use Rattle.cedar_identifiers.specs.Words.{is_cedar}
 use Rattle.cedar_identifiers.specs.declared.id.Id.{Id}
-use Rattle.schema_tree.specs.declared.action_decl.ActionDecl.TheVariants.{Defined, External}
-use Rattle.schema_tree.specs.declared.annotated.Annotated.{Annotated}
-use Rattle.schema_tree.specs.declared.app_decl.AppDecl.{AppDecl}
-use Rattle.schema_tree.specs.declared.declaration.Declaration.{Declaration}
-use Rattle.schema_tree.specs.declared.declaration.Declaration.TheVariants.{Entity, Action, Common}
-use Rattle.schema_tree.specs.declared.namespace.Namespace.{Namespace}
-use Rattle.schema_tree.specs.declared.path.Path.{Path}
+use Rattle.schema_syntax_tree.specs.declared.action_decl.ActionDecl.TheVariants.{Defined, External}
+use Rattle.schema_syntax_tree.specs.declared.annotated.Annotated.{Annotated}
+use Rattle.schema_syntax_tree.specs.declared.app_decl.AppDecl.{AppDecl}
+use Rattle.schema_syntax_tree.specs.declared.declaration.Declaration.{Declaration}
+use Rattle.schema_syntax_tree.specs.declared.declaration.Declaration.TheVariants.{Entity, Action, Common}
+use Rattle.schema_syntax_tree.specs.declared.namespace.Namespace.{Namespace}
+use Rattle.schema_syntax_tree.specs.declared.path.Path.{Path}
 use Rattle.schema_json.specs.Keywords.{is_keyword_name}
-use Rattle.convert_errors.specs.declared.errors.ToJsonSchemaError.{ToJsonSchemaError}
-use Rattle.convert_errors.specs.declared.errors.ToJsonSchemaError.TheVariants.{DuplicateDeclarations, DuplicateNamespaces, ReservedName, ReservedSchemaKeyword}
+use Rattle.schema_convert_errors.specs.declared.errors.ToJsonSchemaError.{ToJsonSchemaError}
+use Rattle.schema_convert_errors.specs.declared.errors.ToJsonSchemaError.TheVariants.{DuplicateDeclarations, DuplicateNamespaces, ReservedName, ReservedSchemaKeyword}
 use Rattle.schema_convert.specs.Joined.{joined}
 use Rattle.schema_convert.specs.Members.{block_fault}
 use Rattle.schema_convert.specs.NamesIn.{entities_in, actions_in, commons_in, paths_in, id_cmp, action_cmp, path_cmp}

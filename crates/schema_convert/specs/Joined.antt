@@ -2,9 +2,9 @@
 use Rattle.std.specs.Prelude.{List, [], ◌∷◌, ◌++◌, Option, Some, None}
 use Rattle.std.specs.List.{flat_map}
 use Rattle.cedar_data.specs.declared.node.Node.{Node}
-use Rattle.schema_tree.specs.declared.annotated.Annotated.{Annotated}
-use Rattle.schema_tree.specs.declared.declaration.Declaration.{Declaration}
-use Rattle.schema_tree.specs.declared.namespace.Namespace.{Namespace}
+use Rattle.schema_syntax_tree.specs.declared.annotated.Annotated.{Annotated}
+use Rattle.schema_syntax_tree.specs.declared.declaration.Declaration.{Declaration}
+use Rattle.schema_syntax_tree.specs.declared.namespace.Namespace.{Namespace}
 
 -- the namespace alone, where it has a name
 abbrev pub named_so : {X Y : Type 0} → Option X → Y → List Y

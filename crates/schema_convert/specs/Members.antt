@@ -2,13 +2,13 @@
 use Rattle.std.specs.Prelude.{ℕ, Bool, true, false, List, [], ◌∷◌, Option, Some, None, is_none, Result, Ok, Err}
 use Rattle.cedar_data.specs.Span.{Span}
 use Rattle.cedar_data.specs.declared.node.Node.{Node}
-use Rattle.schema_tree.specs.declared.app_decl.AppDecl.{AppDecl}
-use Rattle.schema_tree.specs.declared.app_decl.AppDecl.TheVariants.{PR, Context}
-use Rattle.schema_tree.specs.declared.pr.PR.{PR as Role}
-use Rattle.schema_tree.specs.declared.pr.PR.TheVariants.{Principal, Resource}
-use Rattle.convert_errors.specs.declared.errors.MissingOrEmpty.TheVariants.{Missing, Empty}
-use Rattle.convert_errors.specs.declared.errors.ToJsonSchemaError.{ToJsonSchemaError}
-use Rattle.convert_errors.specs.declared.errors.ToJsonSchemaError.TheVariants.{DuplicateContext, DuplicatePrincipalOrResource, NoPrincipalOrResource}
+use Rattle.schema_syntax_tree.specs.declared.app_decl.AppDecl.{AppDecl}
+use Rattle.schema_syntax_tree.specs.declared.app_decl.AppDecl.TheVariants.{PR, Context}
+use Rattle.schema_syntax_tree.specs.declared.pr.PR.{PR as Role}
+use Rattle.schema_syntax_tree.specs.declared.pr.PR.TheVariants.{Principal, Resource}
+use Rattle.schema_convert_errors.specs.declared.errors.MissingOrEmpty.TheVariants.{Missing, Empty}
+use Rattle.schema_convert_errors.specs.declared.errors.ToJsonSchemaError.{ToJsonSchemaError}
+use Rattle.schema_convert_errors.specs.declared.errors.ToJsonSchemaError.TheVariants.{DuplicateContext, DuplicatePrincipalOrResource, NoPrincipalOrResource}
 use Rattle.schema_convert.specs.declared.members.Met.{Met}
 
 -- where the block's principals, or its resources, were met

@@ -6,12 +6,12 @@ use Rattle.std.specs.declared.cmp.Ordering.{Ordering}
 use Rattle.cedar_data.specs.Text.{text_cmp}
 use Rattle.cedar_data.specs.declared.node.Node.{Node}
 use Rattle.cedar_identifiers.specs.declared.id.Id.{Id}
-use Rattle.schema_tree.specs.DeclaredNames.{entity_names, action_names}
-use Rattle.schema_tree.specs.declared.annotated.Annotated.{Annotated}
-use Rattle.schema_tree.specs.declared.declaration.Declaration.{Declaration}
-use Rattle.schema_tree.specs.declared.declaration.Declaration.TheVariants.{Entity, Action, Common}
-use Rattle.schema_tree.specs.declared.namespace.Namespace.{Namespace}
-use Rattle.schema_tree.specs.declared.path.Path.{Path}
+use Rattle.schema_syntax_tree.specs.DeclaredNames.{entity_names, action_names}
+use Rattle.schema_syntax_tree.specs.declared.annotated.Annotated.{Annotated}
+use Rattle.schema_syntax_tree.specs.declared.declaration.Declaration.{Declaration}
+use Rattle.schema_syntax_tree.specs.declared.declaration.Declaration.TheVariants.{Entity, Action, Common}
+use Rattle.schema_syntax_tree.specs.declared.namespace.Namespace.{Namespace}
+use Rattle.schema_syntax_tree.specs.declared.path.Path.{Path}
 
 -- the names of entity types, of actions and of a common type that a declaration gives
 abbrev pub entities_of : Declaration → List (Node Id)

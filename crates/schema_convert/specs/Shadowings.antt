@@ -10,12 +10,12 @@ use Rattle.cedar_data.specs.declared.node.Node.{Node}
 use Rattle.cedar_identifiers.specs.declared.id.Id.{Id}
 use Rattle.cedar_names.specs.Tables.{table_has}
 use Rattle.cedar_names.specs.declared.extension_table.ExtensionTable.{ExtensionTable}
-use Rattle.schema_tree.specs.declared.annotated.Annotated.{Annotated}
-use Rattle.schema_tree.specs.declared.declaration.Declaration.{Declaration}
-use Rattle.schema_tree.specs.declared.namespace.Namespace.{Namespace}
-use Rattle.schema_tree.specs.declared.path.Path.{Path}
-use Rattle.convert_errors.specs.declared.warnings.SchemaWarning.{SchemaWarning}
-use Rattle.convert_errors.specs.declared.warnings.SchemaWarning.TheVariants.{ShadowsBuiltin, ShadowsEntity}
+use Rattle.schema_syntax_tree.specs.declared.annotated.Annotated.{Annotated}
+use Rattle.schema_syntax_tree.specs.declared.declaration.Declaration.{Declaration}
+use Rattle.schema_syntax_tree.specs.declared.namespace.Namespace.{Namespace}
+use Rattle.schema_syntax_tree.specs.declared.path.Path.{Path}
+use Rattle.schema_convert_errors.specs.declared.warnings.SchemaWarning.{SchemaWarning}
+use Rattle.schema_convert_errors.specs.declared.warnings.SchemaWarning.TheVariants.{ShadowsBuiltin, ShadowsEntity}
 use Rattle.schema_convert.specs.Joined.{joined}
 use Rattle.schema_convert.specs.NamesIn.{entities_in, commons_in, word_cmp, path_cmp}
 

@@ -7,13 +7,13 @@ use crate::shadowing::warnings_of;
 use cedar_data::NonEmpty;
 use cedar_identifiers::RawName;
 use cedar_names::ExtensionTable;
-use convert_errors::{
+use schema_convert_errors::{
     CedarSchemaParseErrors, SchemaWarning, ToJsonSchemaErrors, ToJsonSchemaFailure,
 };
 use schema_json::Fragment;
-use schema_shape::fragment_of;
+use schema_convert_types::fragment_of;
 use schema_syntax::{ParseSchemaError, parse_schema};
-use schema_tree::Schema;
+use schema_syntax_tree::Schema;
 use std::alloc::Global;
 
 /// The fragment that a tree stands for, with its warnings, or all faults that keep it from being one. A name that is

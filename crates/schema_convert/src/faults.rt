@@ -9,11 +9,11 @@ use crate::names_in::{actions_in, commons_in, entities_in, paths_in};
 use crate::repeats::first_repeat;
 use cedar_data::{CloneIn, Node, NonEmpty, Text};
 use cedar_identifiers::Id;
-use convert_errors::{
+use schema_convert_errors::{
     DuplicateDeclarations, DuplicateNamespace, ReservedName, ReservedSchemaKeyword,
     ToJsonSchemaError,
 };
-use schema_tree::{ActionDecl, Annotated, AppDecl, Declaration, Namespace, Path};
+use schema_syntax_tree::{ActionDecl, Annotated, AppDecl, Declaration, Namespace, Path};
 use std::alloc::{AllocError, Global};
 
 // Whether an id of the path is `__cedar`.

@@ -3,7 +3,7 @@ ghost use Rattle.schema_convert.specs.Joined.{named_so, unnamed_so, empty_namesp
 
 use cedar_data::{List, Node};
 use cedar_identifiers::Annotations;
-use schema_tree::{Annotated, Declaration, Namespace, Schema};
+use schema_syntax_tree::{Annotated, Declaration, Namespace, Schema};
 use std::alloc::{AllocError, Global};
 
 // Adds the namespace where it has a name, and else its declarations to those outside.

@@ -10,16 +10,13 @@ mod repeats;
 mod shadowing;
 
 pub use convert::{cedar_schema_to_json_schema, parse_cedar_schema_fragment};
-pub use convert_errors::{
+pub use schema_convert_errors::{
     CedarSchemaParseErrors, DuplicateContext, DuplicateDeclarations, DuplicateNamespace,
     DuplicatePrincipalOrResource, MissingOrEmpty, NO_PR_HELP_MSG, NoPrincipalOrResource,
     ReservedName, ReservedSchemaKeyword, SchemaWarning, ShadowsBuiltinWarning,
     ShadowsEntityWarning, ToJsonSchemaError, ToJsonSchemaErrors, ToJsonSchemaFailure,
     UnknownTypeName,
 };
-pub use schema_shape::{
+pub use schema_convert_types::{
     IntoVariant, cedar_type_to_json_type, path_to_internal_name, path_to_raw_name,
 };
-
-#[cfg(test)]
-mod tests;

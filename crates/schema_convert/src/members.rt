@@ -2,11 +2,11 @@ ghost use Rattle.std.specs.Prelude.{◌≡◌, IfOk};
 ghost use Rattle.schema_convert.specs.Members.{met_role, meet_role, second_role, second_context, empty_role, missing_role, role_meets, context_meets, meets, missing, block_fault};
 
 use cedar_data::{CloneIn, Loc, Node, NonEmpty, Text};
-use convert_errors::{
+use schema_convert_errors::{
     DuplicateContext, DuplicatePrincipalOrResource, MissingOrEmpty, NoPrincipalOrResource,
     ToJsonSchemaError,
 };
-use schema_tree::{AppDecl, PR};
+use schema_syntax_tree::{AppDecl, PR};
 use std::alloc::{AllocError, Global};
 
 // Where the members of each kind were met, as far as they were.

@@ -5,7 +5,7 @@ ghost use Rattle.schema_convert.specs.NamesIn.{entities_of, actions_of, commons_
 
 use cedar_data::{Node, NonEmptyIter, Text};
 use cedar_identifiers::Id;
-use schema_tree::{ActionDecl, Annotated, Declaration, Namespace, Path};
+use schema_syntax_tree::{ActionDecl, Annotated, Declaration, Namespace, Path};
 use std::alloc::{AllocError, Global};
 
 // Adds the items, in order.

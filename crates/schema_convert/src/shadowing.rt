@@ -8,8 +8,8 @@ use crate::names_in::{commons_in, entities_in};
 use cedar_data::{CloneIn, Map, Node};
 use cedar_identifiers::Id;
 use cedar_names::ExtensionTable;
-use convert_errors::{SchemaWarning, ShadowsBuiltinWarning, ShadowsEntityWarning};
-use schema_tree::{Annotated, Declaration, Namespace, Path};
+use schema_convert_errors::{SchemaWarning, ShadowsBuiltinWarning, ShadowsEntityWarning};
+use schema_syntax_tree::{Annotated, Declaration, Namespace, Path};
 use std::alloc::{AllocError, Global};
 
 // The names, sorted.

@@ -4,7 +4,7 @@ use Rattle.std.specs.Str.{chars}
 use Rattle.cedar_identifiers.specs.Names.{name_text}
 use Rattle.cedar_identifiers.specs.declared.internal_name.InternalName.{InternalName}
 use Rattle.cedar_identifiers.specs.declared.raw_name.RawName.{RawName}
-use Rattle.schema_tokens.specs.Quotes.{quoted}
+use Rattle.schema_syntax_tokens.specs.Quotes.{quoted}
 
 -- `Action`, without a place
 abbrev pub action_name : InternalName

@@ -10,7 +10,7 @@ use crate::typed_name::TypedName;
 use cedar_data::{List, Text};
 use cedar_identifiers::{Eid, Id, InternalName, Name, NameText, RawName};
 use cedar_names::EntityUID;
-use schema_tokens::push_quoted;
+use schema_syntax_tokens::push_quoted;
 use std::alloc::{AllocError, Global};
 
 impl<N: NameText> ActionEntityUID<N> {

@@ -24,6 +24,3 @@ pub use fragment::{Fragment, NamespaceDefinition};
 pub use reserved::{ReservedCommonTypeBasenameError, ReservedNameError};
 pub use typed_name::TypedName;
 pub use types::{RecordType, Type, TypeOfAttribute, TypeVariant};
-
-#[cfg(test)]
-mod tests;

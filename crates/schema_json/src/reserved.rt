@@ -1,8 +1,8 @@
 ghost use Rattle.std.specs.Prelude.{◌≡◌, Ok, None, [], IfOk, IsOkAnd};
 ghost use Rattle.schema_json.specs.Keywords.{reserved_text};
 
-use cedar_data::{CloneIn, Text};
-use cedar_identifiers::{InternalName, Label, Severity, UnreservedId};
+use cedar_data::{CloneIn, Label, Severity, Text};
+use cedar_identifiers::{InternalName, UnreservedId};
 use std::alloc::{AllocError, Global};
 
 /// The name of a common type is one that names a type or a kind of types already.

@@ -5,11 +5,11 @@ use Rattle.std.specs.Result.{IsErrAnd, IfErr}
 use Rattle.std.specs.Map.{keys_of}
 use Rattle.std.proofs.Math.Seq.{take-suc}
 use Rattle.std.proofs.lemmas.List.{map-append, take_all}
-use Rattle.resolve_errors.specs.Gathered.{each}
+use Rattle.schema_resolve_errors.specs.Gathered.{each}
 use Rattle.schema_resolve.specs.Undefined.{Undefined}
 use Rattle.schema_resolve.specs.Faults.{NamesFirst}
-use Rattle.resolve_errors.specs.declared.resolve_error.ResolveError.{ResolveError}
-use Rattle.resolve_errors.specs.declared.resolve_error.ResolveError.TheVariants.{TypeNotDefined, ActionNotDefined, Memory}
+use Rattle.schema_resolve_errors.specs.declared.resolve_error.ResolveError.{ResolveError}
+use Rattle.schema_resolve_errors.specs.declared.resolve_error.ResolveError.TheVariants.{TypeNotDefined, ActionNotDefined, Memory}
 
 -- the first of the front, and the first behind where the front has none
 pub front_first : (us vs : List Undefined) (e : ResolveError) → NamesFirst us e → NamesFirst (us ++ vs) e

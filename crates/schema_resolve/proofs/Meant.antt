@@ -8,7 +8,7 @@ use Rattle.cedar_identifiers.specs.declared.reference_type.ReferenceType.{Refere
 use Rattle.cedar_identifiers.specs.declared.reference_type.ReferenceType.TheVariants.{Common, Entity}
 use Rattle.cedar_identifiers.specs.declared.internal_name.InternalName.{InternalName}
 use Rattle.cedar_identifiers.specs.declared.raw_name.RawName.{RawName}
-use Rattle.schema_defined.specs.Tests.{Tests}
+use Rattle.schema_resolve_definitions.specs.Tests.{Tests}
 use Rattle.schema_resolve.specs.Designated.{designated_reference}
 use Rattle.schema_resolve.specs.Meanings.{kind_there, means, reference_as, ResolvesAsItMeans}
 use Rattle.schema_resolve.specs.Qualified.{in_namespace}

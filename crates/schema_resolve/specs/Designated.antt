@@ -8,7 +8,7 @@ use Rattle.cedar_identifiers.specs.declared.reference_type.ReferenceType.TheVari
 use Rattle.cedar_identifiers.specs.declared.internal_name.InternalName.{InternalName}
 use Rattle.schema_json.specs.Actions.{action_name}
 use Rattle.schema_json.specs.declared.types.Type.{«Type»}
-use Rattle.schema_defined.specs.Tests.{Tests}
+use Rattle.schema_resolve_definitions.specs.Tests.{Tests}
 use Rattle.schema_resolve.specs.Qualified.{in_namespace}
 use Rattle.schema_resolve.specs.References.{reference_to}
 use Rattle.schema_resolve.specs.Renamed.{Renaming}

@@ -5,7 +5,7 @@ use Rattle.cedar_identifiers.specs.Candidates.{behind, is_unqualified}
 use Rattle.cedar_identifiers.specs.declared.reference_type.ReferenceType.{ReferenceType}
 use Rattle.cedar_identifiers.specs.declared.internal_name.InternalName.{InternalName}
 use Rattle.cedar_identifiers.specs.declared.raw_name.RawName.{RawName}
-use Rattle.schema_defined.specs.Tests.{Tests}
+use Rattle.schema_resolve_definitions.specs.Tests.{Tests}
 use Rattle.schema_resolve.specs.Qualified.{in_namespace}
 use Rattle.schema_resolve.specs.Targets.{is_defined, target}
 

@@ -9,7 +9,7 @@ use Rattle.cedar_identifiers.specs.declared.reference_type.ReferenceType.TheVari
 use Rattle.cedar_identifiers.specs.declared.internal_name.InternalName.{InternalName}
 use Rattle.cedar_identifiers.specs.declared.raw_name.RawName.{RawName}
 use Rattle.cedar_identifiers.specs.declared.conditional_name.ConditionalName.{ConditionalName}
-use Rattle.schema_defined.specs.Tests.{Tests}
+use Rattle.schema_resolve_definitions.specs.Tests.{Tests}
 use Rattle.schema_json.specs.declared.types.Type.{«Type», Variant, CommonTypeRef}
 use Rattle.schema_json.specs.declared.types.TypeVariant.TheVariants as variant
 use Rattle.schema_resolve.specs.Qualified.{in_namespace}

@@ -5,8 +5,8 @@ use Rattle.cedar_identifiers.specs.declared.reference_type.ReferenceType.TheVari
 use Rattle.cedar_identifiers.specs.declared.internal_name.InternalName.{InternalName}
 use Rattle.cedar_identifiers.specs.declared.name_text.NameText as named
 use Rattle.cedar_identifiers.specs.declared.raw_name.RawName.{RawName}
-use Rattle.schema_defined.specs.Declarations.{name_of}
-use Rattle.schema_defined.specs.Tests.{Tests}
+use Rattle.schema_resolve_definitions.specs.Declarations.{name_of}
+use Rattle.schema_resolve_definitions.specs.Tests.{Tests}
 use Rattle.schema_json.specs.declared.fragment.Fragment.{Fragment}
 use Rattle.schema_resolve.specs.Designated.{designated_reference}
 use Rattle.schema_resolve.specs.Qualified.{in_namespace, type_in_namespace}

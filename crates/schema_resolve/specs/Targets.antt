@@ -6,7 +6,7 @@ use Rattle.cedar_identifiers.specs.declared.reference_type.ReferenceType.{Refere
 use Rattle.cedar_identifiers.specs.declared.reference_type.ReferenceType.TheVariants.{Common, Entity, CommonOrEntity}
 use Rattle.cedar_identifiers.specs.declared.internal_name.InternalName.{InternalName}
 use Rattle.cedar_identifiers.specs.declared.conditional_name.ConditionalName.{ConditionalName}
-use Rattle.schema_defined.specs.Tests.{Tests}
+use Rattle.schema_resolve_definitions.specs.Tests.{Tests}
 use Rattle.schema_json.specs.Actions.{action_name}
 use Rattle.schema_resolve.specs.References.{either_way}
 use Rattle.schema_resolve.specs.Renamed.{Renaming}

@@ -6,7 +6,7 @@ use Rattle.cedar_identifiers.specs.declared.name.Name.{Name}
 use Rattle.cedar_identifiers.specs.declared.name_text.NameText as named
 use Rattle.cedar_identifiers.specs.declared.reference_type.ReferenceType.{ReferenceType}
 use Rattle.cedar_identifiers.specs.declared.reference_type.ReferenceType.TheVariants.{Common, Entity, CommonOrEntity}
-use Rattle.resolve_errors.specs.Gathered.{each, if_there}
+use Rattle.schema_resolve_errors.specs.Gathered.{each, if_there}
 use Rattle.schema_json.specs.Walk.{joined}
 use Rattle.schema_json.specs.declared.types.Type.{«Type», Type-F, fold-Type}
 use Rattle.schema_json.specs.declared.types.TypeVariant.{TypeVariant, TypeVariant-F, fold-TypeVariant}

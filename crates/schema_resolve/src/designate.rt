@@ -1,6 +1,6 @@
 ghost use Rattle.std.specs.Prelude.{◌≡◌, [], List, IfOk, IfErr, OnOk};
 ghost use Rattle.cedar_names.specs.Definitions.{Definitions};
-ghost use Rattle.schema_defined.specs.Tests.{tests_of};
+ghost use Rattle.schema_resolve_definitions.specs.Tests.{tests_of};
 ghost use Rattle.schema_resolve.specs.Designated.{designating, type_as_written, undesignated, no_action};
 ghost use Rattle.schema_resolve.specs.Faults.{NamesFirst};
 ghost use Rattle.schema_resolve.specs.Renamed.{renamed, renamed_namespace, renamed_fragment};
@@ -13,7 +13,7 @@ use crate::rename_namespaces::rename_namespace;
 use crate::rename_types::rename_type;
 use cedar_identifiers::{InternalName, Name};
 use cedar_names::AllDefs;
-use resolve_errors::ResolveError;
+use schema_resolve_errors::ResolveError;
 use schema_json::{Fragment, NamespaceDefinition, Type};
 use std::alloc::Global;
 

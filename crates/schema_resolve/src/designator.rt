@@ -1,5 +1,5 @@
 ghost use Rattle.std.specs.Prelude.{◌≡◌, [], OnOk, IfErr};
-ghost use Rattle.schema_defined.specs.Tests.{tests_of};
+ghost use Rattle.schema_resolve_definitions.specs.Tests.{tests_of};
 ghost use Rattle.schema_resolve.specs.Designated.{designating, type_as_written, undesignated, no_action};
 ghost use Rattle.schema_resolve.specs.Faults.{NamesFirst};
 ghost use Rattle.schema_resolve.specs.References.{reference_to};
@@ -9,7 +9,7 @@ use crate::targets::is_defined;
 use cedar_data::{CloneIn, Loc, NonEmpty};
 use cedar_identifiers::{InternalName, RawName, ReferenceType};
 use cedar_names::AllDefs;
-use resolve_errors::{ResolveError, TypeNotDefinedError};
+use schema_resolve_errors::{ResolveError, TypeNotDefinedError};
 use schema_json::{ActionEntityUID, Type, TypeVariant};
 use std::alloc::Global;
 

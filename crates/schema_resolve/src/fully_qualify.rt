@@ -1,6 +1,6 @@
 ghost use Rattle.std.specs.Prelude.{◌≡◌, [], List, IfOk, IfErr, OnOk};
 ghost use Rattle.cedar_names.specs.Definitions.{Definitions};
-ghost use Rattle.schema_defined.specs.Tests.{tests_of};
+ghost use Rattle.schema_resolve_definitions.specs.Tests.{tests_of};
 ghost use Rattle.schema_resolve.specs.Undefined.{Undefined};
 ghost use Rattle.schema_resolve.specs.Faults.{NamesFirst};
 ghost use Rattle.schema_resolve.specs.Targets.{resolving, action_target_name, lacks, lacks_action};
@@ -12,7 +12,7 @@ use crate::rename_namespaces::rename_namespace;
 use crate::rename_types::{rename_attribute, rename_record, rename_type, rename_variant};
 use cedar_identifiers::{ConditionalName, InternalName};
 use cedar_names::AllDefs;
-use resolve_errors::ResolveError;
+use schema_resolve_errors::ResolveError;
 use schema_json::{
     ActionEntityUID, ActionType, ApplySpec, AttributesOrContext, EntityType, NamespaceDefinition,
     RecordType, Type, TypeOfAttribute, TypeVariant,

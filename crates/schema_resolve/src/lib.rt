@@ -19,9 +19,6 @@ mod targets;
 pub use designate::Designate;
 pub use fully_qualify::FullyQualify;
 pub use qualify::Qualify;
-pub use resolve_errors::{ActionNotDefinedError, ResolveError, TypeNotDefinedError};
+pub use schema_resolve_errors::{ActionNotDefinedError, ResolveError, TypeNotDefinedError};
 pub use resolve_fragment::ResolveFragment;
-pub use schema_defined::single_fragment;
-
-#[cfg(test)]
-mod tests;
+pub use schema_resolve_definitions::single_fragment;

@@ -8,7 +8,7 @@ ghost use Rattle.schema_resolve.specs.Walk.{of_namespace, of_fragment};
 
 use cedar_data::{CloneIn, Map};
 use cedar_identifiers::{Name, NameText};
-use resolve_errors::ResolveError;
+use schema_resolve_errors::ResolveError;
 use schema_json::{Fragment, NamespaceDefinition};
 use std::alloc::Global;
 

@@ -2,14 +2,14 @@ ghost use Rattle.std.specs.Prelude.{◌≡◌, [], map, IfOk, IfErr, OnOk};
 ghost use Rattle.std.specs.Option.{option_map};
 ghost use Rattle.schema_resolve.specs.Faults.{NamesFirst};
 ghost use Rattle.schema_resolve.specs.Renamed.{renamed, renamed_common, renamed_context, renamed_standard, renamed_kind, renamed_entity, renamed_apply, renamed_uid, renamed_action};
-ghost use Rattle.resolve_errors.specs.Gathered.{each, if_there};
+ghost use Rattle.schema_resolve_errors.specs.Gathered.{each, if_there};
 ghost use Rattle.schema_resolve.specs.Walk.{of_type, of_common, of_context, of_standard, of_kind, of_entity, of_apply, of_uid, of_action};
 
 use crate::rename_types::rename_type;
 use crate::renamer::{ActionRenamer, Renamer};
 use cedar_data::{CloneIn, List};
 use cedar_identifiers::{NameText, ReferenceType};
-use resolve_errors::ResolveError;
+use schema_resolve_errors::ResolveError;
 use schema_json::{
     ActionEntityUID, ActionType, ApplySpec, AttributesOrContext, CommonType, EntityType,
     EntityTypeKind, StandardEntityType, Type,

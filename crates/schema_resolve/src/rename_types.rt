@@ -7,7 +7,7 @@ ghost use Rattle.schema_resolve.specs.Walk.{of_type, of_variant, of_record, of_a
 use crate::renamer::Renamer;
 use cedar_data::{Boxed, CloneIn, Loc, Map, Text};
 use cedar_identifiers::ReferenceType;
-use resolve_errors::ResolveError;
+use schema_resolve_errors::ResolveError;
 use schema_json::{RecordType, Type, TypeOfAttribute, TypeVariant};
 use std::alloc::Global;
 

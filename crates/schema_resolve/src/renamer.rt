@@ -6,7 +6,7 @@ ghost use Rattle.schema_resolve.specs.Renamed.{Renaming};
 
 use cedar_data::Loc;
 use cedar_identifiers::{NameText, ReferenceType};
-use resolve_errors::ResolveError;
+use schema_resolve_errors::ResolveError;
 use schema_json::{ActionEntityUID, Type};
 use std::alloc::Global;
 

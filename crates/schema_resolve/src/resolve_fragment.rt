@@ -1,9 +1,9 @@
 ghost use Rattle.std.specs.Prelude.{◌≡◌, [], List, IfOk, IfErr, OnOk};
 ghost use Rattle.cedar_identifiers.specs.declared.internal_name.InternalName.{InternalName};
 ghost use Rattle.cedar_names.specs.declared.extension_table.ExtensionTable.{ExtensionTable};
-ghost use Rattle.schema_defined.specs.Declarations.{name_of};
-ghost use Rattle.schema_defined.specs.Defined.{defined};
-ghost use Rattle.schema_defined.specs.Tests.{tests_of};
+ghost use Rattle.schema_resolve_definitions.specs.Declarations.{name_of};
+ghost use Rattle.schema_resolve_definitions.specs.Defined.{defined};
+ghost use Rattle.schema_resolve_definitions.specs.Tests.{tests_of};
 ghost use Rattle.schema_resolve.specs.Faults.{NamesFirst};
 ghost use Rattle.schema_resolve.specs.Resolved.{resolving_in, meant_type, lacks_in, lacks_action_in, resolved, undefined};
 ghost use Rattle.schema_resolve.specs.Undefined.{Undefined};
@@ -14,9 +14,9 @@ use crate::resolver::Resolver;
 use crate::scope::Scope;
 use cedar_identifiers::{InternalName, Name, RawName};
 use cedar_names::{AllDefs, ExtensionTable};
-use resolve_errors::ResolveError;
-use schema_defined::all_definitions;
-use schema_defined::declared::name_of;
+use schema_resolve_errors::ResolveError;
+use schema_resolve_definitions::all_definitions;
+use schema_resolve_definitions::declared::name_of;
 use schema_json::{Fragment, NamespaceDefinition};
 use std::alloc::Global;
 

@@ -1,5 +1,5 @@
 ghost use Rattle.std.specs.Option.{option_copied};
-ghost use Rattle.schema_defined.specs.Tests.{tests_of};
+ghost use Rattle.schema_resolve_definitions.specs.Tests.{tests_of};
 ghost use Rattle.schema_resolve.specs.Resolved.{resolving_in, meant_type, lacks_in, lacks_action_in};
 
 use crate::designator::reference_to;
@@ -9,7 +9,7 @@ use crate::scope::Scope;
 use cedar_data::Loc;
 use cedar_identifiers::{InternalName, RawName, ReferenceType};
 use cedar_names::AllDefs;
-use resolve_errors::ResolveError;
+use schema_resolve_errors::ResolveError;
 use schema_json::{ActionEntityUID, Type};
 use std::alloc::Global;
 

@@ -6,7 +6,7 @@ ghost use Rattle.schema_resolve.specs.Qualified.{qualifying, type_in_namespace};
 use crate::renamer::{ActionRenamer, Renamer};
 use cedar_data::{CloneIn, Loc};
 use cedar_identifiers::{ConditionalName, InternalName, RawName, ReferenceType};
-use resolve_errors::ResolveError;
+use schema_resolve_errors::ResolveError;
 use schema_json::action_uid::action_name;
 use schema_json::{ActionEntityUID, Type, TypeVariant};
 use std::alloc::{AllocError, Global};

@@ -1,14 +1,14 @@
 ghost use Rattle.std.specs.Prelude.{◌≡◌, [], Ok, IfOk, find};
 ghost use Rattle.std.specs.Option.{option_copied};
 ghost use Rattle.cedar_identifiers.specs.Names.{components_of};
-ghost use Rattle.schema_defined.specs.Tests.{tests_of};
+ghost use Rattle.schema_resolve_definitions.specs.Tests.{tests_of};
 ghost use Rattle.schema_resolve.specs.Targets.{is_defined, is_action, resolving, action_target_name, lacks, lacks_action};
 
 use crate::renamer::{ActionRenamer, Renamer};
 use cedar_data::{CloneIn, Loc, NonEmpty, Text};
 use cedar_identifiers::{ConditionalName, Eid, InternalName, Name, ReferenceType};
 use cedar_names::{AllDefs, EntityUID};
-use resolve_errors::{ActionNotDefinedError, ResolveError, TypeNotDefinedError};
+use schema_resolve_errors::{ActionNotDefinedError, ResolveError, TypeNotDefinedError};
 use schema_json::{ActionEntityUID, Type, TypeVariant};
 use std::alloc::{AllocError, Global};
 

@@ -1,15 +1,15 @@
 -- A text that has a tree has no error.
 use Rattle.std.proofs.Common.{◌≡◌, ℕ, List, length, subst}
-use Rattle.schema_tokens.specs.declared.token.Token.{Token}
-use Rattle.schema_tokens.specs.Scans.{Scans}
-use Rattle.schema_parse.specs.declared.syntax.ItemSyntax.{ItemSyntax}
-use Rattle.schema_parse.specs.Syntax.{IsSyntax}
-use Rattle.schema_faults.specs.declared.syntax_fault.SyntaxFault.{SyntaxFault}
-use Rattle.schema_faults.specs.SyntaxFaults.{IsSyntaxFault, IsSentence}
-use Rattle.schema_tree.specs.declared.annotated.Annotated.{Annotated}
-use Rattle.schema_tree.specs.declared.namespace.Namespace.{Namespace}
-use Rattle.parse_errors.specs.declared.parse_error.ParseError.{ParseError}
-use Rattle.schema_lawful.specs.UserFaults.{IsFirstUserFault}
+use Rattle.schema_syntax_tokens.specs.declared.token.Token.{Token}
+use Rattle.schema_syntax_tokens.specs.Scans.{Scans}
+use Rattle.schema_syntax_parser.specs.declared.syntax.ItemSyntax.{ItemSyntax}
+use Rattle.schema_syntax_parser.specs.Syntax.{IsSyntax}
+use Rattle.schema_syntax.specs.declared.syntax_fault.SyntaxFault.{SyntaxFault}
+use Rattle.schema_syntax.specs.SyntaxFaults.{IsSyntaxFault, IsSentence}
+use Rattle.schema_syntax_tree.specs.declared.annotated.Annotated.{Annotated}
+use Rattle.schema_syntax_tree.specs.declared.namespace.Namespace.{Namespace}
+use Rattle.schema_syntax_errors.specs.declared.parse_error.ParseError.{ParseError}
+use Rattle.schema_syntax_reader.specs.UserFaults.{IsFirstUserFault}
 use Rattle.schema_syntax.specs.ParseAnswers.{IsTreeOfText, IsErrorOf, syntax, user}
 
 module _ (faulty : (text : List ℕ) (fault : SyntaxFault) → IsSyntaxFault text fault → IsSentence text → ⊥)

@@ -1,6 +1,2 @@
+pub mod SyntaxFaults
 pub mod ParseAnswers
-pub mod ThinTokens
-pub mod ThinGrammar
-pub mod ThinMeaning
-pub mod ThinReading
-pub mod ThinGives

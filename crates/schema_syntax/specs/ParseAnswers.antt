@@ -1,20 +1,20 @@
 -- What a text comes to: one tree, one syntax fault, or the user fault that ends first.
 use Rattle.std.specs.Prelude.{◌≡◌, ℕ, List, [], ◌∷◌, length}
-use Rattle.schema_grammar.specs.Grammar.{Sentence}
-use Rattle.schema_tokens.specs.declared.token.Token.{Token}
-use Rattle.schema_tokens.specs.Scans.{Scans}
-use Rattle.schema_parse.specs.Syntax.{kinds_of}
-use Rattle.schema_faults.specs.declared.syntax_fault.SyntaxFault.{SyntaxFault}
-use Rattle.schema_faults.specs.declared.syntax_fault.SyntaxFault.TheVariants as fault
-use Rattle.schema_faults.specs.SyntaxFaults.{IsSyntaxFault}
-use Rattle.schema_tree.specs.declared.annotated.Annotated.{Annotated}
-use Rattle.schema_tree.specs.declared.namespace.Namespace.{Namespace}
-use Rattle.parse_errors.specs.declared.user_error.UserError.{UserError}
-use Rattle.parse_errors.specs.declared.parse_error.ParseError.{ParseError}
-use Rattle.parse_errors.specs.declared.parse_error.ParseError.TheVariants.{InvalidToken, UnrecognizedEof, UnrecognizedToken, User}
-use Rattle.parse_errors.specs.declared.parse_schema_error.ParseSchemaError.{ParseSchemaError}
-use Rattle.parse_errors.specs.declared.parse_schema_error.ParseSchemaError.TheVariants.{Errors, Memory}
-use Rattle.schema_lawful.specs.LawfulTrees.{IsLawfulTree, IsUserFaultOf}
+use Rattle.schema_syntax_grammar.specs.Grammar.{Sentence}
+use Rattle.schema_syntax_tokens.specs.declared.token.Token.{Token}
+use Rattle.schema_syntax_tokens.specs.Scans.{Scans}
+use Rattle.schema_syntax_parser.specs.Syntax.{kinds_of}
+use Rattle.schema_syntax.specs.declared.syntax_fault.SyntaxFault.{SyntaxFault}
+use Rattle.schema_syntax.specs.declared.syntax_fault.SyntaxFault.TheVariants as fault
+use Rattle.schema_syntax.specs.SyntaxFaults.{IsSyntaxFault}
+use Rattle.schema_syntax_tree.specs.declared.annotated.Annotated.{Annotated}
+use Rattle.schema_syntax_tree.specs.declared.namespace.Namespace.{Namespace}
+use Rattle.schema_syntax_errors.specs.declared.user_error.UserError.{UserError}
+use Rattle.schema_syntax_errors.specs.declared.parse_error.ParseError.{ParseError}
+use Rattle.schema_syntax_errors.specs.declared.parse_error.ParseError.TheVariants.{InvalidToken, UnrecognizedEof, UnrecognizedToken, User}
+use Rattle.schema_syntax_errors.specs.declared.parse_schema_error.ParseSchemaError.{ParseSchemaError}
+use Rattle.schema_syntax_errors.specs.declared.parse_schema_error.ParseSchemaError.TheVariants.{Errors, Memory}
+use Rattle.schema_syntax_reader.specs.LawfulTrees.{IsLawfulTree, IsUserFaultOf}
 
 -- the text is tokens to its end, and their kinds are those of a schema
 pub record AreTokensOf (text : List ℕ) (tokens : List Token) : Type 0 where

@@ -3,27 +3,21 @@
 
 pub mod laws;
 pub mod schema_parser;
-pub mod thin_decl;
-pub mod thin_parser;
-mod thin_scanner;
+pub mod syntax_fault;
 
-pub use laws::tree_or_error;
-pub use parse_errors::{
+pub use laws::{faulty_or_sentence, one_syntax_fault, tree_or_error};
+pub use schema_syntax_errors::{
     AnnotationError, ParseError, ParseErrors, ParseSchemaError, UnescapeError, UserError,
     expected_text,
 };
-pub use schema_grammar::{TokenKind, expected_after};
-pub use schema_lawful::deduplicate_annotations;
+pub use schema_syntax_grammar::{TokenKind, expected_after};
+pub use schema_syntax_reader::deduplicate_annotations;
 pub use schema_parser::parse_schema;
-pub use schema_tokens::{Scanned, Token, scan};
-pub use schema_tree::{
+pub use schema_syntax_tokens::{Scanned, Token, scan};
+pub use schema_syntax_tree::{
     ActionDecl, Annotated, AppDecl, AttrDecl, BUILTIN_TYPES, Decl, Declaration, DefinedActionDecl,
     Either, EntityDecl, EnumEntityDecl, ExternalActionDecl, ExternalEntityDecl, Namespace, PR,
     PRAppDecl, Path, PathIntoIter, PathIter, PrimitiveType, QualName, Schema, StandardEntityDecl,
     Type, TypeDecl,
 };
-pub use thin_decl::ThinDecl;
-pub use thin_parser::{ThinFault, one_thin_reading, parse_thin};
-
-#[cfg(test)]
-mod tests;
+pub use syntax_fault::{Refused, SyntaxFault, sentence_of, syntax_fault_of};

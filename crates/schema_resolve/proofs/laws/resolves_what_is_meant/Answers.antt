@@ -1,5 +1,5 @@
 use Rattle.std.specs.Option.{option_copied}
-use Rattle.schema_defined.specs.Tests.{tests_of}
+use Rattle.schema_resolve_definitions.specs.Tests.{tests_of}
 use Rattle.schema_resolve.proofs.Meant.{as_meant}
 use Rattle.schema_resolve.proofs.laws.resolves_what_is_meant.Goals as goal
 

@@ -1,6 +1,6 @@
 use Rattle.std.proofs.Common.{◌∷◌, ◌++◌, [], map, refl, sym, ap, ◌∙◌}
 use Rattle.schema_resolve.specs.Renamed.{renamed_entry}
-use Rattle.resolve_errors.specs.Gathered.{each}
+use Rattle.schema_resolve_errors.specs.Gathered.{each}
 use Rattle.schema_resolve.specs.Walk.{of_entry}
 use Rattle.schema_resolve.proofs.Lists.{each_more, each_all, each_first, map_more, map_all, keys_kept, refused}
 use Rattle.schema_resolve.proofs.rename_fragments.rename_fragment.Goals as goal

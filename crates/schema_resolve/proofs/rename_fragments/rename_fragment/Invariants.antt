@@ -1,6 +1,6 @@
 use Rattle.std.proofs.Common.{◌≡◌, [], map, take}
 use Rattle.schema_resolve.specs.Renamed.{renamed_entry}
-use Rattle.resolve_errors.specs.Gathered.{each}
+use Rattle.schema_resolve_errors.specs.Gathered.{each}
 use Rattle.schema_resolve.specs.Walk.{of_entry}
 use Rattle.schema_resolve.proofs.rename_fragments.rename_fragment.Given as goal
 

@@ -1,6 +1,6 @@
 use Rattle.std.proofs.Common.{◌≡◌, [], map, take}
 use Rattle.cedar_identifiers.specs.declared.reference_type.ReferenceType.TheVariants.{Entity}
-use Rattle.resolve_errors.specs.Gathered.{each}
+use Rattle.schema_resolve_errors.specs.Gathered.{each}
 use Rattle.schema_resolve.proofs.rename_items.rename_names.Given as goal
 
 abbrev pub invariant-loop-name : goal.invariant-loop-name

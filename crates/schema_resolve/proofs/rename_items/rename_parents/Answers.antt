@@ -1,5 +1,5 @@
 use Rattle.std.proofs.Common.{ap}
-use Rattle.resolve_errors.specs.Gathered.{each, if_there}
+use Rattle.schema_resolve_errors.specs.Gathered.{each, if_there}
 use Rattle.schema_resolve.specs.Walk.{of_uid}
 use Rattle.schema_resolve.proofs.Lists.{refused}
 use Rattle.schema_resolve.proofs.rename_items.rename_parents.Goals as goal

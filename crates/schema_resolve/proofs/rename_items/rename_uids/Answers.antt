@@ -1,5 +1,5 @@
 use Rattle.std.proofs.Common.{◌∷◌, ◌++◌, [], sym, ◌∙◌}
-use Rattle.resolve_errors.specs.Gathered.{each}
+use Rattle.schema_resolve_errors.specs.Gathered.{each}
 use Rattle.schema_resolve.specs.Walk.{of_uid}
 use Rattle.schema_resolve.proofs.Lists.{each_more, each_first, map_more, refused}
 use Rattle.schema_resolve.specs.Renamed.{renamed_uid}

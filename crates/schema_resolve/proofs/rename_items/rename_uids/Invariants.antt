@@ -1,6 +1,6 @@
 use Rattle.std.proofs.Common.{◌≡◌, [], map, take}
 use Rattle.schema_resolve.specs.Renamed.{renamed_uid}
-use Rattle.resolve_errors.specs.Gathered.{each}
+use Rattle.schema_resolve_errors.specs.Gathered.{each}
 use Rattle.schema_resolve.specs.Walk.{of_uid}
 use Rattle.schema_resolve.proofs.rename_items.rename_uids.Given as goal
 

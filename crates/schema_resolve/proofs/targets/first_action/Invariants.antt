@@ -1,6 +1,6 @@
 use Rattle.std.proofs.Common.{◌≡◌, find}
 use Rattle.cedar_data.specs.NonEmpty.{items_left}
-use Rattle.schema_defined.specs.Tests.{tests_of}
+use Rattle.schema_resolve_definitions.specs.Tests.{tests_of}
 use Rattle.schema_resolve.specs.Targets.{is_action}
 use Rattle.schema_resolve.proofs.targets.first_action.Given as goal
 

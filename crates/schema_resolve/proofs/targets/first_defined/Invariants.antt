@@ -1,7 +1,7 @@
 use Rattle.std.proofs.Common.{◌≡◌, find}
 use Rattle.cedar_data.specs.NonEmpty.{items_left}
 use Rattle.cedar_identifiers.specs.Names.{components_of}
-use Rattle.schema_defined.specs.Tests.{tests_of}
+use Rattle.schema_resolve_definitions.specs.Tests.{tests_of}
 use Rattle.schema_resolve.specs.Targets.{is_defined}
 use Rattle.schema_resolve.proofs.targets.first_defined.Given as goal
 

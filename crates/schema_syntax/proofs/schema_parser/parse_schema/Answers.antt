@@ -1,6 +1,6 @@
 use Rattle.std.proofs.Common.{refl, sym, subst}
 use Rattle.schema_syntax.specs.ParseAnswers.{AreTokensOf, IsErrorOf, syntax, user}
-use Rattle.parse_errors.specs.declared.parse_error.ParseError.TheVariants.{User}
+use Rattle.schema_syntax_errors.specs.declared.parse_error.ParseError.TheVariants.{User}
 use Rattle.schema_syntax.proofs.schema_parser.parse_schema.Goals as goal
 
 pub returns-in-Err-Fault-clause-fault : goal.returns-in-Err-Fault-clause-fault

@@ -1,6 +1,6 @@
 use Rattle.std.proofs.Common.{◌≡◌, ◌∷◌, ◌++◌, ap, ◌∙◌, append_assoc, sym, codes, take}
 use Rattle.std.proofs.lemmas.List.{take_all}
-use Rattle.cedar_identifiers.specs.CanonicalText.{joined}
+use Rattle.plain_syntax.specs.CanonicalText.{joined}
 use Rattle.cedar_identifiers.specs.Names.{texts_of}
 use Rattle.cedar_identifiers.proofs.Joins.{one_more, separator_chars}
 use Rattle.cedar_identifiers.proofs.name_text.InternalNameNameText.text.Goals as goal

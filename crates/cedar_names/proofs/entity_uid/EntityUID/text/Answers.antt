@@ -2,7 +2,7 @@ use Rattle.std.proofs.Common.{◌≡◌, ◌++◌, codes, ap, ◌∙◌, append_
 use Rattle.std.specs.Str.{chars}
 use Rattle.std.proofs.lemmas.Str.{chars-encodes, chars-IsAscii}
 use Rattle.std.proofs.lemmas.Str.Ascii.{IsAscii-nil, IsAscii-cons}
-use Rattle.schema_tokens.specs.Quotes.{quoted}
+use Rattle.schema_syntax_tokens.specs.Quotes.{quoted}
 use Rattle.cedar_identifiers.specs.Names.{components_of, name_text}
 use Rattle.cedar_names.proofs.entity_uid.EntityUID.text.Goals as goal
 

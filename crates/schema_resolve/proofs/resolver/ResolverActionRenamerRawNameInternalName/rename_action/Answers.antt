@@ -1,5 +1,5 @@
 use Rattle.std.proofs.Common.{IfErr, subst, ap}
-use Rattle.schema_defined.specs.Tests.{tests_of}
+use Rattle.schema_resolve_definitions.specs.Tests.{tests_of}
 use Rattle.schema_resolve.specs.Faults.{NamesFirst}
 use Rattle.schema_resolve.specs.Targets.{lacks_action}
 use Rattle.schema_resolve.proofs.resolver.ResolverActionRenamerRawNameInternalName.rename_action.Goals as goal

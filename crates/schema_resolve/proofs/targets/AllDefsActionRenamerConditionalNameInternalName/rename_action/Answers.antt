@@ -1,6 +1,6 @@
 use Rattle.std.proofs.Common.{◌≡◌, ◌∷◌, [], None, ap, sym, ◌∙◌, refl}
 use Rattle.std.specs.Option.{option_copied}
-use Rattle.schema_defined.specs.Tests.{tests_of}
+use Rattle.schema_resolve_definitions.specs.Tests.{tests_of}
 use Rattle.schema_resolve.specs.Targets.{action_target}
 use Rattle.schema_resolve.proofs.targets.AllDefsActionRenamerConditionalNameInternalName.rename_action.Goals as goal
 

@@ -1,0 +1,20 @@
+use crate::clone_in::CloneIn;
+use crate::loc::Loc;
+use crate::text::Text;
+use std::alloc::{AllocError, Global};
+
+/// A place that a report points to, and what it says there.
+#[derive(Debug, Drop)]
+pub struct Label {
+    pub span: Loc,
+    pub text: Option<Text>,
+}
+
+impl CloneIn for Label {
+    fn clone_in(&self, alloc: Global) -> Result<Self, AllocError> {
+        Ok(Label {
+            span: self.span,
+            text: self.text.clone_in(alloc)?,
+        })
+    }
+}

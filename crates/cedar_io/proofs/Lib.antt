@@ -1,0 +1,4 @@
+mod Taken
+mod Sure
+mod TakenBytes
+mod Written

@@ -1,0 +1,3 @@
+mod OnePlan
+mod Planned
+mod Ran

@@ -1,0 +1,93 @@
+-- What follows from how a run went.
+use Rattle.std.proofs.Common.{◌≡◌, ◌≤◌, ◌⊎◌, ℕ, List, length, Option, Some, None, inl, inr, refl, sym, ap, ◌∙◌, subst, arith}
+use Rattle.std.specs.Str.{encode_utf8_all}
+use Rattle.plain_syntax.specs.CanonicalText.{canonical_text}
+use Rattle.plain_syntax.specs.declared.thin_entry.ThinEntry.{ThinEntry}
+use Rattle.plain_syntax.specs.ThinMeaning.{TextMeaning}
+use Rattle.cedar_schema_core.specs.declared.status.Status.{Status}
+use Rattle.cedar_schema_core.specs.declared.status.Status.TheVariants.{Done, Refused, Usage, ReadFault, WriteFault, NotText, TooLong, Memory}
+use Rattle.cedar_io.specs.Input.{HadLeft}
+use Rattle.cedar_schema_core.specs.Plan.{Report, IsPlan, IsRecoverPlan, usage, too_long, recover, not_text, refused, done, read_fault_report}
+use Rattle.cedar_schema_core.specs.Run.{Device, LeftAs, IsReported, planned, read_fault, TookWhole, IsDelivered, whole, out_failed, err_failed, IsRun, delivered, wanted_memory, Recovers, NoFault}
+
+-- what was left is what is told
+told : (o : Option (List ℕ)) (all bytes : List ℕ) → o ≡ Some all → HadLeft o bytes → all ≡ bytes
+told None all bytes e h = cc
+told (Some left) all bytes e h = let same : left ≡ all = cc in sym same ∙ h
+
+module _ (one : (words : List (List ℕ)) (bytes : List ℕ) (report other : Report) → IsPlan words bytes report → IsPlan words bytes other → report ≡ other)
+    (words : List (List ℕ)) (source : Device) (bytes : List ℕ) (left : source.before ≡ Some bytes) (plan : Report) (is : IsPlan words bytes plan) where
+  -- the report is the plan, where no read failed
+  same_report : (report : Report) → IsReported words source report → (report ≡ plan) ⊎ (report ≡ read_fault_report)
+  same_report report (planned all had p l) = inl (one words bytes report plan (subst (λ b. IsPlan words b report) (sym (told source.before bytes all left had)) p) is)
+  same_report report (read_fault i r) = inr refl
+
+  -- with no fault, the status is that of the plan, or memory was wanted
+  pub completes : (out err : Device) (status : Status) → IsRun words source out err status → NoFault source out err → (status ≡ plan.status) ⊎ (status ≡ Memory)
+  completes out err status (delivered report (planned all had p l) (whole o e)) n =
+      inl (ap (λ r. r.status) (one words bytes report plan (subst (λ b. IsPlan words b report) (sym (told source.before bytes all left had)) p) is))
+  completes out err status (delivered report (read_fault i r) (whole o e)) n = absurd (n.none_read r)
+  completes out err status (delivered report h (out_failed f s)) n = absurd (n.none_out f.counted)
+  completes out err status (delivered report h (err_failed o f)) n = absurd (n.none_err f.counted)
+  completes out err status (wanted_memory o e) n = inr refl
+
+  -- to the output goes no more than the plan has
+  pub within_out : (report : Report) → IsReported words source report → length report.out ≤ length plan.out
+  within_out report h = elim (same_report report h) [
+    | inl e ↦ let k : length report.out ≡ length plan.out = ap (λ r. length r.out) e in omega arith
+    | inr e ↦ let k : length report.out ≡ 0 = ap (λ r. length r.out) e in omega arith
+  ]
+
+  pub within_err : (report : Report) (n : ℕ) → IsReported words source report → length plan.err ≤ n → length read_fault_report.err ≤ n → length report.err ≤ n
+  within_err report n h a b = elim (same_report report h) [
+    | inl e ↦ let k : length report.err ≡ length plan.err = ap (λ r. length r.err) e in omega arith
+    | inr e ↦ subst (λ r. length r.err ≤ n) (sym e) b
+  ]
+
+-- these statuses are not `Done`
+refused_done : Refused ≡ Done → ⊥
+refused_done e = cc
+
+usage_done : Usage ≡ Done → ⊥
+usage_done e = cc
+
+read_fault_done : ReadFault ≡ Done → ⊥
+read_fault_done e = cc
+
+write_fault_done : WriteFault ≡ Done → ⊥
+write_fault_done e = cc
+
+not_text_done : NotText ≡ Done → ⊥
+not_text_done e = cc
+
+too_long_done : TooLong ≡ Done → ⊥
+too_long_done e = cc
+
+memory_done : Memory ≡ Done → ⊥
+memory_done e = cc
+
+module _ (survives : (text : List ℕ) (meaning : List ThinEntry) → TextMeaning text meaning → TextMeaning (encode_utf8_all (canonical_text meaning)) meaning)
+    (words : List (List ℕ)) (source out err : Device) where
+  recovers_from : (bytes : List ℕ) (report : Report) → HadLeft source.before bytes → IsRecoverPlan bytes report → LeftAs source report.status → TookWhole out report.out → TookWhole err report.err
+      → report.status ≡ Done → Recovers source out err
+  recovers_from bytes report had (not_text h) l o e d = absurd (not_text_done d)
+  recovers_from bytes report had (refused u h) l o e d = absurd (refused_done d)
+  recovers_from bytes report had (done u m h) l o e d =
+      record { bytes = bytes; meaning = m; read = had; end = l; means = h; written = o.took; reads_back = survives bytes m h; silent = e.nothing refl }
+
+  recovers_planned : (bytes : List ℕ) (report : Report) → HadLeft source.before bytes → IsPlan words bytes report → LeftAs source report.status → TookWhole out report.out → TookWhole err report.err
+      → report.status ≡ Done → Recovers source out err
+  recovers_planned bytes report had (usage h) l o e d = absurd (usage_done d)
+  recovers_planned bytes report had (too_long i h) l o e d = absurd (too_long_done d)
+  recovers_planned bytes report had (recover i s p) l o e d = recovers_from bytes report had p l o e d
+
+  recovers_delivered : (status : Status) (report : Report) → IsReported words source report → IsDelivered out err report status → status ≡ Done → Recovers source out err
+  recovers_delivered status report (planned bytes had p l) (whole o e) d = recovers_planned bytes report had p l o e d
+  recovers_delivered status report (read_fault i r) (whole o e) d = absurd (read_fault_done d)
+  recovers_delivered status report h (out_failed f s) d = absurd (write_fault_done d)
+  recovers_delivered status report h (err_failed o f) d = absurd (write_fault_done d)
+
+  -- done means that the canonical text of the input's meaning was written
+  pub recovers : (status : Status) → IsRun words source out err status → status ≡ Done → Recovers source out err
+  recovers status (delivered report h k) d = recovers_delivered status report h k d
+  recovers status (wanted_memory o e) d = absurd (memory_done d)

@@ -1,5 +1,0 @@
-mod OnePlan
-mod Planned
-mod Ran
-mod TakenBytes
-mod Written

@@ -1,5 +1,0 @@
-use Rattle.cedar_schema_tool.proofs.OnePlan.{one_plan_from}
-use Rattle.cedar_schema_tool.proofs.laws.one_plan.Goals as goal
-
-pub returns : goal.returns
-returns c = one_plan_from c.one_text_meaning.ensures

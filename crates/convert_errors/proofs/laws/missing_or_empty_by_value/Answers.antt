@@ -1,6 +1,0 @@
-use Rattle.parse_errors.specs.SameFaults.{tells}
-use Rattle.convert_errors.proofs.SameFaults.{absences_sound, absences_themselves}
-use Rattle.convert_errors.proofs.laws.missing_or_empty_by_value.Goals as goal
-
-pub returns : goal.returns
-returns c = tells absences_sound absences_themselves c.args.a.now c.args.b.now

@@ -1,6 +1,0 @@
-use Rattle.parse_errors.specs.SameFaults.{tells}
-use Rattle.convert_errors.proofs.SameFaults.{unknown_sound, unknown_themselves}
-use Rattle.convert_errors.proofs.laws.unknown_type_names_by_value.Goals as goal
-
-pub returns : goal.returns
-returns c = tells unknown_sound unknown_themselves c.args.a.now c.args.b.now

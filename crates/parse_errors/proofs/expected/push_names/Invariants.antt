@@ -1,9 +1,0 @@
-use Rattle.std.proofs.Common.{◌≡◌, ◌++◌, map, length}
-use Rattle.parse_errors.specs.ExpectedText.{kind_name, listed}
-use Rattle.parse_errors.proofs.expected.push_names.Given as goal
-
-abbrev pub invariant-loop-kind : goal.invariant-loop-kind
-invariant-loop-kind l = l.text ++ listed (map kind_name l.left) ≡ l.initial.text ++ listed (map kind_name l.initial.left)
-
-abbrev pub decreases-loop-kind : goal.decreases-loop-kind
-decreases-loop-kind l = length l.left

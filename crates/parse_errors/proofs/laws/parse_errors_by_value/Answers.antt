@@ -1,6 +1,0 @@
-use Rattle.parse_errors.specs.SameFaults.{tells}
-use Rattle.parse_errors.proofs.SameParseErrors.{parse_errors_sound, parse_errors_themselves}
-use Rattle.parse_errors.proofs.laws.parse_errors_by_value.Goals as goal
-
-pub returns : goal.returns
-returns c = tells parse_errors_sound parse_errors_themselves c.args.a.now c.args.b.now

@@ -1,0 +1,7 @@
+mod Tokens
+mod Scans
+mod Names
+mod Words
+mod Sound
+mod Complete
+mod Decls

@@ -1,5 +1,0 @@
-//! What schema texts resolve to, compared with what an independent program says.
-#![tactic(auto)]
-
-#[cfg(test)]
-mod tests;

@@ -1,0 +1,33 @@
+-- What warnings say, and where they point to.
+use Rattle.std.specs.Prelude.{ℕ, List, [], ◌∷◌, ◌++◌, Option, Some, None, codes}
+use Rattle.cedar_data.specs.Span.{Span}
+use Rattle.cedar_data.specs.declared.label.Label.{Label}
+use Rattle.schema_convert_errors.specs.declared.warnings.SchemaWarning.{SchemaWarning}
+use Rattle.schema_convert_errors.specs.declared.warnings.SchemaWarning.TheVariants.{ShadowsBuiltin, ShadowsEntity}
+use Rattle.schema_convert_errors.specs.declared.warnings.ShadowsBuiltinWarning.{ShadowsBuiltinWarning}
+use Rattle.schema_convert_errors.specs.declared.warnings.ShadowsEntityWarning.{ShadowsEntityWarning}
+
+abbrev pub builtin_text : ShadowsBuiltinWarning → List ℕ
+builtin_text w = (codes "The name `" ++ (w.name ++ codes "` shadows a builtin Cedar name. You'll have to refer to the builtin as `__cedar::")) ++ (w.name ++ codes "`.")
+
+abbrev pub entity_text : ShadowsEntityWarning → List ℕ
+entity_text w = codes "The common type name " ++ (w.name ++ codes " shadows an entity name")
+
+abbrev pub warning_text : SchemaWarning → List ℕ
+warning_text (ShadowsBuiltin w) = builtin_text w
+warning_text (ShadowsEntity w) = entity_text w
+
+-- a label without a text, where there is a place
+abbrev pub bare : Option Span → List Label
+bare None = []
+bare (Some span) = record { span = span; text = None } ∷ []
+
+abbrev pub builtin_labels : ShadowsBuiltinWarning → List Label
+builtin_labels w = bare w.loc
+
+abbrev pub entity_labels : ShadowsEntityWarning → List Label
+entity_labels w = bare w.entity_loc ++ bare w.common_loc
+
+abbrev pub warning_labels : SchemaWarning → List Label
+warning_labels (ShadowsBuiltin w) = builtin_labels w
+warning_labels (ShadowsEntity w) = entity_labels w

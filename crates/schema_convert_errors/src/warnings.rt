@@ -1,0 +1,178 @@
+ghost use Rattle.std.specs.Prelude.{◌≡◌, ◌++◌, Ok, None, IfOk, OnOk};
+ghost use Rattle.schema_convert_errors.specs.WarningTexts.{builtin_text, entity_text, warning_text, bare, builtin_labels, entity_labels, warning_labels};
+
+use crate::message::{message, push_both};
+use cedar_data::{CloneIn, Label, Loc, Severity, Text};
+use std::alloc::{AllocError, Global};
+
+/// A declared type that is named like a builtin one, with the place of its name.
+#[derive(PartialEq, Eq, Debug, Drop)]
+pub struct ShadowsBuiltinWarning {
+    pub name: Text,
+    pub loc: Option<Loc>,
+}
+
+/// A common type that is named like an entity type of its namespace, with the places of both names.
+#[derive(PartialEq, Eq, Debug, Drop)]
+pub struct ShadowsEntityWarning {
+    pub name: Text,
+    pub entity_loc: Option<Loc>,
+    pub common_loc: Option<Loc>,
+}
+
+/// What a schema may do but should not.
+#[derive(PartialEq, Eq, Debug, Drop)]
+pub enum SchemaWarning {
+    ShadowsBuiltin(ShadowsBuiltinWarning),
+    ShadowsEntity(ShadowsEntityWarning),
+}
+
+// Adds a label without a text, where there is a place.
+fn push_bare(labels: &mut Vec<Label>, place: Option<Loc>) -> Result<(), AllocError>
+    ensures { OnOk result (labels.new.items ≡ labels.old.items ++ bare place) }
+{
+    if let Some(span) = place {
+        labels.push(Label { span, text: None })?;
+    }
+    Ok(())
+}
+
+impl ShadowsBuiltinWarning {
+    /// What the warning says.
+    pub fn text(&self, alloc: Global) -> Result<Text, AllocError>
+        ensures { IfOk result (λ text. text ≡ builtin_text self.now) }
+    {
+        let mut text = message(alloc, "The name `")?;
+        let middle =
+            "` shadows a builtin Cedar name. You'll have to refer to the builtin as `__cedar::";
+        push_both(&mut text, &self.name, middle)?;
+        push_both(&mut text, &self.name, "`.")?;
+        Ok(text)
+    }
+
+    /// Advice, of which it has none.
+    pub fn help(&self, _alloc: Global, _source: &str) -> Result<Option<Text>, AllocError>
+        ensures { result ≡ Ok None }
+    {
+        Ok(None)
+    }
+
+    /// The places that it points to.
+    pub fn labels(&self, alloc: Global) -> Result<Vec<Label>, AllocError>
+        ensures { IfOk result (λ labels. labels.items ≡ builtin_labels self.now) }
+    {
+        let mut labels = Vec::new(alloc);
+        push_bare(&mut labels, self.loc)?;
+        Ok(labels)
+    }
+
+    /// How grave it is.
+    pub fn severity(&self) -> Severity
+        ensures { result ≡ Severity.Warning }
+    {
+        Severity::Warning
+    }
+}
+
+impl ShadowsEntityWarning {
+    /// What the warning says.
+    pub fn text(&self, alloc: Global) -> Result<Text, AllocError>
+        ensures { IfOk result (λ text. text ≡ entity_text self.now) }
+    {
+        let mut text = message(alloc, "The common type name ")?;
+        push_both(&mut text, &self.name, " shadows an entity name")?;
+        Ok(text)
+    }
+
+    /// Advice, of which it has none.
+    pub fn help(&self, _alloc: Global, _source: &str) -> Result<Option<Text>, AllocError>
+        ensures { result ≡ Ok None }
+    {
+        Ok(None)
+    }
+
+    /// The places that it points to.
+    pub fn labels(&self, alloc: Global) -> Result<Vec<Label>, AllocError>
+        ensures { IfOk result (λ labels. labels.items ≡ entity_labels self.now) }
+    {
+        let mut labels = Vec::new(alloc);
+        push_bare(&mut labels, self.entity_loc)?;
+        push_bare(&mut labels, self.common_loc)?;
+        Ok(labels)
+    }
+
+    /// How grave it is.
+    pub fn severity(&self) -> Severity
+        ensures { result ≡ Severity.Warning }
+    {
+        Severity::Warning
+    }
+}
+
+impl SchemaWarning {
+    /// What the warning says.
+    pub fn text(&self, alloc: Global) -> Result<Text, AllocError>
+        ensures { IfOk result (λ text. text ≡ warning_text self.now) }
+    {
+        match self {
+            SchemaWarning::ShadowsBuiltin(warning) => warning.text(alloc),
+            SchemaWarning::ShadowsEntity(warning) => warning.text(alloc),
+        }
+    }
+
+    /// Advice, of which it has none.
+    pub fn help(&self, _alloc: Global, _source: &str) -> Result<Option<Text>, AllocError>
+        ensures { result ≡ Ok None }
+    {
+        Ok(None)
+    }
+
+    /// The places that it points to.
+    pub fn labels(&self, alloc: Global) -> Result<Vec<Label>, AllocError>
+        ensures { IfOk result (λ labels. labels.items ≡ warning_labels self.now) }
+    {
+        match self {
+            SchemaWarning::ShadowsBuiltin(warning) => warning.labels(alloc),
+            SchemaWarning::ShadowsEntity(warning) => warning.labels(alloc),
+        }
+    }
+
+    /// How grave it is.
+    pub fn severity(&self) -> Severity
+        ensures { result ≡ Severity.Warning }
+    {
+        Severity::Warning
+    }
+}
+
+impl CloneIn for ShadowsBuiltinWarning {
+    fn clone_in(&self, alloc: Global) -> Result<Self, AllocError> {
+        Ok(ShadowsBuiltinWarning {
+            name: self.name.clone_in(alloc)?,
+            loc: self.loc,
+        })
+    }
+}
+
+impl CloneIn for ShadowsEntityWarning {
+    fn clone_in(&self, alloc: Global) -> Result<Self, AllocError> {
+        Ok(ShadowsEntityWarning {
+            name: self.name.clone_in(alloc)?,
+            entity_loc: self.entity_loc,
+            common_loc: self.common_loc,
+        })
+    }
+}
+
+impl CloneIn for SchemaWarning {
+    fn clone_in(&self, alloc: Global) -> Result<Self, AllocError> {
+        match self {
+            SchemaWarning::ShadowsBuiltin(warning) => {
+                Ok(SchemaWarning::ShadowsBuiltin(warning.clone_in(alloc)?))
+            }
+            SchemaWarning::ShadowsEntity(warning) => {
+                Ok(SchemaWarning::ShadowsEntity(warning.clone_in(alloc)?))
+            }
+        }
+    }
+}

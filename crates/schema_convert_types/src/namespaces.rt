@@ -1,0 +1,218 @@
+ghost use Rattle.std.specs.Prelude.{◌≡◌, ◌++◌, IfOk, OnOk};
+ghost use Rattle.std.specs.Option.{option_to_list};
+ghost use Rattle.schema_convert_types.specs.Declarations.{declarable, unreserved};
+ghost use Rattle.schema_convert_types.specs.Fragments.{entities_in, actions_in, commons_in, entity_entries, action_entries, common_entries, definition_of, key_of, declared, namespace_entry, fragment_of};
+
+use crate::actions::action_type;
+use crate::entities::entity_type;
+use crate::entries::push_each;
+use crate::names::internal_name;
+use crate::types::cedar_type_to_json_type;
+use cedar_data::{List, Loc, Map, Node, NonEmpty, Text};
+use cedar_identifiers::{Annotations, Id, InternalName, Name, RawName, UnreservedId};
+use schema_json::{
+    ActionType, CommonType, CommonTypeId, EntityType, Fragment, NamespaceDefinition,
+};
+use schema_syntax_tree::{ActionDecl, Annotated, Declaration, EntityDecl, Namespace, Path, TypeDecl};
+use std::alloc::{AllocError, Global};
+
+// What declarations declare, by kind.
+#[derive(Drop)]
+struct Entries {
+    commons: Vec<(CommonTypeId, CommonType<RawName>)>,
+    entities: Vec<(UnreservedId, EntityType<RawName>)>,
+    actions: Vec<(Text, ActionType<RawName>)>,
+}
+
+// The word as one that may be declared.
+fn unreserved(id: Id) -> Option<UnreservedId>
+    ensures { result ≡ unreserved id }
+{
+    UnreservedId::from_id(id)
+}
+
+// The names that may be declared.
+fn declarable(alloc: Global, names: NonEmpty<Node<Id>>) -> Result<Vec<UnreservedId>, AllocError>
+    ensures { IfOk result (λ ids. ids.items ≡ declarable names) }
+{
+    names
+        .into_iter()
+        .filter_map(|name| unreserved(name.node))
+        .collect(alloc)
+}
+
+// Adds the entity types that the declaration declares.
+fn push_entities(
+    alloc: Global,
+    entries: &mut Vec<(UnreservedId, EntityType<RawName>)>,
+    decl: EntityDecl,
+    annotations: Annotations,
+    loc: Option<Loc>,
+) -> Result<(), AllocError>
+    ensures { OnOk result (entries.new.items ≡ entries.old.items ++ entities_in (Declaration.Entity decl) annotations loc) }
+{
+    let (names, of) = entity_type(alloc, decl, annotations, loc)?;
+    let names = declarable(alloc, names)?;
+    push_each(alloc, entries, names, of)
+}
+
+// Adds the actions.
+fn push_actions(
+    alloc: Global,
+    entries: &mut Vec<(Text, ActionType<RawName>)>,
+    decl: ActionDecl,
+    annotations: Annotations,
+    loc: Option<Loc>,
+) -> Result<(), AllocError>
+    ensures { OnOk result (entries.new.items ≡ entries.old.items ++ actions_in (Declaration.Action decl) annotations loc) }
+{
+    let (names, of) = action_type(alloc, decl, annotations, loc)?;
+    let names: Vec<Text> = names.into_iter().map(|name| name.node).collect(alloc)?;
+    push_each(alloc, entries, names, of)
+}
+
+// Adds the common type.
+fn push_common(
+    alloc: Global,
+    entries: &mut Vec<(CommonTypeId, CommonType<RawName>)>,
+    decl: TypeDecl,
+    annotations: Annotations,
+    loc: Option<Loc>,
+) -> Result<(), AllocError>
+    ensures { OnOk result (entries.new.items ≡ entries.old.items ++ commons_in (Declaration.Common decl) annotations loc) }
+{
+    let TypeDecl { name, def } = decl;
+    let ty = cedar_type_to_json_type(alloc, def)?;
+    let of = CommonType {
+        ty,
+        annotations,
+        loc,
+    };
+    if let Some(id) = unreserved(name.node) {
+        entries.push((CommonTypeId { id }, of))?;
+    }
+    Ok(())
+}
+
+// Adds what the declaration declares.
+fn push_declared(
+    alloc: Global,
+    entries: &mut Entries,
+    decl: Annotated<Node<Declaration>>,
+) -> Result<(), AllocError>
+    ensures commons { OnOk result (entries.new.commons.items ≡ entries.old.commons.items ++ commons_in decl.item.node decl.annotations decl.item.loc) }
+    ensures entities { OnOk result (entries.new.entities.items ≡ entries.old.entities.items ++ entities_in decl.item.node decl.annotations decl.item.loc) }
+    ensures actions { OnOk result (entries.new.actions.items ≡ entries.old.actions.items ++ actions_in decl.item.node decl.annotations decl.item.loc) }
+{
+    let Annotated { item, annotations } = decl;
+    let (decl, loc) = item.into_inner();
+    match decl {
+        Declaration::Entity(decl) => {
+            push_entities(alloc, &mut entries.entities, decl, annotations, loc)
+        }
+        Declaration::Action(decl) => {
+            push_actions(alloc, &mut entries.actions, decl, annotations, loc)
+        }
+        Declaration::Common(decl) => {
+            push_common(alloc, &mut entries.commons, decl, annotations, loc)
+        }
+    }
+}
+
+// What the declarations declare.
+fn entries_of(
+    alloc: Global,
+    decls: List<Annotated<Node<Declaration>>>,
+) -> Result<Entries, AllocError>
+    ensures commons { IfOk result (λ entries. entries.commons.items ≡ common_entries decls) }
+    ensures entities { IfOk result (λ entries. entries.entities.items ≡ entity_entries decls) }
+    ensures actions { IfOk result (λ entries. entries.actions.items ≡ action_entries decls) }
+{
+    let mut entries = Entries {
+        commons: Vec::new(alloc),
+        entities: Vec::new(alloc),
+        actions: Vec::new(alloc),
+    };
+    for decl in decls.into_vec() {
+        push_declared(alloc, &mut entries, decl)?;
+    }
+    Ok(entries)
+}
+
+// What a namespace with these declarations and annotations defines.
+fn definition_of(
+    alloc: Global,
+    decls: List<Annotated<Node<Declaration>>>,
+    annotations: Annotations,
+) -> Result<NamespaceDefinition<RawName>, AllocError>
+    ensures { IfOk result (λ definition. definition ≡ definition_of decls annotations) }
+{
+    let Entries {
+        commons,
+        entities,
+        actions,
+    } = entries_of(alloc, decls)?;
+    let common_types = Map::from_entries(alloc, commons)?;
+    let entity_types = Map::from_entries(alloc, entities)?;
+    let actions = Map::from_entries(alloc, actions)?;
+    Ok(NamespaceDefinition {
+        common_types,
+        entity_types,
+        actions,
+        annotations,
+    })
+}
+
+// The name as one that may be declared.
+fn declared(name: InternalName) -> Option<Name>
+    ensures { result ≡ declared name }
+{
+    Name::from_internal(name)
+}
+
+// The name of a namespace that may be declared.
+fn key_of(name: Option<Path>) -> Option<Option<Name>>
+    ensures { result ≡ key_of name }
+{
+    match name {
+        None => Some(None),
+        Some(path) => match declared(internal_name(path)) {
+            None => None,
+            Some(name) => Some(Some(name)),
+        },
+    }
+}
+
+// Adds the namespace, where its name may be declared.
+fn push_namespace(
+    alloc: Global,
+    entries: &mut Vec<(Option<Name>, NamespaceDefinition<RawName>)>,
+    namespace: Annotated<Namespace>,
+) -> Result<(), AllocError>
+    ensures { OnOk result (entries.new.items ≡ entries.old.items ++ option_to_list (namespace_entry namespace)) }
+{
+    let Annotated { item, annotations } = namespace;
+    let Namespace { name, decls, .. } = item;
+    let Some(key) = key_of(name) else {
+        return Ok(());
+    };
+    let definition = definition_of(alloc, decls, annotations)?;
+    entries.push((key, definition))?;
+    Ok(())
+}
+
+/// The fragment of namespaces with distinct names that may be declared, and distinct such declarations of each kind. Any
+/// other name is left out, and of those that stand twice the last counts.
+pub fn fragment_of(
+    alloc: Global,
+    namespaces: Vec<Annotated<Namespace>>,
+) -> Result<Fragment<RawName>, AllocError>
+    ensures { IfOk result (λ fragment. fragment ≡ fragment_of namespaces.items) }
+{
+    let mut entries = Vec::new(alloc);
+    for namespace in namespaces {
+        push_namespace(alloc, &mut entries, namespace)?;
+    }
+    let entries = Map::from_entries(alloc, entries)?;
+    Ok(Fragment(entries))
+}

@@ -1,5 +1,0 @@
-use Rattle.schema_grammar.proofs.LawLemmas.{one_list}
-use Rattle.schema_grammar.proofs.laws.one_expected.Goals as goal
-
-pub returns : goal.returns
-returns c = one_list

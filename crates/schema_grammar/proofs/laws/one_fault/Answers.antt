@@ -1,5 +1,0 @@
-use Rattle.schema_grammar.proofs.LawLemmas.{same_fault}
-use Rattle.schema_grammar.proofs.laws.one_fault.Goals as goal
-
-pub returns : goal.returns
-returns c = same_fault

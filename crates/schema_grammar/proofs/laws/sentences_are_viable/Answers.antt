@@ -1,5 +1,0 @@
-use Rattle.schema_grammar.proofs.Main.{sentence_viable}
-use Rattle.schema_grammar.proofs.laws.sentences_are_viable.Goals as goal
-
-pub returns : goal.returns
-returns c = sentence_viable

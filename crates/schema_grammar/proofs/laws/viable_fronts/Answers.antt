@@ -1,5 +1,0 @@
-use Rattle.schema_grammar.proofs.Faults.{front_viable}
-use Rattle.schema_grammar.proofs.laws.viable_fronts.Goals as goal
-
-pub returns : goal.returns
-returns c = front_viable

@@ -1,6 +1,0 @@
-use Rattle.std.proofs.Common.{◌≡◌, ◌++◌, map}
-use Rattle.schema_lawful.specs.Collected.{note_of_entry}
-use Rattle.schema_lawful.proofs.annotations.without_places.Given as goal
-
-abbrev pub invariant-loop-key : goal.invariant-loop-key
-invariant-loop-key l = l.notes.items ++ map note_of_entry l.key-iterator ≡ map note_of_entry l.fn.tree.entries

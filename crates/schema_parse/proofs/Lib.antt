@@ -1,5 +1,0 @@
-pub mod Back
-pub mod Heads
-pub mod Loops
-pub mod Made
-pub mod Places

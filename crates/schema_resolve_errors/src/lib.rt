@@ -1,0 +1,10 @@
+//! Why names of a fragment cannot be resolved: references that mean nothing, and what is said of them.
+#![tactic(auto)]
+
+mod error_texts;
+mod joining;
+pub mod lists;
+mod message;
+pub mod resolve_error;
+
+pub use resolve_error::{ActionNotDefinedError, ResolveError, TypeNotDefinedError};

@@ -1,6 +1,0 @@
-use Rattle.std.proofs.Common.{refl}
-use Rattle.schema_json.specs.Same.{action_same}
-use Rattle.schema_shape.proofs.actions.reference.Goals as goal
-
-pub returns : goal.returns
-returns c = action_same _ _ _ _ refl c.type_name-ty.ensures

@@ -1,5 +1,0 @@
-use Rattle.schema_shape.proofs.Reserved.{declared_is}
-use Rattle.schema_shape.proofs.namespaces.declared.Goals as goal
-
-pub returns : goal.returns
-returns c = declared_is c.args.name c.from_internal.result c.from_internal.ensures

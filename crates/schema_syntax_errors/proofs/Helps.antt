@@ -1,0 +1,31 @@
+-- What is advised is ASCII: its characters are its bytes.
+use Rattle.std.proofs.Common.{◌≡◌, ℕ, Bool, true, false, List, [], ◌∷◌, Option, Some, None, refl, sym, subst, cond}
+use Rattle.std.specs.Option.{MatchOption}
+use Rattle.std.specs.Prelude.{⊤}
+use Rattle.std.specs.Str.{chars}
+use Rattle.schema_syntax_errors.specs.declared.parse_error.ParseError.{ParseError}
+use Rattle.schema_syntax_errors.specs.declared.parse_error.ParseError.TheVariants.{InvalidToken, UnrecognizedEof, UnrecognizedToken, ExtraToken, User}
+use Rattle.schema_syntax_errors.specs.FaultHelps.{missing_applies_to, trailing_namespace_semicolon, misses_applies_to, ends_namespace, parse_error_help, first_error_help}
+use Rattle.schema_syntax_errors.proofs.Ascii.{chars-from_test}
+
+abbrev Plain : Option (List ℕ) → Type 0
+Plain help = MatchOption help ⊤ (λ text. chars text ≡ text)
+
+plain_rules : (misses ends : Bool) → Plain (cond misses (Some missing_applies_to) (cond ends (Some trailing_namespace_semicolon) None))
+plain_rules true ends = chars-from_test missing_applies_to refl
+plain_rules false true = chars-from_test trailing_namespace_semicolon refl
+plain_rules false false = tt
+
+plain_fault : (fault : ParseError) (source : List ℕ) → Plain (parse_error_help fault source)
+plain_fault (InvalidToken location) source = tt
+plain_fault (UnrecognizedEof location expected) source = tt
+plain_fault (UnrecognizedToken start token end expected) source = plain_rules (misses_applies_to token expected) (ends_namespace start token expected source)
+plain_fault (ExtraToken start token end) source = tt
+plain_fault (User fault) source = tt
+
+plain_first : (faults : List ParseError) (source : List ℕ) → Plain (first_error_help faults source)
+plain_first [] source = tt
+plain_first (first ∷ others) source = plain_fault first source
+
+pub help_characters : (faults : List ParseError) (source help : List ℕ) → Some help ≡ first_error_help faults source → chars help ≡ help
+help_characters faults source help e = subst Plain (sym e) (plain_first faults source)

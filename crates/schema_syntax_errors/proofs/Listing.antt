@@ -1,0 +1,62 @@
+-- The names of kinds in a row, one more at a time.
+use Rattle.std.proofs.Common.{◌≡◌, ℕ, true, List, [], ◌∷◌, ◌++◌, map, refl, ap, ◌∙◌, append_assoc}
+use Rattle.std.specs.List.{list_all}
+use Rattle.std.specs.Char.{is_ascii}
+use Rattle.std.specs.Str.{chars}
+use Rattle.std.proofs.lemmas.List.{append-nil}
+use Rattle.schema_syntax_grammar.specs.declared.token_kind.TokenKind.{TokenKind}
+use Rattle.schema_syntax_grammar.specs.declared.token_kind.TokenKind.TheVariants.{KwNamespace, KwEntity, KwExternal, KwIn, KwType, KwSet, KwAppliesTo, KwPrincipal, KwAction, KwResource, KwContext, KwTags, KwEnum, Identifier, StringLit, At, Comma, Semi, Colon, PathSep, LParen, RParen, LBrace, RBrace, LBracket, RBracket, Less, Greater, Question, Equals, End}
+use Rattle.schema_syntax_errors.specs.ExpectedText.{kind_name, listed, separator}
+use Rattle.schema_syntax_errors.proofs.Ascii.{chars-from_test}
+
+name_ascii : (k : TokenKind) → list_all is_ascii (kind_name k) ≡ true
+name_ascii KwNamespace = refl
+name_ascii KwEntity = refl
+name_ascii KwExternal = refl
+name_ascii KwIn = refl
+name_ascii KwType = refl
+name_ascii KwSet = refl
+name_ascii KwAppliesTo = refl
+name_ascii KwPrincipal = refl
+name_ascii KwAction = refl
+name_ascii KwResource = refl
+name_ascii KwContext = refl
+name_ascii KwTags = refl
+name_ascii KwEnum = refl
+name_ascii Identifier = refl
+name_ascii StringLit = refl
+name_ascii At = refl
+name_ascii Comma = refl
+name_ascii Semi = refl
+name_ascii Colon = refl
+name_ascii PathSep = refl
+name_ascii LParen = refl
+name_ascii RParen = refl
+name_ascii LBrace = refl
+name_ascii RBrace = refl
+name_ascii LBracket = refl
+name_ascii RBracket = refl
+name_ascii Less = refl
+name_ascii Greater = refl
+name_ascii Question = refl
+name_ascii Equals = refl
+name_ascii End = refl
+
+separator_ascii : (ks : List TokenKind) → list_all is_ascii (separator ks) ≡ true
+separator_ascii [] = refl
+separator_ascii (k ∷ []) = refl
+separator_ascii (k ∷ j ∷ ks) = refl
+
+-- a name, what stands behind it, and the others
+one_more : (k : TokenKind) (ks : List TokenKind) → kind_name k ++ (separator ks ++ listed (map kind_name ks)) ≡ listed (map kind_name (k ∷ ks))
+one_more k [] = append-nil (kind_name k)
+one_more k (j ∷ []) = refl
+one_more k (j ∷ l ∷ ks) = refl
+
+pub names_more : (k : TokenKind) (ks : List TokenKind) (text : List ℕ) → ((text ++ chars (kind_name k)) ++ chars (separator ks)) ++ listed (map kind_name ks) ≡ text ++ listed (map kind_name (k ∷ ks))
+names_more k ks text =
+    ap (λ n. ((text ++ n) ++ chars (separator ks)) ++ listed (map kind_name ks)) (chars-from_test (kind_name k) (name_ascii k))
+    ∙ ap (λ s. ((text ++ kind_name k) ++ s) ++ listed (map kind_name ks)) (chars-from_test (separator ks) (separator_ascii ks))
+    ∙ append_assoc (text ++ kind_name k) (separator ks) (listed (map kind_name ks))
+    ∙ append_assoc text (kind_name k) (separator ks ++ listed (map kind_name ks))
+    ∙ ap (λ l. text ++ l) (one_more k ks)

@@ -1,0 +1,6 @@
+use Rattle.schema_syntax_errors.specs.SameFaults.{tells}
+use Rattle.schema_syntax_errors.proofs.SameParseErrors.{parse_errors_sound, parse_errors_themselves}
+use Rattle.schema_syntax_errors.proofs.laws.parse_errors_by_value.Goals as goal
+
+pub returns : goal.returns
+returns c = tells parse_errors_sound parse_errors_themselves c.args.a.now c.args.b.now

@@ -1,0 +1,69 @@
+-- What was expected, in words.
+use Rattle.std.specs.Prelude.{ℕ, Bool, not, ◌&&◌, List, [], ◌∷◌, ◌++◌, map, filter, codes, if◌then◌else◌}
+use Rattle.std.specs.List.{list_any}
+use Rattle.schema_syntax_grammar.specs.Grammar.{is_ident}
+use Rattle.schema_syntax_grammar.specs.Table.{same}
+use Rattle.schema_syntax_grammar.specs.declared.token_kind.TokenKind.{TokenKind}
+use Rattle.schema_syntax_grammar.specs.declared.token_kind.TokenKind.TheVariants.{KwNamespace, KwEntity, KwExternal, KwIn, KwType, KwSet, KwAppliesTo, KwPrincipal, KwAction, KwResource, KwContext, KwTags, KwEnum, Identifier, StringLit, At, Comma, Semi, Colon, PathSep, LParen, RParen, LBrace, RBrace, LBracket, RBracket, Less, Greater, Question, Equals, End}
+
+-- how a kind is named: a keyword or a mark stands in backquotes
+abbrev pub kind_name : TokenKind → List ℕ
+kind_name KwNamespace = codes "`namespace`"
+kind_name KwEntity = codes "`entity`"
+kind_name KwExternal = codes "`external`"
+kind_name KwIn = codes "`in`"
+kind_name KwType = codes "`type`"
+kind_name KwSet = codes "`Set`"
+kind_name KwAppliesTo = codes "`appliesTo`"
+kind_name KwPrincipal = codes "`principal`"
+kind_name KwAction = codes "`action`"
+kind_name KwResource = codes "`resource`"
+kind_name KwContext = codes "`context`"
+kind_name KwTags = codes "`tags`"
+kind_name KwEnum = codes "`enum`"
+kind_name Identifier = codes "identifier"
+kind_name StringLit = codes "string literal"
+kind_name At = codes "`@`"
+kind_name Comma = codes "`,`"
+kind_name Semi = codes "`;`"
+kind_name Colon = codes "`:`"
+kind_name PathSep = codes "`::`"
+kind_name LParen = codes "`(`"
+kind_name RParen = codes "`)`"
+kind_name LBrace = codes "`{`"
+kind_name RBrace = codes "`}`"
+kind_name LBracket = codes "`[`"
+kind_name RBracket = codes "`]`"
+kind_name Less = codes "`<`"
+kind_name Greater = codes "`>`"
+kind_name Question = codes "`?`"
+kind_name Equals = codes "`=`"
+kind_name End = codes "end of input"
+
+-- the kind is among those expected
+abbrev pub expects : List TokenKind → TokenKind → Bool
+expects expected kind = list_any (λ k. same k kind) expected
+
+-- a keyword that may stand as an identifier: any but `in`
+abbrev pub is_name_keyword : TokenKind → Bool
+is_name_keyword kind = is_ident kind && not (same kind Identifier)
+
+-- the kinds that are named: without those keywords where an identifier is expected
+abbrev pub printed : List TokenKind → List TokenKind
+printed expected = if expects expected Identifier then filter (λ k. not (is_name_keyword k)) expected else expected
+
+-- the names with `, ` between two, and ` or ` before the last
+abbrev pub listed : List (List ℕ) → List ℕ
+listed [] = []
+listed (name ∷ []) = name
+listed (name ∷ last ∷ []) = name ++ (codes " or " ++ last)
+listed (name ∷ next ∷ more ∷ names) = name ++ (codes ", " ++ listed (next ∷ more ∷ names))
+
+-- what stands in such a list between a name and those after it
+abbrev pub separator : {A : Type 0} → List A → List ℕ
+separator [] = []
+separator (last ∷ []) = codes " or "
+separator (next ∷ more ∷ names) = codes ", "
+
+abbrev pub expected_text_of : List TokenKind → List ℕ
+expected_text_of expected = codes "expected " ++ listed (map kind_name (printed expected))

@@ -1,0 +1,94 @@
+ghost use Rattle.std.specs.Prelude.{◌≡◌, ◌<◌, ◌∷◌, [], length, IfOk, IfSome, IfNone};
+ghost use Rattle.std.specs.Option.{option_copied};
+ghost use Rattle.cedar_data.specs.NonEmpty.{items_left, items_to_come};
+ghost use Rattle.schema_syntax_errors.specs.FaultTexts.{first_error_text};
+ghost use Rattle.schema_syntax_errors.specs.FaultHelps.{first_error_help};
+ghost use Rattle.schema_syntax_errors.specs.FaultLabels.{first_error_labels, primary_span};
+
+use crate::parse_error::ParseError;
+use cedar_data::{CloneIn, Label, Loc, NonEmpty, NonEmptyIntoIter, NonEmptyIter, Severity, Text};
+use std::alloc::{AllocError, Global};
+
+/// The faults of a text, at least one. They speak by the first.
+#[derive(PartialEq, Eq, Debug, Drop)]
+pub struct ParseErrors {
+    pub errors: NonEmpty<ParseError>,
+}
+
+impl ParseErrors {
+    /// These faults in order, which takes no memory.
+    pub fn new(first: ParseError, tail: Vec<ParseError>) -> ParseErrors
+        ensures { result.errors ≡ first ∷ tail.items }
+    {
+        ParseErrors {
+            errors: NonEmpty::from_parts(first, tail),
+        }
+    }
+
+    /// These faults in order, and `None` exactly where there is none. It takes no memory.
+    pub fn from_iter(v: Vec<ParseError>) -> Option<ParseErrors>
+        ensures none { IfNone result (v.items ≡ []) }
+        ensures some { IfSome result (λ faults. (faults.errors ≡ v.items) × (0 < length faults.errors)) }
+    {
+        let errors = NonEmpty::from_vec(v)?;
+        Some(ParseErrors { errors })
+    }
+
+    /// The faults in order.
+    pub fn iter(&self) -> NonEmptyIter<'_, ParseError>
+        ensures { items_left result ≡ self.now.errors }
+    {
+        self.errors.iter()
+    }
+
+    /// The faults, handed over in order.
+    pub fn into_iter(self) -> NonEmptyIntoIter<ParseError>
+        ensures { items_to_come result ≡ self.errors }
+    {
+        let ParseErrors { errors } = self;
+        errors.into_iter()
+    }
+
+    /// The place of the first label.
+    pub fn primary_source_span(&self) -> Option<Loc>
+        ensures first_label { result ≡ primary_span (first_error_labels self.now.errors) }
+    {
+        self.errors.first().primary_source_span()
+    }
+
+    /// What the first fault says.
+    pub fn text(&self, alloc: Global) -> Result<Text, AllocError>
+        ensures text { IfOk result (λ text. text ≡ first_error_text self.now.errors) }
+    {
+        self.errors.first().text(alloc)
+    }
+
+    /// Advice on the source in which the first fault is.
+    pub fn help(&self, source: &str) -> Option<&'static str>
+        ensures help { option_copied result ≡ first_error_help self.now.errors source.now }
+    {
+        self.errors.first().help(source)
+    }
+
+    /// The places that the first fault points to.
+    pub fn labels(&self, alloc: Global) -> Result<Vec<Label>, AllocError>
+        ensures labels { IfOk result (λ labels. labels.items ≡ first_error_labels self.now.errors) }
+    {
+        self.errors.first().labels(alloc)
+    }
+
+    /// How grave the first fault is.
+    pub fn severity(&self) -> Severity
+        ensures error { result ≡ Severity.Error }
+    {
+        self.errors.first().severity()
+    }
+}
+
+impl CloneIn for ParseErrors {
+    fn clone_in(&self, alloc: Global) -> Result<Self, AllocError> {
+        Ok(ParseErrors {
+            errors: self.errors.clone_in(alloc)?,
+        })
+    }
+}

@@ -1,0 +1,89 @@
+ghost use Rattle.std.specs.Prelude.{◌≡◌, IfOk};
+ghost use Rattle.schema_syntax_errors.specs.FaultTexts.{parse_schema_error_text};
+ghost use Rattle.schema_syntax_errors.specs.FaultHelps.{parse_schema_error_help};
+ghost use Rattle.schema_syntax_errors.specs.FaultLabels.{parse_schema_error_labels};
+
+use crate::message::message;
+use crate::schema_syntax_errors::ParseErrors;
+use cedar_data::{CloneIn, Label, Severity, Text};
+use std::alloc::{AllocError, AllocFailed, Global};
+
+/// Why a text was not read as a schema: its faults, or want of memory.
+#[derive(PartialEq, Eq, Debug, Drop)]
+pub enum ParseSchemaError {
+    Errors(ParseErrors),
+    Memory,
+}
+
+impl ParseSchemaError {
+    /// What it says.
+    pub fn text(&self, alloc: Global) -> Result<Text, AllocError>
+        ensures text { IfOk result (λ text. text ≡ parse_schema_error_text self.now) }
+    {
+        match self {
+            ParseSchemaError::Errors(errors) => errors.text(alloc),
+            ParseSchemaError::Memory => message(alloc, "out of memory"),
+        }
+    }
+
+    /// Advice on the source in which it came.
+    pub fn help(&self, alloc: Global, source: &str) -> Result<Option<Text>, AllocError>
+        ensures help { IfOk result (λ help. help ≡ parse_schema_error_help self.now source.now) }
+    {
+        match self {
+            ParseSchemaError::Errors(errors) => match errors.help(source) {
+                None => Ok(None),
+                Some(help) => Ok(Some(Text::from_str(alloc, help)?)),
+            },
+            ParseSchemaError::Memory => Ok(None),
+        }
+    }
+
+    /// The places that it points to.
+    pub fn labels(&self, alloc: Global) -> Result<Vec<Label>, AllocError>
+        ensures labels { IfOk result (λ labels. labels.items ≡ parse_schema_error_labels self.now) }
+    {
+        match self {
+            ParseSchemaError::Errors(errors) => errors.labels(alloc),
+            ParseSchemaError::Memory => Ok(Vec::new(alloc)),
+        }
+    }
+
+    /// How grave it is.
+    pub fn severity(&self) -> Severity
+        ensures error { result ≡ Severity.Error }
+    {
+        Severity::Error
+    }
+}
+
+impl From<AllocError> for ParseSchemaError {
+    ghost use Rattle.schema_syntax_errors.specs.declared.parse_schema_error.ParseSchemaError.TheVariants.{Memory};
+
+    ghost from_gives = { λ _ e. e ≡ Memory };
+
+    fn from(_e: AllocError) -> ParseSchemaError {
+        ParseSchemaError::Memory
+    }
+}
+
+impl<T: Drop> From<AllocFailed<T>> for ParseSchemaError {
+    ghost use Rattle.schema_syntax_errors.specs.declared.parse_schema_error.ParseSchemaError.TheVariants.{Memory};
+
+    ghost from_gives = { λ _ e. e ≡ Memory };
+
+    fn from(_e: AllocFailed<T>) -> ParseSchemaError {
+        ParseSchemaError::Memory
+    }
+}
+
+impl CloneIn for ParseSchemaError {
+    fn clone_in(&self, alloc: Global) -> Result<Self, AllocError> {
+        match self {
+            ParseSchemaError::Errors(errors) => {
+                Ok(ParseSchemaError::Errors(errors.clone_in(alloc)?))
+            }
+            ParseSchemaError::Memory => Ok(ParseSchemaError::Memory),
+        }
+    }
+}

@@ -1,0 +1,189 @@
+-- The grammar on the kinds of tokens, one case for each production. A list of kinds is the lists of its parts, joined.
+use Rattle.std.specs.Prelude.{◌≡◌, ◌↔◌, List, [], ◌∷◌, ◌++◌, Bool, true, false, IsTrue}
+use Rattle.std.specs.List.{filter}
+use Rattle.schema_syntax_grammar.specs.declared.token_kind.TokenKind.{TokenKind}
+use Rattle.schema_syntax_grammar.specs.declared.token_kind.TokenKind.TheVariants.{KwNamespace, KwEntity, KwExternal, KwIn, KwType, KwSet, KwAppliesTo, KwPrincipal, KwAction, KwResource, KwContext, KwTags, KwEnum, Identifier, StringLit, At, Comma, Semi, Colon, PathSep, LParen, RParen, LBrace, RBrace, LBracket, RBracket, Less, Greater, Question, Equals, End}
+
+-- the kind of a word
+abbrev pub is_word : TokenKind → Bool
+is_word KwNamespace = true
+is_word KwEntity = true
+is_word KwExternal = true
+is_word KwIn = true
+is_word KwType = true
+is_word KwSet = true
+is_word KwAppliesTo = true
+is_word KwPrincipal = true
+is_word KwAction = true
+is_word KwResource = true
+is_word KwContext = true
+is_word KwTags = true
+is_word KwEnum = true
+is_word Identifier = true
+is_word _ = false
+
+-- the kind of a word that can be a name: any word but `in`
+abbrev pub is_ident : TokenKind → Bool
+is_ident KwIn = false
+is_ident KwNamespace = true
+is_ident KwEntity = true
+is_ident KwExternal = true
+is_ident KwType = true
+is_ident KwSet = true
+is_ident KwAppliesTo = true
+is_ident KwPrincipal = true
+is_ident KwAction = true
+is_ident KwResource = true
+is_ident KwContext = true
+is_ident KwTags = true
+is_ident KwEnum = true
+is_ident Identifier = true
+is_ident _ = false
+
+abbrev pub Kinds : Type 0
+Kinds = List TokenKind
+
+-- the parts of a schema
+pub data Part : Type 0 where
+  schema : Part
+  item : Part
+  decls : Part
+  decl : Part
+  bare_decl : Part
+  idents : Part
+  parents : Part
+  shape : Part
+  tags : Part
+  strings : Part
+  names : Part
+  name : Part
+  in_refs : Part
+  applies : Part
+  apps : Part
+  app : Part
+  types : Part
+  paths : Part
+  refs : Part
+  ref_list : Part
+  ref : Part
+  ty : Part
+  rec : Part
+  attrs : Part
+  attr : Part
+  mark : Part
+  path : Part
+  anns : Part
+
+-- the kinds are those of the part
+pub data Phrase : Part → Kinds → Type 0 where
+  -- {Item}
+  no_item : Phrase schema []
+  more_items : {a b : Kinds} → Phrase item a → Phrase schema b → Phrase schema (a ++ b)
+  -- Anns 'namespace' Path '{' {Decl} '}' | Decl
+  namespace_item : {a p d : Kinds} → Phrase anns a → Phrase path p → Phrase decls d → Phrase item (a ++ KwNamespace ∷ (p ++ LBrace ∷ (d ++ RBrace ∷ [])))
+  decl_item : {a : Kinds} → Phrase decl a → Phrase item a
+  no_decl : Phrase decls []
+  more_decls : {a b : Kinds} → Phrase decl a → Phrase decls b → Phrase decls (a ++ b)
+  -- Anns (Entity | Enum | ExtEntity | Action | ExtAction | Common)
+  annotated : {a b : Kinds} → Phrase anns a → Phrase bare_decl b → Phrase decl (a ++ b)
+  -- 'entity' Idents ['in' Types] [['='] Rec] ['tags' Type] ';'
+  entity_decl : {i p s t : Kinds} → Phrase idents i → Phrase parents p → Phrase shape s → Phrase tags t → Phrase bare_decl (KwEntity ∷ (i ++ (p ++ (s ++ (t ++ Semi ∷ [])))))
+  -- 'entity' Idents 'enum' '[' [STR {',' STR} [',']] ']' ';'
+  enum_decl : {i s : Kinds} → Phrase idents i → Phrase strings s → Phrase bare_decl (KwEntity ∷ (i ++ KwEnum ∷ LBracket ∷ (s ++ RBracket ∷ Semi ∷ [])))
+  -- 'external' 'entity' Idents ['in' Types] ';'
+  external_entity : {i p : Kinds} → Phrase idents i → Phrase parents p → Phrase bare_decl (KwExternal ∷ KwEntity ∷ (i ++ (p ++ Semi ∷ [])))
+  -- 'action' Names ['in' Refs] ['appliesTo' '{' [App {',' App} [',']] '}'] ';'
+  action_decl : {n r a : Kinds} → Phrase names n → Phrase in_refs r → Phrase applies a → Phrase bare_decl (KwAction ∷ (n ++ (r ++ (a ++ Semi ∷ []))))
+  -- 'external' 'action' Names ['in' Refs] ';'
+  external_action : {n r : Kinds} → Phrase names n → Phrase in_refs r → Phrase bare_decl (KwExternal ∷ KwAction ∷ (n ++ (r ++ Semi ∷ [])))
+  -- 'type' Ident '=' Type ';'
+  common_decl : {i : TokenKind} {t : Kinds} → is_ident i ≡ true → Phrase ty t → Phrase bare_decl (KwType ∷ i ∷ Equals ∷ (t ++ Semi ∷ []))
+  -- Ident {',' Ident}
+  one_ident : {i : TokenKind} → is_ident i ≡ true → Phrase idents (i ∷ [])
+  more_idents : {i : TokenKind} {a : Kinds} → is_ident i ≡ true → Phrase idents a → Phrase idents (i ∷ Comma ∷ a)
+  -- ['in' Types]
+  no_parents : Phrase parents []
+  in_parents : {a : Kinds} → Phrase types a → Phrase parents (KwIn ∷ a)
+  -- [['='] Rec]
+  no_shape : Phrase shape []
+  bare_shape : {a : Kinds} → Phrase rec a → Phrase shape a
+  equals_shape : {a : Kinds} → Phrase rec a → Phrase shape (Equals ∷ a)
+  -- ['tags' Type]
+  no_tags : Phrase tags []
+  some_tags : {a : Kinds} → Phrase ty a → Phrase tags (KwTags ∷ a)
+  -- [STR {',' STR} [',']]
+  no_string : Phrase strings []
+  last_string : Phrase strings (StringLit ∷ [])
+  more_strings : {a : Kinds} → Phrase strings a → Phrase strings (StringLit ∷ Comma ∷ a)
+  -- Name {',' Name}
+  one_name : {a : Kinds} → Phrase name a → Phrase names a
+  more_names : {a b : Kinds} → Phrase name a → Phrase names b → Phrase names (a ++ Comma ∷ b)
+  -- Ident | STR
+  ident_name : {i : TokenKind} → is_ident i ≡ true → Phrase name (i ∷ [])
+  string_name : Phrase name (StringLit ∷ [])
+  -- ['in' Refs]
+  no_refs : Phrase in_refs []
+  some_refs : {a : Kinds} → Phrase refs a → Phrase in_refs (KwIn ∷ a)
+  -- ['appliesTo' '{' [App {',' App} [',']] '}']
+  no_applies : Phrase applies []
+  some_applies : {a : Kinds} → Phrase apps a → Phrase applies (KwAppliesTo ∷ LBrace ∷ (a ++ RBrace ∷ []))
+  no_app : Phrase apps []
+  last_app : {a : Kinds} → Phrase app a → Phrase apps a
+  more_apps : {a b : Kinds} → Phrase app a → Phrase apps b → Phrase apps (a ++ Comma ∷ b)
+  -- ('principal' | 'resource') ':' Types | 'context' ':' (Path | Rec)
+  principal_app : {a : Kinds} → Phrase types a → Phrase app (KwPrincipal ∷ Colon ∷ a)
+  resource_app : {a : Kinds} → Phrase types a → Phrase app (KwResource ∷ Colon ∷ a)
+  context_path : {a : Kinds} → Phrase path a → Phrase app (KwContext ∷ Colon ∷ a)
+  context_record : {a : Kinds} → Phrase rec a → Phrase app (KwContext ∷ Colon ∷ a)
+  -- Path | '[' [Path {',' Path} [',']] ']'
+  one_type : {a : Kinds} → Phrase path a → Phrase types a
+  listed_types : {a : Kinds} → Phrase paths a → Phrase types (LBracket ∷ (a ++ RBracket ∷ []))
+  no_path : Phrase paths []
+  last_path : {a : Kinds} → Phrase path a → Phrase paths a
+  more_paths : {a b : Kinds} → Phrase path a → Phrase paths b → Phrase paths (a ++ Comma ∷ b)
+  -- Ref | '[' [Ref {',' Ref} [',']] ']'
+  one_ref : {a : Kinds} → Phrase ref a → Phrase refs a
+  listed_refs : {a : Kinds} → Phrase ref_list a → Phrase refs (LBracket ∷ (a ++ RBracket ∷ []))
+  no_ref : Phrase ref_list []
+  last_ref : {a : Kinds} → Phrase ref a → Phrase ref_list a
+  more_refs : {a b : Kinds} → Phrase ref a → Phrase ref_list b → Phrase ref_list (a ++ Comma ∷ b)
+  -- Name | Path '::' STR
+  plain_ref : {a : Kinds} → Phrase name a → Phrase ref a
+  typed_ref : {a : Kinds} → Phrase path a → Phrase ref (a ++ PathSep ∷ StringLit ∷ [])
+  -- Path | 'Set' '<' Type '>' | Rec
+  path_type : {a : Kinds} → Phrase path a → Phrase ty a
+  set_type : {a : Kinds} → Phrase ty a → Phrase ty (KwSet ∷ Less ∷ (a ++ Greater ∷ []))
+  record_type : {a : Kinds} → Phrase rec a → Phrase ty a
+  -- '{' [Attr {',' Attr} [',']] '}'
+  braces : {a : Kinds} → Phrase attrs a → Phrase rec (LBrace ∷ (a ++ RBrace ∷ []))
+  no_attr : Phrase attrs []
+  last_attr : {a : Kinds} → Phrase attr a → Phrase attrs a
+  more_attrs : {a b : Kinds} → Phrase attr a → Phrase attrs b → Phrase attrs (a ++ Comma ∷ b)
+  -- Anns Name ['?'] ':' Type
+  one_attr : {a n m t : Kinds} → Phrase anns a → Phrase name n → Phrase mark m → Phrase ty t → Phrase attr (a ++ (n ++ (m ++ Colon ∷ t)))
+  no_mark : Phrase mark []
+  question : Phrase mark (Question ∷ [])
+  -- Ident {'::' Ident}
+  one_step : {i : TokenKind} → is_ident i ≡ true → Phrase path (i ∷ [])
+  more_steps : {i : TokenKind} {a : Kinds} → is_ident i ≡ true → Phrase path a → Phrase path (i ∷ PathSep ∷ a)
+  -- {'@' Word ['(' STR ')']}
+  no_ann : Phrase anns []
+  bare_ann : {w : TokenKind} {a : Kinds} → is_word w ≡ true → Phrase anns a → Phrase anns (At ∷ w ∷ a)
+  valued_ann : {w : TokenKind} {a : Kinds} → is_word w ≡ true → Phrase anns a → Phrase anns (At ∷ w ∷ LParen ∷ StringLit ∷ RParen ∷ a)
+
+-- the kinds are those of a schema
+abbrev pub Sentence : Kinds → Type 0
+Sentence kinds = Phrase schema kinds
+
+-- some kinds after these make a sentence
+abbrev pub Viable : Kinds → Type 0
+Viable kinds = (more : Kinds) × Sentence (kinds ++ more)
+
+-- what may come next: a kind, or the end
+abbrev pub MayFollow : Kinds → TokenKind → Type 0
+MayFollow kinds End = Sentence kinds
+MayFollow kinds k = Viable (kinds ++ k ∷ [])
+
+-- exactly the kinds that may come next, in the order of all kinds
+abbrev pub IsExpected : Kinds → Kinds → Kinds → Type 0
+IsExpected all kinds list = (p : TokenKind → Bool) × ((k : TokenKind) → IsTrue (p k) ↔ MayFollow kinds k) × (list ≡ filter p all)

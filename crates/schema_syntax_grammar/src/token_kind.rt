@@ -1,0 +1,137 @@
+ghost use Rattle.std.specs.Prelude.{◌≡◌};
+ghost use Rattle.schema_syntax_grammar.specs.Grammar.{is_word, is_ident};
+
+/// What kind of token it is. Thirteen words have kinds of their own; every other word is an identifier. `End` is no token, but the
+/// end of the input.
+#[derive(Clone, Copy, PartialEq, Eq, Debug)]
+pub enum TokenKind {
+    /// `namespace`
+    KwNamespace,
+    /// `entity`
+    KwEntity,
+    /// `external`
+    KwExternal,
+    /// `in`
+    KwIn,
+    /// `type`
+    KwType,
+    /// `Set`
+    KwSet,
+    /// `appliesTo`
+    KwAppliesTo,
+    /// `principal`
+    KwPrincipal,
+    /// `action`
+    KwAction,
+    /// `resource`
+    KwResource,
+    /// `context`
+    KwContext,
+    /// `tags`
+    KwTags,
+    /// `enum`
+    KwEnum,
+    /// Any other word.
+    Identifier,
+    /// A string between double quotes.
+    StringLit,
+    /// `@`
+    At,
+    /// `,`
+    Comma,
+    /// `;`
+    Semi,
+    /// `:`
+    Colon,
+    /// `::`
+    PathSep,
+    /// `(`
+    LParen,
+    /// `)`
+    RParen,
+    /// `{`
+    LBrace,
+    /// `}`
+    RBrace,
+    /// `[`
+    LBracket,
+    /// `]`
+    RBracket,
+    /// `<`
+    Less,
+    /// `>`
+    Greater,
+    /// `?`
+    Question,
+    /// `=`
+    Equals,
+    /// The end of the input.
+    End,
+}
+
+/// All kinds, in the order in which expected kinds are listed.
+pub const ALL_KINDS: [TokenKind; 31] = [
+    TokenKind::KwNamespace,
+    TokenKind::KwEntity,
+    TokenKind::KwExternal,
+    TokenKind::KwIn,
+    TokenKind::KwType,
+    TokenKind::KwSet,
+    TokenKind::KwAppliesTo,
+    TokenKind::KwPrincipal,
+    TokenKind::KwAction,
+    TokenKind::KwResource,
+    TokenKind::KwContext,
+    TokenKind::KwTags,
+    TokenKind::KwEnum,
+    TokenKind::Identifier,
+    TokenKind::StringLit,
+    TokenKind::At,
+    TokenKind::Comma,
+    TokenKind::Semi,
+    TokenKind::Colon,
+    TokenKind::PathSep,
+    TokenKind::LParen,
+    TokenKind::RParen,
+    TokenKind::LBrace,
+    TokenKind::RBrace,
+    TokenKind::LBracket,
+    TokenKind::RBracket,
+    TokenKind::Less,
+    TokenKind::Greater,
+    TokenKind::Question,
+    TokenKind::Equals,
+    TokenKind::End,
+];
+
+impl TokenKind {
+    /// Whether it is the kind of a word.
+    pub fn is_word(self) -> bool
+        ensures { result ≡ is_word self }
+    {
+        matches!(
+            self,
+            TokenKind::KwNamespace
+                | TokenKind::KwEntity
+                | TokenKind::KwExternal
+                | TokenKind::KwIn
+                | TokenKind::KwType
+                | TokenKind::KwSet
+                | TokenKind::KwAppliesTo
+                | TokenKind::KwPrincipal
+                | TokenKind::KwAction
+                | TokenKind::KwResource
+                | TokenKind::KwContext
+                | TokenKind::KwTags
+                | TokenKind::KwEnum
+                | TokenKind::Identifier
+        )
+    }
+
+    /// Whether it is the kind of a word that can be a name: any word but `in`.
+    pub fn is_ident(self) -> bool
+        ensures { result ≡ is_ident self }
+    {
+        self.is_word() && self != TokenKind::KwIn
+    }
+}

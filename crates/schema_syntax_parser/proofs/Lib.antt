@@ -1,0 +1,6 @@
+pub mod Back
+pub mod Heads
+pub mod Loops
+pub mod Made
+pub mod Places
+pub mod Sentences

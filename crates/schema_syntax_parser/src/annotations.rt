@@ -1,0 +1,57 @@
+ghost use Rattle.schema_syntax_parser.specs.Reading.{Gives, annotation_turn, annotations_at, value_at};
+ghost use Rattle.schema_syntax_parser.specs.Turns.{turn_of};
+
+use crate::front::{token, word};
+use crate::stop::Stop;
+use crate::syntax::AnnotationSyntax;
+use crate::turns::{Turn, Turns, all};
+use cedar_data::List;
+use schema_syntax_grammar::TokenKind;
+use schema_syntax_tokens::Token;
+use std::alloc::Global;
+
+// Annotations, one after the other.
+struct AnnotationTurns;
+
+// An annotation, behind its word.
+fn value(key: Token, tokens: &[Token]) -> Result<Turn<'_, AnnotationSyntax>, Stop>
+    ensures { Gives turn_of result (value_at key tokens.now) }
+{
+    match tokens {
+        [first, rest @ ..] if first.kind == TokenKind::LParen => {
+            let (value, rest) = token(rest, TokenKind::StringLit)?;
+            let value = Some(*value);
+            let (_, rest) = token(rest, TokenKind::RParen)?;
+            Ok(Turn::More(AnnotationSyntax { key, value }, rest))
+        }
+        _ => Ok(Turn::More(AnnotationSyntax { key, value: None }, tokens)),
+    }
+}
+
+impl Turns for AnnotationTurns {
+    type Item = AnnotationSyntax;
+
+    ghost turns = { annotation_turn };
+
+    #[tactic(auto, unfolding(crate::specs::Reading::annotation_turn))]
+    fn turn(_alloc: Global, tokens: &[Token]) -> Result<Turn<'_, AnnotationSyntax>, Stop> {
+        match tokens {
+            [first, rest @ ..] if first.kind == TokenKind::At => {
+                let (key, rest) = word(rest)?;
+                value(*key, rest)
+            }
+            _ => Ok(Turn::Done(tokens)),
+        }
+    }
+}
+
+// The annotations of an item.
+#[tactic(auto, unfolding(crate::specs::Reading::annotations_at))]
+pub fn annotations(
+    alloc: Global,
+    tokens: &[Token],
+) -> Result<(List<AnnotationSyntax>, &[Token]), Stop>
+    ensures { Gives (λ r. (r.0, r.1.now)) result (annotations_at tokens.now) }
+{
+    all::<AnnotationTurns>(alloc, tokens)
+}

@@ -1,0 +1,97 @@
+ghost use Rattle.std.specs.Prelude.{◌≡◌};
+ghost use Rattle.schema_syntax_parser.specs.Syntax.{place_of, is_role};
+ghost use Rattle.schema_syntax_parser.specs.Reading.{Gives, any_at, token_at, class_at, place_before};
+ghost use Rattle.schema_syntax_grammar.specs.Grammar.{is_word, is_ident};
+ghost use Rattle.schema_syntax_grammar.specs.Table.{is_name};
+
+use crate::stop::Stop;
+use cedar_data::Loc;
+use schema_syntax_grammar::TokenKind;
+use schema_syntax_tokens::Token;
+
+// The token at the front, and the others.
+pub fn any(tokens: &[Token]) -> Result<(&Token, &[Token]), Stop>
+    ensures { Gives (λ r. (r.0.now, r.1.now)) result (any_at tokens.now) }
+{
+    match tokens {
+        [] => Err(Stop::Mismatch),
+        [first, rest @ ..] => Ok((first, rest)),
+    }
+}
+
+// The token at the front, which is of the kind.
+pub fn token(tokens: &[Token], kind: TokenKind) -> Result<(&Token, &[Token]), Stop>
+    ensures { Gives (λ r. (r.0.now, r.1.now)) result (token_at kind tokens.now) }
+{
+    match tokens {
+        [first, rest @ ..] if first.kind == kind => Ok((first, rest)),
+        _ => Err(Stop::Mismatch),
+    }
+}
+
+// The token at the front, which is of the kind of a word.
+pub fn word(tokens: &[Token]) -> Result<(&Token, &[Token]), Stop>
+    ensures { Gives (λ r. (r.0.now, r.1.now)) result (class_at is_word tokens.now) }
+{
+    match tokens {
+        [first, rest @ ..] if first.kind.is_word() => Ok((first, rest)),
+        _ => Err(Stop::Mismatch),
+    }
+}
+
+// The token at the front, which is of the kind of a word that can be a name.
+pub fn ident(tokens: &[Token]) -> Result<(&Token, &[Token]), Stop>
+    ensures { Gives (λ r. (r.0.now, r.1.now)) result (class_at is_ident tokens.now) }
+{
+    match tokens {
+        [first, rest @ ..] if first.kind.is_ident() => Ok((first, rest)),
+        _ => Err(Stop::Mismatch),
+    }
+}
+
+// The token at the front, which is of the kind of a name.
+pub fn name(tokens: &[Token]) -> Result<(&Token, &[Token]), Stop>
+    ensures { Gives (λ r. (r.0.now, r.1.now)) result (class_at is_name tokens.now) }
+{
+    match tokens {
+        [first, rest @ ..] if is_name(first.kind) => Ok((first, rest)),
+        _ => Err(Stop::Mismatch),
+    }
+}
+
+// Whether it is the kind of a name: of a word but `in`, or of a string.
+pub fn is_name(kind: TokenKind) -> bool
+    ensures { result ≡ is_name kind }
+{
+    kind == TokenKind::StringLit || kind.is_ident()
+}
+
+// Whether it is the kind of `principal` or of `resource`.
+pub fn is_role(kind: TokenKind) -> bool
+    ensures { result ≡ is_role kind }
+{
+    matches!(kind, TokenKind::KwPrincipal | TokenKind::KwResource)
+}
+
+// From the first of the tokens through the last.
+fn place_of(tokens: &[Token]) -> Loc
+    ensures { result ≡ place_of tokens.now }
+{
+    match tokens {
+        [] => Loc::new(0, 0),
+        [first, ..] => {
+            let first = first.loc;
+            let last = tokens[tokens.len() - 1].loc;
+            Loc::new(first.start, first.start.max(last.end))
+        }
+    }
+}
+
+// The place of the tokens that stand before the rest.
+pub fn place(tokens: &[Token], rest: &[Token]) -> Loc
+    ensures { result ≡ place_before tokens.now rest.now }
+{
+    let len = tokens.len().saturating_sub(rest.len());
+    let (before, _) = tokens.split_at(len);
+    place_of(before)
+}

@@ -1,0 +1,139 @@
+ghost use Rattle.std.specs.Prelude.{◌≡◌};
+ghost use Rattle.schema_syntax_parser.specs.Reading.{Gives, declared_at, decl_turn, namespace_at, outside_at, item_body_at, item_at, item_turn, items_at};
+
+use crate::annotations::annotations;
+use crate::decls::decl;
+use crate::front::{place, token};
+use crate::paths::path;
+use crate::stop::Stop;
+use crate::syntax::{AnnotationSyntax, DeclaredSyntax, ItemSyntax};
+use crate::turns::{Turn, Turns, all};
+use cedar_data::List;
+use schema_syntax_grammar::TokenKind;
+use schema_syntax_tokens::Token;
+use std::alloc::Global;
+
+// A declaration with its annotations.
+#[tactic(auto, unfolding(crate::specs::Reading::declared_at))]
+fn declared(alloc: Global, tokens: &[Token]) -> Result<(DeclaredSyntax, &[Token]), Stop>
+    ensures { Gives (λ r. (r.0, r.1.now)) result (declared_at tokens.now) }
+{
+    let (annotations, start) = annotations(alloc, tokens)?;
+    let (decl, rest) = decl(alloc, start)?;
+    let loc = place(start, rest);
+    Ok((
+        DeclaredSyntax {
+            annotations,
+            decl,
+            loc,
+        },
+        rest,
+    ))
+}
+
+// The declarations of a namespace, behind its opening brace.
+struct Decls;
+
+impl Turns for Decls {
+    type Item = DeclaredSyntax;
+
+    ghost turns = { decl_turn };
+
+    #[tactic(auto, unfolding(crate::specs::Reading::decl_turn))]
+    fn turn(alloc: Global, tokens: &[Token]) -> Result<Turn<'_, DeclaredSyntax>, Stop> {
+        match tokens {
+            [first, rest @ ..] if first.kind == TokenKind::RBrace => Ok(Turn::Done(rest)),
+            _ => {
+                let (item, rest) = declared(alloc, tokens)?;
+                Ok(Turn::More(item, rest))
+            }
+        }
+    }
+}
+
+// A namespace, behind its annotations and its first word, which begins the first tokens.
+#[tactic(auto, unfolding(crate::specs::Reading::namespace_at))]
+fn namespace<'a>(
+    alloc: Global,
+    annotations: List<AnnotationSyntax>,
+    whole: &'a [Token],
+    tokens: &'a [Token],
+) -> Result<(ItemSyntax, &'a [Token]), Stop>
+    ensures { Gives (λ r. (r.0, r.1.now)) result (namespace_at annotations whole.now tokens.now) }
+{
+    let (path, rest) = path(alloc, tokens)?;
+    let (_, rest) = token(rest, TokenKind::LBrace)?;
+    let (decls, rest) = all::<Decls>(alloc, rest)?;
+    let loc = place(whole, rest);
+    Ok((ItemSyntax::Namespace(annotations, path, decls, loc), rest))
+}
+
+// A declaration in no namespace, behind its annotations.
+#[tactic(auto, unfolding(crate::specs::Reading::outside_at))]
+fn outside(
+    alloc: Global,
+    annotations: List<AnnotationSyntax>,
+    tokens: &[Token],
+) -> Result<(ItemSyntax, &[Token]), Stop>
+    ensures { Gives (λ r. (r.0, r.1.now)) result (outside_at annotations tokens.now) }
+{
+    let (decl, rest) = decl(alloc, tokens)?;
+    let loc = place(tokens, rest);
+    let item = ItemSyntax::Decl(DeclaredSyntax {
+        annotations,
+        decl,
+        loc,
+    });
+    Ok((item, rest))
+}
+
+// An item, behind its annotations.
+fn item_body(
+    alloc: Global,
+    annotations: List<AnnotationSyntax>,
+    tokens: &[Token],
+) -> Result<(ItemSyntax, &[Token]), Stop>
+    ensures { Gives (λ r. (r.0, r.1.now)) result (item_body_at annotations tokens.now) }
+{
+    match tokens {
+        [first, rest @ ..] if first.kind == TokenKind::KwNamespace => {
+            namespace(alloc, annotations, tokens, rest)
+        }
+        _ => outside(alloc, annotations, tokens),
+    }
+}
+
+// An item.
+#[tactic(auto, unfolding(crate::specs::Reading::item_at))]
+fn item(alloc: Global, tokens: &[Token]) -> Result<(ItemSyntax, &[Token]), Stop>
+    ensures { Gives (λ r. (r.0, r.1.now)) result (item_at tokens.now) }
+{
+    let (annotations, rest) = annotations(alloc, tokens)?;
+    item_body(alloc, annotations, rest)
+}
+
+// The items of a schema.
+struct ItemTurns;
+
+impl Turns for ItemTurns {
+    type Item = ItemSyntax;
+
+    ghost turns = { item_turn };
+
+    #[tactic(auto, unfolding(crate::specs::Reading::item_turn))]
+    fn turn(alloc: Global, tokens: &[Token]) -> Result<Turn<'_, ItemSyntax>, Stop> {
+        if tokens.is_empty() {
+            return Ok(Turn::Done(tokens));
+        }
+        let (item, rest) = item(alloc, tokens)?;
+        Ok(Turn::More(item, rest))
+    }
+}
+
+// All items, and the tokens behind them.
+#[tactic(auto, unfolding(crate::specs::Reading::items_at))]
+pub fn items(alloc: Global, tokens: &[Token]) -> Result<(List<ItemSyntax>, &[Token]), Stop>
+    ensures { Gives (λ r. (r.0, r.1.now)) result (items_at tokens.now) }
+{
+    all::<ItemTurns>(alloc, tokens)
+}

@@ -1,0 +1,119 @@
+-- The first site with a fault has the fault that ends first.
+use Rattle.std.proofs.Common.{◌≡◌, ℕ, ◌≤◌, List, [], ◌∷◌, ◌++◌, refl, sym, ap, ◌∙◌, subst, append_assoc, Some, inl, inr}
+use Rattle.std.specs.List.{All}
+use Rattle.std.specs.Option.{option_to_list}
+use Rattle.std.proofs.lemmas.List.{map-append}
+use Rattle.std.proofs.lemmas.List.Elements.{All-head, All-tail}
+use Rattle.schema_syntax_tokens.specs.declared.token.Token.{Token}
+use Rattle.schema_syntax_tokens.specs.Scans.{IsPlaced, Scans}
+use Rattle.schema_syntax_parser.specs.declared.syntax.AnnotationSyntax.{AnnotationSyntax}
+use Rattle.schema_syntax_parser.specs.declared.syntax.ItemSyntax.{ItemSyntax}
+use Rattle.schema_syntax_parser.specs.Syntax.{IsSyntax}
+use Rattle.schema_syntax_errors.specs.declared.user_error.UserError.{UserError}
+use Rattle.schema_syntax_reader.specs.Sites.{Site, sites_of}
+use Rattle.schema_syntax_reader.specs.UserFaults.{FaultAt, empty_list, reserved, escape, note_escape, duplicate, HasUserFault, IsFirstUserFault, IsLawful}
+use Rattle.schema_syntax_reader.specs.Placed.{note_tokens, IsPlacedSite, NoFault, IsFirstFault}
+use Rattle.schema_syntax_reader.specs.Stops.{IsStopped}
+use Rattle.schema_syntax_reader.specs.LawfulTrees.{IsStopOf}
+use Rattle.schema_syntax_reader.specs.declared.stopped.Stopped.{Stopped}
+use Rattle.schema_syntax_reader.specs.declared.stopped.Stopped.TheVariants.{Memory, User}
+use Rattle.schema_syntax_reader.proofs.Rising.{Rises, Among, among_left, among_right, rises_apart, rise_ends, sub_rises, scans_rise}
+use Rattle.schema_syntax_reader.proofs.Fits.{ends, site_ends, sites_ends, syntax_fits, flat_join}
+
+module _ (source : List ℕ) where
+  abbrev note_ends : (a : AnnotationSyntax) → List ℕ
+  note_ends a = ends (a.key ∷ option_to_list a.value)
+
+  notes_join : (a b : List AnnotationSyntax) → ends (note_tokens (a ++ b)) ≡ ends (note_tokens a) ++ ends (note_tokens b)
+  notes_join [] b = refl
+  notes_join (x ∷ a) b =
+      map-append (λ t. t.loc.end) (x.key ∷ option_to_list x.value) (note_tokens (a ++ b))
+      ∙ (ap (λ w. note_ends x ++ w) (notes_join a b)
+      ∙ (sym (append_assoc (note_ends x) (ends (note_tokens a)) (ends (note_tokens b)))
+      ∙ ap (λ w. w ++ ends (note_tokens b)) (sym (map-append (λ t. t.loc.end) (x.key ∷ option_to_list x.value) (note_tokens a)))))
+
+  -- what ends in one of the annotations ends in the list
+  among_note : (front back : List AnnotationSyntax) (a : AnnotationSyntax) (n : ℕ) → Among n (note_ends a) → Among n (ends (note_tokens (front ++ a ∷ back)))
+  among_note front back a n h =
+      subst (Among n) (sym (notes_join front (a ∷ back))) (among_right n (ends (note_tokens front)) (ends (note_tokens (a ∷ back)))
+      (subst (Among n) (sym (map-append (λ t. t.loc.end) (a.key ∷ option_to_list a.value) (note_tokens back))) (among_left n (note_ends a) (ends (note_tokens back)) h)))
+
+  -- a fault ends where a token of its site does
+  fault_end : {site : Site} {fault : UserError} {end : ℕ} → FaultAt source site fault end → Among end (site_ends site)
+  fault_end (empty_list brackets) = inl refl
+  fault_end (reserved t h) = inl refl
+  fault_end (escape t at h) = inl refl
+  fault_end (note_escape front back key t at e h) =
+      subst (λ list. Among t.loc.end (ends (note_tokens list))) (sym e) (among_note front back (record { key = key; value = Some t }) t.loc.end (inr (inl refl)))
+  fault_end (duplicate front middle back first second key e k l f m) =
+      let whole : front ++ first ∷ (middle ++ second ∷ back) ≡ (front ++ first ∷ middle) ++ second ∷ back = sym (append_assoc front (first ∷ middle) (second ∷ back)) in
+      subst (λ list. Among second.key.loc.end (ends (note_tokens list))) (sym (e ∙ whole)) (among_note (front ++ first ∷ middle) back second second.key.loc.end (inl refl))
+
+  -- where one of two places in a list is, seen from the other
+  data Where (front back : List Site) (site other : Site) : Type 0 where
+    earlier : (a b : List Site) → front ≡ a ++ other ∷ b → Where front back site other
+    same : site ≡ other → Where front back site other
+    later : (a b : List Site) → back ≡ a ++ other ∷ b → Where front back site other
+
+  places : (front back a b : List Site) (site other : Site) → front ++ site ∷ back ≡ a ++ other ∷ b → Where front back site other
+  places [] back [] b site other e = same (head_is e)
+    where
+      head_is : {x y : Site} {xs ys : List Site} → x ∷ xs ≡ y ∷ ys → x ≡ y
+      head_is {x} h = ap (λ (l : List Site). elim l [ [] ↦ x | (z ∷ zs) ↦ z ]) h
+  places [] back (x ∷ a) b site other e = later a b (ap (λ (l : List Site). elim l [ [] ↦ [] | (z ∷ zs) ↦ zs ]) e)
+  places (x ∷ front) back [] b site other e = earlier [] front (ap (λ y. y ∷ front) (ap (λ (l : List Site). elim l [ [] ↦ x | (z ∷ zs) ↦ z ]) e))
+  places (x ∷ front) back (y ∷ a) b site other e =
+      step (places front back a b site other (ap (λ (l : List Site). elim l [ [] ↦ [] | (z ∷ zs) ↦ zs ]) e))
+    where
+      step : Where front back site other → Where (x ∷ front) back site other
+      step (earlier c d f) = earlier (x ∷ c) d (ap (λ l. x ∷ l) f)
+      step (same f) = same f
+      step (later c d f) = later c d f
+
+  no_fault_in : (front a b : List Site) (other : Site) → All (NoFault source) front → front ≡ a ++ other ∷ b → NoFault source other
+  no_fault_in front [] b other h e = All-head (NoFault source) other b (subst (All (NoFault source)) e h)
+  no_fault_in front (x ∷ a) b other h e = no_fault_in (a ++ other ∷ b) a b other (All-tail (NoFault source) x (a ++ other ∷ b) (subst (All (NoFault source)) e h)) refl
+
+  -- the ends of a later site
+  later_end : (back a b : List Site) (other : Site) (n : ℕ) → back ≡ a ++ other ∷ b → Among n (site_ends other) → Among n (sites_ends back)
+  later_end back a b other n e h =
+      subst (λ l. Among n (sites_ends l)) (sym e) (subst (Among n) (sym (flat_join source a (other ∷ b))) (among_right n (sites_ends a) (sites_ends (other ∷ b)) (among_left n (site_ends other) (sites_ends b) h)))
+
+  rises_from : (front back : List Site) (site : Site) → Rises (sites_ends (front ++ site ∷ back)) → Rises (site_ends site ++ sites_ends back)
+  rises_from [] back site r = r
+  rises_from (x ∷ front) back site r = rises_from front back site (rises_behind (site_ends x) (sites_ends (front ++ site ∷ back)) r)
+    where
+      rises_behind : (xs ys : List ℕ) → Rises (xs ++ ys) → Rises ys
+      rises_behind [] ys r = r
+      rises_behind (x ∷ xs) ys r = rises_behind xs ys r.1
+
+  -- the first fault of the sites is the one that ends first
+  pub first_ends_first : (tokens : List Token) (at : ℕ) (items : List ItemSyntax) (fault : UserError) → Scans source tokens at → All (IsPlaced source) tokens → IsSyntax tokens items → IsFirstFault source (sites_of items) fault
+      → IsFirstUserFault source items fault
+  first_ends_first tokens at items fault s p r f =
+      let rise = scans_rise source tokens at s in
+      let fits = syntax_fits source r (record { placed = p; rise = rise }) in
+      let all = sub_rises fits.sub (rise_ends tokens rise) in
+      let here = rises_from f.front f.back f.site (subst (λ l. Rises (sites_ends l)) f.split all) in
+      record {
+        end = f.end;
+        has = (f.front, f.site, f.back, f.split, f.here);
+        first = λ other n h. by_place here other n h (places f.front f.back h.0 h.2 f.site h.1 (sym f.split ∙ h.3));
+      }
+    where
+      by_place : Rises (site_ends f.site ++ sites_ends f.back) → (other : UserError) (n : ℕ) (h : HasUserFault source items other n) → Where f.front f.back f.site h.1 → f.end ≤ n
+      by_place here other n h (earlier a b e) = absurd (no_fault_in f.front a b h.1 f.before e other n h.4)
+      by_place here other n h (same e) = f.least other n (subst (λ s. FaultAt source s other n) (sym e) h.4)
+      by_place here other n h (later a b e) = rises_apart (site_ends f.site) (sites_ends f.back) f.end n here (fault_end f.here) (later_end f.back a b h.1 n e (fault_end h.4))
+
+  -- no site with a fault: no user fault
+  pub all_lawful : (items : List ItemSyntax) → All (NoFault source) (sites_of items) → IsLawful source items
+  all_lawful items h fault end f = no_fault_in (sites_of items) f.0 f.2 f.1 h f.3 fault end f.4
+
+  pub sites_placed : (tokens : List Token) (at : ℕ) (items : List ItemSyntax) → Scans source tokens at → All (IsPlaced source) tokens → IsSyntax tokens items → All (IsPlacedSite source) (sites_of items)
+  sites_placed tokens at items s p r = (syntax_fits source r (record { placed = p; rise = scans_rise source tokens at s })).placed
+
+  -- what a stop says of the sites, said of the tokens
+  pub stop_of : (tokens : List Token) (at : ℕ) (items : List ItemSyntax) (stop : Stopped) → Scans source tokens at → All (IsPlaced source) tokens → IsSyntax tokens items → IsStopped source (sites_of items) stop → IsStopOf source tokens stop
+  stop_of tokens at items Memory s p r f = tt
+  stop_of tokens at items (User fault) s p r f = record { items = items; syntax = r; first = first_ends_first tokens at items fault s p r f }

@@ -1,0 +1,52 @@
+-- What the scanner and the grammar say of the sites of a text, and which sites have no fault. Only contracts inside the crate cite this.
+use Rattle.std.specs.Prelude.{◌≡◌, ◌≤◌, ℕ, true, List, [], ◌∷◌, ◌++◌, Option, None, Some}
+use Rattle.std.specs.List.{All, flat_map}
+use Rattle.std.specs.Option.{option_to_list}
+use Rattle.schema_syntax_grammar.specs.declared.token_kind.TokenKind.TheVariants.{StringLit}
+use Rattle.schema_syntax_grammar.specs.Grammar.{is_word, is_ident}
+use Rattle.schema_syntax_tokens.specs.declared.token.Token.{Token}
+use Rattle.schema_syntax_tokens.specs.Scans.{IsPlaced}
+use Rattle.schema_syntax_parser.specs.declared.syntax.AnnotationSyntax.{AnnotationSyntax}
+use Rattle.schema_syntax_errors.specs.declared.user_error.UserError.{UserError}
+use Rattle.schema_syntax_reader.specs.Sites.{Site, word, text, annotations, empty}
+use Rattle.schema_syntax_reader.specs.UserFaults.{FaultAt}
+
+-- each token ends no later than those behind it
+abbrev pub Rise : List Token → Type 0
+Rise [] = Unit {0}
+Rise (t ∷ ts) = All (λ s. t.loc.end ≤ s.loc.end) ts × Rise ts
+
+-- the tokens of annotations, without the marks
+abbrev pub note_tokens : List AnnotationSyntax → List Token
+note_tokens list = flat_map (λ a. a.key ∷ option_to_list a.value) list
+
+-- a string stands at its place
+abbrev pub IsPlacedString : List ℕ → Token → Type 0
+IsPlacedString source t = IsPlaced source t × (t.kind ≡ StringLit)
+
+abbrev pub IsPlacedValue : List ℕ → Option Token → Type 0
+IsPlacedValue source None = Unit {0}
+IsPlacedValue source (Some t) = IsPlacedString source t
+
+abbrev pub IsPlacedNote : List ℕ → AnnotationSyntax → Type 0
+IsPlacedNote source a = IsPlaced source a.key × (is_word a.key.kind ≡ true) × IsPlacedValue source a.value
+
+abbrev pub IsPlacedSite : List ℕ → Site → Type 0
+IsPlacedSite source (word t) = IsPlaced source t × (is_ident t.kind ≡ true)
+IsPlacedSite source (text t) = IsPlacedString source t
+IsPlacedSite source (annotations list) = All (IsPlacedNote source) list × Rise (note_tokens list)
+IsPlacedSite source (empty brackets) = Unit {0}
+
+abbrev pub NoFault : List ℕ → Site → Type 0
+NoFault source site = (fault : UserError) (end : ℕ) → FaultAt source site fault end → ⊥
+
+-- the first of the sites that has a fault, and of its faults the one that ends first
+pub record IsFirstFault (source : List ℕ) (sites : List Site) (fault : UserError) : Type 0 where
+  pub front : List Site
+  pub site : Site
+  pub back : List Site
+  pub end : ℕ
+  pub split : sites ≡ front ++ site ∷ back
+  pub before : All (NoFault source) front
+  pub here : FaultAt source site fault end
+  pub least : (other : UserError) (later : ℕ) → FaultAt source site other later → end ≤ later

@@ -1,0 +1,30 @@
+ghost use Rattle.std.specs.Prelude.{length, IfOk, IfErr};
+ghost use Rattle.std.specs.List.{All};
+ghost use Rattle.schema_syntax_grammar.specs.Grammar.{Sentence};
+ghost use Rattle.schema_syntax_tokens.specs.Scans.{Scans, IsPlaced};
+ghost use Rattle.schema_syntax_parser.specs.Syntax.{kinds_of};
+ghost use Rattle.schema_syntax_reader.specs.LawfulTrees.{IsLawfulTree, IsStopOf};
+
+use crate::leaves::leaves_of;
+use crate::sites::sites_of;
+use crate::stopped::Stopped;
+use crate::trees::tree_of;
+use schema_syntax_parser::syntax_of;
+use schema_syntax_tokens::Token;
+use schema_syntax_tree::Schema;
+use std::alloc::Global;
+
+/// The tree of the tokens of a text, which are those of a schema, or of their user faults the one that ends first.
+pub fn tree_of_tokens(alloc: Global, text: &str, tokens: &[Token]) -> Result<Schema, Stopped>
+    requires scans { Scans text.now tokens.now (length text.now) }
+    requires placed { All (IsPlaced text.now) tokens.now }
+    requires sentence { Sentence (kinds_of tokens.now) }
+    ensures tree { IfOk result (IsLawfulTree text.now tokens.now) }
+    ensures fault { IfErr result (IsStopOf text.now tokens.now) }
+{
+    let items = syntax_of(alloc, tokens)?;
+    let items = items.as_slice();
+    let sites = sites_of(alloc, items)?;
+    let leaves = leaves_of(alloc, text, &sites)?;
+    Ok(tree_of(alloc, items, leaves)?)
+}

@@ -1,0 +1,126 @@
+//! What annotations of a text stand for.
+ghost use Rattle.std.specs.Prelude.{◌≡◌, Some, IfOk, IfErr, OnOk};
+ghost use Rattle.std.specs.Option.{option_map};
+ghost use Rattle.std.specs.List.{All};
+ghost use Rattle.schema_syntax_reader.specs.Sites.{annotations};
+ghost use Rattle.schema_syntax_reader.specs.Leaves.{AreNotes};
+ghost use Rattle.schema_syntax_reader.specs.Placed.{IsPlacedNote, IsPlacedValue, Rise, NoFault, note_tokens};
+ghost use Rattle.schema_syntax_reader.specs.Stops.{IsStoppedAt};
+ghost use Rattle.schema_syntax_reader.specs.Deduplicated.{key_of, key_place, value_of};
+ghost use Rattle.schema_syntax_reader.specs.ReadNotes.{IsValueOr, IsReadOr, AreRead};
+
+use crate::annotations::{PlacedAnnotation, deduplicate_annotations};
+use crate::stopped::Stopped;
+use crate::strings::string_value;
+use crate::words::any_word;
+use cedar_data::{Loc, Node, Text};
+use cedar_identifiers::{Annotations, AnyId};
+use schema_syntax_errors::{AnnotationError, UserError};
+use schema_syntax_parser::AnnotationSyntax;
+use schema_syntax_tokens::Token;
+use std::alloc::{AllocError, Global};
+
+// Annotations up to the first whose value has a fault, and that fault.
+#[derive(Drop)]
+struct ReadNotes {
+    notes: Vec<PlacedAnnotation>,
+    fault: Option<UserError>,
+}
+
+// What the value stands for, where there is one and it has no fault, and its fault.
+fn read_value(
+    alloc: Global,
+    text: &str,
+    value: &Option<Token>,
+) -> Result<(Option<Node<Text>>, Option<UserError>), AllocError>
+    requires { IsPlacedValue text.now value.now }
+    ensures { IfOk result (λ r. IsValueOr text.now value.now r.0 r.1) }
+{
+    match value {
+        None => Ok((None, None)),
+        Some(token) => match string_value(alloc, text, token) {
+            Ok(node) => Ok((
+                Some(Node {
+                    node,
+                    loc: Some(token.loc),
+                }),
+                None,
+            )),
+            Err(Stopped::User(fault)) => Ok((None, Some(fault))),
+            Err(Stopped::Memory) => Err(AllocError),
+        },
+    }
+}
+
+// The annotation, and the fault of its value, where it has one.
+fn read_note(
+    alloc: Global,
+    text: &str,
+    note: &AnnotationSyntax,
+) -> Result<(PlacedAnnotation, Option<UserError>), AllocError>
+    requires { IsPlacedNote text.now note.now }
+    ensures { IfOk result (λ r. IsReadOr text.now note.now r.0 r.1) }
+{
+    let key = any_word(alloc, text, &note.key)?;
+    let (value, fault) = read_value(alloc, text, &note.value)?;
+    Ok((placed(key, value, &note.key.loc), fault))
+}
+
+// The annotation whose key stands there.
+fn placed(node: AnyId, value: Option<Node<Text>>, place: &Loc) -> PlacedAnnotation
+    ensures key { key_of result ≡ node }
+    ensures key_place { key_place result ≡ Some place.now }
+    ensures value { value_of result ≡ option_map (λ v. v.node) value }
+{
+    let key = Node {
+        node,
+        loc: Some(*place),
+    };
+    Node {
+        node: (key, value),
+        loc: Some(*place),
+    }
+}
+
+// The annotations, up to the first whose value has a fault.
+fn read_notes(alloc: Global, text: &str, list: &[AnnotationSyntax]) -> Result<ReadNotes, AllocError>
+    requires { All (IsPlacedNote text.now) list.now }
+    ensures { IfOk result (λ read. AreRead text.now list.now read.notes.items read.fault) }
+{
+    let mut notes = Vec::new(alloc);
+    for note in list {
+        let (read, fault) = read_note(alloc, text, note)?;
+        notes.push(read)?;
+        if let Some(fault) = fault {
+            return Ok(ReadNotes {
+                notes,
+                fault: Some(fault),
+            });
+        }
+    }
+    Ok(ReadNotes { notes, fault: None })
+}
+
+/// What the annotations stand for, or the first of their faults.
+pub fn notes_of(
+    alloc: Global,
+    text: &str,
+    list: &[AnnotationSyntax],
+) -> Result<Annotations, Stopped>
+    requires placed { All (IsPlacedNote text.now) list.now }
+    requires rise { Rise (note_tokens list.now) }
+    ensures notes { IfOk result (λ notes. AreNotes text.now list.now notes.0) }
+    ensures lawful { OnOk result (NoFault text.now (annotations list.now)) }
+    ensures fault { IfErr result (IsStoppedAt text.now (annotations list.now)) }
+{
+    let read = read_notes(alloc, text, list)?;
+    let fault = read.fault;
+    match deduplicate_annotations(alloc, (), read.notes) {
+        Err(AnnotationError::User(fault)) => Err(Stopped::User(fault)),
+        Err(AnnotationError::Memory) => Err(Stopped::Memory),
+        Ok(annotated) => match fault {
+            Some(fault) => Err(Stopped::User(fault)),
+            None => Ok(annotated.annotations),
+        },
+    }
+}

@@ -1,0 +1,78 @@
+ghost use Rattle.std.specs.Prelude.{◌≡◌};
+ghost use Rattle.schema_syntax_reader.specs.Building.{Gives, all_from, some_from, optional_from, at_least_one};
+
+use crate::leaf::Leaf;
+use crate::stop::Stop;
+use cedar_data::NonEmpty;
+use std::alloc::Global;
+use std::collections::VecDeque;
+
+/// What is built of a part of a syntax, from the leaves that come next.
+pub trait Part {
+    ghost use Rattle.schema_syntax_reader.specs.Building.{Builds, Gives};
+
+    type Raw;
+
+    type Item: Drop;
+
+    ghost builds: { Self.Raw → Builds Self.Item };
+
+    fn build(
+        alloc: Global,
+        raw: &Self::Raw,
+        leaves: &mut VecDeque<Leaf>,
+    ) -> Result<Self::Item, Stop>
+        ensures { Gives (λ x. x) result (builds raw.now leaves.old.items) leaves.new.items };
+}
+
+// What is built of the parts, in order.
+pub fn all<P: Part>(
+    alloc: Global,
+    raws: &[P::Raw],
+    leaves: &mut VecDeque<Leaf>,
+) -> Result<Vec<P::Item>, Stop>
+    ensures { Gives (λ v. v.items) result (all_from P.builds raws.now leaves.old.items) leaves.new.items }
+{
+    let mut items = Vec::new(alloc);
+    for raw in raws {
+        let item = P::build(alloc, raw, leaves)?;
+        items.push(item)?;
+    }
+    Ok(items)
+}
+
+// The list, where it has an item.
+fn at_least_one<T: Drop>(items: Vec<T>) -> Option<NonEmpty<T>>
+    ensures { result ≡ at_least_one items.items }
+{
+    NonEmpty::from_vec(items)
+}
+
+// What is built of the parts, of which there is one at least.
+#[tactic(auto, unfolding(crate::specs::Building::some_from))]
+pub fn some<P: Part>(
+    alloc: Global,
+    raws: &[P::Raw],
+    leaves: &mut VecDeque<Leaf>,
+) -> Result<NonEmpty<P::Item>, Stop>
+    ensures { Gives (λ list. list) result (some_from P.builds raws.now leaves.old.items) leaves.new.items }
+{
+    let items = all::<P>(alloc, raws, leaves)?;
+    match at_least_one(items) {
+        Some(list) => Ok(list),
+        None => Err(Stop::Mismatch),
+    }
+}
+
+// What is built of the parts, where there is one.
+#[tactic(auto, unfolding(crate::specs::Building::optional_from))]
+pub fn optional<P: Part>(
+    alloc: Global,
+    raws: &[P::Raw],
+    leaves: &mut VecDeque<Leaf>,
+) -> Result<Option<NonEmpty<P::Item>>, Stop>
+    ensures { Gives (λ list. list) result (optional_from P.builds raws.now leaves.old.items) leaves.new.items }
+{
+    let items = all::<P>(alloc, raws, leaves)?;
+    Ok(at_least_one(items))
+}

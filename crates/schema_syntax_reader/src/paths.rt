@@ -1,0 +1,133 @@
+ghost use Rattle.std.specs.Prelude.{◌≡◌};
+ghost use Rattle.schema_syntax_parser.specs.Syntax.{place_of};
+ghost use Rattle.schema_syntax_reader.specs.Building.{Gives, path_of, names_from, path_from, type_of_ref_from, ref_from};
+
+use crate::leaf::Leaf;
+use crate::names::{BareIds, name};
+use crate::parts::{Part, all};
+use crate::stop::Stop;
+use cedar_data::{Loc, Node};
+use cedar_identifiers::Id;
+use schema_syntax_parser::PathSyntax;
+use schema_syntax_tokens::Token;
+use schema_syntax_tree::{Path, QualName};
+use std::alloc::Global;
+use std::collections::VecDeque;
+
+// From the first of the tokens through the last.
+fn place_of(tokens: &[Token]) -> Loc
+    ensures { result ≡ place_of tokens.now }
+{
+    match tokens {
+        [] => Loc::new(0, 0),
+        [first, ..] => {
+            let first = first.loc;
+            let last = tokens[tokens.len() - 1].loc;
+            Loc::new(first.start, first.start.max(last.end))
+        }
+    }
+}
+
+// The path of the ids, where there is one.
+fn path_of(mut ids: Vec<Id>, loc: Loc) -> Option<Path>
+    ensures { result ≡ path_of ids.items loc }
+{
+    let basename = ids.pop()?;
+    Some(Path::new(basename, ids, Some(loc)))
+}
+
+// The path of the names, which has this place.
+#[tactic(auto, unfolding(crate::specs::Building::names_from))]
+fn path_of_names(
+    alloc: Global,
+    names: &[Token],
+    loc: Loc,
+    leaves: &mut VecDeque<Leaf>,
+) -> Result<Path, Stop>
+    ensures { Gives (λ x. x) result (names_from names.now loc leaves.old.items) leaves.new.items }
+{
+    let ids = all::<BareIds>(alloc, names, leaves)?;
+    match path_of(ids, loc) {
+        Some(path) => Ok(path),
+        None => Err(Stop::Mismatch),
+    }
+}
+
+// A path.
+#[tactic(auto, unfolding(crate::specs::Building::path_from))]
+pub fn path(alloc: Global, raw: &PathSyntax, leaves: &mut VecDeque<Leaf>) -> Result<Path, Stop>
+    ensures { Gives (λ x. x) result (path_from raw.now leaves.old.items) leaves.new.items }
+{
+    path_of_names(alloc, raw.names.as_slice(), raw.loc, leaves)
+}
+
+// The path of a reference's type, where one stands before the id.
+#[tactic(auto, unfolding(crate::specs::Building::type_of_ref_from))]
+fn type_of_reference(
+    alloc: Global,
+    names: &[Token],
+    leaves: &mut VecDeque<Leaf>,
+) -> Result<Option<Path>, Stop>
+    ensures { Gives (λ x. x) result (type_of_ref_from names.now leaves.old.items) leaves.new.items }
+{
+    match names {
+        [] => Ok(None),
+        [_, ..] => {
+            let path = path_of_names(alloc, names, place_of(names), leaves)?;
+            Ok(Some(path))
+        }
+    }
+}
+
+// A reference to an action.
+#[tactic(auto, unfolding(crate::specs::Building::ref_from))]
+fn reference(
+    alloc: Global,
+    raw: &PathSyntax,
+    leaves: &mut VecDeque<Leaf>,
+) -> Result<Node<QualName>, Stop>
+    ensures { Gives (λ x. x) result (ref_from raw.now leaves.old.items) leaves.new.items }
+{
+    let names = raw.names.as_slice();
+    let (front, _) = names.split_at(names.len().saturating_sub(1));
+    let path = type_of_reference(alloc, front, leaves)?;
+    let eid = name(leaves)?;
+    Ok(Node {
+        node: QualName { path, eid },
+        loc: Some(raw.loc),
+    })
+}
+
+// Paths.
+pub struct Paths;
+
+impl Part for Paths {
+    type Raw = PathSyntax;
+
+    type Item = Path;
+
+    ghost builds = { path_from };
+
+    fn build(alloc: Global, raw: &PathSyntax, leaves: &mut VecDeque<Leaf>) -> Result<Path, Stop> {
+        path(alloc, raw, leaves)
+    }
+}
+
+// References to actions.
+pub struct References;
+
+impl Part for References {
+    type Raw = PathSyntax;
+
+    type Item = Node<QualName>;
+
+    ghost builds = { ref_from };
+
+    fn build(
+        alloc: Global,
+        raw: &PathSyntax,
+        leaves: &mut VecDeque<Leaf>,
+    ) -> Result<Node<QualName>, Stop> {
+        reference(alloc, raw, leaves)
+    }
+}

@@ -1,0 +1,30 @@
+ghost use Rattle.std.specs.Prelude.{◌≡◌};
+
+use std::alloc::{AllocError, AllocFailed};
+
+/// Why nothing was built: memory was wanted, or the leaves are not those of the syntax.
+#[derive(Drop)]
+pub enum Stop {
+    Memory,
+    Mismatch,
+}
+
+impl From<AllocError> for Stop {
+    ghost use Rattle.schema_syntax_reader.specs.declared.stop.Stop.TheVariants.{Memory};
+
+    ghost from_gives = { λ _ stop. stop ≡ Memory };
+
+    fn from(_error: AllocError) -> Stop {
+        Stop::Memory
+    }
+}
+
+impl<T: Drop> From<AllocFailed<T>> for Stop {
+    ghost use Rattle.schema_syntax_reader.specs.declared.stop.Stop.TheVariants.{Memory};
+
+    ghost from_gives = { λ _ stop. stop ≡ Memory };
+
+    fn from(_error: AllocFailed<T>) -> Stop {
+        Stop::Memory
+    }
+}

@@ -1,0 +1,31 @@
+ghost use Rattle.std.specs.Prelude.{◌≡◌};
+
+use schema_syntax_errors::UserError;
+use std::alloc::{AllocError, AllocFailed};
+
+/// Why sites were not read: memory was wanted, or a site has a fault.
+#[derive(Drop)]
+pub enum Stopped {
+    Memory,
+    User(UserError),
+}
+
+impl From<AllocError> for Stopped {
+    ghost use Rattle.schema_syntax_reader.specs.declared.stopped.Stopped.TheVariants.{Memory};
+
+    ghost from_gives = { λ _ stopped. stopped ≡ Memory };
+
+    fn from(_error: AllocError) -> Stopped {
+        Stopped::Memory
+    }
+}
+
+impl<T: Drop> From<AllocFailed<T>> for Stopped {
+    ghost use Rattle.schema_syntax_reader.specs.declared.stopped.Stopped.TheVariants.{Memory};
+
+    ghost from_gives = { λ _ stopped. stopped ≡ Memory };
+
+    fn from(_error: AllocFailed<T>) -> Stopped {
+        Stopped::Memory
+    }
+}

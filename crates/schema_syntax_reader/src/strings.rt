@@ -1,0 +1,35 @@
+//! What strings stand for.
+ghost use Rattle.std.specs.Prelude.{IfOk, IfErr, OnOk};
+ghost use Rattle.schema_syntax_reader.specs.Leaves.{IsStringAt};
+ghost use Rattle.schema_syntax_reader.specs.Placed.{IsPlacedString};
+ghost use Rattle.schema_syntax_reader.specs.Stops.{NoBadEscapeAt, IsEscapeStop};
+
+use crate::stopped::Stopped;
+use cedar_data::{Node, NonEmpty, Text};
+use schema_syntax_errors::{UnescapeError, UserError};
+use schema_syntax_tokens::laws::one_value;
+use schema_syntax_tokens::{Refusal, Token, string_body, unescape};
+use std::alloc::Global;
+
+/// What the string at the token's place stands for.
+pub fn string_value(alloc: Global, text: &str, token: &Token) -> Result<Text, Stopped>
+    requires { IsPlacedString text.now token.now }
+    ensures value { IfOk result (IsStringAt text.now token.now) }
+    ensures lawful { OnOk result (NoBadEscapeAt text.now token.now) }
+    ensures escape { IfErr result (IsEscapeStop text.now token.now) }
+{
+    one_value();
+    let body = string_body(token, text).unwrap();
+    match unescape(alloc, body) {
+        Ok(value) => Ok(value),
+        Err(Refusal::Memory) => Err(Stopped::Memory),
+        Err(Refusal::Escape(place)) => {
+            let at = token.loc.start + 1 + place;
+            let fault = NonEmpty::new(alloc, UnescapeError { at });
+            Err(Stopped::User(UserError::StringEscape(Node {
+                node: fault,
+                loc: Some(token.loc),
+            })))
+        }
+    }
+}

@@ -1,0 +1,16 @@
+mod Blank
+mod Bodies
+mod ByCharacters
+mod Digits
+mod Ends
+mod LaidOut
+mod Lawful
+mod Longest
+mod OneString
+mod Pieces
+mod Quotation
+mod Quoting
+mod Standing
+mod Unique
+mod Values
+mod Whole

@@ -1,0 +1,6 @@
+use Rattle.std.proofs.Common.{◌≡◌, ℕ, ◌<◌, true, get_or}
+use Rattle.schema_syntax_tokens.specs.Steps.{is_unescaped}
+use Rattle.schema_syntax_tokens.proofs.escapes.plain_len.Given as goal
+
+abbrev pub invariant-loop-at : goal.invariant-loop-at
+invariant-loop-at l = (k : ℕ) → k < l.at → is_unescaped (get_or l.rest k 0) ≡ true

@@ -1,0 +1,92 @@
+-- The three forms of tokens: words, marks and strings. A text is its list of bytes.
+use Rattle.std.specs.Prelude.{◌≡◌, ◌≢◌, ℕ, Bool, true, ◌||◌, ◌&&◌, ◌⊎◌, List, [], ◌∷◌, ◌++◌, Option, Some, None, if◌then◌else◌, ◌==◌, codes, ◌<◌, length, take, slice_index}
+use Rattle.std.specs.List.{AllPass}
+use Rattle.std.specs.Str.{bytes_eq}
+use Rattle.std.specs.Char.{is_ascii_alphabetic, is_ascii_alphanumeric}
+use Rattle.schema_syntax_grammar.specs.declared.token_kind.TokenKind.{TokenKind}
+use Rattle.schema_syntax_grammar.specs.declared.token_kind.TokenKind.TheVariants.{KwNamespace, KwEntity, KwExternal, KwIn, KwType, KwSet, KwAppliesTo, KwPrincipal, KwAction, KwResource, KwContext, KwTags, KwEnum, Identifier, StringLit, At, Comma, Semi, Colon, PathSep, LParen, RParen, LBrace, RBrace, LBracket, RBracket, Less, Greater, Question, Equals}
+
+-- a letter or `_`
+abbrev pub is_word_start : ℕ → Bool
+is_word_start b = is_ascii_alphabetic b || b == 95
+
+-- a letter, a digit or `_`
+abbrev pub is_word_part : ℕ → Bool
+is_word_part b = is_ascii_alphanumeric b || b == 95
+
+-- `[_a-zA-Z][_a-zA-Z0-9]*`
+abbrev pub IsWord : List ℕ → Type 0
+IsWord [] = ⊥
+IsWord (b ∷ bs) = (is_word_start b ≡ true) × AllPass is_word_part bs
+
+-- thirteen words have kinds of their own
+abbrev pub word_kind : List ℕ → TokenKind
+word_kind w =
+    if bytes_eq w (codes "namespace") then KwNamespace
+    else (if bytes_eq w (codes "entity") then KwEntity
+    else (if bytes_eq w (codes "external") then KwExternal
+    else (if bytes_eq w (codes "in") then KwIn
+    else (if bytes_eq w (codes "type") then KwType
+    else (if bytes_eq w (codes "Set") then KwSet
+    else (if bytes_eq w (codes "appliesTo") then KwAppliesTo
+    else (if bytes_eq w (codes "principal") then KwPrincipal
+    else (if bytes_eq w (codes "action") then KwAction
+    else (if bytes_eq w (codes "resource") then KwResource
+    else (if bytes_eq w (codes "context") then KwContext
+    else (if bytes_eq w (codes "tags") then KwTags
+    else (if bytes_eq w (codes "enum") then KwEnum
+    else Identifier))))))))))))
+
+-- the marks of one byte: `@ , ; : ( ) { } [ ] < > ? =`
+abbrev pub single_mark : ℕ → Option TokenKind
+single_mark b =
+    if b == 64 then Some At
+    else (if b == 44 then Some Comma
+    else (if b == 59 then Some Semi
+    else (if b == 58 then Some Colon
+    else (if b == 40 then Some LParen
+    else (if b == 41 then Some RParen
+    else (if b == 123 then Some LBrace
+    else (if b == 125 then Some RBrace
+    else (if b == 91 then Some LBracket
+    else (if b == 93 then Some RBracket
+    else (if b == 60 then Some Less
+    else (if b == 62 then Some Greater
+    else (if b == 63 then Some Question
+    else (if b == 61 then Some Equals
+    else None)))))))))))))
+
+-- a mark: one of those, or `::`
+abbrev pub mark_kind : List ℕ → Option TokenKind
+mark_kind [] = None
+mark_kind (b ∷ []) = single_mark b
+mark_kind (b ∷ c ∷ []) = if b == 58 && c == 58 then Some PathSep else None
+mark_kind (b ∷ c ∷ d ∷ bs) = None
+
+-- neither `"` nor `\`
+abbrev pub IsPlain : ℕ → Type 0
+IsPlain b = (b ≢ 34) × (b ≢ 92)
+
+-- pieces: a plain one, or `\` and one other than LF
+abbrev pub IsBody : List ℕ → Type 0
+IsBody [] = Unit {0}
+IsBody (b ∷ []) = IsPlain b
+IsBody (b ∷ c ∷ bs) = (IsPlain b × IsBody (c ∷ bs)) ⊎ ((b ≡ 92) × (c ≢ 10) × IsBody bs)
+
+-- these bytes begin with no body and a quote
+abbrev pub NoBody : List ℕ → Type 0
+NoBody rest = (body after : List ℕ) → IsBody body → rest ≡ body ++ 34 ∷ after → ⊥
+
+-- the first n bytes are a body, and then a quote comes
+pub record IsBodyEnd (rest : List ℕ) (n : ℕ) : Type 0 where
+  pub in_range : n < length rest
+  pub body : IsBody (take n rest)
+  pub quote : slice_index rest n ≡ 34
+
+-- `"`, pieces, `"`
+abbrev pub IsString : List ℕ → Type 0
+IsString w = (body : List ℕ) × IsBody body × (w ≡ 34 ∷ (body ++ 34 ∷ []))
+
+-- w is a token of this kind
+abbrev pub IsForm : List ℕ → TokenKind → Type 0
+IsForm w k = (IsWord w × (k ≡ word_kind w)) ⊎ ((mark_kind w ≡ Some k) ⊎ (IsString w × (k ≡ StringLit)))

@@ -1,0 +1,6 @@
+pub mod Escapes
+pub mod Forms
+pub mod Laid
+pub mod Quotes
+pub mod Scans
+pub mod Steps

@@ -1,0 +1,76 @@
+ghost use Rattle.std.specs.Prelude.{◌≡◌};
+ghost use Rattle.std.specs.List.{prefix_len};
+ghost use Rattle.schema_syntax_tokens.specs.Forms.{is_word_start, is_word_part, word_kind, single_mark};
+
+use schema_syntax_grammar::TokenKind;
+
+/// Whether a word may begin with this byte.
+pub(crate) fn is_word_start(byte: u8) -> bool
+    ensures { result ≡ is_word_start byte }
+{
+    byte.is_ascii_alphabetic() || byte == b'_'
+}
+
+/// Whether this byte may stand in a word.
+pub(crate) fn is_word_part(byte: u8) -> bool
+    ensures { result ≡ is_word_part byte }
+{
+    byte.is_ascii_alphanumeric() || byte == b'_'
+}
+
+/// How many bytes stand before the first that is no part of a word.
+pub(crate) fn word_len(rest: &[u8]) -> usize
+    ensures { result ≡ prefix_len is_word_part rest.now }
+{
+    for (at, byte) in rest.iter().enumerate() {
+        if !is_word_part(*byte) {
+            return at;
+        }
+    }
+    rest.len()
+}
+
+/// The kind of the word.
+pub(crate) fn word_kind(word: &str) -> TokenKind
+    ensures { result ≡ word_kind word.now }
+{
+    match word {
+        "namespace" => TokenKind::KwNamespace,
+        "entity" => TokenKind::KwEntity,
+        "external" => TokenKind::KwExternal,
+        "in" => TokenKind::KwIn,
+        "type" => TokenKind::KwType,
+        "Set" => TokenKind::KwSet,
+        "appliesTo" => TokenKind::KwAppliesTo,
+        "principal" => TokenKind::KwPrincipal,
+        "action" => TokenKind::KwAction,
+        "resource" => TokenKind::KwResource,
+        "context" => TokenKind::KwContext,
+        "tags" => TokenKind::KwTags,
+        "enum" => TokenKind::KwEnum,
+        _ => TokenKind::Identifier,
+    }
+}
+
+/// The kind of the mark that this byte is alone.
+pub(crate) fn single_mark(byte: u8) -> Option<TokenKind>
+    ensures { result ≡ single_mark byte }
+{
+    match byte {
+        b'@' => Some(TokenKind::At),
+        b',' => Some(TokenKind::Comma),
+        b';' => Some(TokenKind::Semi),
+        b':' => Some(TokenKind::Colon),
+        b'(' => Some(TokenKind::LParen),
+        b')' => Some(TokenKind::RParen),
+        b'{' => Some(TokenKind::LBrace),
+        b'}' => Some(TokenKind::RBrace),
+        b'[' => Some(TokenKind::LBracket),
+        b']' => Some(TokenKind::RBracket),
+        b'<' => Some(TokenKind::Less),
+        b'>' => Some(TokenKind::Greater),
+        b'?' => Some(TokenKind::Question),
+        b'=' => Some(TokenKind::Equals),
+        _ => None,
+    }
+}

@@ -1,0 +1,9 @@
+-- The words of what an action may be applied to.
+use Rattle.std.specs.Prelude.{ℕ, List, codes}
+use Rattle.schema_syntax_tree.specs.declared.pr.PR.{PR}
+use Rattle.schema_syntax_tree.specs.declared.pr.PR.TheVariants.{Principal, Resource}
+
+-- the word for it in a schema text
+abbrev pub pr_text : PR → List ℕ
+pr_text Principal = codes "principal"
+pr_text Resource = codes "resource"

@@ -1,0 +1,80 @@
+ghost use Rattle.std.specs.Prelude.{◌≡◌, IfOk};
+ghost use Rattle.schema_syntax_tree.specs.DeclaredNames.{action_names};
+
+use crate::app_decl::AppDecl;
+use crate::decl::Decl;
+use crate::qual_name::QualName;
+use cedar_data::{CloneIn, Node, NonEmpty, Text};
+use std::alloc::{AllocError, Global};
+
+/// The declaration of one or more actions that are alike but for their names.
+#[derive(Drop)]
+pub enum ActionDecl {
+    Defined(DefinedActionDecl),
+    External(ExternalActionDecl),
+}
+
+/// Actions with their parents and what they are applied to, where these were written.
+#[derive(Drop)]
+pub struct DefinedActionDecl {
+    pub names: NonEmpty<Node<Text>>,
+    pub parents: Option<NonEmpty<Node<QualName>>>,
+    pub app_decls: Option<Node<NonEmpty<Node<AppDecl>>>>,
+}
+
+/// Actions that another schema declares, with the ancestors that are known.
+#[derive(Drop)]
+pub struct ExternalActionDecl {
+    pub names: NonEmpty<Node<Text>>,
+    pub parents: Option<NonEmpty<Node<QualName>>>,
+}
+
+impl Decl for ActionDecl {
+    ghost declared = { action_names };
+
+    fn names(&self, alloc: Global) -> Result<Vec<Node<Text>>, AllocError> {
+        match self {
+            ActionDecl::Defined(defined) => copied(&defined.names, alloc),
+            ActionDecl::External(external) => copied(&external.names, alloc),
+        }
+    }
+}
+
+// Copies of the names, in order.
+fn copied(names: &NonEmpty<Node<Text>>, alloc: Global) -> Result<Vec<Node<Text>>, AllocError>
+    ensures { IfOk result (λ copy. copy.items ≡ names.now) }
+{
+    let mut copy = Vec::new(alloc);
+    for name in names.iter() {
+        copy.push(name.clone_in(alloc)?)?;
+    }
+    Ok(copy)
+}
+
+impl CloneIn for ActionDecl {
+    fn clone_in(&self, alloc: Global) -> Result<Self, AllocError> {
+        match self {
+            ActionDecl::Defined(defined) => Ok(ActionDecl::Defined(defined.clone_in(alloc)?)),
+            ActionDecl::External(external) => Ok(ActionDecl::External(external.clone_in(alloc)?)),
+        }
+    }
+}
+
+impl CloneIn for DefinedActionDecl {
+    fn clone_in(&self, alloc: Global) -> Result<Self, AllocError> {
+        Ok(DefinedActionDecl {
+            names: self.names.clone_in(alloc)?,
+            parents: self.parents.clone_in(alloc)?,
+            app_decls: self.app_decls.clone_in(alloc)?,
+        })
+    }
+}
+
+impl CloneIn for ExternalActionDecl {
+    fn clone_in(&self, alloc: Global) -> Result<Self, AllocError> {
+        Ok(ExternalActionDecl {
+            names: self.names.clone_in(alloc)?,
+            parents: self.parents.clone_in(alloc)?,
+        })
+    }
+}

@@ -1,0 +1,28 @@
+ghost use Rattle.std.specs.Prelude.{◌≡◌, ◌↔◌, true};
+ghost use Rattle.std.specs.Cmp.{IsEquivalence, IsTotalOrder};
+ghost use Rattle.std.specs.Cmp.Lexicographic.{slice_cmp};
+ghost use Rattle.std.specs.Ordering.{eq_by_cmp};
+ghost use Rattle.cedar_data.specs.Text.{text_cmp};
+ghost use Rattle.cedar_identifiers.specs.Names.{texts_of};
+ghost use Rattle.schema_syntax_tree.specs.declared.annotated.Annotated.{Annotated as Beside};
+
+use crate::annotated::Annotated;
+use crate::path::Path;
+use cedar_data::lawful;
+use std::hash::Hash;
+
+/// Paths are ordered by their ids, the outermost first and each by bytes; their places are not seen.
+pub fn paths_go_by_ids(a: &Path, b: &Path)
+    ensures order { ⟦<Path as Ord>⟧.cmp a.now b.now ≡ slice_cmp text_cmp (texts_of a.now.ids) (texts_of b.now.ids) }
+    ensures equal { ⟦<Path as PartialEq>⟧.eq a.now b.now ≡ true ↔ (texts_of a.now.ids ≡ texts_of b.now.ids) }
+{}
+
+/// Comparisons of annotated items are lawful for every lawful type of items.
+pub fn annotated_items_are_lawful<T: Ord + Hash>()
+    ensures equivalence { IsEquivalence ⟦<Annotated<T> as PartialEq>⟧.eq }
+    ensures order { IsTotalOrder ⟦<Annotated<T> as Ord>⟧.cmp }
+    ensures agrees { (a b : Beside T) → ⟦<Annotated<T> as PartialEq>⟧.eq a b ≡ eq_by_cmp ⟦<Annotated<T> as Ord>⟧.cmp a b }
+    ensures alike { (a b : Beside T) → ⟦<Annotated<T> as PartialEq>⟧.eq a b ≡ true → ⟦<Annotated<T> as Hash>⟧.hash_input a ≡ ⟦<Annotated<T> as Hash>⟧.hash_input b }
+{
+    lawful::<Annotated<T>>()
+}

@@ -1,0 +1,173 @@
+ghost use Rattle.std.specs.Prelude.{◌≡◌, [], ◌∷◌, ◌++◌, codes, IfOk};
+ghost use Rattle.std.specs.Option.{option_copied};
+ghost use Rattle.std.specs.Iterator.{YieldsFirst, YieldsFirstRef, item_count};
+ghost use Rattle.plain_syntax.specs.CanonicalText.{joined};
+ghost use Rattle.cedar_identifiers.specs.Names.{texts_of};
+ghost use Rattle.schema_syntax_tree.specs.Paths.{placed, ids_left, nodes_left, is_in_cedar};
+
+use cedar_data::{CloneIn, Loc, Node, NonEmpty, NonEmptyIter, Text};
+use cedar_identifiers::Id;
+use std::alloc::{AllocError, Global};
+use std::collections::VecDeque;
+use std::mem;
+
+/// The name of a namespace or a type as it was written: its ids, the outermost first, with a place that no comparison
+/// sees.
+#[derive(Drop)]
+#[derive_where(PartialEq, Eq, PartialOrd, Ord, Hash)]
+pub struct Path {
+    ids: NonEmpty<Id>,
+    #[derive_where(skip(EqHashOrd))]
+    loc: Option<Loc>,
+}
+
+impl Path {
+    /// The path of this one id, which takes no memory.
+    pub fn single(alloc: Global, basename: Id, loc: Option<Loc>) -> Path
+        ensures { result ≡ record { ids = basename ∷ []; loc = loc } }
+    {
+        Path {
+            ids: NonEmpty::new(alloc, basename),
+            loc,
+        }
+    }
+
+    /// The path with this last id, behind a namespace, at this place.
+    pub fn new(basename: Id, mut namespace: Vec<Id>, loc: Option<Loc>) -> Path
+        ensures { result ≡ record { ids = namespace.items ++ basename ∷ []; loc = loc } }
+    {
+        if namespace.is_empty() {
+            return Path {
+                ids: NonEmpty::from_parts(basename, namespace),
+                loc,
+            };
+        }
+        let first = mem::replace(&mut namespace[0], basename);
+        namespace.rotate_left(1);
+        Path {
+            ids: NonEmpty::from_parts(first, namespace),
+            loc,
+        }
+    }
+
+    /// The ids, the outermost first.
+    pub fn iter(&self) -> PathIter<'_>
+        ensures { ids_left result ≡ self.now.ids }
+    {
+        PathIter {
+            ids: self.ids.iter(),
+        }
+    }
+
+    /// The path's place.
+    pub fn loc(&self) -> Option<&Loc>
+        ensures { option_copied result ≡ self.now.loc }
+    {
+        self.loc.as_ref()
+    }
+
+    /// The ids, the outermost first, each with the path's place.
+    pub fn into_iter(self) -> PathIntoIter
+        ensures { nodes_left result ≡ placed self.loc self.ids }
+    {
+        let Path { ids, loc } = self;
+        let (first, others) = ids.into_parts();
+        PathIntoIter {
+            first: Some(first),
+            others: VecDeque::from_vec(others),
+            loc,
+        }
+    }
+
+    /// The namespace, and the last id.
+    pub fn split_last(self) -> (Vec<Id>, Id)
+        ensures { self.ids ≡ result.0.items ++ result.1 ∷ [] }
+    {
+        let Path { ids, loc: _ } = self;
+        let (first, mut others) = ids.into_parts();
+        if others.is_empty() {
+            return (others, first);
+        }
+        others.rotate_right(1);
+        let basename = mem::replace(&mut others[0], first);
+        (others, basename)
+    }
+
+    /// Whether the path has the namespace `__cedar`.
+    pub fn is_in_cedar(&self) -> bool
+        ensures { result ≡ is_in_cedar self.now.ids }
+    {
+        let mut ids = self.ids.iter();
+        match (ids.next(), ids.next(), ids.next()) {
+            (Some(namespace), Some(_), None) => namespace.as_str() == "__cedar",
+            _ => false,
+        }
+    }
+
+    /// The ids with `::` between two.
+    pub fn text(&self, alloc: Global) -> Result<Text, AllocError>
+        ensures { IfOk result (λ text. text ≡ joined (codes "::") (texts_of self.now.ids)) }
+    {
+        let mut ids = self.iter();
+        let Some(first) = ids.next() else {
+            return Ok(Text::new(alloc));
+        };
+        let mut text = first.text.clone_in(alloc)?;
+        for id in ids {
+            text.push_str("::")?;
+            text.push_text(&id.text)?;
+        }
+        Ok(text)
+    }
+}
+
+impl CloneIn for Path {
+    fn clone_in(&self, alloc: Global) -> Result<Self, AllocError> {
+        Ok(Path {
+            ids: self.ids.clone_in(alloc)?,
+            loc: self.loc,
+        })
+    }
+}
+
+/// The ids of a path, the outermost first.
+#[derive(Drop)]
+pub struct PathIter<'a> {
+    ids: NonEmptyIter<'a, Id>,
+}
+
+impl<'a> Iterator for PathIter<'a> {
+    type Item = &'a Id;
+
+    ghost next_gives = { YieldsFirstRef ids_left };
+
+    ghost remaining = { item_count ids_left };
+
+    fn next(&mut self) -> Option<&'a Id> {
+        self.ids.next()
+    }
+}
+
+/// The ids that a path had, the outermost first, each with the path's place.
+#[derive(Drop)]
+pub struct PathIntoIter {
+    first: Option<Id>,
+    others: VecDeque<Id>,
+    loc: Option<Loc>,
+}
+
+impl Iterator for PathIntoIter {
+    type Item = Node<Id>;
+
+    ghost next_gives = { YieldsFirst nodes_left };
+
+    ghost remaining = { item_count nodes_left };
+
+    fn next(&mut self) -> Option<Node<Id>> {
+        let id = match self.first.take() {
+            Some(first) => first,
+            None => self.others.pop_front()?,
+        };
+        Some(Node::with_maybe_source_loc(id, self.loc))
+    }
+}

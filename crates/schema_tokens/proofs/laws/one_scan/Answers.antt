@@ -1,5 +1,0 @@
-use Rattle.schema_tokens.proofs.Unique.{one_scan}
-use Rattle.schema_tokens.proofs.laws.one_scan.Goals as goal
-
-pub returns : goal.returns
-returns c = one_scan

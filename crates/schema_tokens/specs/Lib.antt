@@ -1,5 +1,0 @@
-pub mod Escapes
-pub mod Forms
-pub mod Quotes
-pub mod Scans
-pub mod Steps
