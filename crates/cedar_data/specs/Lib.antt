@@ -3,6 +3,8 @@ pub mod Fed
 pub mod Halving
 pub mod Maps
 pub mod NonEmpty
+pub mod Rows
 pub mod Span
 pub mod Text
+pub mod Words
 pub mod formers

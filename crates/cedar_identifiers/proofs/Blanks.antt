@@ -8,7 +8,8 @@ use Rattle.std.proofs.lemmas.List.Sums.{prefix_len-le-length, prefix_len_stops}
 use Rattle.std.proofs.lemmas.Str.{encodes-chars, IsUtf8-past_char, chars_past_char, IsCharBoundary-before_ascii, IsCharBoundary-end, IsUtf8-drop, length-encode, len_utf8_bounds}
 use Rattle.std.proofs.lemmas.Bool.{cases_lt}
 use Rattle.std.proofs.lemmas.Bool.Decides.{nat_tests}
-use Rattle.cedar_identifiers.specs.NamePieces.{space_len, starts_twice, is_in_line, blank_len, Begins, here, blank, piece}
+use Rattle.cedar_identifiers.specs.NamePieces.{space_len, starts_twice, blank_len, Begins, here, blank, piece}
+use Rattle.cedar_data.specs.Words.{is_in_line}
 
 -- a character with White_Space at the front is a blank
 pub space_from_char : (text rest : List ℕ) (c : ℕ) → IsUtf8 text → text ≡ encode_utf8 c ++ rest → is_whitespace c ≡ true

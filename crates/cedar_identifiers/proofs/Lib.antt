@@ -1,4 +1,4 @@
-mod Ascii
+mod Ids
 mod Blanks
 mod Components
 mod Cut

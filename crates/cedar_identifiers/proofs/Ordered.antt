@@ -8,10 +8,11 @@ use Rattle.std.specs.Str.{bytes_eq, encode_utf8_all}
 use Rattle.std.proofs.lemmas.Slice.Eq.{bytes_eq-Decides}
 use Rattle.std.proofs.lemmas.Bool.{and_from}
 use Rattle.cedar_data.specs.Text.{text_cmp}
-use Rattle.cedar_identifiers.specs.Words.{is_word}
+use Rattle.cedar_data.specs.Words.{is_word}
 use Rattle.cedar_identifiers.specs.Names.{texts_of}
 use Rattle.cedar_identifiers.specs.declared.id.Id.{Id}
-use Rattle.cedar_identifiers.proofs.Ascii.{word_bytes, id_is_word}
+use Rattle.cedar_identifiers.proofs.Ids.{id_is_word}
+use Rattle.cedar_data.proofs.Ascii.{word_bytes}
 
 -- the same bytes
 abbrev pub same : List ℕ → List ℕ → Bool

@@ -6,7 +6,7 @@ use Rattle.std.specs.Char.{is_ascii_digit}
 use Rattle.std.proofs.lemmas.List.Sums.{prefix_len-le-length, prefix_len_passes}
 use Rattle.std.proofs.lemmas.Str.{IsCharBoundary-after_ascii, chars-IsAscii}
 use Rattle.std.proofs.lemmas.Bool.Decides.{nat_tests}
-use Rattle.cedar_identifiers.specs.Words.{is_word_start, is_word_part}
+use Rattle.cedar_data.specs.Words.{is_word_start, is_word_part}
 use Rattle.cedar_identifiers.specs.NamePieces.{starts_twice, is_mark, blank_len, piece_len, Begins, here, piece}
 use Rattle.cedar_identifiers.proofs.Blanks.{Begins-append}
 use Rattle.std.specs.Cmp.{first_so, second_so}

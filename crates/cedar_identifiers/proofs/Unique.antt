@@ -3,7 +3,7 @@ use Rattle.std.proofs.Common.{◌≡◌, ◌≢◌, ℕ, Bool, true, false, cond
 use Rattle.std.specs.List.{All}
 use Rattle.std.specs.Option.{option_and_then}
 use Rattle.std.proofs.lemmas.List.Elements.{All-head, All-tail}
-use Rattle.plain_syntax.specs.CanonicalText.{joined}
+use Rattle.cedar_data.specs.Rows.{joined_by}
 use Rattle.cedar_identifiers.specs.NamePieces.{Begins, NothingStands}
 use Rattle.cedar_identifiers.specs.NameReading.{is_single, refuses, due_next, due_behind, separated, HasWords, ReadsAs, NameFaultOf}
 use Rattle.cedar_identifiers.specs.OneReading.{OneName, NoFault, OneFault}
@@ -101,7 +101,7 @@ no_fault text kind w Invalid r f = let e = sym (faults_end kind text Invalid (λ
 no_fault text kind w (Token t) r f = let e = sym (faults_end kind text (Token t) (λ x. cc) f) ∙ (words_over kind text w r.has).1 in cc
 no_fault text kind w End r f = let e = sym (faults_end kind text End (λ x. cc) f) ∙ (words_over kind text w r.has).1 in cc
 no_fault text kind w (Reserved x) r (ws, h, e) = let same = one_words kind text w ws r.has h in let k : find (refuses kind) ws ≡ None = subst (λ (y : List (List ℕ)). find (refuses kind) y ≡ None) same r.allowed in cc
-no_fault text kind w NotNormalized r (ws, h, e, n) = let same = one_words kind text w ws r.has h in absurd (n (r.normal ∙ ap (joined (codes "::")) same))
+no_fault text kind w NotNormalized r (ws, h, e, n) = let same = one_words kind text w ws r.has h in absurd (n (r.normal ∙ ap (joined_by (codes "::")) same))
 
 same_end : (kind : NameKind) (text : List ℕ) (f g : NameFault) → f ≢ Memory → g ≢ Memory → NameFaultOf kind text f → NameFaultOf kind text g → outcome f ≡ outcome g
 same_end kind text f g m n h k = sym (faults_end kind text f m h) ∙ faults_end kind text g n k

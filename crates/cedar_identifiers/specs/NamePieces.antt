@@ -3,7 +3,7 @@ use Rattle.std.specs.Prelude.{◌≡◌, ◌≢◌, ℕ, ◌<◌, Bool, false, n
 use Rattle.std.specs.List.{list_any, prefix_len}
 use Rattle.std.specs.Str.{chars}
 use Rattle.std.specs.Char.{is_whitespace, encode_utf8, is_ascii_digit}
-use Rattle.cedar_identifiers.specs.Words.{is_word_start, is_word_part}
+use Rattle.cedar_data.specs.Words.{is_word_start, is_word_part, is_in_line}
 
 -- how many bytes the first of the characters has, if it is White_Space
 abbrev pub space_len : List ℕ → ℕ
@@ -15,10 +15,6 @@ abbrev pub starts_twice : ℕ → List ℕ → Bool
 starts_twice b [] = false
 starts_twice b (c ∷ []) = false
 starts_twice b (c ∷ d ∷ bs) = c == b && d == b
-
--- neither LF nor CR
-abbrev pub is_in_line : ℕ → Bool
-is_in_line b = not (b == 10 || b == 13)
 
 -- how many bytes the blank at the front has: `//` and all up to LF, CR or the end, or one character with White_Space
 unfoldable pub blank_len : List ℕ → ℕ

@@ -1,8 +1,9 @@
 -- How a text reads as a name, and what keeps it from being one.
 use Rattle.std.specs.Prelude.{◌≡◌, ◌≢◌, ℕ, Bool, true, false, ◌||◌, List, [], ◌∷◌, ◌++◌, Option, Some, None, option_and_then, codes, find, if◌then◌else◌}
 use Rattle.std.specs.Str.{bytes_eq}
-use Rattle.plain_syntax.specs.CanonicalText.{joined}
-use Rattle.cedar_identifiers.specs.Words.{is_word, is_reserved, is_cedar}
+use Rattle.cedar_data.specs.Rows.{joined_by}
+use Rattle.cedar_identifiers.specs.Words.{is_reserved, is_cedar}
+use Rattle.cedar_data.specs.Words.{is_word}
 use Rattle.cedar_identifiers.specs.NamePieces.{Begins, NothingStands}
 use Rattle.cedar_identifiers.specs.declared.name_kind.NameKind.{NameKind}
 use Rattle.cedar_identifiers.specs.declared.name_kind.NameKind.TheVariants.{AnyId, Id, UnreservedId, InternalName, Name}
@@ -51,7 +52,7 @@ pub record HasWords (kind : NameKind) (text : List ℕ) (words : List (List ℕ)
 pub record ReadsAs (kind : NameKind) (text : List ℕ) (words : List (List ℕ)) : Type 0 where
   pub has : HasWords kind text words
   pub allowed : find (refuses kind) words ≡ None
-  pub normal : text ≡ joined (codes "::") words
+  pub normal : text ≡ joined_by (codes "::") words
 
 -- What keeps a text from being a name. `Invalid` and `Token` are at the first place where no piece stands, or one that
 -- cannot stand behind the pieces before it; `End` is a word missing at the end. Then come the first word that the
@@ -64,5 +65,5 @@ NameFaultOf kind text (Token t) =
 NameFaultOf kind text End = (pieces : List (List ℕ)) × Begins text pieces [] × (due_behind (is_single kind) true pieces ≡ Some true)
 NameFaultOf kind text (Reserved w) = (words : List (List ℕ)) × HasWords kind text words × (find (refuses kind) words ≡ Some w)
 NameFaultOf kind text NotNormalized =
-    (words : List (List ℕ)) × HasWords kind text words × (find (refuses kind) words ≡ None) × (text ≢ joined (codes "::") words)
+    (words : List (List ℕ)) × HasWords kind text words × (find (refuses kind) words ≡ None) × (text ≢ joined_by (codes "::") words)
 NameFaultOf kind text Memory = Unit {0}

@@ -3,8 +3,9 @@ use Rattle.std.specs.Prelude.{◌≡◌, ℕ, Bool, true, false, not, ◌&&◌, 
 use Rattle.std.specs.List.{list_all}
 use Rattle.std.proofs.Common.{arith, ap, sym, ◌∙◌}
 use Rattle.std.proofs.lemmas.Bool.Decides.{nat_tests}
-use Rattle.plain_syntax.specs.CanonicalText.{joined}
-use Rattle.cedar_identifiers.specs.Words.{is_word_start, is_word_part, is_word, is_reserved, is_id}
+use Rattle.cedar_data.specs.Rows.{joined_by}
+use Rattle.cedar_identifiers.specs.Words.{is_reserved, is_id}
+use Rattle.cedar_data.specs.Words.{is_word_start, is_word_part, is_word}
 use Rattle.cedar_identifiers.specs.Names.{texts_of, components_of}
 use Rattle.cedar_identifiers.specs.declared.id.Id.{Id}
 use Rattle.cedar_identifiers.specs.declared.internal_name.InternalName.{InternalName}
@@ -47,16 +48,16 @@ cut_none [] r (d ∷ v) q e = grind (arith, nat_tests)
 cut_none (c ∷ w) r [] q e = cc
 cut_none (c ∷ w) r (d ∷ v) q e = cut_none w r v (grind (arith, nat_tests)) cc
 
-told_by : (i j : Id) (xs ys : List Id) → joined (codes "::") (texts_of (i ∷ xs)) ≡ joined (codes "::") (texts_of (j ∷ ys)) → texts_of (i ∷ xs) ≡ texts_of (j ∷ ys)
+told_by : (i j : Id) (xs ys : List Id) → joined_by (codes "::") (texts_of (i ∷ xs)) ≡ joined_by (codes "::") (texts_of (j ∷ ys)) → texts_of (i ∷ xs) ≡ texts_of (j ∷ ys)
 told_by i j [] [] e = ap (λ t. t ∷ []) e
 told_by i j [] (y ∷ ys) e = absurd (cut_none j.text _ i.text (no_colon_id i) (sym e))
 told_by i j (x ∷ xs) [] e = absurd (cut_none i.text _ j.text (no_colon_id j) e)
 told_by i j (x ∷ xs) (y ∷ ys) e =
     let both = cut_both i.text j.text _ _ (no_colon_id i) (no_colon_id j) e in
-    let rest : joined (codes "::") (texts_of (x ∷ xs)) ≡ joined (codes "::") (texts_of (y ∷ ys)) = cc in
+    let rest : joined_by (codes "::") (texts_of (x ∷ xs)) ≡ joined_by (codes "::") (texts_of (y ∷ ys)) = cc in
     let first : i.text ≡ j.text = both.0 in
     let below = told_by x y xs ys rest in
     cc
 
-pub told : (a b : InternalName) → joined (codes "::") (components_of a) ≡ joined (codes "::") (components_of b) → components_of a ≡ components_of b
+pub told : (a b : InternalName) → joined_by (codes "::") (components_of a) ≡ joined_by (codes "::") (components_of b) → components_of a ≡ components_of b
 told a b = told_by a.first b.first a.others b.others

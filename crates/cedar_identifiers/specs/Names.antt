@@ -1,7 +1,7 @@
 -- The components of a name, and its text.
 use Rattle.std.specs.Prelude.{ℕ, Bool, List, ◌∷◌, codes, map}
 use Rattle.std.specs.List.{list_any}
-use Rattle.plain_syntax.specs.CanonicalText.{joined}
+use Rattle.cedar_data.specs.Rows.{joined_by}
 use Rattle.cedar_identifiers.specs.Words.{is_cedar}
 use Rattle.cedar_identifiers.specs.declared.id.Id.{Id}
 use Rattle.cedar_identifiers.specs.declared.internal_name.InternalName.{InternalName}
@@ -15,7 +15,7 @@ components_of name = texts_of (name.first ∷ name.others)
 
 -- the components with `::` between two
 abbrev pub name_text : List (List ℕ) → List ℕ
-name_text components = joined (codes "::") components
+name_text components = joined_by (codes "::") components
 
 -- some component is `__cedar`
 abbrev pub has_cedar : List (List ℕ) → Bool

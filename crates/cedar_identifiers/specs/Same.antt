@@ -3,7 +3,8 @@ use Rattle.std.specs.Prelude.{◌≡◌, Bool, true, false}
 use Rattle.std.proofs.Math.Bool.{Bool-set}
 use Rattle.std.proofs.Common.{subst}
 use Rattle.cedar_data.specs.declared.text.Text.{Text}
-use Rattle.cedar_identifiers.specs.Words.{is_word, is_id, is_cedar}
+use Rattle.cedar_identifiers.specs.Words.{is_id, is_cedar}
+use Rattle.cedar_data.specs.Words.{is_word}
 use Rattle.cedar_identifiers.specs.Names.{components_of, has_cedar}
 use Rattle.cedar_identifiers.specs.declared.any_id.AnyId.{AnyId}
 use Rattle.cedar_identifiers.specs.declared.id.Id.{Id}

@@ -1,5 +1,5 @@
 ghost use Rattle.std.specs.Prelude.{◌≡◌, true};
-ghost use Rattle.cedar_identifiers.specs.Words.{is_word};
+ghost use Rattle.cedar_data.specs.Words.{is_word};
 
 use crate::name_fault::NameFault;
 use crate::name_kind::NameKind;

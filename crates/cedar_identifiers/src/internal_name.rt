@@ -10,6 +10,7 @@ use crate::id::Id;
 use crate::name_fault::NameFault;
 use crate::name_kind::NameKind;
 use crate::name_reader::read_name;
+use crate::reserved::is_cedar;
 use cedar_data::{CloneIn, List, Loc};
 use std::alloc::{AllocError, Global};
 use std::mem;
@@ -66,7 +67,7 @@ impl InternalName {
     pub fn has_cedar(&self) -> bool
         ensures { result ≡ has_cedar (components_of self.now) }
     {
-        if self.first.as_str() == "__cedar" {
+        if is_cedar(self.first.as_str()) {
             true
         } else {
             any_cedar(self.others.as_slice())
@@ -121,7 +122,7 @@ impl InternalName {
 fn any_cedar(ids: &[Id]) -> bool
     ensures { result ≡ list_any (λ i. is_cedar i.text) ids.now }
 {
-    ids.iter().any(|id| id.as_str() == "__cedar")
+    ids.iter().any(|id| is_cedar(id.as_str()))
 }
 
 impl CloneIn for InternalName {

@@ -16,6 +16,7 @@ mod name_reader;
 pub mod name_text;
 pub mod raw_name;
 pub mod reference_type;
+pub mod reserved;
 pub mod unreserved_id;
 
 pub use annotations::Annotations;
@@ -30,4 +31,5 @@ pub use name_kind::NameKind;
 pub use name_text::NameText;
 pub use raw_name::RawName;
 pub use reference_type::ReferenceType;
+pub use reserved::{is_cedar, is_reserved};
 pub use unreserved_id::UnreservedId;

@@ -3,7 +3,7 @@ ghost use Rattle.std.specs.Char.{is_ascii};
 ghost use Rattle.std.specs.Prelude.{◌≡◌, true, ◌++◌, [], Ok, None, IfOk, IsOkAnd};
 ghost use Rattle.cedar_identifiers.specs.FaultTexts.{name_fault_text};
 
-use cedar_data::{CloneIn, Text};
+use cedar_data::{CloneIn, Label, Severity, Text, around, message};
 use std::alloc::{AllocError, AllocFailed, Global};
 
 /// Why a text is no name: it ends where a word is due, a piece cannot stand where it does, no piece stands there, it has
@@ -53,26 +53,6 @@ impl NameFault {
     {
         Severity::Error
     }
-}
-
-// An ASCII text.
-fn message(alloc: Global, text: &str) -> Result<Text, AllocError>
-    requires { list_all is_ascii text.now ≡ true }
-    ensures { IfOk result (λ copy. copy ≡ text.now) }
-{
-    Text::from_str(alloc, text)
-}
-
-// The text between two ASCII texts.
-fn around(alloc: Global, before: &str, text: &Text, after: &str) -> Result<Text, AllocError>
-    requires before { list_all is_ascii before.now ≡ true }
-    requires after { list_all is_ascii after.now ≡ true }
-    ensures { IfOk result (λ whole. whole ≡ before.now ++ (text.now ++ after.now)) }
-{
-    let mut whole = message(alloc, before)?;
-    whole.push_text(text)?;
-    whole.push_str(after)?;
-    Ok(whole)
 }
 
 impl From<AllocError> for NameFault {

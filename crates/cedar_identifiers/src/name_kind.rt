@@ -4,6 +4,8 @@ ghost use Rattle.std.specs.Str.{bytes_eq};
 ghost use Rattle.cedar_identifiers.specs.Words.{is_reserved};
 ghost use Rattle.cedar_identifiers.specs.NameReading.{is_single, refuses};
 
+use crate::reserved::{is_cedar, is_reserved};
+
 /// What a text is read as.
 #[derive(Clone, Copy, PartialEq, Eq, Debug)]
 pub enum NameKind {
@@ -32,17 +34,7 @@ impl NameKind {
         match self {
             NameKind::AnyId => false,
             NameKind::Id | NameKind::InternalName => is_reserved(word),
-            NameKind::UnreservedId | NameKind::Name => is_reserved(word) || word == "__cedar",
+            NameKind::UnreservedId | NameKind::Name => is_reserved(word) || is_cedar(word),
         }
-    }
-}
-
-// Whether the word is one of the nine that are no names.
-fn is_reserved(word: &str) -> bool
-    ensures { result ≡ is_reserved word.now }
-{
-    match word {
-        "in" | "true" | "false" | "if" | "then" | "else" | "is" | "like" | "has" => true,
-        _ => false,
     }
 }

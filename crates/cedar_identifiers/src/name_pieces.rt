@@ -3,9 +3,11 @@ ghost use Rattle.std.specs.Prelude.{◌≡◌, ◌<◌, [], drop, MatchOption};
 ghost use Rattle.std.specs.List.{prefix_len};
 ghost use Rattle.std.specs.Str.{chars};
 ghost use Rattle.std.specs.Char.{is_ascii_digit};
-ghost use Rattle.cedar_identifiers.specs.Words.{is_word_start, is_word_part};
-ghost use Rattle.cedar_identifiers.specs.NamePieces.{space_len, starts_twice, is_in_line, is_mark, blank_len, piece_len, Begins};
+ghost use Rattle.cedar_data.specs.Words.{is_word_start, is_word_part, is_in_line};
+ghost use Rattle.cedar_identifiers.specs.NamePieces.{space_len, starts_twice, is_mark, blank_len, piece_len, Begins};
 ghost use Rattle.cedar_identifiers.specs.Fronts.{IsFront};
+
+use cedar_data::{is_word_start, word_len};
 
 // What stands at the front of a text, behind its blanks: nothing more, no piece, or a piece and what follows it.
 pub(crate) enum Front<'a> {
@@ -14,37 +16,11 @@ pub(crate) enum Front<'a> {
     Piece(&'a str, &'a str),
 }
 
-// A letter or `_`.
-pub(crate) fn is_word_start(byte: u8) -> bool
-    ensures { result ≡ is_word_start byte }
-{
-    byte.is_ascii_alphabetic() || byte == b'_'
-}
-
-// A letter, a digit or `_`.
-pub(crate) fn is_word_part(byte: u8) -> bool
-    ensures { result ≡ is_word_part byte }
-{
-    byte.is_ascii_alphanumeric() || byte == b'_'
-}
-
 // A piece of one character.
 fn is_mark(byte: u8) -> bool
     ensures { result ≡ is_mark byte }
 {
     b"!&()*+,-./:;<=>?@[]{|}".contains(&byte)
-}
-
-// How many bytes of a word stand at the front.
-fn word_len(bytes: &[u8]) -> usize
-    ensures { result ≡ prefix_len is_word_part bytes.now }
-{
-    for (i, byte) in bytes.iter().enumerate() {
-        if !is_word_part(*byte) {
-            return i;
-        }
-    }
-    bytes.len()
 }
 
 // How many digits stand at the front.

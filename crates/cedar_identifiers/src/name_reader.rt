@@ -2,8 +2,8 @@
 ghost use Rattle.std.specs.Prelude.{◌≡◌, ◌≢◌, [], ◌∷◌, Some, None, true, false, IfOk, IfErr, MatchOption, MatchResult, find, codes, if◌then◌else◌};
 ghost use Rattle.std.specs.List.{list_all};
 ghost use Rattle.std.specs.Str.{bytes_eq};
-ghost use Rattle.plain_syntax.specs.CanonicalText.{joined};
-ghost use Rattle.cedar_identifiers.specs.Words.{is_word, is_word_part};
+ghost use Rattle.cedar_data.specs.Rows.{joined_by};
+ghost use Rattle.cedar_data.specs.Words.{is_word, is_word_part};
 ghost use Rattle.cedar_identifiers.specs.Names.{components_of, texts_of};
 ghost use Rattle.cedar_identifiers.specs.NamePieces.{Begins};
 ghost use Rattle.cedar_identifiers.specs.Fronts.{StopsAt, IsRefusal, AreAllowed, word_texts};
@@ -15,9 +15,9 @@ use crate::id::Id;
 use crate::internal_name::InternalName;
 use crate::name_fault::NameFault;
 use crate::name_kind::NameKind;
-use crate::name_pieces::{Front, is_word_part, is_word_start, next_front};
+use crate::name_pieces::{Front, next_front};
 use crate::name_text::NameText;
-use cedar_data::{List, Text};
+use cedar_data::{List, Text, is_word};
 use std::alloc::{AllocError, Global};
 
 // Words, of which there is at least one.
@@ -25,23 +25,6 @@ use std::alloc::{AllocError, Global};
 struct Words {
     first: AnyId,
     others: Vec<AnyId>,
-}
-
-// Whether all are letters, digits and `_`.
-fn are_word_parts(bytes: &[u8]) -> bool
-    ensures { result ≡ list_all is_word_part bytes.now }
-{
-    bytes.iter().all(|byte| is_word_part(*byte))
-}
-
-// Whether the piece is a word.
-fn is_word(piece: &[u8]) -> bool
-    ensures { result ≡ is_word piece.now }
-{
-    match piece.split_first() {
-        Some((first, others)) => is_word_start(*first) && are_word_parts(others),
-        None => false,
-    }
 }
 
 // Whether the piece may stand behind a word.
@@ -65,7 +48,7 @@ fn word_at(alloc: Global, kind: NameKind, text: &str) -> Result<(AnyId, &str), N
         Front::Nothing => Err(NameFault::Invalid),
         Front::Piece(piece, rest) => {
             let text = Text::from_str(alloc, piece)?;
-            if is_word(piece.as_bytes()) {
+            if is_word(piece) {
                 Ok((AnyId { text }, rest))
             } else {
                 Err(NameFault::Token(text))
@@ -167,7 +150,7 @@ fn read_components(alloc: Global, kind: NameKind, text: &str) -> Result<Internal
 
 // Whether this is the name's text.
 fn is_text_of(alloc: Global, name: &InternalName, text: &str) -> Result<bool, AllocError>
-    ensures { IfOk result (λ same. same ≡ bytes_eq (joined (codes "::") (components_of name.now)) text.now) }
+    ensures { IfOk result (λ same. same ≡ bytes_eq (joined_by (codes "::") (components_of name.now)) text.now) }
 {
     let spelled = name.text(alloc)?;
     Ok(spelled.as_str() == text)

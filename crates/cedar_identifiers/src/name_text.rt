@@ -1,5 +1,5 @@
 ghost use Rattle.std.specs.Prelude.{◌≡◌, ◌↔◌, ℕ, Bool, List, IfOk, codes, true, false};
-ghost use Rattle.plain_syntax.specs.CanonicalText.{joined};
+ghost use Rattle.cedar_data.specs.Rows.{joined_by};
 ghost use Rattle.cedar_identifiers.specs.Names.{components_of};
 ghost use Rattle.cedar_identifiers.specs.NameTexts.{told};
 
@@ -21,15 +21,15 @@ pub trait NameText {
     ghost components: { Self → List (List ℕ) };
 
     fn text(&self, alloc: Global) -> Result<Text, AllocError>
-        ensures text { IfOk result (λ text. text ≡ joined (codes "::") (components self.now)) };
+        ensures text { IfOk result (λ text. text ≡ joined_by (codes "::") (components self.now)) };
 
     /// Names have the same text only where they have the same components.
-    ghost tells_apart: { (a b : Self) → joined (codes "::") (components a) ≡ joined (codes "::") (components b) → components a ≡ components b };
+    ghost tells_apart: { (a b : Self) → joined_by (codes "::") (components a) ≡ joined_by (codes "::") (components b) → components a ≡ components b };
 }
 
 /// Names have the same text exactly where they have the same components.
 pub fn texts_tell_names_apart<N: NameText>(a: &N, b: &N)
-    ensures { joined (codes "::") (N.components a.now) ≡ joined (codes "::") (N.components b.now) ↔ N.components a.now ≡ N.components b.now }
+    ensures { joined_by (codes "::") (N.components a.now) ≡ joined_by (codes "::") (N.components b.now) ↔ N.components a.now ≡ N.components b.now }
 {}
 
 impl NameText for InternalName {

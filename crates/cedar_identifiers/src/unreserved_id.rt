@@ -6,6 +6,7 @@ use crate::internal_name::InternalName;
 use crate::name_fault::NameFault;
 use crate::name_kind::NameKind;
 use crate::name_reader::read_name;
+use crate::reserved::is_cedar;
 use cedar_data::CloneIn;
 use std::alloc::{AllocError, Global};
 
@@ -34,7 +35,7 @@ impl UnreservedId {
     pub fn from_id(id: Id) -> Option<UnreservedId>
         ensures { MatchOption result (is_cedar id.text ≡ true) (λ unreserved. unreserved.id ≡ id) }
     {
-        if id.as_str() == "__cedar" {
+        if is_cedar(id.as_str()) {
             None
         } else {
             Some(UnreservedId { id })

@@ -11,7 +11,8 @@ use Rattle.std.proofs.lemmas.Slice.Eq.{bytes_eq-Decides}
 use Rattle.std.proofs.lemmas.Map.Text.{is_eq-slice_cmp}
 use Rattle.std.proofs.lemmas.Str.{encodes-IsAscii}
 use Rattle.cedar_data.specs.Text.{text_cmp}
-use Rattle.cedar_identifiers.specs.Words.{is_word, is_reserved}
+use Rattle.cedar_identifiers.specs.Words.{is_reserved}
+use Rattle.cedar_data.specs.Words.{is_word}
 use Rattle.cedar_identifiers.specs.Names.{components_of}
 use Rattle.cedar_identifiers.specs.declared.id.Id.{Id}
 use Rattle.cedar_identifiers.specs.declared.internal_name.InternalName.{InternalName}
@@ -21,7 +22,7 @@ use Rattle.std.specs.List.{list_any}
 use Rattle.std.specs.BTreeMap.{is_at}
 use Rattle.std.specs.BTreeSet.{insert_key}
 use Rattle.cedar_names.proofs.Found.{found, inserted, any_map, or_right}
-use Rattle.cedar_names.proofs.Members.{word_ascii}
+use Rattle.cedar_data.proofs.Ascii.{word_ascii}
 
 id_bytes : (n : Id) → encode_utf8_all n.text ≡ n.text
 id_bytes n = encodes-IsAscii n.text (word_ascii n.text (first_so (is_word n.text) (not (is_reserved n.text)) n.word))

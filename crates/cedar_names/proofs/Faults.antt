@@ -1,7 +1,8 @@
 -- What keeps a list of names from being a table, name by name.
 use Rattle.std.proofs.Common.{◌≡◌, ℕ, Bool, true, false, not, ◌||◌, List, [], take, get_or, Option, Some, None, if◌then◌else◌, refl, ap, ◌∙◌}
 use Rattle.std.specs.Option.{option_or}
-use Rattle.cedar_identifiers.specs.Words.{is_word, is_reserved, is_cedar}
+use Rattle.cedar_identifiers.specs.Words.{is_reserved, is_cedar}
+use Rattle.cedar_data.specs.Words.{is_word}
 use Rattle.cedar_names.specs.TableNames.{is_builtin, word_fault, repeats, fault_at}
 use Rattle.cedar_names.specs.declared.table_error.TableError.{TableError}
 use Rattle.cedar_names.specs.declared.table_error.TableError.TheVariants.{NotWord, Reserved, Builtin, Repeated}

@@ -16,30 +16,12 @@ use Rattle.std.proofs.lemmas.Bool.Decides.{nat_tests}
 use Rattle.std.proofs.lemmas.List.{get_or_default}
 use Rattle.std.proofs.lemmas.List.Folds.{list_any_at, list_any_none}
 use Rattle.std.proofs.lemmas.Str.{encodes-IsAscii}
-use Rattle.std.proofs.lemmas.Str.Ascii.{IsAscii-nil, IsAscii-cons}
-use Rattle.std.specs.Str.{IsAscii}
-use Rattle.std.specs.List.{list_all}
-use Rattle.std.specs.Cmp.{second_so}
 use Rattle.std.specs.Prelude.{not}
 use Rattle.cedar_data.specs.Text.{text_cmp}
-use Rattle.cedar_identifiers.specs.Words.{is_word, is_word_start, is_word_part, is_id, is_reserved}
+use Rattle.cedar_identifiers.specs.Words.{is_id, is_reserved}
+use Rattle.cedar_data.specs.Words.{is_word, is_word_start, is_word_part}
+use Rattle.cedar_data.proofs.Ascii.{word_ascii}
 use Rattle.cedar_identifiers.specs.declared.unreserved_id.UnreservedId.{UnreservedId}
-
-part_ascii : (b : ℕ) → is_word_part b ≡ true → b < 128
-part_ascii b h = grind (arith, nat_tests)
-
-start_part : (b : ℕ) → is_word_start b ≡ true → is_word_part b ≡ true
-start_part b h = grind (arith, nat_tests)
-
-parts_ascii : (bs : List ℕ) → list_all is_word_part bs ≡ true → IsAscii bs
-parts_ascii [] h = IsAscii-nil
-parts_ascii (b ∷ bs) h = IsAscii-cons b bs (part_ascii b (first_so (is_word_part b) (list_all is_word_part bs) h)) (parts_ascii bs (second_so (is_word_part b) (list_all is_word_part bs) h))
-
--- words are ASCII
-pub word_ascii : (w : List ℕ) → is_word w ≡ true → IsAscii w
-word_ascii [] h = IsAscii-nil
-word_ascii (b ∷ bs) h =
-    IsAscii-cons b bs (part_ascii b (start_part b (first_so (is_word_start b) (list_all is_word_part bs) h))) (parts_ascii bs (second_so (is_word_start b) (list_all is_word_part bs) h))
 
 id_bytes : (n : UnreservedId) → encode_utf8_all n.id.text ≡ n.id.text
 id_bytes n = encodes-IsAscii n.id.text (word_ascii n.id.text (first_so (is_word n.id.text) (not (is_reserved n.id.text)) n.id.word))

@@ -1,4 +1,4 @@
--- Schemas whose canonical texts are written out.
+-- Schemas whose texts are written out, as bytes.
 use Rattle.std.specs.Prelude.{ℕ, true, false, List, [], ◌∷◌, Some, None, codes}
 use Rattle.cedar_names.specs.Meaning.{PlainType, Attributes, no_more, attribute, EntityMeaning, SchemaMeaning}
 
@@ -23,7 +23,7 @@ nested_records = record {
 }
 
 abbrev pub nested_records_text : List ℕ
-nested_records_text = codes "namespace N {\n  entity Album in [N::Album, User] = {\n    owner: User,\n    x: {    },\n    \"zip code\"?: Set<__cedar::String>\n  };\n}\n"
+nested_records_text = codes "namespace N {\n  entity Album in [N::Album, User] = {\n    owner: User,\n    x: {    },\n    \"zip code\"?: Set<__cedar::String>,\n  };\n}\n"
 
 -- tags stand at no indentation
 abbrev pub record_tags : SchemaMeaning
@@ -33,7 +33,7 @@ record_tags = record {
 }
 
 abbrev pub record_tags_text : List ℕ
-record_tags_text = codes "namespace N {\n  entity A tags {\n  k: __cedar::Long\n};\n}\n"
+record_tags_text = codes "namespace N {\n  entity A tags {\n  k: __cedar::Long,\n};\n}\n"
 
 -- an enum, an external entity type, and actions behind them
 abbrev pub actions_last : SchemaMeaning
@@ -46,7 +46,45 @@ actions_last = record {
 
 abbrev pub actions_last_text : List ℕ
 actions_last_text = codes
+    "entity E enum [\"a\\'\", \"\\u{7f}\"];\n\nexternal entity User;\n\naction \"v\" in [Action::\"w\"] appliesTo {\n  principal: [User],\n  resource: [User],\n  context: {\n    \"in\": __cedar::ipaddr,\n  },\n};\n\nexternal action \"w\";\n\naction \"x\" appliesTo {\n  principal: [User],\n  resource: [User],\n  context: {},\n};\n"
+
+-- the same meaning with commas between members alone
+abbrev pub actions_last_first_layout : List ℕ
+actions_last_first_layout = codes
     "entity E enum [\"a\\'\", \"\\u{7f}\"];\n\nexternal entity User;\n\naction \"v\" in [Action::\"w\"] appliesTo {\n  principal: [User],\n  resource: [User],\n  context: {\n    \"in\": __cedar::ipaddr\n  }\n};\n\nexternal action \"w\";\n\naction \"x\" appliesTo {\n  principal: [User],\n  resource: [User],\n  context: {}\n};\n"
+
+-- an external entity type prints its name and its ancestors, whatever else it has
+abbrev pub external_with_more : SchemaMeaning
+external_with_more = record {
+  entities =
+      record (plain_entity (codes "A" ∷ []) (attribute (codes "x") true PlainType.Long no_more)) {
+        is_external = true;
+        ancestors = user ∷ [];
+        tags = Some PlainType.Bool;
+        choices = Some (codes "a" ∷ []);
+      }
+      ∷ [];
+  actions = [];
+}
+
+abbrev pub external_with_more_text : List ℕ
+external_with_more_text = codes "external entity A in [User];\n"
+
+-- an enum prints its name and its choices, whatever else it has
+abbrev pub enum_with_more : SchemaMeaning
+enum_with_more = record {
+  entities =
+      record (plain_entity (codes "A" ∷ []) (attribute (codes "x") true PlainType.Long no_more)) {
+        ancestors = user ∷ [];
+        tags = Some PlainType.Bool;
+        choices = Some (codes "a" ∷ []);
+      }
+      ∷ [];
+  actions = [];
+}
+
+abbrev pub enum_with_more_text : List ℕ
+enum_with_more_text = codes "entity A enum [\"a\"];\n"
 
 -- an entity type of each of three namespaces, of which one holds another
 abbrev pub three_namespaces : SchemaMeaning

@@ -3,7 +3,8 @@ use Rattle.std.specs.Prelude.{ℕ, Bool, not, ◌||◌, List, [], ◌∷◌, tak
 use Rattle.std.specs.List.{list_any}
 use Rattle.std.specs.Option.{option_or}
 use Rattle.std.specs.Str.{bytes_eq}
-use Rattle.cedar_identifiers.specs.Words.{is_word, is_reserved, is_cedar}
+use Rattle.cedar_identifiers.specs.Words.{is_reserved, is_cedar}
+use Rattle.cedar_data.specs.Words.{is_word}
 use Rattle.cedar_names.specs.declared.table_error.TableError.{TableError}
 use Rattle.cedar_names.specs.declared.table_error.TableError.TheVariants.{NotWord, Reserved, Builtin, Repeated}
 

@@ -1,55 +1,15 @@
 ghost use Rattle.std.specs.Prelude.{◌≡◌, ◌≢◌, ◌∷◌, ℕ, List, true, false, not, ◌||◌, Some, None, map, codes, IfOk, IfErr, OnOk};
 ghost use Rattle.std.specs.List.{list_any, list_all};
 ghost use Rattle.std.specs.Str.{bytes_eq};
-ghost use Rattle.cedar_identifiers.specs.Words.{is_word_start, is_word_part, is_word, is_reserved, is_cedar, is_id};
+ghost use Rattle.cedar_identifiers.specs.Words.{is_reserved, is_cedar, is_id};
+ghost use Rattle.cedar_data.specs.Words.{is_word_start, is_word_part, is_word};
 ghost use Rattle.cedar_names.specs.TableNames.{is_builtin, word_fault};
 
 use crate::table_error::TableError;
-use cedar_data::{Set, Text};
-use cedar_identifiers::{Id, UnreservedId};
+use cedar_data::{Set, Text, is_word};
+use cedar_identifiers::{Id, UnreservedId, is_cedar, is_reserved};
 use std::alloc::{AllocError, Global};
 use std::collections::BTreeSet;
-
-// Whether the text is a word.
-fn is_word(word: &str) -> bool
-    ensures { result ≡ is_word word.now }
-{
-    match word.as_bytes() {
-        [] => false,
-        [first, rest @ ..] => is_word_start(*first) && all_word_parts(rest),
-    }
-}
-
-// Whether each byte may stand in a word behind its first.
-fn all_word_parts(bytes: &[u8]) -> bool
-    ensures { result ≡ list_all is_word_part bytes.now }
-{
-    bytes.iter().all(|byte| is_word_part(*byte))
-}
-
-fn is_word_start(byte: u8) -> bool
-    ensures { result ≡ is_word_start byte }
-{
-    byte.is_ascii_alphabetic() || byte == b'_'
-}
-
-fn is_word_part(byte: u8) -> bool
-    ensures { result ≡ is_word_part byte }
-{
-    byte.is_ascii_alphanumeric() || byte == b'_'
-}
-
-// Whether no declared name may have the word.
-fn is_reserved(word: &str) -> bool
-    ensures { result ≡ (is_reserved word.now || is_cedar word.now) }
-{
-    match word {
-        "in" | "true" | "false" | "if" | "then" | "else" | "is" | "like" | "has" | "__cedar" => {
-            true
-        }
-        _ => false,
-    }
-}
 
 // Whether every schema has something of this name.
 fn is_builtin(word: &str) -> bool
@@ -69,7 +29,7 @@ pub(crate) fn lawful_name(alloc: Global, at: usize, name: &str) -> Result<Unrese
     if !is_word(name) {
         return Err(TableError::NotWord(at));
     }
-    if is_reserved(name) {
+    if is_reserved(name) || is_cedar(name) {
         return Err(TableError::Reserved(at));
     }
     if is_builtin(name) {

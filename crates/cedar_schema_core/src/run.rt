@@ -17,7 +17,7 @@ use crate::recover::{RecoverError, recover_schema};
 use crate::reply::Reply;
 use crate::status::Status;
 use cedar_data::Text;
-use cedar_io::{Sink, Source};
+use cedar_io::{ReadEnd, Sink, Source, read_input, write_text};
 use std::alloc::{AllocError, Global};
 
 const USAGE: &str = "usage: cedar_schema_tool COMMAND [NAME..]\n";

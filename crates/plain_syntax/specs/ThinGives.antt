@@ -4,7 +4,7 @@ use Rattle.plain_syntax.specs.declared.thin_parser.ThinFault.{ThinFault}
 use Rattle.plain_syntax.specs.declared.thin_parser.ThinFault.TheVariants.{NotBuilt, Memory}
 use Rattle.plain_syntax.specs.declared.thin_parser.Turn.{Turn}
 use Rattle.plain_syntax.specs.declared.thin_parser.Turn.TheVariants as code
-use Rattle.schema_syntax.specs.ThinReading as Reading
+use Rattle.plain_syntax.specs.ThinReading as Reading
 use Rattle.plain_syntax.specs.ThinReading.{Closes, Last, More, tokens_of}
 
 -- The fault is that nothing was read, or that memory ran out.

@@ -3,7 +3,7 @@ use Rattle.std.specs.Prelude.{ℕ, Bool, List, [], ◌∷◌, Option, Some, None
 use Rattle.std.specs.List.{filter_map, flat_map, list_any}
 use Rattle.std.specs.Option.{option_map, option_or, option_to_list}
 use Rattle.cedar_data.specs.declared.node.Node.{Node}
-use Rattle.plain_syntax.specs.CanonicalText.{joined as spelled}
+use Rattle.cedar_data.specs.Rows.{joined_by}
 use Rattle.cedar_identifiers.specs.Names.{texts_of}
 use Rattle.cedar_identifiers.specs.Words.{is_cedar}
 use Rattle.cedar_identifiers.specs.declared.id.Id.{Id}
@@ -24,7 +24,7 @@ use Rattle.schema_convert.specs.Repeats.{first_repeat}
 
 -- the ids with `::` between two
 abbrev pub path_text : Path → List ℕ
-path_text path = spelled (codes "::") (texts_of path.ids)
+path_text path = joined_by (codes "::") (texts_of path.ids)
 
 -- a name is reserved where an id in it is `__cedar`
 abbrev pub is_reserved_path : Path → Bool

@@ -8,7 +8,7 @@ use crate::members::block_fault;
 use crate::names_in::{actions_in, commons_in, entities_in, paths_in};
 use crate::repeats::first_repeat;
 use cedar_data::{CloneIn, Node, NonEmpty, Text};
-use cedar_identifiers::Id;
+use cedar_identifiers::{Id, is_cedar};
 use schema_convert_errors::{
     DuplicateDeclarations, DuplicateNamespace, ReservedName, ReservedSchemaKeyword,
     ToJsonSchemaError,
@@ -21,7 +21,7 @@ fn is_reserved_path(path: &Path) -> bool
     ensures { result ≡ is_reserved_path path.now }
 {
     for id in path.iter() {
-        if id.as_str() == "__cedar" {
+        if is_cedar(id.as_str()) {
             return true;
         }
     }
@@ -190,7 +190,7 @@ fn only(alloc: Global, fault: ToJsonSchemaError) -> Result<Vec<ToJsonSchemaError
 fn reserved_id(alloc: Global, id: &Node<Id>) -> Result<Option<ToJsonSchemaError>, AllocError>
     ensures { IfOk result (λ fault. fault ≡ reserved_id id.now) }
 {
-    if id.node.as_str() != "__cedar" {
+    if !is_cedar(id.node.as_str()) {
         return Ok(None);
     }
     let fault = ReservedName {

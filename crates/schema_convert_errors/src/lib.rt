@@ -4,7 +4,6 @@
 pub mod error_list;
 pub mod errors;
 pub mod laws;
-mod message;
 pub mod warnings;
 
 pub use error_list::{CedarSchemaParseErrors, ToJsonSchemaErrors, ToJsonSchemaFailure};

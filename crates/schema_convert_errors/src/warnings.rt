@@ -1,8 +1,7 @@
 ghost use Rattle.std.specs.Prelude.{◌≡◌, ◌++◌, Ok, None, IfOk, OnOk};
 ghost use Rattle.schema_convert_errors.specs.WarningTexts.{builtin_text, entity_text, warning_text, bare, builtin_labels, entity_labels, warning_labels};
 
-use crate::message::{message, push_both};
-use cedar_data::{CloneIn, Label, Loc, Severity, Text};
+use cedar_data::{CloneIn, Label, Loc, Severity, Text, message, push_both};
 use std::alloc::{AllocError, Global};
 
 /// A declared type that is named like a builtin one, with the place of its name.

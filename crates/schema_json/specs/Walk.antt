@@ -6,9 +6,9 @@ use Rattle.schema_json.specs.declared.types.RecordType.{RecordType, RecordType-F
 use Rattle.schema_json.specs.declared.types.TypeOfAttribute.{TypeOfAttribute, TypeOfAttribute-F, fold-TypeOfAttribute}
 
 -- lists, one after another
-abbrev pub joined : {A : Type 0} → List (List A) → List A
-joined [] = []
-joined (xs ∷ xss) = xs ++ joined xss
+abbrev pub concat : {A : Type 0} → List (List A) → List A
+concat [] = []
+concat (xs ∷ xss) = xs ++ concat xss
 
 -- whether one of two is an extension type, where both can be told
 abbrev pub either : Option Bool → Option Bool → Option Bool
@@ -32,7 +32,7 @@ module _ {N : Type 0} where
   variant_refs _ = []
 
   abbrev pub record_refs : RecordType-F N (List N) (List N) (List N) (List N) → List N
-  record_refs r = joined (map (λ p. p.1) r.attributes)
+  record_refs r = concat (map (λ p. p.1) r.attributes)
 
   abbrev pub attribute_refs : TypeOfAttribute-F N (List N) (List N) (List N) (List N) → List N
   attribute_refs a = a.ty
@@ -52,7 +52,7 @@ module _ {N : Type 0} where
 
   -- the same of a record's entries
   abbrev pub entry_references : List (List ℕ × TypeOfAttribute N) → List N
-  entry_references entries = joined (map (λ p. attribute_references p.1) entries)
+  entry_references entries = concat (map (λ p. attribute_references p.1) entries)
 
   abbrev pub type_answer : Type-F N (Option Bool) (Option Bool) (Option Bool) (Option Bool) → Option Bool
   type_answer (Type-F.Variant ty loc) = ty

@@ -2,7 +2,7 @@
 use Rattle.std.proofs.Common.{◌≡◌, ℕ, List, Option, ap, sym, ◌∙◌, refl, map, [], ◌∷◌}
 use Rattle.cedar_data.specs.declared.loc.Loc.{Loc}
 use Rattle.cedar_identifiers.specs.declared.reference_type.ReferenceType.{ReferenceType}
-use Rattle.schema_json.specs.Walk.{joined}
+use Rattle.schema_json.specs.Walk.{concat}
 use Rattle.schema_json.specs.declared.types.Type.{«Type», Type-F, roll-Type}
 use Rattle.schema_json.specs.declared.types.Type.TheVariants.{Variant, rolls-Variant}
 use Rattle.schema_json.specs.declared.types.TypeVariant.{TypeVariant-F, fold-roll-TypeVariant}
@@ -27,7 +27,7 @@ values_made f (p ∷ ps) = ap (λ made. f p.1 ∷ made) (values_made f ps)
 
 module _ {N U : Type 0} (u : ReferenceType → N → List U) where
   pub record_walked : (r : RecordType N) → of_record u r ≡ of_entries u (out-RecordType N r).attributes
-  record_walked r = fold_out-RecordType N (List U) (List U) (List U) (List U) (type_part u) (variant_part u) (record_part u) (attribute_part u) r ∙ ap joined (values_made (of_attribute u) (out-RecordType N r).attributes)
+  record_walked r = fold_out-RecordType N (List U) (List U) (List U) (List U) (type_part u) (variant_part u) (record_part u) (attribute_part u) r ∙ ap concat (values_made (of_attribute u) (out-RecordType N r).attributes)
 
   pub variant_walked : (r : RecordType N) → of_variant u (Record r) ≡ of_record u r
   variant_walked r = ap (of_variant u) (sym (rolls-Record r)) ∙ fold-roll-TypeVariant N (List U) (List U) (List U) (List U) (type_part u) (variant_part u) (record_part u) (attribute_part u) (TypeVariant-F.Record r)

@@ -7,7 +7,7 @@ use Rattle.cedar_identifiers.specs.declared.name_text.NameText as named
 use Rattle.cedar_identifiers.specs.declared.reference_type.ReferenceType.{ReferenceType}
 use Rattle.cedar_identifiers.specs.declared.reference_type.ReferenceType.TheVariants.{Common, Entity, CommonOrEntity}
 use Rattle.schema_resolve_errors.specs.Gathered.{each, if_there}
-use Rattle.schema_json.specs.Walk.{joined}
+use Rattle.schema_json.specs.Walk.{concat}
 use Rattle.schema_json.specs.declared.types.Type.{«Type», Type-F, fold-Type}
 use Rattle.schema_json.specs.declared.types.TypeVariant.{TypeVariant, TypeVariant-F, fold-TypeVariant}
 use Rattle.schema_json.specs.declared.types.RecordType.{RecordType, RecordType-F, fold-RecordType}
@@ -26,7 +26,7 @@ use Rattle.schema_json.specs.declared.fragment.Fragment.{Fragment}
 
 -- what the values of a map give, by key
 abbrev pub each_value : {K A U : Type 0} → (A → List U) → List (K × A) → List U
-each_value u xs = joined (map (λ e. u e.1) xs)
+each_value u xs = concat (map (λ e. u e.1) xs)
 
 -- u says what a name gives that asks for a type of a kind
 module _ {N U : Type 0} (u : ReferenceType → N → List U) where
@@ -42,7 +42,7 @@ module _ {N U : Type 0} (u : ReferenceType → N → List U) where
   variant_part _ = []
 
   abbrev pub record_part : RecordType-F N (List U) (List U) (List U) (List U) → List U
-  record_part r = joined (map (λ p. p.1) r.attributes)
+  record_part r = concat (map (λ p. p.1) r.attributes)
 
   abbrev pub attribute_part : TypeOfAttribute-F N (List U) (List U) (List U) (List U) → List U
   attribute_part a = a.ty

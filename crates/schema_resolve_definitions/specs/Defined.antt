@@ -5,7 +5,7 @@ use Rattle.cedar_identifiers.specs.declared.name_text.NameText as named
 use Rattle.cedar_names.specs.Definitions.{Definitions}
 use Rattle.cedar_names.specs.Tables.{table_names}
 use Rattle.cedar_names.specs.declared.extension_table.ExtensionTable.{ExtensionTable}
-use Rattle.schema_json.specs.Walk.{joined}
+use Rattle.schema_json.specs.Walk.{concat}
 use Rattle.schema_json.specs.declared.fragment.Fragment.{Fragment}
 use Rattle.schema_resolve_definitions.specs.Declarations.{declared}
 use Rattle.schema_resolve_definitions.specs.Tests.{Tests, tests_of}
@@ -24,7 +24,7 @@ builtin_names t word = (codes "__cedar" ∷ word ∷ []) ∷ (if is_hidden t wor
 
 -- the same of each of the words
 abbrev pub all_builtin_names : Tests → List (List ℕ) → List (List (List ℕ))
-all_builtin_names t words = joined (map (builtin_names t) words)
+all_builtin_names t words = concat (map (builtin_names t) words)
 
 -- with the builtin names and the types of the actions
 abbrev pub completed : Definitions → List (List ℕ) → Definitions

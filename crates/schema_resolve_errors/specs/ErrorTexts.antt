@@ -2,7 +2,7 @@
 use Rattle.std.specs.Prelude.{ℕ, List, [], ◌∷◌, ◌++◌, map, codes, Option, Some, None}
 use Rattle.std.specs.Option.{option_map}
 use Rattle.cedar_data.specs.declared.loc.Loc.{Loc}
-use Rattle.plain_syntax.specs.CanonicalText.{joined}
+use Rattle.cedar_data.specs.Rows.{joined_by, and_list, by_number}
 use Rattle.cedar_identifiers.specs.Names.{components_of, name_text}
 use Rattle.cedar_data.specs.declared.label.Label.{Label}
 use Rattle.cedar_identifiers.specs.declared.internal_name.InternalName.{InternalName}
@@ -11,7 +11,6 @@ use Rattle.cedar_identifiers.specs.declared.name_text.NameText as named
 use Rattle.schema_json.specs.Actions.{action_text}
 use Rattle.schema_json.specs.declared.action_type.ActionEntityUID.{ActionEntityUID}
 use Rattle.schema_resolve_errors.specs.Gathered.{each, if_there}
-use Rattle.schema_resolve_errors.specs.Lists.{and_list, by_number}
 use Rattle.schema_resolve_errors.specs.declared.resolve_error.ResolveError.{ResolveError}
 use Rattle.schema_resolve_errors.specs.declared.resolve_error.ResolveError.TheVariants.{TypeNotDefined, ActionNotDefined, Memory}
 
@@ -26,7 +25,7 @@ abbrev pub action_texts : {G : named.Ghosts ConditionalName} → List (ActionEnt
 action_texts uids = map (λ a. action_text (option_map written_components a.ty) a.id) uids
 
 abbrev pub unresolved_text : List (List ℕ) → List ℕ
-unresolved_text texts = by_number (codes "failed to resolve type: ") (codes "failed to resolve types: ") texts ++ joined (codes ", ") texts
+unresolved_text texts = by_number (codes "failed to resolve type: ") (codes "failed to resolve types: ") texts ++ joined_by (codes ", ") texts
 
 abbrev pub undeclared_text : List (List ℕ) → List ℕ
 undeclared_text texts = by_number (codes "undeclared action: ") (codes "undeclared actions: ") texts ++ and_list texts

@@ -1,3 +1,2 @@
 pub mod ErrorTexts
 pub mod Gathered
-pub mod Lists

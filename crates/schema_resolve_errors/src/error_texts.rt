@@ -1,10 +1,9 @@
 ghost use Rattle.std.specs.Prelude.{◌≡◌, ◌++◌, map, Ok, None, IfOk, IsSomeAnd, OnOk};
 ghost use Rattle.schema_resolve_errors.specs.ErrorTexts.{type_texts, action_texts, unresolved_text, undeclared_text, undeclared_actions_help, name_labels, type_labels, action_labels, resolve_error_text, resolve_error_help, resolve_error_labels};
 
-use crate::lists::{and_list, by_number, comma_list, name_texts};
-use crate::message::message;
+use crate::name_texts::name_texts;
 use crate::resolve_error::{ActionNotDefinedError, ResolveError, TypeNotDefinedError};
-use cedar_data::{Label, NonEmpty, Severity, Text};
+use cedar_data::{Label, NonEmpty, Severity, Text, and_list, by_number, comma_list, message};
 use cedar_identifiers::{ConditionalName, InternalName};
 use schema_json::ActionEntityUID;
 use std::alloc::{AllocError, Global};

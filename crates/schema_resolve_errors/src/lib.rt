@@ -3,8 +3,7 @@
 
 mod error_texts;
 mod joining;
-pub mod lists;
-mod message;
+pub mod name_texts;
 pub mod resolve_error;
 
 pub use resolve_error::{ActionNotDefinedError, ResolveError, TypeNotDefinedError};

@@ -6,7 +6,7 @@ use Rattle.std.specs.Str.{chars}
 use Rattle.schema_syntax_errors.specs.declared.parse_error.ParseError.{ParseError}
 use Rattle.schema_syntax_errors.specs.declared.parse_error.ParseError.TheVariants.{InvalidToken, UnrecognizedEof, UnrecognizedToken, ExtraToken, User}
 use Rattle.schema_syntax_errors.specs.FaultHelps.{missing_applies_to, trailing_namespace_semicolon, misses_applies_to, ends_namespace, parse_error_help, first_error_help}
-use Rattle.schema_syntax_errors.proofs.Ascii.{chars-from_test}
+use Rattle.cedar_data.proofs.Ascii.{chars-from_test}
 
 abbrev Plain : Option (List ℕ) → Type 0
 Plain help = MatchOption help ⊤ (λ text. chars text ≡ text)

@@ -1,13 +1,14 @@
 -- The names of kinds in a row, one more at a time.
-use Rattle.std.proofs.Common.{◌≡◌, ℕ, true, List, [], ◌∷◌, ◌++◌, map, refl, ap, ◌∙◌, append_assoc}
+use Rattle.std.proofs.Common.{◌≡◌, ℕ, true, List, ◌∷◌, ◌++◌, map, codes, refl, sym, ap, ◌∙◌}
 use Rattle.std.specs.List.{list_all}
 use Rattle.std.specs.Char.{is_ascii}
 use Rattle.std.specs.Str.{chars}
-use Rattle.std.proofs.lemmas.List.{append-nil}
+use Rattle.cedar_data.proofs.Listing.{row_more, separator_of}
 use Rattle.schema_syntax_grammar.specs.declared.token_kind.TokenKind.{TokenKind}
 use Rattle.schema_syntax_grammar.specs.declared.token_kind.TokenKind.TheVariants.{KwNamespace, KwEntity, KwExternal, KwIn, KwType, KwSet, KwAppliesTo, KwPrincipal, KwAction, KwResource, KwContext, KwTags, KwEnum, Identifier, StringLit, At, Comma, Semi, Colon, PathSep, LParen, RParen, LBrace, RBrace, LBracket, RBracket, Less, Greater, Question, Equals, End}
-use Rattle.schema_syntax_errors.specs.ExpectedText.{kind_name, listed, separator}
-use Rattle.schema_syntax_errors.proofs.Ascii.{chars-from_test}
+use Rattle.schema_syntax_errors.specs.ExpectedText.{kind_name}
+use Rattle.cedar_data.specs.Rows.{listed, separator}
+use Rattle.cedar_data.proofs.Ascii.{chars-from_test}
 
 name_ascii : (k : TokenKind) → list_all is_ascii (kind_name k) ≡ true
 name_ascii KwNamespace = refl
@@ -42,21 +43,10 @@ name_ascii Question = refl
 name_ascii Equals = refl
 name_ascii End = refl
 
-separator_ascii : (ks : List TokenKind) → list_all is_ascii (separator ks) ≡ true
-separator_ascii [] = refl
-separator_ascii (k ∷ []) = refl
-separator_ascii (k ∷ j ∷ ks) = refl
-
--- a name, what stands behind it, and the others
-one_more : (k : TokenKind) (ks : List TokenKind) → kind_name k ++ (separator ks ++ listed (map kind_name ks)) ≡ listed (map kind_name (k ∷ ks))
-one_more k [] = append-nil (kind_name k)
-one_more k (j ∷ []) = refl
-one_more k (j ∷ l ∷ ks) = refl
-
-pub names_more : (k : TokenKind) (ks : List TokenKind) (text : List ℕ) → ((text ++ chars (kind_name k)) ++ chars (separator ks)) ++ listed (map kind_name ks) ≡ text ++ listed (map kind_name (k ∷ ks))
+pub names_more : (k : TokenKind) (ks : List TokenKind) (text : List ℕ)
+    → ((text ++ chars (kind_name k)) ++ chars (separator (codes ", ") (codes " or ") ks)) ++ listed (codes ", ") (codes " or ") (map kind_name ks)
+    ≡ text ++ listed (codes ", ") (codes " or ") (map kind_name (k ∷ ks))
 names_more k ks text =
-    ap (λ n. ((text ++ n) ++ chars (separator ks)) ++ listed (map kind_name ks)) (chars-from_test (kind_name k) (name_ascii k))
-    ∙ ap (λ s. ((text ++ kind_name k) ++ s) ++ listed (map kind_name ks)) (chars-from_test (separator ks) (separator_ascii ks))
-    ∙ append_assoc (text ++ kind_name k) (separator ks) (listed (map kind_name ks))
-    ∙ append_assoc text (kind_name k) (separator ks ++ listed (map kind_name ks))
-    ∙ ap (λ l. text ++ l) (one_more k ks)
+    ap (λ n. ((text ++ n) ++ chars (separator (codes ", ") (codes " or ") ks)) ++ listed (codes ", ") (codes " or ") (map kind_name ks)) (chars-from_test (kind_name k) (name_ascii k))
+    ∙ ap (λ s. ((text ++ kind_name k) ++ chars s) ++ listed (codes ", ") (codes " or ") (map kind_name ks)) (sym (separator_of (codes ", ") (codes " or ") kind_name ks))
+    ∙ row_more (codes ", ") (codes " or ") (kind_name k) (map kind_name ks) text refl refl

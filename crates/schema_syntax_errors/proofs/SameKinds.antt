@@ -3,13 +3,13 @@ use Rattle.std.proofs.Common.{◌≡◌, true, eqb, refl, List}
 use Rattle.std.specs.List.{list_any}
 use denote.Enum.Bare.{sameb, same_true, true_same}
 use denote.Enum.Declared.{tag_of}
-use Rattle.schema_syntax_grammar.specs.Table.{number, same}
+use Rattle.schema_syntax_grammar.specs.Grammar.{kind_number, same_kind}
 use Rattle.schema_syntax_grammar.specs.declared.token_kind.TokenKind.{TokenKind}
 use Rattle.schema_syntax_grammar.specs.declared.token_kind.TokenKind.TheVariants.{KwNamespace, KwEntity, KwExternal, KwIn, KwType, KwSet, KwAppliesTo, KwPrincipal, KwAction, KwResource, KwContext, KwTags, KwEnum, Identifier, StringLit, At, Comma, Semi, Colon, PathSep, LParen, RParen, LBrace, RBrace, LBracket, RBracket, Less, Greater, Question, Equals, End}
 use Rattle.schema_syntax_grammar.specs.contracts.token_kind.TokenKind.{the_type}
 use Rattle.schema_syntax_errors.specs.ExpectedText.{expects}
 
-tag_number : (k : TokenKind) → tag_of the_type k ≡ number k
+tag_number : (k : TokenKind) → tag_of the_type k ≡ kind_number k
 tag_number KwNamespace = refl
 tag_number KwEntity = refl
 tag_number KwExternal = refl
@@ -42,7 +42,7 @@ tag_number Question = refl
 tag_number Equals = refl
 tag_number End = refl
 
-pub same_test : (a b : TokenKind) → sameb the_type a b ≡ same a b
+pub same_test : (a b : TokenKind) → sameb the_type a b ≡ same_kind a b
 same_test a b = λ i. eqb (tag_number a i) (tag_number b i)
 
 pub same_tests : (ks : List TokenKind) (k : TokenKind) → list_any (λ j. sameb the_type j k) ks ≡ expects ks k

@@ -6,7 +6,7 @@ use Rattle.std.specs.List.{list_all}
 use Rattle.std.specs.Str.{bytes_eq, encode_utf8_all}
 use Rattle.std.proofs.lemmas.Slice.Eq.{bytes_eq-Decides}
 use Rattle.schema_syntax_errors.specs.SameFaults.{encodes_injective}
-use Rattle.schema_syntax_errors.proofs.Ascii.{encodes-from_test}
+use Rattle.cedar_data.proofs.Ascii.{encodes-from_test}
 
 pub same_text : (text ascii : List ℕ) → list_all is_ascii ascii ≡ true → bytes_eq (encode_utf8_all text) ascii ≡ bytes_eq text ascii
 same_text text ascii h =

@@ -1,8 +1,8 @@
 -- What was expected, in words.
 use Rattle.std.specs.Prelude.{ℕ, Bool, not, ◌&&◌, List, [], ◌∷◌, ◌++◌, map, filter, codes, if◌then◌else◌}
 use Rattle.std.specs.List.{list_any}
-use Rattle.schema_syntax_grammar.specs.Grammar.{is_ident}
-use Rattle.schema_syntax_grammar.specs.Table.{same}
+use Rattle.cedar_data.specs.Rows.{listed}
+use Rattle.schema_syntax_grammar.specs.Grammar.{is_ident, same_kind}
 use Rattle.schema_syntax_grammar.specs.declared.token_kind.TokenKind.{TokenKind}
 use Rattle.schema_syntax_grammar.specs.declared.token_kind.TokenKind.TheVariants.{KwNamespace, KwEntity, KwExternal, KwIn, KwType, KwSet, KwAppliesTo, KwPrincipal, KwAction, KwResource, KwContext, KwTags, KwEnum, Identifier, StringLit, At, Comma, Semi, Colon, PathSep, LParen, RParen, LBrace, RBrace, LBracket, RBracket, Less, Greater, Question, Equals, End}
 
@@ -42,28 +42,16 @@ kind_name End = codes "end of input"
 
 -- the kind is among those expected
 abbrev pub expects : List TokenKind → TokenKind → Bool
-expects expected kind = list_any (λ k. same k kind) expected
+expects expected kind = list_any (λ k. same_kind k kind) expected
 
 -- a keyword that may stand as an identifier: any but `in`
 abbrev pub is_name_keyword : TokenKind → Bool
-is_name_keyword kind = is_ident kind && not (same kind Identifier)
+is_name_keyword kind = is_ident kind && not (same_kind kind Identifier)
 
 -- the kinds that are named: without those keywords where an identifier is expected
 abbrev pub printed : List TokenKind → List TokenKind
 printed expected = if expects expected Identifier then filter (λ k. not (is_name_keyword k)) expected else expected
 
 -- the names with `, ` between two, and ` or ` before the last
-abbrev pub listed : List (List ℕ) → List ℕ
-listed [] = []
-listed (name ∷ []) = name
-listed (name ∷ last ∷ []) = name ++ (codes " or " ++ last)
-listed (name ∷ next ∷ more ∷ names) = name ++ (codes ", " ++ listed (next ∷ more ∷ names))
-
--- what stands in such a list between a name and those after it
-abbrev pub separator : {A : Type 0} → List A → List ℕ
-separator [] = []
-separator (last ∷ []) = codes " or "
-separator (next ∷ more ∷ names) = codes ", "
-
 abbrev pub expected_text_of : List TokenKind → List ℕ
-expected_text_of expected = codes "expected " ++ listed (map kind_name (printed expected))
+expected_text_of expected = codes "expected " ++ listed (codes ", ") (codes " or ") (map kind_name (printed expected))

@@ -2,9 +2,8 @@ ghost use Rattle.std.specs.Prelude.{◌≡◌, Ok, None, IfOk};
 ghost use Rattle.schema_syntax_errors.specs.FaultTexts.{annotation_error_text};
 ghost use Rattle.schema_syntax_errors.specs.FaultLabels.{annotation_error_labels};
 
-use crate::message::message;
 use crate::user_error::UserError;
-use cedar_data::{CloneIn, Label, Severity, Text};
+use cedar_data::{CloneIn, Label, Severity, Text, message};
 use std::alloc::{AllocError, AllocFailed, Global};
 
 /// Why annotations were not put on an item: a key stands twice, or want of memory.

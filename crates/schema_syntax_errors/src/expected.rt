@@ -1,8 +1,8 @@
-ghost use Rattle.std.specs.Prelude.{◌≡◌, ◌++◌, map, IfOk, OnOk};
-ghost use Rattle.schema_syntax_errors.specs.ExpectedText.{kind_name, is_name_keyword, printed, listed, separator, expected_text_of, expects};
+ghost use Rattle.std.specs.Prelude.{◌≡◌, ◌++◌, map, codes, IfOk, OnOk};
+ghost use Rattle.schema_syntax_errors.specs.ExpectedText.{kind_name, is_name_keyword, printed, expected_text_of, expects};
+ghost use Rattle.cedar_data.specs.Rows.{listed};
 
-use crate::message::message;
-use cedar_data::Text;
+use cedar_data::{Text, message, separator};
 use schema_syntax_grammar::TokenKind;
 use std::alloc::{AllocError, Global};
 
@@ -48,26 +48,15 @@ fn is_name_keyword(kind: TokenKind) -> bool
 
 // Adds the names of the kinds, with what stands between them.
 fn push_names(text: &mut Text, kinds: &[TokenKind]) -> Result<(), AllocError>
-    ensures { OnOk result (text.new ≡ text.old ++ listed (map kind_name kinds.now)) }
+    ensures { OnOk result (text.new ≡ text.old ++ listed (codes ", ") (codes " or ") (map kind_name kinds.now)) }
 {
     let mut left = kinds;
     while let Some((kind, rest)) = left.split_first() {
         text.push_str(name_of(*kind))?;
-        text.push_str(separator_before(rest))?;
+        text.push_str(separator(rest, ", ", " or "))?;
         left = rest;
     }
     Ok(())
-}
-
-// What stands between a name and those of the kinds after it.
-fn separator_before(rest: &[TokenKind]) -> &'static str
-    ensures { result.now ≡ separator rest.now }
-{
-    match rest {
-        [] => "",
-        [_] => " or ",
-        _ => ", ",
-    }
 }
 
 // How the kind is named: a keyword or a mark stands in backquotes.

@@ -2,7 +2,7 @@ ghost use Rattle.std.specs.Prelude.{◌≡◌, ◌↔◌, true};
 
 use crate::annotation_error::AnnotationError;
 use crate::parse_error::ParseError;
-use crate::schema_syntax_errors::ParseErrors;
+use crate::parse_errors::ParseErrors;
 use crate::parse_schema_error::ParseSchemaError;
 use crate::user_error::UserError;
 

@@ -6,9 +6,8 @@ ghost use Rattle.schema_syntax_errors.specs.FaultLabels.{parse_error_labels, pri
 
 use crate::help::help_on_token;
 use crate::labels::{bare_label, expected_label, place};
-use crate::message::{around, message};
 use crate::user_error::UserError;
-use cedar_data::{CloneIn, Label, List, Loc, Severity, Text};
+use cedar_data::{CloneIn, Label, List, Loc, Severity, Text, around, message};
 use schema_syntax_grammar::TokenKind;
 use std::alloc::{AllocError, Global};
 

@@ -3,9 +3,8 @@ ghost use Rattle.schema_syntax_errors.specs.FaultTexts.{parse_schema_error_text}
 ghost use Rattle.schema_syntax_errors.specs.FaultHelps.{parse_schema_error_help};
 ghost use Rattle.schema_syntax_errors.specs.FaultLabels.{parse_schema_error_labels};
 
-use crate::message::message;
-use crate::schema_syntax_errors::ParseErrors;
-use cedar_data::{CloneIn, Label, Severity, Text};
+use crate::parse_errors::ParseErrors;
+use cedar_data::{CloneIn, Label, Severity, Text, message};
 use std::alloc::{AllocError, AllocFailed, Global};
 
 /// Why a text was not read as a schema: its faults, or want of memory.

@@ -4,9 +4,8 @@ ghost use Rattle.schema_syntax_errors.specs.FaultLabels.{user_error_labels, prim
 ghost use Rattle.schema_syntax_errors.specs.SameFaults.{user_errors_agree, user_errors_per, user_errors_equiv};
 
 use crate::labels::{bare_label, bare_labels};
-use crate::message::{around, message};
 use crate::unescape_error::UnescapeError;
-use cedar_data::{CloneIn, Label, Loc, Node, NonEmpty, Severity, Text};
+use cedar_data::{CloneIn, Label, Loc, Node, NonEmpty, Severity, Text, around, message};
 use cedar_identifiers::AnyId;
 use std::alloc::{AllocError, Global};
 

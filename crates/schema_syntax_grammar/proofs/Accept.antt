@@ -7,19 +7,20 @@ use Rattle.schema_syntax_grammar.specs.declared.token_kind.TokenKind.TheVariants
 use Rattle.schema_syntax_grammar.specs.declared.token_kind.TheConstants.{ALL_KINDS}
 use Rattle.schema_syntax_grammar.specs.declared.symbol.Symbol.{Symbol}
 use Rattle.schema_syntax_grammar.specs.declared.symbol.Symbol.TheVariants.{Schema}
-use Rattle.schema_syntax_grammar.specs.Table.{number, same, Row, rows, is_at, find, after_front, is_nullable}
+use Rattle.schema_syntax_grammar.specs.Table.{Row, rows, is_at, find, after_front, is_nullable}
+use Rattle.schema_syntax_grammar.specs.Grammar.{kind_number, same_kind}
 use Rattle.schema_syntax_grammar.specs.Machine.{advance, step, all_nullable, on_some, accepts, bind, run}
 use Rattle.schema_syntax_grammar.proofs.Stops.{all_kinds, listed, stop, implies, closed, all_rows, rows_closed, fronts_stop, start_kind, rank, all_below, leads_down, leads}
 use Rattle.schema_syntax_grammar.proofs.Theory.{Forest, nothing, skip, take, and_left, and_right}
 
 -- tests
 
--- a kind by its number
+-- a kind by its kind_number
 of_number : ℕ → TokenKind
 of_number n = get_or ALL_KINDS n Identifier
 
--- each kind is the one of its number
-kind_of_number : (k : TokenKind) → of_number (number k) ≡ k
+-- each kind is the one of its kind_number
+kind_of_number : (k : TokenKind) → of_number (kind_number k) ≡ k
 unfolding of_number
 kind_of_number KwNamespace = refl
 kind_of_number KwEntity = refl
@@ -87,9 +88,9 @@ kind_listed Question = refl
 kind_listed Equals = refl
 kind_listed End = refl
 
--- kinds with one number are one kind
-pub same_kind : (a b : TokenKind) → same a b ≡ true → a ≡ b
-same_kind a b e = sym (kind_of_number a) ∙ (ap of_number (eqb-true (number a) (number b) e) ∙ kind_of_number b)
+-- kinds with one kind_number are one kind
+pub kinds_equal : (a b : TokenKind) → same_kind a b ≡ true → a ≡ b
+kinds_equal a b e = sym (kind_of_number a) ∙ (ap of_number (eqb-true (kind_number a) (kind_number b) e) ∙ kind_of_number b)
 
 pub or_cases : (a b : Bool) → a || b ≡ true → (a ≡ true) ⊎ (b ≡ true)
 or_cases true b e = inl refl
@@ -99,7 +100,7 @@ or_cases false b e = inr e
 at_listed : (p : TokenKind → Bool) (ks : List TokenKind) (k : TokenKind) → all_kinds p ks ≡ true → listed ks k ≡ true → p k ≡ true
 at_listed p [] k a l = cc
 at_listed p (j ∷ js) k a l =
-    elim (or_cases (same j k) (listed js k) l) [ inl e ↦ subst (λ x. p x ≡ true) (same_kind j k e) (and_left _ _ a) | inr m ↦ at_listed p js k (and_right _ _ a) m ]
+    elim (or_cases (same_kind j k) (listed js k) l) [ inl e ↦ subst (λ x. p x ≡ true) (kinds_equal j k e) (and_left _ _ a) | inr m ↦ at_listed p js k (and_right _ _ a) m ]
 
 -- what passes for all kinds passes for each
 pub at_kind : (p : TokenKind → Bool) (k : TokenKind) → all_kinds p ALL_KINDS ≡ true → p k ≡ true

@@ -4,8 +4,8 @@ use Rattle.schema_syntax_grammar.specs.declared.token_kind.TokenKind.{TokenKind}
 use Rattle.schema_syntax_grammar.specs.declared.token_kind.TokenKind.TheVariants.{KwNamespace, KwEntity, KwExternal, KwType, KwSet, KwAppliesTo, KwPrincipal, KwAction, KwResource, KwContext, KwTags, KwEnum, Identifier, StringLit, At, Comma, Semi, Colon, PathSep, LParen, RParen, LBrace, RBrace, LBracket, RBracket, Less, Greater, Equals}
 use Rattle.schema_syntax_grammar.specs.declared.symbol.Symbol.{Symbol}
 use Rattle.schema_syntax_grammar.specs.declared.symbol.Symbol.TheVariants.{Token, Schema, Item, Decls, Decl, AnnotationTail, AfterNamespace, AfterEntity, EntityTail, AfterExternal, AfterAction, AfterType, Word, Ident, IdentsTail, Name, NamesTail, ParentsTail, ShapeTail, TagsTail, Strings, StringsTail, RefsTail, AppliesTail, Apps, AppsTail, ContextType, PathTail, Types, Paths, PathsTail, Refs, RefList, RefListTail, RefTail, RefStep, AnyType, SetTail, Record, Attrs, AttrsTail, Attr, Mark}
-use Rattle.schema_syntax_grammar.specs.Grammar.{is_word, is_ident, Part, schema, item, decls, decl, bare_decl, idents, parents, shape, tags, strings, names, name, in_refs, applies, apps, app, types, paths, refs, ref_list, ref, ty, rec, attrs, attr, mark, path, anns, Phrase, no_item, more_items, namespace_item, decl_item, no_decl, more_decls, annotated, entity_decl, enum_decl, external_entity, action_decl, external_action, common_decl, one_ident, more_idents, no_parents, in_parents, no_shape, bare_shape, equals_shape, no_tags, some_tags, no_string, last_string, more_strings, one_name, more_names, ident_name, string_name, no_refs, some_refs, no_applies, some_applies, no_app, last_app, more_apps, principal_app, resource_app, context_path, context_record, one_type, listed_types, no_path, last_path, more_paths, one_ref, listed_refs, no_ref, last_ref, more_refs, plain_ref, typed_ref, path_type, set_type, record_type, braces, no_attr, last_attr, more_attrs, one_attr, no_mark, question, one_step, more_steps, no_ann, bare_ann, valued_ann}
-use Rattle.schema_syntax_grammar.specs.Table.{is_name, after_front}
+use Rattle.schema_syntax_grammar.specs.Grammar.{is_word_kind, is_ident, Part, schema, item, decls, decl, bare_decl, idents, parents, shape, tags, strings, names, name, in_refs, applies, apps, app, types, paths, refs, ref_list, ref, ty, rec, attrs, attr, mark, path, anns, Phrase, no_item, more_items, namespace_item, decl_item, no_decl, more_decls, annotated, entity_decl, enum_decl, external_entity, action_decl, external_action, common_decl, one_ident, more_idents, no_parents, in_parents, no_shape, bare_shape, equals_shape, no_tags, some_tags, no_string, last_string, more_strings, one_name, more_names, ident_name, string_name, no_refs, some_refs, no_applies, some_applies, no_app, last_app, more_apps, principal_app, resource_app, context_path, context_record, one_type, listed_types, no_path, last_path, more_paths, one_ref, listed_refs, no_ref, last_ref, more_refs, plain_ref, typed_ref, path_type, set_type, record_type, braces, no_attr, last_attr, more_attrs, one_attr, no_mark, question, one_step, more_steps, no_ann, bare_ann, valued_ann, is_name_kind}
+use Rattle.schema_syntax_grammar.specs.Table.{after_front}
 use Rattle.schema_syntax_grammar.proofs.Stops.{after_token}
 use Rattle.schema_syntax_grammar.proofs.Theory.{Forest, nothing, skip, take, takes}
 
@@ -55,7 +55,7 @@ record DeclThen (w : List TokenKind) : Type 0 where
 record IsNameOf (w : List TokenKind) : Type 0 where
   only : TokenKind
   whole : w ≡ only ∷ []
-  is : is_name only ≡ true
+  is : is_name_kind only ≡ true
 
 -- annotations, before a symbol that may begin with one, where y is what it is after the first
 abbrev Annotates : List TokenKind → Type 0
@@ -81,7 +81,7 @@ Built parents w = Reads (ParentsTail ∷ []) w × Tails (ShapeTail ∷ TagsTail 
 Built shape w = Reads (ShapeTail ∷ []) w × Tails (TagsTail ∷ Token Semi ∷ []) w
 Built tags w = Reads (TagsTail ∷ []) w × ((s : List Symbol) (v : List TokenKind) → Forest s v → Forest (EntityTail ∷ s) (w ++ Semi ∷ v))
 Built strings w = Reads (Strings ∷ []) w
-Built names w = FirstThen is_name NamesTail w
+Built names w = FirstThen is_name_kind NamesTail w
 Built name w = IsNameOf w
 Built in_refs w = Reads (RefsTail ∷ []) w
 Built applies w = Reads (AppliesTail ∷ []) w
@@ -102,7 +102,7 @@ Built anns w = Annotates w
 
 -- the first words of symbols, where the word is not known
 
-at_word : (k : TokenKind) → is_word k ≡ true → after_front Word k ≡ Some []
+at_word : (k : TokenKind) → is_word_kind k ≡ true → after_front Word k ≡ Some []
 unfolding after_front
 at_word k h = rw h refl
 
@@ -110,7 +110,7 @@ at_ident : (k : TokenKind) → is_ident k ≡ true → after_front Ident k ≡ S
 unfolding after_front
 at_ident k h = rw h refl
 
-at_name : (k : TokenKind) → is_name k ≡ true → after_front Name k ≡ Some []
+at_name : (k : TokenKind) → is_name_kind k ≡ true → after_front Name k ≡ Some []
 unfolding after_front
 at_name k h = rw h refl
 
@@ -122,7 +122,7 @@ at_entity : (k : TokenKind) → is_ident k ≡ true → after_front AfterEntity 
 unfolding after_front
 at_entity k h = rw h refl
 
-at_action : (k : TokenKind) → is_name k ≡ true → after_front AfterAction k ≡ Some (NamesTail ∷ RefsTail ∷ AppliesTail ∷ Token Semi ∷ [])
+at_action : (k : TokenKind) → is_name_kind k ≡ true → after_front AfterAction k ≡ Some (NamesTail ∷ RefsTail ∷ AppliesTail ∷ Token Semi ∷ [])
 unfolding after_front
 at_action k h = rw h refl
 
@@ -154,19 +154,19 @@ at_ref_step : (k : TokenKind) → is_ident k ≡ true → after_front RefStep k 
 unfolding after_front
 at_ref_step k h = rw h refl
 
-at_attrs : (k : TokenKind) → is_name k ≡ true → after_front Attrs k ≡ Some (Mark ∷ Token Colon ∷ AnyType ∷ AttrsTail ∷ [])
+at_attrs : (k : TokenKind) → is_name_kind k ≡ true → after_front Attrs k ≡ Some (Mark ∷ Token Colon ∷ AnyType ∷ AttrsTail ∷ [])
 unfolding after_front
 at_attrs k h = rw h refl
 
-at_attr : (k : TokenKind) → is_name k ≡ true → after_front Attr k ≡ Some (Mark ∷ Token Colon ∷ AnyType ∷ [])
+at_attr : (k : TokenKind) → is_name_kind k ≡ true → after_front Attr k ≡ Some (Mark ∷ Token Colon ∷ AnyType ∷ [])
 unfolding after_front
 at_attr k h = rw h refl
 
-name_cases : (k : TokenKind) → is_name k ≡ true → (is_ident k ≡ true) ⊎ (k ≡ StringLit)
+name_cases : (k : TokenKind) → is_name_kind k ≡ true → (is_ident k ≡ true) ⊎ (k ≡ StringLit)
 name_cases StringLit h = inr refl
 name_cases k h = inl h
 
-ident_is_name : (k : TokenKind) → is_ident k ≡ true → is_name k ≡ true
+ident_is_name : (k : TokenKind) → is_ident k ≡ true → is_name_kind k ≡ true
 ident_is_name StringLit h = refl
 ident_is_name k h = h
 
@@ -201,14 +201,14 @@ path_type_at _ s w h f = cc
 
 -- an action's name of one token, before what comes after it
 
-ref_name : (k : TokenKind) (s : List Symbol) (v : List TokenKind) → is_name k ≡ true → Forest s v → Forest (Refs ∷ s) (k ∷ v)
+ref_name : (k : TokenKind) (s : List Symbol) (v : List TokenKind) → is_name_kind k ≡ true → Forest s v → Forest (Refs ∷ s) (k ∷ v)
 unfolding after_front
 ref_name k s v h f = elim (name_cases k h) [
   | inl i ↦ takes (at_refs k i) (skip refl f)
   | inr e ↦ rw e (takes {next = []} refl f)
 ]
 
-list_name : (k : TokenKind) (s : List Symbol) (v : List TokenKind) → is_name k ≡ true → Forest (RefListTail ∷ s) v → Forest (RefList ∷ s) (k ∷ v)
+list_name : (k : TokenKind) (s : List Symbol) (v : List TokenKind) → is_name_kind k ≡ true → Forest (RefListTail ∷ s) v → Forest (RefList ∷ s) (k ∷ v)
 unfolding after_front
 list_name k s v h f = elim (name_cases k h) [
   | inl i ↦ takes (at_ref_list k i) (skip refl f)
@@ -219,7 +219,7 @@ ident : {i : TokenKind} {s : List Symbol} {w : List TokenKind} → is_ident i �
 ident {i = i} h f = take (at_ident i h) nothing f
 
 -- one annotation more, where u is its value
-annotation : (k : TokenKind) (x y : Symbol) (a s : List Symbol) (w : List TokenKind) → after_front x At ≡ Some (Word ∷ AnnotationTail ∷ y ∷ a) → is_word k ≡ true → Forest (AnnotationTail ∷ y ∷ (a ++ s)) w → Forest (x ∷ s) (At ∷ k ∷ w)
+annotation : (k : TokenKind) (x y : Symbol) (a s : List Symbol) (w : List TokenKind) → after_front x At ≡ Some (Word ∷ AnnotationTail ∷ y ∷ a) → is_word_kind k ≡ true → Forest (AnnotationTail ∷ y ∷ (a ++ s)) w → Forest (x ∷ s) (At ∷ k ∷ w)
 annotation k x y a s w g h f = takes g (take (at_word k h) nothing f)
 
 built : {p : Part} {w : List TokenKind} → Phrase p w → Built p w

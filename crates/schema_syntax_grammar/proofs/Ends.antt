@@ -5,8 +5,8 @@ use Rattle.schema_syntax_grammar.specs.declared.token_kind.TokenKind.{TokenKind}
 use Rattle.schema_syntax_grammar.specs.declared.token_kind.TokenKind.TheVariants.{KwNamespace, KwEntity, KwExternal, KwIn, KwType, KwSet, KwAppliesTo, KwPrincipal, KwAction, KwResource, KwContext, KwTags, KwEnum, Identifier, StringLit, At, Comma, Semi, Colon, PathSep, LParen, RParen, LBrace, RBrace, LBracket, RBracket, Less, Greater, Question, Equals, End}
 use Rattle.schema_syntax_grammar.specs.declared.symbol.Symbol.{Symbol}
 use Rattle.schema_syntax_grammar.specs.declared.symbol.Symbol.TheVariants.{Token, Schema, Item, Decls, Decl, AnnotationTail, AfterNamespace, AfterEntity, EntityTail, AfterExternal, AfterAction, AfterType, Word, Ident, IdentsTail, Name, NamesTail, ParentsTail, ShapeTail, TagsTail, Strings, StringsTail, RefsTail, AppliesTail, Apps, AppsTail, ContextType, PathTail, Types, Paths, PathsTail, Refs, RefList, RefListTail, RefTail, RefStep, AnyType, SetTail, Record, Attrs, AttrsTail, Attr, Mark}
-use Rattle.schema_syntax_grammar.specs.Grammar.{Sentence}
-use Rattle.schema_syntax_grammar.specs.Table.{same, rows, after_front}
+use Rattle.schema_syntax_grammar.specs.Grammar.{Sentence, same_kind}
+use Rattle.schema_syntax_grammar.specs.Table.{rows, after_front}
 use Rattle.schema_syntax_grammar.proofs.Stops.{listed, all_rows}
 use Rattle.schema_syntax_grammar.proofs.Theory.{Forest, nothing, skip, take, and_left, and_right}
 use Rattle.schema_syntax_grammar.proofs.Accept.{found_row}
@@ -15,7 +15,7 @@ use Rattle.schema_syntax_grammar.proofs.Sound.{append_nil}
 
 -- no symbol of the stack is the end as a token
 abbrev is_other : Symbol → Bool
-is_other (Token k) = not (same k End)
+is_other (Token k) = not (same_kind k End)
 is_other _ = true
 
 abbrev are_other : List Symbol → Bool
@@ -69,7 +69,7 @@ rows_other Attr = refl
 rows_other Mark = refl
 
 -- no other token is the end
-token_end : (k : TokenKind) → not (same k End) ≡ true → after_front (Token k) End ≡ None
+token_end : (k : TokenKind) → not (same_kind k End) ≡ true → after_front (Token k) End ≡ None
 unfolding after_front
 token_end KwNamespace e = refl
 token_end KwEntity e = refl
@@ -160,14 +160,14 @@ next_other x k next g =
 -- a kind in neither of two lists is not in both, joined
 listed_append : (k : TokenKind) (a b : List TokenKind) → listed a k ≡ false → listed b k ≡ false → listed (a ++ b) k ≡ false
 listed_append k [] b e f = f
-listed_append k (j ∷ a) b e f = either (same j k) (listed a k) (listed (a ++ b) k) e (λ h. listed_append k a b h f)
+listed_append k (j ∷ a) b e f = either (same_kind j k) (listed a k) (listed (a ++ b) k) e (λ h. listed_append k a b h f)
   where
     either : (t a b : Bool) → t || a ≡ false → (a ≡ false → b ≡ false) → t || b ≡ false
     either true a b e f = e
     either false a b e f = f e
 
 -- the first token is not the end
-taken_other : (x : Symbol) (k : TokenKind) (next : List Symbol) → is_other x ≡ true → after_front x k ≡ Some next → same k End ≡ false
+taken_other : (x : Symbol) (k : TokenKind) (next : List Symbol) → is_other x ≡ true → after_front x k ≡ Some next → same_kind k End ≡ false
 taken_other x KwNamespace next e g = refl
 taken_other x KwEntity next e g = refl
 taken_other x KwExternal next e g = refl

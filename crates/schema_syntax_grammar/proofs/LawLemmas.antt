@@ -7,11 +7,10 @@ use Rattle.std.specs.List.{filter}
 use Rattle.schema_syntax_grammar.specs.declared.token_kind.TokenKind.{TokenKind}
 use Rattle.schema_syntax_grammar.specs.declared.token_kind.TokenKind.TheVariants.{End}
 use Rattle.schema_syntax_grammar.specs.declared.token_kind.TheConstants.{ALL_KINDS}
-use Rattle.schema_syntax_grammar.specs.Grammar.{Sentence, Viable, MayFollow, IsExpected}
+use Rattle.schema_syntax_grammar.specs.Grammar.{Sentence, Viable, MayFollow, IsExpected, same_kind}
 use Rattle.schema_syntax_grammar.specs.Fault.{IsFault}
-use Rattle.schema_syntax_grammar.specs.Table.{same}
 use Rattle.schema_syntax_grammar.proofs.Stops.{listed}
-use Rattle.schema_syntax_grammar.proofs.Accept.{same_kind, or_cases, kind_listed}
+use Rattle.schema_syntax_grammar.proofs.Accept.{kinds_equal, or_cases, kind_listed}
 use Rattle.schema_syntax_grammar.proofs.Sound.{append_nil}
 use Rattle.schema_syntax_grammar.proofs.Faults.{front_viable}
 use Rattle.schema_syntax_grammar.proofs.Ends.{sentence_other}
@@ -48,12 +47,12 @@ false_right true b e = cc
 false_right false b e = e
 
 -- a kind within a list without the end is not the end
-listed_middle : (a b : List TokenKind) (k : TokenKind) → listed (a ++ k ∷ b) End ≡ false → same k End ≡ false
-listed_middle [] b k e = or_false (same k End) (listed b End) e
-listed_middle (j ∷ a) b k e = listed_middle a b k (false_right (same j End) (listed (a ++ k ∷ b) End) e)
+listed_middle : (a b : List TokenKind) (k : TokenKind) → listed (a ++ k ∷ b) End ≡ false → same_kind k End ≡ false
+listed_middle [] b k e = or_false (same_kind k End) (listed b End) e
+listed_middle (j ∷ a) b k e = listed_middle a b k (false_right (same_kind j End) (listed (a ++ k ∷ b) End) e)
 
 -- a kind that is not the end may follow where a sentence begins so
-other_follows : (kinds : List TokenKind) (k : TokenKind) → same k End ≡ false → Viable (kinds ++ k ∷ []) → MayFollow kinds k
+other_follows : (kinds : List TokenKind) (k : TokenKind) → same_kind k End ≡ false → Viable (kinds ++ k ∷ []) → MayFollow kinds k
 other_follows kinds End e v = cc
 other_follows kinds k e v = v
 
@@ -77,8 +76,8 @@ none_left j rest false h = h
 some_kept : (p : TokenKind → Bool) (all : List TokenKind) (k : TokenKind) → listed all k ≡ true → p k ≡ true → filter p all ≢ []
 some_kept p [] k l t h = cc
 some_kept p (j ∷ all) k l t h =
-    elim (or_cases (same j k) (listed all k) l) [
-      | inl e ↦ kept_first p j (filter p all) (p j) (subst (λ i. p i ≡ true) (sym (same_kind j k e)) t) h
+    elim (or_cases (same_kind j k) (listed all k) l) [
+      | inl e ↦ kept_first p j (filter p all) (p j) (subst (λ i. p i ≡ true) (sym (kinds_equal j k e)) t) h
       | inr m ↦ some_kept p all k m t (none_left j (filter p all) (p j) h)
     ]
 

@@ -5,17 +5,17 @@ use Rattle.schema_syntax_grammar.specs.declared.token_kind.TokenKind.{TokenKind}
 use Rattle.schema_syntax_grammar.specs.declared.token_kind.TokenKind.TheVariants.{KwNamespace, KwEntity, KwExternal, KwIn, KwType, KwSet, KwAppliesTo, KwPrincipal, KwAction, KwResource, KwContext, KwTags, KwEnum, StringLit, At, Comma, Semi, Colon, PathSep, LParen, RParen, LBrace, RBrace, LBracket, RBracket, Less, Greater, Question, Equals}
 use Rattle.schema_syntax_grammar.specs.declared.symbol.Symbol.{Symbol}
 use Rattle.schema_syntax_grammar.specs.declared.symbol.Symbol.TheVariants.{Token, Schema, Item, Decls, Decl, AnnotationTail, AfterNamespace, AfterEntity, EntityTail, AfterExternal, AfterAction, AfterType, Word, Ident, IdentsTail, Name, NamesTail, ParentsTail, ShapeTail, TagsTail, Strings, StringsTail, RefsTail, AppliesTail, Apps, AppsTail, ContextType, PathTail, Types, Paths, PathsTail, Refs, RefList, RefListTail, RefTail, RefStep, AnyType, SetTail, Record, Attrs, AttrsTail, Attr, Mark}
-use Rattle.schema_syntax_grammar.specs.Grammar.{is_word, is_ident, Part, schema, item, decls, decl, bare_decl, idents, parents, shape, tags, strings, names, name, in_refs, applies, apps, app, types, paths, refs, ref_list, ref, ty, rec, attrs, attr, mark, path, anns, Phrase, no_item, more_items, namespace_item, decl_item, no_decl, more_decls, annotated, entity_decl, enum_decl, external_entity, action_decl, external_action, common_decl, one_ident, more_idents, no_parents, in_parents, no_shape, bare_shape, equals_shape, no_tags, some_tags, no_string, last_string, more_strings, one_name, more_names, ident_name, string_name, no_refs, some_refs, no_applies, some_applies, no_app, last_app, more_apps, principal_app, resource_app, context_path, context_record, one_type, listed_types, no_path, last_path, more_paths, one_ref, listed_refs, no_ref, last_ref, more_refs, plain_ref, typed_ref, path_type, set_type, record_type, braces, no_attr, last_attr, more_attrs, one_attr, no_mark, question, one_step, more_steps, no_ann, bare_ann, valued_ann}
-use Rattle.schema_syntax_grammar.specs.Table.{same, is_name, Row, is_at, rows, find, after_front, is_nullable}
+use Rattle.schema_syntax_grammar.specs.Grammar.{is_word_kind, is_ident, Part, schema, item, decls, decl, bare_decl, idents, parents, shape, tags, strings, names, name, in_refs, applies, apps, app, types, paths, refs, ref_list, ref, ty, rec, attrs, attr, mark, path, anns, Phrase, no_item, more_items, namespace_item, decl_item, no_decl, more_decls, annotated, entity_decl, enum_decl, external_entity, action_decl, external_action, common_decl, one_ident, more_idents, no_parents, in_parents, no_shape, bare_shape, equals_shape, no_tags, some_tags, no_string, last_string, more_strings, one_name, more_names, ident_name, string_name, no_refs, some_refs, no_applies, some_applies, no_app, last_app, more_apps, principal_app, resource_app, context_path, context_record, one_type, listed_types, no_path, last_path, more_paths, one_ref, listed_refs, no_ref, last_ref, more_refs, plain_ref, typed_ref, path_type, set_type, record_type, braces, no_attr, last_attr, more_attrs, one_attr, no_mark, question, one_step, more_steps, no_ann, bare_ann, valued_ann, same_kind, is_name_kind}
+use Rattle.schema_syntax_grammar.specs.Table.{Row, is_at, rows, find, after_front, is_nullable}
 use Rattle.schema_syntax_grammar.proofs.Theory.{Forest, nothing, skip, take}
-use Rattle.schema_syntax_grammar.proofs.Accept.{same_kind}
+use Rattle.schema_syntax_grammar.proofs.Accept.{kinds_equal}
 
 abbrev Kinds : Type 0
 Kinds = List TokenKind
 
 -- the rest of an annotation
 abbrev Value : Kinds → Type 0
-Value w = (k : TokenKind) (a : Kinds) → is_word k ≡ true → Phrase anns a → Phrase anns (At ∷ k ∷ (w ++ a))
+Value w = (k : TokenKind) (a : Kinds) → is_word_kind k ≡ true → Phrase anns a → Phrase anns (At ∷ k ∷ (w ++ a))
 
 -- the rest of a list, after one of its parts
 abbrev After : Part → Part → Kinds → Type 0
@@ -41,7 +41,7 @@ Means EntityTail w = (a : Kinds) → Phrase idents a → Phrase bare_decl (KwEnt
 Means AfterExternal w = Phrase bare_decl (KwExternal ∷ w)
 Means AfterAction w = Phrase bare_decl (KwAction ∷ w)
 Means AfterType w = Phrase bare_decl (KwType ∷ w)
-Means Word w = (k : TokenKind) × (w ≡ k ∷ []) × (is_word k ≡ true)
+Means Word w = (k : TokenKind) × (w ≡ k ∷ []) × (is_word_kind k ≡ true)
 Means Ident w = (k : TokenKind) × (w ≡ k ∷ []) × (is_ident k ≡ true)
 Means IdentsTail w = (k : TokenKind) → is_ident k ≡ true → Phrase idents (k ∷ w)
 Means Name w = Phrase name w
@@ -93,8 +93,8 @@ grown : (x : Symbol) (rs : List Row) (k : TokenKind) (next : List Symbol) (u : K
 grown x [] k next u g e m = cc
 grown x (r ∷ rs) k next u g e m = grown_at x r (find rs k) k next u (is_at r.front k) refl g.0 (λ h. grown x rs k next u g.1 h m) m e
 
-at_one : (j k : TokenKind) (P : TokenKind → Type 0) → same j k ≡ true → P j → P k
-at_one j k P e p = subst P (same_kind j k e) p
+at_one : (j k : TokenKind) (P : TokenKind → Type 0) → same_kind j k ≡ true → P j → P k
+at_one j k P e p = subst P (kinds_equal j k e) p
 
 pub append_nil : (w : Kinds) → w ++ [] ≡ w
 append_nil [] = refl
@@ -111,7 +111,7 @@ then_token x j u (a, b, e, m, (c, d, e2, t, n)) = (a, rw (e, e2, t, n) refl, m)
 
 -- annotations
 
-value_ann : (k : TokenKind) (t : Kinds) → is_word k ≡ true → Value t → (a : Kinds) → Phrase anns a → Phrase anns ((At ∷ k ∷ t) ++ a)
+value_ann : (k : TokenKind) (t : Kinds) → is_word_kind k ≡ true → Value t → (a : Kinds) → Phrase anns a → Phrase anns ((At ∷ k ∷ t) ++ a)
 value_ann k t h f a p = f k a h p
 
 -- one annotation more
@@ -260,11 +260,11 @@ external_action_row u (n, u1, e1, i, (a, u2, e2, f, m)) =
     let whole : KwExternal ∷ KwAction ∷ ((n ++ a) ++ (p.0 ++ Semi ∷ [])) ≡ KwExternal ∷ KwAction ∷ u = rw (e1, e2) (simp append_assoc (ap (λ z. KwExternal ∷ KwAction ∷ (n ++ (a ++ z))) p.1)) in
     subst (Phrase bare_decl) whole (external_action (f n i) p.2)
 
-one_token : (k : TokenKind) → is_name k ≡ true → Phrase name (k ∷ [])
+one_token : (k : TokenKind) → is_name_kind k ≡ true → Phrase name (k ∷ [])
 one_token StringLit h = string_name
 one_token k h = ident_name h
 
-action_row : (k : TokenKind) (u : Kinds) → is_name k ≡ true → MeansAll (NamesTail ∷ RefsTail ∷ AppliesTail ∷ Token Semi ∷ []) u → Phrase bare_decl (KwAction ∷ k ∷ u)
+action_row : (k : TokenKind) (u : Kinds) → is_name_kind k ≡ true → MeansAll (NamesTail ∷ RefsTail ∷ AppliesTail ∷ Token Semi ∷ []) u → Phrase bare_decl (KwAction ∷ k ∷ u)
 action_row k u h (a, u1, e1, f, (b, u2, e2, r, m)) =
     let p = then_token AppliesTail Semi u2 m in
     let whole : KwAction ∷ ((k ∷ a) ++ (b ++ (p.0 ++ Semi ∷ []))) ≡ KwAction ∷ k ∷ u = rw (e1, e2) (ap (λ z. KwAction ∷ k ∷ (a ++ (b ++ z))) p.1) in
@@ -325,13 +325,13 @@ step_string u n i g = record { front = i ∷ []; is = one_step g; whole = rw n r
 set_angle : (u : Kinds) → MeansAll (AnyType ∷ Token Greater ∷ []) u → Phrase ty (KwSet ∷ Less ∷ u)
 set_angle u m = let t = then_token AnyType Greater u m in subst (λ z. Phrase ty (KwSet ∷ Less ∷ z)) t.1 (set_type t.2)
 
-bare_attr : (k : TokenKind) (a b : Kinds) → is_name k ≡ true → Phrase mark a → Phrase ty b → Phrase attr (k ∷ (a ++ Colon ∷ b))
+bare_attr : (k : TokenKind) (a b : Kinds) → is_name_kind k ≡ true → Phrase mark a → Phrase ty b → Phrase attr (k ∷ (a ++ Colon ∷ b))
 bare_attr k a b h p t = one_attr no_ann (one_token k h) p t
 
-attr_row : (k : TokenKind) (u : Kinds) → is_name k ≡ true → MeansAll (Mark ∷ Token Colon ∷ AnyType ∷ []) u → Phrase attr (k ∷ u)
+attr_row : (k : TokenKind) (u : Kinds) → is_name_kind k ≡ true → MeansAll (Mark ∷ Token Colon ∷ AnyType ∷ []) u → Phrase attr (k ∷ u)
 attr_row k u h (a, u1, e1, p, (b, u2, e2, c, m)) = rw (e1, e2, c) (bare_attr k a u2 h p (last AnyType u2 m))
 
-first_attr : (k : TokenKind) (u : Kinds) → is_name k ≡ true → MeansAll (Mark ∷ Token Colon ∷ AnyType ∷ AttrsTail ∷ []) u → Phrase attrs (k ∷ u)
+first_attr : (k : TokenKind) (u : Kinds) → is_name_kind k ≡ true → MeansAll (Mark ∷ Token Colon ∷ AnyType ∷ AttrsTail ∷ []) u → Phrase attrs (k ∷ u)
 first_attr k u h (a, u1, e1, p, (b, u2, e2, c, (d, u3, e3, t, m))) =
     let more = last AttrsTail u3 m in
     let whole : (k ∷ (a ++ Colon ∷ d)) ++ u3 ≡ k ∷ u = rw (e1, e2, c, e3) (simp append_assoc refl) in

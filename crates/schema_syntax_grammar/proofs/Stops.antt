@@ -6,7 +6,8 @@ use Rattle.schema_syntax_grammar.specs.declared.token_kind.TokenKind.TheVariants
 use Rattle.schema_syntax_grammar.specs.declared.token_kind.TheConstants.{ALL_KINDS}
 use Rattle.schema_syntax_grammar.specs.declared.symbol.Symbol.{Symbol}
 use Rattle.schema_syntax_grammar.specs.declared.symbol.Symbol.TheVariants.{Token, Schema, Item, Decls, Decl, AnnotationTail, AfterNamespace, AfterEntity, EntityTail, AfterExternal, AfterAction, AfterType, Word, Ident, IdentsTail, Name, NamesTail, ParentsTail, ShapeTail, TagsTail, Strings, StringsTail, RefsTail, AppliesTail, Apps, AppsTail, ContextType, PathTail, Types, Paths, PathsTail, Refs, RefList, RefListTail, RefTail, RefStep, AnyType, SetTail, Record, Attrs, AttrsTail, Attr, Mark}
-use Rattle.schema_syntax_grammar.specs.Table.{same, Row, rows, is_nullable, after_front}
+use Rattle.schema_syntax_grammar.specs.Table.{Row, rows, is_nullable, after_front}
+use Rattle.schema_syntax_grammar.specs.Grammar.{same_kind}
 use Rattle.schema_syntax_grammar.specs.Machine.{step, all_nullable}
 
 abbrev pub ident_kinds : List TokenKind
@@ -18,7 +19,7 @@ all_kinds p (k ∷ ks) = p k && all_kinds p ks
 
 abbrev pub listed : List TokenKind → TokenKind → Bool
 listed [] k = false
-listed (j ∷ js) k = same j k || listed js k
+listed (j ∷ js) k = same_kind j k || listed js k
 
 -- the kinds that would make more of a symbol's words
 abbrev pub stop_kinds : Symbol → List TokenKind

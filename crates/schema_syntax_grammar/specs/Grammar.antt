@@ -1,26 +1,26 @@
 -- The grammar on the kinds of tokens, one case for each production. A list of kinds is the lists of its parts, joined.
-use Rattle.std.specs.Prelude.{◌≡◌, ◌↔◌, List, [], ◌∷◌, ◌++◌, Bool, true, false, IsTrue}
+use Rattle.std.specs.Prelude.{◌≡◌, ◌↔◌, ℕ, nat_eq, List, [], ◌∷◌, ◌++◌, Bool, true, false, IsTrue}
 use Rattle.std.specs.List.{filter}
 use Rattle.schema_syntax_grammar.specs.declared.token_kind.TokenKind.{TokenKind}
 use Rattle.schema_syntax_grammar.specs.declared.token_kind.TokenKind.TheVariants.{KwNamespace, KwEntity, KwExternal, KwIn, KwType, KwSet, KwAppliesTo, KwPrincipal, KwAction, KwResource, KwContext, KwTags, KwEnum, Identifier, StringLit, At, Comma, Semi, Colon, PathSep, LParen, RParen, LBrace, RBrace, LBracket, RBracket, Less, Greater, Question, Equals, End}
 
 -- the kind of a word
-abbrev pub is_word : TokenKind → Bool
-is_word KwNamespace = true
-is_word KwEntity = true
-is_word KwExternal = true
-is_word KwIn = true
-is_word KwType = true
-is_word KwSet = true
-is_word KwAppliesTo = true
-is_word KwPrincipal = true
-is_word KwAction = true
-is_word KwResource = true
-is_word KwContext = true
-is_word KwTags = true
-is_word KwEnum = true
-is_word Identifier = true
-is_word _ = false
+abbrev pub is_word_kind : TokenKind → Bool
+is_word_kind KwNamespace = true
+is_word_kind KwEntity = true
+is_word_kind KwExternal = true
+is_word_kind KwIn = true
+is_word_kind KwType = true
+is_word_kind KwSet = true
+is_word_kind KwAppliesTo = true
+is_word_kind KwPrincipal = true
+is_word_kind KwAction = true
+is_word_kind KwResource = true
+is_word_kind KwContext = true
+is_word_kind KwTags = true
+is_word_kind KwEnum = true
+is_word_kind Identifier = true
+is_word_kind _ = false
 
 -- the kind of a word that can be a name: any word but `in`
 abbrev pub is_ident : TokenKind → Bool
@@ -39,6 +39,48 @@ is_ident KwTags = true
 is_ident KwEnum = true
 is_ident Identifier = true
 is_ident _ = false
+
+-- the place of a kind in the order of all kinds
+abbrev pub kind_number : TokenKind → ℕ
+kind_number KwNamespace = 0
+kind_number KwEntity = 1
+kind_number KwExternal = 2
+kind_number KwIn = 3
+kind_number KwType = 4
+kind_number KwSet = 5
+kind_number KwAppliesTo = 6
+kind_number KwPrincipal = 7
+kind_number KwAction = 8
+kind_number KwResource = 9
+kind_number KwContext = 10
+kind_number KwTags = 11
+kind_number KwEnum = 12
+kind_number Identifier = 13
+kind_number StringLit = 14
+kind_number At = 15
+kind_number Comma = 16
+kind_number Semi = 17
+kind_number Colon = 18
+kind_number PathSep = 19
+kind_number LParen = 20
+kind_number RParen = 21
+kind_number LBrace = 22
+kind_number RBrace = 23
+kind_number LBracket = 24
+kind_number RBracket = 25
+kind_number Less = 26
+kind_number Greater = 27
+kind_number Question = 28
+kind_number Equals = 29
+kind_number End = 30
+
+abbrev pub same_kind : TokenKind → TokenKind → Bool
+same_kind a b = nat_eq (kind_number a) (kind_number b)
+
+-- the kind of a word but `in`, or of a string
+abbrev pub is_name_kind : TokenKind → Bool
+is_name_kind StringLit = true
+is_name_kind k = is_ident k
 
 abbrev pub Kinds : Type 0
 Kinds = List TokenKind
@@ -168,8 +210,8 @@ pub data Phrase : Part → Kinds → Type 0 where
   more_steps : {i : TokenKind} {a : Kinds} → is_ident i ≡ true → Phrase path a → Phrase path (i ∷ PathSep ∷ a)
   -- {'@' Word ['(' STR ')']}
   no_ann : Phrase anns []
-  bare_ann : {w : TokenKind} {a : Kinds} → is_word w ≡ true → Phrase anns a → Phrase anns (At ∷ w ∷ a)
-  valued_ann : {w : TokenKind} {a : Kinds} → is_word w ≡ true → Phrase anns a → Phrase anns (At ∷ w ∷ LParen ∷ StringLit ∷ RParen ∷ a)
+  bare_ann : {w : TokenKind} {a : Kinds} → is_word_kind w ≡ true → Phrase anns a → Phrase anns (At ∷ w ∷ a)
+  valued_ann : {w : TokenKind} {a : Kinds} → is_word_kind w ≡ true → Phrase anns a → Phrase anns (At ∷ w ∷ LParen ∷ StringLit ∷ RParen ∷ a)
 
 -- the kinds are those of a schema
 abbrev pub Sentence : Kinds → Type 0

@@ -4,49 +4,7 @@ use Rattle.schema_syntax_grammar.specs.declared.token_kind.TokenKind.{TokenKind}
 use Rattle.schema_syntax_grammar.specs.declared.token_kind.TokenKind.TheVariants.{KwNamespace, KwEntity, KwExternal, KwIn, KwType, KwSet, KwAppliesTo, KwPrincipal, KwAction, KwResource, KwContext, KwTags, KwEnum, Identifier, StringLit, At, Comma, Semi, Colon, PathSep, LParen, RParen, LBrace, RBrace, LBracket, RBracket, Less, Greater, Question, Equals, End}
 use Rattle.schema_syntax_grammar.specs.declared.symbol.Symbol.{Symbol}
 use Rattle.schema_syntax_grammar.specs.declared.symbol.Symbol.TheVariants.{Token, Schema, Item, Decls, Decl, AnnotationTail, AfterNamespace, AfterEntity, EntityTail, AfterExternal, AfterAction, AfterType, Word, Ident, IdentsTail, Name, NamesTail, ParentsTail, ShapeTail, TagsTail, Strings, StringsTail, RefsTail, AppliesTail, Apps, AppsTail, ContextType, PathTail, Types, Paths, PathsTail, Refs, RefList, RefListTail, RefTail, RefStep, AnyType, SetTail, Record, Attrs, AttrsTail, Attr, Mark}
-use Rattle.schema_syntax_grammar.specs.Grammar.{is_word, is_ident}
-
--- the place of a kind in the order of all kinds
-abbrev pub number : TokenKind → ℕ
-number KwNamespace = 0
-number KwEntity = 1
-number KwExternal = 2
-number KwIn = 3
-number KwType = 4
-number KwSet = 5
-number KwAppliesTo = 6
-number KwPrincipal = 7
-number KwAction = 8
-number KwResource = 9
-number KwContext = 10
-number KwTags = 11
-number KwEnum = 12
-number Identifier = 13
-number StringLit = 14
-number At = 15
-number Comma = 16
-number Semi = 17
-number Colon = 18
-number PathSep = 19
-number LParen = 20
-number RParen = 21
-number LBrace = 22
-number RBrace = 23
-number LBracket = 24
-number RBracket = 25
-number Less = 26
-number Greater = 27
-number Question = 28
-number Equals = 29
-number End = 30
-
-abbrev pub same : TokenKind → TokenKind → Bool
-same a b = nat_eq (number a) (number b)
-
--- the kind of a word but `in`, or of a string
-abbrev pub is_name : TokenKind → Bool
-is_name StringLit = true
-is_name k = is_ident k
+use Rattle.schema_syntax_grammar.specs.Grammar.{is_word_kind, is_ident, is_name_kind, same_kind}
 
 -- which kinds a row is for
 pub data Front : Type 0 where
@@ -56,10 +14,10 @@ pub data Front : Type 0 where
   one : TokenKind → Front
 
 abbrev pub is_at : Front → TokenKind → Bool
-is_at word k = is_word k
+is_at word k = is_word_kind k
 is_at ident k = is_ident k
-is_at name k = is_name k
-is_at (one j) k = same j k
+is_at name k = is_name_kind k
+is_at (one j) k = same_kind j k
 
 pub record Row : Type 0 where
   pub front : Front

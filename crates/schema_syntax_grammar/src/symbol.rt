@@ -2,7 +2,7 @@
 
 ghost use Rattle.std.specs.Prelude.{◌≡◌, ◌∷◌, [], None};
 ghost use Rattle.std.specs.Option.{option_copied};
-ghost use Rattle.schema_syntax_grammar.specs.Table.{is_name, is_nullable, after_front, find, row, one, ident, word, name};
+ghost use Rattle.schema_syntax_grammar.specs.Table.{is_nullable, after_front, find, row, one, ident, word, name};
 
 use crate::token_kind::TokenKind;
 
@@ -226,16 +226,6 @@ impl Symbol {
     }
 }
 
-// Whether a kind is that of a word or of a string that can be a name.
-fn is_name(kind: TokenKind) -> bool
-    ensures { result ≡ is_name kind }
-{
-    match kind {
-        TokenKind::StringLit => true,
-        _ => kind.is_ident(),
-    }
-}
-
 // What comes next, where only a token of one kind may come first.
 fn only(kind: TokenKind, wanted: TokenKind, next: &'static [Symbol]) -> Option<&'static [Symbol]>
     ensures { option_copied result ≡ find (row (one wanted) next.now ∷ []) kind }
@@ -261,7 +251,7 @@ fn only_ident(kind: TokenKind, next: &'static [Symbol]) -> Option<&'static [Symb
 fn only_name(kind: TokenKind, next: &'static [Symbol]) -> Option<&'static [Symbol]>
     ensures { option_copied result ≡ find (row name next.now ∷ []) kind }
 {
-    if is_name(kind) { Some(next) } else { None }
+    if kind.is_name() { Some(next) } else { None }
 }
 
 #[tactic(auto, unfolding(crate::specs::Table::after_front))]
@@ -470,7 +460,7 @@ fn after_attrs_front(kind: TokenKind) -> Option<&'static [Symbol]>
     ensures { option_copied result ≡ after_front Symbol.Attrs kind }
 {
     match kind {
-        _ if is_name(kind) => Some(&[Symbol::Mark, COLON, Symbol::AnyType, Symbol::AttrsTail]),
+        _ if kind.is_name() => Some(&[Symbol::Mark, COLON, Symbol::AnyType, Symbol::AttrsTail]),
         TokenKind::At => Some(&[
             Symbol::Word,
             Symbol::AnnotationTail,
@@ -486,7 +476,7 @@ fn after_attr_front(kind: TokenKind) -> Option<&'static [Symbol]>
     ensures { option_copied result ≡ after_front Symbol.Attr kind }
 {
     match kind {
-        _ if is_name(kind) => Some(&[Symbol::Mark, COLON, Symbol::AnyType]),
+        _ if kind.is_name() => Some(&[Symbol::Mark, COLON, Symbol::AnyType]),
         TokenKind::At => Some(&[Symbol::Word, Symbol::AnnotationTail, Symbol::Attr]),
         _ => None,
     }

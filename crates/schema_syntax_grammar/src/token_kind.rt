@@ -1,5 +1,5 @@
 ghost use Rattle.std.specs.Prelude.{◌≡◌};
-ghost use Rattle.schema_syntax_grammar.specs.Grammar.{is_word, is_ident};
+ghost use Rattle.schema_syntax_grammar.specs.Grammar.{is_word_kind, is_ident, is_name_kind};
 
 /// What kind of token it is. Thirteen words have kinds of their own; every other word is an identifier. `End` is no token, but the
 /// end of the input.
@@ -107,7 +107,7 @@ pub const ALL_KINDS: [TokenKind; 31] = [
 impl TokenKind {
     /// Whether it is the kind of a word.
     pub fn is_word(self) -> bool
-        ensures { result ≡ is_word self }
+        ensures { result ≡ is_word_kind self }
     {
         matches!(
             self,
@@ -133,5 +133,15 @@ impl TokenKind {
         ensures { result ≡ is_ident self }
     {
         self.is_word() && self != TokenKind::KwIn
+    }
+
+    /// Whether it is the kind of a name: of a word but `in`, or of a string.
+    pub fn is_name(self) -> bool
+        ensures { result ≡ is_name_kind self }
+    {
+        match self {
+            TokenKind::StringLit => true,
+            _ => self.is_ident(),
+        }
     }
 }

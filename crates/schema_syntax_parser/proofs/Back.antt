@@ -5,8 +5,7 @@ use Rattle.std.proofs.lemmas.Bool.{eq-eqb}
 use Rattle.cedar_data.specs.Span.{Span}
 use Rattle.schema_syntax_grammar.specs.declared.token_kind.TokenKind.{TokenKind}
 use Rattle.schema_syntax_grammar.specs.declared.token_kind.TokenKind.TheVariants.{KwNamespace, KwEntity, KwExternal, KwIn, KwType, KwSet, KwAppliesTo, KwAction, KwContext, KwTags, KwEnum, StringLit, At, Comma, Semi, Colon, PathSep, LParen, LBrace, RBrace, LBracket, RBracket, Less, Greater, Equals}
-use Rattle.schema_syntax_grammar.specs.Grammar.{is_ident}
-use Rattle.schema_syntax_grammar.specs.Table.{same, is_name}
+use Rattle.schema_syntax_grammar.specs.Grammar.{is_ident, same_kind, is_name_kind}
 use Rattle.schema_syntax_tokens.specs.declared.token.Token.{Token}
 use Rattle.schema_syntax_parser.specs.declared.syntax.PathSyntax.{PathSyntax}
 use Rattle.schema_syntax_parser.specs.declared.syntax.AnnotationSyntax.{AnnotationSyntax}
@@ -66,7 +65,7 @@ chain_back {k} {is} (one {t = t} h) n v l e =
     many_last (chain_turn k is) n (t ∷ v) v t (omega (arith, l)) turn
 chain_back {k} {is} (more {t = t} {s = s} {u = u} {names = names} h q r) n v l e =
     let d = down n (length (t ∷ s ∷ u)) l in
-    let eq : same k s.kind ≡ true = rw q (number_eq _) in
+    let eq : same_kind k s.kind ≡ true = rw q (number_eq _) in
     let turn : chain_turn k is (t ∷ s ∷ (u ++ v)) ≡ Some (More t (u ++ v)) = rw (h, eq) refl in
     rw d.1 (many_next (chain_turn k is) d.0 _ _ _ t names turn (chain_back r d.0 v (omega (arith, d.2)) e))
 
@@ -78,13 +77,13 @@ unfolding path_at
 path_back (path {u = u} c) v e = rw (all_chain c v e, place_back u v) refl
 
 -- a reference is a chain of names
-ref_chain : {u names : List Token} (s q : Token) → IsChain PathSep is_ident u names → s.kind ≡ PathSep → q.kind ≡ StringLit → IsChain PathSep is_name (u ++ s ∷ q ∷ []) (names ++ q ∷ [])
+ref_chain : {u names : List Token} (s q : Token) → IsChain PathSep is_ident u names → s.kind ≡ PathSep → q.kind ≡ StringLit → IsChain PathSep is_name_kind (u ++ s ∷ q ∷ []) (names ++ q ∷ [])
 ref_chain s q (one {t = t} h) k l = more (ident_name t.kind h) k (one (rw l refl))
 ref_chain s q (more {t = t} h x r) k l = more (ident_name t.kind h) x (ref_chain s q r k l)
 
 ref_back : {u : List Token} {p : PathSyntax} → IsRef u p → (v : List Token) → begins PathSep v ≡ false → ref_at (u ++ v) ≡ Some (p, v)
 unfolding ref_at
-ref_back (plain {t = t} h) v e = rw (all_chain {k = PathSep} {is = is_name} (one {t = t} h) v e, place_back (t ∷ []) v) refl
+ref_back (plain {t = t} h) v e = rw (all_chain {k = PathSep} {is = is_name_kind} (one {t = t} h) v e, place_back (t ∷ []) v) refl
 ref_back (typed {u = u} s q c k l) v e = rw (all_chain (ref_chain s q c k l) v e, place_back (u ++ s ∷ q ∷ []) v) refl
 
 -- items before a closing token, which is no comma
@@ -97,22 +96,22 @@ separated_item close item (t ∷ ts) e = rw e refl
 abbrev pub Ends : TokenKind → List Token → Type 0
 Ends close v = (c : Token) × (rest : List Token) × (v ≡ c ∷ rest) × ((c.kind ≡ close) ⊎ (c.kind ≡ Comma))
 
-module _ {A : Type 0} (close : TokenKind) (other : same close Comma ≡ false) (item : List Token → Read A) (P : List Token → A → Type 0)
+module _ {A : Type 0} (close : TokenKind) (other : same_kind close Comma ≡ false) (item : List Token → Read A) (P : List Token → A → Type 0)
     (back : (u : List Token) (x : A) → P u x → (v : List Token) → Ends close v → item (u ++ v) ≡ Some (x, v))
     (head : (u : List Token) (x : A) → P u x → (v : List Token) → begins close (u ++ v) ≡ false) where
   separated_back : {u : List Token} {xs : List A} → AreSeparated P u xs → (n : ℕ) (c : Token) (v : List Token) → length u < n → c.kind ≡ close → many_at (separated_turn close item) n (u ++ c ∷ v) ≡ Some (xs, v)
   unfolding separated_turn
   separated_back S.none n c v l k =
-      let eq : same close c.kind ≡ true = rw k (number_eq _) in
+      let eq : same_kind close c.kind ≡ true = rw k (number_eq _) in
       many_done (separated_turn close item) n (c ∷ v) v l (rw eq refl)
   separated_back (S.last {u = u} {x = x} p) n c v l k =
-      let eq : same close c.kind ≡ true = rw k (number_eq _) in
+      let eq : same_kind close c.kind ≡ true = rw k (number_eq _) in
       let turn : separated_turn close item (u ++ c ∷ v) ≡ Some (Last x v) = separated_item close item _ (head _ _ p (c ∷ v)) ∙ rw (back _ _ p (c ∷ v) (c, v, refl, inl k), eq) refl in
       many_last (separated_turn close item) n _ v x (omega (arith, l)) turn
   separated_back (S.more {u = u} {v = w} d {x = x} {xs = xs} p q r) n c v l k =
       let m = down n (length (u ++ d ∷ w)) l in
       let rest : List Token = w ++ c ∷ v in
-      let not : same close d.kind ≡ false = rw q other in
+      let not : same_kind close d.kind ≡ false = rw q other in
       let turn : separated_turn close item (u ++ d ∷ rest) ≡ Some (More x rest) = separated_item close item _ (head _ _ p (d ∷ rest)) ∙ rw (back _ _ p (d ∷ rest) (d, rest, refl, inr q), not, q) refl in
       let lt : length w < m.0 = omega (arith, m.2, length-append u (d ∷ w)) in
       rw (m.1, append_assoc u (d ∷ w) (c ∷ v)) (many_next (separated_turn close item) m.0 _ _ _ x xs turn (separated_back r m.0 c v lt k))
@@ -120,7 +119,7 @@ module _ {A : Type 0} (close : TokenKind) (other : same close Comma ≡ false) (
   all_separated : {u : List Token} {xs : List A} → AreSeparated P u xs → (c : Token) (v : List Token) → c.kind ≡ close → all_at (separated_turn close item) (u ++ c ∷ v) ≡ Some (xs, v)
   all_separated {u = u} s c v k = separated_back s (length (u ++ c ∷ v) + 1) c v (omega (arith, length-append u (c ∷ v))) k
 
-ends_with : (close k : TokenKind) (v : List Token) → Ends close v → same k close ≡ false → same k Comma ≡ false → begins k v ≡ false
+ends_with : (close k : TokenKind) (v : List Token) → Ends close v → same_kind k close ≡ false → same_kind k Comma ≡ false → begins k v ≡ false
 ends_with close k v (c, rest, e, inl h) a b = rw (e, h) a
 ends_with close k v (c, rest, e, inr h) a b = rw (e, h) b
 
@@ -211,9 +210,9 @@ path_front : {u : List Token} {p : PathSyntax} → IsPath u p → PathFront u
 path_front (path (one {t = t} h)) = record { first = t; rest = []; whole = refl; is = ident_apart t.kind h; less = λ v e. e }
 path_front (path (more {t = t} {s = s} {u = u} h k r)) = record { first = t; rest = s ∷ u; whole = refl; is = ident_apart t.kind h; less = λ v e. rw k refl }
 
-type_path : (f : List Token → Read TypeSyntax) (g : List Token → Read (List AttrSyntax)) (t : Token) (ts : List Token) → same LBrace t.kind ≡ false → begins Less ts ≡ false → type_step f g (t ∷ ts) ≡ as_type (path_at (t ∷ ts))
+type_path : (f : List Token → Read TypeSyntax) (g : List Token → Read (List AttrSyntax)) (t : Token) (ts : List Token) → same_kind LBrace t.kind ≡ false → begins Less ts ≡ false → type_step f g (t ∷ ts) ≡ as_type (path_at (t ∷ ts))
 unfolding type_step
-type_path f g t ts b l = rw b (same_either (same KwSet t.kind) _ _ _ (set_path f t ts l) refl)
+type_path f g t ts b l = rw b (same_either (same_kind KwSet t.kind) _ _ _ (set_path f t ts l) refl)
 
 mark_back : {u : List Token} {m : Bool} → IsMark u m → (c : Token) (v : List Token) → c.kind ≡ Colon → mark_at (u ++ c ∷ v) ≡ (m, c ∷ v)
 unfolding mark_at
@@ -250,16 +249,16 @@ mutual
       let m = down n (length (s ∷ o ∷ (u ++ c ∷ []))) l in
       let lt : length u < m.0 = omega (arith, m.2, length-append u (c ∷ [])) in
       let ih = type_back r m.0 (c ∷ v) lt (rw kc refl) (rw kc refl) in
-      let brace : same LBrace s.kind ≡ false = rw ks refl in
-      let set : same KwSet s.kind ≡ true = rw ks refl in
-      let less : same Less o.kind ≡ true = rw ko refl in
-      let greater : same Greater c.kind ≡ true = rw kc refl in
+      let brace : same_kind LBrace s.kind ≡ false = rw ks refl in
+      let set : same_kind KwSet s.kind ≡ true = rw ks refl in
+      let less : same_kind Less o.kind ≡ true = rw ko refl in
+      let greater : same_kind Greater c.kind ≡ true = rw kc refl in
       let place : place_before (s ∷ o ∷ (u ++ c ∷ v)) v ≡ place_of (s ∷ o ∷ (u ++ c ∷ [])) = ap (λ (x : List Token). place_before (s ∷ o ∷ x) v) (sym (append_assoc u (c ∷ []) v)) ∙ place_back (s ∷ o ∷ (u ++ c ∷ [])) v in
       rw (m.1, append_assoc u (c ∷ []) v) (type_turn m.0 (s ∷ o ∷ (u ++ c ∷ v)) ∙ rw (brace, set, less, ih, greater, place) refl)
   type_back (record_type (braces {o = o} c {u = u} {xs = xs} ko r kc)) n v l e f =
       let m = down n (length (o ∷ (u ++ c ∷ []))) l in
       let lt : length u < m.0 = omega (arith, m.2, length-append u (c ∷ [])) in
-      let opens : same LBrace o.kind ≡ true = rw ko refl in
+      let opens : same_kind LBrace o.kind ≡ true = rw ko refl in
       let place : place_before (o ∷ (u ++ c ∷ v)) v ≡ place_of (o ∷ (u ++ c ∷ [])) = ap (λ (x : List Token). place_before (o ∷ x) v) (sym (append_assoc u (c ∷ []) v)) ∙ place_back (o ∷ (u ++ c ∷ [])) v in
       rw (m.1, append_assoc u (c ∷ []) v) (type_turn m.0 (o ∷ (u ++ c ∷ v)) ∙ rw (opens, attrs_back r m.0 c v lt kc, place) refl)
 
@@ -270,7 +269,7 @@ mutual
       let name = name_apart i.kind h in
       let anns = annotations_back xs (i ∷ (m ++ c ∷ (u ++ v))) name.at name.lparen in
       let mark = mark_back mk c (u ++ v) k in
-      let colon : same Colon c.kind ≡ true = rw k refl in
+      let colon : same_kind Colon c.kind ≡ true = rw k refl in
       let place : place_before (i ∷ (m ++ c ∷ (u ++ v))) v ≡ place_of (i ∷ (m ++ c ∷ u)) = ap (λ (x : List Token). place_before (i ∷ x) v) (sym (append_assoc m (c ∷ u) v)) ∙ place_back (i ∷ (m ++ c ∷ u)) v in
       rw (whole, anns, h, mark, colon, type_back r n v lt e f, place) refl
 
@@ -290,8 +289,8 @@ mutual
       let le : length u ≤ m.0 = omega (arith, m.2, length-append u (d ∷ w)) in
       let lt : length w < m.0 = omega (arith, m.2, length-append u (d ∷ w)) in
       let back = attr_back p m.0 (d ∷ rest) le (rw q refl) (rw q refl) in
-      let not : same RBrace d.kind ≡ false = rw q refl in
-      let comma : same Comma d.kind ≡ true = rw q refl in
+      let not : same_kind RBrace d.kind ≡ false = rw q refl in
+      let comma : same_kind Comma d.kind ≡ true = rw q refl in
       rw (m.1, append_assoc u (d ∷ w) (c ∷ v)) (attrs_turn m.0 (u ++ d ∷ rest) ∙ rw (item, back, not, comma, attrs_back r m.0 c v lt k) refl)
 
 -- attributes in braces
@@ -299,7 +298,7 @@ record_back : {u : List Token} {xs : List AttrSyntax} → IsRecord u xs → (v :
 unfolding record_at
 record_back (braces {o = o} c {u = u} {xs = xs} ko r kc) v =
     let whole : (o ∷ (u ++ c ∷ [])) ++ v ≡ o ∷ (u ++ c ∷ v) = ap (λ (x : List Token). o ∷ x) (append_assoc u (c ∷ []) v) in
-    let opens : same LBrace o.kind ≡ true = rw ko refl in
+    let opens : same_kind LBrace o.kind ≡ true = rw ko refl in
     let lt : length u < length (o ∷ (u ++ c ∷ v)) = omega (arith, length-append u (c ∷ v)) in
     let place : place_before (o ∷ (u ++ c ∷ v)) v ≡ place_of (o ∷ (u ++ c ∷ [])) = ap (λ (x : List Token). place_before x v) (sym whole) ∙ place_back (o ∷ (u ++ c ∷ [])) v in
     ap record_at whole ∙ rw (opens, attrs_back r (length (o ∷ (u ++ c ∷ v))) c v lt kc, place) refl
@@ -313,11 +312,11 @@ shape_back : {u : List Token} {s : Option (List AttrSyntax × Span)} → IsShape
 unfolding shape_at
 shape_back no_shape v e f = no_shape_at v e f
 shape_back (bare_shape (braces {o = o} c {u = u} h r k)) v e f =
-    let not : same Equals o.kind ≡ false = rw h refl in
-    let brace : same LBrace o.kind ≡ true = rw h refl in
+    let not : same_kind Equals o.kind ≡ false = rw h refl in
+    let brace : same_kind LBrace o.kind ≡ true = rw h refl in
     rw (not, brace, record_back (braces {o = o} c {u = u} h r k) v) refl
 shape_back (equals_shape {e = t} h r) v e f =
-    let equals : same Equals t.kind ≡ true = rw h refl in
+    let equals : same_kind Equals t.kind ≡ true = rw h refl in
     rw (equals, record_back r v) refl
 
 no_tags_at : (v : List Token) → begins KwTags v ≡ false → tags_at v ≡ Some (None, v)
@@ -338,7 +337,7 @@ tags_back (some_tags {u = u} h r) c v k = rw (h, type_back r (length (u ++ c ∷
 context_record_back : {u : List Token} {xs : List AttrSyntax} → IsRecord u xs → (w c : Token) (v : List Token) → context_at (w ∷ c ∷ (u ++ v)) (u ++ v) ≡ Some (AppSyntax.ContextRecord xs (place_of u) (place_of (w ∷ c ∷ u)), v)
 unfolding context_at
 context_record_back (braces {o = o} d {u = u} h r k) w c v =
-    let brace : same LBrace o.kind ≡ true = rw h refl in
+    let brace : same_kind LBrace o.kind ≡ true = rw h refl in
     rw (brace, record_back (braces {o = o} d {u = u} h r k) v, place_back (w ∷ c ∷ o ∷ (u ++ d ∷ [])) v) refl
 
 context_path_at : (whole ts : List Token) → begins LBrace ts ≡ false → context_at whole ts ≡ path_at ts >>= λ p. Some (AppSyntax.ContextPath p.0 (place_before whole p.1), p.1)
@@ -353,17 +352,17 @@ context_path_back {u} r w c v e =
 app_back : {u : List Token} {a : AppSyntax} → IsApp u a → (v : List Token) → begins PathSep v ≡ false → app_at (u ++ v) ≡ Some (a, v)
 unfolding app_at
 app_back (types {w = w} {c = c} {u = u} h k l) v e =
-    let colon : same Colon c.kind ≡ true = rw k refl in
+    let colon : same_kind Colon c.kind ≡ true = rw k refl in
     rw (colon, h, types_back l v e, place_back (w ∷ c ∷ u) v) refl
 app_back (context_path {w = w} {c = c} h k p) v e =
-    let colon : same Colon c.kind ≡ true = rw k refl in
+    let colon : same_kind Colon c.kind ≡ true = rw k refl in
     let role : is_role w.kind ≡ false = rw h refl in
-    let context : same KwContext w.kind ≡ true = rw h refl in
+    let context : same_kind KwContext w.kind ≡ true = rw h refl in
     rw (colon, role, context) (context_path_back p w c v e)
 app_back (context_record {w = w} {c = c} h k r) v e =
-    let colon : same Colon c.kind ≡ true = rw k refl in
+    let colon : same_kind Colon c.kind ≡ true = rw k refl in
     let role : is_role w.kind ≡ false = rw h refl in
-    let context : same KwContext w.kind ≡ true = rw h refl in
+    let context : same_kind KwContext w.kind ≡ true = rw h refl in
     rw (colon, role, context) (context_record_back r w c v)
 
 apps_back : {u : List Token} {xs : List AppSyntax} → AreSeparated IsApp u xs → (c : Token) (v : List Token) → c.kind ≡ RBrace → all_at (separated_turn RBrace app_at) (u ++ c ∷ v) ≡ Some (xs, v)
@@ -385,8 +384,8 @@ applies_back : {u : List Token} {s : Option (List AppSyntax × Span)} → Applie
 unfolding applies_at
 applies_back no_applies v e = no_applies_at v e
 applies_back (some_applies {w = w} {o = o} c {u = u} h ko s k) v e =
-    let word : same KwAppliesTo w.kind ≡ true = rw h refl in
-    let brace : same LBrace o.kind ≡ true = rw ko refl in
+    let word : same_kind KwAppliesTo w.kind ≡ true = rw h refl in
+    let brace : same_kind LBrace o.kind ≡ true = rw ko refl in
     ap (λ (x : List Token). applies_at (w ∷ x)) (closed_whole o u c v) ∙ rw (word, brace, apps_back s c v k, closed_place o u c v) refl
 
 -- declarations
@@ -399,16 +398,16 @@ standard_back : (names : List Token) {p s t : List Token} {parents : List PathSy
     → standard_at names (p ++ (s ++ (t ++ z ∷ v))) ≡ Some (DeclSyntax.Entity names parents shape tags, v)
 unfolding standard_at
 standard_back names {p = p} {s = s} {t = t} z v ps h ts k =
-    let after_shape : (j : TokenKind) → same j KwTags ≡ false → same j Semi ≡ false → begins j (t ++ z ∷ v) ≡ false = λ j a b. skip_tags j (z ∷ v) ts a (rw k b) in
-    let after_parents : (j : TokenKind) → same j Equals ≡ false → same j LBrace ≡ false → same j KwTags ≡ false → same j Semi ≡ false → begins j (s ++ (t ++ z ∷ v)) ≡ false = λ j a b c d. skip_shape j (t ++ z ∷ v) h a b (after_shape j c d) in
+    let after_shape : (j : TokenKind) → same_kind j KwTags ≡ false → same_kind j Semi ≡ false → begins j (t ++ z ∷ v) ≡ false = λ j a b. skip_tags j (z ∷ v) ts a (rw k b) in
+    let after_parents : (j : TokenKind) → same_kind j Equals ≡ false → same_kind j LBrace ≡ false → same_kind j KwTags ≡ false → same_kind j Semi ≡ false → begins j (s ++ (t ++ z ∷ v)) ≡ false = λ j a b c d. skip_shape j (t ++ z ∷ v) h a b (after_shape j c d) in
     let one = parents_back ps (s ++ (t ++ z ∷ v)) (after_parents PathSep refl refl refl refl) (after_parents KwIn refl refl refl refl) in
     let two = shape_back h (t ++ z ∷ v) (after_shape Equals refl refl) (after_shape LBrace refl refl) in
     let three = tags_back ts z v k in
-    let semi : same Semi z.kind ≡ true = rw k refl in
+    let semi : same_kind Semi z.kind ≡ true = rw k refl in
     rw (one, two, three, semi) refl
 
 behind_names : {p s t : List Token} {parents : List PathSyntax} {shape : Option (List AttrSyntax × Span)} {tags : Option TypeSyntax} (j : TokenKind) (z : Token) (v : List Token) → AreParents IsPath p parents → IsShape s shape → AreTags t tags → z.kind ≡ Semi
-    → same j KwIn ≡ false → same j Equals ≡ false → same j LBrace ≡ false → same j KwTags ≡ false → same j Semi ≡ false → begins j (p ++ (s ++ (t ++ z ∷ v))) ≡ false
+    → same_kind j KwIn ≡ false → same_kind j Equals ≡ false → same_kind j LBrace ≡ false → same_kind j KwTags ≡ false → same_kind j Semi ≡ false → begins j (p ++ (s ++ (t ++ z ∷ v))) ≡ false
 behind_names {s = s} {t = t} j z v ps h ts k a b c d e = skip_parents j (s ++ (t ++ z ∷ v)) ps a (skip_shape j (t ++ z ∷ v) h b c (skip_tags j (z ∷ v) ts d (rw k e)))
 
 -- four lists and what follows them
@@ -432,9 +431,9 @@ enum_back : {i s names choices : List Token} (n o c z : Token) (v : List Token) 
 unfolding entity_at enum_at
 enum_back {s = s} n o c z v is kn ko ss kc kz =
     let read = all_chain is (n ∷ o ∷ (s ++ c ∷ z ∷ v)) (rw kn refl) in
-    let word : same KwEnum n.kind ≡ true = rw kn refl in
-    let opens : same LBracket o.kind ≡ true = rw ko refl in
-    let semi : same Semi z.kind ≡ true = rw kz refl in
+    let word : same_kind KwEnum n.kind ≡ true = rw kn refl in
+    let opens : same_kind LBracket o.kind ≡ true = rw ko refl in
+    let semi : same_kind Semi z.kind ≡ true = rw kz refl in
     rw (read, word, opens, strings_back ss c (z ∷ v) kc, semi, closed_place o s c (z ∷ v)) refl
 
 external_entity_back : {i p names : List Token} {parents : List PathSyntax} (z : Token) (v : List Token) → IsChain Comma is_ident i names → AreParents IsPath p parents → z.kind ≡ Semi
@@ -442,65 +441,65 @@ external_entity_back : {i p names : List Token} {parents : List PathSyntax} (z :
 unfolding external_entity_at
 external_entity_back {p = p} z v is ps k =
     let read = all_chain is (p ++ z ∷ v) (skip_parents Comma (z ∷ v) ps refl (rw k refl)) in
-    let semi : same Semi z.kind ≡ true = rw k refl in
+    let semi : same_kind Semi z.kind ≡ true = rw k refl in
     rw (read, parents_back ps (z ∷ v) (rw k refl) (rw k refl), semi) refl
 
-external_action_back : {n p names : List Token} {parents : List PathSyntax} (z : Token) (v : List Token) → IsChain Comma is_name n names → AreParents IsRef p parents → z.kind ≡ Semi
+external_action_back : {n p names : List Token} {parents : List PathSyntax} (z : Token) (v : List Token) → IsChain Comma is_name_kind n names → AreParents IsRef p parents → z.kind ≡ Semi
     → external_action_at (n ++ (p ++ z ∷ v)) ≡ Some (DeclSyntax.ExternalAction names parents, v)
 unfolding external_action_at
 external_action_back {p = p} z v is ps k =
     let read = all_chain is (p ++ z ∷ v) (skip_parents Comma (z ∷ v) ps refl (rw k refl)) in
-    let semi : same Semi z.kind ≡ true = rw k refl in
+    let semi : same_kind Semi z.kind ≡ true = rw k refl in
     rw (read, action_parents_back ps (z ∷ v) (rw k refl) (rw k refl), semi) refl
 
-action_back : {n p s names : List Token} {parents : List PathSyntax} {applies : Option (List AppSyntax × Span)} (z : Token) (v : List Token) → IsChain Comma is_name n names → AreParents IsRef p parents → Applies s applies → z.kind ≡ Semi
+action_back : {n p s names : List Token} {parents : List PathSyntax} {applies : Option (List AppSyntax × Span)} (z : Token) (v : List Token) → IsChain Comma is_name_kind n names → AreParents IsRef p parents → Applies s applies → z.kind ≡ Semi
     → action_at (n ++ (p ++ (s ++ z ∷ v))) ≡ Some (DeclSyntax.Action names parents applies, v)
 unfolding action_at
 action_back {p = p} {s = s} z v is ps a k =
-    let after : (j : TokenKind) → same j KwAppliesTo ≡ false → same j Semi ≡ false → begins j (s ++ z ∷ v) ≡ false = λ j x y. skip_applies j (z ∷ v) a x (rw k y) in
+    let after : (j : TokenKind) → same_kind j KwAppliesTo ≡ false → same_kind j Semi ≡ false → begins j (s ++ z ∷ v) ≡ false = λ j x y. skip_applies j (z ∷ v) a x (rw k y) in
     let read = all_chain is (p ++ (s ++ z ∷ v)) (skip_parents Comma (s ++ z ∷ v) ps refl (after Comma refl refl)) in
-    let semi : same Semi z.kind ≡ true = rw k refl in
+    let semi : same_kind Semi z.kind ≡ true = rw k refl in
     rw (read, action_parents_back ps (s ++ z ∷ v) (after PathSep refl refl) (after KwIn refl refl), applies_back a (z ∷ v) (rw k refl), semi) refl
 
 common_back : {u : List Token} {t : TypeSyntax} (n e z : Token) (v : List Token) → is_ident n.kind ≡ true → e.kind ≡ Equals → IsType u t → z.kind ≡ Semi → common_at (n ∷ e ∷ (u ++ z ∷ v)) ≡ Some (DeclSyntax.Common n t, v)
 unfolding common_at
 common_back {u = u} n e z v h k t s =
-    let equals : same Equals e.kind ≡ true = rw k refl in
-    let semi : same Semi z.kind ≡ true = rw s refl in
+    let equals : same_kind Equals e.kind ≡ true = rw k refl in
+    let semi : same_kind Semi z.kind ≡ true = rw s refl in
     rw (h, equals, type_back t (length (u ++ z ∷ v)) (z ∷ v) (follows u z v) (rw s refl) (rw s refl), semi) refl
 
 decl_back : {u : List Token} {d : DeclSyntax} → IsDecl u d → (v : List Token) → decl_at (u ++ v) ≡ Some (d, v)
 unfolding decl_at external_at
 decl_back (entity_decl {e = e} z {i = i} {p = p} {s = s} {t = t} h is ps sh ts k) v =
-    let word : same KwEntity e.kind ≡ true = rw h refl in
+    let word : same_kind KwEntity e.kind ≡ true = rw h refl in
     ap (λ (x : List Token). decl_at (e ∷ x)) (five i p s t (z ∷ []) v) ∙ rw word (entity_back z v is ps sh ts k)
 decl_back (enum_decl {e = e} n o c z {i = i} {s = s} h is kn ko ss kc kz) v =
-    let word : same KwEntity e.kind ≡ true = rw h refl in
+    let word : same_kind KwEntity e.kind ≡ true = rw h refl in
     let whole : (i ++ n ∷ o ∷ (s ++ c ∷ z ∷ [])) ++ v ≡ i ++ n ∷ o ∷ (s ++ c ∷ z ∷ v) = append_assoc i (n ∷ o ∷ (s ++ c ∷ z ∷ [])) v ∙ ap (λ (x : List Token). i ++ n ∷ o ∷ x) (append_assoc s (c ∷ z ∷ []) v) in
     ap (λ (x : List Token). decl_at (e ∷ x)) whole ∙ rw word (enum_back n o c z v is kn ko ss kc kz)
 decl_back (external_entity {x = x} {e = e} z {i = i} {p = p} h he is ps k) v =
-    let not : same KwEntity x.kind ≡ false = rw h refl in
-    let word : same KwExternal x.kind ≡ true = rw h refl in
-    let next : same KwEntity e.kind ≡ true = rw he refl in
+    let not : same_kind KwEntity x.kind ≡ false = rw h refl in
+    let word : same_kind KwExternal x.kind ≡ true = rw h refl in
+    let next : same_kind KwEntity e.kind ≡ true = rw he refl in
     let whole : (i ++ (p ++ z ∷ [])) ++ v ≡ i ++ (p ++ z ∷ v) = append_assoc i (p ++ z ∷ []) v ∙ ap (λ (y : List Token). i ++ y) (append_assoc p (z ∷ []) v) in
     ap (λ (y : List Token). decl_at (x ∷ e ∷ y)) whole ∙ rw (not, word, next) (external_entity_back z v is ps k)
 decl_back (action_decl {a = a} z {n = n} {r = r} {s = s} h is ps ap' k) v =
-    let not : same KwEntity a.kind ≡ false = rw h refl in
-    let nor : same KwExternal a.kind ≡ false = rw h refl in
-    let word : same KwAction a.kind ≡ true = rw h refl in
+    let not : same_kind KwEntity a.kind ≡ false = rw h refl in
+    let nor : same_kind KwExternal a.kind ≡ false = rw h refl in
+    let word : same_kind KwAction a.kind ≡ true = rw h refl in
     ap (λ (x : List Token). decl_at (a ∷ x)) (four n r s (z ∷ []) v) ∙ rw (not, nor, word) (action_back z v is ps ap' k)
 decl_back (external_action {x = x} {a = a} z {n = n} {r = r} h ha is ps k) v =
-    let not : same KwEntity x.kind ≡ false = rw h refl in
-    let word : same KwExternal x.kind ≡ true = rw h refl in
-    let nor : same KwEntity a.kind ≡ false = rw ha refl in
-    let next : same KwAction a.kind ≡ true = rw ha refl in
+    let not : same_kind KwEntity x.kind ≡ false = rw h refl in
+    let word : same_kind KwExternal x.kind ≡ true = rw h refl in
+    let nor : same_kind KwEntity a.kind ≡ false = rw ha refl in
+    let next : same_kind KwAction a.kind ≡ true = rw ha refl in
     let whole : (n ++ (r ++ z ∷ [])) ++ v ≡ n ++ (r ++ z ∷ v) = append_assoc n (r ++ z ∷ []) v ∙ ap (λ (y : List Token). n ++ y) (append_assoc r (z ∷ []) v) in
     ap (λ (y : List Token). decl_at (x ∷ a ∷ y)) whole ∙ rw (not, word, nor, next) (external_action_back z v is ps k)
 decl_back (common_decl {w = w} {n = n} {e = e} z {u = u} h hn he t k) v =
-    let not : same KwEntity w.kind ≡ false = rw h refl in
-    let nor : same KwExternal w.kind ≡ false = rw h refl in
-    let neither : same KwAction w.kind ≡ false = rw h refl in
-    let word : same KwType w.kind ≡ true = rw h refl in
+    let not : same_kind KwEntity w.kind ≡ false = rw h refl in
+    let nor : same_kind KwExternal w.kind ≡ false = rw h refl in
+    let neither : same_kind KwAction w.kind ≡ false = rw h refl in
+    let word : same_kind KwType w.kind ≡ true = rw h refl in
     ap (λ (x : List Token). decl_at (w ∷ n ∷ e ∷ x)) (append_assoc u (z ∷ []) v) ∙ rw (not, nor, neither, word) (common_back n e z v hn he t k)
 
 declared_back : {u : List Token} {d : DeclaredSyntax} → IsDeclared u d → (v : List Token) → declared_at (u ++ v) ≡ Some (d, v)
@@ -518,7 +517,7 @@ decl_turn_item (t ∷ ts) e = rw e refl
 decls_back : {u : List Token} {ds : List DeclaredSyntax} → AreMany IsDeclared u ds → (n : ℕ) (c : Token) (v : List Token) → length u < n → c.kind ≡ RBrace → many_at decl_turn n (u ++ c ∷ v) ≡ Some (ds, v)
 unfolding decl_turn
 decls_back S.none n c v l k =
-    let eq : same RBrace c.kind ≡ true = rw k refl in
+    let eq : same_kind RBrace c.kind ≡ true = rw k refl in
     many_done decl_turn n (c ∷ v) v l (rw eq refl)
 decls_back (S.more {u = u} {v = w} {x = x} {xs = xs} d r) n c v l k =
     let m = down n (length (u ++ w)) l in
@@ -546,9 +545,9 @@ item_back (namespace n o c {a = a} {p = p} {u = u} xs hn ps ho ds hc) v =
     let inner : (n ∷ (p ++ o ∷ (u ++ c ∷ []))) ++ v ≡ n ∷ (p ++ o ∷ (u ++ c ∷ v)) = ap (λ (x : List Token). n ∷ x) (append_assoc p (o ∷ (u ++ c ∷ [])) v ∙ ap (λ (x : List Token). p ++ o ∷ x) (append_assoc u (c ∷ []) v)) in
     let whole : (a ++ n ∷ (p ++ o ∷ (u ++ c ∷ []))) ++ v ≡ a ++ n ∷ (p ++ o ∷ (u ++ c ∷ v)) = append_assoc a (n ∷ (p ++ o ∷ (u ++ c ∷ []))) v ∙ ap (λ (x : List Token). a ++ x) inner in
     let anns = annotations_back xs (n ∷ (p ++ o ∷ (u ++ c ∷ v))) (rw hn refl) (rw hn refl) in
-    let word : same KwNamespace n.kind ≡ true = rw hn refl in
+    let word : same_kind KwNamespace n.kind ≡ true = rw hn refl in
     let name = path_back ps (o ∷ (u ++ c ∷ v)) (rw ho refl) in
-    let opens : same LBrace o.kind ≡ true = rw ho refl in
+    let opens : same_kind LBrace o.kind ≡ true = rw ho refl in
     let decls = decls_back ds (length (u ++ c ∷ v) + 1) c v (omega (arith, length-append u (c ∷ v))) hc in
     let place : place_before (n ∷ (p ++ o ∷ (u ++ c ∷ v))) v ≡ place_of (n ∷ (p ++ o ∷ (u ++ c ∷ []))) = ap (λ (x : List Token). place_before x v) (sym inner) ∙ place_back (n ∷ (p ++ o ∷ (u ++ c ∷ []))) v in
     ap item_at whole ∙ rw (anns, word, name, opens, decls, place) refl

@@ -2,8 +2,7 @@
 use Rattle.std.proofs.Common.{◌≡◌, ◌<◌, List, [], ◌∷◌, ◌++◌, length, Bool, true, false, refl, ap, ◌∙◌, arith, length-append}
 use Rattle.schema_syntax_grammar.specs.declared.token_kind.TokenKind.{TokenKind}
 use Rattle.schema_syntax_grammar.specs.declared.token_kind.TokenKind.TheVariants.{KwNamespace, KwEntity, KwExternal, KwIn, KwType, KwSet, KwAppliesTo, KwPrincipal, KwAction, KwResource, KwContext, KwTags, KwEnum, Identifier, StringLit, At, LParen, LBrace, RBrace, LBracket, RBracket, Equals}
-use Rattle.schema_syntax_grammar.specs.Grammar.{is_ident}
-use Rattle.schema_syntax_grammar.specs.Table.{same, is_name}
+use Rattle.schema_syntax_grammar.specs.Grammar.{is_ident, same_kind, is_name_kind}
 use Rattle.schema_syntax_tokens.specs.declared.token.Token.{Token}
 use Rattle.schema_syntax_parser.specs.declared.syntax.PathSyntax.{PathSyntax}
 use Rattle.schema_syntax_parser.specs.declared.syntax.AnnotationSyntax.{AnnotationSyntax}
@@ -20,18 +19,18 @@ use Rattle.schema_syntax_parser.specs.Syntax.{IsChain, one, more, IsPath, path, 
 -- does a token of the kind stand at the front?
 abbrev pub begins : TokenKind → List Token → Bool
 begins k [] = false
-begins k (t ∷ ts) = same k t.kind
+begins k (t ∷ ts) = same_kind k t.kind
 
 -- kinds that are not those of names
 pub record Apart (k : TokenKind) : Type 0 where
-  pub at : same At k ≡ false
-  pub lparen : same LParen k ≡ false
-  pub lbracket : same LBracket k ≡ false
-  pub rbracket : same RBracket k ≡ false
-  pub lbrace : same LBrace k ≡ false
-  pub rbrace : same RBrace k ≡ false
+  pub at : same_kind At k ≡ false
+  pub lparen : same_kind LParen k ≡ false
+  pub lbracket : same_kind LBracket k ≡ false
+  pub rbracket : same_kind RBracket k ≡ false
+  pub lbrace : same_kind LBrace k ≡ false
+  pub rbrace : same_kind RBrace k ≡ false
 
-abbrev apart : (k : TokenKind) → same At k ≡ false → same LParen k ≡ false → same LBracket k ≡ false → same RBracket k ≡ false → same LBrace k ≡ false → same RBrace k ≡ false → Apart k
+abbrev apart : (k : TokenKind) → same_kind At k ≡ false → same_kind LParen k ≡ false → same_kind LBracket k ≡ false → same_kind RBracket k ≡ false → same_kind LBrace k ≡ false → same_kind RBrace k ≡ false → Apart k
 apart k a b c d e f = record { at = a; lparen = b; lbracket = c; rbracket = d; lbrace = e; rbrace = f }
 
 pub ident_apart : (k : TokenKind) → is_ident k ≡ true → Apart k
@@ -50,7 +49,7 @@ ident_apart KwEnum h = apart KwEnum refl refl refl refl refl refl
 ident_apart Identifier h = apart Identifier refl refl refl refl refl refl
 ident_apart _ h = cc
 
-pub name_apart : (k : TokenKind) → is_name k ≡ true → Apart k
+pub name_apart : (k : TokenKind) → is_name_kind k ≡ true → Apart k
 name_apart StringLit h = apart StringLit refl refl refl refl refl refl
 name_apart KwNamespace h = ident_apart KwNamespace h
 name_apart KwEntity h = ident_apart KwEntity h
@@ -67,7 +66,7 @@ name_apart KwEnum h = ident_apart KwEnum h
 name_apart Identifier h = ident_apart Identifier h
 name_apart _ h = cc
 
-pub ident_name : (k : TokenKind) → is_ident k ≡ true → is_name k ≡ true
+pub ident_name : (k : TokenKind) → is_ident k ≡ true → is_name_kind k ≡ true
 ident_name KwNamespace h = refl
 ident_name KwEntity h = refl
 ident_name KwExternal h = refl
@@ -90,7 +89,7 @@ pub record Head (P : TokenKind → Type 0) (u : List Token) : Type 0 where
   pub whole : u ≡ first ∷ rest
   pub is : P first.kind
 
-pub begins_head : {P : TokenKind → Type 0} {u : List Token} (k : TokenKind) (v : List Token) (h : Head P u) → same k h.first.kind ≡ false → begins k (u ++ v) ≡ false
+pub begins_head : {P : TokenKind → Type 0} {u : List Token} (k : TokenKind) (v : List Token) (h : Head P u) → same_kind k h.first.kind ≡ false → begins k (u ++ v) ≡ false
 begins_head k v h e = ap (λ (x : List Token). begins k (x ++ v)) h.whole ∙ e
 
 pub chain_head : {s : TokenKind} {is : TokenKind → Bool} {u names : List Token} → IsChain s is u names → Head (λ k. is k ≡ true) u
@@ -111,7 +110,7 @@ string_head (string {t = t} h) = record { first = t; rest = []; whole = refl; is
 
 -- no bracket or brace closes with this kind
 abbrev pub NoClose : TokenKind → Type 0
-NoClose k = (same RBrace k ≡ false) × (same LBrace k ≡ false)
+NoClose k = (same_kind RBrace k ≡ false) × (same_kind LBrace k ≡ false)
 
 pub role_facts : (k : TokenKind) → is_role k ≡ true → NoClose k
 role_facts KwPrincipal h = (refl, refl)
@@ -129,31 +128,31 @@ attr_head (attr n c {m = m} {u = u} (bare {a = a} {k = k} {u = b} x w r) h y l t
 attr_head (attr n c {m = m} {u = u} (valued {a = a} {k = k} {o = o} {v = v} {c = d} {u = b} x w y z q r) h s l t) = record { first = a; rest = k ∷ o ∷ v ∷ d ∷ (b ++ n ∷ (m ++ c ∷ u)); whole = refl; is = rw x (refl, refl) }
 
 -- what follows a part that may be empty
-pub skip_parents : {P : List Token → PathSyntax → Type 0} {u : List Token} {ps : List PathSyntax} (k : TokenKind) (v : List Token) → AreParents P u ps → same k KwIn ≡ false → begins k v ≡ false → begins k (u ++ v) ≡ false
+pub skip_parents : {P : List Token → PathSyntax → Type 0} {u : List Token} {ps : List PathSyntax} (k : TokenKind) (v : List Token) → AreParents P u ps → same_kind k KwIn ≡ false → begins k v ≡ false → begins k (u ++ v) ≡ false
 skip_parents k v no_parents e f = f
 skip_parents k v (in_parents h l) e f = rw h e
 
-pub skip_shape : {u : List Token} {s : Option (List AttrSyntax × Span)} (k : TokenKind) (v : List Token) → IsShape u s → same k Equals ≡ false → same k LBrace ≡ false → begins k v ≡ false → begins k (u ++ v) ≡ false
+pub skip_shape : {u : List Token} {s : Option (List AttrSyntax × Span)} (k : TokenKind) (v : List Token) → IsShape u s → same_kind k Equals ≡ false → same_kind k LBrace ≡ false → begins k v ≡ false → begins k (u ++ v) ≡ false
 skip_shape k v no_shape e f g = g
 skip_shape k v (bare_shape (braces c h r l)) e f g = rw h f
 skip_shape k v (equals_shape h r) e f g = rw h e
 
-pub skip_tags : {u : List Token} {t : Option TypeSyntax} (k : TokenKind) (v : List Token) → AreTags u t → same k KwTags ≡ false → begins k v ≡ false → begins k (u ++ v) ≡ false
+pub skip_tags : {u : List Token} {t : Option TypeSyntax} (k : TokenKind) (v : List Token) → AreTags u t → same_kind k KwTags ≡ false → begins k v ≡ false → begins k (u ++ v) ≡ false
 skip_tags k v no_tags e f = f
 skip_tags k v (some_tags h r) e f = rw h e
 
-pub skip_applies : {u : List Token} {s : Option (List AppSyntax × Span)} (k : TokenKind) (v : List Token) → Applies u s → same k KwAppliesTo ≡ false → begins k v ≡ false → begins k (u ++ v) ≡ false
+pub skip_applies : {u : List Token} {s : Option (List AppSyntax × Span)} (k : TokenKind) (v : List Token) → Applies u s → same_kind k KwAppliesTo ≡ false → begins k v ≡ false → begins k (u ++ v) ≡ false
 skip_applies k v no_applies e f = f
 skip_applies k v (some_applies c h o r l) e f = rw h e
 
-pub skip_annotations : {u : List Token} {xs : List AnnotationSyntax} (k : TokenKind) (v : List Token) → AreAnnotations u xs → same k At ≡ false → begins k v ≡ false → begins k (u ++ v) ≡ false
+pub skip_annotations : {u : List Token} {xs : List AnnotationSyntax} (k : TokenKind) (v : List Token) → AreAnnotations u xs → same_kind k At ≡ false → begins k v ≡ false → begins k (u ++ v) ≡ false
 skip_annotations k v none e f = f
 skip_annotations k v (bare h w r) e f = rw h e
 skip_annotations k v (valued h w o l c r) e f = rw h e
 
 -- a declaration begins with one of four words
 abbrev pub DeclFacts : TokenKind → Type 0
-DeclFacts k = (same At k ≡ false) × (same LParen k ≡ false) × (same RBrace k ≡ false) × (same KwNamespace k ≡ false)
+DeclFacts k = (same_kind At k ≡ false) × (same_kind LParen k ≡ false) × (same_kind RBrace k ≡ false) × (same_kind KwNamespace k ≡ false)
 
 pub decl_head : {u : List Token} {d : DeclSyntax} → IsDecl u d → Head DeclFacts u
 decl_head (entity_decl z h i p s t k) = record { first = _; rest = _; whole = refl; is = rw h (refl, refl, refl, refl) }

@@ -2,9 +2,8 @@
 use Rattle.std.proofs.Common.{◌≡◌, List, [], ◌∷◌, ◌++◌, Bool, true, refl, sym, ap, ◌∙◌, subst}
 use Rattle.schema_syntax_grammar.specs.declared.token_kind.TokenKind.{TokenKind}
 use Rattle.schema_syntax_grammar.specs.declared.token_kind.TokenKind.TheVariants.{KwNamespace, KwEntity, KwExternal, KwIn, KwType, KwSet, KwAppliesTo, KwPrincipal, KwAction, KwResource, KwContext, KwTags, KwEnum, StringLit, At, Comma, Semi, Colon, PathSep, LParen, RParen, LBrace, RBrace, LBracket, RBracket, Less, Greater, Question, Equals}
-use Rattle.schema_syntax_grammar.specs.Grammar.{is_word, is_ident, Part, schema, item, decls, decl, bare_decl, idents, parents, shape, tags, strings, names, name, in_refs, applies, apps, app, types, paths, refs, ref_list, ref, ty, rec, attrs, attr, mark, path, anns, Phrase}
+use Rattle.schema_syntax_grammar.specs.Grammar.{is_word_kind, is_ident, Part, schema, item, decls, decl, bare_decl, idents, parents, shape, tags, strings, names, name, in_refs, applies, apps, app, types, paths, refs, ref_list, ref, ty, rec, attrs, attr, mark, path, anns, Phrase, is_name_kind}
 use Rattle.schema_syntax_grammar.specs.Grammar as G
-use Rattle.schema_syntax_grammar.specs.Table.{is_name}
 use Rattle.schema_syntax_tokens.specs.declared.token.Token.{Token}
 use Rattle.schema_syntax_parser.specs.Syntax.{kinds_of, IsChain, AreSeparated, AreListed, AreMany, IsPath, IsRef, AreParents, AreAnnotations, IsMark, IsType, IsRecord, AreAttrs, IsAttr, IsShape, AreTags, IsString, is_role, IsApp, Applies, IsDecl, IsDeclared, IsItem}
 use Rattle.schema_syntax_parser.specs.Syntax as S
@@ -84,7 +83,7 @@ abbrev Has : {A : Type 0} → (List Token → A → Type 0) → List Token → T
 Has {A} P u = (x : A) × P u x
 
 abbrev IsName : List Token → Token → Type 0
-IsName u t = (u ≡ t ∷ []) × (is_name t.kind ≡ true)
+IsName u t = (u ≡ t ∷ []) × (is_name_kind t.kind ≡ true)
 
 abbrev Made : Part → List Token → Type 0
 Made schema u = Has (AreMany IsItem) u
@@ -97,7 +96,7 @@ Made parents u = Has (AreParents IsPath) u
 Made shape u = Has IsShape u
 Made tags u = Has AreTags u
 Made strings u = Has (AreSeparated IsString) u
-Made names u = Has (IsChain Comma is_name) u
+Made names u = Has (IsChain Comma is_name_kind) u
 Made name u = Has IsName u
 Made in_refs u = Has (AreParents IsRef) u
 Made applies u = Has Applies u
@@ -238,12 +237,12 @@ made (G.more_strings {a = a} p) u e =
     let g = front f.right Comma a f.second in
     let m = made p g.right g.second in
     along (AreSeparated IsString) u _ (f.whole ∙ ap (λ v. f.token ∷ v) g.whole) (_, S.more g.token (S.string f.is) g.is m.1)
-made (G.one_name p) u e = let m = made p u e in along (IsChain Comma is_name) u _ m.1.0 (_, S.one m.1.1)
+made (G.one_name p) u e = let m = made p u e in along (IsChain Comma is_name_kind) u _ m.1.0 (_, S.one m.1.1)
 made (G.more_names {a = a} {b = b} p q) u e =
     let c = between a b Comma u e in
     let m = made p c.left c.first in
     let n = made q c.right c.second in
-    along (IsChain Comma is_name) u _ (c.whole ∙ ap (λ v. v ++ c.token ∷ c.right) m.1.0) (_, S.more m.1.1 c.is n.1)
+    along (IsChain Comma is_name_kind) u _ (c.whole ∙ ap (λ v. v ++ c.token ∷ c.right) m.1.0) (_, S.more m.1.1 c.is n.1)
 made (G.ident_name {i = i} h) u e = let a = alone i u e in (a.token, (a.whole, ident_name a.token.kind (as_kind is_ident a.token.kind i a.is h)))
 made G.string_name u e = let a = alone StringLit u e in (a.token, (a.whole, rw a.is refl))
 made G.no_refs u e = along (AreParents IsRef) u [] (none u e) (_, S.no_parents)
@@ -362,7 +361,7 @@ made (G.bare_ann {w = w} {a = a} h p) u e =
     let f = front u At (w ∷ a) e in
     let g = front f.right w a f.second in
     let m = made p g.right g.second in
-    along AreAnnotations u _ (f.whole ∙ ap (λ v. f.token ∷ v) g.whole) (_, S.bare f.is (as_kind is_word g.token.kind w g.is h) m.1)
+    along AreAnnotations u _ (f.whole ∙ ap (λ v. f.token ∷ v) g.whole) (_, S.bare f.is (as_kind is_word_kind g.token.kind w g.is h) m.1)
 made (G.valued_ann {w = w} {a = a} h p) u e =
     let f = front u At (w ∷ LParen ∷ StringLit ∷ RParen ∷ a) e in
     let g = front f.right w (LParen ∷ StringLit ∷ RParen ∷ a) f.second in
@@ -371,4 +370,4 @@ made (G.valued_ann {w = w} {a = a} h p) u e =
     let c = front s.right RParen a s.second in
     let m = made p c.right c.second in
     let whole = f.whole ∙ ap (λ v. f.token ∷ v) (g.whole ∙ ap (λ v. g.token ∷ v) (o.whole ∙ ap (λ v. o.token ∷ v) (s.whole ∙ ap (λ v. s.token ∷ v) c.whole))) in
-    along AreAnnotations u _ whole (_, S.valued f.is (as_kind is_word g.token.kind w g.is h) o.is s.is c.is m.1)
+    along AreAnnotations u _ whole (_, S.valued f.is (as_kind is_word_kind g.token.kind w g.is h) o.is s.is c.is m.1)

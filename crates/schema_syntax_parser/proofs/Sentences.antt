@@ -4,9 +4,8 @@ use Rattle.std.proofs.lemmas.List.{map-append}
 use Rattle.cedar_data.specs.Span.{Span}
 use Rattle.schema_syntax_grammar.specs.declared.token_kind.TokenKind.{TokenKind}
 use Rattle.schema_syntax_grammar.specs.declared.token_kind.TokenKind.TheVariants.{KwNamespace, KwEntity, KwExternal, KwIn, KwType, KwSet, KwAppliesTo, KwPrincipal, KwAction, KwResource, KwContext, KwTags, KwEnum, StringLit, At, Comma, Semi, Colon, PathSep, LParen, RParen, LBrace, RBrace, LBracket, RBracket, Less, Greater, Question, Equals}
-use Rattle.schema_syntax_grammar.specs.Grammar.{is_word, is_ident, Kinds, Part, schema, item, decls, decl, bare_decl, idents, parents, shape, tags, strings, names, name, in_refs, applies, apps, app, types, paths, refs, ref_list, ref, ty, rec, attrs, attr, mark, path, anns, Phrase}
+use Rattle.schema_syntax_grammar.specs.Grammar.{is_word_kind, is_ident, Kinds, Part, schema, item, decls, decl, bare_decl, idents, parents, shape, tags, strings, names, name, in_refs, applies, apps, app, types, paths, refs, ref_list, ref, ty, rec, attrs, attr, mark, path, anns, Phrase, is_name_kind}
 use Rattle.schema_syntax_grammar.specs.Grammar as G
-use Rattle.schema_syntax_grammar.specs.Table.{is_name}
 use Rattle.schema_syntax_tokens.specs.declared.token.Token.{Token}
 use Rattle.schema_syntax_parser.specs.declared.syntax.PathSyntax.{PathSyntax}
 use Rattle.schema_syntax_parser.specs.declared.syntax.AnnotationSyntax.{AnnotationSyntax}
@@ -37,7 +36,7 @@ after u v w f = both u v ∙ ap (λ l. kinds_of u ++ l) f
 as_phrase : (p : Part) (u : List Token) (w : Kinds) → kinds_of u ≡ w → Phrase p w → Phrase p (kinds_of u)
 as_phrase p u w e h = subst (Phrase p) (sym e) h
 
-name_phrase : (k : TokenKind) → is_name k ≡ true → Phrase name (k ∷ [])
+name_phrase : (k : TokenKind) → is_name_kind k ≡ true → Phrase name (k ∷ [])
 name_phrase StringLit h = G.string_name
 name_phrase k h = G.ident_name h
 
@@ -49,7 +48,7 @@ ident_chain : {u ns : List Token} → IsChain Comma is_ident u ns → Phrase ide
 ident_chain (S.one h) = G.one_ident h
 ident_chain (S.more {t = t} {s = s} {u = u} h k r) = as_phrase idents (t ∷ s ∷ u) (t.kind ∷ Comma ∷ kinds_of u) (λ i. t.kind ∷ k i ∷ kinds_of u) (G.more_idents h (ident_chain r))
 
-name_chain : {u ns : List Token} → IsChain Comma is_name u ns → Phrase names (kinds_of u)
+name_chain : {u ns : List Token} → IsChain Comma is_name_kind u ns → Phrase names (kinds_of u)
 name_chain (S.one {t = t} h) = G.one_name (name_phrase t.kind h)
 name_chain (S.more {t = t} {s = s} {u = u} h k r) = as_phrase names (t ∷ s ∷ u) (t.kind ∷ Comma ∷ kinds_of u) (λ i. t.kind ∷ k i ∷ kinds_of u) (G.more_names (name_phrase t.kind h) (name_chain r))
 

@@ -3,8 +3,7 @@ use Rattle.std.specs.Prelude.{◌≡◌, ℕ, zero, suc, ◌+◌, ◌-◌, lengt
 use Rattle.cedar_data.specs.Span.{Span}
 use Rattle.schema_syntax_grammar.specs.declared.token_kind.TokenKind.{TokenKind}
 use Rattle.schema_syntax_grammar.specs.declared.token_kind.TokenKind.TheVariants.{KwNamespace, KwEntity, KwExternal, KwIn, KwType, KwSet, KwAppliesTo, KwAction, KwContext, KwTags, KwEnum, StringLit, At, Comma, Semi, Colon, PathSep, LParen, RParen, LBrace, RBrace, LBracket, RBracket, Less, Greater, Question, Equals}
-use Rattle.schema_syntax_grammar.specs.Grammar.{is_word, is_ident}
-use Rattle.schema_syntax_grammar.specs.Table.{same, is_name}
+use Rattle.schema_syntax_grammar.specs.Grammar.{is_word_kind, is_ident, same_kind, is_name_kind}
 use Rattle.schema_syntax_tokens.specs.declared.token.Token.{Token}
 use Rattle.schema_syntax_parser.specs.declared.stop.Stop.{Stop}
 use Rattle.schema_syntax_parser.specs.declared.stop.Stop.TheVariants.{Memory, Mismatch}
@@ -75,7 +74,7 @@ any_at (t ∷ ts) = Some (t, ts)
 -- the token at the front, if it is of the kind
 abbrev pub token_at : TokenKind → List Token → Read Token
 token_at k [] = None
-token_at k (t ∷ ts) = if same k t.kind then Some (t, ts) else None
+token_at k (t ∷ ts) = if same_kind k t.kind then Some (t, ts) else None
 
 -- the token at the front, if its kind is one of these
 abbrev pub class_at : (TokenKind → Bool) → List Token → Read Token
@@ -85,7 +84,7 @@ class_at is (t ∷ ts) = if is t.kind then Some (t, ts) else None
 -- an item, and others where the separator follows
 abbrev pub link_at : {A : Type 0} → TokenKind → A → List Token → Turn A
 link_at separator x [] = Last x []
-link_at separator x (s ∷ ts) = if same separator s.kind then More x ts else Last x (s ∷ ts)
+link_at separator x (s ∷ ts) = if same_kind separator s.kind then More x ts else Last x (s ∷ ts)
 
 unfoldable pub chain_turn : TokenKind → (TokenKind → Bool) → List Token → Option (Turn Token)
 chain_turn separator is ts = class_at is ts >>= λ t. Some (link_at separator t.0 t.1)
@@ -93,22 +92,22 @@ chain_turn separator is ts = class_at is ts >>= λ t. Some (link_at separator t.
 -- an item before the closing token, or before a comma
 abbrev pub closed_at : {A : Type 0} → TokenKind → A → List Token → Option (Turn A)
 closed_at close x [] = None
-closed_at close x (e ∷ ts) = if same close e.kind then Some (Last x ts) else if same Comma e.kind then Some (More x ts) else None
+closed_at close x (e ∷ ts) = if same_kind close e.kind then Some (Last x ts) else if same_kind Comma e.kind then Some (More x ts) else None
 
 unfoldable pub separated_turn : {A : Type 0} → TokenKind → (List Token → Read A) → List Token → Option (Turn A)
 separated_turn close item [] = item [] >>= λ x. closed_at close x.0 x.1
-separated_turn close item (t ∷ ts) = if same close t.kind then Some (Done ts) else item (t ∷ ts) >>= λ x. closed_at close x.0 x.1
+separated_turn close item (t ∷ ts) = if same_kind close t.kind then Some (Done ts) else item (t ∷ ts) >>= λ x. closed_at close x.0 x.1
 
 unfoldable pub path_at : List Token → Read PathSyntax
 path_at ts = all_at (chain_turn PathSep is_ident) ts >>= λ r. Some (record { names = r.0; loc = place_before ts r.1 }, r.1)
 
 unfoldable pub ref_at : List Token → Read PathSyntax
-ref_at ts = all_at (chain_turn PathSep is_name) ts >>= λ r. Some (record { names = r.0; loc = place_before ts r.1 }, r.1)
+ref_at ts = all_at (chain_turn PathSep is_name_kind) ts >>= λ r. Some (record { names = r.0; loc = place_before ts r.1 }, r.1)
 
 -- one item, or items in brackets
 abbrev pub listed_at : (List Token → Read PathSyntax) → List Token → Read (List PathSyntax)
 listed_at item [] = item [] >>= λ p. Some (p.0 ∷ [], p.1)
-listed_at item (t ∷ ts) = if same LBracket t.kind then all_at (separated_turn RBracket item) ts else item (t ∷ ts) >>= λ p. Some (p.0 ∷ [], p.1)
+listed_at item (t ∷ ts) = if same_kind LBracket t.kind then all_at (separated_turn RBracket item) ts else item (t ∷ ts) >>= λ p. Some (p.0 ∷ [], p.1)
 
 unfoldable pub types_at : List Token → Read (List PathSyntax)
 types_at = listed_at path_at
@@ -118,13 +117,13 @@ refs_at = listed_at ref_at
 
 abbrev pub parents_at : (List Token → Read (List PathSyntax)) → List Token → Read (List PathSyntax)
 parents_at list [] = Some ([], [])
-parents_at list (t ∷ ts) = if same KwIn t.kind then list ts else Some ([], t ∷ ts)
+parents_at list (t ∷ ts) = if same_kind KwIn t.kind then list ts else Some ([], t ∷ ts)
 
 -- an annotation behind its word
 abbrev pub value_at : Token → List Token → Option (Turn AnnotationSyntax)
 value_at k [] = Some (More (record { key = k; value = None }) [])
 value_at k (o ∷ ts) =
-    if same LParen o.kind then (do
+    if same_kind LParen o.kind then (do
       v ← token_at StringLit ts
       c ← token_at RParen v.1
       Some (More (record { key = k; value = Some v.0 }) c.1))
@@ -132,14 +131,14 @@ value_at k (o ∷ ts) =
 
 unfoldable pub annotation_turn : List Token → Option (Turn AnnotationSyntax)
 annotation_turn [] = Some (Done [])
-annotation_turn (a ∷ ts) = if same At a.kind then class_at is_word ts >>= (λ k. value_at k.0 k.1) else Some (Done (a ∷ ts))
+annotation_turn (a ∷ ts) = if same_kind At a.kind then class_at is_word_kind ts >>= (λ k. value_at k.0 k.1) else Some (Done (a ∷ ts))
 
 unfoldable pub annotations_at : List Token → Read (List AnnotationSyntax)
 annotations_at ts = all_at annotation_turn ts
 
 unfoldable pub mark_at : List Token → Bool × List Token
 mark_at [] = (true, [])
-mark_at (t ∷ ts) = if same Question t.kind then (false, ts) else (true, t ∷ ts)
+mark_at (t ∷ ts) = if same_kind Question t.kind then (false, ts) else (true, t ∷ ts)
 
 abbrev pub as_type : Read PathSyntax → Read TypeSyntax
 as_type read = read >>= λ p. Some (Path p.0, p.1)
@@ -148,7 +147,7 @@ as_type read = read >>= λ p. Some (Path p.0, p.1)
 unfoldable pub set_step : (List Token → Read TypeSyntax) → Token → List Token → Read TypeSyntax
 set_step type_at t [] = as_type (path_at (t ∷ []))
 set_step type_at t (o ∷ ts) =
-    if same Less o.kind then (do
+    if same_kind Less o.kind then (do
       e ← type_at ts
       c ← token_at Greater e.1
       Some (Set e.0 (place_before (t ∷ o ∷ ts) c.1), c.1))
@@ -158,15 +157,15 @@ set_step type_at t (o ∷ ts) =
 unfoldable pub type_step : (List Token → Read TypeSyntax) → (List Token → Read (List AttrSyntax)) → List Token → Read TypeSyntax
 type_step type_at attrs_at [] = None
 type_step type_at attrs_at (t ∷ ts) =
-    if same LBrace t.kind then (attrs_at ts >>= λ r. Some (Record r.0 (place_before (t ∷ ts) r.1), r.1))
-    else if same KwSet t.kind then set_step type_at t ts
+    if same_kind LBrace t.kind then (attrs_at ts >>= λ r. Some (Record r.0 (place_before (t ∷ ts) r.1), r.1))
+    else if same_kind KwSet t.kind then set_step type_at t ts
     else as_type (path_at (t ∷ ts))
 
 -- an attribute, from what reads its type
 unfoldable pub attr_step : (List Token → Read TypeSyntax) → List Token → Read AttrSyntax
 attr_step type_at ts = do
   a ← annotations_at ts
-  n ← class_at is_name a.1
+  n ← class_at is_name_kind a.1
   c ← token_at Colon (mark_at n.1).1
   t ← type_at c.1
   Some (roll-AttrSyntax (record { annotations = a.0; name = n.0; required = (mark_at n.1).0; ty = t.0; loc = place_before a.1 t.1 }), t.1)
@@ -195,31 +194,31 @@ some_record read = read >>= λ r. Some (Some r.0, r.1)
 unfoldable pub shape_at : List Token → Read (Option (List AttrSyntax × Span))
 shape_at [] = Some (None, [])
 shape_at (t ∷ ts) =
-    if same Equals t.kind then some_record (record_at ts)
-    else if same LBrace t.kind then some_record (record_at (t ∷ ts))
+    if same_kind Equals t.kind then some_record (record_at ts)
+    else if same_kind LBrace t.kind then some_record (record_at (t ∷ ts))
     else Some (None, t ∷ ts)
 
 unfoldable pub tags_at : List Token → Read (Option TypeSyntax)
 tags_at [] = Some (None, [])
-tags_at (t ∷ ts) = if same KwTags t.kind then (type_at (length ts) ts >>= λ r. Some (Some r.0, r.1)) else Some (None, t ∷ ts)
+tags_at (t ∷ ts) = if same_kind KwTags t.kind then (type_at (length ts) ts >>= λ r. Some (Some r.0, r.1)) else Some (None, t ∷ ts)
 
 -- what `context` is given, in the member that begins at whole
 unfoldable pub context_at : List Token → List Token → Read AppSyntax
 context_at whole [] = None
 context_at whole (t ∷ ts) =
-    if same LBrace t.kind then (record_at (t ∷ ts) >>= λ r. Some (ContextRecord r.0.0 r.0.1 (place_before whole r.1), r.1))
+    if same_kind LBrace t.kind then (record_at (t ∷ ts) >>= λ r. Some (ContextRecord r.0.0 r.0.1 (place_before whole r.1), r.1))
     else (path_at (t ∷ ts) >>= λ p. Some (ContextPath p.0 (place_before whole p.1), p.1))
 
 unfoldable pub app_at : List Token → Read AppSyntax
 app_at ts = do
   w ← any_at ts
   c ← token_at Colon w.1
-  if is_role w.0.kind then (types_at c.1 >>= λ r. Some (Types w.0 r.0 (place_before ts r.1), r.1)) else (if same KwContext w.0.kind then context_at ts c.1 else None)
+  if is_role w.0.kind then (types_at c.1 >>= λ r. Some (Types w.0 r.0 (place_before ts r.1), r.1)) else (if same_kind KwContext w.0.kind then context_at ts c.1 else None)
 
 unfoldable pub applies_at : List Token → Read (Option (List AppSyntax × Span))
 applies_at [] = Some (None, [])
 applies_at (t ∷ ts) =
-    if same KwAppliesTo t.kind then (do
+    if same_kind KwAppliesTo t.kind then (do
       o ← token_at LBrace ts
       r ← all_at (separated_turn RBrace app_at) o.1
       Some (Some (r.0, place_before ts r.1), r.1))
@@ -247,7 +246,7 @@ standard_at names ts = do
 
 abbrev pub entity_body_at : List Token → List Token → Read DeclSyntax
 entity_body_at names [] = standard_at names []
-entity_body_at names (t ∷ ts) = if same KwEnum t.kind then enum_at names ts else standard_at names (t ∷ ts)
+entity_body_at names (t ∷ ts) = if same_kind KwEnum t.kind then enum_at names ts else standard_at names (t ∷ ts)
 
 -- a declaration behind its first word
 unfoldable pub entity_at : List Token → Read DeclSyntax
@@ -262,14 +261,14 @@ external_entity_at ts = do
 
 unfoldable pub external_action_at : List Token → Read DeclSyntax
 external_action_at ts = do
-  n ← all_at (chain_turn Comma is_name) ts
+  n ← all_at (chain_turn Comma is_name_kind) ts
   p ← parents_at refs_at n.1
   z ← token_at Semi p.1
   Some (ExternalAction n.0 p.0, z.1)
 
 unfoldable pub action_at : List Token → Read DeclSyntax
 action_at ts = do
-  n ← all_at (chain_turn Comma is_name) ts
+  n ← all_at (chain_turn Comma is_name_kind) ts
   p ← parents_at refs_at n.1
   a ← applies_at p.1
   z ← token_at Semi a.1
@@ -286,12 +285,12 @@ common_at ts = do
 unfoldable pub external_at : List Token → Read DeclSyntax
 external_at ts = do
   w ← any_at ts
-  if same KwEntity w.0.kind then external_entity_at w.1 else if same KwAction w.0.kind then external_action_at w.1 else None
+  if same_kind KwEntity w.0.kind then external_entity_at w.1 else if same_kind KwAction w.0.kind then external_action_at w.1 else None
 
 unfoldable pub decl_at : List Token → Read DeclSyntax
 decl_at ts = do
   w ← any_at ts
-  if same KwEntity w.0.kind then entity_at w.1 else (if same KwExternal w.0.kind then external_at w.1 else (if same KwAction w.0.kind then action_at w.1 else (if same KwType w.0.kind then common_at w.1 else None)))
+  if same_kind KwEntity w.0.kind then entity_at w.1 else (if same_kind KwExternal w.0.kind then external_at w.1 else (if same_kind KwAction w.0.kind then action_at w.1 else (if same_kind KwType w.0.kind then common_at w.1 else None)))
 
 unfoldable pub declared_at : List Token → Read DeclaredSyntax
 declared_at ts = do
@@ -301,7 +300,7 @@ declared_at ts = do
 
 unfoldable pub decl_turn : List Token → Option (Turn DeclaredSyntax)
 decl_turn [] = declared_at [] >>= λ d. Some (More d.0 d.1)
-decl_turn (t ∷ ts) = if same RBrace t.kind then Some (Done ts) else declared_at (t ∷ ts) >>= λ d. Some (More d.0 d.1)
+decl_turn (t ∷ ts) = if same_kind RBrace t.kind then Some (Done ts) else declared_at (t ∷ ts) >>= λ d. Some (More d.0 d.1)
 
 -- a namespace behind its annotations and its first word, which begins whole
 unfoldable pub namespace_at : List AnnotationSyntax → List Token → List Token → Read ItemSyntax
@@ -317,7 +316,7 @@ outside_at annotations ts = decl_at ts >>= λ d. Some (Decl (record { annotation
 
 abbrev pub item_body_at : List AnnotationSyntax → List Token → Read ItemSyntax
 item_body_at annotations [] = outside_at annotations []
-item_body_at annotations (t ∷ ts) = if same KwNamespace t.kind then namespace_at annotations (t ∷ ts) ts else outside_at annotations (t ∷ ts)
+item_body_at annotations (t ∷ ts) = if same_kind KwNamespace t.kind then namespace_at annotations (t ∷ ts) ts else outside_at annotations (t ∷ ts)
 
 unfoldable pub item_at : List Token → Read ItemSyntax
 item_at ts = annotations_at ts >>= λ a. item_body_at a.0 a.1

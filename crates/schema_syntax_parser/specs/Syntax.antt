@@ -3,8 +3,7 @@ use Rattle.std.specs.Prelude.{◌≡◌, ℕ, max, List, [], ◌∷◌, ◌++◌
 use Rattle.cedar_data.specs.Span.{Span}
 use Rattle.schema_syntax_grammar.specs.declared.token_kind.TokenKind.{TokenKind}
 use Rattle.schema_syntax_grammar.specs.declared.token_kind.TokenKind.TheVariants.{KwNamespace, KwEntity, KwExternal, KwIn, KwType, KwSet, KwAppliesTo, KwPrincipal, KwAction, KwResource, KwContext, KwTags, KwEnum, StringLit, At, Comma, Semi, Colon, PathSep, LParen, RParen, LBrace, RBrace, LBracket, RBracket, Less, Greater, Question, Equals}
-use Rattle.schema_syntax_grammar.specs.Grammar.{is_word, is_ident}
-use Rattle.schema_syntax_grammar.specs.Table.{is_name}
+use Rattle.schema_syntax_grammar.specs.Grammar.{is_word_kind, is_ident, is_name_kind}
 use Rattle.schema_syntax_tokens.specs.declared.token.Token.{Token}
 use Rattle.schema_syntax_parser.specs.declared.syntax.PathSyntax.{PathSyntax}
 use Rattle.schema_syntax_parser.specs.declared.syntax.AnnotationSyntax.{AnnotationSyntax}
@@ -56,7 +55,7 @@ pub data IsPath : List Token → PathSyntax → Type 0 where
 
 -- Name | Path '::' STR
 pub data IsRef : List Token → PathSyntax → Type 0 where
-  plain : {t : Token} → is_name t.kind ≡ true → IsRef (t ∷ []) (record { names = t ∷ []; loc = place_of (t ∷ []) })
+  plain : {t : Token} → is_name_kind t.kind ≡ true → IsRef (t ∷ []) (record { names = t ∷ []; loc = place_of (t ∷ []) })
   typed : {u names : List Token} (s q : Token) → IsChain PathSep is_ident u names → s.kind ≡ PathSep → q.kind ≡ StringLit → IsRef (u ++ s ∷ q ∷ []) (record { names = names ++ q ∷ []; loc = place_of (u ++ s ∷ q ∷ []) })
 
 -- ['in' Types] and ['in' Refs]
@@ -67,8 +66,8 @@ pub data AreParents (P : List Token → PathSyntax → Type 0) : List Token → 
 -- {'@' Word ['(' STR ')']}
 pub data AreAnnotations : List Token → List AnnotationSyntax → Type 0 where
   none : AreAnnotations [] []
-  bare : {a k : Token} {u : List Token} {xs : List AnnotationSyntax} → a.kind ≡ At → is_word k.kind ≡ true → AreAnnotations u xs → AreAnnotations (a ∷ k ∷ u) (record { key = k; value = None } ∷ xs)
-  valued : {a k o v c : Token} {u : List Token} {xs : List AnnotationSyntax} → a.kind ≡ At → is_word k.kind ≡ true → o.kind ≡ LParen → v.kind ≡ StringLit → c.kind ≡ RParen → AreAnnotations u xs
+  bare : {a k : Token} {u : List Token} {xs : List AnnotationSyntax} → a.kind ≡ At → is_word_kind k.kind ≡ true → AreAnnotations u xs → AreAnnotations (a ∷ k ∷ u) (record { key = k; value = None } ∷ xs)
+  valued : {a k o v c : Token} {u : List Token} {xs : List AnnotationSyntax} → a.kind ≡ At → is_word_kind k.kind ≡ true → o.kind ≡ LParen → v.kind ≡ StringLit → c.kind ≡ RParen → AreAnnotations u xs
       → AreAnnotations (a ∷ k ∷ o ∷ v ∷ c ∷ u) (record { key = k; value = Some v } ∷ xs)
 
 -- ['?']
@@ -94,7 +93,7 @@ mutual
 
   -- Anns Name ['?'] ':' Type
   pub data IsAttr : List Token → AttrSyntax → Type 0 where
-    attr : (n c : Token) {a m u : List Token} {xs : List AnnotationSyntax} {required : Bool} {t : TypeSyntax} → AreAnnotations a xs → is_name n.kind ≡ true → IsMark m required → c.kind ≡ Colon → IsType u t
+    attr : (n c : Token) {a m u : List Token} {xs : List AnnotationSyntax} {required : Bool} {t : TypeSyntax} → AreAnnotations a xs → is_name_kind n.kind ≡ true → IsMark m required → c.kind ≡ Colon → IsType u t
         → IsAttr (a ++ n ∷ (m ++ c ∷ u)) (roll-AttrSyntax (record { annotations = xs; name = n; required = required; ty = t; loc = place_of (n ∷ (m ++ c ∷ u)) }))
 
 -- [['='] Rec]
@@ -146,11 +145,11 @@ pub data IsDecl : List Token → DeclSyntax → Type 0 where
       → IsDecl (x ∷ e ∷ (i ++ (p ++ z ∷ []))) (ExternalEntity names parents)
   -- 'action' Names ['in' Refs] ['appliesTo' '{' [App {',' App} [',']] '}'] ';'
   action_decl : {a : Token} (z : Token) {n r s names : List Token} {parents : List PathSyntax} {applies : Option (List AppSyntax × Span)}
-      → a.kind ≡ KwAction → IsChain Comma is_name n names → AreParents IsRef r parents → Applies s applies → z.kind ≡ Semi
+      → a.kind ≡ KwAction → IsChain Comma is_name_kind n names → AreParents IsRef r parents → Applies s applies → z.kind ≡ Semi
       → IsDecl (a ∷ (n ++ (r ++ (s ++ z ∷ [])))) (Action names parents applies)
   -- 'external' 'action' Names ['in' Refs] ';'
   external_action : {x a : Token} (z : Token) {n r names : List Token} {parents : List PathSyntax}
-      → x.kind ≡ KwExternal → a.kind ≡ KwAction → IsChain Comma is_name n names → AreParents IsRef r parents → z.kind ≡ Semi
+      → x.kind ≡ KwExternal → a.kind ≡ KwAction → IsChain Comma is_name_kind n names → AreParents IsRef r parents → z.kind ≡ Semi
       → IsDecl (x ∷ a ∷ (n ++ (r ++ z ∷ []))) (ExternalAction names parents)
   -- 'type' Ident '=' Type ';'
   common_decl : {w n e : Token} (z : Token) {u : List Token} {t : TypeSyntax} → w.kind ≡ KwType → is_ident n.kind ≡ true → e.kind ≡ Equals → IsType u t → z.kind ≡ Semi → IsDecl (w ∷ n ∷ e ∷ (u ++ z ∷ [])) (Common n t)

@@ -1,8 +1,7 @@
 ghost use Rattle.std.specs.Prelude.{◌≡◌};
 ghost use Rattle.schema_syntax_parser.specs.Syntax.{place_of, is_role};
 ghost use Rattle.schema_syntax_parser.specs.Reading.{Gives, any_at, token_at, class_at, place_before};
-ghost use Rattle.schema_syntax_grammar.specs.Grammar.{is_word, is_ident};
-ghost use Rattle.schema_syntax_grammar.specs.Table.{is_name};
+ghost use Rattle.schema_syntax_grammar.specs.Grammar.{is_word_kind, is_ident, is_name_kind};
 
 use crate::stop::Stop;
 use cedar_data::Loc;
@@ -31,7 +30,7 @@ pub fn token(tokens: &[Token], kind: TokenKind) -> Result<(&Token, &[Token]), St
 
 // The token at the front, which is of the kind of a word.
 pub fn word(tokens: &[Token]) -> Result<(&Token, &[Token]), Stop>
-    ensures { Gives (λ r. (r.0.now, r.1.now)) result (class_at is_word tokens.now) }
+    ensures { Gives (λ r. (r.0.now, r.1.now)) result (class_at is_word_kind tokens.now) }
 {
     match tokens {
         [first, rest @ ..] if first.kind.is_word() => Ok((first, rest)),
@@ -51,19 +50,12 @@ pub fn ident(tokens: &[Token]) -> Result<(&Token, &[Token]), Stop>
 
 // The token at the front, which is of the kind of a name.
 pub fn name(tokens: &[Token]) -> Result<(&Token, &[Token]), Stop>
-    ensures { Gives (λ r. (r.0.now, r.1.now)) result (class_at is_name tokens.now) }
+    ensures { Gives (λ r. (r.0.now, r.1.now)) result (class_at is_name_kind tokens.now) }
 {
     match tokens {
-        [first, rest @ ..] if is_name(first.kind) => Ok((first, rest)),
+        [first, rest @ ..] if first.kind.is_name() => Ok((first, rest)),
         _ => Err(Stop::Mismatch),
     }
-}
-
-// Whether it is the kind of a name: of a word but `in`, or of a string.
-pub fn is_name(kind: TokenKind) -> bool
-    ensures { result ≡ is_name kind }
-{
-    kind == TokenKind::StringLit || kind.is_ident()
 }
 
 // Whether it is the kind of `principal` or of `resource`.

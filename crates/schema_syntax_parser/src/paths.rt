@@ -1,6 +1,5 @@
 ghost use Rattle.std.specs.Prelude.{◌≡◌, [], ◌∷◌, Some};
-ghost use Rattle.schema_syntax_grammar.specs.Grammar.{is_ident};
-ghost use Rattle.schema_syntax_grammar.specs.Table.{is_name};
+ghost use Rattle.schema_syntax_grammar.specs.Grammar.{is_ident, is_name_kind};
 ghost use Rattle.schema_syntax_grammar.specs.declared.token_kind.TokenKind.TheVariants.{Comma, PathSep, RBracket};
 ghost use Rattle.schema_syntax_parser.specs.Reading.{Gives, chain_turn, separated_turn, path_at, ref_at, types_at, refs_at, parents_at, string_at};
 
@@ -34,7 +33,7 @@ pub struct Names;
 impl Turns for Names {
     type Item = Token;
 
-    ghost turns = { chain_turn Comma is_name };
+    ghost turns = { chain_turn Comma is_name_kind };
 
     #[tactic(auto, unfolding(crate::specs::Reading::chain_turn))]
     fn turn(_alloc: Global, tokens: &[Token]) -> Result<Turn<'_, Token>, Stop> {
@@ -64,7 +63,7 @@ struct RefNames;
 impl Turns for RefNames {
     type Item = Token;
 
-    ghost turns = { chain_turn PathSep is_name };
+    ghost turns = { chain_turn PathSep is_name_kind };
 
     #[tactic(auto, unfolding(crate::specs::Reading::chain_turn))]
     fn turn(_alloc: Global, tokens: &[Token]) -> Result<Turn<'_, Token>, Stop> {

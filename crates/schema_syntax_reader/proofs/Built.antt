@@ -10,8 +10,7 @@ use Rattle.cedar_identifiers.specs.declared.id.Id.{Id}
 use Rattle.cedar_identifiers.specs.declared.annotations.Annotations.{Annotations}
 use Rattle.schema_syntax_grammar.specs.declared.token_kind.TokenKind.{TokenKind}
 use Rattle.schema_syntax_grammar.specs.declared.token_kind.TokenKind.TheVariants.{StringLit}
-use Rattle.schema_syntax_grammar.specs.Grammar.{is_ident}
-use Rattle.schema_syntax_grammar.specs.Table.{is_name}
+use Rattle.schema_syntax_grammar.specs.Grammar.{is_ident, is_name_kind}
 use Rattle.schema_syntax_tokens.specs.declared.token.Token.{Token}
 use Rattle.schema_syntax_parser.specs.Syntax.{place_of, IsChain, one, more, AreSeparated, last, AreListed, single, listed, AreMany, IsPath, path, IsRef, plain, typed, AreParents, no_parents, in_parents, IsType, path_type, set_type, record_type, IsRecord, braces, AreAttrs, no_attr, last_attr, more_attrs, IsAttr, attr, IsShape, no_shape, bare_shape, equals_shape, AreTags, no_tags, some_tags, IsString, string, IsApp, types, context_path, context_record, Applies, no_applies, some_applies, IsDecl, entity_decl, enum_decl, external_entity, action_decl, external_action, common_decl, IsDeclared, declared, IsItem, namespace, outside, IsSyntax}
 use Rattle.schema_syntax_parser.specs.Syntax as S
@@ -140,7 +139,7 @@ module _ (text : List ℕ) where
   abbrev Names : List Token → Type 0
   Names names = B (names_sites names) (some_from name_node_from names) (AllZip (IsNameNode text) names)
 
-  names_built : {s : TokenKind} {u names : List Token} → IsChain s is_name u names → Names names
+  names_built : {s : TokenKind} {u names : List Token} → IsChain s is_name_kind u names → Names names
   names_built r = let c = chain r in subst Names (sym c.whole) (some_built text name_sites name_node_from (IsNameNode text) c.head c.tail (each_of name_node (c.head ∷ c.tail)))
 
   -- paths
@@ -218,7 +217,7 @@ module _ (text : List ℕ) where
     ty : Node «Type»
     notes : Annotations
     whole : n ≡ attr_of a name ty notes
-    is_name : IsNameNode text (out-AttrSyntax a).name name
+    is_name_kind : IsNameNode text (out-AttrSyntax a).name name
     is_type : IsTypeOf text (out-AttrSyntax a).ty ty
     are_notes : AreNotes text (out-AttrSyntax a).annotations notes.0
 
@@ -238,7 +237,7 @@ module _ (text : List ℕ) where
   one_attr a b =
       same text (sites_attr a) (attr_out a)
       (both text _ (notes (out-AttrSyntax a).annotations) λ n are. both text _ (name_node (out-AttrSyntax a).name) λ name is.
-      then text (λ (ty : Node «Type»). attr_of a name ty n) b (λ ty is_type. record { name = name; ty = ty; notes = n; whole = refl; is_name = is; is_type = is_type; are_notes = are }))
+      then text (λ (ty : Node «Type»). attr_of a name ty n) b (λ ty is_type. record { name = name; ty = ty; notes = n; whole = refl; is_name_kind = is; is_type = is_type; are_notes = are }))
 
   no_attrs : AttrsBuilt []
   unfolding all_from

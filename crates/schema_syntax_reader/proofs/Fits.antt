@@ -7,8 +7,7 @@ use Rattle.std.proofs.lemmas.List.Elements.{All-nil, All-cons, All-head, All-tai
 use Rattle.cedar_data.specs.Span.{Span}
 use Rattle.schema_syntax_grammar.specs.declared.token_kind.TokenKind.{TokenKind}
 use Rattle.schema_syntax_grammar.specs.declared.token_kind.TokenKind.TheVariants.{KwNamespace, KwEntity, KwExternal, KwType, KwSet, KwAppliesTo, KwPrincipal, KwAction, KwResource, KwContext, KwTags, KwEnum, Identifier, StringLit}
-use Rattle.schema_syntax_grammar.specs.Grammar.{is_ident}
-use Rattle.schema_syntax_grammar.specs.Table.{is_name}
+use Rattle.schema_syntax_grammar.specs.Grammar.{is_ident, is_name_kind}
 use Rattle.schema_syntax_tokens.specs.declared.token.Token.{Token}
 use Rattle.schema_syntax_tokens.specs.Scans.{IsPlaced}
 use Rattle.schema_syntax_parser.specs.declared.syntax.PathSyntax.{PathSyntax}
@@ -39,7 +38,7 @@ site_ends (empty brackets) = brackets.end ∷ []
 abbrev pub sites_ends : List Site → List ℕ
 sites_ends sites = flat_map site_ends sites
 
-name_split : (k : TokenKind) → is_name k ≡ true → (k ≡ StringLit) ⊎ (is_ident k ≡ true)
+name_split : (k : TokenKind) → is_name_kind k ≡ true → (k ≡ StringLit) ⊎ (is_ident k ≡ true)
 name_split StringLit h = inl refl
 name_split KwNamespace h = inr refl
 name_split KwEntity h = inr refl
@@ -73,7 +72,7 @@ site_word KwEnum h t = refl
 site_word Identifier h t = refl
 site_word _ h t = cc
 
-ident_name : (k : TokenKind) → is_ident k ≡ true → is_name k ≡ true
+ident_name : (k : TokenKind) → is_ident k ≡ true → is_name_kind k ≡ true
 ident_name KwNamespace h = refl
 ident_name KwEntity h = refl
 ident_name KwExternal h = refl
@@ -140,7 +139,7 @@ module _ (source : List ℕ) where
   text_fits : (t : Token) (u : List Token) → t.kind ≡ StringLit → Good (t ∷ u) → Fits (t ∷ []) (text t ∷ [])
   text_fits t u h g = record { placed = All-cons (IsPlacedSite source) (text t) [] (All-head (IsPlaced source) t u g.placed, h) (All-nil (IsPlacedSite source)); sub = keep t.loc.end none }
 
-  name_fits : (t : Token) (u : List Token) → is_name t.kind ≡ true → Good (t ∷ u) → Fits (t ∷ []) (name_sites t)
+  name_fits : (t : Token) (u : List Token) → is_name_kind t.kind ≡ true → Good (t ∷ u) → Fits (t ∷ []) (name_sites t)
   name_fits t u h g =
       elim (name_split t.kind h) [
         | inl e ↦ subst (λ k. Fits (t ∷ []) (site_of_kind k t ∷ [])) (sym e) (text_fits t u e g)
@@ -148,12 +147,12 @@ module _ (source : List ℕ) where
       ]
 
   -- names with a separator between two
-  names_fit : {k : TokenKind} {u names : List Token} → IsChain k is_name u names → Good u → Fits u (names_sites names)
+  names_fit : {k : TokenKind} {u names : List Token} → IsChain k is_name_kind u names → Good u → Fits u (names_sites names)
   names_fit (S.one {t = t} h) g = name_fits t [] h g
   names_fit (S.more {t = t} {s = s} {u = u} {names = names} h k r) g =
       fits_join (t ∷ []) (s ∷ u) (name_sites t) (names_sites names) (name_fits t (s ∷ u) h g) (fits_skip s u (names_sites names) (names_fit r (good_rest s u (good_rest t (s ∷ u) g))))
 
-  chain_names : {k : TokenKind} {u names : List Token} → IsChain k is_ident u names → IsChain k is_name u names
+  chain_names : {k : TokenKind} {u names : List Token} → IsChain k is_ident u names → IsChain k is_name_kind u names
   chain_names (S.one {t = t} h) = S.one (ident_name t.kind h)
   chain_names (S.more {t = t} h k r) = S.more (ident_name t.kind h) k (chain_names r)
 
@@ -174,7 +173,7 @@ module _ (source : List ℕ) where
       subst (Fits (u ++ s ∷ q ∷ [])) (sym (names_append names (q ∷ [])))
       (fits_join u (s ∷ q ∷ []) (names_sites names) (name_sites q) (idents_fit c (good_left u (s ∷ q ∷ []) g)) (fits_skip s (q ∷ []) (name_sites q) (name_fits q [] (string_name q.kind l) rest)))
     where
-      string_name : (k : TokenKind) → k ≡ StringLit → is_name k ≡ true
+      string_name : (k : TokenKind) → k ≡ StringLit → is_name_kind k ≡ true
       string_name k e = rw e refl
 
   string_fits : {u : List Token} {t : Token} → IsString u t → Good u → Fits u (name_sites t)

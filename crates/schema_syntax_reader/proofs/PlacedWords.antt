@@ -11,7 +11,8 @@ use Rattle.std.proofs.lemmas.List.Sums.{list_all-from_AllPass}
 use Rattle.schema_syntax_grammar.specs.declared.token_kind.TokenKind.{TokenKind}
 use Rattle.schema_syntax_grammar.specs.declared.token_kind.TokenKind.TheVariants.{PathSep}
 use Rattle.schema_syntax_grammar.specs.Grammar as kind
-use Rattle.cedar_identifiers.specs.Words.{is_word_start, is_word_part, is_word, is_reserved, is_id}
+use Rattle.cedar_identifiers.specs.Words.{is_reserved, is_id}
+use Rattle.cedar_data.specs.Words.{is_word_start, is_word_part, is_word}
 use Rattle.schema_syntax_tokens.specs.declared.token.Token.{Token}
 use Rattle.schema_syntax_tokens.specs.Forms.{IsWord, single_mark, mark_kind, IsForm}
 use Rattle.schema_syntax_reader.specs.Leaves.{word_at}

@@ -3,7 +3,7 @@ use Rattle.std.specs.Prelude.{◌≡◌, ◌≤◌, ℕ, true, List, [], ◌∷�
 use Rattle.std.specs.List.{All, flat_map}
 use Rattle.std.specs.Option.{option_to_list}
 use Rattle.schema_syntax_grammar.specs.declared.token_kind.TokenKind.TheVariants.{StringLit}
-use Rattle.schema_syntax_grammar.specs.Grammar.{is_word, is_ident}
+use Rattle.schema_syntax_grammar.specs.Grammar.{is_word_kind, is_ident}
 use Rattle.schema_syntax_tokens.specs.declared.token.Token.{Token}
 use Rattle.schema_syntax_tokens.specs.Scans.{IsPlaced}
 use Rattle.schema_syntax_parser.specs.declared.syntax.AnnotationSyntax.{AnnotationSyntax}
@@ -29,7 +29,7 @@ IsPlacedValue source None = Unit {0}
 IsPlacedValue source (Some t) = IsPlacedString source t
 
 abbrev pub IsPlacedNote : List ℕ → AnnotationSyntax → Type 0
-IsPlacedNote source a = IsPlaced source a.key × (is_word a.key.kind ≡ true) × IsPlacedValue source a.value
+IsPlacedNote source a = IsPlaced source a.key × (is_word_kind a.key.kind ≡ true) × IsPlacedValue source a.value
 
 abbrev pub IsPlacedSite : List ℕ → Site → Type 0
 IsPlacedSite source (word t) = IsPlaced source t × (is_ident t.kind ≡ true)

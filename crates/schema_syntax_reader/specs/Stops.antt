@@ -1,6 +1,6 @@
 -- Why the sites of a text were not read. Only contracts inside the crate cite this.
 use Rattle.std.specs.Prelude.{◌≡◌, ◌≤◌, ℕ, true, List, [], ◌∷◌, Some}
-use Rattle.schema_syntax_grammar.specs.Grammar.{is_word}
+use Rattle.schema_syntax_grammar.specs.Grammar.{is_word_kind}
 use Rattle.cedar_identifiers.specs.Words.{is_reserved}
 use Rattle.schema_syntax_tokens.specs.declared.token.Token.{Token}
 use Rattle.schema_syntax_tokens.specs.Scans.{IsPlaced}
@@ -30,7 +30,7 @@ IsStoppedAt source site (User fault) = IsFaultOf source site fault
 
 -- a word stands at its place
 abbrev pub IsPlacedWord : List ℕ → Token → Type 0
-IsPlacedWord source t = IsPlaced source t × (is_word t.kind ≡ true)
+IsPlacedWord source t = IsPlaced source t × (is_word_kind t.kind ≡ true)
 
 -- a word is reserved
 abbrev pub IsReservedStop : List ℕ → Token → Stopped → Type 0

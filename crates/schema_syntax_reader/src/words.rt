@@ -1,6 +1,6 @@
 //! What words stand for.
 ghost use Rattle.std.specs.Prelude.{◌≡◌, true, false, IfOk, IfErr, OnOk};
-ghost use Rattle.schema_syntax_grammar.specs.Grammar.{is_word};
+ghost use Rattle.schema_syntax_grammar.specs.Grammar.{is_word_kind};
 ghost use Rattle.cedar_identifiers.specs.Words.{is_reserved};
 ghost use Rattle.schema_syntax_tokens.specs.Scans.{IsPlaced};
 ghost use Rattle.schema_syntax_reader.specs.Leaves.{word_at};
@@ -8,20 +8,10 @@ ghost use Rattle.schema_syntax_reader.specs.Stops.{IsPlacedWord, IsReservedStop}
 
 use crate::stopped::Stopped;
 use cedar_data::{Node, Text};
-use cedar_identifiers::{AnyId, Id};
+use cedar_identifiers::{AnyId, Id, is_reserved};
 use schema_syntax_errors::UserError;
 use schema_syntax_tokens::{Token, token_text};
 use std::alloc::{AllocError, Global};
-
-// Whether the word is one of the nine that are no names.
-fn is_reserved(word: &str) -> bool
-    ensures { result ≡ is_reserved word.now }
-{
-    match word {
-        "in" | "true" | "false" | "if" | "then" | "else" | "is" | "like" | "has" => true,
-        _ => false,
-    }
-}
 
 /// The word at the token's place.
 pub fn any_word(alloc: Global, text: &str, token: &Token) -> Result<AnyId, AllocError>

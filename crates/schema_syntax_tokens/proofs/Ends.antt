@@ -9,7 +9,8 @@ use Rattle.std.proofs.lemmas.Bool.{and_parts, ltb-true}
 use Rattle.std.proofs.lemmas.Bool.Decides.{nat_tests}
 use Rattle.std.proofs.lemmas.Str.{IsCharBoundary-after_ascii}
 use Rattle.schema_syntax_grammar.specs.declared.token_kind.TokenKind.{TokenKind}
-use Rattle.schema_syntax_tokens.specs.Forms.{is_word_start, is_word_part, mark_kind, IsForm}
+use Rattle.schema_syntax_tokens.specs.Forms.{mark_kind, IsForm}
+use Rattle.cedar_data.specs.Words.{is_word_start, is_word_part}
 use Rattle.schema_syntax_tokens.specs.Scans.{IsLongest}
 use Rattle.schema_syntax_tokens.proofs.Longest.{may_be_mark, mark_byte, two_colons, part_from_start}
 

@@ -7,9 +7,10 @@ use Rattle.std.proofs.lemmas.Bool.Decides.{nat_tests}
 use Rattle.std.proofs.lemmas.Str.{encode_ascii}
 use Rattle.schema_syntax_grammar.specs.declared.token_kind.TokenKind.{TokenKind}
 use Rattle.schema_syntax_grammar.specs.declared.token_kind.TokenKind.TheVariants.{StringLit, PathSep, Colon}
-use Rattle.schema_syntax_grammar.specs.Grammar.{is_word}
+use Rattle.schema_syntax_grammar.specs.Grammar.{is_word_kind}
 use Rattle.schema_syntax_tokens.specs.declared.token.Token.{Token}
-use Rattle.schema_syntax_tokens.specs.Forms.{is_word_start, is_word_part, IsWord, word_kind, single_mark, mark_kind, IsForm}
+use Rattle.schema_syntax_tokens.specs.Forms.{IsWord, word_kind, single_mark, mark_kind, IsForm}
+use Rattle.cedar_data.specs.Words.{is_word_start, is_word_part}
 use Rattle.schema_syntax_tokens.specs.Scans.{IsSpace, IsInLine, IsBlank, NoBlank, IsPastBlank, Skips, NoForm, IsNext, ScansFrom, Scans}
 use Rattle.schema_syntax_tokens.specs.Scans.Skips.{none, more}
 use Rattle.schema_syntax_tokens.specs.Laid.{Lexeme, Piece, gap, lexeme, piece_text, laid, lexemes_of, tokens_from, is_plain_blank, AreBlanks, Edge, free, word, colon, edge_of, may_touch, Follow, done, by_gap, by_blanks, by_lexeme, IsSpelled, Spells, IsReadAs}
@@ -90,8 +91,8 @@ mark_no_part b (c ∷ []) k h = ap is_word_part (two_colons b c k h).0
 mark_no_part b (c ∷ d ∷ bs) k h = cc
 
 -- what is no word begins with no part of a word
-form_no_part : (w rest : List ℕ) (k : TokenKind) → IsForm w k → is_word k ≡ false → Ends word (w ++ rest)
-form_no_part w rest k (inl f) h = let e : false ≡ true = sym h ∙ (ap is_word f.1 ∙ word_kind_word w) in cc
+form_no_part : (w rest : List ℕ) (k : TokenKind) → IsForm w k → is_word_kind k ≡ false → Ends word (w ++ rest)
+form_no_part w rest k (inl f) h = let e : false ≡ true = sym h ∙ (ap is_word_kind f.1 ∙ word_kind_word w) in cc
 form_no_part [] rest k (inr f) h = absurd (no_form_nil k (inr f))
 form_no_part (b ∷ bs) rest k (inr (inl f)) h = mark_no_part b bs k f
 form_no_part (b ∷ bs) rest k (inr (inr f)) h =
@@ -100,7 +101,7 @@ form_no_part (b ∷ bs) rest k (inr (inr f)) h =
 ends_at_lexeme : (e : Edge) (x : Lexeme) (rest : List ℕ) → IsForm x.text x.kind → may_touch e x.kind ≡ true → Ends e (x.text ++ rest)
 ends_at_lexeme free x rest f h = tt
 ends_at_lexeme word x rest f h =
-    elim (cases_Bool (is_word x.kind)) [
+    elim (cases_Bool (is_word_kind x.kind)) [
       | inl w ↦ let g : not true ≡ true = ap not (sym w) ∙ h in cc
       | inr w ↦ form_no_part x.text rest x.kind f w
     ]

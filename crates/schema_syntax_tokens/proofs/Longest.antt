@@ -8,7 +8,8 @@ use Rattle.std.proofs.lemmas.Bool.{cases_eq, eq-eqb, ne_eqb, and_parts, cases_lt
 use Rattle.std.proofs.lemmas.Bool.Decides.{nat_tests}
 use Rattle.schema_syntax_grammar.specs.declared.token_kind.TokenKind.{TokenKind}
 use Rattle.schema_syntax_grammar.specs.declared.token_kind.TokenKind.TheVariants.{StringLit, PathSep}
-use Rattle.schema_syntax_tokens.specs.Forms.{is_word_start, is_word_part, word_kind, single_mark, mark_kind, IsBody, NoBody, IsBodyEnd, IsForm}
+use Rattle.schema_syntax_tokens.specs.Forms.{word_kind, single_mark, mark_kind, IsBody, NoBody, IsBodyEnd, IsForm}
+use Rattle.cedar_data.specs.Words.{is_word_start, is_word_part}
 use Rattle.schema_syntax_tokens.specs.Scans.{NoForm, IsLongest}
 use Rattle.schema_syntax_tokens.specs.Steps.{StartsWord, StartsString, StartsOther, StartsColons}
 use Rattle.schema_syntax_tokens.proofs.Bodies.{same_bodies}

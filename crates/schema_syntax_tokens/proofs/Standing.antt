@@ -8,8 +8,9 @@ use Rattle.std.proofs.lemmas.List.Elements.{All-head, All-tail}
 use Rattle.std.proofs.lemmas.Bool.{cases_Bool}
 use Rattle.schema_syntax_grammar.specs.declared.token_kind.TokenKind.{TokenKind}
 use Rattle.schema_syntax_grammar.specs.declared.token_kind.TokenKind.TheVariants.{KwNamespace, KwEntity, KwExternal, KwIn, KwType, KwSet, KwAppliesTo, KwPrincipal, KwAction, KwResource, KwContext, KwTags, KwEnum, Identifier, StringLit, PathSep, Colon}
-use Rattle.schema_syntax_grammar.specs.Grammar.{is_word}
-use Rattle.schema_syntax_tokens.specs.Forms.{is_word_start, is_word_part, IsWord, word_kind, single_mark, mark_kind, IsBody, IsBodyEnd, IsString, IsForm}
+use Rattle.schema_syntax_grammar.specs.Grammar.{is_word_kind}
+use Rattle.schema_syntax_tokens.specs.Forms.{IsWord, word_kind, single_mark, mark_kind, IsBody, IsBodyEnd, IsString, IsForm}
+use Rattle.cedar_data.specs.Words.{is_word_start, is_word_part}
 use Rattle.schema_syntax_tokens.specs.Scans.{IsLongest}
 use Rattle.schema_syntax_tokens.specs.Laid.{Edge, free, word, colon, edge_of}
 use Rattle.schema_syntax_tokens.proofs.Longest.{longest_word, longest_string, longest_mark, longest_colons, mark_start, mark_no_word, mark_no_quote, two_colons, part_from_start}
@@ -22,19 +23,19 @@ Ends word (b ∷ bs) = is_word_part b ≡ false
 Ends colon [] = Unit {0}
 Ends colon (b ∷ bs) = b ≢ 58
 
-at_word : (c : Bool) (x r k : TokenKind) → is_word x ≡ true → (r ≡ k → is_word k ≡ true) → cond c x r ≡ k → is_word k ≡ true
-at_word true x r k h there e = subst (λ y. is_word y ≡ true) e h
+at_word : (c : Bool) (x r k : TokenKind) → is_word_kind x ≡ true → (r ≡ k → is_word_kind k ≡ true) → cond c x r ≡ k → is_word_kind k ≡ true
+at_word true x r k h there e = subst (λ y. is_word_kind y ≡ true) e h
 at_word false x r k h there e = there e
 
-kind_of_word : (w : List ℕ) (k : TokenKind) → word_kind w ≡ k → is_word k ≡ true
+kind_of_word : (w : List ℕ) (k : TokenKind) → word_kind w ≡ k → is_word_kind k ≡ true
 kind_of_word w k e =
-    at_word (bytes_eq w (codes "namespace")) KwNamespace _ k refl (at_word (bytes_eq w (codes "entity")) KwEntity _ k refl (at_word (bytes_eq w (codes "external")) KwExternal _ k refl (at_word (bytes_eq w (codes "in")) KwIn _ k refl (at_word (bytes_eq w (codes "type")) KwType _ k refl (at_word (bytes_eq w (codes "Set")) KwSet _ k refl (at_word (bytes_eq w (codes "appliesTo")) KwAppliesTo _ k refl (at_word (bytes_eq w (codes "principal")) KwPrincipal _ k refl (at_word (bytes_eq w (codes "action")) KwAction _ k refl (at_word (bytes_eq w (codes "resource")) KwResource _ k refl (at_word (bytes_eq w (codes "context")) KwContext _ k refl (at_word (bytes_eq w (codes "tags")) KwTags _ k refl (at_word (bytes_eq w (codes "enum")) KwEnum _ k refl (λ f. subst (λ y. is_word y ≡ true) f refl))))))))))))) e
+    at_word (bytes_eq w (codes "namespace")) KwNamespace _ k refl (at_word (bytes_eq w (codes "entity")) KwEntity _ k refl (at_word (bytes_eq w (codes "external")) KwExternal _ k refl (at_word (bytes_eq w (codes "in")) KwIn _ k refl (at_word (bytes_eq w (codes "type")) KwType _ k refl (at_word (bytes_eq w (codes "Set")) KwSet _ k refl (at_word (bytes_eq w (codes "appliesTo")) KwAppliesTo _ k refl (at_word (bytes_eq w (codes "principal")) KwPrincipal _ k refl (at_word (bytes_eq w (codes "action")) KwAction _ k refl (at_word (bytes_eq w (codes "resource")) KwResource _ k refl (at_word (bytes_eq w (codes "context")) KwContext _ k refl (at_word (bytes_eq w (codes "tags")) KwTags _ k refl (at_word (bytes_eq w (codes "enum")) KwEnum _ k refl (λ f. subst (λ y. is_word_kind y ≡ true) f refl))))))))))))) e
 
 -- the kind of a word is one
-pub word_kind_word : (w : List ℕ) → is_word (word_kind w) ≡ true
+pub word_kind_word : (w : List ℕ) → is_word_kind (word_kind w) ≡ true
 word_kind_word w = kind_of_word w (word_kind w) refl
 
-edge_of_word : (k : TokenKind) → is_word k ≡ true → edge_of k ≡ word
+edge_of_word : (k : TokenKind) → is_word_kind k ≡ true → edge_of k ≡ word
 edge_of_word k h = rw h refl
 
 prefix_stops : (after : List ℕ) → Ends word after → prefix_len is_word_part after ≡ 0
@@ -96,7 +97,7 @@ stands_string body after is =
 
 pub stands : (w after : List ℕ) (k : TokenKind) → IsForm w k → Ends (edge_of k) after → IsLongest (w ++ after) k (length w)
 stands w after k (inl f) e =
-    let ends : Ends word after = subst (λ x. Ends x after) (edge_of_word k (ap is_word f.1 ∙ word_kind_word w)) e in
+    let ends : Ends word after = subst (λ x. Ends x after) (edge_of_word k (ap is_word_kind f.1 ∙ word_kind_word w)) e in
     subst (λ x. IsLongest (w ++ after) x (length w)) (sym f.1) (stands_word w after f.0 ends)
 stands w after k (inr (inl f)) e = stands_mark w after k f e
 stands w after k (inr (inr f)) e =

@@ -9,7 +9,8 @@ use Rattle.std.proofs.lemmas.Str.{encode_same, char_from_byte}
 use Rattle.schema_syntax_grammar.specs.declared.token_kind.TokenKind.{TokenKind}
 use Rattle.schema_syntax_grammar.specs.declared.token_kind.TokenKind.TheVariants.{StringLit}
 use Rattle.schema_syntax_tokens.specs.declared.token.Token.{Token}
-use Rattle.schema_syntax_tokens.specs.Forms.{is_word_start, word_kind, IsForm}
+use Rattle.schema_syntax_tokens.specs.Forms.{word_kind, IsForm}
+use Rattle.cedar_data.specs.Words.{is_word_start}
 use Rattle.schema_syntax_tokens.specs.Scans.{IsInLine, EndsLine, IsBlank, NoBlank, Skips, IsLongest, ScansFrom, Scans}
 use Rattle.schema_syntax_tokens.specs.Scans.Skips.{none, more}
 use Rattle.schema_syntax_tokens.proofs.Longest.{may_be_mark, mark_start, mark_no_word, mark_no_quote, form_mark, no_form_nil}

@@ -3,10 +3,10 @@ use Rattle.std.specs.Prelude.{◌≡◌, ℕ, ◌+◌, Bool, true, false, not, �
 use Rattle.std.specs.List.{All}
 use Rattle.schema_syntax_grammar.specs.declared.token_kind.TokenKind.{TokenKind}
 use Rattle.schema_syntax_grammar.specs.declared.token_kind.TokenKind.TheVariants.{Colon}
-use Rattle.schema_syntax_grammar.specs.Grammar.{is_word}
-use Rattle.schema_syntax_grammar.specs.Table.{same}
+use Rattle.schema_syntax_grammar.specs.Grammar.{is_word_kind, same_kind}
 use Rattle.schema_syntax_tokens.specs.declared.token.Token.{Token}
-use Rattle.schema_syntax_tokens.specs.Forms.{IsForm, is_word_part}
+use Rattle.schema_syntax_tokens.specs.Forms.{IsForm}
+use Rattle.cedar_data.specs.Words.{is_word_part}
 use Rattle.schema_syntax_tokens.specs.Scans.{IsInLine, Scans}
 
 -- a token as it is spelled
@@ -56,12 +56,12 @@ pub data Edge : Type 0 where
   colon : Edge
 
 abbrev pub edge_of : TokenKind → Edge
-edge_of k = if is_word k then word else if same k Colon then colon else free
+edge_of k = if is_word_kind k then word else if same_kind k Colon then colon else free
 
 -- whether a lexeme of the kind may follow without a gap
 abbrev pub may_touch : Edge → TokenKind → Bool
 may_touch free k = true
-may_touch word k = not (is_word k)
+may_touch word k = not (is_word_kind k)
 may_touch colon k = false
 
 abbrev pub is_calm : Edge → Bool

@@ -2,7 +2,7 @@
 use Rattle.std.specs.Prelude.{◌≡◌, ◌≢◌, ℕ, ◌<◌, ◌≤◌, Bool, true, false, not, ◌==◌, List, [], ◌∷◌, ◌++◌, length, take, slice_index}
 use Rattle.std.specs.List.{All}
 use Rattle.std.specs.Char.{is_digit, IsScalar}
-use Rattle.schema_syntax_tokens.specs.Forms.{is_word_start}
+use Rattle.cedar_data.specs.Words.{is_word_start}
 use Rattle.schema_syntax_tokens.specs.Escapes.{hex_value, digits_of, ArePlaces}
 use Rattle.schema_syntax_tokens.specs.Quotes.{is_escaped, quoted_char}
 

@@ -7,8 +7,8 @@ ghost use Rattle.schema_syntax_tokens.specs.Steps.{StartsWord, StartsString, Sta
 use crate::blanks::past_blanks;
 use crate::strings::body_len;
 use crate::token::Token;
-use crate::words::{is_word_start, single_mark, word_kind, word_len};
-use cedar_data::Loc;
+use crate::words::{single_mark, word_kind};
+use cedar_data::{Loc, is_word_start, word_len};
 use schema_syntax_grammar::TokenKind;
 use std::alloc::{AllocError, Global};
 

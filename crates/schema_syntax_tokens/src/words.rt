@@ -1,34 +1,9 @@
 ghost use Rattle.std.specs.Prelude.{◌≡◌};
 ghost use Rattle.std.specs.List.{prefix_len};
-ghost use Rattle.schema_syntax_tokens.specs.Forms.{is_word_start, is_word_part, word_kind, single_mark};
+ghost use Rattle.schema_syntax_tokens.specs.Forms.{word_kind, single_mark};
+ghost use Rattle.cedar_data.specs.Words.{is_word_start, is_word_part};
 
 use schema_syntax_grammar::TokenKind;
-
-/// Whether a word may begin with this byte.
-pub(crate) fn is_word_start(byte: u8) -> bool
-    ensures { result ≡ is_word_start byte }
-{
-    byte.is_ascii_alphabetic() || byte == b'_'
-}
-
-/// Whether this byte may stand in a word.
-pub(crate) fn is_word_part(byte: u8) -> bool
-    ensures { result ≡ is_word_part byte }
-{
-    byte.is_ascii_alphanumeric() || byte == b'_'
-}
-
-/// How many bytes stand before the first that is no part of a word.
-pub(crate) fn word_len(rest: &[u8]) -> usize
-    ensures { result ≡ prefix_len is_word_part rest.now }
-{
-    for (at, byte) in rest.iter().enumerate() {
-        if !is_word_part(*byte) {
-            return at;
-        }
-    }
-    rest.len()
-}
 
 /// The kind of the word.
 pub(crate) fn word_kind(word: &str) -> TokenKind

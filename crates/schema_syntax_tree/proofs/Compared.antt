@@ -12,7 +12,8 @@ use Rattle.std.proofs.lemmas.Slice.Eq.{bytes_eq-Decides}
 use Rattle.std.proofs.lemmas.Str.{encodes-IsAscii}
 use Rattle.std.proofs.lemmas.Str.Ascii.{IsAscii-nil, IsAscii-cons}
 use Rattle.cedar_data.specs.Text.{text_cmp}
-use Rattle.cedar_identifiers.specs.Words.{is_word_start, is_word_part, is_word, is_reserved}
+use Rattle.cedar_identifiers.specs.Words.{is_reserved}
+use Rattle.cedar_data.specs.Words.{is_word_start, is_word_part, is_word}
 use Rattle.cedar_identifiers.specs.Names.{texts_of}
 use Rattle.cedar_identifiers.specs.declared.id.Id.{Id}
 

@@ -1,12 +1,12 @@
 ghost use Rattle.std.specs.Prelude.{◌≡◌, [], ◌∷◌, ◌++◌, codes, IfOk};
 ghost use Rattle.std.specs.Option.{option_copied};
 ghost use Rattle.std.specs.Iterator.{YieldsFirst, YieldsFirstRef, item_count};
-ghost use Rattle.plain_syntax.specs.CanonicalText.{joined};
+ghost use Rattle.cedar_data.specs.Rows.{joined_by};
 ghost use Rattle.cedar_identifiers.specs.Names.{texts_of};
 ghost use Rattle.schema_syntax_tree.specs.Paths.{placed, ids_left, nodes_left, is_in_cedar};
 
 use cedar_data::{CloneIn, Loc, Node, NonEmpty, NonEmptyIter, Text};
-use cedar_identifiers::Id;
+use cedar_identifiers::{Id, is_cedar};
 use std::alloc::{AllocError, Global};
 use std::collections::VecDeque;
 use std::mem;
@@ -99,14 +99,14 @@ impl Path {
     {
         let mut ids = self.ids.iter();
         match (ids.next(), ids.next(), ids.next()) {
-            (Some(namespace), Some(_), None) => namespace.as_str() == "__cedar",
+            (Some(namespace), Some(_), None) => is_cedar(namespace.as_str()),
             _ => false,
         }
     }
 
     /// The ids with `::` between two.
     pub fn text(&self, alloc: Global) -> Result<Text, AllocError>
-        ensures { IfOk result (λ text. text ≡ joined (codes "::") (texts_of self.now.ids)) }
+        ensures { IfOk result (λ text. text ≡ joined_by (codes "::") (texts_of self.now.ids)) }
     {
         let mut ids = self.iter();
         let Some(first) = ids.next() else {

@@ -1,6 +1,6 @@
 use Rattle.std.proofs.Common.{◌≡◌, ℕ, false, refl, sym, arith}
 use Rattle.std.proofs.lemmas.List.Sums.{prefix_len_is}
-use Rattle.cedar_identifiers.specs.NamePieces.{is_in_line}
+use Rattle.cedar_data.specs.Words.{is_in_line}
 use Rattle.cedar_identifiers.proofs.name_pieces.line_len.Goals as goal
 use Rattle.cedar_identifiers.proofs.name_pieces.line_len.Goals.{then-byte-eq10-via-then-byte-eq10, then-byte-eq10-via-else-byte-eq10+then-byte-eq13}
 

@@ -1,7 +1,7 @@
 use Rattle.std.proofs.Common.{◌∙◌, ap, sym, subst}
 use Rattle.std.specs.List.{prefix_len}
 use Rattle.std.specs.Str.{IsCharBoundary}
-use Rattle.cedar_identifiers.specs.NamePieces.{is_in_line}
+use Rattle.cedar_data.specs.Words.{is_in_line}
 use Rattle.cedar_identifiers.proofs.Blanks.{line-boundary}
 use Rattle.cedar_identifiers.proofs.name_pieces.past_blank.Goals as goal
 

@@ -2,7 +2,7 @@ use Rattle.std.proofs.lemmas.Result.{err_from_is_err_and}
 use Rattle.plain_syntax.specs.ThinReading.{tokens_of}
 use Rattle.plain_syntax.proofs.Scans.{fronts}
 use Rattle.plain_syntax.proofs.Decls.{continues_more, continues_end, continues_no_more, decl_shorter, not_read, none_left, some_left}
-use Rattle.schema_syntax.proofs.thin_parser.decls.Goals as goal
+use Rattle.plain_syntax.proofs.thin_parser.decls.Goals as goal
 
 pub returns-in_err-decl-clause-not_built : goal.returns-in_err-decl-clause-not_built
 returns-in_err-decl-clause-not_built c =

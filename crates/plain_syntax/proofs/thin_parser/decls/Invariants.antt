@@ -3,7 +3,7 @@ use denote.Text.{Utf8}
 use denote.Shadow.{shadow}
 use Rattle.plain_syntax.specs.ThinReading.{tokens_of, blank_len}
 use Rattle.plain_syntax.proofs.Decls.{Continues}
-use Rattle.schema_syntax.proofs.thin_parser.decls.Given as goal
+use Rattle.plain_syntax.proofs.thin_parser.decls.Given as goal
 
 abbrev pub invariant-loop-rest : goal.invariant-loop-rest
 invariant-loop-rest l = record {

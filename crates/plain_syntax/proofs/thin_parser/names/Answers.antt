@@ -1,7 +1,7 @@
 use Rattle.std.proofs.Common.{rules}
 use Rattle.std.proofs.lemmas.Result.{err_from_is_err_and}
 use Rattle.plain_syntax.proofs.Names.{turn_fails, turn_closes, turn_last, turn_more, turn_shorter}
-use Rattle.schema_syntax.proofs.thin_parser.names.Goals as goal
+use Rattle.plain_syntax.proofs.thin_parser.names.Goals as goal
 
 pub returns-in_err-after : goal.returns-in_err-after
 returns-in_err-after c =

@@ -2,7 +2,7 @@ use Rattle.std.proofs.Common.{Vec, Global}
 use Rattle.std.proofs.lemmas.Result.{IfOk-weaker}
 use Rattle.plain_syntax.specs.declared.thin_decl.ThinDecl.{ThinDecl}
 use Rattle.plain_syntax.proofs.Decls.{reads, reads_back}
-use Rattle.schema_syntax.proofs.thin_parser.parse_thin.Goals as goal
+use Rattle.plain_syntax.proofs.thin_parser.parse_thin.Goals as goal
 
 pub returns-clause-read : goal.returns-clause-read
 returns-clause-read c = IfOk-weaker _ _ _ (λ (decls : Vec ThinDecl Global) l. reads c.args.text.now decls.items c.utf8.text l) c.decls.ensures.read

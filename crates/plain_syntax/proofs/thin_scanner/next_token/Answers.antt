@@ -1,7 +1,7 @@
 use Rattle.std.proofs.Common.{◌≡◌, sym, ap, ◌∙◌, arith}
 use Rattle.plain_syntax.specs.ThinReading.{token_len, front_at}
 use Rattle.plain_syntax.proofs.Tokens.{token_len-boundary, front_at-none, front_at-some}
-use Rattle.schema_syntax.proofs.thin_scanner.next_token.Goals as goal
+use Rattle.plain_syntax.proofs.thin_scanner.next_token.Goals as goal
 
 pub split_at-requires : goal.split_at-requires
 split_at-requires c =

@@ -1,6 +1,6 @@
 use Rattle.std.proofs.Common.{sym, ◌∙◌}
 use Rattle.plain_syntax.proofs.Tokens.{blank_from_char}
-use Rattle.schema_syntax.proofs.thin_scanner.past_blank.Goals as goal
+use Rattle.plain_syntax.proofs.thin_scanner.past_blank.Goals as goal
 
 pub returns-then-is_whitespace : goal.returns-then-is_whitespace
 returns-then-is_whitespace c =

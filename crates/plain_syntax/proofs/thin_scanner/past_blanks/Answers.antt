@@ -2,7 +2,7 @@ use Rattle.std.proofs.Common.{sym, ◌∙◌, ap, subst}
 use Rattle.std.specs.Str.{IsUtf8}
 use Rattle.plain_syntax.specs.ThinReading.{tokens_of}
 use Rattle.plain_syntax.proofs.Tokens.{tokens_of-blank, blank_front}
-use Rattle.schema_syntax.proofs.thin_scanner.past_blanks.Goals as goal
+use Rattle.plain_syntax.proofs.thin_scanner.past_blanks.Goals as goal
 
 pub loop-after-smaller : goal.loop-after-smaller
 loop-after-smaller c =

@@ -1,7 +1,7 @@
 use Rattle.std.proofs.Common.{sym, ◌∙◌, arith}
 use Rattle.std.proofs.lemmas.List.Sums.{prefix_len_is}
 use Rattle.plain_syntax.specs.ThinTokens.{is_word_part}
-use Rattle.schema_syntax.proofs.thin_scanner.word_len.Goals as goal
+use Rattle.plain_syntax.proofs.thin_scanner.word_len.Goals as goal
 
 pub returns-then-not-is_word_part : goal.returns-then-not-is_word_part
 returns-then-not-is_word_part c =

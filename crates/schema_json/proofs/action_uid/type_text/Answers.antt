@@ -2,7 +2,7 @@ use Rattle.std.proofs.Common.{◌≡◌, ℕ, List, IfOk, refl, ap, sym, ◌∙�
 use Rattle.std.specs.Option.{option_map}
 use Rattle.std.specs.Str.{chars}
 use Rattle.schema_json.specs.Actions.{type_text}
-use Rattle.schema_json.proofs.Ascii.{chars-from_test}
+use Rattle.cedar_data.proofs.Ascii.{chars-from_test}
 use Rattle.schema_json.proofs.action_uid.type_text.Goals as goal
 
 pub returns-in-None : goal.returns-in-None

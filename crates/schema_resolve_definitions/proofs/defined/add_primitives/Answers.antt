@@ -3,7 +3,7 @@ use Rattle.cedar_identifiers.specs.Words.{is_id}
 use Rattle.schema_resolve_definitions.specs.Added.{AddsNames}
 use Rattle.schema_resolve_definitions.specs.Defined.{builtin_names}
 use Rattle.schema_resolve_definitions.specs.Tests.{tests_of}
-use Rattle.schema_resolve_definitions.proofs.Ascii.{chars-from_test}
+use Rattle.cedar_data.proofs.Ascii.{chars-from_test}
 use Rattle.schema_resolve_definitions.proofs.Builtins.{all_of_one, one_later}
 use Rattle.schema_resolve_definitions.proofs.defined.add_primitives.Goals as goal
 

@@ -1,7 +1,7 @@
 use Rattle.std.proofs.Common.{◌∙◌, ◌∷◌, ◌++◌, [], refl, codes, ap}
 use Rattle.cedar_identifiers.specs.Words.{is_id}
 use Rattle.cedar_identifiers.specs.Names.{texts_of}
-use Rattle.schema_resolve_definitions.proofs.Ascii.{chars-from_test}
+use Rattle.cedar_data.proofs.Ascii.{chars-from_test}
 use Rattle.schema_resolve_definitions.proofs.defined.under_cedar.Goals as goal
 
 pub invariant_of-result : goal.invariant_of-result

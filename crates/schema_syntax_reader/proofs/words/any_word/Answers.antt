@@ -1,6 +1,6 @@
 use Rattle.std.proofs.Common.{◌≡◌, slice_range, ap, ◌∙◌}
 use Rattle.std.specs.Str.{chars}
-use Rattle.cedar_identifiers.specs.Words.{is_word}
+use Rattle.cedar_data.specs.Words.{is_word}
 use Rattle.schema_syntax_reader.proofs.PlacedWords.{word_there}
 use Rattle.schema_syntax_reader.proofs.words.any_word.Goals as goal
 

@@ -1,6 +1,7 @@
 use Rattle.std.proofs.Common.{◌≡◌, take, sym, ap, ◌∙◌, subst}
 use Rattle.std.specs.List.{prefix_len}
-use Rattle.schema_syntax_tokens.specs.Forms.{is_word_part, word_kind}
+use Rattle.schema_syntax_tokens.specs.Forms.{word_kind}
+use Rattle.cedar_data.specs.Words.{is_word_part}
 use Rattle.schema_syntax_tokens.specs.Scans.{IsLongest}
 use Rattle.schema_syntax_tokens.proofs.Longest.{longest_word}
 use Rattle.schema_syntax_tokens.proofs.Ends.{boundary_after_token}

@@ -1,5 +1,5 @@
 use Rattle.std.proofs.Common.{◌∙◌}
-use Rattle.cedar_identifiers.proofs.Ascii.{word_bytes}
+use Rattle.cedar_data.proofs.Ascii.{word_bytes}
 use Rattle.cedar_identifiers.proofs.any_id.AnyId.as_str.Goals as goal
 
 pub returns : goal.returns

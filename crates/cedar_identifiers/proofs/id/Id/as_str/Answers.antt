@@ -1,5 +1,6 @@
 use Rattle.std.proofs.Common.{◌∙◌}
-use Rattle.cedar_identifiers.proofs.Ascii.{word_bytes, id_is_word}
+use Rattle.cedar_identifiers.proofs.Ids.{id_is_word}
+use Rattle.cedar_data.proofs.Ascii.{word_bytes}
 use Rattle.cedar_identifiers.proofs.id.Id.as_str.Goals as goal
 
 pub returns : goal.returns

@@ -1,6 +1,6 @@
 use Rattle.std.proofs.Common.{◌≡◌, ◌∷◌, ◌++◌, ap, ◌∙◌, append_assoc, sym, codes, take}
 use Rattle.std.proofs.lemmas.List.{take_all}
-use Rattle.plain_syntax.specs.CanonicalText.{joined}
+use Rattle.cedar_data.specs.Rows.{joined_by}
 use Rattle.cedar_identifiers.specs.Names.{texts_of}
 use Rattle.cedar_identifiers.proofs.Joins.{one_more, separator_chars}
 use Rattle.cedar_identifiers.proofs.name_text.InternalNameNameText.text.Goals as goal
@@ -13,5 +13,5 @@ loop-id-preserved c =
 
 pub returns : goal.returns
 returns c = record {
-  text = c.loop-id.invariant ∙ ap (λ ids. joined (codes "::") (texts_of (c.args.self.now.first ∷ ids))) (take_all c.loop-id.id-index _ c.loop-id-test.false ∙ c.as_slice-id-items.ensures);
+  text = c.loop-id.invariant ∙ ap (λ ids. joined_by (codes "::") (texts_of (c.args.self.now.first ∷ ids))) (take_all c.loop-id.id-index _ c.loop-id-test.false ∙ c.as_slice-id-items.ensures);
 }

@@ -2,7 +2,7 @@ use Rattle.std.proofs.Common.{◌≡◌, ◌++◌, ap, ◌∙◌, refl, codes, a
 use Rattle.std.specs.Str.{chars}
 use Rattle.std.proofs.lemmas.Str.{chars-encodes}
 use Rattle.schema_syntax_tokens.specs.Quotes.{quoted}
-use Rattle.schema_json.proofs.Ascii.{chars-from_test}
+use Rattle.cedar_data.proofs.Ascii.{chars-from_test}
 use Rattle.schema_json.proofs.action_type.ActionEntityUID.text.Goals as goal
 
 pub returns : goal.returns

@@ -1,5 +1,5 @@
 use Rattle.std.proofs.Common.{◌++◌, ap, ◌∙◌, refl, codes}
-use Rattle.schema_json.proofs.Ascii.{chars-from_test}
+use Rattle.cedar_data.proofs.Ascii.{chars-from_test}
 use Rattle.schema_json.proofs.reserved.ReservedCommonTypeBasenameError.text.Goals as goal
 
 pub returns : goal.returns

@@ -1,6 +1,0 @@
-use Rattle.std.proofs.Common.{◌≡◌, ℕ, List, subst, IfOk}
-use Rattle.schema_convert_errors.proofs.Ascii.{chars-from_test}
-use Rattle.schema_convert_errors.proofs.message.message.Goals as goal
-
-pub returns : goal.returns
-returns c = subst (λ (x : List ℕ). IfOk c.from_str.result (λ copy. copy ≡ x)) (chars-from_test c.args.text.now c.requires) c.from_str.ensures

@@ -1,6 +1,0 @@
-use Rattle.std.proofs.Common.{◌≡◌, ℕ, List, codes, subst, IfOk}
-use Rattle.schema_resolve_errors.proofs.Rows.{listed_alike}
-use Rattle.schema_resolve_errors.proofs.lists.comma_list.Goals as goal
-
-pub returns : goal.returns
-returns c = subst (λ (x : List ℕ). IfOk c.listed.result (λ list. list ≡ x)) (listed_alike (codes ", ") c.args.texts.now) c.listed.ensures
