@@ -1,4 +1,4 @@
-mod Ids
+pub mod Ids
 mod Blanks
 mod Components
 mod Cut

@@ -1,7 +1,8 @@
-ghost use Rattle.std.specs.Prelude.{◌≡◌, ◌↔◌, IsTrue};
+ghost use Rattle.std.specs.Prelude.{◌≡◌, ◌↔◌, IsTrue, IfOk};
 ghost use Rattle.cedar_io.specs.Outside.{counted, IsListed};
 
 use crate::failed::Failed;
+use std::alloc::{AllocError, Global};
 
 /// The calls of a device in memory, with the numbers of those that fail.
 #[derive(Drop)]
@@ -41,5 +42,18 @@ impl Calls {
     {
         self.faults = self.faults.saturating_add(1);
         Failed
+    }
+
+    /// A copy of the counts and of the list.
+    pub fn copied(&self, alloc: Global) -> Result<Calls, AllocError>
+        ensures made { IfOk result (λ copy. copy.made ≡ self.now.made) }
+        ensures failing { IfOk result (λ copy. copy.failing.items ≡ self.now.failing.items) }
+        ensures faults { IfOk result (λ copy. copy.faults ≡ self.now.faults) }
+    {
+        Ok(Calls {
+            made: self.made,
+            failing: Vec::from_slice(alloc, &self.failing)?,
+            faults: self.faults,
+        })
     }
 }

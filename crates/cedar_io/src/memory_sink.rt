@@ -4,6 +4,7 @@ ghost use Rattle.cedar_io.specs.Outside.{Rose, Appends, IsListed, IsFull, counte
 use crate::calls::Calls;
 use crate::failed::Failed;
 use crate::sink::Sink;
+use cedar_data::CloneIn;
 use std::alloc::{AllocError, Global};
 use std::marker::Model;
 
@@ -83,5 +84,15 @@ impl Sink for MemorySink {
         self.bytes[self.used..end].copy_from_slice(&bytes[..n]);
         self.used = end;
         Ok(n)
+    }
+}
+
+impl CloneIn for MemorySink {
+    fn clone_in(&self, alloc: Global) -> Result<Self, AllocError> {
+        Ok(MemorySink {
+            bytes: Vec::from_slice(alloc, &self.bytes)?,
+            used: self.used,
+            calls: self.calls.copied(alloc)?,
+        })
     }
 }

@@ -4,6 +4,8 @@ ghost use Rattle.cedar_io.specs.Outside.{Rose, Took, IsEnd, IsListed, counted};
 use crate::calls::Calls;
 use crate::failed::Failed;
 use crate::source::Source;
+use cedar_data::CloneIn;
+use std::alloc::{AllocError, Global};
 use std::marker::Model;
 
 /// Bytes in memory, which fail at the calls so numbered, counted from 1.
@@ -67,5 +69,15 @@ impl Source for MemorySource {
         buf[..n].copy_from_slice(&self.bytes[self.at..end]);
         self.at = end;
         Ok(n)
+    }
+}
+
+impl CloneIn for MemorySource {
+    fn clone_in(&self, alloc: Global) -> Result<Self, AllocError> {
+        Ok(MemorySource {
+            bytes: Vec::from_slice(alloc, &self.bytes)?,
+            at: self.at,
+            calls: self.calls.copied(alloc)?,
+        })
     }
 }

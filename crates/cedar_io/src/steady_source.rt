@@ -3,6 +3,8 @@ ghost use Rattle.cedar_io.specs.Outside.{Rose, Took, IsEnd};
 
 use crate::failed::Failed;
 use crate::source::Source;
+use cedar_data::CloneIn;
+use std::alloc::{AllocError, Global};
 use std::marker::Model;
 
 /// Bytes in memory, which never fail.
@@ -55,5 +57,14 @@ impl Source for SteadySource {
         buf[..n].copy_from_slice(&self.bytes[self.at..end]);
         self.at = end;
         Ok(n)
+    }
+}
+
+impl CloneIn for SteadySource {
+    fn clone_in(&self, alloc: Global) -> Result<Self, AllocError> {
+        Ok(SteadySource {
+            bytes: Vec::from_slice(alloc, &self.bytes)?,
+            at: self.at,
+        })
     }
 }

@@ -88,9 +88,6 @@ miss names q at below above = list_any_none (λ n. bytes_eq q n.id.text) names (
   | inl lt ↦ unlike q (get_or names k d).id.text (sym (is_eq-slice_cmp (get_or names k d).id.text q) ∙ ap is_eq (below k d lt))
 ])
 
-pub id_from_word : (w : List ℕ) → is_word w ≡ true → is_reserved w ≡ false → is_id w ≡ true
-id_from_word w h k = rw (h, k) refl
-
 -- four words whose texts rise
 pub four_rise : (R : UnreservedId → UnreservedId → Ordering) → ((x y : UnreservedId) → R x y ≡ slice_cmp nat_cmp x.id.text y.id.text) → (a b c d : UnreservedId) (s t u v : List ℕ) → a.id.text ≡ s → b.id.text ≡ t → c.id.text ≡ u → d.id.text ≡ v
     → slice_cmp nat_cmp s t ≡ Less → slice_cmp nat_cmp s u ≡ Less → slice_cmp nat_cmp s v ≡ Less → slice_cmp nat_cmp t u ≡ Less → slice_cmp nat_cmp t v ≡ Less → slice_cmp nat_cmp u v ≡ Less → IsStrictlySortedBy R (a ∷ b ∷ c ∷ d ∷ [])

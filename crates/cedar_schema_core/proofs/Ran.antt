@@ -6,6 +6,7 @@ use Rattle.plain_syntax.specs.declared.thin_entry.ThinEntry.{ThinEntry}
 use Rattle.plain_syntax.specs.ThinMeaning.{TextMeaning}
 use Rattle.cedar_schema_core.specs.declared.status.Status.{Status}
 use Rattle.cedar_schema_core.specs.declared.status.Status.TheVariants.{Done, Refused, Usage, ReadFault, WriteFault, NotText, TooLong, Memory}
+use Rattle.cedar_io.specs.Outside.{Rose}
 use Rattle.cedar_io.specs.Input.{HadLeft}
 use Rattle.cedar_schema_core.specs.Plan.{Report, IsPlan, IsRecoverPlan, usage, too_long, recover, not_text, refused, done, read_fault_report}
 use Rattle.cedar_schema_core.specs.Run.{Device, LeftAs, IsReported, planned, read_fault, TookWhole, IsDelivered, whole, out_failed, err_failed, IsRun, delivered, wanted_memory, Recovers, NoFault}
@@ -38,11 +39,11 @@ module _ (one : (words : List (List ℕ)) (bytes : List ℕ) (report other : Rep
     | inr e ↦ let k : length report.out ≡ 0 = ap (λ r. length r.out) e in omega arith
   ]
 
-  pub within_err : (report : Report) (n : ℕ) → IsReported words source report → length plan.err ≤ n → length read_fault_report.err ≤ n → length report.err ≤ n
-  within_err report n h a b = elim (same_report report h) [
-    | inl e ↦ let k : length report.err ≡ length plan.err = ap (λ r. length r.err) e in omega arith
-    | inr e ↦ subst (λ r. length r.err ≤ n) (sym e) b
-  ]
+  pub within_err : (report : Report) (n : ℕ) → IsReported words source report → length plan.err ≤ n → (Rose source.faults_before source.faults_after → length read_fault_report.err ≤ n) → length report.err ≤ n
+  within_err report n (planned all had p l) a b =
+      let e : report ≡ plan = one words bytes report plan (subst (λ b. IsPlan words b report) (sym (told source.before bytes all left had)) p) is in
+      let k : length report.err ≡ length plan.err = ap (λ r. length r.err) e in omega arith
+  within_err report n (read_fault i r) a b = b r
 
 -- these statuses are not `Done`
 refused_done : Refused ≡ Done → ⊥
