@@ -14,3 +14,4 @@ mod Standing
 mod Unique
 mod Values
 mod Whole
+mod WholePlaces

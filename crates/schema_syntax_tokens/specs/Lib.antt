@@ -4,3 +4,4 @@ pub mod Laid
 pub mod Quotes
 pub mod Scans
 pub mod Steps
+pub mod TokenLists

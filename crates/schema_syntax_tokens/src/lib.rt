@@ -14,4 +14,4 @@ mod words;
 pub use escapes::{Refusal, unescape};
 pub use quotes::push_quoted;
 pub use scanner::{Scanned, scan};
-pub use token::{Token, string_body, token_text};
+pub use token::{Token, string_body, token_text, whole_place};

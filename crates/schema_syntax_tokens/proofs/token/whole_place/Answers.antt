@@ -2,8 +2,8 @@ use Rattle.std.proofs.Common.{◌∙◌, ap, sym}
 use Rattle.std.specs.Prelude.{max}
 use Rattle.cedar_data.specs.Span.{Span}
 use Rattle.schema_syntax_tokens.specs.declared.token.Token.{Token}
-use Rattle.schema_syntax_parser.proofs.Places.{place_is}
-use Rattle.schema_syntax_parser.proofs.front.place_of.Goals as goal
+use Rattle.schema_syntax_tokens.proofs.WholePlaces.{place_is}
+use Rattle.schema_syntax_tokens.proofs.token.whole_place.Goals as goal
 
 pub returns-in-len1-up : goal.returns-in-len1-up
 returns-in-len1-up c =
