@@ -5,3 +5,4 @@ pub mod Quotes
 pub mod Scans
 pub mod Steps
 pub mod TokenLists
+pub mod Values
