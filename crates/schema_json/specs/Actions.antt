@@ -21,5 +21,5 @@ type_text None = codes "Action"
 type_text (Some components) = name_text components
 
 -- the type, `::`, and the id as a string
-abbrev pub action_text : Option (List (List ℕ)) → List ℕ → List ℕ
-action_text ty id = type_text ty ++ (codes "::" ++ chars (quoted id))
+abbrev pub action_uid_text : Option (List (List ℕ)) → List ℕ → List ℕ
+action_uid_text ty id = type_text ty ++ (codes "::" ++ chars (quoted id))

@@ -5,7 +5,7 @@ use Rattle.std.specs.Ordering.{eq_by_cmp}
 use Rattle.std.specs.declared.cmp.Ordering.{Ordering}
 
 -- equality is an equivalence, the order is total and agrees with it, and equal values hash alike
-pub record IsLawful {T H : Type 0} (eq : T → T → Bool) (cmp : T → T → Ordering) (hash : T → H) : Type 0 where
+pub record IsLawfulComparison {T H : Type 0} (eq : T → T → Bool) (cmp : T → T → Ordering) (hash : T → H) : Type 0 where
   pub equivalence : IsEquivalence eq
   pub order : IsTotalOrder cmp
   pub agrees : (a b : T) → eq a b ≡ eq_by_cmp cmp a b

@@ -70,9 +70,9 @@ impl<'a> FragmentRenamer<InternalName, InternalName> for Designator<'a> {
 
     ghost action_becomes_in = { λ _ _. type_as_written };
 
-    ghost lacks_in = { λ d _. undesignated (tests_of d.defs.now) };
+    ghost untargeted_in = { λ d _. undesignated (tests_of d.defs.now) };
 
-    ghost lacks_action_in = { λ _ _. no_action };
+    ghost untargeted_action_in = { λ _ _. no_action };
 
     fn rename_in(
         &self,
