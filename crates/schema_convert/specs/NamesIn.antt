@@ -29,7 +29,7 @@ commons_of (Entity d) = []
 commons_of (Action d) = []
 commons_of (Common d) = d.name ∷ []
 
--- the same of declarations, in the order of the text
+-- the names that declarations give, in the order of the text
 abbrev pub entity_names_in : List (Annotated (Node Declaration)) → List (Node Id)
 entity_names_in decls = flat_map (λ d. entities_of d.item.node) decls
 

@@ -289,7 +289,7 @@ fn first_common(alloc: Global, ids: &[&Node<Id>]) -> Result<Option<ToJsonSchemaE
     Ok(None)
 }
 
-// The same, as a list.
+// The first fault of a common type's name, as a list.
 fn common_faults(alloc: Global, ids: &[&Node<Id>]) -> Result<Vec<ToJsonSchemaError>, AllocError>
     ensures { IfOk result (λ faults. faults.items ≡ option_to_list (first_some common_fault (map (λ x. x.now) ids.now))) }
 {

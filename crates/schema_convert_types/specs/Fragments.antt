@@ -50,7 +50,7 @@ common_entries_of (Entity d) notes loc = []
 common_entries_of (Action d) notes loc = []
 common_entries_of (Common d) notes loc = common_entry (unreserved d.name.node) (record { ty = type_of d.def; annotations = notes; loc = loc })
 
--- the same of declarations in turn
+-- what declarations declare, in turn
 abbrev pub entity_entries : List (Annotated (Node Declaration)) → List (UnreservedId × EntityType RawName)
 entity_entries decls = flat_map (λ d. entity_entries_of d.item.node d.annotations d.item.loc) decls
 

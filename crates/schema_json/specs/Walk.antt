@@ -46,7 +46,7 @@ module _ {N : Type 0} where
   abbrev pub attribute_references : TypeOfAttribute N → List N
   attribute_references = fold-TypeOfAttribute N (List N) (List N) (List N) (List N) type_refs variant_refs record_refs attribute_refs
 
-  -- the same of a record's entries
+  -- the references of a record's entries
   abbrev pub entry_references : List (List ℕ × TypeOfAttribute N) → List N
   entry_references entries = flat_map (λ p. attribute_references p.1) entries
 

@@ -39,7 +39,7 @@ impl<N> Type<N> {
         }
     }
 
-    /// The same type at this place, or without one.
+    /// The type at this place, or without one.
     pub fn with_loc(self, new_loc: Option<Loc>) -> Type<N>
         ensures { result ≡ with_place new_loc self }
     {

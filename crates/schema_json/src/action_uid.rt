@@ -96,7 +96,7 @@ impl ActionEntityUID<RawName> {
         ActionEntityUID { id, ty: None }
     }
 
-    /// The same reference with its type in this namespace. Where no type is written it is `Action`.
+    /// The reference with its type in this namespace. Where no type is written it is `Action`.
     pub fn qualify_with(
         self,
         alloc: Global,

@@ -36,7 +36,7 @@ pub fn types_are_lawful<N: Ord>()
     ordered::<TypeOfAttribute<N>>();
 }
 
-/// So are comparisons of common types and entity types.
+/// Comparisons of common types and entity types are lawful.
 pub fn declared_types_are_lawful<N: Ord>()
     ensures common_ids { IsLawfulComparison ⟦<CommonTypeId as PartialEq>⟧.eq ⟦<CommonTypeId as Ord>⟧.cmp }
     ensures common_types { IsLawfulComparison ⟦<CommonType<N> as PartialEq>⟧.eq ⟦<CommonType<N> as Ord>⟧.cmp }
@@ -53,7 +53,7 @@ pub fn declared_types_are_lawful<N: Ord>()
     ordered::<AttributesOrContext<N>>();
 }
 
-/// So are comparisons of actions, namespaces and fragments.
+/// Comparisons of actions, namespaces and fragments are lawful.
 pub fn fragments_are_lawful<N: NameText + Ord>()
     ensures action_types { IsLawfulComparison ⟦<ActionType<N> as PartialEq>⟧.eq ⟦<ActionType<N> as Ord>⟧.cmp }
     ensures applies_to { IsLawfulComparison ⟦<ApplySpec<N> as PartialEq>⟧.eq ⟦<ApplySpec<N> as Ord>⟧.cmp }
@@ -81,7 +81,7 @@ pub fn types_hash_alike<N: Ord + Hash>()
     lawful::<TypeOfAttribute<N>>();
 }
 
-/// So do equal common types and entity types.
+/// Equal common types and entity types hash alike.
 pub fn declared_types_hash_alike<N: Ord + Hash>()
     ensures common_ids { HashesAlike ⟦<CommonTypeId as PartialEq>⟧.eq ⟦<CommonTypeId as Hash>⟧.hash_input }
     ensures common_types { HashesAlike ⟦<CommonType<N> as PartialEq>⟧.eq ⟦<CommonType<N> as Hash>⟧.hash_input }
@@ -98,7 +98,7 @@ pub fn declared_types_hash_alike<N: Ord + Hash>()
     lawful::<AttributesOrContext<N>>();
 }
 
-/// So do equal actions, namespaces and fragments.
+/// Equal actions, namespaces and fragments hash alike.
 pub fn fragments_hash_alike<N: NameText + Ord + Hash>()
     ensures action_types { HashesAlike ⟦<ActionType<N> as PartialEq>⟧.eq ⟦<ActionType<N> as Hash>⟧.hash_input }
     ensures applies_to { HashesAlike ⟦<ApplySpec<N> as PartialEq>⟧.eq ⟦<ApplySpec<N> as Hash>⟧.hash_input }

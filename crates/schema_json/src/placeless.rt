@@ -22,7 +22,7 @@ pub fn types_see_no_place<N: Ord>()
     ordered::<UnreservedId>();
 }
 
-/// So do a common type and an entity type.
+/// A common type and an entity type equal themselves with every place in them erased.
 pub fn declared_types_see_no_place<N: Ord>()
     ensures common_types { IsPlaceless ⟦<CommonType<N> as PartialEq>⟧.eq erased_common_type }
     ensures entity_types { IsPlaceless ⟦<EntityType<N> as PartialEq>⟧.eq erased_entity_type }
@@ -36,7 +36,7 @@ pub fn declared_types_see_no_place<N: Ord>()
     ordered::<List<N>>();
 }
 
-/// So do an action, a namespace and a fragment.
+/// An action, a namespace and a fragment equal themselves with every place in them erased.
 pub fn fragments_see_no_place<N: NameText + Ord>()
     ensures action_types { IsPlaceless ⟦<ActionType<N> as PartialEq>⟧.eq erased_action_type }
     ensures applies_to { IsPlaceless ⟦<ApplySpec<N> as PartialEq>⟧.eq erased_applies_to }

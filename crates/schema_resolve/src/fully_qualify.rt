@@ -28,7 +28,7 @@ pub trait FullyQualify {
     // the references that mean nothing, in the order of the walk
     ghost undefined: { Definitions → Self → List Undefined };
 
-    /// The same with each reference replaced by the name of what it means, or the first reference of the walk that means
+    /// What is given, with each reference replaced by the name of what it means, or the first reference of the walk that means
     /// nothing.
     fn fully_qualify_type_references(
         self,

@@ -52,7 +52,7 @@ pub(crate) fn rename_common<N, M: Drop, R: Renamer<N, M>>(
     })
 }
 
-// The same of a shape or a context.
+// A shape or a context, with each name replaced.
 pub(crate) fn rename_context<N, M: Drop, R: Renamer<N, M>>(
     alloc: Global,
     renamer: &R,
@@ -65,7 +65,7 @@ pub(crate) fn rename_context<N, M: Drop, R: Renamer<N, M>>(
     Ok(AttributesOrContext(rename_type(alloc, renamer, &context.0)?))
 }
 
-// The same of the type of tags.
+// The type of tags, with each name replaced.
 fn rename_tags<N, M: Drop, R: Renamer<N, M>>(
     alloc: Global,
     renamer: &R,
@@ -81,7 +81,7 @@ fn rename_tags<N, M: Drop, R: Renamer<N, M>>(
     }
 }
 
-// The same of what is declared of an entity type that is no enum.
+// What is declared of an entity type that is no enum, with each name replaced.
 fn rename_standard<N, M: Drop, R: Renamer<N, M>>(
     alloc: Global,
     renamer: &R,
@@ -101,7 +101,7 @@ fn rename_standard<N, M: Drop, R: Renamer<N, M>>(
     })
 }
 
-// The same of what is declared of any entity type.
+// What is declared of any entity type, with each name replaced.
 fn rename_kind<N, M: Drop, R: Renamer<N, M>>(
     alloc: Global,
     renamer: &R,
@@ -121,7 +121,7 @@ fn rename_kind<N, M: Drop, R: Renamer<N, M>>(
     }
 }
 
-// The same of an entity type.
+// An entity type, with each name replaced.
 pub(crate) fn rename_entity<N, M: Drop, R: Renamer<N, M>>(
     alloc: Global,
     renamer: &R,
@@ -139,7 +139,7 @@ pub(crate) fn rename_entity<N, M: Drop, R: Renamer<N, M>>(
     })
 }
 
-// The same of what an action applies to: its principals, its resources, its context.
+// What an action applies to, with each name replaced: its principals, its resources, its context.
 pub(crate) fn rename_apply<N, M: Drop, R: Renamer<N, M>>(
     alloc: Global,
     renamer: &R,
@@ -159,7 +159,7 @@ pub(crate) fn rename_apply<N, M: Drop, R: Renamer<N, M>>(
     })
 }
 
-// The same of a reference to an action.
+// A reference to an action, with its type replaced.
 pub(crate) fn rename_uid<N: NameText, M: NameText + Drop, R: Renamer<N, M> + ActionRenamer<N, M>>(
     alloc: Global,
     renamer: &R,
@@ -173,7 +173,7 @@ pub(crate) fn rename_uid<N: NameText, M: NameText + Drop, R: Renamer<N, M> + Act
     Ok(ActionEntityUID::with_type(ty, uid.id.clone_in(alloc)?))
 }
 
-// The same of references to actions.
+// References to actions, each with its type replaced.
 fn rename_uids<N: NameText, M: NameText + Drop, R: Renamer<N, M> + ActionRenamer<N, M>>(
     alloc: Global,
     renamer: &R,
@@ -191,7 +191,7 @@ fn rename_uids<N: NameText, M: NameText + Drop, R: Renamer<N, M> + ActionRenamer
     Ok(List::from_vec(out))
 }
 
-// The same of an action's parents.
+// An action's parents, each with its type replaced.
 fn rename_parents<N: NameText, M: NameText + Drop, R: Renamer<N, M> + ActionRenamer<N, M>>(
     alloc: Global,
     renamer: &R,
@@ -207,7 +207,7 @@ fn rename_parents<N: NameText, M: NameText + Drop, R: Renamer<N, M> + ActionRena
     }
 }
 
-// The same of what an action applies to, where that is said.
+// What an action applies to, where that is said, with each name replaced.
 fn rename_application<N, M: Drop, R: Renamer<N, M>>(
     alloc: Global,
     renamer: &R,
@@ -223,7 +223,7 @@ fn rename_application<N, M: Drop, R: Renamer<N, M>>(
     }
 }
 
-// The same of an action: its parents, then what it applies to.
+// An action with each name replaced: its parents, then what it applies to.
 pub(crate) fn rename_action<
     N: NameText,
     M: NameText + Drop,

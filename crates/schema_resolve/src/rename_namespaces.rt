@@ -31,7 +31,7 @@ fn rename_commons<N, M: Drop, R: Renamer<N, M>>(
     Ok(Map::from_sorted_vec(out))
 }
 
-// The same of entity types.
+// Entity types by name, with each name that they use replaced.
 fn rename_entities<N, M: Drop, R: Renamer<N, M>>(
     alloc: Global,
     renamer: &R,
@@ -50,7 +50,7 @@ fn rename_entities<N, M: Drop, R: Renamer<N, M>>(
     Ok(Map::from_sorted_vec(out))
 }
 
-// The same of actions.
+// Actions by id, with each name that they use replaced.
 fn rename_actions<N: NameText, M: NameText + Drop, R: Renamer<N, M> + ActionRenamer<N, M>>(
     alloc: Global,
     renamer: &R,

@@ -110,7 +110,7 @@ pub(crate) fn rename_variant<N, M: Drop, R: Renamer<N, M>>(
     }
 }
 
-// The same of a record type.
+// A record type, with each name replaced.
 #[cycle(rename)]
 pub(crate) fn rename_record<N, M: Drop, R: Renamer<N, M>>(
     alloc: Global,
@@ -131,7 +131,7 @@ pub(crate) fn rename_record<N, M: Drop, R: Renamer<N, M>>(
     })
 }
 
-// The same of an attribute's type.
+// An attribute's type, with each name replaced.
 #[cycle(rename)]
 pub(crate) fn rename_attribute<N, M: Drop, R: Renamer<N, M>>(
     alloc: Global,
@@ -149,7 +149,7 @@ pub(crate) fn rename_attribute<N, M: Drop, R: Renamer<N, M>>(
     })
 }
 
-// The same of attributes, in order.
+// Attributes in order, with each name replaced.
 #[cycle(rename)]
 fn rename_entries<N, M: Drop, R: Renamer<N, M>>(
     alloc: Global,

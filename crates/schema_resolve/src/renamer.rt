@@ -34,7 +34,7 @@ pub(crate) trait Renamer<N, M> {
         ensures err { IfErr result (NamesFirst (untargeted self.now ReferenceType.CommonOrEntity name.now)) };
 }
 
-// The same of the type of each reference to an action.
+// What the type of each reference to an action becomes, or that the reference means nothing.
 pub(crate) trait ActionRenamer<N: NameText, M> {
     ghost action_becomes: { Self → List ℕ → Option N → M };
 

@@ -30,7 +30,7 @@ pub trait ResolveFragment {
     // the references that mean nothing, in the order of the walk
     ghost undefined: { Self → ExtensionTable → List Undefined };
 
-    /// The same fragment with each reference as one to what it means under this table, or the first reference of the walk
+    /// The fragment with each reference as one to what it means under this table, or the first reference of the walk
     /// that means nothing.
     fn to_internal_name_fragment_with_resolved_types(
         &self,

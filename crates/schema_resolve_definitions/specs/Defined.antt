@@ -22,7 +22,7 @@ is_hidden t word = t.is_common (word ∷ []) || t.is_entity (word ∷ [])
 abbrev pub names_of_builtin : Tests → List ℕ → List (List (List ℕ))
 names_of_builtin t word = (codes "__cedar" ∷ word ∷ []) ∷ (if is_hidden t word then [] else (word ∷ []) ∷ [])
 
--- the same of each of the words
+-- the names of each of these words
 abbrev pub names_of_builtins : Tests → List (List ℕ) → List (List (List ℕ))
 names_of_builtins t words = flat_map (names_of_builtin t) words
 
