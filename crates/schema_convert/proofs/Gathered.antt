@@ -16,7 +16,7 @@ module _ {A B : Type 0} (g : List A → List B) (f : A → List B) (nil : g [] �
   over done [] all h e = sym (append-nil done) ∙ (ap (λ l. done ++ l) (sym nil) ∙ h)
   over done (x ∷ left) all h e = absurd (omega arith)
 
-  -- the same by an index
+  -- all are gathered, where an index counts them
   pub more_at : (done done' : List B) (xs : List A) (i : ℕ) (x : A) (all : List B) → done ++ g (drop i xs) ≡ all → i < length xs → x ≡ get_or xs i x → done' ≡ done ++ f x → done' ++ g (drop (i + 1) xs) ≡ all
   more_at done done' xs i x all h lt e p = more done done' (drop i xs) (drop (i + 1) xs) x all h (drop-cons xs i x lt ∙ (ap (λ y. y ∷ drop (suc i) xs) (sym e) ∙ ap (λ j. x ∷ drop j xs) (sym (add-one i)))) p
 

@@ -16,7 +16,7 @@ use Rattle.schema_syntax_tree.specs.declared.path.Path.{Path}
 use Rattle.cedar_names.specs.declared.extension_table.ExtensionTable.{ExtensionTable}
 use Rattle.schema_convert_errors.specs.declared.warnings.SchemaWarning.{SchemaWarning}
 use Rattle.schema_convert.specs.Borrowed.{entry_now, optional_now}
-use Rattle.schema_convert.specs.NamesIn.{word_cmp, path_cmp}
+use Rattle.schema_convert.specs.NamesIn.{id_text_cmp, path_cmp}
 use Rattle.schema_convert.specs.Shadowings.{by_id, by_name, builtin_shadowed, entity_shadowed, common_warnings, warnings_in, declared_warnings}
 use Rattle.schema_convert.proofs.Borrowed.{map_of_is, lookup_is}
 
@@ -30,8 +30,8 @@ id_entries names = map (λ n. (n.node, n)) (map (λ x. x.now) names)
 pub pushed_now : {A B : Type 0} (f : A → B) (done done' : List A) (a : A) (b : B) → done' ≡ done ++ a ∷ [] → f a ≡ b → map f done' ≡ map f done ++ b ∷ []
 pushed_now f done done' a b e p = ap (map f) e ∙ (map-append f done (a ∷ []) ∙ ap (λ x. map f done ++ x ∷ []) p)
 
-pub ids_sorted : (names : List (Bor (Node Id))) (entries sorted : List (Bor Id × Bor (Node Id))) → sorted ≡ map_of (λ a b. word_cmp a.now b.now) entries → map entry_now entries ≡ id_entries names → map entry_now sorted ≡ by_id (map (λ x. x.now) names)
-ids_sorted names entries sorted h e = ap (map entry_now) h ∙ (map_of_is (λ (k : Bor Id). k.now) (λ (x : Bor (Node Id)). x.now) word_cmp entries ∙ ap (map_of word_cmp) e)
+pub ids_sorted : (names : List (Bor (Node Id))) (entries sorted : List (Bor Id × Bor (Node Id))) → sorted ≡ map_of (λ a b. id_text_cmp a.now b.now) entries → map entry_now entries ≡ id_entries names → map entry_now sorted ≡ by_id (map (λ x. x.now) names)
+ids_sorted names entries sorted h e = ap (map entry_now) h ∙ (map_of_is (λ (k : Bor Id). k.now) (λ (x : Bor (Node Id)). x.now) id_text_cmp entries ∙ ap (map_of id_text_cmp) e)
 
 abbrev pub name_entries : List (Annotated Namespace) → List (Option Path × Annotated Namespace)
 name_entries namespaces = map (λ n. (n.item.name, n)) namespaces
@@ -58,12 +58,12 @@ module _ (table : ExtensionTable) where
   of_namespaces sorted = flat_map (λ n. declared_warnings table n.1.item.decls) (map optional_now sorted)
 
   -- a common type's warnings, of the entity type that was found
-  pub common_made : (old w1 w2 : List SchemaWarning) (common : Node Id) (entities : List (Bor Id × Bor (Node Id))) (found : Option (Bor (Node Id))) → found ≡ lookup (λ k. is_eq (word_cmp common.node k.now)) entities
+  pub common_made : (old w1 w2 : List SchemaWarning) (common : Node Id) (entities : List (Bor Id × Bor (Node Id))) (found : Option (Bor (Node Id))) → found ≡ lookup (λ k. is_eq (id_text_cmp common.node k.now)) entities
       → w1 ≡ old ++ entity_shadowed (option_map (λ (n : Bor (Node Id)). n.now) found) common → w2 ≡ w1 ++ builtin_shadowed table common → w2 ≡ old ++ common_warnings table (map entry_now entities) common
   common_made old w1 w2 common entities found f e b =
-      let same : option_map (λ (n : Bor (Node Id)). n.now) found ≡ lookup (is_at (word_cmp common.node)) (map entry_now entities) =
-      ap (option_map (λ (n : Bor (Node Id)). n.now)) f ∙ sym (lookup_is (λ (k : Bor Id). k.now) (λ (x : Bor (Node Id)). x.now) (is_at (word_cmp common.node)) entities) in
-      b ∙ (ap (λ w. w ++ builtin_shadowed table common) (e ∙ ap (λ o. old ++ entity_shadowed o common) same) ∙ append_assoc old (entity_shadowed (lookup (is_at (word_cmp common.node)) (map entry_now entities)) common) (builtin_shadowed table common))
+      let same : option_map (λ (n : Bor (Node Id)). n.now) found ≡ lookup (is_at (id_text_cmp common.node)) (map entry_now entities) =
+      ap (option_map (λ (n : Bor (Node Id)). n.now)) f ∙ sym (lookup_is (λ (k : Bor Id). k.now) (λ (x : Bor (Node Id)). x.now) (is_at (id_text_cmp common.node)) entities) in
+      b ∙ (ap (λ w. w ++ builtin_shadowed table common) (e ∙ ap (λ o. old ++ entity_shadowed o common) same) ∙ append_assoc old (entity_shadowed (lookup (is_at (id_text_cmp common.node)) (map entry_now entities)) common) (builtin_shadowed table common))
 
   -- the warnings of a namespace, of its sorted names
   pub declared_made : (old w1 w2 : List SchemaWarning) (cs es commons entities : List (Bor Id × Bor (Node Id))) (C E : List (Id × Node Id)) → w1 ≡ old ++ of_commons (map entry_now entities) cs → w2 ≡ w1 ++ of_entities es

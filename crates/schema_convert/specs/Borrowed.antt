@@ -6,6 +6,6 @@ use Rattle.std.specs.Borrow.{Bor}
 abbrev pub entry_now : {K X : Type 0} → Bor K × Bor X → K × X
 entry_now e = (e.0.now, e.1.now)
 
--- the same, where the key may be absent
+-- what an entry points to whose key may be absent
 abbrev pub optional_now : {K X : Type 0} → Option (Bor K) × Bor X → Option K × X
 optional_now e = (option_map (λ k. k.now) e.0, e.1.now)

@@ -19,7 +19,7 @@ use Rattle.schema_convert_errors.specs.declared.errors.ToJsonSchemaError.{ToJson
 use Rattle.schema_convert_errors.specs.declared.errors.ToJsonSchemaError.TheVariants.{DuplicateDeclarations, DuplicateNamespaces, ReservedName, ReservedSchemaKeyword}
 use Rattle.schema_convert.specs.Joined.{joined}
 use Rattle.schema_convert.specs.Members.{block_fault}
-use Rattle.schema_convert.specs.NamesIn.{entities_in, actions_in, commons_in, paths_in, id_cmp, action_cmp, path_cmp}
+use Rattle.schema_convert.specs.NamesIn.{entity_names_in, action_names_in, common_names_in, paths_in, id_cmp, action_cmp, path_cmp}
 use Rattle.schema_convert.specs.Repeats.{first_repeat}
 
 -- the ids with `::` between two
@@ -48,7 +48,7 @@ action_twice names = twice (λ text. text) (first_repeat action_cmp names)
 -- the first repeat of a namespace's entity types, or else of its actions, or else of its common types
 abbrev pub declared_twice : List (Annotated (Node Declaration)) → Option ToJsonSchemaError
 declared_twice decls =
-    option_or (id_twice (entities_in decls)) (option_or (action_twice (actions_in decls)) (id_twice (commons_in decls)))
+    option_or (id_twice (entity_names_in decls)) (option_or (action_twice (action_names_in decls)) (id_twice (common_names_in decls)))
 
 -- The first step: the name of a namespace, or else a repeat in it.
 abbrev pub name_fault : Annotated Namespace → Option ToJsonSchemaError
@@ -101,13 +101,13 @@ or_else (fault ∷ faults) others = fault ∷ faults
 -- The third step: all reserved names of entity types, or else the first fault of each action declaration, or else the first
 -- fault of a common type's name.
 abbrev pub entity_faults : List (Annotated (Node Declaration)) → List ToJsonSchemaError
-entity_faults decls = filter_map reserved_id (entities_in decls)
+entity_faults decls = filter_map reserved_id (entity_names_in decls)
 
 abbrev pub action_faults : List (Annotated (Node Declaration)) → List ToJsonSchemaError
 action_faults decls = filter_map (λ d. action_fault d.item.node) decls
 
 abbrev pub common_faults : List (Annotated (Node Declaration)) → List ToJsonSchemaError
-common_faults decls = option_to_list (first_some common_fault (commons_in decls))
+common_faults decls = option_to_list (first_some common_fault (common_names_in decls))
 
 abbrev pub declaration_faults : List (Annotated (Node Declaration)) → List ToJsonSchemaError
 declaration_faults decls = or_else (entity_faults decls) (or_else (action_faults decls) (common_faults decls))

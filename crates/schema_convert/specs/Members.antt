@@ -16,7 +16,7 @@ abbrev pub met_role : Role → Met → Option (Option Span)
 met_role Principal met = met.principal
 met_role Resource met = met.resource
 
--- and with these
+-- what was met, and this list of principals or resources
 abbrev pub meet_role : Role → Option Span → Met → Met
 meet_role Principal loc met = record { principal = Some loc; resource = met.resource; context = met.context }
 meet_role Resource loc met = record { principal = met.principal; resource = Some loc; context = met.context }

@@ -29,15 +29,15 @@ commons_of (Entity d) = []
 commons_of (Action d) = []
 commons_of (Common d) = d.name ∷ []
 
--- the same of declarations, in the order of the text
-abbrev pub entities_in : List (Annotated (Node Declaration)) → List (Node Id)
-entities_in decls = flat_map (λ d. entities_of d.item.node) decls
+-- the names that declarations give, in the order of the text
+abbrev pub entity_names_in : List (Annotated (Node Declaration)) → List (Node Id)
+entity_names_in decls = flat_map (λ d. entities_of d.item.node) decls
 
-abbrev pub actions_in : List (Annotated (Node Declaration)) → List (Node (List ℕ))
-actions_in decls = flat_map (λ d. actions_of d.item.node) decls
+abbrev pub action_names_in : List (Annotated (Node Declaration)) → List (Node (List ℕ))
+action_names_in decls = flat_map (λ d. actions_of d.item.node) decls
 
-abbrev pub commons_in : List (Annotated (Node Declaration)) → List (Node Id)
-commons_in decls = flat_map (λ d. commons_of d.item.node) decls
+abbrev pub common_names_in : List (Annotated (Node Declaration)) → List (Node Id)
+common_names_in decls = flat_map (λ d. commons_of d.item.node) decls
 
 -- the names of namespaces that have one
 abbrev pub paths_in : List (Annotated Namespace) → List Path
@@ -50,8 +50,8 @@ id_cmp a b = text_cmp a.node.text b.node.text
 abbrev pub action_cmp : Node (List ℕ) → Node (List ℕ) → Ordering
 action_cmp a b = text_cmp a.node b.node
 
-abbrev pub word_cmp : Id → Id → Ordering
-word_cmp a b = text_cmp a.text b.text
+abbrev pub id_text_cmp : Id → Id → Ordering
+id_text_cmp a b = text_cmp a.text b.text
 
 abbrev pub path_cmp : Path → Path → Ordering
-path_cmp a b = slice_cmp word_cmp a.ids b.ids
+path_cmp a b = slice_cmp id_text_cmp a.ids b.ids

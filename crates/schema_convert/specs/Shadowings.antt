@@ -17,18 +17,18 @@ use Rattle.schema_syntax_tree.specs.declared.path.Path.{Path}
 use Rattle.schema_convert_errors.specs.declared.warnings.SchemaWarning.{SchemaWarning}
 use Rattle.schema_convert_errors.specs.declared.warnings.SchemaWarning.TheVariants.{ShadowsBuiltin, ShadowsEntity}
 use Rattle.schema_convert.specs.Joined.{joined}
-use Rattle.schema_convert.specs.NamesIn.{entities_in, commons_in, word_cmp, path_cmp}
+use Rattle.schema_convert.specs.NamesIn.{entity_names_in, common_names_in, id_text_cmp, path_cmp}
 
 -- declared names, sorted by their texts
 abbrev pub by_id : List (Node Id) → List (Id × Node Id)
-by_id names = map_of word_cmp (map (λ n. (n.node, n)) names)
+by_id names = map_of id_text_cmp (map (λ n. (n.node, n)) names)
 
 -- the word is the name of a type that every schema has, or of one of the table's
-abbrev pub is_builtin : List ℕ → Bool
-is_builtin w = list_any (λ b. bytes_eq w b) (codes "Long" ∷ codes "String" ∷ codes "Bool" ∷ [])
+abbrev pub is_primitive_name : List ℕ → Bool
+is_primitive_name w = list_any (λ b. bytes_eq w b) (codes "Long" ∷ codes "String" ∷ codes "Bool" ∷ [])
 
 abbrev pub is_taken : ExtensionTable → List ℕ → Bool
-is_taken table w = is_builtin w || table_has table w
+is_taken table w = is_primitive_name w || table_has table w
 
 -- a declared type that is named so
 abbrev pub builtin_shadowed : ExtensionTable → Node Id → List SchemaWarning
@@ -40,7 +40,7 @@ entity_shadowed None common = []
 entity_shadowed (Some entity) common = ShadowsEntity (record { name = common.node.text; entity_loc = entity.loc; common_loc = common.loc }) ∷ []
 
 abbrev pub common_warnings : ExtensionTable → List (Id × Node Id) → Node Id → List SchemaWarning
-common_warnings table entities common = entity_shadowed (lookup (is_at (word_cmp common.node)) entities) common ++ builtin_shadowed table common
+common_warnings table entities common = entity_shadowed (lookup (is_at (id_text_cmp common.node)) entities) common ++ builtin_shadowed table common
 
 -- The warnings of a namespace: the common types by name, each first as it hides an entity type, and then the entity types
 -- by name.
@@ -48,7 +48,7 @@ abbrev pub warnings_in : ExtensionTable → List (Id × Node Id) → List (Id ×
 warnings_in table commons entities = flat_map (λ c. common_warnings table entities c.1) commons ++ flat_map (λ e. builtin_shadowed table e.1) entities
 
 abbrev pub declared_warnings : ExtensionTable → List (Annotated (Node Declaration)) → List SchemaWarning
-declared_warnings table decls = warnings_in table (by_id (commons_in decls)) (by_id (entities_in decls))
+declared_warnings table decls = warnings_in table (by_id (common_names_in decls)) (by_id (entity_names_in decls))
 
 -- the namespaces, sorted by their names; the empty one is the first
 abbrev pub by_name : List (Annotated Namespace) → List (Option Path × Annotated Namespace)

@@ -1,14 +1,14 @@
 ghost use Rattle.std.specs.Prelude.{◌≡◌, [], ◌∷◌, ◌++◌, map, IfOk, OnOk};
 ghost use Rattle.std.specs.List.{filter_map};
 ghost use Rattle.std.specs.Option.{option_to_list};
-ghost use Rattle.schema_json.specs.Keywords.{is_keyword_name};
 ghost use Rattle.schema_convert.specs.Faults.{is_reserved_path, reserved_namespace, id_twice, action_twice, declared_twice, name_fault, namespace_twice, namespace_repeated, reserved_id, keyword, common_fault, first_some, first_name, applies_fault, action_fault, action_faults, declaration_faults, all_declaration_faults, faults_in};
 
 use crate::members::block_fault;
-use crate::names_in::{actions_in, commons_in, entities_in, paths_in};
+use crate::names_in::{action_names_in, common_names_in, entity_names_in, paths_in};
 use crate::repeats::first_repeat;
 use cedar_data::{CloneIn, Node, NonEmpty, Text};
 use cedar_identifiers::{Id, is_cedar};
+use schema_json::is_keyword_name;
 use schema_convert_errors::{
     DuplicateDeclarations, DuplicateNamespace, ReservedName, ReservedSchemaKeyword,
     ToJsonSchemaError,
@@ -95,15 +95,15 @@ fn declared_twice(
 ) -> Result<Option<ToJsonSchemaError>, AllocError>
     ensures { IfOk result (λ fault. fault ≡ declared_twice decls.now) }
 {
-    let entities = entities_in(alloc, decls)?;
+    let entities = entity_names_in(alloc, decls)?;
     if let Some(fault) = id_twice(alloc, entities.as_slice())? {
         return Ok(Some(fault));
     }
-    let actions = actions_in(alloc, decls)?;
+    let actions = action_names_in(alloc, decls)?;
     if let Some(fault) = action_twice(alloc, actions.as_slice())? {
         return Ok(Some(fault));
     }
-    let commons = commons_in(alloc, decls)?;
+    let commons = common_names_in(alloc, decls)?;
     id_twice(alloc, commons.as_slice())
 }
 
@@ -200,21 +200,11 @@ fn reserved_id(alloc: Global, id: &Node<Id>) -> Result<Option<ToJsonSchemaError>
     Ok(Some(ToJsonSchemaError::ReservedName(fault)))
 }
 
-// Whether the word is one of the eight that no common type may have for its name.
-fn is_keyword(word: &str) -> bool
-    ensures { result ≡ is_keyword_name word.now }
-{
-    match word {
-        "Bool" | "Boolean" | "Entity" | "Extension" | "Long" | "Record" | "Set" | "String" => true,
-        _ => false,
-    }
-}
-
-// The fault of a common type that is named by one of these.
+// The fault of a common type that is named by one of the eight words that no common type may have for its name.
 fn keyword(alloc: Global, id: &Node<Id>) -> Result<Option<ToJsonSchemaError>, AllocError>
     ensures { IfOk result (λ fault. fault ≡ keyword id.now) }
 {
-    if !is_keyword(id.node.as_str()) {
+    if !is_keyword_name(id.node.as_str()) {
         return Ok(None);
     }
     let fault = ReservedSchemaKeyword {
@@ -299,7 +289,7 @@ fn first_common(alloc: Global, ids: &[&Node<Id>]) -> Result<Option<ToJsonSchemaE
     Ok(None)
 }
 
-// The same, as a list.
+// The first fault of a common type's name, as a list.
 fn common_faults(alloc: Global, ids: &[&Node<Id>]) -> Result<Vec<ToJsonSchemaError>, AllocError>
     ensures { IfOk result (λ faults. faults.items ≡ option_to_list (first_some common_fault (map (λ x. x.now) ids.now))) }
 {
@@ -316,7 +306,7 @@ fn declaration_faults(
 ) -> Result<Vec<ToJsonSchemaError>, AllocError>
     ensures { IfOk result (λ faults. faults.items ≡ declaration_faults decls.now) }
 {
-    let entities = entities_in(alloc, decls)?;
+    let entities = entity_names_in(alloc, decls)?;
     let faults = entity_faults(alloc, entities.as_slice())?;
     if !faults.is_empty() {
         return Ok(faults);
@@ -325,7 +315,7 @@ fn declaration_faults(
     if !faults.is_empty() {
         return Ok(faults);
     }
-    let commons = commons_in(alloc, decls)?;
+    let commons = common_names_in(alloc, decls)?;
     common_faults(alloc, commons.as_slice())
 }
 

@@ -27,7 +27,7 @@ fn met_role(kind: PR, met: Met) -> Option<Option<Loc>>
     }
 }
 
-// And with these.
+// What was met, and this list of principals or resources.
 fn meet_role(kind: PR, loc: Option<Loc>, met: Met) -> Met
     ensures { result ≡ meet_role kind loc met }
 {

@@ -1,7 +1,7 @@
 ghost use Rattle.std.specs.Prelude.{◌≡◌, ◌++◌, map, IfOk, OnOk};
 ghost use Rattle.std.specs.Option.{option_to_list};
 ghost use Rattle.cedar_data.specs.NonEmpty.{items_left};
-ghost use Rattle.schema_convert.specs.NamesIn.{entities_of, actions_of, commons_of, entities_in, actions_in, commons_in, paths_in};
+ghost use Rattle.schema_convert.specs.NamesIn.{entities_of, actions_of, commons_of, entity_names_in, action_names_in, common_names_in, paths_in};
 
 use cedar_data::{Node, NonEmptyIter, Text};
 use cedar_identifiers::Id;
@@ -53,11 +53,11 @@ fn push_common<'a>(names: &mut Vec<&'a Node<Id>>, decl: &'a Declaration) -> Resu
 }
 
 /// The names of the entity types that the declarations declare, in order.
-pub fn entities_in<'a>(
+pub fn entity_names_in<'a>(
     alloc: Global,
     decls: &'a [Annotated<Node<Declaration>>],
 ) -> Result<Vec<&'a Node<Id>>, AllocError>
-    ensures { IfOk result (λ names. map (λ x. x.now) names.items ≡ entities_in decls.now) }
+    ensures { IfOk result (λ names. map (λ x. x.now) names.items ≡ entity_names_in decls.now) }
 {
     let mut names = Vec::new(alloc);
     for decl in decls {
@@ -67,11 +67,11 @@ pub fn entities_in<'a>(
 }
 
 /// The names of the actions.
-pub fn actions_in<'a>(
+pub fn action_names_in<'a>(
     alloc: Global,
     decls: &'a [Annotated<Node<Declaration>>],
 ) -> Result<Vec<&'a Node<Text>>, AllocError>
-    ensures { IfOk result (λ names. map (λ x. x.now) names.items ≡ actions_in decls.now) }
+    ensures { IfOk result (λ names. map (λ x. x.now) names.items ≡ action_names_in decls.now) }
 {
     let mut names = Vec::new(alloc);
     for decl in decls {
@@ -81,11 +81,11 @@ pub fn actions_in<'a>(
 }
 
 /// The names of the common types.
-pub fn commons_in<'a>(
+pub fn common_names_in<'a>(
     alloc: Global,
     decls: &'a [Annotated<Node<Declaration>>],
 ) -> Result<Vec<&'a Node<Id>>, AllocError>
-    ensures { IfOk result (λ names. map (λ x. x.now) names.items ≡ commons_in decls.now) }
+    ensures { IfOk result (λ names. map (λ x. x.now) names.items ≡ common_names_in decls.now) }
 {
     let mut names = Vec::new(alloc);
     for decl in decls {

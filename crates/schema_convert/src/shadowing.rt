@@ -2,9 +2,9 @@ ghost use Rattle.std.specs.Prelude.{◌≡◌, ◌++◌, map, option_map, IfOk, 
 ghost use Rattle.std.specs.List.{flat_map};
 ghost use Rattle.std.specs.Option.{option_copied};
 ghost use Rattle.schema_convert.specs.Borrowed.{entry_now, optional_now};
-ghost use Rattle.schema_convert.specs.Shadowings.{by_id, is_builtin, is_taken, builtin_shadowed, entity_shadowed, common_warnings, warnings_in, declared_warnings, by_name, warnings_of};
+ghost use Rattle.schema_convert.specs.Shadowings.{by_id, is_primitive_name, is_taken, builtin_shadowed, entity_shadowed, common_warnings, warnings_in, declared_warnings, by_name, warnings_of};
 
-use crate::names_in::{commons_in, entities_in};
+use crate::names_in::{common_names_in, entity_names_in};
 use cedar_data::{CloneIn, Map, Node};
 use cedar_identifiers::Id;
 use cedar_names::ExtensionTable;
@@ -26,8 +26,8 @@ fn by_id<'a>(alloc: Global, names: &[&'a Node<Id>]) -> Result<Map<&'a Id, &'a No
 }
 
 // Whether the word is the name of a type that every schema has.
-fn is_builtin(word: &str) -> bool
-    ensures { result ≡ is_builtin word.now }
+fn is_primitive_name(word: &str) -> bool
+    ensures { result ≡ is_primitive_name word.now }
 {
     match word {
         "Long" | "String" | "Bool" => true,
@@ -39,7 +39,7 @@ fn is_builtin(word: &str) -> bool
 fn is_taken(table: &ExtensionTable, word: &str) -> bool
     ensures { result ≡ is_taken table.now word.now }
 {
-    is_builtin(word) || table.has(word)
+    is_primitive_name(word) || table.has(word)
 }
 
 // Adds the warning of a declared type that is named so.
@@ -140,8 +140,8 @@ fn push_declared(
 ) -> Result<(), AllocError>
     ensures { OnOk result (warnings.new.items ≡ warnings.old.items ++ declared_warnings table.now decls.now) }
 {
-    let common_names = commons_in(alloc, decls)?;
-    let entity_names = entities_in(alloc, decls)?;
+    let common_names = common_names_in(alloc, decls)?;
+    let entity_names = entity_names_in(alloc, decls)?;
     let commons = by_id(alloc, common_names.as_slice())?;
     let entities = by_id(alloc, entity_names.as_slice())?;
     push_commons(alloc, warnings, table, &entities, commons.as_slice())?;

@@ -1,2 +1,1 @@
-mod Ascii
 mod SameFaults

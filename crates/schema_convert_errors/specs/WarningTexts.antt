@@ -2,25 +2,21 @@
 use Rattle.std.specs.Prelude.{ℕ, List, [], ◌∷◌, ◌++◌, Option, Some, None, codes}
 use Rattle.cedar_data.specs.Span.{Span}
 use Rattle.cedar_data.specs.declared.label.Label.{Label}
+use Rattle.schema_syntax_errors.specs.FaultLabels.{bare}
 use Rattle.schema_convert_errors.specs.declared.warnings.SchemaWarning.{SchemaWarning}
 use Rattle.schema_convert_errors.specs.declared.warnings.SchemaWarning.TheVariants.{ShadowsBuiltin, ShadowsEntity}
 use Rattle.schema_convert_errors.specs.declared.warnings.ShadowsBuiltinWarning.{ShadowsBuiltinWarning}
 use Rattle.schema_convert_errors.specs.declared.warnings.ShadowsEntityWarning.{ShadowsEntityWarning}
 
-abbrev pub builtin_text : ShadowsBuiltinWarning → List ℕ
-builtin_text w = (codes "The name `" ++ (w.name ++ codes "` shadows a builtin Cedar name. You'll have to refer to the builtin as `__cedar::")) ++ (w.name ++ codes "`.")
+abbrev pub shadows_builtin_text : ShadowsBuiltinWarning → List ℕ
+shadows_builtin_text w = (codes "The name `" ++ (w.name ++ codes "` shadows a builtin Cedar name. You'll have to refer to the builtin as `__cedar::")) ++ (w.name ++ codes "`.")
 
-abbrev pub entity_text : ShadowsEntityWarning → List ℕ
-entity_text w = codes "The common type name " ++ (w.name ++ codes " shadows an entity name")
+abbrev pub shadows_entity_text : ShadowsEntityWarning → List ℕ
+shadows_entity_text w = codes "The common type name " ++ (w.name ++ codes " shadows an entity name")
 
 abbrev pub warning_text : SchemaWarning → List ℕ
-warning_text (ShadowsBuiltin w) = builtin_text w
-warning_text (ShadowsEntity w) = entity_text w
-
--- a label without a text, where there is a place
-abbrev pub bare : Option Span → List Label
-bare None = []
-bare (Some span) = record { span = span; text = None } ∷ []
+warning_text (ShadowsBuiltin w) = shadows_builtin_text w
+warning_text (ShadowsEntity w) = shadows_entity_text w
 
 abbrev pub builtin_labels : ShadowsBuiltinWarning → List Label
 builtin_labels w = bare w.loc

@@ -14,62 +14,62 @@ pub fn duplicate_declarations_by_value(a: &DuplicateDeclarations, b: &DuplicateD
     ensures { ⟦<DuplicateDeclarations as PartialEq>⟧.eq a.now b.now ≡ true ↔ a.now ≡ b.now }
 {}
 
-/// The same of second contexts.
+/// Second contexts are equal exactly where they are the same.
 pub fn duplicate_contexts_by_value(a: &DuplicateContext, b: &DuplicateContext)
     ensures { ⟦<DuplicateContext as PartialEq>⟧.eq a.now b.now ≡ true ↔ a.now ≡ b.now }
 {}
 
-/// The same of second lists of principals or resources.
+/// Second lists of principals or resources are equal exactly where they are the same.
 pub fn duplicate_roles_by_value(a: &DuplicatePrincipalOrResource, b: &DuplicatePrincipalOrResource)
     ensures { ⟦<DuplicatePrincipalOrResource as PartialEq>⟧.eq a.now b.now ≡ true ↔ a.now ≡ b.now }
 {}
 
-/// The same of why a list of principals or resources is none.
+/// Why a list of principals or resources is none is equal exactly where it is the same.
 pub fn missing_or_empty_by_value(a: &MissingOrEmpty, b: &MissingOrEmpty)
     ensures { ⟦<MissingOrEmpty as PartialEq>⟧.eq a.now b.now ≡ true ↔ a.now ≡ b.now }
 {}
 
-/// The same of actions without principals or resources.
+/// Actions without principals or resources are equal exactly where they are the same.
 pub fn absent_roles_by_value(a: &NoPrincipalOrResource, b: &NoPrincipalOrResource)
     ensures { ⟦<NoPrincipalOrResource as PartialEq>⟧.eq a.now b.now ≡ true ↔ a.now ≡ b.now }
 {}
 
-/// The same of repeated namespaces.
+/// Repeated namespaces are equal exactly where they are the same.
 pub fn duplicate_namespaces_by_value(a: &DuplicateNamespace, b: &DuplicateNamespace)
     ensures { ⟦<DuplicateNamespace as PartialEq>⟧.eq a.now b.now ≡ true ↔ a.now ≡ b.now }
 {}
 
-/// The same of types' names that mean nothing.
+/// Types' names that mean nothing are equal exactly where they are the same.
 pub fn unknown_type_names_by_value(a: &UnknownTypeName, b: &UnknownTypeName)
     ensures { ⟦<UnknownTypeName as PartialEq>⟧.eq a.now b.now ≡ true ↔ a.now ≡ b.now }
 {}
 
-/// The same of reserved names.
+/// Reserved names are equal exactly where they are the same.
 pub fn reserved_names_by_value(a: &ReservedName, b: &ReservedName)
     ensures { ⟦<ReservedName as PartialEq>⟧.eq a.now b.now ≡ true ↔ a.now ≡ b.now }
 {}
 
-/// The same of common types that have a keyword for their name.
+/// Common types that have a keyword for their name are equal exactly where they are the same.
 pub fn reserved_keywords_by_value(a: &ReservedSchemaKeyword, b: &ReservedSchemaKeyword)
     ensures { ⟦<ReservedSchemaKeyword as PartialEq>⟧.eq a.now b.now ≡ true ↔ a.now ≡ b.now }
 {}
 
-/// The same of faults of any of these kinds.
+/// Faults of any of these kinds are equal exactly where they are the same.
 pub fn schema_faults_by_value(a: &ToJsonSchemaError, b: &ToJsonSchemaError)
     ensures { ⟦<ToJsonSchemaError as PartialEq>⟧.eq a.now b.now ≡ true ↔ a.now ≡ b.now }
 {}
 
-/// The same of lists of them.
+/// Lists of faults are equal exactly where they are the same.
 pub fn fault_lists_by_value(a: &ToJsonSchemaErrors, b: &ToJsonSchemaErrors)
     ensures { ⟦<ToJsonSchemaErrors as PartialEq>⟧.eq a.now b.now ≡ true ↔ a.now ≡ b.now }
 {}
 
-/// The same of why a tree was not made a fragment.
+/// Why a tree was not translated is equal exactly where it is the same.
 pub fn failures_by_value(a: &ToJsonSchemaFailure, b: &ToJsonSchemaFailure)
     ensures { ⟦<ToJsonSchemaFailure as PartialEq>⟧.eq a.now b.now ≡ true ↔ a.now ≡ b.now }
 {}
 
-/// The same of why a text was not made one.
+/// Why a text was not translated is equal exactly where it is the same.
 pub fn text_failures_by_value(a: &CedarSchemaParseErrors, b: &CedarSchemaParseErrors)
     ensures { ⟦<CedarSchemaParseErrors as PartialEq>⟧.eq a.now b.now ≡ true ↔ a.now ≡ b.now }
 {
@@ -92,17 +92,17 @@ pub fn text_failures_by_value(a: &CedarSchemaParseErrors, b: &CedarSchemaParseEr
     }
 }
 
-/// The same of builtin names that are hidden.
+/// Builtin names that are hidden are equal exactly where they are the same.
 pub fn builtin_warnings_by_value(a: &ShadowsBuiltinWarning, b: &ShadowsBuiltinWarning)
     ensures { ⟦<ShadowsBuiltinWarning as PartialEq>⟧.eq a.now b.now ≡ true ↔ a.now ≡ b.now }
 {}
 
-/// The same of entity types that are hidden.
+/// Entity types that are hidden are equal exactly where they are the same.
 pub fn entity_warnings_by_value(a: &ShadowsEntityWarning, b: &ShadowsEntityWarning)
     ensures { ⟦<ShadowsEntityWarning as PartialEq>⟧.eq a.now b.now ≡ true ↔ a.now ≡ b.now }
 {}
 
-/// The same of warnings of both kinds.
+/// Warnings of both kinds are equal exactly where they are the same.
 pub fn warnings_by_value(a: &SchemaWarning, b: &SchemaWarning)
     ensures { ⟦<SchemaWarning as PartialEq>⟧.eq a.now b.now ≡ true ↔ a.now ≡ b.now }
 {}

@@ -1,5 +1,6 @@
 ghost use Rattle.std.specs.Prelude.{◌≡◌, ◌++◌, Ok, None, IfOk, OnOk};
-ghost use Rattle.schema_convert_errors.specs.WarningTexts.{builtin_text, entity_text, warning_text, bare, builtin_labels, entity_labels, warning_labels};
+ghost use Rattle.schema_convert_errors.specs.WarningTexts.{shadows_builtin_text, shadows_entity_text, warning_text, builtin_labels, entity_labels, warning_labels};
+ghost use Rattle.schema_syntax_errors.specs.FaultLabels.{bare};
 
 use cedar_data::{CloneIn, Label, Loc, Severity, Text, message, push_both};
 use std::alloc::{AllocError, Global};
@@ -39,7 +40,7 @@ fn push_bare(labels: &mut Vec<Label>, place: Option<Loc>) -> Result<(), AllocErr
 impl ShadowsBuiltinWarning {
     /// What the warning says.
     pub fn text(&self, alloc: Global) -> Result<Text, AllocError>
-        ensures { IfOk result (λ text. text ≡ builtin_text self.now) }
+        ensures { IfOk result (λ text. text ≡ shadows_builtin_text self.now) }
     {
         let mut text = message(alloc, "The name `")?;
         let middle =
@@ -76,7 +77,7 @@ impl ShadowsBuiltinWarning {
 impl ShadowsEntityWarning {
     /// What the warning says.
     pub fn text(&self, alloc: Global) -> Result<Text, AllocError>
-        ensures { IfOk result (λ text. text ≡ entity_text self.now) }
+        ensures { IfOk result (λ text. text ≡ shadows_entity_text self.now) }
     {
         let mut text = message(alloc, "The common type name ")?;
         push_both(&mut text, &self.name, " shadows an entity name")?;

@@ -25,14 +25,14 @@ use Rattle.schema_json.specs.declared.entity_type.EntityType.{EntityType}
 use Rattle.schema_json.specs.declared.fragment.Fragment.{Fragment}
 use Rattle.schema_json.specs.declared.fragment.NamespaceDefinition.{NamespaceDefinition}
 use Rattle.schema_convert_types.specs.Declarations.{as_written}
-use Rattle.schema_convert_types.specs.Fragments.{common_cmp, word_cmp, common_entries, entity_entries, action_entries, definition_of, namespace_cmp, namespace_entry, fragment_of}
+use Rattle.schema_convert_types.specs.Fragments.{common_cmp, unreserved_cmp, common_entries, entity_entries, action_entries, definition_of, namespace_cmp, namespace_entry, fragment_of}
 
 pub definition_made : (decls : List (Annotated (Node Declaration))) (notes : Annotations) (commons cs : List (CommonTypeId × CommonType RawName)) (entities es : List (UnreservedId × EntityType RawName)) (actions as_ : List (List ℕ × ActionType RawName as_written))
-    → cs ≡ map_of common_cmp commons → commons ≡ common_entries decls → es ≡ map_of word_cmp entities → entities ≡ entity_entries decls → as_ ≡ map_of text_cmp actions → actions ≡ action_entries decls
+    → cs ≡ map_of common_cmp commons → commons ≡ common_entries decls → es ≡ map_of unreserved_cmp entities → entities ≡ entity_entries decls → as_ ≡ map_of text_cmp actions → actions ≡ action_entries decls
     → (let made : NamespaceDefinition RawName as_written = record { common_types = cs; entity_types = es; actions = as_; annotations = notes } in made) ≡ definition_of decls notes
 definition_made decls notes commons cs entities es actions as_ c d e f a b =
     let cs_are = c ∙ ap (map_of common_cmp) d in
-    let es_are = e ∙ ap (map_of word_cmp) f in
+    let es_are = e ∙ ap (map_of unreserved_cmp) f in
     let as_are = a ∙ ap (map_of text_cmp) b in
     λ i. record { common_types = cs_are i; entity_types = es_are i; actions = as_are i; annotations = notes }
 

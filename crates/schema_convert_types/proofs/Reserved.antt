@@ -9,7 +9,7 @@ use Rattle.cedar_identifiers.specs.declared.internal_name.InternalName.{Internal
 use Rattle.cedar_identifiers.specs.declared.name.Name.{Name}
 use Rattle.cedar_identifiers.specs.declared.unreserved_id.UnreservedId.{UnreservedId}
 use Rattle.schema_convert_types.specs.Declarations.{unreserved, unreserved_so}
-use Rattle.schema_convert_types.specs.Fragments.{declared, declared_so}
+use Rattle.schema_convert_types.specs.Fragments.{declarable_name, declarable_name_so}
 
 no_id : (id : Id) (b : Bool) (e : is_cedar id.text ≡ b) → b ≡ true → None ≡ unreserved_so id b e
 no_id id true e h = refl
@@ -23,14 +23,14 @@ pub unreserved_is : (id : Id) (r : Option UnreservedId) → MatchOption r (is_ce
 unreserved_is id None h = no_id id (is_cedar id.text) refl h
 unreserved_is id (Some u) h = some_id id u h (is_cedar id.text) refl
 
-no_name : (name : InternalName) (b : Bool) (e : has_cedar (components_of name) ≡ b) → b ≡ true → None ≡ declared_so name b e
+no_name : (name : InternalName) (b : Bool) (e : has_cedar (components_of name) ≡ b) → b ≡ true → None ≡ declarable_name_so name b e
 no_name name true e h = refl
 no_name name false e h = cc
 
-some_name : (name : InternalName) (d : Name) → d.name ≡ name → (b : Bool) (e : has_cedar (components_of name) ≡ b) → Some d ≡ declared_so name b e
+some_name : (name : InternalName) (d : Name) → d.name ≡ name → (b : Bool) (e : has_cedar (components_of name) ≡ b) → Some d ≡ declarable_name_so name b e
 some_name name d h true e = let f : has_cedar (components_of d.name) ≡ true = ap (λ n. has_cedar (components_of n)) h ∙ e in absurd (cc (d.unreserved))
 some_name name d h false e = ap Some (name_same d (record { name = name; unreserved = e }) h)
 
-pub declared_is : (name : InternalName) (r : Option Name) → MatchOption r (has_cedar (components_of name) ≡ true) (λ d. d.name ≡ name) → r ≡ declared name
+pub declared_is : (name : InternalName) (r : Option Name) → MatchOption r (has_cedar (components_of name) ≡ true) (λ d. d.name ≡ name) → r ≡ declarable_name name
 declared_is name None h = no_name name (has_cedar (components_of name)) refl h
 declared_is name (Some d) h = some_name name d h (has_cedar (components_of name)) refl

@@ -31,41 +31,41 @@ use Rattle.schema_convert_types.specs.Types.{type_of}
 use Rattle.schema_convert_types.specs.Declarations.{as_written, entity_type_of, action_type_of, declarable, unreserved, each_with}
 
 -- the entity types, the actions and the common type that a declaration declares, with its annotations and place
-abbrev pub entities_in : Declaration → Annotations → Option Span → List (UnreservedId × EntityType RawName)
-entities_in (Entity d) notes loc = each_with (entity_type_of d notes loc) (declarable (entity_names d))
-entities_in (Action d) notes loc = []
-entities_in (Common d) notes loc = []
+abbrev pub entity_entries_of : Declaration → Annotations → Option Span → List (UnreservedId × EntityType RawName)
+entity_entries_of (Entity d) notes loc = each_with (entity_type_of d notes loc) (declarable (entity_names d))
+entity_entries_of (Action d) notes loc = []
+entity_entries_of (Common d) notes loc = []
 
-abbrev pub actions_in : Declaration → Annotations → Option Span → List (List ℕ × ActionType RawName as_written)
-actions_in (Entity d) notes loc = []
-actions_in (Action d) notes loc = each_with (action_type_of d notes loc) (map (λ n. n.node) (action_names d))
-actions_in (Common d) notes loc = []
+abbrev pub action_entries_of : Declaration → Annotations → Option Span → List (List ℕ × ActionType RawName as_written)
+action_entries_of (Entity d) notes loc = []
+action_entries_of (Action d) notes loc = each_with (action_type_of d notes loc) (map (λ n. n.node) (action_names d))
+action_entries_of (Common d) notes loc = []
 
 abbrev pub common_entry : Option UnreservedId → CommonType RawName → List (CommonTypeId × CommonType RawName)
 common_entry None of = []
 common_entry (Some id) of = (record { id = id }, of) ∷ []
 
-abbrev pub commons_in : Declaration → Annotations → Option Span → List (CommonTypeId × CommonType RawName)
-commons_in (Entity d) notes loc = []
-commons_in (Action d) notes loc = []
-commons_in (Common d) notes loc = common_entry (unreserved d.name.node) (record { ty = type_of d.def; annotations = notes; loc = loc })
+abbrev pub common_entries_of : Declaration → Annotations → Option Span → List (CommonTypeId × CommonType RawName)
+common_entries_of (Entity d) notes loc = []
+common_entries_of (Action d) notes loc = []
+common_entries_of (Common d) notes loc = common_entry (unreserved d.name.node) (record { ty = type_of d.def; annotations = notes; loc = loc })
 
--- the same of declarations in turn
+-- what declarations declare, in turn
 abbrev pub entity_entries : List (Annotated (Node Declaration)) → List (UnreservedId × EntityType RawName)
-entity_entries decls = flat_map (λ d. entities_in d.item.node d.annotations d.item.loc) decls
+entity_entries decls = flat_map (λ d. entity_entries_of d.item.node d.annotations d.item.loc) decls
 
 abbrev pub action_entries : List (Annotated (Node Declaration)) → List (List ℕ × ActionType RawName as_written)
-action_entries decls = flat_map (λ d. actions_in d.item.node d.annotations d.item.loc) decls
+action_entries decls = flat_map (λ d. action_entries_of d.item.node d.annotations d.item.loc) decls
 
 abbrev pub common_entries : List (Annotated (Node Declaration)) → List (CommonTypeId × CommonType RawName)
-common_entries decls = flat_map (λ d. commons_in d.item.node d.annotations d.item.loc) decls
+common_entries decls = flat_map (λ d. common_entries_of d.item.node d.annotations d.item.loc) decls
 
 -- words go by their texts, and namespaces by the texts of their components; the empty namespace is the least
-abbrev pub word_cmp : UnreservedId → UnreservedId → Ordering
-word_cmp a b = text_cmp a.id.text b.id.text
+abbrev pub unreserved_cmp : UnreservedId → UnreservedId → Ordering
+unreserved_cmp a b = text_cmp a.id.text b.id.text
 
 abbrev pub common_cmp : CommonTypeId → CommonTypeId → Ordering
-common_cmp a b = word_cmp a.id b.id
+common_cmp a b = unreserved_cmp a.id b.id
 
 abbrev pub namespace_cmp : Option Name → Option Name → Ordering
 namespace_cmp None None = Equal
@@ -76,23 +76,23 @@ namespace_cmp (Some a) (Some b) = slice_cmp text_cmp (components_of a.name) (com
 -- what a namespace with these declarations and annotations defines
 abbrev pub definition_of : List (Annotated (Node Declaration)) → Annotations → NamespaceDefinition RawName as_written
 definition_of decls notes =
-    record { common_types = map_of common_cmp (common_entries decls); entity_types = map_of word_cmp (entity_entries decls); actions = map_of text_cmp (action_entries decls); annotations = notes }
+    record { common_types = map_of common_cmp (common_entries decls); entity_types = map_of unreserved_cmp (entity_entries decls); actions = map_of text_cmp (action_entries decls); annotations = notes }
 
 -- the name as one that may be declared, which no name with `__cedar` in it is
-abbrev pub declared_so : (name : InternalName) (b : Bool) → has_cedar (components_of name) ≡ b → Option Name
-declared_so name true e = None
-declared_so name false e = Some (record { name = name; unreserved = e })
+abbrev pub declarable_name_so : (name : InternalName) (b : Bool) → has_cedar (components_of name) ≡ b → Option Name
+declarable_name_so name true e = None
+declarable_name_so name false e = Some (record { name = name; unreserved = e })
 
-abbrev pub declared : InternalName → Option Name
-declared name = declared_so name (has_cedar (components_of name)) refl
+abbrev pub declarable_name : InternalName → Option Name
+declarable_name name = declarable_name_so name (has_cedar (components_of name)) refl
 
 -- the name of a namespace that may be declared: none for the empty one
-abbrev pub key_of : Option Path → Option (Option Name)
-key_of None = Some None
-key_of (Some path) = option_map Some (declared (internal_name_of path))
+abbrev pub namespace_key : Option Path → Option (Option Name)
+namespace_key None = Some None
+namespace_key (Some path) = option_map Some (declarable_name (internal_name_of path))
 
 abbrev pub namespace_entry : Annotated Namespace → Option (Option Name × NamespaceDefinition RawName as_written)
-namespace_entry n = option_map (λ key. (key, definition_of n.item.decls n.annotations)) (key_of n.item.name)
+namespace_entry n = option_map (λ key. (key, definition_of n.item.decls n.annotations)) (namespace_key n.item.name)
 
 -- The fragment of these namespaces.
 abbrev pub fragment_of : List (Annotated Namespace) → Fragment RawName as_written

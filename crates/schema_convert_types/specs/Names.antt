@@ -18,6 +18,6 @@ name_of_ids (id ∷ ids) loc = record { first = id; others = ids; loc = loc }
 abbrev pub internal_name_of : Path → InternalName
 internal_name_of path = name_of_ids path.ids path.loc
 
--- the same, as it was written
+-- the name as it was written
 abbrev pub raw_name_of : Path → RawName
 raw_name_of path = record { name = internal_name_of path }

@@ -19,39 +19,39 @@ use Rattle.schema_json.specs.declared.types.TypeOfAttribute.{TypeOfAttribute, ro
 use Rattle.schema_convert_types.specs.Names.{raw_name_of}
 
 -- an attribute of a record, by its name
-abbrev pub Attribute : Type 0
-Attribute = List ℕ × TypeOfAttribute RawName
+abbrev pub AttributeEntry : Type 0
+AttributeEntry = List ℕ × TypeOfAttribute RawName
 
 -- the closed record of these attributes: of a name that stands twice the last counts
-abbrev pub record_of : List Attribute → RecordType RawName
+abbrev pub record_of : List AttributeEntry → RecordType RawName
 record_of attributes = roll-RecordType RawName (record { attributes = map_of text_cmp attributes; additional_attributes = false })
 
 -- a type of records, at this place
-abbrev pub record_type : List Attribute → Option Span → Shape RawName
+abbrev pub record_type : List AttributeEntry → Option Span → Shape RawName
 record_type attributes loc = shape.Variant (variant.Record (record_of attributes)) loc
 
 -- A type at a place, and an attribute with its annotations, from what their parts become. A name is a reference to a
 -- common type or an entity type.
-abbrev pub type_step : Type-F (Option Span → Shape RawName) (Annotations → Attribute) → Option Span → Shape RawName
-type_step (Type-F.Set element) loc = shape.Variant (variant.Set (element.node element.loc)) loc
-type_step (Type-F.Ident path) loc = shape.Variant (variant.EntityOrCommon (raw_name_of path)) loc
-type_step (Type-F.Record attributes) loc = record_type (map (λ a. a.node.item a.node.annotations) attributes) loc
+abbrev pub translated_type : Type-F (Option Span → Shape RawName) (Annotations → AttributeEntry) → Option Span → Shape RawName
+translated_type (Type-F.Set element) loc = shape.Variant (variant.Set (element.node element.loc)) loc
+translated_type (Type-F.Ident path) loc = shape.Variant (variant.EntityOrCommon (raw_name_of path)) loc
+translated_type (Type-F.Record attributes) loc = record_type (map (λ a. a.node.item a.node.annotations) attributes) loc
 
-abbrev pub attribute_step : AttrDecl-F (Option Span → Shape RawName) (Annotations → Attribute) → Annotations → Attribute
-attribute_step a notes = (a.name.node, roll-TypeOfAttribute RawName (record { ty = a.ty.node a.ty.loc; annotations = notes; required = a.required }))
+abbrev pub translated_attribute : AttrDecl-F (Option Span → Shape RawName) (Annotations → AttributeEntry) → Annotations → AttributeEntry
+translated_attribute a notes = (a.name.node, roll-TypeOfAttribute RawName (record { ty = a.ty.node a.ty.loc; annotations = notes; required = a.required }))
 
 -- what a type becomes at this place
 unfoldable pub type_at : «Type» → Option Span → Shape RawName
-type_at = fold-Type (Option Span → Shape RawName) (Annotations → Attribute) type_step attribute_step
+type_at = fold-Type (Option Span → Shape RawName) (Annotations → AttributeEntry) translated_type translated_attribute
 
 -- what an attribute becomes beside these annotations
-unfoldable pub attribute_beside : AttrDecl → Annotations → Attribute
-attribute_beside = fold-AttrDecl (Option Span → Shape RawName) (Annotations → Attribute) type_step attribute_step
+unfoldable pub attribute_beside : AttrDecl → Annotations → AttributeEntry
+attribute_beside = fold-AttrDecl (Option Span → Shape RawName) (Annotations → AttributeEntry) translated_type translated_attribute
 
 abbrev pub type_of : Node «Type» → Shape RawName
 type_of n = type_at n.node n.loc
 
-abbrev pub attribute_of : Node (Annotated AttrDecl) → Attribute
+abbrev pub attribute_of : Node (Annotated AttrDecl) → AttributeEntry
 attribute_of n = attribute_beside n.node.item n.node.annotations
 
 -- what attributes become as a record

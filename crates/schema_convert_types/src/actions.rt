@@ -167,7 +167,7 @@ fn defined(
     Ok((names, of))
 }
 
-// The same of actions that another schema declares.
+// What an action is declared as that another schema declares.
 fn external(
     alloc: Global,
     decl: ExternalActionDecl,

@@ -80,7 +80,7 @@ fn standard(
     Ok((names, EntityTypeKind::Standard(standard)))
 }
 
-// The same of entity types whose entities are listed.
+// What an entity type is declared as whose entities are listed.
 fn listed(
     alloc: Global,
     decl: EnumEntityDecl,
@@ -92,7 +92,7 @@ fn listed(
     Ok((names, EntityTypeKind::Enum { choices }))
 }
 
-// The same of entity types that another schema declares.
+// What an entity type is declared as that another schema declares.
 fn external(
     alloc: Global,
     decl: ExternalEntityDecl,

@@ -12,7 +12,7 @@ pub fn path_to_internal_name(_alloc: Global, path: Path) -> Result<InternalName,
     Ok(internal_name(path))
 }
 
-/// The same, as a name that a namespace may still qualify.
+/// The path as a name that a namespace may still qualify.
 pub fn path_to_raw_name(_alloc: Global, path: Path) -> Result<RawName, AllocError>
     ensures { IfOk result (λ name. name ≡ raw_name_of path) }
 {

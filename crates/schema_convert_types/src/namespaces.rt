@@ -1,7 +1,7 @@
 ghost use Rattle.std.specs.Prelude.{◌≡◌, ◌++◌, IfOk, OnOk};
 ghost use Rattle.std.specs.Option.{option_to_list};
 ghost use Rattle.schema_convert_types.specs.Declarations.{declarable, unreserved};
-ghost use Rattle.schema_convert_types.specs.Fragments.{entities_in, actions_in, commons_in, entity_entries, action_entries, common_entries, definition_of, key_of, declared, namespace_entry, fragment_of};
+ghost use Rattle.schema_convert_types.specs.Fragments.{entity_entries_of, action_entries_of, common_entries_of, entity_entries, action_entries, common_entries, definition_of, namespace_key, declarable_name, namespace_entry, fragment_of};
 
 use crate::actions::action_type;
 use crate::entities::entity_type;
@@ -49,7 +49,7 @@ fn push_entities(
     annotations: Annotations,
     loc: Option<Loc>,
 ) -> Result<(), AllocError>
-    ensures { OnOk result (entries.new.items ≡ entries.old.items ++ entities_in (Declaration.Entity decl) annotations loc) }
+    ensures { OnOk result (entries.new.items ≡ entries.old.items ++ entity_entries_of (Declaration.Entity decl) annotations loc) }
 {
     let (names, of) = entity_type(alloc, decl, annotations, loc)?;
     let names = declarable(alloc, names)?;
@@ -64,7 +64,7 @@ fn push_actions(
     annotations: Annotations,
     loc: Option<Loc>,
 ) -> Result<(), AllocError>
-    ensures { OnOk result (entries.new.items ≡ entries.old.items ++ actions_in (Declaration.Action decl) annotations loc) }
+    ensures { OnOk result (entries.new.items ≡ entries.old.items ++ action_entries_of (Declaration.Action decl) annotations loc) }
 {
     let (names, of) = action_type(alloc, decl, annotations, loc)?;
     let names: Vec<Text> = names.into_iter().map(|name| name.node).collect(alloc)?;
@@ -79,7 +79,7 @@ fn push_common(
     annotations: Annotations,
     loc: Option<Loc>,
 ) -> Result<(), AllocError>
-    ensures { OnOk result (entries.new.items ≡ entries.old.items ++ commons_in (Declaration.Common decl) annotations loc) }
+    ensures { OnOk result (entries.new.items ≡ entries.old.items ++ common_entries_of (Declaration.Common decl) annotations loc) }
 {
     let TypeDecl { name, def } = decl;
     let ty = cedar_type_to_json_type(alloc, def)?;
@@ -100,9 +100,9 @@ fn push_declared(
     entries: &mut Entries,
     decl: Annotated<Node<Declaration>>,
 ) -> Result<(), AllocError>
-    ensures commons { OnOk result (entries.new.commons.items ≡ entries.old.commons.items ++ commons_in decl.item.node decl.annotations decl.item.loc) }
-    ensures entities { OnOk result (entries.new.entities.items ≡ entries.old.entities.items ++ entities_in decl.item.node decl.annotations decl.item.loc) }
-    ensures actions { OnOk result (entries.new.actions.items ≡ entries.old.actions.items ++ actions_in decl.item.node decl.annotations decl.item.loc) }
+    ensures commons { OnOk result (entries.new.commons.items ≡ entries.old.commons.items ++ common_entries_of decl.item.node decl.annotations decl.item.loc) }
+    ensures entities { OnOk result (entries.new.entities.items ≡ entries.old.entities.items ++ entity_entries_of decl.item.node decl.annotations decl.item.loc) }
+    ensures actions { OnOk result (entries.new.actions.items ≡ entries.old.actions.items ++ action_entries_of decl.item.node decl.annotations decl.item.loc) }
 {
     let Annotated { item, annotations } = decl;
     let (decl, loc) = item.into_inner();
@@ -164,19 +164,19 @@ fn definition_of(
 }
 
 // The name as one that may be declared.
-fn declared(name: InternalName) -> Option<Name>
-    ensures { result ≡ declared name }
+fn declarable_name(name: InternalName) -> Option<Name>
+    ensures { result ≡ declarable_name name }
 {
     Name::from_internal(name)
 }
 
 // The name of a namespace that may be declared.
-fn key_of(name: Option<Path>) -> Option<Option<Name>>
-    ensures { result ≡ key_of name }
+fn namespace_key(name: Option<Path>) -> Option<Option<Name>>
+    ensures { result ≡ namespace_key name }
 {
     match name {
         None => Some(None),
-        Some(path) => match declared(internal_name(path)) {
+        Some(path) => match declarable_name(internal_name(path)) {
             None => None,
             Some(name) => Some(Some(name)),
         },
@@ -193,7 +193,7 @@ fn push_namespace(
 {
     let Annotated { item, annotations } = namespace;
     let Namespace { name, decls, .. } = item;
-    let Some(key) = key_of(name) else {
+    let Some(key) = namespace_key(name) else {
         return Ok(());
     };
     let definition = definition_of(alloc, decls, annotations)?;

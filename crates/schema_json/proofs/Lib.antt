@@ -1,3 +1,4 @@
-mod Ascii
 mod Erased
+pub mod Same
+pub mod Sizes
 mod Walks

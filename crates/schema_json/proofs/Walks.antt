@@ -1,6 +1,7 @@
 -- The equations of the walks.
 use Rattle.std.proofs.Common.{◌≡◌, ℕ, Bool, true, false, ◌||◌, List, [], ◌∷◌, ◌++◌, map, refl, ap, sym, ◌∙◌, suc, ◌+◌, ◌<◌, length, get_or, drop, drop-cons, add-one, Option, Some, None}
-use Rattle.schema_json.specs.Walk.{concat, type_refs, variant_refs, record_refs, attribute_refs, references, variant_references, record_references, attribute_references, entry_references, either, any_extension, type_answer, variant_answer, record_answer, attribute_answer, is_extension, is_extension_variant, is_extension_record, is_extension_attribute, is_extension_among}
+use Rattle.std.specs.List.{flat_map}
+use Rattle.schema_json.specs.Walk.{type_refs, variant_refs, record_refs, attribute_refs, references, variant_references, record_references, attribute_references, entry_references, either, any_extension, type_answer, variant_answer, record_answer, attribute_answer, is_extension, is_extension_variant, is_extension_record, is_extension_attribute, is_extension_among}
 use Rattle.schema_json.specs.declared.types.RecordType.{RecordType, out-RecordType, fold_out-RecordType}
 use Rattle.schema_json.specs.declared.types.TypeOfAttribute.{TypeOfAttribute, out-TypeOfAttribute, fold_out-TypeOfAttribute}
 use Rattle.schema_json.specs.declared.types.TypeVariant.{TypeVariant-F, fold-roll-TypeVariant}
@@ -10,6 +11,11 @@ use Rattle.schema_json.specs.declared.types.TypeVariant.TheVariants.{Record, Ent
 values_made : {A R : Type 0} (f : A → R) (entries : List (List ℕ × A)) → map (λ p. p.1) (map (λ p. let q : List ℕ × R = (p.0, f p.1) in q) entries) ≡ map (λ p. f p.1) entries
 values_made f [] = refl
 values_made f (p ∷ ps) = ap (λ made. f p.1 ∷ made) (values_made f ps)
+
+-- what the values give, each made anew
+values_walked : {A U : Type 0} (f : A → List U) (entries : List (List ℕ × A)) → flat_map (λ p. p.1) (map (λ p. let q : List ℕ × List U = (p.0, f p.1) in q) entries) ≡ flat_map (λ p. f p.1) entries
+values_walked f [] = refl
+values_walked f (p ∷ ps) = ap (λ made. f p.1 ++ made) (values_walked f ps)
 
 -- the answer for none so far
 pub either_nothing : (answer : Option Bool) → either (Some false) answer ≡ answer
@@ -37,7 +43,7 @@ either_last a = ap Some (or_false a)
 
 module _ (N : Type 0) where
   record_out : (r : RecordType N) → record_references r ≡ entry_references (out-RecordType N r).attributes
-  record_out r = fold_out-RecordType N (List N) (List N) (List N) (List N) type_refs variant_refs record_refs attribute_refs r ∙ ap concat (values_made attribute_references (out-RecordType N r).attributes)
+  record_out r = fold_out-RecordType N (List N) (List N) (List N) (List N) type_refs variant_refs record_refs attribute_refs r ∙ values_walked attribute_references (out-RecordType N r).attributes
 
   attribute_out : (a : TypeOfAttribute N) → attribute_references a ≡ references (out-TypeOfAttribute N a).ty
   attribute_out a = fold_out-TypeOfAttribute N (List N) (List N) (List N) (List N) type_refs variant_refs record_refs attribute_refs a

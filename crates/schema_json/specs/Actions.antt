@@ -15,11 +15,11 @@ abbrev pub written_type : Option RawName → InternalName
 written_type None = action_name
 written_type (Some ty) = ty.name
 
--- the same of the text of a type
+-- a type's text as it is written, and `Action` where none is
 abbrev pub type_text : Option (List (List ℕ)) → List ℕ
 type_text None = codes "Action"
 type_text (Some components) = name_text components
 
 -- the type, `::`, and the id as a string
-abbrev pub action_text : Option (List (List ℕ)) → List ℕ → List ℕ
-action_text ty id = type_text ty ++ (codes "::" ++ chars (quoted id))
+abbrev pub action_uid_text : Option (List (List ℕ)) → List ℕ → List ℕ
+action_uid_text ty id = type_text ty ++ (codes "::" ++ chars (quoted id))

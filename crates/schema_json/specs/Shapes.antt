@@ -42,8 +42,8 @@ module _ {N : Type 0} where
   place (Type-F.CommonTypeRef name loc) = loc
 
   -- where the type stands
-  abbrev pub place_of : «Type» N → Option Loc
-  place_of t = place (out-Type N t)
+  abbrev pub type_place : «Type» N → Option Loc
+  type_place t = place (out-Type N t)
 
   abbrev placed : Option Loc → Type-F N («Type» N) (TypeVariant N) (RecordType N) (TypeOfAttribute N) → «Type» N
   placed new (Type-F.Variant ty loc) = Variant ty new

@@ -1,14 +1,10 @@
 -- What the types within a type say of it, from the innermost outward.
-use Rattle.std.specs.Prelude.{ℕ, Bool, true, false, ◌||◌, List, [], ◌∷◌, ◌++◌, map, Option, None, Some}
+use Rattle.std.specs.Prelude.{ℕ, Bool, true, false, ◌||◌, List, [], ◌∷◌, map, Option, None, Some}
+use Rattle.std.specs.List.{flat_map}
 use Rattle.schema_json.specs.declared.types.Type.{«Type», Type-F, fold-Type}
 use Rattle.schema_json.specs.declared.types.TypeVariant.{TypeVariant, TypeVariant-F, fold-TypeVariant}
 use Rattle.schema_json.specs.declared.types.RecordType.{RecordType, RecordType-F, fold-RecordType}
 use Rattle.schema_json.specs.declared.types.TypeOfAttribute.{TypeOfAttribute, TypeOfAttribute-F, fold-TypeOfAttribute}
-
--- lists, one after another
-abbrev pub concat : {A : Type 0} → List (List A) → List A
-concat [] = []
-concat (xs ∷ xss) = xs ++ concat xss
 
 -- whether one of two is an extension type, where both can be told
 abbrev pub either : Option Bool → Option Bool → Option Bool
@@ -32,7 +28,7 @@ module _ {N : Type 0} where
   variant_refs _ = []
 
   abbrev pub record_refs : RecordType-F N (List N) (List N) (List N) (List N) → List N
-  record_refs r = concat (map (λ p. p.1) r.attributes)
+  record_refs r = flat_map (λ p. p.1) r.attributes
 
   abbrev pub attribute_refs : TypeOfAttribute-F N (List N) (List N) (List N) (List N) → List N
   attribute_refs a = a.ty
@@ -50,9 +46,9 @@ module _ {N : Type 0} where
   abbrev pub attribute_references : TypeOfAttribute N → List N
   attribute_references = fold-TypeOfAttribute N (List N) (List N) (List N) (List N) type_refs variant_refs record_refs attribute_refs
 
-  -- the same of a record's entries
+  -- the references of a record's entries
   abbrev pub entry_references : List (List ℕ × TypeOfAttribute N) → List N
-  entry_references entries = concat (map (λ p. attribute_references p.1) entries)
+  entry_references entries = flat_map (λ p. attribute_references p.1) entries
 
   abbrev pub type_answer : Type-F N (Option Bool) (Option Bool) (Option Bool) (Option Bool) → Option Bool
   type_answer (Type-F.Variant ty loc) = ty

@@ -1,7 +1,7 @@
 ghost use Rattle.std.specs.Prelude.{◌≡◌, None};
 ghost use Rattle.std.specs.Option.{option_copied};
 ghost use Rattle.schema_json.specs.declared.types.Type.{Variant};
-ghost use Rattle.schema_json.specs.Shapes.{empty_record, is_empty_record, is_empty_type, place_of, with_place, record_type};
+ghost use Rattle.schema_json.specs.Shapes.{empty_record, is_empty_record, is_empty_type, type_place, with_place, record_type};
 
 use crate::entity_type::AttributesOrContext;
 use crate::types::{RecordType, Type, TypeVariant};
@@ -31,7 +31,7 @@ impl<N> Type<N> {
 
     /// The type's place.
     pub fn loc(&self) -> Option<&Loc>
-        ensures { option_copied result ≡ place_of self.now }
+        ensures { option_copied result ≡ type_place self.now }
     {
         match self {
             Type::Variant { loc, .. } => loc.as_ref(),
@@ -39,7 +39,7 @@ impl<N> Type<N> {
         }
     }
 
-    /// The same type at this place, or without one.
+    /// The type at this place, or without one.
     pub fn with_loc(self, new_loc: Option<Loc>) -> Type<N>
         ensures { result ≡ with_place new_loc self }
     {
@@ -108,7 +108,7 @@ impl<N> AttributesOrContext<N> {
 
     /// The type's place.
     pub fn loc(&self) -> Option<&Loc>
-        ensures { option_copied result ≡ place_of self.now.0 }
+        ensures { option_copied result ≡ type_place self.now.0 }
     {
         self.0.loc()
     }

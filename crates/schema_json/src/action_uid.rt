@@ -2,7 +2,7 @@ ghost use Rattle.std.specs.Prelude.{◌≡◌, true, Some, None, [], IfOk, IfErr
 ghost use Rattle.std.specs.Option.{option_copied, option_map};
 ghost use Rattle.cedar_identifiers.specs.Names.{components_of, has_cedar};
 ghost use Rattle.cedar_identifiers.specs.Candidates.{qualified};
-ghost use Rattle.schema_json.specs.Actions.{action_name, written_type, type_text, action_text};
+ghost use Rattle.schema_json.specs.Actions.{action_name, written_type, type_text, action_uid_text};
 
 use crate::action_type::ActionEntityUID;
 use crate::reserved::ReservedNameError;
@@ -24,7 +24,7 @@ impl<N: NameText> ActionEntityUID<N> {
 
     /// The type as it is written, or `Action` where none is, then `::`, and the id as a string.
     pub fn text(&self, alloc: Global) -> Result<Text, AllocError>
-        ensures { IfOk result (λ text. text ≡ action_text (option_map N.components self.now.ty) self.now.id) }
+        ensures { IfOk result (λ text. text ≡ action_uid_text (option_map N.components self.now.ty) self.now.id) }
     {
         let mut text = type_text(&self.ty, alloc)?;
         text.push_str("::")?;
@@ -96,7 +96,7 @@ impl ActionEntityUID<RawName> {
         ActionEntityUID { id, ty: None }
     }
 
-    /// The same reference with its type in this namespace. Where no type is written it is `Action`.
+    /// The reference with its type in this namespace. Where no type is written it is `Action`.
     pub fn qualify_with(
         self,
         alloc: Global,

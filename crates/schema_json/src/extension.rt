@@ -19,7 +19,7 @@ impl<N> Type<N> {
 }
 
 impl<N> TypeVariant<N> {
-    // The same of a shape.
+    // Whether a shape is one of an extension type, as a type is.
     #[cycle(extension)]
     fn is_extension(&self) -> Option<bool>
         ensures { result ≡ is_extension_variant self.now }
@@ -37,7 +37,7 @@ impl<N> TypeVariant<N> {
     }
 }
 
-// The same of attributes: `None` where one gives it, else whether one is an extension type.
+// Whether one of the attributes is of an extension type, and `None` where one gives that.
 #[cycle(extension)]
 fn is_extension_among<N>(entries: &[(Text, TypeOfAttribute<N>)]) -> Option<bool>
     ensures { result ≡ is_extension_among entries.now }

@@ -18,7 +18,7 @@ pub mod walk;
 
 pub use action_type::{ActionEntityUID, ActionType, ApplySpec};
 pub use action_uid::action_name;
-pub use common_type::{CommonType, CommonTypeId};
+pub use common_type::{CommonType, CommonTypeId, is_keyword_name};
 pub use entity_type::{AttributesOrContext, EntityType, EntityTypeKind, StandardEntityType};
 pub use fragment::{Fragment, NamespaceDefinition};
 pub use reserved::{ReservedCommonTypeBasenameError, ReservedNameError};

@@ -6,24 +6,24 @@ use crate::action_type::{ActionEntityUID, ActionType, ApplySpec};
 use crate::common_type::{CommonType, CommonTypeId};
 use crate::entity_type::{AttributesOrContext, EntityType, EntityTypeKind, StandardEntityType};
 use crate::fragment::{Fragment, NamespaceDefinition};
+use crate::laws::ordered;
 use crate::types::{RecordType, Type, TypeOfAttribute, TypeVariant};
-use cedar_data::{List, NonEmpty, Set, Text, lawful};
+use cedar_data::{List, NonEmpty, Set, Text};
 use cedar_identifiers::{Annotations, Eid, Name, NameText, UnreservedId};
-use std::hash::Hash;
 
 /// A type equals itself with every place in it erased, and so does each of its parts.
-pub fn types_see_no_place<N: Ord + Hash>()
+pub fn types_see_no_place<N: Ord>()
     ensures types { IsPlaceless ⟦<Type<N> as PartialEq>⟧.eq erased_type }
     ensures shapes { IsPlaceless ⟦<TypeVariant<N> as PartialEq>⟧.eq erased_variant }
     ensures records { IsPlaceless ⟦<RecordType<N> as PartialEq>⟧.eq erased_record }
     ensures attributes { IsPlaceless ⟦<TypeOfAttribute<N> as PartialEq>⟧.eq erased_attribute }
 {
-    lawful::<Annotations>();
-    lawful::<UnreservedId>();
+    ordered::<Annotations>();
+    ordered::<UnreservedId>();
 }
 
-/// So do a common type and an entity type.
-pub fn declared_types_see_no_place<N: Ord + Hash>()
+/// A common type and an entity type equal themselves with every place in them erased.
+pub fn declared_types_see_no_place<N: Ord>()
     ensures common_types { IsPlaceless ⟦<CommonType<N> as PartialEq>⟧.eq erased_common_type }
     ensures entity_types { IsPlaceless ⟦<EntityType<N> as PartialEq>⟧.eq erased_entity_type }
     ensures kinds { IsPlaceless ⟦<EntityTypeKind<N> as PartialEq>⟧.eq erased_kind }
@@ -31,25 +31,25 @@ pub fn declared_types_see_no_place<N: Ord + Hash>()
     ensures shapes { IsPlaceless ⟦<AttributesOrContext<N> as PartialEq>⟧.eq erased_shape }
 {
     types_see_no_place::<N>();
-    lawful::<Annotations>();
-    lawful::<NonEmpty<Eid>>();
-    lawful::<List<N>>();
+    ordered::<Annotations>();
+    ordered::<NonEmpty<Eid>>();
+    ordered::<List<N>>();
 }
 
-/// So do an action, a namespace and a fragment.
-pub fn fragments_see_no_place<N: NameText + Ord + Hash>()
+/// An action, a namespace and a fragment equal themselves with every place in them erased.
+pub fn fragments_see_no_place<N: NameText + Ord>()
     ensures action_types { IsPlaceless ⟦<ActionType<N> as PartialEq>⟧.eq erased_action_type }
     ensures applies_to { IsPlaceless ⟦<ApplySpec<N> as PartialEq>⟧.eq erased_applies_to }
     ensures namespaces { IsPlaceless ⟦<NamespaceDefinition<N> as PartialEq>⟧.eq erased_namespace }
     ensures fragments { IsPlaceless ⟦<Fragment<N> as PartialEq>⟧.eq erased_fragment }
 {
     declared_types_see_no_place::<N>();
-    lawful::<Annotations>();
-    lawful::<List<N>>();
-    lawful::<Option<Set<Text>>>();
-    lawful::<Option<List<ActionEntityUID<N>>>>();
-    lawful::<Text>();
-    lawful::<CommonTypeId>();
-    lawful::<UnreservedId>();
-    lawful::<Option<Name>>();
+    ordered::<Annotations>();
+    ordered::<List<N>>();
+    ordered::<Option<Set<Text>>>();
+    ordered::<Option<List<ActionEntityUID<N>>>>();
+    ordered::<Text>();
+    ordered::<CommonTypeId>();
+    ordered::<UnreservedId>();
+    ordered::<Option<Name>>();
 }

@@ -2,32 +2,32 @@
 use Rattle.std.proofs.Common.{◌≡◌, ℕ, List, Option, ap, sym, ◌∙◌, refl, map, [], ◌∷◌}
 use Rattle.cedar_data.specs.declared.loc.Loc.{Loc}
 use Rattle.cedar_identifiers.specs.declared.reference_type.ReferenceType.{ReferenceType}
-use Rattle.schema_json.specs.Walk.{concat}
+use Rattle.std.specs.List.{flat_map}
 use Rattle.schema_json.specs.declared.types.Type.{«Type», Type-F, roll-Type}
 use Rattle.schema_json.specs.declared.types.Type.TheVariants.{Variant, rolls-Variant}
 use Rattle.schema_json.specs.declared.types.TypeVariant.{TypeVariant-F, fold-roll-TypeVariant}
 use Rattle.schema_json.specs.declared.types.TypeVariant.TheVariants.{Record, rolls-Record}
 use Rattle.schema_json.specs.declared.types.RecordType.{RecordType, out-RecordType, roll-RecordType, fold_out-RecordType}
 use Rattle.schema_json.specs.declared.types.TypeOfAttribute.{TypeOfAttribute}
-use Rattle.schema_resolve.specs.Renamed.{Renaming, type_step, shape_step, record_step, attribute_step, renamed_at, renamed_record, renamed_entries}
+use Rattle.schema_resolve.specs.Renamed.{Renaming, new_type, new_shape, new_record, new_attribute, renamed_at, renamed_record, renamed_entries}
 use Rattle.schema_resolve.specs.Walk.{type_part, variant_part, record_part, attribute_part, of_variant, of_record, of_attribute, of_entries}
 
 module _ {N M : Type 0} (f : Renaming N M) where
   pub record_renamed : (r : RecordType N) → renamed_record f r ≡ roll-RecordType M (record { attributes = renamed_entries f (out-RecordType N r).attributes; additional_attributes = (out-RecordType N r).additional_attributes })
-  record_renamed r = fold_out-RecordType N («Type» M) (Option Loc → «Type» M) (RecordType M) (TypeOfAttribute M) (type_step f) (shape_step f) (record_step f) (attribute_step f) r
+  record_renamed r = fold_out-RecordType N («Type» M) (Option Loc → «Type» M) (RecordType M) (TypeOfAttribute M) (new_type f) (new_shape f) (new_record f) (new_attribute f) r
 
   pub record_renamed_at : (r : RecordType N) (loc : Option Loc) → renamed_at f (Record r) loc ≡ Variant (Record (renamed_record f r)) loc
   record_renamed_at r loc =
-      ap (λ v. renamed_at f v loc) (sym (rolls-Record r)) ∙ ap (λ (at : Option Loc → «Type» M). at loc) (fold-roll-TypeVariant N («Type» M) (Option Loc → «Type» M) (RecordType M) (TypeOfAttribute M) (type_step f) (shape_step f) (record_step f) (attribute_step f) (TypeVariant-F.Record r)) ∙ ap (λ v. roll-Type M (Type-F.Variant v loc)) (rolls-Record (renamed_record f r)) ∙ rolls-Variant (Record (renamed_record f r)) loc
+      ap (λ v. renamed_at f v loc) (sym (rolls-Record r)) ∙ ap (λ (at : Option Loc → «Type» M). at loc) (fold-roll-TypeVariant N («Type» M) (Option Loc → «Type» M) (RecordType M) (TypeOfAttribute M) (new_type f) (new_shape f) (new_record f) (new_attribute f) (TypeVariant-F.Record r)) ∙ ap (λ v. roll-Type M (Type-F.Variant v loc)) (rolls-Record (renamed_record f r)) ∙ rolls-Variant (Record (renamed_record f r)) loc
 
--- the values of entries, each made anew
-values_made : {A R : Type 0} (f : A → R) (entries : List (List ℕ × A)) → map (λ p. p.1) (map (λ p. let q : List ℕ × R = (p.0, f p.1) in q) entries) ≡ map (λ p. f p.1) entries
-values_made f [] = refl
-values_made f (p ∷ ps) = ap (λ made. f p.1 ∷ made) (values_made f ps)
+-- what the values give, each made anew
+values_walked : {A U : Type 0} (f : A → List U) (entries : List (List ℕ × A)) → flat_map (λ p. p.1) (map (λ p. let q : List ℕ × List U = (p.0, f p.1) in q) entries) ≡ flat_map (λ p. f p.1) entries
+values_walked f [] = refl
+values_walked f (p ∷ ps) = ap (λ made. f p.1 ++ made) (values_walked f ps)
 
 module _ {N U : Type 0} (u : ReferenceType → N → List U) where
   pub record_walked : (r : RecordType N) → of_record u r ≡ of_entries u (out-RecordType N r).attributes
-  record_walked r = fold_out-RecordType N (List U) (List U) (List U) (List U) (type_part u) (variant_part u) (record_part u) (attribute_part u) r ∙ ap concat (values_made (of_attribute u) (out-RecordType N r).attributes)
+  record_walked r = fold_out-RecordType N (List U) (List U) (List U) (List U) (type_part u) (variant_part u) (record_part u) (attribute_part u) r ∙ values_walked (of_attribute u) (out-RecordType N r).attributes
 
   pub variant_walked : (r : RecordType N) → of_variant u (Record r) ≡ of_record u r
   variant_walked r = ap (of_variant u) (sym (rolls-Record r)) ∙ fold-roll-TypeVariant N (List U) (List U) (List U) (List U) (type_part u) (variant_part u) (record_part u) (attribute_part u) (TypeVariant-F.Record r)

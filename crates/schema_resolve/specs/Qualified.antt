@@ -14,7 +14,7 @@ use Rattle.schema_resolve.specs.References.{either_way}
 abbrev pub in_namespace : Option InternalName → ReferenceType → RawName → ConditionalName
 in_namespace ns role name = record { possibilities = candidates ns name.name; raw = name; reference_type = role }
 
--- the same of the type of an action, which is `Action` where none is written
+-- what the type of an action may stand for, which is `Action` where none is written
 abbrev pub type_in_namespace : Option InternalName → List ℕ → Option RawName → ConditionalName
 type_in_namespace ns id ty = in_namespace ns Entity (record { name = written_type ty })
 

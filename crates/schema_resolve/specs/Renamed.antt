@@ -34,39 +34,39 @@ pub record Renaming (N M : Type 0) : Type 0 where
   pub either : N → Option Loc → «Type» M
 
 module _ {N M : Type 0} (f : Renaming N M) where
-  abbrev pub type_step : Type-F N («Type» M) (Option Loc → «Type» M) (RecordType M) (TypeOfAttribute M) → «Type» M
-  type_step (Type-F.Variant shape loc) = shape loc
-  type_step (Type-F.CommonTypeRef name loc) = roll-Type M (Type-F.CommonTypeRef (f.name Common name) loc)
+  abbrev pub new_type : Type-F N («Type» M) (Option Loc → «Type» M) (RecordType M) (TypeOfAttribute M) → «Type» M
+  new_type (Type-F.Variant shape loc) = shape loc
+  new_type (Type-F.CommonTypeRef name loc) = roll-Type M (Type-F.CommonTypeRef (f.name Common name) loc)
 
   -- a shape is a type at a place
-  abbrev pub shape_step : TypeVariant-F N («Type» M) (Option Loc → «Type» M) (RecordType M) (TypeOfAttribute M) → Option Loc → «Type» M
-  shape_step TypeVariant-F.String loc = roll-Type M (Type-F.Variant (roll-TypeVariant M TypeVariant-F.String) loc)
-  shape_step TypeVariant-F.Long loc = roll-Type M (Type-F.Variant (roll-TypeVariant M TypeVariant-F.Long) loc)
-  shape_step TypeVariant-F.Boolean loc = roll-Type M (Type-F.Variant (roll-TypeVariant M TypeVariant-F.Boolean) loc)
-  shape_step (TypeVariant-F.Set element) loc = roll-Type M (Type-F.Variant (roll-TypeVariant M (TypeVariant-F.Set element)) loc)
-  shape_step (TypeVariant-F.Record r) loc = roll-Type M (Type-F.Variant (roll-TypeVariant M (TypeVariant-F.Record r)) loc)
-  shape_step (TypeVariant-F.Entity name) loc = roll-Type M (Type-F.Variant (roll-TypeVariant M (TypeVariant-F.Entity (f.name Entity name))) loc)
-  shape_step (TypeVariant-F.EntityOrCommon name) loc = f.either name loc
-  shape_step (TypeVariant-F.Extension name) loc = roll-Type M (Type-F.Variant (roll-TypeVariant M (TypeVariant-F.Extension name)) loc)
+  abbrev pub new_shape : TypeVariant-F N («Type» M) (Option Loc → «Type» M) (RecordType M) (TypeOfAttribute M) → Option Loc → «Type» M
+  new_shape TypeVariant-F.String loc = roll-Type M (Type-F.Variant (roll-TypeVariant M TypeVariant-F.String) loc)
+  new_shape TypeVariant-F.Long loc = roll-Type M (Type-F.Variant (roll-TypeVariant M TypeVariant-F.Long) loc)
+  new_shape TypeVariant-F.Boolean loc = roll-Type M (Type-F.Variant (roll-TypeVariant M TypeVariant-F.Boolean) loc)
+  new_shape (TypeVariant-F.Set element) loc = roll-Type M (Type-F.Variant (roll-TypeVariant M (TypeVariant-F.Set element)) loc)
+  new_shape (TypeVariant-F.Record r) loc = roll-Type M (Type-F.Variant (roll-TypeVariant M (TypeVariant-F.Record r)) loc)
+  new_shape (TypeVariant-F.Entity name) loc = roll-Type M (Type-F.Variant (roll-TypeVariant M (TypeVariant-F.Entity (f.name Entity name))) loc)
+  new_shape (TypeVariant-F.EntityOrCommon name) loc = f.either name loc
+  new_shape (TypeVariant-F.Extension name) loc = roll-Type M (Type-F.Variant (roll-TypeVariant M (TypeVariant-F.Extension name)) loc)
 
-  abbrev pub record_step : RecordType-F N («Type» M) (Option Loc → «Type» M) (RecordType M) (TypeOfAttribute M) → RecordType M
-  record_step r = roll-RecordType M (record { attributes = r.attributes; additional_attributes = r.additional_attributes })
+  abbrev pub new_record : RecordType-F N («Type» M) (Option Loc → «Type» M) (RecordType M) (TypeOfAttribute M) → RecordType M
+  new_record r = roll-RecordType M (record { attributes = r.attributes; additional_attributes = r.additional_attributes })
 
-  abbrev pub attribute_step : TypeOfAttribute-F N («Type» M) (Option Loc → «Type» M) (RecordType M) (TypeOfAttribute M) → TypeOfAttribute M
-  attribute_step a = roll-TypeOfAttribute M (record { ty = a.ty; annotations = a.annotations; required = a.required })
+  abbrev pub new_attribute : TypeOfAttribute-F N («Type» M) (Option Loc → «Type» M) (RecordType M) (TypeOfAttribute M) → TypeOfAttribute M
+  new_attribute a = roll-TypeOfAttribute M (record { ty = a.ty; annotations = a.annotations; required = a.required })
 
   abbrev pub renamed : «Type» N → «Type» M
-  renamed = fold-Type N («Type» M) (Option Loc → «Type» M) (RecordType M) (TypeOfAttribute M) type_step shape_step record_step attribute_step
+  renamed = fold-Type N («Type» M) (Option Loc → «Type» M) (RecordType M) (TypeOfAttribute M) new_type new_shape new_record new_attribute
 
   -- the type of this shape at a place
   abbrev pub renamed_at : TypeVariant N → Option Loc → «Type» M
-  renamed_at = fold-TypeVariant N («Type» M) (Option Loc → «Type» M) (RecordType M) (TypeOfAttribute M) type_step shape_step record_step attribute_step
+  renamed_at = fold-TypeVariant N («Type» M) (Option Loc → «Type» M) (RecordType M) (TypeOfAttribute M) new_type new_shape new_record new_attribute
 
   abbrev pub renamed_record : RecordType N → RecordType M
-  renamed_record = fold-RecordType N («Type» M) (Option Loc → «Type» M) (RecordType M) (TypeOfAttribute M) type_step shape_step record_step attribute_step
+  renamed_record = fold-RecordType N («Type» M) (Option Loc → «Type» M) (RecordType M) (TypeOfAttribute M) new_type new_shape new_record new_attribute
 
   abbrev pub renamed_attribute : TypeOfAttribute N → TypeOfAttribute M
-  renamed_attribute = fold-TypeOfAttribute N («Type» M) (Option Loc → «Type» M) (RecordType M) (TypeOfAttribute M) type_step shape_step record_step attribute_step
+  renamed_attribute = fold-TypeOfAttribute N («Type» M) (Option Loc → «Type» M) (RecordType M) (TypeOfAttribute M) new_type new_shape new_record new_attribute
 
   -- a shape by itself, in which a reference that may mean either kind stays one
   abbrev pub shape_of : TypeVariant-F N («Type» N) (TypeVariant N) (RecordType N) (TypeOfAttribute N) → TypeVariant M

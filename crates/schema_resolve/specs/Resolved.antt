@@ -11,7 +11,7 @@ use Rattle.schema_json.specs.declared.fragment.Fragment.{Fragment}
 use Rattle.schema_resolve.specs.Designated.{designated_reference}
 use Rattle.schema_resolve.specs.Qualified.{in_namespace, type_in_namespace}
 use Rattle.schema_resolve.specs.Renamed.{Renaming, renamed_fragment}
-use Rattle.schema_resolve.specs.Targets.{target_name, action_target_name, lacks, lacks_action}
+use Rattle.schema_resolve.specs.Targets.{target_name, action_target_name, untargeted, untargeted_action}
 use Rattle.schema_resolve.specs.Undefined.{Undefined}
 use Rattle.schema_resolve.specs.Walk.{of_fragment}
 
@@ -27,11 +27,11 @@ resolving_in t ns = record { name = meant_name t ns; either = λ name. designate
 abbrev pub meant_type : Tests → Option InternalName → List ℕ → Option RawName → InternalName
 meant_type t ns id ty = action_target_name t id (Some (type_in_namespace ns id ty))
 
-abbrev pub lacks_in : Tests → Option InternalName → ReferenceType → RawName → List Undefined
-lacks_in t ns kind name = lacks t kind (in_namespace ns kind name)
+abbrev pub untargeted_in : Tests → Option InternalName → ReferenceType → RawName → List Undefined
+untargeted_in t ns kind name = untargeted t kind (in_namespace ns kind name)
 
-abbrev pub lacks_action_in : Tests → Option InternalName → List ℕ → Option RawName → List Undefined
-lacks_action_in t ns id ty = lacks_action t id (Some (type_in_namespace ns id ty))
+abbrev pub untargeted_action_in : Tests → Option InternalName → List ℕ → Option RawName → List Undefined
+untargeted_action_in t ns id ty = untargeted_action t id (Some (type_in_namespace ns id ty))
 
 module _ {G : named.Ghosts RawName} where
   abbrev pub resolved : {H : named.Ghosts InternalName} → Tests → Fragment RawName G → Fragment InternalName H
@@ -39,4 +39,4 @@ module _ {G : named.Ghosts RawName} where
 
   -- the references that mean nothing, in the order of the walk
   abbrev pub undefined : Tests → Fragment RawName G → List Undefined
-  undefined t f = of_fragment (λ ns. lacks_in t (name_of ns)) (λ ns. lacks_action_in t (name_of ns)) f
+  undefined t f = of_fragment (λ ns. untargeted_in t (name_of ns)) (λ ns. untargeted_action_in t (name_of ns)) f

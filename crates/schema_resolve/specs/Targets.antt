@@ -47,8 +47,8 @@ abbrev pub unless : {A U : Type 0} → Option A → U → List U
 unless None u = u ∷ []
 unless (Some a) u = []
 
-abbrev pub lacks : Tests → ReferenceType → ConditionalName → List Undefined
-lacks t role c = unless (target t c) (type_reference c)
+abbrev pub untargeted : Tests → ReferenceType → ConditionalName → List Undefined
+untargeted t role c = unless (target t c) (type_reference c)
 
-abbrev pub lacks_action : Tests → List ℕ → Option ConditionalName → List Undefined
-lacks_action t id ty = unless (action_target t id ty) (action_reference id ty)
+abbrev pub untargeted_action : Tests → List ℕ → Option ConditionalName → List Undefined
+untargeted_action t id ty = unless (action_target t id ty) (action_reference id ty)

@@ -6,8 +6,8 @@ use Rattle.cedar_identifiers.specs.declared.name.Name.{Name}
 use Rattle.cedar_identifiers.specs.declared.name_text.NameText as named
 use Rattle.cedar_identifiers.specs.declared.reference_type.ReferenceType.{ReferenceType}
 use Rattle.cedar_identifiers.specs.declared.reference_type.ReferenceType.TheVariants.{Common, Entity, CommonOrEntity}
-use Rattle.schema_resolve_errors.specs.Gathered.{each, if_there}
-use Rattle.schema_json.specs.Walk.{concat}
+use Rattle.schema_resolve_errors.specs.Gathered.{if_there}
+use Rattle.std.specs.List.{flat_map}
 use Rattle.schema_json.specs.declared.types.Type.{«Type», Type-F, fold-Type}
 use Rattle.schema_json.specs.declared.types.TypeVariant.{TypeVariant, TypeVariant-F, fold-TypeVariant}
 use Rattle.schema_json.specs.declared.types.RecordType.{RecordType, RecordType-F, fold-RecordType}
@@ -26,7 +26,7 @@ use Rattle.schema_json.specs.declared.fragment.Fragment.{Fragment}
 
 -- what the values of a map give, by key
 abbrev pub each_value : {K A U : Type 0} → (A → List U) → List (K × A) → List U
-each_value u xs = concat (map (λ e. u e.1) xs)
+each_value u xs = flat_map (λ e. u e.1) xs
 
 -- u says what a name gives that asks for a type of a kind
 module _ {N U : Type 0} (u : ReferenceType → N → List U) where
@@ -42,7 +42,7 @@ module _ {N U : Type 0} (u : ReferenceType → N → List U) where
   variant_part _ = []
 
   abbrev pub record_part : RecordType-F N (List U) (List U) (List U) (List U) → List U
-  record_part r = concat (map (λ p. p.1) r.attributes)
+  record_part r = flat_map (λ p. p.1) r.attributes
 
   abbrev pub attribute_part : TypeOfAttribute-F N (List U) (List U) (List U) (List U) → List U
   attribute_part a = a.ty
@@ -69,7 +69,7 @@ module _ {N U : Type 0} (u : ReferenceType → N → List U) where
   of_context c = of_type c.0
 
   abbrev pub of_standard : StandardEntityType N → List U
-  of_standard s = each (u Entity) s.member_of_types ++ (of_context s.shape ++ if_there of_type s.tags)
+  of_standard s = flat_map (u Entity) s.member_of_types ++ (of_context s.shape ++ if_there of_type s.tags)
 
   abbrev pub of_kind : EntityTypeKind N → List U
   of_kind (Standard s) = of_standard s
@@ -79,7 +79,7 @@ module _ {N U : Type 0} (u : ReferenceType → N → List U) where
   of_entity e = of_kind e.kind
 
   abbrev pub of_apply : ApplySpec N → List U
-  of_apply s = each (u Entity) s.principal_types ++ (each (u Entity) s.resource_types ++ of_context s.context)
+  of_apply s = flat_map (u Entity) s.principal_types ++ (flat_map (u Entity) s.resource_types ++ of_context s.context)
 
   -- w says what a reference to an action gives, by its id and its type
   module _ (w : List ℕ → Option N → List U) where
@@ -87,7 +87,7 @@ module _ {N U : Type 0} (u : ReferenceType → N → List U) where
     of_uid a = w a.id a.ty
 
     abbrev pub of_action : {G : named.Ghosts N} → ActionType N G → List U
-    of_action a = if_there (each of_uid) a.member_of ++ if_there of_apply a.applies_to
+    of_action a = if_there (flat_map of_uid) a.member_of ++ if_there of_apply a.applies_to
 
     abbrev pub of_namespace : {G : named.Ghosts N} → NamespaceDefinition N G → List U
     of_namespace n = each_value of_common n.common_types ++ (each_value of_entity n.entity_types ++ each_value of_action n.actions)
@@ -98,4 +98,4 @@ module _ {N U : Type 0} (u : Option Name → ReferenceType → N → List U) (w 
   of_entry e = of_namespace (u e.0) (w e.0) e.1
 
   abbrev pub of_fragment : {G : named.Ghosts N} → Fragment N G → List U
-  of_fragment p = each of_entry p.0
+  of_fragment p = flat_map of_entry p.0

@@ -24,9 +24,9 @@ pub trait Designate {
     // the names that stand where either kind may and are neither, in the order of the walk
     ghost undesignated: { Definitions → Self → List Undefined };
 
-    /// The same with each reference that may mean either kind of type as a reference to a common type where its name is
-    /// one, and else to an entity type. The error names the first whose name is neither. All else stays and is not looked
-    /// up.
+    /// What is given, with each reference that may mean either kind of type as a reference to a common type where its name
+    /// is one, and else to an entity type. The error names the first whose name is neither. All else stays and is not
+    /// looked up.
     fn resolve_entity_or_common_types(
         self,
         alloc: Global,
@@ -70,9 +70,9 @@ impl<'a> FragmentRenamer<InternalName, InternalName> for Designator<'a> {
 
     ghost action_becomes_in = { λ _ _. type_as_written };
 
-    ghost lacks_in = { λ d _. undesignated (tests_of d.defs.now) };
+    ghost untargeted_in = { λ d _. undesignated (tests_of d.defs.now) };
 
-    ghost lacks_action_in = { λ _ _. no_action };
+    ghost untargeted_action_in = { λ _ _. no_action };
 
     fn rename_in(
         &self,

@@ -22,7 +22,7 @@ pub(crate) struct Designator<'a> {
 impl<'a> Renamer<InternalName, InternalName> for Designator<'a> {
     ghost becomes = { λ d. designating (tests_of d.defs.now) };
 
-    ghost lacks = { λ d. undesignated (tests_of d.defs.now) };
+    ghost untargeted = { λ d. undesignated (tests_of d.defs.now) };
 
     fn rename(
         &self,
@@ -54,7 +54,7 @@ impl<'a> Renamer<InternalName, InternalName> for Designator<'a> {
 impl<'a> ActionRenamer<InternalName, InternalName> for Designator<'a> {
     ghost action_becomes = { λ _. type_as_written };
 
-    ghost lacks_action = { λ _. no_action };
+    ghost untargeted_action = { λ _. no_action };
 
     fn rename_action(
         &self,

@@ -3,7 +3,7 @@ ghost use Rattle.cedar_names.specs.Definitions.{Definitions};
 ghost use Rattle.schema_resolve_definitions.specs.Tests.{tests_of};
 ghost use Rattle.schema_resolve.specs.Undefined.{Undefined};
 ghost use Rattle.schema_resolve.specs.Faults.{NamesFirst};
-ghost use Rattle.schema_resolve.specs.Targets.{resolving, action_target_name, lacks, lacks_action};
+ghost use Rattle.schema_resolve.specs.Targets.{resolving, action_target_name, untargeted, untargeted_action};
 ghost use Rattle.schema_resolve.specs.Renamed.{renamed, renamed_variant, renamed_record, renamed_attribute, renamed_context, renamed_entity, renamed_apply, renamed_uid, renamed_action, renamed_namespace};
 ghost use Rattle.schema_resolve.specs.Walk.{of_type, of_variant, of_record, of_attribute, of_context, of_entity, of_apply, of_uid, of_action, of_namespace};
 
@@ -28,7 +28,7 @@ pub trait FullyQualify {
     // the references that mean nothing, in the order of the walk
     ghost undefined: { Definitions → Self → List Undefined };
 
-    /// The same with each reference replaced by the name of what it means, or the first reference of the walk that means
+    /// What is given, with each reference replaced by the name of what it means, or the first reference of the walk that means
     /// nothing.
     fn fully_qualify_type_references(
         self,
@@ -45,7 +45,7 @@ impl FullyQualify for Type<ConditionalName> {
 
     ghost resolved = { λ d. renamed (resolving (tests_of d)) };
 
-    ghost undefined = { λ d. of_type (lacks (tests_of d)) };
+    ghost undefined = { λ d. of_type (untargeted (tests_of d)) };
 
     fn fully_qualify_type_references(
         self,
@@ -61,7 +61,7 @@ impl FullyQualify for TypeVariant<ConditionalName> {
 
     ghost resolved = { λ d. renamed_variant (resolving (tests_of d)) };
 
-    ghost undefined = { λ d. of_variant (lacks (tests_of d)) };
+    ghost undefined = { λ d. of_variant (untargeted (tests_of d)) };
 
     fn fully_qualify_type_references(
         self,
@@ -77,7 +77,7 @@ impl FullyQualify for RecordType<ConditionalName> {
 
     ghost resolved = { λ d. renamed_record (resolving (tests_of d)) };
 
-    ghost undefined = { λ d. of_record (lacks (tests_of d)) };
+    ghost undefined = { λ d. of_record (untargeted (tests_of d)) };
 
     fn fully_qualify_type_references(
         self,
@@ -93,7 +93,7 @@ impl FullyQualify for TypeOfAttribute<ConditionalName> {
 
     ghost resolved = { λ d. renamed_attribute (resolving (tests_of d)) };
 
-    ghost undefined = { λ d. of_attribute (lacks (tests_of d)) };
+    ghost undefined = { λ d. of_attribute (untargeted (tests_of d)) };
 
     fn fully_qualify_type_references(
         self,
@@ -109,7 +109,7 @@ impl FullyQualify for AttributesOrContext<ConditionalName> {
 
     ghost resolved = { λ d. renamed_context (resolving (tests_of d)) };
 
-    ghost undefined = { λ d. of_context (lacks (tests_of d)) };
+    ghost undefined = { λ d. of_context (untargeted (tests_of d)) };
 
     fn fully_qualify_type_references(
         self,
@@ -125,7 +125,7 @@ impl FullyQualify for EntityType<ConditionalName> {
 
     ghost resolved = { λ d. renamed_entity (resolving (tests_of d)) };
 
-    ghost undefined = { λ d. of_entity (lacks (tests_of d)) };
+    ghost undefined = { λ d. of_entity (untargeted (tests_of d)) };
 
     fn fully_qualify_type_references(
         self,
@@ -141,7 +141,7 @@ impl FullyQualify for ApplySpec<ConditionalName> {
 
     ghost resolved = { λ d. renamed_apply (resolving (tests_of d)) };
 
-    ghost undefined = { λ d. of_apply (lacks (tests_of d)) };
+    ghost undefined = { λ d. of_apply (untargeted (tests_of d)) };
 
     fn fully_qualify_type_references(
         self,
@@ -157,7 +157,7 @@ impl FullyQualify for ActionEntityUID<ConditionalName> {
 
     ghost resolved = { λ d. renamed_uid (resolving (tests_of d)) (action_target_name (tests_of d)) };
 
-    ghost undefined = { λ d. of_uid (lacks (tests_of d)) (lacks_action (tests_of d)) };
+    ghost undefined = { λ d. of_uid (untargeted (tests_of d)) (untargeted_action (tests_of d)) };
 
     fn fully_qualify_type_references(
         self,
@@ -173,7 +173,7 @@ impl FullyQualify for ActionType<ConditionalName> {
 
     ghost resolved = { λ d. renamed_action (resolving (tests_of d)) (action_target_name (tests_of d)) };
 
-    ghost undefined = { λ d. of_action (lacks (tests_of d)) (lacks_action (tests_of d)) };
+    ghost undefined = { λ d. of_action (untargeted (tests_of d)) (untargeted_action (tests_of d)) };
 
     fn fully_qualify_type_references(
         self,
@@ -189,7 +189,7 @@ impl FullyQualify for NamespaceDefinition<ConditionalName> {
 
     ghost resolved = { λ d. renamed_namespace (resolving (tests_of d)) (action_target_name (tests_of d)) };
 
-    ghost undefined = { λ d. of_namespace (lacks (tests_of d)) (lacks_action (tests_of d)) };
+    ghost undefined = { λ d. of_namespace (untargeted (tests_of d)) (untargeted_action (tests_of d)) };
 
     fn fully_qualify_type_references(
         self,

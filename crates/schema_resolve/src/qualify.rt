@@ -21,7 +21,7 @@ pub trait Qualify {
 
     ghost qualified: { Option InternalName → Self → Self.Out };
 
-    /// The same with each name as a reference from this namespace, and with the type `Action` where an action has none.
+    /// What is given, with each name as a reference from this namespace, and with the type `Action` where an action has none.
     fn conditionally_qualify_type_references(
         self,
         alloc: Global,

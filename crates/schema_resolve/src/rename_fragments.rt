@@ -18,9 +18,9 @@ pub(crate) trait FragmentRenamer<N: NameText, M: NameText> {
 
     ghost action_becomes_in: { Self → Option Name → List ℕ → Option N → M };
 
-    ghost lacks_in: { Self → Option Name → ReferenceType → N → List Undefined };
+    ghost untargeted_in: { Self → Option Name → ReferenceType → N → List Undefined };
 
-    ghost lacks_action_in: { Self → Option Name → List ℕ → Option N → List Undefined };
+    ghost untargeted_action_in: { Self → Option Name → List ℕ → Option N → List Undefined };
 
     fn rename_in(
         &self,
@@ -29,8 +29,8 @@ pub(crate) trait FragmentRenamer<N: NameText, M: NameText> {
         definition: &NamespaceDefinition<N>,
     ) -> Result<NamespaceDefinition<M>, ResolveError>
         ensures out { IfOk result (λ out. out ≡ renamed_namespace (becomes_in self.now ns.now) (action_becomes_in self.now ns.now) definition.now) }
-        ensures defined { OnOk result (of_namespace (lacks_in self.now ns.now) (lacks_action_in self.now ns.now) definition.now ≡ []) }
-        ensures err { IfErr result (NamesFirst (of_namespace (lacks_in self.now ns.now) (lacks_action_in self.now ns.now) definition.now)) };
+        ensures defined { OnOk result (of_namespace (untargeted_in self.now ns.now) (untargeted_action_in self.now ns.now) definition.now ≡ []) }
+        ensures err { IfErr result (NamesFirst (of_namespace (untargeted_in self.now ns.now) (untargeted_action_in self.now ns.now) definition.now)) };
 }
 
 // A fragment with each name that its declarations use replaced.
@@ -40,8 +40,8 @@ pub(crate) fn rename_fragment<N: NameText, M: NameText + Drop, R: FragmentRename
     fragment: &Fragment<N>,
 ) -> Result<Fragment<M>, ResolveError>
     ensures out { IfOk result (λ out. out ≡ renamed_fragment (R.becomes_in renamer.now) (R.action_becomes_in renamer.now) fragment.now) }
-    ensures defined { OnOk result (of_fragment (R.lacks_in renamer.now) (R.lacks_action_in renamer.now) fragment.now ≡ []) }
-    ensures err { IfErr result (NamesFirst (of_fragment (R.lacks_in renamer.now) (R.lacks_action_in renamer.now) fragment.now)) }
+    ensures defined { OnOk result (of_fragment (R.untargeted_in renamer.now) (R.untargeted_action_in renamer.now) fragment.now ≡ []) }
+    ensures err { IfErr result (NamesFirst (of_fragment (R.untargeted_in renamer.now) (R.untargeted_action_in renamer.now) fragment.now)) }
 {
     let mut out = Vec::new(alloc);
     for (ns, definition) in fragment.0.as_slice() {

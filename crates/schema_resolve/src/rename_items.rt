@@ -2,7 +2,8 @@ ghost use Rattle.std.specs.Prelude.{◌≡◌, [], map, IfOk, IfErr, OnOk};
 ghost use Rattle.std.specs.Option.{option_map};
 ghost use Rattle.schema_resolve.specs.Faults.{NamesFirst};
 ghost use Rattle.schema_resolve.specs.Renamed.{renamed, renamed_common, renamed_context, renamed_standard, renamed_kind, renamed_entity, renamed_apply, renamed_uid, renamed_action};
-ghost use Rattle.schema_resolve_errors.specs.Gathered.{each, if_there};
+ghost use Rattle.std.specs.List.{flat_map};
+ghost use Rattle.schema_resolve_errors.specs.Gathered.{if_there};
 ghost use Rattle.schema_resolve.specs.Walk.{of_type, of_common, of_context, of_standard, of_kind, of_entity, of_apply, of_uid, of_action};
 
 use crate::rename_types::rename_type;
@@ -23,8 +24,8 @@ fn rename_names<N, M: Drop, R: Renamer<N, M>>(
     names: &[N],
 ) -> Result<List<M>, ResolveError>
     ensures out { IfOk result (λ out. out ≡ map ((R.becomes renamer.now).name ReferenceType.Entity) names.now) }
-    ensures defined { OnOk result (each (R.lacks renamer.now ReferenceType.Entity) names.now ≡ []) }
-    ensures err { IfErr result (NamesFirst (each (R.lacks renamer.now ReferenceType.Entity) names.now)) }
+    ensures defined { OnOk result (flat_map (R.untargeted renamer.now ReferenceType.Entity) names.now ≡ []) }
+    ensures err { IfErr result (NamesFirst (flat_map (R.untargeted renamer.now ReferenceType.Entity) names.now)) }
 {
     let mut out = Vec::new(alloc);
     for name in names {
@@ -41,8 +42,8 @@ pub(crate) fn rename_common<N, M: Drop, R: Renamer<N, M>>(
     common: &CommonType<N>,
 ) -> Result<CommonType<M>, ResolveError>
     ensures out { IfOk result (λ out. out ≡ renamed_common (R.becomes renamer.now) common.now) }
-    ensures defined { OnOk result (of_common (R.lacks renamer.now) common.now ≡ []) }
-    ensures err { IfErr result (NamesFirst (of_common (R.lacks renamer.now) common.now)) }
+    ensures defined { OnOk result (of_common (R.untargeted renamer.now) common.now ≡ []) }
+    ensures err { IfErr result (NamesFirst (of_common (R.untargeted renamer.now) common.now)) }
 {
     Ok(CommonType {
         ty: rename_type(alloc, renamer, &common.ty)?,
@@ -51,28 +52,28 @@ pub(crate) fn rename_common<N, M: Drop, R: Renamer<N, M>>(
     })
 }
 
-// The same of a shape or a context.
+// A shape or a context, with each name replaced.
 pub(crate) fn rename_context<N, M: Drop, R: Renamer<N, M>>(
     alloc: Global,
     renamer: &R,
     context: &AttributesOrContext<N>,
 ) -> Result<AttributesOrContext<M>, ResolveError>
     ensures out { IfOk result (λ out. out ≡ renamed_context (R.becomes renamer.now) context.now) }
-    ensures defined { OnOk result (of_context (R.lacks renamer.now) context.now ≡ []) }
-    ensures err { IfErr result (NamesFirst (of_context (R.lacks renamer.now) context.now)) }
+    ensures defined { OnOk result (of_context (R.untargeted renamer.now) context.now ≡ []) }
+    ensures err { IfErr result (NamesFirst (of_context (R.untargeted renamer.now) context.now)) }
 {
     Ok(AttributesOrContext(rename_type(alloc, renamer, &context.0)?))
 }
 
-// The same of the type of tags.
+// The type of tags, with each name replaced.
 fn rename_tags<N, M: Drop, R: Renamer<N, M>>(
     alloc: Global,
     renamer: &R,
     tags: &Option<Type<N>>,
 ) -> Result<Option<Type<M>>, ResolveError>
     ensures out { IfOk result (λ out. out ≡ option_map (renamed (R.becomes renamer.now)) tags.now) }
-    ensures defined { OnOk result (if_there (of_type (R.lacks renamer.now)) tags.now ≡ []) }
-    ensures err { IfErr result (NamesFirst (if_there (of_type (R.lacks renamer.now)) tags.now)) }
+    ensures defined { OnOk result (if_there (of_type (R.untargeted renamer.now)) tags.now ≡ []) }
+    ensures err { IfErr result (NamesFirst (if_there (of_type (R.untargeted renamer.now)) tags.now)) }
 {
     match tags {
         Some(tags) => Ok(Some(rename_type(alloc, renamer, tags)?)),
@@ -80,15 +81,15 @@ fn rename_tags<N, M: Drop, R: Renamer<N, M>>(
     }
 }
 
-// The same of what is declared of an entity type that is no enum.
+// What is declared of an entity type that is no enum, with each name replaced.
 fn rename_standard<N, M: Drop, R: Renamer<N, M>>(
     alloc: Global,
     renamer: &R,
     standard: &StandardEntityType<N>,
 ) -> Result<StandardEntityType<M>, ResolveError>
     ensures out { IfOk result (λ out. out ≡ renamed_standard (R.becomes renamer.now) standard.now) }
-    ensures defined { OnOk result (of_standard (R.lacks renamer.now) standard.now ≡ []) }
-    ensures err { IfErr result (NamesFirst (of_standard (R.lacks renamer.now) standard.now)) }
+    ensures defined { OnOk result (of_standard (R.untargeted renamer.now) standard.now ≡ []) }
+    ensures err { IfErr result (NamesFirst (of_standard (R.untargeted renamer.now) standard.now)) }
 {
     let member_of_types = rename_names(alloc, renamer, standard.member_of_types.as_slice())?;
     let shape = rename_context(alloc, renamer, &standard.shape)?;
@@ -100,15 +101,15 @@ fn rename_standard<N, M: Drop, R: Renamer<N, M>>(
     })
 }
 
-// The same of what is declared of any entity type.
+// What is declared of any entity type, with each name replaced.
 fn rename_kind<N, M: Drop, R: Renamer<N, M>>(
     alloc: Global,
     renamer: &R,
     kind: &EntityTypeKind<N>,
 ) -> Result<EntityTypeKind<M>, ResolveError>
     ensures out { IfOk result (λ out. out ≡ renamed_kind (R.becomes renamer.now) kind.now) }
-    ensures defined { OnOk result (of_kind (R.lacks renamer.now) kind.now ≡ []) }
-    ensures err { IfErr result (NamesFirst (of_kind (R.lacks renamer.now) kind.now)) }
+    ensures defined { OnOk result (of_kind (R.untargeted renamer.now) kind.now ≡ []) }
+    ensures err { IfErr result (NamesFirst (of_kind (R.untargeted renamer.now) kind.now)) }
 {
     match kind {
         EntityTypeKind::Standard(standard) => Ok(EntityTypeKind::Standard(rename_standard(
@@ -120,15 +121,15 @@ fn rename_kind<N, M: Drop, R: Renamer<N, M>>(
     }
 }
 
-// The same of an entity type.
+// An entity type, with each name replaced.
 pub(crate) fn rename_entity<N, M: Drop, R: Renamer<N, M>>(
     alloc: Global,
     renamer: &R,
     entity: &EntityType<N>,
 ) -> Result<EntityType<M>, ResolveError>
     ensures out { IfOk result (λ out. out ≡ renamed_entity (R.becomes renamer.now) entity.now) }
-    ensures defined { OnOk result (of_entity (R.lacks renamer.now) entity.now ≡ []) }
-    ensures err { IfErr result (NamesFirst (of_entity (R.lacks renamer.now) entity.now)) }
+    ensures defined { OnOk result (of_entity (R.untargeted renamer.now) entity.now ≡ []) }
+    ensures err { IfErr result (NamesFirst (of_entity (R.untargeted renamer.now) entity.now)) }
 {
     Ok(EntityType {
         kind: rename_kind(alloc, renamer, &entity.kind)?,
@@ -138,15 +139,15 @@ pub(crate) fn rename_entity<N, M: Drop, R: Renamer<N, M>>(
     })
 }
 
-// The same of what an action applies to: its principals, its resources, its context.
+// What an action applies to, with each name replaced: its principals, its resources, its context.
 pub(crate) fn rename_apply<N, M: Drop, R: Renamer<N, M>>(
     alloc: Global,
     renamer: &R,
     spec: &ApplySpec<N>,
 ) -> Result<ApplySpec<M>, ResolveError>
     ensures out { IfOk result (λ out. out ≡ renamed_apply (R.becomes renamer.now) spec.now) }
-    ensures defined { OnOk result (of_apply (R.lacks renamer.now) spec.now ≡ []) }
-    ensures err { IfErr result (NamesFirst (of_apply (R.lacks renamer.now) spec.now)) }
+    ensures defined { OnOk result (of_apply (R.untargeted renamer.now) spec.now ≡ []) }
+    ensures err { IfErr result (NamesFirst (of_apply (R.untargeted renamer.now) spec.now)) }
 {
     let principal_types = rename_names(alloc, renamer, spec.principal_types.as_slice())?;
     let resource_types = rename_names(alloc, renamer, spec.resource_types.as_slice())?;
@@ -158,29 +159,29 @@ pub(crate) fn rename_apply<N, M: Drop, R: Renamer<N, M>>(
     })
 }
 
-// The same of a reference to an action.
+// A reference to an action, with its type replaced.
 pub(crate) fn rename_uid<N: NameText, M: NameText + Drop, R: Renamer<N, M> + ActionRenamer<N, M>>(
     alloc: Global,
     renamer: &R,
     uid: &ActionEntityUID<N>,
 ) -> Result<ActionEntityUID<M>, ResolveError>
     ensures out { IfOk result (λ out. out ≡ renamed_uid (R.becomes renamer.now) (R.action_becomes renamer.now) uid.now) }
-    ensures defined { OnOk result (of_uid (R.lacks renamer.now) (R.lacks_action renamer.now) uid.now ≡ []) }
-    ensures err { IfErr result (NamesFirst (of_uid (R.lacks renamer.now) (R.lacks_action renamer.now) uid.now)) }
+    ensures defined { OnOk result (of_uid (R.untargeted renamer.now) (R.untargeted_action renamer.now) uid.now ≡ []) }
+    ensures err { IfErr result (NamesFirst (of_uid (R.untargeted renamer.now) (R.untargeted_action renamer.now) uid.now)) }
 {
     let ty = renamer.rename_action(alloc, uid)?;
     Ok(ActionEntityUID::with_type(ty, uid.id.clone_in(alloc)?))
 }
 
-// The same of references to actions.
+// References to actions, each with its type replaced.
 fn rename_uids<N: NameText, M: NameText + Drop, R: Renamer<N, M> + ActionRenamer<N, M>>(
     alloc: Global,
     renamer: &R,
     uids: &[ActionEntityUID<N>],
 ) -> Result<List<ActionEntityUID<M>>, ResolveError>
     ensures out { IfOk result (λ out. out ≡ map (renamed_uid (R.becomes renamer.now) (R.action_becomes renamer.now)) uids.now) }
-    ensures defined { OnOk result (each (of_uid (R.lacks renamer.now) (R.lacks_action renamer.now)) uids.now ≡ []) }
-    ensures err { IfErr result (NamesFirst (each (of_uid (R.lacks renamer.now) (R.lacks_action renamer.now)) uids.now)) }
+    ensures defined { OnOk result (flat_map (of_uid (R.untargeted renamer.now) (R.untargeted_action renamer.now)) uids.now ≡ []) }
+    ensures err { IfErr result (NamesFirst (flat_map (of_uid (R.untargeted renamer.now) (R.untargeted_action renamer.now)) uids.now)) }
 {
     let mut out = Vec::new(alloc);
     for uid in uids {
@@ -190,15 +191,15 @@ fn rename_uids<N: NameText, M: NameText + Drop, R: Renamer<N, M> + ActionRenamer
     Ok(List::from_vec(out))
 }
 
-// The same of an action's parents.
+// An action's parents, each with its type replaced.
 fn rename_parents<N: NameText, M: NameText + Drop, R: Renamer<N, M> + ActionRenamer<N, M>>(
     alloc: Global,
     renamer: &R,
     parents: &Option<List<ActionEntityUID<N>>>,
 ) -> Result<Option<List<ActionEntityUID<M>>>, ResolveError>
     ensures out { IfOk result (λ out. out ≡ option_map (map (renamed_uid (R.becomes renamer.now) (R.action_becomes renamer.now))) parents.now) }
-    ensures defined { OnOk result (if_there (each (of_uid (R.lacks renamer.now) (R.lacks_action renamer.now))) parents.now ≡ []) }
-    ensures err { IfErr result (NamesFirst (if_there (each (of_uid (R.lacks renamer.now) (R.lacks_action renamer.now))) parents.now)) }
+    ensures defined { OnOk result (if_there (flat_map (of_uid (R.untargeted renamer.now) (R.untargeted_action renamer.now))) parents.now ≡ []) }
+    ensures err { IfErr result (NamesFirst (if_there (flat_map (of_uid (R.untargeted renamer.now) (R.untargeted_action renamer.now))) parents.now)) }
 {
     match parents {
         Some(parents) => Ok(Some(rename_uids(alloc, renamer, parents.as_slice())?)),
@@ -206,15 +207,15 @@ fn rename_parents<N: NameText, M: NameText + Drop, R: Renamer<N, M> + ActionRena
     }
 }
 
-// The same of what an action applies to, where that is said.
+// What an action applies to, where that is said, with each name replaced.
 fn rename_application<N, M: Drop, R: Renamer<N, M>>(
     alloc: Global,
     renamer: &R,
     spec: &Option<ApplySpec<N>>,
 ) -> Result<Option<ApplySpec<M>>, ResolveError>
     ensures out { IfOk result (λ out. out ≡ option_map (renamed_apply (R.becomes renamer.now)) spec.now) }
-    ensures defined { OnOk result (if_there (of_apply (R.lacks renamer.now)) spec.now ≡ []) }
-    ensures err { IfErr result (NamesFirst (if_there (of_apply (R.lacks renamer.now)) spec.now)) }
+    ensures defined { OnOk result (if_there (of_apply (R.untargeted renamer.now)) spec.now ≡ []) }
+    ensures err { IfErr result (NamesFirst (if_there (of_apply (R.untargeted renamer.now)) spec.now)) }
 {
     match spec {
         Some(spec) => Ok(Some(rename_apply(alloc, renamer, spec)?)),
@@ -222,15 +223,15 @@ fn rename_application<N, M: Drop, R: Renamer<N, M>>(
     }
 }
 
-// The same of an action: its parents, then what it applies to.
+// An action with each name replaced: its parents, then what it applies to.
 pub(crate) fn rename_action<
     N: NameText,
     M: NameText + Drop,
     R: Renamer<N, M> + ActionRenamer<N, M>,
 >(alloc: Global, renamer: &R, action: &ActionType<N>) -> Result<ActionType<M>, ResolveError>
     ensures out { IfOk result (λ out. out ≡ renamed_action (R.becomes renamer.now) (R.action_becomes renamer.now) action.now) }
-    ensures defined { OnOk result (of_action (R.lacks renamer.now) (R.lacks_action renamer.now) action.now ≡ []) }
-    ensures err { IfErr result (NamesFirst (of_action (R.lacks renamer.now) (R.lacks_action renamer.now) action.now)) }
+    ensures defined { OnOk result (of_action (R.untargeted renamer.now) (R.untargeted_action renamer.now) action.now ≡ []) }
+    ensures err { IfErr result (NamesFirst (of_action (R.untargeted renamer.now) (R.untargeted_action renamer.now) action.now)) }
 {
     let member_of = rename_parents(alloc, renamer, &action.member_of)?;
     let applies_to = rename_application(alloc, renamer, &action.applies_to)?;

@@ -19,8 +19,8 @@ fn rename_commons<N, M: Drop, R: Renamer<N, M>>(
     commons: &Map<CommonTypeId, CommonType<N>>,
 ) -> Result<Map<CommonTypeId, CommonType<M>>, ResolveError>
     ensures out { IfOk result (λ out. out ≡ map (on_value (renamed_common (R.becomes renamer.now))) commons.now) }
-    ensures defined { OnOk result (each_value (of_common (R.lacks renamer.now)) commons.now ≡ []) }
-    ensures err { IfErr result (NamesFirst (each_value (of_common (R.lacks renamer.now)) commons.now)) }
+    ensures defined { OnOk result (each_value (of_common (R.untargeted renamer.now)) commons.now ≡ []) }
+    ensures err { IfErr result (NamesFirst (each_value (of_common (R.untargeted renamer.now)) commons.now)) }
 {
     let mut out = Vec::new(alloc);
     for (id, common) in commons.as_slice() {
@@ -31,15 +31,15 @@ fn rename_commons<N, M: Drop, R: Renamer<N, M>>(
     Ok(Map::from_sorted_vec(out))
 }
 
-// The same of entity types.
+// Entity types by name, with each name that they use replaced.
 fn rename_entities<N, M: Drop, R: Renamer<N, M>>(
     alloc: Global,
     renamer: &R,
     entities: &Map<UnreservedId, EntityType<N>>,
 ) -> Result<Map<UnreservedId, EntityType<M>>, ResolveError>
     ensures out { IfOk result (λ out. out ≡ map (on_value (renamed_entity (R.becomes renamer.now))) entities.now) }
-    ensures defined { OnOk result (each_value (of_entity (R.lacks renamer.now)) entities.now ≡ []) }
-    ensures err { IfErr result (NamesFirst (each_value (of_entity (R.lacks renamer.now)) entities.now)) }
+    ensures defined { OnOk result (each_value (of_entity (R.untargeted renamer.now)) entities.now ≡ []) }
+    ensures err { IfErr result (NamesFirst (each_value (of_entity (R.untargeted renamer.now)) entities.now)) }
 {
     let mut out = Vec::new(alloc);
     for (id, entity) in entities.as_slice() {
@@ -50,15 +50,15 @@ fn rename_entities<N, M: Drop, R: Renamer<N, M>>(
     Ok(Map::from_sorted_vec(out))
 }
 
-// The same of actions.
+// Actions by id, with each name that they use replaced.
 fn rename_actions<N: NameText, M: NameText + Drop, R: Renamer<N, M> + ActionRenamer<N, M>>(
     alloc: Global,
     renamer: &R,
     actions: &Map<Text, ActionType<N>>,
 ) -> Result<Map<Text, ActionType<M>>, ResolveError>
     ensures out { IfOk result (λ out. out ≡ map (on_value (renamed_action (R.becomes renamer.now) (R.action_becomes renamer.now))) actions.now) }
-    ensures defined { OnOk result (each_value (of_action (R.lacks renamer.now) (R.lacks_action renamer.now)) actions.now ≡ []) }
-    ensures err { IfErr result (NamesFirst (each_value (of_action (R.lacks renamer.now) (R.lacks_action renamer.now)) actions.now)) }
+    ensures defined { OnOk result (each_value (of_action (R.untargeted renamer.now) (R.untargeted_action renamer.now)) actions.now ≡ []) }
+    ensures err { IfErr result (NamesFirst (each_value (of_action (R.untargeted renamer.now) (R.untargeted_action renamer.now)) actions.now)) }
 {
     let mut out = Vec::new(alloc);
     for (id, action) in actions.as_slice() {
@@ -80,8 +80,8 @@ pub(crate) fn rename_namespace<
     definition: &NamespaceDefinition<N>,
 ) -> Result<NamespaceDefinition<M>, ResolveError>
     ensures out { IfOk result (λ out. out ≡ renamed_namespace (R.becomes renamer.now) (R.action_becomes renamer.now) definition.now) }
-    ensures defined { OnOk result (of_namespace (R.lacks renamer.now) (R.lacks_action renamer.now) definition.now ≡ []) }
-    ensures err { IfErr result (NamesFirst (of_namespace (R.lacks renamer.now) (R.lacks_action renamer.now) definition.now)) }
+    ensures defined { OnOk result (of_namespace (R.untargeted renamer.now) (R.untargeted_action renamer.now) definition.now ≡ []) }
+    ensures err { IfErr result (NamesFirst (of_namespace (R.untargeted renamer.now) (R.untargeted_action renamer.now) definition.now)) }
 {
     let common_types = rename_commons(alloc, renamer, &definition.common_types)?;
     let entity_types = rename_entities(alloc, renamer, &definition.entity_types)?;

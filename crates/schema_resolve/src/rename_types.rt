@@ -19,8 +19,8 @@ pub(crate) fn rename_type<N, M: Drop, R: Renamer<N, M>>(
     ty: &Type<N>,
 ) -> Result<Type<M>, ResolveError>
     ensures out { IfOk result (λ out. out ≡ renamed (R.becomes renamer.now) ty.now) }
-    ensures defined { OnOk result (of_type (R.lacks renamer.now) ty.now ≡ []) }
-    ensures err { IfErr result (NamesFirst (of_type (R.lacks renamer.now) ty.now)) }
+    ensures defined { OnOk result (of_type (R.untargeted renamer.now) ty.now ≡ []) }
+    ensures err { IfErr result (NamesFirst (of_type (R.untargeted renamer.now) ty.now)) }
 {
     match ty {
         Type::Variant { ty, loc } => rename_at(alloc, renamer, ty, *loc),
@@ -40,8 +40,8 @@ fn rename_at<N, M: Drop, R: Renamer<N, M>>(
     loc: Option<Loc>,
 ) -> Result<Type<M>, ResolveError>
     ensures out { IfOk result (λ out. out ≡ renamed_at (R.becomes renamer.now) shape.now loc) }
-    ensures defined { OnOk result (of_variant (R.lacks renamer.now) shape.now ≡ []) }
-    ensures err { IfErr result (NamesFirst (of_variant (R.lacks renamer.now) shape.now)) }
+    ensures defined { OnOk result (of_variant (R.untargeted renamer.now) shape.now ≡ []) }
+    ensures err { IfErr result (NamesFirst (of_variant (R.untargeted renamer.now) shape.now)) }
 {
     match shape {
         TypeVariant::EntityOrCommon { type_name } => renamer.rename_either(alloc, type_name, loc),
@@ -82,8 +82,8 @@ pub(crate) fn rename_variant<N, M: Drop, R: Renamer<N, M>>(
     shape: &TypeVariant<N>,
 ) -> Result<TypeVariant<M>, ResolveError>
     ensures out { IfOk result (λ out. out ≡ renamed_variant (R.becomes renamer.now) shape.now) }
-    ensures defined { OnOk result (of_variant (R.lacks renamer.now) shape.now ≡ []) }
-    ensures err { IfErr result (NamesFirst (of_variant (R.lacks renamer.now) shape.now)) }
+    ensures defined { OnOk result (of_variant (R.untargeted renamer.now) shape.now ≡ []) }
+    ensures err { IfErr result (NamesFirst (of_variant (R.untargeted renamer.now) shape.now)) }
 {
     match shape {
         TypeVariant::String => Ok(TypeVariant::String),
@@ -110,7 +110,7 @@ pub(crate) fn rename_variant<N, M: Drop, R: Renamer<N, M>>(
     }
 }
 
-// The same of a record type.
+// A record type, with each name replaced.
 #[cycle(rename)]
 pub(crate) fn rename_record<N, M: Drop, R: Renamer<N, M>>(
     alloc: Global,
@@ -118,8 +118,8 @@ pub(crate) fn rename_record<N, M: Drop, R: Renamer<N, M>>(
     fields: &RecordType<N>,
 ) -> Result<RecordType<M>, ResolveError>
     ensures out { IfOk result (λ out. out ≡ renamed_record (R.becomes renamer.now) fields.now) }
-    ensures defined { OnOk result (of_record (R.lacks renamer.now) fields.now ≡ []) }
-    ensures err { IfErr result (NamesFirst (of_record (R.lacks renamer.now) fields.now)) }
+    ensures defined { OnOk result (of_record (R.untargeted renamer.now) fields.now ≡ []) }
+    ensures err { IfErr result (NamesFirst (of_record (R.untargeted renamer.now) fields.now)) }
 {
     Ok(RecordType {
         attributes: Map::from_sorted_vec(rename_entries(
@@ -131,7 +131,7 @@ pub(crate) fn rename_record<N, M: Drop, R: Renamer<N, M>>(
     })
 }
 
-// The same of an attribute's type.
+// An attribute's type, with each name replaced.
 #[cycle(rename)]
 pub(crate) fn rename_attribute<N, M: Drop, R: Renamer<N, M>>(
     alloc: Global,
@@ -139,8 +139,8 @@ pub(crate) fn rename_attribute<N, M: Drop, R: Renamer<N, M>>(
     attribute: &TypeOfAttribute<N>,
 ) -> Result<TypeOfAttribute<M>, ResolveError>
     ensures out { IfOk result (λ out. out ≡ renamed_attribute (R.becomes renamer.now) attribute.now) }
-    ensures defined { OnOk result (of_attribute (R.lacks renamer.now) attribute.now ≡ []) }
-    ensures err { IfErr result (NamesFirst (of_attribute (R.lacks renamer.now) attribute.now)) }
+    ensures defined { OnOk result (of_attribute (R.untargeted renamer.now) attribute.now ≡ []) }
+    ensures err { IfErr result (NamesFirst (of_attribute (R.untargeted renamer.now) attribute.now)) }
 {
     Ok(TypeOfAttribute {
         ty: rename_type(alloc, renamer, &attribute.ty)?,
@@ -149,7 +149,7 @@ pub(crate) fn rename_attribute<N, M: Drop, R: Renamer<N, M>>(
     })
 }
 
-// The same of attributes, in order.
+// Attributes in order, with each name replaced.
 #[cycle(rename)]
 fn rename_entries<N, M: Drop, R: Renamer<N, M>>(
     alloc: Global,
@@ -157,8 +157,8 @@ fn rename_entries<N, M: Drop, R: Renamer<N, M>>(
     entries: &[(Text, TypeOfAttribute<N>)],
 ) -> Result<Vec<(Text, TypeOfAttribute<M>)>, ResolveError>
     ensures out { IfOk result (λ out. out.items ≡ renamed_entries (R.becomes renamer.now) entries.now) }
-    ensures defined { OnOk result (of_entries (R.lacks renamer.now) entries.now ≡ []) }
-    ensures err { IfErr result (NamesFirst (of_entries (R.lacks renamer.now) entries.now)) }
+    ensures defined { OnOk result (of_entries (R.untargeted renamer.now) entries.now ≡ []) }
+    ensures err { IfErr result (NamesFirst (of_entries (R.untargeted renamer.now) entries.now)) }
 {
     let mut out = Vec::new(alloc);
     for (name, attribute) in entries {

@@ -1,6 +1,6 @@
 ghost use Rattle.std.specs.Option.{option_copied};
 ghost use Rattle.schema_resolve_definitions.specs.Tests.{tests_of};
-ghost use Rattle.schema_resolve.specs.Resolved.{resolving_in, meant_type, lacks_in, lacks_action_in};
+ghost use Rattle.schema_resolve.specs.Resolved.{resolving_in, meant_type, untargeted_in, untargeted_action_in};
 
 use crate::designator::reference_to;
 use crate::rename_items::rename_uid;
@@ -23,7 +23,7 @@ pub(crate) struct Resolver<'a> {
 impl<'a> Renamer<RawName, InternalName> for Resolver<'a> {
     ghost becomes = { λ r. resolving_in (tests_of r.defs.now) (option_copied r.scope.ns) };
 
-    ghost lacks = { λ r. lacks_in (tests_of r.defs.now) (option_copied r.scope.ns) };
+    ghost untargeted = { λ r. untargeted_in (tests_of r.defs.now) (option_copied r.scope.ns) };
 
     fn rename(
         &self,
@@ -50,7 +50,7 @@ impl<'a> Renamer<RawName, InternalName> for Resolver<'a> {
 impl<'a> ActionRenamer<RawName, InternalName> for Resolver<'a> {
     ghost action_becomes = { λ r. meant_type (tests_of r.defs.now) (option_copied r.scope.ns) };
 
-    ghost lacks_action = { λ r. lacks_action_in (tests_of r.defs.now) (option_copied r.scope.ns) };
+    ghost untargeted_action = { λ r. untargeted_action_in (tests_of r.defs.now) (option_copied r.scope.ns) };
 
     fn rename_action(
         &self,

@@ -20,7 +20,7 @@ pub(crate) struct Scope<'a> {
 impl<'a> Renamer<RawName, ConditionalName> for Scope<'a> {
     ghost becomes = { λ s. qualifying (option_copied s.ns) };
 
-    ghost lacks = { λ _ _ _. [] };
+    ghost untargeted = { λ _ _ _. [] };
 
     fn rename(
         &self,
@@ -49,7 +49,7 @@ impl<'a> Renamer<RawName, ConditionalName> for Scope<'a> {
 impl<'a> ActionRenamer<RawName, ConditionalName> for Scope<'a> {
     ghost action_becomes = { λ s id ty. type_in_namespace (option_copied s.ns) id ty };
 
-    ghost lacks_action = { λ _ _ _. [] };
+    ghost untargeted_action = { λ _ _ _. [] };
 
     fn rename_action(
         &self,

@@ -2,7 +2,7 @@ ghost use Rattle.std.specs.Prelude.{◌≡◌, [], Ok, IfOk, find};
 ghost use Rattle.std.specs.Option.{option_copied};
 ghost use Rattle.cedar_identifiers.specs.Names.{components_of};
 ghost use Rattle.schema_resolve_definitions.specs.Tests.{tests_of};
-ghost use Rattle.schema_resolve.specs.Targets.{is_defined, is_action, resolving, action_target_name, lacks, lacks_action};
+ghost use Rattle.schema_resolve.specs.Targets.{is_defined, is_action, resolving, action_target_name, untargeted, untargeted_action};
 
 use crate::renamer::{ActionRenamer, Renamer};
 use cedar_data::{CloneIn, Loc, NonEmpty, Text};
@@ -44,7 +44,7 @@ fn first_defined<'a>(
 impl Renamer<ConditionalName, InternalName> for AllDefs {
     ghost becomes = { λ d. resolving (tests_of d) };
 
-    ghost lacks = { λ d. lacks (tests_of d) };
+    ghost untargeted = { λ d. untargeted (tests_of d) };
 
     fn rename(
         &self,
@@ -112,7 +112,7 @@ fn first_action<'a>(
 impl ActionRenamer<ConditionalName, InternalName> for AllDefs {
     ghost action_becomes = { λ d. action_target_name (tests_of d) };
 
-    ghost lacks_action = { λ d. lacks_action (tests_of d) };
+    ghost untargeted_action = { λ d. untargeted_action (tests_of d) };
 
     fn rename_action(
         &self,

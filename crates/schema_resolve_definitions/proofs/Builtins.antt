@@ -6,7 +6,7 @@ use Rattle.std.proofs.lemmas.Slice.Eq.{bytes_eq-Decides}
 use Rattle.std.specs.Str.{bytes_eq}
 use Rattle.std.specs.Cmp.{first_so, second_so}
 use Rattle.cedar_names.specs.Definitions.{Definitions, among, same_name}
-use Rattle.schema_resolve_definitions.specs.Defined.{is_hidden, builtin_names, all_builtin_names}
+use Rattle.schema_resolve_definitions.specs.Defined.{is_hidden, names_of_builtin, names_of_builtins}
 use Rattle.schema_resolve_definitions.specs.Added.{AddsNames}
 use Rattle.schema_resolve_definitions.specs.Tests.{Tests, tests_of}
 use Rattle.schema_resolve_definitions.proofs.Sets.{add_both}
@@ -29,7 +29,7 @@ either_way false false false false true same = refl
 either_way false false false false false same = refl
 
 -- the names of a word, at a name
-at_name : (n : List (List ℕ)) (t : Tests) (word : List ℕ) → among (builtin_names t word) n ≡ (same_name n (codes "__cedar" ∷ word ∷ []) || list_any (λ b. b) (if is_hidden t word then [] else same_name n (word ∷ []) ∷ []))
+at_name : (n : List (List ℕ)) (t : Tests) (word : List ℕ) → among (names_of_builtin t word) n ≡ (same_name n (codes "__cedar" ∷ word ∷ []) || list_any (λ b. b) (if is_hidden t word then [] else same_name n (word ∷ []) ∷ []))
 at_name n t word = ap (λ b. same_name n (codes "__cedar" ∷ word ∷ []) || b) (alone (is_hidden t word))
   where
     alone : (h : Bool) → among (if h then [] else (word ∷ []) ∷ []) n ≡ list_any (λ b. b) (if h then [] else same_name n (word ∷ []) ∷ [])
@@ -56,34 +56,34 @@ module _ (d e : Definitions) (before : List (List (List ℕ))) (commons : AddsNa
       let outside : among d.commons (word ∷ []) ≡ false = nor_left (among d.commons (word ∷ [])) (among before (word ∷ [])) (sym (commons (word ∷ [])) ∙ none) in
       (λ i. (none ∙ sym outside) i || among (entities i) (word ∷ []))
 
-  word_alike : (n : List (List ℕ)) (word : List ℕ) → (among e.commons n || among (builtin_names (tests_of e) word) n) ≡ (among e.commons n || among (builtin_names (tests_of d) word) n)
+  word_alike : (n : List (List ℕ)) (word : List ℕ) → (among e.commons n || among (names_of_builtin (tests_of e) word) n) ≡ (among e.commons n || among (names_of_builtin (tests_of d) word) n)
   word_alike n word =
       let s : Bool = same_name n (word ∷ []) in
       ap (λ b. among e.commons n || b) (at_name n (tests_of e) word)
       ∙ either_way (among e.commons n) (same_name n (codes "__cedar" ∷ word ∷ [])) s (is_hidden (tests_of e) word) (is_hidden (tests_of d) word) (λ same none. hidden_alike word (ap (among e.commons) (sym (equal_names n (word ∷ []) same)) ∙ none))
       ∙ ap (λ b. among e.commons n || b) (sym (at_name n (tests_of d) word))
 
-  words_alike : (n : List (List ℕ)) (words : List (List ℕ)) → (among e.commons n || among (all_builtin_names (tests_of e) words) n) ≡ (among e.commons n || among (all_builtin_names (tests_of d) words) n)
+  words_alike : (n : List (List ℕ)) (words : List (List ℕ)) → (among e.commons n || among (names_of_builtins (tests_of e) words) n) ≡ (among e.commons n || among (names_of_builtins (tests_of d) words) n)
   words_alike n [] = refl
   words_alike n (w ∷ ws) =
-      ap (λ b. among e.commons n || b) (list_any-append (same_name n) (builtin_names (tests_of e) w) (all_builtin_names (tests_of e) ws))
-      ∙ or_split (among e.commons n) (among (builtin_names (tests_of e) w) n) (among (builtin_names (tests_of d) w) n) (among (all_builtin_names (tests_of e) ws) n) (word_alike n w)
-      ∙ or_rest (among e.commons n) (among (builtin_names (tests_of d) w) n) (among (all_builtin_names (tests_of e) ws) n) (among (all_builtin_names (tests_of d) ws) n) (words_alike n ws)
-      ∙ ap (λ b. among e.commons n || b) (sym (list_any-append (same_name n) (builtin_names (tests_of d) w) (all_builtin_names (tests_of d) ws)))
+      ap (λ b. among e.commons n || b) (list_any-append (same_name n) (names_of_builtin (tests_of e) w) (names_of_builtins (tests_of e) ws))
+      ∙ or_split (among e.commons n) (among (names_of_builtin (tests_of e) w) n) (among (names_of_builtin (tests_of d) w) n) (among (names_of_builtins (tests_of e) ws) n) (word_alike n w)
+      ∙ or_rest (among e.commons n) (among (names_of_builtin (tests_of d) w) n) (among (names_of_builtins (tests_of e) ws) n) (among (names_of_builtins (tests_of d) ws) n) (words_alike n ws)
+      ∙ ap (λ b. among e.commons n || b) (sym (list_any-append (same_name n) (names_of_builtin (tests_of d) w) (names_of_builtins (tests_of d) ws)))
 
   -- words added later may be looked up among what was there first
-  pub added_later : (words : List (List ℕ)) (new : List (List (List ℕ))) → AddsNames e.commons (all_builtin_names (tests_of e) words) new → AddsNames d.commons (before ++ all_builtin_names (tests_of d) words) new
-  added_later words new h = add_both same_name d.commons before e.commons (all_builtin_names (tests_of d) words) new commons (λ n. h n ∙ words_alike n words)
+  pub added_later : (words : List (List ℕ)) (new : List (List (List ℕ))) → AddsNames e.commons (names_of_builtins (tests_of e) words) new → AddsNames d.commons (before ++ names_of_builtins (tests_of d) words) new
+  added_later words new h = add_both same_name d.commons before e.commons (names_of_builtins (tests_of d) words) new commons (λ n. h n ∙ words_alike n words)
 
-pub all_parts : (t : Tests) (vs ws : List (List ℕ)) → all_builtin_names t (vs ++ ws) ≡ all_builtin_names t vs ++ all_builtin_names t ws
+pub all_parts : (t : Tests) (vs ws : List (List ℕ)) → names_of_builtins t (vs ++ ws) ≡ names_of_builtins t vs ++ names_of_builtins t ws
 all_parts t [] ws = refl
-all_parts t (v ∷ vs) ws = ap (λ l. builtin_names t v ++ l) (all_parts t vs ws) ∙ sym (append_assoc (builtin_names t v) (all_builtin_names t vs) (all_builtin_names t ws))
+all_parts t (v ∷ vs) ws = ap (λ l. names_of_builtin t v ++ l) (all_parts t vs ws) ∙ sym (append_assoc (names_of_builtin t v) (names_of_builtins t vs) (names_of_builtins t ws))
 
-pub all_of_one : (t : Tests) (w : List ℕ) → all_builtin_names t (w ∷ []) ≡ builtin_names t w
-all_of_one t w = append-nil (builtin_names t w)
+pub all_of_one : (t : Tests) (w : List ℕ) → names_of_builtins t (w ∷ []) ≡ names_of_builtin t w
+all_of_one t w = append-nil (names_of_builtin t w)
 
 -- one more word
-pub one_later : (d e : Definitions) (vs : List (List ℕ)) (w : List ℕ) (new : List (List (List ℕ))) → AddsNames d.commons (all_builtin_names (tests_of d) vs) e.commons → e.entities ≡ d.entities → AddsNames e.commons (builtin_names (tests_of e) w) new → AddsNames d.commons (all_builtin_names (tests_of d) (vs ++ w ∷ [])) new
+pub one_later : (d e : Definitions) (vs : List (List ℕ)) (w : List ℕ) (new : List (List (List ℕ))) → AddsNames d.commons (names_of_builtins (tests_of d) vs) e.commons → e.entities ≡ d.entities → AddsNames e.commons (names_of_builtin (tests_of e) w) new → AddsNames d.commons (names_of_builtins (tests_of d) (vs ++ w ∷ [])) new
 one_later d e vs w new commons entities h =
     subst (λ l. AddsNames d.commons l new) (sym (all_parts (tests_of d) vs (w ∷ [])))
-    (added_later d e (all_builtin_names (tests_of d) vs) commons entities (w ∷ []) new (subst (λ l. AddsNames e.commons l new) (sym (all_of_one (tests_of e) w)) h))
+    (added_later d e (names_of_builtins (tests_of d) vs) commons entities (w ∷ []) new (subst (λ l. AddsNames e.commons l new) (sym (all_of_one (tests_of e) w)) h))

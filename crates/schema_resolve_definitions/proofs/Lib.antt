@@ -1,5 +1,4 @@
 mod Actions
-mod Ascii
 mod Builtins
 mod Sets
 mod Types

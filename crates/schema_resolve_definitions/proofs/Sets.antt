@@ -4,7 +4,7 @@ use Rattle.std.specs.List.{list_any}
 use Rattle.std.proofs.Math.Seq.{take-suc}
 use Rattle.std.proofs.lemmas.List.{map-append, take_all}
 use Rattle.std.proofs.lemmas.List.Folds.{list_any-append}
-use Rattle.schema_json.specs.Walk.{concat}
+use Rattle.std.specs.List.{flat_map}
 
 pub or_none : (a : Bool) → (a || false) ≡ a
 or_none true = refl
@@ -39,9 +39,9 @@ module _ {A B : Type 0} (f : A → B) where
   map_all xs i l = ap (map f) (take_all i xs l)
 
 module _ {A B : Type 0} (f : A → List B) where
-  joined_parts : (xs : List A) (x : A) → concat (map f (xs ++ x ∷ [])) ≡ concat (map f xs) ++ f x
+  joined_parts : (xs : List A) (x : A) → flat_map f (xs ++ x ∷ []) ≡ flat_map f xs ++ f x
   joined_parts [] x = append-nil (f x)
-  joined_parts (y ∷ ys) x = ap (λ l. f y ++ l) (joined_parts ys x) ∙ sym (append_assoc (f y) (concat (map f ys)) (f x))
+  joined_parts (y ∷ ys) x = ap (λ l. f y ++ l) (joined_parts ys x) ∙ sym (append_assoc (f y) (flat_map f ys) (f x))
 
-  pub joined_more : (xs : List A) (i : ℕ) (d : A) → i < length xs → d ≡ get_or xs i d → concat (map f (take (i + 1) xs)) ≡ concat (map f (take i xs)) ++ f d
-  joined_more xs i d l e = rw (add-one, take-suc xs i d l) (joined_parts (take i xs) (get_or xs i d) ∙ ap (λ x. concat (map f (take i xs)) ++ f x) (sym e))
+  pub joined_more : (xs : List A) (i : ℕ) (d : A) → i < length xs → d ≡ get_or xs i d → flat_map f (take (i + 1) xs) ≡ flat_map f (take i xs) ++ f d
+  joined_more xs i d l e = rw (add-one, take-suc xs i d l) (joined_parts (take i xs) (get_or xs i d) ∙ ap (λ x. flat_map f (take i xs) ++ f x) (sym e))

@@ -9,7 +9,7 @@ use Rattle.cedar_identifiers.specs.declared.internal_name.InternalName.{Internal
 use Rattle.cedar_identifiers.specs.declared.name_text.NameText as named
 use Rattle.cedar_names.specs.Definitions.{Definitions}
 use Rattle.schema_json.specs.Actions.{action_name}
-use Rattle.schema_json.specs.Walk.{concat}
+use Rattle.std.specs.List.{flat_map}
 use Rattle.schema_json.specs.declared.fragment.NamespaceDefinition.{NamespaceDefinition}
 use Rattle.schema_json.specs.declared.fragment.Fragment.{Fragment}
 
@@ -42,7 +42,7 @@ module _ {N : Type 0} {G : named.Ghosts N} where
   abbrev pub declared : Fragment N G → Definitions
   declared f =
       record {
-        commons = concat (map (λ e. commons_in e.0 e.1) f.0);
-        entities = concat (map (λ e. entities_in e.0 e.1) f.0);
-        actions = concat (map (λ e. actions_in e.0 e.1) f.0);
+        commons = flat_map (λ e. commons_in e.0 e.1) f.0;
+        entities = flat_map (λ e. entities_in e.0 e.1) f.0;
+        actions = flat_map (λ e. actions_in e.0 e.1) f.0;
       }

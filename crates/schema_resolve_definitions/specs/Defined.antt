@@ -5,7 +5,7 @@ use Rattle.cedar_identifiers.specs.declared.name_text.NameText as named
 use Rattle.cedar_names.specs.Definitions.{Definitions}
 use Rattle.cedar_names.specs.Tables.{table_names}
 use Rattle.cedar_names.specs.declared.extension_table.ExtensionTable.{ExtensionTable}
-use Rattle.schema_json.specs.Walk.{concat}
+use Rattle.std.specs.List.{flat_map}
 use Rattle.schema_json.specs.declared.fragment.Fragment.{Fragment}
 use Rattle.schema_resolve_definitions.specs.Declarations.{declared}
 use Rattle.schema_resolve_definitions.specs.Tests.{Tests, tests_of}
@@ -19,18 +19,18 @@ abbrev pub is_hidden : Tests → List ℕ → Bool
 is_hidden t word = t.is_common (word ∷ []) || t.is_entity (word ∷ [])
 
 -- `__cedar` and the word, and the word alone unless that is hidden
-abbrev pub builtin_names : Tests → List ℕ → List (List (List ℕ))
-builtin_names t word = (codes "__cedar" ∷ word ∷ []) ∷ (if is_hidden t word then [] else (word ∷ []) ∷ [])
+abbrev pub names_of_builtin : Tests → List ℕ → List (List (List ℕ))
+names_of_builtin t word = (codes "__cedar" ∷ word ∷ []) ∷ (if is_hidden t word then [] else (word ∷ []) ∷ [])
 
--- the same of each of the words
-abbrev pub all_builtin_names : Tests → List (List ℕ) → List (List (List ℕ))
-all_builtin_names t words = concat (map (builtin_names t) words)
+-- the names of each of these words
+abbrev pub names_of_builtins : Tests → List (List ℕ) → List (List (List ℕ))
+names_of_builtins t words = flat_map (names_of_builtin t) words
 
 -- with the builtin names and the types of the actions
 abbrev pub completed : Definitions → List (List ℕ) → Definitions
 completed d words =
     record {
-      commons = d.commons ++ all_builtin_names (tests_of d) words;
+      commons = d.commons ++ names_of_builtins (tests_of d) words;
       entities = d.entities ++ map (λ a. a.0) d.actions;
       actions = d.actions;
     }

@@ -1,7 +1,7 @@
 ghost use Rattle.std.specs.Prelude.{◌≡◌, ◌||◌, [], ◌∷◌, map, codes, IfOk, OnOk};
 ghost use Rattle.cedar_identifiers.specs.Names.{components_of};
 ghost use Rattle.cedar_names.specs.Definitions.{among};
-ghost use Rattle.schema_resolve_definitions.specs.Defined.{builtin_names, all_builtin_names, defined};
+ghost use Rattle.schema_resolve_definitions.specs.Defined.{names_of_builtin, names_of_builtins, defined};
 ghost use Rattle.schema_resolve_definitions.specs.Added.{AddsNames};
 ghost use Rattle.schema_resolve_definitions.specs.Tests.{tests_of};
 
@@ -31,7 +31,7 @@ pub fn all_definitions(
 
 // Defines the primitive types.
 fn add_primitives(alloc: Global, defs: &mut AllDefs) -> Result<(), AllocError>
-    ensures commons { OnOk result (AddsNames defs.old.commons (all_builtin_names (tests_of defs.old) (codes "Bool" ∷ codes "Long" ∷ codes "String" ∷ [])) defs.new.commons) }
+    ensures commons { OnOk result (AddsNames defs.old.commons (names_of_builtins (tests_of defs.old) (codes "Bool" ∷ codes "Long" ∷ codes "String" ∷ [])) defs.new.commons) }
     ensures entities { OnOk result (defs.new.entities ≡ defs.old.entities) }
     ensures actions { OnOk result (defs.new.actions ≡ defs.old.actions) }
 {
@@ -50,7 +50,7 @@ fn add_extensions(
     defs: &mut AllDefs,
     names: &[UnreservedId],
 ) -> Result<(), AllocError>
-    ensures commons { OnOk result (AddsNames defs.old.commons (all_builtin_names (tests_of defs.old) (map (λ n. n.id.text) names.now)) defs.new.commons) }
+    ensures commons { OnOk result (AddsNames defs.old.commons (names_of_builtins (tests_of defs.old) (map (λ n. n.id.text) names.now)) defs.new.commons) }
     ensures entities { OnOk result (defs.new.entities ≡ defs.old.entities) }
     ensures actions { OnOk result (defs.new.actions ≡ defs.old.actions) }
 {
@@ -63,7 +63,7 @@ fn add_extensions(
 
 // Defines a builtin type, behind `__cedar::` and, where that is not declared, by itself.
 fn add_builtin(alloc: Global, defs: &mut AllDefs, id: Id) -> Result<(), AllocError>
-    ensures commons { OnOk result (AddsNames defs.old.commons (builtin_names (tests_of defs.old) id.text) defs.new.commons) }
+    ensures commons { OnOk result (AddsNames defs.old.commons (names_of_builtin (tests_of defs.old) id.text) defs.new.commons) }
     ensures entities { OnOk result (defs.new.entities ≡ defs.old.entities) }
     ensures actions { OnOk result (defs.new.actions ≡ defs.old.actions) }
 {

@@ -8,9 +8,10 @@ use Rattle.cedar_data.specs.declared.label.Label.{Label}
 use Rattle.cedar_identifiers.specs.declared.internal_name.InternalName.{InternalName}
 use Rattle.cedar_identifiers.specs.declared.conditional_name.ConditionalName.{ConditionalName}
 use Rattle.cedar_identifiers.specs.declared.name_text.NameText as named
-use Rattle.schema_json.specs.Actions.{action_text}
+use Rattle.schema_json.specs.Actions.{action_uid_text}
 use Rattle.schema_json.specs.declared.action_type.ActionEntityUID.{ActionEntityUID}
-use Rattle.schema_resolve_errors.specs.Gathered.{each, if_there}
+use Rattle.std.specs.List.{flat_map}
+use Rattle.schema_resolve_errors.specs.Gathered.{if_there}
 use Rattle.schema_resolve_errors.specs.declared.resolve_error.ResolveError.{ResolveError}
 use Rattle.schema_resolve_errors.specs.declared.resolve_error.ResolveError.TheVariants.{TypeNotDefined, ActionNotDefined, Memory}
 
@@ -22,7 +23,7 @@ abbrev pub type_texts : List ConditionalName → List (List ℕ)
 type_texts names = map (λ c. name_text (written_components c)) names
 
 abbrev pub action_texts : {G : named.Ghosts ConditionalName} → List (ActionEntityUID ConditionalName G) → List (List ℕ)
-action_texts uids = map (λ a. action_text (option_map written_components a.ty) a.id) uids
+action_texts uids = map (λ a. action_uid_text (option_map written_components a.ty) a.id) uids
 
 abbrev pub unresolved_text : List (List ℕ) → List ℕ
 unresolved_text texts = by_number (codes "failed to resolve type: ") (codes "failed to resolve types: ") texts ++ joined_by (codes ", ") texts
@@ -50,11 +51,11 @@ abbrev pub name_labels : InternalName → List Label
 name_labels name = if_there label_at name.loc
 
 abbrev pub type_labels : List ConditionalName → List Label
-type_labels names = each (λ c. name_labels c.raw.name) names
+type_labels names = flat_map (λ c. name_labels c.raw.name) names
 
 -- the places of the types
 abbrev pub action_labels : {G : named.Ghosts ConditionalName} → List (ActionEntityUID ConditionalName G) → List Label
-action_labels uids = each (λ a. if_there (λ c. name_labels c.raw.name) a.ty) uids
+action_labels uids = flat_map (λ a. if_there (λ c. name_labels c.raw.name) a.ty) uids
 
 abbrev pub resolve_error_labels : ResolveError → List Label
 resolve_error_labels (TypeNotDefined e) = type_labels e.undefined_types

@@ -1,5 +1,5 @@
 ghost use Rattle.std.specs.Prelude.{◌≡◌, ◌++◌, map, IfOk, OnOk};
-ghost use Rattle.schema_json.specs.Walk.{concat};
+ghost use Rattle.std.specs.List.{flat_map};
 
 use crate::resolve_error::{ActionNotDefinedError, TypeNotDefinedError};
 use cedar_data::NonEmpty;
@@ -11,7 +11,7 @@ impl TypeNotDefinedError {
         _alloc: Global,
         errs: NonEmpty<TypeNotDefinedError>,
     ) -> Result<TypeNotDefinedError, AllocError>
-        ensures { IfOk result (λ e. e.undefined_types ≡ concat (map (λ x. x.undefined_types) errs)) }
+        ensures { IfOk result (λ e. e.undefined_types ≡ flat_map (λ x. x.undefined_types) errs) }
     {
         let (TypeNotDefinedError { undefined_types }, others) = errs.into_parts();
         let (head, mut tail) = undefined_types.into_parts();
@@ -31,7 +31,7 @@ impl ActionNotDefinedError {
         _alloc: Global,
         errs: NonEmpty<ActionNotDefinedError>,
     ) -> Result<ActionNotDefinedError, AllocError>
-        ensures { IfOk result (λ e. e.0 ≡ concat (map (λ x. x.0) errs)) }
+        ensures { IfOk result (λ e. e.0 ≡ flat_map (λ x. x.0) errs) }
     {
         let (ActionNotDefinedError(uids), others) = errs.into_parts();
         let (head, mut tail) = uids.into_parts();

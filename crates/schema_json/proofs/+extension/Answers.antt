@@ -1,6 +1,6 @@
 use Rattle.std.proofs.Common.{rules, arith, ◌≡◌, ap, sym, ◌∙◌, get_or, Some, None}
 use Rattle.schema_json.specs.declared.types.TypeOfAttribute.{size-TypeOfAttribute, size_is-TypeOfAttribute}
-use Rattle.schema_json.specs.Sizes.{most_at}
+use Rattle.schema_json.proofs.Sizes.{most_at}
 use Rattle.schema_json.proofs.Walks.{answers_step, variant_answered, either_more, one_answer}
 use Rattle.schema_json.proofs.+extension.Goals as goal
 

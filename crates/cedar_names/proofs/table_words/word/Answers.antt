@@ -1,7 +1,8 @@
 use Rattle.std.proofs.Common.{◌≡◌, ◌∙◌}
 use Rattle.std.proofs.lemmas.Str.{chars-IsAscii}
 use Rattle.std.proofs.lemmas.Bool.{or_parts}
-use Rattle.cedar_names.proofs.Members.{word_ascii, id_from_word}
+use Rattle.cedar_data.proofs.Ascii.{word_ascii}
+use Rattle.cedar_names.proofs.Members.{id_from_word}
 use Rattle.cedar_names.proofs.table_words.word.Goals as goal
 
 pub invariant_of-result : goal.invariant_of-result

@@ -1,5 +1,5 @@
 use Rattle.std.proofs.Common.{refl}
-use Rattle.schema_json.specs.Same.{action_same}
+use Rattle.schema_json.proofs.Same.{action_same}
 use Rattle.schema_convert_types.proofs.actions.reference.Goals as goal
 
 pub returns : goal.returns

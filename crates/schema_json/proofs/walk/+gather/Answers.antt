@@ -1,7 +1,7 @@
 use Rattle.std.proofs.Common.{rules, arith, ◌≡◌, ap, get_or, append_assoc}
 use Rattle.std.proofs.lemmas.List.{map-append}
 use Rattle.schema_json.specs.declared.types.TypeOfAttribute.{size-TypeOfAttribute, size_is-TypeOfAttribute}
-use Rattle.schema_json.specs.Sizes.{most_at}
+use Rattle.schema_json.proofs.Sizes.{most_at}
 use Rattle.schema_json.proofs.Walks.{entries_step, variant_record, variant_common}
 use Rattle.schema_json.proofs.walk.+gather.Goals as goal
 

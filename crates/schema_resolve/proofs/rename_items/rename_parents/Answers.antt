@@ -1,11 +1,12 @@
 use Rattle.std.proofs.Common.{ap}
-use Rattle.schema_resolve_errors.specs.Gathered.{each, if_there}
+use Rattle.std.specs.List.{flat_map}
+use Rattle.schema_resolve_errors.specs.Gathered.{if_there}
 use Rattle.schema_resolve.specs.Walk.{of_uid}
 use Rattle.schema_resolve.proofs.Lists.{refused}
 use Rattle.schema_resolve.proofs.rename_items.rename_parents.Goals as goal
 
 pub returns-in_err-rename_uids-in-Some-clause-err : goal.returns-in_err-rename_uids-in-Some-clause-err
 returns-in_err-rename_uids-in-Some-clause-err g c =
-    let u = of_uid (g.R.Renamer.lacks c.args.renamer.now) (g.R.ActionRenamer.lacks_action c.args.renamer.now) in
-    refused c.from_residual.result c.in_err-rename_uids-in-Some.field-0.0 (if_there (each u) c.args.parents.now) c.from_residual.ensures.1
-    (rw (ap (if_there (each u)) c.in-Some.is, ← c.as_slice.ensures) c.in_err-rename_uids-in-Some.ensures.err)
+    let u = of_uid (g.R.Renamer.untargeted c.args.renamer.now) (g.R.ActionRenamer.untargeted_action c.args.renamer.now) in
+    refused c.from_residual.result c.in_err-rename_uids-in-Some.field-0.0 (if_there (flat_map u) c.args.parents.now) c.from_residual.ensures.1
+    (rw (ap (if_there (flat_map u)) c.in-Some.is, ← c.as_slice.ensures) c.in_err-rename_uids-in-Some.ensures.err)

@@ -1,5 +1,5 @@
 use Rattle.std.proofs.Common.{◌∙◌, ap, Some}
-use Rattle.schema_json.specs.Same.{action_same}
+use Rattle.schema_json.proofs.Same.{action_same}
 use Rattle.schema_resolve.proofs.rename_items.rename_uid.Goals as goal
 
 pub returns-clause-out : goal.returns-clause-out

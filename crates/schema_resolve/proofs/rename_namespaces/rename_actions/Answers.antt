@@ -12,15 +12,15 @@ loop-id-preserved g c =
     let it = c.loop-id-item.result in
     record {
       out = c.in_ok-push.ensures.items ∙ (λ k. c.loop-id.invariant.out k ++ (c.in_ok-id.ensures k, c.in_ok-action.ensures.out k) ∷ []) ∙ sym (map_more (on_value (renamed_action (g.R.Renamer.becomes c.args.renamer.now) (g.R.ActionRenamer.action_becomes c.args.renamer.now))) es i it c.loop-id-test.true c.loop-id-item.is);
-      defined = each_more (λ e. of_action (g.R.Renamer.lacks c.args.renamer.now) (g.R.ActionRenamer.lacks_action c.args.renamer.now) e.1) es i it c.loop-id-test.true c.loop-id-item.is c.loop-id.invariant.defined c.in_ok-action.ensures.defined;
+      defined = each_more (λ e. of_action (g.R.Renamer.untargeted c.args.renamer.now) (g.R.ActionRenamer.untargeted_action c.args.renamer.now) e.1) es i it c.loop-id-test.true c.loop-id-item.is c.loop-id.invariant.defined c.in_ok-action.ensures.defined;
     }
 
 pub returns-in_err-action-clause-err : goal.returns-in_err-action-clause-err
 returns-in_err-action-clause-err g c =
     let es = c.as_slice-id-items.result.now in
     let e = c.in_err-action.field-0.0 in
-    refused c.from_residual-in_err-action.result e (each_value (of_action (g.R.Renamer.lacks c.args.renamer.now) (g.R.ActionRenamer.lacks_action c.args.renamer.now)) c.args.actions.now) c.from_residual-in_err-action.ensures.1
-    (rw (← c.as_slice-id-items.ensures.entries) (each_first (λ e. of_action (g.R.Renamer.lacks c.args.renamer.now) (g.R.ActionRenamer.lacks_action c.args.renamer.now) e.1) es c.loop-id.id-index c.loop-id-item.result e c.loop-id-test.true c.loop-id-item.is c.loop-id.invariant.defined c.in_err-action.ensures.err))
+    refused c.from_residual-in_err-action.result e (each_value (of_action (g.R.Renamer.untargeted c.args.renamer.now) (g.R.ActionRenamer.untargeted_action c.args.renamer.now)) c.args.actions.now) c.from_residual-in_err-action.ensures.1
+    (rw (← c.as_slice-id-items.ensures.entries) (each_first (λ e. of_action (g.R.Renamer.untargeted c.args.renamer.now) (g.R.ActionRenamer.untargeted_action c.args.renamer.now) e.1) es c.loop-id.id-index c.loop-id-item.result e c.loop-id-test.true c.loop-id-item.is c.loop-id.invariant.defined c.in_err-action.ensures.err))
 
 pub from_sorted_vec-requires : goal.from_sorted_vec-requires
 from_sorted_vec-requires g c =
@@ -36,4 +36,4 @@ returns-clause-out g c =
 pub returns-clause-defined : goal.returns-clause-defined
 returns-clause-defined g c =
     let es = c.as_slice-id-items.result.now in
-    ap (each_value (of_action (g.R.Renamer.lacks c.args.renamer.now) (g.R.ActionRenamer.lacks_action c.args.renamer.now))) (sym c.as_slice-id-items.ensures.entries) ∙ each_all (λ e. of_action (g.R.Renamer.lacks c.args.renamer.now) (g.R.ActionRenamer.lacks_action c.args.renamer.now) e.1) es c.loop-id.id-index c.loop-id-test.false c.loop-id.invariant.defined
+    ap (each_value (of_action (g.R.Renamer.untargeted c.args.renamer.now) (g.R.ActionRenamer.untargeted_action c.args.renamer.now))) (sym c.as_slice-id-items.ensures.entries) ∙ each_all (λ e. of_action (g.R.Renamer.untargeted c.args.renamer.now) (g.R.ActionRenamer.untargeted_action c.args.renamer.now) e.1) es c.loop-id.id-index c.loop-id-test.false c.loop-id.invariant.defined

@@ -7,5 +7,5 @@ use Rattle.schema_resolve.proofs.rename_namespaces.rename_commons.Given as goal
 abbrev pub invariant-loop-id : goal.invariant-loop-id
 invariant-loop-id g l = record {
   out : l.out.items ≡ map (on_value (renamed_common (g.R.Renamer.becomes l.renamer))) (take l.id-index l.id-items);
-  defined : each_value (of_common (g.R.Renamer.lacks l.renamer)) (take l.id-index l.id-items) ≡ [];
+  defined : each_value (of_common (g.R.Renamer.untargeted l.renamer)) (take l.id-index l.id-items) ≡ [];
 }

@@ -24,5 +24,5 @@ decreases-rename_entries g l = 2 * most (size-TypeOfAttribute g.row.N.Denot) (va
 abbrev pub invariant-rename_entries-loop-name : goal.invariant-rename_entries-loop-name
 invariant-rename_entries-loop-name g l = record {
   out : l.out.items ≡ renamed_entries (g.R.Renamer.becomes l.renamer) (take l.name-index l.entries);
-  defined : of_entries (g.R.Renamer.lacks l.renamer) (take l.name-index l.entries) ≡ [];
+  defined : of_entries (g.R.Renamer.untargeted l.renamer) (take l.name-index l.entries) ≡ [];
 }

@@ -1,7 +1,7 @@
 use Rattle.std.proofs.Common.{◌∙◌, ◌∷◌, [], refl, codes, ap, subst, sym}
 use Rattle.cedar_identifiers.specs.Words.{is_id}
 use Rattle.schema_resolve_definitions.specs.Added.{AddsNames}
-use Rattle.schema_resolve_definitions.specs.Defined.{builtin_names}
+use Rattle.schema_resolve_definitions.specs.Defined.{names_of_builtin}
 use Rattle.schema_resolve_definitions.specs.Tests.{tests_of}
 use Rattle.cedar_data.proofs.Ascii.{chars-from_test}
 use Rattle.schema_resolve_definitions.proofs.Builtins.{all_of_one, one_later}
@@ -25,6 +25,6 @@ returns-clause-commons c =
     let bool = c.in_ok-bool.ensures ∙ chars-from_test (codes "Bool") refl in
     let long = c.in_ok-long.ensures ∙ chars-from_test (codes "Long") refl in
     let string = c.in_ok-string.ensures ∙ chars-from_test (codes "String") refl in
-    let first = subst (λ l. AddsNames d.commons l e.commons) (ap (builtin_names (tests_of d)) bool ∙ sym (all_of_one (tests_of d) (codes "Bool"))) c.in_ok-add_builtin.ensures.commons in
-    let second = one_later d e (codes "Bool" ∷ []) (codes "Long") f.commons first c.in_ok-add_builtin.ensures.entities (subst (λ w. AddsNames e.commons (builtin_names (tests_of e) w) f.commons) long c.in_ok-add_builtin-2.ensures.commons) in
-    one_later d f (codes "Bool" ∷ codes "Long" ∷ []) (codes "String") g.commons second (c.in_ok-add_builtin-2.ensures.entities ∙ c.in_ok-add_builtin.ensures.entities) (subst (λ w. AddsNames f.commons (builtin_names (tests_of f) w) g.commons) string c.in_ok-add_builtin-3.ensures.commons)
+    let first = subst (λ l. AddsNames d.commons l e.commons) (ap (names_of_builtin (tests_of d)) bool ∙ sym (all_of_one (tests_of d) (codes "Bool"))) c.in_ok-add_builtin.ensures.commons in
+    let second = one_later d e (codes "Bool" ∷ []) (codes "Long") f.commons first c.in_ok-add_builtin.ensures.entities (subst (λ w. AddsNames e.commons (names_of_builtin (tests_of e) w) f.commons) long c.in_ok-add_builtin-2.ensures.commons) in
+    one_later d f (codes "Bool" ∷ codes "Long" ∷ []) (codes "String") g.commons second (c.in_ok-add_builtin-2.ensures.entities ∙ c.in_ok-add_builtin.ensures.entities) (subst (λ w. AddsNames f.commons (names_of_builtin (tests_of f) w) g.commons) string c.in_ok-add_builtin-3.ensures.commons)

@@ -1,4 +1,4 @@
-use Rattle.schema_json.specs.Same.{action_same}
+use Rattle.schema_json.proofs.Same.{action_same}
 use Rattle.schema_json.proofs.action_type.ActionEntityUIDCloneIn.clone_in.Goals as goal
 
 pub returns : goal.returns

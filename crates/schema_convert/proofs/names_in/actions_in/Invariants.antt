@@ -1,6 +1,0 @@
-use Rattle.std.proofs.Common.{◌≡◌, ◌++◌, drop, map}
-use Rattle.schema_convert.specs.NamesIn.{actions_in}
-use Rattle.schema_convert.proofs.names_in.actions_in.Given as goal
-
-abbrev pub invariant-loop-decl : goal.invariant-loop-decl
-invariant-loop-decl l = map (λ x. x.now) l.names.items ++ actions_in (drop l.decl-index l.decls) ≡ actions_in l.decls
