@@ -1,0 +1,9 @@
+//! What no contract says of the program's calls: what it answers to whole inputs, and that the standard streams pass bytes on.
+#![tactic(auto)]
+
+#[cfg(test)]
+mod recovery;
+#[cfg(test)]
+mod runs;
+#[cfg(test)]
+mod streams;

@@ -1,0 +1,142 @@
+// Runs over devices in memory.
+
+use cedar_io::{MemorySink, MemorySource, Source, SteadySource};
+use cedar_schema_core::run_tool;
+use schema_tests_lines::{answer_and_text, with_line_ends};
+use std::alloc::{AllocError, Global};
+
+// The words as strings.
+fn strings(alloc: Global, words: &str) -> Result<Vec<String>, AllocError> {
+    let mut strings = Vec::new(alloc);
+    for word in words.split_whitespace() {
+        strings.push(String::from_str(alloc, word)?)?;
+    }
+    Ok(strings)
+}
+
+// How much room the outputs have in most runs.
+const AMPLE: usize = 4096;
+
+// Does a run end with this code, with this on the two outputs, which have room for so much?
+fn ends<S: Source>(
+    alloc: Global,
+    words: &str,
+    source: &mut S,
+    room: [usize; 2],
+    code: u8,
+    written: [&str; 2],
+) -> bool {
+    let Ok(words) = strings(alloc, words) else {
+        return false;
+    };
+    let Ok(mut out) = MemorySink::with_room(alloc, room[0], Vec::new(alloc)) else {
+        return false;
+    };
+    let Ok(mut err) = MemorySink::with_room(alloc, room[1], Vec::new(alloc)) else {
+        return false;
+    };
+    let status = run_tool(alloc, &words, source, &mut out, &mut err);
+    status.code() == code
+        && out.as_slice() == written[0].as_bytes()
+        && err.as_slice() == written[1].as_bytes()
+}
+
+// Does a run on these bytes end so?
+fn ends_on(alloc: Global, words: &str, bytes: &[u8], code: u8, written: [&str; 2]) -> bool {
+    match bytes.to_vec(alloc) {
+        Ok(bytes) => {
+            let mut source = SteadySource::new(bytes);
+            ends(alloc, words, &mut source, [AMPLE; 2], code, written)
+        }
+        Err(_) => false,
+    }
+}
+
+// Texts, and what a second program, written from the definitions in Python, prints when it recovers them. A line is what is
+// printed, then behind `|` the text. ␤ stands for a line feed. Nothing is printed where the text is refused.
+const RECOVERED: &str = "\
+|
+entity A in [A];␤|entity A in A;
+entity A in [A, B, C];␤␤entity B in [A, B, C];␤␤entity C;␤|entity B in [A, C]; entity A in B; entity C;
+entity A in [A];␤|entity A in [A];␤
+entity a in [b];␤␤entity b;␤|entity\u{3000}b;\u{a0}entity a in [b,];
+-|action a;
+-|entity A; entity A;
+-|entity A in X;
+-|entity A
+";
+
+// Does a run end as the line says of its text?
+fn agrees(alloc: Global, line: &str) -> bool {
+    let Ok(line) = with_line_ends(alloc, line) else {
+        return false;
+    };
+    let (answer, text) = answer_and_text(line.as_str());
+    if answer == "-" {
+        ends_on(alloc, "recover", text.as_bytes(), 1, ["", "error: refused\n"])
+    } else {
+        ends_on(alloc, "recover", text.as_bytes(), 0, [answer, ""])
+    }
+}
+
+#[test]
+fn texts_are_recovered(rt: HostRuntime) {
+    for line in RECOVERED.lines() {
+        assert!(rt; agrees(rt.alloc(), line), "{line}");
+    }
+}
+
+const USAGE: &str = "usage: cedar_schema_tool COMMAND [NAME..]\n";
+
+const TOO_LONG: &str = "error: the input is longer than 16777216 bytes\n";
+
+// Is an input of so many blanks answered so?
+fn blanks_end(alloc: Global, count: usize, code: u8, err: &str) -> bool {
+    match vec![in alloc; b' '; count] {
+        Ok(blanks) => ends_on(alloc, "recover", &blanks, code, ["", err]),
+        Err(_) => false,
+    }
+}
+
+#[test]
+fn other_runs_are_told(rt: HostRuntime) {
+    let alloc = rt.alloc();
+    for words in ["", "recover x", "check", "Recover"] {
+        assert!(rt; ends_on(alloc, words, b"entity A;", 2, ["", USAGE]), "{words}");
+    }
+    assert!(rt; ends_on(alloc, "recover", b"\xff", 5, ["", "error: the input is not UTF-8\n"]));
+    assert!(rt; blanks_end(alloc, 16_777_217, 6, TOO_LONG));
+}
+
+// The source of the text, which fails at the call with this number.
+fn failing_source(alloc: Global, text: &str, call: u64) -> Result<MemorySource, AllocError> {
+    let bytes = text.as_bytes().to_vec(alloc)?;
+    let mut failing = Vec::new(alloc);
+    failing.push(call)?;
+    Ok(MemorySource::new(bytes, failing))
+}
+
+// Does a run on the text, with a read that fails or with little room, end so?
+fn ends_badly(
+    alloc: Global,
+    text: &str,
+    call: u64,
+    room: [usize; 2],
+    code: u8,
+    written: [&str; 2],
+) -> bool {
+    match failing_source(alloc, text, call) {
+        Ok(mut source) => ends(alloc, "recover", &mut source, room, code, written),
+        Err(_) => false,
+    }
+}
+
+#[test]
+fn failures_of_devices_are_told(rt: HostRuntime) {
+    let alloc = rt.alloc();
+    assert!(rt; ends_badly(alloc, "entity A;", 1, [AMPLE; 2], 3, ["", "error: reading failed\n"]));
+    assert!(rt; ends_badly(alloc, "entity A;", 2, [AMPLE; 2], 3, ["", "error: reading failed\n"]));
+    assert!(rt; ends_badly(alloc, "entity A;", 3, [3, AMPLE], 4, ["ent", ""]));
+    assert!(rt; ends_badly(alloc, "entity A;", 3, [10, 0], 0, ["entity A;\n", ""]));
+    assert!(rt; ends_badly(alloc, "entity A", 3, [AMPLE, 3], 4, ["", "err"]));
+}
