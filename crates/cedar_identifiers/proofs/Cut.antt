@@ -1,9 +1,9 @@
 -- A text has one list of pieces, which all that begins it is a front of.
-use Rattle.std.proofs.Common.{◌≡◌, ◌≢◌, ℕ, zero, suc, ◌+◌, ◌<◌, ◌≤◌, List, [], ◌∷◌, ◌++◌, length, take, drop, refl, sym, ap, ◌∙◌, arith}
+use Rattle.std.proofs.Common.{◌≡◌, ◌≢◌, ℕ, zero, suc, ◌<◌, ◌≤◌, List, [], ◌∷◌, ◌++◌, length, take, drop, refl, ap, ◌∙◌, arith}
 use Rattle.std.specs.List.{All}
 use Rattle.std.proofs.lemmas.Str.{chars-nil}
 use Rattle.std.proofs.lemmas.List.Elements.{All-nil, All-cons}
-use Rattle.cedar_identifiers.specs.NamePieces.{space_len, blank_len, piece_len, Begins, here, blank, piece, NothingStands}
+use Rattle.cedar_identifiers.specs.NamePieces.{blank_len, piece_len, Begins, here, blank, piece, NothingStands}
 use Rattle.cedar_identifiers.proofs.Pieces.{piece_len-le}
 
 abbrev Pieces : Type 0

@@ -1,5 +1,5 @@
 -- Texts joined by a separator, one after another.
-use Rattle.std.proofs.Common.{◌≡◌, ℕ, ◌+◌, ◌<◌, ◌≤◌, List, [], ◌∷◌, ◌++◌, length, take, get_or, map, refl, sym, ap, ◌∙◌, append_assoc, arith, codes}
+use Rattle.std.proofs.Common.{◌≡◌, ℕ, ◌+◌, ◌<◌, List, [], ◌∷◌, ◌++◌, length, take, get_or, refl, sym, ap, ◌∙◌, append_assoc, codes}
 use Rattle.std.specs.Str.{chars}
 use Rattle.cedar_data.proofs.Ascii.{chars-from_test}
 use Rattle.std.proofs.lemmas.List.{take_more, map-append}

@@ -1,12 +1,12 @@
 -- Pieces that make a name.
-use Rattle.std.proofs.Common.{◌≡◌, ◌≢◌, ℕ, ◌+◌, ◌<◌, ◌≤◌, Bool, true, false, cond, List, [], ◌∷◌, ◌++◌, length, take, drop, Option, Some, None, refl, sym, ap, ◌∙◌, subst, arith, codes, length-drop, append-nil}
+use Rattle.std.proofs.Common.{◌≡◌, ℕ, ◌+◌, ◌≤◌, Bool, true, false, List, [], ◌∷◌, ◌++◌, length, take, Option, Some, None, refl, sym, ap, ◌∙◌, subst, arith, codes, length-drop, append-nil}
 use Rattle.std.specs.List.{All}
 use Rattle.std.specs.Option.{option_and_then}
-use Rattle.std.specs.Str.{chars, bytes_eq, IsUtf8}
+use Rattle.std.specs.Str.{chars, IsUtf8}
 use Rattle.std.proofs.lemmas.Str.{IsUtf8-drop}
 use Rattle.std.proofs.lemmas.List.Elements.{All-nil, All-cons, All-head}
 use Rattle.cedar_data.specs.Words.{is_word}
-use Rattle.cedar_identifiers.specs.NamePieces.{blank_len, piece_len, Begins, here, blank, piece, NothingStands}
+use Rattle.cedar_identifiers.specs.NamePieces.{blank_len, piece_len, Begins, here, blank, piece}
 use Rattle.cedar_identifiers.specs.NameReading.{is_single, due_next, due_behind, separated, HasWords, NameFaultOf}
 use Rattle.cedar_identifiers.specs.Fronts.{StopsAt}
 use Rattle.cedar_identifiers.specs.declared.name_kind.NameKind.{NameKind}

@@ -1,11 +1,10 @@
 -- A text reads one way.
-use Rattle.std.proofs.Common.{◌≡◌, ◌≢◌, ℕ, Bool, true, false, cond, List, [], ◌∷◌, ◌++◌, Option, Some, None, find, codes, refl, sym, ap, ◌∙◌, subst, append-nil, append_assoc}
+use Rattle.std.proofs.Common.{◌≡◌, ◌≢◌, ℕ, Bool, true, false, List, [], ◌∷◌, ◌++◌, Option, Some, None, find, codes, refl, sym, ap, ◌∙◌, subst, append-nil, append_assoc}
 use Rattle.std.specs.List.{All}
 use Rattle.std.specs.Option.{option_and_then}
 use Rattle.std.proofs.lemmas.List.Elements.{All-head, All-tail}
 use Rattle.cedar_data.specs.Rows.{joined_by}
-use Rattle.cedar_identifiers.specs.NamePieces.{Begins, NothingStands}
-use Rattle.cedar_identifiers.specs.NameReading.{is_single, refuses, due_next, due_behind, separated, HasWords, ReadsAs, NameFaultOf}
+use Rattle.cedar_identifiers.specs.NameReading.{is_single, refuses, due_next, due_behind, separated, HasWords, NameFaultOf}
 use Rattle.cedar_identifiers.specs.OneReading.{OneName, NoFault, OneFault}
 use Rattle.cedar_identifiers.specs.declared.name_kind.NameKind.{NameKind}
 use Rattle.cedar_identifiers.specs.declared.name_fault.NameFault.{NameFault}

@@ -1,5 +1,5 @@
 -- What stands at the front of a text, and why reading stops there.
-use Rattle.std.specs.Prelude.{◌≡◌, ℕ, Bool, true, List, [], ◌∷◌, ◌++◌, Some, None, find, map}
+use Rattle.std.specs.Prelude.{◌≡◌, ℕ, Bool, true, List, [], ◌∷◌, Some, None, find, map}
 use Rattle.cedar_identifiers.specs.NameReading.{due_next, refuses, HasWords}
 use Rattle.cedar_identifiers.specs.declared.any_id.AnyId.{AnyId}
 use Rattle.cedar_identifiers.specs.declared.name_kind.NameKind.{NameKind}

@@ -1,11 +1,11 @@
 -- A name's text tells its components, since no component has a colon.
-use Rattle.std.specs.Prelude.{◌≡◌, ℕ, Bool, true, false, not, ◌&&◌, ◌==◌, List, [], ◌∷◌, ◌++◌, map, codes, refl}
+use Rattle.std.specs.Prelude.{◌≡◌, ℕ, Bool, true, false, not, ◌&&◌, ◌==◌, List, [], ◌∷◌, ◌++◌, codes, refl}
 use Rattle.std.specs.List.{list_all}
-use Rattle.std.proofs.Common.{arith, ap, sym, ◌∙◌}
+use Rattle.std.proofs.Common.{arith, ap, sym}
 use Rattle.std.proofs.lemmas.Bool.Decides.{nat_tests}
 use Rattle.cedar_data.specs.Rows.{joined_by}
-use Rattle.cedar_identifiers.specs.Words.{is_reserved, is_id}
-use Rattle.cedar_data.specs.Words.{is_word_start, is_word_part, is_word}
+use Rattle.cedar_identifiers.specs.Words.{is_reserved}
+use Rattle.cedar_data.specs.Words.{is_word_part, is_word}
 use Rattle.cedar_identifiers.specs.Names.{texts_of, components_of}
 use Rattle.cedar_identifiers.specs.declared.id.Id.{Id}
 use Rattle.cedar_identifiers.specs.declared.internal_name.InternalName.{InternalName}

@@ -1,5 +1,5 @@
 -- Words with the same text are the same, and so are names with the same components and place.
-use Rattle.std.specs.Prelude.{◌≡◌, Bool, true, false}
+use Rattle.std.specs.Prelude.{◌≡◌, true, false}
 use Rattle.std.proofs.Math.Bool.{Bool-set}
 use Rattle.std.proofs.Common.{subst}
 use Rattle.cedar_data.specs.declared.text.Text.{Text}

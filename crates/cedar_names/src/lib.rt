@@ -15,8 +15,8 @@ pub use cedar_data::{
     Severity, Text, lawful,
 };
 pub use cedar_identifiers::{
-    Annotations, AnyId, ConditionalName, Eid, Id, InternalName, Name, NameFault, NameKind, NameText,
-    RawName, ReferenceType, UnreservedId,
+    Annotations, AnyId, ConditionalName, Eid, Id, InternalName, Name, NameFault, NameKind,
+    NameText, RawName, ReferenceType, UnreservedId,
 };
 pub use cedar_io::{Failed, MemorySink, MemorySource, NullSink, Sink, Source, SteadySource};
 pub use entity_uid::EntityUID;

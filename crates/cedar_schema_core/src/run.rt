@@ -10,9 +10,7 @@ ghost use Rattle.cedar_io.specs.Input.{TookAtMost, max_input};
 ghost use Rattle.cedar_schema_core.specs.Run.{device, IsReported, IsDelivered, IsRun, Recovers, NoFault};
 ghost use Rattle.cedar_schema_core.specs.Replies.{report_of};
 
-
 use crate::laws::{meaning_survives, one_plan};
-
 use crate::recover::{RecoverError, recover_schema};
 use crate::reply::Reply;
 use crate::status::Status;

@@ -6,8 +6,7 @@ use crate::close_fault::CloseFault;
 use crate::parents::parent_ranks;
 use crate::ranks::ranked;
 use crate::reach::entries_of;
-use plain_syntax::ThinEntry;
-use plain_syntax::ThinDecl;
+use plain_syntax::{ThinDecl, ThinEntry};
 use std::alloc::Global;
 
 /// What the declarations mean: entries by name, the ancestors of each in rising order.

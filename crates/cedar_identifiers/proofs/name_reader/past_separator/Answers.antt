@@ -1,4 +1,4 @@
-use Rattle.std.proofs.Common.{false, ◌∙◌}
+use Rattle.std.proofs.Common.{false}
 use Rattle.cedar_identifiers.specs.NameReading.{is_single}
 use Rattle.cedar_identifiers.proofs.Reading.{token_stops}
 use Rattle.cedar_identifiers.proofs.name_reader.past_separator.Goals as goal

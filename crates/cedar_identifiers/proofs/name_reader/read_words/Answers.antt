@@ -2,7 +2,6 @@ use Rattle.std.proofs.Common.{◌≡◌, ℕ, true, false, List, [], ◌∷◌, 
 use Rattle.std.proofs.lemmas.List.{map-append}
 use Rattle.std.proofs.lemmas.Result.{err_from_is_err_and}
 use Rattle.cedar_identifiers.specs.NamePieces.{here}
-use Rattle.cedar_identifiers.specs.NameReading.{separated}
 use Rattle.cedar_identifiers.specs.Fronts.{word_texts}
 use Rattle.cedar_identifiers.proofs.Reading.{stops_behind, due_separator, begins_shorter, begins_utf8, IsRead, read_more, has_words}
 use Rattle.cedar_identifiers.proofs.name_reader.read_words.Goals as goal

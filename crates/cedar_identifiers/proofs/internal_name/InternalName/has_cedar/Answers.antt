@@ -1,6 +1,5 @@
-use Rattle.std.proofs.Common.{◌≡◌, false, sym, ap, ◌∙◌, codes}
+use Rattle.std.proofs.Common.{◌≡◌, false, sym, ap, ◌∙◌}
 use Rattle.std.specs.List.{list_any}
-use Rattle.std.specs.Str.{bytes_eq}
 use Rattle.cedar_identifiers.specs.Words.{is_cedar}
 use Rattle.cedar_identifiers.proofs.Components.{none_first}
 use Rattle.cedar_identifiers.proofs.internal_name.InternalName.has_cedar.Goals as goal
