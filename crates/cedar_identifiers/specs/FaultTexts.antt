@@ -3,6 +3,7 @@ use Rattle.std.specs.Prelude.{ℕ, List, ◌++◌, codes}
 use Rattle.cedar_identifiers.specs.declared.name_fault.NameFault.{NameFault}
 use Rattle.cedar_identifiers.specs.declared.name_fault.NameFault.TheVariants.{End, Token, Invalid, NotNormalized, Reserved, Memory}
 
+-- what a fault of a name says
 abbrev pub name_fault_text : NameFault → List ℕ
 name_fault_text End = codes "unexpected end of input"
 name_fault_text (Token t) = codes "unexpected token `" ++ (t ++ codes "`")

@@ -59,5 +59,6 @@ told_by i j (x ∷ xs) (y ∷ ys) e =
     let below = told_by x y xs ys rest in
     cc
 
+-- names with one text have the same components
 pub told : (a b : InternalName) → joined_by (codes "::") (components_of a) ≡ joined_by (codes "::") (components_of b) → components_of a ≡ components_of b
 told a b = told_by a.first b.first a.others b.others

@@ -6,6 +6,7 @@ use Rattle.cedar_identifiers.specs.Words.{is_cedar}
 use Rattle.cedar_identifiers.specs.declared.id.Id.{Id}
 use Rattle.cedar_identifiers.specs.declared.internal_name.InternalName.{InternalName}
 
+-- the texts of the words
 abbrev pub texts_of : List Id → List (List ℕ)
 texts_of ids = map (λ i. i.text) ids
 

@@ -22,6 +22,7 @@ nested_records = record {
   actions = [];
 }
 
+-- its canonical text
 abbrev pub nested_records_text : List ℕ
 nested_records_text = codes "namespace N {\n  entity Album in [N::Album, User] = {\n    owner: User,\n    x: {    },\n    \"zip code\"?: Set<__cedar::String>,\n  };\n}\n"
 
@@ -32,6 +33,7 @@ record_tags = record {
   actions = [];
 }
 
+-- its canonical text
 abbrev pub record_tags_text : List ℕ
 record_tags_text = codes "namespace N {\n  entity A tags {\n  k: __cedar::Long,\n};\n}\n"
 
@@ -44,6 +46,7 @@ actions_last = record {
       ∷ record { ty = codes "Action" ∷ []; id = codes "w"; is_external = true; ancestors = []; principals = []; resources = []; context = no_more } ∷ record { ty = codes "Action" ∷ []; id = codes "x"; is_external = false; ancestors = []; principals = user ∷ []; resources = user ∷ []; context = no_more } ∷ [];
 }
 
+-- its canonical text
 abbrev pub actions_last_text : List ℕ
 actions_last_text = codes
     "entity E enum [\"a\\'\", \"\\u{7f}\"];\n\nexternal entity User;\n\naction \"v\" in [Action::\"w\"] appliesTo {\n  principal: [User],\n  resource: [User],\n  context: {\n    \"in\": __cedar::ipaddr,\n  },\n};\n\nexternal action \"w\";\n\naction \"x\" appliesTo {\n  principal: [User],\n  resource: [User],\n  context: {},\n};\n"
@@ -67,6 +70,7 @@ external_with_more = record {
   actions = [];
 }
 
+-- its canonical text
 abbrev pub external_with_more_text : List ℕ
 external_with_more_text = codes "external entity A in [User];\n"
 
@@ -83,6 +87,7 @@ enum_with_more = record {
   actions = [];
 }
 
+-- its canonical text
 abbrev pub enum_with_more_text : List ℕ
 enum_with_more_text = codes "entity A enum [\"a\"];\n"
 
@@ -94,5 +99,6 @@ three_namespaces = record {
   actions = [];
 }
 
+-- its canonical text
 abbrev pub three_namespaces_text : List ℕ
 three_namespaces_text = codes "entity Z;\n\nnamespace B {\n  entity Y;\n}\n\nnamespace B::A {\n  entity X;\n}\n"

@@ -31,5 +31,6 @@ pub record IsFirstFault (names : List (List ℕ)) (fault : TableError) : Type 0 
   pub lawful_before : (k : ℕ) → k < at → fault_at names k ≡ None
   pub here : fault_at names at ≡ Some fault
 
+-- the fault is that of the first name that is unlawful, or memory was wanted
 abbrev pub IsTableFault : List (List ℕ) → TableError → Type 0
 IsTableFault names fault = fault ≢ Memory → IsFirstFault names fault

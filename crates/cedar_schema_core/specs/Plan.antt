@@ -17,6 +17,7 @@ pub record Report : Type 0 where
 abbrev pub usage_report : Report
 usage_report = record { status = Usage; out = []; err = codes "usage: cedar_schema_tool COMMAND [NAME..]\n" }
 
+-- the report where a read failed
 abbrev pub read_fault_report : Report
 read_fault_report = record { status = ReadFault; out = []; err = codes "error: reading failed\n" }
 

@@ -69,5 +69,6 @@ pub record TextMeaning (text : List ℕ) (entries : List ThinEntry) : Type 0 whe
   pub all_declared : AllDeclared decls
   pub meaning : IsMeaning decls entries
 
+-- the text has a meaning
 abbrev pub IsValid : List ℕ → Type 0
 IsValid text = (entries : List ThinEntry) × TextMeaning text entries

@@ -10,5 +10,6 @@ keyword_names = codes "Bool" ∷ codes "Boolean" ∷ codes "Entity" ∷ codes "E
 abbrev pub is_keyword_name : List ℕ → Bool
 is_keyword_name w = list_any (λ k. bytes_eq w k) keyword_names
 
+-- what is said of a common type that has such a name
 abbrev pub reserved_text : List ℕ → List ℕ
 reserved_text w = codes "this is reserved and cannot be the basename of a common-type declaration: " ++ w

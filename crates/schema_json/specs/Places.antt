@@ -30,41 +30,53 @@ module _ {N : Type 0} where
   placeless (Type-F.Variant ty loc) = roll-Type N (Type-F.Variant ty None)
   placeless (Type-F.CommonTypeRef name loc) = roll-Type N (Type-F.CommonTypeRef name None)
 
+  -- a type with every place erased
   abbrev pub erased_type : «Type» N → «Type» N
   erased_type = fold-Type N («Type» N) (TypeVariant N) (RecordType N) (TypeOfAttribute N) placeless (roll-TypeVariant N) (roll-RecordType N) (roll-TypeOfAttribute N)
 
+  -- what a type is made of, with every place erased
   abbrev pub erased_variant : TypeVariant N → TypeVariant N
   erased_variant = fold-TypeVariant N («Type» N) (TypeVariant N) (RecordType N) (TypeOfAttribute N) placeless (roll-TypeVariant N) (roll-RecordType N) (roll-TypeOfAttribute N)
 
+  -- a record with every place erased
   abbrev pub erased_record : RecordType N → RecordType N
   erased_record = fold-RecordType N («Type» N) (TypeVariant N) (RecordType N) (TypeOfAttribute N) placeless (roll-TypeVariant N) (roll-RecordType N) (roll-TypeOfAttribute N)
 
+  -- an attribute with every place erased
   abbrev pub erased_attribute : TypeOfAttribute N → TypeOfAttribute N
   erased_attribute = fold-TypeOfAttribute N («Type» N) (TypeVariant N) (RecordType N) (TypeOfAttribute N) placeless (roll-TypeVariant N) (roll-RecordType N) (roll-TypeOfAttribute N)
 
+  -- a common type with every place erased
   abbrev pub erased_common_type : CommonType N → CommonType N
   erased_common_type c = record { ty = erased_type c.ty; annotations = c.annotations; loc = None }
 
+  -- a shape or a context with every place erased
   abbrev pub erased_shape : AttributesOrContext N → AttributesOrContext N
   erased_shape s = record { 0 = erased_type s.0 }
 
+  -- a standard entity type with every place erased
   abbrev pub erased_standard : StandardEntityType N → StandardEntityType N
   erased_standard s = record { member_of_types = s.member_of_types; shape = erased_shape s.shape; tags = option_map erased_type s.tags }
 
+  -- what kind of entity type it is, with every place erased
   abbrev pub erased_kind : EntityTypeKind N → EntityTypeKind N
   erased_kind (Standard s) = Standard (erased_standard s)
   erased_kind (Enum choices) = Enum choices
 
+  -- an entity type with every place erased
   abbrev pub erased_entity_type : EntityType N → EntityType N
   erased_entity_type e = record { kind = erased_kind e.kind; external = e.external; annotations = e.annotations; loc = None }
 
+  -- what an action applies to, with every place erased
   abbrev pub erased_applies_to : ApplySpec N → ApplySpec N
   erased_applies_to a = record { resource_types = a.resource_types; principal_types = a.principal_types; context = erased_shape a.context }
 
   module _ {G : named.Ghosts N} where
+    -- an action with every place erased
     abbrev pub erased_action_type : ActionType N G → ActionType N G
     erased_action_type a = record { attributes = a.attributes; applies_to = option_map erased_applies_to a.applies_to; member_of = a.member_of; external = a.external; annotations = a.annotations; loc = None }
 
+    -- a namespace with every place erased
     abbrev pub erased_namespace : NamespaceDefinition N G → NamespaceDefinition N G
     erased_namespace n = record {
       common_types = erased_entries {K = CommonTypeId} erased_common_type n.common_types;
@@ -73,5 +85,6 @@ module _ {N : Type 0} where
       annotations = n.annotations;
     }
 
+    -- a fragment with every place erased
     abbrev pub erased_fragment : Fragment N G → Fragment N G
     erased_fragment f = record { 0 = erased_entries {K = Option Name} erased_namespace f.0 }

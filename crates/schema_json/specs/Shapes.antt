@@ -22,6 +22,7 @@ module _ {N : Type 0} where
   has_none [] = true
   has_none (e ∷ es) = false
 
+  -- a closed record without attributes
   abbrev pub is_empty_record : RecordType N → Bool
   is_empty_record r = has_none (attributes_of r) && not (is_open r)
 

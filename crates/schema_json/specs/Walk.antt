@@ -71,6 +71,7 @@ module _ {N : Type 0} where
   abbrev pub is_extension : «Type» N → Option Bool
   is_extension = fold-Type N (Option Bool) (Option Bool) (Option Bool) (Option Bool) type_answer variant_answer record_answer attribute_answer
 
+  -- whether what a type is made of is an extension type, where that can be told
   abbrev pub is_extension_variant : TypeVariant N → Option Bool
   is_extension_variant = fold-TypeVariant N (Option Bool) (Option Bool) (Option Bool) (Option Bool) type_answer variant_answer record_answer attribute_answer
 

@@ -46,6 +46,7 @@ abbrev pub token_help : ℕ → List ℕ → List TokenKind → List ℕ → Opt
 token_help start token expected source =
     if misses_applies_to token expected then Some missing_applies_to else if ends_namespace start token expected source then Some trailing_namespace_semicolon else None
 
+-- the advice that an error of parsing gives for a source, if it gives any
 abbrev pub parse_error_help : ParseError → List ℕ → Option (List ℕ)
 parse_error_help (InvalidToken location) source = None
 parse_error_help (UnrecognizedEof location expected) source = None
@@ -58,6 +59,7 @@ abbrev pub first_error_help : List ParseError → List ℕ → Option (List ℕ)
 first_error_help [] source = None
 first_error_help (first ∷ others) source = parse_error_help first source
 
+-- the advice of the first of the errors
 abbrev pub parse_schema_error_help : ParseSchemaError → List ℕ → Option (List ℕ)
 parse_schema_error_help (schema.Errors faults) source = first_error_help faults.errors source
 parse_schema_error_help schema.Memory source = None

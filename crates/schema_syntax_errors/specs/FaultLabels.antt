@@ -26,12 +26,14 @@ unnamed_label (Some span) = record { span = span; text = None } ∷ []
 abbrev pub expected_label : Span → List TokenKind → List Label
 expected_label span expected = record { span = span; text = Some (expected_text_of expected) } ∷ []
 
+-- the places that a user fault points to, with what it says there
 abbrev pub user_error_labels : UserError → List Label
 user_error_labels (EmptyList place) = unnamed_label place.loc
 user_error_labels (StringEscape faults) = unnamed_label faults.loc
 user_error_labels (ReservedIdentifierUsed word) = unnamed_label word.loc
 user_error_labels (DuplicateAnnotations key first second) = unnamed_label first.loc ++ unnamed_label second.loc
 
+-- the places that an error of parsing points to, with what it says there
 abbrev pub parse_error_labels : ParseError → List Label
 parse_error_labels (InvalidToken location) = unnamed_label (Some (place location location))
 parse_error_labels (UnrecognizedEof location expected) = expected_label (place location location) expected
@@ -44,10 +46,12 @@ abbrev pub first_error_labels : List ParseError → List Label
 first_error_labels [] = []
 first_error_labels (first ∷ others) = parse_error_labels first
 
+-- the places of the first of the errors
 abbrev pub parse_schema_error_labels : ParseSchemaError → List Label
 parse_schema_error_labels (schema.Errors faults) = first_error_labels faults.errors
 parse_schema_error_labels schema.Memory = []
 
+-- the places of both keys
 abbrev pub annotation_error_labels : AnnotationError → List Label
 annotation_error_labels (annotation.User fault) = user_error_labels fault
 annotation_error_labels annotation.Memory = []

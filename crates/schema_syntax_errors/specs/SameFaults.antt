@@ -120,8 +120,10 @@ user_errors_themselves (ReservedIdentifierUsed a) = and_from (texts_agree a.node
 user_errors_themselves (DuplicateAnnotations a first second) =
     and_from (texts_agree a.text a.text) (places_agree first.loc first.loc && places_agree second.loc second.loc) (texts_themselves a.text) (and_from (places_agree first.loc first.loc) (places_agree second.loc second.loc) (places_themselves first.loc) (places_themselves second.loc))
 
+-- equality of user faults is an equivalence
 pub user_errors_equiv : IsEquivalence user_errors_agree
 user_errors_equiv = tells_equiv user_errors_sound user_errors_themselves
 
+-- equality of user faults is symmetric and transitive
 pub user_errors_per : IsPartialEquivalence user_errors_agree
 user_errors_per = partial_equiv_from_equiv user_errors_equiv

@@ -28,6 +28,7 @@ abbrev pub laid : List Piece → List ℕ
 laid [] = []
 laid (p ∷ ps) = piece_text p ++ laid ps
 
+-- the lexemes among the pieces
 abbrev pub lexemes_of : List Piece → List Lexeme
 lexemes_of [] = []
 lexemes_of (gap bytes ∷ ps) = lexemes_of ps
