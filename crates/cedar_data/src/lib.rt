@@ -21,7 +21,7 @@ pub mod words;
 pub use boxed::Boxed;
 pub use clone_in::CloneIn;
 pub use label::Label;
-pub use laws::lawful;
+pub use laws::{lawful, nodes_are_equal_by_value};
 pub use list::List;
 pub use loc::Loc;
 pub use map::Map;

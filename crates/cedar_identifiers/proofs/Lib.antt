@@ -8,3 +8,4 @@ mod Ordered
 mod Pieces
 mod Reading
 mod Unique
+pub mod Same

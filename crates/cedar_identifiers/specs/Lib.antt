@@ -6,5 +6,4 @@ pub mod NameReading
 pub mod NameTexts
 pub mod Names
 pub mod OneReading
-pub mod Same
 pub mod Words

@@ -26,14 +26,14 @@ pub fn any_ids_go_by_text(a: &AnyId, b: &AnyId)
     ensures same { a.now.text ≡ b.now.text → a.now ≡ b.now }
 {}
 
-/// The same of words that may stand in names.
+/// Words that may stand in names are ordered by bytes, and those with one text are the same.
 pub fn ids_go_by_text(a: &Id, b: &Id)
     ensures order { ⟦<Id as Ord>⟧.cmp a.now b.now ≡ text_cmp a.now.text b.now.text }
     ensures equal { ⟦<Id as PartialEq>⟧.eq a.now b.now ≡ true ↔ a.now ≡ b.now }
     ensures same { a.now.text ≡ b.now.text → a.now ≡ b.now }
 {}
 
-/// The same of words that may stand in declared names.
+/// Words that may stand in declared names are ordered by bytes, and those with one text are the same.
 pub fn unreserved_ids_go_by_text(a: &UnreservedId, b: &UnreservedId)
     ensures order { ⟦<UnreservedId as Ord>⟧.cmp a.now b.now ≡ text_cmp a.now.id.text b.now.id.text }
     ensures equal { ⟦<UnreservedId as PartialEq>⟧.eq a.now b.now ≡ true ↔ a.now ≡ b.now }
@@ -46,13 +46,13 @@ pub fn names_go_by_components(a: &InternalName, b: &InternalName)
     ensures equal { ⟦<InternalName as PartialEq>⟧.eq a.now b.now ≡ true ↔ (components_of a.now ≡ components_of b.now) }
 {}
 
-/// The same of names without `__cedar`.
+/// Names without `__cedar` are ordered by their components, the outermost first and each by bytes; their places are not seen.
 pub fn declared_names_go_by_components(a: &Name, b: &Name)
     ensures order { ⟦<Name as Ord>⟧.cmp a.now b.now ≡ slice_cmp text_cmp (components_of a.now.name) (components_of b.now.name) }
     ensures equal { ⟦<Name as PartialEq>⟧.eq a.now b.now ≡ true ↔ (components_of a.now.name ≡ components_of b.now.name) }
 {}
 
-/// The same of names as written.
+/// Names as written are ordered by their components, the outermost first and each by bytes; their places are not seen.
 pub fn raw_names_go_by_components(a: &RawName, b: &RawName)
     ensures order { ⟦<RawName as Ord>⟧.cmp a.now b.now ≡ slice_cmp text_cmp (components_of a.now.name) (components_of b.now.name) }
     ensures equal { ⟦<RawName as PartialEq>⟧.eq a.now b.now ≡ true ↔ (components_of a.now.name ≡ components_of b.now.name) }

@@ -2,7 +2,7 @@
 use Rattle.std.proofs.Common.{◌≡◌, Bool, true, false, Option, Some, None, refl, ap, ◌∙◌}
 use Rattle.std.specs.Option.{MatchOption}
 use Rattle.cedar_identifiers.specs.Names.{components_of, has_cedar}
-use Rattle.cedar_identifiers.specs.Same.{name_same, unreserved_id_is}
+use Rattle.cedar_identifiers.proofs.Same.{name_same, unreserved_id_is}
 use Rattle.cedar_identifiers.specs.Words.{is_cedar}
 use Rattle.cedar_identifiers.specs.declared.id.Id.{Id}
 use Rattle.cedar_identifiers.specs.declared.internal_name.InternalName.{InternalName}

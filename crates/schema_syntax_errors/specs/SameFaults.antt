@@ -9,7 +9,7 @@ use Rattle.std.proofs.lemmas.Bool.{and_from, eqb-true}
 use Rattle.std.proofs.lemmas.Slice.Eq.{bytes_eq-Decides}
 use Rattle.std.proofs.lemmas.Str.{cons_from_encodes}
 use Rattle.cedar_data.specs.Span.{Span}
-use Rattle.cedar_identifiers.specs.Same.{any_id_same}
+use Rattle.cedar_identifiers.proofs.Same.{any_id_same}
 use Rattle.schema_syntax_errors.specs.declared.unescape_error.UnescapeError.{UnescapeError}
 use Rattle.schema_syntax_errors.specs.declared.user_error.UserError.{UserError}
 use Rattle.schema_syntax_errors.specs.declared.user_error.UserError.TheVariants.{EmptyList, StringEscape, ReservedIdentifierUsed, DuplicateAnnotations}

@@ -20,7 +20,7 @@ use Rattle.std.proofs.lemmas.Slice.Eq.{bytes_eq-Decides}
 use Rattle.std.proofs.lemmas.Str.{encodes-IsAscii}
 use Rattle.cedar_data.specs.Text.{text_cmp}
 use Rattle.cedar_identifiers.specs.declared.any_id.AnyId.{AnyId}
-use Rattle.cedar_identifiers.specs.Same.{any_id_same}
+use Rattle.cedar_identifiers.proofs.Same.{any_id_same}
 use Rattle.schema_syntax_errors.specs.declared.user_error.UserError.TheVariants.{DuplicateAnnotations}
 use Rattle.schema_syntax_reader.specs.declared.annotations.Kept.{Kept}
 use Rattle.schema_syntax_reader.specs.Deduplicated.{Placed, placed_key, key_place, HaveOtherKeys, IsTwice}

@@ -1,5 +1,5 @@
 use Rattle.std.proofs.Common.{ap}
-use Rattle.cedar_identifiers.specs.Same.{any_id_same}
+use Rattle.cedar_identifiers.proofs.Same.{any_id_same}
 use Rattle.cedar_identifiers.proofs.Ordered.{same_words}
 use Rattle.cedar_identifiers.proofs.name_laws.any_ids_go_by_text.Goals as goal
 

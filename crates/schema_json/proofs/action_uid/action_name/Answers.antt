@@ -1,6 +1,6 @@
 use Rattle.std.proofs.Common.{refl, ap, ◌∙◌, codes, None}
 use Rattle.cedar_identifiers.specs.Words.{is_id}
-use Rattle.cedar_identifiers.specs.Same.{id_same}
+use Rattle.cedar_identifiers.proofs.Same.{id_same}
 use Rattle.schema_json.specs.Actions.{action_name}
 use Rattle.cedar_data.proofs.Ascii.{chars-from_test}
 use Rattle.schema_json.proofs.action_uid.action_name.Goals as goal

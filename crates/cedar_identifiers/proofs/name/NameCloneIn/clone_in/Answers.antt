@@ -1,4 +1,4 @@
-use Rattle.cedar_identifiers.specs.Same.{name_same}
+use Rattle.cedar_identifiers.proofs.Same.{name_same}
 use Rattle.cedar_identifiers.proofs.name.NameCloneIn.clone_in.Goals as goal
 
 pub returns : goal.returns

@@ -1,4 +1,4 @@
-use Rattle.cedar_identifiers.specs.Same.{unreserved_id_is}
+use Rattle.cedar_identifiers.proofs.Same.{unreserved_id_is}
 use Rattle.cedar_identifiers.proofs.unreserved_id.UnreservedIdCloneIn.clone_in.Goals as goal
 
 pub returns : goal.returns
