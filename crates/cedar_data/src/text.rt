@@ -6,7 +6,7 @@ ghost use Rattle.std.specs.Cmp.{partial_order_from_own_ties};
 ghost use Rattle.std.specs.Cmp.Rules.{comparing, hashing};
 ghost use Rattle.std.specs.Cmp.Lexicographic.{pointwise};
 ghost use Rattle.std.specs.Ordering.{on, as_partial_cmp};
-ghost use Rattle.cedar_data.specs.Text.{text_cmp};
+ghost use Rattle.cedar_data.specs.Text.{text_cmp, IsTextFront};
 ghost use Rattle.std.proofs.Common.{rules};
 
 use crate::clone_in::CloneIn;
@@ -81,6 +81,14 @@ impl Text {
         ensures err { OnErr result (self.new ≡ self.old) }
     {
         self.push_str(more.as_str())
+    }
+
+    /// Takes off all but the characters that the text begins with and that are so many bytes long in UTF-8.
+    pub fn truncate(&mut self, len: usize)
+        requires { (front : List ℕ) × IsTextFront self.old len front }
+        ensures { (front : List ℕ) → IsTextFront self.old len front → self.new ≡ front }
+    {
+        self.text.truncate(len);
     }
 }
 

@@ -9,7 +9,8 @@ use Rattle.schema_syntax_tokens.specs.declared.token.Token.{Token}
 use Rattle.schema_syntax_tokens.specs.Scans.{Scans}
 use Rattle.schema_syntax.specs.declared.syntax_fault.SyntaxFault.{SyntaxFault}
 use Rattle.schema_syntax.specs.declared.syntax_fault.SyntaxFault.TheVariants.{InvalidToken}
-use Rattle.schema_syntax.specs.SyntaxFaults.{kinds_of, IsSyntaxFault, unrecognized_token, invalid_token, unrecognized_eof, IsTokenAt, IsEndOf}
+use Rattle.schema_syntax.specs.SyntaxFaults.{IsSyntaxFault, unrecognized_token, invalid_token, unrecognized_eof, IsTokenAt, IsEndOf}
+use Rattle.schema_syntax_tokens.specs.TokenLists.{kinds_of}
 
 -- there are as many kinds as tokens
 pub kinds_long : (tokens : List Token) → length (kinds_of tokens) ≡ length tokens

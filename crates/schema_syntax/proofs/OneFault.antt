@@ -12,7 +12,8 @@ use Rattle.schema_syntax_tokens.specs.declared.token.Token.{Token}
 use Rattle.schema_syntax_tokens.specs.Scans.{Scans}
 use Rattle.schema_syntax.specs.declared.syntax_fault.SyntaxFault.{SyntaxFault}
 use Rattle.schema_syntax.specs.declared.syntax_fault.SyntaxFault.TheVariants.{InvalidToken, UnrecognizedToken, UnrecognizedEof}
-use Rattle.schema_syntax.specs.SyntaxFaults.{kinds_of, IsSyntaxFault, unrecognized_token, invalid_token, unrecognized_eof, IsSentence}
+use Rattle.schema_syntax.specs.SyntaxFaults.{IsSyntaxFault, unrecognized_token, invalid_token, unrecognized_eof, IsSentence}
+use Rattle.schema_syntax_tokens.specs.TokenLists.{kinds_of}
 use Rattle.schema_syntax.proofs.Found.{kinds_long}
 
 abbrev OneScan : Type 0

@@ -3,7 +3,7 @@ use Rattle.std.specs.Prelude.{◌≡◌, ℕ, List, [], ◌∷◌, length}
 use Rattle.schema_syntax_grammar.specs.Grammar.{Sentence}
 use Rattle.schema_syntax_tokens.specs.declared.token.Token.{Token}
 use Rattle.schema_syntax_tokens.specs.Scans.{Scans}
-use Rattle.schema_syntax_parser.specs.Syntax.{kinds_of}
+use Rattle.schema_syntax_tokens.specs.TokenLists.{kinds_of}
 use Rattle.schema_syntax.specs.declared.syntax_fault.SyntaxFault.{SyntaxFault}
 use Rattle.schema_syntax.specs.declared.syntax_fault.SyntaxFault.TheVariants as fault
 use Rattle.schema_syntax.specs.SyntaxFaults.{IsSyntaxFault}

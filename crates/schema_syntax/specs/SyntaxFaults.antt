@@ -7,14 +7,11 @@ use Rattle.schema_syntax_grammar.specs.Grammar.{Sentence, Viable}
 use Rattle.schema_syntax_grammar.specs.Fault.{IsFault}
 use Rattle.schema_syntax_tokens.specs.declared.token.Token.{Token}
 use Rattle.schema_syntax_tokens.specs.Scans.{Scans}
+use Rattle.schema_syntax_tokens.specs.TokenLists.{kinds_of}
 use Rattle.schema_syntax.specs.declared.syntax_fault.SyntaxFault.{SyntaxFault}
 use Rattle.schema_syntax.specs.declared.syntax_fault.Refused.{Refused}
 use Rattle.schema_syntax.specs.declared.syntax_fault.Refused.TheVariants.{Fault, Memory}
 use Rattle.schema_syntax.specs.declared.syntax_fault.SyntaxFault.TheVariants.{InvalidToken, UnrecognizedToken, UnrecognizedEof}
-
--- the kinds of the tokens
-abbrev pub kinds_of : List Token → List TokenKind
-kinds_of tokens = map (λ t. t.kind) tokens
 
 -- The fault of the text, one case for each kind of it: a token that no schema has there, a place where no token stands behind
 -- tokens with which some schema begins, or the end of tokens that are no schema yet.
@@ -32,9 +29,9 @@ pub record IsSentence (text : List ℕ) : Type 0 where
   pub sentence : Sentence (kinds_of tokens)
 
 -- what a refusal says of the text
-abbrev pub IsRefused : List ℕ → Refused → Type 0
-IsRefused text (Fault fault) = IsSyntaxFault text fault
-IsRefused text Memory = Unit {0}
+abbrev pub IsSyntaxRefusal : List ℕ → Refused → Type 0
+IsSyntaxRefusal text (Fault fault) = IsSyntaxFault text fault
+IsSyntaxRefusal text Memory = Unit {0}
 
 -- the fault is the token at this place
 abbrev pub IsTokenAt : List ℕ → List Token → ℕ → List TokenKind → SyntaxFault → Type 0

@@ -2,7 +2,8 @@ ghost use Rattle.std.specs.Prelude.{◌≡◌, ◌<◌, ◌≤◌, List, length,
 ghost use Rattle.std.specs.List.{All};
 ghost use Rattle.schema_syntax_grammar.specs.Grammar.{Sentence};
 ghost use Rattle.schema_syntax_tokens.specs.Scans.{Scans, IsPlaced};
-ghost use Rattle.schema_syntax.specs.SyntaxFaults.{kinds_of, IsSyntaxFault, IsSentence, IsRefused, IsTokenAt, IsEndOf};
+ghost use Rattle.schema_syntax.specs.SyntaxFaults.{IsSyntaxFault, IsSentence, IsSyntaxRefusal, IsTokenAt, IsEndOf};
+ghost use Rattle.schema_syntax_tokens.specs.TokenLists.{kinds_of};
 
 use cedar_data::Text;
 use schema_syntax_grammar::{Fault, TokenKind, fault_of};
@@ -63,7 +64,7 @@ fn unrecognized_eof(tokens: &[Token], expected: Vec<TokenKind>) -> SyntaxFault
 pub enum Refused {
     /// The text has this syntax fault.
     Fault(SyntaxFault),
-    /// Memory was wanted.
+    /// Memory ran out.
     Memory,
 }
 
@@ -82,7 +83,7 @@ pub fn sentence_of(alloc: Global, text: &str) -> Result<Vec<Token>, Refused>
     ensures scans { IfOk result (λ tokens. Scans text.now tokens.items (length text.now)) }
     ensures placed { IfOk result (λ tokens. All (IsPlaced text.now) tokens.items) }
     ensures sentence { IfOk result (λ tokens. Sentence (kinds_of tokens.items)) }
-    ensures fault { IfErr result (IsRefused text.now) }
+    ensures fault { IfErr result (IsSyntaxRefusal text.now) }
 {
     let Scanned { tokens, at } = scan(alloc, text)?;
     let kinds = kinds(alloc, &tokens)?;

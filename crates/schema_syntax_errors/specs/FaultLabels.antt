@@ -18,25 +18,25 @@ abbrev pub place : ℕ → ℕ → Span
 place start end = record { start = start; end = max start end }
 
 -- a label without a text, where there is a place
-abbrev pub bare : Option Span → List Label
-bare None = []
-bare (Some span) = record { span = span; text = None } ∷ []
+abbrev pub unnamed_label : Option Span → List Label
+unnamed_label None = []
+unnamed_label (Some span) = record { span = span; text = None } ∷ []
 
 -- a label that says what was expected there
-abbrev pub told : Span → List TokenKind → List Label
-told span expected = record { span = span; text = Some (expected_text_of expected) } ∷ []
+abbrev pub expected_label : Span → List TokenKind → List Label
+expected_label span expected = record { span = span; text = Some (expected_text_of expected) } ∷ []
 
 abbrev pub user_error_labels : UserError → List Label
-user_error_labels (EmptyList place) = bare place.loc
-user_error_labels (StringEscape faults) = bare faults.loc
-user_error_labels (ReservedIdentifierUsed word) = bare word.loc
-user_error_labels (DuplicateAnnotations key first second) = bare first.loc ++ bare second.loc
+user_error_labels (EmptyList place) = unnamed_label place.loc
+user_error_labels (StringEscape faults) = unnamed_label faults.loc
+user_error_labels (ReservedIdentifierUsed word) = unnamed_label word.loc
+user_error_labels (DuplicateAnnotations key first second) = unnamed_label first.loc ++ unnamed_label second.loc
 
 abbrev pub parse_error_labels : ParseError → List Label
-parse_error_labels (InvalidToken location) = bare (Some (place location location))
-parse_error_labels (UnrecognizedEof location expected) = told (place location location) expected
-parse_error_labels (UnrecognizedToken start token end expected) = told (place start end) expected
-parse_error_labels (ExtraToken start token end) = bare (Some (place start end))
+parse_error_labels (InvalidToken location) = unnamed_label (Some (place location location))
+parse_error_labels (UnrecognizedEof location expected) = expected_label (place location location) expected
+parse_error_labels (UnrecognizedToken start token end expected) = expected_label (place start end) expected
+parse_error_labels (ExtraToken start token end) = unnamed_label (Some (place start end))
 parse_error_labels (User fault) = user_error_labels fault
 
 -- where the first of the faults points to

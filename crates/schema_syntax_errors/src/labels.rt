@@ -1,5 +1,5 @@
 ghost use Rattle.std.specs.Prelude.{◌≡◌, ◌++◌, IfOk, OnOk, max};
-ghost use Rattle.schema_syntax_errors.specs.FaultLabels.{bare, told};
+ghost use Rattle.schema_syntax_errors.specs.FaultLabels.{unnamed_label, expected_label};
 
 use crate::expected::expected_text;
 use cedar_data::{Label, Loc};
@@ -15,7 +15,7 @@ pub fn place(start: usize, end: usize) -> Loc
 
 /// A label without a text, where there is a place.
 pub fn bare_label(alloc: Global, place: Option<Loc>) -> Result<Vec<Label>, AllocError>
-    ensures { IfOk result (λ labels. labels.items ≡ bare place) }
+    ensures { IfOk result (λ labels. labels.items ≡ unnamed_label place) }
 {
     let mut labels = Vec::new(alloc);
     push_bare(&mut labels, place)?;
@@ -28,7 +28,7 @@ pub fn bare_labels(
     first: Option<Loc>,
     second: Option<Loc>,
 ) -> Result<Vec<Label>, AllocError>
-    ensures { IfOk result (λ labels. labels.items ≡ bare first ++ bare second) }
+    ensures { IfOk result (λ labels. labels.items ≡ unnamed_label first ++ unnamed_label second) }
 {
     let mut labels = bare_label(alloc, first)?;
     push_bare(&mut labels, second)?;
@@ -37,7 +37,7 @@ pub fn bare_labels(
 
 // Adds the label without a text, where there is a place.
 fn push_bare(labels: &mut Vec<Label>, place: Option<Loc>) -> Result<(), AllocError>
-    ensures { OnOk result (labels.new.items ≡ labels.old.items ++ bare place) }
+    ensures { OnOk result (labels.new.items ≡ labels.old.items ++ unnamed_label place) }
 {
     if let Some(span) = place {
         labels.push(Label { span, text: None })?;
@@ -51,7 +51,7 @@ pub fn expected_label(
     place: Loc,
     expected: &[TokenKind],
 ) -> Result<Vec<Label>, AllocError>
-    ensures { IfOk result (λ labels. labels.items ≡ told place expected.now) }
+    ensures { IfOk result (λ labels. labels.items ≡ expected_label place expected.now) }
 {
     let text = expected_text(alloc, expected)?;
     let mut labels = Vec::new(alloc);

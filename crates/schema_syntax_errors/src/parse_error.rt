@@ -147,7 +147,7 @@ impl CloneIn for ParseError {
     }
 }
 
-// The same kinds again.
+// A copy of the kinds.
 fn copy_of(alloc: Global, kinds: &List<TokenKind>) -> Result<List<TokenKind>, AllocError>
     ensures { IfOk result (λ copy. copy ≡ kinds.now) }
 {

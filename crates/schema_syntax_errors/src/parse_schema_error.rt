@@ -7,7 +7,7 @@ use crate::parse_errors::ParseErrors;
 use cedar_data::{CloneIn, Label, Severity, Text, message};
 use std::alloc::{AllocError, AllocFailed, Global};
 
-/// Why a text was not read as a schema: its faults, or want of memory.
+/// Why a text was not read as a schema: its faults, or that memory ran out.
 #[derive(PartialEq, Eq, Debug, Drop)]
 pub enum ParseSchemaError {
     Errors(ParseErrors),

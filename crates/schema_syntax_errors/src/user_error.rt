@@ -128,7 +128,7 @@ impl CloneIn for UserError {
     }
 }
 
-// The same place again.
+// A copy of the place.
 fn copy_of(place: &Node<()>) -> Node<()>
     ensures { result ≡ place.now }
 {

@@ -29,7 +29,7 @@ same_filters : (p q : TokenKind → Bool) (all : List TokenKind) → ((k : Token
 same_filters p q [] e = refl
 same_filters p q (k ∷ all) e = rw (e k, same_filters p q all e) refl
 
--- the same kinds have one list of expected kinds
+-- kinds have one list of expected kinds
 pub one_list : (kinds first second : List TokenKind) → IsExpected ALL_KINDS kinds first → IsExpected ALL_KINDS kinds second → first ≡ second
 one_list kinds first second (p, f, e) (q, g, h) =
     e ∙ (same_filters p q ALL_KINDS (λ k. same_tests (p k) (q k) (λ t. (g k).1 ((f k).0 t)) (λ t. (f k).1 ((g k).0 t))) ∙ sym h)

@@ -16,9 +16,10 @@ use Rattle.schema_syntax_parser.specs.declared.syntax.AppSyntax.{AppSyntax}
 use Rattle.schema_syntax_parser.specs.declared.syntax.DeclSyntax.{DeclSyntax}
 use Rattle.schema_syntax_parser.specs.declared.syntax.DeclaredSyntax.{DeclaredSyntax}
 use Rattle.schema_syntax_parser.specs.declared.syntax.ItemSyntax.{ItemSyntax}
-use Rattle.schema_syntax_parser.specs.Syntax.{place_of, IsChain, one, more, AreSeparated, AreListed, single, listed, AreMany, IsPath, path, IsRef, plain, typed, AreParents, no_parents, in_parents, AreAnnotations, none, bare, valued, IsMark, no_mark, question, IsType, path_type, set_type, record_type, IsRecord, braces, AreAttrs, no_attr, last_attr, more_attrs, IsAttr, attr, IsShape, no_shape, bare_shape, equals_shape, AreTags, no_tags, some_tags, IsString, string, is_role, IsApp, types, context_path, context_record, Applies, no_applies, some_applies, IsDecl, entity_decl, enum_decl, external_entity, action_decl, external_action, common_decl, IsDeclared, declared, IsItem, namespace, outside, IsSyntax}
+use Rattle.schema_syntax_parser.specs.Syntax.{IsChain, one, more, AreSeparated, AreListed, single, listed, AreMany, IsPath, path, IsRef, plain, typed, AreParents, no_parents, in_parents, AreAnnotations, none, bare, valued, IsMark, no_mark, question, IsType, path_type, set_type, record_type, IsRecord, braces, AreAttrs, no_attr, last_attr, more_attrs, IsAttr, attr, IsShape, no_shape, bare_shape, equals_shape, AreTags, no_tags, some_tags, IsStringToken, string, is_role, IsApp, types, context_path, context_record, Applies, no_applies, some_applies, IsDecl, entity_decl, enum_decl, external_entity, action_decl, external_action, common_decl, IsDeclared, declared, IsItem, namespace, outside, IsSyntax}
+use Rattle.schema_syntax_tokens.specs.TokenLists.{whole_place}
 use Rattle.schema_syntax_parser.specs.Syntax as S
-use Rattle.schema_syntax_parser.specs.Reading.{◌>>=◌, Read, Turn, Done, Last, More, after_turn, many_at, all_at, place_before, link_at, chain_turn, closed_at, separated_turn, path_at, ref_at, types_at, refs_at, listed_at, parents_at, value_at, annotation_turn, annotations_at, mark_at, as_type, set_step, type_step, attr_step, type_at, attrs_at, record_at, shape_at, tags_at, context_at, app_at, applies_at, string_at, enum_at, standard_at, entity_body_at, entity_at, external_entity_at, external_action_at, action_at, common_at, external_at, decl_at, declared_at, decl_turn, namespace_at, outside_at, item_body_at, item_at, item_turn, items_at}
+use Rattle.schema_syntax_parser.specs.Reading.{◌>>=◌, Read, Turn, Done, Last, More, after_turn, many_at, all_at, place_before, link_at, chain_turn, closed_at, separated_turn, path_at, ref_at, types_at, refs_at, listed_at, parents_at, value_at, annotation_turn, annotations_at, mark_at, as_type, set_step, whole_type_step, attr_step, type_at, attrs_at, record_at, shape_at, tags_at, context_at, app_at, applies_at, string_at, enum_at, standard_at, entity_body_at, entity_at, external_entity_at, external_action_at, action_at, common_at, external_at, decl_at, declared_at, decl_turn, namespace_at, outside_at, item_body_at, item_at, item_turn, items_at}
 use Rattle.schema_syntax_parser.proofs.Heads.{begins, Apart, ident_apart, name_apart, ident_name, begins_head, path_head, ref_head, string_head, app_head, attr_head, skip_parents, skip_shape, skip_tags, skip_applies, skip_annotations, decl_head, declared_length, declared_close, item_length}
 
 -- the place of a part does not depend on what follows it
@@ -26,7 +27,7 @@ take_front : {A : Type 0} (u v : List A) → take (length u) (u ++ v) ≡ u
 take_front [] v = refl
 take_front (x ∷ u) v = ap (λ w. x ∷ w) (take_front u v)
 
-place_back : (u v : List Token) → place_before (u ++ v) v ≡ place_of u
+place_back : (u v : List Token) → place_before (u ++ v) v ≡ whole_place u
 place_back u v =
     let e : length (u ++ v) - length v ≡ length u = omega (arith, length-append u v) in
     rw (e, take_front u v) refl
@@ -129,11 +130,11 @@ paths_back = all_separated RBracket refl path_at IsPath (λ u x p v e. path_back
 refs_list_back : {u : List Token} {ps : List PathSyntax} → AreSeparated IsRef u ps → (c : Token) (v : List Token) → c.kind ≡ RBracket → all_at (separated_turn RBracket ref_at) (u ++ c ∷ v) ≡ Some (ps, v)
 refs_list_back = all_separated RBracket refl ref_at IsRef (λ u x p v e. ref_back p v (ends_with RBracket PathSep v e refl refl)) (λ u x p v. begins_head RBracket v (ref_head p) (ref_head p).is.rbracket)
 
-string_back : {u : List Token} {t : Token} → IsString u t → (v : List Token) → string_at (u ++ v) ≡ Some (t, v)
+string_back : {u : List Token} {t : Token} → IsStringToken u t → (v : List Token) → string_at (u ++ v) ≡ Some (t, v)
 string_back (string h) v = rw h refl
 
-strings_back : {u ts : List Token} → AreSeparated IsString u ts → (c : Token) (v : List Token) → c.kind ≡ RBracket → all_at (separated_turn RBracket string_at) (u ++ c ∷ v) ≡ Some (ts, v)
-strings_back = all_separated RBracket refl string_at IsString (λ u x s v e. string_back s v) (λ u x s v. let h = string_head s in begins_head RBracket v h (rw h.is refl))
+strings_back : {u ts : List Token} → AreSeparated IsStringToken u ts → (c : Token) (v : List Token) → c.kind ≡ RBracket → all_at (separated_turn RBracket string_at) (u ++ c ∷ v) ≡ Some (ts, v)
+strings_back = all_separated RBracket refl string_at IsStringToken (λ u x s v e. string_back s v) (λ u x s v. let h = string_head s in begins_head RBracket v h (rw h.is refl))
 
 -- one item or items in brackets
 listed_item : (item : List Token → Read PathSyntax) (ts : List Token) → begins LBracket ts ≡ false → listed_at item ts ≡ item ts >>= λ p. Some (p.0 ∷ [], p.1)
@@ -210,8 +211,8 @@ path_front : {u : List Token} {p : PathSyntax} → IsPath u p → PathFront u
 path_front (path (one {t = t} h)) = record { first = t; rest = []; whole = refl; is = ident_apart t.kind h; less = λ v e. e }
 path_front (path (more {t = t} {s = s} {u = u} h k r)) = record { first = t; rest = s ∷ u; whole = refl; is = ident_apart t.kind h; less = λ v e. rw k refl }
 
-type_path : (f : List Token → Read TypeSyntax) (g : List Token → Read (List AttrSyntax)) (t : Token) (ts : List Token) → same_kind LBrace t.kind ≡ false → begins Less ts ≡ false → type_step f g (t ∷ ts) ≡ as_type (path_at (t ∷ ts))
-unfolding type_step
+type_path : (f : List Token → Read TypeSyntax) (g : List Token → Read (List AttrSyntax)) (t : Token) (ts : List Token) → same_kind LBrace t.kind ≡ false → begins Less ts ≡ false → whole_type_step f g (t ∷ ts) ≡ as_type (path_at (t ∷ ts))
+unfolding whole_type_step
 type_path f g t ts b l = rw b (same_either (same_kind KwSet t.kind) _ _ _ (set_path f t ts l) refl)
 
 mark_back : {u : List Token} {m : Bool} → IsMark u m → (c : Token) (v : List Token) → c.kind ≡ Colon → mark_at (u ++ c ∷ v) ≡ (m, c ∷ v)
@@ -226,7 +227,7 @@ attrs_turn : (m : ℕ) (ts : List Token) → attrs_at (suc m) ts ≡ separated_t
 unfolding attrs_at type_at
 attrs_turn m ts = refl
 
-type_turn : (m : ℕ) (ts : List Token) → type_at (suc m) ts ≡ type_step (type_at m) (attrs_at m) ts
+type_turn : (m : ℕ) (ts : List Token) → type_at (suc m) ts ≡ whole_type_step (type_at m) (attrs_at m) ts
 unfolding attrs_at type_at
 type_turn m ts = refl
 
@@ -234,7 +235,7 @@ ap_back : {A B : Type 0} (f : A → Option B) (x y : A) (z : Option B) → x ≡
 ap_back f x y z e g = ap f e ∙ g
 
 mutual
-  unfolding type_step set_step attr_step separated_turn
+  unfolding whole_type_step set_step attr_step separated_turn
 
   type_back : {u : List Token} {t : TypeSyntax} → IsType u t → (n : ℕ) (v : List Token) → length u < n → begins PathSep v ≡ false → begins Less v ≡ false → type_at n (u ++ v) ≡ Some (t, v)
   type_back (path_type {u = u} {p = p} r) n v l e f =
@@ -244,7 +245,7 @@ mutual
       let back : path_at (h.first ∷ (h.rest ++ v)) ≡ Some (p, v) = ap path_at w ∙ path_back r v e in
       let step = type_path (type_at m.0) (attrs_at m.0) h.first (h.rest ++ v) h.is.lbrace (h.less v f) in
       let read : as_type (path_at (h.first ∷ (h.rest ++ v))) ≡ Some (Path p, v) = rw back refl in
-      rw m.1 (type_turn m.0 (u ++ v) ∙ ap (type_step (type_at m.0) (attrs_at m.0)) (sym w) ∙ step ∙ read)
+      rw m.1 (type_turn m.0 (u ++ v) ∙ ap (whole_type_step (type_at m.0) (attrs_at m.0)) (sym w) ∙ step ∙ read)
   type_back (set_type {s = s} {o = o} c {u = u} {t = t} ks ko r kc) n v l e f =
       let m = down n (length (s ∷ o ∷ (u ++ c ∷ []))) l in
       let lt : length u < m.0 = omega (arith, m.2, length-append u (c ∷ [])) in
@@ -253,13 +254,13 @@ mutual
       let set : same_kind KwSet s.kind ≡ true = rw ks refl in
       let less : same_kind Less o.kind ≡ true = rw ko refl in
       let greater : same_kind Greater c.kind ≡ true = rw kc refl in
-      let place : place_before (s ∷ o ∷ (u ++ c ∷ v)) v ≡ place_of (s ∷ o ∷ (u ++ c ∷ [])) = ap (λ (x : List Token). place_before (s ∷ o ∷ x) v) (sym (append_assoc u (c ∷ []) v)) ∙ place_back (s ∷ o ∷ (u ++ c ∷ [])) v in
+      let place : place_before (s ∷ o ∷ (u ++ c ∷ v)) v ≡ whole_place (s ∷ o ∷ (u ++ c ∷ [])) = ap (λ (x : List Token). place_before (s ∷ o ∷ x) v) (sym (append_assoc u (c ∷ []) v)) ∙ place_back (s ∷ o ∷ (u ++ c ∷ [])) v in
       rw (m.1, append_assoc u (c ∷ []) v) (type_turn m.0 (s ∷ o ∷ (u ++ c ∷ v)) ∙ rw (brace, set, less, ih, greater, place) refl)
   type_back (record_type (braces {o = o} c {u = u} {xs = xs} ko r kc)) n v l e f =
       let m = down n (length (o ∷ (u ++ c ∷ []))) l in
       let lt : length u < m.0 = omega (arith, m.2, length-append u (c ∷ [])) in
       let opens : same_kind LBrace o.kind ≡ true = rw ko refl in
-      let place : place_before (o ∷ (u ++ c ∷ v)) v ≡ place_of (o ∷ (u ++ c ∷ [])) = ap (λ (x : List Token). place_before (o ∷ x) v) (sym (append_assoc u (c ∷ []) v)) ∙ place_back (o ∷ (u ++ c ∷ [])) v in
+      let place : place_before (o ∷ (u ++ c ∷ v)) v ≡ whole_place (o ∷ (u ++ c ∷ [])) = ap (λ (x : List Token). place_before (o ∷ x) v) (sym (append_assoc u (c ∷ []) v)) ∙ place_back (o ∷ (u ++ c ∷ [])) v in
       rw (m.1, append_assoc u (c ∷ []) v) (type_turn m.0 (o ∷ (u ++ c ∷ v)) ∙ rw (opens, attrs_back r m.0 c v lt kc, place) refl)
 
   attr_back : {u : List Token} {a : AttrSyntax} → IsAttr u a → (n : ℕ) (v : List Token) → length u ≤ n → begins PathSep v ≡ false → begins Less v ≡ false → attr_step (type_at n) (u ++ v) ≡ Some (a, v)
@@ -270,7 +271,7 @@ mutual
       let anns = annotations_back xs (i ∷ (m ++ c ∷ (u ++ v))) name.at name.lparen in
       let mark = mark_back mk c (u ++ v) k in
       let colon : same_kind Colon c.kind ≡ true = rw k refl in
-      let place : place_before (i ∷ (m ++ c ∷ (u ++ v))) v ≡ place_of (i ∷ (m ++ c ∷ u)) = ap (λ (x : List Token). place_before (i ∷ x) v) (sym (append_assoc m (c ∷ u) v)) ∙ place_back (i ∷ (m ++ c ∷ u)) v in
+      let place : place_before (i ∷ (m ++ c ∷ (u ++ v))) v ≡ whole_place (i ∷ (m ++ c ∷ u)) = ap (λ (x : List Token). place_before (i ∷ x) v) (sym (append_assoc m (c ∷ u) v)) ∙ place_back (i ∷ (m ++ c ∷ u)) v in
       rw (whole, anns, h, mark, colon, type_back r n v lt e f, place) refl
 
   attrs_back : {u : List Token} {xs : List AttrSyntax} → AreAttrs u xs → (n : ℕ) (c : Token) (v : List Token) → length u < n → c.kind ≡ RBrace → attrs_at n (u ++ c ∷ v) ≡ Some (xs, v)
@@ -294,13 +295,13 @@ mutual
       rw (m.1, append_assoc u (d ∷ w) (c ∷ v)) (attrs_turn m.0 (u ++ d ∷ rest) ∙ rw (item, back, not, comma, attrs_back r m.0 c v lt k) refl)
 
 -- attributes in braces
-record_back : {u : List Token} {xs : List AttrSyntax} → IsRecord u xs → (v : List Token) → record_at (u ++ v) ≡ Some ((xs, place_of u), v)
+record_back : {u : List Token} {xs : List AttrSyntax} → IsRecord u xs → (v : List Token) → record_at (u ++ v) ≡ Some ((xs, whole_place u), v)
 unfolding record_at
 record_back (braces {o = o} c {u = u} {xs = xs} ko r kc) v =
     let whole : (o ∷ (u ++ c ∷ [])) ++ v ≡ o ∷ (u ++ c ∷ v) = ap (λ (x : List Token). o ∷ x) (append_assoc u (c ∷ []) v) in
     let opens : same_kind LBrace o.kind ≡ true = rw ko refl in
     let lt : length u < length (o ∷ (u ++ c ∷ v)) = omega (arith, length-append u (c ∷ v)) in
-    let place : place_before (o ∷ (u ++ c ∷ v)) v ≡ place_of (o ∷ (u ++ c ∷ [])) = ap (λ (x : List Token). place_before x v) (sym whole) ∙ place_back (o ∷ (u ++ c ∷ [])) v in
+    let place : place_before (o ∷ (u ++ c ∷ v)) v ≡ whole_place (o ∷ (u ++ c ∷ [])) = ap (λ (x : List Token). place_before x v) (sym whole) ∙ place_back (o ∷ (u ++ c ∷ [])) v in
     ap record_at whole ∙ rw (opens, attrs_back r (length (o ∷ (u ++ c ∷ v))) c v lt kc, place) refl
 
 no_shape_at : (v : List Token) → begins Equals v ≡ false → begins LBrace v ≡ false → shape_at v ≡ Some (None, v)
@@ -334,7 +335,7 @@ tags_back no_tags c v k = no_tags_at (c ∷ v) (rw k refl)
 tags_back (some_tags {u = u} h r) c v k = rw (h, type_back r (length (u ++ c ∷ v)) (c ∷ v) (follows u c v) (rw k refl) (rw k refl)) refl
 
 -- the members of an `appliesTo` block
-context_record_back : {u : List Token} {xs : List AttrSyntax} → IsRecord u xs → (w c : Token) (v : List Token) → context_at (w ∷ c ∷ (u ++ v)) (u ++ v) ≡ Some (AppSyntax.ContextRecord xs (place_of u) (place_of (w ∷ c ∷ u)), v)
+context_record_back : {u : List Token} {xs : List AttrSyntax} → IsRecord u xs → (w c : Token) (v : List Token) → context_at (w ∷ c ∷ (u ++ v)) (u ++ v) ≡ Some (AppSyntax.ContextRecord xs (whole_place u) (whole_place (w ∷ c ∷ u)), v)
 unfolding context_at
 context_record_back (braces {o = o} d {u = u} h r k) w c v =
     let brace : same_kind LBrace o.kind ≡ true = rw h refl in
@@ -345,7 +346,7 @@ unfolding context_at path_at chain_turn many_at
 context_path_at whole [] e = refl
 context_path_at whole (t ∷ ts) e = rw e refl
 
-context_path_back : {u : List Token} {p : PathSyntax} → IsPath u p → (w c : Token) (v : List Token) → begins PathSep v ≡ false → context_at (w ∷ c ∷ (u ++ v)) (u ++ v) ≡ Some (AppSyntax.ContextPath p (place_of (w ∷ c ∷ u)), v)
+context_path_back : {u : List Token} {p : PathSyntax} → IsPath u p → (w c : Token) (v : List Token) → begins PathSep v ≡ false → context_at (w ∷ c ∷ (u ++ v)) (u ++ v) ≡ Some (AppSyntax.ContextPath p (whole_place (w ∷ c ∷ u)), v)
 context_path_back {u} r w c v e =
     context_path_at (w ∷ c ∷ (u ++ v)) (u ++ v) (begins_head LBrace v (path_head r) (path_head r).is.lbrace) ∙ rw (path_back r v e, place_back (w ∷ c ∷ u) v) refl
 
@@ -377,7 +378,7 @@ no_applies_at (t ∷ v) e = rw e refl
 closed_whole : (o : Token) (u : List Token) (c : Token) (v : List Token) → (o ∷ (u ++ c ∷ [])) ++ v ≡ o ∷ (u ++ c ∷ v)
 closed_whole o u c v = ap (λ (x : List Token). o ∷ x) (append_assoc u (c ∷ []) v)
 
-closed_place : (o : Token) (u : List Token) (c : Token) (v : List Token) → place_before (o ∷ (u ++ c ∷ v)) v ≡ place_of (o ∷ (u ++ c ∷ []))
+closed_place : (o : Token) (u : List Token) (c : Token) (v : List Token) → place_before (o ∷ (u ++ c ∷ v)) v ≡ whole_place (o ∷ (u ++ c ∷ []))
 closed_place o u c v = ap (λ (x : List Token). place_before x v) (sym (closed_whole o u c v)) ∙ place_back (o ∷ (u ++ c ∷ [])) v
 
 applies_back : {u : List Token} {s : Option (List AppSyntax × Span)} → Applies u s → (v : List Token) → begins KwAppliesTo v ≡ false → applies_at (u ++ v) ≡ Some (s, v)
@@ -426,8 +427,8 @@ entity_back {p = p} {s = s} {t = t} {names = names} z v is ps h ts k =
     let rest = no_body names body (behind_names KwEnum z v ps h ts k refl refl refl refl refl) ∙ standard_back names z v ps h ts k in
     rw (read, rest) refl
 
-enum_back : {i s names choices : List Token} (n o c z : Token) (v : List Token) → IsChain Comma is_ident i names → n.kind ≡ KwEnum → o.kind ≡ LBracket → AreSeparated IsString s choices → c.kind ≡ RBracket → z.kind ≡ Semi
-    → entity_at (i ++ n ∷ o ∷ (s ++ c ∷ z ∷ v)) ≡ Some (DeclSyntax.Enum names choices (place_of (o ∷ (s ++ c ∷ []))), v)
+enum_back : {i s names choices : List Token} (n o c z : Token) (v : List Token) → IsChain Comma is_ident i names → n.kind ≡ KwEnum → o.kind ≡ LBracket → AreSeparated IsStringToken s choices → c.kind ≡ RBracket → z.kind ≡ Semi
+    → entity_at (i ++ n ∷ o ∷ (s ++ c ∷ z ∷ v)) ≡ Some (DeclSyntax.Enum names choices (whole_place (o ∷ (s ++ c ∷ []))), v)
 unfolding entity_at enum_at
 enum_back {s = s} n o c z v is kn ko ss kc kz =
     let read = all_chain is (n ∷ o ∷ (s ++ c ∷ z ∷ v)) (rw kn refl) in
@@ -527,7 +528,7 @@ decls_back (S.more {u = u} {v = w} {x = x} {xs = xs} d r) n c v l k =
     rw (m.1, append_assoc u w (c ∷ v)) (many_next decl_turn m.0 _ _ _ x xs turn (decls_back r m.0 c v lt k))
 
 -- items
-outside_back : {u : List Token} {d : DeclSyntax} (xs : List AnnotationSyntax) → IsDecl u d → (v : List Token) → item_body_at xs (u ++ v) ≡ Some (ItemSyntax.Decl (record { annotations = xs; decl = d; loc = place_of u }), v)
+outside_back : {u : List Token} {d : DeclSyntax} (xs : List AnnotationSyntax) → IsDecl u d → (v : List Token) → item_body_at xs (u ++ v) ≡ Some (ItemSyntax.Decl (record { annotations = xs; decl = d; loc = whole_place u }), v)
 unfolding outside_at
 outside_back {u} xs d v = not_namespace xs (u ++ v) (begins_head KwNamespace v (decl_head d) (decl_head d).is.3) ∙ rw (decl_back d v, place_back u v) refl
   where
@@ -549,7 +550,7 @@ item_back (namespace n o c {a = a} {p = p} {u = u} xs hn ps ho ds hc) v =
     let name = path_back ps (o ∷ (u ++ c ∷ v)) (rw ho refl) in
     let opens : same_kind LBrace o.kind ≡ true = rw ho refl in
     let decls = decls_back ds (length (u ++ c ∷ v) + 1) c v (omega (arith, length-append u (c ∷ v))) hc in
-    let place : place_before (n ∷ (p ++ o ∷ (u ++ c ∷ v))) v ≡ place_of (n ∷ (p ++ o ∷ (u ++ c ∷ []))) = ap (λ (x : List Token). place_before x v) (sym inner) ∙ place_back (n ∷ (p ++ o ∷ (u ++ c ∷ []))) v in
+    let place : place_before (n ∷ (p ++ o ∷ (u ++ c ∷ v))) v ≡ whole_place (n ∷ (p ++ o ∷ (u ++ c ∷ []))) = ap (λ (x : List Token). place_before x v) (sym inner) ∙ place_back (n ∷ (p ++ o ∷ (u ++ c ∷ []))) v in
     ap item_at whole ∙ rw (anns, word, name, opens, decls, place) refl
 
 item_turn_item : (ts : List Token) → 0 < length ts → item_turn ts ≡ item_at ts >>= λ i. Some (More i.0 i.1)

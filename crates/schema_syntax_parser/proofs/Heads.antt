@@ -14,7 +14,7 @@ use Rattle.schema_syntax_parser.specs.declared.syntax.DeclaredSyntax.{DeclaredSy
 use Rattle.schema_syntax_parser.specs.declared.syntax.ItemSyntax.{ItemSyntax}
 use Rattle.cedar_data.specs.Span.{Span}
 use Rattle.std.specs.Prelude.{Option}
-use Rattle.schema_syntax_parser.specs.Syntax.{IsChain, one, more, IsPath, path, IsRef, plain, typed, AreParents, no_parents, in_parents, AreAnnotations, none, bare, valued, IsShape, no_shape, bare_shape, equals_shape, braces, AreTags, no_tags, some_tags, Applies, no_applies, some_applies, IsString, string, IsApp, types, context_path, context_record, is_role, IsAttr, attr, IsDecl, entity_decl, enum_decl, external_entity, action_decl, external_action, common_decl, IsDeclared, declared, IsItem, namespace, outside}
+use Rattle.schema_syntax_parser.specs.Syntax.{IsChain, one, more, IsPath, path, IsRef, plain, typed, AreParents, no_parents, in_parents, AreAnnotations, none, bare, valued, IsShape, no_shape, bare_shape, equals_shape, braces, AreTags, no_tags, some_tags, Applies, no_applies, some_applies, IsStringToken, string, IsApp, types, context_path, context_record, is_role, IsAttr, attr, IsDecl, entity_decl, enum_decl, external_entity, action_decl, external_action, common_decl, IsDeclared, declared, IsItem, namespace, outside}
 
 -- does a token of the kind stand at the front?
 abbrev pub begins : TokenKind → List Token → Bool
@@ -105,7 +105,7 @@ ref_head (typed {u = u} s q c k l) =
     let h = chain_head c in
     record { first = h.first; rest = h.rest ++ s ∷ q ∷ []; whole = ap (λ (x : List Token). x ++ s ∷ q ∷ []) h.whole; is = ident_apart h.first.kind h.is }
 
-pub string_head : {u : List Token} {t : Token} → IsString u t → Head (λ k. k ≡ StringLit) u
+pub string_head : {u : List Token} {t : Token} → IsStringToken u t → Head (λ k. k ≡ StringLit) u
 string_head (string {t = t} h) = record { first = t; rest = []; whole = refl; is = h }
 
 -- no bracket or brace closes with this kind

@@ -2,5 +2,4 @@ pub mod Back
 pub mod Heads
 pub mod Loops
 pub mod Made
-pub mod Places
 pub mod Sentences

@@ -4,7 +4,7 @@ use Rattle.std.proofs.lemmas.List.{append-nil}
 use Rattle.schema_syntax_tokens.specs.declared.token.Token.{Token}
 use Rattle.schema_syntax_parser.specs.declared.stop.Stop.{Stop}
 use Rattle.schema_syntax_parser.specs.declared.stop.Stop.TheVariants.{Memory, Mismatch}
-use Rattle.schema_syntax_parser.specs.Reading.{◌>>=◌, Fails, Read, Turn, Done, Last, More, after_turn, many_at, with_items, separated_turn, attr_step, type_step, type_at, attrs_at}
+use Rattle.schema_syntax_parser.specs.Reading.{◌>>=◌, Fails, Read, Turn, Done, Last, More, after_turn, many_at, with_items, separated_turn, attr_step, whole_type_step, type_at, attrs_at}
 use Rattle.schema_syntax_parser.specs.declared.syntax.AttrSyntax.{AttrSyntax}
 use Rattle.schema_syntax_grammar.specs.declared.token_kind.TokenKind.TheVariants.{RBrace}
 
@@ -53,7 +53,7 @@ pub type_none : (n : ℕ) (ts : List Token) → n ≡ 0 → type_at n ts ≡ Non
 unfolding type_at
 type_none n ts e = rw e refl
 
-pub type_more : (n : ℕ) (ts : List Token) → (n ≡ 0 → ⊥) → type_at n ts ≡ type_step (type_at (n - 1)) (attrs_at (n - 1)) ts
+pub type_more : (n : ℕ) (ts : List Token) → (n ≡ 0 → ⊥) → type_at n ts ≡ whole_type_step (type_at (n - 1)) (attrs_at (n - 1)) ts
 unfolding type_at attrs_at
 type_more zero ts h = absurd (h refl)
 type_more (suc n) ts h = let e : suc n - 1 ≡ n = omega arith in rw e refl

@@ -5,7 +5,8 @@ use Rattle.schema_syntax_grammar.specs.declared.token_kind.TokenKind.TheVariants
 use Rattle.schema_syntax_grammar.specs.Grammar.{is_word_kind, is_ident, Part, schema, item, decls, decl, bare_decl, idents, parents, shape, tags, strings, names, name, in_refs, applies, apps, app, types, paths, refs, ref_list, ref, ty, rec, attrs, attr, mark, path, anns, Phrase, is_name_kind}
 use Rattle.schema_syntax_grammar.specs.Grammar as G
 use Rattle.schema_syntax_tokens.specs.declared.token.Token.{Token}
-use Rattle.schema_syntax_parser.specs.Syntax.{kinds_of, IsChain, AreSeparated, AreListed, AreMany, IsPath, IsRef, AreParents, AreAnnotations, IsMark, IsType, IsRecord, AreAttrs, IsAttr, IsShape, AreTags, IsString, is_role, IsApp, Applies, IsDecl, IsDeclared, IsItem}
+use Rattle.schema_syntax_parser.specs.Syntax.{IsChain, AreSeparated, AreListed, AreMany, IsPath, IsRef, AreParents, AreAnnotations, IsMark, IsType, IsRecord, AreAttrs, IsAttr, IsShape, AreTags, IsStringToken, is_role, IsApp, Applies, IsDecl, IsDeclared, IsItem}
+use Rattle.schema_syntax_tokens.specs.TokenLists.{kinds_of}
 use Rattle.schema_syntax_parser.specs.Syntax as S
 use Rattle.schema_syntax_parser.proofs.Heads.{ident_name}
 
@@ -95,7 +96,7 @@ Made idents u = Has (IsChain Comma is_ident) u
 Made parents u = Has (AreParents IsPath) u
 Made shape u = Has IsShape u
 Made tags u = Has AreTags u
-Made strings u = Has (AreSeparated IsString) u
+Made strings u = Has (AreSeparated IsStringToken) u
 Made names u = Has (IsChain Comma is_name_kind) u
 Made name u = Has IsName u
 Made in_refs u = Has (AreParents IsRef) u
@@ -228,15 +229,15 @@ made (G.some_tags {a = a} p) u e =
     let f = front u KwTags a e in
     let m = made p f.right f.second in
     along AreTags u _ f.whole (_, S.some_tags f.is m.1)
-made G.no_string u e = along (AreSeparated IsString) u [] (none u e) (_, S.none)
+made G.no_string u e = along (AreSeparated IsStringToken) u [] (none u e) (_, S.none)
 made G.last_string u e =
     let a = alone StringLit u e in
-    along (AreSeparated IsString) u _ a.whole (_, S.last (S.string a.is))
+    along (AreSeparated IsStringToken) u _ a.whole (_, S.last (S.string a.is))
 made (G.more_strings {a = a} p) u e =
     let f = front u StringLit (Comma ∷ a) e in
     let g = front f.right Comma a f.second in
     let m = made p g.right g.second in
-    along (AreSeparated IsString) u _ (f.whole ∙ ap (λ v. f.token ∷ v) g.whole) (_, S.more g.token (S.string f.is) g.is m.1)
+    along (AreSeparated IsStringToken) u _ (f.whole ∙ ap (λ v. f.token ∷ v) g.whole) (_, S.more g.token (S.string f.is) g.is m.1)
 made (G.one_name p) u e = let m = made p u e in along (IsChain Comma is_name_kind) u _ m.1.0 (_, S.one m.1.1)
 made (G.more_names {a = a} {b = b} p q) u e =
     let c = between a b Comma u e in

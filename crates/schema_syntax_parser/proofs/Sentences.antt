@@ -15,7 +15,8 @@ use Rattle.schema_syntax_parser.specs.declared.syntax.AppSyntax.{AppSyntax}
 use Rattle.schema_syntax_parser.specs.declared.syntax.DeclSyntax.{DeclSyntax}
 use Rattle.schema_syntax_parser.specs.declared.syntax.DeclaredSyntax.{DeclaredSyntax}
 use Rattle.schema_syntax_parser.specs.declared.syntax.ItemSyntax.{ItemSyntax}
-use Rattle.schema_syntax_parser.specs.Syntax.{kinds_of, IsChain, AreSeparated, AreListed, AreMany, IsPath, IsRef, AreParents, AreAnnotations, IsMark, IsType, IsRecord, AreAttrs, IsAttr, IsShape, AreTags, IsString, is_role, IsApp, Applies, IsDecl, IsDeclared, IsItem, IsSyntax}
+use Rattle.schema_syntax_parser.specs.Syntax.{IsChain, AreSeparated, AreListed, AreMany, IsPath, IsRef, AreParents, AreAnnotations, IsMark, IsType, IsRecord, AreAttrs, IsAttr, IsShape, AreTags, IsStringToken, is_role, IsApp, Applies, IsDecl, IsDeclared, IsItem, IsSyntax}
+use Rattle.schema_syntax_tokens.specs.TokenLists.{kinds_of}
 use Rattle.schema_syntax_parser.specs.Syntax as S
 
 both : (u v : List Token) → kinds_of (u ++ v) ≡ kinds_of u ++ kinds_of v
@@ -124,7 +125,7 @@ all_tags : {u : List Token} {x : Option TypeSyntax} → AreTags u x → Phrase t
 all_tags S.no_tags = G.no_tags
 all_tags (S.some_tags {w = w} {u = u} k h) = as_phrase tags (w ∷ u) (KwTags ∷ kinds_of u) (before w u KwTags (kinds_of u) k refl) (G.some_tags (one_type h))
 
-all_strings : {u xs : List Token} → AreSeparated IsString u xs → Phrase strings (kinds_of u)
+all_strings : {u xs : List Token} → AreSeparated IsStringToken u xs → Phrase strings (kinds_of u)
 all_strings S.none = G.no_string
 all_strings (S.last (S.string {t = t} k)) = as_phrase strings (t ∷ []) (StringLit ∷ []) (λ i. k i ∷ []) G.last_string
 all_strings (S.more {v = v} c (S.string {t = t} k) kc r) = as_phrase strings (t ∷ c ∷ v) (StringLit ∷ Comma ∷ kinds_of v) (λ i. k i ∷ kc i ∷ kinds_of v) (G.more_strings (all_strings r))

@@ -19,7 +19,8 @@ use Rattle.schema_syntax_parser.specs.declared.syntax.DeclSyntax.TheVariants.{En
 use Rattle.schema_syntax_parser.specs.declared.syntax.DeclaredSyntax.{DeclaredSyntax}
 use Rattle.schema_syntax_parser.specs.declared.syntax.ItemSyntax.{ItemSyntax}
 use Rattle.schema_syntax_parser.specs.declared.syntax.ItemSyntax.TheVariants.{Namespace, Decl}
-use Rattle.schema_syntax_parser.specs.Syntax.{place_of, is_role}
+use Rattle.schema_syntax_parser.specs.Syntax.{is_role}
+use Rattle.schema_syntax_tokens.specs.TokenLists.{whole_place}
 
 infixl 10 ◌>>=◌
 abbrev pub ◌>>=◌ : {A B : Type 0} → Option A → (A → Option B) → Option B
@@ -64,7 +65,7 @@ with_items done read = read >>= λ r. Some (done ++ r.0, r.1)
 
 -- the place of what stands before the rest
 abbrev pub place_before : List Token → List Token → Span
-place_before ts rest = place_of (take (length ts - length rest) ts)
+place_before ts rest = whole_place (take (length ts - length rest) ts)
 
 -- the token at the front
 abbrev pub any_at : List Token → Read Token
@@ -154,9 +155,9 @@ set_step type_at t (o ∷ ts) =
     else as_type (path_at (t ∷ o ∷ ts))
 
 -- a type, from what reads an element and attributes
-unfoldable pub type_step : (List Token → Read TypeSyntax) → (List Token → Read (List AttrSyntax)) → List Token → Read TypeSyntax
-type_step type_at attrs_at [] = None
-type_step type_at attrs_at (t ∷ ts) =
+unfoldable pub whole_type_step : (List Token → Read TypeSyntax) → (List Token → Read (List AttrSyntax)) → List Token → Read TypeSyntax
+whole_type_step type_at attrs_at [] = None
+whole_type_step type_at attrs_at (t ∷ ts) =
     if same_kind LBrace t.kind then (attrs_at ts >>= λ r. Some (Record r.0 (place_before (t ∷ ts) r.1), r.1))
     else if same_kind KwSet t.kind then set_step type_at t ts
     else as_type (path_at (t ∷ ts))
@@ -174,7 +175,7 @@ unfoldable mutual
   -- a type, nested at most so deep
   pub type_at : ℕ → List Token → Read TypeSyntax
   type_at zero ts = None
-  type_at (suc n) ts = type_step (type_at n) (attrs_at n) ts
+  type_at (suc n) ts = whole_type_step (type_at n) (attrs_at n) ts
 
   -- attributes, and the closing brace
   pub attrs_at : ℕ → List Token → Read (List AttrSyntax)

@@ -5,6 +5,7 @@ use Rattle.schema_syntax_grammar.specs.declared.token_kind.TokenKind.{TokenKind}
 use Rattle.schema_syntax_grammar.specs.declared.token_kind.TokenKind.TheVariants.{KwNamespace, KwEntity, KwExternal, KwIn, KwType, KwSet, KwAppliesTo, KwPrincipal, KwAction, KwResource, KwContext, KwTags, KwEnum, StringLit, At, Comma, Semi, Colon, PathSep, LParen, RParen, LBrace, RBrace, LBracket, RBracket, Less, Greater, Question, Equals}
 use Rattle.schema_syntax_grammar.specs.Grammar.{is_word_kind, is_ident, is_name_kind}
 use Rattle.schema_syntax_tokens.specs.declared.token.Token.{Token}
+use Rattle.schema_syntax_tokens.specs.TokenLists.{whole_place}
 use Rattle.schema_syntax_parser.specs.declared.syntax.PathSyntax.{PathSyntax}
 use Rattle.schema_syntax_parser.specs.declared.syntax.AnnotationSyntax.{AnnotationSyntax}
 use Rattle.schema_syntax_parser.specs.declared.syntax.TypeSyntax.{TypeSyntax}
@@ -17,16 +18,6 @@ use Rattle.schema_syntax_parser.specs.declared.syntax.DeclSyntax.TheVariants.{En
 use Rattle.schema_syntax_parser.specs.declared.syntax.DeclaredSyntax.{DeclaredSyntax}
 use Rattle.schema_syntax_parser.specs.declared.syntax.ItemSyntax.{ItemSyntax}
 use Rattle.schema_syntax_parser.specs.declared.syntax.ItemSyntax.TheVariants.{Namespace, Decl}
-
--- where the last token ends, behind a first one
-abbrev pub end_of : Token → List Token → ℕ
-end_of t [] = t.loc.end
-end_of t (s ∷ u) = end_of s u
-
--- From the first token through the last. The tokens of a text follow each other, so the greater number is the end of the last.
-abbrev pub place_of : List Token → Span
-place_of [] = record { start = 0; end = 0 }
-place_of (t ∷ u) = record { start = t.loc.start; end = max t.loc.start (end_of t u) }
 
 -- names with one separator between two
 pub data IsChain (separator : TokenKind) (is : TokenKind → Bool) : List Token → List Token → Type 0 where
@@ -51,12 +42,12 @@ pub data AreMany {A : Type 0} (P : List Token → A → Type 0) : List Token →
 
 -- Ident {'::' Ident}
 pub data IsPath : List Token → PathSyntax → Type 0 where
-  path : {u names : List Token} → IsChain PathSep is_ident u names → IsPath u (record { names = names; loc = place_of u })
+  path : {u names : List Token} → IsChain PathSep is_ident u names → IsPath u (record { names = names; loc = whole_place u })
 
 -- Name | Path '::' STR
 pub data IsRef : List Token → PathSyntax → Type 0 where
-  plain : {t : Token} → is_name_kind t.kind ≡ true → IsRef (t ∷ []) (record { names = t ∷ []; loc = place_of (t ∷ []) })
-  typed : {u names : List Token} (s q : Token) → IsChain PathSep is_ident u names → s.kind ≡ PathSep → q.kind ≡ StringLit → IsRef (u ++ s ∷ q ∷ []) (record { names = names ++ q ∷ []; loc = place_of (u ++ s ∷ q ∷ []) })
+  plain : {t : Token} → is_name_kind t.kind ≡ true → IsRef (t ∷ []) (record { names = t ∷ []; loc = whole_place (t ∷ []) })
+  typed : {u names : List Token} (s q : Token) → IsChain PathSep is_ident u names → s.kind ≡ PathSep → q.kind ≡ StringLit → IsRef (u ++ s ∷ q ∷ []) (record { names = names ++ q ∷ []; loc = whole_place (u ++ s ∷ q ∷ []) })
 
 -- ['in' Types] and ['in' Refs]
 pub data AreParents (P : List Token → PathSyntax → Type 0) : List Token → List PathSyntax → Type 0 where
@@ -79,8 +70,8 @@ mutual
   -- Path | 'Set' '<' Type '>' | Rec
   pub data IsType : List Token → TypeSyntax → Type 0 where
     path_type : {u : List Token} {p : PathSyntax} → IsPath u p → IsType u (Path p)
-    set_type : {s o : Token} (c : Token) {u : List Token} {t : TypeSyntax} → s.kind ≡ KwSet → o.kind ≡ Less → IsType u t → c.kind ≡ Greater → IsType (s ∷ o ∷ (u ++ c ∷ [])) (Set t (place_of (s ∷ o ∷ (u ++ c ∷ []))))
-    record_type : {u : List Token} {xs : List AttrSyntax} → IsRecord u xs → IsType u (Record xs (place_of u))
+    set_type : {s o : Token} (c : Token) {u : List Token} {t : TypeSyntax} → s.kind ≡ KwSet → o.kind ≡ Less → IsType u t → c.kind ≡ Greater → IsType (s ∷ o ∷ (u ++ c ∷ [])) (Set t (whole_place (s ∷ o ∷ (u ++ c ∷ []))))
+    record_type : {u : List Token} {xs : List AttrSyntax} → IsRecord u xs → IsType u (Record xs (whole_place u))
 
   -- '{' [Attr {',' Attr} [',']] '}'
   pub data IsRecord : List Token → List AttrSyntax → Type 0 where
@@ -94,13 +85,13 @@ mutual
   -- Anns Name ['?'] ':' Type
   pub data IsAttr : List Token → AttrSyntax → Type 0 where
     attr : (n c : Token) {a m u : List Token} {xs : List AnnotationSyntax} {required : Bool} {t : TypeSyntax} → AreAnnotations a xs → is_name_kind n.kind ≡ true → IsMark m required → c.kind ≡ Colon → IsType u t
-        → IsAttr (a ++ n ∷ (m ++ c ∷ u)) (roll-AttrSyntax (record { annotations = xs; name = n; required = required; ty = t; loc = place_of (n ∷ (m ++ c ∷ u)) }))
+        → IsAttr (a ++ n ∷ (m ++ c ∷ u)) (roll-AttrSyntax (record { annotations = xs; name = n; required = required; ty = t; loc = whole_place (n ∷ (m ++ c ∷ u)) }))
 
 -- [['='] Rec]
 pub data IsShape : List Token → Option (List AttrSyntax × Span) → Type 0 where
   no_shape : IsShape [] None
-  bare_shape : {u : List Token} {xs : List AttrSyntax} → IsRecord u xs → IsShape u (Some (xs, place_of u))
-  equals_shape : {e : Token} {u : List Token} {xs : List AttrSyntax} → e.kind ≡ Equals → IsRecord u xs → IsShape (e ∷ u) (Some (xs, place_of u))
+  bare_shape : {u : List Token} {xs : List AttrSyntax} → IsRecord u xs → IsShape u (Some (xs, whole_place u))
+  equals_shape : {e : Token} {u : List Token} {xs : List AttrSyntax} → e.kind ≡ Equals → IsRecord u xs → IsShape (e ∷ u) (Some (xs, whole_place u))
 
 -- ['tags' Type]
 pub data AreTags : List Token → Option TypeSyntax → Type 0 where
@@ -108,8 +99,8 @@ pub data AreTags : List Token → Option TypeSyntax → Type 0 where
   some_tags : {w : Token} {u : List Token} {t : TypeSyntax} → w.kind ≡ KwTags → IsType u t → AreTags (w ∷ u) (Some t)
 
 -- STR
-pub data IsString : List Token → Token → Type 0 where
-  string : {t : Token} → t.kind ≡ StringLit → IsString (t ∷ []) t
+pub data IsStringToken : List Token → Token → Type 0 where
+  string : {t : Token} → t.kind ≡ StringLit → IsStringToken (t ∷ []) t
 
 -- `principal` or `resource`
 abbrev pub is_role : TokenKind → Bool
@@ -119,15 +110,15 @@ is_role _ = false
 
 -- ('principal' | 'resource') ':' Types | 'context' ':' (Path | Rec)
 pub data IsApp : List Token → AppSyntax → Type 0 where
-  types : {w c : Token} {u : List Token} {ps : List PathSyntax} → is_role w.kind ≡ true → c.kind ≡ Colon → AreListed IsPath u ps → IsApp (w ∷ c ∷ u) (Types w ps (place_of (w ∷ c ∷ u)))
-  context_path : {w c : Token} {u : List Token} {p : PathSyntax} → w.kind ≡ KwContext → c.kind ≡ Colon → IsPath u p → IsApp (w ∷ c ∷ u) (ContextPath p (place_of (w ∷ c ∷ u)))
-  context_record : {w c : Token} {u : List Token} {xs : List AttrSyntax} → w.kind ≡ KwContext → c.kind ≡ Colon → IsRecord u xs → IsApp (w ∷ c ∷ u) (ContextRecord xs (place_of u) (place_of (w ∷ c ∷ u)))
+  types : {w c : Token} {u : List Token} {ps : List PathSyntax} → is_role w.kind ≡ true → c.kind ≡ Colon → AreListed IsPath u ps → IsApp (w ∷ c ∷ u) (Types w ps (whole_place (w ∷ c ∷ u)))
+  context_path : {w c : Token} {u : List Token} {p : PathSyntax} → w.kind ≡ KwContext → c.kind ≡ Colon → IsPath u p → IsApp (w ∷ c ∷ u) (ContextPath p (whole_place (w ∷ c ∷ u)))
+  context_record : {w c : Token} {u : List Token} {xs : List AttrSyntax} → w.kind ≡ KwContext → c.kind ≡ Colon → IsRecord u xs → IsApp (w ∷ c ∷ u) (ContextRecord xs (whole_place u) (whole_place (w ∷ c ∷ u)))
 
 -- ['appliesTo' '{' [App {',' App} [',']] '}']
 pub data Applies : List Token → Option (List AppSyntax × Span) → Type 0 where
   no_applies : Applies [] None
   some_applies : {w o : Token} (c : Token) {u : List Token} {xs : List AppSyntax} → w.kind ≡ KwAppliesTo → o.kind ≡ LBrace → AreSeparated IsApp u xs → c.kind ≡ RBrace
-      → Applies (w ∷ o ∷ (u ++ c ∷ [])) (Some (xs, place_of (o ∷ (u ++ c ∷ []))))
+      → Applies (w ∷ o ∷ (u ++ c ∷ [])) (Some (xs, whole_place (o ∷ (u ++ c ∷ []))))
 
 -- a declaration without its annotations
 pub data IsDecl : List Token → DeclSyntax → Type 0 where
@@ -137,8 +128,8 @@ pub data IsDecl : List Token → DeclSyntax → Type 0 where
       → IsDecl (e ∷ (i ++ (p ++ (s ++ (t ++ z ∷ []))))) (Entity names parents shape tags)
   -- 'entity' Idents 'enum' '[' [STR {',' STR} [',']] ']' ';'
   enum_decl : {e : Token} (n o c z : Token) {i s names choices : List Token}
-      → e.kind ≡ KwEntity → IsChain Comma is_ident i names → n.kind ≡ KwEnum → o.kind ≡ LBracket → AreSeparated IsString s choices → c.kind ≡ RBracket → z.kind ≡ Semi
-      → IsDecl (e ∷ (i ++ n ∷ o ∷ (s ++ c ∷ z ∷ []))) (Enum names choices (place_of (o ∷ (s ++ c ∷ []))))
+      → e.kind ≡ KwEntity → IsChain Comma is_ident i names → n.kind ≡ KwEnum → o.kind ≡ LBracket → AreSeparated IsStringToken s choices → c.kind ≡ RBracket → z.kind ≡ Semi
+      → IsDecl (e ∷ (i ++ n ∷ o ∷ (s ++ c ∷ z ∷ []))) (Enum names choices (whole_place (o ∷ (s ++ c ∷ []))))
   -- 'external' 'entity' Idents ['in' Types] ';'
   external_entity : {x e : Token} (z : Token) {i p names : List Token} {parents : List PathSyntax}
       → x.kind ≡ KwExternal → e.kind ≡ KwEntity → IsChain Comma is_ident i names → AreParents IsPath p parents → z.kind ≡ Semi
@@ -156,19 +147,15 @@ pub data IsDecl : List Token → DeclSyntax → Type 0 where
 
 -- Anns (Entity | Enum | ExtEntity | Action | ExtAction | Common)
 pub data IsDeclared : List Token → DeclaredSyntax → Type 0 where
-  declared : {a u : List Token} {xs : List AnnotationSyntax} {d : DeclSyntax} → AreAnnotations a xs → IsDecl u d → IsDeclared (a ++ u) (record { annotations = xs; decl = d; loc = place_of u })
+  declared : {a u : List Token} {xs : List AnnotationSyntax} {d : DeclSyntax} → AreAnnotations a xs → IsDecl u d → IsDeclared (a ++ u) (record { annotations = xs; decl = d; loc = whole_place u })
 
 -- Anns 'namespace' Path '{' {Decl} '}' | Decl
 pub data IsItem : List Token → ItemSyntax → Type 0 where
   namespace : (n o c : Token) {a p u : List Token} {xs : List AnnotationSyntax} {name : PathSyntax} {ds : List DeclaredSyntax}
       → AreAnnotations a xs → n.kind ≡ KwNamespace → IsPath p name → o.kind ≡ LBrace → AreMany IsDeclared u ds → c.kind ≡ RBrace
-      → IsItem (a ++ n ∷ (p ++ o ∷ (u ++ c ∷ []))) (Namespace xs name ds (place_of (n ∷ (p ++ o ∷ (u ++ c ∷ [])))))
+      → IsItem (a ++ n ∷ (p ++ o ∷ (u ++ c ∷ []))) (Namespace xs name ds (whole_place (n ∷ (p ++ o ∷ (u ++ c ∷ [])))))
   outside : {u : List Token} {d : DeclaredSyntax} → IsDeclared u d → IsItem u (Decl d)
 
 -- {Item}
 abbrev pub IsSyntax : List Token → List ItemSyntax → Type 0
 IsSyntax tokens items = AreMany IsItem tokens items
-
--- the kinds of the tokens
-abbrev pub kinds_of : List Token → List TokenKind
-kinds_of tokens = map (λ t. t.kind) tokens

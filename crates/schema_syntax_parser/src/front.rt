@@ -1,12 +1,12 @@
 ghost use Rattle.std.specs.Prelude.{◌≡◌};
-ghost use Rattle.schema_syntax_parser.specs.Syntax.{place_of, is_role};
+ghost use Rattle.schema_syntax_parser.specs.Syntax.{is_role};
 ghost use Rattle.schema_syntax_parser.specs.Reading.{Gives, any_at, token_at, class_at, place_before};
 ghost use Rattle.schema_syntax_grammar.specs.Grammar.{is_word_kind, is_ident, is_name_kind};
 
 use crate::stop::Stop;
 use cedar_data::Loc;
 use schema_syntax_grammar::TokenKind;
-use schema_syntax_tokens::Token;
+use schema_syntax_tokens::{Token, whole_place};
 
 // The token at the front, and the others.
 pub fn any(tokens: &[Token]) -> Result<(&Token, &[Token]), Stop>
@@ -65,25 +65,11 @@ pub fn is_role(kind: TokenKind) -> bool
     matches!(kind, TokenKind::KwPrincipal | TokenKind::KwResource)
 }
 
-// From the first of the tokens through the last.
-fn place_of(tokens: &[Token]) -> Loc
-    ensures { result ≡ place_of tokens.now }
-{
-    match tokens {
-        [] => Loc::new(0, 0),
-        [first, ..] => {
-            let first = first.loc;
-            let last = tokens[tokens.len() - 1].loc;
-            Loc::new(first.start, first.start.max(last.end))
-        }
-    }
-}
-
 // The place of the tokens that stand before the rest.
 pub fn place(tokens: &[Token], rest: &[Token]) -> Loc
     ensures { result ≡ place_before tokens.now rest.now }
 {
     let len = tokens.len().saturating_sub(rest.len());
     let (before, _) = tokens.split_at(len);
-    place_of(before)
+    whole_place(before)
 }

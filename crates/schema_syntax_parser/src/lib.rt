@@ -9,13 +9,14 @@ mod items;
 pub mod laws;
 pub mod parse;
 mod paths;
-mod stop;
+pub mod stop;
 pub mod syntax;
 mod turns;
 mod types;
 
-pub use laws::{one_syntax, syntax_is_sentence};
+pub use laws::{one_syntax, sentences_have_a_syntax, syntax_is_sentence};
 pub use parse::syntax_of;
+pub use stop::Stop;
 pub use syntax::{
     AnnotationSyntax, AppSyntax, AttrSyntax, DeclSyntax, DeclaredSyntax, ItemSyntax, PathSyntax,
     TypeSyntax,

@@ -1,6 +1,7 @@
 ghost use Rattle.std.specs.Prelude.{IfOk};
 ghost use Rattle.schema_syntax_grammar.specs.Grammar.{Sentence};
-ghost use Rattle.schema_syntax_parser.specs.Syntax.{IsSyntax, kinds_of};
+ghost use Rattle.schema_syntax_parser.specs.Syntax.{IsSyntax};
+ghost use Rattle.schema_syntax_tokens.specs.TokenLists.{kinds_of};
 
 use crate::items::items;
 use crate::stop::Stop;

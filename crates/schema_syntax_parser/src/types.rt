@@ -1,5 +1,5 @@
 ghost use Rattle.std.specs.Prelude.{◌≡◌, ◌∷◌, length};
-ghost use Rattle.schema_syntax_parser.specs.Reading.{Gives, mark_at, set_step, type_step, type_at, attr_step, attrs_at, separated_turn, record_at, shape_at, tags_at};
+ghost use Rattle.schema_syntax_parser.specs.Reading.{Gives, mark_at, set_step, whole_type_step, type_at, attr_step, attrs_at, separated_turn, record_at, shape_at, tags_at};
 ghost use Rattle.schema_syntax_parser.specs.Turns.{turn_of};
 ghost use Rattle.schema_syntax_grammar.specs.declared.token_kind.TokenKind.TheVariants.{RBrace};
 
@@ -53,14 +53,14 @@ fn set<'a>(
 }
 
 // A type, whose parts are nested at most so deep.
-#[tactic(auto, unfolding(crate::specs::Reading::type_step))]
+#[tactic(auto, unfolding(crate::specs::Reading::whole_type_step))]
 #[cycle(types)]
 fn type_of_parts(
     alloc: Global,
     depth: usize,
     tokens: &[Token],
 ) -> Result<(TypeSyntax, &[Token]), Stop>
-    ensures { Gives (λ r. (r.0, r.1.now)) result (type_step (type_at depth) (attrs_at depth) tokens.now) }
+    ensures { Gives (λ r. (r.0, r.1.now)) result (whole_type_step (type_at depth) (attrs_at depth) tokens.now) }
 {
     match tokens {
         [] => Err(Stop::Mismatch),

@@ -4,7 +4,8 @@ use Rattle.std.specs.Prelude.{Option, Some}
 use Rattle.std.specs.List.{AllZip, flat_map}
 use Rattle.schema_syntax_reader.specs.Sites.{Site}
 use Rattle.schema_syntax_reader.specs.Leaves.{IsLeaf}
-use Rattle.schema_syntax_reader.specs.Building.{◌>>=◌, Builds, all_from, at_least_one, some_from, optional_from}
+use Rattle.schema_syntax_parser.specs.Reading.{◌>>=◌}
+use Rattle.schema_syntax_reader.specs.Building.{Builds, all_from, at_least_one, some_from, optional_from}
 use Rattle.schema_syntax_reader.specs.Trees.{IsOptional}
 use Rattle.schema_syntax_reader.specs.declared.leaf.Leaf.{Leaf}
 

@@ -12,7 +12,8 @@ use Rattle.schema_syntax_grammar.specs.declared.token_kind.TokenKind.{TokenKind}
 use Rattle.schema_syntax_grammar.specs.declared.token_kind.TokenKind.TheVariants.{StringLit}
 use Rattle.schema_syntax_grammar.specs.Grammar.{is_ident, is_name_kind}
 use Rattle.schema_syntax_tokens.specs.declared.token.Token.{Token}
-use Rattle.schema_syntax_parser.specs.Syntax.{place_of, IsChain, one, more, AreSeparated, last, AreListed, single, listed, AreMany, IsPath, path, IsRef, plain, typed, AreParents, no_parents, in_parents, IsType, path_type, set_type, record_type, IsRecord, braces, AreAttrs, no_attr, last_attr, more_attrs, IsAttr, attr, IsShape, no_shape, bare_shape, equals_shape, AreTags, no_tags, some_tags, IsString, string, IsApp, types, context_path, context_record, Applies, no_applies, some_applies, IsDecl, entity_decl, enum_decl, external_entity, action_decl, external_action, common_decl, IsDeclared, declared, IsItem, namespace, outside, IsSyntax}
+use Rattle.schema_syntax_parser.specs.Syntax.{IsChain, one, more, AreSeparated, last, AreListed, single, listed, AreMany, IsPath, path, IsRef, plain, typed, AreParents, no_parents, in_parents, IsType, path_type, set_type, record_type, IsRecord, braces, AreAttrs, no_attr, last_attr, more_attrs, IsAttr, attr, IsShape, no_shape, bare_shape, equals_shape, AreTags, no_tags, some_tags, IsStringToken, string, IsApp, types, context_path, context_record, Applies, no_applies, some_applies, IsDecl, entity_decl, enum_decl, external_entity, action_decl, external_action, common_decl, IsDeclared, declared, IsItem, namespace, outside, IsSyntax}
+use Rattle.schema_syntax_tokens.specs.TokenLists.{whole_place}
 use Rattle.schema_syntax_parser.specs.Syntax as S
 use Rattle.schema_syntax_parser.specs.declared.syntax.PathSyntax.{PathSyntax}
 use Rattle.schema_syntax_parser.specs.declared.syntax.AnnotationSyntax.{AnnotationSyntax}
@@ -32,7 +33,8 @@ use Rattle.schema_syntax_reader.specs.declared.leaf.Leaf.TheVariants as leaf
 use Rattle.schema_syntax_reader.specs.Sites.{Site, site_of_kind, name_sites, names_sites, path_sites, paths_sites, sites_of_type, sites_of_attr, sites_of_attrs, shape_sites, tags_sites, app_sites, choices_sites, apps_sites, applies_sites, decl_sites, declared_sites, item_sites, sites_of}
 use Rattle.schema_syntax_reader.specs.Sites as site
 use Rattle.schema_syntax_reader.specs.Leaves.{IsLeaf, IsStringAt, AreNotes}
-use Rattle.schema_syntax_reader.specs.Building.{◌>>=◌, Builds, Attribute, id_from, text_from, notes_from, name_from, bare_id_from, id_node_from, name_node_from, choice_from, all_from, some_from, optional_from, path_of, names_from, path_from, front_names, type_of_ref_from, ref_from, type_from, attr_from, shape_from, tags_from, app_from, applies_from, entity_from, enum_from, external_entity_from, action_from, external_action_from, common_from, decl_from, declared_from, namespace_from, alone, outside_from, item_from}
+use Rattle.schema_syntax_parser.specs.Reading.{◌>>=◌}
+use Rattle.schema_syntax_reader.specs.Building.{Builds, BuiltAttribute, id_from, text_from, notes_from, name_from, bare_id_from, id_node_from, name_node_from, choice_from, all_from, some_from, optional_from, path_of, names_from, path_from, front_names, type_of_ref_from, ref_from, type_from, attr_from, shape_from, tags_from, app_from, applies_from, entity_from, enum_from, external_entity_from, action_from, external_action_from, common_from, decl_from, declared_from, namespace_from, outside_namespace, outside_from, item_from}
 use Rattle.schema_syntax_reader.specs.Trees.{IsId, IsIdNode, IsNameOf, IsNameNode, IsChoice, IsPathOf, IsOptional, IsTypeOfRef, IsRefOf, IsTypeOf, AreAttrsOf, IsShapeOf, AreTagsOf, IsAppOf, AppliesOf, IsDeclOf, IsDeclaredOf, IsItemOf, IsTreeOf}
 use Rattle.schema_syntax_reader.specs.Trees as tree
 use Rattle.schema_syntax_reader.proofs.Builders.{Each, Built, of_site, done, both, then, kept, same, all_built, some_built, optional_built}
@@ -159,7 +161,7 @@ module _ (text : List ℕ) where
 
   path_built : {u : List Token} {p : PathSyntax} → IsPath u p → B (path_sites p) (path_from p) (IsPathOf text p)
   unfolding path_from
-  path_built (path {u = u} r) = let c = chain r in subst (Whole (place_of u)) (sym c.whole) (path_names c.head c.tail (place_of u) c.each)
+  path_built (path {u = u} r) = let c = chain r in subst (Whole (whole_place u)) (sym c.whole) (path_names c.head c.tail (whole_place u) c.each)
 
   abbrev Paths : List PathSyntax → Type 0
   Paths ps = Each (λ p. B (path_sites p) (path_from p) (IsPathOf text p)) ps
@@ -181,7 +183,7 @@ module _ (text : List ℕ) where
 
   typed_path : (t : Token) (ts : List Token) → Each (λ t. is_ident t.kind ≡ true) (t ∷ ts) → B (names_sites (t ∷ ts)) (type_of_ref_from (t ∷ ts)) (IsTypeOfRef text (t ∷ ts))
   unfolding type_of_ref_from
-  typed_path t ts h = then text (λ (p : Path). Some p) (path_names t ts (place_of (t ∷ ts)) h) (λ p is. is)
+  typed_path t ts h = then text (λ (p : Path). Some p) (path_names t ts (whole_place (t ∷ ts)) h) (λ p is. is)
 
   no_path : B [] (type_of_ref_from []) (IsTypeOfRef text [])
   unfolding type_of_ref_from
@@ -197,10 +199,10 @@ module _ (text : List ℕ) where
       (λ eid h. (front, q, refl, h, is, refl))))
 
   ref_built : {u : List Token} {p : PathSyntax} → IsRef u p → B (path_sites p) (ref_from p) (IsRefOf text p)
-  ref_built (plain {t = t} h) = whole_ref [] t (place_of (t ∷ [])) no_path
+  ref_built (plain {t = t} h) = whole_ref [] t (whole_place (t ∷ [])) no_path
   ref_built (typed {u = u} {names = names} s q r e k) =
       let c = chain r in
-      whole_ref names q (place_of (u ++ s ∷ q ∷ [])) (subst (λ (ts : List Token). B (names_sites ts) (type_of_ref_from ts) (IsTypeOfRef text ts)) (sym c.whole) (typed_path c.head c.tail c.each))
+      whole_ref names q (whole_place (u ++ s ∷ q ∷ [])) (subst (λ (ts : List Token). B (names_sites ts) (type_of_ref_from ts) (IsTypeOfRef text ts)) (sym c.whole) (typed_path c.head c.tail c.each))
 
   abbrev Refs : List PathSyntax → Type 0
   Refs ps = B (paths_sites ps) (optional_from ref_from ps) (IsOptional text (AllZip (IsRefOf text)) ps)
@@ -209,10 +211,10 @@ module _ (text : List ℕ) where
   refs_built {ps = ps} r = optional_built text path_sites ref_from (IsRefOf text) ps (of_parents (λ u x p. ref_built p) r)
 
   -- types
-  abbrev attr_of : AttrSyntax → Node (List ℕ) → Node «Type» → Annotations → Attribute
+  abbrev attr_of : AttrSyntax → Node (List ℕ) → Node «Type» → Annotations → BuiltAttribute
   attr_of a name ty notes = record { node = record { item = roll-AttrDecl (record { name = name; required = (out-AttrSyntax a).required; ty = ty }); annotations = notes }; loc = Some (out-AttrSyntax a).loc }
 
-  record IsAttrOf (a : AttrSyntax) (n : Attribute) : Type 0 where
+  record IsAttrOf (a : AttrSyntax) (n : BuiltAttribute) : Type 0 where
     name : Node (List ℕ)
     ty : Node «Type»
     notes : Annotations
@@ -221,8 +223,8 @@ module _ (text : List ℕ) where
     is_type : IsTypeOf text (out-AttrSyntax a).ty ty
     are_notes : AreNotes text (out-AttrSyntax a).annotations notes.0
 
-  more_attr : (a : AttrSyntax) (xs : List AttrSyntax) (n : Attribute) (ys : List Attribute) → IsAttrOf a n → AreAttrsOf text xs ys → AreAttrsOf text (a ∷ xs) (n ∷ ys)
-  more_attr a xs n ys h r = subst (λ (m : Attribute). AreAttrsOf text (a ∷ xs) (m ∷ ys)) (sym h.whole) (tree.more h.name h.ty h.notes h.is_name h.is_type h.are_notes r)
+  more_attr : (a : AttrSyntax) (xs : List AttrSyntax) (n : BuiltAttribute) (ys : List BuiltAttribute) → IsAttrOf a n → AreAttrsOf text xs ys → AreAttrsOf text (a ∷ xs) (n ∷ ys)
+  more_attr a xs n ys h r = subst (λ (m : BuiltAttribute). AreAttrsOf text (a ∷ xs) (m ∷ ys)) (sym h.whole) (tree.more h.name h.ty h.notes h.is_name h.is_type h.are_notes r)
 
   abbrev TypeBuilt : TypeSyntax → Type 0
   TypeBuilt t = B (sites_of_type t) (type_from t) (IsTypeOf text t)
@@ -245,13 +247,13 @@ module _ (text : List ℕ) where
 
   attr_more : (a : AttrSyntax) (xs : List AttrSyntax) → AttrBuilt a → AttrsBuilt xs → AttrsBuilt (a ∷ xs)
   unfolding all_from
-  attr_more a xs b r = both text _ b (λ n is. then text (λ (ys : List Attribute). n ∷ ys) r (λ ys are. more_attr a xs n ys is are))
+  attr_more a xs b r = both text _ b (λ n is. then text (λ (ys : List BuiltAttribute). n ∷ ys) r (λ ys are. more_attr a xs n ys is are))
 
   mutual
     type_built : {u : List Token} {t : TypeSyntax} → IsType u t → TypeBuilt t
     type_built (path_type {p = p} r) = same text (sites_path p) (type_path p) (then text _ (path_built r) (λ q is. tree.path is))
-    type_built (set_type {s = s} {o = o} c {u = u} {t = t} ks ko r kc) = let loc = place_of (s ∷ o ∷ (u ++ c ∷ [])) in same text (sites_set t loc) (type_set t loc) (then text _ (type_built r) (λ n is. tree.set loc is))
-    type_built (record_type {u = u} {xs = xs} (braces c ko r kc)) = let loc = place_of u in same text (sites_record xs loc) (type_record xs loc) (then text _ (attrs_built r) (λ ys are. tree.attributes loc are))
+    type_built (set_type {s = s} {o = o} c {u = u} {t = t} ks ko r kc) = let loc = whole_place (s ∷ o ∷ (u ++ c ∷ [])) in same text (sites_set t loc) (type_set t loc) (then text _ (type_built r) (λ n is. tree.set loc is))
+    type_built (record_type {u = u} {xs = xs} (braces c ko r kc)) = let loc = whole_place u in same text (sites_record xs loc) (type_record xs loc) (then text _ (attrs_built r) (λ ys are. tree.attributes loc are))
 
     attr_built : {u : List Token} {a : AttrSyntax} → IsAttr u a → AttrBuilt a
     attr_built (attr n c xs h m k r) = one_attr _ (type_built r)
@@ -271,8 +273,8 @@ module _ (text : List ℕ) where
   shape_built : {u : List Token} {s : Option (List AttrSyntax × Span)} → IsShape u s → B (shape_sites s) (shape_from s) (IsShapeOf text s)
   unfolding shape_from
   shape_built no_shape = done text _ (refl, refl)
-  shape_built (bare_shape {u = u} {xs = xs} r) = shape_some xs (place_of u) (record_built r)
-  shape_built (equals_shape {u = u} {xs = xs} e r) = shape_some xs (place_of u) (record_built r)
+  shape_built (bare_shape {u = u} {xs = xs} r) = shape_some xs (whole_place u) (record_built r)
+  shape_built (equals_shape {u = u} {xs = xs} e r) = shape_some xs (whole_place u) (record_built r)
 
   tags_built : {u : List Token} {t : Option TypeSyntax} → AreTags u t → B (tags_sites t) (tags_from t) (AreTagsOf text t)
   unfolding tags_from
@@ -305,7 +307,7 @@ module _ (text : List ℕ) where
   applies_built (some_applies c {xs = xs} kw ko r kc) = then text _ (some_apps_built xs _ (separated (λ u x p. app_built p) r)) (λ ys are. (are, refl))
 
   -- declarations
-  string_choice : {u : List Token} {t : Token} → IsString u t → B (name_sites t) (choice_from t) (IsChoice text t)
+  string_choice : {u : List Token} {t : Token} → IsStringToken u t → B (name_sites t) (choice_from t) (IsChoice text t)
   string_choice (string {t = t} h) = choice t h
 
   choices_built : (ts : List Token) (loc : Span) → Each (λ t. B (name_sites t) (choice_from t) (IsChoice text t)) ts → B (choices_sites ts loc) (some_from choice_from ts) (AllZip (IsChoice text) ts)
@@ -336,7 +338,7 @@ module _ (text : List ℕ) where
   unfolding namespace_from outside_from
   item_built (namespace n o c {xs = xs} {ds = ds} a kn p ko r kc) =
       both text _ (notes xs) λ notes are. both text _ (path_built p) λ name is. then text _ (all_built text declared_sites declared_from (IsDeclaredOf text) ds (many (λ u x p. declared_built p) r)) λ decls is_decls. (name, decls, refl, is, is_decls, are)
-  item_built (outside r) = then text alone (declared_built r) λ d is. (d, refl, is)
+  item_built (outside r) = then text outside_namespace (declared_built r) λ d is. (d, refl, is)
 
   pub tree_built : {tokens : List Token} {items : List ItemSyntax} → IsSyntax tokens items → B (sites_of items) (all_from item_from items) (IsTreeOf text items)
   tree_built {items = items} r = all_built text item_sites item_from (IsItemOf text) items (many (λ u x p. item_built p) r)

@@ -18,7 +18,9 @@ use Rattle.schema_syntax_parser.specs.declared.syntax.AppSyntax.{AppSyntax}
 use Rattle.schema_syntax_parser.specs.declared.syntax.DeclSyntax.{DeclSyntax}
 use Rattle.schema_syntax_parser.specs.declared.syntax.DeclaredSyntax.{DeclaredSyntax}
 use Rattle.schema_syntax_parser.specs.declared.syntax.ItemSyntax.{ItemSyntax}
-use Rattle.schema_syntax_parser.specs.Syntax.{end_of, place_of, IsChain, AreSeparated, AreListed, AreMany, IsPath, IsRef, AreParents, AreAnnotations, IsMark, IsType, IsRecord, AreAttrs, IsAttr, IsShape, AreTags, IsString, is_role, IsApp, Applies, IsDecl, IsDeclared, IsItem, IsSyntax}
+use Rattle.schema_syntax_parser.specs.Syntax.{IsChain, AreSeparated, AreListed, AreMany, IsPath, IsRef, AreParents, AreAnnotations, IsMark, IsType, IsRecord, AreAttrs, IsAttr, IsShape, AreTags, IsStringToken, is_role, IsApp, Applies, IsDecl, IsDeclared, IsItem, IsSyntax}
+use Rattle.schema_syntax_parser.proofs.Heads.{ident_name}
+use Rattle.schema_syntax_tokens.specs.TokenLists.{end_of, whole_place}
 use Rattle.schema_syntax_parser.specs.Syntax as S
 use Rattle.schema_syntax_reader.specs.Sites.{Site, word, text, annotations, empty, site_of_kind, name_sites, names_sites, path_sites, paths_sites, sites_of_type, sites_of_attr, sites_of_attrs, shape_sites, tags_sites, app_sites, choices_sites, apps_sites, applies_sites, decl_sites, declared_sites, item_sites, sites_of}
 use Rattle.schema_syntax_reader.specs.Placed.{Rise, note_tokens, IsPlacedNote, IsPlacedSite}
@@ -71,22 +73,6 @@ site_word KwTags h t = refl
 site_word KwEnum h t = refl
 site_word Identifier h t = refl
 site_word _ h t = cc
-
-ident_name : (k : TokenKind) → is_ident k ≡ true → is_name_kind k ≡ true
-ident_name KwNamespace h = refl
-ident_name KwEntity h = refl
-ident_name KwExternal h = refl
-ident_name KwType h = refl
-ident_name KwSet h = refl
-ident_name KwAppliesTo h = refl
-ident_name KwPrincipal h = refl
-ident_name KwAction h = refl
-ident_name KwResource h = refl
-ident_name KwContext h = refl
-ident_name KwTags h = refl
-ident_name KwEnum h = refl
-ident_name Identifier h = refl
-ident_name _ h = cc
 
 module _ (source : List ℕ) where
   -- tokens as the scanner leaves them
@@ -176,7 +162,7 @@ module _ (source : List ℕ) where
       string_name : (k : TokenKind) → k ≡ StringLit → is_name_kind k ≡ true
       string_name k e = rw e refl
 
-  string_fits : {u : List Token} {t : Token} → IsString u t → Good u → Fits u (name_sites t)
+  string_fits : {u : List Token} {t : Token} → IsStringToken u t → Good u → Fits u (name_sites t)
   string_fits (S.string {t = t} h) g = name_fits t [] (rw h refl) g
 
   -- lists of parts
@@ -229,9 +215,9 @@ module _ (source : List ℕ) where
     type_fits : {u : List Token} {t : TypeSyntax} → IsType u t → Good u → Fits u (sites_of_type t)
     type_fits (S.path_type {u = u} {p = p} r) g = subst (Fits u) (sym (of_path p)) (path_fits r g)
     type_fits (S.set_type {s = s} {o = o} c {u = u} {t = t} ks ko r kc) g =
-        subst (Fits (s ∷ o ∷ (u ++ c ∷ []))) (sym (of_set t (place_of (s ∷ o ∷ (u ++ c ∷ [])))))
+        subst (Fits (s ∷ o ∷ (u ++ c ∷ []))) (sym (of_set t (whole_place (s ∷ o ∷ (u ++ c ∷ [])))))
         (fits_skip s (o ∷ (u ++ c ∷ [])) (sites_of_type t) (fits_skip o (u ++ c ∷ []) (sites_of_type t) (fits_end u (c ∷ []) (sites_of_type t) (type_fits r (good_left u (c ∷ []) (good_rest o (u ++ c ∷ []) (good_rest s (o ∷ (u ++ c ∷ [])) g)))))))
-    type_fits (S.record_type {u = u} {xs = xs} r) g = subst (Fits u) (sym (of_record xs (place_of u))) (record_fits r g)
+    type_fits (S.record_type {u = u} {xs = xs} r) g = subst (Fits u) (sym (of_record xs (whole_place u))) (record_fits r g)
 
     record_fits : {u : List Token} {xs : List AttrSyntax} → IsRecord u xs → Good u → Fits u (sites_of_attrs xs)
     record_fits (S.braces {o = o} c {u = u} {xs = xs} ko r kc) g =
@@ -268,7 +254,7 @@ module _ (source : List ℕ) where
   app_fits (S.context_record {w = w} {c = c} {u = u} {xs = xs} h k r) g = fits_skip w (c ∷ u) (sites_of_attrs xs) (fits_skip c u (sites_of_attrs xs) (record_fits r (good_rest c u (good_rest w (c ∷ u) g))))
 
   -- the end of two brackets with nothing between them
-  end_is : (o c : Token) → Good (o ∷ c ∷ []) → (place_of (o ∷ c ∷ [])).end ≡ c.loc.end
+  end_is : (o c : Token) → Good (o ∷ c ∷ []) → (whole_place (o ∷ c ∷ [])).end ≡ c.loc.end
   end_is o c g =
       let a = All-head (λ s. o.loc.end ≤ s.loc.end) c [] g.rise.0 in
       let b = (All-head (IsPlaced source) o (c ∷ []) g.placed).in_order in
@@ -277,21 +263,21 @@ module _ (source : List ℕ) where
       max_is : (n m : ℕ) → n ≤ m → max n m ≡ m
       max_is n m h = omega (arith, h)
 
-  empty_fits : (o c : Token) → Good (o ∷ c ∷ []) → Fits (o ∷ c ∷ []) (empty (place_of (o ∷ c ∷ [])) ∷ [])
+  empty_fits : (o c : Token) → Good (o ∷ c ∷ []) → Fits (o ∷ c ∷ []) (empty (whole_place (o ∷ c ∷ [])) ∷ [])
   empty_fits o c g = record {
-    placed = All-cons (IsPlacedSite source) (empty (place_of (o ∷ c ∷ []))) [] tt (All-nil (IsPlacedSite source));
+    placed = All-cons (IsPlacedSite source) (empty (whole_place (o ∷ c ∷ []))) [] tt (All-nil (IsPlacedSite source));
     sub = subst (λ e. Sub (e ∷ []) (ends (o ∷ c ∷ []))) (sym (end_is o c g)) (skip o.loc.end (keep c.loc.end none));
   }
 
   -- items between two brackets, or nothing between them
-  choices_fit : (o c : Token) {u choices : List Token} → AreSeparated IsString u choices → Good (o ∷ (u ++ c ∷ [])) → Fits (o ∷ (u ++ c ∷ [])) (choices_sites choices (place_of (o ∷ (u ++ c ∷ []))))
+  choices_fit : (o c : Token) {u choices : List Token} → AreSeparated IsStringToken u choices → Good (o ∷ (u ++ c ∷ [])) → Fits (o ∷ (u ++ c ∷ [])) (choices_sites choices (whole_place (o ∷ (u ++ c ∷ []))))
   choices_fit o c S.none g = empty_fits o c g
   choices_fit o c (S.last {u = u} {x = x} p) g =
-      fits_skip o (u ++ c ∷ []) (names_sites (x ∷ [])) (fits_end u (c ∷ []) (names_sites (x ∷ [])) (separated_fit IsString name_sites (λ u t s. string_fits s) (S.last p) (good_left u (c ∷ []) (good_rest o (u ++ c ∷ []) g))))
+      fits_skip o (u ++ c ∷ []) (names_sites (x ∷ [])) (fits_end u (c ∷ []) (names_sites (x ∷ [])) (separated_fit IsStringToken name_sites (λ u t s. string_fits s) (S.last p) (good_left u (c ∷ []) (good_rest o (u ++ c ∷ []) g))))
   choices_fit o c (S.more {u = u} {v = v} d {x = x} {xs = xs} p k r) g =
-      fits_skip o ((u ++ d ∷ v) ++ c ∷ []) (names_sites (x ∷ xs)) (fits_end (u ++ d ∷ v) (c ∷ []) (names_sites (x ∷ xs)) (separated_fit IsString name_sites (λ u t s. string_fits s) (S.more d p k r) (good_left (u ++ d ∷ v) (c ∷ []) (good_rest o ((u ++ d ∷ v) ++ c ∷ []) g))))
+      fits_skip o ((u ++ d ∷ v) ++ c ∷ []) (names_sites (x ∷ xs)) (fits_end (u ++ d ∷ v) (c ∷ []) (names_sites (x ∷ xs)) (separated_fit IsStringToken name_sites (λ u t s. string_fits s) (S.more d p k r) (good_left (u ++ d ∷ v) (c ∷ []) (good_rest o ((u ++ d ∷ v) ++ c ∷ []) g))))
 
-  apps_fit : (o c : Token) {u : List Token} {apps : List AppSyntax} → AreSeparated IsApp u apps → Good (o ∷ (u ++ c ∷ [])) → Fits (o ∷ (u ++ c ∷ [])) (apps_sites apps (place_of (o ∷ (u ++ c ∷ []))))
+  apps_fit : (o c : Token) {u : List Token} {apps : List AppSyntax} → AreSeparated IsApp u apps → Good (o ∷ (u ++ c ∷ [])) → Fits (o ∷ (u ++ c ∷ [])) (apps_sites apps (whole_place (o ∷ (u ++ c ∷ []))))
   apps_fit o c S.none g = empty_fits o c g
   apps_fit o c (S.last {u = u} {x = x} p) g =
       fits_skip o (u ++ c ∷ []) (flat_map app_sites (x ∷ [])) (fits_end u (c ∷ []) (flat_map app_sites (x ∷ [])) (separated_fit IsApp app_sites (λ u a p. app_fits p) (S.last p) (good_left u (c ∷ []) (good_rest o (u ++ c ∷ []) g))))
@@ -300,7 +286,7 @@ module _ (source : List ℕ) where
 
   applies_fit : {u : List Token} {s : Option (List AppSyntax × Span)} → Applies u s → Good u → Fits u (applies_sites s)
   applies_fit S.no_applies g = fits_none
-  applies_fit (S.some_applies {w = w} {o = o} c {u = u} {xs = xs} h ko s k) g = fits_skip w (o ∷ (u ++ c ∷ [])) (apps_sites xs (place_of (o ∷ (u ++ c ∷ [])))) (apps_fit o c s (good_rest w (o ∷ (u ++ c ∷ [])) g))
+  applies_fit (S.some_applies {w = w} {o = o} c {u = u} {xs = xs} h ko s k) g = fits_skip w (o ∷ (u ++ c ∷ [])) (apps_sites xs (whole_place (o ∷ (u ++ c ∷ [])))) (apps_fit o c s (good_rest w (o ∷ (u ++ c ∷ [])) g))
 
   -- the semicolon
   semi_fits : (z : Token) → Fits (z ∷ []) []
@@ -328,7 +314,7 @@ module _ (source : List ℕ) where
       let g1 = good_rest e (i ++ n ∷ o ∷ (s ++ c ∷ z ∷ [])) g in
       let g2 = good_rest n (o ∷ (s ++ c ∷ z ∷ [])) (good_right i (n ∷ o ∷ (s ++ c ∷ z ∷ [])) g1) in
       let g3 = good_left (o ∷ (s ++ c ∷ [])) (z ∷ []) (subst Good whole g2) in
-      let sites = choices_sites choices (place_of (o ∷ (s ++ c ∷ []))) in
+      let sites = choices_sites choices (whole_place (o ∷ (s ++ c ∷ []))) in
       let two = subst (λ x. Fits x sites) (sym whole) (fits_end (o ∷ (s ++ c ∷ [])) (z ∷ []) sites (choices_fit o c ss g3)) in
       fits_skip e (i ++ n ∷ o ∷ (s ++ c ∷ z ∷ [])) (names_sites names ++ sites)
       (fits_join i (n ∷ o ∷ (s ++ c ∷ z ∷ [])) (names_sites names) sites (idents_fit is (good_left i (n ∷ o ∷ (s ++ c ∷ z ∷ [])) g1)) (fits_skip n (o ∷ (s ++ c ∷ z ∷ [])) sites two))

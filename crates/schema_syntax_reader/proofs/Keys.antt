@@ -23,9 +23,9 @@ use Rattle.cedar_identifiers.specs.declared.any_id.AnyId.{AnyId}
 use Rattle.cedar_identifiers.specs.Same.{any_id_same}
 use Rattle.schema_syntax_errors.specs.declared.user_error.UserError.TheVariants.{DuplicateAnnotations}
 use Rattle.schema_syntax_reader.specs.declared.annotations.Kept.{Kept}
-use Rattle.schema_syntax_reader.specs.Deduplicated.{Placed, key_of, key_place, HaveOtherKeys, IsTwice}
+use Rattle.schema_syntax_reader.specs.Deduplicated.{Placed, placed_key, key_place, HaveOtherKeys, IsTwice}
 use Rattle.schema_syntax_reader.specs.Collected.{entry_of, HasRead}
-use Rattle.schema_syntax_reader.proofs.PlacedWords.{word_ascii}
+use Rattle.cedar_data.proofs.Ascii.{word_ascii}
 
 -- the order of keys
 abbrev pub key_cmp : AnyId → AnyId → Ordering
@@ -43,8 +43,8 @@ key_same a b h =
 key_ties : (a : AnyId) → is_eq (key_cmp a a) ≡ true
 key_ties a = is_eq-slice_cmp (encode_utf8_all a.text) (encode_utf8_all a.text) ∙ (bytes_eq-Decides (encode_utf8_all a.text) (encode_utf8_all a.text)).1 refl
 
-other_key : (a p : Placed) → is_eq (key_cmp (key_of a) (key_of p)) ≡ false → HaveOtherKeys p a
-other_key a p h = λ e. let f : false ≡ true = sym h ∙ (ap (λ k. is_eq (key_cmp (key_of a) k)) e ∙ key_ties (key_of a)) in cc
+other_key : (a p : Placed) → is_eq (key_cmp (placed_key a) (placed_key p)) ≡ false → HaveOtherKeys p a
+other_key a p h = λ e. let f : false ≡ true = sym h ∙ (ap (λ k. is_eq (key_cmp (placed_key a) k)) e ∙ key_ties (placed_key a)) in cc
 
 -- a new key goes among the entries
 insert_by : {K X : Type 0} (R : K → K → Ordering) (k : K) (v : X) (e : K × X) (es : List (K × X)) (o : Ordering) → is_eq o ≡ false → IsPermutation ((k, v) ∷ es) (insert_entry R es k v)
@@ -72,16 +72,16 @@ split_map f y (x ∷ xs) (suc k) lt e = let r = split_map f y xs k (omega arith)
 pub has_none : (all : List Placed) → HasRead all all []
 has_none all = record { front = []; split = refl; same = IsPermutation-refl []; apart = λ i j d lt h. absurd (omega arith) }
 
-pub has_more : (all left after : List Placed) (a : Placed) (entries entries' : List (AnyId × Kept)) → HasRead all left entries → left ≡ a ∷ after → lookup (is_at (key_cmp (key_of a))) entries ≡ None
-    → entries' ≡ insert_entry key_cmp entries (key_of a) (entry_of a).1 → HasRead all after entries'
+pub has_more : (all left after : List Placed) (a : Placed) (entries entries' : List (AnyId × Kept)) → HasRead all left entries → left ≡ a ∷ after → lookup (is_at (key_cmp (placed_key a))) entries ≡ None
+    → entries' ≡ insert_entry key_cmp entries (placed_key a) (entry_of a).1 → HasRead all after entries'
 has_more all left after a entries entries' h e none into =
-    let free : NonePasses (is_at (key_cmp (key_of a))) entries = none_passes_from_lookup (is_at (key_cmp (key_of a))) entries none in
-    let pushed : IsPermutation (map entry_of h.front ++ entry_of a ∷ []) (insert_entry key_cmp entries (key_of a) (entry_of a).1) =
-    IsPermutation-push_more (map entry_of h.front) entries (insert_entry key_cmp entries (key_of a) (entry_of a).1) (entry_of a) h.same (insert_new key_cmp (key_of a) (entry_of a).1 entries free) in
-    let Other : AnyId × Kept → Type 0 = λ x. is_eq (key_cmp (key_of a) x.0) ≡ false in
+    let free : NonePasses (is_at (key_cmp (placed_key a))) entries = none_passes_from_lookup (is_at (key_cmp (placed_key a))) entries none in
+    let pushed : IsPermutation (map entry_of h.front ++ entry_of a ∷ []) (insert_entry key_cmp entries (placed_key a) (entry_of a).1) =
+    IsPermutation-push_more (map entry_of h.front) entries (insert_entry key_cmp entries (placed_key a) (entry_of a).1) (entry_of a) h.same (insert_new key_cmp (placed_key a) (entry_of a).1 entries free) in
+    let Other : AnyId × Kept → Type 0 = λ x. is_eq (key_cmp (placed_key a) x.0) ≡ false in
     let others : AllByRecursion Other (map entry_of h.front) =
     recursion_from_All Other (map entry_of h.front) (All-permutation Other entries (map entry_of h.front) (IsPermutation-sym (map entry_of h.front) entries h.same) (All-from_recursion Other entries free)) in
-    let apart : All (λ p. is_eq (key_cmp (key_of a) (key_of p)) ≡ false) h.front = All-from_recursion (λ p. is_eq (key_cmp (key_of a) (key_of p)) ≡ false) h.front (unmapped Other entry_of h.front others) in
+    let apart : All (λ p. is_eq (key_cmp (placed_key a) (placed_key p)) ≡ false) h.front = All-from_recursion (λ p. is_eq (key_cmp (placed_key a) (placed_key p)) ≡ false) h.front (unmapped Other entry_of h.front others) in
     record {
       front = h.front ++ a ∷ [];
       split = h.split ∙ (ap (λ l. h.front ++ l) e ∙ sym (append_assoc h.front (a ∷ []) after));
@@ -89,12 +89,12 @@ has_more all left after a entries entries' h e none into =
       apart = all_pairs_push HaveOtherKeys h.front a h.apart (λ k d lt. other_key a (get_or h.front k d) (apart k d lt));
     }
 
-again_by : (a old : Placed) (kept : Kept) → entry_of old ≡ (key_of a, kept) → key_of a ≡ key_of old
+again_by : (a old : Placed) (kept : Kept) → entry_of old ≡ (placed_key a, kept) → placed_key a ≡ placed_key old
 again_by a old kept e = λ i. (sym e i).0
 
-told_by : (a old : Placed) (kept : Kept) → entry_of old ≡ (key_of a, kept)
-    → DuplicateAnnotations (key_of a) (record { node = tt; loc = kept.place }) (record { node = tt; loc = key_place a }) ≡ DuplicateAnnotations (key_of a) (record { node = tt; loc = key_place old }) (record { node = tt; loc = key_place a })
-told_by a old kept e = λ i. DuplicateAnnotations (key_of a) (record { node = tt; loc = (sym e i).1.place }) (record { node = tt; loc = key_place a })
+told_by : (a old : Placed) (kept : Kept) → entry_of old ≡ (placed_key a, kept)
+    → DuplicateAnnotations (placed_key a) (record { node = tt; loc = kept.place }) (record { node = tt; loc = key_place a }) ≡ DuplicateAnnotations (placed_key a) (record { node = tt; loc = key_place old }) (record { node = tt; loc = key_place a })
+told_by a old kept e = λ i. DuplicateAnnotations (placed_key a) (record { node = tt; loc = (sym e i).1.place }) (record { node = tt; loc = key_place a })
 
 split_by : (all front after : List Placed) (a : Placed) (before : List Placed) (old : Placed) (middle : List Placed) → all ≡ front ++ a ∷ after → front ≡ before ++ old ∷ middle → all ≡ (before ++ old ∷ middle) ++ a ∷ after
 split_by all front after a before old middle e f = e ∙ ap (λ l. l ++ a ∷ after) f
@@ -102,12 +102,12 @@ split_by all front after a before old middle e f = e ∙ ap (λ l. l ++ a ∷ af
 apart_by : (front before : List Placed) (old : Placed) (middle : List Placed) → front ≡ before ++ old ∷ middle → AllPairs HaveOtherKeys front → AllPairs HaveOtherKeys (before ++ old ∷ middle)
 apart_by front before old middle f h = subst (AllPairs HaveOtherKeys) f h
 
-pub has_twice : (all left after : List Placed) (a : Placed) (entries : List (AnyId × Kept)) (kept : Kept) → HasRead all left entries → left ≡ a ∷ after → lookup (is_at (key_cmp (key_of a))) entries ≡ Some kept
-    → IsTwice all (DuplicateAnnotations (key_of a) (record { node = tt; loc = kept.place }) (record { node = tt; loc = key_place a }))
+pub has_twice : (all left after : List Placed) (a : Placed) (entries : List (AnyId × Kept)) (kept : Kept) → HasRead all left entries → left ≡ a ∷ after → lookup (is_at (key_cmp (placed_key a))) entries ≡ Some kept
+    → IsTwice all (DuplicateAnnotations (placed_key a) (record { node = tt; loc = kept.place }) (record { node = tt; loc = key_place a }))
 has_twice all left after a entries kept h e found =
-    let there : Contains entries (key_of a, kept) = Contains-from_lookup {eq = λ x y. is_eq (key_cmp x y)} key_same (key_of a) kept entries found in
-    let c : Contains (map entry_of h.front) (key_of a, kept) = Contains-permutation entries (map entry_of h.front) (key_of a, kept) (IsPermutation-sym (map entry_of h.front) entries h.same) there in
-    let r = split_map entry_of (key_of a, kept) h.front c.0 c.1 c.2 in
+    let there : Contains entries (placed_key a, kept) = Contains-from_lookup {eq = λ x y. is_eq (key_cmp x y)} key_same (placed_key a) kept entries found in
+    let c : Contains (map entry_of h.front) (placed_key a, kept) = Contains-permutation entries (map entry_of h.front) (placed_key a, kept) (IsPermutation-sym (map entry_of h.front) entries h.same) there in
+    let r = split_map entry_of (placed_key a, kept) h.front c.0 c.1 c.2 in
     record {
       front = r.0;
       old = r.1;

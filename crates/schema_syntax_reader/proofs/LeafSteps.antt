@@ -9,7 +9,7 @@ use Rattle.schema_syntax_reader.specs.declared.leaf.Leaf.{Leaf}
 use Rattle.schema_syntax_reader.specs.declared.stopped.Stopped.{Stopped}
 use Rattle.schema_syntax_reader.specs.declared.stopped.Stopped.TheVariants.{Memory, User}
 use Rattle.schema_syntax_reader.specs.Leaves.{IsLeaf}
-use Rattle.schema_syntax_reader.specs.Placed.{IsPlacedSite, NoFault}
+use Rattle.schema_syntax_reader.specs.Placed.{IsPlacedSite, NoSiteFault}
 use Rattle.schema_syntax_reader.specs.SiteViews.{site_of}
 use Rattle.schema_syntax_reader.specs.Stops.{IsStopped, IsStoppedAt}
 use Rattle.schema_syntax_reader.proofs.Keys.{unmapped}
@@ -28,11 +28,11 @@ leaves_more source sites i s leaves leaves' leaf lt at so_far next into =
     subst (λ l. AllZip (IsLeaf source) l leaves') (sym (sites_more sites i s lt at))
     (subst (AllZip (IsLeaf source) (map site_of (take i sites) ++ site_of s ∷ [])) (sym into) (all_zipped_more (IsLeaf source) (map site_of (take i sites)) leaves (site_of s) leaf so_far next))
 
-pub lawful_more : (source : List ℕ) (sites : List Site) (i : ℕ) (s : Site) → i < length sites → s ≡ get_or sites i s → All (NoFault source) (map site_of (take i sites)) → NoFault source (site_of s)
-    → All (NoFault source) (map site_of (take (i + 1) sites))
-lawful_more source sites i s lt at so_far next = subst (All (NoFault source)) (sym (sites_more sites i s lt at)) (All-push (NoFault source) (map site_of (take i sites)) (site_of s) so_far next)
+pub lawful_more : (source : List ℕ) (sites : List Site) (i : ℕ) (s : Site) → i < length sites → s ≡ get_or sites i s → All (NoSiteFault source) (map site_of (take i sites)) → NoSiteFault source (site_of s)
+    → All (NoSiteFault source) (map site_of (take (i + 1) sites))
+lawful_more source sites i s lt at so_far next = subst (All (NoSiteFault source)) (sym (sites_more sites i s lt at)) (All-push (NoSiteFault source) (map site_of (take i sites)) (site_of s) so_far next)
 
-pub site_stops : (source : List ℕ) (sites : List Site) (i : ℕ) (s : Site) (e : Stopped) → i < length sites → s ≡ get_or sites i s → All (NoFault source) (map site_of (take i sites)) → IsStoppedAt source (site_of s) e
+pub site_stops : (source : List ℕ) (sites : List Site) (i : ℕ) (s : Site) (e : Stopped) → i < length sites → s ≡ get_or sites i s → All (NoSiteFault source) (map site_of (take i sites)) → IsStoppedAt source (site_of s) e
     → IsStopped source (map site_of sites) e
 site_stops source sites i s Memory lt at before h = tt
 site_stops source sites i s (User fault) lt at before h =

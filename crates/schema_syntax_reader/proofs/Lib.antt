@@ -8,7 +8,6 @@ pub mod Loops
 pub mod NoteFaults
 pub mod Order
 pub mod PlacedWords
-pub mod Places
 pub mod ReadSteps
 pub mod Rising
 pub mod RisingNotes

@@ -2,9 +2,10 @@
 use Rattle.std.proofs.Common.{◌≡◌, ℕ, suc, ◌+◌, ◌<◌, ◌≤◌, List, [], ◌∷◌, ◌++◌, length, drop, get_or, Option, Some, None, refl, sym, ap, ◌∙◌, append_assoc, add-one, drop-cons}
 use Rattle.std.proofs.lemmas.List.{append-nil, drop_all}
 use Rattle.schema_syntax_reader.specs.declared.leaf.Leaf.{Leaf}
-use Rattle.schema_syntax_reader.specs.declared.stop.Stop.{Stop}
-use Rattle.schema_syntax_reader.specs.declared.stop.Stop.TheVariants.{Memory, Mismatch}
-use Rattle.schema_syntax_reader.specs.Building.{◌>>=◌, Builds, Fails, all_from, with_parts}
+use Rattle.schema_syntax_parser.specs.declared.stop.Stop.{Stop}
+use Rattle.schema_syntax_parser.specs.declared.stop.Stop.TheVariants.{Memory, Mismatch}
+use Rattle.schema_syntax_parser.specs.Reading.{◌>>=◌}
+use Rattle.schema_syntax_reader.specs.Building.{Builds, FailsToBuild, all_from, with_parts}
 
 with_with : {A : Type 0} (done : List A) (x : A) (built : Option (List A × List Leaf)) → with_parts (done ++ x ∷ []) built ≡ with_parts done (built >>= λ r. Some (x ∷ r.0, r.1))
 with_with done x None = refl
@@ -21,7 +22,7 @@ module _ {R A : Type 0} (part : R → Builds A) (done : List A) (raws : List R) 
     unfolding all_from
     next_part = rw (add-one, drop-cons raws i r within) (ap (λ (s : R). part s leaves >>= λ x. all_from part (drop (suc i) raws) x.1 >>= λ xs. Some (x.0 ∷ xs.0, xs.1)) (sym is))
 
-    pub part_fails : (e : Stop) → Fails e (part r leaves) → Fails e total
+    pub part_fails : (e : Stop) → FailsToBuild e (part r leaves) → FailsToBuild e total
     part_fails Memory f = tt
     part_fails Mismatch f = sym so_far ∙ rw (next_part, f) refl
 

@@ -17,9 +17,9 @@ use Rattle.schema_syntax_reader.specs.declared.stopped.Stopped.TheVariants.{User
 use Rattle.schema_syntax_reader.specs.Sites.{annotations}
 use Rattle.schema_syntax_reader.specs.Leaves.{word_at, Notes, HasNote, AreNotes}
 use Rattle.schema_syntax_reader.specs.UserFaults.{FaultAt, IsBadEscapeAt, IsOtherKey, note_escape, duplicate}
-use Rattle.schema_syntax_reader.specs.Placed.{Rise, note_tokens, NoFault}
+use Rattle.schema_syntax_reader.specs.Placed.{Rise, note_tokens, NoSiteFault}
 use Rattle.schema_syntax_reader.specs.Stops.{IsFaultOf, IsEscapeStop}
-use Rattle.schema_syntax_reader.specs.Deduplicated.{Placed, key_of, key_place, value_of, HaveOtherKeys, AreKept, IsTwice}
+use Rattle.schema_syntax_reader.specs.Deduplicated.{Placed, placed_key, key_place, value_of, HaveOtherKeys, AreKept, IsTwice}
 use Rattle.schema_syntax_reader.specs.ReadNotes.{NoBadValue, IsBadValue, IsKeyRead, IsRead, AreReadTo, AreRead}
 use Rattle.schema_syntax_reader.proofs.RisingNotes.{kept_found, kept_as_many}
 use Rattle.schema_syntax_reader.proofs.SiteFaults.{end_of}
@@ -49,7 +49,7 @@ abbrev words : List ℕ → List AnnotationSyntax → List (List ℕ)
 words source list = map (λ a. word_at source a.key) list
 
 abbrev texts : List Placed → List (List ℕ)
-texts ps = map (λ p. (key_of p).text) ps
+texts ps = map (λ p. (placed_key p).text) ps
 
 words_read : (source : List ℕ) (list : List AnnotationSyntax) (ps : List Placed) → AllZip (IsRead source) list ps → words source list ≡ texts ps
 words_read source [] [] h = refl
@@ -62,9 +62,9 @@ abbrev Apart : List (List ℕ) → Type 0
 Apart [] = Unit {0}
 Apart (w ∷ ws) = AllByRecursion (λ v. w ≢ v) ws × Apart ws
 
-others : (p : Placed) (ps : List Placed) → All (HaveOtherKeys p) ps → AllByRecursion (λ v. (key_of p).text ≢ v) (texts ps)
+others : (p : Placed) (ps : List Placed) → All (HaveOtherKeys p) ps → AllByRecursion (λ v. (placed_key p).text ≢ v) (texts ps)
 others p [] h = tt
-others p (q ∷ qs) h = (λ e. All-head (HaveOtherKeys p) q qs h (any_id_same (key_of p) (key_of q) e), others p qs (All-tail (HaveOtherKeys p) q qs h))
+others p (q ∷ qs) h = (λ e. All-head (HaveOtherKeys p) q qs h (any_id_same (placed_key p) (placed_key q) e), others p qs (All-tail (HaveOtherKeys p) q qs h))
 
 apart_texts : (ps : List Placed) → AllPairs HaveOtherKeys ps → Apart (texts ps)
 apart_texts [] h = tt
@@ -144,7 +144,7 @@ value_or_later s rest (x ∷ z) a bk t u e has has' h =
 
 -- ---- the faults
 -- nothing that was read has a fault
-pub none_at : (source : List ℕ) (list : List AnnotationSyntax) (ps : List Placed) (notes : Notes) → AllZip (IsRead source) list ps → AreKept ps notes → NoFault source (annotations list)
+pub none_at : (source : List ℕ) (list : List AnnotationSyntax) (ps : List Placed) (notes : Notes) → AllZip (IsRead source) list ps → AreKept ps notes → NoSiteFault source (annotations list)
 none_at source list ps notes h kept = λ fault end x.
     let apart : Apart (words source list) = subst Apart (sym (words_read source list ps h)) (apart_texts ps kept.apart) in
     elim (end_of source (annotations list) fault end x) [
@@ -152,7 +152,7 @@ none_at source list ps notes h kept = λ fault end x.
       | inr e ↦ apart_split (λ a. word_at source a.key) e.front e.first e.middle e.second e.back (subst (λ l. Apart (words source l)) e.split apart) e.same
     ]
 
-each_note : (source : List ℕ) (notes : Notes) (list : List AnnotationSyntax) (ps : List Placed) → AllZip (IsRead source) list ps → AllByRecursion (λ p. lookup (λ key. bytes_eq key.text (key_of p).text) notes ≡ Some (value_of p)) ps
+each_note : (source : List ℕ) (notes : Notes) (list : List AnnotationSyntax) (ps : List Placed) → AllZip (IsRead source) list ps → AllByRecursion (λ p. lookup (λ key. bytes_eq key.text (placed_key p).text) notes ≡ Some (value_of p)) ps
     → AllByRecursion (HasNote source notes) list
 each_note source notes [] ps h found = tt
 each_note source notes (a ∷ as') [] h found = absurd h
@@ -168,23 +168,23 @@ are_notes source list ps notes h kept = record {
 
 -- a key stands again behind what was read
 key_stops : (source : List ℕ) (list done : List AnnotationSyntax) (s : AnnotationSyntax) (rest : List AnnotationSyntax) (front : List Placed) (old : Placed) (middle : List Placed) (new : Placed) (fault : UserError) → Rise (note_tokens list)
-    → list ≡ done ++ s ∷ rest → AllZip (IsRead source) done (front ++ old ∷ middle) → IsKeyRead source s new → AllPairs HaveOtherKeys (front ++ old ∷ middle) → key_of new ≡ key_of old
-    → fault ≡ DuplicateAnnotations (key_of new) (record { node = tt; loc = key_place old }) (record { node = tt; loc = key_place new }) → IsFaultOf source (annotations list) fault
+    → list ≡ done ++ s ∷ rest → AllZip (IsRead source) done (front ++ old ∷ middle) → IsKeyRead source s new → AllPairs HaveOtherKeys (front ++ old ∷ middle) → placed_key new ≡ placed_key old
+    → fault ≡ DuplicateAnnotations (placed_key new) (record { node = tt; loc = key_place old }) (record { node = tt; loc = key_place new }) → IsFaultOf source (annotations list) fault
 key_stops source list done s rest front old middle new fault rise split read key pairs again told =
     let w = λ (a : AnnotationSyntax). word_at source a.key in
     let r = zip_split (IsRead source) done front old middle read in
     let f = r.1 in
     let apart : Apart (words source done) = subst Apart (sym (words_read source done (front ++ old ∷ middle) read)) (apart_texts (front ++ old ∷ middle) pairs) in
     let parts : Apart (words source (r.0 ++ f ∷ r.2)) = subst (λ l. Apart (words source l)) r.3 apart in
-    let first : word_at source f.key ≡ (key_of new).text = sym r.5.key.0 ∙ ap (λ k. k.text) (sym again) in
-    let second : word_at source s.key ≡ (key_of new).text = sym key.0 in
+    let first : word_at source f.key ≡ (placed_key new).text = sym r.5.key.0 ∙ ap (λ k. k.text) (sym again) in
+    let second : word_at source s.key ≡ (placed_key new).text = sym key.0 in
     let whole : list ≡ r.0 ++ f ∷ (r.2 ++ s ∷ rest) = split ∙ (ap (λ l. l ++ s ∷ rest) r.3 ∙ append_assoc r.0 (f ∷ r.2) (s ∷ rest)) in
-    let here : FaultAt source (annotations list) (DuplicateAnnotations (key_of new) (record { node = tt; loc = Some f.key.loc }) (record { node = tt; loc = Some s.key.loc })) s.key.loc.end =
-    duplicate r.0 r.2 rest f s (key_of new) whole first second
-    (All-from_recursion (IsOtherKey source (key_of new).text) r.0 (others_front w (key_of new).text r.0 f r.2 parts first))
-    (All-from_recursion (IsOtherKey source (key_of new).text) r.2 (others_middle w (key_of new).text r.0 f r.2 parts first)) in
-    let same : fault ≡ DuplicateAnnotations (key_of new) (record { node = tt; loc = Some f.key.loc }) (record { node = tt; loc = Some s.key.loc }) =
-    told ∙ (λ i. DuplicateAnnotations (key_of new) (record { node = tt; loc = r.5.key.1 i }) (record { node = tt; loc = key.1 i })) in
+    let here : FaultAt source (annotations list) (DuplicateAnnotations (placed_key new) (record { node = tt; loc = Some f.key.loc }) (record { node = tt; loc = Some s.key.loc })) s.key.loc.end =
+    duplicate r.0 r.2 rest f s (placed_key new) whole first second
+    (All-from_recursion (IsOtherKey source (placed_key new).text) r.0 (others_front w (placed_key new).text r.0 f r.2 parts first))
+    (All-from_recursion (IsOtherKey source (placed_key new).text) r.2 (others_middle w (placed_key new).text r.0 f r.2 parts first)) in
+    let same : fault ≡ DuplicateAnnotations (placed_key new) (record { node = tt; loc = Some f.key.loc }) (record { node = tt; loc = Some s.key.loc }) =
+    told ∙ (λ i. DuplicateAnnotations (placed_key new) (record { node = tt; loc = r.5.key.1 i }) (record { node = tt; loc = key.1 i })) in
     let behind : Behind s.key.loc.end (note_tokens (s ∷ rest)) = from_key s rest (rise_rest done (s ∷ rest) (subst (λ l. Rise (note_tokens l)) split rise)) in
     record {
       end = s.key.loc.end;
@@ -209,7 +209,7 @@ value_stops source list done s rest before last t fault rise split read key pair
     let here : AnnotationSyntax = record { key = s.key; value = Some t } in
     let same : s ≡ here = λ i. record { key = s.key; value = has i } in
     let keys : words source (done ++ s ∷ []) ≡ texts (before ++ last ∷ []) =
-    map-append w done (s ∷ []) ∙ ((λ i. words_read source done before read i ++ sym key.0 i ∷ []) ∙ sym (map-append (λ p. (key_of p).text) before (last ∷ []))) in
+    map-append w done (s ∷ []) ∙ ((λ i. words_read source done before read i ++ sym key.0 i ∷ []) ∙ sym (map-append (λ p. (placed_key p).text) before (last ∷ []))) in
     let apart : Apart (words source (done ++ s ∷ [])) = subst Apart (sym keys) (apart_texts (before ++ last ∷ []) pairs) in
     let behind : Behind t.loc.end (note_tokens rest) = past_value s rest t has (rise_rest done (s ∷ rest) (subst (λ l. Rise (note_tokens l)) split rise)) in
     record {

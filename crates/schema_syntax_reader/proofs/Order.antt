@@ -12,7 +12,7 @@ use Rattle.schema_syntax_parser.specs.Syntax.{IsSyntax}
 use Rattle.schema_syntax_errors.specs.declared.user_error.UserError.{UserError}
 use Rattle.schema_syntax_reader.specs.Sites.{Site, sites_of}
 use Rattle.schema_syntax_reader.specs.UserFaults.{FaultAt, empty_list, reserved, escape, note_escape, duplicate, HasUserFault, IsFirstUserFault, IsLawful}
-use Rattle.schema_syntax_reader.specs.Placed.{note_tokens, IsPlacedSite, NoFault, IsFirstFault}
+use Rattle.schema_syntax_reader.specs.Placed.{note_tokens, IsPlacedSite, NoSiteFault, IsFirstSiteFault}
 use Rattle.schema_syntax_reader.specs.Stops.{IsStopped}
 use Rattle.schema_syntax_reader.specs.LawfulTrees.{IsStopOf}
 use Rattle.schema_syntax_reader.specs.declared.stopped.Stopped.{Stopped}
@@ -70,9 +70,9 @@ module _ (source : List ℕ) where
       step (same f) = same f
       step (later c d f) = later c d f
 
-  no_fault_in : (front a b : List Site) (other : Site) → All (NoFault source) front → front ≡ a ++ other ∷ b → NoFault source other
-  no_fault_in front [] b other h e = All-head (NoFault source) other b (subst (All (NoFault source)) e h)
-  no_fault_in front (x ∷ a) b other h e = no_fault_in (a ++ other ∷ b) a b other (All-tail (NoFault source) x (a ++ other ∷ b) (subst (All (NoFault source)) e h)) refl
+  no_fault_in : (front a b : List Site) (other : Site) → All (NoSiteFault source) front → front ≡ a ++ other ∷ b → NoSiteFault source other
+  no_fault_in front [] b other h e = All-head (NoSiteFault source) other b (subst (All (NoSiteFault source)) e h)
+  no_fault_in front (x ∷ a) b other h e = no_fault_in (a ++ other ∷ b) a b other (All-tail (NoSiteFault source) x (a ++ other ∷ b) (subst (All (NoSiteFault source)) e h)) refl
 
   -- the ends of a later site
   later_end : (back a b : List Site) (other : Site) (n : ℕ) → back ≡ a ++ other ∷ b → Among n (site_ends other) → Among n (sites_ends back)
@@ -88,7 +88,7 @@ module _ (source : List ℕ) where
       rises_behind (x ∷ xs) ys r = rises_behind xs ys r.1
 
   -- the first fault of the sites is the one that ends first
-  pub first_ends_first : (tokens : List Token) (at : ℕ) (items : List ItemSyntax) (fault : UserError) → Scans source tokens at → All (IsPlaced source) tokens → IsSyntax tokens items → IsFirstFault source (sites_of items) fault
+  pub first_ends_first : (tokens : List Token) (at : ℕ) (items : List ItemSyntax) (fault : UserError) → Scans source tokens at → All (IsPlaced source) tokens → IsSyntax tokens items → IsFirstSiteFault source (sites_of items) fault
       → IsFirstUserFault source items fault
   first_ends_first tokens at items fault s p r f =
       let rise = scans_rise source tokens at s in
@@ -107,7 +107,7 @@ module _ (source : List ℕ) where
       by_place here other n h (later a b e) = rises_apart (site_ends f.site) (sites_ends f.back) f.end n here (fault_end f.here) (later_end f.back a b h.1 n e (fault_end h.4))
 
   -- no site with a fault: no user fault
-  pub all_lawful : (items : List ItemSyntax) → All (NoFault source) (sites_of items) → IsLawful source items
+  pub all_lawful : (items : List ItemSyntax) → All (NoSiteFault source) (sites_of items) → IsLawful source items
   all_lawful items h fault end f = no_fault_in (sites_of items) f.0 f.2 f.1 h f.3 fault end f.4
 
   pub sites_placed : (tokens : List Token) (at : ℕ) (items : List ItemSyntax) → Scans source tokens at → All (IsPlaced source) tokens → IsSyntax tokens items → All (IsPlacedSite source) (sites_of items)

@@ -13,6 +13,7 @@ use Rattle.schema_syntax_grammar.specs.declared.token_kind.TokenKind.TheVariants
 use Rattle.schema_syntax_grammar.specs.Grammar as kind
 use Rattle.cedar_identifiers.specs.Words.{is_reserved, is_id}
 use Rattle.cedar_data.specs.Words.{is_word_start, is_word_part, is_word}
+use Rattle.cedar_data.proofs.Ascii.{word_ascii}
 use Rattle.schema_syntax_tokens.specs.declared.token.Token.{Token}
 use Rattle.schema_syntax_tokens.specs.Forms.{IsWord, single_mark, mark_kind, IsForm}
 use Rattle.schema_syntax_reader.specs.Leaves.{word_at}
@@ -21,7 +22,7 @@ use Rattle.schema_syntax_reader.specs.Stops.{IsPlacedWord}
 -- no word, where there is a kind
 abbrev IsMark : Option TokenKind → Type 0
 IsMark None = Unit {0}
-IsMark (Some k) = kind.is_word k ≡ false
+IsMark (Some k) = kind.is_word_kind k ≡ false
 
 mark_or : (b : Bool) (x r : Option TokenKind) → IsMark x → IsMark r → IsMark (if b then x else r)
 mark_or true x r p q = p
@@ -40,29 +41,14 @@ marks (b ∷ c ∷ []) = mark_or (b == 58 && c == 58) (Some PathSep) None refl t
 marks (b ∷ c ∷ d ∷ bs) = tt
 
 -- what has the kind of a word is a word
-form_word : (w : List ℕ) (k : TokenKind) → IsForm w k → kind.is_word k ≡ true → IsWord w
+form_word : (w : List ℕ) (k : TokenKind) → IsForm w k → kind.is_word_kind k ≡ true → IsWord w
 form_word w k (inl h) e = h.0
-form_word w k (inr (inl m)) e = let f : kind.is_word k ≡ false = subst IsMark m (marks w) in cc
-form_word w k (inr (inr s)) e = let f : false ≡ true = sym (ap kind.is_word s.1) ∙ e in cc
+form_word w k (inr (inl m)) e = let f : kind.is_word_kind k ≡ false = subst IsMark m (marks w) in cc
+form_word w k (inr (inr s)) e = let f : false ≡ true = sym (ap kind.is_word_kind s.1) ∙ e in cc
 
 word_test : (w : List ℕ) → IsWord w → is_word w ≡ true
 word_test [] h = absurd h
 word_test (b ∷ bs) h = and_from (is_word_start b) (list_all is_word_part bs) h.0 (list_all-from_AllPass is_word_part bs h.1)
-
-part_ascii : (b : ℕ) → is_word_part b ≡ true → b < 128
-part_ascii b h = grind (arith, nat_tests)
-
-start_part : (b : ℕ) → is_word_start b ≡ true → is_word_part b ≡ true
-start_part b h = grind (arith, nat_tests)
-
-parts_ascii : (bs : List ℕ) → list_all is_word_part bs ≡ true → IsAscii bs
-parts_ascii [] h = IsAscii-nil
-parts_ascii (b ∷ bs) h = IsAscii-cons b bs (part_ascii b (first_so (is_word_part b) (list_all is_word_part bs) h)) (parts_ascii bs (second_so (is_word_part b) (list_all is_word_part bs) h))
-
-pub word_ascii : (w : List ℕ) → is_word w ≡ true → IsAscii w
-word_ascii [] h = IsAscii-nil
-word_ascii (b ∷ bs) h =
-    IsAscii-cons b bs (part_ascii b (start_part b (first_so (is_word_start b) (list_all is_word_part bs) h))) (parts_ascii bs (second_so (is_word_start b) (list_all is_word_part bs) h))
 
 placed_test : (source : List ℕ) (t : Token) → IsPlacedWord source t → is_word (slice_range source t.loc.start t.loc.end) ≡ true
 placed_test source t p = word_test (slice_range source t.loc.start t.loc.end) (form_word (slice_range source t.loc.start t.loc.end) t.kind p.0.form p.1)

@@ -15,7 +15,7 @@ use Rattle.cedar_data.specs.Text.{text_cmp}
 use Rattle.cedar_identifiers.specs.declared.any_id.AnyId.{AnyId}
 use Rattle.schema_syntax_reader.specs.declared.annotations.Kept.{Kept}
 use Rattle.schema_syntax_reader.specs.Leaves.{Notes}
-use Rattle.schema_syntax_reader.specs.Deduplicated.{Placed, key_of, value_of, note_of, HaveOtherKeys, AreKept}
+use Rattle.schema_syntax_reader.specs.Deduplicated.{Placed, placed_key, value_of, note_of, HaveOtherKeys, AreKept}
 use Rattle.schema_syntax_reader.specs.Collected.{entry_of, note_of_entry, HasRead}
 use Rattle.schema_syntax_reader.proofs.Keys.{key_cmp, unmapped}
 
@@ -77,7 +77,7 @@ each_found [] h = tt
 each_found (n ∷ ns) h = (ap (λ b. cond b (Some n.1) (lookup (λ key. bytes_eq key.text n.0.text) ns)) (same_bytes n.0.text), found_behind n ns ns h.0 (each_found ns h.1))
 
 -- what is kept is found
-pub kept_found : (ps : List Placed) (notes : Notes) → AreKept ps notes → AllByRecursion (λ p. lookup (λ key. bytes_eq key.text (key_of p).text) notes ≡ Some (value_of p)) ps
+pub kept_found : (ps : List Placed) (notes : Notes) → AreKept ps notes → AllByRecursion (λ p. lookup (λ key. bytes_eq key.text (placed_key p).text) notes ≡ Some (value_of p)) ps
 kept_found ps notes h =
     unmapped (IsFound notes) note_of ps
     (recursion_from_All (IsFound notes) (map note_of ps) (All-permutation (IsFound notes) notes (map note_of ps) (IsPermutation-sym (map note_of ps) notes h.same) (All-from_recursion (IsFound notes) notes (each_found notes h.rising))))

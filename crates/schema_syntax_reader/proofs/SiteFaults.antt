@@ -11,7 +11,7 @@ use Rattle.schema_syntax_reader.specs.declared.stopped.Stopped.TheVariants.{Memo
 use Rattle.schema_syntax_reader.specs.Sites.{Site, word, text, annotations, empty}
 use Rattle.schema_syntax_reader.specs.Leaves.{word_at}
 use Rattle.schema_syntax_reader.specs.UserFaults.{FaultAt, IsBadEscapeAt, empty_list, reserved, escape, note_escape, duplicate}
-use Rattle.schema_syntax_reader.specs.Placed.{NoFault}
+use Rattle.schema_syntax_reader.specs.Placed.{NoSiteFault}
 use Rattle.schema_syntax_reader.specs.Stops.{IsFaultOf, IsStoppedAt, IsReservedStop, IsEscapeStop, NoBadEscapeAt}
 
 -- the value of an annotation has an unlawful escape, and ends there
@@ -59,7 +59,7 @@ word_stopped source t (User fault) h = record {
   least = λ other later x. let e : later ≡ t.loc.end = (end_of source (word t) other later x).1 in omega arith;
 }
 
-pub word_lawful : (source : List ℕ) (t : Token) → is_reserved (word_at source t) ≡ false → NoFault source (word t)
+pub word_lawful : (source : List ℕ) (t : Token) → is_reserved (word_at source t) ≡ false → NoSiteFault source (word t)
 word_lawful source t free = λ fault end x. let e : false ≡ true = sym free ∙ (end_of source (word t) fault end x).0 in cc
 
 pub text_stopped : (source : List ℕ) (t : Token) (e : Stopped) → IsEscapeStop source t e → IsStoppedAt source (text t) e
@@ -70,7 +70,7 @@ text_stopped source t (User fault) h = record {
   least = λ other later x. let e : later ≡ t.loc.end = (end_of source (text t) other later x).1 in omega arith;
 }
 
-pub text_lawful : (source : List ℕ) (t : Token) → NoBadEscapeAt source t → NoFault source (text t)
+pub text_lawful : (source : List ℕ) (t : Token) → NoBadEscapeAt source t → NoSiteFault source (text t)
 text_lawful source t free = λ fault end x. let h = (end_of source (text t) fault end x).0 in free h.0 h.1
 
 pub empty_stopped : (source : List ℕ) (brackets : Span) → IsFaultOf source (empty brackets) (EmptyList (record { node = tt; loc = Some brackets }))

@@ -6,7 +6,8 @@ use Rattle.cedar_identifiers.specs.declared.id.Id.{Id}
 use Rattle.cedar_identifiers.specs.declared.eid.Eid.{Eid}
 use Rattle.cedar_identifiers.specs.declared.annotations.Annotations.{Annotations}
 use Rattle.schema_syntax_tokens.specs.declared.token.Token.{Token}
-use Rattle.schema_syntax_parser.specs.Syntax.{place_of}
+use Rattle.schema_syntax_tokens.specs.TokenLists.{whole_place}
+use Rattle.schema_syntax_parser.specs.Reading.{◌>>=◌}
 use Rattle.schema_syntax_parser.specs.declared.syntax.PathSyntax.{PathSyntax}
 use Rattle.schema_syntax_parser.specs.declared.syntax.TypeSyntax.{TypeSyntax}
 use Rattle.schema_syntax_parser.specs.declared.syntax.TypeSyntax.TheOpen.{TypeSyntax-F, AttrSyntax-F}
@@ -36,22 +37,17 @@ use Rattle.schema_syntax_tree.specs.declared.namespace.Namespace.{Namespace}
 use Rattle.schema_syntax_reader.specs.Trees.{role_of}
 use Rattle.schema_syntax_reader.specs.declared.leaf.Leaf.{Leaf}
 use Rattle.schema_syntax_reader.specs.declared.leaf.Leaf.TheVariants as leaf
-use Rattle.schema_syntax_reader.specs.declared.stop.Stop.{Stop}
-use Rattle.schema_syntax_reader.specs.declared.stop.Stop.TheVariants.{Memory, Mismatch}
-
-infixl 10 ◌>>=◌
-abbrev pub ◌>>=◌ : {A B : Type 0} → Option A → (A → Option B) → Option B
-(Some x) >>= f = f x
-None >>= f = None
+use Rattle.schema_syntax_parser.specs.declared.stop.Stop.{Stop}
+use Rattle.schema_syntax_parser.specs.declared.stop.Stop.TheVariants.{Memory, Mismatch}
 
 -- What a function returned, seen by view, with the leaves that it left, is what building gives, unless memory ran out.
-abbrev pub Fails : {Y : Type 0} → Stop → Option Y → Type 0
-Fails Memory built = Unit {0}
-Fails Mismatch built = built ≡ None
+abbrev pub FailsToBuild : {Y : Type 0} → Stop → Option Y → Type 0
+FailsToBuild Memory built = Unit {0}
+FailsToBuild Mismatch built = built ≡ None
 
-abbrev pub Gives : {X Y : Type 0} → (X → Y) → Result X Stop → Option (Y × List Leaf) → List Leaf → Type 0
-Gives view (Ok x) built left = built ≡ Some (view x, left)
-Gives view (Err e) built left = Fails e built
+abbrev pub GivesBuilt : {X Y : Type 0} → (X → Y) → Result X Stop → Option (Y × List Leaf) → List Leaf → Type 0
+GivesBuilt view (Ok x) built left = built ≡ Some (view x, left)
+GivesBuilt view (Err e) built left = FailsToBuild e built
 
 -- what builds a part from leaves
 abbrev pub Builds : Type 0 → Type 0
@@ -133,7 +129,7 @@ front_names names = take (length names - 1) names
 -- the path of a reference's type, where one stands before the id
 unfoldable pub type_of_ref_from : List Token → Builds (Option Path)
 type_of_ref_from [] leaves = Some (None, leaves)
-type_of_ref_from (t ∷ ts) leaves = names_from (t ∷ ts) (place_of (t ∷ ts)) leaves >>= λ p. Some (Some p.0, p.1)
+type_of_ref_from (t ∷ ts) leaves = names_from (t ∷ ts) (whole_place (t ∷ ts)) leaves >>= λ p. Some (Some p.0, p.1)
 
 unfoldable pub ref_from : PathSyntax → Builds (Node QualName)
 ref_from p leaves = do
@@ -141,16 +137,16 @@ ref_from p leaves = do
   eid ← name_from path.1
   Some (record { node = record { path = path.0; eid = eid.0 }; loc = Some p.loc }, eid.1)
 
-abbrev pub Attribute : Type 0
-Attribute = Node (Annotated AttrDecl)
+abbrev pub BuiltAttribute : Type 0
+BuiltAttribute = Node (Annotated AttrDecl)
 
 -- a type, and an attribute, from what builds their parts
-abbrev pub type_build : TypeSyntax-F (Builds (Node «Type»)) (Builds Attribute) → Builds (Node «Type»)
+abbrev pub type_build : TypeSyntax-F (Builds (Node «Type»)) (Builds BuiltAttribute) → Builds (Node «Type»)
 type_build (TypeSyntax-F.Path p) leaves = path_from p leaves >>= λ q. Some (record { node = Ident q.0; loc = Some p.loc }, q.1)
 type_build (TypeSyntax-F.Set element loc) leaves = element leaves >>= λ n. Some (record { node = Set n.0; loc = Some loc }, n.1)
 type_build (TypeSyntax-F.Record attrs loc) leaves = all_from (λ attr. attr) attrs leaves >>= λ xs. Some (record { node = Record xs.0; loc = Some loc }, xs.1)
 
-abbrev pub attr_build : AttrSyntax-F (Builds (Node «Type»)) (Builds Attribute) → Builds Attribute
+abbrev pub attr_build : AttrSyntax-F (Builds (Node «Type»)) (Builds BuiltAttribute) → Builds BuiltAttribute
 attr_build a leaves = do
   notes ← notes_from leaves
   name ← name_node_from a.name notes.1
@@ -159,12 +155,12 @@ attr_build a leaves = do
 
 -- of a type, and of an attribute
 unfoldable pub type_from : TypeSyntax → Builds (Node «Type»)
-type_from = fold-TypeSyntax (Builds (Node «Type»)) (Builds Attribute) type_build attr_build
+type_from = fold-TypeSyntax (Builds (Node «Type»)) (Builds BuiltAttribute) type_build attr_build
 
-unfoldable pub attr_from : AttrSyntax → Builds Attribute
-attr_from = fold-AttrSyntax (Builds (Node «Type»)) (Builds Attribute) type_build attr_build
+unfoldable pub attr_from : AttrSyntax → Builds BuiltAttribute
+attr_from = fold-AttrSyntax (Builds (Node «Type»)) (Builds BuiltAttribute) type_build attr_build
 
-unfoldable pub shape_from : Option (List AttrSyntax × Span) → Builds (Node (List Attribute))
+unfoldable pub shape_from : Option (List AttrSyntax × Span) → Builds (Node (List BuiltAttribute))
 shape_from None leaves = Some (record { node = []; loc = None }, leaves)
 shape_from (Some r) leaves = all_from attr_from r.0 leaves >>= λ xs. Some (record { node = xs.0; loc = Some r.1 }, xs.1)
 
@@ -243,11 +239,11 @@ namespace_from p decls loc leaves = do
   Some (record { item = record { name = Some path.0; decls = ds.0; loc = Some loc }; annotations = notes.0 }, ds.1)
 
 -- a declaration outside of every namespace
-abbrev pub alone : Annotated (Node Declaration) → Annotated Namespace
-alone d = record { item = record { name = None; decls = d ∷ []; loc = None }; annotations = record { 0 = [] } }
+abbrev pub outside_namespace : Annotated (Node Declaration) → Annotated Namespace
+outside_namespace d = record { item = record { name = None; decls = d ∷ []; loc = None }; annotations = record { 0 = [] } }
 
 unfoldable pub outside_from : DeclaredSyntax → Builds (Annotated Namespace)
-outside_from x leaves = declared_from x leaves >>= λ d. Some (alone d.0, d.1)
+outside_from x leaves = declared_from x leaves >>= λ d. Some (outside_namespace d.0, d.1)
 
 abbrev pub item_from : ItemSyntax → Builds (Annotated Namespace)
 item_from (item.Namespace notes p decls loc) leaves = namespace_from p decls loc leaves

@@ -4,11 +4,11 @@ use Rattle.std.specs.List.{AllPairs}
 use Rattle.std.specs.List.Sorted.{IsPermutation}
 use Rattle.cedar_identifiers.specs.declared.any_id.AnyId.{AnyId}
 use Rattle.schema_syntax_reader.specs.declared.annotations.Kept.{Kept}
-use Rattle.schema_syntax_reader.specs.Deduplicated.{Placed, key_of, key_place, value_of, HaveOtherKeys}
+use Rattle.schema_syntax_reader.specs.Deduplicated.{Placed, placed_key, key_place, value_of, HaveOtherKeys}
 
 -- a key, and what the tree has at it
 abbrev pub entry_of : Placed → AnyId × Kept
-entry_of a = (key_of a, record { value = value_of a; place = key_place a })
+entry_of a = (placed_key a, record { value = value_of a; place = key_place a })
 
 -- without the place
 abbrev pub note_of_entry : AnyId × Kept → AnyId × Option (List ℕ)

@@ -17,8 +17,8 @@ use Rattle.schema_syntax_reader.specs.Leaves.{Notes}
 abbrev pub Placed : Type 0
 Placed = Node (Node AnyId × Option (Node (List ℕ)))
 
-abbrev pub key_of : Placed → AnyId
-key_of a = a.node.0.node
+abbrev pub placed_key : Placed → AnyId
+placed_key a = a.node.0.node
 
 abbrev pub key_place : Placed → Option Span
 key_place a = a.node.0.loc
@@ -28,10 +28,10 @@ value_of a = option_map (λ v. v.node) a.node.1
 
 -- without the places
 abbrev pub note_of : Placed → AnyId × Option (List ℕ)
-note_of a = (key_of a, value_of a)
+note_of a = (placed_key a, value_of a)
 
 abbrev pub HaveOtherKeys : Placed → Placed → Type 0
-HaveOtherKeys a b = key_of a ≢ key_of b
+HaveOtherKeys a b = placed_key a ≢ placed_key b
 
 -- no key stands twice, and the notes are the keys and values by rising keys
 pub record AreKept (annotations : List Placed) (notes : Notes) : Type 0 where
@@ -48,8 +48,8 @@ pub record IsTwice (annotations : List Placed) (fault : UserError) : Type 0 wher
   pub back : List Placed
   pub split : annotations ≡ (front ++ old ∷ middle) ++ new ∷ back
   pub apart : AllPairs HaveOtherKeys (front ++ old ∷ middle)
-  pub again : key_of new ≡ key_of old
-  pub told : fault ≡ DuplicateAnnotations (key_of new) (record { node = tt; loc = key_place old }) (record { node = tt; loc = key_place new })
+  pub again : placed_key new ≡ placed_key old
+  pub told : fault ≡ DuplicateAnnotations (placed_key new) (record { node = tt; loc = key_place old }) (record { node = tt; loc = key_place new })
 
 -- why annotations are refused
 abbrev pub AreRefused : List Placed → AnnotationError → Type 0

@@ -37,16 +37,16 @@ IsPlacedSite source (text t) = IsPlacedString source t
 IsPlacedSite source (annotations list) = All (IsPlacedNote source) list × Rise (note_tokens list)
 IsPlacedSite source (empty brackets) = Unit {0}
 
-abbrev pub NoFault : List ℕ → Site → Type 0
-NoFault source site = (fault : UserError) (end : ℕ) → FaultAt source site fault end → ⊥
+abbrev pub NoSiteFault : List ℕ → Site → Type 0
+NoSiteFault source site = (fault : UserError) (end : ℕ) → FaultAt source site fault end → ⊥
 
 -- the first of the sites that has a fault, and of its faults the one that ends first
-pub record IsFirstFault (source : List ℕ) (sites : List Site) (fault : UserError) : Type 0 where
+pub record IsFirstSiteFault (source : List ℕ) (sites : List Site) (fault : UserError) : Type 0 where
   pub front : List Site
   pub site : Site
   pub back : List Site
   pub end : ℕ
   pub split : sites ≡ front ++ site ∷ back
-  pub before : All (NoFault source) front
+  pub before : All (NoSiteFault source) front
   pub here : FaultAt source site fault end
   pub least : (other : UserError) (later : ℕ) → FaultAt source site other later → end ≤ later

@@ -9,7 +9,7 @@ use Rattle.schema_syntax_errors.specs.declared.user_error.UserError.{UserError}
 use Rattle.schema_syntax_reader.specs.declared.stopped.Stopped.TheVariants.{User}
 use Rattle.schema_syntax_reader.specs.Leaves.{word_at, IsNoteValue}
 use Rattle.schema_syntax_reader.specs.Stops.{NoBadEscapeAt, IsEscapeStop}
-use Rattle.schema_syntax_reader.specs.Deduplicated.{Placed, key_of, key_place, value_of}
+use Rattle.schema_syntax_reader.specs.Deduplicated.{Placed, placed_key, key_place, value_of}
 
 -- no backslash of the value begins no escape
 abbrev pub NoBadValue : List ℕ → Option Token → Type 0
@@ -28,7 +28,7 @@ IsValueOr source value found (Some fault) = IsBadValue source value fault
 
 -- the key is read, with its place
 abbrev pub IsKeyRead : List ℕ → AnnotationSyntax → Placed → Type 0
-IsKeyRead source a p = ((key_of p).text ≡ word_at source a.key) × (key_place p ≡ Some a.key.loc)
+IsKeyRead source a p = ((placed_key p).text ≡ word_at source a.key) × (key_place p ≡ Some a.key.loc)
 
 -- and the value too
 pub record IsRead (source : List ℕ) (a : AnnotationSyntax) (p : Placed) : Type 0 where

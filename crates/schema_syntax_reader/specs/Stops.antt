@@ -9,14 +9,14 @@ use Rattle.schema_syntax_errors.specs.declared.user_error.UserError.TheVariants.
 use Rattle.schema_syntax_reader.specs.Sites.{Site}
 use Rattle.schema_syntax_reader.specs.Leaves.{word_at}
 use Rattle.schema_syntax_reader.specs.UserFaults.{FaultAt, IsBadEscapeAt}
-use Rattle.schema_syntax_reader.specs.Placed.{IsFirstFault}
+use Rattle.schema_syntax_reader.specs.Placed.{IsFirstSiteFault}
 use Rattle.schema_syntax_reader.specs.declared.stopped.Stopped.{Stopped}
 use Rattle.schema_syntax_reader.specs.declared.stopped.Stopped.TheVariants.{Memory, User}
 
 -- the first of the faults is met, unless memory ran out
 abbrev pub IsStopped : List ℕ → List Site → Stopped → Type 0
 IsStopped source sites Memory = Unit {0}
-IsStopped source sites (User fault) = IsFirstFault source sites fault
+IsStopped source sites (User fault) = IsFirstSiteFault source sites fault
 
 -- of the faults of a site, the one that ends first
 pub record IsFaultOf (source : List ℕ) (site : Site) (fault : UserError) : Type 0 where

@@ -36,7 +36,7 @@ use Rattle.schema_syntax_tree.specs.declared.declaration.Declaration.TheVariants
 use Rattle.schema_syntax_tree.specs.declared.entity_decl.EntityDecl.TheVariants as entity
 use Rattle.schema_syntax_tree.specs.declared.action_decl.ActionDecl.TheVariants as action
 use Rattle.schema_syntax_tree.specs.declared.namespace.Namespace.{Namespace}
-use Rattle.schema_syntax_parser.specs.Syntax.{place_of}
+use Rattle.schema_syntax_tokens.specs.TokenLists.{whole_place}
 use Rattle.schema_syntax_reader.specs.Leaves.{word_at, IsStringAt, AreNotes}
 
 -- whom the word stands for
@@ -76,7 +76,7 @@ module _ (text : List ℕ) where
   abbrev pub IsTypeOfRef : List Token → Option Path → Type 0
   IsTypeOfRef [] found = found ≡ None
   IsTypeOfRef (t ∷ ts) None = ⊥
-  IsTypeOfRef (t ∷ ts) (Some path) = AllZip IsId (t ∷ ts) path.ids × (path.loc ≡ Some (place_of (t ∷ ts)))
+  IsTypeOfRef (t ∷ ts) (Some path) = AllZip IsId (t ∷ ts) path.ids × (path.loc ≡ Some (whole_place (t ∷ ts)))
 
   -- the last name of a reference is the id, and those before it are the path
   abbrev pub IsRefOf : PathSyntax → Node QualName → Type 0

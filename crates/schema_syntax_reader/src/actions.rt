@@ -1,15 +1,14 @@
 ghost use Rattle.std.specs.Prelude.{◌≡◌};
 ghost use Rattle.schema_syntax_reader.specs.Trees.{role_of};
-ghost use Rattle.schema_syntax_reader.specs.Building.{Gives, app_from, applies_from};
+ghost use Rattle.schema_syntax_reader.specs.Building.{GivesBuilt, app_from, applies_from};
 
 use crate::leaf::Leaf;
 use crate::parts::{Part, optional, some};
 use crate::paths::{Paths, path};
-use crate::stop::Stop;
 use crate::types::attrs;
 use cedar_data::{List, Loc, Node, NonEmpty};
 use schema_syntax_grammar::TokenKind;
-use schema_syntax_parser::AppSyntax;
+use schema_syntax_parser::{AppSyntax, Stop};
 use schema_syntax_tree::{AppDecl, Either, PR, PRAppDecl};
 use std::alloc::Global;
 use std::collections::VecDeque;
@@ -28,7 +27,7 @@ fn role_of(kind: TokenKind) -> PR
 // A member of an `appliesTo` block.
 #[tactic(auto, unfolding(crate::specs::Building::app_from))]
 fn app(alloc: Global, raw: &AppSyntax, leaves: &mut VecDeque<Leaf>) -> Result<Node<AppDecl>, Stop>
-    ensures { Gives (λ x. x) result (app_from raw.now leaves.old.items) leaves.new.items }
+    ensures { GivesBuilt (λ x. x) result (app_from raw.now leaves.old.items) leaves.new.items }
 {
     match raw {
         AppSyntax::Types(word, paths, loc) => {
@@ -88,7 +87,7 @@ pub fn applies(
     raw: &Option<(List<AppSyntax>, Loc)>,
     leaves: &mut VecDeque<Leaf>,
 ) -> Result<Option<Node<NonEmpty<Node<AppDecl>>>>, Stop>
-    ensures { Gives (λ x. x) result (applies_from raw.now leaves.old.items) leaves.new.items }
+    ensures { GivesBuilt (λ x. x) result (applies_from raw.now leaves.old.items) leaves.new.items }
 {
     match raw {
         None => Ok(None),

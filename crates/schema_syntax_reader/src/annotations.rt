@@ -26,7 +26,7 @@ struct Kept {
 }
 
 // The place of the key in the tree, where the tree has it.
-fn place_of(tree: &BTreeMap<AnyId, Kept>, key: &AnyId) -> Option<Option<Loc>>
+fn place_in(tree: &BTreeMap<AnyId, Kept>, key: &AnyId) -> Option<Option<Loc>>
     ensures { result ≡ option_map (λ kept. kept.place) (get ⟦<AnyId as Ord>⟧.cmp tree.now key.now) }
 {
     match tree.get(key) {
@@ -50,7 +50,7 @@ fn by_keys(
             node: (),
             loc: key.loc,
         };
-        if let Some(loc) = place_of(&tree, &key.node) {
+        if let Some(loc) = place_in(&tree, &key.node) {
             let first = Node { node: (), loc };
             return Err(AnnotationError::User(UserError::DuplicateAnnotations(
                 key.node, first, second,

@@ -1,14 +1,13 @@
-ghost use Rattle.schema_syntax_reader.specs.Building.{Gives, entity_from, enum_from, external_entity_from, action_from, external_action_from, common_from, decl_from};
+ghost use Rattle.schema_syntax_reader.specs.Building.{GivesBuilt, entity_from, enum_from, external_entity_from, action_from, external_action_from, common_from, decl_from};
 
 use crate::actions::applies;
 use crate::leaf::Leaf;
 use crate::names::{Choices, Ids, Names, id_node};
 use crate::parts::{all, optional, some};
 use crate::paths::{Paths, References};
-use crate::stop::Stop;
 use crate::types::{shape, tags, ty};
 use cedar_data::{List, Loc};
-use schema_syntax_parser::{AppSyntax, AttrSyntax, DeclSyntax, PathSyntax, TypeSyntax};
+use schema_syntax_parser::{AppSyntax, AttrSyntax, DeclSyntax, PathSyntax, Stop, TypeSyntax};
 use schema_syntax_tokens::Token;
 use schema_syntax_tree::{
     ActionDecl, Declaration, DefinedActionDecl, EntityDecl, EnumEntityDecl, ExternalActionDecl,
@@ -27,7 +26,7 @@ fn entity(
     tags_raw: &Option<TypeSyntax>,
     leaves: &mut VecDeque<Leaf>,
 ) -> Result<Declaration, Stop>
-    ensures { Gives (λ x. x) result (entity_from names.now parents.now shape_raw.now tags_raw.now leaves.old.items) leaves.new.items }
+    ensures { GivesBuilt (λ x. x) result (entity_from names.now parents.now shape_raw.now tags_raw.now leaves.old.items) leaves.new.items }
 {
     let names = some::<Ids>(alloc, names, leaves)?;
     let parents = all::<Paths>(alloc, parents, leaves)?;
@@ -49,7 +48,7 @@ fn listed(
     choices: &[Token],
     leaves: &mut VecDeque<Leaf>,
 ) -> Result<Declaration, Stop>
-    ensures { Gives (λ x. x) result (enum_from names.now choices.now leaves.old.items) leaves.new.items }
+    ensures { GivesBuilt (λ x. x) result (enum_from names.now choices.now leaves.old.items) leaves.new.items }
 {
     let names = some::<Ids>(alloc, names, leaves)?;
     let choices = some::<Choices>(alloc, choices, leaves)?;
@@ -64,7 +63,7 @@ fn external_entity(
     parents: &[PathSyntax],
     leaves: &mut VecDeque<Leaf>,
 ) -> Result<Declaration, Stop>
-    ensures { Gives (λ x. x) result (external_entity_from names.now parents.now leaves.old.items) leaves.new.items }
+    ensures { GivesBuilt (λ x. x) result (external_entity_from names.now parents.now leaves.old.items) leaves.new.items }
 {
     let names = some::<Ids>(alloc, names, leaves)?;
     let parents = all::<Paths>(alloc, parents, leaves)?;
@@ -83,7 +82,7 @@ fn action(
     applies_raw: &Option<(List<AppSyntax>, Loc)>,
     leaves: &mut VecDeque<Leaf>,
 ) -> Result<Declaration, Stop>
-    ensures { Gives (λ x. x) result (action_from names.now parents.now applies_raw.now leaves.old.items) leaves.new.items }
+    ensures { GivesBuilt (λ x. x) result (action_from names.now parents.now applies_raw.now leaves.old.items) leaves.new.items }
 {
     let names = some::<Names>(alloc, names, leaves)?;
     let parents = optional::<References>(alloc, parents, leaves)?;
@@ -103,7 +102,7 @@ fn external_action(
     parents: &[PathSyntax],
     leaves: &mut VecDeque<Leaf>,
 ) -> Result<Declaration, Stop>
-    ensures { Gives (λ x. x) result (external_action_from names.now parents.now leaves.old.items) leaves.new.items }
+    ensures { GivesBuilt (λ x. x) result (external_action_from names.now parents.now leaves.old.items) leaves.new.items }
 {
     let names = some::<Names>(alloc, names, leaves)?;
     let parents = optional::<References>(alloc, parents, leaves)?;
@@ -118,7 +117,7 @@ fn common(
     raw: &TypeSyntax,
     leaves: &mut VecDeque<Leaf>,
 ) -> Result<Declaration, Stop>
-    ensures { Gives (λ x. x) result (common_from name.now raw.now leaves.old.items) leaves.new.items }
+    ensures { GivesBuilt (λ x. x) result (common_from name.now raw.now leaves.old.items) leaves.new.items }
 {
     let name = id_node(name, leaves)?;
     let def = ty(alloc, raw, leaves)?;
@@ -131,7 +130,7 @@ pub fn decl(
     raw: &DeclSyntax,
     leaves: &mut VecDeque<Leaf>,
 ) -> Result<Declaration, Stop>
-    ensures { Gives (λ x. x) result (decl_from raw.now leaves.old.items) leaves.new.items }
+    ensures { GivesBuilt (λ x. x) result (decl_from raw.now leaves.old.items) leaves.new.items }
 {
     match raw {
         DeclSyntax::Entity {

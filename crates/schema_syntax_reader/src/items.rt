@@ -1,14 +1,13 @@
-ghost use Rattle.schema_syntax_reader.specs.Building.{Gives, declared_from, namespace_from, outside_from, item_from};
+ghost use Rattle.schema_syntax_reader.specs.Building.{GivesBuilt, declared_from, namespace_from, outside_from, item_from};
 
 use crate::decls::decl;
 use crate::leaf::Leaf;
 use crate::names::notes;
 use crate::parts::{Part, all};
 use crate::paths::path;
-use crate::stop::Stop;
 use cedar_data::{List, Loc, Node};
 use cedar_identifiers::Annotations;
-use schema_syntax_parser::{DeclaredSyntax, ItemSyntax, PathSyntax};
+use schema_syntax_parser::{DeclaredSyntax, ItemSyntax, PathSyntax, Stop};
 use schema_syntax_tree::{Annotated, Declaration, Namespace};
 use std::alloc::Global;
 use std::collections::VecDeque;
@@ -20,7 +19,7 @@ fn declared(
     raw: &DeclaredSyntax,
     leaves: &mut VecDeque<Leaf>,
 ) -> Result<Annotated<Node<Declaration>>, Stop>
-    ensures { Gives (λ x. x) result (declared_from raw.now leaves.old.items) leaves.new.items }
+    ensures { GivesBuilt (λ x. x) result (declared_from raw.now leaves.old.items) leaves.new.items }
 {
     let annotations = notes(leaves)?;
     let node = decl(alloc, &raw.decl, leaves)?;
@@ -59,7 +58,7 @@ fn namespace(
     loc: Loc,
     leaves: &mut VecDeque<Leaf>,
 ) -> Result<Annotated<Namespace>, Stop>
-    ensures { Gives (λ x. x) result (namespace_from name.now decls.now loc leaves.old.items) leaves.new.items }
+    ensures { GivesBuilt (λ x. x) result (namespace_from name.now decls.now loc leaves.old.items) leaves.new.items }
 {
     let annotations = notes(leaves)?;
     let name = path(alloc, name, leaves)?;
@@ -79,7 +78,7 @@ fn outside(
     raw: &DeclaredSyntax,
     leaves: &mut VecDeque<Leaf>,
 ) -> Result<Annotated<Namespace>, Stop>
-    ensures { Gives (λ x. x) result (outside_from raw.now leaves.old.items) leaves.new.items }
+    ensures { GivesBuilt (λ x. x) result (outside_from raw.now leaves.old.items) leaves.new.items }
 {
     let decl = declared(alloc, raw, leaves)?;
     let mut decls = List::new(alloc);

@@ -2,7 +2,7 @@ ghost use Rattle.std.specs.Prelude.{length, IfOk, IfErr};
 ghost use Rattle.std.specs.List.{All};
 ghost use Rattle.schema_syntax_grammar.specs.Grammar.{Sentence};
 ghost use Rattle.schema_syntax_tokens.specs.Scans.{Scans, IsPlaced};
-ghost use Rattle.schema_syntax_parser.specs.Syntax.{kinds_of};
+ghost use Rattle.schema_syntax_tokens.specs.TokenLists.{kinds_of};
 ghost use Rattle.schema_syntax_reader.specs.LawfulTrees.{IsLawfulTree, IsStopOf};
 
 use crate::leaves::leaves_of;

@@ -2,7 +2,7 @@
 ghost use Rattle.std.specs.Prelude.{map, IfOk, IfErr, OnOk};
 ghost use Rattle.std.specs.List.{All, AllZip};
 ghost use Rattle.schema_syntax_reader.specs.Leaves.{IsLeaf};
-ghost use Rattle.schema_syntax_reader.specs.Placed.{IsPlacedSite, NoFault};
+ghost use Rattle.schema_syntax_reader.specs.Placed.{IsPlacedSite, NoSiteFault};
 ghost use Rattle.schema_syntax_reader.specs.SiteViews.{site_of};
 ghost use Rattle.schema_syntax_reader.specs.Stops.{IsStopped, IsStoppedAt};
 
@@ -21,7 +21,7 @@ use std::collections::VecDeque;
 fn leaf_of(alloc: Global, text: &str, site: &Site<'_>) -> Result<Leaf, Stopped>
     requires { IsPlacedSite text.now (site_of site.now) }
     ensures leaf { IfOk result (IsLeaf text.now (site_of site.now)) }
-    ensures lawful { OnOk result (NoFault text.now (site_of site.now)) }
+    ensures lawful { OnOk result (NoSiteFault text.now (site_of site.now)) }
     ensures fault { IfErr result (IsStoppedAt text.now (site_of site.now)) }
 {
     match site {
@@ -39,7 +39,7 @@ fn leaf_of(alloc: Global, text: &str, site: &Site<'_>) -> Result<Leaf, Stopped>
 pub fn leaves_of(alloc: Global, text: &str, sites: &[Site<'_>]) -> Result<VecDeque<Leaf>, Stopped>
     requires placed { All (IsPlacedSite text.now) (map site_of sites.now) }
     ensures leaves { IfOk result (λ leaves. AllZip (IsLeaf text.now) (map site_of sites.now) leaves.items) }
-    ensures lawful { OnOk result (All (NoFault text.now) (map site_of sites.now)) }
+    ensures lawful { OnOk result (All (NoSiteFault text.now) (map site_of sites.now)) }
     ensures fault { IfErr result (IsStopped text.now (map site_of sites.now)) }
 {
     let mut leaves = VecDeque::new(alloc);

@@ -1,17 +1,17 @@
-ghost use Rattle.schema_syntax_reader.specs.Building.{Gives, id_from, text_from, notes_from, name_from, bare_id_from, id_node_from, name_node_from, choice_from};
+ghost use Rattle.schema_syntax_reader.specs.Building.{GivesBuilt, id_from, text_from, notes_from, name_from, bare_id_from, id_node_from, name_node_from, choice_from};
 
 use crate::leaf::Leaf;
 use crate::parts::Part;
-use crate::stop::Stop;
 use cedar_data::{Node, Text};
 use cedar_identifiers::{Annotations, Eid, Id};
+use schema_syntax_parser::Stop;
 use schema_syntax_tokens::Token;
 use std::alloc::Global;
 use std::collections::VecDeque;
 
 // What the word that comes next stands for.
 fn id(leaves: &mut VecDeque<Leaf>) -> Result<Id, Stop>
-    ensures { Gives (λ x. x) result (id_from leaves.old.items) leaves.new.items }
+    ensures { GivesBuilt (λ x. x) result (id_from leaves.old.items) leaves.new.items }
 {
     match leaves.pop_front() {
         Some(Leaf::Word(id)) => Ok(id),
@@ -23,7 +23,7 @@ fn id(leaves: &mut VecDeque<Leaf>) -> Result<Id, Stop>
 
 // What the string that comes next stands for.
 fn text(leaves: &mut VecDeque<Leaf>) -> Result<Text, Stop>
-    ensures { Gives (λ x. x) result (text_from leaves.old.items) leaves.new.items }
+    ensures { GivesBuilt (λ x. x) result (text_from leaves.old.items) leaves.new.items }
 {
     match leaves.pop_front() {
         Some(Leaf::Text(text)) => Ok(text),
@@ -35,7 +35,7 @@ fn text(leaves: &mut VecDeque<Leaf>) -> Result<Text, Stop>
 
 // What the annotations that come next stand for.
 pub fn notes(leaves: &mut VecDeque<Leaf>) -> Result<Annotations, Stop>
-    ensures { Gives (λ x. x) result (notes_from leaves.old.items) leaves.new.items }
+    ensures { GivesBuilt (λ x. x) result (notes_from leaves.old.items) leaves.new.items }
 {
     match leaves.pop_front() {
         Some(Leaf::Annotations(notes)) => Ok(notes),
@@ -47,7 +47,7 @@ pub fn notes(leaves: &mut VecDeque<Leaf>) -> Result<Annotations, Stop>
 
 // What the name that comes next stands for.
 pub fn name(leaves: &mut VecDeque<Leaf>) -> Result<Text, Stop>
-    ensures { Gives (λ x. x) result (name_from leaves.old.items) leaves.new.items }
+    ensures { GivesBuilt (λ x. x) result (name_from leaves.old.items) leaves.new.items }
 {
     match leaves.pop_front() {
         Some(Leaf::Word(id)) => {
@@ -62,7 +62,7 @@ pub fn name(leaves: &mut VecDeque<Leaf>) -> Result<Text, Stop>
 
 // An id with the place of its token.
 pub fn id_node(token: &Token, leaves: &mut VecDeque<Leaf>) -> Result<Node<Id>, Stop>
-    ensures { Gives (λ x. x) result (id_node_from token.now leaves.old.items) leaves.new.items }
+    ensures { GivesBuilt (λ x. x) result (id_node_from token.now leaves.old.items) leaves.new.items }
 {
     let node = id(leaves)?;
     Ok(Node {
@@ -73,7 +73,7 @@ pub fn id_node(token: &Token, leaves: &mut VecDeque<Leaf>) -> Result<Node<Id>, S
 
 // A name with the place of its token.
 pub fn name_node(token: &Token, leaves: &mut VecDeque<Leaf>) -> Result<Node<Text>, Stop>
-    ensures { Gives (λ x. x) result (name_node_from token.now leaves.old.items) leaves.new.items }
+    ensures { GivesBuilt (λ x. x) result (name_node_from token.now leaves.old.items) leaves.new.items }
 {
     let node = name(leaves)?;
     Ok(Node {

@@ -4,9 +4,9 @@ ghost use Rattle.std.specs.Option.{option_map};
 ghost use Rattle.std.specs.List.{All};
 ghost use Rattle.schema_syntax_reader.specs.Sites.{annotations};
 ghost use Rattle.schema_syntax_reader.specs.Leaves.{AreNotes};
-ghost use Rattle.schema_syntax_reader.specs.Placed.{IsPlacedNote, IsPlacedValue, Rise, NoFault, note_tokens};
+ghost use Rattle.schema_syntax_reader.specs.Placed.{IsPlacedNote, IsPlacedValue, Rise, NoSiteFault, note_tokens};
 ghost use Rattle.schema_syntax_reader.specs.Stops.{IsStoppedAt};
-ghost use Rattle.schema_syntax_reader.specs.Deduplicated.{key_of, key_place, value_of};
+ghost use Rattle.schema_syntax_reader.specs.Deduplicated.{placed_key, key_place, value_of};
 ghost use Rattle.schema_syntax_reader.specs.ReadNotes.{IsValueOr, IsReadOr, AreRead};
 
 use crate::annotations::{PlacedAnnotation, deduplicate_annotations};
@@ -68,7 +68,7 @@ fn read_note(
 
 // The annotation whose key stands there.
 fn placed(node: AnyId, value: Option<Node<Text>>, place: &Loc) -> PlacedAnnotation
-    ensures key { key_of result ≡ node }
+    ensures key { placed_key result ≡ node }
     ensures key_place { key_place result ≡ Some place.now }
     ensures value { value_of result ≡ option_map (λ v. v.node) value }
 {
@@ -110,7 +110,7 @@ pub fn notes_of(
     requires placed { All (IsPlacedNote text.now) list.now }
     requires rise { Rise (note_tokens list.now) }
     ensures notes { IfOk result (λ notes. AreNotes text.now list.now notes.0) }
-    ensures lawful { OnOk result (NoFault text.now (annotations list.now)) }
+    ensures lawful { OnOk result (NoSiteFault text.now (annotations list.now)) }
     ensures fault { IfErr result (IsStoppedAt text.now (annotations list.now)) }
 {
     let read = read_notes(alloc, text, list)?;

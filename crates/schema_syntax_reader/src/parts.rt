@@ -1,15 +1,15 @@
 ghost use Rattle.std.specs.Prelude.{◌≡◌};
-ghost use Rattle.schema_syntax_reader.specs.Building.{Gives, all_from, some_from, optional_from, at_least_one};
+ghost use Rattle.schema_syntax_reader.specs.Building.{GivesBuilt, all_from, some_from, optional_from, at_least_one};
 
 use crate::leaf::Leaf;
-use crate::stop::Stop;
 use cedar_data::NonEmpty;
+use schema_syntax_parser::Stop;
 use std::alloc::Global;
 use std::collections::VecDeque;
 
 /// What is built of a part of a syntax, from the leaves that come next.
 pub trait Part {
-    ghost use Rattle.schema_syntax_reader.specs.Building.{Builds, Gives};
+    ghost use Rattle.schema_syntax_reader.specs.Building.{Builds, GivesBuilt};
 
     type Raw;
 
@@ -22,7 +22,7 @@ pub trait Part {
         raw: &Self::Raw,
         leaves: &mut VecDeque<Leaf>,
     ) -> Result<Self::Item, Stop>
-        ensures { Gives (λ x. x) result (builds raw.now leaves.old.items) leaves.new.items };
+        ensures { GivesBuilt (λ x. x) result (builds raw.now leaves.old.items) leaves.new.items };
 }
 
 // What is built of the parts, in order.
@@ -31,7 +31,7 @@ pub fn all<P: Part>(
     raws: &[P::Raw],
     leaves: &mut VecDeque<Leaf>,
 ) -> Result<Vec<P::Item>, Stop>
-    ensures { Gives (λ v. v.items) result (all_from P.builds raws.now leaves.old.items) leaves.new.items }
+    ensures { GivesBuilt (λ v. v.items) result (all_from P.builds raws.now leaves.old.items) leaves.new.items }
 {
     let mut items = Vec::new(alloc);
     for raw in raws {
@@ -55,7 +55,7 @@ pub fn some<P: Part>(
     raws: &[P::Raw],
     leaves: &mut VecDeque<Leaf>,
 ) -> Result<NonEmpty<P::Item>, Stop>
-    ensures { Gives (λ list. list) result (some_from P.builds raws.now leaves.old.items) leaves.new.items }
+    ensures { GivesBuilt (λ list. list) result (some_from P.builds raws.now leaves.old.items) leaves.new.items }
 {
     let items = all::<P>(alloc, raws, leaves)?;
     match at_least_one(items) {
@@ -71,7 +71,7 @@ pub fn optional<P: Part>(
     raws: &[P::Raw],
     leaves: &mut VecDeque<Leaf>,
 ) -> Result<Option<NonEmpty<P::Item>>, Stop>
-    ensures { Gives (λ list. list) result (optional_from P.builds raws.now leaves.old.items) leaves.new.items }
+    ensures { GivesBuilt (λ list. list) result (optional_from P.builds raws.now leaves.old.items) leaves.new.items }
 {
     let items = all::<P>(alloc, raws, leaves)?;
     Ok(at_least_one(items))

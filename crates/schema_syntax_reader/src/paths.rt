@@ -1,32 +1,16 @@
 ghost use Rattle.std.specs.Prelude.{◌≡◌};
-ghost use Rattle.schema_syntax_parser.specs.Syntax.{place_of};
-ghost use Rattle.schema_syntax_reader.specs.Building.{Gives, path_of, names_from, path_from, type_of_ref_from, ref_from};
+ghost use Rattle.schema_syntax_reader.specs.Building.{GivesBuilt, path_of, names_from, path_from, type_of_ref_from, ref_from};
 
 use crate::leaf::Leaf;
 use crate::names::{BareIds, name};
 use crate::parts::{Part, all};
-use crate::stop::Stop;
 use cedar_data::{Loc, Node};
 use cedar_identifiers::Id;
-use schema_syntax_parser::PathSyntax;
-use schema_syntax_tokens::Token;
+use schema_syntax_parser::{PathSyntax, Stop};
+use schema_syntax_tokens::{Token, whole_place};
 use schema_syntax_tree::{Path, QualName};
 use std::alloc::Global;
 use std::collections::VecDeque;
-
-// From the first of the tokens through the last.
-fn place_of(tokens: &[Token]) -> Loc
-    ensures { result ≡ place_of tokens.now }
-{
-    match tokens {
-        [] => Loc::new(0, 0),
-        [first, ..] => {
-            let first = first.loc;
-            let last = tokens[tokens.len() - 1].loc;
-            Loc::new(first.start, first.start.max(last.end))
-        }
-    }
-}
 
 // The path of the ids, where there is one.
 fn path_of(mut ids: Vec<Id>, loc: Loc) -> Option<Path>
@@ -44,7 +28,7 @@ fn path_of_names(
     loc: Loc,
     leaves: &mut VecDeque<Leaf>,
 ) -> Result<Path, Stop>
-    ensures { Gives (λ x. x) result (names_from names.now loc leaves.old.items) leaves.new.items }
+    ensures { GivesBuilt (λ x. x) result (names_from names.now loc leaves.old.items) leaves.new.items }
 {
     let ids = all::<BareIds>(alloc, names, leaves)?;
     match path_of(ids, loc) {
@@ -56,7 +40,7 @@ fn path_of_names(
 // A path.
 #[tactic(auto, unfolding(crate::specs::Building::path_from))]
 pub fn path(alloc: Global, raw: &PathSyntax, leaves: &mut VecDeque<Leaf>) -> Result<Path, Stop>
-    ensures { Gives (λ x. x) result (path_from raw.now leaves.old.items) leaves.new.items }
+    ensures { GivesBuilt (λ x. x) result (path_from raw.now leaves.old.items) leaves.new.items }
 {
     path_of_names(alloc, raw.names.as_slice(), raw.loc, leaves)
 }
@@ -68,12 +52,12 @@ fn type_of_reference(
     names: &[Token],
     leaves: &mut VecDeque<Leaf>,
 ) -> Result<Option<Path>, Stop>
-    ensures { Gives (λ x. x) result (type_of_ref_from names.now leaves.old.items) leaves.new.items }
+    ensures { GivesBuilt (λ x. x) result (type_of_ref_from names.now leaves.old.items) leaves.new.items }
 {
     match names {
         [] => Ok(None),
         [_, ..] => {
-            let path = path_of_names(alloc, names, place_of(names), leaves)?;
+            let path = path_of_names(alloc, names, whole_place(names), leaves)?;
             Ok(Some(path))
         }
     }
@@ -86,7 +70,7 @@ fn reference(
     raw: &PathSyntax,
     leaves: &mut VecDeque<Leaf>,
 ) -> Result<Node<QualName>, Stop>
-    ensures { Gives (λ x. x) result (ref_from raw.now leaves.old.items) leaves.new.items }
+    ensures { GivesBuilt (λ x. x) result (ref_from raw.now leaves.old.items) leaves.new.items }
 {
     let names = raw.names.as_slice();
     let (front, _) = names.split_at(names.len().saturating_sub(1));

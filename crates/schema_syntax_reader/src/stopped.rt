@@ -3,7 +3,7 @@ ghost use Rattle.std.specs.Prelude.{◌≡◌};
 use schema_syntax_errors::UserError;
 use std::alloc::{AllocError, AllocFailed};
 
-/// Why sites were not read: memory was wanted, or a site has a fault.
+/// Why sites were not read: memory ran out, or a site has a fault.
 #[derive(Drop)]
 pub enum Stopped {
     Memory,

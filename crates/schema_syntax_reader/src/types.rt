@@ -1,11 +1,10 @@
-ghost use Rattle.schema_syntax_reader.specs.Building.{Gives, all_from, type_from, attr_from, shape_from, tags_from};
+ghost use Rattle.schema_syntax_reader.specs.Building.{GivesBuilt, all_from, type_from, attr_from, shape_from, tags_from};
 
 use crate::leaf::Leaf;
 use crate::names::{name_node, notes};
 use crate::paths::path;
-use crate::stop::Stop;
 use cedar_data::{Boxed, List, Loc, Node};
-use schema_syntax_parser::{AttrSyntax, TypeSyntax};
+use schema_syntax_parser::{AttrSyntax, Stop, TypeSyntax};
 use schema_syntax_tree::{Annotated, AttrDecl, Type};
 use std::alloc::Global;
 use std::collections::VecDeque;
@@ -14,7 +13,7 @@ use std::collections::VecDeque;
 #[tactic(auto, using(crate::proofs::TypeSteps::type_path, crate::proofs::TypeSteps::type_set, crate::proofs::TypeSteps::type_record))]
 #[cycle(types)]
 pub fn ty(alloc: Global, raw: &TypeSyntax, leaves: &mut VecDeque<Leaf>) -> Result<Node<Type>, Stop>
-    ensures { Gives (λ x. x) result (type_from raw.now leaves.old.items) leaves.new.items }
+    ensures { GivesBuilt (λ x. x) result (type_from raw.now leaves.old.items) leaves.new.items }
 {
     match raw {
         TypeSyntax::Path(raw) => {
@@ -50,7 +49,7 @@ fn attr(
     raw: &AttrSyntax,
     leaves: &mut VecDeque<Leaf>,
 ) -> Result<Node<Annotated<AttrDecl>>, Stop>
-    ensures { Gives (λ x. x) result (attr_from raw.now leaves.old.items) leaves.new.items }
+    ensures { GivesBuilt (λ x. x) result (attr_from raw.now leaves.old.items) leaves.new.items }
 {
     let annotations = notes(leaves)?;
     let name = name_node(&raw.name, leaves)?;
@@ -70,7 +69,7 @@ pub fn attrs(
     raws: &[AttrSyntax],
     leaves: &mut VecDeque<Leaf>,
 ) -> Result<Vec<Node<Annotated<AttrDecl>>>, Stop>
-    ensures { Gives (λ v. v.items) result (all_from attr_from raws.now leaves.old.items) leaves.new.items }
+    ensures { GivesBuilt (λ v. v.items) result (all_from attr_from raws.now leaves.old.items) leaves.new.items }
 {
     let mut items = Vec::new(alloc);
     for raw in raws {
@@ -87,7 +86,7 @@ pub fn shape(
     raw: &Option<(List<AttrSyntax>, Loc)>,
     leaves: &mut VecDeque<Leaf>,
 ) -> Result<Node<List<Node<Annotated<AttrDecl>>>>, Stop>
-    ensures { Gives (λ x. x) result (shape_from raw.now leaves.old.items) leaves.new.items }
+    ensures { GivesBuilt (λ x. x) result (shape_from raw.now leaves.old.items) leaves.new.items }
 {
     match raw {
         None => Ok(Node {
@@ -111,7 +110,7 @@ pub fn tags(
     raw: &Option<TypeSyntax>,
     leaves: &mut VecDeque<Leaf>,
 ) -> Result<Option<Node<Type>>, Stop>
-    ensures { Gives (λ x. x) result (tags_from raw.now leaves.old.items) leaves.new.items }
+    ensures { GivesBuilt (λ x. x) result (tags_from raw.now leaves.old.items) leaves.new.items }
 {
     match raw {
         None => Ok(None),

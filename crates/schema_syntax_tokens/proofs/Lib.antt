@@ -3,6 +3,7 @@ mod Bodies
 mod ByCharacters
 mod Digits
 mod Ends
+mod Gone
 mod LaidOut
 mod Lawful
 mod Longest
@@ -10,7 +11,9 @@ mod OneString
 mod Pieces
 mod Quotation
 mod Quoting
+mod Sorted
 mod Standing
 mod Unique
-mod Values
+pub mod Values
 mod Whole
+mod WholePlaces

@@ -63,7 +63,7 @@ escape_start e c (inr (inl s)) = (120 ∷ s.0 ∷ s.1 ∷ [], s.2)
 escape_start e c (inr (inr s)) = (117 ∷ 123 ∷ (s.0 ++ 125 ∷ []), s.1)
 
 -- a character whose bytes begin with a backslash is one
-backslash_is : (c : ℕ) (us vs : List ℕ) → encode_utf8 c ++ us ≡ 92 ∷ vs → c ≡ 92
+pub backslash_is : (c : ℕ) (us vs : List ℕ) → encode_utf8 c ++ us ≡ 92 ∷ vs → c ≡ 92
 backslash_is c us vs e = char_from_byte (92 ∷ vs) us c (sym e) (omega arith) (omega arith)
 
 char_and_escape : (f us vs : List ℕ) (c d : ℕ) → c ≢ 92 → IsEscape f d → encode_utf8 c ++ us ≡ f ++ vs → ⊥
@@ -72,18 +72,18 @@ char_and_escape f us vs c d n k e =
     n (backslash_is c us (s.0 ++ vs) (e ∙ ap (λ t. t ++ vs) s.1))
 
 -- two pieces that begin the same bytes are one
-same_piece : (p q us vs : List ℕ) (c d : ℕ) → StandsFor p c → StandsFor q d → p ++ us ≡ q ++ vs → (c ≡ d) × (us ≡ vs)
+pub same_piece : (p q us vs : List ℕ) (c d : ℕ) → StandsFor p c → StandsFor q d → p ++ us ≡ q ++ vs → (c ≡ d) × (us ≡ vs)
 same_piece p q us vs c d (inl s) (inl t) e = encode_same c d us vs (ap (λ x. x ++ us) (sym s.0) ∙ (e ∙ ap (λ x. x ++ vs) t.0))
 same_piece p q us vs c d (inl s) (inr t) e = absurd (char_and_escape q us vs c d s.1 t (ap (λ x. x ++ us) (sym s.0) ∙ e))
 same_piece p q us vs c d (inr s) (inl t) e = absurd (char_and_escape p vs us d c t.1 s (ap (λ x. x ++ vs) (sym t.0) ∙ sym e))
 same_piece p q us vs c d (inr s) (inr t) e = same_escapes p q us vs c d s t e
 
 -- a piece is no empty text
-piece_some : (p : List ℕ) (c : ℕ) → StandsFor p c → 0 < length p
+pub piece_some : (p : List ℕ) (c : ℕ) → StandsFor p c → 0 < length p
 piece_some p c (inl s) = omega (arith, ap length s.0, length-encode c, (len_utf8_bounds c).0)
 piece_some p c (inr s) = let t = escape_start p c s in omega (arith, ap length t.1)
 
-some_and_none : (p us : List ℕ) (c : ℕ) → StandsFor p c → [] ≡ p ++ us → ⊥
+pub some_and_none : (p us : List ℕ) (c : ℕ) → StandsFor p c → [] ≡ p ++ us → ⊥
 some_and_none p us c s e = let l : 0 ≡ length p + length us = ap length e ∙ length-append p us in omega (arith, piece_some p c s)
 
 pub one_value : (body cs ds : List ℕ) → Unescapes body cs → Unescapes body ds → cs ≡ ds

@@ -4,3 +4,5 @@ pub mod Laid
 pub mod Quotes
 pub mod Scans
 pub mod Steps
+pub mod TokenLists
+pub mod Values

@@ -12,7 +12,7 @@ use std::alloc::{AllocError, Global};
 pub enum Refusal {
     /// No lawful escape starts at this byte of the body, where a backslash stands.
     Escape(usize),
-    /// Memory was wanted.
+    /// Memory ran out.
     Memory,
 }
 
@@ -27,7 +27,7 @@ impl From<AllocError> for Refusal {
 }
 
 /// How many bytes stand before the first backslash.
-fn plain_len(rest: &[u8]) -> usize
+pub(crate) fn plain_len(rest: &[u8]) -> usize
     ensures { result ≡ prefix_len is_unescaped rest.now }
 {
     for (at, byte) in rest.iter().enumerate() {

@@ -4,14 +4,18 @@
 mod blanks;
 pub mod escapes;
 pub mod laws;
+pub mod ordered;
 mod places;
 pub mod quotes;
 pub mod scanner;
 mod strings;
 pub mod token;
+pub mod walks;
 mod words;
 
 pub use escapes::{Refusal, unescape};
+pub use ordered::cmp_values;
 pub use quotes::push_quoted;
 pub use scanner::{Scanned, scan};
-pub use token::{Token, string_body, token_text};
+pub use token::{Token, string_body, token_text, whole_place};
+pub use walks::{check_escapes, next_piece, same_value};

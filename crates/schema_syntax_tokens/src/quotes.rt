@@ -79,13 +79,27 @@ fn push_body(text: &mut Text, value: &str) -> Result<(), AllocError>
     text.push_str(rest)
 }
 
-/// Writes the text as a string: `"`, each character, escaped where it must be, and `"`. Where memory is wanted, a front of this may have
-/// been written.
-pub fn push_quoted(text: &mut Text, value: &str) -> Result<(), AllocError>
+/// Writes the text as a string, or, where memory is out, a front of it.
+fn push_whole(text: &mut Text, value: &str) -> Result<(), AllocError>
     ensures ok { OnOk result (text.new ≡ text.old ++ chars (quoted (chars value.now))) }
     ensures err { OnErr result (WritesFront text.old text.new (chars (quoted (chars value.now)))) }
 {
     text.push_str("\"")?;
     push_body(text, value)?;
     text.push_str("\"")
+}
+
+/// Writes the text as a string: `"`, each character, escaped where it must be, and `"`. Where memory is out, nothing is written.
+pub fn push_quoted(text: &mut Text, value: &str) -> Result<(), AllocError>
+    ensures ok { OnOk result (text.new ≡ text.old ++ chars (quoted (chars value.now))) }
+    ensures err { OnErr result (text.new ≡ text.old) }
+{
+    let len = text.as_str().len();
+    match push_whole(text, value) {
+        Ok(()) => Ok(()),
+        Err(error) => {
+            text.truncate(len);
+            Err(error)
+        }
+    }
 }

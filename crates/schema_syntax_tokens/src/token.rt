@@ -2,6 +2,7 @@ ghost use Rattle.std.specs.Prelude.{◌≡◌, [], ◌∷◌, ◌++◌, IsSome, 
 ghost use Rattle.schema_syntax_grammar.specs.declared.token_kind.TokenKind.TheVariants.{StringLit};
 ghost use Rattle.schema_syntax_tokens.specs.Scans.{IsPlaced};
 ghost use Rattle.schema_syntax_tokens.specs.Steps.{IsBetweenQuotes, NotBetweenQuotes};
+ghost use Rattle.schema_syntax_tokens.specs.TokenLists.{whole_place};
 
 use cedar_data::Loc;
 use schema_syntax_grammar::TokenKind;
@@ -11,6 +12,20 @@ use schema_syntax_grammar::TokenKind;
 pub struct Token {
     pub kind: TokenKind,
     pub loc: Loc,
+}
+
+/// From the first of the tokens through the last.
+pub fn whole_place(tokens: &[Token]) -> Loc
+    ensures { result ≡ whole_place tokens.now }
+{
+    match tokens {
+        [] => Loc::new(0, 0),
+        [first, ..] => {
+            let first = first.loc;
+            let last = tokens[tokens.len() - 1].loc;
+            Loc::new(first.start, first.start.max(last.end))
+        }
+    }
 }
 
 /// What stands at the token's place in the text: there for each token that the text was scanned into.

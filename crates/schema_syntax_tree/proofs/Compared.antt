@@ -12,24 +12,11 @@ use Rattle.std.proofs.lemmas.Slice.Eq.{bytes_eq-Decides}
 use Rattle.std.proofs.lemmas.Str.{encodes-IsAscii}
 use Rattle.std.proofs.lemmas.Str.Ascii.{IsAscii-nil, IsAscii-cons}
 use Rattle.cedar_data.specs.Text.{text_cmp}
+use Rattle.cedar_data.proofs.Ascii.{word_ascii}
 use Rattle.cedar_identifiers.specs.Words.{is_reserved}
 use Rattle.cedar_data.specs.Words.{is_word_start, is_word_part, is_word}
 use Rattle.cedar_identifiers.specs.Names.{texts_of}
 use Rattle.cedar_identifiers.specs.declared.id.Id.{Id}
-
-part_ascii : (b : ℕ) → is_word_part b ≡ true → b < 128
-part_ascii b h = grind (arith, nat_tests)
-
-start_ascii : (b : ℕ) → is_word_start b ≡ true → b < 128
-start_ascii b h = grind (arith, nat_tests)
-
-parts_ascii : (bs : List ℕ) → list_all is_word_part bs ≡ true → IsAscii bs
-parts_ascii [] h = IsAscii-nil
-parts_ascii (b ∷ bs) h = IsAscii-cons b bs (part_ascii b (first_so (is_word_part b) (list_all is_word_part bs) h)) (parts_ascii bs (second_so (is_word_part b) (list_all is_word_part bs) h))
-
-word_ascii : (w : List ℕ) → is_word w ≡ true → IsAscii w
-word_ascii [] h = IsAscii-nil
-word_ascii (b ∷ bs) h = IsAscii-cons b bs (start_ascii b (first_so (is_word_start b) (list_all is_word_part bs) h)) (parts_ascii bs (second_so (is_word_start b) (list_all is_word_part bs) h))
 
 -- the bytes of an id are its characters
 id_bytes : (i : Id) → encode_utf8_all i.text ≡ i.text

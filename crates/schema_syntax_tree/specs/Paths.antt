@@ -22,6 +22,6 @@ is_in_cedar ids = false
 abbrev pub ids_left : PathIter → List Id
 ids_left it = items_left it.ids
 
--- the same, each with the path's place
+-- the ids that are still to come, each with the path's place
 abbrev pub nodes_left : PathIntoIter → List (Node Id)
 nodes_left it = placed it.loc (option_to_list it.first ++ it.others.items)

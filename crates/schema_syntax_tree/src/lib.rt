@@ -24,7 +24,7 @@ pub use decl::Decl;
 pub use declaration::Declaration;
 pub use either::Either;
 pub use entity_decl::{EntityDecl, EnumEntityDecl, ExternalEntityDecl, StandardEntityDecl};
-pub use laws::{annotated_items_are_lawful, paths_go_by_ids};
+pub use laws::{annotated_items_are_equal_by_parts, annotated_items_are_lawful, paths_go_by_ids};
 pub use namespace::{Namespace, Schema};
 pub use path::{Path, PathIntoIter, PathIter};
 pub use pr::PR;

@@ -5,7 +5,7 @@ use Rattle.schema_syntax_parser.specs.Syntax.{IsSyntax}
 use Rattle.schema_syntax_reader.specs.Sites.{sites_of}
 use Rattle.schema_syntax_reader.specs.SiteViews.{site_of}
 use Rattle.schema_syntax_reader.specs.Leaves.{IsLeaf}
-use Rattle.schema_syntax_reader.specs.Placed.{IsPlacedSite, NoFault}
+use Rattle.schema_syntax_reader.specs.Placed.{IsPlacedSite, NoSiteFault}
 use Rattle.schema_syntax_reader.specs.Stops.{IsStopped}
 use Rattle.schema_syntax_reader.proofs.Order.{sites_placed, all_lawful, stop_of}
 use Rattle.schema_syntax_reader.proofs.lawful_tree.tree_of_tokens.Goals as goal
@@ -39,6 +39,6 @@ returns-clause-tree c =
     record {
       items = c.as_slice-items.result.now;
       syntax = here;
-      lawful = all_lawful c.args.text.now c.as_slice-items.result.now (subst (All (NoFault c.args.text.now)) e c.in_ok-leaves.ensures.lawful);
+      lawful = all_lawful c.args.text.now c.as_slice-items.result.now (subst (All (NoSiteFault c.args.text.now)) e c.in_ok-leaves.ensures.lawful);
       tree = c.in_ok-tree_of.ensures.tree c.args.text.now (subst (λ s. AllZip (IsLeaf c.args.text.now) s c.in_ok-leaves.leaves.items) e c.in_ok-leaves.ensures.leaves);
     }
