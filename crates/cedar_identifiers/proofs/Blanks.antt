@@ -8,7 +8,7 @@ use Rattle.std.proofs.lemmas.List.Sums.{prefix_len-le-length, prefix_len_stops}
 use Rattle.std.proofs.lemmas.Str.{encodes-chars, IsUtf8-past_char, chars_past_char, IsCharBoundary-before_ascii, IsCharBoundary-end, IsUtf8-drop, length-encode, len_utf8_bounds}
 use Rattle.std.proofs.lemmas.Bool.{cases_lt}
 use Rattle.std.proofs.lemmas.Bool.Decides.{nat_tests}
-use Rattle.cedar_identifiers.specs.NamePieces.{space_len, starts_twice, blank_len, Begins, here, blank, piece}
+use Rattle.cedar_identifiers.specs.NamePieces.{space_len, starts_twice, blank_len, BeginsWith, here, blank, piece}
 use Rattle.cedar_data.specs.Words.{is_in_line}
 
 -- a character with White_Space at the front is a blank
@@ -64,11 +64,11 @@ past-blank text u h = by_test (starts_twice 47 text) h
     by_test false some = past_space text u some
 
 -- what begins behind what begins a text
-pub Begins-append : {text here end : List ℕ} {ps qs : List (List ℕ)} → Begins text ps here → Begins here qs end → Begins text (ps ++ qs) end
+pub Begins-append : {text here end : List ℕ} {ps qs : List (List ℕ)} → BeginsWith text ps here → BeginsWith here qs end → BeginsWith text (ps ++ qs) end
 Begins-append here e = e
 Begins-append (blank some b) e = blank some (Begins-append b e)
 Begins-append (piece no_blank some b) e = piece no_blank some (Begins-append b e)
 
 -- one blank more
-pub behind-blank : (text rest after : List ℕ) → 0 < blank_len rest → after ≡ drop (blank_len rest) rest → Begins text [] rest → Begins text [] after
-behind-blank text rest after some e b = subst (Begins text []) (sym e) (Begins-append b (blank some here))
+pub behind-blank : (text rest after : List ℕ) → 0 < blank_len rest → after ≡ drop (blank_len rest) rest → BeginsWith text [] rest → BeginsWith text [] after
+behind-blank text rest after some e b = subst (BeginsWith text []) (sym e) (Begins-append b (blank some here))

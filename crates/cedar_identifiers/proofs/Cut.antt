@@ -3,7 +3,7 @@ use Rattle.std.proofs.Common.{◌≡◌, ◌≢◌, ℕ, zero, suc, ◌<◌, ◌
 use Rattle.std.specs.List.{All}
 use Rattle.std.proofs.lemmas.Str.{chars-nil}
 use Rattle.std.proofs.lemmas.List.Elements.{All-nil, All-cons}
-use Rattle.cedar_identifiers.specs.NamePieces.{blank_len, piece_len, Begins, here, blank, piece, NothingStands}
+use Rattle.cedar_identifiers.specs.NamePieces.{blank_len, piece_len, BeginsWith, here, blank, piece, NothingStands}
 use Rattle.cedar_identifiers.proofs.Pieces.{piece_len-le}
 
 abbrev Pieces : Type 0
@@ -75,7 +75,7 @@ pieces_of-stuck (b ∷ bs) n =
     ap (λ k. pieces_behind 0 k (b ∷ bs) (λ i. pieces_at bs i)) n.no_piece
 
 -- what begins the text is a front of its pieces
-pub pieces_of-begins : {text rest : List ℕ} {ps : Pieces} → Begins text ps rest → pieces_of text ≡ ps ++ pieces_of rest
+pub pieces_of-begins : {text rest : List ℕ} {ps : Pieces} → BeginsWith text ps rest → pieces_of text ≡ ps ++ pieces_of rest
 pieces_of-begins here = refl
 pieces_of-begins (blank {text = text} some b) = pieces_of-blank text some ∙ pieces_of-begins b
 pieces_of-begins (piece {text = text} no_blank some b) = pieces_of-piece text no_blank some ∙ ap (λ qs. take (piece_len text) text ∷ qs) (pieces_of-begins b)
@@ -87,7 +87,7 @@ take_some (suc n) [] h l e = omega (arith, l)
 take_some (suc n) (b ∷ bs) h l e = cc
 
 -- pieces have bytes
-pub pieces_some : {text rest : List ℕ} {ps : Pieces} → Begins text ps rest → All (λ p. p ≢ []) ps
+pub pieces_some : {text rest : List ℕ} {ps : Pieces} → BeginsWith text ps rest → All (λ p. p ≢ []) ps
 pieces_some here = All-nil (λ p. p ≢ [])
 pieces_some (blank some b) = pieces_some b
 pieces_some (piece {text = text} {pieces = ps} no_blank some b) =

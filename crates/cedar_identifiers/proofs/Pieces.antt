@@ -7,7 +7,7 @@ use Rattle.std.proofs.lemmas.List.Sums.{prefix_len-le-length, prefix_len_passes}
 use Rattle.std.proofs.lemmas.Str.{IsCharBoundary-after_ascii, chars-IsAscii}
 use Rattle.std.proofs.lemmas.Bool.Decides.{nat_tests}
 use Rattle.cedar_data.specs.Words.{is_word_start, is_word_part}
-use Rattle.cedar_identifiers.specs.NamePieces.{starts_twice, is_mark, blank_len, piece_len, Begins, here, piece}
+use Rattle.cedar_identifiers.specs.NamePieces.{starts_twice, is_mark, blank_len, piece_len, BeginsWith, here, piece}
 use Rattle.cedar_identifiers.proofs.Blanks.{Begins-append}
 use Rattle.std.specs.Cmp.{first_so, second_so}
 use Rattle.std.proofs.lemmas.Str.Ascii.{IsAscii-nil, IsAscii-cons}
@@ -88,6 +88,6 @@ pub piece_chars : (text : List ℕ) → chars (take (piece_len text) text) ≡ t
 piece_chars text = chars-IsAscii _ (front_ascii (piece_len text) text (piece_byte text))
 
 -- the piece at the front begins the text
-pub begins-piece : (text rest p after : List ℕ) → Begins text [] rest → blank_len rest ≡ 0 → 0 < piece_len rest → p ≡ take (piece_len rest) rest → after ≡ drop (piece_len rest) rest → Begins text (p ∷ []) after
+pub begins-piece : (text rest p after : List ℕ) → BeginsWith text [] rest → blank_len rest ≡ 0 → 0 < piece_len rest → p ≡ take (piece_len rest) rest → after ≡ drop (piece_len rest) rest → BeginsWith text (p ∷ []) after
 begins-piece text rest p after b no_blank some e f =
-    subst (λ (x : List ℕ). Begins text (p ∷ []) x) (sym f) (subst (λ (x : List ℕ). Begins text (x ∷ []) (drop (piece_len rest) rest)) (sym e) (Begins-append b (piece no_blank some here)))
+    subst (λ (x : List ℕ). BeginsWith text (p ∷ []) x) (sym f) (subst (λ (x : List ℕ). BeginsWith text (x ∷ []) (drop (piece_len rest) rest)) (sym e) (Begins-append b (piece no_blank some here)))

@@ -4,7 +4,7 @@ use Rattle.std.specs.Str.{bytes_eq}
 use Rattle.cedar_data.specs.Rows.{joined_by}
 use Rattle.cedar_identifiers.specs.Words.{is_reserved, is_cedar}
 use Rattle.cedar_data.specs.Words.{is_word}
-use Rattle.cedar_identifiers.specs.NamePieces.{Begins, NothingStands}
+use Rattle.cedar_identifiers.specs.NamePieces.{BeginsWith, NothingStands}
 use Rattle.cedar_identifiers.specs.declared.name_kind.NameKind.{NameKind}
 use Rattle.cedar_identifiers.specs.declared.name_kind.NameKind.TheVariants.{AnyId, Id, UnreservedId, InternalName, Name}
 use Rattle.cedar_identifiers.specs.declared.name_fault.NameFault.{NameFault}
@@ -45,7 +45,7 @@ separated (w ∷ v ∷ ws) = w ∷ codes "::" ∷ separated (v ∷ ws)
 
 -- but for blanks, the text is these words with `::` between two
 pub record HasWords (kind : NameKind) (text : List ℕ) (words : List (List ℕ)) : Type 0 where
-  pub pieces : Begins text (separated words) []
+  pub pieces : BeginsWith text (separated words) []
   pub whole : due_behind (is_single kind) true (separated words) ≡ Some false
 
 -- the text is a name of these words
@@ -59,10 +59,10 @@ pub record ReadsAs (kind : NameKind) (text : List ℕ) (words : List (List ℕ))
 -- components may not be, and blanks. Want of memory may keep any text from being read.
 abbrev pub NameFaultOf : NameKind → List ℕ → NameFault → Type 0
 NameFaultOf kind text Invalid =
-    (pieces : List (List ℕ)) × (due : Bool) × (rest : List ℕ) × Begins text pieces rest × (due_behind (is_single kind) true pieces ≡ Some due) × NothingStands rest
+    (pieces : List (List ℕ)) × (due : Bool) × (rest : List ℕ) × BeginsWith text pieces rest × (due_behind (is_single kind) true pieces ≡ Some due) × NothingStands rest
 NameFaultOf kind text (Token t) =
-    (pieces : List (List ℕ)) × (due : Bool) × (rest : List ℕ) × Begins text (pieces ++ t ∷ []) rest × (due_behind (is_single kind) true pieces ≡ Some due) × (due_next (is_single kind) due t ≡ None)
-NameFaultOf kind text End = (pieces : List (List ℕ)) × Begins text pieces [] × (due_behind (is_single kind) true pieces ≡ Some true)
+    (pieces : List (List ℕ)) × (due : Bool) × (rest : List ℕ) × BeginsWith text (pieces ++ t ∷ []) rest × (due_behind (is_single kind) true pieces ≡ Some due) × (due_next (is_single kind) due t ≡ None)
+NameFaultOf kind text End = (pieces : List (List ℕ)) × BeginsWith text pieces [] × (due_behind (is_single kind) true pieces ≡ Some true)
 NameFaultOf kind text (Reserved w) = (words : List (List ℕ)) × HasWords kind text words × (find (refuses kind) words ≡ Some w)
 NameFaultOf kind text NotNormalized =
     (words : List (List ℕ)) × HasWords kind text words × (find (refuses kind) words ≡ None) × (text ≢ joined_by (codes "::") words)

@@ -4,7 +4,7 @@ ghost use Rattle.std.specs.List.{prefix_len};
 ghost use Rattle.std.specs.Str.{chars};
 ghost use Rattle.std.specs.Char.{is_ascii_digit};
 ghost use Rattle.cedar_data.specs.Words.{is_word_start, is_word_part, is_in_line};
-ghost use Rattle.cedar_identifiers.specs.NamePieces.{space_len, starts_twice, is_mark, blank_len, piece_len, Begins};
+ghost use Rattle.cedar_identifiers.specs.NamePieces.{space_len, starts_twice, is_mark, blank_len, piece_len, BeginsWith};
 ghost use Rattle.cedar_identifiers.specs.Fronts.{IsFront};
 
 use cedar_data::{is_word_start, word_len};
@@ -111,7 +111,7 @@ fn past_blank(text: &str) -> Option<&str>
 
 // What follows the blanks at the front.
 fn past_blanks(text: &str) -> &str
-    ensures skipped { Begins text.now [] result.now }
+    ensures skipped { BeginsWith text.now [] result.now }
     ensures no_blank { blank_len result.now ≡ 0 }
 {
     let mut rest = text;

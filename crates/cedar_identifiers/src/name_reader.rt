@@ -5,8 +5,8 @@ ghost use Rattle.std.specs.Str.{bytes_eq};
 ghost use Rattle.cedar_data.specs.Rows.{joined_by};
 ghost use Rattle.cedar_data.specs.Words.{is_word, is_word_part};
 ghost use Rattle.cedar_identifiers.specs.Names.{components_of, texts_of};
-ghost use Rattle.cedar_identifiers.specs.NamePieces.{Begins};
-ghost use Rattle.cedar_identifiers.specs.Fronts.{StopsAt, IsRefusal, AreAllowed, word_texts};
+ghost use Rattle.cedar_identifiers.specs.NamePieces.{BeginsWith};
+ghost use Rattle.cedar_identifiers.specs.Fronts.{StopsAt, IsRefusedWord, AreAllowed, word_texts};
 ghost use Rattle.cedar_identifiers.specs.NameReading.{is_single, refuses, due_next, HasWords, ReadsAs, NameFaultOf};
 ghost use Rattle.cedar_identifiers.specs.declared.name_fault.NameFault.TheVariants.{Reserved};
 
@@ -40,7 +40,7 @@ fn separates(kind: NameKind, piece: &str) -> bool
 
 // The word at the front, and what follows it.
 fn word_at(alloc: Global, kind: NameKind, text: &str) -> Result<(AnyId, &str), NameFault>
-    ensures ok { IfOk result (λ r. Begins text.now (r.0.text ∷ []) r.1.now) }
+    ensures ok { IfOk result (λ r. BeginsWith text.now (r.0.text ∷ []) r.1.now) }
     ensures err { IfErr result (StopsAt (is_single kind) true text.now) }
 {
     match next_front(text) {
@@ -59,7 +59,7 @@ fn word_at(alloc: Global, kind: NameKind, text: &str) -> Result<(AnyId, &str), N
 
 // What follows the `::` at the front, or nothing where the text ends.
 fn past_separator(alloc: Global, kind: NameKind, text: &str) -> Result<Option<&str>, NameFault>
-    ensures ok { IfOk result (λ r. MatchOption r (Begins text.now [] []) (λ after. (is_single kind ≡ false) × Begins text.now (codes "::" ∷ []) after.now)) }
+    ensures ok { IfOk result (λ r. MatchOption r (BeginsWith text.now [] []) (λ after. (is_single kind ≡ false) × BeginsWith text.now (codes "::" ∷ []) after.now)) }
     ensures err { IfErr result (StopsAt (is_single kind) false text.now) }
 {
     match next_front(text) {
@@ -108,7 +108,7 @@ fn component(kind: NameKind, word: AnyId) -> Result<Id, NameFault>
 fn components(alloc: Global, kind: NameKind, words: Vec<AnyId>) -> Result<Vec<Id>, NameFault>
     requires { kind ≢ NameKind.AnyId }
     ensures ok { IfOk result (λ ids. (texts_of ids.items ≡ word_texts words.items) × (find (refuses kind) (word_texts words.items) ≡ None)) }
-    ensures err { IfErr result (IsRefusal kind (word_texts words.items)) }
+    ensures err { IfErr result (IsRefusedWord kind (word_texts words.items)) }
 {
     let mut ids = Vec::new(alloc);
     for word in words {

@@ -9,7 +9,7 @@ use Rattle.cedar_schema_core.specs.declared.status.Status.TheVariants.{Done, Ref
 use Rattle.cedar_io.specs.Outside.{Rose}
 use Rattle.cedar_io.specs.Input.{HadLeft}
 use Rattle.cedar_schema_core.specs.Plan.{Report, IsPlan, IsRecoverPlan, usage, too_long, recover, not_text, refused, done, read_fault_report}
-use Rattle.cedar_schema_core.specs.Run.{Device, LeftAs, IsReported, planned, read_fault, TookWhole, IsDelivered, whole, out_failed, err_failed, IsRun, delivered, wanted_memory, Recovers, NoFault}
+use Rattle.cedar_schema_core.specs.Run.{Device, LeftAs, IsReported, planned, read_fault, TookWhole, IsDelivered, whole, out_failed, err_failed, IsRun, delivered, wanted_memory, Recovers, NoneCounted}
 
 -- what was left is what is told
 told : (o : Option (List ℕ)) (all bytes : List ℕ) → o ≡ Some all → HadLeft o bytes → all ≡ bytes
@@ -24,7 +24,7 @@ module _ (one : (words : List (List ℕ)) (bytes : List ℕ) (report other : Rep
   same_report report (read_fault i r) = inr refl
 
   -- with no fault, the status is that of the plan, or memory was wanted
-  pub completes : (out err : Device) (status : Status) → IsRun words source out err status → NoFault source out err → (status ≡ plan.status) ⊎ (status ≡ Memory)
+  pub completes : (out err : Device) (status : Status) → IsRun words source out err status → NoneCounted source out err → (status ≡ plan.status) ⊎ (status ≡ Memory)
   completes out err status (delivered report (planned all had p l) (whole o e)) n =
       inl (ap (λ r. r.status) (one words bytes report plan (subst (λ b. IsPlan words b report) (sym (told source.before bytes all left had)) p) is))
   completes out err status (delivered report (read_fault i r) (whole o e)) n = absurd (n.none_read r)

@@ -71,7 +71,7 @@ pub record Recovers (source out err : Device) : Type 0 where
   pub silent : err.Same
 
 -- no count of faults rose
-pub record NoFault (source out err : Device) : Type 0 where
+pub record NoneCounted (source out err : Device) : Type 0 where
   pub none_read : Rose source.faults_before source.faults_after → ⊥
   pub none_out : Rose out.faults_before out.faults_after → ⊥
   pub none_err : Rose err.faults_before err.faults_after → ⊥

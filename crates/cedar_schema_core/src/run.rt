@@ -7,7 +7,7 @@ ghost use Rattle.plain_syntax.specs.declared.thin_entry.ThinEntry.{ThinEntry};
 ghost use Rattle.plain_syntax.specs.ThinMeaning.{TextMeaning};
 ghost use Rattle.cedar_schema_core.specs.Plan.{Report, IsRecover, IsPlan, IsRecoverPlan, refused_report, read_fault_report};
 ghost use Rattle.cedar_io.specs.Input.{TookAtMost, max_input};
-ghost use Rattle.cedar_schema_core.specs.Run.{device, IsReported, IsDelivered, IsRun, Recovers, NoFault};
+ghost use Rattle.cedar_schema_core.specs.Run.{device, IsReported, IsDelivered, IsRun, Recovers, NoneCounted};
 ghost use Rattle.cedar_schema_core.specs.Replies.{report_of};
 
 use crate::laws::{meaning_survives, one_plan};
@@ -117,7 +117,7 @@ pub fn run_tool<S: Source, O: Sink, E: Sink>(
     ensures recovers { result ≡ Status.Done → Recovers (device S.left S.faults source.old source.new) (device O.taken O.faults out.old out.new) (device E.taken E.faults err.old err.new) }
 
     // With no fault counted, the status is the one planned for the words and the input, or memory was wanted.
-    ensures completes { (bytes : List ℕ) (plan : Report) → S.left source.old ≡ Some bytes → IsPlan (map string_bytes words.now) bytes plan → NoFault (device S.left S.faults source.old source.new) (device O.taken O.faults out.old out.new) (device E.taken E.faults err.old err.new) → (result ≡ plan.status) ⊎ (result ≡ Status.Memory) }
+    ensures completes { (bytes : List ℕ) (plan : Report) → S.left source.old ≡ Some bytes → IsPlan (map string_bytes words.now) bytes plan → NoneCounted (device S.left S.faults source.old source.new) (device O.taken O.faults out.old out.new) (device E.taken E.faults err.old err.new) → (result ≡ plan.status) ⊎ (result ≡ Status.Memory) }
 
     // A sink that surely takes what is planned for it counts no fault; of the error output this asks for room for a read fault's line where a read failed.
     ensures out_sure { (bytes : List ℕ) (plan : Report) → S.left source.old ≡ Some bytes → IsPlan (map string_bytes words.now) bytes plan → length plan.out ≤ O.sure out.old → O.faults out.new ≡ O.faults out.old }
