@@ -1,0 +1,120 @@
+-- Lawful words and strings: what stands there, and that it has no fault.
+use Rattle.std.proofs.Common.{◌≡◌, ℕ, ◌<◌, Bool, true, false, not, List, [], ◌∷◌, ◌++◌, Some, slice_range, refl, sym, ap, ◌∙◌, subst, arith}
+use Rattle.std.specs.List.{list_all, All}
+use Rattle.std.specs.Str.{IsAscii, chars}
+use Rattle.std.specs.Cmp.{first_so, second_so}
+use Rattle.std.proofs.lemmas.Str.{chars-IsAscii}
+use Rattle.std.proofs.lemmas.Str.Ascii.{IsAscii-nil, IsAscii-cons}
+use Rattle.std.proofs.lemmas.Bool.Decides.{nat_tests}
+use Rattle.std.proofs.lemmas.List.{append_cancel_right}
+use Rattle.std.proofs.lemmas.List.Elements.{All-nil, All-cons}
+use Rattle.cedar_identifiers.specs.Words.{is_reserved, is_id}
+use Rattle.cedar_data.specs.Words.{is_word_start, is_word_part, is_word}
+use Rattle.schema_syntax_grammar.specs.declared.token_kind.TokenKind.{TokenKind}
+use Rattle.schema_syntax_grammar.specs.declared.token_kind.TokenKind.TheVariants.{KwNamespace, KwEntity, KwExternal, KwType, KwSet, KwAppliesTo, KwPrincipal, KwAction, KwResource, KwContext, KwTags, KwEnum, Identifier, StringLit}
+use Rattle.schema_syntax_grammar.specs.Grammar.{is_ident}
+use Rattle.schema_syntax_grammar.specs.Grammar.{is_name_kind}
+use Rattle.schema_syntax_tokens.specs.declared.token.Token.{Token}
+use Rattle.schema_syntax_tokens.specs.Escapes.{Unescapes, BadEscape}
+use Rattle.schema_syntax_tokens.specs.Laid.{Lexeme, IsSpelled}
+use Rattle.schema_syntax_parser.specs.declared.syntax.AnnotationSyntax.{AnnotationSyntax}
+use Rattle.schema_syntax_reader.specs.Leaves.{word_at}
+use Rattle.schema_syntax_reader.specs.Sites.{word, text, annotations, site_of_kind, name_sites}
+use Rattle.schema_syntax_reader.specs.UserFaults.{reserved, escape, note_escape, duplicate}
+use Rattle.schema_syntax_reader.specs.Trees.{IsNameOf}
+use Rattle.schema_readback.specs.Reads.{IsFaultless}
+use Rattle.schema_readback.specs.Spellings as spelled
+
+part_ascii : (b : ℕ) → is_word_part b ≡ true → b < 128
+part_ascii b h = grind (arith, nat_tests)
+
+start_part : (b : ℕ) → is_word_start b ≡ true → is_word_part b ≡ true
+start_part b h = grind (arith, nat_tests)
+
+parts_ascii : (bs : List ℕ) → list_all is_word_part bs ≡ true → IsAscii bs
+parts_ascii [] h = IsAscii-nil
+parts_ascii (b ∷ bs) h = IsAscii-cons b bs (part_ascii b (first_so (is_word_part b) (list_all is_word_part bs) h)) (parts_ascii bs (second_so (is_word_part b) (list_all is_word_part bs) h))
+
+pub word_ascii : (w : List ℕ) → is_word w ≡ true → IsAscii w
+word_ascii [] h = IsAscii-nil
+word_ascii (b ∷ bs) h =
+    IsAscii-cons b bs (part_ascii b (start_part b (first_so (is_word_start b) (list_all is_word_part bs) h))) (parts_ascii bs (second_so (is_word_start b) (list_all is_word_part bs) h))
+
+not_reserved : (w : List ℕ) → is_id w ≡ true → is_reserved w ≡ false
+not_reserved w h = opposite (is_reserved w) (second_so (is_word w) (not (is_reserved w)) h)
+  where
+    opposite : (b : Bool) → not b ≡ true → b ≡ false
+    opposite true h = cc
+    opposite false h = refl
+
+ident_name : (k : TokenKind) → is_ident k ≡ true → is_name_kind k ≡ true
+ident_name KwNamespace h = refl
+ident_name KwEntity h = refl
+ident_name KwExternal h = refl
+ident_name KwType h = refl
+ident_name KwSet h = refl
+ident_name KwAppliesTo h = refl
+ident_name KwPrincipal h = refl
+ident_name KwAction h = refl
+ident_name KwResource h = refl
+ident_name KwContext h = refl
+ident_name KwTags h = refl
+ident_name KwEnum h = refl
+ident_name Identifier h = refl
+ident_name _ h = cc
+
+site_word : (k : TokenKind) → is_ident k ≡ true → (t : Token) → site_of_kind k t ≡ word t
+site_word StringLit h t = cc
+site_word _ h t = refl
+
+nothing_in : (x : AnnotationSyntax) (back front : List AnnotationSyntax) → [] ≡ front ++ x ∷ back → ⊥
+nothing_in x back [] e = cc
+nothing_in x back (y ∷ front) e = cc
+
+module _ (source : List ℕ) where
+  -- the bytes of a word are its characters
+  pub word_here : (t : Token) (x : Lexeme) → IsSpelled source t x → is_id x.text ≡ true → x.text ≡ word_at source t
+  word_here t x s h = sym (ap (λ w. chars w) s.1 ∙ chars-IsAscii x.text (word_ascii x.text (first_so (is_word x.text) (not (is_reserved x.text)) h)))
+
+  no_word_fault : (t : Token) → is_reserved (word_at source t) ≡ false → IsFaultless source (word t)
+  no_word_fault t h fault end (reserved u e) = cc
+
+  pub ident_kind : (t : Token) (x : Lexeme) → IsSpelled source t x → spelled.IsIdent x → is_ident t.kind ≡ true
+  ident_kind t x s i = ap is_ident s.0 ∙ i.ident
+
+  pub ident_site : (t : Token) (x : Lexeme) → IsSpelled source t x → spelled.IsIdent x → All (IsFaultless source) (name_sites t)
+  ident_site t x s i =
+      subst (λ z. All (IsFaultless source) (z ∷ [])) (sym (site_word t.kind (ident_kind t x s i) t))
+      (All-cons (IsFaultless source) (word t) [] (no_word_fault t (ap is_reserved (sym (word_here t x s i.id)) ∙ not_reserved x.text i.id)) (All-nil (IsFaultless source)))
+
+  pub no_notes_fault : IsFaultless source (annotations [])
+  no_notes_fault fault end (note_escape front back key t at e h) = nothing_in (record { key = key; value = Some t }) back front e
+  no_notes_fault fault end (duplicate front middle back first second key e h g o p) = nothing_in first (middle ++ second ∷ back) front e
+
+  as_word : (k : TokenKind) (t : Token) (n : List ℕ) → is_ident k ≡ true → n ≡ word_at source t → IsNameOf source k t n
+  as_word StringLit t n h e = cc
+  as_word _ t n h e = e
+
+  pub name_kind : (t : Token) (x : Lexeme) (n : List ℕ) → IsSpelled source t x → spelled.IsNameOf x n → is_name_kind t.kind ≡ true
+  name_kind t x n s (spelled.bare i) = ident_name t.kind (ident_kind t x s i)
+  name_kind t x n s (spelled.quoted body k e u) = ap is_name_kind (s.0 ∙ k)
+
+  pub name_here : (t : Token) (x : Lexeme) (n : List ℕ) → IsSpelled source t x → spelled.IsNameOf x n → IsNameOf source t.kind t n
+  name_here t x n s (spelled.bare i) = as_word t.kind t n (ident_kind t x s i) (word_here t x s i.id)
+  name_here t x n s (spelled.quoted body k e u) = subst (λ k. IsNameOf source k t n) (sym (s.0 ∙ k)) (body, s.1 ∙ e, u)
+
+  module _ (never_both : (body value : List ℕ) (at : ℕ) → Unescapes body value → BadEscape body at → ⊥) where
+    no_string_fault : (t : Token) (body value : List ℕ) → slice_range source t.loc.start t.loc.end ≡ 34 ∷ (body ++ 34 ∷ []) → Unescapes body value → IsFaultless source (text t)
+    no_string_fault t body value e u fault end (escape v at h) =
+        let whole : 34 ∷ (body ++ 34 ∷ []) ≡ 34 ∷ (h.0 ++ 34 ∷ []) = sym e ∙ h.2 in
+        let same : body ++ 34 ∷ [] ≡ h.0 ++ 34 ∷ [] = cc in
+        never_both h.0 value h.1 (subst (λ b. Unescapes b value) (append_cancel_right body h.0 (34 ∷ []) same) u) h.3
+
+    pub name_site : (t : Token) (x : Lexeme) (n : List ℕ) → IsSpelled source t x → spelled.IsNameOf x n → All (IsFaultless source) (name_sites t)
+    name_site t x n s (spelled.bare i) = ident_site t x s i
+    name_site t x n s (spelled.quoted body k e u) =
+        subst (λ k. All (IsFaultless source) (site_of_kind k t ∷ [])) (sym (s.0 ∙ k))
+        (All-cons (IsFaultless source) (text t) [] (no_string_fault t body n (s.1 ∙ e) u) (All-nil (IsFaultless source)))
+
+    pub string_site : (t : Token) (x : Lexeme) (body value : List ℕ) → IsSpelled source t x → x.kind ≡ StringLit → x.text ≡ 34 ∷ (body ++ 34 ∷ []) → Unescapes body value → All (IsFaultless source) (name_sites t)
+    string_site t x body value s k e u = name_site t x value s (spelled.quoted body k e u)
