@@ -12,10 +12,10 @@ pub mod parse_schema_error;
 pub mod unescape_error;
 pub mod user_error;
 
+pub use crate::parse_errors::ParseErrors;
 pub use annotation_error::AnnotationError;
 pub use expected::expected_text;
 pub use parse_error::ParseError;
-pub use crate::parse_errors::ParseErrors;
 pub use parse_schema_error::ParseSchemaError;
 pub use unescape_error::UnescapeError;
 pub use user_error::UserError;

@@ -1,4 +1,3 @@
-use Rattle.std.proofs.Common.{◌≡◌, ap, ◌∙◌, ◌++◌}
 use Rattle.cedar_data.proofs.messages.around.Goals as goal
 
 pub returns : goal.returns
