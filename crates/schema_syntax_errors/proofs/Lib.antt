@@ -1,4 +1,3 @@
-mod Ascii
 mod Helps
 mod LastVisible
 mod Listing

@@ -1,13 +1,13 @@
 -- What stands behind the first piece of a body.
-use Rattle.std.proofs.Common.{◌≡◌, ◌≢◌, ℕ, ◌<◌, Bool, true, false, ◌&&◌, nat_eq, List, [], ◌∷◌, ◌++◌, length, take, drop, refl, sym, ap, ◌∙◌, subst, inl, inr, arith}
+use Rattle.std.proofs.Common.{◌≡◌, ◌≢◌, ℕ, true, false, ◌&&◌, nat_eq, List, [], ◌∷◌, ◌++◌, length, take, drop, refl, sym, ap, ◌∙◌, subst, inl, inr, arith}
 use Rattle.std.specs.Char.{encode_utf8}
 use Rattle.std.specs.List.{prefix_len}
 use Rattle.std.specs.Str.{IsUtf8, IsCharBoundary}
 use Rattle.std.specs.Cmp.Lexicographic.{pointwise}
-use Rattle.std.proofs.lemmas.List.{take-append-drop, length-append, append-nil}
+use Rattle.std.proofs.lemmas.List.{take-append-drop, append-nil}
 use Rattle.std.proofs.lemmas.Str.{encode_ascii, IsUtf8-take, IsUtf8-drop}
 use Rattle.std.proofs.lemmas.Bool.{eq-eqb, ne_eqb}
-use Rattle.schema_syntax_tokens.specs.Escapes.{StandsFor, Unescapes, IsEscape, IsEscapeTo, NoEscape}
+use Rattle.schema_syntax_tokens.specs.Escapes.{Unescapes, IsEscapeTo, NoEscape}
 use Rattle.schema_syntax_tokens.specs.Steps.{is_unescaped}
 use Rattle.schema_syntax_tokens.specs.Values.{Begins, NoPiece, HasValue}
 use Rattle.schema_syntax_tokens.proofs.Pieces.{HasUnescaped, HasUnescaped-plain, boundary_at_backslash}

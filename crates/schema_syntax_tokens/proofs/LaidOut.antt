@@ -1,17 +1,14 @@
 -- A text that is laid out has the tokens that it was laid out from.
-use Rattle.std.proofs.Common.{◌≡◌, ◌≢◌, ℕ, zero, suc, ◌+◌, ◌-◌, ◌<◌, ◌≤◌, Bool, true, false, not, ◌&&◌, ◌||◌, ◌==◌, cond, if◌then◌else◌, Option, List, [], ◌∷◌, ◌++◌, length, take, drop, get_or, Some, None, refl, sym, ap, ◌∙◌, subst, inl, inr, arith, slice_range}
-use Rattle.std.specs.List.{All}
-use Rattle.std.proofs.lemmas.List.{append_assoc, append-nil, take_at, drop_at, length-append}
+use Rattle.std.proofs.Common.{◌≡◌, ◌≢◌, ℕ, ◌+◌, ◌-◌, true, false, not, ◌==◌, cond, if◌then◌else◌, Option, List, [], ◌∷◌, ◌++◌, length, take, drop, Some, refl, sym, ap, ◌∙◌, subst, inl, inr, arith, slice_range}
+use Rattle.std.proofs.lemmas.List.{append_assoc, take_at, drop_at, length-append}
 use Rattle.std.proofs.lemmas.Bool.{or_cases, eqb-true, cases_Bool, cases_eq, ne_eqb}
-use Rattle.std.proofs.lemmas.Bool.Decides.{nat_tests}
 use Rattle.std.proofs.lemmas.Str.{encode_ascii}
 use Rattle.schema_syntax_grammar.specs.declared.token_kind.TokenKind.{TokenKind}
-use Rattle.schema_syntax_grammar.specs.declared.token_kind.TokenKind.TheVariants.{StringLit, PathSep, Colon}
 use Rattle.schema_syntax_grammar.specs.Grammar.{is_word_kind}
 use Rattle.schema_syntax_tokens.specs.declared.token.Token.{Token}
-use Rattle.schema_syntax_tokens.specs.Forms.{IsWord, word_kind, single_mark, mark_kind, IsForm}
-use Rattle.cedar_data.specs.Words.{is_word_start, is_word_part}
-use Rattle.schema_syntax_tokens.specs.Scans.{IsSpace, IsInLine, IsBlank, NoBlank, IsPastBlank, Skips, NoForm, IsNext, ScansFrom, Scans}
+use Rattle.schema_syntax_tokens.specs.Forms.{single_mark, mark_kind, IsForm}
+use Rattle.cedar_data.specs.Words.{is_word_part}
+use Rattle.schema_syntax_tokens.specs.Scans.{IsSpace, IsPastBlank, Skips, ScansFrom, Scans}
 use Rattle.schema_syntax_tokens.specs.Scans.Skips.{none, more}
 use Rattle.schema_syntax_tokens.specs.Laid.{Lexeme, Piece, gap, lexeme, piece_text, laid, lexemes_of, tokens_from, is_plain_blank, AreBlanks, Edge, free, word, colon, edge_of, may_touch, Follow, done, by_gap, by_blanks, by_lexeme, IsSpelled, Spells, IsReadAs}
 use Rattle.schema_syntax_tokens.specs.Laid as L

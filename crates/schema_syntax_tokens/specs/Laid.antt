@@ -1,12 +1,11 @@
 -- A text as it is laid out: lexemes, and gaps between them.
-use Rattle.std.specs.Prelude.{◌≡◌, ℕ, ◌+◌, Bool, true, false, not, ◌||◌, ◌&&◌, ◌==◌, List, [], ◌∷◌, ◌++◌, length, slice_range, if◌then◌else◌}
+use Rattle.std.specs.Prelude.{◌≡◌, ℕ, ◌+◌, Bool, true, false, not, ◌||◌, ◌==◌, List, [], ◌∷◌, ◌++◌, length, slice_range, if◌then◌else◌}
 use Rattle.std.specs.List.{All}
 use Rattle.schema_syntax_grammar.specs.declared.token_kind.TokenKind.{TokenKind}
 use Rattle.schema_syntax_grammar.specs.declared.token_kind.TokenKind.TheVariants.{Colon}
 use Rattle.schema_syntax_grammar.specs.Grammar.{is_word_kind, same_kind}
 use Rattle.schema_syntax_tokens.specs.declared.token.Token.{Token}
 use Rattle.schema_syntax_tokens.specs.Forms.{IsForm}
-use Rattle.cedar_data.specs.Words.{is_word_part}
 use Rattle.schema_syntax_tokens.specs.Scans.{IsInLine, Scans}
 
 -- a token as it is spelled

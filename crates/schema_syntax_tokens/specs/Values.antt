@@ -1,5 +1,5 @@
 -- Bodies gone over piece by piece, with nothing written.
-use Rattle.std.specs.Prelude.{◌≡◌, ℕ, List, [], ◌∷◌, ◌++◌}
+use Rattle.std.specs.Prelude.{◌≡◌, ℕ, List, ◌++◌}
 use Rattle.schema_syntax_tokens.specs.Escapes.{StandsFor, Unescapes}
 
 -- the body stands for something

@@ -1,4 +1,4 @@
-use Rattle.std.proofs.Common.{ℕ, List, refl, inr}
+use Rattle.std.proofs.Common.{refl, inr}
 use Rattle.schema_syntax_tokens.specs.Quotes.{quoted_body}
 use Rattle.schema_syntax_tokens.proofs.LaidOut.{laid_reads}
 use Rattle.schema_syntax_tokens.proofs.OneString.{quoted_body_is}

@@ -1,4 +1,4 @@
-use Rattle.std.proofs.Common.{◌≡◌, sym, ◌∙◌}
+use Rattle.std.proofs.Common.{sym, ◌∙◌}
 use Rattle.schema_syntax_tokens.specs.Values.{Begins, NoPiece}
 use Rattle.schema_syntax_tokens.proofs.Sorted.{AreOrdered-both, AreOrdered-first, AreOrdered-second, AreOrdered-less, AreOrdered-greater, AreOrdered-more}
 use Rattle.schema_syntax_tokens.proofs.ordered.cmp_values.Goals as goal

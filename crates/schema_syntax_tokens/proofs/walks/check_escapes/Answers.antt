@@ -1,8 +1,7 @@
-use Rattle.std.proofs.Common.{◌≡◌, ◌≤◌, ◌<◌, ◌-◌, ◌++◌, List, ℕ, [], length, take, drop, sym, ap, ◌∙◌, subst, refl, arith}
+use Rattle.std.proofs.Common.{◌≡◌, ◌≤◌, ◌<◌, ◌-◌, [], length, drop, sym, ap, ◌∙◌, subst, arith}
 use Rattle.std.specs.List.{prefix_len}
-use Rattle.std.specs.Char.{encode_utf8}
 use Rattle.std.specs.Str.{IsUtf8}
-use Rattle.std.proofs.lemmas.Str.{IsUtf8-take, IsUtf8-drop}
+use Rattle.std.proofs.lemmas.Str.{IsUtf8-drop}
 use Rattle.std.proofs.lemmas.Bool.Decides.{nat_tests}
 use Rattle.schema_syntax_tokens.specs.Escapes.{NoEscape, IsEscapeTo}
 use Rattle.schema_syntax_tokens.specs.Steps.{is_unescaped}

@@ -1,4 +1,4 @@
-use Rattle.std.proofs.Common.{◌≡◌, ◌++◌, length, sym, ap, ◌∙◌, subst, refl, inl}
+use Rattle.std.proofs.Common.{◌≡◌, ◌++◌, length, sym, ap, ◌∙◌, subst}
 use Rattle.std.specs.Char.{encode_utf8}
 use Rattle.schema_syntax_tokens.specs.Escapes.{NoEscape, IsEscapeTo}
 use Rattle.schema_syntax_tokens.proofs.Lawful.{boundary_after_escape}

@@ -1,4 +1,3 @@
-use Rattle.std.proofs.Common.{◌≡◌, ◌≢◌, sym, ap, ◌∙◌, subst}
 use Rattle.schema_syntax_tokens.specs.Values.{Begins, NoPiece}
 use Rattle.schema_syntax_tokens.proofs.Gone.{AreLeft-both, AreLeft-first, AreLeft-second, AreLeft-differ, AreLeft-more}
 use Rattle.schema_syntax_tokens.proofs.walks.same_value.Goals as goal
