@@ -1,4 +1,4 @@
 mod Erased
 pub mod Same
 pub mod Sizes
-mod Walks
+pub mod Walks

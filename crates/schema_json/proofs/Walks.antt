@@ -13,7 +13,7 @@ values_made f [] = refl
 values_made f (p ∷ ps) = ap (λ made. f p.1 ∷ made) (values_made f ps)
 
 -- what the values give, each made anew
-values_walked : {A U : Type 0} (f : A → List U) (entries : List (List ℕ × A)) → flat_map (λ p. p.1) (map (λ p. let q : List ℕ × List U = (p.0, f p.1) in q) entries) ≡ flat_map (λ p. f p.1) entries
+pub values_walked : {A U : Type 0} (f : A → List U) (entries : List (List ℕ × A)) → flat_map (λ p. p.1) (map (λ p. let q : List ℕ × List U = (p.0, f p.1) in q) entries) ≡ flat_map (λ p. f p.1) entries
 values_walked f [] = refl
 values_walked f (p ∷ ps) = ap (λ made. f p.1 ++ made) (values_walked f ps)
 

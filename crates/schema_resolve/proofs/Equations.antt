@@ -2,7 +2,7 @@
 use Rattle.std.proofs.Common.{◌≡◌, ℕ, List, Option, ap, sym, ◌∙◌, refl, map, [], ◌∷◌}
 use Rattle.cedar_data.specs.declared.loc.Loc.{Loc}
 use Rattle.cedar_identifiers.specs.declared.reference_type.ReferenceType.{ReferenceType}
-use Rattle.std.specs.List.{flat_map}
+use Rattle.schema_json.proofs.Walks.{values_walked}
 use Rattle.schema_json.specs.declared.types.Type.{«Type», Type-F, roll-Type}
 use Rattle.schema_json.specs.declared.types.Type.TheVariants.{Variant, rolls-Variant}
 use Rattle.schema_json.specs.declared.types.TypeVariant.{TypeVariant-F, fold-roll-TypeVariant}
@@ -19,11 +19,6 @@ module _ {N M : Type 0} (f : Renaming N M) where
   pub record_renamed_at : (r : RecordType N) (loc : Option Loc) → renamed_at f (Record r) loc ≡ Variant (Record (renamed_record f r)) loc
   record_renamed_at r loc =
       ap (λ v. renamed_at f v loc) (sym (rolls-Record r)) ∙ ap (λ (at : Option Loc → «Type» M). at loc) (fold-roll-TypeVariant N («Type» M) (Option Loc → «Type» M) (RecordType M) (TypeOfAttribute M) (new_type f) (new_shape f) (new_record f) (new_attribute f) (TypeVariant-F.Record r)) ∙ ap (λ v. roll-Type M (Type-F.Variant v loc)) (rolls-Record (renamed_record f r)) ∙ rolls-Variant (Record (renamed_record f r)) loc
-
--- what the values give, each made anew
-values_walked : {A U : Type 0} (f : A → List U) (entries : List (List ℕ × A)) → flat_map (λ p. p.1) (map (λ p. let q : List ℕ × List U = (p.0, f p.1) in q) entries) ≡ flat_map (λ p. f p.1) entries
-values_walked f [] = refl
-values_walked f (p ∷ ps) = ap (λ made. f p.1 ++ made) (values_walked f ps)
 
 module _ {N U : Type 0} (u : ReferenceType → N → List U) where
   pub record_walked : (r : RecordType N) → of_record u r ≡ of_entries u (out-RecordType N r).attributes
