@@ -23,8 +23,27 @@ struct Within<'a> {
     defs: &'a AllDefs,
 }
 
-// Is what was written resolved to what is expected?
-fn resolves<Q: FullyQualify, T: Qualify<Out = Q> + CloneIn>(
+// What was written, with what its references mean in place of them, or nothing.
+fn replaced<Q: FullyQualify, T: Qualify<Out = Q> + CloneIn>(
+    within: &Within<'_>,
+    written: &T,
+) -> Option<Q::Out>
+where
+    Q::Out: Drop,
+{
+    let Ok(copy) = written.clone_in(within.alloc) else {
+        return None;
+    };
+    let Ok(references) = copy.conditionally_qualify_type_references(within.alloc, within.ns) else {
+        return None;
+    };
+    references
+        .fully_qualify_type_references(within.alloc, within.defs)
+        .ok()
+}
+
+// Is this what was written, with what its references mean?
+fn means<Q: FullyQualify, T: Qualify<Out = Q> + CloneIn>(
     within: &Within<'_>,
     written: &T,
     expected: &Q::Out,
@@ -32,25 +51,24 @@ fn resolves<Q: FullyQualify, T: Qualify<Out = Q> + CloneIn>(
 where
     Q::Out: PartialEq + Drop,
 {
-    let Ok(copy) = written.clone_in(within.alloc) else {
-        return false;
-    };
-    let Ok(references) = copy.conditionally_qualify_type_references(within.alloc, within.ns) else {
-        return false;
-    };
-    match references.fully_qualify_type_references(within.alloc, within.defs) {
-        Ok(found) => found == *expected,
-        Err(_) => false,
+    match replaced(within, written) {
+        Some(found) => found == *expected,
+        None => false,
     }
 }
 
-// Does what is resolved stay where it is designated?
-fn stays<T: Designate + CloneIn + PartialEq>(alloc: Global, defs: &AllDefs, full: &T) -> bool {
-    let Ok(copy) = full.clone_in(alloc) else {
+// Is this what is given, with each reference as one to a common type or to an entity type?
+fn designates<T: Designate + CloneIn + PartialEq>(
+    alloc: Global,
+    defs: &AllDefs,
+    given: &T,
+    expected: &T,
+) -> bool {
+    let Ok(copy) = given.clone_in(alloc) else {
         return false;
     };
     match copy.resolve_entity_or_common_types(alloc, defs) {
-        Ok(found) => found == *full,
+        Ok(found) => found == *expected,
         Err(_) => false,
     }
 }
@@ -64,7 +82,7 @@ fn attributes_agree(
     written
         .iter()
         .zip(full.iter())
-        .all(|(one, other)| resolves(within, &one.1, &other.1))
+        .all(|(one, other)| means(within, &one.1, &other.1))
 }
 
 // Is what a type is resolved alone, where it is no reference?
@@ -75,22 +93,22 @@ fn variant_agrees(
 ) -> bool {
     match (written, full) {
         (TypeVariant::Record(record), TypeVariant::Record(other)) => {
-            resolves(within, written, full)
-                && resolves(within, record, other)
+            means(within, written, full)
+                && means(within, record, other)
                 && attributes_agree(
                     within,
                     record.attributes.as_slice(),
                     other.attributes.as_slice(),
                 )
         }
-        (TypeVariant::Set { .. }, TypeVariant::Set { .. }) => resolves(within, written, full),
+        (TypeVariant::Set { .. }, TypeVariant::Set { .. }) => means(within, written, full),
         _ => true,
     }
 }
 
 // Is the type resolved alone, with its parts?
 fn type_agrees(within: &Within<'_>, written: &Type<RawName>, full: &Type<InternalName>) -> bool {
-    if !resolves(within, written, full) || !stays(within.alloc, within.defs, full) {
+    if !means(within, written, full) {
         return false;
     }
     match (written, full) {
@@ -107,12 +125,12 @@ fn entity_agrees(
     written: &EntityType<RawName>,
     full: &EntityType<InternalName>,
 ) -> bool {
-    if !resolves(within, written, full) {
+    if !means(within, written, full) {
         return false;
     }
     match (&written.kind, &full.kind) {
         (EntityTypeKind::Standard(one), EntityTypeKind::Standard(other)) => {
-            resolves(within, &one.shape, &other.shape)
+            means(within, &one.shape, &other.shape)
                 && type_agrees(within, &one.shape.0, &other.shape.0)
         }
         _ => true,
@@ -127,8 +145,7 @@ fn application_agrees(
 ) -> bool {
     match (written, full) {
         (Some(written), Some(full)) => {
-            resolves(within, written, full)
-                && type_agrees(within, &written.context.0, &full.context.0)
+            means(within, written, full) && type_agrees(within, &written.context.0, &full.context.0)
         }
         _ => true,
     }
@@ -140,7 +157,7 @@ fn action_agrees(
     written: &ActionType<RawName>,
     full: &ActionType<InternalName>,
 ) -> bool {
-    if !resolves(within, written, full) {
+    if !means(within, written, full) {
         return false;
     }
     if !application_agrees(within, &written.applies_to, &full.applies_to) {
@@ -151,13 +168,13 @@ fn action_agrees(
             .as_slice()
             .iter()
             .zip(others.as_slice().iter())
-            .all(|(one, other)| resolves(within, one, other)),
+            .all(|(one, other)| means(within, one, other)),
         _ => true,
     }
 }
 
-// Is the namespace resolved alone, with its parts?
-fn namespace_agrees(
+// Are the parts of the namespace resolved, each alone?
+fn items_agree(
     within: &Within<'_>,
     written: &NamespaceDefinition<RawName>,
     full: &NamespaceDefinition<InternalName>,
@@ -177,11 +194,24 @@ fn namespace_agrees(
         .as_slice()
         .iter()
         .zip(full.actions.as_slice().iter());
-    resolves(within, written, full)
-        && stays(within.alloc, within.defs, full)
-        && commons.all(|(one, other)| type_agrees(within, &one.1.ty, &other.1.ty))
+    commons.all(|(one, other)| type_agrees(within, &one.1.ty, &other.1.ty))
         && entities.all(|(one, other)| entity_agrees(within, &one.1, &other.1))
         && actions.all(|(one, other)| action_agrees(within, &one.1, &other.1))
+}
+
+// Is the namespace resolved to what is expected, with its parts?
+fn namespace_agrees(
+    within: &Within<'_>,
+    written: &NamespaceDefinition<RawName>,
+    expected: &NamespaceDefinition<InternalName>,
+) -> bool {
+    match replaced(within, written) {
+        Some(full) => {
+            items_agree(within, written, &full)
+                && designates(within.alloc, within.defs, &full, expected)
+        }
+        None => false,
+    }
 }
 
 // The namespace's name.
@@ -205,7 +235,7 @@ fn namespaces_agree(
             return false;
         }
     }
-    stays(alloc, defs, full)
+    designates(alloc, defs, full, full)
 }
 
 // Are the parts of the fragment resolved?
