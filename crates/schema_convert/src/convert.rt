@@ -10,8 +10,8 @@ use cedar_names::ExtensionTable;
 use schema_convert_errors::{
     CedarSchemaParseErrors, SchemaWarning, ToJsonSchemaErrors, ToJsonSchemaFailure,
 };
-use schema_json::Fragment;
 use schema_convert_types::fragment_of;
+use schema_json::Fragment;
 use schema_syntax::{ParseSchemaError, parse_schema};
 use schema_syntax_tree::Schema;
 use std::alloc::Global;

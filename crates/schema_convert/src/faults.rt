@@ -8,11 +8,11 @@ use crate::names_in::{action_names_in, common_names_in, entity_names_in, paths_i
 use crate::repeats::first_repeat;
 use cedar_data::{CloneIn, Node, NonEmpty, Text};
 use cedar_identifiers::{Id, is_cedar};
-use schema_json::is_keyword_name;
 use schema_convert_errors::{
     DuplicateDeclarations, DuplicateNamespace, ReservedName, ReservedSchemaKeyword,
     ToJsonSchemaError,
 };
+use schema_json::is_keyword_name;
 use schema_syntax_tree::{ActionDecl, Annotated, AppDecl, Declaration, Namespace, Path};
 use std::alloc::{AllocError, Global};
 

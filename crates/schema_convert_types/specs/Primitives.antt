@@ -4,6 +4,7 @@ use Rattle.schema_syntax_tree.specs.declared.primitive_type.PrimitiveType.TheVar
 use Rattle.schema_json.specs.declared.types.TypeVariant.{TypeVariant}
 use Rattle.schema_json.specs.declared.types.TypeVariant.TheVariants.{Long, String, Boolean}
 
+-- the shape that stands for a primitive type
 abbrev pub primitive_variant : {N : Type 0} → PrimitiveType → TypeVariant N
 primitive_variant primitive.Long = Long
 primitive_variant primitive.String = String

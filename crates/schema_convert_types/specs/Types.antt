@@ -48,6 +48,7 @@ type_at = fold-Type (Option Span → Shape RawName) (Annotations → AttributeEn
 unfoldable pub attribute_beside : AttrDecl → Annotations → AttributeEntry
 attribute_beside = fold-AttrDecl (Option Span → Shape RawName) (Annotations → AttributeEntry) translated_type translated_attribute
 
+-- the type of a type of a tree, at a place
 abbrev pub type_of : Node «Type» → Shape RawName
 type_of n = type_at n.node n.loc
 

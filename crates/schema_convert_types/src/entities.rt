@@ -10,7 +10,9 @@ use schema_json::{
     AttributesOrContext, EntityType, EntityTypeKind, RecordType, StandardEntityType, Type,
     TypeVariant,
 };
-use schema_syntax_tree::{EntityDecl, EnumEntityDecl, ExternalEntityDecl, Path, StandardEntityDecl};
+use schema_syntax_tree::{
+    EntityDecl, EnumEntityDecl, ExternalEntityDecl, Path, StandardEntityDecl,
+};
 use std::alloc::{AllocError, Global};
 
 /// The names of paths, in order.

@@ -13,7 +13,9 @@ use cedar_identifiers::{Annotations, Id, InternalName, Name, RawName, Unreserved
 use schema_json::{
     ActionType, CommonType, CommonTypeId, EntityType, Fragment, NamespaceDefinition,
 };
-use schema_syntax_tree::{ActionDecl, Annotated, Declaration, EntityDecl, Namespace, Path, TypeDecl};
+use schema_syntax_tree::{
+    ActionDecl, Annotated, Declaration, EntityDecl, Namespace, Path, TypeDecl,
+};
 use std::alloc::{AllocError, Global};
 
 // What declarations declare, by kind.

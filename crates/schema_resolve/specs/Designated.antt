@@ -33,5 +33,6 @@ undesignated t Common name = []
 undesignated t Entity name = []
 undesignated t CommonOrEntity name = if is_defined t CommonOrEntity (components_of name) then [] else type_reference (in_namespace None CommonOrEntity (record { name = name })) ∷ []
 
+-- no action is asked for
 abbrev pub no_action : List ℕ → Option InternalName → List Undefined
 no_action id ty = []

@@ -39,9 +39,11 @@ pub record IsFirst {A : Type 0} (passes : A → Bool) (xs : List A) (x : A) : Ty
 abbrev pub IsTarget : Tests → ConditionalName → InternalName → Type 0
 IsTarget t c = IsFirst (λ p. is_defined t c.reference_type (components_of p)) c.possibilities
 
+-- what is found is the first candidate that is defined
 abbrev pub TargetIsFirst : Tests → ConditionalName → Type 0
 TargetIsFirst t c = (name : InternalName) → (target t c ≡ Some name) ↔ IsTarget t c name
 
+-- a name has at most one target
 abbrev pub TargetIsOne : Tests → ConditionalName → Type 0
 TargetIsOne t c = (a b : InternalName) → IsTarget t c a → IsTarget t c b → a ≡ b
 
@@ -56,5 +58,6 @@ pub record ResolvesAsItMeans (t : Tests) (ns : Option InternalName) (kind : Refe
   pub name_is : meant_name t ns kind name ≡ meant.0
   pub reference_is : kind ≡ CommonOrEntity → (loc : Option Loc) → (resolving_in t ns).either name loc ≡ reference_as meant.1 meant.0 loc
 
+-- a reference is resolved to what it means, where it means something
 abbrev pub ResolvesWhatIsMeant : Tests → Option InternalName → ReferenceType → RawName → Type 0
 ResolvesWhatIsMeant t ns kind name = (meant : InternalName × ReferenceType) → means t ns kind name ≡ Some meant → ResolvesAsItMeans t ns kind name meant

@@ -18,5 +18,6 @@ in_namespace ns role name = record { possibilities = candidates ns name.name; ra
 abbrev pub type_in_namespace : Option InternalName → List ℕ → Option RawName → ConditionalName
 type_in_namespace ns id ty = in_namespace ns Entity (record { name = written_type ty })
 
+-- each name is put behind a namespace, with its candidates
 abbrev pub qualifying : Option InternalName → Renaming RawName ConditionalName
 qualifying ns = record { name = in_namespace ns; either = λ name. either_way (in_namespace ns CommonOrEntity name) }

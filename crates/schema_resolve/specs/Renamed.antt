@@ -55,6 +55,7 @@ module _ {N M : Type 0} (f : Renaming N M) where
   abbrev pub new_attribute : TypeOfAttribute-F N («Type» M) (Option Loc → «Type» M) (RecordType M) (TypeOfAttribute M) → TypeOfAttribute M
   new_attribute a = roll-TypeOfAttribute M (record { ty = a.ty; annotations = a.annotations; required = a.required })
 
+  -- a type with its names replaced
   abbrev pub renamed : «Type» N → «Type» M
   renamed = fold-Type N («Type» M) (Option Loc → «Type» M) (RecordType M) (TypeOfAttribute M) new_type new_shape new_record new_attribute
 
@@ -62,9 +63,11 @@ module _ {N M : Type 0} (f : Renaming N M) where
   abbrev pub renamed_at : TypeVariant N → Option Loc → «Type» M
   renamed_at = fold-TypeVariant N («Type» M) (Option Loc → «Type» M) (RecordType M) (TypeOfAttribute M) new_type new_shape new_record new_attribute
 
+  -- a record with its names replaced
   abbrev pub renamed_record : RecordType N → RecordType M
   renamed_record = fold-RecordType N («Type» M) (Option Loc → «Type» M) (RecordType M) (TypeOfAttribute M) new_type new_shape new_record new_attribute
 
+  -- an attribute with its names replaced
   abbrev pub renamed_attribute : TypeOfAttribute N → TypeOfAttribute M
   renamed_attribute = fold-TypeOfAttribute N («Type» M) (Option Loc → «Type» M) (RecordType M) (TypeOfAttribute M) new_type new_shape new_record new_attribute
 
@@ -79,6 +82,7 @@ module _ {N M : Type 0} (f : Renaming N M) where
   shape_of (TypeVariant-F.EntityOrCommon name) = roll-TypeVariant M (TypeVariant-F.EntityOrCommon (f.name CommonOrEntity name))
   shape_of (TypeVariant-F.Extension name) = roll-TypeVariant M (TypeVariant-F.Extension name)
 
+  -- what a type is made of, with its names replaced
   abbrev pub renamed_variant : TypeVariant N → TypeVariant M
   renamed_variant v = shape_of (out-TypeVariant N v)
 
@@ -88,6 +92,7 @@ module _ {N M : Type 0} (f : Renaming N M) where
   abbrev pub renamed_common : CommonType N → CommonType M
   renamed_common c = record { ty = renamed c.ty; annotations = c.annotations; loc = c.loc }
 
+  -- a shape or a context with its names replaced
   abbrev pub renamed_context : AttributesOrContext N → AttributesOrContext M
   renamed_context c = record { 0 = renamed c.0 }
 
@@ -98,20 +103,25 @@ module _ {N M : Type 0} (f : Renaming N M) where
   renamed_kind (Standard s) = Standard (renamed_standard s)
   renamed_kind (Enum choices) = Enum choices
 
+  -- an entity type with its names replaced
   abbrev pub renamed_entity : EntityType N → EntityType M
   renamed_entity e = record { kind = renamed_kind e.kind; external = e.external; annotations = e.annotations; loc = e.loc }
 
+  -- what an action applies to, with its names replaced
   abbrev pub renamed_apply : ApplySpec N → ApplySpec M
   renamed_apply s = record { resource_types = map (f.name Entity) s.resource_types; principal_types = map (f.name Entity) s.principal_types; context = renamed_context s.context }
 
   -- h says what the type of an action with an id becomes, which is always written then
   module _ (h : List ℕ → Option N → M) where
+    -- a reference to an action with its type replaced
     abbrev pub renamed_uid : {G : named.Ghosts N} {H : named.Ghosts M} → ActionEntityUID N G → ActionEntityUID M H
     renamed_uid {G} {H} a = record { id = a.id; ty = Some (h a.id a.ty); typed = due_there H.TYPED }
 
+    -- an action with its names replaced
     abbrev pub renamed_action : {G : named.Ghosts N} {H : named.Ghosts M} → ActionType N G → ActionType M H
     renamed_action a = record { attributes = a.attributes; applies_to = option_map renamed_apply a.applies_to; member_of = option_map (map renamed_uid) a.member_of; external = a.external; annotations = a.annotations; loc = a.loc }
 
+    -- a namespace with its names replaced
     abbrev pub renamed_namespace : {G : named.Ghosts N} {H : named.Ghosts M} → NamespaceDefinition N G → NamespaceDefinition M H
     renamed_namespace n = record { common_types = map (on_value renamed_common) n.common_types; entity_types = map (on_value renamed_entity) n.entity_types; actions = map (on_value renamed_action) n.actions; annotations = n.annotations }
 
@@ -120,5 +130,6 @@ module _ {N M : Type 0} (f : Option Name → Renaming N M) (h : Option Name → 
   abbrev pub renamed_entry : {G : named.Ghosts N} {H : named.Ghosts M} → Option Name × NamespaceDefinition N G → Option Name × NamespaceDefinition M H
   renamed_entry e = (e.0, renamed_namespace (f e.0) (h e.0) e.1)
 
+  -- a fragment with its names replaced
   abbrev pub renamed_fragment : {G : named.Ghosts N} {H : named.Ghosts M} → Fragment N G → Fragment M H
   renamed_fragment p = record { 0 = map renamed_entry p.0 }

@@ -27,13 +27,16 @@ resolving_in t ns = record { name = meant_name t ns; either = λ name. designate
 abbrev pub meant_type : Tests → Option InternalName → List ℕ → Option RawName → InternalName
 meant_type t ns id ty = action_target_name t id (Some (type_in_namespace ns id ty))
 
+-- the reference, where nothing in the namespace or the empty one is meant by it
 abbrev pub untargeted_in : Tests → Option InternalName → ReferenceType → RawName → List Undefined
 untargeted_in t ns kind name = untargeted t kind (in_namespace ns kind name)
 
+-- the action, where nothing in the namespace or the empty one is meant by it
 abbrev pub untargeted_action_in : Tests → Option InternalName → List ℕ → Option RawName → List Undefined
 untargeted_action_in t ns id ty = untargeted_action t id (Some (type_in_namespace ns id ty))
 
 module _ {G : named.Ghosts RawName} where
+  -- the fragment in which each reference is one to what it means
   abbrev pub resolved : {H : named.Ghosts InternalName} → Tests → Fragment RawName G → Fragment InternalName H
   resolved t f = renamed_fragment (λ ns. resolving_in t (name_of ns)) (λ ns. meant_type t (name_of ns)) f
 

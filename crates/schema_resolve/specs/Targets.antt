@@ -39,6 +39,7 @@ target_name t c = unwrap_or (target t c) c.raw.name
 abbrev pub resolving : Tests → Renaming ConditionalName InternalName
 resolving t = record { name = λ role c. target_name t c; either = λ c. either_way (target_name t c) }
 
+-- the type of the action that is found
 abbrev pub action_target_name : Tests → List ℕ → Option ConditionalName → InternalName
 action_target_name t id ty = unwrap_or (action_target t id ty) action_name
 
@@ -47,8 +48,10 @@ abbrev pub unless : {A U : Type 0} → Option A → U → List U
 unless None u = u ∷ []
 unless (Some a) u = []
 
+-- the reference, where it has no target
 abbrev pub untargeted : Tests → ReferenceType → ConditionalName → List Undefined
 untargeted t role c = unless (target t c) (type_reference c)
 
+-- the reference to an action, where it has no target
 abbrev pub untargeted_action : Tests → List ℕ → Option ConditionalName → List Undefined
 untargeted_action t id ty = unless (action_target t id ty) (action_reference id ty)

@@ -47,15 +47,19 @@ module _ {N U : Type 0} (u : ReferenceType → N → List U) where
   abbrev pub attribute_part : TypeOfAttribute-F N (List U) (List U) (List U) (List U) → List U
   attribute_part a = a.ty
 
+  -- what the references of a type give
   abbrev pub of_type : «Type» N → List U
   of_type = fold-Type N (List U) (List U) (List U) (List U) type_part variant_part record_part attribute_part
 
+  -- what the references of what a type is made of give
   abbrev pub of_variant : TypeVariant N → List U
   of_variant = fold-TypeVariant N (List U) (List U) (List U) (List U) type_part variant_part record_part attribute_part
 
+  -- what the references of a record give
   abbrev pub of_record : RecordType N → List U
   of_record = fold-RecordType N (List U) (List U) (List U) (List U) type_part variant_part record_part attribute_part
 
+  -- what the references of an attribute give
   abbrev pub of_attribute : TypeOfAttribute N → List U
   of_attribute = fold-TypeOfAttribute N (List U) (List U) (List U) (List U) type_part variant_part record_part attribute_part
 
@@ -65,6 +69,7 @@ module _ {N U : Type 0} (u : ReferenceType → N → List U) where
   abbrev pub of_common : CommonType N → List U
   of_common c = of_type c.ty
 
+  -- what the references of a shape or a context give
   abbrev pub of_context : AttributesOrContext N → List U
   of_context c = of_type c.0
 
@@ -75,20 +80,25 @@ module _ {N U : Type 0} (u : ReferenceType → N → List U) where
   of_kind (Standard s) = of_standard s
   of_kind (Enum choices) = []
 
+  -- what the references of an entity type give
   abbrev pub of_entity : EntityType N → List U
   of_entity e = of_kind e.kind
 
+  -- what the references of an action's principals, resources and context give
   abbrev pub of_apply : ApplySpec N → List U
   of_apply s = flat_map (u Entity) s.principal_types ++ (flat_map (u Entity) s.resource_types ++ of_context s.context)
 
   -- w says what a reference to an action gives, by its id and its type
   module _ (w : List ℕ → Option N → List U) where
+    -- what a reference to an action gives
     abbrev pub of_uid : {G : named.Ghosts N} → ActionEntityUID N G → List U
     of_uid a = w a.id a.ty
 
+    -- what the references of an action give
     abbrev pub of_action : {G : named.Ghosts N} → ActionType N G → List U
     of_action a = if_there (flat_map of_uid) a.member_of ++ if_there of_apply a.applies_to
 
+    -- what the references of a namespace give
     abbrev pub of_namespace : {G : named.Ghosts N} → NamespaceDefinition N G → List U
     of_namespace n = each_value of_common n.common_types ++ (each_value of_entity n.entity_types ++ each_value of_action n.actions)
 
@@ -97,5 +107,6 @@ module _ {N U : Type 0} (u : Option Name → ReferenceType → N → List U) (w 
   abbrev pub of_entry : {G : named.Ghosts N} → Option Name × NamespaceDefinition N G → List U
   of_entry e = of_namespace (u e.0) (w e.0) e.1
 
+  -- what the references of a fragment give
   abbrev pub of_fragment : {G : named.Ghosts N} → Fragment N G → List U
   of_fragment p = flat_map of_entry p.0

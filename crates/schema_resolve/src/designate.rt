@@ -13,8 +13,8 @@ use crate::rename_namespaces::rename_namespace;
 use crate::rename_types::rename_type;
 use cedar_identifiers::{InternalName, Name};
 use cedar_names::AllDefs;
-use schema_resolve_errors::ResolveError;
 use schema_json::{Fragment, NamespaceDefinition, Type};
+use schema_resolve_errors::ResolveError;
 use std::alloc::Global;
 
 /// Which references that may mean a common type or an entity type mean which, where it is known what is defined.

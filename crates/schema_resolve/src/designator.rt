@@ -9,8 +9,8 @@ use crate::targets::is_defined;
 use cedar_data::{CloneIn, Loc, NonEmpty};
 use cedar_identifiers::{InternalName, RawName, ReferenceType};
 use cedar_names::AllDefs;
-use schema_resolve_errors::{ResolveError, TypeNotDefinedError};
 use schema_json::{ActionEntityUID, Type, TypeVariant};
+use schema_resolve_errors::{ResolveError, TypeNotDefinedError};
 use std::alloc::Global;
 
 // What each name is that a reference may mean either way.

@@ -12,11 +12,11 @@ use crate::rename_namespaces::rename_namespace;
 use crate::rename_types::{rename_attribute, rename_record, rename_type, rename_variant};
 use cedar_identifiers::{ConditionalName, InternalName};
 use cedar_names::AllDefs;
-use schema_resolve_errors::ResolveError;
 use schema_json::{
     ActionEntityUID, ActionType, ApplySpec, AttributesOrContext, EntityType, NamespaceDefinition,
     RecordType, Type, TypeOfAttribute, TypeVariant,
 };
+use schema_resolve_errors::ResolveError;
 use std::alloc::Global;
 
 /// What references mean, where it is known what is defined.

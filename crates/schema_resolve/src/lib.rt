@@ -19,6 +19,6 @@ mod targets;
 pub use designate::Designate;
 pub use fully_qualify::FullyQualify;
 pub use qualify::Qualify;
-pub use schema_resolve_errors::{ActionNotDefinedError, ResolveError, TypeNotDefinedError};
 pub use resolve_fragment::ResolveFragment;
 pub use schema_resolve_definitions::single_fragment;
+pub use schema_resolve_errors::{ActionNotDefinedError, ResolveError, TypeNotDefinedError};

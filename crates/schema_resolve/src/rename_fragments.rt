@@ -8,8 +8,8 @@ ghost use Rattle.schema_resolve.specs.Walk.{of_namespace, of_fragment};
 
 use cedar_data::{CloneIn, Map};
 use cedar_identifiers::{Name, NameText};
-use schema_resolve_errors::ResolveError;
 use schema_json::{Fragment, NamespaceDefinition};
+use schema_resolve_errors::ResolveError;
 use std::alloc::Global;
 
 // What each name in each namespace becomes.

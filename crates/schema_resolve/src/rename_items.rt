@@ -10,11 +10,11 @@ use crate::rename_types::rename_type;
 use crate::renamer::{ActionRenamer, Renamer};
 use cedar_data::{CloneIn, List};
 use cedar_identifiers::{NameText, ReferenceType};
-use schema_resolve_errors::ResolveError;
 use schema_json::{
     ActionEntityUID, ActionType, ApplySpec, AttributesOrContext, CommonType, EntityType,
     EntityTypeKind, StandardEntityType, Type,
 };
+use schema_resolve_errors::ResolveError;
 use std::alloc::Global;
 
 // The entity types that are named, each replaced.

@@ -8,8 +8,8 @@ use crate::rename_items::{rename_action, rename_common, rename_entity};
 use crate::renamer::{ActionRenamer, Renamer};
 use cedar_data::{CloneIn, Map, Text};
 use cedar_identifiers::{NameText, UnreservedId};
-use schema_resolve_errors::ResolveError;
 use schema_json::{ActionType, CommonType, CommonTypeId, EntityType, NamespaceDefinition};
+use schema_resolve_errors::ResolveError;
 use std::alloc::Global;
 
 // Declared common types by name, with each name that they use replaced.

@@ -7,8 +7,8 @@ ghost use Rattle.schema_resolve.specs.Walk.{of_type, of_variant, of_record, of_a
 use crate::renamer::Renamer;
 use cedar_data::{Boxed, CloneIn, Loc, Map, Text};
 use cedar_identifiers::ReferenceType;
-use schema_resolve_errors::ResolveError;
 use schema_json::{RecordType, Type, TypeOfAttribute, TypeVariant};
+use schema_resolve_errors::ResolveError;
 use std::alloc::Global;
 
 // The type with each name replaced, or its first reference that means nothing.

@@ -6,8 +6,8 @@ ghost use Rattle.schema_resolve.specs.Renamed.{Renaming};
 
 use cedar_data::Loc;
 use cedar_identifiers::{NameText, ReferenceType};
-use schema_resolve_errors::ResolveError;
 use schema_json::{ActionEntityUID, Type};
+use schema_resolve_errors::ResolveError;
 use std::alloc::Global;
 
 // What each name becomes, or that it means nothing.

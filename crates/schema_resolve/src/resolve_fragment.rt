@@ -14,10 +14,10 @@ use crate::resolver::Resolver;
 use crate::scope::Scope;
 use cedar_identifiers::{InternalName, Name, RawName};
 use cedar_names::{AllDefs, ExtensionTable};
-use schema_resolve_errors::ResolveError;
+use schema_json::{Fragment, NamespaceDefinition};
 use schema_resolve_definitions::all_definitions;
 use schema_resolve_definitions::declared::name_of;
-use schema_json::{Fragment, NamespaceDefinition};
+use schema_resolve_errors::ResolveError;
 use std::alloc::Global;
 
 /// What the names of a fragment mean where it stands alone.

@@ -9,8 +9,8 @@ use crate::scope::Scope;
 use cedar_data::Loc;
 use cedar_identifiers::{InternalName, RawName, ReferenceType};
 use cedar_names::AllDefs;
-use schema_resolve_errors::ResolveError;
 use schema_json::{ActionEntityUID, Type};
+use schema_resolve_errors::ResolveError;
 use std::alloc::Global;
 
 // What each name in a namespace means.

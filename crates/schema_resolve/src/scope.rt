@@ -6,9 +6,9 @@ ghost use Rattle.schema_resolve.specs.Qualified.{qualifying, type_in_namespace};
 use crate::renamer::{ActionRenamer, Renamer};
 use cedar_data::{CloneIn, Loc};
 use cedar_identifiers::{ConditionalName, InternalName, RawName, ReferenceType};
-use schema_resolve_errors::ResolveError;
 use schema_json::action_uid::action_name;
 use schema_json::{ActionEntityUID, Type, TypeVariant};
+use schema_resolve_errors::ResolveError;
 use std::alloc::{AllocError, Global};
 
 // The namespace that names stand in.

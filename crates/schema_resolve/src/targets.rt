@@ -8,8 +8,8 @@ use crate::renamer::{ActionRenamer, Renamer};
 use cedar_data::{CloneIn, Loc, NonEmpty, Text};
 use cedar_identifiers::{ConditionalName, Eid, InternalName, Name, ReferenceType};
 use cedar_names::{AllDefs, EntityUID};
-use schema_resolve_errors::{ActionNotDefinedError, ResolveError, TypeNotDefinedError};
 use schema_json::{ActionEntityUID, Type, TypeVariant};
+use schema_resolve_errors::{ActionNotDefinedError, ResolveError, TypeNotDefinedError};
 use std::alloc::{AllocError, Global};
 
 // Whether the name is defined in the kind that is asked for.

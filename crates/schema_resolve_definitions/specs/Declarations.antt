@@ -17,6 +17,7 @@ use Rattle.schema_json.specs.declared.fragment.Fragment.{Fragment}
 abbrev pub alone : Id → InternalName
 alone id = record { first = id; others = []; loc = None }
 
+-- a namespace's name, which the empty one does not have
 abbrev pub name_of : Option Name → Option InternalName
 name_of ns = option_map (λ n. n.name) ns
 

@@ -35,5 +35,6 @@ completed d words =
       actions = d.actions;
     }
 
+-- what a fragment and a table define, as tests
 abbrev pub defined : {N : Type 0} {G : named.Ghosts N} → Fragment N G → ExtensionTable → Definitions
 defined f table = completed (declared f) (builtins table)

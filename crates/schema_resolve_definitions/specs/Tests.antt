@@ -7,5 +7,6 @@ pub record Tests : Type 0 where
   pub is_entity : List (List ℕ) → Bool
   pub is_action : List (List ℕ) × List ℕ → Bool
 
+-- the tests of three lists
 abbrev pub tests_of : Definitions → Tests
 tests_of d = record { is_common = among d.commons; is_entity = among d.entities; is_action = among_actions d.actions }

@@ -6,13 +6,13 @@ pub mod schema_parser;
 pub mod syntax_fault;
 
 pub use laws::{faulty_or_sentence, one_syntax_fault, tree_or_error};
+pub use schema_parser::parse_schema;
 pub use schema_syntax_errors::{
     AnnotationError, ParseError, ParseErrors, ParseSchemaError, UnescapeError, UserError,
     expected_text,
 };
 pub use schema_syntax_grammar::{TokenKind, expected_after};
 pub use schema_syntax_reader::deduplicate_annotations;
-pub use schema_parser::parse_schema;
 pub use schema_syntax_tokens::{Scanned, Token, scan};
 pub use schema_syntax_tree::{
     ActionDecl, Annotated, AppDecl, AttrDecl, BUILTIN_TYPES, Decl, Declaration, DefinedActionDecl,

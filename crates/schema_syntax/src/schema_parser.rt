@@ -1,8 +1,8 @@
 ghost use Rattle.std.specs.Prelude.{◌≡◌, [], ◌∷◌, length, IfOk, IfErr};
 ghost use Rattle.schema_syntax.specs.ParseAnswers.{IsTreeOfText, IsRefusalOf, error_of};
 
-use schema_syntax_errors::{ParseError, ParseErrors, ParseSchemaError};
 use crate::syntax_fault::{Refused, SyntaxFault, sentence_of};
+use schema_syntax_errors::{ParseError, ParseErrors, ParseSchemaError};
 use schema_syntax_reader::{Stopped, tree_of_tokens};
 use schema_syntax_tree::Schema;
 use std::alloc::Global;

@@ -1,5 +1,5 @@
 -- What was expected, in words.
-use Rattle.std.specs.Prelude.{ℕ, Bool, not, ◌&&◌, List, [], ◌∷◌, ◌++◌, map, filter, codes, if◌then◌else◌}
+use Rattle.std.specs.Prelude.{ℕ, Bool, not, ◌&&◌, List, ◌++◌, map, filter, codes, if◌then◌else◌}
 use Rattle.std.specs.List.{list_any}
 use Rattle.cedar_data.specs.Rows.{listed}
 use Rattle.schema_syntax_grammar.specs.Grammar.{is_ident, same_kind}

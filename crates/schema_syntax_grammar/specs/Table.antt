@@ -1,7 +1,7 @@
 -- The grammar as a table: for each symbol the tokens that it may begin with, and what comes after them.
-use Rattle.std.specs.Prelude.{ℕ, List, [], ◌∷◌, Bool, true, false, Option, Some, None, nat_eq, if◌then◌else◌}
+use Rattle.std.specs.Prelude.{List, [], ◌∷◌, Bool, true, false, Option, Some, None, if◌then◌else◌}
 use Rattle.schema_syntax_grammar.specs.declared.token_kind.TokenKind.{TokenKind}
-use Rattle.schema_syntax_grammar.specs.declared.token_kind.TokenKind.TheVariants.{KwNamespace, KwEntity, KwExternal, KwIn, KwType, KwSet, KwAppliesTo, KwPrincipal, KwAction, KwResource, KwContext, KwTags, KwEnum, Identifier, StringLit, At, Comma, Semi, Colon, PathSep, LParen, RParen, LBrace, RBrace, LBracket, RBracket, Less, Greater, Question, Equals, End}
+use Rattle.schema_syntax_grammar.specs.declared.token_kind.TokenKind.TheVariants.{KwNamespace, KwEntity, KwExternal, KwIn, KwType, KwSet, KwAppliesTo, KwPrincipal, KwAction, KwResource, KwContext, KwTags, KwEnum, StringLit, At, Comma, Semi, Colon, PathSep, LParen, RParen, LBrace, RBrace, LBracket, RBracket, Less, Greater, Question, Equals}
 use Rattle.schema_syntax_grammar.specs.declared.symbol.Symbol.{Symbol}
 use Rattle.schema_syntax_grammar.specs.declared.symbol.Symbol.TheVariants.{Token, Schema, Item, Decls, Decl, AnnotationTail, AfterNamespace, AfterEntity, EntityTail, AfterExternal, AfterAction, AfterType, Word, Ident, IdentsTail, Name, NamesTail, ParentsTail, ShapeTail, TagsTail, Strings, StringsTail, RefsTail, AppliesTail, Apps, AppsTail, ContextType, PathTail, Types, Paths, PathsTail, Refs, RefList, RefListTail, RefTail, RefStep, AnyType, SetTail, Record, Attrs, AttrsTail, Attr, Mark}
 use Rattle.schema_syntax_grammar.specs.Grammar.{is_word_kind, is_ident, is_name_kind, same_kind}

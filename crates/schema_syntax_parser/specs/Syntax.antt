@@ -1,5 +1,5 @@
 -- The syntax of a list of tokens, one case for each production of the grammar: the tokens are those of the parts, joined.
-use Rattle.std.specs.Prelude.{◌≡◌, ℕ, max, List, [], ◌∷◌, ◌++◌, Bool, true, false, Option, Some, None, map}
+use Rattle.std.specs.Prelude.{◌≡◌, List, [], ◌∷◌, ◌++◌, Bool, true, false, Option, Some, None}
 use Rattle.cedar_data.specs.Span.{Span}
 use Rattle.schema_syntax_grammar.specs.declared.token_kind.TokenKind.{TokenKind}
 use Rattle.schema_syntax_grammar.specs.declared.token_kind.TokenKind.TheVariants.{KwNamespace, KwEntity, KwExternal, KwIn, KwType, KwSet, KwAppliesTo, KwPrincipal, KwAction, KwResource, KwContext, KwTags, KwEnum, StringLit, At, Comma, Semi, Colon, PathSep, LParen, RParen, LBrace, RBrace, LBracket, RBracket, Less, Greater, Question, Equals}

@@ -219,7 +219,7 @@ module _ (text : List ℕ) where
     ty : Node «Type»
     notes : Annotations
     whole : n ≡ attr_of a name ty notes
-    is_name_kind : IsNameNode text (out-AttrSyntax a).name name
+    is_name : IsNameNode text (out-AttrSyntax a).name name
     is_type : IsTypeOf text (out-AttrSyntax a).ty ty
     are_notes : AreNotes text (out-AttrSyntax a).annotations notes.0
 
@@ -239,7 +239,7 @@ module _ (text : List ℕ) where
   one_attr a b =
       same text (sites_attr a) (attr_out a)
       (both text _ (notes (out-AttrSyntax a).annotations) λ n are. both text _ (name_node (out-AttrSyntax a).name) λ name is.
-      then text (λ (ty : Node «Type»). attr_of a name ty n) b (λ ty is_type. record { name = name; ty = ty; notes = n; whole = refl; is_name_kind = is; is_type = is_type; are_notes = are }))
+      then text (λ (ty : Node «Type»). attr_of a name ty n) b (λ ty is_type. record { name = name; ty = ty; notes = n; whole = refl; is_name = is; is_type = is_type; are_notes = are }))
 
   no_attrs : AttrsBuilt []
   unfolding all_from

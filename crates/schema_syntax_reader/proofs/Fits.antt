@@ -20,7 +20,7 @@ use Rattle.schema_syntax_parser.specs.declared.syntax.DeclaredSyntax.{DeclaredSy
 use Rattle.schema_syntax_parser.specs.declared.syntax.ItemSyntax.{ItemSyntax}
 use Rattle.schema_syntax_parser.specs.Syntax.{IsChain, AreSeparated, AreListed, AreMany, IsPath, IsRef, AreParents, AreAnnotations, IsMark, IsType, IsRecord, AreAttrs, IsAttr, IsShape, AreTags, IsStringToken, is_role, IsApp, Applies, IsDecl, IsDeclared, IsItem, IsSyntax}
 use Rattle.schema_syntax_parser.proofs.Heads.{ident_name}
-use Rattle.schema_syntax_tokens.specs.TokenLists.{end_of, whole_place}
+use Rattle.schema_syntax_tokens.specs.TokenLists.{whole_place}
 use Rattle.schema_syntax_parser.specs.Syntax as S
 use Rattle.schema_syntax_reader.specs.Sites.{Site, word, text, annotations, empty, site_of_kind, name_sites, names_sites, path_sites, paths_sites, sites_of_type, sites_of_attr, sites_of_attrs, shape_sites, tags_sites, app_sites, choices_sites, apps_sites, applies_sites, decl_sites, declared_sites, item_sites, sites_of}
 use Rattle.schema_syntax_reader.specs.Placed.{Rise, note_tokens, IsPlacedNote, IsPlacedSite}

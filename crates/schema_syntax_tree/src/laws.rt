@@ -20,10 +20,8 @@ pub fn paths_go_by_ids(a: &Path, b: &Path)
 
 /// Annotated items are equal exactly where the items and the annotations are.
 pub fn annotated_items_are_equal_by_parts<T: PartialEq>()
-    ensures {
-        (a b : Beside T) → (⟦<Annotated<T> as PartialEq>⟧.eq a b ≡ true
-            ↔ ((T.eq a.item b.item ≡ true) × (⟦<Annotations as PartialEq>⟧.eq a.annotations b.annotations ≡ true)))
-    }
+    ensures { (a b : Beside T) → (⟦<Annotated<T> as PartialEq>⟧.eq a b ≡ true
+        ↔ ((T.eq a.item b.item ≡ true) × (⟦<Annotations as PartialEq>⟧.eq a.annotations b.annotations ≡ true))) }
 {}
 
 /// Comparisons of annotated items are lawful for every lawful type of items.

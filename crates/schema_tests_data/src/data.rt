@@ -75,8 +75,12 @@ fn lists_with_a_first(alloc: Global) -> bool {
 // Is a map of entries made and copied?
 fn maps_entries(alloc: Global) -> bool {
     let mut entries = Vec::new(alloc);
-    if entries.push((text(alloc, "b"), text(alloc, "first"))).is_err()
-        || entries.push((text(alloc, "b"), text(alloc, "last"))).is_err()
+    if entries
+        .push((text(alloc, "b"), text(alloc, "first")))
+        .is_err()
+        || entries
+            .push((text(alloc, "b"), text(alloc, "last")))
+            .is_err()
     {
         return false;
     }
@@ -97,7 +101,8 @@ fn maps_trees(alloc: Global) -> bool {
         return false;
     }
     match Map::from_tree(alloc, tree) {
-        Ok(map) => matches!(map.as_slice(), [(a, ()), (b, ())] if a.as_str() == "a" && b.as_str() == "b"),
+        Ok(map) =>
+            matches!(map.as_slice(), [(a, ()), (b, ())] if a.as_str() == "a" && b.as_str() == "b"),
         Err(_) => false,
     }
 }

@@ -54,10 +54,16 @@ fn readers_agree_with_tables(rt: HostRuntime) {
         assert!(rt; readers_agree(rt.alloc(), line, &[0; 6]), "{line}");
     }
     for line in word_and_name_lines().lines() {
-        assert!(rt; readers_agree(rt.alloc(), line, &[0, 0, 0, 1, 1, 1]), "{line}");
+        assert!(rt;
+            readers_agree(rt.alloc(), line, &[0, 0, 0, 1, 1, 1]),
+            "{line}"
+        );
     }
     for line in apart_lines().lines() {
-        assert!(rt; readers_agree(rt.alloc(), line, &[0, 1, 2, 3, 4, 3]), "{line}");
+        assert!(rt;
+            readers_agree(rt.alloc(), line, &[0, 1, 2, 3, 4, 3]),
+            "{line}"
+        );
     }
 }
 
@@ -116,7 +122,13 @@ fn words_and_names_are_copied(rt: HostRuntime) {
 #[test]
 fn names_are_written(rt: HostRuntime) {
     let alloc = rt.alloc();
-    assert!(rt; reads(alloc, InternalName::from_normalized_str(alloc, "N::A"), "N::A"));
+    assert!(rt;
+        reads(
+            alloc,
+            InternalName::from_normalized_str(alloc, "N::A"),
+            "N::A"
+        )
+    );
     assert!(rt; reads(alloc, Name::from_normalized_str(alloc, "N::A"), "N::A"));
     assert!(rt; reads(alloc, RawName::from_normalized_str(alloc, "N::A"), "N::A?"));
 }
@@ -149,7 +161,13 @@ fn annotations_and_faults_are_copied(rt: HostRuntime) {
     let alloc = rt.alloc();
     assert!(rt; copies_annotations(alloc));
     assert!(rt; fault_says(alloc, &NameFault::Memory, "out of memory"));
-    assert!(rt; fault_says(alloc, &NameFault::Token(Text::new(alloc)), "unexpected token ``"));
+    assert!(rt;
+        fault_says(
+            alloc,
+            &NameFault::Token(Text::new(alloc)),
+            "unexpected token ``"
+        )
+    );
 }
 
 // A name, with a place; nothing where the text is none.
@@ -234,7 +252,10 @@ fn a_namespace_goes_before_an_unqualified_name(rt: HostRuntime) {
 
 // Does a comparison see no place, and does a copy have its own?
 fn sees_no_place(alloc: Global) -> bool {
-    match (named(alloc, "N::A"), InternalName::from_normalized_str(alloc, "N::A")) {
+    match (
+        named(alloc, "N::A"),
+        InternalName::from_normalized_str(alloc, "N::A"),
+    ) {
         (Some(placed), Ok(placeless)) => match placed.clone_in(alloc) {
             Ok(copy) => copy == placeless && copy.loc == placed.loc,
             Err(_) => false,

@@ -7,7 +7,10 @@ use std::alloc::{AllocError, Global};
 
 // An entity, at a place; nothing where the type's text is no name.
 fn entity(alloc: Global, ty: &str, id: &str) -> Option<EntityUID> {
-    let (Ok(ty), Ok(id)) = (Name::from_normalized_str(alloc, ty), Text::from_str(alloc, id)) else {
+    let (Ok(ty), Ok(id)) = (
+        Name::from_normalized_str(alloc, ty),
+        Text::from_str(alloc, id),
+    ) else {
         return None;
     };
     Some(EntityUID {
@@ -114,7 +117,8 @@ fn has_and_lacks(alloc: Global, these: &str, those: &str) -> bool {
     };
     match table.clone_in(alloc) {
         Ok(copy) => {
-            these.split(' ').all(|name| copy.has(name)) && !those.split(' ').any(|name| copy.has(name))
+            these.split(' ').all(|name| copy.has(name))
+                && !those.split(' ').any(|name| copy.has(name))
         }
         Err(_) => false,
     }
@@ -123,7 +127,13 @@ fn has_and_lacks(alloc: Global, these: &str, those: &str) -> bool {
 #[test]
 fn tables_have_their_names(rt: HostRuntime) {
     let alloc = rt.alloc();
-    assert!(rt; has_and_lacks(alloc, "datetime decimal duration ipaddr", "date ipaddrs Long \u{e9}"));
+    assert!(rt;
+        has_and_lacks(
+            alloc,
+            "datetime decimal duration ipaddr",
+            "date ipaddrs Long \u{e9}"
+        )
+    );
     assert!(rt; !ExtensionTable::none(alloc).has("decimal"));
 }
 
@@ -168,8 +178,7 @@ fn define(alloc: Global, defs: &mut AllDefs) -> bool {
 fn is_defined(alloc: Global, defs: &AllDefs, name: &str, common: bool, entity: bool) -> bool {
     match named(alloc, name) {
         Some(name) => {
-            defs.is_defined_as_common(&name) == common
-                && defs.is_defined_as_entity(&name) == entity
+            defs.is_defined_as_common(&name) == common && defs.is_defined_as_entity(&name) == entity
         }
         None => false,
     }

@@ -24,6 +24,14 @@ impl<'a> Wanted<'a> {
         }
     }
 
+    /// The letter is found next.
+    pub fn letter(&mut self, letter: char) {
+        match self.left.strip_prefix(letter) {
+            Some(left) => self.left = left,
+            None => self.met = false,
+        }
+    }
+
     /// The number is found next, in decimal digits.
     pub fn number(&mut self, number: usize) {
         let left = self.left.trim_start_matches(|c: char| c.is_ascii_digit());

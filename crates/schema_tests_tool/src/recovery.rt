@@ -42,6 +42,20 @@ fn texts_are_recovered(rt: HostRuntime) {
     let alloc = rt.alloc();
     assert!(rt; is_recovered(alloc, "entity B; entity A;", 2, "entity A;\n\nentity B;\n"));
     assert!(rt; is_refused(alloc, "action a;", "not built", ""));
-    assert!(rt; is_refused(alloc, "entity B; entity A; entity A; entity B;", "twice", "A"));
-    assert!(rt; is_refused(alloc, "entity B in [Y, B, Z]; entity A in X;", "undefined", "X Y Z"));
+    assert!(rt;
+        is_refused(
+            alloc,
+            "entity B; entity A; entity A; entity B;",
+            "twice",
+            "A"
+        )
+    );
+    assert!(rt;
+        is_refused(
+            alloc,
+            "entity B in [Y, B, Z]; entity A in X;",
+            "undefined",
+            "X Y Z"
+        )
+    );
 }

@@ -73,7 +73,13 @@ fn agrees(alloc: Global, line: &str) -> bool {
     };
     let (answer, text) = answer_and_text(line.as_str());
     if answer == "-" {
-        ends_on(alloc, "recover", text.as_bytes(), 1, ["", "error: refused\n"])
+        ends_on(
+            alloc,
+            "recover",
+            text.as_bytes(),
+            1,
+            ["", "error: refused\n"],
+        )
     } else {
         ends_on(alloc, "recover", text.as_bytes(), 0, [answer, ""])
     }
@@ -102,9 +108,20 @@ fn blanks_end(alloc: Global, count: usize, code: u8, err: &str) -> bool {
 fn other_runs_are_told(rt: HostRuntime) {
     let alloc = rt.alloc();
     for words in ["", "recover x", "check", "Recover"] {
-        assert!(rt; ends_on(alloc, words, b"entity A;", 2, ["", USAGE]), "{words}");
+        assert!(rt;
+            ends_on(alloc, words, b"entity A;", 2, ["", USAGE]),
+            "{words}"
+        );
     }
-    assert!(rt; ends_on(alloc, "recover", b"\xff", 5, ["", "error: the input is not UTF-8\n"]));
+    assert!(rt;
+        ends_on(
+            alloc,
+            "recover",
+            b"\xff",
+            5,
+            ["", "error: the input is not UTF-8\n"]
+        )
+    );
     assert!(rt; blanks_end(alloc, 16_777_217, 6, TOO_LONG));
 }
 
@@ -134,8 +151,26 @@ fn ends_badly(
 #[test]
 fn failures_of_devices_are_told(rt: HostRuntime) {
     let alloc = rt.alloc();
-    assert!(rt; ends_badly(alloc, "entity A;", 1, [AMPLE; 2], 3, ["", "error: reading failed\n"]));
-    assert!(rt; ends_badly(alloc, "entity A;", 2, [AMPLE; 2], 3, ["", "error: reading failed\n"]));
+    assert!(rt;
+        ends_badly(
+            alloc,
+            "entity A;",
+            1,
+            [AMPLE; 2],
+            3,
+            ["", "error: reading failed\n"]
+        )
+    );
+    assert!(rt;
+        ends_badly(
+            alloc,
+            "entity A;",
+            2,
+            [AMPLE; 2],
+            3,
+            ["", "error: reading failed\n"]
+        )
+    );
     assert!(rt; ends_badly(alloc, "entity A;", 3, [3, AMPLE], 4, ["ent", ""]));
     assert!(rt; ends_badly(alloc, "entity A;", 3, [10, 0], 0, ["entity A;\n", ""]));
     assert!(rt; ends_badly(alloc, "entity A", 3, [AMPLE, 3], 4, ["", "err"]));

@@ -1,0 +1,210 @@
+// Texts, and what a second program says of their trees, which was written from the definitions in Python. A line is the answer, then
+// behind `|` the text. ␤ stands for a line feed in a name. Faults have their names and places, warnings too; a fragment has its
+// parts in order, each place as `@` and its two ends, or `@-` where there is none.
+
+/// Texts whose trees have faults.
+pub fn fault_lines() -> &'static str {
+    "\
+twice A@7-8@10-11|entity A, A;
+twice A@7-8@10-11|entity A, A, A;
+twice a␤@7-12@14-19|action \"a\\n\", \"a\\n\";
+missing resource a␤@7-12|action \"a\\n\" appliesTo { principal: A };
+twice A@21-22@24-25; twice b@50-51@53-54|namespace N { entity A, A; } namespace M { action b, b; }
+missing resource a@17-18|entity A; action a appliesTo { principal: A };
+namespace N@25-26@10-11|namespace N {} namespace N {}
+keyword Long@5-9|type Long = Bool;
+reserved __cedar@7-14|entity __cedar;
+empty principal a@7-8@21-34|action a appliesTo { principal: [], principal: [] };
+principal a@21-33@35-48|action a appliesTo { principal: A, principal: [] };
+resource a@21-32@34-45|action a appliesTo { resource: A, resource: B, principal: A };
+missing resource a@7-8|action a appliesTo { context: {} };
+context a@21-32@34-45|action a appliesTo { context: {}, context: {} };
+missing resource a@7-8|action a, b appliesTo { principal: A };
+missing principal a@7-8|action a appliesTo { resource: A };
+keyword Long@5-9|type Long = Bool; type __cedar = Bool;
+reserved __cedar@5-12|type __cedar = Bool; type Long = Bool;
+twice A@20-21@23-24|action a, a; entity A, A;
+twice a@37-38@40-41|type T = Long; type T = Long; action a, a;
+namespace B@40-41@25-26|namespace A {} namespace B {} namespace B {} namespace A {}
+reserved __cedar@21-28|namespace N { entity __cedar; }
+reserved A::__cedar@10-20|namespace A::__cedar {}
+reserved __cedar@21-28; keyword Long@51-55|namespace N { entity __cedar; } namespace M { type Long = Bool; }
+twice a@7-8@10-13|action a, \"a\";
+twice A@7-8@43-44|entity A; namespace N { entity A; } entity A;
+twice __cedar@7-14@19-26|entity __cedar, A, __cedar;
+reserved __cedar@10-17; twice A@56-57@59-60|namespace __cedar { entity A, A; } namespace N { entity A, A; }
+missing resource a@21-22; missing principal b@58-59|namespace N { action a appliesTo { principal: A }; action b appliesTo { resource: A }; }
+twice A@22-23@47-48|namespace N {} entity A; namespace N {} entity A;
+empty principal b@7-10@23-36; principal go@92-106@123-140|action \"b\" appliesTo { principal: [], resource: A, principal: N::B }; action go appliesTo { principal: [A], resource: [A], principal: [A, B], context: {} };
+reserved __cedar@30-37|type decimal = Set<A>; entity __cedar;
+twice c@31-34@73-76|namespace M { entity T; action \"c\", a appliesTo { resource: [] }; action \"c\", b appliesTo { principal: [A, B], principal: [] }; }
+reserved __cedar@41-48; keyword Record@135-141|entity C; action a; namespace R { entity __cedar, B, Record { x: Long }; type A = {}; entity C, T { x: Long }; } namespace A::B { type Record = Set<A>; type Set = Long; }
+principal b@34-49@51-65|action b appliesTo { resource: A, principal: N::B, principal: [A], resource: [] };
+reserved __cedar@27-34|entity T { x: Long }; type __cedar = Set<A>;
+twice see@16-21@23-26|external action \"see\", see; namespace M {  }
+keyword Set@5-8|type Set = {}; entity B, Set enum [\"x\"];
+keyword Set@5-8|type Set = Set<A>;
+namespace R@27-28@10-11|namespace R {  } namespace R {  } action \"see\";
+empty principal b@70-73@86-99|namespace S { entity T in A; entity B, C, decimal { x: Long }; action \"b\" appliesTo { principal: [], principal: [], context: {}, resource: [] }; } action a;
+reserved A::__cedar@92-102|action b appliesTo { resource: [], context: {}, principal: N::B, resource: [A] }; namespace A::__cedar { type decimal = Set<A>; entity T; action \"a\", \"b\"; }
+reserved __cedar@24-31|namespace A::B { entity __cedar in A; }
+empty resource c@117-118@131-143|namespace Q { type decimal = Long; entity decimal, Set { x: Long }; } namespace P { action b, a; type T = {}; action c appliesTo { resource: [], principal: [A] }; }
+principal c@23-35@65-79|action \"c\" appliesTo { principal: A, context: C, resource: N::B, principal: [A] };
+keyword Record@5-11|type Record = {};
+keyword Record@24-30|external action b; type Record = Long;
+reserved __cedar::A@10-20; reserved A::__cedar@96-106; twice __cedar@56-63@65-72|namespace __cedar::A { external action c, see; } entity __cedar, __cedar { x: Long }; namespace A::__cedar { entity Set enum [\"x\"]; } type String = Set<A>;
+reserved __cedar@78-85|action c appliesTo { resource: [], resource: N::B, resource: [A, B] }; entity __cedar in A;
+twice C@16-17@22-23|external entity C, T, C; action \"go\";
+reserved __cedar@7-14|entity __cedar in A;
+principal see@43-58@76-91|namespace N::M {  } action see appliesTo { principal: N::B, resource: N::B, principal: N::B, resource: N::B };
+twice b@24-25@44-45|namespace N::M { action b; action a; action b appliesTo { resource: [] }; } external action \"a\", see;
+reserved __cedar@24-31|namespace M {  } entity __cedar, String;
+missing resource a@7-8|action a appliesTo { principal: A, context: {} };
+twice T@7-8@15-16|entity T, Set, T { x: Long }; action go appliesTo { principal: [A, B] }; entity C, decimal enum [\"x\"];
+twice Record@34-40@75-81|action a; namespace A::B { entity Record { x: Long }; external entity Set, Record, Long; }
+reserved __cedar@49-56|type A = {}; namespace R { action \"go\"; } entity __cedar; type __cedar = Long;
+keyword Record@5-11|type Record = Set<A>;
+twice go@64-66@68-72|namespace N { type Long = {}; entity Record { x: Long }; action go, \"go\" appliesTo { principal: A, principal: N::B, resource: [A, B] }; }
+keyword String@5-11|type String = {}; entity C;
+reserved __cedar@51-58; reserved __cedar@10-17|entity B, __cedar enum [\"x\"]; namespace M { entity __cedar; type __cedar = {}; type Set = Set<A>; } type B = {}; namespace N { entity B; }
+twice c@27-28@91-92|namespace Q { action \"go\", c appliesTo { principal: N::B, resource: [A] }; external action c, b; action c, \"see\" appliesTo { principal: [A, B] }; } namespace N {  }
+reserved A::__cedar@56-66|namespace P { entity __cedar, A enum [\"x\"]; } namespace A::__cedar { entity T { x: Long }; }
+reserved __cedar@30-37|action see; entity String, T, __cedar { x: Long }; namespace P { action go, \"see\" appliesTo { principal: A, resource: [A], context: {} }; }
+twice A@143-144@146-147|namespace Q { entity __cedar { x: Long }; entity Record; type A = Long; } entity B, Long { x: Long }; namespace A::B { type A = Set<A>; entity A, A, C; }
+empty resource a@24-25@38-50|namespace N::M { action a appliesTo { resource: [] }; }
+reserved __cedar::A@37-47|entity decimal enum [\"x\"]; namespace __cedar::A {  }
+reserved A::__cedar@20-30; reserved __cedar::A@103-113|action c; namespace A::__cedar { type decimal = {}; type Record = {}; type decimal = Long; } namespace __cedar::A {  }
+keyword Long@68-72|namespace N { external entity decimal, Set, T; } namespace R { type Long = {}; }
+empty resource c@86-87@105-117|entity B { x: Long }; type Set = Long; namespace N { entity Record, C, Long; } action c, \"b\" appliesTo { resource: [], resource: [], principal: [A, B] };
+reserved __cedar@47-54|namespace A::B { type decimal = Set<A>; entity __cedar, C enum [\"x\"]; action \"see\"; }
+reserved A::__cedar@10-20|namespace A::__cedar { external action go; } namespace M { type Set = {}; }
+resource b@23-37@58-71|action \"b\" appliesTo { resource: N::B, principal: [A, B], resource: [A], context: {} }; entity A enum [\"x\"];
+twice C@101-102@104-105|external action a, c; entity Long, C { x: Long }; namespace P { external entity __cedar, Set; entity C, C, T { x: Long }; entity C, A { x: Long }; } namespace N {  }
+resource a@59-70@72-84; reserved __cedar@5-12|type __cedar = Long; namespace N::M { action a appliesTo { resource: A, resource: [] }; entity A; }
+missing resource a@61-62|namespace M { entity C, decimal in A; action \"c\", go; action a appliesTo { principal: N::B }; }
+twice Record@29-35@52-58|namespace Q { entity String, Record, Set; entity C, Record, Set { x: Long }; } external action c; namespace A::B { entity Long { x: Long }; } entity A enum [\"x\"];
+empty principal c@7-10@23-36|action \"c\" appliesTo { principal: [], resource: [], principal: [] };
+missing resource go@7-9|action go appliesTo { principal: [A] };
+reserved A::__cedar@84-94|action go appliesTo { context: { x: Long }, principal: A, resource: [] }; namespace A::__cedar { entity Record { x: Long }; type A = {}; } entity T in A;
+keyword Long@26-30|external action see; type Long = Long; action b, \"c\";
+twice see@74-77@106-111|external entity __cedar, Set, C; namespace M {  } namespace N::M { action see, \"b\"; entity C in A; action \"see\" appliesTo { principal: [], resource: [] }; }
+missing resource c@21-22|namespace Q { action c appliesTo { principal: [A], context: {} }; } entity Record, T enum [\"x\"];
+twice c@7-8@10-11|action c, c;
+twice B@62-63@65-66|type decimal = Set<A>; type decimal = Set<A>; external entity B, B;
+resource a@21-35@37-49|action a appliesTo { resource: N::B, resource: [], principal: [] };
+namespace N@65-66@10-11|namespace N { external action \"c\"; entity Long, Set; } namespace N { type String = {}; action \"go\" appliesTo { resource: A, principal: [A] }; type Record = {}; }
+resource b@23-37@55-68|action \"b\" appliesTo { resource: N::B, principal: [A], resource: [A], principal: A };
+empty principal c@90-93@106-119|entity decimal { x: Long }; action a appliesTo { principal: N::B, resource: [A] }; action \"c\" appliesTo { principal: [], principal: N::B, resource: [], resource: [] };
+resource go@24-35@37-49; empty resource b@109-112@125-137|action \"go\" appliesTo { resource: A, resource: [], resource: [A, B] }; namespace N { type T = Long; } action \"b\" appliesTo { resource: [] };
+principal a@35-49@51-64|namespace N { action a appliesTo { principal: [A], principal: [] }; type B = Long; } namespace P { action \"go\"; external action a; }
+missing resource go@29-31|entity A { x: Long }; action go, see appliesTo { principal: [A] };
+keyword Record@19-25|namespace P { type Record = {}; external action \"see\", c; } action c appliesTo { resource: [A, B], principal: N::B };
+resource see@76-92@133-145; reserved __cedar@27-34|external entity B, Record, __cedar; namespace A::B { action see appliesTo { resource: [A, B], context: { x: Long }, principal: N::B, resource: [] }; }
+reserved __cedar::A@10-20; twice go@51-53@55-59|namespace __cedar::A { action \"see\", see; } action go, \"go\" appliesTo { principal: [A, B], resource: [A, B] };
+missing principal a@7-8|action a appliesTo { resource: N::B }; namespace M {  } action see, \"b\";
+resource go@22-36@38-51|action go appliesTo { resource: N::B, resource: [A] };
+empty principal go@7-9@35-48; empty principal b@59-60@73-86|action go appliesTo { resource: A, principal: [] }; action b appliesTo { principal: [], principal: [A, B], principal: N::B }; type __cedar = {};
+reserved A::__cedar@10-20; reserved __cedar::A@47-57; twice Set@73-76@78-81|namespace A::__cedar { action see; } namespace __cedar::A {  } entity C, Set, Set in A;
+context see@23-34@36-56|action see appliesTo { context: {}, context: { x: Long } }; namespace A::B {  }
+keyword String@5-11|type String = {}; namespace N { external action go; }
+keyword Record@27-33|entity T { x: Long }; type Record = Set<A>;
+twice Long@21-25@27-31; reserved __cedar@53-60|namespace P { entity Long, Long, Record; } namespace __cedar { type __cedar = Set<A>; }
+empty principal c@21-22@39-52; missing principal see@82-87|namespace P { action c, go appliesTo { principal: [] }; type Set = Long; } action \"see\", go appliesTo { resource: N::B };
+empty resource c@21-24@40-52|namespace R { action \"c\", a appliesTo { resource: [], resource: [] }; }
+missing principal see@7-12|action \"see\" appliesTo { resource: N::B, context: {} }; action \"b\";
+reserved __cedar@21-28; empty resource see@83-86@121-133|namespace M { entity __cedar, Set; entity B in A; } entity Set { x: Long }; action see appliesTo { context: { x: Long }, resource: [], resource: [], principal: N::B };
+keyword Record@46-52|namespace Q { entity decimal enum [\"x\"]; type Record = Long; }
+empty resource b@7-8@28-40|action b, \"see\" appliesTo { resource: [], principal: [A] };
+empty principal go@7-9@27-40|action go, \"c\" appliesTo { principal: [], context: C, resource: [A, B] };
+empty resource a@7-8@25-37|action a, go appliesTo { resource: [], resource: [A, B] };
+empty resource a@7-8@26-38|action a, see appliesTo { resource: [], context: {}, principal: [] };
+missing resource see@21-24|namespace Q { action see appliesTo { principal: [A, B] }; }
+keyword Long@5-9|type Long = Set<A>;
+missing resource see@24-27; empty principal c@81-82@95-108|namespace A::B { action see appliesTo { principal: [A, B] }; type T = {}; action c appliesTo { principal: [], resource: N::B }; }
+empty principal go@7-9@50-63|action go appliesTo { resource: [A], context: {}, principal: [], context: {} }; entity T { x: Long };
+resource b@23-39@41-53|action \"b\" appliesTo { resource: [A, B], resource: [], resource: [A, B] };
+missing resource go@85-89|entity String, Set, T { x: Long }; namespace M { type Set = Set<A>; action b; action \"go\" appliesTo { context: { x: Long } }; }
+keyword Set@5-8|type Set = Long;
+resource go@54-67@69-85; reserved __cedar@122-129|namespace Q { action \"go\" appliesTo { principal: [A], resource: [A], resource: [A, B], resource: [] }; action c; } entity __cedar;
+reserved __cedar::A@43-53; twice a@7-10@66-67|action \"a\"; external action see; namespace __cedar::A {  } action a;
+missing principal a@7-8|action a appliesTo { resource: [A] };
+missing resource c@21-22; reserved __cedar@145-152|namespace R { action c appliesTo { context: {}, principal: A }; type C = Long; external action see; } type Set = {}; entity decimal in A; entity __cedar, B;
+resource a@75-89@91-105|namespace R { type decimal = Set<A>; action a, b appliesTo { principal: A, resource: N::B, resource: N::B, resource: N::B }; external entity B, T, Set; }
+empty resource b@7-8@24-36|action b, a appliesTo { resource: [], resource: N::B };
+reserved __cedar@10-17; reserved A::__cedar@33-43|namespace __cedar {  } namespace A::__cedar { type __cedar = {}; }
+context go@22-32@34-45|action go appliesTo { context: C, context: {} };
+empty resource see@44-47@60-72; keyword Set@126-129|namespace M { type __cedar = Set<A>; action see appliesTo { resource: [] }; external action go; } entity Set enum [\"x\"]; type Set = {};
+principal b@23-37@52-67|action \"b\" appliesTo { principal: [A], context: {}, principal: N::B };"
+}
+
+/// Texts whose trees have none.
+pub fn warning_lines() -> &'static str {
+    "\
+ok|entity A { x: Nope, x: Long };
+ok; builtin String@7-13|entity String; entity A { x: String, y: __cedar::String };
+ok; builtin datetime@5-13; entity ipaddr@49-55@27-33; builtin ipaddr@27-33; builtin ipaddr@49-55|type datetime = Long; type ipaddr = Long; entity ipaddr;
+ok; builtin Long@30-34|namespace N { external entity Long; }
+ok; entity A@46-47@29-30; builtin Bool@7-11|entity Bool enum [\"x\"]; type A = Long; entity A;
+ok; builtin duration@80-88; builtin decimal@62-69; entity A@36-37@19-20|namespace N { type A = Long; entity A; } namespace M { entity decimal; } entity duration; action Long;
+ok; builtin Long@99-103; builtin Bool@84-88; builtin String@53-59; builtin Long@21-25|namespace B { entity Long; } namespace A::B { entity String; } namespace A { entity Bool; } entity Long;
+ok|
+ok|action a appliesTo { principal: A, resource: A };
+ok|external action a; external entity A;
+ok; builtin decimal@5-12|type decimal = Set<A>; action b; entity A;
+ok; builtin decimal@10-17|entity A, decimal; external action b; external entity Record;
+ok; builtin String@7-13|entity String, A, C in A;
+ok; builtin decimal@7-14|entity decimal in A;
+ok; builtin decimal@24-31|namespace A::B { entity decimal { x: Long }; } action a, c;
+ok; builtin Long@36-40; builtin decimal@27-34|namespace A::B { entity A, decimal, Long { x: Long }; }
+ok; builtin String@21-27|namespace R { entity String in A; }
+ok; builtin Long@24-28|namespace N::M { entity Long enum [\"x\"]; }
+ok; builtin Long@52-56|entity A { x: Long }; namespace N { external entity Long; }
+ok; builtin Long@10-14|entity T, Long, A { x: Long };
+ok; builtin Long@15-19|entity T, Set, Long in A;
+ok; builtin decimal@5-12|type decimal = {};
+ok; builtin decimal@7-14|entity decimal { x: Long };
+ok; builtin Long@19-23|action see; entity Long, A;
+ok; builtin decimal@5-12|type decimal = Long; namespace R {  }
+ok; builtin String@7-13|entity String, Record, T { x: Long };
+ok; builtin String@16-22; builtin decimal@7-14|entity decimal, String enum [\"x\"];
+ok; builtin Long@36-40|namespace Q {  } external entity A, Long, T;
+ok; builtin String@10-16|entity C, String, T in A;
+ok; builtin decimal@36-43|namespace P {  } external entity A, decimal;
+ok; builtin Long@27-31|action go; external entity Long;
+ok; builtin decimal@7-14|entity decimal, C in A; namespace S {  }
+ok; builtin Long@7-11|entity Long in A;
+ok; builtin Long@41-45; builtin String@24-30; builtin decimal@32-39|namespace P {  } entity String, decimal, Long in A;
+ok; builtin decimal@31-38|external action see; entity C, decimal enum [\"x\"];
+ok; builtin decimal@22-29|namespace A::B { type decimal = Long; action go; entity Record, A { x: Long }; }
+ok; builtin String@40-46; builtin decimal@31-38|entity Set { x: Long }; entity decimal, String { x: Long };
+ok; builtin Long@7-11; builtin decimal@13-20|entity Long, decimal in A; namespace Q {  }
+ok; builtin decimal@7-14|entity decimal, C; namespace S { entity C { x: Long }; } type B = Set<A>; namespace A::B {  }
+ok; builtin String@16-22; builtin decimal@7-14|entity decimal, String { x: Long };"
+}
+
+/// Texts, and the fragments that they are.
+pub fn fragment_lines() -> &'static str {
+    "\
+|
+[ entity A@0-30 { x: .Long@23-27@23-27}@9-29]|entity A { x: Nope, x: Long };
+[ entity A@0-31 { x?: .Bool@24-28@24-28}@9-30]|entity A { x: Long, x?: Bool };
+[ entity A@0-82 { #b=v x: .Bool@35-39@35-39 y: < < .B.C@52-56@52-56>@48-57>@44-58}@9-60 tags < { k?: .T@76-77@76-77}@70-80>@66-81]|entity A { @a x?: Long, @b(\"v\") x: Bool, y: Set<Set<B::C>> } tags Set<{ k?: T, }>;
+[ entity A@0-34 .D@19-20 .N.E@22-26 {}@30-33 entity B@0-34 .D@19-20 .N.E@22-26 {}@30-33 entity C@0-34 .D@19-20 .N.E@22-26 {}@30-33]|entity A, B, C in [D, N::E] = { };
+[ entity A@0-15 {}@-]|entity A in [];
+[ external entity A@0-28 .C@25-26 {}@- external entity B@0-28 .C@25-26 {}@-]|external entity A, B in [C];
+[ entity E@0-33 enum b a b entity F@0-33 enum b a b]|entity E, F enum [\"b\", \"a\", \"b\"];
+[ #t type T@26-54 { a: { b: .Long@45-49@45-49}@40-51}@35-53 #doc=d #k entity A@13-22 {}@-]|@doc(\"d\") @k entity A; @t type T = { a: { b: Long } };
+[ action a@0-9 principal resource context {}@-]|action a;
+[ action a@0-62 members in e in f g in h .N.Action@33-42 in i .Action@49-55 principal resource context {}@- action b c@0-62 members in e in f g in h .N.Action@33-42 in i .Action@49-55 principal resource context {}@- action d@0-62 members in e in f g in h .N.Action@33-42 in i .Action@49-55 principal resource context {}@-]|action a, \"b c\", d in [e, \"f g\", N::Action::\"h\", Action::\"i\"];
+[ action a@0-15 principal resource context {}@-]|action a in [];
+[ external action a@0-26 members in c external action b@0-26 members in c]|external action a, b in c;
+[ external action a@0-18]|external action a;
+[ action a@0-58 principal .A@32-33 resource .B@46-47 .N.C@49-53 context {}@-]|action a appliesTo { principal: A, resource: [B, N::C], };
+[ action a@0-71 principal .A@63-64 .A@66-67 resource .B@47-48 context common .N.C@30-34@30-34]|action a appliesTo { context: N::C, resource: [B], principal: [A, A] };
+[ action a@0-88 principal .A@84-85 resource .B@34-35 context { #n x?: .Long@55-59@55-59 y z: .T@68-69@68-69}@46-71 action b@0-88 principal .A@84-85 resource .B@34-35 context { #n x?: .Long@55-59@55-59 y z: .T@68-69@68-69}@46-71]|action a, b appliesTo { resource: B, context: { @n x?: Long, \"y z\": T }, principal: A };
+[ type U@74-90 < .B@87-88@87-88>@83-89 entity B@36-45 {}@- action z@91-100 principal resource context {}@-][M@56-57 type T@60-71 .A@69-70@69-70][N@10-11 entity A@14-23 {}@- action a@24-33 principal resource context {}@-]|namespace N { entity A; action a; } entity B; namespace M { type T = A; } type U = Set<B>; action z;
+[A@53-54][Long@69-73][N@37-38][N::M@18-22 #n=v]|@n(\"v\") namespace N::M { } namespace N { } namespace A { } namespace Long { }
+[A@65-66 entity AB@69-79 {}@-][A::B@36-40 entity A@43-52 {}@-][B@10-11 entity B@14-23 {}@-]|namespace B { entity B; } namespace A::B { entity A; } namespace A { entity AB; }
+[ entity A@30-39 {}@- entity A0@40-50 {}@- entity A_@51-61 {}@- entity B@10-19 {}@- entity a@20-29 {}@- entity b@0-9 {}@- action @84-94 principal resource context {}@- action B@74-83 principal resource context {}@- action b@62-73 principal resource context {}@-]|entity b; entity B; entity a; entity A; entity A0; entity A_; action \"b\"; action B; action \"\";
+[ type T@0-14 .Long@9-13@9-13][N@25-26 entity A@29-47 { x: .T@43-44@43-44}@38-46 #x action b@51-100 principal .A@83-84 resource .A@96-97 context {}@-]|type T = Long; namespace N { entity A { x: T }; @x action b appliesTo { principal: A, resource: A }; }"
+}

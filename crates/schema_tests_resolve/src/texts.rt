@@ -1,0 +1,103 @@
+// What texts resolve to, or the first reference that means nothing, against tables.
+
+use crate::fragment_lines::find_fragment;
+use crate::table::{refused_lines, resolved_lines};
+use cedar_data::CloneIn;
+use cedar_identifiers::{InternalName, NameText, RawName};
+use cedar_names::ExtensionTable;
+use schema_convert::parse_cedar_schema_fragment;
+use schema_json::{ActionEntityUID, Fragment};
+use schema_resolve::{ResolveError, ResolveFragment};
+use schema_tests_lines::{Wanted, answer_and_text};
+use std::alloc::{AllocError, Global};
+
+// Is the answer this text behind a mark?
+fn says(answer: &str, mark: &str, text: Result<cedar_data::Text, AllocError>) -> bool {
+    match text {
+        Ok(text) => answer.strip_prefix(mark) == Some(text.as_str()),
+        Err(_) => false,
+    }
+}
+
+// Does the answer say the first reference that means nothing?
+fn says_error(alloc: Global, answer: &str, error: &ResolveError) -> bool {
+    match error {
+        ResolveError::TypeNotDefined(error) => {
+            says(answer, "!type ", error.undefined_types.first().text(alloc))
+        }
+        ResolveError::ActionNotDefined(error) => {
+            says(answer, "!action ", error.0.first().text(alloc))
+        }
+        ResolveError::Memory => false,
+    }
+}
+
+// Does the answer say a copy of the error?
+fn says_copied_error(alloc: Global, answer: &str, error: &ResolveError) -> bool {
+    match error.clone_in(alloc) {
+        Ok(copy) => says_error(alloc, answer, &copy),
+        Err(_) => false,
+    }
+}
+
+// Does the answer say the fragment?
+fn says_fragment(answer: &str, fragment: &Fragment<InternalName>) -> bool {
+    let mut wanted = Wanted::new(answer);
+    find_fragment(&mut wanted, fragment);
+    wanted.is_met()
+}
+
+// Does the answer say a copy of the fragment?
+fn says_copied_fragment(alloc: Global, answer: &str, fragment: &Fragment<InternalName>) -> bool {
+    match fragment.clone_in(alloc) {
+        Ok(copy) => says_fragment(answer, &copy),
+        Err(_) => false,
+    }
+}
+
+// Does the answer say what the fragment resolves to?
+fn says_resolved(
+    alloc: Global,
+    answer: &str,
+    fragment: &Fragment<RawName>,
+    table: &ExtensionTable,
+) -> bool {
+    match fragment.to_internal_name_fragment_with_resolved_types(alloc, table) {
+        Ok(found) => says_copied_fragment(alloc, answer, &found),
+        Err(error) => says_copied_error(alloc, answer, &error),
+    }
+}
+
+// Is what the line says found of its text?
+fn agrees(alloc: Global, line: &str, table: &ExtensionTable) -> bool {
+    let (answer, text) = answer_and_text(line);
+    match parse_cedar_schema_fragment(alloc, text, table) {
+        Ok((fragment, _)) => says_resolved(alloc, answer, &fragment, table),
+        Err(_) => false,
+    }
+}
+
+// The first of the lines that does not agree, or nothing.
+fn first_wrong(alloc: Global, lines: &str) -> &str {
+    let Ok(table) = ExtensionTable::all_available(alloc) else {
+        return "no table";
+    };
+    for line in lines.lines() {
+        if !agrees(alloc, line, &table) {
+            return line;
+        }
+    }
+    ""
+}
+
+#[test]
+fn resolved_texts_agree_with_table(rt: HostRuntime) {
+    let wrong = first_wrong(rt.alloc(), resolved_lines());
+    assert!(rt; wrong.is_empty(), "{wrong}");
+}
+
+#[test]
+fn refused_texts_agree_with_table(rt: HostRuntime) {
+    let wrong = first_wrong(rt.alloc(), refused_lines());
+    assert!(rt; wrong.is_empty(), "{wrong}");
+}
