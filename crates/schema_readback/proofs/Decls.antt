@@ -43,7 +43,7 @@ use Rattle.schema_syntax_reader.specs.Sites.{annotations, name_sites, names_site
 use Rattle.schema_syntax_reader.specs.Trees.{role_of}
 use Rattle.schema_syntax_reader.specs.Trees as tree
 use Rattle.schema_readback.specs.Written.{WrittenType, WrittenAttributes, WrittenRef, WrittenMember, WrittenDecl, entity, enum, external_entity, action, external_action, common, WrittenDeclared, WrittenItem, namespace}
-use Rattle.schema_readback.specs.Spellings.{IsIdent, IsNameOf, quoted, IsChainOf, one, more, AreParentsOf, AreNamesOf, one_name, more_names, IsPathOf, IsStringOf, a_string, IsRefOf, plain_ref, typed_ref, IsShapeOf, no_shape, bare_shape, equals_shape, AreTagsOf, no_tags, some_tags, IsMemberOf, types_of, path_context, record_context, AppliesOf, no_applies, some_applies, IsDeclOf, entity_of, enum_of, external_entity_of, action_of, external_action_of, common_of, IsDeclaredOf, declared_of, IsItemOf, namespace_of, outside_of, IsSchemaOf}
+use Rattle.schema_readback.specs.Spellings.{IsIdent, SpellsName, quoted, IsChainOf, one, more, AreParentsOf, AreNamesOf, one_name, more_names, SpellsPath, IsStringOf, a_string, SpellsRef, plain_ref, typed_ref, SpellsShape, no_shape, bare_shape, equals_shape, SpellTags, no_tags, some_tags, IsMemberOf, types_of, path_context, record_context, SpellsApplies, no_applies, some_applies, SpellsDecl, entity_of, enum_of, external_entity_of, action_of, external_action_of, common_of, SpellsDeclared, declared_of, SpellsItem, namespace_of, outside_of, SpellsSchema}
 use Rattle.schema_readback.specs.Shows.{shows_none, SaysPath, SaysChoice, SaysRef, SaysMember, SaysDeclared, SaysItem}
 use Rattle.schema_readback.specs.Reads.{IsFaultless, ReadsPath, ReadsType, ReadsNotes, ReadsAll, ReadsOnePath, ReadsOneRef, ReadsOneString, ReadsIdents, ReadsNames, ReadsShape, ReadsTags, ReadsMember, ReadsApplies, ReadsDecl, ReadsDeclared, ReadsItem, ReadsSchema}
 use Rattle.schema_readback.proofs.Split.{split, closed, between, alone, front}
@@ -57,7 +57,7 @@ module _ (source : List ℕ) where
   nothing : All (IsFaultless source) []
   nothing = All-nil (IsFaultless source)
 
-  one_path : (u : List Lexeme) (p : List (List ℕ)) → IsPathOf u p → (ts : List Token) → Spells source ts u → ReadsOnePath source ts p
+  one_path : (u : List Lexeme) (p : List (List ℕ)) → SpellsPath u p → (ts : List Token) → Spells source ts u → ReadsOnePath source ts p
   one_path u p h ts s =
       let r = read_path source h ts s in
       record { syn = record { names = r.words; loc = whole_place ts }; parsed = S.path r.parsed; node = record { ids = r.ids; loc = Some (whole_place ts) }; is = (r.are, refl); says = r.says; lawful = r.lawful }
@@ -94,7 +94,7 @@ module _ (source : List ℕ) where
   read_idents (more {x = x} {names = names} i k r) (t ∷ c ∷ ts) s = ident_more t c ts x names s.0 i (s.1.0.0 ∙ k) (read_idents r ts s.1.1)
 
   module _ (never_both : (body value : List ℕ) (at : ℕ) → Unescapes body value → BadEscape body at → ⊥) where
-    name_first : (t : Token) (x : Lexeme) (n : List ℕ) → IsSpelled source t x → IsNameOf x n → ReadsNames source (t ∷ []) (n ∷ [])
+    name_first : (t : Token) (x : Lexeme) (n : List ℕ) → IsSpelled source t x → SpellsName x n → ReadsNames source (t ∷ []) (n ∷ [])
     name_first t x n s i =
         record {
           syns = t ∷ [];
@@ -105,7 +105,7 @@ module _ (source : List ℕ) where
           lawful = All-append (IsFaultless source) (name_sites t) [] (name_site source never_both t x n s i) nothing;
         }
 
-    name_more : (t c : Token) (ts : List Token) (x : Lexeme) (n : List ℕ) (names : List (List ℕ)) → IsSpelled source t x → IsNameOf x n → c.kind ≡ Comma → ReadsNames source ts names → ReadsNames source (t ∷ c ∷ ts) (n ∷ names)
+    name_more : (t c : Token) (ts : List Token) (x : Lexeme) (n : List ℕ) (names : List (List ℕ)) → IsSpelled source t x → SpellsName x n → c.kind ≡ Comma → ReadsNames source ts names → ReadsNames source (t ∷ c ∷ ts) (n ∷ names)
     name_more t c ts x n names s i k r =
         record {
           syns = t ∷ r.syns;
@@ -151,7 +151,7 @@ module _ (source : List ℕ) where
               (All-append (IsFaultless source) (names_sites r.words) (names_sites (t ∷ [])) r.lawful (All-append (IsFaultless source) (name_sites t) [] (string_site source never_both t q body value s kq e un) nothing));
         }
 
-    pub one_ref : (u : List Lexeme) (r : WrittenRef) → IsRefOf u r → (ts : List Token) → Spells source ts u → ReadsOneRef source ts r
+    pub one_ref : (u : List Lexeme) (r : WrittenRef) → SpellsRef u r → (ts : List Token) → Spells source ts u → ReadsOneRef source ts r
     one_ref u r (plain_ref {x = x} {n = n} i) [] s = absurd s
     one_ref u r (plain_ref {x = x} {n = n} i) (t ∷ []) s =
         let name : QualName = record { path = None; eid = n } in
@@ -172,7 +172,7 @@ module _ (source : List ℕ) where
         (typed_read b.left b.token last.token q names body value (read_path source h b.left b.first) (b.is.0 ∙ k) last.is kq e un)
 
     -- attributes and tags
-    no_attributes : (u : List Lexeme) (xs : WrittenAttributes) → IsShapeOf u xs → (ts : List Token) → Spells source ts u → ReadsShape source ts xs
+    no_attributes : (u : List Lexeme) (xs : WrittenAttributes) → SpellsShape u xs → (ts : List Token) → Spells source ts u → ReadsShape source ts xs
     no_attributes u xs no_shape [] s = record { syn = None; parsed = S.no_shape; node = record { node = []; loc = None }; is = (refl, refl); says = shows_none; lawful = nothing }
     no_attributes u xs no_shape (t ∷ ts) s = absurd s
     no_attributes u xs (bare_shape h) ts s =
@@ -185,7 +185,7 @@ module _ (source : List ℕ) where
         let loc = whole_place ts in
         record { syn = Some (r.syns, loc); parsed = S.equals_shape (s.0.0 ∙ k) r.parsed; node = record { node = r.nodes; loc = Some loc }; is = (r.are, refl); says = r.shows; lawful = r.lawful }
 
-    read_tags : (u : List Lexeme) (t : Option WrittenType) → AreTagsOf u t → (ts : List Token) → Spells source ts u → ReadsTags source ts t
+    read_tags : (u : List Lexeme) (t : Option WrittenType) → SpellTags u t → (ts : List Token) → Spells source ts u → ReadsTags source ts t
     read_tags u t no_tags [] s = record { syn = None; parsed = S.no_tags; node = None; is = refl; says = tt; lawful = nothing }
     read_tags u t no_tags (x ∷ ts) s = absurd s
     read_tags u t (some_tags k h) [] s = absurd s
@@ -193,18 +193,18 @@ module _ (source : List ℕ) where
         let r = read_type source never_both h ts s.1 in
         record { syn = Some r.syn; parsed = S.some_tags (s.0.0 ∙ k) r.parsed; node = Some r.node; is = r.is; says = r.shows; lawful = r.lawful }
 
-    read_parents : {u : List Lexeme} {ps : List (List (List ℕ))} → AreParentsOf IsPathOf u ps → (ts : List Token) → Spells source ts u → ReadsAll source (AreParents IsPath ts) (tree.IsPathOf source) SaysPath path_sites ps
-    read_parents = parents source IsPathOf IsPath (tree.IsPathOf source) SaysPath path_sites one_path
+    read_parents : {u : List Lexeme} {ps : List (List (List ℕ))} → AreParentsOf SpellsPath u ps → (ts : List Token) → Spells source ts u → ReadsAll source (AreParents IsPath ts) (tree.IsPathOf source) SaysPath path_sites ps
+    read_parents = parents source SpellsPath IsPath (tree.IsPathOf source) SaysPath path_sites one_path
 
-    read_refs : {u : List Lexeme} {rs : List WrittenRef} → AreParentsOf IsRefOf u rs → (ts : List Token) → Spells source ts u → ReadsAll source (AreParents IsRef ts) (tree.IsRefOf source) SaysRef path_sites rs
-    read_refs = parents source IsRefOf IsRef (tree.IsRefOf source) SaysRef path_sites one_ref
+    read_refs : {u : List Lexeme} {rs : List WrittenRef} → AreParentsOf SpellsRef u rs → (ts : List Token) → Spells source ts u → ReadsAll source (AreParents IsRef ts) (tree.IsRefOf source) SaysRef path_sites rs
+    read_refs = parents source SpellsRef IsRef (tree.IsRefOf source) SaysRef path_sites one_ref
 
     -- members of an `appliesTo` block
     one_member : (u : List Lexeme) (m : WrittenMember) → IsMemberOf u m → (ts : List Token) → Spells source ts u → ReadsMember source ts m
     one_member u m (types_of {ps = ps} hr hc h) [] s = absurd s
     one_member u m (types_of {ps = ps} hr hc h) (w ∷ []) s = absurd s.1
     one_member u m (types_of {w = x} {ps = ps} hr hc h) (w ∷ c ∷ ts) s =
-        let r = listed source IsPathOf IsPath (tree.IsPathOf source) SaysPath path_sites one_path h ts s.1.1 in
+        let r = listed source SpellsPath IsPath (tree.IsPathOf source) SaysPath path_sites one_path h ts s.1.1 in
         let loc = whole_place (w ∷ c ∷ ts) in
         let o = optional source (tree.IsPathOf source) SaysPath r.syns r.nodes ps r.are r.says in
         let d : PRAppDecl = record { kind = record { node = role_of w.kind; loc = Some w.loc }; entity_tys = o.0 } in
@@ -249,7 +249,7 @@ module _ (source : List ℕ) where
     some_apps [] (n ∷ nodes) m ms loc are says = absurd are
     some_apps (a ∷ syns) nodes m ms loc are says = refl
 
-    pub read_applies : (u : List Lexeme) (m : Option (List WrittenMember)) → AppliesOf u m → (ts : List Token) → Spells source ts u → ReadsApplies source ts m
+    pub read_applies : (u : List Lexeme) (m : Option (List WrittenMember)) → SpellsApplies u m → (ts : List Token) → Spells source ts u → ReadsApplies source ts m
     read_applies u m no_applies [] s = record { syn = None; parsed = S.no_applies; node = None; is = refl; says = tt; lawful = nothing }
     read_applies u m no_applies (t ∷ ts) s = absurd s
     read_applies u m (some_applies c hw ho h hc) [] s = absurd s
@@ -362,7 +362,7 @@ module _ (source : List ℕ) where
           lawful = All-append (IsFaultless source) (name_sites n) (sites_of_type r.syn) (ident_site source n x s i) r.lawful;
         }
 
-    read_decl : (u : List Lexeme) (d : WrittenDecl) → IsDeclOf u d → (ts : List Token) → Spells source ts u → ReadsDecl source ts d
+    read_decl : (u : List Lexeme) (d : WrittenDecl) → SpellsDecl u d → (ts : List Token) → Spells source ts u → ReadsDecl source ts d
     read_decl u d (entity_of z ke hi hp hs ht kz) [] s = absurd s
     read_decl u d (entity_of z {i = i} {p = p} {s = h} {t = t} {names = names} {parents = ps} {shape = xs} {tags = tags} ke hi hp hh ht kz) (e ∷ ts) s =
         let a = split source i (p ++ (h ++ (t ++ z ∷ []))) ts s.1 in
@@ -413,7 +413,7 @@ module _ (source : List ℕ) where
         subst (λ l. ReadsDecl source (w ∷ n ∷ e ∷ l) (common x.text t)) (sym k.whole)
         (common_read w n e k.left k.token x t (s.0.0 ∙ kw) s.1.0 i (s.1.1.0.0 ∙ ke) (read_type source never_both h k.left k.first) (k.is.0 ∙ kz))
 
-    read_declared : (u : List Lexeme) (d : WrittenDeclared) → IsDeclaredOf u d → (ts : List Token) → Spells source ts u → ReadsDeclared source ts d
+    read_declared : (u : List Lexeme) (d : WrittenDeclared) → SpellsDeclared u d → (ts : List Token) → Spells source ts u → ReadsDeclared source ts d
     read_declared u d (declared_of {a = a} {u = v} {ns = ns} {d = e} w h) ts s =
         let b = split source a v ts s in
         let notes = read_notes source never_both w.spell w.arranged b.left b.first in
@@ -448,19 +448,19 @@ module _ (source : List ℕ) where
         }
 
     -- a declaration in no namespace has its notes, and the namespace that holds it has none
-    read_item : (u : List Lexeme) (i : WrittenItem) → IsItemOf u i → (ts : List Token) → Spells source ts u → ReadsItem source ts i
+    read_item : (u : List Lexeme) (i : WrittenItem) → SpellsItem u i → (ts : List Token) → Spells source ts u → ReadsItem source ts i
     read_item u i (namespace_of {a = a} n o c {p = p} {u = v} {ns = ns} {name = name} {ds = ds} w kn hp ko hd kc) ts s =
         let b = between source a (p ++ o ∷ (v ++ c ∷ [])) n ts s in
         let f = between source p (v ++ c ∷ []) o b.right b.second in
         let k = closed source v c f.right f.second in
         subst (λ l. ReadsItem source l (namespace ns name ds)) (sym (b.whole ∙ ap (λ l. b.left ++ b.token ∷ l) (f.whole ∙ ap (λ l. f.left ++ f.token ∷ l) k.whole)))
         (namespace_read b.left b.token f.left f.token k.left k.token ns name ds (read_notes source never_both w.spell w.arranged b.left b.first) (b.is.0 ∙ kn) (one_path p name hp f.left f.first) (f.is.0 ∙ ko)
-        (many source IsDeclaredOf IsDeclared (tree.IsDeclaredOf source) SaysDeclared declared_sites read_declared hd k.left k.first) (k.is.0 ∙ kc))
+        (many source SpellsDeclared IsDeclared (tree.IsDeclaredOf source) SaysDeclared declared_sites read_declared hd k.left k.first) (k.is.0 ∙ kc))
     read_item u i (outside_of {d = d} h) ts s =
         let r = read_declared u d h ts s in
         let it : Namespace = record { name = None; decls = r.node ∷ []; loc = None } in
         let node : Annotated Namespace = record { item = it; annotations = record { 0 = [] } } in
         record { syn = item_syntax.Decl r.syn; parsed = S.outside r.parsed; node = node; is = (r.node, refl, r.is); says = (refl, (r.says, tt), refl); lawful = r.lawful }
 
-    pub read_schema : {u : List Lexeme} {w : List WrittenItem} → IsSchemaOf u w → (ts : List Token) → Spells source ts u → ReadsSchema source ts w
-    read_schema = many source IsItemOf IsItem (tree.IsItemOf source) SaysItem item_sites read_item
+    pub read_schema : {u : List Lexeme} {w : List WrittenItem} → SpellsSchema u w → (ts : List Token) → Spells source ts u → ReadsSchema source ts w
+    read_schema = many source SpellsItem IsItem (tree.IsItemOf source) SaysItem item_sites read_item

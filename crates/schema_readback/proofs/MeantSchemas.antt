@@ -75,7 +75,7 @@ grouped_four a b c d f e = sym (simp append_assoc)
 grouped_action : (a b c d e : List ℕ) → a ++ (b ++ (c ++ (d ++ e))) ≡ ((a ++ (b ++ c)) ++ d) ++ e
 grouped_action a b c d e = sym (simp append_assoc)
 
-last_laid : (c : Bool) → laid (comma_behind_member {A = WrittenMember} c [] ++ printed.line_end ∷ []) ≡ (if c then codes "," else []) ++ line_end
+last_laid : (c : Bool) → laid (comma_behind_member {A = WrittenMember} c [] ++ printed.line_break ∷ []) ≡ (if c then codes "," else []) ++ line_end
 last_laid true = refl
 last_laid false = refl
 
@@ -133,11 +133,11 @@ module _ (closing : Bool) where
       let end : List ℕ = last_comma ++ line_end in
       let third : laid (members_pieces closing base last) ≡ at ++ (codes "context: " ++ (context_text closing (base + 2) context ++ end)) =
       ap (λ l. at ++ (codes "context: " ++ l))
-      (both (context_pieces closing (base + 2) (attributes_of_meaning context)) (comma_behind_member {A = WrittenMember} closing [] ++ printed.line_end ∷ []) (context_text closing (base + 2) context) end (context_laid (base + 2) context) (last_laid closing)) in
+      (both (context_pieces closing (base + 2) (attributes_of_meaning context)) (comma_behind_member {A = WrittenMember} closing [] ++ printed.line_break ∷ []) (context_text closing (base + 2) context) end (context_laid (base + 2) context) (last_laid closing)) in
       let more : laid (members_pieces closing base second) ≡ at ++ (codes "resource: " ++ (list_text (map name_text (r ∷ rs)) ++ (codes ",\n" ++ (at ++ (codes "context: " ++ (context_text closing (base + 2) context ++ end)))))) =
-      ap (λ l. at ++ (codes "resource: " ++ l)) (both (bracketed path_pieces (r ∷ rs)) (mark Comma (codes ",") ∷ printed.line_end ∷ members_pieces closing base last) (list_text (map name_text (r ∷ rs))) _ (paths_laid (r ∷ rs)) (ap (λ l. codes ",\n" ++ l) third)) in
+      ap (λ l. at ++ (codes "resource: " ++ l)) (both (bracketed path_pieces (r ∷ rs)) (mark Comma (codes ",") ∷ printed.line_break ∷ members_pieces closing base last) (list_text (map name_text (r ∷ rs))) _ (paths_laid (r ∷ rs)) (ap (λ l. codes ",\n" ++ l) third)) in
       let all : laid (members_pieces closing base (types Principal (p ∷ ps) ∷ second)) ≡ at ++ (codes "principal: " ++ (list_text (map name_text (p ∷ ps)) ++ (codes ",\n" ++ (at ++ (codes "resource: " ++ (list_text (map name_text (r ∷ rs)) ++ (codes ",\n" ++ (at ++ (codes "context: " ++ (context_text closing (base + 2) context ++ end)))))))))) =
-      ap (λ l. at ++ (codes "principal: " ++ l)) (both (bracketed path_pieces (p ∷ ps)) (mark Comma (codes ",") ∷ printed.line_end ∷ members_pieces closing base second) (list_text (map name_text (p ∷ ps))) _ (paths_laid (p ∷ ps)) (ap (λ l. codes ",\n" ++ l) more)) in
+      ap (λ l. at ++ (codes "principal: " ++ l)) (both (bracketed path_pieces (p ∷ ps)) (mark Comma (codes ",") ∷ printed.line_break ∷ members_pieces closing base second) (list_text (map name_text (p ∷ ps))) _ (paths_laid (p ∷ ps)) (ap (λ l. codes ",\n" ++ l) more)) in
       ap (λ l. codes " appliesTo {\n" ++ l) (both (members_pieces closing base (types Principal (p ∷ ps) ∷ second)) close _ (spaces base ++ codes "}") all refl
       ∙ regrouped at (codes "principal: ") (list_text (map name_text (p ∷ ps))) (codes ",\n") (codes "resource: ") (list_text (map name_text (r ∷ rs))) (codes "context: ") (context_text closing (base + 2) context) last_comma line_end (spaces base ++ codes "}"))
 
@@ -159,7 +159,7 @@ module _ (closing : Bool) where
   joined_laid : {A : Type 0} (f : A → List Piece) (xs : List A) → laid (joined_pieces f xs) ≡ joined_by line_end (map (λ x. laid (f x)) xs)
   joined_laid f [] = refl
   joined_laid f (x ∷ []) = refl
-  joined_laid f (x ∷ y ∷ xs) = laid-append (f x) (printed.line_end ∷ joined_pieces f (y ∷ xs)) ∙ ap (λ l. laid (f x) ++ (line_end ++ l)) (joined_laid f (y ∷ xs))
+  joined_laid f (x ∷ y ∷ xs) = laid-append (f x) (printed.line_break ∷ joined_pieces f (y ∷ xs)) ∙ ap (λ l. laid (f x) ++ (line_end ++ l)) (joined_laid f (y ∷ xs))
 
   entities_laid : (base : ℕ) (test : EntityMeaning → Bool) (es : List EntityMeaning) → map (λ d. laid (declared_pieces closing base d)) (map entity_of_meaning (filter test es)) ≡ map (entity_type_text closing base) (filter test es)
   entities_laid base test [] = refl
@@ -191,8 +191,8 @@ module _ (closing : Bool) where
   namespace_laid m [] = items_laid 0 m []
   namespace_laid m (c ∷ cs) =
       let inner = joined_pieces (declared_pieces closing 2) (items_of_meaning m (c ∷ cs)) in
-      ap (λ l. codes "namespace " ++ l) (both (path_pieces (c ∷ cs)) (space ∷ mark LBrace (codes "{") ∷ printed.line_end ∷ (inner ++ mark RBrace (codes "}") ∷ printed.line_end ∷ [])) (name_text (c ∷ cs)) _ (path_laid (c ∷ cs))
-      (ap (λ l. codes " {\n" ++ l) (both inner (mark RBrace (codes "}") ∷ printed.line_end ∷ []) (items_text closing 2 m (c ∷ cs)) (codes "}" ++ line_end) (items_laid 2 m (c ∷ cs)) refl)))
+      ap (λ l. codes "namespace " ++ l) (both (path_pieces (c ∷ cs)) (space ∷ mark LBrace (codes "{") ∷ printed.line_break ∷ (inner ++ mark RBrace (codes "}") ∷ printed.line_break ∷ [])) (name_text (c ∷ cs)) _ (path_laid (c ∷ cs))
+      (ap (λ l. codes " {\n" ++ l) (both inner (mark RBrace (codes "}") ∷ printed.line_break ∷ []) (items_text closing 2 m (c ∷ cs)) (codes "}" ++ line_end) (items_laid 2 m (c ∷ cs)) refl)))
 
   pub schema_laid : (m : SchemaMeaning) → laid (schema_pieces closing (groups_of_meaning m)) ≡ schema_text closing m
   schema_laid m =

@@ -10,8 +10,8 @@ use Rattle.schema_syntax_tokens.specs.Forms.{word_kind, IsForm}
 use Rattle.schema_syntax_tokens.specs.Quotes.{quoted, quoted_body}
 use Rattle.schema_syntax_tokens.specs.Laid.{Lexeme, Piece, gap, lexeme, lexemes_of, free, word, Follow, done, by_gap, by_blanks, by_lexeme}
 use Rattle.schema_readback.specs.Written.{WrittenType, WrittenAttributes, path, set, rec, no_more, attribute}
-use Rattle.schema_readback.specs.Spellings.{IsIdent, IsNameOf, bare, quoted as quoted_name, IsPathOf, one, more, IsTypeOf, path_type, set_type, record_type, IsRecordOf, braces, AreAttributesOf, no_attribute, last_attribute, more_attributes, IsAttributeOf, required, optional}
-use Rattle.schema_readback.specs.Printed.{mark, line_end, space, notes_pieces, name_lexeme, name_piece, path_pieces, comma_pieces, type_pieces, lines_pieces, IsProperPath, IsProperType, AreProperAttributes}
+use Rattle.schema_readback.specs.Spellings.{IsIdent, SpellsName, bare, quoted as quoted_name, SpellsPath, one, more, SpellsType, path_type, set_type, record_type, IsRecordOf, braces, AreAttributesOf, no_attribute, last_attribute, more_attributes, IsAttributeOf, required, optional}
+use Rattle.schema_readback.specs.Printed.{mark, line_break, space, notes_pieces, name_lexeme, name_piece, path_pieces, comma_pieces, type_pieces, lines_pieces, IsProperPath, IsProperType, AreProperAttributes}
 use Rattle.schema_syntax_reader.specs.Leaves.{Notes}
 use Rattle.schema_readback.proofs.PrintingNotes.{spell_notes, follow_notes}
 use Rattle.schema_readback.proofs.Following.{from_free, lexemes-append, follow_append, blank_spaces, one_space, one_line_end, by_indent, ident_kind_of, then_word, then_id}
@@ -19,7 +19,7 @@ use Rattle.schema_readback.proofs.Following.{from_free, lexemes-append, follow_a
 pub id_ident : (c : List ℕ) → is_id c ≡ true → IsIdent (record { kind = word_kind c; text = c })
 id_ident c h = record { ident = ident_kind_of c h; id = h }
 
-pub spells_path : (p : List (List ℕ)) → IsProperPath p → IsPathOf (lexemes_of (path_pieces p)) p
+pub spells_path : (p : List (List ℕ)) → IsProperPath p → SpellsPath (lexemes_of (path_pieces p)) p
 spells_path [] h = absurd h
 spells_path (c ∷ []) h = one (id_ident c h)
 spells_path (c ∷ d ∷ cs) h = more (id_ident c h.0) refl (spells_path (d ∷ cs) h.1)
@@ -30,30 +30,30 @@ follow_path (c ∷ []) h = then_id c h (done refl)
 follow_path (c ∷ d ∷ cs) h = then_id c h.0 (by_lexeme (inr (inl refl)) refl (follow_path (d ∷ cs) h.1))
 
 ended : (closing : Bool) (base : ℕ) (xs : WrittenAttributes) (u : List Lexeme) (ns : Notes) (n : List ℕ) (r : Bool) (t : WrittenType) → IsAttributeOf u ns n r t → AreAttributesOf (lexemes_of (lines_pieces closing base xs)) xs
-    → AreAttributesOf (u ++ lexemes_of (comma_pieces closing xs ++ line_end ∷ lines_pieces closing base xs)) (attribute ns n r t xs)
+    → AreAttributesOf (u ++ lexemes_of (comma_pieces closing xs ++ line_break ∷ lines_pieces closing base xs)) (attribute ns n r t xs)
 ended true base no_more u ns n r t h k = more_attributes (record { kind = Comma; text = codes "," }) h refl no_attribute
 ended false base no_more u ns n r t h k = subst (λ l. AreAttributesOf l (attribute ns n r t no_more)) (sym (append-nil u)) (last_attribute h)
 ended closing base (attribute ms m q s xs) u ns n r t h k = more_attributes (record { kind = Comma; text = codes "," }) h refl k
 
 -- the lexemes of an attribute's lines, with those of its own in front
 line_spelled : (closing : Bool) (base : ℕ) (ns : Notes) (head : List Lexeme) (t : WrittenType) (xs : WrittenAttributes) (P : List Lexeme → Type 0)
-    → P ((lexemes_of (notes_pieces (base + 2) ns) ++ (head ++ lexemes_of (type_pieces closing (base + 2) t))) ++ lexemes_of (comma_pieces closing xs ++ line_end ∷ lines_pieces closing base xs))
-    → (front : List Piece) → lexemes_of front ≡ head → P (lexemes_of (notes_pieces (base + 2) ns ++ (front ++ (type_pieces closing (base + 2) t ++ (comma_pieces closing xs ++ line_end ∷ lines_pieces closing base xs)))))
+    → P ((lexemes_of (notes_pieces (base + 2) ns) ++ (head ++ lexemes_of (type_pieces closing (base + 2) t))) ++ lexemes_of (comma_pieces closing xs ++ line_break ∷ lines_pieces closing base xs))
+    → (front : List Piece) → lexemes_of front ≡ head → P (lexemes_of (notes_pieces (base + 2) ns ++ (front ++ (type_pieces closing (base + 2) t ++ (comma_pieces closing xs ++ line_break ∷ lines_pieces closing base xs)))))
 line_spelled closing base ns head t xs P h front e =
     let notes = notes_pieces (base + 2) ns in
     let type = type_pieces closing (base + 2) t in
-    let tail = comma_pieces closing xs ++ line_end ∷ lines_pieces closing base xs in
+    let tail = comma_pieces closing xs ++ line_break ∷ lines_pieces closing base xs in
     let whole : lexemes_of (notes ++ (front ++ (type ++ tail))) ≡ (lexemes_of notes ++ (head ++ lexemes_of type)) ++ lexemes_of tail =
     lexemes-append notes (front ++ (type ++ tail))
     ∙ (ap (λ l. lexemes_of notes ++ l) (lexemes-append front (type ++ tail) ∙ (ap (λ l. l ++ lexemes_of (type ++ tail)) e ∙ (ap (λ l. head ++ l) (lexemes-append type tail) ∙ sym (append_assoc head (lexemes_of type) (lexemes_of tail)))))
     ∙ sym (append_assoc (lexemes_of notes) (head ++ lexemes_of type) (lexemes_of tail))) in
     subst P (sym whole) h
 
-comma_follows : (closing : Bool) (xs : WrittenAttributes) (ps : List Piece) → Follow free (line_end ∷ ps) → Follow word (comma_pieces closing xs ++ line_end ∷ ps)
+comma_follows : (closing : Bool) (xs : WrittenAttributes) (ps : List Piece) → Follow free (line_break ∷ ps) → Follow word (comma_pieces closing xs ++ line_break ∷ ps)
 comma_follows true no_more ps s = by_lexeme (inr (inl refl)) refl s
 comma_follows false no_more ps s = behind s
   where
-    behind : Follow free (line_end ∷ ps) → Follow word (line_end ∷ ps)
+    behind : Follow free (line_break ∷ ps) → Follow word (line_break ∷ ps)
     behind (by_gap g s) = by_gap g s
     behind (by_blanks g s) = by_gap g s
 comma_follows closing (attribute ns n r t xs) ps s = by_lexeme (inr (inl refl)) refl s
@@ -66,25 +66,25 @@ module _ (string_form : (cs : List ℕ) → IsForm (quoted cs) StringLit) (stand
         | inr h ↦ subst (λ x. Follow free (lexeme x ∷ ps)) (sym (cond-false (is_id n) _ _ h)) (by_lexeme (string_form n) refl (from_free s))
       ]
 
-  spells_name : (n : List ℕ) → IsNameOf (name_lexeme n) n
+  spells_name : (n : List ℕ) → SpellsName (name_lexeme n) n
   spells_name n =
       elim (cases_Bool (is_id n)) [
-        | inl h ↦ subst (λ x. IsNameOf x n) (sym (cond-true (is_id n) _ _ h)) (bare (id_ident n h))
-        | inr h ↦ subst (λ x. IsNameOf x n) (sym (cond-false (is_id n) _ _ h)) (quoted_name (quoted_body n) refl refl (stands_for n))
+        | inl h ↦ subst (λ x. SpellsName x n) (sym (cond-true (is_id n) _ _ h)) (bare (id_ident n h))
+        | inr h ↦ subst (λ x. SpellsName x n) (sym (cond-false (is_id n) _ _ h)) (quoted_name (quoted_body n) refl refl (stands_for n))
       ]
 
   mutual
-    pub spells_type : (closing : Bool) (base : ℕ) (t : WrittenType) → IsProperType t → IsTypeOf (lexemes_of (type_pieces closing base t)) t
+    pub spells_type : (closing : Bool) (base : ℕ) (t : WrittenType) → IsProperType t → SpellsType (lexemes_of (type_pieces closing base t)) t
     spells_type closing base (path p) h = path_type (spells_path p h)
     spells_type closing base (set t) h =
         let pieces = type_pieces closing base t in
         let close : Lexeme = record { kind = Greater; text = codes ">" } in
-        subst (λ l. IsTypeOf (record { kind = word_kind (codes "Set"); text = codes "Set" } ∷ record { kind = Less; text = codes "<" } ∷ l) (set t)) (sym (lexemes-append pieces (mark Greater (codes ">") ∷ [])))
+        subst (λ l. SpellsType (record { kind = word_kind (codes "Set"); text = codes "Set" } ∷ record { kind = Less; text = codes "<" } ∷ l) (set t)) (sym (lexemes-append pieces (mark Greater (codes ">") ∷ [])))
         (set_type close refl refl (spells_type closing base t h) refl)
     spells_type closing base (rec no_more) h = record_type (braces (record { kind = RBrace; text = codes "}" }) refl no_attribute refl)
     spells_type closing base (rec (attribute ns n r t xs)) h =
         let pieces = lines_pieces closing base (attribute ns n r t xs) in
-        subst (λ l. IsTypeOf (record { kind = LBrace; text = codes "{" } ∷ l) (rec (attribute ns n r t xs))) (sym (lexemes-append pieces (gap (spaces base) ∷ mark RBrace (codes "}") ∷ [])))
+        subst (λ l. SpellsType (record { kind = LBrace; text = codes "{" } ∷ l) (rec (attribute ns n r t xs))) (sym (lexemes-append pieces (gap (spaces base) ∷ mark RBrace (codes "}") ∷ [])))
         (record_type (braces (record { kind = RBrace; text = codes "}" }) refl (spells_lines closing base (attribute ns n r t xs) h) refl))
 
     pub spells_lines : (closing : Bool) (base : ℕ) (xs : WrittenAttributes) → AreProperAttributes xs → AreAttributesOf (lexemes_of (lines_pieces closing base xs)) xs
@@ -109,8 +109,8 @@ module _ (string_form : (cs : List ℕ) → IsForm (quoted cs) StringLit) (stand
 
   -- a type, and what stands behind it in its line and below
   line_follows : (closing : Bool) (base : ℕ) (t : WrittenType) (xs : WrittenAttributes) → Follow free (type_pieces closing (base + 2) t) → Follow free (lines_pieces closing base xs)
-      → Follow free (type_pieces closing (base + 2) t ++ (comma_pieces closing xs ++ line_end ∷ lines_pieces closing base xs))
-  line_follows closing base t xs h k = follow_append (comma_pieces closing xs ++ line_end ∷ lines_pieces closing base xs) h (comma_follows closing xs (lines_pieces closing base xs) (by_gap one_line_end k))
+      → Follow free (type_pieces closing (base + 2) t ++ (comma_pieces closing xs ++ line_break ∷ lines_pieces closing base xs))
+  line_follows closing base t xs h k = follow_append (comma_pieces closing xs ++ line_break ∷ lines_pieces closing base xs) h (comma_follows closing xs (lines_pieces closing base xs) (by_gap one_line_end k))
 
   mutual
     pub follow_type : (closing : Bool) (base : ℕ) (t : WrittenType) → IsProperType t → Follow free (type_pieces closing base t)

@@ -19,7 +19,7 @@ use Rattle.schema_syntax_tokens.specs.Forms.{IsForm}
 use Rattle.schema_syntax_tokens.specs.Quotes.{quoted, quoted_body}
 use Rattle.schema_syntax_tokens.specs.Laid.{Piece, lexemes_of, free, Follow, by_gap, by_blanks, by_lexeme}
 use Rattle.schema_syntax_reader.specs.Leaves.{Notes}
-use Rattle.schema_readback.specs.Notes.{Note, AreNotesOf, no_note, bare_note, valued_note, HaveOtherKeys, AreApart, SpellNotes}
+use Rattle.schema_readback.specs.Notes.{Note, AreNotesOf, no_note, bare_note, valued_note, HaveOtherNotes, AreApart, SpellNotes}
 use Rattle.schema_readback.specs.Printed.{notes_pieces, AreProperNotes}
 use Rattle.schema_readback.proofs.Following.{blank_spaces, one_line_end, then_word, word_kind_is}
 
@@ -43,7 +43,7 @@ keys notes = map (λ n. n.0.text) notes
 test_false : (a b : List ℕ) → a ≢ b → bytes_eq a b ≡ false
 test_false a b n = elim (cases_Bool (bytes_eq a b)) [ inl h ↦ absurd (n ((bytes_eq-Decides a b).0 h)) | inr h ↦ h ]
 
-other_keys : (n : NoteEntry) (notes : Notes) → AllByRecursion (λ k. text_cmp n.0.text k ≡ Less) (keys notes) → HaveOtherKeys (note_of n) (map note_of notes)
+other_keys : (n : NoteEntry) (notes : Notes) → AllByRecursion (λ k. text_cmp n.0.text k ≡ Less) (keys notes) → HaveOtherNotes (note_of n) (map note_of notes)
 other_keys n [] h = tt
 other_keys n (m ∷ notes) h = (less_apart n.0.text m.0.text h.0, other_keys n notes h.1)
 
@@ -55,7 +55,7 @@ abbrev IsFound : Notes → Note → Type 0
 IsFound notes n = lookup (λ key. bytes_eq key.text n.0) notes ≡ Some n.1
 
 -- a note that is found behind another one is found behind it too
-found_more : (n : NoteEntry) (notes : Notes) (ms : List Note) → HaveOtherKeys (note_of n) ms → AllByRecursion (IsFound notes) ms → AllByRecursion (IsFound (n ∷ notes)) ms
+found_more : (n : NoteEntry) (notes : Notes) (ms : List Note) → HaveOtherNotes (note_of n) ms → AllByRecursion (IsFound notes) ms → AllByRecursion (IsFound (n ∷ notes)) ms
 found_more n notes [] h f = tt
 found_more n notes (m ∷ ms) h f =
     (ap (λ t. cond t (Some n.1) (lookup (λ key. bytes_eq key.text m.0) notes)) (test_false n.0.text m.0 h.0) ∙ f.0, found_more n notes ms h.1 f.1)

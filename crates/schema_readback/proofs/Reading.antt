@@ -22,7 +22,7 @@ use Rattle.schema_syntax_reader.specs.Sites.{annotations, name_sites, names_site
 use Rattle.schema_syntax_reader.specs.Leaves.{Notes, AreNotes}
 use Rattle.schema_syntax_reader.specs.Trees as tree
 use Rattle.schema_readback.specs.Written.{WrittenType, WrittenAttributes, path, set, rec, no_more, attribute}
-use Rattle.schema_readback.specs.Spellings.{IsIdent, IsNameOf, IsPathOf, one, more, IsTypeOf, path_type, set_type, record_type, IsRecordOf, braces, AreAttributesOf, no_attribute, last_attribute, more_attributes, IsAttributeOf, required, optional}
+use Rattle.schema_readback.specs.Spellings.{IsIdent, SpellsName, SpellsPath, one, more, SpellsType, path_type, set_type, record_type, IsRecordOf, braces, AreAttributesOf, no_attribute, last_attribute, more_attributes, IsAttributeOf, required, optional}
 use Rattle.schema_readback.specs.Shows.{ShowsType, shows_path, shows_set, shows_record, shows_none, shows_more}
 use Rattle.schema_readback.specs.Reads.{IsFaultless, ReadsPath, ReadsType, ReadsAttributes, ReadsAttribute, ReadsNotes}
 use Rattle.schema_readback.proofs.ReadingNotes.{read_notes}
@@ -54,7 +54,7 @@ module _ (source : List ℕ) where
         lawful = All-append (IsFaultless source) (name_sites t) (names_sites r.words) (ident_site source t x s i) r.lawful;
       }
 
-  pub read_path : {u : List Lexeme} {p : List (List ℕ)} → IsPathOf u p → (ts : List Token) → Spells source ts u → ReadsPath source ts p
+  pub read_path : {u : List Lexeme} {p : List (List ℕ)} → SpellsPath u p → (ts : List Token) → Spells source ts u → ReadsPath source ts p
   read_path (one {x = x} i) [] s = absurd s
   read_path (one {x = x} i) (t ∷ []) s = path_one t x s.0 i
   read_path (one {x = x} i) (t ∷ c ∷ ts) s = absurd s.1
@@ -130,7 +130,7 @@ module _ (source : List ℕ) where
       }
 
   module _ (never_both : (body value : List ℕ) (at : ℕ) → Unescapes body value → BadEscape body at → ⊥) where
-    attribute_read : (a : List Token) (x : Token) (m : List Token) (c : Token) (u : List Token) (l : Lexeme) (ns : Notes) (n : List ℕ) (q : Bool) (t : WrittenType) → ReadsNotes source a ns → IsSpelled source x l → IsNameOf l n → IsMark m q → c.kind ≡ Colon → ReadsType source u t
+    attribute_read : (a : List Token) (x : Token) (m : List Token) (c : Token) (u : List Token) (l : Lexeme) (ns : Notes) (n : List ℕ) (q : Bool) (t : WrittenType) → ReadsNotes source a ns → IsSpelled source x l → SpellsName l n → IsMark m q → c.kind ≡ Colon → ReadsType source u t
         → ReadsAttribute source (a ++ x ∷ (m ++ c ∷ u)) ns n q t
     attribute_read a x m c u l ns n q t notes s is mark hc r =
         let loc = whole_place (x ∷ (m ++ c ∷ u)) in
@@ -160,7 +160,7 @@ module _ (source : List ℕ) where
         }
 
     mutual
-      pub read_type : {u : List Lexeme} {t : WrittenType} → IsTypeOf u t → (ts : List Token) → Spells source ts u → ReadsType source ts t
+      pub read_type : {u : List Lexeme} {t : WrittenType} → SpellsType u t → (ts : List Token) → Spells source ts u → ReadsType source ts t
       read_type (path_type {p = p} h) ts s = path_read ts p (read_path h ts s)
       read_type (set_type c hs ho h hc) [] s = absurd s
       read_type (set_type c hs ho h hc) (a ∷ []) s = absurd s.1

@@ -14,7 +14,7 @@ use Rattle.schema_syntax_parser.specs.declared.syntax.ItemSyntax.{ItemSyntax}
 use Rattle.schema_syntax_reader.specs.Sites.{Site, sites_of}
 use Rattle.schema_syntax_reader.specs.UserFaults.{IsLawful}
 use Rattle.schema_readback.specs.Written.{WrittenItem}
-use Rattle.schema_readback.specs.Spellings.{IsSchemaOf}
+use Rattle.schema_readback.specs.Spellings.{SpellsSchema}
 use Rattle.schema_readback.specs.Lexemes.{lexemes_at}
 use Rattle.schema_readback.specs.Shows.{SaysItem}
 use Rattle.schema_readback.specs.Reads.{IsFaultless, ReadsSchema}
@@ -29,7 +29,7 @@ faultless_at source (s ∷ front) site back h = faultless_at source front site b
 lawful_so : (source : List ℕ) (items : List ItemSyntax) → All (IsFaultless source) (sites_of items) → IsLawful source items
 lawful_so source items h fault end f = faultless_at source f.0 f.1 f.2 (subst (All (IsFaultless source)) f.3 h) fault end f.4
 
-pub reads_back : ((body value : List ℕ) (at : ℕ) → Unescapes body value → BadEscape body at → ⊥) → (text : List ℕ) (u : List Lexeme) (w : List WrittenItem) → IsReadAs text u → IsSchemaOf u w → ReadsBack text w
+pub reads_back : ((body value : List ℕ) (at : ℕ) → Unescapes body value → BadEscape body at → ⊥) → (text : List ℕ) (u : List Lexeme) (w : List WrittenItem) → IsReadAs text u → SpellsSchema u w → ReadsBack text w
 reads_back never_both text u w a h =
     let r = read_schema text never_both h a.tokens a.spells in
     record { tokens = a.tokens; scans = a.scans; items = r.syns; syntax = r.parsed; lawful = lawful_so text r.syns r.lawful; tree = r.nodes; is = r.are; says = r.says }

@@ -24,7 +24,7 @@ use Rattle.schema_syntax_reader.specs.Leaves.{Notes, word_at, IsNoteValue, HasNo
 use Rattle.schema_syntax_reader.specs.Sites.{annotations}
 use Rattle.schema_syntax_reader.specs.UserFaults.{IsBadEscapeAt, note_escape, duplicate}
 use Rattle.schema_readback.specs.Reads.{IsFaultless, ReadsNotes}
-use Rattle.schema_readback.specs.Notes.{Note, AreNotesOf, no_note, bare_note, valued_note, HaveOtherKeys, AreApart, AreArranged}
+use Rattle.schema_readback.specs.Notes.{Note, AreNotesOf, no_note, bare_note, valued_note, HaveOtherNotes, AreApart, AreArranged}
 use Rattle.schema_readback.proofs.Words.{word_ascii}
 
 -- a lexeme of a word's kind is a word
@@ -113,7 +113,7 @@ module _ (source : List ℕ) where
       All-cons (HasNote source notes) a syns (n.1, subst (λ w. lookup (λ key. bytes_eq key.text w) notes ≡ Some n.1) (sym z.0.0) h.0, z.0.1) (has_each notes syns ns z.1 h.1)
 
   -- the second of two with one key
-  other_key : (n : Note) (middle : List AnnotationSyntax) (second : AnnotationSyntax) (back : List AnnotationSyntax) (written : List Note) → AllZip IsNote (middle ++ second ∷ back) written → HaveOtherKeys n written → word_at source second.key ≡ n.0 → ⊥
+  other_key : (n : Note) (middle : List AnnotationSyntax) (second : AnnotationSyntax) (back : List AnnotationSyntax) (written : List Note) → AllZip IsNote (middle ++ second ∷ back) written → HaveOtherNotes n written → word_at source second.key ≡ n.0 → ⊥
   other_key n [] second back [] z h e = absurd z
   other_key n [] second back (m ∷ ms) z h e = h.0 (sym e ∙ z.0.0)
   other_key n (a ∷ middle) second back [] z h e = absurd z

@@ -39,7 +39,7 @@ use Rattle.schema_syntax_reader.specs.Sites.{Site, empty, annotations, site_of_k
 use Rattle.schema_syntax_reader.specs.UserFaults.{empty_list}
 use Rattle.schema_syntax_reader.specs.Trees as tree
 use Rattle.schema_readback.specs.Written.{no_more, WrittenRef, WrittenMember, types, context_path, context_record, entity, enum, external_entity, action, external_action, common, WrittenDeclared, namespace, outside}
-use Rattle.schema_readback.specs.Spellings.{IsChainOf, one, more, AreNamesOf, one_name, more_names, IsPathOf, AreSeparatedOf, no_item, last_item, more_items, AreListedOf, single_item, listed_items, AreManyOf, no_more_items, item_first, AreParentsOf, no_parent, some_parents, IsStringOf, a_string, IsRefOf, plain_ref, typed_ref, IsShapeOf, no_shape, bare_shape, equals_shape, AreTagsOf, no_tags, some_tags, IsMemberOf, types_of, path_context, record_context, AppliesOf, no_applies, some_applies, IsDeclOf, entity_of, enum_of, external_entity_of, action_of, external_action_of, common_of, IsDeclaredOf, declared_of, IsItemOf, namespace_of, outside_of, IsSchemaOf}
+use Rattle.schema_readback.specs.Spellings.{IsChainOf, one, more, AreNamesOf, one_name, more_names, SpellsPath, AreSeparatedOf, no_item, last_item, more_items, AreListedOf, single_item, listed_items, AreManyOf, no_more_items, item_first, AreParentsOf, no_parent, some_parents, IsStringOf, a_string, SpellsRef, plain_ref, typed_ref, SpellsShape, no_shape, bare_shape, equals_shape, SpellTags, no_tags, some_tags, IsMemberOf, types_of, path_context, record_context, SpellsApplies, no_applies, some_applies, SpellsDecl, entity_of, enum_of, external_entity_of, action_of, external_action_of, common_of, SpellsDeclared, declared_of, SpellsItem, namespace_of, outside_of, SpellsSchema}
 use Rattle.schema_readback.specs.Shows.{ShowsAttributes, shows_none, SaysPath, SaysId, SaysName, SaysChoice, SaysOptionalPath, SaysRef, SaysOptional, SaysTags, SaysShape, SaysMember, SaysApplies, SaysDecl, SaysDeclared, SaysItem}
 use Rattle.schema_readback.specs.Reads.{IsFaultless}
 use Rattle.schema_readback.specs.Said.{Said, SaidAll}
@@ -119,7 +119,7 @@ module _ (source : List ℕ) where
         record { written = r.written; spell = some_parents (sym s.0.0 ∙ k) r.spell; says = r.says }
 
   -- paths, references, strings and names
-  one_path : (ts : List Token) (p : PathSyntax) (n : Path) → IsPath ts p → tree.IsPathOf source p n → Faultless (path_sites p) → (u : List Lexeme) → Spells source ts u → Said SaysPath IsPathOf n u
+  one_path : (ts : List Token) (p : PathSyntax) (n : Path) → IsPath ts p → tree.IsPathOf source p n → Faultless (path_sites p) → (u : List Lexeme) → Spells source ts u → Said SaysPath SpellsPath n u
   one_path ts p n (grammar.path chain) is f u s = record { written = texts_of n.ids; spell = back_path source chain n.ids is.0 u s; says = refl }
 
   pub one_string : (ts : List Token) (t : Token) (n : Node Eid) → IsStringToken ts t → tree.IsChoice source t n → Faultless (name_sites t) → (u : List Lexeme) → Spells source ts u → Said SaysChoice IsStringOf n u
@@ -128,14 +128,14 @@ module _ (source : List ℕ) where
   one_string ts t n (grammar.string k) is f (x ∷ []) s = record { written = n.node.0; spell = a_string is.0.0 (sym s.0.0 ∙ k) (sym s.0.1 ∙ is.0.1) is.0.2; says = refl }
 
   plain_back : (t : Token) (n : Node QualName) (front : List Token) (last : Token) → t ∷ [] ≡ front ++ last ∷ [] → tree.IsNameOf source last.kind last n.node.eid → tree.IsTypeOfRef source front n.node.path → is_name_kind t.kind ≡ true → IsFaultless source (site_of_kind t.kind t) → (x : Lexeme) → IsSpelled source t x
-      → Said SaysRef IsRefOf n (x ∷ [])
+      → Said SaysRef SpellsRef n (x ∷ [])
   plain_back t n [] last e name ty h f x s =
       let same : t ≡ last = cc in
       let id = name_back source t x t.kind n.node.eid refl s h (subst (λ q. tree.IsNameOf source q.kind q n.node.eid) (sym same) name) f in
       record { written = record { ty = None; id = n.node.eid }; spell = plain_ref id; says = (subst (λ p. SaysOptionalPath p None) (sym ty) tt, refl) }
   plain_back t n (a ∷ front) last e name ty h f x s = let g : [] ≡ front ++ last ∷ [] = cc in absurd (nothing_is front last [] g)
 
-  typed_by : {ts ws : List Token} → IsChain PathSep is_ident ts ws → (found : Option Path) → tree.IsTypeOfRef source ws found → (u : List Lexeme) → Spells source ts u → (names : List (List ℕ)) × IsPathOf u names × SaysOptionalPath found (Some names)
+  typed_by : {ts ws : List Token} → IsChain PathSep is_ident ts ws → (found : Option Path) → tree.IsTypeOfRef source ws found → (u : List Lexeme) → Spells source ts u → (names : List (List ℕ)) × SpellsPath u names × SaysOptionalPath found (Some names)
   typed_by (grammar.one h) None ty u s = absurd ty
   typed_by (grammar.more h k r) None ty u s = absurd ty
   typed_by (grammar.one {t = t} h) (Some p) ty u s = (texts_of p.ids, back_path source (grammar.one {t = t} h) p.ids ty.0 u s, refl)
@@ -144,7 +144,7 @@ module _ (source : List ℕ) where
   string_of : (k : TokenKind) (t : Token) (v : List ℕ) → k ≡ StringLit → tree.IsNameOf source k t v → tree.IsNameOf source StringLit t v
   string_of k t v e h = subst (λ x. tree.IsNameOf source x t v) e h
 
-  one_ref : (ts : List Token) (p : PathSyntax) (n : Node QualName) → IsRef ts p → tree.IsRefOf source p n → Faultless (path_sites p) → (u : List Lexeme) → Spells source ts u → Said SaysRef IsRefOf n u
+  one_ref : (ts : List Token) (p : PathSyntax) (n : Node QualName) → IsRef ts p → tree.IsRefOf source p n → Faultless (path_sites p) → (u : List Lexeme) → Spells source ts u → Said SaysRef SpellsRef n u
   one_ref ts p n (grammar.plain h) is f [] s = absurd s
   one_ref ts p n (grammar.plain h) is f (x ∷ y ∷ u) s = absurd s.1
   one_ref ts p n (grammar.plain {t = t} h) is f (x ∷ []) s = plain_back t n is.0 is.1 is.2 is.3 is.4 h (All-head (IsFaultless source) (site_of_kind t.kind t) [] f) x s.0
@@ -159,7 +159,7 @@ module _ (source : List ℕ) where
       let r : WrittenRef = record { ty = Some ty.0; id = n.node.eid } in
       record {
         written = r;
-        spell = subst (λ l. IsRefOf l r) (sym whole) (typed_ref b.lexeme d.lexeme id.0 ty.1 (sym b.is.0 ∙ k) (sym d.is.0 ∙ kq) (sym d.is.1 ∙ id.1) id.2);
+        spell = subst (λ l. SpellsRef l r) (sym whole) (typed_ref b.lexeme d.lexeme id.0 ty.1 (sym b.is.0 ∙ k) (sym d.is.0 ∙ kq) (sym d.is.1 ∙ id.1) id.2);
         says = (ty.2, refl);
       }
 
@@ -194,15 +194,15 @@ module _ (source : List ℕ) where
       record { written = n.node ∷ o.written; spell = more_names (name_back source t x t.kind n.node refl s.0 h z.0.0 (All-head (IsFaultless source) (site_of_kind t.kind t) (names_sites ws) f)) (sym s.1.0.0 ∙ k) o.spell; says = (refl, o.says) }
 
   -- attributes, tags, members
-  back_shape : {ts : List Token} {x : Option (List AttrSyntax × Span)} → IsShape ts x → (n : Node (List (Node (Annotated AttrDecl)))) → tree.IsShapeOf source x n → Faultless (shape_sites x) → (u : List Lexeme) → Spells source ts u → Said SaysShape IsShapeOf n u
+  back_shape : {ts : List Token} {x : Option (List AttrSyntax × Span)} → IsShape ts x → (n : Node (List (Node (Annotated AttrDecl)))) → tree.IsShapeOf source x n → Faultless (shape_sites x) → (u : List Lexeme) → Spells source ts u → Said SaysShape SpellsShape n u
   back_shape grammar.no_shape n is f u s =
-      record { written = no_more; spell = subst (λ l. IsShapeOf l no_more) (sym (no_lexeme source u s)) no_shape; says = subst (λ l. ShowsAttributes l no_more) (sym is.0) shows_none }
+      record { written = no_more; spell = subst (λ l. SpellsShape l no_more) (sym (no_lexeme source u s)) no_shape; says = subst (λ l. ShowsAttributes l no_more) (sym is.0) shows_none }
   back_shape (grammar.bare_shape h) n is f u s = let r = back_record source (back_notes source) h n.node is.0 f u s in record { written = r.written; spell = bare_shape r.spell; says = r.shows }
   back_shape (grammar.equals_shape k h) n is f [] s = absurd s
   back_shape (grammar.equals_shape k h) n is f (x ∷ u) s = let r = back_record source (back_notes source) h n.node is.0 f u s.1 in record { written = r.written; spell = equals_shape (sym s.0.0 ∙ k) r.spell; says = r.shows }
 
-  back_tags : {ts : List Token} {x : Option TypeSyntax} → AreTags ts x → (n : Option (Node «Type»)) → tree.AreTagsOf source x n → Faultless (tags_sites x) → (u : List Lexeme) → Spells source ts u → Said SaysTags AreTagsOf n u
-  back_tags grammar.no_tags n is f u s = record { written = None; spell = subst (λ l. AreTagsOf l None) (sym (no_lexeme source u s)) no_tags; says = subst (λ l. SaysTags l None) (sym is) tt }
+  back_tags : {ts : List Token} {x : Option TypeSyntax} → AreTags ts x → (n : Option (Node «Type»)) → tree.AreTagsOf source x n → Faultless (tags_sites x) → (u : List Lexeme) → Spells source ts u → Said SaysTags SpellTags n u
+  back_tags grammar.no_tags n is f u s = record { written = None; spell = subst (λ l. SpellTags l None) (sym (no_lexeme source u s)) no_tags; says = subst (λ l. SaysTags l None) (sym is) tt }
   back_tags (grammar.some_tags k h) None is f u s = absurd is
   back_tags (grammar.some_tags k h) (Some n) is f [] s = absurd s
   back_tags (grammar.some_tags k h) (Some n) is f (x ∷ u) s = let r = back_type source (back_notes source) h n is f u s.1 in record { written = Some r.written; spell = some_tags (sym s.0.0 ∙ k) r.spell; says = r.shows }
@@ -228,7 +228,7 @@ module _ (source : List ℕ) where
   one_app ts a n (grammar.types hr hc h) is f (x ∷ []) s = absurd s.1
   one_app ts a n (grammar.types {w = w} {ps = ps} hr hc h) is f (x ∷ y ∷ u) s =
       let o = optional_back (tree.IsPathOf source) SaysPath ps is.0 is.2 in
-      let r = back_listed IsPathOf IsPath (tree.IsPathOf source) SaysPath path_sites one_path h o.0 o.1 f u s.1.1 in
+      let r = back_listed SpellsPath IsPath (tree.IsPathOf source) SaysPath path_sites one_path h o.0 o.1 f u s.1.1 in
       record {
         written = types (tree.role_of x.kind) r.written;
         spell = types_of (ap is_role (sym s.0.0) ∙ hr) (sym s.1.0.0 ∙ hc) r.spell;
@@ -257,12 +257,12 @@ module _ (source : List ℕ) where
       has_one a xs (n ∷ ns) [] z says = absurd says
       has_one a xs (n ∷ ns) (m ∷ ms) z says = tt
 
-  applies_spelled : (w o : Lexeme) (c : Lexeme) (u : List Lexeme) (ms : List WrittenMember) → w.kind ≡ KwAppliesTo → o.kind ≡ LBrace → AreSeparatedOf IsMemberOf u ms → HasOne ms → c.kind ≡ RBrace → AppliesOf (w ∷ o ∷ (u ++ c ∷ [])) (Some ms)
+  applies_spelled : (w o : Lexeme) (c : Lexeme) (u : List Lexeme) (ms : List WrittenMember) → w.kind ≡ KwAppliesTo → o.kind ≡ LBrace → AreSeparatedOf IsMemberOf u ms → HasOne ms → c.kind ≡ RBrace → SpellsApplies (w ∷ o ∷ (u ++ c ∷ [])) (Some ms)
   applies_spelled w o c u [] kw ko h some kc = absurd some
   applies_spelled w o c u (m ∷ ms) kw ko h some kc = some_applies c kw ko h kc
 
-  back_applies : {ts : List Token} {x : Option (List AppSyntax × Span)} → Applies ts x → (n : Option (Node (List (Node AppDecl)))) → tree.AppliesOf source x n → Faultless (applies_sites x) → (u : List Lexeme) → Spells source ts u → Said SaysApplies AppliesOf n u
-  back_applies grammar.no_applies n is f u s = record { written = None; spell = subst (λ l. AppliesOf l None) (sym (no_lexeme source u s)) no_applies; says = subst (λ l. SaysApplies l None) (sym is) tt }
+  back_applies : {ts : List Token} {x : Option (List AppSyntax × Span)} → Applies ts x → (n : Option (Node (List (Node AppDecl)))) → tree.AppliesOf source x n → Faultless (applies_sites x) → (u : List Lexeme) → Spells source ts u → Said SaysApplies SpellsApplies n u
+  back_applies grammar.no_applies n is f u s = record { written = None; spell = subst (λ l. SpellsApplies l None) (sym (no_lexeme source u s)) no_applies; says = subst (λ l. SaysApplies l None) (sym is) tt }
   back_applies (grammar.some_applies c kw ko h kc) None is f u s = absurd is
   back_applies (grammar.some_applies c kw ko h kc) (Some n) is f [] s = absurd s
   back_applies (grammar.some_applies c kw ko h kc) (Some n) is f (x ∷ []) s = absurd s.1
@@ -271,7 +271,7 @@ module _ (source : List ℕ) where
       let r = applies_back h n.node is.0 (whole_place (o ∷ (us ++ c ∷ []))) f k.left k.first in
       record {
         written = Some r.written;
-        spell = subst (λ l. AppliesOf (x ∷ y ∷ l) (Some r.written)) (sym k.whole) (applies_spelled x y k.lexeme k.left r.written (sym s.0.0 ∙ kw) (sym s.1.0.0 ∙ ko) r.spell.0 r.spell.1 (sym k.is.0 ∙ kc));
+        spell = subst (λ l. SpellsApplies (x ∷ y ∷ l) (Some r.written)) (sym k.whole) (applies_spelled x y k.lexeme k.left r.written (sym s.0.0 ∙ kw) (sym s.1.0.0 ∙ ko) r.spell.0 r.spell.1 (sym k.is.0 ∙ kc));
         says = r.says;
       }
 
@@ -288,17 +288,17 @@ module _ (source : List ℕ) where
       has_one a xs (n ∷ ns) (m ∷ ms) z says = tt
 
   enum_spelled : (e : Lexeme) (i : List Lexeme) (n o : Lexeme) (h : List Lexeme) (c z : Lexeme) (names choices : List (List ℕ)) → e.kind ≡ KwEntity → IsChainOf Comma i names → n.kind ≡ KwEnum → o.kind ≡ LBracket → AreSeparatedOf IsStringOf h choices → HasOne choices → c.kind ≡ RBracket → z.kind ≡ Semi
-      → IsDeclOf (e ∷ (i ++ n ∷ o ∷ (h ++ c ∷ z ∷ []))) (enum names choices)
+      → SpellsDecl (e ∷ (i ++ n ∷ o ∷ (h ++ c ∷ z ∷ []))) (enum names choices)
   enum_spelled e i n o h c z names [] ke hi kn ko hs some kc kz = absurd some
   enum_spelled e i n o h c z names (a ∷ choices) ke hi kn ko hs some kc kz = enum_of n o c z ke hi kn ko hs kc kz
 
-  paths_back : {ts : List Token} {ss : List PathSyntax} → AreParents IsPath ts ss → (ns : List Path) → AllZip (tree.IsPathOf source) ss ns → Faultless (paths_sites ss) → (u : List Lexeme) → Spells source ts u → SaidAll SaysPath (AreParentsOf IsPathOf u) ns
-  paths_back = back_parents IsPathOf IsPath (tree.IsPathOf source) SaysPath path_sites one_path
+  paths_back : {ts : List Token} {ss : List PathSyntax} → AreParents IsPath ts ss → (ns : List Path) → AllZip (tree.IsPathOf source) ss ns → Faultless (paths_sites ss) → (u : List Lexeme) → Spells source ts u → SaidAll SaysPath (AreParentsOf SpellsPath u) ns
+  paths_back = back_parents SpellsPath IsPath (tree.IsPathOf source) SaysPath path_sites one_path
 
-  refs_back : {ts : List Token} {ss : List PathSyntax} → AreParents IsRef ts ss → (ns : List (Node QualName)) → AllZip (tree.IsRefOf source) ss ns → Faultless (paths_sites ss) → (u : List Lexeme) → Spells source ts u → SaidAll SaysRef (AreParentsOf IsRefOf u) ns
-  refs_back = back_parents IsRefOf IsRef (tree.IsRefOf source) SaysRef path_sites one_ref
+  refs_back : {ts : List Token} {ss : List PathSyntax} → AreParents IsRef ts ss → (ns : List (Node QualName)) → AllZip (tree.IsRefOf source) ss ns → Faultless (paths_sites ss) → (u : List Lexeme) → Spells source ts u → SaidAll SaysRef (AreParentsOf SpellsRef u) ns
+  refs_back = back_parents SpellsRef IsRef (tree.IsRefOf source) SaysRef path_sites one_ref
 
-  back_decl : {ts : List Token} {d : DeclSyntax} → IsDecl ts d → (n : Declaration) → tree.IsDeclOf source d n → Faultless (decl_sites d) → (u : List Lexeme) → Spells source ts u → Said SaysDecl IsDeclOf n u
+  back_decl : {ts : List Token} {d : DeclSyntax} → IsDecl ts d → (n : Declaration) → tree.IsDeclOf source d n → Faultless (decl_sites d) → (u : List Lexeme) → Spells source ts u → Said SaysDecl SpellsDecl n u
   back_decl (grammar.entity_decl {e = e} z {i = i} {p = p} {s = h} {t = t} {names = ws} {parents = ps} {shape = x} {tags = y} ke hi hp hs ht kz) (declaration.Entity (entity_decl.Standard d)) is f [] s = absurd s
   back_decl (grammar.entity_decl {e = e} z {i = i} {p = p} {s = h} {t = t} {names = ws} {parents = ps} {shape = x} {tags = y} ke hi hp hs ht kz) (declaration.Entity (entity_decl.Standard d)) is f (a ∷ u) s =
       let f1 = all_right (IsFaultless source) (names_sites ws) (paths_sites ps ++ (shape_sites x ++ tags_sites y)) f in
@@ -314,7 +314,7 @@ module _ (source : List ℕ) where
       let whole : u ≡ b.left ++ (c.left ++ (g.left ++ (k.left ++ k.lexeme ∷ []))) = b.whole ∙ ap (λ l. b.left ++ l) (c.whole ∙ ap (λ l. c.left ++ l) (g.whole ∙ ap (λ l. g.left ++ l) k.whole)) in
       record {
         written = entity rn.written rp.written rs.written rt.written;
-        spell = subst (λ l. IsDeclOf (a ∷ l) (entity rn.written rp.written rs.written rt.written)) (sym whole) (entity_of k.lexeme (sym s.0.0 ∙ ke) rn.spell rp.spell rs.spell rt.spell (sym k.is.0 ∙ kz));
+        spell = subst (λ l. SpellsDecl (a ∷ l) (entity rn.written rp.written rs.written rt.written)) (sym whole) (entity_of k.lexeme (sym s.0.0 ∙ ke) rn.spell rp.spell rs.spell rt.spell (sym k.is.0 ∙ kz));
         says = (rn.says, rp.says, rs.says, rt.says);
       }
   back_decl (grammar.entity_decl z ke hi hp hs ht kz) _ is f u s = absurd is
@@ -333,7 +333,7 @@ module _ (source : List ℕ) where
       b.whole ∙ ap (λ q. b.left ++ b.lexeme ∷ q) (one_o ∙ ap (λ q. g.lexeme ∷ q) (k.whole ∙ ap (λ q. k.left ++ k.lexeme ∷ q) one_z)) in
       record {
         written = enum rn.written rc.written;
-        spell = subst (λ q. IsDeclOf (a ∷ q) (enum rn.written rc.written)) (sym whole)
+        spell = subst (λ q. SpellsDecl (a ∷ q) (enum rn.written rc.written)) (sym whole)
             (enum_spelled a b.left b.lexeme g.lexeme k.left k.lexeme l.lexeme rn.written rc.written (sym s.0.0 ∙ ke) rn.spell (sym b.is.0 ∙ kn) (sym g.is.0 ∙ ko) rc.spell.0 rc.spell.1 (sym k.is.0 ∙ kc) (sym l.is.0 ∙ kz));
         says = (rn.says, rc.says);
       }
@@ -347,7 +347,7 @@ module _ (source : List ℕ) where
       let rp = paths_back hp d.member_of_types is.1 (all_right (IsFaultless source) (names_sites ws) (paths_sites ps) f) k.left k.first in
       record {
         written = external_entity rn.written rp.written;
-        spell = subst (λ q. IsDeclOf (a ∷ e ∷ q) (external_entity rn.written rp.written)) (sym (b.whole ∙ ap (λ q. b.left ++ q) k.whole)) (external_entity_of k.lexeme (sym s.0.0 ∙ kx) (sym s.1.0.0 ∙ ke) rn.spell rp.spell (sym k.is.0 ∙ kz));
+        spell = subst (λ q. SpellsDecl (a ∷ e ∷ q) (external_entity rn.written rp.written)) (sym (b.whole ∙ ap (λ q. b.left ++ q) k.whole)) (external_entity_of k.lexeme (sym s.0.0 ∙ kx) (sym s.1.0.0 ∙ ke) rn.spell rp.spell (sym k.is.0 ∙ kz));
         says = (rn.says, rp.says);
       }
   back_decl (grammar.external_entity z kx ke hi hp kz) _ is f u s = absurd is
@@ -363,7 +363,7 @@ module _ (source : List ℕ) where
       let rs = back_applies hs d.app_decls is.2 (all_right (IsFaultless source) (paths_sites ps) (applies_sites x) f1) k.left k.first in
       record {
         written = action rn.written rp.written rs.written;
-        spell = subst (λ q. IsDeclOf (a ∷ q) (action rn.written rp.written rs.written)) (sym (b.whole ∙ ap (λ q. b.left ++ q) (c.whole ∙ ap (λ q. c.left ++ q) k.whole))) (action_of k.lexeme (sym s.0.0 ∙ ka) rn.spell rp.spell rs.spell (sym k.is.0 ∙ kz));
+        spell = subst (λ q. SpellsDecl (a ∷ q) (action rn.written rp.written rs.written)) (sym (b.whole ∙ ap (λ q. b.left ++ q) (c.whole ∙ ap (λ q. c.left ++ q) k.whole))) (action_of k.lexeme (sym s.0.0 ∙ ka) rn.spell rp.spell rs.spell (sym k.is.0 ∙ kz));
         says = (rn.says, o.2 rp.written rp.says, rs.says);
       }
   back_decl (grammar.action_decl z ka hn hr hs kz) _ is f u s = absurd is
@@ -377,7 +377,7 @@ module _ (source : List ℕ) where
       let rp = refs_back hr o.0 o.1 (all_right (IsFaultless source) (names_sites ws) (paths_sites ps) f) k.left k.first in
       record {
         written = external_action rn.written rp.written;
-        spell = subst (λ q. IsDeclOf (a ∷ e ∷ q) (external_action rn.written rp.written)) (sym (b.whole ∙ ap (λ q. b.left ++ q) k.whole)) (external_action_of k.lexeme (sym s.0.0 ∙ kx) (sym s.1.0.0 ∙ ka) rn.spell rp.spell (sym k.is.0 ∙ kz));
+        spell = subst (λ q. SpellsDecl (a ∷ e ∷ q) (external_action rn.written rp.written)) (sym (b.whole ∙ ap (λ q. b.left ++ q) k.whole)) (external_action_of k.lexeme (sym s.0.0 ∙ kx) (sym s.1.0.0 ∙ ka) rn.spell rp.spell (sym k.is.0 ∙ kz));
         says = (rn.says, o.2 rp.written rp.says);
       }
   back_decl (grammar.external_action z kx ka hn hr kz) _ is f u s = absurd is
@@ -390,20 +390,20 @@ module _ (source : List ℕ) where
       let r = back_type source (back_notes source) h d.def is.1 (all_right (IsFaultless source) (name_sites n) (sites_of_type t) f) k.left k.first in
       record {
         written = common x.text r.written;
-        spell = subst (λ q. IsDeclOf (a ∷ x ∷ e ∷ q) (common x.text r.written)) (sym k.whole) (common_of k.lexeme (sym s.0.0 ∙ kw) i.0 (sym s.1.1.0.0 ∙ ke) r.spell (sym k.is.0 ∙ kz));
+        spell = subst (λ q. SpellsDecl (a ∷ x ∷ e ∷ q) (common x.text r.written)) (sym k.whole) (common_of k.lexeme (sym s.0.0 ∙ kw) i.0 (sym s.1.1.0.0 ∙ ke) r.spell (sym k.is.0 ∙ kz));
         says = (sym i.1, r.shows);
       }
   back_decl (grammar.common_decl z kw hn ke h kz) _ is f u s = absurd is
 
-  one_declared : (ts : List Token) (d : DeclaredSyntax) (n : Annotated (Node Declaration)) → IsDeclared ts d → tree.IsDeclaredOf source d n → Faultless (declared_sites d) → (u : List Lexeme) → Spells source ts u → Said SaysDeclared IsDeclaredOf n u
+  one_declared : (ts : List Token) (d : DeclaredSyntax) (n : Annotated (Node Declaration)) → IsDeclared ts d → tree.IsDeclaredOf source d n → Faultless (declared_sites d) → (u : List Lexeme) → Spells source ts u → Said SaysDeclared SpellsDeclared n u
   one_declared ts d n (grammar.declared {a = as'} {u = us} {xs = xs} {d = e} ha h) is f u s =
       let b = unsplit source as' us u s in
       let notes = back_notes source as' xs n.annotations.0 b.left ha is.2 (All-head (IsFaultless source) (annotations xs) (decl_sites e) f) b.first in
       let r = back_decl h n.item.node is.0 (All-tail (IsFaultless source) (annotations xs) (decl_sites e) f) b.right b.second in
       let w : WrittenDeclared = record { notes = n.annotations.0; decl = r.written } in
-      record { written = w; spell = subst (λ l. IsDeclaredOf l w) (sym b.whole) (declared_of notes r.spell); says = (r.says, refl) }
+      record { written = w; spell = subst (λ l. SpellsDeclared l w) (sym b.whole) (declared_of notes r.spell); says = (r.says, refl) }
 
-  one_item : (ts : List Token) (i : ItemSyntax) (n : Annotated Namespace) → IsItem ts i → tree.IsItemOf source i n → Faultless (item_sites i) → (u : List Lexeme) → Spells source ts u → Said SaysItem IsItemOf n u
+  one_item : (ts : List Token) (i : ItemSyntax) (n : Annotated Namespace) → IsItem ts i → tree.IsItemOf source i n → Faultless (item_sites i) → (u : List Lexeme) → Spells source ts u → Said SaysItem SpellsItem n u
   one_item ts i n (grammar.namespace k o c {a = as'} {p = p} {u = us} {xs = xs} {name = name} {ds = ds} ha kn hp ko hd kc) is f u s =
       let f1 = All-tail (IsFaultless source) (annotations xs) (path_sites name ++ flat_map declared_sites ds) f in
       let b = unbetween source as' k (p ++ o ∷ (us ++ c ∷ [])) u s in
@@ -411,10 +411,10 @@ module _ (source : List ℕ) where
       let l = unclosed source us c g.right g.second in
       let notes = back_notes source as' xs n.annotations.0 b.left ha is.5 (All-head (IsFaultless source) (annotations xs) (path_sites name ++ flat_map declared_sites ds) f) b.first in
       let rp = one_path p name is.0 hp is.3 (all_left (IsFaultless source) (path_sites name) (flat_map declared_sites ds) f1) g.left g.first in
-      let rd = back_many IsDeclaredOf IsDeclared (tree.IsDeclaredOf source) SaysDeclared declared_sites one_declared hd is.1 is.4 (all_right (IsFaultless source) (path_sites name) (flat_map declared_sites ds) f1) l.left l.first in
+      let rd = back_many SpellsDeclared IsDeclared (tree.IsDeclaredOf source) SaysDeclared declared_sites one_declared hd is.1 is.4 (all_right (IsFaultless source) (path_sites name) (flat_map declared_sites ds) f1) l.left l.first in
       record {
         written = namespace n.annotations.0 rp.written rd.written;
-        spell = subst (λ q. IsItemOf q (namespace n.annotations.0 rp.written rd.written)) (sym (b.whole ∙ ap (λ q. b.left ++ b.lexeme ∷ q) (g.whole ∙ ap (λ q. g.left ++ g.lexeme ∷ q) l.whole)))
+        spell = subst (λ q. SpellsItem q (namespace n.annotations.0 rp.written rd.written)) (sym (b.whole ∙ ap (λ q. b.left ++ b.lexeme ∷ q) (g.whole ∙ ap (λ q. g.left ++ g.lexeme ∷ q) l.whole)))
             (namespace_of b.lexeme g.lexeme l.lexeme notes (sym b.is.0 ∙ kn) rp.spell (sym g.is.0 ∙ ko) rd.spell (sym l.is.0 ∙ kc));
         says = (subst (λ (x : Namespace). SaysOptionalPath x.name (Some rp.written)) (sym is.2) rp.says, subst (λ (x : Namespace). AllZip SaysDeclared x.decls rd.written) (sym is.2) rd.says, refl);
       }
@@ -426,5 +426,5 @@ module _ (source : List ℕ) where
         says = subst (λ (x : Annotated Namespace). SaysItem x (outside r.written)) (sym is.1) (refl, (r.says, tt), refl);
       }
 
-  pub back_schema : {ts : List Token} {items : List ItemSyntax} → IsSyntax ts items → (ns : List (Annotated Namespace)) → tree.IsTreeOf source items ns → Faultless (flat_map item_sites items) → (u : List Lexeme) → Spells source ts u → SaidAll SaysItem (IsSchemaOf u) ns
-  back_schema = back_many IsItemOf IsItem (tree.IsItemOf source) SaysItem item_sites one_item
+  pub back_schema : {ts : List Token} {items : List ItemSyntax} → IsSyntax ts items → (ns : List (Annotated Namespace)) → tree.IsTreeOf source items ns → Faultless (flat_map item_sites items) → (u : List Lexeme) → Spells source ts u → SaidAll SaysItem (SpellsSchema u) ns
+  back_schema = back_many SpellsItem IsItem (tree.IsItemOf source) SaysItem item_sites one_item

@@ -18,7 +18,7 @@ use Rattle.schema_syntax_reader.specs.Leaves.{Notes, word_at, IsNoteValue, HasNo
 use Rattle.schema_syntax_reader.specs.Sites.{annotations}
 use Rattle.schema_syntax_reader.specs.UserFaults.{IsOtherKey, duplicate}
 use Rattle.schema_readback.specs.Reads.{IsFaultless}
-use Rattle.schema_readback.specs.Notes.{Note, AreNotesOf, no_note, bare_note, valued_note, HaveOtherKeys, AreApart, SpellNotes}
+use Rattle.schema_readback.specs.Notes.{Note, AreNotesOf, no_note, bare_note, valued_note, HaveOtherNotes, AreApart, SpellNotes}
 use Rattle.schema_readback.proofs.ReadingNotes.{key_here, form_word, word_test}
 
 module _ (source : List ℕ) where
@@ -148,7 +148,7 @@ module _ (source : List ℕ) where
   all_words (a ∷ syns) [] z = absurd z
   all_words (a ∷ syns) (n ∷ ns) z = All-cons (λ b. words.is_word (word_at source b.key) ≡ true) a syns z.0.1 (all_words syns ns z.1)
 
-  other_notes : (n : Note) (a : AnnotationSyntax) → word_at source a.key ≡ n.0 → (syns : List AnnotationSyntax) (written : List Note) → AllZip Is syns written → All (IsOtherKey source (word_at source a.key)) syns → HaveOtherKeys n written
+  other_notes : (n : Note) (a : AnnotationSyntax) → word_at source a.key ≡ n.0 → (syns : List AnnotationSyntax) (written : List Note) → AllZip Is syns written → All (IsOtherKey source (word_at source a.key)) syns → HaveOtherNotes n written
   other_notes n a e [] [] z h = tt
   other_notes n a e [] (m ∷ ms) z h = absurd z
   other_notes n a e (b ∷ syns) [] z h = absurd z

@@ -35,7 +35,7 @@ use Rattle.schema_syntax_reader.specs.UserFaults.{reserved}
 use Rattle.schema_syntax_reader.specs.Trees as tree
 use Rattle.schema_readback.specs.Written.{WrittenType, WrittenAttributes, path, set, rec, no_more, attribute}
 use Rattle.schema_readback.specs.Notes.{SpellNotes}
-use Rattle.schema_readback.specs.Spellings.{IsIdent, IsNameOf, bare, quoted, IsPathOf, one, more, IsTypeOf, path_type, set_type, record_type, IsRecordOf, braces, AreAttributesOf, no_attribute, last_attribute, more_attributes, IsAttributeOf, required, optional}
+use Rattle.schema_readback.specs.Spellings.{IsIdent, SpellsName, bare, quoted, SpellsPath, one, more, SpellsType, path_type, set_type, record_type, IsRecordOf, braces, AreAttributesOf, no_attribute, last_attribute, more_attributes, IsAttributeOf, required, optional}
 use Rattle.schema_readback.specs.Shows.{ShowsType, shows_path, shows_set, shows_record, ShowsAttributes, shows_none, shows_more}
 use Rattle.schema_readback.specs.Reads.{IsFaultless}
 use Rattle.schema_readback.specs.Said.{SaidType, SaidAttributes}
@@ -78,39 +78,39 @@ module _ (source : List ℕ) where
       let text : x.text ≡ i.text = sym (key_here source t x s (ident_word x.kind kind)) ∙ sym e in
       (record { ident = kind; id = ap is_id text ∙ i.word }, text)
 
-  pub back_path : {ts ws : List Token} → IsChain PathSep is_ident ts ws → (ids : List Id) → AllZip (tree.IsId source) ws ids → (u : List Lexeme) → Spells source ts u → IsPathOf u (texts_of ids)
+  pub back_path : {ts ws : List Token} → IsChain PathSep is_ident ts ws → (ids : List Id) → AllZip (tree.IsId source) ws ids → (u : List Lexeme) → Spells source ts u → SpellsPath u (texts_of ids)
   back_path (S.one h) [] z u s = absurd z
   back_path (S.one h) (i ∷ j ∷ ids) z u s = absurd z.1
   back_path (S.one h) (i ∷ []) z [] s = absurd s
   back_path (S.one h) (i ∷ []) z (x ∷ y ∷ u) s = absurd s.1
   back_path (S.one {t = t} h) (i ∷ []) z (x ∷ []) s =
       let b = ident_back t x i s.0 h z.0 in
-      subst (λ w. IsPathOf (x ∷ []) (w ∷ [])) b.1 (one b.0)
+      subst (λ w. SpellsPath (x ∷ []) (w ∷ [])) b.1 (one b.0)
   back_path (S.more h k r) [] z u s = absurd z
   back_path (S.more h k r) (i ∷ ids) z [] s = absurd s
   back_path (S.more h k r) (i ∷ ids) z (x ∷ []) s = absurd s.1
   back_path (S.more {t = t} h k r) (i ∷ ids) z (x ∷ y ∷ u) s =
       let b = ident_back t x i s.0 h z.0 in
-      subst (λ w. IsPathOf (x ∷ y ∷ u) (w ∷ texts_of ids)) b.1 (more b.0 (sym s.1.0.0 ∙ k) (back_path r ids z.1 u s.1.1))
+      subst (λ w. SpellsPath (x ∷ y ∷ u) (w ∷ texts_of ids)) b.1 (more b.0 (sym s.1.0.0 ∙ k) (back_path r ids z.1 u s.1.1))
 
   -- a name that is no string is no reserved word
   word_lawful : (t : Token) → IsFaultless source (word t) → is_reserved (word_at source t) ≡ false
   word_lawful t h = elim (cases_Bool (is_reserved (word_at source t))) [ inl e ↦ absurd (h _ _ (reserved t e)) | inr e ↦ e ]
 
-  pub name_back : (t : Token) (x : Lexeme) (k : TokenKind) (n : List ℕ) → t.kind ≡ k → IsSpelled source t x → is_name_kind k ≡ true → tree.IsNameOf source k t n → IsFaultless source (site_of_kind k t) → IsNameOf x n
+  pub name_back : (t : Token) (x : Lexeme) (k : TokenKind) (n : List ℕ) → t.kind ≡ k → IsSpelled source t x → is_name_kind k ≡ true → tree.IsNameOf source k t n → IsFaultless source (site_of_kind k t) → SpellsName x n
   name_back t x StringLit n e s h is f = quoted is.0 (sym s.0 ∙ e) (sym s.1 ∙ is.1) is.2
   name_back t x k n e s h is f =
       let kind : is_ident x.kind ≡ true = ap is_ident (sym s.0 ∙ e) ∙ h in
       let here : word_at source t ≡ x.text = key_here source t x s (ident_word x.kind kind) in
       let lawful : is_reserved x.text ≡ false = ap is_reserved (sym here) ∙ word_lawful t f in
       let id : is_id x.text ≡ true = and_from (words.is_word x.text) (not (is_reserved x.text)) (word_test x.text (form_word x.text x.kind s.2 (ident_word x.kind kind))) (ap not lawful) in
-      subst (λ w. IsNameOf x w) (sym here ∙ sym is) (bare (record { ident = kind; id = id }))
+      subst (λ w. SpellsName x w) (sym here ∙ sym is) (bare (record { ident = kind; id = id }))
 
   module _ (back_notes : (ts : List Token) (syns : List AnnotationSyntax) (notes : Notes) (u : List Lexeme) → AreAnnotations ts syns → AreNotes source syns notes → IsFaultless source (annotations syns) → Spells source ts u → SpellNotes u notes) where
     abbrev Faultless : List Site → Type 0
     Faultless sites = All (IsFaultless source) sites
 
-    mark_back : (a : List Lexeme) (x : Lexeme) (m : List Token) (ml : List Lexeme) (y : Lexeme) (v : List Lexeme) (ns : Notes) (n : List ℕ) (r : Bool) (t : WrittenType) → IsMark m r → Spells source m ml → y.kind ≡ Colon → SpellNotes a ns → IsNameOf x n → IsTypeOf v t
+    mark_back : (a : List Lexeme) (x : Lexeme) (m : List Token) (ml : List Lexeme) (y : Lexeme) (v : List Lexeme) (ns : Notes) (n : List ℕ) (r : Bool) (t : WrittenType) → IsMark m r → Spells source m ml → y.kind ≡ Colon → SpellNotes a ns → SpellsName x n → SpellsType v t
         → IsAttributeOf (a ++ x ∷ (ml ++ y ∷ v)) ns n r t
     mark_back a x m [] y v ns n r t S.no_mark s k w is h = required x y w is k h
     mark_back a x m (z ∷ ml) y v ns n r t S.no_mark s k w is h = absurd s
@@ -152,7 +152,7 @@ module _ (source : List ℕ) where
           let r = back_type h v.0 v.2 (subst Faultless (of_set t loc) f) k.left k.first in
           record {
             written = set r.written;
-            spell = subst (λ l. IsTypeOf (x ∷ y ∷ l) (set r.written)) (sym k.whole) (set_type k.lexeme (sym s.0.0 ∙ ks) (sym s.1.0.0 ∙ ko) r.spell (sym k.is.0 ∙ kc));
+            spell = subst (λ l. SpellsType (x ∷ y ∷ l) (set r.written)) (sym k.whole) (set_type k.lexeme (sym s.0.0 ∙ ks) (sym s.1.0.0 ∙ ko) r.spell (sym k.is.0 ∙ kc));
             shows = subst (λ m. ShowsType m (set r.written)) (sym v.1) (shows_set v.0 r.shows);
           }
       back_type (S.record_type {u = ts} {xs = xs} h) n is f u s =

@@ -22,13 +22,13 @@ pub data AreNotesOf : List Lexeme → List Note → Type 0 where
   valued_note : {a k o v c : Lexeme} {u : List Lexeme} {notes : List Note} (body : List ℕ) {value : List ℕ} → a.kind ≡ At → is_word_kind k.kind ≡ true → o.kind ≡ LParen → v.kind ≡ StringLit → v.text ≡ 34 ∷ (body ++ 34 ∷ []) → Unescapes body value → c.kind ≡ RParen → AreNotesOf u notes
       → AreNotesOf (a ∷ k ∷ o ∷ v ∷ c ∷ u) ((k.text, Some value) ∷ notes)
 
-abbrev pub HaveOtherKeys : Note → List Note → Type 0
-HaveOtherKeys n notes = AllByRecursion (λ (m : Note). n.0 ≢ m.0) notes
+abbrev pub HaveOtherNotes : Note → List Note → Type 0
+HaveOtherNotes n notes = AllByRecursion (λ (m : Note). n.0 ≢ m.0) notes
 
 -- no key stands twice
 abbrev pub AreApart : List Note → Type 0
 AreApart [] = Unit {0}
-AreApart (n ∷ notes) = HaveOtherKeys n notes × AreApart notes
+AreApart (n ∷ notes) = HaveOtherNotes n notes × AreApart notes
 
 -- the same by rising keys
 pub record AreArranged (written : List Note) (notes : Notes) : Type 0 where

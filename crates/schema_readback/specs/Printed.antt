@@ -24,8 +24,8 @@ string value = lexeme (record { kind = StringLit; text = quoted value })
 abbrev pub space : Piece
 space = gap (codes " ")
 
-abbrev pub line_end : Piece
-line_end = gap (codes "\n")
+abbrev pub line_break : Piece
+line_break = gap (codes "\n")
 
 -- bare where it may be, and else a string
 abbrev pub name_lexeme : List ℕ → Lexeme
@@ -42,7 +42,7 @@ value_pieces (Some value) = mark LParen (codes "(") ∷ string value ∷ mark RP
 -- each of the notes on a line of its own
 abbrev pub notes_pieces : ℕ → Notes → List Piece
 notes_pieces base [] = []
-notes_pieces base (n ∷ ns) = gap (spaces base) ∷ mark At (codes "@") ∷ word n.0.text ∷ (value_pieces n.1 ++ line_end ∷ notes_pieces base ns)
+notes_pieces base (n ∷ ns) = gap (spaces base) ∷ mark At (codes "@") ∷ word n.0.text ∷ (value_pieces n.1 ++ line_break ∷ notes_pieces base ns)
 
 abbrev pub path_pieces : List (List ℕ) → List Piece
 path_pieces [] = []
@@ -61,7 +61,7 @@ comma_pieces false no_more = []
 
 abbrev pub break_pieces : WrittenAttributes → List Piece
 break_pieces no_more = []
-break_pieces (attribute ns n r t xs) = line_end ∷ []
+break_pieces (attribute ns n r t xs) = line_break ∷ []
 
 abbrev mutual
   pub type_pieces : Bool → ℕ → WrittenType → List Piece
@@ -72,7 +72,7 @@ abbrev mutual
   pub lines_pieces : Bool → ℕ → WrittenAttributes → List Piece
   lines_pieces closing base no_more = []
   lines_pieces closing base (attribute ns n r t xs) =
-      notes_pieces (base + 2) ns ++ gap (spaces (base + 2)) ∷ name_piece n ∷ (mark_pieces r ++ mark Colon (codes ":") ∷ space ∷ (type_pieces closing (base + 2) t ++ (comma_pieces closing xs ++ line_end ∷ lines_pieces closing base xs)))
+      notes_pieces (base + 2) ns ++ gap (spaces (base + 2)) ∷ name_piece n ∷ (mark_pieces r ++ mark Colon (codes ":") ∷ space ∷ (type_pieces closing (base + 2) t ++ (comma_pieces closing xs ++ line_break ∷ lines_pieces closing base xs)))
 
 -- names with at least one component, each of which may be one
 abbrev pub IsProperPath : List (List ℕ) → Type 0

@@ -10,7 +10,7 @@ use Rattle.schema_syntax_tree.specs.declared.pr.PR.{PR}
 use Rattle.schema_syntax_tree.specs.declared.pr.PR.TheVariants.{Principal, Resource}
 use Rattle.schema_readback.specs.Written.{WrittenType, WrittenAttributes, rec, no_more, attribute, WrittenRef, WrittenMember, types, context_path, context_record, WrittenDecl, entity, enum, external_entity, action, external_action, common, WrittenDeclared, WrittenItem, namespace, outside}
 use Rattle.schema_syntax_reader.specs.Leaves.{Notes}
-use Rattle.schema_readback.specs.Printed.{word, mark, string, space, line_end, notes_pieces, path_pieces, type_pieces, IsProperPath, AreProperNotes, IsProperType, AreProperAttributes}
+use Rattle.schema_readback.specs.Printed.{word, mark, string, space, line_break, notes_pieces, path_pieces, type_pieces, IsProperPath, AreProperNotes, IsProperType, AreProperAttributes}
 
 -- with a comma and a space between two
 abbrev pub list_pieces : {A : Type 0} → (A → List Piece) → List A → List Piece
@@ -69,14 +69,14 @@ comma_behind_member false [] = []
 
 abbrev pub members_pieces : Bool → ℕ → List WrittenMember → List Piece
 members_pieces closing base [] = []
-members_pieces closing base (m ∷ ms) = gap (spaces (base + 2)) ∷ (member_pieces closing (base + 2) m ++ (comma_behind_member closing ms ++ line_end ∷ members_pieces closing base ms))
+members_pieces closing base (m ∷ ms) = gap (spaces (base + 2)) ∷ (member_pieces closing (base + 2) m ++ (comma_behind_member closing ms ++ line_break ∷ members_pieces closing base ms))
 
 abbrev pub applies_pieces : Bool → ℕ → Option (List WrittenMember) → List Piece
 applies_pieces closing base None = []
-applies_pieces closing base (Some ms) = space ∷ word (codes "appliesTo") ∷ space ∷ mark LBrace (codes "{") ∷ line_end ∷ (members_pieces closing base ms ++ gap (spaces base) ∷ mark RBrace (codes "}") ∷ [])
+applies_pieces closing base (Some ms) = space ∷ word (codes "appliesTo") ∷ space ∷ mark LBrace (codes "{") ∷ line_break ∷ (members_pieces closing base ms ++ gap (spaces base) ∷ mark RBrace (codes "}") ∷ [])
 
 abbrev pub ended : List Piece
-ended = mark Semi (codes ";") ∷ line_end ∷ []
+ended = mark Semi (codes ";") ∷ line_break ∷ []
 
 abbrev pub decl_pieces : Bool → ℕ → WrittenDecl → List Piece
 decl_pieces closing base (entity names ps xs tags) =
@@ -96,7 +96,7 @@ decl_pieces closing base (common n t) =
 abbrev pub joined_pieces : {A : Type 0} → (A → List Piece) → List A → List Piece
 joined_pieces f [] = []
 joined_pieces f (x ∷ []) = f x
-joined_pieces f (x ∷ y ∷ xs) = f x ++ line_end ∷ joined_pieces f (y ∷ xs)
+joined_pieces f (x ∷ y ∷ xs) = f x ++ line_break ∷ joined_pieces f (y ∷ xs)
 
 -- a declaration behind its notes
 abbrev pub declared_pieces : Bool → ℕ → WrittenDeclared → List Piece
@@ -111,7 +111,7 @@ pub record Group : Type 0 where
 abbrev pub namespace_pieces : Bool → Notes → Option (List (List ℕ)) → List WrittenDeclared → List Piece
 namespace_pieces closing notes None ds = joined_pieces (declared_pieces closing 0) ds
 namespace_pieces closing notes (Some p) ds =
-    notes_pieces 0 notes ++ word (codes "namespace") ∷ space ∷ (path_pieces p ++ space ∷ mark LBrace (codes "{") ∷ line_end ∷ (joined_pieces (declared_pieces closing 2) ds ++ mark RBrace (codes "}") ∷ line_end ∷ []))
+    notes_pieces 0 notes ++ word (codes "namespace") ∷ space ∷ (path_pieces p ++ space ∷ mark LBrace (codes "{") ∷ line_break ∷ (joined_pieces (declared_pieces closing 2) ds ++ mark RBrace (codes "}") ∷ line_break ∷ []))
 
 abbrev pub group_pieces : Bool → Group → List Piece
 group_pieces closing g = namespace_pieces closing g.notes g.name g.decls
@@ -131,8 +131,8 @@ abbrev pub IsSome : {A : Type 0} → List A → Type 0
 IsSome [] = ⊥
 IsSome (x ∷ xs) = Unit {0}
 
-abbrev pub IsWord : List ℕ → Type 0
-IsWord w = is_id w ≡ true
+abbrev pub IsProperWord : List ℕ → Type 0
+IsProperWord w = is_id w ≡ true
 
 abbrev pub IsProperOptional : Option (List (List ℕ)) → Type 0
 IsProperOptional None = Unit {0}
@@ -155,12 +155,12 @@ AreProperMembers None = Unit {0}
 AreProperMembers (Some ms) = IsSome ms × AllByRecursion IsProperMember ms
 
 abbrev pub IsProperDecl : WrittenDecl → Type 0
-IsProperDecl (entity names ps xs tags) = IsSome names × AllByRecursion IsWord names × AllByRecursion IsProperPath ps × AreProperAttributes xs × IsProperTags tags
-IsProperDecl (enum names choices) = IsSome names × AllByRecursion IsWord names × IsSome choices
-IsProperDecl (external_entity names ps) = IsSome names × AllByRecursion IsWord names × AllByRecursion IsProperPath ps
+IsProperDecl (entity names ps xs tags) = IsSome names × AllByRecursion IsProperWord names × AllByRecursion IsProperPath ps × AreProperAttributes xs × IsProperTags tags
+IsProperDecl (enum names choices) = IsSome names × AllByRecursion IsProperWord names × IsSome choices
+IsProperDecl (external_entity names ps) = IsSome names × AllByRecursion IsProperWord names × AllByRecursion IsProperPath ps
 IsProperDecl (action names rs ms) = IsSome names × AllByRecursion IsProperRef rs × AreProperMembers ms
 IsProperDecl (external_action names rs) = IsSome names × AllByRecursion IsProperRef rs
-IsProperDecl (common n t) = IsWord n × IsProperType t
+IsProperDecl (common n t) = IsProperWord n × IsProperType t
 
 abbrev pub IsProperDeclared : WrittenDeclared → Type 0
 IsProperDeclared d = AreProperNotes d.notes × IsProperDecl d.decl

@@ -7,12 +7,12 @@ use Rattle.schema_syntax_tree.specs.declared.annotated.Annotated.{Annotated}
 use Rattle.schema_syntax_tree.specs.declared.types.AttrDecl.{AttrDecl}
 use Rattle.schema_syntax_tree.specs.declared.types.Type.{«Type»}
 use Rattle.schema_readback.specs.Written.{WrittenType, WrittenAttributes}
-use Rattle.schema_readback.specs.Spellings.{IsTypeOf}
+use Rattle.schema_readback.specs.Spellings.{SpellsType}
 use Rattle.schema_readback.specs.Shows.{ShowsType, ShowsAttributes}
 
 pub record SaidType (n : «Type») (u : List Lexeme) : Type 0 where
   pub written : WrittenType
-  pub spell : IsTypeOf u written
+  pub spell : SpellsType u written
   pub shows : ShowsType n written
 
 -- attributes, and how their lexemes spell them

@@ -20,7 +20,7 @@ ghost use Rattle.schema_syntax_reader.specs.Trees.{IsTypeOf as IsTreeOfType, IsT
 ghost use Rattle.schema_readback.specs.Notes.{Note, AreNotesOf, AreArranged};
 ghost use Rattle.schema_readback.specs.Views.{ViewOfType};
 ghost use Rattle.schema_readback.specs.Written.{WrittenType, WrittenItem};
-ghost use Rattle.schema_readback.specs.Spellings.{IsTypeOf, IsSchemaOf};
+ghost use Rattle.schema_readback.specs.Spellings.{SpellsType, SpellsSchema};
 ghost use Rattle.schema_readback.specs.Printed.{type_pieces, IsProperType};
 ghost use Rattle.schema_readback.specs.PrintedDecls.{Group, IsProperGroup, schema_pieces, group_items};
 ghost use Rattle.schema_readback.specs.Meant.{type_of_meaning, groups_of_meaning};
@@ -34,14 +34,14 @@ use schema_syntax_tokens::laws::{laid_text_is_read, one_value, quoted_is_one_str
 
 /// Tokens that spell a type are read as it.
 pub fn spelled_types_are_read()
-    ensures { (source : List ℕ) (u : List Lexeme) (t : WrittenType) → IsTypeOf u t → (ts : List Token) → Spells source ts u → ReadsType source ts t }
+    ensures { (source : List ℕ) (u : List Lexeme) (t : WrittenType) → SpellsType u t → (ts : List Token) → Spells source ts u → ReadsType source ts t }
 {
     one_value();
 }
 
 /// A type that is laid out has lexemes that spell it, and is read as them.
 pub fn laid_types_are_spelled()
-    ensures spelled { (closing : Bool) (base : ℕ) (t : WrittenType) → IsProperType t → IsTypeOf (lexemes_of (type_pieces closing base t)) t }
+    ensures spelled { (closing : Bool) (base : ℕ) (t : WrittenType) → IsProperType t → SpellsType (lexemes_of (type_pieces closing base t)) t }
     ensures read { (closing : Bool) (base : ℕ) (t : WrittenType) → IsProperType t → IsReadAs (laid (type_pieces closing base t)) (lexemes_of (type_pieces closing base t)) }
     ensures meant { (closing : Bool) (base : ℕ) (t : PlainType) → laid (type_pieces closing base (type_of_meaning t)) ≡ type_text closing base t }
 {
@@ -51,14 +51,14 @@ pub fn laid_types_are_spelled()
 
 /// Tokens that spell a schema are read as it.
 pub fn spelled_schemas_are_read()
-    ensures { (source : List ℕ) (u : List Lexeme) (w : List WrittenItem) → IsSchemaOf u w → (ts : List Token) → Spells source ts u → ReadsSchema source ts w }
+    ensures { (source : List ℕ) (u : List Lexeme) (w : List WrittenItem) → SpellsSchema u w → (ts : List Token) → Spells source ts u → ReadsSchema source ts w }
 {
     one_value();
 }
 
 /// A schema that is laid out has lexemes that spell it, and is read as them.
 pub fn laid_schemas_are_spelled()
-    ensures spelled { (closing : Bool) (groups : List Group) → AllByRecursion IsProperGroup groups → IsSchemaOf (lexemes_of (schema_pieces closing groups)) (flat_map group_items groups) }
+    ensures spelled { (closing : Bool) (groups : List Group) → AllByRecursion IsProperGroup groups → SpellsSchema (lexemes_of (schema_pieces closing groups)) (flat_map group_items groups) }
     ensures read { (closing : Bool) (groups : List Group) → AllByRecursion IsProperGroup groups → IsReadAs (laid (schema_pieces closing groups)) (lexemes_of (schema_pieces closing groups)) }
 {
     laid_text_is_read();
@@ -105,7 +105,7 @@ pub fn type_trees_are_spelled()
 
 /// What the tree of a lawful text says, its lexemes spell.
 pub fn trees_are_spelled()
-    ensures { (source : List ℕ) (ts : List Token) (items : List ItemSyntax) (tree : List (Annotated Namespace)) (u : List Lexeme) → IsSyntax ts items → IsTreeOf source items tree → All (IsFaultless source) (sites_of items) → Spells source ts u → SaidAll SaysItem (IsSchemaOf u) tree }
+    ensures { (source : List ℕ) (ts : List Token) (items : List ItemSyntax) (tree : List (Annotated Namespace)) (u : List Lexeme) → IsSyntax ts items → IsTreeOf source items tree → All (IsFaultless source) (sites_of items) → Spells source ts u → SaidAll SaysItem (SpellsSchema u) tree }
 {}
 
 /// Where two texts have the same lexemes, and the first is lawful, the second has a lawful syntax and a tree that says the same.
