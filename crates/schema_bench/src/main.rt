@@ -3,7 +3,6 @@
 
 use cedar_names::ExtensionTable;
 use schema_convert::parse_cedar_schema_fragment;
-
 use schema_resolve::ResolveFragment;
 use schema_syntax::{parse_schema, scan, syntax_fault_of};
 use std::alloc::{AllocError, Global};

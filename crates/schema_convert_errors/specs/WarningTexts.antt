@@ -2,7 +2,7 @@
 use Rattle.std.specs.Prelude.{ℕ, List, [], ◌∷◌, ◌++◌, Option, Some, None, codes}
 use Rattle.cedar_data.specs.Span.{Span}
 use Rattle.cedar_data.specs.declared.label.Label.{Label}
-use Rattle.schema_syntax_errors.specs.FaultLabels.{bare}
+use Rattle.schema_syntax_errors.specs.FaultLabels.{unnamed_label}
 use Rattle.schema_convert_errors.specs.declared.warnings.SchemaWarning.{SchemaWarning}
 use Rattle.schema_convert_errors.specs.declared.warnings.SchemaWarning.TheVariants.{ShadowsBuiltin, ShadowsEntity}
 use Rattle.schema_convert_errors.specs.declared.warnings.ShadowsBuiltinWarning.{ShadowsBuiltinWarning}
@@ -23,11 +23,11 @@ warning_text (ShadowsEntity w) = shadows_entity_text w
 
 -- the place of the type that hides a builtin one
 abbrev pub builtin_labels : ShadowsBuiltinWarning → List Label
-builtin_labels w = bare w.loc
+builtin_labels w = unnamed_label w.loc
 
 -- the places of the common type and of the entity type that it hides
 abbrev pub entity_labels : ShadowsEntityWarning → List Label
-entity_labels w = bare w.entity_loc ++ bare w.common_loc
+entity_labels w = unnamed_label w.entity_loc ++ unnamed_label w.common_loc
 
 -- the places that a warning points to, with what it says there
 abbrev pub warning_labels : SchemaWarning → List Label

@@ -1,6 +1,6 @@
 ghost use Rattle.std.specs.Prelude.{◌≡◌, ◌++◌, Ok, None, IfOk, OnOk};
 ghost use Rattle.schema_convert_errors.specs.WarningTexts.{shadows_builtin_text, shadows_entity_text, warning_text, builtin_labels, entity_labels, warning_labels};
-ghost use Rattle.schema_syntax_errors.specs.FaultLabels.{bare};
+ghost use Rattle.schema_syntax_errors.specs.FaultLabels.{unnamed_label};
 
 use cedar_data::{CloneIn, Label, Loc, Severity, Text, message, push_both};
 use std::alloc::{AllocError, Global};
@@ -29,7 +29,7 @@ pub enum SchemaWarning {
 
 // Adds a label without a text, where there is a place.
 fn push_bare(labels: &mut Vec<Label>, place: Option<Loc>) -> Result<(), AllocError>
-    ensures { OnOk result (labels.new.items ≡ labels.old.items ++ bare place) }
+    ensures { OnOk result (labels.new.items ≡ labels.old.items ++ unnamed_label place) }
 {
     if let Some(span) = place {
         labels.push(Label { span, text: None })?;

@@ -124,13 +124,17 @@ fn messages_agree_with_table(rt: HostRuntime) {
     }
 }
 
+// The empty place there.
+fn place(start: usize) -> Option<Loc> {
+    Some(Loc::new(start, start))
+}
+
 // An annotation without a value, at a place.
 fn annotation(alloc: Global, key: &str, start: usize) -> Option<PlacedAnnotation> {
     match AnyId::from_normalized_str(alloc, key) {
         Ok(key) => {
-            let loc = Some(Loc::new(start, start));
-            let key = Node::with_maybe_source_loc(key, loc);
-            Some(Node::with_maybe_source_loc((key, None), loc))
+            let key = Node::with_maybe_source_loc(key, place(start));
+            Some(Node::with_maybe_source_loc((key, None), place(start)))
         }
         Err(_) => None,
     }
