@@ -69,11 +69,13 @@ fn find_fault(wanted: &mut Wanted<'_>, fault: &ToJsonSchemaError) {
 
 /// The faults are found next, with `; ` between two.
 pub fn find_faults(wanted: &mut Wanted<'_>, errors: &ToJsonSchemaErrors) {
-    let mut between = "";
+    let mut is_first = true;
     for fault in errors.iter() {
-        wanted.piece(between);
+        if !is_first {
+            wanted.piece("; ");
+        }
         find_fault(wanted, fault);
-        between = "; ";
+        is_first = false;
     }
 }
 

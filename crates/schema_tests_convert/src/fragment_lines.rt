@@ -8,6 +8,9 @@ use schema_json::{
 };
 use schema_tests_lines::Wanted;
 
+// How many levels of types are looked at, which is more than any text of the table has.
+const LEVELS: usize = 100;
+
 // The components with a dot before each, and the place.
 fn find_name(wanted: &mut Wanted<'_>, name: &RawName) {
     wanted.piece(" .");
@@ -36,9 +39,12 @@ fn find_notes(wanted: &mut Wanted<'_>, notes: &Annotations) {
     }
 }
 
-// A type.
+// A type, down to so many levels.
 #[cycle(fragment)]
-fn find_type(wanted: &mut Wanted<'_>, ty: &Type<RawName>) {
+fn find_type(wanted: &mut Wanted<'_>, ty: &Type<RawName>, levels: usize) {
+    if levels == 0 {
+        return;
+    }
     match ty {
         Type::CommonTypeRef { type_name, loc } => {
             wanted.piece(" common");
@@ -46,7 +52,7 @@ fn find_type(wanted: &mut Wanted<'_>, ty: &Type<RawName>) {
             wanted.place(*loc);
         }
         Type::Variant { ty, loc } => {
-            find_variant(wanted, ty);
+            find_variant(wanted, ty, levels - 1);
             wanted.place(*loc);
         }
     }
@@ -54,14 +60,19 @@ fn find_type(wanted: &mut Wanted<'_>, ty: &Type<RawName>) {
 
 // What a type is.
 #[cycle(fragment)]
-fn find_variant(wanted: &mut Wanted<'_>, ty: &TypeVariant<RawName>) {
+fn find_variant(wanted: &mut Wanted<'_>, ty: &TypeVariant<RawName>, levels: usize) {
+    if levels == 0 {
+        return;
+    }
     match ty {
         TypeVariant::Set { element } => {
             wanted.piece(" <");
-            find_type(wanted, element.get());
+            find_type(wanted, element.get(), levels - 1);
             wanted.piece(">");
         }
-        TypeVariant::Record(fields) => find_fields(wanted, fields.attributes.as_slice()),
+        TypeVariant::Record(fields) => {
+            find_fields(wanted, fields.attributes.as_slice(), levels - 1);
+        }
         TypeVariant::EntityOrCommon { type_name } => find_name(wanted, type_name),
         _ => wanted.piece(" other"),
     }
@@ -69,14 +80,21 @@ fn find_variant(wanted: &mut Wanted<'_>, ty: &TypeVariant<RawName>) {
 
 // The attributes of a record.
 #[cycle(fragment)]
-fn find_fields(wanted: &mut Wanted<'_>, fields: &[(Text, TypeOfAttribute<RawName>)]) {
+fn find_fields(
+    wanted: &mut Wanted<'_>,
+    fields: &[(Text, TypeOfAttribute<RawName>)],
+    levels: usize,
+) {
+    if levels == 0 {
+        return;
+    }
     wanted.piece(" {");
     for (name, attribute) in fields {
         find_notes(wanted, &attribute.annotations);
         wanted.piece(" ");
         wanted.piece(name.as_str());
         wanted.piece(if attribute.required { ":" } else { "?:" });
-        find_type(wanted, &attribute.ty);
+        find_type(wanted, &attribute.ty, levels - 1);
     }
     wanted.piece("}");
 }
@@ -110,10 +128,10 @@ fn find_entity(wanted: &mut Wanted<'_>, name: &str, of: &EntityType<RawName>) {
         }
         EntityTypeKind::Standard(standard) => {
             find_names(wanted, standard.member_of_types.as_slice());
-            find_type(wanted, &standard.shape.0);
+            find_type(wanted, &standard.shape.0, LEVELS);
             if let Some(tags) = &standard.tags {
                 wanted.piece(" tags");
-                find_type(wanted, tags);
+                find_type(wanted, tags, LEVELS);
             }
         }
     }
@@ -133,7 +151,7 @@ fn find_applies(wanted: &mut Wanted<'_>, spec: &ApplySpec<RawName>) {
     wanted.piece(" resource");
     find_names(wanted, spec.resource_types.as_slice());
     wanted.piece(" context");
-    find_type(wanted, &spec.context.0)
+    find_type(wanted, &spec.context.0, LEVELS)
 }
 
 fn find_action(wanted: &mut Wanted<'_>, name: &str, of: &ActionType<RawName>) {
@@ -157,7 +175,7 @@ fn find_action(wanted: &mut Wanted<'_>, name: &str, of: &ActionType<RawName>) {
 
 fn find_common(wanted: &mut Wanted<'_>, name: &str, of: &CommonType<RawName>) {
     find_declared(wanted, " type ", name, &of.annotations, of.loc);
-    find_type(wanted, &of.ty)
+    find_type(wanted, &of.ty, LEVELS)
 }
 
 fn find_definition(wanted: &mut Wanted<'_>, definition: &NamespaceDefinition<RawName>) {

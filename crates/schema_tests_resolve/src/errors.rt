@@ -19,10 +19,10 @@ failed to resolve type: __cedar::X|__cedar::X@0
 
 // What is told, then behind `|` the actions, each with the place of its type and the letter that is its id.
 const ACTIONS: &str = "\
-undeclared action: X::\"b\" at 22|X@22 b
-undeclared actions: Action::\"d\" and X::\"b\" at 28|Action@0 d X@28 b
-undeclared actions: Action::\"\\'\", X::\"b\", and N::Action::\"c\" at 40 at 48|Action@0 ' X@40 b N::Action@48 c
-undeclared action: Action::\"\\\\\"|Action@0 \\
+undeclared action: X::\"b\" at 22|X@22=b
+undeclared actions: Action::\"d\" and X::\"b\" at 28|Action@0=d X@28=b
+undeclared actions: Action::\"\\'\", X::\"b\", and N::Action::\"c\" at 40 at 48|Action@0=' X@40=b N::Action@48=c
+undeclared action: Action::\"\\\\\"|Action@0=\\
 ";
 
 const ADVICE: &str = "any actions appearing as parents need to be declared as actions";
@@ -123,8 +123,9 @@ fn errors_of_types(alloc: Global, types: &str) -> Result<Vec<TypeNotDefinedError
     Ok(errors)
 }
 
-// The error of an action of this type with this id.
-fn error_of_action(alloc: Global, ty: &str, id: &str) -> Option<ActionNotDefinedError> {
+// The error of an action, written as its type, `=` and its id.
+fn error_of_action(alloc: Global, written: &str) -> Option<ActionNotDefinedError> {
+    let (ty, id) = written.split_once('=').unwrap_or(("", ""));
     match (reference(alloc, ty), Text::from_str(alloc, id)) {
         (Some(ty), Ok(id)) => {
             let uid = ActionEntityUID::with_type(ty, id);
@@ -140,11 +141,8 @@ fn errors_of_actions(
     actions: &str,
 ) -> Result<Vec<ActionNotDefinedError>, AllocError> {
     let mut errors = Vec::new(alloc);
-    let mut ty = "";
-    for (at, word) in actions.split(' ').enumerate() {
-        if at % 2 == 0 {
-            ty = word;
-        } else if let Some(error) = error_of_action(alloc, ty, word) {
+    for written in actions.split(' ') {
+        if let Some(error) = error_of_action(alloc, written) {
             errors.push(error)?;
         }
     }

@@ -8,6 +8,9 @@ use schema_json::{
 };
 use schema_tests_lines::Wanted;
 
+// How many levels of types are looked at, which is more than any text of the table has.
+const LEVELS: usize = 100;
+
 // The components with `::` between two.
 fn find_name(wanted: &mut Wanted<'_>, name: &InternalName) {
     wanted.piece(name.first.as_str());
@@ -42,23 +45,31 @@ fn find_attribute(wanted: &mut Wanted<'_>, name: &str, required: bool) {
 
 // A type.
 #[cycle(resolved)]
-fn find_type(wanted: &mut Wanted<'_>, ty: &Type<InternalName>) {
+fn find_type(wanted: &mut Wanted<'_>, ty: &Type<InternalName>, levels: usize) {
+    if levels == 0 {
+        return;
+    }
     match ty {
         Type::CommonTypeRef { type_name, .. } => find_reference(wanted, " c", type_name),
-        Type::Variant { ty, .. } => find_variant(wanted, ty),
+        Type::Variant { ty, .. } => find_variant(wanted, ty, levels - 1),
     }
 }
 
 // What a type is.
 #[cycle(resolved)]
-fn find_variant(wanted: &mut Wanted<'_>, ty: &TypeVariant<InternalName>) {
+fn find_variant(wanted: &mut Wanted<'_>, ty: &TypeVariant<InternalName>, levels: usize) {
+    if levels == 0 {
+        return;
+    }
     match ty {
         TypeVariant::Set { element } => {
             wanted.piece(" <");
-            find_type(wanted, element.get());
+            find_type(wanted, element.get(), levels - 1);
             wanted.piece(">");
         }
-        TypeVariant::Record(fields) => find_fields(wanted, fields.attributes.as_slice()),
+        TypeVariant::Record(fields) => {
+            find_fields(wanted, fields.attributes.as_slice(), levels - 1);
+        }
         TypeVariant::Entity { name } => find_reference(wanted, " e", name),
         _ => wanted.piece(" other"),
     }
@@ -66,21 +77,28 @@ fn find_variant(wanted: &mut Wanted<'_>, ty: &TypeVariant<InternalName>) {
 
 // The attributes of a record.
 #[cycle(resolved)]
-fn find_fields(wanted: &mut Wanted<'_>, fields: &[(Text, TypeOfAttribute<InternalName>)]) {
+fn find_fields(
+    wanted: &mut Wanted<'_>,
+    fields: &[(Text, TypeOfAttribute<InternalName>)],
+    levels: usize,
+) {
+    if levels == 0 {
+        return;
+    }
     wanted.piece(" {");
     for (name, attribute) in fields {
         find_attribute(wanted, name.as_str(), attribute.required);
-        find_type(wanted, &attribute.ty);
+        find_type(wanted, &attribute.ty, levels - 1);
     }
     wanted.piece("}");
 }
 
 fn find_standard(wanted: &mut Wanted<'_>, standard: &StandardEntityType<InternalName>) {
     find_names(wanted, standard.member_of_types.as_slice());
-    find_type(wanted, &standard.shape.0);
+    find_type(wanted, &standard.shape.0, LEVELS);
     if let Some(tags) = &standard.tags {
         wanted.piece(" tags");
-        find_type(wanted, tags);
+        find_type(wanted, tags, LEVELS);
     }
 }
 
@@ -110,7 +128,7 @@ fn find_applies(wanted: &mut Wanted<'_>, spec: &ApplySpec<InternalName>) {
     wanted.piece(" resource");
     find_names(wanted, spec.resource_types.as_slice());
     wanted.piece(" context");
-    find_type(wanted, &spec.context.0)
+    find_type(wanted, &spec.context.0, LEVELS)
 }
 
 fn find_action(wanted: &mut Wanted<'_>, of: &ActionType<InternalName>) {
@@ -134,7 +152,7 @@ fn find_declared(wanted: &mut Wanted<'_>, word: &str, name: &str) {
 fn find_definition(wanted: &mut Wanted<'_>, definition: &NamespaceDefinition<InternalName>) {
     for (name, of) in definition.common_types.as_slice() {
         find_declared(wanted, " type ", name.id.as_str());
-        find_type(wanted, &of.ty);
+        find_type(wanted, &of.ty, LEVELS);
     }
     for (name, of) in definition.entity_types.as_slice() {
         find_declared(wanted, " entity ", name.as_str());
