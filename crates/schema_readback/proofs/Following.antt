@@ -7,7 +7,7 @@ use Rattle.std.specs.Cmp.{first_so, second_so}
 use Rattle.std.proofs.lemmas.List.Sums.{AllPass-from_list_all}
 use Rattle.cedar_identifiers.specs.Words.{is_reserved, is_id}
 use Rattle.cedar_data.specs.Words.{is_word_start, is_word_part}
-use Rattle.cedar_identifiers.specs.Words as words
+use Rattle.cedar_data.specs.Words as words
 use Rattle.schema_syntax_grammar.specs.declared.token_kind.TokenKind.{TokenKind}
 use Rattle.schema_syntax_grammar.specs.declared.token_kind.TokenKind.TheVariants.{KwNamespace, KwEntity, KwExternal, KwIn, KwType, KwSet, KwAppliesTo, KwPrincipal, KwAction, KwResource, KwContext, KwTags, KwEnum}
 use Rattle.schema_syntax_grammar.specs.Grammar.{is_ident}

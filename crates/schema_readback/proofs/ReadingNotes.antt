@@ -9,7 +9,7 @@ use Rattle.std.proofs.lemmas.List.{append_cancel_right}
 use Rattle.std.proofs.lemmas.List.Elements.{All-nil, All-cons}
 use Rattle.std.proofs.lemmas.List.Sums.{list_all-from_AllPass}
 use Rattle.cedar_data.specs.Words.{is_word_start, is_word_part}
-use Rattle.cedar_identifiers.specs.Words as words
+use Rattle.cedar_data.specs.Words as words
 use Rattle.schema_syntax_grammar.specs.declared.token_kind.TokenKind.{TokenKind}
 use Rattle.schema_syntax_grammar.specs.declared.token_kind.TokenKind.TheVariants.{PathSep}
 use Rattle.schema_syntax_grammar.specs.Grammar.{is_word_kind}

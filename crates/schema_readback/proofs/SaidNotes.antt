@@ -6,7 +6,7 @@ use Rattle.std.specs.Str.{bytes_eq}
 use Rattle.std.proofs.lemmas.Bool.{cases_Bool, false≢true}
 use Rattle.std.proofs.lemmas.List.Elements.{All-nil, All-cons, All-head, All-tail, All-append}
 use Rattle.std.proofs.lemmas.Slice.Eq.{bytes_eq-Decides}
-use Rattle.cedar_identifiers.specs.Words as words
+use Rattle.cedar_data.specs.Words as words
 use Rattle.schema_syntax_grammar.specs.Grammar.{is_word_kind}
 use Rattle.schema_syntax_grammar.specs.declared.token_kind.TokenKind.TheVariants.{StringLit, At, LParen, RParen}
 use Rattle.schema_syntax_tokens.specs.declared.token.Token.{Token}

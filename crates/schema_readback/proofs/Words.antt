@@ -95,11 +95,11 @@ module _ (source : List ℕ) where
   as_word StringLit t n h e = cc
   as_word _ t n h e = e
 
-  pub name_kind : (t : Token) (x : Lexeme) (n : List ℕ) → IsSpelled source t x → spelled.IsNameOf x n → is_name_kind t.kind ≡ true
+  pub name_kind : (t : Token) (x : Lexeme) (n : List ℕ) → IsSpelled source t x → spelled.SpellsName x n → is_name_kind t.kind ≡ true
   name_kind t x n s (spelled.bare i) = ident_name t.kind (ident_kind t x s i)
   name_kind t x n s (spelled.quoted body k e u) = ap is_name_kind (s.0 ∙ k)
 
-  pub name_here : (t : Token) (x : Lexeme) (n : List ℕ) → IsSpelled source t x → spelled.IsNameOf x n → IsNameOf source t.kind t n
+  pub name_here : (t : Token) (x : Lexeme) (n : List ℕ) → IsSpelled source t x → spelled.SpellsName x n → IsNameOf source t.kind t n
   name_here t x n s (spelled.bare i) = as_word t.kind t n (ident_kind t x s i) (word_here t x s i.id)
   name_here t x n s (spelled.quoted body k e u) = subst (λ k. IsNameOf source k t n) (sym (s.0 ∙ k)) (body, s.1 ∙ e, u)
 
@@ -110,7 +110,7 @@ module _ (source : List ℕ) where
         let same : body ++ 34 ∷ [] ≡ h.0 ++ 34 ∷ [] = cc in
         never_both h.0 value h.1 (subst (λ b. Unescapes b value) (append_cancel_right body h.0 (34 ∷ []) same) u) h.3
 
-    pub name_site : (t : Token) (x : Lexeme) (n : List ℕ) → IsSpelled source t x → spelled.IsNameOf x n → All (IsFaultless source) (name_sites t)
+    pub name_site : (t : Token) (x : Lexeme) (n : List ℕ) → IsSpelled source t x → spelled.SpellsName x n → All (IsFaultless source) (name_sites t)
     name_site t x n s (spelled.bare i) = ident_site t x s i
     name_site t x n s (spelled.quoted body k e u) =
         subst (λ k. All (IsFaultless source) (site_of_kind k t ∷ [])) (sym (s.0 ∙ k))

@@ -1,5 +1,5 @@
 -- What is written of a meaning.
-use Rattle.std.specs.Prelude.{◌≡◌, ℕ, Bool, true, false, List, [], ◌∷◌, ◌++◌, codes, map, filter, Option, Some, None}
+use Rattle.std.specs.Prelude.{ℕ, Bool, true, false, List, [], ◌∷◌, ◌++◌, codes, map, filter, Option, Some, None}
 use Rattle.cedar_names.specs.Meaning.{PlainType, Attributes, EntityMeaning, ActionMeaning, SchemaMeaning}
 use Rattle.cedar_names.specs.Meaning as m
 use Rattle.cedar_names.specs.CanonicalText.{basename, namespace, namespaces}
@@ -12,6 +12,7 @@ abbrev pub under_cedar : List ℕ → WrittenType
 under_cedar name = path (codes "__cedar" ∷ name ∷ [])
 
 abbrev mutual
+  -- what is written of a type of a meaning
   pub type_of_meaning : PlainType → WrittenType
   type_of_meaning PlainType.Bool = under_cedar (codes "Bool")
   type_of_meaning PlainType.Long = under_cedar (codes "Long")
@@ -63,5 +64,6 @@ name_or_none (c ∷ cs) = Some (c ∷ cs)
 abbrev pub group_of_meaning : SchemaMeaning → List (List ℕ) → Group
 group_of_meaning m n = record { notes = []; name = name_or_none n; decls = items_of_meaning m n }
 
+-- the namespaces of a meaning that have an item, in order, as what is written of them
 abbrev pub groups_of_meaning : SchemaMeaning → List Group
 groups_of_meaning m = map (group_of_meaning m) (namespaces m)

@@ -64,6 +64,7 @@ break_pieces no_more = []
 break_pieces (attribute ns n r t xs) = line_break ∷ []
 
 abbrev mutual
+  -- a type laid out at an indentation
   pub type_pieces : Bool → ℕ → WrittenType → List Piece
   type_pieces closing base (path p) = path_pieces p
   type_pieces closing base (set t) = word (codes "Set") ∷ mark Less (codes "<") ∷ (type_pieces closing base t ++ mark Greater (codes ">") ∷ [])
@@ -85,6 +86,7 @@ abbrev pub AreProperNotes : Notes → Type 0
 AreProperNotes notes = IsStrictlySortedBy text_cmp (map (λ n. n.0.text) notes)
 
 abbrev mutual
+  -- its names are names, and its annotations rise
   pub IsProperType : WrittenType → Type 0
   IsProperType (path p) = IsProperPath p
   IsProperType (set t) = IsProperType t

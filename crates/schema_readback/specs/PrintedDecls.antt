@@ -116,6 +116,7 @@ namespace_pieces closing notes (Some p) ds =
 abbrev pub group_pieces : Bool → Group → List Piece
 group_pieces closing g = namespace_pieces closing g.notes g.name g.decls
 
+-- the namespaces laid out in turn, with an empty line between two
 abbrev pub schema_pieces : Bool → List Group → List Piece
 schema_pieces closing groups = joined_pieces (group_pieces closing) groups
 
@@ -123,6 +124,7 @@ abbrev pub namespace_items : Notes → Option (List (List ℕ)) → List Written
 namespace_items notes None ds = map outside ds
 namespace_items notes (Some p) ds = namespace notes p ds ∷ []
 
+-- what is written of a namespace, or of the declarations outside of one
 abbrev pub group_items : Group → List WrittenItem
 group_items g = namespace_items g.notes g.name g.decls
 
@@ -165,5 +167,6 @@ IsProperDecl (common n t) = IsProperWord n × IsProperType t
 abbrev pub IsProperDeclared : WrittenDeclared → Type 0
 IsProperDeclared d = AreProperNotes d.notes × IsProperDecl d.decl
 
+-- its names are names, its lists that must have an item have one, and its annotations rise
 abbrev pub IsProperGroup : Group → Type 0
 IsProperGroup g = AreProperNotes g.notes × IsProperOptional g.name × AllByRecursion IsProperDeclared g.decls

@@ -25,6 +25,7 @@ use Rattle.schema_readback.specs.Written.{WrittenType, WrittenAttributes, attrib
 use Rattle.schema_readback.specs.Shows.{ShowsType, ShowsAttributes, SaysPath, SaysId, SaysName, SaysChoice, SaysRef, SaysShape, SaysTags, SaysMember, SaysApplies, SaysDecl, SaysDeclared, SaysItem}
 
 module _ (source : List ℕ) where
+  -- no fault is at the site
   abbrev pub IsFaultless : Site → Type 0
   IsFaultless site = (fault : UserError) (end : ℕ) → FaultAt source site fault end → ⊥
 
@@ -36,6 +37,7 @@ module _ (source : List ℕ) where
     pub says : texts_of ids ≡ names
     pub lawful : All IsFaultless (names_sites words)
 
+  -- the tokens are a type without a user fault, and a tree of it shows this
   pub record ReadsType (ts : List Token) (t : WrittenType) : Type 0 where
     pub syn : TypeSyntax
     pub parsed : IsType ts syn
@@ -62,6 +64,7 @@ module _ (source : List ℕ) where
     pub shows : (nodes : List (Node (Annotated AttrDecl))) (xs : WrittenAttributes) → ShowsAttributes nodes xs → ShowsAttributes (node ∷ nodes) (attribute ns n r t xs)
     pub lawful : All IsFaultless (sites_of_attr syn)
 
+  -- the tokens are annotations that make these notes
   pub record ReadsNotes (ts : List Token) (notes : Notes) : Type 0 where
     pub syns : List AnnotationSyntax
     pub parsed : AreAnnotations ts syns
@@ -121,5 +124,6 @@ module _ (source : List ℕ) where
   abbrev pub ReadsItem : List Token → WrittenItem → Type 0
   ReadsItem ts = Reads (IsItem ts) (tree.IsItemOf source) SaysItem item_sites
 
+  -- the tokens have a syntax without a user fault, and a tree of it that says this
   abbrev pub ReadsSchema : List Token → List WrittenItem → Type 0
   ReadsSchema ts = ReadsAll (IsSyntax ts) (tree.IsItemOf source) SaysItem item_sites

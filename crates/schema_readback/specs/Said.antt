@@ -10,6 +10,7 @@ use Rattle.schema_readback.specs.Written.{WrittenType, WrittenAttributes}
 use Rattle.schema_readback.specs.Spellings.{SpellsType}
 use Rattle.schema_readback.specs.Shows.{ShowsType, ShowsAttributes}
 
+-- something that the type of a tree shows, and that the lexemes spell
 pub record SaidType (n : «Type») (u : List Lexeme) : Type 0 where
   pub written : WrittenType
   pub spell : SpellsType u written
@@ -27,6 +28,7 @@ pub record Said {T A : Type 0} (Says : T → A → Type 0) (P : List Lexeme → 
   pub spell : P u written
   pub says : Says n written
 
+-- something that the tree says in each of its parts, and that the lexemes spell
 pub record SaidAll {T A : Type 0} (Says : T → A → Type 0) (Spell : List A → Type 0) (ns : List T) : Type 0 where
   pub written : List A
   pub spell : Spell written

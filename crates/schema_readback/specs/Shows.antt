@@ -91,6 +91,7 @@ SaysDecl _ _ = ⊥
 abbrev pub SaysDeclared : Annotated (Node Declaration) → WrittenDeclared → Type 0
 SaysDeclared a d = SaysDecl a.item.node d.decl × (a.annotations.0 ≡ d.notes)
 
+-- a namespace of a tree says what is written of it, whatever its places are
 abbrev pub SaysItem : Annotated Namespace → WrittenItem → Type 0
 SaysItem a (namespace ns name ds) = SaysOptionalPath a.item.name (Some name) × AllZip SaysDeclared a.item.decls ds × (a.annotations.0 ≡ ns)
 SaysItem a (outside d) = (a.item.name ≡ None) × AllZip SaysDeclared a.item.decls (d ∷ []) × (a.annotations.0 ≡ [])

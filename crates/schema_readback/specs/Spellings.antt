@@ -137,5 +137,6 @@ pub data SpellsItem : List Lexeme → WrittenItem → Type 0 where
       → SpellsItem (a ++ n ∷ (p ++ o ∷ (u ++ c ∷ []))) (namespace ns name ds)
   outside_of : {u : List Lexeme} {d : WrittenDeclared} → SpellsDeclared u d → SpellsItem u (outside d)
 
+-- the lexemes spell the items in turn
 abbrev pub SpellsSchema : List Lexeme → List WrittenItem → Type 0
 SpellsSchema = AreManyOf SpellsItem

@@ -12,6 +12,7 @@ use Rattle.schema_syntax_tree.specs.declared.annotated.Annotated.{Annotated}
 use Rattle.schema_syntax_reader.specs.Trees as tree
 
 module _ (source : List ℕ) where
+  -- what the node of a type of this form holds
   abbrev pub ViewOfType : TypeSyntax-F TypeSyntax AttrSyntax → Node «Type» → Type 0
   ViewOfType (TypeSyntax-F.Path p) n = (q : Path) × (n.node ≡ shape.Ident q) × tree.IsPathOf source p q
   ViewOfType (TypeSyntax-F.Set t loc) n = (m : Node «Type») × (n.node ≡ shape.Set m) × tree.IsTypeOf source t m

@@ -4,6 +4,7 @@ use Rattle.schema_syntax_tree.specs.declared.pr.PR.{PR}
 use Rattle.schema_syntax_reader.specs.Leaves.{Notes}
 
 mutual
+  -- a type: a name, a set, or a record with its attributes
   pub data WrittenType : Type 0 where
     -- the components of a name
     path : List (List ℕ) → WrittenType
@@ -41,6 +42,7 @@ pub record WrittenDeclared : Type 0 where
   pub notes : Notes
   pub decl : WrittenDecl
 
+-- a namespace with its declarations, or a declaration outside of one
 pub data WrittenItem : Type 0 where
   namespace : Notes → List (List ℕ) → List WrittenDeclared → WrittenItem
   outside : WrittenDeclared → WrittenItem

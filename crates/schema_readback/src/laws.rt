@@ -1,4 +1,4 @@
-//! Laws.
+//! Laws of what is written. Each law is what its function ensures; the functions do nothing but cite laws below them.
 ghost use Rattle.std.specs.Prelude.{◌≡◌, ℕ, Bool, List};
 ghost use Rattle.std.specs.List.{All, AllByRecursion, AllZip, flat_map};
 ghost use Rattle.cedar_names.specs.Meaning.{PlainType, SchemaMeaning};
