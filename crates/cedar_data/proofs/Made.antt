@@ -13,12 +13,14 @@ tied Less = refl
 tied Equal = refl
 tied Greater = refl
 
-or_then : {X : Type 0} (a : Option X) (t : Bool) (v : X) (old : Option X) → option_or (option_or a (cond t (Some v) None)) old ≡ option_or a (cond t (Some v) old)
+or_then : {X : Type 0} (a : Option X) (t : Bool) (v : X) (old : Option X)
+    → option_or (option_or a (cond t (Some v) None)) old ≡ option_or a (cond t (Some v) old)
 or_then None true v old = refl
 or_then None false v old = refl
 or_then (Some x) t v old = refl
 
-pub last_more : {K X : Type 0} (R : K → K → Ordering) → IsTotalOrder R → (q k : K) (v : X) (rest : List (K × X)) (old new : Option X) → new ≡ cond (is_at (R k) q) (Some v) old
+pub last_more : {K X : Type 0} (R : K → K → Ordering) → IsTotalOrder R
+    → (q k : K) (v : X) (rest : List (K × X)) (old new : Option X) → new ≡ cond (is_at (R k) q) (Some v) old
     → option_or (last_at (is_at (R q)) rest) new ≡ option_or (last_at (is_at (R q)) ((k, v) ∷ rest)) old
 last_more R total q k v rest old new is =
     let same : is_at (R k) q ≡ is_at (R q) k = ap is_eq (total.antisymm k q) ∙ tied (R q k) in

@@ -12,7 +12,8 @@ use Rattle.cedar_identifiers.specs.NamePieces.{space_len, starts_twice, blank_le
 use Rattle.cedar_data.specs.Words.{is_in_line}
 
 -- a character with White_Space at the front is a blank
-pub space_from_char : (text rest : List ℕ) (c : ℕ) → IsUtf8 text → text ≡ encode_utf8 c ++ rest → is_whitespace c ≡ true
+pub space_from_char : (text rest : List ℕ) (c : ℕ) → IsUtf8 text → text ≡ encode_utf8 c ++ rest
+    → is_whitespace c ≡ true
     → (space_len (chars text) ≡ length (encode_utf8 c)) × (0 < space_len (chars text)) × (rest ≡ drop (space_len (chars text)) text)
 space_from_char text rest c u split white =
     let len : space_len (chars text) ≡ length (encode_utf8 c) = ap space_len (chars_past_char text rest c u split) ∙ rw white refl in
@@ -27,7 +28,8 @@ pub record PastBlank (text : List ℕ) (n : ℕ) : Type 0 where
 past_space : (text : List ℕ) → IsUtf8 text → 0 < space_len (chars text) → PastBlank text (space_len (chars text))
 past_space text u h = by_chars (chars text) refl
   where
-    by_char : (c : ℕ) (cs : List ℕ) (w : Bool) → chars text ≡ c ∷ cs → is_whitespace c ≡ w → PastBlank text (space_len (chars text))
+    by_char : (c : ℕ) (cs : List ℕ) (w : Bool) → chars text ≡ c ∷ cs → is_whitespace c ≡ w
+        → PastBlank text (space_len (chars text))
     by_char c cs false e f = let len : space_len (chars text) ≡ 0 = ap space_len e ∙ rw f refl in absurd (omega (arith, h, len))
     by_char c cs true e f =
         let split : text ≡ encode_utf8 c ++ encode_utf8_all cs = sym (encodes-chars text u) ∙ ap encode_utf8_all e in
@@ -56,7 +58,8 @@ pub past-blank : (text : List ℕ) → IsUtf8 text → 0 < blank_len text → Pa
 unfolding blank_len
 past-blank text u h = by_test (starts_twice 47 text) h
   where
-    by_test : (t : Bool) → 0 < cond t (prefix_len is_in_line text) (space_len (chars text)) → PastBlank text (cond t (prefix_len is_in_line text) (space_len (chars text)))
+    by_test : (t : Bool) → 0 < cond t (prefix_len is_in_line text) (space_len (chars text))
+        → PastBlank text (cond t (prefix_len is_in_line text) (space_len (chars text)))
     by_test true some = record {
       rest = IsUtf8-drop text (prefix_len is_in_line text) u (line-boundary text u);
       shorter = omega (arith, some, length-drop (prefix_len is_in_line text) text, prefix_len-le-length is_in_line text);
@@ -64,11 +67,13 @@ past-blank text u h = by_test (starts_twice 47 text) h
     by_test false some = past_space text u some
 
 -- what begins behind what begins a text
-pub Begins-append : {text here end : List ℕ} {ps qs : List (List ℕ)} → BeginsWith text ps here → BeginsWith here qs end → BeginsWith text (ps ++ qs) end
+pub Begins-append : {text here end : List ℕ} {ps qs : List (List ℕ)} → BeginsWith text ps here
+    → BeginsWith here qs end → BeginsWith text (ps ++ qs) end
 Begins-append here e = e
 Begins-append (blank some b) e = blank some (Begins-append b e)
 Begins-append (piece no_blank some b) e = piece no_blank some (Begins-append b e)
 
 -- one blank more
-pub behind-blank : (text rest after : List ℕ) → 0 < blank_len rest → after ≡ drop (blank_len rest) rest → BeginsWith text [] rest → BeginsWith text [] after
+pub behind-blank : (text rest after : List ℕ) → 0 < blank_len rest → after ≡ drop (blank_len rest) rest
+    → BeginsWith text [] rest → BeginsWith text [] after
 behind-blank text rest after some e b = subst (BeginsWith text []) (sym e) (Begins-append b (blank some here))

@@ -44,12 +44,14 @@ unfolding blank_len
 blank_len-nil = rw chars-nil refl
 
 -- one turn, at a blank
-behind_blank : (m n b : ℕ) (bs : List ℕ) → 0 < m → pieces_behind m n (b ∷ bs) (λ k. pieces_at bs k) ≡ pieces_of (drop m (b ∷ bs))
+behind_blank : (m n b : ℕ) (bs : List ℕ) → 0 < m
+    → pieces_behind m n (b ∷ bs) (λ k. pieces_at bs k) ≡ pieces_of (drop m (b ∷ bs))
 behind_blank zero n b bs h = absurd (omega (arith, h))
 behind_blank (suc m) n b bs h = pieces_at-skip bs m
 
 -- one turn, at a piece
-behind_piece : (n b : ℕ) (bs : List ℕ) → 0 < n → pieces_behind 0 n (b ∷ bs) (λ k. pieces_at bs k) ≡ take n (b ∷ bs) ∷ pieces_of (drop n (b ∷ bs))
+behind_piece : (n b : ℕ) (bs : List ℕ) → 0 < n
+    → pieces_behind 0 n (b ∷ bs) (λ k. pieces_at bs k) ≡ take n (b ∷ bs) ∷ pieces_of (drop n (b ∷ bs))
 behind_piece zero b bs h = absurd (omega (arith, h))
 behind_piece (suc n) b bs h = ap (λ ps. take (suc n) (b ∷ bs) ∷ ps) (pieces_at-skip bs n)
 
@@ -60,7 +62,8 @@ pieces_of-blank [] h = absurd (omega (arith, h, blank_len-nil))
 pieces_of-blank (b ∷ bs) h = behind_blank (blank_len (b ∷ bs)) (piece_len (b ∷ bs)) b bs h
 
 -- a piece stands before the others
-pieces_of-piece : (text : List ℕ) → blank_len text ≡ 0 → 0 < piece_len text → pieces_of text ≡ take (piece_len text) text ∷ pieces_of (drop (piece_len text) text)
+pieces_of-piece : (text : List ℕ) → blank_len text ≡ 0 → 0 < piece_len text
+    → pieces_of text ≡ take (piece_len text) text ∷ pieces_of (drop (piece_len text) text)
 unfolding pieces_of pieces_at
 pieces_of-piece [] e h = absurd (omega (arith, h))
 pieces_of-piece (b ∷ bs) e h =
@@ -75,7 +78,8 @@ pieces_of-stuck (b ∷ bs) n =
     ap (λ k. pieces_behind 0 k (b ∷ bs) (λ i. pieces_at bs i)) n.no_piece
 
 -- what begins the text is a front of its pieces
-pub pieces_of-begins : {text rest : List ℕ} {ps : Pieces} → BeginsWith text ps rest → pieces_of text ≡ ps ++ pieces_of rest
+pub pieces_of-begins : {text rest : List ℕ} {ps : Pieces} → BeginsWith text ps rest
+    → pieces_of text ≡ ps ++ pieces_of rest
 pieces_of-begins here = refl
 pieces_of-begins (blank {text = text} some b) = pieces_of-blank text some ∙ pieces_of-begins b
 pieces_of-begins (piece {text = text} no_blank some b) = pieces_of-piece text no_blank some ∙ ap (λ qs. take (piece_len text) text ∷ qs) (pieces_of-begins b)

@@ -25,22 +25,27 @@ joined_ascii i (j ∷ ids) =
     IsAscii-append i.text (codes "::" ++ joined_by (codes "::") (texts_of (j ∷ ids))) (word_ascii i.text (id_is_word i.text i.word))
     (IsAscii-append (codes "::") (joined_by (codes "::") (texts_of (j ∷ ids))) (IsAscii-from_test (codes "::") refl) (joined_ascii j ids))
 
-pub joined_bytes : (i : Id) (ids : List Id) → encode_utf8_all (joined_by (codes "::") (texts_of (i ∷ ids))) ≡ joined_by (codes "::") (texts_of (i ∷ ids))
+pub joined_bytes : (i : Id) (ids : List Id)
+    → encode_utf8_all (joined_by (codes "::") (texts_of (i ∷ ids))) ≡ joined_by (codes "::") (texts_of (i ∷ ids))
 joined_bytes i ids = encodes-IsAscii (joined_by (codes "::") (texts_of (i ∷ ids))) (joined_ascii i ids)
 
 -- the components are the words
-pub are_allowed : (kind : NameKind) (text : List ℕ) (id : Id) (ids : List Id) (w : AnyId) (ws : List AnyId) → HasWords kind text (word_texts (w ∷ ws))
-    → id.text ≡ w.text → refuses kind w.text ≡ false → texts_of ids ≡ word_texts ws → find (refuses kind) (word_texts ws) ≡ None → AreAllowed kind text (texts_of (id ∷ ids))
+pub are_allowed : (kind : NameKind) (text : List ℕ) (id : Id) (ids : List Id) (w : AnyId) (ws : List AnyId)
+    → HasWords kind text (word_texts (w ∷ ws))
+    → id.text ≡ w.text → refuses kind w.text ≡ false → texts_of ids ≡ word_texts ws
+    → find (refuses kind) (word_texts ws) ≡ None → AreAllowed kind text (texts_of (id ∷ ids))
 are_allowed kind text id ids w ws h e free es none =
     let same : word_texts (w ∷ ws) ≡ texts_of (id ∷ ids) = λ i. sym e i ∷ sym es i in
     subst (AreAllowed kind text) same (record { has = h; allowed = rw free none })
 
 -- where the text is the name's, the name is read
-pub is_normal : (kind : NameKind) (text : List ℕ) (words : List (List ℕ)) (r : Bool) → AreAllowed kind text words → r ≡ bytes_eq (joined_by (codes "::") words) text → r ≡ true → ReadsAs kind text words
+pub is_normal : (kind : NameKind) (text : List ℕ) (words : List (List ℕ)) (r : Bool) → AreAllowed kind text words
+    → r ≡ bytes_eq (joined_by (codes "::") words) text → r ≡ true → ReadsAs kind text words
 is_normal kind text words r a e f = record { has = a.has; allowed = a.allowed; normal = sym ((bytes_eq-Decides (joined_by (codes "::") words) text).0 (sym e ∙ f)) }
 
 -- else it is not normalized
-pub is_no_normal : (kind : NameKind) (text : List ℕ) (words : List (List ℕ)) (r : Bool) → AreAllowed kind text words → r ≡ bytes_eq (joined_by (codes "::") words) text → r ≡ false → NameFaultOf kind text NotNormalized
+pub is_no_normal : (kind : NameKind) (text : List ℕ) (words : List (List ℕ)) (r : Bool) → AreAllowed kind text words
+    → r ≡ bytes_eq (joined_by (codes "::") words) text → r ≡ false → NameFaultOf kind text NotNormalized
 is_no_normal kind text words r a e f =
     (words, a.has, a.allowed, λ n. false≢true (sym (sym e ∙ f) ∙ (bytes_eq-Decides (joined_by (codes "::") words) text).1 (sym n)))
 
@@ -49,7 +54,8 @@ pub no_cedar : (ws : List (List ℕ)) → find (refuses Name) ws ≡ None → li
 no_cedar [] e = refl
 no_cedar (w ∷ ws) e = by_test (is_reserved w) (is_cedar w) (λ k. no_cedar ws k) e
   where
-    by_test : (r t : Bool) → (find (refuses Name) ws ≡ None → list_any is_cedar ws ≡ false) → cond (r || t) (Some w) (find (refuses Name) ws) ≡ None → (t || list_any is_cedar ws) ≡ false
+    by_test : (r t : Bool) → (find (refuses Name) ws ≡ None → list_any is_cedar ws ≡ false)
+        → cond (r || t) (Some w) (find (refuses Name) ws) ≡ None → (t || list_any is_cedar ws) ≡ false
     by_test true t rec k = cc
     by_test false true rec k = cc
     by_test false false rec k = rec k

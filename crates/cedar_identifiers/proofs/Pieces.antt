@@ -19,13 +19,15 @@ digit_ascii : (b : ℕ) → is_ascii_digit b ≡ true → b < 128
 digit_ascii b h = grind (arith, nat_tests)
 
 -- one of ASCII bytes is ASCII
-any_ascii : (ms : List ℕ) (b : ℕ) → list_all (λ m. nat_lt m 128) ms ≡ true → list_any (λ m. m == b) ms ≡ true → b < 128
+any_ascii : (ms : List ℕ) (b : ℕ) → list_all (λ m. nat_lt m 128) ms ≡ true → list_any (λ m. m == b) ms ≡ true
+    → b < 128
 any_ascii [] b h k = cc
 any_ascii (m ∷ ms) b h k =
     let rest = any_ascii ms b (second_so (nat_lt m 128) (list_all (λ n. nat_lt n 128) ms) h) in
     by_test (m == b) refl k rest
   where
-    by_test : (t : Bool) → (m == b) ≡ t → (t || list_any (λ n. n == b) ms) ≡ true → (list_any (λ n. n == b) ms ≡ true → b < 128) → b < 128
+    by_test : (t : Bool) → (m == b) ≡ t → (t || list_any (λ n. n == b) ms) ≡ true
+        → (list_any (λ n. n == b) ms ≡ true → b < 128) → b < 128
     by_test true e l rest = let low : nat_lt m 128 ≡ true = first_so (nat_lt m 128) (list_all (λ n. nat_lt n 128) ms) h in grind (arith, nat_tests)
     by_test false e l rest = rest l
 
@@ -47,7 +49,8 @@ piece_byte : (text : List ℕ) (k : ℕ) → k < piece_len text → get_or text 
 piece_byte [] k h = absurd (omega (arith, h))
 piece_byte (b ∷ bs) k h = by_start (is_word_start b) (is_ascii_digit b) (starts_twice 58 (b ∷ bs)) (is_mark b) refl refl h
   where
-    by_start : (w d t m : Bool) → starts_twice 58 (b ∷ bs) ≡ t → is_mark b ≡ m → k < len_by w d t m (b ∷ bs) → get_or (b ∷ bs) k 0 < 128
+    by_start : (w d t m : Bool) → starts_twice 58 (b ∷ bs) ≡ t → is_mark b ≡ m → k < len_by w d t m (b ∷ bs)
+        → get_or (b ∷ bs) k 0 < 128
     by_start true d t m e f g = part_ascii _ (prefix_len_passes is_word_part (b ∷ bs) k 0 g)
     by_start false true t m e f g = digit_ascii _ (prefix_len_passes is_ascii_digit (b ∷ bs) k 0 g)
     by_start false false true m e f g = twice_ascii b bs k e g
@@ -88,6 +91,7 @@ pub piece_chars : (text : List ℕ) → chars (take (piece_len text) text) ≡ t
 piece_chars text = chars-IsAscii _ (front_ascii (piece_len text) text (piece_byte text))
 
 -- the piece at the front begins the text
-pub begins-piece : (text rest p after : List ℕ) → BeginsWith text [] rest → blank_len rest ≡ 0 → 0 < piece_len rest → p ≡ take (piece_len rest) rest → after ≡ drop (piece_len rest) rest → BeginsWith text (p ∷ []) after
+pub begins-piece : (text rest p after : List ℕ) → BeginsWith text [] rest → blank_len rest ≡ 0 → 0 < piece_len rest
+    → p ≡ take (piece_len rest) rest → after ≡ drop (piece_len rest) rest → BeginsWith text (p ∷ []) after
 begins-piece text rest p after b no_blank some e f =
     subst (λ (x : List ℕ). BeginsWith text (p ∷ []) x) (sym f) (subst (λ (x : List ℕ). BeginsWith text (x ∷ []) (drop (piece_len rest) rest)) (sym e) (Begins-append b (piece no_blank some here)))

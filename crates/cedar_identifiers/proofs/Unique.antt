@@ -25,12 +25,15 @@ verdict single due [] = Over due
 verdict single due (p ∷ ps) = after_next p (due_next single due p) (λ d. verdict single d ps)
 
 -- pieces that can stand
-verdict-append : (single due d : Bool) (ps qs : List (List ℕ)) → due_behind single due ps ≡ Some d → verdict single due (ps ++ qs) ≡ verdict single d qs
+verdict-append : (single due d : Bool) (ps qs : List (List ℕ)) → due_behind single due ps ≡ Some d
+    → verdict single due (ps ++ qs) ≡ verdict single d qs
 verdict-append single due d [] qs e = let same : due ≡ d = cc in ap (λ x. verdict single x qs) same
 verdict-append single due d (p ∷ ps) qs e = by_next (due_next single due p) (λ x. verdict-append single x d ps qs) e
   where
-    by_next : (n : Option Bool) → ((x : Bool) → due_behind single x ps ≡ Some d → verdict single x (ps ++ qs) ≡ verdict single d qs)
-        → option_and_then (λ x. due_behind single x ps) n ≡ Some d → after_next p n (λ x. verdict single x (ps ++ qs)) ≡ verdict single d qs
+    by_next : (n : Option Bool)
+        → ((x : Bool) → due_behind single x ps ≡ Some d → verdict single x (ps ++ qs) ≡ verdict single d qs)
+        → option_and_then (λ x. due_behind single x ps) n ≡ Some d
+        → after_next p n (λ x. verdict single x (ps ++ qs)) ≡ verdict single d qs
     by_next None rec h = cc
     by_next (Some x) rec h = rec x h
 
@@ -49,12 +52,14 @@ outcome (Reserved w) = Over false
 outcome NotNormalized = Over false
 outcome Memory = Over false
 
-words_over : (kind : NameKind) (text : List ℕ) (ws : List (List ℕ)) → HasWords kind text ws → (pieces_of text ≡ separated ws) × (verdict (is_single kind) true (pieces_of text) ≡ Over false)
+words_over : (kind : NameKind) (text : List ℕ) (ws : List (List ℕ)) → HasWords kind text ws
+    → (pieces_of text ≡ separated ws) × (verdict (is_single kind) true (pieces_of text) ≡ Over false)
 words_over kind text ws h =
     let all : pieces_of text ≡ separated ws ++ [] = pieces_of-begins h.pieces ∙ ap (λ ps. separated ws ++ ps) pieces_of-nil in
     (all ∙ append-nil (separated ws), ap (verdict (is_single kind) true) all ∙ verdict-append (is_single kind) true false (separated ws) [] h.whole)
 
-faults_end : (kind : NameKind) (text : List ℕ) (f : NameFault) → f ≢ Memory → NameFaultOf kind text f → verdict (is_single kind) true (pieces_of text) ≡ outcome f
+faults_end : (kind : NameKind) (text : List ℕ) (f : NameFault) → f ≢ Memory → NameFaultOf kind text f
+    → verdict (is_single kind) true (pieces_of text) ≡ outcome f
 faults_end kind text Invalid m (ps, due, rest, b, d, n) =
     ap (verdict (is_single kind) true) (pieces_of-begins b ∙ ap (λ qs. ps ++ qs) (pieces_of-stuck rest n)) ∙
     (verdict-append (is_single kind) true due ps ([] ∷ []) d ∙ ap (λ x. after_next [] x (λ e. Over e)) (nothing_next (is_single kind) due))
@@ -79,7 +84,8 @@ separated-same (a ∷ b ∷ vs) [] e = cc
 separated-same (a ∷ b ∷ vs) (x ∷ []) e = cc
 separated-same (a ∷ b ∷ vs) (x ∷ y ∷ ws) e = let rest : b ∷ vs ≡ y ∷ ws = separated-same (b ∷ vs) (y ∷ ws) cc in cc
 
-one_words : (kind : NameKind) (text : List ℕ) (v w : List (List ℕ)) → HasWords kind text v → HasWords kind text w → v ≡ w
+one_words : (kind : NameKind) (text : List ℕ) (v w : List (List ℕ)) → HasWords kind text v → HasWords kind text w
+    → v ≡ w
 one_words kind text v w h k = separated-same v w (sym (words_over kind text v h).0 ∙ (words_over kind text w k).0)
 
 -- the last of them
@@ -102,15 +108,18 @@ no_fault text kind w End r f = let e = sym (faults_end kind text End (λ x. cc) 
 no_fault text kind w (Reserved x) r (ws, h, e) = let same = one_words kind text w ws r.has h in let k : find (refuses kind) ws ≡ None = subst (λ (y : List (List ℕ)). find (refuses kind) y ≡ None) same r.allowed in cc
 no_fault text kind w NotNormalized r (ws, h, e, n) = let same = one_words kind text w ws r.has h in absurd (n (r.normal ∙ ap (joined_by (codes "::")) same))
 
-same_end : (kind : NameKind) (text : List ℕ) (f g : NameFault) → f ≢ Memory → g ≢ Memory → NameFaultOf kind text f → NameFaultOf kind text g → outcome f ≡ outcome g
+same_end : (kind : NameKind) (text : List ℕ) (f g : NameFault) → f ≢ Memory → g ≢ Memory → NameFaultOf kind text f
+    → NameFaultOf kind text g → outcome f ≡ outcome g
 same_end kind text f g m n h k = sym (faults_end kind text f m h) ∙ faults_end kind text g n k
 
-refused_once : (kind : NameKind) (text x y : List ℕ) → NameFaultOf kind text (Reserved x) → NameFaultOf kind text (Reserved y) → x ≡ y
+refused_once : (kind : NameKind) (text x y : List ℕ) → NameFaultOf kind text (Reserved x)
+    → NameFaultOf kind text (Reserved y) → x ≡ y
 refused_once kind text x y (v, h, e) (w, k, f) =
     let same : v ≡ w = one_words kind text v w h k in
     let both : Some x ≡ Some y = sym e ∙ (ap (find (refuses kind)) same ∙ f) in cc
 
-refused_or_not : (kind : NameKind) (text x : List ℕ) → NameFaultOf kind text (Reserved x) → NameFaultOf kind text NotNormalized → ⊥
+refused_or_not : (kind : NameKind) (text x : List ℕ) → NameFaultOf kind text (Reserved x)
+    → NameFaultOf kind text NotNormalized → ⊥
 refused_or_not kind text x (v, h, e) (w, k, f, n) =
     let same : v ≡ w = one_words kind text v w h k in
     let both : Some x ≡ None = sym e ∙ (ap (find (refuses kind)) same ∙ f) in cc

@@ -37,8 +37,11 @@ piece_len (b ∷ bs) =
 -- The text begins with these pieces in turn, blanks among them, and rest follows.
 pub data BeginsWith : List ℕ → List (List ℕ) → List ℕ → Type 0 where
   here : {text : List ℕ} → BeginsWith text [] text
-  blank : {text rest : List ℕ} {pieces : List (List ℕ)} → 0 < blank_len text → BeginsWith (drop (blank_len text) text) pieces rest → BeginsWith text pieces rest
-  piece : {text rest : List ℕ} {pieces : List (List ℕ)} → blank_len text ≡ 0 → 0 < piece_len text → BeginsWith (drop (piece_len text) text) pieces rest → BeginsWith text (take (piece_len text) text ∷ pieces) rest
+  blank : {text rest : List ℕ} {pieces : List (List ℕ)} → 0 < blank_len text
+      → BeginsWith (drop (blank_len text) text) pieces rest → BeginsWith text pieces rest
+  piece : {text rest : List ℕ} {pieces : List (List ℕ)} → blank_len text ≡ 0 → 0 < piece_len text
+      → BeginsWith (drop (piece_len text) text) pieces rest
+      → BeginsWith text (take (piece_len text) text ∷ pieces) rest
 
 -- the text isn't over, and neither a blank nor a piece stands at its front
 pub record NothingStands (text : List ℕ) : Type 0 where

@@ -31,7 +31,8 @@ no_colon_id : (i : Id) → no_colon i.text ≡ true
 no_colon_id i = no_colon_word i.text (id_is_word (is_word i.text) (not (is_reserved i.text)) i.word)
 
 -- a text that ends at a colon has one word before it
-cut_both : (w v r s : List ℕ) → no_colon w ≡ true → no_colon v ≡ true → w ++ (58 ∷ r) ≡ v ++ (58 ∷ s) → (w ≡ v) × (r ≡ s)
+cut_both : (w v r s : List ℕ) → no_colon w ≡ true → no_colon v ≡ true → w ++ (58 ∷ r) ≡ v ++ (58 ∷ s)
+    → (w ≡ v) × (r ≡ s)
 cut_both [] [] r s p q e = (refl, cc)
 cut_both [] (d ∷ v) r s p q e = absurd (grind (arith, nat_tests))
 cut_both (c ∷ w) [] r s p q e = absurd (grind (arith, nat_tests))
@@ -48,7 +49,9 @@ cut_none [] r (d ∷ v) q e = grind (arith, nat_tests)
 cut_none (c ∷ w) r [] q e = cc
 cut_none (c ∷ w) r (d ∷ v) q e = cut_none w r v (grind (arith, nat_tests)) cc
 
-told_by : (i j : Id) (xs ys : List Id) → joined_by (codes "::") (texts_of (i ∷ xs)) ≡ joined_by (codes "::") (texts_of (j ∷ ys)) → texts_of (i ∷ xs) ≡ texts_of (j ∷ ys)
+told_by : (i j : Id) (xs ys : List Id)
+    → joined_by (codes "::") (texts_of (i ∷ xs)) ≡ joined_by (codes "::") (texts_of (j ∷ ys))
+    → texts_of (i ∷ xs) ≡ texts_of (j ∷ ys)
 told_by i j [] [] e = ap (λ t. t ∷ []) e
 told_by i j [] (y ∷ ys) e = absurd (cut_none j.text _ i.text (no_colon_id i) (sym e))
 told_by i j (x ∷ xs) [] e = absurd (cut_none i.text _ j.text (no_colon_id j) e)
@@ -60,5 +63,6 @@ told_by i j (x ∷ xs) (y ∷ ys) e =
     cc
 
 -- names with one text have the same components
-pub told : (a b : InternalName) → joined_by (codes "::") (components_of a) ≡ joined_by (codes "::") (components_of b) → components_of a ≡ components_of b
+pub told : (a b : InternalName) → joined_by (codes "::") (components_of a) ≡ joined_by (codes "::") (components_of b)
+    → components_of a ≡ components_of b
 told a b = told_by a.first b.first a.others b.others

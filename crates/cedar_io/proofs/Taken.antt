@@ -7,7 +7,8 @@ front : (ys rest : List ℕ) (n : ℕ) → length ys ≡ n → take n (ys ++ res
 front ys rest n e = take-append-le n ys rest (omega arith) ∙ take_all n ys (omega arith)
 
 -- what stood at a place is what was copied from it and what stands after
-pub split_at_place : (bytes buf copied : List ℕ) (at n : ℕ) → at + n ≤ length bytes → copied ≡ take n (drop at bytes) → drop at bytes ≡ take n (copied ++ drop n buf) ++ drop (at + n) bytes
+pub split_at_place : (bytes buf copied : List ℕ) (at n : ℕ) → at + n ≤ length bytes → copied ≡ take n (drop at bytes)
+    → drop at bytes ≡ take n (copied ++ drop n buf) ++ drop (at + n) bytes
 split_at_place bytes buf copied at n h e =
     let long : length copied ≡ n = ap length e ∙ length-take-le n (drop at bytes) (omega (arith, length-drop at bytes)) in
     rw (front copied (drop n buf) n long, e, ← drop-drop n at bytes) (sym (take-append-drop n (drop at bytes)))

@@ -7,7 +7,8 @@ use Rattle.cedar_names.specs.TableNames.{is_builtin, word_fault, repeats, fault_
 use Rattle.cedar_names.specs.declared.table_error.TableError.{TableError}
 use Rattle.cedar_names.specs.declared.table_error.TableError.TheVariants.{NotWord, Reserved, Builtin, Repeated}
 
-last_test : {A : Type 0} (a b c : Bool) (x y z : A) → (if a then Some x else (if b then Some y else (if c then Some z else None))) ≡ None → c ≡ false
+last_test : {A : Type 0} (a b c : Bool) (x y z : A)
+    → (if a then Some x else (if b then Some y else (if c then Some z else None))) ≡ None → c ≡ false
 last_test true b c x y z h = cc
 last_test false true c x y z h = cc
 last_test false false true x y z h = cc
@@ -17,14 +18,19 @@ pub not_builtin : (at : ℕ) (name : List ℕ) → word_fault at name ≡ None �
 not_builtin at name h = last_test (not (is_word name)) (is_reserved name || is_cedar name) (is_builtin name) (NotWord at) (Reserved at) (Builtin at) h
 
 -- the name at a place, by its own fault and by whether it stands before
-whole : (names : List (List ℕ)) (at : ℕ) (w : Option TableError) (b : Bool) → word_fault at (get_or names at []) ≡ w → repeats (take at names) (get_or names at []) ≡ b → fault_at names at ≡ option_or w (if b then Some (Repeated at) else None)
+whole : (names : List (List ℕ)) (at : ℕ) (w : Option TableError) (b : Bool) → word_fault at (get_or names at []) ≡ w
+    → repeats (take at names) (get_or names at []) ≡ b
+    → fault_at names at ≡ option_or w (if b then Some (Repeated at) else None)
 whole names at w b e r = ap (λ x. option_or x (if repeats (take at names) (get_or names at []) then Some (Repeated at) else None)) e ∙ ap (λ x. option_or w (if x then Some (Repeated at) else None)) r
 
-pub own_fault : (names : List (List ℕ)) (at : ℕ) (f : TableError) → word_fault at (get_or names at []) ≡ Some f → fault_at names at ≡ Some f
+pub own_fault : (names : List (List ℕ)) (at : ℕ) (f : TableError) → word_fault at (get_or names at []) ≡ Some f
+    → fault_at names at ≡ Some f
 own_fault names at f e = whole names at (Some f) (repeats (take at names) (get_or names at [])) e refl
 
-pub repeated_fault : (names : List (List ℕ)) (at : ℕ) → word_fault at (get_or names at []) ≡ None → repeats (take at names) (get_or names at []) ≡ true → fault_at names at ≡ Some (Repeated at)
+pub repeated_fault : (names : List (List ℕ)) (at : ℕ) → word_fault at (get_or names at []) ≡ None
+    → repeats (take at names) (get_or names at []) ≡ true → fault_at names at ≡ Some (Repeated at)
 repeated_fault names at e r = whole names at None true e r
 
-pub no_fault : (names : List (List ℕ)) (at : ℕ) → word_fault at (get_or names at []) ≡ None → repeats (take at names) (get_or names at []) ≡ false → fault_at names at ≡ None
+pub no_fault : (names : List (List ℕ)) (at : ℕ) → word_fault at (get_or names at []) ≡ None
+    → repeats (take at names) (get_or names at []) ≡ false → fault_at names at ≡ None
 no_fault names at e r = whole names at None false e r

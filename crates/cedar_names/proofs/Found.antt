@@ -1,14 +1,11 @@
 -- Sets of keys, by what the order sees of them.
-use Rattle.std.proofs.Common.{◌≡◌, Bool, true, false, ◌||◌, List, [], ◌∷◌, ◌++◌, map, refl, sym, ap, ◌∙◌, subst, append_assoc}
+use Rattle.std.proofs.Common.{◌≡◌, Bool, true, false, ◌||◌, List, [], ◌∷◌, map, refl, sym, ap, ◌∙◌}
 use Rattle.std.specs.declared.cmp.Ordering.{Ordering}
 use Rattle.std.specs.declared.cmp.Ordering.TheVariants.{Less, Equal, Greater}
-use Rattle.std.specs.Ordering.{is_eq, match_ordering, ordering_reverse}
-use Rattle.std.specs.Cmp.{IsTotalOrder}
-use Rattle.std.specs.List.{list_any, AllByRecursion}
-use Rattle.std.specs.List.Sorted.{IsStrictlySortedBy}
+use Rattle.std.specs.Ordering.{is_eq, match_ordering}
+use Rattle.std.specs.List.{list_any}
 use Rattle.std.specs.BTreeMap.{is_at}
 use Rattle.std.specs.BTreeSet.{insert_key}
-use Rattle.std.proofs.lemmas.Map.Keys.{sorted_head, sorted_tail}
 
 or_last : (a : Bool) → (a || false) ≡ (false || a)
 or_last true = refl
@@ -31,7 +28,8 @@ pub or_right : (b c a : Bool) → (b || (c || a)) ≡ ((b || c) || a)
 or_right true c a = refl
 or_right false c a = refl
 
-pub any_map : {K N : Type 0} (h : K → N) (f : N → Bool) (ks : List K) → list_any f (map h ks) ≡ list_any (λ k. f (h k)) ks
+pub any_map : {K N : Type 0} (h : K → N) (f : N → Bool) (ks : List K)
+    → list_any f (map h ks) ≡ list_any (λ k. f (h k)) ks
 any_map h f [] = refl
 any_map h f (k ∷ ks) = ap (λ b. f (h k) || b) (any_map h f ks)
 
@@ -42,30 +40,14 @@ module _ {K N : Type 0} (R : K → K → Ordering) (h : K → N) (S : N → N �
   found q (k ∷ ks) = λ i. e q k i || found q ks i
 
   -- what holds of some key, once one more is there
-  pub inserted : (f : N → Bool) → ((a b : N) → S a b ≡ true → f a ≡ f b) → (ks : List K) (k : K) → list_any (λ x. f (h x)) (insert_key R ks k) ≡ (list_any (λ x. f (h x)) ks || f (h k))
+  pub inserted : (f : N → Bool) → ((a b : N) → S a b ≡ true → f a ≡ f b) → (ks : List K) (k : K)
+      → list_any (λ x. f (h x)) (insert_key R ks k) ≡ (list_any (λ x. f (h x)) ks || f (h k))
   inserted f same [] k = or_last (f (h k))
   inserted f same (x ∷ xs) k = turn (inserted f same xs k) (R k x) refl
     where
-      turn : list_any (λ x. f (h x)) (insert_key R xs k) ≡ (list_any (λ x. f (h x)) xs || f (h k)) → (o : Ordering) → R k x ≡ o → list_any (λ x. f (h x)) (match_ordering o (k ∷ x ∷ xs) (x ∷ xs) (x ∷ insert_key R xs k)) ≡ ((f (h x) || list_any (λ x. f (h x)) xs) || f (h k))
+      turn : list_any (λ x. f (h x)) (insert_key R xs k) ≡ (list_any (λ x. f (h x)) xs || f (h k)) → (o : Ordering)
+          → R k x ≡ o
+          → list_any (λ x. f (h x)) (match_ordering o (k ∷ x ∷ xs) (x ∷ xs) (x ∷ insert_key R xs k)) ≡ ((f (h x) || list_any (λ x. f (h x)) xs) || f (h k))
       turn rest Less lt = or_swap (f (h k)) (f (h x)) (list_any (λ x. f (h x)) xs)
       turn rest Equal eq = or_there (f (h x)) (list_any (λ x. f (h x)) xs) ∙ ap (λ b. (f (h x) || list_any (λ x. f (h x)) xs) || b) (sym (same (h k) (h x) (sym (e k x) ∙ ap is_eq eq)))
       turn rest Greater gt = ap (λ b. f (h x) || b) rest ∙ or_right (f (h x)) (list_any (λ x. f (h x)) xs) (f (h k))
-
-module _ {K : Type 0} {R : K → K → Ordering} (o : IsTotalOrder R) where
-  middle : (P : K → Type 0) (ks : List K) (k : K) (rest : List K) → AllByRecursion P (ks ++ k ∷ rest) → P k
-  middle P [] k rest all = all.0
-  middle P (x ∷ xs) k rest all = middle P xs k rest all.1
-
-  -- a key above all others goes to the end
-  pub insert_last : (ks : List K) (k : K) (rest : List K) → IsStrictlySortedBy R (ks ++ k ∷ rest) → insert_key R ks k ≡ ks ++ k ∷ []
-  insert_last [] k rest up = refl
-  insert_last (x ∷ xs) k rest up =
-      let below : R x k ≡ Less = middle (λ y. R x y ≡ Less) xs k rest (sorted_head R x (xs ++ k ∷ rest) up) in
-      let above : R k x ≡ Greater = o.antisymm k x ∙ ap ordering_reverse below in
-      ap (λ a. match_ordering a (k ∷ x ∷ xs) (x ∷ xs) (x ∷ insert_key R xs k)) above ∙ ap (λ l. x ∷ l) (insert_last xs k rest (sorted_tail R x (xs ++ k ∷ rest) up))
-
-  -- the next of the keys in order, put behind those before it
-  pub put_next : (ks new it rest whole : List K) (k put : K) → it ≡ k ∷ rest → ks ++ it ≡ whole → IsStrictlySortedBy R whole → put ≡ k → new ≡ insert_key R ks put → new ++ rest ≡ whole
-  put_next ks new it rest whole k put e all up same is =
-      let here : ks ++ k ∷ rest ≡ whole = ap (λ l. ks ++ l) (sym e) ∙ all in
-      ap (λ l. l ++ rest) (is ∙ ap (insert_key R ks) same ∙ insert_last ks k rest (subst (λ l. IsStrictlySortedBy R l) (sym here) up)) ∙ append_assoc ks (k ∷ []) rest ∙ here

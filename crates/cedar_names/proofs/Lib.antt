@@ -1,4 +1,8 @@
-mod Defined
+mod Ahead
+mod Cost
+pub mod Defined
 mod Faults
 mod Found
+mod Halved
 mod Members
+mod Risen

@@ -30,7 +30,9 @@ pub by_bytes : (x y : UnreservedId) → text_cmp x.id.text y.id.text ≡ slice_c
 by_bytes x y = λ i. slice_cmp nat_cmp (id_bytes x i) (id_bytes y i)
 
 -- a word has another's text exactly where the order sees no difference
-pub at_text : (R : UnreservedId → UnreservedId → Ordering) → ((x y : UnreservedId) → R x y ≡ slice_cmp nat_cmp x.id.text y.id.text) → (x y : UnreservedId) → is_eq (R x y) ≡ bytes_eq x.id.text y.id.text
+pub at_text : (R : UnreservedId → UnreservedId → Ordering)
+    → ((x y : UnreservedId) → R x y ≡ slice_cmp nat_cmp x.id.text y.id.text) → (x y : UnreservedId)
+    → is_eq (R x y) ≡ bytes_eq x.id.text y.id.text
 at_text R e x y = ap is_eq (e x y) ∙ is_eq-slice_cmp x.id.text y.id.text
 
 -- texts that are the same have the same properties
@@ -39,15 +41,19 @@ same_text f a b h = ap f ((bytes_eq-Decides a b).0 h)
 
 module _ (R : UnreservedId → UnreservedId → Ordering) (e : (x y : UnreservedId) → R x y ≡ slice_cmp nat_cmp x.id.text y.id.text) where
   module _ (o : IsTotalOrder (slice_cmp nat_cmp)) (names : List UnreservedId) (up : IsStrictlySortedBy R names) (q : List ℕ) where
-    rises : (i j : ℕ) (d : UnreservedId) → i < j → j < length names → slice_cmp nat_cmp (get_or names i d).id.text (get_or names j d).id.text ≡ Less
+    rises : (i j : ℕ) (d : UnreservedId) → i < j → j < length names
+        → slice_cmp nat_cmp (get_or names i d).id.text (get_or names j d).id.text ≡ Less
     rises i j d lt h = sym (e (get_or names i d) (get_or names j d)) ∙ Less-from_sorted R names i j d up lt h
 
     turned : (x y : List ℕ) (a : Ordering) → slice_cmp nat_cmp x y ≡ a → slice_cmp nat_cmp y x ≡ ordering_reverse a
     turned x y a h = o.antisymm y x ∙ ap ordering_reverse h
 
     -- a word below the text has those before it below too
-    pub below_more : (low middle : ℕ) (m : UnreservedId) → ((k : ℕ) (d : UnreservedId) → k < low → slice_cmp nat_cmp (get_or names k d).id.text q ≡ Less) → middle < length names → m ≡ get_or names middle m
-        → slice_cmp nat_cmp m.id.text q ≡ Less → (k : ℕ) (d : UnreservedId) → k < middle + 1 → slice_cmp nat_cmp (get_or names k d).id.text q ≡ Less
+    pub below_more : (low middle : ℕ) (m : UnreservedId)
+        → ((k : ℕ) (d : UnreservedId) → k < low → slice_cmp nat_cmp (get_or names k d).id.text q ≡ Less)
+        → middle < length names → m ≡ get_or names middle m
+        → slice_cmp nat_cmp m.id.text q ≡ Less → (k : ℕ) (d : UnreservedId) → k < middle + 1
+        → slice_cmp nat_cmp (get_or names k d).id.text q ≡ Less
     below_more low middle m below h at less k d lt =
         let here : slice_cmp nat_cmp (get_or names middle d).id.text q ≡ Less = ap (λ x. slice_cmp nat_cmp x.id.text q) (get_or_default names middle d m h ∙ sym at) ∙ less in
         elim (cases_eq k middle) [
@@ -56,8 +62,10 @@ module _ (R : UnreservedId → UnreservedId → Ordering) (e : (x y : Unreserved
         ]
 
     -- a word above the text has those behind it above too
-    pub above_more : (middle : ℕ) (m : UnreservedId) → middle < length names → m ≡ get_or names middle m → slice_cmp nat_cmp m.id.text q ≡ Greater
-        → (k : ℕ) (d : UnreservedId) → middle ≤ k → k < length names → slice_cmp nat_cmp (get_or names k d).id.text q ≡ Greater
+    pub above_more : (middle : ℕ) (m : UnreservedId) → middle < length names → m ≡ get_or names middle m
+        → slice_cmp nat_cmp m.id.text q ≡ Greater
+        → (k : ℕ) (d : UnreservedId) → middle ≤ k → k < length names
+        → slice_cmp nat_cmp (get_or names k d).id.text q ≡ Greater
     above_more middle m h at greater k d ge lt =
         let here : slice_cmp nat_cmp (get_or names middle d).id.text q ≡ Greater = ap (λ x. slice_cmp nat_cmp x.id.text q) (get_or_default names middle d m h ∙ sym at) ∙ greater in
         elim (cases_eq k middle) [
@@ -66,7 +74,9 @@ module _ (R : UnreservedId → UnreservedId → Ordering) (e : (x y : Unreserved
         ]
 
 -- the text of a word that is equal is there
-pub hit : (names : List UnreservedId) (q : List ℕ) (at : ℕ) (m : UnreservedId) → at < length names → m ≡ get_or names at m → slice_cmp nat_cmp m.id.text q ≡ Equal → list_any (λ n. bytes_eq q n.id.text) names ≡ true
+pub hit : (names : List UnreservedId) (q : List ℕ) (at : ℕ) (m : UnreservedId) → at < length names
+    → m ≡ get_or names at m → slice_cmp nat_cmp m.id.text q ≡ Equal
+    → list_any (λ n. bytes_eq q n.id.text) names ≡ true
 hit names q at m h is e =
     let same : bytes_eq m.id.text q ≡ true = sym (is_eq-slice_cmp m.id.text q) ∙ ap is_eq e in
     let texts : m.id.text ≡ q = (bytes_eq-Decides m.id.text q).0 same in
@@ -80,16 +90,22 @@ unlike q t h = told (bytes_eq q t) refl
     told false e = refl
 
 -- and one that is below all from a place on and above all before it is not
-pub miss : (names : List UnreservedId) (q : List ℕ) (at : ℕ) → ((k : ℕ) (d : UnreservedId) → k < at → slice_cmp nat_cmp (get_or names k d).id.text q ≡ Less)
-    → ((k : ℕ) (d : UnreservedId) → at ≤ k → k < length names → slice_cmp nat_cmp (get_or names k d).id.text q ≡ Greater) → list_any (λ n. bytes_eq q n.id.text) names ≡ false
+pub miss : (names : List UnreservedId) (q : List ℕ) (at : ℕ)
+    → ((k : ℕ) (d : UnreservedId) → k < at → slice_cmp nat_cmp (get_or names k d).id.text q ≡ Less)
+    → ((k : ℕ) (d : UnreservedId) → at ≤ k → k < length names → slice_cmp nat_cmp (get_or names k d).id.text q ≡ Greater)
+    → list_any (λ n. bytes_eq q n.id.text) names ≡ false
 miss names q at below above = list_any_none (λ n. bytes_eq q n.id.text) names (λ k d h. elim (cases_lt k at) [
   | inr ge ↦ unlike q (get_or names k d).id.text (sym (is_eq-slice_cmp (get_or names k d).id.text q) ∙ ap is_eq (above k d ge h))
   | inl lt ↦ unlike q (get_or names k d).id.text (sym (is_eq-slice_cmp (get_or names k d).id.text q) ∙ ap is_eq (below k d lt))
 ])
 
 -- four words whose texts rise
-pub four_rise : (R : UnreservedId → UnreservedId → Ordering) → ((x y : UnreservedId) → R x y ≡ slice_cmp nat_cmp x.id.text y.id.text) → (a b c d : UnreservedId) (s t u v : List ℕ) → a.id.text ≡ s → b.id.text ≡ t → c.id.text ≡ u → d.id.text ≡ v
-    → slice_cmp nat_cmp s t ≡ Less → slice_cmp nat_cmp s u ≡ Less → slice_cmp nat_cmp s v ≡ Less → slice_cmp nat_cmp t u ≡ Less → slice_cmp nat_cmp t v ≡ Less → slice_cmp nat_cmp u v ≡ Less → IsStrictlySortedBy R (a ∷ b ∷ c ∷ d ∷ [])
+pub four_rise : (R : UnreservedId → UnreservedId → Ordering)
+    → ((x y : UnreservedId) → R x y ≡ slice_cmp nat_cmp x.id.text y.id.text)
+    → (a b c d : UnreservedId) (s t u v : List ℕ) → a.id.text ≡ s → b.id.text ≡ t → c.id.text ≡ u → d.id.text ≡ v
+    → slice_cmp nat_cmp s t ≡ Less → slice_cmp nat_cmp s u ≡ Less → slice_cmp nat_cmp s v ≡ Less
+    → slice_cmp nat_cmp t u ≡ Less → slice_cmp nat_cmp t v ≡ Less → slice_cmp nat_cmp u v ≡ Less
+    → IsStrictlySortedBy R (a ∷ b ∷ c ∷ d ∷ [])
 unfolding IsStrictlySortedBy
 four_rise R e a b c d s t u v p q r w st su sv tu tv uv =
     let less : (x y : UnreservedId) (m n : List ℕ) → x.id.text ≡ m → y.id.text ≡ n → slice_cmp nat_cmp m n ≡ Less → R x y ≡ Less = λ x y m n k l h. e x y ∙ (λ i. slice_cmp nat_cmp (k i) (l i)) ∙ h in

@@ -36,8 +36,13 @@ among_actions actions action = list_any (same_action action) actions
 abbrev pub AddsName : List (List (List ℕ)) → List (List (List ℕ)) → List (List ℕ) → Type 0
 AddsName old new name = (n : List (List ℕ)) → among new n ≡ (among old n || same_name n name)
 
+-- the names are the old ones and these
+abbrev pub AddsNames : List (List (List ℕ)) → List (List (List ℕ)) → List (List (List ℕ)) → Type 0
+AddsNames old new more = (n : List (List ℕ)) → among new n ≡ (among old n || among more n)
+
 -- the actions are the old ones and this one
-abbrev pub AddsAction : List (List (List ℕ) × List ℕ) → List (List (List ℕ) × List ℕ) → List (List ℕ) × List ℕ → Type 0
+abbrev pub AddsAction : List (List (List ℕ) × List ℕ) → List (List (List ℕ) × List ℕ) → List (List ℕ) × List ℕ
+    → Type 0
 AddsAction old new action = (a : List (List ℕ) × List ℕ) → among_actions new a ≡ (among_actions old a || same_action a action)
 
 -- the names are the old ones and the types of the actions

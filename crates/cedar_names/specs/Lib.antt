@@ -3,5 +3,8 @@ pub mod CanonicalText
 pub mod Definitions
 pub mod EntityTexts
 pub mod Meaning
+pub mod Orders
+pub mod Rising
+pub mod Searches
 pub mod TableNames
 pub mod Tables

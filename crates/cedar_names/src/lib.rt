@@ -5,7 +5,11 @@
 pub mod all_defs;
 pub mod entity_uid;
 pub mod extension_table;
+mod halving;
 pub mod meaning_laws;
+mod rising;
+mod sought;
+pub mod steps;
 pub mod table_error;
 mod table_words;
 
@@ -21,4 +25,5 @@ pub use cedar_identifiers::{
 pub use cedar_io::{Failed, MemorySink, MemorySource, NullSink, Sink, Source, SteadySource};
 pub use entity_uid::EntityUID;
 pub use extension_table::{ExtensionTable, Extensions};
+pub use steps::Steps;
 pub use table_error::TableError;

@@ -20,7 +20,9 @@ use Rattle.cedar_schema_core.specs.Run.{Device, LeftAs, IsReported, planned}
 use Rattle.cedar_io.specs.Outside.{IsEnd}
 
 -- one word, and what it is compared with
-pub one_word : (words : List (String Global)) (word : String Global) (text target : List ℕ) (r : Bool) → 1 ≤ length words → length words < 2 → word ≡ get_or words 0 word → text ≡ string_bytes word → r ≡ bytes_eq text target
+pub one_word : (words : List (String Global)) (word : String Global) (text target : List ℕ) (r : Bool)
+    → 1 ≤ length words → length words < 2 → word ≡ get_or words 0 word → text ≡ string_bytes word
+    → r ≡ bytes_eq text target
     → (IsTrue r → map string_bytes words ≡ target ∷ []) × (map string_bytes words ≡ target ∷ [] → IsTrue r)
 one_word [] word text target r some few e t d = absurd (omega arith)
 one_word (w ∷ v ∷ ws) word text target r some few e t d = absurd (omega arith)
@@ -36,35 +38,42 @@ had_some None = ([], tt)
 had_some (Some left) = (left, refl)
 
 module _ (bytes : List ℕ) where
-  pub not_text_planned : (r : Result Reply AllocError) → (IsUtf8 bytes → ⊥) → IfOk r (λ reply. report_of reply ≡ not_text_report) → IfOk r (λ reply. IsRecoverPlan bytes (report_of reply))
+  pub not_text_planned : (r : Result Reply AllocError) → (IsUtf8 bytes → ⊥)
+      → IfOk r (λ reply. report_of reply ≡ not_text_report) → IfOk r (λ reply. IsRecoverPlan bytes (report_of reply))
   not_text_planned r h told = IfOk-weaker r _ _ (λ reply e. subst (IsRecoverPlan bytes) (sym e) (not_text h)) told
 
-  pub done_planned : (text : List ℕ) (recovered : Recovered) (err : List ℕ) → (text ≡ bytes) → IsUtf8 bytes → IsRecovered text recovered → err ≡ []
+  pub done_planned : (text : List ℕ) (recovered : Recovered) (err : List ℕ) → (text ≡ bytes) → IsUtf8 bytes
+      → IsRecovered text recovered → err ≡ []
       → IsRecoverPlan bytes (report_of (record { status = Done; out = recovered.text; err = err }))
   done_planned text recovered err same utf8 r none =
       let e : done_report r.meaning ≡ report_of (record { status = Done; out = recovered.text; err = err }) =
       λ i. record { status = Done; out = encode_utf8_all (sym r.canonical i); err = encode_utf8_all (sym none i) } in
       subst (IsRecoverPlan bytes) e (done utf8 r.meaning (subst (λ t. TextMeaning t r.meaning) same r.means))
 
-  pub refused_planned : (r : Result Reply AllocError) (text : List ℕ) → text ≡ bytes → IsUtf8 bytes → IfOk r (λ reply. (IsValid text → ⊥) × (report_of reply ≡ refused_report))
+  pub refused_planned : (r : Result Reply AllocError) (text : List ℕ) → text ≡ bytes → IsUtf8 bytes
+      → IfOk r (λ reply. (IsValid text → ⊥) × (report_of reply ≡ refused_report))
       → IfOk r (λ reply. IsRecoverPlan bytes (report_of reply))
   refused_planned r text same utf8 told =
       IfOk-weaker r _ _ (λ reply h. subst (IsRecoverPlan bytes) (sym h.1) (refused utf8 (subst (λ t. IsValid t → ⊥) same h.0))) told
 
   -- where the whole input was read, none is left
-  pub left_at_end : (source : Device) (report : Report) → IsRecoverPlan bytes report → IsEnd source.after → LeftAs source report.status
+  pub left_at_end : (source : Device) (report : Report) → IsRecoverPlan bytes report → IsEnd source.after
+      → LeftAs source report.status
   left_at_end source report (not_text h) e = e
   left_at_end source report (refused u h) e = e
   left_at_end source report (done u m h) e = e
 
 module _ (words : List (List ℕ)) (source : Device) where
   -- a reply of one line
-  pub line_reported : (r : Result Reply AllocError) (report : Report) → IsReported words source report → IfOk r (λ reply. report_of reply ≡ report) → IfOk r (λ reply. IsReported words source (report_of reply))
+  pub line_reported : (r : Result Reply AllocError) (report : Report) → IsReported words source report
+      → IfOk r (λ reply. report_of reply ≡ report) → IfOk r (λ reply. IsReported words source (report_of reply))
   line_reported r report h told = IfOk-weaker r _ _ (λ reply e. subst (IsReported words source) (sym e) h) told
 
   -- the reply for the whole input
-  pub input_reported : (r : Result Reply AllocError) (lent bytes : List ℕ) → lent ≡ bytes → IsRecover words → HadLeft source.before bytes → length bytes ≤ max_input → IsEnd source.after
-      → IfOk r (λ reply. IsRecoverPlan lent (report_of reply)) → IfOk r (λ reply. IsReported words source (report_of reply))
+  pub input_reported : (r : Result Reply AllocError) (lent bytes : List ℕ) → lent ≡ bytes → IsRecover words
+      → HadLeft source.before bytes → length bytes ≤ max_input → IsEnd source.after
+      → IfOk r (λ reply. IsRecoverPlan lent (report_of reply))
+      → IfOk r (λ reply. IsReported words source (report_of reply))
   input_reported r lent bytes same is had short end told =
       IfOk-weaker r _ _ (λ reply h. let plan : IsRecoverPlan bytes (report_of reply) = subst (λ b. IsRecoverPlan b (report_of reply)) same h in
       planned bytes had (recover is short plan) (left_at_end bytes source (report_of reply) plan end)) told

@@ -24,7 +24,8 @@ module _ (one : (words : List (List ℕ)) (bytes : List ℕ) (report other : Rep
   same_report report (read_fault i r) = inr refl
 
   -- with no fault, the status is that of the plan, or memory was wanted
-  pub completes : (out err : Device) (status : Status) → IsRun words source out err status → NoneCounted source out err → (status ≡ plan.status) ⊎ (status ≡ Memory)
+  pub completes : (out err : Device) (status : Status) → IsRun words source out err status
+      → NoneCounted source out err → (status ≡ plan.status) ⊎ (status ≡ Memory)
   completes out err status (delivered report (planned all had p l) (whole o e)) n =
       inl (ap (λ r. r.status) (one words bytes report plan (subst (λ b. IsPlan words b report) (sym (told source.before bytes all left had)) p) is))
   completes out err status (delivered report (read_fault i r) (whole o e)) n = absurd (n.none_read r)
@@ -39,7 +40,8 @@ module _ (one : (words : List (List ℕ)) (bytes : List ℕ) (report other : Rep
     | inr e ↦ let k : length report.out ≡ 0 = ap (λ r. length r.out) e in omega arith
   ]
 
-  pub within_err : (report : Report) (n : ℕ) → IsReported words source report → length plan.err ≤ n → (Rose source.faults_before source.faults_after → length read_fault_report.err ≤ n) → length report.err ≤ n
+  pub within_err : (report : Report) (n : ℕ) → IsReported words source report → length plan.err ≤ n
+      → (Rose source.faults_before source.faults_after → length read_fault_report.err ≤ n) → length report.err ≤ n
   within_err report n (planned all had p l) a b =
       let e : report ≡ plan = one words bytes report plan (subst (λ b. IsPlan words b report) (sym (told source.before bytes all left had)) p) is in
       let k : length report.err ≡ length plan.err = ap (λ r. length r.err) e in omega arith
@@ -69,20 +71,23 @@ memory_done e = cc
 
 module _ (survives : (text : List ℕ) (meaning : List ThinEntry) → TextMeaning text meaning → TextMeaning (encode_utf8_all (canonical_text meaning)) meaning)
     (words : List (List ℕ)) (source out err : Device) where
-  recovers_from : (bytes : List ℕ) (report : Report) → HadLeft source.before bytes → IsRecoverPlan bytes report → LeftAs source report.status → TookWhole out report.out → TookWhole err report.err
+  recovers_from : (bytes : List ℕ) (report : Report) → HadLeft source.before bytes → IsRecoverPlan bytes report
+      → LeftAs source report.status → TookWhole out report.out → TookWhole err report.err
       → report.status ≡ Done → Recovers source out err
   recovers_from bytes report had (not_text h) l o e d = absurd (not_text_done d)
   recovers_from bytes report had (refused u h) l o e d = absurd (refused_done d)
   recovers_from bytes report had (done u m h) l o e d =
       record { bytes = bytes; meaning = m; read = had; end = l; means = h; written = o.took; reads_back = survives bytes m h; silent = e.nothing refl }
 
-  recovers_planned : (bytes : List ℕ) (report : Report) → HadLeft source.before bytes → IsPlan words bytes report → LeftAs source report.status → TookWhole out report.out → TookWhole err report.err
+  recovers_planned : (bytes : List ℕ) (report : Report) → HadLeft source.before bytes → IsPlan words bytes report
+      → LeftAs source report.status → TookWhole out report.out → TookWhole err report.err
       → report.status ≡ Done → Recovers source out err
   recovers_planned bytes report had (usage h) l o e d = absurd (usage_done d)
   recovers_planned bytes report had (too_long i h) l o e d = absurd (too_long_done d)
   recovers_planned bytes report had (recover i s p) l o e d = recovers_from bytes report had p l o e d
 
-  recovers_delivered : (status : Status) (report : Report) → IsReported words source report → IsDelivered out err report status → status ≡ Done → Recovers source out err
+  recovers_delivered : (status : Status) (report : Report) → IsReported words source report
+      → IsDelivered out err report status → status ≡ Done → Recovers source out err
   recovers_delivered status report (planned bytes had p l) (whole o e) d = recovers_planned bytes report had p l o e d
   recovers_delivered status report (read_fault i r) (whole o e) d = absurd (read_fault_done d)
   recovers_delivered status report h (out_failed f s) d = absurd (write_fault_done d)

@@ -42,10 +42,12 @@ IsRecover words = words ≡ codes "recover" ∷ []
 pub data IsRecoverPlan (bytes : List ℕ) : Report → Type 0 where
   not_text : (IsUtf8 bytes → ⊥) → IsRecoverPlan bytes not_text_report
   refused : IsUtf8 bytes → (IsValid bytes → ⊥) → IsRecoverPlan bytes refused_report
-  done : IsUtf8 bytes → (meaning : List ThinEntry) → TextMeaning bytes meaning → IsRecoverPlan bytes (done_report meaning)
+  done : IsUtf8 bytes → (meaning : List ThinEntry) → TextMeaning bytes meaning
+      → IsRecoverPlan bytes (done_report meaning)
 
 -- the report for these words and this input, where no read fails: one case for each cause
 pub data IsPlan (words : List (List ℕ)) (bytes : List ℕ) : Report → Type 0 where
   usage : (IsRecover words → ⊥) → IsPlan words bytes usage_report
   too_long : IsRecover words → max_input < length bytes → IsPlan words bytes too_long_report
-  recover : IsRecover words → length bytes ≤ max_input → {report : Report} → IsRecoverPlan bytes report → IsPlan words bytes report
+  recover : IsRecover words → length bytes ≤ max_input → {report : Report} → IsRecoverPlan bytes report
+      → IsPlan words bytes report

@@ -35,8 +35,10 @@ LeftAs source Memory = Unit {0}
 
 -- the report on the words and the source: the plan for the bytes that were left, or a read fault, which was counted
 pub data IsReported (words : List (List ℕ)) (source : Device) : Report → Type 0 where
-  planned : (bytes : List ℕ) → HadLeft source.before bytes → {report : Report} → IsPlan words bytes report → LeftAs source report.status → IsReported words source report
-  read_fault : IsRecover words → Rose source.faults_before source.faults_after → IsReported words source read_fault_report
+  planned : (bytes : List ℕ) → HadLeft source.before bytes → {report : Report} → IsPlan words bytes report
+      → LeftAs source report.status → IsReported words source report
+  read_fault : IsRecover words → Rose source.faults_before source.faults_after
+      → IsReported words source read_fault_report
 
 -- the text was taken whole; where there is none the sink stands as before
 pub record TookWhole (sink : Device) (text : List ℕ) : Type 0 where
@@ -56,7 +58,8 @@ pub data IsDelivered (out err : Device) (report : Report) : Status → Type 0 wh
 
 -- the run, by its cause: a report was delivered, or memory was wanted before the first write
 pub data IsRun (words : List (List ℕ)) (source out err : Device) : Status → Type 0 where
-  delivered : (report : Report) → {status : Status} → IsReported words source report → IsDelivered out err report status → IsRun words source out err status
+  delivered : (report : Report) → {status : Status} → IsReported words source report
+      → IsDelivered out err report status → IsRun words source out err status
   wanted_memory : out.Same → err.Same → IsRun words source out err Memory
 
 -- the whole input was read, it is valid, and its canonical text alone was written, which is valid with the same meaning

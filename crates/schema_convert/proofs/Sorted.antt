@@ -27,22 +27,27 @@ abbrev pub id_entries : List (Bor (Node Id)) → List (Id × Node Id)
 id_entries names = map (λ n. (n.node, n)) (map (λ x. x.now) names)
 
 -- one entry more
-pub pushed_now : {A B : Type 0} (f : A → B) (done done' : List A) (a : A) (b : B) → done' ≡ done ++ a ∷ [] → f a ≡ b → map f done' ≡ map f done ++ b ∷ []
+pub pushed_now : {A B : Type 0} (f : A → B) (done done' : List A) (a : A) (b : B) → done' ≡ done ++ a ∷ [] → f a ≡ b
+    → map f done' ≡ map f done ++ b ∷ []
 pushed_now f done done' a b e p = ap (map f) e ∙ (map-append f done (a ∷ []) ∙ ap (λ x. map f done ++ x ∷ []) p)
 
-pub ids_sorted : (names : List (Bor (Node Id))) (entries sorted : List (Bor Id × Bor (Node Id))) → sorted ≡ map_of (λ a b. id_text_cmp a.now b.now) entries → map entry_now entries ≡ id_entries names → map entry_now sorted ≡ by_id (map (λ x. x.now) names)
+pub ids_sorted : (names : List (Bor (Node Id))) (entries sorted : List (Bor Id × Bor (Node Id)))
+    → sorted ≡ map_of (λ a b. id_text_cmp a.now b.now) entries → map entry_now entries ≡ id_entries names
+    → map entry_now sorted ≡ by_id (map (λ x. x.now) names)
 ids_sorted names entries sorted h e = ap (map entry_now) h ∙ (map_of_is (λ (k : Bor Id). k.now) (λ (x : Bor (Node Id)). x.now) id_text_cmp entries ∙ ap (map_of id_text_cmp) e)
 
 abbrev pub name_entries : List (Annotated Namespace) → List (Option Path × Annotated Namespace)
 name_entries namespaces = map (λ n. (n.item.name, n)) namespaces
 
-optional_order : (a b : Option (Bor Path)) → option_cmp (λ x y. path_cmp x.now y.now) a b ≡ option_cmp path_cmp (option_map (λ (k : Bor Path). k.now) a) (option_map (λ (k : Bor Path). k.now) b)
+optional_order : (a b : Option (Bor Path))
+    → option_cmp (λ x y. path_cmp x.now y.now) a b ≡ option_cmp path_cmp (option_map (λ (k : Bor Path). k.now) a) (option_map (λ (k : Bor Path). k.now) b)
 optional_order None None = refl
 optional_order None (Some b) = refl
 optional_order (Some a) None = refl
 optional_order (Some a) (Some b) = refl
 
-pub names_sorted : (namespaces : List (Annotated Namespace)) (entries sorted : List (Option (Bor Path) × Bor (Annotated Namespace))) → sorted ≡ map_of (option_cmp (λ x y. path_cmp x.now y.now)) entries
+pub names_sorted : (namespaces : List (Annotated Namespace)) (entries sorted : List (Option (Bor Path) × Bor (Annotated Namespace)))
+    → sorted ≡ map_of (option_cmp (λ x y. path_cmp x.now y.now)) entries
     → map optional_now entries ≡ name_entries namespaces → map optional_now sorted ≡ by_name namespaces
 names_sorted namespaces entries sorted h e = ap (map optional_now) (h ∙ (λ i. map_of (λ a b. optional_order a b i) entries)) ∙ (map_of_is (option_map (λ (k : Bor Path). k.now)) (λ (x : Bor (Annotated Namespace)). x.now) (option_cmp path_cmp) entries ∙ ap (map_of (option_cmp path_cmp)) e)
 
@@ -58,16 +63,20 @@ module _ (table : ExtensionTable) where
   of_namespaces sorted = flat_map (λ n. declared_warnings table n.1.item.decls) (map optional_now sorted)
 
   -- a common type's warnings, of the entity type that was found
-  pub common_made : (old w1 w2 : List SchemaWarning) (common : Node Id) (entities : List (Bor Id × Bor (Node Id))) (found : Option (Bor (Node Id))) → found ≡ lookup (λ k. is_eq (id_text_cmp common.node k.now)) entities
-      → w1 ≡ old ++ entity_shadowed (option_map (λ (n : Bor (Node Id)). n.now) found) common → w2 ≡ w1 ++ builtin_shadowed table common → w2 ≡ old ++ common_warnings table (map entry_now entities) common
+  pub common_made : (old w1 w2 : List SchemaWarning) (common : Node Id) (entities : List (Bor Id × Bor (Node Id))) (found : Option (Bor (Node Id)))
+      → found ≡ lookup (λ k. is_eq (id_text_cmp common.node k.now)) entities
+      → w1 ≡ old ++ entity_shadowed (option_map (λ (n : Bor (Node Id)). n.now) found) common
+      → w2 ≡ w1 ++ builtin_shadowed table common → w2 ≡ old ++ common_warnings table (map entry_now entities) common
   common_made old w1 w2 common entities found f e b =
       let same : option_map (λ (n : Bor (Node Id)). n.now) found ≡ lookup (is_at (id_text_cmp common.node)) (map entry_now entities) =
       ap (option_map (λ (n : Bor (Node Id)). n.now)) f ∙ sym (lookup_is (λ (k : Bor Id). k.now) (λ (x : Bor (Node Id)). x.now) (is_at (id_text_cmp common.node)) entities) in
       b ∙ (ap (λ w. w ++ builtin_shadowed table common) (e ∙ ap (λ o. old ++ entity_shadowed o common) same) ∙ append_assoc old (entity_shadowed (lookup (is_at (id_text_cmp common.node)) (map entry_now entities)) common) (builtin_shadowed table common))
 
   -- the warnings of a namespace, of its sorted names
-  pub declared_made : (old w1 w2 : List SchemaWarning) (cs es commons entities : List (Bor Id × Bor (Node Id))) (C E : List (Id × Node Id)) → w1 ≡ old ++ of_commons (map entry_now entities) cs → w2 ≡ w1 ++ of_entities es
-      → cs ≡ commons → es ≡ entities → map entry_now commons ≡ C → map entry_now entities ≡ E → w2 ≡ old ++ warnings_in table C E
+  pub declared_made : (old w1 w2 : List SchemaWarning) (cs es commons entities : List (Bor Id × Bor (Node Id))) (C E : List (Id × Node Id))
+      → w1 ≡ old ++ of_commons (map entry_now entities) cs → w2 ≡ w1 ++ of_entities es
+      → cs ≡ commons → es ≡ entities → map entry_now commons ≡ C → map entry_now entities ≡ E
+      → w2 ≡ old ++ warnings_in table C E
   declared_made old w1 w2 cs es commons entities C E h k sc se c e =
       let p : of_commons (map entry_now entities) cs ≡ flat_map (λ c. common_warnings table E c.1) C =
       ap (of_commons (map entry_now entities)) sc ∙ (ap (λ l. flat_map (λ c. common_warnings table l c.1) (map entry_now commons)) e ∙ ap (flat_map (λ (d : Id × Node Id). common_warnings table E d.1)) c) in

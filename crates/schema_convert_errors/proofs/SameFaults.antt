@@ -46,7 +46,8 @@ use Rattle.schema_convert_errors.specs.contracts.warnings.ShadowsEntityWarningPa
 abbrev placed_agree : List ℕ → Option Span → List ℕ → Option Span → Bool
 placed_agree v p w q = texts_agree v w && places_agree p q
 
-placed_sound : (v : List ℕ) (p : Option Span) (w : List ℕ) (q : Option Span) → placed_agree v p w q ≡ true → (v ≡ w) × (p ≡ q)
+placed_sound : (v : List ℕ) (p : Option Span) (w : List ℕ) (q : Option Span) → placed_agree v p w q ≡ true
+    → (v ≡ w) × (p ≡ q)
 placed_sound v p w q h =
     (texts_sound v w (first_so (texts_agree v w) (places_agree p q) h), places_sound p q (second_so (texts_agree v w) (places_agree p q) h))
 
@@ -66,7 +67,8 @@ both_themselves p r = and_from (places_agree p p) (places_agree r r) (places_the
 abbrev twice_agree : List ℕ → Option Span → Option Span → List ℕ → Option Span → Option Span → Bool
 twice_agree v p r w q s = texts_agree v w && both_agree p r q s
 
-twice_sound : (v : List ℕ) (p r : Option Span) (w : List ℕ) (q s : Option Span) → twice_agree v p r w q s ≡ true → (v ≡ w) × (p ≡ q) × (r ≡ s)
+twice_sound : (v : List ℕ) (p r : Option Span) (w : List ℕ) (q s : Option Span) → twice_agree v p r w q s ≡ true
+    → (v ≡ w) × (p ≡ q) × (r ≡ s)
 twice_sound v p r w q s h =
     let places = both_sound p r q s (second_so (texts_agree v w) (both_agree p r q s) h) in
     (texts_sound v w (first_so (texts_agree v w) (both_agree p r q s) h), places.0, places.1)

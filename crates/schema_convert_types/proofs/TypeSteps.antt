@@ -25,15 +25,18 @@ map_both : {A B C : Type 0} (f : B → C) (g : A → B) (xs : List A) → map f 
 map_both f g [] = refl
 map_both f g (x ∷ xs) = ap (λ ys. f (g x) ∷ ys) (map_both f g xs)
 
-pub set_at : (n : Node «Type») (loc : Option Span) → type_at (Set n) loc ≡ shape.Variant (variant.Set (type_at n.node n.loc)) loc
+pub set_at : (n : Node «Type») (loc : Option Span)
+    → type_at (Set n) loc ≡ shape.Variant (variant.Set (type_at n.node n.loc)) loc
 unfolding type_at
 set_at n loc = ap (λ t. type_at t loc) (sym (rolls-Set n)) ∙ ap (λ (f : Option Span → Shape RawName). f loc) (fold-roll-Type (Option Span → Shape RawName) (Annotations → AttributeEntry) translated_type translated_attribute (Type-F.Set n))
 
-pub ident_at : (path : Path) (loc : Option Span) → type_at (Ident path) loc ≡ shape.Variant (variant.EntityOrCommon (raw_name_of path)) loc
+pub ident_at : (path : Path) (loc : Option Span)
+    → type_at (Ident path) loc ≡ shape.Variant (variant.EntityOrCommon (raw_name_of path)) loc
 unfolding type_at
 ident_at path loc = ap (λ t. type_at t loc) (sym (rolls-Ident path)) ∙ ap (λ (f : Option Span → Shape RawName). f loc) (fold-roll-Type (Option Span → Shape RawName) (Annotations → AttributeEntry) translated_type translated_attribute (Type-F.Ident path))
 
-pub record_at : (attributes : List (Node (Annotated AttrDecl))) (loc : Option Span) → type_at (Record attributes) loc ≡ record_type (map attribute_of attributes) loc
+pub record_at : (attributes : List (Node (Annotated AttrDecl))) (loc : Option Span)
+    → type_at (Record attributes) loc ≡ record_type (map attribute_of attributes) loc
 unfolding type_at attribute_beside
 record_at attributes loc =
     let step = ap (λ t. type_at t loc) (sym (rolls-Record attributes)) ∙ ap (λ (f : Option Span → Shape RawName). f loc) (fold-roll-Type (Option Span → Shape RawName) (Annotations → AttributeEntry) translated_type translated_attribute (Type-F.Record attributes)) in
@@ -45,11 +48,13 @@ unfolding type_at attribute_beside
 attribute_is a notes = ap (λ (f : Annotations → AttributeEntry). f notes) (fold_out-AttrDecl (Option Span → Shape RawName) (Annotations → AttributeEntry) translated_type translated_attribute a)
 
 -- an attribute whose type was made
-pub attribute_made : (n : Node (Annotated AttrDecl)) (ty : Shape RawName) → ty ≡ type_at (out-AttrDecl n.node.item).ty.node (out-AttrDecl n.node.item).ty.loc
+pub attribute_made : (n : Node (Annotated AttrDecl)) (ty : Shape RawName)
+    → ty ≡ type_at (out-AttrDecl n.node.item).ty.node (out-AttrDecl n.node.item).ty.loc
     → (let made : AttributeEntry = ((out-AttrDecl n.node.item).name.node, roll-TypeOfAttribute RawName (record { ty = ty; annotations = n.node.annotations; required = (out-AttrDecl n.node.item).required })) in made) ≡ attribute_of n
 attribute_made n ty e =
     ap {A = Shape RawName} {B = AttributeEntry} (λ t. ((out-AttrDecl n.node.item).name.node, roll-TypeOfAttribute RawName (record { ty = t; annotations = n.node.annotations; required = (out-AttrDecl n.node.item).required }))) e ∙ sym (attribute_is n.node.item n.node.annotations)
 
 -- a record whose attributes were made
-pub record_made : (entries map all : List AttributeEntry) → map ≡ map_of text_cmp entries → entries ≡ all → roll-RecordType RawName (record { attributes = map; additional_attributes = false }) ≡ record_of all
+pub record_made : (entries map all : List AttributeEntry) → map ≡ map_of text_cmp entries → entries ≡ all
+    → roll-RecordType RawName (record { attributes = map; additional_attributes = false }) ≡ record_of all
 record_made entries map all h e = ap {A = List AttributeEntry} (λ es. roll-RecordType RawName (record { attributes = es; additional_attributes = false })) (h ∙ ap (map_of text_cmp) e)

@@ -32,12 +32,14 @@ record_type attributes loc = shape.Variant (variant.Record (record_of attributes
 
 -- A type at a place, and an attribute with its annotations, from what their parts become. A name is a reference to a
 -- common type or an entity type.
-abbrev pub translated_type : Type-F (Option Span → Shape RawName) (Annotations → AttributeEntry) → Option Span → Shape RawName
+abbrev pub translated_type : Type-F (Option Span → Shape RawName) (Annotations → AttributeEntry) → Option Span
+    → Shape RawName
 translated_type (Type-F.Set element) loc = shape.Variant (variant.Set (element.node element.loc)) loc
 translated_type (Type-F.Ident path) loc = shape.Variant (variant.EntityOrCommon (raw_name_of path)) loc
 translated_type (Type-F.Record attributes) loc = record_type (map (λ a. a.node.item a.node.annotations) attributes) loc
 
-abbrev pub translated_attribute : AttrDecl-F (Option Span → Shape RawName) (Annotations → AttributeEntry) → Annotations → AttributeEntry
+abbrev pub translated_attribute : AttrDecl-F (Option Span → Shape RawName) (Annotations → AttributeEntry)
+    → Annotations → AttributeEntry
 translated_attribute a notes = (a.name.node, roll-TypeOfAttribute RawName (record { ty = a.ty.node a.ty.loc; annotations = notes; required = a.required }))
 
 -- what a type becomes at this place

@@ -38,11 +38,14 @@ bool_same true = refl
 bool_same false = refl
 
 -- what may be absent, and each value of a map
-pub option_placeless : {A : Type 0} (eq : A → A → Bool) (erase : A → A) → ((a : A) → eq (erase a) a ≡ true) → (o : Option A) → option_eq eq (option_map erase o) o ≡ true
+pub option_placeless : {A : Type 0} (eq : A → A → Bool) (erase : A → A) → ((a : A) → eq (erase a) a ≡ true)
+    → (o : Option A) → option_eq eq (option_map erase o) o ≡ true
 option_placeless eq erase same None = refl
 option_placeless eq erase same (Some a) = same a
 
-pub entries_placeless : {K V : Type 0} {key : K → K → Bool} (eq : V → V → Bool) (erase : V → V) → IsEquivalence key → ((v : V) → eq (erase v) v ≡ true) → (es : List (K × V)) → pointwise (λ p q. key p.0 q.0 && eq p.1 q.1) (erased_entries erase es) es ≡ true
+pub entries_placeless : {K V : Type 0} {key : K → K → Bool} (eq : V → V → Bool) (erase : V → V) → IsEquivalence key
+    → ((v : V) → eq (erase v) v ≡ true) → (es : List (K × V))
+    → pointwise (λ p q. key p.0 q.0 && eq p.1 q.1) (erased_entries erase es) es ≡ true
 entries_placeless eq erase keys same [] = refl
 entries_placeless eq erase keys same (e ∷ es) = rw (keys.refl e.0, same e.1, entries_placeless eq erase keys same es)
 
@@ -103,10 +106,12 @@ module _ (N : RattleType) (E : eq.Ghosts N.Denot) (D : Dict) (lawful : bound.Law
   abbrev entries_eq : List (List ℕ × TypeOfAttribute N.Denot) → List (List ℕ × TypeOfAttribute N.Denot) → Bool
   entries_eq = pointwise (λ p q. text_eq p.0 q.0 && at_eq p.1 q.1)
 
-  attributes_same : (a b : RecordType N.Denot) → rt_eq a b ≡ entries_eq (out-RecordType N.Denot a).attributes (out-RecordType N.Denot b).attributes && bool.ghosts.eq (out-RecordType N.Denot a).additional_attributes (out-RecordType N.Denot b).additional_attributes
+  attributes_same : (a b : RecordType N.Denot)
+      → rt_eq a b ≡ entries_eq (out-RecordType N.Denot a).attributes (out-RecordType N.Denot b).attributes && bool.ghosts.eq (out-RecordType N.Denot a).additional_attributes (out-RecordType N.Denot b).additional_attributes
   attributes_same a b = rt_laws.is N E D lawful a b
 
-  attribute_same : (a b : TypeOfAttribute N.Denot) → at_eq a b ≡ ty_eq (out-TypeOfAttribute N.Denot a).ty (out-TypeOfAttribute N.Denot b).ty && (annotations.ghosts.eq (out-TypeOfAttribute N.Denot a).annotations (out-TypeOfAttribute N.Denot b).annotations && bool.ghosts.eq (out-TypeOfAttribute N.Denot a).required (out-TypeOfAttribute N.Denot b).required)
+  attribute_same : (a b : TypeOfAttribute N.Denot)
+      → at_eq a b ≡ ty_eq (out-TypeOfAttribute N.Denot a).ty (out-TypeOfAttribute N.Denot b).ty && (annotations.ghosts.eq (out-TypeOfAttribute N.Denot a).annotations (out-TypeOfAttribute N.Denot b).annotations && bool.ghosts.eq (out-TypeOfAttribute N.Denot a).required (out-TypeOfAttribute N.Denot b).required)
   attribute_same a b = at_laws.is N E D lawful a b
 
   module _ (reflexive : (x : N.Denot) → E.eq x x ≡ true) (annotations_same : (x : Annotations) → annotations.ghosts.eq x x ≡ true) (id_same : (x : UnreservedId) → unreserved_id.ghosts.eq x x ≡ true) where
@@ -134,19 +139,24 @@ module _ (N : RattleType) (E : eq.Ghosts N.Denot) (D : Dict) (lawful : bound.Law
     abbrev A' : Type 0
     A' = (a : TypeOfAttribute N.Denot) × P3 a
 
-    rolled : (x : Type-F N.Denot («Type» N.Denot) (TypeVariant N.Denot) (RecordType N.Denot) (TypeOfAttribute N.Denot)) → erased_type (roll-Type N.Denot x) ≡ placeless (map-Type N.Denot _ _ _ _ _ _ _ _ erased_type erased_variant erased_record erased_attribute x)
+    rolled : (x : Type-F N.Denot («Type» N.Denot) (TypeVariant N.Denot) (RecordType N.Denot) (TypeOfAttribute N.Denot))
+        → erased_type (roll-Type N.Denot x) ≡ placeless (map-Type N.Denot _ _ _ _ _ _ _ _ erased_type erased_variant erased_record erased_attribute x)
     rolled x = fold-roll-Type N.Denot («Type» N.Denot) (TypeVariant N.Denot) (RecordType N.Denot) (TypeOfAttribute N.Denot) placeless (roll-TypeVariant N.Denot) (roll-RecordType N.Denot) (roll-TypeOfAttribute N.Denot) x
 
-    rolled_variant : (x : TypeVariant-F N.Denot («Type» N.Denot) (TypeVariant N.Denot) (RecordType N.Denot) (TypeOfAttribute N.Denot)) → erased_variant (roll-TypeVariant N.Denot x) ≡ roll-TypeVariant N.Denot (map-TypeVariant N.Denot _ _ _ _ _ _ _ _ erased_type erased_variant erased_record erased_attribute x)
+    rolled_variant : (x : TypeVariant-F N.Denot («Type» N.Denot) (TypeVariant N.Denot) (RecordType N.Denot) (TypeOfAttribute N.Denot))
+        → erased_variant (roll-TypeVariant N.Denot x) ≡ roll-TypeVariant N.Denot (map-TypeVariant N.Denot _ _ _ _ _ _ _ _ erased_type erased_variant erased_record erased_attribute x)
     rolled_variant x = fold-roll-TypeVariant N.Denot («Type» N.Denot) (TypeVariant N.Denot) (RecordType N.Denot) (TypeOfAttribute N.Denot) placeless (roll-TypeVariant N.Denot) (roll-RecordType N.Denot) (roll-TypeOfAttribute N.Denot) x
 
-    rolled_record : (x : RecordType-F N.Denot («Type» N.Denot) (TypeVariant N.Denot) (RecordType N.Denot) (TypeOfAttribute N.Denot)) → erased_record (roll-RecordType N.Denot x) ≡ roll-RecordType N.Denot (map-RecordType N.Denot _ _ _ _ _ _ _ _ erased_type erased_variant erased_record erased_attribute x)
+    rolled_record : (x : RecordType-F N.Denot («Type» N.Denot) (TypeVariant N.Denot) (RecordType N.Denot) (TypeOfAttribute N.Denot))
+        → erased_record (roll-RecordType N.Denot x) ≡ roll-RecordType N.Denot (map-RecordType N.Denot _ _ _ _ _ _ _ _ erased_type erased_variant erased_record erased_attribute x)
     rolled_record x = fold-roll-RecordType N.Denot («Type» N.Denot) (TypeVariant N.Denot) (RecordType N.Denot) (TypeOfAttribute N.Denot) placeless (roll-TypeVariant N.Denot) (roll-RecordType N.Denot) (roll-TypeOfAttribute N.Denot) x
 
-    rolled_attribute : (x : TypeOfAttribute-F N.Denot («Type» N.Denot) (TypeVariant N.Denot) (RecordType N.Denot) (TypeOfAttribute N.Denot)) → erased_attribute (roll-TypeOfAttribute N.Denot x) ≡ roll-TypeOfAttribute N.Denot (map-TypeOfAttribute N.Denot _ _ _ _ _ _ _ _ erased_type erased_variant erased_record erased_attribute x)
+    rolled_attribute : (x : TypeOfAttribute-F N.Denot («Type» N.Denot) (TypeVariant N.Denot) (RecordType N.Denot) (TypeOfAttribute N.Denot))
+        → erased_attribute (roll-TypeOfAttribute N.Denot x) ≡ roll-TypeOfAttribute N.Denot (map-TypeOfAttribute N.Denot _ _ _ _ _ _ _ _ erased_type erased_variant erased_record erased_attribute x)
     rolled_attribute x = fold-roll-TypeOfAttribute N.Denot («Type» N.Denot) (TypeVariant N.Denot) (RecordType N.Denot) (TypeOfAttribute N.Denot) placeless (roll-TypeVariant N.Denot) (roll-RecordType N.Denot) (roll-TypeOfAttribute N.Denot) x
 
-    step_type : (y : Type-F N.Denot T' V' R' A') → P (roll-Type N.Denot (map-Type N.Denot T' V' R' A' _ _ _ _ (λ e. e.0) (λ e. e.0) (λ e. e.0) (λ e. e.0) y))
+    step_type : (y : Type-F N.Denot T' V' R' A')
+        → P (roll-Type N.Denot (map-Type N.Denot T' V' R' A' _ _ _ _ (λ e. e.0) (λ e. e.0) (λ e. e.0) (λ e. e.0) y))
     step_type (Type-F.Variant v loc) =
         let e = rolled (Type-F.Variant v.0 loc) ∙ rolls-Variant (erased_variant v.0) None in
         let r = rolls-Variant v.0 loc in
@@ -156,7 +166,8 @@ module _ (N : RattleType) (E : eq.Ghosts N.Denot) (D : Dict) (lawful : bound.Law
         let r = rolls-CommonTypeRef n loc in
         (λ i. ty_eq (e i) (r i)) ∙ ref_same n n None loc ∙ reflexive n
 
-    step_variant : (y : TypeVariant-F N.Denot T' V' R' A') → P1 (roll-TypeVariant N.Denot (map-TypeVariant N.Denot T' V' R' A' _ _ _ _ (λ e. e.0) (λ e. e.0) (λ e. e.0) (λ e. e.0) y))
+    step_variant : (y : TypeVariant-F N.Denot T' V' R' A')
+        → P1 (roll-TypeVariant N.Denot (map-TypeVariant N.Denot T' V' R' A' _ _ _ _ (λ e. e.0) (λ e. e.0) (λ e. e.0) (λ e. e.0) y))
     step_variant TypeVariant-F.String = (λ i. tv_eq ((rolled_variant TypeVariant-F.String ∙ rolls-String) i) (rolls-String i)) ∙ string_same
     step_variant TypeVariant-F.Long = (λ i. tv_eq ((rolled_variant TypeVariant-F.Long ∙ rolls-Long) i) (rolls-Long i)) ∙ long_same
     step_variant TypeVariant-F.Boolean = (λ i. tv_eq ((rolled_variant TypeVariant-F.Boolean ∙ rolls-Boolean) i) (rolls-Boolean i)) ∙ boolean_same
@@ -169,11 +180,13 @@ module _ (N : RattleType) (E : eq.Ghosts N.Denot) (D : Dict) (lawful : bound.Law
     text_same : (x : List ℕ) → text_eq x x ≡ true
     text_same x = nat_list_eq_equiv.refl (encode_utf8_all x)
 
-    entries_same : (es : List (List ℕ × A')) → entries_eq (map (λ p. let q : List ℕ × TypeOfAttribute N.Denot = (p.0, erased_attribute p.1) in q) (map (λ p. let q : List ℕ × TypeOfAttribute N.Denot = (p.0, p.1.0) in q) es)) (map (λ p. let q : List ℕ × TypeOfAttribute N.Denot = (p.0, p.1.0) in q) es) ≡ true
+    entries_same : (es : List (List ℕ × A'))
+        → entries_eq (map (λ p. let q : List ℕ × TypeOfAttribute N.Denot = (p.0, erased_attribute p.1) in q) (map (λ p. let q : List ℕ × TypeOfAttribute N.Denot = (p.0, p.1.0) in q) es)) (map (λ p. let q : List ℕ × TypeOfAttribute N.Denot = (p.0, p.1.0) in q) es) ≡ true
     entries_same [] = refl
     entries_same (e ∷ es) = rw (text_same e.0, e.1.1, entries_same es)
 
-    step_record : (y : RecordType-F N.Denot T' V' R' A') → P2 (roll-RecordType N.Denot (map-RecordType N.Denot T' V' R' A' _ _ _ _ (λ e. e.0) (λ e. e.0) (λ e. e.0) (λ e. e.0) y))
+    step_record : (y : RecordType-F N.Denot T' V' R' A')
+        → P2 (roll-RecordType N.Denot (map-RecordType N.Denot T' V' R' A' _ _ _ _ (λ e. e.0) (λ e. e.0) (λ e. e.0) (λ e. e.0) y))
     step_record y =
         let x = map-RecordType N.Denot T' V' R' A' («Type» N.Denot) (TypeVariant N.Denot) (RecordType N.Denot) (TypeOfAttribute N.Denot) (λ e. e.0) (λ e. e.0) (λ e. e.0) (λ e. e.0) y in
         let e = ap (out-RecordType N.Denot) (rolled_record x) ∙ out-roll-RecordType N.Denot _ in
@@ -182,7 +195,8 @@ module _ (N : RattleType) (E : eq.Ghosts N.Denot) (D : Dict) (lawful : bound.Law
         ∙ (λ i. entries_eq (e i).attributes (r i).attributes && bool.ghosts.eq (e i).additional_attributes (r i).additional_attributes)
         ∙ (λ i. entries_same y.attributes i && bool_same y.additional_attributes i)
 
-    step_attribute : (y : TypeOfAttribute-F N.Denot T' V' R' A') → P3 (roll-TypeOfAttribute N.Denot (map-TypeOfAttribute N.Denot T' V' R' A' _ _ _ _ (λ e. e.0) (λ e. e.0) (λ e. e.0) (λ e. e.0) y))
+    step_attribute : (y : TypeOfAttribute-F N.Denot T' V' R' A')
+        → P3 (roll-TypeOfAttribute N.Denot (map-TypeOfAttribute N.Denot T' V' R' A' _ _ _ _ (λ e. e.0) (λ e. e.0) (λ e. e.0) (λ e. e.0) y))
     step_attribute y =
         let x = map-TypeOfAttribute N.Denot T' V' R' A' («Type» N.Denot) (TypeVariant N.Denot) (RecordType N.Denot) (TypeOfAttribute N.Denot) (λ e. e.0) (λ e. e.0) (λ e. e.0) (λ e. e.0) y in
         let e = ap (out-TypeOfAttribute N.Denot) (rolled_attribute x) ∙ out-roll-TypeOfAttribute N.Denot _ in

@@ -64,7 +64,8 @@ module _ {N : Type 0} where
   abbrev pub record_answer : RecordType-F N (Option Bool) (Option Bool) (Option Bool) (Option Bool) → Option Bool
   record_answer r = any_extension (map (λ p. p.1) r.attributes)
 
-  abbrev pub attribute_answer : TypeOfAttribute-F N (Option Bool) (Option Bool) (Option Bool) (Option Bool) → Option Bool
+  abbrev pub attribute_answer : TypeOfAttribute-F N (Option Bool) (Option Bool) (Option Bool) (Option Bool)
+      → Option Bool
   attribute_answer a = a.ty
 
   -- whether the type is or holds an extension type, and None where a reference may stand for one

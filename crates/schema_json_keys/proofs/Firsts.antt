@@ -19,7 +19,8 @@ abbrev pub or_next : Option (List ℕ) → Option (List ℕ) → Option (List �
 or_next None later = later
 or_next (Some n) later = Some n
 
-picks : (b : Bool) (n : List ℕ) (o p q : Option (List ℕ)) → q ≡ or_next o p → cond b (Some n) q ≡ or_next (cond b (Some n) o) p
+picks : (b : Bool) (n : List ℕ) (o p q : Option (List ℕ)) → q ≡ or_next o p
+    → cond b (Some n) q ≡ or_next (cond b (Some n) o) p
 picks true n o p q e = refl
 picks false n o p q e = e
 
@@ -36,7 +37,8 @@ item_step xs i x h is =
     let here : drop i xs ≡ x ∷ drop (i + 1) xs = drop_more xs i x h ∙ ap (λ y. y ∷ drop (i + 1) xs) (sym is) in
     ap (λ d. first_again (items_keys (items_view d))) here ∙ first_again-append (keys_of (value_view x)) (items_keys (items_view (drop (i + 1) xs)))
 
-pub member_step : {A : Type 0} (xs : List (Bor (List ℕ) × Value A)) (i : ℕ) (m : Bor (List ℕ) × Value A) → i < length xs → m ≡ get_or xs i m
+pub member_step : {A : Type 0} (xs : List (Bor (List ℕ) × Value A)) (i : ℕ) (m : Bor (List ℕ) × Value A)
+    → i < length xs → m ≡ get_or xs i m
     → first_again (members_keys (names (take i xs)) (members_view (drop i xs)))
     ≡ comes_again (record { name = m.0.now; earlier = names (take i xs) }) (or_next (first_again (keys_of (value_view m.1))) (first_again (members_keys (names (take (i + 1) xs)) (members_view (drop (i + 1) xs)))))
 member_step xs i m h is =
@@ -47,14 +49,17 @@ member_step xs i m h is =
     (first_again-append (keys_of (value_view m.1)) (members_keys (names (take i xs) ++ m.0.now ∷ []) (members_view (drop (i + 1) xs)))
     ∙ ap (λ ns. or_next (first_again (keys_of (value_view m.1))) (first_again (members_keys ns (members_view (drop (i + 1) xs))))) (sym more))
 
-pub one_more_name : {A : Type 0} (xs : List (Bor (List ℕ) × Value A)) (i : ℕ) (m : Bor (List ℕ) × Value A) → i < length xs → m ≡ get_or xs i m
+pub one_more_name : {A : Type 0} (xs : List (Bor (List ℕ) × Value A)) (i : ℕ) (m : Bor (List ℕ) × Value A)
+    → i < length xs → m ≡ get_or xs i m
     → names (take (i + 1) xs) ≡ names (take i xs) ++ m.0.now ∷ []
 one_more_name xs i m h is = ap names (take_more xs i m h ∙ ap (λ y. take i xs ++ y ∷ []) (sym is)) ∙ map-append _ (take i xs) (m ∷ [])
 
-pub comes_again-true : (k : Key) (o : Option (List ℕ)) → list_any (bytes_eq k.name) k.earlier ≡ true → comes_again k o ≡ Some k.name
+pub comes_again-true : (k : Key) (o : Option (List ℕ)) → list_any (bytes_eq k.name) k.earlier ≡ true
+    → comes_again k o ≡ Some k.name
 comes_again-true k o e = ap (λ b. cond b (Some k.name) o) e
 
-pub comes_again-false : (k : Key) (o : Option (List ℕ)) → list_any (bytes_eq k.name) k.earlier ≡ false → comes_again k o ≡ o
+pub comes_again-false : (k : Key) (o : Option (List ℕ)) → list_any (bytes_eq k.name) k.earlier ≡ false
+    → comes_again k o ≡ o
 comes_again-false k o e = ap (λ b. cond b (Some k.name) o) e
 
 -- ---- what is computed is what is defined
@@ -77,7 +82,8 @@ one_more k ks not None all = All-cons (λ k. ¬ ComesAgain k) k ks not all
 one_more k ks not (Some n) f =
     record { before = k ∷ f.before; again = f.again; after = f.after; stands = ap (λ l. k ∷ l) f.stands; first = All-cons (λ k. ¬ ComesAgain k) k f.before not f.first; comes_again = f.comes_again; named = f.named }
 
-by_test : (k : Key) (ks : List Key) (b : Bool) → list_any (bytes_eq k.name) k.earlier ≡ b → (o : Option (List ℕ)) → Answers ks o → Answers (k ∷ ks) (cond b (Some k.name) o)
+by_test : (k : Key) (ks : List Key) (b : Bool) → list_any (bytes_eq k.name) k.earlier ≡ b → (o : Option (List ℕ))
+    → Answers ks o → Answers (k ∷ ks) (cond b (Some k.name) o)
 by_test k ks true e o rest = record { before = []; again = k; after = ks; stands = refl; first = All-nil (λ k. ¬ ComesAgain k); comes_again = is_among k.name k.earlier e; named = refl }
 by_test k ks false e o rest = one_more k ks (not_among k.name k.earlier e) o rest
 

@@ -57,13 +57,15 @@ module _ (source : List ℕ) where
   nothing : All (IsFaultless source) []
   nothing = All-nil (IsFaultless source)
 
-  one_path : (u : List Lexeme) (p : List (List ℕ)) → SpellsPath u p → (ts : List Token) → Spells source ts u → ReadsOnePath source ts p
+  one_path : (u : List Lexeme) (p : List (List ℕ)) → SpellsPath u p → (ts : List Token) → Spells source ts u
+      → ReadsOnePath source ts p
   one_path u p h ts s =
       let r = read_path source h ts s in
       record { syn = record { names = r.words; loc = whole_place ts }; parsed = S.path r.parsed; node = record { ids = r.ids; loc = Some (whole_place ts) }; is = (r.are, refl); says = r.says; lawful = r.lawful }
 
   -- declared names
-  ident_first : (t : Token) (x : Lexeme) → IsSpelled source t x → IsIdent x → ReadsIdents source (t ∷ []) (x.text ∷ [])
+  ident_first : (t : Token) (x : Lexeme) → IsSpelled source t x → IsIdent x
+      → ReadsIdents source (t ∷ []) (x.text ∷ [])
   ident_first t x s i =
       record {
         syns = t ∷ [];
@@ -74,7 +76,8 @@ module _ (source : List ℕ) where
         lawful = All-append (IsFaultless source) (name_sites t) [] (ident_site source t x s i) nothing;
       }
 
-  ident_more : (t c : Token) (ts : List Token) (x : Lexeme) (names : List (List ℕ)) → IsSpelled source t x → IsIdent x → c.kind ≡ Comma → ReadsIdents source ts names → ReadsIdents source (t ∷ c ∷ ts) (x.text ∷ names)
+  ident_more : (t c : Token) (ts : List Token) (x : Lexeme) (names : List (List ℕ)) → IsSpelled source t x → IsIdent x
+      → c.kind ≡ Comma → ReadsIdents source ts names → ReadsIdents source (t ∷ c ∷ ts) (x.text ∷ names)
   ident_more t c ts x names s i k r =
       record {
         syns = t ∷ r.syns;
@@ -85,7 +88,8 @@ module _ (source : List ℕ) where
         lawful = All-append (IsFaultless source) (name_sites t) (names_sites r.syns) (ident_site source t x s i) r.lawful;
       }
 
-  read_idents : {u : List Lexeme} {names : List (List ℕ)} → IsChainOf Comma u names → (ts : List Token) → Spells source ts u → ReadsIdents source ts names
+  read_idents : {u : List Lexeme} {names : List (List ℕ)} → IsChainOf Comma u names → (ts : List Token)
+      → Spells source ts u → ReadsIdents source ts names
   read_idents (one i) [] s = absurd s
   read_idents (one {x = x} i) (t ∷ []) s = ident_first t x s.0 i
   read_idents (one i) (t ∷ c ∷ ts) s = absurd s.1
@@ -94,7 +98,8 @@ module _ (source : List ℕ) where
   read_idents (more {x = x} {names = names} i k r) (t ∷ c ∷ ts) s = ident_more t c ts x names s.0 i (s.1.0.0 ∙ k) (read_idents r ts s.1.1)
 
   module _ (never_both : (body value : List ℕ) (at : ℕ) → Unescapes body value → BadEscape body at → ⊥) where
-    name_first : (t : Token) (x : Lexeme) (n : List ℕ) → IsSpelled source t x → SpellsName x n → ReadsNames source (t ∷ []) (n ∷ [])
+    name_first : (t : Token) (x : Lexeme) (n : List ℕ) → IsSpelled source t x → SpellsName x n
+        → ReadsNames source (t ∷ []) (n ∷ [])
     name_first t x n s i =
         record {
           syns = t ∷ [];
@@ -105,7 +110,9 @@ module _ (source : List ℕ) where
           lawful = All-append (IsFaultless source) (name_sites t) [] (name_site source never_both t x n s i) nothing;
         }
 
-    name_more : (t c : Token) (ts : List Token) (x : Lexeme) (n : List ℕ) (names : List (List ℕ)) → IsSpelled source t x → SpellsName x n → c.kind ≡ Comma → ReadsNames source ts names → ReadsNames source (t ∷ c ∷ ts) (n ∷ names)
+    name_more : (t c : Token) (ts : List Token) (x : Lexeme) (n : List ℕ) (names : List (List ℕ))
+        → IsSpelled source t x → SpellsName x n → c.kind ≡ Comma → ReadsNames source ts names
+        → ReadsNames source (t ∷ c ∷ ts) (n ∷ names)
     name_more t c ts x n names s i k r =
         record {
           syns = t ∷ r.syns;
@@ -116,7 +123,8 @@ module _ (source : List ℕ) where
           lawful = All-append (IsFaultless source) (name_sites t) (names_sites r.syns) (name_site source never_both t x n s i) r.lawful;
         }
 
-    read_names : {u : List Lexeme} {names : List (List ℕ)} → AreNamesOf u names → (ts : List Token) → Spells source ts u → ReadsNames source ts names
+    read_names : {u : List Lexeme} {names : List (List ℕ)} → AreNamesOf u names → (ts : List Token)
+        → Spells source ts u → ReadsNames source ts names
     read_names (one_name i) [] s = absurd s
     read_names (one_name {x = x} {n = n} i) (t ∷ []) s = name_first t x n s.0 i
     read_names (one_name i) (t ∷ c ∷ ts) s = absurd s.1
@@ -124,18 +132,23 @@ module _ (source : List ℕ) where
     read_names (more_names i k r) (t ∷ []) s = absurd s.1
     read_names (more_names {x = x} {n = n} {names = names} i k r) (t ∷ c ∷ ts) s = name_more t c ts x n names s.0 i (s.1.0.0 ∙ k) (read_names r ts s.1.1)
 
-    one_string : (u : List Lexeme) (value : List ℕ) → IsStringOf u value → (ts : List Token) → Spells source ts u → ReadsOneString source ts value
+    one_string : (u : List Lexeme) (value : List ℕ) → IsStringOf u value → (ts : List Token) → Spells source ts u
+        → ReadsOneString source ts value
     one_string u value (a_string {x = x} body k e h) [] s = absurd s
     one_string u value (a_string {x = x} body k e h) (t ∷ []) s =
         record { syn = t; parsed = S.string (s.0.0 ∙ k); node = record { node = record { 0 = value }; loc = Some t.loc }; is = ((body, s.0.1 ∙ e, h), refl); says = refl; lawful = string_site source never_both t x body value s.0 k e h }
     one_string u value (a_string {x = x} body k e h) (t ∷ c ∷ ts) s = absurd s.1
 
     -- references to actions
-    type_of_ref : (ts words : List Token) (ids : List Id) → IsChain PathSep is_ident ts words → AllZip (tree.IsId source) words ids → tree.IsTypeOfRef source words (Some (record { ids = ids; loc = Some (whole_place words) }))
+    type_of_ref : (ts words : List Token) (ids : List Id) → IsChain PathSep is_ident ts words
+        → AllZip (tree.IsId source) words ids
+        → tree.IsTypeOfRef source words (Some (record { ids = ids; loc = Some (whole_place words) }))
     type_of_ref ts words ids (S.one h) are = (are, refl)
     type_of_ref ts words ids (S.more h k r) are = (are, refl)
 
-    typed_read : (ts : List Token) (c t : Token) (q : Lexeme) (names : List (List ℕ)) (body value : List ℕ) → ReadsPath source ts names → c.kind ≡ PathSep → IsSpelled source t q → q.kind ≡ StringLit → q.text ≡ 34 ∷ (body ++ 34 ∷ []) → Unescapes body value
+    typed_read : (ts : List Token) (c t : Token) (q : Lexeme) (names : List (List ℕ)) (body value : List ℕ)
+        → ReadsPath source ts names → c.kind ≡ PathSep → IsSpelled source t q → q.kind ≡ StringLit
+        → q.text ≡ 34 ∷ (body ++ 34 ∷ []) → Unescapes body value
         → ReadsOneRef source (ts ++ c ∷ t ∷ []) (record { ty = Some names; id = value })
     typed_read ts c t q names body value r k s kq e un =
         let loc = whole_place (ts ++ c ∷ t ∷ []) in
@@ -151,7 +164,8 @@ module _ (source : List ℕ) where
               (All-append (IsFaultless source) (names_sites r.words) (names_sites (t ∷ [])) r.lawful (All-append (IsFaultless source) (name_sites t) [] (string_site source never_both t q body value s kq e un) nothing));
         }
 
-    pub one_ref : (u : List Lexeme) (r : WrittenRef) → SpellsRef u r → (ts : List Token) → Spells source ts u → ReadsOneRef source ts r
+    pub one_ref : (u : List Lexeme) (r : WrittenRef) → SpellsRef u r → (ts : List Token) → Spells source ts u
+        → ReadsOneRef source ts r
     one_ref u r (plain_ref {x = x} {n = n} i) [] s = absurd s
     one_ref u r (plain_ref {x = x} {n = n} i) (t ∷ []) s =
         let name : QualName = record { path = None; eid = n } in
@@ -172,7 +186,8 @@ module _ (source : List ℕ) where
         (typed_read b.left b.token last.token q names body value (read_path source h b.left b.first) (b.is.0 ∙ k) last.is kq e un)
 
     -- attributes and tags
-    no_attributes : (u : List Lexeme) (xs : WrittenAttributes) → SpellsShape u xs → (ts : List Token) → Spells source ts u → ReadsShape source ts xs
+    no_attributes : (u : List Lexeme) (xs : WrittenAttributes) → SpellsShape u xs → (ts : List Token)
+        → Spells source ts u → ReadsShape source ts xs
     no_attributes u xs no_shape [] s = record { syn = None; parsed = S.no_shape; node = record { node = []; loc = None }; is = (refl, refl); says = shows_none; lawful = nothing }
     no_attributes u xs no_shape (t ∷ ts) s = absurd s
     no_attributes u xs (bare_shape h) ts s =
@@ -185,7 +200,8 @@ module _ (source : List ℕ) where
         let loc = whole_place ts in
         record { syn = Some (r.syns, loc); parsed = S.equals_shape (s.0.0 ∙ k) r.parsed; node = record { node = r.nodes; loc = Some loc }; is = (r.are, refl); says = r.shows; lawful = r.lawful }
 
-    read_tags : (u : List Lexeme) (t : Option WrittenType) → SpellTags u t → (ts : List Token) → Spells source ts u → ReadsTags source ts t
+    read_tags : (u : List Lexeme) (t : Option WrittenType) → SpellTags u t → (ts : List Token) → Spells source ts u
+        → ReadsTags source ts t
     read_tags u t no_tags [] s = record { syn = None; parsed = S.no_tags; node = None; is = refl; says = tt; lawful = nothing }
     read_tags u t no_tags (x ∷ ts) s = absurd s
     read_tags u t (some_tags k h) [] s = absurd s
@@ -193,14 +209,17 @@ module _ (source : List ℕ) where
         let r = read_type source never_both h ts s.1 in
         record { syn = Some r.syn; parsed = S.some_tags (s.0.0 ∙ k) r.parsed; node = Some r.node; is = r.is; says = r.shows; lawful = r.lawful }
 
-    read_parents : {u : List Lexeme} {ps : List (List (List ℕ))} → AreParentsOf SpellsPath u ps → (ts : List Token) → Spells source ts u → ReadsAll source (AreParents IsPath ts) (tree.IsPathOf source) SaysPath path_sites ps
+    read_parents : {u : List Lexeme} {ps : List (List (List ℕ))} → AreParentsOf SpellsPath u ps → (ts : List Token)
+        → Spells source ts u → ReadsAll source (AreParents IsPath ts) (tree.IsPathOf source) SaysPath path_sites ps
     read_parents = parents source SpellsPath IsPath (tree.IsPathOf source) SaysPath path_sites one_path
 
-    read_refs : {u : List Lexeme} {rs : List WrittenRef} → AreParentsOf SpellsRef u rs → (ts : List Token) → Spells source ts u → ReadsAll source (AreParents IsRef ts) (tree.IsRefOf source) SaysRef path_sites rs
+    read_refs : {u : List Lexeme} {rs : List WrittenRef} → AreParentsOf SpellsRef u rs → (ts : List Token)
+        → Spells source ts u → ReadsAll source (AreParents IsRef ts) (tree.IsRefOf source) SaysRef path_sites rs
     read_refs = parents source SpellsRef IsRef (tree.IsRefOf source) SaysRef path_sites one_ref
 
     -- members of an `appliesTo` block
-    one_member : (u : List Lexeme) (m : WrittenMember) → IsMemberOf u m → (ts : List Token) → Spells source ts u → ReadsMember source ts m
+    one_member : (u : List Lexeme) (m : WrittenMember) → IsMemberOf u m → (ts : List Token) → Spells source ts u
+        → ReadsMember source ts m
     one_member u m (types_of {ps = ps} hr hc h) [] s = absurd s
     one_member u m (types_of {ps = ps} hr hc h) (w ∷ []) s = absurd s.1
     one_member u m (types_of {w = x} {ps = ps} hr hc h) (w ∷ c ∷ ts) s =
@@ -244,12 +263,15 @@ module _ (source : List ℕ) where
           lawful = r.lawful;
         }
 
-    some_apps : (syns : List AppSyntax) (nodes : List (Node AppDecl)) (m : WrittenMember) (ms : List WrittenMember) (loc : Span) → AllZip (tree.IsAppOf source) syns nodes → AllZip SaysMember nodes (m ∷ ms) → flat_map app_sites syns ≡ apps_sites syns loc
+    some_apps : (syns : List AppSyntax) (nodes : List (Node AppDecl)) (m : WrittenMember) (ms : List WrittenMember) (loc : Span)
+        → AllZip (tree.IsAppOf source) syns nodes → AllZip SaysMember nodes (m ∷ ms)
+        → flat_map app_sites syns ≡ apps_sites syns loc
     some_apps [] [] m ms loc are says = absurd says
     some_apps [] (n ∷ nodes) m ms loc are says = absurd are
     some_apps (a ∷ syns) nodes m ms loc are says = refl
 
-    pub read_applies : (u : List Lexeme) (m : Option (List WrittenMember)) → SpellsApplies u m → (ts : List Token) → Spells source ts u → ReadsApplies source ts m
+    pub read_applies : (u : List Lexeme) (m : Option (List WrittenMember)) → SpellsApplies u m → (ts : List Token)
+        → Spells source ts u → ReadsApplies source ts m
     read_applies u m no_applies [] s = record { syn = None; parsed = S.no_applies; node = None; is = refl; says = tt; lawful = nothing }
     read_applies u m no_applies (t ∷ ts) s = absurd s
     read_applies u m (some_applies c hw ho h hc) [] s = absurd s
@@ -270,7 +292,9 @@ module _ (source : List ℕ) where
 
     -- declarations, from their parts
     entity_read : (e : Token) (i p h t : List Token) (z : Token) (names : List (List ℕ)) (ps : List (List (List ℕ))) (xs : WrittenAttributes) (tags : Option WrittenType)
-        → e.kind ≡ KwEntity → ReadsIdents source i names → ReadsAll source (AreParents IsPath p) (tree.IsPathOf source) SaysPath path_sites ps → ReadsShape source h xs → ReadsTags source t tags → z.kind ≡ Semi
+        → e.kind ≡ KwEntity → ReadsIdents source i names
+        → ReadsAll source (AreParents IsPath p) (tree.IsPathOf source) SaysPath path_sites ps → ReadsShape source h xs
+        → ReadsTags source t tags → z.kind ≡ Semi
         → ReadsDecl source (e ∷ (i ++ (p ++ (h ++ (t ++ z ∷ []))))) (entity names ps xs tags)
     entity_read e i p h t z names ps xs tags ke ri rp rh rt kz =
         let d : StandardEntityDecl = record { names = ri.nodes; member_of_types = rp.nodes; attrs = rh.node; tags = rt.node } in
@@ -284,13 +308,17 @@ module _ (source : List ℕ) where
               (All-append (IsFaultless source) (paths_sites rp.syns) (shape_sites rh.syn ++ tags_sites rt.syn) rp.lawful (All-append (IsFaultless source) (shape_sites rh.syn) (tags_sites rt.syn) rh.lawful rt.lawful));
         }
 
-    some_choices : (syns : List Token) (nodes : List (Node Eid)) (c : List ℕ) (cs : List (List ℕ)) (loc : Span) → AllZip (tree.IsChoice source) syns nodes → AllZip SaysChoice nodes (c ∷ cs) → flat_map name_sites syns ≡ choices_sites syns loc
+    some_choices : (syns : List Token) (nodes : List (Node Eid)) (c : List ℕ) (cs : List (List ℕ)) (loc : Span)
+        → AllZip (tree.IsChoice source) syns nodes → AllZip SaysChoice nodes (c ∷ cs)
+        → flat_map name_sites syns ≡ choices_sites syns loc
     some_choices [] [] c cs loc are says = absurd says
     some_choices [] (n ∷ nodes) c cs loc are says = absurd are
     some_choices (a ∷ syns) nodes c cs loc are says = refl
 
     enum_read : (e : Token) (i : List Token) (n o : Token) (h : List Token) (c z : Token) (names : List (List ℕ)) (choice : List ℕ) (choices : List (List ℕ))
-        → e.kind ≡ KwEntity → ReadsIdents source i names → n.kind ≡ KwEnum → o.kind ≡ LBracket → ReadsAll source (AreSeparated IsStringToken h) (tree.IsChoice source) SaysChoice name_sites (choice ∷ choices) → c.kind ≡ RBracket → z.kind ≡ Semi
+        → e.kind ≡ KwEntity → ReadsIdents source i names → n.kind ≡ KwEnum → o.kind ≡ LBracket
+        → ReadsAll source (AreSeparated IsStringToken h) (tree.IsChoice source) SaysChoice name_sites (choice ∷ choices)
+        → c.kind ≡ RBracket → z.kind ≡ Semi
         → ReadsDecl source (e ∷ (i ++ n ∷ o ∷ (h ++ c ∷ z ∷ []))) (enum names (choice ∷ choices))
     enum_read e i n o h c z names choice choices ke ri kn ko rh kc kz =
         let loc = whole_place (o ∷ (h ++ c ∷ [])) in
@@ -305,7 +333,8 @@ module _ (source : List ℕ) where
         }
 
     external_entity_read : (x e : Token) (i p : List Token) (z : Token) (names : List (List ℕ)) (ps : List (List (List ℕ)))
-        → x.kind ≡ KwExternal → e.kind ≡ KwEntity → ReadsIdents source i names → ReadsAll source (AreParents IsPath p) (tree.IsPathOf source) SaysPath path_sites ps → z.kind ≡ Semi
+        → x.kind ≡ KwExternal → e.kind ≡ KwEntity → ReadsIdents source i names
+        → ReadsAll source (AreParents IsPath p) (tree.IsPathOf source) SaysPath path_sites ps → z.kind ≡ Semi
         → ReadsDecl source (x ∷ e ∷ (i ++ (p ++ z ∷ []))) (external_entity names ps)
     external_entity_read x e i p z names ps kx ke ri rp kz =
         let d : ExternalEntityDecl = record { names = ri.nodes; member_of_types = rp.nodes } in
@@ -319,7 +348,9 @@ module _ (source : List ℕ) where
         }
 
     action_read : (a : Token) (n p h : List Token) (z : Token) (names : List (List ℕ)) (rs : List WrittenRef) (ms : Option (List WrittenMember))
-        → a.kind ≡ KwAction → ReadsNames source n names → ReadsAll source (AreParents IsRef p) (tree.IsRefOf source) SaysRef path_sites rs → ReadsApplies source h ms → z.kind ≡ Semi
+        → a.kind ≡ KwAction → ReadsNames source n names
+        → ReadsAll source (AreParents IsRef p) (tree.IsRefOf source) SaysRef path_sites rs → ReadsApplies source h ms
+        → z.kind ≡ Semi
         → ReadsDecl source (a ∷ (n ++ (p ++ (h ++ z ∷ [])))) (action names rs ms)
     action_read a n p h z names rs ms ka rn rp rh kz =
         let o = optional source (tree.IsRefOf source) SaysRef rp.syns rp.nodes rs rp.are rp.says in
@@ -334,7 +365,8 @@ module _ (source : List ℕ) where
         }
 
     external_action_read : (x a : Token) (n p : List Token) (z : Token) (names : List (List ℕ)) (rs : List WrittenRef)
-        → x.kind ≡ KwExternal → a.kind ≡ KwAction → ReadsNames source n names → ReadsAll source (AreParents IsRef p) (tree.IsRefOf source) SaysRef path_sites rs → z.kind ≡ Semi
+        → x.kind ≡ KwExternal → a.kind ≡ KwAction → ReadsNames source n names
+        → ReadsAll source (AreParents IsRef p) (tree.IsRefOf source) SaysRef path_sites rs → z.kind ≡ Semi
         → ReadsDecl source (x ∷ a ∷ (n ++ (p ++ z ∷ []))) (external_action names rs)
     external_action_read x a n p z names rs kx ka rn rp kz =
         let o = optional source (tree.IsRefOf source) SaysRef rp.syns rp.nodes rs rp.are rp.says in
@@ -348,7 +380,8 @@ module _ (source : List ℕ) where
           lawful = All-append (IsFaultless source) (names_sites rn.syns) (paths_sites rp.syns) rn.lawful rp.lawful;
         }
 
-    common_read : (w n e : Token) (u : List Token) (z : Token) (x : Lexeme) (t : WrittenType) → w.kind ≡ KwType → IsSpelled source n x → IsIdent x → e.kind ≡ Equals → ReadsType source u t → z.kind ≡ Semi
+    common_read : (w n e : Token) (u : List Token) (z : Token) (x : Lexeme) (t : WrittenType) → w.kind ≡ KwType
+        → IsSpelled source n x → IsIdent x → e.kind ≡ Equals → ReadsType source u t → z.kind ≡ Semi
         → ReadsDecl source (w ∷ n ∷ e ∷ (u ++ z ∷ [])) (common x.text t)
     common_read w n e u z x t kw s i ke r kz =
         let name : Node Id = record { node = record { text = x.text; word = i.id }; loc = Some n.loc } in
@@ -362,7 +395,8 @@ module _ (source : List ℕ) where
           lawful = All-append (IsFaultless source) (name_sites n) (sites_of_type r.syn) (ident_site source n x s i) r.lawful;
         }
 
-    read_decl : (u : List Lexeme) (d : WrittenDecl) → SpellsDecl u d → (ts : List Token) → Spells source ts u → ReadsDecl source ts d
+    read_decl : (u : List Lexeme) (d : WrittenDecl) → SpellsDecl u d → (ts : List Token) → Spells source ts u
+        → ReadsDecl source ts d
     read_decl u d (entity_of z ke hi hp hs ht kz) [] s = absurd s
     read_decl u d (entity_of z {i = i} {p = p} {s = h} {t = t} {names = names} {parents = ps} {shape = xs} {tags = tags} ke hi hp hh ht kz) (e ∷ ts) s =
         let a = split source i (p ++ (h ++ (t ++ z ∷ []))) ts s.1 in
@@ -413,7 +447,8 @@ module _ (source : List ℕ) where
         subst (λ l. ReadsDecl source (w ∷ n ∷ e ∷ l) (common x.text t)) (sym k.whole)
         (common_read w n e k.left k.token x t (s.0.0 ∙ kw) s.1.0 i (s.1.1.0.0 ∙ ke) (read_type source never_both h k.left k.first) (k.is.0 ∙ kz))
 
-    read_declared : (u : List Lexeme) (d : WrittenDeclared) → SpellsDeclared u d → (ts : List Token) → Spells source ts u → ReadsDeclared source ts d
+    read_declared : (u : List Lexeme) (d : WrittenDeclared) → SpellsDeclared u d → (ts : List Token)
+        → Spells source ts u → ReadsDeclared source ts d
     read_declared u d (declared_of {a = a} {u = v} {ns = ns} {d = e} w h) ts s =
         let b = split source a v ts s in
         let notes = read_notes source never_both w.spell w.arranged b.left b.first in
@@ -431,7 +466,9 @@ module _ (source : List ℕ) where
         })
 
     namespace_read : (a : List Token) (n : Token) (p : List Token) (o : Token) (u : List Token) (c : Token) (ns : Notes) (name : List (List ℕ)) (ds : List WrittenDeclared)
-        → ReadsNotes source a ns → n.kind ≡ KwNamespace → ReadsOnePath source p name → o.kind ≡ LBrace → ReadsAll source (AreMany IsDeclared u) (tree.IsDeclaredOf source) SaysDeclared declared_sites ds → c.kind ≡ RBrace
+        → ReadsNotes source a ns → n.kind ≡ KwNamespace → ReadsOnePath source p name → o.kind ≡ LBrace
+        → ReadsAll source (AreMany IsDeclared u) (tree.IsDeclaredOf source) SaysDeclared declared_sites ds
+        → c.kind ≡ RBrace
         → ReadsItem source (a ++ n ∷ (p ++ o ∷ (u ++ c ∷ []))) (namespace ns name ds)
     namespace_read a n p o u c ns name ds notes kn rp ko rd kc =
         let loc = whole_place (n ∷ (p ++ o ∷ (u ++ c ∷ []))) in
@@ -448,7 +485,8 @@ module _ (source : List ℕ) where
         }
 
     -- a declaration in no namespace has its notes, and the namespace that holds it has none
-    read_item : (u : List Lexeme) (i : WrittenItem) → SpellsItem u i → (ts : List Token) → Spells source ts u → ReadsItem source ts i
+    read_item : (u : List Lexeme) (i : WrittenItem) → SpellsItem u i → (ts : List Token) → Spells source ts u
+        → ReadsItem source ts i
     read_item u i (namespace_of {a = a} n o c {p = p} {u = v} {ns = ns} {name = name} {ds = ds} w kn hp ko hd kc) ts s =
         let b = between source a (p ++ o ∷ (v ++ c ∷ [])) n ts s in
         let f = between source p (v ++ c ∷ []) o b.right b.second in
@@ -462,5 +500,6 @@ module _ (source : List ℕ) where
         let node : Annotated Namespace = record { item = it; annotations = record { 0 = [] } } in
         record { syn = item_syntax.Decl r.syn; parsed = S.outside r.parsed; node = node; is = (r.node, refl, r.is); says = (refl, (r.says, tt), refl); lawful = r.lawful }
 
-    pub read_schema : {u : List Lexeme} {w : List WrittenItem} → SpellsSchema u w → (ts : List Token) → Spells source ts u → ReadsSchema source ts w
+    pub read_schema : {u : List Lexeme} {w : List WrittenItem} → SpellsSchema u w → (ts : List Token)
+        → Spells source ts u → ReadsSchema source ts w
     read_schema = many source SpellsItem IsItem (tree.IsItemOf source) SaysItem item_sites read_item

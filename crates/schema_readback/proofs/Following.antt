@@ -38,7 +38,8 @@ calm {e = free} h s = from_free s
 calm {e = word} h s = s
 calm {e = colon} h s = cc
 
-pub follow_append : {e : Edge} {ps : List Piece} (qs : List Piece) → Follow e ps → Follow word qs → Follow e (ps ++ qs)
+pub follow_append : {e : Edge} {ps : List Piece} (qs : List Piece) → Follow e ps → Follow word qs
+    → Follow e (ps ++ qs)
 follow_append qs (done h) s = calm h s
 follow_append qs (by_gap g r) s = by_gap g (follow_append qs r s)
 follow_append qs (by_blanks g r) s = by_blanks g (follow_append qs r s)
@@ -65,7 +66,8 @@ is_word_so : (c : List ℕ) → words.is_word c ≡ true → IsWord c
 is_word_so [] h = cc
 is_word_so (b ∷ bs) h = (first_so (is_word_start b) (list_all is_word_part bs) h, AllPass-from_list_all is_word_part bs (second_so (is_word_start b) (list_all is_word_part bs) h))
 
-at_kind : (P : TokenKind → Bool) (c : Bool) (x r k : TokenKind) → P x ≡ true → (r ≡ k → P k ≡ true) → cond c x r ≡ k → P k ≡ true
+at_kind : (P : TokenKind → Bool) (c : Bool) (x r k : TokenKind) → P x ≡ true → (r ≡ k → P k ≡ true) → cond c x r ≡ k
+    → P k ≡ true
 at_kind P true x r k h there e = subst (λ y. P y ≡ true) e h
 at_kind P false x r k h there e = there e
 
@@ -110,7 +112,8 @@ ident_kind_of c h = ident_of_kind c (word_kind c) (no_in c (opposite (is_reserve
 edge_of_word : (k : TokenKind) → is_word_kind k ≡ true → edge_of k ≡ word
 edge_of_word k h = rw h refl
 
-pub then_word : {ps : List Piece} (c : List ℕ) → words.is_word c ≡ true → Follow word ps → Follow free (printed.word c ∷ ps)
+pub then_word : {ps : List Piece} (c : List ℕ) → words.is_word c ≡ true → Follow word ps
+    → Follow free (printed.word c ∷ ps)
 then_word {ps} c h s = by_lexeme (inl (is_word_so c h, refl)) refl (subst (λ e. Follow e ps) (sym (edge_of_word (word_kind c) (word_of_kind c (word_kind c) refl))) s)
 
 pub then_id : {ps : List Piece} (c : List ℕ) → is_id c ≡ true → Follow word ps → Follow free (printed.word c ∷ ps)

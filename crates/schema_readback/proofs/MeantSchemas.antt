@@ -24,15 +24,18 @@ use Rattle.schema_readback.proofs.MeantTexts.{path_laid, type_laid}
 both : (a b : List Piece) (s t : List ℕ) → laid a ≡ s → laid b ≡ t → laid (a ++ b) ≡ s ++ t
 both a b s t e f = laid-append a b ∙ (ap (λ l. l ++ laid b) e ∙ ap (λ l. s ++ l) f)
 
-list_laid : {A : Type 0} (f : A → List Piece) (g : A → List ℕ) → ((x : A) → laid (f x) ≡ g x) → (xs : List A) → laid (list_pieces f xs) ≡ joined_by (codes ", ") (map g xs)
+list_laid : {A : Type 0} (f : A → List Piece) (g : A → List ℕ) → ((x : A) → laid (f x) ≡ g x) → (xs : List A)
+    → laid (list_pieces f xs) ≡ joined_by (codes ", ") (map g xs)
 list_laid f g each [] = refl
 list_laid f g each (x ∷ []) = each x
 list_laid f g each (x ∷ y ∷ xs) = both (f x) (mark Comma (codes ",") ∷ space ∷ list_pieces f (y ∷ xs)) (g x) (codes ", " ++ joined_by (codes ", ") (map g (y ∷ xs))) (each x) (ap (λ l. codes ", " ++ l) (list_laid f g each (y ∷ xs)))
 
-bracketed_laid : {A : Type 0} (f : A → List Piece) (g : A → List ℕ) → ((x : A) → laid (f x) ≡ g x) → (xs : List A) → laid (bracketed f xs) ≡ list_text (map g xs)
+bracketed_laid : {A : Type 0} (f : A → List Piece) (g : A → List ℕ) → ((x : A) → laid (f x) ≡ g x) → (xs : List A)
+    → laid (bracketed f xs) ≡ list_text (map g xs)
 bracketed_laid f g each xs = ap (λ l. codes "[" ++ l) (both (list_pieces f xs) (mark RBracket (codes "]") ∷ []) (joined_by (codes ", ") (map g xs)) (codes "]") (list_laid f g each xs) refl)
 
-parents_laid : {A : Type 0} (f : A → List Piece) (g : A → List ℕ) → ((x : A) → laid (f x) ≡ g x) → (xs : List A) → laid (parents_pieces f xs) ≡ parents_text (map g xs)
+parents_laid : {A : Type 0} (f : A → List Piece) (g : A → List ℕ) → ((x : A) → laid (f x) ≡ g x) → (xs : List A)
+    → laid (parents_pieces f xs) ≡ parents_text (map g xs)
 parents_laid f g each [] = refl
 parents_laid f g each (x ∷ xs) = ap (λ l. codes " in " ++ l) (bracketed_laid f g each (x ∷ xs))
 
@@ -49,17 +52,20 @@ map_both : {A B C : Type 0} (f : B → C) (g : A → B) (xs : List A) → map f 
 map_both f g [] = refl
 map_both f g (x ∷ xs) = ap (λ ys. f (g x) ∷ ys) (map_both f g xs)
 
-refs_laid : (as' : List (List (List ℕ) × List ℕ)) → laid (parents_pieces ref_pieces (map ref_of_meaning as')) ≡ parents_text (map action_name_text as')
+refs_laid : (as' : List (List (List ℕ) × List ℕ))
+    → laid (parents_pieces ref_pieces (map ref_of_meaning as')) ≡ parents_text (map action_name_text as')
 refs_laid [] = refl
 refs_laid (a ∷ as') = ap (λ l. codes " in [" ++ l) (both (list_pieces ref_pieces (map ref_of_meaning (a ∷ as'))) (mark RBracket (codes "]") ∷ []) (joined_by (codes ", ") (map action_name_text (a ∷ as'))) (codes "]") (listed a as') refl)
   where
-    listed : (a : List (List ℕ) × List ℕ) (as' : List (List (List ℕ) × List ℕ)) → laid (list_pieces ref_pieces (map ref_of_meaning (a ∷ as'))) ≡ joined_by (codes ", ") (map action_name_text (a ∷ as'))
+    listed : (a : List (List ℕ) × List ℕ) (as' : List (List (List ℕ) × List ℕ))
+        → laid (list_pieces ref_pieces (map ref_of_meaning (a ∷ as'))) ≡ joined_by (codes ", ") (map action_name_text (a ∷ as'))
     listed a [] = ref_laid a
     listed a (b ∷ as') =
         both (ref_pieces (ref_of_meaning a)) (mark Comma (codes ",") ∷ space ∷ list_pieces ref_pieces (map ref_of_meaning (b ∷ as'))) (action_name_text a) (codes ", " ++ joined_by (codes ", ") (map action_name_text (b ∷ as'))) (ref_laid a)
         (ap (λ l. codes ", " ++ l) (listed b as'))
 
-regrouped : (at p a k r b c x q n s : List ℕ) → (at ++ (p ++ (a ++ (k ++ (at ++ (r ++ (b ++ (k ++ (at ++ (c ++ (x ++ (q ++ n)))))))))))) ++ s
+regrouped : (at p a k r b c x q n s : List ℕ)
+    → (at ++ (p ++ (a ++ (k ++ (at ++ (r ++ (b ++ (k ++ (at ++ (c ++ (x ++ (q ++ n)))))))))))) ++ s
     ≡ at ++ (p ++ (a ++ (k ++ (at ++ (r ++ (b ++ (k ++ (at ++ (c ++ (x ++ (q ++ (n ++ s))))))))))))
 regrouped at p a k r b c x q n s = simp append_assoc
 
@@ -75,12 +81,14 @@ grouped_four a b c d f e = sym (simp append_assoc)
 grouped_action : (a b c d e : List ℕ) → a ++ (b ++ (c ++ (d ++ e))) ≡ ((a ++ (b ++ c)) ++ d) ++ e
 grouped_action a b c d e = sym (simp append_assoc)
 
-last_laid : (c : Bool) → laid (comma_behind_member {A = WrittenMember} c [] ++ printed.line_break ∷ []) ≡ (if c then codes "," else []) ++ line_end
+last_laid : (c : Bool)
+    → laid (comma_behind_member {A = WrittenMember} c [] ++ printed.line_break ∷ []) ≡ (if c then codes "," else []) ++ line_end
 last_laid true = refl
 last_laid false = refl
 
 module _ (closing : Bool) where
-  shape_laid : (base : ℕ) (xs : Attributes) → laid (shape_pieces closing base (attributes_of_meaning xs)) ≡ shape_text closing base xs
+  shape_laid : (base : ℕ) (xs : Attributes)
+      → laid (shape_pieces closing base (attributes_of_meaning xs)) ≡ shape_text closing base xs
   shape_laid base m.no_more = refl
   shape_laid base (m.attribute n r t xs) = ap (λ l. codes " = " ++ l) (type_laid closing base (PlainType.Rec (m.attribute n r t xs)))
 
@@ -114,14 +122,16 @@ module _ (closing : Bool) where
       ∙ ap (λ l. spaces base ++ l) (grouped_three (codes "entity ") b (codes " enum ") (list_text (map quoted choices)) (codes ";\n"))
 
   -- actions
-  context_laid : (base : ℕ) (xs : Attributes) → laid (context_pieces closing base (attributes_of_meaning xs)) ≡ context_text closing base xs
+  context_laid : (base : ℕ) (xs : Attributes)
+      → laid (context_pieces closing base (attributes_of_meaning xs)) ≡ context_text closing base xs
   context_laid base m.no_more = refl
   context_laid base (m.attribute n r t xs) = type_laid closing base (PlainType.Rec (m.attribute n r t xs))
 
   paths_laid : (ps : List (List (List ℕ))) → laid (bracketed path_pieces ps) ≡ list_text (map name_text ps)
   paths_laid = bracketed_laid path_pieces name_text path_laid
 
-  pub applies_laid : (base : ℕ) (ps rs : List (List (List ℕ))) (context : Attributes) → laid (applies_pieces closing base (members_of_meaning ps rs context)) ≡ applies_text closing base ps rs context
+  pub applies_laid : (base : ℕ) (ps rs : List (List (List ℕ))) (context : Attributes)
+      → laid (applies_pieces closing base (members_of_meaning ps rs context)) ≡ applies_text closing base ps rs context
   applies_laid base [] rs context = refl
   applies_laid base (p ∷ ps) [] context = refl
   applies_laid base (p ∷ ps) (r ∷ rs) context =
@@ -156,30 +166,36 @@ module _ (closing : Bool) where
       ∙ ap (λ l. spaces base ++ l) (grouped_action (codes "action ") (quoted id) (parents_text (map action_name_text ancestors)) (applies_text closing base ps rs context) (codes ";\n"))
 
   -- items and namespaces
-  joined_laid : {A : Type 0} (f : A → List Piece) (xs : List A) → laid (joined_pieces f xs) ≡ joined_by line_end (map (λ x. laid (f x)) xs)
+  joined_laid : {A : Type 0} (f : A → List Piece) (xs : List A)
+      → laid (joined_pieces f xs) ≡ joined_by line_end (map (λ x. laid (f x)) xs)
   joined_laid f [] = refl
   joined_laid f (x ∷ []) = refl
   joined_laid f (x ∷ y ∷ xs) = laid-append (f x) (printed.line_break ∷ joined_pieces f (y ∷ xs)) ∙ ap (λ l. laid (f x) ++ (line_end ++ l)) (joined_laid f (y ∷ xs))
 
-  entities_laid : (base : ℕ) (test : EntityMeaning → Bool) (es : List EntityMeaning) → map (λ d. laid (declared_pieces closing base d)) (map entity_of_meaning (filter test es)) ≡ map (entity_type_text closing base) (filter test es)
+  entities_laid : (base : ℕ) (test : EntityMeaning → Bool) (es : List EntityMeaning)
+      → map (λ d. laid (declared_pieces closing base d)) (map entity_of_meaning (filter test es)) ≡ map (entity_type_text closing base) (filter test es)
   entities_laid base test [] = refl
   entities_laid base test (e ∷ es) = by_test (test e) (entities_laid base test es)
     where
-      by_test : (b : Bool) → map (λ d. laid (declared_pieces closing base d)) (map entity_of_meaning (filter test es)) ≡ map (entity_type_text closing base) (filter test es)
+      by_test : (b : Bool)
+          → map (λ d. laid (declared_pieces closing base d)) (map entity_of_meaning (filter test es)) ≡ map (entity_type_text closing base) (filter test es)
           → map (λ d. laid (declared_pieces closing base d)) (map entity_of_meaning (cond b (e ∷ filter test es) (filter test es))) ≡ map (entity_type_text closing base) (cond b (e ∷ filter test es) (filter test es))
       by_test true others = let first = entity_laid base e.name e.is_external e.ancestors e.attributes e.tags e.choices in λ i. first i ∷ others i
       by_test false others = others
 
-  actions_laid : (base : ℕ) (test : ActionMeaning → Bool) (as' : List ActionMeaning) → map (λ d. laid (declared_pieces closing base d)) (map action_of_meaning (filter test as')) ≡ map (action_text closing base) (filter test as')
+  actions_laid : (base : ℕ) (test : ActionMeaning → Bool) (as' : List ActionMeaning)
+      → map (λ d. laid (declared_pieces closing base d)) (map action_of_meaning (filter test as')) ≡ map (action_text closing base) (filter test as')
   actions_laid base test [] = refl
   actions_laid base test (a ∷ as') = by_test (test a) (actions_laid base test as')
     where
-      by_test : (b : Bool) → map (λ d. laid (declared_pieces closing base d)) (map action_of_meaning (filter test as')) ≡ map (action_text closing base) (filter test as')
+      by_test : (b : Bool)
+          → map (λ d. laid (declared_pieces closing base d)) (map action_of_meaning (filter test as')) ≡ map (action_text closing base) (filter test as')
           → map (λ d. laid (declared_pieces closing base d)) (map action_of_meaning (cond b (a ∷ filter test as') (filter test as'))) ≡ map (action_text closing base) (cond b (a ∷ filter test as') (filter test as'))
       by_test true others = let first = action_laid base a.ty a.id a.is_external a.ancestors a.principals a.resources a.context in λ i. first i ∷ others i
       by_test false others = others
 
-  items_laid : (base : ℕ) (m : SchemaMeaning) (n : List (List ℕ)) → laid (joined_pieces (declared_pieces closing base) (items_of_meaning m n)) ≡ items_text closing base m n
+  items_laid : (base : ℕ) (m : SchemaMeaning) (n : List (List ℕ))
+      → laid (joined_pieces (declared_pieces closing base) (items_of_meaning m n)) ≡ items_text closing base m n
   items_laid base m n =
       let es = filter (λ e. same_name n (namespace e.name)) m.entities in
       let as' = filter (λ a. same_name n (namespace a.ty)) m.actions in
@@ -187,7 +203,8 @@ module _ (closing : Bool) where
       ∙ ap (joined_by line_end) (map-append (λ d. laid (declared_pieces closing base d)) (map entity_of_meaning es) (map action_of_meaning as')
       ∙ (λ i. entities_laid base (λ e. same_name n (namespace e.name)) m.entities i ++ actions_laid base (λ a. same_name n (namespace a.ty)) m.actions i))
 
-  namespace_laid : (m : SchemaMeaning) (n : List (List ℕ)) → laid (group_pieces closing (group_of_meaning m n)) ≡ namespace_text closing m n
+  namespace_laid : (m : SchemaMeaning) (n : List (List ℕ))
+      → laid (group_pieces closing (group_of_meaning m n)) ≡ namespace_text closing m n
   namespace_laid m [] = items_laid 0 m []
   namespace_laid m (c ∷ cs) =
       let inner = joined_pieces (declared_pieces closing 2) (items_of_meaning m (c ∷ cs)) in
@@ -198,6 +215,7 @@ module _ (closing : Bool) where
   schema_laid m =
       joined_laid (group_pieces closing) (groups_of_meaning m) ∙ ap (joined_by line_end) (map_both (λ g. laid (group_pieces closing g)) (group_of_meaning m) (namespaces m) ∙ each (namespaces m))
     where
-      each : (ns : List (List (List ℕ))) → map (λ n. laid (group_pieces closing (group_of_meaning m n))) ns ≡ map (namespace_text closing m) ns
+      each : (ns : List (List (List ℕ)))
+          → map (λ n. laid (group_pieces closing (group_of_meaning m n))) ns ≡ map (namespace_text closing m) ns
       each [] = refl
       each (n ∷ ns) = let first = namespace_laid m n in let others = each ns in λ i. first i ∷ others i

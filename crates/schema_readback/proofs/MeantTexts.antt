@@ -33,7 +33,9 @@ comma_laid false (m.attribute n r t xs) = refl
 
 module _ (closing : Bool) where
   -- a type, and what stands behind it in its line and below
-  line_laid : (base : ℕ) (t : PlainType) (xs : Attributes) → laid (type_pieces closing (base + 2) (type_of_meaning t)) ≡ type_text closing (base + 2) t → laid (lines_pieces closing base (attributes_of_meaning xs)) ≡ lines_text closing base xs
+  line_laid : (base : ℕ) (t : PlainType) (xs : Attributes)
+      → laid (type_pieces closing (base + 2) (type_of_meaning t)) ≡ type_text closing (base + 2) t
+      → laid (lines_pieces closing base (attributes_of_meaning xs)) ≡ lines_text closing base xs
       → laid (type_pieces closing (base + 2) (type_of_meaning t) ++ (comma_pieces closing (attributes_of_meaning xs) ++ line_break ∷ lines_pieces closing base (attributes_of_meaning xs)))
       ≡ type_text closing (base + 2) t ++ (comma_behind closing xs ++ (10 ∷ lines_text closing base xs))
   line_laid base t xs e f =
@@ -44,7 +46,8 @@ module _ (closing : Bool) where
       ∙ ap (λ l. type_text closing (base + 2) t ++ l) (laid-append comma (line_break ∷ lines) ∙ (ap (λ l. l ++ (10 ∷ laid lines)) (comma_laid closing xs) ∙ ap (λ l. comma_behind closing xs ++ (10 ∷ l)) f)))
 
   mutual
-    pub type_laid : (base : ℕ) (t : PlainType) → laid (type_pieces closing base (type_of_meaning t)) ≡ type_text closing base t
+    pub type_laid : (base : ℕ) (t : PlainType)
+        → laid (type_pieces closing base (type_of_meaning t)) ≡ type_text closing base t
     type_laid base PlainType.Bool = refl
     type_laid base PlainType.Long = refl
     type_laid base PlainType.String = refl
@@ -56,7 +59,8 @@ module _ (closing : Bool) where
     type_laid base (PlainType.Entity name) = path_laid name
     type_laid base (PlainType.Ext name) = ap (λ l. codes "__cedar::" ++ l) (append-nil name)
 
-    lines_laid : (base : ℕ) (xs : Attributes) → laid (lines_pieces closing base (attributes_of_meaning xs)) ≡ lines_text closing base xs
+    lines_laid : (base : ℕ) (xs : Attributes)
+        → laid (lines_pieces closing base (attributes_of_meaning xs)) ≡ lines_text closing base xs
     lines_laid base m.no_more = refl
     lines_laid base (m.attribute n true t xs) =
         ap (λ l. spaces (base + 2) ++ l) (ap (λ name. name ++ (codes ": " ++ laid (type_pieces closing (base + 2) (type_of_meaning t) ++ (comma_pieces closing (attributes_of_meaning xs) ++ line_break ∷ lines_pieces closing base (attributes_of_meaning xs))))) (name_laid n)

@@ -29,7 +29,8 @@ follow_path [] h = absurd h
 follow_path (c ∷ []) h = then_id c h (done refl)
 follow_path (c ∷ d ∷ cs) h = then_id c h.0 (by_lexeme (inr (inl refl)) refl (follow_path (d ∷ cs) h.1))
 
-ended : (closing : Bool) (base : ℕ) (xs : WrittenAttributes) (u : List Lexeme) (ns : Notes) (n : List ℕ) (r : Bool) (t : WrittenType) → IsAttributeOf u ns n r t → AreAttributesOf (lexemes_of (lines_pieces closing base xs)) xs
+ended : (closing : Bool) (base : ℕ) (xs : WrittenAttributes) (u : List Lexeme) (ns : Notes) (n : List ℕ) (r : Bool) (t : WrittenType)
+    → IsAttributeOf u ns n r t → AreAttributesOf (lexemes_of (lines_pieces closing base xs)) xs
     → AreAttributesOf (u ++ lexemes_of (comma_pieces closing xs ++ line_break ∷ lines_pieces closing base xs)) (attribute ns n r t xs)
 ended true base no_more u ns n r t h k = more_attributes (record { kind = Comma; text = codes "," }) h refl no_attribute
 ended false base no_more u ns n r t h k = subst (λ l. AreAttributesOf l (attribute ns n r t no_more)) (sym (append-nil u)) (last_attribute h)
@@ -38,7 +39,8 @@ ended closing base (attribute ms m q s xs) u ns n r t h k = more_attributes (rec
 -- the lexemes of an attribute's lines, with those of its own in front
 line_spelled : (closing : Bool) (base : ℕ) (ns : Notes) (head : List Lexeme) (t : WrittenType) (xs : WrittenAttributes) (P : List Lexeme → Type 0)
     → P ((lexemes_of (notes_pieces (base + 2) ns) ++ (head ++ lexemes_of (type_pieces closing (base + 2) t))) ++ lexemes_of (comma_pieces closing xs ++ line_break ∷ lines_pieces closing base xs))
-    → (front : List Piece) → lexemes_of front ≡ head → P (lexemes_of (notes_pieces (base + 2) ns ++ (front ++ (type_pieces closing (base + 2) t ++ (comma_pieces closing xs ++ line_break ∷ lines_pieces closing base xs)))))
+    → (front : List Piece) → lexemes_of front ≡ head
+    → P (lexemes_of (notes_pieces (base + 2) ns ++ (front ++ (type_pieces closing (base + 2) t ++ (comma_pieces closing xs ++ line_break ∷ lines_pieces closing base xs)))))
 line_spelled closing base ns head t xs P h front e =
     let notes = notes_pieces (base + 2) ns in
     let type = type_pieces closing (base + 2) t in
@@ -49,7 +51,8 @@ line_spelled closing base ns head t xs P h front e =
     ∙ sym (append_assoc (lexemes_of notes) (head ++ lexemes_of type) (lexemes_of tail))) in
     subst P (sym whole) h
 
-comma_follows : (closing : Bool) (xs : WrittenAttributes) (ps : List Piece) → Follow free (line_break ∷ ps) → Follow word (comma_pieces closing xs ++ line_break ∷ ps)
+comma_follows : (closing : Bool) (xs : WrittenAttributes) (ps : List Piece) → Follow free (line_break ∷ ps)
+    → Follow word (comma_pieces closing xs ++ line_break ∷ ps)
 comma_follows true no_more ps s = by_lexeme (inr (inl refl)) refl s
 comma_follows false no_more ps s = behind s
   where
@@ -74,7 +77,8 @@ module _ (string_form : (cs : List ℕ) → IsForm (quoted cs) StringLit) (stand
       ]
 
   mutual
-    pub spells_type : (closing : Bool) (base : ℕ) (t : WrittenType) → IsProperType t → SpellsType (lexemes_of (type_pieces closing base t)) t
+    pub spells_type : (closing : Bool) (base : ℕ) (t : WrittenType) → IsProperType t
+        → SpellsType (lexemes_of (type_pieces closing base t)) t
     spells_type closing base (path p) h = path_type (spells_path p h)
     spells_type closing base (set t) h =
         let pieces = type_pieces closing base t in
@@ -87,7 +91,8 @@ module _ (string_form : (cs : List ℕ) → IsForm (quoted cs) StringLit) (stand
         subst (λ l. SpellsType (record { kind = LBrace; text = codes "{" } ∷ l) (rec (attribute ns n r t xs))) (sym (lexemes-append pieces (gap (spaces base) ∷ mark RBrace (codes "}") ∷ [])))
         (record_type (braces (record { kind = RBrace; text = codes "}" }) refl (spells_lines closing base (attribute ns n r t xs) h) refl))
 
-    pub spells_lines : (closing : Bool) (base : ℕ) (xs : WrittenAttributes) → AreProperAttributes xs → AreAttributesOf (lexemes_of (lines_pieces closing base xs)) xs
+    pub spells_lines : (closing : Bool) (base : ℕ) (xs : WrittenAttributes) → AreProperAttributes xs
+        → AreAttributesOf (lexemes_of (lines_pieces closing base xs)) xs
     spells_lines closing base no_more h = no_attribute
     spells_lines closing base (attribute ns n true t xs) h =
         line_spelled closing base ns (name_lexeme n ∷ record { kind = Colon; text = codes ":" } ∷ []) t xs
@@ -100,7 +105,8 @@ module _ (string_form : (cs : List ℕ) → IsForm (quoted cs) StringLit) (stand
         (ended closing base xs _ ns n false t (optional (name_lexeme n) (record { kind = Question; text = codes "?" }) (record { kind = Colon; text = codes ":" }) (spell_notes string_form stands_for (base + 2) ns h.0) (spells_name n) refl refl (spells_type closing (base + 2) t h.1)) (spells_lines closing base xs h.2))
         (gap (spaces (base + 2)) ∷ name_piece n ∷ mark Question (codes "?") ∷ mark Colon (codes ":") ∷ space ∷ []) refl
 
-  pub spells_record : (closing : Bool) (base : ℕ) (xs : WrittenAttributes) → AreProperAttributes xs → IsRecordOf (lexemes_of (type_pieces closing base (rec xs))) xs
+  pub spells_record : (closing : Bool) (base : ℕ) (xs : WrittenAttributes) → AreProperAttributes xs
+      → IsRecordOf (lexemes_of (type_pieces closing base (rec xs))) xs
   spells_record closing base no_more h = braces (record { kind = RBrace; text = codes "}" }) refl no_attribute refl
   spells_record closing base (attribute ns n r t xs) h =
       let pieces = lines_pieces closing base (attribute ns n r t xs) in
@@ -108,12 +114,14 @@ module _ (string_form : (cs : List ℕ) → IsForm (quoted cs) StringLit) (stand
       (braces (record { kind = RBrace; text = codes "}" }) refl (spells_lines closing base (attribute ns n r t xs) h) refl)
 
   -- a type, and what stands behind it in its line and below
-  line_follows : (closing : Bool) (base : ℕ) (t : WrittenType) (xs : WrittenAttributes) → Follow free (type_pieces closing (base + 2) t) → Follow free (lines_pieces closing base xs)
+  line_follows : (closing : Bool) (base : ℕ) (t : WrittenType) (xs : WrittenAttributes)
+      → Follow free (type_pieces closing (base + 2) t) → Follow free (lines_pieces closing base xs)
       → Follow free (type_pieces closing (base + 2) t ++ (comma_pieces closing xs ++ line_break ∷ lines_pieces closing base xs))
   line_follows closing base t xs h k = follow_append (comma_pieces closing xs ++ line_break ∷ lines_pieces closing base xs) h (comma_follows closing xs (lines_pieces closing base xs) (by_gap one_line_end k))
 
   mutual
-    pub follow_type : (closing : Bool) (base : ℕ) (t : WrittenType) → IsProperType t → Follow free (type_pieces closing base t)
+    pub follow_type : (closing : Bool) (base : ℕ) (t : WrittenType) → IsProperType t
+        → Follow free (type_pieces closing base t)
     follow_type closing base (path p) h = follow_path p h
     follow_type closing base (set t) h = then_word (codes "Set") refl (by_lexeme (inr (inl refl)) refl (follow_append (mark Greater (codes ">") ∷ []) (follow_type closing base t h) (by_lexeme (inr (inl refl)) refl (done refl))))
     follow_type closing base (rec no_more) h = by_lexeme (inr (inl refl)) refl (by_blanks (blank_spaces base) (by_lexeme (inr (inl refl)) refl (done refl)))
@@ -121,7 +129,8 @@ module _ (string_form : (cs : List ℕ) → IsForm (quoted cs) StringLit) (stand
         by_lexeme (inr (inl refl)) refl (by_gap one_line_end
         (follow_append (gap (spaces base) ∷ mark RBrace (codes "}") ∷ []) (follow_lines closing base (attribute ns n r t xs) h) (by_blanks (blank_spaces base) (by_lexeme (inr (inl refl)) refl (done refl)))))
 
-    follow_lines : (closing : Bool) (base : ℕ) (xs : WrittenAttributes) → AreProperAttributes xs → Follow free (lines_pieces closing base xs)
+    follow_lines : (closing : Bool) (base : ℕ) (xs : WrittenAttributes) → AreProperAttributes xs
+        → Follow free (lines_pieces closing base xs)
     follow_lines closing base no_more h = done refl
     follow_lines closing base (attribute ns n true t xs) h =
         follow_notes string_form stands_for (base + 2) ns (by_indent base (then_name n (by_lexeme (inr (inl refl)) refl (by_gap one_space (line_follows closing base t xs (follow_type closing (base + 2) t h.1) (follow_lines closing base xs h.2))))))

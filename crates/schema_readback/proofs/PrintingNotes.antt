@@ -43,7 +43,8 @@ keys notes = map (λ n. n.0.text) notes
 test_false : (a b : List ℕ) → a ≢ b → bytes_eq a b ≡ false
 test_false a b n = elim (cases_Bool (bytes_eq a b)) [ inl h ↦ absurd (n ((bytes_eq-Decides a b).0 h)) | inr h ↦ h ]
 
-other_keys : (n : NoteEntry) (notes : Notes) → AllByRecursion (λ k. text_cmp n.0.text k ≡ Less) (keys notes) → HaveOtherNotes (note_of n) (map note_of notes)
+other_keys : (n : NoteEntry) (notes : Notes) → AllByRecursion (λ k. text_cmp n.0.text k ≡ Less) (keys notes)
+    → HaveOtherNotes (note_of n) (map note_of notes)
 other_keys n [] h = tt
 other_keys n (m ∷ notes) h = (less_apart n.0.text m.0.text h.0, other_keys n notes h.1)
 
@@ -55,12 +56,14 @@ abbrev IsFound : Notes → Note → Type 0
 IsFound notes n = lookup (λ key. bytes_eq key.text n.0) notes ≡ Some n.1
 
 -- a note that is found behind another one is found behind it too
-found_more : (n : NoteEntry) (notes : Notes) (ms : List Note) → HaveOtherNotes (note_of n) ms → AllByRecursion (IsFound notes) ms → AllByRecursion (IsFound (n ∷ notes)) ms
+found_more : (n : NoteEntry) (notes : Notes) (ms : List Note) → HaveOtherNotes (note_of n) ms
+    → AllByRecursion (IsFound notes) ms → AllByRecursion (IsFound (n ∷ notes)) ms
 found_more n notes [] h f = tt
 found_more n notes (m ∷ ms) h f =
     (ap (λ t. cond t (Some n.1) (lookup (λ key. bytes_eq key.text m.0) notes)) (test_false n.0.text m.0 h.0) ∙ f.0, found_more n notes ms h.1 f.1)
 
-found : (notes : Notes) → IsStrictlySortedBy text_cmp (keys notes) → AllByRecursion (IsFound notes) (map note_of notes)
+found : (notes : Notes) → IsStrictlySortedBy text_cmp (keys notes)
+    → AllByRecursion (IsFound notes) (map note_of notes)
 found [] h = tt
 found (n ∷ notes) h = (
   ap (λ t. cond t (Some n.1) (lookup (λ key. bytes_eq key.text n.0.text) notes)) ((bytes_eq-Decides n.0.text n.0.text).1 refl),
@@ -72,11 +75,14 @@ module _ (string_form : (cs : List ℕ) → IsForm (quoted cs) StringLit) (stand
   in_order base [] = no_note
   in_order base (n ∷ notes) = by_value n.0 n.1 (in_order base notes)
     where
-      by_value : (key : AnyId) (value : Option (List ℕ)) → AreNotesOf (lexemes_of (notes_pieces base notes)) (map note_of notes) → AreNotesOf (lexemes_of (notes_pieces base ((key, value) ∷ notes))) ((key.text, value) ∷ map note_of notes)
+      by_value : (key : AnyId) (value : Option (List ℕ))
+          → AreNotesOf (lexemes_of (notes_pieces base notes)) (map note_of notes)
+          → AreNotesOf (lexemes_of (notes_pieces base ((key, value) ∷ notes))) ((key.text, value) ∷ map note_of notes)
       by_value key None r = bare_note refl (word_kind_is key.text) r
       by_value key (Some v) r = valued_note (quoted_body v) refl (word_kind_is key.text) refl refl refl (stands_for v) refl r
 
-  pub spell_notes : (base : ℕ) (notes : Notes) → AreProperNotes notes → SpellNotes (lexemes_of (notes_pieces base notes)) notes
+  pub spell_notes : (base : ℕ) (notes : Notes) → AreProperNotes notes
+      → SpellNotes (lexemes_of (notes_pieces base notes)) notes
   spell_notes base notes h =
       record {
         written = map note_of notes;
@@ -84,11 +90,13 @@ module _ (string_form : (cs : List ℕ) → IsForm (quoted cs) StringLit) (stand
         arranged = record { sorted = h; as_many = sym (length-map notes note_of); each = found notes h; apart = apart notes h };
       }
 
-  pub follow_notes : {rest : List Piece} (base : ℕ) (notes : Notes) → Follow free rest → Follow free (notes_pieces base notes ++ rest)
+  pub follow_notes : {rest : List Piece} (base : ℕ) (notes : Notes) → Follow free rest
+      → Follow free (notes_pieces base notes ++ rest)
   follow_notes base [] s = s
   follow_notes {rest} base (n ∷ notes) s = by_value n.0 n.1 (follow_notes base notes s)
     where
-      by_value : (key : AnyId) (value : Option (List ℕ)) → Follow free (notes_pieces base notes ++ rest) → Follow free (notes_pieces base ((key, value) ∷ notes) ++ rest)
+      by_value : (key : AnyId) (value : Option (List ℕ)) → Follow free (notes_pieces base notes ++ rest)
+          → Follow free (notes_pieces base ((key, value) ∷ notes) ++ rest)
       by_value key None r = by_blanks (blank_spaces base) (by_lexeme (inr (inl refl)) refl (then_word key.text key.word (by_gap one_line_end r)))
       by_value key (Some v) r =
           by_blanks (blank_spaces base) (by_lexeme (inr (inl refl)) refl (then_word key.text key.word (by_lexeme (inr (inl refl)) refl (by_lexeme (string_form v) refl (by_lexeme (inr (inl refl)) refl (by_gap one_line_end r))))))

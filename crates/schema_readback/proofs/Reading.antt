@@ -43,7 +43,8 @@ module _ (source : List ℕ) where
         lawful = All-append (IsFaultless source) (name_sites t) [] (ident_site source t x s i) (All-nil (IsFaultless source));
       }
 
-  path_more : (t c : Token) (ts : List Token) (x : Lexeme) (names : List (List ℕ)) → IsSpelled source t x → IsIdent x → c.kind ≡ PathSep → ReadsPath source ts names → ReadsPath source (t ∷ c ∷ ts) (x.text ∷ names)
+  path_more : (t c : Token) (ts : List Token) (x : Lexeme) (names : List (List ℕ)) → IsSpelled source t x → IsIdent x
+      → c.kind ≡ PathSep → ReadsPath source ts names → ReadsPath source (t ∷ c ∷ ts) (x.text ∷ names)
   path_more t c ts x names s i k r =
       record {
         words = t ∷ r.words;
@@ -54,7 +55,8 @@ module _ (source : List ℕ) where
         lawful = All-append (IsFaultless source) (name_sites t) (names_sites r.words) (ident_site source t x s i) r.lawful;
       }
 
-  pub read_path : {u : List Lexeme} {p : List (List ℕ)} → SpellsPath u p → (ts : List Token) → Spells source ts u → ReadsPath source ts p
+  pub read_path : {u : List Lexeme} {p : List (List ℕ)} → SpellsPath u p → (ts : List Token) → Spells source ts u
+      → ReadsPath source ts p
   read_path (one {x = x} i) [] s = absurd s
   read_path (one {x = x} i) (t ∷ []) s = path_one t x s.0 i
   read_path (one {x = x} i) (t ∷ c ∷ ts) s = absurd s.1
@@ -76,7 +78,8 @@ module _ (source : List ℕ) where
         lawful = subst (All (IsFaultless source)) (sym (of_path (record { names = r.words; loc = loc }))) r.lawful;
       })
 
-  set_read : (s o : Token) (u : List Token) (c : Token) (t : WrittenType) → s.kind ≡ KwSet → o.kind ≡ Less → ReadsType source u t → c.kind ≡ Greater → ReadsType source (s ∷ o ∷ (u ++ c ∷ [])) (set t)
+  set_read : (s o : Token) (u : List Token) (c : Token) (t : WrittenType) → s.kind ≡ KwSet → o.kind ≡ Less
+      → ReadsType source u t → c.kind ≡ Greater → ReadsType source (s ∷ o ∷ (u ++ c ∷ [])) (set t)
   set_read s o u c t hs ho r hc =
       let loc = whole_place (s ∷ o ∷ (u ++ c ∷ [])) in
       record {
@@ -88,7 +91,8 @@ module _ (source : List ℕ) where
         lawful = subst (All (IsFaultless source)) (sym (of_set r.syn loc)) r.lawful;
       }
 
-  record_read : (ts : List Token) (xs : WrittenAttributes) → ReadsAttributes source (IsRecord ts) xs → ReadsType source ts (rec xs)
+  record_read : (ts : List Token) (xs : WrittenAttributes) → ReadsAttributes source (IsRecord ts) xs
+      → ReadsType source ts (rec xs)
   record_read ts xs r =
       let loc = whole_place ts in
       record {
@@ -100,13 +104,16 @@ module _ (source : List ℕ) where
         lawful = subst (All (IsFaultless source)) (sym (of_record r.syns loc)) r.lawful;
       }
 
-  braces_read : (o : Token) (u : List Token) (c : Token) (xs : WrittenAttributes) → o.kind ≡ LBrace → ReadsAttributes source (AreAttrs u) xs → c.kind ≡ RBrace → ReadsAttributes source (IsRecord (o ∷ (u ++ c ∷ []))) xs
+  braces_read : (o : Token) (u : List Token) (c : Token) (xs : WrittenAttributes) → o.kind ≡ LBrace
+      → ReadsAttributes source (AreAttrs u) xs → c.kind ≡ RBrace
+      → ReadsAttributes source (IsRecord (o ∷ (u ++ c ∷ []))) xs
   braces_read o u c xs ho r hc = record { syns = r.syns; parsed = S.braces c ho r.parsed hc; nodes = r.nodes; are = r.are; shows = r.shows; lawful = r.lawful }
 
   none_read : ReadsAttributes source (AreAttrs []) no_more
   none_read = record { syns = []; parsed = S.no_attr; nodes = []; are = tree.none; shows = shows_none; lawful = All-nil (IsFaultless source) }
 
-  last_read : (u : List Token) (ns : Notes) (n : List ℕ) (q : Bool) (t : WrittenType) → ReadsAttribute source u ns n q t → ReadsAttributes source (AreAttrs u) (attribute ns n q t no_more)
+  last_read : (u : List Token) (ns : Notes) (n : List ℕ) (q : Bool) (t : WrittenType)
+      → ReadsAttribute source u ns n q t → ReadsAttributes source (AreAttrs u) (attribute ns n q t no_more)
   last_read u ns n q t r =
       record {
         syns = r.syn ∷ [];
@@ -117,7 +124,8 @@ module _ (source : List ℕ) where
         lawful = All-append (IsFaultless source) (sites_of_attr r.syn) [] r.lawful (All-nil (IsFaultless source));
       }
 
-  more_read : (u : List Token) (c : Token) (v : List Token) (ns : Notes) (n : List ℕ) (q : Bool) (t : WrittenType) (xs : WrittenAttributes) → ReadsAttribute source u ns n q t → c.kind ≡ Comma → ReadsAttributes source (AreAttrs v) xs
+  more_read : (u : List Token) (c : Token) (v : List Token) (ns : Notes) (n : List ℕ) (q : Bool) (t : WrittenType) (xs : WrittenAttributes)
+      → ReadsAttribute source u ns n q t → c.kind ≡ Comma → ReadsAttributes source (AreAttrs v) xs
       → ReadsAttributes source (AreAttrs (u ++ c ∷ v)) (attribute ns n q t xs)
   more_read u c v ns n q t xs a k r =
       record {
@@ -130,7 +138,9 @@ module _ (source : List ℕ) where
       }
 
   module _ (never_both : (body value : List ℕ) (at : ℕ) → Unescapes body value → BadEscape body at → ⊥) where
-    attribute_read : (a : List Token) (x : Token) (m : List Token) (c : Token) (u : List Token) (l : Lexeme) (ns : Notes) (n : List ℕ) (q : Bool) (t : WrittenType) → ReadsNotes source a ns → IsSpelled source x l → SpellsName l n → IsMark m q → c.kind ≡ Colon → ReadsType source u t
+    attribute_read : (a : List Token) (x : Token) (m : List Token) (c : Token) (u : List Token) (l : Lexeme) (ns : Notes) (n : List ℕ) (q : Bool) (t : WrittenType)
+        → ReadsNotes source a ns → IsSpelled source x l → SpellsName l n → IsMark m q → c.kind ≡ Colon
+        → ReadsType source u t
         → ReadsAttribute source (a ++ x ∷ (m ++ c ∷ u)) ns n q t
     attribute_read a x m c u l ns n q t notes s is mark hc r =
         let loc = whole_place (x ∷ (m ++ c ∷ u)) in
@@ -160,7 +170,8 @@ module _ (source : List ℕ) where
         }
 
     mutual
-      pub read_type : {u : List Lexeme} {t : WrittenType} → SpellsType u t → (ts : List Token) → Spells source ts u → ReadsType source ts t
+      pub read_type : {u : List Lexeme} {t : WrittenType} → SpellsType u t → (ts : List Token) → Spells source ts u
+          → ReadsType source ts t
       read_type (path_type {p = p} h) ts s = path_read ts p (read_path h ts s)
       read_type (set_type c hs ho h hc) [] s = absurd s
       read_type (set_type c hs ho h hc) (a ∷ []) s = absurd s.1
@@ -169,13 +180,15 @@ module _ (source : List ℕ) where
           subst (λ l. ReadsType source (a ∷ b ∷ l) (set t)) (sym k.whole) (set_read a b k.left k.token t (s.0.0 ∙ hs) (s.1.0.0 ∙ ho) (read_type h k.left k.first) (k.is.0 ∙ hc))
       read_type (record_type {xs = xs} h) ts s = record_read ts xs (read_record h ts s)
 
-      pub read_record : {u : List Lexeme} {xs : WrittenAttributes} → IsRecordOf u xs → (ts : List Token) → Spells source ts u → ReadsAttributes source (IsRecord ts) xs
+      pub read_record : {u : List Lexeme} {xs : WrittenAttributes} → IsRecordOf u xs → (ts : List Token)
+          → Spells source ts u → ReadsAttributes source (IsRecord ts) xs
       read_record (braces c ho h hc) [] s = absurd s
       read_record (braces c {u = u} {xs = xs} ho h hc) (a ∷ ts) s =
           let k = closed source u c ts s.1 in
           subst (λ l. ReadsAttributes source (IsRecord (a ∷ l)) xs) (sym k.whole) (braces_read a k.left k.token xs (s.0.0 ∙ ho) (read_attributes h k.left k.first) (k.is.0 ∙ hc))
 
-      read_attributes : {u : List Lexeme} {xs : WrittenAttributes} → AreAttributesOf u xs → (ts : List Token) → Spells source ts u → ReadsAttributes source (AreAttrs ts) xs
+      read_attributes : {u : List Lexeme} {xs : WrittenAttributes} → AreAttributesOf u xs → (ts : List Token)
+          → Spells source ts u → ReadsAttributes source (AreAttrs ts) xs
       read_attributes no_attribute [] s = none_read
       read_attributes no_attribute (t ∷ ts) s = absurd s
       read_attributes (last_attribute {ns = ns} {n = n} {r = r} {t = t} h) ts s = last_read ts ns n r t (read_attribute h ts s)
@@ -184,7 +197,8 @@ module _ (source : List ℕ) where
           subst (λ l. ReadsAttributes source (AreAttrs l) (attribute ns n r t xs)) (sym b.whole)
           (more_read b.left b.token b.right ns n r t xs (read_attribute h b.left b.first) (b.is.0 ∙ k) (read_attributes others b.right b.second))
 
-      read_attribute : {u : List Lexeme} {ns : Notes} {n : List ℕ} {r : Bool} {t : WrittenType} → IsAttributeOf u ns n r t → (ts : List Token) → Spells source ts u → ReadsAttribute source ts ns n r t
+      read_attribute : {u : List Lexeme} {ns : Notes} {n : List ℕ} {r : Bool} {t : WrittenType}
+          → IsAttributeOf u ns n r t → (ts : List Token) → Spells source ts u → ReadsAttribute source ts ns n r t
       read_attribute (required {a = a} x c {u = u} {ns = ns} {n = n} {t = t} w is k h) ts s =
           let b = between source a (c ∷ u) x ts s in
           let f = front source c u b.right b.second in

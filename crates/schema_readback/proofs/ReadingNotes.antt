@@ -58,14 +58,16 @@ word_test [] h = absurd h
 word_test (b ∷ bs) h = and_from (is_word_start b) (list_all is_word_part bs) h.0 (list_all-from_AllPass is_word_part bs h.1)
 
 -- what is true of each pair is true of one in the middle
-paired : {A B : Type 0} (R : A → B → Type 0) (front : List A) (x : A) (back : List A) (ys : List B) → AllZip R (front ++ x ∷ back) ys → (y : B) × R x y
+paired : {A B : Type 0} (R : A → B → Type 0) (front : List A) (x : A) (back : List A) (ys : List B)
+    → AllZip R (front ++ x ∷ back) ys → (y : B) × R x y
 paired R [] x back [] z = absurd z
 paired R [] x back (y ∷ ys) z = (y, z.0)
 paired R (a ∷ front) x back [] z = absurd z
 paired R (a ∷ front) x back (y ∷ ys) z = paired R front x back ys z.1
 
 module _ (source : List ℕ) where
-  pub key_here : (t : Token) (x : Lexeme) → IsSpelled source t x → is_word_kind x.kind ≡ true → word_at source t ≡ x.text
+  pub key_here : (t : Token) (x : Lexeme) → IsSpelled source t x → is_word_kind x.kind ≡ true
+      → word_at source t ≡ x.text
   key_here t x s h = ap chars s.1 ∙ chars-IsAscii x.text (word_ascii x.text (word_test x.text (form_word x.text x.kind s.2 h)))
 
   abbrev IsNote : AnnotationSyntax → Note → Type 0
@@ -76,7 +78,8 @@ module _ (source : List ℕ) where
     parsed : AreAnnotations ts syns
     are : AllZip IsNote syns written
 
-  listed : {u : List Lexeme} {written : List Note} → AreNotesOf u written → (ts : List Token) → Spells source ts u → Listed ts written
+  listed : {u : List Lexeme} {written : List Note} → AreNotesOf u written → (ts : List Token) → Spells source ts u
+      → Listed ts written
   listed no_note [] s = record { syns = []; parsed = grammar.none; are = tt }
   listed no_note (t ∷ ts) s = absurd s
   listed (bare_note ka kk h) [] s = absurd s
@@ -99,13 +102,16 @@ module _ (source : List ℕ) where
         are = ((key_here k x s.1.0 kk, (body, s.1.1.1.0.1 ∙ e, u)), r.are);
       }
 
-  as_many : (syns : List AnnotationSyntax) (written : List Note) → AllZip IsNote syns written → length written ≡ length syns
+  as_many : (syns : List AnnotationSyntax) (written : List Note) → AllZip IsNote syns written
+      → length written ≡ length syns
   as_many [] [] z = refl
   as_many [] (n ∷ ns) z = absurd z
   as_many (a ∷ syns) [] z = absurd z
   as_many (a ∷ syns) (n ∷ ns) z = ap suc (as_many syns ns z.1)
 
-  has_each : (notes : Notes) (syns : List AnnotationSyntax) (written : List Note) → AllZip IsNote syns written → AllByRecursion (λ (n : Note). lookup (λ key. bytes_eq key.text n.0) notes ≡ Some n.1) written → All (HasNote source notes) syns
+  has_each : (notes : Notes) (syns : List AnnotationSyntax) (written : List Note) → AllZip IsNote syns written
+      → AllByRecursion (λ (n : Note). lookup (λ key. bytes_eq key.text n.0) notes ≡ Some n.1) written
+      → All (HasNote source notes) syns
   has_each notes [] [] z h = All-nil (HasNote source notes)
   has_each notes [] (n ∷ ns) z h = absurd z
   has_each notes (a ∷ syns) [] z h = absurd z
@@ -113,27 +119,33 @@ module _ (source : List ℕ) where
       All-cons (HasNote source notes) a syns (n.1, subst (λ w. lookup (λ key. bytes_eq key.text w) notes ≡ Some n.1) (sym z.0.0) h.0, z.0.1) (has_each notes syns ns z.1 h.1)
 
   -- the second of two with one key
-  other_key : (n : Note) (middle : List AnnotationSyntax) (second : AnnotationSyntax) (back : List AnnotationSyntax) (written : List Note) → AllZip IsNote (middle ++ second ∷ back) written → HaveOtherNotes n written → word_at source second.key ≡ n.0 → ⊥
+  other_key : (n : Note) (middle : List AnnotationSyntax) (second : AnnotationSyntax) (back : List AnnotationSyntax) (written : List Note)
+      → AllZip IsNote (middle ++ second ∷ back) written → HaveOtherNotes n written → word_at source second.key ≡ n.0
+      → ⊥
   other_key n [] second back [] z h e = absurd z
   other_key n [] second back (m ∷ ms) z h e = h.0 (sym e ∙ z.0.0)
   other_key n (a ∷ middle) second back [] z h e = absurd z
   other_key n (a ∷ middle) second back (m ∷ ms) z h e = other_key n middle second back ms z.1 h.1 e
 
-  no_second : (front middle back : List AnnotationSyntax) (first second : AnnotationSyntax) (written : List Note) → AllZip IsNote (front ++ first ∷ (middle ++ second ∷ back)) written → AreApart written → word_at source first.key ≡ word_at source second.key → ⊥
+  no_second : (front middle back : List AnnotationSyntax) (first second : AnnotationSyntax) (written : List Note)
+      → AllZip IsNote (front ++ first ∷ (middle ++ second ∷ back)) written → AreApart written
+      → word_at source first.key ≡ word_at source second.key → ⊥
   no_second [] middle back first second [] z h e = absurd z
   no_second [] middle back first second (n ∷ ns) z h e = other_key n middle second back ns z.1 h.0 (sym e ∙ z.0.0)
   no_second (a ∷ front) middle back first second [] z h e = absurd z
   no_second (a ∷ front) middle back first second (n ∷ ns) z h e = no_second front middle back first second ns z.1 h.1 e
 
   module _ (never_both : (body value : List ℕ) (at : ℕ) → Unescapes body value → BadEscape body at → ⊥) where
-    no_bad_value : (t : Token) (at : ℕ) (value : Option (List ℕ)) → IsNoteValue source (Some t) value → IsBadEscapeAt source t at → ⊥
+    no_bad_value : (t : Token) (at : ℕ) (value : Option (List ℕ)) → IsNoteValue source (Some t) value
+        → IsBadEscapeAt source t at → ⊥
     no_bad_value t at None h b = absurd h
     no_bad_value t at (Some value) h b =
         let whole : 34 ∷ (h.0 ++ 34 ∷ []) ≡ 34 ∷ (b.0 ++ 34 ∷ []) = sym h.1 ∙ b.2 in
         let same : h.0 ++ 34 ∷ [] ≡ b.0 ++ 34 ∷ [] = cc in
         never_both b.0 value b.1 (subst (λ x. Unescapes x value) (append_cancel_right h.0 b.0 (34 ∷ []) same) h.2) b.3
 
-    faultless : (syns : List AnnotationSyntax) (written : List Note) → AllZip IsNote syns written → AreApart written → IsFaultless source (annotations syns)
+    faultless : (syns : List AnnotationSyntax) (written : List Note) → AllZip IsNote syns written → AreApart written
+        → IsFaultless source (annotations syns)
     faultless syns written z h fault end (note_escape front back key t at e b) =
         let x : AnnotationSyntax = record { key = key; value = Some t } in
         let p = paired IsNote front x back written (subst (λ l. AllZip IsNote l written) e z) in
@@ -141,7 +153,8 @@ module _ (source : List ℕ) where
     faultless syns written z h fault end (duplicate front middle back first second key e f g o p) =
         no_second front middle back first second written (subst (λ l. AllZip IsNote l written) e z) h (f ∙ sym g)
 
-    pub read_notes : {u : List Lexeme} {written : List Note} {notes : Notes} → AreNotesOf u written → AreArranged written notes → (ts : List Token) → Spells source ts u → ReadsNotes source ts notes
+    pub read_notes : {u : List Lexeme} {written : List Note} {notes : Notes} → AreNotesOf u written
+        → AreArranged written notes → (ts : List Token) → Spells source ts u → ReadsNotes source ts notes
     read_notes {u} {written} {notes} h a ts s =
         let r = listed h ts s in
         record {

@@ -71,7 +71,9 @@ module _ (source : List ℕ) where
 
   module _ {S T A : Type 0} (P : List Lexeme → A → Type 0) (Q : List Token → S → Type 0) (Is : S → T → Type 0) (Says : T → A → Type 0) (sites : S → List Site)
       (back : (ts : List Token) (s : S) (n : T) → Q ts s → Is s n → Faultless (sites s) → (u : List Lexeme) → Spells source ts u → Said Says P n u) where
-    back_separated : {ts : List Token} {ss : List S} → AreSeparated Q ts ss → (ns : List T) → AllZip Is ss ns → Faultless (flat_map sites ss) → (u : List Lexeme) → Spells source ts u → SaidAll Says (AreSeparatedOf P u) ns
+    back_separated : {ts : List Token} {ss : List S} → AreSeparated Q ts ss → (ns : List T) → AllZip Is ss ns
+        → Faultless (flat_map sites ss) → (u : List Lexeme) → Spells source ts u
+        → SaidAll Says (AreSeparatedOf P u) ns
     back_separated grammar.none [] z f u s = record { written = []; spell = subst (λ l. AreSeparatedOf P l []) (sym (no_lexeme source u s)) no_item; says = tt }
     back_separated grammar.none (n ∷ ns) z f u s = absurd z
     back_separated (grammar.last q) [] z f u s = absurd z
@@ -86,7 +88,8 @@ module _ (source : List ℕ) where
         let o = back_separated others ns z.1 (all_right (IsFaultless source) (sites x) (flat_map sites xs) f) b.right b.second in
         record { written = r.written ∷ o.written; spell = subst (λ l. AreSeparatedOf P l (r.written ∷ o.written)) (sym b.whole) (more_items b.lexeme r.spell (sym b.is.0 ∙ k) o.spell); says = (r.says, o.says) }
 
-    back_listed : {ts : List Token} {ss : List S} → AreListed Q ts ss → (ns : List T) → AllZip Is ss ns → Faultless (flat_map sites ss) → (u : List Lexeme) → Spells source ts u → SaidAll Says (AreListedOf P u) ns
+    back_listed : {ts : List Token} {ss : List S} → AreListed Q ts ss → (ns : List T) → AllZip Is ss ns
+        → Faultless (flat_map sites ss) → (u : List Lexeme) → Spells source ts u → SaidAll Says (AreListedOf P u) ns
     back_listed (grammar.single q) [] z f u s = absurd z
     back_listed (grammar.single q) (n ∷ m ∷ ns) z f u s = absurd z.1
     back_listed (grammar.single {u = ts} {x = x} q) (n ∷ []) z f u s =
@@ -98,7 +101,8 @@ module _ (source : List ℕ) where
         let r = back_separated h ns z f k.left k.first in
         record { written = r.written; spell = subst (λ l. AreListedOf P (x ∷ l) r.written) (sym k.whole) (listed_items k.lexeme (sym s.0.0 ∙ ko) r.spell (sym k.is.0 ∙ kc)); says = r.says }
 
-    back_many : {ts : List Token} {ss : List S} → AreMany Q ts ss → (ns : List T) → AllZip Is ss ns → Faultless (flat_map sites ss) → (u : List Lexeme) → Spells source ts u → SaidAll Says (AreManyOf P u) ns
+    back_many : {ts : List Token} {ss : List S} → AreMany Q ts ss → (ns : List T) → AllZip Is ss ns
+        → Faultless (flat_map sites ss) → (u : List Lexeme) → Spells source ts u → SaidAll Says (AreManyOf P u) ns
     back_many grammar.none [] z f u s = record { written = []; spell = subst (λ l. AreManyOf P l []) (sym (no_lexeme source u s)) no_more_items; says = tt }
     back_many grammar.none (n ∷ ns) z f u s = absurd z
     back_many (grammar.more q r) [] z f u s = absurd z
@@ -110,7 +114,8 @@ module _ (source : List ℕ) where
 
   module _ {T A : Type 0} (P : List Lexeme → A → Type 0) (Q : List Token → PathSyntax → Type 0) (Is : PathSyntax → T → Type 0) (Says : T → A → Type 0) (sites : PathSyntax → List Site)
       (back : (ts : List Token) (s : PathSyntax) (n : T) → Q ts s → Is s n → Faultless (sites s) → (u : List Lexeme) → Spells source ts u → Said Says P n u) where
-    back_parents : {ts : List Token} {ss : List PathSyntax} → AreParents Q ts ss → (ns : List T) → AllZip Is ss ns → Faultless (flat_map sites ss) → (u : List Lexeme) → Spells source ts u → SaidAll Says (AreParentsOf P u) ns
+    back_parents : {ts : List Token} {ss : List PathSyntax} → AreParents Q ts ss → (ns : List T) → AllZip Is ss ns
+        → Faultless (flat_map sites ss) → (u : List Lexeme) → Spells source ts u → SaidAll Says (AreParentsOf P u) ns
     back_parents grammar.no_parents [] z f u s = record { written = []; spell = subst (λ l. AreParentsOf P l []) (sym (no_lexeme source u s)) no_parent; says = tt }
     back_parents grammar.no_parents (n ∷ ns) z f u s = absurd z
     back_parents (grammar.in_parents k h) ns z f [] s = absurd s
@@ -119,15 +124,19 @@ module _ (source : List ℕ) where
         record { written = r.written; spell = some_parents (sym s.0.0 ∙ k) r.spell; says = r.says }
 
   -- paths, references, strings and names
-  one_path : (ts : List Token) (p : PathSyntax) (n : Path) → IsPath ts p → tree.IsPathOf source p n → Faultless (path_sites p) → (u : List Lexeme) → Spells source ts u → Said SaysPath SpellsPath n u
+  one_path : (ts : List Token) (p : PathSyntax) (n : Path) → IsPath ts p → tree.IsPathOf source p n
+      → Faultless (path_sites p) → (u : List Lexeme) → Spells source ts u → Said SaysPath SpellsPath n u
   one_path ts p n (grammar.path chain) is f u s = record { written = texts_of n.ids; spell = back_path source chain n.ids is.0 u s; says = refl }
 
-  pub one_string : (ts : List Token) (t : Token) (n : Node Eid) → IsStringToken ts t → tree.IsChoice source t n → Faultless (name_sites t) → (u : List Lexeme) → Spells source ts u → Said SaysChoice IsStringOf n u
+  pub one_string : (ts : List Token) (t : Token) (n : Node Eid) → IsStringToken ts t → tree.IsChoice source t n
+      → Faultless (name_sites t) → (u : List Lexeme) → Spells source ts u → Said SaysChoice IsStringOf n u
   one_string ts t n (grammar.string k) is f [] s = absurd s
   one_string ts t n (grammar.string k) is f (x ∷ y ∷ u) s = absurd s.1
   one_string ts t n (grammar.string k) is f (x ∷ []) s = record { written = n.node.0; spell = a_string is.0.0 (sym s.0.0 ∙ k) (sym s.0.1 ∙ is.0.1) is.0.2; says = refl }
 
-  plain_back : (t : Token) (n : Node QualName) (front : List Token) (last : Token) → t ∷ [] ≡ front ++ last ∷ [] → tree.IsNameOf source last.kind last n.node.eid → tree.IsTypeOfRef source front n.node.path → is_name_kind t.kind ≡ true → IsFaultless source (site_of_kind t.kind t) → (x : Lexeme) → IsSpelled source t x
+  plain_back : (t : Token) (n : Node QualName) (front : List Token) (last : Token) → t ∷ [] ≡ front ++ last ∷ []
+      → tree.IsNameOf source last.kind last n.node.eid → tree.IsTypeOfRef source front n.node.path
+      → is_name_kind t.kind ≡ true → IsFaultless source (site_of_kind t.kind t) → (x : Lexeme) → IsSpelled source t x
       → Said SaysRef SpellsRef n (x ∷ [])
   plain_back t n [] last e name ty h f x s =
       let same : t ≡ last = cc in
@@ -135,16 +144,20 @@ module _ (source : List ℕ) where
       record { written = record { ty = None; id = n.node.eid }; spell = plain_ref id; says = (subst (λ p. SaysOptionalPath p None) (sym ty) tt, refl) }
   plain_back t n (a ∷ front) last e name ty h f x s = let g : [] ≡ front ++ last ∷ [] = cc in absurd (nothing_is front last [] g)
 
-  typed_by : {ts ws : List Token} → IsChain PathSep is_ident ts ws → (found : Option Path) → tree.IsTypeOfRef source ws found → (u : List Lexeme) → Spells source ts u → (names : List (List ℕ)) × SpellsPath u names × SaysOptionalPath found (Some names)
+  typed_by : {ts ws : List Token} → IsChain PathSep is_ident ts ws → (found : Option Path)
+      → tree.IsTypeOfRef source ws found → (u : List Lexeme) → Spells source ts u
+      → (names : List (List ℕ)) × SpellsPath u names × SaysOptionalPath found (Some names)
   typed_by (grammar.one h) None ty u s = absurd ty
   typed_by (grammar.more h k r) None ty u s = absurd ty
   typed_by (grammar.one {t = t} h) (Some p) ty u s = (texts_of p.ids, back_path source (grammar.one {t = t} h) p.ids ty.0 u s, refl)
   typed_by (grammar.more {t = t} {s = c} h k r) (Some p) ty u s = (texts_of p.ids, back_path source (grammar.more {t = t} {s = c} h k r) p.ids ty.0 u s, refl)
 
-  string_of : (k : TokenKind) (t : Token) (v : List ℕ) → k ≡ StringLit → tree.IsNameOf source k t v → tree.IsNameOf source StringLit t v
+  string_of : (k : TokenKind) (t : Token) (v : List ℕ) → k ≡ StringLit → tree.IsNameOf source k t v
+      → tree.IsNameOf source StringLit t v
   string_of k t v e h = subst (λ x. tree.IsNameOf source x t v) e h
 
-  one_ref : (ts : List Token) (p : PathSyntax) (n : Node QualName) → IsRef ts p → tree.IsRefOf source p n → Faultless (path_sites p) → (u : List Lexeme) → Spells source ts u → Said SaysRef SpellsRef n u
+  one_ref : (ts : List Token) (p : PathSyntax) (n : Node QualName) → IsRef ts p → tree.IsRefOf source p n
+      → Faultless (path_sites p) → (u : List Lexeme) → Spells source ts u → Said SaysRef SpellsRef n u
   one_ref ts p n (grammar.plain h) is f [] s = absurd s
   one_ref ts p n (grammar.plain h) is f (x ∷ y ∷ u) s = absurd s.1
   one_ref ts p n (grammar.plain {t = t} h) is f (x ∷ []) s = plain_back t n is.0 is.1 is.2 is.3 is.4 h (All-head (IsFaultless source) (site_of_kind t.kind t) [] f) x s.0
@@ -163,7 +176,9 @@ module _ (source : List ℕ) where
         says = (ty.2, refl);
       }
 
-  back_idents : {ts ws : List Token} → IsChain Comma is_ident ts ws → (ns : List (Node Id)) → AllZip (tree.IsIdNode source) ws ns → (u : List Lexeme) → Spells source ts u → SaidAll SaysId (IsChainOf Comma u) ns
+  back_idents : {ts ws : List Token} → IsChain Comma is_ident ts ws → (ns : List (Node Id))
+      → AllZip (tree.IsIdNode source) ws ns → (u : List Lexeme) → Spells source ts u
+      → SaidAll SaysId (IsChainOf Comma u) ns
   back_idents (grammar.one h) [] z u s = absurd z
   back_idents (grammar.one h) (n ∷ m ∷ ns) z u s = absurd z.1
   back_idents (grammar.one h) (n ∷ []) z [] s = absurd s
@@ -179,7 +194,9 @@ module _ (source : List ℕ) where
       let o = back_idents r ns z.1 u s.1.1 in
       record { written = x.text ∷ o.written; spell = more b.0 (sym s.1.0.0 ∙ k) o.spell; says = (sym b.1, o.says) }
 
-  back_names : {ts ws : List Token} → IsChain Comma is_name_kind ts ws → (ns : List (Node (List ℕ))) → AllZip (tree.IsNameNode source) ws ns → Faultless (names_sites ws) → (u : List Lexeme) → Spells source ts u → SaidAll SaysName (AreNamesOf u) ns
+  back_names : {ts ws : List Token} → IsChain Comma is_name_kind ts ws → (ns : List (Node (List ℕ)))
+      → AllZip (tree.IsNameNode source) ws ns → Faultless (names_sites ws) → (u : List Lexeme) → Spells source ts u
+      → SaidAll SaysName (AreNamesOf u) ns
   back_names (grammar.one h) [] z f u s = absurd z
   back_names (grammar.one h) (n ∷ m ∷ ns) z f u s = absurd z.1
   back_names (grammar.one h) (n ∷ []) z f [] s = absurd s
@@ -194,21 +211,27 @@ module _ (source : List ℕ) where
       record { written = n.node ∷ o.written; spell = more_names (name_back source t x t.kind n.node refl s.0 h z.0.0 (All-head (IsFaultless source) (site_of_kind t.kind t) (names_sites ws) f)) (sym s.1.0.0 ∙ k) o.spell; says = (refl, o.says) }
 
   -- attributes, tags, members
-  back_shape : {ts : List Token} {x : Option (List AttrSyntax × Span)} → IsShape ts x → (n : Node (List (Node (Annotated AttrDecl)))) → tree.IsShapeOf source x n → Faultless (shape_sites x) → (u : List Lexeme) → Spells source ts u → Said SaysShape SpellsShape n u
+  back_shape : {ts : List Token} {x : Option (List AttrSyntax × Span)} → IsShape ts x
+      → (n : Node (List (Node (Annotated AttrDecl)))) → tree.IsShapeOf source x n → Faultless (shape_sites x)
+      → (u : List Lexeme) → Spells source ts u → Said SaysShape SpellsShape n u
   back_shape grammar.no_shape n is f u s =
       record { written = no_more; spell = subst (λ l. SpellsShape l no_more) (sym (no_lexeme source u s)) no_shape; says = subst (λ l. ShowsAttributes l no_more) (sym is.0) shows_none }
   back_shape (grammar.bare_shape h) n is f u s = let r = back_record source (back_notes source) h n.node is.0 f u s in record { written = r.written; spell = bare_shape r.spell; says = r.shows }
   back_shape (grammar.equals_shape k h) n is f [] s = absurd s
   back_shape (grammar.equals_shape k h) n is f (x ∷ u) s = let r = back_record source (back_notes source) h n.node is.0 f u s.1 in record { written = r.written; spell = equals_shape (sym s.0.0 ∙ k) r.spell; says = r.shows }
 
-  back_tags : {ts : List Token} {x : Option TypeSyntax} → AreTags ts x → (n : Option (Node «Type»)) → tree.AreTagsOf source x n → Faultless (tags_sites x) → (u : List Lexeme) → Spells source ts u → Said SaysTags SpellTags n u
+  back_tags : {ts : List Token} {x : Option TypeSyntax} → AreTags ts x → (n : Option (Node «Type»))
+      → tree.AreTagsOf source x n → Faultless (tags_sites x) → (u : List Lexeme) → Spells source ts u
+      → Said SaysTags SpellTags n u
   back_tags grammar.no_tags n is f u s = record { written = None; spell = subst (λ l. SpellTags l None) (sym (no_lexeme source u s)) no_tags; says = subst (λ l. SaysTags l None) (sym is) tt }
   back_tags (grammar.some_tags k h) None is f u s = absurd is
   back_tags (grammar.some_tags k h) (Some n) is f [] s = absurd s
   back_tags (grammar.some_tags k h) (Some n) is f (x ∷ u) s = let r = back_type source (back_notes source) h n is f u s.1 in record { written = Some r.written; spell = some_tags (sym s.0.0 ∙ k) r.spell; says = r.shows }
 
   -- a list that may be absent
-  optional_back : {S T A : Type 0} (Is : S → T → Type 0) (Says : T → A → Type 0) (ss : List S) (found : Option (List T)) → tree.IsOptional source (AllZip Is) ss found → (ns : List T) × AllZip Is ss ns × ((xs : List A) → AllZip Says ns xs → SaysOptional Says found xs)
+  optional_back : {S T A : Type 0} (Is : S → T → Type 0) (Says : T → A → Type 0) (ss : List S) (found : Option (List T))
+      → tree.IsOptional source (AllZip Is) ss found
+      → (ns : List T) × AllZip Is ss ns × ((xs : List A) → AllZip Says ns xs → SaysOptional Says found xs)
   optional_back {A = A} Is Says [] None is = ([], tt, absent)
     where
       absent : (xs : List A) → AllZip Says [] xs → SaysOptional Says None xs
@@ -223,7 +246,8 @@ module _ (source : List ℕ) where
       present [] z = absurd z
       present (x ∷ xs) z = z
 
-  one_app : (ts : List Token) (a : AppSyntax) (n : Node AppDecl) → IsApp ts a → tree.IsAppOf source a n → Faultless (app_sites a) → (u : List Lexeme) → Spells source ts u → Said SaysMember IsMemberOf n u
+  one_app : (ts : List Token) (a : AppSyntax) (n : Node AppDecl) → IsApp ts a → tree.IsAppOf source a n
+      → Faultless (app_sites a) → (u : List Lexeme) → Spells source ts u → Said SaysMember IsMemberOf n u
   one_app ts a n (grammar.types hr hc h) is f [] s = absurd s
   one_app ts a n (grammar.types hr hc h) is f (x ∷ []) s = absurd s.1
   one_app ts a n (grammar.types {w = w} {ps = ps} hr hc h) is f (x ∷ y ∷ u) s =
@@ -246,22 +270,29 @@ module _ (source : List ℕ) where
       let m : Node (List (Node (Annotated AttrDecl))) = record { node = is.0; loc = Some (whole_place us) } in
       record { written = context_record r.written; spell = record_context (sym s.0.0 ∙ hw) (sym s.1.0.0 ∙ hc) r.spell; says = (m, ap (λ (z : Node AppDecl). z.node) is.1, r.shows) }
 
-  applies_back : {us : List Token} {xs : List AppSyntax} → AreSeparated IsApp us xs → (ns : List (Node AppDecl)) → AllZip (tree.IsAppOf source) xs ns → (loc : Span) → Faultless (apps_sites xs loc) → (u : List Lexeme) → Spells source us u → SaidAll SaysMember (λ ms. AreSeparatedOf IsMemberOf u ms × HasOne ms) ns
+  applies_back : {us : List Token} {xs : List AppSyntax} → AreSeparated IsApp us xs → (ns : List (Node AppDecl))
+      → AllZip (tree.IsAppOf source) xs ns → (loc : Span) → Faultless (apps_sites xs loc) → (u : List Lexeme)
+      → Spells source us u → SaidAll SaysMember (λ ms. AreSeparatedOf IsMemberOf u ms × HasOne ms) ns
   applies_back {xs = []} h ns z loc f u s = absurd (All-head (IsFaultless source) (empty loc) [] f _ _ (empty_list loc))
   applies_back {xs = a ∷ xs} h ns z loc f u s =
       let r = back_separated IsMemberOf IsApp (tree.IsAppOf source) SaysMember app_sites one_app h ns z f u s in
       record { written = r.written; spell = (r.spell, has_one a xs ns r.written z r.says); says = r.says }
     where
-      has_one : (a : AppSyntax) (xs : List AppSyntax) (ns : List (Node AppDecl)) (ms : List WrittenMember) → AllZip (tree.IsAppOf source) (a ∷ xs) ns → AllZip SaysMember ns ms → HasOne ms
+      has_one : (a : AppSyntax) (xs : List AppSyntax) (ns : List (Node AppDecl)) (ms : List WrittenMember)
+          → AllZip (tree.IsAppOf source) (a ∷ xs) ns → AllZip SaysMember ns ms → HasOne ms
       has_one a xs [] ms z says = absurd z
       has_one a xs (n ∷ ns) [] z says = absurd says
       has_one a xs (n ∷ ns) (m ∷ ms) z says = tt
 
-  applies_spelled : (w o : Lexeme) (c : Lexeme) (u : List Lexeme) (ms : List WrittenMember) → w.kind ≡ KwAppliesTo → o.kind ≡ LBrace → AreSeparatedOf IsMemberOf u ms → HasOne ms → c.kind ≡ RBrace → SpellsApplies (w ∷ o ∷ (u ++ c ∷ [])) (Some ms)
+  applies_spelled : (w o : Lexeme) (c : Lexeme) (u : List Lexeme) (ms : List WrittenMember) → w.kind ≡ KwAppliesTo
+      → o.kind ≡ LBrace → AreSeparatedOf IsMemberOf u ms → HasOne ms → c.kind ≡ RBrace
+      → SpellsApplies (w ∷ o ∷ (u ++ c ∷ [])) (Some ms)
   applies_spelled w o c u [] kw ko h some kc = absurd some
   applies_spelled w o c u (m ∷ ms) kw ko h some kc = some_applies c kw ko h kc
 
-  back_applies : {ts : List Token} {x : Option (List AppSyntax × Span)} → Applies ts x → (n : Option (Node (List (Node AppDecl)))) → tree.AppliesOf source x n → Faultless (applies_sites x) → (u : List Lexeme) → Spells source ts u → Said SaysApplies SpellsApplies n u
+  back_applies : {ts : List Token} {x : Option (List AppSyntax × Span)} → Applies ts x
+      → (n : Option (Node (List (Node AppDecl)))) → tree.AppliesOf source x n → Faultless (applies_sites x)
+      → (u : List Lexeme) → Spells source ts u → Said SaysApplies SpellsApplies n u
   back_applies grammar.no_applies n is f u s = record { written = None; spell = subst (λ l. SpellsApplies l None) (sym (no_lexeme source u s)) no_applies; says = subst (λ l. SaysApplies l None) (sym is) tt }
   back_applies (grammar.some_applies c kw ko h kc) None is f u s = absurd is
   back_applies (grammar.some_applies c kw ko h kc) (Some n) is f [] s = absurd s
@@ -276,29 +307,39 @@ module _ (source : List ℕ) where
       }
 
   -- the choices of an enum: there is one
-  choices_back : {us xs : List Token} → AreSeparated IsStringToken us xs → (ns : List (Node Eid)) → AllZip (tree.IsChoice source) xs ns → (loc : Span) → Faultless (choices_sites xs loc) → (u : List Lexeme) → Spells source us u → SaidAll SaysChoice (λ ms. AreSeparatedOf IsStringOf u ms × HasOne ms) ns
+  choices_back : {us xs : List Token} → AreSeparated IsStringToken us xs → (ns : List (Node Eid))
+      → AllZip (tree.IsChoice source) xs ns → (loc : Span) → Faultless (choices_sites xs loc) → (u : List Lexeme)
+      → Spells source us u → SaidAll SaysChoice (λ ms. AreSeparatedOf IsStringOf u ms × HasOne ms) ns
   choices_back {xs = []} h ns z loc f u s = absurd (All-head (IsFaultless source) (empty loc) [] f _ _ (empty_list loc))
   choices_back {xs = a ∷ xs} h ns z loc f u s =
       let r = back_separated IsStringOf IsStringToken (tree.IsChoice source) SaysChoice name_sites one_string h ns z f u s in
       record { written = r.written; spell = (r.spell, has_one a xs ns r.written z r.says); says = r.says }
     where
-      has_one : (a : Token) (xs : List Token) (ns : List (Node Eid)) (ms : List (List ℕ)) → AllZip (tree.IsChoice source) (a ∷ xs) ns → AllZip SaysChoice ns ms → HasOne ms
+      has_one : (a : Token) (xs : List Token) (ns : List (Node Eid)) (ms : List (List ℕ))
+          → AllZip (tree.IsChoice source) (a ∷ xs) ns → AllZip SaysChoice ns ms → HasOne ms
       has_one a xs [] ms z says = absurd z
       has_one a xs (n ∷ ns) [] z says = absurd says
       has_one a xs (n ∷ ns) (m ∷ ms) z says = tt
 
-  enum_spelled : (e : Lexeme) (i : List Lexeme) (n o : Lexeme) (h : List Lexeme) (c z : Lexeme) (names choices : List (List ℕ)) → e.kind ≡ KwEntity → IsChainOf Comma i names → n.kind ≡ KwEnum → o.kind ≡ LBracket → AreSeparatedOf IsStringOf h choices → HasOne choices → c.kind ≡ RBracket → z.kind ≡ Semi
+  enum_spelled : (e : Lexeme) (i : List Lexeme) (n o : Lexeme) (h : List Lexeme) (c z : Lexeme) (names choices : List (List ℕ))
+      → e.kind ≡ KwEntity → IsChainOf Comma i names → n.kind ≡ KwEnum → o.kind ≡ LBracket
+      → AreSeparatedOf IsStringOf h choices → HasOne choices → c.kind ≡ RBracket → z.kind ≡ Semi
       → SpellsDecl (e ∷ (i ++ n ∷ o ∷ (h ++ c ∷ z ∷ []))) (enum names choices)
   enum_spelled e i n o h c z names [] ke hi kn ko hs some kc kz = absurd some
   enum_spelled e i n o h c z names (a ∷ choices) ke hi kn ko hs some kc kz = enum_of n o c z ke hi kn ko hs kc kz
 
-  paths_back : {ts : List Token} {ss : List PathSyntax} → AreParents IsPath ts ss → (ns : List Path) → AllZip (tree.IsPathOf source) ss ns → Faultless (paths_sites ss) → (u : List Lexeme) → Spells source ts u → SaidAll SaysPath (AreParentsOf SpellsPath u) ns
+  paths_back : {ts : List Token} {ss : List PathSyntax} → AreParents IsPath ts ss → (ns : List Path)
+      → AllZip (tree.IsPathOf source) ss ns → Faultless (paths_sites ss) → (u : List Lexeme) → Spells source ts u
+      → SaidAll SaysPath (AreParentsOf SpellsPath u) ns
   paths_back = back_parents SpellsPath IsPath (tree.IsPathOf source) SaysPath path_sites one_path
 
-  refs_back : {ts : List Token} {ss : List PathSyntax} → AreParents IsRef ts ss → (ns : List (Node QualName)) → AllZip (tree.IsRefOf source) ss ns → Faultless (paths_sites ss) → (u : List Lexeme) → Spells source ts u → SaidAll SaysRef (AreParentsOf SpellsRef u) ns
+  refs_back : {ts : List Token} {ss : List PathSyntax} → AreParents IsRef ts ss → (ns : List (Node QualName))
+      → AllZip (tree.IsRefOf source) ss ns → Faultless (paths_sites ss) → (u : List Lexeme) → Spells source ts u
+      → SaidAll SaysRef (AreParentsOf SpellsRef u) ns
   refs_back = back_parents SpellsRef IsRef (tree.IsRefOf source) SaysRef path_sites one_ref
 
-  back_decl : {ts : List Token} {d : DeclSyntax} → IsDecl ts d → (n : Declaration) → tree.IsDeclOf source d n → Faultless (decl_sites d) → (u : List Lexeme) → Spells source ts u → Said SaysDecl SpellsDecl n u
+  back_decl : {ts : List Token} {d : DeclSyntax} → IsDecl ts d → (n : Declaration) → tree.IsDeclOf source d n
+      → Faultless (decl_sites d) → (u : List Lexeme) → Spells source ts u → Said SaysDecl SpellsDecl n u
   back_decl (grammar.entity_decl {e = e} z {i = i} {p = p} {s = h} {t = t} {names = ws} {parents = ps} {shape = x} {tags = y} ke hi hp hs ht kz) (declaration.Entity (entity_decl.Standard d)) is f [] s = absurd s
   back_decl (grammar.entity_decl {e = e} z {i = i} {p = p} {s = h} {t = t} {names = ws} {parents = ps} {shape = x} {tags = y} ke hi hp hs ht kz) (declaration.Entity (entity_decl.Standard d)) is f (a ∷ u) s =
       let f1 = all_right (IsFaultless source) (names_sites ws) (paths_sites ps ++ (shape_sites x ++ tags_sites y)) f in
@@ -395,7 +436,9 @@ module _ (source : List ℕ) where
       }
   back_decl (grammar.common_decl z kw hn ke h kz) _ is f u s = absurd is
 
-  one_declared : (ts : List Token) (d : DeclaredSyntax) (n : Annotated (Node Declaration)) → IsDeclared ts d → tree.IsDeclaredOf source d n → Faultless (declared_sites d) → (u : List Lexeme) → Spells source ts u → Said SaysDeclared SpellsDeclared n u
+  one_declared : (ts : List Token) (d : DeclaredSyntax) (n : Annotated (Node Declaration)) → IsDeclared ts d
+      → tree.IsDeclaredOf source d n → Faultless (declared_sites d) → (u : List Lexeme) → Spells source ts u
+      → Said SaysDeclared SpellsDeclared n u
   one_declared ts d n (grammar.declared {a = as'} {u = us} {xs = xs} {d = e} ha h) is f u s =
       let b = unsplit source as' us u s in
       let notes = back_notes source as' xs n.annotations.0 b.left ha is.2 (All-head (IsFaultless source) (annotations xs) (decl_sites e) f) b.first in
@@ -403,7 +446,8 @@ module _ (source : List ℕ) where
       let w : WrittenDeclared = record { notes = n.annotations.0; decl = r.written } in
       record { written = w; spell = subst (λ l. SpellsDeclared l w) (sym b.whole) (declared_of notes r.spell); says = (r.says, refl) }
 
-  one_item : (ts : List Token) (i : ItemSyntax) (n : Annotated Namespace) → IsItem ts i → tree.IsItemOf source i n → Faultless (item_sites i) → (u : List Lexeme) → Spells source ts u → Said SaysItem SpellsItem n u
+  one_item : (ts : List Token) (i : ItemSyntax) (n : Annotated Namespace) → IsItem ts i → tree.IsItemOf source i n
+      → Faultless (item_sites i) → (u : List Lexeme) → Spells source ts u → Said SaysItem SpellsItem n u
   one_item ts i n (grammar.namespace k o c {a = as'} {p = p} {u = us} {xs = xs} {name = name} {ds = ds} ha kn hp ko hd kc) is f u s =
       let f1 = All-tail (IsFaultless source) (annotations xs) (path_sites name ++ flat_map declared_sites ds) f in
       let b = unbetween source as' k (p ++ o ∷ (us ++ c ∷ [])) u s in
@@ -426,5 +470,7 @@ module _ (source : List ℕ) where
         says = subst (λ (x : Annotated Namespace). SaysItem x (outside r.written)) (sym is.1) (refl, (r.says, tt), refl);
       }
 
-  pub back_schema : {ts : List Token} {items : List ItemSyntax} → IsSyntax ts items → (ns : List (Annotated Namespace)) → tree.IsTreeOf source items ns → Faultless (flat_map item_sites items) → (u : List Lexeme) → Spells source ts u → SaidAll SaysItem (SpellsSchema u) ns
+  pub back_schema : {ts : List Token} {items : List ItemSyntax} → IsSyntax ts items
+      → (ns : List (Annotated Namespace)) → tree.IsTreeOf source items ns → Faultless (flat_map item_sites items)
+      → (u : List Lexeme) → Spells source ts u → SaidAll SaysItem (SpellsSchema u) ns
   back_schema = back_many SpellsItem IsItem (tree.IsItemOf source) SaysItem item_sites one_item

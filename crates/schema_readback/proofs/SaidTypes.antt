@@ -72,13 +72,15 @@ ident_word _ h = cc
 
 module _ (source : List ℕ) where
   -- a word that an id stands for
-  pub ident_back : (t : Token) (x : Lexeme) (i : Id) → IsSpelled source t x → is_ident t.kind ≡ true → i.text ≡ word_at source t → IsIdent x × (x.text ≡ i.text)
+  pub ident_back : (t : Token) (x : Lexeme) (i : Id) → IsSpelled source t x → is_ident t.kind ≡ true
+      → i.text ≡ word_at source t → IsIdent x × (x.text ≡ i.text)
   ident_back t x i s h e =
       let kind : is_ident x.kind ≡ true = ap is_ident (sym s.0) ∙ h in
       let text : x.text ≡ i.text = sym (key_here source t x s (ident_word x.kind kind)) ∙ sym e in
       (record { ident = kind; id = ap is_id text ∙ i.word }, text)
 
-  pub back_path : {ts ws : List Token} → IsChain PathSep is_ident ts ws → (ids : List Id) → AllZip (tree.IsId source) ws ids → (u : List Lexeme) → Spells source ts u → SpellsPath u (texts_of ids)
+  pub back_path : {ts ws : List Token} → IsChain PathSep is_ident ts ws → (ids : List Id)
+      → AllZip (tree.IsId source) ws ids → (u : List Lexeme) → Spells source ts u → SpellsPath u (texts_of ids)
   back_path (S.one h) [] z u s = absurd z
   back_path (S.one h) (i ∷ j ∷ ids) z u s = absurd z.1
   back_path (S.one h) (i ∷ []) z [] s = absurd s
@@ -97,7 +99,8 @@ module _ (source : List ℕ) where
   word_lawful : (t : Token) → IsFaultless source (word t) → is_reserved (word_at source t) ≡ false
   word_lawful t h = elim (cases_Bool (is_reserved (word_at source t))) [ inl e ↦ absurd (h _ _ (reserved t e)) | inr e ↦ e ]
 
-  pub name_back : (t : Token) (x : Lexeme) (k : TokenKind) (n : List ℕ) → t.kind ≡ k → IsSpelled source t x → is_name_kind k ≡ true → tree.IsNameOf source k t n → IsFaultless source (site_of_kind k t) → SpellsName x n
+  pub name_back : (t : Token) (x : Lexeme) (k : TokenKind) (n : List ℕ) → t.kind ≡ k → IsSpelled source t x
+      → is_name_kind k ≡ true → tree.IsNameOf source k t n → IsFaultless source (site_of_kind k t) → SpellsName x n
   name_back t x StringLit n e s h is f = quoted is.0 (sym s.0 ∙ e) (sym s.1 ∙ is.1) is.2
   name_back t x k n e s h is f =
       let kind : is_ident x.kind ≡ true = ap is_ident (sym s.0 ∙ e) ∙ h in
@@ -110,7 +113,8 @@ module _ (source : List ℕ) where
     abbrev Faultless : List Site → Type 0
     Faultless sites = All (IsFaultless source) sites
 
-    mark_back : (a : List Lexeme) (x : Lexeme) (m : List Token) (ml : List Lexeme) (y : Lexeme) (v : List Lexeme) (ns : Notes) (n : List ℕ) (r : Bool) (t : WrittenType) → IsMark m r → Spells source m ml → y.kind ≡ Colon → SpellNotes a ns → SpellsName x n → SpellsType v t
+    mark_back : (a : List Lexeme) (x : Lexeme) (m : List Token) (ml : List Lexeme) (y : Lexeme) (v : List Lexeme) (ns : Notes) (n : List ℕ) (r : Bool) (t : WrittenType)
+        → IsMark m r → Spells source m ml → y.kind ≡ Colon → SpellNotes a ns → SpellsName x n → SpellsType v t
         → IsAttributeOf (a ++ x ∷ (ml ++ y ∷ v)) ns n r t
     mark_back a x m [] y v ns n r t S.no_mark s k w is h = required x y w is k h
     mark_back a x m (z ∷ ml) y v ns n r t S.no_mark s k w is h = absurd s
@@ -122,7 +126,8 @@ module _ (source : List ℕ) where
     abbrev node_of : AttrSyntax → Node (List ℕ) → Node «Type» → Annotations → Node (Annotated AttrDecl)
     node_of a name ty notes = record { node = record { item = roll-AttrDecl (record { name = name; required = (out-AttrSyntax a).required; ty = ty }); annotations = notes }; loc = Some (out-AttrSyntax a).loc }
 
-    show_attr : (a : AttrSyntax) (name : Node (List ℕ)) (ty : Node «Type») (notes : Annotations) (t : WrittenType) (zs : List (Node (Annotated AttrDecl))) (w : WrittenAttributes) → ShowsType ty.node t → ShowsAttributes zs w
+    show_attr : (a : AttrSyntax) (name : Node (List ℕ)) (ty : Node «Type») (notes : Annotations) (t : WrittenType) (zs : List (Node (Annotated AttrDecl))) (w : WrittenAttributes)
+        → ShowsType ty.node t → ShowsAttributes zs w
         → ShowsAttributes (node_of a name ty notes ∷ zs) (attribute notes.0 name.node (out-AttrSyntax a).required t w)
     show_attr a name ty notes t zs w h others =
         let decl : AttrDecl-F «Type» AttrDecl = record { name = name; required = (out-AttrSyntax a).required; ty = ty } in
@@ -136,7 +141,8 @@ module _ (source : List ℕ) where
       shows : ShowsType ty written
 
     mutual
-      pub back_type : {ts : List Token} {t : TypeSyntax} → IsType ts t → (n : Node «Type») → tree.IsTypeOf source t n → Faultless (sites_of_type t) → (u : List Lexeme) → Spells source ts u → SaidType n.node u
+      pub back_type : {ts : List Token} {t : TypeSyntax} → IsType ts t → (n : Node «Type») → tree.IsTypeOf source t n
+          → Faultless (sites_of_type t) → (u : List Lexeme) → Spells source ts u → SaidType n.node u
       back_type (S.path_type {u = ts} (S.path {names = ws} chain)) n is f u s =
           let p : PathSyntax = record { names = ws; loc = whole_place ts } in
           let v : ViewOfType source (TypeSyntax-F.Path p) n =
@@ -162,14 +168,18 @@ module _ (source : List ℕ) where
           let r = back_record h v.0 v.2 (subst Faultless (of_record xs loc) f) u s in
           record { written = rec r.written; spell = record_type r.spell; shows = subst (λ m. ShowsType m (rec r.written)) (sym v.1) (shows_record v.0 r.shows) }
 
-      pub back_record : {ts : List Token} {xs : List AttrSyntax} → IsRecord ts xs → (ys : List (Node (Annotated AttrDecl))) → tree.AreAttrsOf source xs ys → Faultless (sites_of_attrs xs) → (u : List Lexeme) → Spells source ts u → SaidAttributes (IsRecordOf u) ys
+      pub back_record : {ts : List Token} {xs : List AttrSyntax} → IsRecord ts xs
+          → (ys : List (Node (Annotated AttrDecl))) → tree.AreAttrsOf source xs ys → Faultless (sites_of_attrs xs)
+          → (u : List Lexeme) → Spells source ts u → SaidAttributes (IsRecordOf u) ys
       back_record (S.braces c ko h kc) ys are f [] s = absurd s
       back_record (S.braces c {u = ts} ko h kc) ys are f (x ∷ u) s =
           let k = unclosed source ts c u s.1 in
           let r = back_attrs h ys are f k.left k.first in
           record { written = r.written; spell = subst (λ l. IsRecordOf (x ∷ l) r.written) (sym k.whole) (braces k.lexeme (sym s.0.0 ∙ ko) r.spell (sym k.is.0 ∙ kc)); shows = r.shows }
 
-      back_attrs : {ts : List Token} {xs : List AttrSyntax} → AreAttrs ts xs → (ys : List (Node (Annotated AttrDecl))) → tree.AreAttrsOf source xs ys → Faultless (sites_of_attrs xs) → (u : List Lexeme) → Spells source ts u → SaidAttributes (AreAttributesOf u) ys
+      back_attrs : {ts : List Token} {xs : List AttrSyntax} → AreAttrs ts xs → (ys : List (Node (Annotated AttrDecl)))
+          → tree.AreAttrsOf source xs ys → Faultless (sites_of_attrs xs) → (u : List Lexeme) → Spells source ts u
+          → SaidAttributes (AreAttributesOf u) ys
       back_attrs S.no_attr ys tree.none f u s = record { written = no_more; spell = subst (λ l. AreAttributesOf l no_more) (sym (no_lexeme source u s)) no_attribute; shows = shows_none }
       back_attrs (S.last_attr {a = a} h) ys (tree.more name ty notes hn ht hs tree.none) f u s =
           let r = back_attr h name ty notes.0 hn ht hs (all_left (IsFaultless source) (sites_of_attr a) [] f) u s in
@@ -184,8 +194,12 @@ module _ (source : List ℕ) where
             shows = show_attr a name ty notes r.written zs o.written r.shows o.shows;
           }
 
-      back_attr : {ts : List Token} {a : AttrSyntax} → IsAttr ts a → (name : Node (List ℕ)) (ty : Node «Type») (ns : Notes) → tree.IsNameNode source (out-AttrSyntax a).name name → tree.IsTypeOf source (out-AttrSyntax a).ty ty → AreNotes source (out-AttrSyntax a).annotations ns
-          → Faultless (sites_of_attr a) → (u : List Lexeme) → Spells source ts u → SaidAttribute u ns name.node (out-AttrSyntax a).required ty.node
+      back_attr : {ts : List Token} {a : AttrSyntax} → IsAttr ts a
+          → (name : Node (List ℕ)) (ty : Node «Type») (ns : Notes)
+          → tree.IsNameNode source (out-AttrSyntax a).name name → tree.IsTypeOf source (out-AttrSyntax a).ty ty
+          → AreNotes source (out-AttrSyntax a).annotations ns
+          → Faultless (sites_of_attr a) → (u : List Lexeme) → Spells source ts u
+          → SaidAttribute u ns name.node (out-AttrSyntax a).required ty.node
       back_attr (S.attr n c {a = as'} {m = m} {u = us} {xs = xs} {required = q} {t = t} ha hk hm kc h) name ty ns hn ht hs f u s =
           let loc = whole_place (n ∷ (m ++ c ∷ us)) in
           let w : AttrSyntax-F TypeSyntax AttrSyntax = record { annotations = xs; name = n; required = q; ty = t; loc = loc } in

@@ -23,5 +23,6 @@ of_set t loc = ap sites_of_type (sym (rolls-Set t loc)) ∙ fold-roll-TypeSyntax
 pub of_record : (xs : List AttrSyntax) (loc : Span) → sites_of_type (Record xs loc) ≡ sites_of_attrs xs
 of_record xs loc = ap sites_of_type (sym (rolls-Record xs loc)) ∙ fold-roll-TypeSyntax (List Site) (List Site) type_sites attr_sites (TypeSyntax-F.Record xs loc) ∙ flat_joined sites_of_attr xs
 
-pub of_attr : (a : AttrSyntax-F TypeSyntax AttrSyntax) → sites_of_attr (roll-AttrSyntax a) ≡ annotations a.annotations ∷ (name_sites a.name ++ sites_of_type a.ty)
+pub of_attr : (a : AttrSyntax-F TypeSyntax AttrSyntax)
+    → sites_of_attr (roll-AttrSyntax a) ≡ annotations a.annotations ∷ (name_sites a.name ++ sites_of_type a.ty)
 of_attr a = fold-roll-AttrSyntax (List Site) (List Site) type_sites attr_sites a

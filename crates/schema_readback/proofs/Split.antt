@@ -100,7 +100,8 @@ module _ (source : List ℕ) where
     pub is : IsSpelled source c lexeme
     pub second : Spells source vs right
 
-  pub unbetween : (us : List Token) (c : Token) (vs : List Token) (xs : List Lexeme) → Spells source (us ++ c ∷ vs) xs → Unbetween us c vs xs
+  pub unbetween : (us : List Token) (c : Token) (vs : List Token) (xs : List Lexeme) → Spells source (us ++ c ∷ vs) xs
+      → Unbetween us c vs xs
   unbetween [] c vs [] s = absurd s
   unbetween [] c vs (x ∷ xs) s = record { left = []; lexeme = x; right = xs; whole = refl; first = tt; is = s.0; second = s.1 }
   unbetween (t ∷ us) c vs [] s = absurd s

@@ -82,7 +82,8 @@ module _ (source : List ℕ) where
   pub ident_kind : (t : Token) (x : Lexeme) → IsSpelled source t x → spelled.IsIdent x → is_ident t.kind ≡ true
   ident_kind t x s i = ap is_ident s.0 ∙ i.ident
 
-  pub ident_site : (t : Token) (x : Lexeme) → IsSpelled source t x → spelled.IsIdent x → All (IsFaultless source) (name_sites t)
+  pub ident_site : (t : Token) (x : Lexeme) → IsSpelled source t x → spelled.IsIdent x
+      → All (IsFaultless source) (name_sites t)
   ident_site t x s i =
       subst (λ z. All (IsFaultless source) (z ∷ [])) (sym (site_word t.kind (ident_kind t x s i) t))
       (All-cons (IsFaultless source) (word t) [] (no_word_fault t (ap is_reserved (sym (word_here t x s i.id)) ∙ not_reserved x.text i.id)) (All-nil (IsFaultless source)))
@@ -91,30 +92,37 @@ module _ (source : List ℕ) where
   no_notes_fault fault end (note_escape front back key t at e h) = nothing_in (record { key = key; value = Some t }) back front e
   no_notes_fault fault end (duplicate front middle back first second key e h g o p) = nothing_in first (middle ++ second ∷ back) front e
 
-  as_word : (k : TokenKind) (t : Token) (n : List ℕ) → is_ident k ≡ true → n ≡ word_at source t → IsNameOf source k t n
+  as_word : (k : TokenKind) (t : Token) (n : List ℕ) → is_ident k ≡ true → n ≡ word_at source t
+      → IsNameOf source k t n
   as_word StringLit t n h e = cc
   as_word _ t n h e = e
 
-  pub name_kind : (t : Token) (x : Lexeme) (n : List ℕ) → IsSpelled source t x → spelled.SpellsName x n → is_name_kind t.kind ≡ true
+  pub name_kind : (t : Token) (x : Lexeme) (n : List ℕ) → IsSpelled source t x → spelled.SpellsName x n
+      → is_name_kind t.kind ≡ true
   name_kind t x n s (spelled.bare i) = ident_name t.kind (ident_kind t x s i)
   name_kind t x n s (spelled.quoted body k e u) = ap is_name_kind (s.0 ∙ k)
 
-  pub name_here : (t : Token) (x : Lexeme) (n : List ℕ) → IsSpelled source t x → spelled.SpellsName x n → IsNameOf source t.kind t n
+  pub name_here : (t : Token) (x : Lexeme) (n : List ℕ) → IsSpelled source t x → spelled.SpellsName x n
+      → IsNameOf source t.kind t n
   name_here t x n s (spelled.bare i) = as_word t.kind t n (ident_kind t x s i) (word_here t x s i.id)
   name_here t x n s (spelled.quoted body k e u) = subst (λ k. IsNameOf source k t n) (sym (s.0 ∙ k)) (body, s.1 ∙ e, u)
 
   module _ (never_both : (body value : List ℕ) (at : ℕ) → Unescapes body value → BadEscape body at → ⊥) where
-    no_string_fault : (t : Token) (body value : List ℕ) → slice_range source t.loc.start t.loc.end ≡ 34 ∷ (body ++ 34 ∷ []) → Unescapes body value → IsFaultless source (text t)
+    no_string_fault : (t : Token) (body value : List ℕ)
+        → slice_range source t.loc.start t.loc.end ≡ 34 ∷ (body ++ 34 ∷ []) → Unescapes body value
+        → IsFaultless source (text t)
     no_string_fault t body value e u fault end (escape v at h) =
         let whole : 34 ∷ (body ++ 34 ∷ []) ≡ 34 ∷ (h.0 ++ 34 ∷ []) = sym e ∙ h.2 in
         let same : body ++ 34 ∷ [] ≡ h.0 ++ 34 ∷ [] = cc in
         never_both h.0 value h.1 (subst (λ b. Unescapes b value) (append_cancel_right body h.0 (34 ∷ []) same) u) h.3
 
-    pub name_site : (t : Token) (x : Lexeme) (n : List ℕ) → IsSpelled source t x → spelled.SpellsName x n → All (IsFaultless source) (name_sites t)
+    pub name_site : (t : Token) (x : Lexeme) (n : List ℕ) → IsSpelled source t x → spelled.SpellsName x n
+        → All (IsFaultless source) (name_sites t)
     name_site t x n s (spelled.bare i) = ident_site t x s i
     name_site t x n s (spelled.quoted body k e u) =
         subst (λ k. All (IsFaultless source) (site_of_kind k t ∷ [])) (sym (s.0 ∙ k))
         (All-cons (IsFaultless source) (text t) [] (no_string_fault t body n (s.1 ∙ e) u) (All-nil (IsFaultless source)))
 
-    pub string_site : (t : Token) (x : Lexeme) (body value : List ℕ) → IsSpelled source t x → x.kind ≡ StringLit → x.text ≡ 34 ∷ (body ++ 34 ∷ []) → Unescapes body value → All (IsFaultless source) (name_sites t)
+    pub string_site : (t : Token) (x : Lexeme) (body value : List ℕ) → IsSpelled source t x → x.kind ≡ StringLit
+        → x.text ≡ 34 ∷ (body ++ 34 ∷ []) → Unescapes body value → All (IsFaultless source) (name_sites t)
     string_site t x body value s k e u = name_site t x value s (spelled.quoted body k e u)

@@ -18,8 +18,11 @@ Note = List ℕ × Option (List ℕ)
 -- {'@' Word ['(' STR ')']}
 pub data AreNotesOf : List Lexeme → List Note → Type 0 where
   no_note : AreNotesOf [] []
-  bare_note : {a k : Lexeme} {u : List Lexeme} {notes : List Note} → a.kind ≡ At → is_word_kind k.kind ≡ true → AreNotesOf u notes → AreNotesOf (a ∷ k ∷ u) ((k.text, None) ∷ notes)
-  valued_note : {a k o v c : Lexeme} {u : List Lexeme} {notes : List Note} (body : List ℕ) {value : List ℕ} → a.kind ≡ At → is_word_kind k.kind ≡ true → o.kind ≡ LParen → v.kind ≡ StringLit → v.text ≡ 34 ∷ (body ++ 34 ∷ []) → Unescapes body value → c.kind ≡ RParen → AreNotesOf u notes
+  bare_note : {a k : Lexeme} {u : List Lexeme} {notes : List Note} → a.kind ≡ At → is_word_kind k.kind ≡ true
+      → AreNotesOf u notes → AreNotesOf (a ∷ k ∷ u) ((k.text, None) ∷ notes)
+  valued_note : {a k o v c : Lexeme} {u : List Lexeme} {notes : List Note} (body : List ℕ) {value : List ℕ}
+      → a.kind ≡ At → is_word_kind k.kind ≡ true → o.kind ≡ LParen → v.kind ≡ StringLit
+      → v.text ≡ 34 ∷ (body ++ 34 ∷ []) → Unescapes body value → c.kind ≡ RParen → AreNotesOf u notes
       → AreNotesOf (a ∷ k ∷ o ∷ v ∷ c ∷ u) ((k.text, Some value) ∷ notes)
 
 abbrev pub HaveOtherNotes : Note → List Note → Type 0

@@ -60,8 +60,10 @@ module _ (source : List ℕ) where
     pub syn : AttrSyntax
     pub parsed : IsAttr ts syn
     pub node : Node (Annotated AttrDecl)
-    pub are : (syns : List AttrSyntax) (nodes : List (Node (Annotated AttrDecl))) → tree.AreAttrsOf source syns nodes → tree.AreAttrsOf source (syn ∷ syns) (node ∷ nodes)
-    pub shows : (nodes : List (Node (Annotated AttrDecl))) (xs : WrittenAttributes) → ShowsAttributes nodes xs → ShowsAttributes (node ∷ nodes) (attribute ns n r t xs)
+    pub are : (syns : List AttrSyntax) (nodes : List (Node (Annotated AttrDecl))) → tree.AreAttrsOf source syns nodes
+        → tree.AreAttrsOf source (syn ∷ syns) (node ∷ nodes)
+    pub shows : (nodes : List (Node (Annotated AttrDecl))) (xs : WrittenAttributes) → ShowsAttributes nodes xs
+        → ShowsAttributes (node ∷ nodes) (attribute ns n r t xs)
     pub lawful : All IsFaultless (sites_of_attr syn)
 
   -- the tokens are annotations that make these notes

@@ -27,12 +27,14 @@ mutual
   pub data ShowsType : «Type» → WrittenType → Type 0 where
     shows_path : (p : Path) → ShowsType (Ident p) (path (texts_of p.ids))
     shows_set : (n : Node «Type») {t : WrittenType} → ShowsType n.node t → ShowsType (Set n) (set t)
-    shows_record : (ys : List (Node (Annotated AttrDecl))) {xs : WrittenAttributes} → ShowsAttributes ys xs → ShowsType (Record ys) (rec xs)
+    shows_record : (ys : List (Node (Annotated AttrDecl))) {xs : WrittenAttributes} → ShowsAttributes ys xs
+        → ShowsType (Record ys) (rec xs)
 
   pub data ShowsAttributes : List (Node (Annotated AttrDecl)) → WrittenAttributes → Type 0 where
     shows_none : ShowsAttributes [] no_more
     shows_more : (y : Node (Annotated AttrDecl)) {ys : List (Node (Annotated AttrDecl))} {ns : Notes} {n : List ℕ} {r : Bool} {t : WrittenType} {xs : WrittenAttributes}
-        → (out-AttrDecl y.node.item).name.node ≡ n → (out-AttrDecl y.node.item).required ≡ r → ShowsType (out-AttrDecl y.node.item).ty.node t → y.node.annotations.0 ≡ ns
+        → (out-AttrDecl y.node.item).name.node ≡ n → (out-AttrDecl y.node.item).required ≡ r
+        → ShowsType (out-AttrDecl y.node.item).ty.node t → y.node.annotations.0 ≡ ns
         → ShowsAttributes ys xs → ShowsAttributes (y ∷ ys) (attribute ns n r t xs)
 
 abbrev pub SaysPath : Path → List (List ℕ) → Type 0

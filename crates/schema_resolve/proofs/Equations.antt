@@ -1,5 +1,5 @@
 -- Records within types, replaced and walked.
-use Rattle.std.proofs.Common.{◌≡◌, ℕ, List, Option, ap, sym, ◌∙◌, refl, map, [], ◌∷◌}
+use Rattle.std.proofs.Common.{◌≡◌, List, Option, ap, sym, ◌∙◌}
 use Rattle.cedar_data.specs.declared.loc.Loc.{Loc}
 use Rattle.cedar_identifiers.specs.declared.reference_type.ReferenceType.{ReferenceType}
 use Rattle.schema_json.proofs.Walks.{values_walked}
@@ -13,10 +13,12 @@ use Rattle.schema_resolve.specs.Renamed.{Renaming, new_type, new_shape, new_reco
 use Rattle.schema_resolve.specs.Walk.{type_part, variant_part, record_part, attribute_part, of_variant, of_record, of_attribute, of_entries}
 
 module _ {N M : Type 0} (f : Renaming N M) where
-  pub record_renamed : (r : RecordType N) → renamed_record f r ≡ roll-RecordType M (record { attributes = renamed_entries f (out-RecordType N r).attributes; additional_attributes = (out-RecordType N r).additional_attributes })
+  pub record_renamed : (r : RecordType N)
+      → renamed_record f r ≡ roll-RecordType M (record { attributes = renamed_entries f (out-RecordType N r).attributes; additional_attributes = (out-RecordType N r).additional_attributes })
   record_renamed r = fold_out-RecordType N («Type» M) (Option Loc → «Type» M) (RecordType M) (TypeOfAttribute M) (new_type f) (new_shape f) (new_record f) (new_attribute f) r
 
-  pub record_renamed_at : (r : RecordType N) (loc : Option Loc) → renamed_at f (Record r) loc ≡ Variant (Record (renamed_record f r)) loc
+  pub record_renamed_at : (r : RecordType N) (loc : Option Loc)
+      → renamed_at f (Record r) loc ≡ Variant (Record (renamed_record f r)) loc
   record_renamed_at r loc =
       ap (λ v. renamed_at f v loc) (sym (rolls-Record r)) ∙ ap (λ (at : Option Loc → «Type» M). at loc) (fold-roll-TypeVariant N («Type» M) (Option Loc → «Type» M) (RecordType M) (TypeOfAttribute M) (new_type f) (new_shape f) (new_record f) (new_attribute f) (TypeVariant-F.Record r)) ∙ ap (λ v. roll-Type M (Type-F.Variant v loc)) (rolls-Record (renamed_record f r)) ∙ rolls-Variant (Record (renamed_record f r)) loc
 

@@ -15,7 +15,8 @@ nor_right false b h = h
 nor_right true b h = cc
 
 module _ {A : Type 0} (p : A → Bool) where
-  found_behind : (before behind : List A) (x : A) → list_any p before ≡ false → p x ≡ true → find p (before ++ x ∷ behind) ≡ Some x
+  found_behind : (before behind : List A) (x : A) → list_any p before ≡ false → p x ≡ true
+      → find p (before ++ x ∷ behind) ≡ Some x
   found_behind [] behind x none here = ap (λ b. cond b (Some x) (find p behind)) here
   found_behind (y ∷ ys) behind x none here =
       ap (λ b. cond b (Some y) (find p (ys ++ x ∷ behind))) (nor_left (p y) (list_any p ys) none) ∙ found_behind ys behind x (nor_right (p y) (list_any p ys) none) here

@@ -31,7 +31,8 @@ module _ {A U : Type 0} (u : A → List U) where
   each_parts (x ∷ xs) ys = ap (λ l. u x ++ l) (each_parts xs ys) ∙ sym (append_assoc (u x) (flat_map u xs) (flat_map u ys))
 
   -- one more
-  pub each_more : (xs : List A) (i : ℕ) (d : A) → i < length xs → d ≡ get_or xs i d → flat_map u (take i xs) ≡ [] → u d ≡ [] → flat_map u (take (i + 1) xs) ≡ []
+  pub each_more : (xs : List A) (i : ℕ) (d : A) → i < length xs → d ≡ get_or xs i d → flat_map u (take i xs) ≡ []
+      → u d ≡ [] → flat_map u (take (i + 1) xs) ≡ []
   each_more xs i d h e none here =
       rw (add-one, take-suc xs i d h, each_parts (take i xs) (get_or xs i d ∷ [])) (both_none (flat_map u (take i xs)) (u (get_or xs i d) ++ []) none (append-nil (u (get_or xs i d)) ∙ ap u (sym e) ∙ here))
 
@@ -39,19 +40,23 @@ module _ {A U : Type 0} (u : A → List U) where
   pub each_all : (xs : List A) (i : ℕ) → length xs ≤ i → flat_map u (take i xs) ≡ [] → flat_map u xs ≡ []
   each_all xs i h none = ap (flat_map u) (sym (take_all i xs h)) ∙ none
 
-  each_split : (xs : List A) (i : ℕ) (d : A) → i < length xs → d ≡ get_or xs i d → flat_map u xs ≡ flat_map u (take i xs) ++ (u d ++ flat_map u (drop (suc i) xs))
+  each_split : (xs : List A) (i : ℕ) (d : A) → i < length xs → d ≡ get_or xs i d
+      → flat_map u xs ≡ flat_map u (take i xs) ++ (u d ++ flat_map u (drop (suc i) xs))
   each_split [] i d h e = absurd (omega arith)
   each_split (x ∷ xs) zero d h e = ap (λ a. u a ++ flat_map u xs) (sym e)
   each_split (x ∷ xs) (suc i) d h e = ap (λ l. u x ++ l) (each_split xs i d (omega arith) e) ∙ sym (append_assoc (u x) (flat_map u (take i xs)) (u d ++ flat_map u (drop (suc i) xs)))
 
 -- the first of an item, where those before it give none
-pub each_first : {A : Type 0} (u : A → List Undefined) (xs : List A) (i : ℕ) (d : A) (e : ResolveError) → i < length xs → d ≡ get_or xs i d → flat_map u (take i xs) ≡ [] → NamesFirst (u d) e → NamesFirst (flat_map u xs) e
+pub each_first : {A : Type 0} (u : A → List Undefined) (xs : List A) (i : ℕ) (d : A) (e : ResolveError)
+    → i < length xs → d ≡ get_or xs i d → flat_map u (take i xs) ≡ [] → NamesFirst (u d) e
+    → NamesFirst (flat_map u xs) e
 each_first u xs i d e h at none here =
     subst (λ l. NamesFirst l e) (sym (each_split u xs i d h at)) (behind_first (flat_map u (take i xs)) (u d ++ flat_map u (drop (suc i) xs)) e none (front_first (u d) (flat_map u (drop (suc i) xs)) e here))
 
 module _ {A B : Type 0} (h : A → B) where
   -- one more
-  pub map_more : (xs : List A) (i : ℕ) (d : A) → i < length xs → d ≡ get_or xs i d → map h (take (i + 1) xs) ≡ map h (take i xs) ++ h d ∷ []
+  pub map_more : (xs : List A) (i : ℕ) (d : A) → i < length xs → d ≡ get_or xs i d
+      → map h (take (i + 1) xs) ≡ map h (take i xs) ++ h d ∷ []
   map_more xs i d l e = rw (add-one, take-suc xs i d l, map-append) (ap (λ x. map h (take i xs) ++ h x ∷ []) (sym e))
 
   -- all
@@ -59,11 +64,13 @@ module _ {A B : Type 0} (h : A → B) where
   map_all xs i l = ap (map h) (take_all i xs l)
 
 -- what `?` hands on
-pub refused : {T : Type 0} (r : Result T ResolveError) (e : ResolveError) (us : List Undefined) → IsErrAnd r (λ y. y ≡ e) → NamesFirst us e → IfErr r (NamesFirst us)
+pub refused : {T : Type 0} (r : Result T ResolveError) (e : ResolveError) (us : List Undefined)
+    → IsErrAnd r (λ y. y ≡ e) → NamesFirst us e → IfErr r (NamesFirst us)
 refused (Ok x) e us h k = tt
 refused (Err y) e us h k = subst (NamesFirst us) (sym h) k
 
 -- keys stay where each entry keeps its own
-pub keys_kept : {K A B : Type 0} (h : K × A → K × B) → ((e : K × A) → (h e).0 ≡ e.0) → (es : List (K × A)) → keys_of (map h es) ≡ keys_of es
+pub keys_kept : {K A B : Type 0} (h : K × A → K × B) → ((e : K × A) → (h e).0 ≡ e.0) → (es : List (K × A))
+    → keys_of (map h es) ≡ keys_of es
 keys_kept h same [] = refl
 keys_kept h same (e ∷ es) = λ i. same e i ∷ keys_kept h same es i

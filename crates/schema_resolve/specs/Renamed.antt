@@ -39,7 +39,8 @@ module _ {N M : Type 0} (f : Renaming N M) where
   new_type (Type-F.CommonTypeRef name loc) = roll-Type M (Type-F.CommonTypeRef (f.name Common name) loc)
 
   -- a shape is a type at a place
-  abbrev pub new_shape : TypeVariant-F N («Type» M) (Option Loc → «Type» M) (RecordType M) (TypeOfAttribute M) → Option Loc → «Type» M
+  abbrev pub new_shape : TypeVariant-F N («Type» M) (Option Loc → «Type» M) (RecordType M) (TypeOfAttribute M)
+      → Option Loc → «Type» M
   new_shape TypeVariant-F.String loc = roll-Type M (Type-F.Variant (roll-TypeVariant M TypeVariant-F.String) loc)
   new_shape TypeVariant-F.Long loc = roll-Type M (Type-F.Variant (roll-TypeVariant M TypeVariant-F.Long) loc)
   new_shape TypeVariant-F.Boolean loc = roll-Type M (Type-F.Variant (roll-TypeVariant M TypeVariant-F.Boolean) loc)
@@ -49,10 +50,12 @@ module _ {N M : Type 0} (f : Renaming N M) where
   new_shape (TypeVariant-F.EntityOrCommon name) loc = f.either name loc
   new_shape (TypeVariant-F.Extension name) loc = roll-Type M (Type-F.Variant (roll-TypeVariant M (TypeVariant-F.Extension name)) loc)
 
-  abbrev pub new_record : RecordType-F N («Type» M) (Option Loc → «Type» M) (RecordType M) (TypeOfAttribute M) → RecordType M
+  abbrev pub new_record : RecordType-F N («Type» M) (Option Loc → «Type» M) (RecordType M) (TypeOfAttribute M)
+      → RecordType M
   new_record r = roll-RecordType M (record { attributes = r.attributes; additional_attributes = r.additional_attributes })
 
-  abbrev pub new_attribute : TypeOfAttribute-F N («Type» M) (Option Loc → «Type» M) (RecordType M) (TypeOfAttribute M) → TypeOfAttribute M
+  abbrev pub new_attribute : TypeOfAttribute-F N («Type» M) (Option Loc → «Type» M) (RecordType M) (TypeOfAttribute M)
+      → TypeOfAttribute M
   new_attribute a = roll-TypeOfAttribute M (record { ty = a.ty; annotations = a.annotations; required = a.required })
 
   -- a type with its names replaced
@@ -122,12 +125,14 @@ module _ {N M : Type 0} (f : Renaming N M) where
     renamed_action a = record { attributes = a.attributes; applies_to = option_map renamed_apply a.applies_to; member_of = option_map (map renamed_uid) a.member_of; external = a.external; annotations = a.annotations; loc = a.loc }
 
     -- a namespace with its names replaced
-    abbrev pub renamed_namespace : {G : named.Ghosts N} {H : named.Ghosts M} → NamespaceDefinition N G → NamespaceDefinition M H
+    abbrev pub renamed_namespace : {G : named.Ghosts N} {H : named.Ghosts M} → NamespaceDefinition N G
+        → NamespaceDefinition M H
     renamed_namespace n = record { common_types = map (on_value renamed_common) n.common_types; entity_types = map (on_value renamed_entity) n.entity_types; actions = map (on_value renamed_action) n.actions; annotations = n.annotations }
 
 -- a fragment, where the renaming may depend on the namespace
 module _ {N M : Type 0} (f : Option Name → Renaming N M) (h : Option Name → List ℕ → Option N → M) where
-  abbrev pub renamed_entry : {G : named.Ghosts N} {H : named.Ghosts M} → Option Name × NamespaceDefinition N G → Option Name × NamespaceDefinition M H
+  abbrev pub renamed_entry : {G : named.Ghosts N} {H : named.Ghosts M} → Option Name × NamespaceDefinition N G
+      → Option Name × NamespaceDefinition M H
   renamed_entry e = (e.0, renamed_namespace (f e.0) (h e.0) e.1)
 
   -- a fragment with its names replaced

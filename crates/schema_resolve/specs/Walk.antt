@@ -1,7 +1,7 @@
 -- What the references of a fragment give, in the order of the walk: common types, entity types and actions by name; of an
 -- entity type its parents, its shape and its tags; of an action its parents, its principals, its resources and its context.
 -- Of a fragment its namespaces by name, the empty one first.
-use Rattle.std.specs.Prelude.{ℕ, List, [], ◌++◌, map, Option}
+use Rattle.std.specs.Prelude.{ℕ, List, [], ◌++◌, Option}
 use Rattle.cedar_identifiers.specs.declared.name.Name.{Name}
 use Rattle.cedar_identifiers.specs.declared.name_text.NameText as named
 use Rattle.cedar_identifiers.specs.declared.reference_type.ReferenceType.{ReferenceType}

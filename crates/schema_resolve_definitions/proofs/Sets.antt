@@ -1,47 +1,44 @@
--- Lists as sets, to which others are added.
-use Rattle.std.proofs.Common.{◌≡◌, ℕ, ◌+◌, ◌<◌, ◌≤◌, Bool, true, false, ◌||◌, List, [], ◌∷◌, ◌++◌, map, length, get_or, take, refl, sym, ap, ◌∙◌, append_assoc, append-nil, add-one}
-use Rattle.std.specs.List.{list_any}
+-- Lists to which others are added, item by item.
+use Rattle.std.proofs.Common.{◌≡◌, ℕ, ◌+◌, ◌<◌, ◌≤◌, List, [], ◌∷◌, ◌++◌, map, length, get_or, take, refl, sym, ap, ◌∙◌, append_assoc, append-nil, add-one}
+use Rattle.std.specs.List.{flat_map}
 use Rattle.std.proofs.Math.Seq.{take-suc}
 use Rattle.std.proofs.lemmas.List.{map-append, take_all}
-use Rattle.std.proofs.lemmas.List.Folds.{list_any-append}
-use Rattle.std.specs.List.{flat_map}
 
-pub or_none : (a : Bool) → (a || false) ≡ a
-or_none true = refl
-or_none false = refl
-
-pub or_assoc : (a b c : Bool) → ((a || b) || c) ≡ (a || (b || c))
-or_assoc true b c = refl
-or_assoc false b c = refl
-
-module _ {A : Type 0} (same : A → A → Bool) where
-  abbrev Adds : List A → List A → List A → Type 0
-  Adds old more new = (n : A) → list_any (same n) new ≡ (list_any (same n) old || list_any (same n) more)
-
-  -- first some, then others
-  pub add_both : (old xs mid ys new : List A) → Adds old xs mid → Adds mid ys new → Adds old (xs ++ ys) new
-  add_both old xs mid ys new p q = λ n.
-      q n ∙ ap (λ b. b || list_any (same n) ys) (p n) ∙ or_assoc (list_any (same n) old) (list_any (same n) xs) (list_any (same n) ys) ∙ ap (λ b. list_any (same n) old || b) (sym (list_any-append (same n) xs ys))
-
-  -- one more
-  pub add_one : (old xs mid new : List A) (x : A) → Adds old xs mid → ((n : A) → list_any (same n) new ≡ (list_any (same n) mid || same n x)) → Adds old (xs ++ x ∷ []) new
-  add_one old xs mid new x p q =
-      add_both old xs mid (x ∷ []) new p (λ n. q n ∙ ap (λ b. list_any (same n) mid || b) (sym (or_none (same n x))))
-
-  pub add_single : (old new : List A) (x : A) → ((n : A) → list_any (same n) new ≡ (list_any (same n) old || same n x)) → Adds old (x ∷ []) new
-  add_single old new x q = λ n. q n ∙ ap (λ b. list_any (same n) old || b) (sym (or_none (same n x)))
-
-module _ {A B : Type 0} (f : A → B) where
-  pub map_more : (xs : List A) (i : ℕ) (d : A) → i < length xs → d ≡ get_or xs i d → map f (take (i + 1) xs) ≡ map f (take i xs) ++ f d ∷ []
-  map_more xs i d l e = rw (add-one, take-suc xs i d l, map-append) (ap (λ x. map f (take i xs) ++ f x ∷ []) (sym e))
-
-  pub map_all : (xs : List A) (i : ℕ) → length xs ≤ i → map f (take i xs) ≡ map f xs
-  map_all xs i l = ap (map f) (take_all i xs l)
-
+-- what a list gives, each item a list
 module _ {A B : Type 0} (f : A → List B) where
-  joined_parts : (xs : List A) (x : A) → flat_map f (xs ++ x ∷ []) ≡ flat_map f xs ++ f x
-  joined_parts [] x = append-nil (f x)
-  joined_parts (y ∷ ys) x = ap (λ l. f y ++ l) (joined_parts ys x) ∙ sym (append_assoc (f y) (flat_map f ys) (f x))
+  given_parts : (xs : List A) (x : A) → flat_map f (xs ++ x ∷ []) ≡ flat_map f xs ++ f x
+  given_parts [] x = append-nil (f x)
+  given_parts (y ∷ ys) x = ap (λ l. f y ++ l) (given_parts ys x) ∙ sym (append_assoc (f y) (flat_map f ys) (f x))
 
-  pub joined_more : (xs : List A) (i : ℕ) (d : A) → i < length xs → d ≡ get_or xs i d → flat_map f (take (i + 1) xs) ≡ flat_map f (take i xs) ++ f d
-  joined_more xs i d l e = rw (add-one, take-suc xs i d l) (joined_parts (take i xs) (get_or xs i d) ∙ ap (λ x. flat_map f (take i xs) ++ f x) (sym e))
+  given_more : (xs : List A) (i : ℕ) (d : A) → i < length xs → d ≡ get_or xs i d
+      → flat_map f (take (i + 1) xs) ≡ flat_map f (take i xs) ++ f d
+  given_more xs i d l e = rw (add-one, take-suc xs i d l) (given_parts (take i xs) (get_or xs i d) ∙ ap (λ x. flat_map f (take i xs) ++ f x) (sym e))
+
+  -- one more item's
+  pub next_given : (xs : List A) (i : ℕ) (d : A) (old now new : List B) → i < length xs → d ≡ get_or xs i d
+      → now ≡ old ++ flat_map f (take i xs) → new ≡ now ++ f d → new ≡ old ++ flat_map f (take (i + 1) xs)
+  next_given xs i d old now new l e before step =
+      step ∙ ap (λ x. x ++ f d) before ∙ append_assoc old (flat_map f (take i xs)) (f d) ∙ ap (λ x. old ++ x) (sym (given_more xs i d l e))
+
+  pub all_given : (xs : List A) (i : ℕ) (old now : List B) → length xs ≤ i → now ≡ old ++ flat_map f (take i xs)
+      → now ≡ old ++ flat_map f xs
+  all_given xs i old now l before = before ∙ ap (λ x. old ++ flat_map f x) (take_all i xs l)
+
+-- a list to which each item gives one more
+module _ {A K N : Type 0} (view : K → N) (f : A → N) where
+  -- one more item's
+  pub next_pushed : (xs : List A) (i : ℕ) (d : A) (old now new : List K) (k : K) → i < length xs → d ≡ get_or xs i d
+      → map view now ≡ map view old ++ map f (take i xs) → new ≡ now ++ k ∷ [] → view k ≡ f d
+      → map view new ≡ map view old ++ map f (take (i + 1) xs)
+  next_pushed xs i d old now new k l e before step same =
+      rw (add-one, take-suc xs i d l, map-append)
+      (ap (map view) step ∙ map-append view now (k ∷ []) ∙ (λ j. before j ++ same j ∷ []) ∙ append_assoc (map view old) (map f (take i xs)) (f d ∷ []) ∙ ap (λ x. map view old ++ (map f (take i xs) ++ f x ∷ [])) e)
+
+  pub all_pushed : (xs : List A) (i : ℕ) (old now : List K) → length xs ≤ i
+      → map view now ≡ map view old ++ map f (take i xs) → map view now ≡ map view old ++ map f xs
+  all_pushed xs i old now l before = before ∙ ap (λ x. map view old ++ map f x) (take_all i xs l)
+
+pub given_of : {A B C : Type 0} (g : A → B) (f : B → List C) (xs : List A)
+    → flat_map (λ x. f (g x)) xs ≡ flat_map f (map g xs)
+given_of g f [] = refl
+given_of g f (x ∷ xs) = ap (λ l. f (g x) ++ l) (given_of g f xs)

@@ -1,5 +1,5 @@
 -- No type of actions has the component `__cedar`.
-use Rattle.std.proofs.Common.{◌≡◌, false, [], ◌∷◌, Option, Some, None, refl, ap, ◌∙◌}
+use Rattle.std.proofs.Common.{◌≡◌, Bool, true, false, ◌||◌, [], ◌∷◌, Option, Some, None, refl, ap, ◌∙◌}
 use Rattle.std.specs.List.{list_any}
 use Rattle.std.proofs.lemmas.List.{map-append}
 use Rattle.std.proofs.lemmas.List.Folds.{list_any-append}
@@ -9,7 +9,10 @@ use Rattle.cedar_identifiers.specs.declared.id.Id.{Id}
 use Rattle.cedar_identifiers.specs.declared.name.Name.{Name}
 use Rattle.schema_json.specs.Actions.{action_name}
 use Rattle.schema_resolve_definitions.specs.Declarations.{action_type}
-use Rattle.schema_resolve_definitions.proofs.Sets.{or_none}
+
+or_none : (a : Bool) → (a || false) ≡ a
+or_none true = refl
+or_none false = refl
 
 -- nor has a name behind a namespace without it
 pub action_lawful : (ns : Option Name) → has_cedar (components_of (action_type ns)) ≡ false

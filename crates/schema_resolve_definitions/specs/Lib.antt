@@ -1,4 +1,3 @@
-pub mod Added
 pub mod Declarations
 pub mod Defined
 pub mod Tests

@@ -1,8 +1,8 @@
-ghost use Rattle.std.specs.Prelude.{◌≡◌, map, IfOk, OnOk};
+ghost use Rattle.std.specs.Prelude.{◌≡◌, ◌++◌, map, IfOk, OnOk};
 ghost use Rattle.std.specs.Option.{option_copied};
 ghost use Rattle.cedar_identifiers.specs.Names.{components_of};
+ghost use Rattle.cedar_names.specs.Definitions.{action_of};
 ghost use Rattle.schema_resolve_definitions.specs.Declarations.{name_of, alone, declared_name, action_type, commons_in, entities_in, actions_in, declared};
-ghost use Rattle.schema_resolve_definitions.specs.Added.{AddsNames, AddsActions};
 ghost use Rattle.schema_resolve_definitions.specs.Tests.{tests_of};
 
 use cedar_data::{CloneIn, List, Text};
@@ -19,83 +19,109 @@ use std::alloc::{AllocError, Global};
 pub fn single_fragment(alloc: Global, fragment: &Fragment<RawName>) -> Result<AllDefs, AllocError>
     ensures { IfOk result (λ defs. tests_of defs ≡ tests_of (declared fragment.now)) }
 {
-    let mut defs = AllDefs::new(alloc);
+    let mut names = DeclaredNames {
+        commons: Vec::new(alloc),
+        entities: Vec::new(alloc),
+        actions: Vec::new(alloc),
+    };
     for (ns, definition) in fragment.0.as_slice() {
-        add_namespace(alloc, &mut defs, ns, definition)?;
+        push_namespace(alloc, &mut names, ns, definition)?;
     }
-    Ok(defs)
+    let DeclaredNames {
+        commons,
+        entities,
+        actions,
+    } = names;
+    Ok(AllDefs::from_names(alloc, commons, entities, actions))
 }
 
-// Defines what a namespace declares.
-fn add_namespace(
+// Names in the order in which they were declared.
+#[derive(Drop)]
+struct DeclaredNames {
+    commons: Vec<InternalName>,
+    entities: Vec<InternalName>,
+    actions: Vec<EntityUID>,
+}
+
+// Adds what a namespace declares.
+fn push_namespace(
     alloc: Global,
-    defs: &mut AllDefs,
+    names: &mut DeclaredNames,
     ns: &Option<Name>,
     definition: &NamespaceDefinition<RawName>,
 ) -> Result<(), AllocError>
-    ensures commons { OnOk result (AddsNames defs.old.commons (commons_in ns.now definition.now) defs.new.commons) }
-    ensures entities { OnOk result (AddsNames defs.old.entities (entities_in ns.now definition.now) defs.new.entities) }
-    ensures actions { OnOk result (AddsActions defs.old.actions (actions_in ns.now definition.now) defs.new.actions) }
+    ensures commons { OnOk result (map components_of names.new.commons.items ≡ map components_of names.old.commons.items ++ commons_in ns.now definition.now) }
+    ensures entities { OnOk result (map components_of names.new.entities.items ≡ map components_of names.old.entities.items ++ entities_in ns.now definition.now) }
+    ensures actions { OnOk result (map action_of names.new.actions.items ≡ map action_of names.old.actions.items ++ actions_in ns.now definition.now) }
 {
-    add_commons(alloc, defs, ns, definition.common_types.as_slice())?;
-    add_entities(alloc, defs, ns, definition.entity_types.as_slice())?;
-    add_actions(alloc, defs, ns, definition.actions.as_slice())?;
+    push_commons(
+        alloc,
+        &mut names.commons,
+        ns,
+        definition.common_types.as_slice(),
+    )?;
+    push_entities(
+        alloc,
+        &mut names.entities,
+        ns,
+        definition.entity_types.as_slice(),
+    )?;
+    push_actions(alloc, &mut names.actions, ns, definition.actions.as_slice())?;
     Ok(())
 }
 
-// Defines the common types.
-fn add_commons(
+// Adds the common types.
+fn push_commons(
     alloc: Global,
-    defs: &mut AllDefs,
+    names: &mut Vec<InternalName>,
     ns: &Option<Name>,
     commons: &[(CommonTypeId, CommonType<RawName>)],
 ) -> Result<(), AllocError>
-    ensures commons { OnOk result (AddsNames defs.old.commons (map (λ e. components_of (declared_name ns.now e.0.id.id)) commons.now) defs.new.commons) }
-    ensures entities { OnOk result (defs.new.entities ≡ defs.old.entities) }
-    ensures actions { OnOk result (defs.new.actions ≡ defs.old.actions) }
+    ensures { OnOk result (map components_of names.new.items ≡ map components_of names.old.items ++ map (λ e. components_of (declared_name ns.now e.0.id.id)) commons.now) }
 {
     for (id, _) in commons {
-        let name = declared_name(alloc, ns, &id.id.id)?;
-        defs.mark_as_defined_as_common_type(name)?;
+        names.push(declared_name(alloc, ns, &id.id.id)?)?;
     }
     Ok(())
 }
 
-// Defines the entity types.
-fn add_entities(
+// Adds the entity types.
+fn push_entities(
     alloc: Global,
-    defs: &mut AllDefs,
+    names: &mut Vec<InternalName>,
     ns: &Option<Name>,
     entities: &[(UnreservedId, EntityType<RawName>)],
 ) -> Result<(), AllocError>
-    ensures commons { OnOk result (defs.new.commons ≡ defs.old.commons) }
-    ensures entities { OnOk result (AddsNames defs.old.entities (map (λ e. components_of (declared_name ns.now e.0.id)) entities.now) defs.new.entities) }
-    ensures actions { OnOk result (defs.new.actions ≡ defs.old.actions) }
+    ensures { OnOk result (map components_of names.new.items ≡ map components_of names.old.items ++ map (λ e. components_of (declared_name ns.now e.0.id)) entities.now) }
 {
     for (id, _) in entities {
-        let name = declared_name(alloc, ns, &id.id)?;
-        defs.mark_as_defined_as_entity_type(name)?;
+        names.push(declared_name(alloc, ns, &id.id)?)?;
     }
     Ok(())
 }
 
-// Defines the actions.
-fn add_actions(
+// Adds the actions.
+fn push_actions(
     alloc: Global,
-    defs: &mut AllDefs,
+    names: &mut Vec<EntityUID>,
     ns: &Option<Name>,
     actions: &[(Text, ActionType<RawName>)],
 ) -> Result<(), AllocError>
-    ensures commons { OnOk result (defs.new.commons ≡ defs.old.commons) }
-    ensures entities { OnOk result (defs.new.entities ≡ defs.old.entities) }
-    ensures actions { OnOk result (AddsActions defs.old.actions (map (λ e. (components_of (action_type ns.now), e.0)) actions.now) defs.new.actions) }
+    ensures { OnOk result (map action_of names.new.items ≡ map action_of names.old.items ++ map (λ e. (components_of (action_type ns.now), e.0)) actions.now) }
 {
     for (id, _) in actions {
-        let ty = action_type(alloc, ns)?;
-        let eid = Eid(id.clone_in(alloc)?);
-        defs.mark_as_defined_as_action(EntityUID { ty, eid, loc: None })?;
+        names.push(action(alloc, ns, id)?)?;
     }
     Ok(())
+}
+
+// The action of a namespace with this id.
+fn action(alloc: Global, ns: &Option<Name>, id: &Text) -> Result<EntityUID, AllocError>
+    ensures { IfOk result (λ uid. action_of uid ≡ (components_of (action_type ns.now), id.now)) }
+{
+    let ty = action_type(alloc, ns)?;
+    let eid = Eid(id.clone_in(alloc)?);
+    Ok(EntityUID { ty, eid, loc: None })
 }
 
 /// The name of a namespace, and none of the empty one.

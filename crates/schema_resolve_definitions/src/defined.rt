@@ -1,8 +1,8 @@
-ghost use Rattle.std.specs.Prelude.{◌≡◌, ◌||◌, [], ◌∷◌, map, codes, IfOk, OnOk};
+ghost use Rattle.std.specs.Prelude.{◌≡◌, ◌||◌, [], ◌∷◌, ◌++◌, map, codes, IfOk, OnOk};
+ghost use Rattle.std.specs.List.{flat_map};
 ghost use Rattle.cedar_identifiers.specs.Names.{components_of};
 ghost use Rattle.cedar_names.specs.Definitions.{among};
-ghost use Rattle.schema_resolve_definitions.specs.Defined.{names_of_builtin, names_of_builtins, defined};
-ghost use Rattle.schema_resolve_definitions.specs.Added.{AddsNames};
+ghost use Rattle.schema_resolve_definitions.specs.Defined.{names_of_builtin, names_of_builtins, builtins, defined};
 ghost use Rattle.schema_resolve_definitions.specs.Tests.{tests_of};
 
 use crate::declared::{alone, single_fragment};
@@ -23,56 +23,73 @@ pub fn all_definitions(
     ensures { IfOk result (λ defs. tests_of defs ≡ tests_of (defined fragment.now table.now)) }
 {
     let mut defs = single_fragment(alloc, fragment)?;
-    add_primitives(alloc, &mut defs)?;
-    add_extensions(alloc, &mut defs, table.names.as_slice())?;
+    let names = builtin_names(alloc, &defs, table)?;
+    defs.mark_all_as_common_types(names)?;
     defs.add_action_entity_types()?;
     Ok(defs)
 }
 
-// Defines the primitive types.
-fn add_primitives(alloc: Global, defs: &mut AllDefs) -> Result<(), AllocError>
-    ensures commons { OnOk result (AddsNames defs.old.commons (names_of_builtins (tests_of defs.old) (codes "Bool" ∷ codes "Long" ∷ codes "String" ∷ [])) defs.new.commons) }
-    ensures entities { OnOk result (defs.new.entities ≡ defs.old.entities) }
-    ensures actions { OnOk result (defs.new.actions ≡ defs.old.actions) }
+// The names of the builtin types, where this is declared.
+fn builtin_names(
+    alloc: Global,
+    defs: &AllDefs,
+    table: &ExtensionTable,
+) -> Result<Vec<InternalName>, AllocError>
+    ensures { IfOk result (λ names. map components_of names.items ≡ names_of_builtins (tests_of defs.now) (builtins table.now)) }
+{
+    let mut names = Vec::new(alloc);
+    push_primitives(alloc, defs, &mut names)?;
+    push_extensions(alloc, defs, &mut names, table.names.as_slice())?;
+    Ok(names)
+}
+
+// Adds the names of the primitive types.
+fn push_primitives(
+    alloc: Global,
+    defs: &AllDefs,
+    names: &mut Vec<InternalName>,
+) -> Result<(), AllocError>
+    ensures { OnOk result (map components_of names.new.items ≡ map components_of names.old.items ++ names_of_builtins (tests_of defs.now) (codes "Bool" ∷ codes "Long" ∷ codes "String" ∷ [])) }
 {
     let bool = Text::from_str(alloc, "Bool")?;
-    add_builtin(alloc, defs, Id { text: bool })?;
+    push_builtin(alloc, defs, names, Id { text: bool })?;
     let long = Text::from_str(alloc, "Long")?;
-    add_builtin(alloc, defs, Id { text: long })?;
+    push_builtin(alloc, defs, names, Id { text: long })?;
     let string = Text::from_str(alloc, "String")?;
-    add_builtin(alloc, defs, Id { text: string })?;
+    push_builtin(alloc, defs, names, Id { text: string })?;
     Ok(())
 }
 
-// Defines the extension types.
-fn add_extensions(
+// Adds the names of the extension types.
+fn push_extensions(
     alloc: Global,
-    defs: &mut AllDefs,
-    names: &[UnreservedId],
+    defs: &AllDefs,
+    names: &mut Vec<InternalName>,
+    extensions: &[UnreservedId],
 ) -> Result<(), AllocError>
-    ensures commons { OnOk result (AddsNames defs.old.commons (names_of_builtins (tests_of defs.old) (map (λ n. n.id.text) names.now)) defs.new.commons) }
-    ensures entities { OnOk result (defs.new.entities ≡ defs.old.entities) }
-    ensures actions { OnOk result (defs.new.actions ≡ defs.old.actions) }
+    ensures { OnOk result (map components_of names.new.items ≡ map components_of names.old.items ++ flat_map (λ n. names_of_builtin (tests_of defs.now) n.id.text) extensions.now) }
 {
-    for name in names {
-        let id = name.id.clone_in(alloc)?;
-        add_builtin(alloc, defs, id)?;
+    for extension in extensions {
+        let id = extension.id.clone_in(alloc)?;
+        push_builtin(alloc, defs, names, id)?;
     }
     Ok(())
 }
 
-// Defines a builtin type, behind `__cedar::` and, where that is not declared, by itself.
-fn add_builtin(alloc: Global, defs: &mut AllDefs, id: Id) -> Result<(), AllocError>
-    ensures commons { OnOk result (AddsNames defs.old.commons (names_of_builtin (tests_of defs.old) id.text) defs.new.commons) }
-    ensures entities { OnOk result (defs.new.entities ≡ defs.old.entities) }
-    ensures actions { OnOk result (defs.new.actions ≡ defs.old.actions) }
+// Adds the names of a builtin type: behind `__cedar::` and, where that is not declared, by itself.
+fn push_builtin(
+    alloc: Global,
+    defs: &AllDefs,
+    names: &mut Vec<InternalName>,
+    id: Id,
+) -> Result<(), AllocError>
+    ensures { OnOk result (map components_of names.new.items ≡ map components_of names.old.items ++ names_of_builtin (tests_of defs.now) id.text) }
 {
     let full = under_cedar(alloc, &id)?;
     let plain = alone(alloc, id);
-    let hidden = is_hidden(defs, &plain);
-    defs.mark_as_defined_as_common_type(full)?;
-    if !hidden {
-        defs.mark_as_defined_as_common_type(plain)?;
+    names.push(full)?;
+    if !is_hidden(defs, &plain) {
+        names.push(plain)?;
     }
     Ok(())
 }

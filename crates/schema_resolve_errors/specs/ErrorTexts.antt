@@ -22,7 +22,8 @@ written_components c = components_of c.raw.name
 abbrev pub type_texts : List ConditionalName → List (List ℕ)
 type_texts names = map (λ c. name_text (written_components c)) names
 
-abbrev pub action_texts : {G : named.Ghosts ConditionalName} → List (ActionEntityUID ConditionalName G) → List (List ℕ)
+abbrev pub action_texts : {G : named.Ghosts ConditionalName} → List (ActionEntityUID ConditionalName G)
+    → List (List ℕ)
 action_texts uids = map (λ a. action_uid_text (option_map written_components a.ty) a.id) uids
 
 abbrev pub unresolved_text : List (List ℕ) → List ℕ

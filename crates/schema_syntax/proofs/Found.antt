@@ -37,7 +37,8 @@ module _ (text : List ℕ) (tokens : List Token) (at place : ℕ) (expected : Li
       more [] f = absurd (f.no_sentence no_item)
       more (t ∷ ts) f = omega arith
 
-  pub found_end : length tokens ≤ place → at ≡ length text → (fault : SyntaxFault) → IsEndOf tokens expected fault → IsSyntaxFault text fault
+  pub found_end : length tokens ≤ place → at ≡ length text → (fault : SyntaxFault) → IsEndOf tokens expected fault
+      → IsSyntaxFault text fault
   found_end h e fault f =
       let same : place ≡ length tokens = omega (arith, is.within, kinds_long tokens) in
       let here : Scans text (f.0 ++ f.1 ∷ []) (length text) = subst (λ ts. Scans text ts (length text)) f.2 (subst (Scans text tokens) e scans) in
@@ -46,7 +47,8 @@ module _ (text : List ℕ) (tokens : List Token) (at place : ℕ) (expected : Li
       subst (IsSyntaxFault text) (sym f.3) (unrecognized_eof f.0 f.1 here fault_here)
 
 -- the last item of some
-pub last_apart : (tokens : List Token) (last : Token) → 0 < length tokens → last ≡ get_or tokens (length tokens - 1) last → tokens ≡ take (length tokens - 1) tokens ++ last ∷ []
+pub last_apart : (tokens : List Token) (last : Token) → 0 < length tokens
+    → last ≡ get_or tokens (length tokens - 1) last → tokens ≡ take (length tokens - 1) tokens ++ last ∷ []
 last_apart tokens last h e =
     let n = length tokens - 1 in
     let all : take (n + 1) tokens ≡ tokens = take_all (n + 1) tokens (omega arith) in

@@ -16,10 +16,15 @@ use Rattle.schema_syntax.specs.declared.syntax_fault.SyntaxFault.TheVariants.{In
 -- The fault of the text, one case for each kind of it: a token that no schema has there, a place where no token stands behind
 -- tokens with which some schema begins, or the end of tokens that are no schema yet.
 pub data IsSyntaxFault (text : List ℕ) : SyntaxFault → Type 0 where
-  unrecognized_token : (tokens : List Token) (at place : ℕ) (token : Token) {expected : List TokenKind} → Scans text tokens at → slice_get tokens place ≡ Some token → IsFault ALL_KINDS (kinds_of tokens) place expected
+  unrecognized_token : (tokens : List Token) (at place : ℕ) (token : Token) {expected : List TokenKind}
+      → Scans text tokens at → slice_get tokens place ≡ Some token
+      → IsFault ALL_KINDS (kinds_of tokens) place expected
       → IsSyntaxFault text (UnrecognizedToken token.loc.start (chars (slice_range text token.loc.start token.loc.end)) token.loc.end expected)
-  invalid_token : (tokens : List Token) (at : ℕ) → Scans text tokens at → at < length text → Viable (kinds_of tokens) → IsSyntaxFault text (InvalidToken at)
-  unrecognized_eof : (tokens : List Token) (last : Token) {expected : List TokenKind} → Scans text (tokens ++ last ∷ []) (length text) → IsFault ALL_KINDS (kinds_of (tokens ++ last ∷ [])) (length (tokens ++ last ∷ [])) expected
+  invalid_token : (tokens : List Token) (at : ℕ) → Scans text tokens at → at < length text → Viable (kinds_of tokens)
+      → IsSyntaxFault text (InvalidToken at)
+  unrecognized_eof : (tokens : List Token) (last : Token) {expected : List TokenKind}
+      → Scans text (tokens ++ last ∷ []) (length text)
+      → IsFault ALL_KINDS (kinds_of (tokens ++ last ∷ [])) (length (tokens ++ last ∷ [])) expected
       → IsSyntaxFault text (UnrecognizedEof last.loc.end expected)
 
 -- the text is tokens to its end, and their kinds are those of a schema

@@ -11,7 +11,8 @@ use Rattle.cedar_data.proofs.Ascii.{chars-from_test}
 abbrev Plain : Option (List ℕ) → Type 0
 Plain help = MatchOption help ⊤ (λ text. chars text ≡ text)
 
-plain_rules : (misses ends : Bool) → Plain (cond misses (Some missing_applies_to) (cond ends (Some trailing_namespace_semicolon) None))
+plain_rules : (misses ends : Bool)
+    → Plain (cond misses (Some missing_applies_to) (cond ends (Some trailing_namespace_semicolon) None))
 plain_rules true ends = chars-from_test missing_applies_to refl
 plain_rules false true = chars-from_test trailing_namespace_semicolon refl
 plain_rules false false = tt
@@ -27,5 +28,6 @@ plain_first : (faults : List ParseError) (source : List ℕ) → Plain (first_er
 plain_first [] source = tt
 plain_first (first ∷ others) source = plain_fault first source
 
-pub help_characters : (faults : List ParseError) (source help : List ℕ) → Some help ≡ first_error_help faults source → chars help ≡ help
+pub help_characters : (faults : List ParseError) (source help : List ℕ) → Some help ≡ first_error_help faults source
+    → chars help ≡ help
 help_characters faults source help e = subst Plain (sym e) (plain_first faults source)

@@ -77,14 +77,16 @@ pub texts_themselves : (v : List ℕ) → texts_agree v v ≡ true
 texts_themselves v = (bytes_eq-Decides (encode_utf8_all v) (encode_utf8_all v)).1 refl
 
 -- lists, item by item
-pub items_sound : {K : Type 0} {E : K → K → Bool} → ((x y : K) → E x y ≡ true → x ≡ y) → (xs ys : List K) → pointwise E xs ys ≡ true → xs ≡ ys
+pub items_sound : {K : Type 0} {E : K → K → Bool} → ((x y : K) → E x y ≡ true → x ≡ y) → (xs ys : List K)
+    → pointwise E xs ys ≡ true → xs ≡ ys
 items_sound s [] [] h = refl
 items_sound s [] (y ∷ ys) h = cc
 items_sound s (x ∷ xs) [] h = cc
 items_sound {K} {E} s (x ∷ xs) (y ∷ ys) h =
     λ i. s x y (first_so (E x y) (pointwise E xs ys) h) i ∷ items_sound s xs ys (second_so (E x y) (pointwise E xs ys) h) i
 
-pub items_themselves : {K : Type 0} (E : K → K → Bool) → ((x : K) → E x x ≡ true) → (xs : List K) → pointwise E xs xs ≡ true
+pub items_themselves : {K : Type 0} (E : K → K → Bool) → ((x : K) → E x x ≡ true) → (xs : List K)
+    → pointwise E xs xs ≡ true
 items_themselves E s [] = refl
 items_themselves E s (x ∷ xs) = and_from (E x x) (pointwise E xs xs) (s x) (items_themselves E s xs)
 

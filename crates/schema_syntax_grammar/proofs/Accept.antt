@@ -97,7 +97,8 @@ or_cases true b e = inl refl
 or_cases false b e = inr e
 
 -- what passes for all listed kinds passes for each of them
-at_listed : (p : TokenKind → Bool) (ks : List TokenKind) (k : TokenKind) → all_kinds p ks ≡ true → listed ks k ≡ true → p k ≡ true
+at_listed : (p : TokenKind → Bool) (ks : List TokenKind) (k : TokenKind) → all_kinds p ks ≡ true → listed ks k ≡ true
+    → p k ≡ true
 at_listed p [] k a l = cc
 at_listed p (j ∷ js) k a l =
     elim (or_cases (same_kind j k) (listed js k) l) [ inl e ↦ subst (λ x. p x ≡ true) (kinds_equal j k e) (and_left _ _ a) | inr m ↦ at_listed p js k (and_right _ _ a) m ]
@@ -122,18 +123,21 @@ Fine [] = Unit {0}
 Fine (x ∷ s) = ((k : TokenKind) → stop x k ≡ true → step s k ≡ None) × Fine s
 
 -- a stack stays stuck where the rest of it does
-stuck_on : {R : Type 0} (o : Option (List Symbol)) (n m : Bool) (a t : List Symbol) (p q : Option (List Symbol)) → advance o n a p ≡ None → (n && m ≡ true → R) → (p ≡ None → (m ≡ true → R) → q ≡ None) → advance o n t q ≡ None
+stuck_on : {R : Type 0} (o : Option (List Symbol)) (n m : Bool) (a t : List Symbol) (p q : Option (List Symbol))
+    → advance o n a p ≡ None → (n && m ≡ true → R) → (p ≡ None → (m ≡ true → R) → q ≡ None) → advance o n t q ≡ None
 stuck_on (Some next) n m a t p q e f ih = cc
 stuck_on None true m a t p q e f ih = ih e f
 stuck_on None false m a t p q e f ih = refl
 
 -- no front of a list of symbols, nor of what follows it where the list may be nothing
-step_append : (a s : List Symbol) (k : TokenKind) → step a k ≡ None → (all_nullable a ≡ true → step s k ≡ None) → step (a ++ s) k ≡ None
+step_append : (a s : List Symbol) (k : TokenKind) → step a k ≡ None → (all_nullable a ≡ true → step s k ≡ None)
+    → step (a ++ s) k ≡ None
 step_append [] s k e f = f refl
 step_append (x ∷ a) s k e f = stuck_on (after_front x k) (is_nullable x) (all_nullable a) a (a ++ s) (step a k) (step (a ++ s) k) e f (λ g h. step_append a s k g h)
 
 -- symbols with closed ends, put on a fine stack
-fine_append : (f : TokenKind → Bool) (a s : List Symbol) → closed f a ≡ true → ((k : TokenKind) → f k ≡ true → step s k ≡ None) → Fine s → Fine (a ++ s)
+fine_append : (f : TokenKind → Bool) (a s : List Symbol) → closed f a ≡ true
+    → ((k : TokenKind) → f k ≡ true → step s k ≡ None) → Fine s → Fine (a ++ s)
 fine_append f [] s c g h = h
 fine_append f (y ∷ ys) s c g h = (
   λ k e.
@@ -143,29 +147,36 @@ fine_append f (y ∷ ys) s c g h = (
 )
 
 -- the row that a look-up finds first
-found_at : (p : Row → Bool) (r : Row) (rest : Option (List Symbol)) (next : List Symbol) (b : Bool) → p r ≡ true → (rest ≡ Some next → (q : Row) × (q.next ≡ next) × (p q ≡ true)) → (if b then Some r.next else rest) ≡ Some next → (q : Row) × (q.next ≡ next) × (p q ≡ true)
+found_at : (p : Row → Bool) (r : Row) (rest : Option (List Symbol)) (next : List Symbol) (b : Bool) → p r ≡ true
+    → (rest ≡ Some next → (q : Row) × (q.next ≡ next) × (p q ≡ true)) → (if b then Some r.next else rest) ≡ Some next
+    → (q : Row) × (q.next ≡ next) × (p q ≡ true)
 found_at p r rest next true h more e = (r, (cc), h)
 found_at p r rest next false h more e = more e
 
 -- what a look-up finds is in some row
-pub found_row : (p : Row → Bool) (rs : List Row) (k : TokenKind) (next : List Symbol) → all_rows p rs ≡ true → find rs k ≡ Some next → (r : Row) × (r.next ≡ next) × (p r ≡ true)
+pub found_row : (p : Row → Bool) (rs : List Row) (k : TokenKind) (next : List Symbol) → all_rows p rs ≡ true
+    → find rs k ≡ Some next → (r : Row) × (r.next ≡ next) × (p r ≡ true)
 found_row p [] k next a e = cc
 found_row p (r ∷ rs) k next a e = found_at p r (find rs k) next (is_at r.front k) (and_left _ _ a) (λ h. found_row p rs k next (and_right _ _ a) h) e
 
 -- a fine stack stays fine where its first symbol goes on
-fine_next : (x : Symbol) (k : TokenKind) (next s : List Symbol) → after_front x k ≡ Some next → Fine (x ∷ s) → Fine (next ++ s)
+fine_next : (x : Symbol) (k : TokenKind) (next s : List Symbol) → after_front x k ≡ Some next → Fine (x ∷ s)
+    → Fine (next ++ s)
 unfolding after_front
 fine_next x k next s e h =
     let r = found_row (λ r. closed (stop x) r.next) (rows x) k next (rows_closed x) e in
     fine_append (stop x) next s (subst (λ n. closed (stop x) n ≡ true) r.1 r.2) h.0 h.1
 
 -- a symbol that may be nothing begins with what would make more of it
-front_stops : (x : Symbol) (k : TokenKind) (next : List Symbol) → is_nullable x ≡ true → after_front x k ≡ Some next → stop x k ≡ true
+front_stops : (x : Symbol) (k : TokenKind) (next : List Symbol) → is_nullable x ≡ true → after_front x k ≡ Some next
+    → stop x k ≡ true
 front_stops x k next n e =
     apply (is_nullable x && is_some (after_front x k)) (stop x k) (at_kind (λ j. implies (is_nullable x && is_some (after_front x j)) (stop x j)) k (fronts_stop x)) (rw (n, e) refl)
 
 -- a symbol that is left out, before a first token
-skipped_at : (x : Symbol) (k : TokenKind) (s : List Symbol) (w : List TokenKind) (o : Option (List Symbol)) → after_front x k ≡ o → is_nullable x ≡ true → ((j : TokenKind) → stop x j ≡ true → step s j ≡ None) → on_some (step s k) (λ t. accepts t w) ≡ true → on_some (advance o true s (step s k)) (λ t. accepts t w) ≡ true
+skipped_at : (x : Symbol) (k : TokenKind) (s : List Symbol) (w : List TokenKind) (o : Option (List Symbol))
+    → after_front x k ≡ o → is_nullable x ≡ true → ((j : TokenKind) → stop x j ≡ true → step s j ≡ None)
+    → on_some (step s k) (λ t. accepts t w) ≡ true → on_some (advance o true s (step s k)) (λ t. accepts t w) ≡ true
 skipped_at x k s w None g n h e = e
 skipped_at x k s w (Some next) g n h e =
     let none = h k (front_stops x k next n g) in
@@ -173,12 +184,14 @@ skipped_at x k s w (Some next) g n h e =
     cc
 
 -- a stack accepts what it accepts without a symbol that may be nothing
-skipped : (x : Symbol) (s : List Symbol) (w : List TokenKind) → is_nullable x ≡ true → ((k : TokenKind) → stop x k ≡ true → step s k ≡ None) → accepts s w ≡ true → accepts (x ∷ s) w ≡ true
+skipped : (x : Symbol) (s : List Symbol) (w : List TokenKind) → is_nullable x ≡ true
+    → ((k : TokenKind) → stop x k ≡ true → step s k ≡ None) → accepts s w ≡ true → accepts (x ∷ s) w ≡ true
 skipped x s [] n h e = rw n e
 skipped x s (k ∷ w) n h e = rw n (skipped_at x k s w (after_front x k) refl n h e)
 
 -- what the stack stands for is accepted
-pub read : {a : List Symbol} {w : List TokenKind} → Forest a w → (s : List Symbol) (v : List TokenKind) → Fine (a ++ s) → accepts s v ≡ true → accepts (a ++ s) (w ++ v) ≡ true
+pub read : {a : List Symbol} {w : List TokenKind} → Forest a w → (s : List Symbol) (v : List TokenKind)
+    → Fine (a ++ s) → accepts s v ≡ true → accepts (a ++ s) (w ++ v) ≡ true
 read nothing s v fine e = e
 read {w = w} (skip {x = x} {s = a} n f) s v fine e = skipped x (a ++ s) (w ++ v) n fine.0 (read f s v fine.1 e)
 read (take {x = x} {k = k} {next = next} {s = a} {u = p} {v = q} g f h) s v fine e =
@@ -222,12 +235,14 @@ no_less : (n : ℕ) → nat_lt n 0 ≡ true → ⊥
 no_less n e = let h = ltb-true n 0 e in omega (arith, h)
 
 -- a symbol that isn't is_nullable goes on by its least kind
-led : (x : Symbol) (o : Option (List Symbol)) → after_front x (start_kind x) ≡ o → leads_down x o ≡ true → (is_nullable x ≡ true) ⊎ ((next : List Symbol) × (after_front x (start_kind x) ≡ Some next) × (all_below (rank x) next ≡ true))
+led : (x : Symbol) (o : Option (List Symbol)) → after_front x (start_kind x) ≡ o → leads_down x o ≡ true
+    → (is_nullable x ≡ true) ⊎ ((next : List Symbol) × (after_front x (start_kind x) ≡ Some next) × (all_below (rank x) next ≡ true))
 led x None g e = inl e
 led x (Some next) g e = elim (or_cases (is_nullable x) (all_below (rank x) next) e) [ inl h ↦ inl h | inr h ↦ inr (next, g, h) ]
 
 -- a stack is completed through its first symbol
-took : (x : Symbol) (k : TokenKind) (next s : List Symbol) (c : List TokenKind) → after_front x k ≡ Some next → accepts (next ++ s) c ≡ true → Completed (x ∷ s)
+took : (x : Symbol) (k : TokenKind) (next s : List Symbol) (c : List TokenKind) → after_front x k ≡ Some next
+    → accepts (next ++ s) c ≡ true → Completed (x ∷ s)
 took x k next s c g e = (k ∷ c, rw g e)
 
 -- symbols of rank below n can be completed on a stack that can
@@ -261,7 +276,8 @@ completes (x ∷ s) fine =
 -- runs
 
 -- a fine stack stays fine after a token, by how its first symbol goes on
-fine_step_at : (x : Symbol) (s t : List Symbol) (k : TokenKind) (o : Option (List Symbol)) (n : Bool) → after_front x k ≡ o → Fine (x ∷ s) → (step s k ≡ Some t → Fine t) → advance o n s (step s k) ≡ Some t → Fine t
+fine_step_at : (x : Symbol) (s t : List Symbol) (k : TokenKind) (o : Option (List Symbol)) (n : Bool)
+    → after_front x k ≡ o → Fine (x ∷ s) → (step s k ≡ Some t → Fine t) → advance o n s (step s k) ≡ Some t → Fine t
 fine_step_at x s t k (Some next) n g fine below h = let e : next ++ s ≡ t = cc in subst Fine e (fine_next x k next s g fine)
 fine_step_at x s t k None true g fine below h = below h
 fine_step_at x s t k None false g fine below h = cc
@@ -272,7 +288,9 @@ fine_step [] t k fine e = cc
 fine_step (x ∷ s) t k fine e = fine_step_at x s t k (after_front x k) (is_nullable x) refl fine (λ h. fine_step s t k fine.1 h) e
 
 -- a fine stack stays fine after tokens, by the first of them
-fine_run_at : (w : List TokenKind) (s t : List Symbol) (k : TokenKind) (o : Option (List Symbol)) → Fine s → step s k ≡ o → ((r : List Symbol) → Fine r → run r w ≡ Some t → Fine t) → bind o (λ r. run r w) ≡ Some t → Fine t
+fine_run_at : (w : List TokenKind) (s t : List Symbol) (k : TokenKind) (o : Option (List Symbol)) → Fine s
+    → step s k ≡ o → ((r : List Symbol) → Fine r → run r w ≡ Some t → Fine t) → bind o (λ r. run r w) ≡ Some t
+    → Fine t
 fine_run_at w s t k None fine g ih h = cc
 fine_run_at w s t k (Some r) fine g ih h = ih r (fine_step s r k fine g) h
 
@@ -282,7 +300,9 @@ fine_run [] s t fine e = let e' : s ≡ t = cc in subst Fine e' fine
 fine_run (k ∷ w) s t fine e = fine_run_at w s t k (step s k) fine refl (λ r f h. fine_run w r t f h) e
 
 -- to accept two lists, after the first step
-accepts_run_at : (u v : List TokenKind) (o : Option (List Symbol)) → ((t : List Symbol) → accepts t (u ++ v) ≡ on_some (run t u) (λ r. accepts r v)) → on_some o (λ t. accepts t (u ++ v)) ≡ on_some (bind o (λ t. run t u)) (λ r. accepts r v)
+accepts_run_at : (u v : List TokenKind) (o : Option (List Symbol))
+    → ((t : List Symbol) → accepts t (u ++ v) ≡ on_some (run t u) (λ r. accepts r v))
+    → on_some o (λ t. accepts t (u ++ v)) ≡ on_some (bind o (λ t. run t u)) (λ r. accepts r v)
 accepts_run_at u v None ih = refl
 accepts_run_at u v (Some t) ih = ih t
 

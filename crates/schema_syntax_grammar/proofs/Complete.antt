@@ -31,7 +31,8 @@ record PathThen (w : List TokenKind) : Type 0 where
   is : is_ident first ≡ true
   then_ : Reads (PathTail ∷ []) rest
   typed : (s : List Symbol) (v : List TokenKind) → Forest s v → Forest (RefTail ∷ s) (rest ++ PathSep ∷ StringLit ∷ v)
-  further : (s : List Symbol) (v : List TokenKind) → Forest s v → Forest (RefStep ∷ s) (first ∷ (rest ++ PathSep ∷ StringLit ∷ v))
+  further : (s : List Symbol) (v : List TokenKind) → Forest s v
+      → Forest (RefStep ∷ s) (first ∷ (rest ++ PathSep ∷ StringLit ∷ v))
 
 -- a record, without its brace
 record BraceThen (w : List TokenKind) : Type 0 where
@@ -114,7 +115,8 @@ at_name : (k : TokenKind) → is_name_kind k ≡ true → after_front Name k ≡
 unfolding after_front
 at_name k h = rw h refl
 
-at_namespace : (k : TokenKind) → is_ident k ≡ true → after_front AfterNamespace k ≡ Some (PathTail ∷ Token LBrace ∷ Decls ∷ Token RBrace ∷ [])
+at_namespace : (k : TokenKind) → is_ident k ≡ true
+    → after_front AfterNamespace k ≡ Some (PathTail ∷ Token LBrace ∷ Decls ∷ Token RBrace ∷ [])
 unfolding after_front
 at_namespace k h = rw h refl
 
@@ -122,11 +124,13 @@ at_entity : (k : TokenKind) → is_ident k ≡ true → after_front AfterEntity 
 unfolding after_front
 at_entity k h = rw h refl
 
-at_action : (k : TokenKind) → is_name_kind k ≡ true → after_front AfterAction k ≡ Some (NamesTail ∷ RefsTail ∷ AppliesTail ∷ Token Semi ∷ [])
+at_action : (k : TokenKind) → is_name_kind k ≡ true
+    → after_front AfterAction k ≡ Some (NamesTail ∷ RefsTail ∷ AppliesTail ∷ Token Semi ∷ [])
 unfolding after_front
 at_action k h = rw h refl
 
-at_type : (k : TokenKind) → is_ident k ≡ true → after_front AfterType k ≡ Some (Token Equals ∷ AnyType ∷ Token Semi ∷ [])
+at_type : (k : TokenKind) → is_ident k ≡ true
+    → after_front AfterType k ≡ Some (Token Equals ∷ AnyType ∷ Token Semi ∷ [])
 unfolding after_front
 at_type k h = rw h refl
 
@@ -154,7 +158,8 @@ at_ref_step : (k : TokenKind) → is_ident k ≡ true → after_front RefStep k 
 unfolding after_front
 at_ref_step k h = rw h refl
 
-at_attrs : (k : TokenKind) → is_name_kind k ≡ true → after_front Attrs k ≡ Some (Mark ∷ Token Colon ∷ AnyType ∷ AttrsTail ∷ [])
+at_attrs : (k : TokenKind) → is_name_kind k ≡ true
+    → after_front Attrs k ≡ Some (Mark ∷ Token Colon ∷ AnyType ∷ AttrsTail ∷ [])
 unfolding after_front
 at_attrs k h = rw h refl
 
@@ -172,7 +177,8 @@ ident_is_name k h = h
 
 -- `Set` in a type, where no `<` comes
 
-path_set : (k : TokenKind) (next : List Symbol) → after_front PathTail k ≡ Some next → after_front SetTail k ≡ Some next
+path_set : (k : TokenKind) (next : List Symbol) → after_front PathTail k ≡ Some next
+    → after_front SetTail k ≡ Some next
 unfolding after_front
 path_set PathSep next g = g
 path_set Less next g = cc
@@ -182,7 +188,8 @@ to_set : (s : List Symbol) (w : List TokenKind) → Forest (PathTail ∷ s) w �
 to_set s w (skip n f) = skip refl f
 to_set s w (take {k = k} {next = next} g f h) = take (path_set k next g) f h
 
-path_type_at : (i : TokenKind) (s : List Symbol) (w : List TokenKind) → is_ident i ≡ true → Forest (PathTail ∷ s) w → Forest (AnyType ∷ s) (i ∷ w)
+path_type_at : (i : TokenKind) (s : List Symbol) (w : List TokenKind) → is_ident i ≡ true → Forest (PathTail ∷ s) w
+    → Forest (AnyType ∷ s) (i ∷ w)
 unfolding after_front
 path_type_at KwSet s w h f = takes {next = SetTail ∷ []} refl (to_set s w f)
 path_type_at KwNamespace s w h f = takes {next = PathTail ∷ []} refl f
@@ -201,25 +208,30 @@ path_type_at _ s w h f = cc
 
 -- an action's name of one token, before what comes after it
 
-ref_name : (k : TokenKind) (s : List Symbol) (v : List TokenKind) → is_name_kind k ≡ true → Forest s v → Forest (Refs ∷ s) (k ∷ v)
+ref_name : (k : TokenKind) (s : List Symbol) (v : List TokenKind) → is_name_kind k ≡ true → Forest s v
+    → Forest (Refs ∷ s) (k ∷ v)
 unfolding after_front
 ref_name k s v h f = elim (name_cases k h) [
   | inl i ↦ takes (at_refs k i) (skip refl f)
   | inr e ↦ rw e (takes {next = []} refl f)
 ]
 
-list_name : (k : TokenKind) (s : List Symbol) (v : List TokenKind) → is_name_kind k ≡ true → Forest (RefListTail ∷ s) v → Forest (RefList ∷ s) (k ∷ v)
+list_name : (k : TokenKind) (s : List Symbol) (v : List TokenKind) → is_name_kind k ≡ true
+    → Forest (RefListTail ∷ s) v → Forest (RefList ∷ s) (k ∷ v)
 unfolding after_front
 list_name k s v h f = elim (name_cases k h) [
   | inl i ↦ takes (at_ref_list k i) (skip refl f)
   | inr e ↦ rw e (takes {next = RefListTail ∷ []} refl f)
 ]
 
-ident : {i : TokenKind} {s : List Symbol} {w : List TokenKind} → is_ident i ≡ true → Forest s w → Forest (Ident ∷ s) (i ∷ w)
+ident : {i : TokenKind} {s : List Symbol} {w : List TokenKind} → is_ident i ≡ true → Forest s w
+    → Forest (Ident ∷ s) (i ∷ w)
 ident {i = i} h f = take (at_ident i h) nothing f
 
 -- one annotation more, where u is its value
-annotation : (k : TokenKind) (x y : Symbol) (a s : List Symbol) (w : List TokenKind) → after_front x At ≡ Some (Word ∷ AnnotationTail ∷ y ∷ a) → is_word_kind k ≡ true → Forest (AnnotationTail ∷ y ∷ (a ++ s)) w → Forest (x ∷ s) (At ∷ k ∷ w)
+annotation : (k : TokenKind) (x y : Symbol) (a s : List Symbol) (w : List TokenKind)
+    → after_front x At ≡ Some (Word ∷ AnnotationTail ∷ y ∷ a) → is_word_kind k ≡ true
+    → Forest (AnnotationTail ∷ y ∷ (a ++ s)) w → Forest (x ∷ s) (At ∷ k ∷ w)
 annotation k x y a s w g h f = takes g (take (at_word k h) nothing f)
 
 built : {p : Part} {w : List TokenKind} → Phrase p w → Built p w

@@ -158,7 +158,8 @@ next_other x k next g =
     subst (λ n. are_other n ≡ true) r.1 r.2
 
 -- a kind in neither of two lists is not in both, joined
-listed_append : (k : TokenKind) (a b : List TokenKind) → listed a k ≡ false → listed b k ≡ false → listed (a ++ b) k ≡ false
+listed_append : (k : TokenKind) (a b : List TokenKind) → listed a k ≡ false → listed b k ≡ false
+    → listed (a ++ b) k ≡ false
 listed_append k [] b e f = f
 listed_append k (j ∷ a) b e f = either (same_kind j k) (listed a k) (listed (a ++ b) k) e (λ h. listed_append k a b h f)
   where
@@ -167,7 +168,8 @@ listed_append k (j ∷ a) b e f = either (same_kind j k) (listed a k) (listed (a
     either false a b e f = f e
 
 -- the first token is not the end
-taken_other : (x : Symbol) (k : TokenKind) (next : List Symbol) → is_other x ≡ true → after_front x k ≡ Some next → same_kind k End ≡ false
+taken_other : (x : Symbol) (k : TokenKind) (next : List Symbol) → is_other x ≡ true → after_front x k ≡ Some next
+    → same_kind k End ≡ false
 taken_other x KwNamespace next e g = refl
 taken_other x KwEntity next e g = refl
 taken_other x KwExternal next e g = refl

@@ -22,12 +22,14 @@ front_viable a b v = (b ++ v.0, rw append_assoc at v.1)
 
 module _ (kinds : List TokenKind) (i : ℕ) (old : List Symbol) (lt : i < length kinds) (e : run (Schema ∷ []) (take i kinds) ≡ Some old) where
   -- a run over one kind more of the list
-  one_further : (o : Option (List Symbol)) → step old (get_or kinds i KwNamespace) ≡ o → run (Schema ∷ []) (take (i + 1) kinds) ≡ bind o (λ t. Some t)
+  one_further : (o : Option (List Symbol)) → step old (get_or kinds i KwNamespace) ≡ o
+      → run (Schema ∷ []) (take (i + 1) kinds) ≡ bind o (λ t. Some t)
   one_further o s =
       rw (add-one, take-suc kinds i KwNamespace lt) (one_more (take i kinds) old (get_or kinds i KwNamespace) e ∙ ap (λ x. bind x (λ t. Some t)) s)
 
   -- the stack after one kind more
-  pub further : (new : List Symbol) → step old (get_or kinds i KwNamespace) ≡ Some new → run (Schema ∷ []) (take (i + 1) kinds) ≡ Some new
+  pub further : (new : List Symbol) → step old (get_or kinds i KwNamespace) ≡ Some new
+      → run (Schema ∷ []) (take (i + 1) kinds) ≡ Some new
   further new s = one_further (Some new) s
 
   -- where the next kind is not taken, one kind more begins no sentence
@@ -47,23 +49,29 @@ pub none_past : (kinds : List TokenKind) (k : TokenKind) (P : Type 0) → slice_
 none_past kinds k P e = let n = slice_get_past kinds (length kinds) (omega arith) in cc
 
 -- the stack after all the kinds
-pub whole : (kinds : List TokenKind) (i : ℕ) (s : List Symbol) → i ≤ length kinds → length kinds ≤ i → run (Schema ∷ []) (take i kinds) ≡ Some s → run (Schema ∷ []) kinds ≡ Some s
+pub whole : (kinds : List TokenKind) (i : ℕ) (s : List Symbol) → i ≤ length kinds → length kinds ≤ i
+    → run (Schema ∷ []) (take i kinds) ≡ Some s → run (Schema ∷ []) kinds ≡ Some s
 whole kinds i s le ge e =
     let n : i ≡ length kinds = omega arith in
     let t : take i kinds ≡ kinds = ap (λ j. take j kinds) n ∙ take-length kinds in
     subst (λ w. run (Schema ∷ []) w ≡ Some s) t e
 
 -- where the end may come after all the kinds, they are a sentence
-pub whole_sentence : (kinds : List TokenKind) (i : ℕ) (s : List Symbol) → i ≡ length kinds → run (Schema ∷ []) (take i kinds) ≡ Some s → all_nullable s ≡ true → Sentence kinds
+pub whole_sentence : (kinds : List TokenKind) (i : ℕ) (s : List Symbol) → i ≡ length kinds
+    → run (Schema ∷ []) (take i kinds) ≡ Some s → all_nullable s ≡ true → Sentence kinds
 whole_sentence kinds i s n e a = (end_iff kinds s (whole kinds i s (omega arith) (omega arith) e)).0 a
 
 -- what the stack allows after all the kinds
-pub expected : (kinds list : List TokenKind) (i : ℕ) (s : List Symbol) → i ≤ length kinds → length kinds ≤ i → run (Schema ∷ []) (take i kinds) ≡ Some s → list ≡ filter (may s) ALL_KINDS → Viable kinds × IsExpected ALL_KINDS kinds list
+pub expected : (kinds list : List TokenKind) (i : ℕ) (s : List Symbol) → i ≤ length kinds → length kinds ≤ i
+    → run (Schema ∷ []) (take i kinds) ≡ Some s → list ≡ filter (may s) ALL_KINDS
+    → Viable kinds × IsExpected ALL_KINDS kinds list
 expected kinds list i s le ge e l =
     let r = whole kinds i s le ge e in (stack_viable kinds s r, (may s, may_iff kinds s r, l))
 
 -- where a kind is not taken or the end may not come, the kinds are no sentence
-no_whole : (kinds : List TokenKind) (i : ℕ) (s : List Symbol) → i ≤ length kinds → run (Schema ∷ []) (take i kinds) ≡ Some s → ((k : TokenKind) → slice_get kinds i ≡ Some k → step s k ≡ None) → (i ≡ length kinds → all_nullable s ≡ false) → Sentence kinds → ⊥
+no_whole : (kinds : List TokenKind) (i : ℕ) (s : List Symbol) → i ≤ length kinds
+    → run (Schema ∷ []) (take i kinds) ≡ Some s → ((k : TokenKind) → slice_get kinds i ≡ Some k → step s k ≡ None)
+    → (i ≡ length kinds → all_nullable s ≡ false) → Sentence kinds → ⊥
 no_whole kinds i s le e stops ends h =
     elim (cases_lt i (length kinds)) [
       | inl lt ↦ cut_short kinds i s lt e stops (sentence_viable kinds h)
@@ -75,7 +83,9 @@ no_whole kinds i s le e stops ends h =
     ]
 
 -- what the longest front says of the fault
-pub fault : (kinds list : List TokenKind) (i : ℕ) (s : List Symbol) → i ≤ length kinds → run (Schema ∷ []) (take i kinds) ≡ Some s → ((k : TokenKind) → slice_get kinds i ≡ Some k → step s k ≡ None) → (i ≡ length kinds → all_nullable s ≡ false) → list ≡ filter (may s) ALL_KINDS → IsFault ALL_KINDS kinds i list
+pub fault : (kinds list : List TokenKind) (i : ℕ) (s : List Symbol) → i ≤ length kinds
+    → run (Schema ∷ []) (take i kinds) ≡ Some s → ((k : TokenKind) → slice_get kinds i ≡ Some k → step s k ≡ None)
+    → (i ≡ length kinds → all_nullable s ≡ false) → list ≡ filter (may s) ALL_KINDS → IsFault ALL_KINDS kinds i list
 fault kinds list i s le e stops ends l = record {
   within = le;
   viable = stack_viable (take i kinds) s e;

@@ -25,12 +25,14 @@ same_tests false true f g = g refl
 same_tests false false f g = refl
 
 -- two filters by equal tests are equal
-same_filters : (p q : TokenKind → Bool) (all : List TokenKind) → ((k : TokenKind) → p k ≡ q k) → filter p all ≡ filter q all
+same_filters : (p q : TokenKind → Bool) (all : List TokenKind) → ((k : TokenKind) → p k ≡ q k)
+    → filter p all ≡ filter q all
 same_filters p q [] e = refl
 same_filters p q (k ∷ all) e = rw (e k, same_filters p q all e) refl
 
 -- kinds have one list of expected kinds
-pub one_list : (kinds first second : List TokenKind) → IsExpected ALL_KINDS kinds first → IsExpected ALL_KINDS kinds second → first ≡ second
+pub one_list : (kinds first second : List TokenKind) → IsExpected ALL_KINDS kinds first
+    → IsExpected ALL_KINDS kinds second → first ≡ second
 one_list kinds first second (p, f, e) (q, g, h) =
     e ∙ (same_filters p q ALL_KINDS (λ k. same_tests (p k) (q k) (λ t. (g k).1 ((f k).0 t)) (λ t. (f k).1 ((g k).0 t))) ∙ sym h)
 
@@ -52,7 +54,8 @@ listed_middle [] b k e = or_false (same_kind k End) (listed b End) e
 listed_middle (j ∷ a) b k e = listed_middle a b k (false_right (same_kind j End) (listed (a ++ k ∷ b) End) e)
 
 -- a kind that is not the end may follow where a sentence begins so
-other_follows : (kinds : List TokenKind) (k : TokenKind) → same_kind k End ≡ false → Viable (kinds ++ k ∷ []) → MayFollow kinds k
+other_follows : (kinds : List TokenKind) (k : TokenKind) → same_kind k End ≡ false → Viable (kinds ++ k ∷ [])
+    → MayFollow kinds k
 other_follows kinds End e v = cc
 other_follows kinds k e v = v
 
@@ -63,7 +66,8 @@ some_follows kinds (k ∷ more) s =
     (k, other_follows kinds k (listed_middle kinds more k (sentence_other (kinds ++ k ∷ more) s)) (more, subst Sentence (sym (append_assoc kinds (k ∷ []) more)) s))
 
 -- a list with something kept is not empty
-kept_first : (p : TokenKind → Bool) (j : TokenKind) (rest : List TokenKind) (b : Bool) → b ≡ true → (if b then j ∷ rest else rest) ≡ [] → ⊥
+kept_first : (p : TokenKind → Bool) (j : TokenKind) (rest : List TokenKind) (b : Bool) → b ≡ true
+    → (if b then j ∷ rest else rest) ≡ [] → ⊥
 kept_first p j rest true e h = cc
 kept_first p j rest false e h = cc
 
@@ -73,7 +77,8 @@ none_left j rest true h = cc
 none_left j rest false h = h
 
 -- where the test passes for a listed kind, the filter keeps one
-some_kept : (p : TokenKind → Bool) (all : List TokenKind) (k : TokenKind) → listed all k ≡ true → p k ≡ true → filter p all ≢ []
+some_kept : (p : TokenKind → Bool) (all : List TokenKind) (k : TokenKind) → listed all k ≡ true → p k ≡ true
+    → filter p all ≢ []
 some_kept p [] k l t h = cc
 some_kept p (j ∷ all) k l t h =
     elim (or_cases (same_kind j k) (listed all k) l) [
@@ -90,7 +95,8 @@ not_empty kinds list v (p, f, e) h =
 -- one fault
 
 -- of two faults none is before the other
-no_further : (kinds first second : List TokenKind) (p q : ℕ) → IsFault ALL_KINDS kinds p first → IsFault ALL_KINDS kinds q second → p < q → ⊥
+no_further : (kinds first second : List TokenKind) (p q : ℕ) → IsFault ALL_KINDS kinds p first
+    → IsFault ALL_KINDS kinds q second → p < q → ⊥
 no_further kinds first second p q f g lt =
     let front = take-take (p + 1) q kinds (omega arith) in
     let v = subst Viable (sym (take-append-drop (p + 1) (take q kinds))) g.viable in
@@ -98,7 +104,8 @@ no_further kinds first second p q f g lt =
     f.stops (omega arith) (subst Viable front (front_viable (take (p + 1) (take q kinds)) (drop (p + 1) (take q kinds)) v))
 
 -- so they have one place
-one_place : (kinds first second : List TokenKind) (p q : ℕ) → IsFault ALL_KINDS kinds p first → IsFault ALL_KINDS kinds q second → p ≡ q
+one_place : (kinds first second : List TokenKind) (p q : ℕ) → IsFault ALL_KINDS kinds p first
+    → IsFault ALL_KINDS kinds q second → p ≡ q
 one_place kinds first second p q f g =
     elim (cases_lt p q) [
       | inl lt ↦ absurd (no_further kinds first second p q f g lt)
@@ -106,13 +113,15 @@ one_place kinds first second p q f g =
     ]
 
 -- and one list
-pub same_fault : (kinds first second : List TokenKind) (p q : ℕ) → IsFault ALL_KINDS kinds p first → IsFault ALL_KINDS kinds q second → (p ≡ q) × (first ≡ second)
+pub same_fault : (kinds first second : List TokenKind) (p q : ℕ) → IsFault ALL_KINDS kinds p first
+    → IsFault ALL_KINDS kinds q second → (p ≡ q) × (first ≡ second)
 same_fault kinds first second p q f g =
     let e = one_place kinds first second p q f g in
     (e, one_list (take q kinds) first second (subst (λ i. IsExpected ALL_KINDS (take i kinds) first) e f.expected) g.expected)
 
 -- a fault at the end is one of kinds that begin a sentence
-pub end_viable : (kinds list : List TokenKind) (place : ℕ) → IsFault ALL_KINDS kinds place list → length kinds ≤ place → Viable kinds
+pub end_viable : (kinds list : List TokenKind) (place : ℕ) → IsFault ALL_KINDS kinds place list → length kinds ≤ place
+    → Viable kinds
 end_viable kinds list place f le =
     let within = f.within in
     let e : place ≡ length kinds = omega arith in

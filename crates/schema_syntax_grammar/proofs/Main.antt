@@ -31,7 +31,9 @@ no_stack w e v =
     cc
 
 -- a run over two lists, after its first step
-run_append_at : (u v : List TokenKind) (o : Option (List Symbol)) → ((t : List Symbol) → run t (u ++ v) ≡ bind (run t u) (λ r. run r v)) → bind o (λ t. run t (u ++ v)) ≡ bind (bind o (λ t. run t u)) (λ r. run r v)
+run_append_at : (u v : List TokenKind) (o : Option (List Symbol))
+    → ((t : List Symbol) → run t (u ++ v) ≡ bind (run t u) (λ r. run r v))
+    → bind o (λ t. run t (u ++ v)) ≡ bind (bind o (λ t. run t u)) (λ r. run r v)
 run_append_at u v None ih = refl
 run_append_at u v (Some t) ih = ih t
 
@@ -60,20 +62,24 @@ module _ (w : List TokenKind) (stack : List Symbol) (e : run (Schema ∷ []) w �
       (c.0, accepted_sentence (w ++ c.0) (on_stack c.0 ∙ c.1))
 
 -- a run over one kind more
-pub one_more : (w : List TokenKind) (stack : List Symbol) (k : TokenKind) → run (Schema ∷ []) w ≡ Some stack → run (Schema ∷ []) (w ++ k ∷ []) ≡ bind (step stack k) (λ t. Some t)
+pub one_more : (w : List TokenKind) (stack : List Symbol) (k : TokenKind) → run (Schema ∷ []) w ≡ Some stack
+    → run (Schema ∷ []) (w ++ k ∷ []) ≡ bind (step stack k) (λ t. Some t)
 one_more w stack k e = run_append w (k ∷ []) (Schema ∷ []) ∙ rw e refl
 
 -- one kind more begins a sentence exactly where there is a stack after it
-goes_on : (w : List TokenKind) (k : TokenKind) (o : Option (List Symbol)) → run (Schema ∷ []) (w ++ k ∷ []) ≡ bind o (λ t. Some t) → IsTrue (is_some o) ↔ Viable (w ++ k ∷ [])
+goes_on : (w : List TokenKind) (k : TokenKind) (o : Option (List Symbol))
+    → run (Schema ∷ []) (w ++ k ∷ []) ≡ bind o (λ t. Some t) → IsTrue (is_some o) ↔ Viable (w ++ k ∷ [])
 goes_on w k None r = ((λ t. cc), (λ v. absurd (no_stack (w ++ k ∷ []) r v)))
 goes_on w k (Some t) r = ((λ _. stack_viable (w ++ k ∷ []) t r), (λ v. refl))
 
 -- the machine takes a kind exactly where a sentence begins so
-pub kind_iff : (w : List TokenKind) (stack : List Symbol) → run (Schema ∷ []) w ≡ Some stack → (k : TokenKind) → IsTrue (is_some (step stack k)) ↔ Viable (w ++ k ∷ [])
+pub kind_iff : (w : List TokenKind) (stack : List Symbol) → run (Schema ∷ []) w ≡ Some stack → (k : TokenKind)
+    → IsTrue (is_some (step stack k)) ↔ Viable (w ++ k ∷ [])
 kind_iff w stack e k = goes_on w k (step stack k) (one_more w stack k e)
 
 -- the test that the code makes is that the kind may follow
-pub may_iff : (w : List TokenKind) (stack : List Symbol) → run (Schema ∷ []) w ≡ Some stack → (k : TokenKind) → IsTrue (may stack k) ↔ MayFollow w k
+pub may_iff : (w : List TokenKind) (stack : List Symbol) → run (Schema ∷ []) w ≡ Some stack → (k : TokenKind)
+    → IsTrue (may stack k) ↔ MayFollow w k
 may_iff w stack e End = end_iff w stack e
 may_iff w stack e k = kind_iff w stack e k
 

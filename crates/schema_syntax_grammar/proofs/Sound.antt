@@ -85,11 +85,14 @@ abbrev GrowsAll : Symbol → List Row → Type 0
 GrowsAll x [] = Unit {0}
 GrowsAll x (r ∷ rs) = Grows x r × GrowsAll x rs
 
-grown_at : (x : Symbol) (r : Row) (rest : Option (List Symbol)) (k : TokenKind) (next : List Symbol) (u : Kinds) (b : Bool) → is_at r.front k ≡ b → Grows x r → (rest ≡ Some next → Means x (k ∷ u)) → MeansAll next u → (if b then Some r.next else rest) ≡ Some next → Means x (k ∷ u)
+grown_at : (x : Symbol) (r : Row) (rest : Option (List Symbol)) (k : TokenKind) (next : List Symbol) (u : Kinds) (b : Bool)
+    → is_at r.front k ≡ b → Grows x r → (rest ≡ Some next → Means x (k ∷ u)) → MeansAll next u
+    → (if b then Some r.next else rest) ≡ Some next → Means x (k ∷ u)
 grown_at x r rest k next u true h g more m e = let n : next ≡ r.next = cc in g k u h (subst (λ z. MeansAll z u) n m)
 grown_at x r rest k next u false h g more m e = more e
 
-grown : (x : Symbol) (rs : List Row) (k : TokenKind) (next : List Symbol) (u : Kinds) → GrowsAll x rs → find rs k ≡ Some next → MeansAll next u → Means x (k ∷ u)
+grown : (x : Symbol) (rs : List Row) (k : TokenKind) (next : List Symbol) (u : Kinds) → GrowsAll x rs
+    → find rs k ≡ Some next → MeansAll next u → Means x (k ∷ u)
 grown x [] k next u g e m = cc
 grown x (r ∷ rs) k next u g e m = grown_at x r (find rs k) k next u (is_at r.front k) refl g.0 (λ h. grown x rs k next u g.1 h m) m e
 
@@ -106,12 +109,14 @@ last x u (a, b, e, m, n) = let whole : a ≡ u = sym (rw (e, n, append_nil a) re
 -- the symbols that are read in turn, as the productions want them
 
 -- the last symbol and the marks around it
-then_token : (x : Symbol) (j : TokenKind) (u : Kinds) → MeansAll (x ∷ Token j ∷ []) u → (a : Kinds) × (a ++ j ∷ [] ≡ u) × Means x a
+then_token : (x : Symbol) (j : TokenKind) (u : Kinds) → MeansAll (x ∷ Token j ∷ []) u
+    → (a : Kinds) × (a ++ j ∷ [] ≡ u) × Means x a
 then_token x j u (a, b, e, m, (c, d, e2, t, n)) = (a, rw (e, e2, t, n) refl, m)
 
 -- annotations
 
-value_ann : (k : TokenKind) (t : Kinds) → is_word_kind k ≡ true → Value t → (a : Kinds) → Phrase anns a → Phrase anns ((At ∷ k ∷ t) ++ a)
+value_ann : (k : TokenKind) (t : Kinds) → is_word_kind k ≡ true → Value t → (a : Kinds) → Phrase anns a
+    → Phrase anns ((At ∷ k ∷ t) ++ a)
 value_ann k t h f a p = f k a h p
 
 -- one annotation more
@@ -189,33 +194,40 @@ bare_item : {w : Kinds} → Phrase bare_decl w → Phrase item w
 bare_item p = decl_item (annotated no_ann p)
 
 -- a declaration, by its first word, and what comes after it
-schema_decl : (j : TokenKind) (x : Symbol) (u : Kinds) → ((a : Kinds) → Means x a → Phrase bare_decl (j ∷ a)) → MeansAll (x ∷ Schema ∷ []) u → Phrase schema (j ∷ u)
+schema_decl : (j : TokenKind) (x : Symbol) (u : Kinds) → ((a : Kinds) → Means x a → Phrase bare_decl (j ∷ a))
+    → MeansAll (x ∷ Schema ∷ []) u → Phrase schema (j ∷ u)
 schema_decl j x u f (a, b, e, m, n) = rw e (more_items (bare_item (f a m)) (last Schema b n))
 
-item_decl : (j : TokenKind) (x : Symbol) (u : Kinds) → ((a : Kinds) → Means x a → Phrase bare_decl (j ∷ a)) → MeansAll (x ∷ []) u → Phrase item (j ∷ u)
+item_decl : (j : TokenKind) (x : Symbol) (u : Kinds) → ((a : Kinds) → Means x a → Phrase bare_decl (j ∷ a))
+    → MeansAll (x ∷ []) u → Phrase item (j ∷ u)
 item_decl j x u f m = bare_item (f u (last x u m))
 
-decls_decl : (j : TokenKind) (x : Symbol) (u : Kinds) → ((a : Kinds) → Means x a → Phrase bare_decl (j ∷ a)) → MeansAll (x ∷ Decls ∷ []) u → Phrase decls (j ∷ u)
+decls_decl : (j : TokenKind) (x : Symbol) (u : Kinds) → ((a : Kinds) → Means x a → Phrase bare_decl (j ∷ a))
+    → MeansAll (x ∷ Decls ∷ []) u → Phrase decls (j ∷ u)
 decls_decl j x u f (a, b, e, m, n) = rw e (more_decls (annotated no_ann (f a m)) (last Decls b n))
 
-decl_decl : (j : TokenKind) (x : Symbol) (u : Kinds) → ((a : Kinds) → Means x a → Phrase bare_decl (j ∷ a)) → MeansAll (x ∷ []) u → Phrase decl (j ∷ u)
+decl_decl : (j : TokenKind) (x : Symbol) (u : Kinds) → ((a : Kinds) → Means x a → Phrase bare_decl (j ∷ a))
+    → MeansAll (x ∷ []) u → Phrase decl (j ∷ u)
 decl_decl j x u f m = annotated no_ann (f u (last x u m))
 
 schema_namespace : (u : Kinds) → MeansAll (AfterNamespace ∷ Schema ∷ []) u → Phrase schema (KwNamespace ∷ u)
 schema_namespace u (a, b, e, m, n) = rw e (more_items m (last Schema b n))
 
-namespace_row : (k : TokenKind) (u : Kinds) → is_ident k ≡ true → MeansAll (PathTail ∷ Token LBrace ∷ Decls ∷ Token RBrace ∷ []) u → Phrase item (KwNamespace ∷ k ∷ u)
+namespace_row : (k : TokenKind) (u : Kinds) → is_ident k ≡ true
+    → MeansAll (PathTail ∷ Token LBrace ∷ Decls ∷ Token RBrace ∷ []) u → Phrase item (KwNamespace ∷ k ∷ u)
 namespace_row k u h (a, u1, e1, p, (b, u2, e2, t, m)) =
     let d = then_token Decls RBrace u2 m in
     let whole : KwNamespace ∷ ((k ∷ a) ++ LBrace ∷ (d.0 ++ RBrace ∷ [])) ≡ KwNamespace ∷ k ∷ u = rw (e1, e2, t) (ap (λ z. KwNamespace ∷ k ∷ (a ++ LBrace ∷ z)) d.1) in
     subst (Phrase item) whole (namespace_item no_ann (p k h) d.2)
 
-entity_row : (k : TokenKind) (u : Kinds) → is_ident k ≡ true → MeansAll (IdentsTail ∷ EntityTail ∷ []) u → Phrase bare_decl (KwEntity ∷ k ∷ u)
+entity_row : (k : TokenKind) (u : Kinds) → is_ident k ≡ true → MeansAll (IdentsTail ∷ EntityTail ∷ []) u
+    → Phrase bare_decl (KwEntity ∷ k ∷ u)
 entity_row k u h (a, b, e, p, m) = let tail = last EntityTail b m in rw e (tail (k ∷ a) (p k h))
 
 -- an entity's parents, shape and tags, and its end
 
-parts : (p s t : Kinds) → Phrase parents p → Phrase shape s → Phrase tags t → Means EntityTail (p ++ (s ++ (t ++ Semi ∷ [])))
+parts : (p s t : Kinds) → Phrase parents p → Phrase shape s → Phrase tags t
+    → Means EntityTail (p ++ (s ++ (t ++ Semi ∷ [])))
 parts p s t q r u = λ a n. entity_decl n q r u
 
 in_row : (u : Kinds) → MeansAll (Types ∷ ShapeTail ∷ TagsTail ∷ Token Semi ∷ []) u → Means EntityTail (KwIn ∷ u)
@@ -230,7 +242,8 @@ equals_row u (a, u1, e1, r, m) =
     let whole : Equals ∷ (a ++ (t.0 ++ Semi ∷ [])) ≡ Equals ∷ u = rw e1 (ap (λ z. Equals ∷ (a ++ z)) t.1) in
     subst (Means EntityTail) whole (parts [] (Equals ∷ a) t.0 no_parents (equals_shape r) t.2)
 
-brace_row : (u : Kinds) → MeansAll (Attrs ∷ Token RBrace ∷ TagsTail ∷ Token Semi ∷ []) u → Means EntityTail (LBrace ∷ u)
+brace_row : (u : Kinds) → MeansAll (Attrs ∷ Token RBrace ∷ TagsTail ∷ Token Semi ∷ []) u
+    → Means EntityTail (LBrace ∷ u)
 brace_row u (a, u1, e1, r, (b, u2, e2, c, m)) =
     let t = then_token TagsTail Semi u2 m in
     let whole : (LBrace ∷ (a ++ RBrace ∷ [])) ++ (t.0 ++ Semi ∷ []) ≡ LBrace ∷ u = rw (e1, e2, c) (simp append_assoc (ap (λ z. LBrace ∷ (a ++ RBrace ∷ z)) t.1)) in
@@ -242,19 +255,22 @@ tags_row u m =
     let whole : KwTags ∷ (t.0 ++ Semi ∷ []) ≡ KwTags ∷ u = ap (λ z. KwTags ∷ z) t.1 in
     subst (Means EntityTail) whole (parts [] [] (KwTags ∷ t.0) no_parents no_shape (some_tags t.2))
 
-enum_row : (u : Kinds) → MeansAll (Token LBracket ∷ Strings ∷ Token RBracket ∷ Token Semi ∷ []) u → Means EntityTail (KwEnum ∷ u)
+enum_row : (u : Kinds) → MeansAll (Token LBracket ∷ Strings ∷ Token RBracket ∷ Token Semi ∷ []) u
+    → Means EntityTail (KwEnum ∷ u)
 enum_row u (a, u1, e1, c, (b, u2, e2, r, m)) n p =
     let t = then_token (Token RBracket) Semi u2 m in
     let whole : KwEnum ∷ LBracket ∷ (b ++ RBracket ∷ Semi ∷ []) ≡ KwEnum ∷ u = rw (e1, c, e2) (ap (λ z. KwEnum ∷ LBracket ∷ (b ++ z)) (ap (λ z. z ++ Semi ∷ []) (sym t.2) ∙ t.1)) in
     subst (λ w. Phrase bare_decl (KwEntity ∷ (n ++ w))) whole (enum_decl p r)
 
-external_entity_row : (u : Kinds) → MeansAll (Ident ∷ IdentsTail ∷ ParentsTail ∷ Token Semi ∷ []) u → Phrase bare_decl (KwExternal ∷ KwEntity ∷ u)
+external_entity_row : (u : Kinds) → MeansAll (Ident ∷ IdentsTail ∷ ParentsTail ∷ Token Semi ∷ []) u
+    → Phrase bare_decl (KwExternal ∷ KwEntity ∷ u)
 external_entity_row u (i, u1, e1, (k, ei, h), (a, u2, e2, f, m)) =
     let p = then_token ParentsTail Semi u2 m in
     let whole : KwExternal ∷ KwEntity ∷ ((k ∷ a) ++ (p.0 ++ Semi ∷ [])) ≡ KwExternal ∷ KwEntity ∷ u = rw (e1, ei, e2) (ap (λ z. KwExternal ∷ KwEntity ∷ k ∷ (a ++ z)) p.1) in
     subst (Phrase bare_decl) whole (external_entity (f k h) p.2)
 
-external_action_row : (u : Kinds) → MeansAll (Name ∷ NamesTail ∷ RefsTail ∷ Token Semi ∷ []) u → Phrase bare_decl (KwExternal ∷ KwAction ∷ u)
+external_action_row : (u : Kinds) → MeansAll (Name ∷ NamesTail ∷ RefsTail ∷ Token Semi ∷ []) u
+    → Phrase bare_decl (KwExternal ∷ KwAction ∷ u)
 external_action_row u (n, u1, e1, i, (a, u2, e2, f, m)) =
     let p = then_token RefsTail Semi u2 m in
     let whole : KwExternal ∷ KwAction ∷ ((n ++ a) ++ (p.0 ++ Semi ∷ [])) ≡ KwExternal ∷ KwAction ∷ u = rw (e1, e2) (simp append_assoc (ap (λ z. KwExternal ∷ KwAction ∷ (n ++ (a ++ z))) p.1)) in
@@ -264,13 +280,15 @@ one_token : (k : TokenKind) → is_name_kind k ≡ true → Phrase name (k ∷ [
 one_token StringLit h = string_name
 one_token k h = ident_name h
 
-action_row : (k : TokenKind) (u : Kinds) → is_name_kind k ≡ true → MeansAll (NamesTail ∷ RefsTail ∷ AppliesTail ∷ Token Semi ∷ []) u → Phrase bare_decl (KwAction ∷ k ∷ u)
+action_row : (k : TokenKind) (u : Kinds) → is_name_kind k ≡ true
+    → MeansAll (NamesTail ∷ RefsTail ∷ AppliesTail ∷ Token Semi ∷ []) u → Phrase bare_decl (KwAction ∷ k ∷ u)
 action_row k u h (a, u1, e1, f, (b, u2, e2, r, m)) =
     let p = then_token AppliesTail Semi u2 m in
     let whole : KwAction ∷ ((k ∷ a) ++ (b ++ (p.0 ++ Semi ∷ []))) ≡ KwAction ∷ k ∷ u = rw (e1, e2) (ap (λ z. KwAction ∷ k ∷ (a ++ (b ++ z))) p.1) in
     subst (Phrase bare_decl) whole (action_decl (f (k ∷ []) (one_token k h)) r p.2)
 
-type_row : (k : TokenKind) (u : Kinds) → is_ident k ≡ true → MeansAll (Token Equals ∷ AnyType ∷ Token Semi ∷ []) u → Phrase bare_decl (KwType ∷ k ∷ u)
+type_row : (k : TokenKind) (u : Kinds) → is_ident k ≡ true → MeansAll (Token Equals ∷ AnyType ∷ Token Semi ∷ []) u
+    → Phrase bare_decl (KwType ∷ k ∷ u)
 type_row k u h (a, u1, e1, c, m) =
     let t = then_token AnyType Semi u1 m in
     let whole : KwType ∷ k ∷ Equals ∷ (t.0 ++ Semi ∷ []) ≡ KwType ∷ k ∷ u = rw (e1, c) (ap (λ z. KwType ∷ k ∷ Equals ∷ z) t.1) in
@@ -278,34 +296,41 @@ type_row k u h (a, u1, e1, c, m) =
 
 -- the parts of declarations
 
-braced : (P : Kinds → Type 0) (u : Kinds) → ((a : Kinds) → Phrase rec a → P a) → MeansAll (Attrs ∷ Token RBrace ∷ []) u → P (LBrace ∷ u)
+braced : (P : Kinds → Type 0) (u : Kinds) → ((a : Kinds) → Phrase rec a → P a)
+    → MeansAll (Attrs ∷ Token RBrace ∷ []) u → P (LBrace ∷ u)
 braced P u f m = let t = then_token Attrs RBrace u m in subst (λ z. P (LBrace ∷ z)) t.1 (f (LBrace ∷ (t.0 ++ RBrace ∷ [])) (braces t.2))
 
-more_ident : (i : TokenKind) (u : Kinds) → MeansAll (Ident ∷ IdentsTail ∷ []) u → is_ident i ≡ true → Phrase idents (i ∷ Comma ∷ u)
+more_ident : (i : TokenKind) (u : Kinds) → MeansAll (Ident ∷ IdentsTail ∷ []) u → is_ident i ≡ true
+    → Phrase idents (i ∷ Comma ∷ u)
 more_ident i u (a, b, e, (k, ea, h), m) g = let p = last IdentsTail b m in rw (e, ea) (more_idents g (p k h))
 
-more_name : (u : Kinds) → MeansAll (Name ∷ NamesTail ∷ []) u → (a : Kinds) → Phrase name a → Phrase names (a ++ Comma ∷ u)
+more_name : (u : Kinds) → MeansAll (Name ∷ NamesTail ∷ []) u → (a : Kinds) → Phrase name a
+    → Phrase names (a ++ Comma ∷ u)
 more_name u (b, c, e, n, m) a p = let f = last NamesTail c m in rw e (more_names p (f b n))
 
-more_step : (i : TokenKind) (u : Kinds) → MeansAll (Ident ∷ PathTail ∷ []) u → is_ident i ≡ true → Phrase path (i ∷ PathSep ∷ u)
+more_step : (i : TokenKind) (u : Kinds) → MeansAll (Ident ∷ PathTail ∷ []) u → is_ident i ≡ true
+    → Phrase path (i ∷ PathSep ∷ u)
 more_step i u (a, b, e, (k, ea, h), m) g = let p = last PathTail b m in rw (e, ea) (more_steps g (p k h))
 
 applies_row : (u : Kinds) → MeansAll (Token LBrace ∷ Apps ∷ Token RBrace ∷ []) u → Phrase applies (KwAppliesTo ∷ u)
 applies_row u (a, b, e, c, m) = let t = then_token Apps RBrace b m in rw (e, c) (subst (λ z. Phrase applies (KwAppliesTo ∷ LBrace ∷ z)) t.1 (some_applies t.2))
 
-app_row : (j : TokenKind) (x : Symbol) (u : Kinds) → ((a : Kinds) → Means x a → Phrase app (j ∷ Colon ∷ a)) → MeansAll (Token Colon ∷ x ∷ AppsTail ∷ []) u → Phrase apps (j ∷ u)
+app_row : (j : TokenKind) (x : Symbol) (u : Kinds) → ((a : Kinds) → Means x a → Phrase app (j ∷ Colon ∷ a))
+    → MeansAll (Token Colon ∷ x ∷ AppsTail ∷ []) u → Phrase apps (j ∷ u)
 app_row j x u f (a, b, e, c, (d, r, e2, p, m)) = let more = last AppsTail r m in rw (e, c, e2) (more (j ∷ Colon ∷ d) (f d p))
 
 types_bracket : (u : Kinds) → MeansAll (Paths ∷ Token RBracket ∷ []) u → Phrase types (LBracket ∷ u)
 types_bracket u m = let t = then_token Paths RBracket u m in subst (λ z. Phrase types (LBracket ∷ z)) t.1 (listed_types t.2)
 
-first_path : (k : TokenKind) (u : Kinds) → is_ident k ≡ true → MeansAll (PathTail ∷ PathsTail ∷ []) u → Phrase paths (k ∷ u)
+first_path : (k : TokenKind) (u : Kinds) → is_ident k ≡ true → MeansAll (PathTail ∷ PathsTail ∷ []) u
+    → Phrase paths (k ∷ u)
 first_path k u h (a, b, e, p, m) = let q = last PathsTail b m in rw e (q (k ∷ a) (p k h))
 
 refs_bracket : (u : Kinds) → MeansAll (RefList ∷ Token RBracket ∷ []) u → Phrase refs (LBracket ∷ u)
 refs_bracket u m = let t = then_token RefList RBracket u m in subst (λ z. Phrase refs (LBracket ∷ z)) t.1 (listed_refs t.2)
 
-first_ref : (k : TokenKind) (u : Kinds) → is_ident k ≡ true → MeansAll (RefTail ∷ RefListTail ∷ []) u → Phrase ref_list (k ∷ u)
+first_ref : (k : TokenKind) (u : Kinds) → is_ident k ≡ true → MeansAll (RefTail ∷ RefListTail ∷ []) u
+    → Phrase ref_list (k ∷ u)
 first_ref k u h (a, b, e, p, m) = let q = last RefListTail b m in rw e (q (k ∷ a) (p k h))
 
 string_ref : (u : Kinds) → MeansAll (RefListTail ∷ []) u → Phrase ref_list (StringLit ∷ u)
@@ -314,7 +339,8 @@ string_ref u m = let q = last RefListTail u m in q (StringLit ∷ []) (plain_ref
 path_ref : (k : TokenKind) (u : Kinds) → is_ident k ≡ true → Means RefStep u → Phrase ref (k ∷ PathSep ∷ u)
 path_ref k u h f = let t = f k h in subst (Phrase ref) t.whole (typed_ref t.is)
 
-step_on : (k : TokenKind) (u : Kinds) → is_ident k ≡ true → MeansAll (Token PathSep ∷ RefStep ∷ []) u → Means RefStep (k ∷ u)
+step_on : (k : TokenKind) (u : Kinds) → is_ident k ≡ true → MeansAll (Token PathSep ∷ RefStep ∷ []) u
+    → Means RefStep (k ∷ u)
 step_on k u h (a, b, e, c, m) i g =
     let t = last RefStep b m k h in
     record { front = i ∷ PathSep ∷ t.front; is = more_steps g t.is; whole = rw (e, c) (ap (λ z. i ∷ PathSep ∷ z) t.whole) }
@@ -325,13 +351,16 @@ step_string u n i g = record { front = i ∷ []; is = one_step g; whole = rw n r
 set_angle : (u : Kinds) → MeansAll (AnyType ∷ Token Greater ∷ []) u → Phrase ty (KwSet ∷ Less ∷ u)
 set_angle u m = let t = then_token AnyType Greater u m in subst (λ z. Phrase ty (KwSet ∷ Less ∷ z)) t.1 (set_type t.2)
 
-bare_attr : (k : TokenKind) (a b : Kinds) → is_name_kind k ≡ true → Phrase mark a → Phrase ty b → Phrase attr (k ∷ (a ++ Colon ∷ b))
+bare_attr : (k : TokenKind) (a b : Kinds) → is_name_kind k ≡ true → Phrase mark a → Phrase ty b
+    → Phrase attr (k ∷ (a ++ Colon ∷ b))
 bare_attr k a b h p t = one_attr no_ann (one_token k h) p t
 
-attr_row : (k : TokenKind) (u : Kinds) → is_name_kind k ≡ true → MeansAll (Mark ∷ Token Colon ∷ AnyType ∷ []) u → Phrase attr (k ∷ u)
+attr_row : (k : TokenKind) (u : Kinds) → is_name_kind k ≡ true → MeansAll (Mark ∷ Token Colon ∷ AnyType ∷ []) u
+    → Phrase attr (k ∷ u)
 attr_row k u h (a, u1, e1, p, (b, u2, e2, c, m)) = rw (e1, e2, c) (bare_attr k a u2 h p (last AnyType u2 m))
 
-first_attr : (k : TokenKind) (u : Kinds) → is_name_kind k ≡ true → MeansAll (Mark ∷ Token Colon ∷ AnyType ∷ AttrsTail ∷ []) u → Phrase attrs (k ∷ u)
+first_attr : (k : TokenKind) (u : Kinds) → is_name_kind k ≡ true
+    → MeansAll (Mark ∷ Token Colon ∷ AnyType ∷ AttrsTail ∷ []) u → Phrase attrs (k ∷ u)
 first_attr k u h (a, u1, e1, p, (b, u2, e2, c, (d, u3, e3, t, m))) =
     let more = last AttrsTail u3 m in
     let whole : (k ∷ (a ++ Colon ∷ d)) ++ u3 ≡ k ∷ u = rw (e1, e2, c, e3) (simp append_assoc refl) in

@@ -117,7 +117,8 @@ rows_closed Attr = refl
 rows_closed Mark = refl
 
 -- where a symbol may be nothing, its fronts would make more of it
-pub fronts_stop : (x : Symbol) → all_kinds (λ k. implies (is_nullable x && is_some (after_front x k)) (stop x k)) ALL_KINDS ≡ true
+pub fronts_stop : (x : Symbol)
+    → all_kinds (λ k. implies (is_nullable x && is_some (after_front x k)) (stop x k)) ALL_KINDS ≡ true
 unfolding after_front
 fronts_stop (Token k) = refl
 fronts_stop Schema = refl

@@ -9,7 +9,8 @@ use Rattle.schema_syntax_grammar.specs.Machine.{advance, step, on_some, accepts}
 pub data Forest : List Symbol → List TokenKind → Type 0 where
   nothing : Forest [] []
   skip : {x : Symbol} {s : List Symbol} {w : List TokenKind} → is_nullable x ≡ true → Forest s w → Forest (x ∷ s) w
-  take : {x : Symbol} {k : TokenKind} {next s : List Symbol} {u v : List TokenKind} → after_front x k ≡ Some next → Forest next u → Forest s v → Forest (x ∷ s) (k ∷ (u ++ v))
+  take : {x : Symbol} {k : TokenKind} {next s : List Symbol} {u v : List TokenKind} → after_front x k ≡ Some next
+      → Forest next u → Forest s v → Forest (x ∷ s) (k ∷ (u ++ v))
 
 -- a forest of two stacks is a forest of each
 pub record Cut (a b : List Symbol) (w : List TokenKind) : Type 0 where
@@ -34,7 +35,8 @@ join {b = b} {v = v} (take {x = x} {k = k} {next = next} {s = s} {u = p} {v = q}
     subst (λ w. Forest (x ∷ (s ++ b)) (k ∷ w)) (sym (append_assoc p q v)) (take e f (join h g))
 
 -- a token, and then a forest of what comes after it and of the rest
-pub takes : {x : Symbol} {k : TokenKind} {next s : List Symbol} {w : List TokenKind} → after_front x k ≡ Some next → Forest (next ++ s) w → Forest (x ∷ s) (k ∷ w)
+pub takes : {x : Symbol} {k : TokenKind} {next s : List Symbol} {w : List TokenKind} → after_front x k ≡ Some next
+    → Forest (next ++ s) w → Forest (x ∷ s) (k ∷ w)
 takes {x = x} {k = k} {next = next} {s = s} {w = w} g f =
     let c = cut next s w f in
     subst (λ v. Forest (x ∷ s) (k ∷ v)) (sym c.joined) (take g c.first c.second)
@@ -50,7 +52,10 @@ and_right true b e = e
 and_right false b e = cc
 
 -- what is accepted, by how the first symbol goes on
-stands_at : (k : TokenKind) (w : List TokenKind) (x : Symbol) (s : List Symbol) (o : Option (List Symbol)) (n : Bool) → after_front x k ≡ o → is_nullable x ≡ n → ((t : List Symbol) → accepts t w ≡ true → Forest t w) → (accepts s (k ∷ w) ≡ true → Forest s (k ∷ w)) → on_some (advance o n s (step s k)) (λ t. accepts t w) ≡ true → Forest (x ∷ s) (k ∷ w)
+stands_at : (k : TokenKind) (w : List TokenKind) (x : Symbol) (s : List Symbol) (o : Option (List Symbol)) (n : Bool)
+    → after_front x k ≡ o → is_nullable x ≡ n → ((t : List Symbol) → accepts t w ≡ true → Forest t w)
+    → (accepts s (k ∷ w) ≡ true → Forest s (k ∷ w)) → on_some (advance o n s (step s k)) (λ t. accepts t w) ≡ true
+    → Forest (x ∷ s) (k ∷ w)
 stands_at k w x s (Some next) n g m later below h =
     takes g (later (next ++ s) h)
 stands_at k w x s None true g m later below h = skip m (below h)

@@ -122,24 +122,31 @@ pub data Phrase : Part → Kinds → Type 0 where
   no_item : Phrase schema []
   more_items : {a b : Kinds} → Phrase item a → Phrase schema b → Phrase schema (a ++ b)
   -- Anns 'namespace' Path '{' {Decl} '}' | Decl
-  namespace_item : {a p d : Kinds} → Phrase anns a → Phrase path p → Phrase decls d → Phrase item (a ++ KwNamespace ∷ (p ++ LBrace ∷ (d ++ RBrace ∷ [])))
+  namespace_item : {a p d : Kinds} → Phrase anns a → Phrase path p → Phrase decls d
+      → Phrase item (a ++ KwNamespace ∷ (p ++ LBrace ∷ (d ++ RBrace ∷ [])))
   decl_item : {a : Kinds} → Phrase decl a → Phrase item a
   no_decl : Phrase decls []
   more_decls : {a b : Kinds} → Phrase decl a → Phrase decls b → Phrase decls (a ++ b)
   -- Anns (Entity | Enum | ExtEntity | Action | ExtAction | Common)
   annotated : {a b : Kinds} → Phrase anns a → Phrase bare_decl b → Phrase decl (a ++ b)
   -- 'entity' Idents ['in' Types] [['='] Rec] ['tags' Type] ';'
-  entity_decl : {i p s t : Kinds} → Phrase idents i → Phrase parents p → Phrase shape s → Phrase tags t → Phrase bare_decl (KwEntity ∷ (i ++ (p ++ (s ++ (t ++ Semi ∷ [])))))
+  entity_decl : {i p s t : Kinds} → Phrase idents i → Phrase parents p → Phrase shape s → Phrase tags t
+      → Phrase bare_decl (KwEntity ∷ (i ++ (p ++ (s ++ (t ++ Semi ∷ [])))))
   -- 'entity' Idents 'enum' '[' [STR {',' STR} [',']] ']' ';'
-  enum_decl : {i s : Kinds} → Phrase idents i → Phrase strings s → Phrase bare_decl (KwEntity ∷ (i ++ KwEnum ∷ LBracket ∷ (s ++ RBracket ∷ Semi ∷ [])))
+  enum_decl : {i s : Kinds} → Phrase idents i → Phrase strings s
+      → Phrase bare_decl (KwEntity ∷ (i ++ KwEnum ∷ LBracket ∷ (s ++ RBracket ∷ Semi ∷ [])))
   -- 'external' 'entity' Idents ['in' Types] ';'
-  external_entity : {i p : Kinds} → Phrase idents i → Phrase parents p → Phrase bare_decl (KwExternal ∷ KwEntity ∷ (i ++ (p ++ Semi ∷ [])))
+  external_entity : {i p : Kinds} → Phrase idents i → Phrase parents p
+      → Phrase bare_decl (KwExternal ∷ KwEntity ∷ (i ++ (p ++ Semi ∷ [])))
   -- 'action' Names ['in' Refs] ['appliesTo' '{' [App {',' App} [',']] '}'] ';'
-  action_decl : {n r a : Kinds} → Phrase names n → Phrase in_refs r → Phrase applies a → Phrase bare_decl (KwAction ∷ (n ++ (r ++ (a ++ Semi ∷ []))))
+  action_decl : {n r a : Kinds} → Phrase names n → Phrase in_refs r → Phrase applies a
+      → Phrase bare_decl (KwAction ∷ (n ++ (r ++ (a ++ Semi ∷ []))))
   -- 'external' 'action' Names ['in' Refs] ';'
-  external_action : {n r : Kinds} → Phrase names n → Phrase in_refs r → Phrase bare_decl (KwExternal ∷ KwAction ∷ (n ++ (r ++ Semi ∷ [])))
+  external_action : {n r : Kinds} → Phrase names n → Phrase in_refs r
+      → Phrase bare_decl (KwExternal ∷ KwAction ∷ (n ++ (r ++ Semi ∷ [])))
   -- 'type' Ident '=' Type ';'
-  common_decl : {i : TokenKind} {t : Kinds} → is_ident i ≡ true → Phrase ty t → Phrase bare_decl (KwType ∷ i ∷ Equals ∷ (t ++ Semi ∷ []))
+  common_decl : {i : TokenKind} {t : Kinds} → is_ident i ≡ true → Phrase ty t
+      → Phrase bare_decl (KwType ∷ i ∷ Equals ∷ (t ++ Semi ∷ []))
   -- Ident {',' Ident}
   one_ident : {i : TokenKind} → is_ident i ≡ true → Phrase idents (i ∷ [])
   more_idents : {i : TokenKind} {a : Kinds} → is_ident i ≡ true → Phrase idents a → Phrase idents (i ∷ Comma ∷ a)
@@ -202,7 +209,8 @@ pub data Phrase : Part → Kinds → Type 0 where
   last_attr : {a : Kinds} → Phrase attr a → Phrase attrs a
   more_attrs : {a b : Kinds} → Phrase attr a → Phrase attrs b → Phrase attrs (a ++ Comma ∷ b)
   -- Anns Name ['?'] ':' Type
-  one_attr : {a n m t : Kinds} → Phrase anns a → Phrase name n → Phrase mark m → Phrase ty t → Phrase attr (a ++ (n ++ (m ++ Colon ∷ t)))
+  one_attr : {a n m t : Kinds} → Phrase anns a → Phrase name n → Phrase mark m → Phrase ty t
+      → Phrase attr (a ++ (n ++ (m ++ Colon ∷ t)))
   no_mark : Phrase mark []
   question : Phrase mark (Question ∷ [])
   -- Ident {'::' Ident}
@@ -211,7 +219,8 @@ pub data Phrase : Part → Kinds → Type 0 where
   -- {'@' Word ['(' STR ')']}
   no_ann : Phrase anns []
   bare_ann : {w : TokenKind} {a : Kinds} → is_word_kind w ≡ true → Phrase anns a → Phrase anns (At ∷ w ∷ a)
-  valued_ann : {w : TokenKind} {a : Kinds} → is_word_kind w ≡ true → Phrase anns a → Phrase anns (At ∷ w ∷ LParen ∷ StringLit ∷ RParen ∷ a)
+  valued_ann : {w : TokenKind} {a : Kinds} → is_word_kind w ≡ true → Phrase anns a
+      → Phrase anns (At ∷ w ∷ LParen ∷ StringLit ∷ RParen ∷ a)
 
 -- the kinds are those of a schema
 abbrev pub Sentence : Kinds → Type 0

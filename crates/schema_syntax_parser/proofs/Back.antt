@@ -37,17 +37,21 @@ down zero k h = absurd (omega (arith, h))
 down (suc m) k h = (m, refl, omega (arith, h))
 
 -- one turn, and then the others
-many_done : {A : Type 0} (turn : List Token → Option (Turn A)) (n : ℕ) (ts rest : List Token) → 0 < n → turn ts ≡ Some (Done rest) → many_at turn n ts ≡ Some ([], rest)
+many_done : {A : Type 0} (turn : List Token → Option (Turn A)) (n : ℕ) (ts rest : List Token) → 0 < n
+    → turn ts ≡ Some (Done rest) → many_at turn n ts ≡ Some ([], rest)
 unfolding many_at
 many_done turn zero ts rest h e = absurd (omega (arith, h))
 many_done turn (suc n) ts rest h e = rw e refl
 
-many_last : {A : Type 0} (turn : List Token → Option (Turn A)) (n : ℕ) (ts rest : List Token) (x : A) → 0 < n → turn ts ≡ Some (Last x rest) → many_at turn n ts ≡ Some (x ∷ [], rest)
+many_last : {A : Type 0} (turn : List Token → Option (Turn A)) (n : ℕ) (ts rest : List Token) (x : A) → 0 < n
+    → turn ts ≡ Some (Last x rest) → many_at turn n ts ≡ Some (x ∷ [], rest)
 unfolding many_at
 many_last turn zero ts rest x h e = absurd (omega (arith, h))
 many_last turn (suc n) ts rest x h e = rw e refl
 
-many_next : {A : Type 0} (turn : List Token → Option (Turn A)) (m : ℕ) (ts mid rest : List Token) (x : A) (xs : List A) → turn ts ≡ Some (More x mid) → many_at turn m mid ≡ Some (xs, rest) → many_at turn (suc m) ts ≡ Some (x ∷ xs, rest)
+many_next : {A : Type 0} (turn : List Token → Option (Turn A)) (m : ℕ) (ts mid rest : List Token) (x : A) (xs : List A)
+    → turn ts ≡ Some (More x mid) → many_at turn m mid ≡ Some (xs, rest)
+    → many_at turn (suc m) ts ≡ Some (x ∷ xs, rest)
 unfolding many_at
 many_next turn m ts mid rest x xs e f = rw (e, f) refl
 
@@ -59,7 +63,9 @@ link_end k x (s ∷ v) e = rw e refl
 number_eq : (n : ℕ) → nat_eq n n ≡ true
 number_eq n = eq-eqb n n refl
 
-chain_back : {k : TokenKind} {is : TokenKind → Bool} {u names : List Token} → IsChain k is u names → (n : ℕ) (v : List Token) → length u < n → begins k v ≡ false → many_at (chain_turn k is) n (u ++ v) ≡ Some (names, v)
+chain_back : {k : TokenKind} {is : TokenKind → Bool} {u names : List Token} → IsChain k is u names
+    → (n : ℕ) (v : List Token) → length u < n → begins k v ≡ false
+    → many_at (chain_turn k is) n (u ++ v) ≡ Some (names, v)
 unfolding chain_turn
 chain_back {k} {is} (one {t = t} h) n v l e =
     let turn : chain_turn k is (t ∷ v) ≡ Some (Last t v) = rw h (ap Some (link_end k t v e)) in
@@ -70,19 +76,23 @@ chain_back {k} {is} (more {t = t} {s = s} {u = u} {names = names} h q r) n v l e
     let turn : chain_turn k is (t ∷ s ∷ (u ++ v)) ≡ Some (More t (u ++ v)) = rw (h, eq) refl in
     rw d.1 (many_next (chain_turn k is) d.0 _ _ _ t names turn (chain_back r d.0 v (omega (arith, d.2)) e))
 
-all_chain : {k : TokenKind} {is : TokenKind → Bool} {u names : List Token} → IsChain k is u names → (v : List Token) → begins k v ≡ false → all_at (chain_turn k is) (u ++ v) ≡ Some (names, v)
+all_chain : {k : TokenKind} {is : TokenKind → Bool} {u names : List Token} → IsChain k is u names → (v : List Token)
+    → begins k v ≡ false → all_at (chain_turn k is) (u ++ v) ≡ Some (names, v)
 all_chain {u = u} c v e = chain_back c (length (u ++ v) + 1) v (omega (arith, length-append u v)) e
 
-path_back : {u : List Token} {p : PathSyntax} → IsPath u p → (v : List Token) → begins PathSep v ≡ false → path_at (u ++ v) ≡ Some (p, v)
+path_back : {u : List Token} {p : PathSyntax} → IsPath u p → (v : List Token) → begins PathSep v ≡ false
+    → path_at (u ++ v) ≡ Some (p, v)
 unfolding path_at
 path_back (path {u = u} c) v e = rw (all_chain c v e, place_back u v) refl
 
 -- a reference is a chain of names
-ref_chain : {u names : List Token} (s q : Token) → IsChain PathSep is_ident u names → s.kind ≡ PathSep → q.kind ≡ StringLit → IsChain PathSep is_name_kind (u ++ s ∷ q ∷ []) (names ++ q ∷ [])
+ref_chain : {u names : List Token} (s q : Token) → IsChain PathSep is_ident u names → s.kind ≡ PathSep
+    → q.kind ≡ StringLit → IsChain PathSep is_name_kind (u ++ s ∷ q ∷ []) (names ++ q ∷ [])
 ref_chain s q (one {t = t} h) k l = more (ident_name t.kind h) k (one (rw l refl))
 ref_chain s q (more {t = t} h x r) k l = more (ident_name t.kind h) x (ref_chain s q r k l)
 
-ref_back : {u : List Token} {p : PathSyntax} → IsRef u p → (v : List Token) → begins PathSep v ≡ false → ref_at (u ++ v) ≡ Some (p, v)
+ref_back : {u : List Token} {p : PathSyntax} → IsRef u p → (v : List Token) → begins PathSep v ≡ false
+    → ref_at (u ++ v) ≡ Some (p, v)
 unfolding ref_at
 ref_back (plain {t = t} h) v e = rw (all_chain {k = PathSep} {is = is_name_kind} (one {t = t} h) v e, place_back (t ∷ []) v) refl
 ref_back (typed {u = u} s q c k l) v e = rw (all_chain (ref_chain s q c k l) v e, place_back (u ++ s ∷ q ∷ []) v) refl
@@ -100,7 +110,8 @@ Ends close v = (c : Token) × (rest : List Token) × (v ≡ c ∷ rest) × ((c.k
 module _ {A : Type 0} (close : TokenKind) (other : same_kind close Comma ≡ false) (item : List Token → Read A) (P : List Token → A → Type 0)
     (back : (u : List Token) (x : A) → P u x → (v : List Token) → Ends close v → item (u ++ v) ≡ Some (x, v))
     (head : (u : List Token) (x : A) → P u x → (v : List Token) → begins close (u ++ v) ≡ false) where
-  separated_back : {u : List Token} {xs : List A} → AreSeparated P u xs → (n : ℕ) (c : Token) (v : List Token) → length u < n → c.kind ≡ close → many_at (separated_turn close item) n (u ++ c ∷ v) ≡ Some (xs, v)
+  separated_back : {u : List Token} {xs : List A} → AreSeparated P u xs → (n : ℕ) (c : Token) (v : List Token)
+      → length u < n → c.kind ≡ close → many_at (separated_turn close item) n (u ++ c ∷ v) ≡ Some (xs, v)
   unfolding separated_turn
   separated_back S.none n c v l k =
       let eq : same_kind close c.kind ≡ true = rw k (number_eq _) in
@@ -117,23 +128,28 @@ module _ {A : Type 0} (close : TokenKind) (other : same_kind close Comma ≡ fal
       let lt : length w < m.0 = omega (arith, m.2, length-append u (d ∷ w)) in
       rw (m.1, append_assoc u (d ∷ w) (c ∷ v)) (many_next (separated_turn close item) m.0 _ _ _ x xs turn (separated_back r m.0 c v lt k))
 
-  all_separated : {u : List Token} {xs : List A} → AreSeparated P u xs → (c : Token) (v : List Token) → c.kind ≡ close → all_at (separated_turn close item) (u ++ c ∷ v) ≡ Some (xs, v)
+  all_separated : {u : List Token} {xs : List A} → AreSeparated P u xs → (c : Token) (v : List Token) → c.kind ≡ close
+      → all_at (separated_turn close item) (u ++ c ∷ v) ≡ Some (xs, v)
   all_separated {u = u} s c v k = separated_back s (length (u ++ c ∷ v) + 1) c v (omega (arith, length-append u (c ∷ v))) k
 
-ends_with : (close k : TokenKind) (v : List Token) → Ends close v → same_kind k close ≡ false → same_kind k Comma ≡ false → begins k v ≡ false
+ends_with : (close k : TokenKind) (v : List Token) → Ends close v → same_kind k close ≡ false
+    → same_kind k Comma ≡ false → begins k v ≡ false
 ends_with close k v (c, rest, e, inl h) a b = rw (e, h) a
 ends_with close k v (c, rest, e, inr h) a b = rw (e, h) b
 
-paths_back : {u : List Token} {ps : List PathSyntax} → AreSeparated IsPath u ps → (c : Token) (v : List Token) → c.kind ≡ RBracket → all_at (separated_turn RBracket path_at) (u ++ c ∷ v) ≡ Some (ps, v)
+paths_back : {u : List Token} {ps : List PathSyntax} → AreSeparated IsPath u ps → (c : Token) (v : List Token)
+    → c.kind ≡ RBracket → all_at (separated_turn RBracket path_at) (u ++ c ∷ v) ≡ Some (ps, v)
 paths_back = all_separated RBracket refl path_at IsPath (λ u x p v e. path_back p v (ends_with RBracket PathSep v e refl refl)) (λ u x p v. begins_head RBracket v (path_head p) (path_head p).is.rbracket)
 
-refs_list_back : {u : List Token} {ps : List PathSyntax} → AreSeparated IsRef u ps → (c : Token) (v : List Token) → c.kind ≡ RBracket → all_at (separated_turn RBracket ref_at) (u ++ c ∷ v) ≡ Some (ps, v)
+refs_list_back : {u : List Token} {ps : List PathSyntax} → AreSeparated IsRef u ps → (c : Token) (v : List Token)
+    → c.kind ≡ RBracket → all_at (separated_turn RBracket ref_at) (u ++ c ∷ v) ≡ Some (ps, v)
 refs_list_back = all_separated RBracket refl ref_at IsRef (λ u x p v e. ref_back p v (ends_with RBracket PathSep v e refl refl)) (λ u x p v. begins_head RBracket v (ref_head p) (ref_head p).is.rbracket)
 
 string_back : {u : List Token} {t : Token} → IsStringToken u t → (v : List Token) → string_at (u ++ v) ≡ Some (t, v)
 string_back (string h) v = rw h refl
 
-strings_back : {u ts : List Token} → AreSeparated IsStringToken u ts → (c : Token) (v : List Token) → c.kind ≡ RBracket → all_at (separated_turn RBracket string_at) (u ++ c ∷ v) ≡ Some (ts, v)
+strings_back : {u ts : List Token} → AreSeparated IsStringToken u ts → (c : Token) (v : List Token)
+    → c.kind ≡ RBracket → all_at (separated_turn RBracket string_at) (u ++ c ∷ v) ≡ Some (ts, v)
 strings_back = all_separated RBracket refl string_at IsStringToken (λ u x s v e. string_back s v) (λ u x s v. let h = string_head s in begins_head RBracket v h (rw h.is refl))
 
 -- one item or items in brackets
@@ -141,30 +157,36 @@ listed_item : (item : List Token → Read PathSyntax) (ts : List Token) → begi
 listed_item item [] e = refl
 listed_item item (t ∷ ts) e = rw e refl
 
-types_back : {u : List Token} {ps : List PathSyntax} → AreListed IsPath u ps → (v : List Token) → begins PathSep v ≡ false → types_at (u ++ v) ≡ Some (ps, v)
+types_back : {u : List Token} {ps : List PathSyntax} → AreListed IsPath u ps → (v : List Token)
+    → begins PathSep v ≡ false → types_at (u ++ v) ≡ Some (ps, v)
 unfolding types_at
 types_back (single {u = u} p) v e = listed_item path_at (u ++ v) (begins_head LBracket v (path_head p) (path_head p).is.lbracket) ∙ rw (path_back p v e) refl
 types_back (listed c {u = u} h s k) v e = rw (h, append_assoc u (c ∷ []) v) (paths_back s c v k)
 
-refs_back : {u : List Token} {ps : List PathSyntax} → AreListed IsRef u ps → (v : List Token) → begins PathSep v ≡ false → refs_at (u ++ v) ≡ Some (ps, v)
+refs_back : {u : List Token} {ps : List PathSyntax} → AreListed IsRef u ps → (v : List Token)
+    → begins PathSep v ≡ false → refs_at (u ++ v) ≡ Some (ps, v)
 unfolding refs_at
 refs_back (single {u = u} p) v e = listed_item ref_at (u ++ v) (begins_head LBracket v (ref_head p) (ref_head p).is.lbracket) ∙ rw (ref_back p v e) refl
 refs_back (listed c {u = u} h s k) v e = rw (h, append_assoc u (c ∷ []) v) (refs_list_back s c v k)
 
-no_parents_at : (list : List Token → Read (List PathSyntax)) (v : List Token) → begins KwIn v ≡ false → parents_at list v ≡ Some ([], v)
+no_parents_at : (list : List Token → Read (List PathSyntax)) (v : List Token) → begins KwIn v ≡ false
+    → parents_at list v ≡ Some ([], v)
 no_parents_at list [] e = refl
 no_parents_at list (t ∷ v) e = rw e refl
 
-parents_back : {u : List Token} {ps : List PathSyntax} → AreParents IsPath u ps → (v : List Token) → begins PathSep v ≡ false → begins KwIn v ≡ false → parents_at types_at (u ++ v) ≡ Some (ps, v)
+parents_back : {u : List Token} {ps : List PathSyntax} → AreParents IsPath u ps → (v : List Token)
+    → begins PathSep v ≡ false → begins KwIn v ≡ false → parents_at types_at (u ++ v) ≡ Some (ps, v)
 parents_back no_parents v e f = no_parents_at types_at v f
 parents_back (in_parents h l) v e f = rw h (types_back l v e)
 
-action_parents_back : {u : List Token} {ps : List PathSyntax} → AreParents IsRef u ps → (v : List Token) → begins PathSep v ≡ false → begins KwIn v ≡ false → parents_at refs_at (u ++ v) ≡ Some (ps, v)
+action_parents_back : {u : List Token} {ps : List PathSyntax} → AreParents IsRef u ps → (v : List Token)
+    → begins PathSep v ≡ false → begins KwIn v ≡ false → parents_at refs_at (u ++ v) ≡ Some (ps, v)
 action_parents_back no_parents v e f = no_parents_at refs_at v f
 action_parents_back (in_parents h l) v e f = rw h (refs_back l v e)
 
 -- annotations
-bare_at : (k : Token) (ts : List Token) → begins LParen ts ≡ false → value_at k ts ≡ Some (More (record { key = k; value = None }) ts)
+bare_at : (k : Token) (ts : List Token) → begins LParen ts ≡ false
+    → value_at k ts ≡ Some (More (record { key = k; value = None }) ts)
 bare_at k [] e = refl
 bare_at k (t ∷ ts) e = rw e refl
 
@@ -173,7 +195,8 @@ unfolding annotation_turn
 annotations_end [] e = refl
 annotations_end (t ∷ v) e = rw e refl
 
-many_annotations : {u : List Token} {xs : List AnnotationSyntax} → AreAnnotations u xs → (n : ℕ) (v : List Token) → length u < n → begins At v ≡ false → begins LParen v ≡ false → many_at annotation_turn n (u ++ v) ≡ Some (xs, v)
+many_annotations : {u : List Token} {xs : List AnnotationSyntax} → AreAnnotations u xs → (n : ℕ) (v : List Token)
+    → length u < n → begins At v ≡ false → begins LParen v ≡ false → many_at annotation_turn n (u ++ v) ≡ Some (xs, v)
 unfolding annotation_turn
 many_annotations none n v l e f = many_done annotation_turn n v v l (annotations_end v e)
 many_annotations (bare {a = a} {k = k} {u = u} h w r) n v l e f =
@@ -185,7 +208,8 @@ many_annotations (valued {a = a} {k = k} {o = o} {v = s} {c = c} {u = u} h w p q
     let turn : annotation_turn (a ∷ k ∷ o ∷ s ∷ c ∷ (u ++ v)) ≡ Some (More (record { key = k; value = Some s }) (u ++ v)) = rw (h, w, p, q, t) refl in
     rw m.1 (many_next annotation_turn m.0 _ _ _ _ _ turn (many_annotations r m.0 v (omega (arith, m.2)) e f))
 
-annotations_back : {u : List Token} {xs : List AnnotationSyntax} → AreAnnotations u xs → (v : List Token) → begins At v ≡ false → begins LParen v ≡ false → annotations_at (u ++ v) ≡ Some (xs, v)
+annotations_back : {u : List Token} {xs : List AnnotationSyntax} → AreAnnotations u xs → (v : List Token)
+    → begins At v ≡ false → begins LParen v ≡ false → annotations_at (u ++ v) ≡ Some (xs, v)
 unfolding annotations_at
 annotations_back {u = u} r v e f = many_annotations r (length (u ++ v) + 1) v (omega (arith, length-append u v)) e f
 
@@ -194,7 +218,8 @@ same_either : {A : Type 0} (b : Bool) (x y z : A) → x ≡ z → y ≡ z → (i
 same_either true x y z e f = e
 same_either false x y z e f = f
 
-set_path : (f : List Token → Read TypeSyntax) (t : Token) (ts : List Token) → begins Less ts ≡ false → set_step f t ts ≡ as_type (path_at (t ∷ ts))
+set_path : (f : List Token → Read TypeSyntax) (t : Token) (ts : List Token) → begins Less ts ≡ false
+    → set_step f t ts ≡ as_type (path_at (t ∷ ts))
 unfolding set_step
 set_path f t [] e = refl
 set_path f t (o ∷ ts) e = rw e refl
@@ -211,11 +236,14 @@ path_front : {u : List Token} {p : PathSyntax} → IsPath u p → PathFront u
 path_front (path (one {t = t} h)) = record { first = t; rest = []; whole = refl; is = ident_apart t.kind h; less = λ v e. e }
 path_front (path (more {t = t} {s = s} {u = u} h k r)) = record { first = t; rest = s ∷ u; whole = refl; is = ident_apart t.kind h; less = λ v e. rw k refl }
 
-type_path : (f : List Token → Read TypeSyntax) (g : List Token → Read (List AttrSyntax)) (t : Token) (ts : List Token) → same_kind LBrace t.kind ≡ false → begins Less ts ≡ false → whole_type_step f g (t ∷ ts) ≡ as_type (path_at (t ∷ ts))
+type_path : (f : List Token → Read TypeSyntax) (g : List Token → Read (List AttrSyntax)) (t : Token) (ts : List Token)
+    → same_kind LBrace t.kind ≡ false → begins Less ts ≡ false
+    → whole_type_step f g (t ∷ ts) ≡ as_type (path_at (t ∷ ts))
 unfolding whole_type_step
 type_path f g t ts b l = rw b (same_either (same_kind KwSet t.kind) _ _ _ (set_path f t ts l) refl)
 
-mark_back : {u : List Token} {m : Bool} → IsMark u m → (c : Token) (v : List Token) → c.kind ≡ Colon → mark_at (u ++ c ∷ v) ≡ (m, c ∷ v)
+mark_back : {u : List Token} {m : Bool} → IsMark u m → (c : Token) (v : List Token) → c.kind ≡ Colon
+    → mark_at (u ++ c ∷ v) ≡ (m, c ∷ v)
 unfolding mark_at
 mark_back no_mark c v k = rw k refl
 mark_back (question h) c v k = rw h refl
@@ -223,7 +251,8 @@ mark_back (question h) c v k = rw h refl
 attr_turn_item : (n : ℕ) (ts : List Token) → begins RBrace ts ≡ false → separated_turn RBrace (attr_step (type_at n)) ts ≡ attr_step (type_at n) ts >>= λ x. closed_at RBrace x.0 x.1
 attr_turn_item n ts e = separated_item RBrace (attr_step (type_at n)) ts e
 
-attrs_turn : (m : ℕ) (ts : List Token) → attrs_at (suc m) ts ≡ separated_turn RBrace (attr_step (type_at m)) ts >>= after_turn (attrs_at m)
+attrs_turn : (m : ℕ) (ts : List Token)
+    → attrs_at (suc m) ts ≡ separated_turn RBrace (attr_step (type_at m)) ts >>= after_turn (attrs_at m)
 unfolding attrs_at type_at
 attrs_turn m ts = refl
 
@@ -237,7 +266,8 @@ ap_back f x y z e g = ap f e ∙ g
 mutual
   unfolding whole_type_step set_step attr_step separated_turn
 
-  type_back : {u : List Token} {t : TypeSyntax} → IsType u t → (n : ℕ) (v : List Token) → length u < n → begins PathSep v ≡ false → begins Less v ≡ false → type_at n (u ++ v) ≡ Some (t, v)
+  type_back : {u : List Token} {t : TypeSyntax} → IsType u t → (n : ℕ) (v : List Token) → length u < n
+      → begins PathSep v ≡ false → begins Less v ≡ false → type_at n (u ++ v) ≡ Some (t, v)
   type_back (path_type {u = u} {p = p} r) n v l e f =
       let m = down n (length u) l in
       let h = path_front r in
@@ -263,7 +293,8 @@ mutual
       let place : place_before (o ∷ (u ++ c ∷ v)) v ≡ whole_place (o ∷ (u ++ c ∷ [])) = ap (λ (x : List Token). place_before (o ∷ x) v) (sym (append_assoc u (c ∷ []) v)) ∙ place_back (o ∷ (u ++ c ∷ [])) v in
       rw (m.1, append_assoc u (c ∷ []) v) (type_turn m.0 (o ∷ (u ++ c ∷ v)) ∙ rw (opens, attrs_back r m.0 c v lt kc, place) refl)
 
-  attr_back : {u : List Token} {a : AttrSyntax} → IsAttr u a → (n : ℕ) (v : List Token) → length u ≤ n → begins PathSep v ≡ false → begins Less v ≡ false → attr_step (type_at n) (u ++ v) ≡ Some (a, v)
+  attr_back : {u : List Token} {a : AttrSyntax} → IsAttr u a → (n : ℕ) (v : List Token) → length u ≤ n
+      → begins PathSep v ≡ false → begins Less v ≡ false → attr_step (type_at n) (u ++ v) ≡ Some (a, v)
   attr_back (attr i c {a = a} {m = m} {u = u} {required = required} {t = t} xs h mk k r) n v l e f =
       let lt : length u < n = omega (arith, l, length-append a (i ∷ (m ++ c ∷ u)), length-append m (c ∷ u)) in
       let whole : (a ++ i ∷ (m ++ c ∷ u)) ++ v ≡ a ++ i ∷ (m ++ c ∷ (u ++ v)) = append_assoc a (i ∷ (m ++ c ∷ u)) v ∙ ap (λ (x : List Token). a ++ i ∷ x) (append_assoc m (c ∷ u) v) in
@@ -274,7 +305,8 @@ mutual
       let place : place_before (i ∷ (m ++ c ∷ (u ++ v))) v ≡ whole_place (i ∷ (m ++ c ∷ u)) = ap (λ (x : List Token). place_before (i ∷ x) v) (sym (append_assoc m (c ∷ u) v)) ∙ place_back (i ∷ (m ++ c ∷ u)) v in
       rw (whole, anns, h, mark, colon, type_back r n v lt e f, place) refl
 
-  attrs_back : {u : List Token} {xs : List AttrSyntax} → AreAttrs u xs → (n : ℕ) (c : Token) (v : List Token) → length u < n → c.kind ≡ RBrace → attrs_at n (u ++ c ∷ v) ≡ Some (xs, v)
+  attrs_back : {u : List Token} {xs : List AttrSyntax} → AreAttrs u xs → (n : ℕ) (c : Token) (v : List Token)
+      → length u < n → c.kind ≡ RBrace → attrs_at n (u ++ c ∷ v) ≡ Some (xs, v)
   attrs_back no_attr n c v l k = let m = down n 0 l in rw m.1 (attrs_turn m.0 (c ∷ v) ∙ rw k refl)
   attrs_back (last_attr {u = u} {a = a} p) n c v l k =
       let m = down n (length u) l in
@@ -295,7 +327,8 @@ mutual
       rw (m.1, append_assoc u (d ∷ w) (c ∷ v)) (attrs_turn m.0 (u ++ d ∷ rest) ∙ rw (item, back, not, comma, attrs_back r m.0 c v lt k) refl)
 
 -- attributes in braces
-record_back : {u : List Token} {xs : List AttrSyntax} → IsRecord u xs → (v : List Token) → record_at (u ++ v) ≡ Some ((xs, whole_place u), v)
+record_back : {u : List Token} {xs : List AttrSyntax} → IsRecord u xs → (v : List Token)
+    → record_at (u ++ v) ≡ Some ((xs, whole_place u), v)
 unfolding record_at
 record_back (braces {o = o} c {u = u} {xs = xs} ko r kc) v =
     let whole : (o ∷ (u ++ c ∷ [])) ++ v ≡ o ∷ (u ++ c ∷ v) = ap (λ (x : List Token). o ∷ x) (append_assoc u (c ∷ []) v) in
@@ -309,7 +342,8 @@ unfolding shape_at
 no_shape_at [] e f = refl
 no_shape_at (t ∷ v) e f = rw (e, f) refl
 
-shape_back : {u : List Token} {s : Option (List AttrSyntax × Span)} → IsShape u s → (v : List Token) → begins Equals v ≡ false → begins LBrace v ≡ false → shape_at (u ++ v) ≡ Some (s, v)
+shape_back : {u : List Token} {s : Option (List AttrSyntax × Span)} → IsShape u s → (v : List Token)
+    → begins Equals v ≡ false → begins LBrace v ≡ false → shape_at (u ++ v) ≡ Some (s, v)
 unfolding shape_at
 shape_back no_shape v e f = no_shape_at v e f
 shape_back (bare_shape (braces {o = o} c {u = u} h r k)) v e f =
@@ -329,13 +363,15 @@ no_tags_at (t ∷ v) e = rw e refl
 follows : (u : List Token) (c : Token) (v : List Token) → length u < length (u ++ c ∷ v)
 follows u c v = omega (arith, length-append u (c ∷ v))
 
-tags_back : {u : List Token} {t : Option TypeSyntax} → AreTags u t → (c : Token) (v : List Token) → c.kind ≡ Semi → tags_at (u ++ c ∷ v) ≡ Some (t, c ∷ v)
+tags_back : {u : List Token} {t : Option TypeSyntax} → AreTags u t → (c : Token) (v : List Token) → c.kind ≡ Semi
+    → tags_at (u ++ c ∷ v) ≡ Some (t, c ∷ v)
 unfolding tags_at
 tags_back no_tags c v k = no_tags_at (c ∷ v) (rw k refl)
 tags_back (some_tags {u = u} h r) c v k = rw (h, type_back r (length (u ++ c ∷ v)) (c ∷ v) (follows u c v) (rw k refl) (rw k refl)) refl
 
 -- the members of an `appliesTo` block
-context_record_back : {u : List Token} {xs : List AttrSyntax} → IsRecord u xs → (w c : Token) (v : List Token) → context_at (w ∷ c ∷ (u ++ v)) (u ++ v) ≡ Some (AppSyntax.ContextRecord xs (whole_place u) (whole_place (w ∷ c ∷ u)), v)
+context_record_back : {u : List Token} {xs : List AttrSyntax} → IsRecord u xs → (w c : Token) (v : List Token)
+    → context_at (w ∷ c ∷ (u ++ v)) (u ++ v) ≡ Some (AppSyntax.ContextRecord xs (whole_place u) (whole_place (w ∷ c ∷ u)), v)
 unfolding context_at
 context_record_back (braces {o = o} d {u = u} h r k) w c v =
     let brace : same_kind LBrace o.kind ≡ true = rw h refl in
@@ -346,11 +382,14 @@ unfolding context_at path_at chain_turn many_at
 context_path_at whole [] e = refl
 context_path_at whole (t ∷ ts) e = rw e refl
 
-context_path_back : {u : List Token} {p : PathSyntax} → IsPath u p → (w c : Token) (v : List Token) → begins PathSep v ≡ false → context_at (w ∷ c ∷ (u ++ v)) (u ++ v) ≡ Some (AppSyntax.ContextPath p (whole_place (w ∷ c ∷ u)), v)
+context_path_back : {u : List Token} {p : PathSyntax} → IsPath u p → (w c : Token) (v : List Token)
+    → begins PathSep v ≡ false
+    → context_at (w ∷ c ∷ (u ++ v)) (u ++ v) ≡ Some (AppSyntax.ContextPath p (whole_place (w ∷ c ∷ u)), v)
 context_path_back {u} r w c v e =
     context_path_at (w ∷ c ∷ (u ++ v)) (u ++ v) (begins_head LBrace v (path_head r) (path_head r).is.lbrace) ∙ rw (path_back r v e, place_back (w ∷ c ∷ u) v) refl
 
-app_back : {u : List Token} {a : AppSyntax} → IsApp u a → (v : List Token) → begins PathSep v ≡ false → app_at (u ++ v) ≡ Some (a, v)
+app_back : {u : List Token} {a : AppSyntax} → IsApp u a → (v : List Token) → begins PathSep v ≡ false
+    → app_at (u ++ v) ≡ Some (a, v)
 unfolding app_at
 app_back (types {w = w} {c = c} {u = u} h k l) v e =
     let colon : same_kind Colon c.kind ≡ true = rw k refl in
@@ -366,7 +405,8 @@ app_back (context_record {w = w} {c = c} h k r) v e =
     let context : same_kind KwContext w.kind ≡ true = rw h refl in
     rw (colon, role, context) (context_record_back r w c v)
 
-apps_back : {u : List Token} {xs : List AppSyntax} → AreSeparated IsApp u xs → (c : Token) (v : List Token) → c.kind ≡ RBrace → all_at (separated_turn RBrace app_at) (u ++ c ∷ v) ≡ Some (xs, v)
+apps_back : {u : List Token} {xs : List AppSyntax} → AreSeparated IsApp u xs → (c : Token) (v : List Token)
+    → c.kind ≡ RBrace → all_at (separated_turn RBrace app_at) (u ++ c ∷ v) ≡ Some (xs, v)
 apps_back = all_separated RBrace refl app_at IsApp (λ u x a v e. app_back a v (ends_with RBrace PathSep v e refl refl)) (λ u x a v. begins_head RBrace v (app_head a) (app_head a).is.0)
 
 no_applies_at : (v : List Token) → begins KwAppliesTo v ≡ false → applies_at v ≡ Some (None, v)
@@ -378,10 +418,12 @@ no_applies_at (t ∷ v) e = rw e refl
 closed_whole : (o : Token) (u : List Token) (c : Token) (v : List Token) → (o ∷ (u ++ c ∷ [])) ++ v ≡ o ∷ (u ++ c ∷ v)
 closed_whole o u c v = ap (λ (x : List Token). o ∷ x) (append_assoc u (c ∷ []) v)
 
-closed_place : (o : Token) (u : List Token) (c : Token) (v : List Token) → place_before (o ∷ (u ++ c ∷ v)) v ≡ whole_place (o ∷ (u ++ c ∷ []))
+closed_place : (o : Token) (u : List Token) (c : Token) (v : List Token)
+    → place_before (o ∷ (u ++ c ∷ v)) v ≡ whole_place (o ∷ (u ++ c ∷ []))
 closed_place o u c v = ap (λ (x : List Token). place_before x v) (sym (closed_whole o u c v)) ∙ place_back (o ∷ (u ++ c ∷ [])) v
 
-applies_back : {u : List Token} {s : Option (List AppSyntax × Span)} → Applies u s → (v : List Token) → begins KwAppliesTo v ≡ false → applies_at (u ++ v) ≡ Some (s, v)
+applies_back : {u : List Token} {s : Option (List AppSyntax × Span)} → Applies u s → (v : List Token)
+    → begins KwAppliesTo v ≡ false → applies_at (u ++ v) ≡ Some (s, v)
 unfolding applies_at
 applies_back no_applies v e = no_applies_at v e
 applies_back (some_applies {w = w} {o = o} c {u = u} h ko s k) v e =
@@ -395,7 +437,8 @@ no_body names [] e = refl
 no_body names (t ∷ ts) e = rw e refl
 
 -- what may stand behind the names of an entity type, up to its end
-standard_back : (names : List Token) {p s t : List Token} {parents : List PathSyntax} {shape : Option (List AttrSyntax × Span)} {tags : Option TypeSyntax} (z : Token) (v : List Token) → AreParents IsPath p parents → IsShape s shape → AreTags t tags → z.kind ≡ Semi
+standard_back : (names : List Token) {p s t : List Token} {parents : List PathSyntax} {shape : Option (List AttrSyntax × Span)} {tags : Option TypeSyntax} (z : Token) (v : List Token)
+    → AreParents IsPath p parents → IsShape s shape → AreTags t tags → z.kind ≡ Semi
     → standard_at names (p ++ (s ++ (t ++ z ∷ v))) ≡ Some (DeclSyntax.Entity names parents shape tags, v)
 unfolding standard_at
 standard_back names {p = p} {s = s} {t = t} z v ps h ts k =
@@ -407,8 +450,10 @@ standard_back names {p = p} {s = s} {t = t} z v ps h ts k =
     let semi : same_kind Semi z.kind ≡ true = rw k refl in
     rw (one, two, three, semi) refl
 
-behind_names : {p s t : List Token} {parents : List PathSyntax} {shape : Option (List AttrSyntax × Span)} {tags : Option TypeSyntax} (j : TokenKind) (z : Token) (v : List Token) → AreParents IsPath p parents → IsShape s shape → AreTags t tags → z.kind ≡ Semi
-    → same_kind j KwIn ≡ false → same_kind j Equals ≡ false → same_kind j LBrace ≡ false → same_kind j KwTags ≡ false → same_kind j Semi ≡ false → begins j (p ++ (s ++ (t ++ z ∷ v))) ≡ false
+behind_names : {p s t : List Token} {parents : List PathSyntax} {shape : Option (List AttrSyntax × Span)} {tags : Option TypeSyntax} (j : TokenKind) (z : Token) (v : List Token)
+    → AreParents IsPath p parents → IsShape s shape → AreTags t tags → z.kind ≡ Semi
+    → same_kind j KwIn ≡ false → same_kind j Equals ≡ false → same_kind j LBrace ≡ false → same_kind j KwTags ≡ false
+    → same_kind j Semi ≡ false → begins j (p ++ (s ++ (t ++ z ∷ v))) ≡ false
 behind_names {s = s} {t = t} j z v ps h ts k a b c d e = skip_parents j (s ++ (t ++ z ∷ v)) ps a (skip_shape j (t ++ z ∷ v) h b c (skip_tags j (z ∷ v) ts d (rw k e)))
 
 -- four lists and what follows them
@@ -418,7 +463,8 @@ four a b c d v = append_assoc a (b ++ (c ++ d)) v ∙ ap (λ (x : List Token). a
 five : (a b c d e v : List Token) → (a ++ (b ++ (c ++ (d ++ e)))) ++ v ≡ a ++ (b ++ (c ++ (d ++ (e ++ v))))
 five a b c d e v = append_assoc a (b ++ (c ++ (d ++ e))) v ∙ ap (λ (x : List Token). a ++ x) (four b c d e v)
 
-entity_back : {i p s t names : List Token} {parents : List PathSyntax} {shape : Option (List AttrSyntax × Span)} {tags : Option TypeSyntax} (z : Token) (v : List Token) → IsChain Comma is_ident i names → AreParents IsPath p parents → IsShape s shape → AreTags t tags → z.kind ≡ Semi
+entity_back : {i p s t names : List Token} {parents : List PathSyntax} {shape : Option (List AttrSyntax × Span)} {tags : Option TypeSyntax} (z : Token) (v : List Token)
+    → IsChain Comma is_ident i names → AreParents IsPath p parents → IsShape s shape → AreTags t tags → z.kind ≡ Semi
     → entity_at (i ++ (p ++ (s ++ (t ++ z ∷ v)))) ≡ Some (DeclSyntax.Entity names parents shape tags, v)
 unfolding entity_at
 entity_back {p = p} {s = s} {t = t} {names = names} z v is ps h ts k =
@@ -427,7 +473,8 @@ entity_back {p = p} {s = s} {t = t} {names = names} z v is ps h ts k =
     let rest = no_body names body (behind_names KwEnum z v ps h ts k refl refl refl refl refl) ∙ standard_back names z v ps h ts k in
     rw (read, rest) refl
 
-enum_back : {i s names choices : List Token} (n o c z : Token) (v : List Token) → IsChain Comma is_ident i names → n.kind ≡ KwEnum → o.kind ≡ LBracket → AreSeparated IsStringToken s choices → c.kind ≡ RBracket → z.kind ≡ Semi
+enum_back : {i s names choices : List Token} (n o c z : Token) (v : List Token) → IsChain Comma is_ident i names
+    → n.kind ≡ KwEnum → o.kind ≡ LBracket → AreSeparated IsStringToken s choices → c.kind ≡ RBracket → z.kind ≡ Semi
     → entity_at (i ++ n ∷ o ∷ (s ++ c ∷ z ∷ v)) ≡ Some (DeclSyntax.Enum names choices (whole_place (o ∷ (s ++ c ∷ []))), v)
 unfolding entity_at enum_at
 enum_back {s = s} n o c z v is kn ko ss kc kz =
@@ -437,7 +484,8 @@ enum_back {s = s} n o c z v is kn ko ss kc kz =
     let semi : same_kind Semi z.kind ≡ true = rw kz refl in
     rw (read, word, opens, strings_back ss c (z ∷ v) kc, semi, closed_place o s c (z ∷ v)) refl
 
-external_entity_back : {i p names : List Token} {parents : List PathSyntax} (z : Token) (v : List Token) → IsChain Comma is_ident i names → AreParents IsPath p parents → z.kind ≡ Semi
+external_entity_back : {i p names : List Token} {parents : List PathSyntax} (z : Token) (v : List Token)
+    → IsChain Comma is_ident i names → AreParents IsPath p parents → z.kind ≡ Semi
     → external_entity_at (i ++ (p ++ z ∷ v)) ≡ Some (DeclSyntax.ExternalEntity names parents, v)
 unfolding external_entity_at
 external_entity_back {p = p} z v is ps k =
@@ -445,7 +493,8 @@ external_entity_back {p = p} z v is ps k =
     let semi : same_kind Semi z.kind ≡ true = rw k refl in
     rw (read, parents_back ps (z ∷ v) (rw k refl) (rw k refl), semi) refl
 
-external_action_back : {n p names : List Token} {parents : List PathSyntax} (z : Token) (v : List Token) → IsChain Comma is_name_kind n names → AreParents IsRef p parents → z.kind ≡ Semi
+external_action_back : {n p names : List Token} {parents : List PathSyntax} (z : Token) (v : List Token)
+    → IsChain Comma is_name_kind n names → AreParents IsRef p parents → z.kind ≡ Semi
     → external_action_at (n ++ (p ++ z ∷ v)) ≡ Some (DeclSyntax.ExternalAction names parents, v)
 unfolding external_action_at
 external_action_back {p = p} z v is ps k =
@@ -453,7 +502,8 @@ external_action_back {p = p} z v is ps k =
     let semi : same_kind Semi z.kind ≡ true = rw k refl in
     rw (read, action_parents_back ps (z ∷ v) (rw k refl) (rw k refl), semi) refl
 
-action_back : {n p s names : List Token} {parents : List PathSyntax} {applies : Option (List AppSyntax × Span)} (z : Token) (v : List Token) → IsChain Comma is_name_kind n names → AreParents IsRef p parents → Applies s applies → z.kind ≡ Semi
+action_back : {n p s names : List Token} {parents : List PathSyntax} {applies : Option (List AppSyntax × Span)} (z : Token) (v : List Token)
+    → IsChain Comma is_name_kind n names → AreParents IsRef p parents → Applies s applies → z.kind ≡ Semi
     → action_at (n ++ (p ++ (s ++ z ∷ v))) ≡ Some (DeclSyntax.Action names parents applies, v)
 unfolding action_at
 action_back {p = p} {s = s} z v is ps a k =
@@ -462,7 +512,9 @@ action_back {p = p} {s = s} z v is ps a k =
     let semi : same_kind Semi z.kind ≡ true = rw k refl in
     rw (read, action_parents_back ps (s ++ z ∷ v) (after PathSep refl refl) (after KwIn refl refl), applies_back a (z ∷ v) (rw k refl), semi) refl
 
-common_back : {u : List Token} {t : TypeSyntax} (n e z : Token) (v : List Token) → is_ident n.kind ≡ true → e.kind ≡ Equals → IsType u t → z.kind ≡ Semi → common_at (n ∷ e ∷ (u ++ z ∷ v)) ≡ Some (DeclSyntax.Common n t, v)
+common_back : {u : List Token} {t : TypeSyntax} (n e z : Token) (v : List Token) → is_ident n.kind ≡ true
+    → e.kind ≡ Equals → IsType u t → z.kind ≡ Semi
+    → common_at (n ∷ e ∷ (u ++ z ∷ v)) ≡ Some (DeclSyntax.Common n t, v)
 unfolding common_at
 common_back {u = u} n e z v h k t s =
     let equals : same_kind Equals e.kind ≡ true = rw k refl in
@@ -503,7 +555,8 @@ decl_back (common_decl {w = w} {n = n} {e = e} z {u = u} h hn he t k) v =
     let word : same_kind KwType w.kind ≡ true = rw h refl in
     ap (λ (x : List Token). decl_at (w ∷ n ∷ e ∷ x)) (append_assoc u (z ∷ []) v) ∙ rw (not, nor, neither, word) (common_back n e z v hn he t k)
 
-declared_back : {u : List Token} {d : DeclaredSyntax} → IsDeclared u d → (v : List Token) → declared_at (u ++ v) ≡ Some (d, v)
+declared_back : {u : List Token} {d : DeclaredSyntax} → IsDeclared u d → (v : List Token)
+    → declared_at (u ++ v) ≡ Some (d, v)
 unfolding declared_at
 declared_back (declared {a = a} {u = u} xs d) v =
     let h = decl_head d in
@@ -515,7 +568,9 @@ unfolding decl_turn
 decl_turn_item [] e = refl
 decl_turn_item (t ∷ ts) e = rw e refl
 
-decls_back : {u : List Token} {ds : List DeclaredSyntax} → AreMany IsDeclared u ds → (n : ℕ) (c : Token) (v : List Token) → length u < n → c.kind ≡ RBrace → many_at decl_turn n (u ++ c ∷ v) ≡ Some (ds, v)
+decls_back : {u : List Token} {ds : List DeclaredSyntax} → AreMany IsDeclared u ds
+    → (n : ℕ) (c : Token) (v : List Token) → length u < n → c.kind ≡ RBrace
+    → many_at decl_turn n (u ++ c ∷ v) ≡ Some (ds, v)
 unfolding decl_turn
 decls_back S.none n c v l k =
     let eq : same_kind RBrace c.kind ≡ true = rw k refl in
@@ -528,11 +583,13 @@ decls_back (S.more {u = u} {v = w} {x = x} {xs = xs} d r) n c v l k =
     rw (m.1, append_assoc u w (c ∷ v)) (many_next decl_turn m.0 _ _ _ x xs turn (decls_back r m.0 c v lt k))
 
 -- items
-outside_back : {u : List Token} {d : DeclSyntax} (xs : List AnnotationSyntax) → IsDecl u d → (v : List Token) → item_body_at xs (u ++ v) ≡ Some (ItemSyntax.Decl (record { annotations = xs; decl = d; loc = whole_place u }), v)
+outside_back : {u : List Token} {d : DeclSyntax} (xs : List AnnotationSyntax) → IsDecl u d → (v : List Token)
+    → item_body_at xs (u ++ v) ≡ Some (ItemSyntax.Decl (record { annotations = xs; decl = d; loc = whole_place u }), v)
 unfolding outside_at
 outside_back {u} xs d v = not_namespace xs (u ++ v) (begins_head KwNamespace v (decl_head d) (decl_head d).is.3) ∙ rw (decl_back d v, place_back u v) refl
   where
-    not_namespace : (xs : List AnnotationSyntax) (ts : List Token) → begins KwNamespace ts ≡ false → item_body_at xs ts ≡ outside_at xs ts
+    not_namespace : (xs : List AnnotationSyntax) (ts : List Token) → begins KwNamespace ts ≡ false
+        → item_body_at xs ts ≡ outside_at xs ts
     not_namespace xs [] e = refl
     not_namespace xs (t ∷ ts) e = rw e refl
 
@@ -558,7 +615,8 @@ unfolding item_turn
 item_turn_item [] h = absurd (omega (arith, h))
 item_turn_item (t ∷ ts) h = refl
 
-many_items : {u : List Token} {xs : List ItemSyntax} → IsSyntax u xs → (n : ℕ) → length u < n → many_at item_turn n u ≡ Some (xs, [])
+many_items : {u : List Token} {xs : List ItemSyntax} → IsSyntax u xs → (n : ℕ) → length u < n
+    → many_at item_turn n u ≡ Some (xs, [])
 unfolding item_turn
 many_items S.none n l = many_done item_turn n [] [] l refl
 many_items (S.more {u = u} {v = w} {x = x} {xs = xs} i r) n l =
@@ -576,5 +634,6 @@ pub one_syntax : (u : List Token) (xs ys : List ItemSyntax) → IsSyntax u xs �
 one_syntax u xs ys p q = ap (λ (o : Read (List ItemSyntax)). elim o [ None ↦ xs | Some r ↦ r.0 ]) (sym (items_back u xs p) ∙ items_back u ys q)
 
 -- what is read of tokens is their syntax
-pub read_found : (u : List Token) (xs ys : List ItemSyntax) (rest : List Token) → items_at u ≡ Some (ys, rest) → IsSyntax u xs → ys ≡ xs
+pub read_found : (u : List Token) (xs ys : List ItemSyntax) (rest : List Token) → items_at u ≡ Some (ys, rest)
+    → IsSyntax u xs → ys ≡ xs
 read_found u xs ys rest e p = ap (λ (o : Read (List ItemSyntax)). elim o [ None ↦ ys | Some r ↦ r.0 ]) (sym e ∙ items_back u xs p)

@@ -30,7 +30,8 @@ pub record Apart (k : TokenKind) : Type 0 where
   pub lbrace : same_kind LBrace k ≡ false
   pub rbrace : same_kind RBrace k ≡ false
 
-abbrev apart : (k : TokenKind) → same_kind At k ≡ false → same_kind LParen k ≡ false → same_kind LBracket k ≡ false → same_kind RBracket k ≡ false → same_kind LBrace k ≡ false → same_kind RBrace k ≡ false → Apart k
+abbrev apart : (k : TokenKind) → same_kind At k ≡ false → same_kind LParen k ≡ false → same_kind LBracket k ≡ false
+    → same_kind RBracket k ≡ false → same_kind LBrace k ≡ false → same_kind RBrace k ≡ false → Apart k
 apart k a b c d e f = record { at = a; lparen = b; lbracket = c; rbracket = d; lbrace = e; rbrace = f }
 
 pub ident_apart : (k : TokenKind) → is_ident k ≡ true → Apart k
@@ -89,10 +90,12 @@ pub record Head (P : TokenKind → Type 0) (u : List Token) : Type 0 where
   pub whole : u ≡ first ∷ rest
   pub is : P first.kind
 
-pub begins_head : {P : TokenKind → Type 0} {u : List Token} (k : TokenKind) (v : List Token) (h : Head P u) → same_kind k h.first.kind ≡ false → begins k (u ++ v) ≡ false
+pub begins_head : {P : TokenKind → Type 0} {u : List Token} (k : TokenKind) (v : List Token) (h : Head P u)
+    → same_kind k h.first.kind ≡ false → begins k (u ++ v) ≡ false
 begins_head k v h e = ap (λ (x : List Token). begins k (x ++ v)) h.whole ∙ e
 
-pub chain_head : {s : TokenKind} {is : TokenKind → Bool} {u names : List Token} → IsChain s is u names → Head (λ k. is k ≡ true) u
+pub chain_head : {s : TokenKind} {is : TokenKind → Bool} {u names : List Token} → IsChain s is u names
+    → Head (λ k. is k ≡ true) u
 chain_head (one {t = t} h) = record { first = t; rest = []; whole = refl; is = h }
 chain_head (more {t = t} {s = s} {u = u} h k r) = record { first = t; rest = s ∷ u; whole = refl; is = h }
 
@@ -128,24 +131,29 @@ attr_head (attr n c {m = m} {u = u} (bare {a = a} {k = k} {u = b} x w r) h y l t
 attr_head (attr n c {m = m} {u = u} (valued {a = a} {k = k} {o = o} {v = v} {c = d} {u = b} x w y z q r) h s l t) = record { first = a; rest = k ∷ o ∷ v ∷ d ∷ (b ++ n ∷ (m ++ c ∷ u)); whole = refl; is = rw x (refl, refl) }
 
 -- what follows a part that may be empty
-pub skip_parents : {P : List Token → PathSyntax → Type 0} {u : List Token} {ps : List PathSyntax} (k : TokenKind) (v : List Token) → AreParents P u ps → same_kind k KwIn ≡ false → begins k v ≡ false → begins k (u ++ v) ≡ false
+pub skip_parents : {P : List Token → PathSyntax → Type 0} {u : List Token} {ps : List PathSyntax} (k : TokenKind) (v : List Token)
+    → AreParents P u ps → same_kind k KwIn ≡ false → begins k v ≡ false → begins k (u ++ v) ≡ false
 skip_parents k v no_parents e f = f
 skip_parents k v (in_parents h l) e f = rw h e
 
-pub skip_shape : {u : List Token} {s : Option (List AttrSyntax × Span)} (k : TokenKind) (v : List Token) → IsShape u s → same_kind k Equals ≡ false → same_kind k LBrace ≡ false → begins k v ≡ false → begins k (u ++ v) ≡ false
+pub skip_shape : {u : List Token} {s : Option (List AttrSyntax × Span)} (k : TokenKind) (v : List Token) → IsShape u s
+    → same_kind k Equals ≡ false → same_kind k LBrace ≡ false → begins k v ≡ false → begins k (u ++ v) ≡ false
 skip_shape k v no_shape e f g = g
 skip_shape k v (bare_shape (braces c h r l)) e f g = rw h f
 skip_shape k v (equals_shape h r) e f g = rw h e
 
-pub skip_tags : {u : List Token} {t : Option TypeSyntax} (k : TokenKind) (v : List Token) → AreTags u t → same_kind k KwTags ≡ false → begins k v ≡ false → begins k (u ++ v) ≡ false
+pub skip_tags : {u : List Token} {t : Option TypeSyntax} (k : TokenKind) (v : List Token) → AreTags u t
+    → same_kind k KwTags ≡ false → begins k v ≡ false → begins k (u ++ v) ≡ false
 skip_tags k v no_tags e f = f
 skip_tags k v (some_tags h r) e f = rw h e
 
-pub skip_applies : {u : List Token} {s : Option (List AppSyntax × Span)} (k : TokenKind) (v : List Token) → Applies u s → same_kind k KwAppliesTo ≡ false → begins k v ≡ false → begins k (u ++ v) ≡ false
+pub skip_applies : {u : List Token} {s : Option (List AppSyntax × Span)} (k : TokenKind) (v : List Token)
+    → Applies u s → same_kind k KwAppliesTo ≡ false → begins k v ≡ false → begins k (u ++ v) ≡ false
 skip_applies k v no_applies e f = f
 skip_applies k v (some_applies c h o r l) e f = rw h e
 
-pub skip_annotations : {u : List Token} {xs : List AnnotationSyntax} (k : TokenKind) (v : List Token) → AreAnnotations u xs → same_kind k At ≡ false → begins k v ≡ false → begins k (u ++ v) ≡ false
+pub skip_annotations : {u : List Token} {xs : List AnnotationSyntax} (k : TokenKind) (v : List Token)
+    → AreAnnotations u xs → same_kind k At ≡ false → begins k v ≡ false → begins k (u ++ v) ≡ false
 skip_annotations k v none e f = f
 skip_annotations k v (bare h w r) e f = rw h e
 skip_annotations k v (valued h w o l c r) e f = rw h e
@@ -169,7 +177,8 @@ head_length h = omega (arith, ap length h.whole)
 pub declared_length : {u : List Token} {d : DeclaredSyntax} → IsDeclared u d → 0 < length u
 declared_length (declared {a = a} {u = u} xs d) = omega (arith, length-append a u, head_length (decl_head d))
 
-pub declared_close : {u : List Token} {d : DeclaredSyntax} (v : List Token) → IsDeclared u d → begins RBrace (u ++ v) ≡ false
+pub declared_close : {u : List Token} {d : DeclaredSyntax} (v : List Token) → IsDeclared u d
+    → begins RBrace (u ++ v) ≡ false
 declared_close v (declared {u = u} none d) = begins_head RBrace v (decl_head d) (decl_head d).is.2
 declared_close v (declared (bare h w r) d) = rw h refl
 declared_close v (declared (valued h w o l c r) d) = rw h refl

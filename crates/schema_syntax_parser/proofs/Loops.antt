@@ -8,11 +8,13 @@ use Rattle.schema_syntax_parser.specs.Reading.{◌>>=◌, Fails, Read, Turn, Don
 use Rattle.schema_syntax_parser.specs.declared.syntax.AttrSyntax.{AttrSyntax}
 use Rattle.schema_syntax_grammar.specs.declared.token_kind.TokenKind.TheVariants.{RBrace}
 
-pub many_more : {A : Type 0} (turn : List Token → Option (Turn A)) (n : ℕ) (ts : List Token) → many_at turn (n + 1) ts ≡ turn ts >>= after_turn (many_at turn n)
+pub many_more : {A : Type 0} (turn : List Token → Option (Turn A)) (n : ℕ) (ts : List Token)
+    → many_at turn (n + 1) ts ≡ turn ts >>= after_turn (many_at turn n)
 unfolding many_at
 many_more turn n ts = let e : n + 1 ≡ suc n = omega arith in rw e refl
 
-with_with : {A : Type 0} (done : List A) (x : A) (read : Read (List A)) → with_items (done ++ x ∷ []) read ≡ with_items done (read >>= λ r. Some (x ∷ r.0, r.1))
+with_with : {A : Type 0} (done : List A) (x : A) (read : Read (List A))
+    → with_items (done ++ x ∷ []) read ≡ with_items done (read >>= λ r. Some (x ∷ r.0, r.1))
 with_with done x None = refl
 with_with done x (Some r) = ap (λ d. Some (d, r.1)) (append_assoc done (x ∷ []) r.0)
 
@@ -28,22 +30,26 @@ module _ {A : Type 0} (done : List A) (read : Option (Turn A)) (others : List To
   pub turn_last : (x : A) (rest : List Token) → read ≡ Some (Last x rest) → total ≡ Some (done ++ x ∷ [], rest)
   turn_last x rest e = sym so_far ∙ rw e refl
 
-  pub turn_more : (x : A) (rest : List Token) → read ≡ Some (More x rest) → with_items (done ++ x ∷ []) (others rest) ≡ total
+  pub turn_more : (x : A) (rest : List Token) → read ≡ Some (More x rest)
+      → with_items (done ++ x ∷ []) (others rest) ≡ total
   turn_more x rest e = with_with done x (others rest) ∙ (sym (rw e refl) ∙ so_far)
 
 -- an item that others follow, with no turn left
-pub turn_out : {A : Type 0} (turn : List Token → Option (Turn A)) (done : List A) (left : ℕ) (ts : List Token) (total : Read (List A)) → left ≡ 0 → with_items done (many_at turn (left + 1) ts) ≡ total
+pub turn_out : {A : Type 0} (turn : List Token → Option (Turn A)) (done : List A) (left : ℕ) (ts : List Token) (total : Read (List A))
+    → left ≡ 0 → with_items done (many_at turn (left + 1) ts) ≡ total
     → (x : A) (rest : List Token) → turn ts ≡ Some (More x rest) → total ≡ None
 unfolding many_at
 turn_out turn done left ts total z so_far x rest e = sym so_far ∙ rw (z, e) refl
 
 -- attributes, of which at most so many may come
-pub attrs_more : (n : ℕ) (ts : List Token) → 0 < n → attrs_at n ts ≡ separated_turn RBrace (attr_step (type_at (n - 1))) ts >>= after_turn (attrs_at (n - 1))
+pub attrs_more : (n : ℕ) (ts : List Token) → 0 < n
+    → attrs_at n ts ≡ separated_turn RBrace (attr_step (type_at (n - 1))) ts >>= after_turn (attrs_at (n - 1))
 unfolding attrs_at type_at
 attrs_more zero ts h = absurd (omega (arith, h))
 attrs_more (suc n) ts h = let e : suc n - 1 ≡ n = omega arith in rw e refl
 
-pub attrs_none : (done : List AttrSyntax) (n : ℕ) (ts : List Token) (total : Read (List AttrSyntax)) → n ≤ 0 → with_items done (attrs_at n ts) ≡ total → total ≡ None
+pub attrs_none : (done : List AttrSyntax) (n : ℕ) (ts : List Token) (total : Read (List AttrSyntax)) → n ≤ 0
+    → with_items done (attrs_at n ts) ≡ total → total ≡ None
 unfolding attrs_at
 attrs_none done zero ts total h e = sym e
 attrs_none done (suc n) ts total h e = absurd (omega (arith, h))
@@ -53,7 +59,8 @@ pub type_none : (n : ℕ) (ts : List Token) → n ≡ 0 → type_at n ts ≡ Non
 unfolding type_at
 type_none n ts e = rw e refl
 
-pub type_more : (n : ℕ) (ts : List Token) → (n ≡ 0 → ⊥) → type_at n ts ≡ whole_type_step (type_at (n - 1)) (attrs_at (n - 1)) ts
+pub type_more : (n : ℕ) (ts : List Token) → (n ≡ 0 → ⊥)
+    → type_at n ts ≡ whole_type_step (type_at (n - 1)) (attrs_at (n - 1)) ts
 unfolding type_at attrs_at
 type_more zero ts h = absurd (h refl)
 type_more (suc n) ts h = let e : suc n - 1 ≡ n = omega arith in rw e refl

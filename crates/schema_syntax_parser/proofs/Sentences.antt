@@ -22,10 +22,12 @@ use Rattle.schema_syntax_parser.specs.Syntax as S
 both : (u v : List Token) → kinds_of (u ++ v) ≡ kinds_of u ++ kinds_of v
 both u v = map-append (λ (t : Token). t.kind) u v
 
-before : (c : Token) (v : List Token) (k : TokenKind) (w : Kinds) → c.kind ≡ k → kinds_of v ≡ w → kinds_of (c ∷ v) ≡ k ∷ w
+before : (c : Token) (v : List Token) (k : TokenKind) (w : Kinds) → c.kind ≡ k → kinds_of v ≡ w
+    → kinds_of (c ∷ v) ≡ k ∷ w
 before c v k w e f = λ i. e i ∷ f i
 
-between : (u : List Token) (c : Token) (v : List Token) (k : TokenKind) (w : Kinds) → c.kind ≡ k → kinds_of v ≡ w → kinds_of (u ++ c ∷ v) ≡ kinds_of u ++ k ∷ w
+between : (u : List Token) (c : Token) (v : List Token) (k : TokenKind) (w : Kinds) → c.kind ≡ k → kinds_of v ≡ w
+    → kinds_of (u ++ c ∷ v) ≡ kinds_of u ++ k ∷ w
 between u c v k w e f = both u (c ∷ v) ∙ ap (λ l. kinds_of u ++ l) (before c v k w e f)
 
 closed : (u : List Token) (c : Token) (k : TokenKind) → c.kind ≡ k → kinds_of (u ++ c ∷ []) ≡ kinds_of u ++ k ∷ []

@@ -155,7 +155,8 @@ set_step type_at t (o ∷ ts) =
     else as_type (path_at (t ∷ o ∷ ts))
 
 -- a type, from what reads an element and attributes
-unfoldable pub whole_type_step : (List Token → Read TypeSyntax) → (List Token → Read (List AttrSyntax)) → List Token → Read TypeSyntax
+unfoldable pub whole_type_step : (List Token → Read TypeSyntax) → (List Token → Read (List AttrSyntax)) → List Token
+    → Read TypeSyntax
 whole_type_step type_at attrs_at [] = None
 whole_type_step type_at attrs_at (t ∷ ts) =
     if same_kind LBrace t.kind then (attrs_at ts >>= λ r. Some (Record r.0 (place_before (t ∷ ts) r.1), r.1))

@@ -24,7 +24,8 @@ cut R (x ∷ xs) ys (l ∷ ls) h =
     let c = cut R xs ys ls h.1 in
     record { left = l ∷ c.left; right = c.right; whole = ap (λ (v : List _). l ∷ v) c.whole; first = (h.0, c.first); second = c.second }
 
-abbrev onward : {A B : Type 0} → (A × List Leaf → Option (B × List Leaf)) → Option (A × List Leaf) → Option (B × List Leaf)
+abbrev onward : {A B : Type 0} → (A × List Leaf → Option (B × List Leaf)) → Option (A × List Leaf)
+    → Option (B × List Leaf)
 onward g found = found >>= g
 
 abbrev beside : {B : Type 0} → List Leaf → Option B → Option (B × List Leaf)
@@ -41,10 +42,13 @@ module _ (text : List ℕ) where
 
   -- From leaves of these sites, whatever follows them, a part is built, and it is so.
   pub record Built {A : Type 0} (sites : List Site) (from : Builds A) (Is : A → Type 0) : Type 0 where
-    pub build : (ls rest : List Leaf) → AllZip (IsLeaf text) sites ls → (x : A) × (from (ls ++ rest) ≡ Some (x, rest)) × Is x
+    pub build : (ls rest : List Leaf) → AllZip (IsLeaf text) sites ls
+        → (x : A) × (from (ls ++ rest) ≡ Some (x, rest)) × Is x
 
   -- a part of one site
-  pub of_site : {A : Type 0} {from : Builds A} {Is : A → Type 0} (s : Site) → ((l : Leaf) → IsLeaf text s l → (x : A) × ((rest : List Leaf) → from (l ∷ rest) ≡ Some (x, rest)) × Is x) → Built (s ∷ []) from Is
+  pub of_site : {A : Type 0} {from : Builds A} {Is : A → Type 0} (s : Site)
+      → ((l : Leaf) → IsLeaf text s l → (x : A) × ((rest : List Leaf) → from (l ∷ rest) ≡ Some (x, rest)) × Is x)
+      → Built (s ∷ []) from Is
   of_site {A} {from} {Is} s k = record { build = go }
     where
       go : Run (s ∷ []) from Is
@@ -62,7 +66,8 @@ module _ (text : List ℕ) where
 
   -- a part, and then another one
   pub both : {A B : Type 0} {s t : List Site} {f : Builds A} {P : A → Type 0} {Q : B → Type 0} (g : A × List Leaf → Option (B × List Leaf))
-      → Built s f P → ((x : A) → P x → Built t (λ leaves. g (x, leaves)) Q) → Built (s ++ t) (λ leaves. f leaves >>= g) Q
+      → Built s f P → ((x : A) → P x → Built t (λ leaves. g (x, leaves)) Q)
+      → Built (s ++ t) (λ leaves. f leaves >>= g) Q
   both {A} {B} {s} {t} {f} {P} {Q} g first second = record { build = go }
     where
       go : Run (s ++ t) (λ leaves. f leaves >>= g) Q
@@ -85,7 +90,8 @@ module _ (text : List ℕ) where
 
   -- a part, of which another may be made
   pub kept : {A B : Type 0} {s : List Site} {f : Builds A} {P : A → Type 0} {Q : B → Type 0} (g : A → Option B)
-      → Built s f P → ((x : A) → P x → (y : B) × (g x ≡ Some y) × Q y) → Built s (λ leaves. f leaves >>= λ r. g r.0 >>= λ y. Some (y, r.1)) Q
+      → Built s f P → ((x : A) → P x → (y : B) × (g x ≡ Some y) × Q y)
+      → Built s (λ leaves. f leaves >>= λ r. g r.0 >>= λ y. Some (y, r.1)) Q
   kept {A} {B} {s} {f} {P} {Q} g first second = record { build = go }
     where
       go : Run s (λ leaves. f leaves >>= λ r. g r.0 >>= λ y. Some (y, r.1)) Q
@@ -95,7 +101,8 @@ module _ (text : List ℕ) where
           (y.0, ap (onward (λ r. g r.0 >>= λ y. Some (y, r.1))) x.1 ∙ ap (beside rest) y.1, y.2)
 
   -- another reading of the same
-  pub same : {A : Type 0} {s t : List Site} {f g : Builds A} {P : A → Type 0} → s ≡ t → ((leaves : List Leaf) → f leaves ≡ g leaves) → Built t g P → Built s f P
+  pub same : {A : Type 0} {s t : List Site} {f g : Builds A} {P : A → Type 0} → s ≡ t
+      → ((leaves : List Leaf) → f leaves ≡ g leaves) → Built t g P → Built s f P
   same {A} {s} {t} {f} {g} {P} e k b = record { build = λ ls rest h. let x = b.build ls rest (rw e at h) in (x.0, k (ls ++ rest) ∙ x.1, x.2) }
 
   -- lists
@@ -108,11 +115,13 @@ module _ (text : List ℕ) where
     all_built [] h = done [] tt
     all_built (r ∷ rs) h = both _ h.0 (λ x is. then (λ (xs : List A). x ∷ xs) (all_built rs h.1) (λ xs are. (is, are)))
 
-    one_found : (r : R) (rs : List R) (xs : List A) → AllZip Is (r ∷ rs) xs → (ys : List A) × (at_least_one xs ≡ Some ys) × AllZip Is (r ∷ rs) ys
+    one_found : (r : R) (rs : List R) (xs : List A) → AllZip Is (r ∷ rs) xs
+        → (ys : List A) × (at_least_one xs ≡ Some ys) × AllZip Is (r ∷ rs) ys
     one_found r rs [] h = absurd h
     one_found r rs (x ∷ xs) h = (x ∷ xs, refl, h)
 
-    pub some_built : (r : R) (rs : List R) → Parts (r ∷ rs) → Built (flat_map sites (r ∷ rs)) (some_from part (r ∷ rs)) (AllZip Is (r ∷ rs))
+    pub some_built : (r : R) (rs : List R) → Parts (r ∷ rs)
+        → Built (flat_map sites (r ∷ rs)) (some_from part (r ∷ rs)) (AllZip Is (r ∷ rs))
     unfolding some_from
     some_built r rs h = kept at_least_one (all_built (r ∷ rs) h) (one_found r rs)
 
@@ -122,6 +131,7 @@ module _ (text : List ℕ) where
     found (r ∷ rs) [] h = absurd h
     found (r ∷ rs) (x ∷ xs) h = h
 
-    pub optional_built : (raws : List R) → Parts raws → Built (flat_map sites raws) (optional_from part raws) (IsOptional text (AllZip Is) raws)
+    pub optional_built : (raws : List R) → Parts raws
+        → Built (flat_map sites raws) (optional_from part raws) (IsOptional text (AllZip Is) raws)
     unfolding optional_from
     optional_built raws h = then at_least_one (all_built raws h) (found raws)

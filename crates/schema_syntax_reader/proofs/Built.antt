@@ -45,20 +45,25 @@ each_of : {A : Type 0} {P : A → Type 0} → ((x : A) → P x) → (xs : List A
 each_of h [] = tt
 each_of h (x ∷ xs) = (h x, each_of h xs)
 
-separated : {A : Type 0} {P : List Token → A → Type 0} {Q : A → Type 0} → ((u : List Token) (x : A) → P u x → Q x) → {u : List Token} {xs : List A} → AreSeparated P u xs → Each Q xs
+separated : {A : Type 0} {P : List Token → A → Type 0} {Q : A → Type 0} → ((u : List Token) (x : A) → P u x → Q x)
+    → {u : List Token} {xs : List A} → AreSeparated P u xs → Each Q xs
 separated k S.none = tt
 separated k (last p) = (k _ _ p, tt)
 separated k (S.more c p e r) = (k _ _ p, separated k r)
 
-of_list : {A : Type 0} {P : List Token → A → Type 0} {Q : A → Type 0} → ((u : List Token) (x : A) → P u x → Q x) → {u : List Token} {xs : List A} → AreListed P u xs → Each Q xs
+of_list : {A : Type 0} {P : List Token → A → Type 0} {Q : A → Type 0} → ((u : List Token) (x : A) → P u x → Q x)
+    → {u : List Token} {xs : List A} → AreListed P u xs → Each Q xs
 of_list k (single p) = (k _ _ p, tt)
 of_list k (listed c o p e) = separated k p
 
-of_parents : {P : List Token → PathSyntax → Type 0} {Q : PathSyntax → Type 0} → ((u : List Token) (x : PathSyntax) → P u x → Q x) → {u : List Token} {xs : List PathSyntax} → AreParents P u xs → Each Q xs
+of_parents : {P : List Token → PathSyntax → Type 0} {Q : PathSyntax → Type 0}
+    → ((u : List Token) (x : PathSyntax) → P u x → Q x) → {u : List Token} {xs : List PathSyntax} → AreParents P u xs
+    → Each Q xs
 of_parents k no_parents = tt
 of_parents k (in_parents e p) = of_list k p
 
-many : {A : Type 0} {P : List Token → A → Type 0} {Q : A → Type 0} → ((u : List Token) (x : A) → P u x → Q x) → {u : List Token} {xs : List A} → AreMany P u xs → Each Q xs
+many : {A : Type 0} {P : List Token → A → Type 0} {Q : A → Type 0} → ((u : List Token) (x : A) → P u x → Q x)
+    → {u : List Token} {xs : List A} → AreMany P u xs → Each Q xs
 many k S.none = tt
 many k (S.more p r) = (k _ _ p, many k r)
 
@@ -80,7 +85,8 @@ module _ (text : List ℕ) where
   B = Built text
 
   -- words and strings
-  id_leaf : (k : TokenKind) (t : Token) → is_ident k ≡ true → (l : Leaf) → IsLeaf text (site_of_kind k t) l → (id : Id) × ((rest : List Leaf) → id_from (l ∷ rest) ≡ Some (id, rest)) × IsId text t id
+  id_leaf : (k : TokenKind) (t : Token) → is_ident k ≡ true → (l : Leaf) → IsLeaf text (site_of_kind k t) l
+      → (id : Id) × ((rest : List Leaf) → id_from (l ∷ rest) ≡ Some (id, rest)) × IsId text t id
   id_leaf StringLit t h l z = cc
   id_leaf _ t h (leaf.Word id) z = (id, λ rest. refl, z)
   id_leaf _ t h (leaf.Text v) z = absurd z
@@ -92,7 +98,8 @@ module _ (text : List ℕ) where
   id_node : (t : Token) → is_ident t.kind ≡ true → B (name_sites t) (id_node_from t) (IsIdNode text t)
   id_node t h = then text (λ (id : Id). record { node = id; loc = Some t.loc }) (bare_id t h) (λ id is. (is, refl))
 
-  name_leaf : (k : TokenKind) (t : Token) (l : Leaf) → IsLeaf text (site_of_kind k t) l → (v : List ℕ) × ((rest : List Leaf) → name_from (l ∷ rest) ≡ Some (v, rest)) × IsNameOf text k t v
+  name_leaf : (k : TokenKind) (t : Token) (l : Leaf) → IsLeaf text (site_of_kind k t) l
+      → (v : List ℕ) × ((rest : List Leaf) → name_from (l ∷ rest) ≡ Some (v, rest)) × IsNameOf text k t v
   name_leaf StringLit t (leaf.Word id) z = absurd z
   name_leaf StringLit t (leaf.Text v) z = (v, λ rest. refl, z)
   name_leaf StringLit t (leaf.Annotations n) z = absurd z
@@ -106,7 +113,8 @@ module _ (text : List ℕ) where
   name_node : (t : Token) → B (name_sites t) (name_node_from t) (IsNameNode text t)
   name_node t = then text (λ (v : List ℕ). record { node = v; loc = Some t.loc }) (name_built t) (λ v is. (is, refl))
 
-  string_leaf : (k : TokenKind) (t : Token) → k ≡ StringLit → (l : Leaf) → IsLeaf text (site_of_kind k t) l → (v : List ℕ) × ((rest : List Leaf) → text_from (l ∷ rest) ≡ Some (v, rest)) × IsStringAt text t v
+  string_leaf : (k : TokenKind) (t : Token) → k ≡ StringLit → (l : Leaf) → IsLeaf text (site_of_kind k t) l
+      → (v : List ℕ) × ((rest : List Leaf) → text_from (l ∷ rest) ≡ Some (v, rest)) × IsStringAt text t v
   string_leaf StringLit t h (leaf.Word id) z = absurd z
   string_leaf StringLit t h (leaf.Text v) z = (v, λ rest. refl, z)
   string_leaf StringLit t h (leaf.Annotations n) z = absurd z
@@ -115,7 +123,8 @@ module _ (text : List ℕ) where
   choice : (t : Token) → t.kind ≡ StringLit → B (name_sites t) (choice_from t) (IsChoice text t)
   choice t h = then text (λ (v : List ℕ). record { node = record { 0 = v }; loc = Some t.loc }) (of_site text (site_of_kind t.kind t) (string_leaf t.kind t h)) (λ v is. (is, refl))
 
-  notes_leaf : (list : List AnnotationSyntax) (l : Leaf) → IsLeaf text (site.annotations list) l → (n : Annotations) × ((rest : List Leaf) → notes_from (l ∷ rest) ≡ Some (n, rest)) × AreNotes text list n.0
+  notes_leaf : (list : List AnnotationSyntax) (l : Leaf) → IsLeaf text (site.annotations list) l
+      → (n : Annotations) × ((rest : List Leaf) → notes_from (l ∷ rest) ≡ Some (n, rest)) × AreNotes text list n.0
   notes_leaf list (leaf.Word id) z = absurd z
   notes_leaf list (leaf.Text v) z = absurd z
   notes_leaf list (leaf.Annotations n) z = (n, λ rest. refl, z)
@@ -124,11 +133,13 @@ module _ (text : List ℕ) where
   notes list = of_site text (site.annotations list) (notes_leaf list)
 
   -- lists of names
-  idents : (names : List Token) → Each (λ t. is_ident t.kind ≡ true) names → Each (λ t. B (name_sites t) (id_node_from t) (IsIdNode text t)) names
+  idents : (names : List Token) → Each (λ t. is_ident t.kind ≡ true) names
+      → Each (λ t. B (name_sites t) (id_node_from t) (IsIdNode text t)) names
   idents [] h = tt
   idents (t ∷ ts) h = (id_node t h.0, idents ts h.1)
 
-  bare_ids : (names : List Token) → Each (λ t. is_ident t.kind ≡ true) names → Each (λ t. B (name_sites t) (bare_id_from t) (IsId text t)) names
+  bare_ids : (names : List Token) → Each (λ t. is_ident t.kind ≡ true) names
+      → Each (λ t. B (name_sites t) (bare_id_from t) (IsId text t)) names
   bare_ids [] h = tt
   bare_ids (t ∷ ts) h = (bare_id t h.0, bare_ids ts h.1)
 
@@ -148,11 +159,13 @@ module _ (text : List ℕ) where
   abbrev IsWhole : List Token → Span → Path → Type 0
   IsWhole names loc p = AllZip (IsId text) names p.ids × (p.loc ≡ Some loc)
 
-  path_made : (t : Token) (ts : List Token) (loc : Span) (ids : List Id) → AllZip (IsId text) (t ∷ ts) ids → (p : Path) × (path_of ids loc ≡ Some p) × IsWhole (t ∷ ts) loc p
+  path_made : (t : Token) (ts : List Token) (loc : Span) (ids : List Id) → AllZip (IsId text) (t ∷ ts) ids
+      → (p : Path) × (path_of ids loc ≡ Some p) × IsWhole (t ∷ ts) loc p
   path_made t ts loc [] h = absurd h
   path_made t ts loc (id ∷ ids) h = (record { ids = id ∷ ids; loc = Some loc }, refl, (h, refl))
 
-  path_names : (t : Token) (ts : List Token) (loc : Span) → Each (λ t. is_ident t.kind ≡ true) (t ∷ ts) → B (names_sites (t ∷ ts)) (names_from (t ∷ ts) loc) (IsWhole (t ∷ ts) loc)
+  path_names : (t : Token) (ts : List Token) (loc : Span) → Each (λ t. is_ident t.kind ≡ true) (t ∷ ts)
+      → B (names_sites (t ∷ ts)) (names_from (t ∷ ts) loc) (IsWhole (t ∷ ts) loc)
   unfolding names_from
   path_names t ts loc h = kept text (λ (ids : List Id). path_of ids loc) (all_built text name_sites bare_id_from (IsId text) (t ∷ ts) (bare_ids (t ∷ ts) h)) (path_made t ts loc)
 
@@ -181,7 +194,8 @@ module _ (text : List ℕ) where
   sites_front : (ts : List Token) (q : Token) → names_sites (ts ++ q ∷ []) ≡ names_sites ts ++ name_sites q
   sites_front ts q = flat_map-append name_sites ts (q ∷ [])
 
-  typed_path : (t : Token) (ts : List Token) → Each (λ t. is_ident t.kind ≡ true) (t ∷ ts) → B (names_sites (t ∷ ts)) (type_of_ref_from (t ∷ ts)) (IsTypeOfRef text (t ∷ ts))
+  typed_path : (t : Token) (ts : List Token) → Each (λ t. is_ident t.kind ≡ true) (t ∷ ts)
+      → B (names_sites (t ∷ ts)) (type_of_ref_from (t ∷ ts)) (IsTypeOfRef text (t ∷ ts))
   unfolding type_of_ref_from
   typed_path t ts h = then text (λ (p : Path). Some p) (path_names t ts (whole_place (t ∷ ts)) h) (λ p is. is)
 
@@ -189,7 +203,8 @@ module _ (text : List ℕ) where
   unfolding type_of_ref_from
   no_path = done text None refl
 
-  whole_ref : (front : List Token) (q : Token) (loc : Span) → B (names_sites front) (type_of_ref_from front) (IsTypeOfRef text front)
+  whole_ref : (front : List Token) (q : Token) (loc : Span)
+      → B (names_sites front) (type_of_ref_from front) (IsTypeOfRef text front)
       → B (names_sites (front ++ q ∷ [])) (ref_from (record { names = front ++ q ∷ []; loc = loc })) (IsRefOf text (record { names = front ++ q ∷ []; loc = loc }))
   unfolding ref_from
   whole_ref front q loc b =
@@ -223,7 +238,8 @@ module _ (text : List ℕ) where
     is_type : IsTypeOf text (out-AttrSyntax a).ty ty
     are_notes : AreNotes text (out-AttrSyntax a).annotations notes.0
 
-  more_attr : (a : AttrSyntax) (xs : List AttrSyntax) (n : BuiltAttribute) (ys : List BuiltAttribute) → IsAttrOf a n → AreAttrsOf text xs ys → AreAttrsOf text (a ∷ xs) (n ∷ ys)
+  more_attr : (a : AttrSyntax) (xs : List AttrSyntax) (n : BuiltAttribute) (ys : List BuiltAttribute) → IsAttrOf a n
+      → AreAttrsOf text xs ys → AreAttrsOf text (a ∷ xs) (n ∷ ys)
   more_attr a xs n ys h r = subst (λ (m : BuiltAttribute). AreAttrsOf text (a ∷ xs) (m ∷ ys)) (sym h.whole) (tree.more h.name h.ty h.notes h.is_name h.is_type h.are_notes r)
 
   abbrev TypeBuilt : TypeSyntax → Type 0
@@ -266,17 +282,20 @@ module _ (text : List ℕ) where
   record_built : {u : List Token} {xs : List AttrSyntax} → IsRecord u xs → AttrsBuilt xs
   record_built (braces c ko r kc) = attrs_built r
 
-  shape_some : (xs : List AttrSyntax) (loc : Span) → AttrsBuilt xs → B (sites_of_attrs xs) (shape_from (Some (xs, loc))) (IsShapeOf text (Some (xs, loc)))
+  shape_some : (xs : List AttrSyntax) (loc : Span) → AttrsBuilt xs
+      → B (sites_of_attrs xs) (shape_from (Some (xs, loc))) (IsShapeOf text (Some (xs, loc)))
   unfolding shape_from
   shape_some xs loc b = then text _ b (λ ys are. (are, refl))
 
-  shape_built : {u : List Token} {s : Option (List AttrSyntax × Span)} → IsShape u s → B (shape_sites s) (shape_from s) (IsShapeOf text s)
+  shape_built : {u : List Token} {s : Option (List AttrSyntax × Span)} → IsShape u s
+      → B (shape_sites s) (shape_from s) (IsShapeOf text s)
   unfolding shape_from
   shape_built no_shape = done text _ (refl, refl)
   shape_built (bare_shape {u = u} {xs = xs} r) = shape_some xs (whole_place u) (record_built r)
   shape_built (equals_shape {u = u} {xs = xs} e r) = shape_some xs (whole_place u) (record_built r)
 
-  tags_built : {u : List Token} {t : Option TypeSyntax} → AreTags u t → B (tags_sites t) (tags_from t) (AreTagsOf text t)
+  tags_built : {u : List Token} {t : Option TypeSyntax} → AreTags u t
+      → B (tags_sites t) (tags_from t) (AreTagsOf text t)
   unfolding tags_from
   tags_built no_tags = done text None refl
   tags_built (some_tags k r) = then text _ (type_built r) (λ n is. is)
@@ -297,20 +316,25 @@ module _ (text : List ℕ) where
   no_list : {A : Type 0} {from : Builds A} {Is : A → Type 0} (s : Span) → B (site.empty s ∷ []) from Is
   no_list s = of_site text (site.empty s) (λ l z. absurd (no_leaf s l z))
 
-  some_apps_built : (as' : List AppSyntax) (loc : Span) → Each (λ a. B (app_sites a) (app_from a) (IsAppOf text a)) as' → B (apps_sites as' loc) (some_from app_from as') (AllZip (IsAppOf text) as')
+  some_apps_built : (as' : List AppSyntax) (loc : Span)
+      → Each (λ a. B (app_sites a) (app_from a) (IsAppOf text a)) as'
+      → B (apps_sites as' loc) (some_from app_from as') (AllZip (IsAppOf text) as')
   some_apps_built [] loc h = no_list loc
   some_apps_built (a ∷ as') loc h = some_built text app_sites app_from (IsAppOf text) a as' h
 
-  applies_built : {u : List Token} {s : Option (List AppSyntax × Span)} → Applies u s → B (applies_sites s) (applies_from s) (AppliesOf text s)
+  applies_built : {u : List Token} {s : Option (List AppSyntax × Span)} → Applies u s
+      → B (applies_sites s) (applies_from s) (AppliesOf text s)
   unfolding applies_from
   applies_built no_applies = done text None refl
   applies_built (some_applies c {xs = xs} kw ko r kc) = then text _ (some_apps_built xs _ (separated (λ u x p. app_built p) r)) (λ ys are. (are, refl))
 
   -- declarations
-  string_choice : {u : List Token} {t : Token} → IsStringToken u t → B (name_sites t) (choice_from t) (IsChoice text t)
+  string_choice : {u : List Token} {t : Token} → IsStringToken u t
+      → B (name_sites t) (choice_from t) (IsChoice text t)
   string_choice (string {t = t} h) = choice t h
 
-  choices_built : (ts : List Token) (loc : Span) → Each (λ t. B (name_sites t) (choice_from t) (IsChoice text t)) ts → B (choices_sites ts loc) (some_from choice_from ts) (AllZip (IsChoice text) ts)
+  choices_built : (ts : List Token) (loc : Span) → Each (λ t. B (name_sites t) (choice_from t) (IsChoice text t)) ts
+      → B (choices_sites ts loc) (some_from choice_from ts) (AllZip (IsChoice text) ts)
   choices_built [] loc h = no_list loc
   choices_built (t ∷ ts) loc h = some_built text name_sites choice_from (IsChoice text) t ts h
 
@@ -329,7 +353,8 @@ module _ (text : List ℕ) where
   decl_built (common_decl {n = n} z kw h ke r kz) =
       both text _ (id_node n h) λ name is. then text _ (type_built r) λ ty typed. (is, typed)
 
-  declared_built : {u : List Token} {d : DeclaredSyntax} → IsDeclared u d → B (declared_sites d) (declared_from d) (IsDeclaredOf text d)
+  declared_built : {u : List Token} {d : DeclaredSyntax} → IsDeclared u d
+      → B (declared_sites d) (declared_from d) (IsDeclaredOf text d)
   unfolding declared_from
   declared_built (declared {xs = xs} a r) = both text _ (notes xs) λ n are. then text _ (decl_built r) λ x is. (is, refl, are)
 
@@ -340,7 +365,8 @@ module _ (text : List ℕ) where
       both text _ (notes xs) λ notes are. both text _ (path_built p) λ name is. then text _ (all_built text declared_sites declared_from (IsDeclaredOf text) ds (many (λ u x p. declared_built p) r)) λ decls is_decls. (name, decls, refl, is, is_decls, are)
   item_built (outside r) = then text outside_namespace (declared_built r) λ d is. (d, refl, is)
 
-  pub tree_built : {tokens : List Token} {items : List ItemSyntax} → IsSyntax tokens items → B (sites_of items) (all_from item_from items) (IsTreeOf text items)
+  pub tree_built : {tokens : List Token} {items : List ItemSyntax} → IsSyntax tokens items
+      → B (sites_of items) (all_from item_from items) (IsTreeOf text items)
   tree_built {items = items} r = all_built text item_sites item_from (IsItemOf text) items (many (λ u x p. item_built p) r)
 
 abbrev built_of : {A : Type 0} → List A → Option (List A × List Leaf) → List A
@@ -354,7 +380,8 @@ module _ {tokens : List Token} {items : List ItemSyntax} (text : List ℕ) (r : 
       let x = (tree_built text r).build leaves [] h in
       (x.0, ap (all_from item_from items) (sym (append-nil leaves)) ∙ x.1, x.2)
 
-  pub tree_found : (schema : List (Annotated Namespace)) (left : List Leaf) → all_from item_from items leaves ≡ Some (schema, left) → IsTreeOf text items schema
+  pub tree_found : (schema : List (Annotated Namespace)) (left : List Leaf)
+      → all_from item_from items leaves ≡ Some (schema, left) → IsTreeOf text items schema
   tree_found schema left e =
       let w = whole in
       let same : w.0 ≡ schema = ap (built_of w.0) (sym w.1 ∙ e) in

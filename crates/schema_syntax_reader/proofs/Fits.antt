@@ -133,7 +133,8 @@ module _ (source : List ℕ) where
       ]
 
   -- names with a separator between two
-  names_fit : {k : TokenKind} {u names : List Token} → IsChain k is_name_kind u names → Good u → Fits u (names_sites names)
+  names_fit : {k : TokenKind} {u names : List Token} → IsChain k is_name_kind u names → Good u
+      → Fits u (names_sites names)
   names_fit (S.one {t = t} h) g = name_fits t [] h g
   names_fit (S.more {t = t} {s = s} {u = u} {names = names} h k r) g =
       fits_join (t ∷ []) (s ∷ u) (name_sites t) (names_sites names) (name_fits t (s ∷ u) h g) (fits_skip s u (names_sites names) (names_fit r (good_rest s u (good_rest t (s ∷ u) g))))
@@ -142,7 +143,8 @@ module _ (source : List ℕ) where
   chain_names (S.one {t = t} h) = S.one (ident_name t.kind h)
   chain_names (S.more {t = t} h k r) = S.more (ident_name t.kind h) k (chain_names r)
 
-  idents_fit : {k : TokenKind} {u names : List Token} → IsChain k is_ident u names → Good u → Fits u (names_sites names)
+  idents_fit : {k : TokenKind} {u names : List Token} → IsChain k is_ident u names → Good u
+      → Fits u (names_sites names)
   idents_fit c g = names_fit (chain_names c) g
 
   path_fits : {u : List Token} {p : PathSyntax} → IsPath u p → Good u → Fits u (path_sites p)
@@ -182,7 +184,9 @@ module _ (source : List ℕ) where
     many_fit S.none g = fits_none
     many_fit (S.more {u = u} {v = v} {x = x} {xs = xs} p r) g = fits_join u v (sites x) (flat_map sites xs) (each u x p (good_left u v g)) (many_fit r (good_right u v g))
 
-  parents_fit : {P : List Token → PathSyntax → Type 0} {u : List Token} {ps : List PathSyntax} → ((u : List Token) (p : PathSyntax) → P u p → Good u → Fits u (path_sites p)) → AreParents P u ps → Good u → Fits u (paths_sites ps)
+  parents_fit : {P : List Token → PathSyntax → Type 0} {u : List Token} {ps : List PathSyntax}
+      → ((u : List Token) (p : PathSyntax) → P u p → Good u → Fits u (path_sites p)) → AreParents P u ps → Good u
+      → Fits u (paths_sites ps)
   parents_fit each S.no_parents g = fits_none
   parents_fit {P} each (S.in_parents {i = i} {u = u} {ps = ps} h l) g = fits_skip i u (paths_sites ps) (listed_fit P path_sites each l (good_rest i u g))
 
@@ -192,7 +196,8 @@ module _ (source : List ℕ) where
   notes_sub (S.bare {a = a} {k = k} h w r) = skip a (keep k (notes_sub r))
   notes_sub (S.valued {a = a} {k = k} {o = o} {v = v} {c = c} h w p q t r) = skip a (keep k (skip o (keep v (skip c (notes_sub r)))))
 
-  notes_placed : {u : List Token} {list : List AnnotationSyntax} → AreAnnotations u list → All (IsPlaced source) u → All (IsPlacedNote source) list
+  notes_placed : {u : List Token} {list : List AnnotationSyntax} → AreAnnotations u list → All (IsPlaced source) u
+      → All (IsPlacedNote source) list
   notes_placed S.none g = All-nil (IsPlacedNote source)
   notes_placed (S.bare {a = a} {k = k} {u = u} {xs = list} h w r) g =
       let g1 = All-tail (IsPlaced source) a (k ∷ u) g in
@@ -204,7 +209,8 @@ module _ (source : List ℕ) where
       let g4 = All-tail (IsPlaced source) v (c ∷ u) g3 in
       All-cons (IsPlacedNote source) (record { key = k; value = Some v }) list (All-head (IsPlaced source) k (o ∷ v ∷ c ∷ u) g1, w, (All-head (IsPlaced source) v (c ∷ u) g3, q)) (notes_placed r (All-tail (IsPlaced source) c u g4))
 
-  notes_fit : {u : List Token} {list : List AnnotationSyntax} → AreAnnotations u list → Good u → Fits u (annotations list ∷ [])
+  notes_fit : {u : List Token} {list : List AnnotationSyntax} → AreAnnotations u list → Good u
+      → Fits u (annotations list ∷ [])
   notes_fit {u} {list} r g = record {
     placed = All-cons (IsPlacedSite source) (annotations list) [] (notes_placed r g.placed, sub_rise (notes_sub r) g.rise) (All-nil (IsPlacedSite source));
     sub = subst (λ x. Sub x (ends u)) (sym (append-nil (ends (note_tokens list)))) (sub_map (λ t. t.loc.end) (notes_sub r));
@@ -270,21 +276,24 @@ module _ (source : List ℕ) where
   }
 
   -- items between two brackets, or nothing between them
-  choices_fit : (o c : Token) {u choices : List Token} → AreSeparated IsStringToken u choices → Good (o ∷ (u ++ c ∷ [])) → Fits (o ∷ (u ++ c ∷ [])) (choices_sites choices (whole_place (o ∷ (u ++ c ∷ []))))
+  choices_fit : (o c : Token) {u choices : List Token} → AreSeparated IsStringToken u choices
+      → Good (o ∷ (u ++ c ∷ [])) → Fits (o ∷ (u ++ c ∷ [])) (choices_sites choices (whole_place (o ∷ (u ++ c ∷ []))))
   choices_fit o c S.none g = empty_fits o c g
   choices_fit o c (S.last {u = u} {x = x} p) g =
       fits_skip o (u ++ c ∷ []) (names_sites (x ∷ [])) (fits_end u (c ∷ []) (names_sites (x ∷ [])) (separated_fit IsStringToken name_sites (λ u t s. string_fits s) (S.last p) (good_left u (c ∷ []) (good_rest o (u ++ c ∷ []) g))))
   choices_fit o c (S.more {u = u} {v = v} d {x = x} {xs = xs} p k r) g =
       fits_skip o ((u ++ d ∷ v) ++ c ∷ []) (names_sites (x ∷ xs)) (fits_end (u ++ d ∷ v) (c ∷ []) (names_sites (x ∷ xs)) (separated_fit IsStringToken name_sites (λ u t s. string_fits s) (S.more d p k r) (good_left (u ++ d ∷ v) (c ∷ []) (good_rest o ((u ++ d ∷ v) ++ c ∷ []) g))))
 
-  apps_fit : (o c : Token) {u : List Token} {apps : List AppSyntax} → AreSeparated IsApp u apps → Good (o ∷ (u ++ c ∷ [])) → Fits (o ∷ (u ++ c ∷ [])) (apps_sites apps (whole_place (o ∷ (u ++ c ∷ []))))
+  apps_fit : (o c : Token) {u : List Token} {apps : List AppSyntax} → AreSeparated IsApp u apps
+      → Good (o ∷ (u ++ c ∷ [])) → Fits (o ∷ (u ++ c ∷ [])) (apps_sites apps (whole_place (o ∷ (u ++ c ∷ []))))
   apps_fit o c S.none g = empty_fits o c g
   apps_fit o c (S.last {u = u} {x = x} p) g =
       fits_skip o (u ++ c ∷ []) (flat_map app_sites (x ∷ [])) (fits_end u (c ∷ []) (flat_map app_sites (x ∷ [])) (separated_fit IsApp app_sites (λ u a p. app_fits p) (S.last p) (good_left u (c ∷ []) (good_rest o (u ++ c ∷ []) g))))
   apps_fit o c (S.more {u = u} {v = v} d {x = x} {xs = xs} p k r) g =
       fits_skip o ((u ++ d ∷ v) ++ c ∷ []) (flat_map app_sites (x ∷ xs)) (fits_end (u ++ d ∷ v) (c ∷ []) (flat_map app_sites (x ∷ xs)) (separated_fit IsApp app_sites (λ u a p. app_fits p) (S.more d p k r) (good_left (u ++ d ∷ v) (c ∷ []) (good_rest o ((u ++ d ∷ v) ++ c ∷ []) g))))
 
-  applies_fit : {u : List Token} {s : Option (List AppSyntax × Span)} → Applies u s → Good u → Fits u (applies_sites s)
+  applies_fit : {u : List Token} {s : Option (List AppSyntax × Span)} → Applies u s → Good u
+      → Fits u (applies_sites s)
   applies_fit S.no_applies g = fits_none
   applies_fit (S.some_applies {w = w} {o = o} c {u = u} {xs = xs} h ko s k) g = fits_skip w (o ∷ (u ++ c ∷ [])) (apps_sites xs (whole_place (o ∷ (u ++ c ∷ [])))) (apps_fit o c s (good_rest w (o ∷ (u ++ c ∷ [])) g))
 

@@ -47,24 +47,28 @@ other_key : (a p : Placed) → is_eq (key_cmp (placed_key a) (placed_key p)) ≡
 other_key a p h = λ e. let f : false ≡ true = sym h ∙ (ap (λ k. is_eq (key_cmp (placed_key a) k)) e ∙ key_ties (placed_key a)) in cc
 
 -- a new key goes among the entries
-insert_by : {K X : Type 0} (R : K → K → Ordering) (k : K) (v : X) (e : K × X) (es : List (K × X)) (o : Ordering) → is_eq o ≡ false → IsPermutation ((k, v) ∷ es) (insert_entry R es k v)
+insert_by : {K X : Type 0} (R : K → K → Ordering) (k : K) (v : X) (e : K × X) (es : List (K × X)) (o : Ordering)
+    → is_eq o ≡ false → IsPermutation ((k, v) ∷ es) (insert_entry R es k v)
     → IsPermutation ((k, v) ∷ e ∷ es) (match_ordering o ((k, v) ∷ e ∷ es) ((e.0, v) ∷ es) (e ∷ insert_entry R es k v))
 insert_by R k v e es Less h below = IsPermutation-refl ((k, v) ∷ e ∷ es)
 insert_by R k v e es Equal h below = cc
 insert_by R k v e es Greater h below =
     IsPermutation-trans ((k, v) ∷ e ∷ es) (e ∷ (k, v) ∷ es) (e ∷ insert_entry R es k v) (IsPermutation-sym (e ∷ (k, v) ∷ es) ((k, v) ∷ e ∷ es) (IsPermutation-middle (e ∷ []) (k, v) es)) (IsPermutation-cons e ((k, v) ∷ es) (insert_entry R es k v) below)
 
-insert_new : {K X : Type 0} (R : K → K → Ordering) (k : K) (v : X) (es : List (K × X)) → NonePasses (is_at (R k)) es → IsPermutation ((k, v) ∷ es) (insert_entry R es k v)
+insert_new : {K X : Type 0} (R : K → K → Ordering) (k : K) (v : X) (es : List (K × X)) → NonePasses (is_at (R k)) es
+    → IsPermutation ((k, v) ∷ es) (insert_entry R es k v)
 insert_new R k v [] h = IsPermutation-refl ((k, v) ∷ [])
 insert_new R k v (e ∷ es) h = insert_by R k v e es (R k e.0) h.0 (insert_new R k v es h.1)
 
 -- what holds of what f makes of the items
-pub unmapped : {A B : Type 0} (P : B → Type 0) (f : A → B) (xs : List A) → AllByRecursion P (map f xs) → AllByRecursion (λ x. P (f x)) xs
+pub unmapped : {A B : Type 0} (P : B → Type 0) (f : A → B) (xs : List A) → AllByRecursion P (map f xs)
+    → AllByRecursion (λ x. P (f x)) xs
 unmapped P f [] h = tt
 unmapped P f (x ∷ xs) h = (h.0, unmapped P f xs h.1)
 
 -- what a list contains stands between two parts
-split_map : {A B : Type 0} (f : A → B) (y : B) (xs : List A) (k : ℕ) → k < length (map f xs) → get_or (map f xs) k y ≡ y → (front : List A) × (x : A) × (back : List A) × (xs ≡ front ++ x ∷ back) × (f x ≡ y)
+split_map : {A B : Type 0} (f : A → B) (y : B) (xs : List A) (k : ℕ) → k < length (map f xs)
+    → get_or (map f xs) k y ≡ y → (front : List A) × (x : A) × (back : List A) × (xs ≡ front ++ x ∷ back) × (f x ≡ y)
 split_map f y [] k lt e = absurd (omega arith)
 split_map f y (x ∷ xs) zero lt e = ([], x, xs, refl, e)
 split_map f y (x ∷ xs) (suc k) lt e = let r = split_map f y xs k (omega arith) e in (x ∷ r.0, r.1, r.2, ap (λ l. x ∷ l) r.3, r.4)
@@ -72,7 +76,8 @@ split_map f y (x ∷ xs) (suc k) lt e = let r = split_map f y xs k (omega arith)
 pub has_none : (all : List Placed) → HasRead all all []
 has_none all = record { front = []; split = refl; same = IsPermutation-refl []; apart = λ i j d lt h. absurd (omega arith) }
 
-pub has_more : (all left after : List Placed) (a : Placed) (entries entries' : List (AnyId × Kept)) → HasRead all left entries → left ≡ a ∷ after → lookup (is_at (key_cmp (placed_key a))) entries ≡ None
+pub has_more : (all left after : List Placed) (a : Placed) (entries entries' : List (AnyId × Kept))
+    → HasRead all left entries → left ≡ a ∷ after → lookup (is_at (key_cmp (placed_key a))) entries ≡ None
     → entries' ≡ insert_entry key_cmp entries (placed_key a) (entry_of a).1 → HasRead all after entries'
 has_more all left after a entries entries' h e none into =
     let free : NonePasses (is_at (key_cmp (placed_key a))) entries = none_passes_from_lookup (is_at (key_cmp (placed_key a))) entries none in
@@ -96,13 +101,16 @@ told_by : (a old : Placed) (kept : Kept) → entry_of old ≡ (placed_key a, kep
     → DuplicateAnnotations (placed_key a) (record { node = tt; loc = kept.place }) (record { node = tt; loc = key_place a }) ≡ DuplicateAnnotations (placed_key a) (record { node = tt; loc = key_place old }) (record { node = tt; loc = key_place a })
 told_by a old kept e = λ i. DuplicateAnnotations (placed_key a) (record { node = tt; loc = (sym e i).1.place }) (record { node = tt; loc = key_place a })
 
-split_by : (all front after : List Placed) (a : Placed) (before : List Placed) (old : Placed) (middle : List Placed) → all ≡ front ++ a ∷ after → front ≡ before ++ old ∷ middle → all ≡ (before ++ old ∷ middle) ++ a ∷ after
+split_by : (all front after : List Placed) (a : Placed) (before : List Placed) (old : Placed) (middle : List Placed)
+    → all ≡ front ++ a ∷ after → front ≡ before ++ old ∷ middle → all ≡ (before ++ old ∷ middle) ++ a ∷ after
 split_by all front after a before old middle e f = e ∙ ap (λ l. l ++ a ∷ after) f
 
-apart_by : (front before : List Placed) (old : Placed) (middle : List Placed) → front ≡ before ++ old ∷ middle → AllPairs HaveOtherKeys front → AllPairs HaveOtherKeys (before ++ old ∷ middle)
+apart_by : (front before : List Placed) (old : Placed) (middle : List Placed) → front ≡ before ++ old ∷ middle
+    → AllPairs HaveOtherKeys front → AllPairs HaveOtherKeys (before ++ old ∷ middle)
 apart_by front before old middle f h = subst (AllPairs HaveOtherKeys) f h
 
-pub has_twice : (all left after : List Placed) (a : Placed) (entries : List (AnyId × Kept)) (kept : Kept) → HasRead all left entries → left ≡ a ∷ after → lookup (is_at (key_cmp (placed_key a))) entries ≡ Some kept
+pub has_twice : (all left after : List Placed) (a : Placed) (entries : List (AnyId × Kept)) (kept : Kept)
+    → HasRead all left entries → left ≡ a ∷ after → lookup (is_at (key_cmp (placed_key a))) entries ≡ Some kept
     → IsTwice all (DuplicateAnnotations (placed_key a) (record { node = tt; loc = kept.place }) (record { node = tt; loc = key_place a }))
 has_twice all left after a entries kept h e found =
     let there : Contains entries (placed_key a, kept) = Contains-from_lookup {eq = λ x y. is_eq (key_cmp x y)} key_same (placed_key a) kept entries found in
@@ -121,7 +129,8 @@ has_twice all left after a entries kept h e found =
     }
 
 -- what was found of a look-up's place
-pub found_place : (o : Option Kept) (loc : _) → Some loc ≡ option_map (λ (kept : Kept). kept.place) o → (kept : Kept) × (o ≡ Some kept) × (kept.place ≡ loc)
+pub found_place : (o : Option Kept) (loc : _) → Some loc ≡ option_map (λ (kept : Kept). kept.place) o
+    → (kept : Kept) × (o ≡ Some kept) × (kept.place ≡ loc)
 found_place None loc e = cc
 found_place (Some kept) loc e = (kept, refl, cc)
 

@@ -7,7 +7,8 @@ use Rattle.schema_syntax_parser.specs.declared.stop.Stop.TheVariants.{Memory, Mi
 use Rattle.schema_syntax_parser.specs.Reading.{◌>>=◌}
 use Rattle.schema_syntax_reader.specs.Building.{Builds, FailsToBuild, all_from, with_parts}
 
-with_with : {A : Type 0} (done : List A) (x : A) (built : Option (List A × List Leaf)) → with_parts (done ++ x ∷ []) built ≡ with_parts done (built >>= λ r. Some (x ∷ r.0, r.1))
+with_with : {A : Type 0} (done : List A) (x : A) (built : Option (List A × List Leaf))
+    → with_parts (done ++ x ∷ []) built ≡ with_parts done (built >>= λ r. Some (x ∷ r.0, r.1))
 with_with done x None = refl
 with_with done x (Some r) = ap (λ d. Some (d, r.1)) (append_assoc done (x ∷ []) r.0)
 
@@ -26,5 +27,6 @@ module _ {R A : Type 0} (part : R → Builds A) (done : List A) (raws : List R) 
     part_fails Memory f = tt
     part_fails Mismatch f = sym so_far ∙ rw (next_part, f) refl
 
-    pub part_more : (x : A) (left : List Leaf) → part r leaves ≡ Some (x, left) → with_parts (done ++ x ∷ []) (all_from part (drop (i + 1) raws) left) ≡ total
+    pub part_more : (x : A) (left : List Leaf) → part r leaves ≡ Some (x, left)
+        → with_parts (done ++ x ∷ []) (all_from part (drop (i + 1) raws) left) ≡ total
     part_more x left e = with_with done x (all_from part (drop (i + 1) raws) left) ∙ (sym (rw (next_part, e) refl) ∙ so_far)

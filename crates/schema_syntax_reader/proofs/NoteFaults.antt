@@ -37,7 +37,8 @@ two_splits (x ∷ done) rest (y ∷ fr) a bk e =
       | inr r ↦ inr (r.0, r.1, λ i. sym same i ∷ r.2 i)
     ]
 
-zip_split : {A B : Type 0} (R : A → B → Type 0) (xs : List A) (D : List B) (p : B) (b : List B) → AllZip R xs (D ++ p ∷ b)
+zip_split : {A B : Type 0} (R : A → B → Type 0) (xs : List A) (D : List B) (p : B) (b : List B)
+    → AllZip R xs (D ++ p ∷ b)
     → (done : List A) × (x : A) × (rest : List A) × (xs ≡ done ++ x ∷ rest) × AllZip R done D × R x p × AllZip R rest b
 zip_split R [] [] p b h = absurd h
 zip_split R [] (d ∷ D) p b h = absurd h
@@ -51,7 +52,8 @@ words source list = map (λ a. word_at source a.key) list
 abbrev texts : List Placed → List (List ℕ)
 texts ps = map (λ p. (placed_key p).text) ps
 
-words_read : (source : List ℕ) (list : List AnnotationSyntax) (ps : List Placed) → AllZip (IsRead source) list ps → words source list ≡ texts ps
+words_read : (source : List ℕ) (list : List AnnotationSyntax) (ps : List Placed) → AllZip (IsRead source) list ps
+    → words source list ≡ texts ps
 words_read source [] [] h = refl
 words_read source [] (p ∷ ps) h = absurd h
 words_read source (a ∷ as') [] h = absurd h
@@ -62,7 +64,8 @@ abbrev Apart : List (List ℕ) → Type 0
 Apart [] = Unit {0}
 Apart (w ∷ ws) = AllByRecursion (λ v. w ≢ v) ws × Apart ws
 
-others : (p : Placed) (ps : List Placed) → All (HaveOtherKeys p) ps → AllByRecursion (λ v. (placed_key p).text ≢ v) (texts ps)
+others : (p : Placed) (ps : List Placed) → All (HaveOtherKeys p) ps
+    → AllByRecursion (λ v. (placed_key p).text ≢ v) (texts ps)
 others p [] h = tt
 others p (q ∷ qs) h = (λ e. All-head (HaveOtherKeys p) q qs h (any_id_same (placed_key p) (placed_key q) e), others p qs (All-tail (HaveOtherKeys p) q qs h))
 
@@ -70,33 +73,40 @@ apart_texts : (ps : List Placed) → AllPairs HaveOtherKeys ps → Apart (texts 
 apart_texts [] h = tt
 apart_texts (p ∷ ps) h = (others p ps (λ k d lt. h zero (suc k) d (omega arith) (omega arith)), apart_texts ps (λ i j d lt b. h (suc i) (suc j) d (omega arith) (omega arith)))
 
-other_in : {A : Type 0} (w : A → List ℕ) (v : List ℕ) (mid : List A) (s : A) (y : List A) → AllByRecursion (λ u. v ≢ u) (map w (mid ++ s ∷ y)) → v ≢ w s
+other_in : {A : Type 0} (w : A → List ℕ) (v : List ℕ) (mid : List A) (s : A) (y : List A)
+    → AllByRecursion (λ u. v ≢ u) (map w (mid ++ s ∷ y)) → v ≢ w s
 other_in w v [] s y h = h.0
 other_in w v (m ∷ mid) s y h = other_in w v mid s y h.1
 
-apart_split : {A : Type 0} (w : A → List ℕ) (fr : List A) (f : A) (mid : List A) (s : A) (y : List A) → Apart (map w (fr ++ f ∷ (mid ++ s ∷ y))) → w f ≢ w s
+apart_split : {A : Type 0} (w : A → List ℕ) (fr : List A) (f : A) (mid : List A) (s : A) (y : List A)
+    → Apart (map w (fr ++ f ∷ (mid ++ s ∷ y))) → w f ≢ w s
 apart_split w [] f mid s y h = other_in w (w f) mid s y h.0
 apart_split w (x ∷ fr) f mid s y h = apart_split w fr f mid s y h.1
 
-others_front : {A : Type 0} (w : A → List ℕ) (key : List ℕ) (fr : List A) (f : A) (mi : List A) → Apart (map w (fr ++ f ∷ mi)) → w f ≡ key → AllByRecursion (λ a. w a ≡ key → ⊥) fr
+others_front : {A : Type 0} (w : A → List ℕ) (key : List ℕ) (fr : List A) (f : A) (mi : List A)
+    → Apart (map w (fr ++ f ∷ mi)) → w f ≡ key → AllByRecursion (λ a. w a ≡ key → ⊥) fr
 others_front w key [] f mi h e = tt
 others_front w key (x ∷ fr) f mi h e = (λ k. other_in w (w x) fr f mi h.0 (k ∙ sym e), others_front w key fr f mi h.1 e)
 
-flipped : {A : Type 0} (w : A → List ℕ) (v key : List ℕ) (mi : List A) → AllByRecursion (λ u. v ≢ u) (map w mi) → v ≡ key → AllByRecursion (λ a. w a ≡ key → ⊥) mi
+flipped : {A : Type 0} (w : A → List ℕ) (v key : List ℕ) (mi : List A) → AllByRecursion (λ u. v ≢ u) (map w mi)
+    → v ≡ key → AllByRecursion (λ a. w a ≡ key → ⊥) mi
 flipped w v key [] h e = tt
 flipped w v key (m ∷ mi) h e = (λ k. h.0 (e ∙ sym k), flipped w v key mi h.1 e)
 
-others_middle : {A : Type 0} (w : A → List ℕ) (key : List ℕ) (fr : List A) (f : A) (mi : List A) → Apart (map w (fr ++ f ∷ mi)) → w f ≡ key → AllByRecursion (λ a. w a ≡ key → ⊥) mi
+others_middle : {A : Type 0} (w : A → List ℕ) (key : List ℕ) (fr : List A) (f : A) (mi : List A)
+    → Apart (map w (fr ++ f ∷ mi)) → w f ≡ key → AllByRecursion (λ a. w a ≡ key → ⊥) mi
 others_middle w key [] f mi h e = flipped w (w f) key mi h.0 e
 others_middle w key (x ∷ fr) f mi h e = others_middle w key fr f mi h.1 e
 
 -- ---- values
-all_lawful : (source : List ℕ) (list : List AnnotationSyntax) (ps : List Placed) → AllZip (IsRead source) list ps → AllByRecursion (λ a. NoBadValue source a.value) list
+all_lawful : (source : List ℕ) (list : List AnnotationSyntax) (ps : List Placed) → AllZip (IsRead source) list ps
+    → AllByRecursion (λ a. NoBadValue source a.value) list
 all_lawful source [] ps h = tt
 all_lawful source (a ∷ as') [] h = absurd h
 all_lawful source (a ∷ as') (p ∷ ps) h = (h.0.lawful, all_lawful source as' ps h.1)
 
-lawful_split : (source : List ℕ) (fr : List AnnotationSyntax) (a : AnnotationSyntax) (y : List AnnotationSyntax) (t : Token) (at : ℕ) → AllByRecursion (λ x. NoBadValue source x.value) (fr ++ a ∷ y) → a.value ≡ Some t
+lawful_split : (source : List ℕ) (fr : List AnnotationSyntax) (a : AnnotationSyntax) (y : List AnnotationSyntax) (t : Token) (at : ℕ)
+    → AllByRecursion (λ x. NoBadValue source x.value) (fr ++ a ∷ y) → a.value ≡ Some t
     → IsBadEscapeAt source t at → ⊥
 lawful_split source [] a y t at h e bad = let free = subst (NoBadValue source) e h.0 in free at bad
 lawful_split source (x ∷ fr) a y t at h e bad = lawful_split source fr a y t at h.1 e bad
@@ -109,11 +119,13 @@ skip : (end : ℕ) (xs ys : List Token) → Behind end (xs ++ ys) → Behind end
 skip end [] ys h = h
 skip end (x ∷ xs) ys h = skip end xs ys h.1
 
-behind_key : (end : ℕ) (fr : List AnnotationSyntax) (a : AnnotationSyntax) (bk : List AnnotationSyntax) → Behind end (note_tokens (fr ++ a ∷ bk)) → end ≤ a.key.loc.end
+behind_key : (end : ℕ) (fr : List AnnotationSyntax) (a : AnnotationSyntax) (bk : List AnnotationSyntax)
+    → Behind end (note_tokens (fr ++ a ∷ bk)) → end ≤ a.key.loc.end
 behind_key end [] a bk h = h.0
 behind_key end (x ∷ fr) a bk h = behind_key end fr a bk (skip end (option_to_list x.value) (note_tokens (fr ++ a ∷ bk)) h.1)
 
-behind_value : (end : ℕ) (fr : List AnnotationSyntax) (a : AnnotationSyntax) (bk : List AnnotationSyntax) (t : Token) → Behind end (note_tokens (fr ++ a ∷ bk)) → a.value ≡ Some t → end ≤ t.loc.end
+behind_value : (end : ℕ) (fr : List AnnotationSyntax) (a : AnnotationSyntax) (bk : List AnnotationSyntax) (t : Token)
+    → Behind end (note_tokens (fr ++ a ∷ bk)) → a.value ≡ Some t → end ≤ t.loc.end
 behind_value end [] a bk t h e = let there = subst (λ v. Behind end (option_to_list v ++ note_tokens bk)) e h.1 in there.0
 behind_value end (x ∷ fr) a bk t h e = behind_value end fr a bk t (skip end (option_to_list x.value) (note_tokens (fr ++ a ∷ bk)) h.1) e
 
@@ -125,13 +137,16 @@ rise_rest : (done rest : List AnnotationSyntax) → Rise (note_tokens (done ++ r
 rise_rest done rest h = rise_tokens (note_tokens done) (note_tokens rest) (subst Rise (flat_map-append (λ a. a.key ∷ option_to_list a.value) done rest) h)
 
 -- the tokens from a key on end no earlier than it
-from_key : (s : AnnotationSyntax) (rest : List AnnotationSyntax) → Rise (note_tokens (s ∷ rest)) → Behind s.key.loc.end (note_tokens (s ∷ rest))
+from_key : (s : AnnotationSyntax) (rest : List AnnotationSyntax) → Rise (note_tokens (s ∷ rest))
+    → Behind s.key.loc.end (note_tokens (s ∷ rest))
 from_key s rest h = (omega arith, recursion_from_All (λ t. s.key.loc.end ≤ t.loc.end) (option_to_list s.value ++ note_tokens rest) h.0)
 
-past_value : (s : AnnotationSyntax) (rest : List AnnotationSyntax) (t : Token) → s.value ≡ Some t → Rise (note_tokens (s ∷ rest)) → Behind t.loc.end (note_tokens rest)
+past_value : (s : AnnotationSyntax) (rest : List AnnotationSyntax) (t : Token) → s.value ≡ Some t
+    → Rise (note_tokens (s ∷ rest)) → Behind t.loc.end (note_tokens rest)
 past_value s rest t e h = let there = subst (λ v. Rise (option_to_list v ++ note_tokens rest)) e h.1 in recursion_from_All (λ u. t.loc.end ≤ u.loc.end) (note_tokens rest) there.0
 
-value_or_later : (s : AnnotationSyntax) (rest z : List AnnotationSyntax) (a : AnnotationSyntax) (bk : List AnnotationSyntax) (t u : Token) → s ∷ rest ≡ z ++ a ∷ bk → s.value ≡ Some t → a.value ≡ Some u
+value_or_later : (s : AnnotationSyntax) (rest z : List AnnotationSyntax) (a : AnnotationSyntax) (bk : List AnnotationSyntax) (t u : Token)
+    → s ∷ rest ≡ z ++ a ∷ bk → s.value ≡ Some t → a.value ≡ Some u
     → Behind t.loc.end (note_tokens rest) → t.loc.end ≤ u.loc.end
 value_or_later s rest [] a bk t u e has has' h =
     let same : s ≡ a = cc in
@@ -144,7 +159,8 @@ value_or_later s rest (x ∷ z) a bk t u e has has' h =
 
 -- ---- the faults
 -- nothing that was read has a fault
-pub none_at : (source : List ℕ) (list : List AnnotationSyntax) (ps : List Placed) (notes : Notes) → AllZip (IsRead source) list ps → AreKept ps notes → NoSiteFault source (annotations list)
+pub none_at : (source : List ℕ) (list : List AnnotationSyntax) (ps : List Placed) (notes : Notes)
+    → AllZip (IsRead source) list ps → AreKept ps notes → NoSiteFault source (annotations list)
 none_at source list ps notes h kept = λ fault end x.
     let apart : Apart (words source list) = subst Apart (sym (words_read source list ps h)) (apart_texts ps kept.apart) in
     elim (end_of source (annotations list) fault end x) [
@@ -152,14 +168,17 @@ none_at source list ps notes h kept = λ fault end x.
       | inr e ↦ apart_split (λ a. word_at source a.key) e.front e.first e.middle e.second e.back (subst (λ l. Apart (words source l)) e.split apart) e.same
     ]
 
-each_note : (source : List ℕ) (notes : Notes) (list : List AnnotationSyntax) (ps : List Placed) → AllZip (IsRead source) list ps → AllByRecursion (λ p. lookup (λ key. bytes_eq key.text (placed_key p).text) notes ≡ Some (value_of p)) ps
+each_note : (source : List ℕ) (notes : Notes) (list : List AnnotationSyntax) (ps : List Placed)
+    → AllZip (IsRead source) list ps
+    → AllByRecursion (λ p. lookup (λ key. bytes_eq key.text (placed_key p).text) notes ≡ Some (value_of p)) ps
     → AllByRecursion (HasNote source notes) list
 each_note source notes [] ps h found = tt
 each_note source notes (a ∷ as') [] h found = absurd h
 each_note source notes (a ∷ as') (p ∷ ps) h found =
     ((value_of p, ap (λ w. lookup (λ key. bytes_eq key.text w) notes) (sym h.0.key.0) ∙ found.0, h.0.value), each_note source notes as' ps h.1 found.1)
 
-pub are_notes : (source : List ℕ) (list : List AnnotationSyntax) (ps : List Placed) (notes : Notes) → AllZip (IsRead source) list ps → AreKept ps notes → AreNotes source list notes
+pub are_notes : (source : List ℕ) (list : List AnnotationSyntax) (ps : List Placed) (notes : Notes)
+    → AllZip (IsRead source) list ps → AreKept ps notes → AreNotes source list notes
 are_notes source list ps notes h kept = record {
   sorted = kept.rising;
   as_many = kept_as_many ps notes kept ∙ AllZip-long (IsRead source) list ps h;
@@ -167,9 +186,12 @@ are_notes source list ps notes h kept = record {
 }
 
 -- a key stands again behind what was read
-key_stops : (source : List ℕ) (list done : List AnnotationSyntax) (s : AnnotationSyntax) (rest : List AnnotationSyntax) (front : List Placed) (old : Placed) (middle : List Placed) (new : Placed) (fault : UserError) → Rise (note_tokens list)
-    → list ≡ done ++ s ∷ rest → AllZip (IsRead source) done (front ++ old ∷ middle) → IsKeyRead source s new → AllPairs HaveOtherKeys (front ++ old ∷ middle) → placed_key new ≡ placed_key old
-    → fault ≡ DuplicateAnnotations (placed_key new) (record { node = tt; loc = key_place old }) (record { node = tt; loc = key_place new }) → IsFaultOf source (annotations list) fault
+key_stops : (source : List ℕ) (list done : List AnnotationSyntax) (s : AnnotationSyntax) (rest : List AnnotationSyntax) (front : List Placed) (old : Placed) (middle : List Placed) (new : Placed) (fault : UserError)
+    → Rise (note_tokens list)
+    → list ≡ done ++ s ∷ rest → AllZip (IsRead source) done (front ++ old ∷ middle) → IsKeyRead source s new
+    → AllPairs HaveOtherKeys (front ++ old ∷ middle) → placed_key new ≡ placed_key old
+    → fault ≡ DuplicateAnnotations (placed_key new) (record { node = tt; loc = key_place old }) (record { node = tt; loc = key_place new })
+    → IsFaultOf source (annotations list) fault
 key_stops source list done s rest front old middle new fault rise split read key pairs again told =
     let w = λ (a : AnnotationSyntax). word_at source a.key in
     let r = zip_split (IsRead source) done front old middle read in
@@ -202,8 +224,11 @@ key_stops source list done s rest front old middle new fault rise split read key
     }
 
 -- behind what was read stands a value with an unlawful escape
-value_stops : (source : List ℕ) (list done : List AnnotationSyntax) (s : AnnotationSyntax) (rest : List AnnotationSyntax) (before : List Placed) (last : Placed) (t : Token) (fault : UserError) → Rise (note_tokens list)
-    → list ≡ done ++ s ∷ rest → AllZip (IsRead source) done before → IsKeyRead source s last → AllPairs HaveOtherKeys (before ++ last ∷ []) → s.value ≡ Some t → IsEscapeStop source t (User fault) → IsFaultOf source (annotations list) fault
+value_stops : (source : List ℕ) (list done : List AnnotationSyntax) (s : AnnotationSyntax) (rest : List AnnotationSyntax) (before : List Placed) (last : Placed) (t : Token) (fault : UserError)
+    → Rise (note_tokens list)
+    → list ≡ done ++ s ∷ rest → AllZip (IsRead source) done before → IsKeyRead source s last
+    → AllPairs HaveOtherKeys (before ++ last ∷ []) → s.value ≡ Some t → IsEscapeStop source t (User fault)
+    → IsFaultOf source (annotations list) fault
 value_stops source list done s rest before last t fault rise split read key pairs has stop =
     let w = λ (a : AnnotationSyntax). word_at source a.key in
     let here : AnnotationSyntax = record { key = s.key; value = Some t } in
@@ -242,7 +267,8 @@ only_one last new [] back e = (refl, cc)
 only_one last new (x ∷ []) back e = cc
 only_one last new (x ∷ y ∷ z) back e = cc
 
-read_up_to : (source : List ℕ) (list : List AnnotationSyntax) (all : List Placed) (fault : Option UserError) (ps : List Placed) (new : Placed) (back : List Placed) → AreRead source list all fault → all ≡ ps ++ new ∷ back
+read_up_to : (source : List ℕ) (list : List AnnotationSyntax) (all : List Placed) (fault : Option UserError) (ps : List Placed) (new : Placed) (back : List Placed)
+    → AreRead source list all fault → all ≡ ps ++ new ∷ back
     → ReadUpTo source list ps new
 read_up_to source list all None ps new back h e =
     let r = zip_split (IsRead source) list ps new back (subst (AllZip (IsRead source) list) e h) in
@@ -258,16 +284,23 @@ read_up_to source list all (Some fault) ps new back h e =
           record { done = h.front; here = h.here; rest = h.back; split = h.split; read = subst (AllZip (IsRead source) h.front) (sym same) h.each; key = subst (IsKeyRead source h.here) one.1 h.key }
     ]
 
-pub twice_stops : (source : List ℕ) (list : List AnnotationSyntax) (all : List Placed) (found : Option UserError) (fault : UserError) → Rise (note_tokens list) → AreRead source list all found → IsTwice all fault → IsFaultOf source (annotations list) fault
+pub twice_stops : (source : List ℕ) (list : List AnnotationSyntax) (all : List Placed) (found : Option UserError) (fault : UserError)
+    → Rise (note_tokens list) → AreRead source list all found → IsTwice all fault
+    → IsFaultOf source (annotations list) fault
 twice_stops source list all found fault rise h t =
     let r = read_up_to source list all found (t.front ++ t.old ∷ t.middle) t.new t.back h t.split in
     key_stops source list r.done r.here r.rest t.front t.old t.middle t.new fault rise r.split r.read r.key t.apart t.again t.told
 
-bad_stops : (source : List ℕ) (list done : List AnnotationSyntax) (s : AnnotationSyntax) (rest : List AnnotationSyntax) (before : List Placed) (last : Placed) (value : Option Token) (fault : UserError) → Rise (note_tokens list)
-    → list ≡ done ++ s ∷ rest → AllZip (IsRead source) done before → IsKeyRead source s last → AllPairs HaveOtherKeys (before ++ last ∷ []) → s.value ≡ value → IsBadValue source value fault → IsFaultOf source (annotations list) fault
+bad_stops : (source : List ℕ) (list done : List AnnotationSyntax) (s : AnnotationSyntax) (rest : List AnnotationSyntax) (before : List Placed) (last : Placed) (value : Option Token) (fault : UserError)
+    → Rise (note_tokens list)
+    → list ≡ done ++ s ∷ rest → AllZip (IsRead source) done before → IsKeyRead source s last
+    → AllPairs HaveOtherKeys (before ++ last ∷ []) → s.value ≡ value → IsBadValue source value fault
+    → IsFaultOf source (annotations list) fault
 bad_stops source list done s rest before last None fault rise split read key pairs has bad = absurd bad
 bad_stops source list done s rest before last (Some t) fault rise split read key pairs has bad = value_stops source list done s rest before last t fault rise split read key pairs has bad
 
-pub escape_stops : (source : List ℕ) (list : List AnnotationSyntax) (all : List Placed) (fault : UserError) (notes : Notes) → Rise (note_tokens list) → AreReadTo source list all fault → AreKept all notes → IsFaultOf source (annotations list) fault
+pub escape_stops : (source : List ℕ) (list : List AnnotationSyntax) (all : List Placed) (fault : UserError) (notes : Notes)
+    → Rise (note_tokens list) → AreReadTo source list all fault → AreKept all notes
+    → IsFaultOf source (annotations list) fault
 escape_stops source list all fault notes rise h kept =
     bad_stops source list h.front h.here h.back h.before h.last h.here.value fault rise h.split h.each h.key (subst (AllPairs HaveOtherKeys) h.split_read kept.apart) refl h.bad

@@ -24,7 +24,8 @@ module _ (source : List ℕ) where
   abbrev note_ends : (a : AnnotationSyntax) → List ℕ
   note_ends a = ends (a.key ∷ option_to_list a.value)
 
-  notes_join : (a b : List AnnotationSyntax) → ends (note_tokens (a ++ b)) ≡ ends (note_tokens a) ++ ends (note_tokens b)
+  notes_join : (a b : List AnnotationSyntax)
+      → ends (note_tokens (a ++ b)) ≡ ends (note_tokens a) ++ ends (note_tokens b)
   notes_join [] b = refl
   notes_join (x ∷ a) b =
       map-append (λ t. t.loc.end) (x.key ∷ option_to_list x.value) (note_tokens (a ++ b))
@@ -33,7 +34,8 @@ module _ (source : List ℕ) where
       ∙ ap (λ w. w ++ ends (note_tokens b)) (sym (map-append (λ t. t.loc.end) (x.key ∷ option_to_list x.value) (note_tokens a)))))
 
   -- what ends in one of the annotations ends in the list
-  among_note : (front back : List AnnotationSyntax) (a : AnnotationSyntax) (n : ℕ) → Among n (note_ends a) → Among n (ends (note_tokens (front ++ a ∷ back)))
+  among_note : (front back : List AnnotationSyntax) (a : AnnotationSyntax) (n : ℕ) → Among n (note_ends a)
+      → Among n (ends (note_tokens (front ++ a ∷ back)))
   among_note front back a n h =
       subst (Among n) (sym (notes_join front (a ∷ back))) (among_right n (ends (note_tokens front)) (ends (note_tokens (a ∷ back)))
       (subst (Among n) (sym (map-append (λ t. t.loc.end) (a.key ∷ option_to_list a.value) (note_tokens back))) (among_left n (note_ends a) (ends (note_tokens back)) h)))
@@ -55,7 +57,8 @@ module _ (source : List ℕ) where
     same : site ≡ other → Where front back site other
     later : (a b : List Site) → back ≡ a ++ other ∷ b → Where front back site other
 
-  places : (front back a b : List Site) (site other : Site) → front ++ site ∷ back ≡ a ++ other ∷ b → Where front back site other
+  places : (front back a b : List Site) (site other : Site) → front ++ site ∷ back ≡ a ++ other ∷ b
+      → Where front back site other
   places [] back [] b site other e = same (head_is e)
     where
       head_is : {x y : Site} {xs ys : List Site} → x ∷ xs ≡ y ∷ ys → x ≡ y
@@ -70,16 +73,19 @@ module _ (source : List ℕ) where
       step (same f) = same f
       step (later c d f) = later c d f
 
-  no_fault_in : (front a b : List Site) (other : Site) → All (NoSiteFault source) front → front ≡ a ++ other ∷ b → NoSiteFault source other
+  no_fault_in : (front a b : List Site) (other : Site) → All (NoSiteFault source) front → front ≡ a ++ other ∷ b
+      → NoSiteFault source other
   no_fault_in front [] b other h e = All-head (NoSiteFault source) other b (subst (All (NoSiteFault source)) e h)
   no_fault_in front (x ∷ a) b other h e = no_fault_in (a ++ other ∷ b) a b other (All-tail (NoSiteFault source) x (a ++ other ∷ b) (subst (All (NoSiteFault source)) e h)) refl
 
   -- the ends of a later site
-  later_end : (back a b : List Site) (other : Site) (n : ℕ) → back ≡ a ++ other ∷ b → Among n (site_ends other) → Among n (sites_ends back)
+  later_end : (back a b : List Site) (other : Site) (n : ℕ) → back ≡ a ++ other ∷ b → Among n (site_ends other)
+      → Among n (sites_ends back)
   later_end back a b other n e h =
       subst (λ l. Among n (sites_ends l)) (sym e) (subst (Among n) (sym (flat_join source a (other ∷ b))) (among_right n (sites_ends a) (sites_ends (other ∷ b)) (among_left n (site_ends other) (sites_ends b) h)))
 
-  rises_from : (front back : List Site) (site : Site) → Rises (sites_ends (front ++ site ∷ back)) → Rises (site_ends site ++ sites_ends back)
+  rises_from : (front back : List Site) (site : Site) → Rises (sites_ends (front ++ site ∷ back))
+      → Rises (site_ends site ++ sites_ends back)
   rises_from [] back site r = r
   rises_from (x ∷ front) back site r = rises_from front back site (rises_behind (site_ends x) (sites_ends (front ++ site ∷ back)) r)
     where
@@ -88,7 +94,9 @@ module _ (source : List ℕ) where
       rises_behind (x ∷ xs) ys r = rises_behind xs ys r.1
 
   -- the first fault of the sites is the one that ends first
-  pub first_ends_first : (tokens : List Token) (at : ℕ) (items : List ItemSyntax) (fault : UserError) → Scans source tokens at → All (IsPlaced source) tokens → IsSyntax tokens items → IsFirstSiteFault source (sites_of items) fault
+  pub first_ends_first : (tokens : List Token) (at : ℕ) (items : List ItemSyntax) (fault : UserError)
+      → Scans source tokens at → All (IsPlaced source) tokens → IsSyntax tokens items
+      → IsFirstSiteFault source (sites_of items) fault
       → IsFirstUserFault source items fault
   first_ends_first tokens at items fault s p r f =
       let rise = scans_rise source tokens at s in
@@ -101,7 +109,9 @@ module _ (source : List ℕ) where
         first = λ other n h. by_place here other n h (places f.front f.back h.0 h.2 f.site h.1 (sym f.split ∙ h.3));
       }
     where
-      by_place : Rises (site_ends f.site ++ sites_ends f.back) → (other : UserError) (n : ℕ) (h : HasUserFault source items other n) → Where f.front f.back f.site h.1 → f.end ≤ n
+      by_place : Rises (site_ends f.site ++ sites_ends f.back)
+          → (other : UserError) (n : ℕ) (h : HasUserFault source items other n) → Where f.front f.back f.site h.1
+          → f.end ≤ n
       by_place here other n h (earlier a b e) = absurd (no_fault_in f.front a b h.1 f.before e other n h.4)
       by_place here other n h (same e) = f.least other n (subst (λ s. FaultAt source s other n) (sym e) h.4)
       by_place here other n h (later a b e) = rises_apart (site_ends f.site) (sites_ends f.back) f.end n here (fault_end f.here) (later_end f.back a b h.1 n e (fault_end h.4))
@@ -110,10 +120,13 @@ module _ (source : List ℕ) where
   pub all_lawful : (items : List ItemSyntax) → All (NoSiteFault source) (sites_of items) → IsLawful source items
   all_lawful items h fault end f = no_fault_in (sites_of items) f.0 f.2 f.1 h f.3 fault end f.4
 
-  pub sites_placed : (tokens : List Token) (at : ℕ) (items : List ItemSyntax) → Scans source tokens at → All (IsPlaced source) tokens → IsSyntax tokens items → All (IsPlacedSite source) (sites_of items)
+  pub sites_placed : (tokens : List Token) (at : ℕ) (items : List ItemSyntax) → Scans source tokens at
+      → All (IsPlaced source) tokens → IsSyntax tokens items → All (IsPlacedSite source) (sites_of items)
   sites_placed tokens at items s p r = (syntax_fits source r (record { placed = p; rise = scans_rise source tokens at s })).placed
 
   -- what a stop says of the sites, said of the tokens
-  pub stop_of : (tokens : List Token) (at : ℕ) (items : List ItemSyntax) (stop : Stopped) → Scans source tokens at → All (IsPlaced source) tokens → IsSyntax tokens items → IsStopped source (sites_of items) stop → IsStopOf source tokens stop
+  pub stop_of : (tokens : List Token) (at : ℕ) (items : List ItemSyntax) (stop : Stopped) → Scans source tokens at
+      → All (IsPlaced source) tokens → IsSyntax tokens items → IsStopped source (sites_of items) stop
+      → IsStopOf source tokens stop
   stop_of tokens at items Memory s p r f = tt
   stop_of tokens at items (User fault) s p r f = record { items = items; syntax = r; first = first_ends_first tokens at items fault s p r f }

@@ -46,15 +46,18 @@ word_test : (w : List ℕ) → IsWord w → is_word w ≡ true
 word_test [] h = absurd h
 word_test (b ∷ bs) h = and_from (is_word_start b) (list_all is_word_part bs) h.0 (list_all-from_AllPass is_word_part bs h.1)
 
-placed_test : (source : List ℕ) (t : Token) → IsPlacedWord source t → is_word (slice_range source t.loc.start t.loc.end) ≡ true
+placed_test : (source : List ℕ) (t : Token) → IsPlacedWord source t
+    → is_word (slice_range source t.loc.start t.loc.end) ≡ true
 placed_test source t p = word_test (slice_range source t.loc.start t.loc.end) (form_word (slice_range source t.loc.start t.loc.end) t.kind p.0.form p.1)
 
 -- the bytes at the place are the characters there
-pub word_is_bytes : (source : List ℕ) (t : Token) → IsPlacedWord source t → word_at source t ≡ slice_range source t.loc.start t.loc.end
+pub word_is_bytes : (source : List ℕ) (t : Token) → IsPlacedWord source t
+    → word_at source t ≡ slice_range source t.loc.start t.loc.end
 word_is_bytes source t p = chars-IsAscii (slice_range source t.loc.start t.loc.end) (word_ascii (slice_range source t.loc.start t.loc.end) (placed_test source t p))
 
 pub word_there : (source : List ℕ) (t : Token) → IsPlacedWord source t → is_word (word_at source t) ≡ true
 word_there source t p = ap is_word (word_is_bytes source t p) ∙ placed_test source t p
 
-pub id_there : (source : List ℕ) (t : Token) → IsPlacedWord source t → is_reserved (word_at source t) ≡ false → is_id (word_at source t) ≡ true
+pub id_there : (source : List ℕ) (t : Token) → IsPlacedWord source t → is_reserved (word_at source t) ≡ false
+    → is_id (word_at source t) ≡ true
 id_there source t p h = and_from (is_word (word_at source t)) (not (is_reserved (word_at source t))) (word_there source t p) (ap not h)

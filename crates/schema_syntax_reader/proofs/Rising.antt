@@ -23,7 +23,8 @@ skips_shorter : {rest here : List ℕ} → Skips rest here → length here ≤ l
 skips_shorter T.none = omega arith
 skips_shorter (T.more {after = after} b s) = omega (arith, skips_shorter s, ap length b.1, length-append b.0 after)
 
-from_on : (from : ℕ) (rest : List ℕ) (ts : List Token) (at : ℕ) → ScansFrom from rest ts at → All (λ s. from ≤ s.loc.end) ts × Rise ts
+from_on : (from : ℕ) (rest : List ℕ) (ts : List Token) (at : ℕ) → ScansFrom from rest ts at
+    → All (λ s. from ≤ s.loc.end) ts × Rise ts
 from_on from rest [] at s = (All-nil (λ s. from ≤ s.loc.end), tt)
 from_on from rest (t ∷ ts) at s =
     let n = s.2 in

@@ -24,12 +24,14 @@ pub same_keys : (es : List (AnyId × Kept)) → keys_of (map note_of_entry es) �
 same_keys [] = refl
 same_keys (e ∷ es) = ap (λ l. e.0 ∷ l) (same_keys es)
 
-below_texts : (k : AnyId) (ns : Notes) → AllByRecursion (λ y. key_cmp k y ≡ Less) (keys_of ns) → AllByRecursion (λ y. text_cmp k.text y ≡ Less) (map (λ note. note.0.text) ns)
+below_texts : (k : AnyId) (ns : Notes) → AllByRecursion (λ y. key_cmp k y ≡ Less) (keys_of ns)
+    → AllByRecursion (λ y. text_cmp k.text y ≡ Less) (map (λ note. note.0.text) ns)
 below_texts k [] h = tt
 below_texts k (n ∷ ns) h = (h.0, below_texts k ns h.1)
 
 -- keys that rise have texts that rise
-pub rising_texts : (ns : Notes) → IsStrictlySortedBy key_cmp (keys_of ns) → IsStrictlySortedBy text_cmp (map (λ note. note.0.text) ns)
+pub rising_texts : (ns : Notes) → IsStrictlySortedBy key_cmp (keys_of ns)
+    → IsStrictlySortedBy text_cmp (map (λ note. note.0.text) ns)
 unfolding IsStrictlySortedBy
 rising_texts [] h = tt
 rising_texts (n ∷ ns) h = (below_texts n.0 ns h.0, rising_texts ns h.1)
@@ -39,7 +41,9 @@ notes_of_entries [] = refl
 notes_of_entries (p ∷ ps) = ap (λ l. note_of p ∷ l) (notes_of_entries ps)
 
 -- what a tree without places keeps
-pub kept : (all : List Placed) (entries : List (AnyId × Kept)) (notes : Notes) → HasRead all [] entries → notes ≡ map note_of_entry entries → IsStrictlySortedBy text_cmp (map (λ note. note.0.text) notes) → AreKept all notes
+pub kept : (all : List Placed) (entries : List (AnyId × Kept)) (notes : Notes) → HasRead all [] entries
+    → notes ≡ map note_of_entry entries → IsStrictlySortedBy text_cmp (map (λ note. note.0.text) notes)
+    → AreKept all notes
 kept all entries notes h e rising =
     let whole : all ≡ h.front = h.split ∙ append-nil h.front in
     record {
@@ -67,17 +71,21 @@ passes : (b : Bool) → (b ≡ true → ⊥) → b ≡ false
 passes true h = absurd (h refl)
 passes false h = refl
 
-found_behind : (n : AnyId × Option (List ℕ)) (all ns : Notes) → AllByRecursion (λ y. text_cmp n.0.text y ≡ Less) (map (λ note. note.0.text) ns) → AllByRecursion (IsFound all) ns → AllByRecursion (IsFound (n ∷ all)) ns
+found_behind : (n : AnyId × Option (List ℕ)) (all ns : Notes)
+    → AllByRecursion (λ y. text_cmp n.0.text y ≡ Less) (map (λ note. note.0.text) ns)
+    → AllByRecursion (IsFound all) ns → AllByRecursion (IsFound (n ∷ all)) ns
 found_behind n all [] below h = tt
 found_behind n all (m ∷ ms) below h = (ap (λ b. cond b (Some n.1) (lookup (λ key. bytes_eq key.text m.0.text) all)) (passes (bytes_eq n.0.text m.0.text) (below_other n.0.text m.0.text below.0)) ∙ h.0, found_behind n all ms below.1 h.1)
 
-each_found : (ns : Notes) → IsStrictlySortedBy text_cmp (map (λ note. note.0.text) ns) → AllByRecursion (IsFound ns) ns
+each_found : (ns : Notes) → IsStrictlySortedBy text_cmp (map (λ note. note.0.text) ns)
+    → AllByRecursion (IsFound ns) ns
 unfolding IsStrictlySortedBy
 each_found [] h = tt
 each_found (n ∷ ns) h = (ap (λ b. cond b (Some n.1) (lookup (λ key. bytes_eq key.text n.0.text) ns)) (same_bytes n.0.text), found_behind n ns ns h.0 (each_found ns h.1))
 
 -- what is kept is found
-pub kept_found : (ps : List Placed) (notes : Notes) → AreKept ps notes → AllByRecursion (λ p. lookup (λ key. bytes_eq key.text (placed_key p).text) notes ≡ Some (value_of p)) ps
+pub kept_found : (ps : List Placed) (notes : Notes) → AreKept ps notes
+    → AllByRecursion (λ p. lookup (λ key. bytes_eq key.text (placed_key p).text) notes ≡ Some (value_of p)) ps
 kept_found ps notes h =
     unmapped (IsFound notes) note_of ps
     (recursion_from_All (IsFound notes) (map note_of ps) (All-permutation (IsFound notes) notes (map note_of ps) (IsPermutation-sym (map note_of ps) notes h.same) (All-from_recursion (IsFound notes) notes (each_found notes h.rising))))

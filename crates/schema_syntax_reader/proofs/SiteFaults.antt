@@ -44,14 +44,16 @@ EndOf source (text t) end = ((at : ℕ) × IsBadEscapeAt source t at) × (end �
 EndOf source (annotations list) end = HasEscape source list end ⊎ HasAgain source list end
 EndOf source (empty brackets) end = end ≡ brackets.end
 
-pub end_of : (source : List ℕ) (site : Site) (fault : UserError) (end : ℕ) → FaultAt source site fault end → EndOf source site end
+pub end_of : (source : List ℕ) (site : Site) (fault : UserError) (end : ℕ) → FaultAt source site fault end
+    → EndOf source site end
 end_of source _ _ _ (empty_list brackets) = refl
 end_of source _ _ _ (reserved t h) = (h, refl)
 end_of source _ _ _ (escape t at bad) = ((at, bad), refl)
 end_of source _ _ _ (note_escape {list} front back key t at split bad) = inl (record { front = front; here = record { key = key; value = Some t }; back = back; value = t; at = at; split = split; has = refl; bad = bad; ends = refl })
 end_of source _ _ _ (duplicate {list} front middle back first second key split is_first is_second o p) = inr (record { front = front; first = first; middle = middle; second = second; back = back; split = split; same = is_first ∙ sym is_second; ends = refl })
 
-pub word_stopped : (source : List ℕ) (t : Token) (e : Stopped) → IsReservedStop source t e → IsStoppedAt source (word t) e
+pub word_stopped : (source : List ℕ) (t : Token) (e : Stopped) → IsReservedStop source t e
+    → IsStoppedAt source (word t) e
 word_stopped source t Memory h = tt
 word_stopped source t (User fault) h = record {
   end = t.loc.end;
@@ -62,7 +64,8 @@ word_stopped source t (User fault) h = record {
 pub word_lawful : (source : List ℕ) (t : Token) → is_reserved (word_at source t) ≡ false → NoSiteFault source (word t)
 word_lawful source t free = λ fault end x. let e : false ≡ true = sym free ∙ (end_of source (word t) fault end x).0 in cc
 
-pub text_stopped : (source : List ℕ) (t : Token) (e : Stopped) → IsEscapeStop source t e → IsStoppedAt source (text t) e
+pub text_stopped : (source : List ℕ) (t : Token) (e : Stopped) → IsEscapeStop source t e
+    → IsStoppedAt source (text t) e
 text_stopped source t Memory h = tt
 text_stopped source t (User fault) h = record {
   end = t.loc.end;
@@ -73,7 +76,8 @@ text_stopped source t (User fault) h = record {
 pub text_lawful : (source : List ℕ) (t : Token) → NoBadEscapeAt source t → NoSiteFault source (text t)
 text_lawful source t free = λ fault end x. let h = (end_of source (text t) fault end x).0 in free h.0 h.1
 
-pub empty_stopped : (source : List ℕ) (brackets : Span) → IsFaultOf source (empty brackets) (EmptyList (record { node = tt; loc = Some brackets }))
+pub empty_stopped : (source : List ℕ) (brackets : Span)
+    → IsFaultOf source (empty brackets) (EmptyList (record { node = tt; loc = Some brackets }))
 empty_stopped source brackets = record {
   end = brackets.end;
   here = empty_list brackets;

@@ -178,7 +178,8 @@ unfoldable pub applies_from : Option (List AppSyntax × Span) → Builds (Option
 applies_from None leaves = Some (None, leaves)
 applies_from (Some r) leaves = some_from app_from r.0 leaves >>= λ xs. Some (Some (record { node = xs.0; loc = Some r.1 }), xs.1)
 
-unfoldable pub entity_from : List Token → List PathSyntax → Option (List AttrSyntax × Span) → Option TypeSyntax → Builds Declaration
+unfoldable pub entity_from : List Token → List PathSyntax → Option (List AttrSyntax × Span) → Option TypeSyntax
+    → Builds Declaration
 entity_from names parents shape tags leaves = do
   n ← some_from id_node_from names leaves
   p ← all_from path_from parents n.1

@@ -84,14 +84,18 @@ module _ (text : List ℕ) where
 
   mutual
     pub data IsTypeOf : TypeSyntax → Node «Type» → Type 0 where
-      path : {p : PathSyntax} {q : Path} → IsPathOf p q → IsTypeOf (written.Path p) (record { node = Ident q; loc = Some p.loc })
-      set : {t : TypeSyntax} {n : Node «Type»} (loc : Span) → IsTypeOf t n → IsTypeOf (written.Set t loc) (record { node = Set n; loc = Some loc })
-      attributes : {xs : List AttrSyntax} {ys : List (Node (Annotated AttrDecl))} (loc : Span) → AreAttrsOf xs ys → IsTypeOf (written.Record xs loc) (record { node = Record ys; loc = Some loc })
+      path : {p : PathSyntax} {q : Path} → IsPathOf p q
+          → IsTypeOf (written.Path p) (record { node = Ident q; loc = Some p.loc })
+      set : {t : TypeSyntax} {n : Node «Type»} (loc : Span) → IsTypeOf t n
+          → IsTypeOf (written.Set t loc) (record { node = Set n; loc = Some loc })
+      attributes : {xs : List AttrSyntax} {ys : List (Node (Annotated AttrDecl))} (loc : Span) → AreAttrsOf xs ys
+          → IsTypeOf (written.Record xs loc) (record { node = Record ys; loc = Some loc })
 
     pub data AreAttrsOf : List AttrSyntax → List (Node (Annotated AttrDecl)) → Type 0 where
       none : AreAttrsOf [] []
       more : {x : AttrSyntax} {xs : List AttrSyntax} {ys : List (Node (Annotated AttrDecl))} (name : Node (List ℕ)) (ty : Node «Type») (notes : Annotations)
-          → IsNameNode (out-AttrSyntax x).name name → IsTypeOf (out-AttrSyntax x).ty ty → AreNotes text (out-AttrSyntax x).annotations notes.0 → AreAttrsOf xs ys
+          → IsNameNode (out-AttrSyntax x).name name → IsTypeOf (out-AttrSyntax x).ty ty
+          → AreNotes text (out-AttrSyntax x).annotations notes.0 → AreAttrsOf xs ys
           → AreAttrsOf (x ∷ xs) (record { node = record { item = roll-AttrDecl (record { name = name; required = (out-AttrSyntax x).required; ty = ty }); annotations = notes }; loc = Some (out-AttrSyntax x).loc } ∷ ys)
 
   -- the attributes of an entity type: none without a place where no record stands

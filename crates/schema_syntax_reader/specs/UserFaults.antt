@@ -24,16 +24,22 @@ IsOtherKey source key a = word_at source a.key ≡ key → ⊥
 -- The fault of a site, one case for each kind of it, with the end of the token that ends it.
 pub data FaultAt (source : List ℕ) : Site → UserError → ℕ → Type 0 where
   -- `enum []` and `appliesTo {}`, from bracket to bracket
-  empty_list : (brackets : Span) → FaultAt source (empty brackets) (EmptyList (record { node = tt; loc = Some brackets })) brackets.end
+  empty_list : (brackets : Span)
+      → FaultAt source (empty brackets) (EmptyList (record { node = tt; loc = Some brackets })) brackets.end
   -- a name that is a reserved word
-  reserved : (t : Token) → is_reserved (word_at source t) ≡ true → FaultAt source (word t) (ReservedIdentifierUsed (record { node = word_at source t; loc = Some t.loc })) t.loc.end
+  reserved : (t : Token) → is_reserved (word_at source t) ≡ true
+      → FaultAt source (word t) (ReservedIdentifierUsed (record { node = word_at source t; loc = Some t.loc })) t.loc.end
   -- a string with an unlawful escape
-  escape : (t : Token) (at : ℕ) → IsBadEscapeAt source t at → FaultAt source (text t) (StringEscape (record { node = record { at = at } ∷ []; loc = Some t.loc })) t.loc.end
+  escape : (t : Token) (at : ℕ) → IsBadEscapeAt source t at
+      → FaultAt source (text t) (StringEscape (record { node = record { at = at } ∷ []; loc = Some t.loc })) t.loc.end
   -- the value of an annotation with an unlawful escape
-  note_escape : {list : List AnnotationSyntax} (front back : List AnnotationSyntax) (key t : Token) (at : ℕ) → list ≡ front ++ record { key = key; value = Some t } ∷ back → IsBadEscapeAt source t at
+  note_escape : {list : List AnnotationSyntax} (front back : List AnnotationSyntax) (key t : Token) (at : ℕ)
+      → list ≡ front ++ record { key = key; value = Some t } ∷ back → IsBadEscapeAt source t at
       → FaultAt source (annotations list) (StringEscape (record { node = record { at = at } ∷ []; loc = Some t.loc })) t.loc.end
   -- an annotation key for the second time on one item
-  duplicate : {list : List AnnotationSyntax} (front middle back : List AnnotationSyntax) (first second : AnnotationSyntax) (key : AnyId) → list ≡ front ++ first ∷ (middle ++ second ∷ back) → word_at source first.key ≡ key.text → word_at source second.key ≡ key.text
+  duplicate : {list : List AnnotationSyntax} (front middle back : List AnnotationSyntax) (first second : AnnotationSyntax) (key : AnyId)
+      → list ≡ front ++ first ∷ (middle ++ second ∷ back) → word_at source first.key ≡ key.text
+      → word_at source second.key ≡ key.text
       → All (IsOtherKey source key.text) front → All (IsOtherKey source key.text) middle
       → FaultAt source (annotations list) (DuplicateAnnotations key (record { node = tt; loc = Some first.key.loc }) (record { node = tt; loc = Some second.key.loc })) second.key.loc.end
 

@@ -22,7 +22,8 @@ NoBlank-nil b after e (inl s) = encode_some s.0 after (e ∙ ap (λ t. t ++ afte
 NoBlank-nil b after e (inr s) = let g : [] ≡ (47 ∷ 47 ∷ s.0) ++ after = e ∙ ap (λ t. t ++ after) s.1 in cc
 
 -- no blank begins where neither a space nor `//` stands
-pub NoBlank-other : (rest after : List ℕ) (c : ℕ) → rest ≡ encode_utf8 c ++ after → is_whitespace c ≡ false → (StartsComment rest → ⊥) → NoBlank rest
+pub NoBlank-other : (rest after : List ℕ) (c : ℕ) → rest ≡ encode_utf8 c ++ after → is_whitespace c ≡ false
+    → (StartsComment rest → ⊥) → NoBlank rest
 NoBlank-other rest after c e w n b later e' (inl s) =
     let same : c ≡ s.0 = (encode_same c s.0 after later (sym e ∙ (e' ∙ ap (λ t. t ++ later) s.2))).0 in
     let g : false ≡ true = sym w ∙ (ap is_whitespace same ∙ s.1) in cc
@@ -30,7 +31,8 @@ NoBlank-other rest after c e w n b later e' (inr s) =
     n (subst (λ t. StartsComment t) (sym (e' ∙ ap (λ t. t ++ later) s.1)) (refl, refl))
 
 -- the line of a comment ends behind its two slashes
-cut_line : (rest : List ℕ) (n : ℕ) → StartsComment rest → n ≤ length rest → All IsInLine (take n rest) → EndsLine (drop n rest) → IsComment (take n rest) (drop n rest)
+cut_line : (rest : List ℕ) (n : ℕ) → StartsComment rest → n ≤ length rest → All IsInLine (take n rest)
+    → EndsLine (drop n rest) → IsComment (take n rest) (drop n rest)
 cut_line [] n h l i s = absurd h
 cut_line (b ∷ []) n h l i s = absurd h
 cut_line (b ∷ c ∷ bs) zero h l i (inl s) = absurd (omega (arith, h.0, s))
@@ -40,7 +42,8 @@ cut_line (b ∷ c ∷ bs) (suc zero) h l i (inr s) = absurd (omega (arith, h.1, 
 cut_line (b ∷ c ∷ bs) (suc (suc n)) h l i s =
     (take n bs, cc, All-tail IsInLine c (take n bs) (All-tail IsInLine b (c ∷ take n bs) i), s)
 
-pub past_comment : (rest : List ℕ) (n : ℕ) → StartsComment rest → n ≤ length rest → All IsInLine (take n rest) → EndsLine (drop n rest) → IsPastBlank rest (drop n rest)
+pub past_comment : (rest : List ℕ) (n : ℕ) → StartsComment rest → n ≤ length rest → All IsInLine (take n rest)
+    → EndsLine (drop n rest) → IsPastBlank rest (drop n rest)
 past_comment rest n h l i s = (take n rest, sym (take-append-drop n rest), inr (cut_line rest n h l i s))
 
 -- a comment is no empty text

@@ -12,7 +12,8 @@ use Rattle.schema_syntax_tokens.proofs.Bodies.{Body, pieces, IsBody-plain, IsBod
 use Rattle.schema_syntax_tokens.proofs.Bodies.Body.{none, plain, escaped}
 
 -- a byte below 128 in a character is the character
-pub byte_is_char : (c k d : ℕ) → k < length (encode_utf8 c) → get_or (encode_utf8 c) k d < 128 → c ≡ get_or (encode_utf8 c) k d
+pub byte_is_char : (c k d : ℕ) → k < length (encode_utf8 c) → get_or (encode_utf8 c) k d < 128
+    → c ≡ get_or (encode_utf8 c) k d
 byte_is_char c k d l h =
     let same : get_or (encode_utf8 c) k d ≡ get_or (encode_utf8 c) k 0 = get_or_default (encode_utf8 c) k d 0 l in
     inside_one c [] (encode_utf8 c) k (sym (append-nil (encode_utf8 c))) l (omega arith) ∙ sym same
@@ -43,7 +44,8 @@ behind_all_plain [] ys a h = h
 behind_all_plain (x ∷ xs) ys a h = behind_all_plain xs ys (All-tail IsPlain x xs a) (behind_plain x (xs ++ ys) (All-head IsPlain x xs a) h)
 
 -- a character is its first byte and plain bytes
-first_byte : (c : ℕ) → (b : ℕ) × (more : List ℕ) × (encode_utf8 c ≡ b ∷ more) × All IsPlain more × (b ≡ 10 → c ≡ 10) × (c ≡ 10 → b ≡ 10)
+first_byte : (c : ℕ)
+    → (b : ℕ) × (more : List ℕ) × (encode_utf8 c ≡ b ∷ more) × All IsPlain more × (b ≡ 10 → c ≡ 10) × (c ≡ 10 → b ≡ 10)
 first_byte c = by_bytes (encode_utf8 c) refl
   where
     low : (c b : ℕ) (bs : List ℕ) → encode_utf8 c ≡ b ∷ bs → c < 128 → (b ≡ c) × (bs ≡ [])
@@ -62,7 +64,8 @@ first_byte c = by_bytes (encode_utf8 c) refl
     there : (c b : ℕ) (bs : List ℕ) → encode_utf8 c ≡ b ∷ bs → c ≡ 10 → b ≡ 10
     there c b bs e f = (low c b bs e (omega arith)).0 ∙ f
 
-    by_bytes : (xs : List ℕ) → encode_utf8 c ≡ xs → (b : ℕ) × (more : List ℕ) × (encode_utf8 c ≡ b ∷ more) × All IsPlain more × (b ≡ 10 → c ≡ 10) × (c ≡ 10 → b ≡ 10)
+    by_bytes : (xs : List ℕ) → encode_utf8 c ≡ xs
+        → (b : ℕ) × (more : List ℕ) × (encode_utf8 c ≡ b ∷ more) × All IsPlain more × (b ≡ 10 → c ≡ 10) × (c ≡ 10 → b ≡ 10)
     by_bytes [] e = absurd (omega (arith, ap length e, length-encode c, (len_utf8_bounds c).0))
     by_bytes (b ∷ bs) e = (b, bs, e, tail_plain c b bs e, back c b bs e, there c b bs e)
 

@@ -27,11 +27,13 @@ digit_kept d h =
 other_dropped : (d : ℕ) → is_place d ≡ true → (is_digit d 16 ≡ true → ⊥) → not (d == 95) ≡ false
 other_dropped d p n = elim (or_cases (is_digit d 16) (d == 95) p) [ inl h ↦ absurd (n h) | inr e ↦ ap not e ]
 
-digits_more : (places : List ℕ) (at : ℕ) → at < length places → is_digit (get_or places at 0) 16 ≡ true → digits_of (take (at + 1) places) ≡ digits_of (take at places) ++ get_or places at 0 ∷ []
+digits_more : (places : List ℕ) (at : ℕ) → at < length places → is_digit (get_or places at 0) 16 ≡ true
+    → digits_of (take (at + 1) places) ≡ digits_of (take at places) ++ get_or places at 0 ∷ []
 digits_more places at l h =
     filter_more (λ b. not (b == 95)) places at 0 l ∙ ap (λ t. digits_of (take at places) ++ cond t (get_or places at 0 ∷ []) []) (digit_kept (get_or places at 0) h)
 
-digits_same : (places : List ℕ) (at : ℕ) → at < length places → is_place (get_or places at 0) ≡ true → (is_digit (get_or places at 0) 16 ≡ true → ⊥) → digits_of (take (at + 1) places) ≡ digits_of (take at places)
+digits_same : (places : List ℕ) (at : ℕ) → at < length places → is_place (get_or places at 0) ≡ true
+    → (is_digit (get_or places at 0) 16 ≡ true → ⊥) → digits_of (take (at + 1) places) ≡ digits_of (take at places)
 digits_same places at l p n =
     filter_more (λ b. not (b == 95)) places at 0 l
     ∙ (ap (λ t. digits_of (take at places) ++ cond t (get_or places at 0 ∷ []) []) (other_dropped (get_or places at 0) p n) ∙ append-nil (digits_of (take at places)))
@@ -62,7 +64,8 @@ below_six (suc (suc (suc (suc (suc (suc d)))))) l = absurd (omega arith)
 pub value_fits : (v d x : ℕ) → v < 16 ^ d → d < 6 → x < 16 → v * 16 + x < 2 ^ 32
 value_fits v d x h l m = let b = below_six d l in omega (arith, b)
 
-pub HasDigits-digit : (places : List ℕ) (at digits value x : ℕ) → HasDigits places at digits value → at < length places → digits < 6 → is_digit (get_or places at 0) 16 ≡ true → x ≡ digit_value (get_or places at 0)
+pub HasDigits-digit : (places : List ℕ) (at digits value x : ℕ) → HasDigits places at digits value
+    → at < length places → digits < 6 → is_digit (get_or places at 0) 16 ≡ true → x ≡ digit_value (get_or places at 0)
     → HasDigits places (at + 1) (digits + 1) (value * 16 + x)
 HasDigits-digit places at digits value x h l f d e =
     let more = digits_more places at l d in
@@ -75,11 +78,13 @@ HasDigits-digit places at digits value x h l f d e =
       first = λ _. first_digit at h.first d;
     }
   where
-    first_digit : (n : ℕ) → (0 < n → is_digit (get_or places 0 0) 16 ≡ true) → is_digit (get_or places n 0) 16 ≡ true → is_digit (get_or places 0 0) 16 ≡ true
+    first_digit : (n : ℕ) → (0 < n → is_digit (get_or places 0 0) 16 ≡ true) → is_digit (get_or places n 0) 16 ≡ true
+        → is_digit (get_or places 0 0) 16 ≡ true
     first_digit zero f d = d
     first_digit (suc n) f d = f (omega arith)
 
-pub HasDigits-other : (places : List ℕ) (at digits value : ℕ) → HasDigits places at digits value → AllPass is_place places → at < length places → 0 < at → (is_digit (get_or places at 0) 16 ≡ true → ⊥)
+pub HasDigits-other : (places : List ℕ) (at digits value : ℕ) → HasDigits places at digits value
+    → AllPass is_place places → at < length places → 0 < at → (is_digit (get_or places at 0) 16 ≡ true → ⊥)
     → HasDigits places (at + 1) digits value
 HasDigits-other places at digits value h a l f n =
     let same = digits_same places at l (a at 0 l) n in
@@ -91,7 +96,8 @@ HasDigits-other places at digits value h a l f n =
       first = λ _. h.first f;
     }
 
-pub HasDigits-all : (places : List ℕ) (at digits value : ℕ) → HasDigits places at digits value → AllPass is_place places → length places ≤ at → 0 < length places → HasPlaces places value
+pub HasDigits-all : (places : List ℕ) (at digits value : ℕ) → HasDigits places at digits value
+    → AllPass is_place places → length places ≤ at → 0 < length places → HasPlaces places value
 HasDigits-all places at digits value h a l s =
     let whole : take at places ≡ places = take_all at places l in (
       record {
@@ -103,7 +109,8 @@ HasDigits-all places at digits value h a l s =
     )
 
 -- a seventh digit
-pub too_many : (places : List ℕ) (at value : ℕ) → HasDigits places at 6 value → at < length places → is_digit (get_or places at 0) 16 ≡ true → NoPlaces places
+pub too_many : (places : List ℕ) (at value : ℕ) → HasDigits places at 6 value → at < length places
+    → is_digit (get_or places at 0) 16 ≡ true → NoPlaces places
 too_many places at value h l d a =
     let more : length (digits_of (take (at + 1) places)) ≡ length (digits_of (take at places)) + 1 = ap length (digits_more places at l d) ∙ length-append (digits_of (take at places)) (get_or places at 0 ∷ []) in
     let whole : length (digits_of places) ≡ length (digits_of (take (at + 1) places)) + length (digits_of (drop (at + 1) places)) =
@@ -118,14 +125,16 @@ no_places_empty [] e a = let f : is_digit 0 16 ≡ true = a.first in cc
 no_places_empty (b ∷ bs) e a = omega arith
 
 -- places end at the brace behind them
-pub prefix_len-places : (places after : List ℕ) → AllPass is_place places → prefix_len is_place (places ++ 125 ∷ after) ≡ length places
+pub prefix_len-places : (places after : List ℕ) → AllPass is_place places
+    → prefix_len is_place (places ++ 125 ∷ after) ≡ length places
 prefix_len-places [] after h = refl
 prefix_len-places (b ∷ bs) after h =
     let e : is_place b ≡ true = All-head (λ x. is_place x ≡ true) b bs h in
     ap (λ t. cond t (1 + prefix_len is_place (bs ++ 125 ∷ after)) 0) e ∙ omega (arith, prefix_len-places bs after (All-tail (λ x. is_place x ≡ true) b bs h))
 
 -- all that a brace behind places tells of the bytes
-pub places_cut : (rest places after : List ℕ) (n : ℕ) → n ≡ prefix_len is_place rest → rest ≡ places ++ 125 ∷ after → ArePlaces places → (n < length rest) × (get_or rest n 0 ≡ 125) × (take n rest ≡ places)
+pub places_cut : (rest places after : List ℕ) (n : ℕ) → n ≡ prefix_len is_place rest → rest ≡ places ++ 125 ∷ after
+    → ArePlaces places → (n < length rest) × (get_or rest n 0 ≡ 125) × (take n rest ≡ places)
 places_cut rest places after n e h a =
     let len : length places ≡ n = sym (e ∙ (ap (prefix_len is_place) h ∙ prefix_len-places places after a.each)) in (
       omega (arith, ap length h, length-append places (125 ∷ after)),
@@ -142,6 +151,7 @@ no_braced_byte rest n e l places after h a s = l (places_cut rest places after n
 pub no_braced_places : (rest : List ℕ) (n : ℕ) → n ≡ prefix_len is_place rest → NoPlaces (take n rest) → NoBraced rest
 no_braced_places rest n e l places after h a s = l (subst (λ t. ArePlaces t) (sym (places_cut rest places after n e h a).2) a)
 
-pub no_braced_scalar : (rest : List ℕ) (n v : ℕ) → n ≡ prefix_len is_place rest → v ≡ hex_value 0 (digits_of (take n rest)) → (IsScalar v → ⊥) → NoBraced rest
+pub no_braced_scalar : (rest : List ℕ) (n v : ℕ) → n ≡ prefix_len is_place rest
+    → v ≡ hex_value 0 (digits_of (take n rest)) → (IsScalar v → ⊥) → NoBraced rest
 no_braced_scalar rest n v e f l places after h a s =
     l (subst (λ t. IsScalar t) (sym (f ∙ ap (λ t. hex_value 0 (digits_of t)) (places_cut rest places after n e h a).2)) s)

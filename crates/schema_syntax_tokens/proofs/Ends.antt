@@ -44,7 +44,8 @@ word_end w k (inr (inr h)) = (34 ∷ h.0.0, 34, h.0.2, omega arith)
 word_end [] k (inl h) = absurd h.0
 word_end (b ∷ bs) k (inl h) = parts_end b bs (part_from_start b h.0.0) h.0.1
 
-pub boundary_after : (rest : List ℕ) (n : ℕ) → IsUtf8 rest → n ≤ length rest → EndsAscii (take n rest) → IsCharBoundary rest n
+pub boundary_after : (rest : List ℕ) (n : ℕ) → IsUtf8 rest → n ≤ length rest → EndsAscii (take n rest)
+    → IsCharBoundary rest n
 boundary_after rest n u l h =
     let size : length (take n rest) ≡ length h.0 + 1 = ap length h.2 ∙ length-append h.0 (h.1 ∷ []) in
     let m : n ≡ length h.0 + 1 = omega (arith, size, length-take-le n rest l) in
@@ -54,5 +55,6 @@ boundary_after rest n u l h =
     subst (λ k. IsCharBoundary rest k) (sym m) (IsCharBoundary-after_ascii rest (length h.0) u (omega arith) (omega (arith, e, h.3)))
 
 -- the text may be cut behind its first token
-pub boundary_after_token : (rest : List ℕ) (k : TokenKind) (n : ℕ) → IsUtf8 rest → IsLongest rest k n → IsCharBoundary rest n
+pub boundary_after_token : (rest : List ℕ) (k : TokenKind) (n : ℕ) → IsUtf8 rest → IsLongest rest k n
+    → IsCharBoundary rest n
 boundary_after_token rest k n u h = boundary_after rest n u h.in_range (word_end (take n rest) k h.form)

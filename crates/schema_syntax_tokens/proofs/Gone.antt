@@ -32,7 +32,8 @@ value_none rest [] n h = refl
 value_none rest (c ∷ cs) n h = absurd (n c h.0 h.1 h.3 h.2)
 
 -- and one that begins with a piece stands for its character first
-pub value_some : (rest after v : List ℕ) (c : ℕ) → Begins rest c after → Unescapes rest v → (w : List ℕ) × (v ≡ c ∷ w) × Unescapes after w
+pub value_some : (rest after v : List ℕ) (c : ℕ) → Begins rest c after → Unescapes rest v
+    → (w : List ℕ) × (v ≡ c ∷ w) × Unescapes after w
 value_some rest after [] c b h = absurd (some_and_none b.0 after c b.1 (sym h ∙ b.2))
 value_some rest after (d ∷ ds) c b h =
     let same = same_piece h.0 b.0 h.1 after d c h.3 b.1 (sym h.2 ∙ b.2) in
@@ -41,24 +42,29 @@ value_some rest after (d ∷ ds) c b h =
 -- two bodies that stand for something, what is left of them, and that the tests agree
 abbrev pub AreLeft : (left right one other : List ℕ) → Type 0
 AreLeft left right one other =
-    (v w : List ℕ) → Unescapes left v → Unescapes right w → (x : List ℕ) × (y : List ℕ) × Unescapes one x × Unescapes other y × (pointwise nat_eq v w ≡ pointwise nat_eq x y)
+    (v w : List ℕ) → Unescapes left v → Unescapes right w
+    → (x : List ℕ) × (y : List ℕ) × Unescapes one x × Unescapes other y × (pointwise nat_eq v w ≡ pointwise nat_eq x y)
 
-pub AreLeft-both : (left right one other : List ℕ) → AreLeft left right one other → NoPiece one → NoPiece other → (v w : List ℕ) → Unescapes left v → Unescapes right w → true ≡ pointwise nat_eq v w
+pub AreLeft-both : (left right one other : List ℕ) → AreLeft left right one other → NoPiece one → NoPiece other
+    → (v w : List ℕ) → Unescapes left v → Unescapes right w → true ≡ pointwise nat_eq v w
 AreLeft-both left right one other r n m v w h k =
     let s = r v w h k in
     sym (s.4 ∙ (λ i. pointwise nat_eq (value_none one s.0 n s.2 i) (value_none other s.1 m s.3 i)))
 
-pub AreLeft-first : (left right one other after : List ℕ) (c : ℕ) → AreLeft left right one other → Begins one c after → NoPiece other → (v w : List ℕ) → Unescapes left v → Unescapes right w → false ≡ pointwise nat_eq v w
+pub AreLeft-first : (left right one other after : List ℕ) (c : ℕ) → AreLeft left right one other → Begins one c after
+    → NoPiece other → (v w : List ℕ) → Unescapes left v → Unescapes right w → false ≡ pointwise nat_eq v w
 AreLeft-first left right one other after c r b m v w h k =
     let s = r v w h k in
     sym (s.4 ∙ (λ i. pointwise nat_eq ((value_some one after s.0 c b s.2).1 i) (value_none other s.1 m s.3 i)))
 
-pub AreLeft-second : (left right one other after : List ℕ) (c : ℕ) → AreLeft left right one other → NoPiece one → Begins other c after → (v w : List ℕ) → Unescapes left v → Unescapes right w → false ≡ pointwise nat_eq v w
+pub AreLeft-second : (left right one other after : List ℕ) (c : ℕ) → AreLeft left right one other → NoPiece one
+    → Begins other c after → (v w : List ℕ) → Unescapes left v → Unescapes right w → false ≡ pointwise nat_eq v w
 AreLeft-second left right one other after c r n b v w h k =
     let s = r v w h k in
     sym (s.4 ∙ (λ i. pointwise nat_eq (value_none one s.0 n s.2 i) ((value_some other after s.1 c b s.3).1 i)))
 
-pub AreLeft-differ : (left right one other after behind : List ℕ) (c d : ℕ) → AreLeft left right one other → Begins one c after → Begins other d behind → c ≢ d → (v w : List ℕ) → Unescapes left v → Unescapes right w
+pub AreLeft-differ : (left right one other after behind : List ℕ) (c d : ℕ) → AreLeft left right one other
+    → Begins one c after → Begins other d behind → c ≢ d → (v w : List ℕ) → Unescapes left v → Unescapes right w
     → false ≡ pointwise nat_eq v w
 AreLeft-differ left right one other after behind c d r a b ne v w h k =
     let s = r v w h k in
@@ -66,7 +72,8 @@ AreLeft-differ left right one other after behind c d r a b ne v w h k =
     let y = value_some other behind s.1 d b s.3 in
     sym (s.4 ∙ ((λ i. pointwise nat_eq (x.1 i) (y.1 i)) ∙ ap (λ t. t && pointwise nat_eq x.0 y.0) (ne_eqb c d ne)))
 
-pub AreLeft-more : (left right one other after behind : List ℕ) (c d : ℕ) → AreLeft left right one other → Begins one c after → Begins other d behind → c ≡ d → AreLeft left right after behind
+pub AreLeft-more : (left right one other after behind : List ℕ) (c d : ℕ) → AreLeft left right one other
+    → Begins one c after → Begins other d behind → c ≡ d → AreLeft left right after behind
 AreLeft-more left right one other after behind c d r a b e v w h k =
     let s = r v w h k in
     let x = value_some one after s.0 c a s.2 in
@@ -74,7 +81,8 @@ AreLeft-more left right one other after behind c d r a b e v w h k =
     (x.0, y.0, x.2, y.2, s.4 ∙ ((λ i. pointwise nat_eq (x.1 i) (y.1 i)) ∙ ap (λ t. t && pointwise nat_eq x.0 y.0) (eq-eqb c d e)))
 
 -- the bytes up to the next backslash are gone over
-pub past_plain : (body rest plain after written : List ℕ) (n : ℕ) → IsUtf8 rest → HasUnescaped body rest written → n ≡ prefix_len is_unescaped rest → plain ≡ take n rest → after ≡ drop n rest
+pub past_plain : (body rest plain after written : List ℕ) (n : ℕ) → IsUtf8 rest → HasUnescaped body rest written
+    → n ≡ prefix_len is_unescaped rest → plain ≡ take n rest → after ≡ drop n rest
     → HasUnescaped body after (written ++ plain) × IsUtf8 after
 past_plain body rest plain after written n u h e p a =
     let cut : IsCharBoundary rest n = boundary_at_backslash rest n e in (

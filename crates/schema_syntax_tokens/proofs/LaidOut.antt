@@ -36,13 +36,15 @@ skips_blanks (L.comment line {bs} h g) rest here s =
     more {after = 10 ∷ after} (47 ∷ 47 ∷ line, whole, inr (line, refl, h, inl refl)) (more (line_feed after) (skips_blanks g rest here s))
 
 -- one more gap, or one more lexeme, in front
-scans_gap : (from at : ℕ) (bs rest : List ℕ) (ts : List Token) → AreBlanks bs → ScansFrom (from + length bs) rest ts at → ScansFrom from (bs ++ rest) ts at
+scans_gap : (from at : ℕ) (bs rest : List ℕ) (ts : List Token) → AreBlanks bs
+    → ScansFrom (from + length bs) rest ts at → ScansFrom from (bs ++ rest) ts at
 scans_gap from at bs rest [] g s = (s.0, skips_blanks g rest s.0 s.1, omega (arith, s.2, length-append bs rest), s.3, s.4)
 scans_gap from at bs rest (t ∷ ts) g s =
     let n = s.2 in
     (s.0, s.1, record { skips = skips_blanks g rest s.0 n.skips; token = n.token; start = omega (arith, n.start, length-append bs rest); stop = n.stop }, s.3)
 
-scans_lexeme : (from at : ℕ) (x : Lexeme) (rest : List ℕ) (ts : List Token) → IsForm x.text x.kind → Ends (edge_of x.kind) rest → ScansFrom (from + length x.text) rest ts at
+scans_lexeme : (from at : ℕ) (x : Lexeme) (rest : List ℕ) (ts : List Token) → IsForm x.text x.kind
+    → Ends (edge_of x.kind) rest → ScansFrom (from + length x.text) rest ts at
     → ScansFrom from (x.text ++ rest) (record { kind = x.kind; loc = record { start = from; end = from + length x.text } } ∷ ts) at
 scans_lexeme from at x rest ts f e s = (
   x.text ++ rest,
@@ -68,7 +70,8 @@ ends_at_gap : (e : Edge) (b : ℕ) (bs rest : List ℕ) → AreBlanks (b ∷ bs)
 ends_at_gap e b bs rest (L.blank h g) = ends_at_blank e b (bs ++ rest) (plain_no_part b h) (plain_no_colon b h)
 ends_at_gap e b bs rest (L.comment line {bs = after} h g) = ends_at_blank e 47 ((47 ∷ (line ++ 10 ∷ after)) ++ rest) refl (omega arith)
 
-at_byte : (b n : ℕ) (k : TokenKind) (x r : Option TokenKind) → is_word_part n ≡ false → (r ≡ Some k → is_word_part b ≡ false)
+at_byte : (b n : ℕ) (k : TokenKind) (x r : Option TokenKind) → is_word_part n ≡ false
+    → (r ≡ Some k → is_word_part b ≡ false)
     → (if b == n then x else r) ≡ Some k → is_word_part b ≡ false
 at_byte b n k x r here there h =
     elim (cases_eq b n) [
@@ -95,7 +98,8 @@ form_no_part (b ∷ bs) rest k (inr (inl f)) h = mark_no_part b bs k f
 form_no_part (b ∷ bs) rest k (inr (inr f)) h =
     let e : b ≡ 34 = let g : b ∷ bs ≡ 34 ∷ (f.0.0 ++ 34 ∷ []) = f.0.2 in cc in ap is_word_part e
 
-ends_at_lexeme : (e : Edge) (x : Lexeme) (rest : List ℕ) → IsForm x.text x.kind → may_touch e x.kind ≡ true → Ends e (x.text ++ rest)
+ends_at_lexeme : (e : Edge) (x : Lexeme) (rest : List ℕ) → IsForm x.text x.kind → may_touch e x.kind ≡ true
+    → Ends e (x.text ++ rest)
 ends_at_lexeme free x rest f h = tt
 ends_at_lexeme word x rest f h =
     elim (cases_Bool (is_word_kind x.kind)) [
@@ -118,25 +122,30 @@ follow_end {e} (by_blanks {bytes = b ∷ bs} {ps = ps} g s) = ends_at_gap e b bs
 follow_end {e} (by_lexeme {x = x} {ps = ps} f m s) = ends_at_lexeme e x (laid ps) f m
 
 -- past a gap and past a lexeme, to the end of the text
-past_gap : (from : ℕ) (bs rest : List ℕ) (ts : List Token) → AreBlanks bs → ScansFrom (from + length bs) rest ts (from + length bs + length rest) → ScansFrom from (bs ++ rest) ts (from + length (bs ++ rest))
+past_gap : (from : ℕ) (bs rest : List ℕ) (ts : List Token) → AreBlanks bs
+    → ScansFrom (from + length bs) rest ts (from + length bs + length rest)
+    → ScansFrom from (bs ++ rest) ts (from + length (bs ++ rest))
 past_gap from bs rest ts g s =
     let e : from + length bs + length rest ≡ from + length (bs ++ rest) = omega (arith, length-append bs rest) in
     scans_gap from (from + length (bs ++ rest)) bs rest ts g (subst (λ at. ScansFrom (from + length bs) rest ts at) e s)
 
-past_lexeme : (from : ℕ) (x : Lexeme) (rest : List ℕ) (ts : List Token) → IsForm x.text x.kind → Ends (edge_of x.kind) rest → ScansFrom (from + length x.text) rest ts (from + length x.text + length rest)
+past_lexeme : (from : ℕ) (x : Lexeme) (rest : List ℕ) (ts : List Token) → IsForm x.text x.kind
+    → Ends (edge_of x.kind) rest → ScansFrom (from + length x.text) rest ts (from + length x.text + length rest)
     → ScansFrom from (x.text ++ rest) (record { kind = x.kind; loc = record { start = from; end = from + length x.text } } ∷ ts) (from + length (x.text ++ rest))
 past_lexeme from x rest ts f e s =
     let same : from + length x.text + length rest ≡ from + length (x.text ++ rest) = omega (arith, length-append x.text rest) in
     scans_lexeme from (from + length (x.text ++ rest)) x rest ts f e (subst (λ at. ScansFrom (from + length x.text) rest ts at) same s)
 
-pub laid_scans : {e : Edge} {ps : List Piece} → Follow e ps → (from : ℕ) → ScansFrom from (laid ps) (tokens_from from ps) (from + length (laid ps))
+pub laid_scans : {e : Edge} {ps : List Piece} → Follow e ps → (from : ℕ)
+    → ScansFrom from (laid ps) (tokens_from from ps) (from + length (laid ps))
 laid_scans (done h) from = ([], none, omega arith, NoBlank-nil, NoForm-nil)
 laid_scans (by_gap {b = b} {bs = bs} {ps = ps} g s) from = past_gap from (b ∷ bs) (laid ps) (tokens_from (from + length (b ∷ bs)) ps) g (laid_scans s (from + length (b ∷ bs)))
 laid_scans (by_blanks {bytes = bytes} {ps = ps} g s) from = past_gap from bytes (laid ps) (tokens_from (from + length bytes) ps) g (laid_scans s (from + length bytes))
 laid_scans (by_lexeme {x = x} {ps = ps} f m s) from = past_lexeme from x (laid ps) (tokens_from (from + length x.text) ps) f (follow_end s) (laid_scans s (from + length x.text))
 
 -- the pieces behind a front are spelled by their tokens
-spelled_behind : {e : Edge} {ps : List Piece} → Follow e ps → (front : List ℕ) (from : ℕ) (whole : List ℕ) → from ≡ length front → whole ≡ front ++ laid ps → Spells whole (tokens_from from ps) (lexemes_of ps)
+spelled_behind : {e : Edge} {ps : List Piece} → Follow e ps → (front : List ℕ) (from : ℕ) (whole : List ℕ)
+    → from ≡ length front → whole ≡ front ++ laid ps → Spells whole (tokens_from from ps) (lexemes_of ps)
 spelled_behind (done h) front from whole e w = tt
 spelled_behind (by_gap {b = b} {bs = bs} {ps = ps} g s) front from whole e w =
     spelled_behind s (front ++ (b ∷ bs)) (from + length (b ∷ bs)) whole (omega (arith, length-append front (b ∷ bs))) (w ∙ sym (append_assoc front (b ∷ bs) (laid ps)))

@@ -29,7 +29,8 @@ braced_at bs n c h =
     }
 
 -- `\u{..}`
-pub braced_escape : (rest : List ℕ) (n c : ℕ) → get_or rest 0 0 ≡ 92 → get_or rest 1 0 ≡ 117 → get_or rest 2 0 ≡ 123 → IsBraced (drop 3 rest) n c → IsEscapeTo rest (n + 4) c
+pub braced_escape : (rest : List ℕ) (n c : ℕ) → get_or rest 0 0 ≡ 92 → get_or rest 1 0 ≡ 117 → get_or rest 2 0 ≡ 123
+    → IsBraced (drop 3 rest) n c → IsEscapeTo rest (n + 4) c
 braced_escape [] n c e f g h = absurd (omega arith)
 braced_escape (x ∷ []) n c e f g h = absurd (omega arith)
 braced_escape (x ∷ y ∷ []) n c e f g h = absurd (omega arith)
@@ -38,7 +39,8 @@ braced_escape (x ∷ y ∷ z ∷ bs) n c e f g h =
     subst (λ m. IsEscapeTo (x ∷ y ∷ z ∷ bs) m c) len
     (subst (λ t. IsEscapeTo t (suc (suc (suc (n + 1)))) c) (λ i. sym e i ∷ sym f i ∷ sym g i ∷ bs) (braced_at bs n c h))
 
-at_simple : (b n c : ℕ) (x r : Option ℕ) → nat_lt n 128 ≡ true → (r ≡ Some c → nat_lt b 128 ≡ true) → (if b == n then x else r) ≡ Some c → nat_lt b 128 ≡ true
+at_simple : (b n c : ℕ) (x r : Option ℕ) → nat_lt n 128 ≡ true → (r ≡ Some c → nat_lt b 128 ≡ true)
+    → (if b == n then x else r) ≡ Some c → nat_lt b 128 ≡ true
 at_simple b n c x r here there h =
     elim (cases_eq b n) [
       | inl e ↦ ap (λ t. nat_lt t 128) e ∙ here

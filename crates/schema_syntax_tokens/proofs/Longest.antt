@@ -18,7 +18,8 @@ use Rattle.schema_syntax_tokens.proofs.Bodies.{same_bodies}
 abbrev pub may_be_mark : ℕ → Bool
 may_be_mark b = (not (is_word_start b) && not (b == 34)) && ((not (b == 47) && not (is_whitespace b)) && nat_lt b 128)
 
-at_mark : (b n : ℕ) (k : TokenKind) (x r : Option TokenKind) → may_be_mark n ≡ true → (r ≡ Some k → may_be_mark b ≡ true)
+at_mark : (b n : ℕ) (k : TokenKind) (x r : Option TokenKind) → may_be_mark n ≡ true
+    → (r ≡ Some k → may_be_mark b ≡ true)
     → (if b == n then x else r) ≡ Some k → may_be_mark b ≡ true
 at_mark b n k x r here there h =
     elim (cases_eq b n) [
@@ -36,7 +37,8 @@ mark_byte b k h =
 no_colon : (b c : ℕ) (k : TokenKind) → (b ≡ 58 → ⊥) → (if b == 58 && c == 58 then Some PathSep else None) ≡ Some k → ⊥
 no_colon b c k n h = let e : None ≡ Some k = sym (ap (λ t. cond (t && c == 58) (Some PathSep) None) (ne_eqb b 58 n)) ∙ h in cc
 
-no_second_colon : (b c : ℕ) (k : TokenKind) → b ≡ 58 → (c ≡ 58 → ⊥) → (if b == 58 && c == 58 then Some PathSep else None) ≡ Some k → ⊥
+no_second_colon : (b c : ℕ) (k : TokenKind) → b ≡ 58 → (c ≡ 58 → ⊥)
+    → (if b == 58 && c == 58 then Some PathSep else None) ≡ Some k → ⊥
 no_second_colon b c k e n h =
     let f : None ≡ Some k = sym (ap (λ t. cond (t && c == 58) (Some PathSep) None) (eq-eqb b 58 e) ∙ ap (λ t. cond t (Some PathSep) None) (ne_eqb c 58 n)) ∙ h in cc
 
@@ -63,7 +65,8 @@ pub mark_no_quote : (b : ℕ) → may_be_mark b ≡ true → b ≡ 34 → ⊥
 mark_no_quote b h e = let f : may_be_mark 34 ≡ true = ap may_be_mark (sym e) ∙ h in cc
 
 -- bytes that begin with a letter or `_` have no form but that of a word
-pub form_word : (b : ℕ) (bs : List ℕ) (k : TokenKind) → is_word_start b ≡ true → IsForm (b ∷ bs) k → AllPass is_word_part bs
+pub form_word : (b : ℕ) (bs : List ℕ) (k : TokenKind) → is_word_start b ≡ true → IsForm (b ∷ bs) k
+    → AllPass is_word_part bs
 form_word b bs k w (inl f) = f.0.1
 form_word b bs k w (inr (inl e)) = absurd (mark_no_word b (mark_start b bs k e) w)
 form_word b bs k w (inr (inr f)) =
@@ -71,13 +74,15 @@ form_word b bs k w (inr (inr f)) =
     let g : is_word_start 34 ≡ true = ap is_word_start (sym e) ∙ w in cc
 
 -- bytes that begin with a quote have no form but that of a string
-pub form_string : (b : ℕ) (bs : List ℕ) (k : TokenKind) → b ≡ 34 → IsForm (b ∷ bs) k → (body : List ℕ) × IsBody body × (bs ≡ body ++ 34 ∷ [])
+pub form_string : (b : ℕ) (bs : List ℕ) (k : TokenKind) → b ≡ 34 → IsForm (b ∷ bs) k
+    → (body : List ℕ) × IsBody body × (bs ≡ body ++ 34 ∷ [])
 form_string b bs k e (inl f) = let g : is_word_start 34 ≡ true = ap is_word_start (sym e) ∙ f.0.0 in cc
 form_string b bs k e (inr (inl f)) = absurd (mark_no_quote b (mark_start b bs k f) e)
 form_string b bs k e (inr (inr f)) = let g : b ∷ bs ≡ 34 ∷ (f.0.0 ++ 34 ∷ []) = f.0.2 in (f.0.0, f.0.1, cc)
 
 -- other bytes have no form but that of a mark
-pub form_mark : (b : ℕ) (bs : List ℕ) (k : TokenKind) → is_word_start b ≡ false → b ≢ 34 → IsForm (b ∷ bs) k → mark_kind (b ∷ bs) ≡ Some k
+pub form_mark : (b : ℕ) (bs : List ℕ) (k : TokenKind) → is_word_start b ≡ false → b ≢ 34 → IsForm (b ∷ bs) k
+    → mark_kind (b ∷ bs) ≡ Some k
 form_mark b bs k w n (inl f) = let e : false ≡ true = sym w ∙ f.0.0 in cc
 form_mark b bs k w n (inr (inl f)) = f
 form_mark b bs k w n (inr (inr f)) = let g : b ∷ bs ≡ 34 ∷ (f.0.0 ++ 34 ∷ []) = f.0.2 in let e : b ≡ 34 = cc in absurd (n e)
@@ -95,7 +100,8 @@ NoForm-nil (suc m) k f = no_form_nil k f
 pub part_from_start : (b : ℕ) → is_word_start b ≡ true → is_word_part b ≡ true
 part_from_start b h = grind (arith, nat_tests)
 
-prefix_word : (b : ℕ) (bs : List ℕ) → is_word_start b ≡ true → prefix_len is_word_part (b ∷ bs) ≡ suc (prefix_len is_word_part bs)
+prefix_word : (b : ℕ) (bs : List ℕ) → is_word_start b ≡ true
+    → prefix_len is_word_part (b ∷ bs) ≡ suc (prefix_len is_word_part bs)
 prefix_word b bs h = ap (λ t. cond t (1 + prefix_len is_word_part bs) 0) (part_from_start b h) ∙ omega arith
 
 -- the longest front that passes passes
@@ -116,7 +122,8 @@ AllPass-le-prefix p bs m l h =
       | inr q ↦ q
     ]
 
-word_at : (b : ℕ) (bs : List ℕ) (n : ℕ) → is_word_start b ≡ true → n ≡ prefix_len is_word_part bs → IsLongest (b ∷ bs) (word_kind (take (suc n) (b ∷ bs))) (suc n)
+word_at : (b : ℕ) (bs : List ℕ) (n : ℕ) → is_word_start b ≡ true → n ≡ prefix_len is_word_part bs
+    → IsLongest (b ∷ bs) (word_kind (take (suc n) (b ∷ bs))) (suc n)
 word_at b bs n w e =
     record {
       in_range = omega (arith, prefix_len-le-length is_word_part bs);
@@ -129,7 +136,8 @@ word_at b bs n w e =
     longest_word (suc m) l r f = omega (arith, AllPass-le-prefix is_word_part bs m (omega arith) (form_word b (take m bs) l w f))
 
 -- a word is as long as the letters, digits and `_` go
-pub longest_word : (rest : List ℕ) (n : ℕ) → StartsWord rest → n ≡ prefix_len is_word_part rest → IsLongest rest (word_kind (take n rest)) n
+pub longest_word : (rest : List ℕ) (n : ℕ) → StartsWord rest → n ≡ prefix_len is_word_part rest
+    → IsLongest rest (word_kind (take n rest)) n
 longest_word [] n w e = absurd w
 longest_word (b ∷ bs) n w e =
     subst (λ m. IsLongest (b ∷ bs) (word_kind (take m (b ∷ bs))) m) (sym (e ∙ prefix_word b bs w)) (word_at b bs (prefix_len is_word_part bs) w refl)
@@ -166,7 +174,8 @@ no_string_at bs h (suc m) k f =
     h g.0 (drop m bs) g.1 (sym (take-append-drop m bs) ∙ (ap (λ t. t ++ drop m bs) g.2 ∙ append_assoc g.0 (34 ∷ []) (drop m bs)))
 
 -- a string ends at the first quote that no backslash precedes
-pub longest_string : (rest : List ℕ) (n : ℕ) → StartsString rest → IsBodyEnd (drop 1 rest) n → IsLongest rest StringLit (n + 2)
+pub longest_string : (rest : List ℕ) (n : ℕ) → StartsString rest → IsBodyEnd (drop 1 rest) n
+    → IsLongest rest StringLit (n + 2)
 longest_string [] n s h = absurd s
 longest_string (b ∷ bs) n s h =
     let e : suc (n + 1) ≡ n + 2 = omega arith in
@@ -177,10 +186,12 @@ no_string [] s h = absurd s
 no_string (b ∷ bs) s h = subst (λ q. NoForm (q ∷ bs)) (sym s) (no_string_at bs h)
 
 -- a mark: `::` first, else the one byte
-pub longest_mark : (b : ℕ) (bs : List ℕ) (k : TokenKind) → is_word_start b ≡ false → b ≢ 34 → (b ≡ 58 → get_or bs 0 0 ≢ 58) → single_mark b ≡ Some k → IsLongest (b ∷ bs) k 1
+pub longest_mark : (b : ℕ) (bs : List ℕ) (k : TokenKind) → is_word_start b ≡ false → b ≢ 34
+    → (b ≡ 58 → get_or bs 0 0 ≢ 58) → single_mark b ≡ Some k → IsLongest (b ∷ bs) k 1
 longest_mark b bs k w q n h = record { in_range = omega arith; form = inr (inl h); longest = longest_one bs n }
   where
-    longest_one : (cs : List ℕ) → (b ≡ 58 → get_or cs 0 0 ≢ 58) → (m : ℕ) (l : TokenKind) → m ≤ length (b ∷ cs) → IsForm (take m (b ∷ cs)) l → m ≤ 1
+    longest_one : (cs : List ℕ) → (b ≡ 58 → get_or cs 0 0 ≢ 58) → (m : ℕ) (l : TokenKind) → m ≤ length (b ∷ cs)
+        → IsForm (take m (b ∷ cs)) l → m ≤ 1
     longest_one cs n zero l r f = omega arith
     longest_one cs n (suc zero) l r f = omega arith
     longest_one [] n (suc (suc m)) l r f = absurd (omega arith)
@@ -193,7 +204,8 @@ pub longest_colons : (b c : ℕ) (bs : List ℕ) → b ≡ 58 → c ≡ 58 → I
 longest_colons b c bs e f =
     subst (λ x. IsLongest (x ∷ c ∷ bs) PathSep 2) (sym e) (subst (λ x. IsLongest (58 ∷ x ∷ bs) PathSep 2) (sym f) (colons_at bs))
   where
-    longest_two : (cs : List ℕ) (m : ℕ) (l : TokenKind) → m ≤ length (58 ∷ 58 ∷ cs) → IsForm (take m (58 ∷ 58 ∷ cs)) l → m ≤ 2
+    longest_two : (cs : List ℕ) (m : ℕ) (l : TokenKind) → m ≤ length (58 ∷ 58 ∷ cs) → IsForm (take m (58 ∷ 58 ∷ cs)) l
+        → m ≤ 2
     longest_two cs zero l r f = omega arith
     longest_two cs (suc zero) l r f = omega arith
     longest_two cs (suc (suc zero)) l r f = omega arith
@@ -224,11 +236,13 @@ no_colons : (b : ℕ) (bs : List ℕ) → (StartsColons (b ∷ bs) → ⊥) → 
 no_colons b [] n e f = omega arith
 no_colons b (c ∷ bs) n e f = n (e, f)
 
-pub mark_of_byte : (rest : List ℕ) (k : TokenKind) → StartsOther rest → (StartsColons rest → ⊥) → 0 < length rest → single_mark (get_or rest 0 0) ≡ Some k → IsLongest rest k 1
+pub mark_of_byte : (rest : List ℕ) (k : TokenKind) → StartsOther rest → (StartsColons rest → ⊥) → 0 < length rest
+    → single_mark (get_or rest 0 0) ≡ Some k → IsLongest rest k 1
 mark_of_byte [] k h n l e = absurd (omega arith)
 mark_of_byte (b ∷ bs) k h n l e = longest_mark b bs k h.0 h.1 (no_colons b bs n) e
 
-pub mark_of_none : (rest : List ℕ) → StartsOther rest → 0 < length rest → single_mark (get_or rest 0 0) ≡ None → NoForm rest
+pub mark_of_none : (rest : List ℕ) → StartsOther rest → 0 < length rest → single_mark (get_or rest 0 0) ≡ None
+    → NoForm rest
 mark_of_none [] h l e = NoForm-nil
 mark_of_none (b ∷ bs) h l e = no_mark b bs h.0 h.1 e
 

@@ -94,7 +94,8 @@ control_escape c l =
     let places : ArePlaces (lower_hex c) = record { first = r.0; each = AllPass-from_list_all is_place (lower_hex c) r.1; few = leb-true (length (digits_of (lower_hex c))) 6 q.1 } in
     inr (inr (lower_hex c, refl, places, eqb-true c (hex_value 0 (digits_of (lower_hex c))) s.0, (and_parts _ true s.1).0))
 
-at_simple : (c n b : ℕ) (r : List ℕ) → IsEscape (92 ∷ b ∷ []) n → (c ≢ n → StandsFor r c) → StandsFor (if c == n then 92 ∷ b ∷ [] else r) c
+at_simple : (c n b : ℕ) (r : List ℕ) → IsEscape (92 ∷ b ∷ []) n → (c ≢ n → StandsFor r c)
+    → StandsFor (if c == n then 92 ∷ b ∷ [] else r) c
 at_simple c n b r here there =
     elim (cases_eq c n) [
       | inl e ↦ subst (λ t. StandsFor t c) (sym (cond-true (c == n) (92 ∷ b ∷ []) r (eq-eqb c n e))) (inr (subst (λ x. IsEscape (92 ∷ b ∷ []) x) (sym e) here))
@@ -104,7 +105,8 @@ at_simple c n b r here there =
 simple : (b n : ℕ) → simple_escape b ≡ Some n → IsEscape (92 ∷ b ∷ []) n
 simple b n h = inl (b, refl, h)
 
-at_control : (c : ℕ) → c ≢ 92 → StandsFor (if nat_lt c 32 || c == 127 then 92 ∷ 117 ∷ 123 ∷ (lower_hex c ++ 125 ∷ []) else encode_utf8 c) c
+at_control : (c : ℕ) → c ≢ 92
+    → StandsFor (if nat_lt c 32 || c == 127 then 92 ∷ 117 ∷ 123 ∷ (lower_hex c ++ 125 ∷ []) else encode_utf8 c) c
 at_control c n =
     elim (cases_Bool (nat_lt c 32 || c == 127)) [
       | inl h ↦ subst (λ t. StandsFor t c) (sym (cond-true (nat_lt c 32 || c == 127) (92 ∷ 117 ∷ 123 ∷ (lower_hex c ++ 125 ∷ [])) (encode_utf8 c) h)) (inr (control_escape c (control_ascii c h)))

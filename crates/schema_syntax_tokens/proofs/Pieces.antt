@@ -50,7 +50,8 @@ pub HasUnescaped-none : (body : List ℕ) → HasUnescaped body body []
 HasUnescaped-none body = record { front = []; value = []; split = refl; stands_for = refl; bytes = refl }
 
 -- more of the body, and what it stands for
-has_more : (body rest after written piece more : List ℕ) (cs : List ℕ) → HasUnescaped body rest written → rest ≡ piece ++ after → Unescapes piece cs → encode_utf8_all cs ≡ more
+has_more : (body rest after written piece more : List ℕ) (cs : List ℕ) → HasUnescaped body rest written
+    → rest ≡ piece ++ after → Unescapes piece cs → encode_utf8_all cs ≡ more
     → HasUnescaped body after (written ++ more)
 has_more body rest after written piece more cs h e u w =
     record {
@@ -62,7 +63,8 @@ has_more body rest after written piece more cs h e u w =
     }
 
 -- bytes up to the next backslash
-pub HasUnescaped-plain : (body rest plain after written : List ℕ) (n : ℕ) → HasUnescaped body rest written → n ≡ prefix_len is_unescaped rest → plain ≡ take n rest → after ≡ drop n rest → IsUtf8 plain
+pub HasUnescaped-plain : (body rest plain after written : List ℕ) (n : ℕ) → HasUnescaped body rest written
+    → n ≡ prefix_len is_unescaped rest → plain ≡ take n rest → after ≡ drop n rest → IsUtf8 plain
     → HasUnescaped body after (written ++ plain)
 HasUnescaped-plain body rest plain after written n h e p a u =
     let passes : AllPass is_unescaped plain = subst (λ t. AllPass is_unescaped t) (sym p) (subst (λ m. AllPass is_unescaped (take m rest)) (sym e) (AllPass-prefix is_unescaped rest)) in
@@ -73,14 +75,16 @@ HasUnescaped-plain body rest plain after written n h e p a u =
     has_more body rest after written plain plain (chars plain) h cut stands same
 
 -- one escape
-pub HasUnescaped-escape : (body rest after written : List ℕ) (n c : ℕ) → HasUnescaped body rest written → IsEscapeTo rest n c → after ≡ drop n rest → HasUnescaped body after (written ++ encode_utf8 c)
+pub HasUnescaped-escape : (body rest after written : List ℕ) (n c : ℕ) → HasUnescaped body rest written
+    → IsEscapeTo rest n c → after ≡ drop n rest → HasUnescaped body after (written ++ encode_utf8 c)
 HasUnescaped-escape body rest after written n c h l a =
     let cut : rest ≡ take n rest ++ after = sym (take-append-drop n rest) ∙ ap (λ t. take n rest ++ t) (sym a) in
     let stands : Unescapes (take n rest) (c ∷ []) = (take n rest, [], sym (append-nil (take n rest)), inr l.escape, refl) in
     has_more body rest after written (take n rest) (encode_utf8 c) (c ∷ []) h cut stands (append-nil (encode_utf8 c))
 
 -- the end
-pub HasUnescaped-all : (body rest written : List ℕ) → HasUnescaped body rest written → IsUtf8 written → length rest ≡ 0 → Unescapes body (chars written)
+pub HasUnescaped-all : (body rest written : List ℕ) → HasUnescaped body rest written → IsUtf8 written
+    → length rest ≡ 0 → Unescapes body (chars written)
 HasUnescaped-all body [] written h u l =
     let same : h.value ≡ chars written = chars_from_encodes h.value written u h.bytes in
     subst (λ cs. Unescapes body cs) same (subst (λ t. Unescapes t h.value) (sym (h.split ∙ append-nil h.front)) h.stands_for)
@@ -101,13 +105,15 @@ boundary_at_backslash rest n e =
           subst (λ k. IsCharBoundary rest k) m (IsCharBoundary-end rest)
     ]
 
-backslash_first : (rest after : List ℕ) (n : ℕ) → n ≡ prefix_len is_unescaped rest → after ≡ drop n rest → 0 < length after → after ≡ 92 ∷ drop (n + 1) rest
+backslash_first : (rest after : List ℕ) (n : ℕ) → n ≡ prefix_len is_unescaped rest → after ≡ drop n rest
+    → 0 < length after → after ≡ 92 ∷ drop (n + 1) rest
 backslash_first rest after n e a l =
     let m : n < length rest = omega (arith, ap length a, length-drop n rest) in
     a ∙ (drop_more rest n 0 m ∙ ap (λ b. b ∷ drop (n + 1) rest) (stop_byte rest n e m))
 
 -- the first bad backslash
-pub HasUnescaped-stuck : (body rest after written : List ℕ) (n at : ℕ) → HasUnescaped body after written → n ≡ prefix_len is_unescaped rest → after ≡ drop n rest → 0 < length after → NoEscape after
+pub HasUnescaped-stuck : (body rest after written : List ℕ) (n at : ℕ) → HasUnescaped body after written
+    → n ≡ prefix_len is_unescaped rest → after ≡ drop n rest → 0 < length after → NoEscape after
     → at + length after ≡ length body → BadEscape body at
 HasUnescaped-stuck body rest after written n at h e a l f p =
     let first = backslash_first rest after n e a l in

@@ -95,7 +95,8 @@ pub left_plain : (rest : List ℕ) → IsUtf8 rest → NoneEscaped rest → char
 left_plain rest u h = ap chars (quoted_text-plain rest u h)
 
 -- what is to be written up to the next escape, the escape, and what follows it
-left_parts : (plain following : List ℕ) (b : ℕ) → IsUtf8 plain → IsUtf8 (b ∷ following) → NoneEscaped plain → is_escaped b ≡ true
+left_parts : (plain following : List ℕ) (b : ℕ) → IsUtf8 plain → IsUtf8 (b ∷ following) → NoneEscaped plain
+    → is_escaped b ≡ true
     → chars (quoted_body (chars (plain ++ b ∷ following))) ≡ chars plain ++ (chars (quoted_char b) ++ chars (quoted_body (chars following)))
 left_parts plain following b u v n h =
     let one : b ∷ following ≡ encode_utf8 b ++ following = sym (ap (λ t. t ++ following) (encode_ascii b (escaped_ascii b h))) in
@@ -109,17 +110,20 @@ left_parts plain following b u v n h =
 pub HasWritten-none : (text all : List ℕ) → HasWritten text text all all
 HasWritten-none text all = ([], sym (append-nil text), refl)
 
-pub HasWritten-more : (old now new all piece left after : List ℕ) → HasWritten old now all left → new ≡ now ++ piece → left ≡ piece ++ after → HasWritten old new all after
+pub HasWritten-more : (old now new all piece left after : List ℕ) → HasWritten old now all left → new ≡ now ++ piece
+    → left ≡ piece ++ after → HasWritten old new all after
 HasWritten-more old now new all piece left after h e f =
     (h.0 ++ piece, e ∙ (ap (λ t. t ++ piece) h.1 ∙ append_assoc old h.0 piece), h.2 ∙ (ap (λ t. h.0 ++ t) f ∙ sym (append_assoc h.0 piece after)))
 
 pub HasWritten-all : (old new all : List ℕ) → HasWritten old new all [] → new ≡ old ++ all
 HasWritten-all old new all h = h.1 ∙ ap (λ t. old ++ t) (sym (h.2 ∙ append-nil h.0))
 
-pub HasWritten-same : (old now new all left : List ℕ) → HasWritten old now all left → new ≡ now → HasWritten old new all left
+pub HasWritten-same : (old now new all left : List ℕ) → HasWritten old now all left → new ≡ now
+    → HasWritten old new all left
 HasWritten-same old now new all left h e = subst (λ t. HasWritten old t all left) (sym e) h
 
-cut_next : (rest following : List ℕ) (at : ℕ) → at < length rest → following ≡ drop 1 (drop at rest) → (rest ≡ take at rest ++ get_or rest at 0 ∷ following) × (drop at rest ≡ get_or rest at 0 ∷ following)
+cut_next : (rest following : List ℕ) (at : ℕ) → at < length rest → following ≡ drop 1 (drop at rest)
+    → (rest ≡ take at rest ++ get_or rest at 0 ∷ following) × (drop at rest ≡ get_or rest at 0 ∷ following)
 cut_next rest following at l f =
     let first : drop at rest ≡ get_or rest at 0 ∷ drop (at + 1) rest = drop_more rest at 0 l in
     let same : drop (at + 1) rest ≡ following = ap (λ t. drop 1 t) (sym first) ∙ sym f in
@@ -130,17 +134,20 @@ cut_next rest following at l f =
 pub boundary_at_escape : (rest text : List ℕ) (at : ℕ) → IsNextEscape rest at text → IsCharBoundary rest at
 boundary_at_escape rest text at h = IsCharBoundary-before_ascii rest at h.in_range (escaped_ascii (get_or rest at 0) h.escaped)
 
-pub boundary_after_escaped : (rest text : List ℕ) (at : ℕ) → IsUtf8 rest → IsNextEscape rest at text → IsCharBoundary (drop at rest) 1
+pub boundary_after_escaped : (rest text : List ℕ) (at : ℕ) → IsUtf8 rest → IsNextEscape rest at text
+    → IsCharBoundary (drop at rest) 1
 boundary_after_escaped rest text at u h =
     let first : drop at rest ≡ get_or rest at 0 ∷ drop (at + 1) rest = drop_more rest at 0 h.in_range in
     let byte : get_or (drop at rest) 0 0 ≡ get_or rest at 0 = ap (λ t. get_or t 0 0) first in
     let some : 0 < length (drop at rest) = omega (arith, ap length first) in
     IsCharBoundary-after_ascii (drop at rest) 0 (IsUtf8-drop rest at u (boundary_at_escape rest text at h)) some (omega (arith, byte, escaped_ascii (get_or rest at 0) h.escaped))
 
-pub text_before_escape : (rest text : List ℕ) (at : ℕ) → IsUtf8 rest → IsNextEscape rest at text → IsUtf8 (take at rest)
+pub text_before_escape : (rest text : List ℕ) (at : ℕ) → IsUtf8 rest → IsNextEscape rest at text
+    → IsUtf8 (take at rest)
 text_before_escape rest text at u h = IsUtf8-take rest at u (boundary_at_escape rest text at h)
 
-pub text_after_escape : (rest text : List ℕ) (at : ℕ) → IsUtf8 rest → IsNextEscape rest at text → IsUtf8 (drop 1 (drop at rest))
+pub text_after_escape : (rest text : List ℕ) (at : ℕ) → IsUtf8 rest → IsNextEscape rest at text
+    → IsUtf8 (drop 1 (drop at rest))
 text_after_escape rest text at u h =
     IsUtf8-drop (drop at rest) 1 (IsUtf8-drop rest at u (boundary_at_escape rest text at h)) (boundary_after_escaped rest text at u h)
 
@@ -155,13 +162,15 @@ left_to_escape rest text at u h =
     ∙ ap (λ t. chars (take at rest) ++ (chars t ++ chars (quoted_body (chars (drop 1 (drop at rest)))))) (sym h.written))
 
 -- a string as a whole: the quote, the body, the quote
-pub left_quoted : (value : List ℕ) → IsUtf8 value → chars (quoted (chars value)) ≡ chars (34 ∷ []) ++ (chars (quoted_body (chars value)) ++ chars (34 ∷ []))
+pub left_quoted : (value : List ℕ) → IsUtf8 value
+    → chars (quoted (chars value)) ≡ chars (34 ∷ []) ++ (chars (quoted_body (chars value)) ++ chars (34 ∷ []))
 left_quoted value u =
     let quote : IsUtf8 (34 ∷ []) = IsUtf8-from_ascii (34 ∷ []) (IsAscii-cons 34 [] (omega arith) IsAscii-nil) in
     chars-append (34 ∷ []) (quoted_body (chars value) ++ 34 ∷ []) quote
     ∙ ap (λ t. chars (34 ∷ []) ++ t) (chars-append (quoted_body (chars value)) (34 ∷ []) (IsUtf8-quoted_body (chars value) (scalars-chars value u)))
 
 -- a front of a part is a front of the whole
-pub front_of_part : (old now new all part more : List ℕ) → HasWritten old now all (part ++ more) → WritesFront now new part → WritesFront old new all
+pub front_of_part : (old now new all part more : List ℕ) → HasWritten old now all (part ++ more)
+    → WritesFront now new part → WritesFront old new all
 front_of_part old now new all part more h w =
     (w.0 ++ more, HasWritten-more old now new all w.1.0 (part ++ more) (w.0 ++ more) h w.1.1 (ap (λ t. t ++ more) w.1.2 ∙ append_assoc w.1.0 w.0 more))

@@ -23,7 +23,8 @@ Ends word (b ∷ bs) = is_word_part b ≡ false
 Ends colon [] = Unit {0}
 Ends colon (b ∷ bs) = b ≢ 58
 
-at_word : (c : Bool) (x r k : TokenKind) → is_word_kind x ≡ true → (r ≡ k → is_word_kind k ≡ true) → cond c x r ≡ k → is_word_kind k ≡ true
+at_word : (c : Bool) (x r k : TokenKind) → is_word_kind x ≡ true → (r ≡ k → is_word_kind k ≡ true) → cond c x r ≡ k
+    → is_word_kind k ≡ true
 at_word true x r k h there e = subst (λ y. is_word_kind y ≡ true) e h
 at_word false x r k h there e = there e
 
@@ -42,7 +43,8 @@ prefix_stops : (after : List ℕ) → Ends word after → prefix_len is_word_par
 prefix_stops [] e = refl
 prefix_stops (b ∷ bs) e = ap (λ t. cond t (1 + prefix_len is_word_part bs) 0) e
 
-prefix_all : (w after : List ℕ) → AllPass is_word_part w → Ends word after → prefix_len is_word_part (w ++ after) ≡ length w
+prefix_all : (w after : List ℕ) → AllPass is_word_part w → Ends word after
+    → prefix_len is_word_part (w ++ after) ≡ length w
 prefix_all [] after h e = prefix_stops after e
 prefix_all (b ∷ bs) after h e =
     ap (λ t. cond t (1 + prefix_len is_word_part (bs ++ after)) 0) (All-head (λ x. is_word_part x ≡ true) b bs h)
@@ -66,12 +68,14 @@ no_second (b ∷ bs) e = e
 is_colon : (b : ℕ) (k : TokenKind) → single_mark b ≡ Some k → b ≡ 58 → k ≡ Colon
 is_colon b k h e = let f : Some Colon ≡ Some k = sym (ap single_mark e) ∙ h in cc
 
-stands_single : (b : ℕ) (after : List ℕ) (k : TokenKind) → single_mark b ≡ Some k → Ends (edge_of k) after → IsLongest (b ∷ after) k 1
+stands_single : (b : ℕ) (after : List ℕ) (k : TokenKind) → single_mark b ≡ Some k → Ends (edge_of k) after
+    → IsLongest (b ∷ after) k 1
 stands_single b after k h e =
     longest_mark b after k (not_word_start b k h) (mark_no_quote b (mark_start b [] k h))
     (λ f. no_second after (subst (λ x. Ends (edge_of x) after) (is_colon b k h f) e)) h
 
-stands_mark : (w after : List ℕ) (k : TokenKind) → mark_kind w ≡ Some k → Ends (edge_of k) after → IsLongest (w ++ after) k (length w)
+stands_mark : (w after : List ℕ) (k : TokenKind) → mark_kind w ≡ Some k → Ends (edge_of k) after
+    → IsLongest (w ++ after) k (length w)
 stands_mark [] after k h e = cc
 stands_mark (b ∷ []) after k h e = stands_single b after k h e
 stands_mark (b ∷ c ∷ []) after k h e =
@@ -82,7 +86,8 @@ stands_mark (b ∷ c ∷ []) after k h e =
 stands_mark (b ∷ c ∷ d ∷ bs) after k h e = cc
 
 -- a string, whatever follows it
-stands_string : (body after : List ℕ) → IsBody body → IsLongest ((34 ∷ (body ++ 34 ∷ [])) ++ after) StringLit (length (34 ∷ (body ++ 34 ∷ [])))
+stands_string : (body after : List ℕ) → IsBody body
+    → IsLongest ((34 ∷ (body ++ 34 ∷ [])) ++ after) StringLit (length (34 ∷ (body ++ 34 ∷ [])))
 stands_string body after is =
     let whole : (body ++ 34 ∷ []) ++ after ≡ body ++ 34 ∷ after = append_assoc body (34 ∷ []) after in
     let ends : IsBodyEnd (body ++ 34 ∷ after) (length body) =
@@ -95,7 +100,8 @@ stands_string body after is =
     subst (λ n. IsLongest ((34 ∷ (body ++ 34 ∷ [])) ++ after) StringLit n) size
     (longest_string (34 ∷ ((body ++ 34 ∷ []) ++ after)) (length body) refl (subst (λ t. IsBodyEnd t (length body)) (sym whole) ends))
 
-pub stands : (w after : List ℕ) (k : TokenKind) → IsForm w k → Ends (edge_of k) after → IsLongest (w ++ after) k (length w)
+pub stands : (w after : List ℕ) (k : TokenKind) → IsForm w k → Ends (edge_of k) after
+    → IsLongest (w ++ after) k (length w)
 stands w after k (inl f) e =
     let ends : Ends word after = subst (λ x. Ends x after) (edge_of_word k (ap is_word_kind f.1 ∙ word_kind_word w)) e in
     subst (λ x. IsLongest (w ++ after) x (length w)) (sym f.1) (stands_word w after f.0 ends)

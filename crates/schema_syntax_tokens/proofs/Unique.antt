@@ -17,7 +17,8 @@ use Rattle.schema_syntax_tokens.proofs.Longest.{may_be_mark, mark_start, mark_no
 use Rattle.schema_syntax_tokens.proofs.Ends.{mark_ascii}
 
 -- a comment's line ends where the first line end is
-same_line : (xs ys us vs : List ℕ) → All IsInLine xs → All IsInLine ys → EndsLine us → EndsLine vs → xs ++ us ≡ ys ++ vs → us ≡ vs
+same_line : (xs ys us vs : List ℕ) → All IsInLine xs → All IsInLine ys → EndsLine us → EndsLine vs
+    → xs ++ us ≡ ys ++ vs → us ≡ vs
 same_line [] [] us vs h k s t e = e
 same_line [] (y ∷ ys) [] vs h k s t e = cc
 same_line [] (y ∷ ys) (u ∷ us) vs h k (inl s) t e = let f : u ≡ y = cc in absurd ((All-head IsInLine y ys k).0 (sym f ∙ s))
@@ -66,7 +67,8 @@ start_no_blank b h =
 mark_no_blank : (b : ℕ) → may_be_mark b ≡ true → (not (b == 47) && not (is_whitespace b)) ≡ true
 mark_no_blank b h = (and_parts _ (nat_lt b 128) (and_parts (not (is_word_start b) && not (b == 34)) _ h).1).0
 
-form_start : (b : ℕ) (bs : List ℕ) (k : TokenKind) → IsForm (b ∷ bs) k → (b < 128) × ((not (b == 47) && not (is_whitespace b)) ≡ true)
+form_start : (b : ℕ) (bs : List ℕ) (k : TokenKind) → IsForm (b ∷ bs) k
+    → (b < 128) × ((not (b == 47) && not (is_whitespace b)) ≡ true)
 form_start b bs k (inl h) = (start_ascii b h.0.0, start_no_blank b h.0.0)
 form_start b bs k (inr (inl h)) = let m = mark_start b bs k h in (mark_ascii b m, mark_no_blank b m)
 form_start b bs k (inr (inr h)) =
@@ -74,7 +76,8 @@ form_start b bs k (inr (inr h)) =
     let e : b ≡ 34 = cc in
     (omega arith, ap (λ x. not (x == 47) && not (is_whitespace x)) e)
 
-start_and_blank : (b : ℕ) (bs blank after : List ℕ) → b < 128 → (not (b == 47) && not (is_whitespace b)) ≡ true → b ∷ bs ≡ blank ++ after → IsBlank blank after → ⊥
+start_and_blank : (b : ℕ) (bs blank after : List ℕ) → b < 128 → (not (b == 47) && not (is_whitespace b)) ≡ true
+    → b ∷ bs ≡ blank ++ after → IsBlank blank after → ⊥
 start_and_blank b bs blank after l h e (inl s) =
     let c : s.0 ≡ b = char_from_byte (b ∷ bs) after s.0 (e ∙ ap (λ t. t ++ after) s.2) l (omega arith) in
     let w : not (is_whitespace b) ≡ true = (and_parts (not (b == 47)) (not (is_whitespace b)) h).1 in
@@ -93,7 +96,8 @@ token_no_blank (x ∷ xs) k zero h b after e i = no_form_nil k h.form
 token_no_blank (x ∷ xs) k (suc n) h b after e i = let s = form_start x (take n xs) k h.form in start_and_blank x xs b after s.0 s.1 e i
 
 -- a text has one kind
-kind_word : (b : ℕ) (bs : List ℕ) (k : TokenKind) → is_word_start b ≡ true → IsForm (b ∷ bs) k → k ≡ word_kind (b ∷ bs)
+kind_word : (b : ℕ) (bs : List ℕ) (k : TokenKind) → is_word_start b ≡ true → IsForm (b ∷ bs) k
+    → k ≡ word_kind (b ∷ bs)
 kind_word b bs k w (inl h) = h.1
 kind_word b bs k w (inr (inl h)) = absurd (mark_no_word b (mark_start b bs k h) w)
 kind_word b bs k w (inr (inr h)) =
@@ -127,7 +131,8 @@ one_token rest k l n m h i =
 same_token : (t u : Token) → t.kind ≡ u.kind → t.loc.start ≡ u.loc.start → t.loc.end ≡ u.loc.end → t ≡ u
 same_token t u e f g = λ i. record { kind = e i; loc = record { start = f i; end = g i } }
 
-one_scan_from : (from : ℕ) (rest : List ℕ) (ts us : List Token) (at bt : ℕ) → ScansFrom from rest ts at → ScansFrom from rest us bt → (ts ≡ us) × (at ≡ bt)
+one_scan_from : (from : ℕ) (rest : List ℕ) (ts us : List Token) (at bt : ℕ) → ScansFrom from rest ts at
+    → ScansFrom from rest us bt → (ts ≡ us) × (at ≡ bt)
 one_scan_from from rest [] [] at bt h k =
     let same : h.0 ≡ k.0 = one_end h.1 k.1 h.3 k.3 in
     (refl, omega (arith, h.2, k.2, ap length same))
@@ -152,5 +157,6 @@ one_scan_from from rest (t ∷ ts) (u ∷ us) at bt h k =
     let head : t ≡ u = same_token t u token.0 start stop in
     ((λ i. head i ∷ tail.0 i), tail.1)
 
-pub one_scan : (text : List ℕ) (ts us : List Token) (at bt : ℕ) → Scans text ts at → Scans text us bt → (ts ≡ us) × (at ≡ bt)
+pub one_scan : (text : List ℕ) (ts us : List Token) (at bt : ℕ) → Scans text ts at → Scans text us bt
+    → (ts ≡ us) × (at ≡ bt)
 one_scan text ts us at bt h k = one_scan_from 0 text ts us at bt h k

@@ -8,7 +8,8 @@ use Rattle.schema_syntax_tokens.specs.Escapes.{simple_escape, hex_value, digits_
 use Rattle.schema_syntax_tokens.proofs.Digits.{prefix_len-places}
 
 -- places before a brace are one
-same_places : (xs ys us vs : List ℕ) → ArePlaces xs → ArePlaces ys → xs ++ 125 ∷ us ≡ ys ++ 125 ∷ vs → (xs ≡ ys) × (us ≡ vs)
+same_places : (xs ys us vs : List ℕ) → ArePlaces xs → ArePlaces ys → xs ++ 125 ∷ us ≡ ys ++ 125 ∷ vs
+    → (xs ≡ ys) × (us ≡ vs)
 same_places xs ys us vs h k e =
     let len : length xs ≡ length ys = sym (prefix_len-places xs us h.each) ∙ (ap (prefix_len is_place) e ∙ prefix_len-places ys vs k.each) in
     let fronts : xs ≡ ys = sym (take_at xs (125 ∷ us) (length ys) len) ∙ (ap (λ t. take (length ys) t) e ∙ take_at ys (125 ∷ vs) (length ys) refl) in
@@ -72,7 +73,8 @@ char_and_escape f us vs c d n k e =
     n (backslash_is c us (s.0 ++ vs) (e ∙ ap (λ t. t ++ vs) s.1))
 
 -- two pieces that begin the same bytes are one
-pub same_piece : (p q us vs : List ℕ) (c d : ℕ) → StandsFor p c → StandsFor q d → p ++ us ≡ q ++ vs → (c ≡ d) × (us ≡ vs)
+pub same_piece : (p q us vs : List ℕ) (c d : ℕ) → StandsFor p c → StandsFor q d → p ++ us ≡ q ++ vs
+    → (c ≡ d) × (us ≡ vs)
 same_piece p q us vs c d (inl s) (inl t) e = encode_same c d us vs (ap (λ x. x ++ us) (sym s.0) ∙ (e ∙ ap (λ x. x ++ vs) t.0))
 same_piece p q us vs c d (inl s) (inr t) e = absurd (char_and_escape q us vs c d s.1 t (ap (λ x. x ++ us) (sym s.0) ∙ e))
 same_piece p q us vs c d (inr s) (inl t) e = absurd (char_and_escape p vs us d c t.1 s (ap (λ x. x ++ vs) (sym t.0) ∙ sym e))
@@ -100,7 +102,8 @@ no_piece : (p us rest : List ℕ) (c : ℕ) → StandsFor p c → p ++ us ≡ 92
 no_piece p us rest c (inl s) e n = s.1 (backslash_is c us rest (ap (λ t. t ++ us) (sym s.0) ∙ e))
 no_piece p us rest c (inr s) e n = n p us c (sym e) s
 
-stuck : (front value rest cs : List ℕ) → Unescapes front value → Unescapes (front ++ 92 ∷ rest) cs → NoEscape (92 ∷ rest) → ⊥
+stuck : (front value rest cs : List ℕ) → Unescapes front value → Unescapes (front ++ 92 ∷ rest) cs
+    → NoEscape (92 ∷ rest) → ⊥
 stuck front [] rest [] h k n = let e : front ++ 92 ∷ rest ≡ [] = k in let f : [] ++ 92 ∷ rest ≡ [] = ap (λ t. t ++ 92 ∷ rest) (sym h) ∙ e in cc
 stuck front [] rest (c ∷ cs) h k n = no_piece k.0 k.1 rest c k.3 (sym k.2 ∙ ap (λ t. t ++ 92 ∷ rest) h) n
 stuck front (v ∷ vs) rest [] h k n =
@@ -112,7 +115,8 @@ stuck front (v ∷ vs) rest (c ∷ cs) h k n =
 pub value_or_bad : (body cs : List ℕ) (at : ℕ) → Unescapes body cs → BadEscape body at → ⊥
 value_or_bad body cs at h b = stuck b.front b.value b.rest cs b.unescapes (subst (λ t. Unescapes t cs) b.split h) b.unlawful
 
-one_front : (xs ys vs ws us ts : List ℕ) → Unescapes xs vs → Unescapes ys ws → NoEscape (92 ∷ us) → NoEscape (92 ∷ ts) → xs ++ 92 ∷ us ≡ ys ++ 92 ∷ ts → length xs ≡ length ys
+one_front : (xs ys vs ws us ts : List ℕ) → Unescapes xs vs → Unescapes ys ws → NoEscape (92 ∷ us) → NoEscape (92 ∷ ts)
+    → xs ++ 92 ∷ us ≡ ys ++ 92 ∷ ts → length xs ≡ length ys
 one_front xs ys [] [] us ts h k n m e = ap length h ∙ ap length (sym k)
 one_front xs ys [] (w ∷ ws) us ts h k n m e =
     absurd (no_piece k.0 (k.1 ++ 92 ∷ ts) us w k.3 (sym (append_assoc k.0 k.1 (92 ∷ ts)) ∙ (ap (λ t. t ++ 92 ∷ ts) (sym k.2) ∙ (sym e ∙ ap (λ t. t ++ 92 ∷ us) h))) n)

@@ -29,7 +29,8 @@ longest_some rest k (suc n) h = omega arith
 pub record HasScanned (text rest : List ℕ) (tokens : List Token) : Type 0 where
   pub front : List ℕ
   pub split : text ≡ front ++ rest
-  pub more_follow : (ts : List Token) (at : ℕ) → ScansFrom (length text - length rest) rest ts at → Scans text (tokens ++ ts) at
+  pub more_follow : (ts : List Token) (at : ℕ) → ScansFrom (length text - length rest) rest ts at
+      → Scans text (tokens ++ ts) at
   pub placed : All (IsPlaced text) tokens
 
 pub HasScanned-none : (text : List ℕ) → HasScanned text text []
@@ -48,7 +49,8 @@ HasScanned-none text =
 at_rest : (text front rest : List ℕ) → text ≡ front ++ rest → length text ≡ length front + length rest
 at_rest text front rest e = ap length e ∙ length-append front rest
 
-is_placed : (text front here : List ℕ) (t : Token) (n : ℕ) → IsUtf8 here → text ≡ front ++ here → IsLongest here t.kind n
+is_placed : (text front here : List ℕ) (t : Token) (n : ℕ) → IsUtf8 here → text ≡ front ++ here
+    → IsLongest here t.kind n
     → t.loc.start ≡ length front → t.loc.end ≡ t.loc.start + n → IsPlaced text t
 is_placed text front here t n u e h s f =
     let after : IsUtf8 (drop n here) = IsUtf8-drop here n u (boundary_after_token here t.kind n u h) in
@@ -65,8 +67,10 @@ is_placed text front here t n u e h s f =
     }
 
 -- one more token
-pub HasScanned-more : (text rest here after : List ℕ) (tokens : List Token) (t : Token) (n : ℕ) → HasScanned text rest tokens → IsUtf8 here → Skips rest here → IsLongest here t.kind n
-    → after ≡ drop n here → t.loc.start + length here ≡ length text → t.loc.end ≡ t.loc.start + n → HasScanned text after (tokens ++ t ∷ [])
+pub HasScanned-more : (text rest here after : List ℕ) (tokens : List Token) (t : Token) (n : ℕ)
+    → HasScanned text rest tokens → IsUtf8 here → Skips rest here → IsLongest here t.kind n
+    → after ≡ drop n here → t.loc.start + length here ≡ length text → t.loc.end ≡ t.loc.start + n
+    → HasScanned text after (tokens ++ t ∷ [])
 HasScanned-more text rest here after tokens t n h u s l e begins ends =
     let f = skips_front s in
     let front : List ℕ = h.front ++ f.0 in
@@ -88,14 +92,16 @@ HasScanned-more text rest here after tokens t n h u s l e begins ends =
     }
 
 -- the end
-pub HasScanned-all : (text rest here : List ℕ) (tokens : List Token) (at : ℕ) → HasScanned text rest tokens → Skips rest here → NoBlank here → NoForm here → at + length here ≡ length text → Scans text tokens at
+pub HasScanned-all : (text rest here : List ℕ) (tokens : List Token) (at : ℕ) → HasScanned text rest tokens
+    → Skips rest here → NoBlank here → NoForm here → at + length here ≡ length text → Scans text tokens at
 HasScanned-all text rest here tokens at h s b f e =
     let at_old : length text ≡ length h.front + length rest = at_rest text h.front rest h.split in
     let stop : at + length here ≡ (length text - length rest) + length rest = omega arith in
     subst (λ us. Scans text us at) (append-nil tokens) (h.more_follow [] at (here, s, stop, b, f))
 
 -- the text may be cut where the blanks end
-pub boundary_here : (text rest here : List ℕ) (tokens : List Token) (at : ℕ) → HasScanned text rest tokens → IsUtf8 here → Skips rest here → at + length here ≡ length text → IsCharBoundary text at
+pub boundary_here : (text rest here : List ℕ) (tokens : List Token) (at : ℕ) → HasScanned text rest tokens
+    → IsUtf8 here → Skips rest here → at + length here ≡ length text → IsCharBoundary text at
 boundary_here text rest here tokens at h u s e =
     let f = skips_front s in
     let split : text ≡ (h.front ++ f.0) ++ here = h.split ∙ (ap (λ x. h.front ++ x) f.1 ∙ sym (append_assoc h.front f.0 here)) in
@@ -104,5 +110,6 @@ boundary_here text rest here tokens at h u s e =
     subst (λ m. IsCharBoundary text m) same (IsCharBoundary-at_seam text (h.front ++ f.0) here split u)
 
 -- what is left to scan is no longer than the text
-pub rest_in_range : (text rest here : List ℕ) (tokens : List Token) → HasScanned text rest tokens → length rest ≤ length text
+pub rest_in_range : (text rest here : List ℕ) (tokens : List Token) → HasScanned text rest tokens
+    → length rest ≤ length text
 rest_in_range text rest here tokens h = omega (arith, at_rest text h.front rest h.split)

@@ -8,6 +8,7 @@ pub end_at : (t : Token) (u : List Token) (d : Token) → (get_or (t ∷ u) (len
 end_at t [] d = refl
 end_at t (s ∷ u) d = end_at s u d
 
-pub place_is : (ts : List Token) (d e : Token) → 1 ≤ length ts → whole_place ts ≡ record { start = (get_or ts 0 d).loc.start; end = max (get_or ts 0 d).loc.start (get_or ts (length ts - 1) e).loc.end }
+pub place_is : (ts : List Token) (d e : Token) → 1 ≤ length ts
+    → whole_place ts ≡ record { start = (get_or ts 0 d).loc.start; end = max (get_or ts 0 d).loc.start (get_or ts (length ts - 1) e).loc.end }
 place_is [] d e h = absurd (omega (arith, h))
 place_is (t ∷ u) d e h = let n : length (t ∷ u) - 1 ≡ length u = omega arith in rw (n, end_at t u e) refl

@@ -72,9 +72,12 @@ is_calm _ = true
 -- stand behind the last.
 pub data Follow : Edge → List Piece → Type 0 where
   done : {e : Edge} → is_calm e ≡ true → Follow e []
-  by_gap : {e : Edge} {b : ℕ} {bs : List ℕ} {ps : List Piece} → AreBlanks (b ∷ bs) → Follow free ps → Follow e (gap (b ∷ bs) ∷ ps)
-  by_blanks : {e : Edge} {bytes : List ℕ} {ps : List Piece} → AreBlanks bytes → Follow e ps → Follow e (gap bytes ∷ ps)
-  by_lexeme : {e : Edge} {x : Lexeme} {ps : List Piece} → IsForm x.text x.kind → may_touch e x.kind ≡ true → Follow (edge_of x.kind) ps → Follow e (lexeme x ∷ ps)
+  by_gap : {e : Edge} {b : ℕ} {bs : List ℕ} {ps : List Piece} → AreBlanks (b ∷ bs) → Follow free ps
+      → Follow e (gap (b ∷ bs) ∷ ps)
+  by_blanks : {e : Edge} {bytes : List ℕ} {ps : List Piece} → AreBlanks bytes → Follow e ps
+      → Follow e (gap bytes ∷ ps)
+  by_lexeme : {e : Edge} {x : Lexeme} {ps : List Piece} → IsForm x.text x.kind → may_touch e x.kind ≡ true
+      → Follow (edge_of x.kind) ps → Follow e (lexeme x ∷ ps)
 
 -- the token of the text is this lexeme, which has the form of its kind
 abbrev pub IsSpelled : List ℕ → Token → Lexeme → Type 0

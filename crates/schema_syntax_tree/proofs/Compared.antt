@@ -49,5 +49,6 @@ module _ (E : Id → Id → Bool) (is : (x y : Id) → E x y ≡ bytes_eq (encod
   ids_equal xs ys = (to_texts xs ys, from_texts xs ys)
 
 -- and ordered as their texts are
-pub ids_ordered : (C : Id → Id → Ordering) → ((x y : Id) → C x y ≡ text_cmp x.text y.text) → (xs ys : List Id) → slice_cmp C xs ys ≡ slice_cmp text_cmp (texts_of xs) (texts_of ys)
+pub ids_ordered : (C : Id → Id → Ordering) → ((x y : Id) → C x y ≡ text_cmp x.text y.text) → (xs ys : List Id)
+    → slice_cmp C xs ys ≡ slice_cmp text_cmp (texts_of xs) (texts_of ys)
 ids_ordered C is xs ys = (λ i. slice_cmp (λ x y. is x y i) xs ys) ∙ sym (lex_map (λ id. id.text) text_cmp xs ys)

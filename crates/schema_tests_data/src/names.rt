@@ -202,3 +202,40 @@ fn definitions_are_three_sets(rt: HostRuntime) {
     assert!(rt; define(rt.alloc(), &mut defs));
     assert!(rt; definitions_hold(rt.alloc(), &defs));
 }
+
+// Many names at once: those of common types, and the two others.
+fn defined_at_once(alloc: Global) -> Option<AllDefs> {
+    let (Some(common), Some(name)) = (named(alloc, "N::C"), named(alloc, "N::E")) else {
+        return None;
+    };
+    let mut commons = Vec::new(alloc);
+    let mut entities = Vec::new(alloc);
+    if commons.push(common).is_err() || entities.push(name).is_err() {
+        return None;
+    }
+    Some(AllDefs::from_names(alloc, commons, entities, Vec::new(alloc)))
+}
+
+// Is one more common type defined with the others?
+fn one_more(alloc: Global, defs: &mut AllDefs) -> bool {
+    let mut more = Vec::new(alloc);
+    match named(alloc, "M::C") {
+        Some(name) => more.push(name).is_ok() && defs.mark_all_as_common_types(more).is_ok(),
+        None => false,
+    }
+}
+
+#[test]
+fn names_are_defined_at_once(rt: HostRuntime) {
+    let alloc = rt.alloc();
+    match defined_at_once(alloc) {
+        Some(mut defs) => {
+            let added = one_more(alloc, &mut defs);
+            let holds = is_defined(alloc, &defs, "N::C", true, false)
+                && is_defined(alloc, &defs, "N::E", false, true)
+                && is_defined(alloc, &defs, "M::C", true, false);
+            assert!(rt; added && holds);
+        }
+        None => assert!(rt; false),
+    }
+}

@@ -46,7 +46,8 @@ the_empty K k = []
 abbrev pub the_items : (K X : Type 0) → List (K × X) → List X
 the_items K X m = values_of m
 
-pub the_items_listed : (K X : Type 0) (m : List (K × X)) → listed _ (children (the_former this K) X m) ≡ the_items K X m
+pub the_items_listed : (K X : Type 0) (m : List (K × X))
+    → listed _ (children (the_former this K) X m) ≡ the_items K X m
 the_items_listed K X m = values_listed K X m
 
 abbrev fields : Type 0 → Former {0}
@@ -62,7 +63,8 @@ module _ (K : RattleType) (G : ord.Ghosts K.Denot) (G' : eq.Ghosts K.Denot) (G''
   same_keys : (es : List (K.Denot × R.Denot)) → keys_of (map (on_value h) es) ≡ keys_of es
   same_keys es = keys_on_values h es
 
-  pub the_places : Alike R R' h → Alike (C.the_row K R G G' G'') (C.the_row K R' G G' G'') ((the_former this K.Denot).map R.Denot R'.Denot h)
+  pub the_places : Alike R R' h
+      → Alike (C.the_row K R G G' G'') (C.the_row K R' G G' G'') ((the_former this K.Denot).map R.Denot R'.Denot h)
   the_places a = view_places (fields K.Denot) (the_former this K.Denot) (λ X. view K.Denot X G G' G'')
       (λ X Y k u. refl) (λ X u. refl)
       R.Denot R'.Denot h (C.the_row K R G G' G'').coded (C.the_row K R' G G' G'').coded
@@ -72,20 +74,25 @@ module _ (K : RattleType) (G : ord.Ghosts K.Denot) (G' : eq.Ghosts K.Denot) (G''
       (over (I.the_row K R G G' G'')) (over (I.the_row K R' G G' G''))
       (struct_places (I.the_type K R G G' G'') (I.the_type K R' G G' G'') (vec.mapped (on_value h), tt) _ (λ d. refl) refl (laid _ _ _ (vec.the_places heap.the_row ghosts (pair_of R) (pair_of R') (on_value h) (pair_places a)), tt))
 
-  pub the_codes_placed : Recodes R R' h → Recodes (C.the_row K R G G' G'') (C.the_row K R' G G' G'') ((the_former this K.Denot).map R.Denot R'.Denot h)
+  pub the_codes_placed : Recodes R R' h
+      → Recodes (C.the_row K R G G' G'') (C.the_row K R' G G' G'') ((the_former this K.Denot).map R.Denot R'.Denot h)
   the_codes_placed e m = entries_recoded K R R' h e m
 
 module _ {K X Y : Type 0} (h : X → Y) where
-  pub entries_eq : (F : K × Y → K × Y → Bool) (es fs : List (K × X)) → pointwise F (map (on_value h) es) (map (on_value h) fs) ≡ pointwise (λ p q. F (on_value h p) (on_value h q)) es fs
+  pub entries_eq : (F : K × Y → K × Y → Bool) (es fs : List (K × X))
+      → pointwise F (map (on_value h) es) (map (on_value h) fs) ≡ pointwise (λ p q. F (on_value h p) (on_value h q)) es fs
   entries_eq = pointwise-map (on_value h)
 
-  pub entries_cmp : (F : K × Y → K × Y → Ordering) (es fs : List (K × X)) → slice_cmp F (map (on_value h) es) (map (on_value h) fs) ≡ slice_cmp (λ p q. F (on_value h p) (on_value h q)) es fs
+  pub entries_cmp : (F : K × Y → K × Y → Ordering) (es fs : List (K × X))
+      → slice_cmp F (map (on_value h) es) (map (on_value h) fs) ≡ slice_cmp (λ p q. F (on_value h p) (on_value h q)) es fs
   entries_cmp = lex_map (on_value h)
 
-  pub entries_partial_cmp : (F : K × Y → K × Y → Option Ordering) (es fs : List (K × X)) → slice_partial_cmp F (map (on_value h) es) (map (on_value h) fs) ≡ slice_partial_cmp (λ p q. F (on_value h p) (on_value h q)) es fs
+  pub entries_partial_cmp : (F : K × Y → K × Y → Option Ordering) (es fs : List (K × X))
+      → slice_partial_cmp F (map (on_value h) es) (map (on_value h) fs) ≡ slice_partial_cmp (λ p q. F (on_value h p) (on_value h q)) es fs
   entries_partial_cmp = slice_partial_cmp-map (on_value h)
 
-  pub entries_hashed : (F : K × Y → HashWrites) (es : List (K × X)) → slice F (map (on_value h) es) ≡ slice (λ p. F (on_value h p)) es
+  pub entries_hashed : (F : K × Y → HashWrites) (es : List (K × X))
+      → slice F (map (on_value h) es) ≡ slice (λ p. F (on_value h p)) es
   entries_hashed = items_map (on_value h)
 
 pub ruleset naturals = (entries_eq, entries_cmp, entries_partial_cmp, entries_hashed)

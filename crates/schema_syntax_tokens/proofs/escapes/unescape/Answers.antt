@@ -14,7 +14,8 @@ plain_is : (c : In_ok-push_str) → c.plain_len.result ≡ prefix_len is_unescap
 plain_is c = c.plain_len.ensures ∙ ap (prefix_len is_unescaped) c.as_bytes.ensures.value
 
 -- the bytes up to the backslash are written
-written_plain : (c : In_ok-push_str) → HasUnescaped c.args.body.now c.split_at.result.1.now (string_bytes c.push_str.new.self)
+written_plain : (c : In_ok-push_str)
+    → HasUnescaped c.args.body.now c.split_at.result.1.now (string_bytes c.push_str.new.self)
 written_plain c =
     let rest = c.loop-value.rest.now in
     let n = c.plain_len.result in

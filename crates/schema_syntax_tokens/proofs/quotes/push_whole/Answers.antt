@@ -16,7 +16,8 @@ opened c =
     (HasWritten-none c.args.text.now (chars (quoted (chars c.args.value.now)))) c.in_ok-push_str.ensures.ok (left_quoted c.args.value.now c.utf8.value)
 
 -- and the body
-filled : (d : In_ok-push_str) (c : In_ok-push_body) → c.push_body.new.text ≡ d.push_str.new.self ++ chars (quoted_body (chars d.args.value.now))
+filled : (d : In_ok-push_str) (c : In_ok-push_body)
+    → c.push_body.new.text ≡ d.push_str.new.self ++ chars (quoted_body (chars d.args.value.now))
     → HasWritten d.args.text.now c.push_body.new.text (chars (quoted (chars d.args.value.now))) (chars (34 ∷ []))
 filled d c e =
     HasWritten-more d.args.text.now d.push_str.new.self c.push_body.new.text (chars (quoted (chars d.args.value.now))) (chars (quoted_body (chars d.args.value.now)))

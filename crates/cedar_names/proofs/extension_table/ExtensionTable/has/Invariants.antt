@@ -10,7 +10,8 @@ invariant-loop-low l = record {
   ordered : l.low ≤ l.high;
   in_range : l.high ≤ length l.self.names;
   below : (k : ℕ) (d : UnreservedId) → k < l.low → slice_cmp nat_cmp (get_or l.self.names k d).id.text l.id ≡ Less;
-  above : (k : ℕ) (d : UnreservedId) → l.high ≤ k → k < length l.self.names → slice_cmp nat_cmp (get_or l.self.names k d).id.text l.id ≡ Greater;
+  above : (k : ℕ) (d : UnreservedId) → l.high ≤ k → k < length l.self.names
+      → slice_cmp nat_cmp (get_or l.self.names k d).id.text l.id ≡ Greater;
 }
 
 abbrev pub decreases-loop-low : goal.decreases-loop-low
