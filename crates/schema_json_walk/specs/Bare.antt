@@ -1,5 +1,5 @@
--- What is bare: an entity type without attributes and tags that is no enum, and an action without attributes that is said
--- to apply to nothing.
+-- What is bare: an entity type without attributes and tags that is no enum, and an action of which neither attributes
+-- are written nor what it applies to.
 use Rattle.std.specs.Prelude.{Bool, false, not, ◌&&◌, is_none}
 use Rattle.cedar_identifiers.specs.declared.name_text.NameText as named
 use Rattle.schema_json.specs.Shapes.{is_empty_type}
@@ -17,6 +17,6 @@ module _ {N : Type 0} where
   abbrev pub is_bare_entity : EntityType N → Bool
   is_bare_entity e = is_bare_kind e.kind
 
-  -- neither attributes are written, not even none, nor what it applies to
+  -- attributes that are written and empty are written
   abbrev pub is_bare_action : {G : named.Ghosts N} → ActionType N G → Bool
   is_bare_action a = is_none a.attributes && is_none a.applies_to

@@ -1,8 +1,8 @@
--- The walk of a fragment: what `visit` gives of each part, in order. The namespaces by name, the empty one first; in each
--- the common types, entity types and actions by name; of an entity type its parents as written, its shape and its tags;
--- of an action its attributes, parents, principals, resources and context. In a type outer parts stand before inner
--- ones, and the attributes of a record by their names. An open record stands before its attributes, and an external item
--- that is not bare before its parts.
+-- The walk of a fragment: what `visit` gives of each part, in order. The namespaces by name, the empty one first; in
+-- each the common types, entity types and actions by name; of an entity type its parents as written, its shape and its
+-- tags; of an action its attributes, parents, principals, resources and context. In a type outer parts stand before
+-- inner ones, and the attributes of a record by their names. An open record stands before its attributes, and an
+-- external item that is not bare before its parts.
 use Rattle.std.specs.Prelude.{ℕ, Bool, not, ◌&&◌, List, [], ◌∷◌, ◌++◌, Option, if◌then◌else◌}
 use Rattle.std.specs.List.{flat_map}
 use Rattle.std.specs.Option.{option_map_or}
