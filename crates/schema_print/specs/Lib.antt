@@ -1,0 +1,3 @@
+pub mod PartTexts
+pub mod PrintedFragments
+pub mod RowsOfTexts
