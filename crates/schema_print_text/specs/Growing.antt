@@ -6,8 +6,8 @@ use Rattle.schema_syntax_tokens.specs.Laid.{Piece, piece_text, laid}
 use Rattle.schema_print_text.specs.Adds.{Adds}
 
 -- nothing is added
-pub nothing : (a : List ℕ) → Adds a a []
-nothing a = record { grown = sym (append-nil (encode_utf8_all a)) }
+pub adds_nothing : (a : List ℕ) → Adds a a []
+adds_nothing a = record { grown = sym (append-nil (encode_utf8_all a)) }
 
 -- one step, and those after it
 pub then : {a b c x y : List ℕ} → Adds a b x → Adds b c y → Adds a c (x ++ y)
@@ -32,8 +32,8 @@ round {initial} {a} {b} {x} {left} {next} {all} e l f =
     record { meets = ap (λ t. t ++ next) e.grown ∙ append_assoc (encode_utf8_all a) x next ∙ ap (λ t. encode_utf8_all a ++ t) (sym f) ∙ l.meets }
 
 -- and the end
-pub ended : {initial a left all : List ℕ} → Leaves initial a left all → left ≡ [] → Adds initial a all
-ended {initial} {a} {left} {all} l e =
+pub adds_all : {initial a left all : List ℕ} → Leaves initial a left all → left ≡ [] → Adds initial a all
+adds_all {initial} {a} {left} {all} l e =
     record { grown = sym (append-nil (encode_utf8_all a)) ∙ ap (λ t. encode_utf8_all a ++ t) (sym e) ∙ l.meets }
 
 pub laid_append : (ps qs : List Piece) → laid (ps ++ qs) ≡ laid ps ++ laid qs

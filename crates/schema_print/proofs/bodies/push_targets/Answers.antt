@@ -1,5 +1,5 @@
 use Rattle.std.proofs.Common.{codes, ap}
-use Rattle.schema_print_text.specs.Growing.{nothing, then, so}
+use Rattle.schema_print_text.specs.Growing.{adds_nothing, then, so}
 use Rattle.schema_print_text.specs.PrintedTypes.{printed_name, printed_type}
 use Rattle.schema_print.specs.PrintedFragments.{paths_of_names}
 use Rattle.schema_print.specs.RowsOfTexts.{names_line_text}
@@ -10,14 +10,14 @@ use Rattle.schema_print.proofs.bodies.push_targets.Goals as goal
 pub returns-then-is_empty : goal.returns-then-is_empty
 returns-then-is_empty g c =
     let s = c.args.spec.now in
-    so (nothing c.args.text.now)
+    so (adds_nothing c.args.text.now)
     (no_principals (λ n. printed_name (g.N.NameText.components n)) c.args.base s.principal_types s.resource_types (printed_type g.N.NameText.components s.context.0)
     (empty_so c.as_slice-principals.result.now s.principal_types c.is_empty.result _ c.as_slice-principals.ensures c.is_empty.ensures c.if-is_empty.true))
 
 pub returns-then-is_empty-2 : goal.returns-then-is_empty-2
 returns-then-is_empty-2 g c =
     let s = c.args.spec.now in
-    so (nothing c.args.text.now)
+    so (adds_nothing c.args.text.now)
     (no_resources (λ n. printed_name (g.N.NameText.components n)) c.args.base s.principal_types s.resource_types (printed_type g.N.NameText.components s.context.0)
     (empty_so c.as_slice-resources.result.now s.resource_types c.is_empty-2.result _ c.as_slice-resources.ensures c.is_empty-2.ensures c.if-is_empty-2.true))
 

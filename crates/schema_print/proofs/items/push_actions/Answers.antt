@@ -1,7 +1,7 @@
 use Rattle.std.proofs.Common.{codes, map, true}
 use Rattle.std.proofs.lemmas.List.{at_drop_all}
 use Rattle.schema_syntax_tokens.specs.Laid.{laid}
-use Rattle.schema_print_text.specs.Growing.{then, so, begun, round, ended}
+use Rattle.schema_print_text.specs.Growing.{then, so, begun, round, adds_all}
 use Rattle.schema_print.specs.PrintedFragments.{action_pieces, action_body_pieces}
 use Rattle.schema_print.specs.RowsOfTexts.{row_behind}
 use Rattle.schema_print.proofs.Rows.{row_step}
@@ -21,4 +21,4 @@ loop-id-preserved g c =
 
 pub returns : goal.returns
 returns g c =
-    ended c.loop-id.invariant (at_drop_all (λ xs. row_behind (codes "\n") c.loop-id.behind (map (λ x. laid (action_pieces g.N.NameText.components true c.args.base x)) xs)) c.args.actions.now c.loop-id.id-index c.loop-id-test.false)
+    adds_all c.loop-id.invariant (at_drop_all (λ xs. row_behind (codes "\n") c.loop-id.behind (map (λ x. laid (action_pieces g.N.NameText.components true c.args.base x)) xs)) c.args.actions.now c.loop-id.id-index c.loop-id-test.false)

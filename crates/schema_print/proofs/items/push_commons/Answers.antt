@@ -1,7 +1,7 @@
 use Rattle.std.proofs.Common.{codes, map, true, ap, ◌∙◌}
 use Rattle.std.proofs.lemmas.List.{at_drop_all}
 use Rattle.schema_syntax_tokens.specs.Laid.{laid}
-use Rattle.schema_print_text.specs.Growing.{then, so, begun, round, ended}
+use Rattle.schema_print_text.specs.Growing.{then, so, begun, round, adds_all}
 use Rattle.schema_print_text.specs.PrintedTypes.{printed_type}
 use Rattle.schema_print.specs.PrintedFragments.{common_type_pieces}
 use Rattle.schema_print.specs.RowsOfTexts.{row_behind}
@@ -22,4 +22,4 @@ loop-name-preserved g c =
 
 pub returns : goal.returns
 returns g c =
-    ended c.loop-name.invariant (at_drop_all (λ xs. row_behind (codes "\n") c.loop-name.behind (map (λ x. laid (common_type_pieces g.N.NameText.components true c.args.base x)) xs)) c.args.commons.now c.loop-name.name-index c.loop-name-test.false)
+    adds_all c.loop-name.invariant (at_drop_all (λ xs. row_behind (codes "\n") c.loop-name.behind (map (λ x. laid (common_type_pieces g.N.NameText.components true c.args.base x)) xs)) c.args.commons.now c.loop-name.name-index c.loop-name-test.false)

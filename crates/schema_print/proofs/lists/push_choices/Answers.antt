@@ -5,7 +5,7 @@ use Rattle.cedar_identifiers.specs.declared.eid.Eid.{Eid}
 use Rattle.schema_syntax_tokens.specs.Laid.{laid}
 use Rattle.schema_syntax_tokens.specs.Quotes.{quoted}
 use Rattle.schema_readback.specs.PrintedDecls.{string_pieces}
-use Rattle.schema_print_text.specs.Growing.{then, so, round, ended}
+use Rattle.schema_print_text.specs.Growing.{then, so, round, adds_all}
 use Rattle.schema_print.specs.RowsOfTexts.{between, row_behind}
 use Rattle.schema_print.proofs.Rows.{begun_as, brackets_made}
 use Rattle.schema_print.proofs.lists.push_choices.Goals as goal
@@ -27,4 +27,4 @@ loop-choice-preserved c =
 pub returns : goal.returns
 returns c =
     let row = λ (l : List Eid). row_behind (codes ", ") c.loop-choice.behind (map (λ x. laid (string_pieces x.0)) l) in
-    so (then c.in_ok-push.ensures (then (ended c.loop-choice.invariant (ap row c.in-None.ensures.steps.0)) c.in_ok-push-2.ensures)) (brackets_made string_pieces (λ x. x.0) c.args.choices.now)
+    so (then c.in_ok-push.ensures (then (adds_all c.loop-choice.invariant (ap row c.in-None.ensures.steps.0)) c.in_ok-push-2.ensures)) (brackets_made string_pieces (λ x. x.0) c.args.choices.now)

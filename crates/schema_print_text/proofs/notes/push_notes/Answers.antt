@@ -2,7 +2,7 @@ use Rattle.std.proofs.Common.{ap}
 use Rattle.std.proofs.lemmas.List.{at_drop_all}
 use Rattle.schema_syntax_tokens.specs.Laid.{laid}
 use Rattle.schema_readback.specs.Printed.{notes_pieces}
-use Rattle.schema_print_text.specs.Growing.{then, so, begun, round, ended}
+use Rattle.schema_print_text.specs.Growing.{then, so, begun, round, adds_all}
 use Rattle.schema_print_text.proofs.Laying.{note_step}
 use Rattle.schema_print_text.proofs.notes.push_notes.Goals as goal
 
@@ -18,5 +18,5 @@ loop-key-preserved c =
 
 pub returns : goal.returns
 returns c =
-    so (ended c.loop-key.invariant (at_drop_all (λ ns. laid (notes_pieces c.args.base ns)) _ c.loop-key.key-index c.loop-key-test.false))
+    so (adds_all c.loop-key.invariant (at_drop_all (λ ns. laid (notes_pieces c.args.base ns)) _ c.loop-key.key-index c.loop-key-test.false))
     (ap (λ ns. laid (notes_pieces c.args.base ns)) c.as_slice-key-items.ensures.entries)

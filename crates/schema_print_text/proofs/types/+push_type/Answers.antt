@@ -8,7 +8,7 @@ use Rattle.schema_readback.specs.Printed.{lines_pieces, type_pieces}
 use Rattle.schema_readback.specs.Written.{path, set, rec}
 use Rattle.schema_readback.specs.Meant.{under_cedar}
 use Rattle.schema_json.specs.declared.types.RecordType.{out-RecordType}
-use Rattle.schema_print_text.specs.Growing.{then, so, begun, round, ended}
+use Rattle.schema_print_text.specs.Growing.{then, so, begun, round, adds_all}
 use Rattle.schema_print_text.specs.PrintedTypes.{printed_name, printed_type, printed_type_text, printed_entries}
 use Rattle.schema_print_text.proofs.Layers.{variant_shown, common_shown, shown, variant_set, variant_record, variant_entity, variant_either, variant_extension, variant_string, variant_long, variant_boolean}
 use Rattle.schema_print_text.proofs.Laying.{set_laid, extension_laid, record_filled, entry_step}
@@ -101,4 +101,4 @@ push_entries-loop-name-preserved g t c =
 
 pub push_entries-returns : goal.push_entries-returns
 push_entries-returns g t c =
-    ended c.loop-name.invariant (at_drop_all (λ es. laid (lines_pieces true c.args.base (printed_entries g.N.NameText.components es))) c.args.entries.now c.loop-name.name-index c.loop-name-test.false)
+    adds_all c.loop-name.invariant (at_drop_all (λ es. laid (lines_pieces true c.args.base (printed_entries g.N.NameText.components es))) c.args.entries.now c.loop-name.name-index c.loop-name-test.false)
