@@ -1,4 +1,5 @@
--- The names for which a fragment cannot be printed: those that stand for two things, and those of shapes that are no records.
+-- The names for which a fragment cannot be printed: those that stand for two things, and those of shapes that are
+-- no records.
 use Rattle.std.specs.Prelude.{◌≡◌, ℕ, Bool, true, false, not, List, [], ◌∷◌, ◌++◌, map, filter, Option, Some, None}
 use Rattle.std.specs.List.{flat_map, list_any}
 use Rattle.std.specs.Map.{keys_of}
@@ -34,8 +35,9 @@ abbrev pub declared_in : Option Name → List ℕ → List (List ℕ)
 declared_in None name = name ∷ []
 declared_in (Some ns) name = components_of ns.name ++ name ∷ []
 
--- these are all the names, sorted by their components
-pub record AreSortedNames (cmp : InternalName → InternalName → Ordering) (wanted : List (List (List ℕ))) (found : List InternalName) : Type 0 where
+-- these are all the names, sorted in the order of names
+pub record AreSortedNames (cmp : InternalName → InternalName → Ordering) (wanted : List (List (List ℕ)))
+    (found : List InternalName) : Type 0 where
   pub sorted : IsSorted cmp found
   pub all : IsPermutation wanted (map components_of found)
 
@@ -46,7 +48,8 @@ module _ {N : Type 0} where
       list_any (λ k. bytes_eq (encode_utf8_all name) (encode_utf8_all k.id.text)) (keys_of entity_types)
 
   -- those of the common types whose name an entity type has too
-  abbrev pub named_twice : List (UnreservedId × EntityType N) → List (CommonTypeId × CommonType N) → List (CommonTypeId × CommonType N)
+  abbrev pub named_twice : List (UnreservedId × EntityType N) → List (CommonTypeId × CommonType N)
+      → List (CommonTypeId × CommonType N)
   named_twice entity_types commons = filter (λ c. names_entity_type entity_types c.0.id.id.text) commons
 
   abbrev is_record_variant : TypeVariant-F N («Type» N) (TypeVariant N) (RecordType N) (TypeOfAttribute N) → Bool
@@ -73,10 +76,11 @@ module _ {N : Type 0} where
   shapeless_in ns entity_types = map (λ e. declared_in ns e.0.id.text) (filter (λ e. is_shapeless e.1) entity_types)
 
   module _ {G : named.Ghosts N} where
+    -- the names that a namespace has both as an entity type and as a common type
     abbrev pub repeated_in : Option Name → NamespaceDefinition N G → List (List (List ℕ))
     repeated_in ns n = map (λ c. declared_in ns c.0.id.id.text) (named_twice n.entity_types n.common_types)
 
-    -- the names that a named namespace has both as an entity type and as a common type
+    -- those of a named namespace
     abbrev pub collisions_in : Option Name → NamespaceDefinition N G → List (List (List ℕ))
     collisions_in None n = []
     collisions_in (Some ns) n = repeated_in (Some ns) n
@@ -99,7 +103,9 @@ module _ {N : Type 0} where
     HasText f = (collisions f ≡ []) × (shapeless f ≡ [])
 
     -- why the fragment cannot be printed: collisions go first
-    abbrev pub IsUnprintable : (InternalName → InternalName → Ordering) → Fragment N G → ToCedarSchemaSyntaxError → Type 0
+    abbrev pub IsUnprintable : (InternalName → InternalName → Ordering) → Fragment N G → ToCedarSchemaSyntaxError
+        → Type 0
     IsUnprintable cmp f (NameCollisions e) = AreSortedNames cmp (collisions f) e.names
-    IsUnprintable cmp f (UnconvertibleEntityTypeShape e) = (collisions f ≡ []) × AreSortedNames cmp (shapeless f) e.names
+    IsUnprintable cmp f (UnconvertibleEntityTypeShape e) =
+        (collisions f ≡ []) × AreSortedNames cmp (shapeless f) e.names
     IsUnprintable cmp f Memory = Unit {0}

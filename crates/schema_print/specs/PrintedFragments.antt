@@ -1,4 +1,4 @@
--- How a fragment is laid out, whatever its names are: by the layout of what is written, and with whatever types stand in it.
+-- How a fragment is laid out, whatever its names and the types in it are: by the layout of what is written.
 use Rattle.std.specs.Prelude.{ℕ, ◌+◌, Bool, true, false, List, [], ◌∷◌, ◌++◌, codes, map, Option, Some, None}
 use Rattle.std.specs.Option.{option_map}
 use Rattle.cedar_identifiers.specs.Names.{components_of}
@@ -43,12 +43,13 @@ targets_pieces closing base [] resources context = []
 targets_pieces closing base (p ∷ ps) [] context = []
 targets_pieces closing base (p ∷ ps) (r ∷ rs) context =
     space ∷ word (codes "appliesTo") ∷ space ∷ mark LBrace (codes "{") ∷ line_break
-    ∷ gap (spaces (base + 2)) ∷ word (codes "principal") ∷ mark Colon (codes ":") ∷ space ∷ (bracketed path_pieces (p ∷ ps)
-    ++ mark Comma (codes ",") ∷ line_break
-    ∷ gap (spaces (base + 2)) ∷ word (codes "resource") ∷ mark Colon (codes ":") ∷ space ∷ (bracketed path_pieces (r ∷ rs)
-    ++ mark Comma (codes ",") ∷ line_break
-    ∷ gap (spaces (base + 2)) ∷ word (codes "context") ∷ mark Colon (codes ":") ∷ space ∷ (context_type_pieces closing (base + 2) context
-    ++ (comma_behind_member {A = WrittenType} closing [] ++ line_break ∷ gap (spaces base) ∷ mark RBrace (codes "}") ∷ []))))
+    ∷ gap (spaces (base + 2)) ∷ word (codes "principal") ∷ mark Colon (codes ":") ∷ space
+    ∷ (bracketed path_pieces (p ∷ ps) ++ mark Comma (codes ",") ∷ line_break
+    ∷ gap (spaces (base + 2)) ∷ word (codes "resource") ∷ mark Colon (codes ":") ∷ space
+    ∷ (bracketed path_pieces (r ∷ rs) ++ mark Comma (codes ",") ∷ line_break
+    ∷ gap (spaces (base + 2)) ∷ word (codes "context") ∷ mark Colon (codes ":") ∷ space
+    ∷ (context_type_pieces closing (base + 2) context ++ (comma_behind_member {A = WrittenType} closing []
+    ++ line_break ∷ gap (spaces base) ∷ mark RBrace (codes "}") ∷ []))))
 
 abbrev pub external_pieces : Bool → List Piece
 external_pieces true = word (codes "external") ∷ space ∷ []
@@ -58,7 +59,8 @@ external_pieces false = []
 abbrev pub common_pieces : Bool → ℕ → Notes → List ℕ → WrittenType → List Piece
 common_pieces closing base notes name t =
     notes_pieces base notes
-    ++ gap (spaces base) ∷ word (codes "type") ∷ space ∷ word name ∷ space ∷ mark Equals (codes "=") ∷ space ∷ (type_pieces closing base t ++ ended)
+    ++ gap (spaces base) ∷ word (codes "type") ∷ space ∷ word name ∷ space ∷ mark Equals (codes "=") ∷ space
+    ∷ (type_pieces closing base t ++ ended)
 
 -- an entity type or action, with what stands between its name and the semicolon
 abbrev pub item_pieces : ℕ → Notes → Bool → List ℕ → Piece → List Piece → List Piece
@@ -91,7 +93,8 @@ module _ {N : Type 0} (names : N → List (List ℕ)) where
 
   abbrev pub entity_pieces : Bool → ℕ → UnreservedId × EntityType N → List Piece
   entity_pieces closing base p =
-      item_pieces base p.1.annotations.0 p.1.external (codes "entity") (word p.0.id.text) (entity_body_pieces closing base p.1)
+      item_pieces base p.1.annotations.0 p.1.external (codes "entity") (word p.0.id.text)
+      (entity_body_pieces closing base p.1)
 
   abbrev pub common_type_pieces : Bool → ℕ → CommonTypeId × CommonType N → List Piece
   common_type_pieces closing base p =
@@ -100,7 +103,8 @@ module _ {N : Type 0} (names : N → List (List ℕ)) where
   abbrev pub spec_pieces : Bool → ℕ → Option (ApplySpec N) → List Piece
   spec_pieces closing base None = []
   spec_pieces closing base (Some s) =
-      targets_pieces closing base (paths_of_names s.principal_types) (paths_of_names s.resource_types) (printed_type names s.context.0)
+      targets_pieces closing base (paths_of_names s.principal_types) (paths_of_names s.resource_types)
+      (printed_type names s.context.0)
 
   -- an external action applies to nothing that is printed
   abbrev pub applied_pieces : Bool → ℕ → Bool → Option (ApplySpec N) → List Piece
@@ -127,7 +131,8 @@ module _ {N : Type 0} (names : N → List (List ℕ)) where
 
     abbrev pub action_pieces : Bool → ℕ → List ℕ × ActionType N G → List Piece
     action_pieces closing base p =
-        item_pieces base p.1.annotations.0 p.1.external (codes "action") (string p.0) (action_body_pieces closing base p.1)
+        item_pieces base p.1.annotations.0 p.1.external (codes "action") (string p.0)
+        (action_body_pieces closing base p.1)
 
     -- the common types, the entity types and the actions of a namespace, with an empty line between two
     abbrev pub items_pieces : Bool → ℕ → NamespaceDefinition N G → List Piece
@@ -142,7 +147,8 @@ module _ {N : Type 0} (names : N → List (List ℕ)) where
     named_block closing (Some name) n =
         notes_pieces 0 n.annotations.0
         ++ word (codes "namespace") ∷ space ∷ (path_pieces (printed_name (components_of name.name))
-        ++ space ∷ mark LBrace (codes "{") ∷ line_break ∷ (items_pieces closing 2 n ++ mark RBrace (codes "}") ∷ line_break ∷ []))
+        ++ space ∷ mark LBrace (codes "{") ∷ line_break
+        ∷ (items_pieces closing 2 n ++ mark RBrace (codes "}") ∷ line_break ∷ []))
 
     abbrev pub block_pieces : Bool → Option Name × NamespaceDefinition N G → List Piece
     block_pieces closing p = named_block closing p.0 p.1

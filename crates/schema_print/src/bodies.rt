@@ -1,11 +1,11 @@
-ghost use Rattle.std.specs.Prelude.{◌≡◌, OnOk, true, ◌+◌};
+ghost use Rattle.std.specs.Prelude.{◌≡◌, Some, OnOk, true};
 ghost use Rattle.std.specs.Option.{option_map};
 ghost use Rattle.schema_syntax_tokens.specs.Laid.{laid};
 ghost use Rattle.schema_readback.specs.PrintedDecls.{tags_pieces};
 ghost use Rattle.schema_print_text.specs.Adds.{Adds};
 ghost use Rattle.schema_print_text.specs.PrintedTypes.{printed_type};
 ghost use Rattle.schema_print.specs.RowsOfTexts.{names_line_text};
-ghost use Rattle.schema_print.specs.PrintedFragments.{paths_of_names, targets_pieces, shape_type_pieces, context_type_pieces, standard_pieces, entity_body_pieces, kind_pieces, applied_pieces, spec_pieces, action_body_pieces};
+ghost use Rattle.schema_print.specs.PrintedFragments.{paths_of_names, shape_type_pieces, context_type_pieces, standard_pieces, entity_body_pieces, spec_pieces, action_body_pieces};
 
 use crate::lists::{push_action_parents, push_choices, push_names, push_parents};
 use cedar_data::Text;
@@ -132,7 +132,7 @@ fn push_targets<N: NameText>(
     base: usize,
     spec: &ApplySpec<N>,
 ) -> Result<(), AllocError>
-    ensures { OnOk result (Adds text.old text.new (laid (targets_pieces true base (paths_of_names N.components spec.now.principal_types) (paths_of_names N.components spec.now.resource_types) (printed_type N.components spec.now.context.0)))) }
+    ensures { OnOk result (Adds text.old text.new (laid (spec_pieces N.components true base (Some spec.now)))) }
 {
     let principals = spec.principal_types.as_slice();
     let resources = spec.resource_types.as_slice();
