@@ -1,0 +1,11 @@
+use Rattle.std.proofs.Common.{ap, sym, true}
+use Rattle.std.specs.Option.{option_map}
+use Rattle.schema_syntax_tokens.specs.Laid.{laid}
+use Rattle.schema_readback.specs.PrintedDecls.{tags_pieces}
+use Rattle.schema_print_text.specs.Growing.{adds_nothing, so}
+use Rattle.schema_print_text.specs.PrintedTypes.{printed_type}
+use Rattle.schema_print.proofs.bodies.push_tags.Goals as goal
+
+pub returns-in-None : goal.returns-in-None
+returns-in-None g c =
+    so (adds_nothing c.args.text.now) (ap (λ o. laid (tags_pieces true (option_map (printed_type g.N.NameText.components) o))) (sym c.in-None.is))

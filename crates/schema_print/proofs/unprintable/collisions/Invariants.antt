@@ -1,0 +1,10 @@
+use Rattle.std.proofs.Common.{map, drop}
+use Rattle.std.specs.List.{flat_map}
+use Rattle.cedar_identifiers.specs.Names.{components_of}
+use Rattle.schema_print.specs.Collisions.{block_collisions}
+use Rattle.schema_print.proofs.Wanted.{Gathers}
+use Rattle.schema_print.proofs.unprintable.collisions.Given as goal
+
+abbrev pub invariant-loop-name : goal.invariant-loop-name
+invariant-loop-name g l =
+    Gathers (map components_of l.initial.names.items) (map components_of l.names.items) (flat_map block_collisions (drop l.name-index l.name-items)) (flat_map block_collisions l.name-items)

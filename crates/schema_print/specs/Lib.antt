@@ -1,0 +1,4 @@
+pub mod Collisions
+pub mod PartTexts
+pub mod PrintedFragments
+pub mod RowsOfTexts

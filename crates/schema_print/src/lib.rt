@@ -1,0 +1,18 @@
+//! Fragments as Cedar schemas: any fragment's text, and which have none.
+#![tactic(auto)]
+
+mod bodies;
+pub mod cedar_text;
+pub mod fragments;
+mod items;
+mod lists;
+pub mod to_cedar_schema;
+mod unprintable;
+
+pub use cedar_text::CedarText;
+pub use fragments::print_fragment;
+pub use schema_print_errors::{
+    NameCollisionsError, ToCedarSchemaSyntaxError, UnconvertibleEntityTypeShapeError,
+};
+pub use schema_print_text::NUM_INDENTATION_SPACES;
+pub use to_cedar_schema::{ToCedarSchema, json_schema_to_cedar_schema_str};

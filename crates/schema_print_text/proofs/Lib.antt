@@ -1,0 +1,5 @@
+pub mod Bytes
+pub mod Layers
+pub mod Laying
+pub mod Quoted
+pub mod Sizes
