@@ -1,0 +1,11 @@
+//! What a built schema holds: its types, its entity types and its actions, and what they stand for.
+#![tactic(auto)]
+
+pub mod action;
+pub mod entity_type;
+pub mod laws;
+pub mod types;
+
+pub use action::{ValidatorActionId, ValidatorActionKind};
+pub use entity_type::{ValidatorEntityType, ValidatorEntityTypeKind};
+pub use types::Type;
