@@ -1,0 +1,14 @@
+mod Paths
+mod Marked
+mod Steps
+mod Rising
+mod Found
+mod Rows
+mod Groups
+mod States
+mod Turns
+mod Closed
+mod Ends
+mod Closures
+mod Least
+mod Own

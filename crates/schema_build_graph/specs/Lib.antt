@@ -1,0 +1,5 @@
+pub mod Paths
+pub mod Graph
+pub mod Marks
+pub mod Order
+pub mod Search

@@ -1,0 +1,4 @@
+pub mod ByParts
+pub mod Layers
+mod Placed
+mod Visiting

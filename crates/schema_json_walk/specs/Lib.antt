@@ -1,0 +1,4 @@
+pub mod Bare
+pub mod Parts
+pub mod Visits
+pub mod Walk
