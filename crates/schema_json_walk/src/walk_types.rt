@@ -66,7 +66,12 @@ fn walk_record<'a, N, V: Visitor<N>>(
     ensures taken { OnOk result (FoldsTo (V.takes ns.now) visitor.old (of_record itself fields.now) visitor.new) }
     ensures refused { IfErr result (StopsAmong (V.takes ns.now) (V.refuses ns.now) visitor.old (of_record itself fields.now)) }
 {
-    meet_where(visitor, ns, fields.additional_attributes, LentPart::OpenRecord)?;
+    meet_where(
+        visitor,
+        ns,
+        fields.additional_attributes,
+        LentPart::OpenRecord,
+    )?;
     walk_entries(visitor, ns, fields.attributes.as_slice())
 }
 
