@@ -224,6 +224,32 @@ fn walk_application<'a, N, V: Visitor<N>>(
     }
 }
 
+// Tells the visitor the parents of an action, and each part of what it applies to.
+fn walk_relations<'a, N: NameText, V: Visitor<N>>(
+    visitor: &mut V,
+    ns: &'a Option<Name>,
+    action: &'a ActionType<N>,
+) -> Result<(), V::Refusal>
+    ensures taken { OnOk result (FoldsTo (V.takes ns.now) visitor.old (of_relations itself action.now) visitor.new) }
+    ensures refused { IfErr result (StopsAmong (V.takes ns.now) (V.refuses ns.now) visitor.old (of_relations itself action.now)) }
+{
+    walk_action_parents(visitor, ns, &action.member_of)?;
+    walk_application(visitor, ns, &action.applies_to)
+}
+
+// Tells the visitor what an action is made of.
+fn walk_action_parts<'a, N: NameText, V: Visitor<N>>(
+    visitor: &mut V,
+    ns: &'a Option<Name>,
+    action: &'a ActionType<N>,
+) -> Result<(), V::Refusal>
+    ensures taken { OnOk result (FoldsTo (V.takes ns.now) visitor.old (of_action_parts itself action.now) visitor.new) }
+    ensures refused { IfErr result (StopsAmong (V.takes ns.now) (V.refuses ns.now) visitor.old (of_action_parts itself action.now)) }
+{
+    walk_attributes(visitor, ns, &action.attributes)?;
+    walk_relations(visitor, ns, action)
+}
+
 /// Tells the visitor each part of an action, and before them that it is external and not bare, if it is.
 pub fn walk_action<'a, N: NameText, V: Visitor<N>>(
     visitor: &mut V,
@@ -235,7 +261,5 @@ pub fn walk_action<'a, N: NameText, V: Visitor<N>>(
 {
     let excess = action.external && !is_bare_action(action);
     meet_where(visitor, ns, excess, LentPart::ExternalNotBare)?;
-    walk_attributes(visitor, ns, &action.attributes)?;
-    walk_action_parents(visitor, ns, &action.member_of)?;
-    walk_application(visitor, ns, &action.applies_to)
+    walk_action_parts(visitor, ns, action)
 }
