@@ -1,7 +1,8 @@
 -- The least so far, as a list grows.
-use Rattle.std.proofs.Common.{◌≡◌, Bool, true, false, List, [], ◌∷◌, ◌++◌, refl, sym, ap, ◌∙◌, append_assoc, inl, inr, subst}
+use Rattle.std.proofs.Common.{ℕ, ◌≤◌, length, map, take, ◌≡◌, true, false, List, [], ◌∷◌, ◌++◌, refl, sym, ap, ◌∙◌, append_assoc, inl, inr, subst}
 use Rattle.std.specs.Prelude.{◌⊎◌}
-use Rattle.std.specs.List.{AllByRecursion}
+use Rattle.std.specs.List.{AllByRecursion, flat_map}
+use Rattle.std.proofs.lemmas.List.{map-append, take_all}
 use Rattle.std.specs.Ordering.{is_lt}
 use Rattle.std.specs.Cmp.{IsStrictWeakOrder}
 use Rattle.std.specs.declared.cmp.Ordering.{Ordering}
@@ -53,3 +54,24 @@ module _ {A : Type 0} (order : A → A → Ordering) where
           (less, all_given (λ z. is_lt (order z x) ≡ false) (λ z. is_lt (order y z) ≡ true) (λ z l. below x y z less l) h.behind h.not_less));
       not_less = tt;
     }
+
+-- the whole of what a list gives, once a loop has gone through it
+pub whole_given : {A B : Type 0} (f : A → List B) (xs ys : List A) (i : ℕ) → length xs ≤ i → xs ≡ ys
+    → flat_map f (take i xs) ≡ flat_map f ys
+whole_given f xs ys i l e = ap (flat_map f) (take_all i xs l ∙ e)
+
+all_seen : {A B : Type 0} (g : A → B) (P : B → Type 0) (xs : List A) → AllByRecursion (λ a. P (g a)) xs
+    → AllByRecursion P (map g xs)
+all_seen g P [] h = tt
+all_seen g P (x ∷ xs) h = (h.0, all_seen g P xs h.1)
+
+-- the least by what is seen of the items
+pub least_seen : {A B : Type 0} (g : A → B) (order : B → B → Ordering) (xs : List A) (x : A)
+    → IsFirstLeast (λ a b. order (g a) (g b)) xs x → IsFirstLeast order (map g xs) (g x)
+least_seen g order xs x h = record {
+  before = map g h.before;
+  behind = map g h.behind;
+  among = ap (map g) h.among ∙ map-append g h.before (x ∷ h.behind);
+  greater = all_seen g (λ y. is_lt (order (g x) y) ≡ true) h.before h.greater;
+  not_less = all_seen g (λ y. is_lt (order y (g x)) ≡ false) h.behind h.not_less;
+}

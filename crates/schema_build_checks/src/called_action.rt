@@ -38,7 +38,7 @@ fn push_called_actions(
     ensures { OnOk result (found.new.items ≡ found.old.items ++ flat_map (called_action ns.now) entities.now) }
 {
     for (id, entity) in entities {
-        if is_action_word(&id.id) {
+        if is_action_word(id.id.as_str()) {
             found.push(declared_at(alloc, ns, &id.id, entity.loc)?)?;
         }
     }

@@ -25,8 +25,8 @@ pub(crate) fn declared_at(
 }
 
 // Whether the word is `Action`.
-pub(crate) fn is_action_word(id: &Id) -> bool
-    ensures { result ≡ bytes_eq id.now.text (codes "Action") }
+pub(crate) fn is_action_word(word: &str) -> bool
+    ensures { result ≡ bytes_eq word.now (codes "Action") }
 {
-    id.text.as_str() == "Action"
+    word == "Action"
 }

@@ -21,15 +21,15 @@ use std::alloc::{AllocError, Global};
 pub fn check_action_shadowing(
     alloc: Global,
     fragment: &Fragment<RawName>,
-    declared: &AllDefs,
+    defs: &AllDefs,
 ) -> Result<(), SchemaError>
-    requires { tests_of declared.now ≡ tests_of (declared fragment.now) }
+    requires { tests_of defs.now ≡ tests_of (declared fragment.now) }
     ensures ok { OnOk result (Never (ActionHides fragment.now)) }
     ensures err { IfErr result (OrMemory (ActionHides fragment.now)) }
 {
     let mut found = Vec::new(alloc);
     for (ns, definition) in fragment.0.as_slice() {
-        push_hiding_actions(alloc, &mut found, declared, ns, definition)?;
+        push_hiding_actions(alloc, &mut found, defs, ns, definition)?;
     }
     match least(found) {
         Some(shadowing_def) => {
@@ -47,15 +47,15 @@ pub fn check_action_shadowing(
 fn push_hiding_actions(
     alloc: Global,
     found: &mut Vec<EntityUID>,
-    declared: &AllDefs,
+    defs: &AllDefs,
     ns: &Option<Name>,
     definition: &NamespaceDefinition<RawName>,
 ) -> Result<(), AllocError>
-    ensures { OnOk result (map at_of found.new.items ≡ map at_of found.old.items ++ hiding_actions_in (tests_of declared.now) (ns.now, definition.now)) }
+    ensures { OnOk result (map at_of found.new.items ≡ map at_of found.old.items ++ hiding_actions_in (tests_of defs.now) (ns.now, definition.now)) }
 {
     match ns {
         None => Ok(()),
-        Some(_) => push_hiding(alloc, found, declared, ns, definition.actions.as_slice()),
+        Some(_) => push_hiding(alloc, found, defs, ns, definition.actions.as_slice()),
     }
 }
 
@@ -63,15 +63,15 @@ fn push_hiding_actions(
 fn push_hiding(
     alloc: Global,
     found: &mut Vec<EntityUID>,
-    declared: &AllDefs,
+    defs: &AllDefs,
     ns: &Option<Name>,
     actions: &[(Text, ActionType<RawName>)],
 ) -> Result<(), AllocError>
-    ensures { OnOk result (map at_of found.new.items ≡ map at_of found.old.items ++ flat_map (hiding_action (tests_of declared.now) ns.now) actions.now) }
+    ensures { OnOk result (map at_of found.new.items ≡ map at_of found.old.items ++ flat_map (hiding_action (tests_of defs.now) ns.now) actions.now) }
 {
     let plain = action_name(alloc)?;
     for (id, action) in actions {
-        if declared.is_defined_as_action_named(&plain, id) {
+        if defs.is_defined_as_action_named(&plain, id) {
             let ty = action_type(alloc, ns)?;
             let eid = Eid(id.clone_in(alloc)?);
             let loc = action.loc;

@@ -22,15 +22,15 @@ use std::alloc::{AllocError, Global};
 pub fn check_type_shadowing(
     alloc: Global,
     fragment: &Fragment<RawName>,
-    declared: &AllDefs,
+    defs: &AllDefs,
 ) -> Result<(), SchemaError>
-    requires { tests_of declared.now ≡ tests_of (declared fragment.now) }
+    requires { tests_of defs.now ≡ tests_of (declared fragment.now) }
     ensures ok { OnOk result (Never (TypeHides fragment.now)) }
     ensures err { IfErr result (OrMemory (TypeHides fragment.now)) }
 {
     let mut found = Vec::new(alloc);
     for (ns, definition) in fragment.0.as_slice() {
-        push_hiding_types(alloc, &mut found, declared, ns, definition)?;
+        push_hiding_types(alloc, &mut found, defs, ns, definition)?;
     }
     match least(found) {
         Some(shadowing_def) => {
@@ -48,19 +48,19 @@ pub fn check_type_shadowing(
 fn push_hiding_types(
     alloc: Global,
     found: &mut Vec<InternalName>,
-    declared: &AllDefs,
+    defs: &AllDefs,
     ns: &Option<Name>,
     definition: &NamespaceDefinition<RawName>,
 ) -> Result<(), AllocError>
-    ensures { OnOk result (found.new.items ≡ found.old.items ++ hiding_types_in (tests_of declared.now) (ns.now, definition.now)) }
+    ensures { OnOk result (found.new.items ≡ found.old.items ++ hiding_types_in (tests_of defs.now) (ns.now, definition.now)) }
 {
     match ns {
         None => Ok(()),
         Some(_) => {
             let commons = definition.common_types.as_slice();
-            push_hiding_commons(alloc, found, declared, ns, commons)?;
+            push_hiding_commons(alloc, found, defs, ns, commons)?;
             let entities = definition.entity_types.as_slice();
-            push_hiding_entities(alloc, found, declared, ns, entities)
+            push_hiding_entities(alloc, found, defs, ns, entities)
         }
     }
 }
@@ -69,14 +69,14 @@ fn push_hiding_types(
 fn push_hiding_commons(
     alloc: Global,
     found: &mut Vec<InternalName>,
-    declared: &AllDefs,
+    defs: &AllDefs,
     ns: &Option<Name>,
     commons: &[(CommonTypeId, CommonType<RawName>)],
 ) -> Result<(), AllocError>
-    ensures { OnOk result (found.new.items ≡ found.old.items ++ flat_map (hiding_common (tests_of declared.now) ns.now) commons.now) }
+    ensures { OnOk result (found.new.items ≡ found.old.items ++ flat_map (hiding_common (tests_of defs.now) ns.now) commons.now) }
 {
     for (id, common) in commons {
-        if is_hidden(alloc, declared, &id.id.id)? {
+        if is_hidden(alloc, defs, &id.id.id)? {
             found.push(declared_at(alloc, ns, &id.id.id, common.loc)?)?;
         }
     }
@@ -87,14 +87,14 @@ fn push_hiding_commons(
 fn push_hiding_entities(
     alloc: Global,
     found: &mut Vec<InternalName>,
-    declared: &AllDefs,
+    defs: &AllDefs,
     ns: &Option<Name>,
     entities: &[(UnreservedId, EntityType<RawName>)],
 ) -> Result<(), AllocError>
-    ensures { OnOk result (found.new.items ≡ found.old.items ++ flat_map (hiding_entity (tests_of declared.now) ns.now) entities.now) }
+    ensures { OnOk result (found.new.items ≡ found.old.items ++ flat_map (hiding_entity (tests_of defs.now) ns.now) entities.now) }
 {
     for (id, entity) in entities {
-        if is_hidden(alloc, declared, &id.id)? {
+        if is_hidden(alloc, defs, &id.id)? {
             found.push(declared_at(alloc, ns, &id.id, entity.loc)?)?;
         }
     }
@@ -102,19 +102,19 @@ fn push_hiding_entities(
 }
 
 // Whether the empty namespace declares a type of this name.
-fn is_hidden(alloc: Global, declared: &AllDefs, id: &Id) -> Result<bool, AllocError>
-    ensures { IfOk result (λ hidden. hidden ≡ is_hidden (tests_of declared.now) id.now.text) }
+fn is_hidden(alloc: Global, defs: &AllDefs, id: &Id) -> Result<bool, AllocError>
+    ensures { IfOk result (λ hidden. hidden ≡ is_hidden (tests_of defs.now) id.now.text) }
 {
     let word = alone(alloc, id.clone_in(alloc)?);
-    Ok(declared.is_defined_as_common(&word) || declared.is_defined_as_entity(&word))
+    Ok(defs.is_defined_as_common(&word) || defs.is_defined_as_entity(&word))
 }
 
 // The last word of a name, without a place.
 fn basename(alloc: Global, name: &InternalName) -> Result<InternalName, AllocError>
     ensures { IfOk result (λ word. IsBasenameOf name.now word) }
 {
-    match name.others.as_slice().last() {
-        Some(id) => Ok(alone(alloc, id.clone_in(alloc)?)),
+    match name.others.as_slice().split_last() {
+        Some((id, _)) => Ok(alone(alloc, id.clone_in(alloc)?)),
         None => Ok(alone(alloc, name.first.clone_in(alloc)?)),
     }
 }

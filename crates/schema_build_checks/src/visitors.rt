@@ -1,5 +1,7 @@
-ghost use Rattle.std.specs.Prelude.{◌≡◌, [], OnOk, IfErr};
+ghost use Rattle.std.specs.Prelude.{◌≡◌, [], IfOk, OnOk, IfErr};
 ghost use Rattle.cedar_names.specs.Tables.{table_has};
+ghost use Rattle.schema_json_walk.specs.Parts.{extension_type};
+ghost use Rattle.schema_json_walk.specs.Visits.{part_of};
 ghost use Rattle.schema_build_checks.specs.Refusing.{IsAboutFirst, GivenNothing, Refuses};
 ghost use Rattle.schema_build_checks.specs.Rows.{OrMemory};
 ghost use Rattle.schema_build_checks.specs.WalkFaults.{unknown_extension, unsupported, NamesExtension, NamesFeature};
@@ -28,21 +30,30 @@ impl<'a> Visitor<RawName> for Extensions<'a> {
 
     ghost refuses = { λ ns. Refuses (λ v part. unknown_extension v.table.now part) NamesExtension };
 
-    fn visit(
-        &mut self,
-        _ns: &Option<Name>,
-        part: LentPart<'_, RawName>,
-    ) -> Result<(), SchemaError> {
+    fn visit(&mut self, _ns: &Option<Name>, part: LentPart<'_, RawName>) -> Result<(), SchemaError>
+        ensures taken { OnOk result (GivenNothing (λ v part. unknown_extension v.table.now part) self.old (part_of part.entry) self.new) }
+        ensures refused { IfErr result (Refuses (λ v part. unknown_extension v.table.now part) NamesExtension self.old (part_of part.entry)) }
+    {
         match part {
-            LentPart::ExtensionType { name } => {
-                if self.table.has(name.id.text.as_str()) {
-                    Ok(())
-                } else {
-                    Err(unknown(self.alloc, name)?)
-                }
-            }
+            LentPart::ExtensionType { name } => check_extension(self.alloc, self.table, name),
             _ => Ok(()),
         }
+    }
+}
+
+// Refuses an extension type that is not in the table.
+fn check_extension(
+    alloc: Global,
+    table: &ExtensionTable,
+    id: &UnreservedId,
+) -> Result<(), SchemaError>
+    ensures known { OnOk result (unknown_extension table.now (extension_type id.now) ≡ []) }
+    ensures err { IfErr result (OrMemory (IsAboutFirst NamesExtension (unknown_extension table.now (extension_type id.now)))) }
+{
+    if table.has(id.id.as_str()) {
+        Ok(())
+    } else {
+        Err(unknown(alloc, id)?)
     }
 }
 
@@ -68,11 +79,10 @@ impl Visitor<RawName> for Features {
 
     ghost refuses = { λ ns. Refuses (λ v part. unsupported part) NamesFeature };
 
-    fn visit(
-        &mut self,
-        _ns: &Option<Name>,
-        part: LentPart<'_, RawName>,
-    ) -> Result<(), SchemaError> {
+    fn visit(&mut self, _ns: &Option<Name>, part: LentPart<'_, RawName>) -> Result<(), SchemaError>
+        ensures taken { OnOk result (GivenNothing (λ v part. unsupported part) self.old (part_of part.entry) self.new) }
+        ensures refused { IfErr result (Refuses (λ v part. unsupported part) NamesFeature self.old (part_of part.entry)) }
+    {
         match part {
             LentPart::OpenRecord => Err(feature(UnsupportedFeature::OpenRecordsAndEntities)),
             LentPart::ActionAttributes { names } => {

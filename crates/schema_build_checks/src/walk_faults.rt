@@ -3,10 +3,11 @@ ghost use Rattle.schema_build_checks.specs.Rows.{Never, OrMemory};
 ghost use Rattle.schema_build_checks.specs.WalkFaults.{HasUnknownExtension, HasUnsupported};
 
 use crate::visitors::{Extensions, Features};
-use cedar_identifiers::RawName;
+use cedar_identifiers::{RawName, UnreservedId};
 use cedar_names::ExtensionTable;
-use schema_build_errors::SchemaError;
+use schema_build_errors::{SchemaError, UnsupportedFeature};
 use schema_json::Fragment;
+use schema_json_walk::laws::fragment_gives_what_its_parts_give;
 use schema_json_walk::walk_fragment;
 use std::alloc::Global;
 
@@ -19,6 +20,7 @@ pub fn check_extension_types(
     ensures ok { OnOk result (Never (HasUnknownExtension table.now fragment.now)) }
     ensures err { IfErr result (OrMemory (HasUnknownExtension table.now fragment.now)) }
 {
+    fragment_gives_what_its_parts_give::<RawName, UnreservedId>(fragment);
     walk_fragment(&mut Extensions { alloc, table }, fragment)
 }
 
@@ -28,5 +30,6 @@ pub fn check_features(alloc: Global, fragment: &Fragment<RawName>) -> Result<(),
     ensures ok { OnOk result (Never (HasUnsupported fragment.now)) }
     ensures err { IfErr result (OrMemory (HasUnsupported fragment.now)) }
 {
+    fragment_gives_what_its_parts_give::<RawName, UnsupportedFeature>(fragment);
     walk_fragment(&mut Features { alloc }, fragment)
 }

@@ -5,4 +5,4 @@ use Rattle.schema_build_checks.specs.DeclaredAt.{hiding_types_in}
 use Rattle.schema_build_checks.proofs.hiding_types.check_type_shadowing.Given as goal
 
 abbrev pub invariant-loop-ns : goal.invariant-loop-ns
-invariant-loop-ns l = l.found.items ≡ flat_map (hiding_types_in (tests_of l.declared)) (take l.ns-index l.ns-items)
+invariant-loop-ns l = l.found.items ≡ flat_map (hiding_types_in (tests_of l.defs)) (take l.ns-index l.ns-items)

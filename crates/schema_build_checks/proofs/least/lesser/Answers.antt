@@ -1,4 +1,4 @@
-use Rattle.std.proofs.Common.{rules, ◌≡◌, [], ◌∷◌, ◌++◌, refl, sym, ap, ◌∙◌, subst, MatchOption, is_lt}
+use Rattle.std.proofs.Common.{◌≡◌, [], ◌∷◌, ◌++◌, sym, ap, ◌∙◌, subst, MatchOption, is_lt}
 use Rattle.std.proofs.lemmas.List.MinMax.{ranks_by}
 use Rattle.schema_build_checks.specs.Least.{IsFirstLeast}
 use Rattle.schema_build_checks.proofs.Leasts.{least_alone, least_kept, least_taken}
