@@ -1,7 +1,9 @@
 // Inputs read whole, and the room of a sink.
 
+use cedar_data::CloneIn;
 use cedar_io::{
-    Failed, MAX_INPUT, MemorySink, NullSink, ReadEnd, SteadySource, read_input, write_text,
+    Failed, MAX_INPUT, MemorySink, MemorySource, NullSink, ReadEnd, SteadySource, read_input,
+    write_text,
 };
 use std::alloc::{AllocError, Global};
 
@@ -51,4 +53,25 @@ fn failure_says(alloc: Global, wanted: &str) -> bool {
 #[test]
 fn a_failure_has_a_message(rt: HostRuntime) {
     assert!(rt; failure_says(rt.alloc(), "the device failed"));
+}
+
+// Is there memory for a copy?
+fn is_copied<T: CloneIn>(alloc: Global, value: &T) -> bool {
+    value.clone_in(alloc).is_ok()
+}
+
+// Is a sink in memory copied?
+fn sink_is_copied(alloc: Global) -> bool {
+    match MemorySink::with_room(alloc, 9, Vec::new(alloc)) {
+        Ok(sink) => is_copied(alloc, &sink),
+        Err(_) => false,
+    }
+}
+
+#[test]
+fn objects_in_memory_are_copied(rt: HostRuntime) {
+    let alloc = rt.alloc();
+    assert!(rt; is_copied(alloc, &SteadySource::new(Vec::new(alloc))));
+    assert!(rt; is_copied(alloc, &MemorySource::new(Vec::new(alloc), Vec::new(alloc))));
+    assert!(rt; sink_is_copied(alloc));
 }

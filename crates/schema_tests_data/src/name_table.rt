@@ -1,6 +1,6 @@
 // What the readers say of a text: nothing where they read it. A line is the answers, with `;` between two, then behind `=>` the
 // text. ␤ stands for a line feed and ␍ for a carriage return. The lines were worked out by hand, from the definitions of words
-// and names.
+// and names, and a second program that reads names by these definitions gives the same.
 
 /// One answer, of all readers.
 pub fn alike_lines() -> &'static str {

@@ -1,0 +1,2 @@
+mod Leasts
+mod Stops

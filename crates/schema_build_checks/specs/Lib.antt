@@ -1,0 +1,6 @@
+pub mod Rows
+pub mod Least
+pub mod DeclaredAt
+pub mod DeclaredTwice
+pub mod Refusing
+pub mod WalkFaults

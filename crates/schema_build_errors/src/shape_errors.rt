@@ -1,0 +1,126 @@
+ghost use Rattle.std.specs.Prelude.{◌≡◌, [], Ok, None, IfOk, IsSomeAnd};
+ghost use Rattle.schema_resolve_errors.specs.ErrorTexts.{label_at};
+ghost use Rattle.schema_resolve_errors.specs.Gathered.{if_there};
+ghost use Rattle.schema_build_errors.specs.ShapeTexts.{shape_subject, no_record_text, no_record_help, subject_place, type_message};
+
+use crate::places::place_labels;
+use cedar_data::{CloneIn, Label, Loc, Severity, Text, around, message};
+use cedar_identifiers::{Name, NameText};
+use cedar_names::EntityUID;
+use std::alloc::{AllocError, Global};
+
+/// What has a type that must be a record: the context of an action, or the shape of an entity type.
+#[derive(Drop)]
+pub enum ContextOrShape {
+    /// The context of this action.
+    ActionContext(EntityUID),
+    /// The shape of this entity type.
+    EntityTypeShape(Name),
+}
+
+impl ContextOrShape {
+    ghost use Rattle.std.specs.Option.{option_copied};
+
+    /// The place of the action or of the name.
+    pub fn loc(&self) -> Option<&Loc>
+        ensures place { option_copied result ≡ subject_place self.now }
+    {
+        match self {
+            ContextOrShape::ActionContext(uid) => uid.loc.as_ref(),
+            ContextOrShape::EntityTypeShape(name) => name.name.loc.as_ref(),
+        }
+    }
+
+    // What the context or the shape is called.
+    fn subject(&self, alloc: Global) -> Result<Text, AllocError>
+        ensures { IfOk result (λ text. text ≡ shape_subject self.now) }
+    {
+        match self {
+            ContextOrShape::ActionContext(uid) => {
+                let mut text = message(alloc, "Context for action ")?;
+                text.push_text(&uid.text(alloc)?)?;
+                Ok(text)
+            }
+            ContextOrShape::EntityTypeShape(name) => {
+                let mut text = message(alloc, "Shape for entity type ")?;
+                text.push_text(&name.text(alloc)?)?;
+                Ok(text)
+            }
+        }
+    }
+}
+
+impl CloneIn for ContextOrShape {
+    fn clone_in(&self, alloc: Global) -> Result<Self, AllocError> {
+        match self {
+            ContextOrShape::ActionContext(uid) => {
+                Ok(ContextOrShape::ActionContext(uid.clone_in(alloc)?))
+            }
+            ContextOrShape::EntityTypeShape(name) => {
+                Ok(ContextOrShape::EntityTypeShape(name.clone_in(alloc)?))
+            }
+        }
+    }
+}
+
+/// An entity type whose shape, or an action whose context, is no record.
+#[derive(Drop)]
+pub struct ContextOrShapeNotRecordError {
+    /// The least such entity type, or else the least such action, at the place of its declaration.
+    pub ctx_or_shape: ContextOrShape,
+}
+
+impl ContextOrShapeNotRecordError {
+    /// What the error says.
+    pub fn text(&self, alloc: Global) -> Result<Text, AllocError>
+        ensures text { IfOk result (λ text. text ≡ no_record_text self.now) }
+    {
+        let subject = self.ctx_or_shape.subject(alloc)?;
+        type_message(alloc, &subject)
+    }
+
+    /// Advice.
+    pub fn help(&self, alloc: Global, _source: &str) -> Result<Option<Text>, AllocError>
+        ensures help { IfOk result (λ help. IsSomeAnd help (λ text. text ≡ no_record_help self.now.ctx_or_shape)) }
+    {
+        let advice = match self.ctx_or_shape {
+            ContextOrShape::ActionContext(_) => "action contexts must have type `Record`",
+            ContextOrShape::EntityTypeShape(_) => "entity type shapes must have type `Record`",
+        };
+        Ok(Some(message(alloc, advice)?))
+    }
+
+    /// The place of the declaration.
+    pub fn labels(&self, alloc: Global) -> Result<Vec<Label>, AllocError>
+        ensures labels { IfOk result (λ labels. labels.items ≡ if_there label_at (subject_place self.now.ctx_or_shape)) }
+    {
+        place_labels(alloc, self.ctx_or_shape.loc().copied())
+    }
+
+    /// How grave it is.
+    pub fn severity(&self) -> Severity
+        ensures error { result ≡ Severity.Error }
+    {
+        Severity::Error
+    }
+}
+
+impl CloneIn for ContextOrShapeNotRecordError {
+    fn clone_in(&self, alloc: Global) -> Result<Self, AllocError> {
+        Ok(ContextOrShapeNotRecordError {
+            ctx_or_shape: self.ctx_or_shape.clone_in(alloc)?,
+        })
+    }
+}
+
+// What is said of a context or a shape.
+fn type_message(alloc: Global, subject: &Text) -> Result<Text, AllocError>
+    ensures { IfOk result (λ text. text ≡ type_message subject.now) }
+{
+    around(
+        alloc,
+        "",
+        subject,
+        " is declared with a type other than `Record`",
+    )
+}
