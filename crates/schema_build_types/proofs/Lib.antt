@@ -1,2 +1,4 @@
-mod Sizes
 mod Contents
+mod Cost
+mod Halved
+mod Sizes

@@ -4,8 +4,10 @@
 pub mod action;
 pub mod entity_type;
 pub mod laws;
+pub mod lookups;
 pub mod types;
 
 pub use action::{ValidatorActionId, ValidatorActionKind};
 pub use entity_type::{ValidatorEntityType, ValidatorEntityTypeKind};
+pub use lookups::get_counted;
 pub use types::Type;

@@ -1,0 +1,15 @@
+use Rattle.std.proofs.Common.{◌≤◌, ◌-◌, length}
+use Rattle.cedar_data.specs.Halving.{IsGap}
+use Rattle.schema_build_types.proofs.Cost.{IsCost}
+use Rattle.schema_build_types.proofs.lookups.search_counted.Given as goal
+
+abbrev pub invariant-loop-low : goal.invariant-loop-low
+invariant-loop-low g l = record {
+  ordered : l.low ≤ l.high;
+  gap : IsGap g.K.Ord.cmp l.key l.entries l.low l.high;
+  counted : l.fn.steps ≤ l.steps;
+  cost : IsCost (l.steps - l.fn.steps) (l.high - l.low) (length l.entries);
+}
+
+abbrev pub decreases-loop-low : goal.decreases-loop-low
+decreases-loop-low g l = l.high - l.low
