@@ -1,3 +1,4 @@
+pub mod Grouped
 pub mod Rows
 pub mod Spelled
 pub mod Wanted

@@ -1,4 +1,5 @@
 pub mod Collisions
+pub mod FragmentGroups
 pub mod PartTexts
 pub mod PrintedFragments
 pub mod RowsOfTexts

@@ -5,12 +5,14 @@ mod bodies;
 pub mod cedar_text;
 pub mod fragments;
 mod items;
+pub mod laws;
 mod lists;
 pub mod to_cedar_schema;
 mod unprintable;
 
 pub use cedar_text::CedarText;
 pub use fragments::print_fragment;
+pub use laws::fragments_are_laid_out;
 pub use schema_print_errors::{
     NameCollisionsError, ToCedarSchemaSyntaxError, UnconvertibleEntityTypeShapeError,
 };
