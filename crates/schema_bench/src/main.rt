@@ -3,6 +3,7 @@
 
 use cedar_names::ExtensionTable;
 use schema_convert::parse_cedar_schema_fragment;
+use schema_print::ToCedarSchema;
 use schema_resolve::ResolveFragment;
 use schema_syntax::{parse_schema, scan, syntax_fault_of};
 use std::alloc::{AllocError, Global};
@@ -20,6 +21,7 @@ fn takes(alloc: Global, word: &str, text: &str) -> Result<bool, AllocError> {
             Ok(parse_cedar_schema_fragment(alloc, text, &table).is_ok())
         }
         "resolve" => resolves(alloc, text),
+        "print" => prints(alloc, text),
         _ => Ok(false),
     }
 }
@@ -35,6 +37,15 @@ fn resolves(alloc: Global, text: &str) -> Result<bool, AllocError> {
                     .is_ok(),
             )
         }
+        Err(_) => Ok(false),
+    }
+}
+
+// Whether the fragment of the text has a text.
+fn prints(alloc: Global, text: &str) -> Result<bool, AllocError> {
+    let table = ExtensionTable::all_available(alloc)?;
+    match parse_cedar_schema_fragment(alloc, text, &table) {
+        Ok((fragment, _)) => Ok(fragment.to_cedarschema(alloc).is_ok()),
         Err(_) => Ok(false),
     }
 }
