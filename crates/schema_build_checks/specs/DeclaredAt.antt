@@ -26,12 +26,12 @@ use Rattle.schema_resolve_definitions.specs.Defined.{is_hidden}
 use Rattle.schema_resolve_definitions.specs.Tests.{Tests}
 
 -- a word as a name, at a place
-abbrev pub word_at : Id → Option Loc → InternalName
-word_at id loc = record { first = id; others = []; loc = loc }
+abbrev pub lone_name_at : Id → Option Loc → InternalName
+lone_name_at id loc = record { first = id; others = []; loc = loc }
 
 -- a name that is declared in a namespace, at the place of its declaration
 abbrev pub declared_at : Option Name → Id → Option Loc → InternalName
-declared_at ns id loc = qualified (name_of ns) (word_at id loc)
+declared_at ns id loc = qualified (name_of ns) (lone_name_at id loc)
 
 -- a name that is called `Action`
 abbrev pub called_action : Option Name → UnreservedId × EntityType RawName → List InternalName

@@ -11,7 +11,7 @@ use Rattle.schema_build_graph.specs.Graph.{targets_of, HasEdge}
 use Rattle.schema_build_graph.specs.declared.search.State.{State}
 use Rattle.schema_build_graph.specs.declared.search.State.TheVariants.{Open, Done}
 use Rattle.schema_build_graph.specs.declared.search.Group.{Group}
-use Rattle.schema_build_graph.specs.Search.{state_at, NoneBetween, IsPlaced, IsPending, HasSource, AreStacked, IsSearched}
+use Rattle.schema_build_graph.specs.Search.{state_at, NoneBetween, IsSeated, IsPending, HasSource, AreStacked, IsSearched}
 use Rattle.schema_build_graph.proofs.Paths.{reaches_one, reaches_through, leads_within}
 use Rattle.schema_build_graph.proofs.Groups.{all_front, all_last, stacked_front, stand_below, targets_below, among_rest, place_in_rest, first_of_rest}
 use Rattle.schema_build_graph.proofs.States.{state_cases}
@@ -299,7 +299,7 @@ module _ (graph : List (Vec ℕ Global)) (states : List State) (standing targets
       looked : (k t : ℕ) → k < length (take g.standing standing)
           → HasEdge graph (get_or (take g.standing standing) k 0) t
           → Contains (done ++ drop g.standing standing) t
-          ⊎ (IsPlaced before (take g.standing standing) k t ⊎ (IsPending before targets k t ⊎ (None ≡ Some t)))
+          ⊎ (IsSeated before (take g.standing standing) k t ⊎ (IsPending before targets k t ⊎ (None ≡ Some t)))
       looked k t h e = elim
           (s.looked k t (omega (arith, shorter, f_in))
           (subst (λ x. HasEdge graph x t) (old_at k (omega (arith, shorter))) e)) [

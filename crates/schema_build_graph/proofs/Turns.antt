@@ -11,7 +11,7 @@ use Rattle.schema_build_graph.specs.Graph.{targets_of, HasEdge, InRange}
 use Rattle.schema_build_graph.specs.declared.search.State.{State}
 use Rattle.schema_build_graph.specs.declared.search.State.TheVariants.{New, Open, Done}
 use Rattle.schema_build_graph.specs.declared.search.Group.{Group}
-use Rattle.schema_build_graph.specs.Search.{state_at, NoneBetween, IsPlaced, IsPending, HasSource, AreStacked, IsMerged, IsSearched}
+use Rattle.schema_build_graph.specs.Search.{state_at, NoneBetween, IsSeated, IsPending, HasSource, AreStacked, IsMerged, IsSearched}
 use Rattle.schema_build_graph.proofs.Paths.{reaches_one, reaches_on, reaches_through}
 use Rattle.schema_build_graph.proofs.Groups.{all_front, all_last, stacked_front, stacked_push, stand_below, targets_below}
 use Rattle.schema_build_graph.proofs.States.{other_state}
@@ -365,7 +365,7 @@ module _ (graph : List (Vec ℕ Global)) (states : List State) (standing targets
       ]
 
       looked : (k t : ℕ) → k < length (standing ++ v ∷ []) → HasEdge graph (get_or (standing ++ v ∷ []) k 0) t
-          → Contains done t ⊎ (IsPlaced
+          → Contains done t ⊎ (IsSeated
           (groups ++ record { standing = length standing; targets = length targets } ∷ [])
           (standing ++ v ∷ []) k t
           ⊎ (IsPending (groups ++ record { standing = length standing; targets = length targets } ∷ [])

@@ -19,8 +19,8 @@ abbrev pub NoneBetween : List Group → ℕ → ℕ → Type 0
 NoneBetween groups k l = All (λ g. (g.standing ≤ k) ⊎ (l < g.standing)) groups
 
 -- t stands, in the group of the place k or in a later one
-abbrev pub IsPlaced : List Group → List ℕ → ℕ → ℕ → Type 0
-IsPlaced groups standing k t = (l : ℕ) × (l < length standing) × (slice_index standing l ≡ t) × NoneBetween groups l k
+abbrev pub IsSeated : List Group → List ℕ → ℕ → ℕ → Type 0
+IsSeated groups standing k t = (l : ℕ) × (l < length standing) × (slice_index standing l ≡ t) × NoneBetween groups l k
 
 -- t is among the targets that were not looked at, in the group of the place k or in a later one
 abbrev pub IsPending : List Group → List ℕ → ℕ → ℕ → Type 0
@@ -66,7 +66,7 @@ pub record IsSearched (graph : List (Vec ℕ Global)) (states : List State) (sta
   pub back : (k l : ℕ) → k < l → l < length standing → NoneBetween groups k l
       → Reaches (HasEdge graph) (slice_index standing l) (slice_index standing k)
   pub looked : (k t : ℕ) → k < length standing → HasEdge graph (slice_index standing k) t
-      → Contains done t ⊎ (IsPlaced groups standing k t ⊎ (IsPending groups targets k t ⊎ (next ≡ Some t)))
+      → Contains done t ⊎ (IsSeated groups standing k t ⊎ (IsPending groups targets k t ⊎ (next ≡ Some t)))
   pub from : (j : ℕ) → j < length targets → HasSource graph groups standing targets j
   pub stacked : AreStacked groups
   pub within : All (λ g. (g.standing ≤ length standing) × (g.targets ≤ length targets)) groups
