@@ -1,34 +1,51 @@
-// What the checks say of the fragments of texts, against a table, and of fragments that no text has.
+// What the checks say of the fragments of texts, against a table, and what errors say that no text brings.
 
 use crate::table::checked_lines;
-use cedar_data::{CloneIn, Label, Map, Text};
-use cedar_identifiers::{Annotations, RawName, UnreservedId};
+use cedar_data::{CloneIn, Label, Text};
+use cedar_identifiers::{Name, RawName};
 use cedar_names::ExtensionTable;
 use schema_build_checks::{
     check_action_shadowing, check_action_types, check_extension_types, check_features,
     check_type_shadowing,
 };
-use schema_build_errors::SchemaError;
-use schema_convert::parse_cedar_schema_fragment;
-use schema_json::{
-    CommonType, CommonTypeId, Fragment, NamespaceDefinition, RecordType, Type, TypeVariant,
+use schema_build_errors::{
+    SchemaError, UnknownExtensionTypeError, UnsupportedFeature, UnsupportedFeatureError,
 };
+use schema_convert::parse_cedar_schema_fragment;
+use schema_json::Fragment;
 use schema_resolve_definitions::single_fragment;
 use schema_tests_lines::{Wanted, answer_and_text, with_line_ends};
 use std::alloc::{AllocError, Global};
 
-// The checks, one after another.
-fn check(
+// The checks of what is declared.
+fn check_declared(alloc: Global, fragment: &Fragment<RawName>) -> Result<(), SchemaError> {
+    check_action_types(alloc, fragment)?;
+    let declared = single_fragment(alloc, fragment)?;
+    check_type_shadowing(alloc, fragment, &declared)?;
+    check_action_shadowing(alloc, fragment, &declared)
+}
+
+// The checks of the parts of the walk.
+fn check_parts(
     alloc: Global,
     fragment: &Fragment<RawName>,
     table: &ExtensionTable,
 ) -> Result<(), SchemaError> {
-    check_action_types(alloc, fragment)?;
-    let declared = single_fragment(alloc, fragment)?;
-    check_type_shadowing(alloc, fragment, &declared)?;
-    check_action_shadowing(alloc, fragment, &declared)?;
     check_extension_types(alloc, fragment, table)?;
     check_features(alloc, fragment)
+}
+
+// Is this the report of the fragment?
+fn reports(
+    alloc: Global,
+    report: &str,
+    fragment: &Fragment<RawName>,
+    table: &ExtensionTable,
+) -> bool {
+    match check_declared(alloc, fragment) {
+        Ok(()) => report.is_empty() && check_parts(alloc, fragment, table).is_ok(),
+        Err(error) => says_copied(alloc, report, &error),
+    }
 }
 
 // Takes a text, where it is there.
@@ -93,12 +110,9 @@ fn agrees(alloc: Global, line: &str, table: &ExtensionTable) -> bool {
         return false;
     };
     let (report, text) = answer_and_text(&line);
-    let Ok((fragment, _)) = parse_cedar_schema_fragment(alloc, text, table) else {
-        return false;
-    };
-    match check(alloc, &fragment, table) {
-        Ok(()) => report.is_empty(),
-        Err(error) => says_copied(alloc, report, &error),
+    match parse_cedar_schema_fragment(alloc, text, table) {
+        Ok((fragment, _)) => reports(alloc, report, &fragment, table),
+        Err(_) => false,
     }
 }
 
@@ -121,74 +135,26 @@ fn checked_texts_agree_with_table(rt: HostRuntime) {
     assert!(rt; wrong.is_empty(), "{wrong}");
 }
 
-// A fragment whose one declaration is a common type.
-fn fragment_of(alloc: Global, ty: Type<RawName>) -> Result<Fragment<RawName>, SchemaError> {
-    let Ok(name) = UnreservedId::from_normalized_str(alloc, "T") else {
-        return Err(SchemaError::Memory);
-    };
-    let common = CommonType {
-        ty,
-        annotations: Annotations::new(alloc),
-        loc: None,
-    };
-    let namespace = NamespaceDefinition {
-        common_types: Map::from_sorted_vec(vec![in alloc;
-            (CommonTypeId::unchecked(name), common),
-        ]?),
-        entity_types: Map::new(alloc),
-        actions: Map::new(alloc),
-        annotations: Annotations::new(alloc),
-    };
-    Ok(Fragment(Map::from_sorted_vec(vec![in alloc; (None, namespace)]?)))
-}
-
-// The type of an extension.
-fn extension(alloc: Global, name: &str) -> Option<Type<RawName>> {
-    match UnreservedId::from_normalized_str(alloc, name) {
-        Ok(name) => Some(Type::from_variant(TypeVariant::Extension { name })),
-        Err(_) => None,
+// Is this the report of an error that names an extension type?
+fn names_extension(alloc: Global, name: &str, report: &str) -> bool {
+    match Name::from_normalized_str(alloc, name) {
+        Ok(actual) => {
+            let error = UnknownExtensionTypeError { actual };
+            says(alloc, report, &SchemaError::UnknownExtensionType(error))
+        }
+        Err(_) => false,
     }
 }
 
-// An open record.
-fn open_record(alloc: Global) -> Type<RawName> {
-    let mut record = RecordType::default(alloc);
-    record.additional_attributes = true;
-    Type::from_variant(TypeVariant::Record(record))
-}
-
-// Is this reported of a fragment with this type?
-fn reports(alloc: Global, ty: Type<RawName>, report: &str) -> bool {
-    let Ok(table) = ExtensionTable::all_available(alloc) else {
-        return false;
-    };
-    let Ok(fragment) = fragment_of(alloc, ty) else {
-        return false;
-    };
-    match check(alloc, &fragment, &table) {
-        Ok(()) => report.is_empty(),
-        Err(error) => says_copied(alloc, report, &error),
-    }
-}
-
-// Is this reported of an extension type?
-fn reports_extension(alloc: Global, name: &str, report: &str) -> bool {
-    match extension(alloc, name) {
-        Some(ty) => reports(alloc, ty, report),
-        None => false,
-    }
+// Is this the report of an error about open records?
+fn names_open_records(alloc: Global, report: &str) -> bool {
+    let error = UnsupportedFeatureError(UnsupportedFeature::OpenRecordsAndEntities);
+    says(alloc, report, &SchemaError::UnsupportedFeature(error))
 }
 
 #[test]
-fn types_that_no_text_has_are_reported(rt: HostRuntime) {
+fn errors_that_no_text_has_are_reported(rt: HostRuntime) {
     let alloc = rt.alloc();
-    assert!(rt; reports_extension(alloc, "money", "error: unknown extension type `money`\n"));
-    assert!(rt; reports_extension(alloc, "decimal", ""));
-    assert!(rt;
-        reports(
-            alloc,
-            open_record(alloc),
-            "error: unsupported feature used in schema\n"
-        )
-    );
+    assert!(rt; names_extension(alloc, "money", "error: unknown extension type `money`\n"));
+    assert!(rt; names_open_records(alloc, "error: unsupported feature used in schema\n"));
 }
