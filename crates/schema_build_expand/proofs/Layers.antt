@@ -14,18 +14,20 @@ use Rattle.schema_json.specs.declared.types.TypeVariant.TheVariants as variant
 use Rattle.schema_json.specs.declared.types.TypeVariant.TheVariants.{rolls-String, rolls-Long, rolls-Boolean, rolls-Set, rolls-Record, rolls-Entity, rolls-EntityOrCommon, rolls-Extension}
 use Rattle.schema_json.specs.declared.types.RecordType.{RecordType}
 use Rattle.schema_json.specs.declared.types.TypeOfAttribute.{TypeOfAttribute}
-use Rattle.schema_build_expand.specs.View.{View, boolean_layer, long_layer, string_layer, set_layer, record_layer, reference_layer, extension_layer, view, outer_view, shape_view}
+use Rattle.schema_build_expand.specs.View.{View, record_layer, reference_layer, view, outer_view, shape_view}
 use Rattle.schema_build_expand.specs.Scope.{Scope, in_table}
 use Rattle.schema_build_expand.specs.Expands.{Expands, by_layer, LayerExpands, to_bool, to_long, to_string, to_set, to_record, to_extension, ExpandAll}
 
 module _ {N : Type 0} where
-  view_shape : (shape : TypeVariant N) (loc : Option Loc) → view (Variant shape loc) ≡ shape_view (out-TypeVariant N shape)
+  view_shape : (shape : TypeVariant N) (loc : Option Loc)
+      → view (Variant shape loc) ≡ shape_view (out-TypeVariant N shape)
   view_shape shape loc =
       ap view (sym (rolls-Variant shape loc)) ∙ ap outer_view (out-roll-Type N (Type-F.Variant shape loc))
 
   -- a shape that is rolled from a layer
   view_rolled : (layer : TypeVariant-F N («Type» N) (TypeVariant N) (RecordType N) (TypeOfAttribute N))
-      (shape : TypeVariant N) (loc : Option Loc) → out-TypeVariant N shape ≡ layer → view (Variant shape loc) ≡ shape_view layer
+      (shape : TypeVariant N) (loc : Option Loc) → out-TypeVariant N shape ≡ layer → view
+      (Variant shape loc) ≡ shape_view layer
   view_rolled layer shape loc e = view_shape shape loc ∙ ap shape_view e
 
   view_common : (x : N) (loc : Option Loc) → view (CommonTypeRef x loc) ≡ reference_layer Common x
@@ -67,13 +69,15 @@ module _ {N : Type 0} {s : Scope N} (ns : Option InternalName) where
   record_of r loc ps closed h =
       at_shape (TypeVariant-F.Record r) (variant.Record r) loc (plain.Rec ps)
       (ap (out-TypeVariant N) (sym (rolls-Record r)) ∙ out-roll-TypeVariant N (TypeVariant-F.Record r))
-      (subst (λ b. LayerExpands N s ns (record_layer b (attributes_of r)) (plain.Rec ps)) (sym closed) (to_record ns (attributes_of r) ps h))
+      (subst (λ b. LayerExpands N s ns (record_layer b (attributes_of r)) (plain.Rec ps)) (sym closed)
+      (to_record ns (attributes_of r) ps h))
 
   pub extension : (x : UnreservedId) (loc : Option Loc) → in_table s x.id.text ≡ true
       → Expands N s ns (Variant (variant.Extension x) loc) (plain.Ext x.id.text)
   extension x loc h =
       at_shape (TypeVariant-F.Extension x) (variant.Extension x) loc (plain.Ext x.id.text)
-      (ap (out-TypeVariant N) (sym (rolls-Extension x)) ∙ out-roll-TypeVariant N (TypeVariant-F.Extension x)) (to_extension ns x.id.text h)
+      (ap (out-TypeVariant N) (sym (rolls-Extension x)) ∙ out-roll-TypeVariant N (TypeVariant-F.Extension x))
+      (to_extension ns x.id.text h)
 
   pub common : (x : N) (loc : Option Loc) (p : PlainType) → LayerExpands N s ns (reference_layer Common x) p
       → Expands N s ns (CommonTypeRef x loc) p
@@ -89,4 +93,5 @@ module _ {N : Type 0} {s : Scope N} (ns : Option InternalName) where
       → Expands N s ns (Variant (variant.EntityOrCommon x) loc) p
   either x loc p h =
       at_shape (TypeVariant-F.EntityOrCommon x) (variant.EntityOrCommon x) loc p
-      (ap (out-TypeVariant N) (sym (rolls-EntityOrCommon x)) ∙ out-roll-TypeVariant N (TypeVariant-F.EntityOrCommon x)) h
+      (ap (out-TypeVariant N) (sym (rolls-EntityOrCommon x)) ∙ out-roll-TypeVariant N
+      (TypeVariant-F.EntityOrCommon x)) h

@@ -1,5 +1,5 @@
 -- Ranks that are added, one part after another.
-use Rattle.std.proofs.Common.{◌≡◌, ℕ, zero, suc, ◌<◌, List, [], ◌∷◌, ◌++◌, length, refl, sym, ap, ◌∙◌, subst, arith, Contains, append_assoc, append-nil, Option, Some, None, inl, inr}
+use Rattle.std.proofs.Common.{◌≡◌, ℕ, zero, suc, ◌<◌, List, [], ◌∷◌, ◌++◌, refl, sym, ap, ◌∙◌, subst, arith, Contains, append_assoc, append-nil, Option, Some, inl, inr}
 use Rattle.std.specs.List.{FoldsTo}
 use Rattle.std.proofs.lemmas.List.Elements.{All-nil, All-cons, All-append, All-weaker, Contains-append_left, Contains-append_right, Contains-append_cases}
 use Rattle.cedar_identifiers.specs.declared.internal_name.InternalName.{InternalName}
@@ -26,7 +26,8 @@ module _ {N : Type 0} (s : Scope N) (ns : Option InternalName) where
   refers_at p k r = subst (MeansAt k) (sym (only p (type_reference r.0 r.1) r.2)) r.3
 
   -- a part that is lent and no reference means none
-  pub never_at : (part : LentPart N) → ((kind : ReferenceType) (name : Bor N) → part ≡ lent.TypeReference kind name → ⊥)
+  pub never_at : (part : LentPart N)
+      → ((kind : ReferenceType) (name : Bor N) → part ≡ lent.TypeReference kind name → ⊥)
       → (k : ℕ) → MeansAt k (part_of part) → ⊥
   never_at (lent.TypeReference kind name) other k m = other kind name refl
   never_at (lent.ContextReference name) other k m = m
@@ -49,8 +50,10 @@ module _ {N : Type 0} (s : Scope N) (ns : Option InternalName) where
       → AreMeantRanks s ns (ps ++ qs) (row ++ more)
   both_parts ps qs row more a b = record {
     sound = All-append (RefersTo s ns (ps ++ qs)) row more
-        (All-weaker (RefersTo s ns ps) (RefersTo s ns (ps ++ qs)) (λ k r. (r.0, r.1, Contains-append_left ps qs (type_reference r.0 r.1) r.2, r.3)) row a.sound)
-        (All-weaker (RefersTo s ns qs) (RefersTo s ns (ps ++ qs)) (λ k r. (r.0, r.1, Contains-append_right ps qs (type_reference r.0 r.1) r.2, r.3)) more b.sound);
+        (All-weaker (RefersTo s ns ps) (RefersTo s ns (ps ++ qs))
+        (λ k r. (r.0, r.1, Contains-append_left ps qs (type_reference r.0 r.1) r.2, r.3)) row a.sound)
+        (All-weaker (RefersTo s ns qs) (RefersTo s ns (ps ++ qs))
+        (λ k r. (r.0, r.1, Contains-append_right ps qs (type_reference r.0 r.1) r.2, r.3)) more b.sound);
     whole = λ k r. elim (Contains-append_cases ps qs (type_reference r.0 r.1) r.2) [
       | inl c ↦ Contains-append_left row more k (a.whole k (r.0, r.1, c, r.3))
       | inr c ↦ Contains-append_right row more k (b.whole k (r.0, r.1, c, r.3))
@@ -87,19 +90,23 @@ module _ {N : Type 0} (s : Scope N) (ns : Option InternalName) where
       )
 
 -- what a visitor adds to its ranks part by part, with its names kept
-module _ {N S R : Type 0} (scope : R → Scope N) (place : R → Option InternalName) (names : S → R) (ranks : S → List ℕ) where
+module _ {N S R : Type 0} (scope : R → Scope N) (place : R → Option InternalName) (names : S → R)
+    (ranks : S → List ℕ) where
   abbrev Takes : S → Part N → S → Type 0
   Takes a p b = (names b ≡ names a) × AddsMeantRanks (scope (names a)) (place (names a)) (p ∷ []) (ranks a) (ranks b)
 
   pub all_added : (ps : List (Part N)) (a b : S) → FoldsTo Takes a ps b
       → AddsMeantRanks (scope (names a)) (place (names a)) ps (ranks a) (ranks b)
   all_added [] a b h =
-      subst (λ c. AddsMeantRanks (scope (names a)) (place (names a)) [] (ranks a) (ranks c)) h (adds_none (scope (names a)) (place (names a)) (ranks a))
+      subst (λ c. AddsMeantRanks (scope (names a)) (place (names a)) [] (ranks a) (ranks c)) h
+      (adds_none (scope (names a)) (place (names a)) (ranks a))
   all_added (p ∷ ps) a b h =
       let c = h.0 in
-      let rest = subst (λ r. AddsMeantRanks (scope r) (place r) ps (ranks c) (ranks b)) h.1.0 (all_added ps c b h.2) in
+      let rest =
+      subst (λ r. AddsMeantRanks (scope r) (place r) ps (ranks c) (ranks b)) h.1.0 (all_added ps c b h.2) in
       adds_both (scope (names a)) (place (names a)) (p ∷ []) ps (ranks a) (ranks c) (ranks b) h.1.1 rest
 
-pub row_made : {N : Type 0} (s : Scope N) (ns : Option InternalName) (ps : List (Part N)) (old row : List ℕ) → old ≡ []
+pub row_made : {N : Type 0} (s : Scope N) (ns : Option InternalName) (ps : List (Part N)) (old row : List ℕ)
+    → old ≡ []
     → AddsMeantRanks s ns ps old row → AreMeantRanks s ns ps row
 row_made s ns ps old row e a = subst (AreMeantRanks s ns ps) (sym (a.1 ∙ ap (λ xs. xs ++ a.0) e)) a.2

@@ -21,38 +21,45 @@ module _ (N : Type 0) where
   Ps = List (Part N)
 
   pub record_parts : (r : RecordType N)
-      → of_variant itself (Record r) ≡ visit_where itself (is_open r) open_record ++ of_entries itself (attributes_of r)
+      → of_variant itself (Record r) ≡ visit_where itself (is_open r) open_record ++ of_entries itself
+      (attributes_of r)
   record_parts r = variant_walked itself r ∙ record_walked itself r
 
   pub common_walked : (name : N) (loc : Option Loc) → parts (CommonTypeRef name loc) ≡ type_reference Common name ∷ []
   common_walked name loc =
       ap parts (sym (rolls-CommonTypeRef name loc))
-      ∙ fold-roll-Type N Ps Ps Ps Ps (at_type itself) (at_variant itself) (at_record itself) (at_attribute itself) (Type-F.CommonTypeRef name loc)
+      ∙ fold-roll-Type N Ps Ps Ps Ps (at_type itself) (at_variant itself) (at_record itself) (at_attribute itself)
+      (Type-F.CommonTypeRef name loc)
 
   pub shape_walked : (shape : TypeVariant N) (loc : Option Loc) → parts (Variant shape loc) ≡ of_variant itself shape
   shape_walked shape loc =
       ap parts (sym (rolls-Variant shape loc))
-      ∙ fold-roll-Type N Ps Ps Ps Ps (at_type itself) (at_variant itself) (at_record itself) (at_attribute itself) (Type-F.Variant shape loc)
+      ∙ fold-roll-Type N Ps Ps Ps Ps (at_type itself) (at_variant itself) (at_record itself) (at_attribute itself)
+      (Type-F.Variant shape loc)
 
   pub set_walked : (element : «Type» N) → of_variant itself (Set element) ≡ parts element
   set_walked element =
       ap (of_variant itself) (sym (rolls-Set element))
-      ∙ fold-roll-TypeVariant N Ps Ps Ps Ps (at_type itself) (at_variant itself) (at_record itself) (at_attribute itself) (TypeVariant-F.Set element)
+      ∙ fold-roll-TypeVariant N Ps Ps Ps Ps (at_type itself) (at_variant itself) (at_record itself)
+      (at_attribute itself) (TypeVariant-F.Set element)
 
   pub entity_walked : (name : N) → of_variant itself (variant.Entity name) ≡ type_reference Entity name ∷ []
   entity_walked name =
       ap (of_variant itself) (sym (rolls-Entity name))
-      ∙ fold-roll-TypeVariant N Ps Ps Ps Ps (at_type itself) (at_variant itself) (at_record itself) (at_attribute itself) (TypeVariant-F.Entity name)
+      ∙ fold-roll-TypeVariant N Ps Ps Ps Ps (at_type itself) (at_variant itself) (at_record itself)
+      (at_attribute itself) (TypeVariant-F.Entity name)
 
   pub either_walked : (name : N) → of_variant itself (EntityOrCommon name) ≡ type_reference CommonOrEntity name ∷ []
   either_walked name =
       ap (of_variant itself) (sym (rolls-EntityOrCommon name))
-      ∙ fold-roll-TypeVariant N Ps Ps Ps Ps (at_type itself) (at_variant itself) (at_record itself) (at_attribute itself) (TypeVariant-F.EntityOrCommon name)
+      ∙ fold-roll-TypeVariant N Ps Ps Ps Ps (at_type itself) (at_variant itself) (at_record itself)
+      (at_attribute itself) (TypeVariant-F.EntityOrCommon name)
 
   pub extension_walked : (name : UnreservedId) → of_variant {N = N} itself (Extension name) ≡ extension_type name ∷ []
   extension_walked name =
       ap (of_variant {N = N} itself) (sym (rolls-Extension name))
-      ∙ fold-roll-TypeVariant N Ps Ps Ps Ps (at_type itself) (at_variant itself) (at_record itself) (at_attribute itself) (TypeVariant-F.Extension name)
+      ∙ fold-roll-TypeVariant N Ps Ps Ps Ps (at_type itself) (at_variant itself) (at_record itself)
+      (at_attribute itself) (TypeVariant-F.Extension name)
 
   module _ (P : Part N → Type 0) where
     all_left : (xs ys : List (Part N)) → All P (xs ++ ys) → All P xs
@@ -69,7 +76,8 @@ module _ (N : Type 0) where
         → All P (parts (out-TypeOfAttribute N (get_or entries i d).1).ty)
     all_entry [] i d h all = absurd (omega arith)
     all_entry (e ∷ entries) zero d h all =
-        subst (All P) (attribute_walked itself e.1) (all_left (of_attribute itself e.1) (of_entries itself entries) all)
+        subst (All P) (attribute_walked itself e.1)
+        (all_left (of_attribute itself e.1) (of_entries itself entries) all)
     all_entry (e ∷ entries) (suc i) d h all =
         all_entry entries i d (omega arith) (all_right (of_attribute itself e.1) (of_entries itself entries) all)
 

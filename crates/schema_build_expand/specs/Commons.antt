@@ -26,7 +26,7 @@ module _ {N : Type 0} where
   abbrev pub IsReferenceBehind : Scope N → List ℕ → Option InternalName → ReferenceType → N → Type 0
   IsReferenceBehind s before ns kind name = IsSome (s.means ns kind name)
       × ((full : List (List ℕ)) (k : ℕ) → s.means ns kind name ≡ Some (full, Common) → IsRanked s full k
-        → Contains before k)
+      → Contains before k)
 
   -- a part that can be expanded behind those
   abbrev pub IsBehind : Scope N → List ℕ → Option InternalName → Part N → Type 0
@@ -35,7 +35,8 @@ module _ {N : Type 0} where
   IsBehind s before ns _ = ⊥
 
   -- each stands behind those that its type refers to
-  abbrev pub AreBehind : {R : Type 0} → Scope N → (R → Option InternalName) → List (R × Bor («Type» N)) → List ℕ → Type 0
+  abbrev pub AreBehind : {R : Type 0} → Scope N → (R → Option InternalName) → List (R × Bor («Type» N)) → List ℕ
+      → Type 0
   AreBehind {R} s place commons order = (i : ℕ) (c : R × Bor («Type» N)) → i < length order
       → slice_get commons (slice_index order i) ≡ Some c
       → All (IsBehind s (take i order) (place c.0)) (parts c.1.now)

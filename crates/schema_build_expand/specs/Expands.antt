@@ -50,11 +50,12 @@ mutual
         → ExpandAll N s ns ((name, a) ∷ entries) (attribute name (out-TypeOfAttribute N a).required p ps)
 
 module _ {N : Type 0} where
-  -- a type, a layer or attributes stand for one thing at most
+  -- a type stands for one plain type at most
   abbrev pub ExpandsOnce : Scope N → Type 0
   ExpandsOnce s = (ns : Option InternalName) (t : «Type» N) (p q : PlainType)
       → Expands N s ns t p → Expands N s ns t q → p ≡ q
 
+  -- attributes stand for one list at most
   abbrev pub AttributesExpandOnce : Scope N → Type 0
   AttributesExpandOnce s = (ns : Option InternalName) (entries : List (List ℕ × TypeOfAttribute N))
       (ps qs : Attributes) → ExpandAll N s ns entries ps → ExpandAll N s ns entries qs → ps ≡ qs

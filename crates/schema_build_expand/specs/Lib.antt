@@ -4,4 +4,5 @@ pub mod Expands
 pub mod Targets
 pub mod Commons
 pub mod Ranks
+pub mod Finding
 pub mod Rows

@@ -1,5 +1,6 @@
 -- The ranks of the declared common types that references mean.
-use Rattle.std.specs.Prelude.{◌≡◌, ◌++◌, ℕ, List, All, Contains, Option, Some, None}
+use Rattle.std.specs.Prelude.{◌≡◌, ◌++◌, ℕ, List, [], ◌∷◌, Vec, All, Contains, Option, Some, None}
+use Rattle.std.specs.declared.alloc.Global.{Global}
 use Rattle.cedar_identifiers.specs.declared.internal_name.InternalName.{InternalName}
 use Rattle.cedar_identifiers.specs.declared.reference_type.ReferenceType.{ReferenceType}
 use Rattle.cedar_identifiers.specs.declared.reference_type.ReferenceType.TheVariants.{Common}
@@ -9,7 +10,8 @@ use Rattle.schema_build_expand.specs.Scope.{Scope, IsRanked}
 module _ {N : Type 0} where
   -- the reference means the declared common type of the rank
   abbrev pub MeansRank : Scope N → Option InternalName → ReferenceType → N → ℕ → Type 0
-  MeansRank s ns kind name k = (full : List (List ℕ)) × (s.means ns kind name ≡ Some (full, Common)) × IsRanked s full k
+  MeansRank s ns kind name k = (full : List (List ℕ)) × (s.means ns kind name ≡ Some (full, Common))
+      × IsRanked s full k
 
   -- it means just the declared common type of this rank, or none
   abbrev pub IsRankOf : Scope N → Option InternalName → ReferenceType → N → Option ℕ → Type 0
@@ -29,3 +31,8 @@ module _ {N : Type 0} where
   -- just the ranks that references among the parts mean were added, at the end
   abbrev pub AddsMeantRanks : Scope N → Option InternalName → List (Part N) → List ℕ → List ℕ → Type 0
   AddsMeantRanks s ns ps before after = (more : List ℕ) × (after ≡ before ++ more) × AreMeantRanks s ns ps more
+
+  -- just the rank that the reference means was added, where it means one
+  abbrev pub AddsRankOf : Scope N → Option InternalName → ReferenceType → N → Vec ℕ Global → Vec ℕ Global → Type 0
+  AddsRankOf s ns kind name before after =
+      AddsMeantRanks s ns (type_reference kind name ∷ []) before.items after.items

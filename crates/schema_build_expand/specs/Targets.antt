@@ -1,5 +1,6 @@
 -- What the search for an expansion knows: the target of a reference, and which common types are expanded.
 use Rattle.std.specs.Prelude.{◌≡◌, ℕ, Bool, true, List, Option, Some, IsSome, slice_get}
+use Rattle.std.specs.List.{AllZip}
 use Rattle.cedar_identifiers.specs.Names.{components_of}
 use Rattle.cedar_identifiers.specs.declared.internal_name.InternalName.{InternalName}
 use Rattle.cedar_identifiers.specs.declared.reference_type.ReferenceType.{ReferenceType}
@@ -19,7 +20,8 @@ use Rattle.schema_build_expand.specs.declared.meanings.Target.{Target}
 use Rattle.schema_build_expand.specs.declared.meanings.Target.TheVariants as target
 
 module _ {N : Type 0} where
-  -- a reference means the entity type of this name, the declared common type of this rank, or what this type is built for
+  -- a reference means the entity type of this name, the declared common type of this rank, or the builtin that this
+  -- type is built for
   abbrev pub IsMeantTarget : Scope N → Option InternalName → ReferenceType → N → Target → Type 0
   IsMeantTarget s ns kind name (target.Entity e) = s.means ns kind name ≡ Some (components_of e.name, Entity)
   IsMeantTarget s ns kind name (target.Common k) = (full : List (List ℕ))
@@ -36,13 +38,19 @@ module _ {N : Type 0} where
   ShapeExpandsTo s ns shape t = (loc : Option Loc) → ExpandsTo s ns (Variant shape loc) t
 
   abbrev pub ReferenceExpandsTo : Scope N → Option InternalName → ReferenceType → N → built.«Type» → Type 0
-  ReferenceExpandsTo s ns kind name t = (p : PlainType) × LayerExpands N s ns (reference_layer kind name) p × IsBuilt p t
+  ReferenceExpandsTo s ns kind name t = (p : PlainType) × LayerExpands N s ns (reference_layer kind name) p
+      × IsBuilt p t
 
   -- an attribute, with its name and whether it is required
   abbrev pub EntryExpandsTo : Scope N → Option InternalName
       → List ℕ × TypeOfAttribute N → List ℕ × (built.«Type» × Bool) → Type 0
   EntryExpandsTo s ns e t = (t.0 ≡ e.0) × (t.1.1 ≡ (out-TypeOfAttribute N e.1).required)
       × ExpandsTo s ns (out-TypeOfAttribute N e.1).ty t.1.0
+
+  -- attributes, in order
+  abbrev pub EntriesExpandTo : Scope N → Option InternalName
+      → List (List ℕ × TypeOfAttribute N) → List (List ℕ × (built.«Type» × Bool)) → Type 0
+  EntriesExpandTo s ns entries attrs = AllZip (EntryExpandsTo s ns) entries attrs
 
   -- what is kept of a rank is the expansion of its declaration
   abbrev pub AreExpanded : Scope N → List (Option built.«Type») → Type 0
@@ -53,7 +61,7 @@ module _ {N : Type 0} where
   abbrev pub IsReferenceReady : Scope N → List (Option built.«Type») → Option InternalName → ReferenceType → N → Type 0
   IsReferenceReady s done ns kind name = IsSome (s.means ns kind name)
       × ((full : List (List ℕ)) (k : ℕ) → s.means ns kind name ≡ Some (full, Common) → IsRanked s full k
-        → (t : built.«Type») × (slice_get done k ≡ Some (Some t)))
+      → (t : built.«Type») × (slice_get done k ≡ Some (Some t)))
 
   -- a part that can be expanded: such a reference, or an extension type of the table
   abbrev pub IsReady : Scope N → List (Option built.«Type») → Option InternalName → Part N → Type 0

@@ -1,7 +1,6 @@
 ghost use Rattle.std.specs.Prelude.{◌≡◌, All, IfOk};
-ghost use Rattle.std.specs.List.{AllZip};
 ghost use Rattle.schema_json_walk.specs.Walk.{itself, parts, of_variant, of_entries};
-ghost use Rattle.schema_build_expand.specs.Targets.{IsReady, AreExpanded, ExpandsTo, ShapeExpandsTo, ReferenceExpandsTo, IsReferenceReady, EntryExpandsTo};
+ghost use Rattle.schema_build_expand.specs.Targets.{IsReady, AreExpanded, ExpandsTo, ShapeExpandsTo, ReferenceExpandsTo, IsReferenceReady, EntriesExpandTo};
 
 use crate::meanings::{Meanings, Target};
 use cedar_data::{Boxed, CloneIn, Map, NonEmpty, Text};
@@ -10,8 +9,8 @@ use schema_build_types::Type as BuiltType;
 use schema_json::{Type, TypeOfAttribute, TypeVariant};
 use std::alloc::{AllocError, Global};
 
-/// What a type stands for that is written where these names are meant: every common type is replaced. What its references
-/// mean is expanded before, and stands in `done` by its rank.
+/// What a type stands for that is written where these names are meant: every common type is replaced. What its
+/// references mean is expanded before, and stands in `done` by its rank. It errs where memory is out.
 #[cycle(expand)]
 pub fn expand_type<N, R: Meanings<N>>(
     alloc: Global,
@@ -106,7 +105,7 @@ fn expand_entries<N, R: Meanings<N>>(
 ) -> Result<Vec<(Text, (BuiltType, bool))>, AllocError>
     requires done { AreExpanded (R.scope names.now) done.now }
     requires ready { All (IsReady (R.scope names.now) done.now (R.place names.now)) (of_entries itself entries.now) }
-    ensures { IfOk result (λ attrs. AllZip (EntryExpandsTo (R.scope names.now) (R.place names.now)) entries.now attrs.items) }
+    ensures { IfOk result (λ attrs. EntriesExpandTo (R.scope names.now) (R.place names.now) entries.now attrs.items) }
 {
     let mut attrs = Vec::new(alloc);
     for (name, attribute) in entries {

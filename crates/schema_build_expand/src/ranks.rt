@@ -1,8 +1,8 @@
-ghost use Rattle.std.specs.Prelude.{◌≡◌, ◌∷◌, [], OnOk, IfOk, IfErr};
-ghost use Rattle.schema_json_walk.specs.Parts.{type_reference};
+ghost use Rattle.std.specs.Prelude.{OnOk, IfOk, IfErr};
 ghost use Rattle.schema_json_walk.specs.Visits.{part_of};
 ghost use Rattle.schema_json_walk.specs.Walk.{parts};
-ghost use Rattle.schema_build_expand.specs.Ranks.{AreMeantRanks, AddsMeantRanks};
+ghost use Rattle.schema_build_expand.specs.Finding.{Finds};
+ghost use Rattle.schema_build_expand.specs.Ranks.{AreMeantRanks, AddsRankOf};
 
 use crate::meanings::Meanings;
 use cedar_identifiers::{Name, ReferenceType};
@@ -21,12 +21,12 @@ struct RankFinder<'a, R> {
 impl<'a, N, R: Meanings<N>> Visitor<N> for RankFinder<'a, R> {
     type Refusal = AllocError;
 
-    ghost takes = { λ ns before part after. (after.names ≡ before.names) × AddsMeantRanks (R.scope before.names.now) (R.place before.names.now) (part ∷ []) before.ranks.items after.ranks.items };
+    ghost takes = { λ ns. Finds R.scope R.place };
 
     ghost refuses = { λ ns before part error. Unit {0} };
 
     fn visit(&mut self, _ns: &Option<Name>, part: LentPart<'_, N>) -> Result<(), AllocError>
-        ensures taken { OnOk result ((self.new.names ≡ self.old.names) × AddsMeantRanks (R.scope self.old.names.now) (R.place self.old.names.now) (part_of part.entry ∷ []) self.old.ranks.items self.new.ranks.items) }
+        ensures taken { OnOk result (Finds R.scope R.place self.old (part_of part.entry) self.new) }
         ensures refused { IfErr result (λ error. Unit {0}) }
     {
         match part {
@@ -46,7 +46,7 @@ fn add_rank<N, R: Meanings<N>>(
     name: &N,
     ranks: &mut Vec<usize>,
 ) -> Result<(), AllocError>
-    ensures { OnOk result (AddsMeantRanks (R.scope names.now) (R.place names.now) (type_reference kind name.now ∷ []) ranks.old.items ranks.new.items) }
+    ensures { OnOk result (AddsRankOf (R.scope names.now) (R.place names.now) kind name.now ranks.old ranks.new) }
 {
     if let Some(rank) = names.rank(alloc, kind, name)? {
         ranks.push(rank)?;

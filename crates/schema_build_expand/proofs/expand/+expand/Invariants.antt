@@ -14,4 +14,6 @@ abbrev pub decreases-expand_entries : goal.decreases-expand_entries
 decreases-expand_entries g l = entries_depth g.row.N.Denot l.entries.now + 1
 
 abbrev pub invariant-expand_entries-loop-name : goal.invariant-expand_entries-loop-name
-invariant-expand_entries-loop-name g l = AllZip (EntryExpandsTo (g.R.Meanings.scope l.names) (g.R.Meanings.place l.names)) (take l.name-index l.entries) l.attrs.items
+invariant-expand_entries-loop-name g l =
+    AllZip (EntryExpandsTo (g.R.Meanings.scope l.names) (g.R.Meanings.place l.names))
+    (take l.name-index l.entries) l.attrs.items

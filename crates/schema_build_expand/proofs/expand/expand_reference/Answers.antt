@@ -23,7 +23,8 @@ offset_bounds-done-rank g c =
     let ns = g.R.Meanings.place c.args.names.now in
     let t = subst (IsMeantTarget s ns c.args.kind c.args.name.now) c.in-Common.is c.in_ok-name.ensures in
     let there = c.requires.ready.1 t.0 c.in-Common.rank t.1 t.2 in
-    let lt : c.in-Common.rank < length c.args.done.now = slice_get_within c.args.done.now c.in-Common.rank (Some there.0) there.1 in
+    let lt : c.in-Common.rank < length c.args.done.now =
+    slice_get_within c.args.done.now c.in-Common.rank (Some there.0) there.1 in
     search rules
 
 pub unreachable-requires : goal.unreachable-requires
@@ -45,8 +46,7 @@ returns-in_ok-new-in-Entity g c =
     let s = g.R.Meanings.scope c.args.names.now in
     let ns = g.R.Meanings.place c.args.names.now in
     let name = c.in-Entity.name in
-    let t = subst (IsMeantTarget s ns c.args.kind c.args.name.now) c.in-Entity.is c.in_ok-name.ensures in
-    (
+    let t = subst (IsMeantTarget s ns c.args.kind c.args.name.now) c.in-Entity.is c.in_ok-name.ensures in (
       plain.Entity (components_of name.name),
       to_entity ns c.args.kind c.args.name.now (components_of name.name) t,
       (name, ap Entity (c.in_ok-new-in-Entity.ensures ∙ c.new.ensures), refl),
@@ -70,7 +70,9 @@ returns-in-Some g c =
     let t = subst (IsMeantTarget s ns c.args.kind c.args.name.now) c.in-Common.is c.in_ok-name.ensures in
     let there = c.requires.ready.1 t.0 rank t.1 t.2 in
     let lt : rank < length done = slice_get_within done rank (Some there.0) there.1 in
-    let at : slice_get done rank ≡ Some (Some ty) = slice_get_read done (length done) rank found refl lt c.index-done-rank.is ∙ ap Some c.in-Some.is in
-    let made = reference_made g.row.N.Denot s ns done c.args.kind c.args.name.now t.0 rank ty c.requires.done t.1 t.2 at in
+    let at : slice_get done rank ≡ Some (Some ty) =
+    slice_get_read done (length done) rank found refl lt c.index-done-rank.is ∙ ap Some c.in-Some.is in
+    let made =
+    reference_made g.row.N.Denot s ns done c.args.kind c.args.name.now t.0 rank ty c.requires.done t.1 t.2 at in
     if_ok (λ copy. copy ≡ ty) (ReferenceExpandsTo s ns c.args.kind c.args.name.now) c.clone_in.result
     (λ copy e. subst (ReferenceExpandsTo s ns c.args.kind c.args.name.now) (sym e) made) c.clone_in.ensures

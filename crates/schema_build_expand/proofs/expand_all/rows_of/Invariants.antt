@@ -8,5 +8,6 @@ use Rattle.schema_build_expand.proofs.expand_all.rows_of.Given as goal
 abbrev pub invariant-loop-names : goal.invariant-loop-names
 invariant-loop-names g l = record {
   same : length l.rows.items ≡ l.names-index;
-  each : (k : ℕ) (row : Vec ℕ Global) → slice_get l.rows.items k ≡ Some row → (c : _) → slice_get l.commons k ≡ Some c → AreMeantRanks g.s (g.R.Meanings.place c.0) (parts c.1.now) row.items;
+  each : (k : ℕ) (row : Vec ℕ Global) → slice_get l.rows.items k ≡ Some row → (c : _)
+      → slice_get l.commons k ≡ Some c → AreMeantRanks g.s (g.R.Meanings.place c.0) (parts c.1.now) row.items;
 }

@@ -9,7 +9,8 @@ returns-in_ok-push g c =
     let s = g.R.Meanings.scope c.args.names.now in
     let ns = g.R.Meanings.place c.args.names.now in
     let meant = subst (IsRankOf s ns c.args.kind c.args.name.now) c.in-Some.is c.in_ok-rank.ensures in
-    adds_rank s ns c.args.kind c.args.name.now c.in-Some.rank c.args.ranks.now.items c.push.new.self.items meant c.in_ok-push.ensures.items
+    adds_rank s ns c.args.kind c.args.name.now c.in-Some.rank c.args.ranks.now.items c.push.new.self.items meant
+    c.in_ok-push.ensures.items
 
 pub returns-in_default : goal.returns-in_default
 returns-in_default g c =

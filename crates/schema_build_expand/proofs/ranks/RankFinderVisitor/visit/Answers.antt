@@ -11,7 +11,8 @@ returns-in_default g c =
     record {
       taken = (
         refl,
-        adds_nothing s ns (part_of c.args.part) finder.ranks.items (never_at s ns c.args.part c.in_default.not-TypeReference),
+        adds_nothing s ns (part_of c.args.part) finder.ranks.items
+            (never_at s ns c.args.part c.in_default.not-TypeReference),
       );
       refused = tt;
     }
