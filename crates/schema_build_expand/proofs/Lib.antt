@@ -1,0 +1,9 @@
+mod Deep
+mod Depths
+mod Done
+mod Layers
+mod Linked
+mod Made
+mod Once
+mod Ranked
+mod Walked

@@ -1,0 +1,141 @@
+-- The graph of ranks and what refers to what.
+use Rattle.std.proofs.Common.{◌≡◌, ℕ, ◌+◌, ◌<◌, List, [], ◌∷◌, ◌++◌, length, get_or, take, refl, sym, ap, ◌∙◌, subst, arith, Contains, Vec, Option, Some, None, inl, inr, Result, Ok, Err}
+use Rattle.std.specs.Prelude.{slice_get, IfErr}
+use Rattle.std.specs.Result.{IsErrAnd}
+use Rattle.std.specs.Borrow.{Bor}
+use Rattle.std.specs.Option.{option_map_or}
+use Rattle.std.specs.declared.alloc.Global.{Global}
+use Rattle.std.proofs.lemmas.List.{get_or_append_left, length-append, get_or_default}
+use Rattle.std.proofs.Math.Seq.{get_or-append_seam}
+use Rattle.std.proofs.lemmas.List.Elements.{All-weaker, All-contains}
+use Rattle.std.proofs.lemmas.Option.{slice_get_within, get_or_from_slice_get, slice_get_read}
+use Rattle.std.proofs.lemmas.Bool.{cases_lt}
+use Rattle.cedar_identifiers.specs.declared.internal_name.InternalName.{InternalName}
+use Rattle.schema_json.specs.declared.types.Type.{«Type»}
+use Rattle.schema_build_graph.specs.Order.{IsOrder, IsLeastFault}
+use Rattle.schema_build_graph.specs.declared.order_fault.OrderFault.{OrderFault}
+use Rattle.schema_build_graph.specs.declared.order_fault.OrderFault.TheVariants.{Cycle, Memory}
+use Rattle.schema_build_graph.specs.Paths.{Leads, Reaches}
+use Rattle.schema_build_graph.specs.Graph.{targets_of, HasEdge, InRange}
+use Rattle.schema_json_walk.specs.Parts.{Part, type_reference, context_reference, parent, principal, resource, action_parent, extension_type, open_record, action_attributes, external_not_bare}
+use Rattle.schema_json_walk.specs.Walk.{parts}
+use Rattle.schema_build_expand.specs.Scope.{Scope, IsRanked}
+use Rattle.schema_build_expand.specs.Commons.{AreBehind, IsBehind}
+use Rattle.schema_build_expand.specs.Ranks.{AreMeantRanks, RefersTo}
+use Rattle.schema_build_expand.specs.Rows.{AreMeantRows, AreMeant, IsMeant, RefersBy, IsCycleFault}
+
+-- one row more
+pub each_push : {X : Type 0} (P : ℕ → X → Type 0) (xs ys : List X) (x : X) (n : ℕ) → length xs ≡ n
+    → ys ≡ xs ++ x ∷ [] → ((k : ℕ) (y : X) → slice_get xs k ≡ Some y → P k y) → P n x
+    → (k : ℕ) (y : X) → slice_get ys k ≡ Some y → P k y
+each_push {X} P xs ys x n e grown old new k y at =
+    let within : k < length ys = slice_get_within ys k y at in
+    let long : length ys ≡ n + 1 = ap length grown ∙ length-append xs (x ∷ []) ∙ ap (λ m. m + 1) e in
+    let here : get_or (xs ++ x ∷ []) k y ≡ y =
+    ap (λ zs. get_or zs k y) (sym grown) ∙ get_or_from_slice_get ys k y y at in
+    elim (cases_lt k n) [
+      | inl a ↦ old k y (slice_get_read xs (length xs) k y refl (omega arith)
+          (sym here ∙ get_or_append_left xs (x ∷ []) y k (omega arith)))
+      | inr b ↦
+          let last : k ≡ length xs = omega arith in
+          let same : x ≡ y =
+          sym (get_or-append_seam xs x [] y) ∙ ap (λ i. get_or (xs ++ x ∷ []) i y) (sym last) ∙ here in
+          subst (λ i. P i y) (sym (last ∙ e)) (subst (P n) same new)
+    ]
+
+-- steps of one kind are steps of another
+leads_as : {A : Type 0} (E F : A → A → Type 0) → ((x y : A) → E x y → F x y) → (steps : List A) (a b : A)
+    → Leads E a steps b → Leads F a steps b
+leads_as E F f [] a b e = e
+leads_as E F f (c ∷ steps) a b l = (f a c l.0, leads_as E F f steps c b l.1)
+
+pub reaches_as : {A : Type 0} (E F : A → A → Type 0) → ((x y : A) → E x y → F x y) → (a b : A) → Reaches E a b
+    → Reaches F a b
+reaches_as E F f a b r = (r.0, r.1, leads_as E F f (r.0 ∷ r.1) a b r.2)
+
+at_some : {X : Type 0} (xs : List X) (i : ℕ) → i < length xs → (x : X) × (slice_get xs i ≡ Some x)
+at_some [] i h = absurd (omega arith)
+at_some (y ∷ ys) i h = (
+  get_or (y ∷ ys) i y,
+  slice_get_read (y ∷ ys) (length (y ∷ ys)) i (get_or (y ∷ ys) i y) refl h
+      (get_or_default (y ∷ ys) i y (get_or (y ∷ ys) i y) h),
+)
+
+edge_below : (graph : List (Vec ℕ Global)) (x y : ℕ) (row : Option (Vec ℕ Global)) → slice_get graph x ≡ row
+    → Contains (option_map_or (λ r. r.items) row []) y → x < length graph
+edge_below graph x y None e c = absurd (let lt : c.0 < 0 = c.1 in omega arith)
+edge_below graph x y (Some row) e c = slice_get_within graph x row e
+
+module _ {N R : Type 0} (s : Scope N) (place : R → Option InternalName) (commons : List (R × Bor («Type» N)))
+    (rows : List (Vec ℕ Global)) (are : AreMeantRows s place commons rows) where
+  ranks_at : (a : ℕ) (c : R × Bor («Type» N)) → slice_get commons a ≡ Some c
+      → AreMeantRanks s (place c.0) (parts c.1.now) (targets_of rows a)
+  ranks_at a c at =
+      let r = at_some rows a (omega (arith, slice_get_within commons a c at, are.same)) in
+      subst (AreMeantRanks s (place c.0) (parts c.1.now))
+      (sym (ap (λ o. option_map_or (λ (v : Vec ℕ Global). v.items) o []) r.1)) (are.each a r.0 r.1 c at)
+
+  ranked_below : (full : List (List ℕ)) (k : ℕ) → IsRanked s full k → k < length s.commons
+  ranked_below full k ranked = slice_get_within s.commons k ranked.0 ranked.1
+
+  pub in_range : length s.commons ≡ length commons → InRange (length rows) rows
+  in_range count k d h =
+      let row = get_or rows k d in
+      let c = at_some commons k (omega (arith, h, are.same)) in
+      let ranks =
+      are.each k row (slice_get_read rows (length rows) k row refl h (get_or_default rows k d row h)) c.0 c.1 in
+      All-weaker (RefersTo s (place c.0.0) (parts c.0.1.now)) (λ v. v < length rows)
+      (λ v r. omega (arith, ranked_below r.3.0 v r.3.2, count, are.same)) row.items ranks.sound
+
+  -- the part is among those whose ranks are before
+  part_behind : (ns : Option InternalName) (ps : List (Part N)) (before : List ℕ)
+      → ((k : ℕ) → RefersTo s ns ps k → Contains before k) → (p : Part N) → Contains ps p → IsMeant s ns p
+      → IsBehind s before ns p
+  part_behind ns ps before grow (type_reference kind name) c m =
+      (m, λ full k meant ranked. grow k (kind, name, c, (full, meant, ranked)))
+  part_behind ns ps before grow (extension_type name) c m = m
+  part_behind ns ps before grow (context_reference name) c m = m
+  part_behind ns ps before grow (parent name) c m = m
+  part_behind ns ps before grow (principal name) c m = m
+  part_behind ns ps before grow (resource name) c m = m
+  part_behind ns ps before grow (action_parent id ty) c m = m
+  part_behind ns ps before grow open_record c m = m
+  part_behind ns ps before grow (action_attributes names) c m = m
+  part_behind ns ps before grow external_not_bare c m = m
+
+  pub behind : (order : List ℕ) → IsOrder rows order → AreMeant s place commons → AreBehind s place commons order
+  behind order o meant i c lt at k d h =
+      let v = get_or order i 0 in
+      let ps = parts c.1.now in
+      let ranks = ranks_at v c at in
+      let inside : Contains ps (get_or ps k d) = (k, h, sym (get_or_default ps k d (get_or ps k d) h)) in
+      part_behind (place c.0) ps (take i order)
+      (λ j r. All-contains (Contains (take i order)) (targets_of rows v) j (o.behind i lt) (ranks.whole j r))
+      (get_or ps k d) inside (meant v c at k d h)
+
+  edge_refers : (a b : ℕ) → HasEdge rows a b → RefersBy s place commons a b
+  edge_refers a b e =
+      let c = at_some commons a (omega (arith, edge_below rows a b (slice_get rows a) refl e, are.same)) in (
+        c.0,
+        c.1,
+        All-contains (RefersTo s (place c.0.0) (parts c.0.1.now)) (targets_of rows a) b
+            (ranks_at a c.0 c.1).sound e,
+      )
+
+  refers_edge : (a b : ℕ) → RefersBy s place commons a b → HasEdge rows a b
+  refers_edge a b r = (ranks_at a r.0 r.1).whole b r.2
+
+  pub cycle_fault : (fault : OrderFault) → IsLeastFault rows fault → IsCycleFault s place commons fault
+  cycle_fault (Cycle v) h = record {
+    round = reaches_as (HasEdge rows) (RefersBy s place commons) edge_refers v v h.cyclic;
+    least = λ u r. h.least u (reaches_as (RefersBy s place commons) (HasEdge rows) refers_edge u u r);
+  }
+  cycle_fault Memory h = tt
+
+pub refused : {T : Type 0} (P : OrderFault → Type 0) (r : Result T OrderFault) (e : OrderFault)
+    → IsErrAnd r (λ y. y ≡ e) → P e → IfErr r P
+refused P (Ok x) e h k = tt
+refused P (Err y) e h k = subst P (sym h) k
+
+pub some_is : {A : Type 0} (a b : A) → Some a ≡ Some b → a ≡ b
+some_is a b e = cc
