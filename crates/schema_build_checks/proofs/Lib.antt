@@ -1,2 +1,3 @@
 mod Leasts
 mod Stops
+mod Lawful

@@ -1,4 +1,4 @@
 mod Actions
 mod Builtins
-pub mod Sets
+mod Sets
 mod Types
