@@ -1,3 +1,2 @@
 mod Leasts
 mod Stops
-mod Lawful

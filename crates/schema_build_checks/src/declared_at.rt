@@ -1,11 +1,9 @@
 ghost use Rattle.std.specs.Prelude.{◌≡◌, codes, IfOk};
 ghost use Rattle.std.specs.Str.{bytes_eq};
-ghost use Rattle.schema_resolve_definitions.specs.Declarations.{action_type, alone};
 ghost use Rattle.schema_build_checks.specs.DeclaredAt.{declared_at};
 
 use cedar_data::{CloneIn, List, Loc};
 use cedar_identifiers::{Id, InternalName, Name};
-use schema_json::action_uid::action_name;
 use schema_resolve_definitions::declared::name_of;
 use std::alloc::{AllocError, Global};
 
@@ -31,24 +29,4 @@ pub(crate) fn is_action_word(word: &str) -> bool
     ensures { result ≡ bytes_eq word.now (codes "Action") }
 {
     word == "Action"
-}
-
-// The word as a name, without a place.
-pub(crate) fn alone(alloc: Global, id: &Id) -> Result<InternalName, AllocError>
-    ensures { IfOk result (λ word. word ≡ alone id.now) }
-{
-    Ok(InternalName {
-        first: id.clone_in(alloc)?,
-        others: List::new(alloc),
-        loc: None,
-    })
-}
-
-// The type of the actions of a namespace.
-pub(crate) fn action_type(alloc: Global, ns: &Option<Name>) -> Result<Name, AllocError>
-    ensures { IfOk result (λ ty. ty.name ≡ action_type ns.now) }
-{
-    let plain = action_name(alloc)?;
-    let name = plain.qualify_with(alloc, name_of(ns))?;
-    Ok(Name { name })
 }

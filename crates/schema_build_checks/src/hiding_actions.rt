@@ -6,7 +6,6 @@ ghost use Rattle.schema_build_checks.specs.DeclaredAt.{at_of, hiding_action, hid
 ghost use Rattle.schema_build_checks.specs.DeclaredTwice.{IsPlainAction, ActionHides};
 ghost use Rattle.schema_build_checks.specs.Rows.{Never, OrMemory};
 
-use crate::declared_at::action_type;
 use crate::least::least;
 use cedar_data::{CloneIn, Text};
 use cedar_identifiers::{Eid, Name, RawName};
@@ -14,6 +13,7 @@ use cedar_names::{AllDefs, EntityUID};
 use schema_build_errors::{ActionShadowingError, SchemaError};
 use schema_json::action_uid::action_name;
 use schema_json::{ActionType, Fragment, NamespaceDefinition};
+use schema_resolve_definitions::declared::action_type;
 use std::alloc::{AllocError, Global};
 
 /// Refuses a fragment in which an action of a named namespace has the id of an action of the empty one, and names the least

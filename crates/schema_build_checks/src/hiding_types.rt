@@ -7,12 +7,14 @@ ghost use Rattle.schema_build_checks.specs.DeclaredAt.{hiding_common, hiding_ent
 ghost use Rattle.schema_build_checks.specs.DeclaredTwice.{IsBasenameOf, TypeHides};
 ghost use Rattle.schema_build_checks.specs.Rows.{Never, OrMemory};
 
-use crate::declared_at::{alone, declared_at};
+use crate::declared_at::declared_at;
 use crate::least::least;
+use cedar_data::CloneIn;
 use cedar_identifiers::{Id, InternalName, Name, RawName, UnreservedId};
 use cedar_names::AllDefs;
 use schema_build_errors::{SchemaError, TypeShadowingError};
 use schema_json::{CommonType, CommonTypeId, EntityType, Fragment, NamespaceDefinition};
+use schema_resolve_definitions::declared::alone;
 use std::alloc::{AllocError, Global};
 
 /// Refuses a fragment in which a type of a named namespace has the name of a type of the empty one, and names the least of
@@ -103,7 +105,7 @@ fn push_hiding_entities(
 fn is_hidden(alloc: Global, defs: &AllDefs, id: &Id) -> Result<bool, AllocError>
     ensures { IfOk result (λ hidden. hidden ≡ is_hidden (tests_of defs.now) id.now.text) }
 {
-    let word = alone(alloc, id)?;
+    let word = alone(alloc, id.clone_in(alloc)?);
     Ok(defs.is_defined_as_common(&word) || defs.is_defined_as_entity(&word))
 }
 
@@ -112,13 +114,7 @@ fn basename(alloc: Global, name: &InternalName) -> Result<InternalName, AllocErr
     ensures { IfOk result (λ word. IsBasenameOf name.now word) }
 {
     match name.others.as_slice().split_last() {
-        Some((id, _)) => {
-            let word = alone(alloc, id)?;
-            Ok(word)
-        }
-        None => {
-            let word = alone(alloc, &name.first)?;
-            Ok(word)
-        }
+        Some((id, _)) => Ok(alone(alloc, id.clone_in(alloc)?)),
+        None => Ok(alone(alloc, name.first.clone_in(alloc)?)),
     }
 }

@@ -6,7 +6,6 @@ ghost use Rattle.schema_build_checks.specs.Refusing.{IsAboutFirst, GivenNothing,
 ghost use Rattle.schema_build_checks.specs.Rows.{OrMemory};
 ghost use Rattle.schema_build_checks.specs.WalkFaults.{unknown_extension, unsupported, NamesExtension, NamesFeature};
 
-use crate::declared_at::alone;
 use cedar_data::{CloneIn, List};
 use cedar_identifiers::{Name, RawName, UnreservedId};
 use cedar_names::ExtensionTable;
@@ -14,6 +13,7 @@ use schema_build_errors::{
     SchemaError, UnknownExtensionTypeError, UnsupportedFeature, UnsupportedFeatureError,
 };
 use schema_json_walk::{LentPart, Visitor};
+use schema_resolve_definitions::declared::alone;
 use std::alloc::{AllocError, Global};
 
 // Refuses the first extension type that is not in the table.
@@ -61,7 +61,7 @@ fn check_extension(
 fn unknown(alloc: Global, id: &UnreservedId) -> Result<SchemaError, AllocError>
     ensures { IfOk result (λ e. NamesExtension id.now e) }
 {
-    let name = alone(alloc, &id.id)?;
+    let name = alone(alloc, id.id.clone_in(alloc)?);
     let actual = Name { name };
     Ok(SchemaError::UnknownExtensionType(UnknownExtensionTypeError { actual }))
 }

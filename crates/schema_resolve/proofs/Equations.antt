@@ -1,8 +1,6 @@
--- Records within types, replaced and walked.
-use Rattle.std.proofs.Common.{◌≡◌, List, Option, ap, sym, ◌∙◌}
+-- Records within types, replaced.
+use Rattle.std.proofs.Common.{◌≡◌, Option, ap, sym, ◌∙◌}
 use Rattle.cedar_data.specs.declared.loc.Loc.{Loc}
-use Rattle.cedar_identifiers.specs.declared.reference_type.ReferenceType.{ReferenceType}
-use Rattle.schema_json.proofs.Walks.{values_walked}
 use Rattle.schema_json.specs.declared.types.Type.{«Type», Type-F, roll-Type}
 use Rattle.schema_json.specs.declared.types.Type.TheVariants.{Variant, rolls-Variant}
 use Rattle.schema_json.specs.declared.types.TypeVariant.{TypeVariant-F, fold-roll-TypeVariant}
@@ -10,7 +8,6 @@ use Rattle.schema_json.specs.declared.types.TypeVariant.TheVariants.{Record, rol
 use Rattle.schema_json.specs.declared.types.RecordType.{RecordType, out-RecordType, roll-RecordType, fold_out-RecordType}
 use Rattle.schema_json.specs.declared.types.TypeOfAttribute.{TypeOfAttribute}
 use Rattle.schema_resolve.specs.Renamed.{Renaming, new_type, new_shape, new_record, new_attribute, renamed_at, renamed_record, renamed_entries}
-use Rattle.schema_resolve.specs.Walk.{type_part, variant_part, record_part, attribute_part, of_variant, of_record, of_attribute, of_entries}
 
 module _ {N M : Type 0} (f : Renaming N M) where
   pub record_renamed : (r : RecordType N)
@@ -21,10 +18,3 @@ module _ {N M : Type 0} (f : Renaming N M) where
       → renamed_at f (Record r) loc ≡ Variant (Record (renamed_record f r)) loc
   record_renamed_at r loc =
       ap (λ v. renamed_at f v loc) (sym (rolls-Record r)) ∙ ap (λ (at : Option Loc → «Type» M). at loc) (fold-roll-TypeVariant N («Type» M) (Option Loc → «Type» M) (RecordType M) (TypeOfAttribute M) (new_type f) (new_shape f) (new_record f) (new_attribute f) (TypeVariant-F.Record r)) ∙ ap (λ v. roll-Type M (Type-F.Variant v loc)) (rolls-Record (renamed_record f r)) ∙ rolls-Variant (Record (renamed_record f r)) loc
-
-module _ {N U : Type 0} (u : ReferenceType → N → List U) where
-  pub record_walked : (r : RecordType N) → of_record u r ≡ of_entries u (out-RecordType N r).attributes
-  record_walked r = fold_out-RecordType N (List U) (List U) (List U) (List U) (type_part u) (variant_part u) (record_part u) (attribute_part u) r ∙ values_walked (of_attribute u) (out-RecordType N r).attributes
-
-  pub variant_walked : (r : RecordType N) → of_variant u (Record r) ≡ of_record u r
-  variant_walked r = ap (of_variant u) (sym (rolls-Record r)) ∙ fold-roll-TypeVariant N (List U) (List U) (List U) (List U) (type_part u) (variant_part u) (record_part u) (attribute_part u) (TypeVariant-F.Record r)

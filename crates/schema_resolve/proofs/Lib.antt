@@ -1,4 +1,7 @@
+mod Candidates
 mod Equations
 mod First
+mod Gathering
 mod Lists
 mod Meant
+pub mod Told

@@ -10,6 +10,7 @@ use Rattle.schema_json.specs.Actions.{action_name}
 use Rattle.schema_json.specs.declared.types.Type.{«Type»}
 use Rattle.schema_resolve_definitions.specs.Tests.{Tests}
 use Rattle.schema_resolve.specs.Qualified.{in_namespace}
+use Rattle.schema_resolve.specs.ReferenceParts.{GivenBy}
 use Rattle.schema_resolve.specs.References.{reference_to}
 use Rattle.schema_resolve.specs.Renamed.{Renaming}
 use Rattle.schema_resolve.specs.Targets.{is_defined}
@@ -27,12 +28,16 @@ designating t = record { name = λ kind name. name; either = designated_referenc
 abbrev pub type_as_written : List ℕ → Option InternalName → InternalName
 type_as_written id ty = unwrap_or ty action_name
 
+-- the name as a reference that may mean either kind
+abbrev pub either_kind : InternalName → Undefined
+either_kind name = type_reference (in_namespace None CommonOrEntity (record { name = name }))
+
 -- a name that stands where either kind may, and is neither
-abbrev pub undesignated : Tests → ReferenceType → InternalName → List Undefined
-undesignated t Common name = []
-undesignated t Entity name = []
-undesignated t CommonOrEntity name = if is_defined t CommonOrEntity (components_of name) then [] else type_reference (in_namespace None CommonOrEntity (record { name = name })) ∷ []
+abbrev pub undesignated_type : Tests → ReferenceType → InternalName → List Undefined
+undesignated_type t Common name = []
+undesignated_type t Entity name = []
+undesignated_type t CommonOrEntity name = if is_defined t CommonOrEntity (components_of name) then [] else either_kind name ∷ []
 
 -- no action is asked for
-abbrev pub no_action : List ℕ → Option InternalName → List Undefined
-no_action id ty = []
+abbrev pub undesignated : Tests → GivenBy InternalName Undefined
+undesignated t = record { types = undesignated_type t; actions = λ id ty. [] }

@@ -1,11 +1,13 @@
 pub mod Designated
 pub mod Faults
 pub mod FirstCandidate
+pub mod Gathered
 pub mod Meanings
 pub mod Qualified
+pub mod ReferenceParts
 pub mod References
 pub mod Renamed
 pub mod Resolved
 pub mod Targets
+pub mod Tried
 pub mod Undefined
-pub mod Walk

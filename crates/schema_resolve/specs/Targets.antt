@@ -8,6 +8,7 @@ use Rattle.cedar_identifiers.specs.declared.internal_name.InternalName.{Internal
 use Rattle.cedar_identifiers.specs.declared.conditional_name.ConditionalName.{ConditionalName}
 use Rattle.schema_resolve_definitions.specs.Tests.{Tests}
 use Rattle.schema_json.specs.Actions.{action_name}
+use Rattle.schema_resolve.specs.ReferenceParts.{GivenBy}
 use Rattle.schema_resolve.specs.References.{either_way}
 use Rattle.schema_resolve.specs.Renamed.{Renaming}
 use Rattle.schema_resolve.specs.Undefined.{Undefined, type_reference, action_reference}
@@ -49,9 +50,13 @@ unless None u = u ∷ []
 unless (Some a) u = []
 
 -- the reference, where it has no target
-abbrev pub untargeted : Tests → ReferenceType → ConditionalName → List Undefined
-untargeted t role c = unless (target t c) (type_reference c)
+abbrev pub untargeted_type : Tests → ConditionalName → List Undefined
+untargeted_type t c = unless (target t c) (type_reference c)
 
 -- the reference to an action, where it has no target
 abbrev pub untargeted_action : Tests → List ℕ → Option ConditionalName → List Undefined
 untargeted_action t id ty = unless (action_target t id ty) (action_reference id ty)
+
+-- a reference, where it has no target
+abbrev pub untargeted : Tests → GivenBy ConditionalName Undefined
+untargeted t = record { types = λ role c. untargeted_type t c; actions = untargeted_action t }

@@ -1,11 +1,12 @@
 ghost use Rattle.std.specs.Prelude.{◌≡◌, [], List, IfOk, IfErr, OnOk};
 ghost use Rattle.cedar_names.specs.Definitions.{Definitions};
 ghost use Rattle.schema_resolve_definitions.specs.Tests.{tests_of};
-ghost use Rattle.schema_resolve.specs.Designated.{designating, type_as_written, undesignated, no_action};
+ghost use Rattle.schema_resolve.specs.Designated.{designating, type_as_written, undesignated};
 ghost use Rattle.schema_resolve.specs.Faults.{NamesFirst};
+ghost use Rattle.schema_resolve.specs.ReferenceParts.{by_reference};
 ghost use Rattle.schema_resolve.specs.Renamed.{renamed, renamed_namespace, renamed_fragment};
 ghost use Rattle.schema_resolve.specs.Undefined.{Undefined};
-ghost use Rattle.schema_resolve.specs.Walk.{of_type, of_namespace, of_fragment};
+ghost use Rattle.schema_json_walk.specs.Walk.{of_type, of_namespace, of_fragment};
 
 use crate::designator::Designator;
 use crate::rename_fragments::{FragmentRenamer, rename_fragment};
@@ -40,7 +41,7 @@ pub trait Designate {
 impl Designate for Type<InternalName> {
     ghost designated = { λ d. renamed (designating (tests_of d)) };
 
-    ghost undesignated = { λ d. of_type (undesignated (tests_of d)) };
+    ghost undesignated = { λ d. of_type (by_reference (undesignated (tests_of d))) };
 
     fn resolve_entity_or_common_types(
         self,
@@ -54,7 +55,7 @@ impl Designate for Type<InternalName> {
 impl Designate for NamespaceDefinition<InternalName> {
     ghost designated = { λ d. renamed_namespace (designating (tests_of d)) type_as_written };
 
-    ghost undesignated = { λ d. of_namespace (undesignated (tests_of d)) no_action };
+    ghost undesignated = { λ d. of_namespace (by_reference (undesignated (tests_of d))) };
 
     fn resolve_entity_or_common_types(
         self,
@@ -72,8 +73,6 @@ impl<'a> FragmentRenamer<InternalName, InternalName> for Designator<'a> {
 
     ghost untargeted_in = { λ d _. undesignated (tests_of d.defs.now) };
 
-    ghost untargeted_action_in = { λ _ _. no_action };
-
     fn rename_in(
         &self,
         alloc: Global,
@@ -87,7 +86,7 @@ impl<'a> FragmentRenamer<InternalName, InternalName> for Designator<'a> {
 impl Designate for Fragment<InternalName> {
     ghost designated = { λ d. renamed_fragment (λ _. designating (tests_of d)) (λ _. type_as_written) };
 
-    ghost undesignated = { λ d. of_fragment (λ _. undesignated (tests_of d)) (λ _. no_action) };
+    ghost undesignated = { λ d. of_fragment (λ _. by_reference (undesignated (tests_of d))) };
 
     fn resolve_entity_or_common_types(
         self,

@@ -1,17 +1,19 @@
-ghost use Rattle.std.specs.Prelude.{◌≡◌, [], OnOk, IfErr};
+ghost use Rattle.std.specs.Prelude.{◌≡◌, [], ◌∷◌, None, IfOk, OnOk, IfErr};
+ghost use Rattle.cedar_identifiers.specs.Names.{components_of};
 ghost use Rattle.schema_resolve_definitions.specs.Tests.{tests_of};
-ghost use Rattle.schema_resolve.specs.Designated.{designating, type_as_written, undesignated, no_action};
+ghost use Rattle.schema_resolve.specs.Designated.{designating, type_as_written, undesignated_type, undesignated};
 ghost use Rattle.schema_resolve.specs.Faults.{NamesFirst};
+ghost use Rattle.schema_resolve.specs.Qualified.{in_namespace};
 ghost use Rattle.schema_resolve.specs.References.{reference_to};
 
-use crate::renamer::{ActionRenamer, Renamer};
-use crate::targets::is_defined;
+use crate::renamer::Renamer;
+use crate::tried::kind_of;
 use cedar_data::{CloneIn, Loc, NonEmpty};
 use cedar_identifiers::{InternalName, RawName, ReferenceType};
 use cedar_names::AllDefs;
 use schema_json::{ActionEntityUID, Type, TypeVariant};
 use schema_resolve_errors::{ResolveError, TypeNotDefinedError};
-use std::alloc::Global;
+use std::alloc::{AllocError, Global};
 
 // What each name is that a reference may mean either way.
 #[derive(Drop)]
@@ -21,6 +23,8 @@ pub(crate) struct Designator<'a> {
 
 impl<'a> Renamer<InternalName, InternalName> for Designator<'a> {
     ghost becomes = { λ d. designating (tests_of d.defs.now) };
+
+    ghost action_becomes = { λ _. type_as_written };
 
     ghost untargeted = { λ d. undesignated (tests_of d.defs.now) };
 
@@ -45,16 +49,10 @@ impl<'a> Renamer<InternalName, InternalName> for Designator<'a> {
         name: &InternalName,
         loc: Option<Loc>,
     ) -> Result<Type<InternalName>, ResolveError> {
-        look_up(alloc, self.defs, name)?;
+        let is_common = look_up(alloc, self.defs, name)?;
         let copy = name.clone_in(alloc)?;
-        Ok(reference_to(self.defs.is_defined_as_common(name), copy, loc))
+        Ok(reference_to(is_common, copy, loc))
     }
-}
-
-impl<'a> ActionRenamer<InternalName, InternalName> for Designator<'a> {
-    ghost action_becomes = { λ _. type_as_written };
-
-    ghost untargeted_action = { λ _. no_action };
 
     fn rename_action(
         &self,
@@ -65,19 +63,27 @@ impl<'a> ActionRenamer<InternalName, InternalName> for Designator<'a> {
     }
 }
 
-// The error of a name that is neither a common type nor an entity type.
-fn look_up(alloc: Global, defs: &AllDefs, name: &InternalName) -> Result<(), ResolveError>
-    ensures defined { OnOk result (undesignated (tests_of defs.now) ReferenceType.CommonOrEntity name.now ≡ []) }
-    ensures err { IfErr result (NamesFirst (undesignated (tests_of defs.now) ReferenceType.CommonOrEntity name.now)) }
+// Whether the name is a common type, where it is one or an entity type.
+fn look_up(alloc: Global, defs: &AllDefs, name: &InternalName) -> Result<bool, ResolveError>
+    ensures found { IfOk result (λ is_common. is_common ≡ (tests_of defs.now).is_common (components_of name.now)) }
+    ensures defined { OnOk result (undesignated_type (tests_of defs.now) ReferenceType.CommonOrEntity name.now ≡ []) }
+    ensures err { IfErr result (NamesFirst (undesignated_type (tests_of defs.now) ReferenceType.CommonOrEntity name.now)) }
 {
-    if is_defined(defs, ReferenceType::CommonOrEntity, name) {
-        return Ok(());
+    match kind_of(defs, ReferenceType::CommonOrEntity, name) {
+        Some(is_common) => Ok(is_common),
+        None => Err(ResolveError::TypeNotDefined(neither(alloc, name)?)),
     }
+}
+
+// The error of a name that is neither a common type nor an entity type.
+fn neither(alloc: Global, name: &InternalName) -> Result<TypeNotDefinedError, AllocError>
+    ensures { IfOk result (λ error. error.undefined_types ≡ in_namespace None ReferenceType.CommonOrEntity (record { name = name.now }) ∷ []) }
+{
     let raw = RawName::from_internal(name.clone_in(alloc)?);
     let undefined = raw.conditionally_qualify_with(alloc, None, ReferenceType::CommonOrEntity)?;
-    Err(ResolveError::TypeNotDefined(TypeNotDefinedError {
+    Ok(TypeNotDefinedError {
         undefined_types: NonEmpty::new(alloc, undefined),
-    }))
+    })
 }
 
 // A reference to a common type, or to an entity type.

@@ -3,9 +3,10 @@ ghost use Rattle.cedar_names.specs.Definitions.{Definitions};
 ghost use Rattle.schema_resolve_definitions.specs.Tests.{tests_of};
 ghost use Rattle.schema_resolve.specs.Undefined.{Undefined};
 ghost use Rattle.schema_resolve.specs.Faults.{NamesFirst};
-ghost use Rattle.schema_resolve.specs.Targets.{resolving, action_target_name, untargeted, untargeted_action};
+ghost use Rattle.schema_resolve.specs.Targets.{resolving, action_target_name, untargeted};
+ghost use Rattle.schema_resolve.specs.ReferenceParts.{by_reference};
 ghost use Rattle.schema_resolve.specs.Renamed.{renamed, renamed_variant, renamed_record, renamed_attribute, renamed_context, renamed_entity, renamed_apply, renamed_uid, renamed_action, renamed_namespace};
-ghost use Rattle.schema_resolve.specs.Walk.{of_type, of_variant, of_record, of_attribute, of_context, of_entity, of_apply, of_uid, of_action, of_namespace};
+ghost use Rattle.schema_json_walk.specs.Walk.{of_type, of_variant, of_record, of_attribute, of_entity, of_apply, of_uid, of_action, of_namespace};
 
 use crate::rename_items::{rename_action, rename_apply, rename_context, rename_entity, rename_uid};
 use crate::rename_namespaces::rename_namespace;
@@ -45,7 +46,7 @@ impl FullyQualify for Type<ConditionalName> {
 
     ghost resolved = { λ d. renamed (resolving (tests_of d)) };
 
-    ghost undefined = { λ d. of_type (untargeted (tests_of d)) };
+    ghost undefined = { λ d. of_type (by_reference (untargeted (tests_of d))) };
 
     fn fully_qualify_type_references(
         self,
@@ -61,7 +62,7 @@ impl FullyQualify for TypeVariant<ConditionalName> {
 
     ghost resolved = { λ d. renamed_variant (resolving (tests_of d)) };
 
-    ghost undefined = { λ d. of_variant (untargeted (tests_of d)) };
+    ghost undefined = { λ d. of_variant (by_reference (untargeted (tests_of d))) };
 
     fn fully_qualify_type_references(
         self,
@@ -77,7 +78,7 @@ impl FullyQualify for RecordType<ConditionalName> {
 
     ghost resolved = { λ d. renamed_record (resolving (tests_of d)) };
 
-    ghost undefined = { λ d. of_record (untargeted (tests_of d)) };
+    ghost undefined = { λ d. of_record (by_reference (untargeted (tests_of d))) };
 
     fn fully_qualify_type_references(
         self,
@@ -93,7 +94,7 @@ impl FullyQualify for TypeOfAttribute<ConditionalName> {
 
     ghost resolved = { λ d. renamed_attribute (resolving (tests_of d)) };
 
-    ghost undefined = { λ d. of_attribute (untargeted (tests_of d)) };
+    ghost undefined = { λ d. of_attribute (by_reference (untargeted (tests_of d))) };
 
     fn fully_qualify_type_references(
         self,
@@ -109,7 +110,7 @@ impl FullyQualify for AttributesOrContext<ConditionalName> {
 
     ghost resolved = { λ d. renamed_context (resolving (tests_of d)) };
 
-    ghost undefined = { λ d. of_context (untargeted (tests_of d)) };
+    ghost undefined = { λ d context. of_type (by_reference (untargeted (tests_of d))) context.0 };
 
     fn fully_qualify_type_references(
         self,
@@ -125,7 +126,7 @@ impl FullyQualify for EntityType<ConditionalName> {
 
     ghost resolved = { λ d. renamed_entity (resolving (tests_of d)) };
 
-    ghost undefined = { λ d. of_entity (untargeted (tests_of d)) };
+    ghost undefined = { λ d. of_entity (by_reference (untargeted (tests_of d))) };
 
     fn fully_qualify_type_references(
         self,
@@ -141,7 +142,7 @@ impl FullyQualify for ApplySpec<ConditionalName> {
 
     ghost resolved = { λ d. renamed_apply (resolving (tests_of d)) };
 
-    ghost undefined = { λ d. of_apply (untargeted (tests_of d)) };
+    ghost undefined = { λ d. of_apply (by_reference (untargeted (tests_of d))) };
 
     fn fully_qualify_type_references(
         self,
@@ -157,7 +158,7 @@ impl FullyQualify for ActionEntityUID<ConditionalName> {
 
     ghost resolved = { λ d. renamed_uid (resolving (tests_of d)) (action_target_name (tests_of d)) };
 
-    ghost undefined = { λ d. of_uid (untargeted (tests_of d)) (untargeted_action (tests_of d)) };
+    ghost undefined = { λ d. of_uid (by_reference (untargeted (tests_of d))) };
 
     fn fully_qualify_type_references(
         self,
@@ -173,7 +174,7 @@ impl FullyQualify for ActionType<ConditionalName> {
 
     ghost resolved = { λ d. renamed_action (resolving (tests_of d)) (action_target_name (tests_of d)) };
 
-    ghost undefined = { λ d. of_action (untargeted (tests_of d)) (untargeted_action (tests_of d)) };
+    ghost undefined = { λ d. of_action (by_reference (untargeted (tests_of d))) };
 
     fn fully_qualify_type_references(
         self,
@@ -189,7 +190,7 @@ impl FullyQualify for NamespaceDefinition<ConditionalName> {
 
     ghost resolved = { λ d. renamed_namespace (resolving (tests_of d)) (action_target_name (tests_of d)) };
 
-    ghost undefined = { λ d. of_namespace (untargeted (tests_of d)) (untargeted_action (tests_of d)) };
+    ghost undefined = { λ d. of_namespace (by_reference (untargeted (tests_of d))) };
 
     fn fully_qualify_type_references(
         self,

@@ -4,6 +4,7 @@
 pub mod designate;
 mod designator;
 pub mod fully_qualify;
+pub mod gather;
 pub mod laws;
 pub mod qualify;
 mod rename_fragments;
@@ -15,9 +16,11 @@ pub mod resolve_fragment;
 mod resolver;
 mod scope;
 mod targets;
+mod tried;
 
 pub use designate::Designate;
 pub use fully_qualify::FullyQualify;
+pub use gather::{UndefinedReferences, gather_undefined, gather_undefined_alone};
 pub use qualify::Qualify;
 pub use resolve_fragment::ResolveFragment;
 pub use schema_resolve_definitions::single_fragment;

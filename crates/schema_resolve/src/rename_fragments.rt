@@ -1,10 +1,10 @@
 ghost use Rattle.std.specs.Prelude.{◌≡◌, [], List, ℕ, Option, IfOk, IfErr, OnOk};
 ghost use Rattle.cedar_identifiers.specs.declared.name.Name.{Name};
-ghost use Rattle.cedar_identifiers.specs.declared.reference_type.ReferenceType.{ReferenceType};
 ghost use Rattle.schema_resolve.specs.Faults.{NamesFirst};
 ghost use Rattle.schema_resolve.specs.Renamed.{Renaming, renamed_namespace, renamed_fragment};
 ghost use Rattle.schema_resolve.specs.Undefined.{Undefined};
-ghost use Rattle.schema_resolve.specs.Walk.{of_namespace, of_fragment};
+ghost use Rattle.schema_json_walk.specs.Walk.{of_namespace, of_fragment};
+ghost use Rattle.schema_resolve.specs.ReferenceParts.{GivenBy, by_reference};
 
 use cedar_data::{CloneIn, Map};
 use cedar_identifiers::{Name, NameText};
@@ -18,9 +18,7 @@ pub(crate) trait FragmentRenamer<N: NameText, M: NameText> {
 
     ghost action_becomes_in: { Self → Option Name → List ℕ → Option N → M };
 
-    ghost untargeted_in: { Self → Option Name → ReferenceType → N → List Undefined };
-
-    ghost untargeted_action_in: { Self → Option Name → List ℕ → Option N → List Undefined };
+    ghost untargeted_in: { Self → Option Name → GivenBy N Undefined };
 
     fn rename_in(
         &self,
@@ -29,8 +27,8 @@ pub(crate) trait FragmentRenamer<N: NameText, M: NameText> {
         definition: &NamespaceDefinition<N>,
     ) -> Result<NamespaceDefinition<M>, ResolveError>
         ensures out { IfOk result (λ out. out ≡ renamed_namespace (becomes_in self.now ns.now) (action_becomes_in self.now ns.now) definition.now) }
-        ensures defined { OnOk result (of_namespace (untargeted_in self.now ns.now) (untargeted_action_in self.now ns.now) definition.now ≡ []) }
-        ensures err { IfErr result (NamesFirst (of_namespace (untargeted_in self.now ns.now) (untargeted_action_in self.now ns.now) definition.now)) };
+        ensures defined { OnOk result (of_namespace (by_reference (untargeted_in self.now ns.now)) definition.now ≡ []) }
+        ensures err { IfErr result (NamesFirst (of_namespace (by_reference (untargeted_in self.now ns.now)) definition.now)) };
 }
 
 // A fragment with each name that its declarations use replaced.
@@ -40,8 +38,8 @@ pub(crate) fn rename_fragment<N: NameText, M: NameText + Drop, R: FragmentRename
     fragment: &Fragment<N>,
 ) -> Result<Fragment<M>, ResolveError>
     ensures out { IfOk result (λ out. out ≡ renamed_fragment (R.becomes_in renamer.now) (R.action_becomes_in renamer.now) fragment.now) }
-    ensures defined { OnOk result (of_fragment (R.untargeted_in renamer.now) (R.untargeted_action_in renamer.now) fragment.now ≡ []) }
-    ensures err { IfErr result (NamesFirst (of_fragment (R.untargeted_in renamer.now) (R.untargeted_action_in renamer.now) fragment.now)) }
+    ensures defined { OnOk result (of_fragment (λ ns. by_reference (R.untargeted_in renamer.now ns)) fragment.now ≡ []) }
+    ensures err { IfErr result (NamesFirst (of_fragment (λ ns. by_reference (R.untargeted_in renamer.now ns)) fragment.now)) }
 {
     let mut out = Vec::new(alloc);
     for (ns, definition) in fragment.0.as_slice() {

@@ -2,25 +2,26 @@ ghost use Rattle.std.specs.Prelude.{◌≡◌, [], IfOk, IfErr, OnOk};
 ghost use Rattle.schema_json.specs.declared.types.Type.{Variant};
 ghost use Rattle.schema_resolve.specs.Faults.{NamesFirst};
 ghost use Rattle.schema_resolve.specs.Renamed.{renamed, renamed_at, renamed_variant, renamed_record, renamed_attribute, renamed_entries};
-ghost use Rattle.schema_resolve.specs.Walk.{of_type, of_variant, of_record, of_attribute, of_entries};
+ghost use Rattle.schema_json_walk.specs.Walk.{of_type, of_variant, of_record, of_attribute, of_entries};
+ghost use Rattle.schema_resolve.specs.ReferenceParts.{by_reference};
 
 use crate::renamer::Renamer;
 use cedar_data::{Boxed, CloneIn, Loc, Map, Text};
-use cedar_identifiers::ReferenceType;
+use cedar_identifiers::{NameText, ReferenceType};
 use schema_json::{RecordType, Type, TypeOfAttribute, TypeVariant};
 use schema_resolve_errors::ResolveError;
 use std::alloc::Global;
 
 // The type with each name replaced, or its first reference that means nothing.
 #[cycle(rename)]
-pub(crate) fn rename_type<N, M: Drop, R: Renamer<N, M>>(
+pub(crate) fn rename_type<N: NameText, M: NameText + Drop, R: Renamer<N, M>>(
     alloc: Global,
     renamer: &R,
     ty: &Type<N>,
 ) -> Result<Type<M>, ResolveError>
     ensures out { IfOk result (λ out. out ≡ renamed (R.becomes renamer.now) ty.now) }
-    ensures defined { OnOk result (of_type (R.untargeted renamer.now) ty.now ≡ []) }
-    ensures err { IfErr result (NamesFirst (of_type (R.untargeted renamer.now) ty.now)) }
+    ensures defined { OnOk result (of_type (by_reference (R.untargeted renamer.now)) ty.now ≡ []) }
+    ensures err { IfErr result (NamesFirst (of_type (by_reference (R.untargeted renamer.now)) ty.now)) }
 {
     match ty {
         Type::Variant { ty, loc } => rename_at(alloc, renamer, ty, *loc),
@@ -33,15 +34,15 @@ pub(crate) fn rename_type<N, M: Drop, R: Renamer<N, M>>(
 
 // The type of a shape at a place.
 #[cycle(rename)]
-fn rename_at<N, M: Drop, R: Renamer<N, M>>(
+fn rename_at<N: NameText, M: NameText + Drop, R: Renamer<N, M>>(
     alloc: Global,
     renamer: &R,
     shape: &TypeVariant<N>,
     loc: Option<Loc>,
 ) -> Result<Type<M>, ResolveError>
     ensures out { IfOk result (λ out. out ≡ renamed_at (R.becomes renamer.now) shape.now loc) }
-    ensures defined { OnOk result (of_variant (R.untargeted renamer.now) shape.now ≡ []) }
-    ensures err { IfErr result (NamesFirst (of_variant (R.untargeted renamer.now) shape.now)) }
+    ensures defined { OnOk result (of_variant (by_reference (R.untargeted renamer.now)) shape.now ≡ []) }
+    ensures err { IfErr result (NamesFirst (of_variant (by_reference (R.untargeted renamer.now)) shape.now)) }
 {
     match shape {
         TypeVariant::EntityOrCommon { type_name } => renamer.rename_either(alloc, type_name, loc),
@@ -76,14 +77,14 @@ fn placed<M>(ty: TypeVariant<M>, loc: Option<Loc>) -> Type<M>
 }
 
 // A shape by itself, in which a reference that may mean either kind stays one.
-pub(crate) fn rename_variant<N, M: Drop, R: Renamer<N, M>>(
+pub(crate) fn rename_variant<N: NameText, M: NameText + Drop, R: Renamer<N, M>>(
     alloc: Global,
     renamer: &R,
     shape: &TypeVariant<N>,
 ) -> Result<TypeVariant<M>, ResolveError>
     ensures out { IfOk result (λ out. out ≡ renamed_variant (R.becomes renamer.now) shape.now) }
-    ensures defined { OnOk result (of_variant (R.untargeted renamer.now) shape.now ≡ []) }
-    ensures err { IfErr result (NamesFirst (of_variant (R.untargeted renamer.now) shape.now)) }
+    ensures defined { OnOk result (of_variant (by_reference (R.untargeted renamer.now)) shape.now ≡ []) }
+    ensures err { IfErr result (NamesFirst (of_variant (by_reference (R.untargeted renamer.now)) shape.now)) }
 {
     match shape {
         TypeVariant::String => Ok(TypeVariant::String),
@@ -112,14 +113,14 @@ pub(crate) fn rename_variant<N, M: Drop, R: Renamer<N, M>>(
 
 // A record type, with each name replaced.
 #[cycle(rename)]
-pub(crate) fn rename_record<N, M: Drop, R: Renamer<N, M>>(
+pub(crate) fn rename_record<N: NameText, M: NameText + Drop, R: Renamer<N, M>>(
     alloc: Global,
     renamer: &R,
     fields: &RecordType<N>,
 ) -> Result<RecordType<M>, ResolveError>
     ensures out { IfOk result (λ out. out ≡ renamed_record (R.becomes renamer.now) fields.now) }
-    ensures defined { OnOk result (of_record (R.untargeted renamer.now) fields.now ≡ []) }
-    ensures err { IfErr result (NamesFirst (of_record (R.untargeted renamer.now) fields.now)) }
+    ensures defined { OnOk result (of_record (by_reference (R.untargeted renamer.now)) fields.now ≡ []) }
+    ensures err { IfErr result (NamesFirst (of_record (by_reference (R.untargeted renamer.now)) fields.now)) }
 {
     Ok(RecordType {
         attributes: Map::from_sorted_vec(rename_entries(
@@ -133,14 +134,14 @@ pub(crate) fn rename_record<N, M: Drop, R: Renamer<N, M>>(
 
 // An attribute's type, with each name replaced.
 #[cycle(rename)]
-pub(crate) fn rename_attribute<N, M: Drop, R: Renamer<N, M>>(
+pub(crate) fn rename_attribute<N: NameText, M: NameText + Drop, R: Renamer<N, M>>(
     alloc: Global,
     renamer: &R,
     attribute: &TypeOfAttribute<N>,
 ) -> Result<TypeOfAttribute<M>, ResolveError>
     ensures out { IfOk result (λ out. out ≡ renamed_attribute (R.becomes renamer.now) attribute.now) }
-    ensures defined { OnOk result (of_attribute (R.untargeted renamer.now) attribute.now ≡ []) }
-    ensures err { IfErr result (NamesFirst (of_attribute (R.untargeted renamer.now) attribute.now)) }
+    ensures defined { OnOk result (of_attribute (by_reference (R.untargeted renamer.now)) attribute.now ≡ []) }
+    ensures err { IfErr result (NamesFirst (of_attribute (by_reference (R.untargeted renamer.now)) attribute.now)) }
 {
     Ok(TypeOfAttribute {
         ty: rename_type(alloc, renamer, &attribute.ty)?,
@@ -151,14 +152,14 @@ pub(crate) fn rename_attribute<N, M: Drop, R: Renamer<N, M>>(
 
 // Attributes in order, with each name replaced.
 #[cycle(rename)]
-fn rename_entries<N, M: Drop, R: Renamer<N, M>>(
+fn rename_entries<N: NameText, M: NameText + Drop, R: Renamer<N, M>>(
     alloc: Global,
     renamer: &R,
     entries: &[(Text, TypeOfAttribute<N>)],
 ) -> Result<Vec<(Text, TypeOfAttribute<M>)>, ResolveError>
     ensures out { IfOk result (λ out. out.items ≡ renamed_entries (R.becomes renamer.now) entries.now) }
-    ensures defined { OnOk result (of_entries (R.untargeted renamer.now) entries.now ≡ []) }
-    ensures err { IfErr result (NamesFirst (of_entries (R.untargeted renamer.now) entries.now)) }
+    ensures defined { OnOk result (of_entries (by_reference (R.untargeted renamer.now)) entries.now ≡ []) }
+    ensures err { IfErr result (NamesFirst (of_entries (by_reference (R.untargeted renamer.now)) entries.now)) }
 {
     let mut out = Vec::new(alloc);
     for (name, attribute) in entries {

@@ -5,7 +5,7 @@ ghost use Rattle.schema_resolve_definitions.specs.Declarations.{name_of};
 ghost use Rattle.schema_resolve_definitions.specs.Defined.{defined};
 ghost use Rattle.schema_resolve_definitions.specs.Tests.{tests_of};
 ghost use Rattle.schema_resolve.specs.Faults.{NamesFirst};
-ghost use Rattle.schema_resolve.specs.Resolved.{resolving_in, meant_type, untargeted_in, untargeted_action_in, resolved, undefined};
+ghost use Rattle.schema_resolve.specs.Resolved.{resolving_in, meant_type, untargeted_in, resolved, undefined};
 ghost use Rattle.schema_resolve.specs.Undefined.{Undefined};
 
 use crate::rename_fragments::{FragmentRenamer, rename_fragment};
@@ -49,8 +49,6 @@ impl FragmentRenamer<RawName, InternalName> for AllDefs {
     ghost action_becomes_in = { λ d ns. meant_type (tests_of d) (name_of ns) };
 
     ghost untargeted_in = { λ d ns. untargeted_in (tests_of d) (name_of ns) };
-
-    ghost untargeted_action_in = { λ d ns. untargeted_action_in (tests_of d) (name_of ns) };
 
     fn rename_in(
         &self,

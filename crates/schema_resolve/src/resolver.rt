@@ -1,17 +1,23 @@
+ghost use Rattle.std.specs.Prelude.{◌≡◌, ◌∷◌, [], Some, IfOk};
 ghost use Rattle.std.specs.Option.{option_copied};
 ghost use Rattle.schema_resolve_definitions.specs.Tests.{tests_of};
-ghost use Rattle.schema_resolve.specs.Resolved.{resolving_in, meant_type, untargeted_in, untargeted_action_in};
+ghost use Rattle.schema_resolve_errors.specs.declared.resolve_error.ResolveError.TheVariants.{ActionNotDefined};
+ghost use Rattle.schema_resolve.specs.Faults.{Names};
+ghost use Rattle.schema_resolve.specs.Qualified.{in_namespace, type_in_namespace};
+ghost use Rattle.schema_resolve.specs.Resolved.{resolving_in, meant_type, untargeted_in};
+ghost use Rattle.schema_resolve.specs.Tried.{candidate};
+ghost use Rattle.schema_resolve.specs.Undefined.{action_reference};
 
 use crate::designator::reference_to;
-use crate::rename_items::rename_uid;
-use crate::renamer::{ActionRenamer, Renamer};
-use crate::scope::Scope;
-use cedar_data::Loc;
+use crate::renamer::Renamer;
+use crate::scope::{Scope, written};
+use crate::tried::{find_action, find_type};
+use cedar_data::{CloneIn, Loc, NonEmpty};
 use cedar_identifiers::{InternalName, RawName, ReferenceType};
 use cedar_names::AllDefs;
 use schema_json::{ActionEntityUID, Type};
-use schema_resolve_errors::ResolveError;
-use std::alloc::Global;
+use schema_resolve_errors::{ActionNotDefinedError, ResolveError, TypeNotDefinedError};
+use std::alloc::{AllocError, Global};
 
 // What each name in a namespace means.
 #[derive(Drop)]
@@ -20,8 +26,55 @@ pub(crate) struct Resolver<'a> {
     pub(crate) scope: Scope<'a>,
 }
 
+// The candidate of a name: behind the namespace, or as it is written.
+fn candidate(
+    alloc: Global,
+    ns: Option<&InternalName>,
+    name: InternalName,
+    is_own: bool,
+) -> Result<InternalName, AllocError>
+    ensures { IfOk result (λ out. out ≡ candidate (option_copied ns.entry) name is_own) }
+{
+    if is_own {
+        return name.qualify_with(alloc, ns);
+    }
+    Ok(name)
+}
+
+// The error of a name that means nothing.
+fn no_type(
+    alloc: Global,
+    ns: Option<&InternalName>,
+    kind: ReferenceType,
+    name: &RawName,
+) -> Result<TypeNotDefinedError, AllocError>
+    ensures { IfOk result (λ error. error.undefined_types ≡ in_namespace (option_copied ns.entry) kind name.now ∷ []) }
+{
+    let copy = name.clone_in(alloc)?;
+    let undefined = copy.conditionally_qualify_with(alloc, ns, kind)?;
+    Ok(TypeNotDefinedError {
+        undefined_types: NonEmpty::new(alloc, undefined),
+    })
+}
+
+// The error of a reference to an action that means nothing.
+fn no_action(
+    alloc: Global,
+    ns: Option<&InternalName>,
+    uid: &ActionEntityUID<RawName>,
+) -> Result<ActionNotDefinedError, AllocError>
+    ensures { IfOk result (λ error. Names (action_reference uid.now.id (Some (type_in_namespace (option_copied ns.entry) uid.now.id uid.now.ty))) (ActionNotDefined error)) }
+{
+    let ty = written(alloc, &uid.ty)?;
+    let ty = ty.conditionally_qualify_with(alloc, ns, ReferenceType::Entity)?;
+    let id = uid.id.clone_in(alloc)?;
+    Ok(ActionNotDefinedError(NonEmpty::new(alloc, ActionEntityUID::with_type(ty, id))))
+}
+
 impl<'a> Renamer<RawName, InternalName> for Resolver<'a> {
     ghost becomes = { λ r. resolving_in (tests_of r.defs.now) (option_copied r.scope.ns) };
+
+    ghost action_becomes = { λ r. meant_type (tests_of r.defs.now) (option_copied r.scope.ns) };
 
     ghost untargeted = { λ r. untargeted_in (tests_of r.defs.now) (option_copied r.scope.ns) };
 
@@ -31,8 +84,14 @@ impl<'a> Renamer<RawName, InternalName> for Resolver<'a> {
         role: ReferenceType,
         name: &RawName,
     ) -> Result<InternalName, ResolveError> {
-        let reference = self.scope.rename(alloc, role, name)?;
-        self.defs.rename(alloc, role, &reference)
+        let ns = self.scope.ns;
+        match find_type(self.defs, ns, role, &name.name) {
+            Some(found) => {
+                let copy = name.name.clone_in(alloc)?;
+                Ok(candidate(alloc, ns, copy, found.is_own)?)
+            }
+            None => Err(ResolveError::TypeNotDefined(no_type(alloc, ns, role, name)?)),
+        }
     }
 
     fn rename_either(
@@ -41,23 +100,28 @@ impl<'a> Renamer<RawName, InternalName> for Resolver<'a> {
         name: &RawName,
         loc: Option<Loc>,
     ) -> Result<Type<InternalName>, ResolveError> {
-        let meant = self.rename(alloc, ReferenceType::CommonOrEntity, name)?;
-        let is_common = self.defs.is_defined_as_common(&meant);
-        Ok(reference_to(is_common, meant, loc))
+        let ns = self.scope.ns;
+        let kind = ReferenceType::CommonOrEntity;
+        match find_type(self.defs, ns, kind, &name.name) {
+            Some(found) => {
+                let copy = name.name.clone_in(alloc)?;
+                let meant = candidate(alloc, ns, copy, found.is_own)?;
+                Ok(reference_to(found.is_common, meant, loc))
+            }
+            None => Err(ResolveError::TypeNotDefined(no_type(alloc, ns, kind, name)?)),
+        }
     }
-}
-
-impl<'a> ActionRenamer<RawName, InternalName> for Resolver<'a> {
-    ghost action_becomes = { λ r. meant_type (tests_of r.defs.now) (option_copied r.scope.ns) };
-
-    ghost untargeted_action = { λ r. untargeted_action_in (tests_of r.defs.now) (option_copied r.scope.ns) };
 
     fn rename_action(
         &self,
         alloc: Global,
         uid: &ActionEntityUID<RawName>,
     ) -> Result<InternalName, ResolveError> {
-        let reference = rename_uid(alloc, &self.scope, uid)?;
-        self.defs.rename_action(alloc, &reference)
+        let ns = self.scope.ns;
+        let ty = written(alloc, &uid.ty)?.into_internal();
+        match find_action(self.defs, ns, &uid.id, &ty) {
+            Some(is_own) => Ok(candidate(alloc, ns, ty, is_own)?),
+            None => Err(ResolveError::ActionNotDefined(no_action(alloc, ns, uid)?)),
+        }
     }
 }

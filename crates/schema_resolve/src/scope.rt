@@ -3,7 +3,7 @@ ghost use Rattle.std.specs.Option.{option_copied};
 ghost use Rattle.schema_json.specs.Actions.{written_type};
 ghost use Rattle.schema_resolve.specs.Qualified.{qualifying, type_in_namespace};
 
-use crate::renamer::{ActionRenamer, Renamer};
+use crate::renamer::Renamer;
 use cedar_data::{CloneIn, Loc};
 use cedar_identifiers::{ConditionalName, InternalName, RawName, ReferenceType};
 use schema_json::action_uid::action_name;
@@ -20,7 +20,9 @@ pub(crate) struct Scope<'a> {
 impl<'a> Renamer<RawName, ConditionalName> for Scope<'a> {
     ghost becomes = { λ s. qualifying (option_copied s.ns) };
 
-    ghost untargeted = { λ _ _ _. [] };
+    ghost action_becomes = { λ s id ty. type_in_namespace (option_copied s.ns) id ty };
+
+    ghost untargeted = { λ _. record { types = λ _ _. []; actions = λ _ _. [] } };
 
     fn rename(
         &self,
@@ -44,12 +46,6 @@ impl<'a> Renamer<RawName, ConditionalName> for Scope<'a> {
             loc,
         })
     }
-}
-
-impl<'a> ActionRenamer<RawName, ConditionalName> for Scope<'a> {
-    ghost action_becomes = { λ s id ty. type_in_namespace (option_copied s.ns) id ty };
-
-    ghost untargeted_action = { λ _ _ _. [] };
 
     fn rename_action(
         &self,
@@ -62,7 +58,7 @@ impl<'a> ActionRenamer<RawName, ConditionalName> for Scope<'a> {
 }
 
 // The type as it is written, and `Action` where none is.
-fn written(alloc: Global, ty: &Option<RawName>) -> Result<RawName, AllocError>
+pub(crate) fn written(alloc: Global, ty: &Option<RawName>) -> Result<RawName, AllocError>
     ensures { IfOk result (λ name. name ≡ record { name = written_type ty.now }) }
 {
     match ty {

@@ -1,16 +1,17 @@
-ghost use Rattle.std.specs.Prelude.{◌≡◌, [], Ok, IfOk, find};
+ghost use Rattle.std.specs.Prelude.{◌≡◌, find};
 ghost use Rattle.std.specs.Option.{option_copied};
 ghost use Rattle.cedar_identifiers.specs.Names.{components_of};
 ghost use Rattle.schema_resolve_definitions.specs.Tests.{tests_of};
-ghost use Rattle.schema_resolve.specs.Targets.{is_defined, is_action, resolving, action_target_name, untargeted, untargeted_action};
+ghost use Rattle.schema_resolve.specs.Targets.{is_defined, is_action, resolving, action_target_name, untargeted};
 
-use crate::renamer::{ActionRenamer, Renamer};
+use crate::renamer::Renamer;
+use crate::tried::is_action;
 use cedar_data::{CloneIn, Loc, NonEmpty, Text};
-use cedar_identifiers::{ConditionalName, Eid, InternalName, Name, ReferenceType};
-use cedar_names::{AllDefs, EntityUID};
+use cedar_identifiers::{ConditionalName, InternalName, ReferenceType};
+use cedar_names::AllDefs;
 use schema_json::{ActionEntityUID, Type, TypeVariant};
 use schema_resolve_errors::{ActionNotDefinedError, ResolveError, TypeNotDefinedError};
-use std::alloc::{AllocError, Global};
+use std::alloc::Global;
 
 // Whether the name is defined in the kind that is asked for.
 pub(crate) fn is_defined(defs: &AllDefs, kind: ReferenceType, name: &InternalName) -> bool
@@ -41,8 +42,26 @@ fn first_defined<'a>(
     None
 }
 
+// The first of the types with which the action is defined.
+fn first_action<'a>(
+    defs: &AllDefs,
+    id: &Text,
+    types: &'a NonEmpty<InternalName>,
+) -> Option<&'a InternalName>
+    ensures { option_copied result ≡ find (is_action (tests_of defs.now) id.now) types.now }
+{
+    for ty in types.iter() {
+        if is_action(defs, id, ty) {
+            return Some(ty);
+        }
+    }
+    None
+}
+
 impl Renamer<ConditionalName, InternalName> for AllDefs {
     ghost becomes = { λ d. resolving (tests_of d) };
+
+    ghost action_becomes = { λ d. action_target_name (tests_of d) };
 
     ghost untargeted = { λ d. untargeted (tests_of d) };
 
@@ -72,54 +91,13 @@ impl Renamer<ConditionalName, InternalName> for AllDefs {
             loc,
         })
     }
-}
-
-// Whether an action with this type and id is defined.
-fn is_action(
-    alloc: Global,
-    defs: &AllDefs,
-    id: &Text,
-    ty: &InternalName,
-) -> Result<bool, AllocError>
-    ensures { IfOk result (λ answer. answer ≡ is_action (tests_of defs.now) id.now ty.now) }
-{
-    match Name::from_internal(ty.clone_in(alloc)?) {
-        Some(ty) => {
-            let eid = Eid(id.clone_in(alloc)?);
-            Ok(defs.is_defined_as_action(&EntityUID { ty, eid, loc: None }))
-        }
-        None => Ok(false),
-    }
-}
-
-// The first of the types with which the action is defined.
-fn first_action<'a>(
-    alloc: Global,
-    defs: &AllDefs,
-    id: &Text,
-    types: &'a NonEmpty<InternalName>,
-) -> Result<Option<&'a InternalName>, AllocError>
-    ensures { IfOk result (λ found. option_copied found ≡ find (is_action (tests_of defs.now) id.now) types.now) }
-{
-    for ty in types.iter() {
-        if is_action(alloc, defs, id, ty)? {
-            return Ok(Some(ty));
-        }
-    }
-    Ok(None)
-}
-
-impl ActionRenamer<ConditionalName, InternalName> for AllDefs {
-    ghost action_becomes = { λ d. action_target_name (tests_of d) };
-
-    ghost untargeted_action = { λ d. untargeted_action (tests_of d) };
 
     fn rename_action(
         &self,
         alloc: Global,
         uid: &ActionEntityUID<ConditionalName>,
     ) -> Result<InternalName, ResolveError> {
-        match first_action(alloc, self, &uid.id, &uid.ty().possibilities)? {
+        match first_action(self, &uid.id, &uid.ty().possibilities) {
             Some(target) => Ok(target.clone_in(alloc)?),
             None => Err(ResolveError::ActionNotDefined(ActionNotDefinedError(NonEmpty::new(
                 alloc,

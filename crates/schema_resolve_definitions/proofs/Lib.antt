@@ -1,4 +1,4 @@
 mod Actions
 mod Builtins
-mod Sets
+pub mod Sets
 mod Types

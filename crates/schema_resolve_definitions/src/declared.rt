@@ -142,8 +142,8 @@ fn declared_name(alloc: Global, ns: &Option<Name>, id: &Id) -> Result<InternalNa
     plain.qualify_with(alloc, name_of(ns))
 }
 
-// A word as a name, without a place.
-pub(crate) fn alone(alloc: Global, id: Id) -> InternalName
+/// A word as a name, without a place.
+pub fn alone(alloc: Global, id: Id) -> InternalName
     ensures { result ≡ alone id }
 {
     InternalName {
@@ -153,8 +153,8 @@ pub(crate) fn alone(alloc: Global, id: Id) -> InternalName
     }
 }
 
-// The type of the actions of a namespace.
-fn action_type(alloc: Global, ns: &Option<Name>) -> Result<Name, AllocError>
+/// The type of the actions of a namespace: `Action`, with the namespace in front.
+pub fn action_type(alloc: Global, ns: &Option<Name>) -> Result<Name, AllocError>
     ensures { IfOk result (λ ty. ty.name ≡ action_type ns.now) }
 {
     let plain = action_name(alloc)?;

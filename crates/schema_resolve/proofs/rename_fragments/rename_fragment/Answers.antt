@@ -1,7 +1,8 @@
 use Rattle.std.proofs.Common.{◌∷◌, ◌++◌, [], map, refl, sym, ap, ◌∙◌}
+use Rattle.schema_resolve.specs.ReferenceParts.{by_reference}
 use Rattle.schema_resolve.specs.Renamed.{renamed_entry}
 use Rattle.std.specs.List.{flat_map}
-use Rattle.schema_resolve.specs.Walk.{of_entry}
+use Rattle.schema_json_walk.specs.Walk.{of_entry}
 use Rattle.schema_resolve.proofs.Lists.{each_more, each_all, each_first, map_more, map_all, keys_kept, refused}
 use Rattle.schema_resolve.proofs.rename_fragments.rename_fragment.Goals as goal
 
@@ -9,7 +10,7 @@ pub loop-ns-preserved : goal.loop-ns-preserved
 loop-ns-preserved g c =
     let f = g.R.FragmentRenamer.becomes_in c.args.renamer.now in
     let h = g.R.FragmentRenamer.action_becomes_in c.args.renamer.now in
-    let u = of_entry (g.R.FragmentRenamer.untargeted_in c.args.renamer.now) (g.R.FragmentRenamer.untargeted_action_in c.args.renamer.now) in
+    let u = of_entry (λ ns. by_reference (g.R.FragmentRenamer.untargeted_in c.args.renamer.now ns)) in
     let es = c.as_slice-ns-items.result.now in
     let i = c.loop-ns.ns-index in
     let it = c.loop-ns-item.result in
@@ -20,7 +21,7 @@ loop-ns-preserved g c =
 
 pub returns-in_err-definition-clause-err : goal.returns-in_err-definition-clause-err
 returns-in_err-definition-clause-err g c =
-    let u = of_entry (g.R.FragmentRenamer.untargeted_in c.args.renamer.now) (g.R.FragmentRenamer.untargeted_action_in c.args.renamer.now) in
+    let u = of_entry (λ ns. by_reference (g.R.FragmentRenamer.untargeted_in c.args.renamer.now ns)) in
     let es = c.as_slice-ns-items.result.now in
     let e = c.in_err-definition.field-0.0 in
     refused c.from_residual.result e (flat_map u c.args.fragment.now.0) c.from_residual.ensures.1
@@ -43,6 +44,6 @@ returns-clause-out g c =
 
 pub returns-clause-defined : goal.returns-clause-defined
 returns-clause-defined g c =
-    let u = of_entry (g.R.FragmentRenamer.untargeted_in c.args.renamer.now) (g.R.FragmentRenamer.untargeted_action_in c.args.renamer.now) in
+    let u = of_entry (λ ns. by_reference (g.R.FragmentRenamer.untargeted_in c.args.renamer.now ns)) in
     let es = c.as_slice-ns-items.result.now in
     ap (flat_map u) (sym c.as_slice-ns-items.ensures.entries) ∙ each_all u es c.loop-ns.ns-index c.loop-ns-test.false c.loop-ns.invariant.defined

@@ -6,7 +6,7 @@ use Rattle.schema_resolve.proofs.rename_items.rename_names.Goals as goal
 
 pub returns-in_err-name-clause-err : goal.returns-in_err-name-clause-err
 returns-in_err-name-clause-err g c =
-    let u = g.R.Renamer.untargeted c.args.renamer.now Entity in
+    let u = (g.R.Renamer.untargeted c.args.renamer.now).types Entity in
     let xs = c.args.names.now in
     refused _ c.in_err-name.field-0.0 (flat_map u xs) c.from_residual.ensures.1
     (each_first u xs c.loop-name.name-index c.name-item.result c.in_err-name.field-0.0 c.loop-name-test.true c.name-item.is c.loop-name.invariant.defined c.in_err-name.ensures.err)
@@ -14,7 +14,7 @@ returns-in_err-name-clause-err g c =
 pub loop-name-preserved : goal.loop-name-preserved
 loop-name-preserved g c =
     let f = (g.R.Renamer.becomes c.args.renamer.now).name Entity in
-    let u = g.R.Renamer.untargeted c.args.renamer.now Entity in
+    let u = (g.R.Renamer.untargeted c.args.renamer.now).types Entity in
     let xs = c.args.names.now in
     let i = c.loop-name.name-index in
     let it = c.name-item.result in

@@ -1,7 +1,8 @@
 use Rattle.std.proofs.Common.{◌∷◌, ◌++◌, [], map, sym, ap, ◌∙◌}
 use Rattle.cedar_data.specs.Entries.{on_value, keys_on_values}
+use Rattle.schema_resolve.specs.ReferenceParts.{by_reference}
 use Rattle.schema_resolve.specs.Renamed.{renamed_common}
-use Rattle.schema_resolve.specs.Walk.{each_value, of_common}
+use Rattle.schema_json_walk.specs.Walk.{each_value, of_common}
 use Rattle.schema_resolve.proofs.Lists.{each_more, each_all, each_first, map_more, map_all, refused}
 use Rattle.schema_resolve.proofs.rename_namespaces.rename_commons.Goals as goal
 
@@ -12,15 +13,15 @@ loop-id-preserved g c =
     let it = c.loop-id-item.result in
     record {
       out = c.in_ok-push.ensures.items ∙ (λ k. c.loop-id.invariant.out k ++ (c.in_ok-id.ensures k, c.in_ok-common.ensures.out k) ∷ []) ∙ sym (map_more (on_value (renamed_common (g.R.Renamer.becomes c.args.renamer.now))) es i it c.loop-id-test.true c.loop-id-item.is);
-      defined = each_more (λ e. of_common (g.R.Renamer.untargeted c.args.renamer.now) e.1) es i it c.loop-id-test.true c.loop-id-item.is c.loop-id.invariant.defined c.in_ok-common.ensures.defined;
+      defined = each_more (λ e. of_common (by_reference (g.R.Renamer.untargeted c.args.renamer.now)) e.1) es i it c.loop-id-test.true c.loop-id-item.is c.loop-id.invariant.defined c.in_ok-common.ensures.defined;
     }
 
 pub returns-in_err-common-clause-err : goal.returns-in_err-common-clause-err
 returns-in_err-common-clause-err g c =
     let es = c.as_slice-id-items.result.now in
     let e = c.in_err-common.field-0.0 in
-    refused c.from_residual-in_err-common.result e (each_value (of_common (g.R.Renamer.untargeted c.args.renamer.now)) c.args.commons.now) c.from_residual-in_err-common.ensures.1
-    (rw (← c.as_slice-id-items.ensures.entries) (each_first (λ e. of_common (g.R.Renamer.untargeted c.args.renamer.now) e.1) es c.loop-id.id-index c.loop-id-item.result e c.loop-id-test.true c.loop-id-item.is c.loop-id.invariant.defined c.in_err-common.ensures.err))
+    refused c.from_residual-in_err-common.result e (each_value (of_common (by_reference (g.R.Renamer.untargeted c.args.renamer.now))) c.args.commons.now) c.from_residual-in_err-common.ensures.1
+    (rw (← c.as_slice-id-items.ensures.entries) (each_first (λ e. of_common (by_reference (g.R.Renamer.untargeted c.args.renamer.now)) e.1) es c.loop-id.id-index c.loop-id-item.result e c.loop-id-test.true c.loop-id-item.is c.loop-id.invariant.defined c.in_err-common.ensures.err))
 
 pub from_sorted_vec-requires : goal.from_sorted_vec-requires
 from_sorted_vec-requires g c =
@@ -36,4 +37,4 @@ returns-clause-out g c =
 pub returns-clause-defined : goal.returns-clause-defined
 returns-clause-defined g c =
     let es = c.as_slice-id-items.result.now in
-    ap (each_value (of_common (g.R.Renamer.untargeted c.args.renamer.now))) (sym c.as_slice-id-items.ensures.entries) ∙ each_all (λ e. of_common (g.R.Renamer.untargeted c.args.renamer.now) e.1) es c.loop-id.id-index c.loop-id-test.false c.loop-id.invariant.defined
+    ap (each_value (of_common (by_reference (g.R.Renamer.untargeted c.args.renamer.now)))) (sym c.as_slice-id-items.ensures.entries) ∙ each_all (λ e. of_common (by_reference (g.R.Renamer.untargeted c.args.renamer.now)) e.1) es c.loop-id.id-index c.loop-id-test.false c.loop-id.invariant.defined

@@ -4,10 +4,13 @@ use Rattle.schema_json.specs.declared.types.TypeOfAttribute.{size-TypeOfAttribut
 use Rattle.schema_json.proofs.Sizes.{most_at}
 use Rattle.schema_json.specs.declared.types.Type.TheVariants.{Variant}
 use Rattle.schema_json.specs.declared.types.TypeVariant.TheVariants.{Record}
+use Rattle.schema_resolve.specs.ReferenceParts.{by_reference}
 use Rattle.schema_resolve.specs.Renamed.{renamed_attribute}
-use Rattle.schema_resolve.specs.Walk.{of_attribute, of_record, of_entries}
+use Rattle.schema_json_walk.specs.Walk.{of_attribute, of_record, of_entries}
 use Rattle.schema_resolve.proofs.Lists.{each_more, each_first, map_more, refused}
-use Rattle.schema_resolve.proofs.Equations.{record_renamed, record_renamed_at, record_walked, variant_walked}
+use Rattle.schema_json_walk.proofs.Layers.{variant_walked}
+use Rattle.schema_resolve.proofs.Equations.{record_renamed, record_renamed_at}
+use Rattle.schema_resolve.proofs.Told.{record_told}
 use Rattle.schema_resolve.proofs.rename_types.+rename.Goals as goal
 
 pub rename_entries-rename_attribute-requires : goal.rename_entries-rename_attribute-requires
@@ -21,7 +24,7 @@ rename_entries-rename_attribute-requires g t c κs within =
 pub rename_entries-loop-name-preserved : goal.rename_entries-loop-name-preserved
 rename_entries-loop-name-preserved g t c =
     let f = g.R.Renamer.becomes c.args.renamer.now in
-    let u = g.R.Renamer.untargeted c.args.renamer.now in
+    let u = by_reference (g.R.Renamer.untargeted c.args.renamer.now) in
     let es = c.args.entries.now in
     let i = c.loop-name.name-index in
     let it = c.loop-name-item.result in
@@ -32,17 +35,17 @@ rename_entries-loop-name-preserved g t c =
 
 pub rename_entries-returns-in_err-attribute-clause-err : goal.rename_entries-returns-in_err-attribute-clause-err
 rename_entries-returns-in_err-attribute-clause-err g t c =
-    let u = g.R.Renamer.untargeted c.args.renamer.now in
+    let u = by_reference (g.R.Renamer.untargeted c.args.renamer.now) in
     let es = c.args.entries.now in
     refused c.from_residual-in_err-attribute.result c.in_err-attribute.field-0.0 (of_entries u es) c.from_residual-in_err-attribute.ensures.1
     (each_first (λ e. of_attribute u e.1) es c.loop-name.name-index c.loop-name-item.result c.in_err-attribute.field-0.0 c.loop-name-test.true c.loop-name-item.is c.loop-name.invariant.defined c.in_err-attribute.ensures.err)
 
 pub rename_record-returns-in_err-rename_entries-clause-err : goal.rename_record-returns-in_err-rename_entries-clause-err
 rename_record-returns-in_err-rename_entries-clause-err g t c =
-    let u = g.R.Renamer.untargeted c.args.renamer.now in
+    let u = by_reference (g.R.Renamer.untargeted c.args.renamer.now) in
     let e = c.in_err-rename_entries.field-0.0 in
     refused c.from_residual.result e (of_record u c.args.fields.now) c.from_residual.ensures.1
-    (rw (record_walked u c.args.fields.now, ← c.as_slice.ensures.entries) c.in_err-rename_entries.ensures.err)
+    (rw (record_told (g.R.Renamer.untargeted c.args.renamer.now) c.args.fields.now, ← c.as_slice.ensures.entries) c.in_err-rename_entries.ensures.err)
 
 pub rename_record-from_sorted_vec-requires : goal.rename_record-from_sorted_vec-requires
 rename_record-from_sorted_vec-requires g t c =
@@ -54,7 +57,7 @@ rename_record-returns-clause-out g t c =
 
 pub rename_record-returns-clause-defined : goal.rename_record-returns-clause-defined
 rename_record-returns-clause-defined g t c =
-    rw (record_walked (g.R.Renamer.untargeted c.args.renamer.now) c.args.fields.now, ← c.as_slice.ensures.entries) c.in_ok-rename_entries.ensures.defined
+    rw (record_told (g.R.Renamer.untargeted c.args.renamer.now) c.args.fields.now, ← c.as_slice.ensures.entries) c.in_ok-rename_entries.ensures.defined
 
 pub rename_at-returns-in_ok-fields-in-Record-clause-out : goal.rename_at-returns-in_ok-fields-in-Record-clause-out
 rename_at-returns-in_ok-fields-in-Record-clause-out g t c =
@@ -62,4 +65,4 @@ rename_at-returns-in_ok-fields-in-Record-clause-out g t c =
 
 pub rename_at-returns-in_ok-fields-in-Record-clause-defined : goal.rename_at-returns-in_ok-fields-in-Record-clause-defined
 rename_at-returns-in_ok-fields-in-Record-clause-defined g t c =
-    rw (c.in-Record.is, variant_walked (g.R.Renamer.untargeted c.args.renamer.now) c.in-Record.fields) c.in_ok-fields-in-Record.ensures.defined
+    rw (c.in-Record.is, variant_walked (by_reference (g.R.Renamer.untargeted c.args.renamer.now)) c.in-Record.fields) c.in_ok-fields-in-Record.ensures.defined

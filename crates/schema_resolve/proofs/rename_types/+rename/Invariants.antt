@@ -2,8 +2,9 @@ use Rattle.std.proofs.Common.{◌≡◌, ◌+◌, ◌*◌, [], take}
 use Rattle.std.specs.Map.{values_of}
 use denote.Param.Weighed.{most}
 use Rattle.schema_json.specs.declared.types.TypeOfAttribute.{size-TypeOfAttribute}
+use Rattle.schema_resolve.specs.ReferenceParts.{by_reference}
 use Rattle.schema_resolve.specs.Renamed.{renamed_entries}
-use Rattle.schema_resolve.specs.Walk.{of_entries}
+use Rattle.schema_json_walk.specs.Walk.{of_entries}
 use Rattle.schema_resolve.proofs.rename_types.+rename.Given as goal
 
 abbrev pub decreases-rename_record : goal.decreases-rename_record
@@ -24,5 +25,5 @@ decreases-rename_entries g l = 2 * most (size-TypeOfAttribute g.row.N.Denot) (va
 abbrev pub invariant-rename_entries-loop-name : goal.invariant-rename_entries-loop-name
 invariant-rename_entries-loop-name g l = record {
   out : l.out.items ≡ renamed_entries (g.R.Renamer.becomes l.renamer) (take l.name-index l.entries);
-  defined : of_entries (g.R.Renamer.untargeted l.renamer) (take l.name-index l.entries) ≡ [];
+  defined : of_entries (by_reference (g.R.Renamer.untargeted l.renamer)) (take l.name-index l.entries) ≡ [];
 }
