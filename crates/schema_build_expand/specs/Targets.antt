@@ -63,8 +63,8 @@ module _ {N : Type 0} where
       × ((full : List (List ℕ)) (k : ℕ) → s.means ns kind name ≡ Some (full, Common) → IsRanked s full k
       → (t : built.«Type») × (slice_get done k ≡ Some (Some t)))
 
-  -- a part that can be expanded: a reference that means something, expanded where that is declared, or an extension type
-  -- of the table
+  -- a part that can be expanded: a reference that means something, expanded where that is declared, or an extension
+  -- type of the table
   abbrev pub IsReady : Scope N → List (Option built.«Type») → Option InternalName → Part N → Type 0
   IsReady s done ns (type_reference kind name) = IsReferenceReady s done ns kind name
   IsReady s done ns (extension_type name) = in_table s name.id.text ≡ true

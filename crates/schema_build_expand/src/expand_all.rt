@@ -29,9 +29,9 @@ fn rows_of<N, R: Meanings<N>>(
     Ok(rows)
 }
 
-/// What each declared common type stands for, by its rank, where none reaches itself by references; else the least rank
-/// that does, unless memory is out. Beside each type stands what names mean where it is declared. Each type is expanded
-/// once, and no recursion goes from one common type to another.
+/// What each declared common type stands for, by its rank, where none reaches itself by references; else the least
+/// rank that does, unless memory is out. Beside each type stands what names mean where it is declared. Each type is
+/// expanded once, and no recursion goes from one common type to another.
 pub fn expansions<N, R: Meanings<N>>(
     alloc: Global,
     commons: &[(R, &Type<N>)],
