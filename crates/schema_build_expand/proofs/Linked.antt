@@ -12,7 +12,7 @@ use Rattle.std.proofs.lemmas.Option.{slice_get_within, get_or_from_slice_get, sl
 use Rattle.std.proofs.lemmas.Bool.{cases_lt}
 use Rattle.cedar_identifiers.specs.declared.internal_name.InternalName.{InternalName}
 use Rattle.schema_json.specs.declared.types.Type.{«Type»}
-use Rattle.schema_build_graph.specs.Order.{IsOrder, IsLeastFault}
+use Rattle.schema_build_graph.specs.Order.{IsOrder, IsLeastFault, NoneCyclic}
 use Rattle.schema_build_graph.specs.declared.order_fault.OrderFault.{OrderFault}
 use Rattle.schema_build_graph.specs.declared.order_fault.OrderFault.TheVariants.{Cycle, Memory}
 use Rattle.schema_build_graph.specs.Paths.{Leads, Reaches}
@@ -22,7 +22,7 @@ use Rattle.schema_json_walk.specs.Walk.{parts}
 use Rattle.schema_build_expand.specs.Scope.{Scope, IsRanked}
 use Rattle.schema_build_expand.specs.Commons.{AreBehind, IsBehind}
 use Rattle.schema_build_expand.specs.Ranks.{AreMeantRanks, RefersTo}
-use Rattle.schema_build_expand.specs.Rows.{AreMeantRows, AreMeant, IsMeant, RefersBy, IsCycleFault}
+use Rattle.schema_build_expand.specs.Rows.{AreMeantRows, AreMeant, IsMeant, RefersBy, IsCycleFault, NoneRound}
 
 -- one row more
 pub each_push : {X : Type 0} (P : ℕ → X → Type 0) (xs ys : List X) (x : X) (n : ℕ) → length xs ≡ n
@@ -124,6 +124,9 @@ module _ {N R : Type 0} (s : Scope N) (place : R → Option InternalName) (commo
 
   refers_edge : (a b : ℕ) → RefersBy s place commons a b → HasEdge rows a b
   refers_edge a b r = (ranks_at a r.0 r.1).whole b r.2
+
+  pub none_round : NoneCyclic rows → NoneRound s place commons
+  none_round none v r = none v (reaches_as (RefersBy s place commons) (HasEdge rows) refers_edge v v r)
 
   pub cycle_fault : (fault : OrderFault) → IsLeastFault rows fault → IsCycleFault s place commons fault
   cycle_fault (Cycle v) h = record {

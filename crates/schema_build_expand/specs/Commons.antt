@@ -34,7 +34,7 @@ module _ {N : Type 0} where
   IsBehind s before ns (extension_type name) = in_table s name.id.text ≡ true
   IsBehind s before ns _ = ⊥
 
-  -- each stands behind those that its type refers to
+  -- in this order each declared common type stands behind those that its type refers to
   abbrev pub AreBehind : {R : Type 0} → Scope N → (R → Option InternalName) → List (R × Bor («Type» N)) → List ℕ
       → Type 0
   AreBehind {R} s place commons order = (i : ℕ) (c : R × Bor («Type» N)) → i < length order

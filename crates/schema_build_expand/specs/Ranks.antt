@@ -13,7 +13,7 @@ module _ {N : Type 0} where
   MeansRank s ns kind name k = (full : List (List ℕ)) × (s.means ns kind name ≡ Some (full, Common))
       × IsRanked s full k
 
-  -- it means just the declared common type of this rank, or none
+  -- the reference means just the declared common type of this rank, or none
   abbrev pub IsRankOf : Scope N → Option InternalName → ReferenceType → N → Option ℕ → Type 0
   IsRankOf s ns kind name None = (k : ℕ) → MeansRank s ns kind name k → ⊥
   IsRankOf s ns kind name (Some k) = MeansRank s ns kind name k × ((j : ℕ) → MeansRank s ns kind name j → j ≡ k)

@@ -32,7 +32,11 @@ module _ {N R : Type 0} where
     pub round : Reaches (RefersBy s place commons) v v
     pub least : (u : ℕ) → Reaches (RefersBy s place commons) u u → v ≤ u
 
-  -- the least that reaches itself by references; memory may be out at any time
+  -- no rank reaches itself by references
+  abbrev pub NoneRound : Scope N → (R → Option InternalName) → List (R × Bor («Type» N)) → Type 0
+  NoneRound s place commons = (v : ℕ) → Reaches (RefersBy s place commons) v v → ⊥
+
+  -- the fault names the least rank that reaches itself by references; memory may be out at any time
   abbrev pub IsCycleFault : Scope N → (R → Option InternalName) → List (R × Bor («Type» N)) → OrderFault → Type 0
   IsCycleFault s place commons (Cycle v) = IsLeastRound s place commons v
   IsCycleFault s place commons Memory = Unit {0}
@@ -44,7 +48,7 @@ module _ {N : Type 0} where
   IsMeant s ns (extension_type name) = in_table s name.id.text ≡ true
   IsMeant s ns _ = ⊥
 
-  -- the types hold such parts alone
+  -- each part of the types is a reference that means something or an extension type of the table
   abbrev pub AreMeant : {R : Type 0} → Scope N → (R → Option InternalName) → List (R × Bor («Type» N)) → Type 0
   AreMeant {R} s place commons = (k : ℕ) (c : R × Bor («Type» N)) → slice_get commons k ≡ Some c
       → All (IsMeant s (place c.0)) (parts c.1.now)

@@ -52,7 +52,7 @@ module _ {N : Type 0} where
       → List (List ℕ × TypeOfAttribute N) → List (List ℕ × (built.«Type» × Bool)) → Type 0
   EntriesExpandTo s ns entries attrs = AllZip (EntryExpandsTo s ns) entries attrs
 
-  -- what is kept of a rank is the expansion of its declaration
+  -- what is kept of a rank is what its declaration stands for
   abbrev pub AreExpanded : Scope N → List (Option built.«Type») → Type 0
   AreExpanded s done = (k : ℕ) (t : built.«Type») → slice_get done k ≡ Some (Some t)
       → (d : Declared N) × (slice_get s.commons k ≡ Some d) × ExpandsTo s d.place d.ty t
@@ -63,7 +63,8 @@ module _ {N : Type 0} where
       × ((full : List (List ℕ)) (k : ℕ) → s.means ns kind name ≡ Some (full, Common) → IsRanked s full k
       → (t : built.«Type») × (slice_get done k ≡ Some (Some t)))
 
-  -- a part that can be expanded: such a reference, or an extension type of the table
+  -- a part that can be expanded: a reference that means something, expanded where that is declared, or an extension
+  -- type of the table
   abbrev pub IsReady : Scope N → List (Option built.«Type») → Option InternalName → Part N → Type 0
   IsReady s done ns (type_reference kind name) = IsReferenceReady s done ns kind name
   IsReady s done ns (extension_type name) = in_table s name.id.text ≡ true

@@ -33,6 +33,7 @@ pub fn expand_commons<N, R: Meanings<N>>(
     requires below { All (λ v. v < length commons.now) order.now }
     requires behind { AreBehind s R.place commons.now order.now }
     ensures expanded { IfOk result (λ done. AreExpanded s done.items) }
+    ensures len { IfOk result (λ done. length done.items ≡ length commons.now) }
     ensures whole { IfOk result (λ done. All (IsDone done.items) order.now) }
 {
     let mut done = none_of(alloc, commons.len())?;

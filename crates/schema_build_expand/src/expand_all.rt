@@ -1,8 +1,8 @@
-ghost use Rattle.std.specs.Prelude.{◌≡◌, ◌<◌, ℕ, length, IfOk, IfErr};
+ghost use Rattle.std.specs.Prelude.{◌≡◌, ◌<◌, ℕ, length, IfOk, IfErr, OnOk};
 ghost use Rattle.schema_build_expand.specs.Scope.{Scope};
 ghost use Rattle.schema_build_expand.specs.Targets.{AreExpanded};
 ghost use Rattle.schema_build_expand.specs.Commons.{AreCommons, IsDone};
-ghost use Rattle.schema_build_expand.specs.Rows.{AreMeantRows, AreMeant, IsCycleFault};
+ghost use Rattle.schema_build_expand.specs.Rows.{AreMeantRows, AreMeant, IsCycleFault, NoneRound};
 
 use crate::commons::expand_commons;
 use crate::meanings::Meanings;
@@ -29,9 +29,9 @@ fn rows_of<N, R: Meanings<N>>(
     Ok(rows)
 }
 
-/// What each declared common type stands for, by its rank, or the least rank that reaches itself by references. Beside
-/// each type stands what names mean where it is declared. Each type is expanded once, and no recursion goes from one
-/// common type to another.
+/// What each declared common type stands for, by its rank, where none reaches itself by references; else the least
+/// rank that does, unless memory is out. Beside each type stands what names mean where it is declared. Each type is
+/// expanded once, and no recursion goes from one common type to another.
 pub fn expansions<N, R: Meanings<N>>(
     alloc: Global,
     commons: &[(R, &Type<N>)],
@@ -42,6 +42,8 @@ pub fn expansions<N, R: Meanings<N>>(
     requires meant { AreMeant s R.place commons.now }
     ensures expanded { IfOk result (λ done. AreExpanded s done.items) }
     ensures whole { IfOk result (λ done. (k : ℕ) → k < length commons.now → IsDone done.items k) }
+    ensures len { IfOk result (λ done. length done.items ≡ length commons.now) }
+    ensures acyclic { OnOk result (NoneRound s R.place commons.now) }
     ensures fault { IfErr result (IsCycleFault s R.place commons.now) }
 {
     let rows = rows_of(alloc, commons)?;

@@ -1,9 +1,9 @@
-use Rattle.std.proofs.Common.{◌<◌, length, arith}
+use Rattle.std.proofs.Common.{◌<◌, length, subst, arith}
 use Rattle.std.proofs.lemmas.List.Elements.{All-weaker, All-contains}
-use Rattle.schema_build_graph.specs.Order.{IsOrder}
+use Rattle.schema_build_graph.specs.Order.{IsOrder, NoneCyclic}
 use Rattle.schema_build_expand.specs.Commons.{IsDone}
 use Rattle.schema_build_expand.specs.Rows.{IsCycleFault}
-use Rattle.schema_build_expand.proofs.Linked.{in_range, behind, cycle_fault, refused}
+use Rattle.schema_build_expand.proofs.Linked.{in_range, behind, cycle_fault, none_round, refused}
 use Rattle.schema_build_expand.proofs.expand_all.expansions.Goals as goal
 
 pub order_or_least-requires : goal.order_or_least-requires
@@ -45,3 +45,8 @@ returns-clause-whole g c =
     λ k h. All-contains (IsDone c.in_ok-expand_commons.field-0.items) c.in_ok-order.order.items k
     (rw (← c.deref-2.ensures.value) c.in_ok-expand_commons.ensures.whole)
     (o.whole k (omega (arith, h, c.in_ok-rows.ensures.same)))
+
+pub returns-clause-acyclic : goal.returns-clause-acyclic
+returns-clause-acyclic g c =
+    none_round g.s g.R.Meanings.place c.args.commons.now c.in_ok-rows.rows.items c.in_ok-rows.ensures
+    (subst NoneCyclic c.deref.ensures.value c.in_ok-order.ensures.acyclic)
