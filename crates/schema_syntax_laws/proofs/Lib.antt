@@ -1,0 +1,5 @@
+pub mod Members
+mod Values
+mod Notes
+mod Types
+mod Trees
