@@ -16,3 +16,5 @@ mod Targets
 mod UndefinedNames
 mod BuiltinParts
 mod Ready
+mod CycleNames
+mod LentScope

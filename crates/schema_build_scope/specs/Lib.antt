@@ -10,3 +10,4 @@ pub mod Meant
 pub mod LentCommons
 pub mod NamedTargets
 pub mod Lent
+pub mod LentRounds

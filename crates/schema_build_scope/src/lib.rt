@@ -11,7 +11,7 @@ pub mod names_in;
 mod ranks;
 pub mod references;
 
-pub use expansions::expand_in;
+pub use expansions::{expand_all_commons, expand_in};
 pub use fragment_names::FragmentNames;
 pub use names_in::NamesIn;
 pub use references::check_references;
