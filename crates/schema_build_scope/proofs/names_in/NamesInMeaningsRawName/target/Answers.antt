@@ -1,0 +1,48 @@
+use Rattle.std.proofs.Common.{true, false}
+use Rattle.std.specs.Option.{option_copied}
+use Rattle.std.proofs.lemmas.Result.{IfOk-weaker}
+use Rattle.cedar_identifiers.specs.Names.{components_of}
+use Rattle.schema_resolve_definitions.specs.Declarations.{name_of}
+use Rattle.schema_resolve_definitions.specs.Defined.{defined}
+use Rattle.schema_resolve_definitions.specs.Tests.{tests_of}
+use Rattle.schema_build_scope.proofs.Targets.{means_found, meant_common, meant_entity, common_meant}
+use Rattle.schema_build_scope.proofs.Unreserved.{entity_free}
+use Rattle.schema_build_scope.proofs.names_in.NamesInMeaningsRawName.target.Goals as goal
+
+pub common_target-requires : goal.common_target-requires
+common_target-requires c =
+    let f = c.args.self.now.names.now.fragment in
+    let table = c.args.self.now.names.now.table in
+    let ns = name_of c.args.self.now.ns.now in
+    let t = tests_of (defined f table) in
+    let meant =
+    means_found (tests_of c.defs.result.now) t c.defs.ensures (option_copied c.name_of.result) ns c.name_of.ensures
+    c.args.kind c.args.name.now c.find_meant.result c.in-Some.meant true c.in_ok-full-in-Some.full c.find_meant.ensures
+    c.in-Some.is c.if-meant.true c.in_ok-full-in-Some.ensures in
+    meant_common t ns c.args.kind c.args.name.now c.in_ok-full-in-Some.full meant
+
+pub entity_target-requires : goal.entity_target-requires
+entity_target-requires c =
+    let f = c.args.self.now.names.now.fragment in
+    let table = c.args.self.now.names.now.table in
+    let ns = name_of c.args.self.now.ns.now in
+    let t = tests_of (defined f table) in
+    let meant =
+    means_found (tests_of c.defs.result.now) t c.defs.ensures (option_copied c.name_of.result) ns c.name_of.ensures
+    c.args.kind c.args.name.now c.find_meant.result c.in-Some.meant false c.in_ok-full-in-Some.full c.find_meant.ensures
+    c.in-Some.is c.if-meant.false c.in_ok-full-in-Some.ensures in
+    entity_free f table (components_of c.in_ok-full-in-Some.full)
+    (meant_entity t ns c.args.kind c.args.name.now c.in_ok-full-in-Some.full meant)
+
+pub returns-then-meant : goal.returns-then-meant
+returns-then-meant c =
+    let f = c.args.self.now.names.now.fragment in
+    let table = c.args.self.now.names.now.table in
+    let ns = name_of c.args.self.now.ns.now in
+    let t = tests_of (defined f table) in
+    let meant =
+    means_found (tests_of c.defs.result.now) t c.defs.ensures (option_copied c.name_of.result) ns c.name_of.ensures
+    c.args.kind c.args.name.now c.find_meant.result c.in-Some.meant true c.in_ok-full-in-Some.full c.find_meant.ensures
+    c.in-Some.is c.if-meant.true c.in_ok-full-in-Some.ensures in
+    IfOk-weaker c.common_target.result _ _
+    (common_meant f table ns c.args.kind c.args.name.now c.in_ok-full-in-Some.full meant) c.common_target.ensures

@@ -1,0 +1,13 @@
+pub mod Rows
+pub mod Commons
+pub mod FragmentScope
+pub mod FragmentUnder
+pub mod UndefinedRows
+pub mod TypeReaches
+pub mod CycleRow
+pub mod Parts
+pub mod Meant
+pub mod LentCommons
+pub mod NamedTargets
+pub mod Lent
+pub mod LentRounds

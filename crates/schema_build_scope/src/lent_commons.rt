@@ -1,0 +1,68 @@
+ghost use Rattle.std.specs.Prelude.{◌≡◌, ◌++◌, map, IfOk, OnOk};
+ghost use Rattle.schema_build_checks.specs.DeclaredAt.{declared_at};
+ghost use Rattle.schema_build_scope.specs.Commons.{common_entry, declared_commons};
+ghost use Rattle.schema_build_scope.specs.LentCommons.{lent_commons};
+
+use cedar_data::{CloneIn, List, Loc};
+use cedar_identifiers::{Id, InternalName, Name, RawName};
+use schema_json::{CommonType, CommonTypeId, Fragment, Type};
+use schema_resolve_definitions::declared::name_of;
+use std::alloc::{AllocError, Global};
+
+/// A declared common type, lent from its fragment.
+#[derive(Drop)]
+pub struct LentCommon<'f> {
+    /// The namespace that it is declared in.
+    pub ns: &'f Option<Name>,
+    /// The type that it names.
+    pub ty: &'f Type<RawName>,
+}
+
+// The common types that the fragment declares, in the order of the walk, each under its full name at the place of its
+// declaration.
+pub(crate) fn declared_commons<'f>(
+    alloc: Global,
+    fragment: &'f Fragment<RawName>,
+) -> Result<Vec<(InternalName, LentCommon<'f>)>, AllocError>
+    ensures { IfOk result (λ found. lent_commons found.items ≡ declared_commons fragment.now) }
+{
+    let mut found = Vec::new(alloc);
+    for (ns, definition) in fragment.0.as_slice() {
+        push_commons(alloc, &mut found, ns, definition.common_types.as_slice())?;
+    }
+    Ok(found)
+}
+
+// Adds the common types of a namespace.
+fn push_commons<'f>(
+    alloc: Global,
+    found: &mut Vec<(InternalName, LentCommon<'f>)>,
+    ns: &'f Option<Name>,
+    commons: &'f [(CommonTypeId, CommonType<RawName>)],
+) -> Result<(), AllocError>
+    ensures { OnOk result (lent_commons found.new.items ≡ lent_commons found.old.items ++ map (common_entry ns.now) commons.now) }
+{
+    for (id, common) in commons {
+        let name = declared_at(alloc, ns, &id.id.id, common.loc)?;
+        let ty = &common.ty;
+        found.push((name, LentCommon { ns, ty }))?;
+    }
+    Ok(())
+}
+
+// A name that is declared in a namespace, at the place of its declaration.
+fn declared_at(
+    alloc: Global,
+    ns: &Option<Name>,
+    id: &Id,
+    loc: Option<Loc>,
+) -> Result<InternalName, AllocError>
+    ensures { IfOk result (λ name. name ≡ declared_at ns.now id.now loc) }
+{
+    let word = InternalName {
+        first: id.clone_in(alloc)?,
+        others: List::new(alloc),
+        loc,
+    };
+    word.qualify_with(alloc, name_of(ns))
+}

@@ -1,0 +1,127 @@
+ghost use Rattle.std.specs.Prelude.{◌≡◌, true, false, IfOk};
+ghost use Rattle.cedar_identifiers.specs.Names.{components_of, has_cedar};
+ghost use Rattle.schema_resolve_definitions.specs.Declarations.{name_of};
+ghost use Rattle.schema_resolve_definitions.specs.Defined.{defined};
+ghost use Rattle.schema_resolve_definitions.specs.Tests.{tests_of};
+ghost use Rattle.schema_resolve.specs.Tried.{candidate};
+ghost use Rattle.schema_build_expand.specs.Scope.{Scope};
+ghost use Rattle.schema_build_expand.specs.Targets.{IsMeantTarget};
+ghost use Rattle.schema_build_expand.specs.Ranks.{IsRankOf};
+ghost use Rattle.schema_build_scope.specs.FragmentScope.{fragment_scope};
+ghost use Rattle.schema_build_scope.specs.NamedTargets.{IsRankOfName, IsCommonTarget, IsEntityTarget};
+
+use crate::builtins::builtin_type;
+use crate::fragment_names::FragmentNames;
+use crate::meant::find_meant;
+use crate::ranks::search;
+use cedar_data::CloneIn;
+use cedar_identifiers::{InternalName, Name, RawName, ReferenceType};
+use schema_build_expand::{Meanings, Target};
+use schema_resolve_definitions::declared::name_of;
+use std::alloc::{AllocError, Global};
+
+/// What the references mean that are written in one namespace of a fragment.
+#[derive(Drop)]
+pub struct NamesIn<'n, 'f> {
+    /// The fragment's names.
+    pub names: &'n FragmentNames<'f>,
+    /// The namespace.
+    pub ns: &'n Option<Name>,
+}
+
+impl<'n, 'f> Meanings<RawName> for NamesIn<'n, 'f> {
+    ghost scope = { λ v. fragment_scope v.names.now.fragment v.names.now.table };
+
+    ghost place = { λ v. name_of v.ns.now };
+
+    fn target(
+        &self,
+        alloc: Global,
+        kind: ReferenceType,
+        name: &RawName,
+    ) -> Result<Target, AllocError> {
+        match find_meant(self.names.defs(), name_of(self.ns), kind, name) {
+            Some(meant) => {
+                let full = candidate(alloc, self.ns, &name.name, meant.is_own)?;
+                if meant.is_common {
+                    common_target(alloc, self.names, full)
+                } else {
+                    Ok(entity_target(full))
+                }
+            }
+            None => unreachable!(),
+        }
+    }
+
+    fn rank(
+        &self,
+        alloc: Global,
+        kind: ReferenceType,
+        name: &RawName,
+    ) -> Result<Option<usize>, AllocError> {
+        match find_meant(self.names.defs(), name_of(self.ns), kind, name) {
+            Some(meant) => {
+                if meant.is_common {
+                    let full = candidate(alloc, self.ns, &name.name, meant.is_own)?;
+                    Ok(rank_of(self.names, &full))
+                } else {
+                    Ok(None)
+                }
+            }
+            None => Ok(None),
+        }
+    }
+}
+
+// The candidate of the name: behind the namespace, or as it is written.
+fn candidate(
+    alloc: Global,
+    ns: &Option<Name>,
+    name: &InternalName,
+    is_own: bool,
+) -> Result<InternalName, AllocError>
+    ensures { IfOk result (λ full. full ≡ candidate (name_of ns.now) name.now is_own) }
+{
+    let name = name.clone_in(alloc)?;
+    if is_own {
+        name.qualify_with(alloc, name_of(ns))
+    } else {
+        Ok(name)
+    }
+}
+
+// The rank of the declared common type of this name, if there is one.
+fn rank_of(names: &FragmentNames<'_>, name: &InternalName) -> Option<usize>
+    ensures { IsRankOfName (fragment_scope names.now.fragment names.now.table) (components_of name.now) result }
+{
+    match search(names.commons(), name) {
+        Ok(rank) => Some(rank),
+        Err(_) => None,
+    }
+}
+
+// What the name of a common type stands for: the declared common type of its rank, or else a builtin type.
+fn common_target(
+    alloc: Global,
+    names: &FragmentNames<'_>,
+    name: InternalName,
+) -> Result<Target, AllocError>
+    requires { (tests_of (defined names.now.fragment names.now.table)).is_common (components_of name) ≡ true }
+    ensures { IfOk result (IsCommonTarget (fragment_scope names.now.fragment names.now.table) (components_of name)) }
+{
+    match rank_of(names, &name) {
+        Some(rank) => Ok(Target::Common(rank)),
+        None => Ok(Target::Builtin(builtin_type(alloc, names.table(), &name)?)),
+    }
+}
+
+// The entity type of this name.
+fn entity_target(name: InternalName) -> Target
+    requires { has_cedar (components_of name) ≡ false }
+    ensures { IsEntityTarget name result }
+{
+    match Name::from_internal(name) {
+        Some(name) => Target::Entity(name),
+        None => unreachable!(),
+    }
+}
