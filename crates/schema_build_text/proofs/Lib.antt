@@ -1,0 +1,11 @@
+mod Bytes
+mod Declared
+mod Grouped
+mod InOrder
+mod Layers
+mod Meant
+mod Named
+mod Quoted
+mod Rowed
+mod Sizes
+mod Walked

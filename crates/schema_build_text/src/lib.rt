@@ -1,0 +1,13 @@
+//! Built schemas as canonical text, and what stands against it.
+#![tactic(auto)]
+
+mod actions;
+mod entity_types;
+mod items;
+mod names;
+pub mod printing;
+mod pushing;
+mod rows;
+mod types;
+
+pub use printing::canonical_schema_text;
