@@ -8,4 +8,5 @@ mod Named
 mod Quoted
 mod Rowed
 mod Sizes
+mod Uncaptured
 mod Walked

@@ -1,6 +1,7 @@
 pub mod Adds
+pub mod Captured
 pub mod Growing
-pub mod Rows
-pub mod Readings
-pub mod Walk
 pub mod Items
+pub mod Readings
+pub mod Rows
+pub mod Walk

@@ -4,6 +4,7 @@
 mod actions;
 mod entity_types;
 mod items;
+pub mod laws;
 mod names;
 pub mod printing;
 mod pushing;
