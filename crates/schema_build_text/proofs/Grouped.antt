@@ -31,11 +31,11 @@ or_right : (a b : Bool) → b ≡ true → (a || b) ≡ true
 or_right true b h = refl
 or_right false b h = h
 
-or_same : (a b : Bool) → (b || a) ≡ (b || (b || a))
+pub or_same : (a b : Bool) → (b || a) ≡ (b || (b || a))
 or_same a true = refl
 or_same a false = refl
 
-or_turned : (a b c : Bool) → (b || (a || c)) ≡ (a || (b || c))
+pub or_turned : (a b c : Bool) → (b || (a || c)) ≡ (a || (b || c))
 or_turned true true c = refl
 or_turned true false c = refl
 or_turned false true c = refl

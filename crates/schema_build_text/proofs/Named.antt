@@ -79,7 +79,7 @@ same_ids : (i j : Id) → bytes_eq i.text j.text ≡ is_eq (ids_in_order i j)
 same_ids i j =
     sym (λ k. bytes_eq (id_bytes i.text i.word k) (id_bytes j.text j.word k)) ∙ sym (is_eq-slice_cmp (encode_utf8_all i.text) (encode_utf8_all j.text))
 
-same_lists : (xs ys : List Id) → same_name (texts_of xs) (texts_of ys) ≡ is_eq (slice_cmp text_cmp (texts_of xs) (texts_of ys))
+pub same_lists : (xs ys : List Id) → same_name (texts_of xs) (texts_of ys) ≡ is_eq (slice_cmp text_cmp (texts_of xs) (texts_of ys))
 same_lists xs ys =
     pointwise-map (λ i. i.text) bytes_eq xs ys ∙ lists_ties ids_in_order same_ids xs ys ∙ ap is_eq (ids_cmp ids_in_order (λ x y. refl) xs ys)
 

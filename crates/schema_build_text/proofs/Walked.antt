@@ -32,7 +32,7 @@ Name = List (List ℕ)
 pub names_total : IsTotalOrder (slice_cmp text_cmp)
 names_total = lists_total (on_total encode_utf8_all nat_list_cmp_total)
 
-same_self : (n : Name) → same_name n n ≡ true
+pub same_self : (n : Name) → same_name n n ≡ true
 same_self [] = refl
 same_self (c ∷ cs) = and_from (bytes_eq c c) (same_name cs cs) ((bytes_eq-Decides c c).1 refl) (same_self cs)
 
@@ -40,7 +40,7 @@ by_bool : (P : Bool → Type 0) (b : Bool) → (b ≡ true → P true) → (b �
 by_bool P true t f = t refl
 by_bool P false t f = f refl
 
-apart : (m n : Name) → slice_cmp text_cmp m n ≡ Less → same_name m n ≡ false
+pub apart : (m n : Name) → slice_cmp text_cmp m n ≡ Less → same_name m n ≡ false
 apart m n less = by_bool (λ b. same_name m n ≡ b → b ≡ false) (same_name m n) (λ e h. absurd (clash (same_list m n e))) (λ e h. refl) refl
   where
     clash : m ≡ n → ⊥
@@ -53,7 +53,7 @@ text_behind before (z ∷ zs) =
     before_text before (namespace_of z) ++ (item_text (base_in (namespace_of z)) z ++ text_behind (Some (namespace_of z)) zs)
 
 -- all of this namespace
-abbrev AreIn : Name → List ItemContent → Type 0
+abbrev pub AreIn : Name → List ItemContent → Type 0
 AreIn n [] = Unit {0}
 AreIn n (z ∷ zs) = (namespace_of z ≡ n) × AreIn n zs
 
@@ -131,7 +131,7 @@ module _ (items : Name → List ItemContent) where
       ∙ (sym (append_assoc (opening n) (texts ++ closing n) (later_blocks ns)) ∙ joined_blocks n ns)))
 
 -- the items of a namespace are of it
-within : (n : Name) (xs : List ItemContent) → AreIn n (filter (λ x. same_name n (namespace_of x)) xs)
+pub within : (n : Name) (xs : List ItemContent) → AreIn n (filter (λ x. same_name n (namespace_of x)) xs)
 within n [] = tt
 within n (x ∷ xs) = by (within n xs) (same_name n (namespace_of x)) refl
   where
@@ -182,7 +182,7 @@ walk_text c =
     (blocks_text (items_in c) ns (rises_sorted names_total (map namespace_of (items_of c)))
     (λ i d h. group_of (get_or ns i d) (items_of c) (all_have (items_of c) i d h)))
 
-filter_append : {X : Type 0} (p : X → Bool) (xs ys : List X) → filter p (xs ++ ys) ≡ filter p xs ++ filter p ys
+pub filter_append : {X : Type 0} (p : X → Bool) (xs ys : List X) → filter p (xs ++ ys) ≡ filter p xs ++ filter p ys
 filter_append p [] ys = refl
 filter_append p (x ∷ xs) ys = ap (λ l. cond (p x) (x ∷ l) l) (filter_append p xs ys) ∙ by (p x)
   where

@@ -1,14 +1,20 @@
--- Which items of a built schema are captured: a type of theirs holds the type `Action` of the empty namespace, and their
--- own namespace has a name and an action, so that there the text `Action` means the type of its own actions.
+-- Which items of a built schema are captured: a type of theirs holds the type `Action` of the empty namespace, and
+-- their own namespace has a name and an action, so that there the text `Action` means the type of its own actions.
 use Rattle.std.specs.Prelude.{◌≡◌, ℕ, Bool, false, ◌||◌, List, [], ◌∷◌, codes, filter, Option, None, Some, if◌then◌else◌}
 use Rattle.std.specs.List.{flat_map, list_any}
-use Rattle.cedar_names.specs.CanonicalText.{namespace}
+use Rattle.cedar_identifiers.specs.Names.{components_of}
+use Rattle.cedar_names.specs.CanonicalText.{basename, namespace}
 use Rattle.cedar_names.specs.Definitions.{same_name, among}
 use Rattle.cedar_names.specs.Meaning.{SchemaMeaning}
 use Rattle.schema_build_types.specs.Content.{TypeContent, AttributeContents, none, first, EntityContent, ActionContent, SchemaContent}
 use Rattle.schema_build_types.specs.Content as said
 use Rattle.schema_build_types.specs.Standing.{schema_as_built}
-use Rattle.schema_build_text.specs.Walk.{ItemContent, entity_type, action, items_in, namespaces_of}
+use Rattle.schema_build_errors.specs.declared.captured.CapturedItem.{CapturedItem}
+use Rattle.schema_build_errors.specs.declared.captured.CapturedItem.TheVariants as item
+use Rattle.schema_build_errors.specs.declared.captured.ReferenceCaptured.{ReferenceCaptured}
+use Rattle.schema_build_errors.specs.declared.recovery_error.ToTextError.{ToTextError}
+use Rattle.schema_build_errors.specs.declared.recovery_error.ToTextError.TheVariants as refusal
+use Rattle.schema_build_text.specs.Walk.{ItemContent, entity_type, action, namespace_of, items_in, namespaces_of}
 
 -- the type `Action` of the empty namespace
 abbrev pub plain_action : List (List ℕ)
@@ -35,7 +41,8 @@ abbrev mutual
   some_hold none = false
   some_hold (first name required ty more) = holds_plain_action ty || some_hold more
 
-abbrev tags_hold : Option TypeContent → Bool
+-- the type of the tags, where there are tags, holds it
+abbrev pub tags_hold : Option TypeContent → Bool
 tags_hold None = false
 tags_hold (Some ty) = holds_plain_action ty
 
@@ -60,3 +67,34 @@ captured_items c = flat_map (captured_in c) (namespaces_of c)
 -- nothing of what the meaning has is captured
 abbrev pub IsUncaptured : SchemaMeaning → Type 0
 IsUncaptured m = captured_items (schema_as_built m) ≡ []
+
+-- the first of the items, where there is one
+abbrev pub first_item : List ItemContent → Option ItemContent
+first_item [] = None
+first_item (x ∷ others) = Some x
+
+-- this is the last word of the entity type's name, or the id of the action
+abbrev pub IsItem : ItemContent → CapturedItem → Type 0
+IsItem (entity_type e) (item.EntityType word) = word.id.text ≡ basename e.name
+IsItem (entity_type e) (item.Action id) = ⊥
+IsItem (action a) (item.EntityType word) = ⊥
+IsItem (action a) (item.Action id) = id ≡ a.id
+
+-- the error names the namespace of the item, and the item
+abbrev pub IsAbout : ItemContent → ReferenceCaptured → Type 0
+IsAbout x captured = (components_of captured.namespace.name ≡ namespace_of x) × IsItem x captured.item
+
+-- the error is about the first of the items, of which there is one
+abbrev pub IsFirstOf : List ItemContent → ReferenceCaptured → Type 0
+IsFirstOf [] captured = ⊥
+IsFirstOf (x ∷ others) captured = IsAbout x captured
+
+-- the error is about the first of what the meaning has that is captured
+abbrev pub IsFirstCaptured : SchemaMeaning → ReferenceCaptured → Type 0
+IsFirstCaptured m captured = IsFirstOf (captured_items (schema_as_built m)) captured
+
+-- why a schema that stands for the meaning has no text: something is captured, or memory is wanted
+abbrev pub IsTextRefusal : SchemaMeaning → ToTextError → Type 0
+IsTextRefusal m (refusal.Recovery e) = ⊥
+IsTextRefusal m (refusal.Captured captured) = IsFirstCaptured m captured
+IsTextRefusal m refusal.Memory = Unit {0}

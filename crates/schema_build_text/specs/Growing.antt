@@ -28,7 +28,9 @@ begun a all = record { meets = refl }
 pub round : {initial a b x left next all : List ℕ} → Adds a b x → Leaves initial a left all → left ≡ x ++ next
     → Leaves initial b next all
 round {initial} {a} {b} {x} {left} {next} {all} e l f =
-    record { meets = ap (λ t. t ++ next) e.grown ∙ append_assoc (encode_utf8_all a) x next ∙ ap (λ t. encode_utf8_all a ++ t) (sym f) ∙ l.meets }
+    let grown : encode_utf8_all b ++ next ≡ encode_utf8_all a ++ (x ++ next) =
+    ap (λ t. t ++ next) e.grown ∙ append_assoc (encode_utf8_all a) x next in
+    record { meets = grown ∙ ap (λ t. encode_utf8_all a ++ t) (sym f) ∙ l.meets }
 
 -- and the end
 pub adds_all : {initial a left all : List ℕ} → Leaves initial a left all → left ≡ [] → Adds initial a all

@@ -1,4 +1,5 @@
 pub mod Adds
+pub mod Beside
 pub mod Captured
 pub mod Growing
 pub mod Items

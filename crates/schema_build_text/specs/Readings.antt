@@ -1,5 +1,6 @@
--- Which meaning is printed for a built schema. Where it says what no meaning says, its text stands for no meaning either,
--- and another type is printed in its place: an open record as a closed one, a type of several names by the first.
+-- Which meaning is printed for a built schema. Where it says what no meaning says, its text stands for no meaning
+-- either, and another type is printed in its place: an open record as a closed one, a type of several names by the
+-- first.
 use Rattle.std.specs.Prelude.{ℕ, List, [], ◌∷◌, map}
 use Rattle.std.specs.Option.{option_map}
 use Rattle.cedar_names.specs.Meaning.{PlainType, Attributes, no_more, attribute, EntityMeaning, ActionMeaning, SchemaMeaning}

@@ -1,4 +1,5 @@
--- The walk of a built schema: its namespaces in order, the empty one first, and in each the entity types, then the actions.
+-- The walk of a built schema: its namespaces in order, the empty one first, and in each the entity types, then the
+-- actions.
 use Rattle.std.specs.Prelude.{ℕ, List, ◌++◌, map, filter}
 use Rattle.std.specs.List.{flat_map}
 use Rattle.cedar_names.specs.CanonicalText.{namespace, in_order}

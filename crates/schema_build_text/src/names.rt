@@ -97,8 +97,8 @@ pub fn push_break(
     Ok(())
 }
 
-// Whether the names have the same namespace.
-fn are_together(a: &InternalName, b: &InternalName) -> bool
+/// Whether the names have the same namespace.
+pub fn are_together(a: &InternalName, b: &InternalName) -> bool
     ensures { result ≡ same_name (namespace (components_of a.now)) (namespace (components_of b.now)) }
 {
     compare_namespaces(a, b).is_eq()
