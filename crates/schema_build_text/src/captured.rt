@@ -1,5 +1,4 @@
-ghost use Rattle.std.specs.Prelude.{◌≡◌, ◌&&◌, [], IfOk, MatchOption, map};
-ghost use Rattle.std.specs.List.{list_any};
+ghost use Rattle.std.specs.Prelude.{◌≡◌, [], IfOk, MatchOption, map};
 ghost use Rattle.std.specs.Option.{option_copied, option_map};
 ghost use Rattle.cedar_identifiers.specs.Names.{components_of};
 ghost use Rattle.cedar_names.specs.CanonicalText.{basename, namespace};
