@@ -1,0 +1,10 @@
+use Rattle.std.proofs.Common.{codes, map}
+use Rattle.cedar_data.specs.NonEmpty.{items_left}
+use Rattle.schema_syntax_tokens.specs.Quotes.{quoted}
+use Rattle.schema_build_text.specs.Growing.{Leaves}
+use Rattle.schema_build_text.specs.Rows.{row_behind}
+use Rattle.schema_build_text.proofs.rows.push_choices.Given as goal
+
+abbrev pub invariant-loop-choice : goal.invariant-loop-choice
+invariant-loop-choice l =
+    Leaves l.initial.text l.text (row_behind (codes ", ") l.behind (map (λ c. quoted c.0) (items_left l.choice-iterator))) (row_behind (codes ", ") l.initial.behind (map (λ c. quoted c.0) l.choices))

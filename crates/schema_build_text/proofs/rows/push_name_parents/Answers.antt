@@ -1,0 +1,10 @@
+use Rattle.std.proofs.Common.{refl, ap}
+use Rattle.std.proofs.lemmas.Result.{on_ok_weaker}
+use Rattle.cedar_names.specs.CanonicalText.{parents_text}
+use Rattle.schema_build_text.specs.Growing.{so}
+use Rattle.schema_build_text.proofs.Rowed.{names_shown, names_go}
+use Rattle.schema_build_text.proofs.rows.push_name_parents.Goals as goal
+
+pub returns : goal.returns
+returns c =
+    on_ok_weaker c.push_parents.result (λ e. so e (ap parents_text (names_shown _ (names_go _ (λ x y. refl)) c.args.names.now))) c.push_parents.ensures

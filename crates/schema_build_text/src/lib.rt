@@ -1,0 +1,18 @@
+//! Built schemas as canonical text, and what stands against it.
+#![tactic(auto)]
+
+mod actions;
+pub mod captured;
+mod entity_types;
+mod items;
+pub mod laws;
+mod names;
+pub mod printing;
+mod pushing;
+mod rows;
+pub mod to_text;
+mod types;
+
+pub use captured::first_captured;
+pub use printing::canonical_schema_text;
+pub use to_text::uncaptured_schema_text;

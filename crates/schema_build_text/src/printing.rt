@@ -1,0 +1,72 @@
+ghost use Rattle.std.specs.Prelude.{◌≡◌, OnOk, IfOk, map};
+ghost use Rattle.std.specs.Option.{option_copied};
+ghost use Rattle.std.specs.Str.{encode_utf8_all};
+ghost use Rattle.cedar_identifiers.specs.Names.{components_of};
+ghost use Rattle.cedar_names.specs.Meaning.{SchemaMeaning};
+ghost use Rattle.cedar_names.specs.CanonicalText.{canonical_text, namespace};
+ghost use Rattle.schema_build_types.specs.Content.{SchemaContent};
+ghost use Rattle.schema_build_types.specs.Standing.{SchemaStandsFor};
+ghost use Rattle.schema_build_text.specs.Adds.{Adds};
+ghost use Rattle.schema_build_text.specs.Items.{item_content, before_text, after_text, namespace_behind};
+ghost use Rattle.schema_build_text.specs.Readings.{schema_reading};
+ghost use Rattle.schema_build_text.specs.Walk.{walk};
+
+use crate::items::{Item, items_in_order, name_of, push_item};
+use crate::names::{base_of, push_break, push_closing, push_opening};
+use cedar_data::Text;
+use cedar_identifiers::{InternalName, Name};
+use cedar_names::EntityUID;
+use schema_build_types::{ValidatorActionId, ValidatorEntityType};
+use std::alloc::{AllocError, Global};
+
+// Adds what stands before the item.
+fn push_before(
+    text: &mut Text,
+    before: Option<&InternalName>,
+    name: &InternalName,
+) -> Result<(), AllocError>
+    ensures { OnOk result (Adds text.old text.new (before_text (namespace_behind (option_copied before.entry)) (namespace (components_of name.now)))) }
+{
+    match before {
+        None => push_opening(text, name),
+        Some(before) => push_break(text, before, name),
+    }
+}
+
+// Adds what stands behind the last item.
+fn push_after(text: &mut Text, last: Option<&InternalName>) -> Result<(), AllocError>
+    ensures { OnOk result (Adds text.old text.new (after_text (namespace_behind (option_copied last.entry)))) }
+{
+    match last {
+        None => Ok(()),
+        Some(last) => push_closing(text, last),
+    }
+}
+
+/// The text of items that stand in the order of the walk.
+pub fn print_items(alloc: Global, items: &[Item<'_>]) -> Result<Text, AllocError>
+    ensures { IfOk result (λ text. (c : SchemaContent) → map item_content items.now ≡ walk c → encode_utf8_all text ≡ canonical_text (schema_reading c)) }
+{
+    let mut text = Text::new(alloc);
+    let mut before = None;
+    for item in items {
+        let name = name_of(item);
+        push_before(&mut text, before, name)?;
+        push_item(&mut text, alloc, base_of(name), item)?;
+        before = Some(name);
+    }
+    push_after(&mut text, before)?;
+    Ok(text)
+}
+
+/// The canonical text of a built schema: of the meaning for which its entity types and actions stand.
+pub fn canonical_schema_text(
+    alloc: Global,
+    entities: &[(Name, ValidatorEntityType)],
+    actions: &[(EntityUID, ValidatorActionId)],
+) -> Result<Text, AllocError>
+    ensures { IfOk result (λ text. (m : SchemaMeaning) → SchemaStandsFor entities.now actions.now m → encode_utf8_all text ≡ canonical_text m) }
+{
+    let items = items_in_order(alloc, entities, actions)?;
+    print_items(alloc, &items)
+}
