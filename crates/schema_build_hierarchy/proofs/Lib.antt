@@ -11,3 +11,4 @@ mod ParentRanks
 mod UsesFree
 mod Cycles
 mod Gathered
+mod EnumAbove

@@ -5,6 +5,7 @@
 pub mod ancestors;
 pub mod declared_types;
 pub mod entries;
+pub mod external;
 mod firsts;
 mod parents;
 mod ranks;
@@ -12,3 +13,4 @@ mod ranks;
 pub use ancestors::{action_ancestors, check_action_cycle, entity_ancestors};
 pub use declared_types::check_declared_types;
 pub use entries::{ActionEntry, EntityEntry, Entry, actions_in_order, entities_in_order};
+pub use external::check_external_types;
