@@ -12,3 +12,4 @@ mod UsesFree
 mod Cycles
 mod Gathered
 mod EnumAbove
+mod ParentsDeclared

@@ -39,11 +39,11 @@ pub all_flat : {A B : Type 0} (f : A → List B) (P : B → Type 0) → ((a : A)
 all_flat f P each [] = All-nil P
 all_flat f P each (x ∷ xs) = All-append P (f x) (flat_map f xs) (each x) (all_flat f P each xs)
 
-both_true : (a b : Bool) → (a && b) ≡ true → (a ≡ true) × (b ≡ true)
+pub both_true : (a b : Bool) → (a && b) ≡ true → (a ≡ true) × (b ≡ true)
 both_true true b h = (refl, h)
 both_true false b h = absurd (cc)
 
-same_names : (xs ys : List (List ℕ)) → same_name xs ys ≡ true → xs ≡ ys
+pub same_names : (xs ys : List (List ℕ)) → same_name xs ys ≡ true → xs ≡ ys
 same_names [] [] h = refl
 same_names [] (y ∷ ys) h = absurd (cc)
 same_names (x ∷ xs) [] h = absurd (cc)
@@ -57,7 +57,7 @@ or_second : (a b : Bool) → (a || b) ≡ true → a ≡ false → b ≡ true
 or_second true b h k = absurd (cc)
 or_second false b h k = h
 
-found_passes : {A : Type 0} (p : A → Bool) (xs : List A) (x : A) → find p xs ≡ Some x → p x ≡ true
+pub found_passes : {A : Type 0} (p : A → Bool) (xs : List A) (x : A) → find p xs ≡ Some x → p x ≡ true
 found_passes p [] x h = absurd (cc)
 found_passes {A} p (k ∷ xs) x h = go (cases_Bool (p k)) (found_passes p xs x)
   where
@@ -123,3 +123,7 @@ no_firsts R uses f (x ∷ xs) none some h =
     let there : Contains uses (f x) = first_contained R uses (f x) (some.first 0 (f x) (omega arith)) in
     let alike = none.whole (f x) there in
     omega (arith, alike.1.1)
+
+-- where there are no first uses, there are none
+pub none_used : {A : Type 0} (R : A → A → Ordering) (uses : List A) → AreFirstUses R uses [] → (u : A) → Contains uses u → ⊥
+none_used R uses none u c = let alike = none.whole u c in omega (arith, alike.1.1)

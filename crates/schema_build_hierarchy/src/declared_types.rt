@@ -4,7 +4,10 @@ ghost use Rattle.schema_json_walk.specs.Visits.{part_of};
 ghost use Rattle.schema_resolve_definitions.specs.Defined.{defined};
 ghost use Rattle.schema_resolve_definitions.specs.Tests.{tests_of};
 ghost use Rattle.schema_build_checks.specs.Rows.{Never, OrMemory};
+ghost use Rattle.schema_build_hierarchy.specs.Ancestors.{AreParentsDeclared};
+ghost use Rattle.schema_build_hierarchy.specs.Declarations.{entity_name, declared_entities};
 ghost use Rattle.schema_build_hierarchy.specs.Finding.{Finds};
+ghost use Rattle.schema_build_hierarchy.specs.Parents.{entity_parents};
 ghost use Rattle.schema_build_hierarchy.specs.Rows.{HasUndeclaredEntityTypes, undeclared_part, undeclared_target, undeclared_uses};
 
 use crate::firsts::{first_uses, unreserved};
@@ -29,6 +32,7 @@ pub fn check_declared_types(
     ghost table: { TableTold }
     requires { tests_of defs.now ≡ tests_of (defined fragment.now table) }
     ensures ok { OnOk result (Never (HasUndeclaredEntityTypes (tests_of defs.now) fragment.now)) }
+    ensures declared { OnOk result (AreParentsDeclared entity_name (entity_parents (tests_of defs.now)) (declared_entities fragment.now)) }
     ensures err { IfErr result (OrMemory (HasUndeclaredEntityTypes (tests_of defs.now) fragment.now)) }
 {
     let uses = undeclared_uses(alloc, fragment, defs)?;

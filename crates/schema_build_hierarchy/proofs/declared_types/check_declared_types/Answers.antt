@@ -5,7 +5,8 @@ use Rattle.cedar_identifiers.specs.declared.name.Name.{Name}
 use Rattle.schema_resolve_definitions.specs.Tests.{tests_of}
 use Rattle.schema_build_hierarchy.specs.FirstUses.{AreFirstUses, IsFirstUse}
 use Rattle.schema_build_hierarchy.specs.Rows.{undeclared_uses}
-use Rattle.schema_build_hierarchy.proofs.UsesFree.{Free, uses_free, first_contained, no_firsts}
+use Rattle.schema_build_hierarchy.proofs.ParentsDeclared.{entities_declared}
+use Rattle.schema_build_hierarchy.proofs.UsesFree.{Free, uses_free, first_contained, no_firsts, none_used}
 use Rattle.schema_build_hierarchy.proofs.declared_types.check_declared_types.Goals as goal
 
 pub unreserved-requires : goal.unreserved-requires
@@ -27,3 +28,11 @@ returns-in-None-clause-ok g c = λ e h.
     let firsts : AreFirstUses names_in_order uses c.in_ok-first_uses.field-0.items = subst (λ l. AreFirstUses names_in_order l c.in_ok-first_uses.field-0.items) c.in_ok-uses.ensures c.in_ok-first_uses.ensures in
     let none : c.in_ok-first_uses.field-0.items ≡ [] = sym c.in_ok-firsts.ensures ∙ ap (map (λ (n : Name). n.name)) c.in-None.ensures.none in
     no_firsts names_in_order uses (λ (n : Name). n.name) h.0.types (subst (AreFirstUses names_in_order uses) none firsts) h.2 h.3
+
+pub returns-in-None-clause-declared : goal.returns-in-None-clause-declared
+returns-in-None-clause-declared g c =
+    let t = tests_of c.args.defs.now in
+    let uses = undeclared_uses t c.args.fragment.now in
+    let firsts : AreFirstUses names_in_order uses c.in_ok-first_uses.field-0.items = subst (λ l. AreFirstUses names_in_order l c.in_ok-first_uses.field-0.items) c.in_ok-uses.ensures c.in_ok-first_uses.ensures in
+    let none : c.in_ok-first_uses.field-0.items ≡ [] = sym c.in_ok-firsts.ensures ∙ ap (map (λ (n : Name). n.name)) c.in-None.ensures.none in
+    entities_declared c.args.fragment.now t (none_used names_in_order uses (subst (AreFirstUses names_in_order uses) none firsts))
