@@ -7,6 +7,7 @@ pub mod declared_types;
 pub mod entries;
 pub mod external;
 mod firsts;
+pub mod laws;
 mod parents;
 mod ranks;
 
