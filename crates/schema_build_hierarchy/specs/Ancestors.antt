@@ -34,7 +34,8 @@ pub record IsAncestorRow {K : Type 0} (ancestor : K → K → Type 0) (names : L
   pub whole : (b : K) → ancestor a b → (r : ℕ) × (slice_get names r ≡ Some b) × Contains row r
 
 -- the row of each name holds the ranks of its ancestors
-pub record AreAncestorRows {K : Type 0} (ancestor : K → K → Type 0) (names : List K) (rows : List (Vec ℕ Global)) : Type 0 where
+pub record AreAncestorRows {K : Type 0} (ancestor : K → K → Type 0) (names : List K)
+    (rows : List (Vec ℕ Global)) : Type 0 where
   pub same : length rows ≡ length names
   pub each : (i : ℕ) (a : K) (row : Vec ℕ Global) → slice_get names i ≡ Some a → slice_get rows i ≡ Some row
       → IsAncestorRow ancestor names a row.items

@@ -1,4 +1,5 @@
--- What a fragment declares, in the order of the walk: each declaration with its full name, its namespace and what it says.
+-- What a fragment declares, in the order of the walk: each declaration with its full name, its namespace and what it
+-- says.
 use Rattle.std.specs.Prelude.{ℕ, List, map, Option}
 use Rattle.std.specs.List.{flat_map}
 use Rattle.cedar_identifiers.specs.Names.{components_of}

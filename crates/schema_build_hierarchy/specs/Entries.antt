@@ -31,6 +31,7 @@ module _ {G : named.Ghosts RawName} where
   action_of_entry e = record { name = at_of e.name; ns = e.ns.now; ty = e.ty.now }
 
   -- the entries are about just these, and rise by type and id
-  pub record AreActions (ds : List (Declared ActionAt (ActionType RawName G))) (entries : List (Entry EntityUID (ActionType RawName G))) : Type 0 where
+  pub record AreActions (ds : List (Declared ActionAt (ActionType RawName G)))
+      (entries : List (Entry EntityUID (ActionType RawName G))) : Type 0 where
     pub rising : IsStrictlySortedBy (λ a b. actions_at_in_order a.name b.name) (map action_of_entry entries)
     pub same : SameMembers ds (map action_of_entry entries)

@@ -30,7 +30,8 @@ use Rattle.schema_build_hierarchy.specs.Parents.{IsAncestor, IsActionAncestor}
 -- what the name means as an entity type, at the place of its use, where that is not one of the fragment's own
 abbrev pub undeclared_target : Tests → Tests → Option Name → RawName → List InternalName
 undeclared_target t own ns name =
-    filter (λ n. not (own.is_entity (components_of n))) (option_to_list (target t (in_namespace (name_of ns) Entity name)))
+    filter (λ n. not (own.is_entity (components_of n)))
+    (option_to_list (target t (in_namespace (name_of ns) Entity name)))
 
 -- a parent of an entity type, a principal or a resource that is no declared entity type
 abbrev pub undeclared_part : Tests → Tests → Option Name → Part RawName → List InternalName
@@ -44,7 +45,8 @@ is_enum (Standard s) = false
 is_enum (Enum choices) = true
 
 -- x is one of these that pass, and none that passes is less
-pub record IsLeastAmong {D A : Type 0} (order : A → A → Bool) (name : D → A) (passes : D → Type 0) (ds : List D) (x : D) : Type 0 where
+pub record IsLeastAmong {D A : Type 0} (order : A → A → Bool) (name : D → A) (passes : D → Type 0)
+    (ds : List D) (x : D) : Type 0 where
   pub among : Contains ds x
   pub passes_too : passes x
   pub none_less : (y : D) → Contains ds y → passes y → order (name y) (name x) ≡ false
@@ -55,7 +57,8 @@ IsCycleOf a e = (given : _) × (e ≡ error.CycleInActionHierarchy given) × (at
 
 -- the error names these types, the enumerated one without a place
 abbrev pub IsUnderEnum : InternalName → List (List ℕ) → SchemaError → Type 0
-IsUnderEnum external above e = (given : _) × (e ≡ error.ExternalWithEnumAncestor given) × (given.external_type.name ≡ external)
+IsUnderEnum external above e = (given : _) × (e ≡ error.ExternalWithEnumAncestor given)
+    × (given.external_type.name ≡ external)
     × (components_of given.enum_type.name ≡ above) × (given.enum_type.name.loc ≡ None)
 
 module _ {G : named.Ghosts RawName} where
@@ -63,7 +66,8 @@ module _ {G : named.Ghosts RawName} where
   abbrev pub undeclared_uses : Tests → Fragment RawName G → List InternalName
   undeclared_uses t f = of_fragment (undeclared_part t (tests_of (declared f))) f
 
-  -- parents, principals or resources are no declared entity types: the error names each once, in order, at its first use
+  -- parents, principals or resources are no declared entity types: the error names each once, in order, at its first
+  -- use
   abbrev pub HasUndeclaredEntityTypes : Tests → Fragment RawName G → SchemaError → Type 0
   HasUndeclaredEntityTypes t f e = (given : _) × (e ≡ error.UndeclaredEntityTypes given)
       × AreFirstUses names_in_order (undeclared_uses t f) (map (λ n. n.name) given.types) × (0 < length given.types)
