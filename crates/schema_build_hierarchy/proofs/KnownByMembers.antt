@@ -1,5 +1,6 @@
 -- A list that strictly rises is known by its members.
-use Rattle.std.proofs.Common.{◌≡◌, ℕ, List, [], ◌∷◌, Ordering, Some, refl, sym, ap, ◌∙◌, subst, inl, inr, Contains, arith}
+use Rattle.std.proofs.Common.{◌≡◌, ℕ, List, [], ◌∷◌, Ordering, Some, Contains}
+use Rattle.std.proofs.Common.{refl, sym, ap, ◌∙◌, subst, inl, inr, arith}
 use Rattle.std.specs.Prelude.{slice_get}
 use Rattle.std.specs.declared.cmp.Ordering.TheVariants.{Less, Greater}
 use Rattle.std.specs.Cmp.{IsTotalOrder}
@@ -24,7 +25,9 @@ module _ {A : Type 0} where
     less_itself x h = let e : Less ≡ Greater = sym h ∙ (o.antisymm x x ∙ ap ordering_reverse h) in absurd (cc)
 
     above : (x z : A) (xs : List A) → IsStrictlySortedBy R (x ∷ xs) → Contains xs z → R x z ≡ Less
-    above x z xs up c = All-contains (λ y. R x y ≡ Less) xs z (All-from_recursion (λ y. R x y ≡ Less) xs (sorted_head R x xs up)) c
+    above x z xs up c =
+        let all = All-from_recursion (λ y. R x y ≡ Less) xs (sorted_head R x xs up) in
+        All-contains (λ y. R x y ≡ Less) xs z all c
 
     tails : (x y : A) (xs ys : List A) → x ≡ y → IsStrictlySortedBy R (x ∷ xs)
         → ((z : A) → Contains (x ∷ xs) z → Contains (y ∷ ys) z) → (z : A) → Contains xs z → Contains ys z
@@ -61,12 +64,14 @@ known_by_members R o xs ys up down same = same_rising o xs ys up down (λ z. (sa
 -- one row for the ancestors of each
 module _ {K : Type 0} (E : K → K → Type 0) (names : List K)
     (apart : (i j : ℕ) (a : K) → slice_get names i ≡ Some a → slice_get names j ≡ Some a → i ≡ j) where
-  moved : (a : K) (row other : List ℕ) → IsAncestorRow E names a row → IsAncestorRow E names a other → (r : ℕ) → Contains row r → Contains other r
+  moved : (a : K) (row other : List ℕ) → IsAncestorRow E names a row → IsAncestorRow E names a other
+      → (r : ℕ) → Contains row r → Contains other r
   moved a row other is it r c =
       let (b, at, e) = is.sound r c in
       let (s, there, d) = it.whole b e in
       subst (Contains other) (apart s r b there at) d
 
   pub one_row : (a : K) (row other : List ℕ) → IsAncestorRow E names a row → IsAncestorRow E names a other → row ≡ other
-  one_row a row other is it = same_rising nat_cmp_total row other (sorted_from_strictly_increasing row is.rising) (sorted_from_strictly_increasing other it.rising)
+  one_row a row other is it = same_rising nat_cmp_total row other
+      (sorted_from_strictly_increasing row is.rising) (sorted_from_strictly_increasing other it.rising)
       (moved a row other is it) (moved a other row it is)

@@ -13,26 +13,39 @@ pub unreserved-requires : goal.unreserved-requires
 unreserved-requires g c =
     let uses = undeclared_uses (tests_of c.args.defs.now) c.args.fragment.now in
     let free = uses_free c.args.fragment.now g.table (tests_of c.args.defs.now) c.requires in
-    let firsts : AreFirstUses names_in_order uses c.in_ok-first_uses.field-0.items = subst (λ l. AreFirstUses names_in_order l c.in_ok-first_uses.field-0.items) c.in_ok-uses.ensures c.in_ok-first_uses.ensures in
-    All-weaker (IsFirstUse names_in_order uses) Free (λ x h. All-contains Free uses x free (first_contained names_in_order uses x h)) c.in_ok-first_uses.field-0.items firsts.first
+    let made = c.in_ok-first_uses.field-0.items in
+    let firsts : AreFirstUses names_in_order uses made =
+    subst (λ l. AreFirstUses names_in_order l made) c.in_ok-uses.ensures c.in_ok-first_uses.ensures in
+    All-weaker (IsFirstUse names_in_order uses) Free
+    (λ x h. All-contains Free uses x free (first_contained names_in_order uses x h)) made firsts.first
 
 pub returns-in-Some-clause-err : goal.returns-in-Some-clause-err
 returns-in-Some-clause-err g c =
     let uses = undeclared_uses (tests_of c.args.defs.now) c.args.fragment.now in
-    let firsts : AreFirstUses names_in_order uses c.in_ok-first_uses.field-0.items = subst (λ l. AreFirstUses names_in_order l c.in_ok-first_uses.field-0.items) c.in_ok-uses.ensures c.in_ok-first_uses.ensures in
-    inr (record { types = c.in-Some.types }, refl, subst (AreFirstUses names_in_order uses) (sym (ap (map (λ (n : Name). n.name)) c.in-Some.ensures.some.0 ∙ c.in_ok-firsts.ensures)) firsts, c.in-Some.ensures.some.1)
+    let made = c.in_ok-first_uses.field-0.items in
+    let firsts : AreFirstUses names_in_order uses made =
+    subst (λ l. AreFirstUses names_in_order l made) c.in_ok-uses.ensures c.in_ok-first_uses.ensures in
+    let same = ap (map (λ (n : Name). n.name)) c.in-Some.ensures.some.0 ∙ c.in_ok-firsts.ensures in
+    let held = subst (AreFirstUses names_in_order uses) (sym same) firsts in
+    inr (record { types = c.in-Some.types }, refl, held, c.in-Some.ensures.some.1)
 
 pub returns-in-None-clause-ok : goal.returns-in-None-clause-ok
 returns-in-None-clause-ok g c = λ e h.
     let uses = undeclared_uses (tests_of c.args.defs.now) c.args.fragment.now in
-    let firsts : AreFirstUses names_in_order uses c.in_ok-first_uses.field-0.items = subst (λ l. AreFirstUses names_in_order l c.in_ok-first_uses.field-0.items) c.in_ok-uses.ensures c.in_ok-first_uses.ensures in
-    let none : c.in_ok-first_uses.field-0.items ≡ [] = sym c.in_ok-firsts.ensures ∙ ap (map (λ (n : Name). n.name)) c.in-None.ensures.none in
-    no_firsts names_in_order uses (λ (n : Name). n.name) h.0.types (subst (AreFirstUses names_in_order uses) none firsts) h.2 h.3
+    let made = c.in_ok-first_uses.field-0.items in
+    let firsts : AreFirstUses names_in_order uses made =
+    subst (λ l. AreFirstUses names_in_order l made) c.in_ok-uses.ensures c.in_ok-first_uses.ensures in
+    let none : made ≡ [] = sym c.in_ok-firsts.ensures ∙ ap (map (λ (n : Name). n.name)) c.in-None.ensures.none in
+    let nothing = subst (AreFirstUses names_in_order uses) none firsts in
+    no_firsts names_in_order uses (λ (n : Name). n.name) h.0.types nothing h.2 h.3
 
 pub returns-in-None-clause-declared : goal.returns-in-None-clause-declared
 returns-in-None-clause-declared g c =
     let t = tests_of c.args.defs.now in
     let uses = undeclared_uses t c.args.fragment.now in
-    let firsts : AreFirstUses names_in_order uses c.in_ok-first_uses.field-0.items = subst (λ l. AreFirstUses names_in_order l c.in_ok-first_uses.field-0.items) c.in_ok-uses.ensures c.in_ok-first_uses.ensures in
-    let none : c.in_ok-first_uses.field-0.items ≡ [] = sym c.in_ok-firsts.ensures ∙ ap (map (λ (n : Name). n.name)) c.in-None.ensures.none in
-    entities_declared c.args.fragment.now t (none_used names_in_order uses (subst (AreFirstUses names_in_order uses) none firsts))
+    let made = c.in_ok-first_uses.field-0.items in
+    let firsts : AreFirstUses names_in_order uses made =
+    subst (λ l. AreFirstUses names_in_order l made) c.in_ok-uses.ensures c.in_ok-first_uses.ensures in
+    let none : made ≡ [] = sym c.in_ok-firsts.ensures ∙ ap (map (λ (n : Name). n.name)) c.in-None.ensures.none in
+    let nothing = subst (AreFirstUses names_in_order uses) none firsts in
+    entities_declared c.args.fragment.now t (none_used names_in_order uses nothing)
