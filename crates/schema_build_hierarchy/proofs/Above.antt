@@ -110,7 +110,7 @@ module _ {D K : Type 0} (known : D → K) (parents : D → List K) (ds : List D)
       ];
     }
 
--- ---- the same declarations in another order
+-- ---- declarations in another order
 module _ {D K : Type 0} (known : D → K) (parents : D → List K) (xs ys : List D) (to : (d : D) → Contains xs d → Contains ys d) where
   step_moved : (a b : K) → IsParentAmong known parents xs a b → IsParentAmong known parents ys a b
   step_moved a b (d, c, k, p) = (d, to d c, k, p)

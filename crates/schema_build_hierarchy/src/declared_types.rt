@@ -24,6 +24,7 @@ use std::alloc::{AllocError, Global};
 
 /// Refuses a fragment in which a parent of an entity type, a principal or a resource means an entity type that is not
 /// declared, as the type of actions is not. It names each such type once, in order, at the place of its first use.
+/// Where it passes, every parent of an entity type is declared.
 pub fn check_declared_types(
     alloc: Global,
     fragment: &Fragment<RawName>,

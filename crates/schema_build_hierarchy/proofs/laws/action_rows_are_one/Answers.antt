@@ -10,5 +10,7 @@ use Rattle.schema_build_hierarchy.proofs.laws.action_rows_are_one.Goals as goal
 
 pub returns : goal.returns
 returns g c =
-    one_row (IsActionAncestor g.g.0 g.g.1) (map (λ e. action_key (action_of_entry e)) c.args.entries.now)
-    (names_apart (on_total (λ (d : Declared _ _). d.name) actions_total) action_of_entry action_key (λ a b e. actions_tied a.name b.name e) c.args.entries.now c.requires.rising)
+    let entries = c.args.entries.now in
+    let order = on_total (λ (d : Declared _ _). d.name) actions_total in
+    one_row (IsActionAncestor g.g.0 g.g.1) (map (λ e. action_key (action_of_entry e)) entries)
+    (names_apart order action_of_entry action_key (λ a b e. actions_tied a.name b.name e) entries c.requires.rising)

@@ -10,5 +10,6 @@ use Rattle.schema_build_hierarchy.proofs.laws.entity_rows_are_one.Goals as goal
 
 pub returns : goal.returns
 returns g c =
-    one_row (IsAncestor g.g.0 g.g.1) (map (λ e. entity_name (entity_of e)) c.args.entries.now)
-    (names_apart by_name entity_of entity_name (λ a b e. names_tied a.name b.name e) c.args.entries.now c.requires.rising)
+    let entries = c.args.entries.now in
+    one_row (IsAncestor g.g.0 g.g.1) (map (λ e. entity_name (entity_of e)) entries)
+    (names_apart by_name entity_of entity_name (λ a b e. names_tied a.name b.name e) entries c.requires.rising)
