@@ -1,0 +1,13 @@
+mod Paths
+mod Ranked
+mod Once
+mod Above
+mod Ordered
+mod FirstCandidate
+mod Unreserved
+mod Gathering
+mod Exact
+mod ParentRanks
+mod UsesFree
+mod Cycles
+mod Gathered

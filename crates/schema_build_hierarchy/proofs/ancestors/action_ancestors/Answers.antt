@@ -1,0 +1,36 @@
+use Rattle.std.proofs.Common.{map, sym, subst}
+use Rattle.std.proofs.lemmas.Cmp.{on_total}
+use Rattle.std.proofs.lemmas.Result.{IfOk-weaker}
+use Rattle.schema_build_hierarchy.proofs.Exact.{actions_total}
+use Rattle.schema_resolve_definitions.specs.Tests.{tests_of}
+use Rattle.schema_build_hierarchy.specs.Ancestors.{AreParentRows, AreAncestorRows, IsAncestorAmong}
+use Rattle.schema_build_hierarchy.specs.Declarations.{Declared, action_key}
+use Rattle.schema_build_hierarchy.specs.Entries.{action_of_entry}
+use Rattle.schema_build_hierarchy.specs.Parents.{action_parents}
+use Rattle.schema_build_hierarchy.proofs.Exact.{actions_tied}
+use Rattle.schema_build_hierarchy.proofs.Ranked.{one_place}
+use Rattle.schema_build_hierarchy.proofs.Ordered.{map_twice}
+use Rattle.schema_build_hierarchy.proofs.Above.{rows_are, rows_moved, ancestor_moved, declared_moved}
+use Rattle.schema_build_hierarchy.proofs.ParentRanks.{rows_below}
+use Rattle.schema_build_hierarchy.proofs.ancestors.action_ancestors.Goals as goal
+
+pub closure-requires : goal.closure-requires
+closure-requires g c =
+    rows_below action_key (action_parents (tests_of c.args.defs.now)) (map action_of_entry c.args.entries.now) c.deref.result.now
+    (subst (AreParentRows action_key (action_parents (tests_of c.args.defs.now)) (map action_of_entry c.args.entries.now)) (sym c.deref.ensures.value) c.in_ok-rows.ensures)
+
+pub returns : goal.returns
+returns g c =
+    let t = tests_of c.args.defs.now in
+    let entries = c.args.entries.now in
+    let es = map action_of_entry entries in
+    let graph = c.deref.result.now in
+    let are = subst (AreParentRows action_key (action_parents t) es) (sym c.deref.ensures.value) c.in_ok-rows.ensures in
+    let held = c.requires.0 in
+    IfOk-weaker c.closure.result _ _ (λ rows all.
+    subst (λ names. AreAncestorRows (IsAncestorAmong action_key (action_parents t) g.ds) names rows.items) (map_twice action_key action_of_entry entries)
+    (rows_moved (IsAncestorAmong action_key (action_parents t) es) (IsAncestorAmong action_key (action_parents t) g.ds)
+    (ancestor_moved action_key (action_parents t) es g.ds (λ d h. (held.same d).1 h)) (ancestor_moved action_key (action_parents t) g.ds es (λ d h. (held.same d).0 h)) (map action_key es) rows.items
+    (rows_are action_key (action_parents t) es graph are
+    (λ i j a b p q e. one_place (on_total (λ (d : Declared _ _). d.name) actions_total) es held.rising i j a b p q (actions_tied a.name b.name e))
+    (declared_moved action_key (action_parents t) g.ds es (λ d h. (held.same d).0 h) (λ d h. (held.same d).1 h) c.requires.1) rows.items all))) c.closure.ensures

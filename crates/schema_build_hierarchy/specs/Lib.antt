@@ -1,0 +1,9 @@
+pub mod Declarations
+pub mod Ranks
+pub mod Ancestors
+pub mod Parents
+pub mod FirstUses
+pub mod Entries
+pub mod Rows
+pub mod Unreserved
+pub mod Finding

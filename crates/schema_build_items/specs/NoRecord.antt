@@ -1,0 +1,71 @@
+-- A shape or a context that stands for no record: the error names the least entity type, else the least action.
+use Rattle.std.specs.Prelude.{◌≡◌, Contains, Option, Some, None}
+use Rattle.std.specs.Ordering.{is_lt}
+use Rattle.cedar_identifiers.specs.declared.internal_name.InternalName.{InternalName}
+use Rattle.cedar_identifiers.specs.declared.name_text.NameText as named
+use Rattle.cedar_identifiers.specs.declared.raw_name.RawName.{RawName}
+use Rattle.cedar_names.specs.Meaning.{PlainType, Attributes, Rec}
+use Rattle.cedar_names.specs.Orders.{names_in_order}
+use Rattle.cedar_names.specs.declared.extension_table.ExtensionTable.{ExtensionTable}
+use Rattle.schema_json.specs.declared.action_type.ActionType.{ActionType}
+use Rattle.schema_json.specs.declared.action_type.ApplySpec.{ApplySpec}
+use Rattle.schema_json.specs.declared.entity_type.EntityTypeKind.{EntityTypeKind}
+use Rattle.schema_json.specs.declared.entity_type.EntityTypeKind.TheVariants.{Standard, Enum}
+use Rattle.schema_json.specs.declared.fragment.Fragment.{Fragment}
+use Rattle.schema_json.specs.declared.types.Type.{«Type»}
+use Rattle.schema_resolve_definitions.specs.Declarations.{name_of}
+use Rattle.schema_build_errors.specs.declared.schema_error.SchemaError.{SchemaError}
+use Rattle.schema_build_errors.specs.declared.schema_error.SchemaError.TheVariants as error
+use Rattle.schema_build_errors.specs.declared.shape_errors.ContextOrShape.{ContextOrShape}
+use Rattle.schema_build_errors.specs.declared.shape_errors.ContextOrShape.TheVariants.{ActionContext, EntityTypeShape}
+use Rattle.schema_build_checks.specs.DeclaredAt.{ActionAt, at_of, actions_at_in_order}
+use Rattle.schema_build_expand.specs.Expands.{Expands}
+use Rattle.schema_build_expand.specs.Scope.{Scope}
+use Rattle.schema_build_scope.specs.FragmentScope.{fragment_scope}
+use Rattle.schema_build_hierarchy.specs.Declared.{Declared, DeclaredEntity, declared_entities, declared_actions}
+use Rattle.schema_build_hierarchy.specs.Rows.{IsLeastAmong}
+
+-- the type stands for something that is no record
+abbrev pub IsNoRecord : Scope RawName → Option InternalName → «Type» RawName → Type 0
+IsNoRecord s ns ty = (p : PlainType) × Expands RawName s ns ty p × ((attributes : Attributes) → p ≡ Rec attributes → ⊥)
+
+-- the shape of an entity type that is not enumerated is no record
+abbrev pub ShapeIsNoRecord : Scope RawName → Option InternalName → EntityTypeKind RawName → Type 0
+ShapeIsNoRecord s ns (Standard d) = IsNoRecord s ns d.shape.0
+ShapeIsNoRecord s ns (Enum choices) = ⊥
+
+-- the context of an action that applies to something is no record
+abbrev pub ContextIsNoRecord : Scope RawName → Option InternalName → Option (ApplySpec RawName) → Type 0
+ContextIsNoRecord s ns None = ⊥
+ContextIsNoRecord s ns (Some d) = IsNoRecord s ns d.context.0
+
+abbrev pub HasNoRecordShape : Scope RawName → DeclaredEntity → Type 0
+HasNoRecordShape s d = ShapeIsNoRecord s (name_of d.ns) d.ty.kind
+
+module _ {G : named.Ghosts RawName} where
+  abbrev pub HasNoRecordContext : Scope RawName → Declared ActionAt (ActionType RawName G) → Type 0
+  HasNoRecordContext s d = ContextIsNoRecord s (name_of d.ns) d.ty.applies_to
+
+  -- the least entity type whose shape is no record
+  abbrev pub IsLeastNoShape : Scope RawName → Fragment RawName G → InternalName → Type 0
+  IsLeastNoShape s f name = (d : DeclaredEntity) × (name ≡ d.name)
+      × IsLeastAmong (λ a b. is_lt (names_in_order a b)) (λ c. c.name) (HasNoRecordShape s) (declared_entities f) d
+
+  -- the least action whose context is no record
+  abbrev pub IsLeastNoContext : Scope RawName → Fragment RawName G → ActionAt → Type 0
+  IsLeastNoContext s f action = (d : Declared ActionAt (ActionType RawName G)) × (action ≡ d.name)
+      × IsLeastAmong (λ a b. is_lt (actions_at_in_order a b)) (λ c. c.name) (HasNoRecordContext s) (declared_actions f) d
+
+  -- each shape is a record
+  abbrev pub AreShapesRecords : Scope RawName → Fragment RawName G → Type 0
+  AreShapesRecords s f = (d : DeclaredEntity) → Contains (declared_entities f) d → HasNoRecordShape s d → ⊥
+
+  abbrev pub IsNoRecordSubject : Scope RawName → Fragment RawName G → ContextOrShape → Type 0
+  IsNoRecordSubject s f (EntityTypeShape name) = IsLeastNoShape s f name.name
+  IsNoRecordSubject s f (ActionContext uid) = AreShapesRecords s f × IsLeastNoContext s f (at_of uid)
+
+  -- a shape or a context is no record: the error names the least entity type, or where all shapes are records the least
+  -- action, at the place of its declaration
+  abbrev pub HasNoRecord : Fragment RawName G → ExtensionTable → SchemaError → Type 0
+  HasNoRecord f table (error.ContextOrShapeNotRecord e) = IsNoRecordSubject (fragment_scope f table) f e.ctx_or_shape
+  HasNoRecord f table _ = ⊥
