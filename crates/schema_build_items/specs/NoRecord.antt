@@ -2,6 +2,7 @@
 use Rattle.std.specs.Prelude.{◌≡◌, Contains, Option, Some, None}
 use Rattle.std.specs.Ordering.{is_lt}
 use Rattle.cedar_identifiers.specs.declared.internal_name.InternalName.{InternalName}
+use Rattle.cedar_identifiers.specs.declared.name.Name.{Name}
 use Rattle.cedar_identifiers.specs.declared.name_text.NameText as named
 use Rattle.cedar_identifiers.specs.declared.raw_name.RawName.{RawName}
 use Rattle.cedar_names.specs.Meaning.{PlainType, Attributes, Rec}
@@ -22,7 +23,8 @@ use Rattle.schema_build_checks.specs.DeclaredAt.{ActionAt, at_of, actions_at_in_
 use Rattle.schema_build_expand.specs.Expands.{Expands}
 use Rattle.schema_build_expand.specs.Scope.{Scope}
 use Rattle.schema_build_scope.specs.FragmentScope.{fragment_scope}
-use Rattle.schema_build_hierarchy.specs.Declared.{Declared, DeclaredEntity, declared_entities, declared_actions}
+use Rattle.schema_build_scope.specs.Rows.{OrElse}
+use Rattle.schema_build_hierarchy.specs.Declarations.{Declared, DeclaredEntity, declared_entities, declared_actions}
 use Rattle.schema_build_hierarchy.specs.Rows.{IsLeastAmong}
 
 -- the type stands for something that is no record
@@ -34,38 +36,55 @@ abbrev pub ShapeIsNoRecord : Scope RawName → Option InternalName → EntityTyp
 ShapeIsNoRecord s ns (Standard d) = IsNoRecord s ns d.shape.0
 ShapeIsNoRecord s ns (Enum choices) = ⊥
 
+-- the error names this entity type
+abbrev pub IsShapeError : Name → SchemaError → Type 0
+IsShapeError name e = (given : _) × (e ≡ error.ContextOrShapeNotRecord given) × (given.ctx_or_shape ≡ EntityTypeShape name)
+
 -- the context of an action that applies to something is no record
 abbrev pub ContextIsNoRecord : Scope RawName → Option InternalName → Option (ApplySpec RawName) → Type 0
 ContextIsNoRecord s ns None = ⊥
 ContextIsNoRecord s ns (Some d) = IsNoRecord s ns d.context.0
 
-abbrev pub HasNoRecordShape : Scope RawName → DeclaredEntity → Type 0
-HasNoRecordShape s d = ShapeIsNoRecord s (name_of d.ns) d.ty.kind
+-- the shape of the declared entity type is no record
+abbrev pub LacksShape : Scope RawName → DeclaredEntity → Type 0
+LacksShape s d = ShapeIsNoRecord s (name_of d.ns) d.ty.kind
 
 module _ {G : named.Ghosts RawName} where
-  abbrev pub HasNoRecordContext : Scope RawName → Declared ActionAt (ActionType RawName G) → Type 0
-  HasNoRecordContext s d = ContextIsNoRecord s (name_of d.ns) d.ty.applies_to
-
-  -- the least entity type whose shape is no record
-  abbrev pub IsLeastNoShape : Scope RawName → Fragment RawName G → InternalName → Type 0
-  IsLeastNoShape s f name = (d : DeclaredEntity) × (name ≡ d.name)
-      × IsLeastAmong (λ a b. is_lt (names_in_order a b)) (λ c. c.name) (HasNoRecordShape s) (declared_entities f) d
-
-  -- the least action whose context is no record
-  abbrev pub IsLeastNoContext : Scope RawName → Fragment RawName G → ActionAt → Type 0
-  IsLeastNoContext s f action = (d : Declared ActionAt (ActionType RawName G)) × (action ≡ d.name)
-      × IsLeastAmong (λ a b. is_lt (actions_at_in_order a b)) (λ c. c.name) (HasNoRecordContext s) (declared_actions f) d
+  -- the context of the declared action is no record
+  abbrev pub LacksContext : Scope RawName → Declared ActionAt (ActionType RawName G) → Type 0
+  LacksContext s d = ContextIsNoRecord s (name_of d.ns) d.ty.applies_to
 
   -- each shape is a record
   abbrev pub AreShapesRecords : Scope RawName → Fragment RawName G → Type 0
-  AreShapesRecords s f = (d : DeclaredEntity) → Contains (declared_entities f) d → HasNoRecordShape s d → ⊥
+  AreShapesRecords s f = (d : DeclaredEntity) → Contains (declared_entities f) d → LacksShape s d → ⊥
 
-  abbrev pub IsNoRecordSubject : Scope RawName → Fragment RawName G → ContextOrShape → Type 0
-  IsNoRecordSubject s f (EntityTypeShape name) = IsLeastNoShape s f name.name
-  IsNoRecordSubject s f (ActionContext uid) = AreShapesRecords s f × IsLeastNoContext s f (at_of uid)
+  -- each context is a record
+  abbrev pub AreContextsRecords : Scope RawName → Fragment RawName G → Type 0
+  AreContextsRecords s f =
+      (d : Declared ActionAt (ActionType RawName G)) → Contains (declared_actions f) d → LacksContext s d → ⊥
 
-  -- a shape or a context is no record: the error names the least entity type, or where all shapes are records the least
-  -- action, at the place of its declaration
+  -- the least entity type whose shape is no record, at the place of its declaration
+  abbrev pub IsLeastShape : Scope RawName → Fragment RawName G → ContextOrShape → Type 0
+  IsLeastShape s f (EntityTypeShape name) = (d : DeclaredEntity) × (name.name ≡ d.name)
+      × IsLeastAmong (λ a b. is_lt (names_in_order a b)) (λ c. c.name) (LacksShape s) (declared_entities f) d
+  IsLeastShape s f (ActionContext uid) = ⊥
+
+  -- the least action whose context is no record, at the place of its declaration
+  abbrev pub IsLeastContext : Scope RawName → Fragment RawName G → ContextOrShape → Type 0
+  IsLeastContext s f (EntityTypeShape name) = ⊥
+  IsLeastContext s f (ActionContext uid) = (d : Declared ActionAt (ActionType RawName G)) × (at_of uid ≡ d.name)
+      × IsLeastAmong (λ a b. is_lt (actions_at_in_order a b)) (λ c. c.name) (LacksContext s) (declared_actions f) d
+
+  -- a shape is no record: the error names the least entity type with such a shape
+  abbrev pub HasNoRecordShape : Fragment RawName G → ExtensionTable → SchemaError → Type 0
+  HasNoRecordShape f table (error.ContextOrShapeNotRecord e) = IsLeastShape (fragment_scope f table) f e.ctx_or_shape
+  HasNoRecordShape f table _ = ⊥
+
+  -- a context is no record: the error names the least action with such a context
+  abbrev pub HasNoRecordContext : Fragment RawName G → ExtensionTable → SchemaError → Type 0
+  HasNoRecordContext f table (error.ContextOrShapeNotRecord e) = IsLeastContext (fragment_scope f table) f e.ctx_or_shape
+  HasNoRecordContext f table _ = ⊥
+
+  -- a shape or a context is no record, and a shape is told before a context
   abbrev pub HasNoRecord : Fragment RawName G → ExtensionTable → SchemaError → Type 0
-  HasNoRecord f table (error.ContextOrShapeNotRecord e) = IsNoRecordSubject (fragment_scope f table) f e.ctx_or_shape
-  HasNoRecord f table _ = ⊥
+  HasNoRecord f table = OrElse (HasNoRecordShape f table) (HasNoRecordContext f table)

@@ -1,0 +1,5 @@
+mod Bare
+mod Fragments
+mod Least
+mod Lists
+mod Made
