@@ -25,12 +25,12 @@ use Rattle.schema_build_items.specs.Kinds.{IsKindMeant, AreTagsMeant}
 use Rattle.schema_build_items.proofs.Lists.{contains_flat, contains_unmap, empty_in, empty_before, empty_behind}
 
 -- a row on the first of a list does not hold where there is none
-none_first : (us : List UnsupportedFeature) → Never (IsAboutFirst NamesFeature us) → us ≡ []
+pub none_first : (us : List UnsupportedFeature) → Never (IsAboutFirst NamesFeature us) → us ≡ []
 none_first [] never = refl
 none_first (u ∷ us) never = absurd (never (error.UnsupportedFeature (record { 0 = u })) (record { 0 = u }, refl, refl))
 
 -- what is not to be visited is not visited
-bare_if : (external bare : Bool) → visit_where unsupported (external && not bare) external_not_bare ≡ []
+pub bare_if : (external bare : Bool) → visit_where unsupported (external && not bare) external_not_bare ≡ []
     → external ≡ true → bare ≡ true
 bare_if true true e h = refl
 bare_if true false e h = cc

@@ -64,7 +64,7 @@ module _ (s : Scope RawName) (ns : Option InternalName) where
       )
 
 module _ (s : Scope RawName) (once : ExpandsOnce s) where
-  record_apart : (ns : Option InternalName) (ty : «Type» RawName) (ps : Attributes) → Expands RawName s ns ty (plain.Rec ps) → IsNoRecord s ns ty → ⊥
+  pub record_apart : (ns : Option InternalName) (ty : «Type» RawName) (ps : Attributes) → Expands RawName s ns ty (plain.Rec ps) → IsNoRecord s ns ty → ⊥
   record_apart ns ty ps e (p, h, not_one) = not_one ps (once ns ty p (plain.Rec ps) h e)
 
   shape_apart : (ns : Option InternalName) (kind : EntityTypeKind RawName) (m : KindMeaning) → IsKindMeaning s ns kind m

@@ -7,6 +7,7 @@ use Rattle.cedar_identifiers.specs.declared.name_text.NameText as named
 use Rattle.cedar_identifiers.specs.declared.raw_name.RawName.{RawName}
 use Rattle.cedar_names.specs.Meaning.{PlainType, Attributes, Rec}
 use Rattle.cedar_names.specs.Orders.{names_in_order}
+use Rattle.cedar_names.specs.declared.entity_uid.EntityUID.{EntityUID}
 use Rattle.cedar_names.specs.declared.extension_table.ExtensionTable.{ExtensionTable}
 use Rattle.schema_json.specs.declared.action_type.ActionType.{ActionType}
 use Rattle.schema_json.specs.declared.action_type.ApplySpec.{ApplySpec}
@@ -39,6 +40,10 @@ ShapeIsNoRecord s ns (Enum choices) = ⊥
 -- the error names this entity type
 abbrev pub IsShapeError : Name → SchemaError → Type 0
 IsShapeError name e = (given : _) × (e ≡ error.ContextOrShapeNotRecord given) × (given.ctx_or_shape ≡ EntityTypeShape name)
+
+-- the error names this action
+abbrev pub IsContextError : EntityUID → SchemaError → Type 0
+IsContextError uid e = (given : _) × (e ≡ error.ContextOrShapeNotRecord given) × (given.ctx_or_shape ≡ ActionContext uid)
 
 -- the context of an action that applies to something is no record
 abbrev pub ContextIsNoRecord : Scope RawName → Option InternalName → Option (ApplySpec RawName) → Type 0
