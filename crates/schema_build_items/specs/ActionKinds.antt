@@ -47,8 +47,8 @@ pub record ApplyMeaning : Type 0 where
 abbrev pub IsMeantByOne : Tests → Option Name → List RawName → List (List ℕ) → Type 0
 IsMeantByOne t ns names target = (name : RawName) × Contains names name × (target_in t ns Entity name ≡ Some target)
 
--- what an action applies to means this: nothing where nothing is written, else the entity types that are meant, and the
--- context stands for its attributes
+-- what an action applies to means this: nothing where nothing is written, else the entity types that are meant, and
+-- the context stands for its attributes
 abbrev pub IsApplyMeaning : Tests → Scope RawName → Option Name → Option (ApplySpec RawName) → ApplyMeaning → Type 0
 IsApplyMeaning t s ns None a = (a.principals ≡ []) × (a.resources ≡ []) × (a.context ≡ no_more)
 IsApplyMeaning t s ns (Some d) a =
@@ -60,7 +60,8 @@ IsApplyMeaning t s ns (Some d) a =
 abbrev pub as_components : List Name → List (List (List ℕ))
 as_components names = map (λ n. components_of n.name) names
 
--- what is built stands for the meaning of an action with this mark: one that another schema declares applies to nothing
+-- what is built stands for the meaning of an action with this mark: one that another schema declares applies to
+-- nothing
 abbrev pub ActionKindStandsFor : ValidatorActionKind → Bool → ApplyMeaning → Type 0
 ActionKindStandsFor (built.Defined principals resources context) external a =
     (external ≡ false) × (as_components principals ≡ a.principals) × (as_components resources ≡ a.resources)
@@ -69,8 +70,10 @@ ActionKindStandsFor built.External external a =
     (external ≡ true) × (a.principals ≡ []) × (a.resources ≡ []) × (a.context ≡ no_more)
 
 -- what is built stands for what an action of this schema applies to
-abbrev pub IsApplyBuilt : Tests → Scope RawName → Option Name → Option (ApplySpec RawName) → ValidatorActionKind → Type 0
-IsApplyBuilt t s ns applies kind = (a : ApplyMeaning) × IsApplyMeaning t s ns applies a × ActionKindStandsFor kind false a
+abbrev pub IsApplyBuilt : Tests → Scope RawName → Option Name → Option (ApplySpec RawName) → ValidatorActionKind
+    → Type 0
+IsApplyBuilt t s ns applies kind =
+    (a : ApplyMeaning) × IsApplyMeaning t s ns applies a × ActionKindStandsFor kind false a
 
 module _ {G : named.Ghosts RawName} where
   -- what is built stands for what the declaration means

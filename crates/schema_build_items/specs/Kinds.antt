@@ -47,7 +47,8 @@ AreTagsBuilt (Some p) tags = (t : Built) × (tags ≡ Some t) × IsBuilt p t
 -- attributes are closed
 abbrev pub KindStandsFor : ValidatorEntityTypeKind → Bool → KindMeaning → Type 0
 KindStandsFor (built.Standard attributes more tags) external m =
-    (external ≡ false) × (more ≡ false) × AreBuilt m.attributes attributes × AreTagsBuilt m.tags tags × (m.choices ≡ None)
+    (external ≡ false) × (more ≡ false) × AreBuilt m.attributes attributes × AreTagsBuilt m.tags tags
+    × (m.choices ≡ None)
 KindStandsFor (built.Enum choices) external m =
     (external ≡ false) × (m.attributes ≡ no_more) × (m.tags ≡ None) × (m.choices ≡ Some (map (λ c. c.0) choices))
 KindStandsFor built.External external m =
@@ -55,7 +56,8 @@ KindStandsFor built.External external m =
 
 -- what is built stands for what the declaration means
 abbrev pub IsKindBuilt : Scope RawName → DeclaredEntity → ValidatorEntityTypeKind → Type 0
-IsKindBuilt s d kind = (m : KindMeaning) × IsKindMeaning s (name_of d.ns) d.ty.kind m × KindStandsFor kind d.ty.external m
+IsKindBuilt s d kind =
+    (m : KindMeaning) × IsKindMeaning s (name_of d.ns) d.ty.kind m × KindStandsFor kind d.ty.external m
 
 module _ {G : named.Ghosts RawName} where
   -- each part of the type of tags is meant, where there are tags

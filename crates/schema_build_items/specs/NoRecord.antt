@@ -39,11 +39,13 @@ ShapeIsNoRecord s ns (Enum choices) = ⊥
 
 -- the error names this entity type
 abbrev pub IsShapeError : Name → SchemaError → Type 0
-IsShapeError name e = (given : _) × (e ≡ error.ContextOrShapeNotRecord given) × (given.ctx_or_shape ≡ EntityTypeShape name)
+IsShapeError name e =
+    (given : _) × (e ≡ error.ContextOrShapeNotRecord given) × (given.ctx_or_shape ≡ EntityTypeShape name)
 
 -- the error names this action
 abbrev pub IsContextError : EntityUID → SchemaError → Type 0
-IsContextError uid e = (given : _) × (e ≡ error.ContextOrShapeNotRecord given) × (given.ctx_or_shape ≡ ActionContext uid)
+IsContextError uid e =
+    (given : _) × (e ≡ error.ContextOrShapeNotRecord given) × (given.ctx_or_shape ≡ ActionContext uid)
 
 -- the context of an action that applies to something is no record
 abbrev pub ContextIsNoRecord : Scope RawName → Option InternalName → Option (ApplySpec RawName) → Type 0
@@ -87,7 +89,8 @@ module _ {G : named.Ghosts RawName} where
 
   -- a context is no record: the error names the least action with such a context
   abbrev pub HasNoRecordContext : Fragment RawName G → ExtensionTable → SchemaError → Type 0
-  HasNoRecordContext f table (error.ContextOrShapeNotRecord e) = IsLeastContext (fragment_scope f table) f e.ctx_or_shape
+  HasNoRecordContext f table (error.ContextOrShapeNotRecord e) =
+      IsLeastContext (fragment_scope f table) f e.ctx_or_shape
   HasNoRecordContext f table _ = ⊥
 
   -- a shape or a context is no record, and a shape is told before a context
