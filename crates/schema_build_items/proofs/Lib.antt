@@ -1,0 +1,9 @@
+mod Applied
+mod Bare
+mod DeclaredActions
+mod Fragments
+mod Least
+mod Lists
+mod Made
+mod Once
+mod Targets

@@ -1,0 +1,112 @@
+use Rattle.std.proofs.Common.{◌<◌, ◌≤◌, [], map, take, length, refl, sym, ap, ◌∙◌, subst, inr, arith, Contains, IfNone, IfSome}
+use Rattle.std.proofs.lemmas.Cmp.{on_total}
+use Rattle.std.specs.List.{AllZip}
+use Rattle.std.proofs.lemmas.List.{get_or-map, length-map, take_all}
+use Rattle.schema_build_items.proofs.DeclaredActions.{actions_total}
+use Rattle.schema_build_expand.specs.Expands.{ExpandsOnce}
+use Rattle.schema_build_expand.specs.Scope.{AreDeclaredOnce}
+use Rattle.schema_build_scope.specs.FragmentScope.{fragment_scope}
+use Rattle.schema_build_scope.specs.Parts.{IsAllKnown, AreTypesMeant}
+use Rattle.schema_build_hierarchy.specs.Declarations.{Declared, declared_actions}
+use Rattle.schema_build_hierarchy.specs.Entries.{action_of_entry}
+use Rattle.schema_build_items.specs.ActionKinds.{IsActionKindBuilt, tests_alone}
+use Rattle.schema_build_items.specs.NoRecord.{LacksContext, IsLeastContext, HasNoRecordContext}
+use Rattle.schema_build_items.proofs.DeclaredActions.{action_meant, external_bare}
+use Rattle.schema_build_items.proofs.Least.{none_lacks, none_less}
+use Rattle.schema_build_items.proofs.Lists.{contains_map, zip_more}
+use Rattle.schema_build_items.proofs.Applied.{action_apart}
+use Rattle.schema_build_items.proofs.actions.action_kinds.Goals as goal
+
+pub loop-entry-init : goal.loop-entry-init
+loop-entry-init c =
+    let t = tests_alone c.args.names.now.fragment c.args.names.now.table in
+    let s = fragment_scope c.args.names.now.fragment c.args.names.now.table in
+    let none : AllZip (IsActionKindBuilt t s) (take 0 (map action_of_entry c.args.entries.now)) [] = tt in
+    subst (AllZip (IsActionKindBuilt t s) (take 0 (map action_of_entry c.args.entries.now))) (sym c.in_ok-kinds.ensures.items) none
+
+among : (c : goal.After-entry-item) → Contains (declared_actions c.args.names.now.fragment) (action_of_entry c.entry-item.result)
+among c =
+    let e = c.entry-item.result in
+    let entries = c.args.entries.now in
+    (c.requires.entries.same (action_of_entry e)).1
+    (contains_map action_of_entry entries e (c.loop-entry.entry-index, c.loop-entry-test.true, sym c.entry-item.is))
+
+meant : (c : goal.After-entry-item) → AreTypesMeant c.args.names.now.fragment c.args.names.now.table
+meant c =
+    let f = c.args.names.now.fragment in
+    let table = c.args.names.now.table in
+    let one : IsAllKnown f c.table.result.now → AreTypesMeant f c.table.result.now =
+    subst (λ f. IsAllKnown f c.table.result.now → AreTypesMeant f c.table.result.now) c.fragment.ensures c.types_are_meant.ensures in
+    let both : IsAllKnown f table → AreTypesMeant f table =
+    subst (λ t. IsAllKnown f t → AreTypesMeant f t) c.table.ensures one in
+    both c.requires.known
+
+pub action_kind-requires-clause-meant : goal.action_kind-requires-clause-meant
+action_kind-requires-clause-meant c =
+    action_meant c.args.names.now.fragment c.args.names.now.table c.requires.known (meant c) (action_of_entry c.entry-item.result) (among c)
+
+pub action_kind-requires-clause-bare : goal.action_kind-requires-clause-bare
+action_kind-requires-clause-bare c =
+    external_bare c.args.names.now.fragment c.requires.known.features (action_of_entry c.entry-item.result) (among c)
+
+pub returns-in-None-clause-err : goal.returns-in-None-clause-err
+returns-in-None-clause-err c =
+    let f = c.args.names.now.fragment in
+    let table = c.args.names.now.table in
+    let t = tests_alone f table in
+    let s = fragment_scope f table in
+    let e = c.entry-item.result in
+    let d = action_of_entry e in
+    let entries = c.args.entries.now in
+    let i = c.loop-entry.entry-index in
+    let lt : i < length (map action_of_entry entries) = omega (arith, c.loop-entry-test.true, length-map entries action_of_entry) in
+    let at = get_or-map action_of_entry entries i e d c.loop-entry-test.true ∙ ap action_of_entry (sym c.entry-item.is) in
+    let one : AreDeclaredOnce (fragment_scope f c.table-2.result.now) =
+    subst (λ f. AreDeclaredOnce (fragment_scope f c.table-2.result.now)) c.fragment-2.ensures c.common_types_are_declared_once.ensures in
+    let declared : AreDeclaredOnce s = subst (λ t. AreDeclaredOnce (fragment_scope f t)) c.table-2.ensures one in
+    let once : ExpandsOnce s = c.types_stand_for_one.ensures s declared in
+    let told = c.in_ok-no_context-in-None.ensures in
+    inr (subst (HasNoRecordContext f table) (sym told.1) (subst (IsLeastContext s f) (sym told.2) (
+      d,
+      refl,
+      record {
+        among = (c.requires.entries.same d).1 (contains_map action_of_entry entries e (i, c.loop-entry-test.true, sym c.entry-item.is));
+        passes_too = subst (λ o. IfNone o (LacksContext s d)) c.in-None.is c.in_ok-kind.ensures.none;
+        none_less = λ y cy py.
+            none_less (IsActionKindBuilt t s) (LacksContext s) (action_apart t s once) (on_total (λ (d : Declared _ _). d.name) actions_total)
+            (map action_of_entry entries) c.loop-entry.kinds.items i d c.requires.entries.rising lt at c.loop-entry.invariant y
+            ((c.requires.entries.same y).0 cy) py;
+      },
+    )))
+
+pub loop-entry-preserved : goal.loop-entry-preserved
+loop-entry-preserved c =
+    let t = tests_alone c.args.names.now.fragment c.args.names.now.table in
+    let s = fragment_scope c.args.names.now.fragment c.args.names.now.table in
+    let e = c.entry-item.result in
+    let built : IsActionKindBuilt t s (action_of_entry e) c.in-Some.kind =
+    subst (λ o. IfSome o (IsActionKindBuilt t s (action_of_entry e))) c.in-Some.is c.in_ok-kind.ensures.some in
+    subst (AllZip (IsActionKindBuilt t s) _) (sym c.in_ok-push-in-Some.ensures.items)
+    (zip_more action_of_entry (IsActionKindBuilt t s) c.args.entries.now c.loop-entry.kinds.items c.loop-entry.entry-index e c.in-Some.kind
+    c.loop-entry-test.true c.entry-item.is c.loop-entry.invariant built)
+
+pub returns-clause-kinds : goal.returns-clause-kinds
+returns-clause-kinds c =
+    let t = tests_alone c.args.names.now.fragment c.args.names.now.table in
+    let s = fragment_scope c.args.names.now.fragment c.args.names.now.table in
+    let ds = map action_of_entry c.args.entries.now in
+    let past : length ds ≤ c.loop-entry.entry-index = omega (arith, c.loop-entry-test.false, length-map c.args.entries.now action_of_entry) in
+    subst (λ l. AllZip (IsActionKindBuilt t s) l c.loop-entry.kinds.items) (take_all c.loop-entry.entry-index ds past) c.loop-entry.invariant
+
+pub returns-clause-ok : goal.returns-clause-ok
+returns-clause-ok c = λ y cy py.
+    let f = c.args.names.now.fragment in
+    let table = c.args.names.now.table in
+    let t = tests_alone f table in
+    let s = fragment_scope f table in
+    let one : AreDeclaredOnce (fragment_scope f c.table-2.result.now) =
+    subst (λ f. AreDeclaredOnce (fragment_scope f c.table-2.result.now)) c.fragment-2.ensures c.common_types_are_declared_once.ensures in
+    let declared : AreDeclaredOnce s = subst (λ t. AreDeclaredOnce (fragment_scope f t)) c.table-2.ensures one in
+    let once : ExpandsOnce s = c.types_stand_for_one.ensures s declared in
+    none_lacks (IsActionKindBuilt t s) (LacksContext s) (action_apart t s once) (map action_of_entry c.args.entries.now) c.loop-entry.kinds.items
+    (returns-clause-kinds c) y ((c.requires.entries.same y).0 cy) py

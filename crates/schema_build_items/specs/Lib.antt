@@ -1,0 +1,3 @@
+pub mod ActionKinds
+pub mod Kinds
+pub mod NoRecord
