@@ -13,4 +13,4 @@ mod Cycles
 mod Gathered
 mod EnumAbove
 mod ParentsDeclared
-mod KnownByMembers
+pub mod KnownByMembers

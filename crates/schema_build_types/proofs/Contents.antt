@@ -14,7 +14,7 @@ set_content : (t : «Type») → type_content (built.Set (Some t)) ≡ said.Set 
 set_content t = ap type_content (sym (built.rolls-Set (Some t)))
     ∙ fold-roll-Type TypeContent layer_content (Type-F.Set (Some t))
 
-record_content : (attrs : List (List ℕ × («Type» × Bool))) (more : Bool)
+pub record_content : (attrs : List (List ℕ × («Type» × Bool))) (more : Bool)
     → type_content (built.Record attrs more) ≡ said.Rec (attributes_content attrs) more
 record_content attrs more = ap type_content (sym (built.rolls-Record attrs more))
     ∙ fold-roll-Type TypeContent layer_content (Type-F.Record attrs more)
@@ -42,7 +42,7 @@ mutual
       ∙ ap (λ m. said.Entity (m ∷ [])) b.2
   built_says (plain.Ext w) t b = ap type_content b.1 ∙ extension_content b.0 ∙ ap said.Ext b.2
 
-  built_say : (ps : Attributes) (attrs : List (List ℕ × («Type» × Bool))) → AreBuilt ps attrs
+  pub built_say : (ps : Attributes) (attrs : List (List ℕ × («Type» × Bool))) → AreBuilt ps attrs
       → attributes_content attrs ≡ attributes_as_built ps
   built_say no_more attrs b = ap attributes_content b
   built_say (attribute name required p ps) attrs b = ap attributes_content b.2

@@ -1,4 +1,4 @@
-mod Contents
+pub mod Contents
 mod Cost
 mod Halved
 mod Sizes
