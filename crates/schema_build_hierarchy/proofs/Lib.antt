@@ -1,13 +1,13 @@
 mod Paths
-mod Ranked
-mod Once
-mod Above
-mod Ordered
+pub mod Ranked
+pub mod Once
+pub mod Above
+pub mod Ordered
 mod FirstCandidate
 mod Unreserved
 mod Gathering
 mod Exact
-mod ParentRanks
+pub mod ParentRanks
 mod UsesFree
 mod Cycles
 mod Gathered

@@ -48,7 +48,7 @@ abbrev mutual
   attributes_as_built no_more = none
   attributes_as_built (attribute name required p ps) = first name required (as_built p) (attributes_as_built ps)
 
-abbrev entity_as_built : EntityMeaning → EntityContent
+abbrev pub entity_as_built : EntityMeaning → EntityContent
 entity_as_built e = record {
   name = e.name;
   is_external = e.is_external;
@@ -59,7 +59,7 @@ entity_as_built e = record {
   choices = e.choices;
 }
 
-abbrev action_as_built : ActionMeaning → ActionContent
+abbrev pub action_as_built : ActionMeaning → ActionContent
 action_as_built a = record {
   ty = a.ty;
   id = a.id;
