@@ -2,6 +2,7 @@
 #![tactic(auto)]
 
 use cedar_names::ExtensionTable;
+use schema_build::ValidatorSchema;
 use schema_convert::parse_cedar_schema_fragment;
 use schema_print::ToCedarSchema;
 use schema_resolve::ResolveFragment;
@@ -22,6 +23,7 @@ fn takes(alloc: Global, word: &str, text: &str) -> Result<bool, AllocError> {
         }
         "resolve" => resolves(alloc, text),
         "print" => prints(alloc, text),
+        "build" => builds(alloc, text),
         _ => Ok(false),
     }
 }
@@ -46,6 +48,17 @@ fn prints(alloc: Global, text: &str) -> Result<bool, AllocError> {
     let table = ExtensionTable::all_available(alloc)?;
     match parse_cedar_schema_fragment(alloc, text, &table) {
         Ok((fragment, _)) => Ok(fragment.to_cedarschema(alloc).is_ok()),
+        Err(_) => Ok(false),
+    }
+}
+
+// Whether a schema is built of the fragment of the text.
+fn builds(alloc: Global, text: &str) -> Result<bool, AllocError> {
+    let table = ExtensionTable::all_available(alloc)?;
+    match parse_cedar_schema_fragment(alloc, text, &table) {
+        Ok((fragment, _)) => {
+            Ok(ValidatorSchema::from_schema_frag(alloc, fragment, &table).is_ok())
+        }
         Err(_) => Ok(false),
     }
 }

@@ -1,6 +1,6 @@
 // How fragments of texts are printed, against a table.
 
-use crate::table::printed_lines;
+use crate::printed_table::printed_lines;
 use cedar_identifiers::RawName;
 use cedar_names::ExtensionTable;
 use schema_convert::parse_cedar_schema_fragment;

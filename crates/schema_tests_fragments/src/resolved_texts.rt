@@ -1,7 +1,7 @@
 // What texts resolve to, or the first reference that means nothing, against tables.
 
 use crate::fragment_lines::find_fragment;
-use crate::table::{refused_lines, resolved_lines};
+use crate::resolved_table::{refused_lines, resolved_lines};
 use cedar_data::CloneIn;
 use cedar_identifiers::{InternalName, NameText, RawName};
 use cedar_names::ExtensionTable;

@@ -1,4 +1,4 @@
-use Rattle.schema_tests_resolve.proofs.fragment_lines.+resolved.Given as goal
+use Rattle.schema_tests_fragments.proofs.fragment_lines.+resolved.Given as goal
 
 abbrev pub decreases-find_type : goal.decreases-find_type
 decreases-find_type l = l.levels

@@ -1,7 +1,7 @@
 // The parts of resolved texts, each resolved alone where it is known what is defined: qualified in its namespace, and then
 // replaced by what is meant.
 
-use crate::table::resolved_lines;
+use crate::resolved_table::resolved_lines;
 use cedar_data::{CloneIn, Text};
 use cedar_identifiers::{InternalName, Name, RawName};
 use cedar_names::{AllDefs, ExtensionTable};

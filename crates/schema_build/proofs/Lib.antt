@@ -1,0 +1,7 @@
+mod Orders
+mod InOrder
+mod Placed
+mod Zipped
+mod Entities
+mod Actions
+mod Meanings

@@ -1,0 +1,58 @@
+-- How a built schema is put together: entity types and actions from their names, their ancestors and what is built for
+-- each, and a schema from both.
+use Rattle.std.specs.Prelude.{◌≡◌, ℕ, List, [], Vec, map, Some, slice_get}
+use Rattle.std.specs.List.{AllZip}
+use Rattle.std.specs.declared.alloc.Global.{Global}
+use Rattle.cedar_identifiers.specs.declared.name.Name.{Name}
+use Rattle.cedar_identifiers.specs.declared.name_text.NameText as named
+use Rattle.cedar_identifiers.specs.declared.raw_name.RawName.{RawName}
+use Rattle.cedar_names.specs.Meaning.{EntityMeaning, ActionMeaning}
+use Rattle.cedar_names.specs.declared.entity_uid.EntityUID.{EntityUID}
+use Rattle.cedar_names.specs.declared.extension_table.ExtensionTable.{ExtensionTable}
+use Rattle.schema_json.specs.declared.action_type.ActionType.{ActionType}
+use Rattle.schema_json.specs.declared.entity_type.EntityType.{EntityType}
+use Rattle.schema_json.specs.declared.fragment.Fragment.{Fragment}
+use Rattle.schema_build_types.specs.Standing.{SchemaStandsFor}
+use Rattle.schema_build_types.specs.declared.action.ValidatorActionId.{ValidatorActionId}
+use Rattle.schema_build_types.specs.declared.action.ValidatorActionKind.{ValidatorActionKind}
+use Rattle.schema_build_types.specs.declared.entity_type.ValidatorEntityType.{ValidatorEntityType}
+use Rattle.schema_build_types.specs.declared.entity_type.ValidatorEntityTypeKind.{ValidatorEntityTypeKind}
+use Rattle.schema_build_hierarchy.specs.declared.entries.Entry.{Entry}
+use Rattle.schema_build.specs.Meaning.{EntitiesMean, ActionsMean}
+
+-- what stands at these places of the list
+abbrev pub AreAt : {A : Type 0} → List A → List ℕ → List A → Type 0
+AreAt names places found = map Some found ≡ map (slice_get names) places
+
+-- for each list of places, what stands there
+abbrev pub AreAllAt : {A : Type 0} → List A → List (Vec ℕ Global) → List (List A) → Type 0
+AreAllAt names rows = AllZip (λ row. AreAt names row.items) rows
+
+-- an entity type from its declaration, its ancestors and what is built for it
+abbrev pub entity_type_of : (Entry Name (EntityType RawName) × List Name) × ValidatorEntityTypeKind
+    → Name × ValidatorEntityType
+entity_type_of e = (e.0.0.name, record { ancestors = e.0.1; kind = e.1 })
+
+-- these entity types say what is meant
+abbrev pub EntitiesStandFor : List (Name × ValidatorEntityType) → List EntityMeaning → Type 0
+EntitiesStandFor built es = SchemaStandsFor built [] (record { entities = es; actions = [] })
+
+-- these actions say what is meant
+abbrev pub ActionsStandFor : List (EntityUID × ValidatorActionId) → List ActionMeaning → Type 0
+ActionsStandFor built actions = SchemaStandsFor [] built (record { entities = []; actions = actions })
+
+module _ {G : named.Ghosts RawName} where
+  -- an action from its declaration, its ancestors and what is built for it
+  abbrev pub action_of_parts : (Entry EntityUID (ActionType RawName G) × List EntityUID) × ValidatorActionKind
+      → EntityUID × ValidatorActionId
+  action_of_parts a = (a.0.0.name, record { ancestors = a.0.1; kind = a.1 })
+
+  -- these entity types say what those of the fragment mean
+  abbrev pub AreEntitiesBuilt : Fragment RawName G → ExtensionTable → List (Name × ValidatorEntityType) → Type 0
+  AreEntitiesBuilt f table built =
+      (es : List EntityMeaning) × EntitiesMean f table es × EntitiesStandFor built es
+
+  -- these actions say what those of the fragment mean
+  abbrev pub AreActionsBuilt : Fragment RawName G → ExtensionTable → List (EntityUID × ValidatorActionId) → Type 0
+  AreActionsBuilt f table built =
+      (actions : List ActionMeaning) × ActionsMean f table actions × ActionsStandFor built actions

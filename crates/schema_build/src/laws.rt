@@ -1,0 +1,17 @@
+//! Laws of what fragments mean. Each law is what its function ensures; the functions do nothing but cite laws below them.
+ghost use Rattle.std.specs.Prelude.{◌≡◌};
+ghost use Rattle.cedar_names.specs.Meaning.{SchemaMeaning};
+ghost use Rattle.cedar_names.specs.declared.extension_table.ExtensionTable.{ExtensionTable as Table};
+ghost use Rattle.cedar_identifiers.specs.declared.raw_name.RawName.{RawName as Raw};
+ghost use Rattle.schema_json.specs.declared.fragment.Fragment.{Fragment as Fragments};
+ghost use Rattle.schema_build.specs.Meaning.{FragmentMeaning};
+
+use cedar_identifiers::{NameText, RawName};
+use schema_build_expand::laws::types_stand_for_one;
+
+/// A fragment has at most one meaning.
+pub fn one_fragment_meaning()
+    ensures { (f : Fragments Raw ⟦<RawName as NameText>⟧) (table : Table) (m n : SchemaMeaning) → FragmentMeaning f table m → FragmentMeaning f table n → m ≡ n }
+{
+    types_stand_for_one::<RawName>();
+}

@@ -1,0 +1,12 @@
+//! Built schemas: what a fragment means, or the fault that keeps it from meaning anything.
+#![tactic(auto)]
+
+mod assembly;
+pub mod laws;
+pub mod schema;
+
+pub use laws::one_fragment_meaning;
+pub use schema::ValidatorSchema;
+pub use schema_build_errors::{
+    CapturedItem, RecoveryError, ReferenceCaptured, SchemaError, ToTextError,
+};
