@@ -1,0 +1,2 @@
+mod NoRecords
+mod Rows
