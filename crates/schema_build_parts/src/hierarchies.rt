@@ -21,10 +21,10 @@ use std::alloc::Global;
 
 // The ranks of the ancestors of each entity type and of each action. It refuses actions of which one stands above itself,
 // and then entity types of which an external one stands below an enumerated one.
-pub(crate) fn build_hierarchies<'f>(
+pub(crate) fn build_hierarchies(
     alloc: Global,
-    entities: &[EntityEntry<'f>],
-    actions: &[ActionEntry<'f>],
+    entities: &[EntityEntry<'_>],
+    actions: &[ActionEntry<'_>],
     defs: &AllDefs,
 ) -> Result<(Vec<Vec<usize>>, Vec<Vec<usize>>), SchemaError>
     ghost g: { Tests × (List DeclaredEntity × List (Declared ActionAt (ActionTold Raw ⟦<RawName as NameText>⟧))) }

@@ -27,7 +27,7 @@ use std::alloc::Global;
 pub(crate) fn build_meanings<'f>(
     alloc: Global,
     fragment: &'f Fragment<RawName>,
-    names: &FragmentNames<'f>,
+    names: &FragmentNames<'_>,
 ) -> Result<FragmentParts<'f>, SchemaError>
     ghost g: { TableTold × (Tests × (List DeclaredEntity × List (Declared ActionAt (ActionTold Raw ⟦<RawName as NameText>⟧)))) }
     requires same { fragment.now ≡ names.now.fragment }

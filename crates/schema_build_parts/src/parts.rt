@@ -37,7 +37,7 @@ pub struct FragmentParts<'f> {
 pub fn fragment_parts<'f>(
     alloc: Global,
     fragment: &'f Fragment<RawName>,
-    table: &'f ExtensionTable,
+    table: &ExtensionTable,
 ) -> Result<FragmentParts<'f>, SchemaError>
     ensures ok { OnOk result (Never (BuildFault fragment.now table.now)) }
     ensures parts { IfOk result (ArePartsOf fragment.now table.now) }

@@ -18,11 +18,11 @@ use std::alloc::Global;
 
 // What each entity type and each action is built as. It refuses a fragment in which a common type reaches itself, and then
 // one in which a shape or a context is no record.
-pub(crate) fn build_types<'f>(
+pub(crate) fn build_types(
     alloc: Global,
-    names: &FragmentNames<'f>,
-    entities: &[EntityEntry<'f>],
-    actions: &[ActionEntry<'f>],
+    names: &FragmentNames<'_>,
+    entities: &[EntityEntry<'_>],
+    actions: &[ActionEntry<'_>],
 ) -> Result<(Vec<ValidatorEntityTypeKind>, Vec<ValidatorActionKind>), SchemaError>
     requires known { IsAllKnown names.now.fragment names.now.table }
     requires entities { AreEntities (declared_entities names.now.fragment) entities.now }
