@@ -1,3 +1,4 @@
+mod Known
 mod Moved
 mod NoRecords
 mod Rows

@@ -9,6 +9,12 @@ module _ (row behind : SchemaError → Type 0) where
   never_else first second e (inl h) = first e h
   never_else first second e (inr h) = second e h.1
 
+  pub never_first : Never (OrElse row behind) → Never row
+  never_first none e h = none e (inl h)
+
+  pub never_behind : Never (OrElse row behind) → Never behind
+  never_behind none e h = none e (inr (never_first none, h))
+
   pub or_first : (e : SchemaError) → OrMemory row e → OrMemory (OrElse row behind) e
   or_first e (inl m) = inl m
   or_first e (inr h) = inr (inl h)
