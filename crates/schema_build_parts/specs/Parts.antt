@@ -19,8 +19,8 @@ use Rattle.schema_build_parts.specs.declared.parts.FragmentParts.{FragmentParts}
 abbrev pub raw_names : named.Ghosts RawName
 raw_names = record { TYPED = false; components = λ n. components_of n.name }
 
--- the parts hold what the fragment declares, in the order of names; each declaration is built as what it means, and its row
--- holds the ranks of its ancestors
+-- the parts hold what the fragment declares, in the order of names; each declaration is built as what it means, and its
+-- row holds the ranks of its ancestors
 pub record ArePartsOf (f : Fragment RawName raw_names) (table : ExtensionTable) (p : FragmentParts) : Type 0 where
   pub entities : AreEntities (declared_entities f) p.entities.items
   pub actions : AreActions (declared_actions f) p.actions.items

@@ -13,9 +13,9 @@ use schema_json::Fragment;
 use schema_resolve_definitions::single_fragment;
 use std::alloc::Global;
 
-/// Refuses a fragment by what no declaration may be beside others, and then by what no schema has: by the first that holds
-/// of a type of actions that is declared, a type that hides another, an action that hides another, an extension type that
-/// is not in the table, and a feature that is not supported.
+/// Refuses a fragment by what no declaration may be beside others, and then by what no schema has: by the first that
+/// holds of a type of actions that is declared, a type that hides another, an action that hides another, an extension
+/// type that is not in the table, and a feature that is not supported.
 pub fn check_declarations(
     alloc: Global,
     fragment: &Fragment<RawName>,

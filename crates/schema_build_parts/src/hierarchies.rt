@@ -19,8 +19,8 @@ use schema_build_hierarchy::{
 };
 use std::alloc::Global;
 
-// The ranks of the ancestors of each entity type and of each action. It refuses actions of which one stands above itself,
-// and then entity types of which an external one stands below an enumerated one.
+// The ranks of the ancestors of each entity type and of each action. It refuses actions of which one stands above
+// itself, and then entity types of which an external one stands below an enumerated one.
 pub(crate) fn build_hierarchies(
     alloc: Global,
     entities: &[EntityEntry<'_>],

@@ -22,8 +22,8 @@ use schema_build_scope::FragmentNames;
 use schema_json::Fragment;
 use std::alloc::Global;
 
-// Builds what a fragment declares, of which each reference means something. It refuses entity types that are wanted and not
-// declared, then a fault of a type, and then one of a hierarchy.
+// Builds what a fragment declares, of which each reference means something. It refuses entity types that are wanted and
+// not declared, then a fault of a type, and then one of a hierarchy.
 pub(crate) fn build_meanings<'f>(
     alloc: Global,
     fragment: &'f Fragment<RawName>,

@@ -16,8 +16,8 @@ use schema_build_scope::{FragmentNames, expand_all_commons};
 use schema_build_types::{ValidatorActionKind, ValidatorEntityTypeKind};
 use std::alloc::Global;
 
-// What each entity type and each action is built as. It refuses a fragment in which a common type reaches itself, and then
-// one in which a shape or a context is no record.
+// What each entity type and each action is built as. It refuses a fragment in which a common type reaches itself, and
+// then one in which a shape or a context is no record.
 pub(crate) fn build_types(
     alloc: Global,
     names: &FragmentNames<'_>,

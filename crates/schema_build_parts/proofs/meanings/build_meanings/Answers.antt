@@ -93,6 +93,7 @@ returns-clause-parts g c =
     let f = c.args.names.now.fragment in
     let table = c.args.names.now.table in
     let s = fragment_scope f table in
+    let above_actions = c.in_ok-above.above_actions.items in
     record {
       entities = subst (λ f. AreEntities (declared_entities f) c.in_ok-entities.entities.items) c.requires.0 c.in_ok-entities.ensures;
       actions = subst (λ f. AreActions (declared_actions f) c.in_ok-actions.actions.items) c.requires.0 c.in_ok-actions.ensures;
@@ -104,6 +105,6 @@ returns-clause-parts g c =
           (λ t ds es. AreAncestorRows (IsAncestor t ds) (map (λ e. entity_name (entity_of e)) es) c.in_ok-above.above.items)
           c.requires.1.1.0 c.requires.1.1.1.0 c.deref-3.ensures.value c.in_ok-above.ensures.above;
       above_actions = moved_thrice
-          (λ t ds es. AreAncestorRows (IsActionAncestor t ds) (map (λ e. action_key (action_of_entry e)) es) c.in_ok-above.above_actions.items)
+          (λ t ds es. AreAncestorRows (IsActionAncestor t ds) (map (λ e. action_key (action_of_entry e)) es) above_actions)
           c.requires.1.1.0 c.requires.1.1.1.1.0 c.deref-4.ensures.value c.in_ok-above.ensures.above_actions;
     }
