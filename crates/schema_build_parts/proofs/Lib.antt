@@ -1,0 +1,4 @@
+mod Known
+mod Moved
+mod NoRecords
+mod Rows

@@ -1,0 +1,3 @@
+pub mod DeclarationFaults
+pub mod BuildFaults
+pub mod Parts
