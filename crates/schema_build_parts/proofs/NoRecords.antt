@@ -9,7 +9,8 @@ use Rattle.schema_build_errors.specs.declared.shape_errors.ContextOrShape.TheVar
 use Rattle.schema_build_checks.specs.Rows.{Never}
 use Rattle.schema_build_expand.specs.Scope.{Scope}
 use Rattle.schema_build_scope.specs.FragmentScope.{fragment_scope}
-use Rattle.schema_build_items.specs.NoRecord.{AreShapesRecords, AreContextsRecords, IsLeastShape, IsLeastContext, HasNoRecordShape, HasNoRecordContext}
+use Rattle.schema_build_items.specs.NoRecord.{AreShapesRecords, IsLeastShape, HasNoRecordShape}
+use Rattle.schema_build_items.specs.NoRecord.{AreContextsRecords, IsLeastContext, HasNoRecordContext}
 
 module _ {G : named.Ghosts RawName} where
   no_least_shape : (s : Scope RawName) (f : Fragment RawName G) (x : ContextOrShape) → AreShapesRecords s f

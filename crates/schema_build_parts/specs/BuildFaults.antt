@@ -19,8 +19,8 @@ use Rattle.schema_build_parts.specs.DeclarationFaults.{DeclarationFault}
 
 module _ {G : named.Ghosts RawName} where
   -- an action is its own ancestor, or an external entity type has an enumerated one
-  abbrev pub HierarchyFault : Tests → List DeclaredEntity → List (Declared ActionAt (ActionType RawName G)) → SchemaError
-      → Type 0
+  abbrev pub HierarchyFault : Tests → List DeclaredEntity → List (Declared ActionAt (ActionType RawName G))
+      → SchemaError → Type 0
   HierarchyFault t entities actions = OrElse (HasActionCycle t actions) (HasExternalUnderEnum t entities)
 
 module _ {G : named.Ghosts RawName} (f : Fragment RawName G) (table : ExtensionTable) where
@@ -32,7 +32,8 @@ module _ {G : named.Ghosts RawName} (f : Fragment RawName G) (table : ExtensionT
   abbrev pub TypeFault : SchemaError → Type 0
   TypeFault = OrElse (HasCommonCycle f table) (HasNoRecord f table)
 
-  -- where each reference means something: entity types are wanted and not declared, or a type has a fault, or a hierarchy
+  -- where each reference means something: entity types are wanted and not declared, or a type has a fault, or a
+  -- hierarchy has one
   abbrev pub MeaningFault : SchemaError → Type 0
   MeaningFault = OrElse (HasUndeclaredEntityTypes (tests_of (defined f table)) f)
       (OrElse TypeFault (HierarchyFault (tests_of (defined f table)) (declared_entities f) (declared_actions f)))

@@ -33,8 +33,8 @@ pub struct FragmentParts<'f> {
 }
 
 /// Builds what a fragment declares under the table. It refuses a fragment that is no schema, by the first fault that it
-/// has in the order of `SchemaError`: a fault of its declarations, references that mean nothing, or a fault of what they
-/// mean.
+/// has in the order of `SchemaError`: a fault of its declarations, references that mean nothing, or a fault of what
+/// these mean.
 pub fn fragment_parts<'f>(
     alloc: Global,
     fragment: &'f Fragment<RawName>,

@@ -16,7 +16,8 @@ entity_kinds-requires-clause-done c =
 pub entity_kinds-requires-clause-whole : goal.entity_kinds-requires-clause-whole
 entity_kinds-requires-clause-whole c =
     let names = c.args.names.now in
-    subst (λ d. (k : ℕ) → k < length (fragment_scope names.fragment names.table).commons → IsDone d k) (sym c.deref.ensures.value) c.in_ok-done.ensures.whole
+    subst (λ d. (k : ℕ) → k < length (fragment_scope names.fragment names.table).commons → IsDone d k)
+    (sym c.deref.ensures.value) c.in_ok-done.ensures.whole
 
 pub action_kinds-requires-clause-done : goal.action_kinds-requires-clause-done
 action_kinds-requires-clause-done c =
@@ -26,7 +27,8 @@ action_kinds-requires-clause-done c =
 pub action_kinds-requires-clause-whole : goal.action_kinds-requires-clause-whole
 action_kinds-requires-clause-whole c =
     let names = c.args.names.now in
-    subst (λ d. (k : ℕ) → k < length (fragment_scope names.fragment names.table).commons → IsDone d k) (sym c.deref-2.ensures.value) c.in_ok-done.ensures.whole
+    subst (λ d. (k : ℕ) → k < length (fragment_scope names.fragment names.table).commons → IsDone d k)
+    (sym c.deref-2.ensures.value) c.in_ok-done.ensures.whole
 
 pub returns-in_err-applied-clause-err : goal.returns-in_err-applied-clause-err
 returns-in_err-applied-clause-err c =
