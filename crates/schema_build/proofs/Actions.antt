@@ -1,6 +1,6 @@
 -- The actions that are put together say what is meant.
-use Rattle.std.proofs.Common.{◌≡◌, ℕ, Bool, false, List, [], ◌∷◌, Vec, Option, Some, None, map, refl, sym, ap, ◌∙◌, subst}
-use Rattle.std.specs.Prelude.{slice_get, zip}
+use Rattle.std.proofs.Common.{◌≡◌, ℕ, false, List, [], ◌∷◌, Vec, Option, Some, None, map, refl, sym, ◌∙◌, subst}
+use Rattle.std.specs.Prelude.{zip}
 use Rattle.std.specs.declared.alloc.Global.{Global}
 use Rattle.std.specs.List.{AllZip}
 use Rattle.std.specs.List.Sorted.{IsStrictlySortedBy}
@@ -32,9 +32,9 @@ use Rattle.schema_build_hierarchy.specs.Entries.{AreActions, action_of_entry}
 use Rattle.schema_build_hierarchy.specs.Parents.{IsActionAncestor}
 use Rattle.schema_build_hierarchy.specs.declared.entries.Entry.{Entry}
 use Rattle.schema_build_hierarchy.proofs.Ordered.{map_twice, sorted_seen, sorted_back}
-use Rattle.schema_build_items.specs.ActionKinds.{AreJust, ApplyMeaning, ActionKindStandsFor, IsActionKindBuilt, IsApplyMeaning, IsMeantByOne, as_components, components_cmp, tests_alone}
-use Rattle.schema_build.specs.Assembly.{AreAt, AreAllAt, AreActionsBuilt, action_of_parts}
-use Rattle.schema_build.specs.Meaning.{IsActionMeaning, ActionsMean}
+use Rattle.schema_build_items.specs.ActionKinds.{AreJust, ApplyMeaning, ActionKindStandsFor, IsActionKindBuilt, IsApplyMeaning, as_components, components_cmp, tests_alone}
+use Rattle.schema_build.specs.Assembly.{AreAt, AreAllAt, HoldActions, AreActionsBuilt, action_of_parts}
+use Rattle.schema_build.specs.Meaning.{IsActionMeaning}
 use Rattle.schema_build.proofs.InOrder.{rising_names, rising_actions}
 use Rattle.schema_build.proofs.Orders.{actions_total, action_keys_rise}
 use Rattle.schema_build.proofs.Placed.{seen_at, are_just}
@@ -110,8 +110,7 @@ module _ {G : named.Ghosts RawName} (f : Fragment RawName G) (table : ExtensionT
   all_say (e ∷ es) (a ∷ ancestors) (k ∷ kinds) above are =
       let (ms, mean, say, keyed) = all_say es ancestors kinds above.1 are.1 in
       let (m, is, stands) = are.0 in
-      let rise = both_rise (tests_alone f table) (fragment_scope f table) e.ns.now e.ty.now.applies_to m is in
-      (
+      let rise = both_rise (tests_alone f table) (fragment_scope f table) e.ns.now e.ty.now.applies_to m is in (
         meant_by e a m ∷ ms,
         (record { key = refl; is_external = refl; ancestors = above.0; applies = is }, mean),
         λ i. says e a m k above.0.rising rise.0 rise.1 stands i ∷ say i,
@@ -126,15 +125,15 @@ module _ {G : named.Ghosts RawName} (f : Fragment RawName G) (table : ExtensionT
   ancestors_are es rows ancestors are above at =
       let names = map (λ (e : ActionEntry G). action_key (action_of_entry e)) es in
       let up : IsStrictlySortedBy actions_cmp names =
-          subst (IsStrictlySortedBy actions_cmp) (map_twice action_key action_of_entry es) (action_keys_rise (map action_of_entry es) are.rising) in
+      subst (IsStrictlySortedBy actions_cmp) (map_twice action_key action_of_entry es) (action_keys_rise (map action_of_entry es) are.rising) in
       joined
       (λ e (row : Vec ℕ Global). IsAncestorRow (IsActionAncestor (tests_alone f table) (declared_actions f)) names (action_key (action_of_entry e)) row.items)
       (λ (row : Vec ℕ Global). AreAt (map (λ (e : ActionEntry G). e.name) es) row.items)
       HasAncestors
       (λ e row found is stand. are_just names actions_total up
-          (IsActionAncestor (tests_alone f table) (declared_actions f)) (action_key (action_of_entry e)) row.items (map action_of found) is
-          (subst (λ l. AreAt l row.items (map action_of found)) (map_twice action_of (λ (e : ActionEntry G). e.name) es)
-          (seen_at action_of (map (λ (e : ActionEntry G). e.name) es) row.items found stand)))
+      (IsActionAncestor (tests_alone f table) (declared_actions f)) (action_key (action_of_entry e)) row.items (map action_of found) is
+      (subst (λ l. AreAt l row.items (map action_of found)) (map_twice action_of (λ (e : ActionEntry G). e.name) es)
+      (seen_at action_of (map (λ (e : ActionEntry G). e.name) es) row.items found stand)))
       es rows ancestors
       (unmapped (λ (e : ActionEntry G). action_key (action_of_entry e))
       (λ a (row : Vec ℕ Global). IsAncestorRow (IsActionAncestor (tests_alone f table) (declared_actions f)) names a row.items) es rows
@@ -142,19 +141,17 @@ module _ {G : named.Ghosts RawName} (f : Fragment RawName G) (table : ExtensionT
       at
 
   pub actions_built : (es : List (ActionEntry G)) (rows : List (Vec ℕ Global)) (ancestors : List (List EntityUID))
-      (kinds : List ValidatorActionKind) → AreActions (declared_actions f) es
-      → AreAncestorRows (IsActionAncestor (tests_alone f table) (declared_actions f)) (map (λ e. action_key (action_of_entry e)) es) rows
-      → AreAllAt (map (λ e. e.name) es) rows ancestors
-      → AllZip (IsActionKindBuilt (tests_alone f table) (fragment_scope f table)) (map action_of_entry es) kinds
+      (kinds : List ValidatorActionKind) → HoldActions f table es rows kinds → AreAllAt (map (λ e. e.name) es) rows ancestors
       → AreActionsBuilt f table (map action_of_parts (zip (zip es ancestors) kinds))
-      × IsStrictlySortedBy uids_in_order (keys_of (map action_of_parts (zip (zip es ancestors) kinds)))
-  actions_built es rows ancestors kinds are above at built =
-      let (ms, mean, say, keyed) = all_say es ancestors kinds (ancestors_are es rows ancestors are above at) built in
+  actions_built es rows ancestors kinds hold at =
+      let (ms, mean, say, keyed) = all_say es ancestors kinds (ancestors_are es rows ancestors hold.actions hold.rows at) hold.built in
       let up : IsStrictlySortedBy uids_in_order (map (λ (e : ActionEntry G). e.name) es) =
-          sorted_seen (λ (e : ActionEntry G). e.name) uids_in_order es
-          (sorted_back action_of_entry (λ a b. actions_at_in_order a.name b.name) es are.rising) in
-      (
-        (ms, record { declared = map action_of_entry es; same = are.same; rising = are.rising; each = mean },
-        λ i. record { entities = []; actions = say i }),
+      sorted_seen (λ (e : ActionEntry G). e.name) uids_in_order es
+      (sorted_back action_of_entry (λ a b. actions_at_in_order a.name b.name) es hold.actions.rising) in (
         subst (IsStrictlySortedBy uids_in_order) (sym keyed) up,
+        (
+          ms,
+          record { declared = map action_of_entry es; same = hold.actions.same; rising = hold.actions.rising; each = mean },
+          λ i. record { entities = []; actions = say i },
+        ),
       )

@@ -1,6 +1,6 @@
 -- The entity types that are put together say what is meant.
-use Rattle.std.proofs.Common.{◌≡◌, ℕ, Bool, false, List, [], ◌∷◌, Vec, Option, Some, None, map, refl, sym, ap, ◌∙◌, subst}
-use Rattle.std.specs.Prelude.{slice_get, zip}
+use Rattle.std.proofs.Common.{◌≡◌, ℕ, false, List, [], ◌∷◌, Vec, Option, Some, None, map, refl, sym, ap, ◌∙◌, subst}
+use Rattle.std.specs.Prelude.{zip}
 use Rattle.std.specs.declared.alloc.Global.{Global}
 use Rattle.std.specs.List.{AllZip}
 use Rattle.std.specs.List.Sorted.{IsStrictlySortedBy}
@@ -15,23 +15,23 @@ use Rattle.cedar_names.specs.Orders.{names_in_order}
 use Rattle.cedar_names.specs.declared.extension_table.ExtensionTable.{ExtensionTable}
 use Rattle.schema_json.specs.declared.entity_type.EntityType.{EntityType}
 use Rattle.schema_json.specs.declared.fragment.Fragment.{Fragment}
-use Rattle.schema_build_types.specs.Content.{type_content, attributes_content, entity_content, names_content}
-use Rattle.schema_build_types.specs.Standing.{IsBuilt, as_built, attributes_as_built, entity_as_built}
+use Rattle.schema_build_types.specs.Content.{type_content, entity_content}
+use Rattle.schema_build_types.specs.Standing.{as_built, attributes_as_built, entity_as_built}
 use Rattle.schema_build_types.specs.declared.types.Type.{«Type» as Built}
 use Rattle.schema_build_types.specs.declared.entity_type.ValidatorEntityTypeKind.{ValidatorEntityTypeKind}
 use Rattle.schema_build_types.specs.declared.entity_type.ValidatorEntityTypeKind.TheVariants as built
 use Rattle.schema_build_types.proofs.Contents.{built_says, built_say}
 use Rattle.schema_build_scope.specs.FragmentScope.{fragment_scope}
 use Rattle.schema_build_hierarchy.specs.Ancestors.{AreAncestorRows, IsAncestorRow}
-use Rattle.schema_build_hierarchy.specs.Declarations.{DeclaredEntity, entity_name, declared_entities}
+use Rattle.schema_build_hierarchy.specs.Declarations.{entity_name, declared_entities}
 use Rattle.schema_build_hierarchy.specs.Entries.{AreEntities, entity_of}
 use Rattle.schema_build_hierarchy.specs.Parents.{IsAncestor}
 use Rattle.schema_build_hierarchy.specs.declared.entries.Entry.{Entry}
 use Rattle.schema_build_hierarchy.proofs.Ordered.{map_twice, sorted_seen, sorted_back}
 use Rattle.schema_build_items.specs.ActionKinds.{AreJust, as_components, components_cmp, tests_alone}
 use Rattle.schema_build_items.specs.Kinds.{KindMeaning, IsKindBuilt, KindStandsFor, AreTagsBuilt}
-use Rattle.schema_build.specs.Assembly.{AreAt, AreAllAt, AreEntitiesBuilt, entity_type_of}
-use Rattle.schema_build.specs.Meaning.{IsEntityMeaning, EntitiesMean}
+use Rattle.schema_build.specs.Assembly.{AreAt, AreAllAt, HoldEntities, AreEntitiesBuilt, entity_type_of}
+use Rattle.schema_build.specs.Meaning.{IsEntityMeaning}
 use Rattle.schema_build.proofs.InOrder.{rising_names}
 use Rattle.schema_build.proofs.Orders.{components_total, entity_names_rise}
 use Rattle.schema_build.proofs.Placed.{seen_at, are_just}
@@ -105,8 +105,7 @@ module _ {G : named.Ghosts RawName} (f : Fragment RawName G) (table : ExtensionT
   all_say (e ∷ es) (a ∷ ancestors) [] above are = absurd are
   all_say (e ∷ es) (a ∷ ancestors) (k ∷ kinds) above are =
       let (ms, mean, say, keyed) = all_say es ancestors kinds above.1 are.1 in
-      let (m, is, stands) = are.0 in
-      (
+      let (m, is, stands) = are.0 in (
         meant_by e a m ∷ ms,
         (record { name = refl; is_external = refl; ancestors = above.0; kind = is }, mean),
         λ i. says e a m k above.0.rising stands i ∷ say i,
@@ -121,15 +120,15 @@ module _ {G : named.Ghosts RawName} (f : Fragment RawName G) (table : ExtensionT
   ancestors_are es rows ancestors are above at =
       let names = map (λ (e : EntityEntry). entity_name (entity_of e)) es in
       let up : IsStrictlySortedBy components_cmp names =
-          subst (IsStrictlySortedBy components_cmp) (map_twice entity_name entity_of es) (entity_names_rise (map entity_of es) are.rising) in
+      subst (IsStrictlySortedBy components_cmp) (map_twice entity_name entity_of es) (entity_names_rise (map entity_of es) are.rising) in
       joined
       (λ e (row : Vec ℕ Global). IsAncestorRow (IsAncestor (tests_alone f table) (declared_entities f)) names (entity_name (entity_of e)) row.items)
       (λ (row : Vec ℕ Global). AreAt (map (λ (e : EntityEntry). e.name) es) row.items)
       HasAncestors
       (λ e row found is stand. are_just names components_total up
-          (IsAncestor (tests_alone f table) (declared_entities f)) (entity_name (entity_of e)) row.items (as_components found) is
-          (subst (λ l. AreAt l row.items (as_components found)) (map_twice (λ (n : Name). components_of n.name) (λ (e : EntityEntry). e.name) es)
-          (seen_at (λ (n : Name). components_of n.name) (map (λ (e : EntityEntry). e.name) es) row.items found stand)))
+      (IsAncestor (tests_alone f table) (declared_entities f)) (entity_name (entity_of e)) row.items (as_components found) is
+      (subst (λ l. AreAt l row.items (as_components found)) (map_twice (λ (n : Name). components_of n.name) (λ (e : EntityEntry). e.name) es)
+      (seen_at (λ (n : Name). components_of n.name) (map (λ (e : EntityEntry). e.name) es) row.items found stand)))
       es rows ancestors
       (unmapped (λ (e : EntityEntry). entity_name (entity_of e))
       (λ a (row : Vec ℕ Global). IsAncestorRow (IsAncestor (tests_alone f table) (declared_entities f)) names a row.items) es rows
@@ -137,19 +136,17 @@ module _ {G : named.Ghosts RawName} (f : Fragment RawName G) (table : ExtensionT
       at
 
   pub entities_built : (es : List EntityEntry) (rows : List (Vec ℕ Global)) (ancestors : List (List Name))
-      (kinds : List ValidatorEntityTypeKind) → AreEntities (declared_entities f) es
-      → AreAncestorRows (IsAncestor (tests_alone f table) (declared_entities f)) (map (λ e. entity_name (entity_of e)) es) rows
-      → AreAllAt (map (λ e. e.name) es) rows ancestors
-      → AllZip (IsKindBuilt (fragment_scope f table)) (map entity_of es) kinds
+      (kinds : List ValidatorEntityTypeKind) → HoldEntities f table es rows kinds → AreAllAt (map (λ e. e.name) es) rows ancestors
       → AreEntitiesBuilt f table (map entity_type_of (zip (zip es ancestors) kinds))
-      × IsStrictlySortedBy (λ a b. names_in_order a.name b.name) (keys_of (map entity_type_of (zip (zip es ancestors) kinds)))
-  entities_built es rows ancestors kinds are above at built =
-      let (ms, mean, say, keyed) = all_say es ancestors kinds (ancestors_are es rows ancestors are above at) built in
+  entities_built es rows ancestors kinds hold at =
+      let (ms, mean, say, keyed) = all_say es ancestors kinds (ancestors_are es rows ancestors hold.entities hold.rows at) hold.built in
       let up : IsStrictlySortedBy (λ (a b : Name). names_in_order a.name b.name) (map (λ (e : EntityEntry). e.name) es) =
-          sorted_seen (λ (e : EntityEntry). e.name) (λ a b. names_in_order a.name b.name) es
-          (sorted_back entity_of (λ a b. names_in_order a.name b.name) es are.rising) in
-      (
-        (ms, record { declared = map entity_of es; same = are.same; rising = are.rising; each = mean },
-        λ i. record { entities = say i; actions = [] }),
+      sorted_seen (λ (e : EntityEntry). e.name) (λ (a b : Name). names_in_order a.name b.name) es
+      (sorted_back entity_of (λ a b. names_in_order a.name b.name) es hold.entities.rising) in (
         subst (IsStrictlySortedBy (λ (a b : Name). names_in_order a.name b.name)) (sym keyed) up,
+        (
+          ms,
+          record { declared = map entity_of es; same = hold.entities.same; rising = hold.entities.rising; each = mean },
+          λ i. record { entities = say i; actions = [] },
+        ),
       )

@@ -1,6 +1,5 @@
 -- Lists that rise are in order already.
 use Rattle.std.proofs.Common.{◌≡◌, ℕ, List, [], ◌∷◌, Ordering, map, refl, ap, ◌∙◌}
-use Rattle.std.specs.declared.cmp.Ordering.TheVariants.{Less}
 use Rattle.std.specs.BTreeSet.{insert_key}
 use Rattle.std.specs.Cmp.Lexicographic.{slice_cmp}
 use Rattle.std.specs.List.Sorted.{IsStrictlySortedBy}
@@ -31,3 +30,7 @@ rising_actions [] up = refl
 rising_actions (u ∷ us) up =
     ap (λ l. insert_key actions_cmp l (action_of u)) (rising_actions us (sorted_tail actions_cmp (action_of u) (map action_of us) up))
     ∙ in_front actions_cmp (action_of u) (map action_of us) up
+
+pub none_rise : {K : Type 0} (R : K → K → Ordering) → IsStrictlySortedBy R []
+unfolding IsStrictlySortedBy
+none_rise R = tt

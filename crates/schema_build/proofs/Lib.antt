@@ -5,3 +5,4 @@ mod Zipped
 mod Entities
 mod Actions
 mod Meanings
+mod Schemas

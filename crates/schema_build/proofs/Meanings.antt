@@ -1,5 +1,5 @@
 -- A fragment has one meaning.
-use Rattle.std.proofs.Common.{◌≡◌, ℕ, List, [], ◌∷◌, Option, Some, None, Ordering, map, sym, ap, ◌∙◌, subst}
+use Rattle.std.proofs.Common.{◌≡◌, List, Option, Some, None, Ordering, sym, ap, ◌∙◌, subst}
 use Rattle.std.specs.Cmp.{IsTotalOrder}
 use Rattle.std.specs.List.{AllZip}
 use Rattle.cedar_identifiers.specs.declared.internal_name.InternalName.{InternalName}
@@ -19,10 +19,10 @@ use Rattle.schema_resolve_definitions.specs.Tests.{Tests}
 use Rattle.schema_build_types.specs.Content.{actions_cmp}
 use Rattle.schema_build_checks.specs.DeclaredAt.{ActionAt, actions_at_in_order}
 use Rattle.schema_build_expand.specs.Expands.{Expands, ExpandsOnce}
-use Rattle.schema_build_expand.specs.Scope.{Scope, AreDeclaredOnce}
+use Rattle.schema_build_expand.specs.Scope.{Scope}
 use Rattle.schema_build_scope.specs.FragmentScope.{fragment_scope}
 use Rattle.cedar_names.specs.Orders.{names_in_order}
-use Rattle.schema_build_hierarchy.specs.Declarations.{Declared, DeclaredEntity, action_key, declared_entities, declared_actions}
+use Rattle.schema_build_hierarchy.specs.Declarations.{Declared, DeclaredEntity, declared_entities, declared_actions}
 use Rattle.schema_build_hierarchy.specs.Entries.{SameMembers}
 use Rattle.schema_build_hierarchy.proofs.KnownByMembers.{known_by_members}
 use Rattle.schema_build_items.specs.ActionKinds.{AreJust, ApplyMeaning, IsApplyMeaning, components_cmp, tests_alone}
@@ -107,14 +107,14 @@ module _ {G : named.Ghosts RawName} (f : Fragment RawName G) (table : ExtensionT
   entities_once : (xs ys : List EntityMeaning) → EntitiesMean f table xs → EntitiesMean f table ys → xs ≡ ys
   entities_once xs ys p q =
       let declared : p.declared ≡ q.declared = known_by_members (λ (a b : DeclaredEntity). names_in_order a.name b.name) declared_entities_total
-          p.declared q.declared p.rising q.rising (same_members (declared_entities f) p.declared q.declared p.same q.same) in
+      p.declared q.declared p.rising q.rising (same_members (declared_entities f) p.declared q.declared p.same q.same) in
       one_beside (IsEntityMeaning f table) entity_once q.declared xs ys
       (subst (λ ds. AllZip (IsEntityMeaning f table) ds xs) declared p.each) q.each
 
   actions_once : (xs ys : List ActionMeaning) → ActionsMean f table xs → ActionsMean f table ys → xs ≡ ys
   actions_once xs ys p q =
       let declared : p.declared ≡ q.declared = known_by_members (λ (a b : Declared ActionAt (ActionType RawName G)). actions_at_in_order a.name b.name) (declared_actions_total G)
-          p.declared q.declared p.rising q.rising (same_members (declared_actions f) p.declared q.declared p.same q.same) in
+      p.declared q.declared p.rising q.rising (same_members (declared_actions f) p.declared q.declared p.same q.same) in
       one_beside (IsActionMeaning f table) action_once q.declared xs ys
       (subst (λ ds. AllZip (IsActionMeaning f table) ds xs) declared p.each) q.each
 

@@ -1,8 +1,8 @@
 -- The orders of names and of actions, by their components.
-use Rattle.std.proofs.Common.{◌≡◌, ℕ, List, Ordering, map, sym, ap, ◌∙◌, subst}
+use Rattle.std.proofs.Common.{◌≡◌, ℕ, List, map, sym, ap, subst}
 use Rattle.std.specs.Cmp.{IsTotalOrder, on_total, then_total}
 use Rattle.std.specs.Cmp.Derive.Mapped.{lex_map}
-use Rattle.std.specs.Cmp.Lexicographic.{slice_cmp, lists_total}
+use Rattle.std.specs.Cmp.Lexicographic.{lists_total}
 use Rattle.std.specs.List.Sorted.{IsStrictlySortedBy}
 use Rattle.std.specs.Ordering.{ordering_then}
 use Rattle.std.specs.Str.{encode_utf8_all}
@@ -12,7 +12,7 @@ use Rattle.cedar_identifiers.specs.Names.{components_of}
 use Rattle.cedar_identifiers.specs.declared.internal_name.InternalName.{InternalName}
 use Rattle.cedar_identifiers.specs.declared.name_text.NameText as named
 use Rattle.cedar_identifiers.specs.declared.raw_name.RawName.{RawName}
-use Rattle.cedar_names.specs.Orders.{ids_of, names_in_order, names_total, keys_in_order, keys_total}
+use Rattle.cedar_names.specs.Orders.{ids_of, names_in_order, names_total, keys_total}
 use Rattle.schema_json.specs.declared.action_type.ActionType.{ActionType}
 use Rattle.schema_build_checks.specs.DeclaredAt.{ActionAt, actions_at_in_order}
 use Rattle.schema_build_hierarchy.specs.Declarations.{Declared, DeclaredEntity, entity_name, action_key, named_action}
@@ -50,7 +50,6 @@ module _ {G : named.Ghosts RawName} where
       → IsStrictlySortedBy (λ a b. actions_at_in_order a.name b.name) ds → IsStrictlySortedBy actions_cmp (map action_key ds)
   action_keys_rise ds up = sorted_seen action_key actions_cmp ds
       (subst (λ o. IsStrictlySortedBy o ds) (λ i a b. actions_by_components a.name b.name i) up)
-
 
 pub declared_entities_total : IsTotalOrder (λ (a b : DeclaredEntity). names_in_order a.name b.name)
 declared_entities_total = on_total (λ (d : DeclaredEntity). d.name) names_total

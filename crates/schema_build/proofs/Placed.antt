@@ -1,5 +1,5 @@
 -- Names at rising places of a list that rises.
-use Rattle.std.proofs.Common.{◌≡◌, ℕ, ◌+◌, ◌<◌, List, [], ◌∷◌, ◌++◌, Vec, Ordering, Option, Some, map, length, take, get_or, Contains, refl, sym, ap, ◌∙◌, subst}
+use Rattle.std.proofs.Common.{◌≡◌, ℕ, ◌+◌, ◌<◌, List, [], ◌∷◌, ◌++◌, Vec, Ordering, Some, map, length, take, get_or, Contains, refl, sym, ap, ◌∙◌, subst}
 use Rattle.std.specs.Prelude.{slice_get}
 use Rattle.std.specs.declared.cmp.Ordering.TheVariants.{Less}
 use Rattle.std.specs.Cmp.{IsTotalOrder}
@@ -8,13 +8,12 @@ use Rattle.std.specs.List.Sorted.{IsStrictlySortedBy}
 use Rattle.std.specs.Option.{option_map}
 use Rattle.std.proofs.lemmas.Cmp.{ranked}
 use Rattle.std.specs.Ordering.{nat_cmp}
-use Rattle.std.proofs.lemmas.Map.Keys.{sorted_head, sorted_tail, sorted_from_strictly_increasing}
+use Rattle.std.proofs.lemmas.Map.Keys.{sorted_from_strictly_increasing}
 use Rattle.std.specs.declared.alloc.Global.{Global}
 use Rattle.std.proofs.lemmas.List.{map-append, take_more}
 use Rattle.std.proofs.lemmas.Option.{slice_get-map, slice_get_read}
 use Rattle.std.proofs.lemmas.Slice.Zip.{all_zipped_more}
 use Rattle.schema_build_hierarchy.proofs.ParentRanks.{map_at}
-use Rattle.std.proofs.lemmas.List.Elements.{All-from_recursion, All-contains}
 use Rattle.schema_build_hierarchy.specs.Ancestors.{IsAncestorRow}
 use Rattle.schema_build_hierarchy.proofs.Ordered.{contains_map, contains_unmap, map_twice}
 use Rattle.schema_build_hierarchy.proofs.Ranked.{less_at}
@@ -40,7 +39,7 @@ pub one_more : {A B : Type 0} (name : B → A) (entries : List B) (places : List
 one_more name entries places k found grown x e within inside is same more at =
     let r = get_or places k 0 in
     let stands : Some x ≡ slice_get (map name entries) r =
-        ap Some same ∙ sym (map_at name entries r e (slice_get_read entries (length entries) r e refl inside is)) in
+    ap Some same ∙ sym (map_at name entries r e (slice_get_read entries (length entries) r e refl inside is)) in
     ap (map Some) more ∙ map-append Some found (x ∷ []) ∙ (λ i. at i ++ stands i ∷ [])
     ∙ sym (map-append (slice_get (map name entries)) (take k places) (r ∷ []))
     ∙ sym (ap (map (slice_get (map name entries))) (take_more places k 0 within))
@@ -52,7 +51,7 @@ pub one_more_row : {A : Type 0} (names : List A) (rows : List (Vec ℕ Global)) 
 one_more_row names rows k row lists grown found within is more at all =
     let longer = all_zipped_more (λ (w : Vec ℕ Global). AreAt names w.items) (take k rows) lists row found all at in
     let whole : take (k + 1) rows ≡ take k rows ++ row ∷ [] =
-        take_more rows k row within ∙ (λ i. take k rows ++ sym is i ∷ []) in
+    take_more rows k row within ∙ (λ i. take k rows ++ sym is i ∷ []) in
     subst (λ l. AreAllAt names l grown) (sym whole) (subst (AreAllAt names (take k rows ++ row ∷ [])) (sym more) longer)
 
 module _ {K : Type 0} (names : List K) where

@@ -1,5 +1,5 @@
 -- Lists side by side.
-use Rattle.std.proofs.Common.{◌≡◌, ℕ, ◌<◌, zero, suc, List, [], ◌∷◌, All, Vec, length, get_or, map, Some, refl, subst, inl, inr, arith}
+use Rattle.std.proofs.Common.{◌≡◌, ℕ, ◌<◌, suc, List, [], ◌∷◌, All, Vec, length, get_or, map, Some, refl, subst, inl, inr, arith}
 use Rattle.std.specs.Prelude.{slice_get}
 use Rattle.std.specs.declared.alloc.Global.{Global}
 use Rattle.std.specs.List.{AllZip}
@@ -57,9 +57,9 @@ rows_within ancestor names rows n many are k row within place index inside =
     let list = get_or rows k row in
     let stands : slice_get rows k ≡ Some list = slice_get-get_or rows k row within in
     elim (slice_get_cases names k).1 [
-    | inl a ↦
-      let is = are.each k a.0 list a.2 stands in
-      let (b, at, above) = is.sound (get_or list.items place index) (Contains-get_or list.items place index inside) in
-      subst (λ m. get_or list.items place index < m) many (slice_get_within names (get_or list.items place index) b at)
-    | inr past ↦ absurd (omega (arith, within, past.0, are.same))
-  ]
+      | inl a ↦
+          let is = are.each k a.0 list a.2 stands in
+          let (b, at, above) = is.sound (get_or list.items place index) (Contains-get_or list.items place index inside) in
+          subst (λ m. get_or list.items place index < m) many (slice_get_within names (get_or list.items place index) b at)
+      | inr past ↦ absurd (omega (arith, within, past.0, are.same))
+    ]

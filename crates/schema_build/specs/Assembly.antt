@@ -2,11 +2,14 @@
 -- each, and a schema from both.
 use Rattle.std.specs.Prelude.{◌≡◌, ℕ, List, [], Vec, map, Some, slice_get}
 use Rattle.std.specs.List.{AllZip}
+use Rattle.std.specs.List.Sorted.{IsStrictlySortedBy}
+use Rattle.std.specs.Map.{keys_of}
 use Rattle.std.specs.declared.alloc.Global.{Global}
 use Rattle.cedar_identifiers.specs.declared.name.Name.{Name}
 use Rattle.cedar_identifiers.specs.declared.name_text.NameText as named
 use Rattle.cedar_identifiers.specs.declared.raw_name.RawName.{RawName}
 use Rattle.cedar_names.specs.Meaning.{EntityMeaning, ActionMeaning}
+use Rattle.cedar_names.specs.Orders.{names_in_order, uids_in_order}
 use Rattle.cedar_names.specs.declared.entity_uid.EntityUID.{EntityUID}
 use Rattle.cedar_names.specs.declared.extension_table.ExtensionTable.{ExtensionTable}
 use Rattle.schema_json.specs.declared.action_type.ActionType.{ActionType}
@@ -17,6 +20,13 @@ use Rattle.schema_build_types.specs.declared.action.ValidatorActionId.{Validator
 use Rattle.schema_build_types.specs.declared.action.ValidatorActionKind.{ValidatorActionKind}
 use Rattle.schema_build_types.specs.declared.entity_type.ValidatorEntityType.{ValidatorEntityType}
 use Rattle.schema_build_types.specs.declared.entity_type.ValidatorEntityTypeKind.{ValidatorEntityTypeKind}
+use Rattle.schema_build_scope.specs.FragmentScope.{fragment_scope}
+use Rattle.schema_build_hierarchy.specs.Ancestors.{AreAncestorRows}
+use Rattle.schema_build_hierarchy.specs.Declarations.{entity_name, action_key, declared_entities, declared_actions}
+use Rattle.schema_build_hierarchy.specs.Entries.{AreEntities, AreActions, entity_of, action_of_entry}
+use Rattle.schema_build_hierarchy.specs.Parents.{IsAncestor, IsActionAncestor}
+use Rattle.schema_build_items.specs.ActionKinds.{IsActionKindBuilt, tests_alone}
+use Rattle.schema_build_items.specs.Kinds.{IsKindBuilt}
 use Rattle.schema_build_hierarchy.specs.declared.entries.Entry.{Entry}
 use Rattle.schema_build.specs.Meaning.{EntitiesMean, ActionsMean}
 
@@ -47,12 +57,28 @@ module _ {G : named.Ghosts RawName} where
       → EntityUID × ValidatorActionId
   action_of_parts a = (a.0.0.name, record { ancestors = a.0.1; kind = a.1 })
 
-  -- these entity types say what those of the fragment mean
-  abbrev pub AreEntitiesBuilt : Fragment RawName G → ExtensionTable → List (Name × ValidatorEntityType) → Type 0
-  AreEntitiesBuilt f table built =
-      (es : List EntityMeaning) × EntitiesMean f table es × EntitiesStandFor built es
+  -- the declared entity types in order, with the places of the ancestors of each and what it is built as
+  pub record HoldEntities (f : Fragment RawName G) (table : ExtensionTable) (entries : List (Entry Name (EntityType RawName)))
+      (above : List (Vec ℕ Global)) (kinds : List ValidatorEntityTypeKind) : Type 0 where
+    pub entities : AreEntities (declared_entities f) entries
+    pub rows : AreAncestorRows (IsAncestor (tests_alone f table) (declared_entities f))
+        (map (λ e. entity_name (entity_of e)) entries) above
+    pub built : AllZip (IsKindBuilt (fragment_scope f table)) (map entity_of entries) kinds
 
-  -- these actions say what those of the fragment mean
+  -- the declared actions in order, with the places of the ancestors of each and what it is built as
+  pub record HoldActions (f : Fragment RawName G) (table : ExtensionTable) (entries : List (Entry EntityUID (ActionType RawName G)))
+      (above : List (Vec ℕ Global)) (kinds : List ValidatorActionKind) : Type 0 where
+    pub actions : AreActions (declared_actions f) entries
+    pub rows : AreAncestorRows (IsActionAncestor (tests_alone f table) (declared_actions f))
+        (map (λ e. action_key (action_of_entry e)) entries) above
+    pub built : AllZip (IsActionKindBuilt (tests_alone f table) (fragment_scope f table)) (map action_of_entry entries) kinds
+
+  -- these entity types, in the order of their names, say what those of the fragment mean
+  abbrev pub AreEntitiesBuilt : Fragment RawName G → ExtensionTable → List (Name × ValidatorEntityType) → Type 0
+  AreEntitiesBuilt f table built = IsStrictlySortedBy (λ a b. names_in_order a.name b.name) (keys_of built)
+      × ((es : List EntityMeaning) × EntitiesMean f table es × EntitiesStandFor built es)
+
+  -- these actions, in the order of their types and ids, say what those of the fragment mean
   abbrev pub AreActionsBuilt : Fragment RawName G → ExtensionTable → List (EntityUID × ValidatorActionId) → Type 0
-  AreActionsBuilt f table built =
-      (actions : List ActionMeaning) × ActionsMean f table actions × ActionsStandFor built actions
+  AreActionsBuilt f table built = IsStrictlySortedBy uids_in_order (keys_of built)
+      × ((actions : List ActionMeaning) × ActionsMean f table actions × ActionsStandFor built actions)

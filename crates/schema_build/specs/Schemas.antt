@@ -1,5 +1,5 @@
 -- What a built schema holds, and what it stands for.
-use Rattle.std.specs.Prelude.{List, []}
+use Rattle.std.specs.Prelude.{List}
 use Rattle.cedar_identifiers.specs.declared.name.Name.{Name}
 use Rattle.cedar_identifiers.specs.declared.name_text.NameText as named
 use Rattle.cedar_identifiers.specs.declared.raw_name.RawName.{RawName}

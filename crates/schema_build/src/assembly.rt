@@ -1,20 +1,9 @@
 ghost use Rattle.std.specs.Prelude.{◌≡◌, ◌<◌, ℕ, Vec, map, length, zip, All, IfOk};
-ghost use Rattle.std.specs.List.{AllZip};
-ghost use Rattle.std.specs.List.Sorted.{IsStrictlySortedBy};
-ghost use Rattle.std.specs.Map.{keys_of};
 ghost use Rattle.std.specs.declared.alloc.Global.{Global as GlobalTold};
 ghost use Rattle.cedar_identifiers.specs.declared.raw_name.RawName.{RawName as Raw};
-ghost use Rattle.cedar_names.specs.Orders.{names_in_order, uids_in_order};
 ghost use Rattle.cedar_names.specs.declared.extension_table.ExtensionTable.{ExtensionTable as Table};
 ghost use Rattle.schema_json.specs.declared.fragment.Fragment.{Fragment as Fragments};
-ghost use Rattle.schema_build_scope.specs.FragmentScope.{fragment_scope};
-ghost use Rattle.schema_build_hierarchy.specs.Ancestors.{AreAncestorRows};
-ghost use Rattle.schema_build_hierarchy.specs.Declarations.{entity_name, action_key, declared_entities, declared_actions};
-ghost use Rattle.schema_build_hierarchy.specs.Entries.{AreEntities, AreActions, entity_of, action_of_entry};
-ghost use Rattle.schema_build_hierarchy.specs.Parents.{IsAncestor, IsActionAncestor};
-ghost use Rattle.schema_build_items.specs.ActionKinds.{IsActionKindBuilt, tests_alone};
-ghost use Rattle.schema_build_items.specs.Kinds.{IsKindBuilt};
-ghost use Rattle.schema_build.specs.Assembly.{AreAt, AreAllAt, AreEntitiesBuilt, AreActionsBuilt, entity_type_of, action_of_parts};
+ghost use Rattle.schema_build.specs.Assembly.{AreAt, AreAllAt, AreEntitiesBuilt, AreActionsBuilt, HoldEntities, HoldActions, entity_type_of, action_of_parts};
 
 use cedar_data::{CloneIn, List};
 use cedar_identifiers::{Name, NameText, RawName};
@@ -118,12 +107,8 @@ pub(crate) fn entity_types(
     above: &[Vec<usize>],
     kinds: Vec<ValidatorEntityTypeKind>,
 ) -> Result<Vec<(Name, ValidatorEntityType)>, AllocError>
-    ghost g: { Fragments Raw ⟦<RawName as NameText>⟧ × Table }
-    requires entries { AreEntities (declared_entities g.0) entries.items }
-    requires above { AreAncestorRows (IsAncestor (tests_alone g.0 g.1) (declared_entities g.0)) (map (λ e. entity_name (entity_of e)) entries.items) above.now }
-    requires kinds { AllZip (IsKindBuilt (fragment_scope g.0 g.1)) (map entity_of entries.items) kinds.items }
-    ensures built { IfOk result (λ built. AreEntitiesBuilt g.0 g.1 built.items) }
-    ensures rising { IfOk result (λ built. IsStrictlySortedBy (λ a b. names_in_order a.name b.name) (keys_of built.items)) }
+    requires { All (λ (row : Vec ℕ GlobalTold). All (λ place. place < length entries.items) row.items) above.now }
+    ensures { (f : Fragments Raw ⟦<RawName as NameText>⟧) (table : Table) → HoldEntities f table entries.entry.items above.now kinds.items → IfOk result (λ built. AreEntitiesBuilt f table built.items) }
 {
     let ancestors = all_names_at(alloc, &entries, above)?;
     entity_types_of(alloc, entries, ancestors, kinds)
@@ -136,12 +121,8 @@ pub(crate) fn actions(
     above: &[Vec<usize>],
     kinds: Vec<ValidatorActionKind>,
 ) -> Result<Vec<(EntityUID, ValidatorActionId)>, AllocError>
-    ghost g: { Fragments Raw ⟦<RawName as NameText>⟧ × Table }
-    requires entries { AreActions (declared_actions g.0) entries.items }
-    requires above { AreAncestorRows (IsActionAncestor (tests_alone g.0 g.1) (declared_actions g.0)) (map (λ e. action_key (action_of_entry e)) entries.items) above.now }
-    requires kinds { AllZip (IsActionKindBuilt (tests_alone g.0 g.1) (fragment_scope g.0 g.1)) (map action_of_entry entries.items) kinds.items }
-    ensures built { IfOk result (λ built. AreActionsBuilt g.0 g.1 built.items) }
-    ensures rising { IfOk result (λ built. IsStrictlySortedBy uids_in_order (keys_of built.items)) }
+    requires { All (λ (row : Vec ℕ GlobalTold). All (λ place. place < length entries.items) row.items) above.now }
+    ensures { (f : Fragments Raw ⟦<RawName as NameText>⟧) (table : Table) → HoldActions f table entries.entry.items above.now kinds.items → IfOk result (λ built. AreActionsBuilt f table built.items) }
 {
     let ancestors = all_names_at(alloc, &entries, above)?;
     actions_of(alloc, entries, ancestors, kinds)
