@@ -1,3 +1,10 @@
+mod Words
+mod Tables
 mod OnePlan
+mod Answered
+mod Counted
 mod Planned
+mod Refusals
+mod Refused
+mod Lines
 mod Ran

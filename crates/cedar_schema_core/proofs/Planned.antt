@@ -1,79 +1,77 @@
 -- What the program is to do.
-use Rattle.std.proofs.Common.{◌≡◌, ◌<◌, ◌≤◌, ℕ, List, [], ◌∷◌, length, get_or, Result, Bool, Option, Some, None, refl, sym, ap, ◌∙◌, subst, arith, IsUtf8, String, Global}
-use Rattle.std.specs.Prelude.{map}
-use Rattle.std.specs.Bool.{IsTrue}
+use Rattle.std.proofs.Common.{◌≡◌, ◌≢◌, ◌≤◌, ℕ, List, [], length, Result, Option, Some, None, refl, sym, subst, IsUtf8}
+use Rattle.std.specs.Option.{MatchOption}
 use Rattle.std.specs.Result.{IfOk}
-use Rattle.std.specs.Str.{encode_utf8_all, bytes_eq}
-use Rattle.std.specs.String.{string_bytes}
 use Rattle.std.specs.declared.alloc.AllocError.{AllocError}
 use Rattle.std.proofs.lemmas.Result.{IfOk-weaker}
-use Rattle.std.proofs.lemmas.Slice.Eq.{bytes_eq-Decides}
-use Rattle.plain_syntax.specs.ThinMeaning.{TextMeaning, IsValid}
-use Rattle.cedar_schema_core.specs.declared.reply.Reply.{Reply}
-use Rattle.cedar_schema_core.specs.declared.recover.Recovered.{Recovered}
-use Rattle.cedar_schema_core.specs.declared.status.Status.TheVariants.{Done}
-use Rattle.cedar_schema_core.specs.Recovery.{IsRecovered}
-use Rattle.cedar_schema_core.specs.Replies.{report_of}
-use Rattle.cedar_schema_core.specs.Plan.{Report, IsRecover, IsRecoverPlan, not_text, refused, done, recover, done_report, not_text_report, refused_report}
 use Rattle.cedar_io.specs.Input.{HadLeft, max_input}
-use Rattle.cedar_schema_core.specs.Run.{Device, LeftAs, IsReported, planned}
 use Rattle.cedar_io.specs.Outside.{IsEnd}
-
--- one word, and what it is compared with
-pub one_word : (words : List (String Global)) (word : String Global) (text target : List ℕ) (r : Bool)
-    → 1 ≤ length words → length words < 2 → word ≡ get_or words 0 word → text ≡ string_bytes word
-    → r ≡ bytes_eq text target
-    → (IsTrue r → map string_bytes words ≡ target ∷ []) × (map string_bytes words ≡ target ∷ [] → IsTrue r)
-one_word [] word text target r some few e t d = absurd (omega arith)
-one_word (w ∷ v ∷ ws) word text target r some few e t d = absurd (omega arith)
-one_word (w ∷ []) word text target r some few e t d =
-    let same : text ≡ string_bytes w = t ∙ ap string_bytes e in (
-      (λ h. ap (λ b. b ∷ []) (sym same ∙ (bytes_eq-Decides text target).0 (sym d ∙ h))),
-      (λ h. d ∙ (bytes_eq-Decides text target).1 (same ∙ (let head : string_bytes w ≡ target = cc in head))),
-    )
+use Rattle.cedar_names.specs.declared.extension_table.ExtensionTable.{ExtensionTable}
+use Rattle.cedar_schema_core.specs.declared.command.Command.{Command}
+use Rattle.cedar_schema_core.specs.declared.recover.RecoverError.{RecoverError}
+use Rattle.cedar_schema_core.specs.declared.recover.RecoverError.TheVariants.{Memory}
+use Rattle.cedar_schema_core.specs.declared.reply.Reply.{Reply}
+use Rattle.cedar_schema_core.specs.declared.status.Status.{Status}
+use Rattle.cedar_schema_core.specs.declared.status.Status.TheVariants.{TooLong}
+use Rattle.cedar_schema_core.specs.Meanings.{IsValid}
+use Rattle.cedar_schema_core.specs.Commands.{Asks, table_of}
+use Rattle.cedar_schema_core.specs.Replies.{report_of}
+use Rattle.cedar_schema_core.specs.Plan.{Report, IsAnswer, refused, IsInputPlan, answered, asked, refused_report}
+use Rattle.cedar_schema_core.specs.Run.{Device, LeftAs, IsReported, planned}
 
 -- some bytes were left
 pub had_some : (o : Option (List ℕ)) → (bytes : List ℕ) × HadLeft o bytes
 had_some None = ([], tt)
 had_some (Some left) = (left, refl)
 
-module _ (bytes : List ℕ) where
-  pub not_text_planned : (r : Result Reply AllocError) → (IsUtf8 bytes → ⊥)
-      → IfOk r (λ reply. report_of reply ≡ not_text_report) → IfOk r (λ reply. IsRecoverPlan bytes (report_of reply))
-  not_text_planned r h told = IfOk-weaker r _ _ (λ reply e. subst (IsRecoverPlan bytes) (sym e) (not_text h)) told
+-- the words ask for no command, where none is found
+pub none_asked : (words : List (List ℕ)) (found : Option Command) → found ≡ None
+    → MatchOption found ((c : Command) → Asks words c → ⊥) (Asks words) → (c : Command) → Asks words c → ⊥
+none_asked words found is told = subst (λ o. MatchOption o ((c : Command) → Asks words c → ⊥) (Asks words)) is told
 
-  pub done_planned : (text : List ℕ) (recovered : Recovered) (err : List ℕ) → (text ≡ bytes) → IsUtf8 bytes
-      → IsRecovered text recovered → err ≡ []
-      → IsRecoverPlan bytes (report_of (record { status = Done; out = recovered.text; err = err }))
-  done_planned text recovered err same utf8 r none =
-      let e : done_report r.meaning ≡ report_of (record { status = Done; out = recovered.text; err = err }) =
-      λ i. record { status = Done; out = encode_utf8_all (sym r.canonical i); err = encode_utf8_all (sym none i) } in
-      subst (IsRecoverPlan bytes) e (done utf8 r.meaning (subst (λ t. TextMeaning t r.meaning) same r.means))
+-- the words ask for the command that is found
+pub is_asked : (words : List (List ℕ)) (found : Option Command) (c : Command) → found ≡ Some c
+    → MatchOption found ((d : Command) → Asks words d → ⊥) (Asks words) → Asks words c
+is_asked words found c is told = subst (λ o. MatchOption o ((d : Command) → Asks words d → ⊥) (Asks words)) is told
 
-  pub refused_planned : (r : Result Reply AllocError) (text : List ℕ) → text ≡ bytes → IsUtf8 bytes
-      → IfOk r (λ reply. (IsValid text → ⊥) × (report_of reply ≡ refused_report))
-      → IfOk r (λ reply. IsRecoverPlan bytes (report_of reply))
-  refused_planned r text same utf8 told =
-      IfOk-weaker r _ _ (λ reply h. subst (IsRecoverPlan bytes) (sym h.1) (refused utf8 (subst (λ t. IsValid t → ⊥) same h.0))) told
+-- the reply says what the report says
+pub so : (P : Report → Type 0) (r : Result Reply AllocError) (report : Report) → P report
+    → IfOk r (λ reply. report_of reply ≡ report) → IfOk r (λ reply. P (report_of reply))
+so P r report h told = IfOk-weaker r _ _ (λ reply e. subst P (sym e) h) told
 
-  -- where the whole input was read, none is left
-  pub left_at_end : (source : Device) (report : Report) → IsRecoverPlan bytes report → IsEnd source.after
-      → LeftAs source report.status
-  left_at_end source report (not_text h) e = e
-  left_at_end source report (refused u h) e = e
-  left_at_end source report (done u m h) e = e
+-- where nothing is recovered, the text is refused
+pub refused_answer : (c : Command) (text : List ℕ) (table : ExtensionTable) (fault : RecoverError) (r : Result Reply AllocError)
+    → table ≡ table_of c → (fault ≢ Memory → IsValid text table → ⊥)
+    → IfOk r (λ reply. (fault ≢ Memory) × (report_of reply ≡ refused_report))
+    → IfOk r (λ reply. IsAnswer c text (report_of reply))
+refused_answer c text table fault r same invalid told =
+    IfOk-weaker r _ _ (λ reply h. subst (IsAnswer c text) (sym h.1) (refused (subst (λ t. IsValid text t → ⊥) same (invalid h.0)))) told
+
+-- a short input that is a text is answered as that text
+pub text_planned : (c : Command) (text bytes : List ℕ) (r : Result Reply AllocError) → text ≡ bytes → IsUtf8 bytes
+    → length bytes ≤ max_input → IfOk r (λ reply. IsAnswer c text (report_of reply))
+    → IfOk r (λ reply. IsInputPlan c bytes (report_of reply))
+text_planned c text bytes r same utf8 short told =
+    IfOk-weaker r _ _ (λ reply h. answered short utf8 (subst (λ t. IsAnswer c t (report_of reply)) same h)) told
 
 module _ (words : List (List ℕ)) (source : Device) where
-  -- a reply of one line
-  pub line_reported : (r : Result Reply AllocError) (report : Report) → IsReported words source report
-      → IfOk r (λ reply. report_of reply ≡ report) → IfOk r (λ reply. IsReported words source (report_of reply))
-  line_reported r report h told = IfOk-weaker r _ _ (λ reply e. subst (IsReported words source) (sym e) h) told
+  -- where no command is asked for, nothing is read
+  pub unread : ((c : Command) → Asks words c → ⊥) → source.Same → (status : Status) → LeftAs words source status
+  unread none same status = record { unread = λ h. same; end = λ c a h. absurd (none c a) }
+
+  -- where a command is asked for, and the whole input was read
+  pub at_end : (c : Command) → Asks words c → IsEnd source.after → (status : Status) → LeftAs words source status
+  at_end c a end status = record { unread = λ h. absurd (h c a); end = λ d b h. end }
+
+  -- where the input is too long
+  pub cut_short : (c : Command) → Asks words c → LeftAs words source TooLong
+  cut_short c a = record { unread = λ h. absurd (h c a); end = λ d b h. absurd (h refl) }
 
   -- the reply for the whole input
-  pub input_reported : (r : Result Reply AllocError) (lent bytes : List ℕ) → lent ≡ bytes → IsRecover words
-      → HadLeft source.before bytes → length bytes ≤ max_input → IsEnd source.after
-      → IfOk r (λ reply. IsRecoverPlan lent (report_of reply))
+  pub input_reported : (r : Result Reply AllocError) (c : Command) (lent bytes : List ℕ) → lent ≡ bytes → Asks words c
+      → HadLeft source.before bytes → IsEnd source.after → IfOk r (λ reply. IsInputPlan c lent (report_of reply))
       → IfOk r (λ reply. IsReported words source (report_of reply))
-  input_reported r lent bytes same is had short end told =
-      IfOk-weaker r _ _ (λ reply h. let plan : IsRecoverPlan bytes (report_of reply) = subst (λ b. IsRecoverPlan b (report_of reply)) same h in
-      planned bytes had (recover is short plan) (left_at_end bytes source (report_of reply) plan end)) told
+  input_reported r c lent bytes same a had end told =
+      IfOk-weaker r _ _ (λ reply h.
+      planned bytes had (asked c a (subst (λ b. IsInputPlan c b (report_of reply)) same h))
+      (at_end c a end (report_of reply).status)) told

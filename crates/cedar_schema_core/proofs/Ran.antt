@@ -1,15 +1,13 @@
 -- What follows from how a run went.
 use Rattle.std.proofs.Common.{◌≡◌, ◌≤◌, ◌⊎◌, ℕ, List, length, Option, Some, None, inl, inr, refl, sym, ap, ◌∙◌, subst, arith}
-use Rattle.std.specs.Str.{encode_utf8_all}
-use Rattle.plain_syntax.specs.CanonicalText.{canonical_text}
-use Rattle.plain_syntax.specs.declared.thin_entry.ThinEntry.{ThinEntry}
-use Rattle.plain_syntax.specs.ThinMeaning.{TextMeaning}
 use Rattle.cedar_schema_core.specs.declared.status.Status.{Status}
 use Rattle.cedar_schema_core.specs.declared.status.Status.TheVariants.{Done, Refused, Usage, ReadFault, WriteFault, NotText, TooLong, Memory}
+use Rattle.cedar_schema_core.specs.declared.command.Command.{Command}
 use Rattle.cedar_io.specs.Outside.{Rose}
 use Rattle.cedar_io.specs.Input.{HadLeft}
-use Rattle.cedar_schema_core.specs.Plan.{Report, IsPlan, IsRecoverPlan, usage, too_long, recover, not_text, refused, done, read_fault_report}
-use Rattle.cedar_schema_core.specs.Run.{Device, LeftAs, IsReported, planned, read_fault, TookWhole, IsDelivered, whole, out_failed, err_failed, IsRun, delivered, wanted_memory, Recovers, NoneCounted}
+use Rattle.cedar_schema_core.specs.Commands.{Asks}
+use Rattle.cedar_schema_core.specs.Plan.{Report, IsAnswer, refused, done, IsInputPlan, too_long, not_text, answered, IsPlan, usage, asked, read_fault_report}
+use Rattle.cedar_schema_core.specs.Run.{Device, LeftAs, IsReported, planned, read_fault, TookWhole, IsDelivered, whole, out_failed, err_failed, IsRun, delivered, wanted_memory, Completed, NoneCounted}
 
 -- what was left is what is told
 told : (o : Option (List ℕ)) (all bytes : List ℕ) → o ≡ Some all → HadLeft o bytes → all ≡ bytes
@@ -21,14 +19,14 @@ module _ (one : (words : List (List ℕ)) (bytes : List ℕ) (report other : Rep
   -- the report is the plan, where no read failed
   same_report : (report : Report) → IsReported words source report → (report ≡ plan) ⊎ (report ≡ read_fault_report)
   same_report report (planned all had p l) = inl (one words bytes report plan (subst (λ b. IsPlan words b report) (sym (told source.before bytes all left had)) p) is)
-  same_report report (read_fault i r) = inr refl
+  same_report report (read_fault c i r) = inr refl
 
   -- with no fault, the status is that of the plan, or memory was wanted
   pub completes : (out err : Device) (status : Status) → IsRun words source out err status
       → NoneCounted source out err → (status ≡ plan.status) ⊎ (status ≡ Memory)
   completes out err status (delivered report (planned all had p l) (whole o e)) n =
       inl (ap (λ r. r.status) (one words bytes report plan (subst (λ b. IsPlan words b report) (sym (told source.before bytes all left had)) p) is))
-  completes out err status (delivered report (read_fault i r) (whole o e)) n = absurd (n.none_read r)
+  completes out err status (delivered report (read_fault c i r) (whole o e)) n = absurd (n.none_read r)
   completes out err status (delivered report h (out_failed f s)) n = absurd (n.none_out f.counted)
   completes out err status (delivered report h (err_failed o f)) n = absurd (n.none_err f.counted)
   completes out err status (wanted_memory o e) n = inr refl
@@ -45,7 +43,7 @@ module _ (one : (words : List (List ℕ)) (bytes : List ℕ) (report other : Rep
   within_err report n (planned all had p l) a b =
       let e : report ≡ plan = one words bytes report plan (subst (λ b. IsPlan words b report) (sym (told source.before bytes all left had)) p) is in
       let k : length report.err ≡ length plan.err = ap (λ r. length r.err) e in omega arith
-  within_err report n (read_fault i r) a b = b r
+  within_err report n (read_fault c i r) a b = b r
 
 -- these statuses are not `Done`
 refused_done : Refused ≡ Done → ⊥
@@ -69,31 +67,55 @@ too_long_done e = cc
 memory_done : Memory ≡ Done → ⊥
 memory_done e = cc
 
-module _ (survives : (text : List ℕ) (meaning : List ThinEntry) → TextMeaning text meaning → TextMeaning (encode_utf8_all (canonical_text meaning)) meaning)
-    (words : List (List ℕ)) (source out err : Device) where
-  recovers_from : (bytes : List ℕ) (report : Report) → HadLeft source.before bytes → IsRecoverPlan bytes report
-      → LeftAs source report.status → TookWhole out report.out → TookWhole err report.err
-      → report.status ≡ Done → Recovers source out err
-  recovers_from bytes report had (not_text h) l o e d = absurd (not_text_done d)
-  recovers_from bytes report had (refused u h) l o e d = absurd (refused_done d)
-  recovers_from bytes report had (done u m h) l o e d =
-      record { bytes = bytes; meaning = m; read = had; end = l; means = h; written = o.took; reads_back = survives bytes m h; silent = e.nothing refl }
+done_too_long : Done ≡ TooLong → ⊥
+done_too_long e = cc
 
-  recovers_planned : (bytes : List ℕ) (report : Report) → HadLeft source.before bytes → IsPlan words bytes report
-      → LeftAs source report.status → TookWhole out report.out → TookWhole err report.err
-      → report.status ≡ Done → Recovers source out err
-  recovers_planned bytes report had (usage h) l o e d = absurd (usage_done d)
-  recovers_planned bytes report had (too_long i h) l o e d = absurd (too_long_done d)
-  recovers_planned bytes report had (recover i s p) l o e d = recovers_from bytes report had p l o e d
+module _ (words : List (List ℕ)) (source out err : Device) where
+  abbrev pub CompletedBy : Type 0
+  CompletedBy = (c : Command) × Asks words c × Completed c source out err
 
-  recovers_delivered : (status : Status) (report : Report) → IsReported words source report
-      → IsDelivered out err report status → status ≡ Done → Recovers source out err
-  recovers_delivered status report (planned bytes had p l) (whole o e) d = recovers_planned bytes report had p l o e d
-  recovers_delivered status report (read_fault i r) (whole o e) d = absurd (read_fault_done d)
-  recovers_delivered status report h (out_failed f s) d = absurd (write_fault_done d)
-  recovers_delivered status report h (err_failed o f) d = absurd (write_fault_done d)
+  answered_done : (c : Command) → Asks words c → (bytes : List ℕ) (report : Report) → HadLeft source.before bytes
+      → IsAnswer c bytes report → LeftAs words source report.status → TookWhole out report.out → TookWhole err report.err
+      → report.status ≡ Done → CompletedBy
+  answered_done c a bytes report had (refused h) l o e d = absurd (refused_done d)
+  answered_done c a bytes report had (done m w h k) l o e d = (
+    c,
+    a,
+    record {
+      bytes = bytes;
+      meaning = m;
+      warnings = w;
+      read = had;
+      end = l.end c a done_too_long;
+      means = h;
+      warns = k;
+      written = o.took;
+      warned = e.took;
+      silent = λ none. e.nothing (rw none refl);
+    },
+  )
 
-  -- done means that the canonical text of the input's meaning was written
-  pub recovers : (status : Status) → IsRun words source out err status → status ≡ Done → Recovers source out err
-  recovers status (delivered report h k) d = recovers_delivered status report h k d
-  recovers status (wanted_memory o e) d = absurd (memory_done d)
+  planned_done : (c : Command) → Asks words c → (bytes : List ℕ) (report : Report) → HadLeft source.before bytes
+      → IsInputPlan c bytes report → LeftAs words source report.status → TookWhole out report.out
+      → TookWhole err report.err → report.status ≡ Done → CompletedBy
+  planned_done c a bytes report had (too_long h) l o e d = absurd (too_long_done d)
+  planned_done c a bytes report had (not_text s h) l o e d = absurd (not_text_done d)
+  planned_done c a bytes report had (answered s u h) l o e d = answered_done c a bytes report had h l o e d
+
+  reported_done : (bytes : List ℕ) (report : Report) → HadLeft source.before bytes → IsPlan words bytes report
+      → LeftAs words source report.status → TookWhole out report.out → TookWhole err report.err
+      → report.status ≡ Done → CompletedBy
+  reported_done bytes report had (usage h) l o e d = absurd (usage_done d)
+  reported_done bytes report had (asked c a p) l o e d = planned_done c a bytes report had p l o e d
+
+  delivered_done : (status : Status) (report : Report) → IsReported words source report
+      → IsDelivered out err report status → status ≡ Done → CompletedBy
+  delivered_done status report (planned bytes had p l) (whole o e) d = reported_done bytes report had p l o e d
+  delivered_done status report (read_fault c i r) (whole o e) d = absurd (read_fault_done d)
+  delivered_done status report h (out_failed f s) d = absurd (write_fault_done d)
+  delivered_done status report h (err_failed o f) d = absurd (write_fault_done d)
+
+  -- done means that a command was asked for, and that what it writes of the input's meaning was written
+  pub completed : (status : Status) → IsRun words source out err status → status ≡ Done → CompletedBy
+  completed status (delivered report h k) d = delivered_done status report h k d
+  completed status (wanted_memory o e) d = absurd (memory_done d)

@@ -1,14 +1,18 @@
 -- What the program is to do, for its words and its input.
-use Rattle.std.specs.Prelude.{◌≡◌, ◌<◌, ◌≤◌, ℕ, List, [], ◌∷◌, length, codes, IsUtf8}
+use Rattle.std.specs.Prelude.{◌<◌, ◌≤◌, ℕ, List, [], ◌++◌, length, codes, IsUtf8}
+use Rattle.std.specs.List.{flat_map}
 use Rattle.std.specs.Str.{encode_utf8_all}
-use Rattle.plain_syntax.specs.declared.thin_entry.ThinEntry.{ThinEntry}
-use Rattle.plain_syntax.specs.CanonicalText.{canonical_text}
-use Rattle.plain_syntax.specs.ThinMeaning.{TextMeaning, IsValid}
+use Rattle.cedar_io.specs.Input.{max_input}
+use Rattle.cedar_names.specs.Meaning.{SchemaMeaning}
+use Rattle.schema_convert_errors.specs.WarningTexts.{warning_text}
+use Rattle.schema_convert_errors.specs.declared.warnings.SchemaWarning.{SchemaWarning}
+use Rattle.cedar_schema_core.specs.declared.command.Command.{Command}
 use Rattle.cedar_schema_core.specs.declared.status.Status.{Status}
 use Rattle.cedar_schema_core.specs.declared.status.Status.TheVariants.{Done, Refused, Usage, ReadFault, NotText, TooLong}
-use Rattle.cedar_io.specs.Input.{max_input}
+use Rattle.cedar_schema_core.specs.Meanings.{TextMeaning, IsValid, Warns}
+use Rattle.cedar_schema_core.specs.Commands.{Asks, table_of, output_of}
 
--- a status, and what goes to the output and to the error output
+-- a status, and what goes to the output and to the error output, as bytes
 pub record Report : Type 0 where
   pub status : Status
   pub out : List ℕ
@@ -30,24 +34,29 @@ not_text_report = record { status = NotText; out = []; err = codes "error: the i
 abbrev pub refused_report : Report
 refused_report = record { status = Refused; out = []; err = codes "error: refused\n" }
 
--- the canonical text of the meaning goes to the output
-abbrev pub done_report : List ThinEntry → Report
-done_report meaning = record { status = Done; out = encode_utf8_all (canonical_text meaning); err = [] }
+-- a line for a warning, as characters
+abbrev pub warning_line : SchemaWarning → List ℕ
+warning_line w = codes "warning: " ++ (warning_text w ++ codes "\n")
 
--- the words are the command `recover`
-abbrev pub IsRecover : List (List ℕ) → Type 0
-IsRecover words = words ≡ codes "recover" ∷ []
+-- what a command writes of the meaning goes to the output, and a line for each warning to the error output
+abbrev pub done_report : Command → SchemaMeaning → List SchemaWarning → Report
+done_report c m warnings =
+    record { status = Done; out = output_of c m; err = encode_utf8_all (flat_map warning_line warnings) }
 
--- the report on this input, where it is short enough and the words ask for it: one case for each cause
-pub data IsRecoverPlan (bytes : List ℕ) : Report → Type 0 where
-  not_text : (IsUtf8 bytes → ⊥) → IsRecoverPlan bytes not_text_report
-  refused : IsUtf8 bytes → (IsValid bytes → ⊥) → IsRecoverPlan bytes refused_report
-  done : IsUtf8 bytes → (meaning : List ThinEntry) → TextMeaning bytes meaning
-      → IsRecoverPlan bytes (done_report meaning)
+-- what a command answers to a text: one case for each cause
+pub data IsAnswer (c : Command) (text : List ℕ) : Report → Type 0 where
+  refused : (IsValid text (table_of c) → ⊥) → IsAnswer c text refused_report
+  done : (m : SchemaMeaning) (warnings : List SchemaWarning) → TextMeaning text (table_of c) m
+      → Warns text (table_of c) warnings → IsAnswer c text (done_report c m warnings)
 
--- the report for these words and this input, where no read fails: one case for each cause
+-- the report of a command on an input: one case for each cause
+pub data IsInputPlan (c : Command) (bytes : List ℕ) : Report → Type 0 where
+  too_long : max_input < length bytes → IsInputPlan c bytes too_long_report
+  not_text : length bytes ≤ max_input → (IsUtf8 bytes → ⊥) → IsInputPlan c bytes not_text_report
+  answered : length bytes ≤ max_input → IsUtf8 bytes → {report : Report} → IsAnswer c bytes report
+      → IsInputPlan c bytes report
+
+-- the report for these words and this input, where no read fails: the words ask for no command, or for one
 pub data IsPlan (words : List (List ℕ)) (bytes : List ℕ) : Report → Type 0 where
-  usage : (IsRecover words → ⊥) → IsPlan words bytes usage_report
-  too_long : IsRecover words → max_input < length bytes → IsPlan words bytes too_long_report
-  recover : IsRecover words → length bytes ≤ max_input → {report : Report} → IsRecoverPlan bytes report
-      → IsPlan words bytes report
+  usage : ((c : Command) → Asks words c → ⊥) → IsPlan words bytes usage_report
+  asked : (c : Command) → Asks words c → {report : Report} → IsInputPlan c bytes report → IsPlan words bytes report

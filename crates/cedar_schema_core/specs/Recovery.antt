@@ -1,27 +1,52 @@
 -- What is recovered from a text, and why nothing is.
 use Rattle.std.specs.Prelude.{◌≡◌, ℕ, List, length}
 use Rattle.std.specs.Str.{encode_utf8_all}
-use Rattle.plain_syntax.specs.declared.thin_entry.ThinEntry.{ThinEntry}
-use Rattle.plain_syntax.specs.CanonicalText.{canonical_text}
-use Rattle.plain_syntax.specs.declared.thin_decl.ThinDecl.{ThinDecl}
-use Rattle.plain_syntax.specs.ThinGrammar.{ThinReads}
-use Rattle.plain_syntax.specs.ThinMeaning.{NoRepeat, IsFirstRepeat, AreUndefined, TextMeaning}
+use Rattle.cedar_identifiers.specs.declared.raw_name.RawName.{RawName}
+use Rattle.cedar_names.specs.Meaning.{SchemaMeaning}
+use Rattle.cedar_names.specs.CanonicalText.{canonical_text}
+use Rattle.cedar_names.specs.declared.extension_table.ExtensionTable.{ExtensionTable}
+use Rattle.schema_json.specs.declared.fragment.Fragment.{Fragment}
+use Rattle.schema_convert_types.specs.Declarations.{as_written}
+use Rattle.schema_convert_errors.specs.declared.error_list.CedarSchemaParseErrors.{CedarSchemaParseErrors}
+use Rattle.schema_convert_errors.specs.declared.error_list.CedarSchemaParseErrors.TheVariants as parse
+use Rattle.schema_convert.specs.Translated.{IsParseFailureOf}
+use Rattle.schema_build_checks.specs.Rows.{Never}
+use Rattle.schema_build_parts.specs.BuildFaults.{BuildFault}
+use Rattle.schema_build.specs.Meaning.{FragmentMeaning}
+use Rattle.schema_build_text.specs.Captured.{IsFirstCaptured}
+use Rattle.schema_build_errors.specs.declared.captured.ReferenceCaptured.{ReferenceCaptured}
 use Rattle.cedar_schema_core.specs.declared.recover.Recovered.{Recovered}
 use Rattle.cedar_schema_core.specs.declared.recover.RecoverError.{RecoverError}
-use Rattle.cedar_schema_core.specs.declared.recover.RecoverError.TheVariants.{NotBuilt, Duplicate, Undefined, Memory}
+use Rattle.cedar_schema_core.specs.declared.recover.RecoverError.TheVariants.{Parse, Schema, Captured, Memory}
+use Rattle.cedar_schema_core.specs.Meanings.{IsFragmentOf, TextMeaning, Warns}
 
--- the canonical text of the text's meaning, which reads back with that meaning, and how much the meaning holds
-pub record IsRecovered (text : List ℕ) (recovered : Recovered) : Type 0 where
-  pub meaning : List ThinEntry
-  pub means : TextMeaning text meaning
-  pub canonical : recovered.text ≡ canonical_text meaning
-  pub reads_back : TextMeaning (encode_utf8_all (canonical_text meaning)) meaning
-  pub entity_types : recovered.entity_types ≡ length meaning
-  pub actions : recovered.actions ≡ 0
+-- the canonical text of the text's meaning, its warnings, and how much the meaning holds
+pub record IsRecovered (text : List ℕ) (table : ExtensionTable) (recovered : Recovered) : Type 0 where
+  pub meaning : SchemaMeaning
+  pub means : TextMeaning text table meaning
+  pub canonical : encode_utf8_all recovered.text ≡ canonical_text meaning
+  pub warns : Warns text table recovered.warnings.items
+  pub entity_types : recovered.entity_types ≡ length meaning.entities
+  pub actions : recovered.actions ≡ length meaning.actions
 
--- the text has no reading, or its declarations have a fault: the first that holds, in this order
-abbrev pub IsRefusal : List ℕ → RecoverError → Type 0
-IsRefusal text NotBuilt = (decls : List ThinDecl) → ThinReads text decls → ⊥
-IsRefusal text (Duplicate name) = (decls : List ThinDecl) × ThinReads text decls × IsFirstRepeat decls name
-IsRefusal text (Undefined names) = (decls : List ThinDecl) × ThinReads text decls × NoRepeat decls × AreUndefined decls names
-IsRefusal text Memory = Unit {0}
+-- the text has no tree, or its tree is translated to no fragment
+abbrev pub IsParseRefusal : List ℕ → CedarSchemaParseErrors → Type 0
+IsParseRefusal text parse.Memory = ⊥
+IsParseRefusal text e = IsParseFailureOf text e
+
+-- the text's fragment means something in which this is the first captured item
+pub record IsCaptured (text : List ℕ) (table : ExtensionTable) (captured : ReferenceCaptured) : Type 0 where
+  pub fragment : Fragment RawName as_written
+  pub translated : IsFragmentOf text table fragment
+  pub faultless : Never (BuildFault fragment table)
+  pub meaning : SchemaMeaning
+  pub means : FragmentMeaning fragment table meaning
+  pub first : IsFirstCaptured meaning captured
+
+-- why nothing is recovered, the first that holds: a fault of the syntax, a fault of a declaration, a fault of
+-- translation, a fault of the schema, a captured type. Memory may be out at any time
+abbrev pub IsRefusal : List ℕ → ExtensionTable → RecoverError → Type 0
+IsRefusal text table (Parse e) = IsParseRefusal text e
+IsRefusal text table (Schema e) = (f : Fragment RawName as_written) × IsFragmentOf text table f × BuildFault f table e
+IsRefusal text table (Captured c) = IsCaptured text table c
+IsRefusal text table Memory = Unit {0}

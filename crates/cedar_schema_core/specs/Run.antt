@@ -1,14 +1,17 @@
 -- What a run did. A source or a sink is known by what it tells before and after.
-use Rattle.std.specs.Prelude.{◌≡◌, ℕ, List, [], Option}
+use Rattle.std.specs.Prelude.{◌≡◌, ◌≢◌, ℕ, List, [], Option}
+use Rattle.std.specs.List.{flat_map}
 use Rattle.cedar_io.specs.Outside.{Rose, IsEnd, Appends, AppendsPart}
 use Rattle.cedar_schema_core.specs.declared.status.Status.{Status}
-use Rattle.cedar_schema_core.specs.declared.status.Status.TheVariants.{Done, Refused, Usage, ReadFault, WriteFault, NotText, TooLong, Memory}
+use Rattle.cedar_schema_core.specs.declared.status.Status.TheVariants.{WriteFault, TooLong, Memory}
 use Rattle.cedar_io.specs.Input.{HadLeft}
-use Rattle.cedar_schema_core.specs.Plan.{Report, IsRecover, IsPlan, read_fault_report}
 use Rattle.std.specs.Str.{encode_utf8_all}
-use Rattle.plain_syntax.specs.declared.thin_entry.ThinEntry.{ThinEntry}
-use Rattle.plain_syntax.specs.CanonicalText.{canonical_text}
-use Rattle.plain_syntax.specs.ThinMeaning.{TextMeaning}
+use Rattle.cedar_names.specs.Meaning.{SchemaMeaning}
+use Rattle.schema_convert_errors.specs.declared.warnings.SchemaWarning.{SchemaWarning}
+use Rattle.cedar_schema_core.specs.declared.command.Command.{Command}
+use Rattle.cedar_schema_core.specs.Meanings.{TextMeaning, Warns}
+use Rattle.cedar_schema_core.specs.Commands.{Asks, table_of, output_of}
+use Rattle.cedar_schema_core.specs.Plan.{Report, IsPlan, read_fault_report, warning_line}
 
 -- a source or a sink before and after: what it tells, its count of faults, and that it stands as before
 pub record Device : Type 1 where
@@ -22,22 +25,16 @@ pub record Device : Type 1 where
 abbrev pub device : {D : Type 0} → (D → Option (List ℕ)) → (D → ℕ) → D → D → Device
 device told faults old new = record { before = told old; after = told new; faults_before = faults old; faults_after = faults new; Same = new ≡ old }
 
--- how the source stands: as before where nothing was asked of it, and at its end where the whole input was read
-abbrev pub LeftAs : Device → Status → Type 0
-LeftAs source Usage = source.Same
-LeftAs source Done = IsEnd source.after
-LeftAs source Refused = IsEnd source.after
-LeftAs source NotText = IsEnd source.after
-LeftAs source TooLong = Unit {0}
-LeftAs source ReadFault = Unit {0}
-LeftAs source WriteFault = Unit {0}
-LeftAs source Memory = Unit {0}
+-- how the source stands: as before where the words ask for no command, and at its end where a command read it whole
+pub record LeftAs (words : List (List ℕ)) (source : Device) (status : Status) : Type 0 where
+  pub unread : ((c : Command) → Asks words c → ⊥) → source.Same
+  pub end : (c : Command) → Asks words c → status ≢ TooLong → IsEnd source.after
 
 -- the report on the words and the source: the plan for the bytes that were left, or a read fault, which was counted
 pub data IsReported (words : List (List ℕ)) (source : Device) : Report → Type 0 where
   planned : (bytes : List ℕ) → HadLeft source.before bytes → {report : Report} → IsPlan words bytes report
-      → LeftAs source report.status → IsReported words source report
-  read_fault : IsRecover words → Rose source.faults_before source.faults_after
+      → LeftAs words source report.status → IsReported words source report
+  read_fault : (c : Command) → Asks words c → Rose source.faults_before source.faults_after
       → IsReported words source read_fault_report
 
 -- the text was taken whole; where there is none the sink stands as before
@@ -62,16 +59,19 @@ pub data IsRun (words : List (List ℕ)) (source out err : Device) : Status → 
       → IsDelivered out err report status → IsRun words source out err status
   wanted_memory : out.Same → err.Same → IsRun words source out err Memory
 
--- the whole input was read, it is valid, and its canonical text alone was written, which is valid with the same meaning
-pub record Recovers (source out err : Device) : Type 0 where
+-- the whole input was read, it is valid, and what the command writes of its meaning was written and nothing else, with
+-- a line for each warning to the error output
+pub record Completed (c : Command) (source out err : Device) : Type 0 where
   pub bytes : List ℕ
-  pub meaning : List ThinEntry
+  pub meaning : SchemaMeaning
+  pub warnings : List SchemaWarning
   pub read : HadLeft source.before bytes
   pub end : IsEnd source.after
-  pub means : TextMeaning bytes meaning
-  pub written : Appends out.before (encode_utf8_all (canonical_text meaning)) out.after
-  pub reads_back : TextMeaning (encode_utf8_all (canonical_text meaning)) meaning
-  pub silent : err.Same
+  pub means : TextMeaning bytes (table_of c) meaning
+  pub warns : Warns bytes (table_of c) warnings
+  pub written : Appends out.before (output_of c meaning) out.after
+  pub warned : Appends err.before (encode_utf8_all (flat_map warning_line warnings)) err.after
+  pub silent : warnings ≡ [] → err.Same
 
 -- no count of faults rose
 pub record NoneCounted (source out err : Device) : Type 0 where

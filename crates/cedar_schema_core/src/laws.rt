@@ -1,20 +1,43 @@
+//! Laws of what a text means and of what the program is to do. Each law is what its function ensures; the functions do
+//! nothing but cite laws below them.
 ghost use Rattle.std.specs.Prelude.{◌≡◌, ℕ, List};
-ghost use Rattle.std.specs.Str.{encode_utf8_all};
-ghost use Rattle.plain_syntax.specs.CanonicalText.{canonical_text};
-ghost use Rattle.plain_syntax.specs.declared.thin_entry.ThinEntry.{ThinEntry};
-ghost use Rattle.plain_syntax.specs.ThinMeaning.{TextMeaning};
+ghost use Rattle.cedar_identifiers.specs.declared.raw_name.RawName.{RawName as Raw};
+ghost use Rattle.cedar_names.specs.Meaning.{SchemaMeaning};
+ghost use Rattle.cedar_names.specs.declared.extension_table.ExtensionTable.{ExtensionTable};
+ghost use Rattle.schema_json.specs.declared.fragment.Fragment.{Fragment};
+ghost use Rattle.schema_convert_types.specs.Declarations.{as_written};
+ghost use Rattle.schema_convert_errors.specs.declared.error_list.CedarSchemaParseErrors.{CedarSchemaParseErrors};
+ghost use Rattle.schema_convert_errors.specs.declared.warnings.SchemaWarning.{SchemaWarning};
+ghost use Rattle.schema_convert.specs.Translated.{IsTranslationOfText};
+ghost use Rattle.cedar_schema_core.specs.Meanings.{TextMeaning};
+ghost use Rattle.cedar_schema_core.specs.Recovery.{IsParseRefusal};
 ghost use Rattle.cedar_schema_core.specs.Plan.{Report, IsPlan};
 
-use plain_build::one_meaning;
-use plain_print::canonical_text_reads_back;
-use plain_syntax::one_thin_reading;
+use schema_build::one_fragment_meaning;
+use schema_syntax::laws::tree_or_error;
+use schema_syntax_laws::one_tree;
 
-/// A text has at most one meaning.
-pub fn one_text_meaning()
-    ensures { (text : List ℕ) (meaning other : List ThinEntry) → TextMeaning text meaning → TextMeaning text other → meaning ≡ other }
+/// A text is translated to at most one fragment, with one list of warnings.
+pub fn one_translation()
+    ensures { (text : List ℕ) (table : ExtensionTable) (f g : Fragment Raw as_written) (v w : List SchemaWarning) → IsTranslationOfText text table f v → IsTranslationOfText text table g w → (f ≡ g) × (v ≡ w) }
 {
-    one_thin_reading();
-    one_meaning();
+    one_tree();
+}
+
+/// A text that is refused by the parser or by the translation is not translated.
+pub fn refused_or_translated()
+    ensures { (text : List ℕ) (table : ExtensionTable) (e : CedarSchemaParseErrors) (f : Fragment Raw as_written) (w : List SchemaWarning) → IsParseRefusal text e → IsTranslationOfText text table f w → ⊥ }
+{
+    one_tree();
+    tree_or_error();
+}
+
+/// A text has at most one meaning under a table.
+pub fn one_text_meaning()
+    ensures { (text : List ℕ) (table : ExtensionTable) (m n : SchemaMeaning) → TextMeaning text table m → TextMeaning text table n → m ≡ n }
+{
+    one_translation();
+    one_fragment_meaning();
 }
 
 /// For the same words and the same input there is one report at most.
@@ -22,11 +45,5 @@ pub fn one_plan()
     ensures { (words : List (List ℕ)) (bytes : List ℕ) (report other : Report) → IsPlan words bytes report → IsPlan words bytes other → report ≡ other }
 {
     one_text_meaning();
-}
-
-/// The canonical text of a meaning is valid, and has that meaning.
-pub fn meaning_survives()
-    ensures { (text : List ℕ) (meaning : List ThinEntry) → TextMeaning text meaning → TextMeaning (encode_utf8_all (canonical_text meaning)) meaning }
-{
-    canonical_text_reads_back();
+    one_translation();
 }

@@ -1,6 +1,7 @@
 //! What the program does, as calls: a schema text recovered, and a run of the program over any source and any two sinks.
 #![tactic(auto)]
 
+pub mod command;
 pub mod laws;
 pub mod recover;
 pub mod reply;
@@ -9,7 +10,8 @@ pub mod status;
 pub mod std_streams;
 
 pub use cedar_io::{MAX_INPUT, ReadEnd, read_input, write_text};
-pub use laws::{meaning_survives, one_plan, one_text_meaning};
+pub use command::Command;
+pub use laws::{one_plan, one_text_meaning, one_translation};
 pub use recover::{RecoverError, Recovered, recover_schema};
 pub use run::run_tool;
 pub use status::Status;

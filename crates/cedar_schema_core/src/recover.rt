@@ -1,62 +1,119 @@
-ghost use Rattle.std.specs.Prelude.{◌≢◌, IfOk, IfErr};
-ghost use Rattle.plain_syntax.specs.ThinMeaning.{IsValid};
-ghost use Rattle.cedar_schema_core.specs.Recovery.{IsRecovered, IsRefusal};
+ghost use Rattle.std.specs.Prelude.{◌≡◌, ◌≢◌, List, Option, IfOk, IfErr, OnOk};
+ghost use Rattle.std.specs.Str.{encode_utf8_all};
+ghost use Rattle.cedar_names.specs.Meaning.{SchemaMeaning};
+ghost use Rattle.cedar_names.specs.CanonicalText.{canonical_text};
+ghost use Rattle.schema_convert.specs.Translated.{IsTranslationOfText};
+ghost use Rattle.schema_build_checks.specs.Rows.{Never};
+ghost use Rattle.schema_build_parts.specs.BuildFaults.{BuildFault};
+ghost use Rattle.schema_build_text.specs.Captured.{IsUncaptured};
+ghost use Rattle.schema_build.specs.Schemas.{StandsFor, Builds};
+ghost use Rattle.cedar_schema_core.specs.Meanings.{IsValid};
+ghost use Rattle.cedar_schema_core.specs.Recovery.{IsRecovered, IsRefusal, IsParseRefusal};
+ghost use Rattle.cedar_schema_core.specs.Steps.{IsUnparsed, IsUnbuilt, IsUnprinted};
 
-use cedar_data::{NonEmpty, Text};
-use plain_build::{CloseFault, close_thin, faults_exclude_meaning};
-use plain_print::print_thin;
-use plain_syntax::{ThinFault, one_thin_reading, parse_thin};
+use crate::laws::{one_translation, refused_or_translated};
+use cedar_data::Text;
+use cedar_identifiers::RawName;
+use cedar_names::ExtensionTable;
+use schema_build::{
+    ReferenceCaptured, SchemaError, ToTextError, ValidatorSchema, one_fragment_meaning,
+};
+use schema_convert::{CedarSchemaParseErrors, SchemaWarning, parse_cedar_schema_fragment};
+use schema_json::Fragment;
 use std::alloc::Global;
 
 /// What was recovered from a text.
-#[derive(Debug, Drop)]
+#[derive(Drop)]
 pub struct Recovered {
     /// The canonical text.
     pub text: Text,
+    /// What the text may do but should not, in order.
+    pub warnings: Vec<SchemaWarning>,
     /// How many entity types the meaning holds.
     pub entity_types: usize,
     /// How many actions the meaning holds.
     pub actions: usize,
 }
 
-/// Why nothing was recovered.
-#[derive(Debug, Drop)]
+/// Why nothing was recovered, in the order in which the causes count.
+#[derive(Drop)]
 pub enum RecoverError {
-    /// The text is no list of plain entity declarations, or uses a word that they may not use.
-    NotBuilt,
-    /// The first name that is declared twice.
-    Duplicate(Text),
-    /// All parents that are not declared: the declarations by name, the parents of each as they are written.
-    Undefined(NonEmpty<Text>),
+    /// The text is no schema: a fault of its syntax or of a declaration, or all faults of its translation.
+    Parse(CedarSchemaParseErrors),
+    /// Its declarations make no schema: the first fault that holds.
+    Schema(SchemaError),
+    /// Its canonical text would be read otherwise: the first declaration that uses a type which would be captured.
+    Captured(ReferenceCaptured),
     /// Memory was wanted.
     Memory,
 }
 
-/// The canonical text of what the text means.
-pub fn recover_schema(alloc: Global, text: &str) -> Result<Recovered, RecoverError>
-    ensures recovered { IfOk result (λ recovered. IsRecovered text.now recovered) }
-    ensures refused { IfErr result (IsRefusal text.now) }
-    ensures invalid { IfErr result (λ fault. fault ≢ RecoverError.Memory → IsValid text.now → ⊥) }
+// The fragment that the text is translated to, with its warnings.
+fn translate(
+    alloc: Global,
+    text: &str,
+    table: &ExtensionTable,
+) -> Result<(Fragment<RawName>, Vec<SchemaWarning>), RecoverError>
+    ensures parsed { IfOk result (λ out. IsTranslationOfText text.now table.now out.0 out.1.items) }
+    ensures refused { IfErr result (IsUnparsed text.now) }
 {
-    one_thin_reading();
-    faults_exclude_meaning();
-    let decls = match parse_thin(alloc, text) {
-        Ok(decls) => decls,
-        Err(ThinFault::NotBuilt) => return Err(RecoverError::NotBuilt),
-        Err(ThinFault::Memory) => return Err(RecoverError::Memory),
-    };
-    let entries = match close_thin(alloc, &decls) {
-        Ok(entries) => entries,
-        Err(CloseFault::Duplicate(name)) => return Err(RecoverError::Duplicate(name)),
-        Err(CloseFault::Undefined(names)) => return Err(RecoverError::Undefined(names)),
-        Err(CloseFault::Memory) => return Err(RecoverError::Memory),
-    };
-    let Ok(text) = print_thin(alloc, &entries) else {
-        return Err(RecoverError::Memory);
-    };
+    match parse_cedar_schema_fragment(alloc, text, table) {
+        Ok(translation) => Ok(translation),
+        Err(CedarSchemaParseErrors::Memory) => Err(RecoverError::Memory),
+        Err(errors) => Err(RecoverError::Parse(errors)),
+    }
+}
+
+// The schema of the fragment.
+fn build(
+    alloc: Global,
+    fragment: Fragment<RawName>,
+    table: &ExtensionTable,
+) -> Result<ValidatorSchema, RecoverError>
+    ensures built { IfOk result (Builds fragment table.now) }
+    ensures faultless { OnOk result (Never (BuildFault fragment table.now)) }
+    ensures refused { IfErr result (IsUnbuilt fragment table.now) }
+{
+    match ValidatorSchema::from_schema_frag(alloc, fragment, table) {
+        Ok(schema) => Ok(schema),
+        Err(SchemaError::Memory) => Err(RecoverError::Memory),
+        Err(error) => Err(RecoverError::Schema(error)),
+    }
+}
+
+// The canonical text of the schema, which stands for a meaning.
+fn print(alloc: Global, schema: &ValidatorSchema) -> Result<Text, RecoverError>
+    ensures text { IfOk result (λ text. (m : SchemaMeaning) → StandsFor schema.now m → encode_utf8_all text ≡ canonical_text m) }
+    ensures uncaptured { OnOk result ((m : SchemaMeaning) → StandsFor schema.now m → IsUncaptured m) }
+    ensures refused { IfErr result (λ e. (m : SchemaMeaning) → StandsFor schema.now m → IsUnprinted m e) }
+{
+    match schema.to_cedar_schema(alloc) {
+        Ok(text) => Ok(text),
+        Err(ToTextError::Captured(captured)) => Err(RecoverError::Captured(captured)),
+        Err(_) => Err(RecoverError::Memory),
+    }
+}
+
+/// The canonical text of what a schema text means under a table of extension types, with its warnings and counts.
+pub fn recover_schema(
+    alloc: Global,
+    text: &str,
+    table: &ExtensionTable,
+) -> Result<Recovered, RecoverError>
+    ensures recovered { IfOk result (IsRecovered text.now table.now) }
+    ensures refused { IfErr result (IsRefusal text.now table.now) }
+    ensures invalid { IfErr result (λ fault. fault ≢ RecoverError.Memory → IsValid text.now table.now → ⊥) }
+{
+    one_translation();
+    refused_or_translated();
+    one_fragment_meaning();
+    let (fragment, warnings) = translate(alloc, text, table)?;
+    let schema = build(alloc, fragment, table)?;
+    let text = print(alloc, &schema)?;
     Ok(Recovered {
         text,
-        entity_types: entries.len(),
-        actions: 0,
+        warnings,
+        entity_types: schema.entity_types.len(),
+        actions: schema.actions.len(),
     })
 }

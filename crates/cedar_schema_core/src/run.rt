@@ -1,21 +1,23 @@
-ghost use Rattle.std.specs.Prelude.{◌≡◌, ◌≢◌, ◌+◌, ◌≤◌, ◌⊎◌, ◌↔◌, ℕ, List, Some, IfOk, IsTrue, length, map};
+ghost use Rattle.std.specs.Prelude.{◌≡◌, ◌≢◌, ◌++◌, ◌+◌, ◌≤◌, ◌⊎◌, ℕ, List, [], Some, IfOk, OnOk, length, map, codes, decimal};
 ghost use Rattle.std.specs.String.{string_bytes};
-ghost use Rattle.std.specs.Str.{encode_utf8_all};
-ghost use Rattle.cedar_io.specs.Outside.{Rose, Appends};
-ghost use Rattle.plain_syntax.specs.CanonicalText.{canonical_text};
-ghost use Rattle.plain_syntax.specs.declared.thin_entry.ThinEntry.{ThinEntry};
-ghost use Rattle.plain_syntax.specs.ThinMeaning.{TextMeaning};
-ghost use Rattle.cedar_schema_core.specs.Plan.{Report, IsRecover, IsPlan, IsRecoverPlan, refused_report, read_fault_report};
+ghost use Rattle.std.specs.Str.{encode_utf8_all, IsAscii};
+ghost use Rattle.cedar_io.specs.Outside.{Rose};
 ghost use Rattle.cedar_io.specs.Input.{TookAtMost, max_input};
-ghost use Rattle.cedar_schema_core.specs.Run.{device, IsReported, IsDelivered, IsRun, Recovers, NoneCounted};
+ghost use Rattle.cedar_names.specs.CanonicalText.{canonical_text};
+ghost use Rattle.cedar_schema_core.specs.Commands.{Asks, table_of};
+ghost use Rattle.cedar_schema_core.specs.Recovery.{IsRecovered};
+ghost use Rattle.cedar_schema_core.specs.Plan.{Report, IsPlan, IsInputPlan, IsAnswer, refused_report, read_fault_report};
+ghost use Rattle.cedar_schema_core.specs.Run.{device, IsReported, IsDelivered, IsRun, Completed, NoneCounted};
 ghost use Rattle.cedar_schema_core.specs.Replies.{report_of};
 
-use crate::laws::{meaning_survives, one_plan};
-use crate::recover::{RecoverError, recover_schema};
-use crate::reply::Reply;
+use crate::command::Command;
+use crate::laws::one_plan;
+use crate::recover::{RecoverError, Recovered, recover_schema};
+use crate::reply::{Reply, warning_lines};
 use crate::status::Status;
-use cedar_data::Text;
+use cedar_data::{Text, around};
 use cedar_io::{ReadEnd, Sink, Source, read_input, write_text};
+use itoa::Buffer;
 use std::alloc::{AllocError, Global};
 
 const USAGE: &str = "usage: cedar_schema_tool COMMAND [NAME..]\n";
@@ -28,56 +30,87 @@ const NOT_TEXT: &str = "error: the input is not UTF-8\n";
 
 const REFUSED: &str = "error: refused\n";
 
-// Whether the words are the command `recover`.
-fn is_recover(words: &[String]) -> bool
-    ensures { IsTrue result ↔ IsRecover (map string_bytes words.now) }
+// The decimal digits of a number.
+fn number_text(alloc: Global, number: usize) -> Result<Text, AllocError>
+    ensures text { IfOk result (λ text. text ≡ decimal number) }
+    ensures ascii { OnOk result (IsAscii (decimal number)) }
 {
-    match words {
-        [word] => word.as_str() == "recover",
-        _ => false,
-    }
+    let mut buffer = Buffer::new();
+    Text::from_str(alloc, buffer.format(number))
 }
 
-// The reply where nothing was recovered.
+// How many entity types and actions there are.
+fn count_line(alloc: Global, entity_types: usize, actions: usize) -> Result<Text, AllocError>
+    ensures { IfOk result (λ text. encode_utf8_all text ≡ decimal entity_types ++ (codes " entity types, " ++ (decimal actions ++ codes " actions\n"))) }
+{
+    let types = number_text(alloc, entity_types)?;
+    let actions = number_text(alloc, actions)?;
+    let counted = around(alloc, " entity types, ", &actions, " actions\n")?;
+    let mut text = types;
+    text.push_text(&counted)?;
+    Ok(text)
+}
+
+// The reply for a text that the command takes.
+fn done_reply(alloc: Global, command: &Command, recovered: Recovered) -> Result<Reply, AllocError>
+    ensures { (text : List ℕ) → IsRecovered text (table_of command.now) recovered → IfOk result (λ reply. IsAnswer command.now text (report_of reply)) }
+{
+    let err = warning_lines(alloc, &recovered.warnings)?;
+    let out = match command {
+        Command::Recover(_) => recovered.text,
+        Command::Check(_) => count_line(alloc, recovered.entity_types, recovered.actions)?,
+    };
+    Ok(Reply {
+        status: Status::Done,
+        out,
+        err,
+    })
+}
+
+// The reply where nothing is recovered.
 fn refused_reply(alloc: Global, fault: &RecoverError) -> Result<Reply, AllocError>
     ensures { IfOk result (λ reply. (fault.now ≢ RecoverError.Memory) × (report_of reply ≡ refused_report)) }
 {
     match fault {
         RecoverError::Memory => Err(AllocError),
-        RecoverError::NotBuilt => Reply::line(alloc, Status::Refused, REFUSED),
-        RecoverError::Duplicate(_) => Reply::line(alloc, Status::Refused, REFUSED),
-        RecoverError::Undefined(_) => Reply::line(alloc, Status::Refused, REFUSED),
+        RecoverError::Parse(_) | RecoverError::Schema(_) | RecoverError::Captured(_) => {
+            Reply::line(alloc, Status::Refused, REFUSED)
+        }
     }
 }
 
-// The reply for the whole input.
-fn recover_reply(alloc: Global, bytes: &[u8]) -> Result<Reply, AllocError>
-    ensures { IfOk result (λ reply. IsRecoverPlan bytes.now (report_of reply)) }
+// The reply for a text.
+fn text_reply(alloc: Global, command: &Command, text: &str) -> Result<Reply, AllocError>
+    ensures { IfOk result (λ reply. IsAnswer command.now text.now (report_of reply)) }
 {
-    let Ok(text) = str::from_utf8(bytes) else {
-        return Reply::line(alloc, Status::NotText, NOT_TEXT);
-    };
-    match recover_schema(alloc, text) {
-        Ok(recovered) => Ok(Reply {
-            status: Status::Done,
-            out: recovered.text,
-            err: Text::new(alloc),
-        }),
+    match recover_schema(alloc, text, command.table()) {
+        Ok(recovered) => done_reply(alloc, command, recovered),
         Err(fault) => refused_reply(alloc, &fault),
     }
 }
 
-// Reads the input where the words ask for it, and takes all memory that the run needs.
+// The reply for a whole input.
+fn input_reply(alloc: Global, command: &Command, bytes: &[u8]) -> Result<Reply, AllocError>
+    requires { length bytes.now ≤ max_input }
+    ensures { IfOk result (λ reply. IsInputPlan command.now bytes.now (report_of reply)) }
+{
+    match str::from_utf8(bytes) {
+        Ok(text) => text_reply(alloc, command, text),
+        Err(_) => Reply::line(alloc, Status::NotText, NOT_TEXT),
+    }
+}
+
+// Reads the input where the words ask for a command, and takes all memory that the run needs.
 fn prepare<S: Source>(alloc: Global, words: &[String], source: &mut S) -> Result<Reply, AllocError>
     ensures reported { IfOk result (λ reply. IsReported (map string_bytes words.now) (device S.left S.faults source.old source.new) (report_of reply)) }
     ensures taken { TookAtMost (max_input + 1) (S.left source.old) (S.left source.new) }
     ensures later { S.faults source.old ≤ S.faults source.new }
 {
-    if !is_recover(words) {
+    let Some(command) = Command::of_words(alloc, words)? else {
         return Reply::line(alloc, Status::Usage, USAGE);
-    }
+    };
     match read_input(alloc, source) {
-        Ok(bytes) => recover_reply(alloc, &bytes),
+        Ok(bytes) => input_reply(alloc, &command, &bytes),
         Err(ReadEnd::Failed) => Reply::line(alloc, Status::ReadFault, READ_FAULT),
         Err(ReadEnd::TooLong) => Reply::line(alloc, Status::TooLong, TOO_LONG),
         Err(ReadEnd::Memory) => Err(AllocError),
@@ -113,8 +146,8 @@ pub fn run_tool<S: Source, O: Sink, E: Sink>(
     // How the run ended, by its cause.
     ensures run { IsRun (map string_bytes words.now) (device S.left S.faults source.old source.new) (device O.taken O.faults out.old out.new) (device E.taken E.faults err.old err.new) result }
 
-    // Done: the input is valid, its canonical text was written and nothing else, and that is valid with the same meaning.
-    ensures recovers { result ≡ Status.Done → Recovers (device S.left S.faults source.old source.new) (device O.taken O.faults out.old out.new) (device E.taken E.faults err.old err.new) }
+    // Done: the words ask for a command, the input is valid, what the command writes of its meaning was written, and nothing else.
+    ensures completed { result ≡ Status.Done → (c : Command) × Asks (map string_bytes words.now) c × Completed c (device S.left S.faults source.old source.new) (device O.taken O.faults out.old out.new) (device E.taken E.faults err.old err.new) }
 
     // With no fault counted, the status is the one planned for the words and the input, or memory was wanted.
     ensures completes { (bytes : List ℕ) (plan : Report) → S.left source.old ≡ Some bytes → IsPlan (map string_bytes words.now) bytes plan → NoneCounted (device S.left S.faults source.old source.new) (device O.taken O.faults out.old out.new) (device E.taken E.faults err.old err.new) → (result ≡ plan.status) ⊎ (result ≡ Status.Memory) }
@@ -130,7 +163,6 @@ pub fn run_tool<S: Source, O: Sink, E: Sink>(
     ensures err_later { E.faults err.old ≤ E.faults err.new }
 {
     one_plan();
-    meaning_survives();
     match prepare(alloc, words, source) {
         Ok(reply) => deliver(&reply, out, err),
         Err(_) => Status::Memory,

@@ -1,7 +1,8 @@
-use Rattle.std.proofs.Common.{subst}
-use Rattle.plain_syntax.specs.ThinMeaning.{IsMeaning}
+use Rattle.std.proofs.Common.{sym, subst}
+use Rattle.schema_build.specs.Meaning.{FragmentMeaning}
 use Rattle.cedar_schema_core.proofs.laws.one_text_meaning.Goals as goal
 
 pub returns : goal.returns
-returns c = λ text meaning other h k.
-    c.one_meaning.ensures k.decls meaning other (subst (λ decls. IsMeaning decls meaning) (c.one_thin_reading.ensures text h.decls k.decls h.reads k.reads) h.meaning) k.meaning
+returns c = λ text table m n h k.
+    let same = (c.one_translation.ensures text table h.fragment k.fragment h.translated.0 k.translated.0 h.translated.1 k.translated.1).0 in
+    c.one_fragment_meaning.ensures h.fragment table m n h.means (subst (λ f. FragmentMeaning f table n) (sym same) k.means)

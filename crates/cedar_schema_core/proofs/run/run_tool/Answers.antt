@@ -1,14 +1,14 @@
 use Rattle.std.proofs.Common.{refl, arith}
 use Rattle.cedar_schema_core.specs.Replies.{report_of}
 use Rattle.cedar_schema_core.specs.Run.{delivered, wanted_memory}
-use Rattle.cedar_schema_core.proofs.Ran.{completes, recovers, within_out, within_err}
+use Rattle.cedar_schema_core.proofs.Ran.{completes, completed, within_out, within_err}
 use Rattle.cedar_schema_core.proofs.run.run_tool.Goals as goal
 
 pub returns-in-Ok-clause-run : goal.returns-in-Ok-clause-run
 returns-in-Ok-clause-run g c = delivered (report_of c.in-Ok.reply) c.in-Ok.ensures.reported c.deliver.ensures.delivered
 
-pub returns-in-Ok-clause-recovers : goal.returns-in-Ok-clause-recovers
-returns-in-Ok-clause-recovers g c = λ d. recovers c.meaning_survives.ensures _ _ _ _ c.deliver.result (delivered (report_of c.in-Ok.reply) c.in-Ok.ensures.reported c.deliver.ensures.delivered) d
+pub returns-in-Ok-clause-completed : goal.returns-in-Ok-clause-completed
+returns-in-Ok-clause-completed g c = λ d. completed _ _ _ _ c.deliver.result (delivered (report_of c.in-Ok.reply) c.in-Ok.ensures.reported c.deliver.ensures.delivered) d
 
 pub returns-in-Ok-clause-completes : goal.returns-in-Ok-clause-completes
 returns-in-Ok-clause-completes g c = λ bytes plan left is none.

@@ -1,0 +1,37 @@
+-- What the words after the program's name ask for.
+use Rattle.std.proofs.Common.{◌≡◌, ℕ, ◌==◌, Bool, true, List, [], ◌∷◌, length, Option, Some, None, MatchOption, sym, ap, ◌∙◌, subst, String, Global, arith}
+use Rattle.std.specs.Prelude.{map, codes}
+use Rattle.std.specs.String.{string_bytes}
+use Rattle.std.proofs.lemmas.Bool.Decides.{nat_tests}
+use Rattle.std.specs.List.{IsFirstAndRest}
+use Rattle.cedar_names.specs.declared.extension_table.ExtensionTable.{ExtensionTable}
+use Rattle.cedar_schema_core.specs.declared.command.Command.{Command}
+use Rattle.cedar_schema_core.specs.declared.command.Command.TheVariants.{Recover}
+use Rattle.cedar_schema_core.specs.Commands.{IsTableInOrder, Asks, recover, recover_with, check}
+
+-- the texts of the words are that of the first and those of the others
+pub split_words : (words names : List (String Global)) (word : String Global) (first : List ℕ) → IsFirstAndRest words word names
+    → first ≡ string_bytes word → map string_bytes words ≡ first ∷ map string_bytes names
+split_words words names word first h is = ap (map string_bytes) h.0 ∙ ap (λ text. text ∷ map string_bytes names) (sym is)
+
+-- where no word stands behind the first
+pub alone : (words names : List (String Global)) (word : String Global) (first : List ℕ) (none : Bool)
+    → IsFirstAndRest words word names → first ≡ string_bytes word → none ≡ (length names == 0) → none ≡ true
+    → map string_bytes words ≡ first ∷ []
+alone words [] word first none h is tests t = split_words words [] word first h is
+alone words (n ∷ ns) word first none h is tests t = absurd (grind (arith, nat_tests))
+
+none_asked : (words names : List (List ℕ)) → words ≡ codes "recover-with" ∷ names
+    → ((table : ExtensionTable) → IsTableInOrder names table → ⊥) → (c : Command) → Asks words c → ⊥
+none_asked words names is none c (recover table e s) = cc
+none_asked words names is none c (recover_with others table e o) =
+    let same : others ≡ names = cc in
+    none table (subst (λ ns. IsTableInOrder ns table) same o)
+none_asked words names is none c (check table e s) = cc
+
+-- the names behind `recover-with` make a table, or there is no command
+pub named_command : (words names : List (List ℕ)) (found : Option Command) → words ≡ codes "recover-with" ∷ names
+    → MatchOption found ((table : ExtensionTable) → IsTableInOrder names table → ⊥) (λ c. (table : ExtensionTable) × (c ≡ Recover table) × IsTableInOrder names table)
+    → MatchOption found ((c : Command) → Asks words c → ⊥) (Asks words)
+named_command words names None is h = λ c asked. none_asked words names is h c asked
+named_command words names (Some c) is h = subst (Asks words) (sym h.1) (recover_with names h.0 is h.2)

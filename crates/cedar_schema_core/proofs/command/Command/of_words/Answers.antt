@@ -1,0 +1,23 @@
+use Rattle.std.proofs.Common.{[], ◌∷◌, ap, ◌∙◌}
+use Rattle.std.specs.Prelude.{map}
+use Rattle.std.proofs.lemmas.Result.{IfOk-weaker}
+use Rattle.std.specs.String.{string_bytes}
+use Rattle.cedar_schema_core.specs.Commands.{recover, check}
+use Rattle.cedar_schema_core.proofs.Words.{split_words, alone, named_command}
+use Rattle.cedar_schema_core.proofs.command.Command.of_words.Goals as goal
+
+pub returns-then-is_empty : goal.returns-then-is_empty
+returns-then-is_empty c =
+    let words = alone c.args.words.now c.in-Some.names.now c.in-Some.first.now c.as_str.result.now c.is_empty.result c.in-Some.ensures.cases c.as_str.ensures.value c.is_empty.ensures c.if-is_empty.true in
+    recover c.in_ok-all_available-in-recover.field-0 (words ∙ ap (λ w. w ∷ []) c.in-recover.is) c.in_ok-all_available-in-recover.ensures
+
+pub returns-then-is_empty-2 : goal.returns-then-is_empty-2
+returns-then-is_empty-2 c =
+    let words = alone c.args.words.now c.in-Some.names.now c.in-Some.first.now c.as_str.result.now c.is_empty-in-check.result c.in-Some.ensures.cases c.as_str.ensures.value c.is_empty-in-check.ensures c.if-is_empty-2.true in
+    check c.in_ok-all_available-in-check.field-0 (words ∙ ap (λ w. w ∷ []) c.in-check.is) c.in_ok-all_available-in-check.ensures
+
+pub returns-in-text : goal.returns-in-text
+returns-in-text c =
+    IfOk-weaker c.recover_with.result _ _ (λ found h.
+    named_command (map string_bytes c.args.words.now) (map string_bytes c.in-Some.names.now) found
+    (split_words c.args.words.now c.in-Some.names.now c.in-Some.first.now c.as_str.result.now c.in-Some.ensures.cases c.as_str.ensures.value ∙ ap (λ w. w ∷ map string_bytes c.in-Some.names.now) c.in-text.is) h) c.recover_with.ensures

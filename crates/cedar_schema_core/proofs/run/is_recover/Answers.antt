@@ -1,6 +1,0 @@
-use Rattle.std.specs.Prelude.{codes}
-use Rattle.cedar_schema_core.proofs.Planned.{one_word}
-use Rattle.cedar_schema_core.proofs.run.is_recover.Goals as goal
-
-pub returns-in-len1 : goal.returns-in-len1
-returns-in-len1 c = one_word c.args.words.now c.word-item.result c.as_str.result.now (codes "recover") c.eq.result c.in-len1.len_at_least c.in-len1.len_below c.word-item.is c.as_str.ensures.value c.eq.ensures

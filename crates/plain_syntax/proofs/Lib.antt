@@ -1,7 +1,0 @@
-mod Tokens
-mod Scans
-mod Names
-mod Words
-mod Sound
-mod Complete
-mod Decls
