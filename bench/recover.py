@@ -13,6 +13,8 @@ import subprocess
 import sys
 import time
 
+import parse
+
 TOP = os.path.dirname(os.path.dirname(os.path.abspath(__file__)))
 PROGRAM = os.path.join(TOP, "crates/cedar_schema_tool/out/cedar_schema_tool")
 WORK = os.path.join(TOP, "bench/work")
@@ -32,6 +34,12 @@ def under_roots(count, roots=100):
         lines.append(f"entity Type{i:06} in [Root{a:03}, Root{b:03}];\n")
     chance.shuffle(lines)
     return "".join(lines)
+
+
+def whole(count):
+    """The declarations of `bench/parse.py`, with all that they name."""
+    part = parse.ONE.replace('Action::"any"', 'Action::"any{k}"')
+    return "namespace Org { entity Team; }\n" + "".join(part.format(k=k) for k in range(count))
 
 
 def timed(words, path, env=None):
@@ -72,3 +80,5 @@ for count in (50_000, 100_000, 200_000):
         print(f"{'':32} growth {seconds / before:.2f} for a doubled input")
     before = seconds
 measure("30000 under 2 of 100 roots", under_roots(30_000))
+for count in (1_000, 2_000):
+    measure(f"{count} namespaces, whole language", whole(count))
