@@ -7,3 +7,5 @@ mod recovery;
 mod runs;
 #[cfg(test)]
 mod streams;
+#[cfg(test)]
+mod table;

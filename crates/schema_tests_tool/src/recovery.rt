@@ -1,38 +1,58 @@
-// Which texts are recovered, and why others are not.
+// What a text is recovered as, and why others are not. What errors say was told by the second program that the table is from.
 
-use cedar_data::{NonEmpty, Text};
-use cedar_schema_core::{RecoverError, recover_schema};
-use std::alloc::Global;
+use cedar_data::Text;
+use cedar_names::ExtensionTable;
+use cedar_schema_core::{RecoverError, Recovered, recover_schema};
+use std::alloc::{AllocError, Global};
 
-// Are these the texts of the list, with a blank between two?
-fn are(list: &NonEmpty<Text>, wanted: &str) -> bool {
-    let mut left = wanted.split(' ');
-    for text in list.iter() {
-        if left.next() != Some(text.as_str()) {
-            return false;
-        }
-    }
-    left.next().is_none()
-}
-
-// Is this why nothing is recovered?
-fn is_refused(alloc: Global, text: &str, cause: &str, names: &str) -> bool {
-    match recover_schema(alloc, text) {
-        Err(RecoverError::NotBuilt) => cause == "not built",
-        Err(RecoverError::Duplicate(name)) => cause == "twice" && name.as_str() == names,
-        Err(RecoverError::Undefined(undefined)) => cause == "undefined" && are(&undefined, names),
-        _ => false,
+// Is this the text?
+fn says(text: Result<Text, AllocError>, wanted: &str) -> bool {
+    match text {
+        Ok(text) => text.as_str() == wanted,
+        Err(_) => false,
     }
 }
 
-// Is this many entity types recovered, as this text?
-fn is_recovered(alloc: Global, text: &str, count: usize, wanted: &str) -> bool {
-    match recover_schema(alloc, text) {
-        Ok(recovered) => {
-            recovered.entity_types == count
-                && recovered.actions == 0
-                && recovered.text.as_str() == wanted
+// Is this the cause, and is this what the error says?
+fn is_about(alloc: Global, error: &RecoverError, cause: &str, wanted: &str) -> bool {
+    match error {
+        RecoverError::Parse(_) => cause == "parse",
+        RecoverError::Schema(error) => cause == "schema" && says(error.text(alloc), wanted),
+        RecoverError::Captured(captured) => {
+            cause == "captured" && says(captured.text(alloc), wanted)
         }
+        RecoverError::Memory => false,
+    }
+}
+
+// Is the text refused by this cause, with these words?
+fn is_refused(alloc: Global, text: &str, cause: &str, wanted: &str) -> bool {
+    let Ok(table) = ExtensionTable::all_available(alloc) else {
+        return false;
+    };
+    match recover_schema(alloc, text, &table) {
+        Ok(_) => false,
+        Err(error) => is_about(alloc, &error, cause, wanted),
+    }
+}
+
+// Are there so many entity types, actions and warnings, and this text?
+fn is(recovered: &Recovered, counts: [usize; 3], wanted: &str) -> bool {
+    [
+        recovered.entity_types,
+        recovered.actions,
+        recovered.warnings.len(),
+    ] == counts
+        && recovered.text.as_str() == wanted
+}
+
+// Is the text recovered as this one, with so many entity types, actions and warnings?
+fn is_recovered(alloc: Global, text: &str, counts: [usize; 3], wanted: &str) -> bool {
+    let Ok(table) = ExtensionTable::all_available(alloc) else {
+        return false;
+    };
+    match recover_schema(alloc, text, &table) {
+        Ok(recovered) => is(&recovered, counts, wanted),
         Err(_) => false,
     }
 }
@@ -40,22 +60,21 @@ fn is_recovered(alloc: Global, text: &str, count: usize, wanted: &str) -> bool {
 #[test]
 fn texts_are_recovered(rt: HostRuntime) {
     let alloc = rt.alloc();
-    assert!(rt; is_recovered(alloc, "entity B; entity A;", 2, "entity A;\n\nentity B;\n"));
-    assert!(rt; is_refused(alloc, "action a;", "not built", ""));
-    assert!(rt;
-        is_refused(
-            alloc,
-            "entity B; entity A; entity A; entity B;",
-            "twice",
-            "A"
-        )
-    );
-    assert!(rt;
-        is_refused(
-            alloc,
-            "entity B in [Y, B, Z]; entity A in X;",
-            "undefined",
-            "X Y Z"
-        )
-    );
+    let text = "entity B; entity Long; action a;";
+    let wanted = "entity B;\n\nentity Long;\n\naction \"a\";\n";
+    assert!(rt; is_recovered(alloc, text, [2, 1, 1], wanted));
+}
+
+#[test]
+fn causes_are_told(rt: HostRuntime) {
+    let alloc = rt.alloc();
+    assert!(rt; is_refused(alloc, "action a", "parse", ""));
+    assert!(rt; is_refused(alloc, "entity A; entity A in X;", "parse", ""));
+    let undefined = "failed to resolve types: X, Y, Z";
+    let text = "entity B in [Y, B, Z]; entity A in X;";
+    assert!(rt; is_refused(alloc, text, "schema", undefined));
+    let captured =
+        "the type `Action` of the empty namespace is used in namespace `N` by entity type `E`, where it would be read as `N::Action`";
+    let text = "action z; type T = Action; namespace N { action a; entity E { x: T }; }";
+    assert!(rt; is_refused(alloc, text, "captured", captured));
 }

@@ -1,5 +1,6 @@
 // Runs over devices in memory.
 
+use crate::table::{recovered_lines, run_lines};
 use cedar_io::{MemorySink, MemorySource, Source, SteadySource};
 use cedar_schema_core::run_tool;
 use schema_tests_lines::{answer_and_text, with_line_ends};
@@ -52,20 +53,6 @@ fn ends_on(alloc: Global, words: &str, bytes: &[u8], code: u8, written: [&str; 2
     }
 }
 
-// Texts, and what a second program, written from the definitions in Python, prints when it recovers them. A line is what is
-// printed, then behind `|` the text. ␤ stands for a line feed. Nothing is printed where the text is refused.
-const RECOVERED: &str = "\
-|
-entity A in [A];␤|entity A in A;
-entity A in [A, B, C];␤␤entity B in [A, B, C];␤␤entity C;␤|entity B in [A, C]; entity A in B; entity C;
-entity A in [A];␤|entity A in [A];␤
-entity a in [b];␤␤entity b;␤|entity\u{3000}b;\u{a0}entity a in [b,];
--|action a;
--|entity A; entity A;
--|entity A in X;
--|entity A
-";
-
 // Does a run end as the line says of its text?
 fn agrees(alloc: Global, line: &str) -> bool {
     let Ok(line) = with_line_ends(alloc, line) else {
@@ -87,12 +74,32 @@ fn agrees(alloc: Global, line: &str) -> bool {
 
 #[test]
 fn texts_are_recovered(rt: HostRuntime) {
-    for line in RECOVERED.lines() {
+    for line in recovered_lines().lines() {
         assert!(rt; agrees(rt.alloc(), line), "{line}");
     }
 }
 
-const USAGE: &str = "usage: cedar_schema_tool COMMAND [NAME..]\n";
+// Does the run of the line end as it says?
+fn run_agrees(alloc: Global, line: &str) -> bool {
+    let Ok(line) = with_line_ends(alloc, line) else {
+        return false;
+    };
+    let (words, line) = answer_and_text(line.as_str());
+    let (code, line) = answer_and_text(line);
+    let (out, line) = answer_and_text(line);
+    let (err, text) = answer_and_text(line);
+    match code.parse::<u8>() {
+        Ok(code) => ends_on(alloc, words, text.as_bytes(), code, [out, err]),
+        Err(_) => false,
+    }
+}
+
+#[test]
+fn commands_are_answered(rt: HostRuntime) {
+    for line in run_lines().lines() {
+        assert!(rt; run_agrees(rt.alloc(), line), "{line}");
+    }
+}
 
 const TOO_LONG: &str = "error: the input is longer than 16777216 bytes\n";
 
@@ -105,14 +112,8 @@ fn blanks_end(alloc: Global, count: usize, code: u8, err: &str) -> bool {
 }
 
 #[test]
-fn other_runs_are_told(rt: HostRuntime) {
+fn inputs_that_are_no_text_are_told(rt: HostRuntime) {
     let alloc = rt.alloc();
-    for words in ["", "recover x", "check", "Recover"] {
-        assert!(rt;
-            ends_on(alloc, words, b"entity A;", 2, ["", USAGE]),
-            "{words}"
-        );
-    }
     assert!(rt;
         ends_on(
             alloc,
@@ -174,4 +175,15 @@ fn failures_of_devices_are_told(rt: HostRuntime) {
     assert!(rt; ends_badly(alloc, "entity A;", 3, [3, AMPLE], 4, ["ent", ""]));
     assert!(rt; ends_badly(alloc, "entity A;", 3, [10, 0], 0, ["entity A;\n", ""]));
     assert!(rt; ends_badly(alloc, "entity A", 3, [AMPLE, 3], 4, ["", "err"]));
+    assert!(rt;
+        ends_badly(
+            alloc,
+            "entity Long;",
+            3,
+            [AMPLE, 8],
+            4,
+            ["entity Long;\n", "warning:"]
+        )
+    );
+    assert!(rt; ends_badly(alloc, "entity Long;", 3, [5, AMPLE], 4, ["entit", ""]));
 }
