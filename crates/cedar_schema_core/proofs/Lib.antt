@@ -8,3 +8,4 @@ mod Refusals
 mod Refused
 mod Lines
 mod Ran
+mod Unbuilt

@@ -113,7 +113,7 @@ pub fn recover_schema(
     Ok(Recovered {
         text,
         warnings,
-        entity_types: schema.entity_types.len(),
-        actions: schema.actions.len(),
+        entity_types: schema.entity_types().len(),
+        actions: schema.actions().len(),
     })
 }

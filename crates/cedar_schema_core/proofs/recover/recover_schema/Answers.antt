@@ -1,4 +1,4 @@
-use Rattle.std.proofs.Common.{arith}
+use Rattle.std.proofs.Common.{length, ap, ◌∙◌}
 use Rattle.std.proofs.lemmas.Result.{err_from_is_err_and}
 use Rattle.cedar_schema_core.proofs.Counted.{entities_counted, actions_counted}
 use Rattle.cedar_schema_core.proofs.Refusals.{unparsed_invalid, unbuilt_invalid, unprinted_invalid}
@@ -41,6 +41,6 @@ returns-clause-recovered c =
       };
       canonical = c.in_ok-text.ensures.text built.0 built.2;
       warns = (f, c.in_ok-fragment.ensures.parsed);
-      entity_types = omega (arith, c.len.ensures, schema.entity_types.ok.0, entities_counted schema.entity_types.items schema.actions.items built.0 built.2);
-      actions = omega (arith, c.len-2.ensures, schema.actions.ok.0, actions_counted schema.entity_types.items schema.actions.items built.0 built.2);
+      entity_types = ap length c.entity_types.ensures ∙ entities_counted schema.entity_types schema.actions built.0 built.2;
+      actions = ap length c.actions.ensures ∙ actions_counted schema.entity_types schema.actions built.0 built.2;
     }
