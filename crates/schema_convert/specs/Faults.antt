@@ -65,19 +65,15 @@ keyword id = if is_keyword_name id.node.text then Some (ReservedSchemaKeyword (r
 abbrev pub common_fault : Node Id → Option ToJsonSchemaError
 common_fault id = option_or (reserved_id id) (keyword id)
 
--- the name of a declaration's first action
-abbrev pub first_name : List (Node (List ℕ)) → Node (List ℕ)
-first_name [] = record { node = []; loc = None }
-first_name (name ∷ names) = name
-
--- the first fault of an action declaration's block, where it has one
-abbrev pub applies_fault : Node (List ℕ) → Option (Node (List (Node AppDecl))) → Option ToJsonSchemaError
-applies_fault name None = None
-applies_fault name (Some block) = block_fault name block.node
+-- the first fault of the block of a declaration of these actions, where it has one; it names the first of them
+abbrev pub applies_fault : Option (Node (List (Node AppDecl))) → List (Node (List ℕ)) → Option ToJsonSchemaError
+applies_fault None names = None
+applies_fault (Some block) [] = None
+applies_fault (Some block) (name ∷ names) = block_fault name block.node
 
 abbrev pub action_fault : Declaration → Option ToJsonSchemaError
 action_fault (Entity d) = None
-action_fault (Action (Defined d)) = applies_fault (first_name d.names) d.app_decls
+action_fault (Action (Defined d)) = applies_fault d.app_decls d.names
 action_fault (Action (External d)) = None
 action_fault (Common d) = None
 

@@ -59,8 +59,10 @@ first_values openings = record { 0 = map_of annotation_key_cmp (reverse (flat_ma
 -- The one namespace that these openings are, of which this is the first: its name and place, all declarations in order, and
 -- each annotation key with its first value.
 abbrev pub opened_as : Annotated Namespace → List (Annotated Namespace) → Annotated Namespace
-opened_as first openings =
-    record { item = record { name = first.item.name; decls = flat_map (λ n. n.item.decls) openings; loc = first.item.loc }; annotations = first_values openings }
+opened_as first openings = record {
+  item = record { name = first.item.name; decls = flat_map (λ n. n.item.decls) openings; loc = first.item.loc };
+  annotations = first_values openings;
+}
 
 -- one namespace for each name, in the order of the first openings
 abbrev pub joined_by_name : List (Annotated Namespace) → List (Annotated Namespace)

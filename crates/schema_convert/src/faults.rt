@@ -1,7 +1,7 @@
 ghost use Rattle.std.specs.Prelude.{◌≡◌, [], ◌∷◌, ◌++◌, map, IfOk, OnOk};
 ghost use Rattle.std.specs.List.{filter_map};
 ghost use Rattle.std.specs.Option.{option_to_list};
-ghost use Rattle.schema_convert.specs.Faults.{is_reserved_path, reserved_namespace, id_twice, action_twice, declared_twice, name_fault, reserved_id, keyword, common_fault, first_some, first_name, applies_fault, action_fault, action_faults, declaration_faults, all_declaration_faults, faults_in};
+ghost use Rattle.schema_convert.specs.Faults.{is_reserved_path, reserved_namespace, id_twice, action_twice, declared_twice, name_fault, reserved_id, keyword, common_fault, first_some, applies_fault, action_fault, action_faults, declaration_faults, all_declaration_faults, faults_in};
 
 use crate::members::block_fault;
 use crate::names_in::{action_names_in, common_names_in, entity_names_in};
@@ -191,7 +191,7 @@ fn applies_fault(
     names: &NonEmpty<Node<Text>>,
     block: &Option<Node<NonEmpty<Node<AppDecl>>>>,
 ) -> Result<Option<ToJsonSchemaError>, AllocError>
-    ensures { IfOk result (λ fault. fault ≡ applies_fault (first_name names.now) block.now) }
+    ensures { IfOk result (λ fault. fault ≡ applies_fault block.now names.now) }
 {
     match block {
         None => Ok(None),
