@@ -1,4 +1,6 @@
 mod Borrowed
 mod Gathered
+mod Grouped
+mod Ranked
 mod Seen
 mod Sorted

@@ -1,7 +1,7 @@
 -- What keeps a tree from being a fragment.
 use Rattle.std.specs.Prelude.{ℕ, Bool, List, [], ◌∷◌, Option, Some, None, codes, if◌then◌else◌}
 use Rattle.std.specs.List.{filter_map, flat_map, list_any}
-use Rattle.std.specs.Option.{option_map, option_or, option_to_list}
+use Rattle.std.specs.Option.{option_or, option_to_list}
 use Rattle.cedar_data.specs.declared.node.Node.{Node}
 use Rattle.cedar_data.specs.Rows.{joined_by}
 use Rattle.cedar_identifiers.specs.Names.{texts_of}
@@ -16,10 +16,10 @@ use Rattle.schema_syntax_tree.specs.declared.namespace.Namespace.{Namespace}
 use Rattle.schema_syntax_tree.specs.declared.path.Path.{Path}
 use Rattle.schema_json.specs.Keywords.{is_keyword_name}
 use Rattle.schema_convert_errors.specs.declared.errors.ToJsonSchemaError.{ToJsonSchemaError}
-use Rattle.schema_convert_errors.specs.declared.errors.ToJsonSchemaError.TheVariants.{DuplicateDeclarations, DuplicateNamespaces, ReservedName, ReservedSchemaKeyword}
+use Rattle.schema_convert_errors.specs.declared.errors.ToJsonSchemaError.TheVariants.{DuplicateDeclarations, ReservedName, ReservedSchemaKeyword}
 use Rattle.schema_convert.specs.Joined.{joined}
 use Rattle.schema_convert.specs.Members.{block_fault}
-use Rattle.schema_convert.specs.NamesIn.{entity_names_in, action_names_in, common_names_in, paths_in, id_cmp, action_cmp, path_cmp}
+use Rattle.schema_convert.specs.NamesIn.{entity_names_in, action_names_in, common_names_in, id_cmp, action_cmp}
 use Rattle.schema_convert.specs.Repeats.{first_repeat}
 
 -- the ids with `::` between two
@@ -54,13 +54,6 @@ declared_twice decls =
 abbrev pub name_fault : Annotated Namespace → Option ToJsonSchemaError
 name_fault n = option_or (reserved_namespace n.item.name) (declared_twice n.item.decls)
 
--- The second step: the first namespace whose name stood before, with its own place first.
-abbrev pub namespace_twice : Path → Path → ToJsonSchemaError
-namespace_twice first second = DuplicateNamespaces (record { namespace_id = path_text second; loc1 = second.loc; loc2 = first.loc })
-
-abbrev pub namespace_repeated : List Path → Option ToJsonSchemaError
-namespace_repeated paths = option_map (λ p. namespace_twice p.0 p.1) (first_repeat path_cmp paths)
-
 -- a declared name that is reserved
 abbrev pub reserved_id : Node Id → Option ToJsonSchemaError
 reserved_id id = if is_cedar id.node.text then Some (ReservedName (record { name = id.node.text; loc = id.loc })) else None
@@ -72,19 +65,15 @@ keyword id = if is_keyword_name id.node.text then Some (ReservedSchemaKeyword (r
 abbrev pub common_fault : Node Id → Option ToJsonSchemaError
 common_fault id = option_or (reserved_id id) (keyword id)
 
--- the name of a declaration's first action
-abbrev pub first_name : List (Node (List ℕ)) → Node (List ℕ)
-first_name [] = record { node = []; loc = None }
-first_name (name ∷ names) = name
-
--- the first fault of an action declaration's block, where it has one
-abbrev pub applies_fault : Node (List ℕ) → Option (Node (List (Node AppDecl))) → Option ToJsonSchemaError
-applies_fault name None = None
-applies_fault name (Some block) = block_fault name block.node
+-- the first fault of the block of a declaration of these actions, where it has one; it names the first of them
+abbrev pub applies_fault : Option (Node (List (Node AppDecl))) → List (Node (List ℕ)) → Option ToJsonSchemaError
+applies_fault None names = None
+applies_fault (Some block) [] = None
+applies_fault (Some block) (name ∷ names) = block_fault name block.node
 
 abbrev pub action_fault : Declaration → Option ToJsonSchemaError
 action_fault (Entity d) = None
-action_fault (Action (Defined d)) = applies_fault (first_name d.names) d.app_decls
+action_fault (Action (Defined d)) = applies_fault d.app_decls d.names
 action_fault (Action (External d)) = None
 action_fault (Common d) = None
 
@@ -98,7 +87,7 @@ abbrev pub or_else : List ToJsonSchemaError → List ToJsonSchemaError → List 
 or_else [] others = others
 or_else (fault ∷ faults) others = fault ∷ faults
 
--- The third step: all reserved names of entity types, or else the first fault of each action declaration, or else the first
+-- The second step: all reserved names of entity types, or else the first fault of each action declaration, or else the first
 -- fault of a common type's name.
 abbrev pub entity_faults : List (Annotated (Node Declaration)) → List ToJsonSchemaError
 entity_faults decls = filter_map reserved_id (entity_names_in decls)
@@ -115,12 +104,10 @@ declaration_faults decls = or_else (entity_faults decls) (or_else (action_faults
 abbrev pub all_declaration_faults : List (Annotated Namespace) → List ToJsonSchemaError
 all_declaration_faults namespaces = flat_map (λ n. declaration_faults n.item.decls) namespaces
 
--- The faults of the first of these steps that finds any, over all namespaces in order.
+-- The faults of the first of the two steps that finds any, over all namespaces in order.
 abbrev pub faults_in : List (Annotated Namespace) → List ToJsonSchemaError
 faults_in namespaces =
-    or_else (filter_map name_fault namespaces)
-    (or_else (option_to_list (namespace_repeated (paths_in namespaces)))
-    (all_declaration_faults namespaces))
+    or_else (filter_map name_fault namespaces) (all_declaration_faults namespaces)
 
 abbrev pub translation_faults : List (Annotated Namespace) → List ToJsonSchemaError
 translation_faults tree = faults_in (joined tree)

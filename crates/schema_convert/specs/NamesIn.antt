@@ -1,7 +1,7 @@
 -- The names that declarations give, by kind.
 use Rattle.std.specs.Prelude.{ℕ, List, [], ◌∷◌}
 use Rattle.std.specs.Cmp.Lexicographic.{slice_cmp}
-use Rattle.std.specs.List.{filter_map, flat_map}
+use Rattle.std.specs.List.{flat_map}
 use Rattle.std.specs.declared.cmp.Ordering.{Ordering}
 use Rattle.cedar_data.specs.Text.{text_cmp}
 use Rattle.cedar_data.specs.declared.node.Node.{Node}
@@ -10,7 +10,6 @@ use Rattle.schema_syntax_tree.specs.DeclaredNames.{entity_names, action_names}
 use Rattle.schema_syntax_tree.specs.declared.annotated.Annotated.{Annotated}
 use Rattle.schema_syntax_tree.specs.declared.declaration.Declaration.{Declaration}
 use Rattle.schema_syntax_tree.specs.declared.declaration.Declaration.TheVariants.{Entity, Action, Common}
-use Rattle.schema_syntax_tree.specs.declared.namespace.Namespace.{Namespace}
 use Rattle.schema_syntax_tree.specs.declared.path.Path.{Path}
 
 -- the names of entity types, of actions and of a common type that a declaration gives
@@ -38,10 +37,6 @@ action_names_in decls = flat_map (λ d. actions_of d.item.node) decls
 
 abbrev pub common_names_in : List (Annotated (Node Declaration)) → List (Node Id)
 common_names_in decls = flat_map (λ d. commons_of d.item.node) decls
-
--- the names of namespaces that have one
-abbrev pub paths_in : List (Annotated Namespace) → List Path
-paths_in namespaces = filter_map (λ n. n.item.name) namespaces
 
 -- names go by their texts, and paths by the texts of their ids; no place is seen
 abbrev pub id_cmp : Node Id → Node Id → Ordering

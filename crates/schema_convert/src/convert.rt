@@ -16,9 +16,9 @@ use schema_syntax::{ParseSchemaError, parse_schema};
 use schema_syntax_tree::Schema;
 use std::alloc::Global;
 
-/// The fragment that a tree stands for, with its warnings, or all faults that keep it from being one. A name that is
-/// reserved, or declared twice, is a fault before the names of namespaces that stand twice, and these are before what is
-/// wrong with a declaration.
+/// The fragment that a tree stands for, with its warnings, or all faults that keep it from being one. Namespaces of one
+/// name are joined first; then a name that is reserved, or declared twice, is a fault before what is wrong with a
+/// declaration.
 pub fn cedar_schema_to_json_schema(
     alloc: Global,
     schema: Schema,

@@ -1,16 +1,15 @@
 ghost use Rattle.std.specs.Prelude.{◌≡◌, [], ◌∷◌, ◌++◌, map, IfOk, OnOk};
 ghost use Rattle.std.specs.List.{filter_map};
 ghost use Rattle.std.specs.Option.{option_to_list};
-ghost use Rattle.schema_convert.specs.Faults.{is_reserved_path, reserved_namespace, id_twice, action_twice, declared_twice, name_fault, namespace_twice, namespace_repeated, reserved_id, keyword, common_fault, first_some, first_name, applies_fault, action_fault, action_faults, declaration_faults, all_declaration_faults, faults_in};
+ghost use Rattle.schema_convert.specs.Faults.{is_reserved_path, reserved_namespace, id_twice, action_twice, declared_twice, name_fault, reserved_id, keyword, common_fault, first_some, applies_fault, action_fault, action_faults, declaration_faults, all_declaration_faults, faults_in};
 
 use crate::members::block_fault;
-use crate::names_in::{action_names_in, common_names_in, entity_names_in, paths_in};
+use crate::names_in::{action_names_in, common_names_in, entity_names_in};
 use crate::repeats::first_repeat;
 use cedar_data::{CloneIn, Node, NonEmpty, Text};
 use cedar_identifiers::{Id, is_cedar};
 use schema_convert_errors::{
-    DuplicateDeclarations, DuplicateNamespace, ReservedName, ReservedSchemaKeyword,
-    ToJsonSchemaError,
+    DuplicateDeclarations, ReservedName, ReservedSchemaKeyword, ToJsonSchemaError,
 };
 use schema_json::is_keyword_name;
 use schema_syntax_tree::{ActionDecl, Annotated, AppDecl, Declaration, Namespace, Path};
@@ -148,44 +147,6 @@ fn name_faults(
     Ok(faults)
 }
 
-// The fault of the second step: the first namespace whose name stood before.
-fn namespace_repeated(
-    alloc: Global,
-    paths: &[&Path],
-) -> Result<Option<ToJsonSchemaError>, AllocError>
-    ensures { IfOk result (λ fault. fault ≡ namespace_repeated (map (λ x. x.now) paths.now)) }
-{
-    match first_repeat(alloc, paths)? {
-        None => Ok(None),
-        Some((first, second)) => Ok(Some(namespace_twice(alloc, first, second)?)),
-    }
-}
-
-// The fault of a namespace whose name stood before.
-fn namespace_twice(
-    alloc: Global,
-    first: &Path,
-    second: &Path,
-) -> Result<ToJsonSchemaError, AllocError>
-    ensures { IfOk result (λ fault. fault ≡ namespace_twice first.now second.now) }
-{
-    let fault = DuplicateNamespace {
-        namespace_id: second.text(alloc)?,
-        loc1: second.loc().copied(),
-        loc2: first.loc().copied(),
-    };
-    Ok(ToJsonSchemaError::DuplicateNamespaces(fault))
-}
-
-// The list of the one fault.
-fn only(alloc: Global, fault: ToJsonSchemaError) -> Result<Vec<ToJsonSchemaError>, AllocError>
-    ensures { IfOk result (λ faults. faults.items ≡ fault ∷ []) }
-{
-    let mut faults = Vec::new(alloc);
-    faults.push(fault)?;
-    Ok(faults)
-}
-
 // The fault of a name that is reserved.
 fn reserved_id(alloc: Global, id: &Node<Id>) -> Result<Option<ToJsonSchemaError>, AllocError>
     ensures { IfOk result (λ fault. fault ≡ reserved_id id.now) }
@@ -230,7 +191,7 @@ fn applies_fault(
     names: &NonEmpty<Node<Text>>,
     block: &Option<Node<NonEmpty<Node<AppDecl>>>>,
 ) -> Result<Option<ToJsonSchemaError>, AllocError>
-    ensures { IfOk result (λ fault. fault ≡ applies_fault (first_name names.now) block.now) }
+    ensures { IfOk result (λ fault. fault ≡ applies_fault block.now names.now) }
 {
     match block {
         None => Ok(None),
@@ -299,7 +260,7 @@ fn common_faults(alloc: Global, ids: &[&Node<Id>]) -> Result<Vec<ToJsonSchemaErr
     Ok(faults)
 }
 
-// The faults of the third step in one namespace.
+// The faults of the second step in one namespace.
 fn declaration_faults(
     alloc: Global,
     decls: &[Annotated<Node<Declaration>>],
@@ -332,7 +293,7 @@ fn push_faults(
     Ok(())
 }
 
-// The faults of the third step in all namespaces.
+// The faults of the second step in all namespaces.
 fn all_declaration_faults(
     alloc: Global,
     namespaces: &[Annotated<Namespace>],
@@ -357,10 +318,6 @@ pub fn faults_in(
     let faults = name_faults(alloc, namespaces)?;
     if !faults.is_empty() {
         return Ok(faults);
-    }
-    let paths = paths_in(alloc, namespaces)?;
-    if let Some(fault) = namespace_repeated(alloc, paths.as_slice())? {
-        return only(alloc, fault);
     }
     all_declaration_faults(alloc, namespaces)
 }

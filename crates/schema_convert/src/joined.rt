@@ -1,6 +1,7 @@
 ghost use Rattle.std.specs.Prelude.{◌≡◌, ◌++◌, IfOk, OnOk};
 ghost use Rattle.schema_convert.specs.Joined.{named_so, unnamed_so, empty_namespace, joined};
 
+use crate::openings::{joined_by_name, push_all};
 use cedar_data::{List, Node};
 use cedar_identifiers::Annotations;
 use schema_syntax_tree::{Annotated, Declaration, Namespace, Schema};
@@ -21,19 +22,6 @@ fn push_namespace(
         return Ok(());
     }
     push_all(outside, namespace.item.decls)
-}
-
-// Adds the declarations.
-fn push_all(
-    outside: &mut Vec<Annotated<Node<Declaration>>>,
-    decls: List<Annotated<Node<Declaration>>>,
-) -> Result<(), AllocError>
-    ensures { OnOk result (outside.new.items ≡ outside.old.items ++ decls) }
-{
-    for decl in decls.into_vec() {
-        outside.push(decl)?;
-    }
-    Ok(())
 }
 
 // Adds the namespace of the declarations outside of every other, where there are any.
@@ -59,16 +47,17 @@ fn push_empty(
     Ok(())
 }
 
-/// The namespaces that a tree has: those with a name, in order, and behind them the one of all declarations that stand
-/// outside of these, where there are any.
+/// The namespaces that a tree has: one for each name, in the order of the first openings, and behind them the one of all
+/// declarations that stand outside of these, where there are any.
 pub fn joined(alloc: Global, schema: Schema) -> Result<Vec<Annotated<Namespace>>, AllocError>
     ensures { IfOk result (λ namespaces. namespaces.items ≡ joined schema) }
 {
-    let mut namespaces = Vec::new(alloc);
+    let mut named = Vec::new(alloc);
     let mut outside = Vec::new(alloc);
     for namespace in schema.into_vec() {
-        push_namespace(alloc, &mut namespaces, &mut outside, namespace)?;
+        push_namespace(alloc, &mut named, &mut outside, namespace)?;
     }
+    let mut namespaces = joined_by_name(alloc, named)?;
     push_empty(alloc, &mut namespaces, outside)?;
     Ok(namespaces)
 }

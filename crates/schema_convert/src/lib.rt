@@ -6,6 +6,7 @@ mod faults;
 mod joined;
 mod members;
 mod names_in;
+mod openings;
 mod repeats;
 mod shadowing;
 

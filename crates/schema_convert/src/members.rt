@@ -1,5 +1,7 @@
-ghost use Rattle.std.specs.Prelude.{◌≡◌, IfOk};
-ghost use Rattle.schema_convert.specs.Members.{met_role, meet_role, second_role, second_context, empty_role, missing_role, role_meets, context_meets, meets, missing, block_fault};
+ghost use Rattle.std.specs.Prelude.{◌≡◌, map, find, IfOk};
+ghost use Rattle.std.specs.List.{list_any};
+ghost use Rattle.std.specs.Option.{option_copied};
+ghost use Rattle.schema_convert.specs.Members.{says_role, says_same, said_twice, empty_role, missing_role, said_empty, member_fault, missing, block_fault};
 
 use cedar_data::{CloneIn, Loc, Node, NonEmpty, Text};
 use schema_convert_errors::{
@@ -9,74 +11,56 @@ use schema_convert_errors::{
 use schema_syntax_tree::{AppDecl, PR};
 use std::alloc::{AllocError, Global};
 
-// Where the members of each kind were met, as far as they were.
-#[derive(Clone, Copy)]
-struct Met {
-    principal: Option<Option<Loc>>,
-    resource: Option<Option<Loc>>,
-    context: Option<Option<Loc>>,
-}
-
-// Where the principals, or the resources, were met.
-fn met_role(kind: PR, met: Met) -> Option<Option<Loc>>
-    ensures { result ≡ met_role kind met }
+// Whether the member says which principals, or which resources, as the kind is.
+fn says_role(kind: PR, member: &AppDecl) -> bool
+    ensures { result ≡ says_role kind member.now }
 {
-    match kind {
-        PR::Principal => met.principal,
-        PR::Resource => met.resource,
+    match (kind, member) {
+        (PR::Principal, AppDecl::PR(list)) => matches!(list.kind.node, PR::Principal),
+        (PR::Resource, AppDecl::PR(list)) => matches!(list.kind.node, PR::Resource),
+        (_, AppDecl::Context(_)) => false,
     }
 }
 
-// What was met, and this list of principals or resources.
-fn meet_role(kind: PR, loc: Option<Loc>, met: Met) -> Met
-    ensures { result ≡ meet_role kind loc met }
+// Whether both say the same: which principals, which resources, or the context.
+fn says_same(member: &AppDecl, other: &AppDecl) -> bool
+    ensures { result ≡ says_same member.now other.now }
 {
-    match kind {
-        PR::Principal => Met {
-            principal: Some(loc),
-            resource: met.resource,
-            context: met.context,
-        },
-        PR::Resource => Met {
-            principal: met.principal,
-            resource: Some(loc),
-            context: met.context,
+    match member {
+        AppDecl::PR(list) => says_role(list.kind.node, other),
+        AppDecl::Context(_) => match other {
+            AppDecl::PR(_) => false,
+            AppDecl::Context(_) => true,
         },
     }
 }
 
-fn second_role(
+// The fault of a second member that says the same.
+fn said_twice(
     alloc: Global,
     name: &Node<Text>,
-    kind: PR,
+    member: &AppDecl,
     loc1: Option<Loc>,
     loc2: Option<Loc>,
 ) -> Result<ToJsonSchemaError, AllocError>
-    ensures { IfOk result (λ fault. fault ≡ second_role name.now kind loc1 loc2) }
+    ensures { IfOk result (λ fault. fault ≡ said_twice name.now member.now loc1 loc2) }
 {
-    let fault = DuplicatePrincipalOrResource {
-        name: name.node.clone_in(alloc)?,
-        kind,
-        loc1,
-        loc2,
-    };
-    Ok(ToJsonSchemaError::DuplicatePrincipalOrResource(fault))
-}
-
-fn second_context(
-    alloc: Global,
-    name: &Node<Text>,
-    loc1: Option<Loc>,
-    loc2: Option<Loc>,
-) -> Result<ToJsonSchemaError, AllocError>
-    ensures { IfOk result (λ fault. fault ≡ second_context name.now loc1 loc2) }
-{
-    let fault = DuplicateContext {
-        name: name.node.clone_in(alloc)?,
-        loc1,
-        loc2,
-    };
-    Ok(ToJsonSchemaError::DuplicateContext(fault))
+    let name = name.node.clone_in(alloc)?;
+    match member {
+        AppDecl::PR(list) => {
+            let fault = DuplicatePrincipalOrResource {
+                name,
+                kind: list.kind.node,
+                loc1,
+                loc2,
+            };
+            Ok(ToJsonSchemaError::DuplicatePrincipalOrResource(fault))
+        }
+        AppDecl::Context(_) => {
+            let fault = DuplicateContext { name, loc1, loc2 };
+            Ok(ToJsonSchemaError::DuplicateContext(fault))
+        }
+    }
 }
 
 fn empty_role(
@@ -108,86 +92,88 @@ fn missing_role(alloc: Global, name: &Node<Text>, kind: PR) -> Result<ToJsonSche
     Ok(ToJsonSchemaError::NoPrincipalOrResource(fault))
 }
 
-// What was met with these principals or resources too, unless they stand twice or are none.
-fn role_meets(
-    alloc: Global,
-    name: &Node<Text>,
-    kind: PR,
-    is_empty: bool,
-    loc: Option<Loc>,
-    met: Met,
-) -> Result<Result<Met, ToJsonSchemaError>, AllocError>
-    ensures { IfOk result (λ out. out ≡ role_meets name.now (met_role kind met) kind is_empty loc met) }
-{
-    if let Some(first) = met_role(kind, met) {
-        return Ok(Err(second_role(alloc, name, kind, first, loc)?));
-    }
-    if is_empty {
-        return Ok(Err(empty_role(alloc, name, kind, loc)?));
-    }
-    Ok(Ok(meet_role(kind, loc, met)))
-}
-
-// What was met with this context too, unless it is the second.
-fn context_meets(
-    alloc: Global,
-    name: &Node<Text>,
-    loc: Option<Loc>,
-    met: Met,
-) -> Result<Result<Met, ToJsonSchemaError>, AllocError>
-    ensures { IfOk result (λ out. out ≡ context_meets name.now met.context loc met) }
-{
-    match met.context {
-        Some(first) => Ok(Err(second_context(alloc, name, first, loc)?)),
-        None => Ok(Ok(Met {
-            principal: met.principal,
-            resource: met.resource,
-            context: Some(loc),
-        })),
-    }
-}
-
-// What was met with this member too, unless it is refused.
-fn meets(
+// The fault of `[]` in place of principals or resources.
+fn said_empty(
     alloc: Global,
     name: &Node<Text>,
     member: &AppDecl,
     loc: Option<Loc>,
-    met: Met,
-) -> Result<Result<Met, ToJsonSchemaError>, AllocError>
-    ensures { IfOk result (λ out. out ≡ meets name.now member.now loc met) }
+) -> Result<Option<ToJsonSchemaError>, AllocError>
+    ensures { IfOk result (λ fault. fault ≡ said_empty name.now member.now loc) }
 {
     match member {
-        AppDecl::PR(list) => role_meets(
-            alloc,
-            name,
-            list.kind.node,
-            list.entity_tys.is_none(),
-            loc,
-            met,
-        ),
-        AppDecl::Context(_) => context_meets(alloc, name, loc, met),
+        AppDecl::PR(list) => {
+            if list.entity_tys.is_none() {
+                return Ok(Some(empty_role(alloc, name, list.kind.node, loc)?));
+            }
+            Ok(None)
+        }
+        AppDecl::Context(_) => Ok(None),
     }
 }
 
-// What is missing at the end: the resources, or else the principals.
+// The first of these members that says the same.
+fn first_same<'a>(before: &[&'a Node<AppDecl>], member: &AppDecl) -> Option<&'a Node<AppDecl>>
+    ensures { option_copied result ≡ find (λ m. says_same member.now m.node) (map (λ x. x.now) before.now) }
+{
+    for other in before {
+        let other = *other;
+        if says_same(member, &other.node) {
+            return Some(other);
+        }
+    }
+    None
+}
+
+// The fault of a member behind these: one of them says the same, or else it is `[]`.
+fn member_fault(
+    alloc: Global,
+    name: &Node<Text>,
+    before: &[&Node<AppDecl>],
+    member: &Node<AppDecl>,
+) -> Result<Option<ToJsonSchemaError>, AllocError>
+    ensures { IfOk result (λ fault. fault ≡ member_fault name.now (map (λ x. x.now) before.now) member.now) }
+{
+    match first_same(before, &member.node) {
+        Some(first) => {
+            let fault = said_twice(alloc, name, &member.node, first.loc, member.loc)?;
+            Ok(Some(fault))
+        }
+        None => said_empty(alloc, name, &member.node, member.loc),
+    }
+}
+
+// Whether one of the members says which principals, or which resources, as the kind is.
+fn has_role(kind: PR, members: &[&Node<AppDecl>]) -> bool
+    ensures { result ≡ list_any (λ m. says_role kind m.node) (map (λ x. x.now) members.now) }
+{
+    for member in members {
+        if says_role(kind, &(*member).node) {
+            return true;
+        }
+    }
+    false
+}
+
+// What is missing where these are all: the resources, or else the principals.
 fn missing(
     alloc: Global,
     name: &Node<Text>,
-    met: Met,
+    members: &[&Node<AppDecl>],
 ) -> Result<Option<ToJsonSchemaError>, AllocError>
-    ensures { IfOk result (λ out. out ≡ missing name.now met.principal met.resource) }
+    ensures { IfOk result (λ out. out ≡ missing name.now (map (λ x. x.now) members.now)) }
 {
-    if met.resource.is_none() {
+    if !has_role(PR::Resource, members) {
         return Ok(Some(missing_role(alloc, name, PR::Resource)?));
     }
-    if met.principal.is_none() {
+    if !has_role(PR::Principal, members) {
         return Ok(Some(missing_role(alloc, name, PR::Principal)?));
     }
     Ok(None)
 }
 
-/// The first fault of an `appliesTo` block of the action.
+/// The first fault of an `appliesTo` block of the action. Of members without a fault there are three at most, so few are
+/// compared with each.
 pub fn block_fault(
     alloc: Global,
     name: &Node<Text>,
@@ -195,16 +181,12 @@ pub fn block_fault(
 ) -> Result<Option<ToJsonSchemaError>, AllocError>
     ensures { IfOk result (λ out. out ≡ block_fault name.now members.now) }
 {
-    let mut met = Met {
-        principal: None,
-        resource: None,
-        context: None,
-    };
+    let mut before = Vec::new(alloc);
     for member in members.iter() {
-        match meets(alloc, name, &member.node, member.loc, met)? {
-            Ok(more) => met = more,
-            Err(fault) => return Ok(Some(fault)),
+        if let Some(fault) = member_fault(alloc, name, before.as_slice(), member)? {
+            return Ok(Some(fault));
         }
+        before.push(member)?;
     }
-    missing(alloc, name, met)
+    missing(alloc, name, before.as_slice())
 }

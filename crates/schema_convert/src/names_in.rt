@@ -1,11 +1,10 @@
 ghost use Rattle.std.specs.Prelude.{◌≡◌, ◌++◌, map, IfOk, OnOk};
-ghost use Rattle.std.specs.Option.{option_to_list};
 ghost use Rattle.cedar_data.specs.NonEmpty.{items_left};
-ghost use Rattle.schema_convert.specs.NamesIn.{entities_of, actions_of, commons_of, entity_names_in, action_names_in, common_names_in, paths_in};
+ghost use Rattle.schema_convert.specs.NamesIn.{entities_of, actions_of, commons_of, entity_names_in, action_names_in, common_names_in};
 
 use cedar_data::{Node, NonEmptyIter, Text};
 use cedar_identifiers::Id;
-use schema_syntax_tree::{ActionDecl, Annotated, Declaration, Namespace, Path};
+use schema_syntax_tree::{ActionDecl, Annotated, Declaration};
 use std::alloc::{AllocError, Global};
 
 // Adds the items, in order.
@@ -92,28 +91,4 @@ pub fn common_names_in<'a>(
         push_common(&mut names, &decl.item.node)?;
     }
     Ok(names)
-}
-
-/// The names of the namespaces that have one.
-pub fn paths_in<'a>(
-    alloc: Global,
-    namespaces: &'a [Annotated<Namespace>],
-) -> Result<Vec<&'a Path>, AllocError>
-    ensures { IfOk result (λ paths. map (λ x. x.now) paths.items ≡ paths_in namespaces.now) }
-{
-    let mut paths = Vec::new(alloc);
-    for namespace in namespaces {
-        push_path(&mut paths, &namespace.item.name)?;
-    }
-    Ok(paths)
-}
-
-// Adds the path, where there is one.
-fn push_path<'a>(paths: &mut Vec<&'a Path>, path: &'a Option<Path>) -> Result<(), AllocError>
-    ensures { OnOk result (map (λ x. x.now) paths.new.items ≡ map (λ x. x.now) paths.old.items ++ option_to_list path.now) }
-{
-    if let Some(path) = path {
-        paths.push(path)?;
-    }
-    Ok(())
 }

@@ -11,7 +11,6 @@ twice a␤@7-12@14-19|action \"a\\n\", \"a\\n\";
 missing resource a␤@7-12|action \"a\\n\" appliesTo { principal: A };
 twice A@21-22@24-25; twice b@50-51@53-54|namespace N { entity A, A; } namespace M { action b, b; }
 missing resource a@17-18|entity A; action a appliesTo { principal: A };
-namespace N@25-26@10-11|namespace N {} namespace N {}
 keyword Long@5-9|type Long = Bool;
 reserved __cedar@7-14|entity __cedar;
 empty principal a@7-8@21-34|action a appliesTo { principal: [], principal: [] };
@@ -25,7 +24,6 @@ keyword Long@5-9|type Long = Bool; type __cedar = Bool;
 reserved __cedar@5-12|type __cedar = Bool; type Long = Bool;
 twice A@20-21@23-24|action a, a; entity A, A;
 twice a@37-38@40-41|type T = Long; type T = Long; action a, a;
-namespace B@40-41@25-26|namespace A {} namespace B {} namespace B {} namespace A {}
 reserved __cedar@21-28|namespace N { entity __cedar; }
 reserved A::__cedar@10-20|namespace A::__cedar {}
 reserved __cedar@21-28; keyword Long@51-55|namespace N { entity __cedar; } namespace M { type Long = Bool; }
@@ -44,7 +42,6 @@ reserved __cedar@27-34|entity T { x: Long }; type __cedar = Set<A>;
 twice see@16-21@23-26|external action \"see\", see; namespace M {  }
 keyword Set@5-8|type Set = {}; entity B, Set enum [\"x\"];
 keyword Set@5-8|type Set = Set<A>;
-namespace R@27-28@10-11|namespace R {  } namespace R {  } action \"see\";
 empty principal b@70-73@86-99|namespace S { entity T in A; entity B, C, decimal { x: Long }; action \"b\" appliesTo { principal: [], principal: [], context: {}, resource: [] }; } action a;
 reserved A::__cedar@92-102|action b appliesTo { resource: [], context: {}, principal: N::B, resource: [A] }; namespace A::__cedar { type decimal = Set<A>; entity T; action \"a\", \"b\"; }
 reserved __cedar@24-31|namespace A::B { entity __cedar in A; }
@@ -92,7 +89,7 @@ missing resource c@21-22|namespace Q { action c appliesTo { principal: [A], cont
 twice c@7-8@10-11|action c, c;
 twice B@62-63@65-66|type decimal = Set<A>; type decimal = Set<A>; external entity B, B;
 resource a@21-35@37-49|action a appliesTo { resource: N::B, resource: [], principal: [] };
-namespace N@65-66@10-11|namespace N { external action \"c\"; entity Long, Set; } namespace N { type String = {}; action \"go\" appliesTo { resource: A, principal: [A] }; type Record = {}; }
+keyword String@74-80|namespace N { external action \"c\"; entity Long, Set; } namespace N { type String = {}; action \"go\" appliesTo { resource: A, principal: [A] }; type Record = {}; }
 resource b@23-37@55-68|action \"b\" appliesTo { resource: N::B, principal: [A], resource: [A], principal: A };
 empty principal c@90-93@106-119|entity decimal { x: Long }; action a appliesTo { principal: N::B, resource: [A] }; action \"c\" appliesTo { principal: [], principal: N::B, resource: [], resource: [] };
 resource go@24-35@37-49; empty resource b@109-112@125-137|action \"go\" appliesTo { resource: A, resource: [], resource: [A, B] }; namespace N { type T = Long; } action \"b\" appliesTo { resource: [] };
@@ -134,7 +131,33 @@ empty resource b@7-8@24-36|action b, a appliesTo { resource: [], resource: N::B 
 reserved __cedar@10-17; reserved A::__cedar@33-43|namespace __cedar {  } namespace A::__cedar { type __cedar = {}; }
 context go@22-32@34-45|action go appliesTo { context: C, context: {} };
 empty resource see@44-47@60-72; keyword Set@126-129|namespace M { type __cedar = Set<A>; action see appliesTo { resource: [] }; external action go; } entity Set enum [\"x\"]; type Set = {};
-principal b@23-37@52-67|action \"b\" appliesTo { principal: [A], context: {}, principal: N::B };"
+principal b@23-37@52-67|action \"b\" appliesTo { principal: [A], context: {}, principal: N::B };
+twice A@21-22@47-48|namespace N { entity A; } namespace N { entity A; }
+twice A@21-22@119-120; twice A@33-34@95-96|namespace N { entity A; } entity A; namespace M { entity A; } namespace N { entity B; } entity A; namespace N { entity A; }
+reserved __cedar@10-17|namespace __cedar { } namespace __cedar { entity A, A; }
+twice B@21-22@70-71|namespace N { entity B; action a; } namespace N { action a; entity A, B; }
+twice a@21-22@78-81; twice T@45-46@104-105|namespace M { action a; } namespace N { type T = Long; } namespace M { action \"a\"; } namespace N { type T = Bool; }
+twice T@22-23@89-90|namespace A::B { type T = Long; } namespace A { type T = Long; } namespace A :: B { type T = Long; }
+twice B@24-25@53-54|namespace N { entity A, B; } namespace N { entity C, B, A; } namespace N { entity A; }
+keyword Set@19-22; missing resource a@125-126|namespace N { type Set = Long; } namespace M { type Long = Bool; } namespace N { type __cedar = Long; } namespace M { action a appliesTo { principal: A }; }
+resource a@83-94@96-107|@a(\"\") namespace N { entity T in B; } @doc(\"x\") namespace N { action a appliesTo { resource: A, resource: B }; }
+missing resource go@72-74|@a @doc(\"\") namespace N { } namespace P { } @a(\"\") namespace P { action go appliesTo { context: {} }; }
+reserved N::__cedar@36-46|namespace M { entity A; } namespace N::__cedar { } @doc(\"y\") @a(\"x\") namespace M { entity B; entity C; }
+resource go@96-107@109-120|@b(\"\") @a(\"\") namespace N { type T = Long; entity B in B; } namespace N { action go appliesTo { resource: A, resource: B }; }
+reserved __cedar@46-53|namespace N { entity decimal { x: A }; entity __cedar; } namespace N { }
+keyword Bool@166-170; reserved __cedar@89-96|@a(\"y\") @doc(\"y\") namespace N { } @in(\"x\") namespace M { type ipaddr = { y?: B }; entity __cedar; } @b(\"\") namespace P { entity decimal; } @b(\"x\") namespace N { type Bool = Long; }
+keyword Set@74-77|namespace P { entity Long; } namespace N { entity C; } namespace N { type Set = Long; action b; } @b(\"y\") entity T;
+twice ipaddr@106-112@152-158|@in(\"x\") namespace N { entity T; } namespace N { entity B { x: A }; } @b(\"y\") @in(\"x\") namespace N { type ipaddr = Set<A>; } @a(\"y\") namespace N { type ipaddr = Long; type A = Set<A>; }
+twice T@44-45@75-76|@a(\"y\") namespace M { entity B in B; entity T in B; } namespace M { entity T; entity A in B; } @a namespace M { } @b(\"\") namespace N { @b(\"y\") entity B; }
+missing resource a@56-57|entity decimal; entity A; @in(\"y\") namespace N { action a appliesTo { principal: A }; } @b(\"\") namespace N { entity A; }
+reserved __cedar@24-31; reserved __cedar@91-98|namespace M::N { entity __cedar; action go appliesTo { context: {} }; } namespace N { type __cedar = Long; } action a in a; @b(\"\") namespace N { }
+keyword Bool@39-43|entity T; namespace N { entity B; type Bool = Long; } @a namespace N { action \"d e\"; } @a(\"y\") namespace M::N { }
+empty principal b@111-112@125-138|@in(\"\") namespace M::N { } namespace N { @in(\"\") entity Long; } namespace M { entity B; } namespace N { action b appliesTo { principal: [], resource: A }; }
+empty principal go@21-23@36-49|namespace N { action go appliesTo { principal: [], resource: A }; } @b(\"y\") namespace N { }
+missing principal b@30-31; missing resource a@119-120|@in(\"y\") namespace P { action b appliesTo { resource: [A] }; } @in(\"x\") namespace N { } @doc(\"y\") namespace N { action a appliesTo { principal: A }; }
+keyword Set@30-33; reserved __cedar@68-75|@b(\"y\") namespace M::N { type Set = Long; } @b namespace N { entity __cedar; } namespace M::N { } namespace N { action go in a; }
+reserved __cedar@45-52; missing resource go@80-82|@a(\"y\") namespace N { } namespace N { entity __cedar; type U = Set<A>; } action go appliesTo { principal: A }; entity decimal;
+empty principal go@56-58@71-84; missing resource b@141-142|namespace N { action b; } @in(\"x\") namespace N { action go appliesTo { principal: [], resource: A }; type Set = Long; } namespace M { action b appliesTo { principal: A }; entity Long in B; }"
 }
 
 /// Texts whose trees have none.
@@ -179,7 +202,14 @@ ok; builtin decimal@22-29|namespace A::B { type decimal = Long; action go; entit
 ok; builtin String@40-46; builtin decimal@31-38|entity Set { x: Long }; entity decimal, String { x: Long };
 ok; builtin Long@7-11; builtin decimal@13-20|entity Long, decimal in A; namespace Q {  }
 ok; builtin decimal@7-14|entity decimal, C; namespace S { entity C { x: Long }; } type B = Set<A>; namespace A::B {  }
-ok; builtin String@16-22; builtin decimal@7-14|entity decimal, String { x: Long };"
+ok; builtin String@16-22; builtin decimal@7-14|entity decimal, String { x: Long };
+ok; builtin Long@52-56; entity A@81-82@19-20|namespace N { type A = Long; } namespace M { entity Long; } namespace N { entity A; }
+ok; entity A@29-30@84-85|@in(\"\") namespace N { entity A in B; } @a namespace P { } @a(\"\") namespace N { type A = { y?: B }; }
+ok; entity T@130-131@147-148; builtin decimal@37-44|@b @a namespace M::N { @b(\"\") entity decimal in B; } @b(\"y\") namespace N { type U = Long; } @a(\"x\") @in(\"x\") namespace M { entity T { x: A }; type T = Set<A>; } @in namespace M::N { }
+ok; builtin ipaddr@26-32|@a(\"\") namespace N { type ipaddr = Long; entity T; } @a(\"y\") @b(\"y\") namespace N { entity C; type A = Set<A>; }
+ok; builtin Long@59-63|namespace M { entity T; } namespace N { @b(\"\") @doc entity Long in B; } namespace N { action a in a; }
+ok; builtin Long@21-25; builtin decimal@42-49|namespace P { entity Long; @b(\"x\") entity decimal; } namespace N { } namespace N { }
+ok; builtin decimal@29-36|namespace N { @a(\"x\") entity decimal in B; } @in namespace M::N { entity B in B; type T = Set<A>; } @a @in(\"x\") namespace N { type U = Long; }"
 }
 
 /// Texts, and the fragments that they are.
@@ -206,5 +236,22 @@ pub fn fragment_lines() -> &'static str {
 [A@53-54][Long@69-73][N@37-38][N::M@18-22 #n=v]|@n(\"v\") namespace N::M { } namespace N { } namespace A { } namespace Long { }
 [A@65-66 entity AB@69-79 {}@-][A::B@36-40 entity A@43-52 {}@-][B@10-11 entity B@14-23 {}@-]|namespace B { entity B; } namespace A::B { entity A; } namespace A { entity AB; }
 [ entity A@30-39 {}@- entity A0@40-50 {}@- entity A_@51-61 {}@- entity B@10-19 {}@- entity a@20-29 {}@- entity b@0-9 {}@- action @84-94 principal resource context {}@- action B@74-83 principal resource context {}@- action b@62-73 principal resource context {}@-]|entity b; entity B; entity a; entity A; entity A0; entity A_; action \"b\"; action B; action \"\";
-[ type T@0-14 .Long@9-13@9-13][N@25-26 entity A@29-47 { x: .T@43-44@43-44}@38-46 #x action b@51-100 principal .A@83-84 resource .A@96-97 context {}@-]|type T = Long; namespace N { entity A { x: T }; @x action b appliesTo { principal: A, resource: A }; }"
+[ type T@0-14 .Long@9-13@9-13][N@25-26 entity A@29-47 { x: .T@43-44@43-44}@38-46 #x action b@51-100 principal .A@83-84 resource .A@96-97 context {}@-]|type T = Long; namespace N { entity A { x: T }; @x action b appliesTo { principal: A, resource: A }; }
+[N@10-11]|namespace N {} namespace N {}
+[A@10-11][B@25-26]|namespace A {} namespace B {} namespace B {} namespace A {}
+[ action see@34-47 principal resource context {}@-][R@10-11]|namespace R {  } namespace R {  } action \"see\";
+[ entity C@35-44 {}@-][N@10-11 entity A@14-32 { x: .B@28-29@28-29}@23-31 entity B@59-68 {}@-]|namespace N { entity A { x: B }; } entity C; namespace N { entity B; }
+[N@13-14 #a #b #c=z]|@a namespace N {} @a(\"x\") @b namespace N {} @b(\"y\") @a @c(\"z\") namespace N {}
+[N@31-32 #a][N::M@10-14 #a= entity A@62-71 {}@-]|namespace N::M {} @a namespace N {} @a(\"\") namespace N :: M { entity A; }
+[ entity B@62-71 {}@- entity C@26-35 {}@-][N@10-11 #b type T@89-100 .A@98-99@98-99 entity A@14-23 {}@- action a@50-59 principal resource context {}@-]|namespace N { entity A; } entity C; namespace N { action a; } entity B; @b namespace N { type T = A; }
+[N@10-11 entity T@14-28 .B@26-27 {}@-][P@65-66 #b=y entity A@69-78 {}@- action d e@79-97 members in a principal resource context {}@-]|namespace N { entity T in B; } namespace N { } @b(\"y\") namespace P { entity A; action \"d e\" in a; }
+[M@10-11 entity A@14-23 {}@- action d e@24-77 principal .A@60-61 resource .B@73-74 context {}@-][N@90-91 #doc #in type A@143-157 .Long@152-156@152-156 entity B@94-103 {}@- action d e@104-117 principal resource context {}@-]|namespace M { entity A; action \"d e\" appliesTo { principal: A, resource: B }; } namespace N { entity B; action \"d e\"; } @in @doc namespace N { type A = Long; }
+[M::N@44-48 #doc=y entity B@51-60 {}@-][N@18-19 #b=y #in= action b@85-94 principal resource context {}@-]|@in(\"\") namespace N { } @doc(\"y\") namespace M::N { entity B; } @b(\"y\") namespace N { action b; }
+[M@93-94 #b #doc=x entity T@97-106 {}@-][N@23-24 #a=y #b=y #doc #in= type T@51-67 < .A@64-65@64-65>@60-66 entity A@131-145 .B@143-144 {}@-]|@doc @a(\"y\") namespace N { } @b(\"y\") namespace N { type T = Set<A>; } @b @doc(\"x\") namespace M { entity T; } @in(\"\") namespace N { entity A in B; }
+[N@55-56 entity B@59-77 { x: .A@73-74@73-74}@68-76][P@23-24 #a #doc=y]|@doc(\"y\") @a namespace P { } namespace P { } namespace N { entity B { x: A }; }
+[M::N@27-31 #a=x #doc= action a@34-83 principal .A@66-67 resource .B@79-80 context {}@-][N@99-100 #a entity A@119-137 { x: .A@133-134@133-134}@128-136 entity T@138-147 {}@- action d e@164-182 members in a principal resource context {}@-]|@doc(\"\") @a(\"x\") namespace M::N { action a appliesTo { principal: A, resource: B }; } @a namespace N { } namespace N { entity A { x: A }; entity T; } namespace N { action \"d e\" in a; }
+[N@34-35 #a=y #b=y #doc type U@69-85 < .A@82-83@82-83>@78-84 entity B@38-47 {}@- entity C@110-124 .B@122-123 {}@-][P@10-11]|namespace P { } @b(\"y\") namespace N { entity B; } @doc namespace N { type U = Set<A>; } @a(\"y\") namespace N { entity C in B; }
+[N@27-28 #b=x #doc=y #in=x type A@92-111 { y?: .B@107-108@107-108}@101-110 entity T@57-75 { x: .A@71-72@71-72}@66-74]|@in(\"x\") @b(\"x\") namespace N { } @doc(\"y\") namespace N { entity T { x: A }; } namespace N { type A = { y?: B }; }
+[ action a@0-49 principal .A@32-33 resource .B@45-46 context {}@-][M@112-113 #a=x #doc=][N@63-64 #b]|action a appliesTo { principal: A, resource: B }; @b namespace N { } namespace N { } @doc(\"\") @a(\"x\") namespace M { }
+[M@103-104 #a= #b=x action d e@107-125 members in a principal resource context {}@-][M::N@18-22 #b=x action b@76-90 members in a principal resource context {}@- action go@25-75 principal .A@58-59 resource .B@71-72 context {}@-]|@b(\"x\") namespace M::N { action go appliesTo { principal: A, resource: B }; action b in a; } namespace M { action \"d e\" in a; } @a(\"\") @b(\"x\") namespace M { }"
 }

@@ -5,6 +5,6 @@ use Rattle.schema_convert.proofs.joined.joined.Given as goal
 
 abbrev pub invariant-loop-namespace : goal.invariant-loop-namespace
 invariant-loop-namespace l = record {
-  named : l.namespaces.items ++ named (into_iter_items l.namespace-iterator) ≡ named l.fn.schema;
+  named : l.named.items ++ named (into_iter_items l.namespace-iterator) ≡ named l.fn.schema;
   outside : l.outside.items ++ outside (into_iter_items l.namespace-iterator) ≡ outside l.fn.schema;
 }

@@ -1,0 +1,7 @@
+use Rattle.std.proofs.Common.{◌≡◌, drop, find, map}
+use Rattle.schema_convert.specs.Members.{says_same}
+use Rattle.schema_convert.proofs.members.first_same.Given as goal
+
+abbrev pub invariant-loop-other : goal.invariant-loop-other
+invariant-loop-other l =
+    find (λ m. says_same l.member m.node) (map (λ x. x.now) (drop l.other-index l.before)) ≡ find (λ m. says_same l.member m.node) (map (λ x. x.now) l.before)

@@ -1,0 +1,131 @@
+ghost use Rattle.std.specs.Prelude.{◌≡◌, ◌∷◌, ◌++◌, map, reverse, IfOk, OnOk};
+ghost use Rattle.std.specs.List.{flat_map};
+ghost use Rattle.cedar_data.specs.Maps.{map_of};
+ghost use Rattle.schema_convert.specs.Joined.{annotation_key_cmp, opened_as, joined_by_name};
+
+use cedar_data::{CloneIn, List, Map, Node, Text};
+use cedar_identifiers::{Annotations, AnyId};
+use schema_syntax_tree::{Annotated, Declaration, Namespace};
+use std::alloc::{AllocError, Global};
+use std::collections::BTreeMap;
+
+// The openings of one name: the first, and those behind it, in order.
+#[derive(Drop)]
+struct Openings {
+    first: Annotated<Namespace>,
+    others: Vec<Annotated<Namespace>>,
+}
+
+// The openings of each name, in the order of the first ones.
+fn openings_by_name(
+    alloc: Global,
+    namespaces: Vec<Annotated<Namespace>>,
+) -> Result<Vec<Openings>, AllocError>
+    ensures { IfOk result (λ groups. map (λ g. opened_as g.first (g.first ∷ g.others.items)) groups.items ≡ joined_by_name namespaces.items) }
+{
+    let mut groups: Vec<Openings> = Vec::new(alloc);
+    let mut places = BTreeMap::new(alloc);
+    for namespace in namespaces {
+        match places.get(&namespace.item.name) {
+            Some(place) => {
+                let place = *place;
+                groups[place].others.push(namespace)?;
+            }
+            None => {
+                let name = namespace.item.name.clone_in(alloc)?;
+                places.insert(name, groups.len())?;
+                groups.push(Openings {
+                    first: namespace,
+                    others: Vec::new(alloc),
+                })?;
+            }
+        }
+    }
+    Ok(groups)
+}
+
+/// Adds the declarations.
+pub fn push_all(
+    decls: &mut Vec<Annotated<Node<Declaration>>>,
+    more: List<Annotated<Node<Declaration>>>,
+) -> Result<(), AllocError>
+    ensures { OnOk result (decls.new.items ≡ decls.old.items ++ more) }
+{
+    for decl in more.into_vec() {
+        decls.push(decl)?;
+    }
+    Ok(())
+}
+
+// Adds the entries.
+fn push_entries(
+    entries: &mut Vec<(AnyId, Option<Text>)>,
+    more: Annotations,
+) -> Result<(), AllocError>
+    ensures { OnOk result (entries.new.items ≡ entries.old.items ++ more.0) }
+{
+    let Annotations(more) = more;
+    for entry in more.into_vec() {
+        entries.push(entry)?;
+    }
+    Ok(())
+}
+
+// The annotations of these entries: each key with its first value.
+fn first_values(
+    alloc: Global,
+    mut entries: Vec<(AnyId, Option<Text>)>,
+) -> Result<Annotations, AllocError>
+    ensures { IfOk result (λ annotations. annotations.0 ≡ map_of annotation_key_cmp (reverse entries.items)) }
+{
+    entries.reverse();
+    Ok(Annotations(Map::from_entries(alloc, entries)?))
+}
+
+// These declarations and annotations with those of other openings behind them: of each key the first value.
+fn with_others(
+    alloc: Global,
+    decls: List<Annotated<Node<Declaration>>>,
+    annotations: Annotations,
+    others: Vec<Annotated<Namespace>>,
+) -> Result<(List<Annotated<Node<Declaration>>>, Annotations), AllocError>
+    ensures decls { IfOk result (λ out. out.0 ≡ decls ++ flat_map (λ n. n.item.decls) others.items) }
+    ensures annotations { IfOk result (λ out. out.1.0 ≡ map_of annotation_key_cmp (reverse (annotations.0 ++ flat_map (λ n. n.annotations.0) others.items))) }
+{
+    let Annotations(entries) = annotations;
+    let mut decls = decls.into_vec();
+    let mut entries = entries.into_vec();
+    for opening in others {
+        let Annotated { item, annotations } = opening;
+        push_all(&mut decls, item.decls)?;
+        push_entries(&mut entries, annotations)?;
+    }
+    let annotations = first_values(alloc, entries)?;
+    Ok((List::from_vec(decls), annotations))
+}
+
+// The one namespace that the openings are.
+fn opened_as(alloc: Global, openings: Openings) -> Result<Annotated<Namespace>, AllocError>
+    ensures { IfOk result (λ namespace. namespace ≡ opened_as openings.first (openings.first ∷ openings.others.items)) }
+{
+    let Openings { first, others } = openings;
+    let Annotated { item, annotations } = first;
+    let Namespace { name, decls, loc } = item;
+    let (decls, annotations) = with_others(alloc, decls, annotations, others)?;
+    let item = Namespace { name, decls, loc };
+    Ok(Annotated { item, annotations })
+}
+
+/// One namespace for each name, in the order of the first openings.
+pub fn joined_by_name(
+    alloc: Global,
+    namespaces: Vec<Annotated<Namespace>>,
+) -> Result<Vec<Annotated<Namespace>>, AllocError>
+    ensures { IfOk result (λ joined. joined.items ≡ joined_by_name namespaces.items) }
+{
+    let mut joined = Vec::new(alloc);
+    for openings in openings_by_name(alloc, namespaces)? {
+        joined.push(opened_as(alloc, openings)?)?;
+    }
+    Ok(joined)
+}
