@@ -9,6 +9,11 @@ entity A in [A, B, C];␤␤entity B in [A, B, C];␤␤entity C;␤|entity B in
 entity A in [A];␤|entity A in [A];
 entity a in [b];␤␤entity b;␤|entity\u{3000}b;\u{a0}entity a in [b,];
 action \"a\";␤|action a;
+entity C in [N::A, N::B];␤␤namespace N {␤  entity A;␤␤  entity B in [N::A];␤}␤|namespace N { entity A; } namespace N { entity B in A; } entity C in N::B;
+-|namespace N { entity A; } namespace N { entity A; }
+|namespace N {} namespace N {}
+entity C;␤␤namespace N {␤  entity A = {␤    x: N::B,␤  };␤␤  entity B;␤}␤|namespace N { entity A { x: B }; } entity C; namespace N { entity B; }
+namespace M {␤  entity T;␤}␤␤namespace N {␤  entity E = {␤    t: M::T,␤  };␤␤  action \"a\";␤␤  action \"b\" in [N::Action::\"a\"];␤}␤|@a(\"1\") namespace N { action a; } namespace M { entity T; } @a(\"2\") @b namespace N { action b in a; type T = M::T; entity E { t: T }; }
 -|entity A; entity A;
 -|entity A in X;
 -|entity A
