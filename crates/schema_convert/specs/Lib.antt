@@ -5,4 +5,5 @@ pub mod Members
 pub mod NamesIn
 pub mod Repeats
 pub mod Shadowings
+pub mod Translatable
 pub mod Translated
