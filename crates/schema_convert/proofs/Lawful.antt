@@ -1,5 +1,5 @@
 -- Where no fault is found.
-use Rattle.std.proofs.Common.{◌≡◌, ◌↔◌, ℕ, Bool, true, false, not, ◌||◌, cond, List, [], ◌∷◌, ◌++◌, Option, Some, None, is_none, is_some, find, if◌then◌else◌, refl, sym, ap, ◌∙◌, subst, append_assoc, append-nil, true≢false, filter_map, flat_map, option_to_list}
+use Rattle.std.proofs.Common.{◌≡◌, ◌↔◌, ℕ, Bool, true, false, List, [], ◌∷◌, ◌++◌, Option, Some, None, is_none, is_some, find, if◌then◌else◌, refl, sym, ap, ◌∙◌, append_assoc, append-nil, true≢false, filter_map, flat_map, option_to_list}
 use Rattle.std.specs.List.{AllByRecursion, list_any, cons_option}
 use Rattle.std.specs.Option.{option_or}
 use Rattle.cedar_data.specs.Span.{Span}
@@ -17,7 +17,7 @@ use Rattle.schema_syntax_tree.specs.declared.path.Path.{Path}
 use Rattle.schema_syntax_tree.specs.declared.pr.PR.TheVariants.{Principal, Resource}
 use Rattle.schema_json.specs.Keywords.{is_keyword_name}
 use Rattle.schema_convert_errors.specs.declared.errors.ToJsonSchemaError.{ToJsonSchemaError}
-use Rattle.schema_convert.specs.Faults.{is_reserved_path, reserved_namespace, twice, id_twice, action_twice, declared_twice, name_fault, reserved_id, keyword, common_fault, applies_fault, action_fault, first_some, or_else, entity_faults, action_faults, common_faults, declaration_faults, all_declaration_faults, faults_in, translation_faults}
+use Rattle.schema_convert.specs.Faults.{is_reserved_path, reserved_namespace, twice, id_twice, action_twice, declared_twice, name_fault, reserved_id, keyword, common_fault, applies_fault, action_fault, first_some, or_else, entity_faults, action_faults, common_faults, declaration_faults, all_declaration_faults, translation_faults}
 use Rattle.schema_convert.specs.Joined.{joined}
 use Rattle.schema_convert.specs.Members.{says_role, says_same, said_empty, member_fault, fault_after, missing, fault_behind, block_fault}
 use Rattle.schema_convert.specs.NamesIn.{entity_names_in, action_names_in, common_names_in, id_cmp, action_cmp}

@@ -1,3 +1,4 @@
+mod Among
 mod Borrowed
 mod FirstRepeat
 mod Gathered
@@ -8,3 +9,4 @@ mod Ranked
 mod Seen
 mod Sorted
 mod Valued
+mod Warnings

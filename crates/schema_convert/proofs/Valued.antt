@@ -1,5 +1,5 @@
 -- Look-ups in the map of entries that are put into it from the last one to the first.
-use Rattle.std.proofs.Common.{◌≡◌, ℕ, Bool, true, false, cond, List, [], ◌∷◌, ◌++◌, reverse, Option, Some, None, if◌then◌else◌, refl, sym, ap, ◌∙◌, true≢false, flat_map}
+use Rattle.std.proofs.Common.{◌≡◌, Bool, true, false, cond, List, [], ◌∷◌, ◌++◌, reverse, Option, Some, None, if◌then◌else◌, refl, sym, ap, ◌∙◌, true≢false, flat_map}
 use Rattle.std.specs.declared.cmp.Ordering.{Ordering}
 use Rattle.std.specs.declared.cmp.Ordering.TheVariants.{Less, Equal, Greater}
 use Rattle.std.specs.Ordering.{is_eq, ordering_reverse, match_ordering}
@@ -19,7 +19,7 @@ use Rattle.schema_convert.specs.Faults.{first_some}
 use Rattle.schema_convert.specs.Joined.{annotation_key_cmp, first_values}
 use Rattle.schema_convert.specs.Joined.{value_of}
 
-equal_from : (a : Ordering) → is_eq a ≡ true → a ≡ Equal
+pub equal_from : (a : Ordering) → is_eq a ≡ true → a ≡ Equal
 equal_from Less h = cc
 equal_from Equal h = refl
 equal_from Greater h = cc
@@ -28,11 +28,11 @@ or_assoc : {X : Type 0} (a b c : Option X) → option_or (option_or a b) c ≡ o
 or_assoc None b c = refl
 or_assoc (Some x) b c = refl
 
-or_none : {X : Type 0} (a : Option X) → option_or a None ≡ a
+pub or_none : {X : Type 0} (a : Option X) → option_or a None ≡ a
 or_none None = refl
 or_none (Some x) = refl
 
-by_cond : {X : Type 0} (b : Bool) (v : X) (o : Option X)
+pub by_cond : {X : Type 0} (b : Bool) (v : X) (o : Option X)
     → cond b (Some v) o ≡ option_or (if b then Some v else None) o
 by_cond true v o = refl
 by_cond false v o = refl
@@ -46,7 +46,7 @@ lookup-append {K} {X} test (e ∷ xs) ys = by (test e.0) (lookup-append test xs 
   by true h = refl
   by false h = h
 
-last-append : {K X : Type 0} (test : K → Bool) (xs ys : List (K × X))
+pub last-append : {K X : Type 0} (test : K → Bool) (xs ys : List (K × X))
     → last_at test (xs ++ ys) ≡ option_or (last_at test ys) (last_at test xs)
 last-append test [] ys = sym (or_none (last_at test ys))
 last-append test (e ∷ xs) ys =
@@ -98,7 +98,7 @@ module _ {K X : Type 0} (R : K → K → Ordering) (o : IsTotalOrder R) where
   put_by q k v e es Greater h i =
       put_greater (is_eq (R q k)) (is_eq (R q e.0)) v e.1 (lookup (is_at (R q)) es) (lookup (is_at (R q)) (insert_entry R es k v)) (apart R o q k e.0 (ap is_eq h)) i
 
-  put : (q k : K) (v : X) (es : List (K × X))
+  pub put : (q k : K) (v : X) (es : List (K × X))
       → lookup (is_at (R q)) (insert_entry R es k v) ≡ cond (is_eq (R q k)) (Some v) (lookup (is_at (R q)) es)
   put q k v [] = refl
   put q k v (e ∷ es) = put_by q k v e es (R k e.0) refl (put q k v es)

@@ -7,3 +7,4 @@ pub mod Repeats
 pub mod Shadowings
 pub mod Translatable
 pub mod Translated
+pub mod Warned

@@ -1,11 +1,15 @@
 ghost use Rattle.std.specs.Prelude.{◌≡◌, ◌↔◌, List, [], None, Some};
 ghost use Rattle.cedar_identifiers.specs.declared.any_id.AnyId.{AnyId};
+ghost use Rattle.cedar_names.specs.declared.extension_table.ExtensionTable.{ExtensionTable};
 ghost use Rattle.schema_syntax_tree.specs.declared.annotated.Annotated.{Annotated};
 ghost use Rattle.schema_syntax_tree.specs.declared.namespace.Namespace.{Namespace};
+ghost use Rattle.schema_convert_errors.specs.declared.warnings.SchemaWarning.{SchemaWarning};
 ghost use Rattle.schema_convert.specs.Faults.{first_some, translation_faults};
 ghost use Rattle.schema_convert.specs.Joined.{first_values, joined, value_of, HaveOwnNames};
 ghost use Rattle.schema_convert.specs.Repeats.{first_repeat, NoneRepeats, IsFirstRepeat};
+ghost use Rattle.schema_convert.specs.Shadowings.{shadowings};
 ghost use Rattle.schema_convert.specs.Translatable.{IsTranslatable};
+ghost use Rattle.schema_convert.specs.Warned.{IsAmong, IsWarnedOf};
 
 /// No two of the namespaces that a tree has have one name.
 pub fn names_are_own()
@@ -27,4 +31,10 @@ pub fn repeats_are_first<T: Ord>()
 /// namespace, and each block of an action has its principals and its resources once, and a context once at most.
 pub fn lawful_trees()
     ensures { (tree : List (Annotated Namespace)) → translation_faults tree ≡ [] ↔ IsTranslatable tree }
+{}
+
+/// A tree without faults is warned exactly of its declared types that have the name of a builtin type, and of its common
+/// types that have the name of an entity type of their namespace.
+pub fn warnings_are_of()
+    ensures { (tree : List (Annotated Namespace)) (table : ExtensionTable) (w : SchemaWarning) → translation_faults tree ≡ [] → IsAmong w (shadowings tree table) ↔ IsWarnedOf tree table w }
 {}
