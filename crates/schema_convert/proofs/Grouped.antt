@@ -1,10 +1,9 @@
 -- The openings of each name, as they are gathered.
-use Rattle.std.proofs.Common.{◌≡◌, List, [], ◌∷◌, map, Option, refl, sym, ap, ◌∙◌}
+use Rattle.std.proofs.Common.{◌≡◌, List, [], ◌∷◌, map, refl, ap, ◌∙◌}
 use Rattle.std.specs.Option.{option_cmp}
 use Rattle.std.specs.Cmp.{IsTotalOrder}
 use Rattle.std.specs.Cmp.Lexicographic.{lists_total, options_total}
 use Rattle.std.proofs.lemmas.Cmp.{on_total, nat_cmp_total}
-use Rattle.cedar_data.specs.Text.{text_cmp}
 use Rattle.cedar_identifiers.specs.declared.id.Id.{Id}
 use Rattle.schema_syntax_tree.specs.declared.annotated.Annotated.{Annotated}
 use Rattle.schema_syntax_tree.specs.declared.namespace.Namespace.{Namespace}
@@ -12,7 +11,7 @@ use Rattle.schema_syntax_tree.specs.declared.path.Path.{Path}
 use Rattle.std.specs.Str.{encode_utf8_all}
 use Rattle.schema_convert.specs.declared.openings.Openings.{Openings}
 use Rattle.schema_convert.specs.Joined.{first_openings, openings_of, opened_as, joined_by_name}
-use Rattle.schema_convert.specs.NamesIn.{id_text_cmp, path_cmp}
+use Rattle.schema_convert.specs.NamesIn.{path_cmp}
 use Rattle.schema_convert.proofs.Ranked.{with_all}
 
 -- the first opening, and all of them

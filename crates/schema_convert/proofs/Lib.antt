@@ -1,6 +1,12 @@
+mod Among
 mod Borrowed
+mod FirstRepeat
 mod Gathered
 mod Grouped
+mod Lawful
+mod Own
 mod Ranked
 mod Seen
 mod Sorted
+mod Valued
+mod Warnings

@@ -1,5 +1,5 @@
 -- Items that go into groups, one after the other.
-use Rattle.std.proofs.Common.{◌≡◌, ◌≢◌, ℕ, zero, suc, ◌+◌, ◌<◌, ◌≤◌, Bool, true, false, not, ◌||◌, cond, List, [], ◌∷◌, ◌++◌, length, get_or, set, map, filter, Option, Some, None, refl, sym, ap, ◌∙◌, append_assoc, append-nil, arith, true≢false}
+use Rattle.std.proofs.Common.{◌≡◌, ℕ, zero, suc, ◌<◌, Bool, true, false, not, ◌||◌, cond, List, [], ◌∷◌, ◌++◌, length, get_or, set, map, filter, Option, Some, None, refl, sym, ap, ◌∙◌, append_assoc, append-nil, arith, true≢false}
 use Rattle.std.specs.declared.cmp.Ordering.{Ordering}
 use Rattle.std.specs.declared.cmp.Ordering.TheVariants.{Less, Equal, Greater}
 use Rattle.std.specs.Ordering.{is_eq, ordering_reverse}
@@ -22,7 +22,7 @@ abbrev pub AreApart : {N : Type 0} → (N → N → Bool) → List N → Type 0
 AreApart same [] = Unit {0}
 AreApart same (x ∷ xs) = (list_any (same x) xs ≡ false) × AreApart same xs
 
-either_false : (a b : Bool) → (a || b) ≡ false → (a ≡ false) × (b ≡ false)
+pub either_false : (a b : Bool) → (a || b) ≡ false → (a ≡ false) × (b ≡ false)
 either_false true b h = absurd (true≢false h)
 either_false false b h = (refl, h)
 
@@ -69,7 +69,8 @@ module _ {N : Type 0} where
   any_filter p k h [] = refl
   any_filter p k h (x ∷ xs) = any_filter_by p k x xs (any_filter p k h xs) (h x) (k x) refl
 
-  none_filter_by : (p k : N → Bool) (x : N) (xs : List N) → list_any p (filter k xs) ≡ false → p x ≡ false → (b : Bool)
+  none_filter_by : (p k : N → Bool) (x : N) (xs : List N) → list_any p (filter k xs) ≡ false → p x ≡ false
+      → (b : Bool)
       → list_any p (cond b (x ∷ filter k xs) (filter k xs)) ≡ false
   none_filter_by p k x xs i h true = rw h i
   none_filter_by p k x xs i h false = i
@@ -80,7 +81,8 @@ module _ {N : Type 0} where
       let both = either_false (p x) (list_any p xs) h in
       none_filter_by p k x xs (none_filter p k xs both.1) both.0 (k x)
 
-  none_removed_by : (p : N → Bool) (x : N) (xs : List N) → list_any p (filter (λ y. not (p y)) xs) ≡ false → (b : Bool)
+  none_removed_by : (p : N → Bool) (x : N) (xs : List N) → list_any p (filter (λ y. not (p y)) xs) ≡ false
+      → (b : Bool)
       → p x ≡ b → list_any p (cond (not b) (x ∷ filter (λ y. not (p y)) xs) (filter (λ y. not (p y)) xs)) ≡ false
   none_removed_by p x xs i true e = i
   none_removed_by p x xs i false e = rw e i
@@ -159,7 +161,8 @@ module _ {N : Type 0} where
 
   module _ (same : N → N → Bool) where
     apart_filter_by : (k : N → Bool) (x : N) (xs : List N) → AreApart same (filter k xs)
-        → list_any (same x) (filter k xs) ≡ false → (b : Bool) → AreApart same (cond b (x ∷ filter k xs) (filter k xs))
+        → list_any (same x) (filter k xs) ≡ false → (b : Bool)
+        → AreApart same (cond b (x ∷ filter k xs) (filter k xs))
     apart_filter_by k x xs i none true = (none, i)
     apart_filter_by k x xs i none false = i
 
@@ -169,7 +172,7 @@ module _ {N : Type 0} where
         apart_filter_by k x xs (apart_filter k xs h.1) (none_filter (same x) k xs h.0) (k x)
 
     -- first ones are apart
-    firsts_apart : (xs : List N) → AreApart same (first_of_each same xs)
+    pub firsts_apart : (xs : List N) → AreApart same (first_of_each same xs)
     firsts_apart [] = tt
     firsts_apart (x ∷ xs) =
         (none_removed (same x) (first_of_each same xs), apart_filter (λ y. not (same x y)) (first_of_each same xs) (firsts_apart xs))
@@ -203,13 +206,15 @@ module _ {N P : Type 0} (name : N → P) (R : P → P → Ordering) where
   pub record Grouped (all left : List N) (entries : List (P × ℕ)) (groups : List (N × List N)) : Type 0 where
     pub done : List N
     pub split : done ++ left ≡ all
-    pub placed : (q : P) → lookup (is_at (R q)) entries ≡ place_of (λ n. is_eq (R q (name n))) (first_of_each are_same done)
+    pub placed : (q : P)
+        → lookup (is_at (R q)) entries ≡ place_of (λ n. is_eq (R q (name n))) (first_of_each are_same done)
     pub grouped : groups ≡ map (with_all done) (first_of_each are_same done)
 
   pub begun : (all : List N) → Grouped all all [] []
   begun all = record { done = []; split = refl; placed = λ q. refl; grouped = refl }
 
-  pub over : (all left : List N) (entries : List (P × ℕ)) (groups : List (N × List N)) → Grouped all left entries groups
+  pub over : (all left : List N) (entries : List (P × ℕ)) (groups : List (N × List N))
+      → Grouped all left entries groups
       → length left ≡ 0 → groups ≡ map (with_all all) (first_of_each are_same all)
   over all [] entries groups h e =
       let same : h.done ≡ all = sym (append-nil h.done) ∙ h.split in
@@ -246,14 +251,16 @@ module _ {N P : Type 0} (name : N → P) (R : P → P → Ordering) where
     not_false false h = absurd (true≢false h)
 
     any_first_by : (x n : N) (xs : List N)
-        → list_any (λ y. are_same y n) (first_of_each are_same xs) ≡ list_any (λ y. are_same y n) xs → (b : Bool) → are_same x n ≡ b
+        → list_any (λ y. are_same y n) (first_of_each are_same xs) ≡ list_any (λ y. are_same y n) xs → (b : Bool)
+        → are_same x n ≡ b
         → (b || list_any (λ y. are_same y n) (filter (λ y. not (are_same x y)) (first_of_each are_same xs))) ≡ (b || list_any (λ y. are_same y n) xs)
     any_first_by x n xs i true e = refl
     any_first_by x n xs i false e =
         any_filter (λ y. are_same y n) (λ y. not (are_same x y)) (λ y h. sym (alike (name x) (name y) (name n) (not_false (are_same x y) h)) ∙ e) (first_of_each are_same xs) ∙ i
 
     -- one of the first ones is the same as n exactly where one of all is
-    any_first : (n : N) (xs : List N) → list_any (λ y. are_same y n) (first_of_each are_same xs) ≡ list_any (λ y. are_same y n) xs
+    any_first : (n : N) (xs : List N)
+        → list_any (λ y. are_same y n) (first_of_each are_same xs) ≡ list_any (λ y. are_same y n) xs
     any_first n [] = refl
     any_first n (x ∷ xs) = any_first_by x n xs (any_first n xs) (are_same x n) refl
 

@@ -109,5 +109,6 @@ abbrev pub faults_in : List (Annotated Namespace) → List ToJsonSchemaError
 faults_in namespaces =
     or_else (filter_map name_fault namespaces) (all_declaration_faults namespaces)
 
+-- The faults of a tree: those of its joined namespaces.
 abbrev pub translation_faults : List (Annotated Namespace) → List ToJsonSchemaError
 translation_faults tree = faults_in (joined tree)

@@ -1,6 +1,8 @@
 -- The namespaces of a tree, those of one name as one.
-use Rattle.std.specs.Prelude.{Bool, not, List, [], ◌∷◌, ◌++◌, map, reverse, Option, Some, None}
-use Rattle.std.specs.List.{filter, flat_map}
+use Rattle.std.specs.Prelude.{◌≡◌, ℕ, Bool, false, not, List, [], ◌∷◌, ◌++◌, map, reverse, Option, Some, None}
+use Rattle.std.specs.BTreeMap.{is_at}
+use Rattle.std.specs.List.{filter, flat_map, list_any}
+use Rattle.std.specs.Map.{lookup}
 use Rattle.std.specs.Option.{option_cmp}
 use Rattle.std.specs.Ordering.{is_eq}
 use Rattle.std.specs.declared.cmp.Ordering.{Ordering}
@@ -76,3 +78,13 @@ empty_namespace (d ∷ ds) = record { item = record { name = None; decls = d ∷
 -- One namespace for each name, and behind them the one of all declarations outside of these, where there are any.
 abbrev pub joined : List (Annotated Namespace) → List (Annotated Namespace)
 joined tree = joined_by_name (named tree) ++ empty_namespace (outside tree)
+
+-- the value at an annotation's key, which is none where the key stands alone
+abbrev pub value_of : AnyId → Annotations → Option (Option (List ℕ))
+value_of key annotations = lookup (is_at (annotation_key_cmp key)) annotations.0
+
+-- no namespace has one name with one before it
+abbrev pub HaveOwnNames : List (Annotated Namespace) → Type 0
+HaveOwnNames namespaces =
+    (before after : List (Annotated Namespace)) (n : Annotated Namespace)
+    → namespaces ≡ before ++ n ∷ after → list_any (λ b. have_one_name b n) before ≡ false

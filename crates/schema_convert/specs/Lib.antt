@@ -5,4 +5,6 @@ pub mod Members
 pub mod NamesIn
 pub mod Repeats
 pub mod Shadowings
+pub mod Translatable
 pub mod Translated
+pub mod Warned

@@ -4,6 +4,7 @@
 pub mod convert;
 mod faults;
 mod joined;
+pub mod laws;
 mod members;
 mod names_in;
 mod openings;
@@ -11,6 +12,9 @@ mod repeats;
 mod shadowing;
 
 pub use convert::{cedar_schema_to_json_schema, parse_cedar_schema_fragment};
+pub use laws::{
+    first_openings_have_values, lawful_trees, names_are_own, repeats_are_first, warnings_are_of,
+};
 pub use schema_convert_errors::{
     CedarSchemaParseErrors, DuplicateContext, DuplicateDeclarations, DuplicateNamespace,
     DuplicatePrincipalOrResource, MissingOrEmpty, NO_PR_HELP_MSG, NoPrincipalOrResource,

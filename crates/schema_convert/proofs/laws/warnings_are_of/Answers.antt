@@ -1,0 +1,5 @@
+use Rattle.schema_convert.proofs.Warnings.{warned}
+use Rattle.schema_convert.proofs.laws.warnings_are_of.Goals as goal
+
+pub returns : goal.returns
+returns c tree table w h = warned tree table w h
