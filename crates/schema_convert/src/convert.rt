@@ -21,11 +21,11 @@ use std::alloc::Global;
 /// declaration.
 pub fn cedar_schema_to_json_schema(
     alloc: Global,
-    schema: Schema,
+    schema: Schema<'_>,
     table: &ExtensionTable,
 ) -> Result<(Fragment<RawName>, Vec<SchemaWarning>), ToJsonSchemaFailure>
-    ensures translation { IfOk result (λ out. IsTranslation schema table.now out.0 out.1.items) }
-    ensures faults { IfErr result (IsFailureOf schema) }
+    ensures translation { IfOk result (λ out. IsTranslation schema.entry table.now out.0 out.1.items) }
+    ensures faults { IfErr result (IsFailureOf schema.entry) }
 {
     let namespaces = joined(alloc, schema)?;
     let faults = faults_in(alloc, namespaces.as_slice())?;

@@ -6,17 +6,19 @@ ghost use Rattle.schema_convert.specs.Faults.{is_reserved_path, reserved_namespa
 use crate::members::block_fault;
 use crate::names_in::{action_names_in, common_names_in, entity_names_in};
 use crate::repeats::first_repeat;
-use cedar_data::{CloneIn, Node, NonEmpty, Text};
-use cedar_identifiers::{Id, is_cedar};
+use cedar_data::{Node, NonEmpty, Text};
+use cedar_identifiers::is_cedar;
 use schema_convert_errors::{
     DuplicateDeclarations, ReservedName, ReservedSchemaKeyword, ToJsonSchemaError,
 };
 use schema_json::is_keyword_name;
-use schema_syntax_tree::{ActionDecl, Annotated, AppDecl, Declaration, Namespace, Path};
+use schema_syntax_tree::{
+    ActionDecl, Annotated, AppDecl, Declaration, Namespace, Path, SrcId, SrcStr,
+};
 use std::alloc::{AllocError, Global};
 
 // Whether an id of the path is `__cedar`.
-fn is_reserved_path(path: &Path) -> bool
+fn is_reserved_path(path: &Path<'_>) -> bool
     ensures { result ≡ is_reserved_path path.now }
 {
     for id in path.iter() {
@@ -30,7 +32,7 @@ fn is_reserved_path(path: &Path) -> bool
 // The fault of a namespace whose name is reserved.
 fn reserved_namespace(
     alloc: Global,
-    name: &Option<Path>,
+    name: &Option<Path<'_>>,
 ) -> Result<Option<ToJsonSchemaError>, AllocError>
     ensures { IfOk result (λ fault. fault ≡ reserved_namespace name.now) }
 {
@@ -48,49 +50,59 @@ fn reserved_namespace(
 }
 
 // The fault of a name that stands twice.
-fn twice<T>(
-    alloc: Global,
-    text: &Text,
-    first: &Node<T>,
-    second: &Node<T>,
-) -> Result<ToJsonSchemaError, AllocError>
-    ensures { IfOk result (λ fault. fault ≡ ToJsonSchemaError.DuplicateDeclarations (record { decl = text.now; loc1 = first.now.loc; loc2 = second.now.loc })) }
+fn twice<T>(decl: Text, first: &Node<T>, second: &Node<T>) -> ToJsonSchemaError
+    ensures { result ≡ ToJsonSchemaError.DuplicateDeclarations (record { decl = decl; loc1 = first.now.loc; loc2 = second.now.loc }) }
 {
-    let fault = DuplicateDeclarations {
-        decl: text.clone_in(alloc)?,
+    ToJsonSchemaError::DuplicateDeclarations(DuplicateDeclarations {
+        decl,
         loc1: first.loc,
         loc2: second.loc,
-    };
-    Ok(ToJsonSchemaError::DuplicateDeclarations(fault))
+    })
+}
+
+// The word as a text.
+fn id_text(alloc: Global, id: &SrcId<'_>) -> Result<Text, AllocError>
+    ensures { IfOk result (λ text. text ≡ id.now.text) }
+{
+    Text::from_str(alloc, id.as_str())
 }
 
 // The first of the ids that stands twice.
-fn id_twice(alloc: Global, names: &[&Node<Id>]) -> Result<Option<ToJsonSchemaError>, AllocError>
+fn id_twice(
+    alloc: Global,
+    names: &[&Node<SrcId<'_>>],
+) -> Result<Option<ToJsonSchemaError>, AllocError>
     ensures { IfOk result (λ fault. fault ≡ id_twice (map (λ x. x.now) names.now)) }
 {
     match first_repeat(alloc, names)? {
         None => Ok(None),
-        Some((first, second)) => Ok(Some(twice(alloc, &second.node.text, first, second)?)),
+        Some((first, second)) => {
+            let text = id_text(alloc, &second.node)?;
+            Ok(Some(twice(text, first, second)))
+        }
     }
 }
 
 // The first of the actions that stands twice.
 fn action_twice(
     alloc: Global,
-    names: &[&Node<Text>],
+    names: &[&Node<SrcStr<'_>>],
 ) -> Result<Option<ToJsonSchemaError>, AllocError>
     ensures { IfOk result (λ fault. fault ≡ action_twice (map (λ x. x.now) names.now)) }
 {
     match first_repeat(alloc, names)? {
         None => Ok(None),
-        Some((first, second)) => Ok(Some(twice(alloc, &second.node, first, second)?)),
+        Some((first, second)) => {
+            let text = second.node.to_text(alloc)?;
+            Ok(Some(twice(text, first, second)))
+        }
     }
 }
 
 // The first repeat of the entity types, or else of the actions, or else of the common types.
-fn declared_twice(
+fn declared_twice<'a>(
     alloc: Global,
-    decls: &[Annotated<Node<Declaration>>],
+    decls: &[Annotated<'a, Node<Declaration<'a>>>],
 ) -> Result<Option<ToJsonSchemaError>, AllocError>
     ensures { IfOk result (λ fault. fault ≡ declared_twice decls.now) }
 {
@@ -107,9 +119,9 @@ fn declared_twice(
 }
 
 // The fault of the namespace's name, or else a repeat in it.
-fn name_fault(
+fn name_fault<'a>(
     alloc: Global,
-    namespace: &Annotated<Namespace>,
+    namespace: &Annotated<'a, Namespace<'a>>,
 ) -> Result<Option<ToJsonSchemaError>, AllocError>
     ensures { IfOk result (λ fault. fault ≡ name_fault namespace.now) }
 {
@@ -133,9 +145,9 @@ fn push_fault(
 }
 
 // The faults of the first step.
-fn name_faults(
+fn name_faults<'a>(
     alloc: Global,
-    namespaces: &[Annotated<Namespace>],
+    namespaces: &[Annotated<'a, Namespace<'a>>],
 ) -> Result<Vec<ToJsonSchemaError>, AllocError>
     ensures { IfOk result (λ faults. faults.items ≡ filter_map name_fault namespaces.now) }
 {
@@ -148,35 +160,35 @@ fn name_faults(
 }
 
 // The fault of a name that is reserved.
-fn reserved_id(alloc: Global, id: &Node<Id>) -> Result<Option<ToJsonSchemaError>, AllocError>
+fn reserved_id(alloc: Global, id: &Node<SrcId<'_>>) -> Result<Option<ToJsonSchemaError>, AllocError>
     ensures { IfOk result (λ fault. fault ≡ reserved_id id.now) }
 {
     if !is_cedar(id.node.as_str()) {
         return Ok(None);
     }
     let fault = ReservedName {
-        name: id.node.text.clone_in(alloc)?,
+        name: id_text(alloc, &id.node)?,
         loc: id.loc,
     };
     Ok(Some(ToJsonSchemaError::ReservedName(fault)))
 }
 
 // The fault of a common type that is named by one of the eight words that no common type may have for its name.
-fn keyword(alloc: Global, id: &Node<Id>) -> Result<Option<ToJsonSchemaError>, AllocError>
+fn keyword(alloc: Global, id: &Node<SrcId<'_>>) -> Result<Option<ToJsonSchemaError>, AllocError>
     ensures { IfOk result (λ fault. fault ≡ keyword id.now) }
 {
     if !is_keyword_name(id.node.as_str()) {
         return Ok(None);
     }
     let fault = ReservedSchemaKeyword {
-        keyword: id.node.text.clone_in(alloc)?,
+        keyword: id_text(alloc, &id.node)?,
         loc: id.loc,
     };
     Ok(Some(ToJsonSchemaError::ReservedSchemaKeyword(fault)))
 }
 
 // The fault of a common type's name.
-fn common_fault(alloc: Global, id: &Node<Id>) -> Result<Option<ToJsonSchemaError>, AllocError>
+fn common_fault(alloc: Global, id: &Node<SrcId<'_>>) -> Result<Option<ToJsonSchemaError>, AllocError>
     ensures { IfOk result (λ fault. fault ≡ common_fault id.now) }
 {
     match reserved_id(alloc, id)? {
@@ -188,8 +200,8 @@ fn common_fault(alloc: Global, id: &Node<Id>) -> Result<Option<ToJsonSchemaError
 // The fault of an action declaration's block.
 fn applies_fault(
     alloc: Global,
-    names: &NonEmpty<Node<Text>>,
-    block: &Option<Node<NonEmpty<Node<AppDecl>>>>,
+    names: &NonEmpty<Node<SrcStr<'_>>>,
+    block: &Option<Node<NonEmpty<Node<AppDecl<'_>>>>>,
 ) -> Result<Option<ToJsonSchemaError>, AllocError>
     ensures { IfOk result (λ fault. fault ≡ applies_fault block.now names.now) }
 {
@@ -200,7 +212,7 @@ fn applies_fault(
 }
 
 // The fault of a declaration of actions.
-fn action_fault(alloc: Global, decl: &Declaration) -> Result<Option<ToJsonSchemaError>, AllocError>
+fn action_fault(alloc: Global, decl: &Declaration<'_>) -> Result<Option<ToJsonSchemaError>, AllocError>
     ensures { IfOk result (λ fault. fault ≡ action_fault decl.now) }
 {
     match decl {
@@ -212,7 +224,7 @@ fn action_fault(alloc: Global, decl: &Declaration) -> Result<Option<ToJsonSchema
 }
 
 // All reserved names of entity types.
-fn entity_faults(alloc: Global, ids: &[&Node<Id>]) -> Result<Vec<ToJsonSchemaError>, AllocError>
+fn entity_faults(alloc: Global, ids: &[&Node<SrcId<'_>>]) -> Result<Vec<ToJsonSchemaError>, AllocError>
     ensures { IfOk result (λ faults. faults.items ≡ filter_map reserved_id (map (λ x. x.now) ids.now)) }
 {
     let mut faults = Vec::new(alloc);
@@ -224,9 +236,9 @@ fn entity_faults(alloc: Global, ids: &[&Node<Id>]) -> Result<Vec<ToJsonSchemaErr
 }
 
 // The first fault of each declaration of actions.
-fn action_faults(
+fn action_faults<'a>(
     alloc: Global,
-    decls: &[Annotated<Node<Declaration>>],
+    decls: &[Annotated<'a, Node<Declaration<'a>>>],
 ) -> Result<Vec<ToJsonSchemaError>, AllocError>
     ensures { IfOk result (λ faults. faults.items ≡ action_faults decls.now) }
 {
@@ -239,7 +251,7 @@ fn action_faults(
 }
 
 // The first fault of a common type's name.
-fn first_common(alloc: Global, ids: &[&Node<Id>]) -> Result<Option<ToJsonSchemaError>, AllocError>
+fn first_common(alloc: Global, ids: &[&Node<SrcId<'_>>]) -> Result<Option<ToJsonSchemaError>, AllocError>
     ensures { IfOk result (λ fault. fault ≡ first_some common_fault (map (λ x. x.now) ids.now)) }
 {
     for id in ids {
@@ -251,7 +263,7 @@ fn first_common(alloc: Global, ids: &[&Node<Id>]) -> Result<Option<ToJsonSchemaE
 }
 
 // The first fault of a common type's name, as a list.
-fn common_faults(alloc: Global, ids: &[&Node<Id>]) -> Result<Vec<ToJsonSchemaError>, AllocError>
+fn common_faults(alloc: Global, ids: &[&Node<SrcId<'_>>]) -> Result<Vec<ToJsonSchemaError>, AllocError>
     ensures { IfOk result (λ faults. faults.items ≡ option_to_list (first_some common_fault (map (λ x. x.now) ids.now))) }
 {
     let fault = first_common(alloc, ids)?;
@@ -261,9 +273,9 @@ fn common_faults(alloc: Global, ids: &[&Node<Id>]) -> Result<Vec<ToJsonSchemaErr
 }
 
 // The faults of the second step in one namespace.
-fn declaration_faults(
+fn declaration_faults<'a>(
     alloc: Global,
-    decls: &[Annotated<Node<Declaration>>],
+    decls: &[Annotated<'a, Node<Declaration<'a>>>],
 ) -> Result<Vec<ToJsonSchemaError>, AllocError>
     ensures { IfOk result (λ faults. faults.items ≡ declaration_faults decls.now) }
 {
@@ -294,9 +306,9 @@ fn push_faults(
 }
 
 // The faults of the second step in all namespaces.
-fn all_declaration_faults(
+fn all_declaration_faults<'a>(
     alloc: Global,
-    namespaces: &[Annotated<Namespace>],
+    namespaces: &[Annotated<'a, Namespace<'a>>],
 ) -> Result<Vec<ToJsonSchemaError>, AllocError>
     ensures { IfOk result (λ faults. faults.items ≡ all_declaration_faults namespaces.now) }
 {
@@ -309,9 +321,9 @@ fn all_declaration_faults(
 }
 
 /// What keeps these namespaces from being a fragment, in order; nothing where they are one.
-pub fn faults_in(
+pub fn faults_in<'a>(
     alloc: Global,
-    namespaces: &[Annotated<Namespace>],
+    namespaces: &[Annotated<'a, Namespace<'a>>],
 ) -> Result<Vec<ToJsonSchemaError>, AllocError>
     ensures { IfOk result (λ faults. faults.items ≡ faults_in namespaces.now) }
 {

@@ -3,19 +3,18 @@ ghost use Rattle.schema_convert.specs.Joined.{named_so, unnamed_so, empty_namesp
 
 use crate::openings::{joined_by_name, push_all};
 use cedar_data::{List, Node};
-use cedar_identifiers::Annotations;
-use schema_syntax_tree::{Annotated, Declaration, Namespace, Schema};
+use schema_syntax_tree::{Annotated, Declaration, Namespace, Schema, SrcAnnotations};
 use std::alloc::{AllocError, Global};
 
 // Adds the namespace where it has a name, and else its declarations to those outside.
-fn push_namespace(
+fn push_namespace<'a>(
     alloc: Global,
-    namespaces: &mut Vec<Annotated<Namespace>>,
-    outside: &mut Vec<Annotated<Node<Declaration>>>,
-    namespace: Annotated<Namespace>,
+    namespaces: &mut Vec<Annotated<'a, Namespace<'a>>>,
+    outside: &mut Vec<Annotated<'a, Node<Declaration<'a>>>>,
+    namespace: Annotated<'a, Namespace<'a>>,
 ) -> Result<(), AllocError>
-    ensures named { OnOk result (namespaces.new.items ≡ namespaces.old.items ++ named_so namespace.item.name namespace) }
-    ensures outside { OnOk result (outside.new.items ≡ outside.old.items ++ unnamed_so namespace.item.name namespace.item.decls) }
+    ensures named { OnOk result (namespaces.new.items ≡ namespaces.old.items ++ named_so namespace.entry.item.name namespace.entry) }
+    ensures outside { OnOk result (outside.new.items ≡ outside.old.items ++ unnamed_so namespace.entry.item.name namespace.entry.item.decls) }
 {
     if namespace.item.name.is_some() {
         namespaces.push(namespace)?;
@@ -25,12 +24,12 @@ fn push_namespace(
 }
 
 // Adds the namespace of the declarations outside of every other, where there are any.
-fn push_empty(
+fn push_empty<'a>(
     alloc: Global,
-    namespaces: &mut Vec<Annotated<Namespace>>,
-    outside: Vec<Annotated<Node<Declaration>>>,
+    namespaces: &mut Vec<Annotated<'a, Namespace<'a>>>,
+    outside: Vec<Annotated<'a, Node<Declaration<'a>>>>,
 ) -> Result<(), AllocError>
-    ensures { OnOk result (namespaces.new.items ≡ namespaces.old.items ++ empty_namespace outside.items) }
+    ensures { OnOk result (namespaces.new.items ≡ namespaces.old.items ++ empty_namespace outside.entry.items) }
 {
     if outside.is_empty() {
         return Ok(());
@@ -42,15 +41,18 @@ fn push_empty(
     };
     namespaces.push(Annotated {
         item,
-        annotations: Annotations::new(alloc),
+        annotations: SrcAnnotations::new(alloc),
     })?;
     Ok(())
 }
 
 /// The namespaces that a tree has: one for each name, in the order of the first openings, and behind them the one of all
 /// declarations that stand outside of these, where there are any.
-pub fn joined(alloc: Global, schema: Schema) -> Result<Vec<Annotated<Namespace>>, AllocError>
-    ensures { IfOk result (λ namespaces. namespaces.items ≡ joined schema) }
+pub fn joined<'a>(
+    alloc: Global,
+    schema: Schema<'a>,
+) -> Result<Vec<Annotated<'a, Namespace<'a>>>, AllocError>
+    ensures { IfOk result (λ namespaces. namespaces.items ≡ joined schema.entry) }
 {
     let mut named = Vec::new(alloc);
     let mut outside = Vec::new(alloc);

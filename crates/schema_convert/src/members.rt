@@ -3,16 +3,16 @@ ghost use Rattle.std.specs.List.{list_any};
 ghost use Rattle.std.specs.Option.{option_copied};
 ghost use Rattle.schema_convert.specs.Members.{says_role, says_same, said_twice, empty_role, missing_role, said_empty, member_fault, missing, block_fault};
 
-use cedar_data::{CloneIn, Loc, Node, NonEmpty, Text};
+use cedar_data::{Loc, Node, NonEmpty};
 use schema_convert_errors::{
     DuplicateContext, DuplicatePrincipalOrResource, MissingOrEmpty, NoPrincipalOrResource,
     ToJsonSchemaError,
 };
-use schema_syntax_tree::{AppDecl, PR};
+use schema_syntax_tree::{AppDecl, PR, SrcStr};
 use std::alloc::{AllocError, Global};
 
 // Whether the member says which principals, or which resources, as the kind is.
-fn says_role(kind: PR, member: &AppDecl) -> bool
+fn says_role(kind: PR, member: &AppDecl<'_>) -> bool
     ensures { result ≡ says_role kind member.now }
 {
     match (kind, member) {
@@ -23,7 +23,7 @@ fn says_role(kind: PR, member: &AppDecl) -> bool
 }
 
 // Whether both say the same: which principals, which resources, or the context.
-fn says_same(member: &AppDecl, other: &AppDecl) -> bool
+fn says_same(member: &AppDecl<'_>, other: &AppDecl<'_>) -> bool
     ensures { result ≡ says_same member.now other.now }
 {
     match member {
@@ -38,14 +38,14 @@ fn says_same(member: &AppDecl, other: &AppDecl) -> bool
 // The fault of a second member that says the same.
 fn said_twice(
     alloc: Global,
-    name: &Node<Text>,
-    member: &AppDecl,
+    name: &Node<SrcStr<'_>>,
+    member: &AppDecl<'_>,
     loc1: Option<Loc>,
     loc2: Option<Loc>,
 ) -> Result<ToJsonSchemaError, AllocError>
     ensures { IfOk result (λ fault. fault ≡ said_twice name.now member.now loc1 loc2) }
 {
-    let name = name.node.clone_in(alloc)?;
+    let name = name.node.to_text(alloc)?;
     match member {
         AppDecl::PR(list) => {
             let fault = DuplicatePrincipalOrResource {
@@ -65,7 +65,7 @@ fn said_twice(
 
 fn empty_role(
     alloc: Global,
-    name: &Node<Text>,
+    name: &Node<SrcStr<'_>>,
     kind: PR,
     loc: Option<Loc>,
 ) -> Result<ToJsonSchemaError, AllocError>
@@ -73,19 +73,19 @@ fn empty_role(
 {
     let fault = NoPrincipalOrResource {
         kind,
-        name: name.node.clone_in(alloc)?,
+        name: name.node.to_text(alloc)?,
         missing_or_empty: MissingOrEmpty::Empty { loc },
         name_loc: name.loc,
     };
     Ok(ToJsonSchemaError::NoPrincipalOrResource(fault))
 }
 
-fn missing_role(alloc: Global, name: &Node<Text>, kind: PR) -> Result<ToJsonSchemaError, AllocError>
+fn missing_role(alloc: Global, name: &Node<SrcStr<'_>>, kind: PR) -> Result<ToJsonSchemaError, AllocError>
     ensures { IfOk result (λ fault. fault ≡ missing_role name.now kind) }
 {
     let fault = NoPrincipalOrResource {
         kind,
-        name: name.node.clone_in(alloc)?,
+        name: name.node.to_text(alloc)?,
         missing_or_empty: MissingOrEmpty::Missing,
         name_loc: name.loc,
     };
@@ -95,8 +95,8 @@ fn missing_role(alloc: Global, name: &Node<Text>, kind: PR) -> Result<ToJsonSche
 // The fault of `[]` in place of principals or resources.
 fn said_empty(
     alloc: Global,
-    name: &Node<Text>,
-    member: &AppDecl,
+    name: &Node<SrcStr<'_>>,
+    member: &AppDecl<'_>,
     loc: Option<Loc>,
 ) -> Result<Option<ToJsonSchemaError>, AllocError>
     ensures { IfOk result (λ fault. fault ≡ said_empty name.now member.now loc) }
@@ -113,7 +113,10 @@ fn said_empty(
 }
 
 // The first of these members that says the same.
-fn first_same<'a>(before: &[&'a Node<AppDecl>], member: &AppDecl) -> Option<&'a Node<AppDecl>>
+fn first_same<'a, 's>(
+    before: &[&'a Node<AppDecl<'s>>],
+    member: &AppDecl<'s>,
+) -> Option<&'a Node<AppDecl<'s>>>
     ensures { option_copied result ≡ find (λ m. says_same member.now m.node) (map (λ x. x.now) before.now) }
 {
     for other in before {
@@ -126,11 +129,11 @@ fn first_same<'a>(before: &[&'a Node<AppDecl>], member: &AppDecl) -> Option<&'a 
 }
 
 // The fault of a member behind these: one of them says the same, or else it is `[]`.
-fn member_fault(
+fn member_fault<'s>(
     alloc: Global,
-    name: &Node<Text>,
-    before: &[&Node<AppDecl>],
-    member: &Node<AppDecl>,
+    name: &Node<SrcStr<'s>>,
+    before: &[&Node<AppDecl<'s>>],
+    member: &Node<AppDecl<'s>>,
 ) -> Result<Option<ToJsonSchemaError>, AllocError>
     ensures { IfOk result (λ fault. fault ≡ member_fault name.now (map (λ x. x.now) before.now) member.now) }
 {
@@ -144,7 +147,7 @@ fn member_fault(
 }
 
 // Whether one of the members says which principals, or which resources, as the kind is.
-fn has_role(kind: PR, members: &[&Node<AppDecl>]) -> bool
+fn has_role(kind: PR, members: &[&Node<AppDecl<'_>>]) -> bool
     ensures { result ≡ list_any (λ m. says_role kind m.node) (map (λ x. x.now) members.now) }
 {
     for member in members {
@@ -158,8 +161,8 @@ fn has_role(kind: PR, members: &[&Node<AppDecl>]) -> bool
 // What is missing where these are all: the resources, or else the principals.
 fn missing(
     alloc: Global,
-    name: &Node<Text>,
-    members: &[&Node<AppDecl>],
+    name: &Node<SrcStr<'_>>,
+    members: &[&Node<AppDecl<'_>>],
 ) -> Result<Option<ToJsonSchemaError>, AllocError>
     ensures { IfOk result (λ out. out ≡ missing name.now (map (λ x. x.now) members.now)) }
 {
@@ -176,8 +179,8 @@ fn missing(
 /// compared with each.
 pub fn block_fault(
     alloc: Global,
-    name: &Node<Text>,
-    members: &NonEmpty<Node<AppDecl>>,
+    name: &Node<SrcStr<'_>>,
+    members: &NonEmpty<Node<AppDecl<'_>>>,
 ) -> Result<Option<ToJsonSchemaError>, AllocError>
     ensures { IfOk result (λ out. out ≡ block_fault name.now members.now) }
 {

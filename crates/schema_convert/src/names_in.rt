@@ -2,9 +2,8 @@ ghost use Rattle.std.specs.Prelude.{◌≡◌, ◌++◌, map, IfOk, OnOk};
 ghost use Rattle.cedar_data.specs.NonEmpty.{items_left};
 ghost use Rattle.schema_convert.specs.NamesIn.{entities_of, actions_of, commons_of, entity_names_in, action_names_in, common_names_in};
 
-use cedar_data::{Node, NonEmptyIter, Text};
-use cedar_identifiers::Id;
-use schema_syntax_tree::{ActionDecl, Annotated, Declaration};
+use cedar_data::{Node, NonEmptyIter};
+use schema_syntax_tree::{ActionDecl, Annotated, Declaration, SrcId, SrcStr};
 use std::alloc::{AllocError, Global};
 
 // Adds the items, in order.
@@ -18,7 +17,10 @@ fn push_all<'a, T>(items: &mut Vec<&'a T>, more: NonEmptyIter<'a, T>) -> Result<
 }
 
 // Adds the names of the entity types that the declaration declares.
-fn push_entities<'a>(names: &mut Vec<&'a Node<Id>>, decl: &'a Declaration) -> Result<(), AllocError>
+fn push_entities<'a, 's>(
+    names: &mut Vec<&'a Node<SrcId<'s>>>,
+    decl: &'a Declaration<'s>,
+) -> Result<(), AllocError>
     ensures { OnOk result (map (λ x. x.now) names.new.items ≡ map (λ x. x.now) names.old.items ++ entities_of decl.now) }
 {
     match decl {
@@ -28,9 +30,9 @@ fn push_entities<'a>(names: &mut Vec<&'a Node<Id>>, decl: &'a Declaration) -> Re
 }
 
 // Adds the names of the actions.
-fn push_actions<'a>(
-    names: &mut Vec<&'a Node<Text>>,
-    decl: &'a Declaration,
+fn push_actions<'a, 's>(
+    names: &mut Vec<&'a Node<SrcStr<'s>>>,
+    decl: &'a Declaration<'s>,
 ) -> Result<(), AllocError>
     ensures { OnOk result (map (λ x. x.now) names.new.items ≡ map (λ x. x.now) names.old.items ++ actions_of decl.now) }
 {
@@ -42,7 +44,10 @@ fn push_actions<'a>(
 }
 
 // Adds the name of the common type.
-fn push_common<'a>(names: &mut Vec<&'a Node<Id>>, decl: &'a Declaration) -> Result<(), AllocError>
+fn push_common<'a, 's>(
+    names: &mut Vec<&'a Node<SrcId<'s>>>,
+    decl: &'a Declaration<'s>,
+) -> Result<(), AllocError>
     ensures { OnOk result (map (λ x. x.now) names.new.items ≡ map (λ x. x.now) names.old.items ++ commons_of decl.now) }
 {
     if let Declaration::Common(decl) = decl {
@@ -52,10 +57,10 @@ fn push_common<'a>(names: &mut Vec<&'a Node<Id>>, decl: &'a Declaration) -> Resu
 }
 
 /// The names of the entity types that the declarations declare, in order.
-pub fn entity_names_in<'a>(
+pub fn entity_names_in<'a, 's>(
     alloc: Global,
-    decls: &'a [Annotated<Node<Declaration>>],
-) -> Result<Vec<&'a Node<Id>>, AllocError>
+    decls: &'a [Annotated<'s, Node<Declaration<'s>>>],
+) -> Result<Vec<&'a Node<SrcId<'s>>>, AllocError>
     ensures { IfOk result (λ names. map (λ x. x.now) names.items ≡ entity_names_in decls.now) }
 {
     let mut names = Vec::new(alloc);
@@ -66,10 +71,10 @@ pub fn entity_names_in<'a>(
 }
 
 /// The names of the actions.
-pub fn action_names_in<'a>(
+pub fn action_names_in<'a, 's>(
     alloc: Global,
-    decls: &'a [Annotated<Node<Declaration>>],
-) -> Result<Vec<&'a Node<Text>>, AllocError>
+    decls: &'a [Annotated<'s, Node<Declaration<'s>>>],
+) -> Result<Vec<&'a Node<SrcStr<'s>>>, AllocError>
     ensures { IfOk result (λ names. map (λ x. x.now) names.items ≡ action_names_in decls.now) }
 {
     let mut names = Vec::new(alloc);
@@ -80,10 +85,10 @@ pub fn action_names_in<'a>(
 }
 
 /// The names of the common types.
-pub fn common_names_in<'a>(
+pub fn common_names_in<'a, 's>(
     alloc: Global,
-    decls: &'a [Annotated<Node<Declaration>>],
-) -> Result<Vec<&'a Node<Id>>, AllocError>
+    decls: &'a [Annotated<'s, Node<Declaration<'s>>>],
+) -> Result<Vec<&'a Node<SrcId<'s>>>, AllocError>
     ensures { IfOk result (λ names. map (λ x. x.now) names.items ≡ common_names_in decls.now) }
 {
     let mut names = Vec::new(alloc);

@@ -3,27 +3,26 @@ ghost use Rattle.std.specs.List.{flat_map};
 ghost use Rattle.cedar_data.specs.Maps.{map_of};
 ghost use Rattle.schema_convert.specs.Joined.{annotation_key_cmp, opened_as, joined_by_name};
 
-use cedar_data::{CloneIn, List, Map, Node, Text};
-use cedar_identifiers::{Annotations, AnyId};
-use schema_syntax_tree::{Annotated, Declaration, Namespace};
+use cedar_data::{CloneIn, List, Map, Node};
+use schema_syntax_tree::{Annotated, Declaration, Namespace, SrcAnnotations, SrcStr, SrcWord};
 use std::alloc::{AllocError, Global};
 use std::collections::BTreeMap;
 
 // The openings of one name: the first, and those behind it, in order.
 #[derive(Drop)]
-struct Openings {
-    first: Annotated<Namespace>,
-    others: Vec<Annotated<Namespace>>,
+struct Openings<'a> {
+    first: Annotated<'a, Namespace<'a>>,
+    others: Vec<Annotated<'a, Namespace<'a>>>,
 }
 
 // The openings of each name, in the order of the first ones.
-fn openings_by_name(
+fn openings_by_name<'a>(
     alloc: Global,
-    namespaces: Vec<Annotated<Namespace>>,
-) -> Result<Vec<Openings>, AllocError>
-    ensures { IfOk result (λ groups. map (λ g. opened_as g.first (g.first ∷ g.others.items)) groups.items ≡ joined_by_name namespaces.items) }
+    namespaces: Vec<Annotated<'a, Namespace<'a>>>,
+) -> Result<Vec<Openings<'a>>, AllocError>
+    ensures { IfOk result (λ groups. map (λ g. opened_as g.first (g.first ∷ g.others.items)) groups.items ≡ joined_by_name namespaces.entry.items) }
 {
-    let mut groups: Vec<Openings> = Vec::new(alloc);
+    let mut groups: Vec<Openings<'a>> = Vec::new(alloc);
     let mut places = BTreeMap::new(alloc);
     for namespace in namespaces {
         match places.get(&namespace.item.name) {
@@ -45,11 +44,11 @@ fn openings_by_name(
 }
 
 /// Adds the declarations.
-pub fn push_all(
-    decls: &mut Vec<Annotated<Node<Declaration>>>,
-    more: List<Annotated<Node<Declaration>>>,
+pub fn push_all<'a>(
+    decls: &mut Vec<Annotated<'a, Node<Declaration<'a>>>>,
+    more: List<Annotated<'a, Node<Declaration<'a>>>>,
 ) -> Result<(), AllocError>
-    ensures { OnOk result (decls.new.items ≡ decls.old.items ++ more) }
+    ensures { OnOk result (decls.new.items ≡ decls.old.items ++ more.entry) }
 {
     for decl in more.into_vec() {
         decls.push(decl)?;
@@ -58,43 +57,41 @@ pub fn push_all(
 }
 
 // Adds the entries.
-fn push_entries(
-    entries: &mut Vec<(AnyId, Option<Text>)>,
-    more: Annotations,
+fn push_entries<'a>(
+    entries: &mut Vec<(SrcWord<'a>, Option<SrcStr<'a>>)>,
+    more: SrcAnnotations<'a>,
 ) -> Result<(), AllocError>
-    ensures { OnOk result (entries.new.items ≡ entries.old.items ++ more.0) }
+    ensures { OnOk result (entries.new.items ≡ entries.old.items ++ more.entry.0) }
 {
-    let Annotations(more) = more;
-    for entry in more.into_vec() {
+    for entry in more.into_map().into_vec() {
         entries.push(entry)?;
     }
     Ok(())
 }
 
 // The annotations of these entries: each key with its first value.
-fn first_values(
+fn first_values<'a>(
     alloc: Global,
-    mut entries: Vec<(AnyId, Option<Text>)>,
-) -> Result<Annotations, AllocError>
-    ensures { IfOk result (λ annotations. annotations.0 ≡ map_of annotation_key_cmp (reverse entries.items)) }
+    mut entries: Vec<(SrcWord<'a>, Option<SrcStr<'a>>)>,
+) -> Result<SrcAnnotations<'a>, AllocError>
+    ensures { IfOk result (λ annotations. annotations.0 ≡ map_of annotation_key_cmp (reverse entries.entry.items)) }
 {
     entries.reverse();
-    Ok(Annotations(Map::from_entries(alloc, entries)?))
+    Ok(SrcAnnotations::from_map(Map::from_entries(alloc, entries)?))
 }
 
 // These declarations and annotations with those of other openings behind them: of each key the first value.
-fn with_others(
+fn with_others<'a>(
     alloc: Global,
-    decls: List<Annotated<Node<Declaration>>>,
-    annotations: Annotations,
-    others: Vec<Annotated<Namespace>>,
-) -> Result<(List<Annotated<Node<Declaration>>>, Annotations), AllocError>
-    ensures decls { IfOk result (λ out. out.0 ≡ decls ++ flat_map (λ n. n.item.decls) others.items) }
-    ensures annotations { IfOk result (λ out. out.1.0 ≡ map_of annotation_key_cmp (reverse (annotations.0 ++ flat_map (λ n. n.annotations.0) others.items))) }
+    decls: List<Annotated<'a, Node<Declaration<'a>>>>,
+    annotations: SrcAnnotations<'a>,
+    others: Vec<Annotated<'a, Namespace<'a>>>,
+) -> Result<(List<Annotated<'a, Node<Declaration<'a>>>>, SrcAnnotations<'a>), AllocError>
+    ensures decls { IfOk result (λ out. out.0 ≡ decls.entry ++ flat_map (λ n. n.item.decls) others.entry.items) }
+    ensures annotations { IfOk result (λ out. out.1.0 ≡ map_of annotation_key_cmp (reverse (annotations.entry.0 ++ flat_map (λ n. n.annotations.0) others.entry.items))) }
 {
-    let Annotations(entries) = annotations;
     let mut decls = decls.into_vec();
-    let mut entries = entries.into_vec();
+    let mut entries = annotations.into_map().into_vec();
     for opening in others {
         let Annotated { item, annotations } = opening;
         push_all(&mut decls, item.decls)?;
@@ -105,8 +102,8 @@ fn with_others(
 }
 
 // The one namespace that the openings are.
-fn opened_as(alloc: Global, openings: Openings) -> Result<Annotated<Namespace>, AllocError>
-    ensures { IfOk result (λ namespace. namespace ≡ opened_as openings.first (openings.first ∷ openings.others.items)) }
+fn opened_as<'a>(alloc: Global, openings: Openings<'a>) -> Result<Annotated<'a, Namespace<'a>>, AllocError>
+    ensures { IfOk result (λ namespace. namespace ≡ opened_as openings.entry.first (openings.entry.first ∷ openings.entry.others.items)) }
 {
     let Openings { first, others } = openings;
     let Annotated { item, annotations } = first;
@@ -117,11 +114,11 @@ fn opened_as(alloc: Global, openings: Openings) -> Result<Annotated<Namespace>, 
 }
 
 /// One namespace for each name, in the order of the first openings.
-pub fn joined_by_name(
+pub fn joined_by_name<'a>(
     alloc: Global,
-    namespaces: Vec<Annotated<Namespace>>,
-) -> Result<Vec<Annotated<Namespace>>, AllocError>
-    ensures { IfOk result (λ joined. joined.items ≡ joined_by_name namespaces.items) }
+    namespaces: Vec<Annotated<'a, Namespace<'a>>>,
+) -> Result<Vec<Annotated<'a, Namespace<'a>>>, AllocError>
+    ensures { IfOk result (λ joined. joined.items ≡ joined_by_name namespaces.entry.items) }
 {
     let mut joined = Vec::new(alloc);
     for openings in openings_by_name(alloc, namespaces)? {

@@ -5,15 +5,17 @@ ghost use Rattle.schema_convert.specs.Borrowed.{entry_now, optional_now};
 ghost use Rattle.schema_convert.specs.Shadowings.{by_id, is_primitive_name, is_taken, builtin_shadowed, entity_shadowed, common_warnings, warnings_in, declared_warnings, by_name, warnings_of};
 
 use crate::names_in::{common_names_in, entity_names_in};
-use cedar_data::{CloneIn, Map, Node};
-use cedar_identifiers::Id;
+use cedar_data::{Map, Node, Text};
 use cedar_names::ExtensionTable;
 use schema_convert_errors::{SchemaWarning, ShadowsBuiltinWarning, ShadowsEntityWarning};
-use schema_syntax_tree::{Annotated, Declaration, Namespace, Path};
+use schema_syntax_tree::{Annotated, Declaration, Namespace, Path, SrcId};
 use std::alloc::{AllocError, Global};
 
 // The names, sorted.
-fn by_id<'a>(alloc: Global, names: &[&'a Node<Id>]) -> Result<Map<&'a Id, &'a Node<Id>>, AllocError>
+fn by_id<'a, 's>(
+    alloc: Global,
+    names: &[&'a Node<SrcId<'s>>],
+) -> Result<Map<&'a SrcId<'s>, &'a Node<SrcId<'s>>>, AllocError>
     ensures { IfOk result (λ sorted. map entry_now sorted ≡ by_id (map (λ x. x.now) names.now)) }
 {
     let mut entries = Vec::new(alloc);
@@ -47,7 +49,7 @@ fn push_builtin(
     alloc: Global,
     warnings: &mut Vec<SchemaWarning>,
     table: &ExtensionTable,
-    name: &Node<Id>,
+    name: &Node<SrcId<'_>>,
 ) -> Result<(), AllocError>
     ensures { OnOk result (warnings.new.items ≡ warnings.old.items ++ builtin_shadowed table.now name.now) }
 {
@@ -55,7 +57,7 @@ fn push_builtin(
         return Ok(());
     }
     let warning = ShadowsBuiltinWarning {
-        name: name.node.text.clone_in(alloc)?,
+        name: Text::from_str(alloc, name.node.as_str())?,
         loc: name.loc,
     };
     warnings.push(SchemaWarning::ShadowsBuiltin(warning))?;
@@ -66,8 +68,8 @@ fn push_builtin(
 fn push_entity(
     alloc: Global,
     warnings: &mut Vec<SchemaWarning>,
-    entity: Option<&Node<Id>>,
-    common: &Node<Id>,
+    entity: Option<&Node<SrcId<'_>>>,
+    common: &Node<SrcId<'_>>,
 ) -> Result<(), AllocError>
     ensures { OnOk result (warnings.new.items ≡ warnings.old.items ++ entity_shadowed (option_copied entity.entry) common.now) }
 {
@@ -75,7 +77,7 @@ fn push_entity(
         return Ok(());
     };
     let warning = ShadowsEntityWarning {
-        name: common.node.text.clone_in(alloc)?,
+        name: Text::from_str(alloc, common.node.as_str())?,
         entity_loc: entity.loc,
         common_loc: common.loc,
     };
@@ -84,12 +86,12 @@ fn push_entity(
 }
 
 // Adds the warnings of a common type.
-fn push_common(
+fn push_common<'s>(
     alloc: Global,
     warnings: &mut Vec<SchemaWarning>,
     table: &ExtensionTable,
-    entities: &Map<&Id, &Node<Id>>,
-    common: &Node<Id>,
+    entities: &Map<&SrcId<'s>, &Node<SrcId<'s>>>,
+    common: &Node<SrcId<'s>>,
 ) -> Result<(), AllocError>
     ensures { OnOk result (warnings.new.items ≡ warnings.old.items ++ common_warnings table.now (map entry_now entities.now) common.now) }
 {
@@ -101,12 +103,12 @@ fn push_common(
 }
 
 // Adds the warnings of the common types.
-fn push_commons(
+fn push_commons<'s>(
     alloc: Global,
     warnings: &mut Vec<SchemaWarning>,
     table: &ExtensionTable,
-    entities: &Map<&Id, &Node<Id>>,
-    commons: &[(&Id, &Node<Id>)],
+    entities: &Map<&SrcId<'s>, &Node<SrcId<'s>>>,
+    commons: &[(&SrcId<'s>, &Node<SrcId<'s>>)],
 ) -> Result<(), AllocError>
     ensures { OnOk result (warnings.new.items ≡ warnings.old.items ++ flat_map (λ c. common_warnings table.now (map entry_now entities.now) c.1) (map entry_now commons.now)) }
 {
@@ -117,11 +119,11 @@ fn push_commons(
 }
 
 // Adds the warnings of the entity types.
-fn push_entities(
+fn push_entities<'s>(
     alloc: Global,
     warnings: &mut Vec<SchemaWarning>,
     table: &ExtensionTable,
-    entities: &[(&Id, &Node<Id>)],
+    entities: &[(&SrcId<'s>, &Node<SrcId<'s>>)],
 ) -> Result<(), AllocError>
     ensures { OnOk result (warnings.new.items ≡ warnings.old.items ++ flat_map (λ e. builtin_shadowed table.now e.1) (map entry_now entities.now)) }
 {
@@ -132,11 +134,11 @@ fn push_entities(
 }
 
 // Adds the warnings of a namespace.
-fn push_declared(
+fn push_declared<'s>(
     alloc: Global,
     warnings: &mut Vec<SchemaWarning>,
     table: &ExtensionTable,
-    decls: &[Annotated<Node<Declaration>>],
+    decls: &[Annotated<'s, Node<Declaration<'s>>>],
 ) -> Result<(), AllocError>
     ensures { OnOk result (warnings.new.items ≡ warnings.old.items ++ declared_warnings table.now decls.now) }
 {
@@ -150,10 +152,10 @@ fn push_declared(
 }
 
 // The namespaces, sorted by their names.
-fn by_name<'a>(
+fn by_name<'a, 's>(
     alloc: Global,
-    namespaces: &'a [Annotated<Namespace>],
-) -> Result<Map<Option<&'a Path>, &'a Annotated<Namespace>>, AllocError>
+    namespaces: &'a [Annotated<'s, Namespace<'s>>],
+) -> Result<Map<Option<&'a Path<'s>>, &'a Annotated<'s, Namespace<'s>>>, AllocError>
     ensures { IfOk result (λ sorted. map optional_now sorted ≡ by_name namespaces.now) }
 {
     let mut entries = Vec::new(alloc);
@@ -165,9 +167,9 @@ fn by_name<'a>(
 }
 
 /// The warnings of these namespaces, in order.
-pub fn warnings_of(
+pub fn warnings_of<'s>(
     alloc: Global,
-    namespaces: &[Annotated<Namespace>],
+    namespaces: &[Annotated<'s, Namespace<'s>>],
     table: &ExtensionTable,
 ) -> Result<Vec<SchemaWarning>, AllocError>
     ensures { IfOk result (λ warnings. warnings.items ≡ warnings_of table.now namespaces.now) }

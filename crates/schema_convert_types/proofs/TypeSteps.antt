@@ -1,5 +1,5 @@
 -- The equations of what types and attributes become.
-use Rattle.std.proofs.Common.{◌≡◌, false, List, [], ◌∷◌, Option, map, refl, sym, ap, ◌∙◌}
+use Rattle.std.proofs.Common.{◌≡◌, ℕ, false, List, [], ◌∷◌, Option, map, refl, sym, ap, ◌∙◌}
 use Rattle.cedar_data.specs.Maps.{map_of}
 use Rattle.cedar_data.specs.Span.{Span}
 use Rattle.cedar_data.specs.Text.{text_cmp}
@@ -47,12 +47,14 @@ pub attribute_is : (a : AttrDecl) (notes : Annotations)
 unfolding type_at attribute_beside
 attribute_is a notes = ap (λ (f : Annotations → AttributeEntry). f notes) (fold_out-AttrDecl (Option Span → Shape RawName) (Annotations → AttributeEntry) translated_type translated_attribute a)
 
--- an attribute whose type was made
-pub attribute_made : (n : Node (Annotated AttrDecl)) (ty : Shape RawName)
-    → ty ≡ type_at (out-AttrDecl n.node.item).ty.node (out-AttrDecl n.node.item).ty.loc
-    → (let made : AttributeEntry = ((out-AttrDecl n.node.item).name.node, roll-TypeOfAttribute RawName (record { ty = ty; annotations = n.node.annotations; required = (out-AttrDecl n.node.item).required })) in made) ≡ attribute_of n
-attribute_made n ty e =
-    ap {A = Shape RawName} {B = AttributeEntry} (λ t. ((out-AttrDecl n.node.item).name.node, roll-TypeOfAttribute RawName (record { ty = t; annotations = n.node.annotations; required = (out-AttrDecl n.node.item).required }))) e ∙ sym (attribute_is n.node.item n.node.annotations)
+-- an attribute whose parts were made
+pub attribute_made : (n : Node (Annotated AttrDecl)) (ty : Shape RawName) (notes : Annotations) (name : List ℕ)
+    → ty ≡ type_at (out-AttrDecl n.node.item).ty.node (out-AttrDecl n.node.item).ty.loc → notes ≡ n.node.annotations
+    → name ≡ (out-AttrDecl n.node.item).name.node
+    → (let made : AttributeEntry = (name, roll-TypeOfAttribute RawName (record { ty = ty; annotations = notes; required = (out-AttrDecl n.node.item).required })) in made) ≡ attribute_of n
+attribute_made n ty notes name e f g =
+    let required = (out-AttrDecl n.node.item).required in
+    (λ i. (g i, roll-TypeOfAttribute RawName (record { ty = e i; annotations = f i; required = required }))) ∙ sym (attribute_is n.node.item n.node.annotations)
 
 -- a record whose attributes were made
 pub record_made : (entries map all : List AttributeEntry) → map ≡ map_of text_cmp entries → entries ≡ all

@@ -1,5 +1,5 @@
 -- The declarations of a tree, in a fragment.
-use Rattle.std.specs.Prelude.{◌≡◌, Bool, true, false, List, [], ◌∷◌, map, Option, Some, None, option_map, refl}
+use Rattle.std.specs.Prelude.{◌≡◌, ℕ, Bool, true, false, List, [], ◌∷◌, map, Option, Some, None, option_map, refl}
 use Rattle.std.specs.List.{filter_map}
 use Rattle.cedar_data.specs.Span.{Span}
 use Rattle.cedar_data.specs.declared.node.Node.{Node}
@@ -46,8 +46,8 @@ abbrev pub nothing : AttributesOrContext RawName
 nothing = record { 0 = record_type [] None }
 
 -- the ids of an enumeration
-abbrev pub choices_of : List (Node Eid) → List Eid
-choices_of choices = map (λ c. c.node) choices
+abbrev pub choices_of : List (Node (List ℕ)) → List Eid
+choices_of choices = map (λ c. record { 0 = c.node }) choices
 
 -- the type of the tags, where there are tags
 abbrev pub tags_of : Option (Node «Type») → Option (Shape RawName)

@@ -1,9 +1,9 @@
-ghost use Rattle.std.specs.Prelude.{◌≡◌, option_map, IfOk};
+ghost use Rattle.std.specs.Prelude.{◌≡◌, option_map, map, IfOk};
 ghost use Rattle.schema_convert_types.specs.Names.{raw_name_of};
 ghost use Rattle.schema_syntax_tree.specs.DeclaredNames.{action_names};
-ghost use Rattle.schema_convert_types.specs.Declarations.{reference_of, references_of, member_types, context_of, with_types, with_member, with_members, applied_to_nothing, apply_spec_of, action_type_of};
+ghost use Rattle.schema_convert_types.specs.Declarations.{reference_of, references_of, raw_names, member_types, context_of, with_types, with_member, with_members, applied_to_nothing, apply_spec_of, action_type_of};
 
-use crate::entities::{nothing, raw_names};
+use crate::entities::nothing;
 use crate::names::raw_name;
 use crate::types::record_type;
 use cedar_data::{List, Loc, Node, NonEmpty, Text};
@@ -11,71 +11,96 @@ use cedar_identifiers::{Annotations, RawName};
 use schema_json::{ActionEntityUID, ActionType, ApplySpec, AttributesOrContext, Type};
 use schema_syntax_tree::{
     ActionDecl, Annotated, AppDecl, AttrDecl, DefinedActionDecl, Either, ExternalActionDecl, PR,
-    PRAppDecl, Path, QualName,
+    PRAppDecl, Path, QualName, SrcStr,
 };
 use std::alloc::{AllocError, Global};
 
 // A parent of an action: its id, and its type where one was written.
-fn reference(parent: Node<QualName>) -> ActionEntityUID<RawName>
-    ensures { result ≡ reference_of parent }
+fn reference(
+    alloc: Global,
+    parent: Node<QualName<'_>>,
+) -> Result<ActionEntityUID<RawName>, AllocError>
+    ensures { IfOk result (λ out. out ≡ reference_of parent.entry) }
 {
     let QualName { path, eid } = parent.node;
-    let ty = type_name(path);
-    ActionEntityUID { id: eid, ty }
+    let id = eid.to_text(alloc)?;
+    let ty = type_name(alloc, path)?;
+    Ok(ActionEntityUID { id, ty })
 }
 
 // The name of a type, where one was written.
-fn type_name(path: Option<Path>) -> Option<RawName>
-    ensures { result ≡ option_map raw_name_of path }
+fn type_name(alloc: Global, path: Option<Path<'_>>) -> Result<Option<RawName>, AllocError>
+    ensures { IfOk result (λ name. name ≡ option_map raw_name_of path.entry) }
 {
     match path {
-        None => None,
-        Some(path) => Some(raw_name(path)),
+        None => Ok(None),
+        Some(path) => Ok(Some(raw_name(alloc, path)?)),
     }
+}
+
+// The parents.
+fn all_references(
+    alloc: Global,
+    parents: NonEmpty<Node<QualName<'_>>>,
+) -> Result<List<ActionEntityUID<RawName>>, AllocError>
+    ensures { IfOk result (λ out. out ≡ map reference_of parents.entry) }
+{
+    let mut references = Vec::with_capacity(alloc, 1)?;
+    for parent in parents {
+        references.push(reference(alloc, parent)?)?;
+    }
+    Ok(List::from_vec(references))
 }
 
 // The parents, where some were written.
 fn references(
     alloc: Global,
-    parents: Option<NonEmpty<Node<QualName>>>,
+    parents: Option<NonEmpty<Node<QualName<'_>>>>,
 ) -> Result<Option<List<ActionEntityUID<RawName>>>, AllocError>
-    ensures { IfOk result (λ out. out ≡ references_of parents) }
+    ensures { IfOk result (λ out. out ≡ references_of parents.entry) }
 {
-    let Some(parents) = parents else {
-        return Ok(None);
-    };
-    let references: Vec<ActionEntityUID<RawName>> = parents
-        .into_iter()
-        .map(reference)
-        .collect(alloc)?;
-    Ok(Some(List::from_vec(references)))
-}
-
-// The types of a member, and none for `[]`.
-fn member_types(alloc: Global, types: Option<NonEmpty<Path>>) -> Result<List<RawName>, AllocError>
-    ensures { IfOk result (λ out. out ≡ member_types types) }
-{
-    match types {
-        None => Ok(List::new(alloc)),
-        Some(paths) => {
-            let names: Vec<RawName> = paths.into_iter().map(raw_name).collect(alloc)?;
-            Ok(List::from_vec(names))
-        }
+    match parents {
+        None => Ok(None),
+        Some(parents) => Ok(Some(all_references(alloc, parents)?)),
     }
 }
 
-// A context: a reference that must mean a common type, or a record.
-fn context(
+// The types of a member, and none for `[]`.
+fn member_types(
     alloc: Global,
-    context: Either<Path, Node<List<Node<Annotated<AttrDecl>>>>>,
+    types: Option<NonEmpty<Path<'_>>>,
+) -> Result<List<RawName>, AllocError>
+    ensures { IfOk result (λ out. out ≡ member_types types.entry) }
+{
+    match types {
+        None => Ok(List::new(alloc)),
+        Some(paths) => some_types(alloc, paths),
+    }
+}
+
+// The names of one or more types.
+fn some_types(alloc: Global, paths: NonEmpty<Path<'_>>) -> Result<List<RawName>, AllocError>
+    ensures { IfOk result (λ out. out ≡ raw_names paths.entry) }
+{
+    let mut names = Vec::with_capacity(alloc, 1)?;
+    for path in paths {
+        names.push(raw_name(alloc, path)?)?;
+    }
+    Ok(List::from_vec(names))
+}
+
+// A context: a reference that must mean a common type, or a record.
+fn context<'a>(
+    alloc: Global,
+    context: Either<Path<'a>, Node<List<Node<Annotated<'a, AttrDecl<'a>>>>>>,
 ) -> Result<AttributesOrContext<RawName>, AllocError>
-    ensures { IfOk result (λ out. out ≡ context_of context) }
+    ensures { IfOk result (λ out. out ≡ context_of context.entry) }
 {
     match context {
         Either::Left(path) => {
             let loc = path.loc().copied();
             Ok(AttributesOrContext(Type::CommonTypeRef {
-                type_name: raw_name(path),
+                type_name: raw_name(alloc, path)?,
                 loc,
             }))
         }
@@ -102,10 +127,10 @@ fn with_types(kind: PR, types: List<RawName>, spec: ApplySpec<RawName>) -> Apply
 // What an action is applied to, with this member too.
 fn with_member(
     alloc: Global,
-    member: AppDecl,
+    member: AppDecl<'_>,
     spec: ApplySpec<RawName>,
 ) -> Result<ApplySpec<RawName>, AllocError>
-    ensures { IfOk result (λ out. out ≡ with_member member spec) }
+    ensures { IfOk result (λ out. out ≡ with_member member.entry spec) }
 {
     match member {
         AppDecl::PR(PRAppDecl { kind, entity_tys }) => {
@@ -122,9 +147,9 @@ fn with_member(
 // What an action is applied to: nothing, in the empty context, where nothing was written.
 fn apply_spec(
     alloc: Global,
-    block: Option<Node<NonEmpty<Node<AppDecl>>>>,
+    block: Option<Node<NonEmpty<Node<AppDecl<'_>>>>>,
 ) -> Result<ApplySpec<RawName>, AllocError>
-    ensures { IfOk result (λ out. out ≡ apply_spec_of block) }
+    ensures { IfOk result (λ out. out ≡ apply_spec_of block.entry) }
 {
     let mut spec = ApplySpec {
         resource_types: List::new(alloc),
@@ -140,66 +165,91 @@ fn apply_spec(
     Ok(spec)
 }
 
-// The names of actions that are declared here, and what they are.
+// What an action is declared as.
 fn defined(
     alloc: Global,
-    decl: DefinedActionDecl,
+    decl: DefinedActionDecl<'_>,
     annotations: Annotations,
     loc: Option<Loc>,
-) -> Result<(NonEmpty<Node<Text>>, ActionType<RawName>), AllocError>
-    ensures { IfOk result (λ out. out ≡ (decl.names, action_type_of (ActionDecl.Defined decl) annotations loc)) }
+) -> Result<ActionType<RawName>, AllocError>
+    ensures { IfOk result (λ out. out ≡ action_type_of (ActionDecl.Defined decl.entry) annotations loc) }
 {
     let DefinedActionDecl {
-        names,
+        names: _names,
         parents,
         app_decls,
     } = decl;
     let member_of = references(alloc, parents)?;
     let applies_to = apply_spec(alloc, app_decls)?;
-    let of = ActionType {
+    Ok(ActionType {
         attributes: None,
         applies_to: Some(applies_to),
         member_of,
         external: false,
         annotations,
         loc,
-    };
-    Ok((names, of))
+    })
 }
 
 // What an action is declared as that another schema declares.
 fn external(
     alloc: Global,
-    decl: ExternalActionDecl,
+    decl: ExternalActionDecl<'_>,
     annotations: Annotations,
     loc: Option<Loc>,
-) -> Result<(NonEmpty<Node<Text>>, ActionType<RawName>), AllocError>
-    ensures { IfOk result (λ out. out ≡ (decl.names, action_type_of (ActionDecl.External decl) annotations loc)) }
+) -> Result<ActionType<RawName>, AllocError>
+    ensures { IfOk result (λ out. out ≡ action_type_of (ActionDecl.External decl.entry) annotations loc) }
 {
-    let ExternalActionDecl { names, parents } = decl;
+    let ExternalActionDecl {
+        names: _names,
+        parents,
+    } = decl;
     let member_of = references(alloc, parents)?;
-    let of = ActionType {
+    Ok(ActionType {
         attributes: None,
         applies_to: None,
         member_of,
         external: true,
         annotations,
         loc,
-    };
-    Ok((names, of))
+    })
 }
 
-/// The names that the declaration gives, and what each of them is declared as, with these annotations and this place.
+/// What each action of the declaration is declared as, with these annotations and this place.
 pub fn action_type(
     alloc: Global,
-    decl: ActionDecl,
+    decl: ActionDecl<'_>,
     annotations: Annotations,
     loc: Option<Loc>,
-) -> Result<(NonEmpty<Node<Text>>, ActionType<RawName>), AllocError>
-    ensures { IfOk result (λ out. out ≡ (action_names decl, action_type_of decl annotations loc)) }
+) -> Result<ActionType<RawName>, AllocError>
+    ensures { IfOk result (λ out. out ≡ action_type_of decl.entry annotations loc) }
 {
     match decl {
         ActionDecl::Defined(decl) => defined(alloc, decl, annotations, loc),
         ActionDecl::External(decl) => external(alloc, decl, annotations, loc),
+    }
+}
+
+// Texts of the names.
+fn texts_of(
+    alloc: Global,
+    names: &NonEmpty<Node<SrcStr<'_>>>,
+) -> Result<Vec<Text>, AllocError>
+    ensures { IfOk result (λ texts. texts.items ≡ map (λ n. n.node) names.now) }
+{
+    let mut texts = Vec::with_capacity(alloc, 1)?;
+    for name in names.iter() {
+        texts.push(name.node.to_text(alloc)?)?;
+    }
+    Ok(texts)
+}
+
+/// The ids of the actions that the declaration declares, in order.
+pub fn action_ids(alloc: Global, decl: &ActionDecl<'_>) -> Result<Vec<Text>, AllocError>
+    ensures { IfOk result (λ ids. ids.items ≡ map (λ n. n.node) (action_names decl.now)) }
+{
+    match decl {
+        ActionDecl::Defined(decl) => texts_of(alloc, &decl.names),
+        ActionDecl::External(decl) => texts_of(alloc, &decl.names),
     }
 }

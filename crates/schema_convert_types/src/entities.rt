@@ -1,25 +1,27 @@
 ghost use Rattle.std.specs.Prelude.{◌≡◌, IfOk};
-ghost use Rattle.schema_syntax_tree.specs.DeclaredNames.{entity_names};
 ghost use Rattle.schema_convert_types.specs.Declarations.{raw_names, nothing, entity_kind_of, entity_type_of, choices_of, is_external, tags_of};
 
 use crate::names::raw_name;
 use crate::types::{cedar_type_to_json_type, record_type};
 use cedar_data::{List, Loc, Map, Node, NonEmpty};
-use cedar_identifiers::{Annotations, Eid, Id, RawName};
+use cedar_identifiers::{Annotations, Eid, RawName};
 use schema_json::{
     AttributesOrContext, EntityType, EntityTypeKind, RecordType, StandardEntityType, Type,
     TypeVariant,
 };
 use schema_syntax_tree::{
-    EntityDecl, EnumEntityDecl, ExternalEntityDecl, Path, StandardEntityDecl,
+    EntityDecl, EnumEntityDecl, ExternalEntityDecl, Path, SrcStr, StandardEntityDecl,
 };
 use std::alloc::{AllocError, Global};
 
-/// The names of paths, in order.
-pub fn raw_names(alloc: Global, paths: List<Path>) -> Result<List<RawName>, AllocError>
-    ensures { IfOk result (λ names. names ≡ raw_names paths) }
+// The names of paths, in order.
+fn raw_names(alloc: Global, paths: List<Path<'_>>) -> Result<List<RawName>, AllocError>
+    ensures { IfOk result (λ names. names ≡ raw_names paths.entry) }
 {
-    let names: Vec<RawName> = paths.into_vec().into_iter().map(raw_name).collect(alloc)?;
+    let mut names = Vec::new(alloc);
+    for path in paths.into_vec() {
+        names.push(raw_name(alloc, path)?)?;
+    }
     Ok(List::from_vec(names))
 }
 
@@ -39,9 +41,9 @@ pub fn nothing(alloc: Global) -> AttributesOrContext<RawName>
 // The type of the tags, where there are tags.
 fn tags_of(
     alloc: Global,
-    tags: Option<Node<schema_syntax_tree::Type>>,
+    tags: Option<Node<schema_syntax_tree::Type<'_>>>,
 ) -> Result<Option<Type<RawName>>, AllocError>
-    ensures { IfOk result (λ out. out ≡ tags_of tags) }
+    ensures { IfOk result (λ out. out ≡ tags_of tags.entry) }
 {
     match tags {
         None => Ok(None),
@@ -49,24 +51,46 @@ fn tags_of(
     }
 }
 
-// The ids without their places.
-fn choices_of(alloc: Global, choices: NonEmpty<Node<Eid>>) -> Result<NonEmpty<Eid>, AllocError>
-    ensures { IfOk result (λ out. out ≡ choices_of choices) }
+// An id of its own.
+fn eid_of(alloc: Global, choice: &Node<SrcStr<'_>>) -> Result<Eid, AllocError>
+    ensures { IfOk result (λ eid. eid.0 ≡ choice.now.node) }
 {
-    let (first, others) = choices.into_parts();
-    let others: Vec<Eid> = others.into_iter().map(|choice| choice.node).collect(alloc)?;
-    Ok(NonEmpty::from_parts(first.node, others))
+    Ok(Eid(choice.node.to_text(alloc)?))
 }
 
-// The names of entity types with attributes, and what they are.
+// Ids of their own.
+fn eids_of(alloc: Global, choices: &[Node<SrcStr<'_>>]) -> Result<Vec<Eid>, AllocError>
+    ensures { IfOk result (λ eids. eids.items ≡ choices_of choices.now) }
+{
+    let mut eids = Vec::with_capacity(alloc, choices.len())?;
+    for choice in choices {
+        eids.push(eid_of(alloc, choice)?)?;
+    }
+    Ok(eids)
+}
+
+// The ids without their places.
+fn choices_of(
+    alloc: Global,
+    choices: NonEmpty<Node<SrcStr<'_>>>,
+) -> Result<NonEmpty<Eid>, AllocError>
+    ensures { IfOk result (λ out. out ≡ choices_of choices.entry) }
+{
+    let (first, others) = choices.into_parts();
+    let first = eid_of(alloc, &first)?;
+    let others = eids_of(alloc, others.as_slice())?;
+    Ok(NonEmpty::from_parts(first, others))
+}
+
+// What entity types with attributes are.
 fn standard(
     alloc: Global,
-    decl: StandardEntityDecl,
-) -> Result<(NonEmpty<Node<Id>>, EntityTypeKind<RawName>), AllocError>
-    ensures { IfOk result (λ out. out ≡ (decl.names, entity_kind_of (EntityDecl.Standard decl))) }
+    decl: StandardEntityDecl<'_>,
+) -> Result<EntityTypeKind<RawName>, AllocError>
+    ensures { IfOk result (λ out. out ≡ entity_kind_of (EntityDecl.Standard decl.entry)) }
 {
     let StandardEntityDecl {
-        names,
+        names: _names,
         member_of_types,
         attrs,
         tags,
@@ -74,52 +98,47 @@ fn standard(
     let member_of_types = raw_names(alloc, member_of_types)?;
     let shape = AttributesOrContext(record_type(alloc, attrs)?);
     let tags = tags_of(alloc, tags)?;
-    let standard = StandardEntityType {
+    Ok(EntityTypeKind::Standard(StandardEntityType {
         member_of_types,
         shape,
         tags,
-    };
-    Ok((names, EntityTypeKind::Standard(standard)))
+    }))
 }
 
 // What an entity type is declared as whose entities are listed.
-fn listed(
-    alloc: Global,
-    decl: EnumEntityDecl,
-) -> Result<(NonEmpty<Node<Id>>, EntityTypeKind<RawName>), AllocError>
-    ensures { IfOk result (λ out. out ≡ (decl.names, entity_kind_of (EntityDecl.Enum decl))) }
+fn listed(alloc: Global, decl: EnumEntityDecl<'_>) -> Result<EntityTypeKind<RawName>, AllocError>
+    ensures { IfOk result (λ out. out ≡ entity_kind_of (EntityDecl.Enum decl.entry)) }
 {
-    let EnumEntityDecl { names, choices } = decl;
+    let EnumEntityDecl {
+        names: _names,
+        choices,
+    } = decl;
     let choices = choices_of(alloc, choices)?;
-    Ok((names, EntityTypeKind::Enum { choices }))
+    Ok(EntityTypeKind::Enum { choices })
 }
 
 // What an entity type is declared as that another schema declares.
 fn external(
     alloc: Global,
-    decl: ExternalEntityDecl,
-) -> Result<(NonEmpty<Node<Id>>, EntityTypeKind<RawName>), AllocError>
-    ensures { IfOk result (λ out. out ≡ (decl.names, entity_kind_of (EntityDecl.External decl))) }
+    decl: ExternalEntityDecl<'_>,
+) -> Result<EntityTypeKind<RawName>, AllocError>
+    ensures { IfOk result (λ out. out ≡ entity_kind_of (EntityDecl.External decl.entry)) }
 {
     let ExternalEntityDecl {
-        names,
+        names: _names,
         member_of_types,
     } = decl;
     let member_of_types = raw_names(alloc, member_of_types)?;
-    let standard = StandardEntityType {
+    Ok(EntityTypeKind::Standard(StandardEntityType {
         member_of_types,
         shape: nothing(alloc),
         tags: None,
-    };
-    Ok((names, EntityTypeKind::Standard(standard)))
+    }))
 }
 
-// The names that the declaration gives, and what they are.
-fn kind(
-    alloc: Global,
-    decl: EntityDecl,
-) -> Result<(NonEmpty<Node<Id>>, EntityTypeKind<RawName>), AllocError>
-    ensures { IfOk result (λ out. out ≡ (entity_names decl, entity_kind_of decl)) }
+// What the entity types of the declaration are.
+fn kind(alloc: Global, decl: EntityDecl<'_>) -> Result<EntityTypeKind<RawName>, AllocError>
+    ensures { IfOk result (λ out. out ≡ entity_kind_of decl.entry) }
 {
     match decl {
         EntityDecl::Standard(decl) => standard(alloc, decl),
@@ -129,7 +148,7 @@ fn kind(
 }
 
 // Whether another schema declares them.
-fn is_external(decl: &EntityDecl) -> bool
+fn is_external(decl: &EntityDecl<'_>) -> bool
     ensures { result ≡ is_external decl.now }
 {
     match decl {
@@ -138,22 +157,21 @@ fn is_external(decl: &EntityDecl) -> bool
     }
 }
 
-/// The names that the declaration gives, and what each of them is declared as, with these annotations and this place.
+/// What each entity type of the declaration is declared as, with these annotations and this place.
 pub fn entity_type(
     alloc: Global,
-    decl: EntityDecl,
+    decl: EntityDecl<'_>,
     annotations: Annotations,
     loc: Option<Loc>,
-) -> Result<(NonEmpty<Node<Id>>, EntityType<RawName>), AllocError>
-    ensures { IfOk result (λ out. out ≡ (entity_names decl, entity_type_of decl annotations loc)) }
+) -> Result<EntityType<RawName>, AllocError>
+    ensures { IfOk result (λ out. out ≡ entity_type_of decl.entry annotations loc) }
 {
     let external = is_external(&decl);
-    let (names, kind) = kind(alloc, decl)?;
-    let of = EntityType {
+    let kind = kind(alloc, decl)?;
+    Ok(EntityType {
         kind,
         external,
         annotations,
         loc,
-    };
-    Ok((names, of))
+    })
 }

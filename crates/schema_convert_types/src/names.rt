@@ -1,36 +1,49 @@
 ghost use Rattle.std.specs.Prelude.{◌≡◌, IfOk};
 ghost use Rattle.schema_convert_types.specs.Names.{internal_name_of, raw_name_of};
 
-use cedar_identifiers::{InternalName, RawName};
-use schema_syntax_tree::Path;
+use cedar_identifiers::{Id, InternalName, RawName};
+use schema_syntax_tree::{Path, SrcId};
 use std::alloc::{AllocError, Global};
 
-/// The name that a path is: its ids, at its place. It takes no memory.
-pub fn path_to_internal_name(_alloc: Global, path: Path) -> Result<InternalName, AllocError>
-    ensures { IfOk result (λ name. name ≡ internal_name_of path) }
+/// The name that a path is: its ids, at its place.
+pub fn path_to_internal_name(alloc: Global, path: Path<'_>) -> Result<InternalName, AllocError>
+    ensures { IfOk result (λ name. name ≡ internal_name_of path.entry) }
 {
-    Ok(internal_name(path))
+    internal_name(alloc, path)
 }
 
 /// The path as a name that a namespace may still qualify.
-pub fn path_to_raw_name(_alloc: Global, path: Path) -> Result<RawName, AllocError>
-    ensures { IfOk result (λ name. name ≡ raw_name_of path) }
+pub fn path_to_raw_name(alloc: Global, path: Path<'_>) -> Result<RawName, AllocError>
+    ensures { IfOk result (λ name. name ≡ raw_name_of path.entry) }
 {
-    Ok(raw_name(path))
+    raw_name(alloc, path)
+}
+
+// Ids of their own.
+fn own_ids(alloc: Global, ids: &[SrcId<'_>]) -> Result<Vec<Id>, AllocError>
+    ensures { IfOk result (λ copy. copy.items ≡ ids.now) }
+{
+    let mut copy = Vec::with_capacity(alloc, ids.len())?;
+    for id in ids {
+        copy.push(id.to_id(alloc)?)?;
+    }
+    Ok(copy)
 }
 
 // The name of the path's ids, at its place.
-pub(crate) fn internal_name(path: Path) -> InternalName
-    ensures { result ≡ internal_name_of path }
+pub(crate) fn internal_name(alloc: Global, path: Path<'_>) -> Result<InternalName, AllocError>
+    ensures { IfOk result (λ name. name ≡ internal_name_of path.entry) }
 {
     let loc = path.loc().copied();
     let (namespace, basename) = path.split_last();
-    InternalName::new(basename, namespace, loc)
+    let namespace = own_ids(alloc, namespace.as_slice())?;
+    let basename = basename.to_id(alloc)?;
+    Ok(InternalName::new(basename, namespace, loc))
 }
 
 // The name that the path is, as it was written.
-pub(crate) fn raw_name(path: Path) -> RawName
-    ensures { result ≡ raw_name_of path }
+pub(crate) fn raw_name(alloc: Global, path: Path<'_>) -> Result<RawName, AllocError>
+    ensures { IfOk result (λ name. name ≡ raw_name_of path.entry) }
 {
-    RawName::from_internal(internal_name(path))
+    Ok(RawName::from_internal(internal_name(alloc, path)?))
 }

@@ -1,20 +1,21 @@
 ghost use Rattle.std.specs.Prelude.{◌≡◌, ◌++◌, IfOk, OnOk};
+ghost use Rattle.cedar_data.specs.NonEmpty.{items_left};
 ghost use Rattle.std.specs.Option.{option_to_list};
 ghost use Rattle.schema_convert_types.specs.Declarations.{declarable, unreserved};
 ghost use Rattle.schema_convert_types.specs.Fragments.{entity_entries_of, action_entries_of, common_entries_of, entity_entries, action_entries, common_entries, definition_of, namespace_key, declarable_name, namespace_entry, fragment_of};
 
-use crate::actions::action_type;
+use crate::actions::{action_ids, action_type};
 use crate::entities::entity_type;
 use crate::entries::push_each;
 use crate::names::internal_name;
 use crate::types::cedar_type_to_json_type;
-use cedar_data::{List, Loc, Map, Node, NonEmpty, Text};
+use cedar_data::{List, Loc, Map, Node, NonEmptyIter, Text};
 use cedar_identifiers::{Annotations, Id, InternalName, Name, RawName, UnreservedId};
 use schema_json::{
     ActionType, CommonType, CommonTypeId, EntityType, Fragment, NamespaceDefinition,
 };
 use schema_syntax_tree::{
-    ActionDecl, Annotated, Declaration, EntityDecl, Namespace, Path, TypeDecl,
+    ActionDecl, Annotated, Declaration, EntityDecl, Namespace, Path, SrcId, TypeDecl,
 };
 use std::alloc::{AllocError, Global};
 
@@ -33,28 +34,46 @@ fn unreserved(id: Id) -> Option<UnreservedId>
     UnreservedId::from_id(id)
 }
 
-// The names that may be declared.
-fn declarable(alloc: Global, names: NonEmpty<Node<Id>>) -> Result<Vec<UnreservedId>, AllocError>
-    ensures { IfOk result (λ ids. ids.items ≡ declarable names) }
+// Adds the name, where it may be declared.
+fn push_declarable(
+    alloc: Global,
+    ids: &mut Vec<UnreservedId>,
+    name: &Node<SrcId<'_>>,
+) -> Result<(), AllocError>
+    ensures { OnOk result (ids.new.items ≡ ids.old.items ++ option_to_list (unreserved name.now.node)) }
 {
-    names
-        .into_iter()
-        .filter_map(|name| unreserved(name.node))
-        .collect(alloc)
+    if let Some(id) = unreserved(name.node.to_id(alloc)?) {
+        ids.push(id)?;
+    }
+    Ok(())
+}
+
+// The names that may be declared.
+fn declarable<'a, 'b>(
+    alloc: Global,
+    names: NonEmptyIter<'b, Node<SrcId<'a>>>,
+) -> Result<Vec<UnreservedId>, AllocError>
+    ensures { IfOk result (λ ids. ids.items ≡ declarable (items_left names.entry)) }
+{
+    let mut ids = Vec::with_capacity(alloc, 1)?;
+    for name in names {
+        push_declarable(alloc, &mut ids, name)?;
+    }
+    Ok(ids)
 }
 
 // Adds the entity types that the declaration declares.
 fn push_entities(
     alloc: Global,
     entries: &mut Vec<(UnreservedId, EntityType<RawName>)>,
-    decl: EntityDecl,
+    decl: EntityDecl<'_>,
     annotations: Annotations,
     loc: Option<Loc>,
 ) -> Result<(), AllocError>
-    ensures { OnOk result (entries.new.items ≡ entries.old.items ++ entity_entries_of (Declaration.Entity decl) annotations loc) }
+    ensures { OnOk result (entries.new.items ≡ entries.old.items ++ entity_entries_of (Declaration.Entity decl.entry) annotations loc) }
 {
-    let (names, of) = entity_type(alloc, decl, annotations, loc)?;
-    let names = declarable(alloc, names)?;
+    let names = declarable(alloc, decl.names())?;
+    let of = entity_type(alloc, decl, annotations, loc)?;
     push_each(alloc, entries, names, of)
 }
 
@@ -62,14 +81,14 @@ fn push_entities(
 fn push_actions(
     alloc: Global,
     entries: &mut Vec<(Text, ActionType<RawName>)>,
-    decl: ActionDecl,
+    decl: ActionDecl<'_>,
     annotations: Annotations,
     loc: Option<Loc>,
 ) -> Result<(), AllocError>
-    ensures { OnOk result (entries.new.items ≡ entries.old.items ++ action_entries_of (Declaration.Action decl) annotations loc) }
+    ensures { OnOk result (entries.new.items ≡ entries.old.items ++ action_entries_of (Declaration.Action decl.entry) annotations loc) }
 {
-    let (names, of) = action_type(alloc, decl, annotations, loc)?;
-    let names: Vec<Text> = names.into_iter().map(|name| name.node).collect(alloc)?;
+    let names = action_ids(alloc, &decl)?;
+    let of = action_type(alloc, decl, annotations, loc)?;
     push_each(alloc, entries, names, of)
 }
 
@@ -77,11 +96,11 @@ fn push_actions(
 fn push_common(
     alloc: Global,
     entries: &mut Vec<(CommonTypeId, CommonType<RawName>)>,
-    decl: TypeDecl,
+    decl: TypeDecl<'_>,
     annotations: Annotations,
     loc: Option<Loc>,
 ) -> Result<(), AllocError>
-    ensures { OnOk result (entries.new.items ≡ entries.old.items ++ common_entries_of (Declaration.Common decl) annotations loc) }
+    ensures { OnOk result (entries.new.items ≡ entries.old.items ++ common_entries_of (Declaration.Common decl.entry) annotations loc) }
 {
     let TypeDecl { name, def } = decl;
     let ty = cedar_type_to_json_type(alloc, def)?;
@@ -90,24 +109,25 @@ fn push_common(
         annotations,
         loc,
     };
-    if let Some(id) = unreserved(name.node) {
+    if let Some(id) = unreserved(name.node.to_id(alloc)?) {
         entries.push((CommonTypeId { id }, of))?;
     }
     Ok(())
 }
 
 // Adds what the declaration declares.
-fn push_declared(
+fn push_declared<'a>(
     alloc: Global,
     entries: &mut Entries,
-    decl: Annotated<Node<Declaration>>,
+    decl: Annotated<'a, Node<Declaration<'a>>>,
 ) -> Result<(), AllocError>
-    ensures commons { OnOk result (entries.new.commons.items ≡ entries.old.commons.items ++ common_entries_of decl.item.node decl.annotations decl.item.loc) }
-    ensures entities { OnOk result (entries.new.entities.items ≡ entries.old.entities.items ++ entity_entries_of decl.item.node decl.annotations decl.item.loc) }
-    ensures actions { OnOk result (entries.new.actions.items ≡ entries.old.actions.items ++ action_entries_of decl.item.node decl.annotations decl.item.loc) }
+    ensures commons { OnOk result (entries.new.commons.items ≡ entries.old.commons.items ++ common_entries_of decl.entry.item.node decl.entry.annotations decl.entry.item.loc) }
+    ensures entities { OnOk result (entries.new.entities.items ≡ entries.old.entities.items ++ entity_entries_of decl.entry.item.node decl.entry.annotations decl.entry.item.loc) }
+    ensures actions { OnOk result (entries.new.actions.items ≡ entries.old.actions.items ++ action_entries_of decl.entry.item.node decl.entry.annotations decl.entry.item.loc) }
 {
     let Annotated { item, annotations } = decl;
     let (decl, loc) = item.into_inner();
+    let annotations = annotations.to_annotations(alloc)?;
     match decl {
         Declaration::Entity(decl) => {
             push_entities(alloc, &mut entries.entities, decl, annotations, loc)
@@ -122,13 +142,13 @@ fn push_declared(
 }
 
 // What the declarations declare.
-fn entries_of(
+fn entries_of<'a>(
     alloc: Global,
-    decls: List<Annotated<Node<Declaration>>>,
+    decls: List<Annotated<'a, Node<Declaration<'a>>>>,
 ) -> Result<Entries, AllocError>
-    ensures commons { IfOk result (λ entries. entries.commons.items ≡ common_entries decls) }
-    ensures entities { IfOk result (λ entries. entries.entities.items ≡ entity_entries decls) }
-    ensures actions { IfOk result (λ entries. entries.actions.items ≡ action_entries decls) }
+    ensures commons { IfOk result (λ entries. entries.commons.items ≡ common_entries decls.entry) }
+    ensures entities { IfOk result (λ entries. entries.entities.items ≡ entity_entries decls.entry) }
+    ensures actions { IfOk result (λ entries. entries.actions.items ≡ action_entries decls.entry) }
 {
     let mut entries = Entries {
         commons: Vec::new(alloc),
@@ -142,12 +162,12 @@ fn entries_of(
 }
 
 // What a namespace with these declarations and annotations defines.
-fn definition_of(
+fn definition_of<'a>(
     alloc: Global,
-    decls: List<Annotated<Node<Declaration>>>,
+    decls: List<Annotated<'a, Node<Declaration<'a>>>>,
     annotations: Annotations,
 ) -> Result<NamespaceDefinition<RawName>, AllocError>
-    ensures { IfOk result (λ definition. definition ≡ definition_of decls annotations) }
+    ensures { IfOk result (λ definition. definition ≡ definition_of decls.entry annotations) }
 {
     let Entries {
         commons,
@@ -173,31 +193,35 @@ fn declarable_name(name: InternalName) -> Option<Name>
 }
 
 // The name of a namespace that may be declared.
-fn namespace_key(name: Option<Path>) -> Option<Option<Name>>
-    ensures { result ≡ namespace_key name }
+fn namespace_key(
+    alloc: Global,
+    name: Option<Path<'_>>,
+) -> Result<Option<Option<Name>>, AllocError>
+    ensures { IfOk result (λ key. key ≡ namespace_key name.entry) }
 {
     match name {
-        None => Some(None),
-        Some(path) => match declarable_name(internal_name(path)) {
-            None => None,
-            Some(name) => Some(Some(name)),
+        None => Ok(Some(None)),
+        Some(path) => match declarable_name(internal_name(alloc, path)?) {
+            None => Ok(None),
+            Some(name) => Ok(Some(Some(name))),
         },
     }
 }
 
 // Adds the namespace, where its name may be declared.
-fn push_namespace(
+fn push_namespace<'a>(
     alloc: Global,
     entries: &mut Vec<(Option<Name>, NamespaceDefinition<RawName>)>,
-    namespace: Annotated<Namespace>,
+    namespace: Annotated<'a, Namespace<'a>>,
 ) -> Result<(), AllocError>
-    ensures { OnOk result (entries.new.items ≡ entries.old.items ++ option_to_list (namespace_entry namespace)) }
+    ensures { OnOk result (entries.new.items ≡ entries.old.items ++ option_to_list (namespace_entry namespace.entry)) }
 {
     let Annotated { item, annotations } = namespace;
     let Namespace { name, decls, .. } = item;
-    let Some(key) = namespace_key(name) else {
+    let Some(key) = namespace_key(alloc, name)? else {
         return Ok(());
     };
+    let annotations = annotations.to_annotations(alloc)?;
     let definition = definition_of(alloc, decls, annotations)?;
     entries.push((key, definition))?;
     Ok(())
@@ -205,11 +229,11 @@ fn push_namespace(
 
 /// The fragment of namespaces with distinct names that may be declared, and distinct such declarations of each kind. Any
 /// other name is left out, and of those that stand twice the last counts.
-pub fn fragment_of(
+pub fn fragment_of<'a>(
     alloc: Global,
-    namespaces: Vec<Annotated<Namespace>>,
+    namespaces: Vec<Annotated<'a, Namespace<'a>>>,
 ) -> Result<Fragment<RawName>, AllocError>
-    ensures { IfOk result (λ fragment. fragment ≡ fragment_of namespaces.items) }
+    ensures { IfOk result (λ fragment. fragment ≡ fragment_of namespaces.entry.items) }
 {
     let mut entries = Vec::new(alloc);
     for namespace in namespaces {

@@ -12,9 +12,9 @@ use std::alloc::{AllocError, Global};
 /// keeps its place, and of two attributes with one name in a record the last is there.
 pub fn cedar_type_to_json_type(
     alloc: Global,
-    ty: Node<schema_syntax_tree::Type>,
+    ty: Node<schema_syntax_tree::Type<'_>>,
 ) -> Result<Type<RawName>, AllocError>
-    ensures { IfOk result (λ shape. shape ≡ type_of ty) }
+    ensures { IfOk result (λ shape. shape ≡ type_of ty.entry) }
 {
     let (ty, loc) = ty.into_inner();
     type_at(alloc, ty, loc)
@@ -25,10 +25,10 @@ pub fn cedar_type_to_json_type(
 #[cycle(types)]
 fn type_at(
     alloc: Global,
-    ty: schema_syntax_tree::Type,
+    ty: schema_syntax_tree::Type<'_>,
     loc: Option<Loc>,
 ) -> Result<Type<RawName>, AllocError>
-    ensures { IfOk result (λ shape. shape ≡ type_at ty loc) }
+    ensures { IfOk result (λ shape. shape ≡ type_at ty.entry loc) }
 {
     match ty {
         schema_syntax_tree::Type::Set(element) => {
@@ -42,7 +42,7 @@ fn type_at(
         }
         schema_syntax_tree::Type::Ident(path) => Ok(Type::Variant {
             ty: TypeVariant::EntityOrCommon {
-                type_name: raw_name(path),
+                type_name: raw_name(alloc, path)?,
             },
             loc,
         }),
@@ -55,23 +55,25 @@ fn type_at(
 
 // The closed record of the attributes.
 #[cycle(types)]
-fn record_of(
+fn record_of<'a>(
     alloc: Global,
-    attributes: List<Node<Annotated<AttrDecl>>>,
+    attributes: List<Node<Annotated<'a, AttrDecl<'a>>>>,
 ) -> Result<RecordType<RawName>, AllocError>
-    ensures { IfOk result (λ shape. shape ≡ record_of (map attribute_of attributes)) }
+    ensures { IfOk result (λ shape. shape ≡ record_of (map attribute_of attributes.entry)) }
 {
     let mut entries = Vec::new(alloc);
     for attribute in attributes.into_vec() {
         let Annotated { item, annotations } = attribute.node;
         let AttrDecl { name, required, ty } = item;
         let ty = type_at(alloc, ty.node, ty.loc)?;
+        let annotations = annotations.to_annotations(alloc)?;
+        let name = name.node.to_text(alloc)?;
         let of = TypeOfAttribute {
             ty,
             annotations,
             required,
         };
-        entries.push((name.node, of))?;
+        entries.push((name, of))?;
     }
     let attributes = Map::from_entries(alloc, entries)?;
     Ok(RecordType {
@@ -81,11 +83,11 @@ fn record_of(
 }
 
 /// What the attributes of an entity type or of a context become.
-pub(crate) fn record_type(
+pub(crate) fn record_type<'a>(
     alloc: Global,
-    attributes: Node<List<Node<Annotated<AttrDecl>>>>,
+    attributes: Node<List<Node<Annotated<'a, AttrDecl<'a>>>>>,
 ) -> Result<Type<RawName>, AllocError>
-    ensures { IfOk result (λ shape. shape ≡ record_of_attributes attributes) }
+    ensures { IfOk result (λ shape. shape ≡ record_of_attributes attributes.entry) }
 {
     Ok(Type::Variant {
         ty: TypeVariant::Record(record_of(alloc, attributes.node)?),

@@ -6,7 +6,6 @@ use Rattle.std.proofs.lemmas.List.Elements.{All-nil, All-cons, All-append}
 use Rattle.cedar_data.specs.Span.{Span}
 use Rattle.cedar_data.specs.declared.node.Node.{Node}
 use Rattle.cedar_identifiers.specs.declared.id.Id.{Id}
-use Rattle.cedar_identifiers.specs.declared.eid.Eid.{Eid}
 use Rattle.schema_syntax_grammar.specs.declared.token_kind.TokenKind.TheVariants.{KwNamespace, KwEntity, KwExternal, KwType, KwAction, KwEnum, StringLit, Comma, Semi, PathSep, LBrace, RBrace, LBracket, RBracket, Equals}
 use Rattle.schema_syntax_grammar.specs.Grammar.{is_ident}
 use Rattle.schema_syntax_tokens.specs.declared.token.Token.{Token}
@@ -136,7 +135,7 @@ module _ (source : List ℕ) where
         → ReadsOneString source ts value
     one_string u value (a_string {x = x} body k e h) [] s = absurd s
     one_string u value (a_string {x = x} body k e h) (t ∷ []) s =
-        record { syn = t; parsed = S.string (s.0.0 ∙ k); node = record { node = record { 0 = value }; loc = Some t.loc }; is = ((body, s.0.1 ∙ e, h), refl); says = refl; lawful = string_site source never_both t x body value s.0 k e h }
+        record { syn = t; parsed = S.string (s.0.0 ∙ k); node = record { node = value; loc = Some t.loc }; is = ((body, s.0.1 ∙ e, h), refl); says = refl; lawful = string_site source never_both t x body value s.0 k e h }
     one_string u value (a_string {x = x} body k e h) (t ∷ c ∷ ts) s = absurd s.1
 
     -- references to actions
@@ -308,7 +307,7 @@ module _ (source : List ℕ) where
               (All-append (IsFaultless source) (paths_sites rp.syns) (shape_sites rh.syn ++ tags_sites rt.syn) rp.lawful (All-append (IsFaultless source) (shape_sites rh.syn) (tags_sites rt.syn) rh.lawful rt.lawful));
         }
 
-    some_choices : (syns : List Token) (nodes : List (Node Eid)) (c : List ℕ) (cs : List (List ℕ)) (loc : Span)
+    some_choices : (syns : List Token) (nodes : List (Node (List ℕ))) (c : List ℕ) (cs : List (List ℕ)) (loc : Span)
         → AllZip (tree.IsChoice source) syns nodes → AllZip SaysChoice nodes (c ∷ cs)
         → flat_map name_sites syns ≡ choices_sites syns loc
     some_choices [] [] c cs loc are says = absurd says

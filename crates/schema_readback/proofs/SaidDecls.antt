@@ -6,7 +6,6 @@ use Rattle.cedar_data.specs.Span.{Span}
 use Rattle.cedar_data.specs.declared.node.Node.{Node}
 use Rattle.cedar_identifiers.specs.Names.{texts_of}
 use Rattle.cedar_identifiers.specs.declared.id.Id.{Id}
-use Rattle.cedar_identifiers.specs.declared.eid.Eid.{Eid}
 use Rattle.schema_syntax_grammar.specs.declared.token_kind.TokenKind.{TokenKind}
 use Rattle.schema_syntax_grammar.specs.declared.token_kind.TokenKind.TheVariants.{KwAppliesTo, KwEntity, KwEnum, Comma, Semi, LBrace, RBrace, LBracket, RBracket, PathSep, StringLit}
 use Rattle.schema_syntax_grammar.specs.Grammar.{is_ident}
@@ -128,11 +127,11 @@ module _ (source : List ℕ) where
       → Faultless (path_sites p) → (u : List Lexeme) → Spells source ts u → Said SaysPath SpellsPath n u
   one_path ts p n (grammar.path chain) is f u s = record { written = texts_of n.ids; spell = back_path source chain n.ids is.0 u s; says = refl }
 
-  pub one_string : (ts : List Token) (t : Token) (n : Node Eid) → IsStringToken ts t → tree.IsChoice source t n
+  pub one_string : (ts : List Token) (t : Token) (n : Node (List ℕ)) → IsStringToken ts t → tree.IsChoice source t n
       → Faultless (name_sites t) → (u : List Lexeme) → Spells source ts u → Said SaysChoice IsStringOf n u
   one_string ts t n (grammar.string k) is f [] s = absurd s
   one_string ts t n (grammar.string k) is f (x ∷ y ∷ u) s = absurd s.1
-  one_string ts t n (grammar.string k) is f (x ∷ []) s = record { written = n.node.0; spell = a_string is.0.0 (sym s.0.0 ∙ k) (sym s.0.1 ∙ is.0.1) is.0.2; says = refl }
+  one_string ts t n (grammar.string k) is f (x ∷ []) s = record { written = n.node; spell = a_string is.0.0 (sym s.0.0 ∙ k) (sym s.0.1 ∙ is.0.1) is.0.2; says = refl }
 
   plain_back : (t : Token) (n : Node QualName) (front : List Token) (last : Token) → t ∷ [] ≡ front ++ last ∷ []
       → tree.IsNameOf source last.kind last n.node.eid → tree.IsTypeOfRef source front n.node.path
@@ -307,7 +306,7 @@ module _ (source : List ℕ) where
       }
 
   -- the choices of an enum: there is one
-  choices_back : {us xs : List Token} → AreSeparated IsStringToken us xs → (ns : List (Node Eid))
+  choices_back : {us xs : List Token} → AreSeparated IsStringToken us xs → (ns : List (Node (List ℕ)))
       → AllZip (tree.IsChoice source) xs ns → (loc : Span) → Faultless (choices_sites xs loc) → (u : List Lexeme)
       → Spells source us u → SaidAll SaysChoice (λ ms. AreSeparatedOf IsStringOf u ms × HasOne ms) ns
   choices_back {xs = []} h ns z loc f u s = absurd (All-head (IsFaultless source) (empty loc) [] f _ _ (empty_list loc))
@@ -315,7 +314,7 @@ module _ (source : List ℕ) where
       let r = back_separated IsStringOf IsStringToken (tree.IsChoice source) SaysChoice name_sites one_string h ns z f u s in
       record { written = r.written; spell = (r.spell, has_one a xs ns r.written z r.says); says = r.says }
     where
-      has_one : (a : Token) (xs : List Token) (ns : List (Node Eid)) (ms : List (List ℕ))
+      has_one : (a : Token) (xs : List Token) (ns : List (Node (List ℕ))) (ms : List (List ℕ))
           → AllZip (tree.IsChoice source) (a ∷ xs) ns → AllZip SaysChoice ns ms → HasOne ms
       has_one a xs [] ms z says = absurd z
       has_one a xs (n ∷ ns) [] z says = absurd says

@@ -9,7 +9,6 @@ use Rattle.schema_syntax_tree.specs.declared.types.Type.TheVariants.{Set, Ident,
 use Rattle.schema_syntax_tree.specs.declared.types.AttrDecl.{AttrDecl, out-AttrDecl}
 use Rattle.schema_syntax_tree.specs.declared.annotated.Annotated.{Annotated}
 use Rattle.cedar_identifiers.specs.declared.id.Id.{Id}
-use Rattle.cedar_identifiers.specs.declared.eid.Eid.{Eid}
 use Rattle.schema_syntax_tree.specs.declared.qual_name.QualName.{QualName}
 use Rattle.schema_syntax_tree.specs.declared.pr.PR.{PR}
 use Rattle.schema_syntax_tree.specs.declared.app_decl.AppDecl.{AppDecl}
@@ -46,8 +45,8 @@ SaysId n name = n.node.text ≡ name
 abbrev pub SaysName : Node (List ℕ) → List ℕ → Type 0
 SaysName n name = n.node ≡ name
 
-abbrev pub SaysChoice : Node Eid → List ℕ → Type 0
-SaysChoice n choice = n.node.0 ≡ choice
+abbrev pub SaysChoice : Node (List ℕ) → List ℕ → Type 0
+SaysChoice n choice = n.node ≡ choice
 
 abbrev pub SaysOptionalPath : Option Path → Option (List (List ℕ)) → Type 0
 SaysOptionalPath None None = Unit {0}

@@ -17,7 +17,7 @@ pub use schema_syntax_tokens::{Scanned, Token, scan};
 pub use schema_syntax_tree::{
     ActionDecl, Annotated, AppDecl, AttrDecl, BUILTIN_TYPES, Decl, Declaration, DefinedActionDecl,
     Either, EntityDecl, EnumEntityDecl, ExternalActionDecl, ExternalEntityDecl, Namespace, PR,
-    PRAppDecl, Path, PathIntoIter, PathIter, PrimitiveType, QualName, Schema, StandardEntityDecl,
-    Type, TypeDecl,
+    PRAppDecl, Path, PathIntoIter, PathIter, PrimitiveType, QualName, Schema, SrcAnnotation,
+    SrcAnnotations, SrcId, SrcStr, SrcWord, StandardEntityDecl, Type, TypeDecl,
 };
 pub use syntax_fault::{Refused, SyntaxFault, sentence_of, syntax_fault_of};

@@ -35,7 +35,7 @@ fn only(alloc: Global, error: ParseError) -> ParseSchemaError
 }
 
 /// The tree of a schema text. A refused text has its one syntax fault, or else, of its user faults, the one that ends first.
-pub fn parse_schema(alloc: Global, text: &str) -> Result<Schema, ParseSchemaError>
+pub fn parse_schema<'a>(alloc: Global, text: &'a str) -> Result<Schema<'a>, ParseSchemaError>
     ensures tree { IfOk result (IsTreeOfText text.now) }
     ensures fault { IfErr result (IsRefusalOf text.now) }
 {

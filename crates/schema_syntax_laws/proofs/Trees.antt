@@ -5,7 +5,6 @@ use Rattle.std.proofs.lemmas.List.{append_assoc}
 use Rattle.std.proofs.lemmas.List.Elements.{All-nil, All-cons, All-head, All-tail}
 use Rattle.cedar_data.specs.Span.{Span}
 use Rattle.cedar_data.specs.declared.node.Node.{Node}
-use Rattle.cedar_identifiers.specs.declared.eid.Eid.{Eid}
 use Rattle.cedar_identifiers.specs.declared.id.Id.{Id}
 use Rattle.schema_syntax_tokens.specs.declared.token.Token.{Token}
 use Rattle.schema_syntax_tokens.specs.Escapes.{Unescapes}
@@ -73,11 +72,11 @@ module _ (value : (body cs ds : List ℕ) → Unescapes body cs → Unescapes bo
       let loc : n.loc ≡ m.loc = h.1 ∙ sym k.1 in
       λ i. record { node = node i; loc = loc i }
 
-  one_choice : (t : Token) (n m : Node Eid) → IsChoice text t n → IsChoice text t m → n ≡ m
+  one_choice : (t : Token) (n m : Node (List ℕ)) → IsChoice text t n → IsChoice text t m → n ≡ m
   one_choice t n m h k =
-      let node : n.node.0 ≡ m.node.0 = one_string value text t n.node.0 m.node.0 h.0 k.0 in
+      let node : n.node ≡ m.node = one_string value text t n.node m.node h.0 k.0 in
       let loc : n.loc ≡ m.loc = h.1 ∙ sym k.1 in
-      λ i. record { node = record { 0 = node i }; loc = loc i }
+      λ i. record { node = node i; loc = loc i }
 
   one_optional : {A B : Type 0} (R : List A → List B → Type 0)
       → ((xs : List A) (ys zs : List B) → R xs ys → R xs zs → ys ≡ zs)

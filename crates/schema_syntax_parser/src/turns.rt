@@ -1,4 +1,4 @@
-ghost use Rattle.std.specs.Prelude.{◌≡◌, List, Option, ◌+◌, length};
+ghost use Rattle.std.specs.Prelude.{◌≡◌, ◌++◌, [], ◌∷◌, List, Option, OnOk, ◌+◌, length};
 ghost use Rattle.schema_syntax_parser.specs.Reading.{Gives, all_at, link_at, closed_at};
 ghost use Rattle.schema_syntax_parser.specs.Turns.{turn_of};
 
@@ -6,7 +6,7 @@ use crate::stop::Stop;
 use cedar_data::List;
 use schema_syntax_grammar::TokenKind;
 use schema_syntax_tokens::Token;
-use std::alloc::Global;
+use std::alloc::{AllocError, Global};
 
 /// One turn of a list: nothing more, its last item, or an item that others follow; and the tokens behind it.
 #[derive(Drop)]
@@ -30,25 +30,36 @@ pub trait Turns {
         ensures { Gives turn_of result (turns tokens.now) };
 }
 
+// Adds an item behind the others. A first one gets room for itself alone, since most lists have one item.
+fn push_item<T: Drop>(items: &mut Vec<T>, item: T) -> Result<(), AllocError>
+    ensures { OnOk result (items.new.items ≡ items.old.items ++ item ∷ []) }
+{
+    if items.is_empty() {
+        items.reserve_exact(1)?;
+    }
+    items.push(item)?;
+    Ok(())
+}
+
 // The items of a list, and the tokens behind it.
 pub fn all<L: Turns>(alloc: Global, tokens: &[Token]) -> Result<(List<L::Item>, &[Token]), Stop>
     ensures { Gives (λ r. (r.0, r.1.now)) result (all_at L.turns tokens.now) }
 {
-    let mut items = List::new(alloc);
+    let mut items = Vec::new(alloc);
     let mut rest = tokens;
     let mut left = tokens.len();
     loop {
         match L::turn(alloc, rest)? {
-            Turn::Done(after) => return Ok((items, after)),
+            Turn::Done(after) => return Ok((List::from_vec(items), after)),
             Turn::Last(item, after) => {
-                items.push(item)?;
-                return Ok((items, after));
+                push_item(&mut items, item)?;
+                return Ok((List::from_vec(items), after));
             }
             Turn::More(item, after) => {
                 if left == 0 {
                     return Err(Stop::Mismatch);
                 }
-                items.push(item)?;
+                push_item(&mut items, item)?;
                 left -= 1;
                 rest = after;
             }

@@ -121,7 +121,7 @@ module _ (text : List ℕ) where
   string_leaf _ t h l z = cc
 
   choice : (t : Token) → t.kind ≡ StringLit → B (name_sites t) (choice_from t) (IsChoice text t)
-  choice t h = then text (λ (v : List ℕ). record { node = record { 0 = v }; loc = Some t.loc }) (of_site text (site_of_kind t.kind t) (string_leaf t.kind t h)) (λ v is. (is, refl))
+  choice t h = then text (λ (v : List ℕ). record { node = v; loc = Some t.loc }) (of_site text (site_of_kind t.kind t) (string_leaf t.kind t h)) (λ v is. (is, refl))
 
   notes_leaf : (list : List AnnotationSyntax) (l : Leaf) → IsLeaf text (site.annotations list) l
       → (n : Annotations) × ((rest : List Leaf) → notes_from (l ∷ rest) ≡ Some (n, rest)) × AreNotes text list n.0

@@ -3,7 +3,6 @@ use Rattle.std.specs.Prelude.{◌≡◌, ℕ, ◌-◌, length, take, List, [], �
 use Rattle.cedar_data.specs.Span.{Span}
 use Rattle.cedar_data.specs.declared.node.Node.{Node}
 use Rattle.cedar_identifiers.specs.declared.id.Id.{Id}
-use Rattle.cedar_identifiers.specs.declared.eid.Eid.{Eid}
 use Rattle.cedar_identifiers.specs.declared.annotations.Annotations.{Annotations}
 use Rattle.schema_syntax_tokens.specs.declared.token.Token.{Token}
 use Rattle.schema_syntax_tokens.specs.TokenLists.{whole_place}
@@ -105,8 +104,8 @@ id_node_from t leaves = id_from leaves >>= λ r. Some (record { node = r.0; loc 
 abbrev pub name_node_from : Token → Builds (Node (List ℕ))
 name_node_from t leaves = name_from leaves >>= λ r. Some (record { node = r.0; loc = Some t.loc }, r.1)
 
-abbrev pub choice_from : Token → Builds (Node Eid)
-choice_from t leaves = text_from leaves >>= λ r. Some (record { node = record { 0 = r.0 }; loc = Some t.loc }, r.1)
+abbrev pub choice_from : Token → Builds (Node (List ℕ))
+choice_from t leaves = text_from leaves >>= λ r. Some (record { node = r.0; loc = Some t.loc }, r.1)
 
 -- the path of these ids, where there is one
 abbrev pub path_of : List Id → Span → Option Path

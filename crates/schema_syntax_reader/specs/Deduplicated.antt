@@ -11,20 +11,21 @@ use Rattle.schema_syntax_errors.specs.declared.user_error.UserError.{UserError}
 use Rattle.schema_syntax_errors.specs.declared.user_error.UserError.TheVariants.{DuplicateAnnotations}
 use Rattle.schema_syntax_errors.specs.declared.annotation_error.AnnotationError.{AnnotationError}
 use Rattle.schema_syntax_errors.specs.declared.annotation_error.AnnotationError.TheVariants.{User, Memory}
+use Rattle.schema_syntax_tree.specs.declared.src_annotations.SrcAnnotation.{SrcAnnotation}
 use Rattle.schema_syntax_reader.specs.Leaves.{Notes}
 
 -- a key and the value that stands behind it, where one does
 abbrev pub Placed : Type 0
-Placed = Node (Node AnyId × Option (Node (List ℕ)))
+Placed = Node SrcAnnotation
 
 abbrev pub placed_key : Placed → AnyId
-placed_key a = a.node.0.node
+placed_key a = a.node.key.node
 
 abbrev pub key_place : Placed → Option Span
-key_place a = a.node.0.loc
+key_place a = a.node.key.loc
 
 abbrev pub value_of : Placed → Option (List ℕ)
-value_of a = option_map (λ v. v.node) a.node.1
+value_of a = option_map (λ v. v.node) a.node.value
 
 -- without the places
 abbrev pub note_of : Placed → AnyId × Option (List ℕ)

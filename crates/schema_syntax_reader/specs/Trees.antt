@@ -4,7 +4,6 @@ use Rattle.std.specs.List.{AllZip}
 use Rattle.cedar_data.specs.Span.{Span}
 use Rattle.cedar_data.specs.declared.node.Node.{Node}
 use Rattle.cedar_identifiers.specs.declared.id.Id.{Id}
-use Rattle.cedar_identifiers.specs.declared.eid.Eid.{Eid}
 use Rattle.cedar_identifiers.specs.declared.annotations.Annotations.{Annotations}
 use Rattle.schema_syntax_grammar.specs.declared.token_kind.TokenKind.{TokenKind}
 use Rattle.schema_syntax_grammar.specs.declared.token_kind.TokenKind.TheVariants.{KwResource, StringLit}
@@ -60,8 +59,8 @@ module _ (text : List ℕ) where
   abbrev pub IsNameNode : Token → Node (List ℕ) → Type 0
   IsNameNode t n = IsNameOf t.kind t n.node × (n.loc ≡ Some t.loc)
 
-  abbrev pub IsChoice : Token → Node Eid → Type 0
-  IsChoice t n = IsStringAt text t n.node.0 × (n.loc ≡ Some t.loc)
+  abbrev pub IsChoice : Token → Node (List ℕ) → Type 0
+  IsChoice t n = IsStringAt text t n.node × (n.loc ≡ Some t.loc)
 
   abbrev pub IsPathOf : PathSyntax → Path → Type 0
   IsPathOf p path = AllZip IsId p.names path.ids × (path.loc ≡ Some p.loc)

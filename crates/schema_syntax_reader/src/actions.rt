@@ -26,7 +26,11 @@ fn role_of(kind: TokenKind) -> PR
 
 // A member of an `appliesTo` block.
 #[tactic(auto, unfolding(crate::specs::Building::app_from))]
-fn app(alloc: Global, raw: &AppSyntax, leaves: &mut VecDeque<Leaf>) -> Result<Node<AppDecl>, Stop>
+fn app<'a>(
+    alloc: Global,
+    raw: &AppSyntax,
+    leaves: &mut VecDeque<Leaf<'a>>,
+) -> Result<Node<AppDecl<'a>>, Stop>
     ensures { GivesBuilt (λ x. x) result (app_from raw.now leaves.old.items) leaves.new.items }
 {
     match raw {
@@ -64,29 +68,29 @@ fn app(alloc: Global, raw: &AppSyntax, leaves: &mut VecDeque<Leaf>) -> Result<No
 // The members of an `appliesTo` block.
 struct Apps;
 
-impl Part for Apps {
+impl<'a> Part<'a> for Apps {
     type Raw = AppSyntax;
 
-    type Item = Node<AppDecl>;
+    type Item = Node<AppDecl<'a>>;
 
     ghost builds = { app_from };
 
     fn build(
         alloc: Global,
         raw: &AppSyntax,
-        leaves: &mut VecDeque<Leaf>,
-    ) -> Result<Node<AppDecl>, Stop> {
+        leaves: &mut VecDeque<Leaf<'a>>,
+    ) -> Result<Node<AppDecl<'a>>, Stop> {
         app(alloc, raw, leaves)
     }
 }
 
 // The `appliesTo` block, where it stands.
 #[tactic(auto, unfolding(crate::specs::Building::applies_from))]
-pub fn applies(
+pub fn applies<'a>(
     alloc: Global,
     raw: &Option<(List<AppSyntax>, Loc)>,
-    leaves: &mut VecDeque<Leaf>,
-) -> Result<Option<Node<NonEmpty<Node<AppDecl>>>>, Stop>
+    leaves: &mut VecDeque<Leaf<'a>>,
+) -> Result<Option<Node<NonEmpty<Node<AppDecl<'a>>>>>, Stop>
     ensures { GivesBuilt (λ x. x) result (applies_from raw.now leaves.old.items) leaves.new.items }
 {
     match raw {

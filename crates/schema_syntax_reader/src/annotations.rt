@@ -8,26 +8,22 @@ ghost use Rattle.cedar_data.specs.Text.{text_cmp};
 ghost use Rattle.schema_syntax_reader.specs.Deduplicated.{AreKept, AreRefused};
 ghost use Rattle.schema_syntax_reader.specs.Collected.{HasRead, note_of_entry};
 
-use cedar_data::{Loc, Map, Node, Text};
-use cedar_identifiers::{Annotations, AnyId};
+use cedar_data::{Loc, Map, Node};
 use schema_syntax_errors::{AnnotationError, UserError};
-use schema_syntax_tree::Annotated;
+use schema_syntax_tree::{Annotated, SrcAnnotation, SrcAnnotations, SrcStr, SrcWord};
 use std::alloc::{AllocError, Global};
 use std::collections::BTreeMap;
 
-/// An annotation with its places: its key, and the value that stands behind it, where one does.
-pub type PlacedAnnotation = Node<(Node<AnyId>, Option<Node<Text>>)>;
-
 // A value, and the place of its key.
 #[derive(Drop)]
-struct Kept {
-    value: Option<Text>,
+struct Kept<'a> {
+    value: Option<SrcStr<'a>>,
     place: Option<Loc>,
 }
 
 // The place of the key in the tree, where the tree has it.
-fn place_in(tree: &BTreeMap<AnyId, Kept>, key: &AnyId) -> Option<Option<Loc>>
-    ensures { result ≡ option_map (λ kept. kept.place) (get ⟦<AnyId as Ord>⟧.cmp tree.now key.now) }
+fn place_in<'a>(tree: &BTreeMap<SrcWord<'a>, Kept<'a>>, key: &SrcWord<'a>) -> Option<Option<Loc>>
+    ensures { result ≡ option_map (λ kept. kept.place) (get ⟦<SrcWord<'static> as Ord>⟧.cmp tree.now key.now) }
 {
     match tree.get(key) {
         None => None,
@@ -36,25 +32,24 @@ fn place_in(tree: &BTreeMap<AnyId, Kept>, key: &AnyId) -> Option<Option<Loc>>
 }
 
 // The annotations by their keys, unless one stands twice.
-fn by_keys(
+fn by_keys<'a>(
     alloc: Global,
-    annotations: Vec<PlacedAnnotation>,
-) -> Result<BTreeMap<AnyId, Kept>, AnnotationError>
-    ensures tree { IfOk result (λ tree. HasRead annotations.items [] tree.entries) }
-    ensures twice { IfErr result (AreRefused annotations.items) }
+    annotations: Vec<Node<SrcAnnotation<'a>>>,
+) -> Result<BTreeMap<SrcWord<'a>, Kept<'a>>, AnnotationError>
+    ensures tree { IfOk result (λ tree. HasRead annotations.entry.items [] tree.entries) }
+    ensures twice { IfErr result (AreRefused annotations.entry.items) }
 {
     let mut tree = BTreeMap::new(alloc);
     for annotation in annotations {
-        let (key, value) = annotation.node;
+        let SrcAnnotation { key, value } = annotation.node;
         let second = Node {
             node: (),
             loc: key.loc,
         };
         if let Some(loc) = place_in(&tree, &key.node) {
             let first = Node { node: (), loc };
-            return Err(AnnotationError::User(UserError::DuplicateAnnotations(
-                key.node, first, second,
-            )));
+            let key = key.node.to_any_id(alloc)?;
+            return Err(AnnotationError::User(UserError::DuplicateAnnotations(key, first, second)));
         }
         let kept = Kept {
             value: without_place(value),
@@ -66,8 +61,8 @@ fn by_keys(
 }
 
 // The text alone.
-fn without_place(value: Option<Node<Text>>) -> Option<Text>
-    ensures { result ≡ option_map (λ v. v.node) value }
+fn without_place<'a>(value: Option<Node<SrcStr<'a>>>) -> Option<SrcStr<'a>>
+    ensures { result ≡ option_map (λ v. v.node) value.entry }
 {
     match value {
         None => None,
@@ -76,11 +71,11 @@ fn without_place(value: Option<Node<Text>>) -> Option<Text>
 }
 
 // The keys and the values, without the places.
-fn without_places(
+fn without_places<'a>(
     alloc: Global,
-    tree: BTreeMap<AnyId, Kept>,
-) -> Result<Map<AnyId, Option<Text>>, AllocError>
-    ensures notes { IfOk result (λ notes. notes ≡ map note_of_entry tree.entries) }
+    tree: BTreeMap<SrcWord<'a>, Kept<'a>>,
+) -> Result<Map<SrcWord<'a>, Option<SrcStr<'a>>>, AllocError>
+    ensures notes { IfOk result (λ notes. notes ≡ map note_of_entry tree.entry.entries) }
     ensures rising { IfOk result (λ notes. IsStrictlySortedBy text_cmp (map (λ note. note.0.text) notes)) }
 {
     let mut notes = Vec::with_capacity(alloc, tree.len())?;
@@ -92,16 +87,16 @@ fn without_places(
 
 /// The item with these annotations, unless a key stands twice: then the place of its first annotation is named, and that of the first one
 /// whose key stood before.
-pub fn deduplicate_annotations<T: Drop>(
+pub fn deduplicate_annotations<'a, T: Drop>(
     alloc: Global,
     item: T,
-    annotations: Vec<PlacedAnnotation>,
-) -> Result<Annotated<T>, AnnotationError>
+    annotations: Vec<Node<SrcAnnotation<'a>>>,
+) -> Result<Annotated<'a, T>, AnnotationError>
     ensures item { IfOk result (λ annotated. annotated.item ≡ item) }
-    ensures kept { IfOk result (λ annotated. AreKept annotations.items annotated.annotations.0) }
-    ensures twice { IfErr result (AreRefused annotations.items) }
+    ensures kept { IfOk result (λ annotated. AreKept annotations.entry.items annotated.annotations.0) }
+    ensures twice { IfErr result (AreRefused annotations.entry.items) }
 {
     let tree = by_keys(alloc, annotations)?;
-    let annotations = Annotations(without_places(alloc, tree)?);
+    let annotations = SrcAnnotations::from_map(without_places(alloc, tree)?);
     Ok(Annotated { item, annotations })
 }

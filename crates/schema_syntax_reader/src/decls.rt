@@ -18,14 +18,14 @@ use std::collections::VecDeque;
 
 // Entity types.
 #[tactic(auto, unfolding(crate::specs::Building::entity_from))]
-fn entity(
+fn entity<'a>(
     alloc: Global,
     names: &[Token],
     parents: &[PathSyntax],
     shape_raw: &Option<(List<AttrSyntax>, Loc)>,
     tags_raw: &Option<TypeSyntax>,
-    leaves: &mut VecDeque<Leaf>,
-) -> Result<Declaration, Stop>
+    leaves: &mut VecDeque<Leaf<'a>>,
+) -> Result<Declaration<'a>, Stop>
     ensures { GivesBuilt (λ x. x) result (entity_from names.now parents.now shape_raw.now tags_raw.now leaves.old.items) leaves.new.items }
 {
     let names = some::<Ids>(alloc, names, leaves)?;
@@ -42,12 +42,12 @@ fn entity(
 
 // Entity types of listed ids.
 #[tactic(auto, unfolding(crate::specs::Building::enum_from))]
-fn listed(
+fn listed<'a>(
     alloc: Global,
     names: &[Token],
     choices: &[Token],
-    leaves: &mut VecDeque<Leaf>,
-) -> Result<Declaration, Stop>
+    leaves: &mut VecDeque<Leaf<'a>>,
+) -> Result<Declaration<'a>, Stop>
     ensures { GivesBuilt (λ x. x) result (enum_from names.now choices.now leaves.old.items) leaves.new.items }
 {
     let names = some::<Ids>(alloc, names, leaves)?;
@@ -57,12 +57,12 @@ fn listed(
 
 // Entity types of another schema.
 #[tactic(auto, unfolding(crate::specs::Building::external_entity_from))]
-fn external_entity(
+fn external_entity<'a>(
     alloc: Global,
     names: &[Token],
     parents: &[PathSyntax],
-    leaves: &mut VecDeque<Leaf>,
-) -> Result<Declaration, Stop>
+    leaves: &mut VecDeque<Leaf<'a>>,
+) -> Result<Declaration<'a>, Stop>
     ensures { GivesBuilt (λ x. x) result (external_entity_from names.now parents.now leaves.old.items) leaves.new.items }
 {
     let names = some::<Ids>(alloc, names, leaves)?;
@@ -75,13 +75,13 @@ fn external_entity(
 
 // Actions.
 #[tactic(auto, unfolding(crate::specs::Building::action_from))]
-fn action(
+fn action<'a>(
     alloc: Global,
     names: &[Token],
     parents: &[PathSyntax],
     applies_raw: &Option<(List<AppSyntax>, Loc)>,
-    leaves: &mut VecDeque<Leaf>,
-) -> Result<Declaration, Stop>
+    leaves: &mut VecDeque<Leaf<'a>>,
+) -> Result<Declaration<'a>, Stop>
     ensures { GivesBuilt (λ x. x) result (action_from names.now parents.now applies_raw.now leaves.old.items) leaves.new.items }
 {
     let names = some::<Names>(alloc, names, leaves)?;
@@ -96,12 +96,12 @@ fn action(
 
 // Actions of another schema.
 #[tactic(auto, unfolding(crate::specs::Building::external_action_from))]
-fn external_action(
+fn external_action<'a>(
     alloc: Global,
     names: &[Token],
     parents: &[PathSyntax],
-    leaves: &mut VecDeque<Leaf>,
-) -> Result<Declaration, Stop>
+    leaves: &mut VecDeque<Leaf<'a>>,
+) -> Result<Declaration<'a>, Stop>
     ensures { GivesBuilt (λ x. x) result (external_action_from names.now parents.now leaves.old.items) leaves.new.items }
 {
     let names = some::<Names>(alloc, names, leaves)?;
@@ -111,12 +111,12 @@ fn external_action(
 
 // A common type.
 #[tactic(auto, unfolding(crate::specs::Building::common_from))]
-fn common(
+fn common<'a>(
     alloc: Global,
     name: &Token,
     raw: &TypeSyntax,
-    leaves: &mut VecDeque<Leaf>,
-) -> Result<Declaration, Stop>
+    leaves: &mut VecDeque<Leaf<'a>>,
+) -> Result<Declaration<'a>, Stop>
     ensures { GivesBuilt (λ x. x) result (common_from name.now raw.now leaves.old.items) leaves.new.items }
 {
     let name = id_node(name, leaves)?;
@@ -125,11 +125,11 @@ fn common(
 }
 
 // A declaration without its annotations.
-pub fn decl(
+pub fn decl<'a>(
     alloc: Global,
     raw: &DeclSyntax,
-    leaves: &mut VecDeque<Leaf>,
-) -> Result<Declaration, Stop>
+    leaves: &mut VecDeque<Leaf<'a>>,
+) -> Result<Declaration<'a>, Stop>
     ensures { GivesBuilt (λ x. x) result (decl_from raw.now leaves.old.items) leaves.new.items }
 {
     match raw {

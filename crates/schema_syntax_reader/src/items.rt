@@ -6,19 +6,18 @@ use crate::names::notes;
 use crate::parts::{Part, all};
 use crate::paths::path;
 use cedar_data::{List, Loc, Node};
-use cedar_identifiers::Annotations;
 use schema_syntax_parser::{DeclaredSyntax, ItemSyntax, PathSyntax, Stop};
-use schema_syntax_tree::{Annotated, Declaration, Namespace};
+use schema_syntax_tree::{Annotated, Declaration, Namespace, SrcAnnotations};
 use std::alloc::Global;
 use std::collections::VecDeque;
 
 // A declaration with its annotations.
 #[tactic(auto, unfolding(crate::specs::Building::declared_from))]
-fn declared(
+fn declared<'a>(
     alloc: Global,
     raw: &DeclaredSyntax,
-    leaves: &mut VecDeque<Leaf>,
-) -> Result<Annotated<Node<Declaration>>, Stop>
+    leaves: &mut VecDeque<Leaf<'a>>,
+) -> Result<Annotated<'a, Node<Declaration<'a>>>, Stop>
     ensures { GivesBuilt (λ x. x) result (declared_from raw.now leaves.old.items) leaves.new.items }
 {
     let annotations = notes(leaves)?;
@@ -33,31 +32,31 @@ fn declared(
 // The declarations of a namespace.
 struct Decls;
 
-impl Part for Decls {
+impl<'a> Part<'a> for Decls {
     type Raw = DeclaredSyntax;
 
-    type Item = Annotated<Node<Declaration>>;
+    type Item = Annotated<'a, Node<Declaration<'a>>>;
 
     ghost builds = { declared_from };
 
     fn build(
         alloc: Global,
         raw: &DeclaredSyntax,
-        leaves: &mut VecDeque<Leaf>,
-    ) -> Result<Annotated<Node<Declaration>>, Stop> {
+        leaves: &mut VecDeque<Leaf<'a>>,
+    ) -> Result<Annotated<'a, Node<Declaration<'a>>>, Stop> {
         declared(alloc, raw, leaves)
     }
 }
 
 // A namespace, from its path, its declarations and its place.
 #[tactic(auto, unfolding(crate::specs::Building::namespace_from))]
-fn namespace(
+fn namespace<'a>(
     alloc: Global,
     name: &PathSyntax,
     decls: &[DeclaredSyntax],
     loc: Loc,
-    leaves: &mut VecDeque<Leaf>,
-) -> Result<Annotated<Namespace>, Stop>
+    leaves: &mut VecDeque<Leaf<'a>>,
+) -> Result<Annotated<'a, Namespace<'a>>, Stop>
     ensures { GivesBuilt (λ x. x) result (namespace_from name.now decls.now loc leaves.old.items) leaves.new.items }
 {
     let annotations = notes(leaves)?;
@@ -73,40 +72,40 @@ fn namespace(
 
 // A declaration outside of every namespace: it is alone in one without name, place and annotations.
 #[tactic(auto, unfolding(crate::specs::Building::outside_from))]
-fn outside(
+fn outside<'a>(
     alloc: Global,
     raw: &DeclaredSyntax,
-    leaves: &mut VecDeque<Leaf>,
-) -> Result<Annotated<Namespace>, Stop>
+    leaves: &mut VecDeque<Leaf<'a>>,
+) -> Result<Annotated<'a, Namespace<'a>>, Stop>
     ensures { GivesBuilt (λ x. x) result (outside_from raw.now leaves.old.items) leaves.new.items }
 {
     let decl = declared(alloc, raw, leaves)?;
-    let mut decls = List::new(alloc);
+    let mut decls = Vec::with_capacity(alloc, 1)?;
     decls.push(decl)?;
     let item = Namespace {
         name: None,
-        decls,
+        decls: List::from_vec(decls),
         loc: None,
     };
-    let annotations = Annotations::new(alloc);
+    let annotations = SrcAnnotations::new(alloc);
     Ok(Annotated { item, annotations })
 }
 
 // The items of a schema.
 pub struct Items;
 
-impl Part for Items {
+impl<'a> Part<'a> for Items {
     type Raw = ItemSyntax;
 
-    type Item = Annotated<Namespace>;
+    type Item = Annotated<'a, Namespace<'a>>;
 
     ghost builds = { item_from };
 
     fn build(
         alloc: Global,
         raw: &ItemSyntax,
-        leaves: &mut VecDeque<Leaf>,
-    ) -> Result<Annotated<Namespace>, Stop> {
+        leaves: &mut VecDeque<Leaf<'a>>,
+    ) -> Result<Annotated<'a, Namespace<'a>>, Stop> {
         match raw {
             ItemSyntax::Namespace(_, name, decls, loc) => {
                 namespace(alloc, name, decls.as_slice(), *loc, leaves)

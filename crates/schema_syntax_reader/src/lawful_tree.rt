@@ -15,7 +15,11 @@ use schema_syntax_tree::Schema;
 use std::alloc::Global;
 
 /// The tree of the tokens of a text, which are those of a schema, or of their user faults the one that ends first.
-pub fn tree_of_tokens(alloc: Global, text: &str, tokens: &[Token]) -> Result<Schema, Stopped>
+pub fn tree_of_tokens<'a>(
+    alloc: Global,
+    text: &'a str,
+    tokens: &[Token],
+) -> Result<Schema<'a>, Stopped>
     requires scans { Scans text.now tokens.now (length text.now) }
     requires placed { All (IsPlaced text.now) tokens.now }
     requires sentence { Sentence (kinds_of tokens.now) }
@@ -26,5 +30,8 @@ pub fn tree_of_tokens(alloc: Global, text: &str, tokens: &[Token]) -> Result<Sch
     let items = items.as_slice();
     let sites = sites_of(alloc, items)?;
     let leaves = leaves_of(alloc, text, &sites)?;
-    Ok(tree_of(alloc, items, leaves)?)
+    match tree_of(alloc, items, leaves) {
+        Ok(schema) => Ok(schema),
+        Err(_) => Err(Stopped::Memory),
+    }
 }

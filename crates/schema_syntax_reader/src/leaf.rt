@@ -1,13 +1,12 @@
-use cedar_data::Text;
-use cedar_identifiers::{Annotations, Id};
+use schema_syntax_tree::{SrcAnnotations, SrcId, SrcStr};
 
 /// What a site stands for.
 #[derive(Drop)]
-pub enum Leaf {
+pub enum Leaf<'a> {
     /// What a word stands for.
-    Word(Id),
+    Word(SrcId<'a>),
     /// What a string stands for.
-    Text(Text),
+    Text(SrcStr<'a>),
     /// What annotations stand for.
-    Annotations(Annotations),
+    Annotations(SrcAnnotations<'a>),
 }

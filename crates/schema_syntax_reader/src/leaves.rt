@@ -18,7 +18,7 @@ use std::alloc::Global;
 use std::collections::VecDeque;
 
 // What the site stands for, or the first of its faults.
-fn leaf_of(alloc: Global, text: &str, site: &Site<'_>) -> Result<Leaf, Stopped>
+fn leaf_of<'a>(alloc: Global, text: &'a str, site: &Site<'_>) -> Result<Leaf<'a>, Stopped>
     requires { IsPlacedSite text.now (site_of site.now) }
     ensures leaf { IfOk result (IsLeaf text.now (site_of site.now)) }
     ensures lawful { OnOk result (NoSiteFault text.now (site_of site.now)) }
@@ -36,7 +36,11 @@ fn leaf_of(alloc: Global, text: &str, site: &Site<'_>) -> Result<Leaf, Stopped>
 }
 
 /// What the sites stand for, in their order, or the first of their faults.
-pub fn leaves_of(alloc: Global, text: &str, sites: &[Site<'_>]) -> Result<VecDeque<Leaf>, Stopped>
+pub fn leaves_of<'a>(
+    alloc: Global,
+    text: &'a str,
+    sites: &[Site<'_>],
+) -> Result<VecDeque<Leaf<'a>>, Stopped>
     requires placed { All (IsPlacedSite text.now) (map site_of sites.now) }
     ensures leaves { IfOk result (λ leaves. AllZip (IsLeaf text.now) (map site_of sites.now) leaves.items) }
     ensures lawful { OnOk result (All (NoSiteFault text.now) (map site_of sites.now)) }

@@ -20,6 +20,6 @@ mod trees;
 mod types;
 mod words;
 
-pub use annotations::{PlacedAnnotation, deduplicate_annotations};
+pub use annotations::deduplicate_annotations;
 pub use lawful_tree::tree_of_tokens;
 pub use stopped::Stopped;

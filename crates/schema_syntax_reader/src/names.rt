@@ -2,66 +2,63 @@ ghost use Rattle.schema_syntax_reader.specs.Building.{GivesBuilt, id_from, text_
 
 use crate::leaf::Leaf;
 use crate::parts::Part;
-use cedar_data::{Node, Text};
-use cedar_identifiers::{Annotations, Eid, Id};
+use cedar_data::Node;
 use schema_syntax_parser::Stop;
 use schema_syntax_tokens::Token;
+use schema_syntax_tree::{SrcAnnotations, SrcId, SrcStr};
 use std::alloc::Global;
 use std::collections::VecDeque;
 
 // What the word that comes next stands for.
-fn id(leaves: &mut VecDeque<Leaf>) -> Result<Id, Stop>
+fn id<'a>(leaves: &mut VecDeque<Leaf<'a>>) -> Result<SrcId<'a>, Stop>
     ensures { GivesBuilt (λ x. x) result (id_from leaves.old.items) leaves.new.items }
 {
     match leaves.pop_front() {
         Some(Leaf::Word(id)) => Ok(id),
-        Some(Leaf::Text(_)) => Err(Stop::Mismatch),
-        Some(Leaf::Annotations(_)) => Err(Stop::Mismatch),
+        Some(Leaf::Text(_text)) => Err(Stop::Mismatch),
+        Some(Leaf::Annotations(_notes)) => Err(Stop::Mismatch),
         None => Err(Stop::Mismatch),
     }
 }
 
 // What the string that comes next stands for.
-fn text(leaves: &mut VecDeque<Leaf>) -> Result<Text, Stop>
+fn text<'a>(leaves: &mut VecDeque<Leaf<'a>>) -> Result<SrcStr<'a>, Stop>
     ensures { GivesBuilt (λ x. x) result (text_from leaves.old.items) leaves.new.items }
 {
     match leaves.pop_front() {
         Some(Leaf::Text(text)) => Ok(text),
-        Some(Leaf::Word(_)) => Err(Stop::Mismatch),
-        Some(Leaf::Annotations(_)) => Err(Stop::Mismatch),
+        Some(Leaf::Word(_word)) => Err(Stop::Mismatch),
+        Some(Leaf::Annotations(_notes)) => Err(Stop::Mismatch),
         None => Err(Stop::Mismatch),
     }
 }
 
 // What the annotations that come next stand for.
-pub fn notes(leaves: &mut VecDeque<Leaf>) -> Result<Annotations, Stop>
+pub fn notes<'a>(leaves: &mut VecDeque<Leaf<'a>>) -> Result<SrcAnnotations<'a>, Stop>
     ensures { GivesBuilt (λ x. x) result (notes_from leaves.old.items) leaves.new.items }
 {
     match leaves.pop_front() {
         Some(Leaf::Annotations(notes)) => Ok(notes),
-        Some(Leaf::Word(_)) => Err(Stop::Mismatch),
-        Some(Leaf::Text(_)) => Err(Stop::Mismatch),
+        Some(Leaf::Word(_word)) => Err(Stop::Mismatch),
+        Some(Leaf::Text(_text)) => Err(Stop::Mismatch),
         None => Err(Stop::Mismatch),
     }
 }
 
 // What the name that comes next stands for.
-pub fn name(leaves: &mut VecDeque<Leaf>) -> Result<Text, Stop>
+pub fn name<'a>(leaves: &mut VecDeque<Leaf<'a>>) -> Result<SrcStr<'a>, Stop>
     ensures { GivesBuilt (λ x. x) result (name_from leaves.old.items) leaves.new.items }
 {
     match leaves.pop_front() {
-        Some(Leaf::Word(id)) => {
-            let Id { text, .. } = id;
-            Ok(text)
-        }
+        Some(Leaf::Word(id)) => Ok(SrcStr::from_id(&id)),
         Some(Leaf::Text(text)) => Ok(text),
-        Some(Leaf::Annotations(_)) => Err(Stop::Mismatch),
+        Some(Leaf::Annotations(_notes)) => Err(Stop::Mismatch),
         None => Err(Stop::Mismatch),
     }
 }
 
 // An id with the place of its token.
-pub fn id_node(token: &Token, leaves: &mut VecDeque<Leaf>) -> Result<Node<Id>, Stop>
+pub fn id_node<'a>(token: &Token, leaves: &mut VecDeque<Leaf<'a>>) -> Result<Node<SrcId<'a>>, Stop>
     ensures { GivesBuilt (λ x. x) result (id_node_from token.now leaves.old.items) leaves.new.items }
 {
     let node = id(leaves)?;
@@ -72,7 +69,10 @@ pub fn id_node(token: &Token, leaves: &mut VecDeque<Leaf>) -> Result<Node<Id>, S
 }
 
 // A name with the place of its token.
-pub fn name_node(token: &Token, leaves: &mut VecDeque<Leaf>) -> Result<Node<Text>, Stop>
+pub fn name_node<'a>(
+    token: &Token,
+    leaves: &mut VecDeque<Leaf<'a>>,
+) -> Result<Node<SrcStr<'a>>, Stop>
     ensures { GivesBuilt (λ x. x) result (name_node_from token.now leaves.old.items) leaves.new.items }
 {
     let node = name(leaves)?;
@@ -85,14 +85,18 @@ pub fn name_node(token: &Token, leaves: &mut VecDeque<Leaf>) -> Result<Node<Text
 // The ids of a path.
 pub struct BareIds;
 
-impl Part for BareIds {
+impl<'a> Part<'a> for BareIds {
     type Raw = Token;
 
-    type Item = Id;
+    type Item = SrcId<'a>;
 
     ghost builds = { bare_id_from };
 
-    fn build(_alloc: Global, _raw: &Token, leaves: &mut VecDeque<Leaf>) -> Result<Id, Stop> {
+    fn build(
+        _alloc: Global,
+        _raw: &Token,
+        leaves: &mut VecDeque<Leaf<'a>>,
+    ) -> Result<SrcId<'a>, Stop> {
         id(leaves)
     }
 }
@@ -100,14 +104,18 @@ impl Part for BareIds {
 // Ids, each with its place.
 pub struct Ids;
 
-impl Part for Ids {
+impl<'a> Part<'a> for Ids {
     type Raw = Token;
 
-    type Item = Node<Id>;
+    type Item = Node<SrcId<'a>>;
 
     ghost builds = { id_node_from };
 
-    fn build(_alloc: Global, raw: &Token, leaves: &mut VecDeque<Leaf>) -> Result<Node<Id>, Stop> {
+    fn build(
+        _alloc: Global,
+        raw: &Token,
+        leaves: &mut VecDeque<Leaf<'a>>,
+    ) -> Result<Node<SrcId<'a>>, Stop> {
         id_node(raw, leaves)
     }
 }
@@ -115,14 +123,18 @@ impl Part for Ids {
 // Names, each with its place.
 pub struct Names;
 
-impl Part for Names {
+impl<'a> Part<'a> for Names {
     type Raw = Token;
 
-    type Item = Node<Text>;
+    type Item = Node<SrcStr<'a>>;
 
     ghost builds = { name_node_from };
 
-    fn build(_alloc: Global, raw: &Token, leaves: &mut VecDeque<Leaf>) -> Result<Node<Text>, Stop> {
+    fn build(
+        _alloc: Global,
+        raw: &Token,
+        leaves: &mut VecDeque<Leaf<'a>>,
+    ) -> Result<Node<SrcStr<'a>>, Stop> {
         name_node(raw, leaves)
     }
 }
@@ -130,17 +142,21 @@ impl Part for Names {
 // The ids of entities, each with its place.
 pub struct Choices;
 
-impl Part for Choices {
+impl<'a> Part<'a> for Choices {
     type Raw = Token;
 
-    type Item = Node<Eid>;
+    type Item = Node<SrcStr<'a>>;
 
     ghost builds = { choice_from };
 
-    fn build(_alloc: Global, raw: &Token, leaves: &mut VecDeque<Leaf>) -> Result<Node<Eid>, Stop> {
+    fn build(
+        _alloc: Global,
+        raw: &Token,
+        leaves: &mut VecDeque<Leaf<'a>>,
+    ) -> Result<Node<SrcStr<'a>>, Stop> {
         let value = text(leaves)?;
         Ok(Node {
-            node: Eid(value),
+            node: value,
             loc: Some(raw.loc),
         })
     }

@@ -9,30 +9,30 @@ ghost use Rattle.schema_syntax_reader.specs.Stops.{IsStoppedAt};
 ghost use Rattle.schema_syntax_reader.specs.Deduplicated.{placed_key, key_place, value_of};
 ghost use Rattle.schema_syntax_reader.specs.ReadNotes.{IsValueOr, IsReadOr, AreRead};
 
-use crate::annotations::{PlacedAnnotation, deduplicate_annotations};
+use crate::annotations::deduplicate_annotations;
 use crate::stopped::Stopped;
 use crate::strings::string_value;
 use crate::words::any_word;
-use cedar_data::{Loc, Node, Text};
-use cedar_identifiers::{Annotations, AnyId};
+use cedar_data::{Loc, Node};
 use schema_syntax_errors::{AnnotationError, UserError};
 use schema_syntax_parser::AnnotationSyntax;
 use schema_syntax_tokens::Token;
+use schema_syntax_tree::{SrcAnnotation, SrcAnnotations, SrcStr, SrcWord};
 use std::alloc::{AllocError, Global};
 
 // Annotations up to the first whose value has a fault, and that fault.
 #[derive(Drop)]
-struct ReadNotes {
-    notes: Vec<PlacedAnnotation>,
+struct ReadNotes<'a> {
+    notes: Vec<Node<SrcAnnotation<'a>>>,
     fault: Option<UserError>,
 }
 
 // What the value stands for, where there is one and it has no fault, and its fault.
-fn read_value(
+fn read_value<'a>(
     alloc: Global,
-    text: &str,
+    text: &'a str,
     value: &Option<Token>,
-) -> Result<(Option<Node<Text>>, Option<UserError>), AllocError>
+) -> Result<(Option<Node<SrcStr<'a>>>, Option<UserError>), AllocError>
     requires { IsPlacedValue text.now value.now }
     ensures { IfOk result (λ r. IsValueOr text.now value.now r.0 r.1) }
 {
@@ -53,41 +53,49 @@ fn read_value(
 }
 
 // The annotation, and the fault of its value, where it has one.
-fn read_note(
+fn read_note<'a>(
     alloc: Global,
-    text: &str,
+    text: &'a str,
     note: &AnnotationSyntax,
-) -> Result<(PlacedAnnotation, Option<UserError>), AllocError>
+) -> Result<(Node<SrcAnnotation<'a>>, Option<UserError>), AllocError>
     requires { IsPlacedNote text.now note.now }
     ensures { IfOk result (λ r. IsReadOr text.now note.now r.0 r.1) }
 {
-    let key = any_word(alloc, text, &note.key)?;
+    let key = any_word(text, &note.key);
     let (value, fault) = read_value(alloc, text, &note.value)?;
     Ok((placed(key, value, &note.key.loc), fault))
 }
 
 // The annotation whose key stands there.
-fn placed(node: AnyId, value: Option<Node<Text>>, place: &Loc) -> PlacedAnnotation
-    ensures key { placed_key result ≡ node }
+fn placed<'a>(
+    node: SrcWord<'a>,
+    value: Option<Node<SrcStr<'a>>>,
+    place: &Loc,
+) -> Node<SrcAnnotation<'a>>
+    ensures key { placed_key result ≡ node.entry }
     ensures key_place { key_place result ≡ Some place.now }
-    ensures value { value_of result ≡ option_map (λ v. v.node) value }
+    ensures value { value_of result ≡ option_map (λ v. v.node) value.entry }
 {
     let key = Node {
         node,
         loc: Some(*place),
     };
     Node {
-        node: (key, value),
+        node: SrcAnnotation { key, value },
         loc: Some(*place),
     }
 }
 
 // The annotations, up to the first whose value has a fault.
-fn read_notes(alloc: Global, text: &str, list: &[AnnotationSyntax]) -> Result<ReadNotes, AllocError>
+fn read_notes<'a>(
+    alloc: Global,
+    text: &'a str,
+    list: &[AnnotationSyntax],
+) -> Result<ReadNotes<'a>, AllocError>
     requires { All (IsPlacedNote text.now) list.now }
     ensures { IfOk result (λ read. AreRead text.now list.now read.notes.items read.fault) }
 {
-    let mut notes = Vec::new(alloc);
+    let mut notes = Vec::with_capacity(alloc, list.len())?;
     for note in list {
         let (read, fault) = read_note(alloc, text, note)?;
         notes.push(read)?;
@@ -102,11 +110,11 @@ fn read_notes(alloc: Global, text: &str, list: &[AnnotationSyntax]) -> Result<Re
 }
 
 /// What the annotations stand for, or the first of their faults.
-pub fn notes_of(
+pub fn notes_of<'a>(
     alloc: Global,
-    text: &str,
+    text: &'a str,
     list: &[AnnotationSyntax],
-) -> Result<Annotations, Stopped>
+) -> Result<SrcAnnotations<'a>, Stopped>
     requires placed { All (IsPlacedNote text.now) list.now }
     requires rise { Rise (note_tokens list.now) }
     ensures notes { IfOk result (λ notes. AreNotes text.now list.now notes.0) }

@@ -5,16 +5,15 @@ use crate::leaf::Leaf;
 use crate::names::{BareIds, name};
 use crate::parts::{Part, all};
 use cedar_data::{Loc, Node};
-use cedar_identifiers::Id;
 use schema_syntax_parser::{PathSyntax, Stop};
 use schema_syntax_tokens::{Token, whole_place};
-use schema_syntax_tree::{Path, QualName};
+use schema_syntax_tree::{Path, QualName, SrcId};
 use std::alloc::Global;
 use std::collections::VecDeque;
 
 // The path of the ids, where there is one.
-fn path_of(mut ids: Vec<Id>, loc: Loc) -> Option<Path>
-    ensures { result ≡ path_of ids.items loc }
+fn path_of<'a>(mut ids: Vec<SrcId<'a>>, loc: Loc) -> Option<Path<'a>>
+    ensures { result ≡ path_of ids.entry.items loc }
 {
     let basename = ids.pop()?;
     Some(Path::new(basename, ids, Some(loc)))
@@ -22,12 +21,12 @@ fn path_of(mut ids: Vec<Id>, loc: Loc) -> Option<Path>
 
 // The path of the names, which has this place.
 #[tactic(auto, unfolding(crate::specs::Building::names_from))]
-fn path_of_names(
+fn path_of_names<'a>(
     alloc: Global,
     names: &[Token],
     loc: Loc,
-    leaves: &mut VecDeque<Leaf>,
-) -> Result<Path, Stop>
+    leaves: &mut VecDeque<Leaf<'a>>,
+) -> Result<Path<'a>, Stop>
     ensures { GivesBuilt (λ x. x) result (names_from names.now loc leaves.old.items) leaves.new.items }
 {
     let ids = all::<BareIds>(alloc, names, leaves)?;
@@ -39,7 +38,11 @@ fn path_of_names(
 
 // A path.
 #[tactic(auto, unfolding(crate::specs::Building::path_from))]
-pub fn path(alloc: Global, raw: &PathSyntax, leaves: &mut VecDeque<Leaf>) -> Result<Path, Stop>
+pub fn path<'a>(
+    alloc: Global,
+    raw: &PathSyntax,
+    leaves: &mut VecDeque<Leaf<'a>>,
+) -> Result<Path<'a>, Stop>
     ensures { GivesBuilt (λ x. x) result (path_from raw.now leaves.old.items) leaves.new.items }
 {
     path_of_names(alloc, raw.names.as_slice(), raw.loc, leaves)
@@ -47,11 +50,11 @@ pub fn path(alloc: Global, raw: &PathSyntax, leaves: &mut VecDeque<Leaf>) -> Res
 
 // The path of a reference's type, where one stands before the id.
 #[tactic(auto, unfolding(crate::specs::Building::type_of_ref_from))]
-fn type_of_reference(
+fn type_of_reference<'a>(
     alloc: Global,
     names: &[Token],
-    leaves: &mut VecDeque<Leaf>,
-) -> Result<Option<Path>, Stop>
+    leaves: &mut VecDeque<Leaf<'a>>,
+) -> Result<Option<Path<'a>>, Stop>
     ensures { GivesBuilt (λ x. x) result (type_of_ref_from names.now leaves.old.items) leaves.new.items }
 {
     match names {
@@ -65,11 +68,11 @@ fn type_of_reference(
 
 // A reference to an action.
 #[tactic(auto, unfolding(crate::specs::Building::ref_from))]
-fn reference(
+fn reference<'a>(
     alloc: Global,
     raw: &PathSyntax,
-    leaves: &mut VecDeque<Leaf>,
-) -> Result<Node<QualName>, Stop>
+    leaves: &mut VecDeque<Leaf<'a>>,
+) -> Result<Node<QualName<'a>>, Stop>
     ensures { GivesBuilt (λ x. x) result (ref_from raw.now leaves.old.items) leaves.new.items }
 {
     let names = raw.names.as_slice();
@@ -85,14 +88,18 @@ fn reference(
 // Paths.
 pub struct Paths;
 
-impl Part for Paths {
+impl<'a> Part<'a> for Paths {
     type Raw = PathSyntax;
 
-    type Item = Path;
+    type Item = Path<'a>;
 
     ghost builds = { path_from };
 
-    fn build(alloc: Global, raw: &PathSyntax, leaves: &mut VecDeque<Leaf>) -> Result<Path, Stop> {
+    fn build(
+        alloc: Global,
+        raw: &PathSyntax,
+        leaves: &mut VecDeque<Leaf<'a>>,
+    ) -> Result<Path<'a>, Stop> {
         path(alloc, raw, leaves)
     }
 }
@@ -100,18 +107,18 @@ impl Part for Paths {
 // References to actions.
 pub struct References;
 
-impl Part for References {
+impl<'a> Part<'a> for References {
     type Raw = PathSyntax;
 
-    type Item = Node<QualName>;
+    type Item = Node<QualName<'a>>;
 
     ghost builds = { ref_from };
 
     fn build(
         alloc: Global,
         raw: &PathSyntax,
-        leaves: &mut VecDeque<Leaf>,
-    ) -> Result<Node<QualName>, Stop> {
+        leaves: &mut VecDeque<Leaf<'a>>,
+    ) -> Result<Node<QualName<'a>>, Stop> {
         reference(alloc, raw, leaves)
     }
 }

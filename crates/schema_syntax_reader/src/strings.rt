@@ -5,14 +5,15 @@ ghost use Rattle.schema_syntax_reader.specs.Placed.{IsPlacedString};
 ghost use Rattle.schema_syntax_reader.specs.Stops.{NoBadEscapeAt, IsEscapeStop};
 
 use crate::stopped::Stopped;
-use cedar_data::{Node, NonEmpty, Text};
+use cedar_data::{Node, NonEmpty};
 use schema_syntax_errors::{UnescapeError, UserError};
 use schema_syntax_tokens::laws::one_value;
-use schema_syntax_tokens::{Refusal, Token, string_body, unescape};
+use schema_syntax_tokens::{Token, string_body};
+use schema_syntax_tree::SrcStr;
 use std::alloc::Global;
 
 /// What the string at the token's place stands for.
-pub fn string_value(alloc: Global, text: &str, token: &Token) -> Result<Text, Stopped>
+pub fn string_value<'a>(alloc: Global, text: &'a str, token: &Token) -> Result<SrcStr<'a>, Stopped>
     requires { IsPlacedString text.now token.now }
     ensures value { IfOk result (IsStringAt text.now token.now) }
     ensures lawful { OnOk result (NoBadEscapeAt text.now token.now) }
@@ -20,10 +21,9 @@ pub fn string_value(alloc: Global, text: &str, token: &Token) -> Result<Text, St
 {
     one_value();
     let body = string_body(token, text).unwrap();
-    match unescape(alloc, body) {
+    match SrcStr::read(body) {
         Ok(value) => Ok(value),
-        Err(Refusal::Memory) => Err(Stopped::Memory),
-        Err(Refusal::Escape(place)) => {
+        Err(place) => {
             let at = token.loc.start + 1 + place;
             let fault = NonEmpty::new(alloc, UnescapeError { at });
             Err(Stopped::User(UserError::StringEscape(Node {

@@ -16,13 +16,13 @@ use std::alloc::{AllocError, Global};
 use std::collections::VecDeque;
 
 /// The tree of the syntax of a text, from what its sites stand for, in the order of the text.
-pub fn tree_of(
+pub fn tree_of<'a>(
     alloc: Global,
     items: &[ItemSyntax],
-    mut leaves: VecDeque<Leaf>,
-) -> Result<Schema, AllocError>
+    mut leaves: VecDeque<Leaf<'a>>,
+) -> Result<Schema<'a>, AllocError>
     requires fit { (text : List ℕ) × (tokens : List Word) × IsSyntax tokens items.now × AllZip (IsLeaf text) (sites_of items.now) leaves.items }
-    ensures tree { IfOk result (λ schema. (text : List ℕ) → AllZip (IsLeaf text) (sites_of items.now) leaves.items → IsTreeOf text items.now schema) }
+    ensures tree { IfOk result (λ schema. (text : List ℕ) → AllZip (IsLeaf text) (sites_of items.now) leaves.entry.items → IsTreeOf text items.now schema) }
 {
     match all::<Items>(alloc, items, &mut leaves) {
         Ok(namespaces) => Ok(List::from_vec(namespaces)),

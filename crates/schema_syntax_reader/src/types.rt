@@ -12,7 +12,11 @@ use std::collections::VecDeque;
 // A type.
 #[tactic(auto, using(crate::proofs::TypeSteps::type_path, crate::proofs::TypeSteps::type_set, crate::proofs::TypeSteps::type_record))]
 #[cycle(types)]
-pub fn ty(alloc: Global, raw: &TypeSyntax, leaves: &mut VecDeque<Leaf>) -> Result<Node<Type>, Stop>
+pub fn ty<'a>(
+    alloc: Global,
+    raw: &TypeSyntax,
+    leaves: &mut VecDeque<Leaf<'a>>,
+) -> Result<Node<Type<'a>>, Stop>
     ensures { GivesBuilt (λ x. x) result (type_from raw.now leaves.old.items) leaves.new.items }
 {
     match raw {
@@ -44,11 +48,11 @@ pub fn ty(alloc: Global, raw: &TypeSyntax, leaves: &mut VecDeque<Leaf>) -> Resul
 // An attribute.
 #[tactic(auto, using(crate::proofs::TypeSteps::attr_out))]
 #[cycle(types)]
-fn attr(
+fn attr<'a>(
     alloc: Global,
     raw: &AttrSyntax,
-    leaves: &mut VecDeque<Leaf>,
-) -> Result<Node<Annotated<AttrDecl>>, Stop>
+    leaves: &mut VecDeque<Leaf<'a>>,
+) -> Result<Node<Annotated<'a, AttrDecl<'a>>>, Stop>
     ensures { GivesBuilt (λ x. x) result (attr_from raw.now leaves.old.items) leaves.new.items }
 {
     let annotations = notes(leaves)?;
@@ -64,14 +68,14 @@ fn attr(
 
 // Attributes, in order.
 #[cycle(types)]
-pub fn attrs(
+pub fn attrs<'a>(
     alloc: Global,
     raws: &[AttrSyntax],
-    leaves: &mut VecDeque<Leaf>,
-) -> Result<Vec<Node<Annotated<AttrDecl>>>, Stop>
+    leaves: &mut VecDeque<Leaf<'a>>,
+) -> Result<Vec<Node<Annotated<'a, AttrDecl<'a>>>>, Stop>
     ensures { GivesBuilt (λ v. v.items) result (all_from attr_from raws.now leaves.old.items) leaves.new.items }
 {
-    let mut items = Vec::new(alloc);
+    let mut items = Vec::with_capacity(alloc, raws.len())?;
     for raw in raws {
         let item = attr(alloc, raw, leaves)?;
         items.push(item)?;
@@ -81,11 +85,11 @@ pub fn attrs(
 
 // The attributes of an entity type: none, and no place, where no record stands.
 #[tactic(auto, unfolding(crate::specs::Building::shape_from))]
-pub fn shape(
+pub fn shape<'a>(
     alloc: Global,
     raw: &Option<(List<AttrSyntax>, Loc)>,
-    leaves: &mut VecDeque<Leaf>,
-) -> Result<Node<List<Node<Annotated<AttrDecl>>>>, Stop>
+    leaves: &mut VecDeque<Leaf<'a>>,
+) -> Result<Node<List<Node<Annotated<'a, AttrDecl<'a>>>>>, Stop>
     ensures { GivesBuilt (λ x. x) result (shape_from raw.now leaves.old.items) leaves.new.items }
 {
     match raw {
@@ -105,11 +109,11 @@ pub fn shape(
 
 // The type of the tags, where they are.
 #[tactic(auto, unfolding(crate::specs::Building::tags_from))]
-pub fn tags(
+pub fn tags<'a>(
     alloc: Global,
     raw: &Option<TypeSyntax>,
-    leaves: &mut VecDeque<Leaf>,
-) -> Result<Option<Node<Type>>, Stop>
+    leaves: &mut VecDeque<Leaf<'a>>,
+) -> Result<Option<Node<Type<'a>>>, Stop>
     ensures { GivesBuilt (λ x. x) result (tags_from raw.now leaves.old.items) leaves.new.items }
 {
     match raw {

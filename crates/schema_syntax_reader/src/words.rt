@@ -8,36 +8,34 @@ ghost use Rattle.schema_syntax_reader.specs.Stops.{IsPlacedWord, IsReservedStop}
 
 use crate::stopped::Stopped;
 use cedar_data::{Node, Text};
-use cedar_identifiers::{AnyId, Id, is_reserved};
+use cedar_identifiers::is_reserved;
 use schema_syntax_errors::UserError;
 use schema_syntax_tokens::{Token, token_text};
-use std::alloc::{AllocError, Global};
+use schema_syntax_tree::{SrcId, SrcWord};
+use std::alloc::Global;
 
 /// The word at the token's place.
-pub fn any_word(alloc: Global, text: &str, token: &Token) -> Result<AnyId, AllocError>
+pub fn any_word<'a>(text: &'a str, token: &Token) -> SrcWord<'a>
     requires { IsPlacedWord text.now token.now }
-    ensures { IfOk result (λ word. word.text ≡ word_at text.now token.now) }
+    ensures { result.text ≡ word_at text.now token.now }
 {
-    let part = token_text(token, text).unwrap();
-    Ok(AnyId {
-        text: Text::from_str(alloc, part)?,
-    })
+    SrcWord::of(token_text(token, text).unwrap())
 }
 
 /// The word at the token's place, which is a name unless it is reserved.
-pub fn name_word(alloc: Global, text: &str, token: &Token) -> Result<Id, Stopped>
+pub fn name_word<'a>(alloc: Global, text: &'a str, token: &Token) -> Result<SrcId<'a>, Stopped>
     requires { IsPlacedWord text.now token.now }
     ensures name { IfOk result (λ id. id.text ≡ word_at text.now token.now) }
     ensures free { OnOk result (is_reserved (word_at text.now token.now) ≡ false) }
     ensures reserved { IfErr result (IsReservedStop text.now token.now) }
 {
     let part = token_text(token, text).unwrap();
-    let word = Text::from_str(alloc, part)?;
     if is_reserved(part) {
+        let word = Text::from_str(alloc, part)?;
         return Err(Stopped::User(UserError::ReservedIdentifierUsed(Node {
             node: word,
             loc: Some(token.loc),
         })));
     }
-    Ok(Id { text: word })
+    Ok(SrcId::of(part))
 }

@@ -4,32 +4,33 @@ ghost use Rattle.schema_syntax_tree.specs.DeclaredNames.{action_names};
 use crate::app_decl::AppDecl;
 use crate::decl::Decl;
 use crate::qual_name::QualName;
+use crate::src_str::SrcStr;
 use cedar_data::{CloneIn, Node, NonEmpty, Text};
 use std::alloc::{AllocError, Global};
 
 /// The declaration of one or more actions that are alike but for their names.
 #[derive(Drop)]
-pub enum ActionDecl {
-    Defined(DefinedActionDecl),
-    External(ExternalActionDecl),
+pub enum ActionDecl<'a> {
+    Defined(DefinedActionDecl<'a>),
+    External(ExternalActionDecl<'a>),
 }
 
 /// Actions with their parents and what they are applied to, where these were written.
 #[derive(Drop)]
-pub struct DefinedActionDecl {
-    pub names: NonEmpty<Node<Text>>,
-    pub parents: Option<NonEmpty<Node<QualName>>>,
-    pub app_decls: Option<Node<NonEmpty<Node<AppDecl>>>>,
+pub struct DefinedActionDecl<'a> {
+    pub names: NonEmpty<Node<SrcStr<'a>>>,
+    pub parents: Option<NonEmpty<Node<QualName<'a>>>>,
+    pub app_decls: Option<Node<NonEmpty<Node<AppDecl<'a>>>>>,
 }
 
 /// Actions that another schema declares, with the ancestors that are known.
 #[derive(Drop)]
-pub struct ExternalActionDecl {
-    pub names: NonEmpty<Node<Text>>,
-    pub parents: Option<NonEmpty<Node<QualName>>>,
+pub struct ExternalActionDecl<'a> {
+    pub names: NonEmpty<Node<SrcStr<'a>>>,
+    pub parents: Option<NonEmpty<Node<QualName<'a>>>>,
 }
 
-impl Decl for ActionDecl {
+impl<'a> Decl for ActionDecl<'a> {
     ghost declared = { action_names };
 
     fn names(&self, alloc: Global) -> Result<Vec<Node<Text>>, AllocError> {
@@ -41,17 +42,20 @@ impl Decl for ActionDecl {
 }
 
 // Copies of the names, in order.
-fn copied(names: &NonEmpty<Node<Text>>, alloc: Global) -> Result<Vec<Node<Text>>, AllocError>
+fn copied(names: &NonEmpty<Node<SrcStr<'_>>>, alloc: Global) -> Result<Vec<Node<Text>>, AllocError>
     ensures { IfOk result (λ copy. copy.items ≡ names.now) }
 {
     let mut copy = Vec::new(alloc);
     for name in names.iter() {
-        copy.push(name.clone_in(alloc)?)?;
+        copy.push(Node {
+            node: name.node.to_text(alloc)?,
+            loc: name.loc,
+        })?;
     }
     Ok(copy)
 }
 
-impl CloneIn for ActionDecl {
+impl<'a> CloneIn for ActionDecl<'a> {
     fn clone_in(&self, alloc: Global) -> Result<Self, AllocError> {
         match self {
             ActionDecl::Defined(defined) => Ok(ActionDecl::Defined(defined.clone_in(alloc)?)),
@@ -60,7 +64,7 @@ impl CloneIn for ActionDecl {
     }
 }
 
-impl CloneIn for DefinedActionDecl {
+impl<'a> CloneIn for DefinedActionDecl<'a> {
     fn clone_in(&self, alloc: Global) -> Result<Self, AllocError> {
         Ok(DefinedActionDecl {
             names: self.names.clone_in(alloc)?,
@@ -70,7 +74,7 @@ impl CloneIn for DefinedActionDecl {
     }
 }
 
-impl CloneIn for ExternalActionDecl {
+impl<'a> CloneIn for ExternalActionDecl<'a> {
     fn clone_in(&self, alloc: Global) -> Result<Self, AllocError> {
         Ok(ExternalActionDecl {
             names: self.names.clone_in(alloc)?,

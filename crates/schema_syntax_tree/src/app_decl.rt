@@ -8,20 +8,20 @@ use std::alloc::{AllocError, Global};
 
 /// The entity types of an action's principals or resources, where the list that was written is not empty.
 #[derive(Drop)]
-pub struct PRAppDecl {
+pub struct PRAppDecl<'a> {
     pub kind: Node<PR>,
-    pub entity_tys: Option<NonEmpty<Path>>,
+    pub entity_tys: Option<NonEmpty<Path<'a>>>,
 }
 
 /// What an action says of its principals, its resources or its context. The context is a type's name or the attributes of
 /// a record.
 #[derive(Drop)]
-pub enum AppDecl {
-    PR(PRAppDecl),
-    Context(Either<Path, Node<List<Node<Annotated<AttrDecl>>>>>),
+pub enum AppDecl<'a> {
+    PR(PRAppDecl<'a>),
+    Context(Either<Path<'a>, Node<List<Node<Annotated<'a, AttrDecl<'a>>>>>>),
 }
 
-impl CloneIn for PRAppDecl {
+impl<'a> CloneIn for PRAppDecl<'a> {
     fn clone_in(&self, alloc: Global) -> Result<Self, AllocError> {
         Ok(PRAppDecl {
             kind: self.kind.clone_in(alloc)?,
@@ -30,7 +30,7 @@ impl CloneIn for PRAppDecl {
     }
 }
 
-impl CloneIn for AppDecl {
+impl<'a> CloneIn for AppDecl<'a> {
     fn clone_in(&self, alloc: Global) -> Result<Self, AllocError> {
         match self {
             AppDecl::PR(types) => Ok(AppDecl::PR(types.clone_in(alloc)?)),

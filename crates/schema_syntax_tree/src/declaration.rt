@@ -6,13 +6,13 @@ use std::alloc::{AllocError, Global};
 
 /// A declaration: of entity types, of actions or of a common type.
 #[derive(Drop)]
-pub enum Declaration {
-    Entity(EntityDecl),
-    Action(ActionDecl),
-    Common(TypeDecl),
+pub enum Declaration<'a> {
+    Entity(EntityDecl<'a>),
+    Action(ActionDecl<'a>),
+    Common(TypeDecl<'a>),
 }
 
-impl CloneIn for Declaration {
+impl<'a> CloneIn for Declaration<'a> {
     fn clone_in(&self, alloc: Global) -> Result<Self, AllocError> {
         match self {
             Declaration::Entity(entity) => Ok(Declaration::Entity(entity.clone_in(alloc)?)),

@@ -4,45 +4,46 @@ ghost use Rattle.schema_syntax_tree.specs.DeclaredNames.{entity_names};
 
 use crate::annotated::Annotated;
 use crate::path::Path;
+use crate::src_id::SrcId;
+use crate::src_str::SrcStr;
 use crate::types::{AttrDecl, Type};
 use cedar_data::{CloneIn, List, Node, NonEmpty, NonEmptyIter};
-use cedar_identifiers::{Eid, Id};
 use std::alloc::{AllocError, Global};
 
 /// The declaration of one or more entity types that are alike but for their names.
 #[derive(Drop)]
-pub enum EntityDecl {
-    Standard(StandardEntityDecl),
-    Enum(EnumEntityDecl),
-    External(ExternalEntityDecl),
+pub enum EntityDecl<'a> {
+    Standard(StandardEntityDecl<'a>),
+    Enum(EnumEntityDecl<'a>),
+    External(ExternalEntityDecl<'a>),
 }
 
 /// Entity types with their parents, their attributes and the type of their tags, where they have tags.
 #[derive(Drop)]
-pub struct StandardEntityDecl {
-    pub names: NonEmpty<Node<Id>>,
-    pub member_of_types: List<Path>,
-    pub attrs: Node<List<Node<Annotated<AttrDecl>>>>,
-    pub tags: Option<Node<Type>>,
+pub struct StandardEntityDecl<'a> {
+    pub names: NonEmpty<Node<SrcId<'a>>>,
+    pub member_of_types: List<Path<'a>>,
+    pub attrs: Node<List<Node<Annotated<'a, AttrDecl<'a>>>>>,
+    pub tags: Option<Node<Type<'a>>>,
 }
 
 /// Entity types that another schema declares, with the ancestors that are known.
 #[derive(Drop)]
-pub struct ExternalEntityDecl {
-    pub names: NonEmpty<Node<Id>>,
-    pub member_of_types: List<Path>,
+pub struct ExternalEntityDecl<'a> {
+    pub names: NonEmpty<Node<SrcId<'a>>>,
+    pub member_of_types: List<Path<'a>>,
 }
 
 /// Entity types whose entities are listed by their ids.
 #[derive(Drop)]
-pub struct EnumEntityDecl {
-    pub names: NonEmpty<Node<Id>>,
-    pub choices: NonEmpty<Node<Eid>>,
+pub struct EnumEntityDecl<'a> {
+    pub names: NonEmpty<Node<SrcId<'a>>>,
+    pub choices: NonEmpty<Node<SrcStr<'a>>>,
 }
 
-impl EntityDecl {
+impl<'a> EntityDecl<'a> {
     /// The names of the entity types, in the order of the text.
-    pub fn names(&self) -> NonEmptyIter<'_, Node<Id>>
+    pub fn names(&self) -> NonEmptyIter<'_, Node<SrcId<'a>>>
         ensures { items_left result ≡ entity_names self.now }
     {
         match self {
@@ -53,7 +54,7 @@ impl EntityDecl {
     }
 }
 
-impl CloneIn for EntityDecl {
+impl<'a> CloneIn for EntityDecl<'a> {
     fn clone_in(&self, alloc: Global) -> Result<Self, AllocError> {
         match self {
             EntityDecl::Standard(standard) => Ok(EntityDecl::Standard(standard.clone_in(alloc)?)),
@@ -63,7 +64,7 @@ impl CloneIn for EntityDecl {
     }
 }
 
-impl CloneIn for StandardEntityDecl {
+impl<'a> CloneIn for StandardEntityDecl<'a> {
     fn clone_in(&self, alloc: Global) -> Result<Self, AllocError> {
         Ok(StandardEntityDecl {
             names: self.names.clone_in(alloc)?,
@@ -74,7 +75,7 @@ impl CloneIn for StandardEntityDecl {
     }
 }
 
-impl CloneIn for ExternalEntityDecl {
+impl<'a> CloneIn for ExternalEntityDecl<'a> {
     fn clone_in(&self, alloc: Global) -> Result<Self, AllocError> {
         Ok(ExternalEntityDecl {
             names: self.names.clone_in(alloc)?,
@@ -83,7 +84,7 @@ impl CloneIn for ExternalEntityDecl {
     }
 }
 
-impl CloneIn for EnumEntityDecl {
+impl<'a> CloneIn for EnumEntityDecl<'a> {
     fn clone_in(&self, alloc: Global) -> Result<Self, AllocError> {
         Ok(EnumEntityDecl {
             names: self.names.clone_in(alloc)?,

@@ -7,18 +7,18 @@ use cedar_data::{CloneIn, List, Loc, Node};
 use std::alloc::{AllocError, Global};
 
 /// A schema: its namespaces, in the order of the text.
-pub type Schema = List<Annotated<Namespace>>;
+pub type Schema<'a> = List<Annotated<'a, Namespace<'a>>>;
 
 /// A namespace with its declarations, in the order of the text. The one without a name holds what stands outside of
 /// every other.
 #[derive(Drop)]
-pub struct Namespace {
-    pub name: Option<Path>,
-    pub decls: List<Annotated<Node<Declaration>>>,
+pub struct Namespace<'a> {
+    pub name: Option<Path<'a>>,
+    pub decls: List<Annotated<'a, Node<Declaration<'a>>>>,
     pub loc: Option<Loc>,
 }
 
-impl Namespace {
+impl<'a> Namespace<'a> {
     /// Whether the namespace has no name.
     pub fn is_unqualified(&self) -> bool
         ensures { result ≡ true ↔ self.now.name ≡ None }
@@ -27,7 +27,7 @@ impl Namespace {
     }
 }
 
-impl CloneIn for Namespace {
+impl<'a> CloneIn for Namespace<'a> {
     fn clone_in(&self, alloc: Global) -> Result<Self, AllocError> {
         Ok(Namespace {
             name: self.name.clone_in(alloc)?,

@@ -5,8 +5,9 @@ ghost use Rattle.cedar_data.specs.Rows.{joined_by};
 ghost use Rattle.cedar_identifiers.specs.Names.{texts_of};
 ghost use Rattle.schema_syntax_tree.specs.Paths.{placed, ids_left, nodes_left, is_in_cedar};
 
+use crate::src_id::SrcId;
 use cedar_data::{CloneIn, Loc, Node, NonEmpty, NonEmptyIter, Text};
-use cedar_identifiers::{Id, is_cedar};
+use cedar_identifiers::is_cedar;
 use std::alloc::{AllocError, Global};
 use std::collections::VecDeque;
 use std::mem;
@@ -15,16 +16,16 @@ use std::mem;
 /// sees.
 #[derive(Drop)]
 #[derive_where(PartialEq, Eq, PartialOrd, Ord, Hash)]
-pub struct Path {
-    ids: NonEmpty<Id>,
+pub struct Path<'a> {
+    ids: NonEmpty<SrcId<'a>>,
     #[derive_where(skip(EqHashOrd))]
     loc: Option<Loc>,
 }
 
-impl Path {
+impl<'a> Path<'a> {
     /// The path of this one id, which takes no memory.
-    pub fn single(alloc: Global, basename: Id, loc: Option<Loc>) -> Path
-        ensures { result ≡ record { ids = basename ∷ []; loc = loc } }
+    pub fn single(alloc: Global, basename: SrcId<'a>, loc: Option<Loc>) -> Path<'a>
+        ensures { result ≡ record { ids = basename.entry ∷ []; loc = loc } }
     {
         Path {
             ids: NonEmpty::new(alloc, basename),
@@ -33,8 +34,8 @@ impl Path {
     }
 
     /// The path with this last id, behind a namespace, at this place.
-    pub fn new(basename: Id, mut namespace: Vec<Id>, loc: Option<Loc>) -> Path
-        ensures { result ≡ record { ids = namespace.items ++ basename ∷ []; loc = loc } }
+    pub fn new(basename: SrcId<'a>, mut namespace: Vec<SrcId<'a>>, loc: Option<Loc>) -> Path<'a>
+        ensures { result ≡ record { ids = namespace.entry.items ++ basename.entry ∷ []; loc = loc } }
     {
         if namespace.is_empty() {
             return Path {
@@ -51,7 +52,7 @@ impl Path {
     }
 
     /// The ids, the outermost first.
-    pub fn iter(&self) -> PathIter<'_>
+    pub fn iter(&self) -> PathIter<'_, 'a>
         ensures { ids_left result ≡ self.now.ids }
     {
         PathIter {
@@ -67,8 +68,8 @@ impl Path {
     }
 
     /// The ids, the outermost first, each with the path's place.
-    pub fn into_iter(self) -> PathIntoIter
-        ensures { nodes_left result ≡ placed self.loc self.ids }
+    pub fn into_iter(self) -> PathIntoIter<'a>
+        ensures { nodes_left result ≡ placed self.entry.loc self.entry.ids }
     {
         let Path { ids, loc } = self;
         let (first, others) = ids.into_parts();
@@ -80,8 +81,8 @@ impl Path {
     }
 
     /// The namespace, and the last id.
-    pub fn split_last(self) -> (Vec<Id>, Id)
-        ensures { self.ids ≡ result.0.items ++ result.1 ∷ [] }
+    pub fn split_last(self) -> (Vec<SrcId<'a>>, SrcId<'a>)
+        ensures { self.entry.ids ≡ result.0.items ++ result.1 ∷ [] }
     {
         let Path { ids, loc: _ } = self;
         let (first, mut others) = ids.into_parts();
@@ -112,16 +113,16 @@ impl Path {
         let Some(first) = ids.next() else {
             return Ok(Text::new(alloc));
         };
-        let mut text = first.text.clone_in(alloc)?;
+        let mut text = Text::from_str(alloc, first.as_str())?;
         for id in ids {
             text.push_str("::")?;
-            text.push_text(&id.text)?;
+            text.push_str(id.as_str())?;
         }
         Ok(text)
     }
 }
 
-impl CloneIn for Path {
+impl<'a> CloneIn for Path<'a> {
     fn clone_in(&self, alloc: Global) -> Result<Self, AllocError> {
         Ok(Path {
             ids: self.ids.clone_in(alloc)?,
@@ -132,38 +133,38 @@ impl CloneIn for Path {
 
 /// The ids of a path, the outermost first.
 #[derive(Drop)]
-pub struct PathIter<'a> {
-    ids: NonEmptyIter<'a, Id>,
+pub struct PathIter<'b, 'a> {
+    ids: NonEmptyIter<'b, SrcId<'a>>,
 }
 
-impl<'a> Iterator for PathIter<'a> {
-    type Item = &'a Id;
+impl<'b, 'a> Iterator for PathIter<'b, 'a> {
+    type Item = &'b SrcId<'a>;
 
     ghost next_gives = { YieldsFirstRef ids_left };
 
     ghost remaining = { item_count ids_left };
 
-    fn next(&mut self) -> Option<&'a Id> {
+    fn next(&mut self) -> Option<&'b SrcId<'a>> {
         self.ids.next()
     }
 }
 
 /// The ids that a path had, the outermost first, each with the path's place.
 #[derive(Drop)]
-pub struct PathIntoIter {
-    first: Option<Id>,
-    others: VecDeque<Id>,
+pub struct PathIntoIter<'a> {
+    first: Option<SrcId<'a>>,
+    others: VecDeque<SrcId<'a>>,
     loc: Option<Loc>,
 }
 
-impl Iterator for PathIntoIter {
-    type Item = Node<Id>;
+impl<'a> Iterator for PathIntoIter<'a> {
+    type Item = Node<SrcId<'a>>;
 
     ghost next_gives = { YieldsFirst nodes_left };
 
     ghost remaining = { item_count nodes_left };
 
-    fn next(&mut self) -> Option<Node<Id>> {
+    fn next(&mut self) -> Option<Node<SrcId<'a>>> {
         let id = match self.first.take() {
             Some(first) => first,
             None => self.others.pop_front()?,

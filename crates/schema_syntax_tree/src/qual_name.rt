@@ -1,27 +1,28 @@
 ghost use Rattle.std.specs.Prelude.{◌≡◌, None, Some};
 
 use crate::path::Path;
-use cedar_data::{CloneIn, Text};
+use crate::src_str::SrcStr;
+use cedar_data::CloneIn;
 use std::alloc::{AllocError, Global};
 
 /// The name of an action: its id, behind the path of its type where one was written.
 #[derive(Drop)]
-pub struct QualName {
-    pub path: Option<Path>,
-    pub eid: Text,
+pub struct QualName<'a> {
+    pub path: Option<Path<'a>>,
+    pub eid: SrcStr<'a>,
 }
 
-impl QualName {
+impl<'a> QualName<'a> {
     /// The name with this id alone.
-    pub fn unqualified(eid: Text) -> QualName
-        ensures { result ≡ record { path = None; eid = eid } }
+    pub fn unqualified(eid: SrcStr<'a>) -> QualName<'a>
+        ensures { result ≡ record { path = None; eid = eid.entry } }
     {
         QualName { path: None, eid }
     }
 
     /// The name with this id, behind this path.
-    pub fn qualified(path: Path, eid: Text) -> QualName
-        ensures { result ≡ record { path = Some path; eid = eid } }
+    pub fn qualified(path: Path<'a>, eid: SrcStr<'a>) -> QualName<'a>
+        ensures { result ≡ record { path = Some path.entry; eid = eid.entry } }
     {
         QualName {
             path: Some(path),
@@ -30,7 +31,7 @@ impl QualName {
     }
 }
 
-impl CloneIn for QualName {
+impl<'a> CloneIn for QualName<'a> {
     fn clone_in(&self, alloc: Global) -> Result<Self, AllocError> {
         Ok(QualName {
             path: self.path.clone_in(alloc)?,

@@ -1,24 +1,24 @@
 ghost use Rattle.std.specs.Prelude.{[], ◌∷◌};
 
 use crate::decl::Decl;
+use crate::src_id::SrcId;
 use crate::types::Type;
 use cedar_data::{CloneIn, Node, Text};
-use cedar_identifiers::Id;
 use std::alloc::{AllocError, Global};
 
 /// The declaration of a common type: its name, and the type that it stands for.
 #[derive(Drop)]
-pub struct TypeDecl {
-    pub name: Node<Id>,
-    pub def: Node<Type>,
+pub struct TypeDecl<'a> {
+    pub name: Node<SrcId<'a>>,
+    pub def: Node<Type<'a>>,
 }
 
-impl Decl for TypeDecl {
+impl<'a> Decl for TypeDecl<'a> {
     ghost declared = { λ d. record { node = d.name.node.text; loc = d.name.loc } ∷ [] };
 
     fn names(&self, alloc: Global) -> Result<Vec<Node<Text>>, AllocError> {
         let name = Node {
-            node: self.name.node.text.clone_in(alloc)?,
+            node: Text::from_str(alloc, self.name.node.as_str())?,
             loc: self.name.loc,
         };
         let mut names = Vec::new(alloc);
@@ -27,7 +27,7 @@ impl Decl for TypeDecl {
     }
 }
 
-impl CloneIn for TypeDecl {
+impl<'a> CloneIn for TypeDecl<'a> {
     fn clone_in(&self, alloc: Global) -> Result<Self, AllocError> {
         Ok(TypeDecl {
             name: self.name.clone_in(alloc)?,

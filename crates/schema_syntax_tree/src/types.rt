@@ -2,31 +2,32 @@ ghost use Rattle.std.specs.Prelude.{◌≡◌, IfOk};
 
 use crate::annotated::Annotated;
 use crate::path::Path;
-use cedar_data::{Boxed, CloneIn, List, Node, Text};
+use crate::src_str::SrcStr;
+use cedar_data::{Boxed, CloneIn, List, Node};
 use std::alloc::{AllocError, Global};
 
 /// A type: a set, a name, or a record with its attributes in the order of the text.
 #[cycle(types)]
 #[derive(Drop)]
-pub enum Type {
+pub enum Type<'a> {
     /// The sets of a type.
-    Set(Boxed<Node<Type>>),
+    Set(Boxed<Node<Type<'a>>>),
     /// What the path names, a common type or an entity type.
-    Ident(Path),
+    Ident(Path<'a>),
     /// The records with these attributes.
-    Record(List<Node<Annotated<AttrDecl>>>),
+    Record(List<Node<Annotated<'a, AttrDecl<'a>>>>),
 }
 
 /// An attribute, whether each record has it, and its type.
 #[cycle(types)]
 #[derive(Drop)]
-pub struct AttrDecl {
-    pub name: Node<Text>,
+pub struct AttrDecl<'a> {
+    pub name: Node<SrcStr<'a>>,
     pub required: bool,
-    pub ty: Node<Type>,
+    pub ty: Node<Type<'a>>,
 }
 
-impl CloneIn for Type {
+impl<'a> CloneIn for Type<'a> {
     #[cycle(clone_in)]
     fn clone_in(&self, alloc: Global) -> Result<Self, AllocError> {
         match self {
@@ -47,7 +48,7 @@ impl CloneIn for Type {
     }
 }
 
-impl CloneIn for AttrDecl {
+impl<'a> CloneIn for AttrDecl<'a> {
     #[cycle(clone_in)]
     fn clone_in(&self, alloc: Global) -> Result<Self, AllocError> {
         Ok(AttrDecl {
@@ -63,10 +64,10 @@ impl CloneIn for AttrDecl {
 
 // Copies of the attributes, in order.
 #[cycle(clone_in)]
-fn clone_attributes(
-    attributes: &[Node<Annotated<AttrDecl>>],
+fn clone_attributes<'a>(
+    attributes: &[Node<Annotated<'a, AttrDecl<'a>>>],
     alloc: Global,
-) -> Result<Vec<Node<Annotated<AttrDecl>>>, AllocError>
+) -> Result<Vec<Node<Annotated<'a, AttrDecl<'a>>>>, AllocError>
     ensures { IfOk result (λ copy. copy.items ≡ attributes.now) }
 {
     let mut copy = Vec::new(alloc);

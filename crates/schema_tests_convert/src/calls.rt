@@ -1,7 +1,7 @@
 // Calls that take memory on warnings, paths, types, actions and refused names.
 
 use cedar_data::{CloneIn, Label, Loc, Node, Text};
-use cedar_identifiers::{Id, InternalName, NameText, RawName, UnreservedId};
+use cedar_identifiers::{InternalName, NameText, RawName, UnreservedId};
 use schema_convert::{
     SchemaWarning, ShadowsBuiltinWarning, ShadowsEntityWarning, cedar_type_to_json_type,
     path_to_internal_name, path_to_raw_name,
@@ -9,7 +9,7 @@ use schema_convert::{
 use schema_json::{
     ActionEntityUID, ReservedCommonTypeBasenameError, ReservedNameError, Type, action_name,
 };
-use schema_syntax_tree::Path;
+use schema_syntax_tree::{Path, SrcId};
 use schema_tests_lines::Wanted;
 use std::alloc::{AllocError, Global};
 
@@ -105,10 +105,10 @@ fn warnings_have_messages(rt: HostRuntime) {
 }
 
 // The path of this one word; nothing where it is none.
-fn path(alloc: Global, word: &str) -> Option<Path> {
-    match Id::from_normalized_str(alloc, word) {
-        Ok(id) => Some(Path::single(alloc, id, Some(Loc::new(2, 3)))),
-        Err(_) => None,
+fn path(alloc: Global, word: &str) -> Option<Path<'_>> {
+    match SrcId::new(word) {
+        Some(id) => Some(Path::single(alloc, id, Some(Loc::new(2, 3)))),
+        None => None,
     }
 }
 

@@ -3,13 +3,12 @@
 use crate::error_lines::find_user_error;
 use crate::message_table::message_lines;
 use cedar_data::{CloneIn, Label, Loc, Node, Text};
-use cedar_identifiers::AnyId;
 use schema_syntax::{deduplicate_annotations, parse_schema};
 use schema_syntax_errors::{
     AnnotationError, ParseError, ParseErrors, ParseSchemaError, UserError, expected_text,
 };
 use schema_syntax_grammar::TokenKind;
-use schema_syntax_reader::PlacedAnnotation;
+use schema_syntax_tree::{Annotated, SrcAnnotation, SrcWord};
 use schema_tests_lines::{Wanted, answer_and_text, with_line_ends};
 use std::alloc::{AllocError, Global};
 
@@ -130,21 +129,22 @@ fn place(start: usize) -> Option<Loc> {
 }
 
 // An annotation without a value, at a place.
-fn annotation(alloc: Global, key: &str, start: usize) -> Option<PlacedAnnotation> {
-    match AnyId::from_normalized_str(alloc, key) {
-        Ok(key) => {
+fn annotation(key: &str, start: usize) -> Option<Node<SrcAnnotation<'_>>> {
+    match SrcWord::new(key) {
+        Some(key) => {
             let key = Node::with_maybe_source_loc(key, place(start));
-            Some(Node::with_maybe_source_loc((key, None), place(start)))
+            let annotation = SrcAnnotation { key, value: None };
+            Some(Node::with_maybe_source_loc(annotation, place(start)))
         }
-        Err(_) => None,
+        None => None,
     }
 }
 
 // The annotations with these letters as keys, each at its place.
-fn annotations(alloc: Global, keys: &str) -> Result<Vec<PlacedAnnotation>, AllocError> {
+fn annotations(alloc: Global, keys: &str) -> Result<Vec<Node<SrcAnnotation<'_>>>, AllocError> {
     let mut annotations = Vec::new(alloc);
     for (at, key) in keys.split(' ').enumerate() {
-        if let Some(annotation) = annotation(alloc, key, at) {
+        if let Some(annotation) = annotation(key, at) {
             annotations.push(annotation)?;
         }
     }
@@ -191,12 +191,14 @@ fn are_kept(alloc: Global, keys: &str, sorted: &str) -> bool {
     let Ok(annotated) = deduplicate_annotations(alloc, 7u8, annotations) else {
         return false;
     };
+    let Annotated { item, annotations } = annotated;
     let mut wanted = Wanted::new(sorted);
-    for (key, _) in annotated.annotations.0.as_slice() {
+    let notes = annotations.into_map();
+    for (key, _) in notes.as_slice() {
         wanted.piece(key.as_str());
         wanted.piece(" ");
     }
-    wanted.is_met() && annotated.item == 7
+    wanted.is_met() && item == 7
 }
 
 #[test]

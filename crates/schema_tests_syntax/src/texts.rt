@@ -11,9 +11,9 @@ use schema_tests_lines::{Wanted, answer_and_text, with_line_ends};
 use std::alloc::{AllocError, Global};
 
 // Does the answer say this tree?
-fn says_tree(answer: &str, schema: &Schema) -> bool {
+fn says_tree(alloc: Global, answer: &str, schema: &Schema<'_>) -> bool {
     let mut wanted = Wanted::new(answer);
-    find_tree(&mut wanted, schema);
+    find_tree(alloc, &mut wanted, schema);
     wanted.is_met()
 }
 
@@ -28,11 +28,11 @@ fn says_fault(answer: &str, error: &ParseSchemaError) -> bool {
 }
 
 // Does the answer say the copy of the tree?
-fn says_copied_tree(alloc: Global, answer: &str, schema: Schema) -> bool {
+fn says_copied_tree(alloc: Global, answer: &str, schema: Schema<'_>) -> bool {
     let copy = schema.clone_in(alloc);
     drop(schema);
     match copy {
-        Ok(copy) => says_tree(answer, &copy),
+        Ok(copy) => says_tree(alloc, answer, &copy),
         Err(_) => false,
     }
 }
@@ -54,7 +54,7 @@ fn agrees(alloc: Global, line: &str) -> bool {
     };
     let (answer, text) = answer_and_text(line.as_str());
     match parse_schema(alloc, text) {
-        Ok(schema) => says_tree(answer, &schema) && says_copied_tree(alloc, answer, schema),
+        Ok(schema) => says_tree(alloc, answer, &schema) && says_copied_tree(alloc, answer, schema),
         Err(error) => says_fault(answer, &error) && says_copied_fault(alloc, answer, error),
     }
 }
@@ -108,7 +108,7 @@ fn sets_nest_deeply(rt: HostRuntime) {
 }
 
 // Is this the text of the path?
-fn is_path(alloc: Global, path: &Path, wanted: &str) -> bool {
+fn is_path(alloc: Global, path: &Path<'_>, wanted: &str) -> bool {
     match path.text(alloc) {
         Ok(text) => text.as_str() == wanted,
         Err(_) => false,
@@ -131,7 +131,7 @@ fn are_names(names: Result<Vec<Node<Text>>, AllocError>, wanted: &str) -> bool {
 }
 
 // Are these the names of the declaration, or of the first parent of its entity types?
-fn is_named(alloc: Global, declaration: &Declaration, wanted: &str) -> bool {
+fn is_named(alloc: Global, declaration: &Declaration<'_>, wanted: &str) -> bool {
     match declaration {
         Declaration::Entity(EntityDecl::Standard(entity)) => {
             entity

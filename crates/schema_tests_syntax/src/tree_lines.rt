@@ -1,15 +1,16 @@
 // A tree, found in a line piece by piece.
 
-use cedar_data::{List, Loc, Node, NonEmpty, Text};
-use cedar_identifiers::{Annotations, Eid, Id};
+use cedar_data::{List, Loc, Node, NonEmpty};
 use schema_syntax_tree::{
     ActionDecl, Annotated, AppDecl, AttrDecl, Declaration, DefinedActionDecl, Either, EntityDecl,
-    Namespace, PRAppDecl, Path, QualName, Schema, StandardEntityDecl, Type, TypeDecl,
+    Namespace, PRAppDecl, Path, QualName, Schema, SrcAnnotations, SrcId, SrcStr, StandardEntityDecl,
+    Type, TypeDecl,
 };
 use schema_tests_lines::Wanted;
+use std::alloc::Global;
 
 // The ids with a dot before each, and the place.
-fn find_path(wanted: &mut Wanted<'_>, path: &Path) {
+fn find_path(wanted: &mut Wanted<'_>, path: &Path<'_>) {
     wanted.piece(" ");
     for id in path.iter() {
         wanted.piece(".");
@@ -18,7 +19,7 @@ fn find_path(wanted: &mut Wanted<'_>, path: &Path) {
     wanted.place(path.loc().copied());
 }
 
-fn find_paths(wanted: &mut Wanted<'_>, paths: &[Path]) {
+fn find_paths(wanted: &mut Wanted<'_>, paths: &[Path<'_>]) {
     for path in paths {
         find_path(wanted, path);
     }
@@ -30,26 +31,42 @@ fn find_named(wanted: &mut Wanted<'_>, name: &str, place: Option<Loc>) {
     wanted.place(place);
 }
 
-fn find_ids(wanted: &mut Wanted<'_>, names: &NonEmpty<Node<Id>>) {
+fn find_ids(wanted: &mut Wanted<'_>, names: &NonEmpty<Node<SrcId<'_>>>) {
     for name in names.iter() {
         find_named(wanted, name.node.as_str(), name.loc);
     }
 }
 
-fn find_names(wanted: &mut Wanted<'_>, names: &NonEmpty<Node<Text>>) {
-    for name in names.iter() {
-        find_named(wanted, name.node.as_str(), name.loc);
+// What the string stands for.
+fn find_text(alloc: Global, wanted: &mut Wanted<'_>, text: &SrcStr<'_>) {
+    match text.to_text(alloc) {
+        Ok(text) => wanted.piece(text.as_str()),
+        Err(_) => wanted.piece("memory"),
     }
 }
 
-fn find_choices(wanted: &mut Wanted<'_>, choices: &NonEmpty<Node<Eid>>) {
+fn find_string(alloc: Global, wanted: &mut Wanted<'_>, name: &SrcStr<'_>, place: Option<Loc>) {
+    wanted.piece(" ");
+    find_text(alloc, wanted, name);
+    wanted.place(place);
+}
+
+fn find_names(alloc: Global, wanted: &mut Wanted<'_>, names: &NonEmpty<Node<SrcStr<'_>>>) {
+    for name in names.iter() {
+        find_string(alloc, wanted, &name.node, name.loc);
+    }
+}
+
+fn find_choices(alloc: Global, wanted: &mut Wanted<'_>, choices: &NonEmpty<Node<SrcStr<'_>>>) {
     wanted.piece(" enum");
-    for choice in choices.iter() {
-        find_named(wanted, choice.node.0.as_str(), choice.loc);
-    }
+    find_names(alloc, wanted, choices);
 }
 
-fn find_annotations(wanted: &mut Wanted<'_>, annotations: &Annotations) {
+fn find_annotations(alloc: Global, wanted: &mut Wanted<'_>, annotations: &SrcAnnotations<'_>) {
+    let Ok(annotations) = annotations.to_annotations(alloc) else {
+        wanted.piece("memory");
+        return;
+    };
     for (key, value) in annotations.0.as_slice() {
         wanted.piece(" #");
         wanted.piece(key.as_str());
@@ -61,26 +78,26 @@ fn find_annotations(wanted: &mut Wanted<'_>, annotations: &Annotations) {
 }
 
 #[cycle(tree)]
-fn find_type(wanted: &mut Wanted<'_>, found: &Type) {
+fn find_type(alloc: Global, wanted: &mut Wanted<'_>, found: &Type<'_>) {
     match found {
         Type::Set(element) => {
             let element = element.get();
             wanted.piece(" Set<");
-            find_type(wanted, &element.node);
+            find_type(alloc, wanted, &element.node);
             wanted.place(element.loc);
             wanted.piece(">");
         }
         Type::Ident(path) => find_path(wanted, path),
-        Type::Record(attributes) => find_attributes(wanted, attributes.as_slice()),
+        Type::Record(attributes) => find_attributes(alloc, wanted, attributes.as_slice()),
     }
 }
 
 #[cycle(tree)]
-fn find_attributes(wanted: &mut Wanted<'_>, attributes: &[Node<Annotated<AttrDecl>>]) {
+fn find_attributes(alloc: Global, wanted: &mut Wanted<'_>, attributes: &[Node<Annotated<'_, AttrDecl<'_>>>]) {
     wanted.piece(" {");
     for attribute in attributes {
-        find_annotations(wanted, &attribute.node.annotations);
-        find_attribute(wanted, &attribute.node.item);
+        find_annotations(alloc, wanted, &attribute.node.annotations);
+        find_attribute(alloc, wanted, &attribute.node.item);
         wanted.place(attribute.loc);
         wanted.piece(",");
     }
@@ -88,38 +105,38 @@ fn find_attributes(wanted: &mut Wanted<'_>, attributes: &[Node<Annotated<AttrDec
 }
 
 #[cycle(tree)]
-fn find_attribute(wanted: &mut Wanted<'_>, attribute: &AttrDecl) {
-    find_named(wanted, attribute.name.node.as_str(), attribute.name.loc);
+fn find_attribute(alloc: Global, wanted: &mut Wanted<'_>, attribute: &AttrDecl<'_>) {
+    find_string(alloc, wanted, &attribute.name.node, attribute.name.loc);
     wanted.piece(if attribute.required { ":" } else { "?:" });
-    find_type(wanted, &attribute.ty.node);
+    find_type(alloc, wanted, &attribute.ty.node);
     wanted.place(attribute.ty.loc);
 }
 
-fn find_record(wanted: &mut Wanted<'_>, record: &Node<List<Node<Annotated<AttrDecl>>>>) {
-    find_attributes(wanted, record.node.as_slice());
+fn find_record(alloc: Global, wanted: &mut Wanted<'_>, record: &Node<List<Node<Annotated<'_, AttrDecl<'_>>>>>) {
+    find_attributes(alloc, wanted, record.node.as_slice());
     wanted.place(record.loc);
 }
 
-fn find_standard(wanted: &mut Wanted<'_>, entity: &StandardEntityDecl) {
+fn find_standard(alloc: Global, wanted: &mut Wanted<'_>, entity: &StandardEntityDecl<'_>) {
     wanted.piece(" entity");
     find_ids(wanted, &entity.names);
     wanted.piece(" in");
     find_paths(wanted, entity.member_of_types.as_slice());
-    find_record(wanted, &entity.attrs);
+    find_record(alloc, wanted, &entity.attrs);
     if let Some(tags) = &entity.tags {
         wanted.piece(" tags");
-        find_type(wanted, &tags.node);
+        find_type(alloc, wanted, &tags.node);
         wanted.place(tags.loc);
     }
 }
 
-fn find_entity(wanted: &mut Wanted<'_>, entity: &EntityDecl) {
+fn find_entity(alloc: Global, wanted: &mut Wanted<'_>, entity: &EntityDecl<'_>) {
     match entity {
-        EntityDecl::Standard(standard) => find_standard(wanted, standard),
+        EntityDecl::Standard(standard) => find_standard(alloc, wanted, standard),
         EntityDecl::Enum(listed) => {
             wanted.piece(" entity");
             find_ids(wanted, &listed.names);
-            find_choices(wanted, &listed.choices)
+            find_choices(alloc, wanted, &listed.choices)
         }
         EntityDecl::External(external) => {
             wanted.piece(" external entity");
@@ -131,7 +148,7 @@ fn find_entity(wanted: &mut Wanted<'_>, entity: &EntityDecl) {
 }
 
 // The parents of an action, where some were written.
-fn find_parents(wanted: &mut Wanted<'_>, parents: &Option<NonEmpty<Node<QualName>>>) {
+fn find_parents(alloc: Global, wanted: &mut Wanted<'_>, parents: &Option<NonEmpty<Node<QualName<'_>>>>) {
     let Some(parents) = parents else {
         return;
     };
@@ -141,11 +158,11 @@ fn find_parents(wanted: &mut Wanted<'_>, parents: &Option<NonEmpty<Node<QualName
             find_path(wanted, path);
             wanted.piece("::");
         }
-        find_named(wanted, parent.node.eid.as_str(), parent.loc);
+        find_string(alloc, wanted, &parent.node.eid, parent.loc);
     }
 }
 
-fn find_types(wanted: &mut Wanted<'_>, types: &PRAppDecl) {
+fn find_types(wanted: &mut Wanted<'_>, types: &PRAppDecl<'_>) {
     find_named(wanted, types.kind.node.as_str(), types.kind.loc);
     if let Some(paths) = &types.entity_tys {
         wanted.piece(" of");
@@ -155,7 +172,7 @@ fn find_types(wanted: &mut Wanted<'_>, types: &PRAppDecl) {
     }
 }
 
-fn find_clause(wanted: &mut Wanted<'_>, clause: &AppDecl) {
+fn find_clause(alloc: Global, wanted: &mut Wanted<'_>, clause: &AppDecl<'_>) {
     match clause {
         AppDecl::PR(types) => find_types(wanted, types),
         AppDecl::Context(Either::Left(path)) => {
@@ -164,19 +181,19 @@ fn find_clause(wanted: &mut Wanted<'_>, clause: &AppDecl) {
         }
         AppDecl::Context(Either::Right(record)) => {
             wanted.piece(" context");
-            find_record(wanted, record)
+            find_record(alloc, wanted, record)
         }
     }
 }
 
-fn find_defined(wanted: &mut Wanted<'_>, action: &DefinedActionDecl) {
+fn find_defined(alloc: Global, wanted: &mut Wanted<'_>, action: &DefinedActionDecl<'_>) {
     wanted.piece(" action");
-    find_names(wanted, &action.names);
-    find_parents(wanted, &action.parents);
+    find_names(alloc, wanted, &action.names);
+    find_parents(alloc, wanted, &action.parents);
     if let Some(clauses) = &action.app_decls {
         wanted.piece(" to {");
         for clause in clauses.node.iter() {
-            find_clause(wanted, &clause.node);
+            find_clause(alloc, wanted, &clause.node);
             wanted.place(clause.loc);
             wanted.piece(",");
         }
@@ -185,34 +202,34 @@ fn find_defined(wanted: &mut Wanted<'_>, action: &DefinedActionDecl) {
     }
 }
 
-fn find_action(wanted: &mut Wanted<'_>, action: &ActionDecl) {
+fn find_action(alloc: Global, wanted: &mut Wanted<'_>, action: &ActionDecl<'_>) {
     match action {
-        ActionDecl::Defined(defined) => find_defined(wanted, defined),
+        ActionDecl::Defined(defined) => find_defined(alloc, wanted, defined),
         ActionDecl::External(external) => {
             wanted.piece(" external action");
-            find_names(wanted, &external.names);
-            find_parents(wanted, &external.parents)
+            find_names(alloc, wanted, &external.names);
+            find_parents(alloc, wanted, &external.parents)
         }
     }
 }
 
-fn find_common(wanted: &mut Wanted<'_>, common: &TypeDecl) {
+fn find_common(alloc: Global, wanted: &mut Wanted<'_>, common: &TypeDecl<'_>) {
     wanted.piece(" type");
     find_named(wanted, common.name.node.as_str(), common.name.loc);
     wanted.piece(" =");
-    find_type(wanted, &common.def.node);
+    find_type(alloc, wanted, &common.def.node);
     wanted.place(common.def.loc);
 }
 
-fn find_declaration(wanted: &mut Wanted<'_>, declaration: &Declaration) {
+fn find_declaration(alloc: Global, wanted: &mut Wanted<'_>, declaration: &Declaration<'_>) {
     match declaration {
-        Declaration::Entity(entity) => find_entity(wanted, entity),
-        Declaration::Action(action) => find_action(wanted, action),
-        Declaration::Common(common) => find_common(wanted, common),
+        Declaration::Entity(entity) => find_entity(alloc, wanted, entity),
+        Declaration::Action(action) => find_action(alloc, wanted, action),
+        Declaration::Common(common) => find_common(alloc, wanted, common),
     }
 }
 
-fn find_namespace(wanted: &mut Wanted<'_>, namespace: &Namespace) {
+fn find_namespace(alloc: Global, wanted: &mut Wanted<'_>, namespace: &Namespace<'_>) {
     if let Some(name) = &namespace.name {
         wanted.piece(" namespace");
         find_path(wanted, name);
@@ -220,8 +237,8 @@ fn find_namespace(wanted: &mut Wanted<'_>, namespace: &Namespace) {
     wanted.place(namespace.loc);
     wanted.piece("(");
     for declared in namespace.decls.as_slice() {
-        find_annotations(wanted, &declared.annotations);
-        find_declaration(wanted, &declared.item.node);
+        find_annotations(alloc, wanted, &declared.annotations);
+        find_declaration(alloc, wanted, &declared.item.node);
         wanted.place(declared.item.loc);
         wanted.piece(";");
     }
@@ -229,10 +246,10 @@ fn find_namespace(wanted: &mut Wanted<'_>, namespace: &Namespace) {
 }
 
 /// The tree is found next, with all its places.
-pub fn find_tree(wanted: &mut Wanted<'_>, schema: &Schema) {
+pub fn find_tree(alloc: Global, wanted: &mut Wanted<'_>, schema: &Schema<'_>) {
     wanted.piece("tree");
     for namespace in schema.as_slice() {
-        find_annotations(wanted, &namespace.annotations);
-        find_namespace(wanted, &namespace.item);
+        find_annotations(alloc, wanted, &namespace.annotations);
+        find_namespace(alloc, wanted, &namespace.item);
     }
 }

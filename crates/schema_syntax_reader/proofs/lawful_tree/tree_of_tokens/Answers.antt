@@ -31,8 +31,8 @@ tree_of-requires c =
     let here : IsSyntax c.args.tokens.now c.as_slice-items.result.now = subst (IsSyntax c.args.tokens.now) (sym c.as_slice-items.ensures) c.in_ok-items.ensures.syntax in
     record { fit = (c.args.text.now, c.args.tokens.now, here, subst (λ s. AllZip (IsLeaf c.args.text.now) s c.in_ok-leaves.leaves.items) e c.in_ok-leaves.ensures.leaves) }
 
-pub returns-clause-tree : goal.returns-clause-tree
-returns-clause-tree c =
+pub returns-in-Ok-clause-tree : goal.returns-in-Ok-clause-tree
+returns-in-Ok-clause-tree c =
     let items = c.in_ok-items.items in
     let e = ap (map site_of) c.deref.ensures.value ∙ c.in_ok-sites.ensures.sites in
     let here : IsSyntax c.args.tokens.now c.as_slice-items.result.now = subst (IsSyntax c.args.tokens.now) (sym c.as_slice-items.ensures) c.in_ok-items.ensures.syntax in
@@ -40,5 +40,5 @@ returns-clause-tree c =
       items = c.as_slice-items.result.now;
       syntax = here;
       lawful = all_lawful c.args.text.now c.as_slice-items.result.now (subst (All (NoSiteFault c.args.text.now)) e c.in_ok-leaves.ensures.lawful);
-      tree = c.in_ok-tree_of.ensures.tree c.args.text.now (subst (λ s. AllZip (IsLeaf c.args.text.now) s c.in_ok-leaves.leaves.items) e c.in_ok-leaves.ensures.leaves);
+      tree = c.in-Ok.ensures.tree c.args.text.now (subst (λ s. AllZip (IsLeaf c.args.text.now) s c.in_ok-leaves.leaves.items) e c.in_ok-leaves.ensures.leaves);
     }

@@ -1,10 +1,18 @@
-use Rattle.std.proofs.Common.{◌≡◌, slice_range, ap, ◌∙◌}
-use Rattle.std.specs.Str.{chars}
+use Rattle.std.proofs.Common.{◌≡◌, slice_range, sym, ap, ◌∙◌}
 use Rattle.cedar_data.specs.Words.{is_word}
-use Rattle.schema_syntax_reader.proofs.PlacedWords.{word_there}
+use Rattle.schema_syntax_reader.proofs.PlacedWords.{word_there, word_is_bytes}
 use Rattle.schema_syntax_reader.proofs.words.any_word.Goals as goal
 
-pub invariant_of-result : goal.invariant_of-result
-invariant_of-result c =
-    let part : c.unwrap-part.result.now ≡ slice_range c.args.text.now c.args.token.now.loc.start c.args.token.now.loc.end = rw c.unwrap-part.ensures at c.token_text.ensures.value in
-    record { word = ap is_word (c.in_ok-from_str.ensures ∙ ap chars part) ∙ word_there c.args.text.now c.args.token.now c.requires }
+pub of-requires : goal.of-requires
+of-requires c =
+    let source = c.args.text.now in
+    let t = c.args.token.now in
+    let part : c.unwrap.result.now ≡ slice_range source t.loc.start t.loc.end = rw c.unwrap.ensures at c.token_text.ensures.value in
+    ap is_word (part ∙ sym (word_is_bytes source t c.requires)) ∙ word_there source t c.requires
+
+pub returns : goal.returns
+returns c =
+    let source = c.args.text.now in
+    let t = c.args.token.now in
+    let part : c.unwrap.result.now ≡ slice_range source t.loc.start t.loc.end = rw c.unwrap.ensures at c.token_text.ensures.value in
+    c.of.ensures ∙ (part ∙ sym (word_is_bytes source t c.requires))

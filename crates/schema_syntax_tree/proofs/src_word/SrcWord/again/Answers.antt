@@ -1,0 +1,6 @@
+use Rattle.std.proofs.Common.{ap}
+use Rattle.cedar_identifiers.proofs.Same.{any_id_same}
+use Rattle.schema_syntax_tree.proofs.src_word.SrcWord.again.Goals as goal
+
+pub returns : goal.returns
+returns c = any_id_same _ _ (ap (λ id. id.text) c.self.view_is)
