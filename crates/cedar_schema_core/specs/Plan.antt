@@ -1,5 +1,5 @@
 -- What the program is to do, for its words and its input.
-use Rattle.std.specs.Prelude.{◌<◌, ◌≤◌, ℕ, List, [], ◌++◌, length, codes, IsUtf8}
+use Rattle.std.specs.Prelude.{◌≢◌, ◌<◌, ◌≤◌, ℕ, List, [], ◌++◌, length, codes, IsUtf8}
 use Rattle.std.specs.List.{flat_map}
 use Rattle.std.specs.Str.{encode_utf8_all}
 use Rattle.cedar_io.specs.Input.{max_input}
@@ -9,7 +9,11 @@ use Rattle.schema_convert_errors.specs.declared.warnings.SchemaWarning.{SchemaWa
 use Rattle.cedar_schema_core.specs.declared.command.Command.{Command}
 use Rattle.cedar_schema_core.specs.declared.status.Status.{Status}
 use Rattle.cedar_schema_core.specs.declared.status.Status.TheVariants.{Done, Refused, Usage, ReadFault, NotText, TooLong}
-use Rattle.cedar_schema_core.specs.Meanings.{TextMeaning, IsValid, Warns}
+use Rattle.cedar_schema_core.specs.declared.recover.RecoverError.{RecoverError}
+use Rattle.cedar_schema_core.specs.declared.recover.RecoverError.TheVariants.{Memory}
+use Rattle.cedar_schema_core.specs.FaultText.{fault_text}
+use Rattle.cedar_schema_core.specs.Meanings.{TextMeaning, Warns}
+use Rattle.cedar_schema_core.specs.Recovery.{IsRefusal}
 use Rattle.cedar_schema_core.specs.Commands.{Asks, table_of, output_of}
 
 -- a status, and what goes to the output and to the error output, as bytes
@@ -31,8 +35,9 @@ too_long_report = record { status = TooLong; out = []; err = codes "error: the i
 abbrev pub not_text_report : Report
 not_text_report = record { status = NotText; out = []; err = codes "error: the input is not UTF-8\n" }
 
-abbrev pub refused_report : Report
-refused_report = record { status = Refused; out = []; err = codes "error: refused\n" }
+-- the report where the input is refused: what is told of it goes to the error output
+abbrev pub refused_report : List ℕ → RecoverError → Report
+refused_report text e = record { status = Refused; out = []; err = encode_utf8_all (fault_text text e) }
 
 -- a line for a warning, as characters
 abbrev pub warning_line : SchemaWarning → List ℕ
@@ -45,7 +50,7 @@ done_report c m warnings =
 
 -- what a command answers to a text: one case for each cause
 pub data IsAnswer (c : Command) (text : List ℕ) : Report → Type 0 where
-  refused : (IsValid text (table_of c) → ⊥) → IsAnswer c text refused_report
+  refused : (e : RecoverError) → e ≢ Memory → IsRefusal text (table_of c) e → IsAnswer c text (refused_report text e)
   done : (m : SchemaMeaning) (warnings : List SchemaWarning) → TextMeaning text (table_of c) m
       → Warns text (table_of c) warnings → IsAnswer c text (done_report c m warnings)
 

@@ -2,7 +2,9 @@
 #![tactic(auto)]
 
 pub mod command;
+pub mod fault_text;
 pub mod laws;
+mod numbers;
 pub mod recover;
 pub mod reply;
 pub mod run;
@@ -11,6 +13,7 @@ pub mod std_streams;
 
 pub use cedar_io::{MAX_INPUT, ReadEnd, read_input, write_text};
 pub use command::Command;
+pub use fault_text::fault_text;
 pub use laws::{one_plan, one_text_meaning, one_translation};
 pub use recover::{RecoverError, Recovered, recover_schema};
 pub use run::run_tool;

@@ -11,13 +11,14 @@ ghost use Rattle.cedar_schema_core.specs.Run.{device, IsReported, IsDelivered, I
 ghost use Rattle.cedar_schema_core.specs.Replies.{report_of};
 
 use crate::command::Command;
+use crate::fault_text::fault_text;
 use crate::laws::one_plan;
+use crate::numbers::number_text;
 use crate::recover::{RecoverError, Recovered, recover_schema};
 use crate::reply::{Reply, warning_lines};
 use crate::status::Status;
 use cedar_data::{Text, around};
 use cedar_io::{ReadEnd, Sink, Source, read_input, write_text};
-use itoa::Buffer;
 use std::alloc::{AllocError, Global};
 
 const USAGE: &str = "usage: cedar_schema_tool COMMAND [NAME..]\n";
@@ -27,17 +28,6 @@ const READ_FAULT: &str = "error: reading failed\n";
 const TOO_LONG: &str = "error: the input is longer than 16777216 bytes\n";
 
 const NOT_TEXT: &str = "error: the input is not UTF-8\n";
-
-const REFUSED: &str = "error: refused\n";
-
-// The decimal digits of a number.
-fn number_text(alloc: Global, number: usize) -> Result<Text, AllocError>
-    ensures text { IfOk result (λ text. text ≡ decimal number) }
-    ensures ascii { OnOk result (IsAscii (decimal number)) }
-{
-    let mut buffer = Buffer::new();
-    Text::from_str(alloc, buffer.format(number))
-}
 
 // How many entity types and actions there are.
 fn count_line(alloc: Global, entity_types: usize, actions: usize) -> Result<Text, AllocError>
@@ -68,14 +58,16 @@ fn done_reply(alloc: Global, command: &Command, recovered: Recovered) -> Result<
 }
 
 // The reply where nothing is recovered.
-fn refused_reply(alloc: Global, fault: &RecoverError) -> Result<Reply, AllocError>
-    ensures { IfOk result (λ reply. (fault.now ≢ RecoverError.Memory) × (report_of reply ≡ refused_report)) }
+fn refused_reply(alloc: Global, text: &str, fault: &RecoverError) -> Result<Reply, AllocError>
+    ensures { IfOk result (λ reply. (fault.now ≢ RecoverError.Memory) × (report_of reply ≡ refused_report text.now fault.now)) }
 {
     match fault {
         RecoverError::Memory => Err(AllocError),
-        RecoverError::Parse(_) | RecoverError::Schema(_) | RecoverError::Captured(_) => {
-            Reply::line(alloc, Status::Refused, REFUSED)
-        }
+        RecoverError::Parse(_) | RecoverError::Schema(_) | RecoverError::Captured(_) => Ok(Reply {
+            status: Status::Refused,
+            out: Text::new(alloc),
+            err: fault_text(alloc, text, fault)?,
+        }),
     }
 }
 
@@ -85,7 +77,7 @@ fn text_reply(alloc: Global, command: &Command, text: &str) -> Result<Reply, All
 {
     match recover_schema(alloc, text, command.table()) {
         Ok(recovered) => done_reply(alloc, command, recovered),
-        Err(fault) => refused_reply(alloc, &fault),
+        Err(fault) => refused_reply(alloc, text, &fault),
     }
 }
 

@@ -1,1 +1,2 @@
+mod Advice
 mod SameFaults

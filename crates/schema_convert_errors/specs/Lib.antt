@@ -1,1 +1,3 @@
+pub mod ErrorPlaces
+pub mod ErrorTexts
 pub mod WarningTexts

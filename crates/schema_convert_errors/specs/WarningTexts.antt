@@ -1,6 +1,5 @@
 -- What warnings say, and where they point to.
-use Rattle.std.specs.Prelude.{ℕ, List, [], ◌∷◌, ◌++◌, Option, Some, None, codes}
-use Rattle.cedar_data.specs.Span.{Span}
+use Rattle.std.specs.Prelude.{ℕ, List, ◌++◌, codes}
 use Rattle.cedar_data.specs.declared.label.Label.{Label}
 use Rattle.schema_syntax_errors.specs.FaultLabels.{unnamed_label}
 use Rattle.schema_convert_errors.specs.declared.warnings.SchemaWarning.{SchemaWarning}

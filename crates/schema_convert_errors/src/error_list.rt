@@ -1,8 +1,14 @@
 ghost use Rattle.std.specs.Prelude.{◌≡◌, [], ◌∷◌, IfOk};
 ghost use Rattle.cedar_data.specs.NonEmpty.{items_left, items_to_come};
+ghost use Rattle.schema_convert_errors.specs.ErrorTexts.{first_fault_text, failure_text, text_failure_text};
+ghost use Rattle.schema_convert_errors.specs.ErrorPlaces.{first_fault_help, failure_help, text_failure_help};
+ghost use Rattle.schema_convert_errors.specs.ErrorPlaces.{first_fault_labels, failure_labels, text_failure_labels};
 
 use crate::errors::ToJsonSchemaError;
-use cedar_data::{CloneIn, NonEmpty, NonEmptyIntoIter, NonEmptyIter};
+use crate::parse_help::parse_error_help;
+use cedar_data::{
+    CloneIn, Label, NonEmpty, NonEmptyIntoIter, NonEmptyIter, Severity, Text, message,
+};
 use schema_syntax_errors::ParseErrors;
 use std::alloc::{AllocError, Global};
 
@@ -43,6 +49,34 @@ impl ToJsonSchemaErrors {
         let ToJsonSchemaErrors { errors } = self;
         errors.into_iter()
     }
+
+    /// What the first fault says.
+    pub fn text(&self, alloc: Global) -> Result<Text, AllocError>
+        ensures text { IfOk result (λ text. text ≡ first_fault_text self.now.errors) }
+    {
+        self.errors.first().text(alloc)
+    }
+
+    /// The advice of the first fault.
+    pub fn help(&self, alloc: Global, source: &str) -> Result<Option<Text>, AllocError>
+        ensures help { IfOk result (λ help. help ≡ first_fault_help self.now.errors) }
+    {
+        self.errors.first().help(alloc, source)
+    }
+
+    /// The places that the first fault points to, in order.
+    pub fn labels(&self, alloc: Global) -> Result<Vec<Label>, AllocError>
+        ensures labels { IfOk result (λ labels. labels.items ≡ first_fault_labels self.now.errors) }
+    {
+        self.errors.first().labels(alloc)
+    }
+
+    /// How grave the first fault is.
+    pub fn severity(&self) -> Severity
+        ensures error { result ≡ Severity.Error }
+    {
+        Severity::Error
+    }
 }
 
 impl CloneIn for ToJsonSchemaErrors {
@@ -58,6 +92,44 @@ impl CloneIn for ToJsonSchemaErrors {
 pub enum ToJsonSchemaFailure {
     Errors(ToJsonSchemaErrors),
     Memory,
+}
+
+impl ToJsonSchemaFailure { /// What it says.
+    pub fn text(&self, alloc: Global) -> Result<Text, AllocError>
+        ensures text { IfOk result (λ text. text ≡ failure_text self.now) }
+    {
+        match self {
+            ToJsonSchemaFailure::Errors(errors) => errors.text(alloc),
+            ToJsonSchemaFailure::Memory => message(alloc, "out of memory"),
+        }
+    }
+
+    /// Advice, where it has any.
+    pub fn help(&self, alloc: Global, source: &str) -> Result<Option<Text>, AllocError>
+        ensures help { IfOk result (λ help. help ≡ failure_help self.now) }
+    {
+        match self {
+            ToJsonSchemaFailure::Errors(errors) => errors.help(alloc, source),
+            ToJsonSchemaFailure::Memory => Ok(None),
+        }
+    }
+
+    /// The places that it points to, in order.
+    pub fn labels(&self, alloc: Global) -> Result<Vec<Label>, AllocError>
+        ensures labels { IfOk result (λ labels. labels.items ≡ failure_labels self.now) }
+    {
+        match self {
+            ToJsonSchemaFailure::Errors(errors) => errors.labels(alloc),
+            ToJsonSchemaFailure::Memory => Ok(Vec::new(alloc)),
+        }
+    }
+
+    /// How grave it is.
+    pub fn severity(&self) -> Severity
+        ensures error { result ≡ Severity.Error }
+    {
+        Severity::Error
+    }
 }
 
 impl CloneIn for ToJsonSchemaFailure {
@@ -77,6 +149,49 @@ pub enum CedarSchemaParseErrors {
     SyntaxError(ParseErrors),
     JsonError(ToJsonSchemaErrors),
     Memory,
+}
+
+impl CedarSchemaParseErrors { /// What it says.
+    pub fn text(&self, alloc: Global) -> Result<Text, AllocError>
+        ensures text { IfOk result (λ text. text ≡ text_failure_text self.now) }
+    {
+        match self {
+            CedarSchemaParseErrors::SyntaxError(errors) => errors.text(alloc),
+            CedarSchemaParseErrors::JsonError(errors) => errors.text(alloc),
+            CedarSchemaParseErrors::Memory => message(alloc, "out of memory"),
+        }
+    }
+
+    /// Advice, where it has any.
+    pub fn help(&self, alloc: Global, source: &str) -> Result<Option<Text>, AllocError>
+        ensures help { IfOk result (λ help. help ≡ text_failure_help self.now source.now) }
+    {
+        match self {
+            CedarSchemaParseErrors::SyntaxError(errors) => {
+                parse_error_help(alloc, source, errors.errors.first())
+            }
+            CedarSchemaParseErrors::JsonError(errors) => errors.help(alloc, source),
+            CedarSchemaParseErrors::Memory => Ok(None),
+        }
+    }
+
+    /// The places that it points to, in order.
+    pub fn labels(&self, alloc: Global) -> Result<Vec<Label>, AllocError>
+        ensures labels { IfOk result (λ labels. labels.items ≡ text_failure_labels self.now) }
+    {
+        match self {
+            CedarSchemaParseErrors::SyntaxError(errors) => errors.labels(alloc),
+            CedarSchemaParseErrors::JsonError(errors) => errors.labels(alloc),
+            CedarSchemaParseErrors::Memory => Ok(Vec::new(alloc)),
+        }
+    }
+
+    /// How grave it is.
+    pub fn severity(&self) -> Severity
+        ensures error { result ≡ Severity.Error }
+    {
+        Severity::Error
+    }
 }
 
 impl CloneIn for CedarSchemaParseErrors {

@@ -2,18 +2,19 @@
 #![tactic(auto)]
 
 pub mod error_list;
+mod error_texts;
 pub mod errors;
+mod labels;
 pub mod laws;
+pub mod parse_help;
 pub mod warnings;
 
 pub use error_list::{CedarSchemaParseErrors, ToJsonSchemaErrors, ToJsonSchemaFailure};
+pub use error_texts::NO_PR_HELP_MSG;
 pub use errors::{
     DuplicateContext, DuplicateDeclarations, DuplicateNamespace, DuplicatePrincipalOrResource,
     MissingOrEmpty, NoPrincipalOrResource, ReservedName, ReservedSchemaKeyword, ToJsonSchemaError,
     UnknownTypeName,
 };
+pub use parse_help::parse_error_help;
 pub use warnings::{SchemaWarning, ShadowsBuiltinWarning, ShadowsEntityWarning};
-
-/// What an action without principals or resources is told.
-pub const NO_PR_HELP_MSG: &str =
-    "Every action must define both `principal` and `resource` targets, and the `principal` and `resource` lists must not be `[]`.";

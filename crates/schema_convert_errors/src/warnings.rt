@@ -1,7 +1,7 @@
-ghost use Rattle.std.specs.Prelude.{◌≡◌, ◌++◌, Ok, None, IfOk, OnOk};
+ghost use Rattle.std.specs.Prelude.{◌≡◌, Ok, None, IfOk};
 ghost use Rattle.schema_convert_errors.specs.WarningTexts.{shadows_builtin_text, shadows_entity_text, warning_text, builtin_labels, entity_labels, warning_labels};
-ghost use Rattle.schema_syntax_errors.specs.FaultLabels.{unnamed_label};
 
+use crate::labels::{bare_label, bare_labels};
 use cedar_data::{CloneIn, Label, Loc, Severity, Text, message, push_both};
 use std::alloc::{AllocError, Global};
 
@@ -25,16 +25,6 @@ pub struct ShadowsEntityWarning {
 pub enum SchemaWarning {
     ShadowsBuiltin(ShadowsBuiltinWarning),
     ShadowsEntity(ShadowsEntityWarning),
-}
-
-// Adds a label without a text, where there is a place.
-fn push_bare(labels: &mut Vec<Label>, place: Option<Loc>) -> Result<(), AllocError>
-    ensures { OnOk result (labels.new.items ≡ labels.old.items ++ unnamed_label place) }
-{
-    if let Some(span) = place {
-        labels.push(Label { span, text: None })?;
-    }
-    Ok(())
 }
 
 impl ShadowsBuiltinWarning {
@@ -61,9 +51,7 @@ impl ShadowsBuiltinWarning {
     pub fn labels(&self, alloc: Global) -> Result<Vec<Label>, AllocError>
         ensures { IfOk result (λ labels. labels.items ≡ builtin_labels self.now) }
     {
-        let mut labels = Vec::new(alloc);
-        push_bare(&mut labels, self.loc)?;
-        Ok(labels)
+        bare_label(alloc, self.loc)
     }
 
     /// How grave it is.
@@ -95,10 +83,7 @@ impl ShadowsEntityWarning {
     pub fn labels(&self, alloc: Global) -> Result<Vec<Label>, AllocError>
         ensures { IfOk result (λ labels. labels.items ≡ entity_labels self.now) }
     {
-        let mut labels = Vec::new(alloc);
-        push_bare(&mut labels, self.entity_loc)?;
-        push_bare(&mut labels, self.common_loc)?;
-        Ok(labels)
+        bare_labels(alloc, self.entity_loc, self.common_loc)
     }
 
     /// How grave it is.

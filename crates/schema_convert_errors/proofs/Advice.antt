@@ -1,0 +1,30 @@
+-- What a fault of parsing advises is ASCII: its characters are its bytes.
+use Rattle.std.proofs.Common.{◌≡◌, ℕ, Bool, true, false, List, Option, Some, None, refl, sym, subst, cond}
+use Rattle.std.specs.Option.{MatchOption}
+use Rattle.std.specs.Prelude.{⊤}
+use Rattle.std.specs.Str.{chars}
+use Rattle.cedar_data.proofs.Ascii.{chars-from_test}
+use Rattle.schema_syntax_errors.specs.declared.parse_error.ParseError.{ParseError}
+use Rattle.schema_syntax_errors.specs.declared.parse_error.ParseError.TheVariants.{InvalidToken, UnrecognizedEof, UnrecognizedToken, ExtraToken, User}
+use Rattle.schema_syntax_errors.specs.FaultHelps.{missing_applies_to, trailing_namespace_semicolon, misses_applies_to, ends_namespace, parse_error_help}
+
+abbrev Plain : Option (List ℕ) → Type 0
+Plain help = MatchOption help ⊤ (λ text. chars text ≡ text)
+
+by_rules : (misses ends : Bool)
+    → Plain (cond misses (Some missing_applies_to) (cond ends (Some trailing_namespace_semicolon) None))
+by_rules true ends = chars-from_test missing_applies_to refl
+by_rules false true = chars-from_test trailing_namespace_semicolon refl
+by_rules false false = tt
+
+by_fault : (fault : ParseError) (source : List ℕ) → Plain (parse_error_help fault source)
+by_fault (InvalidToken location) source = tt
+by_fault (UnrecognizedEof location expected) source = tt
+by_fault (UnrecognizedToken start token end expected) source =
+    by_rules (misses_applies_to token expected) (ends_namespace start token expected source)
+by_fault (ExtraToken start token end) source = tt
+by_fault (User fault) source = tt
+
+pub advice_characters : (fault : ParseError) (source help : List ℕ) → Some help ≡ parse_error_help fault source
+    → chars help ≡ help
+advice_characters fault source help e = subst Plain (sym e) (by_fault fault source)
