@@ -8,12 +8,12 @@ use Rattle.cedar_io.specs.Input.{HadLeft, max_input}
 use Rattle.cedar_io.specs.Outside.{IsEnd}
 use Rattle.cedar_names.specs.declared.extension_table.ExtensionTable.{ExtensionTable}
 use Rattle.cedar_schema_core.specs.declared.command.Command.{Command}
-use Rattle.cedar_schema_core.specs.declared.recover.RecoverError.{RecoverError}
-use Rattle.cedar_schema_core.specs.declared.recover.RecoverError.TheVariants.{Memory}
+use Rattle.cedar_schema_core_faults.specs.declared.recover_error.RecoverError.{RecoverError}
+use Rattle.cedar_schema_core_faults.specs.declared.recover_error.RecoverError.TheVariants.{Memory}
 use Rattle.cedar_schema_core.specs.declared.reply.Reply.{Reply}
 use Rattle.cedar_schema_core.specs.declared.status.Status.{Status}
 use Rattle.cedar_schema_core.specs.declared.status.Status.TheVariants.{TooLong}
-use Rattle.cedar_schema_core.specs.Meanings.{IsValid}
+use Rattle.cedar_schema_core.specs.Recovery.{IsRefusal}
 use Rattle.cedar_schema_core.specs.Commands.{Asks, table_of}
 use Rattle.cedar_schema_core.specs.Replies.{report_of}
 use Rattle.cedar_schema_core.specs.Plan.{Report, IsAnswer, refused, IsInputPlan, answered, asked, refused_report}
@@ -41,11 +41,11 @@ so P r report h told = IfOk-weaker r _ _ (λ reply e. subst P (sym e) h) told
 
 -- where nothing is recovered, the text is refused
 pub refused_answer : (c : Command) (text : List ℕ) (table : ExtensionTable) (fault : RecoverError) (r : Result Reply AllocError)
-    → table ≡ table_of c → (fault ≢ Memory → IsValid text table → ⊥)
-    → IfOk r (λ reply. (fault ≢ Memory) × (report_of reply ≡ refused_report))
+    → table ≡ table_of c → IsRefusal text table fault
+    → IfOk r (λ reply. (fault ≢ Memory) × (report_of reply ≡ refused_report text fault))
     → IfOk r (λ reply. IsAnswer c text (report_of reply))
-refused_answer c text table fault r same invalid told =
-    IfOk-weaker r _ _ (λ reply h. subst (IsAnswer c text) (sym h.1) (refused (subst (λ t. IsValid text t → ⊥) same (invalid h.0)))) told
+refused_answer c text table fault r same refusal told =
+    IfOk-weaker r _ _ (λ reply h. subst (IsAnswer c text) (sym h.1) (refused fault h.0 (subst (λ t. IsRefusal text t fault) same refusal))) told
 
 -- a short input that is a text is answered as that text
 pub text_planned : (c : Command) (text bytes : List ℕ) (r : Result Reply AllocError) → text ≡ bytes → IsUtf8 bytes

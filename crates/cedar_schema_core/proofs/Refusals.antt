@@ -13,8 +13,8 @@ use Rattle.schema_build_checks.specs.Rows.{Never}
 use Rattle.schema_build_parts.specs.BuildFaults.{BuildFault}
 use Rattle.schema_build_text.specs.Captured.{IsUncaptured, IsFirstOf, IsFirstCaptured}
 use Rattle.schema_build.specs.Meaning.{FragmentMeaning}
-use Rattle.cedar_schema_core.specs.declared.recover.RecoverError.{RecoverError}
-use Rattle.cedar_schema_core.specs.declared.recover.RecoverError.TheVariants.{Parse, Schema, Captured, Memory}
+use Rattle.cedar_schema_core_faults.specs.declared.recover_error.RecoverError.{RecoverError}
+use Rattle.cedar_schema_core_faults.specs.declared.recover_error.RecoverError.TheVariants.{Parse, Schema, Captured, Memory}
 use Rattle.cedar_schema_core.specs.Meanings.{IsValid}
 use Rattle.cedar_schema_core.specs.Recovery.{IsRefusal, IsParseRefusal}
 use Rattle.cedar_schema_core.specs.Steps.{IsUnparsed, IsUnbuilt, IsUnprinted}
@@ -78,3 +78,11 @@ module _
         let same : m ≡ valid.0 = meaning valid.1.fragment table m valid.0 there valid.1.means in
         none_first valid.0 captured valid.1.uncaptured (subst (λ n. IsFirstCaptured n captured) same h)
     unprinted_invalid m means Memory h other valid = other refl
+
+  -- a text that is refused means nothing
+  pub refused_invalid : (e : RecoverError) → IsRefusal text table e → e ≢ Memory → IsValid text table → ⊥
+  refused_invalid (Parse errors) h other valid = unparsed_invalid (Parse errors) h other valid
+  refused_invalid (Schema error) h other valid = unbuilt_invalid h.0 h.1.0 h.1.1 (Schema error) h.2 other valid
+  refused_invalid (Captured captured) h other valid =
+      unprinted_invalid h.fragment h.translated.0 h.translated.1 h.meaning h.means (Captured captured) h.first other valid
+  refused_invalid Memory h other valid = absurd (other refl)

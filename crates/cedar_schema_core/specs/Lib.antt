@@ -3,7 +3,6 @@ pub mod Meanings
 pub mod Recovery
 pub mod Steps
 pub mod Commands
-pub mod FaultText
 pub mod Plan
 pub mod Run
 pub mod Replies

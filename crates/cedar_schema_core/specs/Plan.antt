@@ -1,5 +1,5 @@
 -- What the program is to do, for its words and its input.
-use Rattle.std.specs.Prelude.{◌≢◌, ◌<◌, ◌≤◌, ℕ, List, [], ◌++◌, length, codes, IsUtf8}
+use Rattle.std.specs.Prelude.{◌≡◌, ◌≢◌, ◌<◌, ◌≤◌, ℕ, List, [], ◌++◌, length, codes, IsUtf8}
 use Rattle.std.specs.List.{flat_map}
 use Rattle.std.specs.Str.{encode_utf8_all}
 use Rattle.cedar_io.specs.Input.{max_input}
@@ -9,9 +9,9 @@ use Rattle.schema_convert_errors.specs.declared.warnings.SchemaWarning.{SchemaWa
 use Rattle.cedar_schema_core.specs.declared.command.Command.{Command}
 use Rattle.cedar_schema_core.specs.declared.status.Status.{Status}
 use Rattle.cedar_schema_core.specs.declared.status.Status.TheVariants.{Done, Refused, Usage, ReadFault, NotText, TooLong}
-use Rattle.cedar_schema_core.specs.declared.recover.RecoverError.{RecoverError}
-use Rattle.cedar_schema_core.specs.declared.recover.RecoverError.TheVariants.{Memory}
-use Rattle.cedar_schema_core.specs.FaultText.{fault_text}
+use Rattle.cedar_schema_core_faults.specs.declared.recover_error.RecoverError.{RecoverError}
+use Rattle.cedar_schema_core_faults.specs.declared.recover_error.RecoverError.TheVariants.{Memory}
+use Rattle.cedar_schema_core_faults.specs.Told.{fault_text}
 use Rattle.cedar_schema_core.specs.Meanings.{TextMeaning, Warns}
 use Rattle.cedar_schema_core.specs.Recovery.{IsRefusal}
 use Rattle.cedar_schema_core.specs.Commands.{Asks, table_of, output_of}
@@ -65,3 +65,9 @@ pub data IsInputPlan (c : Command) (bytes : List ℕ) : Report → Type 0 where
 pub data IsPlan (words : List (List ℕ)) (bytes : List ℕ) : Report → Type 0 where
   usage : ((c : Command) → Asks words c → ⊥) → IsPlan words bytes usage_report
   asked : (c : Command) → Asks words c → {report : Report} → IsInputPlan c bytes report → IsPlan words bytes report
+
+-- two reports agree, but for what is told of a refusal
+pub record Agree (report other : Report) : Type 0 where
+  pub status : report.status ≡ other.status
+  pub out : report.out ≡ other.out
+  pub err : report.status ≢ Refused → report.err ≡ other.err

@@ -7,8 +7,8 @@ use Rattle.cedar_names.specs.declared.extension_table.ExtensionTable.{ExtensionT
 use Rattle.schema_json.specs.declared.fragment.Fragment.{Fragment}
 use Rattle.schema_build_parts.specs.BuildFaults.{BuildFault}
 use Rattle.schema_build_text.specs.Captured.{IsFirstCaptured}
-use Rattle.cedar_schema_core.specs.declared.recover.RecoverError.{RecoverError}
-use Rattle.cedar_schema_core.specs.declared.recover.RecoverError.TheVariants.{Parse, Schema, Captured, Memory}
+use Rattle.cedar_schema_core_faults.specs.declared.recover_error.RecoverError.{RecoverError}
+use Rattle.cedar_schema_core_faults.specs.declared.recover_error.RecoverError.TheVariants.{Parse, Schema, Captured, Memory}
 use Rattle.cedar_schema_core.specs.Recovery.{IsParseRefusal}
 
 -- the text is translated to nothing

@@ -1,6 +1,6 @@
 //! Laws of what a text means and of what the program is to do. Each law is what its function ensures; the functions do
 //! nothing but cite laws below them.
-ghost use Rattle.std.specs.Prelude.{◌≡◌, ℕ, List};
+ghost use Rattle.std.specs.Prelude.{◌≡◌, ◌≢◌, ℕ, List};
 ghost use Rattle.cedar_identifiers.specs.declared.raw_name.RawName.{RawName as Raw};
 ghost use Rattle.cedar_names.specs.Meaning.{SchemaMeaning};
 ghost use Rattle.cedar_names.specs.declared.extension_table.ExtensionTable.{ExtensionTable};
@@ -9,10 +9,11 @@ ghost use Rattle.schema_convert_types.specs.Declarations.{as_written};
 ghost use Rattle.schema_convert_errors.specs.declared.error_list.CedarSchemaParseErrors.{CedarSchemaParseErrors};
 ghost use Rattle.schema_convert_errors.specs.declared.warnings.SchemaWarning.{SchemaWarning};
 ghost use Rattle.schema_convert.specs.Translated.{IsTranslationOfText};
-ghost use Rattle.cedar_schema_core.specs.Meanings.{TextMeaning};
-ghost use Rattle.cedar_schema_core.specs.Recovery.{IsParseRefusal};
-ghost use Rattle.cedar_schema_core.specs.Plan.{Report, IsPlan};
+ghost use Rattle.cedar_schema_core.specs.Meanings.{TextMeaning, IsValid};
+ghost use Rattle.cedar_schema_core.specs.Recovery.{IsRefusal, IsParseRefusal};
+ghost use Rattle.cedar_schema_core.specs.Plan.{Report, IsPlan, Agree};
 
+use cedar_schema_core_faults::RecoverError;
 use schema_build::one_fragment_meaning;
 use schema_syntax::laws::tree_or_error;
 use schema_syntax_laws::one_tree;
@@ -40,10 +41,20 @@ pub fn one_text_meaning()
     one_fragment_meaning();
 }
 
-/// For the same words and the same input there is one report at most.
+/// A text that is refused is not valid.
+pub fn refused_or_valid()
+    ensures { (text : List ℕ) (table : ExtensionTable) (e : RecoverError) → IsRefusal text table e → e ≢ RecoverError.Memory → IsValid text table → ⊥ }
+{
+    one_translation();
+    refused_or_translated();
+    one_fragment_meaning();
+}
+
+/// The reports for the same words and the same input agree, but for what is told of a refusal.
 pub fn one_plan()
-    ensures { (words : List (List ℕ)) (bytes : List ℕ) (report other : Report) → IsPlan words bytes report → IsPlan words bytes other → report ≡ other }
+    ensures { (words : List (List ℕ)) (bytes : List ℕ) (report other : Report) → IsPlan words bytes report → IsPlan words bytes other → Agree report other }
 {
     one_text_meaning();
     one_translation();
+    refused_or_valid();
 }

@@ -2,9 +2,7 @@
 #![tactic(auto)]
 
 pub mod command;
-pub mod fault_text;
 pub mod laws;
-mod numbers;
 pub mod recover;
 pub mod reply;
 pub mod run;
@@ -12,10 +10,10 @@ pub mod status;
 pub mod std_streams;
 
 pub use cedar_io::{MAX_INPUT, ReadEnd, read_input, write_text};
+pub use cedar_schema_core_faults::{RecoverError, fault_text};
 pub use command::Command;
-pub use fault_text::fault_text;
-pub use laws::{one_plan, one_text_meaning, one_translation};
-pub use recover::{RecoverError, Recovered, recover_schema};
+pub use laws::{one_plan, one_text_meaning, one_translation, refused_or_valid};
+pub use recover::{Recovered, recover_schema};
 pub use run::run_tool;
 pub use status::Status;
 pub use std_streams::{StdSink, StdSource};

@@ -15,9 +15,8 @@ use crate::laws::{one_translation, refused_or_translated};
 use cedar_data::Text;
 use cedar_identifiers::RawName;
 use cedar_names::ExtensionTable;
-use schema_build::{
-    ReferenceCaptured, SchemaError, ToTextError, ValidatorSchema, one_fragment_meaning,
-};
+use cedar_schema_core_faults::RecoverError;
+use schema_build::{SchemaError, ToTextError, ValidatorSchema, one_fragment_meaning};
 use schema_convert::{CedarSchemaParseErrors, SchemaWarning, parse_cedar_schema_fragment};
 use schema_json::Fragment;
 use std::alloc::Global;
@@ -33,19 +32,6 @@ pub struct Recovered {
     pub entity_types: usize,
     /// How many actions the meaning holds.
     pub actions: usize,
-}
-
-/// Why nothing was recovered, in the order in which the causes count.
-#[derive(Drop)]
-pub enum RecoverError {
-    /// The text is no schema: a fault of its syntax or of a declaration, or all faults of its translation.
-    Parse(CedarSchemaParseErrors),
-    /// Its declarations make no schema: the first fault that holds.
-    Schema(SchemaError),
-    /// Its canonical text would be read otherwise: the first declaration that uses a type which would be captured.
-    Captured(ReferenceCaptured),
-    /// Memory was wanted.
-    Memory,
 }
 
 // The fragment that the text is translated to, with its warnings.

@@ -9,3 +9,5 @@ mod runs;
 mod streams;
 #[cfg(test)]
 mod table;
+#[cfg(test)]
+mod told_table;

@@ -1,6 +1,7 @@
 // Runs over devices in memory.
 
 use crate::table::{recovered_lines, run_lines};
+use crate::told_table::told_lines;
 use cedar_io::{MemorySink, MemorySource, Source, SteadySource};
 use cedar_schema_core::run_tool;
 use schema_tests_lines::{answer_and_text, with_line_ends};
@@ -59,14 +60,8 @@ fn agrees(alloc: Global, line: &str) -> bool {
         return false;
     };
     let (answer, text) = answer_and_text(line.as_str());
-    if answer == "-" {
-        ends_on(
-            alloc,
-            "recover",
-            text.as_bytes(),
-            1,
-            ["", "error: refused\n"],
-        )
+    if answer.starts_with("error: ") {
+        ends_on(alloc, "recover", text.as_bytes(), 1, ["", answer])
     } else {
         ends_on(alloc, "recover", text.as_bytes(), 0, [answer, ""])
     }
@@ -75,6 +70,13 @@ fn agrees(alloc: Global, line: &str) -> bool {
 #[test]
 fn texts_are_recovered(rt: HostRuntime) {
     for line in recovered_lines().lines() {
+        assert!(rt; agrees(rt.alloc(), line), "{line}");
+    }
+}
+
+#[test]
+fn refusals_are_told(rt: HostRuntime) {
+    for line in told_lines().lines() {
         assert!(rt; agrees(rt.alloc(), line), "{line}");
     }
 }

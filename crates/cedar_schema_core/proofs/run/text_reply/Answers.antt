@@ -9,4 +9,4 @@ returns-in-Ok c =
 
 pub returns-in-Err : goal.returns-in-Err
 returns-in-Err c =
-    refused_answer c.args.command.now c.args.text.now c.table.result.now c.in-Err.fault c.refused_reply.result c.table.ensures c.in-Err.ensures.invalid c.refused_reply.ensures
+    refused_answer c.args.command.now c.args.text.now c.table.result.now c.in-Err.fault c.refused_reply.result c.table.ensures c.in-Err.ensures.refused c.refused_reply.ensures

@@ -7,7 +7,7 @@ use itoa::Buffer;
 use std::alloc::{AllocError, Global};
 
 /// The decimal digits of a number.
-pub(crate) fn number_text(alloc: Global, number: usize) -> Result<Text, AllocError>
+pub fn number_text(alloc: Global, number: usize) -> Result<Text, AllocError>
     ensures text { IfOk result (λ text. text ≡ decimal number) }
     ensures ascii { OnOk result (IsAscii (decimal number)) }
 {

@@ -1,15 +1,15 @@
 //! What a person is told of a refusal.
 ghost use Rattle.std.specs.Prelude.{◌≡◌, ◌++◌, ◌∷◌, [], map, codes, decimal, None, IfOk, OnOk};
 ghost use Rattle.std.specs.List.{flat_map};
-ghost use Rattle.cedar_schema_core.specs.FaultText.{Told, said_there, label_line, help_line, told_lines, told_parse};
-ghost use Rattle.cedar_schema_core.specs.FaultText.{told_translation, told_schema, told_captured, told_memory, told_text, fault_text};
+ghost use Rattle.cedar_schema_core_faults.specs.Told.{Told, said_there, label_line, help_line, told_lines, told_parse};
+ghost use Rattle.cedar_schema_core_faults.specs.Told.{told_translation, told_schema, told_captured, told_memory, told_text, fault_text};
 
 use crate::numbers::number_text;
-use crate::recover::RecoverError;
+use crate::recover_error::RecoverError;
 use cedar_data::{Label, Loc, NonEmpty, Text, around, message, push_both};
-use schema_build::{ReferenceCaptured, SchemaError};
-use schema_convert::{CedarSchemaParseErrors, ToJsonSchemaError};
-use schema_syntax::ParseError;
+use schema_build_errors::{ReferenceCaptured, SchemaError};
+use schema_convert_errors::{CedarSchemaParseErrors, ToJsonSchemaError, parse_error_help};
+use schema_syntax_errors::ParseError;
 use std::alloc::{AllocError, Global};
 
 // The place of a label, as byte offsets.
@@ -80,10 +80,7 @@ fn push_parse_error(
 {
     let text = fault.text(alloc)?;
     let labels = fault.labels(alloc)?;
-    let help = match fault.help(source) {
-        Some(help) => Some(Text::from_str(alloc, help)?),
-        None => None,
-    };
+    let help = parse_error_help(alloc, source, fault)?;
     push_told(alloc, lines, &text, &labels, help)
 }
 

@@ -1,6 +1,6 @@
 use Rattle.std.proofs.Common.{◌≡◌, ◌∙◌, subst, List, ℕ, IfOk}
 use Rattle.std.proofs.lemmas.Str.{chars-IsAscii}
-use Rattle.cedar_schema_core.proofs.run.number_text.Goals as goal
+use Rattle.cedar_schema_core_faults.proofs.numbers.number_text.Goals as goal
 
 pub returns-clause-text : goal.returns-clause-text
 returns-clause-text c =

@@ -1,0 +1,10 @@
+use Rattle.std.proofs.Common.{◌≡◌, ◌++◌, map}
+use Rattle.std.specs.List.{flat_map}
+use Rattle.cedar_data.specs.NonEmpty.{items_left}
+use Rattle.cedar_schema_core_faults.specs.Told.{told_lines, told_translation}
+use Rattle.cedar_schema_core_faults.proofs.told.push_translation_faults.Given as goal
+
+abbrev pub invariant-loop-fault : goal.invariant-loop-fault
+invariant-loop-fault l =
+    l.lines ++ flat_map told_lines (map told_translation (items_left l.fault-iterator))
+    ≡ l.initial.lines ++ flat_map told_lines (map told_translation l.faults)
