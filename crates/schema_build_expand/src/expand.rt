@@ -107,7 +107,7 @@ fn expand_entries<N, R: Meanings<N>>(
     requires ready { All (IsReady (R.scope names.now) done.now (R.place names.now)) (of_entries itself entries.now) }
     ensures { IfOk result (λ attrs. EntriesExpandTo (R.scope names.now) (R.place names.now) entries.now attrs.items) }
 {
-    let mut attrs = Vec::new(alloc);
+    let mut attrs = Vec::with_capacity(alloc, entries.len())?;
     for (name, attribute) in entries {
         let name = name.clone_in(alloc)?;
         let ty = expand_type(alloc, names, done, &attribute.ty)?;

@@ -65,7 +65,7 @@ fn targets_of(
 ) -> Result<Vec<Name>, AllocError>
     ensures { IfOk result (λ found. map (λ n. components_of n.name) found.items ≡ unreserved_names (parents_in (tests_of defs.now) ns.now names.now)) }
 {
-    let mut found = Vec::new(alloc);
+    let mut found = Vec::with_capacity(alloc, names.len())?;
     for name in names {
         if let Some(target) = unreserved_target(alloc, defs, ns, name)? {
             found.push(target)?;

@@ -82,7 +82,7 @@ pub(crate) fn clone_entries(
 ) -> Result<Vec<(Text, (Type, bool))>, AllocError>
     ensures { IfOk result (λ copy. copy.items ≡ entries.now) }
 {
-    let mut copy = Vec::new(alloc);
+    let mut copy = Vec::with_capacity(alloc, entries.len())?;
     for (name, (ty, required)) in entries {
         let name = name.clone_in(alloc)?;
         let ty = ty.clone_in(alloc)?;
