@@ -200,10 +200,7 @@ fn declarable_name(name: InternalName) -> Option<Name>
 }
 
 // The name of a namespace that may be declared.
-fn namespace_key(
-    alloc: Global,
-    name: Option<Path<'_>>,
-) -> Result<Option<Option<Name>>, AllocError>
+fn namespace_key(alloc: Global, name: Option<Path<'_>>) -> Result<Option<Option<Name>>, AllocError>
     ensures { IfOk result (λ key. key ≡ namespace_key name.entry) }
 {
     match name {
