@@ -18,8 +18,9 @@ use std::alloc::{AllocError, Global};
 fn raw_names(alloc: Global, paths: List<Path<'_>>) -> Result<List<RawName>, AllocError>
     ensures { IfOk result (λ names. names ≡ raw_names paths.entry) }
 {
-    let mut names = Vec::new(alloc);
-    for path in paths.into_vec() {
+    let paths = paths.into_vec();
+    let mut names = Vec::with_capacity(alloc, paths.len())?;
+    for path in paths {
         names.push(raw_name(alloc, path)?)?;
     }
     Ok(List::from_vec(names))

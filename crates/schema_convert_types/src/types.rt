@@ -61,8 +61,9 @@ fn record_of<'a>(
 ) -> Result<RecordType<RawName>, AllocError>
     ensures { IfOk result (λ shape. shape ≡ record_of (map attribute_of attributes.entry)) }
 {
-    let mut entries = Vec::new(alloc);
-    for attribute in attributes.into_vec() {
+    let attributes = attributes.into_vec();
+    let mut entries = Vec::with_capacity(alloc, attributes.len())?;
+    for attribute in attributes {
         let Annotated { item, annotations } = attribute.node;
         let AttrDecl { name, required, ty } = item;
         let ty = type_at(alloc, ty.node, ty.loc)?;
