@@ -3,3 +3,6 @@ mod Values
 mod Notes
 mod Types
 mod Trees
+mod TokenPlaces
+mod OneUserFault
+mod OneError

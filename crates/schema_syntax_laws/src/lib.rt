@@ -3,4 +3,4 @@
 
 pub mod laws;
 
-pub use laws::one_tree;
+pub use laws::{no_two_user_faults_end_together, one_error, one_tree};
