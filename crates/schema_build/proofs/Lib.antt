@@ -6,3 +6,4 @@ mod Entities
 mod Actions
 mod Meanings
 mod Schemas
+mod OneFault

@@ -1,3 +1,4 @@
 pub mod Meaning
 pub mod Assembly
 pub mod Schemas
+pub mod FaultsTold
