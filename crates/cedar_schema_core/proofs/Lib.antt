@@ -9,3 +9,5 @@ mod Refused
 mod Lines
 mod Ran
 mod Unbuilt
+mod TranslatedInOrder
+mod OneRefusal

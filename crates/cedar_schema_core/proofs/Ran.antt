@@ -6,7 +6,7 @@ use Rattle.cedar_schema_core.specs.declared.command.Command.{Command}
 use Rattle.cedar_io.specs.Outside.{Rose}
 use Rattle.cedar_io.specs.Input.{HadLeft}
 use Rattle.cedar_schema_core.specs.Commands.{Asks}
-use Rattle.cedar_schema_core.specs.Plan.{Report, Agree, IsAnswer, refused, done, IsInputPlan, too_long, not_text, answered, IsPlan, usage, asked, read_fault_report}
+use Rattle.cedar_schema_core.specs.Plan.{Report, IsAnswer, refused, done, IsInputPlan, too_long, not_text, answered, IsPlan, usage, asked, read_fault_report}
 use Rattle.cedar_schema_core.specs.Run.{Device, LeftAs, IsReported, planned, read_fault, TookWhole, IsDelivered, whole, out_failed, err_failed, IsRun, delivered, wanted_memory, Completed, NoneCounted}
 
 -- what was left is what is told
@@ -14,10 +14,10 @@ told : (o : Option (List ℕ)) (all bytes : List ℕ) → o ≡ Some all → Had
 told None all bytes e h = cc
 told (Some left) all bytes e h = let same : left ≡ all = cc in sym same ∙ h
 
-module _ (one : (words : List (List ℕ)) (bytes : List ℕ) (report other : Report) → IsPlan words bytes report → IsPlan words bytes other → Agree report other)
+module _ (one : (words : List (List ℕ)) (bytes : List ℕ) (report other : Report) → IsPlan words bytes report → IsPlan words bytes other → report ≡ other)
     (words : List (List ℕ)) (source : Device) (bytes : List ℕ) (left : source.before ≡ Some bytes) (plan : Report) (is : IsPlan words bytes plan) where
   -- the report is the plan, where no read failed
-  same_report : (report : Report) → IsReported words source report → Agree report plan ⊎ (report ≡ read_fault_report)
+  same_report : (report : Report) → IsReported words source report → (report ≡ plan) ⊎ (report ≡ read_fault_report)
   same_report report (planned all had p l) = inl (one words bytes report plan (subst (λ b. IsPlan words b report) (sym (told source.before bytes all left had)) p) is)
   same_report report (read_fault c i r) = inr refl
 
@@ -25,7 +25,7 @@ module _ (one : (words : List (List ℕ)) (bytes : List ℕ) (report other : Rep
   pub completes : (out err : Device) (status : Status) → IsRun words source out err status
       → NoneCounted source out err → (status ≡ plan.status) ⊎ (status ≡ Memory)
   completes out err status (delivered report (planned all had p l) (whole o e)) n =
-      inl ((λ (a : Agree report plan). a.status) (one words bytes report plan (subst (λ b. IsPlan words b report) (sym (told source.before bytes all left had)) p) is))
+      inl (ap (λ r. r.status) (one words bytes report plan (subst (λ b. IsPlan words b report) (sym (told source.before bytes all left had)) p) is))
   completes out err status (delivered report (read_fault c i r) (whole o e)) n = absurd (n.none_read r)
   completes out err status (delivered report h (out_failed f s)) n = absurd (n.none_out f.counted)
   completes out err status (delivered report h (err_failed o f)) n = absurd (n.none_err f.counted)
@@ -34,18 +34,16 @@ module _ (one : (words : List (List ℕ)) (bytes : List ℕ) (report other : Rep
   -- to the output goes no more than the plan has
   pub within_out : (report : Report) → IsReported words source report → length report.out ≤ length plan.out
   within_out report h = elim (same_report report h) [
-    | inl e ↦ let k : length report.out ≡ length plan.out = ap length e.out in omega arith
+    | inl e ↦ let k : length report.out ≡ length plan.out = ap (λ r. length r.out) e in omega arith
     | inr e ↦ let k : length report.out ≡ 0 = ap (λ r. length r.out) e in omega arith
   ]
 
--- to the error output goes no more than may be planned, or a read fault's line
-pub err_within : (words : List (List ℕ)) (source : Device) (bytes : List ℕ) → source.before ≡ Some bytes
-    → (report : Report) (n : ℕ) → IsReported words source report
-    → ((p : Report) → IsPlan words bytes p → length p.err ≤ n)
-    → (Rose source.faults_before source.faults_after → length read_fault_report.err ≤ n) → length report.err ≤ n
-err_within words source bytes left report n (planned all had p l) a b =
-    a report (subst (λ b. IsPlan words b report) (sym (told source.before bytes all left had)) p)
-err_within words source bytes left report n (read_fault c i r) a b = b r
+  pub within_err : (report : Report) (n : ℕ) → IsReported words source report → length plan.err ≤ n
+      → (Rose source.faults_before source.faults_after → length read_fault_report.err ≤ n) → length report.err ≤ n
+  within_err report n (planned all had p l) a b =
+      let e : report ≡ plan = one words bytes report plan (subst (λ b. IsPlan words b report) (sym (told source.before bytes all left had)) p) is in
+      let k : length report.err ≡ length plan.err = ap (λ r. length r.err) e in omega arith
+  within_err report n (read_fault c i r) a b = b r
 
 -- these statuses are not `Done`
 refused_done : Refused ≡ Done → ⊥

@@ -1,5 +1,5 @@
 -- What the program is to do, for its words and its input.
-use Rattle.std.specs.Prelude.{◌≡◌, ◌≢◌, ◌<◌, ◌≤◌, ℕ, List, [], ◌++◌, length, codes, IsUtf8}
+use Rattle.std.specs.Prelude.{◌≢◌, ◌<◌, ◌≤◌, ℕ, List, [], ◌++◌, length, codes, IsUtf8}
 use Rattle.std.specs.List.{flat_map}
 use Rattle.std.specs.Str.{encode_utf8_all}
 use Rattle.cedar_io.specs.Input.{max_input}
@@ -65,9 +65,3 @@ pub data IsInputPlan (c : Command) (bytes : List ℕ) : Report → Type 0 where
 pub data IsPlan (words : List (List ℕ)) (bytes : List ℕ) : Report → Type 0 where
   usage : ((c : Command) → Asks words c → ⊥) → IsPlan words bytes usage_report
   asked : (c : Command) → Asks words c → {report : Report} → IsInputPlan c bytes report → IsPlan words bytes report
-
--- two reports agree, but for what is told of a refusal
-pub record Agree (report other : Report) : Type 0 where
-  pub status : report.status ≡ other.status
-  pub out : report.out ≡ other.out
-  pub err : report.status ≢ Refused → report.err ≡ other.err

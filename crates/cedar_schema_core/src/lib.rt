@@ -12,7 +12,7 @@ pub mod std_streams;
 pub use cedar_io::{MAX_INPUT, ReadEnd, read_input, write_text};
 pub use cedar_schema_core_faults::{RecoverError, fault_text};
 pub use command::Command;
-pub use laws::{one_plan, one_text_meaning, one_translation, refused_or_valid};
+pub use laws::{one_plan, one_refusal, one_text_meaning, one_translation, refused_or_valid};
 pub use recover::{Recovered, recover_schema};
 pub use run::run_tool;
 pub use status::Status;

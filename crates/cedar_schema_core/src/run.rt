@@ -16,8 +16,8 @@ use crate::recover::{Recovered, recover_schema};
 use crate::reply::{Reply, warning_lines};
 use crate::status::Status;
 use cedar_data::{Text, around};
-use cedar_schema_core_faults::{RecoverError, fault_text, number_text};
 use cedar_io::{ReadEnd, Sink, Source, read_input, write_text};
+use cedar_schema_core_faults::{RecoverError, fault_text, number_text};
 use std::alloc::{AllocError, Global};
 
 const USAGE: &str = "usage: cedar_schema_tool COMMAND [NAME..]\n";
@@ -143,10 +143,9 @@ pub fn run_tool<S: Source, O: Sink, E: Sink>(
     // With no fault counted, the status is the one planned for the words and the input, or memory was wanted.
     ensures completes { (bytes : List ℕ) (plan : Report) → S.left source.old ≡ Some bytes → IsPlan (map string_bytes words.now) bytes plan → NoneCounted (device S.left S.faults source.old source.new) (device O.taken O.faults out.old out.new) (device E.taken E.faults err.old err.new) → (result ≡ plan.status) ⊎ (result ≡ Status.Memory) }
 
-    // A sink that surely takes what is planned for it counts no fault; of the error output this asks for room for all that
-    // may be told of a refusal, and for a read fault's line where a read failed.
+    // A sink that surely takes what is planned for it counts no fault; of the error output this asks for room for a read fault's line where a read failed.
     ensures out_sure { (bytes : List ℕ) (plan : Report) → S.left source.old ≡ Some bytes → IsPlan (map string_bytes words.now) bytes plan → length plan.out ≤ O.sure out.old → O.faults out.new ≡ O.faults out.old }
-    ensures err_sure { (bytes : List ℕ) → S.left source.old ≡ Some bytes → ((plan : Report) → IsPlan (map string_bytes words.now) bytes plan → length plan.err ≤ E.sure err.old) → (Rose (S.faults source.old) (S.faults source.new) → length read_fault_report.err ≤ E.sure err.old) → E.faults err.new ≡ E.faults err.old }
+    ensures err_sure { (bytes : List ℕ) (plan : Report) → S.left source.old ≡ Some bytes → IsPlan (map string_bytes words.now) bytes plan → length plan.err ≤ E.sure err.old → (Rose (S.faults source.old) (S.faults source.new) → length read_fault_report.err ≤ E.sure err.old) → E.faults err.new ≡ E.faults err.old }
 
     // No more of the source is taken than one byte past what an input may have, and no count of faults falls.
     ensures taken { TookAtMost (max_input + 1) (S.left source.old) (S.left source.new) }

@@ -7,3 +7,4 @@ mod Actions
 mod Meanings
 mod Schemas
 mod OneFault
+mod DeclaredOnce

@@ -4,6 +4,9 @@ ghost use Rattle.cedar_names.specs.Meaning.{SchemaMeaning};
 ghost use Rattle.cedar_names.specs.declared.extension_table.ExtensionTable.{ExtensionTable as Table};
 ghost use Rattle.cedar_identifiers.specs.declared.raw_name.RawName.{RawName as Raw};
 ghost use Rattle.schema_json.specs.declared.fragment.Fragment.{Fragment as Fragments};
+ghost use Rattle.schema_build_errors.specs.declared.schema_error.SchemaError.{SchemaError as Error};
+ghost use Rattle.schema_build_parts.specs.BuildFaults.{BuildFault};
+ghost use Rattle.schema_build.specs.FaultsTold.{AreToldAlike, IsInOrder};
 ghost use Rattle.schema_build.specs.Meaning.{FragmentMeaning};
 
 use cedar_identifiers::{NameText, RawName};
@@ -15,3 +18,9 @@ pub fn one_fragment_meaning()
 {
     types_stand_for_one::<RawName>();
 }
+
+/// What is told of the fault of a fragment in order is one: its text, its advice and its places.
+pub fn one_build_fault()
+    ensures { (f : Fragments Raw ⟦<RawName as NameText>⟧) (table : Table) (error other : Error) → IsInOrder f
+        → BuildFault f table error → BuildFault f table other → AreToldAlike error other }
+{}

@@ -5,7 +5,7 @@ mod assembly;
 pub mod laws;
 pub mod schema;
 
-pub use laws::one_fragment_meaning;
+pub use laws::{one_build_fault, one_fragment_meaning};
 pub use schema::ValidatorSchema;
 pub use schema_build_errors::{
     CapturedItem, RecoveryError, ReferenceCaptured, SchemaError, ToTextError,

@@ -22,7 +22,7 @@ text_total = on_total encode_utf8_all nat_list_cmp_total
 pub text_exact : (x y : List ℕ) → text_cmp x y ≡ Equal → x ≡ y
 text_exact x y e = encodes_same x y (exact_bytes (encode_utf8_all x) (encode_utf8_all y) e)
 
-by_texts : (xs ys : List Id) → slice_cmp ids_in_order xs ys ≡ slice_cmp text_cmp (texts_of xs) (texts_of ys)
+pub by_texts : (xs ys : List Id) → slice_cmp ids_in_order xs ys ≡ slice_cmp text_cmp (texts_of xs) (texts_of ys)
 by_texts [] [] = refl
 by_texts [] (y ∷ ys) = refl
 by_texts (x ∷ xs) [] = refl

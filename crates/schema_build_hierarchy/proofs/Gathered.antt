@@ -59,7 +59,7 @@ contains_flat g (x ∷ xs) y c = elim (Contains-append_cases (g x) (flat_map g x
   | inr there ↦ (let (z, (k, h, e), d) = contains_flat g xs y there in (z, (suc k, omega arith, e), d))
 ]
 
-last_same : {J : Type 0} (xs ys : List J) (a b : J) → xs ++ a ∷ [] ≡ ys ++ b ∷ [] → (xs ≡ ys) × (a ≡ b)
+pub last_same : {J : Type 0} (xs ys : List J) (a b : J) → xs ++ a ∷ [] ≡ ys ++ b ∷ [] → (xs ≡ ys) × (a ≡ b)
 last_same [] [] a b e = (refl, cc)
 last_same [] (y ∷ []) a b e = absurd (cc)
 last_same [] (y ∷ z ∷ ys) a b e = absurd (cc)
@@ -72,11 +72,11 @@ last_same (x ∷ xs) (y ∷ ys) a b e =
     let front : xs ≡ ys = both.0 in
     (cc, both.1)
 
-path : Option Name → List (List ℕ)
+pub path : Option Name → List (List ℕ)
 path None = []
 path (Some n) = components_of n.name
 
-full_path : (ns : Option Name) (w : InternalName) → w.others ≡ [] → components_of (qualified (name_of ns) w) ≡ path ns ++ w.first.text ∷ []
+pub full_path : (ns : Option Name) (w : InternalName) → w.others ≡ [] → components_of (qualified (name_of ns) w) ≡ path ns ++ w.first.text ∷ []
 unfolding path
 full_path None w e = ap (λ (o : List Id). map (λ i. i.text) (w.first ∷ o)) e
 full_path (Some n) w e = alone n w w.others refl e
@@ -87,7 +87,7 @@ full_path (Some n) w e = alone n w w.others refl e
         (map-append (λ i. i.text) (n.name.first ∷ n.name.others) (w.first ∷ []))
     alone n w (i ∷ o) is e = absurd (cc)
 
-place_tied : (a b : Option Name) → path a ≡ path b → option_cmp (λ x y. names_in_order x.name y.name) a b ≡ Equal
+pub place_tied : (a b : Option Name) → path a ≡ path b → option_cmp (λ x y. names_in_order x.name y.name) a b ≡ Equal
 unfolding path
 place_tied None None e = refl
 place_tied None (Some b) e = absurd (cc)
@@ -95,7 +95,7 @@ place_tied (Some a) None e = absurd (cc)
 place_tied (Some a) (Some b) e = names_tied a.name b.name e
 
 -- entries with keys that the order does not tell apart are one
-keyed_once : {K V : Type 0} {R : K → K → Ordering} (o : IsTotalOrder R) (xs : List (K × V)) → IsStrictlySortedBy R (keys_of xs) → (x y : K × V)
+pub keyed_once : {K V : Type 0} {R : K → K → Ordering} (o : IsTotalOrder R) (xs : List (K × V)) → IsStrictlySortedBy R (keys_of xs) → (x y : K × V)
     → Contains xs x → Contains xs y → R x.0 y.0 ≡ Equal → x ≡ y
 keyed_once o xs up x y cx cy e =
     let (i, ix) = at_contained xs x cx in

@@ -6,11 +6,11 @@ pub mod Ordered
 mod FirstCandidate
 mod Unreserved
 mod Gathering
-mod Exact
+pub mod Exact
 pub mod ParentRanks
 mod UsesFree
 mod Cycles
-mod Gathered
+pub mod Gathered
 mod EnumAbove
 mod ParentsDeclared
 pub mod KnownByMembers

@@ -1,7 +1,7 @@
 use Rattle.std.proofs.Common.{refl, arith}
 use Rattle.cedar_schema_core.specs.Replies.{report_of}
 use Rattle.cedar_schema_core.specs.Run.{delivered, wanted_memory}
-use Rattle.cedar_schema_core.proofs.Ran.{completes, completed, within_out, err_within}
+use Rattle.cedar_schema_core.proofs.Ran.{completes, completed, within_out, within_err}
 use Rattle.cedar_schema_core.proofs.run.run_tool.Goals as goal
 
 pub returns-in-Ok-clause-run : goal.returns-in-Ok-clause-run
@@ -22,5 +22,5 @@ returns-in-Ok-clause-out_sure g c = λ bytes plan left is room.
     c.deliver.ensures.out_sure (let k = within_out c.one_plan.ensures _ _ bytes left plan is (report_of c.in-Ok.reply) c.in-Ok.ensures.reported in omega arith)
 
 pub returns-in-Ok-clause-err_sure : goal.returns-in-Ok-clause-err_sure
-returns-in-Ok-clause-err_sure g c = λ bytes left room line.
-    c.deliver.ensures.err_sure (err_within _ _ bytes left (report_of c.in-Ok.reply) _ c.in-Ok.ensures.reported room line)
+returns-in-Ok-clause-err_sure g c = λ bytes plan left is room line.
+    c.deliver.ensures.err_sure (within_err c.one_plan.ensures _ _ bytes left plan is (report_of c.in-Ok.reply) _ c.in-Ok.ensures.reported room line)
