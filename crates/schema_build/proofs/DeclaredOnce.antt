@@ -1,5 +1,5 @@
 -- A fragment in order declares no name of a kind twice.
-use Rattle.std.proofs.Common.{◌≡◌, List, [], ◌∷◌, ◌++◌, map, refl, sym, ap, ◌∙◌, subst, All, Contains}
+use Rattle.std.proofs.Common.{◌≡◌, List, [], ◌∷◌, ◌++◌, map, Option, refl, sym, ap, ◌∙◌, subst, All, Contains}
 use Rattle.std.specs.Cmp.{IsTotalOrder, on_total}
 use Rattle.std.specs.Cmp.Lexicographic.{options_total}
 use Rattle.std.specs.List.{flat_map}
@@ -40,7 +40,7 @@ module _ {G : named.Ghosts RawName} (f : Fragment RawName G) (order : IsInOrder 
       → Contains (declared_actions f) b → actions_at_in_order a.name b.name ≡ Equal → a ≡ b
   actions_are = actions_once f.0 places_total order.namespaces order.actions
 
-  abbrev commons_of : _ → List (InternalName × CommonAt)
+  abbrev commons_of : Option Name × NamespaceDefinition RawName G → List (InternalName × CommonAt)
   commons_of e = map (common_entry e.0) e.1.common_types
 
   entry_of : (a : InternalName) → Contains (keys_of (declared_commons f)) a
