@@ -3,7 +3,7 @@ use Rattle.std.proofs.Common.{◌≡◌, List, [], ◌∷◌, Option, Some, None
 use Rattle.std.specs.Cmp.{IsTotalOrder, on_total}
 use Rattle.std.specs.Cmp.Lexicographic.{options_total}
 use Rattle.std.specs.BTreeMap.{insert_entry}
-use Rattle.std.specs.List.{AllByRecursion, filter_map}
+use Rattle.std.specs.List.{AllByRecursion, filter_map, cons_option}
 use Rattle.std.specs.List.Sorted.{IsStrictlySortedBy}
 use Rattle.std.specs.Map.{keys_of, values_of}
 use Rattle.std.specs.Option.{option_cmp, option_map}
@@ -28,6 +28,11 @@ use Rattle.schema_convert.specs.Translated.{translated}
 use Rattle.schema_build_hierarchy.proofs.Exact.{by_texts, text_total}
 use Rattle.schema_build.specs.FaultsTold.{IsInOrder}
 
+above_too : {K : Type 0} (R : K → K → Ordering) → IsTotalOrder R → (k n : K) (ns : List K) → R k n ≡ Less
+    → AllByRecursion (λ y. R n y ≡ Less) ns → AllByRecursion (λ y. R k y ≡ Less) ns
+above_too R total k n [] l h = tt
+above_too R total k n (m ∷ ns) l h = (total.trans k n m l h.0, above_too R total k n ns l h.1)
+
 -- the keys of a map that is made of entries rise
 module _ {K X : Type 0} (R : K → K → Ordering) (total : IsTotalOrder R) where
   kept_below : (P : K → Type 0) (es : List (K × X)) (k : K) (v : X) → AllByRecursion P (keys_of es) → P k
@@ -41,11 +46,6 @@ module _ {K X : Type 0} (R : K → K → Ordering) (total : IsTotalOrder R) wher
       by Equal l = h
       by Greater l = (h.0, l)
 
-  above_too : (k n : K) (ns : List K) → R k n ≡ Less → AllByRecursion (λ y. R n y ≡ Less) ns
-      → AllByRecursion (λ y. R k y ≡ Less) ns
-  above_too k n [] l h = tt
-  above_too k n (m ∷ ns) l h = (total.trans k n m l h.0, above_too k n ns l h.1)
-
   put_rises : (es : List (K × X)) (k : K) (v : X) → IsStrictlySortedBy R (keys_of es)
       → IsStrictlySortedBy R (keys_of (insert_entry R es k v))
   unfolding IsStrictlySortedBy
@@ -54,7 +54,7 @@ module _ {K X : Type 0} (R : K → K → Ordering) (total : IsTotalOrder R) wher
     where
       by : (c : Ordering) → R k e.0 ≡ c → IsStrictlySortedBy R (keys_of (insert_entry R es k v))
           → IsStrictlySortedBy R (keys_of (match_ordering c ((k, v) ∷ e ∷ es) ((e.0, v) ∷ es) (e ∷ insert_entry R es k v)))
-      by Less h l = ((h, above_too k e.0 (keys_of es) h s.0), s)
+      by Less h l = ((h, above_too R total k e.0 (keys_of es) h s.0), s)
       by Equal h l = s
       by Greater h l = (kept_below (λ y. R e.0 y ≡ Less) es k v s.0 (total.antisymm e.0 k ∙ ap ordering_reverse h), l)
 
