@@ -1,0 +1,6 @@
+mod BareTypes
+mod Maps
+mod Orders
+mod Same
+mod Steps
+mod Types

@@ -1,0 +1,6 @@
+pub mod Bare
+pub mod DeclarationsSay
+pub mod Entries
+pub mod FragmentsSay
+pub mod Named
+pub mod TypesSay

@@ -1,0 +1,38 @@
+//! Laws of what fragments say. Each law is what its function ensures.
+ghost use Rattle.std.specs.Prelude.{◌≡◌, Option, List, []};
+ghost use Rattle.std.specs.List.{AllByRecursion, AllZip};
+ghost use Rattle.cedar_data.specs.Span.{Span};
+ghost use Rattle.cedar_identifiers.specs.declared.raw_name.RawName.{RawName};
+ghost use Rattle.schema_syntax_tree.specs.declared.annotated.Annotated.{Annotated};
+ghost use Rattle.schema_syntax_tree.specs.declared.namespace.Namespace.{Namespace};
+ghost use Rattle.schema_syntax_tree.specs.declared.types.Type.{«Type»};
+ghost use Rattle.schema_json.specs.declared.types.Type.{«Type» as Shape};
+ghost use Rattle.schema_convert_types.specs.Types.{type_at};
+ghost use Rattle.schema_convert_types.specs.Fragments.{fragment_of};
+ghost use Rattle.schema_convert.specs.Faults.{translation_faults};
+ghost use Rattle.schema_convert.specs.Joined.{joined};
+ghost use Rattle.schema_readback.specs.Written.{WrittenType, WrittenItem};
+ghost use Rattle.schema_readback.specs.Shows.{ShowsType, SaysItem};
+ghost use Rattle.schema_says.specs.Bare.{bare};
+ghost use Rattle.schema_says.specs.Named.{IsNamedType, IsNamed};
+ghost use Rattle.schema_says.specs.TypesSay.{TypeSays};
+ghost use Rattle.schema_says.specs.FragmentsSay.{FragmentSays};
+
+use schema_convert::laws::lawful_trees;
+
+/// What a tree's type says, the fragment's type says that it becomes.
+pub fn types_say_what_trees_say()
+    ensures { (n : «Type») (t : WrittenType) → ShowsType n t → IsNamedType t → (loc : Option Span) → TypeSays (type_at n loc) t }
+{}
+
+/// Types that say the same are the same, places aside.
+pub fn types_that_say_the_same()
+    ensures { (s r : Shape RawName) (t : WrittenType) → TypeSays s t → TypeSays r t → bare s ≡ bare r }
+{}
+
+/// What a tree without faults says, its fragment says.
+pub fn fragments_say_what_trees_say()
+    ensures { (tree : List (Annotated Namespace)) (w : List WrittenItem) → AllZip SaysItem tree w → AllByRecursion IsNamed w → translation_faults tree ≡ [] → FragmentSays (fragment_of (joined tree)) w }
+{
+    lawful_trees();
+}
