@@ -1,4 +1,6 @@
 mod BareTypes
+mod Declared
+mod Entered
 mod Maps
 mod Orders
 mod Same

@@ -59,11 +59,6 @@ role_of _ = None
 abbrev pub types_in : PR → List WrittenMember → List (List (List ℕ))
 types_in role members = unwrap_or (last_at (is_same_role role) (filter_map role_of members)) []
 
--- the member that says the context
-abbrev pub context_of_member : WrittenMember → Option WrittenMember
-context_of_member (types role paths) = None
-context_of_member m = Some m
-
 -- what the context is, where no member behind these says it
 abbrev pub ContextOr : Type 0 → «Type» RawName → List WrittenMember → Type 0
 ContextOr Else s [] = Else
