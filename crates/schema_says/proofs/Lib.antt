@@ -1,7 +1,9 @@
 mod BareTypes
 mod Declared
 mod Entered
+mod Firsts
 mod Maps
+mod Openings
 mod Orders
 mod Same
 mod Steps

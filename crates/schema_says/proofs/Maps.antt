@@ -14,7 +14,7 @@ use Rattle.std.proofs.lemmas.Map.Lookups.{CmpEqualImpliesEq}
 use Rattle.cedar_data.specs.Maps.{with_entries, map_of, last_at}
 
 -- a test that passes says that the two are equal
-is_equal : (c : Ordering) → is_eq c ≡ true → c ≡ Equal
+pub is_equal : (c : Ordering) → is_eq c ≡ true → c ≡ Equal
 is_equal Less h = absurd (true≢false (sym h))
 is_equal Equal h = refl
 is_equal Greater h = absurd (true≢false (sym h))
