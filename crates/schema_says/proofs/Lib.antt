@@ -2,6 +2,7 @@ mod BareTypes
 mod Declared
 mod Entered
 mod Firsts
+mod Fragments
 mod Maps
 mod Openings
 mod Orders
