@@ -163,7 +163,7 @@ named_says p (o ∷ os) (i ∷ is) h k lawful =
     (decls_say (o ∷ os) (i ∷ is) h) (decls_named (i ∷ is) k) n.entities_free n.commons_free (first_values_say (o ∷ os) (flat_map notes_of_item (i ∷ is)) (notes_say (o ∷ os) (i ∷ is) h))
 
 -- items outside of every namespace
-abbrev StandsOutside : WrittenItem → Type 0
+abbrev pub StandsOutside : WrittenItem → Type 0
 StandsOutside i = is_of_namespace None i ≡ true
 
 pub all_pass : {A : Type 0} (test : A → Bool) (xs : List A) → AllByRecursion (λ x. test x ≡ true) (filter test xs)

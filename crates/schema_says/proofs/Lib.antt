@@ -3,9 +3,11 @@ mod Declared
 mod Entered
 mod Firsts
 mod Fragments
+mod Lawful
 mod Maps
 mod Openings
 mod Orders
 mod Same
+mod Sayable
 mod Steps
 mod Types

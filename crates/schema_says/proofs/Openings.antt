@@ -61,11 +61,11 @@ paths_order None (Some b) = refl
 paths_order (Some a) None = refl
 paths_order (Some a) (Some b) = ids_order a.ids b.ids
 
-one_name : (a b : Opening) → have_one_name a b ≡ opens (tree_name a) b
+pub one_name : (a b : Opening) → have_one_name a b ≡ opens (tree_name a) b
 one_name a b = ap is_eq (paths_order a.item.name b.item.name)
 
 module _ (q : NamespaceName) where
-  at_name : (x : Opening) → opens q x ≡ true → q ≡ tree_name x
+  pub at_name : (x : Opening) → opens q x ≡ true → q ≡ tree_name x
   at_name x h = namespace_exact q (tree_name x) (is_equal (namespace_order q (tree_name x)) h)
 
   pub same_openings : (x y : Opening) → opens q x ≡ true → have_one_name x y ≡ opens q y
@@ -115,7 +115,7 @@ module _ (q : NamespaceName) where
 
 -- a namespace with a name
 module _ (p : List (List ℕ)) where
-  named_opens : (tree : List Opening) → openings (Some p) (named tree) ≡ openings (Some p) tree
+  pub named_opens : (tree : List Opening) → openings (Some p) (named tree) ≡ openings (Some p) tree
   named_opens [] = refl
   named_opens (a ∷ tree) = by a.item.name refl (named_opens tree)
     where

@@ -3,4 +3,5 @@ pub mod DeclarationsSay
 pub mod Entries
 pub mod FragmentsSay
 pub mod Named
+pub mod Sayable
 pub mod TypesSay

@@ -1,5 +1,5 @@
 //! Laws of what fragments say. Each law is what its function ensures.
-ghost use Rattle.std.specs.Prelude.{◌≡◌, Option, List, []};
+ghost use Rattle.std.specs.Prelude.{◌≡◌, ◌↔◌, Option, List, []};
 ghost use Rattle.std.specs.List.{AllByRecursion, AllZip};
 ghost use Rattle.cedar_data.specs.Span.{Span};
 ghost use Rattle.cedar_identifiers.specs.declared.raw_name.RawName.{RawName};
@@ -15,6 +15,7 @@ ghost use Rattle.schema_readback.specs.Written.{WrittenType, WrittenItem};
 ghost use Rattle.schema_readback.specs.Shows.{ShowsType, SaysItem};
 ghost use Rattle.schema_says.specs.Bare.{bare};
 ghost use Rattle.schema_says.specs.Named.{IsNamedType, IsNamed};
+ghost use Rattle.schema_says.specs.Sayable.{IsSayable};
 ghost use Rattle.schema_says.specs.TypesSay.{TypeSays};
 ghost use Rattle.schema_says.specs.FragmentsSay.{FragmentSays};
 
@@ -33,6 +34,13 @@ pub fn types_that_say_the_same()
 /// What a tree without faults says, its fragment says.
 pub fn fragments_say_what_trees_say()
     ensures { (tree : List (Annotated Namespace)) (w : List WrittenItem) → AllZip SaysItem tree w → AllByRecursion IsNamed w → translation_faults tree ≡ [] → FragmentSays (fragment_of (joined tree)) w }
+{
+    lawful_trees();
+}
+
+/// Whether a tree has faults depends on what it says alone.
+pub fn faults_depend_on_what_is_said()
+    ensures { (tree : List (Annotated Namespace)) (w : List WrittenItem) → AllZip SaysItem tree w → AllByRecursion IsNamed w → translation_faults tree ≡ [] ↔ IsSayable w }
 {
     lawful_trees();
 }
