@@ -8,6 +8,7 @@ mod Maps
 mod Openings
 mod Orders
 mod Same
+mod SameFragments
 mod Sayable
 mod Steps
 mod Types

@@ -1,4 +1,5 @@
 pub mod Bare
+pub mod BareFragments
 pub mod DeclarationsSay
 pub mod Entries
 pub mod FragmentsSay

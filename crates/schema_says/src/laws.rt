@@ -7,6 +7,8 @@ ghost use Rattle.schema_syntax_tree.specs.declared.annotated.Annotated.{Annotate
 ghost use Rattle.schema_syntax_tree.specs.declared.namespace.Namespace.{Namespace};
 ghost use Rattle.schema_syntax_tree.specs.declared.types.Type.{«Type»};
 ghost use Rattle.schema_json.specs.declared.types.Type.{«Type» as Shape};
+ghost use Rattle.schema_json.specs.declared.fragment.Fragment.{Fragment};
+ghost use Rattle.schema_convert_types.specs.Declarations.{as_written};
 ghost use Rattle.schema_convert_types.specs.Types.{type_at};
 ghost use Rattle.schema_convert_types.specs.Fragments.{fragment_of};
 ghost use Rattle.schema_convert.specs.Faults.{translation_faults};
@@ -14,6 +16,7 @@ ghost use Rattle.schema_convert.specs.Joined.{joined};
 ghost use Rattle.schema_readback.specs.Written.{WrittenType, WrittenItem};
 ghost use Rattle.schema_readback.specs.Shows.{ShowsType, SaysItem};
 ghost use Rattle.schema_says.specs.Bare.{bare};
+ghost use Rattle.schema_says.specs.BareFragments.{bare_fragment};
 ghost use Rattle.schema_says.specs.Named.{IsNamedType, IsNamed};
 ghost use Rattle.schema_says.specs.Sayable.{IsSayable};
 ghost use Rattle.schema_says.specs.TypesSay.{TypeSays};
@@ -44,3 +47,8 @@ pub fn faults_depend_on_what_is_said()
 {
     lawful_trees();
 }
+
+/// Fragments that say the same are the same, places aside.
+pub fn fragments_that_say_the_same()
+    ensures { (f g : Fragment RawName as_written) (w : List WrittenItem) → FragmentSays f w → FragmentSays g w → bare_fragment f ≡ bare_fragment g }
+{}
