@@ -15,9 +15,7 @@ use Rattle.schema_json.specs.declared.types.RecordType.{RecordType, roll-RecordT
 use Rattle.schema_json.specs.declared.types.TypeOfAttribute.{TypeOfAttribute, roll-TypeOfAttribute, out-TypeOfAttribute, fold_out-TypeOfAttribute}
 use Rattle.schema_convert_types.specs.Types.{AttributeEntry}
 use Rattle.schema_syntax_reader.specs.Leaves.{Notes}
-use Rattle.schema_readback.specs.Written.{WrittenType, WrittenAttributes}
 use Rattle.schema_says.specs.Bare.{bare_name, bare_step, bare_variant, bare, bare_of_variant, bare_of_record, bare_of_attribute}
-
 
 pub variant_bare : (v : TypeVariant RawName) (loc : Option Span) → bare (shape.Variant v loc) ≡ shape.Variant (bare_of_variant v) None
 variant_bare v loc =

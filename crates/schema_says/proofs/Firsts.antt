@@ -33,6 +33,7 @@ module _ {A : Type 0} (test : A → Bool) where
     where
       some_same : (a b : A) → Some a ≡ Some b → a ≡ b
       some_same a b p = cc
+
       by : (last_of xs ≡ Some y → P y) → (o : Option A) → last_of xs ≡ o → (b : Bool) → option_or o (if b then Some x else None) ≡ Some y → P y
       by r None p true q = subst P (some_same x y q) h.0
       by r None p false q = cc

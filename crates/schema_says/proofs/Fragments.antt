@@ -6,10 +6,9 @@ use Rattle.std.specs.List.{AllZip, AllByRecursion}
 use Rattle.std.specs.List.Sorted.{IsStrictlySortedBy}
 use Rattle.std.specs.Map.{lookup}
 use Rattle.std.specs.Option.{option_or}
-use Rattle.cedar_data.specs.Maps.{map_of, last_at}
+use Rattle.cedar_data.specs.Maps.{last_at}
 use Rattle.cedar_data.specs.Text.{text_cmp}
 use Rattle.cedar_data.specs.declared.node.Node.{Node}
-use Rattle.cedar_identifiers.specs.Names.{texts_of}
 use Rattle.cedar_identifiers.specs.Words.{is_cedar}
 use Rattle.cedar_identifiers.specs.declared.annotations.Annotations.{Annotations}
 use Rattle.cedar_identifiers.specs.declared.any_id.AnyId.{AnyId}
@@ -18,9 +17,9 @@ use Rattle.schema_syntax_tree.specs.declared.annotated.Annotated.{Annotated}
 use Rattle.schema_syntax_tree.specs.declared.declaration.Declaration.{Declaration}
 use Rattle.schema_syntax_tree.specs.declared.path.Path.{Path}
 use Rattle.schema_convert_types.specs.Fragments.{namespace_entry, definition_of, fragment_of}
-use Rattle.schema_convert.specs.Joined.{annotation_key_cmp, first_values, opened_as, outside, empty_namespace, joined}
+use Rattle.schema_convert.specs.Joined.{first_values, opened_as, outside, empty_namespace, joined}
 use Rattle.schema_convert.specs.NamesIn.{entity_names_in, common_names_in}
-use Rattle.schema_convert.specs.Translatable.{IsFreeName, IsFreeCommon, IsLawfulNamespace, IsTranslatable}
+use Rattle.schema_convert.specs.Translatable.{IsFreeCommon, IsLawfulNamespace, IsTranslatable}
 use Rattle.schema_syntax_reader.specs.Leaves.{Notes}
 use Rattle.schema_readback.specs.Written.{WrittenDeclared, WrittenItem, namespace, outside as stands_outside}
 use Rattle.schema_readback.specs.PrintedDecls.{IsSome}
@@ -28,7 +27,7 @@ use Rattle.schema_readback.specs.Shows.{SaysOptionalPath, SaysDeclared, SaysItem
 use Rattle.schema_says.specs.Entries.{FoundSays, EntriesSay}
 use Rattle.schema_says.specs.Named.{IsNamedDeclared, IsNamed}
 use Rattle.schema_says.specs.FragmentsSay.{WrittenNamespace, NamespaceSays, NamespaceName, namespace_order, name_components, name_of_item, notes_of_item, decls_of_item, is_of_namespace, items_of_namespace, opened, written_in, FragmentSays}
-use Rattle.schema_says.proofs.Entered.{zip_append, all_append, entities_map_says, actions_map_says, commons_map_says}
+use Rattle.schema_says.proofs.Entered.{zip_append, entities_map_says, actions_map_says, commons_map_says}
 use Rattle.schema_says.proofs.Firsts.{last_of, last_has, zip_filter, all_filter}
 use Rattle.schema_says.proofs.Maps.{lookup_map, map_rises, or_nothing}
 use Rattle.schema_says.proofs.Openings.{Opening, Definition, name_in_tree, tree_name, opens, openings, whole, decls_of, defined, HasIds, HasKey, has_key, all_joined, joined_named, joined_unnamed, outside_opens, found_namespace, by_names_is}

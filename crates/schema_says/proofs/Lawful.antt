@@ -1,10 +1,9 @@
 -- A joined namespace is lawful exactly where what is written of it can be translated.
-use Rattle.std.proofs.Common.{◌≡◌, ◌↔◌, ◌||◌, ℕ, Bool, true, false, cond, List, [], ◌∷◌, ◌++◌, map, Option, Some, None, option_map, find, flat_map, is_some, refl, sym, ap, subst, ◌∙◌, true≢false}
+use Rattle.std.proofs.Common.{◌≡◌, ◌↔◌, ◌||◌, ℕ, Bool, true, false, cond, List, [], ◌∷◌, ◌++◌, map, Option, Some, None, option_map, find, is_some, refl, sym, ap, subst, ◌∙◌, true≢false}
 use Rattle.std.proofs.lemmas.List.{map-append}
 use Rattle.std.specs.List.{AllZip, AllByRecursion, list_any}
 use Rattle.std.specs.Option.{option_eq}
 use Rattle.std.specs.Ordering.{is_eq}
-use Rattle.std.specs.declared.cmp.Ordering.{Ordering}
 use Rattle.cedar_data.specs.Text.{text_cmp}
 use Rattle.cedar_data.specs.declared.node.Node.{Node}
 use Rattle.cedar_identifiers.specs.Names.{texts_of, has_cedar}
@@ -24,7 +23,7 @@ use Rattle.schema_convert.specs.Faults.{is_reserved_path}
 use Rattle.schema_convert.specs.Members.{is_same_role, says_role, says_same}
 use Rattle.schema_convert.specs.NamesIn.{entities_of, actions_of, commons_of, entity_names_in, action_names_in, common_names_in, id_cmp, action_cmp}
 use Rattle.schema_convert.specs.Repeats.{NoneRepeats}
-use Rattle.schema_convert.specs.Translatable.{IsFreeName, IsFilled, IsLawfulBlock, HasLawfulBlock, AppliesLawfully, IsFreeCommon, IsLawfulNamespace}
+use Rattle.schema_convert.specs.Translatable.{IsFreeName, IsFilled, IsLawfulBlock, HasLawfulBlock, AppliesLawfully, IsLawfulNamespace}
 use Rattle.schema_readback.specs.Written.{WrittenMember, types, context_path, context_record, WrittenDecl, entity, enum, external_entity, action, external_action, common, WrittenDeclared}
 use Rattle.schema_readback.specs.PrintedDecls.{IsSome}
 use Rattle.schema_readback.specs.Shows.{SaysPath, SaysId, SaysName, SaysOptional, SaysMember, SaysApplies, SaysDecl, SaysDeclared}
@@ -66,6 +65,9 @@ module _ {A B : Type 0} (f : A → B) (same : B → B → Bool) where
     front_is : map f front ≡ before
     item_is : f item ≡ y
 
+  one_more : (x item : A) (xs front back : List A) → xs ≡ front ++ item ∷ back → x ∷ xs ≡ (x ∷ front) ++ item ∷ back
+  one_more x item xs front back h = ap (λ l. x ∷ l) h
+
   split_of : (xs : List A) (before : List B) (y : B) (after : List B) → map f xs ≡ before ++ y ∷ after → SplitOf xs before y after
   split_of [] [] y after h = cc
   split_of [] (b ∷ before) y after h = cc
@@ -74,7 +76,7 @@ module _ {A B : Type 0} (f : A → B) (same : B → B → Bool) where
       let first : f x ≡ b = cc in
       let others : map f xs ≡ before ++ y ∷ after = cc in
       let s = split_of xs before y after others in
-      record { front = x ∷ s.front; item = s.item; back = s.back; split = ap (λ l. x ∷ l) s.split; front_is = (λ i. first i ∷ s.front_is i); item_is = s.item_is }
+      record { front = x ∷ s.front; item = s.item; back = s.back; split = one_more x s.item xs s.front s.back s.split; front_is = (λ i. first i ∷ s.front_is i); item_is = s.item_is }
 
   pub none_before_map : (xs : List A) → NoneBefore (λ a b. same (f a) (f b)) xs ↔ NoneBefore same (map f xs)
   none_before_map xs = (
@@ -186,6 +188,7 @@ member_filled n (types role paths) (kind, found, e, same, k) = both_ways (by_pat
   where
     some_none : (x : List Path) → Some x ≡ None → ⊥
     some_none x h = true≢false (ap is_some h)
+
     by : (found : Option (List Path)) (paths : List (List (List ℕ))) → SaysOptional SaysPath found paths → ((found ≡ None) → ⊥) ↔ IsSome paths
     by None [] k = (λ h. h refl, λ h. absurd h)
     by None (p ∷ ps) k = absurd k
@@ -233,9 +236,10 @@ block_iff ns ws h =
     let once = members_once ns ws h in
     let filled = members_filled ns ws h in
     let p = role_there Principal ns ws h in
-    let r = role_there Resource ns ws h in
-    (λ b. record { said_once = once.0 b.said_once; filled = filled.0 b.filled; principals = sym p ∙ b.principals; resources = sym r ∙ b.resources },
-    λ b. record { said_once = once.1 b.said_once; filled = filled.1 b.filled; principals = p ∙ b.principals; resources = r ∙ b.resources })
+    let r = role_there Resource ns ws h in (
+      λ b. record { said_once = once.0 b.said_once; filled = filled.0 b.filled; principals = sym p ∙ b.principals; resources = sym r ∙ b.resources },
+      λ b. record { said_once = once.1 b.said_once; filled = filled.1 b.filled; principals = p ∙ b.principals; resources = r ∙ b.resources },
+    )
 
 block_applies : (block : Option (Node (List (Node AppDecl)))) (names : List (Node (List ℕ))) (ts : List (List ℕ)) (ms : Option (List WrittenMember)) → AllZip SaysName names ts → IsSome ts → SaysApplies block ms
     → HasLawfulBlock block names ↔ HasLawfulMembers ms
@@ -290,6 +294,7 @@ namespace_iff n q ws same k h =
     let c1 = ids_once (common_names_in n.item.decls) (names_written commons_of_decl ws) commons in
     let e2 = ids_all (λ t. is_cedar t ≡ false) (entity_names_in n.item.decls) (names_written entities_of_decl ws) entities in
     let c2 = ids_all IsFreeCommonName (common_names_in n.item.decls) (names_written commons_of_decl ws) commons in
-    let b = all_apply n.item.decls ws k h in
-    (λ l. record { name_free = name.0 l.name; entities_once = e1.0 l.entities_once; actions_once = a1.0 l.actions_once; commons_once = c1.0 l.commons_once; entities_free = e2.0 l.entities_free; blocks = b.0 l.blocks; commons_free = c2.0 l.commons_free },
-    λ l. record { name = name.1 l.name_free; entities_once = e1.1 l.entities_once; actions_once = a1.1 l.actions_once; commons_once = c1.1 l.commons_once; entities_free = e2.1 l.entities_free; blocks = b.1 l.blocks; commons_free = c2.1 l.commons_free })
+    let b = all_apply n.item.decls ws k h in (
+      λ l. record { name_free = name.0 l.name; entities_once = e1.0 l.entities_once; actions_once = a1.0 l.actions_once; commons_once = c1.0 l.commons_once; entities_free = e2.0 l.entities_free; blocks = b.0 l.blocks; commons_free = c2.0 l.commons_free },
+      λ l. record { name = name.1 l.name_free; entities_once = e1.1 l.entities_once; actions_once = a1.1 l.actions_once; commons_once = c1.1 l.commons_once; entities_free = e2.1 l.entities_free; blocks = b.1 l.blocks; commons_free = c2.1 l.commons_free },
+    )

@@ -7,6 +7,7 @@ mod Lawful
 mod Maps
 mod Openings
 mod Orders
+mod Proper
 mod Same
 mod SameFragments
 mod Sayable

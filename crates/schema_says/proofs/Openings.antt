@@ -2,12 +2,10 @@
 use Rattle.std.proofs.Common.{◌≡◌, ◌||◌, ℕ, Bool, true, false, not, cond, List, [], ◌∷◌, ◌++◌, map, Option, Some, None, option_map, filter, filter_map, flat_map, find, refl, sym, ap, subst, ◌∙◌, true≢false, if◌then◌else◌}
 use Rattle.std.specs.BTreeMap.{is_at}
 use Rattle.std.specs.Cmp.Lexicographic.{slice_cmp}
-use Rattle.std.specs.List.{AllZip, AllByRecursion, list_any, cons_option}
+use Rattle.std.specs.List.{AllByRecursion, list_any, cons_option}
 use Rattle.std.specs.Map.{lookup}
 use Rattle.std.specs.Option.{option_or, option_cmp}
 use Rattle.std.specs.Ordering.{is_eq, ordering_then}
-use Rattle.std.specs.declared.cmp.Ordering.{Ordering}
-use Rattle.std.specs.declared.cmp.Ordering.TheVariants.{Less, Equal, Greater}
 use Rattle.cedar_data.specs.Maps.{map_of, last_at}
 use Rattle.cedar_data.specs.Text.{text_cmp}
 use Rattle.cedar_data.specs.declared.node.Node.{Node}
@@ -24,15 +22,14 @@ use Rattle.schema_syntax_tree.specs.declared.path.Path.{Path}
 use Rattle.schema_json.specs.declared.fragment.NamespaceDefinition.{NamespaceDefinition}
 use Rattle.schema_convert_types.specs.Names.{internal_name_of}
 use Rattle.schema_convert_types.specs.Declarations.{as_written}
-use Rattle.schema_convert_types.specs.Fragments.{namespace_cmp, definition_of, declarable_name_so, declarable_name, namespace_key, namespace_entry}
-use Rattle.schema_convert.specs.Faults.{is_reserved_path}
-use Rattle.schema_convert.specs.Joined.{named_so, unnamed_so, named, outside, first_of_each, have_one_name, first_openings, openings_of, opened_as, joined_by_name, empty_namespace, joined}
+use Rattle.schema_convert_types.specs.Fragments.{namespace_cmp, definition_of, declarable_name_so, namespace_key, namespace_entry}
+use Rattle.schema_convert.specs.Joined.{named_so, unnamed_so, named, outside, have_one_name, first_openings, openings_of, opened_as, joined_by_name, empty_namespace, joined}
 use Rattle.schema_convert.specs.NamesIn.{id_text_cmp, path_cmp}
 use Rattle.schema_convert.specs.Translatable.{IsFreeName}
 use Rattle.schema_readback.specs.PrintedDecls.{IsSome}
 use Rattle.schema_says.specs.FragmentsSay.{NamespaceName, namespace_order, name_components}
 use Rattle.schema_says.proofs.Firsts.{last_of, last_append, last_first, last_map, find_first, filter_same, all_filter}
-use Rattle.schema_says.proofs.Maps.{lookup_map, map_rises, is_equal}
+use Rattle.schema_says.proofs.Maps.{lookup_map, is_equal}
 use Rattle.schema_says.proofs.Orders.{namespace_total, namespace_exact}
 use Rattle.schema_says.proofs.Types.{named as path_named}
 
@@ -100,9 +97,11 @@ module _ (q : NamespaceName) where
     where
       some_same : (a b : Opening) → Some a ≡ Some b → a ≡ b
       some_same a b p = cc
+
       passed : (xs : List Opening) (x y : Opening) (b : Bool) → opens q x ≡ b → cond b (Some x) (find (opens q) xs) ≡ Some y → (find (opens q) xs ≡ Some y → opens q y ≡ true) → opens q y ≡ true
       passed xs x y true e h r = subst (λ z. opens q z ≡ true) (some_same x y h) e
       passed xs x y false e h r = r h
+
       find_passes : (xs : List Opening) (y : Opening) → find (opens q) xs ≡ Some y → opens q y ≡ true
       find_passes [] y h = cc
       find_passes (x ∷ xs) y h = passed xs x y (opens q x) refl h (find_passes xs y)

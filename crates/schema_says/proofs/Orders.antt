@@ -1,10 +1,9 @@
 -- The orders of texts, of names and of namespaces tell apart what differs.
-use Rattle.std.proofs.Common.{◌≡◌, ℕ, List, [], ◌∷◌, Option, Some, None, refl, ap, ◌∙◌, true≢false, is_lt, is_gt}
+use Rattle.std.proofs.Common.{◌≡◌, [], ◌∷◌, Some, None, refl, ap, true≢false, is_lt, is_gt}
 use Rattle.std.specs.declared.cmp.Ordering.{Ordering}
 use Rattle.std.specs.declared.cmp.Ordering.TheVariants.{Less, Equal, Greater}
 use Rattle.std.specs.Cmp.{IsTotalOrder, on_total}
 use Rattle.std.specs.Cmp.Lexicographic.{slice_cmp, lists_total, options_total}
-use Rattle.std.specs.Option.{option_cmp}
 use Rattle.std.specs.Ordering.{ordering_then}
 use Rattle.std.specs.Str.{encode_utf8_all}
 use Rattle.std.proofs.lemmas.Cmp.{nat_list_cmp_total}

@@ -1,5 +1,5 @@
 -- Types that say the same are the same, places aside.
-use Rattle.std.proofs.Common.{◌≡◌, ℕ, Bool, true, false, List, [], ◌∷◌, map, Option, Some, None, option_map, refl, sym, ap, ◌∙◌}
+use Rattle.std.proofs.Common.{◌≡◌, ℕ, Bool, true, false, List, Option, Some, None, option_map, sym, ap, ◌∙◌}
 use Rattle.std.specs.BTreeMap.{is_at}
 use Rattle.std.specs.Map.{lookup}
 use Rattle.cedar_data.specs.Text.{text_cmp}
@@ -11,7 +11,7 @@ use Rattle.schema_json.specs.declared.types.TypeVariant.TheVariants as variant
 use Rattle.schema_json.specs.declared.types.TypeOfAttribute.{TypeOfAttribute, out-TypeOfAttribute}
 use Rattle.schema_syntax_reader.specs.Leaves.{Notes}
 use Rattle.schema_readback.specs.Written.{WrittenType, WrittenAttributes, path, set, rec, no_more, attribute}
-use Rattle.schema_says.specs.Bare.{bare_name, bare, bare_of_attribute}
+use Rattle.schema_says.specs.Bare.{bare, bare_of_attribute}
 use Rattle.schema_says.specs.TypesSay.{TypeSays, AttributeSays, ByTest, is_last_attribute}
 use Rattle.schema_says.proofs.BareTypes.{ref_at, set_at, record_at, record_from, attribute_same, notes_same, name_same}
 use Rattle.schema_says.proofs.Maps.{told_by_names}
@@ -35,7 +35,7 @@ mutual
       ap bare e ∙ (set_at a loc ∙ (ap (λ (x : Shape RawName). shape.Variant (variant.Set x) None) (same_type t a b h k) ∙ (sym (set_at b other) ∙ ap bare (sym f))))
   same_type (rec xs) s r (a, loc, e, o, up, h) (b, other, f, q, up2, k) =
       let es = told_by_names (TypeOfAttribute RawName) text_cmp text_total text_exact (λ n. n) (TypeOfAttribute RawName) (List ℕ) (λ n. n) bare_of_attribute (λ x y p. p)
-          (attributes_of a) (attributes_of b) up up2 (λ n. same_attribute xs n (lookup (is_at (text_cmp n)) (attributes_of a)) (lookup (is_at (text_cmp n)) (attributes_of b)) (h n) (k n)) in
+      (attributes_of a) (attributes_of b) up up2 (λ n. same_attribute xs n (lookup (is_at (text_cmp n)) (attributes_of a)) (lookup (is_at (text_cmp n)) (attributes_of b)) (h n) (k n)) in
       let both = o ∙ sym q in
       ap bare e ∙ (record_at a loc ∙ ((λ i. shape.Variant (variant.Record (record_from (es i) (both i))) None) ∙ (sym (record_at b other) ∙ ap bare (sym f))))
 

@@ -11,14 +11,13 @@ use Rattle.cedar_data.specs.Text.{text_cmp}
 use Rattle.cedar_data.specs.Words.{is_word}
 use Rattle.cedar_identifiers.specs.Names.{components_of, has_cedar}
 use Rattle.cedar_identifiers.specs.Words.{is_cedar}
-use Rattle.cedar_identifiers.specs.declared.annotations.Annotations.{Annotations}
 use Rattle.cedar_identifiers.specs.declared.any_id.AnyId.{AnyId}
 use Rattle.cedar_identifiers.specs.declared.id.Id.{Id}
 use Rattle.cedar_identifiers.specs.declared.internal_name.InternalName.{InternalName}
 use Rattle.cedar_identifiers.specs.declared.name.Name.{Name}
 use Rattle.cedar_identifiers.specs.declared.raw_name.RawName.{RawName}
 use Rattle.cedar_identifiers.specs.declared.unreserved_id.UnreservedId.{UnreservedId}
-use Rattle.schema_json.specs.declared.types.Type.{«Type» as Shape, Type-F, roll-Type, fold-roll-Type}
+use Rattle.schema_json.specs.declared.types.Type.{«Type» as Shape, Type-F, fold-roll-Type}
 use Rattle.schema_json.specs.declared.types.Type.TheVariants as shape
 use Rattle.schema_json.specs.declared.types.TypeVariant.{TypeVariant}
 use Rattle.schema_json.specs.declared.types.RecordType.{RecordType, roll-RecordType}
@@ -36,13 +35,13 @@ use Rattle.schema_json.specs.declared.fragment.Fragment.{Fragment}
 use Rattle.schema_json.specs.declared.fragment.NamespaceDefinition.{NamespaceDefinition}
 use Rattle.schema_convert_types.specs.Declarations.{as_written}
 use Rattle.cedar_identifiers.specs.declared.eid.Eid.{Eid}
-use Rattle.schema_readback.specs.Written.{WrittenType, WrittenAttributes, no_more, rec, WrittenRef, WrittenMember, types, context_path, context_record, WrittenDecl, entity, enum, external_entity, action, external_action, common, WrittenDeclared, WrittenItem}
+use Rattle.schema_readback.specs.Written.{WrittenType, no_more, rec, WrittenRef, WrittenMember, types, context_path, context_record, WrittenDecl, entity, enum, external_entity, action, external_action, common, WrittenDeclared, WrittenItem}
 use Rattle.schema_says.specs.Bare.{bare_internal, bare_name, bare, bare_step, bare_variant}
-use Rattle.schema_says.specs.BareFragments.{bare_declared, bare_common, bare_shape, bare_kind, bare_entity, bare_spec, bare_ref, bare_action, bare_namespace, bare_fragment}
+use Rattle.schema_says.specs.BareFragments.{bare_declared, bare_common, bare_kind, bare_entity, bare_spec, bare_ref, bare_action, bare_namespace, bare_fragment}
 use Rattle.schema_says.specs.TypesSay.{TypeSays}
-use Rattle.schema_says.specs.DeclarationsSay.{written_paths, TagsSay, KindSays, EntitySays, CommonIs, CommonSays, ContextOr, ContextSays, SpecSays, members_said, written_ref, ParentsSay, AppliesSay, ActionSays}
+use Rattle.schema_says.specs.DeclarationsSay.{written_paths, TagsSay, KindSays, EntitySays, CommonIs, CommonSays, ContextOr, SpecSays, members_said, written_ref, ParentsSay, AppliesSay, ActionSays}
 use Rattle.schema_says.specs.Entries.{FoundSays, EntriesSay}
-use Rattle.schema_says.specs.FragmentsSay.{WrittenNamespace, NamespaceSays, NamespaceName, namespace_order, name_components, written_in, FragmentSays}
+use Rattle.schema_says.specs.FragmentsSay.{WrittenNamespace, NamespaceSays, namespace_order, name_components, written_in, FragmentSays}
 use Rattle.schema_says.proofs.BareTypes.{name_same, notes_same, id_same, ids_same}
 use Rattle.schema_says.proofs.Maps.{told_by_names}
 use Rattle.schema_says.proofs.Orders.{text_total, text_exact, namespace_total, namespace_exact}

@@ -1,6 +1,5 @@
 -- A tree is lawful exactly where what it says can be translated.
 use Rattle.std.proofs.Common.{◌≡◌, ◌↔◌, ◌||◌, ℕ, Bool, true, false, not, cond, List, [], ◌∷◌, ◌++◌, map, Option, Some, None, option_map, filter, flat_map, refl, sym, ap, subst, ◌∙◌, true≢false}
-use Rattle.std.specs.BTreeMap.{is_at}
 use Rattle.std.specs.Cmp.{tied_itself}
 use Rattle.std.specs.List.{AllZip, AllByRecursion, list_any}
 use Rattle.std.specs.Ordering.{is_eq}
@@ -14,12 +13,12 @@ use Rattle.schema_convert.specs.Translatable.{IsLawfulNamespace, IsTranslatable}
 use Rattle.schema_readback.specs.Written.{WrittenItem, namespace, outside as stands_outside}
 use Rattle.schema_readback.specs.Shows.{SaysDeclared, SaysItem}
 use Rattle.schema_says.specs.Named.{IsNamed}
-use Rattle.schema_says.specs.FragmentsSay.{NamespaceName, namespace_order, WrittenNamespace, notes_of_item, decls_of_item, is_of_namespace, items_of_namespace, opened, written_in}
+use Rattle.schema_says.specs.FragmentsSay.{NamespaceName, WrittenNamespace, notes_of_item, decls_of_item, is_of_namespace, items_of_namespace, opened}
 use Rattle.schema_says.specs.Sayable.{IsSayableNamespace, IsSayable}
 use Rattle.schema_says.proofs.Firsts.{last_of, last_has, all_filter, filter_same}
 use Rattle.schema_says.proofs.Fragments.{openings_say, decls_say, decls_named, all_pass, StandsOutside}
 use Rattle.schema_says.proofs.Lawful.{namespace_iff}
-use Rattle.schema_says.proofs.Openings.{Opening, tree_name, opens, at_name, one_name, openings, whole, decls_of, named_opens, joined_named, joined_unnamed, outside_opens}
+use Rattle.schema_says.proofs.Openings.{Opening, tree_name, opens, at_name, one_name, openings, whole, named_opens, joined_named, joined_unnamed, outside_opens}
 use Rattle.schema_says.proofs.Orders.{namespace_total}
 
 some_same : (a b : WrittenNamespace) → Some a ≡ Some b → a ≡ b
@@ -81,7 +80,7 @@ all_there [] = tt
 all_there (x ∷ xs) = (
   ap (λ c. is_eq c || list_any (opens (tree_name x)) xs) (tied_itself namespace_total (tree_name x)),
   all_weaker (λ (n : Opening). list_any (opens (tree_name n)) xs ≡ true) (λ (n : Opening). list_any (opens (tree_name n)) (x ∷ xs) ≡ true)
-  (λ n h. both_true (opens (tree_name n) x) (list_any (opens (tree_name n)) xs) h) xs (all_there xs),
+      (λ n h. both_true (opens (tree_name n) x) (list_any (opens (tree_name n)) xs) h) xs (all_there xs),
 )
 
 -- a name
@@ -138,10 +137,10 @@ module _ (tree : List Opening) (w : List WrittenItem) (h : AllZip SaysItem tree 
   named_lawful : IsSayable w → (n : Opening) → HasName n → list_any (opens (tree_name n)) (named tree) ≡ true → IsLawfulNamespace (opened_as n (openings_of n (named tree)))
   named_lawful says n (p, same) there =
       let these : openings_of n (named tree) ≡ openings (Some p) tree =
-          filter_same (have_one_name n) (opens (Some p)) (λ y. one_name n y ∙ ap (λ q. opens q y) same) (named tree) ∙ named_opens p tree in
+      filter_same (have_one_name n) (opens (Some p)) (λ y. one_name n y ∙ ap (λ q. opens q y) same) (named tree) ∙ named_opens p tree in
       let zip = openings_say (Some p) tree w h in
       let some : items_of_namespace (Some p) w ≡ [] → ⊥ = λ e.
-          kept (opens (Some p)) (named tree) (ap (λ q. list_any (opens q) (named tree)) (sym same) ∙ there) (named_opens p tree ∙ none_left SaysItem (openings (Some p) tree) (items_of_namespace (Some p) w) zip e) in
+      kept (opens (Some p)) (named tree) (ap (λ q. list_any (opens q) (named tree)) (sym same) ∙ there) (named_opens p tree ∙ none_left SaysItem (openings (Some p) tree) (items_of_namespace (Some p) w) zip e) in
       subst (λ os. IsLawfulNamespace (opened_as n os)) (sym these)
       (lawful_at says (Some p) (opened_as n (openings (Some p) tree)) same some (decls_say (openings (Some p) tree) (items_of_namespace (Some p) w) zip))
 
@@ -154,7 +153,7 @@ module _ (tree : List Opening) (w : List WrittenItem) (h : AllZip SaysItem tree 
   translatable : IsSayable w → IsTranslatable tree
   translatable says =
       let all = both_all HasName (λ (n : Opening). list_any (opens (tree_name n)) (named tree) ≡ true) (λ (n : Opening). IsLawfulNamespace (opened_as n (openings_of n (named tree))))
-          (named_lawful says) (named tree) (all_have_names tree) (all_there (named tree)) in
+      (named_lawful says) (named tree) (all_have_names tree) (all_there (named tree)) in
       all_with IsLawfulNamespace (joined_by_name (named tree)) (empty_namespace (outside tree))
       (all_of_map IsLawfulNamespace (λ n. opened_as n (openings_of n (named tree))) (first_openings (named tree)) (firsts_have (λ (n : Opening). IsLawfulNamespace (opened_as n (openings_of n (named tree)))) (named tree) all))
       (empty_lawful says (outside tree) outside_says)

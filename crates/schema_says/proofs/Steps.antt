@@ -1,8 +1,6 @@
 -- The equations of what types and attributes become.
-use Rattle.std.proofs.Common.{◌≡◌, false, List, [], ◌∷◌, Option, map, refl, sym, ap, ◌∙◌}
-use Rattle.cedar_data.specs.Maps.{map_of}
+use Rattle.std.proofs.Common.{◌≡◌, List, [], ◌∷◌, Option, map, refl, sym, ap, ◌∙◌}
 use Rattle.cedar_data.specs.Span.{Span}
-use Rattle.cedar_data.specs.Text.{text_cmp}
 use Rattle.cedar_data.specs.declared.node.Node.{Node}
 use Rattle.cedar_identifiers.specs.declared.annotations.Annotations.{Annotations}
 use Rattle.cedar_identifiers.specs.declared.raw_name.RawName.{RawName}
@@ -16,10 +14,9 @@ use Rattle.schema_syntax_tree.specs.declared.types.Type.TheFolds.{fold-roll-Type
 use Rattle.schema_json.specs.declared.types.Type.{«Type» as Shape}
 use Rattle.schema_json.specs.declared.types.Type.TheVariants as shape
 use Rattle.schema_json.specs.declared.types.TypeVariant.TheVariants as variant
-use Rattle.schema_json.specs.declared.types.RecordType.{roll-RecordType}
 use Rattle.schema_json.specs.declared.types.TypeOfAttribute.{roll-TypeOfAttribute}
 use Rattle.schema_convert_types.specs.Names.{raw_name_of}
-use Rattle.schema_convert_types.specs.Types.{AttributeEntry, record_of, record_type, translated_type, translated_attribute, type_at, attribute_beside, attribute_of}
+use Rattle.schema_convert_types.specs.Types.{AttributeEntry, record_type, translated_type, translated_attribute, type_at, attribute_beside, attribute_of}
 
 map_both : {A B C : Type 0} (f : B → C) (g : A → B) (xs : List A) → map f (map g xs) ≡ map (λ x. f (g x)) xs
 map_both f g [] = refl
@@ -43,4 +40,3 @@ pub attribute_is : (a : AttrDecl) (notes : Annotations)
     → attribute_beside a notes ≡ ((out-AttrDecl a).name.node, roll-TypeOfAttribute RawName (record { ty = type_at (out-AttrDecl a).ty.node (out-AttrDecl a).ty.loc; annotations = notes; required = (out-AttrDecl a).required }))
 unfolding type_at attribute_beside
 attribute_is a notes = ap (λ (f : Annotations → AttributeEntry). f notes) (fold_out-AttrDecl (Option Span → Shape RawName) (Annotations → AttributeEntry) translated_type translated_attribute a)
-

@@ -14,7 +14,7 @@ use Rattle.cedar_identifiers.specs.declared.raw_name.RawName.{RawName}
 use Rattle.schema_syntax_tree.specs.declared.annotated.Annotated.{Annotated}
 use Rattle.schema_syntax_tree.specs.declared.types.AttrDecl.{AttrDecl, out-AttrDecl}
 use Rattle.schema_syntax_tree.specs.declared.types.Type.{«Type»}
-use Rattle.schema_json.specs.Shapes.{attributes_of, is_open}
+use Rattle.schema_json.specs.Shapes.{attributes_of}
 use Rattle.schema_json.specs.declared.types.Type.{«Type» as Shape}
 use Rattle.schema_json.specs.declared.types.RecordType.{RecordType, out-RecordType, out-roll-RecordType, RecordType-F}
 use Rattle.schema_json.specs.declared.types.TypeOfAttribute.{TypeOfAttribute, roll-TypeOfAttribute, out-TypeOfAttribute, out-roll-TypeOfAttribute, TypeOfAttribute-F}
@@ -22,7 +22,7 @@ use Rattle.schema_json.specs.declared.types.TypeVariant.{TypeVariant}
 use Rattle.schema_convert_types.specs.Names.{raw_name_of, name_of_ids}
 use Rattle.schema_convert_types.specs.Types.{AttributeEntry, record_of, record_type, type_at, attribute_of}
 use Rattle.schema_syntax_reader.specs.Leaves.{Notes}
-use Rattle.schema_readback.specs.Written.{WrittenType, WrittenAttributes, path, set, rec, no_more, attribute}
+use Rattle.schema_readback.specs.Written.{WrittenType, WrittenAttributes, rec}
 use Rattle.schema_readback.specs.PrintedDecls.{IsSome}
 use Rattle.schema_readback.specs.Shows.{ShowsType, shows_path, shows_set, shows_record, ShowsAttributes, shows_none, shows_more}
 use Rattle.schema_says.specs.Named.{IsNamedType, AreNamedAttributes}
@@ -89,8 +89,11 @@ here : (y : Node (Annotated AttrDecl)) (ns : Notes) (r : Bool) (t : WrittenType)
     → TypeSays (type_at (out-AttrDecl y.node.item).ty.node (out-AttrDecl y.node.item).ty.loc) t → y.node.annotations.0 ≡ ns → IsAttribute ns r t (Some (attribute_made y))
 here y ns r t required ty notes =
     let back : out-TypeOfAttribute RawName (attribute_made y) ≡ made_of y = out-roll-TypeOfAttribute RawName (made_of y) in (
-      attribute_made y, refl, subst (λ (a : Attribute-F). TypeSays a.ty t) (sym back) ty,
-      ap (λ (a : Attribute-F). a.annotations.0) back ∙ notes, ap (λ (a : Attribute-F). a.required) back ∙ required,
+      attribute_made y,
+      refl,
+      subst (λ (a : Attribute-F). TypeSays a.ty t) (sym back) ty,
+      ap (λ (a : Attribute-F). a.annotations.0) back ∙ notes,
+      ap (λ (a : Attribute-F). a.required) back ∙ required,
     )
 
 -- a record of entries says what the last entry of each name says
@@ -100,7 +103,10 @@ record_says es xs loc h =
     let made : Record-F = record { attributes = map_of text_cmp es; additional_attributes = false } in
     let back : out-RecordType RawName (record_of es) ≡ made = out-roll-RecordType RawName made in
     let whole : attributes_of (record_of es) ≡ map_of text_cmp es = ap (λ (r : Record-F). r.attributes) back in (
-      record_of es, loc, refl, ap (λ (r : Record-F). r.additional_attributes) back,
+      record_of es,
+      loc,
+      refl,
+      ap (λ (r : Record-F). r.additional_attributes) back,
       subst (λ l. IsStrictlySortedBy text_cmp (keys_of l)) (sym whole) (map_rises (TypeOfAttribute RawName) text_cmp text_total text_exact (λ n. n) es),
       λ name. subst (λ found. AttributeSays name found xs) (sym (ap (lookup (is_at (text_cmp name))) whole ∙ lookup_map (TypeOfAttribute RawName) text_cmp text_total text_exact (λ n. n) name es)) (h name),
     )

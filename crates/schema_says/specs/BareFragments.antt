@@ -1,5 +1,5 @@
 -- A fragment with every place erased, those of its names too.
-use Rattle.std.specs.Prelude.{ℕ, List, map, Option, None, Some, refl}
+use Rattle.std.specs.Prelude.{ℕ, List, map, Option, None, refl}
 use Rattle.std.specs.Option.{option_map}
 use Rattle.cedar_identifiers.specs.declared.name.Name.{Name}
 use Rattle.cedar_identifiers.specs.declared.raw_name.RawName.{RawName}

@@ -1,5 +1,5 @@
 -- Which schemas, as they are written, can be translated.
-use Rattle.std.specs.Prelude.{◌≡◌, ℕ, Bool, true, false, List, [], ◌∷◌, ◌++◌, Option, Some, None, find}
+use Rattle.std.specs.Prelude.{◌≡◌, ℕ, Bool, true, false, List, ◌∷◌, ◌++◌, Option, Some, None, find}
 use Rattle.std.specs.List.{AllByRecursion, flat_map, list_any}
 use Rattle.std.specs.Option.{option_eq, option_map}
 use Rattle.cedar_data.specs.Text.{text_cmp}
@@ -10,7 +10,7 @@ use Rattle.schema_syntax_tree.specs.declared.pr.PR.TheVariants.{Principal, Resou
 use Rattle.schema_json.specs.Keywords.{is_keyword_name}
 use Rattle.schema_convert.specs.Members.{is_same_role}
 use Rattle.schema_convert.specs.Repeats.{NoneRepeats}
-use Rattle.schema_readback.specs.Written.{WrittenMember, types, context_path, context_record, WrittenDecl, entity, enum, external_entity, action, external_action, common, WrittenDeclared, WrittenItem}
+use Rattle.schema_readback.specs.Written.{WrittenMember, types, WrittenDecl, action, WrittenDeclared, WrittenItem}
 use Rattle.schema_readback.specs.PrintedDecls.{IsSome}
 use Rattle.schema_says.specs.DeclarationsSay.{role_of}
 use Rattle.schema_says.specs.FragmentsSay.{entities_of_decl, actions_of_decl, commons_of_decl, NamespaceName, WrittenNamespace, written_in}

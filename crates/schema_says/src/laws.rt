@@ -1,6 +1,6 @@
 //! Laws of what fragments say. Each law is what its function ensures.
 ghost use Rattle.std.specs.Prelude.{◌≡◌, ◌↔◌, Option, List, []};
-ghost use Rattle.std.specs.List.{AllByRecursion, AllZip};
+ghost use Rattle.std.specs.List.{AllByRecursion, AllZip, flat_map};
 ghost use Rattle.cedar_data.specs.Span.{Span};
 ghost use Rattle.cedar_identifiers.specs.declared.raw_name.RawName.{RawName};
 ghost use Rattle.schema_syntax_tree.specs.declared.annotated.Annotated.{Annotated};
@@ -10,10 +10,10 @@ ghost use Rattle.schema_json.specs.declared.types.Type.{«Type» as Shape};
 ghost use Rattle.schema_json.specs.declared.fragment.Fragment.{Fragment};
 ghost use Rattle.schema_convert_types.specs.Declarations.{as_written};
 ghost use Rattle.schema_convert_types.specs.Types.{type_at};
-ghost use Rattle.schema_convert_types.specs.Fragments.{fragment_of};
 ghost use Rattle.schema_convert.specs.Faults.{translation_faults};
-ghost use Rattle.schema_convert.specs.Joined.{joined};
+ghost use Rattle.schema_convert.specs.Translated.{translated};
 ghost use Rattle.schema_readback.specs.Written.{WrittenType, WrittenItem};
+ghost use Rattle.schema_readback.specs.PrintedDecls.{Group, IsProperGroup, group_items};
 ghost use Rattle.schema_readback.specs.Shows.{ShowsType, SaysItem};
 ghost use Rattle.schema_says.specs.Bare.{bare};
 ghost use Rattle.schema_says.specs.BareFragments.{bare_fragment};
@@ -36,7 +36,7 @@ pub fn types_that_say_the_same()
 
 /// What a tree without faults says, its fragment says.
 pub fn fragments_say_what_trees_say()
-    ensures { (tree : List (Annotated Namespace)) (w : List WrittenItem) → AllZip SaysItem tree w → AllByRecursion IsNamed w → translation_faults tree ≡ [] → FragmentSays (fragment_of (joined tree)) w }
+    ensures { (tree : List (Annotated Namespace)) (w : List WrittenItem) → AllZip SaysItem tree w → AllByRecursion IsNamed w → translation_faults tree ≡ [] → FragmentSays (translated tree) w }
 {
     lawful_trees();
 }
@@ -51,4 +51,19 @@ pub fn faults_depend_on_what_is_said()
 /// Fragments that say the same are the same, places aside.
 pub fn fragments_that_say_the_same()
     ensures { (f g : Fragment RawName as_written) (w : List WrittenItem) → FragmentSays f w → FragmentSays g w → bare_fragment f ≡ bare_fragment g }
+{}
+
+/// What a tree says decides whether it has faults, and else its fragment, places aside.
+pub fn trees_that_say_the_same()
+    ensures faults { (tree other : List (Annotated Namespace)) (w : List WrittenItem) → AllZip SaysItem tree w → AllZip SaysItem other w → AllByRecursion IsNamed w → translation_faults tree ≡ [] → translation_faults other ≡ [] }
+    ensures fragments { (tree other : List (Annotated Namespace)) (w : List WrittenItem) → AllZip SaysItem tree w → AllZip SaysItem other w → AllByRecursion IsNamed w → translation_faults tree ≡ [] → bare_fragment (translated tree) ≡ bare_fragment (translated other) }
+{
+    faults_depend_on_what_is_said();
+    fragments_say_what_trees_say();
+    fragments_that_say_the_same();
+}
+
+/// What is laid out has names.
+pub fn proper_groups_are_named()
+    ensures { (groups : List Group) → AllByRecursion IsProperGroup groups → AllByRecursion IsNamed (flat_map group_items groups) }
 {}
