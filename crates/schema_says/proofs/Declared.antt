@@ -37,7 +37,7 @@ use Rattle.schema_readback.specs.PrintedDecls.{IsSome}
 use Rattle.schema_readback.specs.Shows.{SaysPath, SaysOptionalPath, SaysRef, SaysOptional, SaysTags, SaysShape, SaysChoice, SaysMember, SaysApplies, SaysDecl}
 use Rattle.schema_says.specs.Named.{AreNamedAttributes, AreNamedTags, IsNamedRole, IsNamedRef, IsNamedMember, AreNamedMembers, IsNamedDecl}
 use Rattle.schema_says.specs.TypesSay.{TypeSays}
-use Rattle.schema_says.specs.DeclarationsSay.{written_paths, TagsSay, KindSays, EntitySays, CommonIs, CommonSays, role_of, ContextOr, SpecSays, members_said, written_ref, ParentsSay, AppliesSay, ActionSays}
+use Rattle.schema_says.specs.DeclarationsSay.{written_paths, TagsSay, KindSays, EntitySays, CommonIs, CommonSays, role_and_types, ContextOr, SpecSays, members_said, written_ref, ParentsSay, AppliesSay, ActionSays}
 use Rattle.schema_says.proofs.Types.{named, record_says, type_says, attributes_say}
 
 path_says : (p : Path) (names : List (List ℕ)) → SaysPath p names → IsSome names → components_of (internal_name_of p) ≡ names
@@ -161,7 +161,7 @@ types_taken Resource Principal found ps spec e = refl
 types_taken Resource Resource found ps spec e = e
 
 abbrev TypesAfter : PR → AppDecl → WrittenMember → ApplySpec RawName → Type 0
-TypesAfter role m w spec = written_paths (types_of_role role (with_member m spec)) ≡ unwrap_or (said_of role (role_of w)) (written_paths (types_of_role role spec))
+TypesAfter role m w spec = written_paths (types_of_role role (with_member m spec)) ≡ unwrap_or (said_of role (role_and_types w)) (written_paths (types_of_role role spec))
 
 types_kept : (role : PR) (c : _) (spec : ApplySpec RawName) → written_paths (types_of_role role (with_member (app.Context c) spec)) ≡ written_paths (types_of_role role spec)
 types_kept Principal c spec = refl
@@ -184,14 +184,14 @@ last_said role None later d = refl
 last_said role (Some p) later d = last_or (last_at (is_same_role role) later) (if is_same_role role p.0 then Some p.1 else None) d
 
 all_types_say : (role : PR) (ns : List (Node AppDecl)) (ws : List WrittenMember) (spec : ApplySpec RawName) → AllZip SaysMember ns ws → AllByRecursion IsNamedMember ws
-    → written_paths (types_of_role role (with_members ns spec)) ≡ unwrap_or (last_at (is_same_role role) (filter_map role_of ws)) (written_paths (types_of_role role spec))
+    → written_paths (types_of_role role (with_members ns spec)) ≡ unwrap_or (last_at (is_same_role role) (filter_map role_and_types ws)) (written_paths (types_of_role role spec))
 all_types_say role [] [] spec k h = refl
 all_types_say role [] (w ∷ ws) spec k h = absurd k
 all_types_say role (n ∷ ns) [] spec k h = absurd k
 all_types_say role (n ∷ ns) (w ∷ ws) spec k h =
     all_types_say role ns ws (with_member n.node spec) k.1 h.1
-    ∙ (ap (unwrap_or (last_at (is_same_role role) (filter_map role_of ws))) (member_types_say role n w spec k.0 h.0)
-    ∙ sym (last_said role (role_of w) (filter_map role_of ws) (written_paths (types_of_role role spec))))
+    ∙ (ap (unwrap_or (last_at (is_same_role role) (filter_map role_and_types ws))) (member_types_say role n w spec k.0 h.0)
+    ∙ sym (last_said role (role_and_types w) (filter_map role_and_types ws) (written_paths (types_of_role role spec))))
 
 context_kept : (kind : PR) (ts : List RawName) (spec : ApplySpec RawName) → (with_types kind ts spec).context ≡ spec.context
 context_kept Principal ts spec = refl

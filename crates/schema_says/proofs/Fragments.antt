@@ -25,7 +25,7 @@ use Rattle.schema_readback.specs.Written.{WrittenDeclared, WrittenItem, namespac
 use Rattle.schema_readback.specs.PrintedDecls.{IsSome}
 use Rattle.schema_readback.specs.Shows.{SaysOptionalPath, SaysDeclared, SaysItem}
 use Rattle.schema_says.specs.Entries.{FoundSays, EntriesSay}
-use Rattle.schema_says.specs.Named.{IsNamedDeclared, IsNamed}
+use Rattle.schema_says.specs.Named.{IsNamedDeclared, IsWellNamed}
 use Rattle.schema_says.specs.FragmentsSay.{WrittenNamespace, NamespaceSays, NamespaceName, namespace_order, name_components, name_of_item, notes_of_item, decls_of_item, is_of_namespace, items_of_namespace, opened, written_in, FragmentSays}
 use Rattle.schema_says.proofs.Entered.{zip_append, entities_map_says, actions_map_says, commons_map_says}
 use Rattle.schema_says.proofs.Firsts.{last_of, last_has, zip_filter, all_filter}
@@ -46,7 +46,7 @@ pub names_same : (a : Opening) (i : WrittenItem) → SaysItem a i → tree_name 
 names_same a (namespace ns name ds) h = said_name a.item.name name h.0
 names_same a (stands_outside d) h = ap name_in_tree h.0
 
-has_ids : (a : Opening) (i : WrittenItem) → SaysItem a i → IsNamed i → HasIds a.item.name
+has_ids : (a : Opening) (i : WrittenItem) → SaysItem a i → IsWellNamed i → HasIds a.item.name
 has_ids a (namespace ns name ds) h k = said_ids a.item.name name h.0 k.0
 has_ids a (stands_outside d) h k = subst HasIds (sym h.0) tt
 
@@ -58,7 +58,7 @@ item_notes : (a : Opening) (i : WrittenItem) → SaysItem a i → a.annotations.
 item_notes a (namespace ns name ds) h = h.2
 item_notes a (stands_outside d) h = h.2
 
-pub all_ids : (tree : List Opening) (w : List WrittenItem) → AllZip SaysItem tree w → AllByRecursion IsNamed w → AllByRecursion (λ (n : Opening). HasIds n.item.name) tree
+pub all_ids : (tree : List Opening) (w : List WrittenItem) → AllZip SaysItem tree w → AllByRecursion IsWellNamed w → AllByRecursion (λ (n : Opening). HasIds n.item.name) tree
 all_ids [] [] h k = tt
 all_ids [] (i ∷ w) h k = absurd h
 all_ids (a ∷ tree) [] h k = absurd h
@@ -89,11 +89,11 @@ all_both : (xs ys : List WrittenDeclared) → AllByRecursion IsNamedDeclared xs 
 all_both [] ys h k = k
 all_both (x ∷ xs) ys h k = (h.0, all_both xs ys h.1 k)
 
-item_named : (i : WrittenItem) → IsNamed i → AllByRecursion IsNamedDeclared (decls_of_item i)
+item_named : (i : WrittenItem) → IsWellNamed i → AllByRecursion IsNamedDeclared (decls_of_item i)
 item_named (namespace ns name ds) h = h.1
 item_named (stands_outside d) h = (h, tt)
 
-pub decls_named : (is : List WrittenItem) → AllByRecursion IsNamed is → AllByRecursion IsNamedDeclared (flat_map decls_of_item is)
+pub decls_named : (is : List WrittenItem) → AllByRecursion IsWellNamed is → AllByRecursion IsNamedDeclared (flat_map decls_of_item is)
 decls_named [] h = tt
 decls_named (i ∷ is) h = all_both (decls_of_item i) (flat_map decls_of_item is) (item_named i h.0) (decls_named is h.1)
 
@@ -151,7 +151,7 @@ definition_says ds notes w k h entities commons annotations = record {
   actions = actions_map_says ds w.decls k h;
 }
 
-named_says : (p : List (List ℕ)) (os : List Opening) (is : List WrittenItem) → AllZip SaysItem os is → AllByRecursion IsNamed is
+named_says : (p : List (List ℕ)) (os : List Opening) (is : List WrittenItem) → AllZip SaysItem os is → AllByRecursion IsWellNamed is
     → ((n : Opening) → whole (Some p) os ≡ Some n → IsLawfulNamespace n) → FoundSays NamespaceSays (option_map defined (whole (Some p) os)) (opened is)
 named_says p [] [] h k lawful = tt
 named_says p [] (i ∷ is) h k lawful = absurd h
@@ -178,7 +178,7 @@ no_notes [] h = refl
 no_notes (namespace ns name ds ∷ is) h = absurd (true≢false (sym h.0))
 no_notes (stands_outside d ∷ is) h = no_notes is h.1
 
-unnamed_says : (ds : List (Annotated (Node Declaration))) (is : List WrittenItem) → AllZip SaysDeclared ds (flat_map decls_of_item is) → AllByRecursion IsNamed is → AllByRecursion StandsOutside is
+unnamed_says : (ds : List (Annotated (Node Declaration))) (is : List WrittenItem) → AllZip SaysDeclared ds (flat_map decls_of_item is) → AllByRecursion IsWellNamed is → AllByRecursion StandsOutside is
     → ((n : Opening) → last_of (opens None) (empty_namespace ds) ≡ Some n → IsLawfulNamespace n) → FoundSays NamespaceSays (option_map defined (last_of (opens None) (empty_namespace ds))) (opened is)
 unnamed_says [] [] h k out lawful = tt
 unnamed_says (d ∷ ds) [] h k out lawful = absurd h
@@ -189,19 +189,19 @@ unnamed_says (d ∷ ds) (stands_outside w ∷ is) h k out lawful =
     definition_says (d ∷ ds) (record { 0 = [] }) (record { notes = flat_map notes_of_item (stands_outside w ∷ is); decls = flat_map decls_of_item (stands_outside w ∷ is) })
     h (decls_named (stands_outside w ∷ is) k) n.entities_free n.commons_free (no_annotations_say (flat_map notes_of_item (stands_outside w ∷ is)) (no_notes (stands_outside w ∷ is) out))
 
-module _ (tree : List Opening) (w : List WrittenItem) (h : AllZip SaysItem tree w) (k : AllByRecursion IsNamed w) (lawful : IsTranslatable tree) where
+module _ (tree : List Opening) (w : List WrittenItem) (h : AllZip SaysItem tree w) (k : AllByRecursion IsWellNamed w) (lawful : IsTranslatable tree) where
   last_lawful : (q : NamespaceName) (o : Option Opening) → last_of (opens q) (joined tree) ≡ o → (n : Opening) → o ≡ Some n → IsLawfulNamespace n
   last_lawful q o e n f = last_has (opens q) IsLawfulNamespace (joined tree) n lawful (e ∙ f)
 
   joined_says : (q : NamespaceName) → FoundSays NamespaceSays (option_map defined (last_of (opens q) (joined tree))) (written_in w q)
   joined_says (Some p) =
       subst (λ o. FoundSays NamespaceSays (option_map defined o) (written_in w (Some p))) (sym (joined_named p tree))
-      (named_says p (openings (Some p) tree) (items_of_namespace (Some p) w) (openings_say (Some p) tree w h) (all_filter IsNamed (is_of_namespace (Some p)) w k)
+      (named_says p (openings (Some p) tree) (items_of_namespace (Some p) w) (openings_say (Some p) tree w h) (all_filter IsWellNamed (is_of_namespace (Some p)) w k)
       (last_lawful (Some p) (whole (Some p) (openings (Some p) tree)) (joined_named p tree)))
   joined_says None =
       subst (λ o. FoundSays NamespaceSays (option_map defined o) (written_in w None)) (sym (joined_unnamed tree))
       (unnamed_says (outside tree) (items_of_namespace None w) (subst (λ ds. AllZip SaysDeclared ds (flat_map decls_of_item (items_of_namespace None w))) (sym (outside_opens tree)) (decls_say (openings None tree) (items_of_namespace None w) (openings_say None tree w h)))
-      (all_filter IsNamed (is_of_namespace None) w k) (all_pass (is_of_namespace None) w)
+      (all_filter IsWellNamed (is_of_namespace None) w k) (all_pass (is_of_namespace None) w)
       (last_lawful None (last_of (opens None) (empty_namespace (outside tree))) (joined_unnamed tree)))
 
   keys : (ns : List Opening) → AllByRecursion IsLawfulNamespace ns → AllByRecursion (λ (n : Opening). HasIds n.item.name) ns → AllByRecursion (λ (n : Opening). HasKey n.item.name) ns

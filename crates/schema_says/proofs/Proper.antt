@@ -5,7 +5,7 @@ use Rattle.schema_readback.specs.Written.{WrittenType, WrittenAttributes, path, 
 use Rattle.schema_readback.specs.Printed.{IsProperPath, IsProperType, AreProperAttributes}
 use Rattle.schema_readback.specs.PrintedDecls.{IsSome, IsProperOptional, IsProperRef, IsProperTags, IsProperMember, AreProperMembers, IsProperDecl, IsProperDeclared, Group, IsProperGroup, namespace_items, group_items}
 use Rattle.schema_syntax_reader.specs.Leaves.{Notes}
-use Rattle.schema_says.specs.Named.{IsNamedType, AreNamedAttributes, AreNamedTags, IsNamedRole, IsNamedRef, IsNamedMember, AreNamedMembers, IsNamedDecl, IsNamedDeclared, IsNamed}
+use Rattle.schema_says.specs.Named.{IsNamedType, AreNamedAttributes, AreNamedTags, IsNamedRole, IsNamedRef, IsNamedMember, AreNamedMembers, IsNamedDecl, IsNamedDeclared, IsWellNamed}
 
 all_weaker : {A : Type 0} (P Q : A → Type 0) → ((x : A) → P x → Q x) → (xs : List A) → AllByRecursion P xs → AllByRecursion Q xs
 all_weaker P Q f [] h = tt
@@ -58,15 +58,15 @@ decl_named (common n t) h = type_named t h.1
 declared_named : (d : WrittenDeclared) → IsProperDeclared d → IsNamedDeclared d
 declared_named d h = decl_named d.decl h.1
 
-outside_named : (ds : List WrittenDeclared) → AllByRecursion IsProperDeclared ds → AllByRecursion IsNamed (map outside ds)
+outside_named : (ds : List WrittenDeclared) → AllByRecursion IsProperDeclared ds → AllByRecursion IsWellNamed (map outside ds)
 outside_named [] h = tt
 outside_named (d ∷ ds) h = (declared_named d h.0, outside_named ds h.1)
 
 items_named : (notes : Notes) (name : Option (List (List ℕ))) (ds : List WrittenDeclared) → IsProperOptional name → AllByRecursion IsProperDeclared ds
-    → AllByRecursion IsNamed (namespace_items notes name ds)
+    → AllByRecursion IsWellNamed (namespace_items notes name ds)
 items_named notes None ds h k = outside_named ds k
 items_named notes (Some p) ds h k = ((path_named p h, all_weaker IsProperDeclared IsNamedDeclared declared_named ds k), tt)
 
-pub groups_named : (groups : List Group) → AllByRecursion IsProperGroup groups → AllByRecursion IsNamed (flat_map group_items groups)
+pub groups_named : (groups : List Group) → AllByRecursion IsProperGroup groups → AllByRecursion IsWellNamed (flat_map group_items groups)
 groups_named [] h = tt
-groups_named (g ∷ gs) h = all_with IsNamed (group_items g) (flat_map group_items gs) (items_named g.notes g.name g.decls h.0.1 h.0.2) (groups_named gs h.1)
+groups_named (g ∷ gs) h = all_with IsWellNamed (group_items g) (flat_map group_items gs) (items_named g.notes g.name g.decls h.0.1 h.0.2) (groups_named gs h.1)

@@ -12,7 +12,7 @@ use Rattle.schema_convert.specs.Joined.{named_so, named, outside, have_one_name,
 use Rattle.schema_convert.specs.Translatable.{IsLawfulNamespace, IsTranslatable}
 use Rattle.schema_readback.specs.Written.{WrittenItem, namespace, outside as stands_outside}
 use Rattle.schema_readback.specs.Shows.{SaysDeclared, SaysItem}
-use Rattle.schema_says.specs.Named.{IsNamed}
+use Rattle.schema_says.specs.Named.{IsWellNamed}
 use Rattle.schema_says.specs.FragmentsSay.{NamespaceName, WrittenNamespace, notes_of_item, decls_of_item, is_of_namespace, items_of_namespace, opened}
 use Rattle.schema_says.specs.Sayable.{IsSayableNamespace, IsSayable}
 use Rattle.schema_says.proofs.Firsts.{last_of, last_has, all_filter, filter_same}
@@ -27,7 +27,7 @@ some_same a b p = cc
 not_some : {X : Type 0} (a : WrittenNamespace) → None ≡ Some a → X
 not_some a p = cc
 
-named_sayable : (p : List (List ℕ)) (os : List Opening) (is : List WrittenItem) → AllZip SaysItem os is → AllByRecursion IsNamed is → AllByRecursion (λ (o : Opening). opens (Some p) o ≡ true) os
+named_sayable : (p : List (List ℕ)) (os : List Opening) (is : List WrittenItem) → AllZip SaysItem os is → AllByRecursion IsWellNamed is → AllByRecursion (λ (o : Opening). opens (Some p) o ≡ true) os
     → ((n : Opening) → whole (Some p) os ≡ Some n → IsLawfulNamespace n) → (n : WrittenNamespace) → opened is ≡ Some n → IsSayableNamespace (Some p) n.decls
 named_sayable p [] [] h k out lawful n e = not_some n e
 named_sayable p [] (i ∷ is) h k out lawful n e = absurd h
@@ -37,7 +37,7 @@ named_sayable p (o ∷ os) (i ∷ is) h k out lawful n e =
     let iff = namespace_iff (opened_as o (o ∷ os)) (Some p) (flat_map decls_of_item (i ∷ is)) (sym (at_name (Some p) o out.0)) (decls_say (o ∷ os) (i ∷ is) h) (decls_named (i ∷ is) k) in
     subst (λ (m : WrittenNamespace). IsSayableNamespace (Some p) m.decls) (some_same made n e) (iff.0 (lawful (opened_as o (o ∷ os)) refl))
 
-unnamed_sayable : (ds : List (Annotated (Node Declaration))) (is : List WrittenItem) → AllZip SaysDeclared ds (flat_map decls_of_item is) → AllByRecursion IsNamed is → AllByRecursion StandsOutside is
+unnamed_sayable : (ds : List (Annotated (Node Declaration))) (is : List WrittenItem) → AllZip SaysDeclared ds (flat_map decls_of_item is) → AllByRecursion IsWellNamed is → AllByRecursion StandsOutside is
     → ((n : Opening) → last_of (opens None) (empty_namespace ds) ≡ Some n → IsLawfulNamespace n) → (n : WrittenNamespace) → opened is ≡ Some n → IsSayableNamespace None n.decls
 unnamed_sayable ds [] h k out lawful n e = not_some n e
 unnamed_sayable ds (namespace ns name ws ∷ is) h k out lawful n e = absurd (true≢false (sym out.0))
@@ -111,7 +111,7 @@ all_with : (P : Opening → Type 0) (xs ys : List Opening) → AllByRecursion P 
 all_with P [] ys h k = k
 all_with P (x ∷ xs) ys h k = (h.0, all_with P xs ys h.1 k)
 
-module _ (tree : List Opening) (w : List WrittenItem) (h : AllZip SaysItem tree w) (k : AllByRecursion IsNamed w) where
+module _ (tree : List Opening) (w : List WrittenItem) (h : AllZip SaysItem tree w) (k : AllByRecursion IsWellNamed w) where
   outside_says : AllZip SaysDeclared (outside tree) (flat_map decls_of_item (items_of_namespace None w))
   outside_says = subst (λ ds. AllZip SaysDeclared ds (flat_map decls_of_item (items_of_namespace None w))) (sym (outside_opens tree)) (decls_say (openings None tree) (items_of_namespace None w) (openings_say None tree w h))
 
@@ -120,10 +120,10 @@ module _ (tree : List Opening) (w : List WrittenItem) (h : AllZip SaysItem tree 
 
   sayable : IsTranslatable tree → IsSayable w
   sayable lawful (Some p) n e =
-      named_sayable p (openings (Some p) tree) (items_of_namespace (Some p) w) (openings_say (Some p) tree w h) (all_filter IsNamed (is_of_namespace (Some p)) w k) (all_pass (opens (Some p)) tree)
+      named_sayable p (openings (Some p) tree) (items_of_namespace (Some p) w) (openings_say (Some p) tree w h) (all_filter IsWellNamed (is_of_namespace (Some p)) w k) (all_pass (opens (Some p)) tree)
       (last_lawful lawful (Some p) (whole (Some p) (openings (Some p) tree)) (joined_named p tree)) n e
   sayable lawful None n e =
-      unnamed_sayable (outside tree) (items_of_namespace None w) outside_says (all_filter IsNamed (is_of_namespace None) w k) (all_pass (is_of_namespace None) w)
+      unnamed_sayable (outside tree) (items_of_namespace None w) outside_says (all_filter IsWellNamed (is_of_namespace None) w k) (all_pass (is_of_namespace None) w)
       (last_lawful lawful None (last_of (opens None) (empty_namespace (outside tree))) (joined_unnamed tree)) n e
 
   -- an item that has declarations that say what is written in a namespace
@@ -131,7 +131,7 @@ module _ (tree : List Opening) (w : List WrittenItem) (h : AllZip SaysItem tree 
       → AllZip SaysDeclared n.item.decls (flat_map decls_of_item (items_of_namespace q w)) → IsLawfulNamespace n
   lawful_at says q n same some z =
       let o = opened_here (items_of_namespace q w) some in
-      (namespace_iff n q (flat_map decls_of_item (items_of_namespace q w)) same z (decls_named (items_of_namespace q w) (all_filter IsNamed (is_of_namespace q) w k))).1
+      (namespace_iff n q (flat_map decls_of_item (items_of_namespace q w)) same z (decls_named (items_of_namespace q w) (all_filter IsWellNamed (is_of_namespace q) w k))).1
       (subst (IsSayableNamespace q) o.2 (says q o.0 o.1))
 
   named_lawful : IsSayable w → (n : Opening) → HasName n → list_any (opens (tree_name n)) (named tree) ≡ true → IsLawfulNamespace (opened_as n (openings_of n (named tree)))

@@ -51,13 +51,13 @@ abbrev pub CommonSays : CommonType RawName → WrittenDeclared → Type 0
 CommonSays c d = (c.annotations.0 ≡ d.notes) × CommonIs c.ty d.decl
 
 -- the types that a member says are principals, or are resources
-abbrev pub role_of : WrittenMember → Option (PR × List (List (List ℕ)))
-role_of (types role paths) = Some (role, paths)
-role_of _ = None
+abbrev pub role_and_types : WrittenMember → Option (PR × List (List (List ℕ)))
+role_and_types (types role paths) = Some (role, paths)
+role_and_types _ = None
 
 -- the types that the last member of this role says, and none where there is no such member
 abbrev pub types_in : PR → List WrittenMember → List (List (List ℕ))
-types_in role members = unwrap_or (last_at (is_same_role role) (filter_map role_of members)) []
+types_in role members = unwrap_or (last_at (is_same_role role) (filter_map role_and_types members)) []
 
 -- what the context is, where no member behind these says it
 abbrev pub ContextOr : Type 0 → «Type» RawName → List WrittenMember → Type 0

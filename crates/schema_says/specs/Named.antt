@@ -46,6 +46,6 @@ abbrev pub IsNamedDeclared : WrittenDeclared → Type 0
 IsNamedDeclared d = IsNamedDecl d.decl
 
 -- Each name in it has a component, and each declaration of actions has a name.
-abbrev pub IsNamed : WrittenItem → Type 0
-IsNamed (namespace notes name decls) = IsSome name × AllByRecursion IsNamedDeclared decls
-IsNamed (outside d) = IsNamedDeclared d
+abbrev pub IsWellNamed : WrittenItem → Type 0
+IsWellNamed (namespace notes name decls) = IsSome name × AllByRecursion IsNamedDeclared decls
+IsWellNamed (outside d) = IsNamedDeclared d

@@ -12,7 +12,7 @@ use Rattle.schema_convert.specs.Members.{is_same_role}
 use Rattle.schema_convert.specs.Repeats.{NoneRepeats}
 use Rattle.schema_readback.specs.Written.{WrittenMember, types, WrittenDecl, action, WrittenDeclared, WrittenItem}
 use Rattle.schema_readback.specs.PrintedDecls.{IsSome}
-use Rattle.schema_says.specs.DeclarationsSay.{role_of}
+use Rattle.schema_says.specs.DeclarationsSay.{role_and_types}
 use Rattle.schema_says.specs.FragmentsSay.{entities_of_decl, actions_of_decl, commons_of_decl, NamespaceName, WrittenNamespace, written_in}
 
 -- no component of a namespace's name is reserved
@@ -22,7 +22,7 @@ IsFreeNamespace (Some name) = has_cedar name ≡ false
 
 -- principals or resources, and neither for a context
 abbrev pub role_said : WrittenMember → Option PR
-role_said m = option_map (λ p. p.0) (role_of m)
+role_said m = option_map (λ p. p.0) (role_and_types m)
 
 -- both say the principals, or the resources, or the context
 abbrev pub says_alike : WrittenMember → WrittenMember → Bool

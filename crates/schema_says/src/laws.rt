@@ -17,7 +17,7 @@ ghost use Rattle.schema_readback.specs.PrintedDecls.{Group, IsProperGroup, group
 ghost use Rattle.schema_readback.specs.Shows.{ShowsType, SaysItem};
 ghost use Rattle.schema_says.specs.Bare.{bare};
 ghost use Rattle.schema_says.specs.BareFragments.{bare_fragment};
-ghost use Rattle.schema_says.specs.Named.{IsNamedType, IsNamed};
+ghost use Rattle.schema_says.specs.Named.{IsNamedType, IsWellNamed};
 ghost use Rattle.schema_says.specs.Sayable.{IsSayable};
 ghost use Rattle.schema_says.specs.TypesSay.{TypeSays};
 ghost use Rattle.schema_says.specs.FragmentsSay.{FragmentSays};
@@ -36,14 +36,14 @@ pub fn types_that_say_the_same()
 
 /// What a tree without faults says, its fragment says.
 pub fn fragments_say_what_trees_say()
-    ensures { (tree : List (Annotated Namespace)) (w : List WrittenItem) → AllZip SaysItem tree w → AllByRecursion IsNamed w → translation_faults tree ≡ [] → FragmentSays (translated tree) w }
+    ensures { (tree : List (Annotated Namespace)) (w : List WrittenItem) → AllZip SaysItem tree w → AllByRecursion IsWellNamed w → translation_faults tree ≡ [] → FragmentSays (translated tree) w }
 {
     lawful_trees();
 }
 
 /// Whether a tree has faults depends on what it says alone.
 pub fn faults_depend_on_what_is_said()
-    ensures { (tree : List (Annotated Namespace)) (w : List WrittenItem) → AllZip SaysItem tree w → AllByRecursion IsNamed w → translation_faults tree ≡ [] ↔ IsSayable w }
+    ensures { (tree : List (Annotated Namespace)) (w : List WrittenItem) → AllZip SaysItem tree w → AllByRecursion IsWellNamed w → translation_faults tree ≡ [] ↔ IsSayable w }
 {
     lawful_trees();
 }
@@ -55,8 +55,8 @@ pub fn fragments_that_say_the_same()
 
 /// What a tree says decides whether it has faults, and else its fragment, places aside.
 pub fn trees_that_say_the_same()
-    ensures faults { (tree other : List (Annotated Namespace)) (w : List WrittenItem) → AllZip SaysItem tree w → AllZip SaysItem other w → AllByRecursion IsNamed w → translation_faults tree ≡ [] → translation_faults other ≡ [] }
-    ensures fragments { (tree other : List (Annotated Namespace)) (w : List WrittenItem) → AllZip SaysItem tree w → AllZip SaysItem other w → AllByRecursion IsNamed w → translation_faults tree ≡ [] → bare_fragment (translated tree) ≡ bare_fragment (translated other) }
+    ensures faults { (tree other : List (Annotated Namespace)) (w : List WrittenItem) → AllZip SaysItem tree w → AllZip SaysItem other w → AllByRecursion IsWellNamed w → translation_faults tree ≡ [] → translation_faults other ≡ [] }
+    ensures fragments { (tree other : List (Annotated Namespace)) (w : List WrittenItem) → AllZip SaysItem tree w → AllZip SaysItem other w → AllByRecursion IsWellNamed w → translation_faults tree ≡ [] → bare_fragment (translated tree) ≡ bare_fragment (translated other) }
 {
     faults_depend_on_what_is_said();
     fragments_say_what_trees_say();
@@ -65,5 +65,5 @@ pub fn trees_that_say_the_same()
 
 /// What is laid out has names.
 pub fn proper_groups_are_named()
-    ensures { (groups : List Group) → AllByRecursion IsProperGroup groups → AllByRecursion IsNamed (flat_map group_items groups) }
+    ensures { (groups : List Group) → AllByRecursion IsProperGroup groups → AllByRecursion IsWellNamed (flat_map group_items groups) }
 {}

@@ -1,0 +1,2 @@
+mod CedarTypes
+mod Folds

@@ -1,0 +1,4 @@
+use Rattle.schema_print_says.proofs.laws.fragments_are_printed_in_cedar_form.Goals as goal
+
+pub returns : goal.returns
+returns c = ?

@@ -1,0 +1,24 @@
+//! Laws of what printed fragments say. Each law is what its function ensures; the functions do nothing.
+ghost use Rattle.std.specs.Prelude.{List};
+ghost use Rattle.std.specs.List.{flat_map};
+ghost use Rattle.cedar_identifiers.specs.declared.raw_name.RawName.{RawName};
+ghost use Rattle.schema_json.specs.declared.types.Type.{«Type»};
+ghost use Rattle.schema_json.specs.declared.fragment.Fragment.{Fragment};
+ghost use Rattle.schema_convert_types.specs.Declarations.{as_written};
+ghost use Rattle.schema_readback.specs.PrintedDecls.{Group, group_items};
+ghost use Rattle.schema_print_text.specs.PrintedTypes.{printed_type};
+ghost use Rattle.schema_print.specs.FragmentGroups.{AreGroupsOf};
+ghost use Rattle.schema_says.specs.TypesSay.{TypeSays};
+ghost use Rattle.schema_says.specs.FragmentsSay.{FragmentSays};
+ghost use Rattle.schema_print_says.specs.CedarForm.{cedar_type, cedar_form};
+ghost use Rattle.schema_print_says.specs.Plain.{written_components, IsPlainType, IsPlainFragment};
+
+/// What is written of a type, the type says in the form that its text has.
+pub fn types_are_printed_in_cedar_form()
+    ensures { (s : «Type» RawName) → IsPlainType s → TypeSays (cedar_type s) (printed_type written_components s) }
+{}
+
+/// What is written of a fragment, the fragment says in the form that its text has.
+pub fn fragments_are_printed_in_cedar_form()
+    ensures { (f : Fragment RawName as_written) (groups : List Group) → AreGroupsOf written_components f groups → IsPlainFragment f → FragmentSays (cedar_form f) (flat_map group_items groups) }
+{}
