@@ -1,2 +1,4 @@
+mod CedarDecls
+mod CedarFragments
 mod CedarTypes
 mod Folds

@@ -9,6 +9,7 @@ use Rattle.cedar_identifiers.specs.declared.raw_name.RawName.{RawName}
 use Rattle.cedar_identifiers.specs.declared.unreserved_id.UnreservedId.{UnreservedId}
 use Rattle.schema_json.specs.Shapes.{empty_record, record_type}
 use Rattle.schema_json.specs.declared.types.Type.{«Type», Type-F, roll-Type, out-Type, fold-Type}
+use Rattle.schema_json.specs.declared.types.Type.TheVariants.{CommonTypeRef}
 use Rattle.schema_json.specs.declared.types.TypeVariant.{TypeVariant, TypeVariant-F, roll-TypeVariant, fold-TypeVariant}
 use Rattle.schema_json.specs.declared.types.RecordType.{RecordType, roll-RecordType, fold-RecordType}
 use Rattle.schema_json.specs.declared.types.TypeOfAttribute.{TypeOfAttribute, roll-TypeOfAttribute, fold-TypeOfAttribute}
@@ -83,11 +84,11 @@ cedar_attribute =
     fold-TypeOfAttribute RawName («Type» RawName) (TypeVariant RawName) (RecordType RawName) (TypeOfAttribute RawName)
     cedar_layer cedar_variant_layer (roll-RecordType RawName) (roll-TypeOfAttribute RawName)
 
-abbrev cedar_outside :
+abbrev pub cedar_outside :
     Type-F RawName («Type» RawName) (TypeVariant RawName) (RecordType RawName) (TypeOfAttribute RawName)
     → «Type» RawName → «Type» RawName
 cedar_outside (Type-F.Variant ty loc) context = cedar_type context
-cedar_outside (Type-F.CommonTypeRef name loc) context = context
+cedar_outside (Type-F.CommonTypeRef name loc) context = CommonTypeRef name loc
 
 -- a context that is a reference to a common type stays one
 abbrev pub cedar_context : «Type» RawName → «Type» RawName
@@ -155,7 +156,8 @@ cedar_namespace n = record {
   annotations = n.annotations;
 }
 
-abbrev is_some_list : {A : Type 0} → List A → Bool
+-- it has an item
+abbrev pub is_some_list : {A : Type 0} → List A → Bool
 is_some_list [] = false
 is_some_list (x ∷ xs) = true
 

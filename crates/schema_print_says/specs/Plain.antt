@@ -8,7 +8,6 @@ use Rattle.cedar_identifiers.specs.declared.annotations.Annotations.{Annotations
 use Rattle.cedar_identifiers.specs.declared.any_id.AnyId.{AnyId}
 use Rattle.cedar_identifiers.specs.declared.name.Name.{Name}
 use Rattle.cedar_identifiers.specs.declared.raw_name.RawName.{RawName}
-use Rattle.schema_json.specs.Shapes.{is_empty_type}
 use Rattle.schema_json.specs.declared.types.Type.{«Type», Type-F, out-Type, fold-Type}
 use Rattle.schema_json.specs.declared.types.TypeVariant.{TypeVariant, TypeVariant-F, fold-TypeVariant}
 use Rattle.schema_json.specs.declared.types.RecordType.{RecordType, RecordType-F, fold-RecordType}
@@ -22,7 +21,6 @@ use Rattle.schema_json.specs.declared.fragment.NamespaceDefinition.{NamespaceDef
 use Rattle.schema_convert_types.specs.Declarations.{as_written}
 use Rattle.schema_readback.specs.Written.{WrittenType, WrittenAttributes, path, set, rec, no_more, attribute}
 use Rattle.schema_print_text.specs.PrintedTypes.{printed_type}
-use Rattle.schema_print.specs.Collisions.{is_record_type}
 use Rattle.schema_says.specs.FragmentsSay.{namespace_order, name_components}
 use Rattle.schema_print_says.specs.CedarForm.{Block}
 
@@ -86,16 +84,24 @@ abbrev pub ArePlainTags : Option («Type» RawName) → Type 0
 ArePlainTags None = Unit {0}
 ArePlainTags (Some s) = IsPlainType s
 
+-- a closed record without attributes
+abbrev pub IsBareType : «Type» RawName → Type 0
+IsBareType s = (is_closed_type s ≡ true) × (printed_type written_components s ≡ rec no_more)
+
 -- one of another schema has neither attributes nor tags
 abbrev pub IsPlainKind : Bool → EntityTypeKind RawName → Type 0
-IsPlainKind true (Standard e) = (is_empty_type e.shape.0 ≡ true) × (e.tags ≡ None)
+IsPlainKind true (Standard e) = IsBareType e.shape.0 × (e.tags ≡ None)
 IsPlainKind true (Enum choices) = ⊥
 IsPlainKind false (Standard e) = IsPlainType e.shape.0 × ArePlainTags e.tags
 IsPlainKind false (Enum choices) = Unit {0}
 
-abbrev IsPlainOutside : Type-F RawName («Type» RawName) (TypeVariant RawName) (RecordType RawName) (TypeOfAttribute RawName)
+abbrev pub IsWrittenRecord : WrittenType → Type 0
+IsWrittenRecord (rec xs) = Unit {0}
+IsWrittenRecord _ = ⊥
+
+abbrev pub IsPlainOutside : Type-F RawName («Type» RawName) (TypeVariant RawName) (RecordType RawName) (TypeOfAttribute RawName)
     → «Type» RawName → Type 0
-IsPlainOutside (Type-F.Variant ty loc) context = (is_record_type context ≡ true) × IsPlainType context
+IsPlainOutside (Type-F.Variant ty loc) context = IsWrittenRecord (printed_type written_components context) × IsPlainType context
 IsPlainOutside (Type-F.CommonTypeRef name loc) context = Unit {0}
 
 -- a record, or a reference to a common type
@@ -104,7 +110,7 @@ IsPlainContext context = IsPlainOutside (out-Type RawName context) context
 
 -- principals and resources, or neither and no attribute in the context
 abbrev pub AreTargets : List RawName → List RawName → «Type» RawName → Type 0
-AreTargets [] [] context = is_empty_type context ≡ true
+AreTargets [] [] context = IsBareType context
 AreTargets (p ∷ ps) (r ∷ rs) context = IsPlainContext context
 AreTargets _ _ context = ⊥
 

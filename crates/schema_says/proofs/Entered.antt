@@ -2,6 +2,7 @@
 use Rattle.std.proofs.Common.{◌≡◌, ℕ, Bool, true, false, List, [], ◌∷◌, ◌++◌, map, Option, Some, None, refl, sym, ap, ◌∙◌, subst, true≢false, if◌then◌else◌}
 use Rattle.std.specs.BTreeMap.{is_at}
 use Rattle.std.specs.List.{AllZip, AllByRecursion}
+use Rattle.std.specs.List.Sorted.{IsStrictlySortedBy}
 use Rattle.std.specs.Option.{option_or}
 use Rattle.cedar_data.specs.Maps.{map_of, last_at}
 use Rattle.cedar_data.specs.Span.{Span}
@@ -34,7 +35,7 @@ use Rattle.schema_says.specs.Named.{IsNamedDeclared}
 use Rattle.schema_says.specs.DeclarationsSay.{EntitySays, ActionSays, CommonSays}
 use Rattle.schema_says.specs.FragmentsSay.{entities_of_decl, actions_of_decl, commons_of_decl, by_names}
 use Rattle.schema_says.proofs.Declared.{entity_says, action_says, common_says}
-use Rattle.schema_says.proofs.Maps.{lookup_map, map_rises}
+use Rattle.schema_says.proofs.Maps.{lookup_map, lookup_rising, map_rises}
 use Rattle.schema_says.proofs.Orders.{text_total, text_exact}
 
 pub zip_append : {A B : Type 0} (R : A → B → Type 0) (xs xs' : List A) (ys ys' : List B) → AllZip R xs ys → AllZip R xs' ys' → AllZip R (xs ++ xs') (ys ++ ys')
@@ -104,6 +105,14 @@ module _ {K V : Type 0} (name : K → List ℕ) (Says : V → WrittenDeclared �
   map_says es ws h = record {
     rising = map_rises V text_cmp text_total text_exact name es;
     each = λ n. subst (λ found. FoundSays Says found (last_written ws n)) (sym (lookup_map V text_cmp text_total text_exact name n es)) (last_says n es ws h);
+  }
+
+  -- entries whose names rise say what is written beside them
+  pub rising_say : (es : List (K × V)) (ws : List (List ℕ × WrittenDeclared)) → IsStrictlySortedBy text_cmp (map (λ e. name e.0) es) → AllZip (EntryOf name Says) es ws
+      → EntriesSay text_cmp name Says es (last_written ws)
+  rising_say es ws up h = record {
+    rising = up;
+    each = λ n. subst (λ found. FoundSays Says found (last_written ws n)) (sym (lookup_rising V text_cmp text_total text_exact name n es up)) (last_says n es ws h);
   }
 
   none_entered : {A : Type 0} (R : A → List ℕ → Type 0) (w : WrittenDeclared) (ts : List (List ℕ)) → AllZip R [] ts → AllZip (EntryOf name Says) [] (map (λ t. (t, w)) ts)

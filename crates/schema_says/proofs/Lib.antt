@@ -1,12 +1,12 @@
 mod BareTypes
 mod Declared
-mod Entered
+pub mod Entered
 mod Firsts
-mod Fragments
+pub mod Fragments
 mod Lawful
-mod Maps
+pub mod Maps
 mod Openings
-mod Orders
+pub mod Orders
 mod Proper
 mod Same
 mod SameFragments

@@ -130,12 +130,24 @@ module _ {K N : Type 0} (X : Type 0) (order : N → N → Ordering) (total : IsT
   map_rises es = with_rises [] es tt
 
   -- what stands beside a name, behind an entry with a name that is less or the same
-  abbrev found : N → List (K × X) → Option X
+  abbrev pub found : N → List (K × X) → Option X
   found n es = lookup (is_named n) es
 
-  none_above : (n : N) (es : List (K × X)) → AllByRecursion (λ y. order n y ≡ Less) (names_of es) → found n es ≡ None
+  pub none_above : (n : N) (es : List (K × X)) → AllByRecursion (λ y. order n y ≡ Less) (names_of es) → found n es ≡ None
   none_above n [] h = refl
   none_above n (e ∷ es) h = ap (λ c. cond (is_eq c) (Some e.1) (found n es)) h.0 ∙ none_above n es h.1
+
+  -- where the names rise, what stands beside a name is what stands there last
+  pub lookup_rising : (n : N) (es : List (K × X)) → IsStrictlySortedBy order (names_of es) → lookup (is_named n) es ≡ last_at (is_named n) es
+  lookup_rising n [] s = refl
+  lookup_rising n (e ∷ es) s =
+      by (is_named n e.0) refl (lookup_rising n es (sorted_tail order (name e.0) (names_of es) s))
+    where
+      beyond : is_named n e.0 ≡ true → found n es ≡ None
+      beyond h = none_above n es (subst (λ m. AllByRecursion (λ y. order m y ≡ Less) (names_of es)) (sym (exact n (name e.0) (is_equal (order n (name e.0)) h))) (sorted_head order (name e.0) (names_of es) s))
+      by : (b : Bool) → is_named n e.0 ≡ b → found n es ≡ last_at (is_named n) es → cond b (Some e.1) (found n es) ≡ option_or (last_at (is_named n) es) (cond b (Some e.1) None)
+      by true h r = ap (λ o. option_or o (Some e.1)) (sym (beyond h) ∙ r)
+      by false h r = r ∙ sym (or_nothing (last_at (is_named n) es))
 
   at_head : (e : K × X) (es : List (K × X)) → found (name e.0) (e ∷ es) ≡ Some e.1
   at_head e es = ap (λ c. cond (is_eq c) (Some e.1) (found (name e.0) es)) (tied_itself total (name e.0))
