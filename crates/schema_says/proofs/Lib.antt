@@ -3,8 +3,10 @@ mod Declared
 pub mod Entered
 mod Firsts
 pub mod Fragments
+pub mod Grouped
 mod Lawful
 pub mod Maps
+mod MeantSayable
 mod Openings
 pub mod Orders
 mod Proper

@@ -3,6 +3,7 @@ pub mod BareFragments
 pub mod DeclarationsSay
 pub mod Entries
 pub mod FragmentsSay
+pub mod MeantNames
 pub mod Named
 pub mod Sayable
 pub mod TypesSay

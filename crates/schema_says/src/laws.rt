@@ -2,6 +2,7 @@
 ghost use Rattle.std.specs.Prelude.{◌≡◌, ◌↔◌, Option, List, []};
 ghost use Rattle.std.specs.List.{AllByRecursion, AllZip, flat_map};
 ghost use Rattle.cedar_data.specs.Span.{Span};
+ghost use Rattle.cedar_names.specs.Meaning.{SchemaMeaning};
 ghost use Rattle.cedar_identifiers.specs.declared.raw_name.RawName.{RawName};
 ghost use Rattle.schema_syntax_tree.specs.declared.annotated.Annotated.{Annotated};
 ghost use Rattle.schema_syntax_tree.specs.declared.namespace.Namespace.{Namespace};
@@ -13,10 +14,12 @@ ghost use Rattle.schema_convert_types.specs.Types.{type_at};
 ghost use Rattle.schema_convert.specs.Faults.{translation_faults};
 ghost use Rattle.schema_convert.specs.Translated.{translated};
 ghost use Rattle.schema_readback.specs.Written.{WrittenType, WrittenItem};
+ghost use Rattle.schema_readback.specs.Meant.{groups_of_meaning};
 ghost use Rattle.schema_readback.specs.PrintedDecls.{Group, IsProperGroup, group_items};
 ghost use Rattle.schema_readback.specs.Shows.{ShowsType, SaysItem};
 ghost use Rattle.schema_says.specs.Bare.{bare};
 ghost use Rattle.schema_says.specs.BareFragments.{bare_fragment};
+ghost use Rattle.schema_says.specs.MeantNames.{HasOpenNames};
 ghost use Rattle.schema_says.specs.Named.{IsNamedType, IsWellNamed};
 ghost use Rattle.schema_says.specs.Sayable.{IsSayable};
 ghost use Rattle.schema_says.specs.TypesSay.{TypeSays};
@@ -66,4 +69,9 @@ pub fn trees_that_say_the_same()
 /// What is laid out has names.
 pub fn proper_groups_are_named()
     ensures { (groups : List Group) → AllByRecursion IsProperGroup groups → AllByRecursion IsWellNamed (flat_map group_items groups) }
+{}
+
+/// What is written of a meaning whose names may be declared can be translated.
+pub fn meanings_can_be_translated()
+    ensures { (m : SchemaMeaning) → HasOpenNames m → IsSayable (flat_map group_items (groups_of_meaning m)) }
 {}
