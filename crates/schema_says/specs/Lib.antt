@@ -6,4 +6,5 @@ pub mod FragmentsSay
 pub mod MeantNames
 pub mod Named
 pub mod Sayable
+pub mod TranslatedAs
 pub mod TypesSay

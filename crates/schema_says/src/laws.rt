@@ -1,7 +1,8 @@
 //! Laws of what fragments say. Each law is what its function ensures.
-ghost use Rattle.std.specs.Prelude.{◌≡◌, ◌↔◌, Option, List, []};
+ghost use Rattle.std.specs.Prelude.{◌≡◌, ◌↔◌, Bool, ℕ, Option, List, []};
 ghost use Rattle.std.specs.List.{AllByRecursion, AllZip, flat_map};
 ghost use Rattle.cedar_data.specs.Span.{Span};
+ghost use Rattle.cedar_names.specs.CanonicalText.{schema_text};
 ghost use Rattle.cedar_names.specs.Meaning.{SchemaMeaning};
 ghost use Rattle.cedar_identifiers.specs.declared.raw_name.RawName.{RawName};
 ghost use Rattle.schema_syntax_tree.specs.declared.annotated.Annotated.{Annotated};
@@ -16,16 +17,19 @@ ghost use Rattle.schema_convert.specs.Translated.{translated};
 ghost use Rattle.schema_readback.specs.Written.{WrittenType, WrittenItem};
 ghost use Rattle.schema_readback.specs.Meant.{groups_of_meaning};
 ghost use Rattle.schema_readback.specs.PrintedDecls.{Group, IsProperGroup, group_items};
+ghost use Rattle.schema_readback.specs.ReadsBack.{ReadsBack};
 ghost use Rattle.schema_readback.specs.Shows.{ShowsType, SaysItem};
 ghost use Rattle.schema_says.specs.Bare.{bare};
 ghost use Rattle.schema_says.specs.BareFragments.{bare_fragment};
 ghost use Rattle.schema_says.specs.MeantNames.{HasOpenNames};
 ghost use Rattle.schema_says.specs.Named.{IsNamedType, IsWellNamed};
 ghost use Rattle.schema_says.specs.Sayable.{IsSayable};
+ghost use Rattle.schema_says.specs.TranslatedAs.{IsTranslatedAs};
 ghost use Rattle.schema_says.specs.TypesSay.{TypeSays};
 ghost use Rattle.schema_says.specs.FragmentsSay.{FragmentSays};
 
 use schema_convert::laws::lawful_trees;
+use schema_readback::laws::texts_of_meanings_read_back;
 
 /// What a tree's type says, the fragment's type says that it becomes.
 pub fn types_say_what_trees_say()
@@ -75,3 +79,21 @@ pub fn proper_groups_are_named()
 pub fn meanings_can_be_translated()
     ensures { (m : SchemaMeaning) → HasOpenNames m → IsSayable (flat_map group_items (groups_of_meaning m)) }
 {}
+
+/// A text that reads back as what can be translated has a fragment that says it.
+pub fn texts_that_read_back_are_translated()
+    ensures { (text : List ℕ) (w : List WrittenItem) → ReadsBack text w → AllByRecursion IsWellNamed w → IsSayable w → IsTranslatedAs text w }
+{
+    faults_depend_on_what_is_said();
+    fragments_say_what_trees_say();
+}
+
+/// The text of a meaning, in either layout, has a fragment that says what is written of the meaning.
+pub fn texts_of_meanings_are_translated()
+    ensures { (closing : Bool) (m : SchemaMeaning) → AllByRecursion IsProperGroup (groups_of_meaning m) → HasOpenNames m → IsTranslatedAs (schema_text closing m) (flat_map group_items (groups_of_meaning m)) }
+{
+    texts_of_meanings_read_back();
+    proper_groups_are_named();
+    meanings_can_be_translated();
+    texts_that_read_back_are_translated();
+}
