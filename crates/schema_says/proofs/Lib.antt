@@ -6,6 +6,7 @@ pub mod Fragments
 pub mod Grouped
 mod Lawful
 pub mod Maps
+mod MeantProper
 mod MeantSayable
 mod Openings
 pub mod Orders
