@@ -124,7 +124,7 @@ parents_say (Some (r ∷ rs)) = all_parents_say (r ∷ rs)
 context_at : (s : «Type» RawName) (o : Outer) → out-Type RawName s ≡ o → cedar_context s ≡ cedar_outside o s
 context_at s o e = ap (λ x. cedar_outside x s) e
 
-common_printed : (s : «Type» RawName) (n : RawName) (loc : Option Span) → out-Type RawName s ≡ Type-F.CommonTypeRef n loc → printed s ≡ path (components_of n.name)
+pub common_printed : (s : «Type» RawName) (n : RawName) (loc : Option Span) → out-Type RawName s ≡ Type-F.CommonTypeRef n loc → printed s ≡ path (components_of n.name)
 common_printed s n loc e =
     type_made (type_layer written_components) (variant_layer written_components) (record_layer written_components) (attribute_layer written_components) s (Type-F.CommonTypeRef n loc) e ∙ ap path (name_bytes n.name)
 

@@ -32,6 +32,7 @@ use Rattle.schema_says.specs.Entries.{FoundSays, EntriesSay, last_written}
 use Rattle.schema_says.specs.FragmentsSay.{entities_of_decl, actions_of_decl, commons_of_decl, by_names, WrittenNamespace, NamespaceSays, NamespaceName, namespace_order, name_components, name_of_item, notes_of_item, decls_of_item, is_of_namespace, items_of_namespace, opened, written_in, FragmentSays}
 use Rattle.schema_says.proofs.Entered.{EntryOf, rising_say}
 use Rattle.schema_says.proofs.Fragments.{found_same}
+use Rattle.schema_says.proofs.Grouped.{outside_decls, outside_notes, filter_append, items_at}
 use Rattle.schema_says.proofs.Maps.{is_equal}
 use Rattle.schema_says.proofs.Orders.{text_total, text_exact, namespace_total, namespace_exact}
 use Rattle.schema_print_says.specs.CedarForm.{cedar_common, cedar_entity, cedar_action, changed_values, cedar_namespace, is_some_list, declares, Block, cedar_block, cedar_form}
@@ -83,13 +84,13 @@ entity_text id = id.id.text
 abbrev action_text : List ℕ → List ℕ
 action_text id = id
 
-abbrev CommonSo : CommonEntry → WrittenDeclared → Type 0
+abbrev pub CommonSo : CommonEntry → WrittenDeclared → Type 0
 CommonSo = CommonAs written_components
 
-abbrev EntitySo : EntityEntry → WrittenDeclared → Type 0
+abbrev pub EntitySo : EntityEntry → WrittenDeclared → Type 0
 EntitySo = EntityAs written_components
 
-abbrev ActionSo : ActionEntry → WrittenDeclared → Type 0
+abbrev pub ActionSo : ActionEntry → WrittenDeclared → Type 0
 ActionSo = ActionAs written_components
 
 abbrev PlainCommon : CommonEntry → Type 0
@@ -141,51 +142,19 @@ module _ (b : Block) (ds : List WrittenDeclared) (h : AreItemsOf written_compone
   }
 
 -- the items of a group stand in its namespace
-outside_decls : (ds : List WrittenDeclared) → flat_map decls_of_item (map outside ds) ≡ ds
-outside_decls [] = refl
-outside_decls (d ∷ ds) = ap (λ l. d ∷ l) (outside_decls ds)
-
-outside_notes : (ds : List WrittenDeclared) → flat_map notes_of_item (map outside ds) ≡ []
-outside_notes [] = refl
-outside_notes (d ∷ ds) = outside_notes ds
-
-name_is : (key : Option Name) → written_name key ≡ name_components key
+pub name_is : (key : Option Name) → written_name key ≡ name_components key
 name_is None = refl
 name_is (Some n) = ap Some (name_bytes n.name)
 
 module _ (q : NamespaceName) where
-  abbrev is_block : Block → Bool
+  abbrev pub is_block : Block → Bool
   is_block b = is_at (namespace_order q) (name_components b.0)
 
   abbrev found : List Block → Option Definition
   found bs = lookup (λ k. is_at (namespace_order q) (name_components k)) (filter_map cedar_block bs)
 
-  filter_append : (xs ys : List WrittenItem) → items_of_namespace q (xs ++ ys) ≡ items_of_namespace q xs ++ items_of_namespace q ys
-  filter_append [] ys = refl
-  filter_append (x ∷ xs) ys = ap (λ l. cond (is_of_namespace q x) (x ∷ l) l) (filter_append xs ys) ∙ by (is_of_namespace q x)
-    where
-      by : (t : Bool) → cond t (x ∷ (items_of_namespace q xs ++ items_of_namespace q ys)) (items_of_namespace q xs ++ items_of_namespace q ys) ≡ cond t (x ∷ items_of_namespace q xs) (items_of_namespace q xs) ++ items_of_namespace q ys
-      by true = refl
-      by false = refl
-
-  outside_at : (ds : List WrittenDeclared) → items_of_namespace q (map outside ds) ≡ cond (is_at (namespace_order q) None) (map outside ds) []
-  outside_at [] = by (is_at (namespace_order q) None)
-    where
-      by : (t : Bool) → [] ≡ cond {A = List WrittenItem} t [] []
-      by true = refl
-      by false = refl
-  outside_at (d ∷ ds) = ap (λ l. cond (is_at (namespace_order q) None) (outside d ∷ l) l) (outside_at ds) ∙ by (is_at (namespace_order q) None)
-    where
-      by : (t : Bool) → cond {A = List WrittenItem} t (outside d ∷ cond t (map outside ds) []) (cond t (map outside ds) []) ≡ cond t (outside d ∷ map outside ds) []
-      by true = refl
-      by false = refl
-
-  items_at : (notes : Notes) (name : NamespaceName) (ds : List WrittenDeclared) → items_of_namespace q (namespace_items notes name ds) ≡ cond (is_at (namespace_order q) name) (namespace_items notes name ds) []
-  items_at notes None ds = outside_at ds
-  items_at notes (Some p) ds = refl
-
-  group_at : (b : Block) (g : Group) → IsGroupOf written_components b g → items_of_namespace q (group_items g) ≡ cond (is_block b) (group_items g) []
-  group_at b g h = items_at g.notes g.name g.decls ∙ ap (λ n. cond (is_at (namespace_order q) n) (group_items g) []) (h.name ∙ name_is b.0)
+  pub group_at : (b : Block) (g : Group) → IsGroupOf written_components b g → items_of_namespace q (group_items g) ≡ cond (is_block b) (group_items g) []
+  group_at b g h = items_at q g.notes g.name g.decls ∙ ap (λ n. cond (is_at (namespace_order q) n) (group_items g) []) (h.name ∙ name_is b.0)
 
   -- a block of another name is not found
   passed : (b : Block) (bs : List Block) → is_block b ≡ false → found (b ∷ bs) ≡ found bs
@@ -204,13 +173,13 @@ module _ (q : NamespaceName) where
   none_found [] h = refl
   none_found (b ∷ bs) h = passed b bs (none_less b h.0) ∙ none_found bs h.1
 
-  none_written : (bs : List Block) (gs : List Group) → AllZip (IsGroupOf written_components) bs gs → AllByRecursion (λ y. namespace_order q y ≡ Less) (map (λ e. name_components e.0) bs)
+  pub none_written : (bs : List Block) (gs : List Group) → AllZip (IsGroupOf written_components) bs gs → AllByRecursion (λ y. namespace_order q y ≡ Less) (map (λ e. name_components e.0) bs)
       → items_of_namespace q (flat_map group_items gs) ≡ []
   none_written [] [] z h = refl
   none_written [] (g ∷ gs) z h = absurd z
   none_written (b ∷ bs) [] z h = absurd z
   none_written (b ∷ bs) (g ∷ gs) z h =
-      filter_append (group_items g) (flat_map group_items gs)
+      filter_append q (group_items g) (flat_map group_items gs)
       ∙ ((λ i. (group_at b g z.0 ∙ ap (λ t. cond t (group_items g) []) (none_less b h.0)) i ++ none_written bs gs z.1 h.1 i))
 
 -- whether something is declared

@@ -65,10 +65,10 @@ record_printed r =
     fold_out-RecordType RawName WrittenType WrittenType WrittenAttributes PrintedAttribute (type_layer written_components) (variant_layer written_components) (record_layer written_components) (attribute_layer written_components) r
     ∙ entries_made (attributes_of r)
 
-abbrev PrintedAs : PrintedAttribute → TypeOfAttribute RawName → Type 0
+abbrev pub PrintedAs : PrintedAttribute → TypeOfAttribute RawName → Type 0
 PrintedAs p a = p ≡ record { notes = (out-TypeOfAttribute RawName a).annotations.0; required = (out-TypeOfAttribute RawName a).required; ty = printed (out-TypeOfAttribute RawName a).ty }
 
-attribute_printed : (a : TypeOfAttribute RawName) → PrintedAs (printed_attribute written_components a) a
+pub attribute_printed : (a : TypeOfAttribute RawName) → PrintedAs (printed_attribute written_components a) a
 attribute_printed a =
     fold_out-TypeOfAttribute RawName WrittenType WrittenType WrittenAttributes PrintedAttribute (type_layer written_components) (variant_layer written_components) (record_layer written_components) (attribute_layer written_components) a
 
@@ -187,56 +187,56 @@ chosen true true a rest Here There none h t = absurd (true≢false (none refl))
 chosen true false a rest Here There none h t = h
 chosen false has a rest Here There none h t = t
 
-path_is : (a b : List (List ℕ)) → path a ≡ path b → a ≡ b
+pub path_is : (a b : List (List ℕ)) → path a ≡ path b → a ≡ b
 path_is a b h = cc
 
-set_is : (a b : WrittenType) → set a ≡ set b → a ≡ b
+pub set_is : (a b : WrittenType) → set a ≡ set b → a ≡ b
 set_is a b h = cc
 
-record_attributes : (a b : WrittenAttributes) → rec a ≡ rec b → a ≡ b
+pub record_attributes : (a b : WrittenAttributes) → rec a ≡ rec b → a ≡ b
 record_attributes a b h = cc
 
 -- what is of one kind is not of another
-abbrev IsNoPath : WrittenType → Type 0
+abbrev pub IsNoPath : WrittenType → Type 0
 IsNoPath (path p) = ⊥
 IsNoPath (set t) = Unit {0}
 IsNoPath (rec xs) = Unit {0}
 
-abbrev IsNoSet : WrittenType → Type 0
+abbrev pub IsNoSet : WrittenType → Type 0
 IsNoSet (path p) = Unit {0}
 IsNoSet (set t) = ⊥
 IsNoSet (rec xs) = Unit {0}
 
-abbrev IsNoRecord : WrittenType → Type 0
+abbrev pub IsNoRecord : WrittenType → Type 0
 IsNoRecord (path p) = Unit {0}
 IsNoRecord (set t) = Unit {0}
 IsNoRecord (rec xs) = ⊥
 
-abbrev HasMore : WrittenAttributes → Type 0
+abbrev pub HasMore : WrittenAttributes → Type 0
 HasMore no_more = ⊥
 HasMore (attribute ns n r t xs) = Unit {0}
 
-no_path : {X : Type 0} (t : WrittenType) (p : List (List ℕ)) → t ≡ path p → IsNoPath t → X
+pub no_path : {X : Type 0} (t : WrittenType) (p : List (List ℕ)) → t ≡ path p → IsNoPath t → X
 no_path t p e h = absurd (subst IsNoPath e h)
 
-no_set : {X : Type 0} (t u : WrittenType) → t ≡ set u → IsNoSet t → X
+pub no_set : {X : Type 0} (t u : WrittenType) → t ≡ set u → IsNoSet t → X
 no_set t u e h = absurd (subst IsNoSet e h)
 
-no_record : {X : Type 0} (t : WrittenType) (xs : WrittenAttributes) → t ≡ rec xs → IsNoRecord t → X
+pub no_record : {X : Type 0} (t : WrittenType) (xs : WrittenAttributes) → t ≡ rec xs → IsNoRecord t → X
 no_record t xs e h = absurd (subst IsNoRecord e h)
 
-no_none : {X : Type 0} (xs : WrittenAttributes) → xs ≡ no_more → HasMore xs → X
+pub no_none : {X : Type 0} (xs : WrittenAttributes) → xs ≡ no_more → HasMore xs → X
 no_none xs e h = absurd (subst HasMore e h)
 
 -- an attribute that is another has its parts
-record Alike (ns ms : Notes) (n m : List ℕ) (r q : Bool) (t u : WrittenType) (xs ys : WrittenAttributes) : Type 0 where
-  notes : ns ≡ ms
-  name : n ≡ m
-  required : r ≡ q
-  ty : t ≡ u
-  others : xs ≡ ys
+pub record Alike (ns ms : Notes) (n m : List ℕ) (r q : Bool) (t u : WrittenType) (xs ys : WrittenAttributes) : Type 0 where
+  pub notes : ns ≡ ms
+  pub name : n ≡ m
+  pub required : r ≡ q
+  pub ty : t ≡ u
+  pub others : xs ≡ ys
 
-alike : (ns ms : Notes) (n m : List ℕ) (r q : Bool) (t u : WrittenType) (xs ys : WrittenAttributes) → attribute ns n r t xs ≡ attribute ms m q u ys → Alike ns ms n m r q t u xs ys
+pub alike : (ns ms : Notes) (n m : List ℕ) (r q : Bool) (t u : WrittenType) (xs ys : WrittenAttributes) → attribute ns n r t xs ≡ attribute ms m q u ys → Alike ns ms n m r q t u xs ys
 alike ns ms n m r q t u xs ys h = record { notes = cc; name = cc; required = cc; ty = cc; others = cc }
 
 mutual

@@ -8,6 +8,7 @@ use Rattle.cedar_identifiers.specs.declared.annotations.Annotations.{Annotations
 use Rattle.cedar_identifiers.specs.declared.any_id.AnyId.{AnyId}
 use Rattle.cedar_identifiers.specs.declared.name.Name.{Name}
 use Rattle.cedar_identifiers.specs.declared.raw_name.RawName.{RawName}
+use Rattle.schema_json.specs.Keywords.{is_keyword_name}
 use Rattle.schema_json.specs.declared.types.Type.{«Type», Type-F, out-Type, fold-Type}
 use Rattle.schema_json.specs.declared.types.TypeVariant.{TypeVariant, TypeVariant-F, fold-TypeVariant}
 use Rattle.schema_json.specs.declared.types.RecordType.{RecordType, RecordType-F, fold-RecordType}
@@ -20,6 +21,8 @@ use Rattle.schema_json.specs.declared.fragment.Fragment.{Fragment}
 use Rattle.schema_json.specs.declared.fragment.NamespaceDefinition.{NamespaceDefinition}
 use Rattle.schema_convert_types.specs.Declarations.{as_written}
 use Rattle.schema_readback.specs.Written.{WrittenType, WrittenAttributes, path, set, rec, no_more, attribute}
+use Rattle.schema_readback.specs.Printed.{AreProperNotes}
+use Rattle.schema_readback.specs.PrintedDecls.{IsSome}
 use Rattle.schema_print_text.specs.PrintedTypes.{printed_type}
 use Rattle.schema_says.specs.FragmentsSay.{namespace_order, name_components}
 use Rattle.schema_print_says.specs.CedarForm.{Block}
@@ -66,7 +69,7 @@ attribute_names no_more = []
 attribute_names (attribute ns n r t xs) = n ∷ attribute_names xs
 
 abbrev mutual
-  -- the attributes of each record rise by their names
+  -- the attributes of each record rise by their names, and the annotations of each by their keys
   pub IsRisingType : WrittenType → Type 0
   IsRisingType (path p) = Unit {0}
   IsRisingType (set t) = IsRisingType t
@@ -74,7 +77,7 @@ abbrev mutual
 
   pub AreRisingAttributes : WrittenAttributes → Type 0
   AreRisingAttributes no_more = Unit {0}
-  AreRisingAttributes (attribute ns n r t xs) = IsRisingType t × AreRisingAttributes xs
+  AreRisingAttributes (attribute ns n r t xs) = IsRisingType t × AreRisingAttributes xs × AreProperNotes ns
 
 -- every record in it is closed, and has its attributes by rising names
 abbrev pub IsPlainType : «Type» RawName → Type 0
@@ -88,12 +91,12 @@ ArePlainTags (Some s) = IsPlainType s
 abbrev pub IsBareType : «Type» RawName → Type 0
 IsBareType s = (is_closed_type s ≡ true) × (printed_type written_components s ≡ rec no_more)
 
--- one of another schema has neither attributes nor tags
+-- one of another schema has neither attributes nor tags, and an enum has a choice
 abbrev pub IsPlainKind : Bool → EntityTypeKind RawName → Type 0
 IsPlainKind true (Standard e) = IsBareType e.shape.0 × (e.tags ≡ None)
 IsPlainKind true (Enum choices) = ⊥
 IsPlainKind false (Standard e) = IsPlainType e.shape.0 × ArePlainTags e.tags
-IsPlainKind false (Enum choices) = Unit {0}
+IsPlainKind false (Enum choices) = IsSome choices
 
 abbrev pub IsWrittenRecord : WrittenType → Type 0
 IsWrittenRecord (rec xs) = Unit {0}
@@ -132,12 +135,17 @@ pub record IsPlainNamespace (p : Block) : Type 0 where
   pub commons_rise : IsStrictlySortedBy text_cmp (map (λ e. e.0.id.id.text) p.1.common_types)
   pub entities_rise : IsStrictlySortedBy text_cmp (map (λ e. e.0.id.text) p.1.entity_types)
   pub actions_rise : IsStrictlySortedBy text_cmp (map (λ e. e.0) p.1.actions)
+  pub commons_open : AllByRecursion (λ e. is_keyword_name e.0.id.id.text ≡ false) p.1.common_types
+  pub common_notes : AllByRecursion (λ e. AreProperNotes e.1.annotations.0) p.1.common_types
+  pub entity_notes : AllByRecursion (λ e. AreProperNotes e.1.annotations.0) p.1.entity_types
+  pub action_notes : AllByRecursion (λ e. AreProperNotes e.1.annotations.0) p.1.actions
   pub commons : AllByRecursion (λ e. IsPlainType e.1.ty) p.1.common_types
   pub entities : AllByRecursion (λ e. IsPlainKind e.1.external e.1.kind) p.1.entity_types
   pub actions : AllByRecursion (λ e. (e.1.attributes ≡ None) × AppliesPlainly e.1.external e.1.applies_to) p.1.actions
 
 -- Its text can say it: its maps and records rise by their keys, its records are closed, items of other schemas are bare,
--- contexts are records or common types, and an action applies to principals and resources, or to nothing.
+-- contexts are records or common types, an action applies to principals and resources, or to nothing, and no common type
+-- has one of the eight words as its name.
 pub record IsPlainFragment (f : Fragment RawName as_written) : Type 0 where
   pub names_rise : IsStrictlySortedBy namespace_order (map (λ e. name_components e.0) f.0)
   pub each : AllByRecursion IsPlainNamespace f.0

@@ -7,7 +7,7 @@ pub mod Grouped
 mod Lawful
 pub mod Maps
 mod MeantProper
-mod MeantSayable
+pub mod MeantSayable
 mod Openings
 pub mod Orders
 mod Proper

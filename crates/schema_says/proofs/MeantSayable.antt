@@ -44,7 +44,7 @@ AreApart (x ∷ xs) = AllByRecursion (λ y. x ≡ y → ⊥) xs × AreApart xs
 
 -- items of which none passes the test with one before it
 module _ {A : Type 0} (test : A → A → Bool) where
-  abbrev AreUnlike : List A → Type 0
+  abbrev pub AreUnlike : List A → Type 0
   AreUnlike [] = Unit {0}
   AreUnlike (x ∷ xs) = AllByRecursion (λ y. test y x ≡ false) xs × AreUnlike xs
 
@@ -56,7 +56,7 @@ module _ {A : Type 0} (test : A → A → Bool) where
   unlike_at [] after x h = refl
   unlike_at (b ∷ before) after x h = ap (λ t. cond t (Some b) (find (test x) before)) (last_unlike b before after x h.0) ∙ unlike_at before after x h.1
 
-  unlike_once : (xs : List A) → AreUnlike xs → (before after : List A) (x : A) → xs ≡ before ++ x ∷ after → find (test x) before ≡ None
+  pub unlike_once : (xs : List A) → AreUnlike xs → (before after : List A) (x : A) → xs ≡ before ++ x ∷ after → find (test x) before ≡ None
   unlike_once xs h before after x e = unlike_at before after x (subst AreUnlike e h)
 
 differs : (x y : List ℕ) → (y ≡ x → ⊥) → is_eq (text_cmp x y) ≡ false
@@ -67,7 +67,7 @@ differs x y h = by (text_cmp x y) refl
     by Equal e = absurd (h (sym (text_exact x y e)))
     by Greater e = refl
 
-abbrev same_text : List ℕ → List ℕ → Bool
+abbrev pub same_text : List ℕ → List ℕ → Bool
 same_text x y = is_eq (text_cmp x y)
 
 apart_unlike : (xs : List (List ℕ)) → AreApart xs → AreUnlike same_text xs
@@ -200,7 +200,7 @@ action_names : (x : Bool) (a : ActionMeaning) → (entities_of_decl (action_as x
 action_names true a = (refl, refl, refl, tt)
 action_names false a = (refl, refl, refl, members_lawful a.principals a.resources a.context)
 
-names_append : (f : WrittenDecl → List (List ℕ)) (xs ys : List WrittenDeclared) → names_written f (xs ++ ys) ≡ names_written f xs ++ names_written f ys
+pub names_append : (f : WrittenDecl → List (List ℕ)) (xs ys : List WrittenDeclared) → names_written f (xs ++ ys) ≡ names_written f xs ++ names_written f ys
 names_append f [] ys = refl
 names_append f (x ∷ xs) ys = ap (λ l. f x.decl ++ l) (names_append f xs ys) ∙ sym (append_assoc (f x.decl) (names_written f xs) (names_written f ys))
 
@@ -213,11 +213,11 @@ module _ (f : WrittenDecl → List (List ℕ)) where
   actions_give of h [] = refl
   actions_give of h (e ∷ es) = let rest = actions_give of h es in λ i. h e i ++ rest i
 
-flat_one : {A : Type 0} (f : A → List ℕ) (xs : List A) → flat_map (λ x. f x ∷ []) xs ≡ map f xs
+pub flat_one : {A : Type 0} (f : A → List ℕ) (xs : List A) → flat_map (λ x. f x ∷ []) xs ≡ map f xs
 flat_one f [] = refl
 flat_one f (x ∷ xs) = ap (λ l. f x ∷ l) (flat_one f xs)
 
-flat_none : {A : Type 0} (xs : List A) → flat_map {X = A} {A = List ℕ} (λ x. []) xs ≡ []
+pub flat_none : {A : Type 0} (xs : List A) → flat_map {X = A} {A = List ℕ} (λ x. []) xs ≡ []
 flat_none [] = refl
 flat_none (x ∷ xs) = flat_none xs
 
@@ -229,7 +229,7 @@ actions_apply : (es : List ActionMeaning) → AllByRecursion (λ (d : WrittenDec
 actions_apply [] = tt
 actions_apply (e ∷ es) = ((action_names e.is_external e).3, actions_apply es)
 
-all_with : {A : Type 0} (P : A → Type 0) (xs ys : List A) → AllByRecursion P xs → AllByRecursion P ys → AllByRecursion P (xs ++ ys)
+pub all_with : {A : Type 0} (P : A → Type 0) (xs ys : List A) → AllByRecursion P xs → AllByRecursion P ys → AllByRecursion P (xs ++ ys)
 all_with P [] ys h k = k
 all_with P (x ∷ xs) ys h k = (h.0, all_with P xs ys h.1 k)
 
