@@ -1,4 +1,5 @@
 mod CedarDecls
 mod CedarFragments
+mod CedarProper
 mod CedarTypes
 mod Folds

@@ -1,11 +1,11 @@
 //! Laws of what printed fragments say. Each law is what its function ensures; the functions do nothing.
 ghost use Rattle.std.specs.Prelude.{List};
-ghost use Rattle.std.specs.List.{flat_map};
+ghost use Rattle.std.specs.List.{AllByRecursion, flat_map};
 ghost use Rattle.cedar_identifiers.specs.declared.raw_name.RawName.{RawName};
 ghost use Rattle.schema_json.specs.declared.types.Type.{«Type»};
 ghost use Rattle.schema_json.specs.declared.fragment.Fragment.{Fragment};
 ghost use Rattle.schema_convert_types.specs.Declarations.{as_written};
-ghost use Rattle.schema_readback.specs.PrintedDecls.{Group, group_items};
+ghost use Rattle.schema_readback.specs.PrintedDecls.{Group, IsProperGroup, group_items};
 ghost use Rattle.schema_print_text.specs.PrintedTypes.{printed_type};
 ghost use Rattle.schema_print.specs.FragmentGroups.{AreGroupsOf};
 ghost use Rattle.schema_says.specs.TypesSay.{TypeSays};
@@ -21,4 +21,9 @@ pub fn types_are_printed_in_cedar_form()
 /// What is written of a fragment, the fragment says in the form that its text has.
 pub fn fragments_are_printed_in_cedar_form()
     ensures { (f : Fragment RawName as_written) (groups : List Group) → AreGroupsOf written_components f groups → IsPlainFragment f → FragmentSays (cedar_form f) (flat_map group_items groups) }
+{}
+
+/// What is written of a fragment whose text can say it may be printed.
+pub fn plain_fragments_may_be_printed()
+    ensures { (f : Fragment RawName as_written) (groups : List Group) → AreGroupsOf written_components f groups → IsPlainFragment f → AllByRecursion IsProperGroup groups }
 {}
