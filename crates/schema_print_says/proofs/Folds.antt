@@ -1,5 +1,5 @@
 -- What a fold makes of a type, by what the type holds; and that names are their bytes.
-use Rattle.std.proofs.Common.{◌≡◌, ℕ, ◌<◌, true, List, [], ◌∷◌, map, refl, sym, ap, ◌∙◌, arith}
+use Rattle.std.proofs.Common.{◌≡◌, ℕ, ◌<◌, true, List, [], ◌∷◌, refl, ap, ◌∙◌, arith}
 use Rattle.std.specs.List.{list_all}
 use Rattle.std.specs.Str.{IsAscii, encode_utf8_all}
 use Rattle.std.specs.Cmp.{first_so, second_so}
@@ -8,7 +8,6 @@ use Rattle.std.proofs.lemmas.Str.Ascii.{IsAscii-nil, IsAscii-cons}
 use Rattle.std.proofs.lemmas.Bool.Decides.{nat_tests}
 use Rattle.cedar_data.specs.Words.{is_word_start, is_word_part, is_word}
 use Rattle.cedar_identifiers.specs.Names.{components_of, texts_of}
-use Rattle.cedar_identifiers.specs.Words.{is_id, is_reserved}
 use Rattle.cedar_identifiers.specs.declared.id.Id.{Id}
 use Rattle.cedar_identifiers.specs.declared.internal_name.InternalName.{InternalName}
 use Rattle.cedar_identifiers.specs.declared.raw_name.RawName.{RawName}
@@ -24,7 +23,8 @@ Outer = Type-F RawName («Type» RawName) (TypeVariant RawName) (RecordType RawN
 abbrev pub Inner : Type 0
 Inner = TypeVariant-F RawName («Type» RawName) (TypeVariant RawName) (RecordType RawName) (TypeOfAttribute RawName)
 
-module _ {A B C D : Type 0} (f : Type-F RawName A B C D → A) (g : TypeVariant-F RawName A B C D → B) (h : RecordType-F RawName A B C D → C) (k : TypeOfAttribute-F RawName A B C D → D) where
+module _ {A B C D : Type 0} (f : Type-F RawName A B C D → A) (g : TypeVariant-F RawName A B C D → B)
+    (h : RecordType-F RawName A B C D → C) (k : TypeOfAttribute-F RawName A B C D → D) where
   abbrev of_type : «Type» RawName → A
   of_type = fold-Type RawName A B C D f g h k
 
@@ -58,12 +58,14 @@ start_part b h = grind (arith, nat_tests)
 
 parts_ascii : (bs : List ℕ) → list_all is_word_part bs ≡ true → IsAscii bs
 parts_ascii [] h = IsAscii-nil
-parts_ascii (b ∷ bs) h = IsAscii-cons b bs (part_ascii b (first_so (is_word_part b) (list_all is_word_part bs) h)) (parts_ascii bs (second_so (is_word_part b) (list_all is_word_part bs) h))
+parts_ascii (b ∷ bs) h = IsAscii-cons b bs (part_ascii b (first_so (is_word_part b) (list_all is_word_part bs) h))
+    (parts_ascii bs (second_so (is_word_part b) (list_all is_word_part bs) h))
 
 word_ascii : (w : List ℕ) → is_word w ≡ true → IsAscii w
 word_ascii [] h = IsAscii-nil
 word_ascii (b ∷ bs) h =
-    IsAscii-cons b bs (part_ascii b (start_part b (first_so (is_word_start b) (list_all is_word_part bs) h))) (parts_ascii bs (second_so (is_word_start b) (list_all is_word_part bs) h))
+    IsAscii-cons b bs (part_ascii b (start_part b (first_so (is_word_start b) (list_all is_word_part bs) h)))
+    (parts_ascii bs (second_so (is_word_start b) (list_all is_word_part bs) h))
 
 id_bytes : (i : Id) → encode_utf8_all i.text ≡ i.text
 id_bytes i = encodes-IsAscii i.text (word_ascii i.text (first_so (is_word i.text) _ i.word))

@@ -1,6 +1,6 @@
--- A fragment in the form that its text has: each reference in a type may mean either, and what each schema has is referred
--- to by its `__cedar` name.
-use Rattle.std.specs.Prelude.{◌≡◌, ℕ, Bool, true, false, List, [], ◌∷◌, ◌||◌, not, map, codes, Option, Some, None, refl, if◌then◌else◌}
+-- A fragment in the form that its text has: each reference in a type may mean either kind of type, and what each schema
+-- has is referred to by its `__cedar` name.
+use Rattle.std.specs.Prelude.{ℕ, Bool, true, false, List, [], ◌∷◌, ◌||◌, map, codes, Option, Some, None, refl, if◌then◌else◌}
 use Rattle.std.specs.List.{filter_map}
 use Rattle.std.specs.Option.{option_map}
 use Rattle.cedar_identifiers.specs.declared.id.Id.{Id}
@@ -15,7 +15,6 @@ use Rattle.schema_json.specs.declared.types.RecordType.{RecordType, roll-RecordT
 use Rattle.schema_json.specs.declared.types.TypeOfAttribute.{TypeOfAttribute, roll-TypeOfAttribute, fold-TypeOfAttribute}
 use Rattle.schema_json.specs.declared.common_type.CommonType.{CommonType}
 use Rattle.schema_json.specs.declared.common_type.CommonTypeId.{CommonTypeId}
-use Rattle.schema_json.specs.declared.entity_type.AttributesOrContext.{AttributesOrContext}
 use Rattle.schema_json.specs.declared.entity_type.EntityType.{EntityType}
 use Rattle.schema_json.specs.declared.entity_type.EntityTypeKind.{EntityTypeKind}
 use Rattle.schema_json.specs.declared.entity_type.EntityTypeKind.TheVariants.{Standard, Enum}
@@ -46,7 +45,8 @@ string_name = builtin_name (record { text = codes "String"; word = refl })
 abbrev either_way : RawName → TypeVariant RawName
 either_way name = roll-TypeVariant RawName (TypeVariant-F.EntityOrCommon name)
 
-abbrev pub cedar_layer : Type-F RawName («Type» RawName) (TypeVariant RawName) (RecordType RawName) (TypeOfAttribute RawName)
+abbrev pub cedar_layer : Type-F RawName («Type» RawName) (TypeVariant RawName) (RecordType RawName)
+    (TypeOfAttribute RawName)
     → «Type» RawName
 cedar_layer (Type-F.Variant ty loc) = roll-Type RawName (Type-F.Variant ty loc)
 cedar_layer (Type-F.CommonTypeRef name loc) = roll-Type RawName (Type-F.Variant (either_way name) loc)
@@ -99,7 +99,12 @@ cedar_common c = record { ty = cedar_type c.ty; annotations = c.annotations; loc
 
 abbrev pub cedar_kind : EntityTypeKind RawName → EntityTypeKind RawName
 cedar_kind (Standard s) =
-    Standard (record { member_of_types = s.member_of_types; shape = record { 0 = cedar_type s.shape.0 }; tags = option_map cedar_type s.tags })
+    Standard (record {
+      member_of_types = s.member_of_types;
+      shape = record { 0 = cedar_type s.shape.0 };
+      tags =
+          option_map cedar_type s.tags;
+    })
 cedar_kind (Enum choices) = Enum choices
 
 abbrev pub cedar_entity : EntityType RawName → EntityType RawName
@@ -107,7 +112,8 @@ cedar_entity e = record { kind = cedar_kind e.kind; external = e.external; annot
 
 -- a parent without a type has the type `Action`
 abbrev pub action_type_name : RawName
-action_type_name = record { name = record { first = record { text = codes "Action"; word = refl }; others = []; loc = None } }
+action_type_name =
+    record { name = record { first = record { text = codes "Action"; word = refl }; others = []; loc = None } }
 
 abbrev pub type_or_action : Option RawName → RawName
 type_or_action None = action_type_name
@@ -117,16 +123,24 @@ abbrev pub cedar_parent : ActionEntityUID RawName as_written → ActionEntityUID
 cedar_parent r = record { id = r.id; ty = Some (type_or_action r.ty); typed = refl }
 
 -- no parents are absent ones
-abbrev pub cedar_parents : Option (List (ActionEntityUID RawName as_written)) → Option (List (ActionEntityUID RawName as_written))
+abbrev pub cedar_parents : Option (List (ActionEntityUID RawName as_written))
+    → Option (List (ActionEntityUID RawName as_written))
 cedar_parents None = None
 cedar_parents (Some []) = None
 cedar_parents (Some (p ∷ ps)) = Some (map cedar_parent (p ∷ ps))
 
 abbrev pub cedar_spec : ApplySpec RawName → ApplySpec RawName
-cedar_spec s = record { resource_types = s.resource_types; principal_types = s.principal_types; context = record { 0 = cedar_context s.context.0 } }
+cedar_spec s =
+    record {
+      resource_types = s.resource_types;
+      principal_types = s.principal_types;
+      context =
+          record { 0 = cedar_context s.context.0 };
+    }
 
 abbrev pub applied_to_none : ApplySpec RawName
-applied_to_none = record { resource_types = []; principal_types = []; context = record { 0 = record_type empty_record } }
+applied_to_none =
+    record { resource_types = []; principal_types = []; context = record { 0 = record_type empty_record } }
 
 -- an action that is declared here and says nothing of what it applies to applies to nothing
 abbrev pub cedar_applies : Bool → Option (ApplySpec RawName) → Option (ApplySpec RawName)

@@ -15,10 +15,8 @@ use Rattle.schema_json.specs.declared.types.RecordType.{RecordType, RecordType-F
 use Rattle.schema_json.specs.declared.types.TypeOfAttribute.{TypeOfAttribute, TypeOfAttribute-F, fold-TypeOfAttribute}
 use Rattle.schema_json.specs.declared.entity_type.EntityTypeKind.{EntityTypeKind}
 use Rattle.schema_json.specs.declared.entity_type.EntityTypeKind.TheVariants.{Standard, Enum}
-use Rattle.schema_json.specs.declared.action_type.ActionType.{ActionType}
 use Rattle.schema_json.specs.declared.action_type.ApplySpec.{ApplySpec}
 use Rattle.schema_json.specs.declared.fragment.Fragment.{Fragment}
-use Rattle.schema_json.specs.declared.fragment.NamespaceDefinition.{NamespaceDefinition}
 use Rattle.schema_convert_types.specs.Declarations.{as_written}
 use Rattle.schema_readback.specs.Written.{WrittenType, WrittenAttributes, path, set, rec, no_more, attribute}
 use Rattle.schema_readback.specs.Printed.{AreProperNotes}
@@ -53,16 +51,23 @@ closed_attribute_layer a = a.ty
 
 -- every record in it is closed
 abbrev pub is_closed_type : «Type» RawName → Bool
-is_closed_type = fold-Type RawName Bool Bool Bool Bool closed_layer closed_variant_layer closed_record_layer closed_attribute_layer
+is_closed_type =
+    fold-Type RawName Bool Bool Bool Bool closed_layer closed_variant_layer closed_record_layer closed_attribute_layer
 
 abbrev pub is_closed_variant : TypeVariant RawName → Bool
-is_closed_variant = fold-TypeVariant RawName Bool Bool Bool Bool closed_layer closed_variant_layer closed_record_layer closed_attribute_layer
+is_closed_variant =
+    fold-TypeVariant RawName Bool Bool Bool Bool closed_layer closed_variant_layer closed_record_layer
+    closed_attribute_layer
 
 abbrev pub is_closed_record : RecordType RawName → Bool
-is_closed_record = fold-RecordType RawName Bool Bool Bool Bool closed_layer closed_variant_layer closed_record_layer closed_attribute_layer
+is_closed_record =
+    fold-RecordType RawName Bool Bool Bool Bool closed_layer closed_variant_layer closed_record_layer
+    closed_attribute_layer
 
 abbrev pub is_closed_attribute : TypeOfAttribute RawName → Bool
-is_closed_attribute = fold-TypeOfAttribute RawName Bool Bool Bool Bool closed_layer closed_variant_layer closed_record_layer closed_attribute_layer
+is_closed_attribute =
+    fold-TypeOfAttribute RawName Bool Bool Bool Bool closed_layer closed_variant_layer closed_record_layer
+    closed_attribute_layer
 
 abbrev pub attribute_names : WrittenAttributes → List (List ℕ)
 attribute_names no_more = []
@@ -102,9 +107,11 @@ abbrev pub IsWrittenRecord : WrittenType → Type 0
 IsWrittenRecord (rec xs) = Unit {0}
 IsWrittenRecord _ = ⊥
 
-abbrev pub IsPlainOutside : Type-F RawName («Type» RawName) (TypeVariant RawName) (RecordType RawName) (TypeOfAttribute RawName)
+abbrev pub IsPlainOutside : Type-F RawName («Type» RawName) (TypeVariant RawName) (RecordType RawName)
+    (TypeOfAttribute RawName)
     → «Type» RawName → Type 0
-IsPlainOutside (Type-F.Variant ty loc) context = IsWrittenRecord (printed_type written_components context) × IsPlainType context
+IsPlainOutside (Type-F.Variant ty loc) context =
+    IsWrittenRecord (printed_type written_components context) × IsPlainType context
 IsPlainOutside (Type-F.CommonTypeRef name loc) context = Unit {0}
 
 -- a record, or a reference to a common type
@@ -143,9 +150,9 @@ pub record IsPlainNamespace (p : Block) : Type 0 where
   pub entities : AllByRecursion (λ e. IsPlainKind e.1.external e.1.kind) p.1.entity_types
   pub actions : AllByRecursion (λ e. (e.1.attributes ≡ None) × AppliesPlainly e.1.external e.1.applies_to) p.1.actions
 
--- Its text can say it: its maps and records rise by their keys, its records are closed, items of other schemas are bare,
--- contexts are records or common types, an action applies to principals and resources, or to nothing, and no common type
--- has one of the eight words as its name.
+-- Its text can say it: its maps and records rise by their keys, its records are closed, items of other schemas are
+-- bare, contexts are records or common types, an action applies to principals and resources, or to nothing, and no
+-- common type has one of the eight words as its name.
 pub record IsPlainFragment (f : Fragment RawName as_written) : Type 0 where
   pub names_rise : IsStrictlySortedBy namespace_order (map (λ e. name_components e.0) f.0)
   pub each : AllByRecursion IsPlainNamespace f.0

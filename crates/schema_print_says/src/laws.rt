@@ -30,25 +30,32 @@ pub fn types_are_printed_in_cedar_form()
 
 /// What is written of a fragment, the fragment says in the form that its text has.
 pub fn fragments_are_printed_in_cedar_form()
-    ensures { (f : Fragment RawName as_written) (groups : List Group) → AreGroupsOf written_components f groups → IsPlainFragment f → FragmentSays (cedar_form f) (flat_map group_items groups) }
+    ensures { (f : Fragment RawName as_written) (groups : List Group) → AreGroupsOf written_components f groups
+        → IsPlainFragment f → FragmentSays (cedar_form f) (flat_map group_items groups) }
 {}
 
 /// What is written of a fragment whose text can say it may be printed.
 pub fn plain_fragments_may_be_printed()
-    ensures { (f : Fragment RawName as_written) (groups : List Group) → AreGroupsOf written_components f groups → IsPlainFragment f → AllByRecursion IsProperGroup groups }
+    ensures { (f : Fragment RawName as_written) (groups : List Group) → AreGroupsOf written_components f groups
+        → IsPlainFragment f → AllByRecursion IsProperGroup groups }
 {}
 
 /// What is written of a fragment whose text can say it can be translated.
 pub fn plain_fragments_can_be_translated()
-    ensures { (f : Fragment RawName as_written) (groups : List Group) → AreGroupsOf written_components f groups → IsPlainFragment f → IsSayable (flat_map group_items groups) }
+    ensures { (f : Fragment RawName as_written) (groups : List Group) → AreGroupsOf written_components f groups
+        → IsPlainFragment f → IsSayable (flat_map group_items groups) }
 {}
 
-/// The text of a fragment that its text can say, in either layout, has no fault, and the fragment of the text is that one in the form of its text, places
-/// aside.
+/// The text of a fragment that its text can say, in either layout, has no fault, and the fragment of the text is that
+/// one in the form that its text has, places aside.
 pub fn printed_fragments_read_back()
-    ensures translated { (closing : Bool) (f : Fragment RawName as_written) (groups : List Group) → AreGroupsOf written_components f groups → IsPlainFragment f → IsTranslatedAs (laid (schema_pieces closing groups)) (flat_map group_items groups) }
-    ensures same { (closing : Bool) (f : Fragment RawName as_written) (groups : List Group) → AreGroupsOf written_components f groups → IsPlainFragment f
-        → (t : IsTranslatedAs (laid (schema_pieces closing groups)) (flat_map group_items groups)) → bare_fragment (translated t.reads.tree) ≡ bare_fragment (cedar_form f) }
+    ensures translated { (closing : Bool) (f : Fragment RawName as_written) (groups : List Group)
+        → AreGroupsOf written_components f groups → IsPlainFragment f
+        → IsTranslatedAs (laid (schema_pieces closing groups)) (flat_map group_items groups) }
+    ensures same { (closing : Bool) (f : Fragment RawName as_written) (groups : List Group)
+        → AreGroupsOf written_components f groups → IsPlainFragment f
+        → (t : IsTranslatedAs (laid (schema_pieces closing groups)) (flat_map group_items groups))
+        → bare_fragment (translated t.reads.tree) ≡ bare_fragment (cedar_form f) }
 {
     laid_schemas_read_back();
     proper_groups_are_named();

@@ -58,25 +58,31 @@ item_notes : (a : Opening) (i : WrittenItem) → SaysItem a i → a.annotations.
 item_notes a (namespace ns name ds) h = h.2
 item_notes a (stands_outside d) h = h.2
 
-pub all_ids : (tree : List Opening) (w : List WrittenItem) → AllZip SaysItem tree w → AllByRecursion IsWellNamed w → AllByRecursion (λ (n : Opening). HasIds n.item.name) tree
+pub all_ids : (tree : List Opening) (w : List WrittenItem) → AllZip SaysItem tree w → AllByRecursion IsWellNamed w
+    → AllByRecursion (λ (n : Opening). HasIds n.item.name) tree
 all_ids [] [] h k = tt
 all_ids [] (i ∷ w) h k = absurd h
 all_ids (a ∷ tree) [] h k = absurd h
 all_ids (a ∷ tree) (i ∷ w) h k = (has_ids a i h.0 k.0, all_ids tree w h.1 k.1)
 
-pub openings_say : (q : NamespaceName) (tree : List Opening) (w : List WrittenItem) → AllZip SaysItem tree w → AllZip SaysItem (openings q tree) (items_of_namespace q w)
-openings_say q tree w h = zip_filter SaysItem (opens q) (is_of_namespace q) (λ a i k. ap (is_at (namespace_order q)) (names_same a i k)) tree w h
+pub openings_say : (q : NamespaceName) (tree : List Opening) (w : List WrittenItem) → AllZip SaysItem tree w
+    → AllZip SaysItem (openings q tree) (items_of_namespace q w)
+openings_say q tree w h = zip_filter SaysItem (opens q) (is_of_namespace q)
+    (λ a i k. ap (is_at (namespace_order q)) (names_same a i k)) tree w h
 
-pub decls_say : (os : List Opening) (is : List WrittenItem) → AllZip SaysItem os is → AllZip SaysDeclared (flat_map decls_of os) (flat_map decls_of_item is)
+pub decls_say : (os : List Opening) (is : List WrittenItem) → AllZip SaysItem os is
+    → AllZip SaysDeclared (flat_map decls_of os) (flat_map decls_of_item is)
 decls_say [] [] h = tt
 decls_say [] (i ∷ is) h = absurd h
 decls_say (o ∷ os) [] h = absurd h
-decls_say (o ∷ os) (i ∷ is) h = zip_append SaysDeclared o.item.decls (flat_map decls_of os) (decls_of_item i) (flat_map decls_of_item is) (item_decls o i h.0) (decls_say os is h.1)
+decls_say (o ∷ os) (i ∷ is) h = zip_append SaysDeclared o.item.decls (flat_map decls_of os) (decls_of_item i)
+    (flat_map decls_of_item is) (item_decls o i h.0) (decls_say os is h.1)
 
 abbrev notes_in : List Opening → Notes
 notes_in os = flat_map (λ (n : Opening). n.annotations.0) os
 
-notes_say : (os : List Opening) (is : List WrittenItem) → AllZip SaysItem os is → notes_in os ≡ flat_map notes_of_item is
+notes_say : (os : List Opening) (is : List WrittenItem) → AllZip SaysItem os is
+    → notes_in os ≡ flat_map notes_of_item is
 notes_say [] [] h = refl
 notes_say [] (i ∷ is) h = absurd h
 notes_say (o ∷ os) [] h = absurd h
@@ -85,7 +91,8 @@ notes_say (o ∷ os) (i ∷ is) h =
     let others = notes_say os is h.1 in
     λ j. first j ++ others j
 
-all_both : (xs ys : List WrittenDeclared) → AllByRecursion IsNamedDeclared xs → AllByRecursion IsNamedDeclared ys → AllByRecursion IsNamedDeclared (xs ++ ys)
+all_both : (xs ys : List WrittenDeclared) → AllByRecursion IsNamedDeclared xs → AllByRecursion IsNamedDeclared ys
+    → AllByRecursion IsNamedDeclared (xs ++ ys)
 all_both [] ys h k = k
 all_both (x ∷ xs) ys h k = (h.0, all_both xs ys h.1 k)
 
@@ -93,7 +100,8 @@ item_named : (i : WrittenItem) → IsWellNamed i → AllByRecursion IsNamedDecla
 item_named (namespace ns name ds) h = h.1
 item_named (stands_outside d) h = (h, tt)
 
-pub decls_named : (is : List WrittenItem) → AllByRecursion IsWellNamed is → AllByRecursion IsNamedDeclared (flat_map decls_of_item is)
+pub decls_named : (is : List WrittenItem) → AllByRecursion IsWellNamed is
+    → AllByRecursion IsNamedDeclared (flat_map decls_of_item is)
 decls_named [] h = tt
 decls_named (i ∷ is) h = all_both (decls_of_item i) (flat_map decls_of_item is) (item_named i h.0) (decls_named is h.1)
 
@@ -111,11 +119,14 @@ found_same (Some x) None h = cc
 found_same (Some x) (Some y) h = cc
 
 -- of items that are put in front of others in turn, the first is the last of those in front
-last_turned : (test : AnyId → Bool) (xs behind : List Note) → last_at test (reverse_aux xs behind) ≡ option_or (last_at test behind) (lookup test xs)
+last_turned : (test : AnyId → Bool) (xs behind : List Note)
+    → last_at test (reverse_aux xs behind) ≡ option_or (last_at test behind) (lookup test xs)
 last_turned test [] behind = sym (or_nothing (last_at test behind))
 last_turned test (x ∷ xs) behind = last_turned test xs (x ∷ behind) ∙ by (last_at test behind) (test x.0)
   where
-    by : (o : Option (Option (List ℕ))) (b : Bool) → option_or (option_or o (if b then Some x.1 else None)) (lookup test xs) ≡ option_or o (cond b (Some x.1) (lookup test xs))
+    by : (o : Option (Option (List ℕ))) (b : Bool)
+        → option_or (option_or o (if b then Some x.1 else None)) (lookup test xs) ≡ option_or o
+        (cond b (Some x.1) (lookup test xs))
     by None true = refl
     by None false = refl
     by (Some y) b = refl
@@ -125,13 +136,16 @@ last_reversed : (test : AnyId → Bool) (xs : List Note) → last_at test (rever
 last_reversed test xs = last_turned test xs []
 
 abbrev AnnotationsSay : Notes → Notes → Type 0
-AnnotationsSay entries notes = EntriesSay text_cmp (λ (key : AnyId). key.text) (λ v x. v ≡ x) entries (λ key. lookup (is_key key) notes)
+AnnotationsSay entries notes = EntriesSay text_cmp (λ (key : AnyId). key.text) (λ v x. v ≡ x) entries
+    (λ key. lookup (is_key key) notes)
 
 first_values_say : (os : List Opening) (notes : Notes) → notes_in os ≡ notes → AnnotationsSay (first_values os).0 notes
 first_values_say os notes e = record {
-  rising = map_rises (Option (List ℕ)) text_cmp text_total text_exact (λ (key : AnyId). key.text) (reverse (notes_in os));
+  rising = map_rises (Option (List ℕ)) text_cmp text_total text_exact (λ (key : AnyId). key.text)
+      (reverse (notes_in os));
   each = λ key. found_same (lookup (is_key key) (first_values os).0) (lookup (is_key key) notes)
-      (lookup_map (Option (List ℕ)) text_cmp text_total text_exact (λ (k : AnyId). k.text) key (reverse (notes_in os)) ∙ (last_reversed (is_key key) (notes_in os) ∙ ap (lookup (is_key key)) e));
+      (lookup_map (Option (List ℕ)) text_cmp text_total text_exact (λ (k : AnyId). k.text) key
+      (reverse (notes_in os)) ∙ (last_reversed (is_key key) (notes_in os) ∙ ap (lookup (is_key key)) e));
 }
 
 no_annotations_say : (notes : Notes) → notes ≡ [] → AnnotationsSay [] notes
@@ -141,8 +155,10 @@ no_annotations_say notes e = record {
 }
 
 -- the definition of declarations that say what is written
-definition_says : (ds : List (Annotated (Node Declaration))) (notes : Annotations) (w : WrittenNamespace) → AllZip SaysDeclared ds w.decls → AllByRecursion IsNamedDeclared w.decls
-    → AllByRecursion (λ (id : Node Id). is_cedar id.node.text ≡ false) (entity_names_in ds) → AllByRecursion IsFreeCommon (common_names_in ds) → AnnotationsSay notes.0 w.notes
+definition_says : (ds : List (Annotated (Node Declaration))) (notes : Annotations) (w : WrittenNamespace)
+    → AllZip SaysDeclared ds w.decls → AllByRecursion IsNamedDeclared w.decls
+    → AllByRecursion (λ (id : Node Id). is_cedar id.node.text ≡ false) (entity_names_in ds)
+    → AllByRecursion IsFreeCommon (common_names_in ds) → AnnotationsSay notes.0 w.notes
     → NamespaceSays (definition_of ds notes) w
 definition_says ds notes w k h entities commons annotations = record {
   annotations = annotations;
@@ -151,15 +167,19 @@ definition_says ds notes w k h entities commons annotations = record {
   actions = actions_map_says ds w.decls k h;
 }
 
-named_says : (p : List (List ℕ)) (os : List Opening) (is : List WrittenItem) → AllZip SaysItem os is → AllByRecursion IsWellNamed is
-    → ((n : Opening) → whole (Some p) os ≡ Some n → IsLawfulNamespace n) → FoundSays NamespaceSays (option_map defined (whole (Some p) os)) (opened is)
+named_says : (p : List (List ℕ)) (os : List Opening) (is : List WrittenItem) → AllZip SaysItem os is
+    → AllByRecursion IsWellNamed is
+    → ((n : Opening) → whole (Some p) os ≡ Some n → IsLawfulNamespace n)
+    → FoundSays NamespaceSays (option_map defined (whole (Some p) os)) (opened is)
 named_says p [] [] h k lawful = tt
 named_says p [] (i ∷ is) h k lawful = absurd h
 named_says p (o ∷ os) [] h k lawful = absurd h
 named_says p (o ∷ os) (i ∷ is) h k lawful =
     let n = lawful (opened_as o (o ∷ os)) refl in
-    definition_says (flat_map decls_of (o ∷ os)) (first_values (o ∷ os)) (record { notes = flat_map notes_of_item (i ∷ is); decls = flat_map decls_of_item (i ∷ is) })
-    (decls_say (o ∷ os) (i ∷ is) h) (decls_named (i ∷ is) k) n.entities_free n.commons_free (first_values_say (o ∷ os) (flat_map notes_of_item (i ∷ is)) (notes_say (o ∷ os) (i ∷ is) h))
+    definition_says (flat_map decls_of (o ∷ os)) (first_values (o ∷ os))
+    (record { notes = flat_map notes_of_item (i ∷ is); decls = flat_map decls_of_item (i ∷ is) })
+    (decls_say (o ∷ os) (i ∷ is) h) (decls_named (i ∷ is) k) n.entities_free n.commons_free
+    (first_values_say (o ∷ os) (flat_map notes_of_item (i ∷ is)) (notes_say (o ∷ os) (i ∷ is) h))
 
 -- items outside of every namespace
 abbrev pub StandsOutside : WrittenItem → Type 0
@@ -169,7 +189,8 @@ pub all_pass : {A : Type 0} (test : A → Bool) (xs : List A) → AllByRecursion
 all_pass test [] = tt
 all_pass test (x ∷ xs) = by (all_pass test xs) (test x) refl
   where
-    by : AllByRecursion (λ x. test x ≡ true) (filter test xs) → (b : Bool) → test x ≡ b → AllByRecursion (λ x. test x ≡ true) (cond b (x ∷ filter test xs) (filter test xs))
+    by : AllByRecursion (λ x. test x ≡ true) (filter test xs) → (b : Bool) → test x ≡ b
+        → AllByRecursion (λ x. test x ≡ true) (cond b (x ∷ filter test xs) (filter test xs))
     by r true e = (e, r)
     by r false e = r
 
@@ -178,33 +199,51 @@ no_notes [] h = refl
 no_notes (namespace ns name ds ∷ is) h = absurd (true≢false (sym h.0))
 no_notes (stands_outside d ∷ is) h = no_notes is h.1
 
-unnamed_says : (ds : List (Annotated (Node Declaration))) (is : List WrittenItem) → AllZip SaysDeclared ds (flat_map decls_of_item is) → AllByRecursion IsWellNamed is → AllByRecursion StandsOutside is
-    → ((n : Opening) → last_of (opens None) (empty_namespace ds) ≡ Some n → IsLawfulNamespace n) → FoundSays NamespaceSays (option_map defined (last_of (opens None) (empty_namespace ds))) (opened is)
+unnamed_says : (ds : List (Annotated (Node Declaration))) (is : List WrittenItem)
+    → AllZip SaysDeclared ds (flat_map decls_of_item is) → AllByRecursion IsWellNamed is
+    → AllByRecursion StandsOutside is
+    → ((n : Opening) → last_of (opens None) (empty_namespace ds) ≡ Some n → IsLawfulNamespace n)
+    → FoundSays NamespaceSays (option_map defined (last_of (opens None) (empty_namespace ds))) (opened is)
 unnamed_says [] [] h k out lawful = tt
 unnamed_says (d ∷ ds) [] h k out lawful = absurd h
 unnamed_says ds (namespace ns name ws ∷ is) h k out lawful = absurd (true≢false (sym out.0))
 unnamed_says [] (stands_outside w ∷ is) h k out lawful = absurd h
 unnamed_says (d ∷ ds) (stands_outside w ∷ is) h k out lawful =
     let n = lawful _ refl in
-    definition_says (d ∷ ds) (record { 0 = [] }) (record { notes = flat_map notes_of_item (stands_outside w ∷ is); decls = flat_map decls_of_item (stands_outside w ∷ is) })
-    h (decls_named (stands_outside w ∷ is) k) n.entities_free n.commons_free (no_annotations_say (flat_map notes_of_item (stands_outside w ∷ is)) (no_notes (stands_outside w ∷ is) out))
+    definition_says (d ∷ ds) (record { 0 = [] })
+    (record {
+      notes = flat_map notes_of_item (stands_outside w ∷ is);
+      decls =
+          flat_map decls_of_item (stands_outside w ∷ is);
+    })
+    h (decls_named (stands_outside w ∷ is) k) n.entities_free n.commons_free
+    (no_annotations_say (flat_map notes_of_item (stands_outside w ∷ is)) (no_notes (stands_outside w ∷ is) out))
 
-module _ (tree : List Opening) (w : List WrittenItem) (h : AllZip SaysItem tree w) (k : AllByRecursion IsWellNamed w) (lawful : IsTranslatable tree) where
-  last_lawful : (q : NamespaceName) (o : Option Opening) → last_of (opens q) (joined tree) ≡ o → (n : Opening) → o ≡ Some n → IsLawfulNamespace n
+module _ (tree : List Opening) (w : List WrittenItem) (h : AllZip SaysItem tree w) (k : AllByRecursion IsWellNamed w)
+    (lawful : IsTranslatable tree) where
+  last_lawful : (q : NamespaceName) (o : Option Opening) → last_of (opens q) (joined tree) ≡ o → (n : Opening)
+      → o ≡ Some n → IsLawfulNamespace n
   last_lawful q o e n f = last_has (opens q) IsLawfulNamespace (joined tree) n lawful (e ∙ f)
 
-  joined_says : (q : NamespaceName) → FoundSays NamespaceSays (option_map defined (last_of (opens q) (joined tree))) (written_in w q)
+  joined_says : (q : NamespaceName) → FoundSays NamespaceSays (option_map defined (last_of (opens q) (joined tree)))
+      (written_in w q)
   joined_says (Some p) =
       subst (λ o. FoundSays NamespaceSays (option_map defined o) (written_in w (Some p))) (sym (joined_named p tree))
-      (named_says p (openings (Some p) tree) (items_of_namespace (Some p) w) (openings_say (Some p) tree w h) (all_filter IsWellNamed (is_of_namespace (Some p)) w k)
+      (named_says p (openings (Some p) tree) (items_of_namespace (Some p) w) (openings_say (Some p) tree w h)
+      (all_filter IsWellNamed (is_of_namespace (Some p)) w k)
       (last_lawful (Some p) (whole (Some p) (openings (Some p) tree)) (joined_named p tree)))
   joined_says None =
       subst (λ o. FoundSays NamespaceSays (option_map defined o) (written_in w None)) (sym (joined_unnamed tree))
-      (unnamed_says (outside tree) (items_of_namespace None w) (subst (λ ds. AllZip SaysDeclared ds (flat_map decls_of_item (items_of_namespace None w))) (sym (outside_opens tree)) (decls_say (openings None tree) (items_of_namespace None w) (openings_say None tree w h)))
+      (unnamed_says (outside tree) (items_of_namespace None w)
+      (subst (λ ds. AllZip SaysDeclared ds (flat_map decls_of_item (items_of_namespace None w)))
+      (sym (outside_opens tree))
+      (decls_say (openings None tree) (items_of_namespace None w) (openings_say None tree w h)))
       (all_filter IsWellNamed (is_of_namespace None) w k) (all_pass (is_of_namespace None) w)
       (last_lawful None (last_of (opens None) (empty_namespace (outside tree))) (joined_unnamed tree)))
 
-  keys : (ns : List Opening) → AllByRecursion IsLawfulNamespace ns → AllByRecursion (λ (n : Opening). HasIds n.item.name) ns → AllByRecursion (λ (n : Opening). HasKey n.item.name) ns
+  keys : (ns : List Opening) → AllByRecursion IsLawfulNamespace ns
+      → AllByRecursion (λ (n : Opening). HasIds n.item.name) ns
+      → AllByRecursion (λ (n : Opening). HasKey n.item.name) ns
   keys [] l i = tt
   keys (n ∷ ns) l i = (has_key n.item.name l.0.name i.0, keys ns l.1 i.1)
 
@@ -213,6 +252,9 @@ module _ (tree : List Opening) (w : List WrittenItem) (h : AllZip SaysItem tree 
       let all = keys (joined tree) lawful (all_joined HasIds tt tree (all_ids tree w h k)) in
       let entries = filter_map namespace_entry (joined tree) in
       record {
-        rising = subst (λ es. IsStrictlySortedBy namespace_order (map (λ e. name_components e.0) es)) (sym (by_names_is entries)) (map_rises Definition namespace_order namespace_total namespace_exact name_components entries);
-        each = λ q. subst (λ found. FoundSays NamespaceSays found (written_in w q)) (sym (found_namespace q (joined tree) all)) (joined_says q);
+        rising = subst (λ es. IsStrictlySortedBy namespace_order (map (λ e. name_components e.0) es))
+            (sym (by_names_is entries))
+            (map_rises Definition namespace_order namespace_total namespace_exact name_components entries);
+        each = λ q. subst (λ found. FoundSays NamespaceSays found (written_in w q))
+            (sym (found_namespace q (joined tree) all)) (joined_says q);
       }

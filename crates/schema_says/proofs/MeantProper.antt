@@ -1,5 +1,5 @@
 -- What is written of a meaning whose names are made of words may be printed.
-use Rattle.std.proofs.Common.{◌≡◌, ℕ, Bool, true, false, cond, List, [], ◌∷◌, ◌++◌, map, filter, Option, Some, None, refl}
+use Rattle.std.proofs.Common.{ℕ, Bool, true, false, cond, List, [], ◌∷◌, ◌++◌, map, filter, Option, Some, None, refl}
 use Rattle.std.specs.BTreeSet.{insert_key}
 use Rattle.std.specs.Cmp.Lexicographic.{slice_cmp}
 use Rattle.std.specs.List.{AllByRecursion}
@@ -8,16 +8,12 @@ use Rattle.std.specs.Ordering.{match_ordering}
 use Rattle.std.specs.declared.cmp.Ordering.{Ordering}
 use Rattle.std.specs.declared.cmp.Ordering.TheVariants.{Less, Equal, Greater}
 use Rattle.cedar_data.specs.Text.{text_cmp}
-use Rattle.cedar_identifiers.specs.Words.{is_id}
-use Rattle.cedar_identifiers.specs.declared.any_id.AnyId.{AnyId}
 use Rattle.cedar_names.specs.CanonicalText.{basename, namespace, in_order, namespaces}
 use Rattle.cedar_names.specs.Meaning.{PlainType, Attributes, EntityMeaning, ActionMeaning, SchemaMeaning}
 use Rattle.cedar_names.specs.Meaning as m
-use Rattle.schema_syntax_reader.specs.Leaves.{Notes}
-use Rattle.schema_readback.specs.Meant.{type_of_meaning, attributes_of_meaning, tags_of_meaning, entity_as, ref_of_meaning, members_of_meaning, action_as, entity_of_meaning, action_of_meaning, items_of_meaning, name_or_none, group_of_meaning, groups_of_meaning}
+use Rattle.schema_readback.specs.Meant.{type_of_meaning, attributes_of_meaning, tags_of_meaning, entity_as, ref_of_meaning, members_of_meaning, action_as, entity_of_meaning, action_of_meaning, name_or_none, group_of_meaning, groups_of_meaning}
 use Rattle.schema_readback.specs.Printed.{IsProperPath, IsProperType, AreProperAttributes, AreProperNotes}
 use Rattle.schema_readback.specs.PrintedDecls.{IsProperWord, IsProperOptional, IsProperRef, IsProperTags, AreProperMembers, IsProperDecl, IsProperDeclared, IsProperGroup}
-use Rattle.schema_readback.specs.Written.{WrittenDeclared}
 use Rattle.schema_says.specs.MeantNames.{IsSpelledType, AreSpelledTypes, AreSpelledTags, HasChoice, IsSpelledEntity, IsSpelledAction, IsSpelled}
 
 abbrev Name : Type 0
@@ -60,49 +56,69 @@ space_proper (c ∷ []) h = tt
 space_proper (c ∷ d ∷ []) h = h.0
 space_proper (c ∷ d ∷ e ∷ es) h = (h.0, space_proper (d ∷ e ∷ es) h.1)
 
-entity_proper : (x : Bool) (choices : Option (List (List ℕ))) (e : EntityMeaning) → HasChoice choices → IsSpelledEntity e → IsProperDecl (entity_as x choices e)
+entity_proper : (x : Bool) (choices : Option (List (List ℕ))) (e : EntityMeaning) → HasChoice choices
+    → IsSpelledEntity e → IsProperDecl (entity_as x choices e)
 entity_proper true choices e c h = (tt, (base_proper e.name h.name, tt), h.ancestors)
-entity_proper false None e c h = (tt, (base_proper e.name h.name, tt), h.ancestors, attributes_proper e.attributes h.attributes, tags_proper e.tags h.tags)
+entity_proper false None e c h = (
+  tt,
+  (base_proper e.name h.name, tt),
+  h.ancestors,
+  attributes_proper e.attributes h.attributes,
+  tags_proper e.tags h.tags,
+)
 entity_proper false (Some cs) e c h = (tt, (base_proper e.name h.name, tt), c)
 
-refs_proper : (as' : List (Name × List ℕ)) → AllByRecursion (λ b. IsProperPath b.0) as' → AllByRecursion IsProperRef (map ref_of_meaning as')
+refs_proper : (as' : List (Name × List ℕ)) → AllByRecursion (λ b. IsProperPath b.0) as'
+    → AllByRecursion IsProperRef (map ref_of_meaning as')
 refs_proper [] h = tt
 refs_proper (a ∷ as') h = (h.0, refs_proper as' h.1)
 
-members_proper : (ps rs : List Name) (context : Attributes) → AllByRecursion IsProperPath ps → AllByRecursion IsProperPath rs → AreSpelledTypes context → AreProperMembers (members_of_meaning ps rs context)
+members_proper : (ps rs : List Name) (context : Attributes) → AllByRecursion IsProperPath ps
+    → AllByRecursion IsProperPath rs → AreSpelledTypes context → AreProperMembers (members_of_meaning ps rs context)
 members_proper [] rs context h k c = tt
 members_proper (p ∷ ps) [] context h k c = tt
 members_proper (p ∷ ps) (r ∷ rs) context h k c = (tt, (h, (k, (attributes_proper context c, tt))))
 
 action_proper : (x : Bool) (a : ActionMeaning) → IsSpelledAction a → IsProperDecl (action_as x a)
 action_proper true a h = (tt, refs_proper a.ancestors h.ancestors)
-action_proper false a h = (tt, refs_proper a.ancestors h.ancestors, members_proper a.principals a.resources a.context h.principals h.resources h.context)
+action_proper false a h = (
+  tt,
+  refs_proper a.ancestors h.ancestors,
+  members_proper a.principals a.resources a.context h.principals h.resources h.context,
+)
 
-entities_proper : (test : EntityMeaning → Bool) (es : List EntityMeaning) → AllByRecursion IsSpelledEntity es → AllByRecursion IsProperDeclared (map entity_of_meaning (filter test es))
+entities_proper : (test : EntityMeaning → Bool) (es : List EntityMeaning) → AllByRecursion IsSpelledEntity es
+    → AllByRecursion IsProperDeclared (map entity_of_meaning (filter test es))
 entities_proper test [] h = tt
 entities_proper test (e ∷ es) h = by (test e) (entities_proper test es h.1)
   where
-    by : (b : Bool) → AllByRecursion IsProperDeclared (map entity_of_meaning (filter test es)) → AllByRecursion IsProperDeclared (map entity_of_meaning (cond b (e ∷ filter test es) (filter test es)))
+    by : (b : Bool) → AllByRecursion IsProperDeclared (map entity_of_meaning (filter test es))
+        → AllByRecursion IsProperDeclared (map entity_of_meaning (cond b (e ∷ filter test es) (filter test es)))
     by true r = ((no_notes, entity_proper e.is_external e.choices e h.0.choices h.0), r)
     by false r = r
 
-actions_proper : (test : ActionMeaning → Bool) (es : List ActionMeaning) → AllByRecursion IsSpelledAction es → AllByRecursion IsProperDeclared (map action_of_meaning (filter test es))
+actions_proper : (test : ActionMeaning → Bool) (es : List ActionMeaning) → AllByRecursion IsSpelledAction es
+    → AllByRecursion IsProperDeclared (map action_of_meaning (filter test es))
 actions_proper test [] h = tt
 actions_proper test (e ∷ es) h = by (test e) (actions_proper test es h.1)
   where
-    by : (b : Bool) → AllByRecursion IsProperDeclared (map action_of_meaning (filter test es)) → AllByRecursion IsProperDeclared (map action_of_meaning (cond b (e ∷ filter test es) (filter test es)))
+    by : (b : Bool) → AllByRecursion IsProperDeclared (map action_of_meaning (filter test es))
+        → AllByRecursion IsProperDeclared (map action_of_meaning (cond b (e ∷ filter test es) (filter test es)))
     by true r = ((no_notes, action_proper e.is_external e h.0), r)
     by false r = r
 
-all_with : {A : Type 0} (P : A → Type 0) (xs ys : List A) → AllByRecursion P xs → AllByRecursion P ys → AllByRecursion P (xs ++ ys)
+all_with : {A : Type 0} (P : A → Type 0) (xs ys : List A) → AllByRecursion P xs → AllByRecursion P ys
+    → AllByRecursion P (xs ++ ys)
 all_with P [] ys h k = k
 all_with P (x ∷ xs) ys h k = (h.0, all_with P xs ys h.1 k)
 
-all_put : (P : Name → Type 0) (ns : List Name) (n : Name) → AllByRecursion P ns → P n → AllByRecursion P (insert_key (slice_cmp text_cmp) ns n)
+all_put : (P : Name → Type 0) (ns : List Name) (n : Name) → AllByRecursion P ns → P n
+    → AllByRecursion P (insert_key (slice_cmp text_cmp) ns n)
 all_put P [] n h p = (p, tt)
 all_put P (x ∷ ns) n h p = by (slice_cmp text_cmp n x) (all_put P ns n h.1 p)
   where
-    by : (c : Ordering) → AllByRecursion P (insert_key (slice_cmp text_cmp) ns n) → AllByRecursion P (match_ordering c (n ∷ x ∷ ns) (x ∷ ns) (x ∷ insert_key (slice_cmp text_cmp) ns n))
+    by : (c : Ordering) → AllByRecursion P (insert_key (slice_cmp text_cmp) ns n)
+        → AllByRecursion P (match_ordering c (n ∷ x ∷ ns) (x ∷ ns) (x ∷ insert_key (slice_cmp text_cmp) ns n))
     by Less r = (p, h)
     by Equal r = h
     by Greater r = (h.0, r)
@@ -111,18 +127,26 @@ all_ordered : (P : Name → Type 0) (ns : List Name) → AllByRecursion P ns →
 all_ordered P [] h = tt
 all_ordered P (n ∷ ns) h = all_put P (in_order ns) n (all_ordered P ns h.1) h.0
 
-entity_spaces : (es : List EntityMeaning) → AllByRecursion IsSpelledEntity es → AllByRecursion IsNamespace (map (λ e. namespace e.name) es)
+entity_spaces : (es : List EntityMeaning) → AllByRecursion IsSpelledEntity es
+    → AllByRecursion IsNamespace (map (λ e. namespace e.name) es)
 entity_spaces [] h = tt
 entity_spaces (e ∷ es) h = (space_proper e.name h.0.name, entity_spaces es h.1)
 
-action_spaces : (es : List ActionMeaning) → AllByRecursion IsSpelledAction es → AllByRecursion IsNamespace (map (λ a. namespace a.ty) es)
+action_spaces : (es : List ActionMeaning) → AllByRecursion IsSpelledAction es
+    → AllByRecursion IsNamespace (map (λ a. namespace a.ty) es)
 action_spaces [] h = tt
 action_spaces (e ∷ es) h = (space_proper e.ty h.0.ty, action_spaces es h.1)
 
-groups_proper : (m : SchemaMeaning) → IsSpelled m → (ns : List Name) → AllByRecursion IsNamespace ns → AllByRecursion IsProperGroup (map (group_of_meaning m) ns)
+groups_proper : (m : SchemaMeaning) → IsSpelled m → (ns : List Name) → AllByRecursion IsNamespace ns
+    → AllByRecursion IsProperGroup (map (group_of_meaning m) ns)
 groups_proper m h [] k = tt
 groups_proper m h (n ∷ ns) k = (
-  (no_notes, k.0, all_with IsProperDeclared _ _ (entities_proper _ m.entities h.entities) (actions_proper _ m.actions h.actions)),
+  (
+    no_notes,
+    k.0,
+    all_with IsProperDeclared _ _ (entities_proper _ m.entities h.entities)
+        (actions_proper _ m.actions h.actions),
+  ),
   groups_proper m h ns k.1,
 )
 
@@ -130,4 +154,5 @@ pub meaning_proper : (m : SchemaMeaning) → IsSpelled m → AllByRecursion IsPr
 meaning_proper m h =
     groups_proper m h (namespaces m)
     (all_ordered IsNamespace (map (λ e. namespace e.name) m.entities ++ map (λ a. namespace a.ty) m.actions)
-    (all_with IsNamespace (map (λ e. namespace e.name) m.entities) (map (λ a. namespace a.ty) m.actions) (entity_spaces m.entities h.entities) (action_spaces m.actions h.actions)))
+    (all_with IsNamespace (map (λ e. namespace e.name) m.entities) (map (λ a. namespace a.ty) m.actions)
+    (entity_spaces m.entities h.entities) (action_spaces m.actions h.actions)))

@@ -71,10 +71,12 @@ module _ (q : NamespaceName) where
   both_open : (x y : Opening) → opens q x ≡ true → opens q y ≡ true → have_one_name x y ≡ true
   both_open x y h k = same_openings x y h ∙ k
 
-  not_one : (x y : Opening) (b : Bool) → have_one_name x y ≡ b → opens q x ≡ false → opens q y ≡ true → have_one_name x y ≡ false
+  not_one : (x y : Opening) (b : Bool) → have_one_name x y ≡ b → opens q x ≡ false → opens q y ≡ true
+      → have_one_name x y ≡ false
   not_one x y false e h k = e
   not_one x y true e h k =
-      let same : tree_name x ≡ tree_name y = namespace_exact (tree_name x) (tree_name y) (is_equal (namespace_order (tree_name x) (tree_name y)) (sym (one_name x y) ∙ e)) in
+      let same : tree_name x ≡ tree_name y = namespace_exact (tree_name x) (tree_name y)
+      (is_equal (namespace_order (tree_name x) (tree_name y)) (sym (one_name x y) ∙ e)) in
       absurd (true≢false (sym k ∙ (ap (is_at (namespace_order q)) (sym same) ∙ h)))
 
   abbrev pub openings : List Opening → List Opening
@@ -93,12 +95,16 @@ module _ (q : NamespaceName) where
   opened_whole ns (o ∷ os) e (Some n) f g =
       let same : n ≡ o = some_same n o g in
       let passes : opens q o ≡ true = find_passes ns o (f ∙ g) in
-      ap (λ m. Some (opened_as m (openings_of m ns))) same ∙ ap (λ l. Some (opened_as o l)) (filter_same (have_one_name o) (opens q) (λ y. same_openings o y passes) ns ∙ e)
+      ap (λ m. Some (opened_as m (openings_of m ns))) same
+      ∙ ap (λ l. Some (opened_as o l))
+      (filter_same (have_one_name o) (opens q) (λ y. same_openings o y passes) ns ∙ e)
     where
       some_same : (a b : Opening) → Some a ≡ Some b → a ≡ b
       some_same a b p = cc
 
-      passed : (xs : List Opening) (x y : Opening) (b : Bool) → opens q x ≡ b → cond b (Some x) (find (opens q) xs) ≡ Some y → (find (opens q) xs ≡ Some y → opens q y ≡ true) → opens q y ≡ true
+      passed : (xs : List Opening) (x y : Opening) (b : Bool) → opens q x ≡ b
+          → cond b (Some x) (find (opens q) xs) ≡ Some y → (find (opens q) xs ≡ Some y → opens q y ≡ true)
+          → opens q y ≡ true
       passed xs x y true e h r = subst (λ z. opens q z ≡ true) (some_same x y h) e
       passed xs x y false e h r = r h
 
@@ -109,7 +115,8 @@ module _ (q : NamespaceName) where
   pub last_named : (ns : List Opening) → last_of (opens q) (joined_by_name ns) ≡ whole (openings ns)
   last_named ns =
       last_map (opens q) (λ n. opened_as n (openings_of n ns)) (first_openings ns)
-      ∙ (ap (option_map (λ n. opened_as n (openings_of n ns))) (last_first (opens q) have_one_name both_open (λ x y. not_one x y (have_one_name x y) refl) ns)
+      ∙ (ap (option_map (λ n. opened_as n (openings_of n ns)))
+      (last_first (opens q) have_one_name both_open (λ x y. not_one x y (have_one_name x y) refl) ns)
       ∙ opened_whole ns (openings ns) refl (find (opens q) ns) refl (find_first (opens q) ns))
 
 -- a namespace with a name
@@ -119,8 +126,12 @@ module _ (p : List (List ℕ)) where
   named_opens (a ∷ tree) = by a.item.name refl (named_opens tree)
     where
       by : (o : Option Path) → a.item.name ≡ o → openings (Some p) (named tree) ≡ openings (Some p) tree
-          → openings (Some p) (named_so o a ++ named tree) ≡ cond (opens (Some p) a) (a ∷ openings (Some p) tree) (openings (Some p) tree)
-      by None e r = r ∙ sym (ap (λ o. cond (is_at (namespace_order (Some p)) (name_in_tree o)) (a ∷ openings (Some p) tree) (openings (Some p) tree)) e)
+          → openings (Some p) (named_so o a ++ named tree) ≡ cond (opens (Some p) a) (a ∷ openings (Some p) tree)
+          (openings (Some p) tree)
+      by None e r = r
+          ∙ sym (ap
+          (λ o. cond (is_at (namespace_order (Some p)) (name_in_tree o)) (a ∷ openings (Some p) tree)
+          (openings (Some p) tree)) e)
       by (Some x) e r = ap (λ l. cond (opens (Some p) a) (a ∷ l) l) r
 
   none_empty : (ds : List (Annotated (Node Declaration))) → last_of (opens (Some p)) (empty_namespace ds) ≡ None
@@ -128,7 +139,8 @@ module _ (p : List (List ℕ)) where
   none_empty (d ∷ ds) = refl
 
   -- the joined namespace of this name has what its openings have
-  pub joined_named : (tree : List Opening) → last_of (opens (Some p)) (joined tree) ≡ whole (Some p) (openings (Some p) tree)
+  pub joined_named : (tree : List Opening) → last_of (opens (Some p)) (joined tree) ≡ whole (Some p)
+      (openings (Some p) tree)
   joined_named tree =
       last_append (opens (Some p)) (joined_by_name (named tree)) (empty_namespace (outside tree))
       ∙ (ap (λ o. option_or o (last_of (opens (Some p)) (joined_by_name (named tree)))) (none_empty (outside tree))
@@ -142,22 +154,35 @@ outside_opens [] = refl
 outside_opens (a ∷ tree) = by a.item.name refl (outside_opens tree)
   where
     by : (o : Option Path) → a.item.name ≡ o → outside tree ≡ flat_map decls_of (openings None tree)
-        → unnamed_so o a.item.decls ++ outside tree ≡ flat_map decls_of (cond (opens None a) (a ∷ openings None tree) (openings None tree))
-    by None e r = ap (λ l. a.item.decls ++ l) r ∙ sym (ap (λ o. flat_map decls_of (cond (is_at (namespace_order None) (name_in_tree o)) (a ∷ openings None tree) (openings None tree))) e)
-    by (Some x) e r = r ∙ sym (ap (λ o. flat_map decls_of (cond (is_at (namespace_order None) (name_in_tree o)) (a ∷ openings None tree) (openings None tree))) e)
+        → unnamed_so o a.item.decls ++ outside tree ≡ flat_map decls_of
+        (cond (opens None a) (a ∷ openings None tree) (openings None tree))
+    by None e r = ap (λ l. a.item.decls ++ l) r
+        ∙ sym (ap
+        (λ o. flat_map decls_of
+        (cond (is_at (namespace_order None) (name_in_tree o)) (a ∷ openings None tree) (openings None tree))) e)
+    by (Some x) e r = r
+        ∙ sym (ap
+        (λ o. flat_map decls_of
+        (cond (is_at (namespace_order None) (name_in_tree o)) (a ∷ openings None tree) (openings None tree))) e)
 
 no_unnamed : (tree : List Opening) → openings None (named tree) ≡ []
 no_unnamed [] = refl
 no_unnamed (a ∷ tree) = by a.item.name refl (no_unnamed tree)
   where
-    by : (o : Option Path) → a.item.name ≡ o → openings None (named tree) ≡ [] → openings None (named_so o a ++ named tree) ≡ []
+    by : (o : Option Path) → a.item.name ≡ o → openings None (named tree) ≡ []
+        → openings None (named_so o a ++ named tree) ≡ []
     by None e r = r
-    by (Some x) e r = ap (λ o. cond (is_at (namespace_order None) (name_in_tree o)) (a ∷ openings None (named tree)) (openings None (named tree))) e ∙ r
+    by (Some x) e r =
+        ap (λ o. cond (is_at (namespace_order None) (name_in_tree o)) (a ∷ openings None (named tree))
+        (openings None (named tree))) e ∙ r
 
-pub joined_unnamed : (tree : List Opening) → last_of (opens None) (joined tree) ≡ last_of (opens None) (empty_namespace (outside tree))
+pub joined_unnamed : (tree : List Opening) → last_of (opens None) (joined tree) ≡ last_of (opens None)
+    (empty_namespace (outside tree))
 joined_unnamed tree =
     last_append (opens None) (joined_by_name (named tree)) (empty_namespace (outside tree))
-    ∙ (ap (option_or (last_of (opens None) (empty_namespace (outside tree)))) (last_named None (named tree) ∙ ap (whole None) (no_unnamed tree)) ∙ or_none (last_of (opens None) (empty_namespace (outside tree))))
+    ∙ (ap (option_or (last_of (opens None) (empty_namespace (outside tree))))
+    (last_named None (named tree) ∙ ap (whole None) (no_unnamed tree))
+    ∙ or_none (last_of (opens None) (empty_namespace (outside tree))))
   where
     or_none : (o : Option Opening) → option_or o None ≡ o
     or_none None = refl
@@ -169,35 +194,47 @@ HasIds None = Unit {0}
 HasIds (Some p) = IsSome (texts_of p.ids)
 
 module _ (P : Option Path → Type 0) where
-  all_firsts : (ns : List Opening) → AllByRecursion (λ (n : Opening). P n.item.name) ns → AllByRecursion (λ (n : Opening). P n.item.name) (first_openings ns)
+  all_firsts : (ns : List Opening) → AllByRecursion (λ (n : Opening). P n.item.name) ns
+      → AllByRecursion (λ (n : Opening). P n.item.name) (first_openings ns)
   all_firsts [] h = tt
-  all_firsts (n ∷ ns) h = (h.0, all_filter (λ (m : Opening). P m.item.name) (λ y. not (have_one_name n y)) (first_openings ns) (all_firsts ns h.1))
+  all_firsts (n ∷ ns) h = (
+    h.0,
+    all_filter (λ (m : Opening). P m.item.name) (λ y. not (have_one_name n y)) (first_openings ns)
+        (all_firsts ns h.1),
+  )
 
-  all_opened : (all ns : List Opening) → AllByRecursion (λ (n : Opening). P n.item.name) ns → AllByRecursion (λ (n : Opening). P n.item.name) (map (λ n. opened_as n (openings_of n all)) ns)
+  all_opened : (all ns : List Opening) → AllByRecursion (λ (n : Opening). P n.item.name) ns
+      → AllByRecursion (λ (n : Opening). P n.item.name) (map (λ n. opened_as n (openings_of n all)) ns)
   all_opened all [] h = tt
   all_opened all (n ∷ ns) h = (h.0, all_opened all ns h.1)
 
-  all_named : (tree : List Opening) → AllByRecursion (λ (n : Opening). P n.item.name) tree → AllByRecursion (λ (n : Opening). P n.item.name) (named tree)
+  all_named : (tree : List Opening) → AllByRecursion (λ (n : Opening). P n.item.name) tree
+      → AllByRecursion (λ (n : Opening). P n.item.name) (named tree)
   all_named [] h = tt
   all_named (a ∷ tree) h = by a.item.name (all_named tree h.1)
     where
-      by : (o : Option Path) → AllByRecursion (λ (n : Opening). P n.item.name) (named tree) → AllByRecursion (λ (n : Opening). P n.item.name) (named_so o a ++ named tree)
+      by : (o : Option Path) → AllByRecursion (λ (n : Opening). P n.item.name) (named tree)
+          → AllByRecursion (λ (n : Opening). P n.item.name) (named_so o a ++ named tree)
       by None r = r
       by (Some x) r = (h.0, r)
 
-  both_all : (xs ys : List Opening) → AllByRecursion (λ (n : Opening). P n.item.name) xs → AllByRecursion (λ (n : Opening). P n.item.name) ys → AllByRecursion (λ (n : Opening). P n.item.name) (xs ++ ys)
+  both_all : (xs ys : List Opening) → AllByRecursion (λ (n : Opening). P n.item.name) xs
+      → AllByRecursion (λ (n : Opening). P n.item.name) ys → AllByRecursion (λ (n : Opening). P n.item.name) (xs ++ ys)
   both_all [] ys h k = k
   both_all (x ∷ xs) ys h k = (h.0, both_all xs ys h.1 k)
 
-  all_empty : P None → (ds : List (Annotated (Node Declaration))) → AllByRecursion (λ (n : Opening). P n.item.name) (empty_namespace ds)
+  all_empty : P None → (ds : List (Annotated (Node Declaration)))
+      → AllByRecursion (λ (n : Opening). P n.item.name) (empty_namespace ds)
   all_empty h [] = tt
   all_empty h (d ∷ ds) = (h, tt)
 
   -- what holds of the names in a tree holds of the joined ones
-  pub all_joined : P None → (tree : List Opening) → AllByRecursion (λ (n : Opening). P n.item.name) tree → AllByRecursion (λ (n : Opening). P n.item.name) (joined tree)
+  pub all_joined : P None → (tree : List Opening) → AllByRecursion (λ (n : Opening). P n.item.name) tree
+      → AllByRecursion (λ (n : Opening). P n.item.name) (joined tree)
   all_joined none tree h =
       both_all (joined_by_name (named tree)) (empty_namespace (outside tree))
-      (all_opened (named tree) (first_openings (named tree)) (all_firsts (named tree) (all_named tree h))) (all_empty none (outside tree))
+      (all_opened (named tree) (first_openings (named tree)) (all_firsts (named tree) (all_named tree h)))
+      (all_empty none (outside tree))
 
 -- a name that may be declared
 pub record HasKey (name : Option Path) : Type 0 where
@@ -212,7 +249,8 @@ none_reserved ids h = any_map ids ∙ h
     any_map [] = refl
     any_map (i ∷ ids) = ap (λ b. is_cedar i.text || b) (any_map ids)
 
-named_so_far : (name : InternalName) (b : Bool) (e : has_cedar (components_of name) ≡ b) → b ≡ false → (m : Name) × (declarable_name_so name b e ≡ Some m) × (m.name ≡ name)
+named_so_far : (name : InternalName) (b : Bool) (e : has_cedar (components_of name) ≡ b) → b ≡ false
+    → (m : Name) × (declarable_name_so name b e ≡ Some m) × (m.name ≡ name)
 named_so_far name true e h = absurd (true≢false h)
 named_so_far name false e h = (record { name = name; unreserved = e }, refl, refl)
 
@@ -230,7 +268,8 @@ Definition = NamespaceDefinition RawName as_written
 abbrev pub defined : Opening → Definition
 defined n = definition_of n.item.decls n.annotations
 
-entry_is : (n : Opening) (k : HasKey n.item.name) → namespace_entry n ≡ Some (let e : Option Name × Definition = (k.key, defined n) in e)
+entry_is : (n : Opening) (k : HasKey n.item.name)
+    → namespace_entry n ≡ Some (let e : Option Name × Definition = (k.key, defined n) in e)
 entry_is n k = ap (option_map (λ key. let e : Option Name × Definition = (key, defined n) in e)) k.is
 
 abbrev found_at : NamespaceName → List (Option Name × Definition) → Option Definition
@@ -241,10 +280,13 @@ last_entry : (q : NamespaceName) (ns : List Opening) → AllByRecursion (λ (n :
 last_entry q [] h = refl
 last_entry q (n ∷ ns) h =
     ap (λ o. found_at q (cons_option o (filter_map namespace_entry ns))) (entry_is n h.0)
-    ∙ (ap (λ m. option_or (found_at q (filter_map namespace_entry ns)) (if is_at (namespace_order q) m then Some (defined n) else None)) h.0.same
-    ∙ (ap (λ o. option_or o (if opens q n then Some (defined n) else None)) (last_entry q ns h.1) ∙ by (last_of (opens q) ns) (opens q n)))
+    ∙ (ap (λ m. option_or (found_at q (filter_map namespace_entry ns))
+    (if is_at (namespace_order q) m then Some (defined n) else None)) h.0.same
+    ∙ (ap (λ o. option_or o (if opens q n then Some (defined n) else None)) (last_entry q ns h.1)
+    ∙ by (last_of (opens q) ns) (opens q n)))
   where
-    by : (o : Option Opening) (b : Bool) → option_or (option_map defined o) (if b then Some (defined n) else None) ≡ option_map defined (option_or o (if b then Some n else None))
+    by : (o : Option Opening) (b : Bool) → option_or (option_map defined o) (if b then Some (defined n) else None)
+        ≡ option_map defined (option_or o (if b then Some n else None))
     by None true = refl
     by None false = refl
     by (Some x) b = refl
@@ -255,12 +297,15 @@ order_of_names None (Some b) = refl
 order_of_names (Some a) None = refl
 order_of_names (Some a) (Some b) = refl
 
-pub by_names_is : (es : List (Option Name × Definition)) → map_of namespace_cmp es ≡ map_of (λ a b. namespace_order (name_components a) (name_components b)) es
+pub by_names_is : (es : List (Option Name × Definition))
+    → map_of namespace_cmp es ≡ map_of (λ a b. namespace_order (name_components a) (name_components b)) es
 by_names_is es i = map_of (λ a b. order_of_names a b i) es
 
 -- what the fragment has of a namespace is the definition of its joined openings
 pub found_namespace : (q : NamespaceName) (ns : List Opening) → AllByRecursion (λ (n : Opening). HasKey n.item.name) ns
-    → lookup (λ k. is_at (namespace_order q) (name_components k)) (map_of namespace_cmp (filter_map namespace_entry ns)) ≡ option_map defined (last_of (opens q) ns)
+    → lookup (λ k. is_at (namespace_order q) (name_components k))
+    (map_of namespace_cmp (filter_map namespace_entry ns)) ≡ option_map defined (last_of (opens q) ns)
 found_namespace q ns h =
     ap (lookup (λ k. is_at (namespace_order q) (name_components k))) (by_names_is (filter_map namespace_entry ns))
-    ∙ (lookup_map Definition namespace_order namespace_total namespace_exact name_components q (filter_map namespace_entry ns) ∙ last_entry q ns h)
+    ∙ (lookup_map Definition namespace_order namespace_total namespace_exact name_components q
+    (filter_map namespace_entry ns) ∙ last_entry q ns h)

@@ -7,11 +7,13 @@ use Rattle.schema_readback.specs.PrintedDecls.{IsSome, IsProperOptional, IsPrope
 use Rattle.schema_syntax_reader.specs.Leaves.{Notes}
 use Rattle.schema_says.specs.Named.{IsNamedType, AreNamedAttributes, AreNamedTags, IsNamedRole, IsNamedRef, IsNamedMember, AreNamedMembers, IsNamedDecl, IsNamedDeclared, IsWellNamed}
 
-all_weaker : {A : Type 0} (P Q : A → Type 0) → ((x : A) → P x → Q x) → (xs : List A) → AllByRecursion P xs → AllByRecursion Q xs
+all_weaker : {A : Type 0} (P Q : A → Type 0) → ((x : A) → P x → Q x) → (xs : List A) → AllByRecursion P xs
+    → AllByRecursion Q xs
 all_weaker P Q f [] h = tt
 all_weaker P Q f (x ∷ xs) h = (f x h.0, all_weaker P Q f xs h.1)
 
-all_with : {A : Type 0} (P : A → Type 0) (xs ys : List A) → AllByRecursion P xs → AllByRecursion P ys → AllByRecursion P (xs ++ ys)
+all_with : {A : Type 0} (P : A → Type 0) (xs ys : List A) → AllByRecursion P xs → AllByRecursion P ys
+    → AllByRecursion P (xs ++ ys)
 all_with P [] ys h k = k
 all_with P (x ∷ xs) ys h k = (h.0, all_with P xs ys h.1 k)
 
@@ -48,25 +50,32 @@ members_named None h = tt
 members_named (Some ms) h = all_weaker IsProperMember IsNamedMember member_named ms h.1
 
 decl_named : (d : WrittenDecl) → IsProperDecl d → IsNamedDecl d
-decl_named (entity names ps xs tags) h = (all_weaker IsProperPath IsSome path_named ps h.2, attributes_named xs h.3, tags_named tags h.4)
+decl_named (entity names ps xs tags) h =
+    (all_weaker IsProperPath IsSome path_named ps h.2, attributes_named xs h.3, tags_named tags h.4)
 decl_named (enum names choices) h = tt
 decl_named (external_entity names ps) h = all_weaker IsProperPath IsSome path_named ps h.2
-decl_named (action names rs ms) h = (h.0, all_weaker IsProperRef IsNamedRef (λ r. role_named r.ty) rs h.1, members_named ms h.2)
+decl_named (action names rs ms) h =
+    (h.0, all_weaker IsProperRef IsNamedRef (λ r. role_named r.ty) rs h.1, members_named ms h.2)
 decl_named (external_action names rs) h = all_weaker IsProperRef IsNamedRef (λ r. role_named r.ty) rs h.1
 decl_named (common n t) h = type_named t h.1
 
 declared_named : (d : WrittenDeclared) → IsProperDeclared d → IsNamedDeclared d
 declared_named d h = decl_named d.decl h.1
 
-outside_named : (ds : List WrittenDeclared) → AllByRecursion IsProperDeclared ds → AllByRecursion IsWellNamed (map outside ds)
+outside_named : (ds : List WrittenDeclared) → AllByRecursion IsProperDeclared ds
+    → AllByRecursion IsWellNamed (map outside ds)
 outside_named [] h = tt
 outside_named (d ∷ ds) h = (declared_named d h.0, outside_named ds h.1)
 
-items_named : (notes : Notes) (name : Option (List (List ℕ))) (ds : List WrittenDeclared) → IsProperOptional name → AllByRecursion IsProperDeclared ds
+items_named : (notes : Notes) (name : Option (List (List ℕ))) (ds : List WrittenDeclared) → IsProperOptional name
+    → AllByRecursion IsProperDeclared ds
     → AllByRecursion IsWellNamed (namespace_items notes name ds)
 items_named notes None ds h k = outside_named ds k
-items_named notes (Some p) ds h k = ((path_named p h, all_weaker IsProperDeclared IsNamedDeclared declared_named ds k), tt)
+items_named notes (Some p) ds h k =
+    ((path_named p h, all_weaker IsProperDeclared IsNamedDeclared declared_named ds k), tt)
 
-pub groups_named : (groups : List Group) → AllByRecursion IsProperGroup groups → AllByRecursion IsWellNamed (flat_map group_items groups)
+pub groups_named : (groups : List Group) → AllByRecursion IsProperGroup groups
+    → AllByRecursion IsWellNamed (flat_map group_items groups)
 groups_named [] h = tt
-groups_named (g ∷ gs) h = all_with IsWellNamed (group_items g) (flat_map group_items gs) (items_named g.notes g.name g.decls h.0.1 h.0.2) (groups_named gs h.1)
+groups_named (g ∷ gs) h = all_with IsWellNamed (group_items g) (flat_map group_items gs)
+    (items_named g.notes g.name g.decls h.0.1 h.0.2) (groups_named gs h.1)

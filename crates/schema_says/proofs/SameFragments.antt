@@ -47,8 +47,10 @@ use Rattle.schema_says.proofs.Maps.{told_by_names}
 use Rattle.schema_says.proofs.Orders.{text_total, text_exact, namespace_total, namespace_exact}
 use Rattle.schema_says.proofs.Same.{same_type}
 
-found_alike : {V W Y : Type 0} (Says : V → W → Type 0) (value : V → Y) → ((a b : V) (w : W) → Says a w → Says b w → value a ≡ value b)
-    → (x y : Option V) (o : Option W) → FoundSays Says x o → FoundSays Says y o → option_map value x ≡ option_map value y
+found_alike : {V W Y : Type 0} (Says : V → W → Type 0) (value : V → Y)
+    → ((a b : V) (w : W) → Says a w → Says b w → value a ≡ value b)
+    → (x y : Option V) (o : Option W) → FoundSays Says x o → FoundSays Says y o
+    → option_map value x ≡ option_map value y
 found_alike Says value f None None None h k = refl
 found_alike Says value f None (Some b) None h k = absurd k
 found_alike Says value f (Some a) y None h k = absurd h
@@ -57,27 +59,37 @@ found_alike Says value f (Some a) None (Some w) h k = absurd k
 found_alike Says value f (Some a) (Some b) (Some w) h k = ap Some (f a b w h k)
 
 -- entries that say the same are the same, as they are read
-module _ {K N V W Y C : Type 0} (order : N → N → Ordering) (total : IsTotalOrder order) (exact : CmpEqualImpliesEq order) (name : K → N) (Says : V → W → Type 0)
-    (key : K → C) (value : V → Y) (keys : (k l : K) → name k ≡ name l → key k ≡ key l) (values : (a b : V) (w : W) → Says a w → Says b w → value a ≡ value b) where
-  entries_same : (es fs : List (K × V)) (written : N → Option W) → EntriesSay order name Says es written → EntriesSay order name Says fs written
-      → map (λ (e : K × V). let p : C × Y = (key e.0, value e.1) in p) es ≡ map (λ (e : K × V). let p : C × Y = (key e.0, value e.1) in p) fs
+module _ {K N V W Y C : Type 0} (order : N → N → Ordering) (total : IsTotalOrder order)
+    (exact : CmpEqualImpliesEq order) (name : K → N) (Says : V → W → Type 0)
+    (key : K → C) (value : V → Y) (keys : (k l : K) → name k ≡ name l → key k ≡ key l)
+    (values : (a b : V) (w : W) → Says a w → Says b w → value a ≡ value b) where
+  entries_same : (es fs : List (K × V)) (written : N → Option W) → EntriesSay order name Says es written
+      → EntriesSay order name Says fs written
+      → map (λ (e : K × V). let p : C × Y = (key e.0, value e.1) in p) es ≡ map
+      (λ (e : K × V). let p : C × Y = (key e.0, value e.1) in p) fs
   entries_same es fs written h k =
       told_by_names V order total exact name Y C key value keys es fs h.rising k.rising
-      (λ n. found_alike Says value values (lookup (λ q. is_at (order n) (name q)) es) (lookup (λ q. is_at (order n) (name q)) fs) (written n) (h.each n) (k.each n))
+      (λ n. found_alike Says value values (lookup (λ q. is_at (order n) (name q)) es)
+      (lookup (λ q. is_at (order n) (name q)) fs) (written n) (h.each n) (k.each n))
 
 -- keys go by their texts
-any_id_from : (x y : List ℕ) (e : x ≡ y) (p : is_word x ≡ true) (q : is_word y ≡ true) → (let a : AnyId = record { text = x; word = p } in a) ≡ (let b : AnyId = record { text = y; word = q } in b)
+any_id_from : (x y : List ℕ) (e : x ≡ y) (p : is_word x ≡ true) (q : is_word y ≡ true)
+    → (let a : AnyId = record { text = x; word = p } in a) ≡ (let b : AnyId = record { text = y; word = q } in b)
 any_id_from x y e p q =
-    let P : List ℕ → Type 0 = λ z. (r : is_word z ≡ true) → (let a : AnyId = record { text = x; word = p } in a) ≡ (let b : AnyId = record { text = z; word = r } in b) in
+    let P : List ℕ → Type 0 = λ z. (r : is_word z ≡ true)
+    → (let a : AnyId = record { text = x; word = p } in a) ≡ (let b : AnyId = record { text = z; word = r } in b) in
     subst P e (λ r i. record { text = x; word = Bool-set _ _ p r i }) q
 
 any_id_same : (a b : AnyId) → a.text ≡ b.text → a ≡ b
 any_id_same a b e = any_id_from a.text b.text e a.word b.word
 
 unreserved_from : (x y : Id) (e : x ≡ y) (p : is_cedar x.text ≡ false) (q : is_cedar y.text ≡ false)
-    → (let a : UnreservedId = record { id = x; unreserved = p } in a) ≡ (let b : UnreservedId = record { id = y; unreserved = q } in b)
+    → (let a : UnreservedId = record { id = x; unreserved = p } in a) ≡
+    (let b : UnreservedId = record { id = y; unreserved = q } in b)
 unreserved_from x y e p q =
-    let P : Id → Type 0 = λ z. (r : is_cedar z.text ≡ false) → (let a : UnreservedId = record { id = x; unreserved = p } in a) ≡ (let b : UnreservedId = record { id = z; unreserved = r } in b) in
+    let P : Id → Type 0 = λ z. (r : is_cedar z.text ≡ false)
+    → (let a : UnreservedId = record { id = x; unreserved = p } in a) ≡
+    (let b : UnreservedId = record { id = z; unreserved = r } in b) in
     subst P e (λ r i. record { id = x; unreserved = Bool-set _ _ p r i }) q
 
 unreserved_same : (a b : UnreservedId) → a.id.text ≡ b.id.text → a ≡ b
@@ -93,10 +105,14 @@ internal_same a b e =
     let others : a.others ≡ b.others = cc in
     λ i. record { first = first i; others = others i; loc = None }
 
-declared_from : (x y : InternalName) (e : x ≡ y) (p : has_cedar (components_of x) ≡ false) (q : has_cedar (components_of y) ≡ false)
-    → (let a : Name = record { name = x; unreserved = p } in a) ≡ (let b : Name = record { name = y; unreserved = q } in b)
+declared_from : (x y : InternalName) (e : x ≡ y) (p : has_cedar (components_of x) ≡ false)
+    (q : has_cedar (components_of y) ≡ false)
+    → (let a : Name = record { name = x; unreserved = p } in a) ≡
+    (let b : Name = record { name = y; unreserved = q } in b)
 declared_from x y e p q =
-    let P : InternalName → Type 0 = λ z. (r : has_cedar (components_of z) ≡ false) → (let a : Name = record { name = x; unreserved = p } in a) ≡ (let b : Name = record { name = z; unreserved = r } in b) in
+    let P : InternalName → Type 0 = λ z. (r : has_cedar (components_of z) ≡ false)
+    → (let a : Name = record { name = x; unreserved = p } in a) ≡
+    (let b : Name = record { name = z; unreserved = r } in b) in
     subst P e (λ r i. record { name = x; unreserved = Bool-set _ _ p r i }) q
 
 some_same : {X : Type 0} (a b : X) → Some a ≡ Some b → a ≡ b
@@ -105,12 +121,15 @@ some_same a b h = cc
 not_some : {X Y : Type 0} (x : X) → Some x ≡ None → Y
 not_some x h = absurd (true≢false (ap is_some h))
 
-namespace_name_same : (a b : Option Name) → name_components a ≡ name_components b → option_map bare_declared a ≡ option_map bare_declared b
+namespace_name_same : (a b : Option Name) → name_components a ≡ name_components b
+    → option_map bare_declared a ≡ option_map bare_declared b
 namespace_name_same None None e = refl
 namespace_name_same None (Some b) e = not_some (components_of b.name) (sym e)
 namespace_name_same (Some a) None e = not_some (components_of a.name) e
 namespace_name_same (Some a) (Some b) e =
-    ap Some (declared_from (bare_internal a.name) (bare_internal b.name) (internal_same a.name b.name (some_same (components_of a.name) (components_of b.name) e)) a.unreserved b.unreserved)
+    ap Some (declared_from (bare_internal a.name) (bare_internal b.name)
+    (internal_same a.name b.name (some_same (components_of a.name) (components_of b.name) e))
+    a.unreserved b.unreserved)
 
 -- names in lists
 paths_same : (ns ms : List RawName) → written_paths ns ≡ written_paths ms → map bare_name ns ≡ map bare_name ms
@@ -124,7 +143,8 @@ paths_same (n ∷ ns) (m ∷ ms) e =
     let rest = paths_same ns ms others in
     λ i. first i ∷ rest i
 
-tags_same : (a b : Option (Shape RawName)) (t : Option WrittenType) → TagsSay a t → TagsSay b t → option_map bare a ≡ option_map bare b
+tags_same : (a b : Option (Shape RawName)) (t : Option WrittenType) → TagsSay a t → TagsSay b t
+    → option_map bare a ≡ option_map bare b
 tags_same None None None h k = refl
 tags_same None (Some s) None h k = absurd k
 tags_same (Some s) b None h k = absurd h
@@ -142,17 +162,26 @@ choices_same (x ∷ xs) (y ∷ ys) e =
     let rest = choices_same xs ys others in
     λ i. record { 0 = here i } ∷ rest i
 
-standard_same : (a b : StandardEntityType RawName) → map bare_name a.member_of_types ≡ map bare_name b.member_of_types → bare a.shape.0 ≡ bare b.shape.0 → option_map bare a.tags ≡ option_map bare b.tags
+standard_same : (a b : StandardEntityType RawName)
+    → map bare_name a.member_of_types ≡ map bare_name b.member_of_types → bare a.shape.0 ≡ bare b.shape.0
+    → option_map bare a.tags ≡ option_map bare b.tags
     → bare_kind (Standard a) ≡ bare_kind (Standard b)
 standard_same a b p s t = λ i. Standard (record { member_of_types = p i; shape = record { 0 = s i }; tags = t i })
 
-kind_same : (x y : Bool) (a b : EntityTypeKind RawName) (d : WrittenDecl) → KindSays x a d → KindSays y b d → (x ≡ y) × (bare_kind a ≡ bare_kind b)
-kind_same x y (Standard a) (Standard b) (entity names ps xs tags) h k =
-    (h.0 ∙ sym k.0, standard_same a b (paths_same a.member_of_types b.member_of_types (h.1 ∙ sym k.1)) (same_type (rec xs) a.shape.0 b.shape.0 h.2 k.2) (tags_same a.tags b.tags tags h.3 k.3))
+kind_same : (x y : Bool) (a b : EntityTypeKind RawName) (d : WrittenDecl) → KindSays x a d → KindSays y b d
+    → (x ≡ y) × (bare_kind a ≡ bare_kind b)
+kind_same x y (Standard a) (Standard b) (entity names ps xs tags) h k = (
+  h.0 ∙ sym k.0,
+  standard_same a b (paths_same a.member_of_types b.member_of_types (h.1 ∙ sym k.1))
+      (same_type (rec xs) a.shape.0 b.shape.0 h.2 k.2) (tags_same a.tags b.tags tags h.3 k.3),
+)
 kind_same x y (Standard a) (Enum b) (entity names ps xs tags) h k = absurd k
 kind_same x y (Enum a) b (entity names ps xs tags) h k = absurd h
-kind_same x y (Standard a) (Standard b) (external_entity names ps) h k =
-    (h.0 ∙ sym k.0, standard_same a b (paths_same a.member_of_types b.member_of_types (h.1 ∙ sym k.1)) (same_type (rec no_more) a.shape.0 b.shape.0 h.2 k.2) (ap (option_map bare) (h.3 ∙ sym k.3)))
+kind_same x y (Standard a) (Standard b) (external_entity names ps) h k = (
+  h.0 ∙ sym k.0,
+  standard_same a b (paths_same a.member_of_types b.member_of_types (h.1 ∙ sym k.1))
+      (same_type (rec no_more) a.shape.0 b.shape.0 h.2 k.2) (ap (option_map bare) (h.3 ∙ sym k.3)),
+)
 kind_same x y (Standard a) (Enum b) (external_entity names ps) h k = absurd k
 kind_same x y (Enum a) b (external_entity names ps) h k = absurd h
 kind_same x y (Enum a) (Enum b) (enum names cs) h k = (h.0 ∙ sym k.0, ap Enum (choices_same a b (h.1 ∙ sym k.1)))
@@ -165,7 +194,8 @@ kind_same x y (Enum a) b (external_action names rs) h k = absurd h
 kind_same x y (Standard a) b (common n t) h k = absurd h
 kind_same x y (Enum a) b (common n t) h k = absurd h
 
-entity_same : (a b : EntityType RawName) (w : WrittenDeclared) → EntitySays a w → EntitySays b w → bare_entity a ≡ bare_entity b
+entity_same : (a b : EntityType RawName) (w : WrittenDeclared) → EntitySays a w → EntitySays b w
+    → bare_entity a ≡ bare_entity b
 entity_same a b w h k =
     let kinds = kind_same a.external b.external a.kind b.kind w.decl h.1 k.1 in
     let notes = notes_same a.annotations b.annotations w.notes h.0 k.0 in
@@ -179,39 +209,54 @@ common_is_same s r (external_entity names ps) h k = absurd h
 common_is_same s r (action names rs ms) h k = absurd h
 common_is_same s r (external_action names rs) h k = absurd h
 
-common_same : (a b : CommonType RawName) (w : WrittenDeclared) → CommonSays a w → CommonSays b w → bare_common a ≡ bare_common b
+common_same : (a b : CommonType RawName) (w : WrittenDeclared) → CommonSays a w → CommonSays b w
+    → bare_common a ≡ bare_common b
 common_same a b w h k =
     let ty = common_is_same a.ty b.ty w.decl h.1 k.1 in
     let notes = notes_same a.annotations b.annotations w.notes h.0 k.0 in
     λ i. record { ty = ty i; annotations = notes i; loc = None }
 
 -- a reference that must mean a common type
-common_ref_bare : (n : RawName) (loc : Option Span) → bare (shape.CommonTypeRef n loc) ≡ shape.CommonTypeRef (bare_name n) None
+common_ref_bare : (n : RawName) (loc : Option Span)
+    → bare (shape.CommonTypeRef n loc) ≡ shape.CommonTypeRef (bare_name n) None
 common_ref_bare n loc =
     ap bare (sym (shape.rolls-CommonTypeRef n loc))
-    ∙ (fold-roll-Type RawName (Shape RawName) (TypeVariant RawName) (RecordType RawName) (TypeOfAttribute RawName) bare_step bare_variant (roll-RecordType RawName) (roll-TypeOfAttribute RawName) (Type-F.CommonTypeRef n loc) ∙ shape.rolls-CommonTypeRef (bare_name n) None)
+    ∙ (fold-roll-Type RawName (Shape RawName) (TypeVariant RawName) (RecordType RawName)
+    (TypeOfAttribute RawName) bare_step bare_variant (roll-RecordType RawName) (roll-TypeOfAttribute RawName)
+    (Type-F.CommonTypeRef n loc) ∙ shape.rolls-CommonTypeRef (bare_name n) None)
 
 module _ (s r : Shape RawName) where
-  context_same : (A B : Type 0) → (A → B → bare s ≡ bare r) → (ms : List WrittenMember) → ContextOr A s ms → ContextOr B r ms → bare s ≡ bare r
+  context_same : (A B : Type 0) → (A → B → bare s ≡ bare r) → (ms : List WrittenMember) → ContextOr A s ms
+      → ContextOr B r ms → bare s ≡ bare r
   context_same A B f [] h k = f h k
   context_same A B f (types role ps ∷ ms) h k = context_same A B f ms h k
   context_same A B f (context_path p ∷ ms) h k =
-      context_same ((name : RawName) × (loc : Option Span) × (s ≡ shape.CommonTypeRef name loc) × (components_of name.name ≡ p)) ((name : RawName) × (loc : Option Span) × (r ≡ shape.CommonTypeRef name loc) × (components_of name.name ≡ p))
-      (λ (n, loc, e, c) (m, other, g, d). ap bare e ∙ (common_ref_bare n loc ∙ (ap (λ (x : RawName). shape.CommonTypeRef x None) (name_same n m (c ∙ sym d)) ∙ (sym (common_ref_bare m other) ∙ ap bare (sym g)))))
+      context_same
+      ((name : RawName) × (loc : Option Span) × (s ≡ shape.CommonTypeRef name loc)
+      × (components_of name.name ≡ p))
+      ((name : RawName) × (loc : Option Span) × (r ≡ shape.CommonTypeRef name loc) × (components_of name.name ≡ p))
+      (λ (n, loc, e, c) (m, other, g, d). ap bare e
+      ∙ (common_ref_bare n loc
+      ∙ (ap (λ (x : RawName). shape.CommonTypeRef x None) (name_same n m (c ∙ sym d))
+      ∙ (sym (common_ref_bare m other) ∙ ap bare (sym g)))))
       ms h k
-  context_same A B f (context_record xs ∷ ms) h k = context_same (TypeSays s (rec xs)) (TypeSays r (rec xs)) (λ p q. same_type (rec xs) s r p q) ms h k
+  context_same A B f (context_record xs ∷ ms) h k =
+      context_same (TypeSays s (rec xs)) (TypeSays r (rec xs)) (λ p q. same_type (rec xs) s r p q) ms h k
 
-spec_same : (a b : ApplySpec RawName) (ms : List WrittenMember) → SpecSays a ms → SpecSays b ms → bare_spec a ≡ bare_spec b
+spec_same : (a b : ApplySpec RawName) (ms : List WrittenMember) → SpecSays a ms → SpecSays b ms
+    → bare_spec a ≡ bare_spec b
 spec_same a b ms h k =
     let principals = paths_same a.principal_types b.principal_types (h.0 ∙ sym k.0) in
     let resources = paths_same a.resource_types b.resource_types (h.1 ∙ sym k.1) in
-    let context = context_same a.context.0 b.context.0 (TypeSays a.context.0 (rec no_more)) (TypeSays b.context.0 (rec no_more)) (λ p q. same_type (rec no_more) a.context.0 b.context.0 p q) ms h.2 k.2 in
+    let context = context_same a.context.0 b.context.0 (TypeSays a.context.0 (rec no_more))
+    (TypeSays b.context.0 (rec no_more)) (λ p q. same_type (rec no_more) a.context.0 b.context.0 p q) ms h.2 k.2 in
     λ i. record { resource_types = resources i; principal_types = principals i; context = record { 0 = context i } }
 
 abbrev Reference : Type 0
 Reference = ActionEntityUID RawName as_written
 
-role_same : (a b : Option RawName) → option_map (λ (n : RawName). components_of n.name) a ≡ option_map (λ (n : RawName). components_of n.name) b → option_map bare_name a ≡ option_map bare_name b
+role_same : (a b : Option RawName) → option_map (λ (n : RawName). components_of n.name) a ≡ option_map
+    (λ (n : RawName). components_of n.name) b → option_map bare_name a ≡ option_map bare_name b
 role_same None None e = refl
 role_same None (Some b) e = not_some (components_of b.name) (sym e)
 role_same (Some a) None e = not_some (components_of a.name) e
@@ -234,7 +279,8 @@ refs_same (x ∷ xs) (y ∷ ys) e =
     let rest = refs_same xs ys others in
     λ i. first i ∷ rest i
 
-parents_same : (a b : Option (List Reference)) (rs : List WrittenRef) → ParentsSay a rs → ParentsSay b rs → option_map (map bare_ref) a ≡ option_map (map bare_ref) b
+parents_same : (a b : Option (List Reference)) (rs : List WrittenRef) → ParentsSay a rs → ParentsSay b rs
+    → option_map (map bare_ref) a ≡ option_map (map bare_ref) b
 parents_same None None [] h k = refl
 parents_same None (Some ys) [] h k = absurd k
 parents_same (Some xs) b [] h k = absurd h
@@ -247,12 +293,19 @@ record AppliesAlike (x y : Bool) (a b : Option (ApplySpec RawName)) (p q : Optio
   applies : option_map bare_spec a ≡ option_map bare_spec b
   parents : option_map (map bare_ref) p ≡ option_map (map bare_ref) q
 
-applies_same : (x y : Bool) (a b : Option (ApplySpec RawName)) (p q : Option (List Reference)) (d : WrittenDecl) → AppliesSay x a p d → AppliesSay y b q d → AppliesAlike x y a b p q
+applies_same : (x y : Bool) (a b : Option (ApplySpec RawName)) (p q : Option (List Reference)) (d : WrittenDecl)
+    → AppliesSay x a p d → AppliesSay y b q d → AppliesAlike x y a b p q
 applies_same x y (Some a) (Some b) p q (action names rs ms) h k =
-    record { external = h.0 ∙ sym k.0; applies = ap Some (spec_same a b (members_said ms) h.2 k.2); parents = parents_same p q rs h.1 k.1 }
+    record {
+      external = h.0 ∙ sym k.0;
+      applies = ap Some (spec_same a b (members_said ms) h.2 k.2);
+      parents =
+          parents_same p q rs h.1 k.1;
+    }
 applies_same x y (Some a) None p q (action names rs ms) h k = absurd k
 applies_same x y None b p q (action names rs ms) h k = absurd h
-applies_same x y None None p q (external_action names rs) h k = record { external = h.0 ∙ sym k.0; applies = refl; parents = parents_same p q rs h.1 k.1 }
+applies_same x y None None p q (external_action names rs) h k =
+    record { external = h.0 ∙ sym k.0; applies = refl; parents = parents_same p q rs h.1 k.1 }
 applies_same x y None (Some b) p q (external_action names rs) h k = absurd k
 applies_same x y (Some a) b p q (external_action names rs) h k = absurd h
 applies_same x y (Some a) b p q (entity names ps xs tags) h k = absurd h
@@ -264,23 +317,45 @@ applies_same x y None b p q (external_entity names ps) h k = absurd h
 applies_same x y (Some a) b p q (common n t) h k = absurd h
 applies_same x y None b p q (common n t) h k = absurd h
 
-action_same : (a b : ActionType RawName as_written) (w : WrittenDeclared) → ActionSays a w → ActionSays b w → bare_action a ≡ bare_action b
+action_same : (a b : ActionType RawName as_written) (w : WrittenDeclared) → ActionSays a w → ActionSays b w
+    → bare_action a ≡ bare_action b
 action_same a b w h k =
     let alike = applies_same a.external b.external a.applies_to b.applies_to a.member_of b.member_of w.decl h.2 k.2 in
     let notes = notes_same a.annotations b.annotations w.notes h.0 k.0 in
     let attributes = h.1 ∙ sym k.1 in
-    λ i. record { attributes = attributes i; applies_to = alike.applies i; member_of = alike.parents i; external = alike.external i; annotations = notes i; loc = None }
+    λ i. record {
+      attributes = attributes i;
+      applies_to = alike.applies i;
+      member_of = alike.parents i;
+      external =
+          alike.external i;
+      annotations = notes i;
+      loc = None;
+    }
 
-namespace_same : (a b : NamespaceDefinition RawName as_written) (w : WrittenNamespace) → NamespaceSays a w → NamespaceSays b w → bare_namespace a ≡ bare_namespace b
+namespace_same : (a b : NamespaceDefinition RawName as_written) (w : WrittenNamespace) → NamespaceSays a w
+    → NamespaceSays b w → bare_namespace a ≡ bare_namespace b
 namespace_same a b w h k =
-    let commons = entries_same text_cmp text_total text_exact (λ (id : CommonTypeId). id.id.id.text) CommonSays (λ id. id) bare_common common_id_same common_same a.common_types b.common_types _ h.commons k.commons in
-    let entities = entries_same text_cmp text_total text_exact (λ (id : UnreservedId). id.id.text) EntitySays (λ id. id) bare_entity unreserved_same entity_same a.entity_types b.entity_types _ h.entities k.entities in
-    let actions = entries_same text_cmp text_total text_exact (λ (id : List ℕ). id) ActionSays (λ id. id) bare_action (λ x y e. e) action_same a.actions b.actions _ h.actions k.actions in
-    let notes = entries_same text_cmp text_total text_exact (λ (id : AnyId). id.text) (λ v x. v ≡ x) (λ id. id) (λ v. v) any_id_same (λ v x y e f. e ∙ sym f) a.annotations.0 b.annotations.0 _ h.annotations k.annotations in
+    let commons = entries_same text_cmp text_total text_exact (λ (id : CommonTypeId). id.id.id.text) CommonSays
+    (λ id. id) bare_common common_id_same common_same a.common_types b.common_types _ h.commons k.commons in
+    let entities = entries_same text_cmp text_total text_exact (λ (id : UnreservedId). id.id.text) EntitySays
+    (λ id. id) bare_entity unreserved_same entity_same a.entity_types b.entity_types _ h.entities k.entities in
+    let actions = entries_same text_cmp text_total text_exact (λ (id : List ℕ). id) ActionSays (λ id. id) bare_action
+    (λ x y e. e) action_same a.actions b.actions _ h.actions k.actions in
+    let notes = entries_same text_cmp text_total text_exact (λ (id : AnyId). id.text) (λ v x. v ≡ x) (λ id. id)
+    (λ v. v) any_id_same (λ v x y e f. e ∙ sym f) a.annotations.0 b.annotations.0 _ h.annotations k.annotations in
     let whole = sym (map-id a.annotations.0) ∙ (notes ∙ map-id b.annotations.0) in
-    λ i. record { common_types = commons i; entity_types = entities i; actions = actions i; annotations = record { 0 = whole i } }
+    λ i. record {
+      common_types = commons i;
+      entity_types = entities i;
+      actions = actions i;
+      annotations =
+          record { 0 = whole i };
+    }
 
-pub fragment_same : (f g : Fragment RawName as_written) (w : List WrittenItem) → FragmentSays f w → FragmentSays g w → bare_fragment f ≡ bare_fragment g
+pub fragment_same : (f g : Fragment RawName as_written) (w : List WrittenItem) → FragmentSays f w → FragmentSays g w
+    → bare_fragment f ≡ bare_fragment g
 fragment_same f g w h k =
-    let entries = entries_same namespace_order namespace_total namespace_exact name_components NamespaceSays (option_map bare_declared) bare_namespace namespace_name_same namespace_same f.0 g.0 (written_in w) h k in
+    let entries = entries_same namespace_order namespace_total namespace_exact name_components NamespaceSays
+    (option_map bare_declared) bare_namespace namespace_name_same namespace_same f.0 g.0 (written_in w) h k in
     λ i. record { 0 = entries i }

@@ -22,21 +22,44 @@ map_both : {A B C : Type 0} (f : B → C) (g : A → B) (xs : List A) → map f 
 map_both f g [] = refl
 map_both f g (x ∷ xs) = ap (λ ys. f (g x) ∷ ys) (map_both f g xs)
 
-pub set_at : (n : Node «Type») (loc : Option Span) → type_at (Set n) loc ≡ shape.Variant (variant.Set (type_at n.node n.loc)) loc
+pub set_at : (n : Node «Type») (loc : Option Span)
+    → type_at (Set n) loc ≡ shape.Variant (variant.Set (type_at n.node n.loc)) loc
 unfolding type_at
-set_at n loc = ap (λ t. type_at t loc) (sym (rolls-Set n)) ∙ ap (λ (f : Option Span → Shape RawName). f loc) (fold-roll-Type (Option Span → Shape RawName) (Annotations → AttributeEntry) translated_type translated_attribute (Type-F.Set n))
+set_at n loc = ap (λ t. type_at t loc) (sym (rolls-Set n))
+    ∙ ap (λ (f : Option Span → Shape RawName). f loc)
+    (fold-roll-Type (Option Span → Shape RawName) (Annotations → AttributeEntry) translated_type translated_attribute
+    (Type-F.Set n))
 
-pub ident_at : (path : Path) (loc : Option Span) → type_at (Ident path) loc ≡ shape.Variant (variant.EntityOrCommon (raw_name_of path)) loc
+pub ident_at : (path : Path) (loc : Option Span)
+    → type_at (Ident path) loc ≡ shape.Variant (variant.EntityOrCommon (raw_name_of path)) loc
 unfolding type_at
-ident_at path loc = ap (λ t. type_at t loc) (sym (rolls-Ident path)) ∙ ap (λ (f : Option Span → Shape RawName). f loc) (fold-roll-Type (Option Span → Shape RawName) (Annotations → AttributeEntry) translated_type translated_attribute (Type-F.Ident path))
+ident_at path loc = ap (λ t. type_at t loc) (sym (rolls-Ident path))
+    ∙ ap (λ (f : Option Span → Shape RawName). f loc)
+    (fold-roll-Type (Option Span → Shape RawName) (Annotations → AttributeEntry) translated_type translated_attribute
+    (Type-F.Ident path))
 
-pub record_at : (attributes : List (Node (Annotated AttrDecl))) (loc : Option Span) → type_at (Record attributes) loc ≡ record_type (map attribute_of attributes) loc
+pub record_at : (attributes : List (Node (Annotated AttrDecl))) (loc : Option Span)
+    → type_at (Record attributes) loc ≡ record_type (map attribute_of attributes) loc
 unfolding type_at attribute_beside
 record_at attributes loc =
-    let step = ap (λ t. type_at t loc) (sym (rolls-Record attributes)) ∙ ap (λ (f : Option Span → Shape RawName). f loc) (fold-roll-Type (Option Span → Shape RawName) (Annotations → AttributeEntry) translated_type translated_attribute (Type-F.Record attributes)) in
+    let step = ap (λ t. type_at t loc) (sym (rolls-Record attributes))
+    ∙ ap (λ (f : Option Span → Shape RawName). f loc)
+    (fold-roll-Type (Option Span → Shape RawName)
+    (Annotations → AttributeEntry) translated_type translated_attribute (Type-F.Record attributes)) in
     step ∙ ap (λ entries. record_type entries loc) (map_both _ _ attributes)
 
 pub attribute_is : (a : AttrDecl) (notes : Annotations)
-    → attribute_beside a notes ≡ ((out-AttrDecl a).name.node, roll-TypeOfAttribute RawName (record { ty = type_at (out-AttrDecl a).ty.node (out-AttrDecl a).ty.loc; annotations = notes; required = (out-AttrDecl a).required }))
+    → attribute_beside a notes ≡ (
+      (out-AttrDecl a).name.node,
+      roll-TypeOfAttribute RawName
+          (record {
+            ty = type_at (out-AttrDecl a).ty.node (out-AttrDecl a).ty.loc;
+            annotations = notes;
+            required =
+                (out-AttrDecl a).required;
+          }),
+    )
 unfolding type_at attribute_beside
-attribute_is a notes = ap (λ (f : Annotations → AttributeEntry). f notes) (fold_out-AttrDecl (Option Span → Shape RawName) (Annotations → AttributeEntry) translated_type translated_attribute a)
+attribute_is a notes = ap (λ (f : Annotations → AttributeEntry). f notes)
+    (fold_out-AttrDecl (Option Span → Shape RawName)
+    (Annotations → AttributeEntry) translated_type translated_attribute a)

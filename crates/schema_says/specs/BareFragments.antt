@@ -32,14 +32,26 @@ abbrev pub bare_shape : AttributesOrContext RawName → AttributesOrContext RawN
 bare_shape s = record { 0 = bare s.0 }
 
 abbrev pub bare_kind : EntityTypeKind RawName → EntityTypeKind RawName
-bare_kind (Standard s) = Standard (record { member_of_types = map bare_name s.member_of_types; shape = bare_shape s.shape; tags = option_map bare s.tags })
+bare_kind (Standard s) =
+    Standard (record {
+      member_of_types = map bare_name s.member_of_types;
+      shape = bare_shape s.shape;
+      tags =
+          option_map bare s.tags;
+    })
 bare_kind (Enum choices) = Enum choices
 
 abbrev pub bare_entity : EntityType RawName → EntityType RawName
 bare_entity e = record { kind = bare_kind e.kind; external = e.external; annotations = e.annotations; loc = None }
 
 abbrev pub bare_spec : ApplySpec RawName → ApplySpec RawName
-bare_spec s = record { resource_types = map bare_name s.resource_types; principal_types = map bare_name s.principal_types; context = bare_shape s.context }
+bare_spec s =
+    record {
+      resource_types = map bare_name s.resource_types;
+      principal_types =
+          map bare_name s.principal_types;
+      context = bare_shape s.context;
+    }
 
 abbrev pub bare_ref : ActionEntityUID RawName as_written → ActionEntityUID RawName as_written
 bare_ref r = record { id = r.id; ty = option_map bare_name r.ty; typed = refl }

@@ -34,7 +34,8 @@ TagsSay _ _ = ⊥
 -- what stands for an entity type says its declaration; one of another schema has no attributes and no tags
 abbrev pub KindSays : Bool → EntityTypeKind RawName → WrittenDecl → Type 0
 KindSays external (Standard e) (entity names parents attributes tags) =
-    (external ≡ false) × (written_paths e.member_of_types ≡ parents) × TypeSays e.shape.0 (rec attributes) × TagsSay e.tags tags
+    (external ≡ false) × (written_paths e.member_of_types ≡ parents) × TypeSays e.shape.0 (rec attributes)
+    × TagsSay e.tags tags
 KindSays external (Standard e) (external_entity names parents) =
     (external ≡ true) × (written_paths e.member_of_types ≡ parents) × TypeSays e.shape.0 (rec no_more) × (e.tags ≡ None)
 KindSays external (Enum ids) (enum names choices) = (external ≡ false) × (map (λ c. c.0) ids ≡ choices)
@@ -64,7 +65,9 @@ abbrev pub ContextOr : Type 0 → «Type» RawName → List WrittenMember → Ty
 ContextOr Else s [] = Else
 ContextOr Else s (types role paths ∷ ms) = ContextOr Else s ms
 ContextOr Else s (context_path p ∷ ms) =
-    ContextOr ((name : RawName) × (loc : Option Span) × (s ≡ shape.CommonTypeRef name loc) × (components_of name.name ≡ p)) s ms
+    ContextOr
+    ((name : RawName) × (loc : Option Span) × (s ≡ shape.CommonTypeRef name loc) × (components_of name.name ≡ p))
+    s ms
 ContextOr Else s (context_record xs ∷ ms) = ContextOr (TypeSays s (rec xs)) s ms
 
 -- the context is what the last member that says one says, and the empty record where there is none
@@ -91,7 +94,8 @@ ParentsSay (Some parents) (r ∷ refs) = map written_ref parents ≡ r ∷ refs
 ParentsSay _ _ = ⊥
 
 -- what an action applies to says its declaration; one of another schema applies to nothing
-abbrev pub AppliesSay : Bool → Option (ApplySpec RawName) → Option (List (ActionEntityUID RawName as_written)) → WrittenDecl
+abbrev pub AppliesSay : Bool → Option (ApplySpec RawName) → Option (List (ActionEntityUID RawName as_written))
+    → WrittenDecl
     → Type 0
 AppliesSay external (Some spec) parents (action names refs members) =
     (external ≡ false) × ParentsSay parents refs × SpecSays spec (members_said members)

@@ -48,10 +48,14 @@ pub record WrittenNamespace : Type 0 where
 
 -- Each declared name of a kind has its declaration, and each annotation key its first value.
 pub record NamespaceSays (n : NamespaceDefinition RawName as_written) (w : WrittenNamespace) : Type 0 where
-  pub annotations : EntriesSay text_cmp (λ (key : AnyId). key.text) (λ v x. v ≡ x) n.annotations.0 (λ key. lookup (λ k. is_at (text_cmp key) k.text) w.notes)
-  pub commons : EntriesSay text_cmp (λ (id : CommonTypeId). id.id.id.text) CommonSays n.common_types (last_written (by_names commons_of_decl w.decls))
-  pub entities : EntriesSay text_cmp (λ (id : UnreservedId). id.id.text) EntitySays n.entity_types (last_written (by_names entities_of_decl w.decls))
-  pub actions : EntriesSay text_cmp (λ (id : List ℕ). id) ActionSays n.actions (last_written (by_names actions_of_decl w.decls))
+  pub annotations : EntriesSay text_cmp (λ (key : AnyId). key.text) (λ v x. v ≡ x) n.annotations.0
+      (λ key. lookup (λ k. is_at (text_cmp key) k.text) w.notes)
+  pub commons : EntriesSay text_cmp (λ (id : CommonTypeId). id.id.id.text) CommonSays n.common_types
+      (last_written (by_names commons_of_decl w.decls))
+  pub entities : EntriesSay text_cmp (λ (id : UnreservedId). id.id.text) EntitySays n.entity_types
+      (last_written (by_names entities_of_decl w.decls))
+  pub actions : EntriesSay text_cmp (λ (id : List ℕ). id) ActionSays n.actions
+      (last_written (by_names actions_of_decl w.decls))
 
 -- the components of a namespace's name; the empty namespace has no name
 abbrev pub NamespaceName : Type 0
@@ -87,7 +91,8 @@ items_of_namespace name items = filter (is_of_namespace name) items
 -- what is written in a namespace of which these are all items; there is none without an item
 abbrev pub opened : List WrittenItem → Option WrittenNamespace
 opened [] = None
-opened (item ∷ items) = Some (record { notes = flat_map notes_of_item (item ∷ items); decls = flat_map decls_of_item (item ∷ items) })
+opened (item ∷ items) =
+    Some (record { notes = flat_map notes_of_item (item ∷ items); decls = flat_map decls_of_item (item ∷ items) })
 
 abbrev pub written_in : List WrittenItem → NamespaceName → Option WrittenNamespace
 written_in items name = opened (items_of_namespace name items)

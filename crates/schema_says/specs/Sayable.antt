@@ -38,7 +38,8 @@ IsFilledMember _ = Unit {0}
 
 -- No member says what one before it says, none is `[]`, and there are both principals and resources.
 pub record AreLawfulMembers (members : List WrittenMember) : Type 0 where
-  pub said_once : (before after : List WrittenMember) (m : WrittenMember) → members ≡ before ++ m ∷ after → find (says_alike m) before ≡ None
+  pub said_once : (before after : List WrittenMember) (m : WrittenMember) → members ≡ before ++ m ∷ after
+      → find (says_alike m) before ≡ None
   pub filled : AllByRecursion IsFilledMember members
   pub principals : list_any (has_role Principal) members ≡ true
   pub resources : list_any (has_role Resource) members ≡ true
@@ -72,4 +73,5 @@ pub record IsSayableNamespace (name : NamespaceName) (decls : List WrittenDeclar
 
 -- Each namespace in which something is written can be translated.
 abbrev pub IsSayable : List WrittenItem → Type 0
-IsSayable items = (name : NamespaceName) (n : WrittenNamespace) → written_in items name ≡ Some n → IsSayableNamespace name n.decls
+IsSayable items = (name : NamespaceName) (n : WrittenNamespace) → written_in items name ≡ Some n
+    → IsSayableNamespace name n.decls

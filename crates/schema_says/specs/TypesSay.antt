@@ -30,20 +30,22 @@ ByTest true A B = A
 ByTest false A B = B
 
 abbrev mutual
-  -- A name is a reference that may mean a common type or an entity type, and a record is closed and has its attributes by
-  -- rising names.
+  -- A name is a reference that may mean a common type or an entity type, and a record is closed and has its attributes
+  -- by rising names.
   pub TypeSays : «Type» RawName → WrittenType → Type 0
   TypeSays s (path p) =
       (name : RawName) × (loc : Option Span) × (s ≡ shape.Variant (variant.EntityOrCommon name) loc)
       × (components_of name.name ≡ p)
   TypeSays s (set t) =
-      (element : «Type» RawName) × (loc : Option Span) × (s ≡ shape.Variant (variant.Set element) loc) × TypeSays element t
+      (element : «Type» RawName) × (loc : Option Span) × (s ≡ shape.Variant (variant.Set element) loc)
+      × TypeSays element t
   TypeSays s (rec xs) =
       (r : RecordType RawName) × (loc : Option Span) × (s ≡ shape.Variant (variant.Record r) loc) × (is_open r ≡ false)
       × IsStrictlySortedBy text_cmp (keys_of (attributes_of r))
       × ((name : List ℕ) → AttributeSays name (lookup (is_at (text_cmp name)) (attributes_of r)) xs)
 
-  -- what is found beside a name says what the last attribute of that name says, and nothing is found where there is none
+  -- what is found beside a name says what the last attribute of that name says, and there is nothing where there is
+  -- none
   pub AttributeSays : List ℕ → Option (TypeOfAttribute RawName) → WrittenAttributes → Type 0
   AttributeSays name found no_more = found ≡ None
   AttributeSays name found (attribute ns n required t xs) =

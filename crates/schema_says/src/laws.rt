@@ -33,7 +33,8 @@ use schema_readback::laws::texts_of_meanings_read_back;
 
 /// What a tree's type says, the fragment's type says that it becomes.
 pub fn types_say_what_trees_say()
-    ensures { (n : «Type») (t : WrittenType) → ShowsType n t → IsNamedType t → (loc : Option Span) → TypeSays (type_at n loc) t }
+    ensures { (n : «Type») (t : WrittenType) → ShowsType n t → IsNamedType t → (loc : Option Span)
+        → TypeSays (type_at n loc) t }
 {}
 
 /// Types that say the same are the same, places aside.
@@ -43,27 +44,34 @@ pub fn types_that_say_the_same()
 
 /// What a tree without faults says, its fragment says.
 pub fn fragments_say_what_trees_say()
-    ensures { (tree : List (Annotated Namespace)) (w : List WrittenItem) → AllZip SaysItem tree w → AllByRecursion IsWellNamed w → translation_faults tree ≡ [] → FragmentSays (translated tree) w }
+    ensures { (tree : List (Annotated Namespace)) (w : List WrittenItem) → AllZip SaysItem tree w
+        → AllByRecursion IsWellNamed w → translation_faults tree ≡ [] → FragmentSays (translated tree) w }
 {
     lawful_trees();
 }
 
 /// Whether a tree has faults depends on what it says alone.
 pub fn faults_depend_on_what_is_said()
-    ensures { (tree : List (Annotated Namespace)) (w : List WrittenItem) → AllZip SaysItem tree w → AllByRecursion IsWellNamed w → translation_faults tree ≡ [] ↔ IsSayable w }
+    ensures { (tree : List (Annotated Namespace)) (w : List WrittenItem) → AllZip SaysItem tree w
+        → AllByRecursion IsWellNamed w → translation_faults tree ≡ [] ↔ IsSayable w }
 {
     lawful_trees();
 }
 
 /// Fragments that say the same are the same, places aside.
 pub fn fragments_that_say_the_same()
-    ensures { (f g : Fragment RawName as_written) (w : List WrittenItem) → FragmentSays f w → FragmentSays g w → bare_fragment f ≡ bare_fragment g }
+    ensures { (f g : Fragment RawName as_written) (w : List WrittenItem) → FragmentSays f w → FragmentSays g w
+        → bare_fragment f ≡ bare_fragment g }
 {}
 
 /// What a tree says decides whether it has faults, and else its fragment, places aside.
 pub fn trees_that_say_the_same()
-    ensures faults { (tree other : List (Annotated Namespace)) (w : List WrittenItem) → AllZip SaysItem tree w → AllZip SaysItem other w → AllByRecursion IsWellNamed w → translation_faults tree ≡ [] → translation_faults other ≡ [] }
-    ensures fragments { (tree other : List (Annotated Namespace)) (w : List WrittenItem) → AllZip SaysItem tree w → AllZip SaysItem other w → AllByRecursion IsWellNamed w → translation_faults tree ≡ [] → bare_fragment (translated tree) ≡ bare_fragment (translated other) }
+    ensures faults { (tree other : List (Annotated Namespace)) (w : List WrittenItem) → AllZip SaysItem tree w
+        → AllZip SaysItem other w → AllByRecursion IsWellNamed w → translation_faults tree ≡ []
+        → translation_faults other ≡ [] }
+    ensures fragments { (tree other : List (Annotated Namespace)) (w : List WrittenItem) → AllZip SaysItem tree w
+        → AllZip SaysItem other w → AllByRecursion IsWellNamed w → translation_faults tree ≡ []
+        → bare_fragment (translated tree) ≡ bare_fragment (translated other) }
 {
     faults_depend_on_what_is_said();
     fragments_say_what_trees_say();
@@ -72,7 +80,8 @@ pub fn trees_that_say_the_same()
 
 /// What is laid out has names.
 pub fn proper_groups_are_named()
-    ensures { (groups : List Group) → AllByRecursion IsProperGroup groups → AllByRecursion IsWellNamed (flat_map group_items groups) }
+    ensures { (groups : List Group) → AllByRecursion IsProperGroup groups
+        → AllByRecursion IsWellNamed (flat_map group_items groups) }
 {}
 
 /// What is written of a meaning whose names may be declared can be translated.
@@ -82,7 +91,8 @@ pub fn meanings_can_be_translated()
 
 /// A text that reads back as what can be translated has a fragment that says it.
 pub fn texts_that_read_back_are_translated()
-    ensures { (text : List ℕ) (w : List WrittenItem) → ReadsBack text w → AllByRecursion IsWellNamed w → IsSayable w → IsTranslatedAs text w }
+    ensures { (text : List ℕ) (w : List WrittenItem) → ReadsBack text w → AllByRecursion IsWellNamed w
+        → IsSayable w → IsTranslatedAs text w }
 {
     faults_depend_on_what_is_said();
     fragments_say_what_trees_say();
@@ -95,7 +105,8 @@ pub fn meanings_may_be_printed()
 
 /// The text of a meaning, in either layout, has a fragment that says what is written of the meaning.
 pub fn texts_of_meanings_are_translated()
-    ensures { (closing : Bool) (m : SchemaMeaning) → IsSpelled m → HasOpenNames m → IsTranslatedAs (schema_text closing m) (flat_map group_items (groups_of_meaning m)) }
+    ensures { (closing : Bool) (m : SchemaMeaning) → IsSpelled m → HasOpenNames m
+        → IsTranslatedAs (schema_text closing m) (flat_map group_items (groups_of_meaning m)) }
 {
     texts_of_meanings_read_back();
     meanings_may_be_printed();

@@ -10,7 +10,9 @@ returns c = record {
   translated = λ closing f groups z plain.
       let proper = c.plain_fragments_may_be_printed.ensures f groups z plain in
       c.texts_that_read_back_are_translated.ensures (laid (schema_pieces closing groups)) (flat_map group_items groups)
-      (c.laid_schemas_read_back.ensures closing groups proper) (c.proper_groups_are_named.ensures groups proper) (c.plain_fragments_can_be_translated.ensures f groups z plain);
+      (c.laid_schemas_read_back.ensures closing groups proper) (c.proper_groups_are_named.ensures groups proper)
+      (c.plain_fragments_can_be_translated.ensures f groups z plain);
   same = λ closing f groups z plain t.
-      c.fragments_that_say_the_same.ensures (translated t.reads.tree) (cedar_form f) (flat_map group_items groups) t.says (c.fragments_are_printed_in_cedar_form.ensures f groups z plain);
+      c.fragments_that_say_the_same.ensures (translated t.reads.tree) (cedar_form f)
+      (flat_map group_items groups) t.says (c.fragments_are_printed_in_cedar_form.ensures f groups z plain);
 }
