@@ -31,11 +31,11 @@ use Rattle.schema_says.specs.TypesSay.{TypeSays}
 use Rattle.schema_says.specs.DeclarationsSay.{written_paths, TagsSay, KindSays, EntitySays, CommonIs, CommonSays, ContextSays, SpecSays, members_said, written_ref, ParentsSay, AppliesSay, ActionSays}
 use Rattle.schema_says.specs.FragmentsSay.{entities_of_decl, actions_of_decl, commons_of_decl}
 use Rattle.schema_print_says.specs.CedarForm.{cedar_type, cedar_outside, cedar_context, cedar_common, cedar_kind, cedar_entity, cedar_parent, cedar_parents, cedar_spec, applied_to_none, cedar_applies, cedar_action}
-use Rattle.schema_print_says.specs.Plain.{written_components, IsPlainType, ArePlainTags, IsBareType, IsPlainKind, IsWrittenRecord, IsPlainOutside, AreTargets, AppliesPlainly}
+use Rattle.schema_print_says.specs.Plain.{components_written, IsPlainType, ArePlainTags, IsBareType, IsPlainKind, IsWrittenRecord, IsPlainOutside, AreTargets, AppliesPlainly}
 use Rattle.schema_print_says.proofs.CedarTypes.{printed, view, type_says, plain_says}
 use Rattle.schema_print_says.proofs.Folds.{Outer, type_made, name_bytes}
 
-paths_bytes : (ns : List RawName) → paths_of_names written_components ns ≡ written_paths ns
+paths_bytes : (ns : List RawName) → paths_of_names components_written ns ≡ written_paths ns
 paths_bytes [] = refl
 paths_bytes (n ∷ ns) =
     let first = name_bytes n.name in
@@ -60,7 +60,7 @@ names_at : (d e : WrittenDecl) (commons entities actions : List (List ℕ)) → 
 names_at d e commons entities actions h n = subst (λ x. NamesOf x commons entities actions) (sym h) n
 
 kind_names : (x : Bool) (k : EntityTypeKind RawName) (name : List ℕ) (d : WrittenDecl)
-    → KindAs written_components x k name d → NamesOf d [] (name ∷ []) []
+    → KindAs components_written x k name d → NamesOf d [] (name ∷ []) []
 kind_names true (Standard e) name d h = names_at d _ [] (name ∷ []) [] h
     (record { of_commons = refl; of_entities = refl; of_actions = refl })
 kind_names true (Enum ids) name d h = names_at d _ [] (name ∷ []) [] h
@@ -76,7 +76,7 @@ tags_say None h = tt
 tags_say (Some s) h = plain_says s h
 
 kind_says : (x : Bool) (k : EntityTypeKind RawName) (name : List ℕ) (d : WrittenDecl)
-    → KindAs written_components x k name d → IsPlainKind x k → KindSays x (cedar_kind k) d
+    → KindAs components_written x k name d → IsPlainKind x k → KindSays x (cedar_kind k) d
 kind_says true (Standard e) name d h p =
     subst (KindSays true (cedar_kind (Standard e))) (sym h)
     (refl, sym (paths_bytes e.member_of_types), bare_says e.shape.0 p.0, ap (option_map cedar_type) p.1)
@@ -93,23 +93,23 @@ kind_says false (Standard e) name d (xs, same, h) p =
 abbrev pub EntityEntry : Type 0
 EntityEntry = UnreservedId × EntityType RawName
 
-pub entity_names : (p : EntityEntry) (d : WrittenDeclared) → EntityAs written_components p d
+pub entity_names : (p : EntityEntry) (d : WrittenDeclared) → EntityAs components_written p d
     → NamesOf d.decl [] (p.0.id.text ∷ []) []
 entity_names p d h = kind_names p.1.external p.1.kind p.0.id.text d.decl h.1
 
-pub entity_says : (p : EntityEntry) (d : WrittenDeclared) → EntityAs written_components p d
+pub entity_says : (p : EntityEntry) (d : WrittenDeclared) → EntityAs components_written p d
     → IsPlainKind p.1.external p.1.kind → EntitySays (cedar_entity p.1) d
 entity_says p d h k = (sym h.0, kind_says p.1.external p.1.kind p.0.id.text d.decl h.1 k)
 
 abbrev pub CommonEntry : Type 0
 CommonEntry = CommonTypeId × CommonType RawName
 
-pub common_names : (p : CommonEntry) (d : WrittenDeclared) → CommonAs written_components p d
+pub common_names : (p : CommonEntry) (d : WrittenDeclared) → CommonAs components_written p d
     → NamesOf d.decl (p.0.id.id.text ∷ []) [] []
 common_names p d h = names_at d.decl (common p.0.id.id.text (printed p.1.ty)) (p.0.id.id.text ∷ []) [] [] h.1
     (record { of_commons = refl; of_entities = refl; of_actions = refl })
 
-pub common_says : (p : CommonEntry) (d : WrittenDeclared) → CommonAs written_components p d → IsPlainType p.1.ty
+pub common_says : (p : CommonEntry) (d : WrittenDeclared) → CommonAs components_written p d → IsPlainType p.1.ty
     → CommonSays (cedar_common p.1) d
 common_says p d h k = (sym h.0, subst (CommonIs (cedar_type p.1.ty)) (sym h.1) (plain_says p.1.ty k))
 
@@ -118,22 +118,22 @@ abbrev Reference : Type 0
 Reference = ActionEntityUID RawName as_written
 
 parent_type_is : (ty : Option RawName) → option_map (λ (n : RawName). components_of n.name)
-    (cedar_parent (record { id = []; ty = ty; typed = refl })).ty ≡ Some (parent_type written_components ty)
+    (cedar_parent (record { id = []; ty = ty; typed = refl })).ty ≡ Some (parent_type components_written ty)
 parent_type_is None = refl
 parent_type_is (Some n) = ap Some (sym (name_bytes n.name))
 
-parent_says : (r : Reference) → written_ref (cedar_parent r) ≡ printed_parent written_components r
+parent_says : (r : Reference) → written_ref (cedar_parent r) ≡ printed_parent components_written r
 parent_says r = let ty = parent_type_is r.ty in λ i. record { ty = ty i; id = r.id }
 
 all_parents_say : (rs : List Reference) → map written_ref (map cedar_parent rs) ≡ map
-    (printed_parent written_components) rs
+    (printed_parent components_written) rs
 all_parents_say [] = refl
 all_parents_say (r ∷ rs) =
     let first = parent_says r in
     let others = all_parents_say rs in
     λ i. first i ∷ others i
 
-parents_say : (rs : Option (List Reference)) → ParentsSay (cedar_parents rs) (printed_parents written_components rs)
+parents_say : (rs : Option (List Reference)) → ParentsSay (cedar_parents rs) (printed_parents components_written rs)
 parents_say None = tt
 parents_say (Some []) = tt
 parents_say (Some (r ∷ rs)) = all_parents_say (r ∷ rs)
@@ -145,8 +145,8 @@ context_at s o e = ap (λ x. cedar_outside x s) e
 pub common_printed : (s : «Type» RawName) (n : RawName) (loc : Option Span)
     → out-Type RawName s ≡ Type-F.CommonTypeRef n loc → printed s ≡ path (components_of n.name)
 common_printed s n loc e =
-    type_made (type_layer written_components) (variant_layer written_components) (record_layer written_components)
-    (attribute_layer written_components) s (Type-F.CommonTypeRef n loc) e ∙ ap path (name_bytes n.name)
+    type_made (type_layer components_written) (variant_layer components_written) (record_layer components_written)
+    (attribute_layer components_written) s (Type-F.CommonTypeRef n loc) e ∙ ap path (name_bytes n.name)
 
 abbrev IsNoRecord : WrittenType → Type 0
 IsNoRecord (path p) = Unit {0}
@@ -222,8 +222,8 @@ members_say spec ps rs (context_record xs) p r t so c = (p, r, c)
 
 targets_say : (s : ApplySpec RawName) (principals resources : List RawName) → s.principal_types ≡ principals
     → s.resource_types ≡ resources → AreTargets principals resources s.context.0
-    → (ms : Option (List WrittenMember)) → TargetsAs (paths_of_names written_components principals)
-    (paths_of_names written_components resources) (printed s.context.0) ms
+    → (ms : Option (List WrittenMember)) → TargetsAs (paths_of_names components_written principals)
+    (paths_of_names components_written resources) (printed s.context.0) ms
     → SpecSays (cedar_spec s) (members_said ms)
 targets_say s [] [] e f h ms so =
     subst (λ x. SpecSays (cedar_spec s) (members_said x)) (sym so)
@@ -232,14 +232,14 @@ targets_say s [] (r ∷ rs) e f h ms so = absurd h
 targets_say s (p ∷ ps) [] e f h ms so = absurd h
 targets_say s (p ∷ ps) (r ∷ rs) e f h ms (m, c, so) =
     subst (λ x. SpecSays (cedar_spec s) (members_said x)) (sym so)
-    (members_say (cedar_spec s) (paths_of_names written_components (p ∷ ps))
-    (paths_of_names written_components (r ∷ rs)) m
+    (members_say (cedar_spec s) (paths_of_names components_written (p ∷ ps))
+    (paths_of_names components_written (r ∷ rs)) m
     (ap written_paths e ∙ sym (paths_bytes (p ∷ ps))) (ap written_paths f ∙ sym (paths_bytes (r ∷ rs)))
     (printed s.context.0) c
     (context_says s.context.0 (out-Type RawName s.context.0) refl h (printed s.context.0) refl m c))
 
 spec_says : (spec : Option (ApplySpec RawName)) → AppliesPlainly false spec → (ms : Option (List WrittenMember))
-    → SpecAs written_components spec ms
+    → SpecAs components_written spec ms
     → (made : ApplySpec RawName) → cedar_applies false spec ≡ Some made → SpecSays made (members_said ms)
 spec_says None h ms so made e =
     subst (λ x. SpecSays x (members_said ms)) (some_same applied_to_none made e)
@@ -255,7 +255,7 @@ spec_says (Some s) h ms so made e =
     some_same a b p = cc
 
 applies_say : (x : Bool) (spec : Option (ApplySpec RawName)) (parents : Option (List Reference)) (id : List ℕ)
-    (d : WrittenDecl) → AppliedAs written_components x spec (printed_parents written_components parents) id d
+    (d : WrittenDecl) → AppliedAs components_written x spec (printed_parents components_written parents) id d
     → AppliesPlainly x spec → AppliesSay x (cedar_applies x spec) (cedar_parents parents) d
 applies_say true None parents id d h k = subst (AppliesSay true None (cedar_parents parents)) (sym h)
     (refl, parents_say parents)
@@ -268,7 +268,7 @@ applies_say false (Some s) parents id d (ms, so, h) k =
     (refl, parents_say parents, spec_says (Some s) k ms so (cedar_spec s) refl)
 
 applied_names : (x : Bool) (spec : Option (ApplySpec RawName)) (parents : List WrittenRef) (id : List ℕ)
-    (d : WrittenDecl) → AppliedAs written_components x spec parents id d → NamesOf d [] [] (id ∷ [])
+    (d : WrittenDecl) → AppliedAs components_written x spec parents id d → NamesOf d [] [] (id ∷ [])
 applied_names true spec parents id d h = names_at d _ [] [] (id ∷ []) h
     (record { of_commons = refl; of_entities = refl; of_actions = refl })
 applied_names false spec parents id d (ms, so, h) =
@@ -277,11 +277,11 @@ applied_names false spec parents id d (ms, so, h) =
 abbrev pub ActionEntry : Type 0
 ActionEntry = List ℕ × ActionType RawName as_written
 
-pub action_names : (p : ActionEntry) (d : WrittenDeclared) → ActionAs written_components p d
+pub action_names : (p : ActionEntry) (d : WrittenDeclared) → ActionAs components_written p d
     → NamesOf d.decl [] [] (p.0 ∷ [])
 action_names p d h = applied_names p.1.external p.1.applies_to
-    (printed_parents written_components p.1.member_of) p.0 d.decl h.1
+    (printed_parents components_written p.1.member_of) p.0 d.decl h.1
 
-pub action_says : (p : ActionEntry) (d : WrittenDeclared) → ActionAs written_components p d
+pub action_says : (p : ActionEntry) (d : WrittenDeclared) → ActionAs components_written p d
     → (p.1.attributes ≡ None) × AppliesPlainly p.1.external p.1.applies_to → ActionSays (cedar_action p.1) d
 action_says p d h k = (sym h.0, k.0, applies_say p.1.external p.1.applies_to p.1.member_of p.0 d.decl h.1 k.1)

@@ -32,7 +32,7 @@ use Rattle.schema_says.proofs.Grouped.{outside_decls, outside_notes, filter_appe
 use Rattle.schema_says.proofs.Maps.{is_equal}
 use Rattle.schema_says.proofs.Orders.{namespace_total, namespace_exact}
 use Rattle.schema_print_says.specs.CedarForm.{cedar_common, cedar_entity, cedar_action, changed_values, cedar_namespace, is_some_list, declares, Block, cedar_block, cedar_form}
-use Rattle.schema_print_says.specs.Plain.{written_components, IsPlainType, IsPlainKind, AppliesPlainly, IsPlainNamespace, IsPlainFragment}
+use Rattle.schema_print_says.specs.Plain.{components_written, IsPlainType, IsPlainKind, AppliesPlainly, IsPlainNamespace, IsPlainFragment}
 use Rattle.schema_print_says.proofs.CedarDecls.{EntityEntry, entity_names, entity_says, CommonEntry, common_names, common_says, ActionEntry, action_names, action_says}
 use Rattle.schema_print_says.proofs.Folds.{name_bytes}
 
@@ -92,13 +92,13 @@ abbrev action_text : List ℕ → List ℕ
 action_text id = id
 
 abbrev pub CommonSo : CommonEntry → WrittenDeclared → Type 0
-CommonSo = CommonAs written_components
+CommonSo = CommonAs components_written
 
 abbrev pub EntitySo : EntityEntry → WrittenDeclared → Type 0
-EntitySo = EntityAs written_components
+EntitySo = EntityAs components_written
 
 abbrev pub ActionSo : ActionEntry → WrittenDeclared → Type 0
-ActionSo = ActionAs written_components
+ActionSo = ActionAs components_written
 
 abbrev PlainCommon : CommonEntry → Type 0
 PlainCommon e = IsPlainType e.1.ty
@@ -109,7 +109,7 @@ PlainEntity e = IsPlainKind e.1.external e.1.kind
 abbrev PlainAction : ActionEntry → Type 0
 PlainAction e = (e.1.attributes ≡ None) × AppliesPlainly e.1.external e.1.applies_to
 
-module _ (b : Block) (ds : List WrittenDeclared) (h : AreItemsOf written_components b.1 ds)
+module _ (b : Block) (ds : List WrittenDeclared) (h : AreItemsOf components_written b.1 ds)
     (plain : IsPlainNamespace b) where
   commons_are : by_names commons_of_decl ds ≡ by_names commons_of_decl h.commons
   commons_are =
@@ -190,7 +190,7 @@ module _ (q : NamespaceName) where
   abbrev found : List Block → Option Definition
   found bs = lookup (λ k. is_at (namespace_order q) (name_components k)) (filter_map cedar_block bs)
 
-  pub group_at : (b : Block) (g : Group) → IsGroupOf written_components b g
+  pub group_at : (b : Block) (g : Group) → IsGroupOf components_written b g
       → items_of_namespace q (group_items g) ≡ cond (is_block b) (group_items g) []
   group_at b g h = items_at q g.notes g.name g.decls
       ∙ ap (λ n. cond (is_at (namespace_order q) n) (group_items g) []) (h.name ∙ name_is b.0)
@@ -214,7 +214,7 @@ module _ (q : NamespaceName) where
   none_found [] h = refl
   none_found (b ∷ bs) h = passed b bs (none_less b h.0) ∙ none_found bs h.1
 
-  pub none_written : (bs : List Block) (gs : List Group) → AllZip (IsGroupOf written_components) bs gs
+  pub none_written : (bs : List Block) (gs : List Group) → AllZip (IsGroupOf components_written) bs gs
       → AllByRecursion (λ y. namespace_order q y ≡ Less) (map (λ e. name_components e.0) bs)
       → items_of_namespace q (flat_map group_items gs) ≡ []
   none_written [] [] z h = refl
@@ -237,7 +237,7 @@ some_zip R [] (y ∷ ys) h = absurd h
 some_zip R (x ∷ xs) [] h = absurd h
 some_zip R (x ∷ xs) (y ∷ ys) h = refl
 
-declares_is : (n : Definition) (ds : List WrittenDeclared) → AreItemsOf written_components n ds
+declares_is : (n : Definition) (ds : List WrittenDeclared) → AreItemsOf components_written n ds
     → declares n ≡ is_some_list ds
 declares_is n ds h =
     (λ i. some_zip CommonSo n.common_types h.commons h.of_commons i ||
@@ -265,7 +265,7 @@ unnamed_says n bs true (d ∷ ds) e s none = subst (FoundSays NamespaceSays (Som
 unnamed_says n bs false [] e s none = subst (λ o. FoundSays NamespaceSays o None) (sym none) tt
 unnamed_says n bs false (d ∷ ds) e s none = absurd (true≢false e)
 
-block_says : (b : Block) (g : Group) (bs : List Block) → IsGroupOf written_components b g → IsPlainNamespace b
+block_says : (b : Block) (g : Group) (bs : List Block) → IsGroupOf components_written b g → IsPlainNamespace b
     → found (name_components b.0) bs ≡ None
     → FoundSays NamespaceSays (found (name_components b.0) (b ∷ bs)) (opened (group_items g))
 block_says (None, n) g bs h plain none =
@@ -287,7 +287,7 @@ block_says (Some name, n) g bs h plain none =
     (subst (λ t. FoundSays NamespaceSays (cond t (Some (cedar_namespace n)) (found (Some q) bs))
     (opened (namespace g.notes p g.decls ∷ []))) (sym (ap is_eq (tied_itself namespace_total (Some q)))) whole)
 
-says_at : (q : NamespaceName) (bs : List Block) (gs : List Group) → AllZip (IsGroupOf written_components) bs gs
+says_at : (q : NamespaceName) (bs : List Block) (gs : List Group) → AllZip (IsGroupOf components_written) bs gs
     → IsStrictlySortedBy namespace_order (map (λ e. name_components e.0) bs) → AllByRecursion IsPlainNamespace bs
     → FoundSays NamespaceSays (found q bs) (opened (items_of_namespace q (flat_map group_items gs)))
 says_at q [] [] z up plain = tt
@@ -357,7 +357,7 @@ blocks_rise ((None, n) ∷ bs) h = by (declares n) (blocks_rise bs h.1)
     by true r l = (l, r)
     by false r l = r
 
-pub fragment_says : (f : Fragment RawName as_written) (groups : List Group) → AreGroupsOf written_components f groups
+pub fragment_says : (f : Fragment RawName as_written) (groups : List Group) → AreGroupsOf components_written f groups
     → IsPlainFragment f → FragmentSays (cedar_form f) (flat_map group_items groups)
 fragment_says f groups z plain = record {
   rising = blocks_rise f.0 plain.names_rise;

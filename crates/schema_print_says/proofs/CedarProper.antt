@@ -23,7 +23,7 @@ use Rattle.schema_print_text.specs.PrintedTypes.{PrintedAttribute, printed_name,
 use Rattle.schema_print.specs.PrintedFragments.{paths_of_names, parent_type, printed_parent, printed_parents}
 use Rattle.schema_print.specs.FragmentGroups.{written_name, ContextAs, TargetsAs, KindAs, SpecAs, AppliedAs, AreItemsOf, IsGroupOf, AreGroupsOf}
 use Rattle.schema_print_says.specs.CedarForm.{Block}
-use Rattle.schema_print_says.specs.Plain.{written_components, IsRisingType, AreRisingAttributes, ArePlainTags, IsPlainKind, IsWrittenRecord, IsPlainOutside, AreTargets, AppliesPlainly, IsPlainNamespace, IsPlainFragment}
+use Rattle.schema_print_says.specs.Plain.{components_written, IsRisingType, AreRisingAttributes, ArePlainTags, IsPlainKind, IsWrittenRecord, IsPlainOutside, AreTargets, AppliesPlainly, IsPlainNamespace, IsPlainFragment}
 use Rattle.schema_print_says.proofs.CedarDecls.{common_printed}
 use Rattle.schema_print_says.proofs.CedarFragments.{CommonSo, EntitySo, ActionSo}
 use Rattle.schema_print_says.proofs.CedarTypes.{CedarView, reference, of_set, of_record, view, Entry, printed, entries_printed, PrintedAs, attribute_printed, path_is, set_is, record_attributes, IsNoRecord, no_path, no_set, no_record, no_none, alike}
@@ -40,7 +40,7 @@ name_proper n = ids_proper n.first n.others
 bytes_proper : (n : InternalName) → IsProperPath (printed_name (components_of n))
 bytes_proper n = subst IsProperPath (sym (name_bytes n)) (name_proper n)
 
-paths_proper : (ns : List RawName) → AllByRecursion IsProperPath (paths_of_names written_components ns)
+paths_proper : (ns : List RawName) → AllByRecursion IsProperPath (paths_of_names components_written ns)
 paths_proper [] = tt
 paths_proper (n ∷ ns) = (bytes_proper n.name, paths_proper ns)
 
@@ -64,7 +64,7 @@ mutual
   attributes_proper no_more es w up = tt
   attributes_proper (attribute ns n r t xs) [] w up = no_none (attribute ns n r t xs) (sym w) tt
   attributes_proper (attribute ns n r t xs) (e ∷ es) w up =
-      let p = printed_attribute written_components e.1 in
+      let p = printed_attribute components_written e.1 in
       let same = alike p.notes ns e.0 n p.required r p.ty t (entries_printed es) xs w in
       let out = out-TypeOfAttribute RawName e.1 in
       let is : PrintedAs p e.1 = attribute_printed e.1 in (
@@ -85,7 +85,7 @@ some_choices [] h = absurd h
 some_choices (c ∷ ids) h = tt
 
 kind_proper : (x : Bool) (k : EntityTypeKind RawName) (name : List ℕ) (d : WrittenDecl) → IsProperWord name
-    → KindAs written_components x k name d → IsPlainKind x k → IsProperDecl d
+    → KindAs components_written x k name d → IsPlainKind x k → IsProperDecl d
 kind_proper true (Standard e) name d w h p = subst IsProperDecl (sym h) (tt, (w, tt), paths_proper e.member_of_types)
 kind_proper true (Enum ids) name d w h p = absurd p
 kind_proper false (Enum ids) name d w h p = subst IsProperDecl (sym h) (tt, (w, tt), some_choices ids p)
@@ -98,17 +98,17 @@ kind_proper false (Standard e) name d w (xs, same, h) p =
       tags_proper e.tags p.1,
     )
 
-parent_proper : (ty : Option RawName) → IsProperPath (parent_type written_components ty)
+parent_proper : (ty : Option RawName) → IsProperPath (parent_type components_written ty)
 parent_proper None = refl
 parent_proper (Some n) = bytes_proper n.name
 
 refs_proper : (rs : List (ActionEntityUID RawName as_written))
-    → AllByRecursion IsProperRef (map (printed_parent written_components) rs)
+    → AllByRecursion IsProperRef (map (printed_parent components_written) rs)
 refs_proper [] = tt
 refs_proper (r ∷ rs) = (parent_proper r.ty, refs_proper rs)
 
 parents_proper : (rs : Option (List (ActionEntityUID RawName as_written)))
-    → AllByRecursion IsProperRef (printed_parents written_components rs)
+    → AllByRecursion IsProperRef (printed_parents components_written rs)
 parents_proper None = tt
 parents_proper (Some rs) = refs_proper rs
 
@@ -127,7 +127,7 @@ context_proper s (Type-F.CommonTypeRef n loc) e h (rec xs) w m so =
 
 targets_proper : (context : «Type» RawName) (principals resources : List RawName)
     → AreTargets principals resources context → (ms : Option (List WrittenMember))
-    → TargetsAs (paths_of_names written_components principals) (paths_of_names written_components resources)
+    → TargetsAs (paths_of_names components_written principals) (paths_of_names components_written resources)
     (printed context) ms → AreProperMembers ms
 targets_proper context [] [] h ms so = subst AreProperMembers (sym so) tt
 targets_proper context [] (r ∷ rs) h ms so = absurd h
@@ -145,13 +145,13 @@ targets_proper context (p ∷ ps) (r ∷ rs) h ms (m, c, so) =
     )
 
 spec_proper : (spec : Option (ApplySpec RawName)) → AppliesPlainly false spec → (ms : Option (List WrittenMember))
-    → SpecAs written_components spec ms → AreProperMembers ms
+    → SpecAs components_written spec ms → AreProperMembers ms
 spec_proper None h ms so = subst AreProperMembers (sym so) tt
 spec_proper (Some s) h ms so = targets_proper s.context.0 s.principal_types s.resource_types h ms so
 
 applied_proper : (x : Bool) (spec : Option (ApplySpec RawName))
     (parents : Option (List (ActionEntityUID RawName as_written))) (id : List ℕ) (d : WrittenDecl)
-    → AppliedAs written_components x spec (printed_parents written_components parents) id d → AppliesPlainly x spec
+    → AppliedAs components_written x spec (printed_parents components_written parents) id d → AppliesPlainly x spec
     → IsProperDecl d
 applied_proper true spec parents id d h k = subst IsProperDecl (sym h) (tt, parents_proper parents)
 applied_proper false spec parents id d (ms, so, h) k =
@@ -175,9 +175,9 @@ optional_proper : (key : Option Name) → IsProperOptional (written_name key)
 optional_proper None = tt
 optional_proper (Some n) = bytes_proper n.name
 
-group_proper : (b : Block) (g : Group) → IsGroupOf written_components b g → IsPlainNamespace b → IsProperGroup g
+group_proper : (b : Block) (g : Group) → IsGroupOf components_written b g → IsPlainNamespace b → IsProperGroup g
 group_proper b g h plain =
-    let i : AreItemsOf written_components b.1 g.decls = h.items in (
+    let i : AreItemsOf components_written b.1 g.decls = h.items in (
       subst AreProperNotes (sym h.notes) plain.keys_rise,
       subst IsProperOptional (sym h.name) (optional_proper b.0),
       subst (AllByRecursion IsProperDeclared) (sym i.all)
@@ -202,7 +202,7 @@ group_proper b g h plain =
           b.1.actions i.actions i.of_actions plain.actions plain.action_notes))),
     )
 
-groups_proper : (bs : List Block) (gs : List Group) → AllZip (IsGroupOf written_components) bs gs
+groups_proper : (bs : List Block) (gs : List Group) → AllZip (IsGroupOf components_written) bs gs
     → AllByRecursion IsPlainNamespace bs → AllByRecursion IsProperGroup gs
 groups_proper [] [] z h = tt
 groups_proper [] (g ∷ gs) z h = absurd z
@@ -210,5 +210,5 @@ groups_proper (b ∷ bs) [] z h = absurd z
 groups_proper (b ∷ bs) (g ∷ gs) z h = (group_proper b g z.0 h.0, groups_proper bs gs z.1 h.1)
 
 pub fragment_proper : (f : Fragment RawName as_written) (groups : List Group)
-    → AreGroupsOf written_components f groups → IsPlainFragment f → AllByRecursion IsProperGroup groups
+    → AreGroupsOf components_written f groups → IsPlainFragment f → AllByRecursion IsProperGroup groups
 fragment_proper f groups z plain = groups_proper f.0 groups z plain.each

@@ -28,7 +28,7 @@ use Rattle.schema_says.proofs.Maps.{is_equal}
 use Rattle.schema_says.proofs.MeantSayable.{AreUnlike, unlike_once, same_text, names_append, flat_one, flat_none, all_with}
 use Rattle.schema_says.proofs.Orders.{text_total, namespace_exact}
 use Rattle.schema_print_says.specs.CedarForm.{Block}
-use Rattle.schema_print_says.specs.Plain.{written_components, IsPlainNamespace, IsPlainFragment}
+use Rattle.schema_print_says.specs.Plain.{components_written, IsPlainNamespace, IsPlainFragment}
 use Rattle.schema_print_says.proofs.CedarDecls.{EntityEntry, CommonEntry, ActionEntry, entity_names, common_names, action_names}
 use Rattle.schema_print_says.proofs.CedarFragments.{CommonSo, EntitySo, ActionSo, is_block, group_at, none_written, name_is}
 use Rattle.schema_print_says.proofs.CedarTypes.{printed}
@@ -61,7 +61,7 @@ module _ {K V : Type 0} (So : K × V → WrittenDeclared → Type 0) (f : Writte
 
 -- blocks of members
 kind_applies : (x : Bool) (k : EntityTypeKind RawName) (name : List ℕ) (d : WrittenDecl)
-    → KindAs written_components x k name d → AppliesWell d
+    → KindAs components_written x k name d → AppliesWell d
 kind_applies true (Standard e) name d h = subst AppliesWell (sym h) tt
 kind_applies true (Enum ids) name d h = subst AppliesWell (sym h) tt
 kind_applies false (Enum ids) name d h = subst AppliesWell (sym h) tt
@@ -95,13 +95,13 @@ targets_lawful (p ∷ ps) [] t ms so = subst HasLawfulMembers (sym so) tt
 targets_lawful (p ∷ ps) (r ∷ rs) t ms (m, c, so) = subst HasLawfulMembers (sym so) (members_lawful p r ps rs t m c)
 
 spec_lawful : (spec : Option (ApplySpec RawName)) (ms : Option (List WrittenMember))
-    → SpecAs written_components spec ms → HasLawfulMembers ms
+    → SpecAs components_written spec ms → HasLawfulMembers ms
 spec_lawful None ms so = subst HasLawfulMembers (sym so) tt
-spec_lawful (Some s) ms so = targets_lawful (paths_of_names written_components s.principal_types)
-    (paths_of_names written_components s.resource_types) (printed s.context.0) ms so
+spec_lawful (Some s) ms so = targets_lawful (paths_of_names components_written s.principal_types)
+    (paths_of_names components_written s.resource_types) (printed s.context.0) ms so
 
 applied_lawful : (x : Bool) (spec : Option (ApplySpec RawName)) (parents : List WrittenRef) (id : List ℕ)
-    (d : WrittenDecl) → AppliedAs written_components x spec parents id d → AppliesWell d
+    (d : WrittenDecl) → AppliedAs components_written x spec parents id d → AppliesWell d
 applied_lawful true spec parents id d h = subst AppliesWell (sym h) tt
 applied_lawful false spec parents id d (ms, so, h) = subst AppliesWell (sym h) (spec_lawful spec ms so)
 
@@ -138,7 +138,7 @@ block_free : (key : Option Name) → IsFreeNamespace (name_components key)
 block_free None = tt
 block_free (Some n) = n.unreserved
 
-module _ (b : Block) (ds : List WrittenDeclared) (h : AreItemsOf written_components b.1 ds)
+module _ (b : Block) (ds : List WrittenDeclared) (h : AreItemsOf components_written b.1 ds)
     (plain : IsPlainNamespace b) where
   parts : (f : WrittenDecl → List (List ℕ)) → names_written f ds ≡ names_written f h.commons
       ++ (names_written f h.entities ++ names_written f h.actions)
@@ -204,7 +204,7 @@ module _ (b : Block) (ds : List WrittenDeclared) (h : AreItemsOf written_compone
         b.1.entity_types h.entities h.of_entities)
         (all_apply ActionSo
         (λ e d s. applied_lawful e.1.external e.1.applies_to
-        (printed_parents written_components e.1.member_of) e.0 d.decl s.1) b.1.actions h.actions h.of_actions)));
+        (printed_parents components_written e.1.member_of) e.0 d.decl s.1) b.1.actions h.actions h.of_actions)));
     commons_free = subst (AllByRecursion IsFreeCommonName) (sym commons_are)
         (commons_free b.1.common_types plain.commons_open);
   }
@@ -223,7 +223,7 @@ group_decls g None s w e = by g.decls (sym (ap (λ n. opened (namespace_items g.
 group_decls g (Some p) s w e = ap (λ (x : WrittenNamespace). x.decls)
     (sym (some_same _ w (sym (ap (λ n. opened (namespace_items g.notes n g.decls)) s) ∙ e))) ∙ append-nil g.decls
 
-sayable_at : (q : NamespaceName) (bs : List Block) (gs : List Group) → AllZip (IsGroupOf written_components) bs gs
+sayable_at : (q : NamespaceName) (bs : List Block) (gs : List Group) → AllZip (IsGroupOf components_written) bs gs
     → IsStrictlySortedBy namespace_order (map (λ e. name_components e.0) bs) → AllByRecursion IsPlainNamespace bs
     → (w : WrittenNamespace) → opened (items_of_namespace q (flat_map group_items gs)) ≡ Some w
     → IsSayableNamespace q w.decls
@@ -259,5 +259,5 @@ sayable_at q (b ∷ bs) (g ∷ gs) z up plain w e =
         (group_at q b g z.0 ∙ ap (λ t. cond t (group_items g) []) t))) ∙ k)
 
 pub fragment_sayable : (f : Fragment RawName as_written) (groups : List Group)
-    → AreGroupsOf written_components f groups → IsPlainFragment f → IsSayable (flat_map group_items groups)
+    → AreGroupsOf components_written f groups → IsPlainFragment f → IsSayable (flat_map group_items groups)
 fragment_sayable f groups z plain q w e = sayable_at q f.0 groups z plain.names_rise plain.each w e

@@ -28,7 +28,7 @@ use Rattle.schema_readback.specs.Written.{WrittenType, WrittenAttributes, path, 
 use Rattle.schema_print_text.specs.PrintedTypes.{PrintedAttribute, printed_attributes, type_layer, variant_layer, record_layer, attribute_layer, printed_type, printed_variant, printed_record, printed_attribute, printed_entries}
 use Rattle.schema_says.specs.TypesSay.{TypeSays, AttributeSays, ByTest, has_attribute, is_last_attribute}
 use Rattle.schema_print_says.specs.CedarForm.{builtin_name, bool_name, long_name, string_name, cedar_layer, cedar_variant_layer, cedar_type, cedar_variant, cedar_record, cedar_attribute}
-use Rattle.schema_print_says.specs.Plain.{written_components, all_hold, closed_layer, closed_variant_layer, closed_record_layer, closed_attribute_layer, is_closed_type, is_closed_variant, is_closed_record, is_closed_attribute, attribute_names, IsRisingType, AreRisingAttributes, IsPlainType}
+use Rattle.schema_print_says.specs.Plain.{components_written, all_hold, closed_layer, closed_variant_layer, closed_record_layer, closed_attribute_layer, is_closed_type, is_closed_variant, is_closed_record, is_closed_attribute, attribute_names, IsRisingType, AreRisingAttributes, IsPlainType}
 use Rattle.schema_print_says.proofs.Folds.{Outer, Inner, inner_made, type_made, variant_made, name_bytes}
 
 abbrev pub Entry : Type 0
@@ -41,10 +41,10 @@ abbrev closed_entry : Entry → List ℕ × Bool
 closed_entry e = (e.0, is_closed_attribute e.1)
 
 abbrev pub printed : «Type» RawName → WrittenType
-printed = printed_type written_components
+printed = printed_type components_written
 
 abbrev pub entries_printed : List Entry → WrittenAttributes
-entries_printed = printed_entries written_components
+entries_printed = printed_entries components_written
 
 -- what a type is, in this form and as it is written
 pub data CedarView (s : «Type» RawName) : Type 0 where
@@ -59,18 +59,18 @@ pub data CedarView (s : «Type» RawName) : Type 0 where
 
 entries_made : (es : List Entry)
     → printed_attributes
-    (map (λ p. let q : List ℕ × PrintedAttribute = (p.0, printed_attribute written_components p.1) in q) es)
+    (map (λ p. let q : List ℕ × PrintedAttribute = (p.0, printed_attribute components_written p.1) in q) es)
     ≡ entries_printed es
 entries_made [] = refl
 entries_made (e ∷ es) =
-    let a = printed_attribute written_components e.1 in
+    let a = printed_attribute components_written e.1 in
     ap (λ xs. attribute a.notes e.0 a.required a.ty xs) (entries_made es)
 
-record_printed : (r : RecordType RawName) → printed_record written_components r ≡ entries_printed (attributes_of r)
+record_printed : (r : RecordType RawName) → printed_record components_written r ≡ entries_printed (attributes_of r)
 record_printed r =
     fold_out-RecordType RawName WrittenType WrittenType WrittenAttributes PrintedAttribute
-    (type_layer written_components) (variant_layer written_components) (record_layer written_components)
-    (attribute_layer written_components) r
+    (type_layer components_written) (variant_layer components_written) (record_layer components_written)
+    (attribute_layer components_written) r
     ∙ entries_made (attributes_of r)
 
 abbrev pub PrintedAs : PrintedAttribute → TypeOfAttribute RawName → Type 0
@@ -82,11 +82,11 @@ PrintedAs p a =
       ty = printed (out-TypeOfAttribute RawName a).ty;
     }
 
-pub attribute_printed : (a : TypeOfAttribute RawName) → PrintedAs (printed_attribute written_components a) a
+pub attribute_printed : (a : TypeOfAttribute RawName) → PrintedAs (printed_attribute components_written a) a
 attribute_printed a =
     fold_out-TypeOfAttribute RawName WrittenType WrittenType WrittenAttributes PrintedAttribute
-    (type_layer written_components) (variant_layer written_components) (record_layer written_components)
-    (attribute_layer written_components) a
+    (type_layer components_written) (variant_layer components_written) (record_layer components_written)
+    (attribute_layer components_written) a
 
 module _ (s : «Type» RawName) where
   variant_cedar : (v : TypeVariant RawName) (loc : Option Span) → out-Type RawName s ≡ Type-F.Variant v loc
@@ -95,9 +95,9 @@ module _ (s : «Type» RawName) where
       (roll-TypeOfAttribute RawName) s (Type-F.Variant v loc) e ∙ shape.rolls-Variant (cedar_variant v) loc
 
   variant_printed : (v : TypeVariant RawName) (loc : Option Span) → out-Type RawName s ≡ Type-F.Variant v loc
-      → printed s ≡ printed_variant written_components v
-  variant_printed v loc e = type_made (type_layer written_components) (variant_layer written_components)
-      (record_layer written_components) (attribute_layer written_components) s (Type-F.Variant v loc) e
+      → printed s ≡ printed_variant components_written v
+  variant_printed v loc e = type_made (type_layer components_written) (variant_layer components_written)
+      (record_layer components_written) (attribute_layer components_written) s (Type-F.Variant v loc) e
 
   variant_closed : (v : TypeVariant RawName) (loc : Option Span) → out-Type RawName s ≡ Type-F.Variant v loc
       → is_closed_type s ≡ is_closed_variant v
@@ -111,10 +111,10 @@ cedar_inner v o e = variant_made cedar_layer cedar_variant_layer (roll-RecordTyp
     (roll-TypeOfAttribute RawName) v o e
 
 printed_inner : (v : TypeVariant RawName) (o : Inner) → out-TypeVariant RawName v ≡ o
-    → printed_variant written_components v ≡ inner_made (type_layer written_components)
-    (variant_layer written_components) (record_layer written_components) (attribute_layer written_components) o
-printed_inner v o e = variant_made (type_layer written_components) (variant_layer written_components)
-    (record_layer written_components) (attribute_layer written_components) v o e
+    → printed_variant components_written v ≡ inner_made (type_layer components_written)
+    (variant_layer components_written) (record_layer components_written) (attribute_layer components_written) o
+printed_inner v o e = variant_made (type_layer components_written) (variant_layer components_written)
+    (record_layer components_written) (attribute_layer components_written) v o e
 
 closed_inner : (v : TypeVariant RawName) (o : Inner) → out-TypeVariant RawName v ≡ o
     → is_closed_variant v ≡ inner_made closed_layer closed_variant_layer closed_record_layer closed_attribute_layer o
@@ -123,7 +123,7 @@ closed_inner v o e = variant_made closed_layer closed_variant_layer closed_recor
 module _ (s : «Type» RawName) (v : TypeVariant RawName) (loc : Option Span)
     (e : out-Type RawName s ≡ Type-F.Variant v loc) where
   as_reference : (n : RawName) → cedar_variant v ≡ roll-TypeVariant RawName (TypeVariant-F.EntityOrCommon n)
-      → printed_variant written_components v ≡ path (components_of n.name) → CedarView s
+      → printed_variant components_written v ≡ path (components_of n.name) → CedarView s
   as_reference n c p =
       reference n loc
       (variant_cedar s v loc e ∙ ap (λ (x : TypeVariant RawName). shape.Variant x loc)
@@ -164,8 +164,8 @@ view_outer s (Type-F.CommonTypeRef n loc) e =
     (Type-F.CommonTypeRef n loc) e
     ∙ (ap (λ (x : TypeVariant RawName). roll-Type RawName (Type-F.Variant x loc)) (variant.rolls-EntityOrCommon n)
     ∙ shape.rolls-Variant (variant.EntityOrCommon n) loc))
-    (type_made (type_layer written_components) (variant_layer written_components) (record_layer written_components)
-    (attribute_layer written_components) s (Type-F.CommonTypeRef n loc) e ∙ ap path (name_bytes n.name))
+    (type_made (type_layer components_written) (variant_layer components_written) (record_layer components_written)
+    (attribute_layer components_written) s (Type-F.CommonTypeRef n loc) e ∙ ap path (name_bytes n.name))
 
 pub view : (s : «Type» RawName) → CedarView s
 view s = view_outer s (out-Type RawName s) refl
@@ -353,7 +353,7 @@ mutual
   entries_say no_more (e ∷ es) w h keys up name = no_none (entries_printed (e ∷ es)) w tt
   entries_say (attribute ns n r t xs) [] w h keys up name = no_none (attribute ns n r t xs) (sym w) tt
   entries_say (attribute ns n r t xs) (e ∷ es) w h keys up name =
-      let p = printed_attribute written_components e.1 in
+      let p = printed_attribute components_written e.1 in
       let same = alike p.notes ns e.0 n p.required r p.ty t (entries_printed es) xs w in
       let out = out-TypeOfAttribute RawName e.1 in
       let is : PrintedAs p e.1 = attribute_printed e.1 in

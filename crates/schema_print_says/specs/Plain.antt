@@ -26,8 +26,8 @@ use Rattle.schema_says.specs.FragmentsSay.{namespace_order, name_components}
 use Rattle.schema_print_says.specs.CedarForm.{Block}
 
 -- the components of a name as it was written
-abbrev pub written_components : RawName → List (List ℕ)
-written_components name = components_of name.name
+abbrev pub components_written : RawName → List (List ℕ)
+components_written name = components_of name.name
 
 -- each of them is so
 abbrev pub all_hold : List (List ℕ × Bool) → Bool
@@ -86,7 +86,7 @@ abbrev mutual
 
 -- every record in it is closed, and has its attributes by rising names
 abbrev pub IsPlainType : «Type» RawName → Type 0
-IsPlainType s = (is_closed_type s ≡ true) × IsRisingType (printed_type written_components s)
+IsPlainType s = (is_closed_type s ≡ true) × IsRisingType (printed_type components_written s)
 
 abbrev pub ArePlainTags : Option («Type» RawName) → Type 0
 ArePlainTags None = Unit {0}
@@ -94,7 +94,7 @@ ArePlainTags (Some s) = IsPlainType s
 
 -- a closed record without attributes
 abbrev pub IsBareType : «Type» RawName → Type 0
-IsBareType s = (is_closed_type s ≡ true) × (printed_type written_components s ≡ rec no_more)
+IsBareType s = (is_closed_type s ≡ true) × (printed_type components_written s ≡ rec no_more)
 
 -- one of another schema has neither attributes nor tags, and an enum has a choice
 abbrev pub IsPlainKind : Bool → EntityTypeKind RawName → Type 0
@@ -111,7 +111,7 @@ abbrev pub IsPlainOutside : Type-F RawName («Type» RawName) (TypeVariant RawNa
     (TypeOfAttribute RawName)
     → «Type» RawName → Type 0
 IsPlainOutside (Type-F.Variant ty loc) context =
-    IsWrittenRecord (printed_type written_components context) × IsPlainType context
+    IsWrittenRecord (printed_type components_written context) × IsPlainType context
 IsPlainOutside (Type-F.CommonTypeRef name loc) context = Unit {0}
 
 -- a record, or a reference to a common type

@@ -16,7 +16,7 @@ ghost use Rattle.schema_says.specs.TranslatedAs.{IsTranslatedAs};
 ghost use Rattle.schema_says.specs.TypesSay.{TypeSays};
 ghost use Rattle.schema_says.specs.FragmentsSay.{FragmentSays};
 ghost use Rattle.schema_print_says.specs.CedarForm.{cedar_type, cedar_form};
-ghost use Rattle.schema_print_says.specs.Plain.{written_components, IsPlainType, IsPlainFragment};
+ghost use Rattle.schema_print_says.specs.Plain.{components_written, IsPlainType, IsPlainFragment};
 
 use schema_readback::laws::laid_schemas_read_back;
 use schema_says::laws::{
@@ -25,24 +25,24 @@ use schema_says::laws::{
 
 /// What is written of a type, the type says in the form that its text has.
 pub fn types_are_printed_in_cedar_form()
-    ensures { (s : «Type» RawName) → IsPlainType s → TypeSays (cedar_type s) (printed_type written_components s) }
+    ensures { (s : «Type» RawName) → IsPlainType s → TypeSays (cedar_type s) (printed_type components_written s) }
 {}
 
 /// What is written of a fragment, the fragment says in the form that its text has.
 pub fn fragments_are_printed_in_cedar_form()
-    ensures { (f : Fragment RawName as_written) (groups : List Group) → AreGroupsOf written_components f groups
+    ensures { (f : Fragment RawName as_written) (groups : List Group) → AreGroupsOf components_written f groups
         → IsPlainFragment f → FragmentSays (cedar_form f) (flat_map group_items groups) }
 {}
 
 /// What is written of a fragment whose text can say it may be printed.
 pub fn plain_fragments_may_be_printed()
-    ensures { (f : Fragment RawName as_written) (groups : List Group) → AreGroupsOf written_components f groups
+    ensures { (f : Fragment RawName as_written) (groups : List Group) → AreGroupsOf components_written f groups
         → IsPlainFragment f → AllByRecursion IsProperGroup groups }
 {}
 
 /// What is written of a fragment whose text can say it can be translated.
 pub fn plain_fragments_can_be_translated()
-    ensures { (f : Fragment RawName as_written) (groups : List Group) → AreGroupsOf written_components f groups
+    ensures { (f : Fragment RawName as_written) (groups : List Group) → AreGroupsOf components_written f groups
         → IsPlainFragment f → IsSayable (flat_map group_items groups) }
 {}
 
@@ -50,10 +50,10 @@ pub fn plain_fragments_can_be_translated()
 /// one in the form that its text has, places aside.
 pub fn printed_fragments_read_back()
     ensures translated { (closing : Bool) (f : Fragment RawName as_written) (groups : List Group)
-        → AreGroupsOf written_components f groups → IsPlainFragment f
+        → AreGroupsOf components_written f groups → IsPlainFragment f
         → IsTranslatedAs (laid (schema_pieces closing groups)) (flat_map group_items groups) }
     ensures same { (closing : Bool) (f : Fragment RawName as_written) (groups : List Group)
-        → AreGroupsOf written_components f groups → IsPlainFragment f
+        → AreGroupsOf components_written f groups → IsPlainFragment f
         → (t : IsTranslatedAs (laid (schema_pieces closing groups)) (flat_map group_items groups))
         → bare_fragment (translated t.reads.tree) ≡ bare_fragment (cedar_form f) }
 {

@@ -14,7 +14,7 @@ use Rattle.cedar_names.specs.Meaning as m
 use Rattle.schema_readback.specs.Meant.{type_of_meaning, attributes_of_meaning, tags_of_meaning, entity_as, ref_of_meaning, members_of_meaning, action_as, entity_of_meaning, action_of_meaning, name_or_none, group_of_meaning, groups_of_meaning}
 use Rattle.schema_readback.specs.Printed.{IsProperPath, IsProperType, AreProperAttributes, AreProperNotes}
 use Rattle.schema_readback.specs.PrintedDecls.{IsProperWord, IsProperOptional, IsProperRef, IsProperTags, AreProperMembers, IsProperDecl, IsProperDeclared, IsProperGroup}
-use Rattle.schema_says.specs.MeantNames.{IsSpelledType, AreSpelledTypes, AreSpelledTags, HasChoice, IsSpelledEntity, IsSpelledAction, IsSpelled}
+use Rattle.schema_says.specs.MeantNames.{IsSpelledType, AreSpelledTypes, AreSpelledTags, HasChoice, IsSpelledEntity, IsSpelledAction, IsOfWords}
 
 abbrev Name : Type 0
 Name = List (List ℕ)
@@ -137,7 +137,7 @@ action_spaces : (es : List ActionMeaning) → AllByRecursion IsSpelledAction es
 action_spaces [] h = tt
 action_spaces (e ∷ es) h = (space_proper e.ty h.0.ty, action_spaces es h.1)
 
-groups_proper : (m : SchemaMeaning) → IsSpelled m → (ns : List Name) → AllByRecursion IsNamespace ns
+groups_proper : (m : SchemaMeaning) → IsOfWords m → (ns : List Name) → AllByRecursion IsNamespace ns
     → AllByRecursion IsProperGroup (map (group_of_meaning m) ns)
 groups_proper m h [] k = tt
 groups_proper m h (n ∷ ns) k = (
@@ -150,7 +150,7 @@ groups_proper m h (n ∷ ns) k = (
   groups_proper m h ns k.1,
 )
 
-pub meaning_proper : (m : SchemaMeaning) → IsSpelled m → AllByRecursion IsProperGroup (groups_of_meaning m)
+pub meaning_proper : (m : SchemaMeaning) → IsOfWords m → AllByRecursion IsProperGroup (groups_of_meaning m)
 meaning_proper m h =
     groups_proper m h (namespaces m)
     (all_ordered IsNamespace (map (λ e. namespace e.name) m.entities ++ map (λ a. namespace a.ty) m.actions)

@@ -72,6 +72,6 @@ pub record IsSpelledAction (a : ActionMeaning) : Type 0 where
   pub context : AreSpelledTypes a.context
 
 -- Each name in the meaning is made of words, and each enum has a choice.
-pub record IsSpelled (m : SchemaMeaning) : Type 0 where
+pub record IsOfWords (m : SchemaMeaning) : Type 0 where
   pub entities : AllByRecursion IsSpelledEntity m.entities
   pub actions : AllByRecursion IsSpelledAction m.actions

@@ -21,7 +21,7 @@ ghost use Rattle.schema_readback.specs.ReadsBack.{ReadsBack};
 ghost use Rattle.schema_readback.specs.Shows.{ShowsType, SaysItem};
 ghost use Rattle.schema_says.specs.Bare.{bare};
 ghost use Rattle.schema_says.specs.BareFragments.{bare_fragment};
-ghost use Rattle.schema_says.specs.MeantNames.{HasOpenNames, IsSpelled};
+ghost use Rattle.schema_says.specs.MeantNames.{HasOpenNames, IsOfWords};
 ghost use Rattle.schema_says.specs.Named.{IsNamedType, IsWellNamed};
 ghost use Rattle.schema_says.specs.Sayable.{IsSayable};
 ghost use Rattle.schema_says.specs.TranslatedAs.{IsTranslatedAs};
@@ -100,12 +100,12 @@ pub fn texts_that_read_back_are_translated()
 
 /// What is written of a meaning whose names are made of words may be printed.
 pub fn meanings_may_be_printed()
-    ensures { (m : SchemaMeaning) → IsSpelled m → AllByRecursion IsProperGroup (groups_of_meaning m) }
+    ensures { (m : SchemaMeaning) → IsOfWords m → AllByRecursion IsProperGroup (groups_of_meaning m) }
 {}
 
 /// The text of a meaning, in either layout, has a fragment that says what is written of the meaning.
 pub fn texts_of_meanings_are_translated()
-    ensures { (closing : Bool) (m : SchemaMeaning) → IsSpelled m → HasOpenNames m
+    ensures { (closing : Bool) (m : SchemaMeaning) → IsOfWords m → HasOpenNames m
         → IsTranslatedAs (schema_text closing m) (flat_map group_items (groups_of_meaning m)) }
 {
     texts_of_meanings_read_back();
