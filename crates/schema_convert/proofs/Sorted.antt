@@ -73,12 +73,11 @@ module _ (table : ExtensionTable) where
       b ∙ (ap (λ w. w ++ builtin_shadowed table common) (e ∙ ap (λ o. old ++ entity_shadowed o common) same) ∙ append_assoc old (entity_shadowed (lookup (is_at (id_text_cmp common.node)) (map entry_now entities)) common) (builtin_shadowed table common))
 
   -- the warnings of a namespace, of its sorted names
-  pub declared_made : (old w1 w2 : List SchemaWarning) (cs es commons entities : List (Bor Id × Bor (Node Id))) (C E : List (Id × Node Id))
-      → w1 ≡ old ++ of_commons (map entry_now entities) cs → w2 ≡ w1 ++ of_entities es
-      → cs ≡ commons → es ≡ entities → map entry_now commons ≡ C → map entry_now entities ≡ E
-      → w2 ≡ old ++ warnings_in table C E
-  declared_made old w1 w2 cs es commons entities C E h k sc se c e =
-      let p : of_commons (map entry_now entities) cs ≡ flat_map (λ c. common_warnings table E c.1) C =
-      ap (of_commons (map entry_now entities)) sc ∙ (ap (λ l. flat_map (λ c. common_warnings table l c.1) (map entry_now commons)) e ∙ ap (flat_map (λ (d : Id × Node Id). common_warnings table E d.1)) c) in
-      let q : of_entities es ≡ flat_map (λ d. builtin_shadowed table d.1) E = ap of_entities se ∙ ap (flat_map (λ (d : Id × Node Id). builtin_shadowed table d.1)) e in
-      k ∙ (ap (λ w. w ++ of_entities es) h ∙ (append_assoc old (of_commons (map entry_now entities) cs) (of_entities es) ∙ (λ i. old ++ (p i ++ q i))))
+  pub declared_made : (old w1 w2 : List SchemaWarning) (commons entities : List (Bor Id × Bor (Node Id))) (C E : List (Id × Node Id))
+      → w1 ≡ old ++ of_commons (map entry_now entities) commons → w2 ≡ w1 ++ of_entities entities
+      → map entry_now commons ≡ C → map entry_now entities ≡ E → w2 ≡ old ++ warnings_in table C E
+  declared_made old w1 w2 commons entities C E h k c e =
+      let p : of_commons (map entry_now entities) commons ≡ flat_map (λ c. common_warnings table E c.1) C =
+      ap (λ l. flat_map (λ c. common_warnings table l c.1) (map entry_now commons)) e ∙ ap (flat_map (λ (d : Id × Node Id). common_warnings table E d.1)) c in
+      let q : of_entities entities ≡ flat_map (λ d. builtin_shadowed table d.1) E = ap (flat_map (λ (d : Id × Node Id). builtin_shadowed table d.1)) e in
+      k ∙ (ap (λ w. w ++ of_entities entities) h ∙ (append_assoc old (of_commons (map entry_now entities) commons) (of_entities entities) ∙ (λ i. old ++ (p i ++ q i))))

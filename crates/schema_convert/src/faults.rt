@@ -70,9 +70,9 @@ fn id_text(alloc: Global, id: &SrcId<'_>) -> Result<Text, AllocError>
 // The first of the ids that stands twice.
 fn id_twice(
     alloc: Global,
-    names: &[&Node<SrcId<'_>>],
+    names: Vec<&Node<SrcId<'_>>>,
 ) -> Result<Option<ToJsonSchemaError>, AllocError>
-    ensures { IfOk result (λ fault. fault ≡ id_twice (map (λ x. x.now) names.now)) }
+    ensures { IfOk result (λ fault. fault ≡ id_twice (map (λ x. x.now) names.entry.items)) }
 {
     match first_repeat(alloc, names)? {
         None => Ok(None),
@@ -86,9 +86,9 @@ fn id_twice(
 // The first of the actions that stands twice.
 fn action_twice(
     alloc: Global,
-    names: &[&Node<SrcStr<'_>>],
+    names: Vec<&Node<SrcStr<'_>>>,
 ) -> Result<Option<ToJsonSchemaError>, AllocError>
-    ensures { IfOk result (λ fault. fault ≡ action_twice (map (λ x. x.now) names.now)) }
+    ensures { IfOk result (λ fault. fault ≡ action_twice (map (λ x. x.now) names.entry.items)) }
 {
     match first_repeat(alloc, names)? {
         None => Ok(None),
@@ -107,15 +107,15 @@ fn declared_twice<'a>(
     ensures { IfOk result (λ fault. fault ≡ declared_twice decls.now) }
 {
     let entities = entity_names_in(alloc, decls)?;
-    if let Some(fault) = id_twice(alloc, entities.as_slice())? {
+    if let Some(fault) = id_twice(alloc, entities)? {
         return Ok(Some(fault));
     }
     let actions = action_names_in(alloc, decls)?;
-    if let Some(fault) = action_twice(alloc, actions.as_slice())? {
+    if let Some(fault) = action_twice(alloc, actions)? {
         return Ok(Some(fault));
     }
     let commons = common_names_in(alloc, decls)?;
-    id_twice(alloc, commons.as_slice())
+    id_twice(alloc, commons)
 }
 
 // The fault of the namespace's name, or else a repeat in it.
@@ -188,7 +188,10 @@ fn keyword(alloc: Global, id: &Node<SrcId<'_>>) -> Result<Option<ToJsonSchemaErr
 }
 
 // The fault of a common type's name.
-fn common_fault(alloc: Global, id: &Node<SrcId<'_>>) -> Result<Option<ToJsonSchemaError>, AllocError>
+fn common_fault(
+    alloc: Global,
+    id: &Node<SrcId<'_>>,
+) -> Result<Option<ToJsonSchemaError>, AllocError>
     ensures { IfOk result (λ fault. fault ≡ common_fault id.now) }
 {
     match reserved_id(alloc, id)? {
@@ -198,10 +201,10 @@ fn common_fault(alloc: Global, id: &Node<SrcId<'_>>) -> Result<Option<ToJsonSche
 }
 
 // The fault of an action declaration's block.
-fn applies_fault(
+fn applies_fault<'s>(
     alloc: Global,
-    names: &NonEmpty<Node<SrcStr<'_>>>,
-    block: &Option<Node<NonEmpty<Node<AppDecl<'_>>>>>,
+    names: &NonEmpty<Node<SrcStr<'s>>>,
+    block: &Option<Node<NonEmpty<Node<AppDecl<'s>>>>>,
 ) -> Result<Option<ToJsonSchemaError>, AllocError>
     ensures { IfOk result (λ fault. fault ≡ applies_fault block.now names.now) }
 {
@@ -212,7 +215,10 @@ fn applies_fault(
 }
 
 // The fault of a declaration of actions.
-fn action_fault(alloc: Global, decl: &Declaration<'_>) -> Result<Option<ToJsonSchemaError>, AllocError>
+fn action_fault(
+    alloc: Global,
+    decl: &Declaration<'_>,
+) -> Result<Option<ToJsonSchemaError>, AllocError>
     ensures { IfOk result (λ fault. fault ≡ action_fault decl.now) }
 {
     match decl {
@@ -224,12 +230,15 @@ fn action_fault(alloc: Global, decl: &Declaration<'_>) -> Result<Option<ToJsonSc
 }
 
 // All reserved names of entity types.
-fn entity_faults(alloc: Global, ids: &[&Node<SrcId<'_>>]) -> Result<Vec<ToJsonSchemaError>, AllocError>
-    ensures { IfOk result (λ faults. faults.items ≡ filter_map reserved_id (map (λ x. x.now) ids.now)) }
+fn entity_faults(
+    alloc: Global,
+    ids: Vec<&Node<SrcId<'_>>>,
+) -> Result<Vec<ToJsonSchemaError>, AllocError>
+    ensures { IfOk result (λ faults. faults.items ≡ filter_map reserved_id (map (λ x. x.now) ids.entry.items)) }
 {
     let mut faults = Vec::new(alloc);
     for id in ids {
-        let fault = reserved_id(alloc, *id)?;
+        let fault = reserved_id(alloc, id)?;
         push_fault(&mut faults, fault)?;
     }
     Ok(faults)
@@ -251,11 +260,14 @@ fn action_faults<'a>(
 }
 
 // The first fault of a common type's name.
-fn first_common(alloc: Global, ids: &[&Node<SrcId<'_>>]) -> Result<Option<ToJsonSchemaError>, AllocError>
-    ensures { IfOk result (λ fault. fault ≡ first_some common_fault (map (λ x. x.now) ids.now)) }
+fn first_common(
+    alloc: Global,
+    ids: Vec<&Node<SrcId<'_>>>,
+) -> Result<Option<ToJsonSchemaError>, AllocError>
+    ensures { IfOk result (λ fault. fault ≡ first_some common_fault (map (λ x. x.now) ids.entry.items)) }
 {
     for id in ids {
-        if let Some(fault) = common_fault(alloc, *id)? {
+        if let Some(fault) = common_fault(alloc, id)? {
             return Ok(Some(fault));
         }
     }
@@ -263,8 +275,11 @@ fn first_common(alloc: Global, ids: &[&Node<SrcId<'_>>]) -> Result<Option<ToJson
 }
 
 // The first fault of a common type's name, as a list.
-fn common_faults(alloc: Global, ids: &[&Node<SrcId<'_>>]) -> Result<Vec<ToJsonSchemaError>, AllocError>
-    ensures { IfOk result (λ faults. faults.items ≡ option_to_list (first_some common_fault (map (λ x. x.now) ids.now))) }
+fn common_faults(
+    alloc: Global,
+    ids: Vec<&Node<SrcId<'_>>>,
+) -> Result<Vec<ToJsonSchemaError>, AllocError>
+    ensures { IfOk result (λ faults. faults.items ≡ option_to_list (first_some common_fault (map (λ x. x.now) ids.entry.items))) }
 {
     let fault = first_common(alloc, ids)?;
     let mut faults = Vec::new(alloc);
@@ -280,7 +295,7 @@ fn declaration_faults<'a>(
     ensures { IfOk result (λ faults. faults.items ≡ declaration_faults decls.now) }
 {
     let entities = entity_names_in(alloc, decls)?;
-    let faults = entity_faults(alloc, entities.as_slice())?;
+    let faults = entity_faults(alloc, entities)?;
     if !faults.is_empty() {
         return Ok(faults);
     }
@@ -289,7 +304,7 @@ fn declaration_faults<'a>(
         return Ok(faults);
     }
     let commons = common_names_in(alloc, decls)?;
-    common_faults(alloc, commons.as_slice())
+    common_faults(alloc, commons)
 }
 
 // Adds faults.

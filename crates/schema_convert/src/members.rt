@@ -80,7 +80,11 @@ fn empty_role(
     Ok(ToJsonSchemaError::NoPrincipalOrResource(fault))
 }
 
-fn missing_role(alloc: Global, name: &Node<SrcStr<'_>>, kind: PR) -> Result<ToJsonSchemaError, AllocError>
+fn missing_role(
+    alloc: Global,
+    name: &Node<SrcStr<'_>>,
+    kind: PR,
+) -> Result<ToJsonSchemaError, AllocError>
     ensures { IfOk result (λ fault. fault ≡ missing_role name.now kind) }
 {
     let fault = NoPrincipalOrResource {
@@ -114,13 +118,13 @@ fn said_empty(
 
 // The first of these members that says the same.
 fn first_same<'a, 's>(
-    before: &[&'a Node<AppDecl<'s>>],
+    before: &Vec<&'a Node<AppDecl<'s>>>,
     member: &AppDecl<'s>,
 ) -> Option<&'a Node<AppDecl<'s>>>
-    ensures { option_copied result ≡ find (λ m. says_same member.now m.node) (map (λ x. x.now) before.now) }
+    ensures { option_copied result ≡ find (λ m. says_same member.now m.node) (map (λ x. x.now) before.now.items) }
 {
-    for other in before {
-        let other = *other;
+    for at in 0..before.len() {
+        let other = before[at];
         if says_same(member, &other.node) {
             return Some(other);
         }
@@ -132,10 +136,10 @@ fn first_same<'a, 's>(
 fn member_fault<'s>(
     alloc: Global,
     name: &Node<SrcStr<'s>>,
-    before: &[&Node<AppDecl<'s>>],
+    before: &Vec<&Node<AppDecl<'s>>>,
     member: &Node<AppDecl<'s>>,
 ) -> Result<Option<ToJsonSchemaError>, AllocError>
-    ensures { IfOk result (λ fault. fault ≡ member_fault name.now (map (λ x. x.now) before.now) member.now) }
+    ensures { IfOk result (λ fault. fault ≡ member_fault name.now (map (λ x. x.now) before.now.items) member.now) }
 {
     match first_same(before, &member.node) {
         Some(first) => {
@@ -147,11 +151,11 @@ fn member_fault<'s>(
 }
 
 // Whether one of the members says which principals, or which resources, as the kind is.
-fn has_role(kind: PR, members: &[&Node<AppDecl<'_>>]) -> bool
-    ensures { result ≡ list_any (λ m. says_role kind m.node) (map (λ x. x.now) members.now) }
+fn has_role(kind: PR, members: &Vec<&Node<AppDecl<'_>>>) -> bool
+    ensures { result ≡ list_any (λ m. says_role kind m.node) (map (λ x. x.now) members.now.items) }
 {
-    for member in members {
-        if says_role(kind, &(*member).node) {
+    for at in 0..members.len() {
+        if says_role(kind, &members[at].node) {
             return true;
         }
     }
@@ -162,9 +166,9 @@ fn has_role(kind: PR, members: &[&Node<AppDecl<'_>>]) -> bool
 fn missing(
     alloc: Global,
     name: &Node<SrcStr<'_>>,
-    members: &[&Node<AppDecl<'_>>],
+    members: &Vec<&Node<AppDecl<'_>>>,
 ) -> Result<Option<ToJsonSchemaError>, AllocError>
-    ensures { IfOk result (λ out. out ≡ missing name.now (map (λ x. x.now) members.now)) }
+    ensures { IfOk result (λ out. out ≡ missing name.now (map (λ x. x.now) members.now.items)) }
 {
     if !has_role(PR::Resource, members) {
         return Ok(Some(missing_role(alloc, name, PR::Resource)?));
@@ -177,19 +181,19 @@ fn missing(
 
 /// The first fault of an `appliesTo` block of the action. Of members without a fault there are three at most, so few are
 /// compared with each.
-pub fn block_fault(
+pub fn block_fault<'s>(
     alloc: Global,
-    name: &Node<SrcStr<'_>>,
-    members: &NonEmpty<Node<AppDecl<'_>>>,
+    name: &Node<SrcStr<'s>>,
+    members: &NonEmpty<Node<AppDecl<'s>>>,
 ) -> Result<Option<ToJsonSchemaError>, AllocError>
     ensures { IfOk result (λ out. out ≡ block_fault name.now members.now) }
 {
     let mut before = Vec::new(alloc);
     for member in members.iter() {
-        if let Some(fault) = member_fault(alloc, name, before.as_slice(), member)? {
+        if let Some(fault) = member_fault(alloc, name, &before, member)? {
             return Ok(Some(fault));
         }
         before.push(member)?;
     }
-    missing(alloc, name, before.as_slice())
+    missing(alloc, name, &before)
 }

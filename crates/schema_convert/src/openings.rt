@@ -86,7 +86,13 @@ fn with_others<'a>(
     decls: List<Annotated<'a, Node<Declaration<'a>>>>,
     annotations: SrcAnnotations<'a>,
     others: Vec<Annotated<'a, Namespace<'a>>>,
-) -> Result<(List<Annotated<'a, Node<Declaration<'a>>>>, SrcAnnotations<'a>), AllocError>
+) -> Result<
+    (
+        List<Annotated<'a, Node<Declaration<'a>>>>,
+        SrcAnnotations<'a>,
+    ),
+    AllocError,
+>
     ensures decls { IfOk result (λ out. out.0 ≡ decls.entry ++ flat_map (λ n. n.item.decls) others.entry.items) }
     ensures annotations { IfOk result (λ out. out.1.0 ≡ map_of annotation_key_cmp (reverse (annotations.entry.0 ++ flat_map (λ n. n.annotations.0) others.entry.items))) }
 {
@@ -102,7 +108,10 @@ fn with_others<'a>(
 }
 
 // The one namespace that the openings are.
-fn opened_as<'a>(alloc: Global, openings: Openings<'a>) -> Result<Annotated<'a, Namespace<'a>>, AllocError>
+fn opened_as<'a>(
+    alloc: Global,
+    openings: Openings<'a>,
+) -> Result<Annotated<'a, Namespace<'a>>, AllocError>
     ensures { IfOk result (λ namespace. namespace ≡ opened_as openings.entry.first (openings.entry.first ∷ openings.entry.others.items)) }
 {
     let Openings { first, others } = openings;

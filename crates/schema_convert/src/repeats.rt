@@ -7,12 +7,12 @@ use std::collections::BTreeMap;
 /// Of these items the first that is the same as one before it, behind the first that it is the same as.
 pub fn first_repeat<'a, T: Ord>(
     alloc: Global,
-    items: &[&'a T],
+    items: Vec<&'a T>,
 ) -> Result<Option<(&'a T, &'a T)>, AllocError>
-    ensures { IfOk result (λ found. option_map both_now found ≡ first_repeat T.cmp (map (λ x. x.now) items.now)) }
+    ensures { IfOk result (λ found. option_map both_now found ≡ first_repeat T.cmp (map (λ x. x.now) items.entry.items)) }
 {
     let mut seen = BTreeMap::new(alloc);
-    for item in items {
+    for item in &items {
         let item = *item;
         match seen.get(&item) {
             Some(first) => return Ok(Some((*first, item))),

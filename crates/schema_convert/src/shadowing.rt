@@ -14,13 +14,12 @@ use std::alloc::{AllocError, Global};
 // The names, sorted.
 fn by_id<'a, 's>(
     alloc: Global,
-    names: &[&'a Node<SrcId<'s>>],
+    names: Vec<&'a Node<SrcId<'s>>>,
 ) -> Result<Map<&'a SrcId<'s>, &'a Node<SrcId<'s>>>, AllocError>
-    ensures { IfOk result (λ sorted. map entry_now sorted ≡ by_id (map (λ x. x.now) names.now)) }
+    ensures { IfOk result (λ sorted. map entry_now sorted ≡ by_id (map (λ x. x.now) names.entry.items)) }
 {
     let mut entries = Vec::new(alloc);
     for name in names {
-        let name = *name;
         entries.push((&name.node, name))?;
     }
     let sorted = Map::from_entries(alloc, entries)?;
@@ -108,12 +107,12 @@ fn push_commons<'s>(
     warnings: &mut Vec<SchemaWarning>,
     table: &ExtensionTable,
     entities: &Map<&SrcId<'s>, &Node<SrcId<'s>>>,
-    commons: &[(&SrcId<'s>, &Node<SrcId<'s>>)],
+    commons: Map<&SrcId<'s>, &Node<SrcId<'s>>>,
 ) -> Result<(), AllocError>
-    ensures { OnOk result (warnings.new.items ≡ warnings.old.items ++ flat_map (λ c. common_warnings table.now (map entry_now entities.now) c.1) (map entry_now commons.now)) }
+    ensures { OnOk result (warnings.new.items ≡ warnings.old.items ++ flat_map (λ c. common_warnings table.now (map entry_now entities.now) c.1) (map entry_now commons.entry)) }
 {
-    for common in commons {
-        push_common(alloc, warnings, table, entities, common.1)?;
+    for (_, common) in commons.into_vec() {
+        push_common(alloc, warnings, table, entities, common)?;
     }
     Ok(())
 }
@@ -123,12 +122,12 @@ fn push_entities<'s>(
     alloc: Global,
     warnings: &mut Vec<SchemaWarning>,
     table: &ExtensionTable,
-    entities: &[(&SrcId<'s>, &Node<SrcId<'s>>)],
+    entities: Map<&SrcId<'s>, &Node<SrcId<'s>>>,
 ) -> Result<(), AllocError>
-    ensures { OnOk result (warnings.new.items ≡ warnings.old.items ++ flat_map (λ e. builtin_shadowed table.now e.1) (map entry_now entities.now)) }
+    ensures { OnOk result (warnings.new.items ≡ warnings.old.items ++ flat_map (λ e. builtin_shadowed table.now e.1) (map entry_now entities.entry)) }
 {
-    for entity in entities {
-        push_builtin(alloc, warnings, table, entity.1)?;
+    for (_, entity) in entities.into_vec() {
+        push_builtin(alloc, warnings, table, entity)?;
     }
     Ok(())
 }
@@ -144,10 +143,10 @@ fn push_declared<'s>(
 {
     let common_names = common_names_in(alloc, decls)?;
     let entity_names = entity_names_in(alloc, decls)?;
-    let commons = by_id(alloc, common_names.as_slice())?;
-    let entities = by_id(alloc, entity_names.as_slice())?;
-    push_commons(alloc, warnings, table, &entities, commons.as_slice())?;
-    push_entities(alloc, warnings, table, entities.as_slice())?;
+    let commons = by_id(alloc, common_names)?;
+    let entities = by_id(alloc, entity_names)?;
+    push_commons(alloc, warnings, table, &entities, commons)?;
+    push_entities(alloc, warnings, table, entities)?;
     Ok(())
 }
 
@@ -176,8 +175,8 @@ pub fn warnings_of<'s>(
 {
     let sorted = by_name(alloc, namespaces)?;
     let mut warnings = Vec::new(alloc);
-    for entry in sorted.as_slice() {
-        push_declared(alloc, &mut warnings, table, entry.1.item.decls.as_slice())?;
+    for (_, namespace) in sorted.into_vec() {
+        push_declared(alloc, &mut warnings, table, namespace.item.decls.as_slice())?;
     }
     Ok(warnings)
 }

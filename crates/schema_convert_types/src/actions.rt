@@ -231,10 +231,7 @@ pub fn action_type(
 }
 
 // Texts of the names.
-fn texts_of(
-    alloc: Global,
-    names: &NonEmpty<Node<SrcStr<'_>>>,
-) -> Result<Vec<Text>, AllocError>
+fn texts_of(alloc: Global, names: &NonEmpty<Node<SrcStr<'_>>>) -> Result<Vec<Text>, AllocError>
     ensures { IfOk result (λ texts. texts.items ≡ map (λ n. n.node) names.now) }
 {
     let mut texts = Vec::with_capacity(alloc, 1)?;

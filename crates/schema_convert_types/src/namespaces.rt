@@ -34,6 +34,13 @@ fn unreserved(id: Id) -> Option<UnreservedId>
     UnreservedId::from_id(id)
 }
 
+// The word as one that may be declared, of its own.
+fn unreserved_copy(alloc: Global, id: &SrcId<'_>) -> Result<Option<UnreservedId>, AllocError>
+    ensures { IfOk result (λ copy. copy ≡ unreserved id.now) }
+{
+    Ok(unreserved(id.to_id(alloc)?))
+}
+
 // Adds the name, where it may be declared.
 fn push_declarable(
     alloc: Global,
@@ -42,7 +49,7 @@ fn push_declarable(
 ) -> Result<(), AllocError>
     ensures { OnOk result (ids.new.items ≡ ids.old.items ++ option_to_list (unreserved name.now.node)) }
 {
-    if let Some(id) = unreserved(name.node.to_id(alloc)?) {
+    if let Some(id) = unreserved_copy(alloc, &name.node)? {
         ids.push(id)?;
     }
     Ok(())
@@ -109,7 +116,7 @@ fn push_common(
         annotations,
         loc,
     };
-    if let Some(id) = unreserved(name.node.to_id(alloc)?) {
+    if let Some(id) = unreserved_copy(alloc, &name.node)? {
         entries.push((CommonTypeId { id }, of))?;
     }
     Ok(())
@@ -193,10 +200,7 @@ fn declarable_name(name: InternalName) -> Option<Name>
 }
 
 // The name of a namespace that may be declared.
-fn namespace_key(
-    alloc: Global,
-    name: Option<Path<'_>>,
-) -> Result<Option<Option<Name>>, AllocError>
+fn namespace_key(alloc: Global, name: Option<Path<'_>>) -> Result<Option<Option<Name>>, AllocError>
     ensures { IfOk result (λ key. key ≡ namespace_key name.entry) }
 {
     match name {

@@ -10,6 +10,8 @@ mod fault_table;
 #[cfg(test)]
 mod grammar;
 #[cfg(test)]
+mod lent;
+#[cfg(test)]
 mod letters;
 #[cfg(test)]
 mod message_table;

@@ -79,32 +79,33 @@ fn faults_agree_with_table(rt: HostRuntime) {
     }
 }
 
-// A type's declaration with this many sets in one another.
-fn nested_sets(alloc: Global, count: usize) -> Result<String, AllocError> {
+// A type's declaration with this many types in one another, each of them opened and closed so.
+fn nested(alloc: Global, count: usize, opening: &str, closing: &str) -> Result<String, AllocError> {
     let mut text = String::new(alloc);
     text.push_str("type T = ")?;
     for _ in 0..count {
-        text.push_str("Set<")?;
+        text.push_str(opening)?;
     }
     text.push_str("Long")?;
     for _ in 0..count {
-        text.push_str(">")?;
+        text.push_str(closing)?;
     }
     text.push_str(";")?;
     Ok(text)
 }
 
-// Have sets that are nested so deeply a tree?
-fn sets_nest(alloc: Global, count: usize) -> bool {
-    match nested_sets(alloc, count) {
+// Have types that are nested so deeply a tree?
+fn types_nest(alloc: Global, count: usize, opening: &str, closing: &str) -> bool {
+    match nested(alloc, count, opening, closing) {
         Ok(text) => parse_schema(alloc, text.as_str()).is_ok(),
         Err(_) => false,
     }
 }
 
 #[test]
-fn sets_nest_deeply(rt: HostRuntime) {
-    assert!(rt; sets_nest(rt.alloc(), 500));
+fn types_nest_deeply(rt: HostRuntime) {
+    assert!(rt; types_nest(rt.alloc(), 500, "Set<", ">"));
+    assert!(rt; types_nest(rt.alloc(), 500, "{a: ", "}"));
 }
 
 // Is this the text of the path?

@@ -3,8 +3,8 @@
 use cedar_data::{List, Loc, Node, NonEmpty};
 use schema_syntax_tree::{
     ActionDecl, Annotated, AppDecl, AttrDecl, Declaration, DefinedActionDecl, Either, EntityDecl,
-    Namespace, PRAppDecl, Path, QualName, Schema, SrcAnnotations, SrcId, SrcStr, StandardEntityDecl,
-    Type, TypeDecl,
+    Namespace, PRAppDecl, Path, QualName, Schema, SrcAnnotations, SrcId, SrcStr,
+    StandardEntityDecl, Type, TypeDecl,
 };
 use schema_tests_lines::Wanted;
 use std::alloc::Global;
@@ -93,7 +93,11 @@ fn find_type(alloc: Global, wanted: &mut Wanted<'_>, found: &Type<'_>) {
 }
 
 #[cycle(tree)]
-fn find_attributes(alloc: Global, wanted: &mut Wanted<'_>, attributes: &[Node<Annotated<'_, AttrDecl<'_>>>]) {
+fn find_attributes(
+    alloc: Global,
+    wanted: &mut Wanted<'_>,
+    attributes: &[Node<Annotated<'_, AttrDecl<'_>>>],
+) {
     wanted.piece(" {");
     for attribute in attributes {
         find_annotations(alloc, wanted, &attribute.node.annotations);
@@ -112,7 +116,11 @@ fn find_attribute(alloc: Global, wanted: &mut Wanted<'_>, attribute: &AttrDecl<'
     wanted.place(attribute.ty.loc);
 }
 
-fn find_record(alloc: Global, wanted: &mut Wanted<'_>, record: &Node<List<Node<Annotated<'_, AttrDecl<'_>>>>>) {
+fn find_record(
+    alloc: Global,
+    wanted: &mut Wanted<'_>,
+    record: &Node<List<Node<Annotated<'_, AttrDecl<'_>>>>>,
+) {
     find_attributes(alloc, wanted, record.node.as_slice());
     wanted.place(record.loc);
 }
@@ -148,7 +156,11 @@ fn find_entity(alloc: Global, wanted: &mut Wanted<'_>, entity: &EntityDecl<'_>) 
 }
 
 // The parents of an action, where some were written.
-fn find_parents(alloc: Global, wanted: &mut Wanted<'_>, parents: &Option<NonEmpty<Node<QualName<'_>>>>) {
+fn find_parents(
+    alloc: Global,
+    wanted: &mut Wanted<'_>,
+    parents: &Option<NonEmpty<Node<QualName<'_>>>>,
+) {
     let Some(parents) = parents else {
         return;
     };

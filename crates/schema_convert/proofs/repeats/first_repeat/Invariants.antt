@@ -2,4 +2,4 @@ use Rattle.schema_convert.proofs.Seen.{Seen}
 use Rattle.schema_convert.proofs.repeats.first_repeat.Given as goal
 
 abbrev pub invariant-loop-item : goal.invariant-loop-item
-invariant-loop-item g l = Seen (λ a b. g.T.Ord.cmp a.now b.now) l.items l.item-index l.seen.entries
+invariant-loop-item g l = Seen (λ a b. g.T.Ord.cmp a.now b.now) l.item-items l.item-index l.seen.entries

@@ -1,7 +1,13 @@
-use Rattle.std.proofs.Common.{◌∷◌, [], refl}
-use Rattle.schema_convert.proofs.Gathered.{over_at}
-use Rattle.schema_convert.proofs.Sorted.{name_entries, names_sorted}
+use Rattle.std.proofs.Common.{◌∷◌, [], Option, refl, ap}
+use Rattle.schema_syntax_tree.specs.declared.path.Path.{Path}
+use Rattle.schema_convert.specs.Borrowed.{optional_now}
+use Rattle.schema_convert.proofs.Gathered.{more_at, over_at}
+use Rattle.schema_convert.proofs.Sorted.{name_entries, names_sorted, pushed_now}
 use Rattle.schema_convert.proofs.shadowing.by_name.Goals as goal
+
+pub loop-namespace-preserved : goal.loop-namespace-preserved
+loop-namespace-preserved c =
+    more_at name_entries (λ n. (n.item.name, n) ∷ []) refl (λ x xs. refl) _ _ c.args.namespaces.now c.loop-namespace.namespace-index c.namespace-item.result _ c.loop-namespace.invariant c.loop-namespace-test.true c.namespace-item.is (pushed_now optional_now _ _ _ _ c.in_ok-push.ensures.items (ap (λ (name : Option Path). (name, c.namespace-item.result)) c.as_ref.ensures.value))
 
 pub returns : goal.returns
 returns c =
