@@ -1,1 +1,2 @@
+mod EntryMeans
 mod Expanding
