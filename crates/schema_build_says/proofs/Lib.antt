@@ -1,2 +1,3 @@
 mod EntryMeans
 mod Expanding
+mod Parents

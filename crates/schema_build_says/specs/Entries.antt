@@ -19,7 +19,7 @@ use Rattle.schema_build_says.specs.Themselves.{IsOrderedType, MeansItself}
 abbrev pub HasItsParts : Bool → Option (List (List ℕ)) → EntityMeaning → Type 0
 HasItsParts true choices e = (e.attributes ≡ no_more) × (e.tags ≡ None) × (choices ≡ None)
 HasItsParts false None e = Unit {0}
-HasItsParts false (Some cs) e = (e.attributes ≡ no_more) × (e.tags ≡ None)
+HasItsParts false (Some cs) e = (e.attributes ≡ no_more) × (e.tags ≡ None) × (e.ancestors ≡ [])
 
 abbrev pub TagsMeanThemselves : Scope RawName → Option InternalName → Option PlainType → Type 0
 TagsMeanThemselves s ns None = Unit {0}

@@ -29,7 +29,8 @@ abbrev mutual
 module _ (s : Scope RawName) (ns : Option InternalName) where
   -- the name of an entity type, wherever it stands, means this entity type
   abbrev pub MeansEntity : List (List ℕ) → Type 0
-  MeansEntity target = (n : RawName) → components_of n.name ≡ target → s.means ns CommonOrEntity n ≡ Some (target, Entity)
+  MeansEntity target = (n : RawName) → components_of n.name ≡ target
+      → s.means ns CommonOrEntity n ≡ Some (target, Entity)
 
   -- a builtin name behind `__cedar`, wherever it stands, means itself, and nothing declares it
   abbrev pub MeansBuiltin : List ℕ → Type 0
