@@ -146,8 +146,11 @@ module _ (t : Tests) (s : Scope RawName) (ns : Option Name) where
   applies_mean a x None parents true h o m = (h.0, (o.0, o.1, o.2))
   applies_mean a x (Some d) parents true h o m = absurd h
   applies_mean a x None parents false h o m = absurd h
-  applies_mean a x (Some d) parents false h o m =
-      (h.0, spec_means d a.principals a.resources a.context h.2 o m.principals_rise m.resources_rise m.principals m.resources m.ordered m.context)
+  applies_mean a x (Some d) parents false h o m = (
+    h.0,
+    spec_means d a.principals a.resources a.context h.2 o m.principals_rise m.resources_rise
+        m.principals m.resources m.ordered m.context,
+  )
 
 pub action_means : (t : Tests) (s : Scope RawName) (ns : Option Name) (x : Bool) (spec : Option (ApplySpec RawName))
     (parents : Option (List (ActionEntityUID RawName as_written))) (a : ActionMeaning)

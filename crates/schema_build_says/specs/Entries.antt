@@ -15,7 +15,8 @@ use Rattle.schema_build_hierarchy.specs.Parents.{target_in}
 use Rattle.schema_build_items.specs.ActionKinds.{components_cmp}
 use Rattle.schema_build_says.specs.Themselves.{IsOrderedType, MeansItself}
 
--- what an entity type has besides its name and ancestors: one of another schema has nothing, and an enum its choices alone
+-- what an entity type has besides its name and ancestors: one of another schema has nothing, and an enum its choices
+-- alone
 abbrev pub HasItsParts : Bool → Option (List (List ℕ)) → EntityMeaning → Type 0
 HasItsParts true choices e = (e.attributes ≡ no_more) × (e.tags ≡ None) × (choices ≡ None)
 HasItsParts false None e = Unit {0}

@@ -36,14 +36,16 @@ pub fn types_said_of_meanings_expand()
 
 /// What stands for an entity type and says what is written of its entry means the entry.
 pub fn kinds_said_of_meanings_mean_them()
-    ensures { (s : Scope RawName) (ns : Option InternalName) (external : Bool) (kind : EntityTypeKind RawName) (e : EntityMeaning)
+    ensures { (s : Scope RawName) (ns : Option InternalName) (external : Bool)
+        (kind : EntityTypeKind RawName) (e : EntityMeaning)
         → KindSays external kind (entity_as e.is_external e.choices e) → EntityMeansItself s ns e
         → (external ≡ e.is_external) × IsKindMeaning s ns kind (kind_meaning e) }
 {}
 
 /// What an action applies to, where it says what is written of the action's entry, means the entry.
 pub fn actions_said_of_meanings_mean_them()
-    ensures { (t : Tests) (s : Scope RawName) (ns : Option Name) (external : Bool) (applies : Option (ApplySpec RawName))
+    ensures { (t : Tests) (s : Scope RawName) (ns : Option Name) (external : Bool)
+        (applies : Option (ApplySpec RawName))
         (parents : Option (List (ActionEntityUID RawName as_written))) (a : ActionMeaning)
         → AppliesSay external applies parents (action_as a.is_external a) → ActionMeansItself t s ns a
         → (external ≡ a.is_external) × IsApplyMeaning t s ns applies (apply_meaning a) }
@@ -51,7 +53,8 @@ pub fn actions_said_of_meanings_mean_them()
 
 /// Parents that say what is written of an entry of a meaning are the entry's ancestors.
 pub fn parents_said_of_meanings_are_ancestors()
-    ensures entities { (t : Tests) (ns : Option Name) (external : Bool) (kind : EntityTypeKind RawName) (e : EntityMeaning)
+    ensures entities { (t : Tests) (ns : Option Name) (external : Bool) (kind : EntityTypeKind RawName)
+        (e : EntityMeaning)
         → KindSays external kind (entity_as e.is_external e.choices e) → HasItsParts e.is_external e.choices e
         → AllByRecursion (IsFoundAs t ns) e.ancestors → parents_in t ns (written_parents kind) ≡ e.ancestors }
     ensures actions { (t : Tests) (ns : Option Name) (external : Bool) (applies : Option (ApplySpec RawName))
