@@ -8,6 +8,7 @@ mod Lawful
 pub mod Maps
 mod MeantProper
 pub mod MeantSayable
+mod MeantWritten
 mod Openings
 pub mod Orders
 mod Proper

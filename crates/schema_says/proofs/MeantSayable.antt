@@ -28,10 +28,10 @@ use Rattle.schema_says.proofs.Grouped.{outside_decls, filter_append, items_at}
 use Rattle.schema_says.proofs.Maps.{is_equal}
 use Rattle.schema_says.proofs.Orders.{text_total, text_exact, namespace_exact}
 
-abbrev Name : Type 0
+abbrev pub Name : Type 0
 Name = List (List ℕ)
 
-abbrev name_order : Name → Name → Ordering
+abbrev pub name_order : Name → Name → Ordering
 name_order = slice_cmp text_cmp
 
 name_total : IsTotalOrder name_order
@@ -110,10 +110,10 @@ free_parts (c ∷ d ∷ ds) h =
 equal_names : (a b : Name) → same_name a b ≡ true → a ≡ b
 equal_names a b h = (pointwise_decides (λ x y. bytes_decides x y) a b).0 h
 
-less_apart : (c : Ordering) → c ≡ Less → c ≡ Equal → ⊥
+pub less_apart : (c : Ordering) → c ≡ Less → c ≡ Equal → ⊥
 less_apart c e f = true≢false (ap is_lt (sym e ∙ f))
 
-equal_self : (n : Name) → name_order n n ≡ Equal
+pub equal_self : (n : Name) → name_order n n ≡ Equal
 equal_self n = tied_itself name_total n
 
 -- the entity types of a namespace
@@ -348,7 +348,7 @@ put_rises (x ∷ ns) n s = by (name_order n x) refl (put_rises ns n s.1)
     by Greater e r =
         (all_put (λ y. name_order x y ≡ Less) ns n s.0 (name_total.antisymm x n ∙ ap ordering_reverse e), r)
 
-order_rises : (ns : List Name) → IsStrictlySortedBy name_order (in_order ns)
+pub order_rises : (ns : List Name) → IsStrictlySortedBy name_order (in_order ns)
 unfolding IsStrictlySortedBy
 order_rises [] = tt
 order_rises (n ∷ ns) = put_rises (in_order ns) n (order_rises ns)
@@ -374,22 +374,22 @@ free_name : (n : Name) → IsFree n → IsFreeNamespace (name_or_none n)
 free_name [] h = tt
 free_name (c ∷ cs) h = h
 
-name_back : (a b : Name) → name_or_none a ≡ name_or_none b → a ≡ b
+pub name_back : (a b : Name) → name_or_none a ≡ name_or_none b → a ≡ b
 name_back [] [] h = refl
 name_back [] (b ∷ bs) h = absurd (true≢false (sym (ap is_some h)))
 name_back (a ∷ as') [] h = absurd (true≢false (ap is_some h))
 name_back (a ∷ as') (b ∷ bs) h = cc
 
 module _ (m : SchemaMeaning) where
-  abbrev items : List Name → List WrittenItem
+  abbrev pub items : List Name → List WrittenItem
   items ns = flat_map group_items (map (group_of_meaning m) ns)
 
-  items_here : (q : NamespaceName) (n : Name)
+  pub items_here : (q : NamespaceName) (n : Name)
       → items_of_namespace q (group_items (group_of_meaning m n)) ≡ cond (is_at (namespace_order q) (name_or_none n))
       (group_items (group_of_meaning m n)) []
   items_here q n = items_at q [] (name_or_none n) (items_of_meaning m n)
 
-  none_behind : (p : Name) (ns : List Name) → AllByRecursion (λ y. name_order p y ≡ Less) ns
+  pub none_behind : (p : Name) (ns : List Name) → AllByRecursion (λ y. name_order p y ≡ Less) ns
       → items_of_namespace (name_or_none p) (items ns) ≡ []
   none_behind p [] h = refl
   none_behind p (n ∷ ns) h =

@@ -4,6 +4,7 @@ pub mod DeclarationsSay
 pub mod Entries
 pub mod FragmentsSay
 pub mod MeantNames
+pub mod MeantNamespaces
 pub mod Named
 pub mod Sayable
 pub mod TranslatedAs

@@ -1,8 +1,8 @@
 //! Laws of what fragments say. Each law is what its function ensures.
-ghost use Rattle.std.specs.Prelude.{◌≡◌, ◌↔◌, Bool, ℕ, Option, List, []};
-ghost use Rattle.std.specs.List.{AllByRecursion, AllZip, flat_map};
+ghost use Rattle.std.specs.Prelude.{◌≡◌, ◌↔◌, Bool, ℕ, Option, Some, List, []};
+ghost use Rattle.std.specs.List.{AllByRecursion, AllZip, Contains, flat_map};
 ghost use Rattle.cedar_data.specs.Span.{Span};
-ghost use Rattle.cedar_names.specs.CanonicalText.{schema_text};
+ghost use Rattle.cedar_names.specs.CanonicalText.{namespaces, schema_text};
 ghost use Rattle.cedar_names.specs.Meaning.{SchemaMeaning};
 ghost use Rattle.cedar_identifiers.specs.declared.raw_name.RawName.{RawName};
 ghost use Rattle.schema_syntax_tree.specs.declared.annotated.Annotated.{Annotated};
@@ -15,18 +15,19 @@ ghost use Rattle.schema_convert_types.specs.Types.{type_at};
 ghost use Rattle.schema_convert.specs.Faults.{translation_faults};
 ghost use Rattle.schema_convert.specs.Translated.{translated};
 ghost use Rattle.schema_readback.specs.Written.{WrittenType, WrittenItem};
-ghost use Rattle.schema_readback.specs.Meant.{groups_of_meaning};
-ghost use Rattle.schema_readback.specs.PrintedDecls.{Group, IsProperGroup, group_items};
+ghost use Rattle.schema_readback.specs.Meant.{items_of_meaning, name_or_none, groups_of_meaning};
+ghost use Rattle.schema_readback.specs.PrintedDecls.{Group, IsProperGroup, IsSome, group_items};
 ghost use Rattle.schema_readback.specs.ReadsBack.{ReadsBack};
 ghost use Rattle.schema_readback.specs.Shows.{ShowsType, SaysItem};
 ghost use Rattle.schema_says.specs.Bare.{bare};
 ghost use Rattle.schema_says.specs.BareFragments.{bare_fragment};
 ghost use Rattle.schema_says.specs.MeantNames.{HasOpenNames, IsOfWords};
+ghost use Rattle.schema_says.specs.MeantNamespaces.{meant_in_namespace, IsOfMeaning};
 ghost use Rattle.schema_says.specs.Named.{IsNamedType, IsWellNamed};
 ghost use Rattle.schema_says.specs.Sayable.{IsSayable};
 ghost use Rattle.schema_says.specs.TranslatedAs.{IsTranslatedAs};
 ghost use Rattle.schema_says.specs.TypesSay.{TypeSays};
-ghost use Rattle.schema_says.specs.FragmentsSay.{FragmentSays};
+ghost use Rattle.schema_says.specs.FragmentsSay.{NamespaceName, WrittenNamespace, written_in, FragmentSays};
 
 use schema_convert::laws::lawful_trees;
 use schema_readback::laws::texts_of_meanings_read_back;
@@ -114,3 +115,12 @@ pub fn texts_of_meanings_are_translated()
     meanings_can_be_translated();
     texts_that_read_back_are_translated();
 }
+
+/// What is written of a meaning in a namespace is what the meaning has there, and what it has there is written.
+pub fn namespaces_of_meanings_are_written()
+    ensures of { (m : SchemaMeaning) (q : NamespaceName) (w : WrittenNamespace)
+        → written_in (flat_map group_items (groups_of_meaning m)) q ≡ Some w → IsOfMeaning m q w }
+    ensures all { (m : SchemaMeaning) (name : List (List ℕ)) → Contains (namespaces m) name
+        → IsSome (items_of_meaning m name)
+        → written_in (flat_map group_items (groups_of_meaning m)) (name_or_none name) ≡ Some (meant_in_namespace m name) }
+{}
