@@ -1,3 +1,4 @@
+mod DeclaredEntities
 mod EntryMeans
 mod Expanding
 mod Parents

@@ -1,3 +1,4 @@
 pub mod Ancestors
+pub mod DeclaredEntries
 pub mod Entries
 pub mod Themselves

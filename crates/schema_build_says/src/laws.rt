@@ -3,15 +3,15 @@ ghost use Rattle.std.specs.Prelude.{◌≡◌, ◌↔◌, ℕ, Bool, List, [], O
 ghost use Rattle.cedar_identifiers.specs.declared.internal_name.InternalName.{InternalName};
 ghost use Rattle.cedar_identifiers.specs.declared.raw_name.RawName.{RawName};
 ghost use Rattle.cedar_identifiers.specs.declared.name.Name.{Name};
-ghost use Rattle.cedar_names.specs.Meaning.{PlainType, EntityMeaning, ActionMeaning};
+ghost use Rattle.cedar_names.specs.Meaning.{PlainType, EntityMeaning, ActionMeaning, SchemaMeaning};
 ghost use Rattle.schema_json.specs.declared.types.Type.{«Type»};
 ghost use Rattle.schema_json.specs.declared.entity_type.EntityTypeKind.{EntityTypeKind};
 ghost use Rattle.schema_json.specs.declared.action_type.ApplySpec.{ApplySpec};
 ghost use Rattle.schema_json.specs.declared.action_type.ActionEntityUID.{ActionEntityUID};
 ghost use Rattle.schema_convert_types.specs.Declarations.{as_written};
-ghost use Rattle.schema_readback.specs.Meant.{type_of_meaning, entity_as, action_as};
+ghost use Rattle.schema_readback.specs.Meant.{type_of_meaning, entity_as, action_as, groups_of_meaning};
 ghost use Rattle.schema_resolve_definitions.specs.Tests.{Tests};
-ghost use Rattle.schema_build_hierarchy.specs.Declarations.{Declared, DeclaredEntity};
+ghost use Rattle.schema_build_hierarchy.specs.Declarations.{Declared, DeclaredEntity, declared_entities};
 ghost use Rattle.schema_build_hierarchy.specs.Parents.{written_parents, parents_in, action_parents_in, IsParent, IsAncestor, IsActionParent, IsActionAncestor};
 ghost use Rattle.schema_build_checks.specs.DeclaredAt.{ActionAt};
 ghost use Rattle.schema_build.specs.Meaning.{kind_meaning, apply_meaning};
@@ -21,12 +21,19 @@ ghost use Rattle.schema_build_items.specs.ActionKinds.{IsApplyMeaning};
 ghost use Rattle.schema_build_items.specs.Kinds.{IsKindMeaning};
 ghost use Rattle.schema_says.specs.DeclarationsSay.{KindSays, AppliesSay};
 ghost use Rattle.schema_says.specs.TypesSay.{TypeSays};
-ghost use Rattle.std.specs.List.{AllByRecursion};
+ghost use Rattle.std.specs.List.{AllByRecursion, Contains, flat_map};
 ghost use Rattle.std.specs.Option.{option_map_or};
 ghost use Rattle.schema_json.specs.declared.action_type.ActionType.{ActionType};
+ghost use Rattle.schema_json.specs.declared.fragment.Fragment.{Fragment};
+ghost use Rattle.schema_readback.specs.PrintedDecls.{group_items};
+ghost use Rattle.schema_says.specs.FragmentsSay.{FragmentSays};
+ghost use Rattle.schema_says.specs.MeantNames.{HasOpenNames};
+ghost use Rattle.schema_build_says.specs.DeclaredEntries.{IsEntryOf};
 ghost use Rattle.schema_build_says.specs.Entries.{HasItsParts, IsFoundAs, EntityMeansItself, ActionMeansItself};
 ghost use Rattle.schema_build_says.specs.Ancestors.{IsActionFoundAs, IsTransitive};
 ghost use Rattle.schema_build_says.specs.Themselves.{IsOrderedType, MeansItself};
+
+use schema_says::laws::namespaces_of_meanings_are_written;
 
 /// A type that says what is written of a plain type stands for it, where each name in that means itself.
 pub fn types_said_of_meanings_expand()
@@ -72,3 +79,12 @@ pub fn parents_of_closed_meanings_are_ancestors()
         → IsTransitive (IsActionParent t declared)
         → (a b : List (List ℕ) × List ℕ) → IsActionAncestor t declared a b ↔ IsActionParent t declared a b }
 {}
+
+/// Each entity type that a fragment declares which says what is written of a meaning is one of the meaning's.
+pub fn declared_entities_are_of_the_meaning()
+    ensures { (g : Fragment RawName as_written) (m : SchemaMeaning)
+        → FragmentSays g (flat_map group_items (groups_of_meaning m))
+        → HasOpenNames m → (d : DeclaredEntity) → Contains (declared_entities g) d → IsEntryOf m d }
+{
+    namespaces_of_meanings_are_written();
+}

@@ -86,7 +86,7 @@ apart_once : (xs : List (List ℕ)) → AreApart xs → NoneRepeats text_cmp xs
 apart_once xs h = unlike_once same_text xs (apart_unlike xs h)
 
 -- a name is its namespace with its last component
-rebuilt : (n : Name) → IsSome n → namespace n ++ basename n ∷ [] ≡ n
+pub rebuilt : (n : Name) → IsSome n → namespace n ++ basename n ∷ [] ≡ n
 rebuilt [] h = absurd h
 rebuilt (c ∷ []) h = refl
 rebuilt (c ∷ d ∷ ds) h = ap (λ l. c ∷ l) (rebuilt (d ∷ ds) tt)
@@ -107,7 +107,7 @@ free_parts (c ∷ d ∷ ds) h =
     let rest = free_parts (d ∷ ds) both.1 in
     ((λ i. both.0 i || rest.0 i), rest.1)
 
-equal_names : (a b : Name) → same_name a b ≡ true → a ≡ b
+pub equal_names : (a b : Name) → same_name a b ≡ true → a ≡ b
 equal_names a b h = (pointwise_decides (λ x y. bytes_decides x y) a b).0 h
 
 pub less_apart : (c : Ordering) → c ≡ Less → c ≡ Equal → ⊥
