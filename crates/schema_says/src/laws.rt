@@ -122,5 +122,6 @@ pub fn namespaces_of_meanings_are_written()
         → written_in (flat_map group_items (groups_of_meaning m)) q ≡ Some w → IsOfMeaning m q w }
     ensures all { (m : SchemaMeaning) (name : List (List ℕ)) → Contains (namespaces m) name
         → IsSome (items_of_meaning m name)
-        → written_in (flat_map group_items (groups_of_meaning m)) (name_or_none name) ≡ Some (meant_in_namespace m name) }
+        → written_in (flat_map group_items (groups_of_meaning m)) (name_or_none name)
+        ≡ Some (meant_in_namespace m name) }
 {}
