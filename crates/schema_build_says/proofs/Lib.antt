@@ -1,0 +1,4 @@
+mod DeclaredEntities
+mod EntryMeans
+mod Expanding
+mod Parents

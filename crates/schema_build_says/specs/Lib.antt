@@ -1,0 +1,4 @@
+pub mod Ancestors
+pub mod DeclaredEntries
+pub mod Entries
+pub mod Themselves

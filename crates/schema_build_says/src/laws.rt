@@ -1,0 +1,90 @@
+//! Laws of fragments that say what is written of a meaning. Each law is what its function ensures.
+ghost use Rattle.std.specs.Prelude.{◌≡◌, ◌↔◌, ℕ, Bool, List, [], Option};
+ghost use Rattle.cedar_identifiers.specs.declared.internal_name.InternalName.{InternalName};
+ghost use Rattle.cedar_identifiers.specs.declared.raw_name.RawName.{RawName};
+ghost use Rattle.cedar_identifiers.specs.declared.name.Name.{Name};
+ghost use Rattle.cedar_names.specs.Meaning.{PlainType, EntityMeaning, ActionMeaning, SchemaMeaning};
+ghost use Rattle.schema_json.specs.declared.types.Type.{«Type»};
+ghost use Rattle.schema_json.specs.declared.entity_type.EntityTypeKind.{EntityTypeKind};
+ghost use Rattle.schema_json.specs.declared.action_type.ApplySpec.{ApplySpec};
+ghost use Rattle.schema_json.specs.declared.action_type.ActionEntityUID.{ActionEntityUID};
+ghost use Rattle.schema_convert_types.specs.Declarations.{as_written};
+ghost use Rattle.schema_readback.specs.Meant.{type_of_meaning, entity_as, action_as, groups_of_meaning};
+ghost use Rattle.schema_resolve_definitions.specs.Tests.{Tests};
+ghost use Rattle.schema_build_hierarchy.specs.Declarations.{Declared, DeclaredEntity, declared_entities};
+ghost use Rattle.schema_build_hierarchy.specs.Parents.{written_parents, parents_in, action_parents_in, IsParent, IsAncestor, IsActionParent, IsActionAncestor};
+ghost use Rattle.schema_build_checks.specs.DeclaredAt.{ActionAt};
+ghost use Rattle.schema_build.specs.Meaning.{kind_meaning, apply_meaning};
+ghost use Rattle.schema_build_expand.specs.Scope.{Scope};
+ghost use Rattle.schema_build_expand.specs.Expands.{Expands};
+ghost use Rattle.schema_build_items.specs.ActionKinds.{IsApplyMeaning};
+ghost use Rattle.schema_build_items.specs.Kinds.{IsKindMeaning};
+ghost use Rattle.schema_says.specs.DeclarationsSay.{KindSays, AppliesSay};
+ghost use Rattle.schema_says.specs.TypesSay.{TypeSays};
+ghost use Rattle.std.specs.List.{AllByRecursion, Contains, flat_map};
+ghost use Rattle.std.specs.Option.{option_map_or};
+ghost use Rattle.schema_json.specs.declared.action_type.ActionType.{ActionType};
+ghost use Rattle.schema_json.specs.declared.fragment.Fragment.{Fragment};
+ghost use Rattle.schema_readback.specs.PrintedDecls.{group_items};
+ghost use Rattle.schema_says.specs.FragmentsSay.{FragmentSays};
+ghost use Rattle.schema_says.specs.MeantNames.{HasOpenNames};
+ghost use Rattle.schema_build_says.specs.DeclaredEntries.{IsEntryOf};
+ghost use Rattle.schema_build_says.specs.Entries.{HasItsParts, IsFoundAs, EntityMeansItself, ActionMeansItself};
+ghost use Rattle.schema_build_says.specs.Ancestors.{IsActionFoundAs, IsTransitive};
+ghost use Rattle.schema_build_says.specs.Themselves.{IsOrderedType, MeansItself};
+
+use schema_says::laws::namespaces_of_meanings_are_written;
+
+/// A type that says what is written of a plain type stands for it, where each name in that means itself.
+pub fn types_said_of_meanings_expand()
+    ensures { (s : Scope RawName) (ns : Option InternalName) (t : «Type» RawName) (p : PlainType)
+        → TypeSays t (type_of_meaning p) → IsOrderedType p → MeansItself s ns p → Expands RawName s ns t p }
+{}
+
+/// What stands for an entity type and says what is written of its entry means the entry.
+pub fn kinds_said_of_meanings_mean_them()
+    ensures { (s : Scope RawName) (ns : Option InternalName) (external : Bool)
+        (kind : EntityTypeKind RawName) (e : EntityMeaning)
+        → KindSays external kind (entity_as e.is_external e.choices e) → EntityMeansItself s ns e
+        → (external ≡ e.is_external) × IsKindMeaning s ns kind (kind_meaning e) }
+{}
+
+/// What an action applies to, where it says what is written of the action's entry, means the entry.
+pub fn actions_said_of_meanings_mean_them()
+    ensures { (t : Tests) (s : Scope RawName) (ns : Option Name) (external : Bool)
+        (applies : Option (ApplySpec RawName))
+        (parents : Option (List (ActionEntityUID RawName as_written))) (a : ActionMeaning)
+        → AppliesSay external applies parents (action_as a.is_external a) → ActionMeansItself t s ns a
+        → (external ≡ a.is_external) × IsApplyMeaning t s ns applies (apply_meaning a) }
+{}
+
+/// Parents that say what is written of an entry of a meaning are the entry's ancestors.
+pub fn parents_said_of_meanings_are_ancestors()
+    ensures entities { (t : Tests) (ns : Option Name) (external : Bool) (kind : EntityTypeKind RawName)
+        (e : EntityMeaning)
+        → KindSays external kind (entity_as e.is_external e.choices e) → HasItsParts e.is_external e.choices e
+        → AllByRecursion (IsFoundAs t ns) e.ancestors → parents_in t ns (written_parents kind) ≡ e.ancestors }
+    ensures actions { (t : Tests) (ns : Option Name) (external : Bool) (applies : Option (ApplySpec RawName))
+        (parents : Option (List (ActionEntityUID RawName as_written))) (a : ActionMeaning)
+        → AppliesSay external applies parents (action_as a.is_external a)
+        → AllByRecursion (IsActionFoundAs t ns) a.ancestors
+        → action_parents_in t ns (option_map_or (λ uids. uids) parents []) ≡ a.ancestors }
+{}
+
+/// Where the parents of parents are parents, the ancestors are the parents.
+pub fn parents_of_closed_meanings_are_ancestors()
+    ensures entities { (t : Tests) (declared : List DeclaredEntity) → IsTransitive (IsParent t declared)
+        → (a b : List (List ℕ)) → IsAncestor t declared a b ↔ IsParent t declared a b }
+    ensures actions { (t : Tests) (declared : List (Declared ActionAt (ActionType RawName as_written)))
+        → IsTransitive (IsActionParent t declared)
+        → (a b : List (List ℕ) × List ℕ) → IsActionAncestor t declared a b ↔ IsActionParent t declared a b }
+{}
+
+/// Each entity type that a fragment declares which says what is written of a meaning is one of the meaning's.
+pub fn declared_entities_are_of_the_meaning()
+    ensures { (g : Fragment RawName as_written) (m : SchemaMeaning)
+        → FragmentSays g (flat_map group_items (groups_of_meaning m))
+        → HasOpenNames m → (d : DeclaredEntity) → Contains (declared_entities g) d → IsEntryOf m d }
+{
+    namespaces_of_meanings_are_written();
+}

@@ -1,0 +1,6 @@
+mod CedarDecls
+mod CedarFragments
+mod CedarProper
+mod CedarSayable
+mod CedarTypes
+mod Folds

@@ -1,0 +1,11 @@
+pub mod Bare
+pub mod BareFragments
+pub mod DeclarationsSay
+pub mod Entries
+pub mod FragmentsSay
+pub mod MeantNames
+pub mod MeantNamespaces
+pub mod Named
+pub mod Sayable
+pub mod TranslatedAs
+pub mod TypesSay
