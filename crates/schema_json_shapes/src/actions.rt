@@ -1,0 +1,187 @@
+// Actions.
+ghost use Rattle.std.specs.Prelude.{◌≡◌, [], codes, IfOk};
+ghost use Rattle.serde_json.specs.Data.{object};
+ghost use Rattle.serde_json.specs.View.{view, items_view, members_view};
+ghost use Rattle.serde_json.specs.Find.{get_member};
+ghost use Rattle.schema_json_shapes.specs.Walk.{action, applies_to, action_ids, action_id, keys, named, or_null, demands, item_demands, object_demands};
+ghost use Rattle.schema_json_shapes.specs.Said.{IsNamed, IsList, AreItems, IsOptional, not_null};
+ghost use Rattle.schema_json_shapes.specs.Shapes.{AreKeys, IsAction, IsActionIn, IsAppliesTo, IsAppliesToIn, IsActionId, IsActionIdIn, key_texts};
+ghost use Rattle.schema_json_shapes.specs.Reads.{Reads, Any, field_demands};
+
+use crate::annotations::annotations_at;
+use crate::conflicts::check_external_action;
+use crate::entity_types::shape_at;
+use crate::fields::{Members, at, check_fields, needed};
+use crate::json_fault::JsonFault;
+use crate::leaves::{flag_at, read_text, wrong_type};
+use crate::name_role::NameRole;
+use crate::names::{read_named, read_names};
+use crate::tables::{action_fields, action_id_fields, applies_to_fields};
+use cedar_data::{List, Set, Text};
+use cedar_identifiers::RawName;
+use schema_json::{ActionEntityUID, ActionType, ApplySpec, AttributesOrContext};
+use serde_json::Value;
+use std::alloc::{AllocError, Global};
+
+/// An action.
+pub fn read_action(
+    alloc: Global,
+    value: &Value,
+    label: &str,
+) -> Result<ActionType<RawName>, JsonFault>
+    ensures { Reads result (demands action label.now (view value.now)) (IsAction (view value.now)) }
+{
+    match value {
+        Value::Object(members) => read_members(alloc, members),
+        _ => Err(wrong_type(alloc, label)),
+    }
+}
+
+fn read_members(alloc: Global, members: &Members) -> Result<ActionType<RawName>, JsonFault>
+    ensures { let ms = members_view members.now.entries in
+        Reads result (demands action [] (object ms)) (IsActionIn ms) }
+{
+    let _ = members.len();
+    check_members(alloc, members)?;
+    let annotations = annotations_at(alloc, members)?;
+    let applies_to = applies_to_at(alloc, members)?;
+    let attributes = attributes_at(alloc, members)?;
+    let external = flag_at(alloc, members, "external", false)?;
+    let member_of = parents_at(alloc, members)?;
+    Ok(ActionType {
+        attributes,
+        applies_to,
+        member_of,
+        external,
+        annotations,
+        loc: None,
+    })
+}
+
+// What the object itself must keep.
+fn check_members(alloc: Global, members: &Members) -> Result<(), JsonFault>
+    ensures { Reads result (object_demands action [] (members_view members.now.entries)) Any }
+{
+    check_fields(alloc, action_fields(), members)?;
+    check_external_action(alloc, members)
+}
+
+// The names of the attributes.
+fn attributes_at(alloc: Global, members: &Members) -> Result<Option<Set<Text>>, JsonFault>
+    ensures { let o = get_member (codes "attributes") (members_view members.now.entries) in
+        Reads result (field_demands (or_null keys) (codes "attributes") o) (IsOptional AreKeys (not_null o)) }
+{
+    match at(members, "attributes") {
+        Some(Value::Object(attributes)) => Ok(Some(read_keys(alloc, attributes)?)),
+        Some(Value::Null) => Ok(None),
+        Some(_) => Err(wrong_type(alloc, "attributes")),
+        None => Ok(None),
+    }
+}
+
+// The keys of an object, which rise.
+fn read_keys(alloc: Global, members: &Members) -> Result<Set<Text>, AllocError>
+    ensures { IfOk result (λ keys. keys ≡ key_texts (members_view members.now.entries)) }
+{
+    let _ = members.len();
+    let mut keys = Vec::new(alloc);
+    for (key, _) in members {
+        keys.push(Text::from_str(alloc, key.as_str())?)?;
+    }
+    Ok(Set::from_sorted_vec(keys))
+}
+
+fn applies_to_at(alloc: Global, members: &Members) -> Result<Option<ApplySpec<RawName>>, JsonFault>
+    ensures { let o = get_member (codes "appliesTo") (members_view members.now.entries) in
+        Reads result (field_demands (or_null applies_to) (codes "appliesTo") o) (IsOptional IsAppliesTo (not_null o)) }
+{
+    match at(members, "appliesTo") {
+        Some(Value::Object(fields)) => Ok(Some(read_applies_to(alloc, fields)?)),
+        Some(Value::Null) => Ok(None),
+        Some(_) => Err(wrong_type(alloc, "appliesTo")),
+        None => Ok(None),
+    }
+}
+
+fn read_applies_to(alloc: Global, members: &Members) -> Result<ApplySpec<RawName>, JsonFault>
+    ensures { let ms = members_view members.now.entries in
+        Reads result (demands applies_to (codes "appliesTo") (object ms)) (IsAppliesToIn ms) }
+{
+    let _ = members.len();
+    check_fields(alloc, applies_to_fields(), members)?;
+    let context = AttributesOrContext(shape_at(alloc, members, "context")?);
+    let principals = needed(members, "principalTypes");
+    let principal_types = read_names(alloc, principals, "principalTypes")?;
+    let resources = needed(members, "resourceTypes");
+    let resource_types = read_names(alloc, resources, "resourceTypes")?;
+    Ok(ApplySpec {
+        resource_types,
+        principal_types,
+        context,
+    })
+}
+
+fn parents_at(
+    alloc: Global,
+    members: &Members,
+) -> Result<Option<List<ActionEntityUID<RawName>>>, JsonFault>
+    ensures { let o = get_member (codes "memberOf") (members_view members.now.entries) in
+        Reads result (field_demands (or_null action_ids) (codes "memberOf") o)
+        (IsOptional (IsList IsActionId) (not_null o)) }
+{
+    match at(members, "memberOf") {
+        Some(Value::Array(items)) => Ok(Some(read_action_ids(alloc, items)?)),
+        Some(Value::Null) => Ok(None),
+        Some(_) => Err(wrong_type(alloc, "memberOf")),
+        None => Ok(None),
+    }
+}
+
+fn read_action_ids(
+    alloc: Global,
+    items: &Vec<Value>,
+) -> Result<List<ActionEntityUID<RawName>>, JsonFault>
+    ensures { Reads result (item_demands action_id (codes "memberOf") (items_view items.now.items))
+        (AreItems IsActionId (items_view items.now.items)) }
+{
+    let mut parents = List::new(alloc);
+    for item in items {
+        let parent = read_action_id(alloc, item)?;
+        parents.push(parent)?;
+    }
+    Ok(parents)
+}
+
+fn read_action_id(alloc: Global, value: &Value) -> Result<ActionEntityUID<RawName>, JsonFault>
+    ensures { Reads result (demands action_id (codes "memberOf") (view value.now)) (IsActionId (view value.now)) }
+{
+    match value {
+        Value::Object(members) => read_id_members(alloc, members),
+        _ => Err(wrong_type(alloc, "memberOf")),
+    }
+}
+
+fn read_id_members(
+    alloc: Global,
+    members: &Members,
+) -> Result<ActionEntityUID<RawName>, JsonFault>
+    ensures { let ms = members_view members.now.entries in
+        Reads result (demands action_id (codes "memberOf") (object ms)) (IsActionIdIn ms) }
+{
+    let _ = members.len();
+    check_fields(alloc, action_id_fields(), members)?;
+    let id = read_text(alloc, needed(members, "id"), "id")?;
+    let ty = action_type_at(alloc, members)?;
+    Ok(ActionEntityUID::new(ty, id))
+}
+
+fn action_type_at(alloc: Global, members: &Members) -> Result<Option<RawName>, JsonFault>
+    ensures { let o = get_member (codes "type") (members_view members.now.entries) in
+        Reads result (field_demands (or_null (named NameRole.Name)) (codes "type") o) (IsOptional IsNamed (not_null o)) }
+{
+    match at(members, "type") {
+        Some(Value::Null) => Ok(None),
+        Some(value) => Ok(Some(read_named(alloc, NameRole::Name, value, "type")?)),
+        None => Ok(None),
+    }
+}
