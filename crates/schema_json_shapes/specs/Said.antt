@@ -59,8 +59,8 @@ not_null (Some d) = Some d
 
 -- the items one by one
 pub data AreItems {X : Type 0} (P : Data → X → Type 0) : Items → List X → Type 0 where
-  none : AreItems P no_items []
-  more : (d : Data) (ds : Items) (x : X) (xs : List X) → P d x → AreItems P ds xs → AreItems P (item d ds) (x ∷ xs)
+  no_item : AreItems P no_items []
+  next_item : (d : Data) (ds : Items) (x : X) (xs : List X) → P d x → AreItems P ds xs → AreItems P (item d ds) (x ∷ xs)
 
 -- a list
 abbrev pub IsList : {X : Type 0} → (Data → X → Type 0) → Data → List X → Type 0
@@ -74,8 +74,8 @@ IsListOrNone P (Some d) xs = IsList P d xs
 
 -- the members one by one
 pub data AreEntries {K V : Type 0} (Key : List ℕ → K → Type 0) (Value : Data → V → Type 0) : Members → List (K × V) → Type 0 where
-  none : AreEntries Key Value no_members []
-  more : (k : List ℕ) (d : Data) (ms : Members) (key : K) (value : V) (es : List (K × V)) → Key k key → Value d value
+  no_entry : AreEntries Key Value no_members []
+  next_entry : (k : List ℕ) (d : Data) (ms : Members) (key : K) (value : V) (es : List (K × V)) → Key k key → Value d value
       → AreEntries Key Value ms es → AreEntries Key Value (member k d ms) ((key, value) ∷ es)
 
 -- the map of the members of an object
@@ -148,8 +148,8 @@ mutual
 
   -- the members say the attributes
   pub data AreAttributes : Members → List (List ℕ × TypeOfAttribute RawName) → Type 0 where
-    none : AreAttributes no_members []
-    more : (k : List ℕ) (beside : Members) (ms : Members) (a : TypeOfAttribute RawName) (es : List (List ℕ × TypeOfAttribute RawName))
+    no_attribute : AreAttributes no_members []
+    next_attribute : (k : List ℕ) (beside : Members) (ms : Members) (a : TypeOfAttribute RawName) (es : List (List ℕ × TypeOfAttribute RawName))
         → IsType (object beside) (out-TypeOfAttribute RawName a).ty → AreAnnotations (get_member (codes "annotations") beside) (out-TypeOfAttribute RawName a).annotations
         → (out-TypeOfAttribute RawName a).required ≡ flag_or true (get_member (codes "required") beside)
         → AreAttributes ms es → AreAttributes (member k (object beside) ms) ((chars k, a) ∷ es)

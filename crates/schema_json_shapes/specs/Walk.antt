@@ -258,8 +258,8 @@ conflict fault (n ∷ ns) = Some (fault (map chars (n ∷ ns)))
 
 -- what may not stand beside `external: true`
 abbrev pub external_conflict : (Option Data → Bool) → List (List ℕ) → Members → Option Data → Option JsonFault
-external_conflict test names ms (Some (boolean true)) = conflict ExternalConflict (present test names ms)
-external_conflict test names ms _ = None
+external_conflict test beside ms (Some (boolean true)) = conflict ExternalConflict (present test beside ms)
+external_conflict test beside ms _ = None
 
 abbrev pub not_external_type : List (List ℕ)
 not_external_type = codes "shape" ∷ codes "tags" ∷ codes "enum" ∷ []

@@ -11,7 +11,7 @@ ghost use Rattle.schema_json_shapes.specs.Reads.{Reads, Any, field_demands};
 use crate::annotations::annotations_at;
 use crate::conflicts::check_external_action;
 use crate::entity_types::shape_at;
-use crate::fields::{Members, at, check_fields, needed};
+use crate::fields::{Members, check_fields, given_at, needed};
 use crate::json_fault::JsonFault;
 use crate::leaves::{flag_at, read_text, wrong_type};
 use crate::name_role::NameRole;
@@ -31,9 +31,9 @@ pub fn read_action(
 ) -> Result<ActionType<RawName>, JsonFault>
     ensures { Reads result (demands action label.now (view value.now)) (IsAction (view value.now)) }
 {
-    match value {
-        Value::Object(members) => read_members(alloc, members),
-        _ => Err(wrong_type(alloc, label)),
+    match value.as_object() {
+        Some(members) => read_members(alloc, members),
+        None => Err(wrong_type(alloc, label)),
     }
 }
 
@@ -71,11 +71,18 @@ fn attributes_at(alloc: Global, members: &Members) -> Result<Option<Set<Text>>, 
     ensures { let o = get_member (codes "attributes") (members_view members.now.entries) in
         Reads result (field_demands (or_null keys) (codes "attributes") o) (IsOptional AreKeys (not_null o)) }
 {
-    match at(members, "attributes") {
-        Some(Value::Object(attributes)) => Ok(Some(read_keys(alloc, attributes)?)),
-        Some(Value::Null) => Ok(None),
-        Some(_) => Err(wrong_type(alloc, "attributes")),
+    match given_at(members, "attributes") {
+        Some(value) => Ok(Some(read_attributes(alloc, value)?)),
         None => Ok(None),
+    }
+}
+
+fn read_attributes(alloc: Global, value: &Value) -> Result<Set<Text>, JsonFault>
+    ensures { Reads result (demands keys (codes "attributes") (view value.now)) (AreKeys (view value.now)) }
+{
+    match value.as_object() {
+        Some(members) => Ok(read_keys(alloc, members)?),
+        None => Err(wrong_type(alloc, "attributes")),
     }
 }
 
@@ -95,15 +102,22 @@ fn applies_to_at(alloc: Global, members: &Members) -> Result<Option<ApplySpec<Ra
     ensures { let o = get_member (codes "appliesTo") (members_view members.now.entries) in
         Reads result (field_demands (or_null applies_to) (codes "appliesTo") o) (IsOptional IsAppliesTo (not_null o)) }
 {
-    match at(members, "appliesTo") {
-        Some(Value::Object(fields)) => Ok(Some(read_applies_to(alloc, fields)?)),
-        Some(Value::Null) => Ok(None),
-        Some(_) => Err(wrong_type(alloc, "appliesTo")),
+    match given_at(members, "appliesTo") {
+        Some(value) => Ok(Some(read_applies_to(alloc, value)?)),
         None => Ok(None),
     }
 }
 
-fn read_applies_to(alloc: Global, members: &Members) -> Result<ApplySpec<RawName>, JsonFault>
+fn read_applies_to(alloc: Global, value: &Value) -> Result<ApplySpec<RawName>, JsonFault>
+    ensures { Reads result (demands applies_to (codes "appliesTo") (view value.now)) (IsAppliesTo (view value.now)) }
+{
+    match value.as_object() {
+        Some(members) => read_applies_to_members(alloc, members),
+        None => Err(wrong_type(alloc, "appliesTo")),
+    }
+}
+
+fn read_applies_to_members(alloc: Global, members: &Members) -> Result<ApplySpec<RawName>, JsonFault>
     ensures { let ms = members_view members.now.entries in
         Reads result (demands applies_to (codes "appliesTo") (object ms)) (IsAppliesToIn ms) }
 {
@@ -129,11 +143,21 @@ fn parents_at(
         Reads result (field_demands (or_null action_ids) (codes "memberOf") o)
         (IsOptional (IsList IsActionId) (not_null o)) }
 {
-    match at(members, "memberOf") {
-        Some(Value::Array(items)) => Ok(Some(read_action_ids(alloc, items)?)),
-        Some(Value::Null) => Ok(None),
-        Some(_) => Err(wrong_type(alloc, "memberOf")),
+    match given_at(members, "memberOf") {
+        Some(value) => Ok(Some(read_parents(alloc, value)?)),
         None => Ok(None),
+    }
+}
+
+fn read_parents(
+    alloc: Global,
+    value: &Value,
+) -> Result<List<ActionEntityUID<RawName>>, JsonFault>
+    ensures { Reads result (demands action_ids (codes "memberOf") (view value.now)) (IsList IsActionId (view value.now)) }
+{
+    match value.as_array() {
+        Some(items) => read_action_ids(alloc, items),
+        None => Err(wrong_type(alloc, "memberOf")),
     }
 }
 
@@ -155,9 +179,9 @@ fn read_action_ids(
 fn read_action_id(alloc: Global, value: &Value) -> Result<ActionEntityUID<RawName>, JsonFault>
     ensures { Reads result (demands action_id (codes "memberOf") (view value.now)) (IsActionId (view value.now)) }
 {
-    match value {
-        Value::Object(members) => read_id_members(alloc, members),
-        _ => Err(wrong_type(alloc, "memberOf")),
+    match value.as_object() {
+        Some(members) => read_id_members(alloc, members),
+        None => Err(wrong_type(alloc, "memberOf")),
     }
 }
 
@@ -179,8 +203,7 @@ fn action_type_at(alloc: Global, members: &Members) -> Result<Option<RawName>, J
     ensures { let o = get_member (codes "type") (members_view members.now.entries) in
         Reads result (field_demands (or_null (named NameRole.Name)) (codes "type") o) (IsOptional IsNamed (not_null o)) }
 {
-    match at(members, "type") {
-        Some(Value::Null) => Ok(None),
+    match given_at(members, "type") {
         Some(value) => Ok(Some(read_named(alloc, NameRole::Name, value, "type")?)),
         None => Ok(None),
     }

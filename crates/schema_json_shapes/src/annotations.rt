@@ -30,12 +30,12 @@ fn read_annotations(alloc: Global, value: &Value) -> Result<Annotations, JsonFau
     ensures { Reads result (demands annotations (codes "annotations") (view value.now))
         (AreAnnotations (Some (view value.now))) }
 {
-    match value {
-        Value::Object(members) => {
+    match value.as_object() {
+        Some(members) => {
             let entries = read_entries(alloc, members)?;
             Ok(Annotations(Map::from_entries(alloc, entries)?))
         }
-        _ => Err(wrong_type(alloc, "annotations")),
+        None => Err(wrong_type(alloc, "annotations")),
     }
 }
 
@@ -49,7 +49,8 @@ fn read_entries(
 {
     let mut entries = Vec::new(alloc);
     for (key, value) in members {
-        entries.push(read_entry(alloc, key.as_str(), value)?)?;
+        let entry = read_entry(alloc, key.as_str(), value)?;
+        entries.push(entry)?;
     }
     Ok(entries)
 }

@@ -7,7 +7,7 @@ ghost use Rattle.schema_json_shapes.specs.Seen.{name_texts};
 ghost use Rattle.schema_json_shapes.specs.Walk.{unless, present, is_there, is_given, external_conflict, enum_conflict, empty_enum, empty_annotated, not_external_type, not_external_action};
 ghost use Rattle.schema_json_shapes.specs.Reads.{Reads, Any};
 
-use crate::fields::{Members, at};
+use crate::fields::{Members, at, given_at};
 use crate::json_fault::JsonFault;
 use cedar_data::{NonEmpty, Text};
 use serde_json::Value;
@@ -17,11 +17,7 @@ use std::alloc::{AllocError, Global};
 fn is_given(members: &Members, name: &str) -> bool
     ensures { result ≡ is_given (get_member name.now (members_view members.now.entries)) }
 {
-    match at(members, name) {
-        Some(Value::Null) => false,
-        Some(_) => true,
-        None => false,
-    }
+    given_at(members, name).is_some()
 }
 
 // Those of the fields that the object has.

@@ -32,9 +32,9 @@ pub fn read_entity_type(
 ) -> Result<EntityType<RawName>, JsonFault>
     ensures { Reads result (demands entity_type label.now (view value.now)) (IsEntityType (view value.now)) }
 {
-    match value {
-        Value::Object(members) => read_members(alloc, members),
-        _ => Err(wrong_type(alloc, label)),
+    match value.as_object() {
+        Some(members) => read_members(alloc, members),
+        None => Err(wrong_type(alloc, label)),
     }
 }
 

@@ -4,6 +4,7 @@ ghost use Rattle.serde_json.specs.View.{view, members_view};
 ghost use Rattle.serde_json.specs.Find.{get_member};
 ghost use Rattle.schema_json_shapes.specs.Tables.{is_field, first_unknown, first_missing};
 ghost use Rattle.schema_json_shapes.specs.Walk.{fits_table, is_there};
+ghost use Rattle.schema_json_shapes.specs.Said.{not_null};
 ghost use Rattle.schema_json_shapes.specs.Seen.{table};
 ghost use Rattle.schema_json_shapes.specs.Reads.{Reads, Any};
 
@@ -31,6 +32,22 @@ pub fn needed<'v>(members: &'v Members, name: &str) -> &'v Value
     match at(members, name) {
         Some(value) => value,
         None => unreachable!(),
+    }
+}
+
+/// The member of this name, where it is not null.
+pub fn given_at<'v>(members: &'v Members, name: &str) -> Option<&'v Value>
+    ensures { option_map (λ v. view v.now) result ≡ not_null (get_member name.now (members_view members.now.entries)) }
+{
+    match at(members, name) {
+        Some(value) => {
+            if value.is_null() {
+                None
+            } else {
+                Some(value)
+            }
+        }
+        None => None,
     }
 }
 

@@ -21,12 +21,12 @@ use std::alloc::Global;
 pub fn read_fragment(alloc: Global, value: &Value) -> Result<Fragment<RawName>, JsonFault>
     ensures { Reads result (demands fragment [] (view value.now)) (IsFragment (view value.now)) }
 {
-    match value {
-        Value::Object(members) => {
+    match value.as_object() {
+        Some(members) => {
             let entries = namespace_entries(alloc, members)?;
             Ok(Fragment(Map::from_entries(alloc, entries)?))
         }
-        _ => Err(wrong_type(alloc, "")),
+        None => Err(wrong_type(alloc, "")),
     }
 }
 
@@ -40,7 +40,8 @@ fn namespace_entries(
 {
     let mut entries = Vec::new(alloc);
     for (key, value) in members {
-        entries.push(namespace_entry(alloc, key.as_str(), value)?)?;
+        let entry = namespace_entry(alloc, key.as_str(), value)?;
+        entries.push(entry)?;
     }
     Ok(entries)
 }

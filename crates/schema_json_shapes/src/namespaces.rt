@@ -35,9 +35,9 @@ pub fn read_namespace(
 ) -> Result<NamespaceDefinition<RawName>, JsonFault>
     ensures { Reads result (demands namespace key.now (view value.now)) (IsNamespace (view value.now)) }
 {
-    match value {
-        Value::Object(members) => read_members(alloc, members, key),
-        _ => Err(wrong_type(alloc, key)),
+    match value.as_object() {
+        Some(members) => read_members(alloc, members, key),
+        None => Err(wrong_type(alloc, key)),
     }
 }
 
@@ -78,12 +78,12 @@ fn read_actions(
     ensures { Reads result (demands actions_role (codes "actions") (view value.now))
         (IsMap text_cmp IsText IsAction (view value.now)) }
 {
-    match value {
-        Value::Object(members) => {
+    match value.as_object() {
+        Some(members) => {
             let entries = action_entries(alloc, members)?;
             Ok(Map::from_entries(alloc, entries)?)
         }
-        _ => Err(wrong_type(alloc, "actions")),
+        None => Err(wrong_type(alloc, "actions")),
     }
 }
 
@@ -97,7 +97,8 @@ fn action_entries(
 {
     let mut entries = Vec::new(alloc);
     for (key, value) in members {
-        entries.push(action_entry(alloc, key.as_str(), value)?)?;
+        let entry = action_entry(alloc, key.as_str(), value)?;
+        entries.push(entry)?;
     }
     Ok(entries)
 }
@@ -135,12 +136,12 @@ fn read_common_types(
     ensures { Reads result (demands common_types (codes "commonTypes") (view value.now))
         (IsMap common_id_order IsCommonId IsCommonType (view value.now)) }
 {
-    match value {
-        Value::Object(members) => {
+    match value.as_object() {
+        Some(members) => {
             let entries = common_entries(alloc, members)?;
             Ok(Map::from_entries(alloc, entries)?)
         }
-        _ => Err(wrong_type(alloc, "commonTypes")),
+        None => Err(wrong_type(alloc, "commonTypes")),
     }
 }
 
@@ -154,7 +155,8 @@ fn common_entries(
 {
     let mut entries = Vec::new(alloc);
     for (key, value) in members {
-        entries.push(common_entry(alloc, key.as_str(), value)?)?;
+        let entry = common_entry(alloc, key.as_str(), value)?;
+        entries.push(entry)?;
     }
     Ok(entries)
 }
@@ -203,12 +205,12 @@ fn read_entity_types(
     ensures { Reads result (demands entity_types (codes "entityTypes") (view value.now))
         (IsMap id_order IsId IsEntityType (view value.now)) }
 {
-    match value {
-        Value::Object(members) => {
+    match value.as_object() {
+        Some(members) => {
             let entries = entity_entries(alloc, members)?;
             Ok(Map::from_entries(alloc, entries)?)
         }
-        _ => Err(wrong_type(alloc, "entityTypes")),
+        None => Err(wrong_type(alloc, "entityTypes")),
     }
 }
 
@@ -222,7 +224,8 @@ fn entity_entries(
 {
     let mut entries = Vec::new(alloc);
     for (key, value) in members {
-        entries.push(entity_entry(alloc, key.as_str(), value)?)?;
+        let entry = entity_entry(alloc, key.as_str(), value)?;
+        entries.push(entry)?;
     }
     Ok(entries)
 }

@@ -58,9 +58,9 @@ pub fn read_typed(
     ensures { Reads result (demands (typed site) label.now (view value.now))
         (λ t. SaysTyped (view value.now) t.ty t.annotations t.required) }
 {
-    match value {
-        Value::Object(members) => read_object(alloc, members, site),
-        _ => Err(wrong_type(alloc, label)),
+    match value.as_object() {
+        Some(members) => read_object(alloc, members, site),
+        None => Err(wrong_type(alloc, label)),
     }
 }
 
@@ -153,12 +153,12 @@ fn read_attributes(
 ) -> Result<Map<Text, TypeOfAttribute<RawName>>, JsonFault>
     ensures { Reads result (demands attributes_role (codes "attributes") (view value.now)) (HasAttributes (view value.now)) }
 {
-    match value {
-        Value::Object(members) => {
+    match value.as_object() {
+        Some(members) => {
             let entries = read_attribute_entries(alloc, members)?;
             Ok(Map::from_entries(alloc, entries)?)
         }
-        _ => Err(wrong_type(alloc, "attributes")),
+        None => Err(wrong_type(alloc, "attributes")),
     }
 }
 

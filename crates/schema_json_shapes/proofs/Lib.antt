@@ -1,0 +1,5 @@
+pub mod Demands
+pub mod Order
+pub mod Tabled
+pub mod Ahead
+pub mod Objects
