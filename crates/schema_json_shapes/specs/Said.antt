@@ -25,7 +25,7 @@ use Rattle.schema_json.specs.declared.types.TypeOfAttribute.{TypeOfAttribute, ou
 use Rattle.schema_json_shapes.specs.declared.words.TypeWord.{TypeWord}
 use Rattle.schema_json_shapes.specs.declared.words.TypeWord.TheVariants as word
 use Rattle.schema_json_shapes.specs.Tables.{word_of}
-use Rattle.schema_json_shapes.specs.Walk.{text_in}
+use Rattle.schema_json_shapes.specs.Walk.{flag_or}
 
 -- ---- names and words
 
@@ -41,10 +41,6 @@ abbrev pub IsAnyId : List ℕ → AnyId → Type 0
 IsAnyId s id = ReadsAs kind.AnyId s (id.text ∷ [])
 
 -- ---- flags, texts, lists and entries
-
-abbrev pub flag_or : Bool → Option Data → Bool
-flag_or otherwise (Some (boolean b)) = b
-flag_or otherwise _ = otherwise
 
 -- a value that may be absent, of which P holds where it is there
 abbrev pub IsOptional : {X : Type 0} → (Data → X → Type 0) → Option Data → Option X → Type 0

@@ -29,8 +29,8 @@ use Rattle.schema_json.specs.declared.action_type.ApplySpec.{ApplySpec}
 use Rattle.schema_json.specs.declared.fragment.Fragment.{Fragment}
 use Rattle.schema_json.specs.declared.fragment.NamespaceDefinition.{NamespaceDefinition}
 use Rattle.schema_json_shapes.specs.declared.json_fault.JsonFault.{JsonFault}
-use Rattle.schema_json_shapes.specs.Walk.{fragment, demands, AllMet, FirstUnmet}
-use Rattle.schema_json_shapes.specs.Said.{IsRawName, IsId, IsText, IsNamed, IsChoice, IsOptional, not_null, flag_or, IsList, IsListOrNone, IsMap, IsMapOrNone, AreAnnotations, IsType, IsTyped}
+use Rattle.schema_json_shapes.specs.Walk.{fragment, demands, AllMet, FirstUnmet, flag_or}
+use Rattle.schema_json_shapes.specs.Said.{IsRawName, IsId, IsText, IsNamed, IsChoice, IsOptional, not_null, IsList, IsListOrNone, IsMap, IsMapOrNone, AreAnnotations, IsType, IsTyped}
 
 -- ---- common types and entity types
 

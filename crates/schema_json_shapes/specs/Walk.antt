@@ -256,10 +256,13 @@ abbrev pub conflict : (List (List ℕ) → JsonFault) → List (List ℕ) → Op
 conflict fault [] = None
 conflict fault (n ∷ ns) = Some (fault (map chars (n ∷ ns)))
 
+abbrev pub flag_or : Bool → Option Data → Bool
+flag_or otherwise (Some (boolean b)) = b
+flag_or otherwise _ = otherwise
+
 -- what may not stand beside `external: true`
 abbrev pub external_conflict : (Option Data → Bool) → List (List ℕ) → Members → Option Data → Option JsonFault
-external_conflict test beside ms (Some (boolean true)) = conflict ExternalConflict (present test beside ms)
-external_conflict test beside ms _ = None
+external_conflict test beside ms external = if flag_or false external then conflict ExternalConflict (present test beside ms) else None
 
 abbrev pub not_external_type : List (List ℕ)
 not_external_type = codes "shape" ∷ codes "tags" ∷ codes "enum" ∷ []
@@ -272,17 +275,24 @@ abbrev pub not_enum : List (List ℕ)
 not_enum = codes "memberOfTypes" ∷ codes "shape" ∷ codes "tags" ∷ []
 
 abbrev pub enum_conflict : Members → Option Data → Option JsonFault
-enum_conflict ms None = None
-enum_conflict ms (Some d) = conflict EnumConflict (present is_there not_enum ms)
+enum_conflict ms choices = if is_there choices then conflict EnumConflict (present is_there not_enum ms) else None
+
+abbrev pub is_empty_list : Data → Bool
+is_empty_list (array no_items) = true
+is_empty_list _ = false
 
 abbrev pub empty_enum : Option Data → Option JsonFault
-empty_enum (Some (array no_items)) = Some EmptyEnum
-empty_enum _ = None
+empty_enum None = None
+empty_enum (Some d) = if is_empty_list d then Some EmptyEnum else None
+
+abbrev pub has_members : Data → Bool
+has_members (object (member k d ms)) = true
+has_members _ = false
 
 -- annotations of the empty namespace
 abbrev pub annotated : Option Data → Option JsonFault
-annotated (Some (object (member k d ms))) = Some AnnotationsOnEmptyNamespace
-annotated _ = None
+annotated None = None
+annotated (Some d) = if has_members d then Some AnnotationsOnEmptyNamespace else None
 
 abbrev pub empty_annotated : List ℕ → Members → Option JsonFault
 empty_annotated [] ms = annotated (get_member (codes "annotations") ms)

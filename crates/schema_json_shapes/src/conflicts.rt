@@ -1,10 +1,10 @@
 // Fields that may not stand side by side.
-ghost use Rattle.std.specs.Prelude.{◌≡◌, [], ◌∷◌, None, IfOk, map, option_map, codes};
+ghost use Rattle.std.specs.Prelude.{◌≡◌, [], ◌∷◌, false, IfOk, map, codes};
 ghost use Rattle.std.specs.Str.{chars};
 ghost use Rattle.serde_json.specs.View.{view, members_view};
 ghost use Rattle.serde_json.specs.Find.{get_member};
 ghost use Rattle.schema_json_shapes.specs.Seen.{name_texts};
-ghost use Rattle.schema_json_shapes.specs.Walk.{unless, present, is_there, is_given, external_conflict, enum_conflict, empty_enum, empty_annotated, not_external_type, not_external_action};
+ghost use Rattle.schema_json_shapes.specs.Walk.{unless, present, flag_or, is_there, is_given, is_empty_list, has_members, external_conflict, enum_conflict, empty_enum, empty_annotated, not_external_type, not_external_action};
 ghost use Rattle.schema_json_shapes.specs.Reads.{Reads, Any};
 
 use crate::fields::{Members, at, given_at};
@@ -12,6 +12,13 @@ use crate::json_fault::JsonFault;
 use cedar_data::{NonEmpty, Text};
 use serde_json::Value;
 use std::alloc::{AllocError, Global};
+
+// Whether the member is there.
+fn is_there(members: &Members, name: &str) -> bool
+    ensures { result ≡ is_there (get_member name.now (members_view members.now.entries)) }
+{
+    at(members, name).is_some()
+}
 
 // Whether the member is there, and is not null.
 fn is_given(members: &Members, name: &str) -> bool
@@ -26,7 +33,7 @@ fn there(alloc: Global, members: &Members, fields: &[&str]) -> Result<Vec<Text>,
 {
     let mut found = Vec::new(alloc);
     for field in fields {
-        if at(members, field).is_some() {
+        if is_there(members, field) {
             found.push(Text::from_str(alloc, field)?)?;
         }
     }
@@ -46,19 +53,27 @@ fn given(alloc: Global, members: &Members, fields: &[&str]) -> Result<Vec<Text>,
     Ok(found)
 }
 
+// Whether the object has `external: true`.
+fn is_external(members: &Members) -> bool
+    ensures { result ≡ flag_or false (get_member (codes "external") (members_view members.now.entries)) }
+{
+    match at(members, "external") {
+        Some(Value::Bool(b)) => *b,
+        _ => false,
+    }
+}
+
 /// Refuses what an external entity type may not have.
 pub fn check_external_type(alloc: Global, members: &Members) -> Result<(), JsonFault>
     ensures { let ms = members_view members.now.entries in
         Reads result (unless (external_conflict is_there not_external_type ms (get_member (codes "external") ms)) ∷ []) Any }
 {
-    match at(members, "external") {
-        Some(Value::Bool(true)) => {
-            match NonEmpty::from_vec(there(alloc, members, &["shape", "tags", "enum"])?) {
-                Some(fields) => Err(JsonFault::ExternalConflict(fields)),
-                None => Ok(()),
-            }
-        }
-        _ => Ok(()),
+    if !is_external(members) {
+        return Ok(());
+    }
+    match NonEmpty::from_vec(there(alloc, members, &["shape", "tags", "enum"])?) {
+        Some(fields) => Err(JsonFault::ExternalConflict(fields)),
+        None => Ok(()),
     }
 }
 
@@ -67,14 +82,12 @@ pub fn check_external_action(alloc: Global, members: &Members) -> Result<(), Jso
     ensures { let ms = members_view members.now.entries in
         Reads result (unless (external_conflict is_given not_external_action ms (get_member (codes "external") ms)) ∷ []) Any }
 {
-    match at(members, "external") {
-        Some(Value::Bool(true)) => {
-            match NonEmpty::from_vec(given(alloc, members, &["attributes", "appliesTo"])?) {
-                Some(fields) => Err(JsonFault::ExternalConflict(fields)),
-                None => Ok(()),
-            }
-        }
-        _ => Ok(()),
+    if !is_external(members) {
+        return Ok(());
+    }
+    match NonEmpty::from_vec(given(alloc, members, &["attributes", "appliesTo"])?) {
+        Some(fields) => Err(JsonFault::ExternalConflict(fields)),
+        None => Ok(()),
     }
 }
 
@@ -83,7 +96,7 @@ pub fn check_enum(alloc: Global, members: &Members) -> Result<(), JsonFault>
     ensures { let ms = members_view members.now.entries in
         Reads result (unless (enum_conflict ms (get_member (codes "enum") ms)) ∷ []) Any }
 {
-    if at(members, "enum").is_none() {
+    if !is_there(members, "enum") {
         return Ok(());
     }
     match NonEmpty::from_vec(there(alloc, members, &["memberOfTypes", "shape", "tags"])?) {
@@ -98,13 +111,22 @@ pub fn check_choices(members: &Members) -> Result<(), JsonFault>
         Reads result (unless (empty_enum (get_member (codes "enum") ms)) ∷ []) Any }
 {
     match at(members, "enum") {
-        Some(Value::Array(items)) => {
-            if items.is_empty() {
+        Some(value) => {
+            if is_empty_list(value) {
                 return Err(JsonFault::EmptyEnum);
             }
             Ok(())
         }
-        _ => Ok(()),
+        None => Ok(()),
+    }
+}
+
+fn is_empty_list(value: &Value) -> bool
+    ensures { result ≡ is_empty_list (view value.now) }
+{
+    match value {
+        Value::Array(items) => items.len() == 0,
+        _ => false,
     }
 }
 
@@ -116,12 +138,21 @@ pub fn check_annotated(members: &Members, key: &str) -> Result<(), JsonFault>
         return Ok(());
     }
     match at(members, "annotations") {
-        Some(Value::Object(annotations)) => {
-            if annotations.is_empty() {
-                return Ok(());
+        Some(value) => {
+            if has_members(value) {
+                return Err(JsonFault::AnnotationsOnEmptyNamespace);
             }
-            Err(JsonFault::AnnotationsOnEmptyNamespace)
+            Ok(())
         }
-        _ => Ok(()),
+        None => Ok(()),
+    }
+}
+
+fn has_members(value: &Value) -> bool
+    ensures { result ≡ has_members (view value.now) }
+{
+    match value {
+        Value::Object(members) => members.len() != 0,
+        _ => false,
     }
 }

@@ -2,8 +2,7 @@
 ghost use Rattle.std.specs.Prelude.{◌≡◌, Some};
 ghost use Rattle.serde_json.specs.View.{view, members_view};
 ghost use Rattle.serde_json.specs.Find.{get_member};
-ghost use Rattle.schema_json_shapes.specs.Walk.{flag, text, demands, wrong_type as wrong};
-ghost use Rattle.schema_json_shapes.specs.Said.{flag_or};
+ghost use Rattle.schema_json_shapes.specs.Walk.{flag, flag_or, text, demands, wrong_type as wrong};
 ghost use Rattle.schema_json_shapes.specs.Shapes.{IsTextIn};
 ghost use Rattle.schema_json_shapes.specs.Reads.{Reads, IsFault, field_demands};
 

@@ -5,8 +5,8 @@ ghost use Rattle.serde_json.specs.View.{view, members_view};
 ghost use Rattle.serde_json.specs.Find.{get_member};
 ghost use Rattle.schema_json.specs.declared.types.TypeOfAttribute.{roll-TypeOfAttribute};
 ghost use Rattle.schema_json_shapes.specs.declared.words.TypeSite.{TypeSite as Site};
-ghost use Rattle.schema_json_shapes.specs.Walk.{typed, attributes as attributes_role, demands, member_demands, key_demands, word_fits};
-ghost use Rattle.schema_json_shapes.specs.Said.{IsType, IsTyped, SaysTyped, AreAttributes, HasAttributes, IsOptional, HasWord, flag_or, plain};
+ghost use Rattle.schema_json_shapes.specs.Walk.{typed, attributes as attributes_role, demands, member_demands, key_demands, word_fits, flag_or};
+ghost use Rattle.schema_json_shapes.specs.Said.{IsType, IsTyped, SaysTyped, AreAttributes, HasAttributes, IsOptional, HasWord, plain};
 ghost use Rattle.schema_json_shapes.specs.Inner.{HasInner, IsInner, inner_demands, made_demands, IsMade};
 ghost use Rattle.schema_json_shapes.specs.Reads.{Reads, IsFault, field_demands};
 
