@@ -2,5 +2,9 @@ pub mod Demands
 pub mod Order
 pub mod Tabled
 pub mod Ahead
+pub mod Made
+pub mod Saying
+pub mod Attributes
+pub mod Typed
 pub mod Beside
 pub mod Objects

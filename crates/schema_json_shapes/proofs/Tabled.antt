@@ -1,6 +1,6 @@
 -- The members of an object that fits its table.
 use Rattle.std.proofs.Common.{◌≡◌, ℕ, Bool, true, false, not, cond, List, [], ◌∷◌, ◌++◌, Option, Some, None, inl, inr, refl, sym, ap, ◌∙◌, subst}
-use Rattle.std.specs.Prelude.{◌||◌, ◌&&◌, codes, option_map, is_some}
+use Rattle.std.specs.Prelude.{◌⊎◌, ◌||◌, ◌&&◌, codes, option_map, is_some}
 use Rattle.std.specs.List.{list_any, list_all}
 use Rattle.std.specs.Ordering.{nat_cmp, match_ordering}
 use Rattle.std.specs.Cmp.Lexicographic.{slice_cmp}
@@ -85,9 +85,12 @@ needed_there n [] ms h e = absurd h
 needed_there n (f ∷ fs) ms (inl is) e = there_at (get_member n ms) (subst (λ g. is_missing g ms ≡ false) is (first_there (is_missing f ms) f.name (first_missing fs ms) e).0)
 needed_there n (f ∷ fs) ms (inr h) e = needed_there n fs ms h (first_there (is_missing f ms) f.name (first_missing fs ms) e).1
 
+true_false : true ≡ false → ⊥
+true_false e = cc
+
 unknown_here : (o : Ordering) (b : Bool) (d : Data) (k : List ℕ) (p : Option Data) (rest : Option (List ℕ)) → (is_eq o ≡ true → b ≡ false) → cond b rest (Some k) ≡ None → p ≡ None → match_ordering o p (Some d) p ≡ None
 unknown_here Less b d k p rest f e h = h
-unknown_here Equal true d k p rest f e h = absurd (cc)
+unknown_here Equal true d k p rest f e h = absurd (true_false (f refl))
 unknown_here Equal false d k p rest f e h = absurd (cc)
 unknown_here Greater b d k p rest f e h = h
 

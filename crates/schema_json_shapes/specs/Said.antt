@@ -92,6 +92,10 @@ abbrev pub IsNamed : Data → RawName → Type 0
 IsNamed (string s) n = IsRawName s n
 IsNamed _ n = ⊥
 
+abbrev pub IsWordNamed : Data → UnreservedId → Type 0
+IsWordNamed (string s) id = IsId s id
+IsWordNamed _ id = ⊥
+
 abbrev pub IsChoice : Data → Eid → Type 0
 IsChoice (string s) e = e.0 ≡ chars s
 IsChoice _ e = ⊥

@@ -5,7 +5,7 @@ ghost use Rattle.serde_json.specs.View.{view, items_view};
 ghost use Rattle.cedar_identifiers.specs.NameReading.{NameFaultOf};
 ghost use Rattle.cedar_identifiers.specs.declared.name_kind.NameKind.TheVariants as kind;
 ghost use Rattle.schema_json_shapes.specs.Walk.{named, names, is_name, kind_of, role_text, demands, item_demands};
-ghost use Rattle.schema_json_shapes.specs.Said.{IsRawName, IsId, IsAnyId, IsNamed, IsList, AreItems};
+ghost use Rattle.schema_json_shapes.specs.Said.{IsRawName, IsId, IsAnyId, IsNamed, IsWordNamed, IsList, AreItems};
 ghost use Rattle.schema_json_shapes.specs.Shapes.{IsNamespaceName};
 ghost use Rattle.schema_json_shapes.specs.Reads.{Reads, IsFault};
 
@@ -95,6 +95,22 @@ pub fn read_named(
 {
     match value {
         Value::String(text) => read_raw_name(alloc, role, text.as_str()),
+        _ => Err(wrong_type(alloc, label)),
+    }
+}
+
+/// The word that a value is, in a role of words that may be declared.
+pub fn read_word(
+    alloc: Global,
+    role: NameRole,
+    value: &Value,
+    label: &str,
+) -> Result<UnreservedId, JsonFault>
+    requires { kind_of role ≡ kind.UnreservedId }
+    ensures { Reads result (demands (named role) label.now (view value.now)) (IsWordNamed (view value.now)) }
+{
+    match value {
+        Value::String(text) => read_id(alloc, role, text.as_str()),
         _ => Err(wrong_type(alloc, label)),
     }
 }

@@ -15,7 +15,7 @@ use crate::fields::{Members, at, check_fields, needed};
 use crate::json_fault::JsonFault;
 use crate::leaves::{flag_at, wrong_type};
 use crate::name_role::NameRole;
-use crate::names::{read_id, read_named, read_raw_name};
+use crate::names::{read_named, read_raw_name, read_word};
 use crate::tables::type_fields;
 use crate::words::{TypeSite, TypeWord, word_of};
 use cedar_data::{Boxed, Map, Text};
@@ -42,7 +42,10 @@ pub fn type_at(
         Reads result (field_demands (typed TypeSite.Plain) name.now o) (IsOptional IsType o) }
 {
     match at(members, name) {
-        Some(value) => Ok(Some(read_typed(alloc, value, name, TypeSite::Plain)?.ty)),
+        Some(value) => {
+            let typed = read_typed(alloc, value, name, TypeSite::Plain)?;
+            Ok(Some(typed.ty))
+        }
         None => Ok(None),
     }
 }
@@ -120,10 +123,9 @@ fn read_set(alloc: Global, members: &Members) -> Result<TypeVariant<RawName>, Js
         Reads result (inner_demands TypeWord.Set ms) (λ v. IsType (object ms) (plain v)) }
 {
     let value = needed(members, "element");
-    let element = read_typed(alloc, value, "element", TypeSite::Plain)?.ty;
-    Ok(TypeVariant::Set {
-        element: Boxed::new(alloc, element)?,
-    })
+    let typed = read_typed(alloc, value, "element", TypeSite::Plain)?;
+    let element = Boxed::new(alloc, typed.ty)?;
+    Ok(TypeVariant::Set { element })
 }
 
 // The records with these attributes.
@@ -139,7 +141,8 @@ fn read_record(
     ensures { let ms = members_view members.now.entries in
         Reads result (inner_demands TypeWord.Record ms) (λ v. IsType (object ms) (plain v)) }
 {
-    let attributes = read_attributes(alloc, needed(members, "attributes"))?;
+    let value = needed(members, "attributes");
+    let attributes = read_attributes(alloc, value)?;
     Ok(TypeVariant::Record(RecordType {
         attributes,
         additional_attributes: is_open,
@@ -226,12 +229,9 @@ fn read_extension(alloc: Global, members: &Members) -> Result<TypeVariant<RawNam
     ensures { let ms = members_view members.now.entries in
         Reads result (inner_demands TypeWord.Extension ms) (λ v. IsType (object ms) (plain v)) }
 {
-    match needed(members, "name") {
-        Value::String(text) => Ok(TypeVariant::Extension {
-            name: read_id(alloc, NameRole::ExtensionType, text.as_str())?,
-        }),
-        _ => Err(wrong_type(alloc, "name")),
-    }
+    let value = needed(members, "name");
+    let name = read_word(alloc, NameRole::ExtensionType, value, "name")?;
+    Ok(TypeVariant::Extension { name })
 }
 
 // The type of this shape, or a reference to a common type of this name.
