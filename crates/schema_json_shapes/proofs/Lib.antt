@@ -2,6 +2,9 @@ pub mod Demands
 pub mod Order
 pub mod Tabled
 pub mod Ahead
+pub mod KeyTexts
+pub mod EntityKinds
+pub mod Wholes
 pub mod Made
 pub mod Saying
 pub mod Attributes

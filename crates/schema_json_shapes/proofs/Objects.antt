@@ -1,10 +1,10 @@
 -- Values that are objects or lists, and those that are not.
-use Rattle.std.proofs.Common.{◌≡◌, ℕ, List, [], ◌∷◌, ◌++◌, Option, Some, None, Result, refl, sym, ap, subst}
-use Rattle.serde_json.specs.Data.{Data, null, boolean, number, string, array, object, Items, Members}
+use Rattle.std.proofs.Common.{◌≡◌, ℕ, List, [], ◌∷◌, ◌++◌, Option, Some, None, Result, refl, sym, ap, ◌∙◌, subst}
+use Rattle.serde_json.specs.Data.{Data, null, boolean, number, string, array, object, Items, no_items, item, Members, no_members, member}
 use Rattle.serde_json.specs.Find.{as_object, as_array}
 use Rattle.schema_json_shapes.specs.declared.json_fault.JsonFault.{JsonFault}
-use Rattle.schema_json_shapes.specs.Walk.{Role, Demand, demands, or_null, null_demands, flag_demands, number_demands, string_demands, array_demands, object_demands, bare, wrong_type, item_demands, item_role, member_demands, key_demands, member_role}
-use Rattle.schema_json_shapes.specs.Said.{not_null}
+use Rattle.schema_json_shapes.specs.Walk.{Role, Demand, AllMet, demands, ignored, or_null, null_demands, flag_demands, number_demands, string_demands, array_demands, object_demands, bare, wrong_type, item_demands, item_role, member_demands, key_demands, member_role}
+use Rattle.schema_json_shapes.specs.Said.{not_null, IsOptional}
 use Rattle.schema_json_shapes.specs.Reads.{IsFault, Reads, field_demands}
 use Rattle.schema_json_shapes.proofs.Demands.{reads_as, fails}
 
@@ -75,3 +75,37 @@ given_demands r n (Some (number x)) e = ap (λ y. number_demands y n) e
 given_demands r n (Some (string s)) e = ap (λ x. string_demands x n s) e
 given_demands r n (Some (array ds)) e = ap (λ x. array_demands x n ++ item_demands (item_role x) n ds) e
 given_demands r n (Some (object ms)) e = ap (λ x. object_demands x n ms ++ member_demands (key_demands x) (member_role x ms) ms) e
+
+module _ {X : Type 0} (r : Role) (n : List ℕ) (P : Data → X → Type 0) where
+  pub given_some : (o : Option Data) (d : Data) (x : X) → bare (or_null r) ≡ bare r → Some d ≡ not_null o → AllMet (demands r n d) → P d x → AllMet (field_demands (or_null r) n o) × IsOptional P (not_null o) (Some x)
+  given_some o d x b e m p = (
+    subst AllMet (sym (given_demands r n o b)) (subst (λ q. AllMet (field_demands r n q)) e m),
+    subst (λ q. IsOptional P q (Some x)) e (x, p, refl),
+  )
+
+  pub given_none : (o : Option Data) → bare (or_null r) ≡ bare r → None ≡ not_null o → AllMet (field_demands (or_null r) n o) × IsOptional P (not_null o) None
+  given_none o b e = (
+    subst AllMet (sym (given_demands r n o b)) (subst (λ q. AllMet (field_demands r n q)) e tt),
+    subst (λ q. IsOptional P q None) e refl,
+  )
+
+pub given_fails : (r : Role) (n : List ℕ) (o : Option Data) (d : Data) (e : JsonFault) → bare (or_null r) ≡ bare r → Some d ≡ not_null o → IsFault (demands r n d) e → IsFault (field_demands (or_null r) n o) e
+given_fails r n o d e b is f = subst (λ ds. IsFault ds e) (sym (given_demands r n o b)) (subst (λ q. IsFault (field_demands r n q) e) is f)
+
+-- nothing is asked of what is not read
+mutual
+  pub nothing_asked : (n : List ℕ) (d : Data) → demands ignored n d ≡ []
+  nothing_asked n null = refl
+  nothing_asked n (boolean b) = refl
+  nothing_asked n (number x) = refl
+  nothing_asked n (string s) = refl
+  nothing_asked n (array ds) = no_items_asked n ds
+  nothing_asked n (object ms) = no_members_asked ms
+
+  no_items_asked : (n : List ℕ) (ds : Items) → item_demands ignored n ds ≡ []
+  no_items_asked n no_items = refl
+  no_items_asked n (item d ds) = ap (λ x. x ++ item_demands ignored n ds) (nothing_asked n d) ∙ no_items_asked n ds
+
+  pub no_members_asked : (ms : Members) → member_demands (λ k. []) (λ k. ignored) ms ≡ []
+  no_members_asked no_members = refl
+  no_members_asked (member k d ms) = ap (λ x. x ++ member_demands (λ l. []) (λ l. ignored) ms) (nothing_asked k d) ∙ no_members_asked ms

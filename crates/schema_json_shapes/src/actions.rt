@@ -123,7 +123,7 @@ fn read_applies_to_members(alloc: Global, members: &Members) -> Result<ApplySpec
 {
     let _ = members.len();
     check_fields(alloc, applies_to_fields(), members)?;
-    let context = AttributesOrContext(shape_at(alloc, members, "context")?);
+    let context = shape_at(alloc, members, "context")?;
     let principals = needed(members, "principalTypes");
     let principal_types = read_names(alloc, principals, "principalTypes")?;
     let resources = needed(members, "resourceTypes");
@@ -131,7 +131,7 @@ fn read_applies_to_members(alloc: Global, members: &Members) -> Result<ApplySpec
     Ok(ApplySpec {
         resource_types,
         principal_types,
-        context,
+        context: AttributesOrContext(context),
     })
 }
 
@@ -194,7 +194,8 @@ fn read_id_members(
 {
     let _ = members.len();
     check_fields(alloc, action_id_fields(), members)?;
-    let id = read_text(alloc, needed(members, "id"), "id")?;
+    let value = needed(members, "id");
+    let id = read_text(alloc, value, "id")?;
     let ty = action_type_at(alloc, members)?;
     Ok(ActionEntityUID::new(ty, id))
 }

@@ -1,9 +1,9 @@
 // Entity types.
-ghost use Rattle.std.specs.Prelude.{◌≡◌, ◌++◌, [], None, Some, codes, IfOk};
+ghost use Rattle.std.specs.Prelude.{◌≡◌, [], None, false, codes};
 ghost use Rattle.serde_json.specs.Data.{object};
 ghost use Rattle.serde_json.specs.View.{view, items_view, members_view};
 ghost use Rattle.serde_json.specs.Find.{get_member};
-ghost use Rattle.schema_json_shapes.specs.Walk.{entity_type, names, texts, text, typed, demands, item_demands, object_demands, empty_enum};
+ghost use Rattle.schema_json_shapes.specs.Walk.{entity_type, names, texts, text, typed, demands, item_demands, object_demands, empty_enum, is_empty_list};
 ghost use Rattle.schema_json_shapes.specs.Said.{IsNamed, IsChoice, IsList, IsListOrNone, AreItems, IsOptional};
 ghost use Rattle.schema_json_shapes.specs.Shapes.{IsShape, IsEntityType, IsEntityTypeIn};
 ghost use Rattle.schema_json_shapes.specs.EntityKinds.{kind_from};
@@ -108,22 +108,31 @@ fn parents_at(alloc: Global, members: &Members) -> Result<List<RawName>, JsonFau
     }
 }
 
-// The choices, of which there is at least one.
 fn choices_at(alloc: Global, members: &Members) -> Result<Option<NonEmpty<Eid>>, JsonFault>
     requires { empty_enum (get_member (codes "enum") (members_view members.now.entries)) ≡ None }
     ensures { let o = get_member (codes "enum") (members_view members.now.entries) in
         Reads result (field_demands texts (codes "enum") o) (IsOptional (IsList IsChoice) o) }
 {
     match at(members, "enum") {
-        Some(Value::Array(items)) => {
+        Some(value) => Ok(Some(read_enum(alloc, value)?)),
+        None => Ok(None),
+    }
+}
+
+// The choices, of which there is at least one.
+fn read_enum(alloc: Global, value: &Value) -> Result<NonEmpty<Eid>, JsonFault>
+    requires { is_empty_list (view value.now) ≡ false }
+    ensures { Reads result (demands texts (codes "enum") (view value.now)) (IsList IsChoice (view value.now)) }
+{
+    match value.as_array() {
+        Some(items) => {
             let choices = read_choices(alloc, items)?;
             match NonEmpty::from_vec(choices) {
-                Some(choices) => Ok(Some(choices)),
+                Some(choices) => Ok(choices),
                 None => unreachable!(),
             }
         }
-        Some(_) => Err(wrong_type(alloc, "enum")),
-        None => Ok(None),
+        None => Err(wrong_type(alloc, "enum")),
     }
 }
 
@@ -133,7 +142,8 @@ fn read_choices(alloc: Global, items: &Vec<Value>) -> Result<Vec<Eid>, JsonFault
 {
     let mut choices = Vec::new(alloc);
     for item in items {
-        choices.push(Eid(read_text(alloc, item, "enum")?))?;
+        let text = read_text(alloc, item, "enum")?;
+        choices.push(Eid(text))?;
     }
     Ok(choices)
 }

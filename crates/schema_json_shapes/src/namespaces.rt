@@ -51,10 +51,12 @@ fn read_members(
 {
     let _ = members.len();
     check_members(alloc, members, key)?;
-    let actions = read_actions(alloc, needed(members, "actions"))?;
+    let declared_actions = needed(members, "actions");
+    let actions = read_actions(alloc, declared_actions)?;
     let annotations = annotations_at(alloc, members)?;
     let common_types = common_types_at(alloc, members)?;
-    let entity_types = read_entity_types(alloc, needed(members, "entityTypes"))?;
+    let declared_types = needed(members, "entityTypes");
+    let entity_types = read_entity_types(alloc, declared_types)?;
     Ok(NamespaceDefinition {
         common_types,
         entity_types,
