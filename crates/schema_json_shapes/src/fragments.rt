@@ -24,7 +24,8 @@ pub fn read_fragment(alloc: Global, value: &Value) -> Result<Fragment<RawName>, 
     match value.as_object() {
         Some(members) => {
             let entries = namespace_entries(alloc, members)?;
-            Ok(Fragment(Map::from_entries(alloc, entries)?))
+            let namespaces = Map::from_entries(alloc, entries)?;
+            Ok(Fragment(namespaces))
         }
         None => Err(wrong_type(alloc, "")),
     }
@@ -63,7 +64,7 @@ fn namespace_entry(
 fn read_key(alloc: Global, key: &str) -> Result<Option<Name>, JsonFault>
     ensures { Reads result (namespace_key key.now) (IsNamespaceKey key.now) }
 {
-    if key.is_empty() {
+    if key.len() == 0 {
         return Ok(None);
     }
     Ok(Some(read_namespace_name(alloc, key)?))
