@@ -5,7 +5,7 @@ use Rattle.serde_json.specs.Data.{Data, Items, no_items, Members, no_members, me
 use Rattle.serde_json.specs.View.{view, items_view, members_view}
 use Rattle.serde_json.proofs.Views.{Entry}
 use Rattle.serde_json.specs.declared.value.Value.{Value}
-use Rattle.schema_json_shapes.specs.declared.json_fault.JsonFault.{JsonFault}
+use Rattle.schema_json_shapes.specs.declared.shape_fault.ShapeFault.{ShapeFault}
 use Rattle.schema_json_shapes.specs.Walk.{Role, Demand, AllMet, demands, member_demands, item_demands}
 use Rattle.schema_json_shapes.specs.Said.{AreEntries, no_entry, next_entry, AreItems, no_item, next_item}
 use Rattle.schema_json_shapes.specs.Reads.{IsFault}
@@ -17,13 +17,13 @@ module _ (key : List ℕ → List Demand) (role : List ℕ → Role) where
   -- what is left of the members, and all of them
   pub record Left (left all : Members) : Type 0 where
     pub met : AllMet (member_demands key role left) → AllMet (member_demands key role all)
-    pub unmet : (e : JsonFault) → IsFault (member_demands key role left) e → IsFault (member_demands key role all) e
+    pub unmet : (e : ShapeFault) → IsFault (member_demands key role left) e → IsFault (member_demands key role all) e
 
   pub all_left : (es fs : List Entry) → es ≡ fs → Left (members_view es) (members_view fs)
   all_left es fs same = subst (λ ys. Left (members_view es) (members_view ys)) same (record { met = λ h. h; unmet = λ e h. h })
 
   -- the first of what is left has a fault
-  pub first_fails : (k : List ℕ) (d : Data) (left all : Members) (e : JsonFault) → Left (member k d left) all → IsFault (key k ++ demands (role k) k d) e → IsFault (member_demands key role all) e
+  pub first_fails : (k : List ℕ) (d : Data) (left all : Members) (e : ShapeFault) → Left (member k d left) all → IsFault (key k ++ demands (role k) k d) e → IsFault (member_demands key role all) e
   first_fails k d left all e l h =
       l.unmet e (subst (λ ds. IsFault ds e) (append_assoc (key k) (demands (role k) k d) (member_demands key role left)) (fails (key k ++ demands (role k) k d) (member_demands key role left) e h))
 
@@ -60,12 +60,12 @@ module _ {K V : Type 0} (Key : List ℕ → K → Type 0) (Value : Data → V �
 module _ (role : Role) (label : List ℕ) where
   pub record LeftItems (left all : Items) : Type 0 where
     pub met : AllMet (item_demands role label left) → AllMet (item_demands role label all)
-    pub unmet : (e : JsonFault) → IsFault (item_demands role label left) e → IsFault (item_demands role label all) e
+    pub unmet : (e : ShapeFault) → IsFault (item_demands role label left) e → IsFault (item_demands role label all) e
 
   pub all_items_left : (ds : Items) → LeftItems ds ds
   all_items_left ds = record { met = λ h. h; unmet = λ e h. h }
 
-  pub item_fails : (vs : List Value) (i : ℕ) (x : Value) (all : Items) (e : JsonFault) → i < length vs → x ≡ get_or vs i x → LeftItems (items_view (drop i vs)) all → IsFault (demands role label (view x)) e
+  pub item_fails : (vs : List Value) (i : ℕ) (x : Value) (all : Items) (e : ShapeFault) → i < length vs → x ≡ get_or vs i x → LeftItems (items_view (drop i vs)) all → IsFault (demands role label (view x)) e
       → IsFault (item_demands role label all) e
   item_fails vs i x all e h is l f =
       let here : drop i vs ≡ x ∷ drop (i + 1) vs = drop_more vs i x h ∙ ap (λ y. y ∷ drop (i + 1) vs) (sym is) in

@@ -6,19 +6,19 @@ use Rattle.serde_json.specs.Data.{array, object}
 use Rattle.serde_json.specs.View.{items_view, members_view}
 use Rattle.serde_json.specs.declared.value.Value.{Value}
 use Rattle.serde_json.proofs.Views.{Entry}
-use Rattle.schema_json_shapes.specs.declared.json_fault.JsonFault.{JsonFault}
+use Rattle.schema_json_shapes.specs.declared.shape_fault.ShapeFault.{ShapeFault}
 use Rattle.schema_json_shapes.specs.Walk.{conflict, is_empty_list, has_members}
 
-pub conflict_named : (fault : List (List ℕ) → JsonFault) (ns fields : List (List ℕ)) → fields ≡ map chars ns → 0 < length fields → conflict fault ns ≡ Some (fault fields)
+pub conflict_named : (fault : List (List ℕ) → ShapeFault) (ns fields : List (List ℕ)) → fields ≡ map chars ns → 0 < length fields → conflict fault ns ≡ Some (fault fields)
 conflict_named fault [] fields e h = absurd (omega (arith, ap length e))
 conflict_named fault (n ∷ ns) fields e h = ap (λ x. Some (fault x)) (sym e)
 
-pub no_conflict : (fault : List (List ℕ) → JsonFault) (ns fields : List (List ℕ)) → fields ≡ map chars ns → fields ≡ [] → conflict fault ns ≡ None
+pub no_conflict : (fault : List (List ℕ) → ShapeFault) (ns fields : List (List ℕ)) → fields ≡ map chars ns → fields ≡ [] → conflict fault ns ≡ None
 no_conflict fault [] fields e h = refl
 no_conflict fault (n ∷ ns) fields e h = absurd (omega (arith, ap length (sym e ∙ h)))
 
 -- what holds of a conflict that is asked for
-pub asked : (b : Bool) (o p : Option JsonFault) → b ≡ true → o ≡ p → cond b o None ≡ p
+pub asked : (b : Bool) (o p : Option ShapeFault) → b ≡ true → o ≡ p → cond b o None ≡ p
 asked true o p e h = h
 asked false o p e h = absurd (cc)
 

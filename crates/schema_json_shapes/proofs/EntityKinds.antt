@@ -9,8 +9,8 @@ use Rattle.schema_json.specs.Shapes.{record_type, empty_record}
 use Rattle.schema_json.specs.declared.types.Type.{«Type»}
 use Rattle.schema_json.specs.declared.entity_type.EntityTypeKind.{EntityTypeKind}
 use Rattle.schema_json.specs.declared.entity_type.EntityTypeKind.TheVariants.{Standard, Enum}
-use Rattle.schema_json_shapes.specs.declared.json_fault.JsonFault.{JsonFault}
-use Rattle.schema_json_shapes.specs.declared.json_fault.JsonFault.TheVariants.{EmptyEnum}
+use Rattle.schema_json_shapes.specs.declared.shape_fault.ShapeFault.{ShapeFault}
+use Rattle.schema_json_shapes.specs.declared.shape_fault.ShapeFault.TheVariants.{EmptyEnum}
 use Rattle.schema_json_shapes.specs.Walk.{is_empty_list, empty_enum}
 use Rattle.schema_json_shapes.specs.Said.{IsNamed, IsChoice, IsList, IsListOrNone, IsOptional, IsType, AreItems, no_item, next_item}
 use Rattle.schema_json_shapes.specs.Shapes.{IsShape, IsKind, IsTextIn}
@@ -52,7 +52,7 @@ choice_says (string s) t e is h = is ∙ h
 choice_says (array ds) t e is h = absurd h
 choice_says (object ms) t e is h = absurd h
 
-not_empty_at : (b : Bool) (e : JsonFault) → cond b (Some e) None ≡ None → b ≡ false
+not_empty_at : (b : Bool) (e : ShapeFault) → cond b (Some e) None ≡ None → b ≡ false
 not_empty_at true e h = absurd (cc)
 not_empty_at false e h = refl
 

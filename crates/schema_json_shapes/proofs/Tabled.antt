@@ -12,8 +12,8 @@ use Rattle.std.proofs.lemmas.Map.Text.{is_eq-slice_cmp}
 use Rattle.std.proofs.Common.{is_eq}
 use Rattle.serde_json.specs.Data.{Data, object, Members, no_members, member}
 use Rattle.serde_json.specs.Find.{get_member}
-use Rattle.schema_json_shapes.specs.declared.json_fault.JsonFault.{JsonFault}
-use Rattle.schema_json_shapes.specs.declared.json_fault.JsonFault.TheVariants.{UnknownField, MissingField}
+use Rattle.schema_json_shapes.specs.declared.shape_fault.ShapeFault.{ShapeFault}
+use Rattle.schema_json_shapes.specs.declared.shape_fault.ShapeFault.TheVariants.{UnknownField, MissingField}
 use Rattle.schema_json_shapes.specs.Tables.{Field, needs, is_field, first_unknown, first_missing, is_missing}
 use Rattle.schema_json_shapes.specs.Walk.{Role, AllMet, fits_table, member_demands, is_there}
 use Rattle.schema_json_shapes.proofs.Order.{Rises, Among, NamesRise, Listed, no_key, fields_demands, in_order}

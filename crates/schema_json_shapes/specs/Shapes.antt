@@ -28,7 +28,7 @@ use Rattle.schema_json.specs.declared.action_type.ActionEntityUID.{ActionEntityU
 use Rattle.schema_json.specs.declared.action_type.ApplySpec.{ApplySpec}
 use Rattle.schema_json.specs.declared.fragment.Fragment.{Fragment}
 use Rattle.schema_json.specs.declared.fragment.NamespaceDefinition.{NamespaceDefinition}
-use Rattle.schema_json_shapes.specs.declared.json_fault.JsonFault.{JsonFault}
+use Rattle.schema_json_shapes.specs.declared.shape_fault.ShapeFault.{ShapeFault}
 use Rattle.schema_json_shapes.specs.Walk.{fragment, demands, AllMet, FirstUnmet, flag_or}
 use Rattle.schema_json_shapes.specs.Said.{IsRawName, IsId, IsText, IsNamed, IsChoice, IsOptional, not_null, IsList, IsListOrNone, IsMap, IsMapOrNone, AreAnnotations, IsType, IsTyped}
 
@@ -158,5 +158,5 @@ module _ {G : ghosts.Ghosts RawName} where
   JsonShape d f = AllMet (demands fragment [] d) × IsFragment d f
 
 -- the first fault of the value
-abbrev pub ShapeFault : Data → JsonFault → Type 0
-ShapeFault d e = FirstUnmet (demands fragment [] d) e
+abbrev pub IsShapeFault : Data → ShapeFault → Type 0
+IsShapeFault d e = FirstUnmet (demands fragment [] d) e

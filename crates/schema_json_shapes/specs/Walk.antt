@@ -17,8 +17,8 @@ use Rattle.schema_json_shapes.specs.declared.words.TypeSite.{TypeSite}
 use Rattle.schema_json_shapes.specs.declared.words.TypeSite.TheVariants.{Plain, Attribute, Common}
 use Rattle.schema_json_shapes.specs.declared.name_role.NameRole.{NameRole}
 use Rattle.schema_json_shapes.specs.declared.name_role.NameRole.TheVariants as role
-use Rattle.schema_json_shapes.specs.declared.json_fault.JsonFault.{JsonFault}
-use Rattle.schema_json_shapes.specs.declared.json_fault.JsonFault.TheVariants.{UnknownField, MissingField, WrongType, BadName, ReservedCommonType, EmptyEnum, ExternalConflict, EnumConflict, AnnotationsOnEmptyNamespace}
+use Rattle.schema_json_shapes.specs.declared.shape_fault.ShapeFault.{ShapeFault}
+use Rattle.schema_json_shapes.specs.declared.shape_fault.ShapeFault.TheVariants.{UnknownField, MissingField, WrongType, BadName, ReservedCommonType, EmptyEnum, ExternalConflict, EnumConflict, AnnotationsOnEmptyNamespace}
 use Rattle.schema_json_shapes.specs.Tables.{Field, word_of, type_fields, namespace_fields, entity_type_fields, action_fields, applies_to_fields, action_id_fields, first_unknown, first_missing}
 
 -- ---- demands
@@ -26,7 +26,7 @@ use Rattle.schema_json_shapes.specs.Tables.{Field, word_of, type_fields, namespa
 -- one thing that a part must keep
 pub data Demand : Type 0 where
   -- there is no such fault
-  unless : Option JsonFault → Demand
+  unless : Option ShapeFault → Demand
   -- the text is a name in this role
   is_name : NameRole → List ℕ → Demand
   -- the key of a common type is none of the names that no common type may have
@@ -63,7 +63,7 @@ IsMet (is_name r s) = IsNameIn r s
 IsMet (no_keyword s) = is_keyword_name s ≡ false
 
 -- the text is no name in this role, for this cause
-pub record IsBadName (r : NameRole) (s : List ℕ) (e : JsonFault) : Type 0 where
+pub record IsBadName (r : NameRole) (s : List ℕ) (e : ShapeFault) : Type 0 where
   pub cause : NameFault
   pub told : e ≡ BadName (chars (role_text r)) (chars s) cause
   pub is_cause : NameFaultOf (kind_of r) s cause
@@ -71,7 +71,7 @@ pub record IsBadName (r : NameRole) (s : List ℕ) (e : JsonFault) : Type 0 wher
   pub no_name : ¬ IsNameIn r s
 
 -- the demand is not met, which is this fault
-abbrev pub IsUnmet : Demand → JsonFault → Type 0
+abbrev pub IsUnmet : Demand → ShapeFault → Type 0
 IsUnmet (unless o) e = o ≡ Some e
 IsUnmet (is_name r s) e = IsBadName r s e
 IsUnmet (no_keyword s) e = (is_keyword_name s ≡ true) × (id : UnreservedId) × (id.id.text ≡ s) × (e ≡ ReservedCommonType id)
@@ -81,7 +81,7 @@ AllMet [] = ⊤
 AllMet (d ∷ ds) = IsMet d × AllMet ds
 
 -- the first demand that is not met has this fault
-abbrev pub FirstUnmet : List Demand → JsonFault → Type 0
+abbrev pub FirstUnmet : List Demand → ShapeFault → Type 0
 FirstUnmet [] e = ⊥
 FirstUnmet (d ∷ ds) e = IsUnmet d e ⊎ (IsMet d × FirstUnmet ds e)
 
@@ -252,7 +252,7 @@ abbrev pub present : (Option Data → Bool) → List (List ℕ) → Members → 
 present test [] ms = []
 present test (n ∷ ns) ms = if test (get_member n ms) then n ∷ present test ns ms else present test ns ms
 
-abbrev pub conflict : (List (List ℕ) → JsonFault) → List (List ℕ) → Option JsonFault
+abbrev pub conflict : (List (List ℕ) → ShapeFault) → List (List ℕ) → Option ShapeFault
 conflict fault [] = None
 conflict fault (n ∷ ns) = Some (fault (map chars (n ∷ ns)))
 
@@ -261,7 +261,7 @@ flag_or otherwise (Some (boolean b)) = b
 flag_or otherwise _ = otherwise
 
 -- what may not stand beside `external: true`
-abbrev pub external_conflict : (Option Data → Bool) → List (List ℕ) → Members → Option Data → Option JsonFault
+abbrev pub external_conflict : (Option Data → Bool) → List (List ℕ) → Members → Option Data → Option ShapeFault
 external_conflict test beside ms external = if flag_or false external then conflict ExternalConflict (present test beside ms) else None
 
 abbrev pub not_external_type : List (List ℕ)
@@ -274,14 +274,14 @@ not_external_action = codes "attributes" ∷ codes "appliesTo" ∷ []
 abbrev pub not_enum : List (List ℕ)
 not_enum = codes "memberOfTypes" ∷ codes "shape" ∷ codes "tags" ∷ []
 
-abbrev pub enum_conflict : Members → Option Data → Option JsonFault
+abbrev pub enum_conflict : Members → Option Data → Option ShapeFault
 enum_conflict ms choices = if is_there choices then conflict EnumConflict (present is_there not_enum ms) else None
 
 abbrev pub is_empty_list : Data → Bool
 is_empty_list (array no_items) = true
 is_empty_list _ = false
 
-abbrev pub empty_enum : Option Data → Option JsonFault
+abbrev pub empty_enum : Option Data → Option ShapeFault
 empty_enum None = None
 empty_enum (Some d) = if is_empty_list d then Some EmptyEnum else None
 
@@ -290,11 +290,11 @@ has_members (object (member k d ms)) = true
 has_members _ = false
 
 -- annotations of the empty namespace
-abbrev pub annotated : Option Data → Option JsonFault
+abbrev pub annotated : Option Data → Option ShapeFault
 annotated None = None
 annotated (Some d) = if has_members d then Some AnnotationsOnEmptyNamespace else None
 
-abbrev pub empty_annotated : List ℕ → Members → Option JsonFault
+abbrev pub empty_annotated : List ℕ → Members → Option ShapeFault
 empty_annotated [] ms = annotated (get_member (codes "annotations") ms)
 empty_annotated (c ∷ n) ms = None
 

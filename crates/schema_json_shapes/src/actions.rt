@@ -12,10 +12,10 @@ use crate::annotations::annotations_at;
 use crate::conflicts::check_external_action;
 use crate::entity_types::shape_at;
 use crate::fields::{Members, check_fields, given_at, needed};
-use crate::json_fault::JsonFault;
 use crate::leaves::{flag_at, read_text, wrong_type};
 use crate::name_role::NameRole;
 use crate::names::{read_named, read_names};
+use crate::shape_fault::ShapeFault;
 use crate::tables::{action_fields, action_id_fields, applies_to_fields};
 use cedar_data::{List, Set, Text};
 use cedar_identifiers::RawName;
@@ -28,7 +28,7 @@ pub fn read_action(
     alloc: Global,
     value: &Value,
     label: &str,
-) -> Result<ActionType<RawName>, JsonFault>
+) -> Result<ActionType<RawName>, ShapeFault>
     ensures { Reads result (demands action label.now (view value.now)) (IsAction (view value.now)) }
 {
     match value.as_object() {
@@ -37,7 +37,7 @@ pub fn read_action(
     }
 }
 
-fn read_members(alloc: Global, members: &Members) -> Result<ActionType<RawName>, JsonFault>
+fn read_members(alloc: Global, members: &Members) -> Result<ActionType<RawName>, ShapeFault>
     ensures { let ms = members_view members.now.entries in
         Reads result (demands action [] (object ms)) (IsActionIn ms) }
 {
@@ -59,7 +59,7 @@ fn read_members(alloc: Global, members: &Members) -> Result<ActionType<RawName>,
 }
 
 // What the object itself must keep.
-fn check_members(alloc: Global, members: &Members) -> Result<(), JsonFault>
+fn check_members(alloc: Global, members: &Members) -> Result<(), ShapeFault>
     ensures { Reads result (object_demands action [] (members_view members.now.entries)) Any }
 {
     check_fields(alloc, action_fields(), members)?;
@@ -67,7 +67,7 @@ fn check_members(alloc: Global, members: &Members) -> Result<(), JsonFault>
 }
 
 // The names of the attributes.
-fn attributes_at(alloc: Global, members: &Members) -> Result<Option<Set<Text>>, JsonFault>
+fn attributes_at(alloc: Global, members: &Members) -> Result<Option<Set<Text>>, ShapeFault>
     ensures { let o = get_member (codes "attributes") (members_view members.now.entries) in
         Reads result (field_demands (or_null keys) (codes "attributes") o) (IsOptional AreKeys (not_null o)) }
 {
@@ -77,7 +77,7 @@ fn attributes_at(alloc: Global, members: &Members) -> Result<Option<Set<Text>>, 
     }
 }
 
-fn read_attributes(alloc: Global, value: &Value) -> Result<Set<Text>, JsonFault>
+fn read_attributes(alloc: Global, value: &Value) -> Result<Set<Text>, ShapeFault>
     ensures { Reads result (demands keys (codes "attributes") (view value.now)) (AreKeys (view value.now)) }
 {
     match value.as_object() {
@@ -98,7 +98,7 @@ fn read_keys(alloc: Global, members: &Members) -> Result<Set<Text>, AllocError>
     Ok(Set::from_sorted_vec(keys))
 }
 
-fn applies_to_at(alloc: Global, members: &Members) -> Result<Option<ApplySpec<RawName>>, JsonFault>
+fn applies_to_at(alloc: Global, members: &Members) -> Result<Option<ApplySpec<RawName>>, ShapeFault>
     ensures { let o = get_member (codes "appliesTo") (members_view members.now.entries) in
         Reads result (field_demands (or_null applies_to) (codes "appliesTo") o) (IsOptional IsAppliesTo (not_null o)) }
 {
@@ -108,7 +108,7 @@ fn applies_to_at(alloc: Global, members: &Members) -> Result<Option<ApplySpec<Ra
     }
 }
 
-fn read_applies_to(alloc: Global, value: &Value) -> Result<ApplySpec<RawName>, JsonFault>
+fn read_applies_to(alloc: Global, value: &Value) -> Result<ApplySpec<RawName>, ShapeFault>
     ensures { Reads result (demands applies_to (codes "appliesTo") (view value.now)) (IsAppliesTo (view value.now)) }
 {
     match value.as_object() {
@@ -117,7 +117,10 @@ fn read_applies_to(alloc: Global, value: &Value) -> Result<ApplySpec<RawName>, J
     }
 }
 
-fn read_applies_to_members(alloc: Global, members: &Members) -> Result<ApplySpec<RawName>, JsonFault>
+fn read_applies_to_members(
+    alloc: Global,
+    members: &Members,
+) -> Result<ApplySpec<RawName>, ShapeFault>
     ensures { let ms = members_view members.now.entries in
         Reads result (demands applies_to (codes "appliesTo") (object ms)) (IsAppliesToIn ms) }
 {
@@ -138,7 +141,7 @@ fn read_applies_to_members(alloc: Global, members: &Members) -> Result<ApplySpec
 fn parents_at(
     alloc: Global,
     members: &Members,
-) -> Result<Option<List<ActionEntityUID<RawName>>>, JsonFault>
+) -> Result<Option<List<ActionEntityUID<RawName>>>, ShapeFault>
     ensures { let o = get_member (codes "memberOf") (members_view members.now.entries) in
         Reads result (field_demands (or_null action_ids) (codes "memberOf") o)
         (IsOptional (IsList IsActionId) (not_null o)) }
@@ -149,10 +152,7 @@ fn parents_at(
     }
 }
 
-fn read_parents(
-    alloc: Global,
-    value: &Value,
-) -> Result<List<ActionEntityUID<RawName>>, JsonFault>
+fn read_parents(alloc: Global, value: &Value) -> Result<List<ActionEntityUID<RawName>>, ShapeFault>
     ensures { Reads result (demands action_ids (codes "memberOf") (view value.now)) (IsList IsActionId (view value.now)) }
 {
     match value.as_array() {
@@ -164,7 +164,7 @@ fn read_parents(
 fn read_action_ids(
     alloc: Global,
     items: &Vec<Value>,
-) -> Result<List<ActionEntityUID<RawName>>, JsonFault>
+) -> Result<List<ActionEntityUID<RawName>>, ShapeFault>
     ensures { Reads result (item_demands action_id (codes "memberOf") (items_view items.now.items))
         (AreItems IsActionId (items_view items.now.items)) }
 {
@@ -176,7 +176,7 @@ fn read_action_ids(
     Ok(parents)
 }
 
-fn read_action_id(alloc: Global, value: &Value) -> Result<ActionEntityUID<RawName>, JsonFault>
+fn read_action_id(alloc: Global, value: &Value) -> Result<ActionEntityUID<RawName>, ShapeFault>
     ensures { Reads result (demands action_id (codes "memberOf") (view value.now)) (IsActionId (view value.now)) }
 {
     match value.as_object() {
@@ -185,10 +185,7 @@ fn read_action_id(alloc: Global, value: &Value) -> Result<ActionEntityUID<RawNam
     }
 }
 
-fn read_id_members(
-    alloc: Global,
-    members: &Members,
-) -> Result<ActionEntityUID<RawName>, JsonFault>
+fn read_id_members(alloc: Global, members: &Members) -> Result<ActionEntityUID<RawName>, ShapeFault>
     ensures { let ms = members_view members.now.entries in
         Reads result (demands action_id (codes "memberOf") (object ms)) (IsActionIdIn ms) }
 {
@@ -200,7 +197,7 @@ fn read_id_members(
     Ok(ActionEntityUID::new(ty, id))
 }
 
-fn action_type_at(alloc: Global, members: &Members) -> Result<Option<RawName>, JsonFault>
+fn action_type_at(alloc: Global, members: &Members) -> Result<Option<RawName>, ShapeFault>
     ensures { let o = get_member (codes "type") (members_view members.now.entries) in
         Reads result (field_demands (or_null (named NameRole.Name)) (codes "type") o) (IsOptional IsNamed (not_null o)) }
 {

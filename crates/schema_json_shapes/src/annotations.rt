@@ -7,16 +7,16 @@ ghost use Rattle.schema_json_shapes.specs.Said.{IsAnyId, IsAnnotation, AreAnnota
 ghost use Rattle.schema_json_shapes.specs.Reads.{Reads, field_demands};
 
 use crate::fields::{Members, at};
-use crate::json_fault::JsonFault;
 use crate::leaves::wrong_type;
 use crate::names::read_any_id;
+use crate::shape_fault::ShapeFault;
 use cedar_data::{Map, Text};
 use cedar_identifiers::{Annotations, AnyId};
 use serde_json::Value;
 use std::alloc::Global;
 
 /// The annotations that stand beside something.
-pub fn annotations_at(alloc: Global, members: &Members) -> Result<Annotations, JsonFault>
+pub fn annotations_at(alloc: Global, members: &Members) -> Result<Annotations, ShapeFault>
     ensures { let o = get_member (codes "annotations") (members_view members.now.entries) in
         Reads result (field_demands annotations (codes "annotations") o) (AreAnnotations o) }
 {
@@ -26,7 +26,7 @@ pub fn annotations_at(alloc: Global, members: &Members) -> Result<Annotations, J
     }
 }
 
-fn read_annotations(alloc: Global, value: &Value) -> Result<Annotations, JsonFault>
+fn read_annotations(alloc: Global, value: &Value) -> Result<Annotations, ShapeFault>
     ensures { Reads result (demands annotations (codes "annotations") (view value.now))
         (AreAnnotations (Some (view value.now))) }
 {
@@ -39,10 +39,7 @@ fn read_annotations(alloc: Global, value: &Value) -> Result<Annotations, JsonFau
     }
 }
 
-fn read_entries(
-    alloc: Global,
-    members: &Members,
-) -> Result<Vec<(AnyId, Option<Text>)>, JsonFault>
+fn read_entries(alloc: Global, members: &Members) -> Result<Vec<(AnyId, Option<Text>)>, ShapeFault>
     ensures { let ms = members_view members.now.entries in
         Reads result (member_demands (key_demands annotations) (λ k. annotation) ms)
         (λ entries. AreEntries IsAnyId IsAnnotation ms entries.items) }
@@ -55,11 +52,7 @@ fn read_entries(
     Ok(entries)
 }
 
-fn read_entry(
-    alloc: Global,
-    key: &str,
-    value: &Value,
-) -> Result<(AnyId, Option<Text>), JsonFault>
+fn read_entry(alloc: Global, key: &str, value: &Value) -> Result<(AnyId, Option<Text>), ShapeFault>
     ensures { Reads result (key_demands annotations key.now ++ demands annotation key.now (view value.now))
         (λ entry. IsAnyId key.now entry.0 × IsAnnotation (view value.now) entry.1) }
 {
@@ -68,11 +61,7 @@ fn read_entry(
     Ok((id, text))
 }
 
-fn read_annotation(
-    alloc: Global,
-    value: &Value,
-    label: &str,
-) -> Result<Option<Text>, JsonFault>
+fn read_annotation(alloc: Global, value: &Value, label: &str) -> Result<Option<Text>, ShapeFault>
     ensures { Reads result (demands annotation label.now (view value.now)) (IsAnnotation (view value.now)) }
 {
     match value {

@@ -8,7 +8,7 @@ ghost use Rattle.schema_json_shapes.specs.Walk.{unless, present, flag_or, is_the
 ghost use Rattle.schema_json_shapes.specs.Reads.{Reads, Any};
 
 use crate::fields::{Members, at, given_at};
-use crate::json_fault::JsonFault;
+use crate::shape_fault::ShapeFault;
 use cedar_data::{NonEmpty, Text};
 use serde_json::Value;
 use std::alloc::{AllocError, Global};
@@ -64,7 +64,7 @@ fn is_external(members: &Members) -> bool
 }
 
 /// Refuses what an external entity type may not have.
-pub fn check_external_type(alloc: Global, members: &Members) -> Result<(), JsonFault>
+pub fn check_external_type(alloc: Global, members: &Members) -> Result<(), ShapeFault>
     ensures { let ms = members_view members.now.entries in
         Reads result (unless (external_conflict is_there not_external_type ms (get_member (codes "external") ms)) ∷ []) Any }
 {
@@ -72,13 +72,13 @@ pub fn check_external_type(alloc: Global, members: &Members) -> Result<(), JsonF
         return Ok(());
     }
     match NonEmpty::from_vec(there(alloc, members, &["shape", "tags", "enum"])?) {
-        Some(fields) => Err(JsonFault::ExternalConflict(fields)),
+        Some(fields) => Err(ShapeFault::ExternalConflict(fields)),
         None => Ok(()),
     }
 }
 
 /// Refuses what an external action may not have.
-pub fn check_external_action(alloc: Global, members: &Members) -> Result<(), JsonFault>
+pub fn check_external_action(alloc: Global, members: &Members) -> Result<(), ShapeFault>
     ensures { let ms = members_view members.now.entries in
         Reads result (unless (external_conflict is_given not_external_action ms (get_member (codes "external") ms)) ∷ []) Any }
 {
@@ -86,13 +86,13 @@ pub fn check_external_action(alloc: Global, members: &Members) -> Result<(), Jso
         return Ok(());
     }
     match NonEmpty::from_vec(given(alloc, members, &["attributes", "appliesTo"])?) {
-        Some(fields) => Err(JsonFault::ExternalConflict(fields)),
+        Some(fields) => Err(ShapeFault::ExternalConflict(fields)),
         None => Ok(()),
     }
 }
 
 /// Refuses what may not stand beside `enum`.
-pub fn check_enum(alloc: Global, members: &Members) -> Result<(), JsonFault>
+pub fn check_enum(alloc: Global, members: &Members) -> Result<(), ShapeFault>
     ensures { let ms = members_view members.now.entries in
         Reads result (unless (enum_conflict ms (get_member (codes "enum") ms)) ∷ []) Any }
 {
@@ -100,20 +100,20 @@ pub fn check_enum(alloc: Global, members: &Members) -> Result<(), JsonFault>
         return Ok(());
     }
     match NonEmpty::from_vec(there(alloc, members, &["memberOfTypes", "shape", "tags"])?) {
-        Some(fields) => Err(JsonFault::EnumConflict(fields)),
+        Some(fields) => Err(ShapeFault::EnumConflict(fields)),
         None => Ok(()),
     }
 }
 
 /// Refuses an `enum` without choices.
-pub fn check_choices(members: &Members) -> Result<(), JsonFault>
+pub fn check_choices(members: &Members) -> Result<(), ShapeFault>
     ensures { let ms = members_view members.now.entries in
         Reads result (unless (empty_enum (get_member (codes "enum") ms)) ∷ []) Any }
 {
     match at(members, "enum") {
         Some(value) => {
             if is_empty_list(value) {
-                return Err(JsonFault::EmptyEnum);
+                return Err(ShapeFault::EmptyEnum);
             }
             Ok(())
         }
@@ -131,7 +131,7 @@ fn is_empty_list(value: &Value) -> bool
 }
 
 /// Refuses annotations of the empty namespace.
-pub fn check_annotated(members: &Members, key: &str) -> Result<(), JsonFault>
+pub fn check_annotated(members: &Members, key: &str) -> Result<(), ShapeFault>
     ensures { Reads result (unless (empty_annotated key.now (members_view members.now.entries)) ∷ []) Any }
 {
     if !key.is_empty() {
@@ -140,7 +140,7 @@ pub fn check_annotated(members: &Members, key: &str) -> Result<(), JsonFault>
     match at(members, "annotations") {
         Some(value) => {
             if has_members(value) {
-                return Err(JsonFault::AnnotationsOnEmptyNamespace);
+                return Err(ShapeFault::AnnotationsOnEmptyNamespace);
             }
             Ok(())
         }

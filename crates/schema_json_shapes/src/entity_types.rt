@@ -12,9 +12,9 @@ ghost use Rattle.schema_json_shapes.specs.Reads.{Reads, Any, field_demands};
 use crate::annotations::annotations_at;
 use crate::conflicts::{check_choices, check_enum, check_external_type};
 use crate::fields::{Members, at, check_fields};
-use crate::json_fault::JsonFault;
 use crate::leaves::{flag_at, read_text, wrong_type};
 use crate::names::read_names;
+use crate::shape_fault::ShapeFault;
 use crate::tables::entity_type_fields;
 use crate::types::type_at;
 use crate::words::TypeSite;
@@ -29,7 +29,7 @@ pub fn read_entity_type(
     alloc: Global,
     value: &Value,
     label: &str,
-) -> Result<EntityType<RawName>, JsonFault>
+) -> Result<EntityType<RawName>, ShapeFault>
     ensures { Reads result (demands entity_type label.now (view value.now)) (IsEntityType (view value.now)) }
 {
     match value.as_object() {
@@ -38,7 +38,7 @@ pub fn read_entity_type(
     }
 }
 
-fn read_members(alloc: Global, members: &Members) -> Result<EntityType<RawName>, JsonFault>
+fn read_members(alloc: Global, members: &Members) -> Result<EntityType<RawName>, ShapeFault>
     ensures { let ms = members_view members.now.entries in
         Reads result (demands entity_type [] (object ms)) (IsEntityTypeIn ms) }
 {
@@ -60,7 +60,7 @@ fn read_members(alloc: Global, members: &Members) -> Result<EntityType<RawName>,
 }
 
 // What the object itself must keep.
-fn check_members(alloc: Global, members: &Members) -> Result<(), JsonFault>
+fn check_members(alloc: Global, members: &Members) -> Result<(), ShapeFault>
     ensures { Reads result (object_demands entity_type [] (members_view members.now.entries)) Any }
 {
     check_fields(alloc, entity_type_fields(), members)?;
@@ -88,7 +88,7 @@ fn kind_of(
 }
 
 /// The type in a field, and the empty record where it is absent.
-pub fn shape_at(alloc: Global, members: &Members, name: &str) -> Result<Type<RawName>, JsonFault>
+pub fn shape_at(alloc: Global, members: &Members, name: &str) -> Result<Type<RawName>, ShapeFault>
     ensures { let o = get_member name.now (members_view members.now.entries) in
         Reads result (field_demands (typed TypeSite.Plain) name.now o) (IsShape o) }
 {
@@ -98,7 +98,7 @@ pub fn shape_at(alloc: Global, members: &Members, name: &str) -> Result<Type<Raw
     }
 }
 
-fn parents_at(alloc: Global, members: &Members) -> Result<List<RawName>, JsonFault>
+fn parents_at(alloc: Global, members: &Members) -> Result<List<RawName>, ShapeFault>
     ensures { let o = get_member (codes "memberOfTypes") (members_view members.now.entries) in
         Reads result (field_demands names (codes "memberOfTypes") o) (IsListOrNone IsNamed o) }
 {
@@ -108,7 +108,7 @@ fn parents_at(alloc: Global, members: &Members) -> Result<List<RawName>, JsonFau
     }
 }
 
-fn choices_at(alloc: Global, members: &Members) -> Result<Option<NonEmpty<Eid>>, JsonFault>
+fn choices_at(alloc: Global, members: &Members) -> Result<Option<NonEmpty<Eid>>, ShapeFault>
     requires { empty_enum (get_member (codes "enum") (members_view members.now.entries)) ≡ None }
     ensures { let o = get_member (codes "enum") (members_view members.now.entries) in
         Reads result (field_demands texts (codes "enum") o) (IsOptional (IsList IsChoice) o) }
@@ -120,7 +120,7 @@ fn choices_at(alloc: Global, members: &Members) -> Result<Option<NonEmpty<Eid>>,
 }
 
 // The choices, of which there is at least one.
-fn read_enum(alloc: Global, value: &Value) -> Result<NonEmpty<Eid>, JsonFault>
+fn read_enum(alloc: Global, value: &Value) -> Result<NonEmpty<Eid>, ShapeFault>
     requires { is_empty_list (view value.now) ≡ false }
     ensures { Reads result (demands texts (codes "enum") (view value.now)) (IsList IsChoice (view value.now)) }
 {
@@ -136,7 +136,7 @@ fn read_enum(alloc: Global, value: &Value) -> Result<NonEmpty<Eid>, JsonFault>
     }
 }
 
-fn read_choices(alloc: Global, items: &Vec<Value>) -> Result<Vec<Eid>, JsonFault>
+fn read_choices(alloc: Global, items: &Vec<Value>) -> Result<Vec<Eid>, ShapeFault>
     ensures { Reads result (item_demands text (codes "enum") (items_view items.now.items))
         (λ choices. AreItems IsChoice (items_view items.now.items) choices.items) }
 {

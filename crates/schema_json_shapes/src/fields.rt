@@ -8,7 +8,7 @@ ghost use Rattle.schema_json_shapes.specs.Said.{not_null};
 ghost use Rattle.schema_json_shapes.specs.Seen.{table};
 ghost use Rattle.schema_json_shapes.specs.Reads.{Reads, Any};
 
-use crate::json_fault::JsonFault;
+use crate::shape_fault::ShapeFault;
 use crate::tables::Field;
 use cedar_data::Text;
 use serde_json::{Map, Value};
@@ -40,13 +40,7 @@ pub fn given_at<'v>(members: &'v Members, name: &str) -> Option<&'v Value>
     ensures { option_map (λ v. view v.now) result ≡ not_null (get_member name.now (members_view members.now.entries)) }
 {
     match at(members, name) {
-        Some(value) => {
-            if value.is_null() {
-                None
-            } else {
-                Some(value)
-            }
-        }
+        Some(value) => { if value.is_null() { None } else { Some(value) } }
         None => None,
     }
 }
@@ -85,14 +79,14 @@ fn first_missing(fields: &[Field], members: &Members) -> Option<&'static str>
 }
 
 /// Refuses an object that does not have these fields.
-pub fn check_fields(alloc: Global, fields: &[Field], members: &Members) -> Result<(), JsonFault>
+pub fn check_fields(alloc: Global, fields: &[Field], members: &Members) -> Result<(), ShapeFault>
     ensures { Reads result (fits_table (table fields.now) (members_view members.now.entries)) Any }
 {
     if let Some(key) = first_unknown(fields, members) {
-        return Err(JsonFault::UnknownField(Text::from_str(alloc, key)?));
+        return Err(ShapeFault::UnknownField(Text::from_str(alloc, key)?));
     }
     if let Some(name) = first_missing(fields, members) {
-        return Err(JsonFault::MissingField(Text::from_str(alloc, name)?));
+        return Err(ShapeFault::MissingField(Text::from_str(alloc, name)?));
     }
     Ok(())
 }

@@ -7,10 +7,10 @@ ghost use Rattle.schema_json_shapes.specs.Shapes.{IsNamespaceKey, IsNamespace, I
 ghost use Rattle.schema_json_shapes.specs.Reads.{Reads};
 
 use crate::fields::Members;
-use crate::json_fault::JsonFault;
 use crate::leaves::wrong_type;
 use crate::names::read_namespace_name;
 use crate::namespaces::read_namespace;
+use crate::shape_fault::ShapeFault;
 use cedar_data::Map;
 use cedar_identifiers::{Name, RawName};
 use schema_json::{Fragment, NamespaceDefinition};
@@ -18,7 +18,7 @@ use serde_json::Value;
 use std::alloc::Global;
 
 /// The fragment that a value says, or its first fault. Numbers are not looked at.
-pub fn read_fragment(alloc: Global, value: &Value) -> Result<Fragment<RawName>, JsonFault>
+pub fn read_fragment(alloc: Global, value: &Value) -> Result<Fragment<RawName>, ShapeFault>
     ensures { Reads result (demands fragment [] (view value.now)) (IsFragment (view value.now)) }
 {
     match value.as_object() {
@@ -34,7 +34,7 @@ pub fn read_fragment(alloc: Global, value: &Value) -> Result<Fragment<RawName>, 
 fn namespace_entries(
     alloc: Global,
     members: &Members,
-) -> Result<Vec<(Option<Name>, NamespaceDefinition<RawName>)>, JsonFault>
+) -> Result<Vec<(Option<Name>, NamespaceDefinition<RawName>)>, ShapeFault>
     ensures { let ms = members_view members.now.entries in
         Reads result (member_demands (key_demands fragment) (λ k. namespace) ms)
         (λ entries. AreEntries IsNamespaceKey IsNamespace ms entries.items) }
@@ -51,7 +51,7 @@ fn namespace_entry(
     alloc: Global,
     key: &str,
     value: &Value,
-) -> Result<(Option<Name>, NamespaceDefinition<RawName>), JsonFault>
+) -> Result<(Option<Name>, NamespaceDefinition<RawName>), ShapeFault>
     ensures { Reads result (key_demands fragment key.now ++ demands namespace key.now (view value.now))
         (λ entry. IsNamespaceKey key.now entry.0 × IsNamespace (view value.now) entry.1) }
 {
@@ -61,7 +61,7 @@ fn namespace_entry(
 }
 
 // The name of a namespace, of which the empty one has none.
-fn read_key(alloc: Global, key: &str) -> Result<Option<Name>, JsonFault>
+fn read_key(alloc: Global, key: &str) -> Result<Option<Name>, ShapeFault>
     ensures { Reads result (namespace_key key.now) (IsNamespaceKey key.now) }
 {
     if key.len() == 0 {

@@ -7,18 +7,18 @@ ghost use Rattle.schema_json_shapes.specs.Shapes.{IsTextIn};
 ghost use Rattle.schema_json_shapes.specs.Reads.{Reads, IsFault, field_demands};
 
 use crate::fields::{Members, at};
-use crate::json_fault::JsonFault;
+use crate::shape_fault::ShapeFault;
 use cedar_data::Text;
 use serde_json::Value;
 use std::alloc::Global;
 
 /// The fault of a value of another kind than its field has.
-pub fn wrong_type(alloc: Global, label: &str) -> JsonFault
+pub fn wrong_type(alloc: Global, label: &str) -> ShapeFault
     ensures { IsFault (wrong label.now) result }
 {
     match Text::from_str(alloc, label) {
-        Ok(name) => JsonFault::WrongType(name),
-        Err(_) => JsonFault::Memory,
+        Ok(name) => ShapeFault::WrongType(name),
+        Err(_) => ShapeFault::Memory,
     }
 }
 
@@ -28,7 +28,7 @@ pub fn flag_at(
     members: &Members,
     name: &str,
     otherwise: bool,
-) -> Result<bool, JsonFault>
+) -> Result<bool, ShapeFault>
     ensures { let o = get_member name.now (members_view members.now.entries) in
         Reads result (field_demands flag name.now o) (λ b. b ≡ flag_or otherwise o) }
 {
@@ -40,7 +40,7 @@ pub fn flag_at(
 }
 
 /// The text that a value is.
-pub fn read_text(alloc: Global, value: &Value, label: &str) -> Result<Text, JsonFault>
+pub fn read_text(alloc: Global, value: &Value, label: &str) -> Result<Text, ShapeFault>
     ensures { Reads result (demands text label.now (view value.now)) (IsTextIn (Some (view value.now))) }
 {
     match value {

@@ -7,16 +7,16 @@ pub mod conflicts;
 pub mod entity_types;
 pub mod fields;
 pub mod fragments;
-pub mod json_fault;
 pub mod leaves;
 pub mod name_role;
 pub mod names;
 pub mod namespaces;
+pub mod shape_fault;
 pub mod tables;
 pub mod types;
 pub mod words;
 
 pub use fragments::read_fragment;
-pub use json_fault::JsonFault;
 pub use name_role::NameRole;
+pub use shape_fault::ShapeFault;
 pub use words::{TypeSite, TypeWord};

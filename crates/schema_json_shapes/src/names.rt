@@ -9,9 +9,9 @@ ghost use Rattle.schema_json_shapes.specs.Said.{IsRawName, IsId, IsAnyId, IsName
 ghost use Rattle.schema_json_shapes.specs.Shapes.{IsNamespaceName};
 ghost use Rattle.schema_json_shapes.specs.Reads.{Reads, IsFault};
 
-use crate::json_fault::JsonFault;
 use crate::leaves::wrong_type;
 use crate::name_role::NameRole;
+use crate::shape_fault::ShapeFault;
 use cedar_data::{List, Text};
 use cedar_identifiers::name_laws::one_reading;
 use cedar_identifiers::{AnyId, Name, NameFault, RawName, UnreservedId};
@@ -19,17 +19,17 @@ use serde_json::Value;
 use std::alloc::{AllocError, Global};
 
 // The fault of a text that is no name of its role, for this cause.
-fn bad_name(alloc: Global, role: NameRole, text: &str, fault: NameFault) -> JsonFault
+fn bad_name(alloc: Global, role: NameRole, text: &str, fault: NameFault) -> ShapeFault
     requires { NameFaultOf (kind_of role) text.now fault }
     ensures { IsFault (is_name role text.now ∷ []) result }
 {
     one_reading(text);
     if let NameFault::Memory = fault {
-        return JsonFault::Memory;
+        return ShapeFault::Memory;
     }
     match copied(alloc, role, text) {
-        Ok((role, text)) => JsonFault::BadName { role, text, fault },
-        Err(_) => JsonFault::Memory,
+        Ok((role, text)) => ShapeFault::BadName { role, text, fault },
+        Err(_) => ShapeFault::Memory,
     }
 }
 
@@ -42,7 +42,7 @@ fn copied(alloc: Global, role: NameRole, text: &str) -> Result<(Text, Text), All
 }
 
 /// A name as it is written, in a role of such names.
-pub fn read_raw_name(alloc: Global, role: NameRole, text: &str) -> Result<RawName, JsonFault>
+pub fn read_raw_name(alloc: Global, role: NameRole, text: &str) -> Result<RawName, ShapeFault>
     requires { kind_of role ≡ kind.InternalName }
     ensures { Reads result (is_name role text.now ∷ []) (IsRawName text.now) }
 {
@@ -53,7 +53,7 @@ pub fn read_raw_name(alloc: Global, role: NameRole, text: &str) -> Result<RawNam
 }
 
 /// A word that may be declared, in a role of such words.
-pub fn read_id(alloc: Global, role: NameRole, text: &str) -> Result<UnreservedId, JsonFault>
+pub fn read_id(alloc: Global, role: NameRole, text: &str) -> Result<UnreservedId, ShapeFault>
     requires { kind_of role ≡ kind.UnreservedId }
     ensures { Reads result (is_name role text.now ∷ []) (IsId text.now) }
 {
@@ -64,7 +64,7 @@ pub fn read_id(alloc: Global, role: NameRole, text: &str) -> Result<UnreservedId
 }
 
 /// The key of an annotation.
-pub fn read_any_id(alloc: Global, text: &str) -> Result<AnyId, JsonFault>
+pub fn read_any_id(alloc: Global, text: &str) -> Result<AnyId, ShapeFault>
     ensures { Reads result (is_name NameRole.Annotation text.now ∷ []) (IsAnyId text.now) }
 {
     match AnyId::from_normalized_str(alloc, text) {
@@ -74,7 +74,7 @@ pub fn read_any_id(alloc: Global, text: &str) -> Result<AnyId, JsonFault>
 }
 
 /// The name of a namespace.
-pub fn read_namespace_name(alloc: Global, text: &str) -> Result<Name, JsonFault>
+pub fn read_namespace_name(alloc: Global, text: &str) -> Result<Name, ShapeFault>
     ensures { Reads result (is_name NameRole.Namespace text.now ∷ []) (IsNamespaceName text.now) }
 {
     match Name::from_normalized_str(alloc, text) {
@@ -89,7 +89,7 @@ pub fn read_named(
     role: NameRole,
     value: &Value,
     label: &str,
-) -> Result<RawName, JsonFault>
+) -> Result<RawName, ShapeFault>
     requires { kind_of role ≡ kind.InternalName }
     ensures { Reads result (demands (named role) label.now (view value.now)) (IsNamed (view value.now)) }
 {
@@ -105,7 +105,7 @@ pub fn read_word(
     role: NameRole,
     value: &Value,
     label: &str,
-) -> Result<UnreservedId, JsonFault>
+) -> Result<UnreservedId, ShapeFault>
     requires { kind_of role ≡ kind.UnreservedId }
     ensures { Reads result (demands (named role) label.now (view value.now)) (IsWordNamed (view value.now)) }
 {
@@ -116,7 +116,7 @@ pub fn read_word(
 }
 
 /// A list of names.
-pub fn read_names(alloc: Global, value: &Value, label: &str) -> Result<List<RawName>, JsonFault>
+pub fn read_names(alloc: Global, value: &Value, label: &str) -> Result<List<RawName>, ShapeFault>
     ensures { Reads result (demands names label.now (view value.now)) (IsList IsNamed (view value.now)) }
 {
     match value {
@@ -129,7 +129,7 @@ fn read_name_items(
     alloc: Global,
     items: &Vec<Value>,
     label: &str,
-) -> Result<List<RawName>, JsonFault>
+) -> Result<List<RawName>, ShapeFault>
     ensures { Reads result (item_demands (named NameRole.Name) label.now (items_view items.now.items))
         (AreItems IsNamed (items_view items.now.items)) }
 {

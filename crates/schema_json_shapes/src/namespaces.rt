@@ -14,10 +14,10 @@ use crate::annotations::annotations_at;
 use crate::conflicts::check_annotated;
 use crate::entity_types::read_entity_type;
 use crate::fields::{Members, at, check_fields, needed};
-use crate::json_fault::JsonFault;
 use crate::leaves::wrong_type;
 use crate::name_role::NameRole;
 use crate::names::read_id;
+use crate::shape_fault::ShapeFault;
 use crate::tables::namespace_fields;
 use crate::types::{Typed, read_typed};
 use crate::words::TypeSite;
@@ -32,7 +32,7 @@ pub fn read_namespace(
     alloc: Global,
     value: &Value,
     key: &str,
-) -> Result<NamespaceDefinition<RawName>, JsonFault>
+) -> Result<NamespaceDefinition<RawName>, ShapeFault>
     ensures { Reads result (demands namespace key.now (view value.now)) (IsNamespace (view value.now)) }
 {
     match value.as_object() {
@@ -45,7 +45,7 @@ fn read_members(
     alloc: Global,
     members: &Members,
     key: &str,
-) -> Result<NamespaceDefinition<RawName>, JsonFault>
+) -> Result<NamespaceDefinition<RawName>, ShapeFault>
     ensures { let ms = members_view members.now.entries in
         Reads result (demands namespace key.now (object ms)) (IsNamespaceIn ms) }
 {
@@ -66,17 +66,14 @@ fn read_members(
 }
 
 // What the object itself must keep.
-fn check_members(alloc: Global, members: &Members, key: &str) -> Result<(), JsonFault>
+fn check_members(alloc: Global, members: &Members, key: &str) -> Result<(), ShapeFault>
     ensures { Reads result (object_demands namespace key.now (members_view members.now.entries)) Any }
 {
     check_fields(alloc, namespace_fields(), members)?;
     check_annotated(members, key)
 }
 
-fn read_actions(
-    alloc: Global,
-    value: &Value,
-) -> Result<Map<Text, ActionType<RawName>>, JsonFault>
+fn read_actions(alloc: Global, value: &Value) -> Result<Map<Text, ActionType<RawName>>, ShapeFault>
     ensures { Reads result (demands actions_role (codes "actions") (view value.now))
         (IsMap text_cmp IsText IsAction (view value.now)) }
 {
@@ -92,7 +89,7 @@ fn read_actions(
 fn action_entries(
     alloc: Global,
     members: &Members,
-) -> Result<Vec<(Text, ActionType<RawName>)>, JsonFault>
+) -> Result<Vec<(Text, ActionType<RawName>)>, ShapeFault>
     ensures { let ms = members_view members.now.entries in
         Reads result (member_demands (key_demands actions_role) (λ k. action) ms)
         (λ entries. AreEntries IsText IsAction ms entries.items) }
@@ -109,7 +106,7 @@ fn action_entry(
     alloc: Global,
     key: &str,
     value: &Value,
-) -> Result<(Text, ActionType<RawName>), JsonFault>
+) -> Result<(Text, ActionType<RawName>), ShapeFault>
     ensures { Reads result (key_demands actions_role key.now ++ demands action key.now (view value.now))
         (λ entry. IsText key.now entry.0 × IsAction (view value.now) entry.1) }
 {
@@ -120,7 +117,7 @@ fn action_entry(
 fn common_types_at(
     alloc: Global,
     members: &Members,
-) -> Result<Map<CommonTypeId, CommonType<RawName>>, JsonFault>
+) -> Result<Map<CommonTypeId, CommonType<RawName>>, ShapeFault>
     ensures { let o = get_member (codes "commonTypes") (members_view members.now.entries) in
         Reads result (field_demands common_types (codes "commonTypes") o)
         (IsMapOrNone common_id_order IsCommonId IsCommonType o) }
@@ -134,7 +131,7 @@ fn common_types_at(
 fn read_common_types(
     alloc: Global,
     value: &Value,
-) -> Result<Map<CommonTypeId, CommonType<RawName>>, JsonFault>
+) -> Result<Map<CommonTypeId, CommonType<RawName>>, ShapeFault>
     ensures { Reads result (demands common_types (codes "commonTypes") (view value.now))
         (IsMap common_id_order IsCommonId IsCommonType (view value.now)) }
 {
@@ -150,7 +147,7 @@ fn read_common_types(
 fn common_entries(
     alloc: Global,
     members: &Members,
-) -> Result<Vec<(CommonTypeId, CommonType<RawName>)>, JsonFault>
+) -> Result<Vec<(CommonTypeId, CommonType<RawName>)>, ShapeFault>
     ensures { let ms = members_view members.now.entries in
         Reads result (member_demands (key_demands common_types) (λ k. typed TypeSite.Common) ms)
         (λ entries. AreEntries IsCommonId IsCommonType ms entries.items) }
@@ -167,7 +164,7 @@ fn common_entry(
     alloc: Global,
     key: &str,
     value: &Value,
-) -> Result<(CommonTypeId, CommonType<RawName>), JsonFault>
+) -> Result<(CommonTypeId, CommonType<RawName>), ShapeFault>
     ensures { Reads result (key_demands common_types key.now ++ demands (typed TypeSite.Common) key.now (view value.now))
         (λ entry. IsCommonId key.now entry.0 × IsCommonType (view value.now) entry.1) }
 {
@@ -180,7 +177,9 @@ fn common_type(typed: Typed) -> CommonType<RawName>
     ensures { result ≡ record { ty = typed.ty; annotations = typed.annotations; loc = None } }
 {
     let Typed {
-        ty, annotations, ..
+        ty,
+        annotations,
+        ..
     } = typed;
     CommonType {
         ty,
@@ -190,20 +189,20 @@ fn common_type(typed: Typed) -> CommonType<RawName>
 }
 
 // The name of a common type.
-fn read_common_id(alloc: Global, key: &str) -> Result<CommonTypeId, JsonFault>
+fn read_common_id(alloc: Global, key: &str) -> Result<CommonTypeId, ShapeFault>
     ensures { Reads result (key_demands common_types key.now) (IsCommonId key.now) }
 {
     let id = read_id(alloc, NameRole::Id, key)?;
     match CommonTypeId::new(id) {
         Ok(id) => Ok(id),
-        Err(reserved) => Err(JsonFault::ReservedCommonType(reserved.id)),
+        Err(reserved) => Err(ShapeFault::ReservedCommonType(reserved.id)),
     }
 }
 
 fn read_entity_types(
     alloc: Global,
     value: &Value,
-) -> Result<Map<UnreservedId, EntityType<RawName>>, JsonFault>
+) -> Result<Map<UnreservedId, EntityType<RawName>>, ShapeFault>
     ensures { Reads result (demands entity_types (codes "entityTypes") (view value.now))
         (IsMap id_order IsId IsEntityType (view value.now)) }
 {
@@ -219,7 +218,7 @@ fn read_entity_types(
 fn entity_entries(
     alloc: Global,
     members: &Members,
-) -> Result<Vec<(UnreservedId, EntityType<RawName>)>, JsonFault>
+) -> Result<Vec<(UnreservedId, EntityType<RawName>)>, ShapeFault>
     ensures { let ms = members_view members.now.entries in
         Reads result (member_demands (key_demands entity_types) (λ k. entity_type) ms)
         (λ entries. AreEntries IsId IsEntityType ms entries.items) }
@@ -236,7 +235,7 @@ fn entity_entry(
     alloc: Global,
     key: &str,
     value: &Value,
-) -> Result<(UnreservedId, EntityType<RawName>), JsonFault>
+) -> Result<(UnreservedId, EntityType<RawName>), ShapeFault>
     ensures { Reads result (key_demands entity_types key.now ++ demands entity_type key.now (view value.now))
         (λ entry. IsId key.now entry.0 × IsEntityType (view value.now) entry.1) }
 {

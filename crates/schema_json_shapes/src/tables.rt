@@ -16,90 +16,112 @@ const TYPE: Field = Field {
     name: "type",
     needed: true,
 };
+
 const ELEMENT: Field = Field {
     name: "element",
     needed: true,
 };
+
 const RECORD_ATTRIBUTES: Field = Field {
     name: "attributes",
     needed: true,
 };
+
 const ADDITIONAL_ATTRIBUTES: Field = Field {
     name: "additionalAttributes",
     needed: false,
 };
+
 const NAME: Field = Field {
     name: "name",
     needed: true,
 };
+
 const REQUIRED: Field = Field {
     name: "required",
     needed: false,
 };
+
 const ANNOTATIONS: Field = Field {
     name: "annotations",
     needed: false,
 };
+
 const COMMON_TYPES: Field = Field {
     name: "commonTypes",
     needed: false,
 };
+
 const ENTITY_TYPES: Field = Field {
     name: "entityTypes",
     needed: true,
 };
+
 const ACTIONS: Field = Field {
     name: "actions",
     needed: true,
 };
+
 const MEMBER_OF_TYPES: Field = Field {
     name: "memberOfTypes",
     needed: false,
 };
+
 const SHAPE: Field = Field {
     name: "shape",
     needed: false,
 };
+
 const TAGS: Field = Field {
     name: "tags",
     needed: false,
 };
+
 const ENUM: Field = Field {
     name: "enum",
     needed: false,
 };
+
 const EXTERNAL: Field = Field {
     name: "external",
     needed: false,
 };
+
 const ATTRIBUTES: Field = Field {
     name: "attributes",
     needed: false,
 };
+
 const APPLIES_TO: Field = Field {
     name: "appliesTo",
     needed: false,
 };
+
 const MEMBER_OF: Field = Field {
     name: "memberOf",
     needed: false,
 };
+
 const RESOURCE_TYPES: Field = Field {
     name: "resourceTypes",
     needed: true,
 };
+
 const PRINCIPAL_TYPES: Field = Field {
     name: "principalTypes",
     needed: true,
 };
+
 const CONTEXT: Field = Field {
     name: "context",
     needed: false,
 };
+
 const ID: Field = Field {
     name: "id",
     needed: true,
 };
+
 const ACTION_TYPE: Field = Field {
     name: "type",
     needed: false,

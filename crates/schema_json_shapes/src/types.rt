@@ -12,10 +12,10 @@ ghost use Rattle.schema_json_shapes.specs.Reads.{Reads, IsFault, field_demands};
 
 use crate::annotations::annotations_at;
 use crate::fields::{Members, at, check_fields, needed};
-use crate::json_fault::JsonFault;
 use crate::leaves::{flag_at, wrong_type};
 use crate::name_role::NameRole;
 use crate::names::{read_named, read_raw_name, read_word};
+use crate::shape_fault::ShapeFault;
 use crate::tables::type_fields;
 use crate::words::{TypeSite, TypeWord, word_of};
 use cedar_data::{Boxed, Map, Text};
@@ -37,7 +37,7 @@ pub fn type_at(
     alloc: Global,
     members: &Members,
     name: &str,
-) -> Result<Option<Type<RawName>>, JsonFault>
+) -> Result<Option<Type<RawName>>, ShapeFault>
     ensures { let o = get_member name.now (members_view members.now.entries) in
         Reads result (field_demands (typed TypeSite.Plain) name.now o) (IsOptional IsType o) }
 {
@@ -57,7 +57,7 @@ pub fn read_typed(
     value: &Value,
     label: &str,
     site: TypeSite,
-) -> Result<Typed, JsonFault>
+) -> Result<Typed, ShapeFault>
     ensures { Reads result (demands (typed site) label.now (view value.now))
         (λ t. SaysTyped (view value.now) t.ty t.annotations t.required) }
 {
@@ -68,7 +68,7 @@ pub fn read_typed(
 }
 
 #[cycle(types)]
-fn read_object(alloc: Global, members: &Members, site: TypeSite) -> Result<Typed, JsonFault>
+fn read_object(alloc: Global, members: &Members, site: TypeSite) -> Result<Typed, ShapeFault>
     ensures { let ms = members_view members.now.entries in
         Reads result (demands (typed site) [] (object ms)) (λ t. IsTyped ms t.ty t.annotations t.required) }
 {
@@ -94,7 +94,7 @@ fn read_shape(
     members: &Members,
     word: TypeWord,
     is_open: bool,
-) -> Result<Option<TypeVariant<RawName>>, JsonFault>
+) -> Result<Option<TypeVariant<RawName>>, ShapeFault>
     requires word { HasWord (members_view members.now.entries) word }
     requires needed { HasInner word (members_view members.now.entries) }
     requires is_open { is_open ≡ flag_or false (get_member (codes "additionalAttributes") (members_view members.now.entries)) }
@@ -116,7 +116,7 @@ fn read_shape(
 
 // The sets of a type.
 #[cycle(types)]
-fn read_set(alloc: Global, members: &Members) -> Result<TypeVariant<RawName>, JsonFault>
+fn read_set(alloc: Global, members: &Members) -> Result<TypeVariant<RawName>, ShapeFault>
     requires word { HasWord (members_view members.now.entries) TypeWord.Set }
     requires needed { HasInner TypeWord.Set (members_view members.now.entries) }
     ensures { let ms = members_view members.now.entries in
@@ -134,7 +134,7 @@ fn read_record(
     alloc: Global,
     members: &Members,
     is_open: bool,
-) -> Result<TypeVariant<RawName>, JsonFault>
+) -> Result<TypeVariant<RawName>, ShapeFault>
     requires word { HasWord (members_view members.now.entries) TypeWord.Record }
     requires needed { HasInner TypeWord.Record (members_view members.now.entries) }
     requires is_open { is_open ≡ flag_or false (get_member (codes "additionalAttributes") (members_view members.now.entries)) }
@@ -153,7 +153,7 @@ fn read_record(
 fn read_attributes(
     alloc: Global,
     value: &Value,
-) -> Result<Map<Text, TypeOfAttribute<RawName>>, JsonFault>
+) -> Result<Map<Text, TypeOfAttribute<RawName>>, ShapeFault>
     ensures { Reads result (demands attributes_role (codes "attributes") (view value.now)) (HasAttributes (view value.now)) }
 {
     match value.as_object() {
@@ -169,7 +169,7 @@ fn read_attributes(
 fn read_attribute_entries(
     alloc: Global,
     members: &Members,
-) -> Result<Vec<(Text, TypeOfAttribute<RawName>)>, JsonFault>
+) -> Result<Vec<(Text, TypeOfAttribute<RawName>)>, ShapeFault>
     ensures { let ms = members_view members.now.entries in
         Reads result (member_demands (key_demands attributes_role) (λ k. typed TypeSite.Attribute) ms)
         (λ entries. AreAttributes ms entries.items) }
@@ -199,7 +199,7 @@ fn attribute(typed: Typed) -> TypeOfAttribute<RawName>
 }
 
 // A reference that must mean an entity type.
-fn read_entity(alloc: Global, members: &Members) -> Result<TypeVariant<RawName>, JsonFault>
+fn read_entity(alloc: Global, members: &Members) -> Result<TypeVariant<RawName>, ShapeFault>
     requires word { HasWord (members_view members.now.entries) TypeWord.Entity }
     requires needed { HasInner TypeWord.Entity (members_view members.now.entries) }
     ensures { let ms = members_view members.now.entries in
@@ -211,7 +211,7 @@ fn read_entity(alloc: Global, members: &Members) -> Result<TypeVariant<RawName>,
 }
 
 // A reference that may mean a common type or an entity type.
-fn read_either(alloc: Global, members: &Members) -> Result<TypeVariant<RawName>, JsonFault>
+fn read_either(alloc: Global, members: &Members) -> Result<TypeVariant<RawName>, ShapeFault>
     requires word { HasWord (members_view members.now.entries) TypeWord.EntityOrCommon }
     requires needed { HasInner TypeWord.EntityOrCommon (members_view members.now.entries) }
     ensures { let ms = members_view members.now.entries in
@@ -223,7 +223,7 @@ fn read_either(alloc: Global, members: &Members) -> Result<TypeVariant<RawName>,
 }
 
 // A type of the extension table.
-fn read_extension(alloc: Global, members: &Members) -> Result<TypeVariant<RawName>, JsonFault>
+fn read_extension(alloc: Global, members: &Members) -> Result<TypeVariant<RawName>, ShapeFault>
     requires word { HasWord (members_view members.now.entries) TypeWord.Extension }
     requires needed { HasInner TypeWord.Extension (members_view members.now.entries) }
     ensures { let ms = members_view members.now.entries in
@@ -239,7 +239,7 @@ fn made(
     alloc: Global,
     shape: Option<TypeVariant<RawName>>,
     text: &str,
-) -> Result<Type<RawName>, JsonFault>
+) -> Result<Type<RawName>, ShapeFault>
     ensures { Reads result (made_demands shape text.now) (IsMade shape text.now) }
 {
     match shape {
@@ -259,7 +259,7 @@ fn checked_word<'v>(
     alloc: Global,
     members: &'v Members,
     site: TypeSite,
-) -> Result<&'v str, JsonFault>
+) -> Result<&'v str, ShapeFault>
     ensures { let ms = members_view members.now.entries in
         Reads result (word_fits site ms (get_member (codes "type") ms))
         (λ s. get_member (codes "type") ms ≡ Some (string s.now)) }
@@ -270,7 +270,7 @@ fn checked_word<'v>(
 }
 
 // The text of the member `type`.
-fn type_text<'v>(alloc: Global, members: &'v Members) -> Result<&'v str, JsonFault>
+fn type_text<'v>(alloc: Global, members: &'v Members) -> Result<&'v str, ShapeFault>
     ensures { let ms = members_view members.now.entries in
         MatchResult result (λ s. get_member (codes "type") ms ≡ Some (string s.now))
         (λ e. (site : Site) → IsFault (word_fits site ms (get_member (codes "type") ms)) e) }
@@ -278,6 +278,6 @@ fn type_text<'v>(alloc: Global, members: &'v Members) -> Result<&'v str, JsonFau
     match at(members, "type") {
         Some(Value::String(text)) => Ok(text.as_str()),
         Some(_) => Err(wrong_type(alloc, "type")),
-        None => Err(JsonFault::MissingField(Text::from_str(alloc, "type")?)),
+        None => Err(ShapeFault::MissingField(Text::from_str(alloc, "type")?)),
     }
 }

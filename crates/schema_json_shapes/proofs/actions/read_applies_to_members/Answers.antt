@@ -63,8 +63,7 @@ returns c =
     let d0 = field_demands (applies_to_member (codes "context")) (codes "context") (get_member (codes "context") ms) in
     let d1 = field_demands (applies_to_member (codes "principalTypes")) (codes "principalTypes") (get_member (codes "principalTypes") ms) in
     let d2 = field_demands (applies_to_member (codes "resourceTypes")) (codes "resourceTypes") (get_member (codes "resourceTypes") ms) in
-    let whole = applies_to_whole (codes "appliesTo") ms (Rises-view c.args.members.now.entries c.len.ensures.ordered) own in
-    (
+    let whole = applies_to_whole (codes "appliesTo") ms (Rises-view c.args.members.now.entries c.len.ensures.ordered) own in (
       subst AllMet (sym whole) (both_met table (d0 ++ (d1 ++ (d2 ++ []))) own (both_met d0 (d1 ++ (d2 ++ [])) c.in_ok-context.ensures.0 (both_met d1 (d2 ++ []) (subst (λ o. AllMet (field_demands names (codes "principalTypes") o)) (sym c.needed-principals.ensures) c.in_ok-principal_types.ensures.0) (both_met d2 [] (subst (λ o. AllMet (field_demands names (codes "resourceTypes") o)) (sym c.needed-resources.ensures) c.in_ok-resource_types.ensures.0) tt)))),
       record {
         resources = (view c.needed-resources.result.now, c.needed-resources.ensures, c.in_ok-resource_types.ensures.1);

@@ -48,8 +48,7 @@ returns c =
     let table = object_demands action_id (codes "memberOf") ms in
     let d0 = field_demands (action_id_member (codes "id")) (codes "id") (get_member (codes "id") ms) in
     let d1 = field_demands (action_id_member (codes "type")) (codes "type") (get_member (codes "type") ms) in
-    let whole = action_id_whole (codes "memberOf") ms (Rises-view c.args.members.now.entries c.len.ensures.ordered) own in
-    (
+    let whole = action_id_whole (codes "memberOf") ms (Rises-view c.args.members.now.entries c.len.ensures.ordered) own in (
       subst AllMet (sym whole) (both_met table (d0 ++ (d1 ++ [])) own (both_met d0 (d1 ++ []) (subst (λ o. AllMet (field_demands text (codes "id") o)) (sym c.needed-value.ensures) c.in_ok-id.ensures.0) (both_met d1 [] c.in_ok-ty.ensures.0 tt))),
       record {
         named = subst (λ o. IsTextIn o c.new.result.id) (sym c.needed-value.ensures) (subst (IsTextIn (Some (view c.needed-value.result.now))) (sym c.new.ensures.id) c.in_ok-id.ensures.1);

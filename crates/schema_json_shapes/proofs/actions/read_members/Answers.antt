@@ -91,8 +91,7 @@ returns c =
     let d2 = field_demands (action_member (codes "attributes")) (codes "attributes") (get_member (codes "attributes") ms) in
     let d3 = field_demands (action_member (codes "external")) (codes "external") (get_member (codes "external") ms) in
     let d4 = field_demands (action_member (codes "memberOf")) (codes "memberOf") (get_member (codes "memberOf") ms) in
-    let whole = action_whole [] ms (Rises-view c.args.members.now.entries c.len.ensures.ordered) own in
-    (
+    let whole = action_whole [] ms (Rises-view c.args.members.now.entries c.len.ensures.ordered) own in (
       subst AllMet (sym whole) (both_met table (d0 ++ (d1 ++ (d2 ++ (d3 ++ (d4 ++ []))))) own (both_met d0 (d1 ++ (d2 ++ (d3 ++ (d4 ++ [])))) c.in_ok-annotations.ensures.0 (both_met d1 (d2 ++ (d3 ++ (d4 ++ []))) c.in_ok-applies_to.ensures.0 (both_met d2 (d3 ++ (d4 ++ [])) c.in_ok-attributes.ensures.0 (both_met d3 (d4 ++ []) c.in_ok-external.ensures.0 (both_met d4 [] c.in_ok-member_of.ensures.0 tt)))))),
       record {
         attributed = c.in_ok-attributes.ensures.1;

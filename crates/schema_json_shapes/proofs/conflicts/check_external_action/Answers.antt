@@ -1,6 +1,6 @@
 use Rattle.std.proofs.Common.{inl, inr, sym, ◌∙◌}
 use Rattle.serde_json.specs.View.{members_view}
-use Rattle.schema_json_shapes.specs.declared.json_fault.JsonFault.TheVariants.{ExternalConflict}
+use Rattle.schema_json_shapes.specs.declared.shape_fault.ShapeFault.TheVariants.{ExternalConflict}
 use Rattle.schema_json_shapes.specs.Walk.{present, is_given, not_external_action}
 use Rattle.schema_json_shapes.proofs.Beside.{conflict_named, no_conflict, asked}
 use Rattle.schema_json_shapes.proofs.conflicts.check_external_action.Goals as goal

@@ -116,8 +116,7 @@ returns c =
     let d3 = field_demands (entity_type_member (codes "memberOfTypes")) (codes "memberOfTypes") (get_member (codes "memberOfTypes") ms) in
     let d4 = field_demands (entity_type_member (codes "shape")) (codes "shape") (get_member (codes "shape") ms) in
     let d5 = field_demands (entity_type_member (codes "tags")) (codes "tags") (get_member (codes "tags") ms) in
-    let whole = entity_type_whole [] ms (Rises-view c.args.members.now.entries c.len.ensures.ordered) own in
-    (
+    let whole = entity_type_whole [] ms (Rises-view c.args.members.now.entries c.len.ensures.ordered) own in (
       subst AllMet (sym whole) (both_met table (d0 ++ (d1 ++ (d2 ++ (d3 ++ (d4 ++ (d5 ++ [])))))) own (both_met d0 (d1 ++ (d2 ++ (d3 ++ (d4 ++ (d5 ++ []))))) c.in_ok-annotations.ensures.0 (both_met d1 (d2 ++ (d3 ++ (d4 ++ (d5 ++ [])))) c.in_ok-choices.ensures.0 (both_met d2 (d3 ++ (d4 ++ (d5 ++ []))) c.in_ok-external.ensures.0 (both_met d3 (d4 ++ (d5 ++ [])) c.in_ok-member_of_types.ensures.0 (both_met d4 (d5 ++ []) c.in_ok-shape.ensures.0 (both_met d5 [] c.in_ok-tags.ensures.0 tt))))))),
       record {
         is_kind = kind_says ms c.in_ok-choices.choices c.in_ok-member_of_types.member_of_types c.in_ok-shape.shape c.in_ok-tags.tags c.kind_of-kind.result c.kind_of-kind.ensures c.in_ok-choices.ensures.1 c.in_ok-member_of_types.ensures.1 c.in_ok-shape.ensures.1 c.in_ok-tags.ensures.1;

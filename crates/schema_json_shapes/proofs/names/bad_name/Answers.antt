@@ -1,5 +1,5 @@
 use Rattle.std.proofs.Common.{inl, inr, ap, ◌∙◌}
-use Rattle.schema_json_shapes.specs.declared.json_fault.JsonFault.TheVariants.{BadName}
+use Rattle.schema_json_shapes.specs.declared.shape_fault.ShapeFault.TheVariants.{BadName}
 use Rattle.schema_json_shapes.specs.Walk.{kind_of}
 use Rattle.schema_json_shapes.proofs.names.bad_name.Goals as goal
 

@@ -83,8 +83,7 @@ returns c =
     let d1 = field_demands (namespace_member (codes "annotations")) (codes "annotations") (get_member (codes "annotations") ms) in
     let d2 = field_demands (namespace_member (codes "commonTypes")) (codes "commonTypes") (get_member (codes "commonTypes") ms) in
     let d3 = field_demands (namespace_member (codes "entityTypes")) (codes "entityTypes") (get_member (codes "entityTypes") ms) in
-    let whole = namespace_whole c.args.key.now ms (Rises-view c.args.members.now.entries c.len.ensures.ordered) own in
-    (
+    let whole = namespace_whole c.args.key.now ms (Rises-view c.args.members.now.entries c.len.ensures.ordered) own in (
       subst AllMet (sym whole) (both_met table (d0 ++ (d1 ++ (d2 ++ (d3 ++ [])))) own (both_met d0 (d1 ++ (d2 ++ (d3 ++ []))) (subst (λ o. AllMet (field_demands actions (codes "actions") o)) (sym c.needed-declared_actions.ensures) c.in_ok-actions.ensures.0) (both_met d1 (d2 ++ (d3 ++ [])) c.in_ok-annotations.ensures.0 (both_met d2 (d3 ++ []) c.in_ok-common_types.ensures.0 (both_met d3 [] (subst (λ o. AllMet (field_demands entity_types (codes "entityTypes") o)) (sym c.needed-declared_types.ensures) c.in_ok-entity_types.ensures.0) tt))))),
       record {
         commons = c.in_ok-common_types.ensures.1;

@@ -42,9 +42,13 @@ read_typed-returns-in-None t c =
 pub read_object-read_shape-requires : goal.read_object-read_shape-requires
 read_object-read_shape-requires t c =
     let ms = members_view c.args.members.now.entries in
-    let text = c.in_ok-text.text.now in
-    (search rules, (record { text = text; there = c.in_ok-text.ensures.1; is_word = sym c.word_of-word.ensures },
-      (subst (λ w. HasInner w ms) (sym c.word_of-word.ensures) (has_inner c.args.site ms text c.in_ok-text.ensures.1 c.in_ok-text.ensures.0), c.in_ok-is_open.ensures.1)))
+    let text = c.in_ok-text.text.now in (
+      search rules,
+      (
+        record { text = text; there = c.in_ok-text.ensures.1; is_word = sym c.word_of-word.ensures },
+        (subst (λ w. HasInner w ms) (sym c.word_of-word.ensures) (has_inner c.args.site ms text c.in_ok-text.ensures.1 c.in_ok-text.ensures.0), c.in_ok-is_open.ensures.1),
+      ),
+    )
 
 pub read_object-returns-in_err-is_open : goal.read_object-returns-in_err-is_open
 read_object-returns-in_err-is_open t c =

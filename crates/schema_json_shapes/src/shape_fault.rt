@@ -2,15 +2,9 @@ use cedar_data::{NonEmpty, Text};
 use cedar_identifiers::{NameFault, UnreservedId};
 use std::alloc::{AllocError, AllocFailed};
 
-/// Why a JSON text or value is no fragment.
+/// Why a JSON value is no fragment.
 #[derive(Debug, Drop)]
-pub enum JsonFault {
-    /// The text is no JSON.
-    NotJson,
-    /// An object has this key twice.
-    RepeatedKey(Text),
-    /// A number is no whole number of 64 bits.
-    Float,
+pub enum ShapeFault {
     UnknownField(Text),
     MissingField(Text),
     /// The value of this field is of another kind.
@@ -33,24 +27,24 @@ pub enum JsonFault {
     Memory,
 }
 
-impl From<AllocError> for JsonFault {
-    ghost use Rattle.schema_json_shapes.specs.declared.json_fault.JsonFault.TheVariants.{Memory};
+impl From<AllocError> for ShapeFault {
+    ghost use Rattle.schema_json_shapes.specs.declared.shape_fault.ShapeFault.TheVariants.{Memory};
     ghost use Rattle.std.specs.Prelude.{◌≡◌};
 
     ghost from_gives = { λ _ e. e ≡ Memory };
 
-    fn from(_refused: AllocError) -> JsonFault {
-        JsonFault::Memory
+    fn from(_refused: AllocError) -> ShapeFault {
+        ShapeFault::Memory
     }
 }
 
-impl<T: Drop> From<AllocFailed<T>> for JsonFault {
-    ghost use Rattle.schema_json_shapes.specs.declared.json_fault.JsonFault.TheVariants.{Memory};
+impl<T: Drop> From<AllocFailed<T>> for ShapeFault {
+    ghost use Rattle.schema_json_shapes.specs.declared.shape_fault.ShapeFault.TheVariants.{Memory};
     ghost use Rattle.std.specs.Prelude.{◌≡◌};
 
     ghost from_gives = { λ _ e. e ≡ Memory };
 
-    fn from(_refused: AllocFailed<T>) -> JsonFault {
-        JsonFault::Memory
+    fn from(_refused: AllocFailed<T>) -> ShapeFault {
+        ShapeFault::Memory
     }
 }
