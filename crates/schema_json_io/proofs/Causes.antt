@@ -39,13 +39,13 @@ pub text_cause : (text : List ℕ) (d : Data) (e : JsonFault) → read text ≡ 
 text_cause text d cause.NotJson r o h = absurd h
 text_cause text d (cause.RepeatedKey name) r o h = absurd h
 text_cause text d cause.Float r o h = (d, r, o, h)
-text_cause text d (cause.UnknownField name) r o h = (d, (record { reads = r; once = o; whole = h.0 }, h.1))
-text_cause text d (cause.MissingField name) r o h = (d, (record { reads = r; once = o; whole = h.0 }, h.1))
-text_cause text d (cause.WrongType name) r o h = (d, (record { reads = r; once = o; whole = h.0 }, h.1))
-text_cause text d (cause.BadName role text fault) r o h = (d, (record { reads = r; once = o; whole = h.0 }, h.1))
-text_cause text d (cause.ReservedCommonType id) r o h = (d, (record { reads = r; once = o; whole = h.0 }, h.1))
-text_cause text d cause.EmptyEnum r o h = (d, (record { reads = r; once = o; whole = h.0 }, h.1))
-text_cause text d (cause.ExternalConflict fields) r o h = (d, (record { reads = r; once = o; whole = h.0 }, h.1))
-text_cause text d (cause.EnumConflict fields) r o h = (d, (record { reads = r; once = o; whole = h.0 }, h.1))
-text_cause text d cause.AnnotationsOnEmptyNamespace r o h = (d, (record { reads = r; once = o; whole = h.0 }, h.1))
+text_cause text d (cause.UnknownField name) r o h = (d, record { reads = r; once = o; whole = h.0 }, h.1)
+text_cause text d (cause.MissingField name) r o h = (d, record { reads = r; once = o; whole = h.0 }, h.1)
+text_cause text d (cause.WrongType name) r o h = (d, record { reads = r; once = o; whole = h.0 }, h.1)
+text_cause text d (cause.BadName role named fault) r o h = (d, record { reads = r; once = o; whole = h.0 }, h.1)
+text_cause text d (cause.ReservedCommonType id) r o h = (d, record { reads = r; once = o; whole = h.0 }, h.1)
+text_cause text d cause.EmptyEnum r o h = (d, record { reads = r; once = o; whole = h.0 }, h.1)
+text_cause text d (cause.ExternalConflict fields) r o h = (d, record { reads = r; once = o; whole = h.0 }, h.1)
+text_cause text d (cause.EnumConflict fields) r o h = (d, record { reads = r; once = o; whole = h.0 }, h.1)
+text_cause text d cause.AnnotationsOnEmptyNamespace r o h = (d, record { reads = r; once = o; whole = h.0 }, h.1)
 text_cause text d cause.Memory r o h = tt
