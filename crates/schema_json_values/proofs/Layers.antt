@@ -1,7 +1,8 @@
 -- The members of each kind of type, one equation a layer.
-use Rattle.std.proofs.Common.{◌≡◌, ℕ, ◌<◌, ◌≤◌, zero, suc, not, false, arith, List, [], ◌∷◌, length, get_or, map, codes, refl, ap, sym, ◌∙◌, Option}
+use Rattle.std.proofs.Common.{◌≡◌, ℕ, ◌<◌, ◌≤◌, zero, suc, not, false, arith, List, [], ◌∷◌, ◌+◌, length, get_or, drop, map, codes, refl, ap, sym, ◌∙◌, Option}
 use Rattle.std.specs.Str.{encode_utf8_all}
 use Rattle.std.specs.Map.{values_of}
+use Rattle.std.proofs.lemmas.List.{drop_more, drop_all}
 use denote.Param.Weighed.{most}
 use Rattle.serde_json.specs.Data.{Data, Members, object, string, put}
 use Rattle.cedar_data.specs.declared.loc.Loc.{Loc}
@@ -12,7 +13,7 @@ use Rattle.schema_json.specs.declared.types.TypeVariant.{TypeVariant, TypeVarian
 use Rattle.schema_json.specs.declared.types.TypeVariant.TheVariants.{Set, Record, Entity, EntityOrCommon, Extension, String, Long, Boolean, rolls-Set, rolls-Record, rolls-Entity, rolls-EntityOrCommon, rolls-Extension, rolls-String, rolls-Long, rolls-Boolean}
 use Rattle.schema_json.specs.declared.types.RecordType.{RecordType, out-RecordType, fold_out-RecordType}
 use Rattle.schema_json.specs.declared.types.TypeOfAttribute.{TypeOfAttribute, out-TypeOfAttribute, fold_out-TypeOfAttribute}
-use Rattle.schema_json_values.specs.TypeValues.{type_layer, variant_layer, record_layer, attribute_layer, layer_entry, attribute_entry, attribute_members, type_members, variant_members, record_members, with_attributes, with_word, with_flag, with_annotations, name_bytes}
+use Rattle.schema_json_values.specs.TypeValues.{put_all, type_layer, variant_layer, record_layer, attribute_layer, layer_entry, attribute_entry, attribute_members, type_members, variant_members, record_members, with_attributes, with_word, with_flag, with_annotations, name_bytes}
 
 -- a value among the entries is no deeper than the deepest
 pub most_at : {K A : Type 0} (f : A → ℕ) (es : List (K × A)) (i : ℕ) (d : K × A) → i < length es
@@ -20,6 +21,17 @@ pub most_at : {K A : Type 0} (f : A → ℕ) (es : List (K × A)) (i : ℕ) (d :
 most_at f [] i d h = absurd (omega arith)
 most_at f (e ∷ es) zero d h = omega arith
 most_at f (e ∷ es) (suc i) d h = omega (arith, most_at f es i d (omega arith))
+
+-- one member more
+pub put_step : {X : Type 0} (f : X → List ℕ × Data) (es : List X) (i : ℕ) (x : X) (ms new : Members) → i < length es → x ≡ get_or es i x → new ≡ put (f x).0 (f x).1 ms
+    → put_all (map f (drop (i + 1) es)) new ≡ put_all (map f (drop i es)) ms
+put_step f es i x ms new h is e =
+    let here : drop i es ≡ x ∷ drop (i + 1) es = drop_more es i x h ∙ ap (λ y. y ∷ drop (i + 1) es) (sym is) in
+    ap (put_all (map f (drop (i + 1) es))) e ∙ sym (ap (λ d. put_all (map f d) ms) here)
+
+-- all members
+pub put_end : {X : Type 0} (f : X → List ℕ × Data) (es : List X) (i : ℕ) (ms all : Members) → length es ≤ i → put_all (map f (drop i es)) ms ≡ all → ms ≡ all
+put_end f es i ms all h e = sym (ap (λ d. put_all (map f d) ms) (drop_all i es h)) ∙ e
 
 module _ (N : Type 0) (names : N → List (List ℕ)) where
   entries_made : (es : List (List ℕ × TypeOfAttribute N))

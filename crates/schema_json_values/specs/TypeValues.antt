@@ -46,6 +46,13 @@ with_annotations (a ∷ as_) ms = put (codes "annotations") (object_of (map anno
 abbrev pub with_word : List ℕ → Members
 with_word w = member (codes "type") (string w) no_members
 
+abbrev pub layer_entry : List ℕ × Members → List ℕ × Data
+layer_entry p = (encode_utf8_all p.0, object p.1)
+
+-- the object of a type of records with these attributes, and with others where it is open
+abbrev pub with_attributes : List (List ℕ × Data) → Bool → Members
+with_attributes es is_open = with_flag is_open (codes "additionalAttributes") true (put (codes "attributes") (object_of es) (with_word (codes "Record")))
+
 module _ {N : Type 0} (components : N → List (List ℕ)) where
   abbrev pub name_bytes : N → List ℕ
   name_bytes n = encode_utf8_all (name_text (components n))
@@ -64,13 +71,6 @@ module _ {N : Type 0} (components : N → List (List ℕ)) where
   variant_layer (TypeVariant-F.Entity name) = put (codes "name") (string (name_bytes name)) (with_word (codes "Entity"))
   variant_layer (TypeVariant-F.EntityOrCommon name) = put (codes "name") (string (name_bytes name)) (with_word (codes "EntityOrCommon"))
   variant_layer (TypeVariant-F.Extension id) = put (codes "name") (string id.id.text) (with_word (codes "Extension"))
-
-  abbrev pub layer_entry : List ℕ × Members → List ℕ × Data
-  layer_entry p = (encode_utf8_all p.0, object p.1)
-
-  -- of attributes, and whether others may stand beside them
-  abbrev pub with_attributes : List (List ℕ × Data) → Bool → Members
-  with_attributes es is_open = with_flag is_open (codes "additionalAttributes") true (put (codes "attributes") (object_of es) (with_word (codes "Record")))
 
   abbrev pub record_layer : RecordType-F N Members Members Members Members → Members
   record_layer r = with_attributes (map layer_entry r.attributes) r.additional_attributes
