@@ -1,6 +1,5 @@
 -- The members of each kind of type, one equation a layer.
 use Rattle.std.proofs.Common.{◌≡◌, ℕ, ◌<◌, ◌≤◌, zero, suc, not, false, arith, List, [], ◌∷◌, ◌+◌, length, get_or, drop, map, codes, refl, ap, sym, ◌∙◌, Option}
-use Rattle.std.specs.Str.{encode_utf8_all}
 use Rattle.std.specs.Map.{values_of}
 use Rattle.std.proofs.lemmas.List.{drop_more, drop_all}
 use denote.Param.Weighed.{most}

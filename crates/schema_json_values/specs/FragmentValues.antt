@@ -1,6 +1,6 @@
 -- The JSON value of a fragment. What says nothing is left out: no parents, an empty shape or context, no tags, `external` that is false,
 -- no common types, and what an action leaves open.
-use Rattle.std.specs.Prelude.{ℕ, Bool, true, false, List, [], ◌∷◌, map, Option, Some, None, if◌then◌else◌, codes}
+use Rattle.std.specs.Prelude.{ℕ, true, List, [], ◌∷◌, map, Option, Some, None, if◌then◌else◌, codes}
 use Rattle.std.specs.Str.{encode_utf8_all}
 use Rattle.serde_json.specs.Data.{Data, null, string, array, object, Members, no_members, put}
 use Rattle.serde_json.specs.View.{items_of}
@@ -21,7 +21,7 @@ use Rattle.schema_json.specs.declared.action_type.ActionEntityUID.{ActionEntityU
 use Rattle.schema_json.specs.declared.action_type.ApplySpec.{ApplySpec}
 use Rattle.schema_json.specs.declared.fragment.Fragment.{Fragment}
 use Rattle.schema_json.specs.declared.fragment.NamespaceDefinition.{NamespaceDefinition}
-use Rattle.schema_json_values.specs.TypeValues.{put_all, object_of, with_flag, with_annotations, name_bytes, type_members, type_value}
+use Rattle.schema_json_values.specs.TypeValues.{object_of, with_flag, with_annotations, name_bytes, type_members, type_value}
 
 -- ---- lists
 
@@ -48,6 +48,16 @@ choice_value e = string (encode_utf8_all e.0)
 
 abbrev pub attribute_name_entry : List ℕ → List ℕ × Data
 attribute_name_entry t = (encode_utf8_all t, null)
+
+-- with the names of the attributes, each beside null, where any were written
+abbrev pub with_attributes : Option (List (List ℕ)) → Members → Members
+with_attributes None ms = ms
+with_attributes (Some names) ms = put (codes "attributes") (object_of (map attribute_name_entry names)) ms
+
+-- the text of the name of a namespace, and the empty text for the empty one
+abbrev pub namespace_bytes : Option Name → List ℕ
+namespace_bytes None = []
+namespace_bytes (Some n) = name_bytes (λ (m : Name). components_of m.name) n
 
 module _ {N : Type 0} (components : N → List (List ℕ)) where
   abbrev pub name_value : N → Data
@@ -79,10 +89,6 @@ module _ {N : Type 0} (components : N → List (List ℕ)) where
 
   -- ---- actions
 
-  abbrev pub with_attributes : Option (List (List ℕ)) → Members → Members
-  with_attributes None ms = ms
-  with_attributes (Some names) ms = put (codes "attributes") (object_of (map attribute_name_entry names)) ms
-
   abbrev pub applies_to_value : ApplySpec N → Data
   applies_to_value a =
       object (with_shape (codes "context") a.context.0 (put (codes "principalTypes") (names_value a.principal_types) (put (codes "resourceTypes") (names_value a.resource_types) no_members)))
@@ -94,11 +100,6 @@ module _ {N : Type 0} (components : N → List (List ℕ)) where
   abbrev pub with_type : Option N → Members → Members
   with_type None ms = ms
   with_type (Some n) ms = put (codes "type") (name_value n) ms
-
-  -- the text of the name of a namespace, and the empty text for the empty one
-  abbrev pub namespace_bytes : Option Name → List ℕ
-  namespace_bytes None = []
-  namespace_bytes (Some n) = name_bytes (λ (m : Name). components_of m.name) n
 
   abbrev pub common_entry : CommonTypeId × CommonType N → List ℕ × Data
   common_entry p = (p.0.id.id.text, common_type_value p.1)

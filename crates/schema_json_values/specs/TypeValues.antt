@@ -3,9 +3,7 @@ use Rattle.std.specs.Prelude.{ℕ, Bool, true, false, not, List, [], ◌∷◌, 
 use Rattle.std.specs.Str.{encode_utf8_all}
 use Rattle.serde_json.specs.Data.{Data, null, boolean, string, object, Members, no_members, member, put}
 use Rattle.cedar_identifiers.specs.Names.{name_text}
-use Rattle.cedar_identifiers.specs.declared.annotations.Annotations.{Annotations}
 use Rattle.cedar_identifiers.specs.declared.any_id.AnyId.{AnyId}
-use Rattle.cedar_identifiers.specs.declared.unreserved_id.UnreservedId.{UnreservedId}
 use Rattle.schema_json.specs.declared.types.Type.{«Type», Type-F, fold-Type}
 use Rattle.schema_json.specs.declared.types.TypeVariant.{TypeVariant, TypeVariant-F, fold-TypeVariant}
 use Rattle.schema_json.specs.declared.types.RecordType.{RecordType, RecordType-F, fold-RecordType}

@@ -88,15 +88,13 @@ fn choices_value(alloc: Global, choices: &NonEmpty<Eid>) -> Result<Value, AllocE
 {
     let mut items = Vec::new(alloc);
     for choice in choices.iter() {
-        items.push(text_value(alloc, choice.0.as_str())?)?;
+        let text = text_value(alloc, choice.0.as_str())?;
+        items.push(text)?;
     }
     Ok(Value::Array(items))
 }
 
-fn kind_members<N: NameText>(
-    alloc: Global,
-    kind: &EntityTypeKind<N>,
-) -> Result<Members, AllocError>
+fn kind_members<N: NameText>(alloc: Global, kind: &EntityTypeKind<N>) -> Result<Members, AllocError>
     ensures { IfOk result (λ m. members_view m.entries ≡ kind_members N.components kind.now) }
 {
     match kind {

@@ -12,7 +12,9 @@ use crate::entity_types::{common_type_value, entity_type_value};
 use crate::leaves::Members;
 use cedar_data::Text;
 use cedar_identifiers::{Name, NameText, UnreservedId};
-use schema_json::{ActionType, CommonType, CommonTypeId, EntityType, Fragment, NamespaceDefinition};
+use schema_json::{
+    ActionType, CommonType, CommonTypeId, EntityType, Fragment, NamespaceDefinition,
+};
 use serde_json::{Map, Value, put};
 use std::alloc::{AllocError, Global};
 
@@ -41,8 +43,8 @@ fn put_common_types<N: NameText>(
     if entries.len() == 0 {
         return Ok(());
     }
-    let value = Value::Object(common_members(alloc, entries)?);
-    put(members, alloc, "commonTypes", value)
+    let common = common_members(alloc, entries)?;
+    put(members, alloc, "commonTypes", Value::Object(common))
 }
 
 fn entity_members<N: NameText>(
@@ -80,10 +82,10 @@ fn namespace_value<N: NameText>(
     ensures { IfOk result (λ v. view v ≡ namespace_value N.components namespace.now) }
 {
     let mut members = Map::new(alloc);
-    let entities = Value::Object(entity_members(alloc, namespace.entity_types.as_slice())?);
-    put(&mut members, alloc, "entityTypes", entities)?;
-    let actions = Value::Object(action_members(alloc, namespace.actions.as_slice())?);
-    put(&mut members, alloc, "actions", actions)?;
+    let entities = entity_members(alloc, namespace.entity_types.as_slice())?;
+    put(&mut members, alloc, "entityTypes", Value::Object(entities))?;
+    let actions = action_members(alloc, namespace.actions.as_slice())?;
+    put(&mut members, alloc, "actions", Value::Object(actions))?;
     put_common_types(&mut members, alloc, namespace.common_types.as_slice())?;
     put_annotations(&mut members, alloc, &namespace.annotations)?;
     Ok(Value::Object(members))

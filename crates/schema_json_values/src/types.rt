@@ -27,10 +27,7 @@ pub fn type_members<N: NameText>(alloc: Global, ty: &Type<N>) -> Result<Members,
 }
 
 #[cycle(types)]
-fn variant_members<N: NameText>(
-    alloc: Global,
-    ty: &TypeVariant<N>,
-) -> Result<Members, AllocError>
+fn variant_members<N: NameText>(alloc: Global, ty: &TypeVariant<N>) -> Result<Members, AllocError>
     ensures { IfOk result (λ m. members_view m.entries ≡ variant_members N.components ty.now) }
 {
     match ty {
@@ -79,12 +76,7 @@ fn attribute_entries<N: NameText>(
 }
 
 // The object of a type of this word with this field.
-fn with_field(
-    alloc: Global,
-    word: &str,
-    key: &str,
-    value: Value,
-) -> Result<Members, AllocError>
+fn with_field(alloc: Global, word: &str, key: &str, value: Value) -> Result<Members, AllocError>
     ensures { IfOk result (λ m. members_view m.entries ≡ put_in key.now (view value) (with_word word.now)) }
 {
     let mut members = with_word(alloc, word)?;
@@ -93,11 +85,7 @@ fn with_field(
 }
 
 // The object of a type of records.
-fn with_attributes(
-    alloc: Global,
-    entries: Members,
-    is_open: bool,
-) -> Result<Members, AllocError>
+fn with_attributes(alloc: Global, entries: Members, is_open: bool) -> Result<Members, AllocError>
     ensures { IfOk result (λ m. members_view m.entries ≡ with_flag is_open (codes "additionalAttributes") true (put_in (codes "attributes") (object (members_view entries.entries)) (with_word (codes "Record")))) }
 {
     let mut members = with_field(alloc, "Record", "attributes", Value::Object(entries))?;

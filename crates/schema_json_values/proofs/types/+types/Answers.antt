@@ -7,7 +7,7 @@ use Rattle.serde_json.proofs.Views.{view-Object}
 use Rattle.schema_json.specs.declared.types.TypeOfAttribute.{out-TypeOfAttribute, size-TypeOfAttribute, size_is-TypeOfAttribute}
 use Rattle.schema_json.specs.declared.types.RecordType.{out-RecordType}
 use Rattle.schema_json_values.specs.TypeValues.{put_all, attribute_entry, type_members, variant_members, with_word, with_flag, with_annotations}
-use Rattle.schema_json_values.proofs.Layers.{most_at, put_step, attribute_out, type_variant, type_common, variant_set, variant_record, variant_entity, variant_either, variant_extension, variant_string, variant_long, variant_boolean}
+use Rattle.schema_json_values.proofs.Layers.{most_at, put_step, attribute_out, type_variant, type_common, variant_record, variant_string, variant_long, variant_boolean}
 use Rattle.schema_json_values.proofs.types.+types.Goals as goal
 
 pub type_members-returns-in-Variant : goal.type_members-returns-in-Variant
