@@ -10,3 +10,4 @@ pub mod read;
 pub use errors::{JsonAdvice, JsonDeserializationError};
 pub use json_fault::JsonFault;
 pub use read::{FragmentJson, from_json_str, from_json_value};
+pub use schema_json_values::{WriteJson, fragment_value};

@@ -1,10 +1,10 @@
 -- Demands in a row.
-use Rattle.std.proofs.Common.{◌≡◌, List, [], ◌∷◌, ◌++◌, Result, Ok, Err, inl, inr, refl, sym, subst, ◌∙◌}
+use Rattle.std.proofs.Common.{◌≡◌, List, [], ◌∷◌, ◌++◌, Result, Ok, Err, inl, inr, refl, sym, subst, ◌∙◌, Option, Some, None, true, false}
 use Rattle.std.specs.Prelude.{⊤}
 use Rattle.std.specs.Result.{IsErrAnd}
 use Rattle.std.proofs.lemmas.Result.{err_from_is_err_and}
 use Rattle.schema_json_shapes.specs.declared.shape_fault.ShapeFault.{ShapeFault}
-use Rattle.schema_json_shapes.specs.Walk.{Demand, AllMet, FirstUnmet}
+use Rattle.schema_json_shapes.specs.Walk.{Demand, unless, is_name, no_keyword, IsMet, IsUnmet, AllMet, FirstUnmet}
 use Rattle.schema_json_shapes.specs.Reads.{IsFault, Reads}
 
 pub both_met : (ds es : List Demand) → AllMet ds → AllMet es → AllMet (ds ++ es)
@@ -46,3 +46,21 @@ reads_as (Err x) ds es P Q e f h = subst (λ s. IsFault s x) e h
 -- what the exit of a `?` returns
 pub refused : {A : Type 0} (r : Result A ShapeFault) (e : ShapeFault) (ds : List Demand) (P : A → Type 0) → IsErrAnd r (λ x. x ≡ e) → IsFault ds e → Reads r ds P
 refused r e ds P h f = let p = err_from_is_err_and r h in subst (λ x. Reads x ds P) (sym p.1) (subst (IsFault ds) (sym p.2) f)
+
+true_false : true ≡ false → ⊥
+true_false e = cc
+
+some_none : {A : Type 0} (o : Option A) (x : A) → o ≡ None → o ≡ Some x → ⊥
+some_none None x m u = cc
+some_none (Some y) x m u = cc
+
+one_met : (d : Demand) (e : ShapeFault) → IsMet d → IsUnmet d e → ⊥
+one_met (unless o) e m u = some_none o e m u
+one_met (is_name r s) e m u = u.no_name m
+one_met (no_keyword s) e m u = true_false (sym u.0 ∙ m)
+
+-- demands that are all met have no fault
+pub met_or_unmet : (ds : List Demand) (e : ShapeFault) → AllMet ds → FirstUnmet ds e → ⊥
+met_or_unmet [] e m u = u
+met_or_unmet (d ∷ ds) e m (inl u) = one_met d e m.0 u
+met_or_unmet (d ∷ ds) e m (inr u) = met_or_unmet ds e m.1 u.1

@@ -7,6 +7,7 @@ pub mod conflicts;
 pub mod entity_types;
 pub mod fields;
 pub mod fragments;
+pub mod laws;
 pub mod leaves;
 pub mod name_role;
 pub mod names;

@@ -8,3 +8,7 @@ mod keys;
 mod shape_table;
 #[cfg(test)]
 mod shapes;
+#[cfg(test)]
+mod value_table;
+#[cfg(test)]
+mod values;
