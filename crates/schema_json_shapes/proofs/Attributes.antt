@@ -1,5 +1,5 @@
 -- The attributes of a record, one after another.
-use Rattle.std.proofs.Common.{◌≡◌, ℕ, Bool, List, [], ◌∷◌, ◌++◌, refl, sym, ap, ◌∙◌, subst, append_assoc, append-nil}
+use Rattle.std.proofs.Common.{◌≡◌, ℕ, Bool, List, [], ◌∷◌, ◌++◌, sym, ap, ◌∙◌, subst, append_assoc, append-nil}
 use Rattle.std.specs.Str.{chars}
 use Rattle.serde_json.specs.Data.{Data, null, boolean, number, string, array, object, Members, no_members, member}
 use Rattle.serde_json.specs.View.{members_view}
@@ -7,7 +7,7 @@ use Rattle.serde_json.proofs.Views.{Entry}
 use Rattle.cedar_identifiers.specs.declared.annotations.Annotations.{Annotations}
 use Rattle.cedar_identifiers.specs.declared.raw_name.RawName.{RawName}
 use Rattle.schema_json.specs.declared.types.Type.{«Type»}
-use Rattle.schema_json.specs.declared.types.TypeOfAttribute.{TypeOfAttribute, TypeOfAttribute-F, roll-TypeOfAttribute, out-TypeOfAttribute, out-roll-TypeOfAttribute}
+use Rattle.schema_json.specs.declared.types.TypeOfAttribute.{TypeOfAttribute, roll-TypeOfAttribute}
 use Rattle.schema_json_shapes.specs.Said.{AreAttributes, no_attribute, next_attribute, SaysTyped}
 
 abbrev pub AttributeEntry : Type 0

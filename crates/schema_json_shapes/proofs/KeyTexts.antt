@@ -1,5 +1,5 @@
 -- The keys of an object rise.
-use Rattle.std.proofs.Common.{◌≡◌, List, [], ◌∷◌, Ordering, Less, String, Global, string_bytes, string_cmp, ap₂, ◌∙◌}
+use Rattle.std.proofs.Common.{◌≡◌, List, [], ◌∷◌, Less, String, Global, string_bytes, string_cmp, ap₂, ◌∙◌}
 use Rattle.std.specs.Prelude.{⊤}
 use Rattle.std.specs.Str.{chars, encode_utf8_all}
 use Rattle.std.specs.Ordering.{nat_cmp}

@@ -1,12 +1,12 @@
 -- Values that are objects or lists, and those that are not.
-use Rattle.std.proofs.Common.{◌≡◌, ℕ, List, [], ◌∷◌, ◌++◌, Option, Some, None, Result, refl, sym, ap, ◌∙◌, subst}
+use Rattle.std.proofs.Common.{◌≡◌, ℕ, List, [], ◌++◌, Option, Some, None, Result, refl, sym, ap, ◌∙◌, subst}
 use Rattle.serde_json.specs.Data.{Data, null, boolean, number, string, array, object, Items, no_items, item, Members, no_members, member}
 use Rattle.serde_json.specs.Find.{as_object, as_array}
 use Rattle.schema_json_shapes.specs.declared.shape_fault.ShapeFault.{ShapeFault}
 use Rattle.schema_json_shapes.specs.Walk.{Role, Demand, AllMet, demands, ignored, or_null, null_demands, flag_demands, number_demands, string_demands, array_demands, object_demands, bare, wrong_type, item_demands, item_role, member_demands, key_demands, member_role}
 use Rattle.schema_json_shapes.specs.Said.{not_null, IsOptional}
 use Rattle.schema_json_shapes.specs.Reads.{IsFault, Reads, field_demands}
-use Rattle.schema_json_shapes.proofs.Demands.{reads_as, fails}
+use Rattle.schema_json_shapes.proofs.Demands.{fails}
 
 -- a role of objects alone
 pub record OnlyObjects (r : Role) (n : List ℕ) : Type 0 where

@@ -1,5 +1,5 @@
 -- The members of a type, in order.
-use Rattle.std.proofs.Common.{◌≡◌, ℕ, ◌≤◌, Bool, true, false, List, [], ◌∷◌, ◌++◌, Option, Some, None, inl, inr, refl, sym, ap, ◌∙◌, subst, arith}
+use Rattle.std.proofs.Common.{◌≡◌, ℕ, ◌≤◌, true, false, List, [], ◌∷◌, ◌++◌, Option, Some, None, inl, inr, refl, ap, ◌∙◌, subst, arith}
 use Rattle.std.specs.Prelude.{codes}
 use Rattle.std.specs.Ordering.{match_ordering, nat_cmp}
 use Rattle.std.specs.Cmp.Lexicographic.{slice_cmp}
@@ -17,7 +17,7 @@ use Rattle.schema_json_shapes.specs.Tables.{type_fields, site_fields, is_field, 
 use Rattle.schema_json_shapes.specs.Walk.{Role, Demand, AllMet, demands, member_demands, typed, flag, annotations, type_member, word_fits, fits_table, reference_fits, word_in, text_in}
 use Rattle.schema_json_shapes.specs.Inner.{HasInner, inner_demands}
 use Rattle.schema_json_shapes.specs.Reads.{field_demands}
-use Rattle.schema_json_shapes.proofs.Order.{Rises, NamesRise, fields_demands}
+use Rattle.schema_json_shapes.proofs.Order.{Rises, NamesRise}
 use Rattle.schema_json_shapes.proofs.Tabled.{among, no_unknown, none_missing, tabled, needed_there, unknown_absent}
 
 -- the names of all fields of types, by their bytes

@@ -9,8 +9,8 @@ use Rattle.schema_json.specs.declared.types.TypeVariant.{TypeVariant}
 use Rattle.schema_json_shapes.specs.declared.name_role.NameRole.TheVariants as role
 use Rattle.schema_json_shapes.specs.declared.words.TypeSite.TheVariants.{Plain}
 use Rattle.schema_json_shapes.specs.declared.words.TypeWord.{TypeWord}
-use Rattle.schema_json_shapes.specs.declared.words.TypeWord.TheVariants.{String, Long, Boolean, Set, Record, Entity, EntityOrCommon, Extension, Reference}
-use Rattle.schema_json_shapes.specs.Walk.{Demand, is_name, typed, attributes, named, name_role, reference_fits, is_there}
+use Rattle.schema_json_shapes.specs.declared.words.TypeWord.TheVariants.{Set, Record, Entity, EntityOrCommon, Extension, Reference}
+use Rattle.schema_json_shapes.specs.Walk.{Demand, is_name, typed, attributes, named, reference_fits, is_there}
 use Rattle.schema_json_shapes.specs.Said.{IsRawName, IsType, plain}
 use Rattle.schema_json_shapes.specs.Reads.{field_demands}
 

@@ -6,7 +6,7 @@ use Rattle.schema_json_shapes.specs.Walk.{named}
 use Rattle.schema_json_shapes.specs.Said.{IsNamed}
 use Rattle.schema_json_shapes.specs.declared.name_role.NameRole.TheVariants as role
 use Rattle.schema_json_shapes.specs.Reads.{field_demands}
-use Rattle.schema_json_shapes.specs.Walk.{or_null, demands}
+use Rattle.schema_json_shapes.specs.Walk.{or_null}
 use Rattle.schema_json_shapes.proofs.Demands.{refused}
 use Rattle.schema_json_shapes.proofs.Objects.{given_some, given_none, given_fails}
 use Rattle.schema_json_shapes.proofs.actions.action_type_at.Goals as goal

@@ -5,7 +5,7 @@ use Rattle.serde_json.specs.View.{view, members_view}
 use Rattle.schema_json_shapes.specs.Walk.{applies_to}
 use Rattle.schema_json_shapes.specs.Shapes.{IsAppliesTo}
 use Rattle.schema_json_shapes.specs.Reads.{field_demands}
-use Rattle.schema_json_shapes.specs.Walk.{or_null, demands}
+use Rattle.schema_json_shapes.specs.Walk.{or_null}
 use Rattle.schema_json_shapes.proofs.Demands.{refused}
 use Rattle.schema_json_shapes.proofs.Objects.{given_some, given_none, given_fails}
 use Rattle.schema_json_shapes.proofs.actions.applies_to_at.Goals as goal

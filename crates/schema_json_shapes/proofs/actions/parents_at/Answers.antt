@@ -6,7 +6,7 @@ use Rattle.schema_json_shapes.specs.Walk.{action_ids}
 use Rattle.schema_json_shapes.specs.Shapes.{IsActionId}
 use Rattle.schema_json_shapes.specs.Said.{IsList}
 use Rattle.schema_json_shapes.specs.Reads.{field_demands}
-use Rattle.schema_json_shapes.specs.Walk.{or_null, demands}
+use Rattle.schema_json_shapes.specs.Walk.{or_null}
 use Rattle.schema_json_shapes.proofs.Demands.{refused}
 use Rattle.schema_json_shapes.proofs.Objects.{given_some, given_none, given_fails}
 use Rattle.schema_json_shapes.proofs.actions.parents_at.Goals as goal

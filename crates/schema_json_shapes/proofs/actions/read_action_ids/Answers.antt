@@ -1,4 +1,4 @@
-use Rattle.std.proofs.Common.{sym, ap, subst}
+use Rattle.std.proofs.Common.{subst}
 use Rattle.std.specs.Prelude.{codes}
 use Rattle.serde_json.specs.View.{items_view}
 use Rattle.schema_json_shapes.specs.Walk.{action_id, AllMet, item_demands}

@@ -1,4 +1,4 @@
-use Rattle.std.proofs.Common.{[], ◌++◌, refl, sym, subst}
+use Rattle.std.proofs.Common.{[], ◌++◌, sym, subst}
 use Rattle.std.specs.Prelude.{codes}
 use Rattle.serde_json.specs.Data.{object}
 use Rattle.serde_json.specs.Find.{get_member}

@@ -1,10 +1,8 @@
 use Rattle.std.proofs.Common.{refl}
-use Rattle.std.specs.Prelude.{codes, Some}
+use Rattle.std.specs.Prelude.{codes}
 use Rattle.serde_json.specs.View.{view}
 use Rattle.schema_json_shapes.specs.Walk.{annotations}
-use Rattle.schema_json_shapes.specs.Said.{AreAnnotations}
-use Rattle.schema_json_shapes.proofs.Demands.{refused}
-use Rattle.schema_json_shapes.proofs.Objects.{no_object, reads_object}
+use Rattle.schema_json_shapes.proofs.Objects.{no_object}
 use Rattle.schema_json_shapes.proofs.annotations.read_annotations.Goals as goal
 
 pub returns-in-None : goal.returns-in-None

@@ -1,4 +1,4 @@
-use Rattle.serde_json.specs.View.{view, members_view}
+use Rattle.serde_json.specs.View.{view}
 use Rattle.schema_json_shapes.proofs.EntityKinds.{not_empty}
 use Rattle.schema_json_shapes.proofs.entity_types.choices_at.Goals as goal
 

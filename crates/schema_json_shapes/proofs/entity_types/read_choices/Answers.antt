@@ -1,4 +1,4 @@
-use Rattle.std.proofs.Common.{sym, ap, refl, subst, rules}
+use Rattle.std.proofs.Common.{refl, subst, rules}
 use Rattle.std.specs.Prelude.{codes}
 use Rattle.serde_json.specs.View.{view, items_view}
 use Rattle.schema_json_shapes.specs.Walk.{text, AllMet, item_demands}

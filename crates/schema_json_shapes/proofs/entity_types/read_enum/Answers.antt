@@ -1,10 +1,8 @@
-use Rattle.std.proofs.Common.{refl, sym, ap, ◌∙◌, subst}
+use Rattle.std.proofs.Common.{refl}
 use Rattle.std.specs.Prelude.{codes}
-use Rattle.serde_json.specs.View.{view, items_view}
-use Rattle.schema_json_shapes.specs.Walk.{texts, is_empty_list}
-use Rattle.schema_json_shapes.specs.Said.{IsChoice}
-use Rattle.schema_json_shapes.proofs.Objects.{no_array, an_array}
-use Rattle.schema_json_shapes.proofs.EntityKinds.{no_choice}
+use Rattle.serde_json.specs.View.{view}
+use Rattle.schema_json_shapes.specs.Walk.{texts}
+use Rattle.schema_json_shapes.proofs.Objects.{no_array}
 use Rattle.schema_json_shapes.proofs.entity_types.read_enum.Goals as goal
 
 pub returns-in-None : goal.returns-in-None

@@ -2,7 +2,7 @@ use Rattle.std.proofs.Common.{[], ◌++◌, refl, sym, subst}
 use Rattle.std.specs.Prelude.{codes}
 use Rattle.serde_json.specs.Data.{object}
 use Rattle.serde_json.specs.Find.{get_member}
-use Rattle.serde_json.specs.View.{view, members_view}
+use Rattle.serde_json.specs.View.{members_view}
 use Rattle.schema_json_shapes.specs.Walk.{AllMet, demands, object_demands, entity_type, entity_type_member}
 use Rattle.schema_json_shapes.specs.Shapes.{IsEntityTypeIn}
 use Rattle.schema_json_shapes.specs.Reads.{IsFault, field_demands}

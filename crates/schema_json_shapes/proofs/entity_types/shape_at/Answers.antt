@@ -1,5 +1,4 @@
-use Rattle.std.proofs.Common.{sym, subst, ◌∙◌}
-use Rattle.std.specs.Prelude.{Some, None}
+use Rattle.std.proofs.Common.{subst, ◌∙◌}
 use Rattle.serde_json.specs.View.{members_view}
 use Rattle.serde_json.specs.Find.{get_member}
 use Rattle.schema_json_shapes.specs.Said.{IsOptional, IsType}

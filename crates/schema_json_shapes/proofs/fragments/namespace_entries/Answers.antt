@@ -1,4 +1,4 @@
-use Rattle.std.proofs.Common.{[], ◌++◌, string_bytes, subst, rules}
+use Rattle.std.proofs.Common.{◌++◌, string_bytes, subst, rules}
 use Rattle.serde_json.specs.View.{view, members_view}
 use Rattle.schema_json_shapes.specs.Walk.{fragment, namespace, key_demands, demands, AllMet}
 use Rattle.schema_json_shapes.specs.Shapes.{IsNamespaceKey, IsNamespace}

@@ -1,6 +1,5 @@
 use Rattle.std.proofs.Common.{[], refl, subst}
 use Rattle.serde_json.specs.View.{view, members_view}
-use Rattle.cedar_data.specs.Maps.{map_of}
 use Rattle.schema_json_shapes.specs.Walk.{AllMet, demands, fragment}
 use Rattle.schema_json_shapes.specs.Said.{IsMap}
 use Rattle.schema_json_shapes.specs.Shapes.{IsNamespaceKey, IsNamespace, namespace_order}

@@ -1,4 +1,4 @@
-use Rattle.std.proofs.Common.{ℕ, ◌<◌, length, arith}
+use Rattle.std.proofs.Common.{◌<◌, length, arith}
 use Rattle.schema_json_shapes.proofs.NamespaceOrder.{key_says}
 use Rattle.schema_json_shapes.proofs.fragments.read_key.Goals as goal
 

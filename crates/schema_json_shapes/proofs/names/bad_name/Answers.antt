@@ -1,4 +1,4 @@
-use Rattle.std.proofs.Common.{inl, inr, ap, ◌∙◌}
+use Rattle.std.proofs.Common.{inl, inr}
 use Rattle.schema_json_shapes.specs.declared.shape_fault.ShapeFault.TheVariants.{BadName}
 use Rattle.schema_json_shapes.specs.Walk.{kind_of}
 use Rattle.schema_json_shapes.proofs.names.bad_name.Goals as goal

@@ -1,4 +1,4 @@
-use Rattle.std.proofs.Common.{sym, ap, subst}
+use Rattle.std.proofs.Common.{subst}
 use Rattle.serde_json.specs.View.{items_view}
 use Rattle.schema_json_shapes.specs.Walk.{named, AllMet, item_demands}
 use Rattle.schema_json_shapes.specs.Said.{IsNamed, AreItems}

@@ -2,8 +2,6 @@ use Rattle.std.proofs.Common.{◌++◌}
 use Rattle.serde_json.specs.View.{view}
 use Rattle.schema_json_shapes.specs.declared.words.TypeSite.TheVariants as site
 use Rattle.schema_json_shapes.specs.Walk.{common_types, typed, key_demands, demands}
-use Rattle.schema_json_shapes.specs.Said.{IsType}
-use Rattle.schema_json_shapes.specs.Shapes.{IsCommonId, IsCommonType}
 use Rattle.schema_json_shapes.proofs.Demands.{fails, refused}
 use Rattle.schema_json_shapes.proofs.namespaces.common_entry.Goals as goal
 

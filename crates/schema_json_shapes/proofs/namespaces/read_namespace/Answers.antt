@@ -1,5 +1,4 @@
 use Rattle.std.proofs.Common.{refl}
-use Rattle.std.specs.Prelude.{codes}
 use Rattle.serde_json.specs.View.{view, members_view}
 use Rattle.schema_json_shapes.specs.Walk.{namespace}
 use Rattle.schema_json_shapes.specs.Shapes.{IsNamespace}

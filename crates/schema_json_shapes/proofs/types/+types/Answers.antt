@@ -1,23 +1,22 @@
-use Rattle.std.proofs.Common.{◌≡◌, ◌≤◌, [], ◌∷◌, ◌++◌, Some, string_bytes, inl, inr, refl, sym, ap, ◌∙◌, subst, append_assoc, append-nil, rules}
+use Rattle.std.proofs.Common.{◌≡◌, ◌≤◌, [], ◌∷◌, ◌++◌, Some, string_bytes, refl, sym, ap, ◌∙◌, subst, append_assoc, rules}
 use Rattle.std.specs.Prelude.{codes}
 use Rattle.std.specs.Str.{chars}
 use Rattle.serde_json.specs.Data.{object, depth, members_depth}
-use Rattle.serde_json.specs.Find.{get_member}
 use Rattle.serde_json.specs.View.{view, members_view}
 use Rattle.serde_json.proofs.Views.{Entry}
 use Rattle.schema_json.specs.declared.types.TypeVariant.TheVariants as variant
 use Rattle.schema_json_shapes.specs.declared.words.TypeWord.TheVariants as word
 use Rattle.schema_json_shapes.specs.declared.words.TypeSite.TheVariants as site
-use Rattle.schema_json_shapes.specs.Walk.{AllMet, typed, attributes, demands, key_demands, reference_fits}
-use Rattle.schema_json_shapes.specs.Said.{HasWord, SaysTyped, IsType, plain, string_type, long_type, boolean_type, reference}
-use Rattle.schema_json_shapes.specs.Inner.{HasInner, inner_demands, IsInner, made_demands, IsMade}
-use Rattle.schema_json_shapes.specs.Reads.{IsFault, Reads, field_demands}
+use Rattle.schema_json_shapes.specs.Walk.{AllMet, typed, attributes, demands, key_demands}
+use Rattle.schema_json_shapes.specs.Said.{HasWord, SaysTyped, string_type, long_type, boolean_type}
+use Rattle.schema_json_shapes.specs.Inner.{HasInner, inner_demands}
+use Rattle.schema_json_shapes.specs.Reads.{IsFault, field_demands}
 use Rattle.schema_json_shapes.proofs.Demands.{both_met, fails, passes, refused}
 use Rattle.schema_json_shapes.proofs.Order.{Rises-view}
 use Rattle.schema_json_shapes.proofs.Objects.{no_object, an_object, reads_object}
 use Rattle.schema_json_shapes.proofs.Ahead.{Left, all_left, first_fails, first_passes, none_left}
 use Rattle.schema_json_shapes.proofs.Attributes.{FoundAttributes, no_attribute_found, attribute_found, all_attributes_found}
-use Rattle.schema_json_shapes.proofs.Typed.{type_parts, type_whole, has_inner, below, entry_below}
+use Rattle.schema_json_shapes.proofs.Typed.{type_whole, has_inner, below, entry_below}
 use Rattle.schema_json_shapes.proofs.Saying.{set_says, record_says}
 use Rattle.schema_json_shapes.proofs.Made.{made_fits, made_says, shape_says}
 use Rattle.schema_json_shapes.proofs.types.+types.Goals as goal
