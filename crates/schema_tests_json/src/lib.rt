@@ -1,5 +1,14 @@
-//! What no contract says of JSON texts: that a repeated key is found where memory is there, compared with worked texts.
+//! What no contract says of JSON texts: that a repeated key is found, and a fragment or the first fault, where memory is
+//! there, compared with worked texts.
 #![tactic(auto)]
 
 #[cfg(test)]
 mod keys;
+#[cfg(test)]
+mod shape_table;
+#[cfg(test)]
+mod shapes;
+#[cfg(test)]
+mod value_table;
+#[cfg(test)]
+mod values;

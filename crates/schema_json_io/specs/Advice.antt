@@ -1,0 +1,36 @@
+-- The advice beside a fault of a JSON text.
+use Rattle.std.specs.Prelude.{ℕ, Bool, false, not, ◌||◌, ◌==◌, List, [], ◌∷◌, codes, Option, Some, None, is_some, if◌then◌else◌}
+use Rattle.std.specs.Str.{trim_start}
+use Rattle.serde_json.specs.Data.{Data, object}
+use Rattle.serde_json.specs.Find.{get_member}
+use Rattle.serde_json.specs.Read.{read}
+use Rattle.schema_json_io.specs.declared.errors.JsonAdvice.{JsonAdvice}
+use Rattle.schema_json_io.specs.declared.errors.JsonAdvice.TheVariants.{CedarFormat, MissingNamespace}
+use Rattle.schema_json_io.specs.declared.json_fault.JsonFault.{JsonFault}
+use Rattle.schema_json_io.specs.declared.json_fault.JsonFault.TheVariants.{Memory}
+
+-- it begins, and not with `{`
+abbrev pub begins_otherwise : List ℕ → Bool
+begins_otherwise [] = false
+begins_otherwise (b ∷ bs) = not (b == 123)
+
+-- behind White_Space, the text begins, and not with `{`
+abbrev pub is_no_object_text : List ℕ → Bool
+is_no_object_text text = begins_otherwise (trim_start text)
+
+-- an object with a field that a namespace has
+abbrev pub is_bare_namespace : Data → Bool
+is_bare_namespace (object ms) = is_some (get_member (codes "entityTypes") ms) || is_some (get_member (codes "actions") ms) || is_some (get_member (codes "commonTypes") ms)
+is_bare_namespace _ = false
+
+abbrev pub on_value : Option Data → Option JsonAdvice
+on_value None = None
+on_value (Some d) = if is_bare_namespace d then Some MissingNamespace else None
+
+abbrev pub advice_on : List ℕ → Option JsonAdvice
+advice_on text = if is_no_object_text text then Some CedarFormat else on_value (read text)
+
+-- no advice stands beside want of memory
+abbrev pub beside : JsonFault → Option JsonAdvice → Option JsonAdvice
+beside Memory advice = None
+beside _ advice = advice

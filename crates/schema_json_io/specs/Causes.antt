@@ -1,0 +1,40 @@
+-- When a JSON text or value is refused, and for which cause. A text is its list of bytes.
+use Rattle.std.specs.Prelude.{◌≡◌, ℕ, List, true, false, Some, None, ⊤}
+use Rattle.std.specs.Str.{chars}
+use Rattle.serde_json.specs.Data.{Data}
+use Rattle.serde_json.specs.Read.{read}
+use Rattle.serde_json.specs.Written.{has_float}
+use Rattle.schema_json_keys.specs.Keys.{RepeatedKey}
+use Rattle.schema_json_shapes.specs.declared.shape_fault.ShapeFault.{ShapeFault}
+use Rattle.schema_json_shapes.specs.Shapes.{IsShapeFault}
+use Rattle.schema_json_io.specs.declared.errors.JsonDeserializationError.{JsonDeserializationError}
+use Rattle.schema_json_io.specs.declared.json_fault.JsonFault.{JsonFault}
+use Rattle.schema_json_io.specs.declared.json_fault.JsonFault.TheVariants as cause
+use Rattle.schema_json_io.specs.Advice.{advice_on, beside}
+use Rattle.schema_json_io.specs.Faults.{of_shape}
+use Rattle.schema_json_io.specs.Texts.{HasNoRepeat, Holds}
+
+-- the first fault of the value
+abbrev pub IsFirstFault : Data → JsonFault → Type 0
+IsFirstFault d e = (fault : ShapeFault) × IsShapeFault d fault × (e ≡ of_shape fault)
+
+abbrev pub IsValueCause : Data → JsonFault → Type 0
+IsValueCause d cause.NotJson = ⊥
+IsValueCause d (cause.RepeatedKey name) = ⊥
+IsValueCause d cause.Float = has_float d ≡ true
+IsValueCause d cause.Memory = ⊤
+IsValueCause d e = (has_float d ≡ false) × IsFirstFault d e
+
+abbrev pub IsTextCause : List ℕ → JsonFault → Type 0
+IsTextCause text cause.NotJson = read text ≡ None
+IsTextCause text (cause.RepeatedKey name) = (d : Data) × (read text ≡ Some d) × (key : List ℕ) × RepeatedKey text key × (name ≡ chars key)
+IsTextCause text cause.Float = (d : Data) × (read text ≡ Some d) × HasNoRepeat text × (has_float d ≡ true)
+IsTextCause text cause.Memory = ⊤
+IsTextCause text e = (d : Data) × Holds text d × IsFirstFault d e
+
+-- the cause, with the advice beside it
+abbrev pub IsTextError : List ℕ → JsonDeserializationError → Type 0
+IsTextError text e = IsTextCause text e.fault × (e.advice ≡ beside e.fault (advice_on text))
+
+abbrev pub IsValueError : Data → JsonDeserializationError → Type 0
+IsValueError d e = IsValueCause d e.fault × (e.advice ≡ None)

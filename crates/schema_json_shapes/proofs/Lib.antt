@@ -1,0 +1,14 @@
+pub mod Demands
+pub mod Order
+pub mod Tabled
+pub mod Ahead
+pub mod NamespaceOrder
+pub mod KeyTexts
+pub mod EntityKinds
+pub mod Wholes
+pub mod Made
+pub mod Saying
+pub mod Attributes
+pub mod Typed
+pub mod Beside
+pub mod Objects

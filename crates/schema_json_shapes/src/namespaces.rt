@@ -1,0 +1,245 @@
+// Namespaces and what they declare.
+ghost use Rattle.std.specs.Prelude.{◌≡◌, ◌++◌, codes, IfOk};
+ghost use Rattle.serde_json.specs.Data.{object};
+ghost use Rattle.serde_json.specs.View.{view, members_view};
+ghost use Rattle.serde_json.specs.Find.{get_member};
+ghost use Rattle.cedar_data.specs.Text.{text_cmp};
+ghost use Rattle.schema_json_shapes.specs.Walk.{namespace, common_types, entity_types, entity_type, actions as actions_role, action, typed, demands, key_demands, member_demands, object_demands};
+ghost use Rattle.schema_json_shapes.specs.Said.{IsId, IsText, IsMap, IsMapOrNone, AreEntries};
+ghost use Rattle.schema_json_shapes.specs.Shapes.{IsCommonId, IsCommonType, IsEntityType, IsAction, IsNamespace, IsNamespaceIn, id_order, common_id_order};
+ghost use Rattle.schema_json_shapes.specs.Reads.{Reads, Any, field_demands};
+
+use crate::actions::read_action;
+use crate::annotations::annotations_at;
+use crate::conflicts::check_annotated;
+use crate::entity_types::read_entity_type;
+use crate::fields::{Members, at, check_fields, needed};
+use crate::leaves::wrong_type;
+use crate::name_role::NameRole;
+use crate::names::read_id;
+use crate::shape_fault::ShapeFault;
+use crate::tables::namespace_fields;
+use crate::types::{Typed, read_typed};
+use crate::words::TypeSite;
+use cedar_data::{Map, Text};
+use cedar_identifiers::{RawName, UnreservedId};
+use schema_json::{ActionType, CommonType, CommonTypeId, EntityType, NamespaceDefinition};
+use serde_json::Value;
+use std::alloc::Global;
+
+/// A namespace, by its key.
+pub fn read_namespace(
+    alloc: Global,
+    value: &Value,
+    key: &str,
+) -> Result<NamespaceDefinition<RawName>, ShapeFault>
+    ensures { Reads result (demands namespace key.now (view value.now)) (IsNamespace (view value.now)) }
+{
+    match value.as_object() {
+        Some(members) => read_members(alloc, members, key),
+        None => Err(wrong_type(alloc, key)),
+    }
+}
+
+fn read_members(
+    alloc: Global,
+    members: &Members,
+    key: &str,
+) -> Result<NamespaceDefinition<RawName>, ShapeFault>
+    ensures { let ms = members_view members.now.entries in
+        Reads result (demands namespace key.now (object ms)) (IsNamespaceIn ms) }
+{
+    let _ = members.len();
+    check_members(alloc, members, key)?;
+    let declared_actions = needed(members, "actions");
+    let actions = read_actions(alloc, declared_actions)?;
+    let annotations = annotations_at(alloc, members)?;
+    let common_types = common_types_at(alloc, members)?;
+    let declared_types = needed(members, "entityTypes");
+    let entity_types = read_entity_types(alloc, declared_types)?;
+    Ok(NamespaceDefinition {
+        common_types,
+        entity_types,
+        actions,
+        annotations,
+    })
+}
+
+// What the object itself must keep.
+fn check_members(alloc: Global, members: &Members, key: &str) -> Result<(), ShapeFault>
+    ensures { Reads result (object_demands namespace key.now (members_view members.now.entries)) Any }
+{
+    check_fields(alloc, namespace_fields(), members)?;
+    check_annotated(members, key)
+}
+
+fn read_actions(alloc: Global, value: &Value) -> Result<Map<Text, ActionType<RawName>>, ShapeFault>
+    ensures { Reads result (demands actions_role (codes "actions") (view value.now))
+        (IsMap text_cmp IsText IsAction (view value.now)) }
+{
+    match value.as_object() {
+        Some(members) => {
+            let entries = action_entries(alloc, members)?;
+            Ok(Map::from_entries(alloc, entries)?)
+        }
+        None => Err(wrong_type(alloc, "actions")),
+    }
+}
+
+fn action_entries(
+    alloc: Global,
+    members: &Members,
+) -> Result<Vec<(Text, ActionType<RawName>)>, ShapeFault>
+    ensures { let ms = members_view members.now.entries in
+        Reads result (member_demands (key_demands actions_role) (λ k. action) ms)
+        (λ entries. AreEntries IsText IsAction ms entries.items) }
+{
+    let mut entries = Vec::new(alloc);
+    for (key, value) in members {
+        let entry = action_entry(alloc, key.as_str(), value)?;
+        entries.push(entry)?;
+    }
+    Ok(entries)
+}
+
+fn action_entry(
+    alloc: Global,
+    key: &str,
+    value: &Value,
+) -> Result<(Text, ActionType<RawName>), ShapeFault>
+    ensures { Reads result (key_demands actions_role key.now ++ demands action key.now (view value.now))
+        (λ entry. IsText key.now entry.0 × IsAction (view value.now) entry.1) }
+{
+    let action = read_action(alloc, value, key)?;
+    Ok((Text::from_str(alloc, key)?, action))
+}
+
+fn common_types_at(
+    alloc: Global,
+    members: &Members,
+) -> Result<Map<CommonTypeId, CommonType<RawName>>, ShapeFault>
+    ensures { let o = get_member (codes "commonTypes") (members_view members.now.entries) in
+        Reads result (field_demands common_types (codes "commonTypes") o)
+        (IsMapOrNone common_id_order IsCommonId IsCommonType o) }
+{
+    match at(members, "commonTypes") {
+        Some(value) => read_common_types(alloc, value),
+        None => Ok(Map::new(alloc)),
+    }
+}
+
+fn read_common_types(
+    alloc: Global,
+    value: &Value,
+) -> Result<Map<CommonTypeId, CommonType<RawName>>, ShapeFault>
+    ensures { Reads result (demands common_types (codes "commonTypes") (view value.now))
+        (IsMap common_id_order IsCommonId IsCommonType (view value.now)) }
+{
+    match value.as_object() {
+        Some(members) => {
+            let entries = common_entries(alloc, members)?;
+            Ok(Map::from_entries(alloc, entries)?)
+        }
+        None => Err(wrong_type(alloc, "commonTypes")),
+    }
+}
+
+fn common_entries(
+    alloc: Global,
+    members: &Members,
+) -> Result<Vec<(CommonTypeId, CommonType<RawName>)>, ShapeFault>
+    ensures { let ms = members_view members.now.entries in
+        Reads result (member_demands (key_demands common_types) (λ k. typed TypeSite.Common) ms)
+        (λ entries. AreEntries IsCommonId IsCommonType ms entries.items) }
+{
+    let mut entries = Vec::new(alloc);
+    for (key, value) in members {
+        let entry = common_entry(alloc, key.as_str(), value)?;
+        entries.push(entry)?;
+    }
+    Ok(entries)
+}
+
+fn common_entry(
+    alloc: Global,
+    key: &str,
+    value: &Value,
+) -> Result<(CommonTypeId, CommonType<RawName>), ShapeFault>
+    ensures { Reads result (key_demands common_types key.now ++ demands (typed TypeSite.Common) key.now (view value.now))
+        (λ entry. IsCommonId key.now entry.0 × IsCommonType (view value.now) entry.1) }
+{
+    let id = read_common_id(alloc, key)?;
+    let common = common_type(read_typed(alloc, value, key, TypeSite::Common)?);
+    Ok((id, common))
+}
+
+fn common_type(typed: Typed) -> CommonType<RawName>
+    ensures { result ≡ record { ty = typed.ty; annotations = typed.annotations; loc = None } }
+{
+    let Typed {
+        ty,
+        annotations,
+        ..
+    } = typed;
+    CommonType {
+        ty,
+        annotations,
+        loc: None,
+    }
+}
+
+// The name of a common type.
+fn read_common_id(alloc: Global, key: &str) -> Result<CommonTypeId, ShapeFault>
+    ensures { Reads result (key_demands common_types key.now) (IsCommonId key.now) }
+{
+    let id = read_id(alloc, NameRole::Id, key)?;
+    match CommonTypeId::new(id) {
+        Ok(id) => Ok(id),
+        Err(reserved) => Err(ShapeFault::ReservedCommonType(reserved.id)),
+    }
+}
+
+fn read_entity_types(
+    alloc: Global,
+    value: &Value,
+) -> Result<Map<UnreservedId, EntityType<RawName>>, ShapeFault>
+    ensures { Reads result (demands entity_types (codes "entityTypes") (view value.now))
+        (IsMap id_order IsId IsEntityType (view value.now)) }
+{
+    match value.as_object() {
+        Some(members) => {
+            let entries = entity_entries(alloc, members)?;
+            Ok(Map::from_entries(alloc, entries)?)
+        }
+        None => Err(wrong_type(alloc, "entityTypes")),
+    }
+}
+
+fn entity_entries(
+    alloc: Global,
+    members: &Members,
+) -> Result<Vec<(UnreservedId, EntityType<RawName>)>, ShapeFault>
+    ensures { let ms = members_view members.now.entries in
+        Reads result (member_demands (key_demands entity_types) (λ k. entity_type) ms)
+        (λ entries. AreEntries IsId IsEntityType ms entries.items) }
+{
+    let mut entries = Vec::new(alloc);
+    for (key, value) in members {
+        let entry = entity_entry(alloc, key.as_str(), value)?;
+        entries.push(entry)?;
+    }
+    Ok(entries)
+}
+
+fn entity_entry(
+    alloc: Global,
+    key: &str,
+    value: &Value,
+) -> Result<(UnreservedId, EntityType<RawName>), ShapeFault>
+    ensures { Reads result (key_demands entity_types key.now ++ demands entity_type key.now (view value.now))
+        (λ entry. IsId key.now entry.0 × IsEntityType (view value.now) entry.1) }
+{
+    let id = read_id(alloc, NameRole::Id, key)?;
+    let entity = read_entity_type(alloc, value, key)?;
+    Ok((id, entity))
+}

@@ -1,0 +1,2 @@
+pub mod TypeValues
+pub mod FragmentValues
