@@ -1,8 +1,8 @@
 use crate::shape_table::TEXTS;
 use cedar_data::{NonEmpty, Text};
-use schema_json_io::{FragmentJson, JsonAdvice, JsonDeserializationError, JsonFault};
-use schema_json::Fragment;
 use cedar_identifiers::RawName;
+use schema_json::Fragment;
+use schema_json_io::{FragmentJson, JsonAdvice, JsonDeserializationError, JsonFault};
 use std::alloc::{AllocError, Global};
 
 // The fields, with `, ` between two.
@@ -28,7 +28,12 @@ fn fault_line(alloc: Global, fault: &JsonFault) -> Result<String, AllocError> {
         JsonFault::WrongType(field) => format!(in alloc; "WrongType({})", field.as_str()),
         JsonFault::BadName { role, text, fault } => {
             let why = fault.text(alloc)?;
-            format!(in alloc; "BadName({}) {} {}", role.as_str(), text.as_str(), why.as_str())
+            format!(in alloc;
+                "BadName({}) {} {}",
+                role.as_str(),
+                text.as_str(),
+                why.as_str()
+            )
         }
         JsonFault::ReservedCommonType(id) => {
             format!(in alloc; "ReservedCommonType({})", id.as_str())
@@ -61,8 +66,9 @@ fn error_line(alloc: Global, error: &JsonDeserializationError) -> Result<String,
 // Is the answer on the line's text the one that the line says?
 fn agrees(alloc: Global, line: &str) -> bool {
     let (wanted, text) = line.split_once(" <- ").unwrap_or(("", ""));
-    let answer: Result<Fragment<RawName>, JsonDeserializationError> =
-        FragmentJson::from_json_str(alloc, text);
+    let answer: Result<Fragment<RawName>, JsonDeserializationError> = FragmentJson::from_json_str(
+        alloc, text,
+    );
     match answer {
         Ok(_) => wanted == "ok",
         Err(error) => match error_line(alloc, &error) {

@@ -1,6 +1,7 @@
 // The compact text of the value that is written, and behind `<-` the text of a fragment that it is written for. The first are worked
 // by hand; the others were made by another reader and writer of JSON schemas from random fragments.
-pub const VALUES: &str = r#"{"":{"actions":{},"entityTypes":{"User":{"shape":{"attributes":{"a":{"name":"__cedar::String","type":"EntityOrCommon"}},"type":"Record"}}}}} <- {"":{"entityTypes":{"User":{"shape":{"type":"Record","attributes":{"a":{"type":"EntityOrCommon","name":"__cedar::String"}}}}},"actions":{}}}
+pub const VALUES: &str =
+    r#"{"":{"actions":{},"entityTypes":{"User":{"shape":{"attributes":{"a":{"name":"__cedar::String","type":"EntityOrCommon"}},"type":"Record"}}}}} <- {"":{"entityTypes":{"User":{"shape":{"type":"Record","attributes":{"a":{"type":"EntityOrCommon","name":"__cedar::String"}}}}},"actions":{}}}
 {"":{"actions":{"a":{}},"entityTypes":{"A":{}}}} <- {"":{"entityTypes":{"A":{"memberOfTypes":[]}},"actions":{"a":{"external":false,"memberOf":null,"attributes":null,"appliesTo":null}}}}
 {"N":{"actions":{},"entityTypes":{}}} <- {"N":{"entityTypes":{},"actions":{},"annotations":{},"commonTypes":{}}}
 {"":{"actions":{},"entityTypes":{"A":{}}}} <- {"":{"entityTypes":{"A":{"shape":{"type":"Record","attributes":{}}}},"actions":{}}}

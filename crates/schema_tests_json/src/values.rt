@@ -7,8 +7,9 @@ use std::alloc::Global;
 // Is the fragment of the line's text written as the line says?
 fn agrees(alloc: Global, line: &str) -> bool {
     let (wanted, text) = line.split_once(" <- ").unwrap_or(("", ""));
-    let answer: Result<Fragment<RawName>, JsonDeserializationError> =
-        FragmentJson::from_json_str(alloc, text);
+    let answer: Result<Fragment<RawName>, JsonDeserializationError> = FragmentJson::from_json_str(
+        alloc, text,
+    );
     let Ok(fragment) = answer else {
         return false;
     };
