@@ -2,10 +2,10 @@ pub mod Ids
 mod Blanks
 mod Components
 mod Cut
-mod Joins
-mod Normal
+pub mod Joins
+pub mod Normal
 mod Ordered
 mod Pieces
 mod Reading
-mod Unique
+pub mod Unique
 pub mod Same

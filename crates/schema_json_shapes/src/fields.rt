@@ -25,7 +25,7 @@ pub fn at<'v>(members: &'v Members, name: &str) -> Option<&'v Value>
 }
 
 /// The member of this name, which is there.
-pub fn needed<'v>(members: &'v Members, name: &str) -> &'v Value
+pub(crate) fn needed<'v>(members: &'v Members, name: &str) -> &'v Value
     requires { is_there (get_member name.now (members_view members.now.entries)) ≡ true }
     ensures { get_member name.now (members_view members.now.entries) ≡ Some (view result.now) }
 {

@@ -42,7 +42,7 @@ fn copied(alloc: Global, role: NameRole, text: &str) -> Result<(Text, Text), All
 }
 
 /// A name as it is written, in a role of such names.
-pub fn read_raw_name(alloc: Global, role: NameRole, text: &str) -> Result<RawName, ShapeFault>
+pub(crate) fn read_raw_name(alloc: Global, role: NameRole, text: &str) -> Result<RawName, ShapeFault>
     requires { kind_of role ≡ kind.InternalName }
     ensures { Reads result (is_name role text.now ∷ []) (IsRawName text.now) }
 {
@@ -53,7 +53,7 @@ pub fn read_raw_name(alloc: Global, role: NameRole, text: &str) -> Result<RawNam
 }
 
 /// A word that may be declared, in a role of such words.
-pub fn read_id(alloc: Global, role: NameRole, text: &str) -> Result<UnreservedId, ShapeFault>
+pub(crate) fn read_id(alloc: Global, role: NameRole, text: &str) -> Result<UnreservedId, ShapeFault>
     requires { kind_of role ≡ kind.UnreservedId }
     ensures { Reads result (is_name role text.now ∷ []) (IsId text.now) }
 {
@@ -84,7 +84,7 @@ pub fn read_namespace_name(alloc: Global, text: &str) -> Result<Name, ShapeFault
 }
 
 /// The name that a value is, in a role of names as they are written.
-pub fn read_named(
+pub(crate) fn read_named(
     alloc: Global,
     role: NameRole,
     value: &Value,
@@ -100,7 +100,7 @@ pub fn read_named(
 }
 
 /// The word that a value is, in a role of words that may be declared.
-pub fn read_word(
+pub(crate) fn read_word(
     alloc: Global,
     role: NameRole,
     value: &Value,

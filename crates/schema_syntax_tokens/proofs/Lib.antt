@@ -2,11 +2,11 @@ mod Blank
 mod Bodies
 mod ByCharacters
 mod Digits
-mod Ends
+pub mod Ends
 mod Gone
 mod LaidOut
 mod Lawful
-mod Longest
+pub mod Longest
 mod OneString
 mod Pieces
 mod Quotation
@@ -15,5 +15,5 @@ mod Sorted
 mod Standing
 mod Unique
 pub mod Values
-mod Whole
+pub mod Whole
 mod WholePlaces
