@@ -222,9 +222,10 @@ fn action_fault(
     ensures { IfOk result (λ fault. fault ≡ action_fault decl.now) }
 {
     match decl {
-        Declaration::Action(ActionDecl::Defined(decl)) => {
-            applies_fault(alloc, &decl.names, &decl.app_decls)
-        }
+        Declaration::Action(decl) => match decl.get() {
+            ActionDecl::Defined(decl) => applies_fault(alloc, &decl.names, &decl.app_decls),
+            ActionDecl::External(_) => Ok(None),
+        },
         _ => Ok(None),
     }
 }

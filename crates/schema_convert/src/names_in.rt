@@ -37,8 +37,10 @@ fn push_actions<'a, 's>(
     ensures { OnOk result (map (λ x. x.now) names.new.items ≡ map (λ x. x.now) names.old.items ++ actions_of decl.now) }
 {
     match decl {
-        Declaration::Action(ActionDecl::Defined(decl)) => push_all(names, decl.names.iter()),
-        Declaration::Action(ActionDecl::External(decl)) => push_all(names, decl.names.iter()),
+        Declaration::Action(decl) => match decl.get() {
+            ActionDecl::Defined(decl) => push_all(names, decl.names.iter()),
+            ActionDecl::External(decl) => push_all(names, decl.names.iter()),
+        },
         _ => Ok(()),
     }
 }

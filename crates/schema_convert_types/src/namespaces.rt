@@ -140,7 +140,13 @@ fn push_declared<'a>(
             push_entities(alloc, &mut entries.entities, decl, annotations, loc)
         }
         Declaration::Action(decl) => {
-            push_actions(alloc, &mut entries.actions, decl, annotations, loc)
+            push_actions(
+                alloc,
+                &mut entries.actions,
+                decl.into_inner(),
+                annotations,
+                loc,
+            )
         }
         Declaration::Common(decl) => {
             push_common(alloc, &mut entries.commons, decl, annotations, loc)

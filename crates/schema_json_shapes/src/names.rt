@@ -42,7 +42,11 @@ fn copied(alloc: Global, role: NameRole, text: &str) -> Result<(Text, Text), All
 }
 
 /// A name as it is written, in a role of such names.
-pub(crate) fn read_raw_name(alloc: Global, role: NameRole, text: &str) -> Result<RawName, ShapeFault>
+pub(crate) fn read_raw_name(
+    alloc: Global,
+    role: NameRole,
+    text: &str,
+) -> Result<RawName, ShapeFault>
     requires { kind_of role ≡ kind.InternalName }
     ensures { Reads result (is_name role text.now ∷ []) (IsRawName text.now) }
 {

@@ -6,7 +6,7 @@ use crate::names::{Choices, Ids, Names, id_node};
 use crate::parts::{all, optional, some};
 use crate::paths::{Paths, References};
 use crate::types::{shape, tags, ty};
-use cedar_data::{List, Loc};
+use cedar_data::{Boxed, List, Loc};
 use schema_syntax_parser::{AppSyntax, AttrSyntax, DeclSyntax, PathSyntax, Stop, TypeSyntax};
 use schema_syntax_tokens::Token;
 use schema_syntax_tree::{
@@ -87,11 +87,13 @@ fn action<'a>(
     let names = some::<Names>(alloc, names, leaves)?;
     let parents = optional::<References>(alloc, parents, leaves)?;
     let app_decls = applies(alloc, applies_raw, leaves)?;
-    Ok(Declaration::Action(ActionDecl::Defined(DefinedActionDecl {
+    let decl = DefinedActionDecl {
         names,
         parents,
         app_decls,
-    })))
+    };
+    let decl = Boxed::new(alloc, ActionDecl::Defined(decl))?;
+    Ok(Declaration::Action(decl))
 }
 
 // Actions of another schema.
@@ -106,7 +108,9 @@ fn external_action<'a>(
 {
     let names = some::<Names>(alloc, names, leaves)?;
     let parents = optional::<References>(alloc, parents, leaves)?;
-    Ok(Declaration::Action(ActionDecl::External(ExternalActionDecl { names, parents })))
+    let decl = ExternalActionDecl { names, parents };
+    let decl = Boxed::new(alloc, ActionDecl::External(decl))?;
+    Ok(Declaration::Action(decl))
 }
 
 // A common type.

@@ -1,14 +1,14 @@
 use crate::action_decl::ActionDecl;
 use crate::entity_decl::EntityDecl;
 use crate::type_decl::TypeDecl;
-use cedar_data::CloneIn;
+use cedar_data::{Boxed, CloneIn};
 use std::alloc::{AllocError, Global};
 
 /// A declaration: of entity types, of actions or of a common type.
 #[derive(Drop)]
 pub enum Declaration<'a> {
     Entity(EntityDecl<'a>),
-    Action(ActionDecl<'a>),
+    Action(Boxed<ActionDecl<'a>>),
     Common(TypeDecl<'a>),
 }
 
