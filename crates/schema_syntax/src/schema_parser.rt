@@ -42,7 +42,7 @@ pub fn parse_schema<'a>(alloc: Global, text: &'a str) -> Result<Schema<'a>, Pars
     match sentence_of(alloc, text) {
         Err(Refused::Memory) => Err(ParseSchemaError::Memory),
         Err(Refused::Fault(fault)) => Err(only(alloc, error_of(fault))),
-        Ok(tokens) => match tree_of_tokens(alloc, text, &tokens) {
+        Ok(tokens) => match tree_of_tokens(alloc, text, tokens) {
             Ok(schema) => Ok(schema),
             Err(Stopped::Memory) => Err(ParseSchemaError::Memory),
             Err(Stopped::User(fault)) => Err(only(alloc, ParseError::User(fault))),

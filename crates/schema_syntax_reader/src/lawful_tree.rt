@@ -18,18 +18,21 @@ use std::alloc::Global;
 pub fn tree_of_tokens<'a>(
     alloc: Global,
     text: &'a str,
-    tokens: &[Token],
+    tokens: Vec<Token>,
 ) -> Result<Schema<'a>, Stopped>
-    requires scans { Scans text.now tokens.now (length text.now) }
-    requires placed { All (IsPlaced text.now) tokens.now }
-    requires sentence { Sentence (kinds_of tokens.now) }
-    ensures tree { IfOk result (IsLawfulTree text.now tokens.now) }
-    ensures fault { IfErr result (IsStopOf text.now tokens.now) }
+    requires scans { Scans text.now tokens.items (length text.now) }
+    requires placed { All (IsPlaced text.now) tokens.items }
+    requires sentence { Sentence (kinds_of tokens.items) }
+    ensures tree { IfOk result (IsLawfulTree text.now tokens.items) }
+    ensures fault { IfErr result (IsStopOf text.now tokens.items) }
 {
-    let items = syntax_of(alloc, tokens)?;
+    let items = syntax_of(alloc, &tokens)?;
+    drop(tokens);
     let items = items.as_slice();
-    let sites = sites_of(alloc, items)?;
-    let leaves = leaves_of(alloc, text, &sites)?;
+    let leaves = {
+        let sites = sites_of(alloc, items)?;
+        leaves_of(alloc, text, &sites)?
+    };
     match tree_of(alloc, items, leaves) {
         Ok(schema) => Ok(schema),
         Err(_) => Err(Stopped::Memory),

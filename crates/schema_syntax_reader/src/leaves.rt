@@ -46,7 +46,7 @@ pub fn leaves_of<'a>(
     ensures lawful { OnOk result (All (NoSiteFault text.now) (map site_of sites.now)) }
     ensures fault { IfErr result (IsStopped text.now (map site_of sites.now)) }
 {
-    let mut leaves = VecDeque::new(alloc);
+    let mut leaves = VecDeque::with_capacity(alloc, sites.len())?;
     for site in sites {
         leaves.push_back(leaf_of(alloc, text, site)?)?;
     }

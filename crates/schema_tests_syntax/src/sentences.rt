@@ -84,8 +84,7 @@ fn has_one_declaration(alloc: Global, text: &str, start: usize, end: usize) -> b
     let Ok(items) = syntax_of(alloc, &tokens) else {
         return false;
     };
-    are_one_declaration(items.as_slice(), start, end)
-        && tree_of_tokens(alloc, text, &tokens).is_ok()
+    are_one_declaration(items.as_slice(), start, end) && tree_of_tokens(alloc, text, tokens).is_ok()
 }
 
 #[test]

@@ -142,7 +142,7 @@ fn is_named(alloc: Global, declaration: &Declaration<'_>, wanted: &str) -> bool 
                 .all(|path| is_path(alloc, path, wanted))
         }
         Declaration::Entity(_) => false,
-        Declaration::Action(action) => are_names(action.names(alloc), wanted),
+        Declaration::Action(action) => are_names(action.get().names(alloc), wanted),
         Declaration::Common(common) => are_names(common.names(alloc), wanted),
     }
 }

@@ -7,7 +7,7 @@ leaf_of-requires c = site_placed c.args.text.now c.args.sites.now c.loop-site.si
 
 pub returns-in_err-leaf_of-clause-fault : goal.returns-in_err-leaf_of-clause-fault
 returns-in_err-leaf_of-clause-fault c =
-    let p = err_from_is_err_and c.from_residual.result c.from_residual.ensures.1 in
+    let p = err_from_is_err_and c.from_residual-in_err-leaf_of.result c.from_residual-in_err-leaf_of.ensures.1 in
     rw (p.1, p.2) (site_stops c.args.text.now c.args.sites.now c.loop-site.site-index c.site-item.result c.in_err-leaf_of.field-0.0 c.loop-site-test.true c.site-item.is c.loop-site.invariant.1 c.in_err-leaf_of.ensures.fault)
 
 pub loop-site-preserved : goal.loop-site-preserved
