@@ -10,3 +10,4 @@ mod Seen
 mod Sorted
 mod Valued
 mod Warnings
+mod Apart

@@ -25,7 +25,7 @@ equal_from Less h = cc
 equal_from Equal h = refl
 equal_from Greater h = cc
 
-turned : (a : Ordering) → is_eq (ordering_reverse a) ≡ is_eq a
+pub turned : (a : Ordering) → is_eq (ordering_reverse a) ≡ is_eq a
 turned Less = refl
 turned Equal = refl
 turned Greater = refl

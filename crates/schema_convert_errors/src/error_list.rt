@@ -94,7 +94,8 @@ pub enum ToJsonSchemaFailure {
     Memory,
 }
 
-impl ToJsonSchemaFailure { /// What it says.
+impl ToJsonSchemaFailure {
+    /// What it says.
     pub fn text(&self, alloc: Global) -> Result<Text, AllocError>
         ensures text { IfOk result (λ text. text ≡ failure_text self.now) }
     {
@@ -151,7 +152,8 @@ pub enum CedarSchemaParseErrors {
     Memory,
 }
 
-impl CedarSchemaParseErrors { /// What it says.
+impl CedarSchemaParseErrors {
+    /// What it says.
     pub fn text(&self, alloc: Global) -> Result<Text, AllocError>
         ensures text { IfOk result (λ text. text ≡ text_failure_text self.now) }
     {

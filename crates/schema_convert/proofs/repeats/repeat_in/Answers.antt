@@ -4,7 +4,7 @@ use Rattle.std.specs.Cmp.{on_total}
 use Rattle.std.specs.Option.{option_map}
 use Rattle.schema_convert.specs.Repeats.{first_repeat, both_now}
 use Rattle.schema_convert.proofs.Seen.{Seen, begun, found, none, pushed, repeat_now}
-use Rattle.schema_convert.proofs.repeats.first_repeat.Goals as goal
+use Rattle.schema_convert.proofs.repeats.repeat_in.Goals as goal
 
 pub loop-item-init : goal.loop-item-init
 loop-item-init g c =
