@@ -1,8 +1,7 @@
 -- A fragment in order declares no name of a kind twice.
-use Rattle.std.proofs.Common.{◌≡◌, List, [], ◌∷◌, ◌++◌, map, Option, refl, sym, ap, ◌∙◌, subst, All, Contains}
+use Rattle.std.proofs.Common.{◌≡◌, List, [], ◌∷◌, ◌++◌, map, Option, refl, sym, ap, ◌∙◌, subst, Contains}
 use Rattle.std.specs.Cmp.{IsTotalOrder, on_total}
 use Rattle.std.specs.Cmp.Lexicographic.{options_total}
-use Rattle.std.specs.List.{flat_map}
 use Rattle.std.specs.List.Sorted.{IsStrictlySortedBy}
 use Rattle.std.specs.Map.{keys_of}
 use Rattle.std.specs.Option.{option_cmp}
@@ -21,7 +20,7 @@ use Rattle.schema_json.specs.declared.common_type.CommonTypeId.{CommonTypeId}
 use Rattle.schema_json.specs.declared.fragment.Fragment.{Fragment}
 use Rattle.schema_json.specs.declared.fragment.NamespaceDefinition.{NamespaceDefinition}
 use Rattle.schema_build_checks.specs.DeclaredAt.{ActionAt, actions_at_in_order}
-use Rattle.schema_build_scope.specs.Commons.{CommonAt, common_entry, declared_commons}
+use Rattle.schema_build_scope.specs.Commons.{TypeAt, common_entry, declared_commons}
 use Rattle.schema_build_hierarchy.specs.Declarations.{Declared, DeclaredEntity, declared_entities, declared_actions}
 use Rattle.schema_build_hierarchy.proofs.Exact.{names_exact, text_total}
 use Rattle.schema_build_hierarchy.proofs.Gathered.{contains_flat, last_same, path, full_path, place_tied, keyed_once, entities_once, actions_once}
@@ -40,14 +39,14 @@ module _ {G : named.Ghosts RawName} (f : Fragment RawName G) (order : IsInOrder 
       → Contains (declared_actions f) b → actions_at_in_order a.name b.name ≡ Equal → a ≡ b
   actions_are = actions_once f.0 places_total order.namespaces order.actions
 
-  abbrev commons_of : Option Name × NamespaceDefinition RawName G → List (InternalName × CommonAt)
+  abbrev commons_of : Option Name × NamespaceDefinition RawName G → List (InternalName × TypeAt)
   commons_of e = map (common_entry e.0) e.1.common_types
 
   entry_of : (a : InternalName) → Contains (keys_of (declared_commons f)) a
-      → (x : InternalName × CommonAt) × Contains (declared_commons f) x × (x.0 ≡ a)
-  entry_of a c = contains_unmap (λ (x : InternalName × CommonAt). x.0) (declared_commons f) a c
+      → (x : InternalName × TypeAt) × Contains (declared_commons f) x × (x.0 ≡ a)
+  entry_of a c = contains_unmap (λ (x : InternalName × TypeAt). x.0) (declared_commons f) a c
 
-  commons_once : (a b : InternalName × CommonAt) → Contains (declared_commons f) a → Contains (declared_commons f) b
+  commons_once : (a b : InternalName × TypeAt) → Contains (declared_commons f) a → Contains (declared_commons f) b
       → names_in_order a.0 b.0 ≡ Equal → a ≡ b
   commons_once a b ca cb h =
       let (e, ce, da) = contains_flat commons_of f.0 a ca in
@@ -55,8 +54,8 @@ module _ {G : named.Ghosts RawName} (f : Fragment RawName G) (order : IsInOrder 
       let (p, cp, pa) = contains_unmap (common_entry e.0) e.1.common_types a da in
       let (q, cq, qb) = contains_unmap (common_entry k.0) k.1.common_types b db in
       let same : components_of a.0 ≡ components_of b.0 = names_exact a.0 b.0 h in
-      let left : components_of a.0 ≡ path e.0 ++ p.0.id.id.text ∷ [] = ap (λ (x : InternalName × CommonAt). components_of x.0) (sym pa) ∙ full_path e.0 (record { first = p.0.id.id; others = []; loc = p.1.loc }) refl in
-      let right : components_of b.0 ≡ path k.0 ++ q.0.id.id.text ∷ [] = ap (λ (x : InternalName × CommonAt). components_of x.0) (sym qb) ∙ full_path k.0 (record { first = q.0.id.id; others = []; loc = q.1.loc }) refl in
+      let left : components_of a.0 ≡ path e.0 ++ p.0.id.id.text ∷ [] = ap (λ (x : InternalName × TypeAt). components_of x.0) (sym pa) ∙ full_path e.0 (record { first = p.0.id.id; others = []; loc = p.1.loc }) refl in
+      let right : components_of b.0 ≡ path k.0 ++ q.0.id.id.text ∷ [] = ap (λ (x : InternalName × TypeAt). components_of x.0) (sym qb) ∙ full_path k.0 (record { first = q.0.id.id; others = []; loc = q.1.loc }) refl in
       let both = last_same (path e.0) (path k.0) p.0.id.id.text q.0.id.id.text (sym left ∙ same ∙ right) in
       let ek : e ≡ k = keyed_once places_total f.0 order.namespaces e k ce ck (place_tied e.0 k.0 both.0) in
       let cp' : Contains k.1.common_types p = subst (λ z. Contains z.1.common_types p) ek cp in
@@ -72,4 +71,4 @@ module _ {G : named.Ghosts RawName} (f : Fragment RawName G) (order : IsInOrder 
       let (x, cx, xa) = entry_of a ca in
       let (y, cy, yb) = entry_of b cb in
       let tied : names_in_order x.0 y.0 ≡ Equal = (λ i. names_in_order (xa i) (yb i)) ∙ h in
-      sym xa ∙ ap (λ (z : InternalName × CommonAt). z.0) (commons_once x y cx cy tied) ∙ yb
+      sym xa ∙ ap (λ (z : InternalName × TypeAt). z.0) (commons_once x y cx cy tied) ∙ yb

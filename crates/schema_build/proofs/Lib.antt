@@ -8,3 +8,6 @@ mod Meanings
 mod Schemas
 mod OneFault
 mod DeclaredOnce
+mod Basenames
+mod Least
+mod Misnamed

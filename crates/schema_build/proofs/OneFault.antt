@@ -1,5 +1,5 @@
 -- What is told of the fault of a fragment is one.
-use Rattle.std.proofs.Common.{◌≡◌, ℕ, Bool, true, false, List, [], ◌∷◌, ◌++◌, map, Option, Some, None, Ordering, refl, sym, ap, ◌∙◌, subst, inl, inr, arith, All, Contains}
+use Rattle.std.proofs.Common.{◌≡◌, ℕ, Bool, true, false, List, [], ◌∷◌, ◌++◌, map, Option, Some, None, Ordering, refl, sym, ap, ◌∙◌, subst, inl, inr, All, Contains}
 use Rattle.std.specs.Prelude.{codes}
 use Rattle.std.specs.Str.{chars}
 use Rattle.std.specs.declared.cmp.Ordering.TheVariants.{Less, Equal, Greater}
@@ -18,7 +18,6 @@ use Rattle.cedar_identifiers.specs.declared.name.Name.{Name}
 use Rattle.cedar_identifiers.specs.declared.name_text.NameText as named
 use Rattle.cedar_identifiers.specs.declared.raw_name.RawName.{RawName}
 use Rattle.cedar_names.specs.Orders.{names_in_order, names_total, ids_of}
-use Rattle.cedar_names.specs.declared.entity_uid.EntityUID.{EntityUID}
 use Rattle.cedar_names.specs.declared.extension_table.ExtensionTable.{ExtensionTable}
 use Rattle.schema_syntax_tokens.specs.Quotes.{quoted}
 use Rattle.schema_json.specs.Actions.{action_name, action_uid_text}
@@ -27,15 +26,13 @@ use Rattle.schema_json.specs.declared.action_type.ActionType.{ActionType}
 use Rattle.schema_json.specs.declared.fragment.Fragment.{Fragment}
 use Rattle.schema_json_walk.specs.Walk.{of_fragment}
 use Rattle.schema_resolve.specs.Gathered.{uids}
-use Rattle.schema_resolve.specs.Undefined.{Undefined, types_among, actions_among}
+use Rattle.schema_resolve.specs.Undefined.{Undefined}
 use Rattle.schema_resolve_definitions.specs.Defined.{defined}
 use Rattle.schema_resolve_definitions.specs.Tests.{Tests, tests_of}
 use Rattle.schema_resolve_errors.specs.ErrorTexts.{label_at, name_labels, type_texts, type_labels, action_texts, action_labels, unresolved_text, undeclared_text, written_components}
 use Rattle.schema_resolve_errors.specs.Gathered.{if_there}
-use Rattle.schema_build_errors.specs.CycleTexts.{common_cycle_text}
-use Rattle.schema_build_errors.specs.DeclaredTexts.{hidden_text, type_shadowing_help}
+use Rattle.schema_build_errors.specs.DeclaredTexts.{hidden_text}
 use Rattle.schema_build_errors.specs.HierarchyTexts.{ancestor_message}
-use Rattle.schema_build_errors.specs.SchemaErrorTexts.{schema_error_text, schema_error_help, schema_error_labels}
 use Rattle.schema_build_errors.specs.UseTexts.{declared_texts, undeclared_labels}
 use Rattle.schema_build_errors.specs.declared.schema_error.SchemaError.{SchemaError}
 use Rattle.schema_build_errors.specs.declared.schema_error.SchemaError.TheVariants as error
@@ -45,7 +42,6 @@ use Rattle.schema_build_checks.specs.DeclaredAt.{ActionAt, at_of, actions_at_in_
 use Rattle.schema_build_checks.specs.DeclaredTwice.{IsBasenameOf, ActionTypeDeclared, TypeHides, ActionHides}
 use Rattle.schema_build_checks.specs.Least.{IsFirstLeast}
 use Rattle.schema_build_checks.specs.Refusing.{IsAboutFirst}
-use Rattle.schema_build_checks.specs.Rows.{Never}
 use Rattle.schema_build_checks.specs.WalkFaults.{unknown_extension, unsupported, NamesExtension, NamesFeature}
 use Rattle.schema_build_scope.specs.Commons.{declared_commons}
 use Rattle.schema_build_scope.specs.CycleRow.{HasCommonCycle}
@@ -53,12 +49,12 @@ use Rattle.schema_build_scope.specs.FragmentScope.{fragment_scope}
 use Rattle.schema_build_scope.specs.Rows.{OrElse}
 use Rattle.schema_build_scope.specs.UndefinedRows.{undefined_alone, NamesTypes, NamesActions}
 use Rattle.schema_build_hierarchy.specs.Declarations.{Declared, DeclaredEntity, entity_name, declared_entities, declared_actions}
-use Rattle.schema_build_hierarchy.specs.FirstUses.{IsFirstUse, HasAlike, AreFirstUses}
+use Rattle.schema_build_hierarchy.specs.FirstUses.{IsFirstUse, AreFirstUses}
 use Rattle.schema_build_hierarchy.specs.Rows.{IsLeastAmong, HasUndeclaredEntityTypes, HasActionCycle, HasExternalUnderEnum, IsEnumAbove}
 use Rattle.schema_build_hierarchy.proofs.Exact.{actions_total}
 use Rattle.schema_build_hierarchy.proofs.Gathered.{last_same}
 use Rattle.schema_build_hierarchy.proofs.KnownByMembers.{same_rising}
-use Rattle.schema_build_items.specs.NoRecord.{IsLeastShape, IsLeastContext, HasNoRecordShape, HasNoRecordContext, HasNoRecord}
+use Rattle.schema_build_items.specs.NoRecord.{IsLeastShape, IsLeastContext, HasNoRecordShape, HasNoRecordContext}
 use Rattle.schema_build_parts.specs.BuildFaults.{BuildFault}
 use Rattle.schema_build.specs.FaultsTold.{AreToldAlike}
 

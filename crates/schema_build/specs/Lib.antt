@@ -1,4 +1,7 @@
-pub mod Meaning
 pub mod Assembly
-pub mod Schemas
 pub mod FaultsTold
+pub mod Meaning
+pub mod Parts
+pub mod Schemas
+pub mod TextErrorTexts
+pub mod Texts

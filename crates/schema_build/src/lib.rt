@@ -2,11 +2,16 @@
 #![tactic(auto)]
 
 mod assembly;
+pub mod from_text;
 pub mod laws;
+mod parts;
 pub mod schema;
+pub mod text_errors;
 
+pub use from_text::FromCedarSchema;
 pub use laws::{one_build_fault, one_fragment_meaning};
 pub use schema::ValidatorSchema;
 pub use schema_build_errors::{
     CapturedItem, RecoveryError, ReferenceCaptured, SchemaError, ToTextError,
 };
+pub use text_errors::{CedarSchemaError, CedarSchemaParseError};

@@ -1,4 +1,4 @@
-ghost use Rattle.std.specs.Prelude.{◌≡◌, ◌+◌, ◌-◌, ◌*◌, ◌^◌, ◌≤◌, length, [], IfOk, IfErr, OnOk};
+ghost use Rattle.std.specs.Prelude.{◌≡◌, ◌↔◌, true, ◌+◌, ◌-◌, ◌*◌, ◌^◌, ◌≤◌, length, [], IfOk, IfErr, OnOk};
 ghost use Rattle.std.specs.BTreeMap.{is_at};
 ghost use Rattle.std.specs.Map.{lookup};
 ghost use Rattle.std.specs.Option.{option_copied};
@@ -9,13 +9,19 @@ ghost use Rattle.cedar_names.specs.Orders.{names_in_order, uids_in_order};
 ghost use Rattle.schema_build_checks.specs.Rows.{Never, OrMemory};
 ghost use Rattle.schema_build_parts.specs.BuildFaults.{BuildFault};
 ghost use Rattle.schema_build_text.specs.Captured.{IsUncaptured, IsTextRefusal};
+ghost use Rattle.schema_build_types.specs.Content.{content};
+ghost use Rattle.schema_build.specs.Parts.{IsMisnamed, IsEnumBelow, NoneIs, PartsFault};
 ghost use Rattle.schema_build.specs.Schemas.{StandsFor, Builds};
 
 use crate::assembly::{actions, entity_types};
-use cedar_data::Text;
+use crate::parts::{first_enum_below, first_misnamed};
+use cedar_data::{CloneIn, Map, Text};
 use cedar_identifiers::{Name, RawName};
 use cedar_names::{EntityUID, ExtensionTable, Steps};
-use schema_build_errors::{SchemaError, ToTextError};
+use schema_build_equal::same_content;
+use schema_build_errors::{
+    EnumEntityInHierarchyError, InvalidActionTypeError, SchemaError, ToTextError,
+};
 use schema_build_parts::{FragmentParts, fragment_parts};
 use schema_build_scope::laws::common_types_are_declared_once;
 use schema_build_text::uncaptured_schema_text;
@@ -89,6 +95,37 @@ impl ValidatorSchema {
         })
     }
 
+    /// The schema of these entity types and actions, as they stand. Refused are an action whose type has another basename than
+    /// `Action`, the least of them as `InvalidActionType`, and else an enumerated entity type that lists an ancestor, the least
+    /// of them with the least of its ancestors as `EnumEntityInHierarchy`.
+    pub fn from_parts(
+        alloc: Global,
+        entity_types: Map<Name, ValidatorEntityType>,
+        actions: Map<EntityUID, ValidatorActionId>,
+    ) -> Result<ValidatorSchema, SchemaError>
+        ensures parts { IfOk result (λ s. s ≡ record { entity_types = entity_types; actions = actions }) }
+        ensures lawful { OnOk result (NoneIs IsMisnamed actions × NoneIs (λ e. IsEnumBelow e.1) entity_types) }
+        ensures fault { IfErr result (OrMemory (PartsFault entity_types actions)) }
+    {
+        if let Some(uid) = first_misnamed(actions.as_slice()) {
+            let uid = uid.clone_in(alloc)?;
+            return Err(SchemaError::InvalidActionType(InvalidActionTypeError { uid }));
+        }
+        if let Some((child, parent)) = first_enum_below(entity_types.as_slice()) {
+            let enum_type = child.clone_in(alloc)?;
+            let parent_type = parent.clone_in(alloc)?;
+            let error = EnumEntityInHierarchyError {
+                enum_type,
+                parent_type,
+            };
+            return Err(SchemaError::EnumEntityInHierarchy(error));
+        }
+        Ok(ValidatorSchema {
+            entity_types: entity_types.into_vec(),
+            actions: actions.into_vec(),
+        })
+    }
+
     /// The entity types, in the order of their names.
     pub fn entity_types(&self) -> &[(Name, ValidatorEntityType)]
         ensures { result.now ≡ self.now.entity_types }
@@ -127,6 +164,13 @@ impl ValidatorSchema {
         ensures cost { 2 ^ (steps.new - steps.old) ≤ 2 * length self.now.actions + 1 }
     {
         get_counted(self.actions.as_slice(), uid, steps)
+    }
+
+    /// Whether the two schemas say the same, wherever their names were written. It takes no memory.
+    pub fn meaning_eq(a: &ValidatorSchema, b: &ValidatorSchema) -> bool
+        ensures same { result ≡ true ↔ content a.now.entity_types a.now.actions ≡ content b.now.entity_types b.now.actions }
+    {
+        same_content(&a.entity_types, &a.actions, &b.entity_types, &b.actions)
     }
 
     /// The canonical text of what the schema stands for: `Captured` where an item has a type that would be read otherwise

@@ -7,3 +7,4 @@ mod Made
 mod Once
 mod Ranked
 mod Walked
+mod Used

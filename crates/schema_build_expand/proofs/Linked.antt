@@ -1,5 +1,5 @@
 -- The graph of ranks and what refers to what.
-use Rattle.std.proofs.Common.{◌≡◌, ℕ, ◌+◌, ◌<◌, List, [], ◌∷◌, ◌++◌, length, get_or, take, refl, sym, ap, ◌∙◌, subst, arith, Contains, Vec, Option, Some, None, inl, inr, Result, Ok, Err}
+use Rattle.std.proofs.Common.{◌≡◌, ℕ, ◌+◌, ◌<◌, List, [], ◌∷◌, ◌++◌, length, get_or, take, refl, sym, ap, ◌∙◌, subst, arith, All, Contains, Vec, Option, Some, None, inl, inr, Result, Ok, Err}
 use Rattle.std.specs.Prelude.{slice_get, IfErr}
 use Rattle.std.specs.Result.{IsErrAnd}
 use Rattle.std.specs.Borrow.{Bor}
@@ -12,7 +12,7 @@ use Rattle.std.proofs.lemmas.Option.{slice_get_within, get_or_from_slice_get, sl
 use Rattle.std.proofs.lemmas.Bool.{cases_lt}
 use Rattle.cedar_identifiers.specs.declared.internal_name.InternalName.{InternalName}
 use Rattle.schema_json.specs.declared.types.Type.{«Type»}
-use Rattle.schema_build_graph.specs.Order.{IsOrder, IsLeastFault, NoneCyclic}
+use Rattle.schema_build_graph.specs.Order.{StandBehind, IsLeastFault, NoneCyclic}
 use Rattle.schema_build_graph.specs.declared.order_fault.OrderFault.{OrderFault}
 use Rattle.schema_build_graph.specs.declared.order_fault.OrderFault.TheVariants.{Cycle, Memory}
 use Rattle.schema_build_graph.specs.Paths.{Leads, Reaches}
@@ -66,6 +66,28 @@ edge_below : (graph : List (Vec ℕ Global)) (x y : ℕ) (row : Option (Vec ℕ 
 edge_below graph x y None e c = absurd (let lt : c.0 < 0 = c.1 in omega arith)
 edge_below graph x y (Some row) e c = slice_get_within graph x row e
 
+pub ranked_below : {N : Type 0} (s : Scope N) (full : List (List ℕ)) (k : ℕ) → IsRanked s full k → k < length s.commons
+ranked_below s full k ranked = slice_get_within s.commons k ranked.0 ranked.1
+
+module _ {N : Type 0} (s : Scope N) (ns : Option InternalName) (ps : List (Part N)) (before : List ℕ)
+    (grow : (k : ℕ) → RefersTo s ns ps k → Contains before k) where
+  -- the ranks that the part means are before
+  part_behind : (p : Part N) → Contains ps p → IsMeant s ns p → IsBehind s before ns p
+  part_behind (type_reference kind name) c m = (m, λ full k meant ranked. grow k (kind, name, c, (full, meant, ranked)))
+  part_behind (extension_type name) c m = m
+  part_behind (context_reference name) c m = m
+  part_behind (parent name) c m = m
+  part_behind (principal name) c m = m
+  part_behind (resource name) c m = m
+  part_behind (action_parent id ty) c m = m
+  part_behind open_record c m = m
+  part_behind (action_attributes names) c m = m
+  part_behind external_not_bare c m = m
+
+  pub parts_behind : All (IsMeant s ns) ps → All (IsBehind s before ns) ps
+  parts_behind meant k d h =
+      part_behind (get_or ps k d) (k, h, sym (get_or_default ps k d (get_or ps k d) h)) (meant k d h)
+
 module _ {N R : Type 0} (s : Scope N) (place : R → Option InternalName) (commons : List (R × Bor («Type» N)))
     (rows : List (Vec ℕ Global)) (are : AreMeantRows s place commons rows) where
   ranks_at : (a : ℕ) (c : R × Bor («Type» N)) → slice_get commons a ≡ Some c
@@ -75,9 +97,6 @@ module _ {N R : Type 0} (s : Scope N) (place : R → Option InternalName) (commo
       subst (AreMeantRanks s (place c.0) (parts c.1.now))
       (sym (ap (λ o. option_map_or (λ (v : Vec ℕ Global). v.items) o []) r.1)) (are.each a r.0 r.1 c at)
 
-  ranked_below : (full : List (List ℕ)) (k : ℕ) → IsRanked s full k → k < length s.commons
-  ranked_below full k ranked = slice_get_within s.commons k ranked.0 ranked.1
-
   pub in_range : length s.commons ≡ length commons → InRange (length rows) rows
   in_range count k d h =
       let row = get_or rows k d in
@@ -85,33 +104,15 @@ module _ {N R : Type 0} (s : Scope N) (place : R → Option InternalName) (commo
       let ranks =
       are.each k row (slice_get_read rows (length rows) k row refl h (get_or_default rows k d row h)) c.0 c.1 in
       All-weaker (RefersTo s (place c.0.0) (parts c.0.1.now)) (λ v. v < length rows)
-      (λ v r. omega (arith, ranked_below r.3.0 v r.3.2, count, are.same)) row.items ranks.sound
+      (λ v r. omega (arith, ranked_below s r.3.0 v r.3.2, count, are.same)) row.items ranks.sound
 
-  -- the part is among those whose ranks are before
-  part_behind : (ns : Option InternalName) (ps : List (Part N)) (before : List ℕ)
-      → ((k : ℕ) → RefersTo s ns ps k → Contains before k) → (p : Part N) → Contains ps p → IsMeant s ns p
-      → IsBehind s before ns p
-  part_behind ns ps before grow (type_reference kind name) c m =
-      (m, λ full k meant ranked. grow k (kind, name, c, (full, meant, ranked)))
-  part_behind ns ps before grow (extension_type name) c m = m
-  part_behind ns ps before grow (context_reference name) c m = m
-  part_behind ns ps before grow (parent name) c m = m
-  part_behind ns ps before grow (principal name) c m = m
-  part_behind ns ps before grow (resource name) c m = m
-  part_behind ns ps before grow (action_parent id ty) c m = m
-  part_behind ns ps before grow open_record c m = m
-  part_behind ns ps before grow (action_attributes names) c m = m
-  part_behind ns ps before grow external_not_bare c m = m
-
-  pub behind : (order : List ℕ) → IsOrder rows order → AreMeant s place commons → AreBehind s place commons order
-  behind order o meant i c lt at k d h =
+  pub behind : (order : List ℕ) → StandBehind rows order → AreMeant s place commons → AreBehind s place commons order
+  behind order stand meant i c lt at =
       let v = get_or order i 0 in
-      let ps = parts c.1.now in
       let ranks = ranks_at v c at in
-      let inside : Contains ps (get_or ps k d) = (k, h, sym (get_or_default ps k d (get_or ps k d) h)) in
-      part_behind (place c.0) ps (take i order)
-      (λ j r. All-contains (Contains (take i order)) (targets_of rows v) j (o.behind i lt) (ranks.whole j r))
-      (get_or ps k d) inside (meant v c at k d h)
+      parts_behind s (place c.0) (parts c.1.now) (take i order)
+      (λ j r. All-contains (Contains (take i order)) (targets_of rows v) j (stand i lt) (ranks.whole j r))
+      (meant v c at)
 
   edge_refers : (a b : ℕ) → HasEdge rows a b → RefersBy s place commons a b
   edge_refers a b e =

@@ -6,3 +6,4 @@ pub mod Commons
 pub mod Ranks
 pub mod Finding
 pub mod Rows
+pub mod Uses

@@ -10,5 +10,6 @@ mod Turns
 mod Closed
 mod Ends
 mod Closures
+mod Fronts
 mod Least
 mod Own

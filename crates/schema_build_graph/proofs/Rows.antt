@@ -16,6 +16,13 @@ pub written : {X : Type 0} (old new : List X) (n : ℕ) → length new ≡ lengt
 written old new n e h = ap (λ r. take n (new ++ r)) (drop_all (length new) old (omega arith))
     ∙ ap (take n) (append-nil new) ∙ take_all n new (omega arith)
 
+-- a list that is written whole twice
+pub written_twice : {X : Type 0} (old first second : List X) (n : ℕ) → length first ≡ length old
+    → length second ≡ length first → length old ≤ n
+    → take n (second ++ drop (length second) (take n (first ++ drop (length first) old))) ≡ second
+written_twice old first second n e f h = ap (λ xs. take n (second ++ drop (length second) xs))
+    (written old first n e h) ∙ written first second n f (omega arith)
+
 pub each_push : {X : Type 0} (P : ℕ → X → Type 0) (xs ys : List X) (x : X) (n : ℕ) → length xs ≡ n
     → ys ≡ xs ++ x ∷ [] → ((k : ℕ) (y : X) → slice_get xs k ≡ Some y → P k y) → P n x
     → (k : ℕ) (y : X) → slice_get ys k ≡ Some y → P k y

@@ -37,10 +37,11 @@ use Rattle.schema_build_checks.specs.DeclaredAt.{ActionAt, actions_at_in_order}
 use Rattle.schema_build_checks.specs.Rows.{Never}
 use Rattle.schema_build_checks.specs.WalkFaults.{unsupported, HasUnsupported}
 use Rattle.schema_build_scope.specs.FragmentScope.{by_components, meant_in}
-use Rattle.schema_build_scope.specs.Parts.{IsAllKnown, AreTypesMeant}
+use Rattle.schema_build_types.specs.declared.types.Type.{«Type» as Built}
+use Rattle.schema_build_scope.specs.Parts.{IsAllKnown, AreTypesReady}
 use Rattle.schema_build_scope.specs.UndefinedRows.{NamesTypes, undefined_alone}
 use Rattle.schema_build_hierarchy.specs.Declarations.{Declared, declared_actions, actions_of, action_in}
-use Rattle.schema_build_items.specs.ActionKinds.{IsApplyMeant, AreEntitiesMeant}
+use Rattle.schema_build_items.specs.ActionKinds.{IsApplyMeant, IsApplyReady, AreEntitiesMeant}
 use Rattle.schema_build_items.proofs.Fragments.{none_first, bare_if}
 use Rattle.schema_build_items.proofs.Lists.{contains_flat, contains_unmap, empty_before, empty_behind}
 
@@ -128,7 +129,7 @@ module _ {G : named.Ghosts RawName} (f : Fragment RawName G) where
       let (e, among, is) = contains_unmap (action_in at.0) at.1.actions d here in
       (at.0, at.1, e, there, among, is)
 
-  module _ (table : ExtensionTable) (known : IsAllKnown f table) (meant : AreTypesMeant f table) where
+  module _ (table : ExtensionTable) (known : IsAllKnown f table) where
     abbrev find_types : Option Name → Part RawName → List Undefined
     find_types ns = by_reference (untargeted_in (tests_of (defined f table)) (name_of ns))
 
@@ -151,15 +152,29 @@ module _ {G : named.Ghosts RawName} (f : Fragment RawName G) where
         let behind = types_parted.right principals (resources ++ context) q in (
           names_meant ns d.principal_types (types_parted.left principals (resources ++ context) q),
           names_meant ns d.resource_types (types_parted.left resources context behind),
-          meant.contexts ns n e d in_f in_n is,
         )
 
-    -- each name and each part of the context is meant
+    -- each principal and each resource is meant
     pub action_meant : (d : Declared ActionAt (ActionType RawName G)) → Contains (declared_actions f) d
         → IsApplyMeant f table d.ns d.ty.applies_to
     action_meant d c =
         let (ns, n, e, in_f, in_n, is) = stands_in d c in
         subst (λ d. IsApplyMeant f table d.ns d.ty.applies_to) is (apply_meant ns n e in_f in_n e.1.applies_to refl)
+
+  module _ (table : ExtensionTable) (done : List (Option Built)) (ready : AreTypesReady f table done) where
+    apply_ready : (ns : Option Name) (n : NamespaceDefinition RawName G) (e : List ℕ × ActionType RawName G)
+        → Contains f.0 (ns, n) → Contains n.actions e → (o : Option (ApplySpec RawName)) → e.1.applies_to ≡ o
+        → IsApplyReady f table done ns o
+    apply_ready ns n e in_f in_n None is = tt
+    apply_ready ns n e in_f in_n (Some d) is = ready.contexts ns n e d in_f in_n is
+
+    -- each part of the context can be expanded
+    pub action_ready : (d : Declared ActionAt (ActionType RawName G)) → Contains (declared_actions f) d
+        → IsApplyReady f table done d.ns d.ty.applies_to
+    action_ready d c =
+        let (ns, n, e, in_f, in_n, is) = stands_in d c in
+        subst (λ d. IsApplyReady f table done d.ns d.ty.applies_to) is
+        (apply_ready ns n e in_f in_n e.1.applies_to refl)
 
   -- an external action is bare where no feature is refused
   pub external_bare : Never (HasUnsupported f) → (d : Declared ActionAt (ActionType RawName G)) → Contains (declared_actions f) d

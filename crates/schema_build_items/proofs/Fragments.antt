@@ -19,9 +19,10 @@ use Rattle.schema_build_errors.specs.declared.use_errors.UnsupportedFeature.{Uns
 use Rattle.schema_build_checks.specs.Refusing.{IsAboutFirst}
 use Rattle.schema_build_checks.specs.Rows.{Never}
 use Rattle.schema_build_checks.specs.WalkFaults.{unsupported, NamesFeature, HasUnsupported}
-use Rattle.schema_build_scope.specs.Parts.{AreTypesMeant}
+use Rattle.schema_build_types.specs.declared.types.Type.{«Type» as Built}
+use Rattle.schema_build_scope.specs.Parts.{AreTypesReady}
 use Rattle.schema_build_hierarchy.specs.Declarations.{DeclaredEntity, declared_entities, entities_of, entity_in}
-use Rattle.schema_build_items.specs.Kinds.{IsKindMeant, AreTagsMeant}
+use Rattle.schema_build_items.specs.Kinds.{IsKindReady, AreTagsReady}
 use Rattle.schema_build_items.proofs.Lists.{contains_flat, contains_unmap, empty_in, empty_before, empty_behind}
 
 -- a row on the first of a list does not hold where there is none
@@ -48,22 +49,22 @@ module _ {G : named.Ghosts RawName} (f : Fragment RawName G) where
       let (e, among, is) = contains_unmap (entity_in at.0) at.1.entity_types d here in
       (at.0, at.1, e, there, among, is)
 
-  module _ (table : ExtensionTable) (meant : AreTypesMeant f table) where
-    kind_meant : (ns : Option Name) (n : NamespaceDefinition RawName G) (e : UnreservedId × EntityType RawName)
+  module _ (table : ExtensionTable) (done : List (Option Built)) (ready : AreTypesReady f table done) where
+    kind_ready : (ns : Option Name) (n : NamespaceDefinition RawName G) (e : UnreservedId × EntityType RawName)
         → Contains f.0 (ns, n) → Contains n.entity_types e → (kind : EntityTypeKind RawName) → e.1.kind ≡ kind
-        → IsKindMeant f table ns kind
-    kind_meant ns n e in_f in_n (Standard s) is = (meant.shapes ns n e s in_f in_n is, tags_meant s.tags refl)
+        → IsKindReady f table done ns kind
+    kind_ready ns n e in_f in_n (Standard s) is = (ready.shapes ns n e s in_f in_n is, tags_ready s.tags refl)
       where
-        tags_meant : (tags : Option («Type» RawName)) → s.tags ≡ tags → AreTagsMeant f table ns tags
-        tags_meant None there = tt
-        tags_meant (Some ty) there = meant.tags ns n e s ty in_f in_n is there
-    kind_meant ns n e in_f in_n (Enum choices) is = tt
+        tags_ready : (tags : Option («Type» RawName)) → s.tags ≡ tags → AreTagsReady f table done ns tags
+        tags_ready None there = tt
+        tags_ready (Some ty) there = ready.tags ns n e s ty in_f in_n is there
+    kind_ready ns n e in_f in_n (Enum choices) is = tt
 
-    -- each part of what is declared of an entity type is meant
-    pub entity_meant : (d : DeclaredEntity) → Contains (declared_entities f) d → IsKindMeant f table d.ns d.ty.kind
-    entity_meant d c =
+    -- each part of what is declared of an entity type can be expanded
+    pub entity_ready : (d : DeclaredEntity) → Contains (declared_entities f) d → IsKindReady f table done d.ns d.ty.kind
+    entity_ready d c =
         let (ns, n, e, in_f, in_n, is) = stands_in d c in
-        subst (λ d. IsKindMeant f table d.ns d.ty.kind) is (kind_meant ns n e in_f in_n e.1.kind refl)
+        subst (λ d. IsKindReady f table done d.ns d.ty.kind) is (kind_ready ns n e in_f in_n e.1.kind refl)
 
   -- an external entity type is bare where no feature is refused
   pub external_bare : Never (HasUnsupported f) → (d : DeclaredEntity) → Contains (declared_entities f) d

@@ -19,12 +19,13 @@ use Rattle.schema_resolve_definitions.specs.Defined.{defined}
 use Rattle.schema_resolve_definitions.specs.Tests.{Tests, tests_of}
 use Rattle.schema_build_types.specs.declared.action.ValidatorActionKind.{ValidatorActionKind}
 use Rattle.schema_build_types.specs.declared.action.ValidatorActionKind.TheVariants as built
+use Rattle.schema_build_types.specs.declared.types.Type.{«Type» as Built}
 use Rattle.schema_build_types.specs.Standing.{IsBuilt}
 use Rattle.schema_build_checks.specs.DeclaredAt.{ActionAt}
 use Rattle.schema_build_expand.specs.Expands.{Expands}
 use Rattle.schema_build_expand.specs.Scope.{Scope}
 use Rattle.schema_build_scope.specs.FragmentScope.{fragment_scope}
-use Rattle.schema_build_scope.specs.Parts.{IsTypeMeant}
+use Rattle.schema_build_scope.specs.Parts.{IsTypeReady}
 use Rattle.schema_build_hierarchy.specs.Declarations.{Declared}
 use Rattle.schema_build_hierarchy.specs.Parents.{target_in}
 
@@ -90,8 +91,14 @@ module _ {G : named.Ghosts RawName} where
   abbrev pub AreEntitiesMeant : Fragment RawName G → ExtensionTable → Option Name → List RawName → Type 0
   AreEntitiesMeant f table ns = All (λ name. IsSome ((fragment_scope f table).means (name_of ns) Entity name))
 
-  -- each principal and each resource means an entity type, and each part of the context is meant
+  -- each principal and each resource means an entity type
   abbrev pub IsApplyMeant : Fragment RawName G → ExtensionTable → Option Name → Option (ApplySpec RawName) → Type 0
   IsApplyMeant f table ns None = Unit {0}
   IsApplyMeant f table ns (Some d) = AreEntitiesMeant f table ns d.principal_types
-      × AreEntitiesMeant f table ns d.resource_types × IsTypeMeant f table ns d.context.0
+      × AreEntitiesMeant f table ns d.resource_types
+
+  -- each part of the context can be expanded
+  abbrev pub IsApplyReady : Fragment RawName G → ExtensionTable → List (Option Built) → Option Name
+      → Option (ApplySpec RawName) → Type 0
+  IsApplyReady f table done ns None = Unit {0}
+  IsApplyReady f table done ns (Some d) = IsTypeReady f table done ns d.context.0

@@ -17,7 +17,7 @@ use Rattle.schema_build_types.specs.declared.entity_type.ValidatorEntityTypeKind
 use Rattle.schema_build_types.specs.Standing.{IsBuilt, AreBuilt}
 use Rattle.schema_build_expand.specs.Expands.{Expands}
 use Rattle.schema_build_expand.specs.Scope.{Scope}
-use Rattle.schema_build_scope.specs.Parts.{IsTypeMeant}
+use Rattle.schema_build_scope.specs.Parts.{IsTypeReady}
 use Rattle.schema_build_hierarchy.specs.Declarations.{DeclaredEntity}
 
 -- the attributes, the tags and the choices of an entity type
@@ -60,15 +60,18 @@ IsKindBuilt s d kind =
     (m : KindMeaning) × IsKindMeaning s (name_of d.ns) d.ty.kind m × KindStandsFor kind d.ty.external m
 
 module _ {G : named.Ghosts RawName} where
-  -- each part of the type of tags is meant, where there are tags
-  abbrev pub AreTagsMeant : Fragment RawName G → ExtensionTable → Option Name → Option («Type» RawName) → Type 0
-  AreTagsMeant f table ns None = Unit {0}
-  AreTagsMeant f table ns (Some ty) = IsTypeMeant f table ns ty
+  -- each part of the type of tags can be expanded, where there are tags
+  abbrev pub AreTagsReady : Fragment RawName G → ExtensionTable → List (Option Built) → Option Name
+      → Option («Type» RawName) → Type 0
+  AreTagsReady f table done ns None = Unit {0}
+  AreTagsReady f table done ns (Some ty) = IsTypeReady f table done ns ty
 
-  -- each part of the shape and of the type of tags is meant
-  abbrev pub IsKindMeant : Fragment RawName G → ExtensionTable → Option Name → EntityTypeKind RawName → Type 0
-  IsKindMeant f table ns (written.Standard d) = IsTypeMeant f table ns d.shape.0 × AreTagsMeant f table ns d.tags
-  IsKindMeant f table ns (written.Enum choices) = Unit {0}
+  -- each part of the shape and of the type of tags can be expanded
+  abbrev pub IsKindReady : Fragment RawName G → ExtensionTable → List (Option Built) → Option Name
+      → EntityTypeKind RawName → Type 0
+  IsKindReady f table done ns (written.Standard d) = IsTypeReady f table done ns d.shape.0
+      × AreTagsReady f table done ns d.tags
+  IsKindReady f table done ns (written.Enum choices) = Unit {0}
 
 -- what is built for the type of tags, where there are tags
 abbrev pub TagsBuilt : Scope RawName → Option InternalName → Option («Type» RawName) → Option Built → Type 0

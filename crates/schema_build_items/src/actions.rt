@@ -1,15 +1,14 @@
-ghost use Rattle.std.specs.Prelude.{◌≡◌, ◌<◌, ℕ, true, map, length, Some, IfOk, IfErr, OnOk, IfSome, IfNone};
+ghost use Rattle.std.specs.Prelude.{◌≡◌, true, map, Some, IfOk, IfErr, OnOk, IfSome, IfNone};
 ghost use Rattle.std.specs.List.{AllZip};
 ghost use Rattle.schema_json_walk.specs.Bare.{is_bare_action};
 ghost use Rattle.schema_resolve_definitions.specs.Declarations.{name_of};
 ghost use Rattle.schema_build_checks.specs.Rows.{OrMemory};
-ghost use Rattle.schema_build_expand.specs.Commons.{IsDone};
 ghost use Rattle.schema_build_expand.specs.Targets.{AreExpanded};
 ghost use Rattle.schema_build_scope.specs.FragmentScope.{fragment_scope};
-ghost use Rattle.schema_build_scope.specs.Parts.{IsAllKnown};
+ghost use Rattle.schema_build_scope.specs.Parts.{IsAllKnown, AreTypesReady};
 ghost use Rattle.schema_build_hierarchy.specs.Declarations.{declared_actions};
 ghost use Rattle.schema_build_hierarchy.specs.Entries.{AreActions, action_of_entry};
-ghost use Rattle.schema_build_items.specs.ActionKinds.{IsActionKindBuilt, IsApplyBuilt, IsApplyMeant, tests_alone};
+ghost use Rattle.schema_build_items.specs.ActionKinds.{IsActionKindBuilt, IsApplyBuilt, IsApplyMeant, IsApplyReady, tests_alone};
 ghost use Rattle.schema_build_items.specs.NoRecord.{LacksContext, AreContextsRecords, HasNoRecordContext, IsNoRecord, IsContextError};
 
 use crate::meant::entities_meant;
@@ -19,7 +18,7 @@ use cedar_names::EntityUID;
 use schema_build_errors::{ContextOrShape, ContextOrShapeNotRecordError, SchemaError};
 use schema_build_expand::laws::types_stand_for_one;
 use schema_build_hierarchy::ActionEntry;
-use schema_build_scope::laws::{common_types_are_declared_once, types_are_meant};
+use schema_build_scope::laws::common_types_are_declared_once;
 use schema_build_scope::{FragmentNames, expand_in};
 use schema_build_types::{Type as BuiltType, ValidatorActionKind};
 use schema_json::ApplySpec;
@@ -36,12 +35,11 @@ pub fn action_kinds(
     requires known { IsAllKnown names.now.fragment names.now.table }
     requires entries { AreActions (declared_actions names.now.fragment) entries.now }
     requires done { AreExpanded (fragment_scope names.now.fragment names.now.table) done.now }
-    requires whole { (k : ℕ) → k < length (fragment_scope names.now.fragment names.now.table).commons → IsDone done.now k }
+    requires ready { AreTypesReady names.now.fragment names.now.table done.now }
     ensures kinds { IfOk result (λ kinds. AllZip (IsActionKindBuilt (tests_alone names.now.fragment names.now.table) (fragment_scope names.now.fragment names.now.table)) (map action_of_entry entries.now) kinds.items) }
     ensures ok { OnOk result (AreContextsRecords (fragment_scope names.now.fragment names.now.table) names.now.fragment) }
     ensures err { IfErr result (OrMemory (HasNoRecordContext names.now.fragment names.now.table)) }
 {
-    types_are_meant(names.fragment(), names.table());
     common_types_are_declared_once(names.fragment(), names.table());
     types_stand_for_one::<RawName>();
     let mut kinds = Vec::with_capacity(alloc, entries.len())?;
@@ -73,7 +71,7 @@ fn action_kind(
     requires meant { IsApplyMeant names.now.fragment names.now.table entry.now.ns.now entry.now.ty.now.applies_to }
     requires bare { entry.now.ty.now.external ≡ true → is_bare_action entry.now.ty.now ≡ true }
     requires done { AreExpanded (fragment_scope names.now.fragment names.now.table) done.now }
-    requires whole { (k : ℕ) → k < length (fragment_scope names.now.fragment names.now.table).commons → IsDone done.now k }
+    requires ready { IsApplyReady names.now.fragment names.now.table done.now entry.now.ns.now entry.now.ty.now.applies_to }
     ensures some { IfOk result (λ found. IfSome found (IsActionKindBuilt (tests_alone names.now.fragment names.now.table) (fragment_scope names.now.fragment names.now.table) (action_of_entry entry.now))) }
     ensures none { IfOk result (λ found. IfNone found (LacksContext (fragment_scope names.now.fragment names.now.table) (action_of_entry entry.now))) }
 {
@@ -103,7 +101,7 @@ fn applied_kind(
 ) -> Result<Option<ValidatorActionKind>, AllocError>
     requires meant { IsApplyMeant names.now.fragment names.now.table ns.now (Some applies.now) }
     requires done { AreExpanded (fragment_scope names.now.fragment names.now.table) done.now }
-    requires whole { (k : ℕ) → k < length (fragment_scope names.now.fragment names.now.table).commons → IsDone done.now k }
+    requires ready { IsApplyReady names.now.fragment names.now.table done.now ns.now (Some applies.now) }
     ensures some { IfOk result (λ found. IfSome found (IsApplyBuilt (tests_alone names.now.fragment names.now.table) (fragment_scope names.now.fragment names.now.table) ns.now (Some applies.now))) }
     ensures none { IfOk result (λ found. IfNone found (IsNoRecord (fragment_scope names.now.fragment names.now.table) (name_of ns.now) applies.now.context.0)) }
 {

@@ -1,16 +1,15 @@
-ghost use Rattle.std.specs.Prelude.{◌≡◌, ◌<◌, ℕ, true, map, length, IfOk, IfErr, OnOk, IfSome, IfNone};
+ghost use Rattle.std.specs.Prelude.{◌≡◌, true, map, IfOk, IfErr, OnOk, IfSome, IfNone};
 ghost use Rattle.std.specs.List.{AllZip};
 ghost use Rattle.schema_json.specs.declared.entity_type.EntityTypeKind.TheVariants.{Standard};
 ghost use Rattle.schema_json_walk.specs.Bare.{is_bare_entity};
 ghost use Rattle.schema_resolve_definitions.specs.Declarations.{name_of};
 ghost use Rattle.schema_build_checks.specs.Rows.{OrMemory};
-ghost use Rattle.schema_build_expand.specs.Commons.{IsDone};
 ghost use Rattle.schema_build_expand.specs.Targets.{AreExpanded};
 ghost use Rattle.schema_build_scope.specs.FragmentScope.{fragment_scope};
-ghost use Rattle.schema_build_scope.specs.Parts.{IsAllKnown};
+ghost use Rattle.schema_build_scope.specs.Parts.{IsAllKnown, AreTypesReady};
 ghost use Rattle.schema_build_hierarchy.specs.Declarations.{declared_entities};
 ghost use Rattle.schema_build_hierarchy.specs.Entries.{AreEntities, entity_of};
-ghost use Rattle.schema_build_items.specs.Kinds.{IsKindBuilt, IsKindMeant, AreTagsMeant, IsKindOf, TagsBuilt};
+ghost use Rattle.schema_build_items.specs.Kinds.{IsKindBuilt, IsKindReady, AreTagsReady, IsKindOf, TagsBuilt};
 ghost use Rattle.schema_build_items.specs.NoRecord.{LacksShape, AreShapesRecords, HasNoRecordShape, IsNoRecord, IsShapeError};
 
 use cedar_data::CloneIn;
@@ -18,7 +17,7 @@ use cedar_identifiers::{Name, RawName};
 use schema_build_errors::{ContextOrShape, ContextOrShapeNotRecordError, SchemaError};
 use schema_build_expand::laws::types_stand_for_one;
 use schema_build_hierarchy::EntityEntry;
-use schema_build_scope::laws::{common_types_are_declared_once, types_are_meant};
+use schema_build_scope::laws::common_types_are_declared_once;
 use schema_build_scope::{FragmentNames, expand_in};
 use schema_build_types::{Type as BuiltType, ValidatorEntityTypeKind};
 use schema_json::{EntityTypeKind, StandardEntityType, Type};
@@ -35,12 +34,11 @@ pub fn entity_kinds(
     requires known { IsAllKnown names.now.fragment names.now.table }
     requires entries { AreEntities (declared_entities names.now.fragment) entries.now }
     requires done { AreExpanded (fragment_scope names.now.fragment names.now.table) done.now }
-    requires whole { (k : ℕ) → k < length (fragment_scope names.now.fragment names.now.table).commons → IsDone done.now k }
+    requires ready { AreTypesReady names.now.fragment names.now.table done.now }
     ensures kinds { IfOk result (λ kinds. AllZip (IsKindBuilt (fragment_scope names.now.fragment names.now.table)) (map entity_of entries.now) kinds.items) }
     ensures ok { OnOk result (AreShapesRecords (fragment_scope names.now.fragment names.now.table) names.now.fragment) }
     ensures err { IfErr result (OrMemory (HasNoRecordShape names.now.fragment names.now.table)) }
 {
-    types_are_meant(names.fragment(), names.table());
     common_types_are_declared_once(names.fragment(), names.table());
     types_stand_for_one::<RawName>();
     let mut kinds = Vec::with_capacity(alloc, entries.len())?;
@@ -69,10 +67,9 @@ fn entity_kind(
     done: &[Option<BuiltType>],
     entry: &EntityEntry<'_>,
 ) -> Result<Option<ValidatorEntityTypeKind>, AllocError>
-    requires meant { IsKindMeant names.now.fragment names.now.table entry.now.ns.now entry.now.ty.now.kind }
+    requires ready { IsKindReady names.now.fragment names.now.table done.now entry.now.ns.now entry.now.ty.now.kind }
     requires bare { entry.now.ty.now.external ≡ true → is_bare_entity entry.now.ty.now ≡ true }
     requires done { AreExpanded (fragment_scope names.now.fragment names.now.table) done.now }
-    requires whole { (k : ℕ) → k < length (fragment_scope names.now.fragment names.now.table).commons → IsDone done.now k }
     ensures some { IfOk result (λ found. IfSome found (IsKindBuilt (fragment_scope names.now.fragment names.now.table) (entity_of entry.now))) }
     ensures none { IfOk result (λ found. IfNone found (LacksShape (fragment_scope names.now.fragment names.now.table) (entity_of entry.now))) }
 {
@@ -97,9 +94,8 @@ fn standard_kind(
     ns: &Option<Name>,
     standard: &StandardEntityType<RawName>,
 ) -> Result<Option<ValidatorEntityTypeKind>, AllocError>
-    requires meant { IsKindMeant names.now.fragment names.now.table ns.now (Standard standard.now) }
+    requires ready { IsKindReady names.now.fragment names.now.table done.now ns.now (Standard standard.now) }
     requires done { AreExpanded (fragment_scope names.now.fragment names.now.table) done.now }
-    requires whole { (k : ℕ) → k < length (fragment_scope names.now.fragment names.now.table).commons → IsDone done.now k }
     ensures some { IfOk result (λ found. IfSome found (IsKindOf (fragment_scope names.now.fragment names.now.table) (name_of ns.now) (Standard standard.now))) }
     ensures none { IfOk result (λ found. IfNone found (IsNoRecord (fragment_scope names.now.fragment names.now.table) (name_of ns.now) standard.now.shape.0)) }
 {
@@ -125,9 +121,8 @@ fn expand_tags(
     ns: &Option<Name>,
     tags: &Option<Type<RawName>>,
 ) -> Result<Option<BuiltType>, AllocError>
-    requires meant { AreTagsMeant names.now.fragment names.now.table ns.now tags.now }
+    requires ready { AreTagsReady names.now.fragment names.now.table done.now ns.now tags.now }
     requires done { AreExpanded (fragment_scope names.now.fragment names.now.table) done.now }
-    requires whole { (k : ℕ) → k < length (fragment_scope names.now.fragment names.now.table).commons → IsDone done.now k }
     ensures { IfOk result (TagsBuilt (fragment_scope names.now.fragment names.now.table) (name_of ns.now) tags.now) }
 {
     match tags {

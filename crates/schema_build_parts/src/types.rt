@@ -12,7 +12,7 @@ ghost use Rattle.schema_build_parts.specs.BuildFaults.{TypeFault};
 use schema_build_errors::SchemaError;
 use schema_build_hierarchy::{ActionEntry, EntityEntry};
 use schema_build_items::{action_kinds, entity_kinds};
-use schema_build_scope::{FragmentNames, expand_all_commons};
+use schema_build_scope::{FragmentNames, expand_used_commons};
 use schema_build_types::{ValidatorActionKind, ValidatorEntityTypeKind};
 use std::alloc::Global;
 
@@ -32,7 +32,7 @@ pub(crate) fn build_types(
     ensures ok { OnOk result (Never (TypeFault names.now.fragment names.now.table)) }
     ensures err { IfErr result (OrMemory (TypeFault names.now.fragment names.now.table)) }
 {
-    let done = expand_all_commons(alloc, names)?;
+    let done = expand_used_commons(alloc, names)?;
     let kinds = entity_kinds(alloc, names, &done, entities)?;
     let applied = action_kinds(alloc, names, &done, actions)?;
     Ok((kinds, applied))

@@ -14,7 +14,7 @@ use Rattle.cedar_identifiers.specs.declared.internal_name.InternalName.{Internal
 use Rattle.cedar_names.specs.Orders.{names_in_order, names_total}
 use Rattle.cedar_identifiers.specs.declared.raw_name.RawName.{RawName}
 use Rattle.schema_build_expand.specs.Scope.{Scope, Declared, IsRanked, AreDeclaredOnce}
-use Rattle.schema_build_scope.specs.Commons.{CommonAt}
+use Rattle.schema_build_scope.specs.Commons.{TypeAt}
 use Rattle.schema_build_scope.specs.FragmentScope.{declaration}
 use Rattle.schema_build_scope.proofs.Names.{names_by_components}
 use Rattle.cedar_data.specs.Text.{text_cmp}
@@ -80,7 +80,7 @@ module _ {V : Type 0} (es : List (InternalName × V)) (up : IsStrictlySortedBy n
       ]
 
 -- the ranks of entries whose keys rise are apart
-pub entries_apart : (s : Scope RawName) (es : List (InternalName × CommonAt)) → s.commons ≡ map declaration es
+pub entries_apart : (s : Scope RawName) (es : List (InternalName × TypeAt)) → s.commons ≡ map declaration es
     → IsStrictlySortedBy names_in_order (keys_of es) → RanksApart s
 entries_apart s es is up name j k (a, at_j, is_a) (b, at_k, is_b) =
     let x = seen_at declaration es j a (ap (λ l. slice_get l j) (sym is) ∙ at_j) in

@@ -30,7 +30,7 @@ use Rattle.schema_resolve_definitions.specs.Defined.{builtins, names_of_builtin,
 use Rattle.schema_resolve_definitions.specs.Tests.{Tests, tests_of}
 use Rattle.schema_build_checks.specs.DeclaredAt.{declared_at}
 use Rattle.schema_build_expand.specs.Scope.{Scope, Declared, Declares, IsUndeclared, in_table, builtin}
-use Rattle.schema_build_scope.specs.Commons.{CommonAt, common_entry, declared_commons, commons_in_order}
+use Rattle.schema_build_scope.specs.Commons.{TypeAt, common_entry, declared_commons, commons_in_order}
 use Rattle.schema_build_scope.specs.FragmentScope.{declaration, fragment_scope}
 use Rattle.schema_build_scope.proofs.Entries.{with_there}
 use Rattle.schema_build_scope.proofs.Names.{names_equal}
@@ -60,7 +60,7 @@ module _ {G : named.Ghosts RawName} where
   keys_of_all (e ∷ es) =
       let first = map (common_entry e.0) e.1.common_types in
       let others = flat_map (λ (e : Option Name × NamespaceDefinition RawName G). map (common_entry e.0) e.1.common_types) es in
-      ap (map components_of) (map-append (λ (x : InternalName × CommonAt). x.0) first others)
+      ap (map components_of) (map-append (λ (x : InternalName × TypeAt). x.0) first others)
       ∙ map-append components_of (keys_of first) (keys_of others)
       ∙ (λ i. keys_in e.0 e.1.common_types i ++ keys_of_all es i)
 

@@ -23,13 +23,13 @@ use Rattle.schema_build_errors.specs.declared.schema_error.SchemaError.{SchemaEr
 use Rattle.schema_build_errors.specs.declared.schema_error.SchemaError.TheVariants.{CycleInCommonTypeReferences}
 use Rattle.schema_build_checks.specs.Rows.{Never}
 use Rattle.schema_build_expand.specs.Scope.{Scope, Declared}
-use Rattle.schema_build_scope.specs.Commons.{CommonAt, declared_commons, commons_in_order}
+use Rattle.schema_build_scope.specs.Commons.{TypeAt, declared_commons, commons_in_order}
 use Rattle.schema_build_scope.specs.CycleRow.{ReachesItself, HasCommonCycle}
 use Rattle.schema_build_scope.specs.FragmentScope.{declaration, fragment_scope}
-use Rattle.schema_build_scope.specs.LentCommons.{lent_common, lent_commons, NamesCycleAt}
+use Rattle.schema_build_scope.specs.LentCommons.{lent_type, lent_commons, NamesCycleAt}
 use Rattle.schema_build_scope.specs.LentRounds.{IsLeastRoundRank, NoneReachesItself}
 use Rattle.schema_build_scope.specs.TypeReaches.{RefersToCommon, TypeReaches}
-use Rattle.schema_build_scope.specs.declared.lent_commons.LentCommon.{LentCommon}
+use Rattle.schema_build_scope.specs.declared.lent_commons.LentType.{LentType}
 use Rattle.schema_build_scope.proofs.Apart.{key_below, some_is, same_not_below, seen_at}
 use Rattle.schema_build_scope.proofs.Entries.{map_keys, map_sorted}
 use Rattle.schema_build_scope.proofs.Names.{names_by_components}
@@ -51,23 +51,23 @@ module _ {G : named.Ghosts RawName} (f : Fragment RawName G) (table : ExtensionT
   never_cycle none (CycleInCommonTypeReferences e) h = none (components_of e.ty) h.round
   never_cycle none _ h = h
 
-  module _ (entries : List (InternalName × LentCommon)) (known : lent_commons entries ≡ commons_in_order f) where
-    lent_at_rank : (k : ℕ) (e : InternalName × LentCommon) → slice_get entries k ≡ Some e
-        → slice_get (commons_in_order f) k ≡ Some (on_value lent_common e)
+  module _ (entries : List (InternalName × LentType)) (known : lent_commons entries ≡ commons_in_order f) where
+    lent_at_rank : (k : ℕ) (e : InternalName × LentType) → slice_get entries k ≡ Some e
+        → slice_get (commons_in_order f) k ≡ Some (on_value lent_type e)
     lent_at_rank k e at =
-        ap (λ l. slice_get l k) (sym known) ∙ slice_get-map (on_value lent_common) entries k
-        ∙ ap (option_map (on_value lent_common)) at
+        ap (λ l. slice_get l k) (sym known) ∙ slice_get-map (on_value lent_type) entries k
+        ∙ ap (option_map (on_value lent_type)) at
 
-    declared_key : (k : ℕ) (e : InternalName × CommonAt) → slice_get (commons_in_order f) k ≡ Some e
+    declared_key : (k : ℕ) (e : InternalName × TypeAt) → slice_get (commons_in_order f) k ≡ Some e
         → Contains (keys_of (declared_commons f)) e.0
     declared_key k e at =
         let inside : slice_get (keys_of (commons_in_order f)) k ≡ Some e.0 =
-        slice_get-map (λ (x : InternalName × CommonAt). x.0) (commons_in_order f) k ∙ ap (option_map (λ x. x.0)) at in
+        slice_get-map (λ (x : InternalName × TypeAt). x.0) (commons_in_order f) k ∙ ap (option_map (λ x. x.0)) at in
         All-contains (Contains (keys_of (declared_commons f))) (keys_of (commons_in_order f)) e.0
         (map_keys names_in_order (Contains (keys_of (declared_commons f))) (declared_commons f) (All-contains_itself (keys_of (declared_commons f))))
         (k, slice_get_within (keys_of (commons_in_order f)) k e.0 inside, get_or_from_slice_get (keys_of (commons_in_order f)) k e.0 e.0 inside)
 
-    not_below : (v : ℕ) (e : InternalName × CommonAt) → slice_get (commons_in_order f) v ≡ Some e
+    not_below : (v : ℕ) (e : InternalName × TypeAt) → slice_get (commons_in_order f) v ≡ Some e
         → ((u : ℕ) (d : Declared RawName) → slice_get s.commons u ≡ Some d → TypeReaches s d.name d.name → v ≤ u)
         → (other : InternalName) → ReachesItself s other → names_in_order other e.0 ≡ Less → ⊥
     not_below v e at least other round less =
@@ -86,7 +86,7 @@ module _ {G : named.Ghosts RawName} (f : Fragment RawName G) (table : ExtensionT
         elim (cases_eq v u) [
           | inl eq ↦
               let both : e ≡ x.0 = some_is e x.0 (sym at ∙ ap (slice_get (commons_in_order f)) eq ∙ x.1) in
-              same_not_below x.0.0 e.0 (ap (λ (y : InternalName × CommonAt). components_of y.0) (sym both)) less_key
+              same_not_below x.0.0 e.0 (ap (λ (y : InternalName × TypeAt). components_of y.0) (sym both)) less_key
           | inr apart ↦
               let above : names_in_order e.0 x.0.0 ≡ Less = key_below (commons_in_order f) up v u e x.0 at x.1 (omega arith) in
               let h : Less ≡ ordering_reverse Less = sym less_key ∙ names_total.antisymm x.0.0 e.0 ∙ ap ordering_reverse above in
@@ -96,11 +96,11 @@ module _ {G : named.Ghosts RawName} (f : Fragment RawName G) (table : ExtensionT
     pub named_cycle : (v : ℕ) → IsLeastRoundRank s v → (e : SchemaError) → NamesCycleAt entries v e → HasCommonCycle f table e
     named_cycle v r (CycleInCommonTypeReferences e) (c, at) =
         let lent = lent_at_rank v (e.ty, c) at in
-        let is : r.ty ≡ declaration (on_value lent_common (e.ty, c)) =
+        let is : r.ty ≡ declaration (on_value lent_type (e.ty, c)) =
         some_is r.ty _ (sym r.here ∙ slice_get-map declaration (commons_in_order f) v ∙ ap (option_map declaration) lent) in
         record {
-          declared = declared_key v (on_value lent_common (e.ty, c)) lent;
+          declared = declared_key v (on_value lent_type (e.ty, c)) lent;
           round = subst (λ n. TypeReaches s n n) (ap (λ (d : Declared RawName). d.name) is) r.round;
-          least = λ other round. not_lt other e.ty (not_below v (on_value lent_common (e.ty, c)) lent r.least other round);
+          least = λ other round. not_lt other e.ty (not_below v (on_value lent_type (e.ty, c)) lent r.least other round);
         }
     named_cycle v r _ h = absurd h

@@ -16,7 +16,7 @@ use Rattle.cedar_names.specs.Orders.{names_in_order, names_total}
 use Rattle.cedar_names.specs.declared.extension_table.ExtensionTable.{ExtensionTable}
 use Rattle.schema_json.specs.declared.fragment.Fragment.{Fragment}
 use Rattle.schema_build_expand.specs.Scope.{Declared, IsRanked, IsUndeclared}
-use Rattle.schema_build_scope.specs.Commons.{CommonAt, declared_commons, commons_in_order}
+use Rattle.schema_build_scope.specs.Commons.{TypeAt, declared_commons, commons_in_order}
 use Rattle.schema_build_scope.specs.FragmentScope.{declaration, fragment_scope}
 use Rattle.schema_build_scope.proofs.Apart.{RanksApart, seen_at, same_not_below, entries_apart}
 use Rattle.schema_build_scope.proofs.Entries.{map_sorted}
@@ -30,7 +30,7 @@ module _ {G : named.Ghosts RawName} (f : Fragment RawName G) (table : ExtensionT
       entries_apart (fragment_scope f table) (commons_in_order f) refl
       (map_sorted names_in_order names_total (declared_commons f))
 
-  module _ {V : Type 0} (h : V → CommonAt) (entries : List (InternalName × V))
+  module _ {V : Type 0} (h : V → TypeAt) (entries : List (InternalName × V))
       (known : map (on_value h) entries ≡ commons_in_order f) where
     -- the declaration of a rank
     pub entry_in : (k : ℕ) (e : InternalName × V) → slice_get entries k ≡ Some e
@@ -57,7 +57,7 @@ module _ {G : named.Ghosts RawName} (f : Fragment RawName G) (table : ExtensionT
         let b = seen_at (on_value h) entries j a.0 (ap (λ l. slice_get l j) known ∙ a.1) in
         let e = b.0 in
         let same : components_of e.0 ≡ components_of q =
-        ap (λ (x : InternalName × CommonAt). components_of x.0) b.2 ∙ ap (λ (x : Declared RawName). x.name) a.2 ∙ is in
+        ap (λ (x : InternalName × TypeAt). components_of x.0) b.2 ∙ ap (λ (x : Declared RawName). x.name) a.2 ∙ is in
         let here : get_or entries j e ≡ e = get_or_from_slice_get entries j e e b.1 in
         let below : names_in_order (get_or entries j e).0 q ≡ Less → ⊥ = λ less. same_not_below e.0 q same (ap (λ (x : InternalName × V). names_in_order x.0 q) (sym here) ∙ less) in
         let above : names_in_order (get_or entries j e).0 q ≡ Greater → ⊥ = λ greater. same_not_below q e.0 (sym same) (names_total.antisymm q e.0 ∙ ap ordering_reverse (ap (λ (x : InternalName × V). names_in_order x.0 q) (sym here) ∙ greater)) in

@@ -24,7 +24,7 @@ use Rattle.schema_build_graph.specs.declared.order_fault.OrderFault.TheVariants.
 use Rattle.schema_build_expand.specs.Commons.{AreCommons}
 use Rattle.schema_build_expand.specs.Rows.{IsMeant, AreMeant, NoneRound, IsCycleFault}
 use Rattle.schema_build_expand.specs.Scope.{Scope}
-use Rattle.schema_build_scope.specs.Commons.{CommonAt, common_entry, declared_commons, commons_in_order}
+use Rattle.schema_build_scope.specs.Commons.{TypeAt, common_entry, declared_commons, commons_in_order}
 use Rattle.schema_build_scope.specs.FragmentScope.{declaration, fragment_scope}
 use Rattle.schema_build_scope.specs.LentRounds.{IsRoundFault, NoneReachesItself}
 use Rattle.schema_build_scope.specs.Parts.{AreTypesMeant}
@@ -53,7 +53,7 @@ module _ {G : named.Ghosts RawName} (f : Fragment RawName G) (table : ExtensionT
   abbrev s : Scope RawName
   s = fragment_scope f table
 
-  abbrev IsValueMeant : CommonAt → Type 0
+  abbrev IsValueMeant : TypeAt → Type 0
   IsValueMeant v = All (IsMeant s v.place) (parts v.ty)
 
   values_meant : AreTypesMeant f table → All IsValueMeant (values_of (commons_in_order f))
@@ -62,17 +62,17 @@ module _ {G : named.Ghosts RawName} (f : Fragment RawName G) (table : ExtensionT
       (each_value IsValueMeant (λ (e : Option Name × NamespaceDefinition RawName G). map (common_entry e.0) e.1.common_types) f.0
       (λ e in_f. each_entry IsValueMeant (common_entry e.0) e.1.common_types (λ d in_n. meant.commons e.0 e.1 d in_f in_n)))
 
-  module _ {R V : Type 0} (h : V → CommonAt) (entries : List (InternalName × V))
+  module _ {R V : Type 0} (h : V → TypeAt) (entries : List (InternalName × V))
       (known : map (on_value h) entries ≡ commons_in_order f) (scope : R → Scope RawName)
       (place : R → Option InternalName) (commons : List (R × Bor («Type» RawName)))
-      (lent : map (λ (c : R × Bor («Type» RawName)). let a : CommonAt = record { place = place c.0; ty = c.1.now } in a) commons
+      (lent : map (λ (c : R × Bor («Type» RawName)). let a : TypeAt = record { place = place c.0; ty = c.1.now } in a) commons
       ≡ map (λ (e : InternalName × V). h e.1) entries) where
-    abbrev at_lent : R × Bor («Type» RawName) → CommonAt
+    abbrev at_lent : R × Bor («Type» RawName) → TypeAt
     at_lent c = record { place = place c.0; ty = c.1.now }
 
     -- the declaration of each rank
     entry_of : (k : ℕ) (c : R × Bor («Type» RawName)) → slice_get commons k ≡ Some c
-        → (e : InternalName × CommonAt) × (slice_get (commons_in_order f) k ≡ Some e) × (e.1 ≡ at_lent c)
+        → (e : InternalName × TypeAt) × (slice_get (commons_in_order f) k ≡ Some e) × (e.1 ≡ at_lent c)
     entry_of k c at =
         let in_map : slice_get (map (λ (e : InternalName × V). h e.1) entries) k ≡ Some (at_lent c) =
         ap (λ l. slice_get l k) (sym lent) ∙ slice_get-map at_lent commons k ∙ ap (option_map at_lent) at in
@@ -89,8 +89,8 @@ module _ {G : named.Ghosts RawName} (f : Fragment RawName G) (table : ExtensionT
           (
             declaration e.0,
             slice_get-map declaration (commons_in_order f) k ∙ ap (option_map declaration) e.1,
-            ap (λ (v : CommonAt). v.place) e.2,
-            ap (λ (v : CommonAt). v.ty) e.2,
+            ap (λ (v : TypeAt). v.place) e.2,
+            ap (λ (v : TypeAt). v.ty) e.2,
           ),
         )
 
@@ -99,7 +99,7 @@ module _ {G : named.Ghosts RawName} (f : Fragment RawName G) (table : ExtensionT
         let e = entry_of k c at in
         let vs = values_of (commons_in_order f) in
         let there : slice_get vs k ≡ Some e.0.1 =
-        slice_get-map (λ (x : InternalName × CommonAt). x.1) (commons_in_order f) k ∙ ap (option_map (λ x. x.1)) e.1 in
+        slice_get-map (λ (x : InternalName × TypeAt). x.1) (commons_in_order f) k ∙ ap (option_map (λ x. x.1)) e.1 in
         subst IsValueMeant e.2
         (All-contains IsValueMeant vs e.0.1 (values_meant meant)
         (k, slice_get_within vs k e.0.1 there, get_or_from_slice_get vs k e.0.1 e.0.1 there))

@@ -15,6 +15,6 @@ mod Meanings
 mod Targets
 mod UndefinedNames
 mod BuiltinParts
-mod Ready
+mod UsedTypes
 mod CycleNames
 mod LentScope

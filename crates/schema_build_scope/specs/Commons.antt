@@ -14,20 +14,20 @@ use Rattle.schema_json.specs.declared.types.Type.{«Type»}
 use Rattle.schema_resolve_definitions.specs.Declarations.{name_of}
 use Rattle.schema_build_checks.specs.DeclaredAt.{declared_at}
 
--- what a declaration says of a common type: the namespace that it is declared in, and the type that it names
-pub record CommonAt : Type 0 where
+-- a type, and the namespace that it is written in
+pub record TypeAt : Type 0 where
   pub place : Option InternalName
   pub ty : «Type» RawName
 
 -- a declared common type under its full name, at the place of its declaration
-abbrev pub common_entry : Option Name → CommonTypeId × CommonType RawName → InternalName × CommonAt
+abbrev pub common_entry : Option Name → CommonTypeId × CommonType RawName → InternalName × TypeAt
 common_entry ns e = (declared_at ns e.0.id.id e.1.loc, record { place = name_of ns; ty = e.1.ty })
 
 module _ {G : named.Ghosts RawName} where
   -- the common types that a fragment declares, in the order of the walk
-  abbrev pub declared_commons : Fragment RawName G → List (InternalName × CommonAt)
+  abbrev pub declared_commons : Fragment RawName G → List (InternalName × TypeAt)
   declared_commons f = flat_map (λ e. map (common_entry e.0) e.1.common_types) f.0
 
   -- the map of them, which has them in the order of their full names
-  abbrev pub commons_in_order : Fragment RawName G → List (InternalName × CommonAt)
+  abbrev pub commons_in_order : Fragment RawName G → List (InternalName × TypeAt)
   commons_in_order f = map_of names_in_order (declared_commons f)

@@ -1,5 +1,6 @@
 pub mod Rows
 pub mod Commons
+pub mod Uses
 pub mod FragmentScope
 pub mod FragmentUnder
 pub mod UndefinedRows

@@ -19,7 +19,9 @@ use Rattle.schema_json_walk.specs.Walk.{parts}
 use Rattle.schema_resolve_definitions.specs.Declarations.{name_of}
 use Rattle.schema_build_checks.specs.Rows.{Never}
 use Rattle.schema_build_checks.specs.WalkFaults.{HasUnknownExtension, HasUnsupported}
+use Rattle.schema_build_types.specs.declared.types.Type.{«Type» as Built}
 use Rattle.schema_build_expand.specs.Rows.{IsMeant}
+use Rattle.schema_build_expand.specs.Targets.{IsReady}
 use Rattle.schema_build_scope.specs.FragmentScope.{fragment_scope}
 use Rattle.schema_build_scope.specs.UndefinedRows.{HasUndefinedTypes}
 
@@ -48,3 +50,20 @@ module _ {G : named.Ghosts RawName} where
     pub contexts : (ns : Option Name) (n : NamespaceDefinition RawName G) (e : List ℕ × ActionType RawName G)
         (a : ApplySpec RawName) → Contains f.0 (ns, n) → Contains n.actions e → e.1.applies_to ≡ Some a
         → IsTypeMeant f table ns a.context.0
+
+  -- each part of a type that is written in the namespace can be expanded
+  abbrev pub IsTypeReady : Fragment RawName G → ExtensionTable → List (Option Built) → Option Name → «Type» RawName
+      → Type 0
+  IsTypeReady f table done ns ty = All (IsReady (fragment_scope f table) done (name_of ns)) (parts ty)
+
+  -- each shape, type of tags and context can be expanded
+  pub record AreTypesReady (f : Fragment RawName G) (table : ExtensionTable) (done : List (Option Built)) : Type 0 where
+    pub shapes : (ns : Option Name) (n : NamespaceDefinition RawName G) (e : UnreservedId × EntityType RawName)
+        (s : StandardEntityType RawName) → Contains f.0 (ns, n) → Contains n.entity_types e → e.1.kind ≡ Standard s
+        → IsTypeReady f table done ns s.shape.0
+    pub tags : (ns : Option Name) (n : NamespaceDefinition RawName G) (e : UnreservedId × EntityType RawName)
+        (s : StandardEntityType RawName) (ty : «Type» RawName) → Contains f.0 (ns, n) → Contains n.entity_types e
+        → e.1.kind ≡ Standard s → s.tags ≡ Some ty → IsTypeReady f table done ns ty
+    pub contexts : (ns : Option Name) (n : NamespaceDefinition RawName G) (e : List ℕ × ActionType RawName G)
+        (a : ApplySpec RawName) → Contains f.0 (ns, n) → Contains n.actions e → e.1.applies_to ≡ Some a
+        → IsTypeReady f table done ns a.context.0

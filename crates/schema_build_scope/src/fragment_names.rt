@@ -7,7 +7,7 @@ ghost use Rattle.schema_resolve_definitions.specs.Tests.{tests_of};
 ghost use Rattle.schema_build_scope.specs.Commons.{commons_in_order};
 ghost use Rattle.schema_build_scope.specs.LentCommons.{lent_commons};
 
-use crate::lent_commons::{LentCommon, declared_commons};
+use crate::lent_commons::{LentType, declared_commons};
 use crate::names_in::NamesIn;
 use cedar_data::Map;
 use cedar_identifiers::{InternalName, Name, NameText, RawName};
@@ -23,7 +23,7 @@ pub struct FragmentNames<'f> {
     fragment: &'f Fragment<RawName>,
     table: &'f ExtensionTable,
     defs: AllDefs,
-    commons: Map<InternalName, LentCommon<'f>>,
+    commons: Map<InternalName, LentType<'f>>,
 }
 
 impl<'f> Model for FragmentNames<'f> {
@@ -89,7 +89,7 @@ impl<'f> FragmentNames<'f> {
     }
 
     /// The declared common types, in the order of their full names.
-    pub fn commons(&self) -> &[(InternalName, LentCommon<'f>)]
+    pub fn commons(&self) -> &[(InternalName, LentType<'f>)]
         ensures entries { lent_commons result.now ≡ commons_in_order self.now.fragment }
         ensures sorted { IsStrictlySortedBy names_in_order (keys_of result.now) }
     {

@@ -9,12 +9,12 @@ use schema_json::{CommonType, CommonTypeId, Fragment, Type};
 use schema_resolve_definitions::declared::name_of;
 use std::alloc::{AllocError, Global};
 
-/// A declared common type, lent from its fragment.
+/// A type that is lent from its fragment.
 #[derive(Drop)]
-pub struct LentCommon<'f> {
-    /// The namespace that it is declared in.
+pub struct LentType<'f> {
+    /// The namespace that it is written in.
     pub ns: &'f Option<Name>,
-    /// The type that it names.
+    /// The type.
     pub ty: &'f Type<RawName>,
 }
 
@@ -23,7 +23,7 @@ pub struct LentCommon<'f> {
 pub(crate) fn declared_commons<'f>(
     alloc: Global,
     fragment: &'f Fragment<RawName>,
-) -> Result<Vec<(InternalName, LentCommon<'f>)>, AllocError>
+) -> Result<Vec<(InternalName, LentType<'f>)>, AllocError>
     ensures { IfOk result (λ found. lent_commons found.items ≡ declared_commons fragment.now) }
 {
     let mut found = Vec::new(alloc);
@@ -36,7 +36,7 @@ pub(crate) fn declared_commons<'f>(
 // Adds the common types of a namespace.
 fn push_commons<'f>(
     alloc: Global,
-    found: &mut Vec<(InternalName, LentCommon<'f>)>,
+    found: &mut Vec<(InternalName, LentType<'f>)>,
     ns: &'f Option<Name>,
     commons: &'f [(CommonTypeId, CommonType<RawName>)],
 ) -> Result<(), AllocError>
@@ -45,7 +45,7 @@ fn push_commons<'f>(
     for (id, common) in commons {
         let name = declared_at(alloc, ns, &id.id.id, common.loc)?;
         let ty = &common.ty;
-        found.push((name, LentCommon { ns, ty }))?;
+        found.push((name, LentType { ns, ty }))?;
     }
     Ok(())
 }

@@ -6,12 +6,13 @@ pub mod expansions;
 pub mod fragment_names;
 pub mod laws;
 mod lent_commons;
+mod lent_uses;
 mod meant;
 pub mod names_in;
 mod ranks;
 pub mod references;
 
-pub use expansions::{expand_all_commons, expand_in};
+pub use expansions::{expand_in, expand_used_commons};
 pub use fragment_names::FragmentNames;
 pub use names_in::NamesIn;
 pub use references::check_references;

@@ -6,12 +6,11 @@ use Rattle.schema_build_items.proofs.DeclaredActions.{actions_total}
 use Rattle.schema_build_expand.specs.Expands.{ExpandsOnce}
 use Rattle.schema_build_expand.specs.Scope.{AreDeclaredOnce}
 use Rattle.schema_build_scope.specs.FragmentScope.{fragment_scope}
-use Rattle.schema_build_scope.specs.Parts.{IsAllKnown, AreTypesMeant}
 use Rattle.schema_build_hierarchy.specs.Declarations.{Declared, declared_actions}
 use Rattle.schema_build_hierarchy.specs.Entries.{action_of_entry}
 use Rattle.schema_build_items.specs.ActionKinds.{IsActionKindBuilt, tests_alone}
 use Rattle.schema_build_items.specs.NoRecord.{LacksContext, IsLeastContext, HasNoRecordContext}
-use Rattle.schema_build_items.proofs.DeclaredActions.{action_meant, external_bare}
+use Rattle.schema_build_items.proofs.DeclaredActions.{action_meant, action_ready, external_bare}
 use Rattle.schema_build_items.proofs.Least.{none_lacks, none_less}
 use Rattle.schema_build_items.proofs.Lists.{contains_map, zip_more}
 use Rattle.schema_build_items.proofs.Applied.{action_apart}
@@ -31,19 +30,14 @@ among c =
     (c.requires.entries.same (action_of_entry e)).1
     (contains_map action_of_entry entries e (c.loop-entry.entry-index, c.loop-entry-test.true, sym c.entry-item.is))
 
-meant : (c : goal.After-entry-item) → AreTypesMeant c.args.names.now.fragment c.args.names.now.table
-meant c =
-    let f = c.args.names.now.fragment in
-    let table = c.args.names.now.table in
-    let one : IsAllKnown f c.table.result.now → AreTypesMeant f c.table.result.now =
-    subst (λ f. IsAllKnown f c.table.result.now → AreTypesMeant f c.table.result.now) c.fragment.ensures c.types_are_meant.ensures in
-    let both : IsAllKnown f table → AreTypesMeant f table =
-    subst (λ t. IsAllKnown f t → AreTypesMeant f t) c.table.ensures one in
-    both c.requires.known
-
 pub action_kind-requires-clause-meant : goal.action_kind-requires-clause-meant
 action_kind-requires-clause-meant c =
-    action_meant c.args.names.now.fragment c.args.names.now.table c.requires.known (meant c) (action_of_entry c.entry-item.result) (among c)
+    action_meant c.args.names.now.fragment c.args.names.now.table c.requires.known (action_of_entry c.entry-item.result) (among c)
+
+pub action_kind-requires-clause-ready : goal.action_kind-requires-clause-ready
+action_kind-requires-clause-ready c =
+    action_ready c.args.names.now.fragment c.args.names.now.table c.args.done.now c.requires.ready
+    (action_of_entry c.entry-item.result) (among c)
 
 pub action_kind-requires-clause-bare : goal.action_kind-requires-clause-bare
 action_kind-requires-clause-bare c =
@@ -61,9 +55,9 @@ returns-in-None-clause-err c =
     let i = c.loop-entry.entry-index in
     let lt : i < length (map action_of_entry entries) = omega (arith, c.loop-entry-test.true, length-map entries action_of_entry) in
     let at = get_or-map action_of_entry entries i e d c.loop-entry-test.true ∙ ap action_of_entry (sym c.entry-item.is) in
-    let one : AreDeclaredOnce (fragment_scope f c.table-2.result.now) =
-    subst (λ f. AreDeclaredOnce (fragment_scope f c.table-2.result.now)) c.fragment-2.ensures c.common_types_are_declared_once.ensures in
-    let declared : AreDeclaredOnce s = subst (λ t. AreDeclaredOnce (fragment_scope f t)) c.table-2.ensures one in
+    let one : AreDeclaredOnce (fragment_scope f c.table.result.now) =
+    subst (λ f. AreDeclaredOnce (fragment_scope f c.table.result.now)) c.fragment.ensures c.common_types_are_declared_once.ensures in
+    let declared : AreDeclaredOnce s = subst (λ t. AreDeclaredOnce (fragment_scope f t)) c.table.ensures one in
     let once : ExpandsOnce s = c.types_stand_for_one.ensures s declared in
     let told = c.in_ok-no_context-in-None.ensures in
     inr (subst (HasNoRecordContext f table) (sym told.1) (subst (IsLeastContext s f) (sym told.2) (
@@ -104,9 +98,9 @@ returns-clause-ok c = λ y cy py.
     let table = c.args.names.now.table in
     let t = tests_alone f table in
     let s = fragment_scope f table in
-    let one : AreDeclaredOnce (fragment_scope f c.table-2.result.now) =
-    subst (λ f. AreDeclaredOnce (fragment_scope f c.table-2.result.now)) c.fragment-2.ensures c.common_types_are_declared_once.ensures in
-    let declared : AreDeclaredOnce s = subst (λ t. AreDeclaredOnce (fragment_scope f t)) c.table-2.ensures one in
+    let one : AreDeclaredOnce (fragment_scope f c.table.result.now) =
+    subst (λ f. AreDeclaredOnce (fragment_scope f c.table.result.now)) c.fragment.ensures c.common_types_are_declared_once.ensures in
+    let declared : AreDeclaredOnce s = subst (λ t. AreDeclaredOnce (fragment_scope f t)) c.table.ensures one in
     let once : ExpandsOnce s = c.types_stand_for_one.ensures s declared in
     none_lacks (IsActionKindBuilt t s) (LacksContext s) (action_apart t s once) (map action_of_entry c.args.entries.now) c.loop-entry.kinds.items
     (returns-clause-kinds c) y ((c.requires.entries.same y).0 cy) py

@@ -6,12 +6,11 @@ use Rattle.cedar_names.specs.Orders.{names_total}
 use Rattle.schema_build_expand.specs.Expands.{ExpandsOnce}
 use Rattle.schema_build_expand.specs.Scope.{AreDeclaredOnce}
 use Rattle.schema_build_scope.specs.FragmentScope.{fragment_scope}
-use Rattle.schema_build_scope.specs.Parts.{IsAllKnown, AreTypesMeant}
 use Rattle.schema_build_hierarchy.specs.Declarations.{DeclaredEntity, declared_entities}
 use Rattle.schema_build_hierarchy.specs.Entries.{entity_of}
 use Rattle.schema_build_items.specs.Kinds.{IsKindBuilt}
 use Rattle.schema_build_items.specs.NoRecord.{LacksShape, IsLeastShape, HasNoRecordShape}
-use Rattle.schema_build_items.proofs.Fragments.{entity_meant, external_bare}
+use Rattle.schema_build_items.proofs.Fragments.{entity_ready, external_bare}
 use Rattle.schema_build_items.proofs.Least.{none_lacks, none_less}
 use Rattle.schema_build_items.proofs.Lists.{contains_map, zip_more}
 use Rattle.schema_build_items.proofs.Made.{built_apart}
@@ -30,19 +29,10 @@ among c =
     (c.requires.entries.same (entity_of e)).1
     (contains_map entity_of entries e (c.loop-entry.entry-index, c.loop-entry-test.true, sym c.entry-item.is))
 
-meant : (c : goal.After-entry-item) → AreTypesMeant c.args.names.now.fragment c.args.names.now.table
-meant c =
-    let f = c.args.names.now.fragment in
-    let table = c.args.names.now.table in
-    let one : IsAllKnown f c.table.result.now → AreTypesMeant f c.table.result.now =
-    subst (λ f. IsAllKnown f c.table.result.now → AreTypesMeant f c.table.result.now) c.fragment.ensures c.types_are_meant.ensures in
-    let both : IsAllKnown f table → AreTypesMeant f table =
-    subst (λ t. IsAllKnown f t → AreTypesMeant f t) c.table.ensures one in
-    both c.requires.known
-
-pub entity_kind-requires-clause-meant : goal.entity_kind-requires-clause-meant
-entity_kind-requires-clause-meant c =
-    entity_meant c.args.names.now.fragment c.args.names.now.table (meant c) (entity_of c.entry-item.result) (among c)
+pub entity_kind-requires-clause-ready : goal.entity_kind-requires-clause-ready
+entity_kind-requires-clause-ready c =
+    entity_ready c.args.names.now.fragment c.args.names.now.table c.args.done.now c.requires.ready
+    (entity_of c.entry-item.result) (among c)
 
 pub entity_kind-requires-clause-bare : goal.entity_kind-requires-clause-bare
 entity_kind-requires-clause-bare c =
@@ -59,9 +49,9 @@ returns-in-None-clause-err c =
     let i = c.loop-entry.entry-index in
     let lt : i < length (map entity_of entries) = omega (arith, c.loop-entry-test.true, length-map entries entity_of) in
     let at = get_or-map entity_of entries i e d c.loop-entry-test.true ∙ ap entity_of (sym c.entry-item.is) in
-    let one : AreDeclaredOnce (fragment_scope f c.table-2.result.now) =
-    subst (λ f. AreDeclaredOnce (fragment_scope f c.table-2.result.now)) c.fragment-2.ensures c.common_types_are_declared_once.ensures in
-    let declared : AreDeclaredOnce s = subst (λ t. AreDeclaredOnce (fragment_scope f t)) c.table-2.ensures one in
+    let one : AreDeclaredOnce (fragment_scope f c.table.result.now) =
+    subst (λ f. AreDeclaredOnce (fragment_scope f c.table.result.now)) c.fragment.ensures c.common_types_are_declared_once.ensures in
+    let declared : AreDeclaredOnce s = subst (λ t. AreDeclaredOnce (fragment_scope f t)) c.table.ensures one in
     let once : ExpandsOnce s = c.types_stand_for_one.ensures s declared in
     let told = c.in_ok-no_shape-in-None.ensures in
     inr (subst (HasNoRecordShape f table) (sym told.1) (subst (IsLeastShape s f) (sym told.2) (
@@ -99,9 +89,9 @@ returns-clause-ok c = λ y cy py.
     let f = c.args.names.now.fragment in
     let table = c.args.names.now.table in
     let s = fragment_scope f table in
-    let one : AreDeclaredOnce (fragment_scope f c.table-2.result.now) =
-    subst (λ f. AreDeclaredOnce (fragment_scope f c.table-2.result.now)) c.fragment-2.ensures c.common_types_are_declared_once.ensures in
-    let declared : AreDeclaredOnce s = subst (λ t. AreDeclaredOnce (fragment_scope f t)) c.table-2.ensures one in
+    let one : AreDeclaredOnce (fragment_scope f c.table.result.now) =
+    subst (λ f. AreDeclaredOnce (fragment_scope f c.table.result.now)) c.fragment.ensures c.common_types_are_declared_once.ensures in
+    let declared : AreDeclaredOnce s = subst (λ t. AreDeclaredOnce (fragment_scope f t)) c.table.ensures one in
     let once : ExpandsOnce s = c.types_stand_for_one.ensures s declared in
     none_lacks (IsKindBuilt s) (LacksShape s) (built_apart s once) (map entity_of c.args.entries.now) c.loop-entry.kinds.items
     (returns-clause-kinds c) y ((c.requires.entries.same y).0 cy) py

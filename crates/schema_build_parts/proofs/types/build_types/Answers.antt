@@ -1,8 +1,8 @@
-use Rattle.std.proofs.Common.{rules, ◌<◌, ℕ, length, sym, subst}
-use Rattle.schema_build_expand.specs.Commons.{IsDone}
+use Rattle.std.proofs.Common.{rules, sym, subst}
 use Rattle.schema_build_expand.specs.Targets.{AreExpanded}
 use Rattle.schema_build_scope.specs.CycleRow.{HasCommonCycle}
 use Rattle.schema_build_scope.specs.FragmentScope.{fragment_scope}
+use Rattle.schema_build_scope.specs.Parts.{AreTypesReady}
 use Rattle.schema_build_items.specs.NoRecord.{HasNoRecord, HasNoRecordShape, HasNoRecordContext}
 use Rattle.schema_build_parts.proofs.NoRecords.{no_shape, no_context}
 use Rattle.schema_build_parts.proofs.Rows.{never_else}
@@ -13,22 +13,20 @@ entity_kinds-requires-clause-done c =
     let names = c.args.names.now in
     subst (AreExpanded (fragment_scope names.fragment names.table)) (sym c.deref.ensures.value) c.in_ok-done.ensures.expanded
 
-pub entity_kinds-requires-clause-whole : goal.entity_kinds-requires-clause-whole
-entity_kinds-requires-clause-whole c =
-    let names = c.args.names.now in
-    subst (λ d. (k : ℕ) → k < length (fragment_scope names.fragment names.table).commons → IsDone d k)
-    (sym c.deref.ensures.value) c.in_ok-done.ensures.whole
+pub entity_kinds-requires-clause-ready : goal.entity_kinds-requires-clause-ready
+entity_kinds-requires-clause-ready c =
+    subst (AreTypesReady c.args.names.now.fragment c.args.names.now.table) (sym c.deref.ensures.value)
+    c.in_ok-done.ensures.ready
 
 pub action_kinds-requires-clause-done : goal.action_kinds-requires-clause-done
 action_kinds-requires-clause-done c =
     let names = c.args.names.now in
     subst (AreExpanded (fragment_scope names.fragment names.table)) (sym c.deref-2.ensures.value) c.in_ok-done.ensures.expanded
 
-pub action_kinds-requires-clause-whole : goal.action_kinds-requires-clause-whole
-action_kinds-requires-clause-whole c =
-    let names = c.args.names.now in
-    subst (λ d. (k : ℕ) → k < length (fragment_scope names.fragment names.table).commons → IsDone d k)
-    (sym c.deref-2.ensures.value) c.in_ok-done.ensures.whole
+pub action_kinds-requires-clause-ready : goal.action_kinds-requires-clause-ready
+action_kinds-requires-clause-ready c =
+    subst (AreTypesReady c.args.names.now.fragment c.args.names.now.table) (sym c.deref-2.ensures.value)
+    c.in_ok-done.ensures.ready
 
 pub returns-in_err-applied-clause-err : goal.returns-in_err-applied-clause-err
 returns-in_err-applied-clause-err c =

@@ -4,7 +4,6 @@ use Rattle.schema_json_walk.specs.Walk.{parts}
 use Rattle.schema_resolve_definitions.specs.Declarations.{name_of}
 use Rattle.schema_build_expand.specs.Targets.{AreExpanded, IsReady, ExpandsTo}
 use Rattle.schema_build_scope.specs.FragmentScope.{fragment_scope}
-use Rattle.schema_build_scope.proofs.Ready.{parts_ready}
 use Rattle.schema_build_scope.proofs.expansions.expand_in.Goals as goal
 
 pub expand_type-requires-clause-done : goal.expand_type-requires-clause-done
@@ -15,10 +14,9 @@ expand_type-requires-clause-done c =
 pub expand_type-requires-clause-ready : goal.expand_type-requires-clause-ready
 expand_type-requires-clause-ready c =
     let s = fragment_scope c.args.names.now.fragment c.args.names.now.table in
-    let all = parts_ready s c.args.done.now c.requires.whole (name_of c.args.ns.now) (parts c.args.ty.now) c.requires.meant in
     subst (λ n. All (IsReady (fragment_scope n.fragment n.table) c.args.done.now (name_of c.in_namespace.result.ns.now)) (parts c.args.ty.now))
     (sym c.in_namespace.ensures.names)
-    (subst (λ p. All (IsReady s c.args.done.now (name_of p)) (parts c.args.ty.now)) (sym c.in_namespace.ensures.place) all)
+    (subst (λ p. All (IsReady s c.args.done.now (name_of p)) (parts c.args.ty.now)) (sym c.in_namespace.ensures.place) c.requires.ready)
 
 pub returns : goal.returns
 returns c =

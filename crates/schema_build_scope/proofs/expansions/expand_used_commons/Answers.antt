@@ -4,11 +4,11 @@ use Rattle.std.proofs.lemmas.Option.{slice_get_within}
 use Rattle.cedar_data.specs.Entries.{on_value}
 use Rattle.schema_build_scope.specs.Commons.{commons_in_order}
 use Rattle.schema_build_scope.specs.FragmentScope.{declaration, fragment_scope}
-use Rattle.schema_build_scope.specs.LentCommons.{lent_common}
+use Rattle.schema_build_scope.specs.LentCommons.{lent_type}
 use Rattle.schema_build_scope.specs.LentRounds.{IsLeastRoundRank, IsRoundFault}
 use Rattle.schema_build_scope.proofs.CycleNames.{never_cycle, named_cycle}
 use Rattle.schema_build_scope.proofs.Known.{types_meant}
-use Rattle.schema_build_scope.proofs.expansions.expand_all_commons.Goals as goal
+use Rattle.schema_build_scope.proofs.expansions.expand_used_commons.Goals as goal
 
 pub expand_lent-requires : goal.expand_lent-requires
 expand_lent-requires c =
@@ -24,7 +24,7 @@ common_cycle-requires c =
     slice_get_within (map declaration (commons_in_order f)) c.in-Err-Cycle.rank r.ty r.here in
     let same : length (map declaration (commons_in_order f)) ≡ length entries =
     length-map (commons_in_order f) declaration ∙ ap length (sym c.commons-entries.ensures.entries)
-    ∙ length-map entries (on_value lent_common) in
+    ∙ length-map entries (on_value lent_type) in
     subst (λ n. c.in-Err-Cycle.rank < n) same within
 
 pub returns-in-Ok-clause-ok : goal.returns-in-Ok-clause-ok

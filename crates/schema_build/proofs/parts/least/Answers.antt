@@ -1,0 +1,18 @@
+use Rattle.std.proofs.Common.{◌+◌, sym, subst, ◌∙◌}
+use Rattle.cedar_names.specs.Orders.{names_in_order}
+use Rattle.schema_build.proofs.Least.{IsLeastSoFar, least_at_first, least_taken, least_kept, not_less}
+use Rattle.schema_build.proofs.parts.least.Goals.{in-Less, in-Equal}
+use Rattle.schema_build.proofs.parts.least.Goals as goal
+
+pub loop-name-init : goal.loop-name-init
+loop-name-init c = least_at_first c.args.first.now c.args.others.now
+
+pub loop-name-preserved : goal.loop-name-preserved
+loop-name-preserved c =
+    let first = c.args.first.now in
+    let others = c.args.others.now in
+    let i = c.loop-name.name-index in
+    elim c.match-cmp.branch [
+      | in-Less w ↦ subst (λ b. IsLeastSoFar first others (i + 1) b.now) (sym w.least-is) (least_taken first others i c.loop-name.least.now c.name-item.result c.loop-name-test.true c.name-item.is (sym c.cmp.ensures ∙ w.in-Less.is) c.loop-name.invariant)
+      | in-Equal w ↦ subst (λ b. IsLeastSoFar first others (i + 1) b.now) (sym w.least-is) (least_kept first others i c.loop-name.least.now c.name-item.result c.loop-name-test.true c.name-item.is (not_less (names_in_order c.name-item.result.name c.loop-name.least.now.name) c.cmp.result c.cmp.ensures w.in-Equal.is) c.loop-name.invariant)
+    ]

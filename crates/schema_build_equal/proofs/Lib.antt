@@ -1,0 +1,4 @@
+mod Choices
+mod Keys
+mod Layers
+mod OneSet
