@@ -1,165 +1,38 @@
 -- The entity types that a fragment declares which says what is written of a meaning.
-use Rattle.std.proofs.Common.{◌≡◌, ◌⊎◌, inl, inr, ℕ, zero, suc, Bool, true, false, cond, List, [], ◌∷◌, ◌++◌, map, filter, flat_map, Option, Some, None, Contains, refl, sym, ap, ◌∙◌, subst, arith, true≢false, is_some, if◌then◌else◌}
-use Rattle.std.specs.BTreeMap.{is_at}
-use Rattle.std.specs.Cmp.{IsTotalOrder, tied_itself}
-use Rattle.std.specs.List.{AllByRecursion}
-use Rattle.std.specs.List.Sorted.{IsStrictlySortedBy}
-use Rattle.std.specs.Map.{lookup}
-use Rattle.std.specs.Option.{option_or}
-use Rattle.std.specs.Ordering.{is_eq, ordering_reverse}
+use Rattle.std.proofs.Common.{◌≡◌, ◌⊎◌, inl, inr, ℕ, Bool, true, false, List, [], ◌∷◌, ◌++◌, map, filter, flat_map, Option, Some, None, Contains, refl, sym, ap, ◌∙◌, subst, true≢false, is_some}
+use Rattle.std.specs.BTreeSet.{insert_key}
+use Rattle.std.specs.Cmp.Lexicographic.{slice_cmp}
+use Rattle.std.specs.Ordering.{match_ordering}
 use Rattle.std.specs.declared.cmp.Ordering.{Ordering}
-use Rattle.std.specs.declared.cmp.Ordering.TheVariants.{Less}
-use Rattle.std.proofs.lemmas.Map.Keys.{sorted_head, sorted_tail}
+use Rattle.std.specs.declared.cmp.Ordering.TheVariants.{Less, Equal, Greater}
+use Rattle.std.specs.Str.{bytes_eq}
+use Rattle.std.proofs.lemmas.Bool.{and_from}
+use Rattle.std.proofs.lemmas.Slice.Eq.{bytes_eq-Decides}
 use Rattle.cedar_data.specs.Text.{text_cmp}
 use Rattle.cedar_identifiers.specs.Names.{components_of, texts_of}
 use Rattle.cedar_identifiers.specs.declared.id.Id.{Id}
 use Rattle.cedar_identifiers.specs.declared.name.Name.{Name}
 use Rattle.cedar_identifiers.specs.declared.raw_name.RawName.{RawName}
 use Rattle.cedar_identifiers.specs.declared.unreserved_id.UnreservedId.{UnreservedId}
-use Rattle.cedar_names.specs.CanonicalText.{basename, namespace}
+use Rattle.cedar_names.specs.CanonicalText.{basename, namespace, in_order, namespaces}
 use Rattle.cedar_names.specs.Definitions.{same_name}
 use Rattle.cedar_names.specs.Meaning.{EntityMeaning, ActionMeaning, SchemaMeaning}
 use Rattle.schema_json.specs.declared.entity_type.EntityType.{EntityType}
 use Rattle.schema_json.specs.declared.fragment.Fragment.{Fragment}
-use Rattle.schema_json.specs.declared.fragment.NamespaceDefinition.{NamespaceDefinition}
 use Rattle.schema_convert_types.specs.Declarations.{as_written}
 use Rattle.schema_readback.specs.Meant.{entity_as, action_as, entity_of_meaning, action_of_meaning, items_of_meaning, name_or_none, groups_of_meaning}
 use Rattle.schema_readback.specs.PrintedDecls.{IsSome, group_items}
 use Rattle.schema_readback.specs.Written.{WrittenDeclared}
 use Rattle.schema_build_hierarchy.specs.Declarations.{DeclaredEntity, entity_in, entity_name, entities_of, declared_entities}
 use Rattle.schema_says.specs.DeclarationsSay.{KindSays, EntitySays}
-use Rattle.schema_says.specs.Entries.{FoundSays, last_written}
-use Rattle.schema_says.specs.FragmentsSay.{entities_of_decl, by_names, WrittenNamespace, NamespaceSays, NamespaceName, namespace_order, name_components, written_in, FragmentSays}
+use Rattle.schema_says.specs.FragmentsSay.{entities_of_decl, WrittenNamespace, NamespaceName, name_components, written_in, FragmentSays}
 use Rattle.schema_says.specs.MeantNames.{IsOpenName, HasOpenNames}
-use Rattle.schema_says.specs.MeantNamespaces.{IsOfMeaning}
+use Rattle.schema_says.specs.MeantNamespaces.{meant_in_namespace, IsOfMeaning}
 use Rattle.schema_build_says.specs.DeclaredEntries.{IsEntryOf}
-use Rattle.schema_says.proofs.Maps.{is_equal}
-use Rattle.schema_says.proofs.MeantSayable.{equal_names, rebuilt}
-use Rattle.schema_says.proofs.Orders.{text_total, text_exact, namespace_total}
-
--- it is one of these
-abbrev IsIn : {A : Type 0} → A → List A → Type 0
-IsIn x [] = ⊥
-IsIn x (y ∷ ys) = (x ≡ y) ⊎ IsIn x ys
-
-in_from : {A : Type 0} (xs : List A) (x : A) → Contains xs x → IsIn x xs
-in_from [] x (k, lt, e) = absurd (omega arith)
-in_from (y ∷ ys) x (zero, lt, e) = inl (sym e)
-in_from (y ∷ ys) x (suc k, lt, e) = inr (in_from ys x (k, omega arith, e))
-
-in_to : {A : Type 0} (xs : List A) (x : A) → IsIn x xs → Contains xs x
-in_to [] x h = absurd h
-in_to (y ∷ ys) x (inl e) = (zero, omega arith, sym e)
-in_to (y ∷ ys) x (inr h) = let r = in_to ys x h in (suc r.0, omega (arith, r.1), r.2)
-
-in_append : {A : Type 0} (xs ys : List A) (x : A) → IsIn x (xs ++ ys) → IsIn x xs ⊎ IsIn x ys
-in_append [] ys x h = inr h
-in_append (y ∷ xs) ys x (inl e) = inl (inl e)
-in_append (y ∷ xs) ys x (inr h) = by (in_append xs ys x h)
-  where
-    by : IsIn x xs ⊎ IsIn x ys → ((x ≡ y) ⊎ IsIn x xs) ⊎ IsIn x ys
-    by (inl k) = inl (inr k)
-    by (inr k) = inr k
-
-in_map : {A B : Type 0} (f : A → B) (xs : List A) (y : B) → IsIn y (map f xs) → (x : A) × IsIn x xs × (y ≡ f x)
-in_map f [] y h = absurd h
-in_map f (x ∷ xs) y (inl e) = (x, inl refl, e)
-in_map f (x ∷ xs) y (inr h) = let r = in_map f xs y h in (r.0, inr r.1, r.2)
-
-in_flat : {A B : Type 0} (f : A → List B) (xs : List A) (y : B) → IsIn y (flat_map f xs)
-    → (x : A) × IsIn x xs × IsIn y (f x)
-in_flat f [] y h = absurd h
-in_flat {A} {B} f (x ∷ xs) y h = by (in_append (f x) (flat_map f xs) y h) (in_flat f xs y)
-  where
-    by : IsIn y (f x) ⊎ IsIn y (flat_map f xs) → (IsIn y (flat_map f xs) → (x : A) × IsIn x xs × IsIn y (f x))
-        → (z : A) × IsIn z (x ∷ xs) × IsIn y (f z)
-    by (inl k) r = (x, inl refl, k)
-    by (inr k) r = let o = r k in (o.0, inr o.1, o.2)
-
-in_filter : {A : Type 0} (test : A → Bool) (xs : List A) (x : A) → IsIn x (filter test xs) → IsIn x xs × (test x ≡ true)
-in_filter test [] x h = absurd h
-in_filter test (y ∷ ys) x h = by (test y) refl h (in_filter test ys x)
-  where
-    by : (b : Bool) → test y ≡ b → IsIn x (cond b (y ∷ filter test ys) (filter test ys))
-        → (IsIn x (filter test ys) → IsIn x ys × (test x ≡ true)) → ((x ≡ y) ⊎ IsIn x ys) × (test x ≡ true)
-    by true t (inl e) r = (inl e, ap test e ∙ t)
-    by true t (inr k) r = let o = r k in (inr o.0, o.1)
-    by false t k r = let o = r k in (inr o.0, o.1)
-
-all_in : {A : Type 0} (P : A → Type 0) (xs : List A) (x : A) → AllByRecursion P xs → IsIn x xs → P x
-all_in P [] x h k = absurd k
-all_in P (y ∷ ys) x h (inl e) = subst P (sym e) h.0
-all_in P (y ∷ ys) x h (inr k) = all_in P ys x h.1 k
-
--- an entry of a map whose names rise is found by its name
-module _ {K N V : Type 0} (order : N → N → Ordering) (total : IsTotalOrder order) (name : K → N) where
-  abbrev names : List (K × V) → List N
-  names es = map (λ e. name e.0) es
-
-  name_in : (es : List (K × V)) (e : K × V) → IsIn e es → IsIn (name e.0) (names es)
-  name_in [] e h = absurd h
-  name_in (d ∷ es) e (inl p) = inl (ap (λ (x : K × V). name x.0) p)
-  name_in (d ∷ es) e (inr h) = inr (name_in es e h)
-
-  found_there : (es : List (K × V)) (e : K × V) → IsStrictlySortedBy order (names es) → IsIn e es
-      → lookup (λ k. is_at (order (name e.0)) (name k)) es ≡ Some e.1
-  found_there [] e s h = absurd h
-  found_there (d ∷ es) e s (inl p) =
-      ap (λ c. cond (is_eq c) (Some d.1) (lookup (λ k. is_at (order (name e.0)) (name k)) es))
-      (ap (order (name e.0)) (ap (λ (x : K × V). name x.0) (sym p)) ∙ tied_itself total (name e.0))
-      ∙ ap (λ (x : K × V). Some x.1) (sym p)
-  found_there (d ∷ es) e s (inr h) =
-      let less : order (name d.0) (name e.0) ≡ Less =
-      all_in (λ y. order (name d.0) y ≡ Less) (names es) (name e.0) (sorted_head order (name d.0) (names es) s)
-      (name_in es e h) in
-      ap (λ c. cond (is_eq c) (Some d.1) (lookup (λ k. is_at (order (name e.0)) (name k)) es))
-      (total.antisymm (name e.0) (name d.0) ∙ ap ordering_reverse less)
-      ∙ found_there es e (sorted_tail order (name d.0) (names es) s) h
-
--- what is found says something that is written
-found_some : {V W : Type 0} (Says : V → W → Type 0) (v : V) (o : Option W) → FoundSays Says (Some v) o
-    → (w : W) × (o ≡ Some w) × Says v w
-found_some Says v None h = absurd h
-found_some Says v (Some w) h = (w, refl, h)
-
-pair_same : {A B : Type 0} (a c : A) (b d : B) → a ≡ c → b ≡ d
-    → (let p : A × B = (a, b) in p) ≡ (let q : A × B = (c, d) in q)
-pair_same a c b d e f = λ i. (e i, f i)
-
--- what is written last beside a name stands beside it
-last_in : {W : Type 0} (ws : List (List ℕ × W)) (n : List ℕ) (w : W) → last_written ws n ≡ Some w
-    → IsIn (let p : List ℕ × W = (n, w) in p) ws
-last_in [] n w h = absurd (true≢false (sym (ap is_some h)))
-last_in {W} (x ∷ ws) n w h = by (last_in ws n w) (last_written ws n) refl (is_at (text_cmp n) x.0) refl h
-  where
-    some_same : (a b : W) → Some a ≡ Some b → a ≡ b
-    some_same a b p = cc
-
-    by : (last_written ws n ≡ Some w → IsIn (let p : List ℕ × W = (n, w) in p) ws) → (o : Option W)
-        → last_written ws n ≡ o → (b : Bool) → is_at (text_cmp n) x.0 ≡ b
-        → option_or o (if b then Some x.1 else None) ≡ Some w
-        → ((let p : List ℕ × W = (n, w) in p) ≡ x) ⊎ IsIn (let p : List ℕ × W = (n, w) in p) ws
-    by r (Some v) e b t k = inr (r (e ∙ k))
-    by r None e true t k = let same = text_exact n x.0 (is_equal (text_cmp n x.0) t) in let value =
-        some_same x.1 w k in inl (pair_same n x.0 w x.1 same (sym value))
-    by r None e false t k = absurd (true≢false (sym (ap is_some k)))
-
--- a declaration that stands beside a name gives it
-named_by : (ds : List WrittenDeclared) (n : List ℕ) (w : WrittenDeclared)
-    → IsIn (let p : List ℕ × WrittenDeclared = (n, w) in p) (by_names entities_of_decl ds)
-    → IsIn w ds × IsIn n (entities_of_decl w.decl)
-named_by ds n w h =
-    let o = in_flat
-    (λ (d : WrittenDeclared). map (λ name. let p : List ℕ × WrittenDeclared = (name, d) in p)
-    (entities_of_decl d.decl)) ds (n, w) h in
-    let i = in_map (λ name. let p : List ℕ × WrittenDeclared = (name, o.0) in p) (entities_of_decl o.0.decl)
-    (n, w) o.2 in
-    let same : w ≡ o.0 = ap (λ (p : List ℕ × WrittenDeclared). p.1) i.2 in
-    let name : n ≡ i.0 = ap (λ (p : List ℕ × WrittenDeclared). p.0) i.2 in (
-      subst (λ d. IsIn d ds) (sym same) o.1,
-      subst (λ d. IsIn n (entities_of_decl d.decl)) (sym same)
-          (subst (λ k. IsIn k (entities_of_decl o.0.decl)) (sym name) i.1),
-    )
+use Rattle.schema_says.proofs.MeantSayable.{equal_names, name_back, rebuilt}
+use Rattle.schema_says.proofs.Orders.{components_exact}
+use Rattle.schema_build_says.proofs.Blocks.{Block, IsBlockOf, block_of, block_there, entry_says, entry_there}
+use Rattle.schema_build_says.proofs.Members.{IsIn, in_from, in_to, in_append, left_to, right_to, in_map, map_to, in_flat, flat_to, in_filter, filter_to, all_in}
 
 base_of : (x : Bool) (choices : Option (List (List ℕ))) (e : EntityMeaning) (n : List ℕ)
     → IsIn n (entities_of_decl (entity_as x choices e)) → n ≡ basename e.name
@@ -170,42 +43,118 @@ base_of false None e n (inr h) = absurd h
 base_of false (Some cs) e n (inl p) = p
 base_of false (Some cs) e n (inr h) = absurd h
 
+base_to : (x : Bool) (choices : Option (List (List ℕ))) (e : EntityMeaning)
+    → IsIn (basename e.name) (entities_of_decl (entity_as x choices e))
+base_to true choices e = inl refl
+base_to false None e = inl refl
+base_to false (Some cs) e = inl refl
+
 none_of : (x : Bool) (a : ActionMeaning) (n : List ℕ) → IsIn n (entities_of_decl (action_as x a)) → ⊥
 none_of true a n h = h
 none_of false a n h = h
 
--- the entry of an entity type that gives a name in a namespace
-record EntryAt (m : SchemaMeaning) (q : List (List ℕ)) (n : List ℕ) (w : WrittenDeclared) : Type 0 where
-  entry : EntityMeaning
-  among : IsIn entry m.entities
-  space : namespace entry.name ≡ q
-  base : n ≡ basename entry.name
-  is : w ≡ entity_of_meaning entry
-
-entry_at : (m : SchemaMeaning) (q : List (List ℕ)) (n : List ℕ) (w : WrittenDeclared) → IsIn w (items_of_meaning m q)
-    → IsIn n (entities_of_decl w.decl) → EntryAt m q n w
-entry_at m q n w h k =
+-- the items of a namespace are its entity types and its actions
+pub item_cases : (m : SchemaMeaning) (q : List (List ℕ)) (w : WrittenDeclared) → IsIn w (items_of_meaning m q)
+    → ((e : EntityMeaning) × IsIn e m.entities × (namespace e.name ≡ q) × (w ≡ entity_of_meaning e))
+    ⊎ ((a : ActionMeaning) × IsIn a m.actions × (namespace a.ty ≡ q) × (w ≡ action_of_meaning a))
+item_cases m q w h =
     by (in_append (map entity_of_meaning (filter (λ (e : EntityMeaning). same_name q (namespace e.name)) m.entities))
     (map action_of_meaning (filter (λ (a : ActionMeaning). same_name q (namespace a.ty)) m.actions)) w h)
   where
     by : IsIn w (map entity_of_meaning (filter (λ (e : EntityMeaning). same_name q (namespace e.name)) m.entities))
         ⊎ IsIn w (map action_of_meaning (filter (λ (a : ActionMeaning). same_name q (namespace a.ty)) m.actions))
-        → EntryAt m q n w
+        → ((e : EntityMeaning) × IsIn e m.entities × (namespace e.name ≡ q) × (w ≡ entity_of_meaning e))
+        ⊎ ((a : ActionMeaning) × IsIn a m.actions × (namespace a.ty ≡ q) × (w ≡ action_of_meaning a))
     by (inl i) =
         let o = in_map entity_of_meaning (filter (λ (e : EntityMeaning). same_name q (namespace e.name)) m.entities)
         w i in
         let f = in_filter (λ (e : EntityMeaning). same_name q (namespace e.name)) m.entities o.0 o.1 in
-        record {
-          entry = o.0;
-          among = f.0;
-          space = sym (equal_names q (namespace o.0.name) f.1);
-          base =
-              base_of o.0.is_external o.0.choices o.0 n (subst (λ d. IsIn n (entities_of_decl d.decl)) o.2 k);
-          is = o.2;
-        }
+        inl (o.0, f.0, sym (equal_names q (namespace o.0.name) f.1), o.2)
     by (inr i) =
         let o = in_map action_of_meaning (filter (λ (a : ActionMeaning). same_name q (namespace a.ty)) m.actions) w i in
-        absurd (none_of o.0.is_external o.0 n (subst (λ d. IsIn n (entities_of_decl d.decl)) o.2 k))
+        let f = in_filter (λ (a : ActionMeaning). same_name q (namespace a.ty)) m.actions o.0 o.1 in
+        inr (o.0, f.0, sym (equal_names q (namespace o.0.ty) f.1), o.2)
+
+pub name_itself : (n : List (List ℕ)) → same_name n n ≡ true
+name_itself [] = refl
+name_itself (x ∷ xs) =
+    and_from (bytes_eq x x) (same_name xs xs) ((bytes_eq-Decides x x).1 refl) (name_itself xs)
+
+-- each is an item of its namespace
+pub entity_item : (m : SchemaMeaning) (e : EntityMeaning) → IsIn e m.entities
+    → IsIn (entity_of_meaning e) (items_of_meaning m (namespace e.name))
+entity_item m e h =
+    let q = namespace e.name in
+    let mine = filter (λ (x : EntityMeaning). same_name q (namespace x.name)) m.entities in
+    left_to (map entity_of_meaning mine)
+    (map action_of_meaning (filter (λ (a : ActionMeaning). same_name q (namespace a.ty)) m.actions))
+    (entity_of_meaning e)
+    (map_to entity_of_meaning mine e
+    (filter_to (λ (x : EntityMeaning). same_name q (namespace x.name)) m.entities e h (name_itself q)))
+
+pub action_item : (m : SchemaMeaning) (a : ActionMeaning) → IsIn a m.actions
+    → IsIn (action_of_meaning a) (items_of_meaning m (namespace a.ty))
+action_item m a h =
+    let q = namespace a.ty in
+    let mine = filter (λ (x : ActionMeaning). same_name q (namespace x.ty)) m.actions in
+    right_to (map entity_of_meaning (filter (λ (e : EntityMeaning). same_name q (namespace e.name)) m.entities))
+    (map action_of_meaning mine) (action_of_meaning a)
+    (map_to action_of_meaning mine a
+    (filter_to (λ (x : ActionMeaning). same_name q (namespace x.ty)) m.actions a h (name_itself q)))
+
+pub some_in : {A : Type 0} (xs : List A) (x : A) → IsIn x xs → IsSome xs
+some_in [] x h = absurd h
+some_in (y ∷ ys) x h = tt
+
+-- a list in order has what was put into it
+put_here : (ns : List (List (List ℕ))) (n : List (List ℕ)) → IsIn n (insert_key (slice_cmp text_cmp) ns n)
+put_here [] n = inl refl
+put_here (x ∷ ns) n = by (slice_cmp text_cmp n x) refl (put_here ns n)
+  where
+    by : (c : Ordering) → slice_cmp text_cmp n x ≡ c → IsIn n (insert_key (slice_cmp text_cmp) ns n)
+        → IsIn n (match_ordering c (n ∷ x ∷ ns) (x ∷ ns) (x ∷ insert_key (slice_cmp text_cmp) ns n))
+    by Less e r = inl refl
+    by Equal e r = inl (components_exact n x e)
+    by Greater e r = inr r
+
+put_behind : (ns : List (List (List ℕ))) (n p : List (List ℕ)) → IsIn p ns
+    → IsIn p (insert_key (slice_cmp text_cmp) ns n)
+put_behind [] n p h = absurd h
+put_behind (x ∷ ns) n p (inl e) = by (slice_cmp text_cmp n x)
+  where
+    by : (c : Ordering) → IsIn p (match_ordering c (n ∷ x ∷ ns) (x ∷ ns) (x ∷ insert_key (slice_cmp text_cmp) ns n))
+    by Less = inr (inl e)
+    by Equal = inl e
+    by Greater = inl e
+put_behind (x ∷ ns) n p (inr h) = by (slice_cmp text_cmp n x) (put_behind ns n p h)
+  where
+    by : (c : Ordering) → IsIn p (insert_key (slice_cmp text_cmp) ns n)
+        → IsIn p (match_ordering c (n ∷ x ∷ ns) (x ∷ ns) (x ∷ insert_key (slice_cmp text_cmp) ns n))
+    by Less r = inr (inr h)
+    by Equal r = inr h
+    by Greater r = inr r
+
+pub in_ordered : (ns : List (List (List ℕ))) (n : List (List ℕ)) → IsIn n ns → IsIn n (in_order ns)
+in_ordered [] n h = absurd h
+in_ordered (x ∷ ns) n (inl e) = subst (λ p. IsIn p (insert_key (slice_cmp text_cmp) (in_order ns) x)) (sym e)
+    (put_here (in_order ns) x)
+in_ordered (x ∷ ns) n (inr h) = put_behind (in_order ns) x n (in_ordered ns n h)
+
+pub entity_space : (m : SchemaMeaning) (e : EntityMeaning) → IsIn e m.entities
+    → Contains (namespaces m) (namespace e.name)
+entity_space m e h =
+    let ns = map (λ (x : EntityMeaning). namespace x.name) m.entities in
+    let others = map (λ (a : ActionMeaning). namespace a.ty) m.actions in
+    in_to (namespaces m) (namespace e.name) (in_ordered (ns ++ others) (namespace e.name)
+    (left_to ns others (namespace e.name) (map_to (λ (x : EntityMeaning). namespace x.name) m.entities e h)))
+
+pub action_space : (m : SchemaMeaning) (a : ActionMeaning) → IsIn a m.actions
+    → Contains (namespaces m) (namespace a.ty)
+action_space m a h =
+    let ns = map (λ (x : EntityMeaning). namespace x.name) m.entities in
+    let others = map (λ (x : ActionMeaning). namespace x.ty) m.actions in
+    in_to (namespaces m) (namespace a.ty) (in_ordered (ns ++ others) (namespace a.ty)
+    (right_to ns others (namespace a.ty) (map_to (λ (x : ActionMeaning). namespace x.ty) m.actions a h)))
 
 both_parts : {a b : List (List ℕ)} {c d : List ℕ} → a ≡ b → c ≡ d → b ++ c ∷ [] ≡ a ++ d ∷ []
 both_parts e f = (λ i. sym e i ++ f i ∷ [])
@@ -214,68 +163,92 @@ whole_name : (full space : List (List ℕ)) (base : List ℕ) (name : List (List
     → namespace name ≡ space → base ≡ basename name → namespace name ++ basename name ∷ [] ≡ name → full ≡ name
 whole_name full space base name f s b r = f ∙ (both_parts s b ∙ r)
 
+pub texts_behind : (others : List Id) (last : Id) → texts_of (others ++ last ∷ []) ≡ texts_of others ++ last.text ∷ []
+texts_behind [] last = refl
+texts_behind (i ∷ others) last = ap (λ l. i.text ∷ l) (texts_behind others last)
+
 -- the full name of a declared entity type
 full_name : (key : Option Name) (id : UnreservedId) (et : EntityType RawName) (q : List (List ℕ))
     → name_or_none q ≡ name_components key → entity_name (entity_in key (id, et)) ≡ q ++ id.id.text ∷ []
 full_name None id et [] h = refl
 full_name None id et (c ∷ cs) h = absurd (true≢false (ap is_some h))
 full_name (Some n) id et [] h = absurd (true≢false (sym (ap is_some h)))
-full_name (Some n) id et (c ∷ cs) h = texts_behind n.name.others id.id ∙ ap (λ l. l ++ id.id.text ∷ []) (sym same)
+full_name (Some n) id et (c ∷ cs) h =
+    texts_behind (n.name.first ∷ n.name.others) id.id ∙ ap (λ l. l ++ id.id.text ∷ []) (sym same)
   where
     same : c ∷ cs ≡ components_of n.name
     same = cc
-
-    texts_behind : (others : List Id) (last : Id)
-        → n.name.first.text ∷ texts_of (others ++ last ∷ []) ≡ (n.name.first.text ∷ texts_of others) ++ last.text ∷ []
-    texts_behind others last = ap (λ l. n.name.first.text ∷ l) (behind others)
-      where
-        behind : (others : List Id) → texts_of (others ++ last ∷ []) ≡ texts_of others ++ last.text ∷ []
-        behind [] = refl
-        behind (i ∷ others) = ap (λ l. i.text ∷ l) (behind others)
 
 kind_at : (et : EntityType RawName) (w v : WrittenDeclared) → w ≡ v → KindSays et.external et.kind w.decl
     → KindSays et.external et.kind v.decl
 kind_at et w v e h = subst (λ (x : WrittenDeclared). KindSays et.external et.kind x.decl) e h
 
+abbrev id_text : UnreservedId → List ℕ
+id_text id = id.id.text
+
 module _ (m : SchemaMeaning)
-    (written_is : (q : NamespaceName) (w : WrittenNamespace)
+    (written_of : (q : NamespaceName) (w : WrittenNamespace)
     → written_in (flat_map group_items (groups_of_meaning m)) q ≡ Some w → IsOfMeaning m q w)
+    (written_all : (name : List (List ℕ)) → Contains (namespaces m) name → IsSome (items_of_meaning m name)
+    → written_in (flat_map group_items (groups_of_meaning m)) (name_or_none name) ≡ Some (meant_in_namespace m name))
     (open' : HasOpenNames m) (g : Fragment RawName as_written)
     (says : FragmentSays g (flat_map group_items (groups_of_meaning m))) where
-  in_block : (key : Option Name) (def : NamespaceDefinition RawName as_written)
-      → IsIn (let b : Option Name × NamespaceDefinition RawName as_written = (key, def) in b) g.0
-      → (id : UnreservedId) (et : EntityType RawName)
-      → IsIn (let e : UnreservedId × EntityType RawName = (id, et) in e) def.entity_types
-      → IsEntryOf m (entity_in key (id, et))
-  in_block key def h id et k =
-      let q = name_components key in
-      let there = found_there namespace_order namespace_total name_components g.0 (key, def) says.rising h in
-      let w = found_some NamespaceSays def (written_in (flat_map group_items (groups_of_meaning m)) q)
-      (subst (λ o. FoundSays NamespaceSays o (written_in (flat_map group_items (groups_of_meaning m)) q)) there
-      (says.each q)) in
-      let of = written_is q w.0 w.1 in
-      let entities = w.2.entities in
-      let here = found_there text_cmp text_total (λ (i : UnreservedId). i.id.text) def.entity_types
-      (id, et) entities.rising k in
-      let v = found_some EntitySays et (last_written (by_names entities_of_decl w.0.decls) id.id.text)
-      (subst (λ o. FoundSays EntitySays o (last_written (by_names entities_of_decl w.0.decls) id.id.text)) here
-      (entities.each id.id.text)) in
-      let given = named_by w.0.decls id.id.text v.0
-      (last_in (by_names entities_of_decl w.0.decls) id.id.text v.0 v.1) in
-      let decls : w.0.decls ≡ items_of_meaning m of.name = ap (λ (x : WrittenNamespace). x.decls) of.is in
-      let e = entry_at m of.name id.id.text v.0 (subst (IsIn v.0) decls given.0) given.1 in
-      let some : IsSome e.entry.name =
-      (all_in (λ (x : EntityMeaning). IsOpenName x.name) m.entities e.entry open'.entities e.among).0 in
-      record {
-        entry = e.entry;
-        among = in_to m.entities e.entry e.among;
-        name = whole_name (entity_name (entity_in key (id, et))) of.name id.id.text e.entry.name
-            (full_name key id et of.name of.named) e.space e.base (rebuilt e.entry.name some);
-        kind = kind_at et v.0 (entity_of_meaning e.entry) e.is v.2.1;
-      }
+  in_block : (b : Block) → IsIn b g.0 → (x : UnreservedId × EntityType RawName) → IsIn x b.1.entity_types
+      → IsEntryOf m (entity_in b.0 x)
+  in_block b h x k = by (item_cases m of.name said.0 said.1)
+    where
+      of : IsBlockOf m b
+      of = block_of m written_of g says b h
+
+      said : (w : WrittenDeclared) × IsIn w (items_of_meaning m of.name)
+          × IsIn (id_text x.0) (entities_of_decl w.decl) × EntitySays x.1 w
+      said = entry_says id_text EntitySays entities_of_decl b.1.entity_types (items_of_meaning m of.name)
+          of.says.entities x k
+
+      by : ((e : EntityMeaning) × IsIn e m.entities × (namespace e.name ≡ of.name) × (said.0 ≡ entity_of_meaning e))
+          ⊎ ((a : ActionMeaning) × IsIn a m.actions × (namespace a.ty ≡ of.name) × (said.0 ≡ action_of_meaning a))
+          → IsEntryOf m (entity_in b.0 x)
+      by (inl (e, among, space, is)) =
+          let base : id_text x.0 ≡ basename e.name = base_of e.is_external e.choices e (id_text x.0)
+          (subst (λ d. IsIn (id_text x.0) (entities_of_decl d.decl)) is said.2) in
+          let some = (all_in (λ (y : EntityMeaning). IsOpenName y.name) m.entities e open'.entities among).0 in
+          record {
+            entry = e;
+            among = in_to m.entities e among;
+            is = record {
+              name = whole_name (entity_name (entity_in b.0 x)) of.name (id_text x.0) e.name
+                  (full_name b.0 x.0 x.1 of.name of.named) space base (rebuilt e.name some);
+              space = sym of.named ∙ ap name_or_none (sym space);
+              kind = kind_at x.1 said.0 (entity_of_meaning e) is said.3.1;
+            };
+          }
+      by (inr (a, among, space, is)) =
+          absurd (none_of a.is_external a (id_text x.0)
+          (subst (λ d. IsIn (id_text x.0) (entities_of_decl d.decl)) is said.2))
 
   pub declared_are : (d : DeclaredEntity) → Contains (declared_entities g) d → IsEntryOf m d
   declared_are d h =
       let b = in_flat entities_of g.0 d (in_from (declared_entities g) d h) in
       let e = in_map (entity_in b.0.0) b.0.1.entity_types d b.2 in
-      subst (IsEntryOf m) (sym e.2) (in_block b.0.0 b.0.1 b.1 e.0.0 e.0.1 e.1)
+      subst (IsEntryOf m) (sym e.2) (in_block b.0 b.1 e.0 e.1)
+
+  -- each entity type of the meaning is declared
+  pub are_declared : (e : EntityMeaning) → IsIn e m.entities
+      → (d : DeclaredEntity) × IsIn d (declared_entities g) × (entity_name d ≡ e.name)
+  are_declared e h =
+      let q = namespace e.name in
+      let item = entity_item m e h in
+      let b = block_there m written_of g says q
+      (written_all q (entity_space m e h) (some_in (items_of_meaning m q) (entity_of_meaning e) item)) in
+      let of = block_of m written_of g says b.0 b.1 in
+      let same : of.name ≡ q = name_back of.name q (of.named ∙ sym b.2) in
+      let x = entry_there id_text EntitySays entities_of_decl b.0.1.entity_types (items_of_meaning m of.name)
+      of.says.entities (entity_of_meaning e) (basename e.name)
+      (subst (λ n. IsIn (entity_of_meaning e) (items_of_meaning m n)) (sym same) item)
+      (base_to e.is_external e.choices e) in
+      let some = (all_in (λ (y : EntityMeaning). IsOpenName y.name) m.entities e open'.entities h).0 in (
+        entity_in b.0.0 x.0,
+        flat_to entities_of g.0 b.0 (entity_in b.0.0 x.0) b.1 (map_to (entity_in b.0.0) b.0.1.entity_types x.0 x.1),
+        whole_name (entity_name (entity_in b.0.0 x.0)) of.name (id_text x.0.0) e.name
+            (full_name b.0.0 x.0.0 x.0.1 of.name of.named) (sym same) x.2 (rebuilt e.name some),
+      )

@@ -23,11 +23,13 @@ use Rattle.schema_build_expand.specs.Scope.{Scope}
 use Rattle.schema_build_items.specs.ActionKinds.{components_cmp, AreJust, IsMeantByOne, IsApplyMeaning}
 use Rattle.schema_build_items.specs.Kinds.{TagsExpand, IsKindMeaning}
 use Rattle.schema_says.specs.DeclarationsSay.{written_paths, TagsSay, KindSays, SpecSays, members_said, AppliesSay}
-use Rattle.schema_build_says.specs.Themselves.{IsOrderedType, MeansItself}
-use Rattle.schema_build_says.specs.Entries.{HasItsParts, TagsMeanThemselves, EntityMeansItself, IsFoundAs, HasBothOrNeither, AppliesWhereOwn, ActionMeansItself}
+use Rattle.schema_build_closed.specs.Kinds.{HasItsParts, HasBothOrNeither, AppliesWhereOwn}
+use Rattle.schema_build_closed.specs.Ordered.{IsOrderedType}
+use Rattle.schema_build_says.specs.Themselves.{MeansItself}
+use Rattle.schema_build_says.specs.Entries.{TagsMeanThemselves, EntityMeansItself, IsFoundAs, ActionMeansItself}
 use Rattle.schema_build_says.proofs.Expanding.{type_expands}
 
-nothing_rises : IsStrictlySortedBy text_cmp []
+pub nothing_rises : IsStrictlySortedBy text_cmp []
 unfolding IsStrictlySortedBy
 nothing_rises = tt
 

@@ -31,7 +31,8 @@ use Rattle.schema_build_expand.specs.View.{View, set_layer, record_layer, refere
 use Rattle.schema_says.specs.TypesSay.{TypeSays, AttributeSays, ByTest, has_attribute, is_last_attribute}
 use Rattle.schema_says.proofs.Maps.{is_equal}
 use Rattle.schema_says.proofs.Orders.{text_total, text_exact}
-use Rattle.schema_build_says.specs.Themselves.{meant_names, IsOrderedType, AreOrderedTypes, MeansBuiltin, MeansItself, MeanThemselves}
+use Rattle.schema_build_closed.specs.Ordered.{meant_names, IsOrderedType, AreOrderedTypes}
+use Rattle.schema_build_says.specs.Themselves.{MeansBuiltin, MeansItself, MeanThemselves}
 
 -- views of types
 shape_viewed : (v : TypeVariant RawName)
@@ -70,10 +71,10 @@ as_second : (b : Bool) (A B : Type 0) → b ≡ false → B → ByTest b A B
 as_second true A B e h = absurd (true≢false e)
 as_second false A B e h = h
 
-abbrev Entry : Type 0
+abbrev pub Entry : Type 0
 Entry = List ℕ × TypeOfAttribute RawName
 
-abbrev AreGreater : List ℕ → List (List ℕ) → Type 0
+abbrev pub AreGreater : List ℕ → List (List ℕ) → Type 0
 AreGreater k names = AllByRecursion (λ y. text_cmp k y ≡ Less) names
 
 all_above : (k n : List ℕ) (ns : List (List ℕ)) → text_cmp k n ≡ Less → AreGreater n ns → AreGreater k ns
@@ -110,22 +111,22 @@ none_found : (k : List ℕ) (es : List Entry) → AreGreater k (keys_of es) → 
 none_found k [] h = refl
 none_found k (e ∷ es) h = ap (λ c. cond (is_eq c) (Some e.1) (lookup (is_at (text_cmp k)) es)) h.0 ∙ none_found k es h.1
 
-at_head : (e : Entry) (es : List Entry) → lookup (is_at (text_cmp e.0)) (e ∷ es) ≡ Some e.1
+pub at_head : (e : Entry) (es : List Entry) → lookup (is_at (text_cmp e.0)) (e ∷ es) ≡ Some e.1
 at_head e es = ap (λ c. cond (is_eq c) (Some e.1) (lookup (is_at (text_cmp e.0)) es)) (tied_itself text_total e.0)
 
-not_some : {X : Type 0} (a : TypeOfAttribute RawName) → Some a ≡ None → X
+pub not_some : {X : Type 0} (a : TypeOfAttribute RawName) → Some a ≡ None → X
 not_some a h = absurd (true≢false (ap is_some h))
 
-some_same : (a b : TypeOfAttribute RawName) → Some a ≡ Some b → a ≡ b
+pub some_same : (a b : TypeOfAttribute RawName) → Some a ≡ Some b → a ≡ b
 some_same a b h = cc
 
 -- an attribute whose name is less than those behind it
-abbrev IsFirst : List ℕ → Bool → WrittenType → Option (TypeOfAttribute RawName) → Type 0
+abbrev pub IsFirst : List ℕ → Bool → WrittenType → Option (TypeOfAttribute RawName) → Type 0
 IsFirst n required t found =
     (a : TypeOfAttribute RawName) × (found ≡ Some a) × TypeSays (out-TypeOfAttribute RawName a).ty t
     × ((out-TypeOfAttribute RawName a).annotations.0 ≡ []) × ((out-TypeOfAttribute RawName a).required ≡ required)
 
-first_said : (n : List ℕ) (r : Bool) (t : PlainType) (xs : Attributes) (found : Option (TypeOfAttribute RawName))
+pub first_said : (n : List ℕ) (r : Bool) (t : PlainType) (xs : Attributes) (found : Option (TypeOfAttribute RawName))
     → AreGreater n (meant_names xs)
     → AttributeSays n found (attributes_of_meaning (m.attribute n r t xs)) → IsFirst n r (type_of_meaning t) found
 first_said n r t xs found h s =
@@ -134,7 +135,7 @@ first_said n r t xs found h s =
     ((λ i. is_eq (tied_itself text_total n i) && not (none_named n xs h i))) s
 
 -- the first entry has the first name
-same_first : (e : Entry) (es : List Entry) (n : List ℕ) (r : Bool) (t : PlainType) (xs : Attributes)
+pub same_first : (e : Entry) (es : List Entry) (n : List ℕ) (r : Bool) (t : PlainType) (xs : Attributes)
     → AreGreater e.0 (keys_of es) → AreGreater n (meant_names xs)
     → ((k : List ℕ) → AttributeSays k (lookup (is_at (text_cmp k)) (e ∷ es))
     (attributes_of_meaning (m.attribute n r t xs))) → e.0 ≡ n
@@ -152,7 +153,7 @@ same_first e es n r t xs h k says = by (text_cmp n e.0) refl
         (less, all_above e.0 n (meant_names xs) less k) (says e.0))
 
 -- what the others say
-others_say : (e : Entry) (es : List Entry) (n : List ℕ) (r : Bool) (t : PlainType) (xs : Attributes) → e.0 ≡ n
+pub others_say : (e : Entry) (es : List Entry) (n : List ℕ) (r : Bool) (t : PlainType) (xs : Attributes) → e.0 ≡ n
     → AreGreater e.0 (keys_of es) → AreGreater n (meant_names xs)
     → ((k : List ℕ) → AttributeSays k (lookup (is_at (text_cmp k)) (e ∷ es))
     (attributes_of_meaning (m.attribute n r t xs)))

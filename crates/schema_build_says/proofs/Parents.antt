@@ -17,8 +17,10 @@ use Rattle.schema_resolve_definitions.specs.Tests.{Tests}
 use Rattle.schema_build_graph.specs.Paths.{Leads, Reaches}
 use Rattle.schema_build_hierarchy.specs.Parents.{action_target_in, written_parents, parents_in, action_parents_in}
 use Rattle.schema_says.specs.DeclarationsSay.{written_paths, KindSays, written_ref, ParentsSay, AppliesSay}
-use Rattle.schema_build_says.specs.Ancestors.{IsActionFoundAs, IsTransitive}
-use Rattle.schema_build_says.specs.Entries.{HasItsParts, IsFoundAs}
+use Rattle.schema_build_closed.specs.Closed.{IsTransitive}
+use Rattle.schema_build_closed.specs.Kinds.{HasItsParts}
+use Rattle.schema_build_says.specs.Ancestors.{IsActionFoundAs}
+use Rattle.schema_build_says.specs.Entries.{IsFoundAs}
 
 module _ (t : Tests) (ns : Option Name) where
   found_parents : (names : List RawName) (targets : List (List (List ℕ))) → written_paths names ≡ targets

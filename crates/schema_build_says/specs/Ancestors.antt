@@ -1,4 +1,4 @@
--- Ancestors that mean themselves, and parents that are closed.
+-- Ancestors of actions that mean themselves.
 use Rattle.std.specs.Prelude.{◌≡◌, ℕ, List, Option, Some}
 use Rattle.std.specs.Option.{option_map}
 use Rattle.cedar_identifiers.specs.Names.{components_of}
@@ -12,7 +12,3 @@ abbrev pub IsActionFoundAs : Tests → Option Name → List (List ℕ) × List �
 IsActionFoundAs t ns target =
     (ty : Option RawName) → option_map (λ n. components_of n.name) ty ≡ Some target.0
     → action_target_in t ns target.1 ty ≡ Some target
-
--- what is related by way of another is related
-abbrev pub IsTransitive : {A : Type 0} → (A → A → Type 0) → Type 0
-IsTransitive {A} E = (a b c : A) → E a b → E b c → E a c

@@ -1,5 +1,5 @@
 -- Where the names in the entry of an entity type or of an action mean themselves.
-use Rattle.std.specs.Prelude.{◌≡◌, ℕ, Bool, true, false, List, [], ◌∷◌, Option, Some, None}
+use Rattle.std.specs.Prelude.{◌≡◌, ℕ, List, Option, Some, None}
 use Rattle.std.specs.List.{AllByRecursion}
 use Rattle.std.specs.List.Sorted.{IsStrictlySortedBy}
 use Rattle.cedar_identifiers.specs.Names.{components_of}
@@ -7,20 +7,15 @@ use Rattle.cedar_identifiers.specs.declared.internal_name.InternalName.{Internal
 use Rattle.cedar_identifiers.specs.declared.name.Name.{Name}
 use Rattle.cedar_identifiers.specs.declared.raw_name.RawName.{RawName}
 use Rattle.cedar_identifiers.specs.declared.reference_type.ReferenceType.TheVariants.{Entity}
-use Rattle.cedar_names.specs.Meaning.{PlainType, Attributes, no_more, EntityMeaning, ActionMeaning}
+use Rattle.cedar_names.specs.Meaning.{PlainType, EntityMeaning, ActionMeaning}
 use Rattle.schema_resolve_definitions.specs.Declarations.{name_of}
 use Rattle.schema_resolve_definitions.specs.Tests.{Tests}
 use Rattle.schema_build_expand.specs.Scope.{Scope}
 use Rattle.schema_build_hierarchy.specs.Parents.{target_in}
 use Rattle.schema_build_items.specs.ActionKinds.{components_cmp}
-use Rattle.schema_build_says.specs.Themselves.{IsOrderedType, MeansItself}
-
--- what an entity type has besides its name and ancestors: one of another schema has nothing, and an enum its choices
--- alone
-abbrev pub HasItsParts : Bool → Option (List (List ℕ)) → EntityMeaning → Type 0
-HasItsParts true choices e = (e.attributes ≡ no_more) × (e.tags ≡ None) × (choices ≡ None)
-HasItsParts false None e = Unit {0}
-HasItsParts false (Some cs) e = (e.attributes ≡ no_more) × (e.tags ≡ None) × (e.ancestors ≡ [])
+use Rattle.schema_build_closed.specs.Kinds.{HasItsParts, AppliesWhereOwn}
+use Rattle.schema_build_closed.specs.Ordered.{IsOrderedType}
+use Rattle.schema_build_says.specs.Themselves.{MeansItself}
 
 abbrev pub TagsMeanThemselves : Scope RawName → Option InternalName → Option PlainType → Type 0
 TagsMeanThemselves s ns None = Unit {0}
@@ -36,17 +31,6 @@ pub record EntityMeansItself (s : Scope RawName) (ns : Option InternalName) (e :
 -- the name of an entity type, wherever it stands, is found as this entity type
 abbrev pub IsFoundAs : Tests → Option Name → List (List ℕ) → Type 0
 IsFoundAs t ns target = (n : RawName) → components_of n.name ≡ target → target_in t ns Entity n ≡ Some target
-
--- principals and resources, or neither and no context
-abbrev pub HasBothOrNeither : List (List (List ℕ)) → List (List (List ℕ)) → Attributes → Type 0
-HasBothOrNeither [] [] context = context ≡ no_more
-HasBothOrNeither (p ∷ ps) (r ∷ rs) context = Unit {0}
-HasBothOrNeither _ _ context = ⊥
-
--- an action of another schema applies to nothing
-abbrev pub AppliesWhereOwn : Bool → ActionMeaning → Type 0
-AppliesWhereOwn true a = (a.principals ≡ []) × (a.resources ≡ []) × (a.context ≡ no_more)
-AppliesWhereOwn false a = HasBothOrNeither a.principals a.resources a.context
 
 -- An action applies to principals and resources, or to nothing; these rise, and each name means itself.
 pub record ActionMeansItself (t : Tests) (s : Scope RawName) (ns : Option Name) (a : ActionMeaning) : Type 0 where

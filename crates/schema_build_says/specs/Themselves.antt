@@ -1,7 +1,5 @@
 -- Where the names in a type of a meaning mean themselves.
 use Rattle.std.specs.Prelude.{◌≡◌, ℕ, List, [], ◌∷◌, codes, Option, Some}
-use Rattle.std.specs.List.Sorted.{IsStrictlySortedBy}
-use Rattle.cedar_data.specs.Text.{text_cmp}
 use Rattle.cedar_identifiers.specs.Names.{components_of}
 use Rattle.cedar_identifiers.specs.declared.internal_name.InternalName.{InternalName}
 use Rattle.cedar_identifiers.specs.declared.raw_name.RawName.{RawName}
@@ -9,22 +7,6 @@ use Rattle.cedar_identifiers.specs.declared.reference_type.ReferenceType.TheVari
 use Rattle.cedar_names.specs.Meaning.{PlainType, Attributes}
 use Rattle.cedar_names.specs.Meaning as m
 use Rattle.schema_build_expand.specs.Scope.{Scope, IsUndeclared, builtin}
-
--- the names of attributes, in order
-abbrev pub meant_names : Attributes → List (List ℕ)
-meant_names m.no_more = []
-meant_names (m.attribute n r t xs) = n ∷ meant_names xs
-
-abbrev mutual
-  -- the attributes of each record in it rise by their names
-  pub IsOrderedType : PlainType → Type 0
-  IsOrderedType (PlainType.Set t) = IsOrderedType t
-  IsOrderedType (PlainType.Rec xs) = IsStrictlySortedBy text_cmp (meant_names xs) × AreOrderedTypes xs
-  IsOrderedType _ = Unit {0}
-
-  pub AreOrderedTypes : Attributes → Type 0
-  AreOrderedTypes m.no_more = Unit {0}
-  AreOrderedTypes (m.attribute n r t xs) = IsOrderedType t × AreOrderedTypes xs
 
 module _ (s : Scope RawName) (ns : Option InternalName) where
   -- the name of an entity type, wherever it stands, means this entity type

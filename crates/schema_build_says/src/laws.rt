@@ -11,28 +11,36 @@ ghost use Rattle.schema_json.specs.declared.action_type.ActionEntityUID.{ActionE
 ghost use Rattle.schema_convert_types.specs.Declarations.{as_written};
 ghost use Rattle.schema_readback.specs.Meant.{type_of_meaning, entity_as, action_as, groups_of_meaning};
 ghost use Rattle.schema_resolve_definitions.specs.Tests.{Tests};
-ghost use Rattle.schema_build_hierarchy.specs.Declarations.{Declared, DeclaredEntity, declared_entities};
+ghost use Rattle.schema_build_hierarchy.specs.Declarations.{Declared, DeclaredEntity};
 ghost use Rattle.schema_build_hierarchy.specs.Parents.{written_parents, parents_in, action_parents_in, IsParent, IsAncestor, IsActionParent, IsActionAncestor};
 ghost use Rattle.schema_build_checks.specs.DeclaredAt.{ActionAt};
-ghost use Rattle.schema_build.specs.Meaning.{kind_meaning, apply_meaning};
+ghost use Rattle.cedar_names.specs.declared.extension_table.ExtensionTable.{ExtensionTable};
+ghost use Rattle.schema_build_checks.specs.Rows.{Never};
+ghost use Rattle.schema_build_parts.specs.BuildFaults.{BuildFault};
+ghost use Rattle.schema_build.specs.Meaning.{kind_meaning, apply_meaning, FragmentMeaning};
 ghost use Rattle.schema_build_expand.specs.Scope.{Scope};
 ghost use Rattle.schema_build_expand.specs.Expands.{Expands};
 ghost use Rattle.schema_build_items.specs.ActionKinds.{IsApplyMeaning};
 ghost use Rattle.schema_build_items.specs.Kinds.{IsKindMeaning};
 ghost use Rattle.schema_says.specs.DeclarationsSay.{KindSays, AppliesSay};
 ghost use Rattle.schema_says.specs.TypesSay.{TypeSays};
-ghost use Rattle.std.specs.List.{AllByRecursion, Contains, flat_map};
+ghost use Rattle.std.specs.List.{AllByRecursion, flat_map};
 ghost use Rattle.std.specs.Option.{option_map_or};
 ghost use Rattle.schema_json.specs.declared.action_type.ActionType.{ActionType};
 ghost use Rattle.schema_json.specs.declared.fragment.Fragment.{Fragment};
 ghost use Rattle.schema_readback.specs.PrintedDecls.{group_items};
 ghost use Rattle.schema_says.specs.FragmentsSay.{FragmentSays};
 ghost use Rattle.schema_says.specs.MeantNames.{HasOpenNames};
-ghost use Rattle.schema_build_says.specs.DeclaredEntries.{IsEntryOf};
-ghost use Rattle.schema_build_says.specs.Entries.{HasItsParts, IsFoundAs, EntityMeansItself, ActionMeansItself};
-ghost use Rattle.schema_build_says.specs.Ancestors.{IsActionFoundAs, IsTransitive};
-ghost use Rattle.schema_build_says.specs.Themselves.{IsOrderedType, MeansItself};
+ghost use Rattle.schema_build_says.specs.DeclaredEntries.{DeclaresJust};
+ghost use Rattle.schema_build_closed.specs.Closed.{IsTransitive, IsClosed};
+ghost use Rattle.schema_build_closed.specs.Kinds.{HasItsParts};
+ghost use Rattle.schema_build_closed.specs.Ordered.{IsOrderedType};
+ghost use Rattle.schema_build_says.specs.Entries.{IsFoundAs, EntityMeansItself, ActionMeansItself};
+ghost use Rattle.schema_build_says.specs.Ancestors.{IsActionFoundAs};
+ghost use Rattle.schema_build_says.specs.Themselves.{MeansItself};
 
+use cedar_identifiers::RawName as RawNameOfCode;
+use schema_build_expand::laws::types_stand_for_one;
 use schema_says::laws::namespaces_of_meanings_are_written;
 
 /// A type that says what is written of a plain type stands for it, where each name in that means itself.
@@ -80,11 +88,32 @@ pub fn parents_of_closed_meanings_are_ancestors()
         → (a b : List (List ℕ) × List ℕ) → IsActionAncestor t declared a b ↔ IsActionParent t declared a b }
 {}
 
-/// Each entity type that a fragment declares which says what is written of a meaning is one of the meaning's.
-pub fn declared_entities_are_of_the_meaning()
+/// A fragment that says what is written of a meaning declares just the entity types and the actions of the meaning.
+pub fn what_says_a_meaning_declares_it()
     ensures { (g : Fragment RawName as_written) (m : SchemaMeaning)
-        → FragmentSays g (flat_map group_items (groups_of_meaning m))
-        → HasOpenNames m → (d : DeclaredEntity) → Contains (declared_entities g) d → IsEntryOf m d }
+        → FragmentSays g (flat_map group_items (groups_of_meaning m)) → HasOpenNames m → DeclaresJust m g }
 {
     namespaces_of_meanings_are_written();
+}
+
+/// What declares just the entity types and the actions of a closed meaning means it, and has no build fault.
+pub fn what_declares_a_closed_meaning_means_it()
+    ensures means { (g : Fragment RawName as_written) (table : ExtensionTable) (m : SchemaMeaning)
+        → DeclaresJust m g → IsClosed table m → FragmentMeaning g table m }
+    ensures faultless { (g : Fragment RawName as_written) (table : ExtensionTable) (m : SchemaMeaning)
+        → DeclaresJust m g → IsClosed table m → Never (BuildFault g table) }
+{
+    types_stand_for_one::<RawNameOfCode>();
+}
+
+/// A fragment that says what is written of a closed meaning means it, and has no build fault.
+pub fn what_says_a_closed_meaning_means_it()
+    ensures means { (g : Fragment RawName as_written) (table : ExtensionTable) (m : SchemaMeaning)
+        → FragmentSays g (flat_map group_items (groups_of_meaning m)) → IsClosed table m → FragmentMeaning g table m }
+    ensures faultless { (g : Fragment RawName as_written) (table : ExtensionTable) (m : SchemaMeaning)
+        → FragmentSays g (flat_map group_items (groups_of_meaning m)) → IsClosed table m
+        → Never (BuildFault g table) }
+{
+    what_says_a_meaning_declares_it();
+    what_declares_a_closed_meaning_means_it();
 }

@@ -1,0 +1,101 @@
+-- What a well-formed fragment without a build fault means is closed.
+use Rattle.std.proofs.Common.{ℕ, List, Contains, Option, Some, None, inl, inr}
+use Rattle.std.specs.List.{AllByRecursion}
+use Rattle.cedar_identifiers.specs.declared.name_text.NameText as named
+use Rattle.cedar_identifiers.specs.declared.raw_name.RawName.{RawName}
+use Rattle.cedar_names.specs.Meaning.{PlainType, EntityMeaning, ActionMeaning, SchemaMeaning}
+use Rattle.cedar_names.specs.declared.extension_table.ExtensionTable.{ExtensionTable}
+use Rattle.schema_json.specs.declared.fragment.Fragment.{Fragment}
+use Rattle.schema_readback.specs.Printed.{IsProperPath}
+use Rattle.schema_says.specs.MeantNames.{AreSpelledTags, HasChoice, IsSpelledEntity, IsSpelledAction, IsOfWords}
+use Rattle.schema_build_text.specs.Captured.{IsUncaptured}
+use Rattle.schema_build_checks.specs.Rows.{Never}
+use Rattle.schema_build_hierarchy.proofs.Ordered.{contains_map}
+use Rattle.schema_build_parts.specs.BuildFaults.{BuildFault}
+use Rattle.schema_build.specs.Meaning.{FragmentMeaning}
+use Rattle.schema_build_closed.specs.Known.{entity_names, action_names, IsKnownName, AreKnownTags}
+use Rattle.schema_build_closed.specs.Closed.{IsClosedEntity, IsClosedAction, IsClosed}
+use Rattle.schema_build_closed.specs.WellFormed.{IsWellFormed}
+use Rattle.schema_build_closed.proofs.Above.{ancestors_closed}
+use Rattle.schema_build_closed.proofs.Apart.{names_apart}
+use Rattle.schema_build_closed.proofs.Bare.{none_unsupported}
+use Rattle.schema_build_closed.proofs.Declared.{type_named}
+use Rattle.schema_build_closed.proofs.Entries.{has_choice, entity_closed, action_closed}
+use Rattle.schema_build_closed.proofs.Known.{spelled, all_spelled}
+use Rattle.schema_build_closed.proofs.Lists.{each_has, all_have}
+use Rattle.schema_build_closed.proofs.Open.{names_open, known_proper}
+use Rattle.schema_build_closed.proofs.Rows.{HasNoFault, no_fault}
+use Rattle.schema_build_closed.proofs.Undeclared.{none_used}
+use Rattle.schema_build_closed.proofs.Undefined.{none_untyped}
+
+-- a meaning whose known names are made of words is made of words, where its entries are closed
+module _ (table : ExtensionTable) (m : SchemaMeaning)
+    (proper : (n : List (List ℕ)) → IsKnownName m n → IsProperPath n) where
+  all_proper : (names : List (List (List ℕ))) → AllByRecursion (λ n. Contains (entity_names m) n) names
+      → AllByRecursion IsProperPath names
+  all_proper names h = all_have IsProperPath names
+      (λ n c. proper n (inl (each_has (λ n. Contains (entity_names m) n) names n h c)))
+
+  tags_spelled : (t : Option PlainType) → AreKnownTags table m t → AreSpelledTags t
+  tags_spelled None h = tt
+  tags_spelled (Some t) h = spelled table m proper t h.1
+
+  entity_spelled : (e : EntityMeaning) → Contains m.entities e → IsClosedEntity table m e → HasChoice e.choices
+      → IsSpelledEntity e
+  entity_spelled e c h k = record {
+    name = proper e.name (inl (contains_map (λ (e : EntityMeaning). e.name) m.entities e c));
+    ancestors = all_proper e.ancestors h.ancestors;
+    attributes = all_spelled table m proper e.attributes h.attributes;
+    tags = tags_spelled e.tags h.tags;
+    choices = k;
+  }
+
+  action_spelled : (a : ActionMeaning) → Contains m.actions a → IsClosedAction table m a → IsSpelledAction a
+  action_spelled a c h = record {
+    ty = proper a.ty (inr (contains_map (λ (a : ActionMeaning). a.ty) m.actions a c));
+    ancestors = all_have (λ b. IsProperPath b.0) a.ancestors
+        (λ b cb.
+        let named = each_has (λ n. Contains (action_names m) n) a.ancestors b h.ancestors cb in
+        proper b.0 (inr (type_named m b named)));
+    principals = all_proper a.principals h.principals;
+    resources = all_proper a.resources h.resources;
+    context = all_spelled table m proper a.context h.context;
+  }
+
+module _ {G : named.Ghosts RawName} (f : Fragment RawName G) (table : ExtensionTable) (m : SchemaMeaning)
+    (formed : IsWellFormed f) (mean : FragmentMeaning f table m) (rows : HasNoFault f table) where
+  abbrev entity_is : (e : EntityMeaning) → Contains m.entities e → IsClosedEntity table m e
+  entity_is = entity_closed f table m mean formed (none_unsupported f rows.features)
+      (none_used f table m mean rows.undeclared)
+
+  abbrev action_is : (a : ActionMeaning) → Contains m.actions a → IsClosedAction table m a
+  action_is = action_closed f table m mean formed (none_unsupported f rows.features)
+      (none_used f table m mean rows.undeclared) (none_untyped f table rows.undefined)
+
+  abbrev choice_is : (e : EntityMeaning) → Contains m.entities e → HasChoice e.choices
+  choice_is = has_choice f table m mean formed (none_unsupported f rows.features)
+      (none_used f table m mean rows.undeclared)
+
+  made_of_words : IsOfWords m
+  made_of_words = record {
+    entities = all_have IsSpelledEntity m.entities
+        (λ e c. entity_spelled table m (known_proper f table m mean) e c (entity_is e c) (choice_is e c));
+    actions = all_have IsSpelledAction m.actions
+        (λ a c. action_spelled table m (known_proper f table m mean) a c (action_is a c));
+  }
+
+  pub closed_by_rows : IsUncaptured m → IsClosed table m
+  closed_by_rows uncaptured = record {
+    open_names = names_open f table m mean;
+    words = made_of_words;
+    apart = names_apart f table m mean rows.action_type rows.types rows.actions;
+    entities = all_have (IsClosedEntity table m) m.entities entity_is;
+    actions = all_have (IsClosedAction table m) m.actions action_is;
+    ancestors = ancestors_closed f table m mean rows.cycle rows.enums;
+    uncaptured = uncaptured;
+  }
+
+pub closed : {G : named.Ghosts RawName} (f : Fragment RawName G) (table : ExtensionTable) (m : SchemaMeaning)
+    → IsWellFormed f → FragmentMeaning f table m → Never (BuildFault f table) → IsUncaptured m → IsClosed table m
+closed f table m formed mean never uncaptured =
+    closed_by_rows f table m formed mean (no_fault f table never) uncaptured

@@ -1,0 +1,290 @@
+-- The entries of a meaning are closed.
+use Rattle.std.proofs.Common.{◌≡◌, ℕ, Bool, true, false, List, [], ◌∷◌, map, Contains, Option, Some, None, refl, sym, ap, ◌∙◌, subst, true≢false}
+use Rattle.std.specs.Prelude.{is_none}
+use Rattle.std.specs.List.{AllByRecursion}
+use Rattle.std.specs.List.Sorted.{IsStrictlySortedBy}
+use Rattle.std.specs.declared.cmp.Ordering.{Ordering}
+use Rattle.cedar_data.specs.Text.{text_cmp}
+use Rattle.cedar_identifiers.specs.declared.eid.Eid.{Eid}
+use Rattle.cedar_identifiers.specs.declared.internal_name.InternalName.{InternalName}
+use Rattle.cedar_identifiers.specs.declared.name_text.NameText as named
+use Rattle.cedar_identifiers.specs.declared.raw_name.RawName.{RawName}
+use Rattle.cedar_names.specs.Meaning.{PlainType, Attributes, no_more, EntityMeaning, ActionMeaning, SchemaMeaning}
+use Rattle.cedar_names.specs.Meaning as plain
+use Rattle.cedar_names.specs.declared.extension_table.ExtensionTable.{ExtensionTable}
+use Rattle.schema_json.specs.Shapes.{is_empty_type}
+use Rattle.schema_json.specs.declared.action_type.ActionType.{ActionType}
+use Rattle.schema_json.specs.declared.action_type.ApplySpec.{ApplySpec}
+use Rattle.schema_json.specs.declared.entity_type.EntityTypeKind.{EntityTypeKind}
+use Rattle.schema_json.specs.declared.entity_type.EntityTypeKind.TheVariants.{Standard, Enum}
+use Rattle.schema_json.specs.declared.fragment.Fragment.{Fragment}
+use Rattle.schema_json.specs.declared.types.Type.{«Type»}
+use Rattle.schema_json_walk.specs.Bare.{is_bare_kind, is_bare_action}
+use Rattle.schema_json_walk.specs.Parts.{principal, resource}
+use Rattle.schema_json_walk.specs.Walk.{of_fragment}
+use Rattle.schema_readback.specs.PrintedDecls.{IsSome}
+use Rattle.schema_says.specs.MeantNames.{HasChoice}
+use Rattle.schema_resolve_definitions.specs.Declarations.{name_of, declared}
+use Rattle.schema_resolve_definitions.specs.Defined.{defined}
+use Rattle.schema_resolve_definitions.specs.Tests.{Tests, tests_of}
+use Rattle.schema_build_checks.specs.DeclaredAt.{ActionAt}
+use Rattle.schema_build_checks.specs.WalkFaults.{unsupported}
+use Rattle.schema_build_expand.specs.Expands.{Expands}
+use Rattle.schema_build_expand.specs.Scope.{Scope}
+use Rattle.schema_build_scope.specs.FragmentScope.{fragment_scope}
+use Rattle.schema_build_hierarchy.specs.Declarations.{Declared, DeclaredEntity, declared_actions}
+use Rattle.schema_build_hierarchy.specs.Rows.{undeclared_part, undeclared_uses, is_enum}
+use Rattle.schema_build_items.specs.ActionKinds.{components_cmp, AreJust, IsMeantByOne, IsApplyMeaning}
+use Rattle.schema_build_items.specs.Kinds.{TagsExpand, IsKindMeaning}
+use Rattle.schema_build.specs.Meaning.{kind_meaning, apply_meaning, IsActionMeaning, FragmentMeaning}
+use Rattle.schema_build_closed.specs.Ordered.{IsOrderedType}
+use Rattle.schema_build_closed.specs.Kinds.{HasItsParts, HasBothOrNeither, AppliesWhereOwn}
+use Rattle.schema_build_closed.specs.Known.{entity_names, action_names, AreKnownTypes, AreKnownTags}
+use Rattle.schema_build_closed.specs.Closed.{IsClosedEntity, IsClosedAction}
+use Rattle.schema_build_closed.specs.WellFormed.{TagsRise, IsKindFormed, AreRolesFormed, IsSpecFormed, IsWellFormed}
+use Rattle.schema_build_closed.proofs.Above.{ancestor_named, action_ancestor_named, enum_rootless}
+use Rattle.schema_build_closed.proofs.Bare.{empty_means, no_value, entity_bare, action_bare}
+use Rattle.schema_build_closed.proofs.Declared.{entity_declared, entity_stands, action_declared, action_stands}
+use Rattle.schema_build_closed.proofs.Formed.{rising_ordered, kind_formed, spec_formed}
+use Rattle.schema_build_closed.proofs.Known.{known}
+use Rattle.schema_build_closed.proofs.Lists.{has_first, has_none, all_have}
+use Rattle.schema_build_closed.proofs.Undeclared.{target_named}
+use Rattle.schema_build_closed.proofs.Undefined.{untyped, target_there}
+use Rattle.schema_build_closed.proofs.Walked.{entity_none, action_none, principal_none, resource_none}
+use Rattle.schema_build_closed.proofs.Words.{both_true}
+
+none_rises : {A : Type 0} (R : A → A → Ordering) → IsStrictlySortedBy R []
+unfolding IsStrictlySortedBy
+none_rises R = tt
+
+none_ordered : IsOrderedType (plain.Rec no_more)
+none_ordered = (none_rises text_cmp, tt)
+
+-- both, where there are both
+both_there : (ps rs : List (List (List ℕ))) (context : Attributes) (p r : List (List ℕ)) → Contains ps p
+    → Contains rs r → HasBothOrNeither ps rs context
+both_there [] rs context p r c d = has_none p c
+both_there (x ∷ ps) [] context p r c d = has_none r d
+both_there (x ∷ ps) (y ∷ rs) context p r c d = tt
+
+neither_there : (ps rs : List (List (List ℕ))) (context : Attributes) → ps ≡ [] → rs ≡ [] → context ≡ no_more
+    → HasBothOrNeither ps rs context
+neither_there [] [] context p r c = c
+neither_there [] (y ∷ rs) context p r c = absurd (cc)
+neither_there (x ∷ ps) rs context p r c = absurd (cc)
+
+module _ {G : named.Ghosts RawName} (f : Fragment RawName G) (table : ExtensionTable) (m : SchemaMeaning)
+    (mean : FragmentMeaning f table m) (formed : IsWellFormed f)
+    (bare : of_fragment (λ ns part. unsupported part) f ≡ [])
+    (undeclared : undeclared_uses (tests_of (defined f table)) f ≡ []) where
+  abbrev scope : Scope RawName
+  scope = fragment_scope f table
+
+  -- what is expanded rises and is known
+  record_closed : (ns : Option InternalName) (t : «Type» RawName) (xs : Attributes)
+      → Expands RawName scope ns t (plain.Rec xs) → AreKnownTypes table m xs
+  record_closed ns t xs h = known f table m mean ns t (plain.Rec xs) h
+
+  tags_closed : (ns : Option InternalName) (tags : Option («Type» RawName)) (p : Option PlainType)
+      → TagsExpand scope ns tags p → TagsRise tags → AreKnownTags table m p
+  tags_closed ns None p e r = subst (AreKnownTags table m) (sym e) tt
+  tags_closed ns (Some t) p (x, e, h) r =
+      subst (AreKnownTags table m) (sym e) (rising_ordered f formed table ns t x h r, known f table m mean ns t x h)
+
+  no_tags : (ns : Option InternalName) (tags : Option («Type» RawName)) (p : Option PlainType)
+      → TagsExpand scope ns tags p → tags ≡ None → p ≡ None
+  no_tags ns tags p h e = subst (λ o. TagsExpand scope ns o p) e h
+
+  -- by kind
+  parts_by : (e : EntityMeaning) (ns : Option InternalName) (kind : EntityTypeKind RawName) (external : Bool)
+      (choices : Option (List (List ℕ))) → IsKindMeaning scope ns kind (kind_meaning e)
+      → (external ≡ true → is_bare_kind kind ≡ true) → (is_enum kind ≡ true → e.ancestors ≡ [])
+      → e.choices ≡ choices → HasItsParts external choices e
+  parts_by e ns (Standard k) true choices km b none same =
+      let both = both_true (is_empty_type k.shape.0) (is_none k.tags) (b refl) in (
+        empty_means scope ns k.shape.0 e.attributes both.0 km.0,
+        no_tags ns k.tags e.tags km.1 (no_value k.tags both.1),
+        sym same ∙ km.2,
+      )
+  parts_by e ns (Enum ids) true choices km b none same = absurd (true≢false (sym (b refl)))
+  parts_by e ns kind false None km b none same = tt
+  parts_by e ns (Standard k) false (Some cs) km b none same =
+      absurd (let no : Some cs ≡ None = sym same ∙ km.2 in cc)
+  parts_by e ns (Enum ids) false (Some cs) km b none same = (km.0, km.1, none refl)
+
+  ordered_by : (e : EntityMeaning) (ns : Option InternalName) (kind : EntityTypeKind RawName)
+      → IsKindMeaning scope ns kind (kind_meaning e) → IsKindFormed kind → IsOrderedType (plain.Rec e.attributes)
+  ordered_by e ns (Standard k) km r = rising_ordered f formed table ns k.shape.0 (plain.Rec e.attributes) km.0 r.0
+  ordered_by e ns (Enum ids) km r = subst (λ xs. IsOrderedType (plain.Rec xs)) (sym km.0) none_ordered
+
+  attributes_by : (e : EntityMeaning) (ns : Option InternalName) (kind : EntityTypeKind RawName)
+      → IsKindMeaning scope ns kind (kind_meaning e) → AreKnownTypes table m e.attributes
+  attributes_by e ns (Standard k) km = record_closed ns k.shape.0 e.attributes km.0
+  attributes_by e ns (Enum ids) km = subst (AreKnownTypes table m) (sym km.0) tt
+
+  tags_by : (e : EntityMeaning) (ns : Option InternalName) (kind : EntityTypeKind RawName)
+      → IsKindMeaning scope ns kind (kind_meaning e) → IsKindFormed kind → AreKnownTags table m e.tags
+  tags_by e ns (Standard k) km r = tags_closed ns k.tags e.tags km.1 r.1
+  tags_by e ns (Enum ids) km r = subst (AreKnownTags table m) (sym km.1) tt
+
+  choices_by : (e : EntityMeaning) (ns : Option InternalName) (kind : EntityTypeKind RawName)
+      → IsKindMeaning scope ns kind (kind_meaning e) → IsKindFormed kind → HasChoice e.choices
+  choices_by e ns (Standard k) km r = subst HasChoice (sym km.2) tt
+  choices_by e ns (Enum ids) km r = subst HasChoice (sym km.2) (seen_some ids r)
+    where
+      seen_some : (ids : List Eid) → IsSome ids → IsSome (map (λ c. c.0) ids)
+      seen_some [] h = h
+      seen_some (x ∷ xs) h = tt
+
+  no_members : {A : Type 0} (xs : List A) → ((x : A) → Contains xs x → ⊥) → xs ≡ []
+  no_members [] none = refl
+  no_members (x ∷ xs) none = absurd (none x (has_first x xs))
+
+  pub has_choice : (e : EntityMeaning) → Contains m.entities e → HasChoice e.choices
+  has_choice e c =
+      let (d, cd, is) = entity_declared f table m mean e c in
+      choices_by e (name_of d.ns) d.ty.kind is.kind (kind_formed f formed table d (entity_stands f d cd))
+
+  pub entity_closed : (e : EntityMeaning) → Contains m.entities e → IsClosedEntity table m e
+  entity_closed e c =
+      let (d, cd, is) = entity_declared f table m mean e c in
+      let s = entity_stands f d cd in
+      let ns = name_of d.ns in
+      let r = kind_formed f formed table d s in
+      let own : (d.ty.external ≡ true → is_bare_kind d.ty.kind ≡ true) =
+      subst (λ (z : DeclaredEntity). z.ty.external ≡ true → is_bare_kind z.ty.kind ≡ true) s.is
+      (entity_bare s.item.1 (entity_none (λ ns part. unsupported part) f bare d s)) in
+      let rootless : (is_enum d.ty.kind ≡ true → e.ancestors ≡ []) = λ enum. no_members e.ancestors
+      (λ b cb. enum_rootless f table m mean d cd enum b ((is.ancestors.just b).0 cb)) in
+      record {
+        parts = subst (λ x. HasItsParts x e.choices e) (sym is.is_external)
+            (parts_by e ns d.ty.kind d.ty.external e.choices is.kind own rootless refl);
+        ancestors_rise = is.ancestors.rising;
+        ancestors = all_have (λ name. Contains (entity_names m) name) e.ancestors
+            (λ b cb. ancestor_named f table m mean undeclared _ b ((is.ancestors.just b).0 cb));
+        ordered = ordered_by e ns d.ty.kind is.kind r;
+        attributes = attributes_by e ns d.ty.kind is.kind;
+        tags = tags_by e ns d.ty.kind is.kind r;
+      }
+
+  -- what an action applies to
+  module _ (untyped_none : of_fragment (untyped (tests_of (defined f table))) f ≡ [])
+      (a : ActionMeaning) (d : Declared ActionAt (ActionType RawName G)) (c : Contains (declared_actions f) d)
+      (is : IsActionMeaning f table d a) where
+    abbrev all_tests : Tests
+    all_tests = tests_of (defined f table)
+
+    -- the entity types that are meant by names that mean something declared
+    named_all : (names : List RawName) (found : List (List (List ℕ)))
+        → AreJust components_cmp (IsMeantByOne all_tests d.ns names) found
+        → ((p : RawName) → Contains names p
+        → undeclared_part all_tests (tests_of (declared f)) d.ns (principal p) ≡ [])
+        → AllByRecursion (λ name. Contains (entity_names m) name) found
+    named_all names found just quiet = all_have (λ name. Contains (entity_names m) name) found
+        (λ b cb.
+        let (p, cp, e) = (just.just b).0 cb in
+        target_named f table m mean d.ns p b (quiet p cp) e)
+
+    meant_one : (p : RawName) (names : List RawName) (found : List (List (List ℕ)))
+        → AreJust components_cmp (IsMeantByOne all_tests d.ns (p ∷ names)) found
+        → untyped all_tests d.ns (principal p) ≡ [] → (b : List (List ℕ)) × Contains found b
+    meant_one p names found just quiet =
+        let (b, e) = target_there all_tests d.ns p quiet in
+        (b, (just.just b).1 (p, has_first p names, e))
+
+    none_meant : (found : List (List (List ℕ))) → AreJust components_cmp (IsMeantByOne all_tests d.ns []) found
+        → found ≡ []
+    none_meant found just = no_members found (λ b c. (let (p, cp, e) = (just.just b).0 c in has_none p cp))
+
+    -- names of both, or of neither
+    roles_by : (names others : List RawName) (context : «Type» RawName)
+        → AreJust components_cmp (IsMeantByOne all_tests d.ns names) a.principals
+        → AreJust components_cmp (IsMeantByOne all_tests d.ns others) a.resources
+        → Expands RawName scope (name_of d.ns) context (plain.Rec a.context) → AreRolesFormed names others context
+        → ((p : RawName) → Contains names p → untyped all_tests d.ns (principal p) ≡ [])
+        → ((p : RawName) → Contains others p → untyped all_tests d.ns (principal p) ≡ [])
+        → HasBothOrNeither a.principals a.resources a.context
+    roles_by [] [] context ps rs x r quiet also =
+        neither_there a.principals a.resources a.context (none_meant a.principals ps) (none_meant a.resources rs)
+        (empty_means scope (name_of d.ns) context a.context r x)
+    roles_by [] (q ∷ qs) context ps rs x r quiet also = absurd r
+    roles_by (p ∷ ns) [] context ps rs x r quiet also = absurd r
+    roles_by (p ∷ ns) (q ∷ qs) context ps rs x r quiet also =
+        let (b, cb) = meant_one p ns a.principals ps (quiet p (has_first p ns)) in
+        let (k, ck) = meant_one q qs a.resources rs (also q (has_first q qs)) in
+        both_there a.principals a.resources a.context b k cb ck
+
+    applies_by : (spec : Option (ApplySpec RawName)) → d.ty.applies_to ≡ spec
+        → IsApplyMeaning all_tests scope d.ns spec (apply_meaning a) → IsSpecFormed spec → (external : Bool)
+        → d.ty.external ≡ external → AppliesWhereOwn external a
+    applies_by None e am r true x = (am.0, am.1, am.2)
+    applies_by None e am r false x = neither_there a.principals a.resources a.context am.0 am.1 am.2
+    applies_by (Some spec) e am r true x =
+        let s = action_stands f d c in
+        let own : (d.ty.external ≡ true → is_bare_action d.ty ≡ true) =
+        subst (λ (z : Declared ActionAt (ActionType RawName G)). z.ty.external ≡ true → is_bare_action z.ty ≡ true)
+        s.is (action_bare s.item.1 (action_none (λ ns part. unsupported part) f bare d s)) in
+        let both = both_true (is_none d.ty.attributes) (is_none d.ty.applies_to) (own x) in
+        absurd (let no : Some spec ≡ None = sym e ∙ no_value d.ty.applies_to both.1 in cc)
+    applies_by (Some spec) e am r false x =
+        let s = action_stands f d c in
+        let places : s.entry.0 ≡ d.ns = ap (λ (z : Declared ActionAt (ActionType RawName G)). z.ns) s.is in
+        let applies : s.item.1.applies_to ≡ Some spec =
+        ap (λ (z : Declared ActionAt (ActionType RawName G)). z.ty.applies_to) s.is ∙ e in
+        let walk = action_none (untyped all_tests) f untyped_none d s in
+        let quiet_principals = λ (p : RawName) (cp : Contains spec.principal_types p).
+        ap (λ ns. untyped all_tests ns (principal p)) (sym places)
+        ∙ principal_none (untyped all_tests s.entry.0) s.item.1 walk spec applies p cp in
+        let quiet_resources = λ (p : RawName) (cp : Contains spec.resource_types p).
+        ap (λ ns. untyped all_tests ns (resource p)) (sym places)
+        ∙ resource_none (untyped all_tests s.entry.0) s.item.1 walk spec applies p cp in
+        roles_by spec.principal_types spec.resource_types spec.context.0 am.0 am.1 am.2 r.0 quiet_principals
+        quiet_resources
+
+    closed_by : (spec : Option (ApplySpec RawName)) → d.ty.applies_to ≡ spec
+        → IsApplyMeaning all_tests scope d.ns spec (apply_meaning a) → IsSpecFormed spec
+        → AppliesWhereOwn a.is_external a → IsClosedAction table m a
+    closed_by None e am r own = record {
+      applies = own;
+      ancestors_rise = is.ancestors.rising;
+      ancestors = all_have (λ name. Contains (action_names m) name) a.ancestors
+          (λ b cb. action_ancestor_named f table m mean _ b ((is.ancestors.just b).0 cb));
+      principals_rise = subst (IsStrictlySortedBy components_cmp) (sym am.0) (none_rises components_cmp);
+      principals = subst (AllByRecursion (λ name. Contains (entity_names m) name)) (sym am.0) tt;
+      resources_rise = subst (IsStrictlySortedBy components_cmp) (sym am.1) (none_rises components_cmp);
+      resources = subst (AllByRecursion (λ name. Contains (entity_names m) name)) (sym am.1) tt;
+      ordered = subst (λ xs. IsOrderedType (plain.Rec xs)) (sym am.2) none_ordered;
+      context = subst (AreKnownTypes table m) (sym am.2) tt;
+    }
+    closed_by (Some spec) e am r own =
+        let s = action_stands f d c in
+        let places : s.entry.0 ≡ d.ns = ap (λ (z : Declared ActionAt (ActionType RawName G)). z.ns) s.is in
+        let applies : s.item.1.applies_to ≡ Some spec =
+        ap (λ (z : Declared ActionAt (ActionType RawName G)). z.ty.applies_to) s.is ∙ e in
+        let given = undeclared_part all_tests (tests_of (declared f)) in
+        let walk = action_none given f undeclared d s in
+        record {
+          applies = own;
+          ancestors_rise = is.ancestors.rising;
+          ancestors = all_have (λ name. Contains (action_names m) name) a.ancestors
+              (λ b cb. action_ancestor_named f table m mean _ b ((is.ancestors.just b).0 cb));
+          principals_rise = am.0.rising;
+          principals = named_all spec.principal_types a.principals am.0
+              (λ p cp. ap (λ ns. given ns (principal p)) (sym places)
+              ∙ principal_none (given s.entry.0) s.item.1 walk spec applies p cp);
+          resources_rise = am.1.rising;
+          resources = named_all spec.resource_types a.resources am.1
+              (λ p cp. ap (λ ns. given ns (resource p)) (sym places)
+              ∙ resource_none (given s.entry.0) s.item.1 walk spec applies p cp);
+          ordered = rising_ordered f formed table (name_of d.ns) spec.context.0 (plain.Rec a.context) am.2 r.1;
+          context = record_closed (name_of d.ns) spec.context.0 a.context am.2;
+        }
+
+  pub action_closed : of_fragment (untyped (tests_of (defined f table))) f ≡ [] → (a : ActionMeaning)
+      → Contains m.actions a → IsClosedAction table m a
+  action_closed none a c =
+      let (d, cd, is) = action_declared f table m mean a c in
+      let r = spec_formed f formed table d (action_stands f d cd) in
+      let own = subst (λ x. AppliesWhereOwn x a) (sym is.is_external)
+      (applies_by none a d cd is d.ty.applies_to refl is.applies r d.ty.external refl) in
+      closed_by none a d cd is d.ty.applies_to refl is.applies r own

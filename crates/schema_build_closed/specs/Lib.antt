@@ -1,0 +1,6 @@
+pub mod Ordered
+pub mod Kinds
+pub mod Known
+pub mod Closed
+pub mod WellFormed
+pub mod Chosen

@@ -1,0 +1,55 @@
+//! Laws of meanings of fragments without a build fault. Each law is what its function ensures.
+ghost use Rattle.std.specs.Prelude.{ℕ, List};
+ghost use Rattle.cedar_identifiers.specs.declared.raw_name.RawName.{RawName};
+ghost use Rattle.cedar_names.specs.Meaning.{SchemaMeaning};
+ghost use Rattle.cedar_names.specs.declared.extension_table.ExtensionTable.{ExtensionTable};
+ghost use Rattle.schema_json.specs.declared.fragment.Fragment.{Fragment};
+ghost use Rattle.schema_convert_types.specs.Declarations.{as_written};
+ghost use Rattle.schema_convert_errors.specs.declared.warnings.SchemaWarning.{SchemaWarning};
+ghost use Rattle.schema_convert.specs.Translated.{IsTranslationOfText};
+ghost use Rattle.schema_readback.specs.Written.{WrittenItem};
+ghost use Rattle.schema_says.specs.FragmentsSay.{FragmentSays};
+ghost use Rattle.schema_says.specs.Sayable.{IsSayable};
+ghost use Rattle.schema_build_text.specs.Captured.{IsUncaptured};
+ghost use Rattle.schema_build_checks.specs.Rows.{Never};
+ghost use Rattle.schema_build_parts.specs.BuildFaults.{BuildFault};
+ghost use Rattle.schema_build.specs.Meaning.{FragmentMeaning};
+ghost use Rattle.schema_build_closed.specs.Chosen.{AreChosen};
+ghost use Rattle.schema_build_closed.specs.Closed.{IsClosed};
+ghost use Rattle.schema_build_closed.specs.WellFormed.{IsWellFormed};
+
+use schema_readback::laws::trees_are_spelled;
+use schema_says::laws::{faults_depend_on_what_is_said, fragments_say_what_trees_say};
+
+/// What a fragment without a build fault means is closed, where nothing in it is captured.
+pub fn meanings_are_closed()
+    ensures { (f : Fragment RawName as_written) (table : ExtensionTable) (m : SchemaMeaning) → IsWellFormed f
+        → FragmentMeaning f table m → Never (BuildFault f table) → IsUncaptured m → IsClosed table m }
+{}
+
+/// A fragment that says what is written is well formed, where that can be translated and each enum has a choice.
+pub fn fragments_that_say_are_well_formed()
+    ensures { (f : Fragment RawName as_written) (w : List WrittenItem) → FragmentSays f w → IsSayable w → AreChosen w
+        → IsWellFormed f }
+{}
+
+/// The fragment of a text is well formed.
+pub fn fragments_of_texts_are_well_formed()
+    ensures { (text : List ℕ) (table : ExtensionTable) (f : Fragment RawName as_written)
+        (warnings : List SchemaWarning) → IsTranslationOfText text table f warnings → IsWellFormed f }
+{
+    trees_are_spelled();
+    fragments_say_what_trees_say();
+    faults_depend_on_what_is_said();
+    fragments_that_say_are_well_formed();
+}
+
+/// What the fragment of a text means is closed, where it has no build fault and nothing in it is captured.
+pub fn meanings_of_texts_are_closed()
+    ensures { (text : List ℕ) (table : ExtensionTable) (f : Fragment RawName as_written)
+        (warnings : List SchemaWarning) (m : SchemaMeaning) → IsTranslationOfText text table f warnings
+        → FragmentMeaning f table m → Never (BuildFault f table) → IsUncaptured m → IsClosed table m }
+{
+    fragments_of_texts_are_well_formed();
+    meanings_are_closed();
+}
