@@ -11,3 +11,5 @@ mod Ran
 mod Unbuilt
 mod TranslatedInOrder
 mod OneRefusal
+mod Canonical
+mod Kept

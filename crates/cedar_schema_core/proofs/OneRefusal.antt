@@ -33,7 +33,8 @@ use Rattle.schema_build.specs.Meaning.{FragmentMeaning}
 use Rattle.cedar_schema_core_faults.specs.Told.{Told, fault_text, told_lines, told_schema, told_translation, told_parse}
 use Rattle.cedar_schema_core_faults.specs.declared.recover_error.RecoverError.{RecoverError}
 use Rattle.cedar_schema_core_faults.specs.declared.recover_error.RecoverError.TheVariants.{Parse, Schema, Captured, Memory}
-use Rattle.cedar_schema_core.specs.Recovery.{IsRefusal, IsParseRefusal, IsCaptured}
+use Rattle.schema_build.specs.Texts.{IsParseRefusal}
+use Rattle.cedar_schema_core.specs.Recovery.{IsRefusal}
 use Rattle.cedar_schema_core.proofs.TranslatedInOrder.{in_order}
 
 -- the first captured item is told in one way

@@ -16,7 +16,8 @@ use Rattle.schema_build.specs.Meaning.{FragmentMeaning}
 use Rattle.cedar_schema_core_faults.specs.declared.recover_error.RecoverError.{RecoverError}
 use Rattle.cedar_schema_core_faults.specs.declared.recover_error.RecoverError.TheVariants.{Parse, Schema, Captured, Memory}
 use Rattle.cedar_schema_core.specs.Meanings.{IsValid}
-use Rattle.cedar_schema_core.specs.Recovery.{IsRefusal, IsParseRefusal}
+use Rattle.schema_build.specs.Texts.{IsParseRefusal}
+use Rattle.cedar_schema_core.specs.Recovery.{IsRefusal}
 use Rattle.cedar_schema_core.specs.Steps.{IsUnparsed, IsUnbuilt, IsUnprinted}
 
 -- where nothing is captured, nothing is the first that is

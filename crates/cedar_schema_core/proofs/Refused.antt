@@ -13,7 +13,7 @@ use Rattle.schema_convert_errors.specs.declared.error_list.CedarSchemaParseError
 use Rattle.schema_convert_errors.specs.declared.warnings.SchemaWarning.{SchemaWarning}
 use Rattle.schema_convert.specs.Translated.{IsTranslationOfText}
 use Rattle.schema_convert.specs.Faults.{translation_faults}
-use Rattle.cedar_schema_core.specs.Recovery.{IsParseRefusal}
+use Rattle.schema_build.specs.Texts.{IsParseRefusal}
 
 module _ (one : (text : List ℕ) (tree other : List (Annotated Namespace)) → IsTreeOfText text tree → IsTreeOfText text other → tree ≡ other)
     (either : (text : List ℕ) (schema : List (Annotated Namespace)) (error : ParseError) → IsTreeOfText text schema → IsErrorOf text error → ⊥) where

@@ -7,14 +7,11 @@ use Rattle.schema_json.specs.declared.fragment.Fragment.{Fragment}
 use Rattle.schema_convert_types.specs.Declarations.{as_written}
 use Rattle.schema_convert_errors.specs.declared.warnings.SchemaWarning.{SchemaWarning}
 use Rattle.schema_convert.specs.Translated.{IsTranslationOfText}
+use Rattle.schema_build.specs.Texts.{IsFragmentOf}
 use Rattle.schema_build_checks.specs.Rows.{Never}
 use Rattle.schema_build_parts.specs.BuildFaults.{BuildFault}
 use Rattle.schema_build.specs.Meaning.{FragmentMeaning}
 use Rattle.schema_build_text.specs.Captured.{IsUncaptured}
-
--- the text is translated to this fragment
-abbrev pub IsFragmentOf : List ℕ → ExtensionTable → Fragment RawName as_written → Type 0
-IsFragmentOf text table f = (warnings : List SchemaWarning) × IsTranslationOfText text table f warnings
 
 -- the text is translated, and these are its warnings
 abbrev pub Warns : List ℕ → ExtensionTable → List SchemaWarning → Type 0

@@ -7,9 +7,7 @@ use Rattle.cedar_names.specs.CanonicalText.{canonical_text}
 use Rattle.cedar_names.specs.declared.extension_table.ExtensionTable.{ExtensionTable}
 use Rattle.schema_json.specs.declared.fragment.Fragment.{Fragment}
 use Rattle.schema_convert_types.specs.Declarations.{as_written}
-use Rattle.schema_convert_errors.specs.declared.error_list.CedarSchemaParseErrors.{CedarSchemaParseErrors}
-use Rattle.schema_convert_errors.specs.declared.error_list.CedarSchemaParseErrors.TheVariants as parse
-use Rattle.schema_convert.specs.Translated.{IsParseFailureOf}
+use Rattle.schema_build.specs.Texts.{IsFragmentOf, IsParseRefusal}
 use Rattle.schema_build_checks.specs.Rows.{Never}
 use Rattle.schema_build_parts.specs.BuildFaults.{BuildFault}
 use Rattle.schema_build.specs.Meaning.{FragmentMeaning}
@@ -18,7 +16,7 @@ use Rattle.schema_build_errors.specs.declared.captured.ReferenceCaptured.{Refere
 use Rattle.cedar_schema_core.specs.declared.recover.Recovered.{Recovered}
 use Rattle.cedar_schema_core_faults.specs.declared.recover_error.RecoverError.{RecoverError}
 use Rattle.cedar_schema_core_faults.specs.declared.recover_error.RecoverError.TheVariants.{Parse, Schema, Captured, Memory}
-use Rattle.cedar_schema_core.specs.Meanings.{IsFragmentOf, TextMeaning, Warns}
+use Rattle.cedar_schema_core.specs.Meanings.{TextMeaning, Warns}
 
 -- the canonical text of the text's meaning, its warnings, and how much the meaning holds
 pub record IsRecovered (text : List ℕ) (table : ExtensionTable) (recovered : Recovered) : Type 0 where
@@ -28,11 +26,6 @@ pub record IsRecovered (text : List ℕ) (table : ExtensionTable) (recovered : R
   pub warns : Warns text table recovered.warnings.items
   pub entity_types : recovered.entity_types ≡ length meaning.entities
   pub actions : recovered.actions ≡ length meaning.actions
-
--- the text has no tree, or its tree is translated to no fragment
-abbrev pub IsParseRefusal : List ℕ → CedarSchemaParseErrors → Type 0
-IsParseRefusal text parse.Memory = ⊥
-IsParseRefusal text e = IsParseFailureOf text e
 
 -- the text's fragment means something in which this is the first captured item
 pub record IsCaptured (text : List ℕ) (table : ExtensionTable) (captured : ReferenceCaptured) : Type 0 where

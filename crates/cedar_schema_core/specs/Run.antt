@@ -8,7 +8,9 @@ use Rattle.cedar_io.specs.Input.{HadLeft}
 use Rattle.std.specs.Str.{encode_utf8_all}
 use Rattle.cedar_names.specs.Meaning.{SchemaMeaning}
 use Rattle.schema_convert_errors.specs.declared.warnings.SchemaWarning.{SchemaWarning}
+use Rattle.cedar_names.specs.declared.extension_table.ExtensionTable.{ExtensionTable}
 use Rattle.cedar_schema_core.specs.declared.command.Command.{Command}
+use Rattle.cedar_schema_core.specs.declared.command.Command.TheVariants.{Recover, Check}
 use Rattle.cedar_schema_core.specs.Meanings.{TextMeaning, Warns}
 use Rattle.cedar_schema_core.specs.Commands.{Asks, table_of, output_of}
 use Rattle.cedar_schema_core.specs.Plan.{Report, IsPlan, read_fault_report, warning_line}
@@ -72,6 +74,21 @@ pub record Completed (c : Command) (source out err : Device) : Type 0 where
   pub written : Appends out.before (output_of c meaning) out.after
   pub warned : Appends err.before (encode_utf8_all (flat_map warning_line warnings)) err.after
   pub silent : warnings ≡ [] → err.Same
+
+-- The whole input was read and means something, and what was written of it is a text that means the same.
+pub record Recovers (table : ExtensionTable) (source out : Device) : Type 0 where
+  pub bytes : List ℕ
+  pub meaning : SchemaMeaning
+  pub text : List ℕ
+  pub read : HadLeft source.before bytes
+  pub means : TextMeaning bytes table meaning
+  pub written : Appends out.before text out.after
+  pub keeps : TextMeaning text table meaning
+
+-- what a recovery wrote means what the input means; a check writes no schema
+abbrev pub KeepsMeaning : Command → Device → Device → Type 0
+KeepsMeaning (Recover table) source out = Recovers table source out
+KeepsMeaning (Check table) source out = Unit {0}
 
 -- no count of faults rose
 pub record NoneCounted (source out err : Device) : Type 0 where

@@ -9,7 +9,7 @@ use Rattle.schema_build_parts.specs.BuildFaults.{BuildFault}
 use Rattle.schema_build_text.specs.Captured.{IsFirstCaptured}
 use Rattle.cedar_schema_core_faults.specs.declared.recover_error.RecoverError.{RecoverError}
 use Rattle.cedar_schema_core_faults.specs.declared.recover_error.RecoverError.TheVariants.{Parse, Schema, Captured, Memory}
-use Rattle.cedar_schema_core.specs.Recovery.{IsParseRefusal}
+use Rattle.schema_build.specs.Texts.{IsParseRefusal}
 
 -- the text is translated to nothing
 abbrev pub IsUnparsed : List ℕ → RecoverError → Type 0

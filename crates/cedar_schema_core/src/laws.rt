@@ -1,7 +1,9 @@
 //! Laws of what a text means and of what the program is to do. Each law is what its function ensures; the functions do
 //! nothing but cite laws below them.
-ghost use Rattle.std.specs.Prelude.{◌≡◌, ◌≢◌, ℕ, List, IsUtf8};
+ghost use Rattle.std.specs.Prelude.{◌≡◌, ◌≢◌, ◌↔◌, ℕ, Bool, List, IsUtf8};
+ghost use Rattle.std.specs.Str.{encode_utf8_all};
 ghost use Rattle.cedar_identifiers.specs.declared.raw_name.RawName.{RawName as Raw};
+ghost use Rattle.cedar_names.specs.CanonicalText.{schema_text, canonical_text};
 ghost use Rattle.cedar_names.specs.Meaning.{SchemaMeaning};
 ghost use Rattle.cedar_names.specs.declared.extension_table.ExtensionTable.{ExtensionTable};
 ghost use Rattle.schema_json.specs.declared.fragment.Fragment.{Fragment};
@@ -10,14 +12,21 @@ ghost use Rattle.schema_convert_errors.specs.declared.error_list.CedarSchemaPars
 ghost use Rattle.schema_convert_errors.specs.declared.warnings.SchemaWarning.{SchemaWarning};
 ghost use Rattle.schema_convert.specs.Translated.{IsTranslationOfText};
 ghost use Rattle.cedar_schema_core.specs.Meanings.{TextMeaning, IsValid};
-ghost use Rattle.cedar_schema_core.specs.Recovery.{IsRefusal, IsParseRefusal};
+ghost use Rattle.schema_build.specs.Texts.{IsParseRefusal};
+ghost use Rattle.schema_build_closed.specs.Closed.{IsClosed};
+ghost use Rattle.cedar_schema_core.specs.Recovery.{IsRecovered, IsRefusal};
+ghost use Rattle.cedar_schema_core.specs.declared.recover.Recovered.{Recovered};
 ghost use Rattle.cedar_schema_core.specs.Plan.{Report, IsPlan};
 ghost use Rattle.cedar_schema_core_faults.specs.Told.{fault_text};
 
 use cedar_schema_core_faults::RecoverError;
 use schema_build::{one_build_fault, one_fragment_meaning};
+use schema_build_closed::laws::meanings_of_texts_are_closed;
+use schema_build_says::laws::what_says_a_closed_meaning_means_it;
+use schema_says::laws::texts_of_meanings_are_translated;
 use schema_syntax::laws::tree_or_error;
 use schema_syntax_laws::{one_error, one_tree};
+use schema_syntax_parser::syntax_is_sentence;
 
 /// A text is translated to at most one fragment, with one list of warnings.
 pub fn one_translation()
@@ -74,4 +83,49 @@ pub fn one_plan()
     one_translation();
     refused_or_valid();
     one_refusal();
+}
+
+/// The text of a closed meaning, in either layout, means it.
+pub fn texts_of_closed_meanings_mean_them()
+    ensures { (closing : Bool) (table : ExtensionTable) (m : SchemaMeaning) → IsClosed table m
+        → TextMeaning (schema_text closing m) table m }
+{
+    texts_of_meanings_are_translated();
+    syntax_is_sentence();
+    what_says_a_closed_meaning_means_it();
+}
+
+/// The text of what a text means, in either layout, means the same.
+pub fn canonical_texts_mean_the_same()
+    ensures { (closing : Bool) (text : List ℕ) (table : ExtensionTable) (m : SchemaMeaning)
+        → TextMeaning text table m → TextMeaning (schema_text closing m) table m }
+{
+    meanings_of_texts_are_closed();
+    texts_of_closed_meanings_mean_them();
+}
+
+/// Two texts have one canonical text exactly where they mean the same.
+pub fn canonical_texts_tell_meanings_apart()
+    ensures { (text other : List ℕ) (table : ExtensionTable) (m n : SchemaMeaning) → TextMeaning text table m
+        → TextMeaning other table n → canonical_text m ≡ canonical_text n ↔ m ≡ n }
+{
+    canonical_texts_mean_the_same();
+    one_text_meaning();
+}
+
+/// What is recovered of a recovered text is that text, with as many entity types and actions; and it is valid.
+pub fn recovered_texts_recover_themselves()
+    ensures text { (text : List ℕ) (table : ExtensionTable) (first second : Recovered) → IsRecovered text table first
+        → IsRecovered (encode_utf8_all first.text) table second → second.text ≡ first.text }
+    ensures entity_types { (text : List ℕ) (table : ExtensionTable) (first second : Recovered)
+        → IsRecovered text table first → IsRecovered (encode_utf8_all first.text) table second
+        → second.entity_types ≡ first.entity_types }
+    ensures actions { (text : List ℕ) (table : ExtensionTable) (first second : Recovered)
+        → IsRecovered text table first → IsRecovered (encode_utf8_all first.text) table second
+        → second.actions ≡ first.actions }
+    ensures valid { (text : List ℕ) (table : ExtensionTable) (first : Recovered) → IsRecovered text table first
+        → IsValid (encode_utf8_all first.text) table }
+{
+    canonical_texts_mean_the_same();
+    one_text_meaning();
 }

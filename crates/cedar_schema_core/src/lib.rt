@@ -12,7 +12,11 @@ pub mod std_streams;
 pub use cedar_io::{MAX_INPUT, ReadEnd, read_input, write_text};
 pub use cedar_schema_core_faults::{RecoverError, fault_text};
 pub use command::Command;
-pub use laws::{one_plan, one_refusal, one_text_meaning, one_translation, refused_or_valid};
+pub use laws::{
+    canonical_texts_mean_the_same, canonical_texts_tell_meanings_apart, one_plan, one_refusal,
+    one_text_meaning, one_translation, recovered_texts_recover_themselves, refused_or_valid,
+    texts_of_closed_meanings_mean_them,
+};
 pub use recover::{Recovered, recover_schema};
 pub use run::run_tool;
 pub use status::Status;

@@ -8,7 +8,8 @@ ghost use Rattle.schema_build_parts.specs.BuildFaults.{BuildFault};
 ghost use Rattle.schema_build_text.specs.Captured.{IsUncaptured};
 ghost use Rattle.schema_build.specs.Schemas.{StandsFor, Builds};
 ghost use Rattle.cedar_schema_core.specs.Meanings.{IsValid};
-ghost use Rattle.cedar_schema_core.specs.Recovery.{IsRecovered, IsRefusal, IsParseRefusal};
+ghost use Rattle.schema_build.specs.Texts.{IsParseRefusal};
+ghost use Rattle.cedar_schema_core.specs.Recovery.{IsRecovered, IsRefusal};
 ghost use Rattle.cedar_schema_core.specs.Steps.{IsUnparsed, IsUnbuilt, IsUnprinted};
 
 use crate::laws::{one_translation, refused_or_translated};

@@ -7,11 +7,11 @@ ghost use Rattle.cedar_names.specs.CanonicalText.{canonical_text};
 ghost use Rattle.cedar_schema_core.specs.Commands.{Asks, table_of};
 ghost use Rattle.cedar_schema_core.specs.Recovery.{IsRecovered};
 ghost use Rattle.cedar_schema_core.specs.Plan.{Report, IsPlan, IsInputPlan, IsAnswer, refused_report, read_fault_report};
-ghost use Rattle.cedar_schema_core.specs.Run.{device, IsReported, IsDelivered, IsRun, Completed, NoneCounted};
+ghost use Rattle.cedar_schema_core.specs.Run.{device, IsReported, IsDelivered, IsRun, Completed, KeepsMeaning, NoneCounted};
 ghost use Rattle.cedar_schema_core.specs.Replies.{report_of};
 
 use crate::command::Command;
-use crate::laws::one_plan;
+use crate::laws::{canonical_texts_mean_the_same, one_plan};
 use crate::recover::{Recovered, recover_schema};
 use crate::reply::{Reply, warning_lines};
 use crate::status::Status;
@@ -140,6 +140,9 @@ pub fn run_tool<S: Source, O: Sink, E: Sink>(
     // Done: the words ask for a command, the input is valid, what the command writes of its meaning was written, and nothing else.
     ensures completed { result ≡ Status.Done → (c : Command) × Asks (map string_bytes words.now) c × Completed c (device S.left S.faults source.old source.new) (device O.taken O.faults out.old out.new) (device E.taken E.faults err.old err.new) }
 
+    // Done by a recovery: the text that was written is valid under the same table, and means what the input means.
+    ensures recovers { result ≡ Status.Done → (c : Command) × Asks (map string_bytes words.now) c × KeepsMeaning c (device S.left S.faults source.old source.new) (device O.taken O.faults out.old out.new) }
+
     // With no fault counted, the status is the one planned for the words and the input, or memory was wanted.
     ensures completes { (bytes : List ℕ) (plan : Report) → S.left source.old ≡ Some bytes → IsPlan (map string_bytes words.now) bytes plan → NoneCounted (device S.left S.faults source.old source.new) (device O.taken O.faults out.old out.new) (device E.taken E.faults err.old err.new) → (result ≡ plan.status) ⊎ (result ≡ Status.Memory) }
 
@@ -154,6 +157,7 @@ pub fn run_tool<S: Source, O: Sink, E: Sink>(
     ensures err_later { E.faults err.old ≤ E.faults err.new }
 {
     one_plan();
+    canonical_texts_mean_the_same();
     match prepare(alloc, words, source) {
         Ok(reply) => deliver(&reply, out, err),
         Err(_) => Status::Memory,

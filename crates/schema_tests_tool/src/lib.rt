@@ -11,3 +11,5 @@ mod streams;
 mod table;
 #[cfg(test)]
 mod told_table;
+#[cfg(test)]
+mod valid_table;

@@ -2,6 +2,7 @@
 
 use crate::table::{recovered_lines, run_lines};
 use crate::told_table::told_lines;
+use crate::valid_table::valid_lines;
 use cedar_io::{MemorySink, MemorySource, Source, SteadySource};
 use cedar_schema_core::run_tool;
 use schema_tests_lines::{answer_and_text, with_line_ends};
@@ -78,6 +79,23 @@ fn texts_are_recovered(rt: HostRuntime) {
 fn refusals_are_told(rt: HostRuntime) {
     for line in told_lines().lines() {
         assert!(rt; agrees(rt.alloc(), line), "{line}");
+    }
+}
+
+// Does a run print what the line says of its text, and print that again where it is given it?
+fn reads_back(alloc: Global, line: &str) -> bool {
+    let Ok(line) = with_line_ends(alloc, line) else {
+        return false;
+    };
+    let (answer, text) = answer_and_text(line.as_str());
+    ends_on(alloc, "recover", text.as_bytes(), 0, [answer, ""])
+        && ends_on(alloc, "recover", answer.as_bytes(), 0, [answer, ""])
+}
+
+#[test]
+fn valid_texts_are_recovered_and_read_back(rt: HostRuntime) {
+    for line in valid_lines().lines() {
+        assert!(rt; reads_back(rt.alloc(), line), "{line}");
     }
 }
 

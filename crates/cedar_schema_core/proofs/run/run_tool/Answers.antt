@@ -1,6 +1,7 @@
 use Rattle.std.proofs.Common.{refl, arith}
 use Rattle.cedar_schema_core.specs.Replies.{report_of}
 use Rattle.cedar_schema_core.specs.Run.{delivered, wanted_memory}
+use Rattle.cedar_schema_core.proofs.Kept.{kept}
 use Rattle.cedar_schema_core.proofs.Ran.{completes, completed, within_out, within_err}
 use Rattle.cedar_schema_core.proofs.run.run_tool.Goals as goal
 
@@ -9,6 +10,11 @@ returns-in-Ok-clause-run g c = delivered (report_of c.in-Ok.reply) c.in-Ok.ensur
 
 pub returns-in-Ok-clause-completed : goal.returns-in-Ok-clause-completed
 returns-in-Ok-clause-completed g c = λ d. completed _ _ _ _ c.deliver.result (delivered (report_of c.in-Ok.reply) c.in-Ok.ensures.reported c.deliver.ensures.delivered) d
+
+pub returns-in-Ok-clause-recovers : goal.returns-in-Ok-clause-recovers
+returns-in-Ok-clause-recovers g c = λ d.
+    kept c.canonical_texts_mean_the_same.ensures _ _ _ _
+    (completed _ _ _ _ c.deliver.result (delivered (report_of c.in-Ok.reply) c.in-Ok.ensures.reported c.deliver.ensures.delivered) d)
 
 pub returns-in-Ok-clause-completes : goal.returns-in-Ok-clause-completes
 returns-in-Ok-clause-completes g c = λ bytes plan left is none.

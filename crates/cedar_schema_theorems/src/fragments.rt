@@ -1,0 +1,77 @@
+//! What is proved of trees, of the fragments that they stand for, and of what fragments mean.
+ghost use Rattle.std.specs.Prelude.{◌≡◌, ◌↔◌, ℕ, Bool, List, []};
+ghost use Rattle.std.specs.List.{AllZip, AllByRecursion, flat_map};
+ghost use Rattle.cedar_identifiers.specs.declared.raw_name.RawName.{RawName};
+ghost use Rattle.cedar_names.specs.Meaning.{SchemaMeaning};
+ghost use Rattle.cedar_names.specs.declared.extension_table.ExtensionTable.{ExtensionTable};
+ghost use Rattle.schema_syntax_tokens.specs.Laid.{laid};
+ghost use Rattle.schema_syntax_tree.specs.declared.annotated.Annotated.{Annotated};
+ghost use Rattle.schema_syntax_tree.specs.declared.namespace.Namespace.{Namespace};
+ghost use Rattle.schema_json.specs.declared.fragment.Fragment.{Fragment};
+ghost use Rattle.schema_convert_types.specs.Declarations.{as_written};
+ghost use Rattle.schema_convert.specs.Faults.{translation_faults};
+ghost use Rattle.schema_convert.specs.Translatable.{IsTranslatable};
+ghost use Rattle.schema_convert.specs.Translated.{translated};
+ghost use Rattle.schema_readback.specs.PrintedDecls.{Group, group_items, schema_pieces};
+ghost use Rattle.schema_readback.specs.Shows.{SaysItem};
+ghost use Rattle.schema_readback.specs.Written.{WrittenItem};
+ghost use Rattle.schema_says.specs.BareFragments.{bare_fragment};
+ghost use Rattle.schema_says.specs.Named.{IsWellNamed};
+ghost use Rattle.schema_says.specs.TranslatedAs.{IsTranslatedAs};
+ghost use Rattle.schema_print.specs.FragmentGroups.{AreGroupsOf};
+ghost use Rattle.schema_print_says.specs.CedarForm.{cedar_form};
+ghost use Rattle.schema_print_says.specs.Plain.{components_written, IsPlainFragment};
+ghost use Rattle.schema_build_errors.specs.declared.schema_error.SchemaError.{SchemaError};
+ghost use Rattle.schema_build_parts.specs.BuildFaults.{BuildFault};
+ghost use Rattle.schema_build.specs.FaultsTold.{AreToldAlike, IsInOrder};
+ghost use Rattle.schema_build.specs.Meaning.{FragmentMeaning};
+
+use schema_build::{one_build_fault, one_fragment_meaning};
+use schema_convert::laws::lawful_trees;
+use schema_print_says::laws::printed_fragments_read_back;
+use schema_says::laws::trees_that_say_the_same;
+
+/// A tree has no fault of translation exactly where it can be translated: no name is reserved, none is declared twice in its
+/// kind and namespace, and each block of an action is whole.
+pub fn a_tree_is_translated_where_it_can_be()
+    ensures { (tree : List (Annotated Namespace)) → translation_faults tree ≡ [] ↔ IsTranslatable tree }
+{
+    lawful_trees();
+}
+
+/// Of two trees that say the same, the other has no fault where one has none, and their fragments are the same, places aside.
+pub fn what_is_said_decides()
+    ensures { (tree other : List (Annotated Namespace)) (w : List WrittenItem) → AllZip SaysItem tree w
+        → AllZip SaysItem other w → AllByRecursion IsWellNamed w → translation_faults tree ≡ []
+        → (translation_faults other ≡ []) × (bare_fragment (translated tree) ≡ bare_fragment (translated other)) }
+{
+    trees_that_say_the_same();
+}
+
+/// The printed text of a fragment that a text can say has no fault, and its fragment is that one in the form that its text has,
+/// places aside.
+pub fn printed_fragments_say_the_same()
+    ensures { (closing : Bool) (f : Fragment RawName as_written) (groups : List Group)
+        → AreGroupsOf components_written f groups → IsPlainFragment f
+        → (t : IsTranslatedAs (laid (schema_pieces closing groups)) (flat_map group_items groups))
+        × (bare_fragment (translated t.reads.tree) ≡ bare_fragment (cedar_form f)) }
+{
+    printed_fragments_read_back();
+}
+
+/// A fragment has at most one meaning under a table.
+pub fn a_fragment_has_one_meaning()
+    ensures { (f : Fragment RawName as_written) (table : ExtensionTable) (m n : SchemaMeaning) → FragmentMeaning f table m
+        → FragmentMeaning f table n → m ≡ n }
+{
+    one_fragment_meaning();
+}
+
+/// What is told of the fault that keeps a fragment from being a schema is one: its text, its advice and its places. The entries of
+/// the fragment are to be in the order of their names, as those of each fragment in memory are.
+pub fn faults_are_told_alike()
+    ensures { (f : Fragment RawName as_written) (table : ExtensionTable) (error other : SchemaError) → IsInOrder f
+        → BuildFault f table error → BuildFault f table other → AreToldAlike error other }
+{
+    one_build_fault();
+}

@@ -1,0 +1,23 @@
+//! The page of theorems: what is proved of schema texts, fragments and schemas, one sentence each. Each theorem is what its
+//! function ensures, over definitions alone, and each function does nothing but cite the laws that it follows from.
+//! A text is the list of its bytes; a meaning is what a schema is about: entity types and actions, each with all that is
+//! above it, and no common type.
+#![tactic(auto)]
+
+pub mod fragments;
+pub mod runs;
+pub mod texts;
+
+pub use fragments::{
+    a_fragment_has_one_meaning, a_tree_is_translated_where_it_can_be, faults_are_told_alike,
+    printed_fragments_say_the_same, what_is_said_decides,
+};
+pub use runs::{
+    a_run_has_one_plan, a_text_has_one_meaning, a_text_has_one_refusal,
+    canonical_texts_stand_for_meanings, recovering_again_changes_nothing, refused_is_not_valid,
+    what_is_recovered_means_the_same,
+};
+pub use texts::{
+    a_text_has_one_error, a_text_has_one_syntax_fault, a_text_has_one_translation,
+    a_text_has_one_tree, a_tree_or_an_error, texts_of_meanings_say_them,
+};

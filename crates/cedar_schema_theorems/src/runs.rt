@@ -1,0 +1,74 @@
+//! What is proved of what a text means, and of what the program does with it.
+ghost use Rattle.std.specs.Prelude.{◌≡◌, ◌≢◌, ◌↔◌, ℕ, Bool, List, IsUtf8};
+ghost use Rattle.std.specs.Str.{encode_utf8_all};
+ghost use Rattle.cedar_names.specs.CanonicalText.{schema_text, canonical_text};
+ghost use Rattle.cedar_names.specs.Meaning.{SchemaMeaning};
+ghost use Rattle.cedar_names.specs.declared.extension_table.ExtensionTable.{ExtensionTable};
+ghost use Rattle.cedar_schema_core.specs.Meanings.{TextMeaning, IsValid};
+ghost use Rattle.cedar_schema_core.specs.Recovery.{IsRecovered, IsRefusal};
+ghost use Rattle.cedar_schema_core.specs.declared.recover.Recovered.{Recovered};
+ghost use Rattle.cedar_schema_core.specs.Plan.{Report, IsPlan};
+ghost use Rattle.cedar_schema_core_faults.specs.Told.{fault_text};
+
+use cedar_schema_core::{
+    RecoverError, canonical_texts_mean_the_same, canonical_texts_tell_meanings_apart, one_plan,
+    one_refusal, one_text_meaning, recovered_texts_recover_themselves, refused_or_valid,
+};
+
+/// A text has at most one meaning under a table.
+pub fn a_text_has_one_meaning()
+    ensures { (text : List ℕ) (table : ExtensionTable) (m n : SchemaMeaning) → TextMeaning text table m
+        → TextMeaning text table n → m ≡ n }
+{
+    one_text_meaning();
+}
+
+/// What is recovered means the same: the text of what a valid text means, with a comma behind every member or between members,
+/// is valid under the same table, and means the same.
+pub fn what_is_recovered_means_the_same()
+    ensures { (closing : Bool) (text : List ℕ) (table : ExtensionTable) (m : SchemaMeaning) → TextMeaning text table m
+        → TextMeaning (schema_text closing m) table m }
+{
+    canonical_texts_mean_the_same();
+}
+
+/// Two valid texts have one canonical text exactly where they mean the same.
+pub fn canonical_texts_stand_for_meanings()
+    ensures { (text other : List ℕ) (table : ExtensionTable) (m n : SchemaMeaning) → TextMeaning text table m
+        → TextMeaning other table n → canonical_text m ≡ canonical_text n ↔ m ≡ n }
+{
+    canonical_texts_tell_meanings_apart();
+}
+
+/// Recovering what was recovered changes nothing.
+pub fn recovering_again_changes_nothing()
+    ensures { (text : List ℕ) (table : ExtensionTable) (first second : Recovered) → IsRecovered text table first
+        → IsRecovered (encode_utf8_all first.text) table second → second.text ≡ first.text }
+{
+    recovered_texts_recover_themselves();
+}
+
+/// No text is both refused and valid. Want of memory is no refusal.
+pub fn refused_is_not_valid()
+    ensures { (text : List ℕ) (table : ExtensionTable) (e : RecoverError) → IsRefusal text table e
+        → e ≢ RecoverError.Memory → IsValid text table → ⊥ }
+{
+    refused_or_valid();
+}
+
+/// A text is refused for one reason, at one place: what is told of its refusals is one text.
+pub fn a_text_has_one_refusal()
+    ensures { (text : List ℕ) (table : ExtensionTable) (e other : RecoverError) → IsUtf8 text
+        → e ≢ RecoverError.Memory → other ≢ RecoverError.Memory → IsRefusal text table e → IsRefusal text table other
+        → fault_text text e ≡ fault_text text other }
+{
+    one_refusal();
+}
+
+/// For the same words and the same input there is one report at most: one status, one output and one error output.
+pub fn a_run_has_one_plan()
+    ensures { (words : List (List ℕ)) (bytes : List ℕ) (report other : Report) → IsPlan words bytes report
+        → IsPlan words bytes other → report ≡ other }
+{
+    one_plan();
+}

@@ -1,0 +1,76 @@
+//! What is proved of schema texts and their trees.
+ghost use Rattle.std.specs.Prelude.{◌≡◌, ℕ, Bool, List, IsUtf8};
+ghost use Rattle.std.specs.List.{flat_map};
+ghost use Rattle.cedar_identifiers.specs.declared.raw_name.RawName.{RawName};
+ghost use Rattle.cedar_names.specs.Meaning.{SchemaMeaning};
+ghost use Rattle.cedar_names.specs.CanonicalText.{schema_text};
+ghost use Rattle.cedar_names.specs.declared.extension_table.ExtensionTable.{ExtensionTable};
+ghost use Rattle.schema_syntax_tree.specs.declared.annotated.Annotated.{Annotated};
+ghost use Rattle.schema_syntax_tree.specs.declared.namespace.Namespace.{Namespace};
+ghost use Rattle.schema_syntax_errors.specs.declared.parse_error.ParseError.{ParseError};
+ghost use Rattle.schema_syntax.specs.ParseAnswers.{IsTreeOfText, IsErrorOf};
+ghost use Rattle.schema_syntax.specs.SyntaxFaults.{IsSyntaxFault};
+ghost use Rattle.schema_syntax.specs.declared.syntax_fault.SyntaxFault.{SyntaxFault};
+ghost use Rattle.schema_json.specs.declared.fragment.Fragment.{Fragment};
+ghost use Rattle.schema_convert_types.specs.Declarations.{as_written};
+ghost use Rattle.schema_convert_errors.specs.declared.warnings.SchemaWarning.{SchemaWarning};
+ghost use Rattle.schema_convert.specs.Translated.{IsTranslationOfText};
+ghost use Rattle.schema_readback.specs.Meant.{groups_of_meaning};
+ghost use Rattle.schema_readback.specs.PrintedDecls.{group_items};
+ghost use Rattle.schema_says.specs.MeantNames.{HasOpenNames, IsOfWords};
+ghost use Rattle.schema_says.specs.TranslatedAs.{IsTranslatedAs};
+
+use cedar_schema_core::one_translation;
+use schema_says::laws::texts_of_meanings_are_translated;
+use schema_syntax::laws::{one_syntax_fault, tree_or_error};
+use schema_syntax_laws::{one_error, one_tree};
+
+/// A text has at most one tree.
+pub fn a_text_has_one_tree()
+    ensures { (text : List ℕ) (tree other : List (Annotated Namespace)) → IsTreeOfText text tree → IsTreeOfText text other
+        → tree ≡ other }
+{
+    one_tree();
+}
+
+/// A text has at most one syntax fault: one leftmost place, one token there, and one list of the kinds of tokens that could
+/// stand there.
+pub fn a_text_has_one_syntax_fault()
+    ensures { (text : List ℕ) (fault other : SyntaxFault) → IsSyntaxFault text fault → IsSyntaxFault text other
+        → fault ≡ other }
+{
+    one_syntax_fault();
+}
+
+/// A text has at most one error: its syntax fault, or the fault of a declaration that ends first.
+pub fn a_text_has_one_error()
+    ensures { (text : List ℕ) → IsUtf8 text → (error other : ParseError) → IsErrorOf text error → IsErrorOf text other
+        → error ≡ other }
+{
+    one_error();
+}
+
+/// No text has a tree and an error.
+pub fn a_tree_or_an_error()
+    ensures { (text : List ℕ) (tree : List (Annotated Namespace)) (error : ParseError) → IsTreeOfText text tree
+        → IsErrorOf text error → ⊥ }
+{
+    tree_or_error();
+}
+
+/// A text is translated to at most one fragment, with one list of warnings.
+pub fn a_text_has_one_translation()
+    ensures { (text : List ℕ) (table : ExtensionTable) (f g : Fragment RawName as_written) (v w : List SchemaWarning)
+        → IsTranslationOfText text table f v → IsTranslationOfText text table g w → (f ≡ g) × (v ≡ w) }
+{
+    one_translation();
+}
+
+/// The text of a meaning, with a comma behind every member or between members, has a tree and no fault, and its fragment says
+/// what is written of the meaning. The names in the meaning are to be made of words, and none may be reserved.
+pub fn texts_of_meanings_say_them()
+    ensures { (closing : Bool) (m : SchemaMeaning) → IsOfWords m → HasOpenNames m
+        → IsTranslatedAs (schema_text closing m) (flat_map group_items (groups_of_meaning m)) }
+{
+    texts_of_meanings_are_translated();
+}
