@@ -1,0 +1,84 @@
+//! The front end used as a library. A schema is read, its fragment is printed, the types above a type are asked for, and a
+//! text that is no schema is refused.
+#![tactic(auto)]
+
+use cedar_data::Text;
+use cedar_identifiers::{Name, NameText, RawName};
+use cedar_names::ExtensionTable;
+use schema_build::{CedarSchemaError, FromCedarSchema, ValidatorSchema};
+use schema_json::Fragment;
+use schema_print::ToCedarSchema;
+use std::alloc::Global;
+use std::io::Write;
+use std::process::ExitCode;
+
+const SCHEMA: &str = "\
+namespace Photos {
+  type Size = { width: Long, height: Long };
+  entity Group in Group;
+  entity User in Group;
+  entity Photo = { owner: User, size?: Size };
+  action view appliesTo { principal: User, resource: Photo };
+}
+";
+
+const NO_SCHEMA: &str = "entity User in Gruop; entity Group;";
+
+// The fragment of the schema, printed. There is none where memory is wanted.
+fn printed(alloc: Global, table: &ExtensionTable) -> Option<Text> {
+    let (fragment, _) = Fragment::<RawName>::from_cedarschema_str(alloc, SCHEMA, table).ok()?;
+    fragment.to_cedarschema(alloc).ok()
+}
+
+// The types above the one of this name.
+fn types_above<'a>(schema: &'a ValidatorSchema, name: &Name) -> &'a [Name] {
+    for (declared, entity_type) in schema.entity_types() {
+        if declared == name {
+            return entity_type.ancestors.as_slice();
+        }
+    }
+    &[]
+}
+
+// A line for each type above `Photos::User`.
+fn lines_of_types_above_users(alloc: Global, table: &ExtensionTable) -> Option<Text> {
+    let (schema, _) = ValidatorSchema::from_cedarschema_str(alloc, SCHEMA, table).ok()?;
+    let user = Name::from_normalized_str(alloc, "Photos::User").ok()?;
+    let mut lines = Text::new(alloc);
+    for name in types_above(&schema, &user) {
+        lines.push_str("Photos::User is in ").ok()?;
+        lines.push_str(name.text(alloc).ok()?.as_str()).ok()?;
+        lines.push_str("\n").ok()?;
+    }
+    Some(lines)
+}
+
+// What is told of a text that is no schema.
+fn refusal(alloc: Global, table: &ExtensionTable) -> Option<Text> {
+    match ValidatorSchema::from_cedarschema_str(alloc, NO_SCHEMA, table) {
+        Ok(_) => None,
+        Err(CedarSchemaError::Memory) => None,
+        Err(error) => error.text(alloc).ok(),
+    }
+}
+
+// All three, each behind the one before.
+fn shown(alloc: Global) -> Option<Text> {
+    let table = ExtensionTable::all_available(alloc).ok()?;
+    let mut text = printed(alloc, &table)?;
+    text.push_str(lines_of_types_above_users(alloc, &table)?.as_str())
+        .ok()?;
+    text.push_str(refusal(alloc, &table)?.as_str()).ok()?;
+    text.push_str("\n").ok()?;
+    Some(text)
+}
+
+fn main(rt: HostRuntime) -> ExitCode {
+    match shown(rt.alloc()) {
+        Some(text) => match rt.stdout().write_all(text.as_str().as_bytes()) {
+            Ok(()) => ExitCode::SUCCESS,
+            Err(_) => ExitCode::from(1),
+        },
+        None => ExitCode::from(1),
+    }
+}
