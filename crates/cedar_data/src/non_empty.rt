@@ -62,6 +62,13 @@ impl<T> NonEmpty<T> {
         &self.head
     }
 
+    /// The first item, and those behind it.
+    pub fn parts(&self) -> (&T, &[T])
+        ensures { self.now ≡ result.0.now ∷ result.1.now }
+    {
+        (&self.head, &self.tail)
+    }
+
     /// The items in order.
     pub fn iter(&self) -> NonEmptyIter<'_, T>
         ensures { items_left result ≡ self.now }

@@ -60,6 +60,13 @@ impl<'a> Path<'a> {
         }
     }
 
+    /// The first id, and those behind it.
+    pub fn parts(&self) -> (&SrcId<'a>, &[SrcId<'a>])
+        ensures { self.now.ids ≡ result.0.now ∷ result.1.now }
+    {
+        self.ids.parts()
+    }
+
     /// The path's place.
     pub fn loc(&self) -> Option<&Loc>
         ensures { option_copied result ≡ self.now.loc }
