@@ -3,6 +3,7 @@ pub mod UseTexts
 pub mod CycleTexts
 pub mod ShapeTexts
 pub mod HierarchyTexts
+pub mod Joined
 pub mod CapturedTexts
 pub mod SchemaErrorTexts
 pub mod RecoveryTexts

@@ -3,16 +3,18 @@ use Rattle.std.specs.Prelude.{ℕ, List, [], Option, Some, None, codes}
 use Rattle.cedar_data.specs.declared.label.Label.{Label}
 use Rattle.schema_resolve_errors.specs.ErrorTexts.{label_at, type_texts, action_texts, unresolved_text, undeclared_text, undeclared_actions_help, type_labels, action_labels}
 use Rattle.schema_resolve_errors.specs.Gathered.{if_there}
+use Rattle.schema_json_errors.specs.JsonTexts.{json_fault_text, json_error_help}
 use Rattle.schema_build_errors.specs.DeclaredTexts.{action_type_declared_text, type_shadowing_text, type_shadowing_help, action_shadowing_text, action_shadowing_help}
 use Rattle.schema_build_errors.specs.UseTexts.{unknown_extension_text, unsupported_text, undeclared_types_text, undeclared_types_help, undeclared_labels}
 use Rattle.schema_build_errors.specs.CycleTexts.{common_cycle_text, action_cycle_text}
 use Rattle.schema_build_errors.specs.ShapeTexts.{subject_place, no_record_text, no_record_help}
 use Rattle.schema_build_errors.specs.HierarchyTexts.{enum_ancestor_text, enum_ancestor_help, action_type_text, enum_parent_text, enum_parent_help}
 use Rattle.schema_build_errors.specs.declared.schema_error.SchemaError.{SchemaError}
-use Rattle.schema_build_errors.specs.declared.schema_error.SchemaError.TheVariants.{ActionEntityTypeDeclared, TypeShadowing, ActionShadowing, UnknownExtensionType, UnsupportedFeature, TypeNotDefined, ActionNotDefined, UndeclaredEntityTypes, CycleInCommonTypeReferences, ContextOrShapeNotRecord, CycleInActionHierarchy, ExternalWithEnumAncestor, InvalidActionType, EnumEntityInHierarchy, Memory}
+use Rattle.schema_build_errors.specs.declared.schema_error.SchemaError.TheVariants.{JsonDeserialization, ActionEntityTypeDeclared, TypeShadowing, ActionShadowing, UnknownExtensionType, UnsupportedFeature, TypeNotDefined, ActionNotDefined, UndeclaredEntityTypes, CycleInCommonTypeReferences, ContextOrShapeNotRecord, CycleInActionHierarchy, ExternalWithEnumAncestor, InvalidActionType, EnumEntityInHierarchy, Memory}
 
 -- what an error says
 abbrev pub schema_error_text : SchemaError → List ℕ
+schema_error_text (JsonDeserialization e) = json_fault_text e.fault
 schema_error_text (ActionEntityTypeDeclared e) = action_type_declared_text e
 schema_error_text (TypeShadowing e) = type_shadowing_text e
 schema_error_text (ActionShadowing e) = action_shadowing_text e
@@ -31,6 +33,7 @@ schema_error_text Memory = codes "out of memory"
 
 -- the advice of an error, where it has any
 abbrev pub schema_error_help : SchemaError → Option (List ℕ)
+schema_error_help (JsonDeserialization e) = json_error_help e
 schema_error_help (ActionEntityTypeDeclared e) = None
 schema_error_help (TypeShadowing e) = Some (type_shadowing_help e)
 schema_error_help (ActionShadowing e) = Some (action_shadowing_help e)
@@ -49,6 +52,7 @@ schema_error_help Memory = None
 
 -- the places that an error points to, in order
 abbrev pub schema_error_labels : SchemaError → List Label
+schema_error_labels (JsonDeserialization e) = []
 schema_error_labels (ActionEntityTypeDeclared e) = if_there label_at e.loc
 schema_error_labels (TypeShadowing e) = if_there label_at e.shadowing_def.loc
 schema_error_labels (ActionShadowing e) = if_there label_at e.shadowing_def.loc

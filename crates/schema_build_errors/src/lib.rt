@@ -5,6 +5,7 @@ pub mod captured;
 pub mod cycle_errors;
 pub mod declared_errors;
 pub mod hierarchy_errors;
+mod joining;
 mod places;
 pub mod recovery_error;
 pub mod schema_error;
@@ -21,6 +22,7 @@ pub use hierarchy_errors::{
 };
 pub use recovery_error::{RecoveryError, ToTextError};
 pub use schema_error::SchemaError;
+pub use schema_json_errors::{JsonAdvice, JsonDeserializationError, JsonFault};
 pub use schema_resolve_errors::{ActionNotDefinedError, TypeNotDefinedError};
 pub use shape_errors::{ContextOrShape, ContextOrShapeNotRecordError};
 pub use use_errors::{

@@ -13,12 +13,16 @@ use crate::use_errors::{
     UndeclaredEntityTypesError, UnknownExtensionTypeError, UnsupportedFeatureError,
 };
 use cedar_data::{CloneIn, Label, Severity, Text, message};
+use schema_json_errors::JsonDeserializationError;
 use schema_resolve_errors::{ActionNotDefinedError, TypeNotDefinedError};
 use std::alloc::{AllocError, AllocFailed, Global};
 
-/// Why a fragment is no schema: the first fault that it has, in the order of the variants; or memory is wanted.
+/// Why a JSON text or a fragment is no schema: the first fault that it has, in the order of the variants; or memory is
+/// wanted.
 #[derive(Drop)]
 pub enum SchemaError {
+    /// A JSON text or value is no fragment.
+    JsonDeserialization(JsonDeserializationError),
     /// An entity type is declared with the name `Action`.
     ActionEntityTypeDeclared(ActionEntityTypeDeclaredError),
     /// A type of a named namespace hides one of the empty namespace.
@@ -57,6 +61,7 @@ impl SchemaError {
         ensures text { IfOk result (λ text. text ≡ schema_error_text self.now) }
     {
         match self {
+            SchemaError::JsonDeserialization(error) => error.text(alloc),
             SchemaError::ActionEntityTypeDeclared(error) => error.text(alloc),
             SchemaError::TypeShadowing(error) => error.text(alloc),
             SchemaError::ActionShadowing(error) => error.text(alloc),
@@ -80,6 +85,7 @@ impl SchemaError {
         ensures help { IfOk result (λ help. help ≡ schema_error_help self.now) }
     {
         match self {
+            SchemaError::JsonDeserialization(error) => error.help(alloc, source),
             SchemaError::ActionEntityTypeDeclared(error) => error.help(alloc, source),
             SchemaError::TypeShadowing(error) => error.help(alloc, source),
             SchemaError::ActionShadowing(error) => error.help(alloc, source),
@@ -103,6 +109,7 @@ impl SchemaError {
         ensures labels { IfOk result (λ labels. labels.items ≡ schema_error_labels self.now) }
     {
         match self {
+            SchemaError::JsonDeserialization(error) => error.labels(alloc),
             SchemaError::ActionEntityTypeDeclared(error) => error.labels(alloc),
             SchemaError::TypeShadowing(error) => error.labels(alloc),
             SchemaError::ActionShadowing(error) => error.labels(alloc),
@@ -154,6 +161,9 @@ impl<T: Drop> From<AllocFailed<T>> for SchemaError {
 impl CloneIn for SchemaError {
     fn clone_in(&self, alloc: Global) -> Result<Self, AllocError> {
         match self {
+            SchemaError::JsonDeserialization(e) => Ok(SchemaError::JsonDeserialization(e.clone_in(
+                alloc,
+            )?)),
             SchemaError::ActionEntityTypeDeclared(e) => Ok(SchemaError::ActionEntityTypeDeclared(
                 e.clone_in(alloc)?,
             )),

@@ -8,8 +8,8 @@ use Rattle.schema_json_shapes.specs.declared.shape_fault.ShapeFault.TheVariants 
 use Rattle.std.specs.Prelude.{[]}
 use Rattle.schema_json_shapes.specs.Walk.{fragment, demands}
 use Rattle.schema_json_shapes.specs.Reads.{IsFault}
-use Rattle.schema_json_io.specs.declared.json_fault.JsonFault.{JsonFault}
-use Rattle.schema_json_io.specs.declared.json_fault.JsonFault.TheVariants as cause
+use Rattle.schema_json_errors.specs.declared.json_fault.JsonFault.{JsonFault}
+use Rattle.schema_json_errors.specs.declared.json_fault.JsonFault.TheVariants as cause
 use Rattle.schema_json_io.specs.Causes.{IsValueCause, IsTextCause}
 use Rattle.schema_json_io.specs.Faults.{of_shape}
 use Rattle.schema_json_io.specs.Texts.{HasNoRepeat}

@@ -4,10 +4,10 @@ use Rattle.std.specs.Str.{trim_start}
 use Rattle.serde_json.specs.Data.{Data, object}
 use Rattle.serde_json.specs.Find.{get_member}
 use Rattle.serde_json.specs.Read.{read}
-use Rattle.schema_json_io.specs.declared.errors.JsonAdvice.{JsonAdvice}
-use Rattle.schema_json_io.specs.declared.errors.JsonAdvice.TheVariants.{CedarFormat, MissingNamespace}
-use Rattle.schema_json_io.specs.declared.json_fault.JsonFault.{JsonFault}
-use Rattle.schema_json_io.specs.declared.json_fault.JsonFault.TheVariants.{Memory}
+use Rattle.schema_json_errors.specs.declared.json_error.JsonAdvice.{JsonAdvice}
+use Rattle.schema_json_errors.specs.declared.json_error.JsonAdvice.TheVariants.{CedarFormat, MissingNamespace}
+use Rattle.schema_json_errors.specs.declared.json_fault.JsonFault.{JsonFault}
+use Rattle.schema_json_errors.specs.declared.json_fault.JsonFault.TheVariants.{Memory}
 
 -- it begins, and not with `{`
 abbrev pub begins_otherwise : List ℕ → Bool

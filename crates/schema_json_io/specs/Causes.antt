@@ -7,9 +7,9 @@ use Rattle.serde_json.specs.Written.{has_float}
 use Rattle.schema_json_keys.specs.Keys.{RepeatedKey}
 use Rattle.schema_json_shapes.specs.declared.shape_fault.ShapeFault.{ShapeFault}
 use Rattle.schema_json_shapes.specs.Shapes.{IsShapeFault}
-use Rattle.schema_json_io.specs.declared.errors.JsonDeserializationError.{JsonDeserializationError}
-use Rattle.schema_json_io.specs.declared.json_fault.JsonFault.{JsonFault}
-use Rattle.schema_json_io.specs.declared.json_fault.JsonFault.TheVariants as cause
+use Rattle.schema_json_errors.specs.declared.json_error.JsonDeserializationError.{JsonDeserializationError}
+use Rattle.schema_json_errors.specs.declared.json_fault.JsonFault.{JsonFault}
+use Rattle.schema_json_errors.specs.declared.json_fault.JsonFault.TheVariants as cause
 use Rattle.schema_json_io.specs.Advice.{advice_on, beside}
 use Rattle.schema_json_io.specs.Faults.{of_shape}
 use Rattle.schema_json_io.specs.Texts.{HasNoRepeat, Holds}

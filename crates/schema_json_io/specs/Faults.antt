@@ -1,8 +1,8 @@
 -- The fault of a value, as a fault of reading JSON.
 use Rattle.schema_json_shapes.specs.declared.shape_fault.ShapeFault.{ShapeFault}
 use Rattle.schema_json_shapes.specs.declared.shape_fault.ShapeFault.TheVariants as shape
-use Rattle.schema_json_io.specs.declared.json_fault.JsonFault.{JsonFault}
-use Rattle.schema_json_io.specs.declared.json_fault.JsonFault.TheVariants.{UnknownField, MissingField, WrongType, BadName, ReservedCommonType, EmptyEnum, ExternalConflict, EnumConflict, AnnotationsOnEmptyNamespace, Memory}
+use Rattle.schema_json_errors.specs.declared.json_fault.JsonFault.{JsonFault}
+use Rattle.schema_json_errors.specs.declared.json_fault.JsonFault.TheVariants.{UnknownField, MissingField, WrongType, BadName, ReservedCommonType, EmptyEnum, ExternalConflict, EnumConflict, AnnotationsOnEmptyNamespace, Memory}
 
 abbrev pub of_shape : ShapeFault → JsonFault
 of_shape (shape.UnknownField name) = UnknownField name

@@ -3,7 +3,7 @@ ghost use Rattle.serde_json.specs.Read.{read};
 ghost use Rattle.serde_json.specs.View.{view};
 ghost use Rattle.schema_json_io.specs.Advice.{is_no_object_text, is_bare_namespace, advice_on};
 
-use crate::errors::JsonAdvice;
+use schema_json_errors::JsonAdvice;
 use schema_json_shapes::fields::at;
 use serde_json::Value;
 

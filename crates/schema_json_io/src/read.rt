@@ -7,12 +7,12 @@ ghost use Rattle.schema_json_io.specs.Texts.{TextShape, ValueShape};
 ghost use Rattle.schema_json_io.specs.Causes.{IsTextCause, IsValueCause, IsTextError, IsValueError};
 
 use crate::advice::advice_on;
-use crate::errors::{JsonAdvice, JsonDeserializationError};
 use crate::floats::has_float;
-use crate::json_fault::JsonFault;
+use crate::shape_faults::of_shape;
 use cedar_data::Text;
 use cedar_identifiers::RawName;
 use schema_json::Fragment;
+use schema_json_errors::{JsonAdvice, JsonDeserializationError, JsonFault};
 use schema_json_keys::first_repeated_key;
 use schema_json_shapes::read_fragment;
 use serde_json::Value;
@@ -27,7 +27,7 @@ fn read_value(alloc: Global, value: &Value) -> Result<Fragment<RawName>, JsonFau
     }
     match read_fragment(alloc, value) {
         Ok(fragment) => Ok(fragment),
-        Err(fault) => Err(JsonFault::of_shape(fault)),
+        Err(fault) => Err(of_shape(fault)),
     }
 }
 

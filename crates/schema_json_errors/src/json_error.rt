@@ -1,0 +1,81 @@
+ghost use Rattle.std.specs.Prelude.{◌≡◌, [], IfOk};
+ghost use Rattle.schema_json_errors.specs.JsonTexts.{advice_text, json_fault_text, json_error_help};
+
+use crate::json_fault::JsonFault;
+use cedar_data::{CloneIn, Label, Severity, Text, message};
+use std::alloc::{AllocError, Global};
+
+/// What may help where no fragment was read.
+#[derive(Clone, Copy, Debug, Drop, PartialEq, Eq)]
+pub enum JsonAdvice {
+    /// The text may be a schema in the Cedar format.
+    CedarFormat,
+    /// The object may be a namespace without its name.
+    MissingNamespace,
+}
+
+/// Why no fragment was read, with advice.
+#[derive(Debug, Drop)]
+pub struct JsonDeserializationError {
+    pub fault: JsonFault,
+    pub advice: Option<JsonAdvice>,
+}
+
+impl JsonAdvice {
+    // The advice in words.
+    fn text(self, alloc: Global) -> Result<Text, AllocError>
+        ensures { IfOk result (λ text. text ≡ advice_text self) }
+    {
+        let advice = match self {
+            JsonAdvice::CedarFormat => {
+                "this API was expecting a schema in the JSON format; did you mean to use a different function, which expects the Cedar schema format?"
+            }
+            JsonAdvice::MissingNamespace => {
+                "JSON formatted schema must specify a namespace. If you want to use the empty namespace, explicitly specify it with `{ \"\": {..} }`"
+            }
+        };
+        message(alloc, advice)
+    }
+}
+
+impl JsonDeserializationError {
+    /// What the error says: what its fault says.
+    pub fn text(&self, alloc: Global) -> Result<Text, AllocError>
+        ensures text { IfOk result (λ text. text ≡ json_fault_text self.now.fault) }
+    {
+        self.fault.text(alloc)
+    }
+
+    /// Advice, where it has any.
+    pub fn help(&self, alloc: Global, _source: &str) -> Result<Option<Text>, AllocError>
+        ensures help { IfOk result (λ help. help ≡ json_error_help self.now) }
+    {
+        match self.advice {
+            Some(advice) => Ok(Some(advice.text(alloc)?)),
+            None => Ok(None),
+        }
+    }
+
+    /// The places that it points to, of which it has none.
+    pub fn labels(&self, alloc: Global) -> Result<Vec<Label>, AllocError>
+        ensures none { IfOk result (λ labels. labels.items ≡ []) }
+    {
+        Ok(Vec::new(alloc))
+    }
+
+    /// How grave it is.
+    pub fn severity(&self) -> Severity
+        ensures error { result ≡ Severity.Error }
+    {
+        Severity::Error
+    }
+}
+
+impl CloneIn for JsonDeserializationError {
+    fn clone_in(&self, alloc: Global) -> Result<Self, AllocError> {
+        Ok(JsonDeserializationError {
+            fault: self.fault.clone_in(alloc)?,
+            advice: self.advice,
+        })
+    }
+}
