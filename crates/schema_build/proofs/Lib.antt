@@ -8,6 +8,5 @@ mod Meanings
 mod Schemas
 mod OneFault
 mod DeclaredOnce
-mod Basenames
 mod Least
 mod Misnamed

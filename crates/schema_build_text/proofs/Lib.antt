@@ -6,7 +6,7 @@ mod Holding
 mod InOrder
 mod Layers
 mod Meant
-mod Named
+pub mod Named
 mod Parts
 mod Plain
 mod Quoted

@@ -1,6 +1,6 @@
 use Rattle.std.proofs.Common.{sym, ap, codes, ◌∙◌}
 use Rattle.std.specs.Str.{bytes_eq}
-use Rattle.schema_build.proofs.Basenames.{last_of}
+use Rattle.schema_build_text.proofs.Named.{last_of}
 use Rattle.schema_build.proofs.parts.is_action_type.Goals as goal
 
 pub returns-in-Some : goal.returns-in-Some
