@@ -13,3 +13,4 @@ mod Closures
 mod Fronts
 mod Least
 mod Own
+mod Wanted

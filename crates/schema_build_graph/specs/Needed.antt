@@ -1,8 +1,9 @@
 -- The vertices that some are or lead to, as they are marked.
 use Rattle.std.specs.Prelude.{◌≡◌, ◌⊎◌, ℕ, Bool, true, List, Vec, length, All, Contains}
 use Rattle.std.specs.declared.alloc.Global.{Global}
-use Rattle.schema_build_graph.specs.Graph.{targets_of}
+use Rattle.schema_build_graph.specs.Graph.{targets_of, HasEdge}
 use Rattle.schema_build_graph.specs.Order.{is_marked}
+use Rattle.schema_build_graph.specs.Paths.{Reaches}
 
 -- just these vertices were marked besides
 pub record MarksToo (vertices : List ℕ) (before after : List Bool) : Type 0 where
@@ -14,3 +15,12 @@ pub record MarksToo (vertices : List ℕ) (before after : List Bool) : Type 0 wh
 -- each target of each marked vertex is marked
 abbrev pub AreAllClosed : List (Vec ℕ Global) → List Bool → Type 0
 AreAllClosed graph marks = (v : ℕ) → is_marked marks v ≡ true → All (λ t. is_marked marks t ≡ true) (targets_of graph v)
+
+-- what is marked was marked before, or is led to from what was
+abbrev pub MarksLedTo : List (Vec ℕ Global) → List Bool → List Bool → Type 0
+MarksLedTo graph before after = (v : ℕ) → is_marked after v ≡ true
+    → (is_marked before v ≡ true) ⊎ ((u : ℕ) × (is_marked before u ≡ true) × Reaches (HasEdge graph) u v)
+
+-- a root, or led to from a root
+abbrev pub IsWanted : List (Vec ℕ Global) → List ℕ → ℕ → Type 0
+IsWanted graph roots v = Contains roots v ⊎ ((r : ℕ) × Contains roots r × Reaches (HasEdge graph) r v)

@@ -1,6 +1,6 @@
 ghost use Rattle.std.specs.Prelude.{◌≡◌, ◌<◌, ℕ, true, length, All, Contains, IfOk};
 ghost use Rattle.schema_build_graph.specs.Graph.{InRange};
-ghost use Rattle.schema_build_graph.specs.Needed.{AreAllClosed, MarksToo};
+ghost use Rattle.schema_build_graph.specs.Needed.{AreAllClosed, IsWanted, MarksLedTo, MarksToo};
 ghost use Rattle.schema_build_graph.specs.Order.{IsOrder, StandBehind, is_marked};
 
 use std::alloc::{AllocError, Global};
@@ -23,6 +23,7 @@ fn mark_led_to(marks: &mut [bool], graph: &[Vec<usize>], order: &[usize])
     ensures same { length marks.new ≡ length marks.old }
     ensures stay { (v : ℕ) → is_marked marks.old v ≡ true → is_marked marks.new v ≡ true }
     ensures closed { AreAllClosed graph.now marks.new }
+    ensures only { MarksLedTo graph.now marks.old marks.new }
 {
     let mut left = order.len();
     while left > 0 {
@@ -47,6 +48,7 @@ fn marks_of(
     ensures same { IfOk result (λ marks. length marks.items ≡ length graph.now) }
     ensures closed { IfOk result (λ marks. AreAllClosed graph.now marks.items) }
     ensures roots { IfOk result (λ marks. All (λ v. is_marked marks.items v ≡ true) roots.now) }
+    ensures only { IfOk result (λ marks. (v : ℕ) → is_marked marks.items v ≡ true → IsWanted graph.now roots.now v) }
 {
     let mut marks = vec![in alloc; false; graph.len()]?;
     mark(&mut marks, roots);
@@ -68,6 +70,7 @@ pub fn needed(
     ensures below { IfOk result (λ kept. All (λ v. v < length graph.now) kept.items) }
     ensures behind { IfOk result (λ kept. StandBehind graph.now kept.items) }
     ensures roots { IfOk result (λ kept. All (Contains kept.items) roots.now) }
+    ensures only { IfOk result (λ kept. All (IsWanted graph.now roots.now) kept.items) }
 {
     let marks = marks_of(alloc, graph, order, roots)?;
     let mut kept = Vec::new(alloc);

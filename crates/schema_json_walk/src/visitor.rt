@@ -26,6 +26,7 @@ pub trait Visitor<N> {
 }
 
 // Tells the part.
+#[inline(never)]
 pub(crate) fn meet<'a, N, V: Visitor<N>>(
     visitor: &mut V,
     ns: &'a Option<Name>,
@@ -38,6 +39,7 @@ pub(crate) fn meet<'a, N, V: Visitor<N>>(
 }
 
 // Tells the part, where it is there.
+#[inline(never)]
 pub(crate) fn meet_where<'a, N, V: Visitor<N>>(
     visitor: &mut V,
     ns: &'a Option<Name>,

@@ -1,7 +1,8 @@
-use Rattle.std.proofs.Common.{◌≡◌, ◌<◌, ◌-◌, length, get_or, refl, sym, ◌∙◌, arith}
+use Rattle.std.proofs.Common.{◌≡◌, ◌<◌, ◌-◌, length, get_or, refl, sym, ◌∙◌, arith, inl}
 use Rattle.schema_build_graph.specs.Graph.{targets_of}
 use Rattle.schema_build_graph.proofs.Found.{targets_at}
 use Rattle.schema_build_graph.proofs.Fronts.{open_first, open_marked, open_unmarked, all_closed}
+use Rattle.schema_build_graph.proofs.Wanted.{led_more}
 use Rattle.schema_build_graph.proofs.kept.mark_led_to.Goals as goal
 
 pub loop-left-init : goal.loop-left-init
@@ -10,6 +11,7 @@ loop-left-init c = record {
   same = refl;
   stay = λ v m. m;
   open_ones = open_first c.args.graph.now c.args.order.now c.requires.order c.args.marks.now c.requires.marks;
+  only = λ v m. inl m;
 }
 
 pub loop-left-preserved-then-marks-vertex : goal.loop-left-preserved-then-marks-vertex
@@ -29,6 +31,9 @@ loop-left-preserved-then-marks-vertex c =
       open_ones =
           open_marked graph order c.requires.order l.left l.marks c.mark.new.marks c.deref.result.now some
           l.invariant.within row c.mark.ensures l.invariant.open_ones;
+      only =
+          led_more graph c.args.marks.now l.marks c.mark.new.marks vertex c.deref.result.now c.if-marks-vertex.true row
+          c.mark.ensures l.invariant.only;
     }
 
 pub loop-left-preserved : goal.loop-left-preserved
@@ -41,6 +46,7 @@ loop-left-preserved c =
       open_ones =
           open_unmarked c.args.graph.now c.args.order.now c.requires.order l.left l.marks c.loop-left-test.true
           l.invariant.within c.if-marks-vertex.false l.invariant.open_ones;
+      only = l.invariant.only;
     }
 
 pub returns-clause-closed : goal.returns-clause-closed

@@ -1,5 +1,6 @@
 use Rattle.std.proofs.Common.{◌≡◌, ◌≤◌, ◌⊎◌, ℕ, true, length, take, All, Contains}
 use Rattle.schema_build_graph.specs.Graph.{targets_of}
+use Rattle.schema_build_graph.specs.Needed.{MarksLedTo}
 use Rattle.schema_build_graph.specs.Order.{is_marked}
 use Rattle.schema_build_graph.proofs.kept.mark_led_to.Given as goal
 
@@ -10,6 +11,7 @@ invariant-loop-left l = record {
   stay : (v : ℕ) → is_marked l.fn.marks v ≡ true → is_marked l.marks v ≡ true;
   open_ones : (v : ℕ) → is_marked l.marks v ≡ true
       → Contains (take l.left l.order) v ⊎ All (λ t. is_marked l.marks t ≡ true) (targets_of l.graph v);
+  only : MarksLedTo l.graph l.fn.marks l.marks;
 }
 
 abbrev pub decreases-loop-left : goal.decreases-loop-left

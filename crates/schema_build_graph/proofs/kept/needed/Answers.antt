@@ -1,5 +1,7 @@
-use Rattle.std.proofs.Common.{◌≡◌, ◌∷◌, [], ◌++◌, ◌<◌, false, length, get_or, sym, ap, ◌∙◌, subst, arith, All, Contains}
+use Rattle.std.proofs.Common.{◌≡◌, true, ◌∷◌, [], ◌++◌, ◌<◌, false, length, get_or, sym, ap, ◌∙◌, subst, arith, All, Contains}
 use Rattle.std.proofs.lemmas.List.{get_or_default, take_all}
+use Rattle.std.proofs.lemmas.List.Elements.{All-push, All-weaker}
+use Rattle.schema_build_graph.specs.Needed.{IsWanted}
 use Rattle.schema_build_graph.specs.Order.{StandBehind, is_marked}
 use Rattle.schema_build_graph.proofs.Fronts.{kept_more, below_more, whole_more, whole_same}
 use Rattle.schema_build_graph.proofs.kept.needed.Goals as goal
@@ -31,6 +33,8 @@ loop-vertex-preserved c =
                 l.invariant.behind);
             whole = λ v d m. subst (λ k. Contains k v) (sym grown)
                 (whole_more graph order c.requires.order marks closed old i lt l.invariant.whole v d m);
+            only = subst (All (λ v. is_marked marks v ≡ true)) (sym grown)
+                (All-push (λ v. is_marked marks v ≡ true) old v l.invariant.only (read ∙ w.if-index.true));
           }
       | else-index w ↦
           let same : after ≡ old = ap (λ v. v.items) w.kept-is in
@@ -39,6 +43,7 @@ loop-vertex-preserved c =
             behind = subst (StandBehind graph) (sym same) l.invariant.behind;
             whole = λ v d m. subst (λ k. Contains k v) (sym same)
                 (whole_same graph order c.requires.order marks closed old i lt l.invariant.whole (read ∙ w.if-index.false) v d m);
+            only = subst (All (λ v. is_marked marks v ≡ true)) (sym same) l.invariant.only;
           }
     ]
 
@@ -50,3 +55,8 @@ returns-clause-roots c = λ k d h.
     c.loop-vertex.invariant.whole v
     (subst (λ xs. Contains xs v) (sym (take_all c.loop-vertex.vertex-index order c.loop-vertex-test.false)) there)
     (c.in_ok-marks.ensures.roots k d h)
+
+pub returns-clause-only : goal.returns-clause-only
+returns-clause-only c =
+    All-weaker (λ v. is_marked c.in_ok-marks.marks.items v ≡ true) (IsWanted c.args.graph.now c.args.roots.now)
+    c.in_ok-marks.ensures.only c.loop-vertex.kept.items c.loop-vertex.invariant.only

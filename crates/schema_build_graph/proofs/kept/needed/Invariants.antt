@@ -8,4 +8,5 @@ invariant-loop-vertex l = record {
   behind : StandBehind l.graph l.kept.items;
   whole : (v : ℕ) → Contains (take l.vertex-index l.order) v → is_marked l.marks.items v ≡ true
       → Contains l.kept.items v;
+  only : All (λ v. is_marked l.marks.items v ≡ true) l.kept.items;
 }
