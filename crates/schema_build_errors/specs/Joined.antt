@@ -1,23 +1,31 @@
 -- One error for several.
 use Rattle.std.specs.Prelude.{◌≡◌, ◌≢◌, List, [], ◌∷◌}
 use Rattle.std.specs.List.{flat_map}
-use Rattle.cedar_identifiers.specs.declared.conditional_name.ConditionalName.{ConditionalName}
-use Rattle.schema_json.specs.declared.action_type.ActionEntityUID.{ActionEntityUID}
+use Rattle.schema_resolve_errors.specs.declared.resolve_error.ActionNotDefinedError.{ActionNotDefinedError}
+use Rattle.schema_resolve_errors.specs.declared.resolve_error.TypeNotDefinedError.{TypeNotDefinedError}
 use Rattle.schema_build_errors.specs.declared.schema_error.SchemaError.{SchemaError}
 use Rattle.schema_build_errors.specs.declared.schema_error.SchemaError.TheVariants.{TypeNotDefined, ActionNotDefined}
 
--- the undefined types that an error names
-abbrev pub types_of : SchemaError → List ConditionalName
-types_of (TypeNotDefined e) = e.undefined_types
-types_of _ = []
+-- the error, where it is about undefined types
+abbrev pub of_types : SchemaError → List TypeNotDefinedError
+of_types (TypeNotDefined e) = e ∷ []
+of_types _ = []
 
--- the undefined actions that an error names
-abbrev pub actions_of : SchemaError → List (ActionEntityUID ConditionalName)
-actions_of (ActionNotDefined e) = e.0
-actions_of _ = []
+-- the error, where it is about undefined actions
+abbrev pub of_actions : SchemaError → List ActionNotDefinedError
+of_actions (ActionNotDefined e) = e ∷ []
+of_actions _ = []
+
+-- one that names the undefined types of all, where there are any
+abbrev pub all_types : List SchemaError → TypeNotDefinedError
+all_types errors = record { undefined_types = flat_map (λ e. flat_map (λ x. x.undefined_types) (of_types e)) errors }
+
+-- one that names the undefined actions of all, where there are any
+abbrev pub all_actions : List SchemaError → ActionNotDefinedError
+all_actions errors = record { 0 = flat_map (λ e. flat_map (λ x. x.0) (of_actions e)) errors }
 
 -- one for all: the undefined types of all come first, then the undefined actions of all, then the first error
 pub record IsJoined (errors : List SchemaError) (joined : SchemaError) : Type 0 where
-  pub types : flat_map types_of errors ≢ [] → joined ≡ TypeNotDefined (record { undefined_types = flat_map types_of errors })
-  pub actions : flat_map types_of errors ≡ [] → flat_map actions_of errors ≢ [] → joined ≡ ActionNotDefined (record { 0 = flat_map actions_of errors })
-  pub first : flat_map types_of errors ≡ [] → flat_map actions_of errors ≡ [] → (others : List SchemaError) × (errors ≡ joined ∷ others)
+  pub types : (all_types errors).undefined_types ≢ [] → joined ≡ TypeNotDefined (all_types errors)
+  pub actions : (all_types errors).undefined_types ≡ [] → (all_actions errors).0 ≢ [] → joined ≡ ActionNotDefined (all_actions errors)
+  pub first : (all_types errors).undefined_types ≡ [] → (all_actions errors).0 ≡ [] → (others : List SchemaError) × (errors ≡ joined ∷ others)

@@ -1,5 +1,6 @@
 ghost use Rattle.std.specs.Prelude.{◌≡◌, ◌++◌, IfOk, OnOk};
-ghost use Rattle.schema_build_errors.specs.Joined.{IsJoined, types_of, actions_of};
+ghost use Rattle.std.specs.List.{flat_map};
+ghost use Rattle.schema_build_errors.specs.Joined.{IsJoined, of_types, of_actions};
 
 use crate::schema_error::SchemaError;
 use cedar_data::{CloneIn, NonEmpty};
@@ -54,7 +55,7 @@ fn add_types(
     types: &mut Vec<ConditionalName>,
     error: &SchemaError,
 ) -> Result<(), AllocError>
-    ensures { OnOk result (types.new.items ≡ types.old.items ++ types_of error.now) }
+    ensures { OnOk result (types.new.items ≡ types.old.items ++ flat_map (λ x. x.undefined_types) (of_types error.now)) }
 {
     match error {
         SchemaError::TypeNotDefined(error) => add_copies(alloc, types, &error.undefined_types),
@@ -68,7 +69,7 @@ fn add_actions(
     actions: &mut Vec<ActionEntityUID<ConditionalName>>,
     error: &SchemaError,
 ) -> Result<(), AllocError>
-    ensures { OnOk result (actions.new.items ≡ actions.old.items ++ actions_of error.now) }
+    ensures { OnOk result (actions.new.items ≡ actions.old.items ++ flat_map (λ x. x.0) (of_actions error.now)) }
 {
     match error {
         SchemaError::ActionNotDefined(error) => add_copies(alloc, actions, &error.0),

@@ -34,7 +34,7 @@ fn type_name(alloc: Global, path: Option<Path<'_>>) -> Result<Option<RawName>, A
 {
     match path {
         None => Ok(None),
-        Some(path) => Ok(Some(raw_name(alloc, path)?)),
+        Some(path) => Ok(Some(raw_name(alloc, &path)?)),
     }
 }
 
@@ -84,7 +84,7 @@ fn some_types(alloc: Global, paths: NonEmpty<Path<'_>>) -> Result<List<RawName>,
 {
     let mut names = Vec::with_capacity(alloc, 1)?;
     for path in paths {
-        names.push(raw_name(alloc, path)?)?;
+        names.push(raw_name(alloc, &path)?)?;
     }
     Ok(List::from_vec(names))
 }
@@ -100,7 +100,7 @@ fn context<'a>(
         Either::Left(path) => {
             let loc = path.loc().copied();
             Ok(AttributesOrContext(Type::CommonTypeRef {
-                type_name: raw_name(alloc, path)?,
+                type_name: raw_name(alloc, &path)?,
                 loc,
             }))
         }

@@ -21,7 +21,7 @@ fn raw_names(alloc: Global, paths: List<Path<'_>>) -> Result<List<RawName>, Allo
     let paths = paths.into_vec();
     let mut names = Vec::with_capacity(alloc, paths.len())?;
     for path in paths {
-        names.push(raw_name(alloc, path)?)?;
+        names.push(raw_name(alloc, &path)?)?;
     }
     Ok(List::from_vec(names))
 }

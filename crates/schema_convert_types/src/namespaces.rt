@@ -211,7 +211,7 @@ fn namespace_key(alloc: Global, name: Option<Path<'_>>) -> Result<Option<Option<
 {
     match name {
         None => Ok(Some(None)),
-        Some(path) => match declarable_name(internal_name(alloc, path)?) {
+        Some(path) => match declarable_name(internal_name(alloc, &path)?) {
             None => Ok(None),
             Some(name) => Ok(Some(Some(name))),
         },

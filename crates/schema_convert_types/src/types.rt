@@ -1,8 +1,9 @@
 ghost use Rattle.std.specs.Prelude.{◌≡◌, map, IfOk};
+ghost use Rattle.schema_syntax_tree.specs.declared.types.AttrDecl.{out-AttrDecl};
 ghost use Rattle.schema_convert_types.specs.Types.{type_at, type_of, record_of, record_of_attributes, attribute_of};
 
 use crate::names::raw_name;
-use cedar_data::{Boxed, List, Loc, Map, Node};
+use cedar_data::{Boxed, List, Loc, Map, Node, Text};
 use cedar_identifiers::RawName;
 use schema_json::{RecordType, Type, TypeOfAttribute, TypeVariant};
 use schema_syntax_tree::{Annotated, AttrDecl};
@@ -16,8 +17,7 @@ pub fn cedar_type_to_json_type(
 ) -> Result<Type<RawName>, AllocError>
     ensures { IfOk result (λ shape. shape ≡ type_of ty.entry) }
 {
-    let (ty, loc) = ty.into_inner();
-    type_at(alloc, ty, loc)
+    type_at(alloc, &ty.node, ty.loc)
 }
 
 // What a type becomes at this place.
@@ -25,15 +25,15 @@ pub fn cedar_type_to_json_type(
 #[cycle(types)]
 fn type_at(
     alloc: Global,
-    ty: schema_syntax_tree::Type<'_>,
+    ty: &schema_syntax_tree::Type<'_>,
     loc: Option<Loc>,
 ) -> Result<Type<RawName>, AllocError>
-    ensures { IfOk result (λ shape. shape ≡ type_at ty.entry loc) }
+    ensures { IfOk result (λ shape. shape ≡ type_at ty.now loc) }
 {
     match ty {
         schema_syntax_tree::Type::Set(element) => {
-            let (element, place) = element.into_inner().into_inner();
-            let element = type_at(alloc, element, place)?;
+            let element = element.get();
+            let element = type_at(alloc, &element.node, element.loc)?;
             let element = Boxed::new(alloc, element)?;
             Ok(Type::Variant {
                 ty: TypeVariant::Set { element },
@@ -47,7 +47,7 @@ fn type_at(
             loc,
         }),
         schema_syntax_tree::Type::Record(attributes) => Ok(Type::Variant {
-            ty: TypeVariant::Record(record_of(alloc, attributes)?),
+            ty: TypeVariant::Record(record_of(alloc, attributes.as_slice())?),
             loc,
         }),
     }
@@ -57,30 +57,41 @@ fn type_at(
 #[cycle(types)]
 fn record_of<'a>(
     alloc: Global,
-    attributes: List<Node<Annotated<'a, AttrDecl<'a>>>>,
+    attributes: &[Node<Annotated<'a, AttrDecl<'a>>>],
 ) -> Result<RecordType<RawName>, AllocError>
-    ensures { IfOk result (λ shape. shape ≡ record_of (map attribute_of attributes.entry)) }
+    ensures { IfOk result (λ shape. shape ≡ record_of (map attribute_of attributes.now)) }
 {
-    let attributes = attributes.into_vec();
     let mut entries = Vec::with_capacity(alloc, attributes.len())?;
     for attribute in attributes {
-        let Annotated { item, annotations } = attribute.node;
-        let AttrDecl { name, required, ty } = item;
-        let ty = type_at(alloc, ty.node, ty.loc)?;
-        let annotations = annotations.to_annotations(alloc)?;
-        let name = name.node.to_text(alloc)?;
-        let of = TypeOfAttribute {
-            ty,
-            annotations,
-            required,
-        };
-        entries.push((name, of))?;
+        let ty = &attribute.node.item.ty;
+        let ty = type_at(alloc, &ty.node, ty.loc)?;
+        entries.push(attribute_with(alloc, attribute, ty)?)?;
     }
     let attributes = Map::from_entries(alloc, entries)?;
     Ok(RecordType {
         attributes,
         additional_attributes: false,
     })
+}
+
+// The attribute, whose type this is. It stands by itself, so that a level of nested records takes little of the stack.
+#[inline(never)]
+fn attribute_with<'a>(
+    alloc: Global,
+    attribute: &Node<Annotated<'a, AttrDecl<'a>>>,
+    ty: Type<RawName>,
+) -> Result<(Text, TypeOfAttribute<RawName>), AllocError>
+    ensures { IfOk result (λ entry. ty ≡ type_at (out-AttrDecl attribute.now.node.item).ty.node (out-AttrDecl attribute.now.node.item).ty.loc → entry ≡ attribute_of attribute.now) }
+{
+    let declared = &attribute.node.item;
+    let annotations = attribute.node.annotations.to_annotations(alloc)?;
+    let name = declared.name.node.to_text(alloc)?;
+    let of = TypeOfAttribute {
+        ty,
+        annotations,
+        required: declared.required,
+    };
+    Ok((name, of))
 }
 
 /// What the attributes of an entity type or of a context become.
@@ -91,7 +102,7 @@ pub(crate) fn record_type<'a>(
     ensures { IfOk result (λ shape. shape ≡ record_of_attributes attributes.entry) }
 {
     Ok(Type::Variant {
-        ty: TypeVariant::Record(record_of(alloc, attributes.node)?),
+        ty: TypeVariant::Record(record_of(alloc, attributes.node.as_slice())?),
         loc: attributes.loc,
     })
 }

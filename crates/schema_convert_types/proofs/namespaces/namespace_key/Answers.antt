@@ -3,5 +3,5 @@ use Rattle.std.specs.Prelude.{option_map, Some}
 use Rattle.schema_convert_types.specs.Fragments.{declarable_name, namespace_key}
 use Rattle.schema_convert_types.proofs.namespaces.namespace_key.Goals as goal
 
-pub returns-in-Some-declarable_name : goal.returns-in-Some-declarable_name
-returns-in-Some-declarable_name c = ap (option_map Some) (c.in-Some-declarable_name.ensures ∙ ap declarable_name c.in_ok-internal_name-in-Some.ensures) ∙ ap namespace_key (sym c.in-Some.is)
+pub returns : goal.returns
+returns c = ap (option_map Some) (c.in-Some-declarable_name.ensures ∙ ap declarable_name c.in_ok-internal_name-in-Some.ensures) ∙ ap namespace_key (sym c.in-Some.is)
