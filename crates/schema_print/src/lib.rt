@@ -3,16 +3,21 @@
 
 mod bodies;
 pub mod cedar_text;
+mod either_way;
 pub mod fragments;
 mod items;
 pub mod laws;
 mod lists;
+mod parts_told;
+pub mod printable;
+mod printable_items;
 pub mod to_cedar_schema;
 mod unprintable;
 
 pub use cedar_text::CedarText;
 pub use fragments::print_fragment;
 pub use laws::fragments_are_laid_out;
+pub use printable::is_printable;
 pub use schema_print_errors::{
     NameCollisionsError, ToCedarSchemaSyntaxError, UnconvertibleEntityTypeShapeError,
 };

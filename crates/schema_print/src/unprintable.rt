@@ -92,7 +92,10 @@ fn add_repeated<N: NameText>(
 }
 
 // Whether an entity type of the namespace has the name.
-fn is_entity_type<N: NameText>(namespace: &NamespaceDefinition<N>, id: &UnreservedId) -> bool
+pub(crate) fn is_entity_type<N: NameText>(
+    namespace: &NamespaceDefinition<N>,
+    id: &UnreservedId,
+) -> bool
     ensures { result ≡ names_entity_type namespace.now.entity_types id.now.id.text }
 {
     match namespace.entity_types.get(id) {
@@ -144,7 +147,7 @@ pub fn sorted_names(
 }
 
 // Whether it is a standard entity type that is not external, and whose shape is no record.
-fn is_shapeless<N>(entity_type: &EntityType<N>) -> bool
+pub(crate) fn is_shapeless<N>(entity_type: &EntityType<N>) -> bool
     ensures { result ≡ is_shapeless entity_type.now }
 {
     match &entity_type.kind {
@@ -155,7 +158,7 @@ fn is_shapeless<N>(entity_type: &EntityType<N>) -> bool
 }
 
 // Whether the type is a record, open or closed.
-fn is_record<N>(ty: &Type<N>) -> bool
+pub(crate) fn is_record<N>(ty: &Type<N>) -> bool
     ensures { result ≡ is_record_type ty.now }
 {
     match ty {

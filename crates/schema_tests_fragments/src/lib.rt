@@ -9,6 +9,10 @@ mod errors;
 #[cfg(test)]
 mod fragment_lines;
 #[cfg(test)]
+mod printable_table;
+#[cfg(test)]
+mod printable_texts;
+#[cfg(test)]
 mod printed_parts;
 #[cfg(test)]
 mod printed_table;

@@ -1,0 +1,2 @@
+mod Builtin
+mod Looked

@@ -1,0 +1,144 @@
+-- A name is declared where the namespace that stands in it declares its last word.
+use Rattle.std.proofs.Common.{◌≡◌, ℕ, Bool, true, false, ◌&&◌, ◌||◌, List, [], ◌∷◌, ◌++◌, map, codes, Option, Some, None, refl, sym, ap, ◌∙◌}
+use Rattle.std.specs.List.{flat_map, list_any}
+use Rattle.std.specs.Cmp.Lexicographic.{pointwise}
+use Rattle.std.specs.Str.{bytes_eq, encode_utf8_all}
+use Rattle.std.proofs.Math.Bool.{and-false}
+use Rattle.std.proofs.lemmas.List.{map-append}
+use Rattle.std.proofs.lemmas.List.Folds.{list_any-append}
+use Rattle.cedar_data.proofs.Ascii.{word_bytes}
+use Rattle.cedar_identifiers.proofs.Ids.{id_is_word}
+use Rattle.cedar_identifiers.specs.Names.{components_of, texts_of}
+use Rattle.cedar_identifiers.specs.declared.id.Id.{Id}
+use Rattle.cedar_identifiers.specs.declared.name.Name.{Name}
+use Rattle.cedar_identifiers.specs.declared.name_text.NameText as named
+use Rattle.cedar_identifiers.specs.declared.raw_name.RawName.{RawName}
+use Rattle.cedar_names.specs.Definitions.{among, same_name}
+use Rattle.schema_json.specs.Actions.{action_name}
+use Rattle.schema_json.specs.declared.fragment.Fragment.{Fragment}
+use Rattle.schema_json.specs.declared.fragment.NamespaceDefinition.{NamespaceDefinition}
+use Rattle.schema_resolve_definitions.specs.Declarations.{declared, declared_name, action_type, commons_in, entities_in, actions_in}
+use Rattle.schema_resolve_lookup.specs.Sought.{namespace_words, is_there}
+
+and_true : (b : Bool) → (b && true) ≡ b
+and_true true = refl
+and_true false = refl
+
+-- what one test after another tells
+pub and_passed : (first second x y all : Bool) → first ≡ true → first ≡ x → second ≡ y → all ≡ (x && y) → second ≡ all
+and_passed first second x y all h e k whole = k ∙ sym (whole ∙ ap (λ b. b && y) (sym e ∙ h))
+
+pub and_stopped : (first x y all : Bool) → first ≡ false → first ≡ x → all ≡ (x && y) → first ≡ all
+and_stopped first x y all h e whole = h ∙ sym (whole ∙ ap (λ b. b && y) (sym e ∙ h))
+
+pub or_passed : (first x y all : Bool) → first ≡ true → first ≡ x → all ≡ (x || y) → first ≡ all
+or_passed first x y all h e whole = h ∙ sym (whole ∙ ap (λ b. b || y) (sym e ∙ h))
+
+pub or_next : (first second x y all : Bool) → first ≡ false → first ≡ x → second ≡ y → all ≡ (x || y) → second ≡ all
+or_next first second x y all h e k whole = k ∙ sym (whole ∙ ap (λ b. b || y) (sym e ∙ h))
+
+and_assoc : (a b c : Bool) → (a && (b && c)) ≡ ((a && b) && c)
+and_assoc true b c = refl
+and_assoc false b c = refl
+
+-- of two names the words before the last, and the last ones
+no_words : (xs : List (List ℕ)) (l : List ℕ) → same_name (xs ++ l ∷ []) [] ≡ false
+no_words [] l = refl
+no_words (x ∷ xs) l = refl
+
+some_words : (ys : List (List ℕ)) (m : List ℕ) → same_name [] (ys ++ m ∷ []) ≡ false
+some_words [] m = refl
+some_words (y ∷ ys) m = refl
+
+pub same_behind : (xs ys : List (List ℕ)) (l m : List ℕ)
+    → same_name (xs ++ l ∷ []) (ys ++ m ∷ []) ≡ (same_name xs ys && bytes_eq l m)
+same_behind [] [] l m = and_true (bytes_eq l m)
+same_behind [] (y ∷ ys) l m = ap (λ b. bytes_eq l y && b) (some_words ys m) ∙ and-false (bytes_eq l y)
+same_behind (x ∷ xs) [] l m = ap (λ b. bytes_eq x m && b) (no_words xs l) ∙ and-false (bytes_eq x m)
+same_behind (x ∷ xs) (y ∷ ys) l m =
+    ap (λ b. bytes_eq x y && b) (same_behind xs ys l m) ∙ and_assoc (bytes_eq x y) (same_name xs ys) (bytes_eq l m)
+
+-- a test of some item
+pub any_given : {A B : Type 0} (test : B → Bool) (give : A → List B) (xs : List A)
+    → list_any test (flat_map give xs) ≡ list_any (λ x. list_any test (give x)) xs
+any_given test give [] = refl
+any_given test give (x ∷ xs) =
+    list_any-append test (give x) (flat_map give xs) ∙ ap (λ b. list_any test (give x) || b) (any_given test give xs)
+
+pub any_seen : {A B : Type 0} (test : B → Bool) (see : A → B) (xs : List A)
+    → list_any test (map see xs) ≡ list_any (λ x. test (see x)) xs
+any_seen test see [] = refl
+any_seen test see (x ∷ xs) = ap (λ b. test (see x) || b) (any_seen test see xs)
+
+pub any_where : {A : Type 0} (b : Bool) (test : A → Bool) (xs : List A)
+    → list_any (λ x. b && test x) xs ≡ (b && list_any test xs)
+any_where true test xs = refl
+any_where false test [] = refl
+any_where false test (x ∷ xs) = any_where false test xs
+
+any_of_all : {A : Type 0} (b : Bool) (xs : List A) → list_any (λ x. b) xs ≡ (b && is_there xs)
+any_of_all true [] = refl
+any_of_all true (x ∷ xs) = refl
+any_of_all false [] = refl
+any_of_all false (x ∷ xs) = any_of_all false xs
+
+-- a declared name is its word behind the words of its namespace
+declared_words : (ns : Option Name) (id : Id) → components_of (declared_name ns id) ≡ namespace_words ns ++ id.text ∷ []
+declared_words None id = refl
+declared_words (Some ns) id = ap (λ l. ns.name.first.text ∷ l) (map-append (λ (i : Id). i.text) ns.name.others (id ∷ []))
+
+action_words : (ns : Option Name) → components_of (action_type ns) ≡ namespace_words ns ++ codes "Action" ∷ []
+action_words None = refl
+action_words (Some ns) =
+    ap (λ l. ns.name.first.text ∷ l) (map-append (λ (i : Id). i.text) ns.name.others (action_name.first ∷ []))
+
+-- it is the one of these words
+declared_there : (ns : Option Name) (id : Id) (xs : List (List ℕ)) (l : List ℕ)
+    → same_name (xs ++ l ∷ []) (components_of (declared_name ns id)) ≡ (same_name xs (namespace_words ns) && bytes_eq l id.text)
+declared_there ns id xs l = ap (same_name (xs ++ l ∷ [])) (declared_words ns id) ∙ same_behind xs (namespace_words ns) l id.text
+
+module _ {G : named.Ghosts RawName} (ns : Option Name) (n : NamespaceDefinition RawName G) (xs : List (List ℕ)) (l : List ℕ) where
+  pub common_there : among (commons_in ns n) (xs ++ l ∷ [])
+      ≡ (same_name xs (namespace_words ns) && list_any (λ e. bytes_eq l e.0.id.id.text) n.common_types)
+  common_there =
+      any_seen (same_name (xs ++ l ∷ [])) (λ e. components_of (declared_name ns e.0.id.id)) n.common_types
+      ∙ (λ i. list_any (λ e. declared_there ns e.0.id.id xs l i) n.common_types)
+      ∙ any_where (same_name xs (namespace_words ns)) (λ e. bytes_eq l e.0.id.id.text) n.common_types
+
+  pub entity_there : among (entities_in ns n) (xs ++ l ∷ [])
+      ≡ (same_name xs (namespace_words ns) && list_any (λ e. bytes_eq l e.0.id.text) n.entity_types)
+  entity_there =
+      any_seen (same_name (xs ++ l ∷ [])) (λ e. components_of (declared_name ns e.0.id)) n.entity_types
+      ∙ (λ i. list_any (λ e. declared_there ns e.0.id xs l i) n.entity_types)
+      ∙ any_where (same_name xs (namespace_words ns)) (λ e. bytes_eq l e.0.id.text) n.entity_types
+
+  pub action_there : among (map (λ a. a.0) (actions_in ns n)) (xs ++ l ∷ [])
+      ≡ ((same_name xs (namespace_words ns) && bytes_eq l (codes "Action")) && is_there n.actions)
+  action_there =
+      any_seen (same_name (xs ++ l ∷ [])) (λ a. a.0) (actions_in ns n)
+      ∙ any_seen (λ a. same_name (xs ++ l ∷ []) a.0) (λ e. (components_of (action_type ns), e.0)) n.actions
+      ∙ any_of_all (same_name (xs ++ l ∷ []) (components_of (action_type ns))) n.actions
+      ∙ ap (λ b. b && is_there n.actions)
+      (ap (same_name (xs ++ l ∷ [])) (action_words ns) ∙ same_behind xs (namespace_words ns) l (codes "Action"))
+
+module _ {G : named.Ghosts RawName} where
+  -- the types of actions, namespace by namespace
+  pub types_given : (name : List (List ℕ)) (f : Fragment RawName G) → among (map (λ a. a.0) (declared f).actions) name
+      ≡ list_any (λ e. among (map (λ a. a.0) (actions_in e.0 e.1)) name) f.0
+  types_given name f =
+      any_seen (same_name name) (λ (a : List (List ℕ) × List ℕ). a.0) (declared f).actions
+      ∙ any_given (λ (a : List (List ℕ) × List ℕ). same_name name a.0) (λ e. actions_in e.0 e.1) f.0
+      ∙ sym (λ i. list_any (λ e. any_seen (same_name name) (λ (a : List (List ℕ) × List ℕ). a.0) (actions_in e.0 e.1) i) f.0)
+
+-- ids in turn, by their texts
+ids_alike : (E : Id → Id → Bool) → ((x y : Id) → E x y ≡ bytes_eq (encode_utf8_all x.text) (encode_utf8_all y.text))
+    → (x y : Id) → E x y ≡ bytes_eq x.text y.text
+ids_alike E e x y =
+    e x y ∙ (λ i. bytes_eq (word_bytes x.text (id_is_word x.text x.word) i) (word_bytes y.text (id_is_word y.text y.word) i))
+
+pub words_alike : (E : Id → Id → Bool) → ((x y : Id) → E x y ≡ bytes_eq (encode_utf8_all x.text) (encode_utf8_all y.text))
+    → (xs ys : List Id) → pointwise E xs ys ≡ same_name (texts_of xs) (texts_of ys)
+words_alike E e [] [] = refl
+words_alike E e [] (y ∷ ys) = refl
+words_alike E e (x ∷ xs) [] = refl
+words_alike E e (x ∷ xs) (y ∷ ys) = λ i. ids_alike E e x y i && words_alike E e xs ys i
