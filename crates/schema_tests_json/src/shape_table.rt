@@ -34,6 +34,8 @@ RepeatedKey(actions); MissingNamespace <- {"actions":{},"actions":{}}
 NotJson <-  {"":{"entityTypes":{},"actions":{}}}
 NotJson; CedarFormat <- //x
 RepeatedKey(b) <- {"a":{"b":1,"b":2},"a":1}
+RepeatedKey(Foo) <- {"Foo":{"entityTypes":{},"actions":{}},"Foo":{"entityTypes":{},"actions":{}}}
+WrongType(external) <- {"":{"entityTypes":{},"actions":{"a":{"external":null}}}}
 ok <- {"":{"entityTypes":{},"actions":{},"annotations":{}}}
 ReservedCommonType(Bool) <- {"":{"entityTypes":{"Bool":{}},"actions":{},"commonTypes":{"Bool":{"type":"Long"}}}}
 BadName(namespace) 1 unexpected token `1` <- {"1":{"entityTypes":{},"actions":{}}}
