@@ -1,38 +1,55 @@
--- What a command answers to a text that is recovered.
-use Rattle.std.proofs.Common.{◌≡◌, ◌++◌, ℕ, List, sym, ap, ◌∙◌, subst}
+-- What a command writes of a text that is recovered.
+use Rattle.std.proofs.Common.{◌≡◌, ◌++◌, ℕ, List, [], refl, ap, ap₂, ◌∙◌}
 use Rattle.std.specs.Prelude.{codes, decimal}
-use Rattle.std.specs.List.{flat_map}
-use Rattle.std.specs.Str.{encode_utf8_all}
+use Rattle.std.specs.Str.{chars, encode_utf8_all}
+use Rattle.std.proofs.lemmas.Str.{encodes-append, encodes-IsAscii}
+use Rattle.cedar_data.proofs.Ascii.{chars-from_test, IsAscii-from_test}
+use Rattle.cedar_data.specs.declared.text.Text.{Text}
 use Rattle.cedar_names.specs.declared.extension_table.ExtensionTable.{ExtensionTable}
-use Rattle.cedar_schema_core.specs.declared.command.Command.{Command}
-use Rattle.cedar_schema_core.specs.declared.command.Command.TheVariants.{Recover, Check}
+use Rattle.schema_convert_errors.specs.declared.warnings.SchemaWarning.{SchemaWarning}
+use Rattle.cedar_schema_core.specs.declared.command.Command.TheVariants.{Recover, Check, ToJson, FromJson}
 use Rattle.cedar_schema_core.specs.declared.recover.Recovered.{Recovered}
-use Rattle.cedar_schema_core.specs.declared.status.Status.TheVariants.{Done}
-use Rattle.cedar_schema_core.specs.Commands.{table_of, output_of}
+use Rattle.cedar_schema_core.specs.Answers.{IsWrittenBy}
+use Rattle.cedar_schema_core.specs.Json.{IsJsonOfText, IsRecoveredJson}
 use Rattle.cedar_schema_core.specs.Recovery.{IsRecovered}
-use Rattle.cedar_schema_core.specs.Replies.{report_of}
-use Rattle.cedar_schema_core.specs.Plan.{IsAnswer, done, done_report, warning_line}
 
-module _ (c : Command) (text : List ℕ) (recovered : Recovered) (r : IsRecovered text (table_of c) recovered) where
+line_end : encode_utf8_all (chars (codes "\n")) ≡ codes "\n"
+line_end =
+    ap encode_utf8_all (chars-from_test (codes "\n") refl)
+    ∙ encodes-IsAscii (codes "\n") (IsAscii-from_test (codes "\n") refl)
+
+module _ (text : List ℕ) (table : ExtensionTable) where
   -- `recover` writes the canonical text
-  pub text_written : (table : ExtensionTable) (out : List ℕ) → c ≡ Recover table → out ≡ recovered.text
-      → encode_utf8_all out ≡ output_of c r.meaning
-  text_written table out is same =
-      ap encode_utf8_all same ∙ r.canonical ∙ sym (ap (λ d. output_of d r.meaning) is)
+  pub text_written : (r : Recovered) → IsRecovered text table r
+      → IsWrittenBy (Recover table) text (encode_utf8_all r.text) r.warnings.items
+  text_written r h = record { writes = (h.meaning, h.means, h.warns, h.canonical) }
 
   -- `check` writes the counts
-  pub counts_written : (table : ExtensionTable) (out : List ℕ) → c ≡ Check table
-      → encode_utf8_all out ≡ decimal recovered.entity_types ++ (codes " entity types, " ++ (decimal recovered.actions ++ codes " actions\n"))
-      → encode_utf8_all out ≡ output_of c r.meaning
-  counts_written table out is line =
-      line ∙ (λ i. decimal (r.entity_types i) ++ (codes " entity types, " ++ (decimal (r.actions i) ++ codes " actions\n")))
-      ∙ sym (ap (λ d. output_of d r.meaning) is)
+  pub counts_written : (r : Recovered) (line : List ℕ) → IsRecovered text table r
+      → encode_utf8_all line ≡ decimal r.entity_types ++ (codes " entity types, " ++ (decimal r.actions ++ codes " actions\n"))
+      → IsWrittenBy (Check table) text (encode_utf8_all line) r.warnings.items
+  counts_written r line h is = record {
+    writes = (
+      h.meaning,
+      h.means,
+      h.warns,
+      is ∙ (λ i. decimal (h.entity_types i) ++ (codes " entity types, " ++ (decimal (h.actions i) ++ codes " actions\n"))),
+    );
+  }
 
-  -- the reply of what the command writes, and a line for each warning
-  pub done_answer : (out err : List ℕ) → encode_utf8_all out ≡ output_of c r.meaning
-      → err ≡ flat_map warning_line recovered.warnings.items
-      → IsAnswer c text (report_of (record { status = Done; out = out; err = err }))
-  done_answer out err written warned =
-      let same : done_report c r.meaning recovered.warnings.items ≡ report_of (record { status = Done; out = out; err = err }) =
-      λ i. record { status = Done; out = sym written i; err = encode_utf8_all (sym warned i) } in
-      subst (IsAnswer c text) same (done r.meaning recovered.warnings.items r.means r.warns)
+  -- `to-json` writes the JSON and the end of the line
+  pub json_written : (json line : Text) (w : List SchemaWarning) → IsJsonOfText text table json
+      → line ≡ json ++ chars (codes "\n") → w ≡ [] → IsWrittenBy (ToJson table) text (encode_utf8_all line) w
+  json_written json line w h is none = record {
+    writes = (
+      h.0,
+      h.1,
+      none,
+      ap encode_utf8_all is ∙ (encodes-append json (chars (codes "\n")) ∙ ap₂ (λ x y. x ++ y) h.2 line_end),
+    );
+  }
+
+  -- `from-json` writes the canonical text
+  pub json_recovered : (r : Recovered) → IsRecoveredJson text table r
+      → IsWrittenBy (FromJson table) text (encode_utf8_all r.text) r.warnings.items
+  json_recovered r h = record { writes = (h.meaning, h.means, h.no_warnings, h.canonical) }

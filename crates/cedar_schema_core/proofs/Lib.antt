@@ -9,7 +9,11 @@ mod Refused
 mod Lines
 mod Ran
 mod Unbuilt
+mod RisingMaps
 mod TranslatedInOrder
+mod JsonInOrder
 mod OneRefusal
+mod JsonRefusals
+mod OneOutput
 mod Canonical
 mod Kept

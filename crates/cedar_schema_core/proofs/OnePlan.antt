@@ -1,54 +1,61 @@
 -- For the same words and the same input there is one report at most.
 use Rattle.std.proofs.Common.{◌≡◌, ◌≢◌, ℕ, List, refl, sym, ap, ◌∙◌, subst, arith, [], IsUtf8}
-use Rattle.cedar_identifiers.specs.declared.raw_name.RawName.{RawName}
-use Rattle.cedar_names.specs.Meaning.{SchemaMeaning}
-use Rattle.cedar_names.specs.declared.extension_table.ExtensionTable.{ExtensionTable}
-use Rattle.schema_json.specs.declared.fragment.Fragment.{Fragment}
-use Rattle.schema_convert_types.specs.Declarations.{as_written}
 use Rattle.schema_convert_errors.specs.declared.warnings.SchemaWarning.{SchemaWarning}
-use Rattle.schema_convert.specs.Translated.{IsTranslationOfText}
 use Rattle.cedar_schema_core.specs.declared.command.Command.{Command}
-use Rattle.cedar_schema_core.specs.declared.command.Command.TheVariants.{Recover, Check}
+use Rattle.cedar_schema_core.specs.declared.command.Command.TheVariants.{Recover, Check, ToJson, FromJson}
 use Rattle.cedar_schema_core_faults.specs.declared.recover_error.RecoverError.{RecoverError}
 use Rattle.cedar_schema_core_faults.specs.declared.recover_error.RecoverError.TheVariants.{Memory}
 use Rattle.std.specs.Str.{encode_utf8_all}
 use Rattle.cedar_schema_core_faults.specs.Told.{fault_text}
 use Rattle.cedar_schema_core.specs.declared.status.Status.TheVariants.{Refused}
-use Rattle.cedar_schema_core.specs.Meanings.{TextMeaning, IsValid}
-use Rattle.cedar_schema_core.specs.Recovery.{IsRefusal}
-use Rattle.cedar_schema_core.specs.Commands.{IsTableInOrder, Asks, recover, recover_with, check, table_of}
+use Rattle.cedar_schema_core.specs.Answers.{Writes, Refuses}
+use Rattle.cedar_schema_core.specs.Commands.{IsTableInOrder, Asks, recover, recover_with, check, to_json, from_json}
 use Rattle.cedar_schema_core.specs.Plan.{Report, IsAnswer, refused, done, done_report, IsInputPlan, too_long, not_text, answered, IsPlan, usage, asked}
 use Rattle.cedar_schema_core.proofs.Tables.{one_table_of_texts, one_table_of_names}
 
 -- words ask for one command
 pub one_command : (words : List (List ℕ)) (c d : Command) → Asks words c → Asks words d → c ≡ d
 one_command words c d (recover t e h) (recover u f k) = ap Recover (one_table_of_texts t u (h ∙ sym k))
-one_command words c d (recover t e h) (recover_with names u f k) = cc
 one_command words c d (recover t e h) (check u f k) = cc
+one_command words c d (recover t e h) (to_json u f k) = cc
+one_command words c d (recover t e h) (from_json u f k) = cc
+one_command words c d (recover t e h) (recover_with names u f k) = cc
 one_command words c d (recover_with names t e h) (recover u f k) = cc
+one_command words c d (check t e h) (recover u f k) = cc
+one_command words c d (check t e h) (check u f k) = ap Check (one_table_of_texts t u (h ∙ sym k))
+one_command words c d (check t e h) (to_json u f k) = cc
+one_command words c d (check t e h) (from_json u f k) = cc
+one_command words c d (check t e h) (recover_with names u f k) = cc
+one_command words c d (recover_with names t e h) (check u f k) = cc
+one_command words c d (to_json t e h) (recover u f k) = cc
+one_command words c d (to_json t e h) (check u f k) = cc
+one_command words c d (to_json t e h) (to_json u f k) = ap ToJson (one_table_of_texts t u (h ∙ sym k))
+one_command words c d (to_json t e h) (from_json u f k) = cc
+one_command words c d (to_json t e h) (recover_with names u f k) = cc
+one_command words c d (recover_with names t e h) (to_json u f k) = cc
+one_command words c d (from_json t e h) (recover u f k) = cc
+one_command words c d (from_json t e h) (check u f k) = cc
+one_command words c d (from_json t e h) (to_json u f k) = cc
+one_command words c d (from_json t e h) (from_json u f k) = ap FromJson (one_table_of_texts t u (h ∙ sym k))
+one_command words c d (from_json t e h) (recover_with names u f k) = cc
+one_command words c d (recover_with names t e h) (from_json u f k) = cc
 one_command words c d (recover_with names t e h) (recover_with others u f k) =
     let same : others ≡ names = cc in
     ap Recover (one_table_of_names names t u h (subst (λ ns. IsTableInOrder ns u) same k))
-one_command words c d (recover_with names t e h) (check u f k) = cc
-one_command words c d (check t e h) (recover u f k) = cc
-one_command words c d (check t e h) (recover_with names u f k) = cc
-one_command words c d (check t e h) (check u f k) = ap Check (one_table_of_texts t u (h ∙ sym k))
 
-module _ (one : (text : List ℕ) (table : ExtensionTable) (m n : SchemaMeaning) → TextMeaning text table m → TextMeaning text table n → m ≡ n)
-    (translation : (text : List ℕ) (table : ExtensionTable) (f g : Fragment RawName as_written) (v w : List SchemaWarning) → IsTranslationOfText text table f v → IsTranslationOfText text table g w → (f ≡ g) × (v ≡ w))
-    (invalid : (text : List ℕ) (table : ExtensionTable) (e : RecoverError) → IsRefusal text table e → e ≢ Memory → IsValid text table → ⊥)
-    (refusal : (text : List ℕ) (table : ExtensionTable) (e other : RecoverError) → IsUtf8 text → e ≢ Memory → other ≢ Memory → IsRefusal text table e → IsRefusal text table other → fault_text text e ≡ fault_text text other) where
+module _ (writes : (c : Command) (text out other : List ℕ) (v w : List SchemaWarning) → Writes c text out v → Writes c text other w → (out ≡ other) × (v ≡ w))
+    (refuses : (c : Command) (text : List ℕ) (e other : RecoverError) → IsUtf8 text → e ≢ Memory → other ≢ Memory → Refuses c text e → Refuses c text other → fault_text text e ≡ fault_text text other)
+    (apart : (c : Command) (text out : List ℕ) (w : List SchemaWarning) (e : RecoverError) → e ≢ Memory → Refuses c text e → Writes c text out w → ⊥) where
   one_answer : (c : Command) (text : List ℕ) (report other : Report) → IsUtf8 text → IsAnswer c text report
       → IsAnswer c text other → report ≡ other
   one_answer c text report other u (refused e n h) (refused f m k) =
       ap (λ told. let r : Report = record { status = Refused; out = []; err = encode_utf8_all told } in r)
-      (refusal text (table_of c) e f u n m h k)
-  one_answer c text report other u (refused e n h) (done m w k l) = absurd (invalid text (table_of c) e h n (m, k))
-  one_answer c text report other u (done m w h l) (refused e n k) = absurd (invalid text (table_of c) e k n (m, h))
-  one_answer c text report other u (done m v h l) (done n w k r) =
-      let meaning : m ≡ n = one text (table_of c) m n h k in
-      let warnings : v ≡ w = (translation text (table_of c) l.0 r.0 v w l.1 r.1).1 in
-      λ i. done_report c (meaning i) (warnings i)
+      (refuses c text e f u n m h.refuses k.refuses)
+  one_answer c text report other u (refused e n h) (done out w k) = absurd (apart c text out w e n h.refuses k.writes)
+  one_answer c text report other u (done out w h) (refused e n k) = absurd (apart c text out w e n k.refuses h.writes)
+  one_answer c text report other u (done out v h) (done out' w k) =
+      let same = writes c text out out' v w h.writes k.writes in
+      λ i. done_report (same.0 i) (same.1 i)
 
   one_input_plan : (c : Command) (bytes : List ℕ) (report other : Report) → IsInputPlan c bytes report
       → IsInputPlan c bytes other → report ≡ other

@@ -48,7 +48,7 @@ item_once (action a) (item.Action v) (item.Action w) h k =
 item_once (action a) (item.Action v) (item.EntityType w) h k = absurd k
 item_once (action a) (item.EntityType v) j h k = absurd h
 
-captured_once : (items : List ItemContent) (a b : ReferenceCaptured) → IsFirstOf items a → IsFirstOf items b
+pub captured_once : (items : List ItemContent) (a b : ReferenceCaptured) → IsFirstOf items a → IsFirstOf items b
     → captured_text a ≡ captured_text b
 captured_once [] a b h k = absurd h
 captured_once (x ∷ others) a b h k =
@@ -57,7 +57,7 @@ captured_once (x ∷ others) a b h k =
     λ i. captured_message (name_text (places i)) (users i)
 
 -- the words of one fault, told of both
-told_once : (e other : SchemaError) → AreToldAlike e other
+pub told_once : (e other : SchemaError) → AreToldAlike e other
     → flat_map told_lines (told_schema e ∷ []) ≡ flat_map told_lines (told_schema other ∷ [])
 told_once e other a = λ i.
     let t : Told = record { text = a.text i; labels = a.labels i; help = a.help i } in flat_map told_lines (t ∷ [])

@@ -6,15 +6,14 @@ use Rattle.std.specs.declared.alloc.AllocError.{AllocError}
 use Rattle.std.proofs.lemmas.Result.{IfOk-weaker}
 use Rattle.cedar_io.specs.Input.{HadLeft, max_input}
 use Rattle.cedar_io.specs.Outside.{IsEnd}
-use Rattle.cedar_names.specs.declared.extension_table.ExtensionTable.{ExtensionTable}
 use Rattle.cedar_schema_core.specs.declared.command.Command.{Command}
 use Rattle.cedar_schema_core_faults.specs.declared.recover_error.RecoverError.{RecoverError}
 use Rattle.cedar_schema_core_faults.specs.declared.recover_error.RecoverError.TheVariants.{Memory}
 use Rattle.cedar_schema_core.specs.declared.reply.Reply.{Reply}
 use Rattle.cedar_schema_core.specs.declared.status.Status.{Status}
 use Rattle.cedar_schema_core.specs.declared.status.Status.TheVariants.{TooLong}
-use Rattle.cedar_schema_core.specs.Recovery.{IsRefusal}
-use Rattle.cedar_schema_core.specs.Commands.{Asks, table_of}
+use Rattle.cedar_schema_core.specs.Answers.{IsRefusedBy}
+use Rattle.cedar_schema_core.specs.Commands.{Asks}
 use Rattle.cedar_schema_core.specs.Replies.{report_of}
 use Rattle.cedar_schema_core.specs.Plan.{Report, IsAnswer, refused, IsInputPlan, answered, asked, refused_report}
 use Rattle.cedar_schema_core.specs.Run.{Device, LeftAs, IsReported, planned}
@@ -39,13 +38,12 @@ pub so : (P : Report → Type 0) (r : Result Reply AllocError) (report : Report)
     → IfOk r (λ reply. report_of reply ≡ report) → IfOk r (λ reply. P (report_of reply))
 so P r report h told = IfOk-weaker r _ _ (λ reply e. subst P (sym e) h) told
 
--- where nothing is recovered, the text is refused
-pub refused_answer : (c : Command) (text : List ℕ) (table : ExtensionTable) (fault : RecoverError) (r : Result Reply AllocError)
-    → table ≡ table_of c → IsRefusal text table fault
-    → IfOk r (λ reply. (fault ≢ Memory) × (report_of reply ≡ refused_report text fault))
+-- where nothing is written of it, the text is refused
+pub refused_answer : (c : Command) (text : List ℕ) (fault : RecoverError) (r : Result Reply AllocError)
+    → IsRefusedBy c text fault → IfOk r (λ reply. (fault ≢ Memory) × (report_of reply ≡ refused_report text fault))
     → IfOk r (λ reply. IsAnswer c text (report_of reply))
-refused_answer c text table fault r same refusal told =
-    IfOk-weaker r _ _ (λ reply h. subst (IsAnswer c text) (sym h.1) (refused fault h.0 (subst (λ t. IsRefusal text t fault) same refusal))) told
+refused_answer c text fault r refusal told =
+    IfOk-weaker r _ _ (λ reply h. subst (IsAnswer c text) (sym h.1) (refused fault h.0 refusal)) told
 
 -- a short input that is a text is answered as that text
 pub text_planned : (c : Command) (text bytes : List ℕ) (r : Result Reply AllocError) → text ≡ bytes → IsUtf8 bytes

@@ -78,17 +78,16 @@ module _ (words : List (List ℕ)) (source out err : Device) where
       → IsAnswer c bytes report → LeftAs words source report.status → TookWhole out report.out → TookWhole err report.err
       → report.status ≡ Done → CompletedBy
   answered_done c a bytes report had (refused f n h) l o e d = absurd (refused_done d)
-  answered_done c a bytes report had (done m w h k) l o e d = (
+  answered_done c a bytes report had (done text w h) l o e d = (
     c,
     a,
     record {
       bytes = bytes;
-      meaning = m;
+      text = text;
       warnings = w;
       read = had;
       end = l.end c a done_too_long;
-      means = h;
-      warns = k;
+      writes = h;
       written = o.took;
       warned = e.took;
       silent = λ none. e.nothing (rw none refl);

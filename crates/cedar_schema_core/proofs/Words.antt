@@ -7,7 +7,7 @@ use Rattle.std.specs.List.{IsFirstAndRest}
 use Rattle.cedar_names.specs.declared.extension_table.ExtensionTable.{ExtensionTable}
 use Rattle.cedar_schema_core.specs.declared.command.Command.{Command}
 use Rattle.cedar_schema_core.specs.declared.command.Command.TheVariants.{Recover}
-use Rattle.cedar_schema_core.specs.Commands.{IsTableInOrder, Asks, recover, recover_with, check}
+use Rattle.cedar_schema_core.specs.Commands.{IsTableInOrder, Asks, recover, recover_with, check, to_json, from_json}
 
 -- the texts of the words are that of the first and those of the others
 pub split_words : (words names : List (String Global)) (word : String Global) (first : List ℕ) → IsFirstAndRest words word names
@@ -28,6 +28,8 @@ none_asked words names is none c (recover_with others table e o) =
     let same : others ≡ names = cc in
     none table (subst (λ ns. IsTableInOrder ns table) same o)
 none_asked words names is none c (check table e s) = cc
+none_asked words names is none c (to_json table e s) = cc
+none_asked words names is none c (from_json table e s) = cc
 
 -- the names behind `recover-with` make a table, or there is no command
 pub named_command : (words names : List (List ℕ)) (found : Option Command) → words ≡ codes "recover-with" ∷ names

@@ -1,8 +1,10 @@
 pub mod Statuses
 pub mod Meanings
 pub mod Recovery
+pub mod Json
 pub mod Steps
 pub mod Commands
+pub mod Answers
 pub mod Plan
 pub mod Run
 pub mod Replies

@@ -3,7 +3,6 @@ use Rattle.std.specs.Prelude.{◌≢◌, ◌<◌, ◌≤◌, ℕ, List, [], ◌+
 use Rattle.std.specs.List.{flat_map}
 use Rattle.std.specs.Str.{encode_utf8_all}
 use Rattle.cedar_io.specs.Input.{max_input}
-use Rattle.cedar_names.specs.Meaning.{SchemaMeaning}
 use Rattle.schema_convert_errors.specs.WarningTexts.{warning_text}
 use Rattle.schema_convert_errors.specs.declared.warnings.SchemaWarning.{SchemaWarning}
 use Rattle.cedar_schema_core.specs.declared.command.Command.{Command}
@@ -12,9 +11,8 @@ use Rattle.cedar_schema_core.specs.declared.status.Status.TheVariants.{Done, Ref
 use Rattle.cedar_schema_core_faults.specs.declared.recover_error.RecoverError.{RecoverError}
 use Rattle.cedar_schema_core_faults.specs.declared.recover_error.RecoverError.TheVariants.{Memory}
 use Rattle.cedar_schema_core_faults.specs.Told.{fault_text}
-use Rattle.cedar_schema_core.specs.Meanings.{TextMeaning, Warns}
-use Rattle.cedar_schema_core.specs.Recovery.{IsRefusal}
-use Rattle.cedar_schema_core.specs.Commands.{Asks, table_of, output_of}
+use Rattle.cedar_schema_core.specs.Commands.{Asks}
+use Rattle.cedar_schema_core.specs.Answers.{IsWrittenBy, IsRefusedBy}
 
 -- a status, and what goes to the output and to the error output, as bytes
 pub record Report : Type 0 where
@@ -43,16 +41,16 @@ refused_report text e = record { status = Refused; out = []; err = encode_utf8_a
 abbrev pub warning_line : SchemaWarning → List ℕ
 warning_line w = codes "warning: " ++ (warning_text w ++ codes "\n")
 
--- what a command writes of the meaning goes to the output, and a line for each warning to the error output
-abbrev pub done_report : Command → SchemaMeaning → List SchemaWarning → Report
-done_report c m warnings =
-    record { status = Done; out = output_of c m; err = encode_utf8_all (flat_map warning_line warnings) }
+-- what a command writes goes to the output, and a line for each warning to the error output
+abbrev pub done_report : List ℕ → List SchemaWarning → Report
+done_report out warnings =
+    record { status = Done; out = out; err = encode_utf8_all (flat_map warning_line warnings) }
 
 -- what a command answers to a text: one case for each cause
 pub data IsAnswer (c : Command) (text : List ℕ) : Report → Type 0 where
-  refused : (e : RecoverError) → e ≢ Memory → IsRefusal text (table_of c) e → IsAnswer c text (refused_report text e)
-  done : (m : SchemaMeaning) (warnings : List SchemaWarning) → TextMeaning text (table_of c) m
-      → Warns text (table_of c) warnings → IsAnswer c text (done_report c m warnings)
+  refused : (e : RecoverError) → e ≢ Memory → IsRefusedBy c text e → IsAnswer c text (refused_report text e)
+  done : (out : List ℕ) (warnings : List SchemaWarning) → IsWrittenBy c text out warnings
+      → IsAnswer c text (done_report out warnings)
 
 -- the report of a command on an input: one case for each cause
 pub data IsInputPlan (c : Command) (bytes : List ℕ) : Report → Type 0 where

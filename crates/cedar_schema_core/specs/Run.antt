@@ -10,9 +10,10 @@ use Rattle.cedar_names.specs.Meaning.{SchemaMeaning}
 use Rattle.schema_convert_errors.specs.declared.warnings.SchemaWarning.{SchemaWarning}
 use Rattle.cedar_names.specs.declared.extension_table.ExtensionTable.{ExtensionTable}
 use Rattle.cedar_schema_core.specs.declared.command.Command.{Command}
-use Rattle.cedar_schema_core.specs.declared.command.Command.TheVariants.{Recover, Check}
-use Rattle.cedar_schema_core.specs.Meanings.{TextMeaning, Warns}
-use Rattle.cedar_schema_core.specs.Commands.{Asks, table_of, output_of}
+use Rattle.cedar_schema_core.specs.declared.command.Command.TheVariants.{Recover, Check, ToJson, FromJson}
+use Rattle.cedar_schema_core.specs.Meanings.{TextMeaning}
+use Rattle.cedar_schema_core.specs.Commands.{Asks}
+use Rattle.cedar_schema_core.specs.Answers.{IsWrittenBy}
 use Rattle.cedar_schema_core.specs.Plan.{Report, IsPlan, read_fault_report, warning_line}
 
 -- a source or a sink before and after: what it tells, its count of faults, and that it stands as before
@@ -61,17 +62,16 @@ pub data IsRun (words : List (List ℕ)) (source out err : Device) : Status → 
       → IsDelivered out err report status → IsRun words source out err status
   wanted_memory : out.Same → err.Same → IsRun words source out err Memory
 
--- the whole input was read, it is valid, and what the command writes of its meaning was written and nothing else, with
--- a line for each warning to the error output
+-- the whole input was read, and what the command writes of it was written and nothing else, with a line for each warning
+-- to the error output
 pub record Completed (c : Command) (source out err : Device) : Type 0 where
   pub bytes : List ℕ
-  pub meaning : SchemaMeaning
+  pub text : List ℕ
   pub warnings : List SchemaWarning
   pub read : HadLeft source.before bytes
   pub end : IsEnd source.after
-  pub means : TextMeaning bytes (table_of c) meaning
-  pub warns : Warns bytes (table_of c) warnings
-  pub written : Appends out.before (output_of c meaning) out.after
+  pub writes : IsWrittenBy c bytes text warnings
+  pub written : Appends out.before text out.after
   pub warned : Appends err.before (encode_utf8_all (flat_map warning_line warnings)) err.after
   pub silent : warnings ≡ [] → err.Same
 
@@ -85,10 +85,12 @@ pub record Recovers (table : ExtensionTable) (source out : Device) : Type 0 wher
   pub written : Appends out.before text out.after
   pub keeps : TextMeaning text table meaning
 
--- what a recovery wrote means what the input means; a check writes no schema
+-- what a recovery wrote means what the input means; the other commands read or write another form, or write no schema
 abbrev pub KeepsMeaning : Command → Device → Device → Type 0
 KeepsMeaning (Recover table) source out = Recovers table source out
 KeepsMeaning (Check table) source out = Unit {0}
+KeepsMeaning (ToJson table) source out = Unit {0}
+KeepsMeaning (FromJson table) source out = Unit {0}
 
 -- no count of faults rose
 pub record NoneCounted (source out err : Device) : Type 0 where

@@ -10,6 +10,7 @@ use Rattle.schema_build_text.specs.Captured.{IsFirstCaptured}
 use Rattle.cedar_schema_core_faults.specs.declared.recover_error.RecoverError.{RecoverError}
 use Rattle.cedar_schema_core_faults.specs.declared.recover_error.RecoverError.TheVariants.{Parse, Schema, Captured, Memory}
 use Rattle.schema_build.specs.Texts.{IsParseRefusal}
+use Rattle.cedar_schema_core.specs.Json.{IsReadError}
 
 -- the text is translated to nothing
 abbrev pub IsUnparsed : List ℕ → RecoverError → Type 0
@@ -17,6 +18,13 @@ IsUnparsed text (Parse e) = IsParseRefusal text e
 IsUnparsed text (Schema e) = ⊥
 IsUnparsed text (Captured c) = ⊥
 IsUnparsed text Memory = Unit {0}
+
+-- the JSON text is read as nothing
+abbrev pub IsUnread : List ℕ → RecoverError → Type 0
+IsUnread text (Parse e) = ⊥
+IsUnread text (Schema e) = IsReadError text e
+IsUnread text (Captured c) = ⊥
+IsUnread text Memory = Unit {0}
 
 -- no schema is built of the fragment
 abbrev pub IsUnbuilt : {G : named.Ghosts RawName} → Fragment RawName G → ExtensionTable → RecoverError → Type 0

@@ -2,7 +2,7 @@ ghost use Rattle.std.specs.Prelude.{◌≡◌, IfOk, IfErr, MatchOption, map, �
 ghost use Rattle.std.specs.List.Sorted.{IsStrictlySortedBy};
 ghost use Rattle.std.specs.String.{string_bytes};
 ghost use Rattle.cedar_data.specs.Text.{text_cmp};
-ghost use Rattle.cedar_schema_core.specs.Commands.{Asks, IsTableInOrder, table_of};
+ghost use Rattle.cedar_schema_core.specs.Commands.{Asks, IsTableInOrder};
 
 use cedar_names::{ExtensionTable, TableError};
 use std::alloc::{AllocError, Global};
@@ -14,6 +14,10 @@ pub enum Command {
     Recover(ExtensionTable),
     /// Writes how many entity types and actions the input's meaning holds.
     Check(ExtensionTable),
+    /// Writes the JSON of the input's fragment.
+    ToJson(ExtensionTable),
+    /// Writes the canonical text of the meaning of an input that is JSON.
+    FromJson(ExtensionTable),
 }
 
 impl Command {
@@ -37,18 +41,20 @@ impl Command {
                 }
                 Ok(None)
             }
+            "to-json" => {
+                if names.is_empty() {
+                    return Ok(Some(Command::ToJson(ExtensionTable::all_available(alloc)?)));
+                }
+                Ok(None)
+            }
+            "from-json" => {
+                if names.is_empty() {
+                    return Ok(Some(Command::FromJson(ExtensionTable::all_available(alloc)?)));
+                }
+                Ok(None)
+            }
             "recover-with" => recover_with(alloc, names),
             _ => Ok(None),
-        }
-    }
-
-    /// The table under which the input is read.
-    pub fn table(&self) -> &ExtensionTable
-        ensures { result.now ≡ table_of self.now }
-    {
-        match self {
-            Command::Recover(table) => table,
-            Command::Check(table) => table,
         }
     }
 }

@@ -11,6 +11,7 @@ ghost use Rattle.schema_convert_types.specs.Declarations.{as_written};
 ghost use Rattle.schema_convert_errors.specs.declared.error_list.CedarSchemaParseErrors.{CedarSchemaParseErrors};
 ghost use Rattle.schema_convert_errors.specs.declared.warnings.SchemaWarning.{SchemaWarning};
 ghost use Rattle.schema_convert.specs.Translated.{IsTranslationOfText};
+ghost use Rattle.cedar_schema_core.specs.Json.{JsonMeaning, IsValidJson, IsRefusalOfJson};
 ghost use Rattle.cedar_schema_core.specs.Meanings.{TextMeaning, IsValid};
 ghost use Rattle.schema_build.specs.Texts.{IsParseRefusal};
 ghost use Rattle.schema_build_closed.specs.Closed.{IsClosed};
@@ -75,14 +76,31 @@ pub fn one_refusal()
     one_build_fault();
 }
 
+/// A JSON text has at most one meaning under a table, what is told of its refusals is one, and a text that is refused
+/// means nothing.
+pub fn one_json_reading()
+    ensures meaning { (text : List ℕ) (table : ExtensionTable) (m n : SchemaMeaning) → JsonMeaning text table m
+        → JsonMeaning text table n → m ≡ n }
+    ensures refusal { (text : List ℕ) (table : ExtensionTable) (e other : RecoverError) → e ≢ RecoverError.Memory
+        → other ≢ RecoverError.Memory → IsRefusalOfJson text table e → IsRefusalOfJson text table other
+        → fault_text text e ≡ fault_text text other }
+    ensures invalid { (text : List ℕ) (table : ExtensionTable) (e : RecoverError) → IsRefusalOfJson text table e
+        → e ≢ RecoverError.Memory → IsValidJson text table → ⊥ }
+{
+    one_fragment_meaning();
+    one_build_fault();
+}
+
 /// For the same words and the same input there is one report at most.
 pub fn one_plan()
     ensures { (words : List (List ℕ)) (bytes : List ℕ) (report other : Report) → IsPlan words bytes report → IsPlan words bytes other → report ≡ other }
 {
     one_text_meaning();
     one_translation();
+    refused_or_translated();
     refused_or_valid();
     one_refusal();
+    one_json_reading();
 }
 
 /// The text of a closed meaning, in either layout, means it.

@@ -2,7 +2,9 @@
 #![tactic(auto)]
 
 pub mod command;
+pub mod json_texts;
 pub mod laws;
+mod output;
 pub mod recover;
 pub mod reply;
 pub mod run;
@@ -12,10 +14,11 @@ pub mod std_streams;
 pub use cedar_io::{MAX_INPUT, ReadEnd, read_input, write_text};
 pub use cedar_schema_core_faults::{RecoverError, fault_text};
 pub use command::Command;
+pub use json_texts::{JsonForm, recover_json, to_json_text};
 pub use laws::{
-    canonical_texts_mean_the_same, canonical_texts_tell_meanings_apart, one_plan, one_refusal,
-    one_text_meaning, one_translation, recovered_texts_recover_themselves, refused_or_valid,
-    texts_of_closed_meanings_mean_them,
+    canonical_texts_mean_the_same, canonical_texts_tell_meanings_apart, one_json_reading, one_plan,
+    one_refusal, one_text_meaning, one_translation, recovered_texts_recover_themselves,
+    refused_or_valid, texts_of_closed_meanings_mean_them,
 };
 pub use recover::{Recovered, recover_schema};
 pub use run::run_tool;

@@ -35,8 +35,8 @@ pub struct Recovered {
     pub actions: usize,
 }
 
-// The fragment that the text is translated to, with its warnings.
-fn translate(
+/// The fragment that the text is translated to, with its warnings.
+pub(crate) fn translate(
     alloc: Global,
     text: &str,
     table: &ExtensionTable,
@@ -51,8 +51,8 @@ fn translate(
     }
 }
 
-// The schema of the fragment.
-fn build(
+/// The schema of the fragment.
+pub(crate) fn build(
     alloc: Global,
     fragment: Fragment<RawName>,
     table: &ExtensionTable,
@@ -68,8 +68,8 @@ fn build(
     }
 }
 
-// The canonical text of the schema, which stands for a meaning.
-fn print(alloc: Global, schema: &ValidatorSchema) -> Result<Text, RecoverError>
+/// The canonical text of the schema, which stands for a meaning.
+pub(crate) fn print(alloc: Global, schema: &ValidatorSchema) -> Result<Text, RecoverError>
     ensures text { IfOk result (λ text. (m : SchemaMeaning) → StandsFor schema.now m → encode_utf8_all text ≡ canonical_text m) }
     ensures uncaptured { OnOk result ((m : SchemaMeaning) → StandsFor schema.now m → IsUncaptured m) }
     ensures refused { IfErr result (λ e. (m : SchemaMeaning) → StandsFor schema.now m → IsUnprinted m e) }

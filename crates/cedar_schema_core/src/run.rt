@@ -4,20 +4,19 @@ ghost use Rattle.std.specs.Str.{encode_utf8_all, IsAscii};
 ghost use Rattle.cedar_io.specs.Outside.{Rose};
 ghost use Rattle.cedar_io.specs.Input.{TookAtMost, max_input};
 ghost use Rattle.cedar_names.specs.CanonicalText.{canonical_text};
-ghost use Rattle.cedar_schema_core.specs.Commands.{Asks, table_of};
-ghost use Rattle.cedar_schema_core.specs.Recovery.{IsRecovered};
-ghost use Rattle.cedar_schema_core.specs.Plan.{Report, IsPlan, IsInputPlan, IsAnswer, refused_report, read_fault_report};
+ghost use Rattle.cedar_schema_core.specs.Commands.{Asks};
+ghost use Rattle.cedar_schema_core.specs.Plan.{Report, IsPlan, IsInputPlan, IsAnswer, done_report, refused_report, read_fault_report};
 ghost use Rattle.cedar_schema_core.specs.Run.{device, IsReported, IsDelivered, IsRun, Completed, KeepsMeaning, NoneCounted};
 ghost use Rattle.cedar_schema_core.specs.Replies.{report_of};
 
 use crate::command::Command;
 use crate::laws::{canonical_texts_mean_the_same, one_plan};
-use crate::recover::{Recovered, recover_schema};
+use crate::output::{Output, output_of};
 use crate::reply::{Reply, warning_lines};
 use crate::status::Status;
-use cedar_data::{Text, around};
+use cedar_data::Text;
 use cedar_io::{ReadEnd, Sink, Source, read_input, write_text};
-use cedar_schema_core_faults::{RecoverError, fault_text, number_text};
+use cedar_schema_core_faults::{RecoverError, fault_text};
 use std::alloc::{AllocError, Global};
 
 const USAGE: &str = "usage: cedar_schema_tool COMMAND [NAME..]\n";
@@ -28,35 +27,7 @@ const TOO_LONG: &str = "error: the input is longer than 16777216 bytes\n";
 
 const NOT_TEXT: &str = "error: the input is not UTF-8\n";
 
-// How many entity types and actions there are.
-fn count_line(alloc: Global, entity_types: usize, actions: usize) -> Result<Text, AllocError>
-    ensures { IfOk result (λ text. encode_utf8_all text ≡ decimal entity_types ++ (codes " entity types, " ++ (decimal actions ++ codes " actions\n"))) }
-{
-    let types = number_text(alloc, entity_types)?;
-    let actions = number_text(alloc, actions)?;
-    let counted = around(alloc, " entity types, ", &actions, " actions\n")?;
-    let mut text = types;
-    text.push_text(&counted)?;
-    Ok(text)
-}
-
-// The reply for a text that the command takes.
-fn done_reply(alloc: Global, command: &Command, recovered: Recovered) -> Result<Reply, AllocError>
-    ensures { (text : List ℕ) → IsRecovered text (table_of command.now) recovered → IfOk result (λ reply. IsAnswer command.now text (report_of reply)) }
-{
-    let err = warning_lines(alloc, &recovered.warnings)?;
-    let out = match command {
-        Command::Recover(_) => recovered.text,
-        Command::Check(_) => count_line(alloc, recovered.entity_types, recovered.actions)?,
-    };
-    Ok(Reply {
-        status: Status::Done,
-        out,
-        err,
-    })
-}
-
-// The reply where nothing is recovered.
+// The reply where nothing is written of a text.
 fn refused_reply(alloc: Global, text: &str, fault: &RecoverError) -> Result<Reply, AllocError>
     ensures { IfOk result (λ reply. (fault.now ≢ RecoverError.Memory) × (report_of reply ≡ refused_report text.now fault.now)) }
 {
@@ -70,12 +41,24 @@ fn refused_reply(alloc: Global, text: &str, fault: &RecoverError) -> Result<Repl
     }
 }
 
+// The reply of what a command writes, with its warnings.
+fn done_reply(alloc: Global, output: Output) -> Result<Reply, AllocError>
+    ensures { IfOk result (λ reply. report_of reply ≡ done_report (encode_utf8_all output.text) output.warnings.items) }
+{
+    let err = warning_lines(alloc, &output.warnings)?;
+    Ok(Reply {
+        status: Status::Done,
+        out: output.text,
+        err,
+    })
+}
+
 // The reply for a text.
 fn text_reply(alloc: Global, command: &Command, text: &str) -> Result<Reply, AllocError>
     ensures { IfOk result (λ reply. IsAnswer command.now text.now (report_of reply)) }
 {
-    match recover_schema(alloc, text, command.table()) {
-        Ok(recovered) => done_reply(alloc, command, recovered),
+    match output_of(alloc, command, text) {
+        Ok(output) => done_reply(alloc, output),
         Err(fault) => refused_reply(alloc, text, &fault),
     }
 }

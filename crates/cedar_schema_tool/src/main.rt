@@ -16,6 +16,8 @@ Reads a Cedar schema from standard input.
   recover               writes its canonical text
   recover-with NAME..   the same, where just these extension types are known
   check                 writes how many entity types and actions it has
+  to-json               writes it as JSON
+  from-json             reads it as JSON, and writes its canonical text
   --help, --version     this text, and the version
 
 The extension types are decimal, ipaddr, datetime and duration. The input has at most 16777216 bytes.

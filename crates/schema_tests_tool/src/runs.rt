@@ -1,5 +1,6 @@
 // Runs over devices in memory.
 
+use crate::json_table::json_lines;
 use crate::table::{recovered_lines, run_lines};
 use crate::told_table::told_lines;
 use crate::valid_table::valid_lines;
@@ -117,6 +118,13 @@ fn run_agrees(alloc: Global, line: &str) -> bool {
 #[test]
 fn commands_are_answered(rt: HostRuntime) {
     for line in run_lines().lines() {
+        assert!(rt; run_agrees(rt.alloc(), line), "{line}");
+    }
+}
+
+#[test]
+fn json_is_written_and_read(rt: HostRuntime) {
+    for line in json_lines().lines() {
         assert!(rt; run_agrees(rt.alloc(), line), "{line}");
     }
 }

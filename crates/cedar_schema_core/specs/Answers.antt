@@ -1,0 +1,45 @@
+-- What a command writes of a text, and what it refuses. A text is its bytes.
+use Rattle.std.specs.Prelude.{◌≡◌, ℕ, List, [], ◌++◌, codes}
+use Rattle.serde_json.specs.Written.{compact_text}
+use Rattle.cedar_identifiers.specs.declared.raw_name.RawName.{RawName}
+use Rattle.cedar_names.specs.CanonicalText.{canonical_text}
+use Rattle.cedar_names.specs.Meaning.{SchemaMeaning}
+use Rattle.schema_json.specs.declared.fragment.Fragment.{Fragment}
+use Rattle.schema_convert_types.specs.Declarations.{as_written}
+use Rattle.schema_convert_errors.specs.declared.warnings.SchemaWarning.{SchemaWarning}
+use Rattle.schema_build.specs.Texts.{IsFragmentOf}
+use Rattle.cedar_schema_core.specs.declared.command.Command.{Command}
+use Rattle.cedar_schema_core.specs.declared.command.Command.TheVariants.{Recover, Check, ToJson, FromJson}
+use Rattle.cedar_schema_core_faults.specs.declared.recover_error.RecoverError.{RecoverError}
+use Rattle.cedar_schema_core.specs.Commands.{count_line}
+use Rattle.cedar_schema_core.specs.Json.{value_of, JsonMeaning, IsRefusalOfJson}
+use Rattle.cedar_schema_core.specs.Meanings.{TextMeaning, Warns}
+use Rattle.cedar_schema_core.specs.Recovery.{IsRefusal}
+use Rattle.cedar_schema_core.specs.Steps.{IsUnparsed}
+
+-- The text is valid and this is written of it, with these warnings: of its meaning the canonical text or the counts, or
+-- the JSON of its fragment. Nothing is warned of where JSON is written or read.
+abbrev pub Writes : Command → List ℕ → List ℕ → List SchemaWarning → Type 0
+Writes (Recover table) text out warnings = (m : SchemaMeaning) × TextMeaning text table m × Warns text table warnings
+    × (out ≡ canonical_text m)
+Writes (Check table) text out warnings = (m : SchemaMeaning) × TextMeaning text table m × Warns text table warnings
+    × (out ≡ count_line m)
+Writes (ToJson table) text out warnings = (f : Fragment RawName as_written) × IsFragmentOf text table f
+    × (warnings ≡ []) × (out ≡ compact_text (value_of f) ++ codes "\n")
+Writes (FromJson table) text out warnings = (m : SchemaMeaning) × JsonMeaning text table m × (warnings ≡ [])
+    × (out ≡ canonical_text m)
+
+-- why a command writes nothing of a text
+abbrev pub Refuses : Command → List ℕ → RecoverError → Type 0
+Refuses (Recover table) text e = IsRefusal text table e
+Refuses (Check table) text e = IsRefusal text table e
+Refuses (ToJson table) text e = IsUnparsed text e
+Refuses (FromJson table) text e = IsRefusalOfJson text table e
+
+-- the command writes this of the text, with these warnings
+pub record IsWrittenBy (c : Command) (text out : List ℕ) (warnings : List SchemaWarning) : Type 0 where
+  pub writes : Writes c text out warnings
+
+-- the command refuses the text for this reason
+pub record IsRefusedBy (c : Command) (text : List ℕ) (e : RecoverError) : Type 0 where
+  pub refuses : Refuses c text e

@@ -1,0 +1,85 @@
+-- What a JSON text means, what is recovered from it, and why nothing is; and what is written as JSON of a schema text.
+-- A text is its bytes.
+use Rattle.std.specs.Prelude.{◌≡◌, ◌≢◌, ◌⊎◌, ℕ, List, [], length}
+use Rattle.std.specs.Str.{encode_utf8_all}
+use Rattle.serde_json.specs.Data.{Data}
+use Rattle.serde_json.specs.Written.{compact_text}
+use Rattle.cedar_data.specs.declared.text.Text.{Text}
+use Rattle.cedar_identifiers.specs.declared.raw_name.RawName.{RawName}
+use Rattle.cedar_names.specs.CanonicalText.{canonical_text}
+use Rattle.cedar_names.specs.Meaning.{SchemaMeaning}
+use Rattle.cedar_names.specs.declared.extension_table.ExtensionTable.{ExtensionTable}
+use Rattle.schema_json.specs.declared.fragment.Fragment.{Fragment}
+use Rattle.schema_json_errors.specs.declared.json_fault.JsonFault.TheVariants as cause
+use Rattle.schema_json_values.specs.FragmentValues.{json_value}
+use Rattle.schema_json_io.specs.Causes.{IsTextError}
+use Rattle.schema_json_io.specs.Texts.{TextShape}
+use Rattle.schema_convert_types.specs.Declarations.{as_written}
+use Rattle.schema_build.specs.Meaning.{FragmentMeaning}
+use Rattle.schema_build.specs.Texts.{IsFragmentOf}
+use Rattle.schema_build_checks.specs.Rows.{Never}
+use Rattle.schema_build_errors.specs.declared.captured.ReferenceCaptured.{ReferenceCaptured}
+use Rattle.schema_build_errors.specs.declared.schema_error.SchemaError.{SchemaError}
+use Rattle.schema_build_errors.specs.declared.schema_error.SchemaError.TheVariants.{JsonDeserialization}
+use Rattle.schema_build_parts.specs.BuildFaults.{BuildFault}
+use Rattle.schema_build_text.specs.Captured.{IsUncaptured, IsFirstCaptured}
+use Rattle.cedar_schema_core.specs.declared.recover.Recovered.{Recovered}
+use Rattle.cedar_schema_core_faults.specs.declared.recover_error.RecoverError.{RecoverError}
+use Rattle.cedar_schema_core_faults.specs.declared.recover_error.RecoverError.TheVariants.{Parse, Schema, Captured, Memory}
+
+-- ---- written
+
+-- the JSON value of a fragment as it is written
+abbrev pub value_of : Fragment RawName as_written → Data
+value_of f = json_value as_written.components f
+
+-- the schema text is translated, and this is the compact JSON of its fragment
+abbrev pub IsJsonOfText : List ℕ → ExtensionTable → Text → Type 0
+IsJsonOfText text table json =
+    (f : Fragment RawName as_written) × IsFragmentOf text table f × (encode_utf8_all json ≡ compact_text (value_of f))
+
+-- ---- read
+
+-- the JSON text says a fragment without a fault that has this meaning, in which no type is captured
+pub record JsonMeaning (text : List ℕ) (table : ExtensionTable) (m : SchemaMeaning) : Type 0 where
+  pub fragment : Fragment RawName as_written
+  pub says : TextShape text fragment
+  pub faultless : Never (BuildFault fragment table)
+  pub means : FragmentMeaning fragment table m
+  pub uncaptured : IsUncaptured m
+
+-- the JSON text means something under the table
+abbrev pub IsValidJson : List ℕ → ExtensionTable → Type 0
+IsValidJson text table = (m : SchemaMeaning) × JsonMeaning text table m
+
+-- the canonical text of the JSON text's meaning, and how much the meaning holds; there are no warnings
+pub record IsRecoveredJson (text : List ℕ) (table : ExtensionTable) (recovered : Recovered) : Type 0 where
+  pub meaning : SchemaMeaning
+  pub means : JsonMeaning text table meaning
+  pub canonical : encode_utf8_all recovered.text ≡ canonical_text meaning
+  pub no_warnings : recovered.warnings.items ≡ []
+  pub entity_types : recovered.entity_types ≡ length meaning.entities
+  pub actions : recovered.actions ≡ length meaning.actions
+
+-- the JSON text's fragment means something in which this is the first captured item
+pub record IsCapturedJson (text : List ℕ) (table : ExtensionTable) (captured : ReferenceCaptured) : Type 0 where
+  pub fragment : Fragment RawName as_written
+  pub says : TextShape text fragment
+  pub faultless : Never (BuildFault fragment table)
+  pub meaning : SchemaMeaning
+  pub means : FragmentMeaning fragment table meaning
+  pub first : IsFirstCaptured meaning captured
+
+-- the JSON text says no fragment, for this cause
+abbrev pub IsReadError : List ℕ → SchemaError → Type 0
+IsReadError text (JsonDeserialization e) = (e.fault ≢ cause.Memory) × IsTextError text e
+IsReadError text _ = ⊥
+
+-- why nothing is recovered from a JSON text, the first that holds: it says no fragment, a fault of the schema, a
+-- captured type. Memory may be out at any time
+abbrev pub IsRefusalOfJson : List ℕ → ExtensionTable → RecoverError → Type 0
+IsRefusalOfJson text table (Parse e) = ⊥
+IsRefusalOfJson text table (Schema e) =
+    IsReadError text e ⊎ ((f : Fragment RawName as_written) × TextShape text f × BuildFault f table e)
+IsRefusalOfJson text table (Captured c) = IsCapturedJson text table c
+IsRefusalOfJson text table Memory = Unit {0}

@@ -1,0 +1,104 @@
+//! Schemas in JSON: written of a schema text, and recovered from.
+ghost use Rattle.std.specs.Prelude.{◌≡◌, ◌≢◌, ◌↔◌, true, IfOk, IfErr};
+ghost use Rattle.std.specs.Str.{encode_utf8_all};
+ghost use Rattle.serde_json.specs.Written.{compact_text};
+ghost use Rattle.schema_json_io.specs.Texts.{TextShape};
+ghost use Rattle.cedar_schema_core.specs.Json.{value_of, IsJsonOfText, IsValidJson, IsRecoveredJson, IsRefusalOfJson};
+ghost use Rattle.cedar_schema_core.specs.Steps.{IsUnparsed, IsUnread};
+
+use crate::laws::one_json_reading;
+use crate::recover::{Recovered, build, print, translate};
+use cedar_data::Text;
+use cedar_identifiers::RawName;
+use cedar_names::ExtensionTable;
+use cedar_schema_core_faults::RecoverError;
+use schema_build::SchemaError;
+use schema_json::Fragment;
+use schema_json_io::{JsonFault, WriteJson, from_json_str};
+use schema_json_laws::values_have_no_float;
+use std::alloc::{AllocError, Global};
+
+/// The forms of JSON that a schema may stand in.
+#[derive(Clone, Copy, Debug, Drop, PartialEq, Eq)]
+pub enum JsonForm {
+    /// The form of today, in which each part has its place and nothing else stands.
+    Current,
+}
+
+// The compact JSON of a fragment.
+fn json_of(alloc: Global, fragment: &Fragment<RawName>) -> Result<Text, AllocError>
+    ensures { IfOk result (λ json. encode_utf8_all json ≡ compact_text (value_of fragment.now)) }
+{
+    values_have_no_float::<RawName>();
+    let value = fragment.to_json_value(alloc)?;
+    let json = value.to_string(alloc)?;
+    Text::from_str(alloc, json.as_str())
+}
+
+/// The compact JSON of the fragment that a schema text is translated to.
+pub fn to_json_text(alloc: Global, text: &str, table: &ExtensionTable) -> Result<Text, RecoverError>
+    ensures written { IfOk result (IsJsonOfText text.now table.now) }
+    ensures refused { IfErr result (IsUnparsed text.now) }
+{
+    let (fragment, _warnings) = translate(alloc, text, table)?;
+    match json_of(alloc, &fragment) {
+        Ok(json) => Ok(json),
+        Err(_) => Err(RecoverError::Memory),
+    }
+}
+
+// Whether memory was wanted.
+fn is_memory(fault: &JsonFault) -> bool
+    ensures { result ≡ true ↔ fault.now ≡ JsonFault.Memory }
+{
+    matches!(fault, JsonFault::Memory)
+}
+
+// The fragment that a JSON text says in the form of today.
+fn read_current(alloc: Global, text: &str) -> Result<Fragment<RawName>, RecoverError>
+    ensures said { IfOk result (TextShape text.now) }
+    ensures refused { IfErr result (IsUnread text.now) }
+{
+    match from_json_str(alloc, text) {
+        Ok(fragment) => Ok(fragment),
+        Err(error) => {
+            if is_memory(&error.fault) {
+                return Err(RecoverError::Memory);
+            }
+            Err(RecoverError::Schema(SchemaError::JsonDeserialization(error)))
+        }
+    }
+}
+
+// The fragment that a JSON text says in its form.
+fn read(alloc: Global, text: &str, form: JsonForm) -> Result<Fragment<RawName>, RecoverError>
+    ensures said { IfOk result (TextShape text.now) }
+    ensures refused { IfErr result (IsUnread text.now) }
+{
+    match form {
+        JsonForm::Current => read_current(alloc, text),
+    }
+}
+
+/// The canonical text of what a JSON text means under a table of extension types, with its counts. It has no warnings.
+pub fn recover_json(
+    alloc: Global,
+    text: &str,
+    table: &ExtensionTable,
+    form: JsonForm,
+) -> Result<Recovered, RecoverError>
+    ensures recovered { IfOk result (IsRecoveredJson text.now table.now) }
+    ensures refused { IfErr result (IsRefusalOfJson text.now table.now) }
+    ensures invalid { IfErr result (λ fault. fault ≢ RecoverError.Memory → IsValidJson text.now table.now → ⊥) }
+{
+    one_json_reading();
+    let fragment = read(alloc, text, form)?;
+    let schema = build(alloc, fragment, table)?;
+    let text = print(alloc, &schema)?;
+    Ok(Recovered {
+        text,
+        warnings: Vec::new(alloc),
+        entity_types: schema.entity_types().len(),
+        actions: schema.actions().len(),
+    })
+}
