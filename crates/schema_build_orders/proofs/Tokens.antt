@@ -1,0 +1,53 @@
+-- The tokens of a text spell the lexemes at their places.
+use Rattle.std.proofs.Common.{◌≡◌, ℕ, ◌+◌, ◌-◌, List, [], ◌∷◌, ◌++◌, length, take, drop, refl, sym, ap, ◌∙◌, subst, append_assoc, arith, slice_range}
+use Rattle.std.proofs.lemmas.List.{take-append-drop, length-take-le, length-append, drop_at}
+use Rattle.schema_syntax_tokens.specs.Forms.{IsForm}
+use Rattle.schema_syntax_tokens.specs.Laid.{Spells}
+use Rattle.schema_syntax_tokens.specs.Scans.{Skips, ScansFrom, Scans}
+use Rattle.schema_syntax_tokens.specs.Scans.Skips.{none, more}
+use Rattle.schema_syntax_tokens.specs.declared.token.Token.{Token}
+use Rattle.schema_readback.specs.Lexemes.{lexemes_at}
+
+-- blanks are a front of what they stand in
+blanks_in : {rest here : List ℕ} → Skips rest here → (front : List ℕ) × (rest ≡ front ++ here)
+blanks_in none = ([], refl)
+blanks_in (more {rest} {after} {end} p s) =
+    let f = blanks_in s in
+    (p.0 ++ f.0, p.1 ∙ (ap (λ t. p.0 ++ t) f.1 ∙ sym (append_assoc p.0 f.0 end)))
+
+-- the bytes of a place behind a front of the text
+bytes_at : (text front here : List ℕ) (start end n : ℕ) → text ≡ front ++ here → start ≡ length front
+    → end ≡ start + n → slice_range text start end ≡ take n here
+bytes_at text front here start end n e s f =
+    let width : end - start ≡ n = omega arith in
+    let behind : drop start text ≡ here = (λ i. drop (s i) (e i)) ∙ drop_at front here (length front) refl in
+    (λ i. take (width i) (behind i))
+
+spelled_from : (text front rest : List ℕ) (from : ℕ) (tokens : List Token) (at : ℕ) → text ≡ front ++ rest
+    → from ≡ length front → ScansFrom from rest tokens at → Spells text tokens (lexemes_at text tokens)
+spelled_from text front rest from [] at e f scans = tt
+spelled_from text front rest from (t ∷ ts) at e f (here, n, next, scans) =
+    let (blanks, b) = blanks_in next.skips in
+    let split : text ≡ (front ++ blanks) ++ here = e ∙ ap (λ x. front ++ x) b ∙ sym (append_assoc front blanks here) in
+    let whole : length rest ≡ length blanks + length here = ap length b ∙ length-append blanks here in
+    let start : t.loc.start ≡ length (front ++ blanks) =
+    omega (arith, next.start, whole, f, length-append front blanks) in
+    let there = bytes_at text (front ++ blanks) here t.loc.start t.loc.end n split start next.stop in
+    let behind : text ≡ ((front ++ blanks) ++ take n here) ++ drop n here =
+    split ∙ ap (λ x. (front ++ blanks) ++ x) (sym (take-append-drop n here))
+    ∙ sym (append_assoc (front ++ blanks) (take n here) (drop n here)) in
+    let stop : t.loc.end ≡ length ((front ++ blanks) ++ take n here) =
+    omega (
+      arith,
+      start,
+      next.stop,
+      length-append (front ++ blanks) (take n here),
+      length-take-le n here next.token.in_range,
+    ) in (
+      (refl, refl, subst (λ w. IsForm w t.kind) (sym there) next.token.form),
+      spelled_from text ((front ++ blanks) ++ take n here) (drop n here) t.loc.end ts at behind stop scans,
+    )
+
+pub scanned_spell : (text : List ℕ) (tokens : List Token) (at : ℕ) → Scans text tokens at
+    → Spells text tokens (lexemes_at text tokens)
+scanned_spell text tokens at scans = spelled_from text [] text 0 tokens at refl refl scans

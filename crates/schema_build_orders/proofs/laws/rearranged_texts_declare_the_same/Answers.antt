@@ -1,0 +1,10 @@
+use Rattle.schema_build_orders.proofs.Ordered.{in_order}
+use Rattle.schema_build_orders.proofs.Saying.{declare_the_same, sayable_too}
+use Rattle.schema_build_orders.proofs.laws.rearranged_texts_declare_the_same.Goals as goal
+
+pub returns : goal.returns
+returns c = record {
+  sayable = λ w v r s. sayable_too w v r s;
+  declare = λ f g w v h k r s. declare_the_same c.fragments_that_say_the_same.ensures f g w v h k r s;
+  ordered = λ f w says. in_order f w says;
+}
