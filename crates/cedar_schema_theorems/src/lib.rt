@@ -5,6 +5,7 @@
 #![tactic(auto)]
 
 pub mod fragments;
+pub mod orders;
 pub mod runs;
 pub mod texts;
 
@@ -12,6 +13,7 @@ pub use fragments::{
     a_fragment_has_one_meaning, a_tree_is_translated_where_it_can_be, faults_are_told_alike,
     printed_fragments_say_the_same, what_is_said_decides,
 };
+pub use orders::{blanks_change_no_meaning, divisions_change_no_meaning, order_changes_no_meaning};
 pub use runs::{
     a_run_has_one_plan, a_text_has_one_meaning, a_text_has_one_refusal,
     canonical_texts_stand_for_meanings, recovering_again_changes_nothing, refused_is_not_valid,
