@@ -3,8 +3,10 @@ use Rattle.std.proofs.Common.{◌≡◌, ◌∷◌, [], ◌++◌, List, refl, sy
 use Rattle.std.specs.List.{flat_map, FoldsTo}
 use Rattle.schema_json_walk.specs.Visits.{StopsAmong}
 use Rattle.schema_build_errors.specs.declared.schema_error.SchemaError.{SchemaError}
-use Rattle.schema_build_checks.specs.Rows.{OrMemory}
-use Rattle.schema_build_checks.specs.Refusing.{IsAboutFirst, GivenNothing, Refuses}
+use Rattle.schema_build_checks.specs.Refusing.{IsAboutFirst, GivenNothing}
+use Rattle.schema_build_checks.specs.FirstRefused.{IsFirst, Refuses}
+use Rattle.schema_build_checks.specs.declared.refused.Refused.{Refused}
+use Rattle.schema_build_checks.specs.declared.refused.Refused.TheVariants.{First}
 
 -- no error is about the first of none
 pub nothing_first : {U : Type 0} (about : U → SchemaError → Type 0) (us : List U) → us ≡ [] → (e : SchemaError)
@@ -18,17 +20,25 @@ module _ {S P U : Type 0} (gives : S → P → List U) where
       ap (λ l. l ++ flat_map (gives s) ps) nothing
       ∙ none_given s t ps (subst (λ j. FoldsTo (GivenNothing gives) j ps t) same more)
 
-module _ {S P U : Type 0} (gives : S → P → List U) (about : U → SchemaError → Type 0) where
-  first_of : (us vs : List U) (e : SchemaError) → IsAboutFirst about us e → IsAboutFirst about (us ++ vs) e
-  first_of [] vs e h = absurd h
-  first_of (u ∷ us) vs e h = h
+module _ {S P U : Type 0} (gives : S → P → List U) where
+  first_of : (us vs : List U) (u : U) → IsFirst us u → IsFirst (us ++ vs) u
+  first_of [] vs u h = absurd h
+  first_of (x ∷ us) vs u h = h
 
-  pub first_refused : (s : S) (ps : List P) (e : SchemaError)
-      → StopsAmong (GivenNothing gives) (Refuses gives about) s ps e
-      → OrMemory (IsAboutFirst about (flat_map (gives s) ps)) e
-  first_refused s [] e h = absurd h
-  first_refused s (p ∷ ps) e (inl (inl out)) = inl out
-  first_refused s (p ∷ ps) e (inl (inr here)) = inr (first_of (gives s p) (flat_map (gives s) ps) e here)
-  first_refused s (p ∷ ps) e (inr (j, (same, nothing), more)) =
-      subst (λ l. OrMemory (IsAboutFirst about (l ++ flat_map (gives s) ps)) e) (sym nothing)
-      (first_refused s ps e (subst (λ j. StopsAmong (GivenNothing gives) (Refuses gives about) j ps e) same more))
+  pub first_refused : (s : S) (ps : List P) (u : U)
+      → StopsAmong (GivenNothing gives) (Refuses gives) s ps (First u) → IsFirst (flat_map (gives s) ps) u
+  first_refused s [] u h = absurd h
+  first_refused s (p ∷ ps) u (inl here) = first_of (gives s p) (flat_map (gives s) ps) u here
+  first_refused s (p ∷ ps) u (inr (j, (same, nothing), more)) =
+      subst (λ l. IsFirst (l ++ flat_map (gives s) ps) u) (sym nothing)
+      (first_refused s ps u (subst (λ j. StopsAmong (GivenNothing gives) (Refuses gives) j ps (First u)) same more))
+
+  pub first_at : (s : S) (ps : List P) (r : Refused U) (u : U) → r ≡ First u
+      → StopsAmong (GivenNothing gives) (Refuses gives) s ps r → IsFirst (flat_map (gives s) ps) u
+  first_at s ps r u e h = first_refused s ps u (subst (StopsAmong (GivenNothing gives) (Refuses gives) s ps) e h)
+
+-- an error about what is the first of these is about the first of these
+pub about_first : {U : Type 0} (about : U → SchemaError → Type 0) (us : List U) (u : U) (e : SchemaError) → IsFirst us u
+    → about u e → IsAboutFirst about us e
+about_first about [] u e h a = absurd h
+about_first about (x ∷ us) u e h a = subst (λ y. about y e) h a

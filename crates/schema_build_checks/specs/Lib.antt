@@ -3,4 +3,5 @@ pub mod Least
 pub mod DeclaredAt
 pub mod DeclaredTwice
 pub mod Refusing
+pub mod FirstRefused
 pub mod WalkFaults

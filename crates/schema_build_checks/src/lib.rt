@@ -6,6 +6,7 @@ mod declared_at;
 pub mod hiding_actions;
 pub mod hiding_types;
 mod least;
+mod refused;
 mod visitors;
 pub mod walk_faults;
 

@@ -1,14 +1,18 @@
 ghost use Rattle.std.specs.Prelude.{OnOk, IfErr};
 ghost use Rattle.schema_build_checks.specs.Rows.{Never, OrMemory};
-ghost use Rattle.schema_build_checks.specs.WalkFaults.{HasUnknownExtension, HasUnsupported};
+ghost use Rattle.schema_build_checks.specs.WalkFaults.{HasUnknownExtension, HasUnsupported, NamesExtension};
 
+use crate::refused::Refused;
 use crate::visitors::{Extensions, Features};
-use cedar_identifiers::{RawName, UnreservedId};
+use cedar_identifiers::{Name, RawName, UnreservedId};
 use cedar_names::ExtensionTable;
-use schema_build_errors::{SchemaError, UnsupportedFeature};
+use schema_build_errors::{
+    SchemaError, UnknownExtensionTypeError, UnsupportedFeature, UnsupportedFeatureError,
+};
 use schema_json::Fragment;
 use schema_json_walk::laws::fragment_gives_what_its_parts_give;
 use schema_json_walk::walk_fragment;
+use schema_resolve_definitions::declared::alone;
 use std::alloc::Global;
 
 /// Refuses a fragment with an extension type that is not in the table, and names the first in the order of the walk.
@@ -21,7 +25,11 @@ pub fn check_extension_types(
     ensures err { IfErr result (OrMemory (HasUnknownExtension table.now fragment.now)) }
 {
     fragment_gives_what_its_parts_give::<RawName, UnreservedId>(fragment);
-    walk_fragment(&mut Extensions { alloc, table }, fragment)
+    match walk_fragment(&mut Extensions { alloc, table }, fragment) {
+        Ok(()) => Ok(()),
+        Err(Refused::First(id)) => Err(unknown(alloc, id)),
+        Err(Refused::Memory) => Err(SchemaError::Memory),
+    }
 }
 
 /// Refuses a fragment with an open record, with attributes of an action or with an external item that is not bare, and
@@ -31,5 +39,20 @@ pub fn check_features(alloc: Global, fragment: &Fragment<RawName>) -> Result<(),
     ensures err { IfErr result (OrMemory (HasUnsupported fragment.now)) }
 {
     fragment_gives_what_its_parts_give::<RawName, UnsupportedFeature>(fragment);
-    walk_fragment(&mut Features { alloc }, fragment)
+    match walk_fragment(&mut Features { alloc }, fragment) {
+        Ok(()) => Ok(()),
+        Err(Refused::First(feature)) => Err(SchemaError::UnsupportedFeature(UnsupportedFeatureError(
+            feature,
+        ))),
+        Err(Refused::Memory) => Err(SchemaError::Memory),
+    }
+}
+
+// The error that names this extension type.
+fn unknown(alloc: Global, id: UnreservedId) -> SchemaError
+    ensures { NamesExtension id result }
+{
+    let name = alone(alloc, id.id);
+    let actual = Name { name };
+    SchemaError::UnknownExtensionType(UnknownExtensionTypeError { actual })
 }

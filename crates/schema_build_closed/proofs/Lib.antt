@@ -2,7 +2,7 @@ mod Lists
 mod Words
 mod Declared
 mod Known
-mod Rising
+pub mod Rising
 mod Open
 mod Rows
 mod Walked
@@ -20,6 +20,6 @@ mod Closing
 mod Views
 mod SaidTypes
 mod SaidDecls
-mod SaidFragments
-mod Scanned
-mod Spelled
+pub mod SaidFragments
+pub mod Scanned
+pub mod Spelled

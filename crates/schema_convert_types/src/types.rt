@@ -67,6 +67,18 @@ fn record_of<'a>(
         let ty = type_at(alloc, &ty.node, ty.loc)?;
         entries.push(attribute_with(alloc, attribute, ty)?)?;
     }
+    closed_record(alloc, entries)
+}
+
+// The closed record of these attributes, of which the last of a name counts. It stands by itself for the same reason as an
+// attribute does.
+#[inline(never)]
+fn closed_record(
+    alloc: Global,
+    entries: Vec<(Text, TypeOfAttribute<RawName>)>,
+) -> Result<RecordType<RawName>, AllocError>
+    ensures { IfOk result (λ shape. shape ≡ record_of entries.items) }
+{
     let attributes = Map::from_entries(alloc, entries)?;
     Ok(RecordType {
         attributes,

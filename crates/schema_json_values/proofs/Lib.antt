@@ -1,2 +1,2 @@
-mod Layers
+pub mod Layers
 mod Presence

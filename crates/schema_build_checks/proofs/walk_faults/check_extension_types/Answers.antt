@@ -1,16 +1,21 @@
-use Rattle.std.proofs.Common.{◌∙◌, sym, subst}
-use Rattle.std.proofs.lemmas.Result.{IfErr-weaker, on_ok_weaker}
+use Rattle.std.proofs.Common.{◌∙◌, sym, subst, inr}
 use Rattle.schema_json_walk.specs.Walk.{fragment_parts}
 use Rattle.schema_build_checks.specs.Refusing.{IsAboutFirst}
-use Rattle.schema_build_checks.specs.Rows.{OrMemory}
 use Rattle.schema_build_checks.specs.WalkFaults.{unknown_extension, NamesExtension}
-use Rattle.schema_build_checks.proofs.Stops.{none_given, first_refused, nothing_first}
+use Rattle.schema_build_checks.proofs.Stops.{none_given, first_at, about_first, nothing_first}
 use Rattle.schema_build_checks.proofs.walk_faults.check_extension_types.Goals as goal
 
-pub returns-clause-ok : goal.returns-clause-ok
-returns-clause-ok c =
-    on_ok_weaker c.walk_fragment.result (λ told e h. nothing_first NamesExtension _ (c.fragment_gives_what_its_parts_give.ensures (λ ns part. unknown_extension c.args.table.now part) ∙ none_given (λ v e. unknown_extension v.table.now e.1) _ _ (fragment_parts c.args.fragment.now) told) e h) c.walk_fragment.ensures.taken
+pub returns-in-Ok-clause-ok : goal.returns-in-Ok-clause-ok
+returns-in-Ok-clause-ok c = λ e h.
+    nothing_first NamesExtension _
+    (c.fragment_gives_what_its_parts_give.ensures (λ ns part. unknown_extension c.args.table.now part)
+    ∙ none_given (λ v e. unknown_extension v.table.now e.1) _ _ (fragment_parts c.args.fragment.now) c.in-Ok.ensures.taken)
+    e h
 
-pub returns-clause-err : goal.returns-clause-err
-returns-clause-err c =
-    IfErr-weaker c.walk_fragment.result _ _ (λ e h. subst (λ l. OrMemory (IsAboutFirst NamesExtension l) e) (sym (c.fragment_gives_what_its_parts_give.ensures (λ ns part. unknown_extension c.args.table.now part))) (first_refused (λ v e. unknown_extension v.table.now e.1) NamesExtension _ (fragment_parts c.args.fragment.now) e h)) c.walk_fragment.ensures.refused
+pub returns-in-Err-First-clause-err : goal.returns-in-Err-First-clause-err
+returns-in-Err-First-clause-err c =
+    let parts = fragment_parts c.args.fragment.now in
+    let first = first_at (λ v e. unknown_extension v.table.now e.1) _ parts c.in-Err-First.field-0 c.in-Err-First.id c.in-Err-First.field-0-is c.in-Err-First.ensures.refused in
+    inr (subst (λ l. IsAboutFirst NamesExtension l c.unknown.result)
+    (sym (c.fragment_gives_what_its_parts_give.ensures (λ ns part. unknown_extension c.args.table.now part)))
+    (about_first NamesExtension _ c.in-Err-First.id c.unknown.result first c.unknown.ensures))
