@@ -14,7 +14,8 @@ pub IsAscii-from_test : (bs : List ℕ) → list_all is_ascii bs ≡ true → Is
 IsAscii-from_test [] h = IsAscii-nil
 IsAscii-from_test (b ∷ bs) h =
     let low : is_ascii b ≡ true = first_so (is_ascii b) (list_all is_ascii bs) h in
-    IsAscii-cons b bs (grind (arith, nat_tests)) (IsAscii-from_test bs (second_so (is_ascii b) (list_all is_ascii bs) h))
+    IsAscii-cons b bs (grind (arith, nat_tests))
+    (IsAscii-from_test bs (second_so (is_ascii b) (list_all is_ascii bs) h))
 
 pub chars-from_test : (bs : List ℕ) → list_all is_ascii bs ≡ true → chars bs ≡ bs
 chars-from_test bs h = chars-IsAscii bs (IsAscii-from_test bs h)
@@ -30,13 +31,15 @@ start_part b h = grind (arith, nat_tests)
 
 pub parts_ascii : (bs : List ℕ) → list_all is_word_part bs ≡ true → IsAscii bs
 parts_ascii [] h = IsAscii-nil
-parts_ascii (b ∷ bs) h = IsAscii-cons b bs (part_ascii b (first_so (is_word_part b) (list_all is_word_part bs) h)) (parts_ascii bs (second_so (is_word_part b) (list_all is_word_part bs) h))
+parts_ascii (b ∷ bs) h = IsAscii-cons b bs (part_ascii b (first_so (is_word_part b) (list_all is_word_part bs) h))
+    (parts_ascii bs (second_so (is_word_part b) (list_all is_word_part bs) h))
 
 -- words are ASCII
 pub word_ascii : (w : List ℕ) → is_word w ≡ true → IsAscii w
 word_ascii [] h = IsAscii-nil
 word_ascii (b ∷ bs) h =
-    IsAscii-cons b bs (part_ascii b (start_part b (first_so (is_word_start b) (list_all is_word_part bs) h))) (parts_ascii bs (second_so (is_word_start b) (list_all is_word_part bs) h))
+    IsAscii-cons b bs (part_ascii b (start_part b (first_so (is_word_start b) (list_all is_word_part bs) h)))
+    (parts_ascii bs (second_so (is_word_start b) (list_all is_word_part bs) h))
 
 -- their bytes are their characters
 pub word_bytes : (w : List ℕ) → is_word w ≡ true → encode_utf8_all w ≡ w

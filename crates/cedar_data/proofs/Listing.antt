@@ -16,16 +16,19 @@ module _ (between before_last : List ℕ) where
 
   -- a text, what stands behind it, and the others
   one_more : (text : List ℕ) (texts : List (List ℕ))
-      → text ++ (separator between before_last texts ++ listed between before_last texts) ≡ listed between before_last (text ∷ texts)
+      → text ++ (separator between before_last texts ++ listed between before_last texts)
+      ≡ listed between before_last (text ∷ texts)
   one_more text [] = append-nil text
   one_more text (last ∷ []) = refl
   one_more text (next ∷ more ∷ texts) = refl
 
   pub row_more : (text : List ℕ) (texts : List (List ℕ)) (list : List ℕ) → list_all is_ascii between ≡ true
       → list_all is_ascii before_last ≡ true
-      → ((list ++ text) ++ chars (separator between before_last texts)) ++ listed between before_last texts ≡ list ++ listed between before_last (text ∷ texts)
+      → ((list ++ text) ++ chars (separator between before_last texts)) ++ listed between before_last texts ≡ list
+      ++ listed between before_last (text ∷ texts)
   row_more text texts list b l =
-      ap (λ s. ((list ++ text) ++ s) ++ listed between before_last texts) (chars-from_test (separator between before_last texts) (separator_ascii texts b l))
+      ap (λ s. ((list ++ text) ++ s) ++ listed between before_last texts)
+      (chars-from_test (separator between before_last texts) (separator_ascii texts b l))
       ∙ append_assoc (list ++ text) (separator between before_last texts) (listed between before_last texts)
       ∙ append_assoc list text (separator between before_last texts ++ listed between before_last texts)
       ∙ ap (λ row. list ++ row) (one_more text texts)
@@ -35,7 +38,8 @@ pub listed_alike : (between : List ℕ) (texts : List (List ℕ)) → listed bet
 listed_alike between [] = refl
 listed_alike between (text ∷ []) = refl
 listed_alike between (text ∷ last ∷ []) = refl
-listed_alike between (text ∷ next ∷ more ∷ texts) = ap (λ row. text ++ (between ++ row)) (listed_alike between (next ∷ more ∷ texts))
+listed_alike between (text ∷ next ∷ more ∷ texts) =
+    ap (λ row. text ++ (between ++ row)) (listed_alike between (next ∷ more ∷ texts))
 
 -- what stands before items is what stands before their texts
 pub separator_of : {A : Type 0} (between before_last : List ℕ) (f : A → List ℕ) (xs : List A)

@@ -24,7 +24,8 @@ pub last_more : {K X : Type 0} (R : K → K → Ordering) → IsTotalOrder R
     → option_or (last_at (is_at (R q)) rest) new ≡ option_or (last_at (is_at (R q)) ((k, v) ∷ rest)) old
 last_more R total q k v rest old new is =
     let same : is_at (R k) q ≡ is_at (R q) k = ap is_eq (total.antisymm k q) ∙ tied (R q k) in
-    ap (option_or (last_at (is_at (R q)) rest)) (is ∙ ap (λ t. cond t (Some v) old) same) ∙ sym (or_then (last_at (is_at (R q)) rest) (is_at (R q) k) v old)
+    ap (option_or (last_at (is_at (R q)) rest)) (is ∙ ap (λ t. cond t (Some v) old) same)
+    ∙ sym (or_then (last_at (is_at (R q)) rest) (is_at (R q) k) v old)
 
 pub or_none : {X : Type 0} (a : Option X) → option_or a None ≡ a
 or_none None = refl

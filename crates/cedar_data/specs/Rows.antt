@@ -12,7 +12,8 @@ abbrev pub listed : List ℕ → List ℕ → List (List ℕ) → List ℕ
 listed between before_last [] = []
 listed between before_last (text ∷ []) = text
 listed between before_last (text ∷ last ∷ []) = text ++ (before_last ++ last)
-listed between before_last (text ∷ next ∷ more ∷ texts) = text ++ (between ++ listed between before_last (next ∷ more ∷ texts))
+listed between before_last (text ∷ next ∷ more ∷ texts) =
+    text ++ (between ++ listed between before_last (next ∷ more ∷ texts))
 
 -- what stands in such a row before the items that are left
 abbrev pub separator : {A : Type 0} → List ℕ → List ℕ → List A → List ℕ

@@ -1,5 +1,6 @@
 -- A text has one list of pieces, which all that begins it is a front of.
-use Rattle.std.proofs.Common.{◌≡◌, ◌≢◌, ℕ, zero, suc, ◌<◌, ◌≤◌, List, [], ◌∷◌, ◌++◌, length, take, drop, refl, ap, ◌∙◌, arith}
+use Rattle.std.proofs.Common.{◌≡◌, ◌≢◌, ℕ, zero, suc, ◌<◌, ◌≤◌, List, [], ◌∷◌, ◌++◌, length, take, drop, refl, ap, ◌∙◌}
+use Rattle.std.proofs.Common.{arith}
 use Rattle.std.specs.List.{All}
 use Rattle.std.proofs.lemmas.Str.{chars-nil}
 use Rattle.std.proofs.lemmas.List.Elements.{All-nil, All-cons}
@@ -9,8 +10,8 @@ use Rattle.cedar_identifiers.proofs.Pieces.{piece_len-le}
 abbrev Pieces : Type 0
 Pieces = List (List ℕ)
 
--- The next piece and the others, from how long the blank and the piece at the front are. Where neither begins, the empty
--- list stands, which is no piece.
+-- The next piece and the others, from how long the blank and the piece at the front are. Where neither begins, the
+-- empty list stands, which is no piece.
 abbrev pieces_behind : ℕ → ℕ → List ℕ → (ℕ → Pieces) → Pieces
 pieces_behind zero zero text next = [] ∷ []
 pieces_behind zero (suc n) text next = take (suc n) text ∷ next n
@@ -67,7 +68,8 @@ pieces_of-piece : (text : List ℕ) → blank_len text ≡ 0 → 0 < piece_len t
 unfolding pieces_of pieces_at
 pieces_of-piece [] e h = absurd (omega (arith, h))
 pieces_of-piece (b ∷ bs) e h =
-    ap (λ m. pieces_behind m (piece_len (b ∷ bs)) (b ∷ bs) (λ k. pieces_at bs k)) e ∙ behind_piece (piece_len (b ∷ bs)) b bs h
+    ap (λ m. pieces_behind m (piece_len (b ∷ bs)) (b ∷ bs) (λ k. pieces_at bs k)) e
+    ∙ behind_piece (piece_len (b ∷ bs)) b bs h
 
 -- neither begins there
 pub pieces_of-stuck : (text : List ℕ) → NothingStands text → pieces_of text ≡ [] ∷ []
@@ -82,7 +84,8 @@ pub pieces_of-begins : {text rest : List ℕ} {ps : Pieces} → BeginsWith text 
     → pieces_of text ≡ ps ++ pieces_of rest
 pieces_of-begins here = refl
 pieces_of-begins (blank {text = text} some b) = pieces_of-blank text some ∙ pieces_of-begins b
-pieces_of-begins (piece {text = text} no_blank some b) = pieces_of-piece text no_blank some ∙ ap (λ qs. take (piece_len text) text ∷ qs) (pieces_of-begins b)
+pieces_of-begins (piece {text = text} no_blank some b) = pieces_of-piece text no_blank some
+    ∙ ap (λ qs. take (piece_len text) text ∷ qs) (pieces_of-begins b)
 
 -- a front of a text has bytes
 take_some : (n : ℕ) (text : List ℕ) → 0 < n → n ≤ length text → take n text ≢ []
@@ -95,4 +98,5 @@ pub pieces_some : {text rest : List ℕ} {ps : Pieces} → BeginsWith text ps re
 pieces_some here = All-nil (λ p. p ≢ [])
 pieces_some (blank some b) = pieces_some b
 pieces_some (piece {text = text} {pieces = ps} no_blank some b) =
-    All-cons (λ p. p ≢ []) (take (piece_len text) text) ps (take_some (piece_len text) text some (piece_len-le text)) (pieces_some b)
+    All-cons (λ p. p ≢ []) (take (piece_len text) text) ps (take_some (piece_len text) text some (piece_len-le text))
+    (pieces_some b)

@@ -1,5 +1,6 @@
 -- Texts joined by a separator, one after another.
-use Rattle.std.proofs.Common.{◌≡◌, ℕ, ◌+◌, ◌<◌, List, [], ◌∷◌, ◌++◌, length, take, get_or, refl, sym, ap, ◌∙◌, append_assoc, codes}
+use Rattle.std.proofs.Common.{◌≡◌, ℕ, ◌+◌, ◌<◌, List, [], ◌∷◌, ◌++◌, length, take, get_or, refl, sym, ap, ◌∙◌}
+use Rattle.std.proofs.Common.{append_assoc, codes}
 use Rattle.std.specs.Str.{chars}
 use Rattle.cedar_data.proofs.Ascii.{chars-from_test}
 use Rattle.std.proofs.lemmas.List.{take_more, map-append}
@@ -19,8 +20,11 @@ pub one_more : (f x : Id) (ids : List Id) (i : ℕ) (t : List ℕ) → i < lengt
     → t ++ (codes "::" ++ x.text) ≡ joined_by (codes "::") (texts_of (f ∷ take (i + 1) ids))
 one_more f x ids i t h e k =
     let ids' : take (i + 1) ids ≡ take i ids ++ x ∷ [] = take_more ids i x h ∙ ap (λ y. take i ids ++ y ∷ []) (sym e) in
-    let texts : texts_of (take (i + 1) ids) ≡ texts_of (take i ids) ++ x.text ∷ [] = ap texts_of ids' ∙ map-append (λ j. j.text) (take i ids) (x ∷ []) in
-    ap (λ u. u ++ (codes "::" ++ x.text)) k ∙ (sym (joined-push (codes "::") f.text (texts_of (take i ids)) x.text) ∙ ap (λ us. joined_by (codes "::") (f.text ∷ us)) (sym texts))
+    let texts : texts_of (take (i + 1) ids) ≡ texts_of (take i ids) ++ x.text ∷ [] = ap texts_of ids'
+    ∙ map-append (λ j. j.text) (take i ids) (x ∷ []) in
+    ap (λ u. u ++ (codes "::" ++ x.text)) k
+    ∙ (sym (joined-push (codes "::") f.text (texts_of (take i ids)) x.text)
+    ∙ ap (λ us. joined_by (codes "::") (f.text ∷ us)) (sym texts))
 
 -- `::` is its own characters
 pub separator_chars : chars (codes "::") ≡ codes "::"

@@ -1,5 +1,6 @@
 -- Names and their bytes.
-use Rattle.std.proofs.Common.{◌≡◌, ℕ, Bool, true, false, cond, ◌||◌, List, [], ◌∷◌, ◌++◌, Some, None, find, codes, refl, sym, ◌∙◌, subst}
+use Rattle.std.proofs.Common.{◌≡◌, ℕ, Bool, true, false, cond, ◌||◌, List, [], ◌∷◌, ◌++◌, Some, None, find, codes, refl}
+use Rattle.std.proofs.Common.{sym, ◌∙◌, subst}
 use Rattle.std.specs.List.{list_any}
 use Rattle.std.specs.Str.{IsAscii, bytes_eq, encode_utf8_all}
 use Rattle.std.proofs.lemmas.Bool.{false≢true}
@@ -22,8 +23,10 @@ use Rattle.cedar_data.proofs.Ascii.{word_ascii, IsAscii-from_test}
 joined_ascii : (i : Id) (ids : List Id) → IsAscii (joined_by (codes "::") (texts_of (i ∷ ids)))
 joined_ascii i [] = word_ascii i.text (id_is_word i.text i.word)
 joined_ascii i (j ∷ ids) =
-    IsAscii-append i.text (codes "::" ++ joined_by (codes "::") (texts_of (j ∷ ids))) (word_ascii i.text (id_is_word i.text i.word))
-    (IsAscii-append (codes "::") (joined_by (codes "::") (texts_of (j ∷ ids))) (IsAscii-from_test (codes "::") refl) (joined_ascii j ids))
+    IsAscii-append i.text (codes "::" ++ joined_by (codes "::") (texts_of (j ∷ ids)))
+    (word_ascii i.text (id_is_word i.text i.word))
+    (IsAscii-append (codes "::") (joined_by (codes "::") (texts_of (j ∷ ids))) (IsAscii-from_test (codes "::") refl)
+    (joined_ascii j ids))
 
 pub joined_bytes : (i : Id) (ids : List Id)
     → encode_utf8_all (joined_by (codes "::") (texts_of (i ∷ ids))) ≡ joined_by (codes "::") (texts_of (i ∷ ids))
@@ -41,13 +44,23 @@ are_allowed kind text id ids w ws h e free es none =
 -- where the text is the name's, the name is read
 pub is_normal : (kind : NameKind) (text : List ℕ) (words : List (List ℕ)) (r : Bool) → AreAllowed kind text words
     → r ≡ bytes_eq (joined_by (codes "::") words) text → r ≡ true → ReadsAs kind text words
-is_normal kind text words r a e f = record { has = a.has; allowed = a.allowed; normal = sym ((bytes_eq-Decides (joined_by (codes "::") words) text).0 (sym e ∙ f)) }
+is_normal kind text words r a e f =
+    record {
+      has = a.has;
+      allowed = a.allowed;
+      normal = sym ((bytes_eq-Decides (joined_by (codes "::") words) text).0 (sym e ∙ f));
+    }
 
 -- else it is not normalized
 pub is_no_normal : (kind : NameKind) (text : List ℕ) (words : List (List ℕ)) (r : Bool) → AreAllowed kind text words
     → r ≡ bytes_eq (joined_by (codes "::") words) text → r ≡ false → NameFaultOf kind text NotNormalized
-is_no_normal kind text words r a e f =
-    (words, a.has, a.allowed, λ n. false≢true (sym (sym e ∙ f) ∙ (bytes_eq-Decides (joined_by (codes "::") words) text).1 (sym n)))
+is_no_normal kind text words r a e f = (
+  words,
+  a.has,
+  a.allowed,
+  λ n. false≢true
+      (sym (sym e ∙ f) ∙ (bytes_eq-Decides (joined_by (codes "::") words) text).1 (sym n)),
+)
 
 -- no component of a declared name is `__cedar`
 pub no_cedar : (ws : List (List ℕ)) → find (refuses Name) ws ≡ None → list_any is_cedar ws ≡ false

@@ -1,5 +1,6 @@
 -- Pieces at the front of a text.
-use Rattle.std.proofs.Common.{◌≡◌, ℕ, zero, suc, ◌+◌, ◌-◌, ◌<◌, ◌≤◌, Bool, true, false, cond, List, [], ◌∷◌, length, take, drop, get_or, refl, sym, subst, arith, codes, nat_lt, ◌==◌, ◌||◌}
+use Rattle.std.proofs.Common.{◌≡◌, ℕ, zero, suc, ◌+◌, ◌-◌, ◌<◌, ◌≤◌, Bool, true, false, cond, List, [], ◌∷◌, length}
+use Rattle.std.proofs.Common.{take, drop, get_or, refl, sym, subst, arith, codes, nat_lt, ◌==◌, ◌||◌}
 use Rattle.std.specs.List.{prefix_len, list_any, list_all}
 use Rattle.std.specs.Str.{IsUtf8, IsCharBoundary, IsAscii, chars}
 use Rattle.std.specs.Char.{is_ascii_digit}
@@ -28,7 +29,8 @@ any_ascii (m ∷ ms) b h k =
   where
     by_test : (t : Bool) → (m == b) ≡ t → (t || list_any (λ n. n == b) ms) ≡ true
         → (list_any (λ n. n == b) ms ≡ true → b < 128) → b < 128
-    by_test true e l rest = let low : nat_lt m 128 ≡ true = first_so (nat_lt m 128) (list_all (λ n. nat_lt n 128) ms) h in grind (arith, nat_tests)
+    by_test true e l rest = let low : nat_lt m 128
+        ≡ true = first_so (nat_lt m 128) (list_all (λ n. nat_lt n 128) ms) h in grind (arith, nat_tests)
     by_test false e l rest = rest l
 
 mark_ascii : (b : ℕ) → is_mark b ≡ true → b < 128
@@ -47,7 +49,8 @@ len_by w d t m bs = cond w (prefix_len is_word_part bs) (cond d (prefix_len is_a
 -- the bytes of a piece are ASCII
 piece_byte : (text : List ℕ) (k : ℕ) → k < piece_len text → get_or text k 0 < 128
 piece_byte [] k h = absurd (omega (arith, h))
-piece_byte (b ∷ bs) k h = by_start (is_word_start b) (is_ascii_digit b) (starts_twice 58 (b ∷ bs)) (is_mark b) refl refl h
+piece_byte (b ∷ bs) k h = by_start (is_word_start b) (is_ascii_digit b) (starts_twice 58 (b ∷ bs))
+    (is_mark b) refl refl h
   where
     by_start : (w d t m : Bool) → starts_twice 58 (b ∷ bs) ≡ t → is_mark b ≡ m → k < len_by w d t m (b ∷ bs)
         → get_or (b ∷ bs) k 0 < 128
@@ -78,13 +81,15 @@ pub piece_len-boundary : (text : List ℕ) → IsUtf8 text → 0 < piece_len tex
 piece_len-boundary text u h =
     let l = piece_len-le text in
     let e : piece_len text - 1 + 1 ≡ piece_len text = omega (arith, h) in
-    subst (IsCharBoundary text) e (IsCharBoundary-after_ascii text (piece_len text - 1) u (omega (arith, h, l)) (piece_byte text (piece_len text - 1) (omega (arith, h))))
+    subst (IsCharBoundary text) e (IsCharBoundary-after_ascii text (piece_len text - 1) u (omega (arith, h, l))
+    (piece_byte text (piece_len text - 1) (omega (arith, h))))
 
 -- a front of ASCII bytes is ASCII
 front_ascii : (n : ℕ) (bs : List ℕ) → ((k : ℕ) → k < n → get_or bs k 0 < 128) → IsAscii (take n bs)
 front_ascii zero bs f = IsAscii-nil
 front_ascii (suc n) [] f = IsAscii-nil
-front_ascii (suc n) (b ∷ bs) f = IsAscii-cons b (take n bs) (f 0 (omega arith)) (front_ascii n bs (λ k h. f (suc k) (omega (arith, h))))
+front_ascii (suc n) (b ∷ bs) f =
+    IsAscii-cons b (take n bs) (f 0 (omega arith)) (front_ascii n bs (λ k h. f (suc k) (omega (arith, h))))
 
 -- a piece has its bytes as characters
 pub piece_chars : (text : List ℕ) → chars (take (piece_len text) text) ≡ take (piece_len text) text
@@ -94,4 +99,6 @@ piece_chars text = chars-IsAscii _ (front_ascii (piece_len text) text (piece_byt
 pub begins-piece : (text rest p after : List ℕ) → BeginsWith text [] rest → blank_len rest ≡ 0 → 0 < piece_len rest
     → p ≡ take (piece_len rest) rest → after ≡ drop (piece_len rest) rest → BeginsWith text (p ∷ []) after
 begins-piece text rest p after b no_blank some e f =
-    subst (λ (x : List ℕ). BeginsWith text (p ∷ []) x) (sym f) (subst (λ (x : List ℕ). BeginsWith text (x ∷ []) (drop (piece_len rest) rest)) (sym e) (Begins-append b (piece no_blank some here)))
+    subst (λ (x : List ℕ). BeginsWith text (p ∷ []) x) (sym f)
+    (subst (λ (x : List ℕ). BeginsWith text (x ∷ []) (drop (piece_len rest) rest)) (sym e)
+    (Begins-append b (piece no_blank some here)))

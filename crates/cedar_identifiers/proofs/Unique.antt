@@ -1,14 +1,17 @@
 -- A text reads one way.
-use Rattle.std.proofs.Common.{◌≡◌, ◌≢◌, ℕ, Bool, true, false, List, [], ◌∷◌, ◌++◌, Option, Some, None, find, codes, refl, sym, ap, ◌∙◌, subst, append-nil, append_assoc}
+use Rattle.std.proofs.Common.{◌≡◌, ◌≢◌, ℕ, Bool, true, false, List, [], ◌∷◌, ◌++◌, Option, Some, None, find, codes}
+use Rattle.std.proofs.Common.{refl, sym, ap, ◌∙◌, subst, append-nil, append_assoc}
 use Rattle.std.specs.List.{All}
 use Rattle.std.specs.Option.{option_and_then}
 use Rattle.std.proofs.lemmas.List.Elements.{All-head, All-tail}
 use Rattle.cedar_data.specs.Rows.{joined_by}
-use Rattle.cedar_identifiers.specs.NameReading.{is_single, refuses, due_next, due_behind, separated, HasWords, NameFaultOf}
+use Rattle.cedar_identifiers.specs.NameReading.{is_single, refuses, due_next, due_behind, separated, HasWords}
+use Rattle.cedar_identifiers.specs.NameReading.{NameFaultOf}
 use Rattle.cedar_identifiers.specs.OneReading.{OneName, NoFault, OneFault}
 use Rattle.cedar_identifiers.specs.declared.name_kind.NameKind.{NameKind}
 use Rattle.cedar_identifiers.specs.declared.name_fault.NameFault.{NameFault}
-use Rattle.cedar_identifiers.specs.declared.name_fault.NameFault.TheVariants.{End, Token, Invalid, NotNormalized, Reserved, Memory}
+use Rattle.cedar_identifiers.specs.declared.name_fault.NameFault.TheVariants.{End, Token, Invalid, NotNormalized}
+use Rattle.cedar_identifiers.specs.declared.name_fault.NameFault.TheVariants.{Reserved, Memory}
 use Rattle.cedar_identifiers.proofs.Cut.{pieces_of, pieces_of-nil, pieces_of-stuck, pieces_of-begins, pieces_some}
 
 -- how pieces in turn end: at one that cannot stand, or with a word due or not
@@ -55,19 +58,26 @@ outcome Memory = Over false
 words_over : (kind : NameKind) (text : List ℕ) (ws : List (List ℕ)) → HasWords kind text ws
     → (pieces_of text ≡ separated ws) × (verdict (is_single kind) true (pieces_of text) ≡ Over false)
 words_over kind text ws h =
-    let all : pieces_of text ≡ separated ws ++ [] = pieces_of-begins h.pieces ∙ ap (λ ps. separated ws ++ ps) pieces_of-nil in
-    (all ∙ append-nil (separated ws), ap (verdict (is_single kind) true) all ∙ verdict-append (is_single kind) true false (separated ws) [] h.whole)
+    let all : pieces_of text ≡ separated ws ++ [] = pieces_of-begins h.pieces
+    ∙ ap (λ ps. separated ws ++ ps) pieces_of-nil in (
+      all ∙ append-nil (separated ws),
+      ap (verdict (is_single kind) true) all
+          ∙ verdict-append (is_single kind) true false (separated ws) [] h.whole,
+    )
 
 faults_end : (kind : NameKind) (text : List ℕ) (f : NameFault) → f ≢ Memory → NameFaultOf kind text f
     → verdict (is_single kind) true (pieces_of text) ≡ outcome f
 faults_end kind text Invalid m (ps, due, rest, b, d, n) =
     ap (verdict (is_single kind) true) (pieces_of-begins b ∙ ap (λ qs. ps ++ qs) (pieces_of-stuck rest n)) ∙
-    (verdict-append (is_single kind) true due ps ([] ∷ []) d ∙ ap (λ x. after_next [] x (λ e. Over e)) (nothing_next (is_single kind) due))
+    (verdict-append (is_single kind) true due ps ([] ∷ []) d
+    ∙ ap (λ x. after_next [] x (λ e. Over e)) (nothing_next (is_single kind) due))
 faults_end kind text (Token t) m (ps, due, rest, b, d, n) =
     ap (verdict (is_single kind) true) (pieces_of-begins b ∙ append_assoc ps (t ∷ []) (pieces_of rest)) ∙
-    (verdict-append (is_single kind) true due ps (t ∷ pieces_of rest) d ∙ ap (λ x. after_next t x (λ e. verdict (is_single kind) e (pieces_of rest))) n)
+    (verdict-append (is_single kind) true due ps (t ∷ pieces_of rest) d
+    ∙ ap (λ x. after_next t x (λ e. verdict (is_single kind) e (pieces_of rest))) n)
 faults_end kind text End m (ps, b, d) =
-    ap (verdict (is_single kind) true) (pieces_of-begins b ∙ ap (λ qs. ps ++ qs) pieces_of-nil) ∙ verdict-append (is_single kind) true true ps [] d
+    ap (verdict (is_single kind) true) (pieces_of-begins b ∙ ap (λ qs. ps ++ qs) pieces_of-nil)
+    ∙ verdict-append (is_single kind) true true ps [] d
 faults_end kind text (Reserved w) m (ws, h, r) = (words_over kind text ws h).1
 faults_end kind text NotNormalized m (ws, h, r, n) = (words_over kind text ws h).1
 faults_end kind text Memory m h = absurd (m refl)
@@ -102,11 +112,18 @@ one_name text kind v w h k = one_words kind text v w h.has k.has
 
 pub no_fault : (text : List ℕ) → NoFault text
 no_fault text kind w Memory r f = refl
-no_fault text kind w Invalid r f = let e = sym (faults_end kind text Invalid (λ x. cc) f) ∙ (words_over kind text w r.has).1 in cc
-no_fault text kind w (Token t) r f = let e = sym (faults_end kind text (Token t) (λ x. cc) f) ∙ (words_over kind text w r.has).1 in cc
-no_fault text kind w End r f = let e = sym (faults_end kind text End (λ x. cc) f) ∙ (words_over kind text w r.has).1 in cc
-no_fault text kind w (Reserved x) r (ws, h, e) = let same = one_words kind text w ws r.has h in let k : find (refuses kind) ws ≡ None = subst (λ (y : List (List ℕ)). find (refuses kind) y ≡ None) same r.allowed in cc
-no_fault text kind w NotNormalized r (ws, h, e, n) = let same = one_words kind text w ws r.has h in absurd (n (r.normal ∙ ap (joined_by (codes "::")) same))
+no_fault text kind w Invalid r f =
+    let e = sym (faults_end kind text Invalid (λ x. cc) f) ∙ (words_over kind text w r.has).1 in cc
+no_fault text kind w (Token t) r f =
+    let e = sym (faults_end kind text (Token t) (λ x. cc) f) ∙ (words_over kind text w r.has).1 in cc
+no_fault text kind w End r f =
+    let e = sym (faults_end kind text End (λ x. cc) f) ∙ (words_over kind text w r.has).1 in cc
+no_fault text kind w (Reserved x) r (ws, h, e) =
+    let same = one_words kind text w ws r.has h in
+    let k : find (refuses kind) ws
+    ≡ None = subst (λ (y : List (List ℕ)). find (refuses kind) y ≡ None) same r.allowed in cc
+no_fault text kind w NotNormalized r (ws, h, e, n) =
+    let same = one_words kind text w ws r.has h in absurd (n (r.normal ∙ ap (joined_by (codes "::")) same))
 
 same_end : (kind : NameKind) (text : List ℕ) (f g : NameFault) → f ≢ Memory → g ≢ Memory → NameFaultOf kind text f
     → NameFaultOf kind text g → outcome f ≡ outcome g
@@ -126,12 +143,16 @@ refused_or_not kind text x (v, h, e) (w, k, f, n) =
 
 pub one_fault : (text : List ℕ) → OneFault text
 one_fault text kind Invalid Invalid m n h k = refl
-one_fault text kind Invalid (Token u) m n h k = let e = same_end kind text Invalid (Token u) m n h k in let none : u ≡ [] = cc in absurd (token_some kind text u k none)
+one_fault text kind Invalid (Token u) m n h k =
+    let e = same_end kind text Invalid (Token u) m n h k in
+    let none : u ≡ [] = cc in absurd (token_some kind text u k none)
 one_fault text kind Invalid End m n h k = let e = same_end kind text Invalid End m n h k in cc
 one_fault text kind Invalid (Reserved y) m n h k = let e = same_end kind text Invalid (Reserved y) m n h k in cc
 one_fault text kind Invalid NotNormalized m n h k = let e = same_end kind text Invalid NotNormalized m n h k in cc
 one_fault text kind Invalid Memory m n h k = absurd (n refl)
-one_fault text kind (Token t) Invalid m n h k = let e = same_end kind text (Token t) Invalid m n h k in let none : t ≡ [] = cc in absurd (token_some kind text t h none)
+one_fault text kind (Token t) Invalid m n h k =
+    let e = same_end kind text (Token t) Invalid m n h k in
+    let none : t ≡ [] = cc in absurd (token_some kind text t h none)
 one_fault text kind (Token t) (Token u) m n h k = let e = same_end kind text (Token t) (Token u) m n h k in cc
 one_fault text kind (Token t) End m n h k = let e = same_end kind text (Token t) End m n h k in cc
 one_fault text kind (Token t) (Reserved y) m n h k = let e = same_end kind text (Token t) (Reserved y) m n h k in cc

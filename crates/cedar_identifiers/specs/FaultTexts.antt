@@ -1,7 +1,8 @@
 -- What faults say.
 use Rattle.std.specs.Prelude.{ℕ, List, ◌++◌, codes}
 use Rattle.cedar_identifiers.specs.declared.name_fault.NameFault.{NameFault}
-use Rattle.cedar_identifiers.specs.declared.name_fault.NameFault.TheVariants.{End, Token, Invalid, NotNormalized, Reserved, Memory}
+use Rattle.cedar_identifiers.specs.declared.name_fault.NameFault.TheVariants.{End, Token, Invalid, NotNormalized}
+use Rattle.cedar_identifiers.specs.declared.name_fault.NameFault.TheVariants.{Reserved, Memory}
 
 -- what a fault of a name says
 abbrev pub name_fault_text : NameFault → List ℕ

@@ -4,7 +4,8 @@ use Rattle.cedar_identifiers.specs.NameReading.{due_next, refuses, HasWords}
 use Rattle.cedar_identifiers.specs.declared.any_id.AnyId.{AnyId}
 use Rattle.cedar_identifiers.specs.declared.name_kind.NameKind.{NameKind}
 use Rattle.cedar_identifiers.specs.declared.name_fault.NameFault.{NameFault}
-use Rattle.cedar_identifiers.specs.declared.name_fault.NameFault.TheVariants.{End, Token, Invalid, NotNormalized, Reserved, Memory}
+use Rattle.cedar_identifiers.specs.declared.name_fault.NameFault.TheVariants.{End, Token, Invalid, NotNormalized}
+use Rattle.cedar_identifiers.specs.declared.name_fault.NameFault.TheVariants.{Reserved, Memory}
 use Rattle.cedar_identifiers.specs.NamePieces.{BeginsWith, NothingStands}
 use Rattle.cedar_identifiers.specs.declared.name_pieces.Front.{Front}
 use Rattle.cedar_identifiers.specs.declared.name_pieces.Front.TheVariants.{Over, Nothing, Piece}

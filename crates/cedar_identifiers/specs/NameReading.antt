@@ -1,5 +1,6 @@
 -- How a text reads as a name, and what keeps it from being one.
-use Rattle.std.specs.Prelude.{◌≡◌, ◌≢◌, ℕ, Bool, true, false, ◌||◌, List, [], ◌∷◌, ◌++◌, Option, Some, None, option_and_then, codes, find, if◌then◌else◌}
+use Rattle.std.specs.Prelude.{◌≡◌, ◌≢◌, ℕ, Bool, true, false, ◌||◌, List, [], ◌∷◌, ◌++◌, Option, Some, None}
+use Rattle.std.specs.Prelude.{option_and_then, codes, find, if◌then◌else◌}
 use Rattle.std.specs.Str.{bytes_eq}
 use Rattle.cedar_data.specs.Rows.{joined_by}
 use Rattle.cedar_identifiers.specs.Words.{is_reserved, is_cedar}
@@ -8,7 +9,8 @@ use Rattle.cedar_identifiers.specs.NamePieces.{BeginsWith, NothingStands}
 use Rattle.cedar_identifiers.specs.declared.name_kind.NameKind.{NameKind}
 use Rattle.cedar_identifiers.specs.declared.name_kind.NameKind.TheVariants.{AnyId, Id, UnreservedId, InternalName, Name}
 use Rattle.cedar_identifiers.specs.declared.name_fault.NameFault.{NameFault}
-use Rattle.cedar_identifiers.specs.declared.name_fault.NameFault.TheVariants.{End, Token, Invalid, NotNormalized, Reserved, Memory}
+use Rattle.cedar_identifiers.specs.declared.name_fault.NameFault.TheVariants.{End, Token, Invalid, NotNormalized}
+use Rattle.cedar_identifiers.specs.declared.name_fault.NameFault.TheVariants.{Reserved, Memory}
 
 -- one word, and no `::`
 abbrev pub is_single : NameKind → Bool
@@ -59,11 +61,16 @@ pub record ReadsAs (kind : NameKind) (text : List ℕ) (words : List (List ℕ))
 -- components may not be, and blanks. Want of memory may keep any text from being read.
 abbrev pub NameFaultOf : NameKind → List ℕ → NameFault → Type 0
 NameFaultOf kind text Invalid =
-    (pieces : List (List ℕ)) × (due : Bool) × (rest : List ℕ) × BeginsWith text pieces rest × (due_behind (is_single kind) true pieces ≡ Some due) × NothingStands rest
+    (pieces : List (List ℕ)) × (due : Bool) × (rest : List ℕ) × BeginsWith text pieces rest
+    × (due_behind (is_single kind) true pieces ≡ Some due) × NothingStands rest
 NameFaultOf kind text (Token t) =
-    (pieces : List (List ℕ)) × (due : Bool) × (rest : List ℕ) × BeginsWith text (pieces ++ t ∷ []) rest × (due_behind (is_single kind) true pieces ≡ Some due) × (due_next (is_single kind) due t ≡ None)
-NameFaultOf kind text End = (pieces : List (List ℕ)) × BeginsWith text pieces [] × (due_behind (is_single kind) true pieces ≡ Some true)
-NameFaultOf kind text (Reserved w) = (words : List (List ℕ)) × HasWords kind text words × (find (refuses kind) words ≡ Some w)
+    (pieces : List (List ℕ)) × (due : Bool) × (rest : List ℕ) × BeginsWith text (pieces ++ t ∷ []) rest
+    × (due_behind (is_single kind) true pieces ≡ Some due) × (due_next (is_single kind) due t ≡ None)
+NameFaultOf kind text End = (pieces : List (List ℕ)) × BeginsWith text pieces []
+    × (due_behind (is_single kind) true pieces ≡ Some true)
+NameFaultOf kind text (Reserved w) =
+    (words : List (List ℕ)) × HasWords kind text words × (find (refuses kind) words ≡ Some w)
 NameFaultOf kind text NotNormalized =
-    (words : List (List ℕ)) × HasWords kind text words × (find (refuses kind) words ≡ None) × (text ≢ joined_by (codes "::") words)
+    (words : List (List ℕ)) × HasWords kind text words × (find (refuses kind) words ≡ None)
+    × (text ≢ joined_by (codes "::") words)
 NameFaultOf kind text Memory = Unit {0}

@@ -11,8 +11,10 @@ OneName text = (kind : NameKind) (v w : List (List ℕ)) → ReadsAs kind text v
 
 -- no fault but want of memory beside a name
 abbrev pub NoFault : List ℕ → Type 0
-NoFault text = (kind : NameKind) (w : List (List ℕ)) (f : NameFault) → ReadsAs kind text w → NameFaultOf kind text f → f ≡ Memory
+NoFault text = (kind : NameKind) (w : List (List ℕ)) (f : NameFault) → ReadsAs kind text w
+    → NameFaultOf kind text f → f ≡ Memory
 
 -- no two faults but want of memory
 abbrev pub OneFault : List ℕ → Type 0
-OneFault text = (kind : NameKind) (f g : NameFault) → f ≢ Memory → g ≢ Memory → NameFaultOf kind text f → NameFaultOf kind text g → f ≡ g
+OneFault text = (kind : NameKind) (f g : NameFault) → f ≢ Memory → g ≢ Memory → NameFaultOf kind text f
+    → NameFaultOf kind text g → f ≡ g

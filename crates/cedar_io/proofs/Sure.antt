@@ -14,7 +14,8 @@ none_later : (calls calls' : ℕ) (failing : List ℕ) → calls ≤ calls' → 
     → none_to_come calls' failing ≡ true
 none_later calls calls' failing h e =
     list_all-from_AllPass (λ k. nat_le k calls') failing
-    (All-weaker (λ k. nat_le k calls ≡ true) (λ k. nat_le k calls' ≡ true) (λ k p. le_later k calls calls' h p) failing (AllPass-from_list_all (λ k. nat_le k calls) failing e))
+    (All-weaker (λ k. nat_le k calls ≡ true) (λ k. nat_le k calls' ≡ true) (λ k p. le_later k calls calls' h p)
+    failing (AllPass-from_list_all (λ k. nat_le k calls) failing e))
 
 -- what is sure falls by at most what was taken
 sure_falls : (before after : Bool) (room rest n : ℕ) → (before ≡ true → after ≡ true) → room ≤ rest + n
@@ -29,4 +30,5 @@ pub sure_falls_at : (before : SinkState) (rest calls n : ℕ) (failing : List �
     → failing ≡ before.failing → before.room ≤ rest + n
     → sure_room before ≤ cond (none_to_come calls failing) rest 0 + n
 sure_falls_at before rest calls n failing later same room =
-    rw same (sure_falls (none_to_come before.calls before.failing) (none_to_come calls before.failing) before.room rest n (none_later before.calls calls before.failing later) room)
+    rw same (sure_falls (none_to_come before.calls before.failing) (none_to_come calls before.failing) before.room
+    rest n (none_later before.calls calls before.failing later) room)

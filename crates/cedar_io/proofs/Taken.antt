@@ -10,5 +10,6 @@ front ys rest n e = take-append-le n ys rest (omega arith) ∙ take_all n ys (om
 pub split_at_place : (bytes buf copied : List ℕ) (at n : ℕ) → at + n ≤ length bytes → copied ≡ take n (drop at bytes)
     → drop at bytes ≡ take n (copied ++ drop n buf) ++ drop (at + n) bytes
 split_at_place bytes buf copied at n h e =
-    let long : length copied ≡ n = ap length e ∙ length-take-le n (drop at bytes) (omega (arith, length-drop at bytes)) in
+    let long : length copied ≡ n = ap length e
+    ∙ length-take-le n (drop at bytes) (omega (arith, length-drop at bytes)) in
     rw (front copied (drop n buf) n long, e, ← drop-drop n at bytes) (sym (take-append-drop n (drop at bytes)))

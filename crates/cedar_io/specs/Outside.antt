@@ -1,5 +1,6 @@
 -- Where bytes come from and where they go.
-use Rattle.std.specs.Prelude.{◌≡◌, ◌≢◌, ◌⊎◌, ◌<◌, ◌+◌, ◌-◌, ◌^◌, ◌++◌, ℕ, List, [], Option, Some, None, Bool, nat_le, min, length, Contains, if◌then◌else◌}
+use Rattle.std.specs.Prelude.{◌≡◌, ◌≢◌, ◌⊎◌, ◌<◌, ◌+◌, ◌-◌, ◌^◌, ◌++◌, ℕ, List, [], Option, Some, None, Bool, nat_le}
+use Rattle.std.specs.Prelude.{min, length, Contains, if◌then◌else◌}
 use Rattle.std.specs.List.{list_all}
 
 -- the count of faults rose, or stands at its last value
@@ -23,7 +24,8 @@ Appends (Some taken) bytes after = after ≡ Some (taken ++ bytes)
 
 -- a front of these bytes was taken after what was taken before, and not all of them
 abbrev pub AppendsPart : Option (List ℕ) → List ℕ → Option (List ℕ) → Type 0
-AppendsPart before bytes after = (part : List ℕ) × (rest : List ℕ) × (bytes ≡ part ++ rest) × (rest ≢ []) × Appends before part after
+AppendsPart before bytes after =
+    (part : List ℕ) × (rest : List ℕ) × (bytes ≡ part ++ rest) × (rest ≢ []) × Appends before part after
 
 -- a source in memory: the bytes still to come, the calls made, the numbers of the calls that fail, and the faults
 pub record SourceState : Type 0 where
@@ -36,7 +38,8 @@ pub record SourceState : Type 0 where
 pub record SteadyState : Type 0 where
   pub left : List ℕ
 
--- a sink in memory: the bytes taken, the room that is left, the calls made, the numbers of the calls that fail, and the faults
+-- a sink in memory: the bytes taken, the room that is left, the calls made, the numbers of the calls that fail, and the
+-- faults
 pub record SinkState : Type 0 where
   pub taken : List ℕ
   pub room : ℕ

@@ -38,7 +38,8 @@ halved false old now new w v n is c some half = record {
   some = λ h. omega (arith, c.counted);
 }
 halved true old now new w v n is c some half =
-    let twice : 2 ^ (new - old) ≡ 2 * 2 ^ (now - old) = ap (λ x. 2 ^ (x - old)) is ∙ ap (λ s. 2 ^ s) (one_more old now c.counted) ∙ pow-succ' 2 (now - old) in
+    let twice : 2 ^ (new - old) ≡ 2 * 2 ^ (now - old) = ap (λ x. 2 ^ (x - old)) is
+    ∙ ap (λ s. 2 ^ s) (one_more old now c.counted) ∙ pow-succ' 2 (now - old) in
     record {
       counted = omega (arith, c.counted);
       left = rw twice (let h = times (2 ^ (now - old)) w v half in omega (arith, h, c.left));
@@ -50,7 +51,12 @@ nothing : (old : ℕ) → old - old ≡ 0
 nothing old = omega arith
 
 pub none_yet : (counts : Bool) (old n : ℕ) → IsCost counts old old (n - 0) n
-none_yet counts old n = record { counted = omega arith; left = rw (nothing old) (omega arith); cost = rw (nothing old) (omega arith); some = λ h. absurd (omega arith) }
+none_yet counts old n = record {
+  counted = omega arith;
+  left = rw (nothing old) (omega arith);
+  cost = rw (nothing old) (omega arith);
+  some = λ h. absurd (omega arith);
+}
 
 -- the search ended with nothing left
 pub all_spent : (counts : Bool) (old now w n : ℕ) → IsCost counts old now w n → w ≡ 0 → IsSpent counts old now n

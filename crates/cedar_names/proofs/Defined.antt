@@ -1,5 +1,6 @@
 -- Names and actions that the order does not tell apart.
-use Rattle.std.proofs.Common.{◌≡◌, ℕ, ◌+◌, ◌<◌, Bool, true, false, not, ◌&&◌, ◌||◌, List, [], ◌∷◌, ◌++◌, length, get_or, take, map, refl, sym, ap, ◌∙◌, inl, inr}
+use Rattle.std.proofs.Common.{◌≡◌, ℕ, ◌+◌, ◌<◌, Bool, true, false, not, ◌&&◌, ◌||◌, List, [], ◌∷◌, ◌++◌, length, get_or}
+use Rattle.std.proofs.Common.{take, map, refl, sym, ap, ◌∙◌, inl, inr}
 use Rattle.std.specs.Prelude.{◌⊎◌}
 use Rattle.std.specs.declared.cmp.Ordering.{Ordering}
 use Rattle.std.specs.declared.cmp.Ordering.TheVariants.{Less, Equal, Greater}
@@ -24,7 +25,8 @@ use Rattle.cedar_identifiers.specs.Names.{components_of, texts_of}
 use Rattle.cedar_identifiers.specs.declared.id.Id.{Id}
 use Rattle.cedar_identifiers.specs.declared.internal_name.InternalName.{InternalName}
 use Rattle.cedar_names.specs.Definitions.{same_name, among, action_of, same_action, among_actions}
-use Rattle.cedar_names.specs.Orders.{ids_in_order, ids_of, ids_behind, names_in_order, ActionKey, action_key, keys_in_order, uids_in_order, ids_total, keys_total}
+use Rattle.cedar_names.specs.Orders.{ids_in_order, ids_of, ids_behind, names_in_order, ActionKey, action_key}
+use Rattle.cedar_names.specs.Orders.{keys_in_order, uids_in_order, ids_total, keys_total}
 use Rattle.cedar_names.specs.Rising.{PassesAlike}
 use Rattle.cedar_names.specs.declared.entity_uid.EntityUID.{EntityUID}
 use Rattle.cedar_names.proofs.Risen.{put_in}
@@ -55,7 +57,8 @@ id_bytes : (n : Id) → encode_utf8_all n.text ≡ n.text
 id_bytes n = encodes-IsAscii n.text (word_ascii n.text (first_so (is_word n.text) (not (is_reserved n.text)) n.word))
 
 same_ids : (i j : Id) → bytes_eq i.text j.text ≡ is_eq (ids_in_order i j)
-same_ids i j = sym (λ k. bytes_eq (id_bytes i k) (id_bytes j k)) ∙ sym (is_eq-slice_cmp (encode_utf8_all i.text) (encode_utf8_all j.text))
+same_ids i j = sym (λ k. bytes_eq (id_bytes i k) (id_bytes j k))
+    ∙ sym (is_eq-slice_cmp (encode_utf8_all i.text) (encode_utf8_all j.text))
 
 same_lists : (xs ys : List Id) → is_eq (slice_cmp ids_in_order xs ys) ≡ same_name (texts_of xs) (texts_of ys)
 same_lists xs ys = sym (pointwise-map (λ i. i.text) bytes_eq xs ys ∙ lists_ties ids_in_order same_ids xs ys)
@@ -74,27 +77,34 @@ both Equal b = refl
 both Greater b = refl
 
 same_keys : (a b : ActionKey) → is_eq (keys_in_order a b) ≡ same_action (texts_of a.0, a.1) (texts_of b.0, b.1)
-same_keys a b = both (slice_cmp ids_in_order a.0 b.0) (text_cmp a.1 b.1) ∙ (λ i. same_lists a.0 b.0 i && is_eq-slice_cmp (encode_utf8_all a.1) (encode_utf8_all b.1) i)
+same_keys a b = both (slice_cmp ids_in_order a.0 b.0) (text_cmp a.1 b.1)
+    ∙ (λ i. same_lists a.0 b.0 i && is_eq-slice_cmp (encode_utf8_all a.1) (encode_utf8_all b.1) i)
 
 -- what a search among names, or among actions, tells
 pub name_sought : (q : List Id) (ks : List InternalName)
     → list_any (λ x. is_eq (slice_cmp ids_in_order (ids_of x) q)) ks ≡ among (map components_of ks) (texts_of q)
-name_sought q ks = alike_map components_of (same_name (texts_of q)) (λ x. is_eq (slice_cmp ids_in_order (ids_of x) q)) (λ x. turned ids_total (ids_of x) q ∙ same_lists q (ids_of x)) ks
+name_sought q ks = alike_map components_of (same_name (texts_of q)) (λ x. is_eq (slice_cmp ids_in_order (ids_of x) q))
+    (λ x. turned ids_total (ids_of x) q ∙ same_lists q (ids_of x)) ks
 
 pub action_sought : (q : ActionKey) (ks : List EntityUID)
     → list_any (λ x. is_eq (keys_in_order (action_key x) q)) ks ≡ among_actions (map action_of ks) (texts_of q.0, q.1)
-action_sought q ks = alike_map action_of (same_action (texts_of q.0, q.1)) (λ x. is_eq (keys_in_order (action_key x) q)) (λ x. turned keys_total (action_key x) q ∙ same_keys q (action_key x)) ks
+action_sought q ks = alike_map action_of (same_action (texts_of q.0, q.1))
+    (λ x. is_eq (keys_in_order (action_key x) q))
+    (λ x. turned keys_total (action_key x) q ∙ same_keys q (action_key x)) ks
 
 pub texts_behind : (namespace : InternalName) (last : Id)
     → texts_of (ids_behind namespace last) ≡ components_of namespace ++ last.text ∷ []
-texts_behind namespace last = ap (λ texts. namespace.first.text ∷ texts) (map-append (λ (i : Id). i.text) namespace.others (last ∷ []))
+texts_behind namespace last = ap (λ texts. namespace.first.text ∷ texts)
+    (map-append (λ (i : Id). i.text) namespace.others (last ∷ []))
 
 -- names that are the same are equal
 pub equal_names : (a b : List (List ℕ)) → same_name a b ≡ true → a ≡ b
 equal_names [] [] h = refl
 equal_names [] (y ∷ ys) h = cc
 equal_names (x ∷ xs) [] h = cc
-equal_names (x ∷ xs) (y ∷ ys) h = λ i. (bytes_eq-Decides x y).0 (first_so (bytes_eq x y) (same_name xs ys) h) i ∷ equal_names xs ys (second_so (bytes_eq x y) (same_name xs ys) h) i
+equal_names (x ∷ xs) (y ∷ ys) h =
+    λ i. (bytes_eq-Decides x y).0 (first_so (bytes_eq x y) (same_name xs ys) h) i ∷ equal_names xs ys
+    (second_so (bytes_eq x y) (same_name xs ys) h) i
 
 same_to_name : (n a b : List (List ℕ)) → same_name a b ≡ true → same_name n a ≡ same_name n b
 same_to_name n a b h = ap (same_name n) (equal_names a b h)
@@ -105,11 +115,13 @@ ids_alike a b = (a.0 ≡ b.0) × (encode_utf8_all a.1 ≡ encode_utf8_all b.1)
 equal_actions : (a b : List (List ℕ) × List ℕ) → same_action a b ≡ true → ids_alike a b
 equal_actions a b h = (
   equal_names a.0 b.0 (first_so (same_name a.0 b.0) (bytes_eq (encode_utf8_all a.1) (encode_utf8_all b.1)) h),
-  (bytes_eq-Decides (encode_utf8_all a.1) (encode_utf8_all b.1)).0 (second_so (same_name a.0 b.0) (bytes_eq (encode_utf8_all a.1) (encode_utf8_all b.1)) h),
+  (bytes_eq-Decides (encode_utf8_all a.1) (encode_utf8_all b.1)).0
+      (second_so (same_name a.0 b.0) (bytes_eq (encode_utf8_all a.1) (encode_utf8_all b.1)) h),
 )
 
 same_to_action : (n a b : List (List ℕ) × List ℕ) → same_action a b ≡ true → same_action n a ≡ same_action n b
-same_to_action n a b h = let e = equal_actions a b h in λ i. same_name n.0 (e.0 i) && bytes_eq (encode_utf8_all n.1) (e.1 i)
+same_to_action n a b h = let e = equal_actions a b h in
+    λ i. same_name n.0 (e.0 i) && bytes_eq (encode_utf8_all n.1) (e.1 i)
 
 from_same_action : (a b : List (List ℕ) × List ℕ) (xs : List (List (List ℕ) × List ℕ)) → same_action a b ≡ true
     → among_actions xs a ≡ among_actions xs b
@@ -141,43 +153,56 @@ action_there old action there n = go (cases_Bool (same_action n action))
 pub name_at : (ks : List InternalName) (i : ℕ) (k name : InternalName) → i < length ks → k ≡ get_or ks i k
     → names_in_order k name ≡ Equal → among (map components_of ks) (components_of name) ≡ true
 name_at ks i k name h at e =
-    sym (name_sought (ids_of name) ks) ∙ list_any_at (λ x. is_eq (names_in_order x name)) ks i k h (ap (λ x. is_eq (names_in_order x name)) (sym at) ∙ ap is_eq e)
+    sym (name_sought (ids_of name) ks)
+    ∙ list_any_at (λ x. is_eq (names_in_order x name)) ks i k h
+    (ap (λ x. is_eq (names_in_order x name)) (sym at) ∙ ap is_eq e)
 
 pub name_put_in : (ks : List InternalName) (at : ℕ) (k : InternalName) (n : List (List ℕ))
     → among (map components_of (insert ks at k)) n ≡ (among (map components_of ks) n || same_name n (components_of k))
 name_put_in ks at k n =
-    any_map components_of (same_name n) (insert ks at k) ∙ put_in (λ x. same_name n (components_of x)) ks at k ∙ ap (λ b. b || same_name n (components_of k)) (sym (any_map components_of (same_name n) ks))
+    any_map components_of (same_name n) (insert ks at k) ∙ put_in (λ x. same_name n (components_of x)) ks at k
+    ∙ ap (λ b. b || same_name n (components_of k)) (sym (any_map components_of (same_name n) ks))
 
 pub action_put_in : (ks : List EntityUID) (at : ℕ) (k : EntityUID) (n : List (List ℕ) × List ℕ)
-    → among_actions (map action_of (insert ks at k)) n ≡ (among_actions (map action_of ks) n || same_action n (action_of k))
+    → among_actions (map action_of (insert ks at k)) n
+    ≡ (among_actions (map action_of ks) n || same_action n (action_of k))
 action_put_in ks at k n =
-    any_map action_of (same_action n) (insert ks at k) ∙ put_in (λ x. same_action n (action_of x)) ks at k ∙ ap (λ b. b || same_action n (action_of k)) (sym (any_map action_of (same_action n) ks))
+    any_map action_of (same_action n) (insert ks at k) ∙ put_in (λ x. same_action n (action_of x)) ks at k
+    ∙ ap (λ b. b || same_action n (action_of k)) (sym (any_map action_of (same_action n) ks))
 
 -- sorted names, and actions, are those that they were before
 pub names_sorted : (old new : List InternalName) → PassesAlike names_in_order old new → (n : List (List ℕ))
     → among (map components_of new) n ≡ among (map components_of old) n
 names_sorted old new same n =
     any_map components_of (same_name n) new
-    ∙ same (λ x. same_name n (components_of x)) (λ x y e. same_to_name n (components_of x) (components_of y) (sym (same_lists (ids_of x) (ids_of y)) ∙ e))
+    ∙ same (λ x. same_name n (components_of x))
+    (λ x y e. same_to_name n (components_of x) (components_of y) (sym (same_lists (ids_of x) (ids_of y)) ∙ e))
     ∙ sym (any_map components_of (same_name n) old)
 
 pub actions_sorted : (old new : List EntityUID) → PassesAlike uids_in_order old new → (n : List (List ℕ) × List ℕ)
     → among_actions (map action_of new) n ≡ among_actions (map action_of old) n
 actions_sorted old new same n =
     any_map action_of (same_action n) new
-    ∙ same (λ x. same_action n (action_of x)) (λ x y e. same_to_action n (action_of x) (action_of y) (sym (same_keys (action_key x) (action_key y)) ∙ e))
+    ∙ same (λ x. same_action n (action_of x))
+    (λ x y e. same_to_action n (action_of x) (action_of y) (sym (same_keys (action_key x) (action_key y)) ∙ e))
     ∙ sym (any_map action_of (same_action n) old)
 
 -- some names, and behind them others
 pub names_joined : (xs ys : List InternalName) (n : List (List ℕ))
     → among (map components_of (xs ++ ys)) n ≡ (among (map components_of xs) n || among (map components_of ys) n)
-names_joined xs ys n = ap (list_any (same_name n)) (map-append components_of xs ys) ∙ list_any-append (same_name n) (map components_of xs) (map components_of ys)
+names_joined xs ys n = ap (list_any (same_name n)) (map-append components_of xs ys)
+    ∙ list_any-append (same_name n) (map components_of xs) (map components_of ys)
 
 -- the type of the next action
 pub type_more : (actions : List EntityUID) (i : ℕ) (d : EntityUID) (n : List (List ℕ)) → i < length actions
     → d ≡ get_or actions i d
-    → (among (map (λ a. a.0) (map action_of (take i actions))) n || same_name n (components_of d.ty.name)) ≡ among (map (λ a. a.0) (map action_of (take (i + 1) actions))) n
+    → (among (map (λ a. a.0) (map action_of (take i actions))) n || same_name n (components_of d.ty.name))
+    ≡ among (map (λ a. a.0) (map action_of (take (i + 1) actions))) n
 type_more actions i d n h e =
     let test : EntityUID → Bool = λ a. same_name n (components_of a.ty.name) in
-    let types : (l : List EntityUID) → among (map (λ a. a.0) (map action_of l)) n ≡ list_any test l = λ l. any_map (λ (a : List (List ℕ) × List ℕ). a.0) (same_name n) (map action_of l) ∙ any_map action_of (λ a. same_name n a.0) l in
-    (λ k. types (take i actions) k || test (e k)) ∙ sym (list_any_more test actions i d h) ∙ sym (types (take (i + 1) actions))
+    let types : (l : List EntityUID)
+    → among (map (λ a. a.0) (map action_of l)) n ≡ list_any test l =
+    λ l. any_map (λ (a : List (List ℕ) × List ℕ). a.0) (same_name n) (map action_of l)
+    ∙ any_map action_of (λ a. same_name n a.0) l in
+    (λ k. types (take i actions) k || test (e k)) ∙ sym (list_any_more test actions i d h)
+    ∙ sym (types (take (i + 1) actions))

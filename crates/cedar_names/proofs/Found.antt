@@ -34,7 +34,8 @@ any_map h f [] = refl
 any_map h f (k ∷ ks) = ap (λ b. f (h k) || b) (any_map h f ks)
 
 -- S is whether the order sees no difference, by what h sees of the keys
-module _ {K N : Type 0} (R : K → K → Ordering) (h : K → N) (S : N → N → Bool) (e : (x y : K) → is_eq (R x y) ≡ S (h x) (h y)) where
+module _ {K N : Type 0} (R : K → K → Ordering) (h : K → N) (S : N → N → Bool)
+    (e : (x y : K) → is_eq (R x y) ≡ S (h x) (h y)) where
   pub found : (q : K) (ks : List K) → list_any (is_at (R q)) ks ≡ list_any (λ k. S (h q) (h k)) ks
   found q [] = refl
   found q (k ∷ ks) = λ i. e q k i || found q ks i
@@ -47,7 +48,9 @@ module _ {K N : Type 0} (R : K → K → Ordering) (h : K → N) (S : N → N �
     where
       turn : list_any (λ x. f (h x)) (insert_key R xs k) ≡ (list_any (λ x. f (h x)) xs || f (h k)) → (o : Ordering)
           → R k x ≡ o
-          → list_any (λ x. f (h x)) (match_ordering o (k ∷ x ∷ xs) (x ∷ xs) (x ∷ insert_key R xs k)) ≡ ((f (h x) || list_any (λ x. f (h x)) xs) || f (h k))
+          → list_any (λ x. f (h x)) (match_ordering o (k ∷ x ∷ xs) (x ∷ xs) (x ∷ insert_key R xs k))
+          ≡ ((f (h x) || list_any (λ x. f (h x)) xs) || f (h k))
       turn rest Less lt = or_swap (f (h k)) (f (h x)) (list_any (λ x. f (h x)) xs)
-      turn rest Equal eq = or_there (f (h x)) (list_any (λ x. f (h x)) xs) ∙ ap (λ b. (f (h x) || list_any (λ x. f (h x)) xs) || b) (sym (same (h k) (h x) (sym (e k x) ∙ ap is_eq eq)))
+      turn rest Equal eq = or_there (f (h x)) (list_any (λ x. f (h x)) xs)
+          ∙ ap (λ b. (f (h x) || list_any (λ x. f (h x)) xs) || b) (sym (same (h k) (h x) (sym (e k x) ∙ ap is_eq eq)))
       turn rest Greater gt = ap (λ b. f (h x) || b) rest ∙ or_right (f (h x)) (list_any (λ x. f (h x)) xs) (f (h k))

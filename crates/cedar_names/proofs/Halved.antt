@@ -1,5 +1,6 @@
 -- What a comparison says of the items before it and behind it.
-use Rattle.std.proofs.Common.{◌≡◌, ℕ, suc, ◌+◌, ◌<◌, List, [], ◌∷◌, length, get_or, Bool, true, false, ◌||◌, Ordering, refl, sym, ap, ◌∙◌, subst, arith, inl, inr}
+use Rattle.std.proofs.Common.{◌≡◌, ℕ, suc, ◌+◌, ◌<◌, List, [], ◌∷◌, length, get_or, Bool, true, false, ◌||◌, Ordering}
+use Rattle.std.proofs.Common.{refl, sym, ap, ◌∙◌, subst, arith, inl, inr}
 use Rattle.std.specs.declared.cmp.Ordering.TheVariants.{Less, Greater}
 use Rattle.std.specs.Ordering.{is_eq}
 use Rattle.std.specs.List.{list_any}
@@ -23,7 +24,8 @@ module _ {T : Type 0} (place : T → Ordering) where
 
   pub miss : (xs : List T) (at : ℕ) → StandsWithin place xs at at → list_any (λ x. is_eq (place x)) xs ≡ false
   miss xs at gap =
-      none_passes (λ x. is_eq (place x)) xs (λ i d l. elim (cases_lt i at) [ inl lt ↦ ap is_eq (gap.below i d lt) | inr ge ↦ ap is_eq (gap.above i d ge l) ])
+      none_passes (λ x. is_eq (place x)) xs
+      (λ i d l. elim (cases_lt i at) [ inl lt ↦ ap is_eq (gap.below i d lt) | inr ge ↦ ap is_eq (gap.above i d ge l) ])
 
   module _ (R : T → T → Ordering) where
     -- the item in the middle is below what is sought, and so is each before it
@@ -31,12 +33,14 @@ module _ {T : Type 0} (place : T → Ordering) where
         → (xs : List T) (low high middle : ℕ) (k : T) → IsStrictlySortedBy R xs → StandsWithin place xs low high
         → middle < high → k ≡ get_or xs middle k → place k ≡ Less → StandsWithin place xs (middle + 1) high
     below_more falls xs low high middle k up gap h at less =
-        let here : (d : T) → place (get_or xs middle d) ≡ Less = λ d. ap place (get_or_default xs middle d k (omega (arith, gap.in_range)) ∙ sym at) ∙ less in
+        let here : (d : T) → place (get_or xs middle d)
+        ≡ Less = λ d. ap place (get_or_default xs middle d k (omega (arith, gap.in_range)) ∙ sym at) ∙ less in
         record {
           in_range = gap.in_range;
           below = λ i d lt. elim (cases_eq i middle) [
             | inl same ↦ subst (λ j. place (get_or xs j d) ≡ Less) (sym same) (here d)
-            | inr other ↦ falls (get_or xs i d) (get_or xs middle d) (Less-from_sorted R xs i middle d up (omega arith) (omega (arith, gap.in_range))) (here d)
+            | inr other ↦ falls (get_or xs i d) (get_or xs middle d)
+                (Less-from_sorted R xs i middle d up (omega arith) (omega (arith, gap.in_range))) (here d)
           ];
           above = gap.above;
         }
@@ -46,12 +50,14 @@ module _ {T : Type 0} (place : T → Ordering) where
         → (xs : List T) (low high middle : ℕ) (k : T) → IsStrictlySortedBy R xs → StandsWithin place xs low high
         → middle < high → k ≡ get_or xs middle k → place k ≡ Greater → StandsWithin place xs low middle
     above_more rises xs low high middle k up gap h at greater =
-        let here : (d : T) → place (get_or xs middle d) ≡ Greater = λ d. ap place (get_or_default xs middle d k (omega (arith, gap.in_range)) ∙ sym at) ∙ greater in
+        let here : (d : T) → place (get_or xs middle d)
+        ≡ Greater = λ d. ap place (get_or_default xs middle d k (omega (arith, gap.in_range)) ∙ sym at) ∙ greater in
         record {
           in_range = omega (arith, gap.in_range);
           below = gap.below;
           above = λ i d ge lt. elim (cases_eq i middle) [
             | inl same ↦ subst (λ j. place (get_or xs j d) ≡ Greater) (sym same) (here d)
-            | inr other ↦ rises (get_or xs middle d) (get_or xs i d) (Less-from_sorted R xs middle i d up (omega arith) lt) (here d)
+            | inr other ↦ rises (get_or xs middle d) (get_or xs i d)
+                (Less-from_sorted R xs middle i d up (omega arith) lt) (here d)
           ];
         }

@@ -1,5 +1,6 @@
 -- Words of a rising list, by their texts.
-use Rattle.std.proofs.Common.{◌≡◌, ℕ, ◌+◌, ◌<◌, ◌≤◌, Bool, true, false, List, [], ◌∷◌, length, get_or, refl, sym, ap, ◌∙◌, subst, arith, inl, inr}
+use Rattle.std.proofs.Common.{◌≡◌, ℕ, ◌+◌, ◌<◌, ◌≤◌, Bool, true, false, List, [], ◌∷◌, length, get_or, refl, sym, ap}
+use Rattle.std.proofs.Common.{◌∙◌, subst, arith, inl, inr}
 use Rattle.std.specs.declared.cmp.Ordering.{Ordering}
 use Rattle.std.specs.declared.cmp.Ordering.TheVariants.{Less, Equal, Greater}
 use Rattle.std.specs.Ordering.{nat_cmp, is_eq, ordering_reverse}
@@ -23,7 +24,8 @@ use Rattle.cedar_data.proofs.Ascii.{word_ascii}
 use Rattle.cedar_identifiers.specs.declared.unreserved_id.UnreservedId.{UnreservedId}
 
 id_bytes : (n : UnreservedId) → encode_utf8_all n.id.text ≡ n.id.text
-id_bytes n = encodes-IsAscii n.id.text (word_ascii n.id.text (first_so (is_word n.id.text) (not (is_reserved n.id.text)) n.id.word))
+id_bytes n = encodes-IsAscii n.id.text
+    (word_ascii n.id.text (first_so (is_word n.id.text) (not (is_reserved n.id.text)) n.id.word))
 
 -- the order of words is that of their bytes
 pub by_bytes : (x y : UnreservedId) → text_cmp x.id.text y.id.text ≡ slice_cmp nat_cmp x.id.text y.id.text
@@ -39,8 +41,10 @@ at_text R e x y = ap is_eq (e x y) ∙ is_eq-slice_cmp x.id.text y.id.text
 pub same_text : {A : Type 0} (f : List ℕ → A) (a b : List ℕ) → bytes_eq a b ≡ true → f a ≡ f b
 same_text f a b h = ap f ((bytes_eq-Decides a b).0 h)
 
-module _ (R : UnreservedId → UnreservedId → Ordering) (e : (x y : UnreservedId) → R x y ≡ slice_cmp nat_cmp x.id.text y.id.text) where
-  module _ (o : IsTotalOrder (slice_cmp nat_cmp)) (names : List UnreservedId) (up : IsStrictlySortedBy R names) (q : List ℕ) where
+module _ (R : UnreservedId → UnreservedId → Ordering)
+    (e : (x y : UnreservedId) → R x y ≡ slice_cmp nat_cmp x.id.text y.id.text) where
+  module _ (o : IsTotalOrder (slice_cmp nat_cmp)) (names : List UnreservedId) (up : IsStrictlySortedBy R names)
+      (q : List ℕ) where
     rises : (i j : ℕ) (d : UnreservedId) → i < j → j < length names
         → slice_cmp nat_cmp (get_or names i d).id.text (get_or names j d).id.text ≡ Less
     rises i j d lt h = sym (e (get_or names i d) (get_or names j d)) ∙ Less-from_sorted R names i j d up lt h
@@ -55,10 +59,12 @@ module _ (R : UnreservedId → UnreservedId → Ordering) (e : (x y : Unreserved
         → slice_cmp nat_cmp m.id.text q ≡ Less → (k : ℕ) (d : UnreservedId) → k < middle + 1
         → slice_cmp nat_cmp (get_or names k d).id.text q ≡ Less
     below_more low middle m below h at less k d lt =
-        let here : slice_cmp nat_cmp (get_or names middle d).id.text q ≡ Less = ap (λ x. slice_cmp nat_cmp x.id.text q) (get_or_default names middle d m h ∙ sym at) ∙ less in
+        let here : slice_cmp nat_cmp (get_or names middle d).id.text q
+        ≡ Less = ap (λ x. slice_cmp nat_cmp x.id.text q) (get_or_default names middle d m h ∙ sym at) ∙ less in
         elim (cases_eq k middle) [
           | inl same ↦ subst (λ i. slice_cmp nat_cmp (get_or names i d).id.text q ≡ Less) (sym same) here
-          | inr other ↦ o.trans (get_or names k d).id.text (get_or names middle d).id.text q (rises k middle d (omega arith) h) here
+          | inr other ↦ o.trans (get_or names k d).id.text (get_or names middle d).id.text q
+              (rises k middle d (omega arith) h) here
         ]
 
     -- a word above the text has those behind it above too
@@ -67,10 +73,13 @@ module _ (R : UnreservedId → UnreservedId → Ordering) (e : (x y : Unreserved
         → (k : ℕ) (d : UnreservedId) → middle ≤ k → k < length names
         → slice_cmp nat_cmp (get_or names k d).id.text q ≡ Greater
     above_more middle m h at greater k d ge lt =
-        let here : slice_cmp nat_cmp (get_or names middle d).id.text q ≡ Greater = ap (λ x. slice_cmp nat_cmp x.id.text q) (get_or_default names middle d m h ∙ sym at) ∙ greater in
+        let here : slice_cmp nat_cmp (get_or names middle d).id.text q
+        ≡ Greater = ap (λ x. slice_cmp nat_cmp x.id.text q) (get_or_default names middle d m h ∙ sym at) ∙ greater in
         elim (cases_eq k middle) [
           | inl same ↦ subst (λ i. slice_cmp nat_cmp (get_or names i d).id.text q ≡ Greater) (sym same) here
-          | inr other ↦ turned q (get_or names k d).id.text Less (o.trans q (get_or names middle d).id.text (get_or names k d).id.text (turned (get_or names middle d).id.text q Greater here) (rises middle k d (omega arith) lt))
+          | inr other ↦ turned q (get_or names k d).id.text Less
+              (o.trans q (get_or names middle d).id.text (get_or names k d).id.text
+              (turned (get_or names middle d).id.text q Greater here) (rises middle k d (omega arith) lt))
         ]
 
 -- the text of a word that is equal is there
@@ -80,7 +89,8 @@ pub hit : (names : List UnreservedId) (q : List ℕ) (at : ℕ) (m : UnreservedI
 hit names q at m h is e =
     let same : bytes_eq m.id.text q ≡ true = sym (is_eq-slice_cmp m.id.text q) ∙ ap is_eq e in
     let texts : m.id.text ≡ q = (bytes_eq-Decides m.id.text q).0 same in
-    list_any_at (λ n. bytes_eq q n.id.text) names at m h (ap (λ n. bytes_eq q n.id.text) (sym is) ∙ (bytes_eq-Decides q m.id.text).1 (sym texts))
+    list_any_at (λ n. bytes_eq q n.id.text) names at m h
+    (ap (λ n. bytes_eq q n.id.text) (sym is) ∙ (bytes_eq-Decides q m.id.text).1 (sym texts))
 
 unlike : (q t : List ℕ) → bytes_eq t q ≡ false → bytes_eq q t ≡ false
 unlike q t h = told (bytes_eq q t) refl
@@ -92,11 +102,14 @@ unlike q t h = told (bytes_eq q t) refl
 -- and one that is below all from a place on and above all before it is not
 pub miss : (names : List UnreservedId) (q : List ℕ) (at : ℕ)
     → ((k : ℕ) (d : UnreservedId) → k < at → slice_cmp nat_cmp (get_or names k d).id.text q ≡ Less)
-    → ((k : ℕ) (d : UnreservedId) → at ≤ k → k < length names → slice_cmp nat_cmp (get_or names k d).id.text q ≡ Greater)
+    → ((k : ℕ) (d : UnreservedId) → at ≤ k → k < length names
+    → slice_cmp nat_cmp (get_or names k d).id.text q ≡ Greater)
     → list_any (λ n. bytes_eq q n.id.text) names ≡ false
 miss names q at below above = list_any_none (λ n. bytes_eq q n.id.text) names (λ k d h. elim (cases_lt k at) [
-  | inr ge ↦ unlike q (get_or names k d).id.text (sym (is_eq-slice_cmp (get_or names k d).id.text q) ∙ ap is_eq (above k d ge h))
-  | inl lt ↦ unlike q (get_or names k d).id.text (sym (is_eq-slice_cmp (get_or names k d).id.text q) ∙ ap is_eq (below k d lt))
+  | inr ge ↦ unlike q (get_or names k d).id.text
+      (sym (is_eq-slice_cmp (get_or names k d).id.text q) ∙ ap is_eq (above k d ge h))
+  | inl lt ↦ unlike q (get_or names k d).id.text
+      (sym (is_eq-slice_cmp (get_or names k d).id.text q) ∙ ap is_eq (below k d lt))
 ])
 
 -- four words whose texts rise
@@ -108,5 +121,8 @@ pub four_rise : (R : UnreservedId → UnreservedId → Ordering)
     → IsStrictlySortedBy R (a ∷ b ∷ c ∷ d ∷ [])
 unfolding IsStrictlySortedBy
 four_rise R e a b c d s t u v p q r w st su sv tu tv uv =
-    let less : (x y : UnreservedId) (m n : List ℕ) → x.id.text ≡ m → y.id.text ≡ n → slice_cmp nat_cmp m n ≡ Less → R x y ≡ Less = λ x y m n k l h. e x y ∙ (λ i. slice_cmp nat_cmp (k i) (l i)) ∙ h in
-    ((less a b s t p q st, (less a c s u p r su, (less a d s v p w sv, tt))), ((less b c t u q r tu, (less b d t v q w tv, tt)), ((less c d u v r w uv, tt), (tt, tt))))
+    let less : (x y : UnreservedId) (m n : List ℕ) → x.id.text ≡ m → y.id.text ≡ n → slice_cmp nat_cmp m n ≡ Less
+    → R x y ≡ Less = λ x y m n k l h. e x y ∙ (λ i. slice_cmp nat_cmp (k i) (l i)) ∙ h in (
+      (less a b s t p q st, (less a c s u p r su, (less a d s v p w sv, tt))),
+      ((less b c t u q r tu, (less b d t v q w tv, tt)), ((less c d u v r w uv, tt), (tt, tt))),
+    )

@@ -4,7 +4,8 @@ use Rattle.cedar_names.specs.Meaning.{PlainType, Attributes, no_more, attribute,
 
 -- an entity type without an ancestor, with these attributes and tags
 abbrev pub plain_entity : List (List ℕ) → Attributes → EntityMeaning
-plain_entity name attributes = record { name = name; is_external = false; ancestors = []; attributes = attributes; tags = None; choices = None }
+plain_entity name attributes =
+    record { name = name; is_external = false; ancestors = []; attributes = attributes; tags = None; choices = None }
 
 abbrev pub album : List (List ℕ)
 album = codes "N" ∷ codes "Album" ∷ []
@@ -18,7 +19,11 @@ any_action = (codes "Action" ∷ [], codes "w")
 -- attributes, a record in a record, an optional attribute and one that is no word, in a namespace
 abbrev pub nested_records : SchemaMeaning
 nested_records = record {
-  entities = record (plain_entity album (attribute (codes "owner") true (PlainType.Entity user) (attribute (codes "x") true (PlainType.Rec no_more) (attribute (codes "zip code") false (PlainType.Set PlainType.String) no_more)))) { ancestors = album ∷ user ∷ [] } ∷ [];
+  entities = record (plain_entity album
+      (attribute (codes "owner") true (PlainType.Entity user)
+      (attribute (codes "x") true (PlainType.Rec no_more)
+      (attribute (codes "zip code") false (PlainType.Set PlainType.String) no_more))))
+      { ancestors = album ∷ user ∷ [] } ∷ [];
   actions = [];
 }
 
@@ -29,7 +34,8 @@ nested_records_text = codes "namespace N {\n  entity Album in [N::Album, User] =
 -- tags stand at no indentation
 abbrev pub record_tags : SchemaMeaning
 record_tags = record {
-  entities = record (plain_entity (codes "N" ∷ codes "A" ∷ []) no_more) { tags = Some (PlainType.Rec (attribute (codes "k") true PlainType.Long no_more)) } ∷ [];
+  entities = record (plain_entity (codes "N" ∷ codes "A" ∷ []) no_more)
+      { tags = Some (PlainType.Rec (attribute (codes "k") true PlainType.Long no_more)) } ∷ [];
   actions = [];
 }
 
@@ -40,10 +46,35 @@ record_tags_text = codes "namespace N {\n  entity A tags {\n  k: __cedar::Long,\
 -- an enum, an external entity type, and actions behind them
 abbrev pub actions_last : SchemaMeaning
 actions_last = record {
-  entities = record (plain_entity (codes "E" ∷ []) no_more) { choices = Some (codes "a'" ∷ (127 ∷ []) ∷ []) } ∷ record (plain_entity user no_more) { is_external = true } ∷ [];
+  entities = record (plain_entity (codes "E" ∷ []) no_more) { choices = Some (codes "a'" ∷ (127 ∷ []) ∷ []) } ∷ record
+      (plain_entity user no_more) { is_external = true } ∷ [];
   actions =
-      record { ty = codes "Action" ∷ []; id = codes "v"; is_external = false; ancestors = any_action ∷ []; principals = user ∷ []; resources = user ∷ []; context = attribute (codes "in") true (PlainType.Ext (codes "ipaddr")) no_more }
-      ∷ record { ty = codes "Action" ∷ []; id = codes "w"; is_external = true; ancestors = []; principals = []; resources = []; context = no_more } ∷ record { ty = codes "Action" ∷ []; id = codes "x"; is_external = false; ancestors = []; principals = user ∷ []; resources = user ∷ []; context = no_more } ∷ [];
+      record {
+        ty = codes "Action" ∷ [];
+        id = codes "v";
+        is_external = false;
+        ancestors = any_action ∷ [];
+        principals = user ∷ [];
+        resources = user ∷ [];
+        context = attribute (codes "in") true (PlainType.Ext (codes "ipaddr")) no_more;
+      }
+      ∷ record {
+        ty = codes "Action" ∷ [];
+        id = codes "w";
+        is_external = true;
+        ancestors = [];
+        principals = [];
+        resources = [];
+        context = no_more;
+      } ∷ record {
+        ty = codes "Action" ∷ [];
+        id = codes "x";
+        is_external = false;
+        ancestors = [];
+        principals = user ∷ [];
+        resources = user ∷ [];
+        context = no_more;
+      } ∷ [];
 }
 
 -- its canonical text
@@ -95,7 +126,8 @@ enum_with_more_text = codes "entity A enum [\"a\"];\n"
 abbrev pub three_namespaces : SchemaMeaning
 three_namespaces = record {
   entities =
-      plain_entity (codes "B" ∷ codes "A" ∷ codes "X" ∷ []) no_more ∷ plain_entity (codes "B" ∷ codes "Y" ∷ []) no_more ∷ plain_entity (codes "Z" ∷ []) no_more ∷ [];
+      plain_entity (codes "B" ∷ codes "A" ∷ codes "X" ∷ []) no_more ∷ plain_entity (codes "B" ∷ codes "Y" ∷ [])
+      no_more ∷ plain_entity (codes "Z" ∷ []) no_more ∷ [];
   actions = [];
 }
 

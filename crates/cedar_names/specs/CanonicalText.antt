@@ -1,5 +1,6 @@
 -- The texts of a meaning, as their bytes: functions of the meaning alone.
-use Rattle.std.specs.Prelude.{ℕ, zero, suc, ◌+◌, Bool, true, false, List, [], ◌∷◌, ◌++◌, Option, Some, None, map, filter, codes, if◌then◌else◌}
+use Rattle.std.specs.Prelude.{ℕ, zero, suc, ◌+◌, Bool, true, false, List, [], ◌∷◌, ◌++◌, Option, Some, None, map}
+use Rattle.std.specs.Prelude.{filter, codes, if◌then◌else◌}
 use Rattle.std.specs.BTreeSet.{insert_key}
 use Rattle.std.specs.Cmp.Lexicographic.{slice_cmp}
 use Rattle.cedar_data.specs.Text.{text_cmp}
@@ -8,7 +9,8 @@ use Rattle.cedar_data.specs.Rows.{joined_by}
 use Rattle.cedar_identifiers.specs.Words.{is_id}
 use Rattle.cedar_identifiers.specs.Names.{name_text}
 use Rattle.cedar_names.specs.Definitions.{same_name}
-use Rattle.cedar_names.specs.Meaning.{PlainType, Attributes, no_more, attribute, EntityMeaning, ActionMeaning, SchemaMeaning}
+use Rattle.cedar_names.specs.Meaning.{PlainType, Attributes, no_more, attribute, EntityMeaning, ActionMeaning}
+use Rattle.cedar_names.specs.Meaning.{SchemaMeaning}
 
 abbrev pub line_end : List ℕ
 line_end = 10 ∷ []
@@ -52,7 +54,8 @@ abbrev mutual
   type_text closing base PlainType.Long = codes "__cedar::Long"
   type_text closing base PlainType.String = codes "__cedar::String"
   type_text closing base (PlainType.Set element) = codes "Set<" ++ (type_text closing base element ++ codes ">")
-  type_text closing base (PlainType.Rec attributes) = codes "{" ++ (break_before attributes ++ (lines_text closing base attributes ++ (spaces base ++ codes "}")))
+  type_text closing base (PlainType.Rec attributes) =
+      codes "{" ++ (break_before attributes ++ (lines_text closing base attributes ++ (spaces base ++ codes "}")))
   type_text closing base (PlainType.Entity name) = name_text name
   type_text closing base (PlainType.Ext name) = codes "__cedar::" ++ name
 
@@ -60,7 +63,8 @@ abbrev mutual
   lines_text closing base no_more = []
   lines_text closing base (attribute name required ty others) =
       spaces (base + 2) ++ (attribute_name name ++ ((if required then [] else codes "?") ++ (codes ": "
-      ++ (type_text closing (base + 2) ty ++ (comma_behind closing others ++ (line_end ++ lines_text closing base others))))))
+      ++ (type_text closing (base + 2) ty
+      ++ (comma_behind closing others ++ (line_end ++ lines_text closing base others))))))
 
 abbrev pub record_text : Bool → ℕ → Attributes → List ℕ
 record_text closing base attributes = type_text closing base (PlainType.Rec attributes)
@@ -77,7 +81,8 @@ parents_text (name ∷ names) = codes " in " ++ list_text (name ∷ names)
 -- ` = ` and the record, where there are attributes
 abbrev pub shape_text : Bool → ℕ → Attributes → List ℕ
 shape_text closing base no_more = []
-shape_text closing base (attribute name required ty others) = codes " = " ++ record_text closing base (attribute name required ty others)
+shape_text closing base (attribute name required ty others) =
+    codes " = " ++ record_text closing base (attribute name required ty others)
 
 -- ` tags ` and the type, where there are tags; the type stands at no indentation
 abbrev pub tags_text : Bool → Option PlainType → List ℕ
@@ -90,11 +95,13 @@ entity_ancestors_text entity = parents_text (map name_text entity.ancestors)
 -- a standard entity type: its ancestors, its attributes and its tags, each where it has some
 abbrev pub standard_head : Bool → ℕ → EntityMeaning → List ℕ
 standard_head closing base entity =
-    codes "entity " ++ (basename entity.name ++ (entity_ancestors_text entity ++ (shape_text closing base entity.attributes ++ tags_text closing entity.tags)))
+    codes "entity " ++ (basename entity.name
+    ++ (entity_ancestors_text entity ++ (shape_text closing base entity.attributes ++ tags_text closing entity.tags)))
 
 -- an enum: its choices and nothing else
 abbrev pub enum_head : EntityMeaning → List (List ℕ) → List ℕ
-enum_head entity choices = codes "entity " ++ (basename entity.name ++ (codes " enum " ++ list_text (map quoted choices)))
+enum_head entity choices = codes "entity "
+    ++ (basename entity.name ++ (codes " enum " ++ list_text (map quoted choices)))
 
 -- an external entity type: its ancestors and nothing else
 abbrev pub external_head : EntityMeaning → List ℕ
@@ -107,7 +114,8 @@ own_head closing base entity (Some choices) = enum_head entity choices
 
 abbrev pub entity_type_text : Bool → ℕ → EntityMeaning → List ℕ
 entity_type_text closing base entity =
-    spaces base ++ ((if entity.is_external then external_head entity else own_head closing base entity entity.choices) ++ (codes ";" ++ line_end))
+    spaces base ++ ((if entity.is_external then external_head entity else own_head closing base entity entity.choices)
+    ++ (codes ";" ++ line_end))
 
 -- an action by its type and id
 abbrev pub action_name_text : List (List ℕ) × List ℕ → List ℕ
@@ -115,7 +123,8 @@ action_name_text action = name_text action.0 ++ (codes "::" ++ quoted action.1)
 
 abbrev pub context_text : Bool → ℕ → Attributes → List ℕ
 context_text closing base no_more = codes "{}"
-context_text closing base (attribute name required ty others) = record_text closing base (attribute name required ty others)
+context_text closing base (attribute name required ty others) =
+    record_text closing base (attribute name required ty others)
 
 -- what an action applies to, where it has principals and resources
 abbrev pub applies_text : Bool → ℕ → List (List (List ℕ)) → List (List (List ℕ)) → Attributes → List ℕ
@@ -125,7 +134,8 @@ applies_text closing base (p ∷ ps) (r ∷ rs) context =
     codes " appliesTo {" ++ (line_end
     ++ (spaces (base + 2) ++ (codes "principal: " ++ (list_text (map name_text (p ∷ ps)) ++ (codes "," ++ (line_end
     ++ (spaces (base + 2) ++ (codes "resource: " ++ (list_text (map name_text (r ∷ rs)) ++ (codes "," ++ (line_end
-    ++ (spaces (base + 2) ++ (codes "context: " ++ (context_text closing (base + 2) context ++ ((if closing then codes "," else []) ++ (line_end
+    ++ (spaces (base + 2) ++ (codes "context: "
+    ++ (context_text closing (base + 2) context ++ ((if closing then codes "," else []) ++ (line_end
     ++ (spaces base ++ codes "}")))))))))))))))))
 
 -- the name and the ancestors of an action
@@ -158,10 +168,12 @@ items_text closing base m n =
 -- the items of the empty namespace stand alone, and those of another in its braces
 abbrev pub namespace_text : Bool → SchemaMeaning → List (List ℕ) → List ℕ
 namespace_text closing m [] = items_text closing 0 m []
-namespace_text closing m (c ∷ cs) = codes "namespace " ++ (name_text (c ∷ cs) ++ (codes " {" ++ (line_end ++ (items_text closing 2 m (c ∷ cs) ++ (codes "}" ++ line_end)))))
+namespace_text closing m (c ∷ cs) =
+    codes "namespace " ++ (name_text (c ∷ cs)
+    ++ (codes " {" ++ (line_end ++ (items_text closing 2 m (c ∷ cs) ++ (codes "}" ++ line_end)))))
 
--- The namespaces with an item, with an empty line between two. Where it is `closing`, a comma stands behind each member of a
--- record and of an `appliesTo` block; else only between two.
+-- The namespaces with an item, with an empty line between two. Where it is `closing`, a comma stands behind each member
+-- of a record and of an `appliesTo` block; else only between two.
 abbrev pub schema_text : Bool → SchemaMeaning → List ℕ
 schema_text closing m = joined_by line_end (map (namespace_text closing m) (namespaces m))
 

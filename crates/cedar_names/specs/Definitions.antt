@@ -43,7 +43,8 @@ AddsNames old new more = (n : List (List ℕ)) → among new n ≡ (among old n 
 -- the actions are the old ones and this one
 abbrev pub AddsAction : List (List (List ℕ) × List ℕ) → List (List (List ℕ) × List ℕ) → List (List ℕ) × List ℕ
     → Type 0
-AddsAction old new action = (a : List (List ℕ) × List ℕ) → among_actions new a ≡ (among_actions old a || same_action a action)
+AddsAction old new action = (a : List (List ℕ) × List ℕ)
+    → among_actions new a ≡ (among_actions old a || same_action a action)
 
 -- the names are the old ones and the types of the actions
 abbrev pub AddsTypes : List (List (List ℕ)) → List (List (List ℕ)) → List (List (List ℕ) × List ℕ) → Type 0

@@ -46,7 +46,8 @@ pub ids_total : IsTotalOrder (slice_cmp ids_in_order)
 ids_total = lists_total (on_total (λ (i : Id). encode_utf8_all i.text) nat_list_cmp_total)
 
 pub keys_total : IsTotalOrder keys_in_order
-keys_total = then_total (on_total (λ (a : ActionKey). a.0) ids_total) (on_total (λ (a : ActionKey). encode_utf8_all a.1) nat_list_cmp_total)
+keys_total = then_total (on_total (λ (a : ActionKey). a.0) ids_total)
+    (on_total (λ (a : ActionKey). encode_utf8_all a.1) nat_list_cmp_total)
 
 pub names_total : IsTotalOrder names_in_order
 names_total = on_total ids_of ids_total
@@ -63,4 +64,5 @@ module _ {T K : Type 0} {R : K → K → Ordering} (o : IsTotalOrder R) (key : T
   -- an item above one that is above what is sought is above it
   pub is_above : (x y : T) → R (key x) (key y) ≡ Less → R (key x) sought ≡ Greater → R (key y) sought ≡ Greater
   is_above x y first second =
-      o.antisymm (key y) sought ∙ ap ordering_reverse (o.trans sought (key x) (key y) (o.antisymm sought (key x) ∙ ap ordering_reverse second) first)
+      o.antisymm (key y) sought ∙ ap ordering_reverse
+      (o.trans sought (key x) (key y) (o.antisymm sought (key x) ∙ ap ordering_reverse second) first)

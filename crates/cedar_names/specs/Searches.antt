@@ -19,8 +19,8 @@ abbrev pub one_if : Bool → ℕ
 one_if true = 1
 one_if false = 0
 
--- what was counted from old to new, where n items are searched: two to the power of it is at most 2n + 1, and where there
--- is an item, at least one step was counted
+-- what was counted from old to new, where n items are searched: two to the power of it is at most 2n + 1, and where
+-- there is an item, at least one step was counted
 pub record IsSpent (counts : Bool) (old new n : ℕ) : Type 0 where
   pub counted : old ≤ new
   pub cost : 2 ^ (new - old) ≤ 2 * n + 1

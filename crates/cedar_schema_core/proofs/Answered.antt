@@ -26,14 +26,16 @@ module _ (text : List ℕ) (table : ExtensionTable) where
 
   -- `check` writes the counts
   pub counts_written : (r : Recovered) (line : List ℕ) → IsRecovered text table r
-      → encode_utf8_all line ≡ decimal r.entity_types ++ (codes " entity types, " ++ (decimal r.actions ++ codes " actions\n"))
+      → encode_utf8_all line ≡ decimal r.entity_types
+      ++ (codes " entity types, " ++ (decimal r.actions ++ codes " actions\n"))
       → IsWrittenBy (Check table) text (encode_utf8_all line) r.warnings.items
   counts_written r line h is = record {
     writes = (
       h.meaning,
       h.means,
       h.warns,
-      is ∙ (λ i. decimal (h.entity_types i) ++ (codes " entity types, " ++ (decimal (h.actions i) ++ codes " actions\n"))),
+      is ∙ (λ i. decimal (h.entity_types i)
+          ++ (codes " entity types, " ++ (decimal (h.actions i) ++ codes " actions\n"))),
     );
   }
 

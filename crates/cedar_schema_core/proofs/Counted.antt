@@ -8,7 +8,8 @@ use Rattle.schema_build_types.specs.declared.entity_type.ValidatorEntityType.{Va
 use Rattle.schema_build_types.specs.declared.action.ValidatorActionId.{ValidatorActionId}
 use Rattle.schema_build_types.specs.Standing.{SchemaStandsFor}
 
-module _ (entities : List (Name × ValidatorEntityType)) (actions : List (EntityUID × ValidatorActionId)) (m : SchemaMeaning)
+module _ (entities : List (Name × ValidatorEntityType)) (actions : List (EntityUID × ValidatorActionId))
+    (m : SchemaMeaning)
     (stands : SchemaStandsFor entities actions m) where
   pub entities_counted : length entities ≡ length m.entities
   entities_counted = sym (length-map entities _) ∙ ap (λ c. length c.entities) stands ∙ length-map m.entities _

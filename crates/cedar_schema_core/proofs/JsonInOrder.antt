@@ -16,7 +16,8 @@ use Rattle.schema_json.specs.declared.common_type.CommonTypeId.{CommonTypeId}
 use Rattle.schema_json.specs.declared.fragment.Fragment.{Fragment}
 use Rattle.schema_json.specs.declared.fragment.NamespaceDefinition.{NamespaceDefinition}
 use Rattle.schema_json_shapes.specs.Said.{AreEntries, no_entry, next_entry, IsId, IsText, IsMap, IsMapOrNone}
-use Rattle.schema_json_shapes.specs.Shapes.{IsCommonType, IsEntityType, IsNamespaceKey, IsCommonId, id_order, common_id_order, namespace_order, IsAction, IsNamespace, IsFragment}
+use Rattle.schema_json_shapes.specs.Shapes.{IsCommonType, IsEntityType, IsNamespaceKey, IsCommonId, id_order}
+use Rattle.schema_json_shapes.specs.Shapes.{common_id_order, namespace_order, IsAction, IsNamespace, IsFragment}
 use Rattle.schema_convert_types.specs.Declarations.{as_written}
 use Rattle.schema_convert_types.specs.Fragments.{namespace_cmp}
 use Rattle.schema_build_hierarchy.proofs.Exact.{text_total}
@@ -45,7 +46,8 @@ module _ {K V : Type 0} (order : K → K → Ordering) (total : IsTotalOrder ord
   map_rises (object ms) es h =
       subst (λ (xs : List (K × V)). IsStrictlySortedBy order (keys_of xs)) (sym h.2) (keys_rise order total h.0)
 
-  rises : (o : Option Data) (es : List (K × V)) → IsMapOrNone order Key Value o es → IsStrictlySortedBy order (keys_of es)
+  rises : (o : Option Data) (es : List (K × V)) → IsMapOrNone order Key Value o es
+      → IsStrictlySortedBy order (keys_of es)
   rises None es h =
       subst (λ (xs : List (K × V)). IsStrictlySortedBy order (keys_of xs)) (sym h)
       (keys_rise {X = V} order total [])
@@ -85,9 +87,12 @@ module _ (P : Definition → Type 0) (each : (ms : Members) (n : Definition) →
 pub json_in_order : (d : Data) (f : Fragment RawName as_written) → IsFragment d f → IsInOrder f
 json_in_order d f h = record {
   namespaces = subst (λ R. IsStrictlySortedBy R (keys_of f.0)) (sym (one_order ∙ same_namespaces))
-      (map_rises namespace_order (subst IsTotalOrder same_namespaces namespaces_total) IsNamespaceKey IsNamespace d f.0 h);
-  commons = definitions_have (λ n. IsStrictlySortedBy (λ x y. text_cmp x.id.id.text y.id.id.text) (keys_of n.common_types))
-      (λ ms n k. rises common_id_order (on_total (λ (u : CommonTypeId). u.id.id.text) text_total) IsCommonId IsCommonType
+      (map_rises namespace_order (subst IsTotalOrder same_namespaces namespaces_total) IsNamespaceKey
+      IsNamespace d f.0 h);
+  commons = definitions_have (λ n. IsStrictlySortedBy (λ x y. text_cmp x.id.id.text y.id.id.text)
+      (keys_of n.common_types))
+      (λ ms n k. rises common_id_order (on_total (λ (u : CommonTypeId). u.id.id.text) text_total)
+      IsCommonId IsCommonType
       (get_member (codes "commonTypes") ms) n.common_types k.commons) d f h;
   entities = definitions_have (λ n. IsStrictlySortedBy (λ x y. text_cmp x.id.text y.id.text) (keys_of n.entity_types))
       (λ ms n k. rises id_order (on_total (λ (u : UnreservedId). u.id.text) text_total) IsId IsEntityType

@@ -19,7 +19,8 @@ use Rattle.schema_build_text.specs.Captured.{IsFirstCaptured, captured_items}
 use Rattle.schema_build_types.specs.Standing.{schema_as_built}
 use Rattle.cedar_schema_core_faults.specs.Told.{Told, fault_text, told_lines}
 use Rattle.cedar_schema_core_faults.specs.declared.recover_error.RecoverError.{RecoverError}
-use Rattle.cedar_schema_core_faults.specs.declared.recover_error.RecoverError.TheVariants.{Parse, Schema, Captured, Memory}
+use Rattle.cedar_schema_core_faults.specs.declared.recover_error.RecoverError.TheVariants.{Parse, Schema, Captured}
+use Rattle.cedar_schema_core_faults.specs.declared.recover_error.RecoverError.TheVariants.{Memory}
 use Rattle.cedar_schema_core.specs.Json.{JsonMeaning, IsValidJson, IsReadError, IsRefusalOfJson}
 use Rattle.cedar_schema_core.specs.Steps.{IsUnread, IsUnbuilt, IsUnprinted}
 use Rattle.cedar_schema_core.proofs.JsonInOrder.{json_in_order}
@@ -33,7 +34,8 @@ read_once text (JsonDeserialization x) (JsonDeserialization y) h k =
 read_once text (JsonDeserialization x) _ h k = absurd k
 read_once text _ b h k = absurd h
 
-read_or_said : (text : List ℕ) (a : SchemaError) (f : Fragment RawName as_written) → IsReadError text a → TextShape text f
+read_or_said : (text : List ℕ) (a : SchemaError) (f : Fragment RawName as_written) → IsReadError text a
+    → TextShape text f
     → ⊥
 read_or_said text (JsonDeserialization x) f h s = said_or_refused text f x s h.0 h.1
 read_or_said text _ f h s = h
@@ -58,7 +60,8 @@ module _ (text : List ℕ) (table : ExtensionTable) where
     unbuilt_json (Captured captured) h = absurd h
     unbuilt_json Memory h = tt
 
-    pub unprinted_json : Never (BuildFault f table) → (m : SchemaMeaning) → FragmentMeaning f table m → (e : RecoverError)
+    pub unprinted_json : Never (BuildFault f table) → (m : SchemaMeaning) → FragmentMeaning f table m
+        → (e : RecoverError)
         → IsUnprinted m e → IsRefusalOfJson text table e
     unprinted_json faultless m means (Parse errors) h = h
     unprinted_json faultless m means (Schema error) h = absurd h
@@ -69,7 +72,8 @@ module _ (text : List ℕ) (table : ExtensionTable) where
 -- ---- one meaning or one refusal
 
 module _
-    (meaning : (f : Fragment RawName as_written) (table : ExtensionTable) (m n : SchemaMeaning) → FragmentMeaning f table m → FragmentMeaning f table n → m ≡ n)
+    (meaning : (f : Fragment RawName as_written) (table : ExtensionTable) (m n : SchemaMeaning)
+    → FragmentMeaning f table m → FragmentMeaning f table n → m ≡ n)
     (text : List ℕ) (table : ExtensionTable) where
   pub one_json_meaning : (m n : SchemaMeaning) → JsonMeaning text table m → JsonMeaning text table n → m ≡ n
   one_json_meaning m n h k =
@@ -84,11 +88,13 @@ module _
       valid.1.faultless error (subst (λ z. BuildFault z table error) same h)
   json_invalid (Captured captured) h other valid =
       let fragment = one_text_fragment text h.fragment valid.1.fragment h.says valid.1.says in
-      let same = meaning valid.1.fragment table h.meaning valid.0 (subst (λ f. FragmentMeaning f table h.meaning) fragment h.means) valid.1.means in
+      let same = meaning valid.1.fragment table h.meaning valid.0
+      (subst (λ f. FragmentMeaning f table h.meaning) fragment h.means) valid.1.means in
       none_first valid.0 captured valid.1.uncaptured (subst (λ m. IsFirstCaptured m captured) same h.first)
   json_invalid Memory h other valid = other refl
 
-  module _ (build_once : (f : Fragment RawName as_written) (table : ExtensionTable) (e other : SchemaError) → IsInOrder f → BuildFault f table e → BuildFault f table other → AreToldAlike e other) where
+  module _ (build_once : (f : Fragment RawName as_written) (table : ExtensionTable) (e other : SchemaError)
+      → IsInOrder f → BuildFault f table e → BuildFault f table other → AreToldAlike e other) where
     both_schema : (a b : SchemaError) → IsRefusalOfJson text table (Schema a) → IsRefusalOfJson text table (Schema b)
         → fault_text text (Schema a) ≡ fault_text text (Schema b)
     both_schema a b (inl h) (inl k) = read_once text a b h k
@@ -112,7 +118,8 @@ module _
     json_refusal_once (Captured c) (Schema a) n m h k = absurd (schema_or_captured a c k h)
     json_refusal_once (Captured a) (Captured b) n m h k =
         let fragment = one_text_fragment text h.fragment k.fragment h.says k.says in
-        let same = meaning k.fragment table h.meaning k.meaning (subst (λ f. FragmentMeaning f table h.meaning) fragment h.means) k.means in
+        let same = meaning k.fragment table h.meaning k.meaning
+        (subst (λ f. FragmentMeaning f table h.meaning) fragment h.means) k.means in
         let first = subst (λ m. IsFirstCaptured m a) same h.first in
         ap (λ words. let t : Told = record { text = words; labels = []; help = None } in flat_map told_lines (t ∷ []))
         (captured_once (captured_items (schema_as_built k.meaning)) a b first k.first)

@@ -9,7 +9,8 @@ use Rattle.cedar_schema_core.specs.Commands.{Asks}
 use Rattle.cedar_schema_core.specs.Meanings.{TextMeaning}
 use Rattle.cedar_schema_core.specs.Run.{Device, Completed, KeepsMeaning}
 
-module _ (same : (closing : Bool) (text : List ℕ) (table : ExtensionTable) (m : SchemaMeaning) → TextMeaning text table m
+module _ (same : (closing : Bool) (text : List ℕ) (table : ExtensionTable) (m : SchemaMeaning)
+    → TextMeaning text table m
     → TextMeaning (schema_text closing m) table m) (source out err : Device) where
   keeps : (c : Command) → Completed c source out err → KeepsMeaning c source out
   keeps (Recover table) done =

@@ -16,7 +16,8 @@ use Rattle.cedar_schema_core.specs.declared.command.Command.{Command}
 use Rattle.cedar_schema_core.specs.declared.command.Command.TheVariants.{Recover, Check, ToJson, FromJson}
 use Rattle.cedar_schema_core_faults.specs.Told.{fault_text}
 use Rattle.cedar_schema_core_faults.specs.declared.recover_error.RecoverError.{RecoverError}
-use Rattle.cedar_schema_core_faults.specs.declared.recover_error.RecoverError.TheVariants.{Parse, Schema, Captured, Memory}
+use Rattle.cedar_schema_core_faults.specs.declared.recover_error.RecoverError.TheVariants.{Parse, Schema, Captured}
+use Rattle.cedar_schema_core_faults.specs.declared.recover_error.RecoverError.TheVariants.{Memory}
 use Rattle.cedar_schema_core.specs.Answers.{Writes, Refuses}
 use Rattle.cedar_schema_core.specs.Commands.{count_line}
 use Rattle.cedar_schema_core.specs.Json.{value_of, JsonMeaning, IsValidJson, IsRefusalOfJson}
@@ -25,14 +26,23 @@ use Rattle.cedar_schema_core.specs.Recovery.{IsRefusal}
 use Rattle.cedar_schema_core.specs.Steps.{IsUnparsed}
 use Rattle.cedar_schema_core.proofs.Refusals.{unparsed}
 
-module _ (one : (text : List ℕ) (table : ExtensionTable) (m n : SchemaMeaning) → TextMeaning text table m → TextMeaning text table n → m ≡ n)
-    (translation : (text : List ℕ) (table : ExtensionTable) (f g : Fragment RawName as_written) (v w : List SchemaWarning) → IsTranslationOfText text table f v → IsTranslationOfText text table g w → (f ≡ g) × (v ≡ w))
-    (apart : (text : List ℕ) (table : ExtensionTable) (e : CedarSchemaParseErrors) (f : Fragment RawName as_written) (w : List SchemaWarning) → IsParseRefusal text e → IsTranslationOfText text table f w → ⊥)
-    (invalid : (text : List ℕ) (table : ExtensionTable) (e : RecoverError) → IsRefusal text table e → e ≢ Memory → IsValid text table → ⊥)
-    (refusal : (text : List ℕ) (table : ExtensionTable) (e other : RecoverError) → IsUtf8 text → e ≢ Memory → other ≢ Memory → IsRefusal text table e → IsRefusal text table other → fault_text text e ≡ fault_text text other)
-    (json_meaning : (text : List ℕ) (table : ExtensionTable) (m n : SchemaMeaning) → JsonMeaning text table m → JsonMeaning text table n → m ≡ n)
-    (json_refusal : (text : List ℕ) (table : ExtensionTable) (e other : RecoverError) → e ≢ Memory → other ≢ Memory → IsRefusalOfJson text table e → IsRefusalOfJson text table other → fault_text text e ≡ fault_text text other)
-    (json_invalid : (text : List ℕ) (table : ExtensionTable) (e : RecoverError) → IsRefusalOfJson text table e → e ≢ Memory → IsValidJson text table → ⊥) where
+module _ (one : (text : List ℕ) (table : ExtensionTable) (m n : SchemaMeaning) → TextMeaning text table m
+    → TextMeaning text table n → m ≡ n)
+    (translation : (text : List ℕ) (table : ExtensionTable) (f g : Fragment RawName as_written)
+    (v w : List SchemaWarning) → IsTranslationOfText text table f v → IsTranslationOfText text table g w
+    → (f ≡ g) × (v ≡ w))
+    (apart : (text : List ℕ) (table : ExtensionTable) (e : CedarSchemaParseErrors) (f : Fragment RawName as_written)
+    (w : List SchemaWarning) → IsParseRefusal text e → IsTranslationOfText text table f w → ⊥)
+    (invalid : (text : List ℕ) (table : ExtensionTable) (e : RecoverError) → IsRefusal text table e → e ≢ Memory
+    → IsValid text table → ⊥)
+    (refusal : (text : List ℕ) (table : ExtensionTable) (e other : RecoverError) → IsUtf8 text → e ≢ Memory
+    → other ≢ Memory → IsRefusal text table e → IsRefusal text table other → fault_text text e ≡ fault_text text other)
+    (json_meaning : (text : List ℕ) (table : ExtensionTable) (m n : SchemaMeaning) → JsonMeaning text table m
+    → JsonMeaning text table n → m ≡ n)
+    (json_refusal : (text : List ℕ) (table : ExtensionTable) (e other : RecoverError) → e ≢ Memory → other ≢ Memory
+    → IsRefusalOfJson text table e → IsRefusalOfJson text table other → fault_text text e ≡ fault_text text other)
+    (json_invalid : (text : List ℕ) (table : ExtensionTable) (e : RecoverError) → IsRefusalOfJson text table e
+    → e ≢ Memory → IsValidJson text table → ⊥) where
   pub writes_once : (c : Command) (text out other : List ℕ) (v w : List SchemaWarning) → Writes c text out v
       → Writes c text other w → (out ≡ other) × (v ≡ w)
   writes_once (Recover table) text out other v w (m, h, l, e) (n, k, r, f) =

@@ -10,7 +10,8 @@ use Rattle.cedar_schema_core_faults.specs.Told.{fault_text}
 use Rattle.cedar_schema_core.specs.declared.status.Status.TheVariants.{Refused}
 use Rattle.cedar_schema_core.specs.Answers.{Writes, Refuses}
 use Rattle.cedar_schema_core.specs.Commands.{IsTableInOrder, Asks, recover, recover_with, check, to_json, from_json}
-use Rattle.cedar_schema_core.specs.Plan.{Report, IsAnswer, refused, done, done_report, IsInputPlan, too_long, not_text, answered, IsPlan, usage, asked}
+use Rattle.cedar_schema_core.specs.Plan.{Report, IsAnswer, refused, done, done_report, IsInputPlan, too_long, not_text}
+use Rattle.cedar_schema_core.specs.Plan.{answered, IsPlan, usage, asked}
 use Rattle.cedar_schema_core.proofs.Tables.{one_table_of_texts, one_table_of_names}
 
 -- words ask for one command
@@ -43,9 +44,12 @@ one_command words c d (recover_with names t e h) (recover_with others u f k) =
     let same : others ≡ names = cc in
     ap Recover (one_table_of_names names t u h (subst (λ ns. IsTableInOrder ns u) same k))
 
-module _ (writes : (c : Command) (text out other : List ℕ) (v w : List SchemaWarning) → Writes c text out v → Writes c text other w → (out ≡ other) × (v ≡ w))
-    (refuses : (c : Command) (text : List ℕ) (e other : RecoverError) → IsUtf8 text → e ≢ Memory → other ≢ Memory → Refuses c text e → Refuses c text other → fault_text text e ≡ fault_text text other)
-    (apart : (c : Command) (text out : List ℕ) (w : List SchemaWarning) (e : RecoverError) → e ≢ Memory → Refuses c text e → Writes c text out w → ⊥) where
+module _ (writes : (c : Command) (text out other : List ℕ) (v w : List SchemaWarning) → Writes c text out v
+    → Writes c text other w → (out ≡ other) × (v ≡ w))
+    (refuses : (c : Command) (text : List ℕ) (e other : RecoverError) → IsUtf8 text → e ≢ Memory → other ≢ Memory
+    → Refuses c text e → Refuses c text other → fault_text text e ≡ fault_text text other)
+    (apart : (c : Command) (text out : List ℕ) (w : List SchemaWarning) (e : RecoverError) → e ≢ Memory
+    → Refuses c text e → Writes c text out w → ⊥) where
   one_answer : (c : Command) (text : List ℕ) (report other : Report) → IsUtf8 text → IsAnswer c text report
       → IsAnswer c text other → report ≡ other
   one_answer c text report other u (refused e n h) (refused f m k) =

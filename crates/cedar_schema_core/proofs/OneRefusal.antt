@@ -32,7 +32,8 @@ use Rattle.schema_build.specs.FaultsTold.{AreToldAlike, IsInOrder}
 use Rattle.schema_build.specs.Meaning.{FragmentMeaning}
 use Rattle.cedar_schema_core_faults.specs.Told.{Told, fault_text, told_lines, told_schema, told_translation, told_parse}
 use Rattle.cedar_schema_core_faults.specs.declared.recover_error.RecoverError.{RecoverError}
-use Rattle.cedar_schema_core_faults.specs.declared.recover_error.RecoverError.TheVariants.{Parse, Schema, Captured, Memory}
+use Rattle.cedar_schema_core_faults.specs.declared.recover_error.RecoverError.TheVariants.{Parse, Schema, Captured}
+use Rattle.cedar_schema_core_faults.specs.declared.recover_error.RecoverError.TheVariants.{Memory}
 use Rattle.schema_build.specs.Texts.{IsParseRefusal}
 use Rattle.cedar_schema_core.specs.Recovery.{IsRefusal}
 use Rattle.cedar_schema_core.proofs.TranslatedInOrder.{in_order}
@@ -63,13 +64,21 @@ told_once e other a = λ i.
     let t : Told = record { text = a.text i; labels = a.labels i; help = a.help i } in flat_map told_lines (t ∷ [])
 
 module _
-    (one : (text : List ℕ) (tree other : List (Annotated Namespace)) → IsTreeOfText text tree → IsTreeOfText text other → tree ≡ other)
-    (either : (text : List ℕ) (schema : List (Annotated Namespace)) (error : ParseError) → IsTreeOfText text schema → IsErrorOf text error → ⊥)
-    (error_once : (text : List ℕ) → IsUtf8 text → (e other : ParseError) → IsErrorOf text e → IsErrorOf text other → e ≡ other)
-    (translation : (text : List ℕ) (table : ExtensionTable) (f g : Fragment RawName as_written) (v w : List SchemaWarning) → IsTranslationOfText text table f v → IsTranslationOfText text table g w → (f ≡ g) × (v ≡ w))
-    (apart : (text : List ℕ) (table : ExtensionTable) (e : CedarSchemaParseErrors) (f : Fragment RawName as_written) (w : List SchemaWarning) → IsParseRefusal text e → IsTranslationOfText text table f w → ⊥)
-    (meaning : (f : Fragment RawName as_written) (table : ExtensionTable) (m n : SchemaMeaning) → FragmentMeaning f table m → FragmentMeaning f table n → m ≡ n)
-    (build_once : (f : Fragment RawName as_written) (table : ExtensionTable) (e other : SchemaError) → IsInOrder f → BuildFault f table e → BuildFault f table other → AreToldAlike e other)
+    (one : (text : List ℕ) (tree other : List (Annotated Namespace)) → IsTreeOfText text tree
+    → IsTreeOfText text other → tree ≡ other)
+    (either : (text : List ℕ) (schema : List (Annotated Namespace)) (error : ParseError) → IsTreeOfText text schema
+    → IsErrorOf text error → ⊥)
+    (error_once : (text : List ℕ) → IsUtf8 text → (e other : ParseError) → IsErrorOf text e
+    → IsErrorOf text other → e ≡ other)
+    (translation : (text : List ℕ) (table : ExtensionTable) (f g : Fragment RawName as_written)
+    (v w : List SchemaWarning) → IsTranslationOfText text table f v → IsTranslationOfText text table g w
+    → (f ≡ g) × (v ≡ w))
+    (apart : (text : List ℕ) (table : ExtensionTable) (e : CedarSchemaParseErrors) (f : Fragment RawName as_written)
+    (w : List SchemaWarning) → IsParseRefusal text e → IsTranslationOfText text table f w → ⊥)
+    (meaning : (f : Fragment RawName as_written) (table : ExtensionTable) (m n : SchemaMeaning)
+    → FragmentMeaning f table m → FragmentMeaning f table n → m ≡ n)
+    (build_once : (f : Fragment RawName as_written) (table : ExtensionTable) (e other : SchemaError) → IsInOrder f
+    → BuildFault f table e → BuildFault f table other → AreToldAlike e other)
     (text : List ℕ) (utf8 : IsUtf8 text) (table : ExtensionTable) where
   parse_once : (a b : CedarSchemaParseErrors) → IsParseRefusal text a → IsParseRefusal text b
       → fault_text text (Parse a) ≡ fault_text text (Parse b)
@@ -79,16 +88,19 @@ module _
       let same : e ≡ g = error_once text utf8 e g h k in
       let lists : x.errors ≡ y.errors = is ∙ ap (λ z. z ∷ []) same ∙ sym too in
       ap (λ l. flat_map told_lines (map (told_parse text) l)) lists
-  parse_once (parse.SyntaxError x) (parse.JsonError y) (e, is, h) (tree, tree_is, k) = absurd (either text tree e tree_is h)
+  parse_once (parse.SyntaxError x) (parse.JsonError y) (e, is, h) (tree, tree_is, k) =
+      absurd (either text tree e tree_is h)
   parse_once (parse.JsonError x) parse.Memory h k = absurd k
-  parse_once (parse.JsonError x) (parse.SyntaxError y) (tree, tree_is, h) (e, is, k) = absurd (either text tree e tree_is k)
+  parse_once (parse.JsonError x) (parse.SyntaxError y) (tree, tree_is, h) (e, is, k) =
+      absurd (either text tree e tree_is k)
   parse_once (parse.JsonError x) (parse.JsonError y) (tree, tree_is, h) (other, other_is, k) =
       let same : tree ≡ other = one text tree other tree_is other_is in
       let lists : x.errors ≡ y.errors = h.all ∙ ap translation_faults same ∙ sym k.all in
       ap (λ l. flat_map told_lines (map told_translation l)) lists
 
   -- a fragment of the text is in order
-  ordered : (f : Fragment RawName as_written) (w : List SchemaWarning) → IsTranslationOfText text table f w → IsInOrder f
+  ordered : (f : Fragment RawName as_written) (w : List SchemaWarning) → IsTranslationOfText text table f w
+      → IsInOrder f
   ordered f w (tree, tree_is, t) = subst IsInOrder (sym t.is) (in_order tree)
 
   -- what is told of a refusal of the text is one
@@ -109,8 +121,10 @@ module _
       let same : f ≡ h.fragment = (translation text table f h.fragment w h.translated.0 t h.translated.1).0 in
       absurd (h.faultless b (subst (λ z. BuildFault z table b) same k))
   refusal_once (Captured a) (Captured b) n m h k =
-      let same : h.fragment ≡ k.fragment = (translation text table h.fragment k.fragment h.translated.0 k.translated.0 h.translated.1 k.translated.1).0 in
-      let means : h.meaning ≡ k.meaning = meaning k.fragment table h.meaning k.meaning (subst (λ z. FragmentMeaning z table h.meaning) same h.means) k.means in
+      let same : h.fragment ≡ k.fragment =
+      (translation text table h.fragment k.fragment h.translated.0 k.translated.0 h.translated.1 k.translated.1).0 in
+      let means : h.meaning ≡ k.meaning = meaning k.fragment table h.meaning k.meaning
+      (subst (λ z. FragmentMeaning z table h.meaning) same h.means) k.means in
       let first : IsFirstCaptured k.meaning a = subst (λ z. IsFirstCaptured z a) means h.first in
       ap (λ words. let t : Told = record { text = words; labels = []; help = None } in flat_map told_lines (t ∷ []))
       (captured_once (captured_items (schema_as_built k.meaning)) a b first k.first)

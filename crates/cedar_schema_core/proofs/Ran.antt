@@ -1,31 +1,40 @@
 -- What follows from how a run went.
-use Rattle.std.proofs.Common.{◌≡◌, ◌≤◌, ◌⊎◌, ℕ, List, length, Option, Some, None, inl, inr, refl, sym, ap, ◌∙◌, subst, arith}
+use Rattle.std.proofs.Common.{◌≡◌, ◌≤◌, ◌⊎◌, ℕ, List, length, Option, Some, None, inl, inr, refl, sym, ap, ◌∙◌, subst}
+use Rattle.std.proofs.Common.{arith}
 use Rattle.cedar_schema_core.specs.declared.status.Status.{Status}
-use Rattle.cedar_schema_core.specs.declared.status.Status.TheVariants.{Done, Refused, Usage, ReadFault, WriteFault, NotText, TooLong, Memory}
+use Rattle.cedar_schema_core.specs.declared.status.Status.TheVariants.{Done, Refused, Usage, ReadFault, WriteFault}
+use Rattle.cedar_schema_core.specs.declared.status.Status.TheVariants.{NotText, TooLong, Memory}
 use Rattle.cedar_schema_core.specs.declared.command.Command.{Command}
 use Rattle.cedar_io.specs.Outside.{Rose}
 use Rattle.cedar_io.specs.Input.{HadLeft}
 use Rattle.cedar_schema_core.specs.Commands.{Asks}
-use Rattle.cedar_schema_core.specs.Plan.{Report, IsAnswer, refused, done, IsInputPlan, too_long, not_text, answered, IsPlan, usage, asked, read_fault_report}
-use Rattle.cedar_schema_core.specs.Run.{Device, LeftAs, IsReported, planned, read_fault, TookWhole, IsDelivered, whole, out_failed, err_failed, IsRun, delivered, wanted_memory, Completed, NoneCounted}
+use Rattle.cedar_schema_core.specs.Plan.{Report, IsAnswer, refused, done, IsInputPlan, too_long, not_text, answered}
+use Rattle.cedar_schema_core.specs.Plan.{IsPlan, usage, asked, read_fault_report}
+use Rattle.cedar_schema_core.specs.Run.{Device, LeftAs, IsReported, planned, read_fault, TookWhole, IsDelivered, whole}
+use Rattle.cedar_schema_core.specs.Run.{out_failed, err_failed, IsRun, delivered, wanted_memory, Completed, NoneCounted}
 
 -- what was left is what is told
 told : (o : Option (List ℕ)) (all bytes : List ℕ) → o ≡ Some all → HadLeft o bytes → all ≡ bytes
 told None all bytes e h = cc
 told (Some left) all bytes e h = let same : left ≡ all = cc in sym same ∙ h
 
-module _ (one : (words : List (List ℕ)) (bytes : List ℕ) (report other : Report) → IsPlan words bytes report → IsPlan words bytes other → report ≡ other)
-    (words : List (List ℕ)) (source : Device) (bytes : List ℕ) (left : source.before ≡ Some bytes) (plan : Report) (is : IsPlan words bytes plan) where
+module _ (one : (words : List (List ℕ)) (bytes : List ℕ) (report other : Report) → IsPlan words bytes report
+    → IsPlan words bytes other → report ≡ other)
+    (words : List (List ℕ)) (source : Device) (bytes : List ℕ) (left : source.before ≡ Some bytes) (plan : Report)
+    (is : IsPlan words bytes plan) where
   -- the report is the plan, where no read failed
   same_report : (report : Report) → IsReported words source report → (report ≡ plan) ⊎ (report ≡ read_fault_report)
-  same_report report (planned all had p l) = inl (one words bytes report plan (subst (λ b. IsPlan words b report) (sym (told source.before bytes all left had)) p) is)
+  same_report report (planned all had p l) =
+      inl (one words bytes report plan
+      (subst (λ b. IsPlan words b report) (sym (told source.before bytes all left had)) p) is)
   same_report report (read_fault c i r) = inr refl
 
   -- with no fault, the status is that of the plan, or memory was wanted
   pub completes : (out err : Device) (status : Status) → IsRun words source out err status
       → NoneCounted source out err → (status ≡ plan.status) ⊎ (status ≡ Memory)
   completes out err status (delivered report (planned all had p l) (whole o e)) n =
-      inl (ap (λ r. r.status) (one words bytes report plan (subst (λ b. IsPlan words b report) (sym (told source.before bytes all left had)) p) is))
+      inl (ap (λ r. r.status) (one words bytes report plan
+      (subst (λ b. IsPlan words b report) (sym (told source.before bytes all left had)) p) is))
   completes out err status (delivered report (read_fault c i r) (whole o e)) n = absurd (n.none_read r)
   completes out err status (delivered report h (out_failed f s)) n = absurd (n.none_out f.counted)
   completes out err status (delivered report h (err_failed o f)) n = absurd (n.none_err f.counted)
@@ -41,7 +50,8 @@ module _ (one : (words : List (List ℕ)) (bytes : List ℕ) (report other : Rep
   pub within_err : (report : Report) (n : ℕ) → IsReported words source report → length plan.err ≤ n
       → (Rose source.faults_before source.faults_after → length read_fault_report.err ≤ n) → length report.err ≤ n
   within_err report n (planned all had p l) a b =
-      let e : report ≡ plan = one words bytes report plan (subst (λ b. IsPlan words b report) (sym (told source.before bytes all left had)) p) is in
+      let e : report ≡ plan = one words bytes report plan
+      (subst (λ b. IsPlan words b report) (sym (told source.before bytes all left had)) p) is in
       let k : length report.err ≡ length plan.err = ap (λ r. length r.err) e in omega arith
   within_err report n (read_fault c i r) a b = b r
 
@@ -75,7 +85,8 @@ module _ (words : List (List ℕ)) (source out err : Device) where
   CompletedBy = (c : Command) × Asks words c × Completed c source out err
 
   answered_done : (c : Command) → Asks words c → (bytes : List ℕ) (report : Report) → HadLeft source.before bytes
-      → IsAnswer c bytes report → LeftAs words source report.status → TookWhole out report.out → TookWhole err report.err
+      → IsAnswer c bytes report → LeftAs words source report.status → TookWhole out report.out
+      → TookWhole err report.err
       → report.status ≡ Done → CompletedBy
   answered_done c a bytes report had (refused f n h) l o e d = absurd (refused_done d)
   answered_done c a bytes report had (done text w h) l o e d = (

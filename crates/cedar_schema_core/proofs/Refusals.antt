@@ -14,7 +14,8 @@ use Rattle.schema_build_parts.specs.BuildFaults.{BuildFault}
 use Rattle.schema_build_text.specs.Captured.{IsUncaptured, IsFirstOf, IsFirstCaptured}
 use Rattle.schema_build.specs.Meaning.{FragmentMeaning}
 use Rattle.cedar_schema_core_faults.specs.declared.recover_error.RecoverError.{RecoverError}
-use Rattle.cedar_schema_core_faults.specs.declared.recover_error.RecoverError.TheVariants.{Parse, Schema, Captured, Memory}
+use Rattle.cedar_schema_core_faults.specs.declared.recover_error.RecoverError.TheVariants.{Parse, Schema, Captured}
+use Rattle.cedar_schema_core_faults.specs.declared.recover_error.RecoverError.TheVariants.{Memory}
 use Rattle.cedar_schema_core.specs.Meanings.{IsValid}
 use Rattle.schema_build.specs.Texts.{IsParseRefusal}
 use Rattle.cedar_schema_core.specs.Recovery.{IsRefusal}
@@ -31,7 +32,8 @@ module _ (text : List ℕ) (table : ExtensionTable) where
   unparsed (Captured captured) h = absurd h
   unparsed Memory h = tt
 
-  module _ (f : Fragment RawName as_written) (w : List SchemaWarning) (translated : IsTranslationOfText text table f w) where
+  module _ (f : Fragment RawName as_written) (w : List SchemaWarning)
+      (translated : IsTranslationOfText text table f w) where
     pub unbuilt : (e : RecoverError) → IsUnbuilt f table e → IsRefusal text table e
     unbuilt (Parse errors) h = absurd h
     unbuilt (Schema error) h = (f, (w, translated), h)
@@ -43,14 +45,25 @@ module _ (text : List ℕ) (table : ExtensionTable) where
     unprinted faultless m means (Parse errors) h = absurd h
     unprinted faultless m means (Schema error) h = absurd h
     unprinted faultless m means (Captured captured) h =
-        record { fragment = f; translated = (w, translated); faultless = faultless; meaning = m; means = means; first = h }
+        record {
+          fragment = f;
+          translated = (w, translated);
+          faultless = faultless;
+          meaning = m;
+          means = means;
+          first = h;
+        }
     unprinted faultless m means Memory h = tt
 
 -- a text that is refused means nothing
 module _
-    (translation : (text : List ℕ) (table : ExtensionTable) (f g : Fragment RawName as_written) (v w : List SchemaWarning) → IsTranslationOfText text table f v → IsTranslationOfText text table g w → (f ≡ g) × (v ≡ w))
-    (apart : (text : List ℕ) (table : ExtensionTable) (e : CedarSchemaParseErrors) (f : Fragment RawName as_written) (w : List SchemaWarning) → IsParseRefusal text e → IsTranslationOfText text table f w → ⊥)
-    (meaning : (f : Fragment RawName as_written) (table : ExtensionTable) (m n : SchemaMeaning) → FragmentMeaning f table m → FragmentMeaning f table n → m ≡ n)
+    (translation : (text : List ℕ) (table : ExtensionTable) (f g : Fragment RawName as_written)
+    (v w : List SchemaWarning) → IsTranslationOfText text table f v → IsTranslationOfText text table g w
+    → (f ≡ g) × (v ≡ w))
+    (apart : (text : List ℕ) (table : ExtensionTable) (e : CedarSchemaParseErrors) (f : Fragment RawName as_written)
+    (w : List SchemaWarning) → IsParseRefusal text e → IsTranslationOfText text table f w → ⊥)
+    (meaning : (f : Fragment RawName as_written) (table : ExtensionTable) (m n : SchemaMeaning)
+    → FragmentMeaning f table m → FragmentMeaning f table n → m ≡ n)
     (text : List ℕ) (table : ExtensionTable) where
   pub unparsed_invalid : (e : RecoverError) → IsUnparsed text e → e ≢ Memory → IsValid text table → ⊥
   unparsed_invalid (Parse errors) h other valid =
@@ -59,9 +72,11 @@ module _
   unparsed_invalid (Captured captured) h other valid = h
   unparsed_invalid Memory h other valid = other refl
 
-  module _ (f : Fragment RawName as_written) (w : List SchemaWarning) (translated : IsTranslationOfText text table f w) where
+  module _ (f : Fragment RawName as_written) (w : List SchemaWarning)
+      (translated : IsTranslationOfText text table f w) where
     same_fragment : (valid : IsValid text table) → f ≡ valid.1.fragment
-    same_fragment valid = (translation text table f valid.1.fragment w valid.1.translated.0 translated valid.1.translated.1).0
+    same_fragment valid = (translation text table f valid.1.fragment w valid.1.translated.0 translated
+        valid.1.translated.1).0
 
     pub unbuilt_invalid : (e : RecoverError) → IsUnbuilt f table e → e ≢ Memory → IsValid text table → ⊥
     unbuilt_invalid (Parse errors) h other valid = h
@@ -75,7 +90,8 @@ module _
     unprinted_invalid m means (Parse errors) h other valid = h
     unprinted_invalid m means (Schema error) h other valid = h
     unprinted_invalid m means (Captured captured) h other valid =
-        let there : FragmentMeaning valid.1.fragment table m = subst (λ g. FragmentMeaning g table m) (same_fragment valid) means in
+        let there : FragmentMeaning valid.1.fragment table m = subst (λ g. FragmentMeaning g table m)
+        (same_fragment valid) means in
         let same : m ≡ valid.0 = meaning valid.1.fragment table m valid.0 there valid.1.means in
         none_first valid.0 captured valid.1.uncaptured (subst (λ n. IsFirstCaptured n captured) same h)
     unprinted_invalid m means Memory h other valid = other refl
@@ -85,5 +101,6 @@ module _
   refused_invalid (Parse errors) h other valid = unparsed_invalid (Parse errors) h other valid
   refused_invalid (Schema error) h other valid = unbuilt_invalid h.0 h.1.0 h.1.1 (Schema error) h.2 other valid
   refused_invalid (Captured captured) h other valid =
-      unprinted_invalid h.fragment h.translated.0 h.translated.1 h.meaning h.means (Captured captured) h.first other valid
+      unprinted_invalid h.fragment h.translated.0 h.translated.1 h.meaning h.means (Captured captured)
+      h.first other valid
   refused_invalid Memory h other valid = absurd (other refl)

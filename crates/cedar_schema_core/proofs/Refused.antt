@@ -15,8 +15,10 @@ use Rattle.schema_convert.specs.Translated.{IsTranslationOfText}
 use Rattle.schema_convert.specs.Faults.{translation_faults}
 use Rattle.schema_build.specs.Texts.{IsParseRefusal}
 
-module _ (one : (text : List ℕ) (tree other : List (Annotated Namespace)) → IsTreeOfText text tree → IsTreeOfText text other → tree ≡ other)
-    (either : (text : List ℕ) (schema : List (Annotated Namespace)) (error : ParseError) → IsTreeOfText text schema → IsErrorOf text error → ⊥) where
+module _ (one : (text : List ℕ) (tree other : List (Annotated Namespace)) → IsTreeOfText text tree
+    → IsTreeOfText text other → tree ≡ other)
+    (either : (text : List ℕ) (schema : List (Annotated Namespace)) (error : ParseError) → IsTreeOfText text schema
+    → IsErrorOf text error → ⊥) where
   pub not_both : (text : List ℕ) (table : ExtensionTable) (e : CedarSchemaParseErrors) (f : Fragment RawName as_written)
       (w : List SchemaWarning) → IsParseRefusal text e → IsTranslationOfText text table f w → ⊥
   not_both text table parse.Memory f w h k = h

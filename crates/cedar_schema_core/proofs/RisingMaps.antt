@@ -42,12 +42,14 @@ module _ {K X : Type 0} (R : K → K → Ordering) (total : IsTotalOrder R) wher
   put_rises (e ∷ es) k v s = by (R k e.0) refl (put_rises es k v s.1)
     where
       by : (c : Ordering) → R k e.0 ≡ c → IsStrictlySortedBy R (keys_of (insert_entry R es k v))
-          → IsStrictlySortedBy R (keys_of (match_ordering c ((k, v) ∷ e ∷ es) ((e.0, v) ∷ es) (e ∷ insert_entry R es k v)))
+          → IsStrictlySortedBy R (keys_of
+          (match_ordering c ((k, v) ∷ e ∷ es) ((e.0, v) ∷ es) (e ∷ insert_entry R es k v)))
       by Less h l = ((h, above_too R total k e.0 (keys_of es) h s.0), s)
       by Equal h l = s
       by Greater h l = (kept_below (λ y. R e.0 y ≡ Less) es k v s.0 (total.antisymm e.0 k ∙ ap ordering_reverse h), l)
 
-  all_rise : (m es : List (K × X)) → IsStrictlySortedBy R (keys_of m) → IsStrictlySortedBy R (keys_of (with_entries R m es))
+  all_rise : (m es : List (K × X)) → IsStrictlySortedBy R (keys_of m)
+      → IsStrictlySortedBy R (keys_of (with_entries R m es))
   all_rise m [] s = s
   all_rise m (e ∷ es) s = all_rise (insert_entry R m e.0 e.1) es (put_rises m e.0 e.1 s)
 

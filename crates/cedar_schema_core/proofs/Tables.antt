@@ -26,7 +26,8 @@ table_from : (xs ys : List UnreservedId) (e : xs ≡ ys) (p : list_any (λ n. is
     ≡ (let b : ExtensionTable = record { names = ys; extensions = q } in b)
 table_from xs ys e p q =
     let P : List UnreservedId → Type 0 = λ z. (r : list_any (λ n. is_builtin n.id.text) z ≡ false)
-    → (let a : ExtensionTable = record { names = xs; extensions = p } in a) ≡ (let b : ExtensionTable = record { names = z; extensions = r } in b) in
+    → (let a : ExtensionTable = record { names = xs; extensions = p } in a)
+    ≡ (let b : ExtensionTable = record { names = z; extensions = r } in b) in
     subst P e (λ r i. record { names = xs; extensions = Bool-set _ _ p r i }) q
 
 table_same : (t u : ExtensionTable) → t.names ≡ u.names → t ≡ u
@@ -67,7 +68,8 @@ is_own x (y ∷ ys) h = elim (bool_cases (bytes_eq x.id.text y.id.text)) [
 ]
 
 -- tables of the same names are the same
-pub one_table_of_names : (names : List (List ℕ)) (t u : ExtensionTable) → IsTableInOrder names t → IsTableInOrder names u
+pub one_table_of_names : (names : List (List ℕ)) (t u : ExtensionTable) → IsTableInOrder names t
+    → IsTableInOrder names u
     → t ≡ u
 one_table_of_names names t u h k =
     table_same t u (same_rising id_total t.names u.names h.rise k.rise

@@ -16,7 +16,9 @@ use Rattle.schema_syntax_tree.specs.declared.namespace.Namespace.{Namespace}
 use Rattle.schema_json.specs.declared.common_type.CommonTypeId.{CommonTypeId}
 use Rattle.schema_json.specs.declared.fragment.NamespaceDefinition.{NamespaceDefinition}
 use Rattle.schema_convert_types.specs.Declarations.{as_written}
-use Rattle.schema_convert_types.specs.Fragments.{unreserved_cmp, common_cmp, namespace_cmp, definition_of, common_entries, entity_entries, action_entries, namespace_key, namespace_entry, fragment_of}
+use Rattle.schema_convert_types.specs.Fragments.{unreserved_cmp, common_cmp, namespace_cmp, definition_of}
+use Rattle.schema_convert_types.specs.Fragments.{common_entries, entity_entries, action_entries, namespace_key}
+use Rattle.schema_convert_types.specs.Fragments.{namespace_entry, fragment_of}
 use Rattle.schema_convert.specs.Joined.{joined}
 use Rattle.schema_convert.specs.Translated.{translated}
 use Rattle.schema_build_hierarchy.proofs.Exact.{text_total}
@@ -31,9 +33,11 @@ definitions : (P : Definition → Type 0) → ((decls : _) (notes : _) → P (de
     → (namespaces : List (Annotated Namespace)) → All (λ e. P e.1) (fragment_of namespaces).0
 definitions P each namespaces =
     by_entries P (map_of namespace_cmp (filter_map namespace_entry namespaces))
-    (all_values namespace_cmp namespaces_total P [] (filter_map namespace_entry namespaces) (All-nil P) (gathered namespaces))
+    (all_values namespace_cmp namespaces_total P [] (filter_map namespace_entry namespaces) (All-nil P)
+    (gathered namespaces))
   where
-    one : (key : Option (Option Name)) (d : Definition) (rest : List (Option Name × Definition)) → P d → All P (values_of rest)
+    one : (key : Option (Option Name)) (d : Definition) (rest : List (Option Name × Definition)) → P d
+        → All P (values_of rest)
         → All P (values_of (cons_option (option_map (λ k. let e : Option Name × Definition = (k, d) in e) key) rest))
     one None d rest p h = h
     one (Some key) d rest p h = All-cons P d (values_of rest) p h
@@ -49,9 +53,11 @@ in_order tree = record {
   namespaces = subst (λ R. IsStrictlySortedBy R (keys_of (fragment_of (joined tree)).0)) (sym one_order)
       (keys_rise namespace_cmp namespaces_total (filter_map namespace_entry (joined tree)));
   commons = definitions (λ n. IsStrictlySortedBy (λ x y. text_cmp x.id.id.text y.id.id.text) (keys_of n.common_types))
-      (λ decls notes. keys_rise common_cmp (on_total (λ (u : CommonTypeId). u.id.id.text) text_total) (common_entries decls)) (joined tree);
+      (λ decls notes. keys_rise common_cmp (on_total (λ (u : CommonTypeId). u.id.id.text) text_total)
+      (common_entries decls)) (joined tree);
   entities = definitions (λ n. IsStrictlySortedBy (λ x y. text_cmp x.id.text y.id.text) (keys_of n.entity_types))
-      (λ decls notes. keys_rise unreserved_cmp (on_total (λ (u : UnreservedId). u.id.text) text_total) (entity_entries decls)) (joined tree);
+      (λ decls notes. keys_rise unreserved_cmp (on_total (λ (u : UnreservedId). u.id.text) text_total)
+      (entity_entries decls)) (joined tree);
   actions = definitions (λ n. IsStrictlySortedBy text_cmp (keys_of n.actions))
       (λ decls notes. keys_rise text_cmp text_total (action_entries decls)) (joined tree);
 }

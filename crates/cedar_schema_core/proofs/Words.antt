@@ -1,5 +1,6 @@
 -- What the words after the program's name ask for.
-use Rattle.std.proofs.Common.{◌≡◌, ℕ, ◌==◌, Bool, true, List, [], ◌∷◌, length, Option, Some, None, MatchOption, sym, ap, ◌∙◌, subst, String, Global, arith}
+use Rattle.std.proofs.Common.{◌≡◌, ℕ, ◌==◌, Bool, true, List, [], ◌∷◌, length, Option, Some, None, MatchOption, sym, ap}
+use Rattle.std.proofs.Common.{◌∙◌, subst, String, Global, arith}
 use Rattle.std.specs.Prelude.{map, codes}
 use Rattle.std.specs.String.{string_bytes}
 use Rattle.std.proofs.lemmas.Bool.Decides.{nat_tests}
@@ -10,9 +11,11 @@ use Rattle.cedar_schema_core.specs.declared.command.Command.TheVariants.{Recover
 use Rattle.cedar_schema_core.specs.Commands.{IsTableInOrder, Asks, recover, recover_with, check, to_json, from_json}
 
 -- the texts of the words are that of the first and those of the others
-pub split_words : (words names : List (String Global)) (word : String Global) (first : List ℕ) → IsFirstAndRest words word names
+pub split_words : (words names : List (String Global)) (word : String Global) (first : List ℕ)
+    → IsFirstAndRest words word names
     → first ≡ string_bytes word → map string_bytes words ≡ first ∷ map string_bytes names
-split_words words names word first h is = ap (map string_bytes) h.0 ∙ ap (λ text. text ∷ map string_bytes names) (sym is)
+split_words words names word first h is = ap (map string_bytes) h.0
+    ∙ ap (λ text. text ∷ map string_bytes names) (sym is)
 
 -- where no word stands behind the first
 pub alone : (words names : List (String Global)) (word : String Global) (first : List ℕ) (none : Bool)
@@ -33,7 +36,8 @@ none_asked words names is none c (from_json table e s) = cc
 
 -- the names behind `recover-with` make a table, or there is no command
 pub named_command : (words names : List (List ℕ)) (found : Option Command) → words ≡ codes "recover-with" ∷ names
-    → MatchOption found ((table : ExtensionTable) → IsTableInOrder names table → ⊥) (λ c. (table : ExtensionTable) × (c ≡ Recover table) × IsTableInOrder names table)
+    → MatchOption found ((table : ExtensionTable) → IsTableInOrder names table → ⊥)
+    (λ c. (table : ExtensionTable) × (c ≡ Recover table) × IsTableInOrder names table)
     → MatchOption found ((c : Command) → Asks words c → ⊥) (Asks words)
 named_command words names None is h = λ c asked. none_asked words names is h c asked
 named_command words names (Some c) is h = subst (Asks words) (sym h.1) (recover_with names h.0 is h.2)

@@ -25,7 +25,8 @@ use Rattle.schema_build_parts.specs.BuildFaults.{BuildFault}
 use Rattle.schema_build_text.specs.Captured.{IsUncaptured, IsFirstCaptured}
 use Rattle.cedar_schema_core.specs.declared.recover.Recovered.{Recovered}
 use Rattle.cedar_schema_core_faults.specs.declared.recover_error.RecoverError.{RecoverError}
-use Rattle.cedar_schema_core_faults.specs.declared.recover_error.RecoverError.TheVariants.{Parse, Schema, Captured, Memory}
+use Rattle.cedar_schema_core_faults.specs.declared.recover_error.RecoverError.TheVariants.{Parse, Schema, Captured}
+use Rattle.cedar_schema_core_faults.specs.declared.recover_error.RecoverError.TheVariants.{Memory}
 
 -- ---- written
 

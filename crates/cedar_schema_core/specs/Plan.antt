@@ -7,7 +7,8 @@ use Rattle.schema_convert_errors.specs.WarningTexts.{warning_text}
 use Rattle.schema_convert_errors.specs.declared.warnings.SchemaWarning.{SchemaWarning}
 use Rattle.cedar_schema_core.specs.declared.command.Command.{Command}
 use Rattle.cedar_schema_core.specs.declared.status.Status.{Status}
-use Rattle.cedar_schema_core.specs.declared.status.Status.TheVariants.{Done, Refused, Usage, ReadFault, NotText, TooLong}
+use Rattle.cedar_schema_core.specs.declared.status.Status.TheVariants.{Done, Refused, Usage, ReadFault, NotText}
+use Rattle.cedar_schema_core.specs.declared.status.Status.TheVariants.{TooLong}
 use Rattle.cedar_schema_core_faults.specs.declared.recover_error.RecoverError.{RecoverError}
 use Rattle.cedar_schema_core_faults.specs.declared.recover_error.RecoverError.TheVariants.{Memory}
 use Rattle.cedar_schema_core_faults.specs.Told.{fault_text}

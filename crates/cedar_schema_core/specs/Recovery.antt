@@ -15,7 +15,8 @@ use Rattle.schema_build_text.specs.Captured.{IsFirstCaptured}
 use Rattle.schema_build_errors.specs.declared.captured.ReferenceCaptured.{ReferenceCaptured}
 use Rattle.cedar_schema_core.specs.declared.recover.Recovered.{Recovered}
 use Rattle.cedar_schema_core_faults.specs.declared.recover_error.RecoverError.{RecoverError}
-use Rattle.cedar_schema_core_faults.specs.declared.recover_error.RecoverError.TheVariants.{Parse, Schema, Captured, Memory}
+use Rattle.cedar_schema_core_faults.specs.declared.recover_error.RecoverError.TheVariants.{Parse, Schema, Captured}
+use Rattle.cedar_schema_core_faults.specs.declared.recover_error.RecoverError.TheVariants.{Memory}
 use Rattle.cedar_schema_core.specs.Meanings.{TextMeaning, Warns}
 
 -- the canonical text of the text's meaning, its warnings, and how much the meaning holds

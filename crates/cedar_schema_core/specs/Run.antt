@@ -26,7 +26,8 @@ pub record Device : Type 1 where
 
 -- the source or sink that was old and is new, by what its kind tells and counts
 abbrev pub device : {D : Type 0} → (D → Option (List ℕ)) → (D → ℕ) → D → D → Device
-device told faults old new = record { before = told old; after = told new; faults_before = faults old; faults_after = faults new; Same = new ≡ old }
+device told faults old new = record
+    { before = told old; after = told new; faults_before = faults old; faults_after = faults new; Same = new ≡ old }
 
 -- how the source stands: as before where the words ask for no command, and at its end where a command read it whole
 pub record LeftAs (words : List (List ℕ)) (source : Device) (status : Status) : Type 0 where
@@ -62,8 +63,8 @@ pub data IsRun (words : List (List ℕ)) (source out err : Device) : Status → 
       → IsDelivered out err report status → IsRun words source out err status
   wanted_memory : out.Same → err.Same → IsRun words source out err Memory
 
--- the whole input was read, and what the command writes of it was written and nothing else, with a line for each warning
--- to the error output
+-- the whole input was read, and what the command writes of it was written and nothing else, with a line for each
+-- warning to the error output
 pub record Completed (c : Command) (source out err : Device) : Type 0 where
   pub bytes : List ℕ
   pub text : List ℕ

@@ -17,7 +17,8 @@ use Rattle.schema_build_errors.specs.SchemaErrorTexts.{schema_error_text, schema
 use Rattle.schema_build_errors.specs.declared.captured.ReferenceCaptured.{ReferenceCaptured}
 use Rattle.schema_build_errors.specs.declared.schema_error.SchemaError.{SchemaError}
 use Rattle.cedar_schema_core_faults.specs.declared.recover_error.RecoverError.{RecoverError}
-use Rattle.cedar_schema_core_faults.specs.declared.recover_error.RecoverError.TheVariants.{Parse, Schema, Captured, Memory}
+use Rattle.cedar_schema_core_faults.specs.declared.recover_error.RecoverError.TheVariants.{Parse, Schema, Captured}
+use Rattle.cedar_schema_core_faults.specs.declared.recover_error.RecoverError.TheVariants.{Memory}
 
 -- what is told of one fault
 pub record Told : Type 0 where

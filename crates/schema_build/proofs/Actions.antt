@@ -32,7 +32,8 @@ use Rattle.schema_build_hierarchy.specs.Entries.{AreActions, action_of_entry}
 use Rattle.schema_build_hierarchy.specs.Parents.{IsActionAncestor}
 use Rattle.schema_build_hierarchy.specs.declared.entries.Entry.{Entry}
 use Rattle.schema_build_hierarchy.proofs.Ordered.{map_twice, sorted_seen, sorted_back}
-use Rattle.schema_build_items.specs.ActionKinds.{AreJust, ApplyMeaning, ActionKindStandsFor, IsActionKindBuilt, IsApplyMeaning, as_components, components_cmp, tests_alone}
+use Rattle.schema_build_items.specs.ActionKinds.{AreJust, ApplyMeaning, ActionKindStandsFor, IsActionKindBuilt}
+use Rattle.schema_build_items.specs.ActionKinds.{IsApplyMeaning, as_components, components_cmp, tests_alone}
 use Rattle.schema_build.specs.Assembly.{AreAt, AreAllAt, HoldActions, AreActionsBuilt, action_of_parts}
 use Rattle.schema_build.specs.Meaning.{IsActionMeaning}
 use Rattle.schema_build.proofs.InOrder.{rising_names, rising_actions}
@@ -61,15 +62,18 @@ module _ {G : named.Ghosts RawName} where
       → IsStrictlySortedBy actions_cmp (map action_of ancestors) → IsStrictlySortedBy components_cmp m.principals
       → IsStrictlySortedBy components_cmp m.resources → ActionKindStandsFor kind e.ty.now.external m
       → action_content (action_of_parts ((e, ancestors), kind)) ≡ action_as_built (meant_by e ancestors m)
-  says e ancestors m (built.Defined principals resources context) up first second (own, these, those, in_context) = λ i. record {
-    ty = (action_of e.name).0;
-    id = (action_of e.name).1;
-    is_external = sym own i;
-    ancestors = rising_actions ancestors up i;
-    principals = (rising_names (as_components principals) (subst (IsStrictlySortedBy components_cmp) (sym these) first) ∙ these) i;
-    resources = (rising_names (as_components resources) (subst (IsStrictlySortedBy components_cmp) (sym those) second) ∙ those) i;
-    context = built_says (Rec m.context) context in_context i;
-  }
+  says e ancestors m (built.Defined principals resources context) up first second (own, these, those, in_context) =
+      λ i. record {
+        ty = (action_of e.name).0;
+        id = (action_of e.name).1;
+        is_external = sym own i;
+        ancestors = rising_actions ancestors up i;
+        principals = (rising_names (as_components principals)
+            (subst (IsStrictlySortedBy components_cmp) (sym these) first) ∙ these) i;
+        resources = (rising_names (as_components resources) (subst (IsStrictlySortedBy components_cmp) (sym those) second)
+            ∙ those) i;
+        context = built_says (Rec m.context) context in_context i;
+      }
   says e ancestors m built.External up first second (other, none, neither, nothing) = λ i. record {
     ty = (action_of e.name).0;
     id = (action_of e.name).1;
@@ -86,7 +90,8 @@ none_rise xs none = subst (IsStrictlySortedBy components_cmp) (sym none) tt
 
 -- the principals and the resources that are meant rise
 both_rise : (t : Tests) (s : Scope RawName) (ns : Option Name) (applies : Option (ApplySpec RawName)) (m : ApplyMeaning)
-    → IsApplyMeaning t s ns applies m → IsStrictlySortedBy components_cmp m.principals × IsStrictlySortedBy components_cmp m.resources
+    → IsApplyMeaning t s ns applies m
+    → IsStrictlySortedBy components_cmp m.principals × IsStrictlySortedBy components_cmp m.resources
 both_rise t s ns None m is = (none_rise m.principals is.0, none_rise m.resources is.1)
 both_rise t s ns (Some d) m is = (is.0.rising, is.1.rising)
 
@@ -94,7 +99,8 @@ module _ {G : named.Ghosts RawName} (f : Fragment RawName G) (table : ExtensionT
   -- the actions are just the ancestors of the declaration
   abbrev HasAncestors : ActionEntry G → List EntityUID → Type 0
   HasAncestors e ancestors = AreJust actions_cmp
-      (IsActionAncestor (tests_alone f table) (declared_actions f) (action_key (action_of_entry e))) (map action_of ancestors)
+      (IsActionAncestor (tests_alone f table) (declared_actions f) (action_key (action_of_entry e)))
+      (map action_of ancestors)
 
   all_say : (es : List (ActionEntry G)) (ancestors : List (List EntityUID)) (kinds : List ValidatorActionKind)
       → AllZip HasAncestors es ancestors
@@ -120,38 +126,50 @@ module _ {G : named.Ghosts RawName} (f : Fragment RawName G) (table : ExtensionT
   -- the actions at the places of the rows are the ancestors
   ancestors_are : (es : List (ActionEntry G)) (rows : List (Vec ℕ Global)) (ancestors : List (List EntityUID))
       → AreActions (declared_actions f) es
-      → AreAncestorRows (IsActionAncestor (tests_alone f table) (declared_actions f)) (map (λ e. action_key (action_of_entry e)) es) rows
+      → AreAncestorRows (IsActionAncestor (tests_alone f table) (declared_actions f))
+      (map (λ e. action_key (action_of_entry e)) es) rows
       → AreAllAt (map (λ e. e.name) es) rows ancestors → AllZip HasAncestors es ancestors
   ancestors_are es rows ancestors are above at =
       let names = map (λ (e : ActionEntry G). action_key (action_of_entry e)) es in
       let up : IsStrictlySortedBy actions_cmp names =
-      subst (IsStrictlySortedBy actions_cmp) (map_twice action_key action_of_entry es) (action_keys_rise (map action_of_entry es) are.rising) in
+      subst (IsStrictlySortedBy actions_cmp) (map_twice action_key action_of_entry es)
+      (action_keys_rise (map action_of_entry es) are.rising) in
       joined
-      (λ e (row : Vec ℕ Global). IsAncestorRow (IsActionAncestor (tests_alone f table) (declared_actions f)) names (action_key (action_of_entry e)) row.items)
+      (λ e (row : Vec ℕ Global). IsAncestorRow (IsActionAncestor (tests_alone f table) (declared_actions f)) names
+      (action_key (action_of_entry e)) row.items)
       (λ (row : Vec ℕ Global). AreAt (map (λ (e : ActionEntry G). e.name) es) row.items)
       HasAncestors
       (λ e row found is stand. are_just names actions_total up
-      (IsActionAncestor (tests_alone f table) (declared_actions f)) (action_key (action_of_entry e)) row.items (map action_of found) is
+      (IsActionAncestor (tests_alone f table) (declared_actions f)) (action_key (action_of_entry e)) row.items
+      (map action_of found) is
       (subst (λ l. AreAt l row.items (map action_of found)) (map_twice action_of (λ (e : ActionEntry G). e.name) es)
       (seen_at action_of (map (λ (e : ActionEntry G). e.name) es) row.items found stand)))
       es rows ancestors
       (unmapped (λ (e : ActionEntry G). action_key (action_of_entry e))
-      (λ a (row : Vec ℕ Global). IsAncestorRow (IsActionAncestor (tests_alone f table) (declared_actions f)) names a row.items) es rows
+      (λ a (row : Vec ℕ Global). IsAncestorRow (IsActionAncestor (tests_alone f table) (declared_actions f)) names a
+      row.items) es rows
       (rows_zip (IsActionAncestor (tests_alone f table) (declared_actions f)) names rows above))
       at
 
   pub actions_built : (es : List (ActionEntry G)) (rows : List (Vec ℕ Global)) (ancestors : List (List EntityUID))
-      (kinds : List ValidatorActionKind) → HoldActions f table es rows kinds → AreAllAt (map (λ e. e.name) es) rows ancestors
+      (kinds : List ValidatorActionKind) → HoldActions f table es rows kinds
+      → AreAllAt (map (λ e. e.name) es) rows ancestors
       → AreActionsBuilt f table (map action_of_parts (zip (zip es ancestors) kinds))
   actions_built es rows ancestors kinds hold at =
-      let (ms, mean, say, keyed) = all_say es ancestors kinds (ancestors_are es rows ancestors hold.actions hold.rows at) hold.built in
+      let (ms, mean, say, keyed) = all_say es ancestors kinds
+      (ancestors_are es rows ancestors hold.actions hold.rows at) hold.built in
       let up : IsStrictlySortedBy uids_in_order (map (λ (e : ActionEntry G). e.name) es) =
       sorted_seen (λ (e : ActionEntry G). e.name) uids_in_order es
       (sorted_back action_of_entry (λ a b. actions_at_in_order a.name b.name) es hold.actions.rising) in (
         subst (IsStrictlySortedBy uids_in_order) (sym keyed) up,
         (
           ms,
-          record { declared = map action_of_entry es; same = hold.actions.same; rising = hold.actions.rising; each = mean },
+          record {
+            declared = map action_of_entry es;
+            same = hold.actions.same;
+            rising = hold.actions.rising;
+            each = mean;
+          },
           λ i. record { entities = []; actions = say i },
         ),
       )

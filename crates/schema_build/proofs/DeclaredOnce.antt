@@ -23,7 +23,8 @@ use Rattle.schema_build_checks.specs.DeclaredAt.{ActionAt, actions_at_in_order}
 use Rattle.schema_build_scope.specs.Commons.{TypeAt, common_entry, declared_commons}
 use Rattle.schema_build_hierarchy.specs.Declarations.{Declared, DeclaredEntity, declared_entities, declared_actions}
 use Rattle.schema_build_hierarchy.proofs.Exact.{names_exact, text_total}
-use Rattle.schema_build_hierarchy.proofs.Gathered.{contains_flat, last_same, path, full_path, place_tied, keyed_once, entities_once, actions_once}
+use Rattle.schema_build_hierarchy.proofs.Gathered.{contains_flat, last_same, path, full_path, place_tied, keyed_once}
+use Rattle.schema_build_hierarchy.proofs.Gathered.{entities_once, actions_once}
 use Rattle.schema_build_hierarchy.proofs.Ordered.{contains_unmap}
 use Rattle.schema_build.specs.FaultsTold.{IsInOrder}
 
@@ -54,18 +55,25 @@ module _ {G : named.Ghosts RawName} (f : Fragment RawName G) (order : IsInOrder 
       let (p, cp, pa) = contains_unmap (common_entry e.0) e.1.common_types a da in
       let (q, cq, qb) = contains_unmap (common_entry k.0) k.1.common_types b db in
       let same : components_of a.0 ≡ components_of b.0 = names_exact a.0 b.0 h in
-      let left : components_of a.0 ≡ path e.0 ++ p.0.id.id.text ∷ [] = ap (λ (x : InternalName × TypeAt). components_of x.0) (sym pa) ∙ full_path e.0 (record { first = p.0.id.id; others = []; loc = p.1.loc }) refl in
-      let right : components_of b.0 ≡ path k.0 ++ q.0.id.id.text ∷ [] = ap (λ (x : InternalName × TypeAt). components_of x.0) (sym qb) ∙ full_path k.0 (record { first = q.0.id.id; others = []; loc = q.1.loc }) refl in
+      let left : components_of a.0 ≡ path e.0
+      ++ p.0.id.id.text ∷ [] = ap (λ (x : InternalName × TypeAt). components_of x.0) (sym pa)
+      ∙ full_path e.0 (record { first = p.0.id.id; others = []; loc = p.1.loc }) refl in
+      let right : components_of b.0 ≡ path k.0
+      ++ q.0.id.id.text ∷ [] = ap (λ (x : InternalName × TypeAt). components_of x.0) (sym qb)
+      ∙ full_path k.0 (record { first = q.0.id.id; others = []; loc = q.1.loc }) refl in
       let both = last_same (path e.0) (path k.0) p.0.id.id.text q.0.id.id.text (sym left ∙ same ∙ right) in
       let ek : e ≡ k = keyed_once places_total f.0 order.namespaces e k ce ck (place_tied e.0 k.0 both.0) in
       let cp' : Contains k.1.common_types p = subst (λ z. Contains z.1.common_types p) ek cp in
-      let tied : text_cmp p.0.id.id.text q.0.id.id.text ≡ Equal = ap (text_cmp p.0.id.id.text) (sym both.1) ∙ tied_itself text_total p.0.id.id.text in
+      let tied : text_cmp p.0.id.id.text q.0.id.id.text ≡ Equal = ap (text_cmp p.0.id.id.text) (sym both.1)
+      ∙ tied_itself text_total p.0.id.id.text in
       let pq : p ≡ q =
       keyed_once (on_total (λ (u : CommonTypeId). u.id.id.text) text_total) k.1.common_types
-      (All-contains (λ e. IsStrictlySortedBy (λ x y. text_cmp x.id.id.text y.id.id.text) (keys_of e.1.common_types)) f.0 k order.commons ck) p q cp' cq tied in
+      (All-contains (λ e. IsStrictlySortedBy (λ x y. text_cmp x.id.id.text y.id.id.text) (keys_of e.1.common_types))
+      f.0 k order.commons ck) p q cp' cq tied in
       sym pa ∙ (λ i. common_entry (ek i).0 (pq i)) ∙ qb
 
-  pub commons_are : (a b : InternalName) → Contains (keys_of (declared_commons f)) a → Contains (keys_of (declared_commons f)) b
+  pub commons_are : (a b : InternalName) → Contains (keys_of (declared_commons f)) a
+      → Contains (keys_of (declared_commons f)) b
       → names_in_order a b ≡ Equal → a ≡ b
   commons_are a b ca cb h =
       let (x, cx, xa) = entry_of a ca in

@@ -40,7 +40,8 @@ use Rattle.schema_build.proofs.Zipped.{rows_zip, joined, unmapped}
 abbrev EntityEntry : Type 0
 EntityEntry = Entry Name (EntityType RawName)
 
-tags_say : (p : Option PlainType) (tags : Option Built) → AreTagsBuilt p tags → option_map type_content tags ≡ option_map as_built p
+tags_say : (p : Option PlainType) (tags : Option Built) → AreTagsBuilt p tags
+    → option_map type_content tags ≡ option_map as_built p
 tags_say None tags b = ap (option_map type_content) b
 tags_say (Some p) tags b = ap (option_map type_content) b.1 ∙ ap Some (built_says p b.0 b.2)
 
@@ -115,32 +116,41 @@ module _ {G : named.Ghosts RawName} (f : Fragment RawName G) (table : ExtensionT
   -- the names at the places of the rows are the ancestors
   ancestors_are : (es : List EntityEntry) (rows : List (Vec ℕ Global)) (ancestors : List (List Name))
       → AreEntities (declared_entities f) es
-      → AreAncestorRows (IsAncestor (tests_alone f table) (declared_entities f)) (map (λ e. entity_name (entity_of e)) es) rows
+      → AreAncestorRows (IsAncestor (tests_alone f table) (declared_entities f))
+      (map (λ e. entity_name (entity_of e)) es) rows
       → AreAllAt (map (λ e. e.name) es) rows ancestors → AllZip HasAncestors es ancestors
   ancestors_are es rows ancestors are above at =
       let names = map (λ (e : EntityEntry). entity_name (entity_of e)) es in
       let up : IsStrictlySortedBy components_cmp names =
-      subst (IsStrictlySortedBy components_cmp) (map_twice entity_name entity_of es) (entity_names_rise (map entity_of es) are.rising) in
+      subst (IsStrictlySortedBy components_cmp) (map_twice entity_name entity_of es)
+      (entity_names_rise (map entity_of es) are.rising) in
       joined
-      (λ e (row : Vec ℕ Global). IsAncestorRow (IsAncestor (tests_alone f table) (declared_entities f)) names (entity_name (entity_of e)) row.items)
+      (λ e (row : Vec ℕ Global). IsAncestorRow (IsAncestor (tests_alone f table) (declared_entities f)) names
+      (entity_name (entity_of e)) row.items)
       (λ (row : Vec ℕ Global). AreAt (map (λ (e : EntityEntry). e.name) es) row.items)
       HasAncestors
       (λ e row found is stand. are_just names components_total up
-      (IsAncestor (tests_alone f table) (declared_entities f)) (entity_name (entity_of e)) row.items (as_components found) is
-      (subst (λ l. AreAt l row.items (as_components found)) (map_twice (λ (n : Name). components_of n.name) (λ (e : EntityEntry). e.name) es)
+      (IsAncestor (tests_alone f table) (declared_entities f)) (entity_name (entity_of e)) row.items
+      (as_components found) is
+      (subst (λ l. AreAt l row.items (as_components found))
+      (map_twice (λ (n : Name). components_of n.name) (λ (e : EntityEntry). e.name) es)
       (seen_at (λ (n : Name). components_of n.name) (map (λ (e : EntityEntry). e.name) es) row.items found stand)))
       es rows ancestors
       (unmapped (λ (e : EntityEntry). entity_name (entity_of e))
-      (λ a (row : Vec ℕ Global). IsAncestorRow (IsAncestor (tests_alone f table) (declared_entities f)) names a row.items) es rows
+      (λ a (row : Vec ℕ Global). IsAncestorRow (IsAncestor (tests_alone f table) (declared_entities f)) names a
+      row.items) es rows
       (rows_zip (IsAncestor (tests_alone f table) (declared_entities f)) names rows above))
       at
 
   pub entities_built : (es : List EntityEntry) (rows : List (Vec ℕ Global)) (ancestors : List (List Name))
-      (kinds : List ValidatorEntityTypeKind) → HoldEntities f table es rows kinds → AreAllAt (map (λ e. e.name) es) rows ancestors
+      (kinds : List ValidatorEntityTypeKind) → HoldEntities f table es rows kinds
+      → AreAllAt (map (λ e. e.name) es) rows ancestors
       → AreEntitiesBuilt f table (map entity_type_of (zip (zip es ancestors) kinds))
   entities_built es rows ancestors kinds hold at =
-      let (ms, mean, say, keyed) = all_say es ancestors kinds (ancestors_are es rows ancestors hold.entities hold.rows at) hold.built in
-      let up : IsStrictlySortedBy (λ (a b : Name). names_in_order a.name b.name) (map (λ (e : EntityEntry). e.name) es) =
+      let (ms, mean, say, keyed) = all_say es ancestors kinds
+      (ancestors_are es rows ancestors hold.entities hold.rows at) hold.built in
+      let up : IsStrictlySortedBy (λ (a b : Name). names_in_order a.name b.name)
+      (map (λ (e : EntityEntry). e.name) es) =
       sorted_seen (λ (e : EntityEntry). e.name) (λ (a b : Name). names_in_order a.name b.name) es
       (sorted_back entity_of (λ a b. names_in_order a.name b.name) es hold.entities.rising) in (
         subst (IsStrictlySortedBy (λ (a b : Name). names_in_order a.name b.name)) (sym keyed) up,

@@ -18,7 +18,8 @@ in_front R k [] up = refl
 in_front R k (x ∷ ks) up =
     ap (λ o. match_ordering o (k ∷ x ∷ ks) (x ∷ ks) (x ∷ insert_key R ks k)) (sorted_head R k (x ∷ ks) up).0
 
-pub rising_names : (names : List (List (List ℕ))) → IsStrictlySortedBy (slice_cmp text_cmp) names → in_order names ≡ names
+pub rising_names : (names : List (List (List ℕ))) → IsStrictlySortedBy (slice_cmp text_cmp) names
+    → in_order names ≡ names
 rising_names [] up = refl
 rising_names (n ∷ ns) up =
     ap (λ l. insert_key (slice_cmp text_cmp) l n) (rising_names ns (sorted_tail (slice_cmp text_cmp) n ns up))
@@ -28,7 +29,8 @@ pub rising_actions : (uids : List EntityUID) → IsStrictlySortedBy actions_cmp 
     → actions_in_order uids ≡ map action_of uids
 rising_actions [] up = refl
 rising_actions (u ∷ us) up =
-    ap (λ l. insert_key actions_cmp l (action_of u)) (rising_actions us (sorted_tail actions_cmp (action_of u) (map action_of us) up))
+    ap (λ l. insert_key actions_cmp l (action_of u))
+    (rising_actions us (sorted_tail actions_cmp (action_of u) (map action_of us) up))
     ∙ in_front actions_cmp (action_of u) (map action_of us) up
 
 pub none_rise : {K : Type 0} (R : K → K → Ordering) → IsStrictlySortedBy R []

@@ -1,5 +1,6 @@
 -- The least of names, from turn to turn.
-use Rattle.std.proofs.Common.{rules, suc, ◌⊎◌, inl, inr, ◌≡◌, ◌≢◌, ◌<◌, ◌+◌, ℕ, List, ◌∷◌, length, get_or, refl, sym, ◌∙◌, Contains}
+use Rattle.std.proofs.Common.{rules, suc, ◌⊎◌, inl, inr, ◌≡◌, ◌≢◌, ◌<◌, ◌+◌, ℕ, List, ◌∷◌, length, get_or, refl, sym}
+use Rattle.std.proofs.Common.{◌∙◌, Contains}
 use Rattle.std.specs.List.{AllWithin}
 use Rattle.std.specs.declared.cmp.Ordering.{Ordering}
 use Rattle.std.specs.declared.cmp.Ordering.TheVariants.{Less, Equal, Greater}
@@ -33,7 +34,8 @@ pub least_taken : (first : Name) (others : List Name) (i : ℕ) (least item : Na
 least_taken first others i least item lt at less so = (
   (suc i, search rules, sym at),
   lower first least item less so.1,
-  AllWithin-more (λ n. NotBefore n item) others 0 i (λ k d l h. lower (get_or others k d) least item less (so.2 k d l h))
+  AllWithin-more (λ n. NotBefore n item) others 0 i
+      (λ k d l h. lower (get_or others k d) least item less (so.2 k d l h))
       (at_read others (λ n. NotBefore n item) i item lt at (not_before_itself item)),
 )
 

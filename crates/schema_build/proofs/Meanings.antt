@@ -27,7 +27,8 @@ use Rattle.schema_build_hierarchy.specs.Entries.{SameMembers}
 use Rattle.schema_build_hierarchy.proofs.KnownByMembers.{known_by_members}
 use Rattle.schema_build_items.specs.ActionKinds.{AreJust, ApplyMeaning, IsApplyMeaning, components_cmp, tests_alone}
 use Rattle.schema_build_items.specs.Kinds.{KindMeaning, IsKindMeaning, TagsExpand}
-use Rattle.schema_build.specs.Meaning.{IsEntityMeaning, IsActionMeaning, EntitiesMean, ActionsMean, FragmentMeaning, kind_meaning, apply_meaning, key_of}
+use Rattle.schema_build.specs.Meaning.{IsEntityMeaning, IsActionMeaning, EntitiesMean, ActionsMean, FragmentMeaning}
+use Rattle.schema_build.specs.Meaning.{kind_meaning, apply_meaning, key_of}
 use Rattle.schema_build.proofs.Orders.{components_total, actions_total, declared_entities_total, declared_actions_total}
 use Rattle.schema_build.proofs.Zipped.{one_beside}
 
@@ -45,7 +46,8 @@ module _ (s : Scope RawName) (once : ExpandsOnce s) where
       → Expands RawName s ns ty (Rec ys) → xs ≡ ys
   record_once ns ty xs ys p q = let same : Rec xs ≡ Rec ys = once ns ty (Rec xs) (Rec ys) p q in cc
 
-  tags_once : (ns : Option InternalName) (tags : Option («Type» RawName)) (p q : Option PlainType) → TagsExpand s ns tags p
+  tags_once : (ns : Option InternalName) (tags : Option («Type» RawName)) (p q : Option PlainType)
+      → TagsExpand s ns tags p
       → TagsExpand s ns tags q → p ≡ q
   tags_once ns None p q a b = a ∙ sym b
   tags_once ns (Some ty) p q a b = a.1 ∙ ap Some (once ns ty a.0 b.0 a.2 b.2) ∙ sym b.1
@@ -76,10 +78,13 @@ module _ (s : Scope RawName) (once : ExpandsOnce s) where
     context = record_once (name_of ns) d.context.0 m.context n.context p.2 q.2 i;
   }
 
-module _ {G : named.Ghosts RawName} (f : Fragment RawName G) (table : ExtensionTable) (once : ExpandsOnce (fragment_scope f table)) where
-  entity_once : (d : DeclaredEntity) (x y : EntityMeaning) → IsEntityMeaning f table d x → IsEntityMeaning f table d y → x ≡ y
+module _ {G : named.Ghosts RawName} (f : Fragment RawName G) (table : ExtensionTable)
+    (once : ExpandsOnce (fragment_scope f table)) where
+  entity_once : (d : DeclaredEntity) (x y : EntityMeaning) → IsEntityMeaning f table d x
+      → IsEntityMeaning f table d y → x ≡ y
   entity_once d x y p q =
-      let kind = kind_once (fragment_scope f table) once (name_of d.ns) d.ty.kind (kind_meaning x) (kind_meaning y) p.kind q.kind in
+      let kind = kind_once (fragment_scope f table) once (name_of d.ns) d.ty.kind (kind_meaning x) (kind_meaning y)
+      p.kind q.kind in
       λ i. record {
         name = (p.name ∙ sym q.name) i;
         is_external = (p.is_external ∙ sym q.is_external) i;
@@ -93,7 +98,8 @@ module _ {G : named.Ghosts RawName} (f : Fragment RawName G) (table : ExtensionT
       → IsActionMeaning f table d y → x ≡ y
   action_once d x y p q =
       let key : key_of x ≡ key_of y = p.key ∙ sym q.key in
-      let applies = apply_once (fragment_scope f table) once (tests_alone f table) d.ns d.ty.applies_to (apply_meaning x) (apply_meaning y) p.applies q.applies in
+      let applies = apply_once (fragment_scope f table) once (tests_alone f table) d.ns d.ty.applies_to
+      (apply_meaning x) (apply_meaning y) p.applies q.applies in
       λ i. record {
         ty = (key i).0;
         id = (key i).1;
@@ -106,14 +112,17 @@ module _ {G : named.Ghosts RawName} (f : Fragment RawName G) (table : ExtensionT
 
   entities_once : (xs ys : List EntityMeaning) → EntitiesMean f table xs → EntitiesMean f table ys → xs ≡ ys
   entities_once xs ys p q =
-      let declared : p.declared ≡ q.declared = known_by_members (λ (a b : DeclaredEntity). names_in_order a.name b.name) declared_entities_total
-      p.declared q.declared p.rising q.rising (same_members (declared_entities f) p.declared q.declared p.same q.same) in
+      let declared : p.declared ≡ q.declared = known_by_members
+      (λ (a b : DeclaredEntity). names_in_order a.name b.name) declared_entities_total
+      p.declared q.declared p.rising q.rising
+      (same_members (declared_entities f) p.declared q.declared p.same q.same) in
       one_beside (IsEntityMeaning f table) entity_once q.declared xs ys
       (subst (λ ds. AllZip (IsEntityMeaning f table) ds xs) declared p.each) q.each
 
   actions_once : (xs ys : List ActionMeaning) → ActionsMean f table xs → ActionsMean f table ys → xs ≡ ys
   actions_once xs ys p q =
-      let declared : p.declared ≡ q.declared = known_by_members (λ (a b : Declared ActionAt (ActionType RawName G)). actions_at_in_order a.name b.name) (declared_actions_total G)
+      let declared : p.declared ≡ q.declared = known_by_members
+      (λ (a b : Declared ActionAt (ActionType RawName G)). actions_at_in_order a.name b.name) (declared_actions_total G)
       p.declared q.declared p.rising q.rising (same_members (declared_actions f) p.declared q.declared p.same q.same) in
       one_beside (IsActionMeaning f table) action_once q.declared xs ys
       (subst (λ ds. AllZip (IsActionMeaning f table) ds xs) declared p.each) q.each

@@ -47,7 +47,8 @@ entity_names_rise ds up = sorted_seen entity_name components_cmp ds
 module _ {G : named.Ghosts RawName} where
   -- declared actions that rise have types and ids that rise
   pub action_keys_rise : (ds : List (Declared ActionAt (ActionType RawName G)))
-      → IsStrictlySortedBy (λ a b. actions_at_in_order a.name b.name) ds → IsStrictlySortedBy actions_cmp (map action_key ds)
+      → IsStrictlySortedBy (λ a b. actions_at_in_order a.name b.name) ds
+      → IsStrictlySortedBy actions_cmp (map action_key ds)
   action_keys_rise ds up = sorted_seen action_key actions_cmp ds
       (subst (λ o. IsStrictlySortedBy o ds) (λ i a b. actions_by_components a.name b.name i) up)
 
@@ -56,4 +57,5 @@ declared_entities_total = on_total (λ (d : DeclaredEntity). d.name) names_total
 
 pub declared_actions_total : (G : named.Ghosts RawName)
     → IsTotalOrder (λ (a b : Declared ActionAt (ActionType RawName G)). actions_at_in_order a.name b.name)
-declared_actions_total G = on_total (λ (d : Declared ActionAt (ActionType RawName G)). (ids_of d.name.ty, d.name.id)) keys_total
+declared_actions_total G = on_total
+    (λ (d : Declared ActionAt (ActionType RawName G)). (ids_of d.name.ty, d.name.id)) keys_total

@@ -1,5 +1,6 @@
 -- Names at rising places of a list that rises.
-use Rattle.std.proofs.Common.{◌≡◌, ℕ, ◌+◌, ◌<◌, List, [], ◌∷◌, ◌++◌, Vec, Ordering, Some, map, length, take, get_or, Contains, refl, sym, ap, ◌∙◌, subst}
+use Rattle.std.proofs.Common.{◌≡◌, ℕ, ◌+◌, ◌<◌, List, [], ◌∷◌, ◌++◌, Vec, Ordering, Some, map, length, take, get_or}
+use Rattle.std.proofs.Common.{Contains, refl, sym, ap, ◌∙◌, subst}
 use Rattle.std.specs.Prelude.{slice_get}
 use Rattle.std.specs.declared.cmp.Ordering.TheVariants.{Less}
 use Rattle.std.specs.Cmp.{IsTotalOrder}
@@ -33,7 +34,8 @@ seen_at v names places found at =
 
 -- one more of the places
 pub one_more : {A B : Type 0} (name : B → A) (entries : List B) (places : List ℕ) (k : ℕ) (found grown : List A) (x : A)
-    (e : B) → k < length places → get_or places k 0 < length entries → e ≡ get_or entries (get_or places k 0) e → x ≡ name e
+    (e : B) → k < length places → get_or places k 0 < length entries
+    → e ≡ get_or entries (get_or places k 0) e → x ≡ name e
     → grown ≡ found ++ x ∷ [] → AreAt (map name entries) (take k places) found
     → AreAt (map name entries) (take (k + 1) places) grown
 one_more name entries places k found grown x e within inside is same more at =
@@ -46,7 +48,8 @@ one_more name entries places k found grown x e within inside is same more at =
 
 -- one more row of places
 pub one_more_row : {A : Type 0} (names : List A) (rows : List (Vec ℕ Global)) (k : ℕ) (row : Vec ℕ Global)
-    (lists grown : List (List A)) (found : List A) → k < length rows → row ≡ get_or rows k row → grown ≡ lists ++ found ∷ []
+    (lists grown : List (List A)) (found : List A) → k < length rows → row ≡ get_or rows k row
+    → grown ≡ lists ++ found ∷ []
     → AreAt names row.items found → AreAllAt names (take k rows) lists → AreAllAt names (take (k + 1) rows) grown
 one_more_row names rows k row lists grown found within is more at all =
     let longer = all_zipped_more (λ (w : Vec ℕ Global). AreAt names w.items) (take k rows) lists row found all at in
@@ -81,7 +84,8 @@ module _ {K : Type 0} (names : List K) where
       above x r places found is (cc) later.1,
     )
 
-    later_all : (r : ℕ) (places : List ℕ) → AllByRecursion (λ s. nat_cmp r s ≡ Less) places → AllByRecursion (λ s. r < s) places
+    later_all : (r : ℕ) (places : List ℕ) → AllByRecursion (λ s. nat_cmp r s ≡ Less) places
+        → AllByRecursion (λ s. r < s) places
     later_all r [] h = tt
     later_all r (s ∷ places) h = (ranked r s Less (sym h.0), later_all r places h.1)
 
@@ -97,7 +101,8 @@ module _ {K : Type 0} (names : List K) where
     )
 
     -- the names at the places of a row are just the ancestors
-    pub are_just : (ancestor : K → K → Type 0) (a : K) (row : List ℕ) (found : List K) → IsAncestorRow ancestor names a row
+    pub are_just : (ancestor : K → K → Type 0) (a : K) (row : List ℕ) (found : List K)
+        → IsAncestorRow ancestor names a row
         → AreAt names row found → AreJust R (ancestor a) found
     are_just ancestor a row found is at = record {
       rising = rising row found (sorted_from_strictly_increasing row is.rising) at;

@@ -22,24 +22,31 @@ use Rattle.schema_build.specs.Assembly.{AreEntitiesBuilt, AreActionsBuilt, HoldE
 use Rattle.schema_build.specs.Schemas.{Builds}
 use Rattle.schema_build.proofs.Zipped.{rows_within}
 
-module _ (f : Fragment RawName raw_names) (table : ExtensionTable) (p : FragmentParts) (are : ArePartsOf f table p) where
+module _ (f : Fragment RawName raw_names) (table : ExtensionTable) (p : FragmentParts)
+    (are : ArePartsOf f table p) where
   abbrev Within : ℕ → List (Vec ℕ Global) → Type 0
   Within n rows = All (λ (row : Vec ℕ Global). All (λ place. place < n) row.items) rows
 
   pub entities_within : (rows : List (Vec ℕ Global)) → rows ≡ p.above.items → Within (length p.entities.items) rows
   entities_within rows same = subst (Within (length p.entities.items)) (sym same)
-      (rows_within (IsAncestor (tests_alone f table) (declared_entities f)) (map (λ e. entity_name (entity_of e)) p.entities.items)
+      (rows_within (IsAncestor (tests_alone f table) (declared_entities f))
+      (map (λ e. entity_name (entity_of e)) p.entities.items)
       p.above.items (length p.entities.items) (length-map p.entities.items (λ e. entity_name (entity_of e))) are.above)
 
-  pub actions_within : (rows : List (Vec ℕ Global)) → rows ≡ p.above_actions.items → Within (length p.actions.items) rows
+  pub actions_within : (rows : List (Vec ℕ Global)) → rows ≡ p.above_actions.items
+      → Within (length p.actions.items) rows
   actions_within rows same = subst (Within (length p.actions.items)) (sym same)
-      (rows_within (IsActionAncestor (tests_alone f table) (declared_actions f)) (map (λ e. action_key (action_of_entry e)) p.actions.items)
-      p.above_actions.items (length p.actions.items) (length-map p.actions.items (λ e. action_key (action_of_entry e))) are.above_actions)
+      (rows_within (IsActionAncestor (tests_alone f table) (declared_actions f))
+      (map (λ e. action_key (action_of_entry e)) p.actions.items)
+      p.above_actions.items (length p.actions.items)
+      (length-map p.actions.items (λ e. action_key (action_of_entry e))) are.above_actions)
 
-  pub entities_held : (rows : List (Vec ℕ Global)) → rows ≡ p.above.items → HoldEntities f table p.entities.items rows p.kinds.items
+  pub entities_held : (rows : List (Vec ℕ Global)) → rows ≡ p.above.items
+      → HoldEntities f table p.entities.items rows p.kinds.items
   entities_held rows same = record {
     entities = are.entities;
-    rows = subst (AreAncestorRows (IsAncestor (tests_alone f table) (declared_entities f)) (map (λ e. entity_name (entity_of e)) p.entities.items))
+    rows = subst (AreAncestorRows (IsAncestor (tests_alone f table) (declared_entities f))
+        (map (λ e. entity_name (entity_of e)) p.entities.items))
         (sym same) are.above;
     built = are.kinds;
   }
@@ -48,12 +55,14 @@ module _ (f : Fragment RawName raw_names) (table : ExtensionTable) (p : Fragment
       → HoldActions f table p.actions.items rows p.applied.items
   actions_held rows same = record {
     actions = are.actions;
-    rows = subst (AreAncestorRows (IsActionAncestor (tests_alone f table) (declared_actions f)) (map (λ e. action_key (action_of_entry e)) p.actions.items))
+    rows = subst (AreAncestorRows (IsActionAncestor (tests_alone f table) (declared_actions f))
+        (map (λ e. action_key (action_of_entry e)) p.actions.items))
         (sym same) are.above_actions;
     built = are.applied;
   }
 
-pub schema_built : (f : Fragment RawName raw_names) (table : ExtensionTable) (entities : List (Name × ValidatorEntityType))
+pub schema_built : (f : Fragment RawName raw_names) (table : ExtensionTable)
+    (entities : List (Name × ValidatorEntityType))
     (actions : List (EntityUID × ValidatorActionId)) → AreDeclaredOnce (fragment_scope f table)
     → AreEntitiesBuilt f table entities → AreActionsBuilt f table actions
     → Builds f table (record { entity_types = entities; actions = actions })

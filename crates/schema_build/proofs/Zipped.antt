@@ -1,5 +1,6 @@
 -- Lists side by side.
-use Rattle.std.proofs.Common.{◌≡◌, ℕ, ◌<◌, suc, List, [], ◌∷◌, All, Vec, length, get_or, map, Some, refl, subst, inl, inr, arith}
+use Rattle.std.proofs.Common.{◌≡◌, ℕ, ◌<◌, suc, List, [], ◌∷◌, All, Vec, length, get_or, map, Some, refl, subst, inl}
+use Rattle.std.proofs.Common.{inr, arith}
 use Rattle.std.specs.Prelude.{slice_get}
 use Rattle.std.specs.declared.alloc.Global.{Global}
 use Rattle.std.specs.List.{AllZip}
@@ -20,10 +21,12 @@ module _ {A B : Type 0} (P : A → B → Type 0) where
 -- the row of each name is that of its ancestors
 pub rows_zip : {K : Type 0} (ancestor : K → K → Type 0) (names : List K) (rows : List (Vec ℕ Global))
     → AreAncestorRows ancestor names rows → AllZip (λ a row. IsAncestorRow ancestor names a row.items) names rows
-rows_zip ancestor names rows are = at_each (λ a (row : Vec ℕ Global). IsAncestorRow ancestor names a row.items) names rows are.same are.each
+rows_zip ancestor names rows are =
+    at_each (λ a (row : Vec ℕ Global). IsAncestorRow ancestor names a row.items) names rows are.same are.each
 
 -- three lists side by side
-pub joined : {A B C : Type 0} (P : A → B → Type 0) (Q : B → C → Type 0) (S : A → C → Type 0) → ((a : A) (b : B) (c : C) → P a b → Q b c → S a c)
+pub joined : {A B C : Type 0} (P : A → B → Type 0) (Q : B → C → Type 0) (S : A → C → Type 0)
+    → ((a : A) (b : B) (c : C) → P a b → Q b c → S a c)
     → (xs : List A) (ys : List B) (zs : List C) → AllZip P xs ys → AllZip Q ys zs → AllZip S xs zs
 joined P Q S step [] [] [] p q = tt
 joined P Q S step [] [] (z ∷ zs) p q = q
@@ -52,14 +55,17 @@ one_beside P one (d ∷ ds) (x ∷ xs) (y ∷ ys) p q = λ i. one d x y p.0 q.0 
 
 -- the places in the rows are places of names
 pub rows_within : {K : Type 0} (ancestor : K → K → Type 0) (names : List K) (rows : List (Vec ℕ Global)) (n : ℕ)
-    → length names ≡ n → AreAncestorRows ancestor names rows → All (λ (row : Vec ℕ Global). All (λ place. place < n) row.items) rows
+    → length names ≡ n → AreAncestorRows ancestor names rows
+    → All (λ (row : Vec ℕ Global). All (λ place. place < n) row.items) rows
 rows_within ancestor names rows n many are k row within place index inside =
     let list = get_or rows k row in
     let stands : slice_get rows k ≡ Some list = slice_get-get_or rows k row within in
     elim (slice_get_cases names k).1 [
       | inl a ↦
           let is = are.each k a.0 list a.2 stands in
-          let (b, at, above) = is.sound (get_or list.items place index) (Contains-get_or list.items place index inside) in
-          subst (λ m. get_or list.items place index < m) many (slice_get_within names (get_or list.items place index) b at)
+          let (b, at, above) = is.sound (get_or list.items place index)
+          (Contains-get_or list.items place index inside) in
+          subst (λ m. get_or list.items place index < m) many
+          (slice_get_within names (get_or list.items place index) b at)
       | inr past ↦ absurd (omega (arith, within, past.0, are.same))
     ]

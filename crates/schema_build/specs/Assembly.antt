@@ -58,7 +58,8 @@ module _ {G : named.Ghosts RawName} where
   action_of_parts a = (a.0.0.name, record { ancestors = a.0.1; kind = a.1 })
 
   -- the declared entity types in order, with the places of the ancestors of each and what it is built as
-  pub record HoldEntities (f : Fragment RawName G) (table : ExtensionTable) (entries : List (Entry Name (EntityType RawName)))
+  pub record HoldEntities (f : Fragment RawName G) (table : ExtensionTable)
+      (entries : List (Entry Name (EntityType RawName)))
       (above : List (Vec ℕ Global)) (kinds : List ValidatorEntityTypeKind) : Type 0 where
     pub entities : AreEntities (declared_entities f) entries
     pub rows : AreAncestorRows (IsAncestor (tests_alone f table) (declared_entities f))
@@ -66,12 +67,14 @@ module _ {G : named.Ghosts RawName} where
     pub built : AllZip (IsKindBuilt (fragment_scope f table)) (map entity_of entries) kinds
 
   -- the declared actions in order, with the places of the ancestors of each and what it is built as
-  pub record HoldActions (f : Fragment RawName G) (table : ExtensionTable) (entries : List (Entry EntityUID (ActionType RawName G)))
+  pub record HoldActions (f : Fragment RawName G) (table : ExtensionTable)
+      (entries : List (Entry EntityUID (ActionType RawName G)))
       (above : List (Vec ℕ Global)) (kinds : List ValidatorActionKind) : Type 0 where
     pub actions : AreActions (declared_actions f) entries
     pub rows : AreAncestorRows (IsActionAncestor (tests_alone f table) (declared_actions f))
         (map (λ e. action_key (action_of_entry e)) entries) above
-    pub built : AllZip (IsActionKindBuilt (tests_alone f table) (fragment_scope f table)) (map action_of_entry entries) kinds
+    pub built : AllZip (IsActionKindBuilt (tests_alone f table) (fragment_scope f table))
+        (map action_of_entry entries) kinds
 
   -- these entity types, in the order of their names, say what those of the fragment mean
   abbrev pub AreEntitiesBuilt : Fragment RawName G → ExtensionTable → List (Name × ValidatorEntityType) → Type 0

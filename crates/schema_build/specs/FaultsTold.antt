@@ -22,6 +22,7 @@ module _ {G : named.Ghosts RawName} where
   -- the namespaces, and what each of them declares, stand in the order of their names
   pub record IsInOrder (f : Fragment RawName G) : Type 0 where
     pub namespaces : IsStrictlySortedBy (option_cmp (λ (x y : Name). names_in_order x.name y.name)) (keys_of f.0)
-    pub commons : All (λ e. IsStrictlySortedBy (λ x y. text_cmp x.id.id.text y.id.id.text) (keys_of e.1.common_types)) f.0
+    pub commons : All (λ e. IsStrictlySortedBy (λ x y. text_cmp x.id.id.text y.id.id.text) (keys_of e.1.common_types))
+        f.0
     pub entities : All (λ e. IsStrictlySortedBy (λ x y. text_cmp x.id.text y.id.text) (keys_of e.1.entity_types)) f.0
     pub actions : All (λ e. IsStrictlySortedBy text_cmp (keys_of e.1.actions)) f.0

@@ -15,7 +15,8 @@ use Rattle.schema_build_types.specs.Content.{actions_cmp}
 use Rattle.schema_build_checks.specs.DeclaredAt.{ActionAt, actions_at_in_order}
 use Rattle.schema_build_expand.specs.Scope.{AreDeclaredOnce}
 use Rattle.schema_build_scope.specs.FragmentScope.{fragment_scope}
-use Rattle.schema_build_hierarchy.specs.Declarations.{Declared, DeclaredEntity, entity_name, action_key, declared_entities, declared_actions}
+use Rattle.schema_build_hierarchy.specs.Declarations.{Declared, DeclaredEntity, entity_name, action_key}
+use Rattle.schema_build_hierarchy.specs.Declarations.{declared_entities, declared_actions}
 use Rattle.schema_build_hierarchy.specs.Entries.{SameMembers}
 use Rattle.schema_build_hierarchy.specs.Parents.{IsAncestor, IsActionAncestor}
 use Rattle.schema_build_items.specs.ActionKinds.{components_cmp, AreJust, ApplyMeaning, IsApplyMeaning, tests_alone}

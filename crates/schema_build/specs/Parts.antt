@@ -9,7 +9,8 @@ use Rattle.cedar_names.specs.CanonicalText.{basename}
 use Rattle.cedar_names.specs.Orders.{names_in_order}
 use Rattle.cedar_names.specs.declared.entity_uid.EntityUID.{EntityUID}
 use Rattle.schema_build_errors.specs.declared.schema_error.SchemaError.{SchemaError}
-use Rattle.schema_build_errors.specs.declared.schema_error.SchemaError.TheVariants.{InvalidActionType, EnumEntityInHierarchy}
+use Rattle.schema_build_errors.specs.declared.schema_error.SchemaError.TheVariants.{InvalidActionType}
+use Rattle.schema_build_errors.specs.declared.schema_error.SchemaError.TheVariants.{EnumEntityInHierarchy}
 use Rattle.schema_build_types.specs.declared.action.ValidatorActionId.{ValidatorActionId}
 use Rattle.schema_build_types.specs.declared.entity_type.ValidatorEntityType.{ValidatorEntityType}
 use Rattle.schema_build_types.specs.declared.entity_type.ValidatorEntityTypeKind.TheVariants.{Enum}

@@ -1,5 +1,6 @@
 -- The least so far, as a list grows.
-use Rattle.std.proofs.Common.{ℕ, ◌≤◌, length, map, take, ◌≡◌, true, false, List, [], ◌∷◌, ◌++◌, refl, sym, ap, ◌∙◌, append_assoc, inl, inr, subst}
+use Rattle.std.proofs.Common.{ℕ, ◌≤◌, length, map, take, ◌≡◌, true, false, List, [], ◌∷◌, ◌++◌, refl, sym, ap, ◌∙◌}
+use Rattle.std.proofs.Common.{append_assoc, inl, inr, subst}
 use Rattle.std.specs.Prelude.{◌⊎◌}
 use Rattle.std.specs.List.{AllByRecursion, flat_map}
 use Rattle.std.proofs.lemmas.List.{map-append, take_all}
@@ -50,8 +51,12 @@ module _ {A : Type 0} (order : A → A → Ordering) where
       among = refl;
       greater = subst (λ l. AllByRecursion (λ z. is_lt (order y z) ≡ true) l) (sym h.among)
           (all_join (λ z. is_lt (order y z) ≡ true) h.before (x ∷ h.behind)
-          (all_given (λ z. is_lt (order x z) ≡ true) (λ z. is_lt (order y z) ≡ true) (λ z l. below x y z less (o.one_way x z l)) h.before h.greater)
-          (less, all_given (λ z. is_lt (order z x) ≡ false) (λ z. is_lt (order y z) ≡ true) (λ z l. below x y z less l) h.behind h.not_less));
+          (all_given (λ z. is_lt (order x z) ≡ true) (λ z. is_lt (order y z) ≡ true)
+          (λ z l. below x y z less (o.one_way x z l)) h.before h.greater) (
+            less,
+            all_given (λ z. is_lt (order z x) ≡ false) (λ z. is_lt (order y z) ≡ true)
+                (λ z l. below x y z less l) h.behind h.not_less,
+          ));
       not_less = tt;
     }
 

@@ -67,7 +67,8 @@ module _ {G : named.Ghosts RawName} where
   -- the types of a named namespace that have the name of a type of the empty one: common types before entity types
   abbrev pub hiding_types_in : Tests → Option Name × NamespaceDefinition RawName G → List InternalName
   hiding_types_in t (None, n) = []
-  hiding_types_in t (Some ns, n) = flat_map (hiding_common t (Some ns)) n.common_types ++ flat_map (hiding_entity t (Some ns)) n.entity_types
+  hiding_types_in t (Some ns, n) =
+      flat_map (hiding_common t (Some ns)) n.common_types ++ flat_map (hiding_entity t (Some ns)) n.entity_types
 
   abbrev pub hiding_types : Tests → Fragment RawName G → List InternalName
   hiding_types t f = flat_map (hiding_types_in t) f.0
@@ -75,7 +76,8 @@ module _ {G : named.Ghosts RawName} where
   -- the action, where the empty namespace declares one with this id
   abbrev pub hiding_action : Tests → Option Name → List ℕ × ActionType RawName G → List ActionAt
   hiding_action t ns e =
-      if t.is_action (components_of action_name, e.0) then record { ty = action_type ns; id = e.0; loc = e.1.loc } ∷ [] else []
+      if t.is_action (components_of action_name, e.0) then record
+      { ty = action_type ns; id = e.0; loc = e.1.loc } ∷ [] else []
 
   -- the actions of a named namespace that have the id of an action of the empty one
   abbrev pub hiding_actions_in : Tests → Option Name × NamespaceDefinition RawName G → List ActionAt

@@ -11,8 +11,10 @@ use Rattle.schema_json.specs.declared.fragment.Fragment.{Fragment}
 use Rattle.schema_resolve_definitions.specs.Declarations.{declared}
 use Rattle.schema_resolve_definitions.specs.Tests.{tests_of}
 use Rattle.schema_build_errors.specs.declared.schema_error.SchemaError.{SchemaError}
-use Rattle.schema_build_errors.specs.declared.schema_error.SchemaError.TheVariants.{ActionEntityTypeDeclared, TypeShadowing, ActionShadowing}
-use Rattle.schema_build_checks.specs.DeclaredAt.{at_of, actions_at_in_order, called_actions, hiding_types, hiding_actions}
+use Rattle.schema_build_errors.specs.declared.schema_error.SchemaError.TheVariants.{ActionEntityTypeDeclared}
+use Rattle.schema_build_errors.specs.declared.schema_error.SchemaError.TheVariants.{TypeShadowing, ActionShadowing}
+use Rattle.schema_build_checks.specs.DeclaredAt.{at_of, actions_at_in_order, called_actions, hiding_types}
+use Rattle.schema_build_checks.specs.DeclaredAt.{hiding_actions}
 use Rattle.schema_build_checks.specs.Least.{IsFirstLeast}
 
 -- the last word of a name, without a place

@@ -13,7 +13,9 @@ use Rattle.schema_build_errors.specs.declared.schema_error.SchemaError.{SchemaEr
 use Rattle.schema_build_errors.specs.declared.schema_error.SchemaError.TheVariants as error
 use Rattle.schema_build_errors.specs.declared.use_errors.UnsupportedFeature.{UnsupportedFeature}
 use Rattle.schema_build_checks.specs.Refusing.{IsAboutFirst}
-use Rattle.schema_build_errors.specs.declared.use_errors.UnsupportedFeature.TheVariants.{OpenRecordsAndEntities, ActionAttributes, ExternalNotBare}
+use Rattle.schema_build_errors.specs.declared.use_errors.UnsupportedFeature.TheVariants.{OpenRecordsAndEntities}
+use Rattle.schema_build_errors.specs.declared.use_errors.UnsupportedFeature.TheVariants.{ActionAttributes}
+use Rattle.schema_build_errors.specs.declared.use_errors.UnsupportedFeature.TheVariants.{ExternalNotBare}
 
 -- an extension type that the table does not hold
 abbrev pub unknown_extension : ExtensionTable → Part RawName → List UnreservedId

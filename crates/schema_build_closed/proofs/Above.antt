@@ -1,5 +1,6 @@
 -- Ancestors are closed and declared.
-use Rattle.std.proofs.Common.{◌≡◌, ℕ, true, false, List, [], Contains, Option, Some, None, codes, refl, sym, ap, ◌∙◌, subst, inl, inr, true≢false}
+use Rattle.std.proofs.Common.{◌≡◌, ℕ, true, false, List, [], Contains, Option, Some, None, codes, refl, sym, ap, ◌∙◌}
+use Rattle.std.proofs.Common.{subst, inl, inr, true≢false}
 use Rattle.std.specs.Cmp.{on_total}
 use Rattle.std.specs.Ordering.{is_lt}
 use Rattle.std.specs.Prelude.{find}
@@ -27,9 +28,12 @@ use Rattle.schema_build_errors.specs.declared.schema_error.SchemaError.TheVarian
 use Rattle.schema_build_graph.specs.Paths.{Reaches}
 use Rattle.schema_build_checks.specs.DeclaredAt.{ActionAt, actions_at_in_order}
 use Rattle.schema_build_checks.specs.Rows.{Never}
-use Rattle.schema_build_hierarchy.specs.Declarations.{Declared, DeclaredEntity, entity_name, action_key, declared_entities, declared_actions}
-use Rattle.schema_build_hierarchy.specs.Parents.{target_in, action_target_in, written_parents, parents_in, entity_parents, IsParent, IsAncestor, IsActionParent, IsActionAncestor}
-use Rattle.schema_build_hierarchy.specs.Rows.{undeclared_part, undeclared_uses, is_enum, IsLeastAmong, IsEnumAbove, IsExternalUnderEnum, HasActionCycle, HasExternalUnderEnum}
+use Rattle.schema_build_hierarchy.specs.Declarations.{Declared, DeclaredEntity, entity_name, action_key}
+use Rattle.schema_build_hierarchy.specs.Declarations.{declared_entities, declared_actions}
+use Rattle.schema_build_hierarchy.specs.Parents.{target_in, action_target_in, written_parents, parents_in}
+use Rattle.schema_build_hierarchy.specs.Parents.{entity_parents, IsParent, IsAncestor, IsActionParent, IsActionAncestor}
+use Rattle.schema_build_hierarchy.specs.Rows.{undeclared_part, undeclared_uses, is_enum, IsLeastAmong, IsEnumAbove}
+use Rattle.schema_build_hierarchy.specs.Rows.{IsExternalUnderEnum, HasActionCycle, HasExternalUnderEnum}
 use Rattle.schema_build_hierarchy.proofs.Exact.{actions_total, names_tied}
 use Rattle.schema_build_hierarchy.proofs.Gathered.{contains_flat}
 use Rattle.schema_build_hierarchy.proofs.Once.{contains_cases}
@@ -40,7 +44,8 @@ use Rattle.schema_build.specs.Meaning.{kind_meaning, FragmentMeaning}
 use Rattle.schema_build_closed.specs.Closed.{IsEntityUnder, IsActionUnder, IsTransitive, HasClosedAncestors}
 use Rattle.schema_build_closed.specs.Known.{entity_names, action_names}
 use Rattle.schema_build_closed.proofs.Chains.{reaches_through, reaches_to}
-use Rattle.schema_build_closed.proofs.Declared.{entity_declared, entity_stands, entity_full, action_declared, action_stands, action_full, action_held}
+use Rattle.schema_build_closed.proofs.Declared.{entity_declared, entity_stands, entity_full, action_declared}
+use Rattle.schema_build_closed.proofs.Declared.{action_stands, action_full, action_held}
 use Rattle.schema_build_closed.proofs.Known.{found_passes}
 use Rattle.schema_build_closed.proofs.Least.{none_passes}
 use Rattle.schema_build_closed.proofs.Lists.{has_none, one_member}

@@ -1,5 +1,6 @@
 -- No entity type is called `Action`, and nothing hides what the empty namespace declares.
-use Rattle.std.proofs.Common.{◌≡◌, ◌≢◌, ℕ, Bool, true, false, ◌||◌, cond, List, [], ◌∷◌, ◌++◌, Contains, Option, Some, None, codes, refl, sym, ap, ◌∙◌, subst, inl, inr, true≢false}
+use Rattle.std.proofs.Common.{◌≡◌, ◌≢◌, ℕ, Bool, true, false, ◌||◌, cond, List, [], ◌∷◌, ◌++◌, Contains, Option, Some}
+use Rattle.std.proofs.Common.{None, codes, refl, sym, ap, ◌∙◌, subst, inl, inr, true≢false}
 use Rattle.std.specs.List.{flat_map}
 use Rattle.std.specs.Str.{bytes_eq}
 use Rattle.std.proofs.lemmas.List.Elements.{Contains-append_right}
@@ -26,7 +27,9 @@ use Rattle.schema_resolve_definitions.specs.Defined.{is_hidden}
 use Rattle.schema_resolve_definitions.specs.Tests.{Tests, tests_of}
 use Rattle.schema_build_errors.specs.declared.schema_error.SchemaError.TheVariants as error
 use Rattle.schema_build_text.specs.Captured.{plain_action}
-use Rattle.schema_build_checks.specs.DeclaredAt.{ActionAt, actions_at_in_order, called_action, called_actions, hiding_common, hiding_entity, hiding_types_in, hiding_types, hiding_action, hiding_actions_in, hiding_actions}
+use Rattle.schema_build_checks.specs.DeclaredAt.{ActionAt, actions_at_in_order, called_action, called_actions}
+use Rattle.schema_build_checks.specs.DeclaredAt.{hiding_common, hiding_entity, hiding_types_in, hiding_types}
+use Rattle.schema_build_checks.specs.DeclaredAt.{hiding_action, hiding_actions_in, hiding_actions}
 use Rattle.schema_build_checks.specs.DeclaredTwice.{IsBasenameOf, ActionTypeDeclared, TypeHides, ActionHides}
 use Rattle.schema_build_checks.specs.Least.{IsFirstLeast}
 use Rattle.schema_build_checks.specs.Rows.{Never}
@@ -38,10 +41,12 @@ use Rattle.schema_build_hierarchy.proofs.Ordered.{contains_unmap}
 use Rattle.schema_build.specs.Meaning.{key_of, FragmentMeaning}
 use Rattle.schema_build_closed.specs.Closed.{HasNamesApart}
 use Rattle.schema_build_closed.specs.Known.{entity_names, action_names}
-use Rattle.schema_build_closed.proofs.Declared.{EntityStands, entity_declared, entity_stands, entity_full, action_declared, action_stands, action_full, name_there, action_there}
+use Rattle.schema_build_closed.proofs.Declared.{EntityStands, entity_declared, entity_stands, entity_full}
+use Rattle.schema_build_closed.proofs.Declared.{action_declared, action_stands, action_full, name_there, action_there}
 use Rattle.schema_build_closed.proofs.Least.{none_least}
 use Rattle.schema_build_closed.proofs.Lists.{has_first, has_none, all_have, empty_behind, empty_in, empty_where}
-use Rattle.schema_build_closed.proofs.Words.{front, action_type_full, basename_behind, free_behind, among_there, actions_there}
+use Rattle.schema_build_closed.proofs.Words.{front, action_type_full, basename_behind, free_behind, among_there}
+use Rattle.schema_build_closed.proofs.Words.{actions_there}
 
 -- the last of some words
 split_last : (i : Id) (is : List Id) → (front : List Id) × (w : Id) × (i ∷ is ≡ front ++ w ∷ [])

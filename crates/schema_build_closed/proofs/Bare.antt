@@ -1,5 +1,6 @@
 -- What another schema declares has nothing but a name and ancestors.
-use Rattle.std.proofs.Common.{◌≡◌, ℕ, Bool, true, false, not, ◌&&◌, List, [], ◌∷◌, Option, Some, None, refl, sym, ap, ◌∙◌, subst, true≢false}
+use Rattle.std.proofs.Common.{◌≡◌, ℕ, Bool, true, false, not, ◌&&◌, List, [], ◌∷◌, Option, Some, None, refl, sym, ap}
+use Rattle.std.proofs.Common.{◌∙◌, subst, true≢false}
 use Rattle.std.specs.Prelude.{is_none}
 use Rattle.cedar_identifiers.specs.declared.internal_name.InternalName.{InternalName}
 use Rattle.cedar_identifiers.specs.declared.name.Name.{Name}
@@ -23,7 +24,9 @@ use Rattle.schema_build_errors.specs.declared.use_errors.UnsupportedFeature.{Uns
 use Rattle.schema_build_checks.specs.Refusing.{IsAboutFirst}
 use Rattle.schema_build_checks.specs.Rows.{Never}
 use Rattle.schema_build_checks.specs.WalkFaults.{unsupported, NamesFeature, HasUnsupported}
-use Rattle.schema_build_expand.specs.Expands.{Expands, by_layer, LayerExpands, to_bool, to_long, to_string, to_set, to_record, to_extension, to_entity, to_builtin, to_declared, ExpandAll, to_no_attributes, to_attribute}
+use Rattle.schema_build_expand.specs.Expands.{Expands, by_layer, LayerExpands, to_bool, to_long, to_string, to_set}
+use Rattle.schema_build_expand.specs.Expands.{to_record, to_extension, to_entity, to_builtin, to_declared, ExpandAll}
+use Rattle.schema_build_expand.specs.Expands.{to_no_attributes, to_attribute}
 use Rattle.schema_build_expand.specs.Scope.{Scope}
 use Rattle.schema_build_expand.specs.View.{View, outer_view, shape_view, record_layer, view}
 use Rattle.schema_build_closed.proofs.Lists.{empty_before, empty_where}

@@ -1,5 +1,6 @@
 -- What a fragment declares and what it means.
-use Rattle.std.proofs.Common.{◌≡◌, ℕ, List, [], ◌∷◌, ◌++◌, Contains, Option, Some, None, codes, refl, sym, ap, ◌∙◌, subst}
+use Rattle.std.proofs.Common.{◌≡◌, ℕ, List, [], ◌∷◌, ◌++◌, Contains, Option, Some, None, codes, refl, sym, ap, ◌∙◌}
+use Rattle.std.proofs.Common.{subst}
 use Rattle.cedar_identifiers.specs.Names.{components_of}
 use Rattle.cedar_identifiers.specs.declared.name.Name.{Name}
 use Rattle.cedar_identifiers.specs.declared.name_text.NameText as named
@@ -13,7 +14,9 @@ use Rattle.schema_json.specs.declared.fragment.Fragment.{Fragment}
 use Rattle.schema_json.specs.declared.fragment.NamespaceDefinition.{NamespaceDefinition}
 use Rattle.schema_resolve_definitions.specs.Declarations.{declared, declared_name, entities_in, actions_in, action_type}
 use Rattle.schema_build_checks.specs.DeclaredAt.{ActionAt}
-use Rattle.schema_build_hierarchy.specs.Declarations.{Declared, DeclaredEntity, entity_name, entity_in, entities_of, declared_entities, action_key, action_in, actions_of, declared_actions}
+use Rattle.schema_build_hierarchy.specs.Declarations.{Declared, DeclaredEntity, entity_name, entity_in, entities_of}
+use Rattle.schema_build_hierarchy.specs.Declarations.{declared_entities, action_key, action_in, actions_of}
+use Rattle.schema_build_hierarchy.specs.Declarations.{declared_actions}
 use Rattle.schema_build_hierarchy.proofs.Gathered.{contains_flat}
 use Rattle.schema_build_hierarchy.proofs.Ordered.{contains_map, contains_unmap}
 use Rattle.schema_build.specs.Meaning.{key_of, IsEntityMeaning, IsActionMeaning, FragmentMeaning}

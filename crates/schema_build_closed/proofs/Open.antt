@@ -21,7 +21,8 @@ use Rattle.schema_build_hierarchy.proofs.Exact.{by_texts}
 use Rattle.schema_build_hierarchy.proofs.Ordered.{contains_unmap, sorted_seen}
 use Rattle.schema_build.specs.Meaning.{key_of, IsEntityMeaning, IsActionMeaning, FragmentMeaning}
 use Rattle.schema_build_closed.specs.Known.{IsKnownName}
-use Rattle.schema_build_closed.proofs.Declared.{entity_declared, action_declared, entity_stands, entity_full, action_stands, action_full}
+use Rattle.schema_build_closed.proofs.Declared.{entity_declared, action_declared, entity_stands, entity_full}
+use Rattle.schema_build_closed.proofs.Declared.{action_stands, action_full}
 use Rattle.schema_build_closed.proofs.Lists.{all_have, beside_rises}
 use Rattle.schema_build_closed.proofs.Words.{front, some_behind, basename_behind, free_behind, proper_name}
 

@@ -8,11 +8,14 @@ use Rattle.cedar_identifiers.specs.declared.raw_name.RawName.{RawName}
 use Rattle.cedar_names.specs.Meaning.{PlainType, Attributes}
 use Rattle.schema_json.specs.declared.types.Type.{«Type»}
 use Rattle.schema_json.specs.declared.types.TypeOfAttribute.{TypeOfAttribute, out-TypeOfAttribute}
-use Rattle.schema_build_expand.specs.Expands.{Expands, by_layer, LayerExpands, to_bool, to_long, to_string, to_set, to_record, to_extension, to_entity, to_builtin, to_declared, ExpandAll, to_no_attributes, to_attribute}
+use Rattle.schema_build_expand.specs.Expands.{Expands, by_layer, LayerExpands, to_bool, to_long, to_string, to_set}
+use Rattle.schema_build_expand.specs.Expands.{to_record, to_extension, to_entity, to_builtin, to_declared, ExpandAll}
+use Rattle.schema_build_expand.specs.Expands.{to_no_attributes, to_attribute}
 use Rattle.schema_build_expand.specs.Scope.{Scope, Declared, Declares, builtin}
 use Rattle.schema_build_expand.specs.View.{View}
 use Rattle.schema_build_closed.specs.Ordered.{meant_names, IsOrderedType, AreOrderedTypes}
-use Rattle.schema_build_closed.specs.WellFormed.{Rises, rises_by_layer, LayerRises, set_rises, record_rises, AllRise, next_rises}
+use Rattle.schema_build_closed.specs.WellFormed.{Rises, rises_by_layer, LayerRises, set_rises, record_rises, AllRise}
+use Rattle.schema_build_closed.specs.WellFormed.{next_rises}
 
 module _ (s : Scope RawName)
     (commons : (name : List (List ℕ)) (d : Declared RawName) → Declares s name d → Rises RawName d.ty)

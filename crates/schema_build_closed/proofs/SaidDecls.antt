@@ -1,5 +1,6 @@
 -- Declarations that say what is written are well formed.
-use Rattle.std.proofs.Common.{◌≡◌, ℕ, Bool, true, false, ◌||◌, List, [], ◌∷◌, map, Option, Some, None, is_some, refl, sym, subst, true≢false}
+use Rattle.std.proofs.Common.{◌≡◌, ℕ, Bool, true, false, ◌||◌, List, [], ◌∷◌, map, Option, Some, None, is_some, refl}
+use Rattle.std.proofs.Common.{sym, subst, true≢false}
 use Rattle.std.specs.Prelude.{if◌then◌else◌}
 use Rattle.std.specs.List.{AllByRecursion, filter_map, list_any}
 use Rattle.std.specs.Option.{option_or, unwrap_or}
@@ -17,8 +18,10 @@ use Rattle.schema_json.specs.declared.entity_type.EntityTypeKind.TheVariants.{St
 use Rattle.schema_convert_types.specs.Declarations.{as_written}
 use Rattle.schema_convert.specs.Members.{is_same_role}
 use Rattle.schema_readback.specs.PrintedDecls.{IsSome}
-use Rattle.schema_readback.specs.Written.{WrittenType, no_more, rec, WrittenMember, types, context_path, context_record, WrittenDecl, entity, enum, external_entity, action, external_action, common}
-use Rattle.schema_says.specs.DeclarationsSay.{written_paths, TagsSay, KindSays, CommonIs, role_and_types, types_in, ContextOr, SpecSays, members_said, AppliesSay}
+use Rattle.schema_readback.specs.Written.{WrittenType, no_more, rec, WrittenMember, types, context_path, context_record}
+use Rattle.schema_readback.specs.Written.{WrittenDecl, entity, enum, external_entity, action, external_action, common}
+use Rattle.schema_says.specs.DeclarationsSay.{written_paths, TagsSay, KindSays, CommonIs, role_and_types, types_in}
+use Rattle.schema_says.specs.DeclarationsSay.{ContextOr, SpecSays, members_said, AppliesSay}
 use Rattle.schema_says.specs.Sayable.{has_role, IsFilledMember, HasLawfulMembers, AppliesWell}
 use Rattle.schema_build_closed.specs.Chosen.{IsChosenDecl}
 use Rattle.schema_build_closed.specs.WellFormed.{Rises, TagsRise, IsKindFormed, AreRolesFormed, IsSpecFormed}

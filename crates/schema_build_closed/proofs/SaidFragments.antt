@@ -1,5 +1,6 @@
 -- Fragments that say what is written are well formed.
-use Rattle.std.proofs.Common.{◌≡◌, ℕ, Bool, true, false, List, [], ◌∷◌, ◌++◌, map, All, Contains, Option, Some, None, refl, subst}
+use Rattle.std.proofs.Common.{◌≡◌, ℕ, Bool, true, false, List, [], ◌∷◌, ◌++◌, map, All, Contains, Option, Some, None}
+use Rattle.std.proofs.Common.{refl, subst}
 use Rattle.std.specs.Prelude.{filter, if◌then◌else◌}
 use Rattle.std.specs.BTreeMap.{is_at}
 use Rattle.std.specs.List.{AllByRecursion, flat_map}
@@ -16,7 +17,10 @@ use Rattle.schema_convert_types.specs.Declarations.{as_written}
 use Rattle.schema_readback.specs.Written.{WrittenDecl, WrittenDeclared, WrittenItem}
 use Rattle.schema_says.specs.DeclarationsSay.{EntitySays, ActionSays, CommonSays}
 use Rattle.schema_says.specs.Entries.{FoundSays, EntriesSay, last_written}
-use Rattle.schema_says.specs.FragmentsSay.{entities_of_decl, actions_of_decl, commons_of_decl, by_names, WrittenNamespace, NamespaceSays, NamespaceName, name_components, decls_of_item, is_of_namespace, items_of_namespace, opened, written_in, FragmentSays}
+use Rattle.schema_says.specs.FragmentsSay.{entities_of_decl, actions_of_decl, commons_of_decl, by_names}
+use Rattle.schema_says.specs.FragmentsSay.{WrittenNamespace, NamespaceSays, NamespaceName, name_components}
+use Rattle.schema_says.specs.FragmentsSay.{decls_of_item, is_of_namespace, items_of_namespace, opened, written_in}
+use Rattle.schema_says.specs.FragmentsSay.{FragmentSays}
 use Rattle.schema_says.specs.Sayable.{AppliesWell, IsSayable}
 use Rattle.schema_says.proofs.Orders.{text_total, namespace_total}
 use Rattle.schema_build_closed.specs.Chosen.{IsChosenDecl, AreChosen}

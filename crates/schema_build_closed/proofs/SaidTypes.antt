@@ -1,5 +1,6 @@
 -- Types that say what is written rise.
-use Rattle.std.proofs.Common.{◌≡◌, ℕ, Bool, true, false, not, ◌&&◌, cond, List, [], ◌∷◌, map, Contains, Option, Some, None, refl, sym, ap, ◌∙◌, subst, inl, inr}
+use Rattle.std.proofs.Common.{◌≡◌, ℕ, Bool, true, false, not, ◌&&◌, cond, List, [], ◌∷◌, map, Contains, Option, Some}
+use Rattle.std.proofs.Common.{None, refl, sym, ap, ◌∙◌, subst, inl, inr}
 use Rattle.std.specs.BTreeMap.{is_at}
 use Rattle.std.specs.Cmp.{IsTotalOrder}
 use Rattle.std.specs.List.Sorted.{IsStrictlySortedBy}
@@ -24,7 +25,8 @@ use Rattle.schema_build_expand.specs.View.{View, view}
 use Rattle.schema_build_hierarchy.proofs.Exact.{text_total}
 use Rattle.schema_build_hierarchy.proofs.Once.{contains_cases}
 use Rattle.schema_build_hierarchy.proofs.Ordered.{contains_map}
-use Rattle.schema_build_closed.specs.WellFormed.{Rises, rises_by_layer, LayerRises, set_rises, record_rises, reference_rises, AllRise, none_rise, next_rises}
+use Rattle.schema_build_closed.specs.WellFormed.{Rises, rises_by_layer, LayerRises, set_rises, record_rises}
+use Rattle.schema_build_closed.specs.WellFormed.{reference_rises, AllRise, none_rise, next_rises}
 use Rattle.schema_build_closed.proofs.Lists.{has_first, has_later, has_none, each_has, same_some}
 use Rattle.schema_build_closed.proofs.Views.{reference_viewed, common_viewed, set_viewed, record_viewed, record_emptied}
 

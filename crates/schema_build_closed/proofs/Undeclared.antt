@@ -1,5 +1,6 @@
 -- What parents, principals and resources mean is declared.
-use Rattle.std.proofs.Common.{◌≡◌, ◌<◌, ℕ, Bool, true, false, not, cond, List, [], ◌∷◌, length, map, Contains, Option, Some, None, refl, sym, ap, ◌∙◌, subst, inl, inr, arith}
+use Rattle.std.proofs.Common.{◌≡◌, ◌<◌, ℕ, Bool, true, false, not, cond, List, [], ◌∷◌, length, map, Contains, Option}
+use Rattle.std.proofs.Common.{Some, None, refl, sym, ap, ◌∙◌, subst, inl, inr, arith}
 use Rattle.std.specs.Prelude.{filter}
 use Rattle.std.specs.List.{AllByRecursion}
 use Rattle.std.specs.Option.{option_to_list}
@@ -14,7 +15,9 @@ use Rattle.cedar_names.specs.Meaning.{SchemaMeaning}
 use Rattle.cedar_names.specs.Orders.{names_in_order, names_total}
 use Rattle.cedar_names.specs.declared.extension_table.ExtensionTable.{ExtensionTable}
 use Rattle.schema_json.specs.declared.fragment.Fragment.{Fragment}
-use Rattle.schema_json_walk.specs.Parts.{Part, type_reference, context_reference, parent, principal, resource, action_parent, extension_type, open_record, action_attributes, external_not_bare}
+use Rattle.schema_json_walk.specs.Parts.{Part, type_reference, context_reference, parent, principal, resource}
+use Rattle.schema_json_walk.specs.Parts.{action_parent, extension_type, open_record, action_attributes}
+use Rattle.schema_json_walk.specs.Parts.{external_not_bare}
 use Rattle.schema_json_walk.specs.Walk.{fragment_parts}
 use Rattle.schema_json_walk.proofs.ByParts.{fragment_by_parts}
 use Rattle.schema_resolve_definitions.specs.Declarations.{name_of, declared}
@@ -26,7 +29,8 @@ use Rattle.schema_build_errors.specs.declared.schema_error.SchemaError.TheVarian
 use Rattle.schema_build_checks.specs.Rows.{Never}
 use Rattle.schema_build_hierarchy.specs.FirstUses.{AreFirstUses}
 use Rattle.schema_build_hierarchy.specs.Parents.{target_in}
-use Rattle.schema_build_hierarchy.specs.Rows.{undeclared_target, undeclared_part, undeclared_uses, HasUndeclaredEntityTypes}
+use Rattle.schema_build_hierarchy.specs.Rows.{undeclared_target, undeclared_part, undeclared_uses}
+use Rattle.schema_build_hierarchy.specs.Rows.{HasUndeclaredEntityTypes}
 use Rattle.schema_build_hierarchy.proofs.Gathered.{contains_flat}
 use Rattle.schema_build_hierarchy.proofs.Once.{contains_cases}
 use Rattle.schema_build_hierarchy.proofs.ParentRanks.{filter_kept}

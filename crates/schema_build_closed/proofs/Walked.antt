@@ -11,7 +11,9 @@ use Rattle.schema_json.specs.declared.entity_type.EntityTypeKind.{EntityTypeKind
 use Rattle.schema_json.specs.declared.entity_type.EntityTypeKind.TheVariants.{Standard, Enum}
 use Rattle.schema_json.specs.declared.fragment.Fragment.{Fragment}
 use Rattle.schema_json_walk.specs.Parts.{Part, parent, principal, resource}
-use Rattle.schema_json_walk.specs.Walk.{each_value, of_common, of_entity, of_kind, of_action, of_items, of_parents, of_principals, of_resources, of_context, of_apply, of_relations, of_action_parts, of_entry, of_fragment}
+use Rattle.schema_json_walk.specs.Walk.{each_value, of_common, of_entity, of_kind, of_action, of_items, of_parents}
+use Rattle.schema_json_walk.specs.Walk.{of_principals, of_resources, of_context, of_apply, of_relations}
+use Rattle.schema_json_walk.specs.Walk.{of_action_parts, of_entry, of_fragment}
 use Rattle.schema_build_hierarchy.specs.Declarations.{Declared, DeclaredEntity}
 use Rattle.schema_build_hierarchy.specs.Parents.{written_parents}
 use Rattle.schema_build_checks.specs.DeclaredAt.{ActionAt}

@@ -15,7 +15,8 @@ use Rattle.schema_json.specs.declared.entity_type.EntityTypeKind.TheVariants.{St
 use Rattle.schema_json.specs.declared.fragment.Fragment.{Fragment}
 use Rattle.schema_json.specs.declared.types.Type.{«Type»}
 use Rattle.schema_json.specs.declared.types.TypeOfAttribute.{TypeOfAttribute, out-TypeOfAttribute}
-use Rattle.schema_build_expand.specs.View.{View, boolean_layer, long_layer, string_layer, set_layer, record_layer, reference_layer, extension_layer, view}
+use Rattle.schema_build_expand.specs.View.{View, boolean_layer, long_layer, string_layer, set_layer, record_layer}
+use Rattle.schema_build_expand.specs.View.{reference_layer, extension_layer, view}
 
 mutual
   -- the attributes of each record in the type rise by their names

@@ -1,7 +1,8 @@
 -- What is declared of an entity type and of an action, apart from names and ancestors.
 use Rattle.std.specs.Prelude.{ℕ, Bool, true, false, List, [], map, Option, None, Some}
 use Rattle.std.specs.Option.{option_map}
-use Rattle.schema_build_types.specs.Content.{TypeContent, AttributeContents, Rec, none, type_content, attributes_content, names_content}
+use Rattle.schema_build_types.specs.Content.{TypeContent, AttributeContents, Rec, none, type_content}
+use Rattle.schema_build_types.specs.Content.{attributes_content, names_content}
 use Rattle.schema_build_types.specs.declared.entity_type.ValidatorEntityTypeKind.{ValidatorEntityTypeKind}
 use Rattle.schema_build_types.specs.declared.entity_type.ValidatorEntityTypeKind.TheVariants as kind
 use Rattle.schema_build_types.specs.declared.action.ValidatorActionKind.{ValidatorActionKind}

@@ -6,7 +6,8 @@ use Rattle.schema_build_errors.specs.declared.cycle_errors.CycleInCommonTypeRefe
 use Rattle.schema_build_errors.specs.declared.cycle_errors.CycleInActionHierarchyError.{CycleInActionHierarchyError}
 
 abbrev pub common_cycle_text : CycleInCommonTypeReferencesError → List ℕ
-common_cycle_text e = codes "cycle in common type references containing `" ++ (name_text (components_of e.ty) ++ codes "`")
+common_cycle_text e = codes "cycle in common type references containing `"
+    ++ (name_text (components_of e.ty) ++ codes "`")
 
 abbrev pub action_cycle_text : CycleInActionHierarchyError → List ℕ
 action_cycle_text e = codes "cycle in action hierarchy containing `" ++ (entity_text e.uid ++ codes "`")

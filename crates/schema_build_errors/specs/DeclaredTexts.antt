@@ -12,18 +12,22 @@ action_type_declared_text e = codes "entity type `Action` declared in `entityTyp
 -- what is said of a definition and of the one that it hides
 abbrev pub hidden_text : List ℕ → List ℕ → List ℕ
 hidden_text shadowing shadowed =
-    (codes "definition of `" ++ (shadowing ++ codes "` illegally shadows the existing definition of `")) ++ (shadowed ++ codes "`")
+    (codes "definition of `" ++ (shadowing ++ codes "` illegally shadows the existing definition of `"))
+    ++ (shadowed ++ codes "`")
 
 abbrev pub type_shadowing_text : TypeShadowingError → List ℕ
-type_shadowing_text e = hidden_text (name_text (components_of e.shadowing_def)) (name_text (components_of e.shadowed_def))
+type_shadowing_text e = hidden_text (name_text (components_of e.shadowing_def))
+    (name_text (components_of e.shadowed_def))
 
 abbrev pub type_shadowing_help : TypeShadowingError → List ℕ
 type_shadowing_help e =
-    codes "try renaming one of the definitions, or moving `" ++ (name_text (components_of e.shadowed_def) ++ codes "` to a different namespace")
+    codes "try renaming one of the definitions, or moving `"
+    ++ (name_text (components_of e.shadowed_def) ++ codes "` to a different namespace")
 
 abbrev pub action_shadowing_text : ActionShadowingError → List ℕ
 action_shadowing_text e = hidden_text (entity_text e.shadowing_def) (entity_text e.shadowed_def)
 
 abbrev pub action_shadowing_help : ActionShadowingError → List ℕ
 action_shadowing_help e =
-    codes "try renaming one of the actions, or moving `" ++ (entity_text e.shadowed_def ++ codes "` to a different namespace")
+    codes "try renaming one of the actions, or moving `"
+    ++ (entity_text e.shadowed_def ++ codes "` to a different namespace")

@@ -9,10 +9,12 @@ use Rattle.schema_build_errors.specs.declared.hierarchy_errors.EnumEntityInHiera
 -- what is said of an external type and of its ancestor
 abbrev pub ancestor_message : List ℕ → List ℕ → List ℕ
 ancestor_message external ancestor =
-    (codes "external entity type `" ++ (external ++ codes "` cannot have the enum entity type `")) ++ (ancestor ++ codes "` as an ancestor")
+    (codes "external entity type `" ++ (external ++ codes "` cannot have the enum entity type `"))
+    ++ (ancestor ++ codes "` as an ancestor")
 
 abbrev pub enum_ancestor_text : ExternalWithEnumAncestorError → List ℕ
-enum_ancestor_text e = ancestor_message (name_text (components_of e.external_type.name)) (name_text (components_of e.enum_type.name))
+enum_ancestor_text e = ancestor_message (name_text (components_of e.external_type.name))
+    (name_text (components_of e.enum_type.name))
 
 abbrev pub enum_ancestor_help : List ℕ
 enum_ancestor_help = codes "external entity types cannot have any enum entity type as an ancestor"
@@ -26,7 +28,8 @@ action_type_text e = action_message (entity_text e.uid)
 
 abbrev pub enum_parent_text : EnumEntityInHierarchyError → List ℕ
 enum_parent_text e =
-    (codes "enum entity type `" ++ (name_text (components_of e.enum_type.name) ++ codes "` cannot be a descendant of `"))
+    (codes "enum entity type `" ++ (name_text (components_of e.enum_type.name)
+    ++ codes "` cannot be a descendant of `"))
     ++ (name_text (components_of e.parent_type.name) ++ codes "`")
 
 abbrev pub enum_parent_help : List ℕ

@@ -27,5 +27,7 @@ all_actions errors = record { 0 = flat_map (λ e. flat_map (λ x. x.0) (of_actio
 -- one for all: the undefined types of all come first, then the undefined actions of all, then the first error
 pub record IsJoined (errors : List SchemaError) (joined : SchemaError) : Type 0 where
   pub types : (all_types errors).undefined_types ≢ [] → joined ≡ TypeNotDefined (all_types errors)
-  pub actions : (all_types errors).undefined_types ≡ [] → (all_actions errors).0 ≢ [] → joined ≡ ActionNotDefined (all_actions errors)
-  pub first : (all_types errors).undefined_types ≡ [] → (all_actions errors).0 ≡ [] → (others : List SchemaError) × (errors ≡ joined ∷ others)
+  pub actions : (all_types errors).undefined_types ≡ [] → (all_actions errors).0 ≢ []
+      → joined ≡ ActionNotDefined (all_actions errors)
+  pub first : (all_types errors).undefined_types ≡ [] → (all_actions errors).0 ≡ []
+      → (others : List SchemaError) × (errors ≡ joined ∷ others)

@@ -2,7 +2,8 @@
 use Rattle.std.specs.Prelude.{ℕ, List, codes}
 use Rattle.schema_build_errors.specs.CapturedTexts.{captured_text}
 use Rattle.schema_build_errors.specs.declared.recovery_error.RecoveryError.{RecoveryError}
-use Rattle.schema_build_errors.specs.declared.recovery_error.RecoveryError.TheVariants.{UnknownElement, JoinedEntities, Unsupported, Memory}
+use Rattle.schema_build_errors.specs.declared.recovery_error.RecoveryError.TheVariants.{UnknownElement, JoinedEntities}
+use Rattle.schema_build_errors.specs.declared.recovery_error.RecoveryError.TheVariants.{Unsupported, Memory}
 use Rattle.schema_build_errors.specs.declared.recovery_error.ToTextError.{ToTextError}
 use Rattle.schema_build_errors.specs.declared.recovery_error.ToTextError.TheVariants.{Recovery, Captured}
 use Rattle.schema_build_errors.specs.declared.recovery_error.ToTextError.TheVariants as to_text

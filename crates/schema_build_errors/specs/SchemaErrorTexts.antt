@@ -1,16 +1,32 @@
 -- What errors of building say, advise and point to.
 use Rattle.std.specs.Prelude.{ℕ, List, [], Option, Some, None, codes}
 use Rattle.cedar_data.specs.declared.label.Label.{Label}
-use Rattle.schema_resolve_errors.specs.ErrorTexts.{label_at, type_texts, action_texts, unresolved_text, undeclared_text, undeclared_actions_help, type_labels, action_labels}
+use Rattle.schema_resolve_errors.specs.ErrorTexts.{label_at, type_texts, action_texts, unresolved_text, undeclared_text}
+use Rattle.schema_resolve_errors.specs.ErrorTexts.{undeclared_actions_help, type_labels, action_labels}
 use Rattle.schema_resolve_errors.specs.Gathered.{if_there}
 use Rattle.schema_json_errors.specs.JsonTexts.{json_fault_text, json_error_help}
-use Rattle.schema_build_errors.specs.DeclaredTexts.{action_type_declared_text, type_shadowing_text, type_shadowing_help, action_shadowing_text, action_shadowing_help}
-use Rattle.schema_build_errors.specs.UseTexts.{unknown_extension_text, unsupported_text, undeclared_types_text, undeclared_types_help, undeclared_labels}
+use Rattle.schema_build_errors.specs.DeclaredTexts.{action_type_declared_text, type_shadowing_text, type_shadowing_help}
+use Rattle.schema_build_errors.specs.DeclaredTexts.{action_shadowing_text, action_shadowing_help}
+use Rattle.schema_build_errors.specs.UseTexts.{unknown_extension_text, unsupported_text, undeclared_types_text}
+use Rattle.schema_build_errors.specs.UseTexts.{undeclared_types_help, undeclared_labels}
 use Rattle.schema_build_errors.specs.CycleTexts.{common_cycle_text, action_cycle_text}
 use Rattle.schema_build_errors.specs.ShapeTexts.{subject_place, no_record_text, no_record_help}
-use Rattle.schema_build_errors.specs.HierarchyTexts.{enum_ancestor_text, enum_ancestor_help, action_type_text, enum_parent_text, enum_parent_help}
+use Rattle.schema_build_errors.specs.HierarchyTexts.{enum_ancestor_text, enum_ancestor_help, action_type_text}
+use Rattle.schema_build_errors.specs.HierarchyTexts.{enum_parent_text, enum_parent_help}
 use Rattle.schema_build_errors.specs.declared.schema_error.SchemaError.{SchemaError}
-use Rattle.schema_build_errors.specs.declared.schema_error.SchemaError.TheVariants.{JsonDeserialization, ActionEntityTypeDeclared, TypeShadowing, ActionShadowing, UnknownExtensionType, UnsupportedFeature, TypeNotDefined, ActionNotDefined, UndeclaredEntityTypes, CycleInCommonTypeReferences, ContextOrShapeNotRecord, CycleInActionHierarchy, ExternalWithEnumAncestor, InvalidActionType, EnumEntityInHierarchy, Memory}
+use Rattle.schema_build_errors.specs.declared.schema_error.SchemaError.TheVariants.{JsonDeserialization}
+use Rattle.schema_build_errors.specs.declared.schema_error.SchemaError.TheVariants.{ActionEntityTypeDeclared}
+use Rattle.schema_build_errors.specs.declared.schema_error.SchemaError.TheVariants.{TypeShadowing, ActionShadowing}
+use Rattle.schema_build_errors.specs.declared.schema_error.SchemaError.TheVariants.{UnknownExtensionType}
+use Rattle.schema_build_errors.specs.declared.schema_error.SchemaError.TheVariants.{UnsupportedFeature, TypeNotDefined}
+use Rattle.schema_build_errors.specs.declared.schema_error.SchemaError.TheVariants.{ActionNotDefined}
+use Rattle.schema_build_errors.specs.declared.schema_error.SchemaError.TheVariants.{UndeclaredEntityTypes}
+use Rattle.schema_build_errors.specs.declared.schema_error.SchemaError.TheVariants.{CycleInCommonTypeReferences}
+use Rattle.schema_build_errors.specs.declared.schema_error.SchemaError.TheVariants.{ContextOrShapeNotRecord}
+use Rattle.schema_build_errors.specs.declared.schema_error.SchemaError.TheVariants.{CycleInActionHierarchy}
+use Rattle.schema_build_errors.specs.declared.schema_error.SchemaError.TheVariants.{ExternalWithEnumAncestor}
+use Rattle.schema_build_errors.specs.declared.schema_error.SchemaError.TheVariants.{InvalidActionType}
+use Rattle.schema_build_errors.specs.declared.schema_error.SchemaError.TheVariants.{EnumEntityInHierarchy, Memory}
 
 -- what an error says
 abbrev pub schema_error_text : SchemaError → List ℕ

@@ -22,7 +22,8 @@ declared_texts names = map (λ n. name_text (components_of n.name)) names
 
 abbrev pub undeclared_types_text : UndeclaredEntityTypesError → List ℕ
 undeclared_types_text e =
-    by_number (codes "undeclared entity type: ") (codes "undeclared entity types: ") (declared_texts e.types) ++ and_list (declared_texts e.types)
+    by_number (codes "undeclared entity type: ") (codes "undeclared entity types: ") (declared_texts e.types)
+    ++ and_list (declared_texts e.types)
 
 abbrev pub undeclared_types_help : List ℕ
 undeclared_types_help = codes "any entity types appearing anywhere in a schema need to be declared in `entityTypes`"

@@ -1,5 +1,6 @@
 -- A part is less deep than the whole.
-use Rattle.std.proofs.Common.{◌≡◌, ℕ, zero, suc, ◌+◌, ◌<◌, ◌≤◌, List, [], ◌∷◌, length, get_or, map, refl, sym, ap, ◌∙◌, arith, Option}
+use Rattle.std.proofs.Common.{◌≡◌, ℕ, zero, suc, ◌+◌, ◌<◌, ◌≤◌, List, [], ◌∷◌, length, get_or, map, refl, sym, ap, ◌∙◌}
+use Rattle.std.proofs.Common.{arith, Option}
 use Rattle.cedar_data.specs.declared.loc.Loc.{Loc}
 use Rattle.schema_json.specs.Shapes.{attributes_of}
 use Rattle.schema_json.specs.declared.types.Type.{«Type», Type-F, fold-roll-Type}
@@ -7,8 +8,10 @@ use Rattle.schema_json.specs.declared.types.Type.TheVariants.{Variant, rolls-Var
 use Rattle.schema_json.specs.declared.types.TypeVariant.{TypeVariant, TypeVariant-F, fold-roll-TypeVariant}
 use Rattle.schema_json.specs.declared.types.TypeVariant.TheVariants.{Record, rolls-Record, Set, rolls-Set}
 use Rattle.schema_json.specs.declared.types.RecordType.{RecordType, out-RecordType, fold_out-RecordType}
-use Rattle.schema_json.specs.declared.types.TypeOfAttribute.{TypeOfAttribute, out-TypeOfAttribute, fold_out-TypeOfAttribute}
-use Rattle.schema_build_expand.proofs.Depths.{deepest, type_deep, variant_deep, record_deep, attribute_deep, depth, variant_depth, attribute_depth, entries_depth}
+use Rattle.schema_json.specs.declared.types.TypeOfAttribute.{TypeOfAttribute, out-TypeOfAttribute}
+use Rattle.schema_json.specs.declared.types.TypeOfAttribute.{fold_out-TypeOfAttribute}
+use Rattle.schema_build_expand.proofs.Depths.{deepest, type_deep, variant_deep, record_deep, attribute_deep, depth}
+use Rattle.schema_build_expand.proofs.Depths.{variant_depth, attribute_depth, entries_depth}
 
 values_made : {A R : Type 0} (f : A → R) (entries : List (List ℕ × A))
     → map (λ p. p.1) (map (λ p. let q : List ℕ × R = (p.0, f p.1) in q) entries) ≡ map (λ p. f p.1) entries

@@ -8,15 +8,20 @@ use Rattle.cedar_names.specs.Meaning.{PlainType, Attributes}
 use Rattle.cedar_names.specs.Meaning as plain
 use Rattle.schema_json.specs.Shapes.{attributes_of, is_open}
 use Rattle.schema_json.specs.declared.types.Type.{«Type», Type-F, out-roll-Type}
-use Rattle.schema_json.specs.declared.types.Type.TheVariants.{Variant, rolls-Variant, CommonTypeRef, rolls-CommonTypeRef}
-use Rattle.schema_json.specs.declared.types.TypeVariant.{TypeVariant, TypeVariant-F, out-TypeVariant, out-roll-TypeVariant}
+use Rattle.schema_json.specs.declared.types.Type.TheVariants.{Variant, rolls-Variant, CommonTypeRef}
+use Rattle.schema_json.specs.declared.types.Type.TheVariants.{rolls-CommonTypeRef}
+use Rattle.schema_json.specs.declared.types.TypeVariant.{TypeVariant, TypeVariant-F, out-TypeVariant}
+use Rattle.schema_json.specs.declared.types.TypeVariant.{out-roll-TypeVariant}
 use Rattle.schema_json.specs.declared.types.TypeVariant.TheVariants as variant
-use Rattle.schema_json.specs.declared.types.TypeVariant.TheVariants.{rolls-String, rolls-Long, rolls-Boolean, rolls-Set, rolls-Record, rolls-Entity, rolls-EntityOrCommon, rolls-Extension}
+use Rattle.schema_json.specs.declared.types.TypeVariant.TheVariants.{rolls-String, rolls-Long, rolls-Boolean, rolls-Set}
+use Rattle.schema_json.specs.declared.types.TypeVariant.TheVariants.{rolls-Record, rolls-Entity, rolls-EntityOrCommon}
+use Rattle.schema_json.specs.declared.types.TypeVariant.TheVariants.{rolls-Extension}
 use Rattle.schema_json.specs.declared.types.RecordType.{RecordType}
 use Rattle.schema_json.specs.declared.types.TypeOfAttribute.{TypeOfAttribute}
 use Rattle.schema_build_expand.specs.View.{View, record_layer, reference_layer, view, outer_view, shape_view}
 use Rattle.schema_build_expand.specs.Scope.{Scope, in_table}
-use Rattle.schema_build_expand.specs.Expands.{Expands, by_layer, LayerExpands, to_bool, to_long, to_string, to_set, to_record, to_extension, ExpandAll}
+use Rattle.schema_build_expand.specs.Expands.{Expands, by_layer, LayerExpands, to_bool, to_long, to_string, to_set}
+use Rattle.schema_build_expand.specs.Expands.{to_record, to_extension, ExpandAll}
 
 module _ {N : Type 0} where
   view_shape : (shape : TypeVariant N) (loc : Option Loc)

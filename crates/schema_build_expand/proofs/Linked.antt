@@ -1,5 +1,6 @@
 -- The graph of ranks and what refers to what.
-use Rattle.std.proofs.Common.{◌≡◌, ℕ, ◌+◌, ◌<◌, List, [], ◌∷◌, ◌++◌, length, get_or, take, refl, sym, ap, ◌∙◌, subst, arith, All, Contains, Vec, Option, Some, None, inl, inr, Result, Ok, Err}
+use Rattle.std.proofs.Common.{◌≡◌, ℕ, ◌+◌, ◌<◌, List, [], ◌∷◌, ◌++◌, length, get_or, take, refl, sym, ap, ◌∙◌, subst}
+use Rattle.std.proofs.Common.{arith, All, Contains, Vec, Option, Some, None, inl, inr, Result, Ok, Err}
 use Rattle.std.specs.Prelude.{slice_get, IfErr}
 use Rattle.std.specs.Result.{IsErrAnd}
 use Rattle.std.specs.Borrow.{Bor}
@@ -17,7 +18,9 @@ use Rattle.schema_build_graph.specs.declared.order_fault.OrderFault.{OrderFault}
 use Rattle.schema_build_graph.specs.declared.order_fault.OrderFault.TheVariants.{Cycle, Memory}
 use Rattle.schema_build_graph.specs.Paths.{Leads, Reaches}
 use Rattle.schema_build_graph.specs.Graph.{targets_of, HasEdge, InRange}
-use Rattle.schema_json_walk.specs.Parts.{Part, type_reference, context_reference, parent, principal, resource, action_parent, extension_type, open_record, action_attributes, external_not_bare}
+use Rattle.schema_json_walk.specs.Parts.{Part, type_reference, context_reference, parent, principal, resource}
+use Rattle.schema_json_walk.specs.Parts.{action_parent, extension_type, open_record, action_attributes}
+use Rattle.schema_json_walk.specs.Parts.{external_not_bare}
 use Rattle.schema_json_walk.specs.Walk.{parts}
 use Rattle.schema_build_expand.specs.Scope.{Scope, IsRanked}
 use Rattle.schema_build_expand.specs.Commons.{AreBehind, IsBehind}

@@ -1,5 +1,6 @@
 -- Expansions, made of those of their parts.
-use Rattle.std.proofs.Common.{◌≡◌, ℕ, Bool, ◌+◌, ◌<◌, List, [], ◌∷◌, ◌++◌, length, get_or, take, refl, sym, ap, ◌∙◌, subst, Option, Some, Result, Ok, Err}
+use Rattle.std.proofs.Common.{◌≡◌, ℕ, Bool, ◌+◌, ◌<◌, List, [], ◌∷◌, ◌++◌, length, get_or, take, refl, sym, ap, ◌∙◌}
+use Rattle.std.proofs.Common.{subst, Option, Some, Result, Ok, Err}
 use Rattle.std.specs.Prelude.{slice_get, IfOk}
 use Rattle.std.specs.List.{AllZip}
 use Rattle.std.specs.Map.{keys_of}

@@ -9,7 +9,9 @@ use Rattle.schema_json.specs.declared.types.Type.{«Type»}
 use Rattle.schema_json.specs.declared.types.TypeOfAttribute.{TypeOfAttribute, out-TypeOfAttribute}
 use Rattle.schema_build_expand.specs.View.{View}
 use Rattle.schema_build_expand.specs.Scope.{Scope, Declares, AreDeclaredOnce, builtin}
-use Rattle.schema_build_expand.specs.Expands.{Expands, by_layer, LayerExpands, to_bool, to_long, to_string, to_set, to_record, to_extension, to_entity, to_builtin, to_declared, ExpandAll, to_no_attributes, to_attribute}
+use Rattle.schema_build_expand.specs.Expands.{Expands, by_layer, LayerExpands, to_bool, to_long, to_string, to_set}
+use Rattle.schema_build_expand.specs.Expands.{to_record, to_extension, to_entity, to_builtin, to_declared, ExpandAll}
+use Rattle.schema_build_expand.specs.Expands.{to_no_attributes, to_attribute}
 
 some_is : {A : Type 0} (a b : A) → Some a ≡ Some b → a ≡ b
 some_is a b e = cc

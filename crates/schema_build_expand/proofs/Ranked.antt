@@ -1,7 +1,9 @@
 -- Ranks that are added, one part after another.
-use Rattle.std.proofs.Common.{◌≡◌, ℕ, zero, suc, ◌<◌, List, [], ◌∷◌, ◌++◌, refl, sym, ap, ◌∙◌, subst, arith, Contains, append_assoc, append-nil, Option, Some, inl, inr}
+use Rattle.std.proofs.Common.{◌≡◌, ℕ, zero, suc, ◌<◌, List, [], ◌∷◌, ◌++◌, refl, sym, ap, ◌∙◌, subst, arith, Contains}
+use Rattle.std.proofs.Common.{append_assoc, append-nil, Option, Some, inl, inr}
 use Rattle.std.specs.List.{FoldsTo}
-use Rattle.std.proofs.lemmas.List.Elements.{All-nil, All-cons, All-append, All-weaker, Contains-append_left, Contains-append_right, Contains-append_cases}
+use Rattle.std.proofs.lemmas.List.Elements.{All-nil, All-cons, All-append, All-weaker, Contains-append_left}
+use Rattle.std.proofs.lemmas.List.Elements.{Contains-append_right, Contains-append_cases}
 use Rattle.cedar_identifiers.specs.declared.internal_name.InternalName.{InternalName}
 use Rattle.cedar_identifiers.specs.declared.reference_type.ReferenceType.{ReferenceType}
 use Rattle.std.specs.Borrow.{Bor}

@@ -1,7 +1,8 @@
 -- Types that are used: the ranks that they refer to, and what can be expanded.
 use Rattle.std.proofs.Common.{◌≡◌, ℕ, ◌+◌, ◌<◌, List, ◌++◌, length, get_or, take, subst, All, Contains, Option}
 use Rattle.std.specs.Borrow.{Bor}
-use Rattle.std.proofs.lemmas.List.Elements.{All-append, All-contains, All-more, All-weaker, Contains-append_left, Contains-append_right}
+use Rattle.std.proofs.lemmas.List.Elements.{All-append, All-contains, All-more, All-weaker, Contains-append_left}
+use Rattle.std.proofs.lemmas.List.Elements.{Contains-append_right}
 use Rattle.cedar_identifiers.specs.declared.internal_name.InternalName.{InternalName}
 use Rattle.schema_json.specs.declared.types.Type.{«Type»}
 use Rattle.schema_json_walk.specs.Walk.{parts}
@@ -30,7 +31,8 @@ module _ {N R : Type 0} (s : Scope N) (place : R → Option InternalName) (uses 
       λ found u. (k : ℕ) → RefersTo s (place u.0) (parts u.1.now) k → Contains found k in
       let here : P (roots ++ row) u = λ k r. Contains-append_right roots row k (ranks.whole k r) in
       All-more (P (roots ++ row)) uses i u lt
-      (All-weaker (P roots) (P (roots ++ row)) (λ u old k r. Contains-append_left roots row k (old k r)) (take i uses) among)
+      (All-weaker (P roots) (P (roots ++ row)) (λ u old k r. Contains-append_left roots row k (old k r))
+      (take i uses) among)
       (subst (P (roots ++ row)) is here)
 
   -- where the ranks that the types refer to are expanded, the types can be

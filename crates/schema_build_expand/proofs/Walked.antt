@@ -1,19 +1,24 @@
 -- The parts of a type, by its outermost layer.
-use Rattle.std.proofs.Common.{◌≡◌, ℕ, zero, suc, ◌<◌, Bool, true, false, List, [], ◌∷◌, ◌++◌, length, get_or, refl, sym, ap, ◌∙◌, subst, arith, All, Option}
+use Rattle.std.proofs.Common.{◌≡◌, ℕ, zero, suc, ◌<◌, Bool, true, false, List, [], ◌∷◌, ◌++◌, length, get_or, refl, sym}
+use Rattle.std.proofs.Common.{ap, ◌∙◌, subst, arith, All, Option}
 use Rattle.std.proofs.lemmas.List.Elements.{All-nil, All-cons, All-head, All-tail}
 use Rattle.schema_json.specs.Shapes.{attributes_of, is_open}
 use Rattle.cedar_data.specs.declared.loc.Loc.{Loc}
 use Rattle.cedar_identifiers.specs.declared.unreserved_id.UnreservedId.{UnreservedId}
 use Rattle.cedar_identifiers.specs.declared.reference_type.ReferenceType.TheVariants.{Common, Entity, CommonOrEntity}
 use Rattle.schema_json.specs.declared.types.Type.{«Type», Type-F, fold-roll-Type}
-use Rattle.schema_json.specs.declared.types.Type.TheVariants.{Variant, rolls-Variant, CommonTypeRef, rolls-CommonTypeRef}
+use Rattle.schema_json.specs.declared.types.Type.TheVariants.{Variant, rolls-Variant, CommonTypeRef}
+use Rattle.schema_json.specs.declared.types.Type.TheVariants.{rolls-CommonTypeRef}
 use Rattle.schema_json.specs.declared.types.TypeVariant.{TypeVariant, TypeVariant-F, fold-roll-TypeVariant}
-use Rattle.schema_json.specs.declared.types.TypeVariant.TheVariants.{Record, Set, rolls-Set, rolls-Entity, EntityOrCommon, rolls-EntityOrCommon, Extension, rolls-Extension}
+use Rattle.schema_json.specs.declared.types.TypeVariant.TheVariants.{Record, Set, rolls-Set, rolls-Entity}
+use Rattle.schema_json.specs.declared.types.TypeVariant.TheVariants.{EntityOrCommon, rolls-EntityOrCommon, Extension}
+use Rattle.schema_json.specs.declared.types.TypeVariant.TheVariants.{rolls-Extension}
 use Rattle.schema_json.specs.declared.types.TypeVariant.TheVariants as variant
 use Rattle.schema_json.specs.declared.types.RecordType.{RecordType}
 use Rattle.schema_json.specs.declared.types.TypeOfAttribute.{TypeOfAttribute, out-TypeOfAttribute}
 use Rattle.schema_json_walk.specs.Parts.{Part, type_reference, extension_type, open_record}
-use Rattle.schema_json_walk.specs.Walk.{itself, visit_where, at_type, at_variant, at_record, at_attribute, parts, of_variant, of_attribute, of_entries}
+use Rattle.schema_json_walk.specs.Walk.{itself, visit_where, at_type, at_variant, at_record, at_attribute, parts}
+use Rattle.schema_json_walk.specs.Walk.{of_variant, of_attribute, of_entries}
 use Rattle.schema_json_walk.proofs.Layers.{record_walked, variant_walked, attribute_walked}
 
 module _ (N : Type 0) where

@@ -1,5 +1,6 @@
 -- The declared common types as they are expanded in turn.
-use Rattle.std.specs.Prelude.{◌≡◌, ◌<◌, ℕ, true, List, length, All, Contains, Option, Some, IsSome, slice_get, slice_index, take}
+use Rattle.std.specs.Prelude.{◌≡◌, ◌<◌, ℕ, true, List, length, All, Contains, Option, Some, IsSome, slice_get}
+use Rattle.std.specs.Prelude.{slice_index, take}
 use Rattle.std.specs.Borrow.{Bor}
 use Rattle.cedar_identifiers.specs.declared.internal_name.InternalName.{InternalName}
 use Rattle.cedar_identifiers.specs.declared.reference_type.ReferenceType.{ReferenceType}

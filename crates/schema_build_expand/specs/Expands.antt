@@ -7,7 +7,8 @@ use Rattle.cedar_names.specs.Meaning.{PlainType, Attributes, no_more, attribute}
 use Rattle.cedar_names.specs.Meaning as plain
 use Rattle.schema_json.specs.declared.types.Type.{«Type»}
 use Rattle.schema_json.specs.declared.types.TypeOfAttribute.{TypeOfAttribute, out-TypeOfAttribute}
-use Rattle.schema_build_expand.specs.View.{View, boolean_layer, long_layer, string_layer, set_layer, record_layer, reference_layer, extension_layer, view}
+use Rattle.schema_build_expand.specs.View.{View, boolean_layer, long_layer, string_layer, set_layer, record_layer}
+use Rattle.schema_build_expand.specs.View.{reference_layer, extension_layer, view}
 use Rattle.schema_build_expand.specs.Scope.{Scope, Declared, Declares, IsUndeclared, in_table, builtin}
 
 mutual

@@ -1,9 +1,12 @@
 -- The last group is done, where all its targets were looked at.
-use Rattle.std.proofs.Common.{◌≡◌, ◌≢◌, ℕ, ◌+◌, ◌-◌, ◌<◌, ◌≤◌, ◌⊎◌, inl, inr, Bool, true, false, List, [], ◌∷◌, ◌++◌, length, length-append, get_or, take, drop, refl, sym, ap, ◌∙◌, subst, arith, All, Contains, Vec, Some, None}
+use Rattle.std.proofs.Common.{◌≡◌, ◌≢◌, ℕ, ◌+◌, ◌-◌, ◌<◌, ◌≤◌, ◌⊎◌, inl, inr, Bool, true, false, List, [], ◌∷◌, ◌++◌}
+use Rattle.std.proofs.Common.{length, length-append, get_or, take, drop, refl, sym, ap, ◌∙◌, subst, arith, All}
+use Rattle.std.proofs.Common.{Contains, Vec, Some, None}
 use Rattle.std.specs.Bool.{Decides}
 use Rattle.std.specs.declared.alloc.Global.{Global}
 use Rattle.std.proofs.lemmas.List.{length-take, length-drop, get_or-take, get_or_append_left, take-append-le, take_all}
-use Rattle.std.proofs.lemmas.List.Elements.{All-push, All-weaker, All-contains, All-from_get_or, Contains-get_or, Contains-append_left, Contains-append_right, Contains-append_cases}
+use Rattle.std.proofs.lemmas.List.Elements.{All-push, All-weaker, All-contains, All-from_get_or, Contains-get_or}
+use Rattle.std.proofs.lemmas.List.Elements.{Contains-append_left, Contains-append_right, Contains-append_cases}
 use Rattle.std.proofs.lemmas.Bool.{cases_lt}
 use Rattle.std.proofs.Math.Seq.{get_or-append_right}
 use Rattle.schema_build_graph.specs.Paths.{Reaches}
@@ -11,9 +14,11 @@ use Rattle.schema_build_graph.specs.Graph.{targets_of, HasEdge}
 use Rattle.schema_build_graph.specs.declared.search.State.{State}
 use Rattle.schema_build_graph.specs.declared.search.State.TheVariants.{Open, Done}
 use Rattle.schema_build_graph.specs.declared.search.Group.{Group}
-use Rattle.schema_build_graph.specs.Search.{state_at, NoneBetween, IsSeated, IsPending, HasSource, AreStacked, IsSearched}
+use Rattle.schema_build_graph.specs.Search.{state_at, NoneBetween, IsSeated, IsPending, HasSource, AreStacked}
+use Rattle.schema_build_graph.specs.Search.{IsSearched}
 use Rattle.schema_build_graph.proofs.Paths.{reaches_one, reaches_through, leads_within}
-use Rattle.schema_build_graph.proofs.Groups.{all_front, all_last, stacked_front, stand_below, targets_below, among_rest, place_in_rest, first_of_rest}
+use Rattle.schema_build_graph.proofs.Groups.{all_front, all_last, stacked_front, stand_below, targets_below, among_rest}
+use Rattle.schema_build_graph.proofs.Groups.{place_in_rest, first_of_rest}
 use Rattle.schema_build_graph.proofs.States.{state_cases}
 
 bool_cases : (b : Bool) → (b ≡ true) ⊎ (b ≡ false)

@@ -1,7 +1,9 @@
 -- Groups on top of each other.
-use Rattle.std.proofs.Common.{◌≡◌, ℕ, ◌+◌, ◌-◌, ◌<◌, ◌≤◌, List, [], ◌∷◌, ◌++◌, length, length-append, get_or, take, drop, ap, sym, ◌∙◌, subst, arith, All, Contains}
+use Rattle.std.proofs.Common.{◌≡◌, ℕ, ◌+◌, ◌-◌, ◌<◌, ◌≤◌, List, [], ◌∷◌, ◌++◌, length, length-append, get_or, take}
+use Rattle.std.proofs.Common.{drop, ap, sym, ◌∙◌, subst, arith, All, Contains}
 use Rattle.std.specs.List.Sorted.{IsNonDecreasingBy}
-use Rattle.std.proofs.lemmas.List.{get_or_append_left, length-drop, length-take, get_or-drop, get_or-take, get_or_default, take-append-drop}
+use Rattle.std.proofs.lemmas.List.{get_or_append_left, length-drop, length-take, get_or-drop, get_or-take}
+use Rattle.std.proofs.lemmas.List.{get_or_default, take-append-drop}
 use Rattle.std.proofs.lemmas.List.Elements.{Contains-get_or}
 use Rattle.std.proofs.lemmas.List.Sorted.{IsNonDecreasingBy-take, IsNonDecreasingBy-push}
 use Rattle.std.proofs.Math.Seq.{get_or-append_seam, take-append_seam}

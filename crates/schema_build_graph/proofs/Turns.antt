@@ -1,8 +1,11 @@
 -- One turn of the search keeps what it keeps: a target is taken, and it is done, or new, or stands open.
-use Rattle.std.proofs.Common.{◌≡◌, ◌≢◌, ℕ, ◌+◌, ◌-◌, ◌<◌, ◌≤◌, ◌⊎◌, inl, inr, Bool, List, [], ◌∷◌, ◌++◌, length, length-append, get_or, take, refl, sym, ap, ◌∙◌, subst, arith, All, Contains, Vec, Some, None}
+use Rattle.std.proofs.Common.{◌≡◌, ◌≢◌, ℕ, ◌+◌, ◌-◌, ◌<◌, ◌≤◌, ◌⊎◌, inl, inr, Bool, List, [], ◌∷◌, ◌++◌, length}
+use Rattle.std.proofs.Common.{length-append, get_or, take, refl, sym, ap, ◌∙◌, subst, arith, All, Contains, Vec, Some}
+use Rattle.std.proofs.Common.{None}
 use Rattle.std.specs.declared.alloc.Global.{Global}
 use Rattle.std.proofs.Math.ListN.{set}
-use Rattle.std.proofs.lemmas.List.{length-set, length-take, get_or-set_same, get_or_append_left, get_or-take, get_or_default, get_or-append-add}
+use Rattle.std.proofs.lemmas.List.{length-set, length-take, get_or-set_same, get_or_append_left, get_or-take}
+use Rattle.std.proofs.lemmas.List.{get_or_default, get_or-append-add}
 use Rattle.std.proofs.lemmas.List.Elements.{All-push, All-weaker, All-append, Contains-get_or}
 use Rattle.std.proofs.lemmas.Bool.{cases_lt, cases_eq}
 use Rattle.std.proofs.Math.Seq.{get_or-append_seam, get_or-append_right}
@@ -11,9 +14,11 @@ use Rattle.schema_build_graph.specs.Graph.{targets_of, HasEdge, InRange}
 use Rattle.schema_build_graph.specs.declared.search.State.{State}
 use Rattle.schema_build_graph.specs.declared.search.State.TheVariants.{New, Open, Done}
 use Rattle.schema_build_graph.specs.declared.search.Group.{Group}
-use Rattle.schema_build_graph.specs.Search.{state_at, NoneBetween, IsSeated, IsPending, HasSource, AreStacked, IsMerged, IsSearched}
+use Rattle.schema_build_graph.specs.Search.{state_at, NoneBetween, IsSeated, IsPending, HasSource, AreStacked, IsMerged}
+use Rattle.schema_build_graph.specs.Search.{IsSearched}
 use Rattle.schema_build_graph.proofs.Paths.{reaches_one, reaches_on, reaches_through}
-use Rattle.schema_build_graph.proofs.Groups.{all_front, all_last, stacked_front, stacked_push, stand_below, targets_below}
+use Rattle.schema_build_graph.proofs.Groups.{all_front, all_last, stacked_front, stacked_push, stand_below}
+use Rattle.schema_build_graph.proofs.Groups.{targets_below}
 use Rattle.schema_build_graph.proofs.States.{other_state}
 use Rattle.schema_build_graph.proofs.Rows.{edge_in_range}
 

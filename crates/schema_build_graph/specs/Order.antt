@@ -1,5 +1,6 @@
 -- Orders of the vertices in which each stands behind its targets, and vertices that reach themselves.
-use Rattle.std.specs.Prelude.{◌≡◌, ◌<◌, ◌≤◌, ℕ, Bool, true, false, List, Vec, Option, None, Some, length, All, Contains, slice_index, slice_index_or, take}
+use Rattle.std.specs.Prelude.{◌≡◌, ◌<◌, ◌≤◌, ℕ, Bool, true, false, List, Vec, Option, None, Some, length, All, Contains}
+use Rattle.std.specs.Prelude.{slice_index, slice_index_or, take}
 use Rattle.std.specs.declared.alloc.Global.{Global}
 use Rattle.schema_build_graph.specs.Paths.{Reaches}
 use Rattle.schema_build_graph.specs.Graph.{targets_of, HasEdge}

@@ -1,6 +1,7 @@
 -- What the search for cycles keeps, in terms of its own state: groups of vertices that stand open and reach each other,
 -- one leading to the next, and the vertices that are done. No contract of a public call speaks of it.
-use Rattle.std.specs.Prelude.{◌≡◌, ◌<◌, ◌≤◌, ◌+◌, ◌⊎◌, ℕ, Bool, true, List, [], ◌∷◌, ◌++◌, ◌≢◌, Vec, length, All, Contains, slice_index, slice_index_or, take, Option, Some, None}
+use Rattle.std.specs.Prelude.{◌≡◌, ◌<◌, ◌≤◌, ◌+◌, ◌⊎◌, ℕ, Bool, true, List, [], ◌∷◌, ◌++◌, ◌≢◌, Vec, length, All}
+use Rattle.std.specs.Prelude.{Contains, slice_index, slice_index_or, take, Option, Some, None}
 use Rattle.std.specs.Bool.{Decides}
 use Rattle.std.specs.List.Sorted.{IsNonDecreasingBy}
 use Rattle.std.specs.declared.alloc.Global.{Global}

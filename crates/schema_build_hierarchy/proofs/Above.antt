@@ -1,13 +1,16 @@
 -- The rows of a closure are the ancestors of what is declared.
-use Rattle.std.proofs.Common.{◌≡◌, ℕ, ◌<◌, List, [], map, length, refl, sym, ap, ◌∙◌, subst, arith, inl, inr, Contains, Vec, Some}
+use Rattle.std.proofs.Common.{◌≡◌, ℕ, ◌<◌, List, [], map, length, refl, sym, ap, ◌∙◌, subst, arith, inl, inr, Contains}
+use Rattle.std.proofs.Common.{Vec, Some}
 use Rattle.std.specs.Prelude.{slice_get}
 use Rattle.std.specs.Option.{option_map, option_map_or}
 use Rattle.std.specs.declared.alloc.Global.{Global}
 use Rattle.std.proofs.lemmas.List.{length-map}
-use Rattle.std.proofs.lemmas.Option.{slice_get_within, get_or_from_slice_get, slice_get_cases, slice_get-map, slice_get-get_or}
+use Rattle.std.proofs.lemmas.Option.{slice_get_within, get_or_from_slice_get, slice_get_cases, slice_get-map}
+use Rattle.std.proofs.lemmas.Option.{slice_get-get_or}
 use Rattle.schema_build_graph.specs.Paths.{Reaches}
 use Rattle.schema_build_graph.specs.Graph.{HasEdge, targets_of, AllReached, AreReached}
-use Rattle.schema_build_hierarchy.specs.Ancestors.{IsParentAmong, AreParentsDeclared, IsAncestorAmong, AreParentRows, IsAncestorRow, AreAncestorRows}
+use Rattle.schema_build_hierarchy.specs.Ancestors.{IsParentAmong, AreParentsDeclared, IsAncestorAmong, AreParentRows}
+use Rattle.schema_build_hierarchy.specs.Ancestors.{IsAncestorRow, AreAncestorRows}
 use Rattle.schema_build_hierarchy.proofs.Ordered.{contains_map, contains_unmap}
 use Rattle.schema_build_hierarchy.proofs.Paths.{reaches_one, reaches_on, reaches_within, reaches_wider}
 
@@ -20,13 +23,16 @@ at_contained xs x (i, h, e) = (i, slice_get-get_or xs i x h ∙ ap Some e)
 pub some_same : {X : Type 0} (x y : X) → Some x ≡ Some y → x ≡ y
 some_same x y e = cc
 
-pub row_there : (rows : List (Vec ℕ Global)) (i : ℕ) → i < length rows → (row : Vec ℕ Global) × (slice_get rows i ≡ Some row)
+pub row_there : (rows : List (Vec ℕ Global)) (i : ℕ) → i < length rows
+    → (row : Vec ℕ Global) × (slice_get rows i ≡ Some row)
 row_there rows i lt = elim (slice_get_cases rows i).1 [ inl x ↦ (x.0, x.2) | inr past ↦ absurd (omega (arith, past.0)) ]
 
-pub targets_are : (rows : List (Vec ℕ Global)) (i : ℕ) (row : Vec ℕ Global) → slice_get rows i ≡ Some row → targets_of rows i ≡ row.items
+pub targets_are : (rows : List (Vec ℕ Global)) (i : ℕ) (row : Vec ℕ Global) → slice_get rows i ≡ Some row
+    → targets_of rows i ≡ row.items
 targets_are rows i row is = ap (λ r. option_map_or (λ (row : Vec ℕ Global). row.items) r []) is
 
-module _ {D K : Type 0} (known : D → K) (parents : D → List K) (ds : List D) (graph : List (Vec ℕ Global)) (are : AreParentRows known parents ds graph) where
+module _ {D K : Type 0} (known : D → K) (parents : D → List K) (ds : List D) (graph : List (Vec ℕ Global))
+    (are : AreParentRows known parents ds graph) where
   abbrev Step : K → K → Type 0
   Step = IsParentAmong known parents ds
 
@@ -36,7 +42,8 @@ module _ {D K : Type 0} (known : D → K) (parents : D → List K) (ds : List D)
       let row = row_there graph i (omega (arith, slice_get_within ds i d is, are.same)) in
       (are.each i d row.0 is row.1 r).0 (subst (λ l. Contains l r) (targets_are graph i row.0 row.1) e)
 
-  edge_back : (i r : ℕ) (d p : D) → slice_get ds i ≡ Some d → slice_get ds r ≡ Some p → Contains (parents d) (known p) → HasEdge graph i r
+  edge_back : (i r : ℕ) (d p : D) → slice_get ds i ≡ Some d → slice_get ds r ≡ Some p → Contains (parents d) (known p)
+      → HasEdge graph i r
   edge_back i r d p is it c =
       let row = row_there graph i (omega (arith, slice_get_within ds i d is, are.same)) in
       subst (λ l. Contains l r) (sym (targets_are graph i row.0 row.1)) ((are.each i d row.0 is row.1 r).1 (p, it, c))
@@ -51,7 +58,8 @@ module _ {D K : Type 0} (known : D → K) (parents : D → List K) (ds : List D)
 
   sound : (i : ℕ) (d : D) → slice_get ds i ≡ Some d → (b : ℕ) → Reaches (HasEdge graph) i b → Above d b
   sound i d is b r = reaches_within (HasEdge graph) (Above d) (above_on d) i
-      (λ c e. let q = edge i c d is e in (q.0, q.1, reaches_one Step (known d) (known q.0) (d, contains_at ds i d is, refl, q.2))) b r
+      (λ c e. let q = edge i c d is e in
+      (q.0, q.1, reaches_one Step (known d) (known q.0) (d, contains_at ds i d is, refl, q.2))) b r
 
   module _ (apart : (i j : ℕ) (a b : D) → slice_get ds i ≡ Some a → slice_get ds j ≡ Some b → known a ≡ known b → i ≡ j)
       (declared : AreParentsDeclared known parents ds) where
@@ -73,11 +81,14 @@ module _ {D K : Type 0} (known : D → K) (parents : D → List K) (ds : List D)
         let (r, it) = at_contained (map known ds) c (declared (known d) c s) in
         elim (slice_get_cases ds r).1 [
           | inl x ↦
-              let shown : slice_get (map known ds) r ≡ Some (known x.0) = slice_get-map known ds r ∙ ap (option_map known) x.2 in
+              let shown : slice_get (map known ds) r ≡ Some (known x.0) = slice_get-map known ds r
+              ∙ ap (option_map known) x.2 in
               let named : known x.0 ≡ c = some_same (known x.0) c (sym shown ∙ it) in
-              let held : Contains (parents d) (known x.0) = subst (Contains (parents d)) (sym named) (subst (λ z. Contains (parents z) c) same cp) in
+              let held : Contains (parents d) (known x.0) = subst (Contains (parents d)) (sym named)
+              (subst (λ z. Contains (parents z) c) same cp) in
               (r, x.0, x.2, named, edge_back i r d x.0 is x.2 held)
-          | inr past ↦ absurd (let lt : r < length (map known ds) = slice_get_within (map known ds) r c it in omega (arith, past.0, length-map ds known))
+          | inr past ↦ absurd (let lt : r < length (map known ds) = slice_get_within (map known ds) r c it in
+              omega (arith, past.0, length-map ds known))
         ]
 
     below_on : (i : ℕ) (b c : K) → Below i b → Step b c → Below i c
@@ -93,8 +104,10 @@ module _ {D K : Type 0} (known : D → K) (parents : D → List K) (ds : List D)
         → IsAncestorRow (IsAncestorAmong known parents ds) (map known ds) (known d) row
     row_is i d row is reached = record {
       rising = reached.rising;
-      sound = λ r c. (let q = sound i d is r (reached.sound r c) in (known q.0, slice_get-map known ds r ∙ ap (option_map known) q.1, q.2));
-      whole = λ b path. (let q = complete i d is b path in (q.0, slice_get-map known ds q.0 ∙ ap (option_map known) q.2 ∙ ap Some q.3, reached.complete q.0 q.4));
+      sound = λ r c. (let q = sound i d is r (reached.sound r c) in
+          (known q.0, slice_get-map known ds r ∙ ap (option_map known) q.1, q.2));
+      whole = λ b path. (let q = complete i d is b path in
+          (q.0, slice_get-map known ds q.0 ∙ ap (option_map known) q.2 ∙ ap Some q.3, reached.complete q.0 q.4));
     }
 
     pub rows_are : (rows : List (Vec ℕ Global)) → AllReached graph rows
@@ -103,27 +116,34 @@ module _ {D K : Type 0} (known : D → K) (parents : D → List K) (ds : List D)
       same = all.same ∙ are.same ∙ sym (length-map ds known);
       each = λ i a row is at. elim (slice_get_cases ds i).1 [
         | inl x ↦
-            let shown : slice_get (map known ds) i ≡ Some (known x.0) = slice_get-map known ds i ∙ ap (option_map known) x.2 in
-            subst (λ z. IsAncestorRow (IsAncestorAmong known parents ds) (map known ds) z row.items) (some_same (known x.0) a (sym shown ∙ is))
+            let shown : slice_get (map known ds) i ≡ Some (known x.0) = slice_get-map known ds i
+            ∙ ap (option_map known) x.2 in
+            subst (λ z. IsAncestorRow (IsAncestorAmong known parents ds) (map known ds) z row.items)
+            (some_same (known x.0) a (sym shown ∙ is))
             (row_is i x.0 row.items x.2 (all.each i row at))
-        | inr past ↦ absurd (let lt : i < length (map known ds) = slice_get_within (map known ds) i a is in omega (arith, past.0, length-map ds known))
+        | inr past ↦ absurd (let lt : i < length (map known ds) = slice_get_within (map known ds) i a is in
+            omega (arith, past.0, length-map ds known))
       ];
     }
 
 -- ---- declarations in another order
-module _ {D K : Type 0} (known : D → K) (parents : D → List K) (xs ys : List D) (to : (d : D) → Contains xs d → Contains ys d) where
+module _ {D K : Type 0} (known : D → K) (parents : D → List K) (xs ys : List D)
+    (to : (d : D) → Contains xs d → Contains ys d) where
   step_moved : (a b : K) → IsParentAmong known parents xs a b → IsParentAmong known parents ys a b
   step_moved a b (d, c, k, p) = (d, to d c, k, p)
 
   pub ancestor_moved : (a b : K) → IsAncestorAmong known parents xs a b → IsAncestorAmong known parents ys a b
-  ancestor_moved a b r = reaches_wider (IsParentAmong known parents xs) (IsParentAmong known parents ys) step_moved a b r
+  ancestor_moved a b r = reaches_wider (IsParentAmong known parents xs) (IsParentAmong known parents ys)
+      step_moved a b r
 
-  pub declared_moved : ((d : D) → Contains ys d → Contains xs d) → AreParentsDeclared known parents xs → AreParentsDeclared known parents ys
+  pub declared_moved : ((d : D) → Contains ys d → Contains xs d) → AreParentsDeclared known parents xs
+      → AreParentsDeclared known parents ys
   declared_moved back declared a b (d, c, k, p) =
       let (e, ce, same) = contains_unmap known xs b (declared a b (d, back d c, k, p)) in
       subst (Contains (map known ys)) same (contains_map known ys e (to e ce))
 
-module _ {K : Type 0} (E F : K → K → Type 0) (to : (a b : K) → E a b → F a b) (back : (a b : K) → F a b → E a b) (names : List K) where
+module _ {K : Type 0} (E F : K → K → Type 0) (to : (a b : K) → E a b → F a b) (back : (a b : K) → F a b → E a b)
+    (names : List K) where
   pub rows_moved : (rows : List (Vec ℕ Global)) → AreAncestorRows E names rows → AreAncestorRows F names rows
   rows_moved rows are = record {
     same = are.same;

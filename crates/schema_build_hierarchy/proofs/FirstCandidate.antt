@@ -22,8 +22,10 @@ module _ (passes : InternalName → Bool) where
   first_of (Some ns) name = pair (is_unqualified name) (behind ns name) name
 
   module _ (ns : Option InternalName) (name own : InternalName) (own_is : own ≡ qualified ns name) where
-    shown : find passes (candidates ns name) ≡ (if passes own then Some own else (if passes name then Some name else None))
-    shown = first_of ns name ∙ ap (λ q. if passes q then Some q else (if passes name then Some name else None)) (sym own_is)
+    shown : find passes (candidates ns name)
+        ≡ (if passes own then Some own else (if passes name then Some name else None))
+    shown = first_of ns name ∙ ap (λ q. if passes q then Some q else (if passes name then Some name else None))
+        (sym own_is)
 
     pub own_found : passes own ≡ true → Some own ≡ find passes (candidates ns name)
     own_found h = sym (shown ∙ ap (λ b. if b then Some own else (if passes name then Some name else None)) h)
@@ -34,14 +36,17 @@ module _ (passes : InternalName → Bool) where
         ap (λ n. if passes n then Some n else None) e
         ∙ sym (shown ∙ ap (λ b. if b then Some own else (if passes name then Some name else None)) h)
 
-    pub plain_found : passes own ≡ false → (plain : InternalName) → plain ≡ name → passes name ≡ true → Some plain ≡ find passes (candidates ns name)
-    plain_found h plain e hit = sym (ap (λ b. if b then Some plain else None) (ap passes e ∙ hit)) ∙ plain_tried h plain e
+    pub plain_found : passes own ≡ false → (plain : InternalName) → plain ≡ name → passes name ≡ true
+        → Some plain ≡ find passes (candidates ns name)
+    plain_found h plain e hit = sym (ap (λ b. if b then Some plain else None) (ap passes e ∙ hit))
+        ∙ plain_tried h plain e
 
     pub none_found : passes own ≡ false → passes name ≡ false → None ≡ find passes (candidates ns name)
     none_found h miss = sym (ap (λ b. if b then Some name else None) miss) ∙ plain_tried h name refl
 
     -- what was found is the own one, or nothing was found and it does not pass
-    pub own_told : (r : InternalName) → Some r ≡ (if passes own then Some own else None) → Some r ≡ find passes (candidates ns name)
+    pub own_told : (r : InternalName) → Some r ≡ (if passes own then Some own else None)
+        → Some r ≡ find passes (candidates ns name)
     own_told r h = go (cases_Bool (passes own))
       where
         go : (passes own ≡ true) ⊎ (passes own ≡ false) → Some r ≡ find passes (candidates ns name)
@@ -52,6 +57,7 @@ module _ (passes : InternalName → Bool) where
         → (if passes plain then Some plain else None) ≡ find passes (candidates ns name)
     plain_told h plain e = go (cases_Bool (passes own))
       where
-        go : (passes own ≡ true) ⊎ (passes own ≡ false) → (if passes plain then Some plain else None) ≡ find passes (candidates ns name)
+        go : (passes own ≡ true) ⊎ (passes own ≡ false)
+            → (if passes plain then Some plain else None) ≡ find passes (candidates ns name)
         go (inl hit) = absurd (let e : None ≡ Some own = h ∙ ap (λ b. if b then Some own else None) hit in cc)
         go (inr miss) = plain_tried miss plain e

@@ -1,5 +1,6 @@
 -- No name is declared twice, so each declaration has its entry.
-use Rattle.std.proofs.Common.{◌≡◌, ℕ, suc, List, [], ◌∷◌, ◌++◌, map, take, length, ◌≤◌, refl, sym, ap, ◌∙◌, subst, arith, inl, inr, All, Contains, Option, Some, None, Ordering}
+use Rattle.std.proofs.Common.{◌≡◌, ℕ, suc, List, [], ◌∷◌, ◌++◌, map, take, length, ◌≤◌, refl, sym, ap, ◌∙◌, subst}
+use Rattle.std.proofs.Common.{arith, inl, inr, All, Contains, Option, Some, None, Ordering}
 use Rattle.std.specs.Prelude.{slice_get, codes}
 use Rattle.std.specs.declared.cmp.Ordering.TheVariants.{Equal}
 use Rattle.std.specs.Cmp.{IsTotalOrder, on_total}
@@ -24,7 +25,8 @@ use Rattle.schema_json.specs.declared.action_type.ActionType.{ActionType}
 use Rattle.schema_json.specs.declared.fragment.NamespaceDefinition.{NamespaceDefinition}
 use Rattle.schema_resolve_definitions.specs.Declarations.{name_of, action_type}
 use Rattle.schema_build_checks.specs.DeclaredAt.{ActionAt, actions_at_in_order}
-use Rattle.schema_build_hierarchy.specs.Declarations.{Declared, DeclaredEntity, entity_in, action_in, entities_of, actions_of}
+use Rattle.schema_build_hierarchy.specs.Declarations.{Declared, DeclaredEntity, entity_in, action_in, entities_of}
+use Rattle.schema_build_hierarchy.specs.Declarations.{actions_of}
 use Rattle.schema_build_hierarchy.specs.Entries.{SameMembers}
 use Rattle.schema_build_hierarchy.specs.FirstUses.{HasAlike}
 use Rattle.schema_build_hierarchy.proofs.Above.{at_contained, some_same}
@@ -37,22 +39,27 @@ module _ {E K D : Type 0} (name : E → K) (of : E → D) (R : K → K → Order
     (agree : (a b : E) → R (name a) (name b) ≡ Equal → S (of a) (of b) ≡ Equal) where
   pub same_members : (entries items : List E) (ds : List D) → map of entries ≡ ds
       → ((a b : D) → Contains ds a → Contains ds b → S a b ≡ Equal → a ≡ b)
-      → All (Contains entries) items → All (λ e. HasAlike R (map name items) (name e)) entries → SameMembers ds (map of items)
+      → All (Contains entries) items → All (λ e. HasAlike R (map name items) (name e)) entries
+      → SameMembers ds (map of items)
   same_members entries items ds is once kept whole d = (
     (λ c.
         let (e, ce, same) = contains_unmap of entries d (subst (λ l. Contains l d) (sym is) c) in
         let (n, cn, eq) = All-contains (λ e. HasAlike R (map name items) (name e)) entries e whole ce in
         let (x, cx, sx) = contains_unmap name items n cn in
         let tie : R (name x) (name e) ≡ Equal = ap (λ z. R z (name e)) sx ∙ eq in
-        let inside : Contains ds (of x) = subst (λ l. Contains l (of x)) is (contains_map of entries x (All-contains (Contains entries) items x kept cx)) in
+        let inside : Contains ds (of x) = subst (λ l. Contains l (of x)) is
+        (contains_map of entries x (All-contains (Contains entries) items x kept cx)) in
         let mine : Contains ds (of e) = subst (λ l. Contains l (of e)) is (contains_map of entries e ce) in
-        subst (Contains (map of items)) (once (of x) (of e) inside mine (agree x e tie) ∙ same) (contains_map of items x cx)),
+        subst (Contains (map of items)) (once (of x) (of e) inside mine (agree x e tie) ∙ same)
+        (contains_map of items x cx)),
     (λ c.
         let (x, cx, same) = contains_unmap of items d c in
-        subst (Contains ds) same (subst (λ l. Contains l (of x)) is (contains_map of entries x (All-contains (Contains entries) items x kept cx)))),
+        subst (Contains ds) same (subst (λ l. Contains l (of x)) is
+        (contains_map of entries x (All-contains (Contains entries) items x kept cx)))),
   )
 
-pub contains_flat : {A B : Type 0} (g : A → List B) (xs : List A) (y : B) → Contains (flat_map g xs) y → (x : A) × Contains xs x × Contains (g x) y
+pub contains_flat : {A B : Type 0} (g : A → List B) (xs : List A) (y : B) → Contains (flat_map g xs) y
+    → (x : A) × Contains xs x × Contains (g x) y
 contains_flat g [] y c = absurd (omega (arith, c.1))
 contains_flat g (x ∷ xs) y c = elim (Contains-append_cases (g x) (flat_map g xs) y c) [
   | inl here ↦ (x, (0, omega arith, refl), here)
@@ -76,14 +83,18 @@ pub path : Option Name → List (List ℕ)
 path None = []
 path (Some n) = components_of n.name
 
-pub full_path : (ns : Option Name) (w : InternalName) → w.others ≡ [] → components_of (qualified (name_of ns) w) ≡ path ns ++ w.first.text ∷ []
+pub full_path : (ns : Option Name) (w : InternalName) → w.others ≡ []
+    → components_of (qualified (name_of ns) w) ≡ path ns ++ w.first.text ∷ []
 unfolding path
 full_path None w e = ap (λ (o : List Id). map (λ i. i.text) (w.first ∷ o)) e
 full_path (Some n) w e = alone n w w.others refl e
   where
-    alone : (n : Name) (w : InternalName) (o : List Id) → w.others ≡ o → o ≡ [] → components_of (qualified (Some n.name) w) ≡ components_of n.name ++ w.first.text ∷ []
+    alone : (n : Name) (w : InternalName) (o : List Id) → w.others ≡ o → o ≡ []
+        → components_of (qualified (Some n.name) w) ≡ components_of n.name ++ w.first.text ∷ []
     alone n w [] is e =
-        subst (λ (o : List Id). components_of (qualified (Some n.name) (record { first = w.first; others = o; loc = w.loc })) ≡ components_of n.name ++ w.first.text ∷ []) (sym is)
+        subst (λ (o : List Id). components_of
+        (qualified (Some n.name) (record { first = w.first; others = o; loc = w.loc })) ≡ components_of n.name
+        ++ w.first.text ∷ []) (sym is)
         (map-append (λ i. i.text) (n.name.first ∷ n.name.others) (w.first ∷ []))
     alone n w (i ∷ o) is e = absurd (cc)
 
@@ -95,35 +106,45 @@ place_tied (Some a) None e = absurd (cc)
 place_tied (Some a) (Some b) e = names_tied a.name b.name e
 
 -- entries with keys that the order does not tell apart are one
-pub keyed_once : {K V : Type 0} {R : K → K → Ordering} (o : IsTotalOrder R) (xs : List (K × V)) → IsStrictlySortedBy R (keys_of xs) → (x y : K × V)
+pub keyed_once : {K V : Type 0} {R : K → K → Ordering} (o : IsTotalOrder R) (xs : List (K × V))
+    → IsStrictlySortedBy R (keys_of xs) → (x y : K × V)
     → Contains xs x → Contains xs y → R x.0 y.0 ≡ Equal → x ≡ y
 keyed_once o xs up x y cx cy e =
     let (i, ix) = at_contained xs x cx in
     let (j, jy) = at_contained xs y cy in
-    let place : i ≡ j = one_place o (keys_of xs) up i j x.0 y.0 (map_at (λ p. p.0) xs i x ix) (map_at (λ p. p.0) xs j y jy) e in
+    let place : i ≡ j = one_place o (keys_of xs) up i j x.0 y.0 (map_at (λ p. p.0) xs i x ix)
+    (map_at (λ p. p.0) xs j y jy) e in
     some_same x y (sym ix ∙ ap (slice_get xs) place ∙ jy)
 
-module _ {G : named.Ghosts RawName} (f : List (Option Name × NamespaceDefinition RawName G)) (total : IsTotalOrder (option_cmp (λ (x y : Name). names_in_order x.name y.name)))
+module _ {G : named.Ghosts RawName} (f : List (Option Name × NamespaceDefinition RawName G))
+    (total : IsTotalOrder (option_cmp (λ (x y : Name). names_in_order x.name y.name)))
     (up : IsStrictlySortedBy (option_cmp (λ (x y : Name). names_in_order x.name y.name)) (keys_of f)) where
   pub entities_once : All (λ e. IsStrictlySortedBy (λ x y. text_cmp x.id.text y.id.text) (keys_of e.1.entity_types)) f
-      → (a b : DeclaredEntity) → Contains (flat_map entities_of f) a → Contains (flat_map entities_of f) b → names_in_order a.name b.name ≡ Equal → a ≡ b
+      → (a b : DeclaredEntity) → Contains (flat_map entities_of f) a → Contains (flat_map entities_of f) b
+      → names_in_order a.name b.name ≡ Equal → a ≡ b
   entities_once rising a b ca cb h =
       let (e, ce, da) = contains_flat entities_of f a ca in
       let (k, ck, db) = contains_flat entities_of f b cb in
       let (p, cp, pa) = contains_unmap (entity_in e.0) e.1.entity_types a da in
       let (q, cq, qb) = contains_unmap (entity_in k.0) k.1.entity_types b db in
       let same : components_of a.name ≡ components_of b.name = names_exact a.name b.name h in
-      let left : components_of a.name ≡ path e.0 ++ p.0.id.text ∷ [] = ap (λ d. components_of d.name) (sym pa) ∙ full_path e.0 (record { first = p.0.id; others = []; loc = p.1.loc }) refl in
-      let right : components_of b.name ≡ path k.0 ++ q.0.id.text ∷ [] = ap (λ d. components_of d.name) (sym qb) ∙ full_path k.0 (record { first = q.0.id; others = []; loc = q.1.loc }) refl in
+      let left : components_of a.name ≡ path e.0 ++ p.0.id.text ∷ [] = ap (λ d. components_of d.name) (sym pa)
+      ∙ full_path e.0 (record { first = p.0.id; others = []; loc = p.1.loc }) refl in
+      let right : components_of b.name ≡ path k.0 ++ q.0.id.text ∷ [] = ap (λ d. components_of d.name) (sym qb)
+      ∙ full_path k.0 (record { first = q.0.id; others = []; loc = q.1.loc }) refl in
       let both = last_same (path e.0) (path k.0) p.0.id.text q.0.id.text (sym left ∙ same ∙ right) in
       let ek : e ≡ k = keyed_once total f up e k ce ck (place_tied e.0 k.0 both.0) in
       let cp' : Contains k.1.entity_types p = subst (λ z. Contains z.1.entity_types p) ek cp in
-      let tied : text_cmp p.0.id.text q.0.id.text ≡ Equal = ap (text_cmp p.0.id.text) (sym both.1) ∙ tied_itself text_total p.0.id.text in
-      let pq : p ≡ q = keyed_once (on_total (λ (u : UnreservedId). u.id.text) text_total) k.1.entity_types (All-contains (λ e. IsStrictlySortedBy (λ x y. text_cmp x.id.text y.id.text) (keys_of e.1.entity_types)) f k rising ck) p q cp' cq tied in
+      let tied : text_cmp p.0.id.text q.0.id.text ≡ Equal = ap (text_cmp p.0.id.text) (sym both.1)
+      ∙ tied_itself text_total p.0.id.text in
+      let pq : p ≡ q = keyed_once (on_total (λ (u : UnreservedId). u.id.text) text_total) k.1.entity_types
+      (All-contains (λ e. IsStrictlySortedBy (λ x y. text_cmp x.id.text y.id.text) (keys_of e.1.entity_types)) f k
+      rising ck) p q cp' cq tied in
       sym pa ∙ (λ i. entity_in (ek i).0 (pq i)) ∙ qb
 
   pub actions_once : All (λ e. IsStrictlySortedBy text_cmp (keys_of e.1.actions)) f
-      → (a b : Declared ActionAt (ActionType RawName G)) → Contains (flat_map actions_of f) a → Contains (flat_map actions_of f) b → actions_at_in_order a.name b.name ≡ Equal → a ≡ b
+      → (a b : Declared ActionAt (ActionType RawName G)) → Contains (flat_map actions_of f) a
+      → Contains (flat_map actions_of f) b → actions_at_in_order a.name b.name ≡ Equal → a ≡ b
   actions_once rising a b ca cb h =
       let (e, ce, da) = contains_flat actions_of f a ca in
       let (k, ck, db) = contains_flat actions_of f b cb in
@@ -132,13 +153,16 @@ module _ {G : named.Ghosts RawName} (f : List (Option Name × NamespaceDefinitio
       let same = actions_exact a.name b.name h in
       let left : components_of (action_type e.0) ≡ path e.0 ++ codes "Action" ∷ [] = full_path e.0 _ refl in
       let right : components_of (action_type k.0) ≡ path k.0 ++ codes "Action" ∷ [] = full_path k.0 _ refl in
-      let types : components_of (action_type e.0) ≡ components_of (action_type k.0) = ap (λ d. components_of d.name.ty) pa ∙ ap (λ z. z.0) same ∙ ap (λ d. components_of d.name.ty) (sym qb) in
+      let types : components_of (action_type e.0)
+      ≡ components_of (action_type k.0) = ap (λ d. components_of d.name.ty) pa ∙ ap (λ z. z.0) same
+      ∙ ap (λ d. components_of d.name.ty) (sym qb) in
       let ids : p.0 ≡ q.0 = ap (λ d. d.name.id) pa ∙ ap (λ z. z.1) same ∙ ap (λ d. d.name.id) (sym qb) in
       let both = last_same (path e.0) (path k.0) (codes "Action") (codes "Action") (sym left ∙ types ∙ right) in
       let ek : e ≡ k = keyed_once total f up e k ce ck (place_tied e.0 k.0 both.0) in
       let cp' : Contains k.1.actions p = subst (λ z. Contains z.1.actions p) ek cp in
       let tied : text_cmp p.0 q.0 ≡ Equal = ap (text_cmp p.0) (sym ids) ∙ tied_itself text_total p.0 in
-      let pq : p ≡ q = keyed_once text_total k.1.actions (All-contains (λ e. IsStrictlySortedBy text_cmp (keys_of e.1.actions)) f k rising ck) p q cp' cq tied in
+      let pq : p ≡ q = keyed_once text_total k.1.actions
+      (All-contains (λ e. IsStrictlySortedBy text_cmp (keys_of e.1.actions)) f k rising ck) p q cp' cq tied in
       sym pa ∙ (λ i. action_in (ek i).0 (pq i)) ∙ qb
 
 pub whole_given : {A B : Type 0} (f : A → List B) (xs ys : List A) (i : ℕ) → length xs ≤ i → xs ≡ ys

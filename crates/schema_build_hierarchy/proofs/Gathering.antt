@@ -12,7 +12,8 @@ use Rattle.schema_build_hierarchy.specs.Rows.{undeclared_part}
 use Rattle.schema_build_hierarchy.specs.declared.declared_types.UseFinder.{UseFinder}
 
 abbrev taken : Option Name → UseFinder → Part RawName → UseFinder → Type 0
-taken ns before part after = Finds (undeclared_part (tests_of before.defs.now) (tests_of before.own.now) ns part) before after
+taken ns before part after = Finds
+    (undeclared_part (tests_of before.defs.now) (tests_of before.own.now) ns part) before after
 
 abbrev met : Tests → Tests → Option Name × Part RawName → List InternalName
 met t own e = undeclared_part t own e.0 e.1
@@ -20,7 +21,8 @@ met t own e = undeclared_part t own e.0 e.1
 -- what all parts give
 pub finds_all : (ps : List (Option Name × Part RawName)) (a c : UseFinder) → FoldsTo (takes_placed taken) a ps c
     → Finds (flat_map (met (tests_of a.defs.now) (tests_of a.own.now)) ps) a c
-finds_all [] a c h = subst (λ g. Finds [] a g) h (record { defs = refl; own = refl; uses = sym (append-nil a.uses.items) })
+finds_all [] a c h = subst (λ g. Finds [] a g) h
+    (record { defs = refl; own = refl; uses = sym (append-nil a.uses.items) })
 finds_all (p ∷ ps) a c h =
     let first = h.1 in
     let rest = finds_all ps h.0 c h.2 in
@@ -30,5 +32,6 @@ finds_all (p ∷ ps) a c h =
     record {
       defs = rest.defs ∙ first.defs;
       own = rest.own ∙ first.own;
-      uses = rest.uses ∙ ap (λ l. h.0.uses.items ++ l) same ∙ ap (λ l. l ++ flat_map mine ps) first.uses ∙ append_assoc a.uses.items (mine p) (flat_map mine ps);
+      uses = rest.uses ∙ ap (λ l. h.0.uses.items ++ l) same ∙ ap (λ l. l ++ flat_map mine ps) first.uses
+          ∙ append_assoc a.uses.items (mine p) (flat_map mine ps);
     }

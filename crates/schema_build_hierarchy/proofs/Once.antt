@@ -1,5 +1,6 @@
 -- The first of each, once a list is sorted with those alike in their order.
-use Rattle.std.proofs.Common.{◌≡◌, List, [], ◌∷◌, refl, sym, ap, ◌∙◌, subst, arith, inl, inr, All, Contains, Ordering, Bool, true, false, cond, map}
+use Rattle.std.proofs.Common.{◌≡◌, List, [], ◌∷◌, refl, sym, ap, ◌∙◌, subst, arith, inl, inr, All, Contains, Ordering}
+use Rattle.std.proofs.Common.{Bool, true, false, cond, map}
 use Rattle.std.specs.Prelude.{◌⊎◌, not, ◌&&◌, filter}
 use Rattle.std.specs.declared.cmp.Ordering.TheVariants.{Less, Equal, Greater}
 use Rattle.std.specs.Cmp.{IsTotalOrder, IsEquivalence}
@@ -8,7 +9,8 @@ use Rattle.std.specs.List.{dedup, dedup_from}
 use Rattle.std.specs.List.Sorted.{IsStrictlySortedBy, IsSorted, IsPermutation, IsStable, ties}
 use Rattle.std.proofs.lemmas.Bool.{cases_Bool}
 use Rattle.std.proofs.lemmas.Cmp.{tied_itself, tied_back, alike_right, eq_by_cmp_equiv}
-use Rattle.std.proofs.lemmas.List.Elements.{All-from_recursion, All-contains, All-contains_itself, All-weaker, Contains-append_cases, Contains-push_cases, filter_agree}
+use Rattle.std.proofs.lemmas.List.Elements.{All-from_recursion, All-contains, All-contains_itself, All-weaker}
+use Rattle.std.proofs.lemmas.List.Elements.{Contains-append_cases, Contains-push_cases, filter_agree}
 use Rattle.std.proofs.lemmas.List.Kept.{IsStrictlySortedBy-dedup, Any-dedup, Contains-from_dedup}
 use Rattle.std.proofs.lemmas.List.Sorted.{Contains-permutation, IsPermutation-sym}
 use Rattle.std.proofs.lemmas.Map.Keys.{sorted_head, sorted_tail}
@@ -17,7 +19,8 @@ use Rattle.schema_build_hierarchy.specs.FirstUses.{IsFirstUse, HasAlike, AreFirs
 
 pub contains_cases : {A : Type 0} (k : A) (xs : List A) (x : A) → Contains (k ∷ xs) x → (k ≡ x) ⊎ Contains xs x
 contains_cases k xs x c = elim (Contains-append_cases (k ∷ []) xs x c) [
-  | inl here ↦ elim (Contains-push_cases [] k x here) [ inl none ↦ absurd (omega (arith, none.1)) | inr same ↦ inl same ]
+  | inl here ↦ elim (Contains-push_cases [] k x here)
+      [ inl none ↦ absurd (omega (arith, none.1)) | inr same ↦ inl same ]
   | inr there ↦ inr there
 ]
 
@@ -26,7 +29,8 @@ tied_is Less b e = refl
 tied_is Equal b e = ap (λ z. not (is_lt z)) (sym e)
 tied_is Greater b e = ap (λ z. not (is_lt z)) (sym e)
 
-module _ {T : Type 0} {R : T → T → Ordering} (o : IsTotalOrder R) (E : T → T → Bool) (same : (x y : T) → E x y ≡ eq_by_cmp R x y) where
+module _ {T : Type 0} {R : T → T → Ordering} (o : IsTotalOrder R) (E : T → T → Bool)
+    (same : (x y : T) → E x y ≡ eq_by_cmp R x y) where
   abbrev alike : T → List T → List T
   alike x = filter (λ y. is_eq (R x y))
 
@@ -49,7 +53,8 @@ module _ {T : Type 0} {R : T → T → Ordering} (o : IsTotalOrder R) (E : T →
   taken : (x k : T) (xs : List T) → is_eq (R x k) ≡ true → IsFirstUse R (k ∷ xs) x → k ≡ x
   taken x k xs hit h =
       let front : cond (is_eq (R x k)) (k ∷ alike x xs) (alike x xs) ≡ x ∷ h.0 = h.1 in
-      let shown : cond (is_eq (R x k)) (k ∷ alike x xs) (alike x xs) ≡ k ∷ alike x xs = ap (λ b. cond b (k ∷ alike x xs) (alike x xs)) hit in
+      let shown : cond (is_eq (R x k)) (k ∷ alike x xs) (alike x xs)
+      ≡ k ∷ alike x xs = ap (λ b. cond b (k ∷ alike x xs) (alike x xs)) hit in
       cc
 
   behind : (x k : T) (xs : List T) → is_eq (R x k) ≡ false → IsFirstUse R (k ∷ xs) x → IsFirstUse R xs x
@@ -68,7 +73,8 @@ module _ {T : Type 0} {R : T → T → Ordering} (o : IsTotalOrder R) (E : T →
 
   above : (k x : T) (xs : List T) → IsStrictlySortedBy R (k ∷ xs) → Contains xs x → is_eq (R x k) ≡ false
   above k x xs up c =
-      let less : R k x ≡ Less = All-contains (λ z. R k z ≡ Less) xs x (All-from_recursion (λ z. R k z ≡ Less) xs (sorted_head R k xs up)) c in
+      let less : R k x ≡ Less = All-contains (λ z. R k z ≡ Less) xs x
+      (All-from_recursion (λ z. R k z ≡ Less) xs (sorted_head R k xs up)) c in
       ap is_eq (o.antisymm x k ∙ ap ordering_reverse less)
 
   first_in : (k : T) (xs : List T) → IsStrictlySortedBy R (dedup_from E k xs) → (x : T) → Contains (dedup_from E k xs) x
@@ -80,18 +86,23 @@ module _ {T : Type 0} {R : T → T → Ordering} (o : IsTotalOrder R) (E : T →
   first_in k (y ∷ xs) up x c = go (cases_Bool (E y k)) (first_in k xs) (first_in y xs)
     where
       go : (E y k ≡ true) ⊎ (E y k ≡ false)
-          → (IsStrictlySortedBy R (dedup_from E k xs) → (x : T) → Contains (dedup_from E k xs) x → IsFirstUse R (k ∷ xs) x)
-          → (IsStrictlySortedBy R (dedup_from E y xs) → (x : T) → Contains (dedup_from E y xs) x → IsFirstUse R (y ∷ xs) x)
+          → (IsStrictlySortedBy R (dedup_from E k xs) → (x : T) → Contains (dedup_from E k xs) x
+          → IsFirstUse R (k ∷ xs) x)
+          → (IsStrictlySortedBy R (dedup_from E y xs) → (x : T) → Contains (dedup_from E y xs) x
+          → IsFirstUse R (y ∷ xs) x)
           → IsFirstUse R (k ∷ y ∷ xs) x
       go (inl e) mine its =
-          let shape : cond (E y k) (dedup_from E k xs) (k ∷ dedup_from E y xs) ≡ dedup_from E k xs = ap (λ b. cond b (dedup_from E k xs) (k ∷ dedup_from E y xs)) e in
+          let shape : cond (E y k) (dedup_from E k xs) (k ∷ dedup_from E y xs)
+          ≡ dedup_from E k xs = ap (λ b. cond b (dedup_from E k xs) (k ∷ dedup_from E y xs)) e in
           put_in x k y xs e (mine (subst (IsStrictlySortedBy R) shape up) x (subst (λ l. Contains l x) shape c))
       go (inr e) mine its =
-          let shape : cond (E y k) (dedup_from E k xs) (k ∷ dedup_from E y xs) ≡ k ∷ dedup_from E y xs = ap (λ b. cond b (dedup_from E k xs) (k ∷ dedup_from E y xs)) e in
+          let shape : cond (E y k) (dedup_from E k xs) (k ∷ dedup_from E y xs)
+          ≡ k ∷ dedup_from E y xs = ap (λ b. cond b (dedup_from E k xs) (k ∷ dedup_from E y xs)) e in
           let up' : IsStrictlySortedBy R (k ∷ dedup_from E y xs) = subst (IsStrictlySortedBy R) shape up in
           elim (contains_cases k (dedup_from E y xs) x (subst (λ l. Contains l x) shape c)) [
             | inl here' ↦ subst (λ z. IsFirstUse R (z ∷ y ∷ xs) x) (sym here') (here x (y ∷ xs))
-            | inr there ↦ passed x k (y ∷ xs) (above k x (dedup_from E y xs) up' there) (its (sorted_tail R k (dedup_from E y xs) up') x there)
+            | inr there ↦ passed x k (y ∷ xs) (above k x (dedup_from E y xs) up' there)
+                (its (sorted_tail R k (dedup_from E y xs) up') x there)
           ]
 
   first_once : (xs : List T) → IsStrictlySortedBy R (dedup E xs) → (x : T) → Contains (dedup E xs) x → IsFirstUse R xs x
@@ -104,11 +115,14 @@ module _ {T : Type 0} {R : T → T → Ordering} (o : IsTotalOrder R) (E : T →
       let found = Any-dedup equiv xs u c in
       (found.1, (found.0, found.2, found.3), tied_back o u found.1 (equal_from u found.1 found.4))
 
-  pub firsts_are : (uses sorted firsts : List T) → IsPermutation uses sorted → IsStable R uses sorted → IsSorted R sorted
+  pub firsts_are : (uses sorted firsts : List T) → IsPermutation uses sorted → IsStable R uses sorted
+      → IsSorted R sorted
       → firsts ≡ dedup E sorted → AreFirstUses R uses firsts
   firsts_are uses sorted firsts moved stable up is = subst (AreFirstUses R uses) (sym is) (record {
     rising = rising;
-    first = All-weaker (Contains (dedup E sorted)) (IsFirstUse R uses) (λ x c. let h = first_once sorted rising x c in (h.0, kept x ∙ h.1)) (dedup E sorted) (All-contains_itself (dedup E sorted));
+    first = All-weaker (Contains (dedup E sorted)) (IsFirstUse R uses)
+        (λ x c. let h = first_once sorted rising x c in (h.0, kept x ∙ h.1)) (dedup E sorted)
+        (All-contains_itself (dedup E sorted));
     whole = λ u c. alike_in sorted u (Contains-permutation uses sorted u moved c);
   })
     where
@@ -126,7 +140,8 @@ module _ {T : Type 0} {R : T → T → Ordering} (o : IsTotalOrder R) (E : T →
   -- each once, in order: what was there, and nothing else
   pub once_kept : (entries sorted : List T) → IsPermutation entries sorted → All (Contains entries) (dedup E sorted)
   once_kept entries sorted moved = All-weaker (Contains (dedup E sorted)) (Contains entries)
-      (λ x c. Contains-permutation sorted entries x (IsPermutation-sym entries sorted moved) (Contains-from_dedup E sorted x c))
+      (λ x c. Contains-permutation sorted entries x (IsPermutation-sym entries sorted moved)
+      (Contains-from_dedup E sorted x c))
       (dedup E sorted) (All-contains_itself (dedup E sorted))
 
   pub once_whole : (entries sorted : List T) → IsPermutation entries sorted → All (HasAlike R (dedup E sorted)) entries

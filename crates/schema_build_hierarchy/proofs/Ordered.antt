@@ -5,15 +5,18 @@ use Rattle.std.specs.List.{AllByRecursion}
 use Rattle.std.specs.List.Sorted.{IsStrictlySortedBy}
 use Rattle.std.proofs.lemmas.List.{get_or-map, length-map}
 
-all_seen : {A B : Type 0} (f : A → B) (P : B → Type 0) (xs : List A) → AllByRecursion (λ a. P (f a)) xs → AllByRecursion P (map f xs)
+all_seen : {A B : Type 0} (f : A → B) (P : B → Type 0) (xs : List A) → AllByRecursion (λ a. P (f a)) xs
+    → AllByRecursion P (map f xs)
 all_seen f P [] h = tt
 all_seen f P (x ∷ xs) h = (h.0, all_seen f P xs h.1)
 
-all_back : {A B : Type 0} (f : A → B) (P : B → Type 0) (xs : List A) → AllByRecursion P (map f xs) → AllByRecursion (λ a. P (f a)) xs
+all_back : {A B : Type 0} (f : A → B) (P : B → Type 0) (xs : List A) → AllByRecursion P (map f xs)
+    → AllByRecursion (λ a. P (f a)) xs
 all_back f P [] h = tt
 all_back f P (x ∷ xs) h = (h.0, all_back f P xs h.1)
 
-pub sorted_seen : {A B : Type 0} (f : A → B) (R : B → B → Ordering) (xs : List A) → IsStrictlySortedBy (λ a b. R (f a) (f b)) xs
+pub sorted_seen : {A B : Type 0} (f : A → B) (R : B → B → Ordering) (xs : List A)
+    → IsStrictlySortedBy (λ a b. R (f a) (f b)) xs
     → IsStrictlySortedBy R (map f xs)
 unfolding IsStrictlySortedBy
 sorted_seen f R [] up = tt
@@ -28,7 +31,8 @@ sorted_back f R (x ∷ xs) up = (all_back f (λ y. R (f x) y ≡ Less) xs up.0, 
 pub contains_map : {X Y : Type 0} (f : X → Y) (xs : List X) (x : X) → Contains xs x → Contains (map f xs) (f x)
 contains_map f xs x (k, h, e) = (k, omega (arith, length-map xs f), get_or-map f xs k x (f x) h ∙ ap f e)
 
-pub contains_unmap : {X Y : Type 0} (f : X → Y) (xs : List X) (y : Y) → Contains (map f xs) y → (x : X) × Contains xs x × (f x ≡ y)
+pub contains_unmap : {X Y : Type 0} (f : X → Y) (xs : List X) (y : Y) → Contains (map f xs) y
+    → (x : X) × Contains xs x × (f x ≡ y)
 contains_unmap f [] y c = absurd (omega (arith, c.1))
 contains_unmap f (x ∷ xs) y (zero, h, e) = (x, (0, omega arith, refl), e)
 contains_unmap f (x ∷ xs) y (suc k, h, e) =

@@ -19,7 +19,8 @@ use Rattle.schema_build_expand.specs.Expands.{Expands, ExpandsOnce}
 use Rattle.schema_build_expand.specs.Scope.{Scope}
 use Rattle.schema_build_expand.specs.Targets.{ExpandsTo}
 use Rattle.schema_build_hierarchy.specs.Declarations.{Declared}
-use Rattle.schema_build_items.specs.ActionKinds.{ApplyMeaning, IsApplyMeaning, IsApplyBuilt, IsActionKindBuilt, IsMeantByOne, AreJust, as_components, components_cmp}
+use Rattle.schema_build_items.specs.ActionKinds.{ApplyMeaning, IsApplyMeaning, IsApplyBuilt, IsActionKindBuilt}
+use Rattle.schema_build_items.specs.ActionKinds.{IsMeantByOne, AreJust, as_components, components_cmp}
 use Rattle.schema_build_items.specs.NoRecord.{ContextIsNoRecord, LacksContext}
 use Rattle.schema_build_items.proofs.Made.{record_closed, record_apart}
 
@@ -59,7 +60,8 @@ module _ (t : Tests) (s : Scope RawName) (ns : Option Name) where
   pub bare_applies : {G : named.Ghosts RawName} (a : ActionType RawName G) → is_bare_action a ≡ true
       → IsApplyMeaning t s ns a.applies_to (record { principals = []; resources = []; context = no_more })
   bare_applies a e =
-      let gone : a.applies_to ≡ None = none_there a.applies_to (second (is_none a.attributes) (is_none a.applies_to) e) in
+      let gone : a.applies_to ≡ None = none_there a.applies_to
+      (second (is_none a.attributes) (is_none a.applies_to) e) in
       subst (λ o. IsApplyMeaning t s ns o nothing) (sym gone) (refl, refl, refl)
 
 module _ (t : Tests) (s : Scope RawName) (once : ExpandsOnce s) where
@@ -69,6 +71,7 @@ module _ (t : Tests) (s : Scope RawName) (once : ExpandsOnce s) where
   context_apart ns (Some d) a h lacks = record_apart s once (name_of ns) d.context.0 a.context h.2 lacks
 
   -- where something is built the context is a record
-  pub action_apart : {G : named.Ghosts RawName} (d : Declared ActionAt (ActionType RawName G)) (kind : ValidatorActionKind)
+  pub action_apart : {G : named.Ghosts RawName} (d : Declared ActionAt (ActionType RawName G))
+      (kind : ValidatorActionKind)
       → IsActionKindBuilt t s d kind → LacksContext s d → ⊥
   action_apart d kind (a, h, stands) lacks = context_apart d.ns d.ty.applies_to a h lacks

@@ -1,5 +1,6 @@
 -- Bare entity types mean no attributes and no tags.
-use Rattle.std.proofs.Common.{◌≡◌, Bool, true, false, not, ◌&&◌, List, [], ◌∷◌, Option, Some, None, refl, sym, ◌∙◌, subst}
+use Rattle.std.proofs.Common.{◌≡◌, Bool, true, false, not, ◌&&◌, List, [], ◌∷◌, Option, Some, None, refl, sym, ◌∙◌}
+use Rattle.std.proofs.Common.{subst}
 use Rattle.std.specs.Prelude.{ℕ, is_none}
 use Rattle.cedar_identifiers.specs.declared.internal_name.InternalName.{InternalName}
 use Rattle.cedar_identifiers.specs.declared.raw_name.RawName.{RawName}
@@ -45,7 +46,8 @@ module _ (s : Scope N) (ns : Option InternalName) where
   entries_empty [] true e = cc
   entries_empty (x ∷ xs) b e = cc
 
-  shape_empty : (v : TypeVariant-F N («Type» N) (TypeVariant N) (RecordType N) (TypeOfAttribute N)) → empty_shape v ≡ true
+  shape_empty : (v : TypeVariant-F N («Type» N) (TypeVariant N) (RecordType N) (TypeOfAttribute N))
+      → empty_shape v ≡ true
       → LayerExpands N s ns (shape_view v) (Rec no_more)
   shape_empty (TypeVariant-F.Record r) e = entries_empty (attributes_of r) (is_open r) (sym (alike_record r) ∙ e)
   shape_empty TypeVariant-F.String e = cc

@@ -1,5 +1,6 @@
 -- The actions of a fragment, among its namespaces.
-use Rattle.std.proofs.Common.{◌≡◌, ℕ, zero, suc, true, not, ◌&&◌, List, [], ◌∷◌, ◌++◌, get_or, All, Contains, Option, Some, None, refl, sym, ap, ◌∙◌, subst, arith}
+use Rattle.std.proofs.Common.{◌≡◌, ℕ, zero, suc, true, not, ◌&&◌, List, [], ◌∷◌, ◌++◌, get_or, All, Contains, Option}
+use Rattle.std.proofs.Common.{Some, None, refl, sym, ap, ◌∙◌, subst, arith}
 use Rattle.std.specs.Prelude.{IsSome}
 use Rattle.std.specs.List.{flat_map}
 use Rattle.std.specs.Cmp.{IsTotalOrder}
@@ -21,7 +22,9 @@ use Rattle.schema_json.specs.declared.fragment.Fragment.{Fragment}
 use Rattle.schema_json.specs.declared.fragment.NamespaceDefinition.{NamespaceDefinition}
 use Rattle.schema_json_walk.specs.Bare.{is_bare_action}
 use Rattle.schema_json_walk.specs.Parts.{Part, principal, external_not_bare}
-use Rattle.schema_json_walk.specs.Walk.{of_fragment, of_entry, of_entity, of_action, of_action_parts, of_relations, of_apply, of_principals, of_resources, of_context, of_items, of_common, each_value, visit_where}
+use Rattle.schema_json_walk.specs.Walk.{of_fragment, of_entry, of_entity, of_action, of_action_parts, of_relations}
+use Rattle.schema_json_walk.specs.Walk.{of_apply, of_principals, of_resources, of_context, of_items, of_common}
+use Rattle.schema_json_walk.specs.Walk.{each_value, visit_where}
 use Rattle.schema_resolve_definitions.specs.Declarations.{name_of}
 use Rattle.schema_resolve_definitions.specs.Defined.{defined}
 use Rattle.schema_resolve_definitions.specs.Tests.{Tests, tests_of}
@@ -77,9 +80,11 @@ no_types us never = go (types_among us) refl
     go : (cs : List ConditionalName) → types_among us ≡ cs → types_among us ≡ []
     go [] e = e
     go (c ∷ cs) e =
-        absurd (never (error.TypeNotDefined (record { undefined_types = types_among us })) (refl, λ none. (let h : c ∷ cs ≡ [] = sym e ∙ none in cc)))
+        absurd (never (error.TypeNotDefined (record { undefined_types = types_among us }))
+        (refl, λ none. (let h : c ∷ cs ≡ [] = sym e ∙ none in cc)))
 
-targeted : (o : Option InternalName) (c : ConditionalName) → NoTypes (unless o (undefined.type_reference c)) → is_some o ≡ true
+targeted : (o : Option InternalName) (c : ConditionalName) → NoTypes (unless o (undefined.type_reference c))
+    → is_some o ≡ true
 targeted None c e = cc
 targeted (Some n) c e = refl
 
@@ -115,7 +120,8 @@ module _ {U : Type 0} (Quiet : List U → Type 0) (parted : IsOfParts Quiet) whe
     quiet_apply : (d : ApplySpec RawName) → e.1.applies_to ≡ Some d → Quiet (of_apply (visit ns) d)
     quiet_apply d is =
         subst (λ o. Quiet (option_map_or (of_apply (visit ns)) o [])) is
-        (parted.right _ _ (parted.right _ (of_relations (visit ns) e.1) (parted.right _ (of_action_parts (visit ns) e.1) quiet_action)))
+        (parted.right _ _ (parted.right _ (of_relations (visit ns) e.1)
+        (parted.right _ (of_action_parts (visit ns) e.1) quiet_action)))
 
 module _ {G : named.Ghosts RawName} (f : Fragment RawName G) where
   -- an action stands in a namespace of the fragment
@@ -133,7 +139,8 @@ module _ {G : named.Ghosts RawName} (f : Fragment RawName G) where
     abbrev find_types : Option Name → Part RawName → List Undefined
     find_types ns = by_reference (untargeted_in (tests_of (defined f table)) (name_of ns))
 
-    names_meant : (ns : Option Name) (names : List RawName) → NoTypes (flat_map (λ name. find_types ns (principal name)) names)
+    names_meant : (ns : Option Name) (names : List RawName)
+        → NoTypes (flat_map (λ name. find_types ns (principal name)) names)
         → AreEntitiesMeant f table ns names
     names_meant ns names q = all_of _ names
         (λ name c. entity_meant (tests_of (defined f table)) (name_of ns) name
@@ -177,11 +184,13 @@ module _ {G : named.Ghosts RawName} (f : Fragment RawName G) where
         (apply_ready ns n e in_f in_n e.1.applies_to refl)
 
   -- an external action is bare where no feature is refused
-  pub external_bare : Never (HasUnsupported f) → (d : Declared ActionAt (ActionType RawName G)) → Contains (declared_actions f) d
+  pub external_bare : Never (HasUnsupported f) → (d : Declared ActionAt (ActionType RawName G))
+      → Contains (declared_actions f) d
       → d.ty.external ≡ true → is_bare_action d.ty ≡ true
   external_bare never d c =
       let (ns, n, e, in_f, in_n, is) = stands_in d c in
-      let none : of_fragment (λ ns part. unsupported part) f ≡ [] = none_first (of_fragment (λ ns part. unsupported part) f) never in
+      let none : of_fragment (λ ns part. unsupported part) f
+      ≡ [] = none_first (of_fragment (λ ns part. unsupported part) f) never in
       let one = quiet_action (λ us. us ≡ []) none_parted f (λ ns part. unsupported part) none ns n e in_f in_n in
       let mark = visit_where unsupported (e.1.external && not (is_bare_action e.1)) external_not_bare in
       subst (λ d. d.ty.external ≡ true → is_bare_action d.ty ≡ true) is

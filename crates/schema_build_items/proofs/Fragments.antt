@@ -1,5 +1,6 @@
 -- The entity types and the actions of a fragment, among its namespaces.
-use Rattle.std.proofs.Common.{◌≡◌, Bool, true, false, not, ◌&&◌, List, [], ◌∷◌, Contains, Option, Some, None, refl, subst}
+use Rattle.std.proofs.Common.{◌≡◌, Bool, true, false, not, ◌&&◌, List, [], ◌∷◌, Contains, Option, Some, None, refl}
+use Rattle.std.proofs.Common.{subst}
 use Rattle.cedar_identifiers.specs.declared.name.Name.{Name}
 use Rattle.cedar_identifiers.specs.declared.name_text.NameText as named
 use Rattle.cedar_identifiers.specs.declared.raw_name.RawName.{RawName}
@@ -13,7 +14,8 @@ use Rattle.schema_json.specs.declared.fragment.NamespaceDefinition.{NamespaceDef
 use Rattle.schema_json.specs.declared.types.Type.{«Type»}
 use Rattle.schema_json_walk.specs.Bare.{is_bare_entity}
 use Rattle.schema_json_walk.specs.Parts.{external_not_bare}
-use Rattle.schema_json_walk.specs.Walk.{of_namespace, of_fragment, of_entry, of_entity, of_kind, of_items, of_common, each_value, visit_where}
+use Rattle.schema_json_walk.specs.Walk.{of_namespace, of_fragment, of_entry, of_entity, of_kind, of_items, of_common}
+use Rattle.schema_json_walk.specs.Walk.{each_value, visit_where}
 use Rattle.schema_build_errors.specs.declared.schema_error.SchemaError.TheVariants as error
 use Rattle.schema_build_errors.specs.declared.use_errors.UnsupportedFeature.{UnsupportedFeature}
 use Rattle.schema_build_checks.specs.Refusing.{IsAboutFirst}
@@ -71,10 +73,18 @@ module _ {G : named.Ghosts RawName} (f : Fragment RawName G) where
       → d.ty.external ≡ true → is_bare_entity d.ty ≡ true
   external_bare never d c =
       let (ns, n, e, in_f, in_n, is) = stands_in d c in
-      let none : of_fragment (λ ns part. unsupported part) f ≡ [] = none_first (of_fragment (λ ns part. unsupported part) f) never in
-      let space : of_namespace unsupported n ≡ [] = empty_in (of_entry (λ ns part. unsupported part)) f.0 (ns, n) in_f none in
-      let items : of_items unsupported n ≡ [] = empty_behind (each_value (of_common unsupported) n.common_types) (of_items unsupported n) space in
-      let each : each_value (of_entity unsupported) n.entity_types ≡ [] = empty_before (each_value (of_entity unsupported) n.entity_types) _ items in
-      let one : of_entity unsupported e.1 ≡ [] = empty_in (λ (x : UnreservedId × EntityType RawName). of_entity unsupported x.1) n.entity_types e in_n each in
+      let none : of_fragment (λ ns part. unsupported part) f
+      ≡ [] = none_first (of_fragment (λ ns part. unsupported part) f) never in
+      let space : of_namespace unsupported n
+      ≡ [] = empty_in (of_entry (λ ns part. unsupported part)) f.0 (ns, n) in_f none in
+      let items : of_items unsupported n
+      ≡ [] = empty_behind (each_value (of_common unsupported) n.common_types) (of_items unsupported n) space in
+      let each : each_value (of_entity unsupported) n.entity_types
+      ≡ [] = empty_before (each_value (of_entity unsupported) n.entity_types) _ items in
+      let one : of_entity unsupported e.1
+      ≡ [] = empty_in (λ (x : UnreservedId × EntityType RawName). of_entity unsupported x.1) n.entity_types
+      e in_n each in
       subst (λ d. d.ty.external ≡ true → is_bare_entity d.ty ≡ true) is
-      (bare_if e.1.external (is_bare_entity e.1) (empty_before (visit_where unsupported (e.1.external && not (is_bare_entity e.1)) external_not_bare) (of_kind unsupported e.1.kind) one))
+      (bare_if e.1.external (is_bare_entity e.1)
+      (empty_before (visit_where unsupported (e.1.external && not (is_bare_entity e.1)) external_not_bare)
+      (of_kind unsupported e.1.kind) one))

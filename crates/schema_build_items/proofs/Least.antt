@@ -1,5 +1,6 @@
 -- The first of a rising list for which nothing is built is the least that lacks a record.
-use Rattle.std.proofs.Common.{◌≡◌, ℕ, zero, suc, ◌<◌, false, List, [], ◌∷◌, length, take, get_or, sym, ap, ◌∙◌, subst, inl, inr, Contains, Ordering, arith}
+use Rattle.std.proofs.Common.{◌≡◌, ℕ, zero, suc, ◌<◌, false, List, [], ◌∷◌, length, take, get_or, sym, ap, ◌∙◌, subst}
+use Rattle.std.proofs.Common.{inl, inr, Contains, Ordering, arith}
 use Rattle.std.specs.declared.cmp.Ordering.TheVariants.{Less}
 use Rattle.std.specs.Cmp.{IsTotalOrder}
 use Rattle.std.specs.Ordering.{is_lt, ordering_reverse}
@@ -9,7 +10,8 @@ use Rattle.std.proofs.lemmas.Bool.{cases_lt}
 use Rattle.std.proofs.lemmas.Cmp.{tied_itself}
 use Rattle.std.proofs.lemmas.Map.Keys.{Less-from_sorted}
 
-module _ {D V : Type 0} (Built : D → V → Type 0) (Lacks : D → Type 0) (apart : (d : D) (v : V) → Built d v → Lacks d → ⊥) where
+module _ {D V : Type 0} (Built : D → V → Type 0) (Lacks : D → Type 0)
+    (apart : (d : D) (v : V) → Built d v → Lacks d → ⊥) where
   -- what is built lacks nothing
   pub none_lacks : (xs : List D) (vs : List V) → AllZip Built xs vs → (y : D) → Contains xs y → Lacks y → ⊥
   none_lacks [] vs h y c l = omega (arith, c.1)
@@ -23,7 +25,8 @@ module _ {D V : Type 0} (Built : D → V → Type 0) (Lacks : D → Type 0) (apa
   none_before (x ∷ xs) vs zero j y h lt within is l = omega (arith, lt)
   none_before (x ∷ xs) [] (suc i) j y h lt within is l = h
   none_before (x ∷ xs) (v ∷ vs) (suc i) zero y h lt within is l = apart x v h.0 (subst Lacks (sym is) l)
-  none_before (x ∷ xs) (v ∷ vs) (suc i) (suc j) y h lt within is l = none_before xs vs i j y h.1 (omega arith) (omega arith) is l
+  none_before (x ∷ xs) (v ∷ vs) (suc i) (suc j) y h lt within is l =
+      none_before xs vs i j y h.1 (omega arith) (omega arith) is l
 
   module _ {R : D → D → Ordering} (o : IsTotalOrder R) where
     not_behind : (xs : List D) → IsStrictlySortedBy R xs → (i j : ℕ) (x y : D) → i < length xs → j < length xs

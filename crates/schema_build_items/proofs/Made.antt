@@ -21,7 +21,8 @@ use Rattle.schema_build_expand.specs.Targets.{ExpandsTo}
 use Rattle.schema_build_items.specs.Kinds.{KindMeaning, IsKindMeaning, IsKindBuilt, TagsBuilt, IsKindOf}
 use Rattle.schema_build_items.specs.NoRecord.{IsNoRecord, ShapeIsNoRecord, LacksShape}
 
-pub out_record : (attrs : List (List ℕ × (Built × Bool))) (more : Bool) → out-Type (built.Record attrs more) ≡ Type-F.Record attrs more
+pub out_record : (attrs : List (List ℕ × (Built × Bool))) (more : Bool)
+    → out-Type (built.Record attrs more) ≡ Type-F.Record attrs more
 out_record attrs more = ap out-Type (sym (built.rolls-Record attrs more)) ∙ out-roll-Type (Type-F.Record attrs more)
 
 -- what stands for a record is one, and is closed
@@ -36,24 +37,41 @@ record_closed p t attrs more is b = go p b
     outside = ap out-Type is ∙ out_record attrs more
 
     go : (p : PlainType) → IsBuilt p t → IsClosed p attrs more
-    go plain.Bool e = absurd (let h : Type-F.AnyBool ≡ Type-F.Record attrs more = sym (ap out-Type (e ∙ sym built.rolls-AnyBool) ∙ out-roll-Type Type-F.AnyBool) ∙ outside in cc)
-    go plain.Long e = absurd (let h : Type-F.Long ≡ Type-F.Record attrs more = sym (ap out-Type (e ∙ sym built.rolls-Long) ∙ out-roll-Type Type-F.Long) ∙ outside in cc)
-    go plain.String e = absurd (let h : Type-F.String ≡ Type-F.Record attrs more = sym (ap out-Type (e ∙ sym built.rolls-String) ∙ out-roll-Type Type-F.String) ∙ outside in cc)
-    go (plain.Set p) (el, e, b) = absurd (let h : Type-F.Set (Some el) ≡ Type-F.Record attrs more = sym (ap out-Type (e ∙ sym (built.rolls-Set (Some el))) ∙ out-roll-Type (Type-F.Set (Some el))) ∙ outside in cc)
+    go plain.Bool e = absurd (let h : Type-F.AnyBool
+        ≡ Type-F.Record attrs more = sym (ap out-Type (e ∙ sym built.rolls-AnyBool) ∙ out-roll-Type Type-F.AnyBool)
+        ∙ outside in cc)
+    go plain.Long e = absurd (let h : Type-F.Long
+        ≡ Type-F.Record attrs more = sym (ap out-Type (e ∙ sym built.rolls-Long) ∙ out-roll-Type Type-F.Long)
+        ∙ outside in cc)
+    go plain.String e = absurd (let h : Type-F.String
+        ≡ Type-F.Record attrs more = sym (ap out-Type (e ∙ sym built.rolls-String) ∙ out-roll-Type Type-F.String)
+        ∙ outside in cc)
+    go (plain.Set p) (el, e, b) = absurd
+        (let h : Type-F.Set (Some el) ≡ Type-F.Record attrs more = sym
+        (ap out-Type (e ∙ sym (built.rolls-Set (Some el))) ∙ out-roll-Type (Type-F.Set (Some el))) ∙ outside in cc)
     go (plain.Rec ps) (fields, e, b) =
-        let h : Type-F.Record fields false ≡ Type-F.Record attrs more = sym (ap out-Type e ∙ out_record fields false) ∙ outside in
+        let h : Type-F.Record fields false ≡ Type-F.Record attrs more = sym (ap out-Type e ∙ out_record fields false)
+        ∙ outside in
         let same : fields ≡ attrs = cc in
         let shut : more ≡ false = cc in
         (ps, refl, shut, subst (AreBuilt ps) same b)
-    go (plain.Entity n) (name, e, b) = absurd (let h : Type-F.Entity (name ∷ []) ≡ Type-F.Record attrs more = sym (ap out-Type (e ∙ sym (built.rolls-Entity (name ∷ []))) ∙ out-roll-Type (Type-F.Entity (name ∷ []))) ∙ outside in cc)
-    go (plain.Ext w) (name, e, b) = absurd (let h : Type-F.Extension name ≡ Type-F.Record attrs more = sym (ap out-Type (e ∙ sym (built.rolls-Extension name)) ∙ out-roll-Type (Type-F.Extension name)) ∙ outside in cc)
+    go (plain.Entity n) (name, e, b) =
+        absurd (let h : Type-F.Entity (name ∷ [])
+        ≡ Type-F.Record attrs more = sym
+        (ap out-Type (e ∙ sym (built.rolls-Entity (name ∷ []))) ∙ out-roll-Type (Type-F.Entity (name ∷ [])))
+        ∙ outside in cc)
+    go (plain.Ext w) (name, e, b) =
+        absurd (let h : Type-F.Extension name
+        ≡ Type-F.Record attrs more = sym
+        (ap out-Type (e ∙ sym (built.rolls-Extension name)) ∙ out-roll-Type (Type-F.Extension name)) ∙ outside in cc)
 
 module _ (s : Scope RawName) (ns : Option InternalName) where
   pub tags_made : (ty : «Type» RawName) (t : Built) → ExpandsTo s ns ty t → TagsBuilt s ns (Some ty) (Some t)
   tags_made ty t (p, e, b) = (Some p, (p, refl, e), (t, refl, b))
 
   -- a record and tags make an entity type
-  pub standard_made : (d : StandardEntityType RawName) (t : Built) (attrs : List (List ℕ × (Built × Bool))) (more : Bool)
+  pub standard_made : (d : StandardEntityType RawName) (t : Built) (attrs : List (List ℕ × (Built × Bool)))
+      (more : Bool)
       (tags : Option Built) → t ≡ built.Record attrs more → ExpandsTo s ns d.shape.0 t → TagsBuilt s ns d.tags tags
       → IsKindOf s ns (Standard d) (kind.Standard attrs more tags)
   standard_made d t attrs more tags is (p, e, b) (q, te, tb) =
@@ -64,7 +82,8 @@ module _ (s : Scope RawName) (ns : Option InternalName) where
       )
 
 module _ (s : Scope RawName) (once : ExpandsOnce s) where
-  pub record_apart : (ns : Option InternalName) (ty : «Type» RawName) (ps : Attributes) → Expands RawName s ns ty (plain.Rec ps) → IsNoRecord s ns ty → ⊥
+  pub record_apart : (ns : Option InternalName) (ty : «Type» RawName) (ps : Attributes)
+      → Expands RawName s ns ty (plain.Rec ps) → IsNoRecord s ns ty → ⊥
   record_apart ns ty ps e (p, h, not_one) = not_one ps (once ns ty p (plain.Rec ps) h e)
 
   shape_apart : (ns : Option InternalName) (kind : EntityTypeKind RawName) (m : KindMeaning) → IsKindMeaning s ns kind m

@@ -11,7 +11,8 @@ use Rattle.std.proofs.lemmas.List.Kept.{Any-dedup, Contains-from_dedup}
 use Rattle.std.proofs.lemmas.List.Sorted.{Contains-permutation, IsPermutation-sym}
 use Rattle.schema_build_hierarchy.specs.FirstUses.{HasAlike}
 
-module _ {T : Type 0} {R : T → T → Ordering} (o : IsTotalOrder R) (E : T → T → Bool) (same : (x y : T) → E x y ≡ eq_by_cmp R x y) where
+module _ {T : Type 0} {R : T → T → Ordering} (o : IsTotalOrder R) (E : T → T → Bool)
+    (same : (x y : T) → E x y ≡ eq_by_cmp R x y) where
   equal_from : (x y : T) → E x y ≡ true → R x y ≡ Equal
   equal_from x y e = told (R x y) (sym (same x y) ∙ e)
     where
@@ -29,7 +30,8 @@ module _ {T : Type 0} {R : T → T → Ordering} (o : IsTotalOrder R) (E : T →
   -- each once, in order: what was there, and nothing else
   pub once_kept : (entries sorted : List T) → IsPermutation entries sorted → All (Contains entries) (dedup E sorted)
   once_kept entries sorted moved = All-weaker (Contains (dedup E sorted)) (Contains entries)
-      (λ x c. Contains-permutation sorted entries x (IsPermutation-sym entries sorted moved) (Contains-from_dedup E sorted x c))
+      (λ x c. Contains-permutation sorted entries x (IsPermutation-sym entries sorted moved)
+      (Contains-from_dedup E sorted x c))
       (dedup E sorted) (All-contains_itself (dedup E sorted))
 
   pub once_whole : (entries sorted : List T) → IsPermutation entries sorted → All (HasAlike R (dedup E sorted)) entries

@@ -1,5 +1,6 @@
 -- The entity types that names mean, in order.
-use Rattle.std.proofs.Common.{◌≡◌, ℕ, Bool, true, false, ◌||◌, List, [], ◌∷◌, map, All, Contains, Option, Some, None, Ordering, refl, sym, ap, ◌∙◌, subst}
+use Rattle.std.proofs.Common.{◌≡◌, ℕ, Bool, true, false, ◌||◌, List, [], ◌∷◌, map, All, Contains, Option, Some, None}
+use Rattle.std.proofs.Common.{Ordering, refl, sym, ap, ◌∙◌, subst}
 use Rattle.std.specs.declared.cmp.Ordering.TheVariants.{Less, Equal}
 use Rattle.std.specs.Cmp.Lexicographic.{slice_cmp}
 use Rattle.std.specs.Cmp.Derive.Mapped.{lex_map}
@@ -41,14 +42,17 @@ names_equal : (x y : InternalName) → names_in_order x y ≡ Equal → componen
 names_equal x y e =
     let tied : is_eq (names_in_order x y) ≡ true = ap is_eq e in
     sym (equal_names (components_of y) (components_of x)
-    (alone_or (is_eq (names_in_order x y)) (same_name (components_of y) (components_of x)) (name_sought (ids_of y) (x ∷ [])) tied))
+    (alone_or (is_eq (names_in_order x y)) (same_name (components_of y) (components_of x))
+    (name_sought (ids_of y) (x ∷ [])) tied))
 
 -- the order of names is that of their components
 names_by_components : (x y : InternalName) → names_in_order x y ≡ slice_cmp text_cmp (components_of x) (components_of y)
 names_by_components x y = sym (lex_map (λ i. i.text) text_cmp (ids_of x) (ids_of y))
 
-module _ {A B : Type 0} (f : A → B) (R : A → A → Ordering) (S : B → B → Ordering) (same : (a b : A) → R a b ≡ S (f a) (f b)) where
-  all_seen : (x : A) (xs : List A) → AllByRecursion (λ y. R x y ≡ Less) xs → AllByRecursion (λ y. S (f x) y ≡ Less) (map f xs)
+module _ {A B : Type 0} (f : A → B) (R : A → A → Ordering) (S : B → B → Ordering)
+    (same : (a b : A) → R a b ≡ S (f a) (f b)) where
+  all_seen : (x : A) (xs : List A) → AllByRecursion (λ y. R x y ≡ Less) xs
+      → AllByRecursion (λ y. S (f x) y ≡ Less) (map f xs)
   all_seen x [] h = tt
   all_seen x (y ∷ ys) h = (sym (same x y) ∙ h.0, all_seen x ys h.1)
 
@@ -59,7 +63,8 @@ module _ {A B : Type 0} (f : A → B) (R : A → A → Ordering) (S : B → B �
 
 -- a reference to an entity type means no common type
 pub entity_only : (o : Option InternalName) (full : List (List ℕ)) (kind : ReferenceType)
-    → option_map by_components (option_map (λ n. let m : InternalName × ReferenceType = (n, Entity) in m) o) ≡ Some (full, kind)
+    → option_map by_components (option_map (λ n. let m : InternalName × ReferenceType = (n, Entity) in m) o)
+    ≡ Some (full, kind)
     → (Entity ≡ kind) × (Some full ≡ option_map components_of o)
 entity_only None full kind e = cc
 entity_only (Some n) full kind e =
@@ -81,15 +86,19 @@ all_just t ns names found once are up kept whole = record {
     (λ c.
         let (n, cn, is) = contains_unmap (λ (n : Name). components_of n.name) once a c in
         let there : Contains found n = All-contains (Contains found) once n kept cn in
-        let seen = subst (λ l. Contains l (Some (components_of n.name))) are (contains_map (λ (n : Name). Some (components_of n.name)) found n there) in
+        let seen = subst (λ l. Contains l (Some (components_of n.name))) are
+        (contains_map (λ (n : Name). Some (components_of n.name)) found n there) in
         let (name, among, to) = contains_unmap (target_in t ns Entity) names (Some (components_of n.name)) seen in
         (name, among, to ∙ ap Some is)),
     (λ h.
         let (name, among, to) = h in
-        let seen = subst (λ l. Contains l (target_in t ns Entity name)) (sym are) (contains_map (target_in t ns Entity) names name among) in
-        let (n, there, is) = contains_unmap (λ (n : Name). Some (components_of n.name)) found (target_in t ns Entity name) seen in
+        let seen = subst (λ l. Contains l (target_in t ns Entity name)) (sym are)
+        (contains_map (target_in t ns Entity) names name among) in
+        let (n, there, is) = contains_unmap (λ (n : Name). Some (components_of n.name)) found
+        (target_in t ns Entity name) seen in
         let (x, cx, tied) = All-contains (HasAlike (λ a b. names_in_order a.name b.name) once) found n whole there in
-        let same : components_of x.name ≡ a = names_equal x.name n.name tied ∙ some_same (components_of n.name) a (is ∙ to) in
+        let same : components_of x.name ≡ a = names_equal x.name n.name tied
+        ∙ some_same (components_of n.name) a (is ∙ to) in
         subst (Contains (as_components once)) same (contains_map (λ (n : Name). components_of n.name) once x cx)),
   );
 }
@@ -100,8 +109,10 @@ pub entity_target : (t : Tests) (s : Scope RawName) (ns : Option InternalName) (
     → ((e : Name) → found ≡ meant.Entity e → ⊥) → ⊥
 entity_target t s ns name (meant.Entity e) same h other = other e refl
 entity_target t s ns name (meant.Common k) same (full, is, ranked) other =
-    let kinds : Entity ≡ Common = (entity_only (target t (in_namespace ns Entity name)) full Common (sym same ∙ is)).0 in
+    let kinds : Entity ≡ Common = (entity_only (target t (in_namespace ns Entity name)) full Common
+    (sym same ∙ is)).0 in
     cc
 entity_target t s ns name (meant.Builtin b) same (full, p, is, undeclared, known, made) other =
-    let kinds : Entity ≡ Common = (entity_only (target t (in_namespace ns Entity name)) full Common (sym same ∙ is)).0 in
+    let kinds : Entity ≡ Common = (entity_only (target t (in_namespace ns Entity name)) full Common
+    (sym same ∙ is)).0 in
     cc

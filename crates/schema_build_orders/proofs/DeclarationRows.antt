@@ -1,5 +1,6 @@
 -- The rows on what is declared twice hold together of fragments that declare the same.
-use Rattle.std.proofs.Common.{◌≡◌, Bool, true, false, cond, [], ◌∷◌, ◌++◌, map, codes, Option, Some, None, refl, sym, ap, ◌∙◌, subst}
+use Rattle.std.proofs.Common.{◌≡◌, Bool, true, false, cond, [], ◌∷◌, ◌++◌, map, codes, Option, Some, None, refl, sym}
+use Rattle.std.proofs.Common.{ap, ◌∙◌, subst}
 use Rattle.std.specs.List.{flat_map}
 use Rattle.std.specs.Str.{bytes_eq}
 use Rattle.std.proofs.lemmas.List.{map-append}
@@ -13,16 +14,22 @@ use Rattle.cedar_names.specs.Orders.{ids_of, names_in_order}
 use Rattle.cedar_names.specs.declared.entity_uid.EntityUID.{EntityUID}
 use Rattle.cedar_names.specs.declared.extension_table.ExtensionTable.{ExtensionTable}
 use Rattle.schema_json.specs.Actions.{action_name}
-use Rattle.schema_json_walk.specs.Parts.{Part, type_reference, context_reference, parent, principal, resource, action_parent, extension_type, open_record, action_attributes, external_not_bare}
+use Rattle.schema_json_walk.specs.Parts.{Part, type_reference, context_reference, parent, principal, resource}
+use Rattle.schema_json_walk.specs.Parts.{action_parent, extension_type, open_record, action_attributes}
+use Rattle.schema_json_walk.specs.Parts.{external_not_bare}
 use Rattle.schema_resolve_definitions.specs.Declarations.{action_type, declared}
 use Rattle.schema_resolve_definitions.specs.Defined.{is_hidden}
 use Rattle.schema_resolve_definitions.specs.Tests.{Tests, tests_of}
 use Rattle.schema_build_errors.specs.declared.schema_error.SchemaError.TheVariants as error
 use Rattle.schema_says.specs.Bare.{bare_internal}
-use Rattle.schema_build_checks.specs.DeclaredAt.{ActionAt, at_of, actions_at_in_order, declared_at, called_action, called_actions, hiding_common, hiding_entity, hiding_types_in, hiding_types, hiding_action, hiding_actions_in, hiding_actions}
-use Rattle.schema_build_checks.specs.DeclaredTwice.{IsBasenameOf, IsPlainAction, ActionTypeDeclared, TypeHides, ActionHides}
+use Rattle.schema_build_checks.specs.DeclaredAt.{ActionAt, at_of, actions_at_in_order, declared_at, called_action}
+use Rattle.schema_build_checks.specs.DeclaredAt.{called_actions, hiding_common, hiding_entity, hiding_types_in}
+use Rattle.schema_build_checks.specs.DeclaredAt.{hiding_types, hiding_action, hiding_actions_in, hiding_actions}
+use Rattle.schema_build_checks.specs.DeclaredTwice.{IsBasenameOf, IsPlainAction, ActionTypeDeclared, TypeHides}
+use Rattle.schema_build_checks.specs.DeclaredTwice.{ActionHides}
 use Rattle.schema_build_checks.specs.Refusing.{IsAboutFirst}
-use Rattle.schema_build_checks.specs.WalkFaults.{unknown_extension, unsupported, NamesExtension, NamesFeature, HasUnknownExtension, HasUnsupported}
+use Rattle.schema_build_checks.specs.WalkFaults.{unknown_extension, unsupported, NamesExtension, NamesFeature}
+use Rattle.schema_build_checks.specs.WalkFaults.{HasUnknownExtension, HasUnsupported}
 use Rattle.schema_build_orders.specs.Alike.{bare_space, declared_alone, DeclareTheSame}
 use Rattle.schema_build_orders.proofs.Declaring.{Frag, Block, bare_block, at_alone, action_type_seen, own_same}
 use Rattle.schema_build_orders.proofs.Entries.{common_bare, entity_bare, action_bare}

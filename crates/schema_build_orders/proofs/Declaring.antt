@@ -15,16 +15,19 @@ use Rattle.schema_json.specs.declared.entity_type.EntityType.{EntityType}
 use Rattle.schema_json.specs.declared.fragment.Fragment.{Fragment}
 use Rattle.schema_json.specs.declared.fragment.NamespaceDefinition.{NamespaceDefinition}
 use Rattle.schema_convert_types.specs.Declarations.{as_written}
-use Rattle.schema_resolve_definitions.specs.Declarations.{declared_name, action_type, commons_in, entities_in, actions_in, declared}
+use Rattle.schema_resolve_definitions.specs.Declarations.{declared_name, action_type, commons_in, entities_in}
+use Rattle.schema_resolve_definitions.specs.Declarations.{actions_in, declared}
 use Rattle.schema_resolve_definitions.specs.Defined.{builtins, completed, defined}
 use Rattle.schema_resolve_definitions.specs.Tests.{tests_of}
 use Rattle.schema_says.specs.Bare.{bare_internal, bare}
 use Rattle.schema_says.specs.BareFragments.{bare_common, bare_entity, bare_action}
 use Rattle.schema_build_checks.specs.DeclaredAt.{ActionAt}
 use Rattle.schema_build_scope.specs.Commons.{TypeAt, common_entry, declared_commons}
-use Rattle.schema_build_hierarchy.specs.Declarations.{Declared, DeclaredEntity, entity_in, action_in, entities_of, actions_of, declared_entities, declared_actions}
+use Rattle.schema_build_hierarchy.specs.Declarations.{Declared, DeclaredEntity, entity_in, action_in, entities_of}
+use Rattle.schema_build_hierarchy.specs.Declarations.{actions_of, declared_entities, declared_actions}
 use Rattle.schema_build_orders.specs.Alike.{bare_space, bare_place, declarations_alone, declared_alone, DeclareTheSame}
-use Rattle.schema_build_orders.proofs.Entries.{CommonEntry, EntityEntry, ActionEntry, common_bare, entity_bare, action_bare}
+use Rattle.schema_build_orders.proofs.Entries.{CommonEntry, EntityEntry, ActionEntry, common_bare, entity_bare}
+use Rattle.schema_build_orders.proofs.Entries.{action_bare}
 use Rattle.schema_build_orders.proofs.Seen.{map_seen, map_same, flat_seen, flat_same}
 
 abbrev pub Frag : Type 0

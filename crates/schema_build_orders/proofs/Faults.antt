@@ -16,7 +16,8 @@ use Rattle.schema_build_items.specs.NoRecord.{HasNoRecordShape, HasNoRecordConte
 use Rattle.schema_build_parts.specs.BuildFaults.{BuildFault, ReferenceFault, MeaningFault, TypeFault}
 use Rattle.schema_build_parts.specs.DeclarationFaults.{PartFault, DeclarationFault}
 use Rattle.schema_build_orders.specs.Alike.{DeclareTheSame}
-use Rattle.schema_build_orders.proofs.DeclarationRows.{action_type_follows, type_hides_follows, action_hides_follows, extension_follows, unsupported_follows}
+use Rattle.schema_build_orders.proofs.DeclarationRows.{action_type_follows, type_hides_follows, action_hides_follows}
+use Rattle.schema_build_orders.proofs.DeclarationRows.{extension_follows, unsupported_follows}
 use Rattle.schema_build_orders.proofs.Declaring.{Frag}
 use Rattle.schema_build_orders.proofs.HierarchyRows.{action_cycle_follows, enum_follows}
 use Rattle.schema_build_orders.proofs.ReferenceRows.{types_follow, actions_follow, uses_follow}

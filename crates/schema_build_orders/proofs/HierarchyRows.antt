@@ -13,11 +13,14 @@ use Rattle.schema_build_errors.specs.declared.schema_error.SchemaError.TheVarian
 use Rattle.schema_says.specs.Bare.{bare_internal}
 use Rattle.schema_says.specs.BareFragments.{bare_kind}
 use Rattle.schema_build_checks.specs.DeclaredAt.{at_of, actions_at_in_order}
-use Rattle.schema_build_hierarchy.specs.Declarations.{DeclaredEntity, entity_name, action_key, declared_entities, declared_actions}
+use Rattle.schema_build_hierarchy.specs.Declarations.{DeclaredEntity, entity_name, action_key, declared_entities}
+use Rattle.schema_build_hierarchy.specs.Declarations.{declared_actions}
 use Rattle.schema_build_hierarchy.specs.Parents.{IsAncestor, IsActionAncestor}
-use Rattle.schema_build_hierarchy.specs.Rows.{is_enum, IsEnumAbove, IsExternalUnderEnum, HasActionCycle, HasExternalUnderEnum}
+use Rattle.schema_build_hierarchy.specs.Rows.{is_enum, IsEnumAbove, IsExternalUnderEnum, HasActionCycle}
+use Rattle.schema_build_hierarchy.specs.Rows.{HasExternalUnderEnum}
 use Rattle.schema_build_orders.specs.Alike.{DeclareTheSame}
-use Rattle.schema_build_orders.proofs.Declaring.{Frag, DeclaredAction, entity_alone, at_alone, action_alone, entities_same, actions_same}
+use Rattle.schema_build_orders.proofs.Declaring.{Frag, DeclaredAction, entity_alone, at_alone, action_alone}
+use Rattle.schema_build_orders.proofs.Declaring.{entities_same, actions_same}
 use Rattle.schema_build_orders.proofs.DeclarationRows.{uid_too}
 use Rattle.schema_build_orders.proofs.Meaning.{Path, Key, ancestor_too, action_ancestor_too}
 use Rattle.schema_build_orders.proofs.Rows.{Follows, least_too}

@@ -3,12 +3,18 @@ use Rattle.std.proofs.Common.{◌≡◌, ℕ, Bool, List, map, None, refl, ap, �
 use Rattle.cedar_identifiers.specs.declared.raw_name.RawName.{RawName}
 use Rattle.schema_json.specs.Shapes.{attributes_of, is_open}
 use Rattle.schema_json.specs.declared.types.Type.{«Type», Type-F, out-Type, out-roll-Type, fold_out-Type}
-use Rattle.schema_json.specs.declared.types.TypeVariant.{TypeVariant, TypeVariant-F, out-TypeVariant, out-roll-TypeVariant, fold_out-TypeVariant}
-use Rattle.schema_json.specs.declared.types.RecordType.{RecordType, roll-RecordType, out-roll-RecordType, fold_out-RecordType}
-use Rattle.schema_json.specs.declared.types.TypeOfAttribute.{TypeOfAttribute, TypeOfAttribute-F, out-TypeOfAttribute, roll-TypeOfAttribute, out-roll-TypeOfAttribute, fold_out-TypeOfAttribute}
+use Rattle.schema_json.specs.declared.types.TypeVariant.{TypeVariant, TypeVariant-F, out-TypeVariant}
+use Rattle.schema_json.specs.declared.types.TypeVariant.{out-roll-TypeVariant, fold_out-TypeVariant}
+use Rattle.schema_json.specs.declared.types.RecordType.{RecordType, roll-RecordType, out-roll-RecordType}
+use Rattle.schema_json.specs.declared.types.RecordType.{fold_out-RecordType}
+use Rattle.schema_json.specs.declared.types.TypeOfAttribute.{TypeOfAttribute, TypeOfAttribute-F, out-TypeOfAttribute}
+use Rattle.schema_json.specs.declared.types.TypeOfAttribute.{roll-TypeOfAttribute, out-roll-TypeOfAttribute}
+use Rattle.schema_json.specs.declared.types.TypeOfAttribute.{fold_out-TypeOfAttribute}
 use Rattle.schema_json.specs.declared.types.Type.TheFolds.{map-Type, map-TypeVariant}
-use Rattle.schema_says.specs.Bare.{bare_name, bare_step, bare_variant, bare, bare_of_variant, bare_of_record, bare_of_attribute}
-use Rattle.schema_build_expand.specs.View.{View, boolean_layer, long_layer, string_layer, set_layer, record_layer, reference_layer, extension_layer, shape_view, outer_view, view}
+use Rattle.schema_says.specs.Bare.{bare_name, bare_step, bare_variant, bare, bare_of_variant, bare_of_record}
+use Rattle.schema_says.specs.Bare.{bare_of_attribute}
+use Rattle.schema_build_expand.specs.View.{View, boolean_layer, long_layer, string_layer, set_layer, record_layer}
+use Rattle.schema_build_expand.specs.View.{reference_layer, extension_layer, shape_view, outer_view, view}
 
 abbrev pub Entry : Type 0
 Entry = List ℕ × TypeOfAttribute RawName

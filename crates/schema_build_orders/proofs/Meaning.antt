@@ -1,5 +1,6 @@
 -- What fragments mean that declare the same.
-use Rattle.std.proofs.Common.{◌≡◌, ℕ, suc, List, [], ◌∷◌, map, Contains, Option, Some, None, refl, sym, ap, ◌∙◌, subst, inl, inr, arith}
+use Rattle.std.proofs.Common.{◌≡◌, ℕ, suc, List, [], ◌∷◌, map, Contains, Option, Some, None, refl, sym, ap, ◌∙◌, subst}
+use Rattle.std.proofs.Common.{inl, inr, arith}
 use Rattle.std.specs.List.{AllZip}
 use Rattle.std.specs.List.Sorted.{IsStrictlySortedBy}
 use Rattle.std.specs.Option.{option_map, option_map_or, option_to_list}
@@ -25,13 +26,17 @@ use Rattle.schema_build_expand.specs.Scope.{Scope}
 use Rattle.schema_build_graph.specs.Paths.{Leads, Reaches}
 use Rattle.schema_build_hierarchy.specs.Declarations.{DeclaredEntity, action_key, declared_entities, declared_actions}
 use Rattle.schema_build_hierarchy.specs.Entries.{SameMembers}
-use Rattle.schema_build_hierarchy.specs.Parents.{target_in, action_target_in, written_parents, parents_in, entity_parents, IsParent, IsAncestor, action_parents_in, action_parents, IsActionParent, IsActionAncestor}
+use Rattle.schema_build_hierarchy.specs.Parents.{target_in, action_target_in, written_parents, parents_in}
+use Rattle.schema_build_hierarchy.specs.Parents.{entity_parents, IsParent, IsAncestor, action_parents_in}
+use Rattle.schema_build_hierarchy.specs.Parents.{action_parents, IsActionParent, IsActionAncestor}
 use Rattle.schema_build_hierarchy.proofs.Once.{contains_cases}
 use Rattle.schema_build_hierarchy.proofs.Ordered.{sorted_back, sorted_seen}
-use Rattle.schema_build_items.specs.ActionKinds.{components_cmp, AreJust, ApplyMeaning, IsMeantByOne, IsApplyMeaning, tests_alone}
+use Rattle.schema_build_items.specs.ActionKinds.{components_cmp, AreJust, ApplyMeaning, IsMeantByOne, IsApplyMeaning}
+use Rattle.schema_build_items.specs.ActionKinds.{tests_alone}
 use Rattle.schema_build_items.specs.Kinds.{KindMeaning, TagsExpand, IsKindMeaning}
 use Rattle.schema_build_orders.specs.Alike.{bare_space, bare_place, DeclareTheSame}
-use Rattle.schema_build_orders.proofs.Declaring.{Frag, DeclaredAction, entity_alone, action_alone, entities_same, actions_same, tests_same}
+use Rattle.schema_build_orders.proofs.Declaring.{Frag, DeclaredAction, entity_alone, action_alone, entities_same}
+use Rattle.schema_build_orders.proofs.Declaring.{actions_same, tests_same}
 use Rattle.schema_build_orders.proofs.Expanding.{AreScopesAlike, expands_too}
 use Rattle.schema_build_orders.proofs.Naming.{place_named, target_in_seen, action_target_seen}
 use Rattle.schema_build_orders.proofs.Seen.{matched, flat_same}

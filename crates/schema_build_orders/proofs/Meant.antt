@@ -12,16 +12,20 @@ use Rattle.schema_resolve_definitions.specs.Tests.{Tests}
 use Rattle.schema_build_types.specs.Content.{actions_cmp}
 use Rattle.schema_build_checks.specs.DeclaredAt.{actions_at_in_order}
 use Rattle.schema_build_scope.specs.FragmentScope.{fragment_scope}
-use Rattle.schema_build_hierarchy.specs.Declarations.{DeclaredEntity, entity_name, action_key, declared_entities, declared_actions}
+use Rattle.schema_build_hierarchy.specs.Declarations.{DeclaredEntity, entity_name, action_key, declared_entities}
+use Rattle.schema_build_hierarchy.specs.Declarations.{declared_actions}
 use Rattle.schema_build_hierarchy.specs.Parents.{IsAncestor, IsActionAncestor}
 use Rattle.schema_build_hierarchy.proofs.Exact.{names_tied, actions_tied}
 use Rattle.schema_build_hierarchy.proofs.Gathered as gathered
 use Rattle.schema_build_items.specs.ActionKinds.{components_cmp, tests_alone}
 use Rattle.schema_build.specs.FaultsTold.{IsInOrder}
-use Rattle.schema_build.specs.Meaning.{kind_meaning, apply_meaning, IsEntityMeaning, IsActionMeaning, EntitiesMean, ActionsMean, FragmentMeaning}
+use Rattle.schema_build.specs.Meaning.{kind_meaning, apply_meaning, IsEntityMeaning, IsActionMeaning, EntitiesMean}
+use Rattle.schema_build.specs.Meaning.{ActionsMean, FragmentMeaning}
 use Rattle.schema_build_orders.specs.Alike.{DeclareTheSame}
-use Rattle.schema_build_orders.proofs.Declaring.{Frag, DeclaredAction, entity_alone, action_alone, entities_same, actions_same, tests_same}
-use Rattle.schema_build_orders.proofs.Meaning.{spaces_same, kind_too, apply_too, just_too, rebuilt, members_too, seen_rise, zip_too, ancestor_too, action_ancestor_too}
+use Rattle.schema_build_orders.proofs.Declaring.{Frag, DeclaredAction, entity_alone, action_alone, entities_same}
+use Rattle.schema_build_orders.proofs.Declaring.{actions_same, tests_same}
+use Rattle.schema_build_orders.proofs.Meaning.{spaces_same, kind_too, apply_too, just_too, rebuilt, members_too}
+use Rattle.schema_build_orders.proofs.Meaning.{seen_rise, zip_too, ancestor_too, action_ancestor_too}
 use Rattle.schema_build_orders.proofs.Scoping.{declared_once, scopes_alike}
 
 places_total : IsTotalOrder (option_cmp (λ (x y : Name). names_in_order x.name y.name))

@@ -1,5 +1,6 @@
 -- A fragment that says what is written is in order.
-use Rattle.std.proofs.Common.{◌≡◌, ℕ, cond, List, [], ◌∷◌, map, All, Contains, Option, Some, None, Ordering, refl, sym, ap, ◌∙◌, subst, inl, inr, arith}
+use Rattle.std.proofs.Common.{◌≡◌, ℕ, cond, List, [], ◌∷◌, map, All, Contains, Option, Some, None, Ordering, refl, sym}
+use Rattle.std.proofs.Common.{ap, ◌∙◌, subst, inl, inr, arith}
 use Rattle.std.specs.BTreeMap.{is_at}
 use Rattle.std.specs.Cmp.{IsTotalOrder, tied_itself}
 use Rattle.std.specs.List.Sorted.{IsStrictlySortedBy}
@@ -20,7 +21,8 @@ use Rattle.schema_json.specs.declared.fragment.NamespaceDefinition.{NamespaceDef
 use Rattle.schema_convert_types.specs.Declarations.{as_written}
 use Rattle.schema_readback.specs.Written.{WrittenItem}
 use Rattle.schema_says.specs.Entries.{FoundSays}
-use Rattle.schema_says.specs.FragmentsSay.{WrittenNamespace, NamespaceSays, namespace_order, name_components, written_in, FragmentSays}
+use Rattle.schema_says.specs.FragmentsSay.{WrittenNamespace, NamespaceSays, namespace_order, name_components}
+use Rattle.schema_says.specs.FragmentsSay.{written_in, FragmentSays}
 use Rattle.schema_says.proofs.Orders.{namespace_total}
 use Rattle.schema_build_hierarchy.proofs.Exact.{by_texts}
 use Rattle.schema_build_hierarchy.proofs.Once.{contains_cases}

@@ -1,13 +1,17 @@
 -- Ways of writing the same in each namespace.
-use Rattle.std.proofs.Common.{◌≡◌, ℕ, Bool, true, false, cond, List, [], ◌∷◌, ◌++◌, flat_map, Option, Some, None, refl, sym, ap, ◌∙◌, subst, append_assoc}
+use Rattle.std.proofs.Common.{◌≡◌, ℕ, Bool, true, false, cond, List, [], ◌∷◌, ◌++◌, flat_map, Option, Some, None, refl}
+use Rattle.std.proofs.Common.{sym, ap, ◌∙◌, subst, append_assoc}
 use Rattle.std.specs.BTreeMap.{is_at}
 use Rattle.std.proofs.lemmas.Grind.{flat_map-append}
 use Rattle.std.proofs.lemmas.List.Elements.{filter-append}
 use Rattle.schema_syntax_reader.specs.Leaves.{Notes}
 use Rattle.schema_readback.specs.Written.{WrittenDeclared, WrittenItem, namespace}
-use Rattle.schema_says.specs.FragmentsSay.{NamespaceName, WrittenNamespace, namespace_order, decls_of_item, is_of_namespace, items_of_namespace, opened, written_in}
-use Rattle.schema_build_orders.specs.Reordered.{IsReordered, nothing, behind, swapped, in_turn, IsReorderedWithin, IsDivided, HaveTheSame, AreRearranged}
-use Rattle.schema_build_orders.proofs.Reordering.{itself, backwards, put_behind, all_passed, flat_reordered, filter_reordered}
+use Rattle.schema_says.specs.FragmentsSay.{NamespaceName, WrittenNamespace, namespace_order, decls_of_item}
+use Rattle.schema_says.specs.FragmentsSay.{is_of_namespace, items_of_namespace, opened, written_in}
+use Rattle.schema_build_orders.specs.Reordered.{IsReordered, nothing, behind, swapped, in_turn, IsReorderedWithin}
+use Rattle.schema_build_orders.specs.Reordered.{IsDivided, HaveTheSame, AreRearranged}
+use Rattle.schema_build_orders.proofs.Reordering.{itself, backwards, put_behind, all_passed, flat_reordered}
+use Rattle.schema_build_orders.proofs.Reordering.{filter_reordered}
 
 turned : (a b : Option WrittenNamespace) → HaveTheSame a b → HaveTheSame b a
 turned None None h = tt

@@ -1,5 +1,6 @@
 -- The rows on references that mean nothing hold together of fragments that declare the same.
-use Rattle.std.proofs.Common.{◌≡◌, ◌<◌, ℕ, Bool, true, false, not, cond, List, [], ◌∷◌, map, filter, length, Option, Some, None, Ordering, refl, sym, ap, ◌∙◌, arith}
+use Rattle.std.proofs.Common.{◌≡◌, ◌<◌, ℕ, Bool, true, false, not, cond, List, [], ◌∷◌, map, filter, length, Option}
+use Rattle.std.proofs.Common.{Some, None, Ordering, refl, sym, ap, ◌∙◌, arith}
 use Rattle.std.specs.Option.{option_map, option_to_list}
 use Rattle.std.specs.List.{AllByRecursion}
 use Rattle.std.specs.Ordering.{is_eq}
@@ -17,7 +18,9 @@ use Rattle.cedar_names.specs.declared.extension_table.ExtensionTable.{ExtensionT
 use Rattle.schema_json.specs.Actions.{written_type}
 use Rattle.schema_json.specs.Presence.{is_where_due}
 use Rattle.schema_json.specs.declared.action_type.ActionEntityUID.{ActionEntityUID}
-use Rattle.schema_json_walk.specs.Parts.{Part, type_reference, context_reference, parent, principal, resource, action_parent, extension_type, open_record, action_attributes, external_not_bare}
+use Rattle.schema_json_walk.specs.Parts.{Part, type_reference, context_reference, parent, principal, resource}
+use Rattle.schema_json_walk.specs.Parts.{action_parent, extension_type, open_record, action_attributes}
+use Rattle.schema_json_walk.specs.Parts.{external_not_bare}
 use Rattle.schema_json_walk.specs.Walk.{of_fragment}
 use Rattle.schema_resolve_definitions.specs.Declarations.{name_of, declared}
 use Rattle.schema_resolve_definitions.specs.Defined.{defined}
@@ -33,7 +36,8 @@ use Rattle.schema_build_errors.specs.declared.schema_error.SchemaError.TheVarian
 use Rattle.schema_says.specs.Bare.{bare_internal, bare_name}
 use Rattle.schema_build_scope.specs.UndefinedRows.{undefined_alone, HasUndefinedTypes, HasUndefinedActions}
 use Rattle.schema_build_hierarchy.specs.FirstUses.{IsFirstUse, AreFirstUses}
-use Rattle.schema_build_hierarchy.specs.Rows.{undeclared_target, undeclared_part, undeclared_uses, HasUndeclaredEntityTypes}
+use Rattle.schema_build_hierarchy.specs.Rows.{undeclared_target, undeclared_part, undeclared_uses}
+use Rattle.schema_build_hierarchy.specs.Rows.{HasUndeclaredEntityTypes}
 use Rattle.schema_build_hierarchy.proofs.Ordered.{map_twice}
 use Rattle.schema_build_orders.specs.Alike.{bare_space, bare_place, declared_alone, DeclareTheSame}
 use Rattle.schema_build_orders.proofs.Declaring.{Frag, own_alone, tests_same}

@@ -1,5 +1,6 @@
 -- What says one of two rearranged texts says the other, annotations of namespaces aside.
-use Rattle.std.proofs.Common.{◌≡◌, ℕ, Bool, true, false, cond, List, [], ◌∷◌, ◌++◌, map, flat_map, Option, Some, None, Ordering, refl, sym, ap, ◌∙◌, subst}
+use Rattle.std.proofs.Common.{◌≡◌, ℕ, Bool, true, false, cond, List, [], ◌∷◌, ◌++◌, map, flat_map, Option, Some, None}
+use Rattle.std.proofs.Common.{Ordering, refl, sym, ap, ◌∙◌, subst}
 use Rattle.std.specs.BTreeMap.{is_at}
 use Rattle.std.specs.Cmp.{tied_itself}
 use Rattle.std.specs.List.{AllByRecursion}
@@ -20,14 +21,18 @@ use Rattle.schema_convert_types.specs.Declarations.{as_written}
 use Rattle.schema_readback.specs.Written.{WrittenDecl, WrittenDeclared, WrittenItem, namespace, outside}
 use Rattle.schema_says.specs.BareFragments.{bare_declared, bare_namespace, bare_fragment}
 use Rattle.schema_says.specs.Entries.{FoundSays, EntriesSay, last_written}
-use Rattle.schema_says.specs.FragmentsSay.{entities_of_decl, actions_of_decl, commons_of_decl, by_names, WrittenNamespace, NamespaceSays, NamespaceName, namespace_order, name_components, notes_of_item, decls_of_item, is_of_namespace, items_of_namespace, opened, written_in, FragmentSays}
+use Rattle.schema_says.specs.FragmentsSay.{entities_of_decl, actions_of_decl, commons_of_decl, by_names}
+use Rattle.schema_says.specs.FragmentsSay.{WrittenNamespace, NamespaceSays, NamespaceName, namespace_order}
+use Rattle.schema_says.specs.FragmentsSay.{name_components, notes_of_item, decls_of_item, is_of_namespace}
+use Rattle.schema_says.specs.FragmentsSay.{items_of_namespace, opened, written_in, FragmentSays}
 use Rattle.schema_says.specs.Sayable.{AppliesWell, IsFreeCommonName, names_written, IsSayableNamespace, IsSayable}
 use Rattle.schema_says.proofs.Maps.{is_equal}
 use Rattle.schema_says.proofs.Orders.{text_total, text_exact}
 use Rattle.schema_build_orders.specs.Alike.{declarations_alone, declared_alone, DeclareTheSame}
 use Rattle.schema_build_orders.specs.Reordered.{IsReordered, HaveTheSame, AreRearranged}
 use Rattle.schema_build_orders.proofs.Rearranging.{rearranged_itself}
-use Rattle.schema_build_orders.proofs.Reordering.{flat_reordered, all_reordered, distinct, repeats_reordered, last_reordered}
+use Rattle.schema_build_orders.proofs.Reordering.{flat_reordered, all_reordered, distinct, repeats_reordered}
+use Rattle.schema_build_orders.proofs.Reordering.{last_reordered}
 use Rattle.schema_build_orders.proofs.Seen.{map_same, some_is}
 
 abbrev Frag : Type 0

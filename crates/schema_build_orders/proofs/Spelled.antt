@@ -5,9 +5,22 @@ use Rattle.std.specs.List.{AllByRecursion}
 use Rattle.schema_syntax_tokens.specs.Laid.{Lexeme}
 use Rattle.schema_syntax_reader.specs.Leaves.{Notes}
 use Rattle.schema_readback.specs.PrintedDecls.{IsSome}
-use Rattle.schema_readback.specs.Spellings.{one, more, AreNamesOf, one_name, more_names, SpellsPath, AreSeparatedOf, no_item, last_item, more_items, AreListedOf, single_item, listed_items, AreManyOf, no_more_items, item_first, AreParentsOf, no_parent, some_parents, SpellsRef, plain_ref, typed_ref, SpellsType, path_type, set_type, record_type, IsRecordOf, braces, AreAttributesOf, no_attribute, last_attribute, more_attributes, IsAttributeOf, required, optional, SpellsShape, no_shape, bare_shape, equals_shape, SpellTags, no_tags, some_tags, IsMemberOf, types_of, path_context, record_context, SpellsApplies, no_applies, some_applies, SpellsDecl, entity_of, enum_of, external_entity_of, action_of, external_action_of, common_of, SpellsDeclared, declared_of, SpellsItem, namespace_of, outside_of, SpellsSchema}
-use Rattle.schema_readback.specs.Written.{WrittenType, WrittenAttributes, WrittenRef, WrittenMember, WrittenDecl, WrittenDeclared, WrittenItem}
-use Rattle.schema_says.specs.Named.{IsNamedType, AreNamedAttributes, AreNamedTags, IsNamedRef, IsNamedMember, AreNamedMembers, IsNamedDecl, IsNamedDeclared, IsWellNamed}
+use Rattle.schema_readback.specs.Spellings.{one, more, AreNamesOf, one_name, more_names, SpellsPath, AreSeparatedOf}
+use Rattle.schema_readback.specs.Spellings.{no_item, last_item, more_items, AreListedOf, single_item, listed_items}
+use Rattle.schema_readback.specs.Spellings.{AreManyOf, no_more_items, item_first, AreParentsOf, no_parent, some_parents}
+use Rattle.schema_readback.specs.Spellings.{SpellsRef, plain_ref, typed_ref, SpellsType, path_type, set_type}
+use Rattle.schema_readback.specs.Spellings.{record_type, IsRecordOf, braces, AreAttributesOf, no_attribute}
+use Rattle.schema_readback.specs.Spellings.{last_attribute, more_attributes, IsAttributeOf, required, optional}
+use Rattle.schema_readback.specs.Spellings.{SpellsShape, no_shape, bare_shape, equals_shape, SpellTags, no_tags}
+use Rattle.schema_readback.specs.Spellings.{some_tags, IsMemberOf, types_of, path_context, record_context}
+use Rattle.schema_readback.specs.Spellings.{SpellsApplies, no_applies, some_applies, SpellsDecl, entity_of, enum_of}
+use Rattle.schema_readback.specs.Spellings.{external_entity_of, action_of, external_action_of, common_of}
+use Rattle.schema_readback.specs.Spellings.{SpellsDeclared, declared_of, SpellsItem, namespace_of, outside_of}
+use Rattle.schema_readback.specs.Spellings.{SpellsSchema}
+use Rattle.schema_readback.specs.Written.{WrittenType, WrittenAttributes, WrittenRef, WrittenMember, WrittenDecl}
+use Rattle.schema_readback.specs.Written.{WrittenDeclared, WrittenItem}
+use Rattle.schema_says.specs.Named.{IsNamedType, AreNamedAttributes, AreNamedTags, IsNamedRef, IsNamedMember}
+use Rattle.schema_says.specs.Named.{AreNamedMembers, IsNamedDecl, IsNamedDeclared, IsWellNamed}
 
 -- each part is spelled, so each has what the spelled parts have
 module _ {A : Type 0} (P : List Lexeme → A → Type 0) (Q : A → Type 0) (each : (u : List Lexeme) (x : A) → P u x → Q x)

@@ -1,5 +1,6 @@
 -- The tokens of a text spell the lexemes at their places.
-use Rattle.std.proofs.Common.{◌≡◌, ℕ, ◌+◌, ◌-◌, List, [], ◌∷◌, ◌++◌, length, take, drop, refl, sym, ap, ◌∙◌, subst, append_assoc, arith, slice_range}
+use Rattle.std.proofs.Common.{◌≡◌, ℕ, ◌+◌, ◌-◌, List, [], ◌∷◌, ◌++◌, length, take, drop, refl, sym, ap, ◌∙◌, subst}
+use Rattle.std.proofs.Common.{append_assoc, arith, slice_range}
 use Rattle.std.proofs.lemmas.List.{take-append-drop, length-take-le, length-append, drop_at}
 use Rattle.schema_syntax_tokens.specs.Forms.{IsForm}
 use Rattle.schema_syntax_tokens.specs.Laid.{Spells}

@@ -14,7 +14,9 @@ use Rattle.schema_json.specs.declared.action_type.ApplySpec.{ApplySpec}
 use Rattle.schema_json.specs.declared.entity_type.EntityTypeKind.{EntityTypeKind}
 use Rattle.schema_json.specs.declared.entity_type.EntityTypeKind.TheVariants.{Standard, Enum}
 use Rattle.schema_json.specs.declared.types.Type.{«Type»}
-use Rattle.schema_json_walk.specs.Parts.{Part, type_reference, context_reference, parent, principal, resource, action_parent, extension_type, open_record, action_attributes, external_not_bare}
+use Rattle.schema_json_walk.specs.Parts.{Part, type_reference, context_reference, parent, principal, resource}
+use Rattle.schema_json_walk.specs.Parts.{action_parent, extension_type, open_record, action_attributes}
+use Rattle.schema_json_walk.specs.Parts.{external_not_bare}
 use Rattle.schema_json_walk.specs.Walk.{parts}
 use Rattle.schema_resolve_definitions.specs.Declarations.{name_of}
 use Rattle.schema_build_errors.specs.declared.schema_error.SchemaError.{SchemaError}
@@ -30,9 +32,11 @@ use Rattle.schema_build_scope.specs.CycleRow.{ReachesItself, HasCommonCycle}
 use Rattle.schema_build_scope.specs.FragmentScope.{fragment_scope}
 use Rattle.schema_build_scope.specs.TypeReaches.{MeansCommon, RefersToCommon}
 use Rattle.schema_build_hierarchy.specs.Declarations.{DeclaredEntity, declared_entities, declared_actions}
-use Rattle.schema_build_items.specs.NoRecord.{IsNoRecord, ShapeIsNoRecord, ContextIsNoRecord, LacksShape, LacksContext, HasNoRecordShape, HasNoRecordContext}
+use Rattle.schema_build_items.specs.NoRecord.{IsNoRecord, ShapeIsNoRecord, ContextIsNoRecord, LacksShape, LacksContext}
+use Rattle.schema_build_items.specs.NoRecord.{HasNoRecordShape, HasNoRecordContext}
 use Rattle.schema_build_orders.specs.Alike.{bare_place, DeclareTheSame}
-use Rattle.schema_build_orders.proofs.Declaring.{Frag, DeclaredAction, entity_alone, at_alone, action_alone, common_alone, entities_same, actions_same, commons_same}
+use Rattle.schema_build_orders.proofs.Declaring.{Frag, DeclaredAction, entity_alone, at_alone, action_alone}
+use Rattle.schema_build_orders.proofs.Declaring.{common_alone, entities_same, actions_same, commons_same}
 use Rattle.schema_build_orders.proofs.DeclarationRows.{uid_too}
 use Rattle.schema_build_orders.proofs.Expanding.{AreScopesAlike, expands_too}
 use Rattle.schema_build_orders.proofs.Meaning.{reaches_too, spaces_same}

@@ -1,15 +1,19 @@
 -- What a walk gives of a fragment without places, it gives of the fragment where it sees no places.
-use Rattle.std.proofs.Common.{◌≡◌, ℕ, Bool, true, false, not, ◌&&◌, List, [], ◌∷◌, ◌++◌, map, Option, Some, None, is_none, refl, sym, ap, ◌∙◌, subst}
+use Rattle.std.proofs.Common.{◌≡◌, ℕ, Bool, true, false, not, ◌&&◌, List, [], ◌∷◌, ◌++◌, map, Option, Some, None}
+use Rattle.std.proofs.Common.{is_none, refl, sym, ap, ◌∙◌, subst}
 use Rattle.std.specs.List.{flat_map}
 use Rattle.std.specs.Option.{option_map, option_map_or}
 use Rattle.cedar_identifiers.specs.declared.name.Name.{Name}
 use Rattle.cedar_identifiers.specs.declared.raw_name.RawName.{RawName}
 use Rattle.schema_json.specs.Shapes.{attributes_of, is_open, is_empty_type, is_empty_record}
 use Rattle.schema_json.specs.declared.types.Type.{«Type», Type-F, out-Type, roll-Type, fold-roll-Type}
-use Rattle.schema_json.specs.declared.types.TypeVariant.{TypeVariant, TypeVariant-F, out-TypeVariant, roll-TypeVariant, fold-roll-TypeVariant}
+use Rattle.schema_json.specs.declared.types.TypeVariant.{TypeVariant, TypeVariant-F, out-TypeVariant, roll-TypeVariant}
+use Rattle.schema_json.specs.declared.types.TypeVariant.{fold-roll-TypeVariant}
 use Rattle.schema_json.specs.declared.types.RecordType.{RecordType, RecordType-F, roll-RecordType, fold-roll-RecordType}
-use Rattle.schema_json.specs.declared.types.TypeOfAttribute.{TypeOfAttribute, TypeOfAttribute-F, roll-TypeOfAttribute, fold-roll-TypeOfAttribute}
-use Rattle.schema_json.specs.declared.types.Type.TheFolds.{ind-Type, ind-TypeVariant, map-Type, map-TypeVariant, map-RecordType, map-TypeOfAttribute}
+use Rattle.schema_json.specs.declared.types.TypeOfAttribute.{TypeOfAttribute, TypeOfAttribute-F, roll-TypeOfAttribute}
+use Rattle.schema_json.specs.declared.types.TypeOfAttribute.{fold-roll-TypeOfAttribute}
+use Rattle.schema_json.specs.declared.types.Type.TheFolds.{ind-Type, ind-TypeVariant, map-Type, map-TypeVariant}
+use Rattle.schema_json.specs.declared.types.Type.TheFolds.{map-RecordType, map-TypeOfAttribute}
 use Rattle.schema_json.specs.declared.entity_type.AttributesOrContext.{AttributesOrContext}
 use Rattle.schema_json.specs.declared.entity_type.EntityType.{EntityType}
 use Rattle.schema_json.specs.declared.entity_type.EntityTypeKind.{EntityTypeKind}
@@ -20,15 +24,23 @@ use Rattle.schema_json.specs.declared.action_type.ApplySpec.{ApplySpec}
 use Rattle.schema_json.specs.declared.fragment.Fragment.{Fragment}
 use Rattle.schema_json.specs.declared.fragment.NamespaceDefinition.{NamespaceDefinition}
 use Rattle.schema_json_walk.specs.Bare.{is_bare_kind}
-use Rattle.schema_json_walk.specs.Parts.{Part, type_reference, context_reference, parent, principal, resource, action_parent, extension_type, open_record, action_attributes, external_not_bare}
-use Rattle.schema_json_walk.specs.Walk.{visit_where, at_type, at_variant, at_record, at_attribute, at_context, of_type, of_variant, of_record, of_attribute, of_context, of_kind, of_entity, of_apply, of_uid, of_uids, of_action, of_common, of_namespace, of_entry, of_fragment, itself, parts, fragment_parts}
+use Rattle.schema_json_walk.specs.Parts.{Part, type_reference, context_reference, parent, principal, resource}
+use Rattle.schema_json_walk.specs.Parts.{action_parent, extension_type, open_record, action_attributes}
+use Rattle.schema_json_walk.specs.Parts.{external_not_bare}
+use Rattle.schema_json_walk.specs.Walk.{visit_where, at_type, at_variant, at_record, at_attribute, at_context, of_type}
+use Rattle.schema_json_walk.specs.Walk.{of_variant, of_record, of_attribute, of_context, of_kind, of_entity, of_apply}
+use Rattle.schema_json_walk.specs.Walk.{of_uid, of_uids, of_action, of_common, of_namespace, of_entry, of_fragment}
+use Rattle.schema_json_walk.specs.Walk.{itself, parts, fragment_parts}
 use Rattle.schema_json_walk.proofs.ByParts.{type_by_parts, fragment_by_parts}
 use Rattle.schema_convert_types.specs.Declarations.{as_written}
-use Rattle.schema_says.specs.Bare.{bare_name, bare_step, bare_variant, bare, bare_of_variant, bare_of_record, bare_of_attribute}
+use Rattle.schema_says.specs.Bare.{bare_name, bare_step, bare_variant, bare, bare_of_variant, bare_of_record}
+use Rattle.schema_says.specs.Bare.{bare_of_attribute}
 use Rattle.schema_says.specs.BareFragments.{bare_shape, bare_kind, bare_entity, bare_spec, bare_ref, bare_action}
 use Rattle.schema_build_orders.specs.Alike.{bare_space, declarations_alone, declared_alone}
-use Rattle.schema_build_orders.proofs.Entries.{CommonEntry, EntityEntry, ActionEntry, common_bare, entity_bare, action_bare}
-use Rattle.schema_build_orders.proofs.Layers.{Entry, bare_entry, Outer, Inner, bare_outer, bare_inner, outer_bare, inner_bare, attributes_bare, openness_bare}
+use Rattle.schema_build_orders.proofs.Entries.{CommonEntry, EntityEntry, ActionEntry, common_bare, entity_bare}
+use Rattle.schema_build_orders.proofs.Entries.{action_bare}
+use Rattle.schema_build_orders.proofs.Layers.{Entry, bare_entry, Outer, Inner, bare_outer, bare_inner, outer_bare}
+use Rattle.schema_build_orders.proofs.Layers.{inner_bare, attributes_bare, openness_bare}
 use Rattle.schema_build_orders.proofs.Seen.{flat_same, flat_mapped}
 
 abbrev pub bare_part : Part RawName → Part RawName

@@ -25,10 +25,12 @@ module _ {G : named.Ghosts RawName} where
 
   pub no_shape : (f : Fragment RawName G) (table : ExtensionTable) → AreShapesRecords (fragment_scope f table) f
       → Never (HasNoRecordShape f table)
-  no_shape f table all (error.ContextOrShapeNotRecord e) h = no_least_shape (fragment_scope f table) f e.ctx_or_shape all h
+  no_shape f table all (error.ContextOrShapeNotRecord e) h =
+      no_least_shape (fragment_scope f table) f e.ctx_or_shape all h
   no_shape f table all _ h = absurd h
 
   pub no_context : (f : Fragment RawName G) (table : ExtensionTable) → AreContextsRecords (fragment_scope f table) f
       → Never (HasNoRecordContext f table)
-  no_context f table all (error.ContextOrShapeNotRecord e) h = no_least_context (fragment_scope f table) f e.ctx_or_shape all h
+  no_context f table all (error.ContextOrShapeNotRecord e) h =
+      no_least_context (fragment_scope f table) f e.ctx_or_shape all h
   no_context f table all _ h = absurd h

@@ -1,5 +1,6 @@
 -- What stands in the namespaces of a fragment which says what is written of a meaning.
-use Rattle.std.proofs.Common.{◌≡◌, ◌⊎◌, inl, inr, ℕ, Bool, true, false, cond, List, [], ◌∷◌, map, flat_map, Option, Some, None, Contains, refl, sym, ap, ◌∙◌, subst, true≢false, is_some, if◌then◌else◌}
+use Rattle.std.proofs.Common.{◌≡◌, ◌⊎◌, inl, inr, ℕ, Bool, true, false, cond, List, [], ◌∷◌, map, flat_map, Option}
+use Rattle.std.proofs.Common.{Some, None, Contains, refl, sym, ap, ◌∙◌, subst, true≢false, is_some, if◌then◌else◌}
 use Rattle.std.specs.BTreeMap.{is_at}
 use Rattle.std.specs.Cmp.{tied_itself}
 use Rattle.std.specs.Map.{lookup}
@@ -19,7 +20,8 @@ use Rattle.schema_readback.specs.Meant.{name_or_none, groups_of_meaning}
 use Rattle.schema_readback.specs.PrintedDecls.{group_items}
 use Rattle.schema_readback.specs.Written.{WrittenDecl, WrittenDeclared, WrittenItem}
 use Rattle.schema_says.specs.Entries.{FoundSays, EntriesSay, last_written}
-use Rattle.schema_says.specs.FragmentsSay.{by_names, WrittenNamespace, NamespaceSays, NamespaceName, namespace_order, name_components, written_in, FragmentSays}
+use Rattle.schema_says.specs.FragmentsSay.{by_names, WrittenNamespace, NamespaceSays, NamespaceName, namespace_order}
+use Rattle.schema_says.specs.FragmentsSay.{name_components, written_in, FragmentSays}
 use Rattle.schema_says.specs.MeantNamespaces.{meant_in_namespace, IsOfMeaning}
 use Rattle.schema_says.proofs.Maps.{is_equal}
 use Rattle.schema_says.proofs.Orders.{text_total, text_exact, namespace_total, namespace_exact}

@@ -1,5 +1,6 @@
 -- The actions that a fragment declares which says what is written of a meaning.
-use Rattle.std.proofs.Common.{◌≡◌, ◌⊎◌, inl, inr, ℕ, Bool, true, false, List, [], ◌∷◌, ◌++◌, codes, flat_map, Option, Some, None, Contains, refl, sym, ap, ◌∙◌, subst, true≢false, is_some}
+use Rattle.std.proofs.Common.{◌≡◌, ◌⊎◌, inl, inr, ℕ, Bool, true, false, List, [], ◌∷◌, ◌++◌, codes, flat_map, Option}
+use Rattle.std.proofs.Common.{Some, None, Contains, refl, sym, ap, ◌∙◌, subst, true≢false, is_some}
 use Rattle.cedar_identifiers.specs.Names.{components_of}
 use Rattle.cedar_identifiers.specs.declared.name.Name.{Name}
 use Rattle.cedar_identifiers.specs.declared.raw_name.RawName.{RawName}
@@ -9,14 +10,16 @@ use Rattle.schema_json.specs.Actions.{action_name}
 use Rattle.schema_json.specs.declared.action_type.ActionType.{ActionType}
 use Rattle.schema_json.specs.declared.fragment.Fragment.{Fragment}
 use Rattle.schema_convert_types.specs.Declarations.{as_written}
-use Rattle.schema_readback.specs.Meant.{entity_as, action_as, entity_of_meaning, action_of_meaning, items_of_meaning, name_or_none, groups_of_meaning}
+use Rattle.schema_readback.specs.Meant.{entity_as, action_as, entity_of_meaning, action_of_meaning, items_of_meaning}
+use Rattle.schema_readback.specs.Meant.{name_or_none, groups_of_meaning}
 use Rattle.schema_readback.specs.PrintedDecls.{IsSome, group_items}
 use Rattle.schema_readback.specs.Written.{WrittenDeclared}
 use Rattle.schema_resolve_definitions.specs.Declarations.{action_type}
 use Rattle.schema_build_hierarchy.specs.Declarations.{action_in, action_key, actions_of, declared_actions}
 use Rattle.schema_build.specs.Meaning.{key_of}
 use Rattle.schema_says.specs.DeclarationsSay.{AppliesSay, ActionSays}
-use Rattle.schema_says.specs.FragmentsSay.{actions_of_decl, WrittenNamespace, NamespaceName, name_components, written_in, FragmentSays}
+use Rattle.schema_says.specs.FragmentsSay.{actions_of_decl, WrittenNamespace, NamespaceName, name_components}
+use Rattle.schema_says.specs.FragmentsSay.{written_in, FragmentSays}
 use Rattle.schema_says.specs.MeantNames.{IsActionName, HasOpenNames}
 use Rattle.schema_says.specs.MeantNamespaces.{meant_in_namespace, IsOfMeaning}
 use Rattle.schema_build_says.specs.DeclaredEntries.{DeclaredAction, IsActionEntryOf}

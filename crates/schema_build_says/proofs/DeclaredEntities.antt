@@ -1,5 +1,6 @@
 -- The entity types that a fragment declares which says what is written of a meaning.
-use Rattle.std.proofs.Common.{◌≡◌, ◌⊎◌, inl, inr, ℕ, Bool, true, false, List, [], ◌∷◌, ◌++◌, map, filter, flat_map, Option, Some, None, Contains, refl, sym, ap, ◌∙◌, subst, true≢false, is_some}
+use Rattle.std.proofs.Common.{◌≡◌, ◌⊎◌, inl, inr, ℕ, Bool, true, false, List, [], ◌∷◌, ◌++◌, map, filter, flat_map}
+use Rattle.std.proofs.Common.{Option, Some, None, Contains, refl, sym, ap, ◌∙◌, subst, true≢false, is_some}
 use Rattle.std.specs.BTreeSet.{insert_key}
 use Rattle.std.specs.Cmp.Lexicographic.{slice_cmp}
 use Rattle.std.specs.Ordering.{match_ordering}
@@ -20,19 +21,23 @@ use Rattle.cedar_names.specs.Meaning.{EntityMeaning, ActionMeaning, SchemaMeanin
 use Rattle.schema_json.specs.declared.entity_type.EntityType.{EntityType}
 use Rattle.schema_json.specs.declared.fragment.Fragment.{Fragment}
 use Rattle.schema_convert_types.specs.Declarations.{as_written}
-use Rattle.schema_readback.specs.Meant.{entity_as, action_as, entity_of_meaning, action_of_meaning, items_of_meaning, name_or_none, groups_of_meaning}
+use Rattle.schema_readback.specs.Meant.{entity_as, action_as, entity_of_meaning, action_of_meaning, items_of_meaning}
+use Rattle.schema_readback.specs.Meant.{name_or_none, groups_of_meaning}
 use Rattle.schema_readback.specs.PrintedDecls.{IsSome, group_items}
 use Rattle.schema_readback.specs.Written.{WrittenDeclared}
-use Rattle.schema_build_hierarchy.specs.Declarations.{DeclaredEntity, entity_in, entity_name, entities_of, declared_entities}
+use Rattle.schema_build_hierarchy.specs.Declarations.{DeclaredEntity, entity_in, entity_name, entities_of}
+use Rattle.schema_build_hierarchy.specs.Declarations.{declared_entities}
 use Rattle.schema_says.specs.DeclarationsSay.{KindSays, EntitySays}
-use Rattle.schema_says.specs.FragmentsSay.{entities_of_decl, WrittenNamespace, NamespaceName, name_components, written_in, FragmentSays}
+use Rattle.schema_says.specs.FragmentsSay.{entities_of_decl, WrittenNamespace, NamespaceName, name_components}
+use Rattle.schema_says.specs.FragmentsSay.{written_in, FragmentSays}
 use Rattle.schema_says.specs.MeantNames.{IsOpenName, HasOpenNames}
 use Rattle.schema_says.specs.MeantNamespaces.{meant_in_namespace, IsOfMeaning}
 use Rattle.schema_build_says.specs.DeclaredEntries.{IsEntryOf}
 use Rattle.schema_says.proofs.MeantSayable.{equal_names, name_back, rebuilt}
 use Rattle.schema_says.proofs.Orders.{components_exact}
 use Rattle.schema_build_says.proofs.Blocks.{Block, IsBlockOf, block_of, block_there, entry_says, entry_there}
-use Rattle.schema_build_says.proofs.Members.{IsIn, in_from, in_to, in_append, left_to, right_to, in_map, map_to, in_flat, flat_to, in_filter, filter_to, all_in}
+use Rattle.schema_build_says.proofs.Members.{IsIn, in_from, in_to, in_append, left_to, right_to, in_map, map_to}
+use Rattle.schema_build_says.proofs.Members.{in_flat, flat_to, in_filter, filter_to, all_in}
 
 base_of : (x : Bool) (choices : Option (List (List ℕ))) (e : EntityMeaning) (n : List ℕ)
     → IsIn n (entities_of_decl (entity_as x choices e)) → n ≡ basename e.name

@@ -1,5 +1,6 @@
 -- What a fragment defines that declares just what a meaning has.
-use Rattle.std.proofs.Common.{◌≡◌, ◌⊎◌, inl, inr, ℕ, Bool, true, false, ◌||◌, List, [], ◌∷◌, ◌++◌, codes, map, flat_map, Option, Some, None, refl, sym, ap, ◌∙◌, subst, true≢false, is_some, if◌then◌else◌}
+use Rattle.std.proofs.Common.{◌≡◌, ◌⊎◌, inl, inr, ℕ, Bool, true, false, ◌||◌, List, [], ◌∷◌, ◌++◌, codes, map, flat_map}
+use Rattle.std.proofs.Common.{Option, Some, None, refl, sym, ap, ◌∙◌, subst, true≢false, is_some, if◌then◌else◌}
 use Rattle.std.specs.Prelude.{slice_get}
 use Rattle.std.specs.Cmp.{first_so, second_so}
 use Rattle.std.specs.Str.{bytes_eq, encode_utf8_all}
@@ -20,19 +21,22 @@ use Rattle.schema_json.specs.declared.entity_type.EntityType.{EntityType}
 use Rattle.schema_json.specs.declared.action_type.ActionType.{ActionType}
 use Rattle.schema_json.specs.declared.fragment.Fragment.{Fragment}
 use Rattle.schema_convert_types.specs.Declarations.{as_written}
-use Rattle.schema_resolve_definitions.specs.Declarations.{declared, declared_name, action_type, commons_in, entities_in, actions_in}
+use Rattle.schema_resolve_definitions.specs.Declarations.{declared, declared_name, action_type, commons_in, entities_in}
+use Rattle.schema_resolve_definitions.specs.Declarations.{actions_in}
 use Rattle.schema_resolve_definitions.specs.Defined.{defined, builtins, is_hidden, names_of_builtin, names_of_builtins}
 use Rattle.schema_resolve_definitions.specs.Tests.{Tests, tests_of}
 use Rattle.schema_build_expand.specs.Scope.{IsUndeclared}
 use Rattle.schema_build_scope.specs.Commons.{common_entry, declared_commons}
 use Rattle.schema_build_scope.specs.FragmentScope.{fragment_scope, declaration}
-use Rattle.schema_build_hierarchy.specs.Declarations.{entity_in, entity_name, entities_of, declared_entities, action_in, action_key, actions_of, declared_actions}
+use Rattle.schema_build_hierarchy.specs.Declarations.{entity_in, entity_name, entities_of, declared_entities, action_in}
+use Rattle.schema_build_hierarchy.specs.Declarations.{action_key, actions_of, declared_actions}
 use Rattle.schema_build.specs.Meaning.{key_of}
 use Rattle.schema_build_says.specs.DeclaredEntries.{DeclaresJust}
 use Rattle.schema_says.proofs.MeantSayable.{equal_names}
 use Rattle.schema_build_says.proofs.Blocks.{Block}
 use Rattle.schema_build_says.proofs.DeclaredEntities.{name_itself}
-use Rattle.schema_build_says.proofs.Members.{IsIn, in_from, in_to, in_append, left_to, right_to, in_map, map_to, in_flat, flat_to, flat_nothing}
+use Rattle.schema_build_says.proofs.Members.{IsIn, in_from, in_to, in_append, left_to, right_to, in_map, map_to}
+use Rattle.schema_build_says.proofs.Members.{in_flat, flat_to, flat_nothing}
 
 -- the key of an action
 abbrev pub Key : Type 0

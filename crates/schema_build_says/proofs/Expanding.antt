@@ -1,5 +1,6 @@
 -- A type that says what is written of a plain type stands for it.
-use Rattle.std.proofs.Common.{◌≡◌, ℕ, Bool, true, false, not, ◌&&◌, ◌||◌, cond, List, [], ◌∷◌, codes, Option, Some, None, is_some, refl, sym, ap, ◌∙◌, subst, true≢false}
+use Rattle.std.proofs.Common.{◌≡◌, ℕ, Bool, true, false, not, ◌&&◌, ◌||◌, cond, List, [], ◌∷◌, codes, Option, Some}
+use Rattle.std.proofs.Common.{None, is_some, refl, sym, ap, ◌∙◌, subst, true≢false}
 use Rattle.std.specs.BTreeMap.{is_at}
 use Rattle.std.specs.Cmp.{tied_itself}
 use Rattle.std.specs.List.{AllByRecursion}
@@ -19,13 +20,15 @@ use Rattle.cedar_names.specs.Meaning as m
 use Rattle.schema_json.specs.Shapes.{attributes_of, is_open}
 use Rattle.schema_json.specs.declared.types.Type.{«Type», Type-F, out-roll-Type}
 use Rattle.schema_json.specs.declared.types.Type.TheVariants as shape
-use Rattle.schema_json.specs.declared.types.TypeVariant.{TypeVariant, TypeVariant-F, out-TypeVariant, out-roll-TypeVariant}
+use Rattle.schema_json.specs.declared.types.TypeVariant.{TypeVariant, TypeVariant-F, out-TypeVariant}
+use Rattle.schema_json.specs.declared.types.TypeVariant.{out-roll-TypeVariant}
 use Rattle.schema_json.specs.declared.types.TypeVariant.TheVariants as variant
 use Rattle.schema_json.specs.declared.types.RecordType.{RecordType}
 use Rattle.schema_json.specs.declared.types.TypeOfAttribute.{TypeOfAttribute, out-TypeOfAttribute}
 use Rattle.schema_readback.specs.Meant.{under_cedar, type_of_meaning, attributes_of_meaning}
 use Rattle.schema_readback.specs.Written.{WrittenType}
-use Rattle.schema_build_expand.specs.Expands.{Expands, by_layer, LayerExpands, to_set, to_record, to_entity, to_builtin, ExpandAll, to_no_attributes, to_attribute}
+use Rattle.schema_build_expand.specs.Expands.{Expands, by_layer, LayerExpands, to_set, to_record, to_entity, to_builtin}
+use Rattle.schema_build_expand.specs.Expands.{ExpandAll, to_no_attributes, to_attribute}
 use Rattle.schema_build_expand.specs.Scope.{Scope, builtin}
 use Rattle.schema_build_expand.specs.View.{View, set_layer, record_layer, reference_layer, shape_view, outer_view, view}
 use Rattle.schema_says.specs.TypesSay.{TypeSays, AttributeSays, ByTest, has_attribute, is_last_attribute}

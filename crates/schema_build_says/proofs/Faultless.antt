@@ -1,5 +1,7 @@
 -- A fragment that declares just what a closed meaning has is without a build fault.
-use Rattle.std.proofs.Common.{◌≡◌, ◌<◌, inl, inr, ℕ, Bool, true, false, not, cond, ◌||◌, List, [], ◌∷◌, ◌++◌, codes, length, map, filter, flat_map, Option, Some, None, is_some, Contains, refl, sym, ap, ◌∙◌, subst, arith, true≢false, if◌then◌else◌}
+use Rattle.std.proofs.Common.{◌≡◌, ◌<◌, inl, inr, ℕ, Bool, true, false, not, cond, ◌||◌, List, [], ◌∷◌, ◌++◌, codes}
+use Rattle.std.proofs.Common.{length, map, filter, flat_map, Option, Some, None, is_some, Contains, refl, sym, ap, ◌∙◌}
+use Rattle.std.proofs.Common.{subst, arith, true≢false, if◌then◌else◌}
 use Rattle.std.specs.Option.{option_map, option_to_list}
 use Rattle.std.specs.Str.{bytes_eq}
 use Rattle.std.specs.declared.cmp.Ordering.{Ordering}
@@ -39,7 +41,9 @@ use Rattle.schema_build_errors.specs.declared.schema_error.SchemaError.TheVarian
 use Rattle.schema_build_errors.specs.declared.shape_errors.ContextOrShape.{ContextOrShape}
 use Rattle.schema_build_errors.specs.declared.shape_errors.ContextOrShape.TheVariants.{ActionContext, EntityTypeShape}
 use Rattle.schema_json.specs.Actions.{action_name}
-use Rattle.schema_build_checks.specs.DeclaredAt.{at_of, actions_at_in_order, declared_at, called_action, called_actions, hiding_common, hiding_entity, hiding_types_in, hiding_types, hiding_action, hiding_actions_in, hiding_actions}
+use Rattle.schema_build_checks.specs.DeclaredAt.{at_of, actions_at_in_order, declared_at, called_action, called_actions}
+use Rattle.schema_build_checks.specs.DeclaredAt.{hiding_common, hiding_entity, hiding_types_in, hiding_types}
+use Rattle.schema_build_checks.specs.DeclaredAt.{hiding_action, hiding_actions_in, hiding_actions}
 use Rattle.schema_build_checks.specs.DeclaredTwice.{ActionTypeDeclared, TypeHides, ActionHides}
 use Rattle.schema_build_checks.specs.Least.{IsFirstLeast}
 use Rattle.schema_build_checks.specs.Refusing.{IsAboutFirst}
@@ -51,13 +55,17 @@ use Rattle.schema_build_scope.specs.CycleRow.{HasCommonCycle}
 use Rattle.schema_build_scope.specs.FragmentScope.{fragment_scope}
 use Rattle.schema_build_scope.specs.Rows.{OrElse}
 use Rattle.schema_build_scope.specs.UndefinedRows.{HasUndefinedTypes, HasUndefinedActions}
-use Rattle.schema_build_hierarchy.specs.Declarations.{DeclaredEntity, entity_in, entity_name, entities_of, declared_entities, action_in, action_key, actions_of, declared_actions}
+use Rattle.schema_build_hierarchy.specs.Declarations.{DeclaredEntity, entity_in, entity_name, entities_of}
+use Rattle.schema_build_hierarchy.specs.Declarations.{declared_entities, action_in, action_key, actions_of}
+use Rattle.schema_build_hierarchy.specs.Declarations.{declared_actions}
 use Rattle.schema_build_hierarchy.specs.FirstUses.{IsFirstUse, AreFirstUses}
 use Rattle.schema_build_hierarchy.specs.Parents.{IsAncestor}
-use Rattle.schema_build_hierarchy.specs.Rows.{undeclared_part, undeclared_uses, is_enum, HasUndeclaredEntityTypes, HasActionCycle, HasExternalUnderEnum}
+use Rattle.schema_build_hierarchy.specs.Rows.{undeclared_part, undeclared_uses, is_enum, HasUndeclaredEntityTypes}
+use Rattle.schema_build_hierarchy.specs.Rows.{HasActionCycle, HasExternalUnderEnum}
 use Rattle.schema_build_items.specs.ActionKinds.{ApplyMeaning, IsApplyMeaning}
 use Rattle.schema_build_items.specs.Kinds.{KindMeaning, IsKindMeaning}
-use Rattle.schema_build_items.specs.NoRecord.{IsNoRecord, ShapeIsNoRecord, ContextIsNoRecord, IsLeastShape, IsLeastContext, HasNoRecordShape, HasNoRecordContext}
+use Rattle.schema_build_items.specs.NoRecord.{IsNoRecord, ShapeIsNoRecord, ContextIsNoRecord, IsLeastShape}
+use Rattle.schema_build_items.specs.NoRecord.{IsLeastContext, HasNoRecordShape, HasNoRecordContext}
 use Rattle.schema_build_parts.specs.BuildFaults.{BuildFault}
 use Rattle.schema_build.specs.Meaning.{kind_meaning, apply_meaning}
 use Rattle.schema_build_closed.specs.Closed.{IsClosed}
@@ -66,11 +74,14 @@ use Rattle.schema_says.specs.DeclarationsSay.{KindSays}
 use Rattle.schema_build_says.specs.DeclaredEntries.{IsEntity, DeclaresJust}
 use Rattle.schema_build_says.proofs.Blocks.{Block}
 use Rattle.schema_build_says.proofs.DeclaredEntities.{texts_behind}
-use Rattle.schema_build_says.proofs.Defining.{Key, not_true, own, own_entity, own_common, own_action, is_own_entity, is_entity_named, none_common}
+use Rattle.schema_build_says.proofs.Defining.{Key, not_true, own, own_entity, own_common, own_action, is_own_entity}
+use Rattle.schema_build_says.proofs.Defining.{is_entity_named, none_common}
 use Rattle.schema_build_says.proofs.EntryMeans.{entity_means, action_means}
-use Rattle.schema_build_says.proofs.Meant.{entity_closed, action_closed, key_found, entity_itself, action_itself, ancestor_is, action_ancestor_is}
+use Rattle.schema_build_says.proofs.Meant.{entity_closed, action_closed, key_found, entity_itself, action_itself}
+use Rattle.schema_build_says.proofs.Meant.{ancestor_is, action_ancestor_is}
 use Rattle.schema_build_says.proofs.Members.{IsIn, in_from, in_to, map_to, flat_to, flat_nothing, append_nothing}
-use Rattle.schema_build_says.proofs.Themselves.{last_of, key_there, no_action, apart, not_entity_behind, named_entity, found_as}
+use Rattle.schema_build_says.proofs.Themselves.{last_of, key_there, no_action, apart, not_entity_behind, named_entity}
+use Rattle.schema_build_says.proofs.Themselves.{found_as}
 use Rattle.schema_build_says.proofs.Walking.{entity_gives, action_gives}
 
 or_else : (A B : SchemaError → Type 0) → Never A → Never B → Never (OrElse A B)

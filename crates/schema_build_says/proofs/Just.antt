@@ -1,5 +1,6 @@
 -- A fragment which says what is written of a meaning declares just what the meaning has.
-use Rattle.std.proofs.Common.{◌≡◌, ◌⊎◌, inl, inr, ℕ, Bool, true, false, List, [], map, flat_map, Option, Some, None, Contains, All, refl, sym, ◌∙◌, subst}
+use Rattle.std.proofs.Common.{◌≡◌, ◌⊎◌, inl, inr, ℕ, Bool, true, false, List, [], map, flat_map, Option, Some, None}
+use Rattle.std.proofs.Common.{Contains, All, refl, sym, ◌∙◌, subst}
 use Rattle.std.specs.Cmp.{IsTotalOrder, on_total, then_total}
 use Rattle.std.specs.Cmp.Lexicographic.{slice_cmp, lists_total, options_total}
 use Rattle.std.specs.List.Sorted.{IsStrictlySortedBy}
@@ -18,13 +19,16 @@ use Rattle.schema_json.specs.declared.common_type.CommonType.{CommonType}
 use Rattle.schema_json.specs.declared.common_type.CommonTypeId.{CommonTypeId}
 use Rattle.schema_json.specs.declared.fragment.Fragment.{Fragment}
 use Rattle.schema_convert_types.specs.Declarations.{as_written}
-use Rattle.schema_readback.specs.Meant.{entity_as, action_as, entity_of_meaning, action_of_meaning, items_of_meaning, name_or_none, groups_of_meaning}
+use Rattle.schema_readback.specs.Meant.{entity_as, action_as, entity_of_meaning, action_of_meaning, items_of_meaning}
+use Rattle.schema_readback.specs.Meant.{name_or_none, groups_of_meaning}
 use Rattle.schema_readback.specs.PrintedDecls.{IsSome, group_items}
 use Rattle.schema_readback.specs.Written.{WrittenDeclared}
-use Rattle.schema_build_hierarchy.specs.Declarations.{DeclaredEntity, entity_name, action_key, declared_entities, declared_actions}
+use Rattle.schema_build_hierarchy.specs.Declarations.{DeclaredEntity, entity_name, action_key, declared_entities}
+use Rattle.schema_build_hierarchy.specs.Declarations.{declared_actions}
 use Rattle.schema_build.specs.Meaning.{key_of}
 use Rattle.schema_says.specs.DeclarationsSay.{CommonSays}
-use Rattle.schema_says.specs.FragmentsSay.{commons_of_decl, WrittenNamespace, NamespaceName, namespace_order, name_components, written_in, FragmentSays}
+use Rattle.schema_says.specs.FragmentsSay.{commons_of_decl, WrittenNamespace, NamespaceName, namespace_order}
+use Rattle.schema_says.specs.FragmentsSay.{name_components, written_in, FragmentSays}
 use Rattle.schema_says.specs.MeantNames.{action_name_order, HasOpenNames}
 use Rattle.schema_says.specs.MeantNamespaces.{meant_in_namespace, IsOfMeaning}
 use Rattle.schema_build_says.specs.DeclaredEntries.{IsEntity, DeclaredAction, IsAction, DeclaresJust}

@@ -1,5 +1,6 @@
 -- A fragment that declares just what a closed meaning has means it.
-use Rattle.std.proofs.Common.{◌≡◌, ◌↔◌, ℕ, Bool, true, false, ◌||◌, List, [], ◌∷◌, map, Option, Some, None, is_some, Contains, refl, sym, ap, ◌∙◌, subst, true≢false}
+use Rattle.std.proofs.Common.{◌≡◌, ◌↔◌, ℕ, Bool, true, false, ◌||◌, List, [], ◌∷◌, map, Option, Some, None, is_some}
+use Rattle.std.proofs.Common.{Contains, refl, sym, ap, ◌∙◌, subst, true≢false}
 use Rattle.std.specs.List.{AllByRecursion}
 use Rattle.std.specs.List.Sorted.{IsStrictlySortedBy}
 use Rattle.std.specs.Option.{option_map}
@@ -25,11 +26,15 @@ use Rattle.schema_build_text.specs.Captured.{some_hold, tags_hold}
 use Rattle.schema_build_checks.specs.DeclaredAt.{actions_at_in_order}
 use Rattle.schema_build_expand.specs.Scope.{Scope, AreDeclaredOnce}
 use Rattle.schema_build_scope.specs.FragmentScope.{fragment_scope}
-use Rattle.schema_build_hierarchy.specs.Declarations.{DeclaredEntity, entity_name, action_key, declared_entities, declared_actions}
-use Rattle.schema_build_hierarchy.specs.Parents.{entity_parents, action_parents, IsParent, IsAncestor, IsActionParent, IsActionAncestor}
+use Rattle.schema_build_hierarchy.specs.Declarations.{DeclaredEntity, entity_name, action_key, declared_entities}
+use Rattle.schema_build_hierarchy.specs.Declarations.{declared_actions}
+use Rattle.schema_build_hierarchy.specs.Parents.{entity_parents, action_parents, IsParent, IsAncestor, IsActionParent}
+use Rattle.schema_build_hierarchy.specs.Parents.{IsActionAncestor}
 use Rattle.schema_build_items.specs.ActionKinds.{components_cmp}
-use Rattle.schema_build.specs.Meaning.{key_of, IsEntityMeaning, IsActionMeaning, EntitiesMean, ActionsMean, FragmentMeaning}
-use Rattle.schema_build_closed.specs.Closed.{IsClosedEntity, IsClosedAction, IsEntityUnder, IsActionUnder, IsTransitive, IsClosed}
+use Rattle.schema_build.specs.Meaning.{key_of, IsEntityMeaning, IsActionMeaning, EntitiesMean, ActionsMean}
+use Rattle.schema_build.specs.Meaning.{FragmentMeaning}
+use Rattle.schema_build_closed.specs.Closed.{IsClosedEntity, IsClosedAction, IsEntityUnder, IsActionUnder, IsTransitive}
+use Rattle.schema_build_closed.specs.Closed.{IsClosed}
 use Rattle.schema_build_closed.specs.Known.{entity_names, action_names, AreKnownTags}
 use Rattle.schema_says.specs.FragmentsSay.{name_components}
 use Rattle.schema_build_hierarchy.proofs.Exact.{by_texts}
@@ -39,7 +44,8 @@ use Rattle.schema_build_says.specs.DeclaredEntries.{IsEntity, DeclaredAction, Is
 use Rattle.schema_build_says.specs.Entries.{TagsMeanThemselves, EntityMeansItself, IsFoundAs, ActionMeansItself}
 use Rattle.schema_build_says.proofs.Defining.{Key, none_declared}
 use Rattle.schema_build_says.proofs.EntryMeans.{entity_means, action_means}
-use Rattle.schema_build_says.proofs.Members.{IsIn, in_from, in_to, in_map, all_in, in_all, picked, zip_left, zip_right, zip_names, zip_more}
+use Rattle.schema_build_says.proofs.Members.{IsIn, in_from, in_to, in_map, all_in, in_all, picked, zip_left, zip_right}
+use Rattle.schema_build_says.proofs.Members.{zip_names, zip_more}
 use Rattle.schema_build_says.proofs.Parents.{entity_parents_are, action_parents_are, reaches_is}
 use Rattle.schema_build_says.proofs.Themselves.{IsFree, named_entity, found_as, action_found_as, type_means, types_mean}
 use Rattle.schema_build_says.proofs.Uncaptured.{entity_free, action_free}

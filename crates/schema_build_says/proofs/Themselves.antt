@@ -1,5 +1,7 @@
 -- The names of a closed meaning mean themselves in a fragment that declares just what the meaning has.
-use Rattle.std.proofs.Common.{◌≡◌, ◌⊎◌, inl, inr, ℕ, Bool, true, false, cond, ◌||◌, ◌&&◌, not, List, [], ◌∷◌, ◌++◌, codes, map, find, Option, Some, None, is_some, Contains, refl, sym, ap, ◌∙◌, subst, true≢false, if◌then◌else◌}
+use Rattle.std.proofs.Common.{◌≡◌, ◌⊎◌, inl, inr, ℕ, Bool, true, false, cond, ◌||◌, ◌&&◌, not, List, [], ◌∷◌, ◌++◌}
+use Rattle.std.proofs.Common.{codes, map, find, Option, Some, None, is_some, Contains, refl, sym, ap, ◌∙◌, subst}
+use Rattle.std.proofs.Common.{true≢false, if◌then◌else◌}
 use Rattle.std.specs.Cmp.{second_so}
 use Rattle.std.specs.List.{list_any}
 use Rattle.std.specs.Option.{option_map}
@@ -37,14 +39,17 @@ use Rattle.schema_build_expand.specs.Scope.{Scope, in_table, builtin}
 use Rattle.schema_build_scope.specs.FragmentScope.{fragment_scope, by_components}
 use Rattle.schema_build.specs.Meaning.{key_of}
 use Rattle.schema_build_closed.specs.Closed.{IsClosed}
-use Rattle.schema_build_closed.specs.Known.{entity_names, action_names, action_types, IsKnownName, IsKnownType, AreKnownTypes}
+use Rattle.schema_build_closed.specs.Known.{entity_names, action_names, action_types, IsKnownName, IsKnownType}
+use Rattle.schema_build_closed.specs.Known.{AreKnownTypes}
 use Rattle.schema_says.specs.MeantNames.{IsOpenName, IsActionName}
 use Rattle.schema_build_says.specs.Ancestors.{IsActionFoundAs}
 use Rattle.schema_build_says.specs.DeclaredEntries.{DeclaresJust}
 use Rattle.schema_build_says.specs.Entries.{IsFoundAs}
 use Rattle.schema_build_says.specs.Themselves.{MeansEntity, MeansBuiltin, MeansItself, MeanThemselves}
 use Rattle.schema_build_says.proofs.DeclaredEntities.{texts_behind, name_itself}
-use Rattle.schema_build_says.proofs.Defining.{Key, or_left, or_right, not_true, IsEntityName, IsActionType, own, is_own_entity, own_action, is_own_action, entity_cases, is_entity_named, common_cases, is_builtin_named, none_declared}
+use Rattle.schema_build_says.proofs.Defining.{Key, or_left, or_right, not_true, IsEntityName, IsActionType, own}
+use Rattle.schema_build_says.proofs.Defining.{is_own_entity, own_action, is_own_action, entity_cases, is_entity_named}
+use Rattle.schema_build_says.proofs.Defining.{common_cases, is_builtin_named, none_declared}
 use Rattle.schema_build_says.proofs.Members.{IsIn, in_from, in_to, in_map, map_to, all_in}
 
 -- names behind a namespace

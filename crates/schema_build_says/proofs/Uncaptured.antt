@@ -1,5 +1,6 @@
 -- Where nothing is captured, no item beside an action of its namespace holds the type `Action` of the empty namespace.
-use Rattle.std.proofs.Common.{◌≡◌, inl, inr, ℕ, true, false, cond, ◌||◌, List, [], ◌∷◌, map, filter, refl, sym, ap, ◌∙◌, subst}
+use Rattle.std.proofs.Common.{◌≡◌, inl, inr, ℕ, true, false, cond, ◌||◌, List, [], ◌∷◌, map, filter, refl, sym, ap, ◌∙◌}
+use Rattle.std.proofs.Common.{subst}
 use Rattle.std.specs.List.{list_any}
 use Rattle.cedar_names.specs.CanonicalText.{namespace}
 use Rattle.cedar_names.specs.Definitions.{same_name}
@@ -7,7 +8,8 @@ use Rattle.cedar_names.specs.Meaning.{EntityMeaning, ActionMeaning, SchemaMeanin
 use Rattle.schema_build_types.specs.Content.{ActionContent, SchemaContent}
 use Rattle.schema_build_types.specs.Standing.{entity_as_built, action_as_built, schema_as_built, attributes_as_built}
 use Rattle.schema_build_text.specs.Captured.{some_hold, tags_hold, item_holds, has_action, captured_in, IsUncaptured}
-use Rattle.schema_build_text.specs.Walk.{ItemContent, entity_type, action, namespace_of, items_of, items_in, namespaces_of}
+use Rattle.schema_build_text.specs.Walk.{ItemContent, entity_type, action, namespace_of, items_of, items_in}
+use Rattle.schema_build_text.specs.Walk.{namespaces_of}
 use Rattle.schema_readback.specs.PrintedDecls.{IsSome}
 use Rattle.schema_build_says.proofs.DeclaredEntities.{name_itself, in_ordered}
 use Rattle.schema_build_says.proofs.Defining.{or_left, or_right, not_true}

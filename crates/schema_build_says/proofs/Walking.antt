@@ -1,5 +1,6 @@
 -- What a walk gives of types, entity types and actions that say what is written of a meaning.
-use Rattle.std.proofs.Common.{◌≡◌, ℕ, Bool, true, false, not, ◌&&◌, List, [], ◌∷◌, ◌++◌, map, flat_map, Option, Some, None, is_none, refl, sym, ap, ◌∙◌, subst}
+use Rattle.std.proofs.Common.{◌≡◌, ℕ, Bool, true, false, not, ◌&&◌, List, [], ◌∷◌, ◌++◌, map, flat_map, Option, Some}
+use Rattle.std.proofs.Common.{None, is_none, refl, sym, ap, ◌∙◌, subst}
 use Rattle.std.specs.BTreeMap.{is_at}
 use Rattle.std.specs.List.{AllByRecursion}
 use Rattle.std.specs.List.Sorted.{IsStrictlySortedBy}
@@ -18,7 +19,8 @@ use Rattle.cedar_names.specs.Meaning as plain
 use Rattle.schema_json.specs.Shapes.{attributes_of, is_open, is_empty_type, is_empty_record}
 use Rattle.schema_json.specs.declared.types.Type.{«Type», Type-F, out-Type, out-roll-Type, fold-roll-Type}
 use Rattle.schema_json.specs.declared.types.Type.TheVariants as shape
-use Rattle.schema_json.specs.declared.types.TypeVariant.{TypeVariant, TypeVariant-F, out-TypeVariant, out-roll-TypeVariant, fold-roll-TypeVariant}
+use Rattle.schema_json.specs.declared.types.TypeVariant.{TypeVariant, TypeVariant-F, out-TypeVariant}
+use Rattle.schema_json.specs.declared.types.TypeVariant.{out-roll-TypeVariant, fold-roll-TypeVariant}
 use Rattle.schema_json.specs.declared.types.TypeVariant.TheVariants as variant
 use Rattle.schema_json.specs.declared.types.RecordType.{RecordType}
 use Rattle.schema_json.specs.declared.types.TypeOfAttribute.{TypeOfAttribute, out-TypeOfAttribute}
@@ -30,16 +32,21 @@ use Rattle.schema_json.specs.declared.action_type.ActionEntityUID.{ActionEntityU
 use Rattle.schema_json.specs.declared.action_type.ActionType.{ActionType}
 use Rattle.schema_json.specs.declared.action_type.ApplySpec.{ApplySpec}
 use Rattle.schema_json_walk.specs.Bare.{is_bare_kind}
-use Rattle.schema_json_walk.specs.Parts.{Part, type_reference, parent, principal, resource, action_parent, action_attributes, open_record, external_not_bare}
-use Rattle.schema_json_walk.specs.Walk.{visit_where, at_type, at_variant, at_record, at_attribute, at_context, of_type, of_variant, of_attribute, of_entries, of_context, of_parents, of_principals, of_resources, of_kind, of_entity, of_apply, of_uid, of_uids, of_action}
+use Rattle.schema_json_walk.specs.Parts.{Part, type_reference, parent, principal, resource, action_parent}
+use Rattle.schema_json_walk.specs.Parts.{action_attributes, open_record, external_not_bare}
+use Rattle.schema_json_walk.specs.Walk.{visit_where, at_type, at_variant, at_record, at_attribute, at_context, of_type}
+use Rattle.schema_json_walk.specs.Walk.{of_variant, of_attribute, of_entries, of_context, of_parents, of_principals}
+use Rattle.schema_json_walk.specs.Walk.{of_resources, of_kind, of_entity, of_apply, of_uid, of_uids, of_action}
 use Rattle.schema_json_walk.proofs.Layers.{record_walked, variant_walked, attribute_walked}
 use Rattle.schema_convert_types.specs.Declarations.{as_written}
-use Rattle.schema_readback.specs.Meant.{type_of_meaning, attributes_of_meaning, tags_of_meaning, entity_as, ref_of_meaning, members_of_meaning, action_as}
+use Rattle.schema_readback.specs.Meant.{type_of_meaning, attributes_of_meaning, tags_of_meaning, entity_as}
+use Rattle.schema_readback.specs.Meant.{ref_of_meaning, members_of_meaning, action_as}
 use Rattle.schema_readback.specs.Written.{WrittenRef}
 use Rattle.schema_build_expand.specs.Scope.{Scope}
 use Rattle.schema_build_closed.specs.Kinds.{HasBothOrNeither, AppliesWhereOwn}
 use Rattle.schema_build_closed.specs.Ordered.{meant_names, IsOrderedType, AreOrderedTypes}
-use Rattle.schema_says.specs.DeclarationsSay.{written_paths, TagsSay, KindSays, written_ref, ParentsSay, SpecSays, members_said, AppliesSay}
+use Rattle.schema_says.specs.DeclarationsSay.{written_paths, TagsSay, KindSays, written_ref, ParentsSay, SpecSays}
+use Rattle.schema_says.specs.DeclarationsSay.{members_said, AppliesSay}
 use Rattle.schema_says.specs.TypesSay.{TypeSays, AttributeSays}
 use Rattle.schema_build_says.specs.Entries.{TagsMeanThemselves}
 use Rattle.schema_build_says.specs.Themselves.{MeansItself, MeanThemselves}

@@ -9,7 +9,8 @@ use Rattle.schema_json.specs.declared.action_type.ActionType.{ActionType}
 use Rattle.schema_json.specs.declared.fragment.Fragment.{Fragment}
 use Rattle.schema_readback.specs.Meant.{entity_as, action_as, name_or_none}
 use Rattle.schema_build_checks.specs.DeclaredAt.{ActionAt}
-use Rattle.schema_build_hierarchy.specs.Declarations.{Declared, DeclaredEntity, entity_name, action_key, declared_entities, declared_actions}
+use Rattle.schema_build_hierarchy.specs.Declarations.{Declared, DeclaredEntity, entity_name, action_key}
+use Rattle.schema_build_hierarchy.specs.Declarations.{declared_entities, declared_actions}
 use Rattle.schema_build.specs.Meaning.{key_of}
 use Rattle.schema_says.specs.DeclarationsSay.{KindSays, AppliesSay}
 use Rattle.schema_says.specs.FragmentsSay.{name_components}

@@ -1,5 +1,6 @@
 -- A name that is defined as a common type and is not declared is a builtin name.
-use Rattle.std.proofs.Common.{◌≡◌, ℕ, suc, Bool, true, false, ◌||◌, List, [], ◌∷◌, ◌++◌, map, codes, Option, Some, None, refl, sym, ap, ◌∙◌, subst, inl, inr}
+use Rattle.std.proofs.Common.{◌≡◌, ℕ, suc, Bool, true, false, ◌||◌, List, [], ◌∷◌, ◌++◌, map, codes, Option, Some, None}
+use Rattle.std.proofs.Common.{refl, sym, ap, ◌∙◌, subst, inl, inr}
 use Rattle.std.specs.Prelude.{◌⊎◌, IsSome, slice_get, if◌then◌else◌}
 use Rattle.std.specs.List.{list_any, flat_map, AllByRecursion}
 use Rattle.std.specs.Map.{keys_of}
@@ -55,11 +56,13 @@ keys_in ns (c ∷ cs) = λ i. same_parts ns c.0.id.id c.1.loc i ∷ keys_in ns c
 
 module _ {G : named.Ghosts RawName} where
   keys_of_all : (es : List (Option Name × NamespaceDefinition RawName G))
-      → map components_of (keys_of (flat_map (λ e. map (common_entry e.0) e.1.common_types) es)) ≡ flat_map (λ e. commons_in e.0 e.1) es
+      → map components_of (keys_of (flat_map (λ e. map (common_entry e.0) e.1.common_types) es))
+      ≡ flat_map (λ e. commons_in e.0 e.1) es
   keys_of_all [] = refl
   keys_of_all (e ∷ es) =
       let first = map (common_entry e.0) e.1.common_types in
-      let others = flat_map (λ (e : Option Name × NamespaceDefinition RawName G). map (common_entry e.0) e.1.common_types) es in
+      let others = flat_map (λ (e : Option Name × NamespaceDefinition RawName G). map (common_entry e.0)
+      e.1.common_types) es in
       ap (map components_of) (map-append (λ (x : InternalName × TypeAt). x.0) first others)
       ∙ map-append components_of (keys_of first) (keys_of others)
       ∙ (λ i. keys_in e.0 e.1.common_types i ++ keys_of_all es i)
@@ -70,12 +73,14 @@ any_seen f test [] = refl
 any_seen f test (x ∷ xs) = ap (λ b. test (f x) || b) (any_seen f test xs)
 
 -- the entry whose key passes a test
-entry_passing : {V : Type 0} (test : InternalName → Bool) (es : List (InternalName × V)) → list_any test (keys_of es) ≡ true
+entry_passing : {V : Type 0} (test : InternalName → Bool) (es : List (InternalName × V))
+    → list_any test (keys_of es) ≡ true
     → (k : ℕ) × (e : InternalName × V) × (slice_get es k ≡ Some e) × (test e.0 ≡ true)
 entry_passing test [] h = cc
 entry_passing test (e ∷ es) h = go (entry_passing test es) (either (test e.0) (list_any test (keys_of es)) h)
   where
-    go : (list_any test (keys_of es) ≡ true → (k : ℕ) × (d : InternalName × _) × (slice_get es k ≡ Some d) × (test d.0 ≡ true))
+    go : (list_any test (keys_of es) ≡ true
+        → (k : ℕ) × (d : InternalName × _) × (slice_get es k ≡ Some d) × (test d.0 ≡ true))
         → (test e.0 ≡ true) ⊎ (list_any test (keys_of es) ≡ true)
         → (k : ℕ) × (d : InternalName × _) × (slice_get (e ∷ es) k ≡ Some d) × (test d.0 ≡ true)
     go more (inl here) = (0, e, refl, here)
@@ -96,10 +101,12 @@ module _ {N : Type 0} (s : Scope N) where
 
   word_builtin : (w : List ℕ) → in_table s w ≡ true → IsBuiltin (w ∷ [])
   word_builtin w h =
-      if_some (bytes_eq w (codes "Bool")) (bytes_eq w (codes "Long")) (bytes_eq w (codes "String")) (in_table s w) _ _ _ _ h
+      if_some (bytes_eq w (codes "Bool")) (bytes_eq w (codes "Long")) (bytes_eq w (codes "String"))
+      (in_table s w) _ _ _ _ h
 
   -- both names of a builtin word
-  named_builtin : (t : Tests) (w : List ℕ) (n : List (List ℕ)) → IsBuiltin (w ∷ []) → among (names_of_builtin t w) n ≡ true
+  named_builtin : (t : Tests) (w : List ℕ) (n : List (List ℕ)) → IsBuiltin (w ∷ [])
+      → among (names_of_builtin t w) n ≡ true
       → IsBuiltin n
   named_builtin t w n is h = go (is_hidden t w) h
     where
@@ -109,7 +116,8 @@ module _ {N : Type 0} (s : Scope N) where
       plain : same_name n (w ∷ []) ≡ true → IsBuiltin n
       plain e = subst IsBuiltin (sym (equal_names n (w ∷ []) e)) is
 
-      either_of : (a b : Bool) → (a ≡ true → IsBuiltin n) → (b ≡ true → IsBuiltin n) → (a || (b || false)) ≡ true → IsBuiltin n
+      either_of : (a b : Bool) → (a ≡ true → IsBuiltin n) → (b ≡ true → IsBuiltin n) → (a || (b || false)) ≡ true
+          → IsBuiltin n
       either_of true b f g h = f refl
       either_of false true f g h = g refl
       either_of false false f g h = cc
@@ -118,7 +126,8 @@ module _ {N : Type 0} (s : Scope N) where
       one_of true f h = f refl
       one_of false f h = cc
 
-      go : (hidden : Bool) → among ((codes "__cedar" ∷ w ∷ []) ∷ (if hidden then [] else (w ∷ []) ∷ [])) n ≡ true → IsBuiltin n
+      go : (hidden : Bool) → among ((codes "__cedar" ∷ w ∷ []) ∷ (if hidden then [] else (w ∷ []) ∷ [])) n ≡ true
+          → IsBuiltin n
       go true h = one_of (same_name n (codes "__cedar" ∷ w ∷ [])) full h
       go false h = either_of (same_name n (codes "__cedar" ∷ w ∷ [])) (same_name n (w ∷ [])) full plain h
 
@@ -127,7 +136,8 @@ module _ {N : Type 0} (s : Scope N) where
   among_builtins t [] n all h = cc
   among_builtins t (w ∷ ws) n all h =
       go (either (among (names_of_builtin t w) n) (among (names_of_builtins t ws) n)
-      (sym (list_any-append (same_name n) (names_of_builtin t w) (names_of_builtins t ws)) ∙ h)) (among_builtins t ws n all.1)
+      (sym (list_any-append (same_name n) (names_of_builtin t w) (names_of_builtins t ws)) ∙ h))
+      (among_builtins t ws n all.1)
     where
       go : (among (names_of_builtin t w) n ≡ true) ⊎ (among (names_of_builtins t ws) n ≡ true)
           → (among (names_of_builtins t ws) n ≡ true → IsBuiltin n) → IsBuiltin n
@@ -154,7 +164,8 @@ module _ {G : named.Ghosts RawName} (f : Fragment RawName G) (table : ExtensionT
   declares n h =
       let test : InternalName → Bool = λ k. same_name n (components_of k) in
       let there : list_any test (keys_of (declared_commons f)) ≡ true =
-      sym (any_seen components_of (same_name n) (keys_of (declared_commons f))) ∙ ap (λ l. among l n) (keys_of_all f.0) ∙ h in
+      sym (any_seen components_of (same_name n) (keys_of (declared_commons f)))
+      ∙ ap (λ l. among l n) (keys_of_all f.0) ∙ h in
       let kept : list_any test (keys_of (commons_in_order f)) ≡ true =
       with_there names_in_order test (λ a b e. ap (same_name n) (names_equal a b e)) [] (declared_commons f) there in
       let e = entry_passing test (commons_in_order f) kept in (

@@ -1,5 +1,6 @@
 -- What the code looks at of a builtin name: its last word.
-use Rattle.std.proofs.Common.{◌≡◌, ℕ, ◌≤◌, Bool, true, false, ◌||◌, List, [], ◌∷◌, map, length, get_or, codes, Some, None, refl, sym, ap, ◌∙◌, arith, subst}
+use Rattle.std.proofs.Common.{◌≡◌, ℕ, ◌≤◌, Bool, true, false, ◌||◌, List, [], ◌∷◌, map, length, get_or, codes, Some}
+use Rattle.std.proofs.Common.{None, refl, sym, ap, ◌∙◌, arith, subst}
 use Rattle.std.specs.Prelude.{IsSome, if◌then◌else◌}
 use Rattle.std.specs.List.{list_any}
 use Rattle.std.specs.Str.{bytes_eq}
@@ -37,10 +38,12 @@ module _ {N : Type 0} (s : Scope N) where
       → builtin s (components_of name) ≡ builtin s (word.text ∷ [])
   last_decides name others word same long is h =
       ap (λ l. builtin s (name.first.text ∷ texts_of l)) (sym same)
-      ∙ last_word name.first.text others word long is (subst (λ l. IsSome (builtin s (name.first.text ∷ texts_of l))) (sym same) h)
+      ∙ last_word name.first.text others word long is
+      (subst (λ l. IsSome (builtin s (name.first.text ∷ texts_of l))) (sym same) h)
 
   table_only : (a b c d : Bool) (w x y z : PlainType) → a ≡ false → b ≡ false → c ≡ false
-      → IsSome (if a then Some w else (if b then Some x else (if c then Some y else (if d then Some z else None)))) → d ≡ true
+      → IsSome (if a then Some w else (if b then Some x else (if c then Some y else (if d then Some z else None))))
+      → d ≡ true
   table_only true b c d w x y z p q r h = cc
   table_only false true c d w x y z p q r h = cc
   table_only false false true d w x y z p q r h = cc

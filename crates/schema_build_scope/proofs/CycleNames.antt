@@ -64,8 +64,13 @@ module _ {G : named.Ghosts RawName} (f : Fragment RawName G) (table : ExtensionT
         let inside : slice_get (keys_of (commons_in_order f)) k ≡ Some e.0 =
         slice_get-map (λ (x : InternalName × TypeAt). x.0) (commons_in_order f) k ∙ ap (option_map (λ x. x.0)) at in
         All-contains (Contains (keys_of (declared_commons f))) (keys_of (commons_in_order f)) e.0
-        (map_keys names_in_order (Contains (keys_of (declared_commons f))) (declared_commons f) (All-contains_itself (keys_of (declared_commons f))))
-        (k, slice_get_within (keys_of (commons_in_order f)) k e.0 inside, get_or_from_slice_get (keys_of (commons_in_order f)) k e.0 e.0 inside)
+        (map_keys names_in_order (Contains (keys_of (declared_commons f))) (declared_commons f)
+        (All-contains_itself (keys_of (declared_commons f)))) (
+          k,
+          slice_get_within (keys_of (commons_in_order f)) k e.0 inside,
+          get_or_from_slice_get
+              (keys_of (commons_in_order f)) k e.0 e.0 inside,
+        )
 
     not_below : (v : ℕ) (e : InternalName × TypeAt) → slice_get (commons_in_order f) v ≡ Some e
         → ((u : ℕ) (d : Declared RawName) → slice_get s.commons u ≡ Some d → TypeReaches s d.name d.name → v ≤ u)
@@ -88,19 +93,24 @@ module _ {G : named.Ghosts RawName} (f : Fragment RawName G) (table : ExtensionT
               let both : e ≡ x.0 = some_is e x.0 (sym at ∙ ap (slice_get (commons_in_order f)) eq ∙ x.1) in
               same_not_below x.0.0 e.0 (ap (λ (y : InternalName × TypeAt). components_of y.0) (sym both)) less_key
           | inr apart ↦
-              let above : names_in_order e.0 x.0.0 ≡ Less = key_below (commons_in_order f) up v u e x.0 at x.1 (omega arith) in
-              let h : Less ≡ ordering_reverse Less = sym less_key ∙ names_total.antisymm x.0.0 e.0 ∙ ap ordering_reverse above in
+              let above : names_in_order e.0 x.0.0
+              ≡ Less = key_below (commons_in_order f) up v u e x.0 at x.1 (omega arith) in
+              let h : Less ≡ ordering_reverse Less = sym less_key ∙ names_total.antisymm x.0.0 e.0
+              ∙ ap ordering_reverse above in
               cc
         ]
 
-    pub named_cycle : (v : ℕ) → IsLeastRoundRank s v → (e : SchemaError) → NamesCycleAt entries v e → HasCommonCycle f table e
+    pub named_cycle : (v : ℕ) → IsLeastRoundRank s v → (e : SchemaError) → NamesCycleAt entries v e
+        → HasCommonCycle f table e
     named_cycle v r (CycleInCommonTypeReferences e) (c, at) =
         let lent = lent_at_rank v (e.ty, c) at in
         let is : r.ty ≡ declaration (on_value lent_type (e.ty, c)) =
-        some_is r.ty _ (sym r.here ∙ slice_get-map declaration (commons_in_order f) v ∙ ap (option_map declaration) lent) in
+        some_is r.ty _ (sym r.here ∙ slice_get-map declaration (commons_in_order f) v
+        ∙ ap (option_map declaration) lent) in
         record {
           declared = declared_key v (on_value lent_type (e.ty, c)) lent;
           round = subst (λ n. TypeReaches s n n) (ap (λ (d : Declared RawName). d.name) is) r.round;
-          least = λ other round. not_lt other e.ty (not_below v (on_value lent_type (e.ty, c)) lent r.least other round);
+          least = λ other round. not_lt other e.ty
+              (not_below v (on_value lent_type (e.ty, c)) lent r.least other round);
         }
     named_cycle v r _ h = absurd h

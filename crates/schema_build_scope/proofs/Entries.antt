@@ -57,10 +57,12 @@ module _ {K X : Type 0} (cmp : K → K → Ordering) where
     insert_kept (e ∷ es) k v h = go (insert_kept es k v) (cmp k e.0)
       where
         go : (list_any test (keys_of es) ≡ true → list_any test (keys_of (insert_entry cmp es k v)) ≡ true)
-            → (o : Ordering) → list_any test (keys_of (match_ordering o ((k, v) ∷ e ∷ es) ((e.0, v) ∷ es) (e ∷ insert_entry cmp es k v))) ≡ true
+            → (o : Ordering) → list_any test
+            (keys_of (match_ordering o ((k, v) ∷ e ∷ es) ((e.0, v) ∷ es) (e ∷ insert_entry cmp es k v))) ≡ true
         go more Less = second_true (test k) (list_any test (keys_of (e ∷ es))) h
         go more Equal = h
-        go more Greater = either_more (test e.0) (list_any test (keys_of es)) (list_any test (keys_of (insert_entry cmp es k v))) more h
+        go more Greater = either_more (test e.0) (list_any test (keys_of es))
+            (list_any test (keys_of (insert_entry cmp es k v))) more h
 
     with_kept : (m es : List (K × X)) → list_any test (keys_of m) ≡ true
         → list_any test (keys_of (with_entries cmp m es)) ≡ true
@@ -74,7 +76,9 @@ module _ {K X : Type 0} (cmp : K → K → Ordering) where
       insert_there [] k v h = first_true (test k) false h
       insert_there (e ∷ es) k v h = go (insert_there es k v h) (cmp k e.0) refl
         where
-          go : list_any test (keys_of (insert_entry cmp es k v)) ≡ true → (o : Ordering) → cmp k e.0 ≡ o → list_any test (keys_of (match_ordering o ((k, v) ∷ e ∷ es) ((e.0, v) ∷ es) (e ∷ insert_entry cmp es k v))) ≡ true
+          go : list_any test (keys_of (insert_entry cmp es k v)) ≡ true → (o : Ordering) → cmp k e.0 ≡ o
+              → list_any test (keys_of (match_ordering o ((k, v) ∷ e ∷ es) ((e.0, v) ∷ es)
+              (e ∷ insert_entry cmp es k v))) ≡ true
           go more Less is = first_true (test k) (list_any test (keys_of (e ∷ es))) h
           go more Equal is = first_true (test e.0) (list_any test (keys_of es)) (sym (respects k e.0 is) ∙ h)
           go more Greater is = second_true (test e.0) (list_any test (keys_of (insert_entry cmp es k v))) more
@@ -99,7 +103,9 @@ module _ {K X : Type 0} (cmp : K → K → Ordering) where
     insert_behind x [] k v lt a = (lt, tt)
     insert_behind x (e ∷ es) k v lt a = go (insert_behind x es k v lt a.1) (cmp k e.0)
       where
-        go : AllByRecursion (λ y. cmp x y ≡ Less) (keys_of (insert_entry cmp es k v)) → (r : Ordering) → AllByRecursion (λ y. cmp x y ≡ Less) (keys_of (match_ordering r ((k, v) ∷ e ∷ es) ((e.0, v) ∷ es) (e ∷ insert_entry cmp es k v)))
+        go : AllByRecursion (λ y. cmp x y ≡ Less) (keys_of (insert_entry cmp es k v)) → (r : Ordering)
+            → AllByRecursion (λ y. cmp x y ≡ Less)
+            (keys_of (match_ordering r ((k, v) ∷ e ∷ es) ((e.0, v) ∷ es) (e ∷ insert_entry cmp es k v)))
         go more Less = (lt, a)
         go more Equal = a
         go more Greater = (a.0, more)
@@ -111,7 +117,8 @@ module _ {K X : Type 0} (cmp : K → K → Ordering) where
     insert_sorted (e ∷ es) k v up = go (insert_sorted es k v up.1) (cmp k e.0) refl
       where
         go : IsStrictlySortedBy cmp (keys_of (insert_entry cmp es k v)) → (r : Ordering) → cmp k e.0 ≡ r
-            → IsStrictlySortedBy cmp (keys_of (match_ordering r ((k, v) ∷ e ∷ es) ((e.0, v) ∷ es) (e ∷ insert_entry cmp es k v)))
+            → IsStrictlySortedBy cmp (keys_of
+            (match_ordering r ((k, v) ∷ e ∷ es) ((e.0, v) ∷ es) (e ∷ insert_entry cmp es k v)))
         go more Less is = ((is, below_all cmp o k e.0 (keys_of es) is up.0), up)
         go more Equal is = up
         go more Greater is = (insert_behind e.0 es k v (turned cmp o k e.0 is) up.0, more)
@@ -133,7 +140,9 @@ module _ {K X Y : Type 0} (cmp : K → K → Ordering) (h : X → Y) where
   insert_seen (e ∷ es) k v = go (insert_seen es k v) (cmp k e.0)
     where
       go : map (on_value h) (insert_entry cmp es k v) ≡ insert_entry cmp (map (on_value h) es) k (h v) → (o : Ordering)
-          → map (on_value h) (match_ordering o ((k, v) ∷ e ∷ es) ((e.0, v) ∷ es) (e ∷ insert_entry cmp es k v)) ≡ match_ordering o ((k, h v) ∷ on_value h e ∷ map (on_value h) es) ((e.0, h v) ∷ map (on_value h) es) (on_value h e ∷ insert_entry cmp (map (on_value h) es) k (h v))
+          → map (on_value h) (match_ordering o ((k, v) ∷ e ∷ es) ((e.0, v) ∷ es) (e ∷ insert_entry cmp es k v))
+          ≡ match_ordering o ((k, h v) ∷ on_value h e ∷ map (on_value h) es) ((e.0, h v) ∷ map (on_value h) es)
+          (on_value h e ∷ insert_entry cmp (map (on_value h) es) k (h v))
       go more Less = refl
       go more Equal = refl
       go more Greater = ap (λ l. on_value h e ∷ l) more

@@ -59,8 +59,13 @@ module _ {G : named.Ghosts RawName} (f : Fragment RawName G) (table : ExtensionT
         let same : components_of e.0 ≡ components_of q =
         ap (λ (x : InternalName × TypeAt). components_of x.0) b.2 ∙ ap (λ (x : Declared RawName). x.name) a.2 ∙ is in
         let here : get_or entries j e ≡ e = get_or_from_slice_get entries j e e b.1 in
-        let below : names_in_order (get_or entries j e).0 q ≡ Less → ⊥ = λ less. same_not_below e.0 q same (ap (λ (x : InternalName × V). names_in_order x.0 q) (sym here) ∙ less) in
-        let above : names_in_order (get_or entries j e).0 q ≡ Greater → ⊥ = λ greater. same_not_below q e.0 (sym same) (names_total.antisymm q e.0 ∙ ap ordering_reverse (ap (λ (x : InternalName × V). names_in_order x.0 q) (sym here) ∙ greater)) in
+        let below : names_in_order (get_or entries j e).0 q ≡ Less
+        → ⊥ = λ less. same_not_below e.0 q same
+        (ap (λ (x : InternalName × V). names_in_order x.0 q) (sym here) ∙ less) in
+        let above : names_in_order (get_or entries j e).0 q ≡ Greater
+        → ⊥ = λ greater. same_not_below q e.0 (sym same)
+        (names_total.antisymm q e.0 ∙ ap ordering_reverse
+        (ap (λ (x : InternalName × V). names_in_order x.0 q) (sym here) ∙ greater)) in
         elim (cases_lt j k) [
           | inl lt ↦ below (gap.below j e lt)
           | inr ge ↦ above (gap.above j e ge (slice_get_within entries j e b.1))

@@ -1,5 +1,6 @@
 -- Where the rows on extension types, features and references to types do not hold, each part of each type is meant.
-use Rattle.std.proofs.Common.{◌≡◌, zero, suc, Bool, true, false, ◌||◌, List, [], ◌∷◌, ◌++◌, get_or, map, All, Contains, Option, Some, None, refl, sym, ap, ◌∙◌, subst, arith}
+use Rattle.std.proofs.Common.{◌≡◌, zero, suc, Bool, true, false, ◌||◌, List, [], ◌∷◌, ◌++◌, get_or, map, All, Contains}
+use Rattle.std.proofs.Common.{Option, Some, None, refl, sym, ap, ◌∙◌, subst, arith}
 use Rattle.std.specs.Prelude.{IsSome, if◌then◌else◌}
 use Rattle.std.specs.List.{flat_map, list_any}
 use Rattle.std.specs.Option.{option_map, is_some}
@@ -18,7 +19,9 @@ use Rattle.cedar_names.specs.declared.extension_table.ExtensionTable.{ExtensionT
 use Rattle.schema_json.specs.declared.fragment.Fragment.{Fragment}
 use Rattle.schema_json.specs.declared.fragment.NamespaceDefinition.{NamespaceDefinition}
 use Rattle.schema_json.specs.declared.types.Type.{«Type»}
-use Rattle.schema_json_walk.specs.Parts.{Part, type_reference, context_reference, parent, principal, resource, action_parent, extension_type, open_record, action_attributes, external_not_bare}
+use Rattle.schema_json_walk.specs.Parts.{Part, type_reference, context_reference, parent, principal, resource}
+use Rattle.schema_json_walk.specs.Parts.{action_parent, extension_type, open_record, action_attributes}
+use Rattle.schema_json_walk.specs.Parts.{external_not_bare}
 use Rattle.schema_json_walk.specs.Walk.{of_type, of_namespace, of_fragment, parts}
 use Rattle.schema_json_walk.proofs.ByParts.{type_by_parts}
 use Rattle.schema_resolve_definitions.specs.Declarations.{name_of, alone}
@@ -41,7 +44,8 @@ use Rattle.schema_build_expand.specs.Rows.{IsMeant}
 use Rattle.schema_build_scope.specs.FragmentScope.{fragment_scope, meant_in, by_components}
 use Rattle.schema_build_scope.specs.Parts.{IsTypeMeant, IsAllKnown, AreTypesMeant}
 use Rattle.schema_build_scope.specs.UndefinedRows.{NamesTypes, undefined_alone}
-use Rattle.schema_build_scope.proofs.Quiet.{IsOfParts, empty_parted, quiet_in, quiet_namespace, quiet_common, quiet_shape, quiet_tags, quiet_context}
+use Rattle.schema_build_scope.proofs.Quiet.{IsOfParts, empty_parted, quiet_in, quiet_namespace, quiet_common}
+use Rattle.schema_build_scope.proofs.Quiet.{quiet_shape, quiet_tags, quiet_context}
 use Rattle.schema_build_scope.proofs.TypeParts.{only_within, parts_within}
 
 all_of : {A : Type 0} (P : A → Type 0) (xs : List A) → ((x : A) → Contains xs x → P x) → All P xs
@@ -74,7 +78,8 @@ no_types us never = go (types_among us) refl
     go : (cs : List ConditionalName) → types_among us ≡ cs → types_among us ≡ []
     go [] e = e
     go (c ∷ cs) e =
-        absurd (never (error.TypeNotDefined (record { undefined_types = types_among us })) (refl, λ none. (let h : c ∷ cs ≡ [] = sym e ∙ none in cc)))
+        absurd (never (error.TypeNotDefined (record { undefined_types = types_among us }))
+        (refl, λ none. (let h : c ∷ cs ≡ [] = sym e ∙ none in cc)))
 
 -- no reference to a type is among them
 abbrev NoTypes : List Undefined → Type 0
@@ -92,7 +97,8 @@ types_parted = record {
 }
 
 -- a reference that is not among them means something
-targeted : (o : Option InternalName) (c : ConditionalName) → NoTypes (unless o (among.type_reference c)) → is_some o ≡ true
+targeted : (o : Option InternalName) (c : ConditionalName) → NoTypes (unless o (among.type_reference c))
+    → is_some o ≡ true
 targeted None c e = cc
 targeted (Some n) c e = refl
 
@@ -141,7 +147,8 @@ module _ {G : named.Ghosts RawName} (f : Fragment RawName G) (table : ExtensionT
           subst (IsMeant (fragment_scope f table) (name_of ns)) (is_only (type_reference kind name) c)
           (reference_meant (tests_of (defined f table)) (name_of ns) kind name types)
       go (extension_type id) known fits types c =
-          subst (IsMeant (fragment_scope f table) (name_of ns)) (is_only (extension_type id) c) (known_extension table id known)
+          subst (IsMeant (fragment_scope f table) (name_of ns)) (is_only (extension_type id) c)
+          (known_extension table id known)
       go open_record known fits types c = cc
       go (context_reference name) known fits types c = absurd (nowhere c)
       go (parent name) known fits types c = absurd (nowhere c)
@@ -153,7 +160,8 @@ module _ {G : named.Ghosts RawName} (f : Fragment RawName G) (table : ExtensionT
 
   module _ (known : IsAllKnown f table) where
     extensions : of_fragment (λ ns part. unknown_extension table part) f ≡ []
-    extensions = none_first NamesExtension extension_error (of_fragment (λ ns part. unknown_extension table part) f) known.extensions
+    extensions = none_first NamesExtension extension_error (of_fragment (λ ns part. unknown_extension table part) f)
+        known.extensions
 
     features : of_fragment (λ ns part. unsupported part) f ≡ []
     features = none_first NamesFeature feature_error (of_fragment (λ ns part. unsupported part) f) known.features
@@ -171,38 +179,48 @@ module _ {G : named.Ghosts RawName} (f : Fragment RawName G) (table : ExtensionT
           subst (All (IsMeant (fragment_scope f table) (name_of ns))) (sym (parts_within RawName ty))
           (all_flat (IsMeant (fragment_scope f table) (name_of ns)) (only_within RawName) (parts ty)
           (λ p c q d. part_meant ns p
-          (quiet_in (λ us. us ≡ []) empty_parted (unknown_extension table) (parts ty) p c (sym (type_by_parts (unknown_extension table) ty) ∙ no_extension))
-          (quiet_in (λ us. us ≡ []) empty_parted unsupported (parts ty) p c (sym (type_by_parts unsupported ty) ∙ no_feature))
-          (quiet_in NoTypes types_parted find_types (parts ty) p c (subst NoTypes (type_by_parts find_types ty) no_type))
+          (quiet_in (λ us. us ≡ []) empty_parted (unknown_extension table) (parts ty) p c
+          (sym (type_by_parts (unknown_extension table) ty) ∙ no_extension))
+          (quiet_in (λ us. us ≡ []) empty_parted unsupported (parts ty) p c
+          (sym (type_by_parts unsupported ty) ∙ no_feature))
+          (quiet_in NoTypes types_parted find_types (parts ty) p c
+          (subst NoTypes (type_by_parts find_types ty) no_type))
           q d))
 
       module _ (n : NamespaceDefinition RawName G) (among : Contains f.0 (ns, n)) where
         extensions_in : of_namespace (unknown_extension table) n ≡ []
-        extensions_in = quiet_namespace (λ us. us ≡ []) empty_parted (λ ns part. unknown_extension table part) f ns n among extensions
+        extensions_in = quiet_namespace (λ us. us ≡ []) empty_parted (λ ns part. unknown_extension table part) f ns n
+            among extensions
 
         features_in : of_namespace unsupported n ≡ []
         features_in = quiet_namespace (λ us. us ≡ []) empty_parted (λ ns part. unsupported part) f ns n among features
 
         types_in : NoTypes (of_namespace find_types n)
-        types_in = quiet_namespace NoTypes types_parted (λ ns. by_reference (untargeted_in (tests_of (defined f table)) (name_of ns))) f ns n among types
+        types_in = quiet_namespace NoTypes types_parted
+            (λ ns. by_reference (untargeted_in (tests_of (defined f table)) (name_of ns))) f ns n among types
 
     -- each type of the fragment
     pub types_meant : AreTypesMeant f table
     types_meant = record {
       commons = λ ns n e in_f in_n. type_meant ns e.1.ty
-          (quiet_common (λ us. us ≡ []) empty_parted (unknown_extension table) (λ name. refl) n (extensions_in ns n in_f) e in_n)
+          (quiet_common (λ us. us ≡ []) empty_parted (unknown_extension table) (λ name. refl) n
+          (extensions_in ns n in_f) e in_n)
           (quiet_common (λ us. us ≡ []) empty_parted unsupported (λ name. refl) n (features_in ns n in_f) e in_n)
           (quiet_common NoTypes types_parted (find_types ns) (λ name. refl) n (types_in ns n in_f) e in_n);
       shapes = λ ns n e s in_f in_n is. type_meant ns s.shape.0
-          (quiet_shape (λ us. us ≡ []) empty_parted (unknown_extension table) (λ name. refl) n (extensions_in ns n in_f) e s in_n is)
+          (quiet_shape (λ us. us ≡ []) empty_parted (unknown_extension table) (λ name. refl) n
+          (extensions_in ns n in_f) e s in_n is)
           (quiet_shape (λ us. us ≡ []) empty_parted unsupported (λ name. refl) n (features_in ns n in_f) e s in_n is)
           (quiet_shape NoTypes types_parted (find_types ns) (λ name. refl) n (types_in ns n in_f) e s in_n is);
       tags = λ ns n e s ty in_f in_n is there. type_meant ns ty
-          (quiet_tags (λ us. us ≡ []) empty_parted (unknown_extension table) (λ name. refl) n (extensions_in ns n in_f) e s ty in_n is there)
-          (quiet_tags (λ us. us ≡ []) empty_parted unsupported (λ name. refl) n (features_in ns n in_f) e s ty in_n is there)
+          (quiet_tags (λ us. us ≡ []) empty_parted (unknown_extension table) (λ name. refl) n
+          (extensions_in ns n in_f) e s ty in_n is there)
+          (quiet_tags (λ us. us ≡ []) empty_parted unsupported (λ name. refl) n (features_in ns n in_f) e s ty
+          in_n is there)
           (quiet_tags NoTypes types_parted (find_types ns) (λ name. refl) n (types_in ns n in_f) e s ty in_n is there);
       contexts = λ ns n e a in_f in_n is. type_meant ns a.context.0
-          (quiet_context (λ us. us ≡ []) empty_parted (unknown_extension table) (λ name. refl) n (extensions_in ns n in_f) e a in_n is)
+          (quiet_context (λ us. us ≡ []) empty_parted (unknown_extension table) (λ name. refl) n
+          (extensions_in ns n in_f) e a in_n is)
           (quiet_context (λ us. us ≡ []) empty_parted unsupported (λ name. refl) n (features_in ns n in_f) e a in_n is)
           (quiet_context NoTypes types_parted (find_types ns) (λ name. refl) n (types_in ns n in_f) e a in_n is);
     }

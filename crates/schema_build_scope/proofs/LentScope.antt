@@ -1,5 +1,6 @@
 -- The declared common types that are lent are those of the fragment.
-use Rattle.std.proofs.Common.{◌≡◌, ℕ, suc, ◌≤◌, List, [], ◌∷◌, length, map, All, Contains, Option, Some, refl, sym, ap, ◌∙◌, subst, arith}
+use Rattle.std.proofs.Common.{◌≡◌, ℕ, suc, ◌≤◌, List, [], ◌∷◌, length, map, All, Contains, Option, Some, refl, sym, ap}
+use Rattle.std.proofs.Common.{◌∙◌, subst, arith}
 use Rattle.std.specs.Prelude.{slice_get}
 use Rattle.std.specs.Borrow.{Bor}
 use Rattle.std.specs.List.{flat_map}
@@ -59,13 +60,16 @@ module _ {G : named.Ghosts RawName} (f : Fragment RawName G) (table : ExtensionT
   values_meant : AreTypesMeant f table → All IsValueMeant (values_of (commons_in_order f))
   values_meant meant =
       map_values names_in_order IsValueMeant (declared_commons f)
-      (each_value IsValueMeant (λ (e : Option Name × NamespaceDefinition RawName G). map (common_entry e.0) e.1.common_types) f.0
-      (λ e in_f. each_entry IsValueMeant (common_entry e.0) e.1.common_types (λ d in_n. meant.commons e.0 e.1 d in_f in_n)))
+      (each_value IsValueMeant (λ (e : Option Name × NamespaceDefinition RawName G). map (common_entry e.0)
+      e.1.common_types) f.0
+      (λ e in_f. each_entry IsValueMeant (common_entry e.0) e.1.common_types
+      (λ d in_n. meant.commons e.0 e.1 d in_f in_n)))
 
   module _ {R V : Type 0} (h : V → TypeAt) (entries : List (InternalName × V))
       (known : map (on_value h) entries ≡ commons_in_order f) (scope : R → Scope RawName)
       (place : R → Option InternalName) (commons : List (R × Bor («Type» RawName)))
-      (lent : map (λ (c : R × Bor («Type» RawName)). let a : TypeAt = record { place = place c.0; ty = c.1.now } in a) commons
+      (lent : map (λ (c : R × Bor («Type» RawName)). let a : TypeAt = record { place = place c.0; ty = c.1.now } in a)
+      commons
       ≡ map (λ (e : InternalName × V). h e.1) entries) where
     abbrev at_lent : R × Bor («Type» RawName) → TypeAt
     at_lent c = record { place = place c.0; ty = c.1.now }
@@ -123,7 +127,8 @@ module _ {G : named.Ghosts RawName} (f : Fragment RawName G) (table : ExtensionT
           record {
             ty = d.0;
             here = d.1;
-            round = round_named s scope place commons are lent_count (fragment_apart f table) v d.0.name (d.0, d.1, refl) h.round;
+            round = round_named s scope place commons are lent_count (fragment_apart f table) v d.0.name
+                (d.0, d.1, refl) h.round;
             least = λ u other at round.
                 let r = round_ranked s scope place commons are lent_count (fragment_apart f table) other.name round in
                 let same : r.0 ≡ u = fragment_apart f table other.name r.0 u r.1 (other, at, refl) in

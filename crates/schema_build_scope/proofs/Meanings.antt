@@ -55,14 +55,16 @@ module _ (t : Tests) (ns : Option InternalName) (kind : ReferenceType) (name : R
   pub own_meant : (b : Bool) → own_kind t ns kind name.name ≡ Some b
       → Some (meant_candidate ns name.name (record { is_own = true; is_common = b })) ≡ means t ns kind name
   own_meant b h =
-      ap (λ k. let m : InternalName × ReferenceType = (candidate ns name.name true, k) in Some m) (sym (own_kind_told t ns kind name.name b h))
+      ap (λ k. let m : InternalName × ReferenceType = (candidate ns name.name true, k) in Some m)
+      (sym (own_kind_told t ns kind name.name b h))
       ∙ ap (option_map kinded) (own_found t ns kind name.name b h)
 
   pub plain_meant : (b : Bool) → own_kind t ns kind name.name ≡ None
       → kind_found t kind (components_of name.name) ≡ Some b
       → Some (meant_candidate ns name.name (record { is_own = false; is_common = b })) ≡ means t ns kind name
   plain_meant b none h =
-      ap (λ k. let m : InternalName × ReferenceType = (candidate ns name.name false, k) in Some m) (sym (told_kind t kind name.name b h))
+      ap (λ k. let m : InternalName × ReferenceType = (candidate ns name.name false, k) in Some m)
+      (sym (told_kind t kind name.name b h))
       ∙ ap (option_map kinded) (plain_found t ns kind name.name b none h)
 
   pub none_meant : own_kind t ns kind name.name ≡ None → kind_found t kind (components_of name.name) ≡ None

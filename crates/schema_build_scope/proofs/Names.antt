@@ -20,7 +20,8 @@ alone_or false b h e = cc
 pub names_equal : (x y : InternalName) → names_in_order x y ≡ Equal → components_of x ≡ components_of y
 names_equal x y e =
     sym (equal_names (components_of y) (components_of x)
-    (alone_or (is_eq (names_in_order x y)) (same_name (components_of y) (components_of x)) (name_sought (ids_of y) (x ∷ [])) (ap is_eq e)))
+    (alone_or (is_eq (names_in_order x y)) (same_name (components_of y) (components_of x))
+    (name_sought (ids_of y) (x ∷ [])) (ap is_eq e)))
 
 -- the order of names is that of their components
 pub names_by_components : (x y : InternalName)

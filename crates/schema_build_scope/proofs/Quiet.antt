@@ -1,5 +1,6 @@
 -- Walks that find nothing: then nothing is found in any type of the fragment.
-use Rattle.std.proofs.Common.{◌≡◌, ℕ, zero, suc, ◌<◌, List, [], ◌∷◌, ◌++◌, length, get_or, Contains, Option, Some, refl, sym, ◌∙◌, subst, arith}
+use Rattle.std.proofs.Common.{◌≡◌, ℕ, zero, suc, ◌<◌, List, [], ◌∷◌, ◌++◌, length, get_or, Contains, Option, Some, refl}
+use Rattle.std.proofs.Common.{sym, ◌∙◌, subst, arith}
 use Rattle.std.specs.List.{flat_map}
 use Rattle.std.specs.Option.{option_map_or}
 use Rattle.cedar_identifiers.specs.declared.name.Name.{Name}
@@ -22,7 +23,10 @@ use Rattle.schema_json.specs.declared.types.TypeVariant.{TypeVariant}
 use Rattle.schema_json.specs.declared.types.RecordType.{RecordType}
 use Rattle.schema_json.specs.declared.types.TypeOfAttribute.{TypeOfAttribute}
 use Rattle.schema_json_walk.specs.Parts.{Part, type_reference, context_reference}
-use Rattle.schema_json_walk.specs.Walk.{at_type, at_variant, at_record, at_attribute, at_context, of_type, of_variant, of_record, of_attribute, of_context, of_common, of_kind, of_entity, of_apply, of_items, of_action, of_action_parts, of_relations, of_namespace, of_entry, of_fragment}
+use Rattle.schema_json_walk.specs.Walk.{at_type, at_variant, at_record, at_attribute, at_context, of_type, of_variant}
+use Rattle.schema_json_walk.specs.Walk.{of_record, of_attribute, of_context, of_common, of_kind, of_entity, of_apply}
+use Rattle.schema_json_walk.specs.Walk.{of_items, of_action, of_action_parts, of_relations, of_namespace, of_entry}
+use Rattle.schema_json_walk.specs.Walk.{of_fragment}
 
 -- what is said of a list, and then of each of its parts
 pub record IsOfParts {U : Type 0} (Quiet : List U → Type 0) : Type 0 where
@@ -37,7 +41,8 @@ module _ {U : Type 0} (Quiet : List U → Type 0) (parted : IsOfParts Quiet) whe
   quiet_at f (y ∷ ys) (suc k) x lt is q = quiet_at f ys k x (omega arith) is (parted.right (f y) (flat_map f ys) q)
 
   -- of each item of a list
-  pub quiet_in : {A : Type 0} (f : A → List U) (xs : List A) (x : A) → Contains xs x → Quiet (flat_map f xs) → Quiet (f x)
+  pub quiet_in : {A : Type 0} (f : A → List U) (xs : List A) (x : A) → Contains xs x → Quiet (flat_map f xs)
+      → Quiet (f x)
   quiet_in f xs x (k, lt, is) q = quiet_at f xs k x lt is q
 
   quiet_some : {A : Type 0} (f : A → List U) (o : Option A) (a : A) → o ≡ Some a → Quiet (option_map_or f o [])
@@ -47,14 +52,16 @@ module _ {U : Type 0} (Quiet : List U → Type 0) (parted : IsOfParts Quiet) whe
   module _ {N : Type 0} (visit : Part N → List U)
       (alike : (name : N) → visit (context_reference name) ≡ visit (type_reference Common name)) where
     at_alike : (ty : Type-F N («Type» N) (TypeVariant N) (RecordType N) (TypeOfAttribute N))
-        → at_context visit ty ≡ at_type visit (map-Type N _ _ _ _ _ _ _ _ (of_type visit) (of_variant visit) (of_record visit) (of_attribute visit) ty)
+        → at_context visit ty ≡ at_type visit
+        (map-Type N _ _ _ _ _ _ _ _ (of_type visit) (of_variant visit) (of_record visit) (of_attribute visit) ty)
     at_alike (Type-F.Variant v loc) = refl
     at_alike (Type-F.CommonTypeRef name loc) = alike name
 
     context_alike : (c : AttributesOrContext N) → of_context visit c ≡ of_type visit c.0
     context_alike c =
         at_alike (out-Type N c.0)
-        ∙ sym (fold_out-Type N (List U) (List U) (List U) (List U) (at_type visit) (at_variant visit) (at_record visit) (at_attribute visit) c.0)
+        ∙ sym (fold_out-Type N (List U) (List U) (List U) (List U) (at_type visit) (at_variant visit)
+        (at_record visit) (at_attribute visit) c.0)
 
     module _ {G : named.Ghosts N} (n : NamespaceDefinition N G) (q : Quiet (of_namespace visit n)) where
       pub quiet_common : (e : CommonTypeId × CommonType N) → Contains n.common_types e → Quiet (of_type visit e.1.ty)
@@ -80,7 +87,8 @@ module _ {U : Type 0} (Quiet : List U → Type 0) (parted : IsOfParts Quiet) whe
       pub quiet_tags : (e : UnreservedId × EntityType N) (s : StandardEntityType N) (ty : «Type» N)
           → Contains n.entity_types e → e.1.kind ≡ Standard s → s.tags ≡ Some ty → Quiet (of_type visit ty)
       quiet_tags e s ty among is there =
-          quiet_some (of_type visit) s.tags ty there (parted.right (of_type visit s.shape.0) _ (quiet_standard e s among is))
+          quiet_some (of_type visit) s.tags ty there
+          (parted.right (of_type visit s.shape.0) _ (quiet_standard e s among is))
 
       quiet_action : (e : List ℕ × ActionType N G) → Contains n.actions e → Quiet (of_relations visit e.1)
       quiet_action e among =

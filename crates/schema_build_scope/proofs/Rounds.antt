@@ -1,5 +1,6 @@
 -- Common types that reach themselves, by their ranks and by their names.
-use Rattle.std.proofs.Common.{◌≡◌, ℕ, ◌<◌, List, [], ◌∷◌, length, get_or, Option, Some, refl, sym, ap, ◌∙◌, subst, arith}
+use Rattle.std.proofs.Common.{◌≡◌, ℕ, ◌<◌, List, [], ◌∷◌, length, get_or, Option, Some, refl, sym, ap, ◌∙◌, subst}
+use Rattle.std.proofs.Common.{arith}
 use Rattle.std.specs.Prelude.{slice_get}
 use Rattle.std.specs.Borrow.{Bor}
 use Rattle.std.proofs.lemmas.List.{get_or_default}
@@ -79,11 +80,13 @@ module _ {N R : Type 0} (s : Scope N) (scope : R → Scope N) (place : R → Opt
       let first = (first_step (RefersToCommon s) x x round).1 in
       let k = first.2.0 in
       let named : Named k x = (first.0, first.2.1, first.2.2) in
-      let r = reaches_alike (RefersToCommon s) (RefersBy s place commons) (λ y j. Named j y) step_down x x k named round in
+      let r = reaches_alike (RefersToCommon s) (RefersBy s place commons) (λ y j. Named j y) step_down x x k
+      named round in
       (k, named, subst (Reaches (RefersBy s place commons) k) (apart x r.0 k r.1 named) r.2)
 
   -- a rank that reaches itself is that of a declared common type
-  pub round_below : (k : ℕ) → Reaches (RefersBy s place commons) k k → (d : Declared N) × (slice_get s.commons k ≡ Some d)
+  pub round_below : (k : ℕ) → Reaches (RefersBy s place commons) k k
+      → (d : Declared N) × (slice_get s.commons k ≡ Some d)
   round_below k round =
       let first = (first_step (RefersBy s place commons) k k round).1 in
       let of_c = (are k first.0 first.1).1 in

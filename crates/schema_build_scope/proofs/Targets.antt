@@ -1,5 +1,6 @@
 -- What a reference stands for, from what it means.
-use Rattle.std.proofs.Common.{◌≡◌, ℕ, Bool, true, false, ◌||◌, List, [], ◌∷◌, Option, Some, None, cond, find, refl, sym, ap, ◌∙◌, subst}
+use Rattle.std.proofs.Common.{◌≡◌, ℕ, Bool, true, false, ◌||◌, List, [], ◌∷◌, Option, Some, None, cond, find, refl, sym}
+use Rattle.std.proofs.Common.{ap, ◌∙◌, subst}
 use Rattle.std.specs.Prelude.{if◌then◌else◌}
 use Rattle.std.specs.Option.{option_map}
 use Rattle.cedar_identifiers.specs.Names.{components_of}
@@ -61,7 +62,8 @@ module _ (t : Tests) (ns : Option InternalName) (kind : ReferenceType) (name : R
       → (is_defined t kind (components_of n) ≡ true) × (kind_there t kind n ≡ k)
   defined_kind k e =
       let c = in_namespace ns kind name in
-      let m = mapped_some (λ (x : InternalName). let y : InternalName × ReferenceType = (x, kind_there t kind x) in y) (target t c) (n, k) e in
+      let m = mapped_some (λ (x : InternalName). let y : InternalName × ReferenceType = (x, kind_there t kind x) in y)
+      (target t c) (n, k) e in
       let same : m.0 ≡ n = ap (λ (y : InternalName × ReferenceType). y.0) m.2 in
       let passes : is_defined t kind (components_of m.0) ≡ true =
       find_passes (λ p. is_defined t kind (components_of p)) c.possibilities m.0 m.1 in (
@@ -102,7 +104,9 @@ module _ {G : named.Ghosts RawName} (f : Fragment RawName G) (table : ExtensionT
       → IsMeantTarget (fragment_scope f table) ns kind name r
   entity_meant n e r (m, is, same) =
       subst (IsMeantTarget (fragment_scope f table) ns kind name) (sym is)
-      (by_names (Some (n, Entity)) e ∙ ap (λ (x : InternalName). let y : List (List ℕ) × ReferenceType = (components_of x, Entity) in Some y) (sym same))
+      (by_names (Some (n, Entity)) e
+      ∙ ap (λ (x : InternalName). let y : List (List ℕ) × ReferenceType = (components_of x, Entity) in Some y)
+      (sym same))
 
   same_full : (n : InternalName) → Means (Some (n, Common)) → (full : List (List ℕ)) (k : ReferenceType)
       → (fragment_scope f table).means ns kind name ≡ Some (full, k) → components_of n ≡ full

@@ -4,7 +4,8 @@ use Rattle.std.specs.List.{flat_map}
 use Rattle.schema_json.specs.declared.types.Type.{«Type», Type-F, fold-Type}
 use Rattle.schema_json.specs.declared.types.Type.TheOpen.{TypeVariant-F, RecordType-F, TypeOfAttribute-F}
 use Rattle.schema_json_walk.specs.Parts.{Part, type_reference, extension_type, open_record}
-use Rattle.schema_json_walk.specs.Walk.{itself, visit_where, each_value, at_type, at_variant, at_record, at_attribute, parts}
+use Rattle.schema_json_walk.specs.Walk.{itself, visit_where, each_value, at_type, at_variant, at_record, at_attribute}
+use Rattle.schema_json_walk.specs.Walk.{parts}
 use Rattle.schema_json_walk.proofs.ByParts.{type_by_parts}
 
 module _ (N : Type 0) where
@@ -45,5 +46,6 @@ module _ (N : Type 0) where
   -- nothing else is a part of a type
   pub parts_within : (t : «Type» N) → parts t ≡ flat_map only_within (parts t)
   parts_within t =
-      (λ i. fold-Type N L L L L (λ y. type_only y i) (λ y. variant_only y i) (λ y. record_only y i) (λ y. attribute_only y i) t)
+      (λ i. fold-Type N L L L L (λ y. type_only y i) (λ y. variant_only y i) (λ y. record_only y i)
+      (λ y. attribute_only y i) t)
       ∙ type_by_parts only_within t

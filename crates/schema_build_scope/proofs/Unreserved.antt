@@ -1,5 +1,6 @@
 -- The entity types that are defined have no component `__cedar`.
-use Rattle.std.proofs.Common.{◌≡◌, ℕ, Bool, true, false, ◌||◌, List, [], ◌∷◌, ◌++◌, map, Option, Some, None, refl, ap, ◌∙◌}
+use Rattle.std.proofs.Common.{◌≡◌, ℕ, Bool, true, false, ◌||◌, List, [], ◌∷◌, ◌++◌, map, Option, Some, None, refl, ap}
+use Rattle.std.proofs.Common.{◌∙◌}
 use Rattle.std.specs.List.{flat_map, AllByRecursion}
 use Rattle.std.proofs.lemmas.List.{map-append}
 use Rattle.std.proofs.lemmas.List.Folds.{list_any-append}
@@ -19,7 +20,8 @@ use Rattle.schema_json.specs.Actions.{action_name}
 use Rattle.schema_json.specs.declared.action_type.ActionType.{ActionType}
 use Rattle.schema_json.specs.declared.entity_type.EntityType.{EntityType}
 use Rattle.schema_json.specs.declared.fragment.Fragment.{Fragment}
-use Rattle.schema_resolve_definitions.specs.Declarations.{alone, declared_name, action_type, entities_in, actions_in, declared}
+use Rattle.schema_resolve_definitions.specs.Declarations.{alone, declared_name, action_type, entities_in, actions_in}
+use Rattle.schema_resolve_definitions.specs.Declarations.{declared}
 use Rattle.schema_resolve_definitions.specs.Defined.{defined}
 use Rattle.schema_resolve_definitions.specs.Tests.{tests_of}
 
@@ -68,7 +70,8 @@ seen_all : {A B : Type 0} (P : B → Type 0) (f : A → B) (xs : List A) → All
 seen_all P f [] h = tt
 seen_all P f (x ∷ xs) h = (h.0, seen_all P f xs h.1)
 
-among_free : (names : List (List (List ℕ))) (n : List (List ℕ)) → AllByRecursion IsFree names → among names n ≡ true → IsFree n
+among_free : (names : List (List (List ℕ))) (n : List (List ℕ)) → AllByRecursion IsFree names
+    → among names n ≡ true → IsFree n
 among_free [] n all h = cc
 among_free (x ∷ xs) n all h = go (among_free xs n all.1) (same_name n x) refl h
   where
@@ -83,10 +86,13 @@ module _ {G : named.Ghosts RawName} (f : Fragment RawName G) (table : ExtensionT
       among_free (defined f table).entities n
       (both_all IsFree (declared f).entities (map (λ a. a.0) (declared f).actions)
       (each_all IsFree (λ e. entities_in e.0 e.1)
-      (λ e. mapped_all IsFree (λ (d : UnreservedId × EntityType RawName). components_of (declared_name e.0 d.0.id)) (λ d. declared_free e.0 d.0) e.1.entity_types)
+      (λ e. mapped_all IsFree (λ (d : UnreservedId × EntityType RawName). components_of (declared_name e.0 d.0.id))
+      (λ d. declared_free e.0 d.0) e.1.entity_types)
       f.0)
       (seen_all IsFree (λ a. a.0) (declared f).actions
       (each_all (λ a. IsFree a.0) (λ e. actions_in e.0 e.1)
-      (λ e. mapped_all (λ a. IsFree a.0) (λ (d : List ℕ × ActionType RawName G). let a : List (List ℕ) × List ℕ = (components_of (action_type e.0), d.0) in a) (λ d. action_free e.0) e.1.actions)
+      (λ e. mapped_all (λ a. IsFree a.0)
+      (λ (d : List ℕ × ActionType RawName G).
+      let a : List (List ℕ) × List ℕ = (components_of (action_type e.0), d.0) in a) (λ d. action_free e.0) e.1.actions)
       f.0)))
       h

@@ -36,8 +36,8 @@ module _ {G : named.Ghosts RawName} where
     pub features : Never (HasUnsupported f)
     pub types : Never (HasUndefinedTypes f table)
 
-  -- each part of each declared common type, shape, type of tags and context is meant; a context that is itself a reference
-  -- asks for a common type
+  -- each part of each declared common type, shape, type of tags and context is meant; a context that is itself a
+  -- reference asks for a common type
   pub record AreTypesMeant (f : Fragment RawName G) (table : ExtensionTable) : Type 0 where
     pub commons : (ns : Option Name) (n : NamespaceDefinition RawName G) (e : CommonTypeId × CommonType RawName)
         → Contains f.0 (ns, n) → Contains n.common_types e → IsTypeMeant f table ns e.1.ty

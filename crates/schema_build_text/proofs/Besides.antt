@@ -1,5 +1,7 @@
 -- What stands beside the first action at or behind it in the walk, and holds the type, is what is captured.
-use Rattle.std.proofs.Common.{◌≡◌, ℕ, ◌+◌, ◌<◌, Bool, true, false, ◌&&◌, ◌||◌, ◌==◌, length, List, [], ◌∷◌, ◌++◌, map, cond, drop, get_or, refl, ap, sym, ◌∙◌, subst, append_assoc, Option, Some, None, if◌then◌else◌}
+use Rattle.std.proofs.Common.{◌≡◌, ℕ, ◌+◌, ◌<◌, Bool, true, false, ◌&&◌, ◌||◌, ◌==◌, length, List, [], ◌∷◌, ◌++◌, map}
+use Rattle.std.proofs.Common.{cond, drop, get_or, refl, ap, sym, ◌∙◌, subst, append_assoc, Option, Some, None}
+use Rattle.std.proofs.Common.{if◌then◌else◌}
 use Rattle.std.specs.Prelude.{MatchOption}
 use Rattle.std.specs.Cmp.{first_so}
 use Rattle.std.specs.Cmp.Lexicographic.{slice_cmp}
@@ -13,7 +15,8 @@ use Rattle.cedar_names.specs.Definitions.{same_name}
 use Rattle.schema_build_errors.specs.declared.captured.ReferenceCaptured.{ReferenceCaptured}
 use Rattle.schema_build_types.specs.Content.{EntityContent, ActionContent, SchemaContent}
 use Rattle.schema_build_text.specs.Beside.{action_at, first_action, is_beside, is_captured_by, captured_before}
-use Rattle.schema_build_text.specs.Captured.{item_holds, has_action, captured_in, captured_items, first_item, IsAbout, IsFirstOf}
+use Rattle.schema_build_text.specs.Captured.{item_holds, has_action, captured_in, captured_items, first_item, IsAbout}
+use Rattle.schema_build_text.specs.Captured.{IsFirstOf}
 use Rattle.schema_build_text.specs.Items.{item_content}
 use Rattle.schema_build_text.specs.Rows.{sorted_once}
 use Rattle.schema_build_text.specs.Walk.{ItemContent, entity_type, action, namespace_of, items_of, items_in, walk}
@@ -49,7 +52,8 @@ action_behind n [] rest = refl
 action_behind n (e ∷ es) rest = by (action_behind n es rest) (is_in n (entity_type e))
   where
     by : first_action (filter (is_in n) (map entity_type es) ++ rest) ≡ first_action rest → (b : Bool)
-        → first_action (cond b (entity_type e ∷ filter (is_in n) (map entity_type es)) (filter (is_in n) (map entity_type es)) ++ rest) ≡ first_action rest
+        → first_action (cond b (entity_type e ∷ filter (is_in n) (map entity_type es))
+        (filter (is_in n) (map entity_type es)) ++ rest) ≡ first_action rest
     by more true = more
     by more false = more
 
@@ -59,16 +63,24 @@ entities_part : (n : Name) (es : List EntityContent) (rest : List ItemContent)
 entities_part n [] rest = refl
 entities_part n (e ∷ es) rest = by (entities_part n es rest) (is_in n (entity_type e)) refl
   where
-    by : captured_before (filter (is_in n) (map entity_type es) ++ rest) ≡ filter (held (is_beside (first_action rest) n)) (filter (is_in n) (map entity_type es)) ++ captured_before rest
+    by : captured_before (filter (is_in n) (map entity_type es) ++ rest)
+        ≡ filter (held (is_beside (first_action rest) n)) (filter (is_in n) (map entity_type es))
+        ++ captured_before rest
         → (b : Bool) → is_in n (entity_type e) ≡ b
-        → captured_before (cond b (entity_type e ∷ filter (is_in n) (map entity_type es)) (filter (is_in n) (map entity_type es)) ++ rest)
-        ≡ filter (held (is_beside (first_action rest) n)) (cond b (entity_type e ∷ filter (is_in n) (map entity_type es)) (filter (is_in n) (map entity_type es))) ++ captured_before rest
+        → captured_before (cond b (entity_type e ∷ filter (is_in n) (map entity_type es))
+        (filter (is_in n) (map entity_type es)) ++ rest)
+        ≡ filter (held (is_beside (first_action rest) n))
+        (cond b (entity_type e ∷ filter (is_in n) (map entity_type es)) (filter (is_in n) (map entity_type es)))
+        ++ captured_before rest
     by more true h =
         let x = entity_type e in
         let all = captured_before (filter (is_in n) (map entity_type es) ++ rest) in
         ap (λ m. if (is_beside m (namespace e.name) && item_holds x) then x ∷ all else all) (action_behind n es rest)
-        ∙ (ap (λ k. if (is_beside (first_action rest) k && item_holds x) then x ∷ all else all) (sym (same_list n (namespace e.name) h))
-        ∙ put (held (is_beside (first_action rest) n) x) x (filter (held (is_beside (first_action rest) n)) (filter (is_in n) (map entity_type es))) (captured_before rest) all more)
+        ∙ (ap (λ k. if (is_beside (first_action rest) k && item_holds x) then x ∷ all else all)
+        (sym (same_list n (namespace e.name) h))
+        ∙ put (held (is_beside (first_action rest) n) x) x
+        (filter (held (is_beside (first_action rest) n)) (filter (is_in n) (map entity_type es)))
+        (captured_before rest) all more)
     by more false h = more
 
 actions_part : (n : Name) (us : List ActionContent) (rest : List ItemContent)
@@ -77,15 +89,20 @@ actions_part : (n : Name) (us : List ActionContent) (rest : List ItemContent)
 actions_part n [] rest = refl
 actions_part n (u ∷ us) rest = by (actions_part n us rest) (is_in n (action u)) refl
   where
-    by : captured_before (filter (is_in n) (map action us) ++ rest) ≡ filter (held (is_beside (Some n) n)) (filter (is_in n) (map action us)) ++ captured_before rest
+    by : captured_before (filter (is_in n) (map action us) ++ rest)
+        ≡ filter (held (is_beside (Some n) n)) (filter (is_in n) (map action us)) ++ captured_before rest
         → (b : Bool) → is_in n (action u) ≡ b
-        → captured_before (cond b (action u ∷ filter (is_in n) (map action us)) (filter (is_in n) (map action us)) ++ rest)
-        ≡ filter (held (is_beside (Some n) n)) (cond b (action u ∷ filter (is_in n) (map action us)) (filter (is_in n) (map action us))) ++ captured_before rest
+        → captured_before (cond b (action u ∷ filter (is_in n) (map action us))
+        (filter (is_in n) (map action us)) ++ rest)
+        ≡ filter (held (is_beside (Some n) n))
+        (cond b (action u ∷ filter (is_in n) (map action us)) (filter (is_in n) (map action us)))
+        ++ captured_before rest
     by more true h =
         let x = action u in
         let all = captured_before (filter (is_in n) (map action us) ++ rest) in
         ap (λ k. if (is_beside (Some k) k && item_holds x) then x ∷ all else all) (sym (same_list n (namespace u.ty) h))
-        ∙ put (held (is_beside (Some n) n) x) x (filter (held (is_beside (Some n) n)) (filter (is_in n) (map action us))) (captured_before rest) all more
+        ∙ put (held (is_beside (Some n) n) x) x
+        (filter (held (is_beside (Some n) n)) (filter (is_in n) (map action us))) (captured_before rest) all more
     by more false h = more
 
 -- behind the entity types of a namespace stands an action of it where it has one
@@ -96,9 +113,11 @@ beside_actions : (k : List ℕ) (ks : Name) (us : List ActionContent) (rest : Li
 beside_actions k ks [] rest h = h
 beside_actions k ks (u ∷ us) rest h = by (beside_actions k ks us rest h) (is_in (k ∷ ks) (action u)) refl
   where
-    by : is_beside (first_action (filter (is_in (k ∷ ks)) (map action us) ++ rest)) (k ∷ ks) ≡ list_any (λ a. same_name (k ∷ ks) (namespace a.ty)) us
+    by : is_beside (first_action (filter (is_in (k ∷ ks)) (map action us) ++ rest)) (k ∷ ks)
+        ≡ list_any (λ a. same_name (k ∷ ks) (namespace a.ty)) us
         → (b : Bool) → is_in (k ∷ ks) (action u) ≡ b
-        → is_beside (first_action (cond b (action u ∷ filter (is_in (k ∷ ks)) (map action us)) (filter (is_in (k ∷ ks)) (map action us)) ++ rest)) (k ∷ ks)
+        → is_beside (first_action (cond b (action u ∷ filter (is_in (k ∷ ks)) (map action us))
+        (filter (is_in (k ∷ ks)) (map action us)) ++ rest)) (k ∷ ks)
         ≡ (b || list_any (λ a. same_name (k ∷ ks) (namespace a.ty)) us)
     by more true e = e
     by more false e = more
@@ -125,21 +144,30 @@ module _ (c : SchemaContent) where
   items_are n = filter_append (is_in n) (map entity_type c.entities) (map action c.actions)
 
   both_parts : (n : Name) (rest : List ItemContent) → is_beside (first_action rest) n ≡ false
-      → filter (held (is_beside (first_action (own_actions n ++ rest)) n)) (own_entities n) ++ (filter (held (is_beside (Some n) n)) (own_actions n) ++ captured_before rest)
+      → filter (held (is_beside (first_action (own_actions n ++ rest)) n)) (own_entities n)
+      ++ (filter (held (is_beside (Some n) n)) (own_actions n) ++ captured_before rest)
       ≡ captured_in c n ++ captured_before rest
   both_parts [] rest h = λ i. none_held (own_entities []) i ++ (none_held (own_actions []) i ++ captured_before rest)
   both_parts (k ∷ ks) rest h =
-      ap (λ b. filter (held b) (own_entities (k ∷ ks)) ++ (filter (held (is_beside (Some (k ∷ ks)) (k ∷ ks))) (own_actions (k ∷ ks)) ++ captured_before rest)) (beside_actions k ks c.actions rest h)
-      ∙ (ap (λ b. filter (held (has_action c (k ∷ ks))) (own_entities (k ∷ ks)) ++ (filter (held b) (own_actions (k ∷ ks)) ++ captured_before rest)) (same_self (k ∷ ks))
+      ap (λ b. filter (held b) (own_entities (k ∷ ks))
+      ++ (filter (held (is_beside (Some (k ∷ ks)) (k ∷ ks))) (own_actions (k ∷ ks)) ++ captured_before rest))
+      (beside_actions k ks c.actions rest h)
+      ∙ (ap (λ b. filter (held (has_action c (k ∷ ks))) (own_entities (k ∷ ks))
+      ++ (filter (held b) (own_actions (k ∷ ks)) ++ captured_before rest)) (same_self (k ∷ ks))
       ∙ by (has_action c (k ∷ ks)) refl)
     where
       by : (b : Bool) → has_action c (k ∷ ks) ≡ b
-          → filter (held b) (own_entities (k ∷ ks)) ++ (filter item_holds (own_actions (k ∷ ks)) ++ captured_before rest)
+          → filter (held b) (own_entities (k ∷ ks))
+          ++ (filter item_holds (own_actions (k ∷ ks)) ++ captured_before rest)
           ≡ (if b then filter item_holds (items_in c (k ∷ ks)) else []) ++ captured_before rest
       by true e =
-          sym (append_assoc (filter item_holds (own_entities (k ∷ ks))) (filter item_holds (own_actions (k ∷ ks))) (captured_before rest))
-          ∙ ap (λ l. l ++ captured_before rest) (sym (filter_append item_holds (own_entities (k ∷ ks)) (own_actions (k ∷ ks))) ∙ ap (filter item_holds) (sym (items_are (k ∷ ks))))
-      by false e = λ i. none_held (own_entities (k ∷ ks)) i ++ (filter item_holds (no_actions (k ∷ ks) c.actions e i) ++ captured_before rest)
+          sym (append_assoc (filter item_holds (own_entities (k ∷ ks))) (filter item_holds (own_actions (k ∷ ks)))
+          (captured_before rest))
+          ∙ ap (λ l. l ++ captured_before rest)
+          (sym (filter_append item_holds (own_entities (k ∷ ks)) (own_actions (k ∷ ks)))
+          ∙ ap (filter item_holds) (sym (items_are (k ∷ ks))))
+      by false e = λ i. none_held (own_entities (k ∷ ks)) i
+          ++ (filter item_holds (no_actions (k ∷ ks) c.actions e i) ++ captured_before rest)
 
   group_captured : (n : Name) (rest : List ItemContent) → is_beside (first_action rest) n ≡ false
       → captured_before (items_in c n ++ rest) ≡ captured_in c n ++ captured_before rest
@@ -147,7 +175,8 @@ module _ (c : SchemaContent) where
       ap (λ l. captured_before (l ++ rest)) (items_are n)
       ∙ (ap captured_before (append_assoc (own_entities n) (own_actions n) rest)
       ∙ (entities_part n c.entities (own_actions n ++ rest)
-      ∙ (ap (λ l. filter (held (is_beside (first_action (own_actions n ++ rest)) n)) (own_entities n) ++ l) (actions_part n c.actions rest)
+      ∙ (ap (λ l. filter (held (is_beside (first_action (own_actions n ++ rest)) n)) (own_entities n) ++ l)
+      (actions_part n c.actions rest)
       ∙ both_parts n rest h)))
 
 not_beside : (n k : Name) → same_name n k ≡ false → is_beside (Some k) n ≡ false
@@ -180,8 +209,10 @@ groups_captured c (n ∷ ns) r =
 
 pub walk_captured : (c : SchemaContent) → captured_before (walk c) ≡ captured_items c
 walk_captured c =
-    subst (λ l. captured_before (flat_map (items_in c) l) ≡ flat_map (captured_in c) l) (sym (in_order_is (map namespace_of (items_of c))))
-    (groups_captured c (sorted_once (slice_cmp text_cmp) (map namespace_of (items_of c))) (rises_sorted names_total (map namespace_of (items_of c))))
+    subst (λ l. captured_before (flat_map (items_in c) l) ≡ flat_map (captured_in c) l)
+    (sym (in_order_is (map namespace_of (items_of c))))
+    (groups_captured c (sorted_once (slice_cmp text_cmp) (map namespace_of (items_of c)))
+    (rises_sorted names_total (map namespace_of (items_of c))))
 
 -- what is captured is of a namespace with a name
 first_named : (zs : List ItemContent) (x : ItemContent) → first_item (captured_before zs) ≡ Some x
@@ -250,7 +281,8 @@ beside_named : (name : InternalName) (m : Name) → (length name.others == 0) �
 beside_named name m = by name.others
   where
     by : (os : List Id) → (length os == 0) ≡ false
-        → is_beside (Some m) (namespace (name.first.text ∷ texts_of os)) ≡ same_name (namespace (name.first.text ∷ texts_of os)) m
+        → is_beside (Some m) (namespace (name.first.text ∷ texts_of os))
+        ≡ same_name (namespace (name.first.text ∷ texts_of os)) m
     by [] h = absurd (cc)
     by (o ∷ os) h = refl
 

@@ -18,7 +18,10 @@ use Rattle.schema_build_text.proofs.Quoted.{quoted_utf8}
 
 -- a text that is pushed adds its bytes
 pub adds_chars : (old new more : List ℕ) → IsUtf8 more → new ≡ old ++ chars more → Adds old new more
-adds_chars old new more u e = record { grown = ap encode_utf8_all e ∙ encodes-append old (chars more) ∙ ap (λ t. encode_utf8_all old ++ t) (encodes-chars more u) }
+adds_chars old new more u e = record {
+  grown = ap encode_utf8_all e ∙ encodes-append old (chars more)
+      ∙ ap (λ t. encode_utf8_all old ++ t) (encodes-chars more u);
+}
 
 part_ascii : (b : ℕ) → is_word_part b ≡ true → b < 128
 part_ascii b h = grind (arith, nat_tests)
@@ -29,12 +32,14 @@ start_part b h = grind (arith, nat_tests)
 parts_ascii : (bs : List ℕ) → list_all is_word_part bs ≡ true → IsAscii bs
 parts_ascii [] h = IsAscii-nil
 parts_ascii (b ∷ bs) h =
-    IsAscii-cons b bs (part_ascii b (first_so (is_word_part b) (list_all is_word_part bs) h)) (parts_ascii bs (second_so (is_word_part b) (list_all is_word_part bs) h))
+    IsAscii-cons b bs (part_ascii b (first_so (is_word_part b) (list_all is_word_part bs) h))
+    (parts_ascii bs (second_so (is_word_part b) (list_all is_word_part bs) h))
 
 word_ascii : (w : List ℕ) → is_word w ≡ true → IsAscii w
 word_ascii [] h = IsAscii-nil
 word_ascii (b ∷ bs) h =
-    IsAscii-cons b bs (part_ascii b (start_part b (first_so (is_word_start b) (list_all is_word_part bs) h))) (parts_ascii bs (second_so (is_word_start b) (list_all is_word_part bs) h))
+    IsAscii-cons b bs (part_ascii b (start_part b (first_so (is_word_start b) (list_all is_word_part bs) h)))
+    (parts_ascii bs (second_so (is_word_start b) (list_all is_word_part bs) h))
 
 id_ascii : (w : List ℕ) → is_id w ≡ true → IsAscii w
 id_ascii w h = word_ascii w (first_so (is_word w) (not (is_reserved w)) h)
@@ -51,7 +56,8 @@ id_by_bytes w s =
       | inr h ↦
           elim (cases_Bool (is_id (encode_utf8_all w))) [
             | inl k ↦
-                let same : encode_utf8_all w ≡ w = sym (chars-IsAscii (encode_utf8_all w) (id_ascii (encode_utf8_all w) k)) ∙ chars-encodes w s in
+                let same : encode_utf8_all w ≡ w = sym
+                (chars-IsAscii (encode_utf8_all w) (id_ascii (encode_utf8_all w) k)) ∙ chars-encodes w s in
                 ap is_id same
             | inr k ↦ k ∙ sym h
           ]

@@ -1,5 +1,7 @@
--- Items that are sorted by a key, equal ones as they stood: they stand in groups of one key, the keys sorted, each once.
-use Rattle.std.proofs.Common.{◌≡◌, ℕ, suc, ◌<◌, ◌≤◌, Bool, true, false, not, ◌&&◌, ◌||◌, List, [], ◌∷◌, ◌++◌, map, length, get_or, All, cond, refl, ap, sym, ◌∙◌, subst, arith}
+-- Items that are sorted by a key, equal ones as they stood: they stand in groups of one key, the keys sorted, each
+-- once.
+use Rattle.std.proofs.Common.{◌≡◌, ℕ, suc, ◌<◌, ◌≤◌, Bool, true, false, not, ◌&&◌, ◌||◌, List, [], ◌∷◌, ◌++◌, map}
+use Rattle.std.proofs.Common.{length, get_or, All, cond, refl, ap, sym, ◌∙◌, subst, arith}
 use Rattle.std.specs.declared.cmp.Ordering.{Ordering}
 use Rattle.std.specs.declared.cmp.Ordering.TheVariants.{Less, Equal, Greater}
 use Rattle.std.specs.Ordering.{is_eq, is_lt, ordering_reverse, match_ordering}
@@ -62,7 +64,8 @@ module _ {K : Type 0} {C : K → K → Ordering} (o : IsTotalOrder C) where
   below_insert n k [] b e = (e, tt)
   below_insert n k (y ∷ ys) b e = by (below_insert n k ys b.1 e) (C k y)
     where
-      by : Below n (insert_key C ys k) → (r : Ordering) → Below n (match_ordering r (k ∷ y ∷ ys) (y ∷ ys) (y ∷ insert_key C ys k))
+      by : Below n (insert_key C ys k) → (r : Ordering)
+          → Below n (match_ordering r (k ∷ y ∷ ys) (y ∷ ys) (y ∷ insert_key C ys k))
       by more Less = (e, b)
       by more Equal = b
       by more Greater = (b.0, more)
@@ -71,7 +74,8 @@ module _ {K : Type 0} {C : K → K → Ordering} (o : IsTotalOrder C) where
   rises_insert k [] r = (tt, tt)
   rises_insert k (y ∷ ys) r = by (rises_insert k ys r.1) (C k y) refl
     where
-      by : Rises (insert_key C ys k) → (a : Ordering) → C k y ≡ a → Rises (match_ordering a (k ∷ y ∷ ys) (y ∷ ys) (y ∷ insert_key C ys k))
+      by : Rises (insert_key C ys k) → (a : Ordering) → C k y ≡ a
+          → Rises (match_ordering a (k ∷ y ∷ ys) (y ∷ ys) (y ∷ insert_key C ys k))
       by more Less e = ((e, below_more k y ys e r.0), r)
       by more Equal e = r
       by more Greater e = (below_insert y k ys r.0 (turn k y Greater e), more)
@@ -89,9 +93,11 @@ module _ {K : Type 0} {C : K → K → Ordering} (o : IsTotalOrder C) where
   has_insert q k (y ∷ ys) = by (has_insert q k ys) (C k y) refl
     where
       by : has (insert_key C ys k) q ≡ (is_eq (C k q) || has ys q) → (a : Ordering) → C k y ≡ a
-          → has (match_ordering a (k ∷ y ∷ ys) (y ∷ ys) (y ∷ insert_key C ys k)) q ≡ (is_eq (C k q) || (is_eq (C y q) || has ys q))
+          → has (match_ordering a (k ∷ y ∷ ys) (y ∷ ys) (y ∷ insert_key C ys k)) q
+          ≡ (is_eq (C k q) || (is_eq (C y q) || has ys q))
       by more Less e = refl
-      by more Equal e = or_same (has ys q) (is_eq (C y q)) ∙ ap (λ b. b || (is_eq (C y q) || has ys q)) (ap is_eq (sym (o.congr k y q e)))
+      by more Equal e = or_same (has ys q) (is_eq (C y q))
+          ∙ ap (λ b. b || (is_eq (C y q) || has ys q)) (ap is_eq (sym (o.congr k y q e)))
       by more Greater e = ap (λ b. is_eq (C y q) || b) more ∙ or_turned (is_eq (C k q)) (is_eq (C y q)) (has ys q)
 
   module _ {X : Type 0} (key : X → K) where
@@ -100,12 +106,16 @@ module _ {K : Type 0} {C : K → K → Ordering} (o : IsTotalOrder C) where
     all_has (x ∷ xs) =
         let all = sorted_once C (map key (x ∷ xs)) in
         All-cons (λ y. has all (key y) ≡ true) x xs
-        (has_insert (key x) (key x) (sorted_once C (map key xs)) ∙ ap (λ r. is_eq r || has (sorted_once C (map key xs)) (key x)) (tied_itself o (key x)))
-        (λ i d h. has_insert (key (get_or xs i d)) (key x) (sorted_once C (map key xs)) ∙ or_right (is_eq (C (key x) (key (get_or xs i d)))) (has (sorted_once C (map key xs)) (key (get_or xs i d))) (all_has xs i d h))
+        (has_insert (key x) (key x) (sorted_once C (map key xs))
+        ∙ ap (λ r. is_eq r || has (sorted_once C (map key xs)) (key x)) (tied_itself o (key x)))
+        (λ i d h. has_insert (key (get_or xs i d)) (key x) (sorted_once C (map key xs))
+        ∙ or_right (is_eq (C (key x) (key (get_or xs i d)))) (has (sorted_once C (map key xs)) (key (get_or xs i d)))
+        (all_has xs i d h))
 
     all_keys : (xs : List X) → All (λ k. (x : X) × (key x ≡ k)) (sorted_once C (map key xs))
     all_keys [] = All-nil (λ k. (x : X) × (key x ≡ k))
-    all_keys (x ∷ xs) = All-insert_key C (key x) (λ k. (y : X) × (key y ≡ k)) (sorted_once C (map key xs)) (all_keys xs) (x, refl)
+    all_keys (x ∷ xs) = All-insert_key C (key x) (λ k. (y : X) × (key y ≡ k)) (sorted_once C (map key xs))
+        (all_keys xs) (x, refl)
 
     -- no item is below the key
     abbrev NoneBelow : K → List X → Type 0
@@ -122,10 +132,14 @@ module _ {K : Type 0} {C : K → K → Ordering} (o : IsTotalOrder C) where
     none_below_from x (y ∷ ys) f = (f 0 y (omega arith), none_below_from x ys (λ j d h. f (suc j) d (omega arith)))
 
     up_from : (ys : List X)
-        → ((i j : ℕ) (d : X) → i ≤ j → j < length ys → is_lt (C (key (get_or ys j d)) (key (get_or ys i d))) ≡ false) → IsUp ys
+        → ((i j : ℕ) (d : X) → i ≤ j → j < length ys → is_lt (C (key (get_or ys j d)) (key (get_or ys i d))) ≡ false)
+        → IsUp ys
     up_from [] f = tt
-    up_from (y ∷ ys) f =
-        (none_below_from y ys (λ j d h. f 0 (suc j) d (omega arith) (omega arith)), up_from ys (λ i j d le h. f (suc i) (suc j) d (omega arith) (omega arith)))
+    up_from (y ∷ ys) f = (
+      none_below_from y ys (λ j d h. f 0 (suc j) d (omega arith) (omega arith)),
+      up_from ys
+          (λ i j d le h. f (suc i) (suc j) d (omega arith) (omega arith)),
+    )
 
     -- the items of a key
     abbrev in_group : K → X → Bool
@@ -134,7 +148,8 @@ module _ {K : Type 0} {C : K → K → Ordering} (o : IsTotalOrder C) where
     -- a key below another is below each item that is not below that
     above_all : (n k : K) (ys : List X) → C n k ≡ Less → NoneBelow k ys → filter (in_group n) ys ≡ []
     above_all n k [] e b = refl
-    above_all n k (y ∷ ys) e b = filter_front (in_group n) y ys false (ap is_eq (by (C (key y) k) refl)) ∙ above_all n k ys e b.1
+    above_all n k (y ∷ ys) e b = filter_front (in_group n) y ys false (ap is_eq (by (C (key y) k) refl))
+        ∙ above_all n k ys e b.1
       where
         by : (a : Ordering) → C (key y) k ≡ a → C n (key y) ≡ Less
         by Less h = absurd (let no : is_lt Less ≡ false = ap is_lt (sym h) ∙ b.0 in cc)
@@ -165,19 +180,24 @@ module _ {K : Type 0} {C : K → K → Ordering} (o : IsTotalOrder C) where
     put_first x xs b [] r h = absurd (cc)
     put_first x xs b (n ∷ ns) r h = by (λ k. put_first x xs b ns r.1 k) (C n (key x)) refl
       where
-        by : (has ns (key x) ≡ true → x ∷ flat_map (λ n. filter (in_group n) xs) ns ≡ flat_map (λ n. filter (in_group n) (x ∷ xs)) ns)
+        by : (has ns (key x) ≡ true → x ∷ flat_map (λ n. filter (in_group n) xs) ns
+            ≡ flat_map (λ n. filter (in_group n) (x ∷ xs)) ns)
             → (a : Ordering) → C n (key x) ≡ a
-            → x ∷ (filter (in_group n) xs ++ flat_map (λ n. filter (in_group n) xs) ns) ≡ filter (in_group n) (x ∷ xs) ++ flat_map (λ n. filter (in_group n) (x ∷ xs)) ns
+            → x ∷ (filter (in_group n) xs ++ flat_map (λ n. filter (in_group n) xs) ns) ≡ filter (in_group n) (x ∷ xs)
+            ++ flat_map (λ n. filter (in_group n) (x ∷ xs)) ns
         by more Less e =
             let none = above_all n (key x) xs e b in
             ap (λ l. x ∷ (l ++ flat_map (λ n. filter (in_group n) xs) ns)) none
             ∙ more (ap (λ t. t || has ns (key x)) (sym (ap is_eq e)) ∙ h)
-            ∙ ap (λ l. l ++ flat_map (λ n. filter (in_group n) (x ∷ xs)) ns) (sym (filter_front (in_group n) x xs false (ap is_eq e) ∙ none))
+            ∙ ap (λ l. l ++ flat_map (λ n. filter (in_group n) (x ∷ xs)) ns)
+            (sym (filter_front (in_group n) x xs false (ap is_eq e) ∙ none))
         by more Equal e =
             ap (λ l. x ∷ (filter (in_group n) xs ++ l)) (sym (not_there n x xs ns (above_equal n x e) r.0))
-            ∙ ap (λ l. l ++ flat_map (λ n. filter (in_group n) (x ∷ xs)) ns) (sym (filter_front (in_group n) x xs true (ap is_eq e)))
+            ∙ ap (λ l. l ++ flat_map (λ n. filter (in_group n) (x ∷ xs)) ns)
+            (sym (filter_front (in_group n) x xs true (ap is_eq e)))
         by more Greater e =
-            let no : has (n ∷ ns) (key x) ≡ false = ap (λ t. t || has ns (key x)) (ap is_eq e) ∙ not_had n x ns (above_greater n x e) r.0 in
+            let no : has (n ∷ ns) (key x) ≡ false = ap (λ t. t || has ns (key x)) (ap is_eq e)
+            ∙ not_had n x ns (above_greater n x e) r.0 in
             absurd (cc)
 
     in_groups : (ns : List K) → Rises ns → (ys : List X) → IsUp ys → All (λ y. has ns (key y) ≡ true) ys
@@ -196,14 +216,17 @@ module _ {K : Type 0} {C : K → K → Ordering} (o : IsTotalOrder C) where
     tie_by Greater = refl
 
     tie_is : (x y : X) → ties below x y ≡ is_eq (C (key x) (key y))
-    tie_is x y = ap (λ r. not (is_lt (C (key x) (key y))) && not (is_lt r)) (o.antisymm (key y) (key x)) ∙ tie_by (C (key x) (key y))
+    tie_is x y = ap (λ r. not (is_lt (C (key x) (key y))) && not (is_lt r)) (o.antisymm (key y) (key x))
+        ∙ tie_by (C (key x) (key y))
 
-    module _ (same : K → K → Bool) (tie : (x y : X) → same (key x) (key y) ≡ is_eq (C (key x) (key y))) (xs ys : List X) where
+    module _ (same : K → K → Bool) (tie : (x y : X) → same (key x) (key y) ≡ is_eq (C (key x) (key y)))
+        (xs ys : List X) where
       one_group : IsStableBy below xs ys → (n : K) → (x : X) × (key x ≡ n)
           → filter (in_group n) ys ≡ filter (λ x. same n (key x)) xs
       one_group stable n k =
           subst (λ m. filter (in_group m) ys ≡ filter (λ x. same m (key x)) xs) k.1
-          ((λ i. filter (λ y. sym (tie_is k.0 y) i) ys) ∙ stable k.0 ∙ (λ i. filter (λ y. (tie_is k.0 y ∙ sym (tie k.0 y)) i) xs))
+          ((λ i. filter (λ y. sym (tie_is k.0 y) i) ys) ∙ stable k.0
+          ∙ (λ i. filter (λ y. (tie_is k.0 y ∙ sym (tie k.0 y)) i) xs))
 
       -- sorted by their keys, equal ones as they stood
       pub grouped : IsPermutation xs ys → IsSortedBy below ys → IsStableBy below xs ys

@@ -1,12 +1,14 @@
 -- Whether types hold the empty namespace's `Action`, one equation a layer.
-use Rattle.std.proofs.Common.{◌≡◌, ℕ, ◌+◌, ◌<◌, Bool, false, ◌||◌, length, List, drop, get_or, refl, ap, sym, ◌∙◌, inl, inr}
+use Rattle.std.proofs.Common.{◌≡◌, ℕ, ◌+◌, ◌<◌, Bool, false, ◌||◌, length, List, drop, get_or, refl, ap, sym, ◌∙◌, inl}
+use Rattle.std.proofs.Common.{inr}
 use Rattle.std.specs.Prelude.{◌⊎◌}
 use Rattle.schema_build_types.specs.declared.types.Type.{«Type»}
 use Rattle.schema_build_types.specs.declared.types.Type.TheVariants as built
 use Rattle.schema_build_types.specs.Content.{TypeContent, type_content, attributes_content}
 use Rattle.schema_build_types.specs.Content as said
 use Rattle.schema_build_text.specs.Captured.{holds_plain_action, some_hold}
-use Rattle.schema_build_text.proofs.Layers.{never_says, any_bool_says, true_says, false_says, long_says, string_says, any_entity_says}
+use Rattle.schema_build_text.proofs.Layers.{never_says, any_bool_says, true_says, false_says, long_says, string_says}
+use Rattle.schema_build_text.proofs.Layers.{any_entity_says}
 use Rattle.schema_build_text.proofs.Rowed.{dropped}
 
 pub held_by : (t v : «Type») (s : TypeContent) (answer : Bool) → t ≡ v → type_content v ≡ s
@@ -30,5 +32,6 @@ no_other t (inr (inr e)) = held_by t built.AnyEntity said.AnyEntity false e any_
 -- one attribute, and those after it
 pub some_step : (entries : List (List ℕ × («Type» × Bool))) (i : ℕ) (d : List ℕ × («Type» × Bool)) → i < length entries
     → d ≡ get_or entries i d
-    → some_hold (attributes_content (drop i entries)) ≡ (holds_plain_action (type_content d.1.0) || some_hold (attributes_content (drop (i + 1) entries)))
+    → some_hold (attributes_content (drop i entries))
+    ≡ (holds_plain_action (type_content d.1.0) || some_hold (attributes_content (drop (i + 1) entries)))
 some_step entries i d h e = ap (λ es. some_hold (attributes_content es)) (dropped entries i d h e)

@@ -32,7 +32,8 @@ use Rattle.schema_build_text.proofs.Walked.{names_total}
 pub entity_named : (n : Name) (t : ValidatorEntityType) → (entity_content (n, t)).name ≡ components_of n.name
 entity_named n t = by t.kind
   where
-    by : (k : ValidatorEntityTypeKind) → (entity_content (n, record { ancestors = t.ancestors; kind = k })).name ≡ components_of n.name
+    by : (k : ValidatorEntityTypeKind)
+        → (entity_content (n, record { ancestors = t.ancestors; kind = k })).name ≡ components_of n.name
     by (kind.Standard attributes more tags) = refl
     by (kind.Enum choices) = refl
     by kind.External = refl
@@ -40,7 +41,8 @@ entity_named n t = by t.kind
 pub action_named : (u : EntityUID) (t : ValidatorActionId) → (action_content (u, t)).ty ≡ components_of u.ty.name
 action_named u t = by t.kind
   where
-    by : (k : ValidatorActionKind) → (action_content (u, record { ancestors = t.ancestors; kind = k })).ty ≡ components_of u.ty.name
+    by : (k : ValidatorActionKind)
+        → (action_content (u, record { ancestors = t.ancestors; kind = k })).ty ≡ components_of u.ty.name
     by (action.Defined principals resources context) = refl
     by action.External = refl
 
@@ -58,15 +60,19 @@ tie x y =
     let q = keyed y in
     (λ i. same_name (p.1 i) (q.1 i)) ∙ (namespaces_tie p.0 q.0 ∙ sym (λ i. is_eq (slice_cmp text_cmp (p.1 i) (q.1 i))))
 
-map_flat : {X A B : Type 0} (f : A → B) (g : X → List A) (xs : List X) → map f (flat_map g xs) ≡ flat_map (λ x. map f (g x)) xs
+map_flat : {X A B : Type 0} (f : A → B) (g : X → List A) (xs : List X)
+    → map f (flat_map g xs) ≡ flat_map (λ x. map f (g x)) xs
 map_flat f g [] = refl
 map_flat f g (x ∷ xs) = map-append f (g x) (flat_map g xs) ∙ ap (λ l. map f (g x) ++ l) (map_flat f g xs)
 
-map_filter : {A B : Type 0} (f : A → B) (p : B → Bool) (xs : List A) → map f (filter (λ x. p (f x)) xs) ≡ filter p (map f xs)
+map_filter : {A B : Type 0} (f : A → B) (p : B → Bool) (xs : List A)
+    → map f (filter (λ x. p (f x)) xs) ≡ filter p (map f xs)
 map_filter f p [] = refl
 map_filter f p (x ∷ xs) = by (map_filter f p xs) (p (f x))
   where
-    by : map f (filter (λ x. p (f x)) xs) ≡ filter p (map f xs) → (b : Bool) → map f (cond b (x ∷ filter (λ x. p (f x)) xs) (filter (λ x. p (f x)) xs)) ≡ cond b (f x ∷ filter p (map f xs)) (filter p (map f xs))
+    by : map f (filter (λ x. p (f x)) xs) ≡ filter p (map f xs) → (b : Bool)
+        → map f (cond b (x ∷ filter (λ x. p (f x)) xs) (filter (λ x. p (f x)) xs))
+        ≡ cond b (f x ∷ filter p (map f xs)) (filter p (map f xs))
     by more true = ap (λ l. f x ∷ l) more
     by more false = more
 
@@ -82,4 +88,6 @@ in_walk_order c xs ys e perm up stable =
     ap (map item_content) (grouped names_total key same_name tie xs ys perm up stable)
     ∙ (map_flat item_content (λ n. filter (λ x. same_name n (key x)) xs) ns
     ∙ ((λ i. flat_map (λ n. (map_filter item_content (of n) xs ∙ ap (filter (of n)) e) i) ns)
-    ∙ ap (flat_map (items_in c)) (ap (sorted_once (slice_cmp text_cmp)) (sym (map_both namespace_of item_content xs) ∙ ap (map namespace_of) e) ∙ sym (in_order_is (map namespace_of (items_of c))))))
+    ∙ ap (flat_map (items_in c)) (ap (sorted_once (slice_cmp text_cmp))
+    (sym (map_both namespace_of item_content xs) ∙ ap (map namespace_of) e)
+    ∙ sym (in_order_is (map namespace_of (items_of c))))))

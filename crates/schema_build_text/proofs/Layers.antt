@@ -1,5 +1,6 @@
 -- What is printed of each kind of type, one equation a layer.
-use Rattle.std.proofs.Common.{◌≡◌, ℕ, ◌+◌, ◌<◌, ◌==◌, Bool, true, false, length, List, [], ◌∷◌, ◌++◌, drop, get_or, codes, refl, ap, sym, ◌∙◌, inl, inr, append_assoc, Some, None, if◌then◌else◌, arith}
+use Rattle.std.proofs.Common.{◌≡◌, ℕ, ◌+◌, ◌<◌, ◌==◌, Bool, true, false, length, List, [], ◌∷◌, ◌++◌, drop, get_or}
+use Rattle.std.proofs.Common.{codes, refl, ap, sym, ◌∙◌, inl, inr, append_assoc, Some, None, if◌then◌else◌, arith}
 use Rattle.std.specs.Prelude.{◌⊎◌}
 use Rattle.std.proofs.lemmas.Bool.{eqb-true}
 use Rattle.cedar_identifiers.specs.declared.name.Name.{Name}
@@ -8,7 +9,8 @@ use Rattle.cedar_names.specs.Meaning.{PlainType, Attributes, attribute}
 use Rattle.cedar_names.specs.CanonicalText.{type_text, lines_text, record_text, spaces, attribute_name}
 use Rattle.schema_build_types.specs.declared.types.Type.{«Type», Type-F, fold-roll-Type}
 use Rattle.schema_build_types.specs.declared.types.Type.TheVariants as built
-use Rattle.schema_build_types.specs.Content.{TypeContent, attributes_content, layer_content, type_content, names_content}
+use Rattle.schema_build_types.specs.Content.{TypeContent, attributes_content, layer_content, type_content}
+use Rattle.schema_build_types.specs.Content.{names_content}
 use Rattle.schema_build_types.specs.Content as said
 use Rattle.schema_build_text.specs.Readings.{plain_type, plain_attributes}
 use Rattle.schema_build_text.proofs.Rowed.{dropped}
@@ -33,23 +35,28 @@ pub string_says : type_content built.String ≡ said.String
 string_says = ap type_content (sym built.rolls-String) ∙ fold-roll-Type TypeContent layer_content Type-F.String
 
 pub any_entity_says : type_content built.AnyEntity ≡ said.AnyEntity
-any_entity_says = ap type_content (sym built.rolls-AnyEntity) ∙ fold-roll-Type TypeContent layer_content Type-F.AnyEntity
+any_entity_says = ap type_content (sym built.rolls-AnyEntity)
+    ∙ fold-roll-Type TypeContent layer_content Type-F.AnyEntity
 
 pub unknown_says : type_content (built.Set None) ≡ said.SetOfUnknown
 unknown_says = ap type_content (sym (built.rolls-Set None)) ∙ fold-roll-Type TypeContent layer_content (Type-F.Set None)
 
 pub set_says : (t : «Type») → type_content (built.Set (Some t)) ≡ said.Set (type_content t)
-set_says t = ap type_content (sym (built.rolls-Set (Some t))) ∙ fold-roll-Type TypeContent layer_content (Type-F.Set (Some t))
+set_says t = ap type_content (sym (built.rolls-Set (Some t)))
+    ∙ fold-roll-Type TypeContent layer_content (Type-F.Set (Some t))
 
 pub record_says : (attrs : List (List ℕ × («Type» × Bool))) (more : Bool)
     → type_content (built.Record attrs more) ≡ said.Rec (attributes_content attrs) more
-record_says attrs more = ap type_content (sym (built.rolls-Record attrs more)) ∙ fold-roll-Type TypeContent layer_content (Type-F.Record attrs more)
+record_says attrs more = ap type_content (sym (built.rolls-Record attrs more))
+    ∙ fold-roll-Type TypeContent layer_content (Type-F.Record attrs more)
 
 pub entity_says : (names : List Name) → type_content (built.Entity names) ≡ said.Entity (names_content names)
-entity_says names = ap type_content (sym (built.rolls-Entity names)) ∙ fold-roll-Type TypeContent layer_content (Type-F.Entity names)
+entity_says names = ap type_content (sym (built.rolls-Entity names))
+    ∙ fold-roll-Type TypeContent layer_content (Type-F.Entity names)
 
 pub extension_says : (name : UnreservedId) → type_content (built.Extension name) ≡ said.Ext name.id.text
-extension_says name = ap type_content (sym (built.rolls-Extension name)) ∙ fold-roll-Type TypeContent layer_content (Type-F.Extension name)
+extension_says name = ap type_content (sym (built.rolls-Extension name))
+    ∙ fold-roll-Type TypeContent layer_content (Type-F.Extension name)
 
 -- the text of what a type says
 pub shown : (base : ℕ) (t v : «Type») (said : TypeContent) (text : List ℕ) → t ≡ v → type_content v ≡ said
@@ -71,7 +78,8 @@ record_empty base [] h = refl
 record_empty base (e ∷ es) h = absurd (omega (arith, eqb-true (length (e ∷ es)) 0 h))
 
 pub record_filled : (base : ℕ) (entries : List (List ℕ × («Type» × Bool))) → (length entries == 0) ≡ false
-    → codes "{\n" ++ (lines_text true base (plain_attributes (attributes_content entries)) ++ (spaces base ++ codes "}")) ≡ record_text true base (plain_attributes (attributes_content entries))
+    → codes "{\n" ++ (lines_text true base (plain_attributes (attributes_content entries))
+    ++ (spaces base ++ codes "}")) ≡ record_text true base (plain_attributes (attributes_content entries))
 record_filled base [] h = absurd (cc)
 record_filled base (e ∷ es) h = refl
 
@@ -80,15 +88,19 @@ abbrev pub colon : Bool → List ℕ
 colon required = (if required then [] else codes "?") ++ codes ": "
 
 line_laid : (base : ℕ) (n : List ℕ) (r : Bool) (t : PlainType) (xs : Attributes)
-    → lines_text true base (attribute n r t xs) ≡ (spaces (base + 2) ++ (attribute_name n ++ (colon r ++ (type_text true (base + 2) t ++ codes ",\n")))) ++ lines_text true base xs
+    → lines_text true base (attribute n r t xs)
+    ≡ (spaces (base + 2) ++ (attribute_name n ++ (colon r ++ (type_text true (base + 2) t ++ codes ",\n"))))
+    ++ lines_text true base xs
 line_laid base n r t xs = simp append_assoc
 
 -- one attribute, and those after it
 pub entry_step : (base inner : ℕ) (entries : List (List ℕ × («Type» × Bool))) (i : ℕ) (d : List ℕ × («Type» × Bool))
     → inner ≡ base + 2 → i < length entries → d ≡ get_or entries i d
     → lines_text true base (plain_attributes (attributes_content (drop i entries)))
-    ≡ (spaces inner ++ (attribute_name d.0 ++ (colon d.1.1 ++ (type_text true inner (plain_type (type_content d.1.0)) ++ codes ",\n"))))
+    ≡ (spaces inner ++ (attribute_name d.0
+    ++ (colon d.1.1 ++ (type_text true inner (plain_type (type_content d.1.0)) ++ codes ",\n"))))
     ++ lines_text true base (plain_attributes (attributes_content (drop (i + 1) entries)))
 entry_step base inner entries i d k h e =
     rw k (ap (λ es. lines_text true base (plain_attributes (attributes_content es))) (dropped entries i d h e)
-    ∙ line_laid base d.0 d.1.1 (plain_type (type_content d.1.0)) (plain_attributes (attributes_content (drop (i + 1) entries))))
+    ∙ line_laid base d.0 d.1.1 (plain_type (type_content d.1.0))
+    (plain_attributes (attributes_content (drop (i + 1) entries))))

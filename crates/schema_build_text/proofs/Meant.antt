@@ -1,12 +1,14 @@
 -- A meaning is read back from what is built for it.
 use Rattle.std.proofs.Common.{◌≡◌, false, List, [], ◌∷◌, map, refl, ap, Option, Some, None}
 use Rattle.std.specs.Option.{option_map}
-use Rattle.cedar_names.specs.Meaning.{PlainType, Attributes, no_more, attribute, EntityMeaning, ActionMeaning, SchemaMeaning}
+use Rattle.cedar_names.specs.Meaning.{PlainType, Attributes, no_more, attribute, EntityMeaning, ActionMeaning}
+use Rattle.cedar_names.specs.Meaning.{SchemaMeaning}
 use Rattle.cedar_names.specs.Meaning as plain
 use Rattle.schema_build_types.specs.Content.{EntityContent, ActionContent, SchemaContent}
 use Rattle.schema_build_types.specs.Content as said
 use Rattle.schema_build_types.specs.Standing.{as_built, attributes_as_built, schema_as_built}
-use Rattle.schema_build_text.specs.Readings.{plain_type, plain_attributes, entity_reading, action_reading, schema_reading}
+use Rattle.schema_build_text.specs.Readings.{plain_type, plain_attributes, entity_reading, action_reading}
+use Rattle.schema_build_text.specs.Readings.{schema_reading}
 
 mutual
   pub plain_back : (p : PlainType) → plain_type (as_built p) ≡ p

@@ -1,5 +1,6 @@
 -- The namespace and the basename of a name, by its words.
-use Rattle.std.proofs.Common.{◌≡◌, ℕ, ◌+◌, ◌<◌, true, List, [], ◌∷◌, ◌++◌, codes, length, drop, get_or, refl, ap, sym, ◌∙◌, append_assoc, arith}
+use Rattle.std.proofs.Common.{◌≡◌, ℕ, ◌+◌, ◌<◌, true, List, [], ◌∷◌, ◌++◌, codes, length, drop, get_or, refl, ap, sym}
+use Rattle.std.proofs.Common.{◌∙◌, append_assoc, arith}
 use Rattle.std.specs.declared.cmp.Ordering.{Ordering}
 use Rattle.std.specs.Ordering.{is_eq, ordering_then}
 use Rattle.std.specs.Cmp.{first_so, second_so}
@@ -30,7 +31,8 @@ path_text f (o ∷ os) = ap (λ t. f.text ++ (codes "::" ++ t)) (path_text o os)
 
 pub behind_step : (os : List Id) (i : ℕ) (d : Id) → i < length os → d ≡ get_or os i d
     → behind_text (drop i os) ≡ (codes "::" ++ d.text) ++ behind_text (drop (i + 1) os)
-behind_step os i d h e = ap behind_text (dropped os i d h e) ∙ sym (append_assoc (codes "::") d.text (behind_text (drop (i + 1) os)))
+behind_step os i d h e = ap behind_text (dropped os i d h e)
+    ∙ sym (append_assoc (codes "::") d.text (behind_text (drop (i + 1) os)))
 
 last_named : (c : List ℕ) (os : List Id) (x : Id) → basename (c ∷ texts_of (os ++ x ∷ [])) ≡ x.text
 last_named c [] x = refl
@@ -43,7 +45,8 @@ front_named c (o ∷ os) x = ap (λ t. c ∷ t) (front_named o.text os x)
 -- a name with others behind its first word
 pub last_of : (name : InternalName) (front : List Id) (x : Id) → name.others ≡ front ++ x ∷ []
     → x.text ≡ basename (components_of name)
-last_of name front x e = sym (ap (λ os. basename (name.first.text ∷ texts_of os)) e ∙ last_named name.first.text front x)
+last_of name front x e = sym (ap (λ os. basename (name.first.text ∷ texts_of os)) e
+    ∙ last_named name.first.text front x)
 
 pub front_of : (name : InternalName) (front : List Id) (x : Id) → name.others ≡ front ++ x ∷ []
     → namespace (components_of name) ≡ texts_of (name.first ∷ front)
@@ -77,26 +80,32 @@ fronts (c ∷ d ∷ ds) = ap (λ t. c.text ∷ t) (fronts (d ∷ ds))
 
 same_ids : (i j : Id) → bytes_eq i.text j.text ≡ is_eq (ids_in_order i j)
 same_ids i j =
-    sym (λ k. bytes_eq (id_bytes i.text i.word k) (id_bytes j.text j.word k)) ∙ sym (is_eq-slice_cmp (encode_utf8_all i.text) (encode_utf8_all j.text))
+    sym (λ k. bytes_eq (id_bytes i.text i.word k) (id_bytes j.text j.word k))
+    ∙ sym (is_eq-slice_cmp (encode_utf8_all i.text) (encode_utf8_all j.text))
 
-pub same_lists : (xs ys : List Id) → same_name (texts_of xs) (texts_of ys) ≡ is_eq (slice_cmp text_cmp (texts_of xs) (texts_of ys))
+pub same_lists : (xs ys : List Id)
+    → same_name (texts_of xs) (texts_of ys) ≡ is_eq (slice_cmp text_cmp (texts_of xs) (texts_of ys))
 same_lists xs ys =
-    pointwise-map (λ i. i.text) bytes_eq xs ys ∙ lists_ties ids_in_order same_ids xs ys ∙ ap is_eq (ids_cmp ids_in_order (λ x y. refl) xs ys)
+    pointwise-map (λ i. i.text) bytes_eq xs ys ∙ lists_ties ids_in_order same_ids xs ys
+    ∙ ap is_eq (ids_cmp ids_in_order (λ x y. refl) xs ys)
 
 pub same_list : (xs ys : List (List ℕ)) → same_name xs ys ≡ true → xs ≡ ys
 same_list [] [] h = refl
 same_list [] (y ∷ ys) h = cc
 same_list (x ∷ xs) [] h = cc
 same_list (x ∷ xs) (y ∷ ys) h =
-    (λ k. (bytes_eq-Decides x y).0 (first_so (bytes_eq x y) (same_name xs ys) h) k ∷ same_list xs ys (second_so (bytes_eq x y) (same_name xs ys) h) k)
+    (λ k. (bytes_eq-Decides x y).0 (first_so (bytes_eq x y) (same_name xs ys) h) k ∷ same_list xs ys
+    (second_so (bytes_eq x y) (same_name xs ys) h) k)
 
 -- namespaces of names are the same where they are equal in the order
 pub namespaces_tie : (a b : InternalName)
-    → same_name (namespace (components_of a)) (namespace (components_of b)) ≡ is_eq (slice_cmp text_cmp (namespace (components_of a)) (namespace (components_of b)))
+    → same_name (namespace (components_of a)) (namespace (components_of b))
+    ≡ is_eq (slice_cmp text_cmp (namespace (components_of a)) (namespace (components_of b)))
 namespaces_tie a b =
     let p = fronts (a.first ∷ a.others) in
     let q = fronts (b.first ∷ b.others) in
-    (λ k. same_name (p k) (q k)) ∙ same_lists (front_ids (a.first ∷ a.others)) (front_ids (b.first ∷ b.others)) ∙ sym (λ k. is_eq (slice_cmp text_cmp (p k) (q k)))
+    (λ k. same_name (p k) (q k)) ∙ same_lists (front_ids (a.first ∷ a.others)) (front_ids (b.first ∷ b.others))
+    ∙ sym (λ k. is_eq (slice_cmp text_cmp (p k) (q k)))
 
 -- the same words
 pub one_namespace : (a b : InternalName) → same_name (namespace (components_of a)) (namespace (components_of b)) ≡ true
@@ -107,10 +116,12 @@ one_namespace a b h = same_list (namespace (components_of a)) (namespace (compon
 module _ (C : Id → Id → Ordering) (same : (x y : Id) → C x y ≡ text_cmp x.text y.text) (a b : InternalName) where
   pub both_fronts : (us vs : List Id) → namespace (components_of a) ≡ texts_of (a.first ∷ us)
       → namespace (components_of b) ≡ texts_of (b.first ∷ vs)
-      → ordering_then (C a.first b.first) (slice_cmp C us vs) ≡ slice_cmp text_cmp (namespace (components_of a)) (namespace (components_of b))
+      → ordering_then (C a.first b.first) (slice_cmp C us vs)
+      ≡ slice_cmp text_cmp (namespace (components_of a)) (namespace (components_of b))
   both_fronts us vs p q = ids_cmp C same (a.first ∷ us) (b.first ∷ vs) ∙ sym (λ k. slice_cmp text_cmp (p k) (q k))
 
   pub decided : (o : Ordering) (us vs : List Id) → namespace (components_of a) ≡ texts_of (a.first ∷ us)
       → namespace (components_of b) ≡ texts_of (b.first ∷ vs) → C a.first b.first ≡ o
-      → ordering_then o (slice_cmp C us vs) ≡ slice_cmp text_cmp (namespace (components_of a)) (namespace (components_of b))
+      → ordering_then o (slice_cmp C us vs)
+      ≡ slice_cmp text_cmp (namespace (components_of a)) (namespace (components_of b))
   decided o us vs p q e = ap (λ r. ordering_then r (slice_cmp C us vs)) (sym e) ∙ both_fronts us vs p q

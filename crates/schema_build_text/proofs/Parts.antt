@@ -31,7 +31,8 @@ last_free [] x h = or_first (is_cedar x.text) false h
 last_free (o ∷ os) x h =
     last_free os x (or_second (is_cedar o.text) (list_any is_cedar (texts_of (os ++ x ∷ []))) h)
 
-module _ (name : InternalName) (front : List Id) (x : Id) (is : name.others ≡ front ++ x ∷ []) (free : has_cedar (components_of name) ≡ false) where
+module _ (name : InternalName) (front : List Id) (x : Id) (is : name.others ≡ front ++ x ∷ [])
+    (free : has_cedar (components_of name) ≡ false) where
   others_free : (is_cedar name.first.text || list_any is_cedar (texts_of (front ++ x ∷ []))) ≡ false
   others_free = ap (λ os. is_cedar name.first.text || list_any is_cedar (texts_of os)) (sym is) ∙ free
 
@@ -41,9 +42,11 @@ module _ (name : InternalName) (front : List Id) (x : Id) (is : name.others ≡ 
       let a = is_cedar name.first.text in
       let b = list_any is_cedar (texts_of (front ++ x ∷ [])) in
       (λ i. has_cedar (texts_of (e i ∷ f i)))
-      ∙ or_both a (list_any is_cedar (texts_of front)) (or_first a b others_free) (front_free front x (or_second a b others_free))
+      ∙ or_both a (list_any is_cedar (texts_of front)) (or_first a b others_free)
+      (front_free front x (or_second a b others_free))
 
   pub word_free : (word : Id) → word ≡ x → is_cedar word.text ≡ false
   word_free word e =
       ap (λ w. is_cedar w.text) e
-      ∙ last_free front x (or_second (is_cedar name.first.text) (list_any is_cedar (texts_of (front ++ x ∷ []))) others_free)
+      ∙ last_free front x (or_second (is_cedar name.first.text)
+      (list_any is_cedar (texts_of (front ++ x ∷ []))) others_free)

@@ -1,5 +1,6 @@
 -- Names among which the empty namespace's `Action` is.
-use Rattle.std.proofs.Common.{◌≡◌, ℕ, Bool, true, false, ◌&&◌, ◌||◌, ◌==◌, length, List, [], ◌∷◌, codes, map, refl, ap, sym, ◌∙◌, arith}
+use Rattle.std.proofs.Common.{◌≡◌, ℕ, Bool, true, false, ◌&&◌, ◌||◌, ◌==◌, length, List, [], ◌∷◌, codes, map, refl, ap}
+use Rattle.std.proofs.Common.{sym, ◌∙◌, arith}
 use Rattle.std.proofs.lemmas.Bool.{eqb-true}
 use Rattle.std.specs.declared.cmp.Ordering.{Ordering}
 use Rattle.std.specs.declared.cmp.Ordering.TheVariants.{Less, Equal, Greater}
@@ -48,18 +49,22 @@ order x y = slice_cmp text_cmp (components_of x.name) (components_of y.name)
 alike : (x y : Name) → order x y ≡ Equal → is_plain x ≡ is_plain y
 alike x y e =
     ap (same_name plain_action)
-    (same_list (components_of x.name) (components_of y.name) (same_lists (x.name.first ∷ x.name.others) (y.name.first ∷ y.name.others) ∙ ap is_eq e))
+    (same_list (components_of x.name) (components_of y.name)
+    (same_lists (x.name.first ∷ x.name.others) (y.name.first ∷ y.name.others) ∙ ap is_eq e))
 
 any_insert : (n : Name) (ns : List Name)
     → list_any is_plain (insert_key order ns n) ≡ (is_plain n || list_any is_plain ns)
 any_insert n [] = refl
 any_insert n (y ∷ ys) = by (any_insert n ys) (order n y) refl
   where
-    by : list_any is_plain (insert_key order ys n) ≡ (is_plain n || list_any is_plain ys) → (o : Ordering) → order n y ≡ o
-        → list_any is_plain (match_ordering o (n ∷ y ∷ ys) (y ∷ ys) (y ∷ insert_key order ys n)) ≡ (is_plain n || (is_plain y || list_any is_plain ys))
+    by : list_any is_plain (insert_key order ys n) ≡ (is_plain n || list_any is_plain ys) → (o : Ordering)
+        → order n y ≡ o
+        → list_any is_plain (match_ordering o (n ∷ y ∷ ys) (y ∷ ys) (y ∷ insert_key order ys n))
+        ≡ (is_plain n || (is_plain y || list_any is_plain ys))
     by more Less e = refl
     by more Equal e =
-        or_same (list_any is_plain ys) (is_plain y) ∙ ap (λ b. b || (is_plain y || list_any is_plain ys)) (sym (alike n y e))
+        or_same (list_any is_plain ys) (is_plain y)
+        ∙ ap (λ b. b || (is_plain y || list_any is_plain ys)) (sym (alike n y e))
     by more Greater e =
         ap (λ b. is_plain y || b) more ∙ or_turned (is_plain n) (is_plain y) (list_any is_plain ys)
 

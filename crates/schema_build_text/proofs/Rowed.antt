@@ -1,5 +1,6 @@
 -- Rows of texts, and lists that are sorted, each item once.
-use Rattle.std.proofs.Common.{◌≡◌, ℕ, ◌+◌, ◌-◌, suc, ◌<◌, Bool, true, false, List, [], ◌∷◌, ◌++◌, codes, map, length, drop, drop-cons, get_or, add-one, refl, ap, sym, ◌∙◌, append_assoc, arith, ◌==◌}
+use Rattle.std.proofs.Common.{◌≡◌, ℕ, ◌+◌, ◌-◌, suc, ◌<◌, Bool, true, false, List, [], ◌∷◌, ◌++◌, codes, map, length}
+use Rattle.std.proofs.Common.{drop, drop-cons, get_or, add-one, refl, ap, sym, ◌∙◌, append_assoc, arith, ◌==◌}
 use Rattle.std.specs.declared.cmp.Ordering.{Ordering}
 use Rattle.std.specs.declared.cmp.Ordering.TheVariants.{Less, Equal, Greater}
 use Rattle.std.specs.Ordering.{match_ordering, ordering_then}
@@ -37,16 +38,20 @@ pub dropped : {A : Type 0} (xs : List A) (i : ℕ) (d : A) → i < length xs →
 dropped xs i d h e = rw (add-one, drop-cons xs i d) (ap (λ x. x ∷ drop (suc i) xs) (sym e))
 
 -- one more text, and those after it
-pub row_step : {A : Type 0} (f : A → List ℕ) (separator : List ℕ) (b : Bool) (xs : List A) (i : ℕ) (d : A) → i < length xs
+pub row_step : {A : Type 0} (f : A → List ℕ) (separator : List ℕ) (b : Bool) (xs : List A) (i : ℕ) (d : A)
+    → i < length xs
     → d ≡ get_or xs i d
-    → row_behind separator b (map f (drop i xs)) ≡ (between separator b ++ f d) ++ row_behind separator true (map f (drop (i + 1) xs))
+    → row_behind separator b (map f (drop i xs)) ≡ (between separator b ++ f d)
+    ++ row_behind separator true (map f (drop (i + 1) xs))
 row_step f separator b xs i d h e =
-    ap (λ ys. row_behind separator b (map f ys)) (dropped xs i d h e) ∙ sym (append_assoc (between separator b) (f d) (row_behind separator true (map f (drop (i + 1) xs))))
+    ap (λ ys. row_behind separator b (map f ys)) (dropped xs i d h e)
+    ∙ sym (append_assoc (between separator b) (f d) (row_behind separator true (map f (drop (i + 1) xs))))
 
 pub row_front : {A : Type 0} (f : A → List ℕ) (separator : List ℕ) (b : Bool) (xs ys : List A) (d : A) → xs ≡ d ∷ ys
     → row_behind separator b (map f xs) ≡ (between separator b ++ f d) ++ row_behind separator true (map f ys)
 row_front f separator b xs ys d e =
-    ap (λ l. row_behind separator b (map f l)) e ∙ sym (append_assoc (between separator b) (f d) (row_behind separator true (map f ys)))
+    ap (λ l. row_behind separator b (map f l)) e
+    ∙ sym (append_assoc (between separator b) (f d) (row_behind separator true (map f ys)))
 
 pub joined_row : (separator : List ℕ) (ts : List (List ℕ)) → row_behind separator false ts ≡ joined_by separator ts
 joined_row separator [] = refl
@@ -57,7 +62,8 @@ pub map_both : {A B C : Type 0} (f : B → C) (g : A → B) (xs : List A) → ma
 map_both f g [] = refl
 map_both f g (x ∷ xs) = ap (λ t. f (g x) ∷ t) (map_both f g xs)
 
-module _ {A B : Type 0} (f : A → B) (C : A → A → Ordering) (D : B → B → Ordering) (same : (x y : A) → C x y ≡ D (f x) (f y)) where
+module _ {A B : Type 0} (f : A → B) (C : A → A → Ordering) (D : B → B → Ordering)
+    (same : (x y : A) → C x y ≡ D (f x) (f y)) where
   chosen : (o : Ordering) (xs ys zs : List A)
       → map f (match_ordering o xs ys zs) ≡ match_ordering o (map f xs) (map f ys) (map f zs)
   chosen Less xs ys zs = refl
@@ -93,26 +99,31 @@ pub names_sorted : (C : Name → Name → Ordering)
     → ((x y : Name) → C x y ≡ slice_cmp text_cmp (components_of x.name) (components_of y.name)) → (names : List Name)
     → map (λ n. components_of n.name) (sorted_once C names) ≡ names_content names
 names_sorted C same names =
-    sorted_map (λ n. components_of n.name) C (slice_cmp text_cmp) same names ∙ sym (in_order_is (map (λ n. components_of n.name) names))
+    sorted_map (λ n. components_of n.name) C (slice_cmp text_cmp) same names
+    ∙ sym (in_order_is (map (λ n. components_of n.name) names))
 
 pub names_shown : (C : Name → Name → Ordering)
     → ((x y : Name) → C x y ≡ slice_cmp text_cmp (components_of x.name) (components_of y.name)) → (names : List Name)
     → map (λ n. name_text (components_of n.name)) (sorted_once C names) ≡ map name_text (names_content names)
 names_shown C same names =
-    sym (map_both name_text (λ n. components_of n.name) (sorted_once C names)) ∙ ap (map name_text) (names_sorted C same names)
+    sym (map_both name_text (λ n. components_of n.name) (sorted_once C names))
+    ∙ ap (map name_text) (names_sorted C same names)
 
 -- and actions
 pub actions_shown : (C : EntityUID → EntityUID → Ordering)
     → ((x y : EntityUID) → C x y ≡ actions_cmp (action_of x) (action_of y)) → (actions : List EntityUID)
-    → map (λ a. action_name_text (action_of a)) (sorted_once C actions) ≡ map action_name_text (actions_in_order actions)
+    → map (λ a. action_name_text (action_of a)) (sorted_once C actions)
+    ≡ map action_name_text (actions_in_order actions)
 actions_shown C same actions =
     sym (map_both action_name_text action_of (sorted_once C actions))
     ∙ ap (map action_name_text) (sorted_map action_of C actions_cmp same actions ∙ sym (actions_in_order_is actions))
 
 -- the order of names is that of their components
 pub names_go : (C : Id → Id → Ordering) → ((x y : Id) → C x y ≡ text_cmp x.text y.text) → (a b : Name)
-    → ordering_then (text_cmp a.name.first.text b.name.first.text) (slice_cmp C a.name.others b.name.others) ≡ slice_cmp text_cmp (components_of a.name) (components_of b.name)
-names_go C e a b = ap (ordering_then (text_cmp a.name.first.text b.name.first.text)) (ids_cmp C e a.name.others b.name.others)
+    → ordering_then (text_cmp a.name.first.text b.name.first.text) (slice_cmp C a.name.others b.name.others)
+    ≡ slice_cmp text_cmp (components_of a.name) (components_of b.name)
+names_go C e a b = ap (ordering_then (text_cmp a.name.first.text b.name.first.text))
+    (ids_cmp C e a.name.others b.name.others)
 
 -- the first of names that are sorted, lent
 pub least_shown : (C : Name → Name → Ordering)
@@ -121,11 +132,15 @@ pub least_shown : (C : Name → Name → Ordering)
     → map (λ x. x.now) keys ≡ sorted_once (λ x y. C x.now y.now) lent → keys ≡ k ∷ rest
     → name_text (components_of k.now.now.name) ≡ name_text (first_name (names_content names))
 least_shown C same names lent keys rest k e f h =
-    let all : map (λ (n : Name). components_of n.name) (map (λ (x : Bor Name). x.now) (map (λ (x : Bor (Bor Name)). x.now) keys)) ≡ names_content names =
+    let all : map (λ (n : Name). components_of n.name)
+    (map (λ (x : Bor Name). x.now) (map (λ (x : Bor (Bor Name)). x.now) keys)) ≡ names_content names =
     ap (λ l. map (λ (n : Name). components_of n.name) (map (λ (x : Bor Name). x.now) l)) f
-    ∙ (ap (map (λ (n : Name). components_of n.name)) (sorted_map (λ (x : Bor Name). x.now) (λ x y. C x.now y.now) C (λ x y. refl) lent ∙ ap (sorted_once C) e)
+    ∙ (ap (map (λ (n : Name). components_of n.name))
+    (sorted_map (λ (x : Bor Name). x.now) (λ x y. C x.now y.now) C (λ x y. refl) lent ∙ ap (sorted_once C) e)
     ∙ names_sorted C same names) in
-    ap (λ l. name_text (first_name (map (λ (n : Name). components_of n.name) (map (λ (x : Bor Name). x.now) (map (λ (x : Bor (Bor Name)). x.now) l))))) (sym h)
+    ap (λ l. name_text (first_name
+    (map (λ (n : Name). components_of n.name)
+    (map (λ (x : Bor Name). x.now) (map (λ (x : Bor (Bor Name)). x.now) l))))) (sym h)
     ∙ ap (λ l. name_text (first_name l)) all
 
 pub none_shown : (C : Name → Name → Ordering)
@@ -134,11 +149,15 @@ pub none_shown : (C : Name → Name → Ordering)
     → map (λ x. x.now) keys ≡ sorted_once (λ x y. C x.now y.now) lent → keys ≡ []
     → [] ≡ name_text (first_name (names_content names))
 none_shown C same names lent keys e f h =
-    let all : map (λ (n : Name). components_of n.name) (map (λ (x : Bor Name). x.now) (map (λ (x : Bor (Bor Name)). x.now) keys)) ≡ names_content names =
+    let all : map (λ (n : Name). components_of n.name)
+    (map (λ (x : Bor Name). x.now) (map (λ (x : Bor (Bor Name)). x.now) keys)) ≡ names_content names =
     ap (λ l. map (λ (n : Name). components_of n.name) (map (λ (x : Bor Name). x.now) l)) f
-    ∙ (ap (map (λ (n : Name). components_of n.name)) (sorted_map (λ (x : Bor Name). x.now) (λ x y. C x.now y.now) C (λ x y. refl) lent ∙ ap (sorted_once C) e)
+    ∙ (ap (map (λ (n : Name). components_of n.name))
+    (sorted_map (λ (x : Bor Name). x.now) (λ x y. C x.now y.now) C (λ x y. refl) lent ∙ ap (sorted_once C) e)
     ∙ names_sorted C same names) in
-    ap (λ l. name_text (first_name (map (λ (n : Name). components_of n.name) (map (λ (x : Bor Name). x.now) (map (λ (x : Bor (Bor Name)). x.now) l))))) (sym h)
+    ap (λ l. name_text (first_name
+    (map (λ (n : Name). components_of n.name)
+    (map (λ (x : Bor Name). x.now) (map (λ (x : Bor (Bor Name)). x.now) l))))) (sym h)
     ∙ ap (λ l. name_text (first_name l)) all
 
 -- nothing is left where no item is
@@ -156,7 +175,8 @@ module _ {A : Type 0} (C : A → A → Ordering) where
   rising_more xs i x y h ex ey less up =
       let front = dropped xs i x (omega arith) ex in
       let next = dropped xs (i + 1) y h ey in
-      ap (sorted_once C) front ∙ ap (λ l. insert_key C l x) (up ∙ next) ∙ front_less x y (drop ((i + 1) + 1) xs) less ∙ sym (ap (λ l. x ∷ l) next) ∙ sym front
+      ap (sorted_once C) front ∙ ap (λ l. insert_key C l x) (up ∙ next) ∙ front_less x y (drop ((i + 1) + 1) xs) less
+      ∙ sym (ap (λ l. x ∷ l) next) ∙ sym front
 
   pub last_rises : (xs : List A) → sorted_once C (drop (length xs - 1) xs) ≡ drop (length xs - 1) xs
   last_rises [] = refl
@@ -180,7 +200,8 @@ pub no_parents : {A : Type 0} (f : A → List ℕ) (C : A → A → Ordering) (x
 no_parents f C xs h = sym (ap (λ l. parents_text (map f (sorted_once C l))) (no_items xs h))
 
 -- what is inserted into, is not empty
-inserted : {A : Type 0} (C : A → A → Ordering) (P : List A → Type 0) → ((y : A) (ys : List A) → P (y ∷ ys)) → (ks : List A) (k : A)
+inserted : {A : Type 0} (C : A → A → Ordering) (P : List A → Type 0) → ((y : A) (ys : List A) → P (y ∷ ys))
+    → (ks : List A) (k : A)
     → P (insert_key C ks k)
 inserted C P p [] k = p k []
 inserted C P p (x ∷ xs) k = by (C k x)
@@ -190,11 +211,13 @@ inserted C P p (x ∷ xs) k = by (C k x)
     by Equal = p x xs
     by Greater = p x (insert_key C xs k)
 
-pub some_sorted : {A : Type 0} (C : A → A → Ordering) (P : List A → Type 0) → ((y : A) (ys : List A) → P (y ∷ ys)) → (xs : List A)
+pub some_sorted : {A : Type 0} (C : A → A → Ordering) (P : List A → Type 0) → ((y : A) (ys : List A) → P (y ∷ ys))
+    → (xs : List A)
     → (length xs == 0) ≡ false → P (sorted_once C xs)
 some_sorted C P p [] h = absurd (cc)
 some_sorted C P p (x ∷ xs) h = inserted C P p (sorted_once C xs) x
 
 pub some_parents : {A : Type 0} (f : A → List ℕ) (C : A → A → Ordering) (xs : List A) → (length xs == 0) ≡ false
     → codes " in " ++ list_text (map f (sorted_once C xs)) ≡ parents_text (map f (sorted_once C xs))
-some_parents f C xs h = some_sorted C (λ l. codes " in " ++ list_text (map f l) ≡ parents_text (map f l)) (λ y ys. refl) xs h
+some_parents f C xs h = some_sorted C (λ l. codes " in " ++ list_text (map f l) ≡ parents_text (map f l))
+    (λ y ys. refl) xs h

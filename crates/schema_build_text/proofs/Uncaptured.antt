@@ -9,7 +9,8 @@ pub none_alone : (c : SchemaContent) (n : List (List ℕ)) → has_action c n �
 none_alone c [] h = refl
 none_alone c (n ∷ ns) h = ap (λ (b : Bool). if b then filter item_holds (items_in c (n ∷ ns)) else []) h
 
-none_in : (c : SchemaContent) → ((n : List ℕ) (ns : List (List ℕ)) → has_action c (n ∷ ns) ≡ false) → (n : List (List ℕ))
+none_in : (c : SchemaContent) → ((n : List ℕ) (ns : List (List ℕ)) → has_action c (n ∷ ns) ≡ false)
+    → (n : List (List ℕ))
     → captured_in c n ≡ []
 none_in c f [] = refl
 none_in c f (n ∷ ns) = none_alone c (n ∷ ns) (f n ns)

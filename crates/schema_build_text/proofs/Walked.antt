@@ -1,5 +1,6 @@
 -- The text of the items in the order of the walk is the canonical text of the meaning that is printed.
-use Rattle.std.proofs.Common.{◌≡◌, ℕ, Bool, true, false, List, [], ◌∷◌, ◌++◌, codes, map, cond, get_or, All, refl, ap, sym, ◌∙◌, subst, append_assoc, Option, Some, None, if◌then◌else◌}
+use Rattle.std.proofs.Common.{◌≡◌, ℕ, Bool, true, false, List, [], ◌∷◌, ◌++◌, codes, map, cond, get_or, All, refl, ap}
+use Rattle.std.proofs.Common.{sym, ◌∙◌, subst, append_assoc, Option, Some, None, if◌then◌else◌}
 use Rattle.std.specs.declared.cmp.Ordering.TheVariants.{Less, Equal}
 use Rattle.std.specs.Cmp.{IsTotalOrder, on_total}
 use Rattle.std.specs.Cmp.Lexicographic.{slice_cmp, lists_total}
@@ -14,13 +15,15 @@ use Rattle.std.proofs.lemmas.Slice.Eq.{bytes_eq-Decides}
 use Rattle.cedar_data.specs.Text.{text_cmp}
 use Rattle.cedar_data.specs.Rows.{joined_by}
 use Rattle.cedar_identifiers.specs.Names.{name_text}
-use Rattle.cedar_names.specs.CanonicalText.{namespace, namespaces, line_end, in_order, items_text, namespace_text, canonical_text, entity_type_text, action_text}
+use Rattle.cedar_names.specs.CanonicalText.{namespace, namespaces, line_end, in_order, items_text, namespace_text}
+use Rattle.cedar_names.specs.CanonicalText.{canonical_text, entity_type_text, action_text}
 use Rattle.cedar_names.specs.Definitions.{same_name}
 use Rattle.cedar_names.specs.Meaning.{EntityMeaning, ActionMeaning}
 use Rattle.schema_build_types.specs.Content.{SchemaContent}
 use Rattle.schema_build_text.specs.Items.{item_text, base_in, opening, closing, break_between, before_text, after_text}
 use Rattle.schema_build_text.specs.Readings.{entity_reading, action_reading, schema_reading}
-use Rattle.schema_build_text.specs.Walk.{ItemContent, entity_type, action, namespace_of, items_of, items_in, namespaces_of, walk}
+use Rattle.schema_build_text.specs.Walk.{ItemContent, entity_type, action, namespace_of, items_of, items_in}
+use Rattle.schema_build_text.specs.Walk.{namespaces_of, walk}
 use Rattle.schema_build_text.specs.Rows.{sorted_once}
 use Rattle.schema_build_text.proofs.Grouped.{Rises, rises_sorted}
 use Rattle.schema_build_text.proofs.Named.{same_list}
@@ -41,16 +44,19 @@ by_bool P true t f = t refl
 by_bool P false t f = f refl
 
 pub apart : (m n : Name) → slice_cmp text_cmp m n ≡ Less → same_name m n ≡ false
-apart m n less = by_bool (λ b. same_name m n ≡ b → b ≡ false) (same_name m n) (λ e h. absurd (clash (same_list m n e))) (λ e h. refl) refl
+apart m n less = by_bool (λ b. same_name m n ≡ b → b ≡ false) (same_name m n)
+    (λ e h. absurd (clash (same_list m n e))) (λ e h. refl) refl
   where
     clash : m ≡ n → ⊥
-    clash e = let tied : slice_cmp text_cmp m n ≡ Equal = ap (slice_cmp text_cmp m) (sym e) ∙ tied_itself names_total m in cc
+    clash e = let tied : slice_cmp text_cmp m n ≡ Equal = ap (slice_cmp text_cmp m) (sym e)
+        ∙ tied_itself names_total m in cc
 
 -- the text of items behind one of this namespace
 abbrev pub text_behind : Option Name → List ItemContent → List ℕ
 text_behind before [] = after_text before
 text_behind before (z ∷ zs) =
-    before_text before (namespace_of z) ++ (item_text (base_in (namespace_of z)) z ++ text_behind (Some (namespace_of z)) zs)
+    before_text before (namespace_of z)
+    ++ (item_text (base_in (namespace_of z)) z ++ text_behind (Some (namespace_of z)) zs)
 
 -- all of this namespace
 abbrev pub AreIn : Name → List ItemContent → Type 0
@@ -72,7 +78,8 @@ group_text n (z ∷ zs) rest a =
     ap (λ m. break_between n m ++ (item_text (base_in m) z ++ text_behind (Some m) (zs ++ rest))) a.0
     ∙ (ap (λ t. t ++ (item_text (base_in n) z ++ text_behind (Some n) (zs ++ rest))) (together n)
     ∙ (ap (λ t. line_end ++ (item_text (base_in n) z ++ t)) (group_text n zs rest a.1)
-    ∙ ap (λ t. line_end ++ t) (sym (append_assoc (item_text (base_in n) z) (later_texts n zs) (text_behind (Some n) rest)))))
+    ∙ ap (λ t. line_end ++ t) (sym
+    (append_assoc (item_text (base_in n) z) (later_texts n zs) (text_behind (Some n) rest)))))
 
 joined_texts : (n : Name) (z : ItemContent) (zs : List ItemContent)
     → joined_by line_end (map (item_text (base_in n)) (z ∷ zs)) ≡ item_text (base_in n) z ++ later_texts n zs
@@ -96,15 +103,19 @@ module _ (items : Name → List ItemContent) where
 
   -- the text of a group, behind what stands before it
   begun_text : (before : Option Name) (n : Name) (zs rest : List ItemContent) → IsGroup n zs
-      → text_behind before (zs ++ rest) ≡ before_text before n ++ (joined_by line_end (map (item_text (base_in n)) zs) ++ text_behind (Some n) rest)
+      → text_behind before (zs ++ rest) ≡ before_text before n
+      ++ (joined_by line_end (map (item_text (base_in n)) zs) ++ text_behind (Some n) rest)
   begun_text before n zs rest g =
       let within : AreIn n (g.head ∷ g.rest) = subst (AreIn n) g.is g.within in
       ap (λ l. text_behind before (l ++ rest)) g.is
-      ∙ (ap (λ m. before_text before m ++ (item_text (base_in m) g.head ++ text_behind (Some m) (g.rest ++ rest))) within.0
+      ∙ (ap (λ m. before_text before m ++ (item_text (base_in m) g.head ++ text_behind (Some m) (g.rest ++ rest)))
+      within.0
       ∙ (ap (λ t. before_text before n ++ (item_text (base_in n) g.head ++ t)) (group_text n g.rest rest within.1)
-      ∙ (ap (λ t. before_text before n ++ t) (sym (append_assoc (item_text (base_in n) g.head) (later_texts n g.rest) (text_behind (Some n) rest)))
+      ∙ (ap (λ t. before_text before n ++ t)
+      (sym (append_assoc (item_text (base_in n) g.head) (later_texts n g.rest) (text_behind (Some n) rest)))
       ∙ (ap (λ t. before_text before n ++ (t ++ text_behind (Some n) rest)) (sym (joined_texts n g.head g.rest))
-      ∙ ap (λ l. before_text before n ++ (joined_by line_end (map (item_text (base_in n)) l) ++ text_behind (Some n) rest)) (sym g.is)))))
+      ∙ ap (λ l. before_text before n
+      ++ (joined_by line_end (map (item_text (base_in n)) l) ++ text_behind (Some n) rest)) (sym g.is)))))
 
   blocks_behind : (m : Name) (ns : List Name) → Rises names_total (m ∷ ns) → All (λ n. IsGroup n (items n)) ns
       → text_behind (Some m) (flat_map items ns) ≡ closing m ++ later_blocks ns
@@ -112,8 +123,10 @@ module _ (items : Name → List ItemContent) where
   blocks_behind m (n ∷ ns) r all =
       let texts = joined_by line_end (map (item_text (base_in n)) (items n)) in
       begun_text (Some m) n (items n) (flat_map items ns) (All-head (λ k. IsGroup k (items k)) n ns all)
-      ∙ (ap (λ (b : Bool). (if b then line_end else closing m ++ (line_end ++ opening n)) ++ (texts ++ text_behind (Some n) (flat_map items ns))) (apart m n r.0.0)
-      ∙ (ap (λ t. (closing m ++ (line_end ++ opening n)) ++ (texts ++ t)) (blocks_behind n ns r.1 (All-tail (λ k. IsGroup k (items k)) n ns all))
+      ∙ (ap (λ (b : Bool). (if b then line_end else closing m ++ (line_end ++ opening n))
+      ++ (texts ++ text_behind (Some n) (flat_map items ns))) (apart m n r.0.0)
+      ∙ (ap (λ t. (closing m ++ (line_end ++ opening n)) ++ (texts ++ t))
+      (blocks_behind n ns r.1 (All-tail (λ k. IsGroup k (items k)) n ns all))
       ∙ simp append_assoc))
 
   joined_blocks : (k : Name) (ks : List Name) → block k ++ later_blocks ks ≡ joined_by line_end (map block (k ∷ ks))
@@ -136,7 +149,8 @@ within n [] = tt
 within n (x ∷ xs) = by (within n xs) (same_name n (namespace_of x)) refl
   where
     by : AreIn n (filter (λ x. same_name n (namespace_of x)) xs) → (b : Bool) → same_name n (namespace_of x) ≡ b
-        → AreIn n (cond b (x ∷ filter (λ x. same_name n (namespace_of x)) xs) (filter (λ x. same_name n (namespace_of x)) xs))
+        → AreIn n (cond b (x ∷ filter (λ x. same_name n (namespace_of x)) xs)
+        (filter (λ x. same_name n (namespace_of x)) xs))
     by more true e = (sym (same_list n (namespace_of x) e), more)
     by more false e = more
 
@@ -153,12 +167,14 @@ more_items n x xs s = by (same_name n (namespace_of x)) refl
     by true e = record {
       head = x;
       rest = filter (λ x. same_name n (namespace_of x)) xs;
-      is = ap (λ t. cond t (x ∷ filter (λ x. same_name n (namespace_of x)) xs) (filter (λ x. same_name n (namespace_of x)) xs)) e;
+      is = ap (λ t. cond t (x ∷ filter (λ x. same_name n (namespace_of x)) xs)
+          (filter (λ x. same_name n (namespace_of x)) xs)) e;
     }
     by false e = record {
       head = s.head;
       rest = s.rest;
-      is = ap (λ t. cond t (x ∷ filter (λ x. same_name n (namespace_of x)) xs) (filter (λ x. same_name n (namespace_of x)) xs)) e ∙ s.is;
+      is = ap (λ t. cond t (x ∷ filter (λ x. same_name n (namespace_of x)) xs)
+          (filter (λ x. same_name n (namespace_of x)) xs)) e ∙ s.is;
     }
 
 own_items : (x : ItemContent) (xs : List ItemContent) → HasItems (namespace_of x) (x ∷ xs)
@@ -169,16 +185,21 @@ own_items x xs =
 all_have : (xs : List ItemContent) → All (λ n. HasItems n xs) (sorted_once (slice_cmp text_cmp) (map namespace_of xs))
 all_have [] = All-nil (λ n. HasItems n [])
 all_have (x ∷ xs) =
-    All-insert_key (slice_cmp text_cmp) (namespace_of x) (λ n. HasItems n (x ∷ xs)) (sorted_once (slice_cmp text_cmp) (map namespace_of xs))
-    (λ i d h. more_items (get_or (sorted_once (slice_cmp text_cmp) (map namespace_of xs)) i d) x xs (all_have xs i d h)) (own_items x xs)
+    All-insert_key (slice_cmp text_cmp) (namespace_of x) (λ n. HasItems n (x ∷ xs))
+    (sorted_once (slice_cmp text_cmp) (map namespace_of xs))
+    (λ i d h. more_items (get_or (sorted_once (slice_cmp text_cmp) (map namespace_of xs)) i d) x xs
+    (all_have xs i d h)) (own_items x xs)
 
-group_of : (n : Name) (xs : List ItemContent) → HasItems n xs → IsGroup n (filter (λ x. same_name n (namespace_of x)) xs)
+group_of : (n : Name) (xs : List ItemContent) → HasItems n xs
+    → IsGroup n (filter (λ x. same_name n (namespace_of x)) xs)
 group_of n xs s = record { head = s.head; rest = s.rest; is = s.is; within = within n xs }
 
-walk_text : (c : SchemaContent) → text_behind None (walk c) ≡ joined_by line_end (map (block (items_in c)) (namespaces_of c))
+walk_text : (c : SchemaContent)
+    → text_behind None (walk c) ≡ joined_by line_end (map (block (items_in c)) (namespaces_of c))
 walk_text c =
     let ns = sorted_once (slice_cmp text_cmp) (map namespace_of (items_of c)) in
-    subst (λ l. text_behind None (flat_map (items_in c) l) ≡ joined_by line_end (map (block (items_in c)) l)) (sym (in_order_is (map namespace_of (items_of c))))
+    subst (λ l. text_behind None (flat_map (items_in c) l) ≡ joined_by line_end (map (block (items_in c)) l))
+    (sym (in_order_is (map namespace_of (items_of c))))
     (blocks_text (items_in c) ns (rises_sorted names_total (map namespace_of (items_of c)))
     (λ i d h. group_of (get_or ns i d) (items_of c) (all_have (items_of c) i d h)))
 
@@ -186,16 +207,21 @@ pub filter_append : {X : Type 0} (p : X → Bool) (xs ys : List X) → filter p 
 filter_append p [] ys = refl
 filter_append p (x ∷ xs) ys = ap (λ l. cond (p x) (x ∷ l) l) (filter_append p xs ys) ∙ by (p x)
   where
-    by : (b : Bool) → cond b (x ∷ (filter p xs ++ filter p ys)) (filter p xs ++ filter p ys) ≡ cond b (x ∷ filter p xs) (filter p xs) ++ filter p ys
+    by : (b : Bool) → cond b (x ∷ (filter p xs ++ filter p ys)) (filter p xs ++ filter p ys)
+        ≡ cond b (x ∷ filter p xs) (filter p xs) ++ filter p ys
     by true = refl
     by false = refl
 
-module _ {A B D T : Type 0} (f : A → B) (g : A → D) (p : B → Bool) (q : D → Bool) (s : B → T) (t : D → T) (pq : (x : A) → p (f x) ≡ q (g x)) (st : (x : A) → s (f x) ≡ t (g x)) where
+module _ {A B D T : Type 0} (f : A → B) (g : A → D) (p : B → Bool) (q : D → Bool) (s : B → T) (t : D → T)
+    (pq : (x : A) → p (f x) ≡ q (g x)) (st : (x : A) → s (f x) ≡ t (g x)) where
   alike : (xs : List A) → map s (filter p (map f xs)) ≡ map t (filter q (map g xs))
   alike [] = refl
-  alike (x ∷ xs) = ap (λ b. map s (cond b (f x ∷ filter p (map f xs)) (filter p (map f xs)))) (pq x) ∙ by (alike xs) (q (g x))
+  alike (x ∷ xs) = ap (λ b. map s (cond b (f x ∷ filter p (map f xs)) (filter p (map f xs)))) (pq x)
+      ∙ by (alike xs) (q (g x))
     where
-      by : map s (filter p (map f xs)) ≡ map t (filter q (map g xs)) → (b : Bool) → map s (cond b (f x ∷ filter p (map f xs)) (filter p (map f xs))) ≡ map t (cond b (g x ∷ filter q (map g xs)) (filter q (map g xs)))
+      by : map s (filter p (map f xs)) ≡ map t (filter q (map g xs)) → (b : Bool)
+          → map s (cond b (f x ∷ filter p (map f xs)) (filter p (map f xs)))
+          ≡ map t (cond b (g x ∷ filter q (map g xs)) (filter q (map g xs)))
       by more true = λ i. st x i ∷ more i
       by more false = more
 
@@ -208,22 +234,28 @@ module _ (c : SchemaContent) where
       (ap (map (item_text base)) (filter_append p (map entity_type c.entities) (map action c.actions))
       ∙ (map-append (item_text base) (filter p (map entity_type c.entities)) (filter p (map action c.actions))
       ∙ (λ i.
-      alike entity_type entity_reading p (λ (e : EntityMeaning). same_name n (namespace e.name)) (item_text base) (entity_type_text true base) (λ x. refl) (λ x. refl) c.entities i
-      ++ alike action action_reading p (λ (a : ActionMeaning). same_name n (namespace a.ty)) (item_text base) (action_text true base) (λ x. refl) (λ x. refl) c.actions i)))
+      alike entity_type entity_reading p (λ (e : EntityMeaning). same_name n (namespace e.name)) (item_text base)
+      (entity_type_text true base) (λ x. refl) (λ x. refl) c.entities i
+      ++ alike action action_reading p (λ (a : ActionMeaning). same_name n (namespace a.ty)) (item_text base)
+      (action_text true base) (λ x. refl) (λ x. refl) c.actions i)))
 
   block_is : (n : Name) → block (items_in c) n ≡ namespace_text true (schema_reading c) n
   block_is [] = append-nil (joined_by line_end (map (item_text 0) (items_in c []))) ∙ texts_are 0 []
   block_is (k ∷ ks) =
-      ap (λ t. (codes "namespace " ++ (name_text (k ∷ ks) ++ codes " {\n")) ++ (t ++ codes "}\n")) (texts_are 2 (k ∷ ks))
-      ∙ ap (λ t. codes "namespace " ++ t) (append_assoc (name_text (k ∷ ks)) (codes " {\n") (items_text true 2 (schema_reading c) (k ∷ ks) ++ codes "}\n"))
+      ap (λ t. (codes "namespace " ++ (name_text (k ∷ ks) ++ codes " {\n")) ++ (t ++ codes "}\n"))
+      (texts_are 2 (k ∷ ks))
+      ∙ ap (λ t. codes "namespace " ++ t)
+      (append_assoc (name_text (k ∷ ks)) (codes " {\n") (items_text true 2 (schema_reading c) (k ∷ ks) ++ codes "}\n"))
 
   names_are : namespaces_of c ≡ namespaces (schema_reading c)
   names_are =
       ap in_order
       (map-append namespace_of (map entity_type c.entities) (map action c.actions)
       ∙ (λ i.
-      (map_both namespace_of entity_type c.entities ∙ sym (map_both (λ (e : EntityMeaning). namespace e.name) entity_reading c.entities)) i
-      ++ (map_both namespace_of action c.actions ∙ sym (map_both (λ (a : ActionMeaning). namespace a.ty) action_reading c.actions)) i))
+      (map_both namespace_of entity_type c.entities
+      ∙ sym (map_both (λ (e : EntityMeaning). namespace e.name) entity_reading c.entities)) i
+      ++ (map_both namespace_of action c.actions
+      ∙ sym (map_both (λ (a : ActionMeaning). namespace a.ty) action_reading c.actions)) i))
 
   pub printed : text_behind None (walk c) ≡ canonical_text (schema_reading c)
   printed = walk_text c ∙ (λ i. joined_by line_end (map (λ n. block_is n i) (names_are i)))

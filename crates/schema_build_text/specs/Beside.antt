@@ -1,5 +1,5 @@
--- What is captured, told by the first action at or behind an item of the walk, in which the actions of a namespace stand
--- last.
+-- What is captured, told by the first action at or behind an item of the walk, in which the actions of a namespace
+-- stand last.
 use Rattle.std.specs.Prelude.{ℕ, Bool, false, ◌&&◌, List, [], ◌∷◌, Option, None, Some, if◌then◌else◌}
 use Rattle.cedar_names.specs.CanonicalText.{namespace}
 use Rattle.cedar_names.specs.Definitions.{same_name}

@@ -1,12 +1,14 @@
 -- Which items of a built schema are captured: a type of theirs holds the type `Action` of the empty namespace, and
 -- their own namespace has a name and an action, so that there the text `Action` means the type of its own actions.
-use Rattle.std.specs.Prelude.{◌≡◌, ℕ, Bool, false, ◌||◌, List, [], ◌∷◌, codes, filter, Option, None, Some, if◌then◌else◌}
+use Rattle.std.specs.Prelude.{◌≡◌, ℕ, Bool, false, ◌||◌, List, [], ◌∷◌, codes, filter, Option, None, Some}
+use Rattle.std.specs.Prelude.{if◌then◌else◌}
 use Rattle.std.specs.List.{flat_map, list_any}
 use Rattle.cedar_identifiers.specs.Names.{components_of}
 use Rattle.cedar_names.specs.CanonicalText.{basename, namespace}
 use Rattle.cedar_names.specs.Definitions.{same_name, among}
 use Rattle.cedar_names.specs.Meaning.{SchemaMeaning}
-use Rattle.schema_build_types.specs.Content.{TypeContent, AttributeContents, none, first, EntityContent, ActionContent, SchemaContent}
+use Rattle.schema_build_types.specs.Content.{TypeContent, AttributeContents, none, first, EntityContent, ActionContent}
+use Rattle.schema_build_types.specs.Content.{SchemaContent}
 use Rattle.schema_build_types.specs.Content as said
 use Rattle.schema_build_types.specs.Standing.{schema_as_built}
 use Rattle.schema_build_errors.specs.declared.captured.CapturedItem.{CapturedItem}

@@ -1,5 +1,6 @@
 -- A search by halving among entries whose keys rise.
-use Rattle.std.proofs.Common.{◌≡◌, ℕ, zero, suc, ◌+◌, ◌<◌, List, [], ◌∷◌, length, get_or, All, Bool, true, false, Some, None, Ordering, refl, sym, ap, ◌∙◌, subst, arith, inl, inr}
+use Rattle.std.proofs.Common.{◌≡◌, ℕ, zero, suc, ◌+◌, ◌<◌, List, [], ◌∷◌, length, get_or, All, Bool, true, false, Some}
+use Rattle.std.proofs.Common.{None, Ordering, refl, sym, ap, ◌∙◌, subst, arith, inl, inr}
 use Rattle.std.specs.declared.cmp.Ordering.TheVariants.{Less, Equal, Greater}
 use Rattle.std.specs.Ordering.{ordering_reverse}
 use Rattle.std.specs.BTreeMap.{is_at}
@@ -49,16 +50,20 @@ module _ {K : Type 0} {R : K → K → Ordering} (o : IsTotalOrder R) (q : K) wh
     lookup_hit [] i d up h e = absurd (omega arith)
     lookup_hit (x ∷ es) zero d up h e = lookup_head (is_at (R q)) x es (hit x.0 e)
     lookup_hit (x ∷ es) (suc i) d up h e =
-        let first : R x.0 (get_or es i d).0 ≡ Less = key_at es i d (λ k. R x.0 k ≡ Less) (All-after_first R x.0 (keys_of es) up) (omega arith) in
-        lookup_tail (is_at (R q)) x es (miss x.0 (below_hit x.0 (get_or es i d).0 first e)) ∙ lookup_hit es i d (sorted_tail R x.0 (keys_of es) up) (omega arith) e
+        let first : R x.0 (get_or es i d).0
+        ≡ Less = key_at es i d (λ k. R x.0 k ≡ Less) (All-after_first R x.0 (keys_of es) up) (omega arith) in
+        lookup_tail (is_at (R q)) x es (miss x.0 (below_hit x.0 (get_or es i d).0 first e))
+        ∙ lookup_hit es i d (sorted_tail R x.0 (keys_of es) up) (omega arith) e
 
     -- where the keys before a place are below q and those from it on are above, q is not looked up
     pub lookup_miss : (es : List (K × X)) (i : ℕ) → IsStrictlySortedBy R (keys_of es) → IsGap R q es i i
         → lookup (is_at (R q)) es ≡ None
     lookup_miss es i up gap =
         lookup_at_gap o q es i up
-        (λ j e lt at. turned e.0 Less (subst (λ x. R x.0 q ≡ Less) (get_or_from_slice_get es j e e at) (gap.below j e lt)))
-        (λ e at. turned e.0 Greater (subst (λ x. R x.0 q ≡ Greater) (get_or_from_slice_get es i e e at) (gap.above i e (omega arith) (slice_get_within es i e at))))
+        (λ j e lt at. turned e.0 Less (subst (λ x. R x.0 q ≡ Less) (get_or_from_slice_get es j e e at)
+        (gap.below j e lt)))
+        (λ e at. turned e.0 Greater (subst (λ x. R x.0 q ≡ Greater) (get_or_from_slice_get es i e e at)
+        (gap.above i e (omega arith) (slice_get_within es i e at))))
 
     -- an earlier key is below a later one
     rises : (es : List (K × X)) (i j : ℕ) (d : K × X) → IsStrictlySortedBy R (keys_of es) → i < j → j < length es
@@ -66,7 +71,8 @@ module _ {K : Type 0} {R : K → K → Ordering} (o : IsTotalOrder R) (q : K) wh
     rises es i j d up lt h =
         let at_i : get_or (keys_of es) i d.0 ≡ (get_or es i d).0 = get_or-map (λ e. e.0) es i d d.0 (omega arith) in
         let at_j : get_or (keys_of es) j d.0 ≡ (get_or es j d).0 = get_or-map (λ e. e.0) es j d d.0 h in
-        let low : R (get_or (keys_of es) i d.0) (get_or (keys_of es) j d.0) ≡ Less = Less-from_sorted R (keys_of es) i j d.0 up lt (omega (arith, length-keys_of es)) in
+        let low : R (get_or (keys_of es) i d.0) (get_or (keys_of es) j d.0)
+        ≡ Less = Less-from_sorted R (keys_of es) i j d.0 up lt (omega (arith, length-keys_of es)) in
         ap (λ k. R k (get_or es j d).0) (sym at_i) ∙ ap (λ k. R (get_or (keys_of es) i d.0) k) (sym at_j) ∙ low
 
     -- the entry in the middle is below q, and so is each before it
@@ -74,12 +80,14 @@ module _ {K : Type 0} {R : K → K → Ordering} (o : IsTotalOrder R) (q : K) wh
         → IsGap R q es low high → middle < high → e ≡ get_or es middle e → R e.0 q ≡ Less
         → IsGap R q es (middle + 1) high
     below_more es low high middle e up gap h at less =
-        let here : (d : K × X) → R (get_or es middle d).0 q ≡ Less = λ d. ap (λ x. R x.0 q) (get_or_default es middle d e (omega (arith, gap.in_range)) ∙ sym at) ∙ less in
+        let here : (d : K × X) → R (get_or es middle d).0 q
+        ≡ Less = λ d. ap (λ x. R x.0 q) (get_or_default es middle d e (omega (arith, gap.in_range)) ∙ sym at) ∙ less in
         record {
           in_range = gap.in_range;
           below = λ k d lt. elim (cases_eq k middle) [
             | inl same ↦ subst (λ i. R (get_or es i d).0 q ≡ Less) (sym same) (here d)
-            | inr other ↦ o.trans (get_or es k d).0 (get_or es middle d).0 q (rises es k middle d up (omega arith) (omega (arith, gap.in_range))) (here d)
+            | inr other ↦ o.trans (get_or es k d).0 (get_or es middle d).0 q
+                (rises es k middle d up (omega arith) (omega (arith, gap.in_range))) (here d)
           ];
           above = gap.above;
         }
@@ -89,12 +97,16 @@ module _ {K : Type 0} {R : K → K → Ordering} (o : IsTotalOrder R) (q : K) wh
         → IsGap R q es low high → middle < high → e ≡ get_or es middle e → R e.0 q ≡ Greater
         → IsGap R q es low middle
     above_more es low high middle e up gap h at greater =
-        let here : (d : K × X) → R (get_or es middle d).0 q ≡ Greater = λ d. ap (λ x. R x.0 q) (get_or_default es middle d e (omega (arith, gap.in_range)) ∙ sym at) ∙ greater in
+        let here : (d : K × X) → R (get_or es middle d).0 q
+        ≡ Greater = λ d. ap (λ x. R x.0 q) (get_or_default es middle d e (omega (arith, gap.in_range)) ∙ sym at)
+        ∙ greater in
         record {
           in_range = omega (arith, gap.in_range);
           below = gap.below;
           above = λ k d ge lt. elim (cases_eq k middle) [
             | inl same ↦ subst (λ i. R (get_or es i d).0 q ≡ Greater) (sym same) (here d)
-            | inr other ↦ o.antisymm (get_or es k d).0 q ∙ ap ordering_reverse (o.trans q (get_or es middle d).0 (get_or es k d).0 (turned (get_or es middle d).0 Greater (here d)) (rises es middle k d up (omega arith) lt))
+            | inr other ↦ o.antisymm (get_or es k d).0 q
+                ∙ ap ordering_reverse (o.trans q (get_or es middle d).0 (get_or es k d).0
+                (turned (get_or es middle d).0 Greater (here d)) (rises es middle k d up (omega arith) lt))
           ];
         }

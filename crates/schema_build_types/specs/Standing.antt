@@ -5,14 +5,16 @@ use Rattle.std.specs.Option.{option_map}
 use Rattle.cedar_identifiers.specs.Names.{components_of}
 use Rattle.cedar_identifiers.specs.declared.name.Name.{Name}
 use Rattle.cedar_identifiers.specs.declared.unreserved_id.UnreservedId.{UnreservedId}
-use Rattle.cedar_names.specs.Meaning.{PlainType, Attributes, no_more, attribute, EntityMeaning, ActionMeaning, SchemaMeaning}
+use Rattle.cedar_names.specs.Meaning.{PlainType, Attributes, no_more, attribute, EntityMeaning, ActionMeaning}
+use Rattle.cedar_names.specs.Meaning.{SchemaMeaning}
 use Rattle.cedar_names.specs.Meaning as plain
 use Rattle.cedar_names.specs.declared.entity_uid.EntityUID.{EntityUID}
 use Rattle.schema_build_types.specs.declared.types.Type.{«Type»}
 use Rattle.schema_build_types.specs.declared.types.Type.TheVariants as built
 use Rattle.schema_build_types.specs.declared.entity_type.ValidatorEntityType.{ValidatorEntityType}
 use Rattle.schema_build_types.specs.declared.action.ValidatorActionId.{ValidatorActionId}
-use Rattle.schema_build_types.specs.Content.{TypeContent, AttributeContents, none, first, EntityContent, ActionContent, SchemaContent, content}
+use Rattle.schema_build_types.specs.Content.{TypeContent, AttributeContents, none, first, EntityContent, ActionContent}
+use Rattle.schema_build_types.specs.Content.{SchemaContent, content}
 use Rattle.schema_build_types.specs.Content as said
 
 -- the type that is built for a plain type

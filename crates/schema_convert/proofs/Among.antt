@@ -1,5 +1,6 @@
 -- What is in lists and in the maps of their entries.
-use Rattle.std.proofs.Common.{◌≡◌, ◌↔◌, ◌⊎◌, inl, inr, Bool, true, false, cond, List, [], ◌∷◌, ◌++◌, map, Option, Some, None, refl, sym, ap, ◌∙◌, subst, true≢false, flat_map, is_some, find, if◌then◌else◌}
+use Rattle.std.proofs.Common.{◌≡◌, ◌↔◌, ◌⊎◌, inl, inr, Bool, true, false, cond, List, [], ◌∷◌, ◌++◌, map, Option, Some}
+use Rattle.std.proofs.Common.{None, refl, sym, ap, ◌∙◌, subst, true≢false, flat_map, is_some, find, if◌then◌else◌}
 use Rattle.std.specs.declared.cmp.Ordering.{Ordering}
 use Rattle.std.specs.declared.cmp.Ordering.TheVariants.{Less, Equal, Greater}
 use Rattle.std.specs.Ordering.{is_eq, match_ordering}
@@ -32,7 +33,11 @@ module _ {A B : Type 0} (f : A → List B) where
       let split = among_append w (f z) (flat_map f xs) in
       let rest = among_flat w xs in (
         λ h. elim (split.0 h) [ inl e ↦ (z, inl refl, e) | inr e ↦ let g = rest.0 e in (g.0, inr g.1, g.2) ],
-        λ h. elim h.1 [ inl e ↦ split.1 (inl (subst (λ y. IsAmong w (f y)) e h.2)) | inr e ↦ split.1 (inr (rest.1 (h.0, e, h.2))) ],
+        λ h. elim h.1 [
+          | inl e ↦ split.1 (inl (subst (λ y. IsAmong w (f y)) e h.2))
+          | inr e ↦ split.1
+              (inr (rest.1 (h.0, e, h.2)))
+        ],
       )
 
 among_map : {A C : Type 0} (g : A → C) (w : C) (xs : List A)
@@ -57,7 +62,8 @@ module _ {K X : Type 0} (R : K → K → Ordering) where
   among_insert_by : (k : K) (v : X) (e : K × X) (es : List (K × X)) (x : K × X) (r : Ordering) → R k e.0 ≡ r
       → is_eq (R k e.0) ≡ false
       → (IsAmong x (insert_entry R es k v) ↔ (x ≡ (k, v)) ⊎ IsAmong x es)
-      → IsAmong x (match_ordering r ((k, v) ∷ e ∷ es) ((e.0, v) ∷ es) (e ∷ insert_entry R es k v)) ↔ (x ≡ (k, v)) ⊎ IsAmong x (e ∷ es)
+      → IsAmong x (match_ordering r ((k, v) ∷ e ∷ es) ((e.0, v) ∷ es) (e ∷ insert_entry R es k v)) ↔ (x ≡ (k, v)) ⊎
+      IsAmong x (e ∷ es)
   among_insert_by k v e es x Less q n i = (λ h. h, λ h. h)
   among_insert_by k v e es x Equal q n i = absurd (true≢false (sym (ap is_eq q) ∙ n))
   among_insert_by k v e es x Greater q n i = (
@@ -84,7 +90,11 @@ module _ {K X : Type 0} (R : K → K → Ordering) where
       let rest = among_with (insert_entry R m e.0 e.1) es x h.1 in
       let one = among_insert e.0 e.1 m x h.0 in (
         λ g. elim (rest.0 g) [ inl f ↦ elim (one.0 f) [ inl k ↦ inr (inl k) | inr k ↦ inl k ] | inr f ↦ inr (inr f) ],
-        λ g. elim g [ inl f ↦ rest.1 (inl (one.1 (inr f))) | inr f ↦ elim f [ inl k ↦ rest.1 (inl (one.1 (inl k))) | inr k ↦ rest.1 (inr k) ] ],
+        λ g. elim g [
+          | inl f ↦ rest.1 (inl (one.1 (inr f)))
+          | inr f ↦ elim f
+              [ inl k ↦ rest.1 (inl (one.1 (inl k))) | inr k ↦ rest.1 (inr k) ]
+        ],
       )
 
   -- of keys that are all new, the map has exactly the entries
@@ -124,7 +134,8 @@ module _ {N K X : Type 0} (R : K → K → Ordering) (o : IsTotalOrder R) (key :
         put R o q (key n) (value n) m
         ∙ (by_cond (is_eq (R q (key n))) (value n) (lookup (is_at (R q)) m)
         ∙ (ap (option_or (if is_eq (R q (key n)) then Some (value n) else None)) (has q)
-        ∙ (sym (last-append (is_at (R q)) (map entry_of done) (entry_of n ∷ [])) ∙ ap (last_at (is_at (R q))) (sym (map-append entry_of done (n ∷ [])))))))
+        ∙ (sym (last-append (is_at (R q)) (map entry_of done) (entry_of n ∷ []))
+        ∙ ap (last_at (is_at (R q))) (sym (map-append entry_of done (n ∷ [])))))))
         new.1,
   )
 
@@ -141,7 +152,12 @@ module _ {N K X : Type 0} (R : K → K → Ordering) (o : IsTotalOrder R) (key :
             let p = flat.0 h in
             let n = (among_map entry_of p.0 ns).0 ((among_entries ns p.0 new).0 p.1) in
             (n.0, n.1, subst (λ e. IsAmong w (f e)) n.2 p.2),
-        λ h. flat.1 (entry_of h.0, (among_entries ns (entry_of h.0) new).1 ((among_map entry_of (entry_of h.0) ns).1 (h.0, h.1, refl)), h.2),
+        λ h. flat.1 (
+          entry_of h.0,
+          (among_entries ns (entry_of h.0) new).1
+              ((among_map entry_of (entry_of h.0) ns).1 (h.0, h.1, refl)),
+          h.2,
+        ),
       )
 
   false_by : (p : N → Bool) (z x : N) (xs : List N) → (IsAmong z xs → find p xs ≡ None → p z ≡ false)
@@ -179,8 +195,11 @@ module _ {N K X : Type 0} (R : K → K → Ordering) (o : IsTotalOrder R) (key :
     found_in n done [] new h g = absurd h
     found_in n done (x ∷ ns) new (inl is) g =
         let at : at_key x ≡ true = ap at_key (sym is) ∙ g in
-        let none : last_at (is_at (R q)) (map entry_of ns) ≡ None = last_none (is_at (R q)) ns (none_later x (done ++ x ∷ []) ns ((among_append x done (x ∷ [])).1 (inr (inl refl))) at new.1) in
-        ap (λ l. option_or l (if at_key x then Some (value x) else None)) none ∙ rw at (ap (λ m. Some (value m)) (sym is))
+        let none : last_at (is_at (R q)) (map entry_of ns)
+        ≡ None = last_none (is_at (R q)) ns
+        (none_later x (done ++ x ∷ []) ns ((among_append x done (x ∷ [])).1 (inr (inl refl))) at new.1) in
+        ap (λ l. option_or l (if at_key x then Some (value x) else None)) none
+        ∙ rw at (ap (λ m. Some (value m)) (sym is))
     found_in n done (x ∷ ns) new (inr h) g =
         ap (λ l. option_or l (if at_key x then Some (value x) else None)) (found_in n (done ++ x ∷ []) ns new.1 h g)
 
@@ -207,5 +226,8 @@ module _ {N K X : Type 0} (R : K → K → Ordering) (o : IsTotalOrder R) (key :
     pub looked_up : (ns : List N) (v : X) → AreNew same_key [] ns
         → lookup (is_at (R q)) (map_of R (map entry_of ns)) ≡ Some v ↔ IsFound ns v
     looked_up ns v new =
-        let last = map_last R o q (map entry_of ns) in
-        (λ h. where_found ns v (sym last ∙ h), λ f. last ∙ (found_in f.0 [] ns new f.1 f.2 ∙ ap (λ (u : X). Some u) f.3))
+        let last = map_last R o q (map entry_of ns) in (
+          λ h. where_found ns v (sym last ∙ h),
+          λ f. last
+              ∙ (found_in f.0 [] ns new f.1 f.2 ∙ ap (λ (u : X). Some u) f.3),
+        )

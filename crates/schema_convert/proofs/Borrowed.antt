@@ -18,7 +18,9 @@ module _ {A B K X : Type 0} (f : A → K) (h : B → X) where
 
     insert_by : (es : List (A × B)) (e : A × B) (k : A) (v : B)
         → map both (insert_entry before es k v) ≡ insert_entry cmp (map both es) (f k) (h v) → (o : Ordering)
-        → map both (match_ordering o ((k, v) ∷ e ∷ es) ((e.0, v) ∷ es) (e ∷ insert_entry before es k v)) ≡ match_ordering o ((f k, h v) ∷ both e ∷ map both es) ((f e.0, h v) ∷ map both es) (both e ∷ insert_entry cmp (map both es) (f k) (h v))
+        → map both (match_ordering o ((k, v) ∷ e ∷ es) ((e.0, v) ∷ es) (e ∷ insert_entry before es k v))
+        ≡ match_ordering o ((f k, h v) ∷ both e ∷ map both es) ((f e.0, h v) ∷ map both es)
+        (both e ∷ insert_entry cmp (map both es) (f k) (h v))
     insert_by es e k v i Less = refl
     insert_by es e k v i Equal = refl
     insert_by es e k v i Greater = ap (λ l. both e ∷ l) i
@@ -31,14 +33,16 @@ module _ {A B K X : Type 0} (f : A → K) (h : B → X) where
     with_is : (m es : List (A × B))
         → map both (with_entries before m es) ≡ with_entries cmp (map both m) (map both es)
     with_is m [] = refl
-    with_is m (e ∷ es) = with_is (insert_entry before m e.0 e.1) es ∙ ap (λ l. with_entries cmp l (map both es)) (insert_is m e.0 e.1)
+    with_is m (e ∷ es) = with_is (insert_entry before m e.0 e.1) es
+        ∙ ap (λ l. with_entries cmp l (map both es)) (insert_is m e.0 e.1)
 
     pub map_of_is : (es : List (A × B)) → map both (map_of before es) ≡ map_of cmp (map both es)
     map_of_is es = with_is [] es
 
   lookup_by : (test : K → Bool) (es : List (A × B)) (e : A × B)
       → lookup test (map both es) ≡ option_map h (lookup (λ k. test (f k)) es) → (b : Bool)
-      → cond b (Some (h e.1)) (lookup test (map both es)) ≡ option_map h (cond b (Some e.1) (lookup (λ k. test (f k)) es))
+      → cond b (Some (h e.1)) (lookup test (map both es))
+      ≡ option_map h (cond b (Some e.1) (lookup (λ k. test (f k)) es))
   lookup_by test es e i true = refl
   lookup_by test es e i false = i
 

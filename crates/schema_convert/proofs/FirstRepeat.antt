@@ -1,5 +1,6 @@
 -- The first repeat, by where it stands.
-use Rattle.std.proofs.Common.{◌≡◌, ◌↔◌, Bool, find, List, [], ◌∷◌, ◌++◌, Option, Some, None, refl, sym, ap, ◌∙◌, subst, append_assoc, append-nil, true≢false, is_some}
+use Rattle.std.proofs.Common.{◌≡◌, ◌↔◌, Bool, find, List, [], ◌∷◌, ◌++◌, Option, Some, None, refl, sym, ap, ◌∙◌, subst}
+use Rattle.std.proofs.Common.{append_assoc, append-nil, true≢false, is_some}
 use Rattle.std.specs.Ordering.{is_eq}
 use Rattle.std.specs.declared.cmp.Ordering.{Ordering}
 use Rattle.schema_convert.specs.Repeats.{same_among, or_later, repeat_behind, first_repeat}
@@ -26,7 +27,8 @@ module _ {K : Type 0} (test : K → K → Bool) where
   new_from done [] h = tt
   new_from done (y ∷ xs) h = (
     ap (find (test y)) (sym (append-nil done)) ∙ h [] xs y refl,
-    new_from (done ++ y ∷ []) xs (λ before after x e. ap (find (test x)) (append_assoc done (y ∷ []) before) ∙ h (y ∷ before) after x (ap (λ l. y ∷ l) e)),
+    new_from (done ++ y ∷ []) xs (λ before after x e. ap (find (test x)) (append_assoc done (y ∷ []) before)
+        ∙ h (y ∷ before) after x (ap (λ l. y ∷ l) e)),
   )
 
   pub new_everywhere : (items : List K) → AreNew [] items
@@ -53,21 +55,38 @@ module _ {K : Type 0} (cmp : K → K → Ordering) where
       ap (λ o. or_later o x (repeat_behind cmp (done ++ x ∷ []) xs)) h.0 ∙ none_where_new (done ++ x ∷ []) xs h.1
 
   pub none_found : (items : List K) → first_repeat cmp items ≡ None ↔ NoneRepeats cmp items
-  none_found items = (λ h. new_everywhere by_order items (new_where_none [] items h), λ h. none_where_new [] items (new_from by_order [] items h))
+  none_found items = (
+    λ h. new_everywhere by_order items (new_where_none [] items h),
+    λ h. none_where_new [] items
+        (new_from by_order [] items h),
+  )
 
   abbrev pub Found : List K → List K → K → K → Type 0
   Found done xs first second =
-      (before : List K) × (after : List K) × (xs ≡ before ++ second ∷ after) × AreNew by_order done before × (same_among cmp second (done ++ before) ≡ Some first)
+      (before : List K) × (after : List K) × (xs ≡ before ++ second ∷ after) × AreNew by_order done before
+      × (same_among cmp second (done ++ before) ≡ Some first)
 
   some_by : (done : List K) (x : K) (xs : List K) (first second : K) (o : Option K) → same_among cmp x done ≡ o
       → (repeat_behind cmp (done ++ x ∷ []) xs ≡ Some (first, second) → Found (done ++ x ∷ []) xs first second)
       → or_later o x (repeat_behind cmp (done ++ x ∷ []) xs) ≡ Some (first, second) → Found done (x ∷ xs) first second
   some_by done x xs first second (Some y) e later h =
-      let is : (y, x) ≡ (first, second) = some_pair (y, x) (first, second) h in
-      ([], xs, ap (λ (p : K × K). p.1 ∷ xs) is, tt, ap (same_among cmp second) (append-nil done) ∙ (ap (λ (p : K × K). same_among cmp p.1 done) (sym is) ∙ (e ∙ ap (λ (p : K × K). Some p.0) is)))
+      let is : (y, x) ≡ (first, second) = some_pair (y, x) (first, second) h in (
+        [],
+        xs,
+        ap (λ (p : K × K). p.1 ∷ xs) is,
+        tt,
+        ap (same_among cmp second) (append-nil done)
+            ∙ (ap (λ (p : K × K). same_among cmp p.1 done) (sym is) ∙ (e ∙ ap (λ (p : K × K). Some p.0) is)),
+      )
   some_by done x xs first second None e later h =
-      let found = later h in
-      (x ∷ found.0, found.1, ap (λ l. x ∷ l) found.2, (e, found.3), ap (same_among cmp second) (sym (append_assoc done (x ∷ []) found.0)) ∙ found.4)
+      let found = later h in (
+        x ∷ found.0,
+        found.1,
+        ap (λ l. x ∷ l) found.2,
+        (e, found.3),
+        ap (same_among cmp second)
+            (sym (append_assoc done (x ∷ []) found.0)) ∙ found.4,
+      )
 
   found_where_some : (done xs : List K) (first second : K) → repeat_behind cmp done xs ≡ Some (first, second)
       → Found done xs first second
@@ -79,17 +98,21 @@ module _ {K : Type 0} (cmp : K → K → Ordering) where
       → same_among cmp second (done ++ before) ≡ Some first
       → repeat_behind cmp done (before ++ second ∷ after) ≡ Some (first, second)
   some_where_found done [] after first second new same =
-      ap (λ o. or_later o second (repeat_behind cmp (done ++ second ∷ []) after)) (ap (same_among cmp second) (sym (append-nil done)) ∙ same)
+      ap (λ o. or_later o second (repeat_behind cmp (done ++ second ∷ []) after))
+      (ap (same_among cmp second) (sym (append-nil done)) ∙ same)
   some_where_found done (x ∷ before) after first second new same =
       ap (λ o. or_later o x (repeat_behind cmp (done ++ x ∷ []) (before ++ second ∷ after))) new.0
-      ∙ some_where_found (done ++ x ∷ []) before after first second new.1 (ap (same_among cmp second) (append_assoc done (x ∷ []) before) ∙ same)
+      ∙ some_where_found (done ++ x ∷ []) before after first second new.1
+      (ap (same_among cmp second) (append_assoc done (x ∷ []) before) ∙ same)
 
   is_first : (items : List K) (first second : K) → Found [] items first second → IsFirstRepeat cmp items first second
-  is_first items first second f = record { before = f.0; after = f.1; split = f.2; none_before = new_everywhere by_order f.0 f.3; same = f.4 }
+  is_first items first second f =
+      record { before = f.0; after = f.1; split = f.2; none_before = new_everywhere by_order f.0 f.3; same = f.4 }
 
   pub some_found : (items : List K) (first second : K)
       → first_repeat cmp items ≡ Some (first, second) ↔ IsFirstRepeat cmp items first second
   some_found items first second = (
     λ h. is_first items first second (found_where_some [] items first second h),
-    λ r. ap (repeat_behind cmp []) r.split ∙ some_where_found [] r.before r.after first second (new_from by_order [] r.before r.none_before) r.same,
+    λ r. ap (repeat_behind cmp []) r.split
+        ∙ some_where_found [] r.before r.after first second (new_from by_order [] r.before r.none_before) r.same,
   )

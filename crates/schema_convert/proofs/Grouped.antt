@@ -20,7 +20,8 @@ opened g = (g.first, g.first ∷ g.others.items)
 
 -- names are in order by their ids, and no name comes first
 pub names_total : IsTotalOrder (option_cmp path_cmp)
-names_total = options_total (on_total (λ (p : Path). p.ids) (lists_total (on_total (λ (id : Id). id.text) (on_total encode_utf8_all (lists_total nat_cmp_total)))))
+names_total = options_total (on_total (λ (p : Path). p.ids)
+    (lists_total (on_total (λ (id : Id). id.text) (on_total encode_utf8_all (lists_total nat_cmp_total)))))
 
 abbrev pub joined_groups : List Openings → List (Annotated Namespace)
 joined_groups groups = map (λ g. opened_as g.first (g.first ∷ g.others.items)) groups
@@ -33,11 +34,13 @@ as_pairs [] = refl
 as_pairs (g ∷ groups) = ap (λ l. opened_as g.first (g.first ∷ g.others.items) ∷ l) (as_pairs groups)
 
 by_firsts : (namespaces firsts : List (Annotated Namespace))
-    → map whole (map (with_all (λ (n : Annotated Namespace). n.item.name) (option_cmp path_cmp) namespaces) firsts) ≡ map (λ n. opened_as n (openings_of n namespaces)) firsts
+    → map whole (map (with_all (λ (n : Annotated Namespace). n.item.name) (option_cmp path_cmp) namespaces) firsts)
+    ≡ map (λ n. opened_as n (openings_of n namespaces)) firsts
 by_firsts namespaces [] = refl
 by_firsts namespaces (n ∷ firsts) = ap (λ l. opened_as n (openings_of n namespaces) ∷ l) (by_firsts namespaces firsts)
 
 pub all_joined : (namespaces : List (Annotated Namespace)) (groups : List Openings)
-    → map opened groups ≡ map (with_all (λ (n : Annotated Namespace). n.item.name) (option_cmp path_cmp) namespaces) (first_openings namespaces)
+    → map opened groups ≡ map (with_all (λ (n : Annotated Namespace). n.item.name) (option_cmp path_cmp) namespaces)
+    (first_openings namespaces)
     → joined_groups groups ≡ joined_by_name namespaces
 all_joined namespaces groups h = as_pairs groups ∙ (ap (map whole) h ∙ by_firsts namespaces (first_openings namespaces))

@@ -1,5 +1,7 @@
 -- Where no fault is found.
-use Rattle.std.proofs.Common.{◌≡◌, ◌↔◌, ℕ, Bool, true, false, List, [], ◌∷◌, ◌++◌, Option, Some, None, is_none, is_some, find, if◌then◌else◌, refl, sym, ap, ◌∙◌, append_assoc, append-nil, true≢false, filter_map, flat_map, option_to_list}
+use Rattle.std.proofs.Common.{◌≡◌, ◌↔◌, ℕ, Bool, true, false, List, [], ◌∷◌, ◌++◌, Option, Some, None, is_none, is_some}
+use Rattle.std.proofs.Common.{find, if◌then◌else◌, refl, sym, ap, ◌∙◌, append_assoc, append-nil, true≢false, filter_map}
+use Rattle.std.proofs.Common.{flat_map, option_to_list}
 use Rattle.std.specs.List.{AllByRecursion, list_any, cons_option}
 use Rattle.std.specs.Option.{option_or}
 use Rattle.cedar_data.specs.Span.{Span}
@@ -17,13 +19,18 @@ use Rattle.schema_syntax_tree.specs.declared.path.Path.{Path}
 use Rattle.schema_syntax_tree.specs.declared.pr.PR.TheVariants.{Principal, Resource}
 use Rattle.schema_json.specs.Keywords.{is_keyword_name}
 use Rattle.schema_convert_errors.specs.declared.errors.ToJsonSchemaError.{ToJsonSchemaError}
-use Rattle.schema_convert.specs.Faults.{is_reserved_path, reserved_namespace, twice, id_twice, action_twice, declared_twice, name_fault, reserved_id, keyword, common_fault, applies_fault, action_fault, first_some, or_else, entity_faults, action_faults, common_faults, declaration_faults, all_declaration_faults, translation_faults}
+use Rattle.schema_convert.specs.Faults.{is_reserved_path, reserved_namespace, twice, id_twice, action_twice}
+use Rattle.schema_convert.specs.Faults.{declared_twice, name_fault, reserved_id, keyword, common_fault, applies_fault}
+use Rattle.schema_convert.specs.Faults.{action_fault, first_some, or_else, entity_faults, action_faults, common_faults}
+use Rattle.schema_convert.specs.Faults.{declaration_faults, all_declaration_faults, translation_faults}
 use Rattle.schema_convert.specs.Joined.{joined}
-use Rattle.schema_convert.specs.Members.{says_role, says_same, said_empty, member_fault, fault_after, missing, fault_behind, block_fault}
+use Rattle.schema_convert.specs.Members.{says_role, says_same, said_empty, member_fault, fault_after, missing}
+use Rattle.schema_convert.specs.Members.{fault_behind, block_fault}
 use Rattle.schema_convert.specs.NamesIn.{entity_names_in, action_names_in, common_names_in, id_cmp, action_cmp}
 use Rattle.schema_convert.specs.Repeats.{first_repeat}
 use Rattle.schema_convert.specs.Repeats.{NoneRepeats}
-use Rattle.schema_convert.specs.Translatable.{IsFreeName, IsFilled, IsLawfulBlock, HasLawfulBlock, AppliesLawfully, IsFreeCommon, IsLawfulNamespace, IsTranslatable}
+use Rattle.schema_convert.specs.Translatable.{IsFreeName, IsFilled, IsLawfulBlock, HasLawfulBlock, AppliesLawfully}
+use Rattle.schema_convert.specs.Translatable.{IsFreeCommon, IsLawfulNamespace, IsTranslatable}
 use Rattle.schema_convert.proofs.FirstRepeat.{none_found, AreNew, new_from, new_everywhere}
 
 some_none : {X T : Type 0} (x : X) → Some x ≡ None → T
@@ -62,7 +69,8 @@ module _ {A B : Type 0} (P : A → Type 0) where
       → filter_map f xs ≡ [] ↔ AllByRecursion P xs
   filtered_nil f each [] = (λ h. tt, λ h. refl)
   filtered_nil f each (x ∷ xs) = (
-    λ h. let both = (cons_option_nil (f x) (filter_map f xs)).0 h in ((each x).0 both.0, (filtered_nil f each xs).0 both.1),
+    λ h. let both = (cons_option_nil (f x) (filter_map f xs)).0 h in
+        ((each x).0 both.0, (filtered_nil f each xs).0 both.1),
     λ h. (cons_option_nil (f x) (filter_map f xs)).1 ((each x).1 h.0, (filtered_nil f each xs).1 h.1),
   )
 
@@ -109,7 +117,8 @@ id_free id = by_test (is_cedar id.node.text) _
 
 common_free : (id : Node Id) → common_fault id ≡ None ↔ IsFreeCommon id
 common_free id = (
-  λ h. let both = (or_none (reserved_id id) (keyword id)).0 h in ((id_free id).0 both.0, (by_test (is_keyword_name id.node.text) _).0 both.1),
+  λ h. let both = (or_none (reserved_id id) (keyword id)).0 h in
+      ((id_free id).0 both.0, (by_test (is_keyword_name id.node.text) _).0 both.1),
   λ h. (or_none (reserved_id id) (keyword id)).1 ((id_free id).1 h.0, (by_test (is_keyword_name id.node.text) _).1 h.1),
 )
 
@@ -133,7 +142,8 @@ same_node a b = says_same a.node b.node
 
 module _ (name : Node (List ℕ)) where
   behind_fine : (before ms : List (Node AppDecl))
-      → fault_behind name before ms ≡ None ↔ AreNew same_node before ms × AllByRecursion (λ m. IsFilled m.node) ms × (missing name (before ++ ms) ≡ None)
+      → fault_behind name before ms ≡ None ↔ AreNew same_node before ms × AllByRecursion (λ m. IsFilled m.node) ms
+      × (missing name (before ++ ms) ≡ None)
   behind_fine before [] =
       (λ h. (tt, tt, ap (missing name) (append-nil before) ∙ h), λ h. ap (missing name) (sym (append-nil before)) ∙ h.2)
   behind_fine before (m ∷ ms) =
@@ -151,12 +161,19 @@ module _ (name : Node (List ℕ)) where
 
   block_lawful : (members : List (Node AppDecl)) → block_fault name members ≡ None ↔ IsLawfulBlock members
   block_lawful members =
-      let roles = none_missing_by (list_any (λ m. says_role Resource m.node) members) (list_any (λ m. says_role Principal m.node) members) _ _ in (
+      let roles = none_missing_by (list_any (λ m. says_role Resource m.node) members)
+      (list_any (λ m. says_role Principal m.node) members) _ _ in (
         λ h.
             let fine = (behind_fine [] members).0 h in
             let both = roles.0 fine.2 in
-            record { said_once = new_everywhere same_node members fine.0; filled = fine.1; principals = both.0; resources = both.1 },
-        λ b. (behind_fine [] members).1 (new_from same_node [] members b.said_once, b.filled, roles.1 (b.principals, b.resources)),
+            record {
+              said_once = new_everywhere same_node members fine.0;
+              filled = fine.1;
+              principals = both.0;
+              resources = both.1;
+            },
+        λ b. (behind_fine [] members).1
+            (new_from same_node [] members b.said_once, b.filled, roles.1 (b.principals, b.resources)),
       )
 
 applied : (block : Option (Node (List (Node AppDecl)))) (names : List (Node (List ℕ)))
@@ -177,30 +194,42 @@ HasNoFault n = (name_fault n ≡ None) × (declaration_faults n.item.decls ≡ [
 
 declared_once : (decls : List (Annotated (Node Declaration)))
     → declared_twice decls ≡ None
-    ↔ NoneRepeats id_cmp (entity_names_in decls) × NoneRepeats action_cmp (action_names_in decls) × NoneRepeats id_cmp (common_names_in decls)
+    ↔ NoneRepeats id_cmp (entity_names_in decls) × NoneRepeats action_cmp (action_names_in decls)
+    × NoneRepeats id_cmp (common_names_in decls)
 declared_once decls =
     let entities = id_twice (entity_names_in decls) in
     let actions = action_twice (action_names_in decls) in
     let commons = id_twice (common_names_in decls) in (
       λ h.
           let first = (or_none entities (option_or actions commons)).0 h in
-          let second = (or_none actions commons).0 first.1 in
-          ((ids_once (entity_names_in decls)).0 first.0, (actions_once (action_names_in decls)).0 second.0, (ids_once (common_names_in decls)).0 second.1),
-      λ h. (or_none entities (option_or actions commons)).1 ((ids_once (entity_names_in decls)).1 h.0, (or_none actions commons).1 ((actions_once (action_names_in decls)).1 h.1, (ids_once (common_names_in decls)).1 h.2)),
+          let second = (or_none actions commons).0 first.1 in (
+            (ids_once (entity_names_in decls)).0 first.0,
+            (actions_once (action_names_in decls)).0 second.0,
+            (ids_once (common_names_in decls)).0 second.1,
+          ),
+      λ h. (or_none entities (option_or actions commons)).1 (
+        (ids_once (entity_names_in decls)).1 h.0,
+        (or_none actions commons).1
+            ((actions_once (action_names_in decls)).1 h.1, (ids_once (common_names_in decls)).1 h.2),
+      ),
     )
 
 declarations_fine : (decls : List (Annotated (Node Declaration)))
     → declaration_faults decls ≡ []
-    ↔ AllByRecursion (λ id. is_cedar id.node.text ≡ false) (entity_names_in decls) × AllByRecursion (λ d. AppliesLawfully d.item.node) decls × AllByRecursion IsFreeCommon (common_names_in decls)
+    ↔ AllByRecursion (λ id. is_cedar id.node.text ≡ false) (entity_names_in decls)
+    × AllByRecursion (λ d. AppliesLawfully d.item.node) decls × AllByRecursion IsFreeCommon (common_names_in decls)
 declarations_fine decls =
     let entities = filtered_nil (λ id. is_cedar id.node.text ≡ false) reserved_id id_free (entity_names_in decls) in
-    let actions = filtered_nil (λ (d : Annotated (Node Declaration)). AppliesLawfully d.item.node) (λ d. action_fault d.item.node) (λ d. action_lawful d.item.node) decls in
-    let commons = both_ways (to_list_nil (first_some common_fault (common_names_in decls))) (first_none IsFreeCommon common_fault common_free (common_names_in decls)) in (
+    let actions = filtered_nil (λ (d : Annotated (Node Declaration)). AppliesLawfully d.item.node)
+    (λ d. action_fault d.item.node) (λ d. action_lawful d.item.node) decls in
+    let commons = both_ways (to_list_nil (first_some common_fault (common_names_in decls)))
+    (first_none IsFreeCommon common_fault common_free (common_names_in decls)) in (
       λ h.
           let first = (or_else_nil (entity_faults decls) (or_else (action_faults decls) (common_faults decls))).0 h in
           let second = (or_else_nil (action_faults decls) (common_faults decls)).0 first.1 in
           (entities.0 first.0, actions.0 second.0, commons.0 second.1),
-      λ h. (or_else_nil (entity_faults decls) (or_else (action_faults decls) (common_faults decls))).1 (entities.1 h.0, (or_else_nil (action_faults decls) (common_faults decls)).1 (actions.1 h.1, commons.1 h.2)),
+      λ h. (or_else_nil (entity_faults decls) (or_else (action_faults decls) (common_faults decls))).1
+          (entities.1 h.0, (or_else_nil (action_faults decls) (common_faults decls)).1 (actions.1 h.1, commons.1 h.2)),
     )
 
 namespace_lawful : (n : Annotated Namespace) → HasNoFault n ↔ IsLawfulNamespace n
@@ -222,11 +251,16 @@ namespace_lawful n =
             blocks = within.1;
             commons_free = within.2;
           },
-      λ l. (names.1 (free.1 l.name, once.1 (l.entities_once, l.actions_once, l.commons_once)), fine.1 (l.entities_free, l.blocks, l.commons_free)),
+      λ l. (
+        names.1 (free.1 l.name, once.1 (l.entities_once, l.actions_once, l.commons_once)),
+        fine.1
+            (l.entities_free, l.blocks, l.commons_free),
+      ),
     )
 
 all_lawful : (ns : List (Annotated Namespace))
-    → AllByRecursion (λ n. name_fault n ≡ None) ns × AllByRecursion (λ n. declaration_faults n.item.decls ≡ []) ns ↔ AllByRecursion IsLawfulNamespace ns
+    → AllByRecursion (λ n. name_fault n ≡ None) ns
+    × AllByRecursion (λ n. declaration_faults n.item.decls ≡ []) ns ↔ AllByRecursion IsLawfulNamespace ns
 all_lawful [] = (λ h. tt, λ h. (tt, tt))
 all_lawful (n ∷ ns) = (
   λ h. ((namespace_lawful n).0 (h.0.0, h.1.0), (all_lawful ns).0 (h.0.1, h.1.1)),
@@ -238,7 +272,8 @@ lawful tree =
     let ns = joined tree in
     let split = or_else_nil (filter_map name_fault ns) (all_declaration_faults ns) in
     let names = filtered_nil (λ (n : Annotated Namespace). name_fault n ≡ None) name_fault (λ n. (λ h. h, λ h. h)) ns in
-    let within = flat_nil (λ (n : Annotated Namespace). declaration_faults n.item.decls ≡ []) (λ n. declaration_faults n.item.decls) (λ n. (λ h. h, λ h. h)) ns in (
+    let within = flat_nil (λ (n : Annotated Namespace). declaration_faults n.item.decls ≡ [])
+    (λ n. declaration_faults n.item.decls) (λ n. (λ h. h, λ h. h)) ns in (
       λ h. let both = split.0 h in (all_lawful ns).0 (names.0 both.0, within.0 both.1),
       λ h. let both = (all_lawful ns).1 h in split.1 (names.1 both.0, within.1 both.1),
     )

@@ -1,5 +1,6 @@
 -- Joined namespaces have names of their own.
-use Rattle.std.proofs.Common.{◌≡◌, Bool, true, false, not, ◌||◌, cond, List, [], ◌∷◌, ◌++◌, map, filter, Option, Some, None, refl, sym, ap, ◌∙◌, subst, true≢false}
+use Rattle.std.proofs.Common.{◌≡◌, Bool, true, false, not, ◌||◌, cond, List, [], ◌∷◌, ◌++◌, map, filter, Option, Some}
+use Rattle.std.proofs.Common.{None, refl, sym, ap, ◌∙◌, subst, true≢false}
 use Rattle.std.specs.List.{list_any, AllByRecursion}
 use Rattle.std.specs.Option.{option_cmp}
 use Rattle.std.specs.Ordering.{is_eq}
@@ -9,7 +10,8 @@ use Rattle.schema_syntax_tree.specs.declared.annotated.Annotated.{Annotated}
 use Rattle.schema_syntax_tree.specs.declared.declaration.Declaration.{Declaration}
 use Rattle.schema_syntax_tree.specs.declared.namespace.Namespace.{Namespace}
 use Rattle.schema_syntax_tree.specs.declared.path.Path.{Path}
-use Rattle.schema_convert.specs.Joined.{named_so, named, outside, first_of_each, have_one_name, first_openings, openings_of, opened_as, joined_by_name, empty_namespace, joined}
+use Rattle.schema_convert.specs.Joined.{named_so, named, outside, first_of_each, have_one_name, first_openings}
+use Rattle.schema_convert.specs.Joined.{openings_of, opened_as, joined_by_name, empty_namespace, joined}
 use Rattle.schema_convert.specs.NamesIn.{path_cmp}
 use Rattle.schema_convert.specs.Joined.{HaveOwnNames}
 use Rattle.schema_convert.proofs.Ranked.{AreApart, firsts_apart, either_false}
@@ -19,7 +21,8 @@ module _ {N : Type 0} (same : N → N → Bool) where
       → list_any (λ y. same y x) before ≡ false
   apart_split [] after x h = refl
   apart_split (y ∷ before) after x h =
-      let later = either_false (list_any (same y) before) (list_any (same y) (x ∷ after)) (sym (list_any-append (same y) before (x ∷ after)) ∙ h.0) in
+      let later = either_false (list_any (same y) before) (list_any (same y) (x ∷ after))
+      (sym (list_any-append (same y) before (x ∷ after)) ∙ h.0) in
       let other = either_false (same y x) (list_any (same y) after) later.1 in
       rw other.0 (apart_split before after x h.1)
 
@@ -33,7 +36,8 @@ module _ {N : Type 0} (same : N → N → Bool) where
   module _ (f : N → N) (keeps : (x y : N) → same (f x) (f y) ≡ same x y) where
     any_map : (x : N) (xs : List N) → list_any (same (f x)) (map f xs) ≡ list_any (same x) xs
     any_map x [] = refl
-    any_map x (y ∷ xs) = ap (λ b. b || list_any (same (f x)) (map f xs)) (keeps x y) ∙ ap (λ b. same x y || b) (any_map x xs)
+    any_map x (y ∷ xs) = ap (λ b. b || list_any (same (f x)) (map f xs)) (keeps x y)
+        ∙ ap (λ b. same x y || b) (any_map x xs)
 
     apart_map : (xs : List N) → AreApart same xs → AreApart same (map f xs)
     apart_map [] h = tt
@@ -78,9 +82,11 @@ unlike : (n : Annotated Namespace) (ds : List (Annotated (Node Declaration))) �
 unlike n [] h = refl
 unlike n (d ∷ ds) h = rw (unlike_by n.item.name h) refl
 
-all_unlike : (all : List (Annotated Namespace)) (ds : List (Annotated (Node Declaration))) (ns : List (Annotated Namespace))
+all_unlike : (all : List (Annotated Namespace)) (ds : List (Annotated (Node Declaration)))
+    (ns : List (Annotated Namespace))
     → AllByRecursion IsNamed ns
-    → AllByRecursion (λ n. list_any (have_one_name n) (empty_namespace ds) ≡ false) (map (λ n. opened_as n (openings_of n all)) ns)
+    → AllByRecursion (λ n. list_any (have_one_name n) (empty_namespace ds) ≡ false)
+    (map (λ n. opened_as n (openings_of n all)) ns)
 all_unlike all ds [] h = tt
 all_unlike all ds (n ∷ ns) h = (unlike (opened_as n (openings_of n all)) ds h.0, all_unlike all ds ns h.1)
 
@@ -98,4 +104,5 @@ apart tree =
     (all_unlike ns (outside tree) firsts (all_firsts IsNamed have_one_name ns (all_named tree)))
 
 pub own_names : (tree : List (Annotated Namespace)) → HaveOwnNames (joined tree)
-own_names tree before after n e = apart_split have_one_name before after n (subst (AreApart have_one_name) e (apart tree))
+own_names tree before after n e =
+    apart_split have_one_name before after n (subst (AreApart have_one_name) e (apart tree))

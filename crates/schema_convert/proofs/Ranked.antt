@@ -1,5 +1,7 @@
 -- Items that go into groups, one after the other.
-use Rattle.std.proofs.Common.{◌≡◌, ℕ, zero, suc, ◌<◌, Bool, true, false, not, ◌||◌, cond, List, [], ◌∷◌, ◌++◌, length, get_or, set, map, filter, Option, Some, None, refl, sym, ap, ◌∙◌, append_assoc, append-nil, arith, true≢false}
+use Rattle.std.proofs.Common.{◌≡◌, ℕ, zero, suc, ◌<◌, Bool, true, false, not, ◌||◌, cond, List, [], ◌∷◌, ◌++◌, length}
+use Rattle.std.proofs.Common.{get_or, set, map, filter, Option, Some, None, refl, sym, ap, ◌∙◌, append_assoc}
+use Rattle.std.proofs.Common.{append-nil, arith, true≢false}
 use Rattle.std.specs.declared.cmp.Ordering.{Ordering}
 use Rattle.std.specs.declared.cmp.Ordering.TheVariants.{Less, Equal, Greater}
 use Rattle.std.specs.Ordering.{is_eq, ordering_reverse}
@@ -129,7 +131,8 @@ module _ {N : Type 0} where
 
   place_more_by : (t : N → Bool) (n : N) (xs : List N)
       → place_of t (xs ++ n ∷ []) ≡ option_or (place_of t xs) (cond (t n) (Some (length xs)) None) → (b : Bool)
-      → cond b (Some 0) (option_map suc (place_of t (xs ++ n ∷ []))) ≡ option_or (cond b (Some 0) (option_map suc (place_of t xs))) (cond (t n) (Some (suc (length xs))) None)
+      → cond b (Some 0) (option_map suc (place_of t (xs ++ n ∷ [])))
+      ≡ option_or (cond b (Some 0) (option_map suc (place_of t xs))) (cond (t n) (Some (suc (length xs))) None)
   place_more_by t n xs i true = refl
   place_more_by t n xs i false = ap (option_map suc) i ∙ shifted (place_of t xs) (length xs) (t n)
 
@@ -174,8 +177,11 @@ module _ {N : Type 0} where
     -- first ones are apart
     pub firsts_apart : (xs : List N) → AreApart same (first_of_each same xs)
     firsts_apart [] = tt
-    firsts_apart (x ∷ xs) =
-        (none_removed (same x) (first_of_each same xs), apart_filter (λ y. not (same x y)) (first_of_each same xs) (firsts_apart xs))
+    firsts_apart (x ∷ xs) = (
+      none_removed (same x) (first_of_each same xs),
+      apart_filter (λ y. not (same x y)) (first_of_each same xs)
+          (firsts_apart xs),
+    )
 
     removed_by : (x n : N) (b a : Bool) → same x n ≡ b
         → filter (λ y. not (same x y)) (cond a [] (n ∷ [])) ≡ cond (b || a) [] (n ∷ [])
@@ -190,8 +196,10 @@ module _ {N : Type 0} where
     firsts_more [] n = refl
     firsts_more (x ∷ xs) n =
         ap (λ l. x ∷ filter (λ y. not (same x y)) l) (firsts_more xs n)
-        ∙ (ap (λ l. x ∷ l) (filter-append (λ y. not (same x y)) (first_of_each same xs) (cond (list_any (λ y. same y n) xs) [] (n ∷ [])))
-        ∙ ap (λ l. x ∷ (filter (λ y. not (same x y)) (first_of_each same xs) ++ l)) (removed_by x n (same x n) (list_any (λ y. same y n) xs) refl))
+        ∙ (ap (λ l. x ∷ l) (filter-append (λ y. not (same x y)) (first_of_each same xs)
+        (cond (list_any (λ y. same y n) xs) [] (n ∷ [])))
+        ∙ ap (λ l. x ∷ (filter (λ y. not (same x y)) (first_of_each same xs) ++ l))
+        (removed_by x n (same x n) (list_any (λ y. same y n) xs) refl))
 
 -- items with names that are compared
 module _ {N P : Type 0} (name : N → P) (R : P → P → Ordering) where
@@ -253,10 +261,12 @@ module _ {N P : Type 0} (name : N → P) (R : P → P → Ordering) where
     any_first_by : (x n : N) (xs : List N)
         → list_any (λ y. are_same y n) (first_of_each are_same xs) ≡ list_any (λ y. are_same y n) xs → (b : Bool)
         → are_same x n ≡ b
-        → (b || list_any (λ y. are_same y n) (filter (λ y. not (are_same x y)) (first_of_each are_same xs))) ≡ (b || list_any (λ y. are_same y n) xs)
+        → (b || list_any (λ y. are_same y n) (filter (λ y. not (are_same x y)) (first_of_each are_same xs)))
+        ≡ (b || list_any (λ y. are_same y n) xs)
     any_first_by x n xs i true e = refl
     any_first_by x n xs i false e =
-        any_filter (λ y. are_same y n) (λ y. not (are_same x y)) (λ y h. sym (alike (name x) (name y) (name n) (not_false (are_same x y) h)) ∙ e) (first_of_each are_same xs) ∙ i
+        any_filter (λ y. are_same y n) (λ y. not (are_same x y))
+        (λ y h. sym (alike (name x) (name y) (name n) (not_false (are_same x y) h)) ∙ e) (first_of_each are_same xs) ∙ i
 
     -- one of the first ones is the same as n exactly where one of all is
     any_first : (n : N) (xs : List N)
@@ -266,7 +276,8 @@ module _ {N P : Type 0} (name : N → P) (R : P → P → Ordering) where
 
     any_swapped : (n : N) (xs : List N) → list_any (are_same n) xs ≡ list_any (λ y. are_same y n) xs
     any_swapped n [] = refl
-    any_swapped n (x ∷ xs) = ap (λ b. b || list_any (are_same n) xs) (swapped (name n) (name x)) ∙ ap (λ b. are_same x n || b) (any_swapped n xs)
+    any_swapped n (x ∷ xs) = ap (λ b. b || list_any (are_same n) xs) (swapped (name n) (name x))
+        ∙ ap (λ b. are_same x n || b) (any_swapped n xs)
 
     -- of items that are not the same as n, none has one more
     untouched : (n : N) (xs fs : List N) → list_any (are_same n) fs ≡ false
@@ -275,12 +286,16 @@ module _ {N P : Type 0} (name : N → P) (R : P → P → Ordering) where
     untouched n xs (f ∷ fs) h =
         let both = either_false (are_same n f) (list_any (are_same n) fs) h in
         let other : are_same f n ≡ false = swapped (name f) (name n) ∙ both.0 in
-        let kept : filter (are_same f) (xs ++ n ∷ []) ≡ filter (are_same f) xs = filter-append (are_same f) xs (n ∷ []) ∙ rw other (append-nil (filter (are_same f) xs)) in
-        ap (λ l. (f, l) ∷ map (with_all (xs ++ n ∷ [])) fs) kept ∙ ap (λ l. with_all xs f ∷ l) (untouched n xs fs both.1)
+        let kept : filter (are_same f) (xs ++ n ∷ [])
+        ≡ filter (are_same f) xs = filter-append (are_same f) xs (n ∷ [])
+        ∙ rw other (append-nil (filter (are_same f) xs)) in
+        ap (λ l. (f, l) ∷ map (with_all (xs ++ n ∷ [])) fs) kept
+        ∙ ap (λ l. with_all xs f ∷ l) (untouched n xs fs both.1)
 
     any_alike : (n f : N) → are_same n f ≡ true → (fs : List N) → list_any (are_same n) fs ≡ list_any (are_same f) fs
     any_alike n f h [] = refl
-    any_alike n f h (x ∷ fs) = ap (λ b. b || list_any (are_same n) fs) (alike (name n) (name f) (name x) h) ∙ ap (λ b. are_same f x || b) (any_alike n f h fs)
+    any_alike n f h (x ∷ fs) = ap (λ b. b || list_any (are_same n) fs) (alike (name n) (name f) (name x) h)
+        ∙ ap (λ b. are_same f x || b) (any_alike n f h fs)
 
     -- the group at the place of n has one more
     touched_first : (n : N) (xs : List N) (f : N) (fs : List N) (e : N × List N) → list_any (are_same f) fs ≡ false
@@ -288,7 +303,8 @@ module _ {N P : Type 0} (name : N → P) (R : P → P → Ordering) where
         → map (with_all (xs ++ n ∷ [])) (f ∷ fs) ≡ (e.0, e.1 ++ n ∷ []) ∷ map (with_all xs) fs
     touched_first n xs f fs e apart same is =
         let also : are_same f n ≡ true = swapped (name f) (name n) ∙ same in
-        let one : filter (are_same f) (xs ++ n ∷ []) ≡ filter (are_same f) xs ++ n ∷ [] = filter-append (are_same f) xs (n ∷ []) ∙ rw also refl in
+        let one : filter (are_same f) (xs ++ n ∷ []) ≡ filter (are_same f) xs
+        ++ n ∷ [] = filter-append (are_same f) xs (n ∷ []) ∙ rw also refl in
         ap (λ l. (f, l) ∷ map (with_all (xs ++ n ∷ [])) fs) one
         ∙ (ap (λ l. (f, filter (are_same f) xs ++ n ∷ []) ∷ l) (untouched n xs fs (any_alike n f same fs ∙ apart))
         ∙ ap (λ (w : N × List N). (w.0, w.1 ++ n ∷ []) ∷ map (with_all xs) fs) (sym is))
@@ -297,20 +313,25 @@ module _ {N P : Type 0} (name : N → P) (R : P → P → Ordering) where
         → map (with_all (xs ++ n ∷ [])) fs ≡ ws → map (with_all (xs ++ n ∷ [])) (f ∷ fs) ≡ with_all xs f ∷ ws
     touched_later n xs f fs ws other behind =
         let also : are_same f n ≡ false = swapped (name f) (name n) ∙ other in
-        let kept : filter (are_same f) (xs ++ n ∷ []) ≡ filter (are_same f) xs = filter-append (are_same f) xs (n ∷ []) ∙ rw also (append-nil (filter (are_same f) xs)) in
+        let kept : filter (are_same f) (xs ++ n ∷ [])
+        ≡ filter (are_same f) xs = filter-append (are_same f) xs (n ∷ [])
+        ∙ rw also (append-nil (filter (are_same f) xs)) in
         ap (λ l. (f, l) ∷ map (with_all (xs ++ n ∷ [])) fs) kept ∙ ap (λ l. with_all xs f ∷ l) behind
 
     touched_by : (n : N) (xs : List N) (f : N) (fs : List N) (i : ℕ) (e : N × List N)
-        → ((j : ℕ) → place_of (are_same n) fs ≡ Some j → e ≡ get_or (map (with_all xs) fs) j e → map (with_all (xs ++ n ∷ [])) fs ≡ set (map (with_all xs) fs) j (e.0, e.1 ++ n ∷ []))
+        → ((j : ℕ) → place_of (are_same n) fs ≡ Some j → e ≡ get_or (map (with_all xs) fs) j e
+        → map (with_all (xs ++ n ∷ [])) fs ≡ set (map (with_all xs) fs) j (e.0, e.1 ++ n ∷ []))
         → list_any (are_same f) fs ≡ false → (b : Bool) → are_same n f ≡ b
         → cond b (Some 0) (option_map suc (place_of (are_same n) fs)) ≡ Some i
         → e ≡ get_or (map (with_all xs) (f ∷ fs)) i e
         → map (with_all (xs ++ n ∷ [])) (f ∷ fs) ≡ set (map (with_all xs) (f ∷ fs)) i (e.0, e.1 ++ n ∷ [])
     touched_by n xs f fs zero e later apart true same at is = touched_first n xs f fs e apart same is
-    touched_by n xs f fs zero e later apart false same at is = absurd (true≢false (not_zero (place_of (are_same n) fs) at))
+    touched_by n xs f fs zero e later apart false same at is =
+        absurd (true≢false (not_zero (place_of (are_same n) fs) at))
     touched_by n xs f fs (suc i) e later apart true same at is = absurd (true≢false (zero_not i at))
     touched_by n xs f fs (suc i) e later apart false same at is =
-        touched_later n xs f fs (set (map (with_all xs) fs) i (e.0, e.1 ++ n ∷ [])) same (later i (behind_suc (place_of (are_same n) fs) i at) is)
+        touched_later n xs f fs (set (map (with_all xs) fs) i (e.0, e.1 ++ n ∷ [])) same
+        (later i (behind_suc (place_of (are_same n) fs) i at) is)
 
     touched : (n : N) (xs fs : List N) (i : ℕ) (e : N × List N) → AreApart are_same fs
         → place_of (are_same n) fs ≡ Some i → e ≡ get_or (map (with_all xs) fs) i e
@@ -326,9 +347,14 @@ module _ {N P : Type 0} (name : N → P) (R : P → P → Ordering) where
         → groups' ≡ set groups i (e.0, e.1 ++ n ∷ []) → Grouped all left' entries groups'
     met all left left' entries groups groups' n i e h next at is into =
         let place : place_of (are_same n) (first_of_each are_same h.done) ≡ Some i = sym (h.placed (name n)) ∙ at in
-        let some : list_any (λ y. are_same y n) h.done ≡ true = sym (any_swapped n (first_of_each are_same h.done) ∙ any_first n h.done) ∙ placed_somewhere (are_same n) (first_of_each are_same h.done) i place in
-        let firsts : first_of_each are_same (h.done ++ n ∷ []) ≡ first_of_each are_same h.done = firsts_more are_same h.done n ∙ rw some (append-nil (first_of_each are_same h.done)) in
-        let was : e ≡ get_or (map (with_all h.done) (first_of_each are_same h.done)) i e = is ∙ ap (λ l. get_or l i e) h.grouped in
+        let some : list_any (λ y. are_same y n) h.done
+        ≡ true = sym (any_swapped n (first_of_each are_same h.done) ∙ any_first n h.done)
+        ∙ placed_somewhere (are_same n) (first_of_each are_same h.done) i place in
+        let firsts : first_of_each are_same (h.done ++ n ∷ [])
+        ≡ first_of_each are_same h.done = firsts_more are_same h.done n
+        ∙ rw some (append-nil (first_of_each are_same h.done)) in
+        let was : e ≡ get_or (map (with_all h.done) (first_of_each are_same h.done)) i e = is
+        ∙ ap (λ l. get_or l i e) h.grouped in
         record {
           done = h.done ++ n ∷ [];
           split = append_assoc h.done (n ∷ []) left' ∙ (ap (λ l. h.done ++ l) (sym next) ∙ h.split);
@@ -341,27 +367,36 @@ module _ {N P : Type 0} (name : N → P) (R : P → P → Ordering) where
 
     placed_new : (n : N) (fs : List N) (q : P) (l : Option ℕ) → place_of (are_same n) fs ≡ None
         → l ≡ place_of (λ m. is_eq (R q (name m))) fs → (b : Bool) → is_eq (R (name n) q) ≡ b
-        → cond b (Some (length fs)) l ≡ option_or (place_of (λ m. is_eq (R q (name m))) fs) (cond (is_eq (R q (name n))) (Some (length fs)) None)
+        → cond b (Some (length fs)) l ≡ option_or (place_of (λ m. is_eq (R q (name m))) fs)
+        (cond (is_eq (R q (name n))) (Some (length fs)) None)
     placed_new n fs q l none was true same =
         let also : is_eq (R q (name n)) ≡ true = swapped q (name n) ∙ same in
-        let away : place_of (λ m. is_eq (R q (name m))) fs ≡ None = (λ j. place_of (λ m. alike q (name n) (name m) also j) fs) ∙ none in
+        let away : place_of (λ m. is_eq (R q (name m))) fs
+        ≡ None = (λ j. place_of (λ m. alike q (name n) (name m) also j) fs) ∙ none in
         rw away (rw also refl)
     placed_new n fs q l none was false other =
         let also : is_eq (R q (name n)) ≡ false = swapped q (name n) ∙ other in
         was ∙ rw also (sym (or_nothing (place_of (λ m. is_eq (R q (name m))) fs)))
 
     -- an item that is the first of its group
-    pub met_first : (all left left' : List N) (entries entries' : List (P × ℕ)) (groups groups' : List (N × List N)) (n : N)
+    pub met_first : (all left left' : List N) (entries entries' : List (P × ℕ))
+        (groups groups' : List (N × List N)) (n : N)
         → Grouped all left entries groups → left ≡ n ∷ left' → lookup (is_at (R (name n))) entries ≡ None
-        → ((q : P) → lookup (is_at (R q)) entries' ≡ cond (is_at (R (name n)) q) (Some (length groups)) (lookup (is_at (R q)) entries))
+        → ((q : P) → lookup (is_at (R q)) entries'
+        ≡ cond (is_at (R (name n)) q) (Some (length groups)) (lookup (is_at (R q)) entries))
         → groups' ≡ groups ++ (n, n ∷ []) ∷ [] → Grouped all left' entries' groups'
     met_first all left left' entries entries' groups groups' n h next at into is =
         let fs = first_of_each are_same h.done in
         let none : place_of (are_same n) fs ≡ None = sym (h.placed (name n)) ∙ at in
         let away : list_any (are_same n) fs ≡ false = placeless (are_same n) fs none in
         let apart : list_any (λ y. are_same y n) h.done ≡ false = sym (any_swapped n fs ∙ any_first n h.done) ∙ away in
-        let firsts : first_of_each are_same (h.done ++ n ∷ []) ≡ fs ++ n ∷ [] = firsts_more are_same h.done n ∙ rw apart refl in
-        let alone : with_all (h.done ++ n ∷ []) n ≡ (n, n ∷ []) = ap (λ l. (n, l)) (filter-append (are_same n) h.done (n ∷ []) ∙ (ap (λ l. l ++ filter (are_same n) (n ∷ [])) (none_kept (are_same n) h.done (any_swapped n h.done ∙ apart)) ∙ rw (own (name n)) refl)) in
+        let firsts : first_of_each are_same (h.done ++ n ∷ []) ≡ fs ++ n ∷ [] = firsts_more are_same h.done n
+        ∙ rw apart refl in
+        let alone : with_all (h.done ++ n ∷ []) n
+        ≡ (n, n ∷ []) = ap (λ l. (n, l))
+        (filter-append (are_same n) h.done (n ∷ [])
+        ∙ (ap (λ l. l ++ filter (are_same n) (n ∷ [])) (none_kept (are_same n) h.done (any_swapped n h.done ∙ apart))
+        ∙ rw (own (name n)) refl)) in
         let count : length groups ≡ length fs = ap length h.grouped ∙ length-map fs (with_all h.done) in
         record {
           done = h.done ++ n ∷ [];
@@ -369,11 +404,13 @@ module _ {N P : Type 0} (name : N → P) (R : P → P → Ordering) where
           placed = λ q.
               into q ∙ (ap (λ c. cond (is_eq (R (name n) q)) (Some c) (lookup (is_at (R q)) entries)) count
               ∙ (placed_new n fs q (lookup (is_at (R q)) entries) none (h.placed q) (is_eq (R (name n) q)) refl
-              ∙ (sym (place_more (λ m. is_eq (R q (name m))) n fs) ∙ ap (place_of (λ m. is_eq (R q (name m)))) (sym firsts))));
+              ∙ (sym (place_more (λ m. is_eq (R q (name m))) n fs)
+              ∙ ap (place_of (λ m. is_eq (R q (name m)))) (sym firsts))));
           grouped =
               is ∙ (ap (λ l. l ++ (n, n ∷ []) ∷ []) (h.grouped ∙ sym (untouched n h.done fs away))
               ∙ (ap (λ (w : N × List N). map (with_all (h.done ++ n ∷ [])) fs ++ w ∷ []) (sym alone)
-              ∙ (sym (map-append (with_all (h.done ++ n ∷ [])) fs (n ∷ [])) ∙ ap (map (with_all (h.done ++ n ∷ []))) (sym firsts))));
+              ∙ (sym (map-append (with_all (h.done ++ n ∷ [])) fs (n ∷ []))
+              ∙ ap (map (with_all (h.done ++ n ∷ []))) (sym firsts))));
         }
 
   -- the place of a group is one of the groups

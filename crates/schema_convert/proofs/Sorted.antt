@@ -17,7 +17,8 @@ use Rattle.cedar_names.specs.declared.extension_table.ExtensionTable.{ExtensionT
 use Rattle.schema_convert_errors.specs.declared.warnings.SchemaWarning.{SchemaWarning}
 use Rattle.schema_convert.specs.Borrowed.{entry_now, optional_now}
 use Rattle.schema_convert.specs.NamesIn.{id_text_cmp, path_cmp}
-use Rattle.schema_convert.specs.Shadowings.{by_id, by_name, builtin_shadowed, entity_shadowed, common_warnings, warnings_in, declared_warnings}
+use Rattle.schema_convert.specs.Shadowings.{by_id, by_name, builtin_shadowed, entity_shadowed, common_warnings}
+use Rattle.schema_convert.specs.Shadowings.{warnings_in, declared_warnings}
 use Rattle.schema_convert.proofs.Borrowed.{map_of_is, lookup_is}
 
 abbrev pub id_entry : Bor (Node Id) → Id × Node Id
@@ -34,22 +35,28 @@ pushed_now f done done' a b e p = ap (map f) e ∙ (map-append f done (a ∷ [])
 pub ids_sorted : (names : List (Bor (Node Id))) (entries sorted : List (Bor Id × Bor (Node Id)))
     → sorted ≡ map_of (λ a b. id_text_cmp a.now b.now) entries → map entry_now entries ≡ id_entries names
     → map entry_now sorted ≡ by_id (map (λ x. x.now) names)
-ids_sorted names entries sorted h e = ap (map entry_now) h ∙ (map_of_is (λ (k : Bor Id). k.now) (λ (x : Bor (Node Id)). x.now) id_text_cmp entries ∙ ap (map_of id_text_cmp) e)
+ids_sorted names entries sorted h e = ap (map entry_now) h
+    ∙ (map_of_is (λ (k : Bor Id). k.now) (λ (x : Bor (Node Id)). x.now) id_text_cmp entries ∙ ap (map_of id_text_cmp) e)
 
 abbrev pub name_entries : List (Annotated Namespace) → List (Option Path × Annotated Namespace)
 name_entries namespaces = map (λ n. (n.item.name, n)) namespaces
 
 optional_order : (a b : Option (Bor Path))
-    → option_cmp (λ x y. path_cmp x.now y.now) a b ≡ option_cmp path_cmp (option_map (λ (k : Bor Path). k.now) a) (option_map (λ (k : Bor Path). k.now) b)
+    → option_cmp (λ x y. path_cmp x.now y.now) a b
+    ≡ option_cmp path_cmp (option_map (λ (k : Bor Path). k.now) a) (option_map (λ (k : Bor Path). k.now) b)
 optional_order None None = refl
 optional_order None (Some b) = refl
 optional_order (Some a) None = refl
 optional_order (Some a) (Some b) = refl
 
-pub names_sorted : (namespaces : List (Annotated Namespace)) (entries sorted : List (Option (Bor Path) × Bor (Annotated Namespace)))
+pub names_sorted : (namespaces : List (Annotated Namespace))
+    (entries sorted : List (Option (Bor Path) × Bor (Annotated Namespace)))
     → sorted ≡ map_of (option_cmp (λ x y. path_cmp x.now y.now)) entries
     → map optional_now entries ≡ name_entries namespaces → map optional_now sorted ≡ by_name namespaces
-names_sorted namespaces entries sorted h e = ap (map optional_now) (h ∙ (λ i. map_of (λ a b. optional_order a b i) entries)) ∙ (map_of_is (option_map (λ (k : Bor Path). k.now)) (λ (x : Bor (Annotated Namespace)). x.now) (option_cmp path_cmp) entries ∙ ap (map_of (option_cmp path_cmp)) e)
+names_sorted namespaces entries sorted h e =
+    ap (map optional_now) (h ∙ (λ i. map_of (λ a b. optional_order a b i) entries))
+    ∙ (map_of_is (option_map (λ (k : Bor Path). k.now)) (λ (x : Bor (Annotated Namespace)). x.now)
+    (option_cmp path_cmp) entries ∙ ap (map_of (option_cmp path_cmp)) e)
 
 -- what is said of sorted names and namespaces
 module _ (table : ExtensionTable) where
@@ -63,21 +70,32 @@ module _ (table : ExtensionTable) where
   of_namespaces sorted = flat_map (λ n. declared_warnings table n.1.item.decls) (map optional_now sorted)
 
   -- a common type's warnings, of the entity type that was found
-  pub common_made : (old w1 w2 : List SchemaWarning) (common : Node Id) (entities : List (Bor Id × Bor (Node Id))) (found : Option (Bor (Node Id)))
+  pub common_made : (old w1 w2 : List SchemaWarning) (common : Node Id) (entities : List (Bor Id × Bor (Node Id)))
+      (found : Option (Bor (Node Id)))
       → found ≡ lookup (λ k. is_eq (id_text_cmp common.node k.now)) entities
       → w1 ≡ old ++ entity_shadowed (option_map (λ (n : Bor (Node Id)). n.now) found) common
       → w2 ≡ w1 ++ builtin_shadowed table common → w2 ≡ old ++ common_warnings table (map entry_now entities) common
   common_made old w1 w2 common entities found f e b =
-      let same : option_map (λ (n : Bor (Node Id)). n.now) found ≡ lookup (is_at (id_text_cmp common.node)) (map entry_now entities) =
-      ap (option_map (λ (n : Bor (Node Id)). n.now)) f ∙ sym (lookup_is (λ (k : Bor Id). k.now) (λ (x : Bor (Node Id)). x.now) (is_at (id_text_cmp common.node)) entities) in
-      b ∙ (ap (λ w. w ++ builtin_shadowed table common) (e ∙ ap (λ o. old ++ entity_shadowed o common) same) ∙ append_assoc old (entity_shadowed (lookup (is_at (id_text_cmp common.node)) (map entry_now entities)) common) (builtin_shadowed table common))
+      let same : option_map (λ (n : Bor (Node Id)). n.now) found
+      ≡ lookup (is_at (id_text_cmp common.node)) (map entry_now entities) =
+      ap (option_map (λ (n : Bor (Node Id)). n.now)) f
+      ∙ sym (lookup_is (λ (k : Bor Id). k.now) (λ (x : Bor (Node Id)). x.now)
+      (is_at (id_text_cmp common.node)) entities) in
+      b ∙ (ap (λ w. w ++ builtin_shadowed table common) (e ∙ ap (λ o. old ++ entity_shadowed o common) same)
+      ∙ append_assoc old (entity_shadowed (lookup (is_at (id_text_cmp common.node)) (map entry_now entities)) common)
+      (builtin_shadowed table common))
 
   -- the warnings of a namespace, of its sorted names
-  pub declared_made : (old w1 w2 : List SchemaWarning) (commons entities : List (Bor Id × Bor (Node Id))) (C E : List (Id × Node Id))
+  pub declared_made : (old w1 w2 : List SchemaWarning) (commons entities : List (Bor Id × Bor (Node Id)))
+      (C E : List (Id × Node Id))
       → w1 ≡ old ++ of_commons (map entry_now entities) commons → w2 ≡ w1 ++ of_entities entities
       → map entry_now commons ≡ C → map entry_now entities ≡ E → w2 ≡ old ++ warnings_in table C E
   declared_made old w1 w2 commons entities C E h k c e =
       let p : of_commons (map entry_now entities) commons ≡ flat_map (λ c. common_warnings table E c.1) C =
-      ap (λ l. flat_map (λ c. common_warnings table l c.1) (map entry_now commons)) e ∙ ap (flat_map (λ (d : Id × Node Id). common_warnings table E d.1)) c in
-      let q : of_entities entities ≡ flat_map (λ d. builtin_shadowed table d.1) E = ap (flat_map (λ (d : Id × Node Id). builtin_shadowed table d.1)) e in
-      k ∙ (ap (λ w. w ++ of_entities entities) h ∙ (append_assoc old (of_commons (map entry_now entities) commons) (of_entities entities) ∙ (λ i. old ++ (p i ++ q i))))
+      ap (λ l. flat_map (λ c. common_warnings table l c.1) (map entry_now commons)) e
+      ∙ ap (flat_map (λ (d : Id × Node Id). common_warnings table E d.1)) c in
+      let q : of_entities entities ≡ flat_map (λ d. builtin_shadowed table d.1) E = ap
+      (flat_map (λ (d : Id × Node Id). builtin_shadowed table d.1)) e in
+      k ∙ (ap (λ w. w ++ of_entities entities) h
+      ∙ (append_assoc old (of_commons (map entry_now entities) commons) (of_entities entities)
+      ∙ (λ i. old ++ (p i ++ q i))))

@@ -1,5 +1,6 @@
 -- Look-ups in the map of entries that are put into it from the last one to the first.
-use Rattle.std.proofs.Common.{◌≡◌, Bool, true, false, cond, List, [], ◌∷◌, ◌++◌, reverse, Option, Some, None, if◌then◌else◌, refl, sym, ap, ◌∙◌, true≢false, flat_map}
+use Rattle.std.proofs.Common.{◌≡◌, Bool, true, false, cond, List, [], ◌∷◌, ◌++◌, reverse, Option, Some, None}
+use Rattle.std.proofs.Common.{if◌then◌else◌, refl, sym, ap, ◌∙◌, true≢false, flat_map}
 use Rattle.std.specs.declared.cmp.Ordering.{Ordering}
 use Rattle.std.specs.declared.cmp.Ordering.TheVariants.{Less, Equal, Greater}
 use Rattle.std.specs.Ordering.{is_eq, ordering_reverse, match_ordering}
@@ -59,7 +60,8 @@ last-reverse test [] = refl
 last-reverse test (e ∷ es) =
     ap (last_at test) (reverse-append (e ∷ []) es)
     ∙ (last-append test (reverse es) (e ∷ [])
-    ∙ (ap (option_or (if test e.0 then Some e.1 else None)) (last-reverse test es) ∙ sym (by_cond (test e.0) e.1 (lookup test es))))
+    ∙ (ap (option_or (if test e.0 then Some e.1 else None)) (last-reverse test es)
+    ∙ sym (by_cond (test e.0) e.1 (lookup test es))))
 
 put_equal : {X : Type 0} (b c : Bool) (v w : X) (l : Option X) → b ≡ c
     → cond c (Some v) l ≡ cond b (Some v) (cond c (Some w) l)
@@ -84,7 +86,8 @@ module _ {K : Type 0} (R : K → K → Ordering) (o : IsTotalOrder R) where
   -- equal keys are equal to the same
   alike : (q k e : K) → is_eq (R k e) ≡ true → is_eq (R q k) ≡ is_eq (R q e)
   alike q k e h =
-      ap is_eq (o.antisymm q k) ∙ (turned (R k q) ∙ (ap is_eq (o.congr k e q (equal_from (R k e) h)) ∙ (sym (turned (R e q)) ∙ sym (ap is_eq (o.antisymm q e)))))
+      ap is_eq (o.antisymm q k) ∙ (turned (R k q)
+      ∙ (ap is_eq (o.congr k e q (equal_from (R k e) h)) ∙ (sym (turned (R e q)) ∙ sym (ap is_eq (o.antisymm q e)))))
 
   apart : (q k e : K) → is_eq (R k e) ≡ false → is_eq (R q k) ≡ true → is_eq (R q e) ≡ false
   apart q k e h s = ap is_eq (o.congr q k e (equal_from (R q k) s)) ∙ h
@@ -92,11 +95,14 @@ module _ {K : Type 0} (R : K → K → Ordering) (o : IsTotalOrder R) where
 module _ {K X : Type 0} (R : K → K → Ordering) (o : IsTotalOrder R) where
   put_by : (q k : K) (v : X) (e : K × X) (es : List (K × X)) (r : Ordering) → R k e.0 ≡ r
       → lookup (is_at (R q)) (insert_entry R es k v) ≡ cond (is_eq (R q k)) (Some v) (lookup (is_at (R q)) es)
-      → lookup (is_at (R q)) (match_ordering r ((k, v) ∷ e ∷ es) ((e.0, v) ∷ es) (e ∷ insert_entry R es k v)) ≡ cond (is_eq (R q k)) (Some v) (lookup (is_at (R q)) (e ∷ es))
+      → lookup (is_at (R q)) (match_ordering r ((k, v) ∷ e ∷ es) ((e.0, v) ∷ es) (e ∷ insert_entry R es k v))
+      ≡ cond (is_eq (R q k)) (Some v) (lookup (is_at (R q)) (e ∷ es))
   put_by q k v e es Less h i = refl
-  put_by q k v e es Equal h i = put_equal (is_eq (R q k)) (is_eq (R q e.0)) v e.1 (lookup (is_at (R q)) es) (alike R o q k e.0 (ap is_eq h))
+  put_by q k v e es Equal h i = put_equal (is_eq (R q k)) (is_eq (R q e.0)) v e.1 (lookup (is_at (R q)) es)
+      (alike R o q k e.0 (ap is_eq h))
   put_by q k v e es Greater h i =
-      put_greater (is_eq (R q k)) (is_eq (R q e.0)) v e.1 (lookup (is_at (R q)) es) (lookup (is_at (R q)) (insert_entry R es k v)) (apart R o q k e.0 (ap is_eq h)) i
+      put_greater (is_eq (R q k)) (is_eq (R q e.0)) v e.1 (lookup (is_at (R q)) es)
+      (lookup (is_at (R q)) (insert_entry R es k v)) (apart R o q k e.0 (ap is_eq h)) i
 
   pub put : (q k : K) (v : X) (es : List (K × X))
       → lookup (is_at (R q)) (insert_entry R es k v) ≡ cond (is_eq (R q k)) (Some v) (lookup (is_at (R q)) es)
@@ -108,7 +114,8 @@ module _ {K X : Type 0} (R : K → K → Ordering) (o : IsTotalOrder R) where
   put_all q m [] = refl
   put_all q m (e ∷ es) =
       put_all q (insert_entry R m e.0 e.1) es
-      ∙ (ap (option_or (last_at (is_at (R q)) es)) (put q e.0 e.1 m ∙ by_cond (is_eq (R q e.0)) e.1 (lookup (is_at (R q)) m))
+      ∙ (ap (option_or (last_at (is_at (R q)) es))
+      (put q e.0 e.1 m ∙ by_cond (is_eq (R q e.0)) e.1 (lookup (is_at (R q)) m))
       ∙ sym (or_assoc (last_at (is_at (R q)) es) (if is_eq (R q e.0) then Some e.1 else None) (lookup (is_at (R q)) m)))
 
   -- the value in the map is that of the last entry of the key
@@ -119,7 +126,8 @@ keys_total : IsTotalOrder annotation_key_cmp
 keys_total = on_total (λ (key : AnyId). key.text) (on_total encode_utf8_all (lists_total nat_cmp_total))
 
 gathered : (key : AnyId) (openings : List (Annotated Namespace))
-    → lookup (is_at (annotation_key_cmp key)) (flat_map (λ n. n.annotations.0) openings) ≡ first_some (λ n. value_of key n.annotations) openings
+    → lookup (is_at (annotation_key_cmp key)) (flat_map (λ n. n.annotations.0) openings)
+    ≡ first_some (λ n. value_of key n.annotations) openings
 gathered key [] = refl
 gathered key (n ∷ openings) =
     lookup-append (is_at (annotation_key_cmp key)) n.annotations.0 (flat_map (λ m. m.annotations.0) openings)

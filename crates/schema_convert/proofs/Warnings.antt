@@ -1,5 +1,6 @@
 -- What a tree without faults is warned of.
-use Rattle.std.proofs.Common.{◌≡◌, ◌↔◌, ◌⊎◌, inl, inr, Bool, true, false, List, [], ◌∷◌, find, Option, Some, None, if◌then◌else◌, refl, sym, ap, ◌∙◌, subst, true≢false, flat_map, is_some}
+use Rattle.std.proofs.Common.{◌≡◌, ◌↔◌, ◌⊎◌, inl, inr, Bool, true, false, List, [], ◌∷◌, find, Option, Some, None}
+use Rattle.std.proofs.Common.{if◌then◌else◌, refl, sym, ap, ◌∙◌, subst, true≢false, flat_map, is_some}
 use Rattle.std.specs.declared.cmp.Ordering.{Ordering}
 use Rattle.std.specs.declared.cmp.Ordering.TheVariants.{Less, Equal, Greater}
 use Rattle.std.specs.List.{AllByRecursion, list_any}
@@ -23,7 +24,8 @@ use Rattle.schema_convert.specs.Faults.{translation_faults}
 use Rattle.schema_convert.specs.Joined.{have_one_name, joined}
 use Rattle.schema_convert.specs.NamesIn.{entity_names_in, common_names_in, id_cmp, id_text_cmp, path_cmp}
 use Rattle.schema_convert.specs.Repeats.{NoneRepeats}
-use Rattle.schema_convert.specs.Shadowings.{by_id, is_taken, builtin_shadowed, entity_shadowed, common_warnings, declared_warnings, shadowings}
+use Rattle.schema_convert.specs.Shadowings.{by_id, is_taken, builtin_shadowed, entity_shadowed, common_warnings}
+use Rattle.schema_convert.specs.Shadowings.{declared_warnings, shadowings}
 use Rattle.schema_convert.specs.Translatable.{IsLawfulNamespace}
 use Rattle.schema_convert.specs.Warned.{IsAmong, SaysBuiltin, SaysEntity, IsOfDeclared, IsWarnedOf}
 use Rattle.schema_convert.proofs.Among.{among_append, flat_entries, looked_up}
@@ -56,11 +58,13 @@ same : (a b : Node Id) → Some a ≡ Some b → a ≡ b
 same a b h = cc
 
 entity_said : (o : Option (Node Id)) (c : Node Id) (w : SchemaWarning)
-    → IsAmong w (entity_shadowed o c) ↔ (e : Node Id) × (o ≡ Some e) × (w ≡ ShadowsEntity (record { name = c.node.text; entity_loc = e.loc; common_loc = c.loc }))
+    → IsAmong w (entity_shadowed o c) ↔ (e : Node Id) × (o ≡ Some e)
+    × (w ≡ ShadowsEntity (record { name = c.node.text; entity_loc = e.loc; common_loc = c.loc }))
 entity_said None c w = (λ h. absurd h, λ h. absurd (no h.0 h.1))
 entity_said (Some e) c w = (
   λ h. elim h [ inl i ↦ (e, refl, i) | inr i ↦ absurd i ],
-  λ h. inl (h.2 ∙ ap (λ (d : Node Id). ShadowsEntity (record { name = c.node.text; entity_loc = d.loc; common_loc = c.loc })) (sym (same e h.0 h.1))),
+  λ h. inl (h.2 ∙ ap (λ (d : Node Id). ShadowsEntity
+      (record { name = c.node.text; entity_loc = d.loc; common_loc = c.loc })) (sym (same e h.0 h.1))),
 )
 
 -- what the names of one kind tell, where none repeats
@@ -76,12 +80,17 @@ module _ (names : List (Node Id)) (once : NoneRepeats id_cmp names) where
       → lookup (is_at (id_text_cmp c.node)) (by_id names) ≡ Some e ↔ IsAmong e names × (id_cmp c e ≡ Equal)
   at_name c e =
       let found = looked_up id_text_cmp ids_total (λ (d : Node Id). d.node) (λ (d : Node Id). d) c.node names e new in (
-        λ h. let f = found.0 h in (subst (λ d. IsAmong d names) f.3 f.1, equal_from (id_cmp c e) (subst (λ d. is_eq (id_cmp c d) ≡ true) f.3 f.2)),
+        λ h. let f = found.0 h in (
+          subst (λ d. IsAmong d names) f.3 f.1,
+          equal_from (id_cmp c e)
+              (subst (λ d. is_eq (id_cmp c d) ≡ true) f.3 f.2),
+        ),
         λ h. found.1 (e, h.0, ap is_eq h.1, refl),
       )
 
 module _ (table : ExtensionTable) (decls : List (Annotated (Node Declaration))) (w : SchemaWarning)
-    (commons_once : NoneRepeats id_cmp (common_names_in decls)) (entities_once : NoneRepeats id_cmp (entity_names_in decls)) where
+    (commons_once : NoneRepeats id_cmp (common_names_in decls))
+    (entities_once : NoneRepeats id_cmp (entity_names_in decls)) where
   abbrev commons : List (Node Id)
   commons = common_names_in decls
 
@@ -89,7 +98,8 @@ module _ (table : ExtensionTable) (decls : List (Annotated (Node Declaration))) 
   entities = entity_names_in decls
 
   entity_of : (c : Node Id)
-      → IsAmong w (entity_shadowed (lookup (is_at (id_text_cmp c.node)) (by_id entities)) c) ↔ (e : Node Id) × IsAmong e entities × SaysEntity c e w
+      → IsAmong w (entity_shadowed (lookup (is_at (id_text_cmp c.node)) (by_id entities)) c) ↔ (e : Node Id)
+      × IsAmong e entities × SaysEntity c e w
   entity_of c =
       let said = entity_said (lookup (is_at (id_text_cmp c.node)) (by_id entities)) c w in (
         λ h. let s = said.0 h in let at = (at_name entities entities_once c s.0).0 s.1 in (s.0, at.0, (at.1, s.2)),
@@ -97,9 +107,11 @@ module _ (table : ExtensionTable) (decls : List (Annotated (Node Declaration))) 
       )
 
   common_of : (c : Node Id)
-      → IsAmong w (common_warnings table (by_id entities) c) ↔ ((e : Node Id) × IsAmong e entities × SaysEntity c e w) ⊎ SaysBuiltin table c w
+      → IsAmong w (common_warnings table (by_id entities) c) ↔ ((e : Node Id) × IsAmong e entities × SaysEntity c e w)
+      ⊎ SaysBuiltin table c w
   common_of c =
-      let split = among_append w (entity_shadowed (lookup (is_at (id_text_cmp c.node)) (by_id entities)) c) (builtin_shadowed table c) in (
+      let split = among_append w (entity_shadowed (lookup (is_at (id_text_cmp c.node)) (by_id entities)) c)
+      (builtin_shadowed table c) in (
         λ h. elim (split.0 h) [ inl e ↦ inl ((entity_of c).0 e) | inr b ↦ inr ((builtin_said table c w).0 b) ],
         λ h. split.1 (elim h [ inl e ↦ inl ((entity_of c).1 e) | inr b ↦ inr ((builtin_said table c w).1 b) ]),
       )
@@ -109,7 +121,8 @@ module _ (table : ExtensionTable) (decls : List (Annotated (Node Declaration))) 
 
   of_declared : IsAmong w (declared_warnings table decls) ↔ IsOfDeclared table decls w
   of_declared =
-      let split = among_append w (flat_map (λ (c : Id × Node Id). common_warnings table (by_id entities) c.1) (by_id commons)) (flat_map (λ (e : Id × Node Id). builtin_shadowed table e.1) (by_id entities)) in
+      let split = among_append w (flat_map (λ (c : Id × Node Id). common_warnings table (by_id entities) c.1)
+      (by_id commons)) (flat_map (λ (e : Id × Node Id). builtin_shadowed table e.1) (by_id entities)) in
       let by_common = of_names commons commons_once (λ c. common_warnings table (by_id entities) c.1) w in
       let by_entity = of_names entities entities_once (λ e. builtin_shadowed table e.1) w in (
         λ h. elim (split.0 h) [
@@ -139,7 +152,8 @@ turned Equal = refl
 turned Greater = refl
 
 swapped : (a b : Annotated Namespace) → have_one_name a b ≡ have_one_name b a
-swapped a b = ap is_eq (names_total.antisymm a.item.name b.item.name) ∙ turned (option_cmp path_cmp b.item.name a.item.name)
+swapped a b = ap is_eq (names_total.antisymm a.item.name b.item.name)
+    ∙ turned (option_cmp path_cmp b.item.name a.item.name)
 
 none_before : (n : Annotated Namespace) (before : List (Annotated Namespace))
     → list_any (λ b. have_one_name b n) before ≡ false
@@ -151,11 +165,14 @@ none_before n (b ∷ before) h =
 
 -- the namespaces of a tree are warned of one by one
 of_namespaces : (tree : List (Annotated Namespace)) (table : ExtensionTable) (w : SchemaWarning)
-    → IsAmong w (shadowings tree table) ↔ (n : Annotated Namespace) × IsAmong n (joined tree) × IsAmong w (declared_warnings table n.item.decls)
+    → IsAmong w (shadowings tree table) ↔ (n : Annotated Namespace) × IsAmong n (joined tree)
+    × IsAmong w (declared_warnings table n.item.decls)
 of_namespaces tree table w =
-    flat_entries (option_cmp path_cmp) names_total (λ (n : Annotated Namespace). n.item.name) (λ (n : Annotated Namespace). n)
+    flat_entries (option_cmp path_cmp) names_total (λ (n : Annotated Namespace). n.item.name)
+    (λ (n : Annotated Namespace). n)
     (λ p. declared_warnings table p.1.item.decls) w (joined tree)
-    (new_from have_one_name [] (joined tree) (λ before after n e. none_before n before (own_names tree before after n e)))
+    (new_from have_one_name [] (joined tree)
+    (λ before after n e. none_before n before (own_names tree before after n e)))
 
 pub warned : (tree : List (Annotated Namespace)) (table : ExtensionTable) (w : SchemaWarning)
     → translation_faults tree ≡ []
@@ -163,7 +180,9 @@ pub warned : (tree : List (Annotated Namespace)) (table : ExtensionTable) (w : S
 warned tree table w h =
     let each = of_namespaces tree table w in
     let all = (lawful tree).0 h in
-    let at = λ (n : Annotated Namespace) (i : IsAmong n (joined tree)). let l = all_at IsLawfulNamespace n (joined tree) all i in of_declared table n.item.decls w l.commons_once l.entities_once in (
+    let at = λ (n : Annotated Namespace) (i : IsAmong n (joined tree)).
+    let l = all_at IsLawfulNamespace n (joined tree) all i in
+    of_declared table n.item.decls w l.commons_once l.entities_once in (
       λ g. let n = each.0 g in (n.0, n.1, (at n.0 n.1).0 n.2),
       λ g. each.1 (g.0, g.1, (at g.0 g.1).1 g.2),
     )

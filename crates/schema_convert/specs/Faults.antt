@@ -16,7 +16,9 @@ use Rattle.schema_syntax_tree.specs.declared.namespace.Namespace.{Namespace}
 use Rattle.schema_syntax_tree.specs.declared.path.Path.{Path}
 use Rattle.schema_json.specs.Keywords.{is_keyword_name}
 use Rattle.schema_convert_errors.specs.declared.errors.ToJsonSchemaError.{ToJsonSchemaError}
-use Rattle.schema_convert_errors.specs.declared.errors.ToJsonSchemaError.TheVariants.{DuplicateDeclarations, ReservedName, ReservedSchemaKeyword}
+use Rattle.schema_convert_errors.specs.declared.errors.ToJsonSchemaError.TheVariants.{DuplicateDeclarations}
+use Rattle.schema_convert_errors.specs.declared.errors.ToJsonSchemaError.TheVariants.{ReservedName}
+use Rattle.schema_convert_errors.specs.declared.errors.ToJsonSchemaError.TheVariants.{ReservedSchemaKeyword}
 use Rattle.schema_convert.specs.Joined.{joined}
 use Rattle.schema_convert.specs.Members.{block_fault}
 use Rattle.schema_convert.specs.NamesIn.{entity_names_in, action_names_in, common_names_in, id_cmp, action_cmp}
@@ -32,7 +34,8 @@ is_reserved_path path = list_any (λ id. is_cedar id.text) path.ids
 
 abbrev pub reserved_namespace : Option Path → Option ToJsonSchemaError
 reserved_namespace None = None
-reserved_namespace (Some path) = if is_reserved_path path then Some (ReservedName (record { name = path_text path; loc = path.loc })) else None
+reserved_namespace (Some path) =
+    if is_reserved_path path then Some (ReservedName (record { name = path_text path; loc = path.loc })) else None
 
 -- a name that stands twice, with both places
 abbrev pub twice : {K : Type 0} → (K → List ℕ) → Option (Node K × Node K) → Option ToJsonSchemaError
@@ -48,7 +51,8 @@ action_twice names = twice (λ text. text) (first_repeat action_cmp names)
 -- the first repeat of a namespace's entity types, or else of its actions, or else of its common types
 abbrev pub declared_twice : List (Annotated (Node Declaration)) → Option ToJsonSchemaError
 declared_twice decls =
-    option_or (id_twice (entity_names_in decls)) (option_or (action_twice (action_names_in decls)) (id_twice (common_names_in decls)))
+    option_or (id_twice (entity_names_in decls))
+    (option_or (action_twice (action_names_in decls)) (id_twice (common_names_in decls)))
 
 -- The first step: the name of a namespace, or else a repeat in it.
 abbrev pub name_fault : Annotated Namespace → Option ToJsonSchemaError
@@ -56,11 +60,13 @@ name_fault n = option_or (reserved_namespace n.item.name) (declared_twice n.item
 
 -- a declared name that is reserved
 abbrev pub reserved_id : Node Id → Option ToJsonSchemaError
-reserved_id id = if is_cedar id.node.text then Some (ReservedName (record { name = id.node.text; loc = id.loc })) else None
+reserved_id id = if is_cedar id.node.text then Some
+    (ReservedName (record { name = id.node.text; loc = id.loc })) else None
 
 -- a common type's name that is one of the eight words that no common type may have
 abbrev pub keyword : Node Id → Option ToJsonSchemaError
-keyword id = if is_keyword_name id.node.text then Some (ReservedSchemaKeyword (record { keyword = id.node.text; loc = id.loc })) else None
+keyword id = if is_keyword_name id.node.text then Some
+    (ReservedSchemaKeyword (record { keyword = id.node.text; loc = id.loc })) else None
 
 abbrev pub common_fault : Node Id → Option ToJsonSchemaError
 common_fault id = option_or (reserved_id id) (keyword id)
@@ -87,8 +93,8 @@ abbrev pub or_else : List ToJsonSchemaError → List ToJsonSchemaError → List 
 or_else [] others = others
 or_else (fault ∷ faults) others = fault ∷ faults
 
--- The second step: all reserved names of entity types, or else the first fault of each action declaration, or else the first
--- fault of a common type's name.
+-- The second step: all reserved names of entity types, or else the first fault of each action declaration, or else the
+-- first fault of a common type's name.
 abbrev pub entity_faults : List (Annotated (Node Declaration)) → List ToJsonSchemaError
 entity_faults decls = filter_map reserved_id (entity_names_in decls)
 

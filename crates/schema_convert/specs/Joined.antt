@@ -58,8 +58,8 @@ annotation_key_cmp a b = text_cmp a.text b.text
 abbrev pub first_values : List (Annotated Namespace) → Annotations
 first_values openings = record { 0 = map_of annotation_key_cmp (reverse (flat_map (λ n. n.annotations.0) openings)) }
 
--- The one namespace that these openings are, of which this is the first: its name and place, all declarations in order, and
--- each annotation key with its first value.
+-- The one namespace that these openings are, of which this is the first: its name and place, all declarations in order,
+-- and each annotation key with its first value.
 abbrev pub opened_as : Annotated Namespace → List (Annotated Namespace) → Annotated Namespace
 opened_as first openings = record {
   item = record { name = first.item.name; decls = flat_map (λ n. n.item.decls) openings; loc = first.item.loc };
@@ -73,7 +73,8 @@ joined_by_name namespaces = map (λ n. opened_as n (openings_of n namespaces)) (
 -- the namespace without a name that holds these declarations, where there are any
 abbrev pub empty_namespace : List (Annotated (Node Declaration)) → List (Annotated Namespace)
 empty_namespace [] = []
-empty_namespace (d ∷ ds) = record { item = record { name = None; decls = d ∷ ds; loc = None }; annotations = record { 0 = [] } } ∷ []
+empty_namespace (d ∷ ds) = record
+    { item = record { name = None; decls = d ∷ ds; loc = None }; annotations = record { 0 = [] } } ∷ []
 
 -- One namespace for each name, and behind them the one of all declarations outside of these, where there are any.
 abbrev pub joined : List (Annotated Namespace) → List (Annotated Namespace)

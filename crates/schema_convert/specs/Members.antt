@@ -1,5 +1,6 @@
 -- The faults of an `appliesTo` block.
-use Rattle.std.specs.Prelude.{ℕ, Bool, true, false, List, [], ◌∷◌, ◌++◌, Option, Some, None, find, is_none, if◌then◌else◌}
+use Rattle.std.specs.Prelude.{ℕ, Bool, true, false, List, [], ◌∷◌, ◌++◌, Option, Some, None, find, is_none}
+use Rattle.std.specs.Prelude.{if◌then◌else◌}
 use Rattle.std.specs.List.{list_any}
 use Rattle.std.specs.Option.{option_or}
 use Rattle.cedar_data.specs.Span.{Span}
@@ -10,7 +11,9 @@ use Rattle.schema_syntax_tree.specs.declared.pr.PR.{PR as Role}
 use Rattle.schema_syntax_tree.specs.declared.pr.PR.TheVariants.{Principal, Resource}
 use Rattle.schema_convert_errors.specs.declared.errors.MissingOrEmpty.TheVariants.{Missing, Empty}
 use Rattle.schema_convert_errors.specs.declared.errors.ToJsonSchemaError.{ToJsonSchemaError}
-use Rattle.schema_convert_errors.specs.declared.errors.ToJsonSchemaError.TheVariants.{DuplicateContext, DuplicatePrincipalOrResource, NoPrincipalOrResource}
+use Rattle.schema_convert_errors.specs.declared.errors.ToJsonSchemaError.TheVariants.{DuplicateContext}
+use Rattle.schema_convert_errors.specs.declared.errors.ToJsonSchemaError.TheVariants.{DuplicatePrincipalOrResource}
+use Rattle.schema_convert_errors.specs.declared.errors.ToJsonSchemaError.TheVariants.{NoPrincipalOrResource}
 
 -- both are principals, or both resources
 abbrev pub is_same_role : Role → Role → Bool
@@ -38,7 +41,12 @@ module _ (name : Node (List ℕ)) where
 
   abbrev pub empty_role : Role → Option Span → ToJsonSchemaError
   empty_role kind loc =
-      NoPrincipalOrResource (record { kind = kind; name = name.node; missing_or_empty = Empty loc; name_loc = name.loc })
+      NoPrincipalOrResource (record {
+        kind = kind;
+        name = name.node;
+        missing_or_empty = Empty loc;
+        name_loc = name.loc;
+      })
 
   abbrev pub missing_role : Role → ToJsonSchemaError
   missing_role kind =

@@ -32,20 +32,24 @@ is_taken table w = is_primitive_name w || table_has table w
 
 -- a declared type that is named so
 abbrev pub builtin_shadowed : ExtensionTable → Node Id → List SchemaWarning
-builtin_shadowed table name = if is_taken table name.node.text then ShadowsBuiltin (record { name = name.node.text; loc = name.loc }) ∷ [] else []
+builtin_shadowed table name = if is_taken table name.node.text then ShadowsBuiltin
+    (record { name = name.node.text; loc = name.loc }) ∷ [] else []
 
 -- a common type with the name of an entity type of its namespace
 abbrev pub entity_shadowed : Option (Node Id) → Node Id → List SchemaWarning
 entity_shadowed None common = []
-entity_shadowed (Some entity) common = ShadowsEntity (record { name = common.node.text; entity_loc = entity.loc; common_loc = common.loc }) ∷ []
+entity_shadowed (Some entity) common =
+    ShadowsEntity (record { name = common.node.text; entity_loc = entity.loc; common_loc = common.loc }) ∷ []
 
 abbrev pub common_warnings : ExtensionTable → List (Id × Node Id) → Node Id → List SchemaWarning
-common_warnings table entities common = entity_shadowed (lookup (is_at (id_text_cmp common.node)) entities) common ++ builtin_shadowed table common
+common_warnings table entities common =
+    entity_shadowed (lookup (is_at (id_text_cmp common.node)) entities) common ++ builtin_shadowed table common
 
--- The warnings of a namespace: the common types by name, each first as it hides an entity type, and then the entity types
--- by name.
+-- The warnings of a namespace: the common types by name, each first as it hides an entity type, and then the entity
+-- types by name.
 abbrev pub warnings_in : ExtensionTable → List (Id × Node Id) → List (Id × Node Id) → List SchemaWarning
-warnings_in table commons entities = flat_map (λ c. common_warnings table entities c.1) commons ++ flat_map (λ e. builtin_shadowed table e.1) entities
+warnings_in table commons entities =
+    flat_map (λ c. common_warnings table entities c.1) commons ++ flat_map (λ e. builtin_shadowed table e.1) entities
 
 abbrev pub declared_warnings : ExtensionTable → List (Annotated (Node Declaration)) → List SchemaWarning
 declared_warnings table decls = warnings_in table (by_id (common_names_in decls)) (by_id (entity_names_in decls))

@@ -10,7 +10,8 @@ use Rattle.schema_json.specs.declared.fragment.Fragment.{Fragment}
 use Rattle.schema_convert_types.specs.Declarations.{as_written}
 use Rattle.schema_convert_types.specs.Fragments.{fragment_of}
 use Rattle.schema_convert_errors.specs.declared.error_list.CedarSchemaParseErrors.{CedarSchemaParseErrors}
-use Rattle.schema_convert_errors.specs.declared.error_list.CedarSchemaParseErrors.TheVariants.{SyntaxError, JsonError, Memory}
+use Rattle.schema_convert_errors.specs.declared.error_list.CedarSchemaParseErrors.TheVariants.{SyntaxError, JsonError}
+use Rattle.schema_convert_errors.specs.declared.error_list.CedarSchemaParseErrors.TheVariants.{Memory}
 use Rattle.schema_convert_errors.specs.declared.error_list.ToJsonSchemaErrors.{ToJsonSchemaErrors}
 use Rattle.schema_convert_errors.specs.declared.error_list.ToJsonSchemaFailure.{ToJsonSchemaFailure}
 use Rattle.schema_convert_errors.specs.declared.error_list.ToJsonSchemaFailure.TheVariants as failure
@@ -24,7 +25,8 @@ abbrev pub translated : List (Annotated Namespace) → Fragment RawName as_writt
 translated tree = fragment_of (joined tree)
 
 -- the tree has no fault, and this is its fragment, with these warnings
-pub record IsTranslation (tree : List (Annotated Namespace)) (table : ExtensionTable) (fragment : Fragment RawName as_written) (warnings : List SchemaWarning) : Type 0 where
+pub record IsTranslation (tree : List (Annotated Namespace)) (table : ExtensionTable)
+    (fragment : Fragment RawName as_written) (warnings : List SchemaWarning) : Type 0 where
   pub lawful : translation_faults tree ≡ []
   pub is : fragment ≡ translated tree
   pub warned : warnings ≡ shadowings tree table
@@ -41,10 +43,12 @@ IsFailureOf tree failure.Memory = Unit {0}
 
 -- the text has a tree, and this is its translation
 abbrev pub IsTranslationOfText : List ℕ → ExtensionTable → Fragment RawName as_written → List SchemaWarning → Type 0
-IsTranslationOfText text table fragment warnings = (tree : List (Annotated Namespace)) × IsTreeOfText text tree × IsTranslation tree table fragment warnings
+IsTranslationOfText text table fragment warnings =
+    (tree : List (Annotated Namespace)) × IsTreeOfText text tree × IsTranslation tree table fragment warnings
 
 -- the text has no tree, and this is its fault, or its tree has these faults
 abbrev pub IsParseFailureOf : List ℕ → CedarSchemaParseErrors → Type 0
 IsParseFailureOf text (SyntaxError errors) = IsRefusalOf text (parse.Errors errors)
-IsParseFailureOf text (JsonError errors) = (tree : List (Annotated Namespace)) × IsTreeOfText text tree × AreItsFaults tree errors
+IsParseFailureOf text (JsonError errors) =
+    (tree : List (Annotated Namespace)) × IsTreeOfText text tree × AreItsFaults tree errors
 IsParseFailureOf text Memory = Unit {0}

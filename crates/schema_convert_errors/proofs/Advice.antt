@@ -5,8 +5,10 @@ use Rattle.std.specs.Prelude.{⊤}
 use Rattle.std.specs.Str.{chars}
 use Rattle.cedar_data.proofs.Ascii.{chars-from_test}
 use Rattle.schema_syntax_errors.specs.declared.parse_error.ParseError.{ParseError}
-use Rattle.schema_syntax_errors.specs.declared.parse_error.ParseError.TheVariants.{InvalidToken, UnrecognizedEof, UnrecognizedToken, ExtraToken, User}
-use Rattle.schema_syntax_errors.specs.FaultHelps.{missing_applies_to, trailing_namespace_semicolon, misses_applies_to, ends_namespace, parse_error_help}
+use Rattle.schema_syntax_errors.specs.declared.parse_error.ParseError.TheVariants.{InvalidToken, UnrecognizedEof}
+use Rattle.schema_syntax_errors.specs.declared.parse_error.ParseError.TheVariants.{UnrecognizedToken, ExtraToken, User}
+use Rattle.schema_syntax_errors.specs.FaultHelps.{missing_applies_to, trailing_namespace_semicolon, misses_applies_to}
+use Rattle.schema_syntax_errors.specs.FaultHelps.{ends_namespace, parse_error_help}
 
 abbrev Plain : Option (List ℕ) → Type 0
 Plain help = MatchOption help ⊤ (λ text. chars text ≡ text)

@@ -6,7 +6,8 @@ use denote.Enum.Bare.{sameb, same_true, true_same}
 use Rattle.cedar_data.specs.Span.{Span}
 use Rattle.schema_syntax_tree.specs.declared.pr.PR.{PR as Role}
 use Rattle.schema_syntax_tree.specs.contracts.pr.PR.{the_type}
-use Rattle.schema_syntax_errors.specs.SameFaults.{texts_agree, places_agree, texts_sound, texts_themselves, places_sound, places_themselves, items_sound, items_themselves}
+use Rattle.schema_syntax_errors.specs.SameFaults.{texts_agree, places_agree, texts_sound, texts_themselves}
+use Rattle.schema_syntax_errors.specs.SameFaults.{places_sound, places_themselves, items_sound, items_themselves}
 use Rattle.schema_convert_errors.specs.declared.errors.DuplicateContext.{DuplicateContext}
 use Rattle.schema_convert_errors.specs.declared.errors.DuplicateDeclarations.{DuplicateDeclarations}
 use Rattle.schema_convert_errors.specs.declared.errors.DuplicateNamespace.{DuplicateNamespace}
@@ -48,8 +49,11 @@ placed_agree v p w q = texts_agree v w && places_agree p q
 
 placed_sound : (v : List ℕ) (p : Option Span) (w : List ℕ) (q : Option Span) → placed_agree v p w q ≡ true
     → (v ≡ w) × (p ≡ q)
-placed_sound v p w q h =
-    (texts_sound v w (first_so (texts_agree v w) (places_agree p q) h), places_sound p q (second_so (texts_agree v w) (places_agree p q) h))
+placed_sound v p w q h = (
+  texts_sound v w (first_so (texts_agree v w) (places_agree p q) h),
+  places_sound p q
+      (second_so (texts_agree v w) (places_agree p q) h),
+)
 
 placed_itself : (v : List ℕ) (p : Option Span) → placed_agree v p v p ≡ true
 placed_itself v p = and_from (texts_agree v v) (places_agree p p) (texts_themselves v) (places_themselves p)
@@ -58,8 +62,11 @@ abbrev both_agree : Option Span → Option Span → Option Span → Option Span 
 both_agree p r q s = places_agree p q && places_agree r s
 
 both_sound : (p r q s : Option Span) → both_agree p r q s ≡ true → (p ≡ q) × (r ≡ s)
-both_sound p r q s h =
-    (places_sound p q (first_so (places_agree p q) (places_agree r s) h), places_sound r s (second_so (places_agree p q) (places_agree r s) h))
+both_sound p r q s h = (
+  places_sound p q (first_so (places_agree p q) (places_agree r s) h),
+  places_sound r s
+      (second_so (places_agree p q) (places_agree r s) h),
+)
 
 both_themselves : (p r : Option Span) → both_agree p r p r ≡ true
 both_themselves p r = and_from (places_agree p p) (places_agree r r) (places_themselves p) (places_themselves r)
@@ -114,16 +121,22 @@ namespaces_themselves a = twice_itself a.namespace_id a.loc1 a.loc2
 -- lists of principals and resources
 pub second_roles_sound : (a b : DuplicatePrincipalOrResource) → (role_eq.ghosts).eq a b ≡ true → a ≡ b
 second_roles_sound a b h =
-    let name = texts_sound a.name b.name (first_so (texts_agree a.name b.name) (roles_agree a.kind b.kind && both_agree a.loc1 a.loc2 b.loc1 b.loc2) h) in
-    let others = second_so (texts_agree a.name b.name) (roles_agree a.kind b.kind && both_agree a.loc1 a.loc2 b.loc1 b.loc2) h in
-    let kind = roles_sound a.kind b.kind (first_so (roles_agree a.kind b.kind) (both_agree a.loc1 a.loc2 b.loc1 b.loc2) others) in
-    let places = both_sound a.loc1 a.loc2 b.loc1 b.loc2 (second_so (roles_agree a.kind b.kind) (both_agree a.loc1 a.loc2 b.loc1 b.loc2) others) in
+    let name = texts_sound a.name b.name
+    (first_so (texts_agree a.name b.name) (roles_agree a.kind b.kind && both_agree a.loc1 a.loc2 b.loc1 b.loc2) h) in
+    let others = second_so (texts_agree a.name b.name)
+    (roles_agree a.kind b.kind && both_agree a.loc1 a.loc2 b.loc1 b.loc2) h in
+    let kind = roles_sound a.kind b.kind
+    (first_so (roles_agree a.kind b.kind) (both_agree a.loc1 a.loc2 b.loc1 b.loc2) others) in
+    let places = both_sound a.loc1 a.loc2 b.loc1 b.loc2
+    (second_so (roles_agree a.kind b.kind) (both_agree a.loc1 a.loc2 b.loc1 b.loc2) others) in
     λ i. record { name = name i; kind = kind i; loc1 = places.0 i; loc2 = places.1 i }
 
 pub second_roles_themselves : (a : DuplicatePrincipalOrResource) → (role_eq.ghosts).eq a a ≡ true
 second_roles_themselves a =
-    and_from (texts_agree a.name a.name) (roles_agree a.kind a.kind && both_agree a.loc1 a.loc2 a.loc1 a.loc2) (texts_themselves a.name)
-    (and_from (roles_agree a.kind a.kind) (both_agree a.loc1 a.loc2 a.loc1 a.loc2) (roles_themselves a.kind) (both_themselves a.loc1 a.loc2))
+    and_from (texts_agree a.name a.name) (roles_agree a.kind a.kind && both_agree a.loc1 a.loc2 a.loc1 a.loc2)
+    (texts_themselves a.name)
+    (and_from (roles_agree a.kind a.kind) (both_agree a.loc1 a.loc2 a.loc1 a.loc2) (roles_themselves a.kind)
+    (both_themselves a.loc1 a.loc2))
 
 abbrev absences_agree : MissingOrEmpty → MissingOrEmpty → Bool
 absences_agree = (absence_eq.ghosts).eq
@@ -139,19 +152,34 @@ absences_themselves (Empty p) = places_themselves p
 
 pub absent_roles_sound : (a b : NoPrincipalOrResource) → (absent_role_eq.ghosts).eq a b ≡ true → a ≡ b
 absent_roles_sound a b h =
-    let kind = roles_sound a.kind b.kind (first_so (roles_agree a.kind b.kind) (texts_agree a.name b.name && (absences_agree a.missing_or_empty b.missing_or_empty && places_agree a.name_loc b.name_loc)) h) in
-    let others = second_so (roles_agree a.kind b.kind) (texts_agree a.name b.name && (absences_agree a.missing_or_empty b.missing_or_empty && places_agree a.name_loc b.name_loc)) h in
-    let name = texts_sound a.name b.name (first_so (texts_agree a.name b.name) (absences_agree a.missing_or_empty b.missing_or_empty && places_agree a.name_loc b.name_loc) others) in
-    let last = second_so (texts_agree a.name b.name) (absences_agree a.missing_or_empty b.missing_or_empty && places_agree a.name_loc b.name_loc) others in
-    let absence = absences_sound a.missing_or_empty b.missing_or_empty (first_so (absences_agree a.missing_or_empty b.missing_or_empty) (places_agree a.name_loc b.name_loc) last) in
-    let place = places_sound a.name_loc b.name_loc (second_so (absences_agree a.missing_or_empty b.missing_or_empty) (places_agree a.name_loc b.name_loc) last) in
+    let kind = roles_sound a.kind b.kind
+    (first_so (roles_agree a.kind b.kind)
+    (texts_agree a.name b.name && (absences_agree a.missing_or_empty b.missing_or_empty && places_agree a.name_loc
+    b.name_loc)) h) in
+    let others = second_so (roles_agree a.kind b.kind)
+    (texts_agree a.name b.name && (absences_agree a.missing_or_empty b.missing_or_empty && places_agree a.name_loc
+    b.name_loc)) h in
+    let name = texts_sound a.name b.name
+    (first_so (texts_agree a.name b.name)
+    (absences_agree a.missing_or_empty b.missing_or_empty && places_agree a.name_loc b.name_loc) others) in
+    let last = second_so (texts_agree a.name b.name)
+    (absences_agree a.missing_or_empty b.missing_or_empty && places_agree a.name_loc b.name_loc) others in
+    let absence = absences_sound a.missing_or_empty b.missing_or_empty
+    (first_so (absences_agree a.missing_or_empty b.missing_or_empty) (places_agree a.name_loc b.name_loc) last) in
+    let place = places_sound a.name_loc b.name_loc
+    (second_so (absences_agree a.missing_or_empty b.missing_or_empty) (places_agree a.name_loc b.name_loc) last) in
     λ i. record { kind = kind i; name = name i; missing_or_empty = absence i; name_loc = place i }
 
 pub absent_roles_themselves : (a : NoPrincipalOrResource) → (absent_role_eq.ghosts).eq a a ≡ true
 absent_roles_themselves a =
-    and_from (roles_agree a.kind a.kind) (texts_agree a.name a.name && (absences_agree a.missing_or_empty a.missing_or_empty && places_agree a.name_loc a.name_loc)) (roles_themselves a.kind)
-    (and_from (texts_agree a.name a.name) (absences_agree a.missing_or_empty a.missing_or_empty && places_agree a.name_loc a.name_loc) (texts_themselves a.name)
-    (and_from (absences_agree a.missing_or_empty a.missing_or_empty) (places_agree a.name_loc a.name_loc) (absences_themselves a.missing_or_empty) (places_themselves a.name_loc)))
+    and_from (roles_agree a.kind a.kind)
+    (texts_agree a.name a.name && (absences_agree a.missing_or_empty a.missing_or_empty && places_agree a.name_loc
+    a.name_loc)) (roles_themselves a.kind)
+    (and_from (texts_agree a.name a.name)
+    (absences_agree a.missing_or_empty a.missing_or_empty && places_agree a.name_loc a.name_loc)
+    (texts_themselves a.name)
+    (and_from (absences_agree a.missing_or_empty a.missing_or_empty) (places_agree a.name_loc a.name_loc)
+    (absences_themselves a.missing_or_empty) (places_themselves a.name_loc)))
 
 -- names with one place
 pub unknown_sound : (a b : UnknownTypeName) → (unknown_eq.ghosts).eq a b ≡ true → a ≡ b
@@ -183,14 +211,19 @@ abbrev faults_agree : ToJsonSchemaError → ToJsonSchemaError → Bool
 faults_agree = (fault_eq.ghosts).eq
 
 pub faults_sound : (a b : ToJsonSchemaError) → faults_agree a b ≡ true → a ≡ b
-faults_sound (fault.DuplicateDeclarations a) (fault.DuplicateDeclarations b) h = ap fault.DuplicateDeclarations (declarations_sound a b h)
+faults_sound (fault.DuplicateDeclarations a) (fault.DuplicateDeclarations b) h =
+    ap fault.DuplicateDeclarations (declarations_sound a b h)
 faults_sound (fault.DuplicateContext a) (fault.DuplicateContext b) h = ap fault.DuplicateContext (contexts_sound a b h)
-faults_sound (fault.DuplicatePrincipalOrResource a) (fault.DuplicatePrincipalOrResource b) h = ap fault.DuplicatePrincipalOrResource (second_roles_sound a b h)
-faults_sound (fault.NoPrincipalOrResource a) (fault.NoPrincipalOrResource b) h = ap fault.NoPrincipalOrResource (absent_roles_sound a b h)
-faults_sound (fault.DuplicateNamespaces a) (fault.DuplicateNamespaces b) h = ap fault.DuplicateNamespaces (namespaces_sound a b h)
+faults_sound (fault.DuplicatePrincipalOrResource a) (fault.DuplicatePrincipalOrResource b) h =
+    ap fault.DuplicatePrincipalOrResource (second_roles_sound a b h)
+faults_sound (fault.NoPrincipalOrResource a) (fault.NoPrincipalOrResource b) h =
+    ap fault.NoPrincipalOrResource (absent_roles_sound a b h)
+faults_sound (fault.DuplicateNamespaces a) (fault.DuplicateNamespaces b) h =
+    ap fault.DuplicateNamespaces (namespaces_sound a b h)
 faults_sound (fault.UnknownTypeName a) (fault.UnknownTypeName b) h = ap fault.UnknownTypeName (unknown_sound a b h)
 faults_sound (fault.ReservedName a) (fault.ReservedName b) h = ap fault.ReservedName (reserved_sound a b h)
-faults_sound (fault.ReservedSchemaKeyword a) (fault.ReservedSchemaKeyword b) h = ap fault.ReservedSchemaKeyword (keywords_sound a b h)
+faults_sound (fault.ReservedSchemaKeyword a) (fault.ReservedSchemaKeyword b) h =
+    ap fault.ReservedSchemaKeyword (keywords_sound a b h)
 faults_sound _ _ h = cc
 
 pub faults_themselves : (a : ToJsonSchemaError) → faults_agree a a ≡ true
@@ -246,7 +279,8 @@ abbrev warnings_agree : SchemaWarning → SchemaWarning → Bool
 warnings_agree = (warning_eq.ghosts).eq
 
 pub warnings_sound : (a b : SchemaWarning) → warnings_agree a b ≡ true → a ≡ b
-warnings_sound (warning.ShadowsBuiltin a) (warning.ShadowsBuiltin b) h = ap warning.ShadowsBuiltin (builtins_sound a b h)
+warnings_sound (warning.ShadowsBuiltin a) (warning.ShadowsBuiltin b) h =
+    ap warning.ShadowsBuiltin (builtins_sound a b h)
 warnings_sound (warning.ShadowsEntity a) (warning.ShadowsEntity b) h = ap warning.ShadowsEntity (entities_sound a b h)
 warnings_sound _ _ h = cc
 

@@ -14,7 +14,8 @@ use Rattle.schema_convert_errors.specs.declared.errors.ToJsonSchemaError.TheVari
 use Rattle.schema_convert_errors.specs.declared.error_list.ToJsonSchemaFailure.{ToJsonSchemaFailure}
 use Rattle.schema_convert_errors.specs.declared.error_list.ToJsonSchemaFailure.TheVariants as failure
 use Rattle.schema_convert_errors.specs.declared.error_list.CedarSchemaParseErrors.{CedarSchemaParseErrors}
-use Rattle.schema_convert_errors.specs.declared.error_list.CedarSchemaParseErrors.TheVariants.{SyntaxError, JsonError, Memory}
+use Rattle.schema_convert_errors.specs.declared.error_list.CedarSchemaParseErrors.TheVariants.{SyntaxError, JsonError}
+use Rattle.schema_convert_errors.specs.declared.error_list.CedarSchemaParseErrors.TheVariants.{Memory}
 
 -- how two contexts are mended
 abbrev pub second_context_help : List ℕ
@@ -64,7 +65,8 @@ saying_label text (Some span) = record { span = span; text = Some text } ∷ []
 -- the place of an action's name, and that of its empty list
 abbrev pub missing_labels : MissingOrEmpty → Option Span → List Label
 missing_labels Missing name = unnamed_label name
-missing_labels (Empty loc) name = saying_label (codes "for this action") name ++ saying_label (codes "must not be `[]`") loc
+missing_labels (Empty loc) name =
+    saying_label (codes "for this action") name ++ saying_label (codes "must not be `[]`") loc
 
 -- the places that a fault of translation points to, with what it says there
 abbrev pub translation_fault_labels : ToJsonSchemaError → List Label

@@ -18,7 +18,8 @@ use Rattle.schema_convert_errors.specs.declared.errors.ToJsonSchemaError.TheVari
 use Rattle.schema_convert_errors.specs.declared.error_list.ToJsonSchemaFailure.{ToJsonSchemaFailure}
 use Rattle.schema_convert_errors.specs.declared.error_list.ToJsonSchemaFailure.TheVariants as failure
 use Rattle.schema_convert_errors.specs.declared.error_list.CedarSchemaParseErrors.{CedarSchemaParseErrors}
-use Rattle.schema_convert_errors.specs.declared.error_list.CedarSchemaParseErrors.TheVariants.{SyntaxError, JsonError, Memory}
+use Rattle.schema_convert_errors.specs.declared.error_list.CedarSchemaParseErrors.TheVariants.{SyntaxError, JsonError}
+use Rattle.schema_convert_errors.specs.declared.error_list.CedarSchemaParseErrors.TheVariants.{Memory}
 
 -- a word in backquotes, between two wordings
 abbrev pub naming : List ℕ → List ℕ → List ℕ → List ℕ
@@ -34,7 +35,8 @@ second_context_text e = naming (codes "duplicate context declaration in action "
 
 -- what is said of a second list of an action's principals or resources
 abbrev pub second_text : PR → List ℕ → List ℕ
-second_text kind action = naming (naming (codes "duplicate ") (pr_text kind) (codes " declaration in action ")) action []
+second_text kind action = naming
+    (naming (codes "duplicate ") (pr_text kind) (codes " declaration in action ")) action []
 
 abbrev pub second_targets_text : DuplicatePrincipalOrResource → List ℕ
 second_targets_text e = second_text e.kind e.name

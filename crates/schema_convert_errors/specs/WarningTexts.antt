@@ -9,7 +9,9 @@ use Rattle.schema_convert_errors.specs.declared.warnings.ShadowsEntityWarning.{S
 
 -- what is said of a type that hides a builtin one
 abbrev pub shadows_builtin_text : ShadowsBuiltinWarning → List ℕ
-shadows_builtin_text w = (codes "The name `" ++ (w.name ++ codes "` shadows a builtin Cedar name. You'll have to refer to the builtin as `__cedar::")) ++ (w.name ++ codes "`.")
+shadows_builtin_text w = (codes "The name `"
+    ++ (w.name ++ codes "` shadows a builtin Cedar name. You'll have to refer to the builtin as `__cedar::"))
+    ++ (w.name ++ codes "`.")
 
 -- what is said of a common type that hides an entity type
 abbrev pub shadows_entity_text : ShadowsEntityWarning → List ℕ

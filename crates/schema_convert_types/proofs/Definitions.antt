@@ -25,12 +25,17 @@ use Rattle.schema_json.specs.declared.entity_type.EntityType.{EntityType}
 use Rattle.schema_json.specs.declared.fragment.Fragment.{Fragment}
 use Rattle.schema_json.specs.declared.fragment.NamespaceDefinition.{NamespaceDefinition}
 use Rattle.schema_convert_types.specs.Declarations.{as_written}
-use Rattle.schema_convert_types.specs.Fragments.{common_cmp, unreserved_cmp, common_entries, entity_entries, action_entries, definition_of, namespace_cmp, namespace_entry, fragment_of}
+use Rattle.schema_convert_types.specs.Fragments.{common_cmp, unreserved_cmp, common_entries, entity_entries}
+use Rattle.schema_convert_types.specs.Fragments.{action_entries, definition_of, namespace_cmp, namespace_entry}
+use Rattle.schema_convert_types.specs.Fragments.{fragment_of}
 
-pub definition_made : (decls : List (Annotated (Node Declaration))) (notes : Annotations) (commons cs : List (CommonTypeId × CommonType RawName)) (entities es : List (UnreservedId × EntityType RawName)) (actions as_ : List (List ℕ × ActionType RawName as_written))
+pub definition_made : (decls : List (Annotated (Node Declaration))) (notes : Annotations)
+    (commons cs : List (CommonTypeId × CommonType RawName)) (entities es : List (UnreservedId × EntityType RawName))
+    (actions as_ : List (List ℕ × ActionType RawName as_written))
     → cs ≡ map_of common_cmp commons → commons ≡ common_entries decls → es ≡ map_of unreserved_cmp entities
     → entities ≡ entity_entries decls → as_ ≡ map_of text_cmp actions → actions ≡ action_entries decls
-    → (let made : NamespaceDefinition RawName as_written = record { common_types = cs; entity_types = es; actions = as_; annotations = notes } in made) ≡ definition_of decls notes
+    → (let made : NamespaceDefinition RawName as_written = record
+    { common_types = cs; entity_types = es; actions = as_; annotations = notes } in made) ≡ definition_of decls notes
 definition_made decls notes commons cs entities es actions as_ c d e f a b =
     let cs_are = c ∙ ap (map_of common_cmp) d in
     let es_are = e ∙ ap (map_of unreserved_cmp) f in
@@ -39,19 +44,26 @@ definition_made decls notes commons cs entities es actions as_ c d e f a b =
 
 -- the derived order of names goes by their components
 pub names_order : (a b : Name)
-    → ordering_then (text_cmp a.name.first.text b.name.first.text) (slice_cmp (λ (x y : Id). text_cmp x.text y.text) a.name.others b.name.others) ≡ slice_cmp text_cmp (components_of a.name) (components_of b.name)
-names_order a b = ap (ordering_then (text_cmp a.name.first.text b.name.first.text)) (sym (lex_map (λ (j : Id). j.text) text_cmp a.name.others b.name.others))
+    → ordering_then (text_cmp a.name.first.text b.name.first.text)
+    (slice_cmp (λ (x y : Id). text_cmp x.text y.text) a.name.others b.name.others)
+    ≡ slice_cmp text_cmp (components_of a.name) (components_of b.name)
+names_order a b = ap (ordering_then (text_cmp a.name.first.text b.name.first.text))
+    (sym (lex_map (λ (j : Id). j.text) text_cmp a.name.others b.name.others))
 
-module _ (D : Name → Name → Ordering) (is : (a b : Name) → D a b ≡ slice_cmp text_cmp (components_of a.name) (components_of b.name)) where
+module _ (D : Name → Name → Ordering)
+    (is : (a b : Name) → D a b ≡ slice_cmp text_cmp (components_of a.name) (components_of b.name)) where
   namespaces_order : (a b : Option Name) → option_cmp D a b ≡ namespace_cmp a b
   namespaces_order None None = refl
   namespaces_order None (Some b) = refl
   namespaces_order (Some a) None = refl
   namespaces_order (Some a) (Some b) = is a b
 
-  pub fragment_made : (namespaces : List (Annotated Namespace)) (entries made : List (Option Name × NamespaceDefinition RawName as_written))
+  pub fragment_made : (namespaces : List (Annotated Namespace))
+      (entries made : List (Option Name × NamespaceDefinition RawName as_written))
       → made ≡ map_of (option_cmp D) entries → entries ≡ filter_map namespace_entry namespaces
       → (let whole : Fragment RawName as_written = record { 0 = made } in whole) ≡ fragment_of namespaces
   fragment_made namespaces entries made h e =
-      let all : made ≡ map_of namespace_cmp (filter_map namespace_entry namespaces) = h ∙ (ap (map_of (option_cmp D)) e ∙ (λ i. map_of (λ a b. namespaces_order a b i) (filter_map namespace_entry namespaces))) in
+      let all : made ≡ map_of namespace_cmp (filter_map namespace_entry namespaces) = h
+      ∙ (ap (map_of (option_cmp D)) e
+      ∙ (λ i. map_of (λ a b. namespaces_order a b i) (filter_map namespace_entry namespaces))) in
       λ i. record { 0 = all i }

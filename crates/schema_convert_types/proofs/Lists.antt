@@ -6,7 +6,8 @@ module _ {A B : Type 0} (f : A → B) where
   pub one_more : (done done' : List B) (left left' : List A) (x : A) (y : B) (all : List B) → done ++ map f left ≡ all
       → left ≡ x ∷ left' → done' ≡ done ++ y ∷ [] → y ≡ f x → done' ++ map f left' ≡ all
   one_more done done' left left' x y all h e p q =
-      ap (λ l. l ++ map f left') p ∙ (append_assoc done (y ∷ []) (map f left') ∙ (ap (λ z. done ++ (z ∷ map f left')) q ∙ (ap (λ l. done ++ map f l) (sym e) ∙ h)))
+      ap (λ l. l ++ map f left') p ∙ (append_assoc done (y ∷ []) (map f left')
+      ∙ (ap (λ z. done ++ (z ∷ map f left')) q ∙ (ap (λ l. done ++ map f l) (sym e) ∙ h)))
 
   -- and no item left
   pub none_left : (done : List B) (left : List A) (all : List B) → done ++ map f left ≡ all → length left ≡ 0

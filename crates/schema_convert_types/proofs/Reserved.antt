@@ -17,7 +17,8 @@ no_id id false e h = cc
 
 some_id : (id : Id) (u : UnreservedId) → u.id ≡ id → (b : Bool) (e : is_cedar id.text ≡ b)
     → Some u ≡ unreserved_so id b e
-some_id id u h true e = let f : is_cedar u.id.text ≡ true = ap (λ i. is_cedar i.text) h ∙ e in absurd (cc (u.unreserved))
+some_id id u h true e = let f : is_cedar u.id.text ≡ true = ap (λ i. is_cedar i.text) h
+    ∙ e in absurd (cc (u.unreserved))
 some_id id u h false e = ap Some (unreserved_id_is u (record { id = id; unreserved = e }) h)
 
 pub unreserved_is : (id : Id) (r : Option UnreservedId) → MatchOption r (is_cedar id.text ≡ true) (λ u. u.id ≡ id)
@@ -32,7 +33,8 @@ no_name name false e h = cc
 
 some_name : (name : InternalName) (d : Name) → d.name ≡ name → (b : Bool) (e : has_cedar (components_of name) ≡ b)
     → Some d ≡ declarable_name_so name b e
-some_name name d h true e = let f : has_cedar (components_of d.name) ≡ true = ap (λ n. has_cedar (components_of n)) h ∙ e in absurd (cc (d.unreserved))
+some_name name d h true e = let f : has_cedar (components_of d.name) ≡ true = ap (λ n. has_cedar (components_of n)) h
+    ∙ e in absurd (cc (d.unreserved))
 some_name name d h false e = ap Some (name_same d (record { name = name; unreserved = e }) h)
 
 pub declared_is : (name : InternalName) (r : Option Name)

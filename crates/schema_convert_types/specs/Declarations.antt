@@ -55,9 +55,14 @@ tags_of tags = option_map type_of tags
 
 abbrev pub entity_kind_of : EntityDecl → EntityTypeKind RawName
 entity_kind_of (entity.Standard d) =
-    Standard (record { member_of_types = raw_names d.member_of_types; shape = record { 0 = record_of_attributes d.attrs }; tags = tags_of d.tags })
+    Standard (record {
+      member_of_types = raw_names d.member_of_types;
+      shape = record { 0 = record_of_attributes d.attrs };
+      tags = tags_of d.tags;
+    })
 entity_kind_of (entity.Enum d) = Enum (choices_of d.choices)
-entity_kind_of (entity.External d) = Standard (record { member_of_types = raw_names d.member_of_types; shape = nothing; tags = None })
+entity_kind_of (entity.External d) =
+    Standard (record { member_of_types = raw_names d.member_of_types; shape = nothing; tags = None })
 
 abbrev pub is_external : EntityDecl → Bool
 is_external (entity.Standard d) = false
@@ -66,7 +71,8 @@ is_external (entity.External d) = true
 
 -- what each name of the declaration is declared as, with the declaration's annotations and place
 abbrev pub entity_type_of : EntityDecl → Annotations → Option Span → EntityType RawName
-entity_type_of d notes loc = record { kind = entity_kind_of d; external = is_external d; annotations = notes; loc = loc }
+entity_type_of d notes loc = record
+    { kind = entity_kind_of d; external = is_external d; annotations = notes; loc = loc }
 
 -- the types of a member, and none for `[]`
 abbrev pub member_types : Option (List Path) → List RawName
@@ -79,12 +85,19 @@ context_of (Right attributes) = record { 0 = record_of_attributes attributes }
 
 -- what an action is applied to, with this member too
 abbrev pub with_types : PR → List RawName → ApplySpec RawName → ApplySpec RawName
-with_types Principal types spec = record { resource_types = spec.resource_types; principal_types = types; context = spec.context }
-with_types Resource types spec = record { resource_types = types; principal_types = spec.principal_types; context = spec.context }
+with_types Principal types spec =
+    record { resource_types = spec.resource_types; principal_types = types; context = spec.context }
+with_types Resource types spec =
+    record { resource_types = types; principal_types = spec.principal_types; context = spec.context }
 
 abbrev pub with_member : AppDecl → ApplySpec RawName → ApplySpec RawName
 with_member (member.PR d) spec = with_types d.kind.node (member_types d.entity_tys) spec
-with_member (member.Context context) spec = record { resource_types = spec.resource_types; principal_types = spec.principal_types; context = context_of context }
+with_member (member.Context context) spec =
+    record {
+      resource_types = spec.resource_types;
+      principal_types = spec.principal_types;
+      context = context_of context;
+    }
 
 abbrev pub with_members : List (Node AppDecl) → ApplySpec RawName → ApplySpec RawName
 with_members [] spec = spec
@@ -113,9 +126,23 @@ references_of parents = option_map (map reference_of) parents
 -- what each name of the declaration is declared as, with the declaration's annotations and place
 abbrev pub action_type_of : ActionDecl → Annotations → Option Span → ActionType RawName as_written
 action_type_of (action.Defined d) notes loc =
-    record { attributes = None; applies_to = Some (apply_spec_of d.app_decls); member_of = references_of d.parents; external = false; annotations = notes; loc = loc }
+    record {
+      attributes = None;
+      applies_to = Some (apply_spec_of d.app_decls);
+      member_of = references_of d.parents;
+      external = false;
+      annotations = notes;
+      loc = loc;
+    }
 action_type_of (action.External d) notes loc =
-    record { attributes = None; applies_to = None; member_of = references_of d.parents; external = true; annotations = notes; loc = loc }
+    record {
+      attributes = None;
+      applies_to = None;
+      member_of = references_of d.parents;
+      external = true;
+      annotations = notes;
+      loc = loc;
+    }
 
 -- the word as one that may be declared, which `__cedar` is not
 abbrev pub unreserved_so : (id : Id) (b : Bool) → is_cedar id.text ≡ b → Option UnreservedId

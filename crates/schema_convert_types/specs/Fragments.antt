@@ -28,7 +28,8 @@ use Rattle.schema_json.specs.declared.fragment.Fragment.{Fragment}
 use Rattle.schema_json.specs.declared.fragment.NamespaceDefinition.{NamespaceDefinition}
 use Rattle.schema_convert_types.specs.Names.{internal_name_of}
 use Rattle.schema_convert_types.specs.Types.{type_of}
-use Rattle.schema_convert_types.specs.Declarations.{as_written, entity_type_of, action_type_of, declarable, unreserved, each_with}
+use Rattle.schema_convert_types.specs.Declarations.{as_written, entity_type_of, action_type_of, declarable, unreserved}
+use Rattle.schema_convert_types.specs.Declarations.{each_with}
 
 -- the entity types, the actions and the common type that a declaration declares, with its annotations and place
 abbrev pub entity_entries_of : Declaration → Annotations → Option Span → List (UnreservedId × EntityType RawName)
@@ -48,7 +49,8 @@ common_entry (Some id) of = (record { id = id }, of) ∷ []
 abbrev pub common_entries_of : Declaration → Annotations → Option Span → List (CommonTypeId × CommonType RawName)
 common_entries_of (Entity d) notes loc = []
 common_entries_of (Action d) notes loc = []
-common_entries_of (Common d) notes loc = common_entry (unreserved d.name.node) (record { ty = type_of d.def; annotations = notes; loc = loc })
+common_entries_of (Common d) notes loc =
+    common_entry (unreserved d.name.node) (record { ty = type_of d.def; annotations = notes; loc = loc })
 
 -- what declarations declare, in turn
 abbrev pub entity_entries : List (Annotated (Node Declaration)) → List (UnreservedId × EntityType RawName)
@@ -76,7 +78,12 @@ namespace_cmp (Some a) (Some b) = slice_cmp text_cmp (components_of a.name) (com
 -- what a namespace with these declarations and annotations defines
 abbrev pub definition_of : List (Annotated (Node Declaration)) → Annotations → NamespaceDefinition RawName as_written
 definition_of decls notes =
-    record { common_types = map_of common_cmp (common_entries decls); entity_types = map_of unreserved_cmp (entity_entries decls); actions = map_of text_cmp (action_entries decls); annotations = notes }
+    record {
+      common_types = map_of common_cmp (common_entries decls);
+      entity_types = map_of unreserved_cmp (entity_entries decls);
+      actions = map_of text_cmp (action_entries decls);
+      annotations = notes;
+    }
 
 -- the name as one that may be declared, which no name with `__cedar` in it is
 abbrev pub declarable_name_so : (name : InternalName) (b : Bool) → has_cedar (components_of name) ≡ b → Option Name

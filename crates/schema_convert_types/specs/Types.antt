@@ -24,7 +24,8 @@ AttributeEntry = List ℕ × TypeOfAttribute RawName
 
 -- the closed record of these attributes: of a name that stands twice the last counts
 abbrev pub record_of : List AttributeEntry → RecordType RawName
-record_of attributes = roll-RecordType RawName (record { attributes = map_of text_cmp attributes; additional_attributes = false })
+record_of attributes = roll-RecordType RawName
+    (record { attributes = map_of text_cmp attributes; additional_attributes = false })
 
 -- a type of records, at this place
 abbrev pub record_type : List AttributeEntry → Option Span → Shape RawName
@@ -40,7 +41,11 @@ translated_type (Type-F.Record attributes) loc = record_type (map (λ a. a.node.
 
 abbrev pub translated_attribute : AttrDecl-F (Option Span → Shape RawName) (Annotations → AttributeEntry)
     → Annotations → AttributeEntry
-translated_attribute a notes = (a.name.node, roll-TypeOfAttribute RawName (record { ty = a.ty.node a.ty.loc; annotations = notes; required = a.required }))
+translated_attribute a notes = (
+  a.name.node,
+  roll-TypeOfAttribute RawName
+      (record { ty = a.ty.node a.ty.loc; annotations = notes; required = a.required }),
+)
 
 -- what a type becomes at this place
 unfoldable pub type_at : «Type» → Option Span → Shape RawName
@@ -48,7 +53,8 @@ type_at = fold-Type (Option Span → Shape RawName) (Annotations → AttributeEn
 
 -- what an attribute becomes beside these annotations
 unfoldable pub attribute_beside : AttrDecl → Annotations → AttributeEntry
-attribute_beside = fold-AttrDecl (Option Span → Shape RawName) (Annotations → AttributeEntry) translated_type translated_attribute
+attribute_beside = fold-AttrDecl (Option Span → Shape RawName) (Annotations → AttributeEntry) translated_type
+    translated_attribute
 
 -- the type of a type of a tree, at a place
 abbrev pub type_of : Node «Type» → Shape RawName

@@ -4,7 +4,8 @@ use Rattle.std.specs.List.{list_any}
 use Rattle.std.specs.Str.{bytes_eq}
 
 abbrev pub keyword_names : List (List ℕ)
-keyword_names = codes "Bool" ∷ codes "Boolean" ∷ codes "Entity" ∷ codes "Extension" ∷ codes "Long" ∷ codes "Record" ∷ codes "Set" ∷ codes "String" ∷ []
+keyword_names = codes "Bool" ∷ codes "Boolean" ∷ codes "Entity" ∷ codes "Extension" ∷ codes "Long" ∷ codes "Record"
+    ∷ codes "Set" ∷ codes "String" ∷ []
 
 -- the word names a type or a kind of types already
 abbrev pub is_keyword_name : List ℕ → Bool

@@ -8,7 +8,8 @@ use Rattle.cedar_identifiers.specs.declared.unreserved_id.UnreservedId.{Unreserv
 use Rattle.schema_json.specs.declared.types.Type.{«Type», Type-F, roll-Type, fold-Type}
 use Rattle.schema_json.specs.declared.types.TypeVariant.{TypeVariant, roll-TypeVariant, fold-TypeVariant}
 use Rattle.schema_json.specs.declared.types.RecordType.{RecordType, roll-RecordType, fold-RecordType}
-use Rattle.schema_json.specs.declared.types.TypeOfAttribute.{TypeOfAttribute, roll-TypeOfAttribute, fold-TypeOfAttribute}
+use Rattle.schema_json.specs.declared.types.TypeOfAttribute.{TypeOfAttribute, roll-TypeOfAttribute}
+use Rattle.schema_json.specs.declared.types.TypeOfAttribute.{fold-TypeOfAttribute}
 use Rattle.schema_json.specs.declared.common_type.CommonType.{CommonType}
 use Rattle.schema_json.specs.declared.common_type.CommonTypeId.{CommonTypeId}
 use Rattle.schema_json.specs.declared.entity_type.EntityType.{EntityType}
@@ -32,19 +33,23 @@ module _ {N : Type 0} where
 
   -- a type with every place erased
   abbrev pub erased_type : «Type» N → «Type» N
-  erased_type = fold-Type N («Type» N) (TypeVariant N) (RecordType N) (TypeOfAttribute N) placeless (roll-TypeVariant N) (roll-RecordType N) (roll-TypeOfAttribute N)
+  erased_type = fold-Type N («Type» N) (TypeVariant N) (RecordType N) (TypeOfAttribute N) placeless
+      (roll-TypeVariant N) (roll-RecordType N) (roll-TypeOfAttribute N)
 
   -- what a type is made of, with every place erased
   abbrev pub erased_variant : TypeVariant N → TypeVariant N
-  erased_variant = fold-TypeVariant N («Type» N) (TypeVariant N) (RecordType N) (TypeOfAttribute N) placeless (roll-TypeVariant N) (roll-RecordType N) (roll-TypeOfAttribute N)
+  erased_variant = fold-TypeVariant N («Type» N) (TypeVariant N) (RecordType N) (TypeOfAttribute N) placeless
+      (roll-TypeVariant N) (roll-RecordType N) (roll-TypeOfAttribute N)
 
   -- a record with every place erased
   abbrev pub erased_record : RecordType N → RecordType N
-  erased_record = fold-RecordType N («Type» N) (TypeVariant N) (RecordType N) (TypeOfAttribute N) placeless (roll-TypeVariant N) (roll-RecordType N) (roll-TypeOfAttribute N)
+  erased_record = fold-RecordType N («Type» N) (TypeVariant N) (RecordType N) (TypeOfAttribute N) placeless
+      (roll-TypeVariant N) (roll-RecordType N) (roll-TypeOfAttribute N)
 
   -- an attribute with every place erased
   abbrev pub erased_attribute : TypeOfAttribute N → TypeOfAttribute N
-  erased_attribute = fold-TypeOfAttribute N («Type» N) (TypeVariant N) (RecordType N) (TypeOfAttribute N) placeless (roll-TypeVariant N) (roll-RecordType N) (roll-TypeOfAttribute N)
+  erased_attribute = fold-TypeOfAttribute N («Type» N) (TypeVariant N) (RecordType N) (TypeOfAttribute N) placeless
+      (roll-TypeVariant N) (roll-RecordType N) (roll-TypeOfAttribute N)
 
   -- a common type with every place erased
   abbrev pub erased_common_type : CommonType N → CommonType N
@@ -56,7 +61,11 @@ module _ {N : Type 0} where
 
   -- a standard entity type with every place erased
   abbrev pub erased_standard : StandardEntityType N → StandardEntityType N
-  erased_standard s = record { member_of_types = s.member_of_types; shape = erased_shape s.shape; tags = option_map erased_type s.tags }
+  erased_standard s = record {
+    member_of_types = s.member_of_types;
+    shape = erased_shape s.shape;
+    tags = option_map erased_type s.tags;
+  }
 
   -- what kind of entity type it is, with every place erased
   abbrev pub erased_kind : EntityTypeKind N → EntityTypeKind N
@@ -65,16 +74,32 @@ module _ {N : Type 0} where
 
   -- an entity type with every place erased
   abbrev pub erased_entity_type : EntityType N → EntityType N
-  erased_entity_type e = record { kind = erased_kind e.kind; external = e.external; annotations = e.annotations; loc = None }
+  erased_entity_type e = record {
+    kind = erased_kind e.kind;
+    external = e.external;
+    annotations = e.annotations;
+    loc = None;
+  }
 
   -- what an action applies to, with every place erased
   abbrev pub erased_applies_to : ApplySpec N → ApplySpec N
-  erased_applies_to a = record { resource_types = a.resource_types; principal_types = a.principal_types; context = erased_shape a.context }
+  erased_applies_to a = record {
+    resource_types = a.resource_types;
+    principal_types = a.principal_types;
+    context = erased_shape a.context;
+  }
 
   module _ {G : named.Ghosts N} where
     -- an action with every place erased
     abbrev pub erased_action_type : ActionType N G → ActionType N G
-    erased_action_type a = record { attributes = a.attributes; applies_to = option_map erased_applies_to a.applies_to; member_of = a.member_of; external = a.external; annotations = a.annotations; loc = None }
+    erased_action_type a = record {
+      attributes = a.attributes;
+      applies_to = option_map erased_applies_to a.applies_to;
+      member_of = a.member_of;
+      external = a.external;
+      annotations = a.annotations;
+      loc = None;
+    }
 
     -- a namespace with every place erased
     abbrev pub erased_namespace : NamespaceDefinition N G → NamespaceDefinition N G

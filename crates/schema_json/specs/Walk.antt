@@ -38,13 +38,16 @@ module _ {N : Type 0} where
   references = fold-Type N (List N) (List N) (List N) (List N) type_refs variant_refs record_refs attribute_refs
 
   abbrev pub variant_references : TypeVariant N → List N
-  variant_references = fold-TypeVariant N (List N) (List N) (List N) (List N) type_refs variant_refs record_refs attribute_refs
+  variant_references = fold-TypeVariant N (List N) (List N) (List N) (List N) type_refs variant_refs record_refs
+      attribute_refs
 
   abbrev pub record_references : RecordType N → List N
-  record_references = fold-RecordType N (List N) (List N) (List N) (List N) type_refs variant_refs record_refs attribute_refs
+  record_references = fold-RecordType N (List N) (List N) (List N) (List N) type_refs variant_refs record_refs
+      attribute_refs
 
   abbrev pub attribute_references : TypeOfAttribute N → List N
-  attribute_references = fold-TypeOfAttribute N (List N) (List N) (List N) (List N) type_refs variant_refs record_refs attribute_refs
+  attribute_references = fold-TypeOfAttribute N (List N) (List N) (List N) (List N) type_refs variant_refs record_refs
+      attribute_refs
 
   -- the references of a record's entries
   abbrev pub entry_references : List (List ℕ × TypeOfAttribute N) → List N
@@ -70,17 +73,21 @@ module _ {N : Type 0} where
 
   -- whether the type is or holds an extension type, and None where a reference may stand for one
   abbrev pub is_extension : «Type» N → Option Bool
-  is_extension = fold-Type N (Option Bool) (Option Bool) (Option Bool) (Option Bool) type_answer variant_answer record_answer attribute_answer
+  is_extension = fold-Type N (Option Bool) (Option Bool) (Option Bool) (Option Bool) type_answer variant_answer
+      record_answer attribute_answer
 
   -- whether what a type is made of is an extension type, where that can be told
   abbrev pub is_extension_variant : TypeVariant N → Option Bool
-  is_extension_variant = fold-TypeVariant N (Option Bool) (Option Bool) (Option Bool) (Option Bool) type_answer variant_answer record_answer attribute_answer
+  is_extension_variant = fold-TypeVariant N (Option Bool) (Option Bool) (Option Bool) (Option Bool) type_answer
+      variant_answer record_answer attribute_answer
 
   abbrev pub is_extension_record : RecordType N → Option Bool
-  is_extension_record = fold-RecordType N (Option Bool) (Option Bool) (Option Bool) (Option Bool) type_answer variant_answer record_answer attribute_answer
+  is_extension_record = fold-RecordType N (Option Bool) (Option Bool) (Option Bool) (Option Bool) type_answer
+      variant_answer record_answer attribute_answer
 
   abbrev pub is_extension_attribute : TypeOfAttribute N → Option Bool
-  is_extension_attribute = fold-TypeOfAttribute N (Option Bool) (Option Bool) (Option Bool) (Option Bool) type_answer variant_answer record_answer attribute_answer
+  is_extension_attribute = fold-TypeOfAttribute N (Option Bool) (Option Bool) (Option Bool) (Option Bool) type_answer
+      variant_answer record_answer attribute_answer
 
   abbrev pub is_extension_among : List (List ℕ × TypeOfAttribute N) → Option Bool
   is_extension_among entries = any_extension (map (λ p. is_extension_attribute p.1) entries)

@@ -10,7 +10,11 @@ use Rattle.schema_json_errors.specs.declared.json_error.JsonAdvice.{JsonAdvice}
 use Rattle.schema_json_errors.specs.declared.json_error.JsonAdvice.TheVariants.{CedarFormat, MissingNamespace}
 use Rattle.schema_json_errors.specs.declared.json_error.JsonDeserializationError.{JsonDeserializationError}
 use Rattle.schema_json_errors.specs.declared.json_fault.JsonFault.{JsonFault}
-use Rattle.schema_json_errors.specs.declared.json_fault.JsonFault.TheVariants.{NotJson, RepeatedKey, Float, UnknownField, MissingField, WrongType, BadName, ReservedCommonType, EmptyEnum, ExternalConflict, EnumConflict, AnnotationsOnEmptyNamespace, Memory}
+use Rattle.schema_json_errors.specs.declared.json_fault.JsonFault.TheVariants.{NotJson, RepeatedKey, Float}
+use Rattle.schema_json_errors.specs.declared.json_fault.JsonFault.TheVariants.{UnknownField, MissingField, WrongType}
+use Rattle.schema_json_errors.specs.declared.json_fault.JsonFault.TheVariants.{BadName, ReservedCommonType, EmptyEnum}
+use Rattle.schema_json_errors.specs.declared.json_fault.JsonFault.TheVariants.{ExternalConflict, EnumConflict}
+use Rattle.schema_json_errors.specs.declared.json_fault.JsonFault.TheVariants.{AnnotationsOnEmptyNamespace, Memory}
 
 -- only actions have a field of this name, which is given by its bytes
 abbrev pub is_of_action : List ℕ → Bool

@@ -14,7 +14,8 @@ use Rattle.schema_json_io.specs.Causes.{IsValueCause, IsTextCause}
 use Rattle.schema_json_io.specs.Faults.{of_shape}
 use Rattle.schema_json_io.specs.Texts.{HasNoRepeat}
 
-pub value_cause : (d : Data) (fault : ShapeFault) → has_float d ≡ false → IsFault (demands fragment [] d) fault → IsValueCause d (of_shape fault)
+pub value_cause : (d : Data) (fault : ShapeFault) → has_float d ≡ false → IsFault (demands fragment [] d) fault
+    → IsValueCause d (of_shape fault)
 value_cause d (shape.UnknownField name) w (inl m) = absurd (cc)
 value_cause d (shape.UnknownField name) w (inr h) = (w, ((shape.UnknownField name), h, refl))
 value_cause d (shape.MissingField name) w (inl m) = absurd (cc)
@@ -35,7 +36,8 @@ value_cause d shape.AnnotationsOnEmptyNamespace w (inl m) = absurd (cc)
 value_cause d shape.AnnotationsOnEmptyNamespace w (inr h) = (w, (shape.AnnotationsOnEmptyNamespace, h, refl))
 value_cause d shape.Memory w h = tt
 
-pub text_cause : (text : List ℕ) (d : Data) (e : JsonFault) → read text ≡ Some d → HasNoRepeat text → IsValueCause d e → IsTextCause text e
+pub text_cause : (text : List ℕ) (d : Data) (e : JsonFault) → read text ≡ Some d → HasNoRepeat text → IsValueCause d e
+    → IsTextCause text e
 text_cause text d cause.NotJson r o h = absurd h
 text_cause text d (cause.RepeatedKey name) r o h = absurd h
 text_cause text d cause.Float r o h = (d, r, o, h)

@@ -1,5 +1,6 @@
 -- The advice beside a fault of a JSON text.
-use Rattle.std.specs.Prelude.{ℕ, Bool, false, not, ◌||◌, ◌==◌, List, [], ◌∷◌, codes, Option, Some, None, is_some, if◌then◌else◌}
+use Rattle.std.specs.Prelude.{ℕ, Bool, false, not, ◌||◌, ◌==◌, List, [], ◌∷◌, codes, Option, Some, None, is_some}
+use Rattle.std.specs.Prelude.{if◌then◌else◌}
 use Rattle.std.specs.Str.{trim_start}
 use Rattle.serde_json.specs.Data.{Data, object}
 use Rattle.serde_json.specs.Find.{get_member}
@@ -20,7 +21,9 @@ is_no_object_text text = begins_otherwise (trim_start text)
 
 -- an object with a field that a namespace has
 abbrev pub is_bare_namespace : Data → Bool
-is_bare_namespace (object ms) = is_some (get_member (codes "entityTypes") ms) || is_some (get_member (codes "actions") ms) || is_some (get_member (codes "commonTypes") ms)
+is_bare_namespace (object ms) =
+    is_some (get_member (codes "entityTypes") ms) || is_some (get_member (codes "actions") ms) || is_some
+    (get_member (codes "commonTypes") ms)
 is_bare_namespace _ = false
 
 abbrev pub on_value : Option Data → Option JsonAdvice

@@ -27,7 +27,8 @@ IsValueCause d e = (has_float d ≡ false) × IsFirstFault d e
 
 abbrev pub IsTextCause : List ℕ → JsonFault → Type 0
 IsTextCause text cause.NotJson = read text ≡ None
-IsTextCause text (cause.RepeatedKey name) = (d : Data) × (read text ≡ Some d) × (key : List ℕ) × RepeatedKey text key × (name ≡ chars key)
+IsTextCause text (cause.RepeatedKey name) =
+    (d : Data) × (read text ≡ Some d) × (key : List ℕ) × RepeatedKey text key × (name ≡ chars key)
 IsTextCause text cause.Float = (d : Data) × (read text ≡ Some d) × HasNoRepeat text × (has_float d ≡ true)
 IsTextCause text cause.Memory = ⊤
 IsTextCause text e = (d : Data) × Holds text d × IsFirstFault d e

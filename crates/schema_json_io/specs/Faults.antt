@@ -2,7 +2,10 @@
 use Rattle.schema_json_shapes.specs.declared.shape_fault.ShapeFault.{ShapeFault}
 use Rattle.schema_json_shapes.specs.declared.shape_fault.ShapeFault.TheVariants as shape
 use Rattle.schema_json_errors.specs.declared.json_fault.JsonFault.{JsonFault}
-use Rattle.schema_json_errors.specs.declared.json_fault.JsonFault.TheVariants.{UnknownField, MissingField, WrongType, BadName, ReservedCommonType, EmptyEnum, ExternalConflict, EnumConflict, AnnotationsOnEmptyNamespace, Memory}
+use Rattle.schema_json_errors.specs.declared.json_fault.JsonFault.TheVariants.{UnknownField, MissingField, WrongType}
+use Rattle.schema_json_errors.specs.declared.json_fault.JsonFault.TheVariants.{BadName, ReservedCommonType, EmptyEnum}
+use Rattle.schema_json_errors.specs.declared.json_fault.JsonFault.TheVariants.{ExternalConflict, EnumConflict}
+use Rattle.schema_json_errors.specs.declared.json_fault.JsonFault.TheVariants.{AnnotationsOnEmptyNamespace, Memory}
 
 abbrev pub of_shape : ShapeFault → JsonFault
 of_shape (shape.UnknownField name) = UnknownField name

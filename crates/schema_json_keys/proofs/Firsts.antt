@@ -1,5 +1,6 @@
 -- The first name that comes again, piece by piece, and that it is the one that the definition names.
-use Rattle.std.proofs.Common.{◌≡◌, ℕ, ◌+◌, ◌<◌, Bool, true, false, cond, List, [], ◌∷◌, ◌++◌, Option, Some, None, length, get_or, take, drop, map, All, Contains, Bor, refl, sym, ap, ◌∙◌, subst, arith}
+use Rattle.std.proofs.Common.{◌≡◌, ℕ, ◌+◌, ◌<◌, Bool, true, false, cond, List, [], ◌∷◌, ◌++◌, Option, Some, None}
+use Rattle.std.proofs.Common.{length, get_or, take, drop, map, All, Contains, Bor, refl, sym, ap, ◌∙◌, subst, arith}
 use Rattle.std.specs.List.{list_any}
 use Rattle.std.specs.Str.{bytes_eq}
 use Rattle.std.proofs.lemmas.List.{drop_more, take_more, map-append}
@@ -32,27 +33,36 @@ abbrev pub names : {A : Type 0} → List (Bor (List ℕ) × Value A) → List (L
 names ms = map (λ m. m.0.now) ms
 
 pub item_step : {A : Type 0} (xs : List (Value A)) (i : ℕ) (x : Value A) → i < length xs → x ≡ get_or xs i x
-    → first_again (items_keys (items_view (drop i xs))) ≡ or_next (first_again (keys_of (value_view x))) (first_again (items_keys (items_view (drop (i + 1) xs))))
+    → first_again (items_keys (items_view (drop i xs)))
+    ≡ or_next (first_again (keys_of (value_view x))) (first_again (items_keys (items_view (drop (i + 1) xs))))
 item_step xs i x h is =
     let here : drop i xs ≡ x ∷ drop (i + 1) xs = drop_more xs i x h ∙ ap (λ y. y ∷ drop (i + 1) xs) (sym is) in
-    ap (λ d. first_again (items_keys (items_view d))) here ∙ first_again-append (keys_of (value_view x)) (items_keys (items_view (drop (i + 1) xs)))
+    ap (λ d. first_again (items_keys (items_view d))) here
+    ∙ first_again-append (keys_of (value_view x)) (items_keys (items_view (drop (i + 1) xs)))
 
 pub member_step : {A : Type 0} (xs : List (Bor (List ℕ) × Value A)) (i : ℕ) (m : Bor (List ℕ) × Value A)
     → i < length xs → m ≡ get_or xs i m
     → first_again (members_keys (names (take i xs)) (members_view (drop i xs)))
-    ≡ comes_again (record { name = m.0.now; earlier = names (take i xs) }) (or_next (first_again (keys_of (value_view m.1))) (first_again (members_keys (names (take (i + 1) xs)) (members_view (drop (i + 1) xs)))))
+    ≡ comes_again (record { name = m.0.now; earlier = names (take i xs) })
+    (or_next (first_again (keys_of (value_view m.1)))
+    (first_again (members_keys (names (take (i + 1) xs)) (members_view (drop (i + 1) xs)))))
 member_step xs i m h is =
     let here : drop i xs ≡ m ∷ drop (i + 1) xs = drop_more xs i m h ∙ ap (λ y. y ∷ drop (i + 1) xs) (sym is) in
-    let more : names (take (i + 1) xs) ≡ names (take i xs) ++ m.0.now ∷ [] = ap names (take_more xs i m h ∙ ap (λ y. take i xs ++ y ∷ []) (sym is)) ∙ map-append _ (take i xs) (m ∷ []) in
+    let more : names (take (i + 1) xs) ≡ names (take i xs)
+    ++ m.0.now ∷ [] = ap names (take_more xs i m h ∙ ap (λ y. take i xs ++ y ∷ []) (sym is))
+    ∙ map-append _ (take i xs) (m ∷ []) in
     ap (λ d. first_again (members_keys (names (take i xs)) (members_view d))) here
     ∙ ap (comes_again (record { name = m.0.now; earlier = names (take i xs) }))
-    (first_again-append (keys_of (value_view m.1)) (members_keys (names (take i xs) ++ m.0.now ∷ []) (members_view (drop (i + 1) xs)))
-    ∙ ap (λ ns. or_next (first_again (keys_of (value_view m.1))) (first_again (members_keys ns (members_view (drop (i + 1) xs))))) (sym more))
+    (first_again-append (keys_of (value_view m.1))
+    (members_keys (names (take i xs) ++ m.0.now ∷ []) (members_view (drop (i + 1) xs)))
+    ∙ ap (λ ns. or_next (first_again (keys_of (value_view m.1)))
+    (first_again (members_keys ns (members_view (drop (i + 1) xs))))) (sym more))
 
 pub one_more_name : {A : Type 0} (xs : List (Bor (List ℕ) × Value A)) (i : ℕ) (m : Bor (List ℕ) × Value A)
     → i < length xs → m ≡ get_or xs i m
     → names (take (i + 1) xs) ≡ names (take i xs) ++ m.0.now ∷ []
-one_more_name xs i m h is = ap names (take_more xs i m h ∙ ap (λ y. take i xs ++ y ∷ []) (sym is)) ∙ map-append _ (take i xs) (m ∷ [])
+one_more_name xs i m h is = ap names (take_more xs i m h ∙ ap (λ y. take i xs ++ y ∷ []) (sym is))
+    ∙ map-append _ (take i xs) (m ∷ [])
 
 pub comes_again-true : (k : Key) (o : Option (List ℕ)) → list_any (bytes_eq k.name) k.earlier ≡ true
     → comes_again k o ≡ Some k.name
@@ -80,11 +90,27 @@ Answers ks (Some n) = FirstAgain ks n
 one_more : (k : Key) (ks : List Key) → ¬ ComesAgain k → (o : Option (List ℕ)) → Answers ks o → Answers (k ∷ ks) o
 one_more k ks not None all = All-cons (λ k. ¬ ComesAgain k) k ks not all
 one_more k ks not (Some n) f =
-    record { before = k ∷ f.before; again = f.again; after = f.after; stands = ap (λ l. k ∷ l) f.stands; first = All-cons (λ k. ¬ ComesAgain k) k f.before not f.first; comes_again = f.comes_again; named = f.named }
+    record {
+      before = k ∷ f.before;
+      again = f.again;
+      after = f.after;
+      stands = ap (λ l. k ∷ l) f.stands;
+      first = All-cons (λ k. ¬ ComesAgain k) k f.before not f.first;
+      comes_again = f.comes_again;
+      named = f.named;
+    }
 
 by_test : (k : Key) (ks : List Key) (b : Bool) → list_any (bytes_eq k.name) k.earlier ≡ b → (o : Option (List ℕ))
     → Answers ks o → Answers (k ∷ ks) (cond b (Some k.name) o)
-by_test k ks true e o rest = record { before = []; again = k; after = ks; stands = refl; first = All-nil (λ k. ¬ ComesAgain k); comes_again = is_among k.name k.earlier e; named = refl }
+by_test k ks true e o rest = record {
+  before = [];
+  again = k;
+  after = ks;
+  stands = refl;
+  first = All-nil (λ k. ¬ ComesAgain k);
+  comes_again = is_among k.name k.earlier e;
+  named = refl;
+}
 by_test k ks false e o rest = one_more k ks (not_among k.name k.earlier e) o rest
 
 answers : (ks : List Key) → Answers ks (first_again ks)
@@ -97,5 +123,6 @@ FirstAgain-found ks n e = subst (Answers ks) (sym e) (answers ks)
 pub FirstAgain-none : (ks : List Key) → None ≡ first_again ks → (n : List ℕ) → ¬ FirstAgain ks n
 FirstAgain-none ks e n f =
     let all : All (λ k. ¬ ComesAgain k) ks = subst (Answers ks) (sym e) (answers ks) in
-    let there : Contains ks f.again = subst (λ l. Contains l f.again) (sym f.stands) (Contains-append_right f.before (f.again ∷ f.after) f.again (0, omega arith, refl)) in
+    let there : Contains ks f.again = subst (λ l. Contains l f.again) (sym f.stands)
+    (Contains-append_right f.before (f.again ∷ f.after) f.again (0, omega arith, refl)) in
     All-contains (λ k. ¬ ComesAgain k) ks f.again all there f.comes_again

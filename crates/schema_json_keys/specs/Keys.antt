@@ -1,6 +1,7 @@
 -- The keys of a JSON text in their order, and the first of them that its object has had before.
 use Rattle.std.specs.Prelude.{◌≡◌, ℕ, List, [], ◌∷◌, ◌++◌, Some, All, Contains}
-use Rattle.json.specs.Json.{Json, null, boolean, number, string, array, object, Items, no_items, item, Members, no_members, member, document}
+use Rattle.json.specs.Json.{Json, null, boolean, number, string, array, object, Items, no_items, item, Members}
+use Rattle.json.specs.Json.{no_members, member, document}
 
 -- a key, with its escapes read, and the keys that stand before it in the same object
 pub record Key : Type 0 where
@@ -23,7 +24,8 @@ abbrev mutual
 
   pub members_keys : List (List ℕ) → Members → List Key
   members_keys earlier no_members = []
-  members_keys earlier (member k j ms) = record { name = k; earlier = earlier } ∷ (keys_of j ++ members_keys (earlier ++ k ∷ []) ms)
+  members_keys earlier (member k j ms) =
+      record { name = k; earlier = earlier } ∷ (keys_of j ++ members_keys (earlier ++ k ∷ []) ms)
 
 -- its object has had it before
 abbrev pub ComesAgain : Key → Type 0

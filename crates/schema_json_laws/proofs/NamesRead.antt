@@ -1,5 +1,6 @@
 -- Words and names are read from their texts.
-use Rattle.std.proofs.Common.{◌≡◌, ℕ, ◌<◌, Bool, true, false, not, ◌||◌, ◌==◌, List, [], ◌∷◌, ◌++◌, length, take, drop, find, Some, None, refl, sym, subst, arith, append-nil}
+use Rattle.std.proofs.Common.{◌≡◌, ℕ, ◌<◌, Bool, true, false, not, ◌||◌, ◌==◌, List, [], ◌∷◌, ◌++◌, length, take, drop}
+use Rattle.std.proofs.Common.{find, Some, None, refl, sym, subst, arith, append-nil}
 use Rattle.std.specs.Prelude.{codes}
 use Rattle.std.specs.Char.{is_whitespace}
 use Rattle.std.specs.Cmp.{first_so, second_so}

@@ -1,5 +1,6 @@
 -- No value that is written has a float.
-use Rattle.std.proofs.Common.{◌≡◌, ℕ, Bool, true, false, not, List, [], ◌∷◌, map, Option, Some, None, refl, ap, ◌∙◌, subst}
+use Rattle.std.proofs.Common.{◌≡◌, ℕ, Bool, true, false, not, List, [], ◌∷◌, map, Option, Some, None, refl, ap, ◌∙◌}
+use Rattle.std.proofs.Common.{subst}
 use Rattle.std.specs.Prelude.{◌||◌, codes, if◌then◌else◌}
 use Rattle.std.specs.Ordering.{match_ordering, nat_cmp}
 use Rattle.std.specs.Cmp.Lexicographic.{slice_cmp}
@@ -18,7 +19,9 @@ use Rattle.schema_json.specs.declared.types.Type.{«Type», roll-Type}
 use Rattle.schema_json.specs.declared.types.TypeVariant.{TypeVariant, roll-TypeVariant}
 use Rattle.schema_json.specs.declared.types.RecordType.{RecordType, roll-RecordType}
 use Rattle.schema_json.specs.declared.types.TypeOfAttribute.{TypeOfAttribute, roll-TypeOfAttribute}
-use Rattle.schema_json.specs.declared.types.Type.TheFolds.{ind-Type, map-Type, map-TypeVariant, map-RecordType, map-TypeOfAttribute, fold-roll-Type, fold-roll-TypeVariant, fold-roll-RecordType, fold-roll-TypeOfAttribute}
+use Rattle.schema_json.specs.declared.types.Type.TheFolds.{ind-Type, map-Type, map-TypeVariant, map-RecordType}
+use Rattle.schema_json.specs.declared.types.Type.TheFolds.{map-TypeOfAttribute, fold-roll-Type, fold-roll-TypeVariant}
+use Rattle.schema_json.specs.declared.types.Type.TheFolds.{fold-roll-RecordType, fold-roll-TypeOfAttribute}
 use Rattle.schema_json.specs.declared.types.Type.TheOpen.{Type-F, TypeVariant-F, RecordType-F, TypeOfAttribute-F}
 use Rattle.schema_json.specs.declared.common_type.CommonType.{CommonType}
 use Rattle.schema_json.specs.declared.common_type.CommonTypeId.{CommonTypeId}
@@ -30,7 +33,10 @@ use Rattle.schema_json.specs.declared.action_type.ActionEntityUID.{ActionEntityU
 use Rattle.schema_json.specs.declared.action_type.ApplySpec.{ApplySpec}
 use Rattle.schema_json.specs.declared.fragment.Fragment.{Fragment}
 use Rattle.schema_json.specs.declared.fragment.NamespaceDefinition.{NamespaceDefinition}
-use Rattle.schema_json_values.specs.TypeValues.{put_all, object_of, with_flag, annotation_entry, with_annotations, with_word, layer_entry, with_attributes, name_bytes, type_layer, variant_layer, record_layer, attribute_layer, type_members, variant_members, record_members, attribute_members}
+use Rattle.schema_json_values.specs.TypeValues.{put_all, object_of, with_flag, annotation_entry, with_annotations}
+use Rattle.schema_json_values.specs.TypeValues.{with_word, layer_entry, with_attributes, name_bytes, type_layer}
+use Rattle.schema_json_values.specs.TypeValues.{variant_layer, record_layer, attribute_layer, type_members}
+use Rattle.schema_json_values.specs.TypeValues.{variant_members, record_members, attribute_members}
 use Rattle.schema_json_values.specs.FragmentValues as values
 
 -- ---- members and lists

@@ -27,11 +27,16 @@ use Rattle.schema_json.specs.declared.fragment.NamespaceDefinition.{NamespaceDef
 use Rattle.schema_json.proofs.Same.{action_same}
 use Rattle.schema_json_shapes.specs.declared.shape_fault.ShapeFault.{ShapeFault}
 use Rattle.schema_json_shapes.specs.declared.shape_fault.ShapeFault.TheVariants.{BadName, ReservedCommonType}
-use Rattle.schema_json_shapes.specs.Walk.{Demand, unless, is_name, no_keyword, IsMet, IsUnmet, FirstUnmet, kind_of, role_text}
+use Rattle.schema_json_shapes.specs.Walk.{Demand, unless, is_name, no_keyword, IsMet, IsUnmet, FirstUnmet, kind_of}
+use Rattle.schema_json_shapes.specs.Walk.{role_text}
 use Rattle.schema_json_shapes.specs.Said.{IsText, IsId, IsNamed, IsChoice, not_null, IsList, IsType}
-use Rattle.schema_json_shapes.specs.Shapes.{IsShape, IsCommonType, IsKind, IsEntityType, AreKeys, IsAppliesTo, IsTextIn, IsNamespaceKey, IsCommonId, id_order, common_id_order, namespace_order, IsActionId, IsAction, IsNamespace, IsFragment}
+use Rattle.schema_json_shapes.specs.Shapes.{IsShape, IsCommonType, IsKind, IsEntityType, AreKeys, IsAppliesTo, IsTextIn}
+use Rattle.schema_json_shapes.specs.Shapes.{IsNamespaceKey, IsCommonId, id_order, common_id_order, namespace_order}
+use Rattle.schema_json_shapes.specs.Shapes.{IsActionId, IsAction, IsNamespace, IsFragment}
 use Rattle.schema_json_shapes.proofs.Demands.{met_or_unmet}
-use Rattle.schema_json_laws.proofs.OneShape.{internal_same, one_raw_name, one_id, optional_once, list_once, list_or_none_once, there_once, map_once, map_or_none_once, annotations_once, one_type}
+use Rattle.schema_json_laws.proofs.OneShape.{internal_same, one_raw_name, one_id, optional_once, list_once}
+use Rattle.schema_json_laws.proofs.OneShape.{list_or_none_once, there_once, map_once, map_or_none_once}
+use Rattle.schema_json_laws.proofs.OneShape.{annotations_once, one_type}
 
 shape_once : (o : Option Data) (t u : «Type» RawName) → IsShape o t → IsShape o u → t ≡ u
 shape_once None t u h k = h ∙ sym k

@@ -1,5 +1,6 @@
 -- A JSON text says one fragment, or is refused for one cause.
-use Rattle.std.proofs.Common.{◌≡◌, ◌≢◌, ℕ, true, false, List, [], ◌∷◌, ◌++◌, Option, Some, None, All, refl, sym, ap, ◌∙◌, subst}
+use Rattle.std.proofs.Common.{◌≡◌, ◌≢◌, ℕ, true, false, List, [], ◌∷◌, ◌++◌, Option, Some, None, All, refl, sym, ap}
+use Rattle.std.proofs.Common.{◌∙◌, subst}
 use Rattle.std.specs.Str.{chars}
 use Rattle.std.proofs.lemmas.List.Elements.{All-head, All-tail}
 use Rattle.serde_json.specs.Data.{Data}

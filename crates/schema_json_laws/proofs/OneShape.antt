@@ -19,12 +19,18 @@ use Rattle.cedar_identifiers.proofs.Unique.{one_name}
 use Rattle.schema_json.specs.declared.types.Type.{«Type»}
 use Rattle.schema_json.specs.declared.types.Type.TheVariants.{CommonTypeRef}
 use Rattle.schema_json.specs.declared.types.TypeVariant.TheVariants as variant
-use Rattle.schema_json.specs.declared.types.TypeOfAttribute.{TypeOfAttribute, out-TypeOfAttribute, roll-TypeOfAttribute, roll-out-TypeOfAttribute}
+use Rattle.schema_json.specs.declared.types.TypeOfAttribute.{TypeOfAttribute, out-TypeOfAttribute, roll-TypeOfAttribute}
+use Rattle.schema_json.specs.declared.types.TypeOfAttribute.{roll-out-TypeOfAttribute}
 use Rattle.schema_json_shapes.specs.declared.words.TypeWord.{TypeWord}
 use Rattle.schema_json_shapes.specs.declared.words.TypeWord.TheVariants as word
 use Rattle.schema_json_shapes.specs.Tables.{word_of}
 use Rattle.schema_json_shapes.specs.Walk.{flag_or}
-use Rattle.schema_json_shapes.specs.Said.{IsRawName, IsId, IsAnyId, IsOptional, AreItems, no_item, next_item, IsList, IsListOrNone, AreEntries, no_entry, next_entry, IsMap, IsMapOrNone, annotation_order, IsAnnotation, AreAnnotations, HasWord, plain, record_of, IsType, string_type, long_type, boolean_type, set_type, record_type, entity_type, either_type, extension_type, reference, AreAttributes, no_attribute, next_attribute}
+use Rattle.schema_json_shapes.specs.Said.{IsRawName, IsId, IsAnyId, IsOptional, AreItems, no_item, next_item, IsList}
+use Rattle.schema_json_shapes.specs.Said.{IsListOrNone, AreEntries, no_entry, next_entry, IsMap, IsMapOrNone}
+use Rattle.schema_json_shapes.specs.Said.{annotation_order, IsAnnotation, AreAnnotations, HasWord, plain, record_of}
+use Rattle.schema_json_shapes.specs.Said.{IsType, string_type, long_type, boolean_type, set_type, record_type}
+use Rattle.schema_json_shapes.specs.Said.{entity_type, either_type, extension_type, reference, AreAttributes}
+use Rattle.schema_json_shapes.specs.Said.{no_attribute, next_attribute}
 
 -- ---- names and words
 

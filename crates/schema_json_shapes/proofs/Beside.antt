@@ -1,5 +1,6 @@
 -- Fields that stand side by side, and lists and objects without anything.
-use Rattle.std.proofs.Common.{◌≡◌, ℕ, suc, ◌<◌, Bool, true, false, not, cond, List, [], ◌∷◌, length, arith, nat_eq, Option, Some, None, map, refl, sym, ap, ◌∙◌}
+use Rattle.std.proofs.Common.{◌≡◌, ℕ, suc, ◌<◌, Bool, true, false, not, cond, List, [], ◌∷◌, length, arith, nat_eq}
+use Rattle.std.proofs.Common.{Option, Some, None, map, refl, sym, ap, ◌∙◌}
 use Rattle.std.proofs.lemmas.Bool.Decides.{nat_tests}
 use Rattle.std.specs.Str.{chars}
 use Rattle.serde_json.specs.Data.{array, object}
@@ -9,11 +10,13 @@ use Rattle.serde_json.proofs.Views.{Entry}
 use Rattle.schema_json_shapes.specs.declared.shape_fault.ShapeFault.{ShapeFault}
 use Rattle.schema_json_shapes.specs.Walk.{conflict, is_empty_list, has_members}
 
-pub conflict_named : (fault : List (List ℕ) → ShapeFault) (ns fields : List (List ℕ)) → fields ≡ map chars ns → 0 < length fields → conflict fault ns ≡ Some (fault fields)
+pub conflict_named : (fault : List (List ℕ) → ShapeFault) (ns fields : List (List ℕ)) → fields ≡ map chars ns
+    → 0 < length fields → conflict fault ns ≡ Some (fault fields)
 conflict_named fault [] fields e h = absurd (omega (arith, ap length e))
 conflict_named fault (n ∷ ns) fields e h = ap (λ x. Some (fault x)) (sym e)
 
-pub no_conflict : (fault : List (List ℕ) → ShapeFault) (ns fields : List (List ℕ)) → fields ≡ map chars ns → fields ≡ [] → conflict fault ns ≡ None
+pub no_conflict : (fault : List (List ℕ) → ShapeFault) (ns fields : List (List ℕ)) → fields ≡ map chars ns
+    → fields ≡ [] → conflict fault ns ≡ None
 no_conflict fault [] fields e h = refl
 no_conflict fault (n ∷ ns) fields e h = absurd (omega (arith, ap length (sym e ∙ h)))
 

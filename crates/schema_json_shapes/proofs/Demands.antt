@@ -1,5 +1,6 @@
 -- Demands in a row.
-use Rattle.std.proofs.Common.{◌≡◌, List, [], ◌∷◌, ◌++◌, Result, Ok, Err, inl, inr, sym, subst, ◌∙◌, Option, Some, None, true, false}
+use Rattle.std.proofs.Common.{◌≡◌, List, [], ◌∷◌, ◌++◌, Result, Ok, Err, inl, inr, sym, subst, ◌∙◌, Option, Some, None}
+use Rattle.std.proofs.Common.{true, false}
 use Rattle.std.specs.Result.{IsErrAnd}
 use Rattle.std.proofs.lemmas.Result.{err_from_is_err_and}
 use Rattle.schema_json_shapes.specs.declared.shape_fault.ShapeFault.{ShapeFault}
@@ -38,13 +39,16 @@ passes ds es e p (inl m) = inl m
 passes ds es e p (inr h) = inr (later_unmet ds es e p h)
 
 -- what is read under the same demands, and says more
-pub reads_as : {A : Type 0} (r : Result A ShapeFault) (ds es : List Demand) (P Q : A → Type 0) → ds ≡ es → ((x : A) → P x → Q x) → Reads r ds P → Reads r es Q
+pub reads_as : {A : Type 0} (r : Result A ShapeFault) (ds es : List Demand) (P Q : A → Type 0) → ds ≡ es
+    → ((x : A) → P x → Q x) → Reads r ds P → Reads r es Q
 reads_as (Ok x) ds es P Q e f h = (subst AllMet e h.0, f x h.1)
 reads_as (Err x) ds es P Q e f h = subst (λ s. IsFault s x) e h
 
 -- what the exit of a `?` returns
-pub refused : {A : Type 0} (r : Result A ShapeFault) (e : ShapeFault) (ds : List Demand) (P : A → Type 0) → IsErrAnd r (λ x. x ≡ e) → IsFault ds e → Reads r ds P
-refused r e ds P h f = let p = err_from_is_err_and r h in subst (λ x. Reads x ds P) (sym p.1) (subst (IsFault ds) (sym p.2) f)
+pub refused : {A : Type 0} (r : Result A ShapeFault) (e : ShapeFault) (ds : List Demand) (P : A → Type 0)
+    → IsErrAnd r (λ x. x ≡ e) → IsFault ds e → Reads r ds P
+refused r e ds P h f = let p = err_from_is_err_and r h in
+    subst (λ x. Reads x ds P) (sym p.1) (subst (IsFault ds) (sym p.2) f)
 
 true_false : true ≡ false → ⊥
 true_false e = cc

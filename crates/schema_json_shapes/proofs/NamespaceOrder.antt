@@ -16,19 +16,25 @@ use Rattle.schema_json_shapes.specs.Shapes.{IsNamespaceKey, IsNamespaceName, nam
 
 -- the derived order of names goes by their components
 pub names_order : (a b : Name)
-    → ordering_then (text_cmp a.name.first.text b.name.first.text) (slice_cmp (λ (x y : Id). text_cmp x.text y.text) a.name.others b.name.others) ≡ slice_cmp text_cmp (components_of a.name) (components_of b.name)
-names_order a b = ap (ordering_then (text_cmp a.name.first.text b.name.first.text)) (sym (lex_map (λ (j : Id). j.text) text_cmp a.name.others b.name.others))
+    → ordering_then (text_cmp a.name.first.text b.name.first.text)
+    (slice_cmp (λ (x y : Id). text_cmp x.text y.text) a.name.others b.name.others)
+    ≡ slice_cmp text_cmp (components_of a.name) (components_of b.name)
+names_order a b = ap (ordering_then (text_cmp a.name.first.text b.name.first.text))
+    (sym (lex_map (λ (j : Id). j.text) text_cmp a.name.others b.name.others))
 
-module _ (D : Name → Name → Ordering) (is : (a b : Name) → D a b ≡ slice_cmp text_cmp (components_of a.name) (components_of b.name)) where
+module _ (D : Name → Name → Ordering)
+    (is : (a b : Name) → D a b ≡ slice_cmp text_cmp (components_of a.name) (components_of b.name)) where
   namespaces_order : (a b : Option Name) → option_cmp D a b ≡ namespace_order a b
   namespaces_order None None = refl
   namespaces_order None (Some b) = refl
   namespaces_order (Some a) None = refl
   namespaces_order (Some a) (Some b) = is a b
 
-  pub map_made : {X : Type 0} (entries made : List (Option Name × X)) → made ≡ map_of (option_cmp D) entries → made ≡ map_of namespace_order entries
+  pub map_made : {X : Type 0} (entries made : List (Option Name × X)) → made ≡ map_of (option_cmp D) entries
+      → made ≡ map_of namespace_order entries
   map_made entries made h = h ∙ (λ i. map_of (λ a b. namespaces_order a b i) entries)
 
-pub key_says : (k : List ℕ) (n : Name) → 0 < length k → AllMet (is_name role.Namespace k ∷ []) → IsNamespaceName k n → AllMet (namespace_key k) × IsNamespaceKey k (Some n)
+pub key_says : (k : List ℕ) (n : Name) → 0 < length k → AllMet (is_name role.Namespace k ∷ []) → IsNamespaceName k n
+    → AllMet (namespace_key k) × IsNamespaceKey k (Some n)
 key_says [] n h m s = absurd (omega arith)
 key_says (c ∷ k) n h m s = (m, (n, refl, s))

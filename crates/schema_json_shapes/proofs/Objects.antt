@@ -1,9 +1,12 @@
 -- Values that are objects or lists, and those that are not.
 use Rattle.std.proofs.Common.{◌≡◌, ℕ, List, [], ◌++◌, Option, Some, None, Result, refl, sym, ap, ◌∙◌, subst}
-use Rattle.serde_json.specs.Data.{Data, null, boolean, number, string, array, object, Items, no_items, item, Members, no_members, member}
+use Rattle.serde_json.specs.Data.{Data, null, boolean, number, string, array, object, Items, no_items, item, Members}
+use Rattle.serde_json.specs.Data.{no_members, member}
 use Rattle.serde_json.specs.Find.{as_object, as_array}
 use Rattle.schema_json_shapes.specs.declared.shape_fault.ShapeFault.{ShapeFault}
-use Rattle.schema_json_shapes.specs.Walk.{Role, Demand, AllMet, demands, ignored, or_null, null_demands, flag_demands, number_demands, string_demands, array_demands, object_demands, bare, wrong_type, item_demands, item_role, member_demands, key_demands, member_role}
+use Rattle.schema_json_shapes.specs.Walk.{Role, Demand, AllMet, demands, ignored, or_null, null_demands, flag_demands}
+use Rattle.schema_json_shapes.specs.Walk.{number_demands, string_demands, array_demands, object_demands, bare}
+use Rattle.schema_json_shapes.specs.Walk.{wrong_type, item_demands, item_role, member_demands, key_demands, member_role}
 use Rattle.schema_json_shapes.specs.Said.{not_null, IsOptional}
 use Rattle.schema_json_shapes.specs.Reads.{IsFault, Reads, field_demands}
 use Rattle.schema_json_shapes.proofs.Demands.{fails}
@@ -19,7 +22,8 @@ pub record OnlyObjects (r : Role) (n : List ℕ) : Type 0 where
 kept : (ds es : List Demand) (e : ShapeFault) → ds ≡ es → IsFault es e → IsFault ds e
 kept ds es e same h = subst (λ xs. IsFault xs e) (sym same) h
 
-pub no_object : (r : Role) (n : List ℕ) → OnlyObjects r n → (d : Data) (e : ShapeFault) → None ≡ as_object d → IsFault (wrong_type n) e → IsFault (demands r n d) e
+pub no_object : (r : Role) (n : List ℕ) → OnlyObjects r n → (d : Data) (e : ShapeFault) → None ≡ as_object d
+    → IsFault (wrong_type n) e → IsFault (demands r n d) e
 no_object r n o null e h f = kept _ _ e o.on_null f
 no_object r n o (boolean b) e h f = kept _ _ e o.on_flag f
 no_object r n o (number x) e h f = kept _ _ e o.on_number f
@@ -36,7 +40,9 @@ an_object (array ds) ms e = absurd (cc)
 an_object (object os) ms e = cc
 
 -- what is read of an object is read of the value
-pub reads_object : {A : Type 0} (result : Result A ShapeFault) (r : Role) (n : List ℕ) (d : Data) (ms : Members) (P : Data → A → Type 0) → Some ms ≡ as_object d → Reads result (demands r n (object ms)) (P (object ms)) → Reads result (demands r n d) (P d)
+pub reads_object : {A : Type 0} (result : Result A ShapeFault) (r : Role) (n : List ℕ) (d : Data) (ms : Members)
+    (P : Data → A → Type 0) → Some ms ≡ as_object d → Reads result (demands r n (object ms)) (P (object ms))
+    → Reads result (demands r n d) (P d)
 reads_object result r n d ms P e h = subst (λ x. Reads result (demands r n x) (P x)) (an_object d ms e) h
 
 -- a role of lists alone
@@ -47,7 +53,8 @@ pub record OnlyArrays (r : Role) (n : List ℕ) : Type 0 where
   pub on_string : (s : List ℕ) → string_demands (bare r) n s ≡ wrong_type n
   pub on_object : (ms : Members) → object_demands (bare r) n ms ≡ wrong_type n
 
-pub no_array : (r : Role) (n : List ℕ) → OnlyArrays r n → (d : Data) (e : ShapeFault) → None ≡ as_array d → IsFault (wrong_type n) e → IsFault (demands r n d) e
+pub no_array : (r : Role) (n : List ℕ) → OnlyArrays r n → (d : Data) (e : ShapeFault) → None ≡ as_array d
+    → IsFault (wrong_type n) e → IsFault (demands r n d) e
 no_array r n o null e h f = kept _ _ e o.on_null f
 no_array r n o (boolean b) e h f = kept _ _ e o.on_flag f
 no_array r n o (number x) e h f = kept _ _ e o.on_number f
@@ -63,34 +70,42 @@ an_array (string s) ds e = absurd (cc)
 an_array (array es) ds e = cc
 an_array (object ms) ds e = absurd (cc)
 
-pub reads_array : {A : Type 0} (result : Result A ShapeFault) (r : Role) (n : List ℕ) (d : Data) (ds : Items) (P : Data → A → Type 0) → Some ds ≡ as_array d → Reads result (demands r n (array ds)) (P (array ds)) → Reads result (demands r n d) (P d)
+pub reads_array : {A : Type 0} (result : Result A ShapeFault) (r : Role) (n : List ℕ) (d : Data) (ds : Items)
+    (P : Data → A → Type 0) → Some ds ≡ as_array d → Reads result (demands r n (array ds)) (P (array ds))
+    → Reads result (demands r n d) (P d)
 reads_array result r n d ds P e h = subst (λ x. Reads result (demands r n x) (P x)) (an_array d ds e) h
 
 -- null is as if nothing were there
-pub given_demands : (r : Role) (n : List ℕ) (o : Option Data) → bare (or_null r) ≡ bare r → field_demands (or_null r) n o ≡ field_demands r n (not_null o)
+pub given_demands : (r : Role) (n : List ℕ) (o : Option Data) → bare (or_null r) ≡ bare r
+    → field_demands (or_null r) n o ≡ field_demands r n (not_null o)
 given_demands r n None e = refl
 given_demands r n (Some null) e = refl
 given_demands r n (Some (boolean b)) e = ap (λ x. flag_demands x n) e
 given_demands r n (Some (number x)) e = ap (λ y. number_demands y n) e
 given_demands r n (Some (string s)) e = ap (λ x. string_demands x n s) e
 given_demands r n (Some (array ds)) e = ap (λ x. array_demands x n ++ item_demands (item_role x) n ds) e
-given_demands r n (Some (object ms)) e = ap (λ x. object_demands x n ms ++ member_demands (key_demands x) (member_role x ms) ms) e
+given_demands r n (Some (object ms)) e =
+    ap (λ x. object_demands x n ms ++ member_demands (key_demands x) (member_role x ms) ms) e
 
 module _ {X : Type 0} (r : Role) (n : List ℕ) (P : Data → X → Type 0) where
-  pub given_some : (o : Option Data) (d : Data) (x : X) → bare (or_null r) ≡ bare r → Some d ≡ not_null o → AllMet (demands r n d) → P d x → AllMet (field_demands (or_null r) n o) × IsOptional P (not_null o) (Some x)
+  pub given_some : (o : Option Data) (d : Data) (x : X) → bare (or_null r) ≡ bare r → Some d ≡ not_null o
+      → AllMet (demands r n d) → P d x → AllMet (field_demands (or_null r) n o) × IsOptional P (not_null o) (Some x)
   given_some o d x b e m p = (
     subst AllMet (sym (given_demands r n o b)) (subst (λ q. AllMet (field_demands r n q)) e m),
     subst (λ q. IsOptional P q (Some x)) e (x, p, refl),
   )
 
-  pub given_none : (o : Option Data) → bare (or_null r) ≡ bare r → None ≡ not_null o → AllMet (field_demands (or_null r) n o) × IsOptional P (not_null o) None
+  pub given_none : (o : Option Data) → bare (or_null r) ≡ bare r → None ≡ not_null o
+      → AllMet (field_demands (or_null r) n o) × IsOptional P (not_null o) None
   given_none o b e = (
     subst AllMet (sym (given_demands r n o b)) (subst (λ q. AllMet (field_demands r n q)) e tt),
     subst (λ q. IsOptional P q None) e refl,
   )
 
-pub given_fails : (r : Role) (n : List ℕ) (o : Option Data) (d : Data) (e : ShapeFault) → bare (or_null r) ≡ bare r → Some d ≡ not_null o → IsFault (demands r n d) e → IsFault (field_demands (or_null r) n o) e
-given_fails r n o d e b is f = subst (λ ds. IsFault ds e) (sym (given_demands r n o b)) (subst (λ q. IsFault (field_demands r n q) e) is f)
+pub given_fails : (r : Role) (n : List ℕ) (o : Option Data) (d : Data) (e : ShapeFault) → bare (or_null r) ≡ bare r
+    → Some d ≡ not_null o → IsFault (demands r n d) e → IsFault (field_demands (or_null r) n o) e
+given_fails r n o d e b is f =
+    subst (λ ds. IsFault ds e) (sym (given_demands r n o b)) (subst (λ q. IsFault (field_demands r n q) e) is f)
 
 -- nothing is asked of what is not read
 mutual
@@ -108,4 +123,5 @@ mutual
 
   pub no_members_asked : (ms : Members) → member_demands (λ k. []) (λ k. ignored) ms ≡ []
   no_members_asked no_members = refl
-  no_members_asked (member k d ms) = ap (λ x. x ++ member_demands (λ l. []) (λ l. ignored) ms) (nothing_asked k d) ∙ no_members_asked ms
+  no_members_asked (member k d ms) = ap (λ x. x ++ member_demands (λ l. []) (λ l. ignored) ms) (nothing_asked k d)
+      ∙ no_members_asked ms

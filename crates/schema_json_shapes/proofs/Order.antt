@@ -1,5 +1,6 @@
 -- Members stand by the bytes of their keys, so they are met in the order of the fields' names.
-use Rattle.std.proofs.Common.{◌≡◌, ℕ, List, [], ◌∷◌, ◌++◌, Some, None, Ordering, Less, Equal, String, Global, string_bytes, string_cmp, inl, inr, refl, sym, ap, ◌∙◌, subst}
+use Rattle.std.proofs.Common.{◌≡◌, ℕ, List, [], ◌∷◌, ◌++◌, Some, None, Ordering, Less, Equal, String, Global}
+use Rattle.std.proofs.Common.{string_bytes, string_cmp, inl, inr, refl, sym, ap, ◌∙◌, subst}
 use Rattle.std.specs.Prelude.{◌⊎◌, ⊤}
 use Rattle.std.specs.Ordering.{nat_cmp, match_ordering, ordering_reverse}
 use Rattle.std.specs.Cmp.Lexicographic.{slice_cmp}
@@ -27,7 +28,8 @@ abbrev pub Rises : Members → Type 0
 Rises no_members = ⊤
 Rises (member k d ms) = Above k ms × Rises ms
 
-above_view : (k : String Global) (es : List Entry) → AllByRecursion (λ y. string_cmp k y ≡ Less) (keys_of es) → Above (string_bytes k) (members_view es)
+above_view : (k : String Global) (es : List Entry) → AllByRecursion (λ y. string_cmp k y ≡ Less) (keys_of es)
+    → Above (string_bytes k) (members_view es)
 above_view k [] h = tt
 above_view k (e ∷ es) h = (h.0, above_view k es h.1)
 
@@ -42,7 +44,8 @@ above_more n k (member l d ms) e h = (nat_list_cmp_total.trans n k l e h.0, abov
 
 not_there : (n : List ℕ) (ms : Members) → Above n ms → get_member n ms ≡ None
 not_there n no_members h = refl
-not_there n (member l d ms) h = ap (λ o. match_ordering o (get_member n ms) (Some d) (get_member n ms)) h.0 ∙ not_there n ms h.1
+not_there n (member l d ms) h = ap (λ o. match_ordering o (get_member n ms) (Some d) (get_member n ms)) h.0
+    ∙ not_there n ms h.1
 
 -- ---- names that rise
 
@@ -92,22 +95,28 @@ module _ (role : List ℕ → Role) where
   none_there [] = refl
   none_there (n ∷ ns) = none_there ns
 
-  first_past : (k n : List ℕ) (d : Data) (ms : Members) → key_cmp k n ≡ Less → get_member n (member k d ms) ≡ get_member n ms
-  first_past k n d ms e = ap (λ o. match_ordering o (get_member n ms) (Some d) (get_member n ms)) (nat_list_cmp_total.antisymm n k ∙ ap ordering_reverse e)
+  first_past : (k n : List ℕ) (d : Data) (ms : Members) → key_cmp k n ≡ Less
+      → get_member n (member k d ms) ≡ get_member n ms
+  first_past k n d ms e = ap (λ o. match_ordering o (get_member n ms) (Some d) (get_member n ms))
+      (nat_list_cmp_total.antisymm n k ∙ ap ordering_reverse e)
 
-  drop_first : (ns : List (List ℕ)) (k : List ℕ) (d : Data) (ms : Members) → AllAbove k ns → fields_demands ns (member k d ms) ≡ fields_demands ns ms
+  drop_first : (ns : List (List ℕ)) (k : List ℕ) (d : Data) (ms : Members) → AllAbove k ns
+      → fields_demands ns (member k d ms) ≡ fields_demands ns ms
   drop_first [] k d ms h = refl
   drop_first (n ∷ ns) k d ms h =
       ap (λ o. field_demands (role n) n o ++ fields_demands ns (member k d ms)) (first_past k n d ms h.0)
       ∙ ap (λ t. field_demands (role n) n (get_member n ms) ++ t) (drop_first ns k d ms h.1)
 
-  by_first : (n : List ℕ) (ns : List (List ℕ)) (k : List ℕ) (d : Data) (ms : Members) → NamesRise (n ∷ ns) → Rises (member k d ms) → Listed (n ∷ ns) ms
+  by_first : (n : List ℕ) (ns : List (List ℕ)) (k : List ℕ) (d : Data) (ms : Members) → NamesRise (n ∷ ns)
+      → Rises (member k d ms) → Listed (n ∷ ns) ms
       → (Listed ns ms → member_demands no_key role ms ≡ fields_demands ns ms)
       → (Listed ns (member k d ms) → member_demands no_key role (member k d ms) ≡ fields_demands ns (member k d ms))
       → Among k (n ∷ ns) → member_demands no_key role (member k d ms) ≡ fields_demands (n ∷ ns) (member k d ms)
   by_first n ns k d ms h r l rest all (inl e) =
       let above : Above n ms = subst (λ x. Above x ms) e r.0 in
-      let found : get_member n (member k d ms) ≡ Some d = ap (λ o. match_ordering o (get_member n ms) (Some d) (get_member n ms)) (ap (key_cmp n) e ∙ tied_itself nat_list_cmp_total n) in
+      let found : get_member n (member k d ms)
+      ≡ Some d = ap (λ o. match_ordering o (get_member n ms) (Some d) (get_member n ms))
+      (ap (key_cmp n) e ∙ tied_itself nat_list_cmp_total n) in
       ap (λ x. demands (role x) x d ++ member_demands no_key role ms) e
       ∙ ap (λ t. demands (role n) n d ++ t) (rest (listed_past n ns ms above l))
       ∙ ap (λ t. demands (role n) n d ++ t) (sym (drop_first ns k d ms (subst (λ x. AllAbove x ns) (sym e) h.0)))
@@ -119,8 +128,10 @@ module _ (role : List ℕ → Role) where
       all (a, listed_past n ns ms above l)
       ∙ ap (λ o. field_demands (role n) n o ++ fields_demands ns (member k d ms)) (sym absent)
 
-  pub in_order : (ns : List (List ℕ)) (ms : Members) → NamesRise ns → Rises ms → Listed ns ms → member_demands no_key role ms ≡ fields_demands ns ms
+  pub in_order : (ns : List (List ℕ)) (ms : Members) → NamesRise ns → Rises ms → Listed ns ms
+      → member_demands no_key role ms ≡ fields_demands ns ms
   in_order [] no_members h r l = refl
   in_order [] (member k d ms) h r l = absurd l.0
   in_order (n ∷ ns) no_members h r l = sym (none_there ns)
-  in_order (n ∷ ns) (member k d ms) h r l = by_first n ns k d ms h r l.1 (in_order ns ms h.1 r.1) (in_order ns (member k d ms) h.1 r) l.0
+  in_order (n ∷ ns) (member k d ms) h r l =
+      by_first n ns k d ms h r l.1 (in_order ns ms h.1 r.1) (in_order ns (member k d ms) h.1 r) l.0

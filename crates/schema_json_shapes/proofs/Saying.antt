@@ -10,10 +10,12 @@ use Rattle.schema_json.specs.declared.types.Type.{«Type»}
 use Rattle.schema_json.specs.declared.types.TypeVariant.TheVariants as variant
 use Rattle.schema_json_shapes.specs.declared.words.TypeWord.TheVariants as word
 use Rattle.schema_json_shapes.specs.Walk.{flag_or}
-use Rattle.schema_json_shapes.specs.Said.{IsType, IsNamed, IsWordNamed, HasWord, HasAttributes, SaysTyped, plain, record_of, entity_type, either_type, extension_type, set_type, record_type}
+use Rattle.schema_json_shapes.specs.Said.{IsType, IsNamed, IsWordNamed, HasWord, HasAttributes, SaysTyped, plain}
+use Rattle.schema_json_shapes.specs.Said.{record_of, entity_type, either_type, extension_type, set_type, record_type}
 use Rattle.schema_json_shapes.proofs.Attributes.{AttributeEntry}
 
-pub entity_says : (ms : Members) (d : Data) (n : RawName) → HasWord ms word.Entity → get_member (codes "name") ms ≡ Some d → IsNamed d n → IsType (object ms) (plain (variant.Entity n))
+pub entity_says : (ms : Members) (d : Data) (n : RawName) → HasWord ms word.Entity
+    → get_member (codes "name") ms ≡ Some d → IsNamed d n → IsType (object ms) (plain (variant.Entity n))
 entity_says ms null n w e h = absurd h
 entity_says ms (boolean b) n w e h = absurd h
 entity_says ms (number x) n w e h = absurd h
@@ -21,7 +23,8 @@ entity_says ms (string s) n w e h = entity_type ms s n w e h
 entity_says ms (array ds) n w e h = absurd h
 entity_says ms (object os) n w e h = absurd h
 
-pub either_says : (ms : Members) (d : Data) (n : RawName) → HasWord ms word.EntityOrCommon → get_member (codes "name") ms ≡ Some d → IsNamed d n → IsType (object ms) (plain (variant.EntityOrCommon n))
+pub either_says : (ms : Members) (d : Data) (n : RawName) → HasWord ms word.EntityOrCommon
+    → get_member (codes "name") ms ≡ Some d → IsNamed d n → IsType (object ms) (plain (variant.EntityOrCommon n))
 either_says ms null n w e h = absurd h
 either_says ms (boolean b) n w e h = absurd h
 either_says ms (number x) n w e h = absurd h
@@ -29,7 +32,8 @@ either_says ms (string s) n w e h = either_type ms s n w e h
 either_says ms (array ds) n w e h = absurd h
 either_says ms (object os) n w e h = absurd h
 
-pub extension_says : (ms : Members) (d : Data) (id : UnreservedId) → HasWord ms word.Extension → get_member (codes "name") ms ≡ Some d → IsWordNamed d id → IsType (object ms) (plain (variant.Extension id))
+pub extension_says : (ms : Members) (d : Data) (id : UnreservedId) → HasWord ms word.Extension
+    → get_member (codes "name") ms ≡ Some d → IsWordNamed d id → IsType (object ms) (plain (variant.Extension id))
 extension_says ms null n w e h = absurd h
 extension_says ms (boolean b) n w e h = absurd h
 extension_says ms (number x) n w e h = absurd h
@@ -45,10 +49,13 @@ typed_says (string s) t a r h = absurd h
 typed_says (array ds) t a r h = absurd h
 typed_says (object ms) t a r h = h.says
 
-pub set_says : (ms : Members) (d : Data) (t e : «Type» RawName) (a : Annotations) (r : Bool) → HasWord ms word.Set → get_member (codes "element") ms ≡ Some d → SaysTyped d t a r → e ≡ t → IsType (object ms) (plain (variant.Set e))
-set_says ms d t e a r w f h same = subst (λ x. IsType (object ms) (plain (variant.Set x))) (sym same) (set_type ms d t w f (typed_says d t a r h))
+pub set_says : (ms : Members) (d : Data) (t e : «Type» RawName) (a : Annotations) (r : Bool) → HasWord ms word.Set
+    → get_member (codes "element") ms ≡ Some d → SaysTyped d t a r → e ≡ t → IsType (object ms) (plain (variant.Set e))
+set_says ms d t e a r w f h same =
+    subst (λ x. IsType (object ms) (plain (variant.Set x))) (sym same) (set_type ms d t w f (typed_says d t a r h))
 
-pub record_says : (ms : Members) (d : Data) (es : List AttributeEntry) (is_open : Bool) → HasWord ms word.Record → get_member (codes "attributes") ms ≡ Some d → HasAttributes d es
+pub record_says : (ms : Members) (d : Data) (es : List AttributeEntry) (is_open : Bool) → HasWord ms word.Record
+    → get_member (codes "attributes") ms ≡ Some d → HasAttributes d es
     → is_open ≡ flag_or false (get_member (codes "additionalAttributes") ms) → IsType (object ms) (record_of es is_open)
 record_says ms null es b w e h o = absurd h
 record_says ms (boolean c) es b w e h o = absurd h
@@ -57,4 +64,6 @@ record_says ms (string s) es b w e h o = absurd h
 record_says ms (array ds) es b w e h o = absurd h
 record_says ms (object attributes) es b w e h o =
     let flag = flag_or false (get_member (codes "additionalAttributes") ms) in
-    subst (λ x. IsType (object ms) (record_of es x)) (sym o) (subst (λ (xs : List AttributeEntry). IsType (object ms) (record_of xs flag)) (sym h.2) (record_type ms attributes h.0 w e h.1))
+    subst (λ x. IsType (object ms) (record_of es x)) (sym o)
+    (subst (λ (xs : List AttributeEntry). IsType (object ms) (record_of xs flag)) (sym h.2)
+    (record_type ms attributes h.0 w e h.1))

@@ -1,5 +1,6 @@
 -- The members of an object that fits its table.
-use Rattle.std.proofs.Common.{◌≡◌, ℕ, Bool, true, false, not, cond, List, [], ◌∷◌, Option, Some, None, inl, inr, refl, sym, ap, ◌∙◌, subst}
+use Rattle.std.proofs.Common.{◌≡◌, ℕ, Bool, true, false, not, cond, List, [], ◌∷◌, Option, Some, None, inl, inr, refl}
+use Rattle.std.proofs.Common.{sym, ap, ◌∙◌, subst}
 use Rattle.std.specs.Prelude.{◌⊎◌, ◌||◌, ◌&&◌, option_map, is_some}
 use Rattle.std.specs.List.{list_any, list_all}
 use Rattle.std.specs.Ordering.{nat_cmp, match_ordering}
@@ -20,7 +21,8 @@ use Rattle.schema_json_shapes.proofs.Order.{Rises, Among, NamesRise, Listed, no_
 abbrev pub among : List (List ℕ) → List Field → Bool
 among names fs = list_all (λ f. list_any (bytes_eq f.name) names) fs
 
-found_at : (k n : List ℕ) (ns : List (List ℕ)) (b : Bool) → bytes_eq k n ≡ b → (list_any (bytes_eq k) ns ≡ true → Among k ns) → (b || list_any (bytes_eq k) ns) ≡ true → Among k (n ∷ ns)
+found_at : (k n : List ℕ) (ns : List (List ℕ)) (b : Bool) → bytes_eq k n ≡ b
+    → (list_any (bytes_eq k) ns ≡ true → Among k ns) → (b || list_any (bytes_eq k) ns) ≡ true → Among k (n ∷ ns)
 found_at k n ns true e rest h = inl ((bytes_eq-Decides k n).0 e)
 found_at k n ns false e rest h = inr (rest h)
 
@@ -33,15 +35,19 @@ both true b e = (refl, e)
 both false b e = absurd (cc)
 
 module _ (ns : List (List ℕ)) where
-  of_table_at : (f : Field) (fs : List Field) (k : List ℕ) (b : Bool) → bytes_eq f.name k ≡ b → (among ns fs ≡ true → is_field fs k ≡ true → Among k ns) → among ns (f ∷ fs) ≡ true → (b || is_field fs k) ≡ true → Among k ns
-  of_table_at f fs k true e rest h g = subst (λ x. Among x ns) ((bytes_eq-Decides f.name k).0 e) (found f.name ns (both _ _ h).0)
+  of_table_at : (f : Field) (fs : List Field) (k : List ℕ) (b : Bool) → bytes_eq f.name k ≡ b
+      → (among ns fs ≡ true → is_field fs k ≡ true → Among k ns) → among ns (f ∷ fs) ≡ true
+      → (b || is_field fs k) ≡ true → Among k ns
+  of_table_at f fs k true e rest h g =
+      subst (λ x. Among x ns) ((bytes_eq-Decides f.name k).0 e) (found f.name ns (both _ _ h).0)
   of_table_at f fs k false e rest h g = rest (both _ _ h).1 g
 
   of_table : (fs : List Field) (k : List ℕ) → among ns fs ≡ true → is_field fs k ≡ true → Among k ns
   of_table [] k h e = absurd (cc)
   of_table (f ∷ fs) k h e = of_table_at f fs k (bytes_eq f.name k) refl (of_table fs k) h e
 
-  known_at : (fs : List Field) (k : List ℕ) (d : Data) (ms : Members) (b : Bool) → is_field fs k ≡ b → among ns fs ≡ true → (first_unknown fs ms ≡ None → Listed ns ms)
+  known_at : (fs : List Field) (k : List ℕ) (d : Data) (ms : Members) (b : Bool) → is_field fs k ≡ b
+      → among ns fs ≡ true → (first_unknown fs ms ≡ None → Listed ns ms)
       → cond b (first_unknown fs ms) (Some k) ≡ None → Listed ns (member k d ms)
   known_at fs k d ms true e h rest g = (of_table fs k h e, rest g)
   known_at fs k d ms false e h rest g = absurd (cc)
@@ -61,7 +67,8 @@ pub none_missing : (fs : List Field) (ms : Members) → AllMet (fits_table fs ms
 none_missing fs ms h = nothing_mapped (λ k. MissingField (chars k)) _ h.1.0
 
 -- an object that fits its table has the demands of its fields, name by name
-pub tabled : (role : List ℕ → Role) (ns : List (List ℕ)) (fs : List Field) (ms : Members) → NamesRise ns → among ns fs ≡ true → Rises ms → AllMet (fits_table fs ms)
+pub tabled : (role : List ℕ → Role) (ns : List (List ℕ)) (fs : List Field) (ms : Members) → NamesRise ns
+    → among ns fs ≡ true → Rises ms → AllMet (fits_table fs ms)
     → member_demands no_key role ms ≡ fields_demands role ns ms
 tabled role ns fs ms rise all rises h = in_order role ns ms rise rises (known ns fs ms all (no_unknown fs ms h))
 
@@ -75,19 +82,25 @@ abbrev pub Needs : List ℕ → List Field → Type 0
 Needs n [] = ⊥
 Needs n (f ∷ fs) = (f ≡ needs n) ⊎ Needs n fs
 
-first_there : (b : Bool) (n : List ℕ) (rest : Option (List ℕ)) → cond b (Some n) rest ≡ None → (b ≡ false) × (rest ≡ None)
+first_there : (b : Bool) (n : List ℕ) (rest : Option (List ℕ)) → cond b (Some n) rest ≡ None
+    → (b ≡ false) × (rest ≡ None)
 first_there true n rest e = absurd (cc)
 first_there false n rest e = (refl, e)
 
-pub needed_there : (n : List ℕ) (fs : List Field) (ms : Members) → Needs n fs → first_missing fs ms ≡ None → is_there (get_member n ms) ≡ true
+pub needed_there : (n : List ℕ) (fs : List Field) (ms : Members) → Needs n fs → first_missing fs ms ≡ None
+    → is_there (get_member n ms) ≡ true
 needed_there n [] ms h e = absurd h
-needed_there n (f ∷ fs) ms (inl is) e = there_at (get_member n ms) (subst (λ g. is_missing g ms ≡ false) is (first_there (is_missing f ms) f.name (first_missing fs ms) e).0)
-needed_there n (f ∷ fs) ms (inr h) e = needed_there n fs ms h (first_there (is_missing f ms) f.name (first_missing fs ms) e).1
+needed_there n (f ∷ fs) ms (inl is) e =
+    there_at (get_member n ms) (subst (λ g. is_missing g ms ≡ false) is
+    (first_there (is_missing f ms) f.name (first_missing fs ms) e).0)
+needed_there n (f ∷ fs) ms (inr h) e =
+    needed_there n fs ms h (first_there (is_missing f ms) f.name (first_missing fs ms) e).1
 
 true_false : true ≡ false → ⊥
 true_false e = cc
 
-unknown_here : (o : Ordering) (b : Bool) (d : Data) (k : List ℕ) (p : Option Data) (rest : Option (List ℕ)) → (is_eq o ≡ true → b ≡ false) → cond b rest (Some k) ≡ None → p ≡ None → match_ordering o p (Some d) p ≡ None
+unknown_here : (o : Ordering) (b : Bool) (d : Data) (k : List ℕ) (p : Option Data) (rest : Option (List ℕ))
+    → (is_eq o ≡ true → b ≡ false) → cond b rest (Some k) ≡ None → p ≡ None → match_ordering o p (Some d) p ≡ None
 unknown_here Less b d k p rest f e h = h
 unknown_here Equal true d k p rest f e h = absurd (true_false (f refl))
 unknown_here Equal false d k p rest f e h = absurd (cc)
@@ -97,7 +110,8 @@ rest_known : (b : Bool) (k : List ℕ) (rest : Option (List ℕ)) → cond b res
 rest_known true k rest e = e
 rest_known false k rest e = absurd (cc)
 
-pub unknown_absent : (n : List ℕ) (fs : List Field) (ms : Members) → is_field fs n ≡ false → first_unknown fs ms ≡ None → get_member n ms ≡ None
+pub unknown_absent : (n : List ℕ) (fs : List Field) (ms : Members) → is_field fs n ≡ false
+    → first_unknown fs ms ≡ None → get_member n ms ≡ None
 unknown_absent n fs no_members h e = refl
 unknown_absent n fs (member k d ms) h e =
     unknown_here (slice_cmp nat_cmp n k) (is_field fs k) d k (get_member n ms) (first_unknown fs ms)

@@ -3,8 +3,11 @@ use Rattle.std.proofs.Common.{◌≡◌, ℕ, List, [], ◌∷◌, ◌++◌, inl
 use Rattle.std.specs.Prelude.{codes, true}
 use Rattle.serde_json.specs.Data.{object, Members}
 use Rattle.serde_json.specs.Find.{get_member}
-use Rattle.schema_json_shapes.specs.Tables.{namespace_fields, entity_type_fields, action_fields, applies_to_fields, action_id_fields}
-use Rattle.schema_json_shapes.specs.Walk.{AllMet, demands, object_demands, is_there, namespace, namespace_member, entity_type, entity_type_member, action, action_member, applies_to, applies_to_member, action_id, action_id_member}
+use Rattle.schema_json_shapes.specs.Tables.{namespace_fields, entity_type_fields, action_fields, applies_to_fields}
+use Rattle.schema_json_shapes.specs.Tables.{action_id_fields}
+use Rattle.schema_json_shapes.specs.Walk.{AllMet, demands, object_demands, is_there, namespace, namespace_member}
+use Rattle.schema_json_shapes.specs.Walk.{entity_type, entity_type_member, action, action_member, applies_to}
+use Rattle.schema_json_shapes.specs.Walk.{applies_to_member, action_id, action_id_member}
 use Rattle.schema_json_shapes.proofs.Order.{Rises, NamesRise, fields_demands}
 use Rattle.schema_json_shapes.proofs.Tabled.{tabled, none_missing, needed_there}
 
@@ -14,26 +17,44 @@ namespace_names = codes "actions" ∷ codes "annotations" ∷ codes "commonTypes
 namespace_rise : NamesRise namespace_names
 namespace_rise = ((refl, (refl, (refl, tt))), ((refl, (refl, tt)), ((refl, tt), (tt, tt))))
 
-pub namespace_whole : (n : List ℕ) (ms : Members) → Rises ms → AllMet (object_demands namespace n ms) → demands namespace n (object ms) ≡ object_demands namespace n ms ++ fields_demands namespace_member namespace_names ms
-namespace_whole n ms rises own = ap (λ t. object_demands namespace n ms ++ t) (tabled namespace_member namespace_names namespace_fields ms namespace_rise refl rises (own.0, (own.1.0, tt)))
+pub namespace_whole : (n : List ℕ) (ms : Members) → Rises ms → AllMet (object_demands namespace n ms)
+    → demands namespace n (object ms) ≡ object_demands namespace n ms
+    ++ fields_demands namespace_member namespace_names ms
+namespace_whole n ms rises own =
+    ap (λ t. object_demands namespace n ms ++ t)
+    (tabled namespace_member namespace_names namespace_fields ms namespace_rise refl rises (own.0, (own.1.0, tt)))
 
 abbrev entity_type_names : List (List ℕ)
-entity_type_names = codes "annotations" ∷ codes "enum" ∷ codes "external" ∷ codes "memberOfTypes" ∷ codes "shape" ∷ codes "tags" ∷ []
+entity_type_names = codes "annotations" ∷ codes "enum" ∷ codes "external" ∷ codes "memberOfTypes" ∷ codes "shape"
+    ∷ codes "tags" ∷ []
 
 entity_type_rise : NamesRise entity_type_names
-entity_type_rise = ((refl, (refl, (refl, (refl, (refl, tt))))), ((refl, (refl, (refl, (refl, tt)))), ((refl, (refl, (refl, tt))), ((refl, (refl, tt)), ((refl, tt), (tt, tt))))))
+entity_type_rise = (
+  (refl, (refl, (refl, (refl, (refl, tt))))),
+  ((refl, (refl, (refl, (refl, tt)))), ((refl, (refl, (refl, tt))), ((refl, (refl, tt)), ((refl, tt), (tt, tt))))),
+)
 
-pub entity_type_whole : (n : List ℕ) (ms : Members) → Rises ms → AllMet (object_demands entity_type n ms) → demands entity_type n (object ms) ≡ object_demands entity_type n ms ++ fields_demands entity_type_member entity_type_names ms
-entity_type_whole n ms rises own = ap (λ t. object_demands entity_type n ms ++ t) (tabled entity_type_member entity_type_names entity_type_fields ms entity_type_rise refl rises (own.0, (own.1.0, tt)))
+pub entity_type_whole : (n : List ℕ) (ms : Members) → Rises ms → AllMet (object_demands entity_type n ms)
+    → demands entity_type n (object ms) ≡ object_demands entity_type n ms
+    ++ fields_demands entity_type_member entity_type_names ms
+entity_type_whole n ms rises own =
+    ap (λ t. object_demands entity_type n ms ++ t)
+    (tabled entity_type_member entity_type_names entity_type_fields ms entity_type_rise refl rises
+    (own.0, (own.1.0, tt)))
 
 abbrev action_names : List (List ℕ)
 action_names = codes "annotations" ∷ codes "appliesTo" ∷ codes "attributes" ∷ codes "external" ∷ codes "memberOf" ∷ []
 
 action_rise : NamesRise action_names
-action_rise = ((refl, (refl, (refl, (refl, tt)))), ((refl, (refl, (refl, tt))), ((refl, (refl, tt)), ((refl, tt), (tt, tt)))))
+action_rise = (
+  (refl, (refl, (refl, (refl, tt)))),
+  ((refl, (refl, (refl, tt))), ((refl, (refl, tt)), ((refl, tt), (tt, tt)))),
+)
 
-pub action_whole : (n : List ℕ) (ms : Members) → Rises ms → AllMet (object_demands action n ms) → demands action n (object ms) ≡ object_demands action n ms ++ fields_demands action_member action_names ms
-action_whole n ms rises own = ap (λ t. object_demands action n ms ++ t) (tabled action_member action_names action_fields ms action_rise refl rises (own.0, (own.1.0, tt)))
+pub action_whole : (n : List ℕ) (ms : Members) → Rises ms → AllMet (object_demands action n ms)
+    → demands action n (object ms) ≡ object_demands action n ms ++ fields_demands action_member action_names ms
+action_whole n ms rises own = ap (λ t. object_demands action n ms ++ t)
+    (tabled action_member action_names action_fields ms action_rise refl rises (own.0, (own.1.0, tt)))
 
 abbrev applies_to_names : List (List ℕ)
 applies_to_names = codes "context" ∷ codes "principalTypes" ∷ codes "resourceTypes" ∷ []
@@ -41,8 +62,12 @@ applies_to_names = codes "context" ∷ codes "principalTypes" ∷ codes "resourc
 applies_to_rise : NamesRise applies_to_names
 applies_to_rise = ((refl, (refl, tt)), ((refl, tt), (tt, tt)))
 
-pub applies_to_whole : (n : List ℕ) (ms : Members) → Rises ms → AllMet (object_demands applies_to n ms) → demands applies_to n (object ms) ≡ object_demands applies_to n ms ++ fields_demands applies_to_member applies_to_names ms
-applies_to_whole n ms rises own = ap (λ t. object_demands applies_to n ms ++ t) (tabled applies_to_member applies_to_names applies_to_fields ms applies_to_rise refl rises (own.0, (own.1.0, tt)))
+pub applies_to_whole : (n : List ℕ) (ms : Members) → Rises ms → AllMet (object_demands applies_to n ms)
+    → demands applies_to n (object ms) ≡ object_demands applies_to n ms
+    ++ fields_demands applies_to_member applies_to_names ms
+applies_to_whole n ms rises own =
+    ap (λ t. object_demands applies_to n ms ++ t)
+    (tabled applies_to_member applies_to_names applies_to_fields ms applies_to_rise refl rises (own.0, (own.1.0, tt)))
 
 abbrev action_id_names : List (List ℕ)
 action_id_names = codes "id" ∷ codes "type" ∷ []
@@ -50,20 +75,38 @@ action_id_names = codes "id" ∷ codes "type" ∷ []
 action_id_rise : NamesRise action_id_names
 action_id_rise = ((refl, tt), (tt, tt))
 
-pub action_id_whole : (n : List ℕ) (ms : Members) → Rises ms → AllMet (object_demands action_id n ms) → demands action_id n (object ms) ≡ object_demands action_id n ms ++ fields_demands action_id_member action_id_names ms
-action_id_whole n ms rises own = ap (λ t. object_demands action_id n ms ++ t) (tabled action_id_member action_id_names action_id_fields ms action_id_rise refl rises (own.0, (own.1.0, tt)))
+pub action_id_whole : (n : List ℕ) (ms : Members) → Rises ms → AllMet (object_demands action_id n ms)
+    → demands action_id n (object ms) ≡ object_demands action_id n ms
+    ++ fields_demands action_id_member action_id_names ms
+action_id_whole n ms rises own =
+    ap (λ t. object_demands action_id n ms ++ t)
+    (tabled action_id_member action_id_names action_id_fields ms action_id_rise refl rises (own.0, (own.1.0, tt)))
 
-pub namespace_has_entityTypes : (n : List ℕ) (ms : Members) → AllMet (object_demands namespace n ms) → is_there (get_member (codes "entityTypes") ms) ≡ true
-namespace_has_entityTypes n ms own = needed_there (codes "entityTypes") namespace_fields ms (inr (inl refl)) (none_missing namespace_fields ms (own.0, (own.1.0, tt)))
+pub namespace_has_entityTypes : (n : List ℕ) (ms : Members) → AllMet (object_demands namespace n ms)
+    → is_there (get_member (codes "entityTypes") ms) ≡ true
+namespace_has_entityTypes n ms own =
+    needed_there (codes "entityTypes") namespace_fields ms (inr (inl refl))
+    (none_missing namespace_fields ms (own.0, (own.1.0, tt)))
 
-pub namespace_has_actions : (n : List ℕ) (ms : Members) → AllMet (object_demands namespace n ms) → is_there (get_member (codes "actions") ms) ≡ true
-namespace_has_actions n ms own = needed_there (codes "actions") namespace_fields ms (inr (inr (inl refl))) (none_missing namespace_fields ms (own.0, (own.1.0, tt)))
+pub namespace_has_actions : (n : List ℕ) (ms : Members) → AllMet (object_demands namespace n ms)
+    → is_there (get_member (codes "actions") ms) ≡ true
+namespace_has_actions n ms own =
+    needed_there (codes "actions") namespace_fields ms (inr (inr (inl refl)))
+    (none_missing namespace_fields ms (own.0, (own.1.0, tt)))
 
-pub applies_to_has_resourceTypes : (n : List ℕ) (ms : Members) → AllMet (object_demands applies_to n ms) → is_there (get_member (codes "resourceTypes") ms) ≡ true
-applies_to_has_resourceTypes n ms own = needed_there (codes "resourceTypes") applies_to_fields ms (inl refl) (none_missing applies_to_fields ms (own.0, (own.1.0, tt)))
+pub applies_to_has_resourceTypes : (n : List ℕ) (ms : Members) → AllMet (object_demands applies_to n ms)
+    → is_there (get_member (codes "resourceTypes") ms) ≡ true
+applies_to_has_resourceTypes n ms own =
+    needed_there (codes "resourceTypes") applies_to_fields ms (inl refl)
+    (none_missing applies_to_fields ms (own.0, (own.1.0, tt)))
 
-pub applies_to_has_principalTypes : (n : List ℕ) (ms : Members) → AllMet (object_demands applies_to n ms) → is_there (get_member (codes "principalTypes") ms) ≡ true
-applies_to_has_principalTypes n ms own = needed_there (codes "principalTypes") applies_to_fields ms (inr (inl refl)) (none_missing applies_to_fields ms (own.0, (own.1.0, tt)))
+pub applies_to_has_principalTypes : (n : List ℕ) (ms : Members) → AllMet (object_demands applies_to n ms)
+    → is_there (get_member (codes "principalTypes") ms) ≡ true
+applies_to_has_principalTypes n ms own =
+    needed_there (codes "principalTypes") applies_to_fields ms (inr (inl refl))
+    (none_missing applies_to_fields ms (own.0, (own.1.0, tt)))
 
-pub action_id_has_id : (n : List ℕ) (ms : Members) → AllMet (object_demands action_id n ms) → is_there (get_member (codes "id") ms) ≡ true
-action_id_has_id n ms own = needed_there (codes "id") action_id_fields ms (inl refl) (none_missing action_id_fields ms (own.0, (own.1.0, tt)))
+pub action_id_has_id : (n : List ℕ) (ms : Members) → AllMet (object_demands action_id n ms)
+    → is_there (get_member (codes "id") ms) ≡ true
+action_id_has_id n ms own = needed_there (codes "id") action_id_fields ms (inl refl)
+    (none_missing action_id_fields ms (own.0, (own.1.0, tt)))

@@ -7,6 +7,8 @@ use Rattle.schema_json.specs.declared.entity_type.EntityTypeKind.{EntityTypeKind
 use Rattle.schema_json.specs.declared.entity_type.EntityTypeKind.TheVariants.{Standard, Enum}
 
 -- with choices it is an enumeration
-abbrev pub kind_from : Option (List Eid) → List RawName → «Type» RawName → Option («Type» RawName) → EntityTypeKind RawName
+abbrev pub kind_from : Option (List Eid) → List RawName → «Type» RawName → Option («Type» RawName)
+    → EntityTypeKind RawName
 kind_from (Some choices) parents shape tags = Enum choices
-kind_from None parents shape tags = Standard (record { member_of_types = parents; shape = record { 0 = shape }; tags = tags })
+kind_from None parents shape tags =
+    Standard (record { member_of_types = parents; shape = record { 0 = shape }; tags = tags })

@@ -9,7 +9,8 @@ use Rattle.schema_json.specs.declared.types.TypeVariant.{TypeVariant}
 use Rattle.schema_json_shapes.specs.declared.name_role.NameRole.TheVariants as role
 use Rattle.schema_json_shapes.specs.declared.words.TypeSite.TheVariants.{Plain}
 use Rattle.schema_json_shapes.specs.declared.words.TypeWord.{TypeWord}
-use Rattle.schema_json_shapes.specs.declared.words.TypeWord.TheVariants.{Set, Record, Entity, EntityOrCommon, Extension, Reference}
+use Rattle.schema_json_shapes.specs.declared.words.TypeWord.TheVariants.{Set, Record, Entity, EntityOrCommon, Extension}
+use Rattle.schema_json_shapes.specs.declared.words.TypeWord.TheVariants.{Reference}
 use Rattle.schema_json_shapes.specs.Walk.{Demand, is_name, typed, attributes, named, reference_fits, is_there}
 use Rattle.schema_json_shapes.specs.Said.{IsRawName, IsType, plain}
 use Rattle.schema_json_shapes.specs.Reads.{field_demands}
@@ -28,7 +29,8 @@ abbrev pub inner_demands : TypeWord → Members → List Demand
 inner_demands Set ms = field_demands (typed Plain) (codes "element") (get_member (codes "element") ms)
 inner_demands Record ms = field_demands attributes (codes "attributes") (get_member (codes "attributes") ms)
 inner_demands Entity ms = field_demands (named role.EntityType) (codes "name") (get_member (codes "name") ms)
-inner_demands EntityOrCommon ms = field_demands (named role.EntityOrCommonType) (codes "name") (get_member (codes "name") ms)
+inner_demands EntityOrCommon ms =
+    field_demands (named role.EntityOrCommonType) (codes "name") (get_member (codes "name") ms)
 inner_demands Extension ms = field_demands (named role.ExtensionType) (codes "name") (get_member (codes "name") ms)
 inner_demands _ ms = []
 

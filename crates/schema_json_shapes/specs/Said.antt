@@ -67,18 +67,23 @@ IsListOrNone P None xs = xs ≡ []
 IsListOrNone P (Some d) xs = IsList P d xs
 
 -- the members one by one
-pub data AreEntries {K V : Type 0} (Key : List ℕ → K → Type 0) (Value : Data → V → Type 0) : Members → List (K × V) → Type 0 where
+pub data AreEntries {K V : Type 0} (Key : List ℕ → K → Type 0) (Value : Data → V → Type 0) : Members → List (K × V)
+    → Type 0 where
   no_entry : AreEntries Key Value no_members []
-  next_entry : (k : List ℕ) (d : Data) (ms : Members) (key : K) (value : V) (es : List (K × V)) → Key k key → Value d value
+  next_entry : (k : List ℕ) (d : Data) (ms : Members) (key : K) (value : V) (es : List (K × V)) → Key k key
+      → Value d value
       → AreEntries Key Value ms es → AreEntries Key Value (member k d ms) ((key, value) ∷ es)
 
 -- the map of the members of an object
-abbrev pub IsMap : {K V : Type 0} → (K → K → Ordering) → (List ℕ → K → Type 0) → (Data → V → Type 0) → Data → List (K × V) → Type 0
-IsMap {K} {V} order Key Value (object ms) es = (entries : List (K × V)) × AreEntries Key Value ms entries × (es ≡ map_of order entries)
+abbrev pub IsMap : {K V : Type 0} → (K → K → Ordering) → (List ℕ → K → Type 0) → (Data → V → Type 0) → Data
+    → List (K × V) → Type 0
+IsMap {K} {V} order Key Value (object ms) es =
+    (entries : List (K × V)) × AreEntries Key Value ms entries × (es ≡ map_of order entries)
 IsMap order Key Value _ es = ⊥
 
 -- such a map, which may be absent
-abbrev pub IsMapOrNone : {K V : Type 0} → (K → K → Ordering) → (List ℕ → K → Type 0) → (Data → V → Type 0) → Option Data → List (K × V) → Type 0
+abbrev pub IsMapOrNone : {K V : Type 0} → (K → K → Ordering) → (List ℕ → K → Type 0) → (Data → V → Type 0)
+    → Option Data → List (K × V) → Type 0
 IsMapOrNone order Key Value None es = es ≡ []
 IsMapOrNone order Key Value (Some d) es = IsMap order Key Value d es
 
@@ -123,7 +128,9 @@ abbrev pub plain : TypeVariant RawName → «Type» RawName
 plain v = Variant v None
 
 abbrev pub record_of : List (List ℕ × TypeOfAttribute RawName) → Bool → «Type» RawName
-record_of attributes is_open = plain (variant.Record (roll-RecordType RawName (record { attributes = attributes; additional_attributes = is_open })))
+record_of attributes is_open =
+    plain (variant.Record (roll-RecordType RawName
+    (record { attributes = attributes; additional_attributes = is_open })))
 
 mutual
   -- the value says the type, which has no place
@@ -131,24 +138,32 @@ mutual
     string_type : (ms : Members) → HasWord ms word.String → IsType (object ms) (plain variant.String)
     long_type : (ms : Members) → HasWord ms word.Long → IsType (object ms) (plain variant.Long)
     boolean_type : (ms : Members) → HasWord ms word.Boolean → IsType (object ms) (plain variant.Boolean)
-    set_type : (ms : Members) (d : Data) (t : «Type» RawName) → HasWord ms word.Set → get_member (codes "element") ms ≡ Some d → IsType d t
+    set_type : (ms : Members) (d : Data) (t : «Type» RawName) → HasWord ms word.Set
+        → get_member (codes "element") ms ≡ Some d → IsType d t
         → IsType (object ms) (plain (variant.Set t))
     record_type : (ms attributes : Members) (es : List (List ℕ × TypeOfAttribute RawName)) → HasWord ms word.Record
         → get_member (codes "attributes") ms ≡ Some (object attributes) → AreAttributes attributes es
-        → IsType (object ms) (record_of (map_of text_cmp es) (flag_or false (get_member (codes "additionalAttributes") ms)))
-    entity_type : (ms : Members) (s : List ℕ) (n : RawName) → HasWord ms word.Entity → get_member (codes "name") ms ≡ Some (string s) → IsRawName s n
+        → IsType (object ms) (record_of (map_of text_cmp es)
+        (flag_or false (get_member (codes "additionalAttributes") ms)))
+    entity_type : (ms : Members) (s : List ℕ) (n : RawName) → HasWord ms word.Entity
+        → get_member (codes "name") ms ≡ Some (string s) → IsRawName s n
         → IsType (object ms) (plain (variant.Entity n))
-    either_type : (ms : Members) (s : List ℕ) (n : RawName) → HasWord ms word.EntityOrCommon → get_member (codes "name") ms ≡ Some (string s) → IsRawName s n
+    either_type : (ms : Members) (s : List ℕ) (n : RawName) → HasWord ms word.EntityOrCommon
+        → get_member (codes "name") ms ≡ Some (string s) → IsRawName s n
         → IsType (object ms) (plain (variant.EntityOrCommon n))
-    extension_type : (ms : Members) (s : List ℕ) (id : UnreservedId) → HasWord ms word.Extension → get_member (codes "name") ms ≡ Some (string s) → IsId s id
+    extension_type : (ms : Members) (s : List ℕ) (id : UnreservedId) → HasWord ms word.Extension
+        → get_member (codes "name") ms ≡ Some (string s) → IsId s id
         → IsType (object ms) (plain (variant.Extension id))
-    reference : (ms : Members) (s : List ℕ) (n : RawName) → get_member (codes "type") ms ≡ Some (string s) → word_of s ≡ word.Reference → IsRawName s n → IsType (object ms) (CommonTypeRef n None)
+    reference : (ms : Members) (s : List ℕ) (n : RawName) → get_member (codes "type") ms ≡ Some (string s)
+        → word_of s ≡ word.Reference → IsRawName s n → IsType (object ms) (CommonTypeRef n None)
 
   -- the members say the attributes
   pub data AreAttributes : Members → List (List ℕ × TypeOfAttribute RawName) → Type 0 where
     no_attribute : AreAttributes no_members []
-    next_attribute : (k : List ℕ) (beside : Members) (ms : Members) (a : TypeOfAttribute RawName) (es : List (List ℕ × TypeOfAttribute RawName))
-        → IsType (object beside) (out-TypeOfAttribute RawName a).ty → AreAnnotations (get_member (codes "annotations") beside) (out-TypeOfAttribute RawName a).annotations
+    next_attribute : (k : List ℕ) (beside : Members) (ms : Members) (a : TypeOfAttribute RawName)
+        (es : List (List ℕ × TypeOfAttribute RawName))
+        → IsType (object beside) (out-TypeOfAttribute RawName a).ty
+        → AreAnnotations (get_member (codes "annotations") beside) (out-TypeOfAttribute RawName a).annotations
         → (out-TypeOfAttribute RawName a).required ≡ flag_or true (get_member (codes "required") beside)
         → AreAttributes ms es → AreAttributes (member k (object beside) ms) ((chars k, a) ∷ es)
 
@@ -165,5 +180,6 @@ SaysTyped _ ty annotations required = ⊥
 
 -- the value says the attributes of a record
 abbrev pub HasAttributes : Data → List (List ℕ × TypeOfAttribute RawName) → Type 0
-HasAttributes (object ms) es = (entries : List (List ℕ × TypeOfAttribute RawName)) × AreAttributes ms entries × (es ≡ map_of text_cmp entries)
+HasAttributes (object ms) es =
+    (entries : List (List ℕ × TypeOfAttribute RawName)) × AreAttributes ms entries × (es ≡ map_of text_cmp entries)
 HasAttributes _ es = ⊥

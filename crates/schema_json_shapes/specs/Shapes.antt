@@ -29,7 +29,8 @@ use Rattle.schema_json.specs.declared.fragment.Fragment.{Fragment}
 use Rattle.schema_json.specs.declared.fragment.NamespaceDefinition.{NamespaceDefinition}
 use Rattle.schema_json_shapes.specs.declared.shape_fault.ShapeFault.{ShapeFault}
 use Rattle.schema_json_shapes.specs.Walk.{fragment, demands, AllMet, FirstUnmet, flag_or}
-use Rattle.schema_json_shapes.specs.Said.{IsId, IsText, IsNamed, IsChoice, IsOptional, not_null, IsList, IsListOrNone, IsMap, IsMapOrNone, AreAnnotations, IsType}
+use Rattle.schema_json_shapes.specs.Said.{IsId, IsText, IsNamed, IsChoice, IsOptional, not_null, IsList, IsListOrNone}
+use Rattle.schema_json_shapes.specs.Said.{IsMap, IsMapOrNone, AreAnnotations, IsType}
 
 -- ---- common types and entity types
 
@@ -139,7 +140,8 @@ module _ {G : ghosts.Ghosts RawName} where
   -- ---- namespaces and fragments
 
   pub record IsNamespaceIn (ms : Members) (n : NamespaceDefinition RawName G) : Type 0 where
-    pub commons : IsMapOrNone common_id_order IsCommonId IsCommonType (get_member (codes "commonTypes") ms) n.common_types
+    pub commons : IsMapOrNone common_id_order IsCommonId IsCommonType (get_member (codes "commonTypes") ms)
+        n.common_types
     pub entities : IsMapOrNone id_order IsId IsEntityType (get_member (codes "entityTypes") ms) n.entity_types
     pub actions : IsMapOrNone text_cmp IsText IsAction (get_member (codes "actions") ms) n.actions
     pub annotated : AreAnnotations (get_member (codes "annotations") ms) n.annotations

@@ -1,11 +1,13 @@
 -- Which fields the objects of a fragment have, and what an object has against its table.
-use Rattle.std.specs.Prelude.{ℕ, Bool, true, false, not, ◌&&◌, List, [], ◌∷◌, ◌++◌, if◌then◌else◌, codes, Option, Some, None, is_some}
+use Rattle.std.specs.Prelude.{ℕ, Bool, true, false, not, ◌&&◌, List, [], ◌∷◌, ◌++◌, if◌then◌else◌, codes, Option, Some}
+use Rattle.std.specs.Prelude.{None, is_some}
 use Rattle.std.specs.List.{list_any}
 use Rattle.std.specs.Str.{bytes_eq}
 use Rattle.serde_json.specs.Data.{Members, no_members, member}
 use Rattle.serde_json.specs.Find.{get_member}
 use Rattle.schema_json_shapes.specs.declared.words.TypeWord.{TypeWord}
-use Rattle.schema_json_shapes.specs.declared.words.TypeWord.TheVariants.{String, Long, Boolean, Set, Record, Entity, EntityOrCommon, Extension, Reference}
+use Rattle.schema_json_shapes.specs.declared.words.TypeWord.TheVariants.{String, Long, Boolean, Set, Record, Entity}
+use Rattle.schema_json_shapes.specs.declared.words.TypeWord.TheVariants.{EntityOrCommon, Extension, Reference}
 use Rattle.schema_json_shapes.specs.declared.words.TypeSite.{TypeSite}
 use Rattle.schema_json_shapes.specs.declared.words.TypeSite.TheVariants.{Plain, Attribute, Common}
 
@@ -54,7 +56,8 @@ abbrev pub type_fields : TypeSite → TypeWord → List Field
 type_fields site w = needs (codes "type") ∷ (word_fields w ++ site_fields site)
 
 abbrev pub namespace_fields : List Field
-namespace_fields = may_have (codes "commonTypes") ∷ needs (codes "entityTypes") ∷ needs (codes "actions") ∷ may_have (codes "annotations") ∷ []
+namespace_fields = may_have (codes "commonTypes") ∷ needs (codes "entityTypes") ∷ needs (codes "actions") ∷ may_have
+    (codes "annotations") ∷ []
 
 abbrev pub entity_type_fields : List Field
 entity_type_fields =

@@ -1,8 +1,10 @@
 -- What a value must keep to be read, in the order of the walk: a part before the parts inside it, the members of an
 -- object by the bytes of their keys, the items of a list in order.
-use Rattle.std.specs.Prelude.{◌≡◌, ◌⊎◌, ◌≢◌, ℕ, Bool, true, false, List, [], ◌∷◌, ◌++◌, if◌then◌else◌, codes, Option, Some, None, option_map, map, ⊤}
+use Rattle.std.specs.Prelude.{◌≡◌, ◌⊎◌, ◌≢◌, ℕ, Bool, true, false, List, [], ◌∷◌, ◌++◌, if◌then◌else◌, codes, Option}
+use Rattle.std.specs.Prelude.{Some, None, option_map, map, ⊤}
 use Rattle.std.specs.Str.{bytes_eq, chars}
-use Rattle.serde_json.specs.Data.{Data, null, boolean, number, string, array, object, Items, no_items, item, Members, no_members, member}
+use Rattle.serde_json.specs.Data.{Data, null, boolean, number, string, array, object, Items, no_items, item, Members}
+use Rattle.serde_json.specs.Data.{no_members, member}
 use Rattle.serde_json.specs.Find.{get_member}
 use Rattle.cedar_identifiers.specs.NameReading.{ReadsAs, NameFaultOf}
 use Rattle.cedar_identifiers.specs.declared.name_kind.NameKind.{NameKind}
@@ -18,8 +20,13 @@ use Rattle.schema_json_shapes.specs.declared.words.TypeSite.TheVariants.{Plain, 
 use Rattle.schema_json_shapes.specs.declared.name_role.NameRole.{NameRole}
 use Rattle.schema_json_shapes.specs.declared.name_role.NameRole.TheVariants as role
 use Rattle.schema_json_shapes.specs.declared.shape_fault.ShapeFault.{ShapeFault}
-use Rattle.schema_json_shapes.specs.declared.shape_fault.ShapeFault.TheVariants.{UnknownField, MissingField, WrongType, BadName, ReservedCommonType, EmptyEnum, ExternalConflict, EnumConflict, AnnotationsOnEmptyNamespace}
-use Rattle.schema_json_shapes.specs.Tables.{Field, word_of, type_fields, namespace_fields, entity_type_fields, action_fields, applies_to_fields, action_id_fields, first_unknown, first_missing}
+use Rattle.schema_json_shapes.specs.declared.shape_fault.ShapeFault.TheVariants.{UnknownField, MissingField, WrongType}
+use Rattle.schema_json_shapes.specs.declared.shape_fault.ShapeFault.TheVariants.{BadName, ReservedCommonType, EmptyEnum}
+use Rattle.schema_json_shapes.specs.declared.shape_fault.ShapeFault.TheVariants.{ExternalConflict, EnumConflict}
+use Rattle.schema_json_shapes.specs.declared.shape_fault.ShapeFault.TheVariants.{AnnotationsOnEmptyNamespace}
+use Rattle.schema_json_shapes.specs.Tables.{Field, word_of, type_fields, namespace_fields, entity_type_fields}
+use Rattle.schema_json_shapes.specs.Tables.{action_fields, applies_to_fields, action_id_fields, first_unknown}
+use Rattle.schema_json_shapes.specs.Tables.{first_missing}
 
 -- ---- demands
 
@@ -74,7 +81,8 @@ pub record IsBadName (r : NameRole) (s : List ℕ) (e : ShapeFault) : Type 0 whe
 abbrev pub IsUnmet : Demand → ShapeFault → Type 0
 IsUnmet (unless o) e = o ≡ Some e
 IsUnmet (is_name r s) e = IsBadName r s e
-IsUnmet (no_keyword s) e = (is_keyword_name s ≡ true) × (id : UnreservedId) × (id.id.text ≡ s) × (e ≡ ReservedCommonType id)
+IsUnmet (no_keyword s) e = (is_keyword_name s ≡ true) × (id : UnreservedId) × (id.id.text ≡ s)
+    × (e ≡ ReservedCommonType id)
 
 abbrev pub AllMet : List Demand → Type 0
 AllMet [] = ⊤
@@ -262,7 +270,8 @@ flag_or otherwise _ = otherwise
 
 -- what may not stand beside `external: true`
 abbrev pub external_conflict : (Option Data → Bool) → List (List ℕ) → Members → Option Data → Option ShapeFault
-external_conflict test beside ms external = if flag_or false external then conflict ExternalConflict (present test beside ms) else None
+external_conflict test beside ms external =
+    if flag_or false external then conflict ExternalConflict (present test beside ms) else None
 
 abbrev pub not_external_type : List (List ℕ)
 not_external_type = codes "shape" ∷ codes "tags" ∷ codes "enum" ∷ []
@@ -367,7 +376,8 @@ abbrev mutual
   demands r n (number x) = number_demands (bare r) n
   demands r n (string s) = string_demands (bare r) n s
   demands r n (array ds) = array_demands (bare r) n ++ item_demands (item_role (bare r)) n ds
-  demands r n (object ms) = object_demands (bare r) n ms ++ member_demands (key_demands (bare r)) (member_role (bare r) ms) ms
+  demands r n (object ms) = object_demands (bare r) n ms
+      ++ member_demands (key_demands (bare r)) (member_role (bare r) ms) ms
 
   pub item_demands : Role → List ℕ → Items → List Demand
   item_demands r n no_items = []

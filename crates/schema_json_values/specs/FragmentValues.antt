@@ -1,5 +1,5 @@
--- The JSON value of a fragment. What says nothing is left out: no parents, an empty shape or context, no tags, `external` that is false,
--- no common types, and what an action leaves open.
+-- The JSON value of a fragment. What says nothing is left out: no parents, an empty shape or context, no tags,
+-- `external` that is false, no common types, and what an action leaves open.
 use Rattle.std.specs.Prelude.{ℕ, true, List, [], ◌∷◌, map, Option, Some, None, if◌then◌else◌, codes}
 use Rattle.std.specs.Str.{encode_utf8_all}
 use Rattle.serde_json.specs.Data.{Data, null, string, array, object, Members, no_members, put}
@@ -21,7 +21,8 @@ use Rattle.schema_json.specs.declared.action_type.ActionEntityUID.{ActionEntityU
 use Rattle.schema_json.specs.declared.action_type.ApplySpec.{ApplySpec}
 use Rattle.schema_json.specs.declared.fragment.Fragment.{Fragment}
 use Rattle.schema_json.specs.declared.fragment.NamespaceDefinition.{NamespaceDefinition}
-use Rattle.schema_json_values.specs.TypeValues.{object_of, with_flag, with_annotations, name_bytes, type_members, type_value}
+use Rattle.schema_json_values.specs.TypeValues.{object_of, with_flag, with_annotations, name_bytes, type_members}
+use Rattle.schema_json_values.specs.TypeValues.{type_value}
 
 -- ---- lists
 
@@ -81,17 +82,21 @@ module _ {N : Type 0} (components : N → List (List ℕ)) where
 
   abbrev pub kind_members : EntityTypeKind N → Members
   kind_members (Standard s) =
-      with_tags s.tags (with_shape (codes "shape") s.shape.0 (with_list (codes "memberOfTypes") (map name_value s.member_of_types) no_members))
+      with_tags s.tags (with_shape (codes "shape") s.shape.0
+      (with_list (codes "memberOfTypes") (map name_value s.member_of_types) no_members))
   kind_members (Enum choices) = put (codes "enum") (list_of (map choice_value choices)) no_members
 
   abbrev pub entity_type_value : EntityType N → Data
-  entity_type_value e = object (with_annotations e.annotations.0 (with_flag e.external (codes "external") true (kind_members e.kind)))
+  entity_type_value e = object (with_annotations e.annotations.0
+      (with_flag e.external (codes "external") true (kind_members e.kind)))
 
   -- ---- actions
 
   abbrev pub applies_to_value : ApplySpec N → Data
   applies_to_value a =
-      object (with_shape (codes "context") a.context.0 (put (codes "principalTypes") (names_value a.principal_types) (put (codes "resourceTypes") (names_value a.resource_types) no_members)))
+      object (with_shape (codes "context") a.context.0
+      (put (codes "principalTypes") (names_value a.principal_types)
+      (put (codes "resourceTypes") (names_value a.resource_types) no_members)))
 
   abbrev pub with_applies_to : Option (ApplySpec N) → Members → Members
   with_applies_to None ms = ms
@@ -117,7 +122,9 @@ module _ {N : Type 0} (components : N → List (List ℕ)) where
 
     abbrev pub action_value : ActionType N G → Data
     action_value a =
-        object (with_annotations a.annotations.0 (with_flag a.external (codes "external") true (with_parents a.member_of (with_applies_to a.applies_to (with_attributes a.attributes no_members)))))
+        object (with_annotations a.annotations.0
+        (with_flag a.external (codes "external") true
+        (with_parents a.member_of (with_applies_to a.applies_to (with_attributes a.attributes no_members)))))
 
     abbrev pub action_entry : List ℕ × ActionType N G → List ℕ × Data
     action_entry p = (encode_utf8_all p.0, action_value p.1)
@@ -128,7 +135,8 @@ module _ {N : Type 0} (components : N → List (List ℕ)) where
     namespace_value n =
         object (with_annotations n.annotations.0
         (with_object (codes "commonTypes") (map common_entry n.common_types)
-        (put (codes "actions") (object_of (map action_entry n.actions)) (put (codes "entityTypes") (object_of (map entity_entry n.entity_types)) no_members))))
+        (put (codes "actions") (object_of (map action_entry n.actions))
+        (put (codes "entityTypes") (object_of (map entity_entry n.entity_types)) no_members))))
 
     abbrev pub namespace_entry : Option Name × NamespaceDefinition N G → List ℕ × Data
     namespace_entry p = (namespace_bytes p.0, namespace_value p.1)

@@ -1,4 +1,5 @@
--- The JSON value of a type. What says nothing is left out: `required` that is true, `additionalAttributes` that is false, no annotations.
+-- The JSON value of a type. What says nothing is left out: `required` that is true, `additionalAttributes` that is
+-- false, no annotations.
 use Rattle.std.specs.Prelude.{ℕ, Bool, true, false, not, List, [], ◌∷◌, map, Option, Some, None, codes}
 use Rattle.std.specs.Str.{encode_utf8_all}
 use Rattle.serde_json.specs.Data.{Data, null, boolean, string, object, Members, no_members, member, put}
@@ -49,7 +50,8 @@ layer_entry p = (encode_utf8_all p.0, object p.1)
 
 -- the object of a type of records with these attributes, and with others where it is open
 abbrev pub with_attributes : List (List ℕ × Data) → Bool → Members
-with_attributes es is_open = with_flag is_open (codes "additionalAttributes") true (put (codes "attributes") (object_of es) (with_word (codes "Record")))
+with_attributes es is_open = with_flag is_open (codes "additionalAttributes") true
+    (put (codes "attributes") (object_of es) (with_word (codes "Record")))
 
 module _ {N : Type 0} (components : N → List (List ℕ)) where
   abbrev pub name_bytes : N → List ℕ
@@ -67,7 +69,8 @@ module _ {N : Type 0} (components : N → List (List ℕ)) where
   variant_layer (TypeVariant-F.Set element) = put (codes "element") (object element) (with_word (codes "Set"))
   variant_layer (TypeVariant-F.Record attributes) = attributes
   variant_layer (TypeVariant-F.Entity name) = put (codes "name") (string (name_bytes name)) (with_word (codes "Entity"))
-  variant_layer (TypeVariant-F.EntityOrCommon name) = put (codes "name") (string (name_bytes name)) (with_word (codes "EntityOrCommon"))
+  variant_layer (TypeVariant-F.EntityOrCommon name) =
+      put (codes "name") (string (name_bytes name)) (with_word (codes "EntityOrCommon"))
   variant_layer (TypeVariant-F.Extension id) = put (codes "name") (string id.id.text) (with_word (codes "Extension"))
 
   abbrev pub record_layer : RecordType-F N Members Members Members Members → Members
@@ -81,13 +84,16 @@ module _ {N : Type 0} (components : N → List (List ℕ)) where
   type_members = fold-Type N Members Members Members Members type_layer variant_layer record_layer attribute_layer
 
   abbrev pub variant_members : TypeVariant N → Members
-  variant_members = fold-TypeVariant N Members Members Members Members type_layer variant_layer record_layer attribute_layer
+  variant_members = fold-TypeVariant N Members Members Members Members type_layer variant_layer record_layer
+      attribute_layer
 
   abbrev pub record_members : RecordType N → Members
-  record_members = fold-RecordType N Members Members Members Members type_layer variant_layer record_layer attribute_layer
+  record_members = fold-RecordType N Members Members Members Members type_layer variant_layer record_layer
+      attribute_layer
 
   abbrev pub attribute_members : TypeOfAttribute N → Members
-  attribute_members = fold-TypeOfAttribute N Members Members Members Members type_layer variant_layer record_layer attribute_layer
+  attribute_members = fold-TypeOfAttribute N Members Members Members Members type_layer variant_layer record_layer
+      attribute_layer
 
   -- an attribute by its name
   abbrev pub attribute_entry : List ℕ × TypeOfAttribute N → List ℕ × Data

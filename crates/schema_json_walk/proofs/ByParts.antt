@@ -1,5 +1,6 @@
 -- What a walk gives is what its parts give, one after another.
-use Rattle.std.proofs.Common.{◌≡◌, ℕ, Bool, true, false, List, [], ◌∷◌, ◌++◌, map, refl, sym, ap, ◌∙◌, subst, append-nil, Option, Some, None}
+use Rattle.std.proofs.Common.{◌≡◌, ℕ, Bool, true, false, List, [], ◌∷◌, ◌++◌, map, refl, sym, ap, ◌∙◌, subst}
+use Rattle.std.proofs.Common.{append-nil, Option, Some, None}
 use Rattle.std.specs.List.{flat_map}
 use Rattle.std.specs.Option.{option_map_or}
 use Rattle.std.proofs.lemmas.Grind.{flat_map-append}
@@ -11,7 +12,11 @@ use Rattle.schema_json.specs.declared.types.TypeVariant.{TypeVariant, roll-TypeV
 use Rattle.schema_json.specs.declared.types.RecordType.{RecordType, roll-RecordType}
 use Rattle.schema_json.specs.declared.types.TypeOfAttribute.{TypeOfAttribute, roll-TypeOfAttribute}
 use Rattle.schema_json.specs.declared.types.Type.TheOpen.{Type-F, TypeVariant-F, RecordType-F, TypeOfAttribute-F}
-use Rattle.schema_json.specs.declared.types.Type.TheFolds.{ind-Type, ind-TypeVariant, ind-RecordType, ind-TypeOfAttribute, map-Type, map-TypeVariant, map-RecordType, map-TypeOfAttribute, fold-roll-Type, fold-roll-TypeVariant, fold-roll-RecordType, fold-roll-TypeOfAttribute}
+use Rattle.schema_json.specs.declared.types.Type.TheFolds.{ind-Type, ind-TypeVariant, ind-RecordType}
+use Rattle.schema_json.specs.declared.types.Type.TheFolds.{ind-TypeOfAttribute, map-Type, map-TypeVariant}
+use Rattle.schema_json.specs.declared.types.Type.TheFolds.{map-RecordType, map-TypeOfAttribute, fold-roll-Type}
+use Rattle.schema_json.specs.declared.types.Type.TheFolds.{fold-roll-TypeVariant, fold-roll-RecordType}
+use Rattle.schema_json.specs.declared.types.Type.TheFolds.{fold-roll-TypeOfAttribute}
 use Rattle.schema_json.specs.declared.entity_type.AttributesOrContext.{AttributesOrContext}
 use Rattle.schema_json.specs.declared.entity_type.StandardEntityType.{StandardEntityType}
 use Rattle.schema_json.specs.declared.entity_type.EntityTypeKind.{EntityTypeKind}
@@ -22,8 +27,12 @@ use Rattle.schema_json.specs.declared.action_type.ActionEntityUID.{ActionEntityU
 use Rattle.schema_json.specs.declared.action_type.ActionType.{ActionType}
 use Rattle.schema_json.specs.declared.fragment.NamespaceDefinition.{NamespaceDefinition}
 use Rattle.schema_json.specs.declared.fragment.Fragment.{Fragment}
-use Rattle.schema_json_walk.specs.Parts.{Part, type_reference, context_reference, action_parent, extension_type, open_record, action_attributes, external_not_bare}
-use Rattle.schema_json_walk.specs.Walk.{itself, visit_where, each_value, at_type, at_variant, at_record, at_attribute, at_context, of_type, of_variant, of_record, of_attribute, of_context, of_standard, of_kind, of_entity, of_common, of_apply, of_uid, of_uids, of_action, of_namespace, of_entry, of_fragment, fragment_parts}
+use Rattle.schema_json_walk.specs.Parts.{Part, type_reference, context_reference, action_parent, extension_type}
+use Rattle.schema_json_walk.specs.Parts.{open_record, action_attributes, external_not_bare}
+use Rattle.schema_json_walk.specs.Walk.{itself, visit_where, each_value, at_type, at_variant, at_record, at_attribute}
+use Rattle.schema_json_walk.specs.Walk.{at_context, of_type, of_variant, of_record, of_attribute, of_context}
+use Rattle.schema_json_walk.specs.Walk.{of_standard, of_kind, of_entity, of_common, of_apply, of_uid, of_uids}
+use Rattle.schema_json_walk.specs.Walk.{of_action, of_namespace, of_entry, of_fragment, fragment_parts}
 
 -- of a list, each item's
 pub each_by_parts : {A P U : Type 0} (visit : P → List U) (f : A → List U) (g : A → List P)
@@ -77,26 +86,40 @@ module _ {N U : Type 0} (visit : Part N → List U) where
   step_type : (y : Type-F N T' V' R' A')
       → P (roll-Type N (map-Type N T' V' R' A' _ _ _ _ (λ e. e.0) (λ e. e.0) (λ e. e.0) (λ e. e.0) y))
   step_type y =
-      let x = map-Type N T' V' R' A' («Type» N) (TypeVariant N) (RecordType N) (TypeOfAttribute N) (λ e. e.0) (λ e. e.0) (λ e. e.0) (λ e. e.0) y in
-      fold-roll-Type N (List U) (List U) (List U) (List U) (at_type visit) (at_variant visit) (at_record visit) (at_attribute visit) x
+      let x = map-Type N T' V' R' A' («Type» N) (TypeVariant N) (RecordType N) (TypeOfAttribute N) (λ e. e.0)
+      (λ e. e.0) (λ e. e.0) (λ e. e.0) y in
+      fold-roll-Type N (List U) (List U) (List U) (List U) (at_type visit) (at_variant visit) (at_record visit)
+      (at_attribute visit) x
       ∙ core y
-      ∙ ap (flat_map visit) (sym (fold-roll-Type N (List (Part N)) (List (Part N)) (List (Part N)) (List (Part N)) (at_type itself) (at_variant itself) (at_record itself) (at_attribute itself) x))
+      ∙ ap (flat_map visit) (sym (fold-roll-Type N (List (Part N)) (List (Part N)) (List (Part N)) (List (Part N))
+      (at_type itself) (at_variant itself) (at_record itself) (at_attribute itself) x))
     where
       core : (z : Type-F N T' V' R' A')
-          → at_type visit (map-Type N _ _ _ _ _ _ _ _ (of_type visit) (of_variant visit) (of_record visit) (of_attribute visit) (map-Type N T' V' R' A' _ _ _ _ (λ e. e.0) (λ e. e.0) (λ e. e.0) (λ e. e.0) z)) ≡ flat_map visit (at_type itself (map-Type N _ _ _ _ _ _ _ _ (of_type itself) (of_variant itself) (of_record itself) (of_attribute itself) (map-Type N T' V' R' A' _ _ _ _ (λ e. e.0) (λ e. e.0) (λ e. e.0) (λ e. e.0) z)))
+          → at_type visit (map-Type N _ _ _ _ _ _ _ _ (of_type visit) (of_variant visit) (of_record visit)
+          (of_attribute visit) (map-Type N T' V' R' A' _ _ _ _ (λ e. e.0) (λ e. e.0) (λ e. e.0) (λ e. e.0) z))
+          ≡ flat_map visit (at_type itself
+          (map-Type N _ _ _ _ _ _ _ _ (of_type itself) (of_variant itself) (of_record itself) (of_attribute itself)
+          (map-Type N T' V' R' A' _ _ _ _ (λ e. e.0) (λ e. e.0) (λ e. e.0) (λ e. e.0) z)))
       core (Type-F.Variant v loc) = v.1
       core (Type-F.CommonTypeRef n loc) = one_by_parts (type_reference Common n)
 
   step_variant : (y : TypeVariant-F N T' V' R' A')
       → P1 (roll-TypeVariant N (map-TypeVariant N T' V' R' A' _ _ _ _ (λ e. e.0) (λ e. e.0) (λ e. e.0) (λ e. e.0) y))
   step_variant y =
-      let x = map-TypeVariant N T' V' R' A' («Type» N) (TypeVariant N) (RecordType N) (TypeOfAttribute N) (λ e. e.0) (λ e. e.0) (λ e. e.0) (λ e. e.0) y in
-      fold-roll-TypeVariant N (List U) (List U) (List U) (List U) (at_type visit) (at_variant visit) (at_record visit) (at_attribute visit) x
+      let x = map-TypeVariant N T' V' R' A' («Type» N) (TypeVariant N) (RecordType N) (TypeOfAttribute N) (λ e. e.0)
+      (λ e. e.0) (λ e. e.0) (λ e. e.0) y in
+      fold-roll-TypeVariant N (List U) (List U) (List U) (List U) (at_type visit) (at_variant visit) (at_record visit)
+      (at_attribute visit) x
       ∙ core y
-      ∙ ap (flat_map visit) (sym (fold-roll-TypeVariant N (List (Part N)) (List (Part N)) (List (Part N)) (List (Part N)) (at_type itself) (at_variant itself) (at_record itself) (at_attribute itself) x))
+      ∙ ap (flat_map visit) (sym (fold-roll-TypeVariant N (List (Part N)) (List (Part N)) (List (Part N))
+      (List (Part N)) (at_type itself) (at_variant itself) (at_record itself) (at_attribute itself) x))
     where
       core : (z : TypeVariant-F N T' V' R' A')
-          → at_variant visit (map-TypeVariant N _ _ _ _ _ _ _ _ (of_type visit) (of_variant visit) (of_record visit) (of_attribute visit) (map-TypeVariant N T' V' R' A' _ _ _ _ (λ e. e.0) (λ e. e.0) (λ e. e.0) (λ e. e.0) z)) ≡ flat_map visit (at_variant itself (map-TypeVariant N _ _ _ _ _ _ _ _ (of_type itself) (of_variant itself) (of_record itself) (of_attribute itself) (map-TypeVariant N T' V' R' A' _ _ _ _ (λ e. e.0) (λ e. e.0) (λ e. e.0) (λ e. e.0) z)))
+          → at_variant visit (map-TypeVariant N _ _ _ _ _ _ _ _ (of_type visit) (of_variant visit) (of_record visit)
+          (of_attribute visit) (map-TypeVariant N T' V' R' A' _ _ _ _ (λ e. e.0) (λ e. e.0) (λ e. e.0) (λ e. e.0) z))
+          ≡ flat_map visit (at_variant itself
+          (map-TypeVariant N _ _ _ _ _ _ _ _ (of_type itself) (of_variant itself) (of_record itself)
+          (of_attribute itself) (map-TypeVariant N T' V' R' A' _ _ _ _ (λ e. e.0) (λ e. e.0) (λ e. e.0) (λ e. e.0) z)))
       core TypeVariant-F.String = refl
       core TypeVariant-F.Long = refl
       core TypeVariant-F.Boolean = refl
@@ -107,25 +130,36 @@ module _ {N U : Type 0} (visit : Part N → List U) where
       core (TypeVariant-F.Extension n) = one_by_parts (extension_type n)
 
   entries_by_parts : (es : List (List ℕ × A'))
-      → flat_map (λ p. p.1) (map (λ p. let q : List ℕ × List U = (p.0, of_attribute visit p.1) in q) (map (λ p. let q : List ℕ × TypeOfAttribute N = (p.0, p.1.0) in q) es)) ≡ flat_map visit (flat_map (λ p. p.1) (map (λ p. let q : List ℕ × List (Part N) = (p.0, of_attribute itself p.1) in q) (map (λ p. let q : List ℕ × TypeOfAttribute N = (p.0, p.1.0) in q) es)))
+      → flat_map (λ p. p.1) (map (λ p. let q : List ℕ × List U = (p.0, of_attribute visit p.1) in q)
+      (map (λ p. let q : List ℕ × TypeOfAttribute N = (p.0, p.1.0) in q) es))
+      ≡ flat_map visit (flat_map (λ p. p.1)
+      (map (λ p. let q : List ℕ × List (Part N) = (p.0, of_attribute itself p.1) in q)
+      (map (λ p. let q : List ℕ × TypeOfAttribute N = (p.0, p.1.0) in q) es)))
   entries_by_parts [] = refl
   entries_by_parts (e ∷ es) = both_by_parts visit _ _ _ _ e.1.1 (entries_by_parts es)
 
   step_record : (y : RecordType-F N T' V' R' A')
       → P2 (roll-RecordType N (map-RecordType N T' V' R' A' _ _ _ _ (λ e. e.0) (λ e. e.0) (λ e. e.0) (λ e. e.0) y))
   step_record y =
-      let x = map-RecordType N T' V' R' A' («Type» N) (TypeVariant N) (RecordType N) (TypeOfAttribute N) (λ e. e.0) (λ e. e.0) (λ e. e.0) (λ e. e.0) y in
-      fold-roll-RecordType N (List U) (List U) (List U) (List U) (at_type visit) (at_variant visit) (at_record visit) (at_attribute visit) x
+      let x = map-RecordType N T' V' R' A' («Type» N) (TypeVariant N) (RecordType N) (TypeOfAttribute N) (λ e. e.0)
+      (λ e. e.0) (λ e. e.0) (λ e. e.0) y in
+      fold-roll-RecordType N (List U) (List U) (List U) (List U) (at_type visit) (at_variant visit) (at_record visit)
+      (at_attribute visit) x
       ∙ both_by_parts visit _ _ _ _ (where_by_parts y.additional_attributes open_record) (entries_by_parts y.attributes)
-      ∙ ap (flat_map visit) (sym (fold-roll-RecordType N (List (Part N)) (List (Part N)) (List (Part N)) (List (Part N)) (at_type itself) (at_variant itself) (at_record itself) (at_attribute itself) x))
+      ∙ ap (flat_map visit) (sym (fold-roll-RecordType N (List (Part N)) (List (Part N)) (List (Part N))
+      (List (Part N)) (at_type itself) (at_variant itself) (at_record itself) (at_attribute itself) x))
 
   step_attribute : (y : TypeOfAttribute-F N T' V' R' A')
-      → P3 (roll-TypeOfAttribute N (map-TypeOfAttribute N T' V' R' A' _ _ _ _ (λ e. e.0) (λ e. e.0) (λ e. e.0) (λ e. e.0) y))
+      → P3 (roll-TypeOfAttribute N (map-TypeOfAttribute N T' V' R' A' _ _ _ _ (λ e. e.0) (λ e. e.0) (λ e. e.0)
+      (λ e. e.0) y))
   step_attribute y =
-      let x = map-TypeOfAttribute N T' V' R' A' («Type» N) (TypeVariant N) (RecordType N) (TypeOfAttribute N) (λ e. e.0) (λ e. e.0) (λ e. e.0) (λ e. e.0) y in
-      fold-roll-TypeOfAttribute N (List U) (List U) (List U) (List U) (at_type visit) (at_variant visit) (at_record visit) (at_attribute visit) x
+      let x = map-TypeOfAttribute N T' V' R' A' («Type» N) (TypeVariant N) (RecordType N) (TypeOfAttribute N)
+      (λ e. e.0) (λ e. e.0) (λ e. e.0) (λ e. e.0) y in
+      fold-roll-TypeOfAttribute N (List U) (List U) (List U) (List U) (at_type visit) (at_variant visit)
+      (at_record visit) (at_attribute visit) x
       ∙ y.ty.1
-      ∙ ap (flat_map visit) (sym (fold-roll-TypeOfAttribute N (List (Part N)) (List (Part N)) (List (Part N)) (List (Part N)) (at_type itself) (at_variant itself) (at_record itself) (at_attribute itself) x))
+      ∙ ap (flat_map visit) (sym (fold-roll-TypeOfAttribute N (List (Part N)) (List (Part N)) (List (Part N))
+      (List (Part N)) (at_type itself) (at_variant itself) (at_record itself) (at_attribute itself) x))
 
   pub type_by_parts : (t : «Type» N) → P t
   type_by_parts = ind-Type N P P1 P2 P3
@@ -151,12 +185,14 @@ module _ {N U : Type 0} (visit : Part N → List U) where
 
   named_by_parts : (part : N → Part N) (names : List N)
       → flat_map (λ name. visit (part name)) names ≡ flat_map visit (flat_map (λ name. itself (part name)) names)
-  named_by_parts part = each_by_parts visit (λ name. visit (part name)) (λ name. itself (part name)) (λ name. one_by_parts (part name))
+  named_by_parts part = each_by_parts visit (λ name. visit (part name)) (λ name. itself (part name))
+      (λ name. one_by_parts (part name))
 
   kind_by_parts : (k : EntityTypeKind N) → of_kind visit k ≡ flat_map visit (of_kind itself k)
   kind_by_parts (Standard s) =
       both_by_parts visit _ _ _ _ (named_by_parts _ s.member_of_types)
-      (both_by_parts visit _ _ _ _ (type_by_parts s.shape.0) (option_by_parts visit (of_type visit) (of_type itself) type_by_parts s.tags))
+      (both_by_parts visit _ _ _ _ (type_by_parts s.shape.0)
+      (option_by_parts visit (of_type visit) (of_type itself) type_by_parts s.tags))
   kind_by_parts (Enum choices) = refl
 
   pub entity_by_parts : (e : EntityType N) → of_entity visit e ≡ flat_map visit (of_entity itself e)
@@ -169,29 +205,39 @@ module _ {N U : Type 0} (visit : Part N → List U) where
 
   module _ {G : named.Ghosts N} where
     uids_by_parts : (uids : List (ActionEntityUID N G)) → of_uids visit uids ≡ flat_map visit (of_uids itself uids)
-    uids_by_parts = each_by_parts visit (of_uid visit) (of_uid itself) (λ uid. one_by_parts (action_parent uid.id uid.ty))
+    uids_by_parts = each_by_parts visit (of_uid visit) (of_uid itself)
+        (λ uid. one_by_parts (action_parent uid.id uid.ty))
 
     pub action_by_parts : (a : ActionType N G) → of_action visit a ≡ flat_map visit (of_action itself a)
     action_by_parts a =
         both_by_parts visit _ _ _ _ (where_by_parts _ external_not_bare)
-        (both_by_parts visit _ _ _ _ (option_by_parts visit (λ names. visit (action_attributes names)) (λ names. itself (action_attributes names)) (λ names. one_by_parts (action_attributes names)) a.attributes)
+        (both_by_parts visit _ _ _ _ (option_by_parts visit (λ names. visit (action_attributes names))
+        (λ names. itself (action_attributes names)) (λ names. one_by_parts (action_attributes names)) a.attributes)
         (both_by_parts visit _ _ _ _ (option_by_parts visit (of_uids visit) (of_uids itself) uids_by_parts a.member_of)
         (option_by_parts visit (of_apply visit) (of_apply itself) apply_by_parts a.applies_to)))
 
-    pub namespace_by_parts : (n : NamespaceDefinition N G) → of_namespace visit n ≡ flat_map visit (of_namespace itself n)
+    pub namespace_by_parts : (n : NamespaceDefinition N G)
+        → of_namespace visit n ≡ flat_map visit (of_namespace itself n)
     namespace_by_parts n =
-        both_by_parts visit _ _ _ _ (each_by_parts visit (λ e. of_common visit e.1) (λ e. of_common itself e.1) (λ e. type_by_parts e.1.ty) n.common_types)
-        (both_by_parts visit _ _ _ _ (each_by_parts visit (λ e. of_entity visit e.1) (λ e. of_entity itself e.1) (λ e. entity_by_parts e.1) n.entity_types)
-        (each_by_parts visit (λ e. of_action visit e.1) (λ e. of_action itself e.1) (λ e. action_by_parts e.1) n.actions))
+        both_by_parts visit _ _ _ _ (each_by_parts visit (λ e. of_common visit e.1) (λ e. of_common itself e.1)
+        (λ e. type_by_parts e.1.ty) n.common_types)
+        (both_by_parts visit _ _ _ _ (each_by_parts visit (λ e. of_entity visit e.1) (λ e. of_entity itself e.1)
+        (λ e. entity_by_parts e.1) n.entity_types)
+        (each_by_parts visit (λ e. of_action visit e.1) (λ e. of_action itself e.1)
+        (λ e. action_by_parts e.1) n.actions))
 
 placed_by_parts : {Ns P U : Type 0} (visit : Ns → P → List U) (ns : Ns) (ps : List P)
-    → flat_map (visit ns) ps ≡ flat_map (λ e. visit e.0 e.1) (flat_map (λ part. let q : Ns × P = (ns, part) in q ∷ []) ps)
+    → flat_map (visit ns) ps ≡ flat_map (λ e. visit e.0 e.1)
+    (flat_map (λ part. let q : Ns × P = (ns, part) in q ∷ []) ps)
 placed_by_parts visit ns [] = refl
 placed_by_parts visit ns (p ∷ ps) = ap (λ l. visit ns p ++ l) (placed_by_parts visit ns ps)
 
 pub fragment_by_parts : {N U : Type 0} {G : named.Ghosts N} (visit : Option Name → Part N → List U) (f : Fragment N G)
     → of_fragment visit f ≡ flat_map (λ e. visit e.0 e.1) (fragment_parts f)
 fragment_by_parts {N} visit f =
-    each_by_parts (λ (e : Option Name × Part N). visit e.0 e.1) (of_entry visit) (of_entry (λ ns part. let q : Option Name × Part N = (ns, part) in q ∷ []))
-    (λ e. namespace_by_parts (visit e.0) e.1 ∙ placed_by_parts visit e.0 _ ∙ ap (flat_map (λ (d : Option Name × Part N). visit d.0 d.1)) (sym (namespace_by_parts (λ part. let q : Option Name × Part N = (e.0, part) in q ∷ []) e.1)))
+    each_by_parts (λ (e : Option Name × Part N). visit e.0 e.1) (of_entry visit)
+    (of_entry (λ ns part. let q : Option Name × Part N = (ns, part) in q ∷ []))
+    (λ e. namespace_by_parts (visit e.0) e.1 ∙ placed_by_parts visit e.0 _
+    ∙ ap (flat_map (λ (d : Option Name × Part N). visit d.0 d.1))
+    (sym (namespace_by_parts (λ part. let q : Option Name × Part N = (e.0, part) in q ∷ []) e.1)))
     f.0

@@ -21,13 +21,19 @@ module _ {Ns P S E : Type 0} (R : Ns → S → P → S → Type 0) (Q : Ns → S
   stop_placed (p ∷ ps) s e (inl h) = inl h
   stop_placed (p ∷ ps) s e (inr k) = inr (k.0, k.1, stop_placed ps k.0 e k.2)
 
-module _ {N S E : Type 0} {G : named.Ghosts N} (R : Option Name → S → Part N → S → Type 0) (Q : Option Name → S → Part N → E → Type 0) (ns : Option Name) (n : NamespaceDefinition N G) where
+module _ {N S E : Type 0} {G : named.Ghosts N} (R : Option Name → S → Part N → S → Type 0)
+    (Q : Option Name → S → Part N → E → Type 0) (ns : Option Name) (n : NamespaceDefinition N G) where
   pub namespace_placed : (s t : S) → FoldsTo (R ns) s (of_namespace itself n) t
       → FoldsTo (takes_placed R) s (of_namespace (λ part. let q : Option Name × Part N = (ns, part) in q ∷ []) n) t
   namespace_placed s t h =
-      subst (λ l. FoldsTo (takes_placed R) s l t) (sym (namespace_by_parts (λ part. let q : Option Name × Part N = (ns, part) in q ∷ []) n)) (all_placed R Q ns (of_namespace itself n) s t h)
+      subst (λ l. FoldsTo (takes_placed R) s l t)
+      (sym (namespace_by_parts (λ part. let q : Option Name × Part N = (ns, part) in q ∷ []) n))
+      (all_placed R Q ns (of_namespace itself n) s t h)
 
   pub namespace_stops : (s : S) (e : E) → StopsAmong (R ns) (Q ns) s (of_namespace itself n) e
-      → StopsAmong (takes_placed R) (refuses_placed Q) s (of_namespace (λ part. let q : Option Name × Part N = (ns, part) in q ∷ []) n) e
+      → StopsAmong (takes_placed R) (refuses_placed Q) s
+      (of_namespace (λ part. let q : Option Name × Part N = (ns, part) in q ∷ []) n) e
   namespace_stops s e h =
-      subst (λ l. StopsAmong (takes_placed R) (refuses_placed Q) s l e) (sym (namespace_by_parts (λ part. let q : Option Name × Part N = (ns, part) in q ∷ []) n)) (stop_placed R Q ns (of_namespace itself n) s e h)
+      subst (λ l. StopsAmong (takes_placed R) (refuses_placed Q) s l e)
+      (sym (namespace_by_parts (λ part. let q : Option Name × Part N = (ns, part) in q ∷ []) n))
+      (stop_placed R Q ns (of_namespace itself n) s e h)

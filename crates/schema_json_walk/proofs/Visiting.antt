@@ -1,5 +1,6 @@
 -- Parts taken one after another, and where a visitor stops among them.
-use Rattle.std.proofs.Common.{◌≡◌, ◌⊎◌, inl, inr, ℕ, ◌+◌, ◌<◌, ◌≤◌, List, [], ◌∷◌, ◌++◌, length, get_or, take, drop, suc, zero, refl, sym, ap, ◌∙◌, subst, append_assoc, append-nil, add-one, arith}
+use Rattle.std.proofs.Common.{◌≡◌, ◌⊎◌, inl, inr, ℕ, ◌+◌, ◌<◌, ◌≤◌, List, [], ◌∷◌, ◌++◌, length, get_or, take, drop}
+use Rattle.std.proofs.Common.{suc, zero, refl, sym, ap, ◌∙◌, subst, append_assoc, append-nil, add-one, arith}
 use Rattle.std.proofs.Common.{Result, Ok, Err}
 use Rattle.std.proofs.Math.Seq.{take-suc}
 use Rattle.std.proofs.lemmas.List.{take_all}
@@ -22,7 +23,8 @@ module _ {S P : Type 0} (R : S → P → S → Type 0) where
     each_taken xs i d s j t l e h k =
         let same : f (get_or xs i d) ++ [] ≡ f d = append-nil (f (get_or xs i d)) ∙ ap f (sym e) in
         rw (add-one, take-suc xs i d l, flat_map-append f (take i xs) (get_or xs i d ∷ []))
-        (folds_then (flat_map f (take i xs)) (f (get_or xs i d) ++ []) s j t h (subst (λ x. FoldsTo R j x t) (sym same) k))
+        (folds_then (flat_map f (take i xs)) (f (get_or xs i d) ++ []) s j t h
+        (subst (λ x. FoldsTo R j x t) (sym same) k))
 
     pub all_taken : (xs : List A) (i : ℕ) (s t : S) → length xs ≤ i → FoldsTo R s (flat_map f (take i xs)) t
         → FoldsTo R s (flat_map f xs) t
@@ -56,7 +58,8 @@ module _ {S P : Type 0} (R : S → P → S → Type 0) where
           → FoldsTo R s (flat_map f (take i xs)) j → StopsAmong R Q j (f d) e → StopsAmong R Q s (flat_map f xs) e
       each_stops xs i d s j e l at h k =
           subst (λ x. StopsAmong R Q s x e) (parted xs i d l at)
-          (stops_behind (flat_map f (take i xs)) (f d ++ flat_map f (drop (suc i) xs)) s j e h (stops_front (f d) (flat_map f (drop (suc i) xs)) j e k))
+          (stops_behind (flat_map f (take i xs)) (f d ++ flat_map f (drop (suc i) xs)) s j e h
+          (stops_front (f d) (flat_map f (drop (suc i) xs)) j e k))
 
 -- what calls hand on
 module _ {S P E T : Type 0} (R : S → P → S → Type 0) (Q : S → P → E → Type 0) (a b : List P) (r : Result T E) where

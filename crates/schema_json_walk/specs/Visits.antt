@@ -1,6 +1,8 @@
 -- What a visitor is told, and where it stops.
 use Rattle.std.specs.Prelude.{◌⊎◌, List, [], ◌∷◌}
-use Rattle.schema_json_walk.specs.Parts.{Part, type_reference, context_reference, parent, principal, resource, action_parent, extension_type, open_record, action_attributes, external_not_bare}
+use Rattle.schema_json_walk.specs.Parts.{Part, type_reference, context_reference, parent, principal, resource}
+use Rattle.schema_json_walk.specs.Parts.{action_parent, extension_type, open_record, action_attributes}
+use Rattle.schema_json_walk.specs.Parts.{external_not_bare}
 use Rattle.schema_json_walk.specs.declared.lent_part.LentPart.{LentPart}
 use Rattle.schema_json_walk.specs.declared.lent_part.LentPart.TheVariants as lent
 
@@ -20,7 +22,8 @@ part_of lent.ExternalNotBare = external_not_bare
 -- The first of these parts is refused, or it is taken and one of the others stops the visitor.
 abbrev pub StopsAmong : {S P E : Type 0} → (S → P → S → Type 0) → (S → P → E → Type 0) → S → List P → E → Type 0
 StopsAmong takes refuses s [] e = ⊥
-StopsAmong {S} takes refuses s (p ∷ ps) e = refuses s p e ⊎ ((after : S) × takes s p after × StopsAmong takes refuses after ps e)
+StopsAmong {S} takes refuses s (p ∷ ps) e =
+    refuses s p e ⊎ ((after : S) × takes s p after × StopsAmong takes refuses after ps e)
 
 -- what is taken of a part with its namespace
 abbrev pub takes_placed : {Ns S P : Type 0} → (Ns → S → P → S → Type 0) → S → Ns × P → S → Type 0

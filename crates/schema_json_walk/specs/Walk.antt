@@ -25,7 +25,9 @@ use Rattle.schema_json.specs.declared.action_type.ActionType.{ActionType}
 use Rattle.schema_json.specs.declared.fragment.NamespaceDefinition.{NamespaceDefinition}
 use Rattle.schema_json.specs.declared.fragment.Fragment.{Fragment}
 use Rattle.schema_json_walk.specs.Bare.{is_bare_entity, is_bare_action}
-use Rattle.schema_json_walk.specs.Parts.{Part, type_reference, context_reference, parent, principal, resource, action_parent, extension_type, open_record, action_attributes, external_not_bare}
+use Rattle.schema_json_walk.specs.Parts.{Part, type_reference, context_reference, parent, principal, resource}
+use Rattle.schema_json_walk.specs.Parts.{action_parent, extension_type, open_record, action_attributes}
+use Rattle.schema_json_walk.specs.Parts.{external_not_bare}
 
 -- what the values of a map give, by key
 abbrev pub each_value : {K A U : Type 0} → (A → List U) → List (K × A) → List U

@@ -1,5 +1,6 @@
 -- A reference means the same either way exactly where its test passes.
-use Rattle.std.proofs.Common.{◌≡◌, ◌↔◌, Bool, true, false, not, ◌||◌, List, [], ◌∷◌, ◌++◌, Option, Some, None, cond, refl, sym, ap, ◌∙◌}
+use Rattle.std.proofs.Common.{◌≡◌, ◌↔◌, Bool, true, false, not, ◌||◌, List, [], ◌∷◌, ◌++◌, Option, Some, None, cond}
+use Rattle.std.proofs.Common.{refl, sym, ap, ◌∙◌}
 use Rattle.std.specs.Prelude.{if◌then◌else◌}
 use Rattle.std.specs.Option.{option_map}
 use Rattle.std.proofs.lemmas.List.{map-append}
@@ -46,7 +47,8 @@ module _ {N : Type 0} (told : N → ReferenceType) where
     entity_alone false false f = (λ h. refl, λ h. refl)
 
     module _ (o : N) where
-      common_agrees : (a b c d : Bool) → told o ≡ (if a then Common else Entity) → told p ≡ (if c then Common else Entity)
+      common_agrees : (a b c d : Bool) → told o ≡ (if a then Common else Entity)
+          → told p ≡ (if c then Common else Entity)
           → (agrees Common a b c d ≡ true)
           ↔ (as_kind Common (cond a (Some o) (cond c (Some p) None))
           ≡ as_told (cond (a || b) (Some o) (cond (c || d) (Some p) None)))
@@ -56,7 +58,8 @@ module _ {N : Type 0} (told : N → ReferenceType) where
       common_agrees false true false d e f = (λ h. cc, λ h. cc)
       common_agrees false false c d e f = common_alone c d f
 
-      entity_agrees : (a b c d : Bool) → told o ≡ (if a then Common else Entity) → told p ≡ (if c then Common else Entity)
+      entity_agrees : (a b c d : Bool) → told o ≡ (if a then Common else Entity)
+          → told p ≡ (if c then Common else Entity)
           → (agrees Entity a b c d ≡ true)
           ↔ (as_kind Entity (cond b (Some o) (cond d (Some p) None))
           ≡ as_told (cond (a || b) (Some o) (cond (c || d) (Some p) None)))
@@ -96,7 +99,8 @@ module _ (t : Tests) where
         ≡ agrees kind (t.is_common (components_of (behind ns plain))) (t.is_entity (components_of (behind ns plain)))
         (t.is_common (components_of plain)) (t.is_entity (components_of plain))
     moved kind =
-        ap (λ w. agrees kind (t.is_common w) (t.is_entity w) (t.is_common (components_of plain)) (t.is_entity (components_of plain)))
+        ap (λ w. agrees kind (t.is_common w) (t.is_entity w) (t.is_common (components_of plain))
+        (t.is_entity (components_of plain)))
         (sym (behind_words ns first loc))
 
     behind_in : (kind : ReferenceType) → AgreesAsMeant (Some ns) kind plain

@@ -15,11 +15,16 @@ use Rattle.schema_json_walk.specs.Walk.{fragment_parts}
 use Rattle.schema_resolve_definitions.specs.Declarations.{name_of}
 use Rattle.schema_resolve_definitions.specs.Defined.{defined}
 use Rattle.schema_resolve_definitions.specs.Tests.{tests_of}
-use Rattle.schema_print.specs.Collisions.{declared_in, collisions, collisions_in, shapeless, shapeless_in, is_shapeless, names_entity_type}
-use Rattle.schema_print.specs.Printable.{IsClosed, IsBare, IsWithoutAttributes, IsInTable, IsMeantEitherWay, has_printable_context, has_whole_targets, is_annotated_where_named, of_each_action, IsPrintable}
-use Rattle.schema_print.specs.PrintableTests.{IsPrintablePart, passes_action, has_distinct_names, passes_block, agrees_in}
+use Rattle.schema_print.specs.Collisions.{declared_in, collisions, collisions_in, shapeless, shapeless_in, is_shapeless}
+use Rattle.schema_print.specs.Collisions.{names_entity_type}
+use Rattle.schema_print.specs.Printable.{IsClosed, IsBare, IsWithoutAttributes, IsInTable, IsMeantEitherWay}
+use Rattle.schema_print.specs.Printable.{has_printable_context, has_whole_targets, is_annotated_where_named}
+use Rattle.schema_print.specs.Printable.{of_each_action, IsPrintable}
+use Rattle.schema_print.specs.PrintableTests.{IsPrintablePart, passes_action, has_distinct_names, passes_block}
+use Rattle.schema_print.specs.PrintableTests.{agrees_in}
 use Rattle.schema_print.proofs.EitherWay.{agrees_as_meant}
-use Rattle.schema_print.proofs.Tested.{both_of_all, all_are_both, none, none_is, none_given, none_filtered, none_passes, both_held, weakly_held}
+use Rattle.schema_print.proofs.Tested.{both_of_all, all_are_both, none, none_is, none_given, none_filtered, none_passes}
+use Rattle.schema_print.proofs.Tested.{both_held, weakly_held}
 
 abbrev BlockOf : named.Ghosts RawName → Type 0
 BlockOf G = Option Name × NamespaceDefinition RawName G
@@ -37,7 +42,8 @@ module _ {G : named.Ghosts RawName} where
       → none (shapeless f) ≡ list_all (λ e. list_all (λ t. not (is_shapeless t.1)) e.1.entity_types) f.0
   shapes_told f =
       none_given (λ (e : BlockOf G). shapeless_in e.0 e.1.entity_types) f.0
-      ∙ (λ i. list_all (λ e. none_filtered (λ t. declared_in e.0 t.0.id.text) (λ t. is_shapeless t.1) e.1.entity_types i) f.0)
+      ∙ (λ i. list_all (λ e. none_filtered (λ t. declared_in e.0 t.0.id.text) (λ t. is_shapeless t.1)
+      e.1.entity_types i) f.0)
 
   distinct_told : (ns : Option Name) (n : NamespaceDefinition RawName G)
       → none (collisions_in ns n) ≡ has_distinct_names ns n
@@ -52,9 +58,11 @@ module _ {G : named.Ghosts RawName} where
       none_given (λ (e : BlockOf G). collisions_in e.0 e.1) f.0 ∙ (λ i. list_all (λ e. distinct_told e.0 e.1 i) f.0)
 
   actions_told : (f : Fragment RawName G) → list_all (λ e. list_all (λ a. passes_action a.1) e.1.actions) f.0
-      ≡ (of_each_action (λ a. has_printable_context a.applies_to) f && of_each_action (λ a. has_whole_targets a.applies_to) f)
+      ≡ (of_each_action (λ a. has_printable_context a.applies_to) f && of_each_action
+      (λ a. has_whole_targets a.applies_to) f)
   actions_told f =
-      (λ i. list_all (λ e. all_are_both (λ a. has_printable_context a.1.applies_to) (λ a. has_whole_targets a.1.applies_to) e.1.actions i) f.0)
+      (λ i. list_all (λ e. all_are_both (λ a. has_printable_context a.1.applies_to)
+      (λ a. has_whole_targets a.1.applies_to) e.1.actions i) f.0)
       ∙ all_are_both (λ (e : BlockOf G). list_all (λ a. has_printable_context a.1.applies_to) e.1.actions)
       (λ e. list_all (λ a. has_whole_targets a.1.applies_to) e.1.actions) f.0
 
@@ -158,10 +166,12 @@ module _ {G : named.Ghosts RawName} where
     pub parts_pass : IsPrintable f table → AllByRecursion Passes (fragment_parts f)
     parts_pass p =
         let parts = fragment_parts f in
-        let two : AllByRecursion Two parts = both_held (λ e. IsClosed e.1) (λ e. IsBare e.1) Two parts (λ e h k. (h, k)) p.closed p.bare in
+        let two : AllByRecursion Two parts = both_held (λ e. IsClosed e.1) (λ e. IsBare e.1) Two parts
+        (λ e h k. (h, k)) p.closed p.bare in
         let three : AllByRecursion Three parts =
         both_held (λ e. IsWithoutAttributes e.1) Two Three parts (λ e h k. (h, k)) p.attributes two in
-        let four : AllByRecursion Four parts = both_held InTable Three Four parts (λ e h k. (h, k)) p.extensions three in
+        let four : AllByRecursion Four parts = both_held InTable Three Four parts (λ e h k. (h, k))
+        p.extensions three in
         both_held Meant Four Passes parts (λ e h (i, (a, (c, b))). record {
           closed = c;
           bare = b;

@@ -1,5 +1,6 @@
 -- What stands between a name and the semicolon, laid out.
-use Rattle.std.proofs.Common.{◌≡◌, ℕ, ◌+◌, Bool, true, false, List, [], ◌∷◌, ◌++◌, codes, map, length, refl, ap, sym, ◌∙◌, append_assoc, ◌==◌, arith, Option, Some}
+use Rattle.std.proofs.Common.{◌≡◌, ℕ, ◌+◌, Bool, true, false, List, [], ◌∷◌, ◌++◌, codes, map, length, refl, ap, sym}
+use Rattle.std.proofs.Common.{◌∙◌, append_assoc, ◌==◌, arith, Option, Some}
 use Rattle.std.proofs.lemmas.Bool.{eqb-true}
 use Rattle.cedar_names.specs.CanonicalText.{spaces}
 use Rattle.schema_json.specs.declared.entity_type.EntityTypeKind.{EntityTypeKind}
@@ -11,7 +12,8 @@ use Rattle.schema_readback.specs.Printed.{word, mark, string, space, line_break,
 use Rattle.schema_print_text.specs.Growing.{laid_append}
 use Rattle.schema_print_text.specs.PrintedTypes.{is_bare_record}
 use Rattle.schema_print.specs.RowsOfTexts.{names_line_text, head_text}
-use Rattle.schema_print.specs.PrintedFragments.{shape_type_pieces, context_type_pieces, targets_pieces, common_pieces, item_pieces, kind_pieces, spec_pieces, applied_pieces}
+use Rattle.schema_print.specs.PrintedFragments.{shape_type_pieces, context_type_pieces, targets_pieces, common_pieces}
+use Rattle.schema_print.specs.PrintedFragments.{item_pieces, kind_pieces, spec_pieces, applied_pieces}
 use Rattle.schema_json.specs.declared.action_type.ApplySpec.{ApplySpec}
 use Rattle.schema_syntax_grammar.specs.declared.token_kind.TokenKind.TheVariants.{LBrace, RBrace}
 
@@ -28,7 +30,8 @@ shape_some base (rec (attribute ns n r t xs)) h = refl
 shape_some base (path p) h = refl
 shape_some base (set t) h = refl
 
-pub context_none : (base : ℕ) (w : WrittenType) → is_bare_record w ≡ true → codes "{}" ≡ laid (context_type_pieces true base w)
+pub context_none : (base : ℕ) (w : WrittenType) → is_bare_record w ≡ true
+    → codes "{}" ≡ laid (context_type_pieces true base w)
 context_none base (rec no_more) h = refl
 context_none base (rec (attribute ns n r t xs)) h = absurd (cc)
 context_none base (path p) h = absurd (cc)
@@ -48,27 +51,34 @@ three_laid a b c = sym (laid_append a (b ++ c) ∙ ap (λ t. laid a ++ t) (laid_
 pub two_laid : (a b : List Piece) → laid a ++ laid b ≡ laid (a ++ b)
 two_laid a b = sym (laid_append a b)
 
-pub no_principals : {A : Type 0} (g : A → List (List ℕ)) (base : ℕ) (ps rs : List A) (w : WrittenType) → (length ps == 0) ≡ true
+pub no_principals : {A : Type 0} (g : A → List (List ℕ)) (base : ℕ) (ps rs : List A) (w : WrittenType)
+    → (length ps == 0) ≡ true
     → [] ≡ laid (targets_pieces true base (map g ps) (map g rs) w)
 no_principals g base [] rs w h = refl
 no_principals g base (p ∷ ps) rs w h = absurd (omega (arith, eqb-true (length (p ∷ ps)) 0 h))
 
-pub no_resources : {A : Type 0} (g : A → List (List ℕ)) (base : ℕ) (ps rs : List A) (w : WrittenType) → (length rs == 0) ≡ true
+pub no_resources : {A : Type 0} (g : A → List (List ℕ)) (base : ℕ) (ps rs : List A) (w : WrittenType)
+    → (length rs == 0) ≡ true
     → [] ≡ laid (targets_pieces true base (map g ps) (map g rs) w)
 no_resources g base [] rs w h = refl
 no_resources g base (p ∷ ps) [] w h = refl
 no_resources g base (p ∷ ps) (r ∷ rs) w h = absurd (omega (arith, eqb-true (length (r ∷ rs)) 0 h))
 
-pub both_targets : {A : Type 0} (g : A → List (List ℕ)) (base inner : ℕ) (ps rs : List A) (w : WrittenType) → inner ≡ base + 2
+pub both_targets : {A : Type 0} (g : A → List (List ℕ)) (base inner : ℕ) (ps rs : List A) (w : WrittenType)
+    → inner ≡ base + 2
     → (length ps == 0) ≡ false → (length rs == 0) ≡ false
-    → codes " appliesTo {\n" ++ (names_line_text inner (codes "principal: ") (map g ps) ++ (names_line_text inner (codes "resource: ") (map g rs) ++ (spaces inner ++ (codes "context: " ++ (laid (context_type_pieces true inner w) ++ (codes ",\n" ++ (spaces base ++ codes "}")))))))
+    → codes " appliesTo {\n" ++ (names_line_text inner (codes "principal: ") (map g ps)
+    ++ (names_line_text inner (codes "resource: ") (map g rs)
+    ++ (spaces inner ++ (codes "context: "
+    ++ (laid (context_type_pieces true inner w) ++ (codes ",\n" ++ (spaces base ++ codes "}")))))))
     ≡ laid (targets_pieces true base (map g ps) (map g rs) w)
 both_targets g base inner [] rs w k h i = absurd (cc)
 both_targets g base inner (p ∷ ps) [] w k h i = absurd (cc)
 both_targets g base inner (p ∷ ps) (r ∷ rs) w k h i = rw k (simp (laid_append, append_assoc))
 
 pub common_laid : (base : ℕ) (notes : Notes) (name : List ℕ) (t : WrittenType)
-    → head_text base notes false (codes "type ") ++ (name ++ (codes " = " ++ (laid (type_pieces true base t) ++ codes ";\n")))
+    → head_text base notes false (codes "type ")
+    ++ (name ++ (codes " = " ++ (laid (type_pieces true base t) ++ codes ";\n")))
     ≡ laid (common_pieces true base notes name t)
 common_laid base notes name t = simp (laid_append, append_assoc)
 
@@ -86,18 +96,25 @@ action_laid base notes false id body = simp (laid_append, append_assoc)
 
 -- a namespace with a name
 pub block_laid : (notes : Notes) (p : List (List ℕ)) (items : List Piece)
-    → laid (notes_pieces 0 notes) ++ (codes "namespace " ++ (laid (path_pieces p) ++ (codes " {\n" ++ (laid items ++ codes "}\n"))))
-    ≡ laid (notes_pieces 0 notes ++ word (codes "namespace") ∷ space ∷ (path_pieces p ++ space ∷ mark LBrace (codes "{") ∷ line_break ∷ (items ++ mark RBrace (codes "}") ∷ line_break ∷ [])))
+    → laid (notes_pieces 0 notes) ++ (codes "namespace "
+    ++ (laid (path_pieces p) ++ (codes " {\n" ++ (laid items ++ codes "}\n"))))
+    ≡ laid (notes_pieces 0 notes ++ word (codes "namespace") ∷ space
+    ∷ (path_pieces p ++ space ∷ mark LBrace (codes "{") ∷ line_break
+    ∷ (items ++ mark RBrace (codes "}") ∷ line_break ∷ [])))
 block_laid notes p items = simp (laid_append, append_assoc)
 
 module _ {N : Type 0} (names : N → List (List ℕ)) where
   pub kind_shown : (base : ℕ) (e f : Bool) (k l : EntityTypeKind N) → e ≡ f → k ≡ l
       → laid (kind_pieces names true base f l) ≡ laid (kind_pieces names true base e k)
-  kind_shown base e f k l p q = sym (ap (λ t. laid (kind_pieces names true base t k)) p ∙ ap (λ t. laid (kind_pieces names true base f t)) q)
+  kind_shown base e f k l p q = sym
+      (ap (λ t. laid (kind_pieces names true base t k)) p ∙ ap (λ t. laid (kind_pieces names true base f t)) q)
 
   -- what an action that is not external applies to, behind its parents
-  pub applied_shown : (base : ℕ) (e : Bool) (o : Option (ApplySpec N)) (spec : ApplySpec N) (parents : List Piece) → e ≡ false → o ≡ Some spec
-      → laid parents ++ laid (spec_pieces names true base (Some spec)) ≡ laid (parents ++ applied_pieces names true base e o)
+  pub applied_shown : (base : ℕ) (e : Bool) (o : Option (ApplySpec N)) (spec : ApplySpec N) (parents : List Piece)
+      → e ≡ false → o ≡ Some spec
+      → laid parents ++ laid (spec_pieces names true base (Some spec))
+      ≡ laid (parents ++ applied_pieces names true base e o)
   applied_shown base e o spec parents p q =
       two_laid parents (spec_pieces names true base (Some spec))
-      ∙ ap (λ ps. laid (parents ++ ps)) (sym (ap (λ b. applied_pieces names true base b o) p ∙ ap (λ x. applied_pieces names true base false x) q))
+      ∙ ap (λ ps. laid (parents ++ ps))
+      (sym (ap (λ b. applied_pieces names true base b o) p ∙ ap (λ x. applied_pieces names true base false x) q))

@@ -1,5 +1,6 @@
 -- Names that are gathered, item by item.
-use Rattle.std.proofs.Common.{◌≡◌, ℕ, ◌+◌, suc, ◌<◌, Bool, true, false, List, [], ◌∷◌, ◌++◌, map, length, drop, drop-cons, get_or, add-one, refl, ap, sym, ◌∙◌, append_assoc, Option, Some, subst}
+use Rattle.std.proofs.Common.{◌≡◌, ℕ, ◌+◌, suc, ◌<◌, Bool, true, false, List, [], ◌∷◌, ◌++◌, map, length, drop}
+use Rattle.std.proofs.Common.{drop-cons, get_or, add-one, refl, ap, sym, ◌∙◌, append_assoc, Option, Some, subst}
 use Rattle.std.specs.Prelude.{filter}
 use Rattle.std.specs.List.{flat_map}
 use Rattle.std.proofs.lemmas.List.{append-nil}
@@ -21,12 +22,14 @@ pub record Gathers (initial names left all : List (List (List ℕ))) : Type 0 wh
 pub gathers_begun : (a b all : List (List (List ℕ))) → a ≡ b → Gathers a b all all
 gathers_begun a b all e = record { meets = ap (λ t. t ++ all) (sym e) }
 
-pub gathers_round : {initial a b left next all : List (List (List ℕ))} (x : List (List (List ℕ))) → b ≡ a ++ x → Gathers initial a left all → left ≡ x ++ next
+pub gathers_round : {initial a b left next all : List (List (List ℕ))} (x : List (List (List ℕ))) → b ≡ a ++ x
+    → Gathers initial a left all → left ≡ x ++ next
     → Gathers initial b next all
 gathers_round {initial} {a} {b} {left} {next} {all} x e l f =
     record { meets = ap (λ t. t ++ next) e ∙ (append_assoc a x next ∙ (ap (λ t. a ++ t) (sym f) ∙ l.meets)) }
 
-pub gathers_ended : {initial a left all : List (List (List ℕ))} → Gathers initial a left all → left ≡ [] → a ≡ initial ++ all
+pub gathers_ended : {initial a left all : List (List (List ℕ))} → Gathers initial a left all → left ≡ []
+    → a ≡ initial ++ all
 gathers_ended {initial} {a} {left} {all} l e = sym (append-nil a) ∙ (ap (λ t. a ++ t) (sym e) ∙ l.meets)
 
 one_wanted : {A : Type 0} (p : A → Bool) (f : A → List (List ℕ)) (x : A) (xs : List A) (b : Bool) → p x ≡ b
@@ -35,26 +38,32 @@ one_wanted p f x xs true h = rw h refl
 one_wanted p f x xs false h = rw h refl
 
 -- one more item
-pub wanted_step : {A : Type 0} (p : A → Bool) (f : A → List (List ℕ)) (xs : List A) (i : ℕ) (d : A) → i < length xs → d ≡ get_or xs i d
+pub wanted_step : {A : Type 0} (p : A → Bool) (f : A → List (List ℕ)) (xs : List A) (i : ℕ) (d : A) → i < length xs
+    → d ≡ get_or xs i d
     → map f (filter p (drop i xs)) ≡ if_wanted (p d) (f d) ++ map f (filter p (drop (i + 1) xs))
 wanted_step p f xs i d h e =
-    rw (add-one, drop-cons xs i d) (ap (λ x. map f (filter p (x ∷ drop (suc i) xs))) (sym e) ∙ one_wanted p f d (drop (suc i) xs) (p d) refl)
+    rw (add-one, drop-cons xs i d)
+    (ap (λ x. map f (filter p (x ∷ drop (suc i) xs))) (sym e) ∙ one_wanted p f d (drop (suc i) xs) (p d) refl)
 
 -- one more namespace
-pub given_step : {A : Type 0} (f : A → List (List (List ℕ))) (xs : List A) (i : ℕ) (d : A) → i < length xs → d ≡ get_or xs i d
+pub given_step : {A : Type 0} (f : A → List (List (List ℕ))) (xs : List A) (i : ℕ) (d : A) → i < length xs
+    → d ≡ get_or xs i d
     → flat_map f (drop i xs) ≡ f d ++ flat_map f (drop (i + 1) xs)
 given_step f xs i d h e = rw (add-one, drop-cons xs i d) (ap (λ x. f x ++ flat_map f (drop (suc i) xs)) (sym e))
 
 -- a name behind that of its namespace
 pub behind_text : (ns : InternalName) (i : Id) (rest : List Id) (l : Option Loc) → rest ≡ []
-    → components_of (qualified (Some ns) (record { first = i; others = rest; loc = l })) ≡ components_of ns ++ i.text ∷ []
+    → components_of (qualified (Some ns) (record { first = i; others = rest; loc = l })) ≡ components_of ns
+    ++ i.text ∷ []
 behind_text ns i [] l e = ap (λ t. ns.first.text ∷ t) (map-append (λ x. x.text) ns.others (i ∷ []))
 behind_text ns i (r ∷ rest) l e = absurd (cc)
 
 -- names that were sorted
-pub sorted_by : (cmp : InternalName → InternalName → Ordering) (xs ys found : List InternalName) → IsSorted cmp ys → IsPermutation xs ys
+pub sorted_by : (cmp : InternalName → InternalName → Ordering) (xs ys found : List InternalName) → IsSorted cmp ys
+    → IsPermutation xs ys
     → found ≡ ys → AreSortedNames cmp (map components_of xs) found
 sorted_by cmp xs ys found s p e = record {
   sorted = subst (λ t. IsSorted cmp t) (sym e) s;
-  all = subst (λ t. IsPermutation (map components_of xs) (map components_of t)) (sym e) (IsPermutation-map components_of xs ys p);
+  all = subst (λ t. IsPermutation (map components_of xs) (map components_of t)) (sym e)
+      (IsPermutation-map components_of xs ys p);
 }

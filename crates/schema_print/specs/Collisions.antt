@@ -23,7 +23,9 @@ use Rattle.schema_json.specs.declared.types.TypeVariant.{TypeVariant, TypeVarian
 use Rattle.schema_json.specs.declared.types.RecordType.{RecordType}
 use Rattle.schema_json.specs.declared.types.TypeOfAttribute.{TypeOfAttribute}
 use Rattle.schema_print_errors.specs.declared.syntax_error.ToCedarSchemaSyntaxError.{ToCedarSchemaSyntaxError}
-use Rattle.schema_print_errors.specs.declared.syntax_error.ToCedarSchemaSyntaxError.TheVariants.{NameCollisions, UnconvertibleEntityTypeShape, Memory}
+use Rattle.schema_print_errors.specs.declared.syntax_error.ToCedarSchemaSyntaxError.TheVariants.{NameCollisions}
+use Rattle.schema_print_errors.specs.declared.syntax_error.ToCedarSchemaSyntaxError.TheVariants.{UnconvertibleEntityTypeShape}
+use Rattle.schema_print_errors.specs.declared.syntax_error.ToCedarSchemaSyntaxError.TheVariants.{Memory}
 
 -- the name alone, where it is wanted
 abbrev pub if_wanted : Bool → List (List ℕ) → List (List (List ℕ))

@@ -1,5 +1,5 @@
--- Which groups of declarations a fragment is written as: those of a fragment whose printed shapes are records, and whose
--- contexts are records or names.
+-- Which groups of declarations a fragment is written as: those of a fragment whose printed shapes are records, and
+-- whose contexts are records or names.
 use Rattle.std.specs.Prelude.{◌≡◌, ℕ, Bool, true, false, List, [], ◌∷◌, ◌++◌, map, Option, Some, None}
 use Rattle.std.specs.List.{AllZip}
 use Rattle.std.specs.Option.{option_map}
@@ -17,7 +17,9 @@ use Rattle.schema_json.specs.declared.action_type.ApplySpec.{ApplySpec}
 use Rattle.schema_json.specs.declared.fragment.Fragment.{Fragment}
 use Rattle.schema_json.specs.declared.fragment.NamespaceDefinition.{NamespaceDefinition}
 use Rattle.schema_syntax_tree.specs.declared.pr.PR.TheVariants.{Principal, Resource}
-use Rattle.schema_readback.specs.Written.{WrittenType, WrittenAttributes, path, set, rec, WrittenRef, WrittenMember, types, context_path, context_record, WrittenDecl, entity, enum, external_entity, action, external_action, common, WrittenDeclared}
+use Rattle.schema_readback.specs.Written.{WrittenType, WrittenAttributes, path, set, rec, WrittenRef, WrittenMember}
+use Rattle.schema_readback.specs.Written.{types, context_path, context_record, WrittenDecl, entity, enum}
+use Rattle.schema_readback.specs.Written.{external_entity, action, external_action, common, WrittenDeclared}
 use Rattle.schema_readback.specs.PrintedDecls.{Group}
 use Rattle.schema_print_text.specs.PrintedTypes.{printed_name, printed_type}
 use Rattle.schema_print.specs.PrintedFragments.{paths_of_names, printed_parents}
@@ -60,7 +62,8 @@ module _ {N : Type 0} (names : N → List (List ℕ)) where
   abbrev pub SpecAs : Option (ApplySpec N) → Option (List WrittenMember) → Type 0
   SpecAs None ms = ms ≡ None
   SpecAs (Some s) ms =
-      TargetsAs (paths_of_names names s.principal_types) (paths_of_names names s.resource_types) (printed_type names s.context.0) ms
+      TargetsAs (paths_of_names names s.principal_types) (paths_of_names names s.resource_types)
+      (printed_type names s.context.0) ms
 
   -- what an action is written as, with these parents
   abbrev pub AppliedAs : Bool → Option (ApplySpec N) → List WrittenRef → List ℕ → WrittenDecl → Type 0

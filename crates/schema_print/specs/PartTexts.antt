@@ -14,7 +14,8 @@ use Rattle.schema_syntax_tokens.specs.Laid.{laid}
 use Rattle.schema_readback.specs.Written.{rec}
 use Rattle.schema_readback.specs.Printed.{type_pieces}
 use Rattle.schema_print_text.specs.PrintedTypes.{printed_entries, printed_type_text}
-use Rattle.schema_print.specs.PrintedFragments.{standard_pieces, entity_body_pieces, action_body_pieces, items_pieces, fragment_text}
+use Rattle.schema_print.specs.PrintedFragments.{standard_pieces, entity_body_pieces, action_body_pieces, items_pieces}
+use Rattle.schema_print.specs.PrintedFragments.{fragment_text}
 
 module _ {N : Type 0} (names : N → List (List ℕ)) where
   abbrev pub type_part_text : ℕ → «Type» N → List ℕ

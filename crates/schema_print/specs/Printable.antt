@@ -1,4 +1,5 @@
--- Which fragments their texts say: the conditions, one by one, and all of them. Each part is one of the walk of the fragment.
+-- Which fragments their texts say: the conditions, one by one, and all of them. Each part is one of the walk of the
+-- fragment.
 use Rattle.std.specs.Prelude.{◌≡◌, Bool, true, false, not, List, [], ◌∷◌, Option, Some, None}
 use Rattle.std.specs.List.{AllByRecursion, list_all}
 use Rattle.cedar_identifiers.specs.declared.annotations.Annotations.{Annotations}
@@ -17,7 +18,8 @@ use Rattle.schema_json.specs.declared.types.Type.{«Type», Type-F, out-Type}
 use Rattle.schema_json.specs.declared.types.TypeVariant.{TypeVariant}
 use Rattle.schema_json.specs.declared.types.RecordType.{RecordType}
 use Rattle.schema_json.specs.declared.types.TypeOfAttribute.{TypeOfAttribute}
-use Rattle.schema_json_walk.specs.Parts.{Part, type_reference, extension_type, open_record, action_attributes, external_not_bare}
+use Rattle.schema_json_walk.specs.Parts.{Part, type_reference, extension_type, open_record, action_attributes}
+use Rattle.schema_json_walk.specs.Parts.{external_not_bare}
 use Rattle.schema_json_walk.specs.Walk.{fragment_parts}
 use Rattle.schema_resolve.specs.Meanings.{means}
 use Rattle.schema_resolve_definitions.specs.Declarations.{name_of}
@@ -45,10 +47,11 @@ abbrev pub IsInTable : ExtensionTable → Part RawName → Type 0
 IsInTable table (extension_type id) = table_has table id.id.text ≡ true
 IsInTable table _ = Unit {0}
 
--- A reference within a type means what its name means where it may be either kind of type, or another part. A context that
--- is itself a reference to a common type is another part.
+-- A reference within a type means what its name means where it may be either kind of type, or another part. A context
+-- that is itself a reference to a common type is another part.
 abbrev pub IsMeantEitherWay : Tests → Option Name → Part RawName → Type 0
-IsMeantEitherWay t ns (type_reference kind name) = means t (name_of ns) kind name ≡ means t (name_of ns) CommonOrEntity name
+IsMeantEitherWay t ns (type_reference kind name) =
+    means t (name_of ns) kind name ≡ means t (name_of ns) CommonOrEntity name
 IsMeantEitherWay t ns _ = Unit {0}
 
 module _ {N : Type 0} where
@@ -94,11 +97,11 @@ module _ {G : named.Ghosts RawName} where
   abbrev pub of_each_action : (ActionType RawName G → Bool) → Fragment RawName G → Bool
   of_each_action test f = list_all (λ e. list_all (λ a. test a.1) e.1.actions) f.0
 
-  -- The text of the fragment says it: every record is closed, external items are bare, shapes of entity types are records,
-  -- contexts are records or references to common types, an action applies to principals and resources or to nothing, no
-  -- action has attributes, the empty namespace has no annotations, no named namespace has a name as a common type and as an
-  -- entity type, no common type has one of the eight words as its name, extension types are in the table, and references
-  -- mean what their names mean where they may be either kind of type.
+  -- The text of the fragment says it: every record is closed, external items are bare, shapes of entity types are
+  -- records, contexts are records or references to common types, an action applies to principals and resources or to
+  -- nothing, no action has attributes, the empty namespace has no annotations, no named namespace has a name as a
+  -- common type and as an entity type, no common type has one of the eight words as its name, extension types are in
+  -- the table, and references mean what their names mean where they may be either kind of type.
   pub record IsPrintable (f : Fragment RawName G) (table : ExtensionTable) : Type 0 where
     pub closed : IsOfEachPart (λ ns. IsClosed) f
     pub bare : IsOfEachPart (λ ns. IsBare) f

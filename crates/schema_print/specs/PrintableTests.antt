@@ -18,7 +18,8 @@ use Rattle.schema_json_walk.specs.Parts.{Part}
 use Rattle.schema_resolve_definitions.specs.Defined.{defined}
 use Rattle.schema_resolve_definitions.specs.Tests.{Tests, tests_of}
 use Rattle.schema_print.specs.Collisions.{is_shapeless, names_entity_type}
-use Rattle.schema_print.specs.Printable.{IsClosed, IsBare, IsWithoutAttributes, IsInTable, IsMeantEitherWay, has_printable_context, has_whole_targets, is_annotated_where_named}
+use Rattle.schema_print.specs.Printable.{IsClosed, IsBare, IsWithoutAttributes, IsInTable, IsMeantEitherWay}
+use Rattle.schema_print.specs.Printable.{has_printable_context, has_whole_targets, is_annotated_where_named}
 
 module _ {G : named.Ghosts RawName} where
   abbrev pub passes_action : ActionType RawName G → Bool
@@ -58,8 +59,8 @@ abbrev pub passes_behind : (List (List ℕ) → Bool) → Option InternalName �
 passes_behind passes None name = false
 passes_behind passes (Some ns) name = is_unqualified name && passes (components_of ns ++ name.first.text ∷ [])
 
--- A reference means the same either way, by what its name is behind the namespace, a common type or an entity type, and by
--- what it is as it is written.
+-- A reference means the same either way, by what its name is behind the namespace, a common type or an entity type, and
+-- by what it is as it is written.
 abbrev pub agrees : ReferenceType → Bool → Bool → Bool → Bool → Bool
 agrees Common own_common own_entity common entity = own_common || (not own_entity && (common || not entity))
 agrees Entity own_common own_entity common entity = not own_common && (own_entity || not common)
@@ -68,5 +69,6 @@ agrees CommonOrEntity own_common own_entity common entity = true
 -- the test of a reference
 abbrev pub agrees_in : Tests → Option InternalName → ReferenceType → InternalName → Bool
 agrees_in t ns kind name =
-    agrees kind (passes_behind t.is_common ns name) (passes_behind t.is_entity ns name) (t.is_common (components_of name))
+    agrees kind (passes_behind t.is_common ns name) (passes_behind t.is_entity ns name)
+    (t.is_common (components_of name))
     (t.is_entity (components_of name))

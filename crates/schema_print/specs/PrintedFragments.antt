@@ -22,7 +22,8 @@ use Rattle.schema_syntax_reader.specs.Leaves.{Notes}
 use Rattle.schema_syntax_tokens.specs.Laid.{Piece, gap, laid}
 use Rattle.schema_readback.specs.Written.{WrittenType, path, set, rec, WrittenRef}
 use Rattle.schema_readback.specs.Printed.{word, mark, string, space, line_break, notes_pieces, path_pieces, type_pieces}
-use Rattle.schema_readback.specs.PrintedDecls.{bracketed, parents_pieces, string_pieces, ref_pieces, shape_pieces, tags_pieces, context_pieces, comma_behind_member, ended, joined_pieces}
+use Rattle.schema_readback.specs.PrintedDecls.{bracketed, parents_pieces, string_pieces, ref_pieces, shape_pieces}
+use Rattle.schema_readback.specs.PrintedDecls.{tags_pieces, context_pieces, comma_behind_member, ended, joined_pieces}
 use Rattle.schema_print_text.specs.PrintedTypes.{printed_name, printed_type}
 
 -- ` = ` and the record where it has attributes; another type stands in the record's place

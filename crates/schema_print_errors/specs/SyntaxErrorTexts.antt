@@ -4,7 +4,9 @@ use Rattle.cedar_data.specs.Rows.{joined_by}
 use Rattle.cedar_identifiers.specs.Names.{components_of, name_text}
 use Rattle.cedar_identifiers.specs.declared.internal_name.InternalName.{InternalName}
 use Rattle.schema_print_errors.specs.declared.syntax_error.ToCedarSchemaSyntaxError.{ToCedarSchemaSyntaxError}
-use Rattle.schema_print_errors.specs.declared.syntax_error.ToCedarSchemaSyntaxError.TheVariants.{NameCollisions, UnconvertibleEntityTypeShape, Memory}
+use Rattle.schema_print_errors.specs.declared.syntax_error.ToCedarSchemaSyntaxError.TheVariants.{NameCollisions}
+use Rattle.schema_print_errors.specs.declared.syntax_error.ToCedarSchemaSyntaxError.TheVariants.{UnconvertibleEntityTypeShape}
+use Rattle.schema_print_errors.specs.declared.syntax_error.ToCedarSchemaSyntaxError.TheVariants.{Memory}
 
 abbrev pub texts_of_names : List InternalName → List (List ℕ)
 texts_of_names names = map (λ n. name_text (components_of n)) names
@@ -18,7 +20,8 @@ collisions_text names = codes "There are name collisions: [" ++ (names_list name
 
 abbrev pub shapes_text : List InternalName → List ℕ
 shapes_text names =
-    codes "The following entities have shapes that cannot be converted to Cedar schema syntax: [" ++ (names_list names ++ codes "]")
+    codes "The following entities have shapes that cannot be converted to Cedar schema syntax: ["
+    ++ (names_list names ++ codes "]")
 
 abbrev pub shapes_help : List ℕ
 shapes_help =

@@ -18,17 +18,22 @@ use Rattle.schema_json.specs.declared.types.RecordType.{RecordType, out-RecordTy
 use Rattle.schema_json.specs.declared.types.TypeOfAttribute.{TypeOfAttribute}
 use Rattle.schema_json.specs.declared.types.TypeVariant.TheVariants as variant
 use Rattle.schema_json_walk.specs.Parts.{Part, external_not_bare, action_attributes, action_parent, open_record}
-use Rattle.schema_json_walk.specs.Walk.{itself, visit_where, at_context, of_entries, of_context, of_principals, of_resources, of_apply, of_uid, of_uids, of_action}
+use Rattle.schema_json_walk.specs.Walk.{itself, visit_where, at_context, of_entries, of_context, of_principals}
+use Rattle.schema_json_walk.specs.Walk.{of_resources, of_apply, of_uid, of_uids, of_action}
 use Rattle.schema_json_walk.proofs.Layers.{record_walked, variant_walked}
 use Rattle.schema_convert_types.specs.Declarations.{as_written}
-use Rattle.schema_resolve.specs.Renamed.{Renaming, due_there, renamed, renamed_record, renamed_apply, renamed_uid, renamed_action}
+use Rattle.schema_resolve.specs.Renamed.{Renaming, due_there, renamed, renamed_record, renamed_apply, renamed_uid}
+use Rattle.schema_resolve.specs.Renamed.{renamed_action}
 use Rattle.schema_resolve.specs.Resolved.{resolving_in, meant_type}
 use Rattle.schema_resolve.specs.Undefined.{Undefined}
 use Rattle.schema_resolve_definitions.specs.Tests.{Tests}
-use Rattle.schema_print_says.specs.CedarForm.{cedar_spec, cedar_applies, cedar_parent, cedar_parents, cedar_action, type_or_action}
+use Rattle.schema_print_says.specs.CedarForm.{cedar_spec, cedar_applies, cedar_parent, cedar_parents, cedar_action}
+use Rattle.schema_print_says.specs.CedarForm.{type_or_action}
 use Rattle.schema_print_resolves.specs.Alike.{referred, referred_spec, referred_applies, listed, referred_action}
 use Rattle.schema_print_resolves.proofs.References.{none, visit}
-use Rattle.schema_print_resolves.proofs.TypesAlike.{Good, KnowsPrimitives, all_back, referred_is, as_reference, resolved_is, shape_resolved_is, record_resolved_is, referred_record, referred_record_is}
+use Rattle.schema_print_resolves.proofs.TypesAlike.{Good, KnowsPrimitives, all_back, referred_is, as_reference}
+use Rattle.schema_print_resolves.proofs.TypesAlike.{resolved_is, shape_resolved_is, record_resolved_is, referred_record}
+use Rattle.schema_print_resolves.proofs.TypesAlike.{referred_record_is}
 use Rattle.schema_print_resolves.proofs.ItemsAlike.{both_found, second_none, beside_excess, context_alike}
 
 module _ (t : Tests) (ns : Option InternalName) (knows : KnowsPrimitives t ns) where
@@ -70,7 +75,8 @@ module _ (t : Tests) (ns : Option InternalName) (knows : KnowsPrimitives t ns) w
         go (Some ty) = refl
 
     uids_alike : (us : List (ActionEntityUID RawName as_written))
-        → map (renamed_uid R (meant_type t ns) {G = as_written} {H = H}) us ≡ map (renamed_uid R (meant_type t ns) {G = as_written} {H = H}) (map cedar_parent us)
+        → map (renamed_uid R (meant_type t ns) {G = as_written} {H = H}) us
+        ≡ map (renamed_uid R (meant_type t ns) {G = as_written} {H = H}) (map cedar_parent us)
     uids_alike [] = refl
     uids_alike (u ∷ us) = λ i. uid_alike u i ∷ uids_alike us i
 
@@ -82,7 +88,8 @@ module _ (t : Tests) (ns : Option InternalName) (knows : KnowsPrimitives t ns) w
     parents_alike (Some (u ∷ us)) = ap Some (uids_alike (u ∷ us))
 
   -- what an action applies to
-  targets_found : (s : ApplySpec RawName) → Goods (of_apply itself s) → none (of_apply v s) ≡ none (of_apply v (cedar_spec s))
+  targets_found : (s : ApplySpec RawName) → Goods (of_apply itself s)
+      → none (of_apply v s) ≡ none (of_apply v (cedar_spec s))
   targets_found s goods =
       let inner = all_back (Good t ns) (of_resources itself s.resource_types) _
       (all_back (Good t ns) (of_principals itself s.principal_types) _ goods) in
@@ -95,7 +102,8 @@ module _ (t : Tests) (ns : Option InternalName) (knows : KnowsPrimitives t ns) w
   targets_alike s goods h =
       let inner = all_back (Good t ns) (of_resources itself s.resource_types) _
       (all_back (Good t ns) (of_principals itself s.principal_types) _ goods) in
-      let rest = second_none (of_resources v s.resource_types) _ (second_none (of_principals v s.principal_types) _ h) in
+      let rest = second_none (of_resources v s.resource_types) _
+      (second_none (of_principals v s.principal_types) _ h) in
       let same = (context_alike t ns knows s.context.0 inner).alike rest in
       λ i. record {
         resource_types = map (R.name Entity) s.resource_types;
@@ -112,22 +120,26 @@ module _ (t : Tests) (ns : Option InternalName) (knows : KnowsPrimitives t ns) w
     where
       nothing_in : visit_where v (out-RecordType RawName empty_record).additional_attributes open_record
           ++ of_entries v (out-RecordType RawName empty_record).attributes ≡ []
-      nothing_in = λ i. (let r = out-roll-RecordType RawName (record { attributes = []; additional_attributes = false }) i in
+      nothing_in = λ i. (let r = out-roll-RecordType RawName
+          (record { attributes = []; additional_attributes = false }) i in
           visit_where v r.additional_attributes open_record ++ of_entries v r.attributes)
 
   empty_alike : referred (renamed R (record_type empty_record)) ≡ record_type empty_record
   empty_alike =
       ap (λ s. referred (renamed R s)) (sym (rolled RawName))
-      ∙ ap referred (resolved_is t ns (Type-F.Variant (roll-TypeVariant RawName (TypeVariant-F.Record empty_record)) None)
+      ∙ ap referred (resolved_is t ns
+      (Type-F.Variant (roll-TypeVariant RawName (TypeVariant-F.Record empty_record)) None)
       ∙ shape_resolved_is t ns (TypeVariant-F.Record empty_record) None)
       ∙ referred_is (TypeVariant-F.Record (renamed_record R empty_record)) None
-      ∙ ap (λ r. as_reference (TypeVariant-F.Record r) None) (ap referred_record (record_resolved_is t ns none_of) ∙ referred_record_is none_of)
+      ∙ ap (λ r. as_reference (TypeVariant-F.Record r) None)
+      (ap referred_record (record_resolved_is t ns none_of) ∙ referred_record_is none_of)
       ∙ rolled InternalName
     where
       none_of : {N : Type 0} → RecordType-F N («Type» N) (TypeVariant N) (RecordType N) (TypeOfAttribute N)
       none_of = record { attributes = []; additional_attributes = false }
 
-      rolled : (N : Type 0) → roll-Type N (Type-F.Variant (roll-TypeVariant N (TypeVariant-F.Record empty_record)) None) ≡ record_type empty_record
+      rolled : (N : Type 0) → roll-Type N
+          (Type-F.Variant (roll-TypeVariant N (TypeVariant-F.Record empty_record)) None) ≡ record_type empty_record
       rolled N = ap (λ x. roll-Type N (Type-F.Variant x None)) (variant.rolls-Record empty_record)
           ∙ shape.rolls-Variant (variant.Record empty_record) None
 
@@ -178,7 +190,8 @@ module _ (t : Tests) (ns : Option InternalName) (knows : KnowsPrimitives t ns) w
         → resolved_action a ≡ resolved_action (cedar_action a)
     action_alike a goods h =
         let parents = parents_alike {H = H} a.member_of in
-        let rest = second_none (told_parents v a) _ (second_none (told_attributes v a) _ (sym (beside_excess t ns knows _ _) ∙ h)) in
+        let rest = second_none (told_parents v a) _
+        (second_none (told_attributes v a) _ (sym (beside_excess t ns knows _ _) ∙ h)) in
         let applies = applies_alike a.external a.applies_to (targets_good a goods) rest in
         λ i. record {
           attributes = a.attributes;

@@ -17,7 +17,8 @@ use Rattle.schema_print_says.specs.CedarForm.{changed_values, cedar_common, ceda
 use Rattle.schema_print_resolves.specs.Alike.{referred_common, referred_entity, referred_action, referred_namespace}
 use Rattle.schema_print_resolves.proofs.References.{none, visit}
 use Rattle.schema_print_resolves.proofs.TypesAlike.{Good, KnowsPrimitives, all_front, all_back}
-use Rattle.schema_print_resolves.proofs.ItemsAlike.{both_found, first_none, second_none, entity_alike, common_type_alike}
+use Rattle.schema_print_resolves.proofs.ItemsAlike.{both_found, first_none, second_none, entity_alike}
+use Rattle.schema_print_resolves.proofs.ItemsAlike.{common_type_alike}
 use Rattle.schema_print_resolves.proofs.ActionsAlike.{action_found, action_alike}
 
 -- entries whose values are found alike
@@ -31,7 +32,8 @@ entries_found G give parts change found (e ∷ es) goods =
     (entries_found G give parts change found es (all_back G (parts e.1) _ goods))
 
 -- entries whose values become alike
-entries_alike : {K A B C : Type 0} (G : Part RawName → Type 0) (give : A → List Undefined) (parts : A → List (Part RawName))
+entries_alike : {K A B C : Type 0} (G : Part RawName → Type 0) (give : A → List Undefined)
+    (parts : A → List (Part RawName))
     (change : A → A) (become : A → B) (compare : B → C)
     → ((a : A) → AllByRecursion G (parts a) → none (give a) ≡ true → compare (become a) ≡ compare (become (change a)))
     → (es : List (K × A)) → AllByRecursion G (each_value parts es) → none (each_value give es) ≡ true
@@ -40,7 +42,8 @@ entries_alike : {K A B C : Type 0} (G : Part RawName → Type 0) (give : A → L
 entries_alike G give parts change become compare alike [] goods h = refl
 entries_alike G give parts change become compare alike (e ∷ es) goods h =
     let here = alike e.1 (all_front G (parts e.1) _ goods) (first_none (give e.1) _ h) in
-    let more = entries_alike G give parts change become compare alike es (all_back G (parts e.1) _ goods) (second_none (give e.1) _ h) in
+    let more = entries_alike G give parts change become compare alike es (all_back G (parts e.1) _ goods)
+    (second_none (give e.1) _ h) in
     λ i. (e.0, here i) ∷ more i
 
 module _ (t : Tests) (ns : Option InternalName) (knows : KnowsPrimitives t ns) where
@@ -72,28 +75,40 @@ module _ (t : Tests) (ns : Option InternalName) (knows : KnowsPrimitives t ns) w
       → none (of_namespace v n) ≡ none (of_namespace v (cedar_namespace n))
   namespace_found n goods =
       both_found (each_value (of_common v) n.common_types) _ _ _
-      (entries_found (Good t ns) (of_common v) (of_common itself) cedar_common (λ c g. (common_type_alike t ns knows c g).found)
+      (entries_found (Good t ns) (of_common v) (of_common itself) cedar_common
+      (λ c g. (common_type_alike t ns knows c g).found)
       n.common_types (commons_good n goods))
       (both_found (each_value (of_entity v) n.entity_types) _ _ _
-      (entries_found (Good t ns) (of_entity v) (of_entity itself) cedar_entity (λ e g. (entity_alike t ns knows e g).found)
+      (entries_found (Good t ns) (of_entity v) (of_entity itself) cedar_entity
+      (λ e g. (entity_alike t ns knows e g).found)
       n.entity_types (entities_good n goods))
-      (entries_found (Good t ns) (of_action v) (of_action itself) cedar_action (action_found t ns knows) n.actions (actions_good n goods)))
+      (entries_found (Good t ns) (of_action v) (of_action itself) cedar_action (action_found t ns knows) n.actions
+      (actions_good n goods)))
 
   module _ {H : named.Ghosts InternalName} where
     abbrev pub resolved_namespace : Block → NamespaceDefinition InternalName H
     resolved_namespace n = renamed_namespace R (meant_type t ns) n
 
-    pub namespace_alike : (n : Block) → AllByRecursion (Good t ns) (of_namespace itself n) → none (of_namespace v n) ≡ true
+    pub namespace_alike : (n : Block) → AllByRecursion (Good t ns) (of_namespace itself n)
+        → none (of_namespace v n) ≡ true
         → referred_namespace (resolved_namespace n) ≡ referred_namespace (resolved_namespace (cedar_namespace n))
     namespace_alike n goods h =
         let rest = second_none (each_value (of_common v) n.common_types) _ h in
-        let commons = entries_alike (Good t ns) (of_common v) (of_common itself) cedar_common (renamed_common R) referred_common
+        let commons = entries_alike (Good t ns) (of_common v) (of_common itself) cedar_common (renamed_common R)
+        referred_common
         (λ c g. (common_type_alike t ns knows c g).alike) n.common_types
         (commons_good n goods) (first_none (each_value (of_common v) n.common_types) _ h) in
-        let entities = entries_alike (Good t ns) (of_entity v) (of_entity itself) cedar_entity (renamed_entity R) referred_entity
+        let entities = entries_alike (Good t ns) (of_entity v) (of_entity itself) cedar_entity (renamed_entity R)
+        referred_entity
         (λ e g. (entity_alike t ns knows e g).alike) n.entity_types
         (entities_good n goods) (first_none (each_value (of_entity v) n.entity_types) _ rest) in
-        let actions = entries_alike (Good t ns) (of_action v) (of_action itself) cedar_action (renamed_action R (meant_type t ns) {H = H})
+        let actions = entries_alike (Good t ns) (of_action v) (of_action itself) cedar_action
+        (renamed_action R (meant_type t ns) {H = H})
         referred_action (action_alike t ns knows) n.actions
         (actions_good n goods) (second_none (each_value (of_entity v) n.entity_types) _ rest) in
-        λ i. record { common_types = commons i; entity_types = entities i; actions = actions i; annotations = n.annotations }
+        λ i. record {
+          common_types = commons i;
+          entity_types = entities i;
+          actions = actions i;
+          annotations = n.annotations;
+        }

@@ -1,5 +1,6 @@
 -- A fragment and its form in a text declare the same, and resolve alike, where one of them resolves.
-use Rattle.std.proofs.Common.{◌≡◌, Bool, true, false, ◌||◌, List, [], ◌∷◌, ◌++◌, map, Option, Some, None, refl, sym, ap, ◌∙◌, true≢false}
+use Rattle.std.proofs.Common.{◌≡◌, Bool, true, false, ◌||◌, List, [], ◌∷◌, ◌++◌, map, Option, Some, None, refl, sym, ap}
+use Rattle.std.proofs.Common.{◌∙◌, true≢false}
 use Rattle.std.specs.Prelude.{if◌then◌else◌}
 use Rattle.std.specs.List.{flat_map, filter_map, cons_option, AllByRecursion}
 use Rattle.cedar_data.specs.Entries.{on_value}
@@ -15,9 +16,11 @@ use Rattle.schema_convert_types.specs.Declarations.{as_written}
 use Rattle.schema_resolve.specs.Renamed.{renamed_common, renamed_entity, renamed_action, renamed_entry}
 use Rattle.schema_resolve.specs.Resolved.{resolving_in, meant_type}
 use Rattle.schema_resolve.specs.Undefined.{Undefined}
-use Rattle.schema_resolve_definitions.specs.Declarations.{name_of, declared_name, action_type, commons_in, entities_in, actions_in, declared}
+use Rattle.schema_resolve_definitions.specs.Declarations.{name_of, declared_name, action_type, commons_in, entities_in}
+use Rattle.schema_resolve_definitions.specs.Declarations.{actions_in, declared}
 use Rattle.schema_resolve_definitions.specs.Tests.{Tests}
-use Rattle.schema_print_says.specs.CedarForm.{Block, is_some_list, changed_values, cedar_common, cedar_entity, cedar_action, cedar_namespace, declares, cedar_block, cedar_form}
+use Rattle.schema_print_says.specs.CedarForm.{Block, is_some_list, changed_values, cedar_common, cedar_entity}
+use Rattle.schema_print_says.specs.CedarForm.{cedar_action, cedar_namespace, declares, cedar_block, cedar_form}
 use Rattle.schema_print_resolves.specs.Alike.{declares_some, referred_namespace, referred_block}
 use Rattle.schema_print_resolves.proofs.References.{none, visit}
 use Rattle.schema_print_resolves.proofs.TypesAlike.{Good, KnowsPrimitives}
@@ -25,7 +28,8 @@ use Rattle.schema_print_resolves.proofs.ItemsAlike.{both_found, first_none, seco
 use Rattle.schema_print_resolves.proofs.BlocksAlike.{namespace_found, namespace_alike}
 
 -- the blocks in their form give what the blocks give, where those that are gone give nothing
-gives_as_before : {U : Type 0} (give : Block → List U) → ((n : NamespaceDefinition RawName as_written) → declares n ≡ false → give (None, n) ≡ [])
+gives_as_before : {U : Type 0} (give : Block → List U)
+    → ((n : NamespaceDefinition RawName as_written) → declares n ≡ false → give (None, n) ≡ [])
     → ((ns : Option Name) (n : NamespaceDefinition RawName as_written) → give (ns, n) ≡ give (ns, cedar_namespace n))
     → (es : List Block) → flat_map give es ≡ flat_map give (filter_map cedar_block es)
 gives_as_before give gone same [] = refl
@@ -88,13 +92,15 @@ some_kept : {A B : Type 0} (f : A → B) (xs : List A) → is_some_list (map f x
 some_kept f [] = refl
 some_kept f (x ∷ xs) = refl
 
-changed_kept : {K V : Type 0} (change : V → V) (es : List (K × V)) → is_some_list (changed_values change es) ≡ is_some_list es
+changed_kept : {K V : Type 0} (change : V → V) (es : List (K × V))
+    → is_some_list (changed_values change es) ≡ is_some_list es
 changed_kept change [] = refl
 changed_kept change (e ∷ es) = refl
 
 form_declares : (n : NamespaceDefinition RawName as_written) → declares (cedar_namespace n) ≡ declares n
 form_declares n =
-    λ i. changed_kept cedar_common n.common_types i || (changed_kept cedar_entity n.entity_types i || changed_kept cedar_action n.actions i)
+    λ i. changed_kept cedar_common n.common_types i ||
+    (changed_kept cedar_entity n.entity_types i || changed_kept cedar_action n.actions i)
 
 -- each block
 module _ (t : Tests) (knows : (ns : Option InternalName) → KnowsPrimitives t ns) where
@@ -108,7 +114,8 @@ module _ (t : Tests) (knows : (ns : Option InternalName) → KnowsPrimitives t n
   nothing_told n h =
       let gone = has_none n h in
       λ i. each_value (of_common (visit t None)) (gone.commons i)
-      ++ (each_value (of_entity (visit t None)) (gone.entities i) ++ each_value (of_action (visit t None)) (gone.actions i))
+      ++ (each_value (of_entity (visit t None)) (gone.entities i)
+      ++ each_value (of_action (visit t None)) (gone.actions i))
 
   pub all_found : (es : List Block) → AllByRecursion Goods es
       → none (flat_map told es) ≡ none (flat_map told (filter_map cedar_block es))
@@ -120,31 +127,38 @@ module _ (t : Tests) (knows : (ns : Option InternalName) → KnowsPrimitives t n
     where
       go : (b : Bool) → declares n ≡ b → none (flat_map told es) ≡ none (flat_map told (filter_map cedar_block es))
           → none (told (None, n) ++ flat_map told es)
-          ≡ none (flat_map told (cons_option (if b then Some (None, cedar_namespace n) else None) (filter_map cedar_block es)))
+          ≡ none (flat_map told (cons_option (if b then Some (None, cedar_namespace n) else None)
+          (filter_map cedar_block es)))
       go true e more =
-          both_found (told (None, n)) _ (told (None, cedar_namespace n)) _ (namespace_found t None (knows None) n good) more
+          both_found (told (None, n)) _ (told (None, cedar_namespace n)) _
+          (namespace_found t None (knows None) n good) more
       go false e more = ap (λ l. none (l ++ flat_map told es)) (nothing_told n e) ∙ more
 
   module _ (H : named.Ghosts InternalName) where
     abbrev pub entry_resolved : Block → Option Name × NamespaceDefinition InternalName H
     entry_resolved e = renamed_entry (λ ns. resolving_in t (name_of ns)) (λ ns. meant_type t (name_of ns)) e
 
-    declares_kept : (n : NamespaceDefinition RawName as_written) → declares_some (entry_resolved (None, n)).1 ≡ declares n
+    declares_kept : (n : NamespaceDefinition RawName as_written)
+        → declares_some (entry_resolved (None, n)).1 ≡ declares n
     declares_kept n = λ i. some_kept (on_value (renamed_common (resolving_in t None))) n.common_types i
         || (some_kept (on_value (renamed_entity (resolving_in t None))) n.entity_types i
-        || some_kept (on_value (renamed_action (resolving_in t None) (meant_type t None) {G = as_written} {H = H})) n.actions i)
+        || some_kept (on_value (renamed_action (resolving_in t None) (meant_type t None) {G = as_written} {H = H}))
+        n.actions i)
 
     pub all_alike : (es : List Block) → AllByRecursion Goods es → none (flat_map told es) ≡ true
-        → filter_map referred_block (map entry_resolved es) ≡ filter_map referred_block (map entry_resolved (filter_map cedar_block es))
+        → filter_map referred_block (map entry_resolved es)
+        ≡ filter_map referred_block (map entry_resolved (filter_map cedar_block es))
     all_alike [] goods h = refl
     all_alike ((Some ns, n) ∷ es) (good, goods) h =
-        let here = namespace_alike t (Some ns.name) (knows (Some ns.name)) {H = H} n good (first_none (told (Some ns, n)) _ h) in
+        let here = namespace_alike t (Some ns.name) (knows (Some ns.name)) {H = H} n good
+        (first_none (told (Some ns, n)) _ h) in
         let more = all_alike es goods (second_none (told (Some ns, n)) _ h) in
         λ i. (Some ns, here i) ∷ more i
     all_alike ((None, n) ∷ es) (good, goods) h =
         go (declares n) refl (all_alike es goods (second_none (told (None, n)) _ h))
       where
-        block_of : Bool → NamespaceDefinition RawName as_written → Option (Option Name × NamespaceDefinition InternalName H)
+        block_of : Bool → NamespaceDefinition RawName as_written
+            → Option (Option Name × NamespaceDefinition InternalName H)
         block_of b n = if b then Some (None, referred_namespace (entry_resolved (None, n)).1) else None
 
         as_declared : (n : NamespaceDefinition RawName as_written) (b : Bool) → declares n ≡ b
@@ -152,9 +166,12 @@ module _ (t : Tests) (knows : (ns : Option InternalName) → KnowsPrimitives t n
         as_declared n b e = ap (λ c. block_of c n) (declares_kept n ∙ e)
 
         go : (b : Bool) → declares n ≡ b
-            → filter_map referred_block (map entry_resolved es) ≡ filter_map referred_block (map entry_resolved (filter_map cedar_block es))
-            → cons_option (referred_block (entry_resolved (None, n))) (filter_map referred_block (map entry_resolved es))
-            ≡ filter_map referred_block (map entry_resolved (cons_option (if b then Some (None, cedar_namespace n) else None) (filter_map cedar_block es)))
+            → filter_map referred_block (map entry_resolved es)
+            ≡ filter_map referred_block (map entry_resolved (filter_map cedar_block es))
+            → cons_option (referred_block (entry_resolved (None, n)))
+            (filter_map referred_block (map entry_resolved es))
+            ≡ filter_map referred_block (map entry_resolved
+            (cons_option (if b then Some (None, cedar_namespace n) else None) (filter_map cedar_block es)))
         go true e more =
             let here = namespace_alike t None (knows None) {H = H} n good (first_none (told (None, n)) _ h) in
             (λ i. cons_option (as_declared n true e i) (more i))

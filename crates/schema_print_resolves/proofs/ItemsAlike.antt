@@ -16,16 +16,20 @@ use Rattle.schema_json.specs.declared.types.TypeVariant.{TypeVariant}
 use Rattle.schema_json.specs.declared.types.RecordType.{RecordType, roll-RecordType}
 use Rattle.schema_json.specs.declared.types.TypeOfAttribute.{TypeOfAttribute, roll-TypeOfAttribute}
 use Rattle.schema_json_walk.specs.Parts.{Part, external_not_bare}
-use Rattle.schema_json_walk.specs.Walk.{itself, visit_where, at_context, of_type, of_context, of_parents, of_kind, of_entity, of_common}
-use Rattle.schema_resolve.specs.Renamed.{Renaming, new_type, new_shape, new_record, new_attribute, renamed, renamed_kind, renamed_entity, renamed_common}
+use Rattle.schema_json_walk.specs.Walk.{itself, visit_where, at_context, of_type, of_context, of_parents, of_kind}
+use Rattle.schema_json_walk.specs.Walk.{of_entity, of_common}
+use Rattle.schema_resolve.specs.Renamed.{Renaming, new_type, new_shape, new_record, new_attribute, renamed}
+use Rattle.schema_resolve.specs.Renamed.{renamed_kind, renamed_entity, renamed_common}
 use Rattle.schema_resolve.specs.Resolved.{resolving_in}
 use Rattle.schema_resolve.specs.Undefined.{Undefined}
 use Rattle.schema_resolve_definitions.specs.Tests.{Tests}
-use Rattle.schema_print_says.specs.CedarForm.{cedar_layer, cedar_variant_layer, cedar_type, cedar_variant, cedar_context, cedar_outside, cedar_common, cedar_kind, cedar_entity}
+use Rattle.schema_print_says.specs.CedarForm.{cedar_layer, cedar_variant_layer, cedar_type, cedar_variant}
+use Rattle.schema_print_says.specs.CedarForm.{cedar_context, cedar_outside, cedar_common, cedar_kind, cedar_entity}
 use Rattle.schema_print_resolves.specs.Alike.{referred, referred_common, referred_kind, referred_entity}
 use Rattle.schema_print_resolves.proofs.Layers.{type_made}
 use Rattle.schema_print_resolves.proofs.References.{none, visit}
-use Rattle.schema_print_resolves.proofs.TypesAlike.{Good, KnowsPrimitives, all_front, all_back, none_joined, type_alike, shape_alike, resolved_is}
+use Rattle.schema_print_resolves.proofs.TypesAlike.{Good, KnowsPrimitives, all_front, all_back, none_joined, type_alike}
+use Rattle.schema_print_resolves.proofs.TypesAlike.{shape_alike, resolved_is}
 
 -- what is found of two lists, each as of another
 pub both_found : {A : Type 0} (xs ys us vs : List A) → none xs ≡ none us → none ys ≡ none vs
@@ -71,13 +75,16 @@ module _ (t : Tests) (ns : Option InternalName) (knows : KnowsPrimitives t ns) w
       let c : Outer = Type-F.Variant (cedar_variant w) loc in
       let form : cedar_context s ≡ roll-Type RawName c =
       outside_of s (Type-F.Variant w loc) e
-      ∙ type_made RawName cedar_layer cedar_variant_layer (roll-RecordType RawName) (roll-TypeOfAttribute RawName) s (Type-F.Variant w loc) e in
+      ∙ type_made RawName cedar_layer cedar_variant_layer (roll-RecordType RawName) (roll-TypeOfAttribute RawName) s
+      (Type-F.Variant w loc) e in
       let inner = shape_alike t ns knows w goods in
       let out : out-Type RawName (cedar_context s) ≡ c = ap (out-Type RawName) form ∙ out-roll-Type RawName c in
       record {
-        found = ap none (context_of v s (Type-F.Variant w loc) e) ∙ inner.found ∙ sym (ap none (context_of v (cedar_context s) c out));
+        found = ap none (context_of v s (Type-F.Variant w loc) e) ∙ inner.found
+            ∙ sym (ap none (context_of v (cedar_context s) c out));
         alike = λ h.
-            ap referred (type_made RawName (new_type R) (new_shape R) (new_record R) (new_attribute R) s (Type-F.Variant w loc) e)
+            ap referred (type_made RawName (new_type R) (new_shape R) (new_record R) (new_attribute R) s
+            (Type-F.Variant w loc) e)
             ∙ inner.alike (sym (ap none (context_of v s (Type-F.Variant w loc) e)) ∙ h) loc
             ∙ sym (ap (λ s. referred (renamed R s)) form ∙ ap referred (resolved_is t ns c));
       }
@@ -103,12 +110,14 @@ module _ (t : Tests) (ns : Option InternalName) (knows : KnowsPrimitives t ns) w
 
   tags_alike : (tags : Option («Type» RawName)) → Goods (option_map_or (of_type itself) tags [])
       → none (option_map_or (of_type v) tags []) ≡ true
-      → option_map referred (option_map (renamed R) tags) ≡ option_map referred (option_map (renamed R) (option_map cedar_type tags))
+      → option_map referred (option_map (renamed R) tags)
+      ≡ option_map referred (option_map (renamed R) (option_map cedar_type tags))
   tags_alike None goods h = refl
   tags_alike (Some s) goods h = ap Some ((type_alike t ns knows s goods).alike h)
 
   -- an entity type
-  pub kind_found : (k : EntityTypeKind RawName) → Goods (of_kind itself k) → none (of_kind v k) ≡ none (of_kind v (cedar_kind k))
+  pub kind_found : (k : EntityTypeKind RawName) → Goods (of_kind itself k)
+      → none (of_kind v k) ≡ none (of_kind v (cedar_kind k))
   kind_found (Standard s) goods =
       let inner = all_back (Good t ns) (of_parents itself s.member_of_types) _ goods in
       both_found (of_parents v s.member_of_types) _ (of_parents v s.member_of_types) _ refl
@@ -150,7 +159,8 @@ module _ (t : Tests) (ns : Option InternalName) (knows : KnowsPrimitives t ns) w
   entity_alike e goods =
       let inner = all_back (Good t ns) (visit_where itself _ external_not_bare) (of_kind itself e.kind) goods in
       record {
-        found = beside_excess _ (of_kind v e.kind) ∙ kind_found e.kind inner ∙ sym (beside_excess _ (of_kind v (cedar_kind e.kind)));
+        found = beside_excess _ (of_kind v e.kind) ∙ kind_found e.kind inner
+            ∙ sym (beside_excess _ (of_kind v (cedar_kind e.kind)));
         alike = λ h. (let k = kind_alike e.kind inner (sym (beside_excess _ (of_kind v e.kind)) ∙ h) in
             λ i. record { kind = k i; external = e.external; annotations = e.annotations; loc = e.loc });
       }
@@ -166,5 +176,6 @@ module _ (t : Tests) (ns : Option InternalName) (knows : KnowsPrimitives t ns) w
       let inner = type_alike t ns knows c.ty goods in
       record {
         found = inner.found;
-        alike = λ h. (let same = inner.alike h in λ i. record { ty = same i; annotations = c.annotations; loc = c.loc });
+        alike = λ h. (let same = inner.alike h in
+            λ i. record { ty = same i; annotations = c.annotations; loc = c.loc });
       }

@@ -5,7 +5,11 @@ use Rattle.schema_json.specs.declared.types.TypeVariant.{TypeVariant, roll-TypeV
 use Rattle.schema_json.specs.declared.types.RecordType.{RecordType, roll-RecordType}
 use Rattle.schema_json.specs.declared.types.TypeOfAttribute.{TypeOfAttribute, roll-TypeOfAttribute}
 use Rattle.schema_json.specs.declared.types.Type.TheOpen.{Type-F, TypeVariant-F, RecordType-F, TypeOfAttribute-F}
-use Rattle.schema_json.specs.declared.types.Type.TheFolds.{map-Type, map-TypeVariant, map-RecordType, map-TypeOfAttribute, fold-Type, fold-TypeVariant, fold-RecordType, fold-TypeOfAttribute, fold-roll-Type, fold-roll-TypeVariant, fold-roll-RecordType, fold-roll-TypeOfAttribute}
+use Rattle.schema_json.specs.declared.types.Type.TheFolds.{map-Type, map-TypeVariant, map-RecordType}
+use Rattle.schema_json.specs.declared.types.Type.TheFolds.{map-TypeOfAttribute, fold-Type, fold-TypeVariant}
+use Rattle.schema_json.specs.declared.types.Type.TheFolds.{fold-RecordType, fold-TypeOfAttribute, fold-roll-Type}
+use Rattle.schema_json.specs.declared.types.Type.TheFolds.{fold-roll-TypeVariant, fold-roll-RecordType}
+use Rattle.schema_json.specs.declared.types.Type.TheFolds.{fold-roll-TypeOfAttribute}
 
 -- the four layers of types over one kind of names
 module _ (N : Type 0) where
@@ -35,7 +39,8 @@ module _ (N : Type 0) where
     abbrev pub on_attribute : TypeOfAttribute N → D
     on_attribute = fold-TypeOfAttribute N A B C D f g h k
 
-    pub type_is : (o : Outer) → on_type (roll-Type N o) ≡ f (map-Type N _ _ _ _ _ _ _ _ on_type on_variant on_record on_attribute o)
+    pub type_is : (o : Outer) → on_type (roll-Type N o)
+        ≡ f (map-Type N _ _ _ _ _ _ _ _ on_type on_variant on_record on_attribute o)
     type_is o = fold-roll-Type N A B C D f g h k o
 
     pub variant_is : (o : Shape) → on_variant (roll-TypeVariant N o)

@@ -12,7 +12,9 @@ use Rattle.cedar_names.specs.Definitions.{same_name}
 use Rattle.cedar_names.specs.Tables.{table_has}
 use Rattle.cedar_names.specs.declared.extension_table.ExtensionTable.{ExtensionTable}
 use Rattle.schema_json.specs.declared.fragment.Fragment.{Fragment}
-use Rattle.schema_json_walk.specs.Parts.{Part, type_reference, context_reference, parent, principal, resource, action_parent, extension_type, open_record, action_attributes, external_not_bare}
+use Rattle.schema_json_walk.specs.Parts.{Part, type_reference, context_reference, parent, principal, resource}
+use Rattle.schema_json_walk.specs.Parts.{action_parent, extension_type, open_record, action_attributes}
+use Rattle.schema_json_walk.specs.Parts.{external_not_bare}
 use Rattle.schema_json_walk.specs.Walk.{itself, of_namespace}
 use Rattle.schema_json_walk.proofs.ByParts.{namespace_by_parts}
 use Rattle.schema_convert_types.specs.Declarations.{as_written}
@@ -55,14 +57,17 @@ module _ (f : Fragment RawName as_written) (table : ExtensionTable) where
   }
 
   seen : (w : List ℕ) → table_has table w ≡ true → list_any (bytes_eq w) (builtins table) ≡ true
-  seen w h = or_right (bytes_eq w (codes "Bool")) _ (or_right (bytes_eq w (codes "Long")) _ (or_right (bytes_eq w (codes "String")) _
+  seen w h = or_right (bytes_eq w (codes "Bool")) _
+      (or_right (bytes_eq w (codes "Long")) _ (or_right (bytes_eq w (codes "String")) _
       (any_seen table.names ∙ h)))
     where
-      any_seen : (xs : List UnreservedId) → list_any (bytes_eq w) (map (λ n. n.id.text) xs) ≡ list_any (λ n. bytes_eq w n.id.text) xs
+      any_seen : (xs : List UnreservedId)
+          → list_any (bytes_eq w) (map (λ n. n.id.text) xs) ≡ list_any (λ n. bytes_eq w n.id.text) xs
       any_seen [] = refl
       any_seen (x ∷ xs) = ap (λ b. bytes_eq w x.id.text || b) (any_seen xs)
 
-  part_good : (ns : Option Name) (part : Part RawName) → IsInTable table part → IsMeantEitherWay t ns part → Good t (name_of ns) part
+  part_good : (ns : Option Name) (part : Part RawName) → IsInTable table part → IsMeantEitherWay t ns part
+      → Good t (name_of ns) part
   part_good ns (type_reference kind name) i m = m
   part_good ns (context_reference name) i m = tt
   part_good ns (parent name) i m = tt
@@ -100,7 +105,8 @@ module _ (f : Fragment RawName as_written) (table : ExtensionTable) where
       let Meant : Option Name × Part RawName → Type 0 = λ e. IsMeantEitherWay t e.0 e.1 in (
         both e.0 (of_namespace itself e.1)
             (unplaced In e.0 (of_namespace itself e.1) (subst (AllByRecursion In) is (all_front In first _ h)))
-            (unplaced Meant e.0 (of_namespace itself e.1) (subst (AllByRecursion Meant) is (all_front Meant first _ k))),
+            (unplaced Meant e.0 (of_namespace itself e.1)
+            (subst (AllByRecursion Meant) is (all_front Meant first _ k))),
         blocks es (all_back In first _ h) (all_back Meant first _ k),
       )
 

@@ -30,7 +30,8 @@ pub cedar_there : (t : Tests) (w : List ℕ) (ws : List (List ℕ)) → list_any
     → among (names_of_builtins t ws) (full w) ≡ true
 cedar_there t w [] h = absurd (cc)
 cedar_there t w (v ∷ vs) h =
-    list_any-append (same_name (full w)) (names_of_builtin t v) (names_of_builtins t vs) ∙ go (bytes_eq w v) refl h (cedar_there t w vs)
+    list_any-append (same_name (full w)) (names_of_builtin t v) (names_of_builtins t vs)
+    ∙ go (bytes_eq w v) refl h (cedar_there t w vs)
   where
     go : (b : Bool) → bytes_eq w v ≡ b → (b || list_any (bytes_eq w) vs) ≡ true
         → (list_any (bytes_eq w) vs ≡ true → among (names_of_builtins t vs) (full w) ≡ true)

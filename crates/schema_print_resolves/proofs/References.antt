@@ -1,5 +1,6 @@
 -- What references mean that mean the same either way, and what the names in `__cedar` mean.
-use Rattle.std.proofs.Common.{◌≡◌, ℕ, Bool, true, false, ◌||◌, List, [], ◌∷◌, Option, Some, None, cond, refl, sym, ap, ◌∙◌}
+use Rattle.std.proofs.Common.{◌≡◌, ℕ, Bool, true, false, ◌||◌, List, [], ◌∷◌, Option, Some, None, cond, refl, sym, ap}
+use Rattle.std.proofs.Common.{◌∙◌}
 use Rattle.std.specs.Prelude.{if◌then◌else◌}
 use Rattle.std.specs.Option.{option_map, is_some, unwrap_or}
 use Rattle.cedar_data.specs.declared.loc.Loc.{Loc}
@@ -59,7 +60,8 @@ module _ (t : Tests) where
   -- a name that means a common type either way
   common_either : (x y : Option InternalName) (other : InternalName) (loc : Option Loc) → with_kind Common x ≡ as_told y
       → is_some x ≡ true
-      → CommonTypeRef (unwrap_or x other) loc ≡ reference_to (t.is_common (components_of (unwrap_or y other))) (unwrap_or y other) loc
+      → CommonTypeRef (unwrap_or x other) loc
+      ≡ reference_to (t.is_common (components_of (unwrap_or y other))) (unwrap_or y other) loc
   common_either None y other loc h k = absurd (cc)
   common_either (Some a) None other loc h k = absurd (cc)
   common_either (Some a) (Some b) other loc h k = go (t.is_common (components_of b)) refl
@@ -115,30 +117,36 @@ module _ (t : Tests) where
         → none (visit (type_reference Common name)) ≡ true
         → CommonTypeRef ((resolving_in t ns).name Common name) loc ≡ (resolving_in t ns).either name loc
     common_alike name loc h found =
-        common_either (target_of Common name) (target_of CommonOrEntity name) name.name loc h (is_found Common name found)
+        common_either (target_of Common name) (target_of CommonOrEntity name) name.name loc h
+        (is_found Common name found)
 
     pub entity_alike : (name : RawName) (loc : Option Loc) → means t ns Entity name ≡ means t ns CommonOrEntity name
         → none (visit (type_reference Entity name)) ≡ true
         → Variant (variant.Entity ((resolving_in t ns).name Entity name)) loc ≡ (resolving_in t ns).either name loc
     entity_alike name loc h found =
-        entity_either (target_of Entity name) (target_of CommonOrEntity name) name.name loc h (is_found Entity name found)
+        entity_either (target_of Entity name) (target_of CommonOrEntity name) name.name loc h
+        (is_found Entity name found)
 
     -- a name in `__cedar` that is a common type means itself
     module _ (id : Id) where
       abbrev full : List (List ℕ)
       full = components_of (builtin_name id).name
 
-      builtin_target : t.is_common full ≡ true → target_of CommonOrEntity (builtin_name id) ≡ Some (builtin_name id).name
+      builtin_target : t.is_common full ≡ true
+          → target_of CommonOrEntity (builtin_name id) ≡ Some (builtin_name id).name
       builtin_target h = go ns
         where
-          one : cond (t.is_common full || t.is_entity full) (Some (builtin_name id).name) None ≡ Some (builtin_name id).name
+          one : cond (t.is_common full || t.is_entity full) (Some (builtin_name id).name) None
+              ≡ Some (builtin_name id).name
           one = ap (λ b. cond (b || t.is_entity full) (Some (builtin_name id).name) None) h
 
-          go : (s : Option InternalName) → target t (in_namespace s CommonOrEntity (builtin_name id)) ≡ Some (builtin_name id).name
+          go : (s : Option InternalName)
+              → target t (in_namespace s CommonOrEntity (builtin_name id)) ≡ Some (builtin_name id).name
           go None = one
           go (Some s) = one
 
-      pub builtin_found : t.is_common full ≡ true → none (visit (type_reference CommonOrEntity (builtin_name id))) ≡ true
+      pub builtin_found : t.is_common full ≡ true
+          → none (visit (type_reference CommonOrEntity (builtin_name id))) ≡ true
       builtin_found h = go (target_of CommonOrEntity (builtin_name id)) _ (builtin_target h)
         where
           go : (o : Option InternalName) (u : Undefined) → o ≡ Some (builtin_name id).name → none (unless o u) ≡ true
@@ -148,5 +156,6 @@ module _ (t : Tests) where
       pub builtin_either : (loc : Option Loc) → t.is_common full ≡ true
           → (resolving_in t ns).either (builtin_name id) loc ≡ CommonTypeRef (builtin_name id).name loc
       builtin_either loc h =
-          (λ i. (let m : InternalName = unwrap_or (builtin_target h i) (builtin_name id).name in reference_to (t.is_common (components_of m)) m loc))
+          (λ i. (let m : InternalName = unwrap_or (builtin_target h i) (builtin_name id).name in
+          reference_to (t.is_common (components_of m)) m loc))
           ∙ ap (λ c. reference_to c (builtin_name id).name loc) h

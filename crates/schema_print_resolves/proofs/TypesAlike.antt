@@ -1,5 +1,6 @@
 -- A type and its form in a text resolve to types that are alike, where one of them resolves.
-use Rattle.std.proofs.Common.{◌≡◌, ℕ, Bool, true, false, ◌&&◌, List, [], ◌∷◌, ◌++◌, map, codes, Option, refl, sym, ap, ◌∙◌, subst}
+use Rattle.std.proofs.Common.{◌≡◌, ℕ, Bool, true, false, ◌&&◌, List, [], ◌∷◌, ◌++◌, map, codes, Option, refl, sym, ap}
+use Rattle.std.proofs.Common.{◌∙◌, subst}
 use Rattle.std.specs.List.{flat_map, AllByRecursion}
 use Rattle.std.specs.Cmp.{first_so, second_so}
 use Rattle.cedar_data.specs.declared.loc.Loc.{Loc}
@@ -15,18 +16,26 @@ use Rattle.schema_json.specs.declared.types.TypeVariant.TheVariants as variant
 use Rattle.schema_json.specs.declared.types.RecordType.{RecordType, roll-RecordType}
 use Rattle.schema_json.specs.declared.types.TypeOfAttribute.{TypeOfAttribute, roll-TypeOfAttribute}
 use Rattle.schema_json.specs.declared.types.Type.TheOpen.{Type-F, TypeVariant-F, RecordType-F, TypeOfAttribute-F}
-use Rattle.schema_json.specs.declared.types.Type.TheFolds.{ind-Type, ind-TypeVariant, map-Type, map-TypeVariant, map-RecordType, map-TypeOfAttribute}
+use Rattle.schema_json.specs.declared.types.Type.TheFolds.{ind-Type, ind-TypeVariant, map-Type, map-TypeVariant}
+use Rattle.schema_json.specs.declared.types.Type.TheFolds.{map-RecordType, map-TypeOfAttribute}
 use Rattle.schema_json_walk.specs.Parts.{Part, type_reference, extension_type, open_record}
-use Rattle.schema_json_walk.specs.Walk.{itself, visit_where, at_type, at_variant, at_record, at_attribute, of_type, of_variant, of_record, of_attribute}
+use Rattle.schema_json_walk.specs.Walk.{itself, visit_where, at_type, at_variant, at_record, at_attribute, of_type}
+use Rattle.schema_json_walk.specs.Walk.{of_variant, of_record, of_attribute}
 use Rattle.schema_resolve.specs.Meanings.{means}
-use Rattle.schema_resolve.specs.Renamed.{Renaming, new_type, new_shape, new_record, new_attribute, renamed, renamed_at, renamed_record, renamed_attribute}
+use Rattle.schema_resolve.specs.Renamed.{Renaming, new_type, new_shape, new_record, new_attribute, renamed, renamed_at}
+use Rattle.schema_resolve.specs.Renamed.{renamed_record, renamed_attribute}
 use Rattle.schema_resolve.specs.Resolved.{resolving_in}
 use Rattle.schema_resolve.specs.Undefined.{Undefined}
 use Rattle.schema_resolve_definitions.specs.Tests.{Tests}
-use Rattle.schema_print_says.specs.CedarForm.{builtin_name, bool_name, long_name, string_name, cedar_layer, cedar_variant_layer, cedar_type, cedar_variant, cedar_record, cedar_attribute}
-use Rattle.schema_print_resolves.specs.Alike.{Shaped, common_named, referred_layer, referred_shape, referred_fields, referred_field, referred}
-use Rattle.schema_print_resolves.proofs.Layers.{type_is, variant_is, record_is, attribute_is, on_variant, on_record, on_attribute}
-use Rattle.schema_print_resolves.proofs.References.{none, visit, found_either, common_alike, entity_alike, builtin_found, builtin_either}
+use Rattle.schema_print_says.specs.CedarForm.{builtin_name, bool_name, long_name, string_name, cedar_layer}
+use Rattle.schema_print_says.specs.CedarForm.{cedar_variant_layer, cedar_type, cedar_variant, cedar_record}
+use Rattle.schema_print_says.specs.CedarForm.{cedar_attribute}
+use Rattle.schema_print_resolves.specs.Alike.{Shaped, common_named, referred_layer, referred_shape, referred_fields}
+use Rattle.schema_print_resolves.specs.Alike.{referred_field, referred}
+use Rattle.schema_print_resolves.proofs.Layers.{type_is, variant_is, record_is, attribute_is, on_variant, on_record}
+use Rattle.schema_print_resolves.proofs.Layers.{on_attribute}
+use Rattle.schema_print_resolves.proofs.References.{none, visit, found_either, common_alike, entity_alike}
+use Rattle.schema_print_resolves.proofs.References.{builtin_found, builtin_either}
 
 abbrev N : Type 0
 N = RawName
@@ -57,7 +66,8 @@ referred_record = on_record M referred_layer referred_shape referred_fields refe
 abbrev referred_attribute : TypeOfAttribute InternalName → TypeOfAttribute InternalName
 referred_attribute = on_attribute M referred_layer referred_shape referred_fields referred_field
 
-abbrev pub as_reference : TypeVariant-F InternalName («Type» InternalName) (TypeVariant InternalName) (RecordType InternalName) (TypeOfAttribute InternalName)
+abbrev pub as_reference : TypeVariant-F InternalName («Type» InternalName) (TypeVariant InternalName)
+    (RecordType InternalName) (TypeOfAttribute InternalName)
     → Option Loc → «Type» InternalName
 as_reference o loc = roll-Type M (Type-F.Variant (roll-TypeVariant M o) loc)
 
@@ -136,7 +146,8 @@ module _ (t : Tests) (ns : Option InternalName) where
         → of_attribute w (roll-TypeOfAttribute N o) ≡ of_type w o.ty
     attribute_walked o = attribute_is N (at_type w) (at_variant w) (at_record w) (at_attribute w) o
 
-  pub cedar_is : (o : Type-F N («Type» N) (TypeVariant N) (RecordType N) (TypeOfAttribute N)) → cedar_type (roll-Type N o)
+  pub cedar_is : (o : Type-F N («Type» N) (TypeVariant N) (RecordType N) (TypeOfAttribute N))
+      → cedar_type (roll-Type N o)
       ≡ cedar_layer (map-Type N _ _ _ _ _ _ _ _ cedar_type cedar_variant cedar_record cedar_attribute o)
   cedar_is o = type_is N cedar_layer cedar_variant_layer (roll-RecordType N) (roll-TypeOfAttribute N) o
 
@@ -152,27 +163,34 @@ module _ (t : Tests) (ns : Option InternalName) where
 
   cedar_attribute_is : (o : TypeOfAttribute-F N («Type» N) (TypeVariant N) (RecordType N) (TypeOfAttribute N))
       → cedar_attribute (roll-TypeOfAttribute N o)
-      ≡ roll-TypeOfAttribute N (map-TypeOfAttribute N _ _ _ _ _ _ _ _ cedar_type cedar_variant cedar_record cedar_attribute o)
+      ≡ roll-TypeOfAttribute N (map-TypeOfAttribute N _ _ _ _ _ _ _ _ cedar_type cedar_variant cedar_record
+      cedar_attribute o)
   cedar_attribute_is o = attribute_is N cedar_layer cedar_variant_layer (roll-RecordType N) (roll-TypeOfAttribute N) o
 
-  pub resolved_is : (o : Type-F N («Type» N) (TypeVariant N) (RecordType N) (TypeOfAttribute N)) → renamed R (roll-Type N o)
+  pub resolved_is : (o : Type-F N («Type» N) (TypeVariant N) (RecordType N) (TypeOfAttribute N))
+      → renamed R (roll-Type N o)
       ≡ new_type R (map-Type N _ _ _ _ _ _ _ _ (renamed R) (renamed_at R) (renamed_record R) (renamed_attribute R) o)
   resolved_is o = type_is N (new_type R) (new_shape R) (new_record R) (new_attribute R) o
 
-  pub shape_resolved_is : (o : TypeVariant-F N («Type» N) (TypeVariant N) (RecordType N) (TypeOfAttribute N)) (loc : Option Loc)
+  pub shape_resolved_is : (o : TypeVariant-F N («Type» N) (TypeVariant N) (RecordType N) (TypeOfAttribute N))
+      (loc : Option Loc)
       → renamed_at R (roll-TypeVariant N o) loc
-      ≡ new_shape R (map-TypeVariant N _ _ _ _ _ _ _ _ (renamed R) (renamed_at R) (renamed_record R) (renamed_attribute R) o) loc
+      ≡ new_shape R (map-TypeVariant N _ _ _ _ _ _ _ _ (renamed R) (renamed_at R) (renamed_record R)
+      (renamed_attribute R) o) loc
   shape_resolved_is o loc =
-      ap (λ (f : Option Loc → «Type» M). f loc) (variant_is N (new_type R) (new_shape R) (new_record R) (new_attribute R) o)
+      ap (λ (f : Option Loc → «Type» M). f loc)
+      (variant_is N (new_type R) (new_shape R) (new_record R) (new_attribute R) o)
 
   pub record_resolved_is : (o : RecordType-F N («Type» N) (TypeVariant N) (RecordType N) (TypeOfAttribute N))
       → renamed_record R (roll-RecordType N o)
-      ≡ new_record R (map-RecordType N _ _ _ _ _ _ _ _ (renamed R) (renamed_at R) (renamed_record R) (renamed_attribute R) o)
+      ≡ new_record R (map-RecordType N _ _ _ _ _ _ _ _ (renamed R) (renamed_at R) (renamed_record R)
+      (renamed_attribute R) o)
   record_resolved_is o = record_is N (new_type R) (new_shape R) (new_record R) (new_attribute R) o
 
   attribute_resolved_is : (o : TypeOfAttribute-F N («Type» N) (TypeVariant N) (RecordType N) (TypeOfAttribute N))
       → renamed_attribute R (roll-TypeOfAttribute N o)
-      ≡ new_attribute R (map-TypeOfAttribute N _ _ _ _ _ _ _ _ (renamed R) (renamed_at R) (renamed_record R) (renamed_attribute R) o)
+      ≡ new_attribute R (map-TypeOfAttribute N _ _ _ _ _ _ _ _ (renamed R) (renamed_at R) (renamed_record R)
+      (renamed_attribute R) o)
   attribute_resolved_is o = attribute_is N (new_type R) (new_shape R) (new_record R) (new_attribute R) o
 
   module _ (knows : KnowsPrimitives) where
@@ -204,7 +222,8 @@ module _ (t : Tests) (ns : Option InternalName) where
     abbrev either_way : RawName → TypeVariant RawName
     either_way name = roll-TypeVariant N (TypeVariant-F.EntityOrCommon name)
 
-    shape_by : (o : TypeVariant-F N («Type» N) (TypeVariant N) (RecordType N) (TypeOfAttribute N)) (c : TypeVariant RawName)
+    shape_by : (o : TypeVariant-F N («Type» N) (TypeVariant N) (RecordType N) (TypeOfAttribute N))
+        (c : TypeVariant RawName)
         → cedar_variant (roll-TypeVariant N o) ≡ c
         → none (of_variant v (roll-TypeVariant N o)) ≡ none (of_variant v c)
         → (none (of_variant v (roll-TypeVariant N o)) ≡ true → (loc : Option Loc)
@@ -222,7 +241,8 @@ module _ (t : Tests) (ns : Option InternalName) where
         → ((loc : Option Loc) → referred (renamed_at R (roll-TypeVariant N o) loc) ≡ common_named (builtin_name id) loc)
         → t.is_common (components_of (builtin_name id).name) ≡ true → ShapeAlike (roll-TypeVariant N o)
     named_shape o id is nothing becomes defined =
-        let reference : TypeVariant-F N («Type» N) (TypeVariant N) (RecordType N) (TypeOfAttribute N) = TypeVariant-F.EntityOrCommon (builtin_name id) in
+        let reference : TypeVariant-F N («Type» N) (TypeVariant N) (RecordType N)
+        (TypeOfAttribute N) = TypeVariant-F.EntityOrCommon (builtin_name id) in
         shape_by o (either_way (builtin_name id)) is
         (nothing ∙ sym (ap none (shape_walked v reference) ∙ builtin_found t ns id defined))
         (λ h loc. becomes loc
@@ -245,13 +265,16 @@ module _ (t : Tests) (ns : Option InternalName) where
         named_shape o (record { text = codes "Bool"; word = refl }) (cedar_shape_is o) (ap none (shape_walked v o))
         (λ loc. ap referred (shape_resolved_is o loc) ∙ referred_is TypeVariant-F.Boolean loc) knows.bool
     step_variant (TypeVariant-F.Extension n) goods =
-        let o : TypeVariant-F N («Type» N) (TypeVariant N) (RecordType N) (TypeOfAttribute N) = TypeVariant-F.Extension n in
+        let o : TypeVariant-F N («Type» N) (TypeVariant N) (RecordType N)
+        (TypeOfAttribute N) = TypeVariant-F.Extension n in
         named_shape o n.id (cedar_shape_is o) (ap none (shape_walked v o))
         (λ loc. ap referred (shape_resolved_is o loc) ∙ referred_is (TypeVariant-F.Extension n) loc)
         (subst (AllByRecursion Good) (shape_walked itself o) goods).0
     step_variant (TypeVariant-F.Entity n) goods =
-        let o : TypeVariant-F N («Type» N) (TypeVariant N) (RecordType N) (TypeOfAttribute N) = TypeVariant-F.Entity n in
-        let reference : TypeVariant-F N («Type» N) (TypeVariant N) (RecordType N) (TypeOfAttribute N) = TypeVariant-F.EntityOrCommon n in
+        let o : TypeVariant-F N («Type» N) (TypeVariant N) (RecordType N)
+        (TypeOfAttribute N) = TypeVariant-F.Entity n in
+        let reference : TypeVariant-F N («Type» N) (TypeVariant N) (RecordType N)
+        (TypeOfAttribute N) = TypeVariant-F.EntityOrCommon n in
         let good = (subst (AllByRecursion Good) (shape_walked itself o) goods).0 in
         shape_by o (either_way n) (cedar_shape_is o)
         (ap none (shape_walked v o) ∙ found_either t ns Entity n good ∙ sym (ap none (shape_walked v reference)))
@@ -261,32 +284,39 @@ module _ (t : Tests) (ns : Option InternalName) where
         ∙ entity_alike t ns n loc good (sym (ap none (shape_walked v o)) ∙ h))
         ∙ sym (ap referred (shape_resolved_is reference loc)))
     step_variant (TypeVariant-F.EntityOrCommon n) goods =
-        let o : TypeVariant-F N («Type» N) (TypeVariant N) (RecordType N) (TypeOfAttribute N) = TypeVariant-F.EntityOrCommon n in
+        let o : TypeVariant-F N («Type» N) (TypeVariant N) (RecordType N)
+        (TypeOfAttribute N) = TypeVariant-F.EntityOrCommon n in
         shape_by o (either_way n) (cedar_shape_is o) refl (λ h loc. refl)
     step_variant (TypeVariant-F.Set w) goods =
         let o : TypeVariant-F N («Type» N) (TypeVariant N) (RecordType N) (TypeOfAttribute N) = TypeVariant-F.Set w.0 in
-        let c : TypeVariant-F N («Type» N) (TypeVariant N) (RecordType N) (TypeOfAttribute N) = TypeVariant-F.Set (cedar_type w.0) in
+        let c : TypeVariant-F N («Type» N) (TypeVariant N) (RecordType N) (TypeOfAttribute N) = TypeVariant-F.Set
+        (cedar_type w.0) in
         let inner = w.1 (subst (AllByRecursion Good) (shape_walked itself o) goods) in
         shape_by o (roll-TypeVariant N c) (cedar_shape_is o)
         (ap none (shape_walked v o) ∙ inner.found ∙ sym (ap none (shape_walked v c)))
         (λ h loc. ap referred (shape_resolved_is o loc) ∙ referred_is (TypeVariant-F.Set (renamed R w.0)) loc
         ∙ ap (λ e. as_reference (TypeVariant-F.Set e) loc) (inner.alike (sym (ap none (shape_walked v o)) ∙ h))
-        ∙ sym (ap referred (shape_resolved_is c loc) ∙ referred_is (TypeVariant-F.Set (renamed R (cedar_type w.0))) loc))
+        ∙ sym (ap referred (shape_resolved_is c loc)
+        ∙ referred_is (TypeVariant-F.Set (renamed R (cedar_type w.0))) loc))
     step_variant (TypeVariant-F.Record w) goods =
-        let o : TypeVariant-F N («Type» N) (TypeVariant N) (RecordType N) (TypeOfAttribute N) = TypeVariant-F.Record w.0 in
-        let c : TypeVariant-F N («Type» N) (TypeVariant N) (RecordType N) (TypeOfAttribute N) = TypeVariant-F.Record (cedar_record w.0) in
+        let o : TypeVariant-F N («Type» N) (TypeVariant N) (RecordType N)
+        (TypeOfAttribute N) = TypeVariant-F.Record w.0 in
+        let c : TypeVariant-F N («Type» N) (TypeVariant N) (RecordType N) (TypeOfAttribute N) = TypeVariant-F.Record
+        (cedar_record w.0) in
         let inner = w.1 (subst (AllByRecursion Good) (shape_walked itself o) goods) in
         shape_by o (roll-TypeVariant N c) (cedar_shape_is o)
         (ap none (shape_walked v o) ∙ inner.found ∙ sym (ap none (shape_walked v c)))
         (λ h loc. ap referred (shape_resolved_is o loc) ∙ referred_is (TypeVariant-F.Record (renamed_record R w.0)) loc
         ∙ ap (λ r. as_reference (TypeVariant-F.Record r) loc) (inner.alike (sym (ap none (shape_walked v o)) ∙ h))
-        ∙ sym (ap referred (shape_resolved_is c loc) ∙ referred_is (TypeVariant-F.Record (renamed_record R (cedar_record w.0))) loc))
+        ∙ sym (ap referred (shape_resolved_is c loc)
+        ∙ referred_is (TypeVariant-F.Record (renamed_record R (cedar_record w.0))) loc))
 
     step_type : (y : Type-F N T' V' R' A')
         → P (roll-Type N (map-Type N T' V' R' A' _ _ _ _ (λ e. e.0) (λ e. e.0) (λ e. e.0) (λ e. e.0) y))
     step_type (Type-F.Variant w loc) goods =
         let o : Type-F N («Type» N) (TypeVariant N) (RecordType N) (TypeOfAttribute N) = Type-F.Variant w.0 loc in
-        let c : Type-F N («Type» N) (TypeVariant N) (RecordType N) (TypeOfAttribute N) = Type-F.Variant (cedar_variant w.0) loc in
+        let c : Type-F N («Type» N) (TypeVariant N) (RecordType N) (TypeOfAttribute N) = Type-F.Variant
+        (cedar_variant w.0) loc in
         let inner = w.1 (subst (AllByRecursion Good) (walked itself o) goods) in
         record {
           found = ap none (walked v o) ∙ inner.found
@@ -296,15 +326,18 @@ module _ (t : Tests) (ns : Option InternalName) where
         }
     step_type (Type-F.CommonTypeRef n loc) goods =
         let o : Type-F N («Type» N) (TypeVariant N) (RecordType N) (TypeOfAttribute N) = Type-F.CommonTypeRef n loc in
-        let reference : TypeVariant-F N («Type» N) (TypeVariant N) (RecordType N) (TypeOfAttribute N) = TypeVariant-F.EntityOrCommon n in
-        let c : Type-F N («Type» N) (TypeVariant N) (RecordType N) (TypeOfAttribute N) = Type-F.Variant (either_way n) loc in
+        let reference : TypeVariant-F N («Type» N) (TypeVariant N) (RecordType N)
+        (TypeOfAttribute N) = TypeVariant-F.EntityOrCommon n in
+        let c : Type-F N («Type» N) (TypeVariant N) (RecordType N) (TypeOfAttribute N) = Type-F.Variant
+        (either_way n) loc in
         let good = (subst (AllByRecursion Good) (walked itself o) goods).0 in
         record {
           found = ap none (walked v o) ∙ found_either t ns Common n good
               ∙ sym (ap (λ s. none (of_type v s)) (cedar_is o) ∙ ap none (walked v c ∙ shape_walked v reference));
           alike = λ h. ap referred (resolved_is o ∙ shape.rolls-CommonTypeRef (R.name Common n) loc
               ∙ common_alike t ns n loc good (sym (ap none (walked v o)) ∙ h))
-              ∙ sym (ap (λ s. referred (renamed R s)) (cedar_is o) ∙ ap referred (resolved_is c ∙ shape_resolved_is reference loc));
+              ∙ sym (ap (λ s. referred (renamed R s)) (cedar_is o)
+              ∙ ap referred (resolved_is c ∙ shape_resolved_is reference loc));
         }
 
     -- the attributes of a record
@@ -357,7 +390,8 @@ module _ (t : Tests) (ns : Option InternalName) where
         let c : RecordType-F N («Type» N) (TypeVariant N) (RecordType N) (TypeOfAttribute N) =
         record { attributes = in_form es; additional_attributes = y.additional_attributes } in
         let more = y.additional_attributes in
-        let these = all_back Good (visit_where itself more open_record) (given itself es) (subst (AllByRecursion Good) (record_walked itself o) goods) in
+        let these = all_back Good (visit_where itself more open_record) (given itself es)
+        (subst (AllByRecursion Good) (record_walked itself o) goods) in
         let walked_o = ap none (record_walked v o) ∙ ap (λ l. none (l ++ given v es)) (where_nothing more) in
         record {
           found = walked_o ∙ entries_found y.attributes these
@@ -365,22 +399,27 @@ module _ (t : Tests) (ns : Option InternalName) where
               ∙ ap (λ l. none (l ++ given v (in_form es))) (where_nothing more));
           alike = λ h.
               ap referred_record (record_resolved_is o) ∙ compared_is es more
-              ∙ ap (λ fields. roll-RecordType M (record { attributes = fields; additional_attributes = more })) (entries_alike y.attributes these (sym walked_o ∙ h))
-              ∙ sym (ap (λ r. referred_record (renamed_record R r)) (cedar_record_is o) ∙ ap referred_record (record_resolved_is c) ∙ compared_is (in_form es) more);
+              ∙ ap (λ fields. roll-RecordType M (record { attributes = fields; additional_attributes = more }))
+              (entries_alike y.attributes these (sym walked_o ∙ h))
+              ∙ sym (ap (λ r. referred_record (renamed_record R r)) (cedar_record_is o)
+              ∙ ap referred_record (record_resolved_is c) ∙ compared_is (in_form es) more);
         }
       where
         compared_is : (es : List (List ℕ × TypeOfAttribute RawName)) (more : Bool)
             → referred_record (roll-RecordType M (record {
-              attributes = map (λ p. let q : List ℕ × TypeOfAttribute InternalName = (p.0, renamed_attribute R p.1) in q) es;
+              attributes = map (λ p. let q : List ℕ
+                  × TypeOfAttribute InternalName = (p.0, renamed_attribute R p.1) in q) es;
               additional_attributes = more;
             })) ≡ roll-RecordType M (record { attributes = compared es; additional_attributes = more })
         compared_is es more = record_is M referred_layer referred_shape referred_fields referred_field (record {
-          attributes = map (λ p. let q : List ℕ × TypeOfAttribute InternalName = (p.0, renamed_attribute R p.1) in q) es;
+          attributes = map (λ p. let q : List ℕ × TypeOfAttribute InternalName = (p.0, renamed_attribute R p.1) in q)
+              es;
           additional_attributes = more;
         })
 
     step_attribute : (y : TypeOfAttribute-F N T' V' R' A')
-        → P3 (roll-TypeOfAttribute N (map-TypeOfAttribute N T' V' R' A' _ _ _ _ (λ e. e.0) (λ e. e.0) (λ e. e.0) (λ e. e.0) y))
+        → P3 (roll-TypeOfAttribute N (map-TypeOfAttribute N T' V' R' A' _ _ _ _ (λ e. e.0) (λ e. e.0) (λ e. e.0)
+        (λ e. e.0) y))
     step_attribute y goods =
         let o : TypeOfAttribute-F N («Type» N) (TypeVariant N) (RecordType N) (TypeOfAttribute N) =
         record { ty = y.ty.0; annotations = y.annotations; required = y.required } in
@@ -399,7 +438,8 @@ module _ (t : Tests) (ns : Option InternalName) where
         }
       where
         field_is : (s : «Type» InternalName)
-            → referred_attribute (roll-TypeOfAttribute M (record { ty = s; annotations = y.annotations; required = y.required }))
+            → referred_attribute (roll-TypeOfAttribute M
+            (record { ty = s; annotations = y.annotations; required = y.required }))
             ≡ roll-TypeOfAttribute M (record { ty = referred s; annotations = y.annotations; required = y.required })
         field_is s = attribute_is M referred_layer referred_shape referred_fields referred_field
             (record { ty = s; annotations = y.annotations; required = y.required })

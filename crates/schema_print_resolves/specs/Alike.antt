@@ -1,6 +1,6 @@
--- Resolved fragments that say the same. What every schema has may be written out or be referred to as the common type of
--- its name in `__cedar`; an absent list of an action's parents is read as the empty one, and an action of the schema itself
--- that does not say what it applies to as one that applies to nothing.
+-- Resolved fragments that say the same. What every schema has may be written out or be referred to as the common type
+-- of its name in `__cedar`; an absent list of an action's parents is read as the empty one, and an action of the schema
+-- itself that does not say what it applies to as one that applies to nothing.
 use Rattle.std.specs.Prelude.{◌≡◌, Bool, true, false, ◌||◌, List, [], map, Option, Some, None, if◌then◌else◌}
 use Rattle.std.specs.List.{filter_map}
 use Rattle.std.specs.Option.{option_map}

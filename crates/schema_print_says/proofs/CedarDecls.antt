@@ -1,5 +1,6 @@
 -- What is written of a declaration, it says in the form that its text has.
-use Rattle.std.proofs.Common.{◌≡◌, ℕ, Bool, true, false, List, [], ◌∷◌, map, Option, Some, None, option_map, refl, sym, ap, ◌∙◌, subst}
+use Rattle.std.proofs.Common.{◌≡◌, ℕ, Bool, true, false, List, [], ◌∷◌, map, Option, Some, None, option_map, refl, sym}
+use Rattle.std.proofs.Common.{ap, ◌∙◌, subst}
 use Rattle.std.specs.BTreeMap.{is_at}
 use Rattle.std.specs.List.Sorted.{IsStrictlySortedBy}
 use Rattle.std.specs.Map.{lookup, keys_of}
@@ -23,15 +24,23 @@ use Rattle.schema_json.specs.declared.action_type.ActionType.{ActionType}
 use Rattle.schema_json.specs.declared.action_type.ApplySpec.{ApplySpec}
 use Rattle.schema_syntax_tree.specs.declared.pr.PR.TheVariants.{Principal, Resource}
 use Rattle.schema_convert_types.specs.Declarations.{as_written}
-use Rattle.schema_readback.specs.Written.{WrittenType, WrittenAttributes, path, set, rec, no_more, WrittenRef, WrittenMember, types, context_path, context_record, WrittenDecl, common, WrittenDeclared}
+use Rattle.schema_readback.specs.Written.{WrittenType, WrittenAttributes, path, set, rec, no_more, WrittenRef}
+use Rattle.schema_readback.specs.Written.{WrittenMember, types, context_path, context_record, WrittenDecl, common}
+use Rattle.schema_readback.specs.Written.{WrittenDeclared}
 use Rattle.schema_print_text.specs.PrintedTypes.{type_layer, variant_layer, record_layer, attribute_layer}
 use Rattle.schema_print.specs.PrintedFragments.{paths_of_names, parent_type, printed_parent, printed_parents}
-use Rattle.schema_print.specs.FragmentGroups.{ContextAs, TargetsAs, KindAs, EntityAs, CommonAs, SpecAs, AppliedAs, ActionAs}
+use Rattle.schema_print.specs.FragmentGroups.{ContextAs, TargetsAs, KindAs, EntityAs, CommonAs, SpecAs, AppliedAs}
+use Rattle.schema_print.specs.FragmentGroups.{ActionAs}
 use Rattle.schema_says.specs.TypesSay.{TypeSays}
-use Rattle.schema_says.specs.DeclarationsSay.{written_paths, TagsSay, KindSays, EntitySays, CommonIs, CommonSays, ContextSays, SpecSays, members_said, written_ref, ParentsSay, AppliesSay, ActionSays}
+use Rattle.schema_says.specs.DeclarationsSay.{written_paths, TagsSay, KindSays, EntitySays, CommonIs, CommonSays}
+use Rattle.schema_says.specs.DeclarationsSay.{ContextSays, SpecSays, members_said, written_ref, ParentsSay, AppliesSay}
+use Rattle.schema_says.specs.DeclarationsSay.{ActionSays}
 use Rattle.schema_says.specs.FragmentsSay.{entities_of_decl, actions_of_decl, commons_of_decl}
-use Rattle.schema_print_says.specs.CedarForm.{cedar_type, cedar_outside, cedar_context, cedar_common, cedar_kind, cedar_entity, cedar_parent, cedar_parents, cedar_spec, applied_to_none, cedar_applies, cedar_action}
-use Rattle.schema_print_says.specs.Plain.{components_written, IsPlainType, ArePlainTags, IsBareType, IsPlainKind, IsWrittenRecord, IsPlainOutside, AreTargets, AppliesPlainly}
+use Rattle.schema_print_says.specs.CedarForm.{cedar_type, cedar_outside, cedar_context, cedar_common, cedar_kind}
+use Rattle.schema_print_says.specs.CedarForm.{cedar_entity, cedar_parent, cedar_parents, cedar_spec, applied_to_none}
+use Rattle.schema_print_says.specs.CedarForm.{cedar_applies, cedar_action}
+use Rattle.schema_print_says.specs.Plain.{components_written, IsPlainType, ArePlainTags, IsBareType, IsPlainKind}
+use Rattle.schema_print_says.specs.Plain.{IsWrittenRecord, IsPlainOutside, AreTargets, AppliesPlainly}
 use Rattle.schema_print_says.proofs.CedarTypes.{printed, view, type_says, plain_says}
 use Rattle.schema_print_says.proofs.Folds.{Outer, type_made, name_bytes}
 

@@ -1,5 +1,7 @@
 -- What is written of a fragment, it says in the form that its text has.
-use Rattle.std.proofs.Common.{◌≡◌, ℕ, Bool, true, false, cond, ◌||◌, List, [], ◌∷◌, ◌++◌, map, Option, Some, None, filter_map, flat_map, refl, sym, ap, ◌∙◌, subst, append_assoc, append-nil, true≢false, if◌then◌else◌}
+use Rattle.std.proofs.Common.{◌≡◌, ℕ, Bool, true, false, cond, ◌||◌, List, [], ◌∷◌, ◌++◌, map, Option, Some, None}
+use Rattle.std.proofs.Common.{filter_map, flat_map, refl, sym, ap, ◌∙◌, subst, append_assoc, append-nil, true≢false}
+use Rattle.std.proofs.Common.{if◌then◌else◌}
 use Rattle.std.specs.BTreeMap.{is_at}
 use Rattle.std.specs.Cmp.{tied_itself}
 use Rattle.std.specs.List.{AllZip, AllByRecursion, cons_option}
@@ -22,18 +24,24 @@ use Rattle.schema_syntax_reader.specs.Leaves.{Notes}
 use Rattle.schema_readback.specs.Written.{WrittenDecl, WrittenDeclared, namespace, outside}
 use Rattle.schema_readback.specs.PrintedDecls.{Group, namespace_items, group_items}
 use Rattle.schema_print_text.specs.PrintedTypes.{printed_name}
-use Rattle.schema_print.specs.FragmentGroups.{written_name, EntityAs, CommonAs, ActionAs, AreItemsOf, IsGroupOf, AreGroupsOf}
+use Rattle.schema_print.specs.FragmentGroups.{written_name, EntityAs, CommonAs, ActionAs, AreItemsOf, IsGroupOf}
+use Rattle.schema_print.specs.FragmentGroups.{AreGroupsOf}
 use Rattle.schema_says.specs.DeclarationsSay.{EntitySays, CommonSays, ActionSays}
 use Rattle.schema_says.specs.Entries.{FoundSays}
-use Rattle.schema_says.specs.FragmentsSay.{entities_of_decl, actions_of_decl, commons_of_decl, by_names, NamespaceSays, NamespaceName, namespace_order, name_components, items_of_namespace, opened, FragmentSays}
+use Rattle.schema_says.specs.FragmentsSay.{entities_of_decl, actions_of_decl, commons_of_decl, by_names, NamespaceSays}
+use Rattle.schema_says.specs.FragmentsSay.{NamespaceName, namespace_order, name_components, items_of_namespace, opened}
+use Rattle.schema_says.specs.FragmentsSay.{FragmentSays}
 use Rattle.schema_says.proofs.Entered.{EntryOf, rising_say}
 use Rattle.schema_says.proofs.Fragments.{found_same}
 use Rattle.schema_says.proofs.Grouped.{outside_decls, outside_notes, filter_append, items_at}
 use Rattle.schema_says.proofs.Maps.{is_equal}
 use Rattle.schema_says.proofs.Orders.{namespace_total, namespace_exact}
-use Rattle.schema_print_says.specs.CedarForm.{cedar_common, cedar_entity, cedar_action, changed_values, cedar_namespace, is_some_list, declares, Block, cedar_block, cedar_form}
-use Rattle.schema_print_says.specs.Plain.{components_written, IsPlainType, IsPlainKind, AppliesPlainly, IsPlainNamespace, IsPlainFragment}
-use Rattle.schema_print_says.proofs.CedarDecls.{EntityEntry, entity_names, entity_says, CommonEntry, common_names, common_says, ActionEntry, action_names, action_says}
+use Rattle.schema_print_says.specs.CedarForm.{cedar_common, cedar_entity, cedar_action, changed_values, cedar_namespace}
+use Rattle.schema_print_says.specs.CedarForm.{is_some_list, declares, Block, cedar_block, cedar_form}
+use Rattle.schema_print_says.specs.Plain.{components_written, IsPlainType, IsPlainKind, AppliesPlainly}
+use Rattle.schema_print_says.specs.Plain.{IsPlainNamespace, IsPlainFragment}
+use Rattle.schema_print_says.proofs.CedarDecls.{EntityEntry, entity_names, entity_says, CommonEntry, common_names}
+use Rattle.schema_print_says.proofs.CedarDecls.{common_says, ActionEntry, action_names, action_says}
 use Rattle.schema_print_says.proofs.Folds.{name_bytes}
 
 -- declarations of one kind, beside their names

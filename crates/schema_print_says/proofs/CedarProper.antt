@@ -1,5 +1,6 @@
 -- What is written of a fragment whose text can say it may be printed.
-use Rattle.std.proofs.Common.{◌≡◌, ℕ, Bool, true, false, List, [], ◌∷◌, ◌++◌, map, Option, Some, None, option_map, refl, sym, ap, ◌∙◌, subst}
+use Rattle.std.proofs.Common.{◌≡◌, ℕ, Bool, true, false, List, [], ◌∷◌, ◌++◌, map, Option, Some, None, option_map, refl}
+use Rattle.std.proofs.Common.{sym, ap, ◌∙◌, subst}
 use Rattle.std.specs.List.{AllZip, AllByRecursion}
 use Rattle.cedar_identifiers.specs.Names.{components_of, texts_of}
 use Rattle.cedar_identifiers.specs.declared.eid.Eid.{Eid}
@@ -17,16 +18,25 @@ use Rattle.schema_json.specs.declared.action_type.ApplySpec.{ApplySpec}
 use Rattle.schema_json.specs.declared.fragment.Fragment.{Fragment}
 use Rattle.schema_convert_types.specs.Declarations.{as_written}
 use Rattle.schema_readback.specs.Printed.{IsProperPath, IsProperType, AreProperAttributes, AreProperNotes}
-use Rattle.schema_readback.specs.PrintedDecls.{IsSome, IsProperWord, IsProperOptional, IsProperRef, IsProperTags, IsProperMember, AreProperMembers, IsProperDecl, IsProperDeclared, Group, IsProperGroup}
-use Rattle.schema_readback.specs.Written.{WrittenType, WrittenAttributes, path, set, rec, no_more, attribute, WrittenMember, WrittenDecl, WrittenDeclared}
+use Rattle.schema_readback.specs.PrintedDecls.{IsSome, IsProperWord, IsProperOptional, IsProperRef, IsProperTags}
+use Rattle.schema_readback.specs.PrintedDecls.{IsProperMember, AreProperMembers, IsProperDecl, IsProperDeclared, Group}
+use Rattle.schema_readback.specs.PrintedDecls.{IsProperGroup}
+use Rattle.schema_readback.specs.Written.{WrittenType, WrittenAttributes, path, set, rec, no_more, attribute}
+use Rattle.schema_readback.specs.Written.{WrittenMember, WrittenDecl, WrittenDeclared}
 use Rattle.schema_print_text.specs.PrintedTypes.{PrintedAttribute, printed_name, printed_attribute}
 use Rattle.schema_print.specs.PrintedFragments.{paths_of_names, parent_type, printed_parent, printed_parents}
-use Rattle.schema_print.specs.FragmentGroups.{written_name, ContextAs, TargetsAs, KindAs, SpecAs, AppliedAs, AreItemsOf, IsGroupOf, AreGroupsOf}
+use Rattle.schema_print.specs.FragmentGroups.{written_name, ContextAs, TargetsAs, KindAs, SpecAs, AppliedAs, AreItemsOf}
+use Rattle.schema_print.specs.FragmentGroups.{IsGroupOf, AreGroupsOf}
 use Rattle.schema_print_says.specs.CedarForm.{Block}
-use Rattle.schema_print_says.specs.Plain.{components_written, IsRisingType, AreRisingAttributes, ArePlainTags, IsPlainKind, IsWrittenRecord, IsPlainOutside, AreTargets, AppliesPlainly, IsPlainNamespace, IsPlainFragment}
+use Rattle.schema_print_says.specs.Plain.{components_written, IsRisingType, AreRisingAttributes, ArePlainTags}
+use Rattle.schema_print_says.specs.Plain.{IsPlainKind, IsWrittenRecord, IsPlainOutside, AreTargets, AppliesPlainly}
+use Rattle.schema_print_says.specs.Plain.{IsPlainNamespace, IsPlainFragment}
 use Rattle.schema_print_says.proofs.CedarDecls.{common_printed}
 use Rattle.schema_print_says.proofs.CedarFragments.{CommonSo, EntitySo, ActionSo}
-use Rattle.schema_print_says.proofs.CedarTypes.{CedarView, reference, of_set, of_record, view, Entry, printed, entries_printed, PrintedAs, attribute_printed, path_is, set_is, record_attributes, IsNoRecord, no_path, no_set, no_record, no_none, alike}
+use Rattle.schema_print_says.proofs.CedarTypes.{CedarView, reference, of_set, of_record, view, Entry, printed}
+use Rattle.schema_print_says.proofs.CedarTypes.{entries_printed, PrintedAs, attribute_printed, path_is, set_is}
+use Rattle.schema_print_says.proofs.CedarTypes.{record_attributes, IsNoRecord, no_path, no_set, no_record, no_none}
+use Rattle.schema_print_says.proofs.CedarTypes.{alike}
 use Rattle.schema_print_says.proofs.Folds.{Outer, name_bytes}
 
 -- names are made of words

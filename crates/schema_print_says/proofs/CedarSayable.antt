@@ -1,5 +1,6 @@
 -- What is written of a fragment whose text can say it can be translated.
-use Rattle.std.proofs.Common.{◌≡◌, ℕ, Bool, true, false, cond, List, [], ◌∷◌, ◌++◌, map, flat_map, Option, Some, None, refl, sym, ap, ◌∙◌, subst, append-nil}
+use Rattle.std.proofs.Common.{◌≡◌, ℕ, Bool, true, false, cond, List, [], ◌∷◌, ◌++◌, map, flat_map, Option, Some, None}
+use Rattle.std.proofs.Common.{refl, sym, ap, ◌∙◌, subst, append-nil}
 use Rattle.std.specs.List.{AllZip, AllByRecursion}
 use Rattle.std.specs.List.Sorted.{IsStrictlySortedBy}
 use Rattle.std.specs.Ordering.{is_eq, ordering_reverse}
@@ -17,20 +18,28 @@ use Rattle.schema_json.specs.declared.fragment.Fragment.{Fragment}
 use Rattle.schema_syntax_tree.specs.declared.pr.PR.TheVariants.{Principal, Resource}
 use Rattle.schema_convert.specs.Repeats.{NoneRepeats}
 use Rattle.schema_convert_types.specs.Declarations.{as_written}
-use Rattle.schema_readback.specs.Written.{WrittenType, path, set, rec, WrittenRef, WrittenMember, types, context_path, context_record, WrittenDecl, WrittenDeclared, outside}
+use Rattle.schema_readback.specs.Written.{WrittenType, path, set, rec, WrittenRef, WrittenMember, types, context_path}
+use Rattle.schema_readback.specs.Written.{context_record, WrittenDecl, WrittenDeclared, outside}
 use Rattle.schema_readback.specs.PrintedDecls.{Group, namespace_items, group_items}
 use Rattle.schema_print.specs.PrintedFragments.{paths_of_names, printed_parents}
-use Rattle.schema_print.specs.FragmentGroups.{ContextAs, TargetsAs, KindAs, SpecAs, AppliedAs, AreItemsOf, IsGroupOf, AreGroupsOf}
-use Rattle.schema_says.specs.FragmentsSay.{entities_of_decl, actions_of_decl, commons_of_decl, NamespaceName, namespace_order, name_components, WrittenNamespace, items_of_namespace, opened}
-use Rattle.schema_says.specs.Sayable.{IsFreeNamespace, says_alike, HasLawfulMembers, AppliesWell, IsFreeCommonName, names_written, IsSayableNamespace, IsSayable}
+use Rattle.schema_print.specs.FragmentGroups.{ContextAs, TargetsAs, KindAs, SpecAs, AppliedAs, AreItemsOf, IsGroupOf}
+use Rattle.schema_print.specs.FragmentGroups.{AreGroupsOf}
+use Rattle.schema_says.specs.FragmentsSay.{entities_of_decl, actions_of_decl, commons_of_decl, NamespaceName}
+use Rattle.schema_says.specs.FragmentsSay.{namespace_order, name_components, WrittenNamespace, items_of_namespace}
+use Rattle.schema_says.specs.FragmentsSay.{opened}
+use Rattle.schema_says.specs.Sayable.{IsFreeNamespace, says_alike, HasLawfulMembers, AppliesWell, IsFreeCommonName}
+use Rattle.schema_says.specs.Sayable.{names_written, IsSayableNamespace, IsSayable}
 use Rattle.schema_says.proofs.Grouped.{outside_decls, filter_append}
 use Rattle.schema_says.proofs.Maps.{is_equal}
-use Rattle.schema_says.proofs.MeantSayable.{AreUnlike, unlike_once, same_text, names_append, flat_one, flat_none, all_with}
+use Rattle.schema_says.proofs.MeantSayable.{AreUnlike, unlike_once, same_text, names_append, flat_one, flat_none}
+use Rattle.schema_says.proofs.MeantSayable.{all_with}
 use Rattle.schema_says.proofs.Orders.{text_total, namespace_exact}
 use Rattle.schema_print_says.specs.CedarForm.{Block}
 use Rattle.schema_print_says.specs.Plain.{components_written, IsPlainNamespace, IsPlainFragment}
-use Rattle.schema_print_says.proofs.CedarDecls.{EntityEntry, CommonEntry, ActionEntry, entity_names, common_names, action_names}
-use Rattle.schema_print_says.proofs.CedarFragments.{CommonSo, EntitySo, ActionSo, is_block, group_at, none_written, name_is}
+use Rattle.schema_print_says.proofs.CedarDecls.{EntityEntry, CommonEntry, ActionEntry, entity_names, common_names}
+use Rattle.schema_print_says.proofs.CedarDecls.{action_names}
+use Rattle.schema_print_says.proofs.CedarFragments.{CommonSo, EntitySo, ActionSo, is_block, group_at, none_written}
+use Rattle.schema_print_says.proofs.CedarFragments.{name_is}
 use Rattle.schema_print_says.proofs.CedarTypes.{printed}
 
 -- names that rise do not repeat

@@ -1,5 +1,6 @@
 -- What is written of a type, the type says in the form that its text has.
-use Rattle.std.proofs.Common.{◌≡◌, ℕ, Bool, true, false, not, ◌&&◌, ◌||◌, List, [], ◌∷◌, map, Option, Some, refl, sym, ap, ◌∙◌, subst, cond, true≢false}
+use Rattle.std.proofs.Common.{◌≡◌, ℕ, Bool, true, false, not, ◌&&◌, ◌||◌, List, [], ◌∷◌, map, Option, Some, refl, sym}
+use Rattle.std.proofs.Common.{ap, ◌∙◌, subst, cond, true≢false}
 use Rattle.std.specs.BTreeMap.{is_at}
 use Rattle.std.specs.Cmp.{first_so, second_so}
 use Rattle.std.specs.List.{AllByRecursion}
@@ -21,14 +22,24 @@ use Rattle.schema_json.specs.declared.types.Type.{«Type», Type-F, out-Type, ro
 use Rattle.schema_json.specs.declared.types.Type.TheVariants as shape
 use Rattle.schema_json.specs.declared.types.TypeVariant.{TypeVariant, TypeVariant-F, out-TypeVariant, roll-TypeVariant}
 use Rattle.schema_json.specs.declared.types.TypeVariant.TheVariants as variant
-use Rattle.schema_json.specs.declared.types.RecordType.{RecordType, RecordType-F, out-RecordType, roll-RecordType, out-roll-RecordType, fold_out-RecordType}
-use Rattle.schema_json.specs.declared.types.TypeOfAttribute.{TypeOfAttribute, TypeOfAttribute-F, out-TypeOfAttribute, roll-TypeOfAttribute, out-roll-TypeOfAttribute, fold_out-TypeOfAttribute}
+use Rattle.schema_json.specs.declared.types.RecordType.{RecordType, RecordType-F, out-RecordType, roll-RecordType}
+use Rattle.schema_json.specs.declared.types.RecordType.{out-roll-RecordType, fold_out-RecordType}
+use Rattle.schema_json.specs.declared.types.TypeOfAttribute.{TypeOfAttribute, TypeOfAttribute-F, out-TypeOfAttribute}
+use Rattle.schema_json.specs.declared.types.TypeOfAttribute.{roll-TypeOfAttribute, out-roll-TypeOfAttribute}
+use Rattle.schema_json.specs.declared.types.TypeOfAttribute.{fold_out-TypeOfAttribute}
 use Rattle.schema_syntax_reader.specs.Leaves.{Notes}
 use Rattle.schema_readback.specs.Written.{WrittenType, WrittenAttributes, path, set, rec, no_more, attribute}
-use Rattle.schema_print_text.specs.PrintedTypes.{PrintedAttribute, printed_attributes, type_layer, variant_layer, record_layer, attribute_layer, printed_type, printed_variant, printed_record, printed_attribute, printed_entries}
+use Rattle.schema_print_text.specs.PrintedTypes.{PrintedAttribute, printed_attributes, type_layer, variant_layer}
+use Rattle.schema_print_text.specs.PrintedTypes.{record_layer, attribute_layer, printed_type, printed_variant}
+use Rattle.schema_print_text.specs.PrintedTypes.{printed_record, printed_attribute, printed_entries}
 use Rattle.schema_says.specs.TypesSay.{TypeSays, AttributeSays, ByTest, has_attribute, is_last_attribute}
-use Rattle.schema_print_says.specs.CedarForm.{builtin_name, bool_name, long_name, string_name, cedar_layer, cedar_variant_layer, cedar_type, cedar_variant, cedar_record, cedar_attribute}
-use Rattle.schema_print_says.specs.Plain.{components_written, all_hold, closed_layer, closed_variant_layer, closed_record_layer, closed_attribute_layer, is_closed_type, is_closed_variant, is_closed_record, is_closed_attribute, attribute_names, IsRisingType, AreRisingAttributes, IsPlainType}
+use Rattle.schema_print_says.specs.CedarForm.{builtin_name, bool_name, long_name, string_name, cedar_layer}
+use Rattle.schema_print_says.specs.CedarForm.{cedar_variant_layer, cedar_type, cedar_variant, cedar_record}
+use Rattle.schema_print_says.specs.CedarForm.{cedar_attribute}
+use Rattle.schema_print_says.specs.Plain.{components_written, all_hold, closed_layer, closed_variant_layer}
+use Rattle.schema_print_says.specs.Plain.{closed_record_layer, closed_attribute_layer, is_closed_type}
+use Rattle.schema_print_says.specs.Plain.{is_closed_variant, is_closed_record, is_closed_attribute, attribute_names}
+use Rattle.schema_print_says.specs.Plain.{IsRisingType, AreRisingAttributes, IsPlainType}
 use Rattle.schema_print_says.proofs.Folds.{Outer, Inner, inner_made, type_made, variant_made, name_bytes}
 
 abbrev pub Entry : Type 0

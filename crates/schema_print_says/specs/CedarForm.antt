@@ -1,6 +1,7 @@
 -- A fragment in the form that its text has: each reference in a type may mean either kind of type, and what each schema
 -- has is referred to by its `__cedar` name.
-use Rattle.std.specs.Prelude.{ℕ, Bool, true, false, List, [], ◌∷◌, ◌||◌, map, codes, Option, Some, None, refl, if◌then◌else◌}
+use Rattle.std.specs.Prelude.{ℕ, Bool, true, false, List, [], ◌∷◌, ◌||◌, map, codes, Option, Some, None, refl}
+use Rattle.std.specs.Prelude.{if◌then◌else◌}
 use Rattle.std.specs.List.{filter_map}
 use Rattle.std.specs.Option.{option_map}
 use Rattle.cedar_identifiers.specs.declared.id.Id.{Id}
@@ -12,7 +13,8 @@ use Rattle.schema_json.specs.declared.types.Type.{«Type», Type-F, roll-Type, o
 use Rattle.schema_json.specs.declared.types.Type.TheVariants.{CommonTypeRef}
 use Rattle.schema_json.specs.declared.types.TypeVariant.{TypeVariant, TypeVariant-F, roll-TypeVariant, fold-TypeVariant}
 use Rattle.schema_json.specs.declared.types.RecordType.{RecordType, roll-RecordType, fold-RecordType}
-use Rattle.schema_json.specs.declared.types.TypeOfAttribute.{TypeOfAttribute, roll-TypeOfAttribute, fold-TypeOfAttribute}
+use Rattle.schema_json.specs.declared.types.TypeOfAttribute.{TypeOfAttribute, roll-TypeOfAttribute}
+use Rattle.schema_json.specs.declared.types.TypeOfAttribute.{fold-TypeOfAttribute}
 use Rattle.schema_json.specs.declared.common_type.CommonType.{CommonType}
 use Rattle.schema_json.specs.declared.common_type.CommonTypeId.{CommonTypeId}
 use Rattle.schema_json.specs.declared.entity_type.EntityType.{EntityType}

@@ -25,7 +25,10 @@ use Rattle.schema_print_text.proofs.Quoted.{quoted_utf8}
 
 -- a text that is pushed adds its bytes
 pub adds_chars : (old new more : List ℕ) → IsUtf8 more → new ≡ old ++ chars more → Adds old new more
-adds_chars old new more u e = record { grown = ap encode_utf8_all e ∙ encodes-append old (chars more) ∙ ap (λ t. encode_utf8_all old ++ t) (encodes-chars more u) }
+adds_chars old new more u e = record {
+  grown = ap encode_utf8_all e ∙ encodes-append old (chars more)
+      ∙ ap (λ t. encode_utf8_all old ++ t) (encodes-chars more u);
+}
 
 -- the bytes of a name are its pieces laid out
 pub name_bytes : (cs : List (List ℕ))
@@ -34,7 +37,9 @@ unfolding lib.Utf8.encode
 name_bytes [] = refl
 name_bytes (c ∷ []) = sym (append-nil (encode_utf8_all c))
 name_bytes (c ∷ d ∷ cs) =
-    encodes-append c (codes "::" ++ joined_by (codes "::") (d ∷ cs)) ∙ ap (λ t. encode_utf8_all c ++ t) (encodes-append (codes "::") (joined_by (codes "::") (d ∷ cs)) ∙ ap (λ t. codes "::" ++ t) (name_bytes (d ∷ cs)))
+    encodes-append c (codes "::" ++ joined_by (codes "::") (d ∷ cs))
+    ∙ ap (λ t. encode_utf8_all c ++ t)
+    (encodes-append (codes "::") (joined_by (codes "::") (d ∷ cs)) ∙ ap (λ t. codes "::" ++ t) (name_bytes (d ∷ cs)))
 
 part_ascii : (b : ℕ) → is_word_part b ≡ true → b < 128
 part_ascii b h = grind (arith, nat_tests)
@@ -45,12 +50,14 @@ start_part b h = grind (arith, nat_tests)
 parts_ascii : (bs : List ℕ) → list_all is_word_part bs ≡ true → IsAscii bs
 parts_ascii [] h = IsAscii-nil
 parts_ascii (b ∷ bs) h =
-    IsAscii-cons b bs (part_ascii b (first_so (is_word_part b) (list_all is_word_part bs) h)) (parts_ascii bs (second_so (is_word_part b) (list_all is_word_part bs) h))
+    IsAscii-cons b bs (part_ascii b (first_so (is_word_part b) (list_all is_word_part bs) h))
+    (parts_ascii bs (second_so (is_word_part b) (list_all is_word_part bs) h))
 
 word_ascii : (w : List ℕ) → is_word w ≡ true → IsAscii w
 word_ascii [] h = IsAscii-nil
 word_ascii (b ∷ bs) h =
-    IsAscii-cons b bs (part_ascii b (start_part b (first_so (is_word_start b) (list_all is_word_part bs) h))) (parts_ascii bs (second_so (is_word_start b) (list_all is_word_part bs) h))
+    IsAscii-cons b bs (part_ascii b (start_part b (first_so (is_word_start b) (list_all is_word_part bs) h)))
+    (parts_ascii bs (second_so (is_word_start b) (list_all is_word_part bs) h))
 
 id_ascii : (w : List ℕ) → is_id w ≡ true → IsAscii w
 id_ascii w h = word_ascii w (first_so (is_word w) (not (is_reserved w)) h)
@@ -67,7 +74,8 @@ id_by_bytes w s =
       | inr h ↦
           elim (cases_Bool (is_id (encode_utf8_all w))) [
             | inl k ↦
-                let same : encode_utf8_all w ≡ w = sym (chars-IsAscii (encode_utf8_all w) (id_ascii (encode_utf8_all w) k)) ∙ chars-encodes w s in
+                let same : encode_utf8_all w ≡ w = sym
+                (chars-IsAscii (encode_utf8_all w) (id_ascii (encode_utf8_all w) k)) ∙ chars-encodes w s in
                 ap is_id same
             | inr k ↦ k ∙ sym h
           ]
@@ -89,14 +97,19 @@ name_added name cs e b j = so e (b ∙ ap encode_utf8_all j ∙ name_bytes cs)
 pub bare_added : {old new s : List ℕ} (name : List ℕ) → Adds old new s → s ≡ encode_utf8_all name → is_id name ≡ true
     → Adds old new (piece_text (name_piece name))
 bare_added name e b h =
-    let bare : name ≡ piece_text (name_piece name) = sym (ap (λ (t : Bool). piece_text (lexeme (if t then record { kind = word_kind name; text = name } else record { kind = StringLit; text = quoted name }))) h) in
+    let bare : name ≡ piece_text (name_piece name) = sym
+    (ap (λ (t : Bool). piece_text (lexeme
+    (if t then record { kind = word_kind name; text = name } else record { kind = StringLit; text = quoted name })))
+    h) in
     so e (b ∙ id_bytes name h ∙ bare)
 
 -- another, as a string
 pub quoted_added : {old new : List ℕ} (name : List ℕ) → Adds old new (quoted name) → is_id name ≡ false
     → Adds old new (piece_text (name_piece name))
 quoted_added name e h =
-    so e (sym (ap (λ (t : Bool). piece_text (lexeme (if t then record { kind = word_kind name; text = name } else record { kind = StringLit; text = quoted name }))) h))
+    so e (sym (ap (λ (t : Bool). piece_text
+    (lexeme (if t then record { kind = word_kind name; text = name } else record
+    { kind = StringLit; text = quoted name }))) h))
 
 -- one space, and those after it
 pub spaces_step : (n m : ℕ) → n ≡ m + 1 → spaces n ≡ codes " " ++ spaces m

@@ -29,7 +29,10 @@ begun a all = record { meets = refl }
 pub round : {initial a b x left next all : List ℕ} → Adds a b x → Leaves initial a left all → left ≡ x ++ next
     → Leaves initial b next all
 round {initial} {a} {b} {x} {left} {next} {all} e l f =
-    record { meets = ap (λ t. t ++ next) e.grown ∙ append_assoc (encode_utf8_all a) x next ∙ ap (λ t. encode_utf8_all a ++ t) (sym f) ∙ l.meets }
+    record {
+      meets = ap (λ t. t ++ next) e.grown ∙ append_assoc (encode_utf8_all a) x next
+          ∙ ap (λ t. encode_utf8_all a ++ t) (sym f) ∙ l.meets;
+    }
 
 -- and the end
 pub adds_all : {initial a left all : List ℕ} → Leaves initial a left all → left ≡ [] → Adds initial a all
@@ -38,4 +41,5 @@ adds_all {initial} {a} {left} {all} l e =
 
 pub laid_append : (ps qs : List Piece) → laid (ps ++ qs) ≡ laid ps ++ laid qs
 laid_append [] qs = refl
-laid_append (p ∷ ps) qs = ap (λ t. piece_text p ++ t) (laid_append ps qs) ∙ sym (append_assoc (piece_text p) (laid ps) (laid qs))
+laid_append (p ∷ ps) qs = ap (λ t. piece_text p ++ t) (laid_append ps qs)
+    ∙ sym (append_assoc (piece_text p) (laid ps) (laid qs))

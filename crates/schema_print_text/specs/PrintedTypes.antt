@@ -69,25 +69,30 @@ module _ {N : Type 0} (components : N → List (List ℕ)) where
   -- what is written of a type
   abbrev pub printed_type : «Type» N → WrittenType
   printed_type =
-      fold-Type N WrittenType WrittenType WrittenAttributes PrintedAttribute type_layer variant_layer record_layer attribute_layer
+      fold-Type N WrittenType WrittenType WrittenAttributes PrintedAttribute type_layer variant_layer record_layer
+      attribute_layer
 
   abbrev pub printed_variant : TypeVariant N → WrittenType
   printed_variant =
-      fold-TypeVariant N WrittenType WrittenType WrittenAttributes PrintedAttribute type_layer variant_layer record_layer attribute_layer
+      fold-TypeVariant N WrittenType WrittenType WrittenAttributes PrintedAttribute type_layer variant_layer
+      record_layer attribute_layer
 
   abbrev pub printed_record : RecordType N → WrittenAttributes
   printed_record =
-      fold-RecordType N WrittenType WrittenType WrittenAttributes PrintedAttribute type_layer variant_layer record_layer attribute_layer
+      fold-RecordType N WrittenType WrittenType WrittenAttributes PrintedAttribute type_layer variant_layer
+      record_layer attribute_layer
 
   abbrev pub printed_attribute : TypeOfAttribute N → PrintedAttribute
   printed_attribute =
-      fold-TypeOfAttribute N WrittenType WrittenType WrittenAttributes PrintedAttribute type_layer variant_layer record_layer attribute_layer
+      fold-TypeOfAttribute N WrittenType WrittenType WrittenAttributes PrintedAttribute type_layer variant_layer
+      record_layer attribute_layer
 
   -- the attributes of a record's entries
   abbrev pub printed_entries : List (List ℕ × TypeOfAttribute N) → WrittenAttributes
   printed_entries [] = no_more
   printed_entries (e ∷ es) =
-      attribute (printed_attribute e.1).notes e.0 (printed_attribute e.1).required (printed_attribute e.1).ty (printed_entries es)
+      attribute (printed_attribute e.1).notes e.0 (printed_attribute e.1).required (printed_attribute e.1).ty
+      (printed_entries es)
 
   -- the text of a type at an indentation, with a comma behind each member of a record
   abbrev pub printed_type_text : ℕ → «Type» N → List ℕ

@@ -1,5 +1,6 @@
 -- Pieces behind pieces.
-use Rattle.std.proofs.Common.{◌≡◌, ℕ, zero, suc, Bool, true, false, not, cond, List, [], ◌∷◌, ◌++◌, refl, sym, ap, ◌∙◌, subst, append_assoc, inl, ◌+◌, ◌||◌, arith}
+use Rattle.std.proofs.Common.{◌≡◌, ℕ, zero, suc, Bool, true, false, not, cond, List, [], ◌∷◌, ◌++◌, refl, sym, ap, ◌∙◌}
+use Rattle.std.proofs.Common.{subst, append_assoc, inl, ◌+◌, ◌||◌, arith}
 use Rattle.std.specs.Prelude.{codes}
 use Rattle.std.specs.Str.{bytes_eq}
 use Rattle.std.specs.List.{list_all}
@@ -9,17 +10,23 @@ use Rattle.cedar_identifiers.specs.Words.{is_reserved, is_id}
 use Rattle.cedar_data.specs.Words.{is_word_start, is_word_part}
 use Rattle.cedar_data.specs.Words as words
 use Rattle.schema_syntax_grammar.specs.declared.token_kind.TokenKind.{TokenKind}
-use Rattle.schema_syntax_grammar.specs.declared.token_kind.TokenKind.TheVariants.{KwNamespace, KwEntity, KwExternal, KwIn, KwType, KwSet, KwAppliesTo, KwPrincipal, KwAction, KwResource, KwContext, KwTags, KwEnum}
+use Rattle.schema_syntax_grammar.specs.declared.token_kind.TokenKind.TheVariants.{KwNamespace, KwEntity, KwExternal}
+use Rattle.schema_syntax_grammar.specs.declared.token_kind.TokenKind.TheVariants.{KwIn, KwType, KwSet, KwAppliesTo}
+use Rattle.schema_syntax_grammar.specs.declared.token_kind.TokenKind.TheVariants.{KwPrincipal, KwAction, KwResource}
+use Rattle.schema_syntax_grammar.specs.declared.token_kind.TokenKind.TheVariants.{KwContext, KwTags, KwEnum}
 use Rattle.schema_syntax_grammar.specs.Grammar.{is_ident}
 use Rattle.schema_syntax_grammar.specs.Grammar.{is_word_kind}
 use Rattle.schema_syntax_tokens.specs.Forms.{IsWord, word_kind}
-use Rattle.schema_syntax_tokens.specs.Laid.{Piece, gap, lexeme, piece_text, laid, lexemes_of, AreBlanks, none, blank, Edge, free, word, colon, edge_of, is_calm, Follow, done, by_gap, by_blanks, by_lexeme}
+use Rattle.schema_syntax_tokens.specs.Laid.{Piece, gap, lexeme, piece_text, laid, lexemes_of, AreBlanks, none, blank}
+use Rattle.schema_syntax_tokens.specs.Laid.{Edge, free, word, colon, edge_of, is_calm, Follow, done, by_gap, by_blanks}
+use Rattle.schema_syntax_tokens.specs.Laid.{by_lexeme}
 use Rattle.cedar_names.specs.CanonicalText.{spaces}
 use Rattle.schema_readback.specs.Printed as printed
 
 pub laid-append : (ps qs : List Piece) → laid (ps ++ qs) ≡ laid ps ++ laid qs
 laid-append [] qs = refl
-laid-append (p ∷ ps) qs = ap (λ t. piece_text p ++ t) (laid-append ps qs) ∙ sym (append_assoc (piece_text p) (laid ps) (laid qs))
+laid-append (p ∷ ps) qs = ap (λ t. piece_text p ++ t) (laid-append ps qs)
+    ∙ sym (append_assoc (piece_text p) (laid ps) (laid qs))
 
 pub lexemes-append : (ps qs : List Piece) → lexemes_of (ps ++ qs) ≡ lexemes_of ps ++ lexemes_of qs
 lexemes-append [] qs = refl
@@ -64,7 +71,11 @@ by_indent {e} {ps} n s =
 -- words
 is_word_so : (c : List ℕ) → words.is_word c ≡ true → IsWord c
 is_word_so [] h = cc
-is_word_so (b ∷ bs) h = (first_so (is_word_start b) (list_all is_word_part bs) h, AllPass-from_list_all is_word_part bs (second_so (is_word_start b) (list_all is_word_part bs) h))
+is_word_so (b ∷ bs) h = (
+  first_so (is_word_start b) (list_all is_word_part bs) h,
+  AllPass-from_list_all is_word_part
+      bs (second_so (is_word_start b) (list_all is_word_part bs) h),
+)
 
 at_kind : (P : TokenKind → Bool) (c : Bool) (x r k : TokenKind) → P x ≡ true → (r ≡ k → P k ≡ true) → cond c x r ≡ k
     → P k ≡ true
@@ -77,19 +88,37 @@ at_in false x r k n there e = there e
 
 ident_of_kind : (w : List ℕ) (k : TokenKind) → bytes_eq w (codes "in") ≡ false → word_kind w ≡ k → is_ident k ≡ true
 ident_of_kind w k n e =
-    at_kind is_ident (bytes_eq w (codes "namespace")) KwNamespace _ k refl (at_kind is_ident (bytes_eq w (codes "entity")) KwEntity _ k refl (at_kind is_ident (bytes_eq w (codes "external")) KwExternal _ k refl
-    (at_in (bytes_eq w (codes "in")) KwIn _ k n (at_kind is_ident (bytes_eq w (codes "type")) KwType _ k refl (at_kind is_ident (bytes_eq w (codes "Set")) KwSet _ k refl
-    (at_kind is_ident (bytes_eq w (codes "appliesTo")) KwAppliesTo _ k refl (at_kind is_ident (bytes_eq w (codes "principal")) KwPrincipal _ k refl (at_kind is_ident (bytes_eq w (codes "action")) KwAction _ k refl
-    (at_kind is_ident (bytes_eq w (codes "resource")) KwResource _ k refl (at_kind is_ident (bytes_eq w (codes "context")) KwContext _ k refl (at_kind is_ident (bytes_eq w (codes "tags")) KwTags _ k refl
-    (at_kind is_ident (bytes_eq w (codes "enum")) KwEnum _ k refl (λ f. subst (λ y. is_ident y ≡ true) f refl))))))))))))) e
+    at_kind is_ident (bytes_eq w (codes "namespace")) KwNamespace _ k refl
+    (at_kind is_ident (bytes_eq w (codes "entity")) KwEntity _ k refl
+    (at_kind is_ident (bytes_eq w (codes "external")) KwExternal _ k refl
+    (at_in (bytes_eq w (codes "in")) KwIn _ k n
+    (at_kind is_ident (bytes_eq w (codes "type")) KwType _ k refl
+    (at_kind is_ident (bytes_eq w (codes "Set")) KwSet _ k refl
+    (at_kind is_ident (bytes_eq w (codes "appliesTo")) KwAppliesTo _ k refl
+    (at_kind is_ident (bytes_eq w (codes "principal")) KwPrincipal _ k refl
+    (at_kind is_ident (bytes_eq w (codes "action")) KwAction _ k refl
+    (at_kind is_ident (bytes_eq w (codes "resource")) KwResource _ k refl
+    (at_kind is_ident (bytes_eq w (codes "context")) KwContext _ k refl
+    (at_kind is_ident (bytes_eq w (codes "tags")) KwTags _ k refl
+    (at_kind is_ident (bytes_eq w (codes "enum")) KwEnum _ k refl
+    (λ f. subst (λ y. is_ident y ≡ true) f refl))))))))))))) e
 
 word_of_kind : (w : List ℕ) (k : TokenKind) → word_kind w ≡ k → is_word_kind k ≡ true
 word_of_kind w k e =
-    at_kind is_word_kind (bytes_eq w (codes "namespace")) KwNamespace _ k refl (at_kind is_word_kind (bytes_eq w (codes "entity")) KwEntity _ k refl (at_kind is_word_kind (bytes_eq w (codes "external")) KwExternal _ k refl
-    (at_kind is_word_kind (bytes_eq w (codes "in")) KwIn _ k refl (at_kind is_word_kind (bytes_eq w (codes "type")) KwType _ k refl (at_kind is_word_kind (bytes_eq w (codes "Set")) KwSet _ k refl
-    (at_kind is_word_kind (bytes_eq w (codes "appliesTo")) KwAppliesTo _ k refl (at_kind is_word_kind (bytes_eq w (codes "principal")) KwPrincipal _ k refl (at_kind is_word_kind (bytes_eq w (codes "action")) KwAction _ k refl
-    (at_kind is_word_kind (bytes_eq w (codes "resource")) KwResource _ k refl (at_kind is_word_kind (bytes_eq w (codes "context")) KwContext _ k refl (at_kind is_word_kind (bytes_eq w (codes "tags")) KwTags _ k refl
-    (at_kind is_word_kind (bytes_eq w (codes "enum")) KwEnum _ k refl (λ f. subst (λ y. is_word_kind y ≡ true) f refl))))))))))))) e
+    at_kind is_word_kind (bytes_eq w (codes "namespace")) KwNamespace _ k refl
+    (at_kind is_word_kind (bytes_eq w (codes "entity")) KwEntity _ k refl
+    (at_kind is_word_kind (bytes_eq w (codes "external")) KwExternal _ k refl
+    (at_kind is_word_kind (bytes_eq w (codes "in")) KwIn _ k refl
+    (at_kind is_word_kind (bytes_eq w (codes "type")) KwType _ k refl
+    (at_kind is_word_kind (bytes_eq w (codes "Set")) KwSet _ k refl
+    (at_kind is_word_kind (bytes_eq w (codes "appliesTo")) KwAppliesTo _ k refl
+    (at_kind is_word_kind (bytes_eq w (codes "principal")) KwPrincipal _ k refl
+    (at_kind is_word_kind (bytes_eq w (codes "action")) KwAction _ k refl
+    (at_kind is_word_kind (bytes_eq w (codes "resource")) KwResource _ k refl
+    (at_kind is_word_kind (bytes_eq w (codes "context")) KwContext _ k refl
+    (at_kind is_word_kind (bytes_eq w (codes "tags")) KwTags _ k refl
+    (at_kind is_word_kind (bytes_eq w (codes "enum")) KwEnum _ k refl
+    (λ f. subst (λ y. is_word_kind y ≡ true) f refl))))))))))))) e
 
 pub word_kind_is : (c : List ℕ) → is_word_kind (word_kind c) ≡ true
 word_kind_is c = word_of_kind c (word_kind c) refl
@@ -107,14 +136,16 @@ no_in c h = or_first (bytes_eq c (codes "in")) _ h
 
 -- a word that may be a name has the kind of one
 pub ident_kind_of : (c : List ℕ) → is_id c ≡ true → is_ident (word_kind c) ≡ true
-ident_kind_of c h = ident_of_kind c (word_kind c) (no_in c (opposite (is_reserved c) (second_so (words.is_word c) (not (is_reserved c)) h))) refl
+ident_kind_of c h = ident_of_kind c (word_kind c)
+    (no_in c (opposite (is_reserved c) (second_so (words.is_word c) (not (is_reserved c)) h))) refl
 
 edge_of_word : (k : TokenKind) → is_word_kind k ≡ true → edge_of k ≡ word
 edge_of_word k h = rw h refl
 
 pub then_word : {ps : List Piece} (c : List ℕ) → words.is_word c ≡ true → Follow word ps
     → Follow free (printed.word c ∷ ps)
-then_word {ps} c h s = by_lexeme (inl (is_word_so c h, refl)) refl (subst (λ e. Follow e ps) (sym (edge_of_word (word_kind c) (word_of_kind c (word_kind c) refl))) s)
+then_word {ps} c h s = by_lexeme (inl (is_word_so c h, refl)) refl
+    (subst (λ e. Follow e ps) (sym (edge_of_word (word_kind c) (word_of_kind c (word_kind c) refl))) s)
 
 pub then_id : {ps : List Piece} (c : List ℕ) → is_id c ≡ true → Follow word ps → Follow free (printed.word c ∷ ps)
 then_id c h s = then_word c (first_so (words.is_word c) (not (is_reserved c)) h) s

@@ -9,7 +9,8 @@ use Rattle.cedar_names.specs.Meaning as m
 use Rattle.cedar_names.specs.CanonicalText.{spaces, attribute_name, comma_behind, type_text, lines_text}
 use Rattle.schema_syntax_tokens.specs.Laid.{gap, laid}
 use Rattle.schema_syntax_grammar.specs.declared.token_kind.TokenKind.TheVariants.{Greater, RBrace}
-use Rattle.schema_readback.specs.Printed.{mark, line_break, name_lexeme, path_pieces, comma_pieces, type_pieces, lines_pieces}
+use Rattle.schema_readback.specs.Printed.{mark, line_break, name_lexeme, path_pieces, comma_pieces, type_pieces}
+use Rattle.schema_readback.specs.Printed.{lines_pieces}
 use Rattle.schema_readback.specs.Meant.{type_of_meaning, attributes_of_meaning}
 use Rattle.schema_readback.proofs.Following.{laid-append}
 
@@ -36,14 +37,18 @@ module _ (closing : Bool) where
   line_laid : (base : ℕ) (t : PlainType) (xs : Attributes)
       → laid (type_pieces closing (base + 2) (type_of_meaning t)) ≡ type_text closing (base + 2) t
       → laid (lines_pieces closing base (attributes_of_meaning xs)) ≡ lines_text closing base xs
-      → laid (type_pieces closing (base + 2) (type_of_meaning t) ++ (comma_pieces closing (attributes_of_meaning xs) ++ line_break ∷ lines_pieces closing base (attributes_of_meaning xs)))
+      → laid (type_pieces closing (base + 2) (type_of_meaning t)
+      ++ (comma_pieces closing (attributes_of_meaning xs)
+      ++ line_break ∷ lines_pieces closing base (attributes_of_meaning xs)))
       ≡ type_text closing (base + 2) t ++ (comma_behind closing xs ++ (10 ∷ lines_text closing base xs))
   line_laid base t xs e f =
       let comma = comma_pieces closing (attributes_of_meaning xs) in
       let lines = lines_pieces closing base (attributes_of_meaning xs) in
       let type = type_pieces closing (base + 2) (type_of_meaning t) in
       laid-append type (comma ++ line_break ∷ lines) ∙ (ap (λ l. l ++ laid (comma ++ line_break ∷ lines)) e
-      ∙ ap (λ l. type_text closing (base + 2) t ++ l) (laid-append comma (line_break ∷ lines) ∙ (ap (λ l. l ++ (10 ∷ laid lines)) (comma_laid closing xs) ∙ ap (λ l. comma_behind closing xs ++ (10 ∷ l)) f)))
+      ∙ ap (λ l. type_text closing (base + 2) t ++ l)
+      (laid-append comma (line_break ∷ lines)
+      ∙ (ap (λ l. l ++ (10 ∷ laid lines)) (comma_laid closing xs) ∙ ap (λ l. comma_behind closing xs ++ (10 ∷ l)) f)))
 
   mutual
     pub type_laid : (base : ℕ) (t : PlainType)
@@ -52,10 +57,13 @@ module _ (closing : Bool) where
     type_laid base PlainType.Long = refl
     type_laid base PlainType.String = refl
     type_laid base (PlainType.Set t) =
-        ap (λ l. codes "Set<" ++ l) (laid-append (type_pieces closing base (type_of_meaning t)) (mark Greater (codes ">") ∷ []) ∙ ap (λ l. l ++ codes ">") (type_laid base t))
+        ap (λ l. codes "Set<" ++ l) (laid-append (type_pieces closing base (type_of_meaning t))
+        (mark Greater (codes ">") ∷ []) ∙ ap (λ l. l ++ codes ">") (type_laid base t))
     type_laid base (PlainType.Rec m.no_more) = refl
     type_laid base (PlainType.Rec (m.attribute n r t xs)) =
-        ap (λ l. 123 ∷ 10 ∷ l) (laid-append (lines_pieces closing base (attributes_of_meaning (m.attribute n r t xs))) (gap (spaces base) ∷ mark RBrace (codes "}") ∷ []) ∙ ap (λ l. l ++ (spaces base ++ codes "}")) (lines_laid base (m.attribute n r t xs)))
+        ap (λ l. 123 ∷ 10 ∷ l) (laid-append (lines_pieces closing base (attributes_of_meaning (m.attribute n r t xs)))
+        (gap (spaces base) ∷ mark RBrace (codes "}") ∷ [])
+        ∙ ap (λ l. l ++ (spaces base ++ codes "}")) (lines_laid base (m.attribute n r t xs)))
     type_laid base (PlainType.Entity name) = path_laid name
     type_laid base (PlainType.Ext name) = ap (λ l. codes "__cedar::" ++ l) (append-nil name)
 
@@ -63,8 +71,18 @@ module _ (closing : Bool) where
         → laid (lines_pieces closing base (attributes_of_meaning xs)) ≡ lines_text closing base xs
     lines_laid base m.no_more = refl
     lines_laid base (m.attribute n true t xs) =
-        ap (λ l. spaces (base + 2) ++ l) (ap (λ name. name ++ (codes ": " ++ laid (type_pieces closing (base + 2) (type_of_meaning t) ++ (comma_pieces closing (attributes_of_meaning xs) ++ line_break ∷ lines_pieces closing base (attributes_of_meaning xs))))) (name_laid n)
-        ∙ ap (λ l. attribute_name n ++ (codes ": " ++ l)) (line_laid base t xs (type_laid (base + 2) t) (lines_laid base xs)))
+        ap (λ l. spaces (base + 2) ++ l)
+        (ap (λ name. name ++ (codes ": "
+        ++ laid (type_pieces closing (base + 2) (type_of_meaning t)
+        ++ (comma_pieces closing (attributes_of_meaning xs)
+        ++ line_break ∷ lines_pieces closing base (attributes_of_meaning xs))))) (name_laid n)
+        ∙ ap (λ l. attribute_name n ++ (codes ": " ++ l))
+        (line_laid base t xs (type_laid (base + 2) t) (lines_laid base xs)))
     lines_laid base (m.attribute n false t xs) =
-        ap (λ l. spaces (base + 2) ++ l) (ap (λ name. name ++ (codes "?: " ++ laid (type_pieces closing (base + 2) (type_of_meaning t) ++ (comma_pieces closing (attributes_of_meaning xs) ++ line_break ∷ lines_pieces closing base (attributes_of_meaning xs))))) (name_laid n)
-        ∙ ap (λ l. attribute_name n ++ (codes "?: " ++ l)) (line_laid base t xs (type_laid (base + 2) t) (lines_laid base xs)))
+        ap (λ l. spaces (base + 2) ++ l)
+        (ap (λ name. name ++ (codes "?: "
+        ++ laid (type_pieces closing (base + 2) (type_of_meaning t)
+        ++ (comma_pieces closing (attributes_of_meaning xs)
+        ++ line_break ∷ lines_pieces closing base (attributes_of_meaning xs))))) (name_laid n)
+        ∙ ap (λ l. attribute_name n ++ (codes "?: " ++ l))
+        (line_laid base t xs (type_laid (base + 2) t) (lines_laid base xs)))

@@ -1,5 +1,6 @@
 -- Notes that are laid out spell themselves.
-use Rattle.std.proofs.Common.{◌≡◌, ◌≢◌, ℕ, false, cond, List, [], ◌∷◌, ◌++◌, map, Option, Some, None, refl, sym, ap, ◌∙◌, subst, inl, inr, Less, Greater}
+use Rattle.std.proofs.Common.{◌≡◌, ◌≢◌, ℕ, false, cond, List, [], ◌∷◌, ◌++◌, map, Option, Some, None, refl, sym, ap}
+use Rattle.std.proofs.Common.{◌∙◌, subst, inl, inr, Less, Greater}
 use Rattle.std.specs.Cmp.{IsTotalOrder, on_total}
 use Rattle.std.specs.List.{AllByRecursion}
 use Rattle.std.specs.List.Sorted.{IsStrictlySortedBy}
@@ -19,7 +20,8 @@ use Rattle.schema_syntax_tokens.specs.Forms.{IsForm}
 use Rattle.schema_syntax_tokens.specs.Quotes.{quoted, quoted_body}
 use Rattle.schema_syntax_tokens.specs.Laid.{Piece, lexemes_of, free, Follow, by_gap, by_blanks, by_lexeme}
 use Rattle.schema_syntax_reader.specs.Leaves.{Notes}
-use Rattle.schema_readback.specs.Notes.{Note, AreNotesOf, no_note, bare_note, valued_note, HaveOtherNotes, AreApart, SpellNotes}
+use Rattle.schema_readback.specs.Notes.{Note, AreNotesOf, no_note, bare_note, valued_note, HaveOtherNotes, AreApart}
+use Rattle.schema_readback.specs.Notes.{SpellNotes}
 use Rattle.schema_readback.specs.Printed.{notes_pieces, AreProperNotes}
 use Rattle.schema_readback.proofs.Following.{blank_spaces, one_line_end, then_word, word_kind_is}
 
@@ -50,7 +52,11 @@ other_keys n (m ∷ notes) h = (less_apart n.0.text m.0.text h.0, other_keys n n
 
 apart : (notes : Notes) → IsStrictlySortedBy text_cmp (keys notes) → AreApart (map note_of notes)
 apart [] h = tt
-apart (n ∷ notes) h = (other_keys n notes (sorted_head text_cmp n.0.text (keys notes) h), apart notes (sorted_tail text_cmp n.0.text (keys notes) h))
+apart (n ∷ notes) h = (
+  other_keys n notes (sorted_head text_cmp n.0.text (keys notes) h),
+  apart notes
+      (sorted_tail text_cmp n.0.text (keys notes) h),
+)
 
 abbrev IsFound : Notes → Note → Type 0
 IsFound notes n = lookup (λ key. bytes_eq key.text n.0) notes ≡ Some n.1
@@ -59,18 +65,24 @@ IsFound notes n = lookup (λ key. bytes_eq key.text n.0) notes ≡ Some n.1
 found_more : (n : NoteEntry) (notes : Notes) (ms : List Note) → HaveOtherNotes (note_of n) ms
     → AllByRecursion (IsFound notes) ms → AllByRecursion (IsFound (n ∷ notes)) ms
 found_more n notes [] h f = tt
-found_more n notes (m ∷ ms) h f =
-    (ap (λ t. cond t (Some n.1) (lookup (λ key. bytes_eq key.text m.0) notes)) (test_false n.0.text m.0 h.0) ∙ f.0, found_more n notes ms h.1 f.1)
+found_more n notes (m ∷ ms) h f = (
+  ap (λ t. cond t (Some n.1) (lookup (λ key. bytes_eq key.text m.0) notes)) (test_false n.0.text m.0 h.0)
+      ∙ f.0,
+  found_more n notes ms h.1 f.1,
+)
 
 found : (notes : Notes) → IsStrictlySortedBy text_cmp (keys notes)
     → AllByRecursion (IsFound notes) (map note_of notes)
 found [] h = tt
 found (n ∷ notes) h = (
-  ap (λ t. cond t (Some n.1) (lookup (λ key. bytes_eq key.text n.0.text) notes)) ((bytes_eq-Decides n.0.text n.0.text).1 refl),
-  found_more n notes (map note_of notes) (other_keys n notes (sorted_head text_cmp n.0.text (keys notes) h)) (found notes (sorted_tail text_cmp n.0.text (keys notes) h)),
+  ap (λ t. cond t (Some n.1) (lookup (λ key. bytes_eq key.text n.0.text) notes))
+      ((bytes_eq-Decides n.0.text n.0.text).1 refl),
+  found_more n notes (map note_of notes) (other_keys n notes (sorted_head text_cmp n.0.text (keys notes) h))
+      (found notes (sorted_tail text_cmp n.0.text (keys notes) h)),
 )
 
-module _ (string_form : (cs : List ℕ) → IsForm (quoted cs) StringLit) (stands_for : (cs : List ℕ) → Unescapes (quoted_body cs) cs) where
+module _ (string_form : (cs : List ℕ) → IsForm (quoted cs) StringLit)
+    (stands_for : (cs : List ℕ) → Unescapes (quoted_body cs) cs) where
   in_order : (base : ℕ) (notes : Notes) → AreNotesOf (lexemes_of (notes_pieces base notes)) (map note_of notes)
   in_order base [] = no_note
   in_order base (n ∷ notes) = by_value n.0 n.1 (in_order base notes)
@@ -79,7 +91,8 @@ module _ (string_form : (cs : List ℕ) → IsForm (quoted cs) StringLit) (stand
           → AreNotesOf (lexemes_of (notes_pieces base notes)) (map note_of notes)
           → AreNotesOf (lexemes_of (notes_pieces base ((key, value) ∷ notes))) ((key.text, value) ∷ map note_of notes)
       by_value key None r = bare_note refl (word_kind_is key.text) r
-      by_value key (Some v) r = valued_note (quoted_body v) refl (word_kind_is key.text) refl refl refl (stands_for v) refl r
+      by_value key (Some v) r = valued_note (quoted_body v) refl (word_kind_is key.text) refl refl refl
+          (stands_for v) refl r
 
   pub spell_notes : (base : ℕ) (notes : Notes) → AreProperNotes notes
       → SpellNotes (lexemes_of (notes_pieces base notes)) notes
@@ -87,7 +100,12 @@ module _ (string_form : (cs : List ℕ) → IsForm (quoted cs) StringLit) (stand
       record {
         written = map note_of notes;
         spell = in_order base notes;
-        arranged = record { sorted = h; as_many = sym (length-map notes note_of); each = found notes h; apart = apart notes h };
+        arranged = record {
+          sorted = h;
+          as_many = sym (length-map notes note_of);
+          each = found notes h;
+          apart = apart notes h;
+        };
       }
 
   pub follow_notes : {rest : List Piece} (base : ℕ) (notes : Notes) → Follow free rest
@@ -97,6 +115,9 @@ module _ (string_form : (cs : List ℕ) → IsForm (quoted cs) StringLit) (stand
     where
       by_value : (key : AnyId) (value : Option (List ℕ)) → Follow free (notes_pieces base notes ++ rest)
           → Follow free (notes_pieces base ((key, value) ∷ notes) ++ rest)
-      by_value key None r = by_blanks (blank_spaces base) (by_lexeme (inr (inl refl)) refl (then_word key.text key.word (by_gap one_line_end r)))
+      by_value key None r = by_blanks (blank_spaces base)
+          (by_lexeme (inr (inl refl)) refl (then_word key.text key.word (by_gap one_line_end r)))
       by_value key (Some v) r =
-          by_blanks (blank_spaces base) (by_lexeme (inr (inl refl)) refl (then_word key.text key.word (by_lexeme (inr (inl refl)) refl (by_lexeme (string_form v) refl (by_lexeme (inr (inl refl)) refl (by_gap one_line_end r))))))
+          by_blanks (blank_spaces base) (by_lexeme (inr (inl refl)) refl
+          (then_word key.text key.word (by_lexeme (inr (inl refl)) refl
+          (by_lexeme (string_form v) refl (by_lexeme (inr (inl refl)) refl (by_gap one_line_end r))))))

@@ -25,33 +25,47 @@ use Rattle.schema_readback.proofs.SaidDecls.{back_schema}
 faultless_at : (source : List ℕ) (front : List Site) (site : Site) (back : List Site)
     → All (IsFaultless source) (front ++ site ∷ back) → IsFaultless source site
 faultless_at source [] site back h = All-head (IsFaultless source) site back h
-faultless_at source (s ∷ front) site back h = faultless_at source front site back (All-tail (IsFaultless source) s (front ++ site ∷ back) h)
+faultless_at source (s ∷ front) site back h =
+    faultless_at source front site back (All-tail (IsFaultless source) s (front ++ site ∷ back) h)
 
 lawful_so : (source : List ℕ) (items : List ItemSyntax) → All (IsFaultless source) (sites_of items)
     → IsLawful source items
-lawful_so source items h fault end f = faultless_at source f.0 f.1 f.2 (subst (All (IsFaultless source)) f.3 h) fault end f.4
+lawful_so source items h fault end f =
+    faultless_at source f.0 f.1 f.2 (subst (All (IsFaultless source)) f.3 h) fault end f.4
 
 pub reads_back : ((body value : List ℕ) (at : ℕ) → Unescapes body value → BadEscape body at → ⊥)
     → (text : List ℕ) (u : List Lexeme) (w : List WrittenItem) → IsReadAs text u → SpellsSchema u w → ReadsBack text w
 reads_back never_both text u w a h =
     let r = read_schema text never_both h a.tokens a.spells in
-    record { tokens = a.tokens; scans = a.scans; items = r.syns; syntax = r.parsed; lawful = lawful_so text r.syns r.lawful; tree = r.nodes; is = r.are; says = r.says }
+    record {
+      tokens = a.tokens;
+      scans = a.scans;
+      items = r.syns;
+      syntax = r.parsed;
+      lawful = lawful_so text r.syns r.lawful;
+      tree = r.nodes;
+      is = r.are;
+      says = r.says;
+    }
 
 -- tokens at their places spell the lexemes there
 pub placed_spell : (text : List ℕ) (tokens : List Token) → All (IsPlaced text) tokens
     → Spells text tokens (lexemes_at text tokens)
 placed_spell text [] h = tt
-placed_spell text (t ∷ ts) h = ((refl, refl, (All-head (IsPlaced text) t ts h).form), placed_spell text ts (All-tail (IsPlaced text) t ts h))
+placed_spell text (t ∷ ts) h =
+    ((refl, refl, (All-head (IsPlaced text) t ts h).form), placed_spell text ts (All-tail (IsPlaced text) t ts h))
 
 faultless_all : (source : List ℕ) (items : List ItemSyntax) → IsLawful source items → (front rest : List Site)
     → sites_of items ≡ front ++ rest → All (IsFaultless source) rest
 faultless_all source items h front [] e = All-nil (IsFaultless source)
 faultless_all source items h front (s ∷ rest) e =
-    All-cons (IsFaultless source) s rest (λ fault end f. h fault end (front, s, rest, e, f)) (faultless_all source items h (front ++ s ∷ []) rest (e ∙ sym (append_assoc front (s ∷ []) rest)))
+    All-cons (IsFaultless source) s rest (λ fault end f. h fault end (front, s, rest, e, f))
+    (faultless_all source items h (front ++ s ∷ []) rest (e ∙ sym (append_assoc front (s ∷ []) rest)))
 
 -- where two texts have the same lexemes, the second has a lawful syntax and a tree that says the same
 pub same_lexemes : ((body value : List ℕ) (at : ℕ) → Unescapes body value → BadEscape body at → ⊥)
-    → (source other : List ℕ) (ts us : List Token) (u : List Lexeme) (items : List ItemSyntax) (tree : List (Annotated Namespace))
+    → (source other : List ℕ) (ts us : List Token) (u : List Lexeme) (items : List ItemSyntax)
+    (tree : List (Annotated Namespace))
     → Spells source ts u → Spells other us u → IsSyntax ts items → IsLawful source items
     → IsTreeOf source items tree → (w : List WrittenItem) × AllZip SaysItem tree w × ReadsSchema other us w
 same_lexemes never_both source other ts us u items tree s o h l is =

@@ -1,5 +1,6 @@
 -- Tokens that spell annotations are read as the notes that they make.
-use Rattle.std.proofs.Common.{◌≡◌, ℕ, suc, Bool, true, false, ◌&&◌, if◌then◌else◌, List, [], ◌∷◌, ◌++◌, Option, Some, None, length, refl, sym, ap, ◌∙◌, subst, inl, inr, ◌==◌}
+use Rattle.std.proofs.Common.{◌≡◌, ℕ, suc, Bool, true, false, ◌&&◌, if◌then◌else◌, List, [], ◌∷◌, ◌++◌, Option, Some}
+use Rattle.std.proofs.Common.{None, length, refl, sym, ap, ◌∙◌, subst, inl, inr, ◌==◌}
 use Rattle.std.specs.List.{All, AllZip, AllByRecursion, list_all}
 use Rattle.std.specs.Map.{lookup}
 use Rattle.std.specs.Str.{bytes_eq, chars}
@@ -24,7 +25,8 @@ use Rattle.schema_syntax_reader.specs.Leaves.{Notes, word_at, IsNoteValue, HasNo
 use Rattle.schema_syntax_reader.specs.Sites.{annotations}
 use Rattle.schema_syntax_reader.specs.UserFaults.{IsBadEscapeAt, note_escape, duplicate}
 use Rattle.schema_readback.specs.Reads.{IsFaultless, ReadsNotes}
-use Rattle.schema_readback.specs.Notes.{Note, AreNotesOf, no_note, bare_note, valued_note, HaveOtherNotes, AreApart, AreArranged}
+use Rattle.schema_readback.specs.Notes.{Note, AreNotesOf, no_note, bare_note, valued_note, HaveOtherNotes, AreApart}
+use Rattle.schema_readback.specs.Notes.{AreArranged}
 use Rattle.schema_readback.proofs.Words.{word_ascii}
 
 -- a lexeme of a word's kind is a word
@@ -38,8 +40,10 @@ mark_or false x r p q = q
 
 single_marks : (b : ℕ) → IsMark (single_mark b)
 single_marks b =
-    mark_or (b == 64) _ _ refl (mark_or (b == 44) _ _ refl (mark_or (b == 59) _ _ refl (mark_or (b == 58) _ _ refl (mark_or (b == 40) _ _ refl (mark_or (b == 41) _ _ refl
-    (mark_or (b == 123) _ _ refl (mark_or (b == 125) _ _ refl (mark_or (b == 91) _ _ refl (mark_or (b == 93) _ _ refl (mark_or (b == 60) _ _ refl (mark_or (b == 62) _ _ refl
+    mark_or (b == 64) _ _ refl (mark_or (b == 44) _ _ refl
+    (mark_or (b == 59) _ _ refl (mark_or (b == 58) _ _ refl (mark_or (b == 40) _ _ refl (mark_or (b == 41) _ _ refl
+    (mark_or (b == 123) _ _ refl (mark_or (b == 125) _ _ refl
+    (mark_or (b == 91) _ _ refl (mark_or (b == 93) _ _ refl (mark_or (b == 60) _ _ refl (mark_or (b == 62) _ _ refl
     (mark_or (b == 63) _ _ refl (mark_or (b == 61) _ _ refl tt)))))))))))))
 
 marks : (w : List ℕ) → IsMark (mark_kind w)
@@ -55,7 +59,8 @@ form_word w k (inr (inr s)) e = let f : false ≡ true = sym (ap is_word_kind s.
 
 pub word_test : (w : List ℕ) → IsWord w → words.is_word w ≡ true
 word_test [] h = absurd h
-word_test (b ∷ bs) h = and_from (is_word_start b) (list_all is_word_part bs) h.0 (list_all-from_AllPass is_word_part bs h.1)
+word_test (b ∷ bs) h = and_from (is_word_start b) (list_all is_word_part bs) h.0
+    (list_all-from_AllPass is_word_part bs h.1)
 
 -- what is true of each pair is true of one in the middle
 paired : {A B : Type 0} (R : A → B → Type 0) (front : List A) (x : A) (back : List A) (ys : List B)
@@ -68,7 +73,8 @@ paired R (a ∷ front) x back (y ∷ ys) z = paired R front x back ys z.1
 module _ (source : List ℕ) where
   pub key_here : (t : Token) (x : Lexeme) → IsSpelled source t x → is_word_kind x.kind ≡ true
       → word_at source t ≡ x.text
-  key_here t x s h = ap chars s.1 ∙ chars-IsAscii x.text (word_ascii x.text (word_test x.text (form_word x.text x.kind s.2 h)))
+  key_here t x s h = ap chars s.1
+      ∙ chars-IsAscii x.text (word_ascii x.text (word_test x.text (form_word x.text x.kind s.2 h)))
 
   abbrev IsNote : AnnotationSyntax → Note → Type 0
   IsNote a n = (word_at source a.key ≡ n.0) × IsNoteValue source a.value n.1
@@ -87,7 +93,11 @@ module _ (source : List ℕ) where
   listed (bare_note {k = x} ka kk h) (a ∷ k ∷ ts) s =
       let r = listed h ts s.1.1 in
       let first : AnnotationSyntax = record { key = k; value = None } in
-      record { syns = first ∷ r.syns; parsed = grammar.bare (s.0.0 ∙ ka) (ap is_word_kind s.1.0.0 ∙ kk) r.parsed; are = ((key_here k x s.1.0 kk, tt), r.are) }
+      record {
+        syns = first ∷ r.syns;
+        parsed = grammar.bare (s.0.0 ∙ ka) (ap is_word_kind s.1.0.0 ∙ kk) r.parsed;
+        are = ((key_here k x s.1.0 kk, tt), r.are);
+      }
   listed (valued_note body ka kk ko kv e u kc h) [] s = absurd s
   listed (valued_note body ka kk ko kv e u kc h) (a ∷ []) s = absurd s.1
   listed (valued_note body ka kk ko kv e u kc h) (a ∷ k ∷ []) s = absurd s.1.1
@@ -98,7 +108,8 @@ module _ (source : List ℕ) where
       let first : AnnotationSyntax = record { key = k; value = Some v } in
       record {
         syns = first ∷ r.syns;
-        parsed = grammar.valued (s.0.0 ∙ ka) (ap is_word_kind s.1.0.0 ∙ kk) (s.1.1.0.0 ∙ ko) (s.1.1.1.0.0 ∙ kv) (s.1.1.1.1.0.0 ∙ kc) r.parsed;
+        parsed = grammar.valued (s.0.0 ∙ ka) (ap is_word_kind s.1.0.0 ∙ kk) (s.1.1.0.0 ∙ ko) (s.1.1.1.0.0 ∙ kv)
+            (s.1.1.1.1.0.0 ∙ kc) r.parsed;
         are = ((key_here k x s.1.0 kk, (body, s.1.1.1.0.1 ∙ e, u)), r.are);
       }
 
@@ -116,10 +127,13 @@ module _ (source : List ℕ) where
   has_each notes [] (n ∷ ns) z h = absurd z
   has_each notes (a ∷ syns) [] z h = absurd z
   has_each notes (a ∷ syns) (n ∷ ns) z h =
-      All-cons (HasNote source notes) a syns (n.1, subst (λ w. lookup (λ key. bytes_eq key.text w) notes ≡ Some n.1) (sym z.0.0) h.0, z.0.1) (has_each notes syns ns z.1 h.1)
+      All-cons (HasNote source notes) a syns
+      (n.1, subst (λ w. lookup (λ key. bytes_eq key.text w) notes ≡ Some n.1) (sym z.0.0) h.0, z.0.1)
+      (has_each notes syns ns z.1 h.1)
 
   -- the second of two with one key
-  other_key : (n : Note) (middle : List AnnotationSyntax) (second : AnnotationSyntax) (back : List AnnotationSyntax) (written : List Note)
+  other_key : (n : Note) (middle : List AnnotationSyntax) (second : AnnotationSyntax) (back : List AnnotationSyntax)
+      (written : List Note)
       → AllZip IsNote (middle ++ second ∷ back) written → HaveOtherNotes n written → word_at source second.key ≡ n.0
       → ⊥
   other_key n [] second back [] z h e = absurd z
@@ -160,6 +174,11 @@ module _ (source : List ℕ) where
         record {
           syns = r.syns;
           parsed = r.parsed;
-          are = record { sorted = a.sorted; as_many = a.as_many ∙ as_many r.syns written r.are; each = has_each notes r.syns written r.are a.each };
+          are = record {
+            sorted = a.sorted;
+            as_many = a.as_many
+                ∙ as_many r.syns written r.are;
+            each = has_each notes r.syns written r.are a.each;
+          };
           lawful = faultless r.syns written r.are a.apart;
         }

@@ -1,5 +1,6 @@
 -- Annotations without a fault spell the notes that they make.
-use Rattle.std.proofs.Common.{◌≡◌, ℕ, suc, true, List, [], ◌∷◌, ◌++◌, Option, Some, None, length, refl, sym, ap, ◌∙◌, subst, append_assoc, inl, inr, ◌⊎◌}
+use Rattle.std.proofs.Common.{◌≡◌, ℕ, suc, true, List, [], ◌∷◌, ◌++◌, Option, Some, None, length, refl, sym, ap, ◌∙◌}
+use Rattle.std.proofs.Common.{subst, append_assoc, inl, inr, ◌⊎◌}
 use Rattle.std.specs.List.{All, AllZip, AllByRecursion}
 use Rattle.std.specs.Map.{lookup}
 use Rattle.std.specs.Str.{bytes_eq}
@@ -18,7 +19,8 @@ use Rattle.schema_syntax_reader.specs.Leaves.{Notes, word_at, IsNoteValue, HasNo
 use Rattle.schema_syntax_reader.specs.Sites.{annotations}
 use Rattle.schema_syntax_reader.specs.UserFaults.{IsOtherKey, duplicate}
 use Rattle.schema_readback.specs.Reads.{IsFaultless}
-use Rattle.schema_readback.specs.Notes.{Note, AreNotesOf, no_note, bare_note, valued_note, HaveOtherNotes, AreApart, SpellNotes}
+use Rattle.schema_readback.specs.Notes.{Note, AreNotesOf, no_note, bare_note, valued_note, HaveOtherNotes, AreApart}
+use Rattle.schema_readback.specs.Notes.{SpellNotes}
 use Rattle.schema_readback.proofs.ReadingNotes.{key_here, form_word, word_test}
 
 module _ (source : List ℕ) where
@@ -79,7 +81,8 @@ module _ (source : List ℕ) where
   gathered notes (grammar.bare {a = a} {k = k} {xs = syns} ka kk r) h (x ∷ y ∷ u) s =
       let first : AnnotationSyntax = record { key = k; value = None } in
       let n = All-head (HasNote source notes) first syns h in
-      bare_gathered notes a k x y u syns n.0 n.1 n.2 s.1.0 (sym s.0.0 ∙ ka) kk (gathered notes r (All-tail (HasNote source notes) first syns h) u s.1.1)
+      bare_gathered notes a k x y u syns n.0 n.1 n.2 s.1.0 (sym s.0.0 ∙ ka) kk
+      (gathered notes r (All-tail (HasNote source notes) first syns h) u s.1.1)
   gathered notes (grammar.valued ka kk ko kv kc r) h [] s = absurd s
   gathered notes (grammar.valued ka kk ko kv kc r) h (x ∷ []) s = absurd s.1
   gathered notes (grammar.valued ka kk ko kv kc r) h (x ∷ y ∷ []) s = absurd s.1.1
@@ -88,7 +91,9 @@ module _ (source : List ℕ) where
   gathered notes (grammar.valued {k = k} {v = v} {xs = syns} ka kk ko kv kc r) h (x ∷ y ∷ o ∷ z ∷ c ∷ u) s =
       let first : AnnotationSyntax = record { key = k; value = Some v } in
       let n = All-head (HasNote source notes) first syns h in
-      valued_gathered notes k v x y o z c u syns n.0 n.1 n.2 s.1.0 s.1.1.1.0 (sym s.0.0 ∙ ka) kk (sym s.1.1.0.0 ∙ ko) (sym s.1.1.1.0.0 ∙ kv) (sym s.1.1.1.1.0.0 ∙ kc) (gathered notes r (All-tail (HasNote source notes) first syns h) u s.1.1.1.1.1)
+      valued_gathered notes k v x y o z c u syns n.0 n.1 n.2 s.1.0 s.1.1.1.0 (sym s.0.0 ∙ ka) kk (sym s.1.1.0.0 ∙ ko)
+      (sym s.1.1.1.0.0 ∙ kv) (sym s.1.1.1.1.0.0 ∙ kc)
+      (gathered notes r (All-tail (HasNote source notes) first syns h) u s.1.1.1.1.1)
 
   -- the first annotation with a key, where there is one
   record Found (key : List ℕ) (xs : List AnnotationSyntax) : Type 0 where
@@ -103,14 +108,29 @@ module _ (source : List ℕ) where
   search_key key [] = inl (All-nil (IsOtherKey source key))
   search_key key (x ∷ xs) =
       elim (cases_Bool (bytes_eq (word_at source x.key) key)) [
-        | inl e ↦ inr (record { middle = []; second = x; back = xs; whole = refl; same = (bytes_eq-Decides (word_at source x.key) key).0 e; others = All-nil (IsOtherKey source key) })
-        | inr n ↦ further (λ e. false≢true (sym n ∙ (bytes_eq-Decides (word_at source x.key) key).1 e)) (search_key key xs)
+        | inl e ↦ inr (record {
+          middle = [];
+          second = x;
+          back = xs;
+          whole = refl;
+          same = (bytes_eq-Decides (word_at source x.key) key).0 e;
+          others = All-nil (IsOtherKey source key);
+        })
+        | inr n ↦ further (λ e. false≢true (sym n ∙ (bytes_eq-Decides (word_at source x.key) key).1 e))
+            (search_key key xs)
       ]
     where
       further : IsOtherKey source key x → All (IsOtherKey source key) xs ⊎ Found key xs
           → All (IsOtherKey source key) (x ∷ xs) ⊎ Found key (x ∷ xs)
       further h (inl a) = inl (All-cons (IsOtherKey source key) x xs h a)
-      further h (inr f) = inr (record { middle = x ∷ f.middle; second = f.second; back = f.back; whole = ap (λ l. x ∷ l) f.whole; same = f.same; others = All-cons (IsOtherKey source key) x f.middle h f.others })
+      further h (inr f) = inr (record {
+        middle = x ∷ f.middle;
+        second = f.second;
+        back = f.back;
+        whole = ap (λ l. x ∷ l) f.whole;
+        same = f.same;
+        others = All-cons (IsOtherKey source key) x f.middle h f.others;
+      })
 
   -- the key of this one is another than those of the rest
   abbrev Differs : List AnnotationSyntax → AnnotationSyntax → Type 0
@@ -127,12 +147,17 @@ module _ (source : List ℕ) where
       → Clear front (a ∷ rest) → All (IsOtherKey source (word_at source a.key)) front
   turned [] a rest h = All-nil (IsOtherKey source (word_at source a.key))
   turned (b ∷ front) a rest h =
-      All-cons (IsOtherKey source (word_at source a.key)) b front (λ e. All-head (IsOtherKey source (word_at source b.key)) a rest (All-head (Differs (a ∷ rest)) b front h) (sym e)) (turned front a rest (All-tail (Differs (a ∷ rest)) b front h))
+      All-cons (IsOtherKey source (word_at source a.key)) b front
+      (λ e. All-head (IsOtherKey source (word_at source b.key)) a rest (All-head (Differs (a ∷ rest)) b front h)
+      (sym e)) (turned front a rest (All-tail (Differs (a ∷ rest)) b front h))
 
   shorter : (front : List AnnotationSyntax) (a : AnnotationSyntax) (rest : List AnnotationSyntax)
       → Clear front (a ∷ rest) → Clear front rest
   shorter [] a rest h = All-nil (Differs rest)
-  shorter (b ∷ front) a rest h = All-cons (Differs rest) b front (All-tail (IsOtherKey source (word_at source b.key)) a rest (All-head (Differs (a ∷ rest)) b front h)) (shorter front a rest (All-tail (Differs (a ∷ rest)) b front h))
+  shorter (b ∷ front) a rest h =
+      All-cons (Differs rest) b front
+      (All-tail (IsOtherKey source (word_at source b.key)) a rest (All-head (Differs (a ∷ rest)) b front h))
+      (shorter front a rest (All-tail (Differs (a ∷ rest)) b front h))
 
   -- all keys are apart
   abbrev KeysApart : List AnnotationSyntax → Type 0
@@ -145,7 +170,12 @@ module _ (source : List ℕ) where
       → All (IsOtherKey source (word_at source a.key)) rest
   apart_at all front a rest e f w h (inl o) = o
   apart_at all front a rest e f w h (inr d) =
-      absurd (f _ _ (duplicate front d.middle d.back a d.second (record { text = word_at source a.key; word = All-head (λ b. words.is_word (word_at source b.key) ≡ true) a rest w }) (e ∙ ap (λ l. front ++ a ∷ l) d.whole) refl d.same (turned front a rest h) d.others))
+      absurd (f _ _ (duplicate front d.middle d.back a d.second
+      (record {
+        text = word_at source a.key;
+        word = All-head (λ b. words.is_word (word_at source b.key) ≡ true) a rest w;
+      })
+      (e ∙ ap (λ l. front ++ a ∷ l) d.whole) refl d.same (turned front a rest h) d.others))
 
   keys_apart : (all front rest : List AnnotationSyntax) → all ≡ front ++ rest → IsFaultless source (annotations all)
       → AreWords rest → Clear front rest → KeysApart rest
@@ -153,15 +183,18 @@ module _ (source : List ℕ) where
   keys_apart all front (a ∷ rest) e f w h =
       let here = apart_at all front a rest e f w h (search_key (word_at source a.key) rest) in (
         here,
-        keys_apart all (front ++ a ∷ []) rest (e ∙ sym (append_assoc front (a ∷ []) rest)) f (All-tail (λ b. words.is_word (word_at source b.key) ≡ true) a rest w)
-            (All-append (Differs rest) front (a ∷ []) (shorter front a rest h) (All-cons (Differs rest) a [] here (All-nil (Differs rest)))),
+        keys_apart all (front ++ a ∷ []) rest (e ∙ sym (append_assoc front (a ∷ []) rest)) f
+            (All-tail (λ b. words.is_word (word_at source b.key) ≡ true) a rest w)
+            (All-append (Differs rest) front (a ∷ []) (shorter front a rest h)
+            (All-cons (Differs rest) a [] here (All-nil (Differs rest)))),
       )
 
   all_words : (syns : List AnnotationSyntax) (written : List Note) → AllZip Is syns written → AreWords syns
   all_words [] [] z = All-nil (λ b. words.is_word (word_at source b.key) ≡ true)
   all_words [] (n ∷ ns) z = absurd z
   all_words (a ∷ syns) [] z = absurd z
-  all_words (a ∷ syns) (n ∷ ns) z = All-cons (λ b. words.is_word (word_at source b.key) ≡ true) a syns z.0.1 (all_words syns ns z.1)
+  all_words (a ∷ syns) (n ∷ ns) z =
+      All-cons (λ b. words.is_word (word_at source b.key) ≡ true) a syns z.0.1 (all_words syns ns z.1)
 
   other_notes : (n : Note) (a : AnnotationSyntax) → word_at source a.key ≡ n.0
       → (syns : List AnnotationSyntax) (written : List Note) → AllZip Is syns written
@@ -169,8 +202,11 @@ module _ (source : List ℕ) where
   other_notes n a e [] [] z h = tt
   other_notes n a e [] (m ∷ ms) z h = absurd z
   other_notes n a e (b ∷ syns) [] z h = absurd z
-  other_notes n a e (b ∷ syns) (m ∷ ms) z h =
-      (λ same. All-head (IsOtherKey source (word_at source a.key)) b syns h (z.0.0 ∙ (sym same ∙ sym e)), other_notes n a e syns ms z.1 (All-tail (IsOtherKey source (word_at source a.key)) b syns h))
+  other_notes n a e (b ∷ syns) (m ∷ ms) z h = (
+    λ same. All-head (IsOtherKey source (word_at source a.key)) b syns h (z.0.0 ∙ (sym same ∙ sym e)),
+    other_notes
+        n a e syns ms z.1 (All-tail (IsOtherKey source (word_at source a.key)) b syns h),
+  )
 
   notes_apart : (syns : List AnnotationSyntax) (written : List Note) → AllZip Is syns written → KeysApart syns
       → AreApart written
@@ -192,4 +228,14 @@ module _ (source : List ℕ) where
   back_notes ts syns notes u h are f s =
       let g = gathered notes h are.each u s in
       let apart = keys_apart syns [] syns refl f (all_words syns g.written g.are) (All-nil (Differs syns)) in
-      record { written = g.written; spell = g.spell; arranged = record { sorted = are.sorted; as_many = are.as_many ∙ as_many syns g.written g.are; each = g.each; apart = notes_apart syns g.written g.are apart } }
+      record {
+        written = g.written;
+        spell = g.spell;
+        arranged = record {
+          sorted = are.sorted;
+          as_many = are.as_many
+              ∙ as_many syns g.written g.are;
+          each = g.each;
+          apart = notes_apart syns g.written g.are apart;
+        };
+      }

@@ -4,24 +4,30 @@ use Rattle.std.specs.List.{flat_map}
 use Rattle.cedar_data.specs.Span.{Span}
 use Rattle.schema_syntax_parser.specs.declared.syntax.PathSyntax.{PathSyntax}
 use Rattle.schema_syntax_parser.specs.declared.syntax.TypeSyntax.{TypeSyntax}
-use Rattle.schema_syntax_parser.specs.declared.syntax.TypeSyntax.TheVariants.{Path, Set, Record, rolls-Path, rolls-Set, rolls-Record}
+use Rattle.schema_syntax_parser.specs.declared.syntax.TypeSyntax.TheVariants.{Path, Set, Record, rolls-Path, rolls-Set}
+use Rattle.schema_syntax_parser.specs.declared.syntax.TypeSyntax.TheVariants.{rolls-Record}
 use Rattle.schema_syntax_parser.specs.declared.syntax.TypeSyntax.TheOpen.{TypeSyntax-F, AttrSyntax-F}
 use Rattle.schema_syntax_parser.specs.declared.syntax.TypeSyntax.TheFolds.{fold-roll-TypeSyntax, fold-roll-AttrSyntax}
 use Rattle.schema_syntax_parser.specs.declared.syntax.AttrSyntax.{AttrSyntax, roll-AttrSyntax}
-use Rattle.schema_syntax_reader.specs.Sites.{Site, annotations, name_sites, path_sites, type_sites, attr_sites, sites_of_type, sites_of_attr, sites_of_attrs}
+use Rattle.schema_syntax_reader.specs.Sites.{Site, annotations, name_sites, path_sites, type_sites, attr_sites}
+use Rattle.schema_syntax_reader.specs.Sites.{sites_of_type, sites_of_attr, sites_of_attrs}
 
 flat_joined : {A B : Type 0} (f : A → List B) (xs : List A) → flat_map (λ s. s) (map f xs) ≡ flat_map f xs
 flat_joined f [] = refl
 flat_joined f (x ∷ xs) = ap (λ ys. f x ++ ys) (flat_joined f xs)
 
 pub of_path : (p : PathSyntax) → sites_of_type (Path p) ≡ path_sites p
-of_path p = ap sites_of_type (sym (rolls-Path p)) ∙ fold-roll-TypeSyntax (List Site) (List Site) type_sites attr_sites (TypeSyntax-F.Path p)
+of_path p = ap sites_of_type (sym (rolls-Path p))
+    ∙ fold-roll-TypeSyntax (List Site) (List Site) type_sites attr_sites (TypeSyntax-F.Path p)
 
 pub of_set : (t : TypeSyntax) (loc : Span) → sites_of_type (Set t loc) ≡ sites_of_type t
-of_set t loc = ap sites_of_type (sym (rolls-Set t loc)) ∙ fold-roll-TypeSyntax (List Site) (List Site) type_sites attr_sites (TypeSyntax-F.Set t loc)
+of_set t loc = ap sites_of_type (sym (rolls-Set t loc))
+    ∙ fold-roll-TypeSyntax (List Site) (List Site) type_sites attr_sites (TypeSyntax-F.Set t loc)
 
 pub of_record : (xs : List AttrSyntax) (loc : Span) → sites_of_type (Record xs loc) ≡ sites_of_attrs xs
-of_record xs loc = ap sites_of_type (sym (rolls-Record xs loc)) ∙ fold-roll-TypeSyntax (List Site) (List Site) type_sites attr_sites (TypeSyntax-F.Record xs loc) ∙ flat_joined sites_of_attr xs
+of_record xs loc = ap sites_of_type (sym (rolls-Record xs loc))
+    ∙ fold-roll-TypeSyntax (List Site) (List Site) type_sites attr_sites (TypeSyntax-F.Record xs loc)
+    ∙ flat_joined sites_of_attr xs
 
 pub of_attr : (a : AttrSyntax-F TypeSyntax AttrSyntax)
     → sites_of_attr (roll-AttrSyntax a) ≡ annotations a.annotations ∷ (name_sites a.name ++ sites_of_type a.ty)

@@ -16,7 +16,13 @@ module _ (source : List ℕ) where
   split (x ∷ u) v [] s = absurd s
   split (x ∷ u) v (t ∷ ts) s =
       let r = split u v ts s.1 in
-      record { left = t ∷ r.left; right = r.right; whole = ap (λ l. t ∷ l) r.whole; first = (s.0, r.first); second = r.second }
+      record {
+        left = t ∷ r.left;
+        right = r.right;
+        whole = ap (λ l. t ∷ l) r.whole;
+        first = (s.0, r.first);
+        second = r.second;
+      }
 
   -- two parts with a token between them
   pub record Between (ts : List Token) (u : List Lexeme) (c : Lexeme) (v : List Lexeme) : Type 0 where
@@ -30,11 +36,20 @@ module _ (source : List ℕ) where
 
   pub between : (u v : List Lexeme) (c : Lexeme) (ts : List Token) → Spells source ts (u ++ c ∷ v) → Between ts u c v
   between [] v c [] s = absurd s
-  between [] v c (t ∷ ts) s = record { left = []; token = t; right = ts; whole = refl; first = tt; is = s.0; second = s.1 }
+  between [] v c (t ∷ ts) s = record
+      { left = []; token = t; right = ts; whole = refl; first = tt; is = s.0; second = s.1 }
   between (x ∷ u) v c [] s = absurd s
   between (x ∷ u) v c (t ∷ ts) s =
       let r = between u v c ts s.1 in
-      record { left = t ∷ r.left; token = r.token; right = r.right; whole = ap (λ l. t ∷ l) r.whole; first = (s.0, r.first); is = r.is; second = r.second }
+      record {
+        left = t ∷ r.left;
+        token = r.token;
+        right = r.right;
+        whole = ap (λ l. t ∷ l) r.whole;
+        first = (s.0, r.first);
+        is = r.is;
+        second = r.second;
+      }
 
   pub nothing : (ts : List Token) → Spells source ts [] → ts ≡ []
   nothing [] s = refl
@@ -51,7 +66,14 @@ module _ (source : List ℕ) where
   pub closed : (u : List Lexeme) (c : Lexeme) (ts : List Token) → Spells source ts (u ++ c ∷ []) → Closed ts u c
   closed u c ts s =
       let r = between u [] c ts s in
-      record { left = r.left; token = r.token; whole = r.whole ∙ ap (λ l. r.left ++ r.token ∷ l) (nothing r.right r.second); first = r.first; is = r.is }
+      record {
+        left = r.left;
+        token = r.token;
+        whole = r.whole
+            ∙ ap (λ l. r.left ++ r.token ∷ l) (nothing r.right r.second);
+        first = r.first;
+        is = r.is;
+      }
 
   -- one token alone
   pub record Alone (ts : List Token) (x : Lexeme) : Type 0 where
@@ -89,7 +111,13 @@ module _ (source : List ℕ) where
   unsplit (t ∷ us) vs [] s = absurd s
   unsplit (t ∷ us) vs (x ∷ xs) s =
       let r = unsplit us vs xs s.1 in
-      record { left = x ∷ r.left; right = r.right; whole = ap (λ l. x ∷ l) r.whole; first = (s.0, r.first); second = r.second }
+      record {
+        left = x ∷ r.left;
+        right = r.right;
+        whole = ap (λ l. x ∷ l) r.whole;
+        first = (s.0, r.first);
+        second = r.second;
+      }
 
   pub record Unbetween (us : List Token) (c : Token) (vs : List Token) (xs : List Lexeme) : Type 0 where
     pub left : List Lexeme
@@ -103,11 +131,20 @@ module _ (source : List ℕ) where
   pub unbetween : (us : List Token) (c : Token) (vs : List Token) (xs : List Lexeme) → Spells source (us ++ c ∷ vs) xs
       → Unbetween us c vs xs
   unbetween [] c vs [] s = absurd s
-  unbetween [] c vs (x ∷ xs) s = record { left = []; lexeme = x; right = xs; whole = refl; first = tt; is = s.0; second = s.1 }
+  unbetween [] c vs (x ∷ xs) s =
+      record { left = []; lexeme = x; right = xs; whole = refl; first = tt; is = s.0; second = s.1 }
   unbetween (t ∷ us) c vs [] s = absurd s
   unbetween (t ∷ us) c vs (x ∷ xs) s =
       let r = unbetween us c vs xs s.1 in
-      record { left = x ∷ r.left; lexeme = r.lexeme; right = r.right; whole = ap (λ l. x ∷ l) r.whole; first = (s.0, r.first); is = r.is; second = r.second }
+      record {
+        left = x ∷ r.left;
+        lexeme = r.lexeme;
+        right = r.right;
+        whole = ap (λ l. x ∷ l) r.whole;
+        first = (s.0, r.first);
+        is = r.is;
+        second = r.second;
+      }
 
   pub no_lexeme : (xs : List Lexeme) → Spells source [] xs → xs ≡ []
   no_lexeme [] s = refl
@@ -123,4 +160,11 @@ module _ (source : List ℕ) where
   pub unclosed : (us : List Token) (c : Token) (xs : List Lexeme) → Spells source (us ++ c ∷ []) xs → Unclosed us c xs
   unclosed us c xs s =
       let r = unbetween us c [] xs s in
-      record { left = r.left; lexeme = r.lexeme; whole = r.whole ∙ ap (λ l. r.left ++ r.lexeme ∷ l) (no_lexeme r.right r.second); first = r.first; is = r.is }
+      record {
+        left = r.left;
+        lexeme = r.lexeme;
+        whole = r.whole
+            ∙ ap (λ l. r.left ++ r.lexeme ∷ l) (no_lexeme r.right r.second);
+        first = r.first;
+        is = r.is;
+      }

@@ -1,5 +1,6 @@
 -- Lawful words and strings: what stands there, and that it has no fault.
-use Rattle.std.proofs.Common.{◌≡◌, ℕ, ◌<◌, Bool, true, false, not, List, [], ◌∷◌, ◌++◌, Some, slice_range, refl, sym, ap, ◌∙◌, subst, arith}
+use Rattle.std.proofs.Common.{◌≡◌, ℕ, ◌<◌, Bool, true, false, not, List, [], ◌∷◌, ◌++◌, Some, slice_range, refl, sym}
+use Rattle.std.proofs.Common.{ap, ◌∙◌, subst, arith}
 use Rattle.std.specs.List.{list_all, All}
 use Rattle.std.specs.Str.{IsAscii, chars}
 use Rattle.std.specs.Cmp.{first_so, second_so}
@@ -11,7 +12,11 @@ use Rattle.std.proofs.lemmas.List.Elements.{All-nil, All-cons}
 use Rattle.cedar_identifiers.specs.Words.{is_reserved, is_id}
 use Rattle.cedar_data.specs.Words.{is_word_start, is_word_part, is_word}
 use Rattle.schema_syntax_grammar.specs.declared.token_kind.TokenKind.{TokenKind}
-use Rattle.schema_syntax_grammar.specs.declared.token_kind.TokenKind.TheVariants.{KwNamespace, KwEntity, KwExternal, KwType, KwSet, KwAppliesTo, KwPrincipal, KwAction, KwResource, KwContext, KwTags, KwEnum, Identifier, StringLit}
+use Rattle.schema_syntax_grammar.specs.declared.token_kind.TokenKind.TheVariants.{KwNamespace, KwEntity, KwExternal}
+use Rattle.schema_syntax_grammar.specs.declared.token_kind.TokenKind.TheVariants.{KwType, KwSet, KwAppliesTo}
+use Rattle.schema_syntax_grammar.specs.declared.token_kind.TokenKind.TheVariants.{KwPrincipal, KwAction, KwResource}
+use Rattle.schema_syntax_grammar.specs.declared.token_kind.TokenKind.TheVariants.{KwContext, KwTags, KwEnum, Identifier}
+use Rattle.schema_syntax_grammar.specs.declared.token_kind.TokenKind.TheVariants.{StringLit}
 use Rattle.schema_syntax_grammar.specs.Grammar.{is_ident}
 use Rattle.schema_syntax_grammar.specs.Grammar.{is_name_kind}
 use Rattle.schema_syntax_tokens.specs.declared.token.Token.{Token}
@@ -33,12 +38,14 @@ start_part b h = grind (arith, nat_tests)
 
 parts_ascii : (bs : List ℕ) → list_all is_word_part bs ≡ true → IsAscii bs
 parts_ascii [] h = IsAscii-nil
-parts_ascii (b ∷ bs) h = IsAscii-cons b bs (part_ascii b (first_so (is_word_part b) (list_all is_word_part bs) h)) (parts_ascii bs (second_so (is_word_part b) (list_all is_word_part bs) h))
+parts_ascii (b ∷ bs) h = IsAscii-cons b bs (part_ascii b (first_so (is_word_part b) (list_all is_word_part bs) h))
+    (parts_ascii bs (second_so (is_word_part b) (list_all is_word_part bs) h))
 
 pub word_ascii : (w : List ℕ) → is_word w ≡ true → IsAscii w
 word_ascii [] h = IsAscii-nil
 word_ascii (b ∷ bs) h =
-    IsAscii-cons b bs (part_ascii b (start_part b (first_so (is_word_start b) (list_all is_word_part bs) h))) (parts_ascii bs (second_so (is_word_start b) (list_all is_word_part bs) h))
+    IsAscii-cons b bs (part_ascii b (start_part b (first_so (is_word_start b) (list_all is_word_part bs) h)))
+    (parts_ascii bs (second_so (is_word_start b) (list_all is_word_part bs) h))
 
 not_reserved : (w : List ℕ) → is_id w ≡ true → is_reserved w ≡ false
 not_reserved w h = opposite (is_reserved w) (second_so (is_word w) (not (is_reserved w)) h)
@@ -74,7 +81,8 @@ nothing_in x back (y ∷ front) e = cc
 module _ (source : List ℕ) where
   -- the bytes of a word are its characters
   pub word_here : (t : Token) (x : Lexeme) → IsSpelled source t x → is_id x.text ≡ true → x.text ≡ word_at source t
-  word_here t x s h = sym (ap (λ w. chars w) s.1 ∙ chars-IsAscii x.text (word_ascii x.text (first_so (is_word x.text) (not (is_reserved x.text)) h)))
+  word_here t x s h = sym (ap (λ w. chars w) s.1
+      ∙ chars-IsAscii x.text (word_ascii x.text (first_so (is_word x.text) (not (is_reserved x.text)) h)))
 
   no_word_fault : (t : Token) → is_reserved (word_at source t) ≡ false → IsFaultless source (word t)
   no_word_fault t h fault end (reserved u e) = cc
@@ -86,11 +94,15 @@ module _ (source : List ℕ) where
       → All (IsFaultless source) (name_sites t)
   ident_site t x s i =
       subst (λ z. All (IsFaultless source) (z ∷ [])) (sym (site_word t.kind (ident_kind t x s i) t))
-      (All-cons (IsFaultless source) (word t) [] (no_word_fault t (ap is_reserved (sym (word_here t x s i.id)) ∙ not_reserved x.text i.id)) (All-nil (IsFaultless source)))
+      (All-cons (IsFaultless source) (word t) []
+      (no_word_fault t (ap is_reserved (sym (word_here t x s i.id)) ∙ not_reserved x.text i.id))
+      (All-nil (IsFaultless source)))
 
   pub no_notes_fault : IsFaultless source (annotations [])
-  no_notes_fault fault end (note_escape front back key t at e h) = nothing_in (record { key = key; value = Some t }) back front e
-  no_notes_fault fault end (duplicate front middle back first second key e h g o p) = nothing_in first (middle ++ second ∷ back) front e
+  no_notes_fault fault end (note_escape front back key t at e h) =
+      nothing_in (record { key = key; value = Some t }) back front e
+  no_notes_fault fault end (duplicate front middle back first second key e h g o p) =
+      nothing_in first (middle ++ second ∷ back) front e
 
   as_word : (k : TokenKind) (t : Token) (n : List ℕ) → is_ident k ≡ true → n ≡ word_at source t
       → IsNameOf source k t n
@@ -121,7 +133,8 @@ module _ (source : List ℕ) where
     name_site t x n s (spelled.bare i) = ident_site t x s i
     name_site t x n s (spelled.quoted body k e u) =
         subst (λ k. All (IsFaultless source) (site_of_kind k t ∷ [])) (sym (s.0 ∙ k))
-        (All-cons (IsFaultless source) (text t) [] (no_string_fault t body n (s.1 ∙ e) u) (All-nil (IsFaultless source)))
+        (All-cons (IsFaultless source) (text t) [] (no_string_fault t body n (s.1 ∙ e) u)
+        (All-nil (IsFaultless source)))
 
     pub string_site : (t : Token) (x : Lexeme) (body value : List ℕ) → IsSpelled source t x → x.kind ≡ StringLit
         → x.text ≡ 34 ∷ (body ++ 34 ∷ []) → Unescapes body value → All (IsFaultless source) (name_sites t)

@@ -5,7 +5,9 @@ use Rattle.cedar_names.specs.Meaning as m
 use Rattle.cedar_names.specs.CanonicalText.{basename, namespace, namespaces}
 use Rattle.cedar_names.specs.Definitions.{same_name}
 use Rattle.schema_syntax_tree.specs.declared.pr.PR.TheVariants.{Principal, Resource}
-use Rattle.schema_readback.specs.Written.{WrittenType, WrittenAttributes, path, set, rec, no_more, attribute, WrittenRef, WrittenMember, types, context_record, WrittenDecl, entity, enum, external_entity, action, external_action, WrittenDeclared}
+use Rattle.schema_readback.specs.Written.{WrittenType, WrittenAttributes, path, set, rec, no_more, attribute}
+use Rattle.schema_readback.specs.Written.{WrittenRef, WrittenMember, types, context_record, WrittenDecl, entity, enum}
+use Rattle.schema_readback.specs.Written.{external_entity, action, external_action, WrittenDeclared}
 use Rattle.schema_readback.specs.PrintedDecls.{Group}
 
 abbrev pub under_cedar : List ℕ → WrittenType
@@ -33,7 +35,8 @@ tags_of_meaning (Some t) = Some (type_of_meaning t)
 abbrev pub entity_as : Bool → Option (List (List ℕ)) → EntityMeaning → WrittenDecl
 entity_as true choices e = external_entity (basename e.name ∷ []) e.ancestors
 entity_as false (Some choices) e = enum (basename e.name ∷ []) choices
-entity_as false None e = entity (basename e.name ∷ []) e.ancestors (attributes_of_meaning e.attributes) (tags_of_meaning e.tags)
+entity_as false None e = entity (basename e.name ∷ []) e.ancestors (attributes_of_meaning e.attributes)
+    (tags_of_meaning e.tags)
 
 abbrev pub ref_of_meaning : List (List ℕ) × List ℕ → WrittenRef
 ref_of_meaning a = record { ty = Some a.0; id = a.1 }
@@ -41,11 +44,13 @@ ref_of_meaning a = record { ty = Some a.0; id = a.1 }
 abbrev pub members_of_meaning : List (List (List ℕ)) → List (List (List ℕ)) → Attributes → Option (List WrittenMember)
 members_of_meaning [] resources context = None
 members_of_meaning (p ∷ ps) [] context = None
-members_of_meaning (p ∷ ps) (r ∷ rs) context = Some (types Principal (p ∷ ps) ∷ types Resource (r ∷ rs) ∷ context_record (attributes_of_meaning context) ∷ [])
+members_of_meaning (p ∷ ps) (r ∷ rs) context =
+    Some (types Principal (p ∷ ps) ∷ types Resource (r ∷ rs) ∷ context_record (attributes_of_meaning context) ∷ [])
 
 abbrev pub action_as : Bool → ActionMeaning → WrittenDecl
 action_as true a = external_action (a.id ∷ []) (map ref_of_meaning a.ancestors)
-action_as false a = action (a.id ∷ []) (map ref_of_meaning a.ancestors) (members_of_meaning a.principals a.resources a.context)
+action_as false a = action (a.id ∷ []) (map ref_of_meaning a.ancestors)
+    (members_of_meaning a.principals a.resources a.context)
 
 abbrev pub entity_of_meaning : EntityMeaning → WrittenDeclared
 entity_of_meaning e = record { notes = []; decl = entity_as e.is_external e.choices e }
@@ -55,7 +60,8 @@ action_of_meaning a = record { notes = []; decl = action_as a.is_external a }
 
 -- the items of a namespace, the entity types first
 abbrev pub items_of_meaning : SchemaMeaning → List (List ℕ) → List WrittenDeclared
-items_of_meaning m n = map entity_of_meaning (filter (λ e. same_name n (namespace e.name)) m.entities) ++ map action_of_meaning (filter (λ a. same_name n (namespace a.ty)) m.actions)
+items_of_meaning m n = map entity_of_meaning (filter (λ e. same_name n (namespace e.name)) m.entities)
+    ++ map action_of_meaning (filter (λ a. same_name n (namespace a.ty)) m.actions)
 
 abbrev pub name_or_none : List (List ℕ) → Option (List (List ℕ))
 name_or_none [] = None

@@ -1,11 +1,14 @@
 -- How what is written is laid out. The layout says whether a comma stands behind the last member of a record.
-use Rattle.std.specs.Prelude.{◌≡◌, ℕ, ◌+◌, Bool, true, false, List, [], ◌∷◌, ◌++◌, codes, if◌then◌else◌, Option, Some, None, map}
+use Rattle.std.specs.Prelude.{◌≡◌, ℕ, ◌+◌, Bool, true, false, List, [], ◌∷◌, ◌++◌, codes, if◌then◌else◌, Option, Some}
+use Rattle.std.specs.Prelude.{None, map}
 use Rattle.std.specs.List.Sorted.{IsStrictlySortedBy}
 use Rattle.cedar_data.specs.Text.{text_cmp}
 use Rattle.schema_syntax_reader.specs.Leaves.{Notes}
 use Rattle.cedar_identifiers.specs.Words.{is_id}
 use Rattle.schema_syntax_grammar.specs.declared.token_kind.TokenKind.{TokenKind}
-use Rattle.schema_syntax_grammar.specs.declared.token_kind.TokenKind.TheVariants.{StringLit, At, LParen, RParen, Comma, Colon, PathSep, LBrace, RBrace, Less, Greater, Question}
+use Rattle.schema_syntax_grammar.specs.declared.token_kind.TokenKind.TheVariants.{StringLit, At, LParen, RParen, Comma}
+use Rattle.schema_syntax_grammar.specs.declared.token_kind.TokenKind.TheVariants.{Colon, PathSep, LBrace, RBrace, Less}
+use Rattle.schema_syntax_grammar.specs.declared.token_kind.TokenKind.TheVariants.{Greater, Question}
 use Rattle.schema_syntax_tokens.specs.Forms.{word_kind}
 use Rattle.schema_syntax_tokens.specs.Quotes.{quoted}
 use Rattle.schema_syntax_tokens.specs.Laid.{Lexeme, Piece, gap, lexeme}
@@ -29,7 +32,8 @@ line_break = gap (codes "\n")
 
 -- bare where it may be, and else a string
 abbrev pub name_lexeme : List ℕ → Lexeme
-name_lexeme n = if is_id n then record { kind = word_kind n; text = n } else record { kind = StringLit; text = quoted n }
+name_lexeme n = if is_id n then record { kind = word_kind n; text = n } else record
+    { kind = StringLit; text = quoted n }
 
 abbrev pub name_piece : List ℕ → Piece
 name_piece n = lexeme (name_lexeme n)
@@ -42,7 +46,8 @@ value_pieces (Some value) = mark LParen (codes "(") ∷ string value ∷ mark RP
 -- each of the notes on a line of its own
 abbrev pub notes_pieces : ℕ → Notes → List Piece
 notes_pieces base [] = []
-notes_pieces base (n ∷ ns) = gap (spaces base) ∷ mark At (codes "@") ∷ word n.0.text ∷ (value_pieces n.1 ++ line_break ∷ notes_pieces base ns)
+notes_pieces base (n ∷ ns) = gap (spaces base) ∷ mark At (codes "@") ∷ word n.0.text
+    ∷ (value_pieces n.1 ++ line_break ∷ notes_pieces base ns)
 
 abbrev pub path_pieces : List (List ℕ) → List Piece
 path_pieces [] = []
@@ -67,13 +72,18 @@ abbrev mutual
   -- a type laid out at an indentation
   pub type_pieces : Bool → ℕ → WrittenType → List Piece
   type_pieces closing base (path p) = path_pieces p
-  type_pieces closing base (set t) = word (codes "Set") ∷ mark Less (codes "<") ∷ (type_pieces closing base t ++ mark Greater (codes ">") ∷ [])
-  type_pieces closing base (rec xs) = mark LBrace (codes "{") ∷ (break_pieces xs ++ (lines_pieces closing base xs ++ gap (spaces base) ∷ mark RBrace (codes "}") ∷ []))
+  type_pieces closing base (set t) =
+      word (codes "Set") ∷ mark Less (codes "<") ∷ (type_pieces closing base t ++ mark Greater (codes ">") ∷ [])
+  type_pieces closing base (rec xs) =
+      mark LBrace (codes "{") ∷ (break_pieces xs
+      ++ (lines_pieces closing base xs ++ gap (spaces base) ∷ mark RBrace (codes "}") ∷ []))
 
   pub lines_pieces : Bool → ℕ → WrittenAttributes → List Piece
   lines_pieces closing base no_more = []
   lines_pieces closing base (attribute ns n r t xs) =
-      notes_pieces (base + 2) ns ++ gap (spaces (base + 2)) ∷ name_piece n ∷ (mark_pieces r ++ mark Colon (codes ":") ∷ space ∷ (type_pieces closing (base + 2) t ++ (comma_pieces closing xs ++ line_break ∷ lines_pieces closing base xs)))
+      notes_pieces (base + 2) ns ++ gap (spaces (base + 2)) ∷ name_piece n
+      ∷ (mark_pieces r ++ mark Colon (codes ":") ∷ space
+      ∷ (type_pieces closing (base + 2) t ++ (comma_pieces closing xs ++ line_break ∷ lines_pieces closing base xs)))
 
 -- names with at least one component, each of which may be one
 abbrev pub IsProperPath : List (List ℕ) → Type 0

@@ -4,13 +4,18 @@ use Rattle.std.specs.List.{AllByRecursion}
 use Rattle.std.specs.Prelude.{map}
 use Rattle.cedar_identifiers.specs.Words.{is_id}
 use Rattle.cedar_names.specs.CanonicalText.{spaces}
-use Rattle.schema_syntax_grammar.specs.declared.token_kind.TokenKind.TheVariants.{Comma, Semi, Colon, PathSep, LBrace, RBrace, LBracket, RBracket, Equals}
+use Rattle.schema_syntax_grammar.specs.declared.token_kind.TokenKind.TheVariants.{Comma, Semi, Colon, PathSep, LBrace}
+use Rattle.schema_syntax_grammar.specs.declared.token_kind.TokenKind.TheVariants.{RBrace, LBracket, RBracket, Equals}
 use Rattle.schema_syntax_tokens.specs.Laid.{Piece, gap}
 use Rattle.schema_syntax_tree.specs.declared.pr.PR.{PR}
 use Rattle.schema_syntax_tree.specs.declared.pr.PR.TheVariants.{Principal, Resource}
-use Rattle.schema_readback.specs.Written.{WrittenType, WrittenAttributes, rec, no_more, attribute, WrittenRef, WrittenMember, types, context_path, context_record, WrittenDecl, entity, enum, external_entity, action, external_action, common, WrittenDeclared, WrittenItem, namespace, outside}
+use Rattle.schema_readback.specs.Written.{WrittenType, WrittenAttributes, rec, no_more, attribute, WrittenRef}
+use Rattle.schema_readback.specs.Written.{WrittenMember, types, context_path, context_record, WrittenDecl, entity, enum}
+use Rattle.schema_readback.specs.Written.{external_entity, action, external_action, common, WrittenDeclared}
+use Rattle.schema_readback.specs.Written.{WrittenItem, namespace, outside}
 use Rattle.schema_syntax_reader.specs.Leaves.{Notes}
-use Rattle.schema_readback.specs.Printed.{word, mark, string, space, line_break, notes_pieces, path_pieces, type_pieces, IsProperPath, AreProperNotes, IsProperType, AreProperAttributes}
+use Rattle.schema_readback.specs.Printed.{word, mark, string, space, line_break, notes_pieces, path_pieces, type_pieces}
+use Rattle.schema_readback.specs.Printed.{IsProperPath, AreProperNotes, IsProperType, AreProperAttributes}
 
 -- with a comma and a space between two
 abbrev pub list_pieces : {A : Type 0} → (A → List Piece) → List A → List Piece
@@ -42,7 +47,8 @@ ref_pieces r = typed_pieces r.ty r.id
 
 abbrev pub shape_pieces : Bool → ℕ → WrittenAttributes → List Piece
 shape_pieces closing base no_more = []
-shape_pieces closing base (attribute ns n r t xs) = space ∷ mark Equals (codes "=") ∷ space ∷ type_pieces closing base (rec (attribute ns n r t xs))
+shape_pieces closing base (attribute ns n r t xs) =
+    space ∷ mark Equals (codes "=") ∷ space ∷ type_pieces closing base (rec (attribute ns n r t xs))
 
 abbrev pub tags_pieces : Bool → Option WrittenType → List Piece
 tags_pieces closing None = []
@@ -58,9 +64,11 @@ context_pieces closing base no_more = mark LBrace (codes "{") ∷ mark RBrace (c
 context_pieces closing base (attribute ns n r t xs) = type_pieces closing base (rec (attribute ns n r t xs))
 
 abbrev pub member_pieces : Bool → ℕ → WrittenMember → List Piece
-member_pieces closing base (types role ps) = word (role_word role) ∷ mark Colon (codes ":") ∷ space ∷ bracketed path_pieces ps
+member_pieces closing base (types role ps) =
+    word (role_word role) ∷ mark Colon (codes ":") ∷ space ∷ bracketed path_pieces ps
 member_pieces closing base (context_path p) = word (codes "context") ∷ mark Colon (codes ":") ∷ space ∷ path_pieces p
-member_pieces closing base (context_record xs) = word (codes "context") ∷ mark Colon (codes ":") ∷ space ∷ context_pieces closing base xs
+member_pieces closing base (context_record xs) =
+    word (codes "context") ∷ mark Colon (codes ":") ∷ space ∷ context_pieces closing base xs
 
 abbrev pub comma_behind_member : {A : Type 0} → Bool → List A → List Piece
 comma_behind_member closing (x ∷ xs) = mark Comma (codes ",") ∷ []
@@ -69,28 +77,40 @@ comma_behind_member false [] = []
 
 abbrev pub members_pieces : Bool → ℕ → List WrittenMember → List Piece
 members_pieces closing base [] = []
-members_pieces closing base (m ∷ ms) = gap (spaces (base + 2)) ∷ (member_pieces closing (base + 2) m ++ (comma_behind_member closing ms ++ line_break ∷ members_pieces closing base ms))
+members_pieces closing base (m ∷ ms) =
+    gap (spaces (base + 2)) ∷ (member_pieces closing (base + 2) m
+    ++ (comma_behind_member closing ms ++ line_break ∷ members_pieces closing base ms))
 
 abbrev pub applies_pieces : Bool → ℕ → Option (List WrittenMember) → List Piece
 applies_pieces closing base None = []
-applies_pieces closing base (Some ms) = space ∷ word (codes "appliesTo") ∷ space ∷ mark LBrace (codes "{") ∷ line_break ∷ (members_pieces closing base ms ++ gap (spaces base) ∷ mark RBrace (codes "}") ∷ [])
+applies_pieces closing base (Some ms) =
+    space ∷ word (codes "appliesTo") ∷ space ∷ mark LBrace (codes "{") ∷ line_break
+    ∷ (members_pieces closing base ms ++ gap (spaces base) ∷ mark RBrace (codes "}") ∷ [])
 
 abbrev pub ended : List Piece
 ended = mark Semi (codes ";") ∷ line_break ∷ []
 
 abbrev pub decl_pieces : Bool → ℕ → WrittenDecl → List Piece
 decl_pieces closing base (entity names ps xs tags) =
-    gap (spaces base) ∷ word (codes "entity") ∷ space ∷ (list_pieces word_pieces names ++ (parents_pieces path_pieces ps ++ (shape_pieces closing base xs ++ (tags_pieces closing tags ++ ended))))
+    gap (spaces base) ∷ word (codes "entity") ∷ space
+    ∷ (list_pieces word_pieces names
+    ++ (parents_pieces path_pieces ps ++ (shape_pieces closing base xs ++ (tags_pieces closing tags ++ ended))))
 decl_pieces closing base (enum names choices) =
-    gap (spaces base) ∷ word (codes "entity") ∷ space ∷ (list_pieces word_pieces names ++ space ∷ word (codes "enum") ∷ space ∷ (bracketed string_pieces choices ++ ended))
+    gap (spaces base) ∷ word (codes "entity") ∷ space
+    ∷ (list_pieces word_pieces names
+    ++ space ∷ word (codes "enum") ∷ space ∷ (bracketed string_pieces choices ++ ended))
 decl_pieces closing base (external_entity names ps) =
-    gap (spaces base) ∷ word (codes "external") ∷ space ∷ word (codes "entity") ∷ space ∷ (list_pieces word_pieces names ++ (parents_pieces path_pieces ps ++ ended))
+    gap (spaces base) ∷ word (codes "external") ∷ space ∷ word (codes "entity") ∷ space
+    ∷ (list_pieces word_pieces names ++ (parents_pieces path_pieces ps ++ ended))
 decl_pieces closing base (action names rs ms) =
-    gap (spaces base) ∷ word (codes "action") ∷ space ∷ (list_pieces string_pieces names ++ (parents_pieces ref_pieces rs ++ (applies_pieces closing base ms ++ ended)))
+    gap (spaces base) ∷ word (codes "action") ∷ space
+    ∷ (list_pieces string_pieces names ++ (parents_pieces ref_pieces rs ++ (applies_pieces closing base ms ++ ended)))
 decl_pieces closing base (external_action names rs) =
-    gap (spaces base) ∷ word (codes "external") ∷ space ∷ word (codes "action") ∷ space ∷ (list_pieces string_pieces names ++ (parents_pieces ref_pieces rs ++ ended))
+    gap (spaces base) ∷ word (codes "external") ∷ space ∷ word (codes "action") ∷ space
+    ∷ (list_pieces string_pieces names ++ (parents_pieces ref_pieces rs ++ ended))
 decl_pieces closing base (common n t) =
-    gap (spaces base) ∷ word (codes "type") ∷ space ∷ word n ∷ space ∷ mark Equals (codes "=") ∷ space ∷ (type_pieces closing base t ++ ended)
+    gap (spaces base) ∷ word (codes "type") ∷ space ∷ word n ∷ space ∷ mark Equals (codes "=") ∷ space
+    ∷ (type_pieces closing base t ++ ended)
 
 -- with an empty line between two
 abbrev pub joined_pieces : {A : Type 0} → (A → List Piece) → List A → List Piece
@@ -111,7 +131,9 @@ pub record Group : Type 0 where
 abbrev pub namespace_pieces : Bool → Notes → Option (List (List ℕ)) → List WrittenDeclared → List Piece
 namespace_pieces closing notes None ds = joined_pieces (declared_pieces closing 0) ds
 namespace_pieces closing notes (Some p) ds =
-    notes_pieces 0 notes ++ word (codes "namespace") ∷ space ∷ (path_pieces p ++ space ∷ mark LBrace (codes "{") ∷ line_break ∷ (joined_pieces (declared_pieces closing 2) ds ++ mark RBrace (codes "}") ∷ line_break ∷ []))
+    notes_pieces 0 notes ++ word (codes "namespace") ∷ space
+    ∷ (path_pieces p ++ space ∷ mark LBrace (codes "{") ∷ line_break
+    ∷ (joined_pieces (declared_pieces closing 2) ds ++ mark RBrace (codes "}") ∷ line_break ∷ []))
 
 abbrev pub group_pieces : Bool → Group → List Piece
 group_pieces closing g = namespace_pieces closing g.notes g.name g.decls
@@ -157,9 +179,12 @@ AreProperMembers None = Unit {0}
 AreProperMembers (Some ms) = IsSome ms × AllByRecursion IsProperMember ms
 
 abbrev pub IsProperDecl : WrittenDecl → Type 0
-IsProperDecl (entity names ps xs tags) = IsSome names × AllByRecursion IsProperWord names × AllByRecursion IsProperPath ps × AreProperAttributes xs × IsProperTags tags
+IsProperDecl (entity names ps xs tags) =
+    IsSome names × AllByRecursion IsProperWord names × AllByRecursion IsProperPath ps × AreProperAttributes xs
+    × IsProperTags tags
 IsProperDecl (enum names choices) = IsSome names × AllByRecursion IsProperWord names × IsSome choices
-IsProperDecl (external_entity names ps) = IsSome names × AllByRecursion IsProperWord names × AllByRecursion IsProperPath ps
+IsProperDecl (external_entity names ps) =
+    IsSome names × AllByRecursion IsProperWord names × AllByRecursion IsProperPath ps
 IsProperDecl (action names rs ms) = IsSome names × AllByRecursion IsProperRef rs × AreProperMembers ms
 IsProperDecl (external_action names rs) = IsSome names × AllByRecursion IsProperRef rs
 IsProperDecl (common n t) = IsProperWord n × IsProperType t

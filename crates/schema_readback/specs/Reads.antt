@@ -10,19 +10,24 @@ use Rattle.schema_syntax_grammar.specs.Grammar.{is_name_kind}
 use Rattle.schema_syntax_tokens.specs.declared.token.Token.{Token}
 use Rattle.schema_syntax_parser.specs.declared.syntax.TypeSyntax.{TypeSyntax}
 use Rattle.schema_syntax_parser.specs.declared.syntax.AttrSyntax.{AttrSyntax}
-use Rattle.schema_syntax_parser.specs.Syntax.{AreAnnotations, IsChain, IsPath, IsRef, IsType, IsAttr, IsShape, AreTags, IsApp, Applies, IsDecl, IsDeclared, IsItem, IsSyntax}
+use Rattle.schema_syntax_parser.specs.Syntax.{AreAnnotations, IsChain, IsPath, IsRef, IsType, IsAttr, IsShape, AreTags}
+use Rattle.schema_syntax_parser.specs.Syntax.{IsApp, Applies, IsDecl, IsDeclared, IsItem, IsSyntax}
 use Rattle.schema_syntax_parser.specs.Syntax.{IsStringToken}
 use Rattle.schema_syntax_tree.specs.declared.types.Type.{«Type»}
 use Rattle.schema_syntax_tree.specs.declared.types.AttrDecl.{AttrDecl}
 use Rattle.schema_syntax_tree.specs.declared.annotated.Annotated.{Annotated}
 use Rattle.schema_syntax_errors.specs.declared.user_error.UserError.{UserError}
-use Rattle.schema_syntax_reader.specs.Sites.{Site, annotations, name_sites, names_sites, path_sites, sites_of_type, sites_of_attr, sites_of_attrs, shape_sites, tags_sites, app_sites, applies_sites, decl_sites, declared_sites, item_sites}
+use Rattle.schema_syntax_reader.specs.Sites.{Site, annotations, name_sites, names_sites, path_sites, sites_of_type}
+use Rattle.schema_syntax_reader.specs.Sites.{sites_of_attr, sites_of_attrs, shape_sites, tags_sites, app_sites}
+use Rattle.schema_syntax_reader.specs.Sites.{applies_sites, decl_sites, declared_sites, item_sites}
 use Rattle.schema_syntax_reader.specs.UserFaults.{FaultAt}
 use Rattle.schema_syntax_parser.specs.declared.syntax.AnnotationSyntax.{AnnotationSyntax}
 use Rattle.schema_syntax_reader.specs.Leaves.{Notes, AreNotes}
 use Rattle.schema_syntax_reader.specs.Trees as tree
-use Rattle.schema_readback.specs.Written.{WrittenType, WrittenAttributes, attribute, WrittenRef, WrittenMember, WrittenDecl, WrittenDeclared, WrittenItem}
-use Rattle.schema_readback.specs.Shows.{ShowsType, ShowsAttributes, SaysPath, SaysId, SaysName, SaysChoice, SaysRef, SaysShape, SaysTags, SaysMember, SaysApplies, SaysDecl, SaysDeclared, SaysItem}
+use Rattle.schema_readback.specs.Written.{WrittenType, WrittenAttributes, attribute, WrittenRef, WrittenMember}
+use Rattle.schema_readback.specs.Written.{WrittenDecl, WrittenDeclared, WrittenItem}
+use Rattle.schema_readback.specs.Shows.{ShowsType, ShowsAttributes, SaysPath, SaysId, SaysName, SaysChoice, SaysRef}
+use Rattle.schema_readback.specs.Shows.{SaysShape, SaysTags, SaysMember, SaysApplies, SaysDecl, SaysDeclared, SaysItem}
 
 module _ (source : List ℕ) where
   -- no fault is at the site
@@ -74,7 +79,8 @@ module _ (source : List ℕ) where
     pub lawful : IsFaultless (annotations syns)
 
   -- one part, and a list of parts
-  pub record Reads {S T A : Type 0} (Parsed : S → Type 0) (Is : S → T → Type 0) (Says : T → A → Type 0) (sites : S → List Site) (x : A) : Type 0 where
+  pub record Reads {S T A : Type 0} (Parsed : S → Type 0) (Is : S → T → Type 0) (Says : T → A → Type 0)
+      (sites : S → List Site) (x : A) : Type 0 where
     pub syn : S
     pub parsed : Parsed syn
     pub node : T
@@ -82,7 +88,8 @@ module _ (source : List ℕ) where
     pub says : Says node x
     pub lawful : All IsFaultless (sites syn)
 
-  pub record ReadsAll {S T A : Type 0} (Parsed : List S → Type 0) (Is : S → T → Type 0) (Says : T → A → Type 0) (sites : S → List Site) (xs : List A) : Type 0 where
+  pub record ReadsAll {S T A : Type 0} (Parsed : List S → Type 0) (Is : S → T → Type 0) (Says : T → A → Type 0)
+      (sites : S → List Site) (xs : List A) : Type 0 where
     pub syns : List S
     pub parsed : Parsed syns
     pub nodes : List T

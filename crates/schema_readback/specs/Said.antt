@@ -23,7 +23,8 @@ pub record SaidAttributes (Spell : WrittenAttributes → Type 0) (ys : List (Nod
   pub shows : ShowsAttributes ys written
 
 -- one part, and a list of parts
-pub record Said {T A : Type 0} (Says : T → A → Type 0) (P : List Lexeme → A → Type 0) (n : T) (u : List Lexeme) : Type 0 where
+pub record Said {T A : Type 0} (Says : T → A → Type 0) (P : List Lexeme → A → Type 0) (n : T)
+    (u : List Lexeme) : Type 0 where
   pub written : A
   pub spell : P u written
   pub says : Says n written

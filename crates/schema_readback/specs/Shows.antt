@@ -19,7 +19,10 @@ use Rattle.schema_syntax_tree.specs.declared.declaration.Declaration.TheVariants
 use Rattle.schema_syntax_tree.specs.declared.entity_decl.EntityDecl.TheVariants as tree
 use Rattle.schema_syntax_tree.specs.declared.action_decl.ActionDecl.TheVariants as tree_action
 use Rattle.schema_syntax_tree.specs.declared.namespace.Namespace.{Namespace}
-use Rattle.schema_readback.specs.Written.{WrittenType, WrittenAttributes, path, set, rec, no_more, attribute, WrittenRef, WrittenMember, types, context_path, context_record, WrittenDecl, entity, enum, external_entity, action, external_action, common, WrittenDeclared, WrittenItem, namespace, outside}
+use Rattle.schema_readback.specs.Written.{WrittenType, WrittenAttributes, path, set, rec, no_more, attribute}
+use Rattle.schema_readback.specs.Written.{WrittenRef, WrittenMember, types, context_path, context_record, WrittenDecl}
+use Rattle.schema_readback.specs.Written.{entity, enum, external_entity, action, external_action, common}
+use Rattle.schema_readback.specs.Written.{WrittenDeclared, WrittenItem, namespace, outside}
 use Rattle.schema_syntax_reader.specs.Leaves.{Notes}
 
 mutual
@@ -31,7 +34,8 @@ mutual
 
   pub data ShowsAttributes : List (Node (Annotated AttrDecl)) → WrittenAttributes → Type 0 where
     shows_none : ShowsAttributes [] no_more
-    shows_more : (y : Node (Annotated AttrDecl)) {ys : List (Node (Annotated AttrDecl))} {ns : Notes} {n : List ℕ} {r : Bool} {t : WrittenType} {xs : WrittenAttributes}
+    shows_more : (y : Node (Annotated AttrDecl)) {ys : List (Node (Annotated AttrDecl))} {ns : Notes} {n : List ℕ}
+        {r : Bool} {t : WrittenType} {xs : WrittenAttributes}
         → (out-AttrDecl y.node.item).name.node ≡ n → (out-AttrDecl y.node.item).required ≡ r
         → ShowsType (out-AttrDecl y.node.item).ty.node t → y.node.annotations.0 ≡ ns
         → ShowsAttributes ys xs → ShowsAttributes (y ∷ ys) (attribute ns n r t xs)
@@ -71,9 +75,12 @@ abbrev pub SaysShape : Node (List (Node (Annotated AttrDecl))) → WrittenAttrib
 SaysShape n xs = ShowsAttributes n.node xs
 
 abbrev pub SaysMember : Node AppDecl → WrittenMember → Type 0
-SaysMember n (types role paths) = (kind : Node PR) × (found : Option (List Path)) × (n.node ≡ app.PR (record { kind = kind; entity_tys = found })) × (kind.node ≡ role) × SaysOptional SaysPath found paths
+SaysMember n (types role paths) =
+    (kind : Node PR) × (found : Option (List Path)) × (n.node ≡ app.PR (record { kind = kind; entity_tys = found }))
+    × (kind.node ≡ role) × SaysOptional SaysPath found paths
 SaysMember n (context_path p) = (q : Path) × (n.node ≡ app.Context (Left q)) × SaysPath q p
-SaysMember n (context_record xs) = (r : Node (List (Node (Annotated AttrDecl)))) × (n.node ≡ app.Context (Right r)) × SaysShape r xs
+SaysMember n (context_record xs) =
+    (r : Node (List (Node (Annotated AttrDecl)))) × (n.node ≡ app.Context (Right r)) × SaysShape r xs
 
 abbrev pub SaysApplies : Option (Node (List (Node AppDecl))) → Option (List WrittenMember) → Type 0
 SaysApplies None None = Unit {0}
@@ -81,11 +88,17 @@ SaysApplies (Some n) (Some ms) = AllZip SaysMember n.node ms
 SaysApplies _ _ = ⊥
 
 abbrev pub SaysDecl : Declaration → WrittenDecl → Type 0
-SaysDecl (declaration.Entity (tree.Standard d)) (entity names parents shape tags) = AllZip SaysId d.names names × AllZip SaysPath d.member_of_types parents × SaysShape d.attrs shape × SaysTags d.tags tags
-SaysDecl (declaration.Entity (tree.Enum d)) (enum names choices) = AllZip SaysId d.names names × AllZip SaysChoice d.choices choices
-SaysDecl (declaration.Entity (tree.External d)) (external_entity names parents) = AllZip SaysId d.names names × AllZip SaysPath d.member_of_types parents
-SaysDecl (declaration.Action (tree_action.Defined d)) (action names parents members) = AllZip SaysName d.names names × SaysOptional SaysRef d.parents parents × SaysApplies d.app_decls members
-SaysDecl (declaration.Action (tree_action.External d)) (external_action names parents) = AllZip SaysName d.names names × SaysOptional SaysRef d.parents parents
+SaysDecl (declaration.Entity (tree.Standard d)) (entity names parents shape tags) =
+    AllZip SaysId d.names names × AllZip SaysPath d.member_of_types parents × SaysShape d.attrs shape
+    × SaysTags d.tags tags
+SaysDecl (declaration.Entity (tree.Enum d)) (enum names choices) =
+    AllZip SaysId d.names names × AllZip SaysChoice d.choices choices
+SaysDecl (declaration.Entity (tree.External d)) (external_entity names parents) =
+    AllZip SaysId d.names names × AllZip SaysPath d.member_of_types parents
+SaysDecl (declaration.Action (tree_action.Defined d)) (action names parents members) =
+    AllZip SaysName d.names names × SaysOptional SaysRef d.parents parents × SaysApplies d.app_decls members
+SaysDecl (declaration.Action (tree_action.External d)) (external_action names parents) =
+    AllZip SaysName d.names names × SaysOptional SaysRef d.parents parents
 SaysDecl (declaration.Common d) (common name t) = SaysId d.name name × ShowsType d.def.node t
 SaysDecl _ _ = ⊥
 
@@ -94,5 +107,6 @@ SaysDeclared a d = SaysDecl a.item.node d.decl × (a.annotations.0 ≡ d.notes)
 
 -- a namespace of a tree says what is written of it, whatever its places are
 abbrev pub SaysItem : Annotated Namespace → WrittenItem → Type 0
-SaysItem a (namespace ns name ds) = SaysOptionalPath a.item.name (Some name) × AllZip SaysDeclared a.item.decls ds × (a.annotations.0 ≡ ns)
+SaysItem a (namespace ns name ds) =
+    SaysOptionalPath a.item.name (Some name) × AllZip SaysDeclared a.item.decls ds × (a.annotations.0 ≡ ns)
 SaysItem a (outside d) = (a.item.name ≡ None) × AllZip SaysDeclared a.item.decls (d ∷ []) × (a.annotations.0 ≡ [])

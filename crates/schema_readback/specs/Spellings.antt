@@ -3,12 +3,21 @@ use Rattle.std.specs.Prelude.{◌≡◌, ℕ, Bool, true, false, List, [], ◌�
 use Rattle.cedar_identifiers.specs.Words.{is_id}
 use Rattle.schema_syntax_grammar.specs.Grammar.{is_ident}
 use Rattle.schema_syntax_grammar.specs.declared.token_kind.TokenKind.{TokenKind}
-use Rattle.schema_syntax_grammar.specs.declared.token_kind.TokenKind.TheVariants.{KwNamespace, KwEntity, KwExternal, KwIn, KwType, KwSet, KwAppliesTo, KwAction, KwContext, KwTags, KwEnum, StringLit, Comma, Semi, Colon, PathSep, LBrace, RBrace, LBracket, RBracket, Less, Greater, Question, Equals}
+use Rattle.schema_syntax_grammar.specs.declared.token_kind.TokenKind.TheVariants.{KwNamespace, KwEntity, KwExternal}
+use Rattle.schema_syntax_grammar.specs.declared.token_kind.TokenKind.TheVariants.{KwIn, KwType, KwSet, KwAppliesTo}
+use Rattle.schema_syntax_grammar.specs.declared.token_kind.TokenKind.TheVariants.{KwAction, KwContext, KwTags, KwEnum}
+use Rattle.schema_syntax_grammar.specs.declared.token_kind.TokenKind.TheVariants.{StringLit, Comma, Semi, Colon}
+use Rattle.schema_syntax_grammar.specs.declared.token_kind.TokenKind.TheVariants.{PathSep, LBrace, RBrace, LBracket}
+use Rattle.schema_syntax_grammar.specs.declared.token_kind.TokenKind.TheVariants.{RBracket, Less, Greater, Question}
+use Rattle.schema_syntax_grammar.specs.declared.token_kind.TokenKind.TheVariants.{Equals}
 use Rattle.schema_syntax_tokens.specs.Escapes.{Unescapes}
 use Rattle.schema_syntax_tokens.specs.Laid.{Lexeme}
 use Rattle.schema_syntax_parser.specs.Syntax.{is_role}
 use Rattle.schema_syntax_reader.specs.Trees.{role_of}
-use Rattle.schema_readback.specs.Written.{WrittenType, WrittenAttributes, path, set, rec, no_more, attribute, WrittenRef, WrittenMember, types, context_path, context_record, WrittenDecl, entity, enum, external_entity, action, external_action, common, WrittenDeclared, WrittenItem, namespace, outside}
+use Rattle.schema_readback.specs.Written.{WrittenType, WrittenAttributes, path, set, rec, no_more, attribute}
+use Rattle.schema_readback.specs.Written.{WrittenRef, WrittenMember, types, context_path, context_record, WrittenDecl}
+use Rattle.schema_readback.specs.Written.{entity, enum, external_entity, action, external_action, common}
+use Rattle.schema_readback.specs.Written.{WrittenDeclared, WrittenItem, namespace, outside}
 use Rattle.schema_syntax_reader.specs.Leaves.{Notes}
 use Rattle.schema_readback.specs.Notes.{SpellNotes}
 
@@ -90,7 +99,8 @@ mutual
     no_attribute : AreAttributesOf [] no_more
     last_attribute : {u : List Lexeme} {ns : Notes} {n : List ℕ} {r : Bool} {t : WrittenType}
         → IsAttributeOf u ns n r t → AreAttributesOf u (attribute ns n r t no_more)
-    more_attributes : {u v : List Lexeme} (c : Lexeme) {ns : Notes} {n : List ℕ} {r : Bool} {t : WrittenType} {xs : WrittenAttributes}
+    more_attributes : {u v : List Lexeme} (c : Lexeme) {ns : Notes} {n : List ℕ} {r : Bool} {t : WrittenType}
+        {xs : WrittenAttributes}
         → IsAttributeOf u ns n r t → c.kind ≡ Comma → AreAttributesOf v xs
         → AreAttributesOf (u ++ c ∷ v) (attribute ns n r t xs)
 
@@ -134,23 +144,28 @@ pub data SpellsApplies : List Lexeme → Option (List WrittenMember) → Type 0 
 
 -- a declaration
 pub data SpellsDecl : List Lexeme → WrittenDecl → Type 0 where
-  entity_of : {e : Lexeme} (z : Lexeme) {i p s t : List Lexeme} {names : List (List ℕ)} {parents : List (List (List ℕ))} {shape : WrittenAttributes} {tags : Option WrittenType}
+  entity_of : {e : Lexeme} (z : Lexeme) {i p s t : List Lexeme} {names : List (List ℕ)}
+      {parents : List (List (List ℕ))} {shape : WrittenAttributes} {tags : Option WrittenType}
       → e.kind ≡ KwEntity → IsChainOf Comma i names → AreParentsOf SpellsPath p parents → SpellsShape s shape
       → SpellTags t tags → z.kind ≡ Semi
       → SpellsDecl (e ∷ (i ++ (p ++ (s ++ (t ++ z ∷ []))))) (entity names parents shape tags)
-  enum_of : {e : Lexeme} (n o c z : Lexeme) {i s : List Lexeme} {names : List (List ℕ)} {choice : List ℕ} {choices : List (List ℕ)}
+  enum_of : {e : Lexeme} (n o c z : Lexeme) {i s : List Lexeme} {names : List (List ℕ)} {choice : List ℕ}
+      {choices : List (List ℕ)}
       → e.kind ≡ KwEntity → IsChainOf Comma i names → n.kind ≡ KwEnum → o.kind ≡ LBracket
       → AreSeparatedOf IsStringOf s (choice ∷ choices) → c.kind ≡ RBracket → z.kind ≡ Semi
       → SpellsDecl (e ∷ (i ++ n ∷ o ∷ (s ++ c ∷ z ∷ []))) (enum names (choice ∷ choices))
-  external_entity_of : {x e : Lexeme} (z : Lexeme) {i p : List Lexeme} {names : List (List ℕ)} {parents : List (List (List ℕ))}
+  external_entity_of : {x e : Lexeme} (z : Lexeme) {i p : List Lexeme} {names : List (List ℕ)}
+      {parents : List (List (List ℕ))}
       → x.kind ≡ KwExternal → e.kind ≡ KwEntity → IsChainOf Comma i names → AreParentsOf SpellsPath p parents
       → z.kind ≡ Semi
       → SpellsDecl (x ∷ e ∷ (i ++ (p ++ z ∷ []))) (external_entity names parents)
-  action_of : {a : Lexeme} (z : Lexeme) {n r s : List Lexeme} {names : List (List ℕ)} {parents : List WrittenRef} {members : Option (List WrittenMember)}
+  action_of : {a : Lexeme} (z : Lexeme) {n r s : List Lexeme} {names : List (List ℕ)} {parents : List WrittenRef}
+      {members : Option (List WrittenMember)}
       → a.kind ≡ KwAction → AreNamesOf n names → AreParentsOf SpellsRef r parents → SpellsApplies s members
       → z.kind ≡ Semi
       → SpellsDecl (a ∷ (n ++ (r ++ (s ++ z ∷ [])))) (action names parents members)
-  external_action_of : {x a : Lexeme} (z : Lexeme) {n r : List Lexeme} {names : List (List ℕ)} {parents : List WrittenRef}
+  external_action_of : {x a : Lexeme} (z : Lexeme) {n r : List Lexeme} {names : List (List ℕ)}
+      {parents : List WrittenRef}
       → x.kind ≡ KwExternal → a.kind ≡ KwAction → AreNamesOf n names → AreParentsOf SpellsRef r parents
       → z.kind ≡ Semi
       → SpellsDecl (x ∷ a ∷ (n ++ (r ++ z ∷ []))) (external_action names parents)
@@ -164,7 +179,8 @@ pub data SpellsDeclared : List Lexeme → WrittenDeclared → Type 0 where
 
 -- Anns 'namespace' Path '{' {Decl} '}' | Decl
 pub data SpellsItem : List Lexeme → WrittenItem → Type 0 where
-  namespace_of : {a : List Lexeme} (n o c : Lexeme) {p u : List Lexeme} {ns : Notes} {name : List (List ℕ)} {ds : List WrittenDeclared}
+  namespace_of : {a : List Lexeme} (n o c : Lexeme) {p u : List Lexeme} {ns : Notes} {name : List (List ℕ)}
+      {ds : List WrittenDeclared}
       → SpellNotes a ns → n.kind ≡ KwNamespace → SpellsPath p name → o.kind ≡ LBrace → AreManyOf SpellsDeclared u ds
       → c.kind ≡ RBrace
       → SpellsItem (a ++ n ∷ (p ++ o ∷ (u ++ c ∷ []))) (namespace ns name ds)

@@ -1,4 +1,5 @@
--- The tree of a type by the form of its syntax: so a tree is taken apart, since the variants of a recursive type are no constructors.
+-- The tree of a type by the form of its syntax: so a tree is taken apart, since the variants of a recursive type are no
+-- constructors.
 use Rattle.std.specs.Prelude.{◌≡◌, ℕ, List}
 use Rattle.cedar_data.specs.declared.node.Node.{Node}
 use Rattle.schema_syntax_parser.specs.declared.syntax.TypeSyntax.{TypeSyntax}
@@ -16,4 +17,5 @@ module _ (source : List ℕ) where
   abbrev pub ViewOfType : TypeSyntax-F TypeSyntax AttrSyntax → Node «Type» → Type 0
   ViewOfType (TypeSyntax-F.Path p) n = (q : Path) × (n.node ≡ shape.Ident q) × tree.IsPathOf source p q
   ViewOfType (TypeSyntax-F.Set t loc) n = (m : Node «Type») × (n.node ≡ shape.Set m) × tree.IsTypeOf source t m
-  ViewOfType (TypeSyntax-F.Record xs loc) n = (ys : List (Node (Annotated AttrDecl))) × (n.node ≡ shape.Record ys) × tree.AreAttrsOf source xs ys
+  ViewOfType (TypeSyntax-F.Record xs loc) n =
+      (ys : List (Node (Annotated AttrDecl))) × (n.node ≡ shape.Record ys) × tree.AreAttrsOf source xs ys

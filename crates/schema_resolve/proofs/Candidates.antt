@@ -1,5 +1,6 @@
 -- The first candidate of a reference that is defined, told from its parts.
-use Rattle.std.proofs.Common.{◌≡◌, ℕ, Bool, true, false, ◌&&◌, ◌||◌, List, [], ◌∷◌, ◌++◌, Option, Some, None, cond, find, refl, sym, ap, ◌∙◌}
+use Rattle.std.proofs.Common.{◌≡◌, ℕ, Bool, true, false, ◌&&◌, ◌||◌, List, [], ◌∷◌, ◌++◌, Option, Some, None, cond}
+use Rattle.std.proofs.Common.{find, refl, sym, ap, ◌∙◌}
 use Rattle.std.specs.Prelude.{if◌then◌else◌}
 use Rattle.std.proofs.lemmas.Bool.{false≢true}
 use Rattle.std.proofs.lemmas.List.{map-append}
@@ -15,7 +16,8 @@ use Rattle.schema_resolve.specs.Targets.{is_defined, is_action}
 use Rattle.schema_resolve.specs.Tried.{kind_found, own_kind, is_action_there, is_own_action, candidate}
 
 -- what is found is defined, and what is not found is not
-pub found_defined : (t : Tests) (kind : ReferenceType) (n : List (List ℕ)) (b : Bool) → kind_found t kind n ≡ Some b → is_defined t kind n ≡ true
+pub found_defined : (t : Tests) (kind : ReferenceType) (n : List (List ℕ)) (b : Bool) → kind_found t kind n ≡ Some b
+    → is_defined t kind n ≡ true
 found_defined t Common n b h = go (t.is_common n) h
   where
     go : (c : Bool) → (if c then Some true else None) ≡ Some b → c ≡ true
@@ -33,7 +35,8 @@ found_defined t CommonOrEntity n b h = go (t.is_common n) (t.is_entity n) h
     go false true e = refl
     go false false e = cc
 
-pub none_defined : (t : Tests) (kind : ReferenceType) (n : List (List ℕ)) → kind_found t kind n ≡ None → is_defined t kind n ≡ false
+pub none_defined : (t : Tests) (kind : ReferenceType) (n : List (List ℕ)) → kind_found t kind n ≡ None
+    → is_defined t kind n ≡ false
 none_defined t Common n h = go (t.is_common n) h
   where
     go : (c : Bool) → (if c then Some true else None) ≡ None → c ≡ false
@@ -52,7 +55,8 @@ none_defined t CommonOrEntity n h = go (t.is_common n) (t.is_entity n) h
     go false false e = refl
 
 -- where either kind may be meant, a common type is told
-pub either_told : (t : Tests) (n : List (List ℕ)) (b : Bool) → kind_found t CommonOrEntity n ≡ Some b → b ≡ t.is_common n
+pub either_told : (t : Tests) (n : List (List ℕ)) (b : Bool) → kind_found t CommonOrEntity n ≡ Some b
+    → b ≡ t.is_common n
 either_told t n b h = go (t.is_common n) (t.is_entity n) h
   where
     go : (c d : Bool) → (if c then Some true else (if d then Some false else None)) ≡ Some b → b ≡ c
@@ -60,7 +64,8 @@ either_told t n b h = go (t.is_common n) (t.is_entity n) h
     go false true e = cc
     go false false e = cc
 
-behind_parts : (ns : InternalName) (first : Id) (loc : Option Loc) → components_of (behind ns (record { first = first; others = []; loc = loc })) ≡ components_of ns ++ first.text ∷ []
+behind_parts : (ns : InternalName) (first : Id) (loc : Option Loc)
+    → components_of (behind ns (record { first = first; others = []; loc = loc })) ≡ components_of ns ++ first.text ∷ []
 behind_parts ns first loc = ap (λ l. ns.first.text ∷ l) (map-append (λ (i : Id). i.text) ns.others (first ∷ []))
 
 -- the unqualified name passes behind its namespace
@@ -72,47 +77,64 @@ abbrev first_passing : (List (List ℕ) → Bool) → Option InternalName → In
 first_passing passes ns name = find (λ x. passes (components_of x)) (candidates ns name)
 
 module _ (passes : List (List ℕ) → Bool) (ns : InternalName) (first : Id) (loc : Option Loc) where
-  own_first_at : (others : List Id) → (let name : InternalName = record { first = first; others = others; loc = loc } in own passes (Some ns) name ≡ true → first_passing passes (Some ns) name ≡ Some (qualified (Some ns) name))
+  own_first_at : (others : List Id)
+      → (let name : InternalName = record { first = first; others = others; loc = loc } in
+      own passes (Some ns) name ≡ true → first_passing passes (Some ns) name ≡ Some (qualified (Some ns) name))
   own_first_at [] h =
       let name : InternalName = record { first = first; others = []; loc = loc } in
-      ap (λ b. cond b (Some (behind ns name)) (find (λ x. passes (components_of x)) (name ∷ []))) (ap passes (behind_parts ns first loc) ∙ h)
+      ap (λ b. cond b (Some (behind ns name)) (find (λ x. passes (components_of x)) (name ∷ [])))
+      (ap passes (behind_parts ns first loc) ∙ h)
   own_first_at (i ∷ is) h = absurd (false≢true h)
 
-  plain_next_at : (others : List Id) → (let name : InternalName = record { first = first; others = others; loc = loc } in own passes (Some ns) name ≡ false → first_passing passes (Some ns) name ≡ cond (passes (components_of name)) (Some name) None)
+  plain_next_at : (others : List Id)
+      → (let name : InternalName = record { first = first; others = others; loc = loc } in
+      own passes (Some ns) name ≡ false
+      → first_passing passes (Some ns) name ≡ cond (passes (components_of name)) (Some name) None)
   plain_next_at [] h =
       let name : InternalName = record { first = first; others = []; loc = loc } in
-      ap (λ b. cond b (Some (behind ns name)) (find (λ x. passes (components_of x)) (name ∷ []))) (ap passes (behind_parts ns first loc) ∙ h)
+      ap (λ b. cond b (Some (behind ns name)) (find (λ x. passes (components_of x)) (name ∷ [])))
+      (ap passes (behind_parts ns first loc) ∙ h)
   plain_next_at (i ∷ is) h = refl
 
-own_first : (passes : List (List ℕ) → Bool) (ns : Option InternalName) (name : InternalName) → own passes ns name ≡ true → first_passing passes ns name ≡ Some (qualified ns name)
+own_first : (passes : List (List ℕ) → Bool) (ns : Option InternalName) (name : InternalName)
+    → own passes ns name ≡ true → first_passing passes ns name ≡ Some (qualified ns name)
 own_first passes None name h = absurd (false≢true h)
 own_first passes (Some ns) name h = own_first_at passes ns name.first name.loc name.others h
 
-plain_next : (passes : List (List ℕ) → Bool) (ns : Option InternalName) (name : InternalName) → own passes ns name ≡ false → first_passing passes ns name ≡ cond (passes (components_of name)) (Some name) None
+plain_next : (passes : List (List ℕ) → Bool) (ns : Option InternalName) (name : InternalName)
+    → own passes ns name ≡ false → first_passing passes ns name ≡ cond (passes (components_of name)) (Some name) None
 plain_next passes None name h = refl
 plain_next passes (Some ns) name h = plain_next_at passes ns name.first name.loc name.others h
 
-own_told : (t : Tests) (ns : Option InternalName) (kind : ReferenceType) (name : InternalName) (b : Bool) → own_kind t ns kind name ≡ Some b → own (is_defined t kind) ns name ≡ true
+own_told : (t : Tests) (ns : Option InternalName) (kind : ReferenceType) (name : InternalName) (b : Bool)
+    → own_kind t ns kind name ≡ Some b → own (is_defined t kind) ns name ≡ true
 own_told t None kind name b h = cc
 own_told t (Some ns) kind name b h = go (is_unqualified name) h
   where
-    go : (u : Bool) → (if u then kind_found t kind (components_of ns ++ name.first.text ∷ []) else None) ≡ Some b → (u && is_defined t kind (components_of ns ++ name.first.text ∷ [])) ≡ true
+    go : (u : Bool) → (if u then kind_found t kind (components_of ns ++ name.first.text ∷ []) else None) ≡ Some b
+        → (u && is_defined t kind (components_of ns ++ name.first.text ∷ [])) ≡ true
     go true e = found_defined t kind (components_of ns ++ name.first.text ∷ []) b e
     go false e = cc
 
-own_missed : (t : Tests) (ns : Option InternalName) (kind : ReferenceType) (name : InternalName) → own_kind t ns kind name ≡ None → own (is_defined t kind) ns name ≡ false
+own_missed : (t : Tests) (ns : Option InternalName) (kind : ReferenceType) (name : InternalName)
+    → own_kind t ns kind name ≡ None → own (is_defined t kind) ns name ≡ false
 own_missed t None kind name h = refl
 own_missed t (Some ns) kind name h = go (is_unqualified name) h
   where
-    go : (u : Bool) → (if u then kind_found t kind (components_of ns ++ name.first.text ∷ []) else None) ≡ None → (u && is_defined t kind (components_of ns ++ name.first.text ∷ [])) ≡ false
+    go : (u : Bool) → (if u then kind_found t kind (components_of ns ++ name.first.text ∷ []) else None) ≡ None
+        → (u && is_defined t kind (components_of ns ++ name.first.text ∷ [])) ≡ false
     go true e = none_defined t kind (components_of ns ++ name.first.text ∷ []) e
     go false e = refl
 
-own_either_at : (t : Tests) (ns : InternalName) (first : Id) (loc : Option Loc) (others : List Id) (b : Bool) → (let name : InternalName = record { first = first; others = others; loc = loc } in own_kind t (Some ns) CommonOrEntity name ≡ Some b → b ≡ t.is_common (components_of (qualified (Some ns) name)))
-own_either_at t ns first loc [] b h = either_told t (components_of ns ++ first.text ∷ []) b h ∙ ap t.is_common (sym (behind_parts ns first loc))
+own_either_at : (t : Tests) (ns : InternalName) (first : Id) (loc : Option Loc) (others : List Id) (b : Bool)
+    → (let name : InternalName = record { first = first; others = others; loc = loc } in
+    own_kind t (Some ns) CommonOrEntity name ≡ Some b → b ≡ t.is_common (components_of (qualified (Some ns) name)))
+own_either_at t ns first loc [] b h = either_told t (components_of ns ++ first.text ∷ []) b h
+    ∙ ap t.is_common (sym (behind_parts ns first loc))
 own_either_at t ns first loc (i ∷ is) b h = cc
 
-own_either : (t : Tests) (ns : Option InternalName) (name : InternalName) (b : Bool) → own_kind t ns CommonOrEntity name ≡ Some b → b ≡ t.is_common (components_of (qualified ns name))
+own_either : (t : Tests) (ns : Option InternalName) (name : InternalName) (b : Bool)
+    → own_kind t ns CommonOrEntity name ≡ Some b → b ≡ t.is_common (components_of (qualified ns name))
 own_either t None name b h = cc
 own_either t (Some ns) name b h = own_either_at t ns name.first name.loc name.others b h
 
@@ -121,7 +143,8 @@ module _ (t : Tests) (ns : Option InternalName) (kind : ReferenceType) (name : I
   is_meant n = is_defined t kind (components_of n)
 
   -- a name that is defined behind its namespace means that
-  pub own_found : (b : Bool) → own_kind t ns kind name ≡ Some b → Some (candidate ns name true) ≡ find is_meant (candidates ns name)
+  pub own_found : (b : Bool) → own_kind t ns kind name ≡ Some b
+      → Some (candidate ns name true) ≡ find is_meant (candidates ns name)
   own_found b h = sym (own_first (is_defined t kind) ns name (own_told t ns kind name b h))
 
   pub own_found_kind : (b : Bool) → own_kind t ns kind name ≡ Some b → kind ≡ CommonOrEntity
@@ -137,7 +160,8 @@ module _ (t : Tests) (ns : Option InternalName) (kind : ReferenceType) (name : I
 
   pub plain_found_kind : (b : Bool) → kind_found t kind (components_of name) ≡ Some b → kind ≡ CommonOrEntity
       → b ≡ t.is_common (components_of (candidate ns name false))
-  plain_found_kind b h either = either_told t (components_of name) b (ap (λ k. kind_found t k (components_of name)) (sym either) ∙ h)
+  plain_found_kind b h either = either_told t (components_of name) b
+      (ap (λ k. kind_found t k (components_of name)) (sym either) ∙ h)
 
   pub none_found : own_kind t ns kind name ≡ None → kind_found t kind (components_of name) ≡ None
       → None ≡ find is_meant (candidates ns name)
@@ -159,9 +183,11 @@ module _ (t : Tests) (id : List ℕ) (ns : Option InternalName) (ty : InternalNa
   pub plain_action_found : is_own_action t id ns ty ≡ false → is_action t id ty ≡ true
       → Some (candidate ns ty false) ≡ find (is_action t id) (candidates ns ty)
   plain_action_found none h =
-      sym (plain_next (is_action_there t id) ns ty (sym (own_action_is t id ns ty) ∙ none) ∙ ap (λ d. cond d (Some ty) None) h)
+      sym (plain_next (is_action_there t id) ns ty (sym (own_action_is t id ns ty) ∙ none)
+      ∙ ap (λ d. cond d (Some ty) None) h)
 
   pub no_action_found : is_own_action t id ns ty ≡ false → is_action t id ty ≡ false
       → None ≡ find (is_action t id) (candidates ns ty)
   no_action_found none h =
-      sym (plain_next (is_action_there t id) ns ty (sym (own_action_is t id ns ty) ∙ none) ∙ ap (λ d. cond d (Some ty) None) h)
+      sym (plain_next (is_action_there t id) ns ty (sym (own_action_is t id ns ty) ∙ none)
+      ∙ ap (λ d. cond d (Some ty) None) h)

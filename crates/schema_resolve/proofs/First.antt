@@ -1,5 +1,6 @@
 -- What `find` finds is the first.
-use Rattle.std.proofs.Common.{◌≡◌, Bool, true, false, ◌||◌, List, [], ◌∷◌, ◌++◌, Some, find, refl, sym, ap, ◌∙◌, inl, inr}
+use Rattle.std.proofs.Common.{◌≡◌, Bool, true, false, ◌||◌, List, [], ◌∷◌, ◌++◌, Some, find, refl, sym, ap, ◌∙◌, inl}
+use Rattle.std.proofs.Common.{inr}
 use Rattle.std.specs.Prelude.{◌⊎◌, cond}
 use Rattle.std.specs.List.{list_any}
 use Rattle.std.specs.Option.{unwrap_or}
@@ -19,7 +20,8 @@ module _ {A : Type 0} (p : A → Bool) where
       → find p (before ++ x ∷ behind) ≡ Some x
   found_behind [] behind x none here = ap (λ b. cond b (Some x) (find p behind)) here
   found_behind (y ∷ ys) behind x none here =
-      ap (λ b. cond b (Some y) (find p (ys ++ x ∷ behind))) (nor_left (p y) (list_any p ys) none) ∙ found_behind ys behind x (nor_right (p y) (list_any p ys) none) here
+      ap (λ b. cond b (Some y) (find p (ys ++ x ∷ behind))) (nor_left (p y) (list_any p ys) none)
+      ∙ found_behind ys behind x (nor_right (p y) (list_any p ys) none) here
 
   pub first_found : (xs : List A) (x : A) → IsFirst p xs x → find p xs ≡ Some x
   first_found xs x f = ap (find p) f.among ∙ found_behind f.before f.behind x f.none_before f.here
@@ -31,10 +33,23 @@ module _ {A : Type 0} (p : A → Bool) where
       go : (find p ys ≡ Some x → IsFirst p ys x) → (p y ≡ true) ⊎ (p y ≡ false) → IsFirst p (y ∷ ys) x
       go later (inl passes) =
           let same : y ≡ x = ap (λ o. unwrap_or o y) (sym (ap (λ b. cond b (Some y) (find p ys)) passes) ∙ h) in
-          record { before = []; behind = ys; among = ap (λ z. z ∷ ys) same; here = ap p (sym same) ∙ passes; none_before = refl }
+          record {
+            before = [];
+            behind = ys;
+            among = ap (λ z. z ∷ ys) same;
+            here = ap p (sym same)
+                ∙ passes;
+            none_before = refl;
+          }
       go later (inr fails) =
           let f = later (sym (ap (λ b. cond b (Some y) (find p ys)) fails) ∙ h) in
-          record { before = y ∷ f.before; behind = f.behind; among = ap (λ zs. y ∷ zs) f.among; here = f.here; none_before = ap (λ b. b || list_any p f.before) fails ∙ f.none_before }
+          record {
+            before = y ∷ f.before;
+            behind = f.behind;
+            among = ap (λ zs. y ∷ zs) f.among;
+            here = f.here;
+            none_before = ap (λ b. b || list_any p f.before) fails ∙ f.none_before;
+          }
 
   pub first_is_one : (xs : List A) (a b : A) → IsFirst p xs a → IsFirst p xs b → a ≡ b
   first_is_one xs a b f g = ap (λ o. unwrap_or o a) (sym (first_found xs a f) ∙ first_found xs b g)

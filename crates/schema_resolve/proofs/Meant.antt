@@ -17,7 +17,8 @@ use Rattle.schema_resolve.specs.Resolved.{meant_name}
 use Rattle.schema_resolve.specs.Targets.{target}
 
 -- a target with its kind
-record Meant (t : Tests) (kind : ReferenceType) (o : Option InternalName) (meant : InternalName × ReferenceType) : Type 0 where
+record Meant (t : Tests) (kind : ReferenceType) (o : Option InternalName)
+    (meant : InternalName × ReferenceType) : Type 0 where
   target_is : o ≡ Some meant.0
   kind_is : meant.1 ≡ kind_there t kind meant.0
 
@@ -27,14 +28,19 @@ meant_of : (t : Tests) (kind : ReferenceType) (o : Option InternalName) (meant :
 meant_of t kind None meant h = cc
 meant_of t kind (Some n) meant h =
     let same = ap (λ o. unwrap_or o meant) h in
-    record { target_is = ap (λ (m : InternalName × ReferenceType). Some m.0) same; kind_is = ap (λ (m : InternalName × ReferenceType). m.1) (sym same) ∙ ap (λ (m : InternalName × ReferenceType). kind_there t kind m.0) same }
+    record {
+      target_is = ap (λ (m : InternalName × ReferenceType). Some m.0) same;
+      kind_is = ap (λ (m : InternalName × ReferenceType). m.1) (sym same)
+          ∙ ap (λ (m : InternalName × ReferenceType). kind_there t kind m.0) same;
+    }
 
 by_kind : (b : Bool) (n : InternalName) (loc : Option Loc)
     → reference_to b n loc ≡ reference_as (if b then Common else Entity) n loc
 by_kind true n loc = refl
 by_kind false n loc = refl
 
-pub as_meant : (t : Tests) (ns : Option InternalName) (kind : ReferenceType) (name : RawName) (meant : InternalName × ReferenceType)
+pub as_meant : (t : Tests) (ns : Option InternalName) (kind : ReferenceType) (name : RawName)
+    (meant : InternalName × ReferenceType)
     → means t ns kind name ≡ Some meant → ResolvesAsItMeans t ns kind name meant
 as_meant t ns kind name meant h =
     let m = meant_of t kind (target t (in_namespace ns kind name)) meant h in

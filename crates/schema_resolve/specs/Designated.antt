@@ -36,7 +36,8 @@ either_kind name = type_reference (in_namespace None CommonOrEntity (record { na
 abbrev pub undesignated_type : Tests → ReferenceType → InternalName → List Undefined
 undesignated_type t Common name = []
 undesignated_type t Entity name = []
-undesignated_type t CommonOrEntity name = if is_defined t CommonOrEntity (components_of name) then [] else either_kind name ∷ []
+undesignated_type t CommonOrEntity name =
+    if is_defined t CommonOrEntity (components_of name) then [] else either_kind name ∷ []
 
 -- no action is asked for
 abbrev pub undesignated : Tests → GivenBy InternalName Undefined

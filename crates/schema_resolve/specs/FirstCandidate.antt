@@ -12,10 +12,14 @@ use Rattle.schema_resolve.specs.Targets.{is_defined, target}
 abbrev pub if_defined : Tests → ReferenceType → InternalName → Option InternalName → Option InternalName
 if_defined t kind name other = if is_defined t kind (components_of name) then Some name else other
 
--- an unqualified name in a namespace means itself there, else itself as it is, each where it is defined in the kind asked for
+-- an unqualified name in a namespace means itself there, else itself as it is, each where it is defined in the kind
+-- asked for
 abbrev pub OwnThenPlain : Tests → InternalName → ReferenceType → RawName → Type 0
-OwnThenPlain t ns kind name = is_unqualified name.name ≡ true → target t (in_namespace (Some ns) kind name) ≡ if_defined t kind (behind ns name.name) (if_defined t kind name.name None)
+OwnThenPlain t ns kind name = is_unqualified name.name ≡ true
+    → target t (in_namespace (Some ns) kind name)
+    ≡ if_defined t kind (behind ns name.name) (if_defined t kind name.name None)
 
 -- a qualified name means itself, where that is defined, and else nothing; so does any name in the empty namespace
 abbrev pub ItselfOrNothing : Tests → Option InternalName → ReferenceType → RawName → Type 0
-ItselfOrNothing t ns kind name = (is_unqualified name.name ≡ false) ⊎ (ns ≡ None) → target t (in_namespace ns kind name) ≡ if_defined t kind name.name None
+ItselfOrNothing t ns kind name = (is_unqualified name.name ≡ false) ⊎ (ns ≡ None)
+    → target t (in_namespace ns kind name) ≡ if_defined t kind name.name None

@@ -54,11 +54,13 @@ reference_as Entity name loc = Variant (variant.Entity name) loc
 reference_as CommonOrEntity name loc = either_way name loc
 
 -- a resolved name is that of what is meant, and a reference that may mean either kind becomes one to what is meant
-pub record ResolvesAsItMeans (t : Tests) (ns : Option InternalName) (kind : ReferenceType) (name : RawName) (meant : InternalName × ReferenceType) : Type 0 where
+pub record ResolvesAsItMeans (t : Tests) (ns : Option InternalName) (kind : ReferenceType) (name : RawName)
+    (meant : InternalName × ReferenceType) : Type 0 where
   pub name_is : meant_name t ns kind name ≡ meant.0
   pub reference_is : kind ≡ CommonOrEntity → (loc : Option Loc)
       → (resolving_in t ns).either name loc ≡ reference_as meant.1 meant.0 loc
 
 -- a reference is resolved to what it means, where it means something
 abbrev pub ResolvesWhatIsMeant : Tests → Option InternalName → ReferenceType → RawName → Type 0
-ResolvesWhatIsMeant t ns kind name = (meant : InternalName × ReferenceType) → means t ns kind name ≡ Some meant → ResolvesAsItMeans t ns kind name meant
+ResolvesWhatIsMeant t ns kind name = (meant : InternalName × ReferenceType) → means t ns kind name ≡ Some meant
+    → ResolvesAsItMeans t ns kind name meant

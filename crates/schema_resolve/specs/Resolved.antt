@@ -1,4 +1,5 @@
--- Fragments in which each reference is one to what it means: `means` looks at the candidates of a name in its namespace.
+-- Fragments in which each reference is one to what it means: `means` looks at the candidates of a name in its
+-- namespace.
 use Rattle.std.specs.Prelude.{ℕ, List, Option, Some}
 use Rattle.cedar_identifiers.specs.declared.reference_type.ReferenceType.{ReferenceType}
 use Rattle.cedar_identifiers.specs.declared.reference_type.ReferenceType.TheVariants.{CommonOrEntity}
@@ -22,7 +23,10 @@ meant_name t ns kind name = target_name t (in_namespace ns kind name)
 
 -- a reference that may mean either kind becomes one to what it means
 abbrev pub resolving_in : Tests → Option InternalName → Renaming RawName InternalName
-resolving_in t ns = record { name = meant_name t ns; either = λ name. designated_reference t (meant_name t ns CommonOrEntity name) }
+resolving_in t ns = record {
+  name = meant_name t ns;
+  either = λ name. designated_reference t (meant_name t ns CommonOrEntity name);
+}
 
 -- the type of the action that is meant
 abbrev pub meant_type : Tests → Option InternalName → List ℕ → Option RawName → InternalName

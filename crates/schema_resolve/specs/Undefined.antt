@@ -17,4 +17,5 @@ types_among (action_reference id ty ∷ us) = types_among us
 abbrev pub actions_among : List Undefined → List (List ℕ × Option ConditionalName)
 actions_among [] = []
 actions_among (type_reference c ∷ us) = actions_among us
-actions_among (action_reference id ty ∷ us) = let uid : List ℕ × Option ConditionalName = (id, ty) in uid ∷ actions_among us
+actions_among (action_reference id ty ∷ us) =
+    let uid : List ℕ × Option ConditionalName = (id, ty) in uid ∷ actions_among us

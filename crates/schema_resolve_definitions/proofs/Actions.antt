@@ -32,7 +32,8 @@ name_itself [] = refl
 name_itself (x ∷ xs) = and_from (bytes_eq x x) (same_name xs xs) ((bytes_eq-Decides x x).1 refl) (name_itself xs)
 
 action_itself : (a : Action) → same_action a a ≡ true
-action_itself a = and_from (same_name a.0 a.0) (bytes_eq (encode_utf8_all a.1) (encode_utf8_all a.1)) (name_itself a.0) ((bytes_eq-Decides (encode_utf8_all a.1) (encode_utf8_all a.1)).1 refl)
+action_itself a = and_from (same_name a.0 a.0) (bytes_eq (encode_utf8_all a.1) (encode_utf8_all a.1))
+    (name_itself a.0) ((bytes_eq-Decides (encode_utf8_all a.1) (encode_utf8_all a.1)).1 refl)
 
 -- the type of an action that is there
 type_there : (ys : List Action) (x : Action) → among_actions ys x ≡ true → among (types_of ys) x.0 ≡ true
@@ -41,17 +42,21 @@ type_there (y ∷ ys) x h = go (type_there ys x) (or_cases (same_action x y) (am
   where
     go : (among_actions ys x ≡ true → among (types_of ys) x.0 ≡ true)
         → (same_action x y ≡ true) ⊎ (among_actions ys x ≡ true) → among (types_of (y ∷ ys)) x.0 ≡ true
-    go more (inl here) = or_left (same_name x.0 y.0) (among (types_of ys) x.0) (first_so (same_name x.0 y.0) (bytes_eq (encode_utf8_all x.1) (encode_utf8_all y.1)) here)
+    go more (inl here) = or_left (same_name x.0 y.0) (among (types_of ys) x.0)
+        (first_so (same_name x.0 y.0) (bytes_eq (encode_utf8_all x.1) (encode_utf8_all y.1)) here)
     go more (inr later) = or_right (same_name x.0 y.0) (among (types_of ys) x.0) (more later)
 
 types_within : (xs ys : List Action) → ((a : Action) → among_actions xs a ≡ true → among_actions ys a ≡ true)
     → (n : List (List ℕ)) → among (types_of xs) n ≡ true → among (types_of ys) n ≡ true
 types_within [] ys within n h = cc
-types_within (x ∷ xs) ys within n h = go (types_within xs ys (λ a p. within a (or_right (same_action a x) (among_actions xs a) p)) n) (or_cases (same_name n x.0) (among (types_of xs) n) h)
+types_within (x ∷ xs) ys within n h =
+    go (types_within xs ys (λ a p. within a (or_right (same_action a x) (among_actions xs a) p)) n)
+    (or_cases (same_name n x.0) (among (types_of xs) n) h)
   where
     go : (among (types_of xs) n ≡ true → among (types_of ys) n ≡ true)
         → (same_name n x.0 ≡ true) ⊎ (among (types_of xs) n ≡ true) → among (types_of ys) n ≡ true
-    go more (inl here) = ap (among (types_of ys)) (equal_names n x.0 here) ∙ type_there ys x (within x (or_left (same_action x x) (among_actions xs x) (action_itself x)))
+    go more (inl here) = ap (among (types_of ys)) (equal_names n x.0 here)
+        ∙ type_there ys x (within x (or_left (same_action x x) (among_actions xs x) (action_itself x)))
     go more (inr later) = more later
 
 -- the same actions have the same types

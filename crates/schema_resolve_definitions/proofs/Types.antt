@@ -18,7 +18,8 @@ or_none false = refl
 pub action_lawful : (ns : Option Name) → has_cedar (components_of (action_type ns)) ≡ false
 action_lawful None = refl
 action_lawful (Some ns) =
-    ap (λ texts. list_any is_cedar texts) (map-append (λ (i : Id). i.text) (ns.name.first ∷ ns.name.others) (action_name.first ∷ []))
+    ap (λ texts. list_any is_cedar texts)
+    (map-append (λ (i : Id). i.text) (ns.name.first ∷ ns.name.others) (action_name.first ∷ []))
     ∙ list_any-append is_cedar (texts_of (ns.name.first ∷ ns.name.others)) (texts_of (action_name.first ∷ []))
     ∙ or_none (list_any is_cedar (texts_of (ns.name.first ∷ ns.name.others)))
     ∙ ns.unreserved

@@ -13,7 +13,8 @@ use Rattle.schema_json.specs.declared.action_type.ActionEntityUID.{ActionEntityU
 use Rattle.std.specs.List.{flat_map}
 use Rattle.schema_resolve_errors.specs.Gathered.{if_there}
 use Rattle.schema_resolve_errors.specs.declared.resolve_error.ResolveError.{ResolveError}
-use Rattle.schema_resolve_errors.specs.declared.resolve_error.ResolveError.TheVariants.{TypeNotDefined, ActionNotDefined, Memory}
+use Rattle.schema_resolve_errors.specs.declared.resolve_error.ResolveError.TheVariants.{TypeNotDefined}
+use Rattle.schema_resolve_errors.specs.declared.resolve_error.ResolveError.TheVariants.{ActionNotDefined, Memory}
 
 -- a reference as it was written
 abbrev pub written_components : ConditionalName → List (List ℕ)
@@ -27,7 +28,8 @@ abbrev pub action_texts : {G : named.Ghosts ConditionalName} → List (ActionEnt
 action_texts uids = map (λ a. action_uid_text (option_map written_components a.ty) a.id) uids
 
 abbrev pub unresolved_text : List (List ℕ) → List ℕ
-unresolved_text texts = by_number (codes "failed to resolve type: ") (codes "failed to resolve types: ") texts ++ joined_by (codes ", ") texts
+unresolved_text texts = by_number (codes "failed to resolve type: ") (codes "failed to resolve types: ") texts
+    ++ joined_by (codes ", ") texts
 
 abbrev pub undeclared_text : List (List ℕ) → List ℕ
 undeclared_text texts = by_number (codes "undeclared action: ") (codes "undeclared actions: ") texts ++ and_list texts

@@ -1,5 +1,6 @@
 -- A name is that of a builtin type where its last word is, behind `__cedar` or, not hidden, by itself.
-use Rattle.std.proofs.Common.{◌≡◌, ℕ, Bool, true, false, not, ◌&&◌, ◌||◌, List, [], ◌∷◌, ◌++◌, codes, Option, Some, None, refl, sym, ap, ◌∙◌, subst}
+use Rattle.std.proofs.Common.{◌≡◌, ℕ, Bool, true, false, not, ◌&&◌, ◌||◌, List, [], ◌∷◌, ◌++◌, codes, Option, Some}
+use Rattle.std.proofs.Common.{None, refl, sym, ap, ◌∙◌, subst}
 use Rattle.std.specs.Prelude.{if◌then◌else◌}
 use Rattle.std.specs.List.{list_any}
 use Rattle.std.specs.Str.{bytes_eq}
@@ -23,7 +24,8 @@ abbrev pub cedar : List (List ℕ)
 cedar = codes "__cedar" ∷ []
 
 -- a word is hidden where it is the same as one that is
-hidden_alike : (t : Tests) (l w : List ℕ) → (bytes_eq l w && not (is_hidden t w)) ≡ (not (is_hidden t l) && bytes_eq l w)
+hidden_alike : (t : Tests) (l w : List ℕ)
+    → (bytes_eq l w && not (is_hidden t w)) ≡ (not (is_hidden t l) && bytes_eq l w)
 hidden_alike t l w = go (bytes_eq l w) refl
   where
     turned : (b : Bool) → b ≡ (b && true)
@@ -68,12 +70,14 @@ behind_there t x xs l w = go (is_hidden t w) ∙ ap (λ b. b || false) (same_beh
         ≡ (same_name (x ∷ xs ++ l ∷ []) (cedar ++ w ∷ []) || false)
     go true = refl
     go false =
-        ap (λ b. same_name (x ∷ xs ++ l ∷ []) (cedar ++ w ∷ []) || b) (or_false (bytes_eq x w && same_name (xs ++ l ∷ []) []) ∙ none xs)
+        ap (λ b. same_name (x ∷ xs ++ l ∷ []) (cedar ++ w ∷ []) || b)
+        (or_false (bytes_eq x w && same_name (xs ++ l ∷ []) []) ∙ none xs)
 
 pub builtin_behind : (t : Tests) (x : List ℕ) (xs : List (List ℕ)) (l : List ℕ) (ws : List (List ℕ))
     → among (names_of_builtins t ws) (x ∷ xs ++ l ∷ []) ≡ (same_name (x ∷ xs) cedar && list_any (bytes_eq l) ws)
 builtin_behind t x xs l ws =
-    any_given (same_name (x ∷ xs ++ l ∷ [])) (names_of_builtin t) ws ∙ (λ i. list_any (λ w. behind_there t x xs l w i) ws)
+    any_given (same_name (x ∷ xs ++ l ∷ [])) (names_of_builtin t) ws
+    ∙ (λ i. list_any (λ w. behind_there t x xs l w i) ws)
     ∙ any_where (same_name (x ∷ xs) cedar) (bytes_eq l) ws
 
 -- what is told of a name whose last word is builtin, behind a namespace or by itself, and of another
@@ -104,10 +108,12 @@ told_alone t (Some before) l ws hidden is builtin h = absurd (cc)
 pub told_other : (t : Tests) (o : Option Before) (l : List ℕ) (ws : List (List ℕ)) (answer : Bool) → answer ≡ false
     → answer ≡ list_any (bytes_eq l) ws → answer ≡ among (names_of_builtins t ws) (words_before o ++ l ∷ [])
 told_other t None l ws answer stopped h =
-    stopped ∙ sym (builtin_alone t l ws ∙ ap (λ b. not (is_hidden t l) && b) (sym h ∙ stopped) ∙ and-false (not (is_hidden t l)))
+    stopped ∙ sym (builtin_alone t l ws ∙ ap (λ b. not (is_hidden t l) && b) (sym h ∙ stopped)
+    ∙ and-false (not (is_hidden t l)))
 told_other t (Some before) l ws answer stopped h =
     let under = same_name (words_before (Some before)) cedar in
-    stopped ∙ sym (builtin_behind t before.first.now.text (texts_of before.others.now) l ws ∙ ap (λ b. under && b) (sym h ∙ stopped) ∙ and-false under)
+    stopped ∙ sym (builtin_behind t before.first.now.text (texts_of before.others.now) l ws
+    ∙ ap (λ b. under && b) (sym h ∙ stopped) ∙ and-false under)
 
 -- the builtin words
 joined : (a b c d : Bool) → (a || (b || (c || d))) ≡ ((a || (b || (c || false))) || d)

@@ -1,5 +1,6 @@
 -- A name is declared where the namespace that stands in it declares its last word.
-use Rattle.std.proofs.Common.{◌≡◌, ℕ, Bool, true, false, ◌&&◌, ◌||◌, List, [], ◌∷◌, ◌++◌, map, codes, Option, Some, None, refl, sym, ap, ◌∙◌}
+use Rattle.std.proofs.Common.{◌≡◌, ℕ, Bool, true, false, ◌&&◌, ◌||◌, List, [], ◌∷◌, ◌++◌, map, codes, Option, Some}
+use Rattle.std.proofs.Common.{None, refl, sym, ap, ◌∙◌}
 use Rattle.std.specs.List.{flat_map, list_any}
 use Rattle.std.specs.Cmp.Lexicographic.{pointwise}
 use Rattle.std.specs.Str.{bytes_eq, encode_utf8_all}
@@ -17,7 +18,8 @@ use Rattle.cedar_names.specs.Definitions.{among, same_name}
 use Rattle.schema_json.specs.Actions.{action_name}
 use Rattle.schema_json.specs.declared.fragment.Fragment.{Fragment}
 use Rattle.schema_json.specs.declared.fragment.NamespaceDefinition.{NamespaceDefinition}
-use Rattle.schema_resolve_definitions.specs.Declarations.{declared, declared_name, action_type, commons_in, entities_in, actions_in}
+use Rattle.schema_resolve_definitions.specs.Declarations.{declared, declared_name, action_type, commons_in, entities_in}
+use Rattle.schema_resolve_definitions.specs.Declarations.{actions_in}
 use Rattle.schema_resolve_lookup.specs.Sought.{namespace_words, is_there}
 
 and_true : (b : Bool) → (b && true) ≡ b
@@ -85,7 +87,8 @@ any_of_all false (x ∷ xs) = any_of_all false xs
 -- a declared name is its word behind the words of its namespace
 declared_words : (ns : Option Name) (id : Id) → components_of (declared_name ns id) ≡ namespace_words ns ++ id.text ∷ []
 declared_words None id = refl
-declared_words (Some ns) id = ap (λ l. ns.name.first.text ∷ l) (map-append (λ (i : Id). i.text) ns.name.others (id ∷ []))
+declared_words (Some ns) id = ap (λ l. ns.name.first.text ∷ l)
+    (map-append (λ (i : Id). i.text) ns.name.others (id ∷ []))
 
 action_words : (ns : Option Name) → components_of (action_type ns) ≡ namespace_words ns ++ codes "Action" ∷ []
 action_words None = refl
@@ -94,10 +97,13 @@ action_words (Some ns) =
 
 -- it is the one of these words
 declared_there : (ns : Option Name) (id : Id) (xs : List (List ℕ)) (l : List ℕ)
-    → same_name (xs ++ l ∷ []) (components_of (declared_name ns id)) ≡ (same_name xs (namespace_words ns) && bytes_eq l id.text)
-declared_there ns id xs l = ap (same_name (xs ++ l ∷ [])) (declared_words ns id) ∙ same_behind xs (namespace_words ns) l id.text
+    → same_name (xs ++ l ∷ []) (components_of (declared_name ns id))
+    ≡ (same_name xs (namespace_words ns) && bytes_eq l id.text)
+declared_there ns id xs l = ap (same_name (xs ++ l ∷ [])) (declared_words ns id)
+    ∙ same_behind xs (namespace_words ns) l id.text
 
-module _ {G : named.Ghosts RawName} (ns : Option Name) (n : NamespaceDefinition RawName G) (xs : List (List ℕ)) (l : List ℕ) where
+module _ {G : named.Ghosts RawName} (ns : Option Name) (n : NamespaceDefinition RawName G) (xs : List (List ℕ))
+    (l : List ℕ) where
   pub common_there : among (commons_in ns n) (xs ++ l ∷ [])
       ≡ (same_name xs (namespace_words ns) && list_any (λ e. bytes_eq l e.0.id.id.text) n.common_types)
   common_there =
@@ -128,15 +134,18 @@ module _ {G : named.Ghosts RawName} where
   types_given name f =
       any_seen (same_name name) (λ (a : List (List ℕ) × List ℕ). a.0) (declared f).actions
       ∙ any_given (λ (a : List (List ℕ) × List ℕ). same_name name a.0) (λ e. actions_in e.0 e.1) f.0
-      ∙ sym (λ i. list_any (λ e. any_seen (same_name name) (λ (a : List (List ℕ) × List ℕ). a.0) (actions_in e.0 e.1) i) f.0)
+      ∙ sym (λ i. list_any (λ e. any_seen (same_name name) (λ (a : List (List ℕ) × List ℕ). a.0)
+      (actions_in e.0 e.1) i) f.0)
 
 -- ids in turn, by their texts
 ids_alike : (E : Id → Id → Bool) → ((x y : Id) → E x y ≡ bytes_eq (encode_utf8_all x.text) (encode_utf8_all y.text))
     → (x y : Id) → E x y ≡ bytes_eq x.text y.text
 ids_alike E e x y =
-    e x y ∙ (λ i. bytes_eq (word_bytes x.text (id_is_word x.text x.word) i) (word_bytes y.text (id_is_word y.text y.word) i))
+    e x y ∙ (λ i. bytes_eq (word_bytes x.text (id_is_word x.text x.word) i)
+    (word_bytes y.text (id_is_word y.text y.word) i))
 
-pub words_alike : (E : Id → Id → Bool) → ((x y : Id) → E x y ≡ bytes_eq (encode_utf8_all x.text) (encode_utf8_all y.text))
+pub words_alike : (E : Id → Id → Bool)
+    → ((x y : Id) → E x y ≡ bytes_eq (encode_utf8_all x.text) (encode_utf8_all y.text))
     → (xs ys : List Id) → pointwise E xs ys ≡ same_name (texts_of xs) (texts_of ys)
 words_alike E e [] [] = refl
 words_alike E e [] (y ∷ ys) = refl

@@ -11,11 +11,14 @@ use Rattle.schema_json.specs.declared.types.Type.{«Type» as Shape, Type-F, fol
 use Rattle.schema_json.specs.declared.types.Type.TheVariants as shape
 use Rattle.schema_json.specs.declared.types.TypeVariant.{TypeVariant, TypeVariant-F, fold-roll-TypeVariant}
 use Rattle.schema_json.specs.declared.types.TypeVariant.TheVariants as variant
-use Rattle.schema_json.specs.declared.types.RecordType.{RecordType, roll-RecordType, out-RecordType, fold_out-RecordType}
-use Rattle.schema_json.specs.declared.types.TypeOfAttribute.{TypeOfAttribute, roll-TypeOfAttribute, out-TypeOfAttribute, fold_out-TypeOfAttribute}
+use Rattle.schema_json.specs.declared.types.RecordType.{RecordType, roll-RecordType, out-RecordType}
+use Rattle.schema_json.specs.declared.types.RecordType.{fold_out-RecordType}
+use Rattle.schema_json.specs.declared.types.TypeOfAttribute.{TypeOfAttribute, roll-TypeOfAttribute, out-TypeOfAttribute}
+use Rattle.schema_json.specs.declared.types.TypeOfAttribute.{fold_out-TypeOfAttribute}
 use Rattle.schema_convert_types.specs.Types.{AttributeEntry}
 use Rattle.schema_syntax_reader.specs.Leaves.{Notes}
-use Rattle.schema_says.specs.Bare.{bare_name, bare_step, bare_variant, bare, bare_of_variant, bare_of_record, bare_of_attribute}
+use Rattle.schema_says.specs.Bare.{bare_name, bare_step, bare_variant, bare, bare_of_variant, bare_of_record}
+use Rattle.schema_says.specs.Bare.{bare_of_attribute}
 
 pub variant_bare : (v : TypeVariant RawName) (loc : Option Span)
     → bare (shape.Variant v loc) ≡ shape.Variant (bare_of_variant v) None

@@ -1,5 +1,6 @@
 -- A declaration of a tree that says what is written becomes an entity type, an action or a common type that says it.
-use Rattle.std.proofs.Common.{◌≡◌, ℕ, true, false, List, [], ◌∷◌, map, Option, Some, None, option_map, unwrap_or, filter_map, refl, sym, ap, ◌∙◌, subst, if◌then◌else◌}
+use Rattle.std.proofs.Common.{◌≡◌, ℕ, true, false, List, [], ◌∷◌, map, Option, Some, None, option_map, unwrap_or}
+use Rattle.std.proofs.Common.{filter_map, refl, sym, ap, ◌∙◌, subst, if◌then◌else◌}
 use Rattle.std.specs.List.{AllZip, AllByRecursion, cons_option}
 use Rattle.std.specs.Option.{option_or}
 use Rattle.cedar_data.specs.Maps.{last_at}
@@ -30,14 +31,23 @@ use Rattle.schema_json.specs.declared.action_type.ApplySpec.{ApplySpec}
 use Rattle.schema_json.specs.declared.common_type.CommonType.{CommonType}
 use Rattle.schema_convert_types.specs.Names.{internal_name_of, raw_name_of}
 use Rattle.schema_convert_types.specs.Types.{type_of, attribute_of, record_of_attributes}
-use Rattle.schema_convert_types.specs.Declarations.{raw_names, nothing, choices_of, tags_of, entity_kind_of, is_external, entity_type_of, with_types, with_member, with_members, applied_to_nothing, apply_spec_of, reference_of, references_of, action_type_of, member_types}
+use Rattle.schema_convert_types.specs.Declarations.{raw_names, nothing, choices_of, tags_of, entity_kind_of}
+use Rattle.schema_convert_types.specs.Declarations.{is_external, entity_type_of, with_types, with_member, with_members}
+use Rattle.schema_convert_types.specs.Declarations.{applied_to_nothing, apply_spec_of, reference_of, references_of}
+use Rattle.schema_convert_types.specs.Declarations.{action_type_of, member_types}
 use Rattle.schema_convert.specs.Members.{is_same_role}
-use Rattle.schema_readback.specs.Written.{WrittenType, WrittenAttributes, no_more, rec, WrittenRef, WrittenMember, types, context_path, context_record, WrittenDecl, entity, enum, external_entity, action, external_action, common, WrittenDeclared}
+use Rattle.schema_readback.specs.Written.{WrittenType, WrittenAttributes, no_more, rec, WrittenRef, WrittenMember}
+use Rattle.schema_readback.specs.Written.{types, context_path, context_record, WrittenDecl, entity, enum}
+use Rattle.schema_readback.specs.Written.{external_entity, action, external_action, common, WrittenDeclared}
 use Rattle.schema_readback.specs.PrintedDecls.{IsSome}
-use Rattle.schema_readback.specs.Shows.{SaysPath, SaysOptionalPath, SaysRef, SaysOptional, SaysTags, SaysShape, SaysChoice, SaysMember, SaysApplies, SaysDecl}
-use Rattle.schema_says.specs.Named.{AreNamedAttributes, AreNamedTags, IsNamedRole, IsNamedRef, IsNamedMember, AreNamedMembers, IsNamedDecl}
+use Rattle.schema_readback.specs.Shows.{SaysPath, SaysOptionalPath, SaysRef, SaysOptional, SaysTags, SaysShape}
+use Rattle.schema_readback.specs.Shows.{SaysChoice, SaysMember, SaysApplies, SaysDecl}
+use Rattle.schema_says.specs.Named.{AreNamedAttributes, AreNamedTags, IsNamedRole, IsNamedRef, IsNamedMember}
+use Rattle.schema_says.specs.Named.{AreNamedMembers, IsNamedDecl}
 use Rattle.schema_says.specs.TypesSay.{TypeSays}
-use Rattle.schema_says.specs.DeclarationsSay.{written_paths, TagsSay, KindSays, EntitySays, CommonIs, CommonSays, role_and_types, ContextOr, SpecSays, members_said, written_ref, ParentsSay, AppliesSay, ActionSays}
+use Rattle.schema_says.specs.DeclarationsSay.{written_paths, TagsSay, KindSays, EntitySays, CommonIs, CommonSays}
+use Rattle.schema_says.specs.DeclarationsSay.{role_and_types, ContextOr, SpecSays, members_said, written_ref}
+use Rattle.schema_says.specs.DeclarationsSay.{ParentsSay, AppliesSay, ActionSays}
 use Rattle.schema_says.proofs.Types.{named, record_says, type_says, attributes_say}
 
 path_says : (p : Path) (names : List (List ℕ)) → SaysPath p names → IsSome names

@@ -1,5 +1,6 @@
 -- What declarations enter into a namespace's maps says what is written of them.
-use Rattle.std.proofs.Common.{◌≡◌, ℕ, Bool, true, false, List, [], ◌∷◌, ◌++◌, map, Option, Some, None, refl, sym, ap, ◌∙◌, subst, true≢false, if◌then◌else◌}
+use Rattle.std.proofs.Common.{◌≡◌, ℕ, Bool, true, false, List, [], ◌∷◌, ◌++◌, map, Option, Some, None, refl, sym, ap}
+use Rattle.std.proofs.Common.{◌∙◌, subst, true≢false, if◌then◌else◌}
 use Rattle.std.specs.BTreeMap.{is_at}
 use Rattle.std.specs.List.{AllZip, AllByRecursion}
 use Rattle.std.specs.List.Sorted.{IsStrictlySortedBy}
@@ -24,11 +25,14 @@ use Rattle.schema_json.specs.declared.common_type.CommonType.{CommonType}
 use Rattle.schema_json.specs.declared.common_type.CommonTypeId.{CommonTypeId}
 use Rattle.schema_json.specs.declared.entity_type.EntityType.{EntityType}
 use Rattle.schema_convert_types.specs.Types.{type_of}
-use Rattle.schema_convert_types.specs.Declarations.{as_written, entity_type_of, action_type_of, unreserved_so, unreserved, declarable, each_with}
-use Rattle.schema_convert_types.specs.Fragments.{entity_entries_of, action_entries_of, common_entry, common_entries_of, entity_entries, action_entries, common_entries}
+use Rattle.schema_convert_types.specs.Declarations.{as_written, entity_type_of, action_type_of, unreserved_so}
+use Rattle.schema_convert_types.specs.Declarations.{unreserved, declarable, each_with}
+use Rattle.schema_convert_types.specs.Fragments.{entity_entries_of, action_entries_of, common_entry, common_entries_of}
+use Rattle.schema_convert_types.specs.Fragments.{entity_entries, action_entries, common_entries}
 use Rattle.schema_convert.specs.NamesIn.{entities_of, actions_of, commons_of, entity_names_in, common_names_in}
 use Rattle.schema_convert.specs.Translatable.{IsFreeCommon}
-use Rattle.schema_readback.specs.Written.{WrittenDecl, entity, enum, external_entity, action, external_action, common, WrittenDeclared}
+use Rattle.schema_readback.specs.Written.{WrittenDecl, entity, enum, external_entity, action, external_action, common}
+use Rattle.schema_readback.specs.Written.{WrittenDeclared}
 use Rattle.schema_readback.specs.Shows.{SaysId, SaysName, SaysDecl, SaysDeclared}
 use Rattle.schema_says.specs.Entries.{FoundSays, EntriesSay, last_written}
 use Rattle.schema_says.specs.Named.{IsNamedDeclared}

@@ -1,5 +1,7 @@
 -- A tree that says what is written, and has no fault, becomes a fragment that says it.
-use Rattle.std.proofs.Common.{◌≡◌, ℕ, Bool, true, false, cond, List, [], ◌∷◌, ◌++◌, map, reverse, Option, Some, None, option_map, filter, filter_map, flat_map, refl, sym, ap, subst, ◌∙◌, true≢false, if◌then◌else◌}
+use Rattle.std.proofs.Common.{◌≡◌, ℕ, Bool, true, false, cond, List, [], ◌∷◌, ◌++◌, map, reverse, Option, Some, None}
+use Rattle.std.proofs.Common.{option_map, filter, filter_map, flat_map, refl, sym, ap, subst, ◌∙◌, true≢false}
+use Rattle.std.proofs.Common.{if◌then◌else◌}
 use mathlib.Core.List.{reverse_aux}
 use Rattle.std.specs.BTreeMap.{is_at}
 use Rattle.std.specs.List.{AllZip, AllByRecursion}
@@ -26,11 +28,15 @@ use Rattle.schema_readback.specs.PrintedDecls.{IsSome}
 use Rattle.schema_readback.specs.Shows.{SaysOptionalPath, SaysDeclared, SaysItem}
 use Rattle.schema_says.specs.Entries.{FoundSays, EntriesSay}
 use Rattle.schema_says.specs.Named.{IsNamedDeclared, IsWellNamed}
-use Rattle.schema_says.specs.FragmentsSay.{WrittenNamespace, NamespaceSays, NamespaceName, namespace_order, name_components, name_of_item, notes_of_item, decls_of_item, is_of_namespace, items_of_namespace, opened, written_in, FragmentSays}
+use Rattle.schema_says.specs.FragmentsSay.{WrittenNamespace, NamespaceSays, NamespaceName, namespace_order}
+use Rattle.schema_says.specs.FragmentsSay.{name_components, name_of_item, notes_of_item, decls_of_item, is_of_namespace}
+use Rattle.schema_says.specs.FragmentsSay.{items_of_namespace, opened, written_in, FragmentSays}
 use Rattle.schema_says.proofs.Entered.{zip_append, entities_map_says, actions_map_says, commons_map_says}
 use Rattle.schema_says.proofs.Firsts.{last_of, last_has, zip_filter, all_filter}
 use Rattle.schema_says.proofs.Maps.{lookup_map, map_rises, or_nothing}
-use Rattle.schema_says.proofs.Openings.{Opening, Definition, name_in_tree, tree_name, opens, openings, whole, decls_of, defined, HasIds, HasKey, has_key, all_joined, joined_named, joined_unnamed, outside_opens, found_namespace, by_names_is}
+use Rattle.schema_says.proofs.Openings.{Opening, Definition, name_in_tree, tree_name, opens, openings, whole, decls_of}
+use Rattle.schema_says.proofs.Openings.{defined, HasIds, HasKey, has_key, all_joined, joined_named, joined_unnamed}
+use Rattle.schema_says.proofs.Openings.{outside_opens, found_namespace, by_names_is}
 use Rattle.schema_says.proofs.Orders.{text_total, text_exact, namespace_total, namespace_exact}
 
 -- what an item says of the namespace that it opens

@@ -1,10 +1,12 @@
 -- The items of a namespace among those of groups.
-use Rattle.std.proofs.Common.{◌≡◌, Bool, true, false, cond, List, [], ◌∷◌, ◌++◌, map, Some, None, flat_map, refl, ap, ◌∙◌}
+use Rattle.std.proofs.Common.{◌≡◌, Bool, true, false, cond, List, [], ◌∷◌, ◌++◌, map, Some, None, flat_map, refl, ap}
+use Rattle.std.proofs.Common.{◌∙◌}
 use Rattle.std.specs.BTreeMap.{is_at}
 use Rattle.schema_syntax_reader.specs.Leaves.{Notes}
 use Rattle.schema_readback.specs.Written.{WrittenDeclared, WrittenItem, outside}
 use Rattle.schema_readback.specs.PrintedDecls.{namespace_items}
-use Rattle.schema_says.specs.FragmentsSay.{NamespaceName, namespace_order, notes_of_item, decls_of_item, is_of_namespace, items_of_namespace}
+use Rattle.schema_says.specs.FragmentsSay.{NamespaceName, namespace_order, notes_of_item, decls_of_item}
+use Rattle.schema_says.specs.FragmentsSay.{is_of_namespace, items_of_namespace}
 
 pub outside_decls : (ds : List WrittenDeclared) → flat_map decls_of_item (map outside ds) ≡ ds
 outside_decls [] = refl

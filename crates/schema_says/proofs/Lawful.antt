@@ -1,5 +1,6 @@
 -- A joined namespace is lawful exactly where what is written of it can be translated.
-use Rattle.std.proofs.Common.{◌≡◌, ◌↔◌, ◌||◌, ℕ, Bool, true, false, cond, List, [], ◌∷◌, ◌++◌, map, Option, Some, None, option_map, find, is_some, refl, sym, ap, subst, ◌∙◌, true≢false}
+use Rattle.std.proofs.Common.{◌≡◌, ◌↔◌, ◌||◌, ℕ, Bool, true, false, cond, List, [], ◌∷◌, ◌++◌, map, Option, Some, None}
+use Rattle.std.proofs.Common.{option_map, find, is_some, refl, sym, ap, subst, ◌∙◌, true≢false}
 use Rattle.std.proofs.lemmas.List.{map-append}
 use Rattle.std.specs.List.{AllZip, AllByRecursion, list_any}
 use Rattle.std.specs.Option.{option_eq}
@@ -21,15 +22,21 @@ use Rattle.schema_syntax_tree.specs.declared.pr.PR.{PR}
 use Rattle.schema_syntax_tree.specs.declared.pr.PR.TheVariants.{Principal, Resource}
 use Rattle.schema_convert.specs.Faults.{is_reserved_path}
 use Rattle.schema_convert.specs.Members.{is_same_role, says_role, says_same}
-use Rattle.schema_convert.specs.NamesIn.{entities_of, actions_of, commons_of, entity_names_in, action_names_in, common_names_in, id_cmp, action_cmp}
+use Rattle.schema_convert.specs.NamesIn.{entities_of, actions_of, commons_of, entity_names_in, action_names_in}
+use Rattle.schema_convert.specs.NamesIn.{common_names_in, id_cmp, action_cmp}
 use Rattle.schema_convert.specs.Repeats.{NoneRepeats}
-use Rattle.schema_convert.specs.Translatable.{IsFreeName, IsFilled, IsLawfulBlock, HasLawfulBlock, AppliesLawfully, IsLawfulNamespace}
-use Rattle.schema_readback.specs.Written.{WrittenMember, types, context_path, context_record, WrittenDecl, entity, enum, external_entity, action, external_action, common, WrittenDeclared}
+use Rattle.schema_convert.specs.Translatable.{IsFreeName, IsFilled, IsLawfulBlock, HasLawfulBlock, AppliesLawfully}
+use Rattle.schema_convert.specs.Translatable.{IsLawfulNamespace}
+use Rattle.schema_readback.specs.Written.{WrittenMember, types, context_path, context_record, WrittenDecl, entity, enum}
+use Rattle.schema_readback.specs.Written.{external_entity, action, external_action, common, WrittenDeclared}
 use Rattle.schema_readback.specs.PrintedDecls.{IsSome}
-use Rattle.schema_readback.specs.Shows.{SaysPath, SaysId, SaysName, SaysOptional, SaysMember, SaysApplies, SaysDecl, SaysDeclared}
+use Rattle.schema_readback.specs.Shows.{SaysPath, SaysId, SaysName, SaysOptional, SaysMember, SaysApplies, SaysDecl}
+use Rattle.schema_readback.specs.Shows.{SaysDeclared}
 use Rattle.schema_says.specs.Named.{IsNamedDecl, IsNamedDeclared}
 use Rattle.schema_says.specs.FragmentsSay.{entities_of_decl, actions_of_decl, commons_of_decl, NamespaceName}
-use Rattle.schema_says.specs.Sayable.{IsFreeNamespace, role_said, says_alike, has_role, IsFilledMember, AreLawfulMembers, HasLawfulMembers, AppliesWell, IsFreeCommonName, names_written, IsSayableNamespace}
+use Rattle.schema_says.specs.Sayable.{IsFreeNamespace, role_said, says_alike, has_role, IsFilledMember}
+use Rattle.schema_says.specs.Sayable.{AreLawfulMembers, HasLawfulMembers, AppliesWell, IsFreeCommonName, names_written}
+use Rattle.schema_says.specs.Sayable.{IsSayableNamespace}
 use Rattle.schema_says.proofs.Entered.{zip_append, kinds}
 use Rattle.schema_says.proofs.Openings.{Opening, name_in_tree, tree_name}
 

@@ -11,10 +11,14 @@ use Rattle.cedar_data.specs.Text.{text_cmp}
 use Rattle.cedar_names.specs.CanonicalText.{basename, namespace, in_order, namespaces}
 use Rattle.cedar_names.specs.Meaning.{PlainType, Attributes, EntityMeaning, ActionMeaning, SchemaMeaning}
 use Rattle.cedar_names.specs.Meaning as m
-use Rattle.schema_readback.specs.Meant.{type_of_meaning, attributes_of_meaning, tags_of_meaning, entity_as, ref_of_meaning, members_of_meaning, action_as, entity_of_meaning, action_of_meaning, name_or_none, group_of_meaning, groups_of_meaning}
+use Rattle.schema_readback.specs.Meant.{type_of_meaning, attributes_of_meaning, tags_of_meaning, entity_as}
+use Rattle.schema_readback.specs.Meant.{ref_of_meaning, members_of_meaning, action_as, entity_of_meaning}
+use Rattle.schema_readback.specs.Meant.{action_of_meaning, name_or_none, group_of_meaning, groups_of_meaning}
 use Rattle.schema_readback.specs.Printed.{IsProperPath, IsProperType, AreProperAttributes, AreProperNotes}
-use Rattle.schema_readback.specs.PrintedDecls.{IsProperWord, IsProperOptional, IsProperRef, IsProperTags, AreProperMembers, IsProperDecl, IsProperDeclared, IsProperGroup}
-use Rattle.schema_says.specs.MeantNames.{IsSpelledType, AreSpelledTypes, AreSpelledTags, HasChoice, IsSpelledEntity, IsSpelledAction, IsOfWords}
+use Rattle.schema_readback.specs.PrintedDecls.{IsProperWord, IsProperOptional, IsProperRef, IsProperTags}
+use Rattle.schema_readback.specs.PrintedDecls.{AreProperMembers, IsProperDecl, IsProperDeclared, IsProperGroup}
+use Rattle.schema_says.specs.MeantNames.{IsSpelledType, AreSpelledTypes, AreSpelledTags, HasChoice, IsSpelledEntity}
+use Rattle.schema_says.specs.MeantNames.{IsSpelledAction, IsOfWords}
 
 abbrev Name : Type 0
 Name = List (List ℕ)

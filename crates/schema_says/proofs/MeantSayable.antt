@@ -1,5 +1,7 @@
 -- What is written of a meaning whose names may be declared can be translated.
-use Rattle.std.proofs.Common.{◌≡◌, ◌||◌, ℕ, Bool, true, false, cond, List, [], ◌∷◌, ◌++◌, map, filter, find, flat_map, Option, Some, None, refl, sym, ap, ◌∙◌, subst, append-nil, append_assoc, true≢false, is_some}
+use Rattle.std.proofs.Common.{◌≡◌, ◌||◌, ℕ, Bool, true, false, cond, List, [], ◌∷◌, ◌++◌, map, filter, find, flat_map}
+use Rattle.std.proofs.Common.{Option, Some, None, refl, sym, ap, ◌∙◌, subst, append-nil, append_assoc, true≢false}
+use Rattle.std.proofs.Common.{is_some}
 use Rattle.std.specs.BTreeMap.{is_at}
 use Rattle.std.specs.BTreeSet.{insert_key}
 use Rattle.std.specs.Cmp.{IsTotalOrder, tied_itself}
@@ -18,12 +20,16 @@ use Rattle.cedar_names.specs.Definitions.{same_name}
 use Rattle.cedar_names.specs.Meaning.{EntityMeaning, ActionMeaning, SchemaMeaning, Attributes}
 use Rattle.schema_convert.specs.Repeats.{NoneRepeats}
 use Rattle.schema_syntax_tree.specs.declared.pr.PR.TheVariants.{Principal, Resource}
-use Rattle.schema_readback.specs.Meant.{attributes_of_meaning, entity_as, action_as, members_of_meaning, entity_of_meaning, action_of_meaning, items_of_meaning, name_or_none, group_of_meaning, groups_of_meaning}
+use Rattle.schema_readback.specs.Meant.{attributes_of_meaning, entity_as, action_as, members_of_meaning}
+use Rattle.schema_readback.specs.Meant.{entity_of_meaning, action_of_meaning, items_of_meaning, name_or_none}
+use Rattle.schema_readback.specs.Meant.{group_of_meaning, groups_of_meaning}
 use Rattle.schema_readback.specs.PrintedDecls.{IsSome, group_items}
 use Rattle.schema_readback.specs.Written.{WrittenDecl, WrittenDeclared, WrittenItem, types, context_record, outside}
-use Rattle.schema_says.specs.FragmentsSay.{entities_of_decl, actions_of_decl, commons_of_decl, NamespaceName, namespace_order, WrittenNamespace, items_of_namespace, opened}
+use Rattle.schema_says.specs.FragmentsSay.{entities_of_decl, actions_of_decl, commons_of_decl, NamespaceName}
+use Rattle.schema_says.specs.FragmentsSay.{namespace_order, WrittenNamespace, items_of_namespace, opened}
 use Rattle.schema_says.specs.MeantNames.{IsOpenName, IsActionName, action_name_order, HasOpenNames}
-use Rattle.schema_says.specs.Sayable.{IsFreeNamespace, says_alike, HasLawfulMembers, AppliesWell, IsFreeCommonName, names_written, IsSayableNamespace, IsSayable}
+use Rattle.schema_says.specs.Sayable.{IsFreeNamespace, says_alike, HasLawfulMembers, AppliesWell, IsFreeCommonName}
+use Rattle.schema_says.specs.Sayable.{names_written, IsSayableNamespace, IsSayable}
 use Rattle.schema_says.proofs.Grouped.{outside_decls, filter_append, items_at}
 use Rattle.schema_says.proofs.Maps.{is_equal}
 use Rattle.schema_says.proofs.Orders.{text_total, text_exact, namespace_exact}

@@ -1,5 +1,6 @@
 -- What is written of a meaning in a namespace.
-use Rattle.std.proofs.Common.{◌≡◌, zero, suc, Bool, true, false, cond, List, [], ◌∷◌, ◌++◌, map, flat_map, Some, Contains, refl, sym, ap, ◌∙◌, subst, append-nil, arith, true≢false, is_some}
+use Rattle.std.proofs.Common.{◌≡◌, zero, suc, Bool, true, false, cond, List, [], ◌∷◌, ◌++◌, map, flat_map, Some}
+use Rattle.std.proofs.Common.{Contains, refl, sym, ap, ◌∙◌, subst, append-nil, arith, true≢false, is_some}
 use Rattle.std.specs.BTreeMap.{is_at}
 use Rattle.std.specs.Cmp.{tied_itself}
 use Rattle.std.specs.List.{AllByRecursion}
@@ -12,11 +13,13 @@ use Rattle.cedar_names.specs.Meaning.{SchemaMeaning}
 use Rattle.schema_readback.specs.Meant.{items_of_meaning, name_or_none, group_of_meaning, groups_of_meaning}
 use Rattle.schema_readback.specs.PrintedDecls.{IsSome, group_items}
 use Rattle.schema_readback.specs.Written.{WrittenDeclared, outside}
-use Rattle.schema_says.specs.FragmentsSay.{NamespaceName, namespace_order, WrittenNamespace, items_of_namespace, opened, written_in}
+use Rattle.schema_says.specs.FragmentsSay.{NamespaceName, namespace_order, WrittenNamespace, items_of_namespace, opened}
+use Rattle.schema_says.specs.FragmentsSay.{written_in}
 use Rattle.schema_says.specs.MeantNamespaces.{meant_in_namespace, IsOfMeaning}
 use Rattle.schema_says.proofs.Grouped.{outside_decls, outside_notes, filter_append}
 use Rattle.schema_says.proofs.Maps.{is_equal}
-use Rattle.schema_says.proofs.MeantSayable.{Name, name_order, items, items_here, none_behind, order_rises, name_back, less_apart, equal_self}
+use Rattle.schema_says.proofs.MeantSayable.{Name, name_order, items, items_here, none_behind, order_rises, name_back}
+use Rattle.schema_says.proofs.MeantSayable.{less_apart, equal_self}
 use Rattle.schema_says.proofs.Orders.{namespace_exact, namespace_total}
 
 module _ (m : SchemaMeaning) where

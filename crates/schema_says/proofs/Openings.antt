@@ -1,5 +1,7 @@
 -- The joined namespaces of a tree, by the openings of each name.
-use Rattle.std.proofs.Common.{◌≡◌, ◌||◌, ℕ, Bool, true, false, not, cond, List, [], ◌∷◌, ◌++◌, map, Option, Some, None, option_map, filter, filter_map, flat_map, find, refl, sym, ap, subst, ◌∙◌, true≢false, if◌then◌else◌}
+use Rattle.std.proofs.Common.{◌≡◌, ◌||◌, ℕ, Bool, true, false, not, cond, List, [], ◌∷◌, ◌++◌, map, Option, Some, None}
+use Rattle.std.proofs.Common.{option_map, filter, filter_map, flat_map, find, refl, sym, ap, subst, ◌∙◌, true≢false}
+use Rattle.std.proofs.Common.{if◌then◌else◌}
 use Rattle.std.specs.BTreeMap.{is_at}
 use Rattle.std.specs.Cmp.Lexicographic.{slice_cmp}
 use Rattle.std.specs.List.{AllByRecursion, list_any, cons_option}
@@ -22,8 +24,10 @@ use Rattle.schema_syntax_tree.specs.declared.path.Path.{Path}
 use Rattle.schema_json.specs.declared.fragment.NamespaceDefinition.{NamespaceDefinition}
 use Rattle.schema_convert_types.specs.Names.{internal_name_of}
 use Rattle.schema_convert_types.specs.Declarations.{as_written}
-use Rattle.schema_convert_types.specs.Fragments.{namespace_cmp, definition_of, declarable_name_so, namespace_key, namespace_entry}
-use Rattle.schema_convert.specs.Joined.{named_so, unnamed_so, named, outside, have_one_name, first_openings, openings_of, opened_as, joined_by_name, empty_namespace, joined}
+use Rattle.schema_convert_types.specs.Fragments.{namespace_cmp, definition_of, declarable_name_so, namespace_key}
+use Rattle.schema_convert_types.specs.Fragments.{namespace_entry}
+use Rattle.schema_convert.specs.Joined.{named_so, unnamed_so, named, outside, have_one_name, first_openings}
+use Rattle.schema_convert.specs.Joined.{openings_of, opened_as, joined_by_name, empty_namespace, joined}
 use Rattle.schema_convert.specs.NamesIn.{id_text_cmp, path_cmp}
 use Rattle.schema_convert.specs.Translatable.{IsFreeName}
 use Rattle.schema_readback.specs.PrintedDecls.{IsSome}

@@ -1,11 +1,16 @@
 -- What may be printed has names.
 use Rattle.std.proofs.Common.{ℕ, List, [], ◌∷◌, ◌++◌, map, Option, Some, None, flat_map}
 use Rattle.std.specs.List.{AllByRecursion}
-use Rattle.schema_readback.specs.Written.{WrittenType, WrittenAttributes, path, set, rec, no_more, attribute, WrittenMember, types, context_path, context_record, WrittenDecl, entity, enum, external_entity, action, external_action, common, WrittenDeclared, outside}
+use Rattle.schema_readback.specs.Written.{WrittenType, WrittenAttributes, path, set, rec, no_more, attribute}
+use Rattle.schema_readback.specs.Written.{WrittenMember, types, context_path, context_record, WrittenDecl, entity, enum}
+use Rattle.schema_readback.specs.Written.{external_entity, action, external_action, common, WrittenDeclared, outside}
 use Rattle.schema_readback.specs.Printed.{IsProperPath, IsProperType, AreProperAttributes}
-use Rattle.schema_readback.specs.PrintedDecls.{IsSome, IsProperOptional, IsProperRef, IsProperTags, IsProperMember, AreProperMembers, IsProperDecl, IsProperDeclared, Group, IsProperGroup, namespace_items, group_items}
+use Rattle.schema_readback.specs.PrintedDecls.{IsSome, IsProperOptional, IsProperRef, IsProperTags, IsProperMember}
+use Rattle.schema_readback.specs.PrintedDecls.{AreProperMembers, IsProperDecl, IsProperDeclared, Group, IsProperGroup}
+use Rattle.schema_readback.specs.PrintedDecls.{namespace_items, group_items}
 use Rattle.schema_syntax_reader.specs.Leaves.{Notes}
-use Rattle.schema_says.specs.Named.{IsNamedType, AreNamedAttributes, AreNamedTags, IsNamedRole, IsNamedRef, IsNamedMember, AreNamedMembers, IsNamedDecl, IsNamedDeclared, IsWellNamed}
+use Rattle.schema_says.specs.Named.{IsNamedType, AreNamedAttributes, AreNamedTags, IsNamedRole, IsNamedRef}
+use Rattle.schema_says.specs.Named.{IsNamedMember, AreNamedMembers, IsNamedDecl, IsNamedDeclared, IsWellNamed}
 
 all_weaker : {A : Type 0} (P Q : A → Type 0) → ((x : A) → P x → Q x) → (xs : List A) → AllByRecursion P xs
     → AllByRecursion Q xs

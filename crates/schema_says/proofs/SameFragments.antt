@@ -1,5 +1,6 @@
 -- Fragments that say the same are the same, places aside.
-use Rattle.std.proofs.Common.{◌≡◌, ℕ, Bool, true, false, List, [], ◌∷◌, map, Option, Some, None, option_map, is_some, refl, sym, ap, subst, ◌∙◌, map-id, true≢false}
+use Rattle.std.proofs.Common.{◌≡◌, ℕ, Bool, true, false, List, [], ◌∷◌, map, Option, Some, None, option_map, is_some}
+use Rattle.std.proofs.Common.{refl, sym, ap, subst, ◌∙◌, map-id, true≢false}
 use Rattle.std.proofs.Math.Bool.{Bool-set}
 use Rattle.std.specs.BTreeMap.{is_at}
 use Rattle.std.specs.Cmp.{IsTotalOrder}
@@ -35,13 +36,19 @@ use Rattle.schema_json.specs.declared.fragment.Fragment.{Fragment}
 use Rattle.schema_json.specs.declared.fragment.NamespaceDefinition.{NamespaceDefinition}
 use Rattle.schema_convert_types.specs.Declarations.{as_written}
 use Rattle.cedar_identifiers.specs.declared.eid.Eid.{Eid}
-use Rattle.schema_readback.specs.Written.{WrittenType, no_more, rec, WrittenRef, WrittenMember, types, context_path, context_record, WrittenDecl, entity, enum, external_entity, action, external_action, common, WrittenDeclared, WrittenItem}
+use Rattle.schema_readback.specs.Written.{WrittenType, no_more, rec, WrittenRef, WrittenMember, types, context_path}
+use Rattle.schema_readback.specs.Written.{context_record, WrittenDecl, entity, enum, external_entity, action}
+use Rattle.schema_readback.specs.Written.{external_action, common, WrittenDeclared, WrittenItem}
 use Rattle.schema_says.specs.Bare.{bare_internal, bare_name, bare, bare_step, bare_variant}
-use Rattle.schema_says.specs.BareFragments.{bare_declared, bare_common, bare_kind, bare_entity, bare_spec, bare_ref, bare_action, bare_namespace, bare_fragment}
+use Rattle.schema_says.specs.BareFragments.{bare_declared, bare_common, bare_kind, bare_entity, bare_spec, bare_ref}
+use Rattle.schema_says.specs.BareFragments.{bare_action, bare_namespace, bare_fragment}
 use Rattle.schema_says.specs.TypesSay.{TypeSays}
-use Rattle.schema_says.specs.DeclarationsSay.{written_paths, TagsSay, KindSays, EntitySays, CommonIs, CommonSays, ContextOr, SpecSays, members_said, written_ref, ParentsSay, AppliesSay, ActionSays}
+use Rattle.schema_says.specs.DeclarationsSay.{written_paths, TagsSay, KindSays, EntitySays, CommonIs, CommonSays}
+use Rattle.schema_says.specs.DeclarationsSay.{ContextOr, SpecSays, members_said, written_ref, ParentsSay, AppliesSay}
+use Rattle.schema_says.specs.DeclarationsSay.{ActionSays}
 use Rattle.schema_says.specs.Entries.{FoundSays, EntriesSay}
-use Rattle.schema_says.specs.FragmentsSay.{WrittenNamespace, NamespaceSays, namespace_order, name_components, written_in, FragmentSays}
+use Rattle.schema_says.specs.FragmentsSay.{WrittenNamespace, NamespaceSays, namespace_order, name_components}
+use Rattle.schema_says.specs.FragmentsSay.{written_in, FragmentSays}
 use Rattle.schema_says.proofs.BareTypes.{name_same, notes_same, id_same, ids_same}
 use Rattle.schema_says.proofs.Maps.{told_by_names}
 use Rattle.schema_says.proofs.Orders.{text_total, text_exact, namespace_total, namespace_exact}

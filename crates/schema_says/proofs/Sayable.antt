@@ -1,5 +1,6 @@
 -- A tree is lawful exactly where what it says can be translated.
-use Rattle.std.proofs.Common.{◌≡◌, ◌↔◌, ◌||◌, ℕ, Bool, true, false, not, cond, List, [], ◌∷◌, ◌++◌, map, Option, Some, None, option_map, filter, flat_map, refl, sym, ap, subst, ◌∙◌, true≢false}
+use Rattle.std.proofs.Common.{◌≡◌, ◌↔◌, ◌||◌, ℕ, Bool, true, false, not, cond, List, [], ◌∷◌, ◌++◌, map, Option, Some}
+use Rattle.std.proofs.Common.{None, option_map, filter, flat_map, refl, sym, ap, subst, ◌∙◌, true≢false}
 use Rattle.std.specs.Cmp.{tied_itself}
 use Rattle.std.specs.List.{AllZip, AllByRecursion, list_any}
 use Rattle.std.specs.Ordering.{is_eq}
@@ -8,17 +9,20 @@ use Rattle.schema_syntax_tree.specs.declared.annotated.Annotated.{Annotated}
 use Rattle.schema_syntax_tree.specs.declared.declaration.Declaration.{Declaration}
 use Rattle.schema_syntax_tree.specs.declared.path.Path.{Path}
 use Rattle.cedar_identifiers.specs.Names.{texts_of}
-use Rattle.schema_convert.specs.Joined.{named_so, named, outside, have_one_name, first_openings, openings_of, opened_as, joined_by_name, empty_namespace, joined}
+use Rattle.schema_convert.specs.Joined.{named_so, named, outside, have_one_name, first_openings, openings_of, opened_as}
+use Rattle.schema_convert.specs.Joined.{joined_by_name, empty_namespace, joined}
 use Rattle.schema_convert.specs.Translatable.{IsLawfulNamespace, IsTranslatable}
 use Rattle.schema_readback.specs.Written.{WrittenItem, namespace, outside as stands_outside}
 use Rattle.schema_readback.specs.Shows.{SaysDeclared, SaysItem}
 use Rattle.schema_says.specs.Named.{IsWellNamed}
-use Rattle.schema_says.specs.FragmentsSay.{NamespaceName, WrittenNamespace, notes_of_item, decls_of_item, is_of_namespace, items_of_namespace, opened}
+use Rattle.schema_says.specs.FragmentsSay.{NamespaceName, WrittenNamespace, notes_of_item, decls_of_item}
+use Rattle.schema_says.specs.FragmentsSay.{is_of_namespace, items_of_namespace, opened}
 use Rattle.schema_says.specs.Sayable.{IsSayableNamespace, IsSayable}
 use Rattle.schema_says.proofs.Firsts.{last_of, last_has, all_filter, filter_same}
 use Rattle.schema_says.proofs.Fragments.{openings_say, decls_say, decls_named, all_pass, StandsOutside}
 use Rattle.schema_says.proofs.Lawful.{namespace_iff}
-use Rattle.schema_says.proofs.Openings.{Opening, tree_name, opens, at_name, one_name, openings, whole, named_opens, joined_named, joined_unnamed, outside_opens}
+use Rattle.schema_says.proofs.Openings.{Opening, tree_name, opens, at_name, one_name, openings, whole, named_opens}
+use Rattle.schema_says.proofs.Openings.{joined_named, joined_unnamed, outside_opens}
 use Rattle.schema_says.proofs.Orders.{namespace_total}
 
 some_same : (a b : WrittenNamespace) → Some a ≡ Some b → a ≡ b

@@ -8,7 +8,8 @@ use Rattle.schema_syntax_tree.specs.declared.annotated.Annotated.{Annotated}
 use Rattle.schema_syntax_tree.specs.declared.path.Path.{Path}
 use Rattle.schema_syntax_tree.specs.declared.types.AttrDecl.{AttrDecl, out-AttrDecl}
 use Rattle.schema_syntax_tree.specs.declared.types.Type.{«Type»}
-use Rattle.schema_syntax_tree.specs.declared.types.Type.TheVariants.{Set, Ident, Record, rolls-Set, rolls-Ident, rolls-Record}
+use Rattle.schema_syntax_tree.specs.declared.types.Type.TheVariants.{Set, Ident, Record, rolls-Set, rolls-Ident}
+use Rattle.schema_syntax_tree.specs.declared.types.Type.TheVariants.{rolls-Record}
 use Rattle.schema_syntax_tree.specs.declared.types.Type.TheOpen.{Type-F}
 use Rattle.schema_syntax_tree.specs.declared.types.Type.TheFolds.{fold-roll-Type, fold_out-AttrDecl}
 use Rattle.schema_json.specs.declared.types.Type.{«Type» as Shape}
@@ -16,7 +17,8 @@ use Rattle.schema_json.specs.declared.types.Type.TheVariants as shape
 use Rattle.schema_json.specs.declared.types.TypeVariant.TheVariants as variant
 use Rattle.schema_json.specs.declared.types.TypeOfAttribute.{roll-TypeOfAttribute}
 use Rattle.schema_convert_types.specs.Names.{raw_name_of}
-use Rattle.schema_convert_types.specs.Types.{AttributeEntry, record_type, translated_type, translated_attribute, type_at, attribute_beside, attribute_of}
+use Rattle.schema_convert_types.specs.Types.{AttributeEntry, record_type, translated_type, translated_attribute}
+use Rattle.schema_convert_types.specs.Types.{type_at, attribute_beside, attribute_of}
 
 map_both : {A B C : Type 0} (f : B → C) (g : A → B) (xs : List A) → map f (map g xs) ≡ map (λ x. f (g x)) xs
 map_both f g [] = refl

@@ -1,5 +1,6 @@
 -- A tree's type that says what is written becomes a fragment's type that says it.
-use Rattle.std.proofs.Common.{◌≡◌, ℕ, Bool, true, false, not, ◌&&◌, ◌||◌, List, [], ◌∷◌, map, Option, Some, None, is_some, refl, sym, ap, ◌∙◌, subst, true≢false, if◌then◌else◌}
+use Rattle.std.proofs.Common.{◌≡◌, ℕ, Bool, true, false, not, ◌&&◌, ◌||◌, List, [], ◌∷◌, map, Option, Some, None}
+use Rattle.std.proofs.Common.{is_some, refl, sym, ap, ◌∙◌, subst, true≢false, if◌then◌else◌}
 use Rattle.std.specs.BTreeMap.{is_at}
 use Rattle.std.specs.List.Sorted.{IsStrictlySortedBy}
 use Rattle.std.specs.Map.{lookup, keys_of}
@@ -17,14 +18,16 @@ use Rattle.schema_syntax_tree.specs.declared.types.Type.{«Type»}
 use Rattle.schema_json.specs.Shapes.{attributes_of}
 use Rattle.schema_json.specs.declared.types.Type.{«Type» as Shape}
 use Rattle.schema_json.specs.declared.types.RecordType.{RecordType, out-RecordType, out-roll-RecordType, RecordType-F}
-use Rattle.schema_json.specs.declared.types.TypeOfAttribute.{TypeOfAttribute, roll-TypeOfAttribute, out-TypeOfAttribute, out-roll-TypeOfAttribute, TypeOfAttribute-F}
+use Rattle.schema_json.specs.declared.types.TypeOfAttribute.{TypeOfAttribute, roll-TypeOfAttribute, out-TypeOfAttribute}
+use Rattle.schema_json.specs.declared.types.TypeOfAttribute.{out-roll-TypeOfAttribute, TypeOfAttribute-F}
 use Rattle.schema_json.specs.declared.types.TypeVariant.{TypeVariant}
 use Rattle.schema_convert_types.specs.Names.{raw_name_of, name_of_ids}
 use Rattle.schema_convert_types.specs.Types.{AttributeEntry, record_of, record_type, type_at, attribute_of}
 use Rattle.schema_syntax_reader.specs.Leaves.{Notes}
 use Rattle.schema_readback.specs.Written.{WrittenType, WrittenAttributes, rec}
 use Rattle.schema_readback.specs.PrintedDecls.{IsSome}
-use Rattle.schema_readback.specs.Shows.{ShowsType, shows_path, shows_set, shows_record, ShowsAttributes, shows_none, shows_more}
+use Rattle.schema_readback.specs.Shows.{ShowsType, shows_path, shows_set, shows_record, ShowsAttributes, shows_none}
+use Rattle.schema_readback.specs.Shows.{shows_more}
 use Rattle.schema_says.specs.Named.{IsNamedType, AreNamedAttributes}
 use Rattle.schema_says.specs.TypesSay.{TypeSays, AttributeSays, ByTest, has_attribute, is_last_attribute}
 use Rattle.schema_says.proofs.Maps.{lookup_map, map_rises}

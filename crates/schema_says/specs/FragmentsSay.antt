@@ -17,7 +17,8 @@ use Rattle.schema_json.specs.declared.fragment.Fragment.{Fragment}
 use Rattle.schema_json.specs.declared.fragment.NamespaceDefinition.{NamespaceDefinition}
 use Rattle.schema_syntax_reader.specs.Leaves.{Notes}
 use Rattle.schema_convert_types.specs.Declarations.{as_written}
-use Rattle.schema_readback.specs.Written.{WrittenDecl, entity, enum, external_entity, action, external_action, common, WrittenDeclared, WrittenItem, namespace, outside}
+use Rattle.schema_readback.specs.Written.{WrittenDecl, entity, enum, external_entity, action, external_action, common}
+use Rattle.schema_readback.specs.Written.{WrittenDeclared, WrittenItem, namespace, outside}
 use Rattle.schema_says.specs.DeclarationsSay.{EntitySays, ActionSays, CommonSays}
 use Rattle.schema_says.specs.Entries.{EntriesSay, last_written}
 

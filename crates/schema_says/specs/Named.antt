@@ -1,7 +1,10 @@
 -- What is written with names that have a component, and declarations that have a name.
 use Rattle.std.specs.Prelude.{ℕ, List, Option, Some, None}
 use Rattle.std.specs.List.{AllByRecursion}
-use Rattle.schema_readback.specs.Written.{WrittenType, WrittenAttributes, path, set, rec, no_more, attribute, WrittenRef, WrittenMember, types, context_path, context_record, WrittenDecl, entity, enum, external_entity, action, external_action, common, WrittenDeclared, WrittenItem, namespace, outside}
+use Rattle.schema_readback.specs.Written.{WrittenType, WrittenAttributes, path, set, rec, no_more, attribute}
+use Rattle.schema_readback.specs.Written.{WrittenRef, WrittenMember, types, context_path, context_record, WrittenDecl}
+use Rattle.schema_readback.specs.Written.{entity, enum, external_entity, action, external_action, common}
+use Rattle.schema_readback.specs.Written.{WrittenDeclared, WrittenItem, namespace, outside}
 use Rattle.schema_readback.specs.PrintedDecls.{IsSome}
 
 abbrev mutual

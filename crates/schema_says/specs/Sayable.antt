@@ -13,7 +13,8 @@ use Rattle.schema_convert.specs.Repeats.{NoneRepeats}
 use Rattle.schema_readback.specs.Written.{WrittenMember, types, WrittenDecl, action, WrittenDeclared, WrittenItem}
 use Rattle.schema_readback.specs.PrintedDecls.{IsSome}
 use Rattle.schema_says.specs.DeclarationsSay.{role_and_types}
-use Rattle.schema_says.specs.FragmentsSay.{entities_of_decl, actions_of_decl, commons_of_decl, NamespaceName, WrittenNamespace, written_in}
+use Rattle.schema_says.specs.FragmentsSay.{entities_of_decl, actions_of_decl, commons_of_decl, NamespaceName}
+use Rattle.schema_says.specs.FragmentsSay.{WrittenNamespace, written_in}
 
 -- no component of a namespace's name is reserved
 abbrev pub IsFreeNamespace : NamespaceName → Type 0

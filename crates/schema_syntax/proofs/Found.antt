@@ -1,5 +1,6 @@
 -- The fault that is found, from the tokens and the fault of their kinds.
-use Rattle.std.proofs.Common.{◌≡◌, ◌+◌, ◌<◌, ◌≤◌, ◌-◌, ℕ, List, [], ◌∷◌, ◌++◌, length, take, get_or, refl, sym, ap, ◌∙◌, subst, arith, append-nil}
+use Rattle.std.proofs.Common.{◌≡◌, ◌+◌, ◌<◌, ◌≤◌, ◌-◌, ℕ, List, [], ◌∷◌, ◌++◌, length, take, get_or, refl, sym, ap, ◌∙◌}
+use Rattle.std.proofs.Common.{subst, arith, append-nil}
 use Rattle.std.proofs.lemmas.List.{take_all, take_more}
 use Rattle.schema_syntax_grammar.specs.declared.token_kind.TokenKind.{TokenKind}
 use Rattle.schema_syntax_grammar.specs.declared.token_kind.TheConstants.{ALL_KINDS}
@@ -9,7 +10,8 @@ use Rattle.schema_syntax_tokens.specs.declared.token.Token.{Token}
 use Rattle.schema_syntax_tokens.specs.Scans.{Scans}
 use Rattle.schema_syntax.specs.declared.syntax_fault.SyntaxFault.{SyntaxFault}
 use Rattle.schema_syntax.specs.declared.syntax_fault.SyntaxFault.TheVariants.{InvalidToken}
-use Rattle.schema_syntax.specs.SyntaxFaults.{IsSyntaxFault, unrecognized_token, invalid_token, unrecognized_eof, IsTokenAt, IsEndOf}
+use Rattle.schema_syntax.specs.SyntaxFaults.{IsSyntaxFault, unrecognized_token, invalid_token, unrecognized_eof}
+use Rattle.schema_syntax.specs.SyntaxFaults.{IsTokenAt, IsEndOf}
 use Rattle.schema_syntax_tokens.specs.TokenLists.{kinds_of}
 
 -- there are as many kinds as tokens
@@ -17,7 +19,8 @@ pub kinds_long : (tokens : List Token) → length (kinds_of tokens) ≡ length t
 kinds_long [] = refl
 kinds_long (t ∷ ts) = let rest = kinds_long ts in omega arith
 
-module _ (text : List ℕ) (tokens : List Token) (at place : ℕ) (expected : List TokenKind) (scans : Scans text tokens at) (is : IsFault ALL_KINDS (kinds_of tokens) place expected) where
+module _ (text : List ℕ) (tokens : List Token) (at place : ℕ) (expected : List TokenKind)
+    (scans : Scans text tokens at) (is : IsFault ALL_KINDS (kinds_of tokens) place expected) where
   -- a token stands at the place
   pub found_token : (fault : SyntaxFault) → IsTokenAt text tokens place expected fault → IsSyntaxFault text fault
   found_token fault f = subst (IsSyntaxFault text) (sym f.2) (unrecognized_token tokens at place f.0 scans f.1 is)
@@ -41,9 +44,11 @@ module _ (text : List ℕ) (tokens : List Token) (at place : ℕ) (expected : Li
       → IsSyntaxFault text fault
   found_end h e fault f =
       let same : place ≡ length tokens = omega (arith, is.within, kinds_long tokens) in
-      let here : Scans text (f.0 ++ f.1 ∷ []) (length text) = subst (λ ts. Scans text ts (length text)) f.2 (subst (Scans text tokens) e scans) in
+      let here : Scans text (f.0 ++ f.1 ∷ []) (length text) = subst (λ ts. Scans text ts (length text)) f.2
+      (subst (Scans text tokens) e scans) in
       let fault_here : IsFault ALL_KINDS (kinds_of (f.0 ++ f.1 ∷ [])) (length (f.0 ++ f.1 ∷ [])) expected =
-      subst (λ ts. IsFault ALL_KINDS (kinds_of ts) (length ts) expected) f.2 (subst (λ p. IsFault ALL_KINDS (kinds_of tokens) p expected) same is) in
+      subst (λ ts. IsFault ALL_KINDS (kinds_of ts) (length ts) expected) f.2
+      (subst (λ p. IsFault ALL_KINDS (kinds_of tokens) p expected) same is) in
       subst (IsSyntaxFault text) (sym f.3) (unrecognized_eof f.0 f.1 here fault_here)
 
 -- the last item of some

@@ -13,11 +13,14 @@ use Rattle.schema_syntax_reader.specs.UserFaults.{IsFirstUserFault}
 use Rattle.schema_syntax.specs.ParseAnswers.{IsTreeOfText, IsErrorOf, syntax, user}
 
 module _ (faulty : (text : List ℕ) (fault : SyntaxFault) → IsSyntaxFault text fault → IsSentence text → ⊥)
-    (one_scan : (text : List ℕ) (ts us : List Token) (at bt : ℕ) → Scans text ts at → Scans text us bt → (ts ≡ us) × (at ≡ bt))
-    (one_syntax : (tokens : List Token) (items others : List ItemSyntax) → IsSyntax tokens items → IsSyntax tokens others → items ≡ others) where
+    (one_scan : (text : List ℕ) (ts us : List Token) (at bt : ℕ) → Scans text ts at → Scans text us bt
+    → (ts ≡ us) × (at ≡ bt))
+    (one_syntax : (tokens : List Token) (items others : List ItemSyntax) → IsSyntax tokens items
+    → IsSyntax tokens others → items ≡ others) where
   pub apart : (text : List ℕ) (schema : List (Annotated Namespace)) (error : ParseError) → IsTreeOfText text schema
       → IsErrorOf text error → ⊥
-  apart text schema error t (syntax f s) = faulty text f s (record { tokens = t.tokens; scans = t.are.scans; sentence = t.are.sentence })
+  apart text schema error t (syntax f s) =
+      faulty text f s (record { tokens = t.tokens; scans = t.are.scans; sentence = t.are.sentence })
   apart text schema error t (user tokens f are u) =
       let same = one_scan text tokens t.tokens (length text) (length text) are.scans t.are.scans in
       let here : IsSyntax t.tokens u.items = subst (λ ts. IsSyntax ts u.items) same.0 u.syntax in

@@ -11,7 +11,8 @@ use Rattle.schema_syntax_tree.specs.declared.annotated.Annotated.{Annotated}
 use Rattle.schema_syntax_tree.specs.declared.namespace.Namespace.{Namespace}
 use Rattle.schema_syntax_errors.specs.declared.user_error.UserError.{UserError}
 use Rattle.schema_syntax_errors.specs.declared.parse_error.ParseError.{ParseError}
-use Rattle.schema_syntax_errors.specs.declared.parse_error.ParseError.TheVariants.{InvalidToken, UnrecognizedEof, UnrecognizedToken, User}
+use Rattle.schema_syntax_errors.specs.declared.parse_error.ParseError.TheVariants.{InvalidToken, UnrecognizedEof}
+use Rattle.schema_syntax_errors.specs.declared.parse_error.ParseError.TheVariants.{UnrecognizedToken, User}
 use Rattle.schema_syntax_errors.specs.declared.parse_schema_error.ParseSchemaError.{ParseSchemaError}
 use Rattle.schema_syntax_errors.specs.declared.parse_schema_error.ParseSchemaError.TheVariants.{Errors, Memory}
 use Rattle.schema_syntax_reader.specs.LawfulTrees.{IsLawfulTree, IsUserFaultOf}
@@ -36,7 +37,8 @@ error_of (fault.UnrecognizedToken start token end expected) = UnrecognizedToken 
 -- The error of the text: its syntax fault, or, where it has none, of its user faults the one that ends first.
 pub data IsErrorOf (text : List ℕ) : ParseError → Type 0 where
   syntax : (f : SyntaxFault) → IsSyntaxFault text f → IsErrorOf text (error_of f)
-  user : (tokens : List Token) (f : UserError) → AreTokensOf text tokens → IsUserFaultOf text tokens f → IsErrorOf text (User f)
+  user : (tokens : List Token) (f : UserError) → AreTokensOf text tokens → IsUserFaultOf text tokens f
+      → IsErrorOf text (User f)
 
 -- what a refusal says of the text
 abbrev pub IsRefusalOf : List ℕ → ParseSchemaError → Type 0

@@ -4,8 +4,10 @@ use Rattle.std.specs.Option.{MatchOption}
 use Rattle.std.specs.Prelude.{⊤}
 use Rattle.std.specs.Str.{chars}
 use Rattle.schema_syntax_errors.specs.declared.parse_error.ParseError.{ParseError}
-use Rattle.schema_syntax_errors.specs.declared.parse_error.ParseError.TheVariants.{InvalidToken, UnrecognizedEof, UnrecognizedToken, ExtraToken, User}
-use Rattle.schema_syntax_errors.specs.FaultHelps.{missing_applies_to, trailing_namespace_semicolon, misses_applies_to, ends_namespace, parse_error_help, first_error_help}
+use Rattle.schema_syntax_errors.specs.declared.parse_error.ParseError.TheVariants.{InvalidToken, UnrecognizedEof}
+use Rattle.schema_syntax_errors.specs.declared.parse_error.ParseError.TheVariants.{UnrecognizedToken, ExtraToken, User}
+use Rattle.schema_syntax_errors.specs.FaultHelps.{missing_applies_to, trailing_namespace_semicolon, misses_applies_to}
+use Rattle.schema_syntax_errors.specs.FaultHelps.{ends_namespace, parse_error_help, first_error_help}
 use Rattle.cedar_data.proofs.Ascii.{chars-from_test}
 
 abbrev Plain : Option (List ℕ) → Type 0
@@ -20,7 +22,8 @@ plain_rules false false = tt
 plain_fault : (fault : ParseError) (source : List ℕ) → Plain (parse_error_help fault source)
 plain_fault (InvalidToken location) source = tt
 plain_fault (UnrecognizedEof location expected) source = tt
-plain_fault (UnrecognizedToken start token end expected) source = plain_rules (misses_applies_to token expected) (ends_namespace start token expected source)
+plain_fault (UnrecognizedToken start token end expected) source =
+    plain_rules (misses_applies_to token expected) (ends_namespace start token expected source)
 plain_fault (ExtraToken start token end) source = tt
 plain_fault (User fault) source = tt
 

@@ -5,7 +5,14 @@ use Rattle.std.specs.Char.{is_ascii}
 use Rattle.std.specs.Str.{chars}
 use Rattle.cedar_data.proofs.Listing.{row_more, separator_of}
 use Rattle.schema_syntax_grammar.specs.declared.token_kind.TokenKind.{TokenKind}
-use Rattle.schema_syntax_grammar.specs.declared.token_kind.TokenKind.TheVariants.{KwNamespace, KwEntity, KwExternal, KwIn, KwType, KwSet, KwAppliesTo, KwPrincipal, KwAction, KwResource, KwContext, KwTags, KwEnum, Identifier, StringLit, At, Comma, Semi, Colon, PathSep, LParen, RParen, LBrace, RBrace, LBracket, RBracket, Less, Greater, Question, Equals, End}
+use Rattle.schema_syntax_grammar.specs.declared.token_kind.TokenKind.TheVariants.{KwNamespace, KwEntity, KwExternal}
+use Rattle.schema_syntax_grammar.specs.declared.token_kind.TokenKind.TheVariants.{KwIn, KwType, KwSet, KwAppliesTo}
+use Rattle.schema_syntax_grammar.specs.declared.token_kind.TokenKind.TheVariants.{KwPrincipal, KwAction, KwResource}
+use Rattle.schema_syntax_grammar.specs.declared.token_kind.TokenKind.TheVariants.{KwContext, KwTags, KwEnum, Identifier}
+use Rattle.schema_syntax_grammar.specs.declared.token_kind.TokenKind.TheVariants.{StringLit, At, Comma, Semi, Colon}
+use Rattle.schema_syntax_grammar.specs.declared.token_kind.TokenKind.TheVariants.{PathSep, LParen, RParen, LBrace}
+use Rattle.schema_syntax_grammar.specs.declared.token_kind.TokenKind.TheVariants.{RBrace, LBracket, RBracket, Less}
+use Rattle.schema_syntax_grammar.specs.declared.token_kind.TokenKind.TheVariants.{Greater, Question, Equals, End}
 use Rattle.schema_syntax_errors.specs.ExpectedText.{kind_name}
 use Rattle.cedar_data.specs.Rows.{listed, separator}
 use Rattle.cedar_data.proofs.Ascii.{chars-from_test}
@@ -44,9 +51,12 @@ name_ascii Equals = refl
 name_ascii End = refl
 
 pub names_more : (k : TokenKind) (ks : List TokenKind) (text : List ℕ)
-    → ((text ++ chars (kind_name k)) ++ chars (separator (codes ", ") (codes " or ") ks)) ++ listed (codes ", ") (codes " or ") (map kind_name ks)
+    → ((text ++ chars (kind_name k)) ++ chars (separator (codes ", ") (codes " or ") ks))
+    ++ listed (codes ", ") (codes " or ") (map kind_name ks)
     ≡ text ++ listed (codes ", ") (codes " or ") (map kind_name (k ∷ ks))
 names_more k ks text =
-    ap (λ n. ((text ++ n) ++ chars (separator (codes ", ") (codes " or ") ks)) ++ listed (codes ", ") (codes " or ") (map kind_name ks)) (chars-from_test (kind_name k) (name_ascii k))
-    ∙ ap (λ s. ((text ++ kind_name k) ++ chars s) ++ listed (codes ", ") (codes " or ") (map kind_name ks)) (sym (separator_of (codes ", ") (codes " or ") kind_name ks))
+    ap (λ n. ((text ++ n) ++ chars (separator (codes ", ") (codes " or ") ks))
+    ++ listed (codes ", ") (codes " or ") (map kind_name ks)) (chars-from_test (kind_name k) (name_ascii k))
+    ∙ ap (λ s. ((text ++ kind_name k) ++ chars s) ++ listed (codes ", ") (codes " or ") (map kind_name ks))
+    (sym (separator_of (codes ", ") (codes " or ") kind_name ks))
     ∙ row_more (codes ", ") (codes " or ") (kind_name k) (map kind_name ks) text refl refl

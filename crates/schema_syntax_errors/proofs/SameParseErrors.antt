@@ -7,7 +7,8 @@ use denote.Enum.Bare.{sameb}
 use Rattle.schema_syntax_grammar.specs.declared.token_kind.TokenKind.{TokenKind}
 use Rattle.schema_syntax_grammar.specs.contracts.token_kind.TokenKind.{the_type}
 use Rattle.schema_syntax_errors.specs.declared.parse_error.ParseError.{ParseError}
-use Rattle.schema_syntax_errors.specs.declared.parse_error.ParseError.TheVariants.{InvalidToken, UnrecognizedEof, UnrecognizedToken, ExtraToken, User}
+use Rattle.schema_syntax_errors.specs.declared.parse_error.ParseError.TheVariants.{InvalidToken, UnrecognizedEof}
+use Rattle.schema_syntax_errors.specs.declared.parse_error.ParseError.TheVariants.{UnrecognizedToken, ExtraToken, User}
 use Rattle.schema_syntax_errors.specs.declared.parse_errors.ParseErrors.{ParseErrors}
 use Rattle.schema_syntax_errors.specs.declared.parse_schema_error.ParseSchemaError.{ParseSchemaError}
 use Rattle.schema_syntax_errors.specs.declared.parse_schema_error.ParseSchemaError.TheVariants as schema
@@ -17,7 +18,9 @@ use Rattle.schema_syntax_errors.specs.contracts.parse_error.ParseErrorPartialEq.
 use Rattle.schema_syntax_errors.specs.contracts.parse_errors.ParseErrorsPartialEq.TheImpl as parse_errors_eq
 use Rattle.schema_syntax_errors.specs.contracts.parse_schema_error.ParseSchemaErrorPartialEq.TheImpl as schema_eq
 use Rattle.schema_syntax_errors.specs.contracts.annotation_error.AnnotationErrorPartialEq.TheImpl as annotation_eq
-use Rattle.schema_syntax_errors.specs.SameFaults.{texts_agree, texts_sound, texts_themselves, items_sound, items_themselves, user_errors_sound, user_errors_themselves, eqb_itself}
+use Rattle.schema_syntax_errors.specs.SameFaults.{texts_agree, texts_sound, texts_themselves, items_sound}
+use Rattle.schema_syntax_errors.specs.SameFaults.{items_themselves, user_errors_sound, user_errors_themselves}
+use Rattle.schema_syntax_errors.specs.SameFaults.{eqb_itself}
 use Rattle.schema_syntax_errors.proofs.SameKinds.{kinds_sound, kinds_themselves}
 
 -- lists of kinds
@@ -59,11 +62,15 @@ parse_errors_sound _ _ h = cc
 
 pub parse_errors_themselves : (a : ParseError) → parse_errors_agree a a ≡ true
 parse_errors_themselves (InvalidToken p) = eqb_itself p
-parse_errors_themselves (UnrecognizedEof p xs) = and_from (p == p) (kinds_agree xs xs) (eqb_itself p) (all_kinds_themselves xs)
+parse_errors_themselves (UnrecognizedEof p xs) =
+    and_from (p == p) (kinds_agree xs xs) (eqb_itself p) (all_kinds_themselves xs)
 parse_errors_themselves (UnrecognizedToken p v d xs) =
     and_from (p == p) (texts_agree v v && (d == d && kinds_agree xs xs)) (eqb_itself p)
-    (and_from (texts_agree v v) (d == d && kinds_agree xs xs) (texts_themselves v) (and_from (d == d) (kinds_agree xs xs) (eqb_itself d) (all_kinds_themselves xs)))
-parse_errors_themselves (ExtraToken p v d) = and_from (p == p) (texts_agree v v && d == d) (eqb_itself p) (and_from (texts_agree v v) (d == d) (texts_themselves v) (eqb_itself d))
+    (and_from (texts_agree v v) (d == d && kinds_agree xs xs) (texts_themselves v)
+    (and_from (d == d) (kinds_agree xs xs) (eqb_itself d) (all_kinds_themselves xs)))
+parse_errors_themselves (ExtraToken p v d) =
+    and_from (p == p) (texts_agree v v && d == d) (eqb_itself p)
+    (and_from (texts_agree v v) (d == d) (texts_themselves v) (eqb_itself d))
 parse_errors_themselves (User a) = user_errors_themselves a
 
 -- lists of them
@@ -71,7 +78,8 @@ abbrev lists_agree : ParseErrors → ParseErrors → Bool
 lists_agree = (parse_errors_eq.ghosts).eq
 
 pub lists_sound : (a b : ParseErrors) → lists_agree a b ≡ true → a ≡ b
-lists_sound a b h = λ i. record { errors = items_sound {E = parse_errors_agree} parse_errors_sound a.errors b.errors h i }
+lists_sound a b h = λ i. record
+    { errors = items_sound {E = parse_errors_agree} parse_errors_sound a.errors b.errors h i }
 
 pub lists_themselves : (a : ParseErrors) → lists_agree a a ≡ true
 lists_themselves a = items_themselves parse_errors_agree parse_errors_themselves a.errors

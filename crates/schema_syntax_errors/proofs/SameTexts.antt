@@ -12,5 +12,8 @@ pub same_text : (text ascii : List ℕ) → list_all is_ascii ascii ≡ true
     → bytes_eq (encode_utf8_all text) ascii ≡ bytes_eq text ascii
 same_text text ascii h =
     both_ways (bytes_eq (encode_utf8_all text) ascii) (bytes_eq text ascii)
-    (λ e. (bytes_eq-Decides text ascii).1 (encodes_injective text ascii ((bytes_eq-Decides (encode_utf8_all text) ascii).0 e ∙ sym (encodes-from_test ascii h))))
-    (λ e. (bytes_eq-Decides (encode_utf8_all text) ascii).1 (ap encode_utf8_all ((bytes_eq-Decides text ascii).0 e) ∙ encodes-from_test ascii h))
+    (λ e. (bytes_eq-Decides text ascii).1
+    (encodes_injective text ascii ((bytes_eq-Decides (encode_utf8_all text) ascii).0 e
+    ∙ sym (encodes-from_test ascii h))))
+    (λ e. (bytes_eq-Decides (encode_utf8_all text) ascii).1
+    (ap encode_utf8_all ((bytes_eq-Decides text ascii).0 e) ∙ encodes-from_test ascii h))

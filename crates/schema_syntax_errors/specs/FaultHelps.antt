@@ -1,5 +1,6 @@
 -- What the faults of parsing advise.
-use Rattle.std.specs.Prelude.{ℕ, Bool, false, ◌&&◌, ◌||◌, ◌==◌, nat_lt, nat_le, List, [], ◌∷◌, length, take, reverse, find, slice_index, codes, Option, Some, None, if◌then◌else◌}
+use Rattle.std.specs.Prelude.{ℕ, Bool, false, ◌&&◌, ◌||◌, ◌==◌, nat_lt, nat_le, List, [], ◌∷◌, length, take, reverse}
+use Rattle.std.specs.Prelude.{find, slice_index, codes, Option, Some, None, if◌then◌else◌}
 use Rattle.std.specs.Char.{is_not_whitespace}
 use Rattle.std.specs.Option.{option_map_or}
 use Rattle.std.specs.Str.{byte, bytes_eq, chars}
@@ -7,7 +8,8 @@ use Rattle.schema_syntax_grammar.specs.declared.token_kind.TokenKind.{TokenKind}
 use Rattle.schema_syntax_grammar.specs.declared.token_kind.TokenKind.TheVariants.{KwNamespace, KwAppliesTo}
 use Rattle.schema_syntax_errors.specs.ExpectedText.{expects}
 use Rattle.schema_syntax_errors.specs.declared.parse_error.ParseError.{ParseError}
-use Rattle.schema_syntax_errors.specs.declared.parse_error.ParseError.TheVariants.{InvalidToken, UnrecognizedEof, UnrecognizedToken, ExtraToken, User}
+use Rattle.schema_syntax_errors.specs.declared.parse_error.ParseError.TheVariants.{InvalidToken, UnrecognizedEof}
+use Rattle.schema_syntax_errors.specs.declared.parse_error.ParseError.TheVariants.{UnrecognizedToken, ExtraToken, User}
 use Rattle.schema_syntax_errors.specs.declared.parse_schema_error.ParseSchemaError.{ParseSchemaError}
 use Rattle.schema_syntax_errors.specs.declared.parse_schema_error.ParseSchemaError.TheVariants as schema
 
@@ -19,7 +21,8 @@ trailing_namespace_semicolon = codes "namespace declarations are not followed by
 
 -- a character of the source begins at the place, or the source ends there
 abbrev pub is_boundary : List ℕ → ℕ → Bool
-is_boundary source place = place == length source || (nat_lt place (length source) && (nat_lt (slice_index source place) 128 || nat_le 192 (slice_index source place)))
+is_boundary source place = place == length source ||
+    (nat_lt place (length source) && (nat_lt (slice_index source place) 128 || nat_le 192 (slice_index source place)))
 
 -- the last of the characters that is no white space
 abbrev pub last_visible : List ℕ → Option ℕ
@@ -39,12 +42,14 @@ misses_applies_to token expected = bytes_eq token (codes "{") && expects expecte
 
 -- a `;` stands behind a `}` where a namespace may
 abbrev pub ends_namespace : ℕ → List ℕ → List TokenKind → List ℕ → Bool
-ends_namespace start token expected source = bytes_eq token (codes ";") && (expects expected KwNamespace && follows_brace source start)
+ends_namespace start token expected source =
+    bytes_eq token (codes ";") && (expects expected KwNamespace && follows_brace source start)
 
 -- Advice on a token that stands where others were expected. The first rule that holds decides.
 abbrev pub token_help : ℕ → List ℕ → List TokenKind → List ℕ → Option (List ℕ)
 token_help start token expected source =
-    if misses_applies_to token expected then Some missing_applies_to else if ends_namespace start token expected source then Some trailing_namespace_semicolon else None
+    if misses_applies_to token expected then Some missing_applies_to else if ends_namespace start token expected
+    source then Some trailing_namespace_semicolon else None
 
 -- the advice that an error of parsing gives for a source, if it gives any
 abbrev pub parse_error_help : ParseError → List ℕ → Option (List ℕ)

@@ -5,9 +5,12 @@ use Rattle.cedar_data.specs.declared.label.Label.{Label}
 use Rattle.schema_syntax_grammar.specs.declared.token_kind.TokenKind.{TokenKind}
 use Rattle.schema_syntax_errors.specs.ExpectedText.{expected_text_of}
 use Rattle.schema_syntax_errors.specs.declared.user_error.UserError.{UserError}
-use Rattle.schema_syntax_errors.specs.declared.user_error.UserError.TheVariants.{EmptyList, StringEscape, ReservedIdentifierUsed, DuplicateAnnotations}
+use Rattle.schema_syntax_errors.specs.declared.user_error.UserError.TheVariants.{EmptyList, StringEscape}
+use Rattle.schema_syntax_errors.specs.declared.user_error.UserError.TheVariants.{ReservedIdentifierUsed}
+use Rattle.schema_syntax_errors.specs.declared.user_error.UserError.TheVariants.{DuplicateAnnotations}
 use Rattle.schema_syntax_errors.specs.declared.parse_error.ParseError.{ParseError}
-use Rattle.schema_syntax_errors.specs.declared.parse_error.ParseError.TheVariants.{InvalidToken, UnrecognizedEof, UnrecognizedToken, ExtraToken, User}
+use Rattle.schema_syntax_errors.specs.declared.parse_error.ParseError.TheVariants.{InvalidToken, UnrecognizedEof}
+use Rattle.schema_syntax_errors.specs.declared.parse_error.ParseError.TheVariants.{UnrecognizedToken, ExtraToken, User}
 use Rattle.schema_syntax_errors.specs.declared.parse_schema_error.ParseSchemaError.{ParseSchemaError}
 use Rattle.schema_syntax_errors.specs.declared.parse_schema_error.ParseSchemaError.TheVariants as schema
 use Rattle.schema_syntax_errors.specs.declared.annotation_error.AnnotationError.{AnnotationError}

@@ -1,16 +1,25 @@
 -- The machine accepts what the stack stands for, and each stack that it reaches can be completed.
-use Rattle.std.proofs.Common.{◌≡◌, ℕ, zero, suc, ◌≤◌, ◌<◌, List, [], ◌∷◌, ◌++◌, Bool, true, false, ◌&&◌, ◌||◌, Option, Some, None, refl, sym, ap, ◌∙◌, subst, append_assoc, get_or, arith, ◌⊎◌, inl, inr}
+use Rattle.std.proofs.Common.{◌≡◌, ℕ, zero, suc, ◌≤◌, ◌<◌, List, [], ◌∷◌, ◌++◌, Bool, true, false, ◌&&◌, ◌||◌, Option}
+use Rattle.std.proofs.Common.{Some, None, refl, sym, ap, ◌∙◌, subst, append_assoc, get_or, arith, ◌⊎◌, inl, inr}
 use Rattle.std.specs.Prelude.{nat_lt, if◌then◌else◌, is_some, not}
 use Rattle.std.proofs.lemmas.Bool.{eqb-true, ltb-true, lt-ltb}
 use Rattle.schema_syntax_grammar.specs.declared.token_kind.TokenKind.{TokenKind}
-use Rattle.schema_syntax_grammar.specs.declared.token_kind.TokenKind.TheVariants.{KwNamespace, KwEntity, KwExternal, KwIn, KwType, KwSet, KwAppliesTo, KwPrincipal, KwAction, KwResource, KwContext, KwTags, KwEnum, Identifier, StringLit, At, Comma, Semi, Colon, PathSep, LParen, RParen, LBrace, RBrace, LBracket, RBracket, Less, Greater, Question, Equals, End}
+use Rattle.schema_syntax_grammar.specs.declared.token_kind.TokenKind.TheVariants.{KwNamespace, KwEntity, KwExternal}
+use Rattle.schema_syntax_grammar.specs.declared.token_kind.TokenKind.TheVariants.{KwIn, KwType, KwSet, KwAppliesTo}
+use Rattle.schema_syntax_grammar.specs.declared.token_kind.TokenKind.TheVariants.{KwPrincipal, KwAction, KwResource}
+use Rattle.schema_syntax_grammar.specs.declared.token_kind.TokenKind.TheVariants.{KwContext, KwTags, KwEnum, Identifier}
+use Rattle.schema_syntax_grammar.specs.declared.token_kind.TokenKind.TheVariants.{StringLit, At, Comma, Semi, Colon}
+use Rattle.schema_syntax_grammar.specs.declared.token_kind.TokenKind.TheVariants.{PathSep, LParen, RParen, LBrace}
+use Rattle.schema_syntax_grammar.specs.declared.token_kind.TokenKind.TheVariants.{RBrace, LBracket, RBracket, Less}
+use Rattle.schema_syntax_grammar.specs.declared.token_kind.TokenKind.TheVariants.{Greater, Question, Equals, End}
 use Rattle.schema_syntax_grammar.specs.declared.token_kind.TheConstants.{ALL_KINDS}
 use Rattle.schema_syntax_grammar.specs.declared.symbol.Symbol.{Symbol}
 use Rattle.schema_syntax_grammar.specs.declared.symbol.Symbol.TheVariants.{Schema}
 use Rattle.schema_syntax_grammar.specs.Table.{Row, rows, is_at, find, after_front, is_nullable}
 use Rattle.schema_syntax_grammar.specs.Grammar.{kind_number, same_kind}
 use Rattle.schema_syntax_grammar.specs.Machine.{advance, step, all_nullable, on_some, accepts, bind, run}
-use Rattle.schema_syntax_grammar.proofs.Stops.{all_kinds, listed, stop, implies, closed, all_rows, rows_closed, fronts_stop, start_kind, rank, all_below, leads_down, leads}
+use Rattle.schema_syntax_grammar.proofs.Stops.{all_kinds, listed, stop, implies, closed, all_rows, rows_closed}
+use Rattle.schema_syntax_grammar.proofs.Stops.{fronts_stop, start_kind, rank, all_below, leads_down, leads}
 use Rattle.schema_syntax_grammar.proofs.Theory.{Forest, nothing, skip, take, and_left, and_right}
 
 -- tests
@@ -90,7 +99,8 @@ kind_listed End = refl
 
 -- kinds with one kind_number are one kind
 pub kinds_equal : (a b : TokenKind) → same_kind a b ≡ true → a ≡ b
-kinds_equal a b e = sym (kind_of_number a) ∙ (ap of_number (eqb-true (kind_number a) (kind_number b) e) ∙ kind_of_number b)
+kinds_equal a b e = sym (kind_of_number a)
+    ∙ (ap of_number (eqb-true (kind_number a) (kind_number b) e) ∙ kind_of_number b)
 
 pub or_cases : (a b : Bool) → a || b ≡ true → (a ≡ true) ⊎ (b ≡ true)
 or_cases true b e = inl refl
@@ -101,7 +111,11 @@ at_listed : (p : TokenKind → Bool) (ks : List TokenKind) (k : TokenKind) → a
     → p k ≡ true
 at_listed p [] k a l = cc
 at_listed p (j ∷ js) k a l =
-    elim (or_cases (same_kind j k) (listed js k) l) [ inl e ↦ subst (λ x. p x ≡ true) (kinds_equal j k e) (and_left _ _ a) | inr m ↦ at_listed p js k (and_right _ _ a) m ]
+    elim (or_cases (same_kind j k) (listed js k) l) [
+      | inl e ↦ subst (λ x. p x ≡ true) (kinds_equal j k e) (and_left _ _ a)
+      | inr m ↦ at_listed p js k
+          (and_right _ _ a) m
+    ]
 
 -- what passes for all kinds passes for each
 pub at_kind : (p : TokenKind → Bool) (k : TokenKind) → all_kinds p ALL_KINDS ≡ true → p k ≡ true
@@ -133,7 +147,8 @@ stuck_on None false m a t p q e f ih = refl
 step_append : (a s : List Symbol) (k : TokenKind) → step a k ≡ None → (all_nullable a ≡ true → step s k ≡ None)
     → step (a ++ s) k ≡ None
 step_append [] s k e f = f refl
-step_append (x ∷ a) s k e f = stuck_on (after_front x k) (is_nullable x) (all_nullable a) a (a ++ s) (step a k) (step (a ++ s) k) e f (λ g h. step_append a s k g h)
+step_append (x ∷ a) s k e f = stuck_on (after_front x k) (is_nullable x) (all_nullable a) a (a ++ s) (step a k)
+    (step (a ++ s) k) e f (λ g h. step_append a s k g h)
 
 -- symbols with closed ends, put on a fine stack
 fine_append : (f : TokenKind → Bool) (a s : List Symbol) → closed f a ≡ true
@@ -141,8 +156,10 @@ fine_append : (f : TokenKind → Bool) (a s : List Symbol) → closed f a ≡ tr
 fine_append f [] s c g h = h
 fine_append f (y ∷ ys) s c g h = (
   λ k e.
-      let at = apply (stop y k) _ (at_kind (λ j. implies (stop y j) (not (is_some (step ys j)) && implies (all_nullable ys) (f j))) k (and_left _ _ c)) e in
-      step_append ys s k (not_some (step ys k) (and_left _ _ at)) (λ n. g k (apply (all_nullable ys) (f k) (and_right _ _ at) n)),
+      let at = apply (stop y k) _ (at_kind
+      (λ j. implies (stop y j) (not (is_some (step ys j)) && implies (all_nullable ys) (f j))) k (and_left _ _ c)) e in
+      step_append ys s k (not_some (step ys k) (and_left _ _ at))
+      (λ n. g k (apply (all_nullable ys) (f k) (and_right _ _ at) n)),
   fine_append f ys s (and_right _ _ c) g h,
 )
 
@@ -157,7 +174,8 @@ found_at p r rest next false h more e = more e
 pub found_row : (p : Row → Bool) (rs : List Row) (k : TokenKind) (next : List Symbol) → all_rows p rs ≡ true
     → find rs k ≡ Some next → (r : Row) × (r.next ≡ next) × (p r ≡ true)
 found_row p [] k next a e = cc
-found_row p (r ∷ rs) k next a e = found_at p r (find rs k) next (is_at r.front k) (and_left _ _ a) (λ h. found_row p rs k next (and_right _ _ a) h) e
+found_row p (r ∷ rs) k next a e =
+    found_at p r (find rs k) next (is_at r.front k) (and_left _ _ a) (λ h. found_row p rs k next (and_right _ _ a) h) e
 
 -- a fine stack stays fine where its first symbol goes on
 fine_next : (x : Symbol) (k : TokenKind) (next s : List Symbol) → after_front x k ≡ Some next → Fine (x ∷ s)
@@ -171,7 +189,8 @@ fine_next x k next s e h =
 front_stops : (x : Symbol) (k : TokenKind) (next : List Symbol) → is_nullable x ≡ true → after_front x k ≡ Some next
     → stop x k ≡ true
 front_stops x k next n e =
-    apply (is_nullable x && is_some (after_front x k)) (stop x k) (at_kind (λ j. implies (is_nullable x && is_some (after_front x j)) (stop x j)) k (fronts_stop x)) (rw (n, e) refl)
+    apply (is_nullable x && is_some (after_front x k)) (stop x k)
+    (at_kind (λ j. implies (is_nullable x && is_some (after_front x j)) (stop x j)) k (fronts_stop x)) (rw (n, e) refl)
 
 -- a symbol that is left out, before a first token
 skipped_at : (x : Symbol) (k : TokenKind) (s : List Symbol) (w : List TokenKind) (o : Option (List Symbol))
@@ -236,9 +255,11 @@ no_less n e = let h = ltb-true n 0 e in omega (arith, h)
 
 -- a symbol that isn't is_nullable goes on by its least kind
 led : (x : Symbol) (o : Option (List Symbol)) → after_front x (start_kind x) ≡ o → leads_down x o ≡ true
-    → (is_nullable x ≡ true) ⊎ ((next : List Symbol) × (after_front x (start_kind x) ≡ Some next) × (all_below (rank x) next ≡ true))
+    → (is_nullable x ≡ true) ⊎ ((next : List Symbol) × (after_front x (start_kind x) ≡ Some next)
+    × (all_below (rank x) next ≡ true))
 led x None g e = inl e
-led x (Some next) g e = elim (or_cases (is_nullable x) (all_below (rank x) next) e) [ inl h ↦ inl h | inr h ↦ inr (next, g, h) ]
+led x (Some next) g e = elim (or_cases (is_nullable x) (all_below (rank x) next) e)
+    [ inl h ↦ inl h | inr h ↦ inr (next, g, h) ]
 
 -- a stack is completed through its first symbol
 took : (x : Symbol) (k : TokenKind) (next s : List Symbol) (c : List TokenKind) → after_front x k ≡ Some next
@@ -250,9 +271,11 @@ completed : (n : ℕ) (a s : List Symbol) → all_below n a ≡ true → Fine (a
 completed n [] s b fine c = c
 completed zero (x ∷ a) s b fine c =
     let rest = completed zero a s (and_right _ _ b) fine.1 c in
-    elim (or_cases (is_nullable x) (nat_lt (rank x) 0) (and_left _ _ b)) [ inl h ↦ (rest.0, skipped x (a ++ s) rest.0 h fine.0 rest.1) | inr h ↦ absurd (no_less (rank x) h) ]
+    elim (or_cases (is_nullable x) (nat_lt (rank x) 0) (and_left _ _ b))
+    [ inl h ↦ (rest.0, skipped x (a ++ s) rest.0 h fine.0 rest.1) | inr h ↦ absurd (no_less (rank x) h) ]
 completed (suc n) (x ∷ a) s b fine c =
-    let rest : Completed (a ++ s) = completed (suc n) a s (and_right (is_nullable x || nat_lt (rank x) (suc n)) (all_below (suc n) a) b) fine.1 c in
+    let rest : Completed (a ++ s) = completed (suc n) a s
+    (and_right (is_nullable x || nat_lt (rank x) (suc n)) (all_below (suc n) a) b) fine.1 c in
     elim (or_cases (is_nullable x) (nat_lt (rank x) (suc n)) (and_left _ _ b)) [
       | inl h ↦ (rest.0, skipped x (a ++ s) rest.0 h fine.0 rest.1)
       | inr h ↦
@@ -261,7 +284,8 @@ completed (suc n) (x ∷ a) s b fine c =
             | inl m ↦ (rest.0, skipped x (a ++ s) rest.0 m fine.0 rest.1)
             | inr l ↦
                 let le : rank x ≤ n = omega (arith, lt) in
-                let more = completed n l.0 (a ++ s) (below_more (rank x) n l.0 le l.2) (fine_next x (start_kind x) l.0 (a ++ s) l.1 fine) rest in
+                let more = completed n l.0 (a ++ s) (below_more (rank x) n l.0 le l.2)
+                (fine_next x (start_kind x) l.0 (a ++ s) l.1 fine) rest in
                 took x (start_kind x) l.0 (a ++ s) more.0 l.1 more.1
           ]
     ]
@@ -278,14 +302,16 @@ completes (x ∷ s) fine =
 -- a fine stack stays fine after a token, by how its first symbol goes on
 fine_step_at : (x : Symbol) (s t : List Symbol) (k : TokenKind) (o : Option (List Symbol)) (n : Bool)
     → after_front x k ≡ o → Fine (x ∷ s) → (step s k ≡ Some t → Fine t) → advance o n s (step s k) ≡ Some t → Fine t
-fine_step_at x s t k (Some next) n g fine below h = let e : next ++ s ≡ t = cc in subst Fine e (fine_next x k next s g fine)
+fine_step_at x s t k (Some next) n g fine below h =
+    let e : next ++ s ≡ t = cc in subst Fine e (fine_next x k next s g fine)
 fine_step_at x s t k None true g fine below h = below h
 fine_step_at x s t k None false g fine below h = cc
 
 -- a fine stack stays fine after a token
 fine_step : (s t : List Symbol) (k : TokenKind) → Fine s → step s k ≡ Some t → Fine t
 fine_step [] t k fine e = cc
-fine_step (x ∷ s) t k fine e = fine_step_at x s t k (after_front x k) (is_nullable x) refl fine (λ h. fine_step s t k fine.1 h) e
+fine_step (x ∷ s) t k fine e =
+    fine_step_at x s t k (after_front x k) (is_nullable x) refl fine (λ h. fine_step s t k fine.1 h) e
 
 -- a fine stack stays fine after tokens, by the first of them
 fine_run_at : (w : List TokenKind) (s t : List Symbol) (k : TokenKind) (o : Option (List Symbol)) → Fine s

@@ -1,10 +1,40 @@
 -- Each phrase of the grammar is read by the table.
 use Rattle.std.proofs.Common.{◌≡◌, List, [], ◌∷◌, ◌++◌, Bool, true, Some, refl, ap, append_assoc, ◌⊎◌, inl, inr}
 use Rattle.schema_syntax_grammar.specs.declared.token_kind.TokenKind.{TokenKind}
-use Rattle.schema_syntax_grammar.specs.declared.token_kind.TokenKind.TheVariants.{KwNamespace, KwEntity, KwExternal, KwType, KwSet, KwAppliesTo, KwPrincipal, KwAction, KwResource, KwContext, KwTags, KwEnum, Identifier, StringLit, At, Comma, Semi, Colon, PathSep, LParen, RParen, LBrace, RBrace, LBracket, RBracket, Less, Greater, Equals}
+use Rattle.schema_syntax_grammar.specs.declared.token_kind.TokenKind.TheVariants.{KwNamespace, KwEntity, KwExternal}
+use Rattle.schema_syntax_grammar.specs.declared.token_kind.TokenKind.TheVariants.{KwType, KwSet, KwAppliesTo}
+use Rattle.schema_syntax_grammar.specs.declared.token_kind.TokenKind.TheVariants.{KwPrincipal, KwAction, KwResource}
+use Rattle.schema_syntax_grammar.specs.declared.token_kind.TokenKind.TheVariants.{KwContext, KwTags, KwEnum, Identifier}
+use Rattle.schema_syntax_grammar.specs.declared.token_kind.TokenKind.TheVariants.{StringLit, At, Comma, Semi, Colon}
+use Rattle.schema_syntax_grammar.specs.declared.token_kind.TokenKind.TheVariants.{PathSep, LParen, RParen, LBrace}
+use Rattle.schema_syntax_grammar.specs.declared.token_kind.TokenKind.TheVariants.{RBrace, LBracket, RBracket, Less}
+use Rattle.schema_syntax_grammar.specs.declared.token_kind.TokenKind.TheVariants.{Greater, Equals}
 use Rattle.schema_syntax_grammar.specs.declared.symbol.Symbol.{Symbol}
-use Rattle.schema_syntax_grammar.specs.declared.symbol.Symbol.TheVariants.{Token, Schema, Item, Decls, Decl, AnnotationTail, AfterNamespace, AfterEntity, EntityTail, AfterExternal, AfterAction, AfterType, Word, Ident, IdentsTail, Name, NamesTail, ParentsTail, ShapeTail, TagsTail, Strings, StringsTail, RefsTail, AppliesTail, Apps, AppsTail, ContextType, PathTail, Types, Paths, PathsTail, Refs, RefList, RefListTail, RefTail, RefStep, AnyType, SetTail, Record, Attrs, AttrsTail, Attr, Mark}
-use Rattle.schema_syntax_grammar.specs.Grammar.{is_word_kind, is_ident, Part, schema, item, decls, decl, bare_decl, idents, parents, shape, tags, strings, names, name, in_refs, applies, apps, app, types, paths, refs, ref_list, ref, ty, rec, attrs, attr, mark, path, anns, Phrase, no_item, more_items, namespace_item, decl_item, no_decl, more_decls, annotated, entity_decl, enum_decl, external_entity, action_decl, external_action, common_decl, one_ident, more_idents, no_parents, in_parents, no_shape, bare_shape, equals_shape, no_tags, some_tags, no_string, last_string, more_strings, one_name, more_names, ident_name, string_name, no_refs, some_refs, no_applies, some_applies, no_app, last_app, more_apps, principal_app, resource_app, context_path, context_record, one_type, listed_types, no_path, last_path, more_paths, one_ref, listed_refs, no_ref, last_ref, more_refs, plain_ref, typed_ref, path_type, set_type, record_type, braces, no_attr, last_attr, more_attrs, one_attr, no_mark, question, one_step, more_steps, no_ann, bare_ann, valued_ann, is_name_kind}
+use Rattle.schema_syntax_grammar.specs.declared.symbol.Symbol.TheVariants.{Token, Schema, Item, Decls, Decl}
+use Rattle.schema_syntax_grammar.specs.declared.symbol.Symbol.TheVariants.{AnnotationTail, AfterNamespace, AfterEntity}
+use Rattle.schema_syntax_grammar.specs.declared.symbol.Symbol.TheVariants.{EntityTail, AfterExternal, AfterAction}
+use Rattle.schema_syntax_grammar.specs.declared.symbol.Symbol.TheVariants.{AfterType, Word, Ident, IdentsTail, Name}
+use Rattle.schema_syntax_grammar.specs.declared.symbol.Symbol.TheVariants.{NamesTail, ParentsTail, ShapeTail, TagsTail}
+use Rattle.schema_syntax_grammar.specs.declared.symbol.Symbol.TheVariants.{Strings, StringsTail, RefsTail, AppliesTail}
+use Rattle.schema_syntax_grammar.specs.declared.symbol.Symbol.TheVariants.{Apps, AppsTail, ContextType, PathTail, Types}
+use Rattle.schema_syntax_grammar.specs.declared.symbol.Symbol.TheVariants.{Paths, PathsTail, Refs, RefList, RefListTail}
+use Rattle.schema_syntax_grammar.specs.declared.symbol.Symbol.TheVariants.{RefTail, RefStep, AnyType, SetTail, Record}
+use Rattle.schema_syntax_grammar.specs.declared.symbol.Symbol.TheVariants.{Attrs, AttrsTail, Attr, Mark}
+use Rattle.schema_syntax_grammar.specs.Grammar.{is_word_kind, is_ident, Part, schema, item, decls, decl, bare_decl}
+use Rattle.schema_syntax_grammar.specs.Grammar.{idents, parents, shape, tags, strings, names, name, in_refs, applies}
+use Rattle.schema_syntax_grammar.specs.Grammar.{apps, app, types, paths, refs, ref_list, ref, ty, rec, attrs, attr}
+use Rattle.schema_syntax_grammar.specs.Grammar.{mark, path, anns, Phrase, no_item, more_items, namespace_item}
+use Rattle.schema_syntax_grammar.specs.Grammar.{decl_item, no_decl, more_decls, annotated, entity_decl, enum_decl}
+use Rattle.schema_syntax_grammar.specs.Grammar.{external_entity, action_decl, external_action, common_decl, one_ident}
+use Rattle.schema_syntax_grammar.specs.Grammar.{more_idents, no_parents, in_parents, no_shape, bare_shape, equals_shape}
+use Rattle.schema_syntax_grammar.specs.Grammar.{no_tags, some_tags, no_string, last_string, more_strings, one_name}
+use Rattle.schema_syntax_grammar.specs.Grammar.{more_names, ident_name, string_name, no_refs, some_refs, no_applies}
+use Rattle.schema_syntax_grammar.specs.Grammar.{some_applies, no_app, last_app, more_apps, principal_app, resource_app}
+use Rattle.schema_syntax_grammar.specs.Grammar.{context_path, context_record, one_type, listed_types, no_path}
+use Rattle.schema_syntax_grammar.specs.Grammar.{last_path, more_paths, one_ref, listed_refs, no_ref, last_ref}
+use Rattle.schema_syntax_grammar.specs.Grammar.{more_refs, plain_ref, typed_ref, path_type, set_type, record_type}
+use Rattle.schema_syntax_grammar.specs.Grammar.{braces, no_attr, last_attr, more_attrs, one_attr, no_mark, question}
+use Rattle.schema_syntax_grammar.specs.Grammar.{one_step, more_steps, no_ann, bare_ann, valued_ann, is_name_kind}
 use Rattle.schema_syntax_grammar.specs.Table.{after_front}
 use Rattle.schema_syntax_grammar.proofs.Stops.{after_token}
 use Rattle.schema_syntax_grammar.proofs.Theory.{Forest, nothing, skip, take, takes}
@@ -60,7 +90,9 @@ record IsNameOf (w : List TokenKind) : Type 0 where
 
 -- annotations, before a symbol that may begin with one, where y is what it is after the first
 abbrev Annotates : List TokenKind → Type 0
-Annotates w = (x y : Symbol) (a : List Symbol) → after_front x At ≡ Some (Word ∷ AnnotationTail ∷ y ∷ a) → after_front y At ≡ Some (Word ∷ AnnotationTail ∷ y ∷ []) → (s : List Symbol) (v : List TokenKind) → Forest (y ∷ (a ++ s)) v → Forest (x ∷ s) v → Forest (x ∷ s) (w ++ v)
+Annotates w = (x y : Symbol) (a : List Symbol) → after_front x At ≡ Some (Word ∷ AnnotationTail ∷ y ∷ a)
+    → after_front y At ≡ Some (Word ∷ AnnotationTail ∷ y ∷ []) → (s : List Symbol) (v : List TokenKind)
+    → Forest (y ∷ (a ++ s)) v → Forest (x ∷ s) v → Forest (x ∷ s) (w ++ v)
 
 -- one more at the front of a list of such
 abbrev Adds : Symbol → Symbol → List TokenKind → Type 0
@@ -68,7 +100,8 @@ Adds x tail w = (s : List Symbol) (v : List TokenKind) → Forest (tail ∷ s) v
 
 -- a part of an entity's declaration, of which any may be left out
 abbrev Tails : List Symbol → List TokenKind → Type 0
-Tails a w = (s : List Symbol) (v : List TokenKind) → Forest (a ++ s) v → Forest (EntityTail ∷ s) v → Forest (EntityTail ∷ s) (w ++ v)
+Tails a w = (s : List Symbol) (v : List TokenKind) → Forest (a ++ s) v → Forest (EntityTail ∷ s) v
+    → Forest (EntityTail ∷ s) (w ++ v)
 
 -- what a phrase is for the table
 abbrev Built : Part → List TokenKind → Type 0
@@ -80,7 +113,8 @@ Built bare_decl w = DeclThen w
 Built idents w = FirstThen is_ident IdentsTail w
 Built parents w = Reads (ParentsTail ∷ []) w × Tails (ShapeTail ∷ TagsTail ∷ Token Semi ∷ []) w
 Built shape w = Reads (ShapeTail ∷ []) w × Tails (TagsTail ∷ Token Semi ∷ []) w
-Built tags w = Reads (TagsTail ∷ []) w × ((s : List Symbol) (v : List TokenKind) → Forest s v → Forest (EntityTail ∷ s) (w ++ Semi ∷ v))
+Built tags w = Reads (TagsTail ∷ []) w
+    × ((s : List Symbol) (v : List TokenKind) → Forest s v → Forest (EntityTail ∷ s) (w ++ Semi ∷ v))
 Built strings w = Reads (Strings ∷ []) w
 Built names w = FirstThen is_name_kind NamesTail w
 Built name w = IsNameOf w
@@ -241,10 +275,14 @@ built (more_items {a = a} {b = b} d r) = λ s v f. rw (append_assoc a b v) (buil
 built (namespace_item {a = a} {p = p} {d = d} n q r) =
     let first = built q in
     λ s v f.
-    let inside = λ (t : List Symbol) (g : Forest t v). takes {x = AfterNamespace} {k = first.first} (at_namespace first.first first.is) (first.then_ (Token LBrace ∷ Decls ∷ Token RBrace ∷ t) (LBrace ∷ (d ++ RBrace ∷ v)) (token (built r (Token RBrace ∷ t) (RBrace ∷ v) (token g)))) in
+    let inside = λ (t : List Symbol) (g : Forest t v). takes {x = AfterNamespace} {k = first.first}
+    (at_namespace first.first first.is)
+    (first.then_ (Token LBrace ∷ Decls ∷ Token RBrace ∷ t) (LBrace ∷ (d ++ RBrace ∷ v))
+    (token (built r (Token RBrace ∷ t) (RBrace ∷ v) (token g)))) in
     simp append_assoc
     (rw first.whole
-    (built n Schema Item (Schema ∷ []) refl refl s (KwNamespace ∷ first.first ∷ (first.rest ++ LBrace ∷ (d ++ RBrace ∷ v)))
+    (built n Schema Item (Schema ∷ []) refl refl s
+    (KwNamespace ∷ first.first ∷ (first.rest ++ LBrace ∷ (d ++ RBrace ∷ v)))
     (takes {next = AfterNamespace ∷ []} refl (inside (Schema ∷ s) f))
     (takes {next = AfterNamespace ∷ Schema ∷ []} refl (inside (Schema ∷ s) f))))
 built (decl_item r) = (built r).0
@@ -252,8 +290,12 @@ built no_decl = λ s v f. skip refl f
 built (more_decls {a = a} {b = b} d r) = λ s v f. rw (append_assoc a b v) ((built d).1 s (b ++ v) (built r s v f))
 built (annotated {a = a} {b = b} n r) =
     let d = built r in (
-      (λ s v f. rw (d.whole, append_assoc) (built n Schema Item (Schema ∷ []) refl refl s (d.first ∷ (d.rest ++ v)) (takes d.at_item (d.then_ (Schema ∷ s) v f)) (takes d.at_schema (d.then_ (Schema ∷ s) v f)))),
-      (λ s v f. rw (d.whole, append_assoc) (built n Decls Decl (Decls ∷ []) refl refl s (d.first ∷ (d.rest ++ v)) (takes d.at_decl (d.then_ (Decls ∷ s) v f)) (takes d.at_decls (d.then_ (Decls ∷ s) v f)))),
+      (λ s v f. rw (d.whole, append_assoc)
+          (built n Schema Item (Schema ∷ []) refl refl s (d.first ∷ (d.rest ++ v))
+          (takes d.at_item (d.then_ (Schema ∷ s) v f)) (takes d.at_schema (d.then_ (Schema ∷ s) v f)))),
+      (λ s v f. rw (d.whole, append_assoc)
+          (built n Decls Decl (Decls ∷ []) refl refl s (d.first ∷ (d.rest ++ v))
+          (takes d.at_decl (d.then_ (Decls ∷ s) v f)) (takes d.at_decls (d.then_ (Decls ∷ s) v f)))),
     )
 built (entity_decl {i = i} {p = p} {s = s} {t = t} n q r u) =
     let first = built n in
@@ -272,7 +314,8 @@ built (entity_decl {i = i} {p = p} {s = s} {t = t} n q r u) =
           let shape_end = (built r).1 z (t ++ Semi ∷ v) tag_rest tag_end in
           let shape_rest = (built r).0 (TagsTail ∷ Token Semi ∷ z) (t ++ Semi ∷ v) tag_rest in
           let tail = (built q).1 z (s ++ (t ++ Semi ∷ v)) shape_rest shape_end in
-          simp append_assoc (rw first.whole (takes (at_entity first.first first.is) (first.then_ (EntityTail ∷ z) (p ++ (s ++ (t ++ Semi ∷ v))) tail)));
+          simp append_assoc (rw first.whole
+          (takes (at_entity first.first first.is) (first.then_ (EntityTail ∷ z) (p ++ (s ++ (t ++ Semi ∷ v))) tail)));
     }
 built (enum_decl {i = i} {s = s} n r) =
     let first = built n in
@@ -290,7 +333,8 @@ built (enum_decl {i = i} {s = s} n r) =
           (rw first.whole
           (takes (at_entity first.first first.is)
           (first.then_ (EntityTail ∷ z) (KwEnum ∷ LBracket ∷ (s ++ RBracket ∷ Semi ∷ v))
-          (takes {next = Token LBracket ∷ Strings ∷ Token RBracket ∷ Token Semi ∷ []} refl (token (built r (Token RBracket ∷ Token Semi ∷ z) (RBracket ∷ Semi ∷ v) (token (token f))))))));
+          (takes {next = Token LBracket ∷ Strings ∷ Token RBracket ∷ Token Semi ∷ []} refl
+          (token (built r (Token RBracket ∷ Token Semi ∷ z) (RBracket ∷ Semi ∷ v) (token (token f))))))));
     }
 built (external_entity {i = i} {p = p} n q) =
     let first = built n in
@@ -307,7 +351,8 @@ built (external_entity {i = i} {p = p} n q) =
           simp append_assoc
           (rw first.whole
           (takes {next = Ident ∷ IdentsTail ∷ ParentsTail ∷ Token Semi ∷ []} refl
-          (ident first.is (first.then_ (ParentsTail ∷ Token Semi ∷ z) (p ++ Semi ∷ v) ((built q).0 (Token Semi ∷ z) (Semi ∷ v) (token f))))));
+          (ident first.is (first.then_ (ParentsTail ∷ Token Semi ∷ z) (p ++ Semi ∷ v)
+          ((built q).0 (Token Semi ∷ z) (Semi ∷ v) (token f))))));
     }
 built (action_decl {n = n} {r = r} {a = a} m q u) =
     let first = built m in
@@ -342,7 +387,8 @@ built (external_action {n = n} {r = r} m q) =
           simp append_assoc
           (rw first.whole
           (takes {next = Name ∷ NamesTail ∷ RefsTail ∷ Token Semi ∷ []} refl
-          (take (at_name first.first first.is) nothing (first.then_ (RefsTail ∷ Token Semi ∷ z) (r ++ Semi ∷ v) (built q (Token Semi ∷ z) (Semi ∷ v) (token f))))));
+          (take (at_name first.first first.is) nothing
+          (first.then_ (RefsTail ∷ Token Semi ∷ z) (r ++ Semi ∷ v) (built q (Token Semi ∷ z) (Semi ∷ v) (token f))))));
     }
 built (common_decl {i = i} {t = t} h r) =
     record {
@@ -359,23 +405,33 @@ built (common_decl {i = i} {t = t} h r) =
 built (one_ident {i = i} h) = record { first = i; rest = []; whole = refl; is = h; then_ = λ s v f. skip refl f }
 built (more_idents {i = i} {a = a} h r) =
     let p = built r in
-    record { first = i; rest = Comma ∷ a; whole = refl; is = h; then_ = λ s v f. takes {next = Ident ∷ IdentsTail ∷ []} refl (rw p.whole (ident p.is (p.then_ s v f))) }
+    record {
+      first = i;
+      rest = Comma ∷ a;
+      whole = refl;
+      is = h;
+      then_ = λ s v f. takes {next = Ident ∷ IdentsTail ∷ []} refl (rw p.whole (ident p.is (p.then_ s v f)));
+    }
 built no_parents = ((λ s v f. skip refl f), (λ s v f g. g))
 built (in_parents r) = (
   (λ s v f. takes {next = Types ∷ []} refl (built r s v f)),
-  (λ s v f g. takes {next = Types ∷ ShapeTail ∷ TagsTail ∷ Token Semi ∷ []} refl (built r (ShapeTail ∷ TagsTail ∷ Token Semi ∷ s) v f)),
+  (λ s v f g. takes {next = Types ∷ ShapeTail ∷ TagsTail ∷ Token Semi ∷ []} refl
+      (built r (ShapeTail ∷ TagsTail ∷ Token Semi ∷ s) v f)),
 )
 built no_shape = ((λ s v f. skip refl f), (λ s v f g. g))
 built (bare_shape r) =
     let p = built r in (
       (λ s v f. rw p.whole (takes {next = Attrs ∷ Token RBrace ∷ []} refl (p.then_ s v f))),
-      (λ s v f g. rw p.whole (takes {next = Attrs ∷ Token RBrace ∷ TagsTail ∷ Token Semi ∷ []} refl (p.then_ (TagsTail ∷ Token Semi ∷ s) v f))),
+      (λ s v f g. rw p.whole (takes {next = Attrs ∷ Token RBrace ∷ TagsTail ∷ Token Semi ∷ []} refl
+          (p.then_ (TagsTail ∷ Token Semi ∷ s) v f))),
     )
 built (equals_shape r) =
     let p = built r in
-    let inside = λ (s : List Symbol) (v : List TokenKind) (f : Forest s v). takes {x = Record} {k = LBrace} {next = Attrs ∷ Token RBrace ∷ []} refl (p.then_ s v f) in (
+    let inside = λ (s : List Symbol) (v : List TokenKind) (f : Forest s v). takes {x = Record} {k = LBrace}
+    {next = Attrs ∷ Token RBrace ∷ []} refl (p.then_ s v f) in (
       (λ s v f. rw p.whole (takes {next = Record ∷ []} refl (inside s v f))),
-      (λ s v f g. rw p.whole (takes {next = Record ∷ TagsTail ∷ Token Semi ∷ []} refl (inside (TagsTail ∷ Token Semi ∷ s) v f))),
+      (λ s v f g. rw p.whole (takes {next = Record ∷ TagsTail ∷ Token Semi ∷ []} refl
+          (inside (TagsTail ∷ Token Semi ∷ s) v f))),
     )
 built no_tags = ((λ s v f. skip refl f), (λ s v f. takes {next = []} refl f))
 built (some_tags r) = (
@@ -384,45 +440,64 @@ built (some_tags r) = (
 )
 built no_string = λ s v f. skip refl f
 built last_string = λ s v f. takes {next = StringsTail ∷ []} refl (skip refl f)
-built (more_strings r) = λ s v f. takes {next = StringsTail ∷ []} refl (takes {next = Strings ∷ []} refl (built r s v f))
+built (more_strings r) = λ s v f. takes {next = StringsTail ∷ []} refl
+    (takes {next = Strings ∷ []} refl (built r s v f))
 built (one_name r) =
     let p = built r in record { first = p.only; rest = []; whole = p.whole; is = p.is; then_ = λ s v f. skip refl f }
 built (more_names {a = a} {b = b} r t) =
     let p = built r in
     let q = built t in
-    record { first = p.only; rest = Comma ∷ b; whole = ap (λ z. z ++ Comma ∷ b) p.whole; is = p.is; then_ = λ s v f. takes {next = Name ∷ NamesTail ∷ []} refl (rw q.whole (take (at_name q.first q.is) nothing (q.then_ s v f))) }
+    record {
+      first = p.only;
+      rest = Comma ∷ b;
+      whole = ap (λ z. z ++ Comma ∷ b) p.whole;
+      is = p.is;
+      then_ = λ s v f. takes {next = Name ∷ NamesTail ∷ []} refl
+          (rw q.whole (take (at_name q.first q.is) nothing (q.then_ s v f)));
+    }
 built (ident_name {i = i} h) = record { only = i; whole = refl; is = ident_is_name i h }
 built string_name = record { only = StringLit; whole = refl; is = refl }
 built no_refs = λ s v f. skip refl f
 built (some_refs r) = λ s v f. takes {next = Refs ∷ []} refl (built r s v f)
 built no_applies = λ s v f. skip refl f
 built (some_applies r) = λ s v f.
-    takes {next = Token LBrace ∷ Apps ∷ Token RBrace ∷ []} refl (token (simp append_assoc (built r (Token RBrace ∷ s) (RBrace ∷ v) (token f))))
+    takes {next = Token LBrace ∷ Apps ∷ Token RBrace ∷ []} refl
+    (token (simp append_assoc (built r (Token RBrace ∷ s) (RBrace ∷ v) (token f))))
 built no_app = λ s v f. skip refl f
 built (last_app r) = λ s v f. built r s v (skip refl f)
-built (more_apps {a = a} {b = b} r t) = λ s v f. rw append_assoc (built r s (Comma ∷ (b ++ v)) (takes {next = Apps ∷ []} refl (built t s v f)))
-built (principal_app r) = λ s v f. takes {next = Token Colon ∷ Types ∷ AppsTail ∷ []} refl (token (built r (AppsTail ∷ s) v f))
-built (resource_app r) = λ s v f. takes {next = Token Colon ∷ Types ∷ AppsTail ∷ []} refl (token (built r (AppsTail ∷ s) v f))
+built (more_apps {a = a} {b = b} r t) =
+    λ s v f. rw append_assoc (built r s (Comma ∷ (b ++ v)) (takes {next = Apps ∷ []} refl (built t s v f)))
+built (principal_app r) = λ s v f. takes {next = Token Colon ∷ Types ∷ AppsTail ∷ []} refl
+    (token (built r (AppsTail ∷ s) v f))
+built (resource_app r) = λ s v f. takes {next = Token Colon ∷ Types ∷ AppsTail ∷ []} refl
+    (token (built r (AppsTail ∷ s) v f))
 built (context_path r) = λ s v f.
     let p = built r in
-    takes {next = Token Colon ∷ ContextType ∷ AppsTail ∷ []} refl (token (rw p.whole (takes (at_context p.first p.is) (p.then_ (AppsTail ∷ s) v f))))
+    takes {next = Token Colon ∷ ContextType ∷ AppsTail ∷ []} refl
+    (token (rw p.whole (takes (at_context p.first p.is) (p.then_ (AppsTail ∷ s) v f))))
 built (context_record r) = λ s v f.
     let p = built r in
-    takes {next = Token Colon ∷ ContextType ∷ AppsTail ∷ []} refl (token (rw p.whole (takes {next = Attrs ∷ Token RBrace ∷ []} refl (p.then_ (AppsTail ∷ s) v f))))
+    takes {next = Token Colon ∷ ContextType ∷ AppsTail ∷ []} refl
+    (token (rw p.whole (takes {next = Attrs ∷ Token RBrace ∷ []} refl (p.then_ (AppsTail ∷ s) v f))))
 built (one_type r) = λ s v f. let p = built r in rw p.whole (takes (at_types p.first p.is) (p.then_ s v f))
 built (listed_types r) = λ s v f.
-    takes {next = Paths ∷ Token RBracket ∷ []} refl (simp append_assoc (built r (Token RBracket ∷ s) (RBracket ∷ v) (token f)))
+    takes {next = Paths ∷ Token RBracket ∷ []} refl
+    (simp append_assoc (built r (Token RBracket ∷ s) (RBracket ∷ v) (token f)))
 built no_path = λ s v f. skip refl f
-built (last_path r) = λ s v f. let p = built r in rw p.whole (takes (at_paths p.first p.is) (p.then_ (PathsTail ∷ s) v (skip refl f)))
+built (last_path r) = λ s v f.
+    let p = built r in rw p.whole (takes (at_paths p.first p.is) (p.then_ (PathsTail ∷ s) v (skip refl f)))
 built (more_paths {a = a} {b = b} r t) = λ s v f.
     let p = built r in
-    rw (p.whole, append_assoc) (takes (at_paths p.first p.is) (p.then_ (PathsTail ∷ s) (Comma ∷ (b ++ v)) (takes {next = Paths ∷ []} refl (built t s v f))))
+    rw (p.whole, append_assoc) (takes (at_paths p.first p.is)
+    (p.then_ (PathsTail ∷ s) (Comma ∷ (b ++ v)) (takes {next = Paths ∷ []} refl (built t s v f))))
 built (one_ref r) = (built r).0
 built (listed_refs r) = λ s v f.
-    takes {next = RefList ∷ Token RBracket ∷ []} refl (simp append_assoc (built r (Token RBracket ∷ s) (RBracket ∷ v) (token f)))
+    takes {next = RefList ∷ Token RBracket ∷ []} refl
+    (simp append_assoc (built r (Token RBracket ∷ s) (RBracket ∷ v) (token f)))
 built no_ref = λ s v f. skip refl f
 built (last_ref r) = λ s v f. (built r).1 s v (skip refl f)
-built (more_refs {a = a} {b = b} r t) = λ s v f. rw append_assoc ((built r).1 s (Comma ∷ (b ++ v)) (takes {next = RefList ∷ []} refl (built t s v f)))
+built (more_refs {a = a} {b = b} r t) =
+    λ s v f. rw append_assoc ((built r).1 s (Comma ∷ (b ++ v)) (takes {next = RefList ∷ []} refl (built t s v f)))
 built (plain_ref r) =
     let p = built r in (
       (λ s v f. rw p.whole (ref_name p.only s v p.is f)),
@@ -435,17 +510,26 @@ built (typed_ref r) =
     )
 built (path_type r) = λ s v f. let p = built r in rw p.whole (path_type_at p.first s (p.rest ++ v) p.is (p.then_ s v f))
 built (set_type r) = λ s v f.
-    takes {next = SetTail ∷ []} refl (takes {next = AnyType ∷ Token Greater ∷ []} refl (simp append_assoc (built r (Token Greater ∷ s) (Greater ∷ v) (token f))))
-built (record_type r) = λ s v f. let p = built r in rw p.whole (takes {next = Attrs ∷ Token RBrace ∷ []} refl (p.then_ s v f))
+    takes {next = SetTail ∷ []} refl
+    (takes {next = AnyType ∷ Token Greater ∷ []} refl
+    (simp append_assoc (built r (Token Greater ∷ s) (Greater ∷ v) (token f))))
+built (record_type r) = λ s v f.
+    let p = built r in rw p.whole (takes {next = Attrs ∷ Token RBrace ∷ []} refl (p.then_ s v f))
 built (braces {a = a} r) =
-    record { rest = a ++ RBrace ∷ []; whole = refl; then_ = λ s v f. simp append_assoc (built r (Token RBrace ∷ s) (RBrace ∷ v) (token f)) }
+    record {
+      rest = a ++ RBrace ∷ [];
+      whole = refl;
+      then_ = λ s v f. simp append_assoc (built r (Token RBrace ∷ s) (RBrace ∷ v) (token f));
+    }
 built no_attr = λ s v f. skip refl f
 built (last_attr r) = λ s v f. built r s v (skip refl f)
-built (more_attrs {a = a} {b = b} r t) = λ s v f. rw append_assoc (built r s (Comma ∷ (b ++ v)) (takes {next = Attrs ∷ []} refl (built t s v f)))
+built (more_attrs {a = a} {b = b} r t) =
+    λ s v f. rw append_assoc (built r s (Comma ∷ (b ++ v)) (takes {next = Attrs ∷ []} refl (built t s v f)))
 built (one_attr {a = a} {n = n} {m = m} {t = t} c r q u) =
     let p = built r in
     λ s v f.
-    let inside = λ (z : List Symbol) (g : Forest z v). built q (Token Colon ∷ AnyType ∷ z) (Colon ∷ (t ++ v)) (token (built u z v g)) in
+    let inside = λ (z : List Symbol) (g : Forest z v). built q (Token Colon ∷ AnyType ∷ z) (Colon ∷ (t ++ v))
+    (token (built u z v g)) in
     simp append_assoc
     (rw p.whole
     (built c Attrs Attr (AttrsTail ∷ []) refl refl s (p.only ∷ (m ++ Colon ∷ (t ++ v)))

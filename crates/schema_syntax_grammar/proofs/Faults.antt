@@ -1,5 +1,7 @@
 -- Where the kinds stop being the beginning of a sentence.
-use Rattle.std.proofs.Common.{◌≡◌, ℕ, ◌+◌, ◌<◌, ◌≤◌, List, [], ◌∷◌, ◌++◌, length, take, drop, get_or, true, false, Option, Some, None, sym, ap, ◌∙◌, subst, arith, add-one, append_assoc, inl, inr, IsTrue, ◌↔◌}
+use Rattle.std.proofs.Common.{◌≡◌, ℕ, ◌+◌, ◌<◌, ◌≤◌, List, [], ◌∷◌, ◌++◌, length, take, drop, get_or, true, false}
+use Rattle.std.proofs.Common.{Option, Some, None, sym, ap, ◌∙◌, subst, arith, add-one, append_assoc, inl, inr, IsTrue}
+use Rattle.std.proofs.Common.{◌↔◌}
 use Rattle.std.specs.Prelude.{slice_get}
 use Rattle.std.proofs.Math.Seq.{take-suc, take-length}
 use Rattle.std.proofs.lemmas.Option.{slice_get-get_or, slice_get_past}
@@ -20,12 +22,14 @@ use Rattle.schema_syntax_grammar.proofs.Main.{no_stack, one_more, stack_viable, 
 pub front_viable : (a b : List TokenKind) → Viable (a ++ b) → Viable a
 front_viable a b v = (b ++ v.0, rw append_assoc at v.1)
 
-module _ (kinds : List TokenKind) (i : ℕ) (old : List Symbol) (lt : i < length kinds) (e : run (Schema ∷ []) (take i kinds) ≡ Some old) where
+module _ (kinds : List TokenKind) (i : ℕ) (old : List Symbol) (lt : i < length kinds)
+    (e : run (Schema ∷ []) (take i kinds) ≡ Some old) where
   -- a run over one kind more of the list
   one_further : (o : Option (List Symbol)) → step old (get_or kinds i KwNamespace) ≡ o
       → run (Schema ∷ []) (take (i + 1) kinds) ≡ bind o (λ t. Some t)
   one_further o s =
-      rw (add-one, take-suc kinds i KwNamespace lt) (one_more (take i kinds) old (get_or kinds i KwNamespace) e ∙ ap (λ x. bind x (λ t. Some t)) s)
+      rw (add-one, take-suc kinds i KwNamespace lt)
+      (one_more (take i kinds) old (get_or kinds i KwNamespace) e ∙ ap (λ x. bind x (λ t. Some t)) s)
 
   -- the stack after one kind more
   pub further : (new : List Symbol) → step old (get_or kinds i KwNamespace) ≡ Some new
@@ -34,11 +38,13 @@ module _ (kinds : List TokenKind) (i : ℕ) (old : List Symbol) (lt : i < length
 
   -- where the next kind is not taken, one kind more begins no sentence
   pub stopped : ((k : TokenKind) → slice_get kinds i ≡ Some k → step old k ≡ None) → Viable (take (i + 1) kinds) → ⊥
-  stopped stops v = no_stack (take (i + 1) kinds) (one_further None (stops (get_or kinds i KwNamespace) (slice_get-get_or kinds i KwNamespace lt))) v
+  stopped stops v = no_stack (take (i + 1) kinds)
+      (one_further None (stops (get_or kinds i KwNamespace) (slice_get-get_or kinds i KwNamespace lt))) v
 
   -- kinds of which not all are read are not viable
   pub cut_short : ((k : TokenKind) → slice_get kinds i ≡ Some k → step old k ≡ None) → Viable kinds → ⊥
-  cut_short stops v = stopped stops (front_viable (take (i + 1) kinds) (drop (i + 1) kinds) (subst Viable (sym (take-append-drop (i + 1) kinds)) v))
+  cut_short stops v = stopped stops
+      (front_viable (take (i + 1) kinds) (drop (i + 1) kinds) (subst Viable (sym (take-append-drop (i + 1) kinds)) v))
 
   -- nor are they a sentence
   pub cut_iff : ((k : TokenKind) → slice_get kinds i ≡ Some k → step old k ≡ None) → IsTrue false ↔ Sentence kinds

@@ -1,5 +1,6 @@
 -- What follows from the definitions alone.
-use Rattle.std.proofs.Common.{◌≡◌, ◌≢◌, ℕ, ◌+◌, ◌<◌, ◌≤◌, List, [], ◌∷◌, ◌++◌, length, take, drop, Bool, true, false, ◌||◌, if◌then◌else◌, refl, sym, ap, ◌∙◌, subst, IsTrue, arith, inl, inr, append_assoc}
+use Rattle.std.proofs.Common.{◌≡◌, ◌≢◌, ℕ, ◌+◌, ◌<◌, ◌≤◌, List, [], ◌∷◌, ◌++◌, length, take, drop, Bool, true, false}
+use Rattle.std.proofs.Common.{◌||◌, if◌then◌else◌, refl, sym, ap, ◌∙◌, subst, IsTrue, arith, inl, inr, append_assoc}
 use Rattle.std.proofs.Math.Seq.{take-length}
 use Rattle.std.proofs.lemmas.List.{take-append-drop, take-take}
 use Rattle.std.proofs.lemmas.Bool.{cases_lt}
@@ -34,7 +35,8 @@ same_filters p q (k ∷ all) e = rw (e k, same_filters p q all e) refl
 pub one_list : (kinds first second : List TokenKind) → IsExpected ALL_KINDS kinds first
     → IsExpected ALL_KINDS kinds second → first ≡ second
 one_list kinds first second (p, f, e) (q, g, h) =
-    e ∙ (same_filters p q ALL_KINDS (λ k. same_tests (p k) (q k) (λ t. (g k).1 ((f k).0 t)) (λ t. (f k).1 ((g k).0 t))) ∙ sym h)
+    e ∙ (same_filters p q ALL_KINDS
+    (λ k. same_tests (p k) (q k) (λ t. (g k).1 ((f k).0 t)) (λ t. (f k).1 ((g k).0 t))) ∙ sym h)
 
 -- something may come next
 
@@ -62,8 +64,11 @@ other_follows kinds k e v = v
 -- some kind or the end may follow what begins a sentence
 some_follows : (kinds more : List TokenKind) → Sentence (kinds ++ more) → (k : TokenKind) × MayFollow kinds k
 some_follows kinds [] s = (End, subst Sentence (append_nil kinds) s)
-some_follows kinds (k ∷ more) s =
-    (k, other_follows kinds k (listed_middle kinds more k (sentence_other (kinds ++ k ∷ more) s)) (more, subst Sentence (sym (append_assoc kinds (k ∷ []) more)) s))
+some_follows kinds (k ∷ more) s = (
+  k,
+  other_follows kinds k (listed_middle kinds more k (sentence_other (kinds ++ k ∷ more) s))
+      (more, subst Sentence (sym (append_assoc kinds (k ∷ []) more)) s),
+)
 
 -- a list with something kept is not empty
 kept_first : (p : TokenKind → Bool) (j : TokenKind) (rest : List TokenKind) (b : Bool) → b ≡ true
@@ -101,7 +106,8 @@ no_further kinds first second p q f g lt =
     let front = take-take (p + 1) q kinds (omega arith) in
     let v = subst Viable (sym (take-append-drop (p + 1) (take q kinds))) g.viable in
     let within = g.within in
-    f.stops (omega arith) (subst Viable front (front_viable (take (p + 1) (take q kinds)) (drop (p + 1) (take q kinds)) v))
+    f.stops (omega arith) (subst Viable front
+    (front_viable (take (p + 1) (take q kinds)) (drop (p + 1) (take q kinds)) v))
 
 -- so they have one place
 one_place : (kinds first second : List TokenKind) (p q : ℕ) → IsFault ALL_KINDS kinds p first
@@ -109,15 +115,19 @@ one_place : (kinds first second : List TokenKind) (p q : ℕ) → IsFault ALL_KI
 one_place kinds first second p q f g =
     elim (cases_lt p q) [
       | inl lt ↦ absurd (no_further kinds first second p q f g lt)
-      | inr ge ↦ elim (cases_lt q p) [ inl lt ↦ absurd (no_further kinds second first q p g f lt) | inr le ↦ omega (arith, ge, le) ]
+      | inr ge ↦ elim (cases_lt q p)
+          [ inl lt ↦ absurd (no_further kinds second first q p g f lt) | inr le ↦ omega (arith, ge, le) ]
     ]
 
 -- and one list
 pub same_fault : (kinds first second : List TokenKind) (p q : ℕ) → IsFault ALL_KINDS kinds p first
     → IsFault ALL_KINDS kinds q second → (p ≡ q) × (first ≡ second)
 same_fault kinds first second p q f g =
-    let e = one_place kinds first second p q f g in
-    (e, one_list (take q kinds) first second (subst (λ i. IsExpected ALL_KINDS (take i kinds) first) e f.expected) g.expected)
+    let e = one_place kinds first second p q f g in (
+      e,
+      one_list (take q kinds) first second
+          (subst (λ i. IsExpected ALL_KINDS (take i kinds) first) e f.expected) g.expected,
+    )
 
 -- a fault at the end is one of kinds that begin a sentence
 pub end_viable : (kinds list : List TokenKind) (place : ℕ) → IsFault ALL_KINDS kinds place list → length kinds ≤ place

@@ -1,5 +1,6 @@
 -- The machine's answers, in the grammar's words.
-use Rattle.std.proofs.Common.{◌≡◌, List, [], ◌∷◌, ◌++◌, true, false, Option, Some, None, refl, sym, ap, ◌∙◌, subst, IsTrue, is_some, ◌↔◌}
+use Rattle.std.proofs.Common.{◌≡◌, List, [], ◌∷◌, ◌++◌, true, false, Option, Some, None, refl, sym, ap, ◌∙◌, subst}
+use Rattle.std.proofs.Common.{IsTrue, is_some, ◌↔◌}
 use Rattle.schema_syntax_grammar.specs.declared.token_kind.TokenKind.{TokenKind}
 use Rattle.schema_syntax_grammar.specs.declared.token_kind.TokenKind.TheVariants.{End}
 use Rattle.schema_syntax_grammar.specs.declared.symbol.Symbol.{Symbol}

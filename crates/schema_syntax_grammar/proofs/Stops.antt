@@ -2,16 +2,33 @@
 use Rattle.std.proofs.Common.{◌≡◌, ℕ, List, [], ◌∷◌, Bool, true, false, ◌&&◌, ◌||◌, Option, Some, None, refl, ap}
 use Rattle.std.specs.Prelude.{nat_lt, is_some, not}
 use Rattle.schema_syntax_grammar.specs.declared.token_kind.TokenKind.{TokenKind}
-use Rattle.schema_syntax_grammar.specs.declared.token_kind.TokenKind.TheVariants.{KwNamespace, KwEntity, KwExternal, KwIn, KwType, KwSet, KwAppliesTo, KwPrincipal, KwAction, KwResource, KwContext, KwTags, KwEnum, Identifier, StringLit, At, Comma, Semi, Colon, PathSep, LParen, RParen, LBrace, RBrace, LBracket, RBracket, Less, Greater, Question, Equals, End}
+use Rattle.schema_syntax_grammar.specs.declared.token_kind.TokenKind.TheVariants.{KwNamespace, KwEntity, KwExternal}
+use Rattle.schema_syntax_grammar.specs.declared.token_kind.TokenKind.TheVariants.{KwIn, KwType, KwSet, KwAppliesTo}
+use Rattle.schema_syntax_grammar.specs.declared.token_kind.TokenKind.TheVariants.{KwPrincipal, KwAction, KwResource}
+use Rattle.schema_syntax_grammar.specs.declared.token_kind.TokenKind.TheVariants.{KwContext, KwTags, KwEnum, Identifier}
+use Rattle.schema_syntax_grammar.specs.declared.token_kind.TokenKind.TheVariants.{StringLit, At, Comma, Semi, Colon}
+use Rattle.schema_syntax_grammar.specs.declared.token_kind.TokenKind.TheVariants.{PathSep, LParen, RParen, LBrace}
+use Rattle.schema_syntax_grammar.specs.declared.token_kind.TokenKind.TheVariants.{RBrace, LBracket, RBracket, Less}
+use Rattle.schema_syntax_grammar.specs.declared.token_kind.TokenKind.TheVariants.{Greater, Question, Equals, End}
 use Rattle.schema_syntax_grammar.specs.declared.token_kind.TheConstants.{ALL_KINDS}
 use Rattle.schema_syntax_grammar.specs.declared.symbol.Symbol.{Symbol}
-use Rattle.schema_syntax_grammar.specs.declared.symbol.Symbol.TheVariants.{Token, Schema, Item, Decls, Decl, AnnotationTail, AfterNamespace, AfterEntity, EntityTail, AfterExternal, AfterAction, AfterType, Word, Ident, IdentsTail, Name, NamesTail, ParentsTail, ShapeTail, TagsTail, Strings, StringsTail, RefsTail, AppliesTail, Apps, AppsTail, ContextType, PathTail, Types, Paths, PathsTail, Refs, RefList, RefListTail, RefTail, RefStep, AnyType, SetTail, Record, Attrs, AttrsTail, Attr, Mark}
+use Rattle.schema_syntax_grammar.specs.declared.symbol.Symbol.TheVariants.{Token, Schema, Item, Decls, Decl}
+use Rattle.schema_syntax_grammar.specs.declared.symbol.Symbol.TheVariants.{AnnotationTail, AfterNamespace, AfterEntity}
+use Rattle.schema_syntax_grammar.specs.declared.symbol.Symbol.TheVariants.{EntityTail, AfterExternal, AfterAction}
+use Rattle.schema_syntax_grammar.specs.declared.symbol.Symbol.TheVariants.{AfterType, Word, Ident, IdentsTail, Name}
+use Rattle.schema_syntax_grammar.specs.declared.symbol.Symbol.TheVariants.{NamesTail, ParentsTail, ShapeTail, TagsTail}
+use Rattle.schema_syntax_grammar.specs.declared.symbol.Symbol.TheVariants.{Strings, StringsTail, RefsTail, AppliesTail}
+use Rattle.schema_syntax_grammar.specs.declared.symbol.Symbol.TheVariants.{Apps, AppsTail, ContextType, PathTail, Types}
+use Rattle.schema_syntax_grammar.specs.declared.symbol.Symbol.TheVariants.{Paths, PathsTail, Refs, RefList, RefListTail}
+use Rattle.schema_syntax_grammar.specs.declared.symbol.Symbol.TheVariants.{RefTail, RefStep, AnyType, SetTail, Record}
+use Rattle.schema_syntax_grammar.specs.declared.symbol.Symbol.TheVariants.{Attrs, AttrsTail, Attr, Mark}
 use Rattle.schema_syntax_grammar.specs.Table.{Row, rows, is_nullable, after_front}
 use Rattle.schema_syntax_grammar.specs.Grammar.{same_kind}
 use Rattle.schema_syntax_grammar.specs.Machine.{step, all_nullable}
 
 abbrev pub ident_kinds : List TokenKind
-ident_kinds = KwNamespace ∷ KwEntity ∷ KwExternal ∷ KwType ∷ KwSet ∷ KwAppliesTo ∷ KwPrincipal ∷ KwAction ∷ KwResource ∷ KwContext ∷ KwTags ∷ KwEnum ∷ Identifier ∷ []
+ident_kinds = KwNamespace ∷ KwEntity ∷ KwExternal ∷ KwType ∷ KwSet ∷ KwAppliesTo ∷ KwPrincipal ∷ KwAction ∷ KwResource
+    ∷ KwContext ∷ KwTags ∷ KwEnum ∷ Identifier ∷ []
 
 abbrev pub all_kinds : (TokenKind → Bool) → List TokenKind → Bool
 all_kinds p [] = true
@@ -64,7 +81,8 @@ implies false b = true
 -- after the symbols, what would make more of one of them is no front of those behind it
 abbrev pub closed : (TokenKind → Bool) → List Symbol → Bool
 closed f [] = true
-closed f (y ∷ ys) = all_kinds (λ k. implies (stop y k) (not (is_some (step ys k)) && implies (all_nullable ys) (f k))) ALL_KINDS && closed f ys
+closed f (y ∷ ys) = all_kinds (λ k. implies (stop y k) (not (is_some (step ys k)) && implies (all_nullable ys) (f k)))
+    ALL_KINDS && closed f ys
 
 abbrev pub all_rows : (Row → Bool) → List Row → Bool
 all_rows p [] = true

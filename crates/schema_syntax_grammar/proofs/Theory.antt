@@ -1,5 +1,6 @@
 -- What a stack stands for, and that the machine accepts exactly that.
-use Rattle.std.proofs.Common.{◌≡◌, List, [], ◌∷◌, ◌++◌, Bool, true, false, ◌&&◌, Option, Some, None, refl, sym, ap, ◌∙◌, subst, append_assoc}
+use Rattle.std.proofs.Common.{◌≡◌, List, [], ◌∷◌, ◌++◌, Bool, true, false, ◌&&◌, Option, Some, None, refl, sym, ap, ◌∙◌}
+use Rattle.std.proofs.Common.{subst, append_assoc}
 use Rattle.schema_syntax_grammar.specs.declared.token_kind.TokenKind.{TokenKind}
 use Rattle.schema_syntax_grammar.specs.declared.symbol.Symbol.{Symbol}
 use Rattle.schema_syntax_grammar.specs.Table.{after_front, is_nullable}
@@ -22,10 +23,18 @@ pub record Cut (a b : List Symbol) (w : List TokenKind) : Type 0 where
 
 cut : (a b : List Symbol) (w : List TokenKind) → Forest (a ++ b) w → Cut a b w
 cut [] b w f = record { left = []; right = w; joined = refl; first = nothing; second = f }
-cut (x ∷ a) b w (skip n f) = let c = cut a b w f in record { left = c.left; right = c.right; joined = c.joined; first = skip n c.first; second = c.second }
+cut (x ∷ a) b w (skip n f) = let c = cut a b w f in
+    record { left = c.left; right = c.right; joined = c.joined; first = skip n c.first; second = c.second }
 cut (x ∷ a) b w (take {k = k} {u = u} {v = v} g f h) =
     let c = cut a b v h in
-    record { left = k ∷ (u ++ c.left); right = c.right; joined = ap (λ r. k ∷ (u ++ r)) c.joined ∙ ap (λ r. k ∷ r) (sym (append_assoc u c.left c.right)); first = take g f c.first; second = c.second }
+    record {
+      left = k ∷ (u ++ c.left);
+      right = c.right;
+      joined = ap (λ r. k ∷ (u ++ r)) c.joined
+          ∙ ap (λ r. k ∷ r) (sym (append_assoc u c.left c.right));
+      first = take g f c.first;
+      second = c.second;
+    }
 
 -- forests of two stacks are one of both
 pub join : {a b : List Symbol} {u v : List TokenKind} → Forest a u → Forest b v → Forest (a ++ b) (u ++ v)
@@ -66,4 +75,5 @@ pub stands : (w : List TokenKind) (s : List Symbol) → accepts s w ≡ true →
 stands [] [] e = nothing
 stands [] (x ∷ s) e = skip (and_left _ _ e) (stands [] s (and_right _ _ e))
 stands (k ∷ w) [] e = cc
-stands (k ∷ w) (x ∷ s) e = stands_at k w x s (after_front x k) (is_nullable x) refl refl (λ t h. stands w t h) (λ h. stands (k ∷ w) s h) e
+stands (k ∷ w) (x ∷ s) e = stands_at k w x s (after_front x k) (is_nullable x) refl refl (λ t h. stands w t h)
+    (λ h. stands (k ∷ w) s h) e

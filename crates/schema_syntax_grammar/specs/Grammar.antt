@@ -2,7 +2,14 @@
 use Rattle.std.specs.Prelude.{◌≡◌, ◌↔◌, ℕ, nat_eq, List, [], ◌∷◌, ◌++◌, Bool, true, false, IsTrue}
 use Rattle.std.specs.List.{filter}
 use Rattle.schema_syntax_grammar.specs.declared.token_kind.TokenKind.{TokenKind}
-use Rattle.schema_syntax_grammar.specs.declared.token_kind.TokenKind.TheVariants.{KwNamespace, KwEntity, KwExternal, KwIn, KwType, KwSet, KwAppliesTo, KwPrincipal, KwAction, KwResource, KwContext, KwTags, KwEnum, Identifier, StringLit, At, Comma, Semi, Colon, PathSep, LParen, RParen, LBrace, RBrace, LBracket, RBracket, Less, Greater, Question, Equals, End}
+use Rattle.schema_syntax_grammar.specs.declared.token_kind.TokenKind.TheVariants.{KwNamespace, KwEntity, KwExternal}
+use Rattle.schema_syntax_grammar.specs.declared.token_kind.TokenKind.TheVariants.{KwIn, KwType, KwSet, KwAppliesTo}
+use Rattle.schema_syntax_grammar.specs.declared.token_kind.TokenKind.TheVariants.{KwPrincipal, KwAction, KwResource}
+use Rattle.schema_syntax_grammar.specs.declared.token_kind.TokenKind.TheVariants.{KwContext, KwTags, KwEnum, Identifier}
+use Rattle.schema_syntax_grammar.specs.declared.token_kind.TokenKind.TheVariants.{StringLit, At, Comma, Semi, Colon}
+use Rattle.schema_syntax_grammar.specs.declared.token_kind.TokenKind.TheVariants.{PathSep, LParen, RParen, LBrace}
+use Rattle.schema_syntax_grammar.specs.declared.token_kind.TokenKind.TheVariants.{RBrace, LBracket, RBracket, Less}
+use Rattle.schema_syntax_grammar.specs.declared.token_kind.TokenKind.TheVariants.{Greater, Question, Equals, End}
 
 -- the kind of a word
 abbrev pub is_word_kind : TokenKind → Bool
@@ -237,4 +244,5 @@ MayFollow kinds k = Viable (kinds ++ k ∷ [])
 
 -- exactly the kinds that may come next, in the order of all kinds
 abbrev pub IsExpected : Kinds → Kinds → Kinds → Type 0
-IsExpected all kinds list = (p : TokenKind → Bool) × ((k : TokenKind) → IsTrue (p k) ↔ MayFollow kinds k) × (list ≡ filter p all)
+IsExpected all kinds list = (p : TokenKind → Bool) × ((k : TokenKind) → IsTrue (p k) ↔ MayFollow kinds k)
+    × (list ≡ filter p all)

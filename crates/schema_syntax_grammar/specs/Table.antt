@@ -1,9 +1,25 @@
 -- The grammar as a table: for each symbol the tokens that it may begin with, and what comes after them.
 use Rattle.std.specs.Prelude.{List, [], ◌∷◌, Bool, true, false, Option, Some, None, if◌then◌else◌}
 use Rattle.schema_syntax_grammar.specs.declared.token_kind.TokenKind.{TokenKind}
-use Rattle.schema_syntax_grammar.specs.declared.token_kind.TokenKind.TheVariants.{KwNamespace, KwEntity, KwExternal, KwIn, KwType, KwSet, KwAppliesTo, KwPrincipal, KwAction, KwResource, KwContext, KwTags, KwEnum, StringLit, At, Comma, Semi, Colon, PathSep, LParen, RParen, LBrace, RBrace, LBracket, RBracket, Less, Greater, Question, Equals}
+use Rattle.schema_syntax_grammar.specs.declared.token_kind.TokenKind.TheVariants.{KwNamespace, KwEntity, KwExternal}
+use Rattle.schema_syntax_grammar.specs.declared.token_kind.TokenKind.TheVariants.{KwIn, KwType, KwSet, KwAppliesTo}
+use Rattle.schema_syntax_grammar.specs.declared.token_kind.TokenKind.TheVariants.{KwPrincipal, KwAction, KwResource}
+use Rattle.schema_syntax_grammar.specs.declared.token_kind.TokenKind.TheVariants.{KwContext, KwTags, KwEnum, StringLit}
+use Rattle.schema_syntax_grammar.specs.declared.token_kind.TokenKind.TheVariants.{At, Comma, Semi, Colon, PathSep}
+use Rattle.schema_syntax_grammar.specs.declared.token_kind.TokenKind.TheVariants.{LParen, RParen, LBrace, RBrace}
+use Rattle.schema_syntax_grammar.specs.declared.token_kind.TokenKind.TheVariants.{LBracket, RBracket, Less, Greater}
+use Rattle.schema_syntax_grammar.specs.declared.token_kind.TokenKind.TheVariants.{Question, Equals}
 use Rattle.schema_syntax_grammar.specs.declared.symbol.Symbol.{Symbol}
-use Rattle.schema_syntax_grammar.specs.declared.symbol.Symbol.TheVariants.{Token, Schema, Item, Decls, Decl, AnnotationTail, AfterNamespace, AfterEntity, EntityTail, AfterExternal, AfterAction, AfterType, Word, Ident, IdentsTail, Name, NamesTail, ParentsTail, ShapeTail, TagsTail, Strings, StringsTail, RefsTail, AppliesTail, Apps, AppsTail, ContextType, PathTail, Types, Paths, PathsTail, Refs, RefList, RefListTail, RefTail, RefStep, AnyType, SetTail, Record, Attrs, AttrsTail, Attr, Mark}
+use Rattle.schema_syntax_grammar.specs.declared.symbol.Symbol.TheVariants.{Token, Schema, Item, Decls, Decl}
+use Rattle.schema_syntax_grammar.specs.declared.symbol.Symbol.TheVariants.{AnnotationTail, AfterNamespace, AfterEntity}
+use Rattle.schema_syntax_grammar.specs.declared.symbol.Symbol.TheVariants.{EntityTail, AfterExternal, AfterAction}
+use Rattle.schema_syntax_grammar.specs.declared.symbol.Symbol.TheVariants.{AfterType, Word, Ident, IdentsTail, Name}
+use Rattle.schema_syntax_grammar.specs.declared.symbol.Symbol.TheVariants.{NamesTail, ParentsTail, ShapeTail, TagsTail}
+use Rattle.schema_syntax_grammar.specs.declared.symbol.Symbol.TheVariants.{Strings, StringsTail, RefsTail, AppliesTail}
+use Rattle.schema_syntax_grammar.specs.declared.symbol.Symbol.TheVariants.{Apps, AppsTail, ContextType, PathTail, Types}
+use Rattle.schema_syntax_grammar.specs.declared.symbol.Symbol.TheVariants.{Paths, PathsTail, Refs, RefList, RefListTail}
+use Rattle.schema_syntax_grammar.specs.declared.symbol.Symbol.TheVariants.{RefTail, RefStep, AnyType, SetTail, Record}
+use Rattle.schema_syntax_grammar.specs.declared.symbol.Symbol.TheVariants.{Attrs, AttrsTail, Attr, Mark}
 use Rattle.schema_syntax_grammar.specs.Grammar.{is_word_kind, is_ident, is_name_kind, same_kind}
 
 -- which kinds a row is for
@@ -29,15 +45,28 @@ row f n = record { front = f; next = n }
 -- what each symbol may begin with, and what comes then
 abbrev pub rows : Symbol → List Row
 rows (Token k) = row (one k) [] ∷ []
-rows Schema = row (one At) (Word ∷ AnnotationTail ∷ Item ∷ Schema ∷ []) ∷ row (one KwNamespace) (AfterNamespace ∷ Schema ∷ []) ∷ row (one KwEntity) (AfterEntity ∷ Schema ∷ []) ∷ row (one KwExternal) (AfterExternal ∷ Schema ∷ []) ∷ row (one KwAction) (AfterAction ∷ Schema ∷ []) ∷ row (one KwType) (AfterType ∷ Schema ∷ []) ∷ []
-rows Item = row (one At) (Word ∷ AnnotationTail ∷ Item ∷ []) ∷ row (one KwNamespace) (AfterNamespace ∷ []) ∷ row (one KwEntity) (AfterEntity ∷ []) ∷ row (one KwExternal) (AfterExternal ∷ []) ∷ row (one KwAction) (AfterAction ∷ []) ∷ row (one KwType) (AfterType ∷ []) ∷ []
-rows Decls = row (one At) (Word ∷ AnnotationTail ∷ Decl ∷ Decls ∷ []) ∷ row (one KwEntity) (AfterEntity ∷ Decls ∷ []) ∷ row (one KwExternal) (AfterExternal ∷ Decls ∷ []) ∷ row (one KwAction) (AfterAction ∷ Decls ∷ []) ∷ row (one KwType) (AfterType ∷ Decls ∷ []) ∷ []
-rows Decl = row (one At) (Word ∷ AnnotationTail ∷ Decl ∷ []) ∷ row (one KwEntity) (AfterEntity ∷ []) ∷ row (one KwExternal) (AfterExternal ∷ []) ∷ row (one KwAction) (AfterAction ∷ []) ∷ row (one KwType) (AfterType ∷ []) ∷ []
+rows Schema = row (one At) (Word ∷ AnnotationTail ∷ Item ∷ Schema ∷ []) ∷ row (one KwNamespace)
+    (AfterNamespace ∷ Schema ∷ []) ∷ row (one KwEntity) (AfterEntity ∷ Schema ∷ []) ∷ row (one KwExternal)
+    (AfterExternal ∷ Schema ∷ []) ∷ row (one KwAction) (AfterAction ∷ Schema ∷ []) ∷ row (one KwType)
+    (AfterType ∷ Schema ∷ []) ∷ []
+rows Item = row (one At) (Word ∷ AnnotationTail ∷ Item ∷ []) ∷ row (one KwNamespace) (AfterNamespace ∷ []) ∷ row
+    (one KwEntity) (AfterEntity ∷ []) ∷ row (one KwExternal) (AfterExternal ∷ []) ∷ row (one KwAction)
+    (AfterAction ∷ []) ∷ row (one KwType) (AfterType ∷ []) ∷ []
+rows Decls = row (one At) (Word ∷ AnnotationTail ∷ Decl ∷ Decls ∷ []) ∷ row (one KwEntity) (AfterEntity ∷ Decls ∷ [])
+    ∷ row (one KwExternal) (AfterExternal ∷ Decls ∷ []) ∷ row (one KwAction) (AfterAction ∷ Decls ∷ []) ∷ row
+    (one KwType) (AfterType ∷ Decls ∷ []) ∷ []
+rows Decl = row (one At) (Word ∷ AnnotationTail ∷ Decl ∷ []) ∷ row (one KwEntity) (AfterEntity ∷ []) ∷ row
+    (one KwExternal) (AfterExternal ∷ []) ∷ row (one KwAction) (AfterAction ∷ []) ∷ row (one KwType)
+    (AfterType ∷ []) ∷ []
 rows AnnotationTail = row (one LParen) (Token StringLit ∷ Token RParen ∷ []) ∷ []
 rows AfterNamespace = row ident (PathTail ∷ Token LBrace ∷ Decls ∷ Token RBrace ∷ []) ∷ []
 rows AfterEntity = row ident (IdentsTail ∷ EntityTail ∷ []) ∷ []
-rows EntityTail = row (one KwIn) (Types ∷ ShapeTail ∷ TagsTail ∷ Token Semi ∷ []) ∷ row (one Equals) (Record ∷ TagsTail ∷ Token Semi ∷ []) ∷ row (one LBrace) (Attrs ∷ Token RBrace ∷ TagsTail ∷ Token Semi ∷ []) ∷ row (one KwTags) (AnyType ∷ Token Semi ∷ []) ∷ row (one KwEnum) (Token LBracket ∷ Strings ∷ Token RBracket ∷ Token Semi ∷ []) ∷ row (one Semi) [] ∷ []
-rows AfterExternal = row (one KwEntity) (Ident ∷ IdentsTail ∷ ParentsTail ∷ Token Semi ∷ []) ∷ row (one KwAction) (Name ∷ NamesTail ∷ RefsTail ∷ Token Semi ∷ []) ∷ []
+rows EntityTail = row (one KwIn) (Types ∷ ShapeTail ∷ TagsTail ∷ Token Semi ∷ []) ∷ row (one Equals)
+    (Record ∷ TagsTail ∷ Token Semi ∷ []) ∷ row (one LBrace) (Attrs ∷ Token RBrace ∷ TagsTail ∷ Token Semi ∷ []) ∷ row
+    (one KwTags) (AnyType ∷ Token Semi ∷ []) ∷ row (one KwEnum)
+    (Token LBracket ∷ Strings ∷ Token RBracket ∷ Token Semi ∷ []) ∷ row (one Semi) [] ∷ []
+rows AfterExternal = row (one KwEntity) (Ident ∷ IdentsTail ∷ ParentsTail ∷ Token Semi ∷ []) ∷ row (one KwAction)
+    (Name ∷ NamesTail ∷ RefsTail ∷ Token Semi ∷ []) ∷ []
 rows AfterAction = row name (NamesTail ∷ RefsTail ∷ AppliesTail ∷ Token Semi ∷ []) ∷ []
 rows AfterType = row ident (Token Equals ∷ AnyType ∷ Token Semi ∷ []) ∷ []
 rows Word = row word [] ∷ []
@@ -52,7 +81,8 @@ rows Strings = row (one StringLit) (StringsTail ∷ []) ∷ []
 rows StringsTail = row (one Comma) (Strings ∷ []) ∷ []
 rows RefsTail = row (one KwIn) (Refs ∷ []) ∷ []
 rows AppliesTail = row (one KwAppliesTo) (Token LBrace ∷ Apps ∷ Token RBrace ∷ []) ∷ []
-rows Apps = row (one KwPrincipal) (Token Colon ∷ Types ∷ AppsTail ∷ []) ∷ row (one KwResource) (Token Colon ∷ Types ∷ AppsTail ∷ []) ∷ row (one KwContext) (Token Colon ∷ ContextType ∷ AppsTail ∷ []) ∷ []
+rows Apps = row (one KwPrincipal) (Token Colon ∷ Types ∷ AppsTail ∷ []) ∷ row (one KwResource)
+    (Token Colon ∷ Types ∷ AppsTail ∷ []) ∷ row (one KwContext) (Token Colon ∷ ContextType ∷ AppsTail ∷ []) ∷ []
 rows AppsTail = row (one Comma) (Apps ∷ []) ∷ []
 rows ContextType = row ident (PathTail ∷ []) ∷ row (one LBrace) (Attrs ∷ Token RBrace ∷ []) ∷ []
 rows PathTail = row (one PathSep) (Ident ∷ PathTail ∷ []) ∷ []
@@ -64,10 +94,12 @@ rows RefList = row ident (RefTail ∷ RefListTail ∷ []) ∷ row (one StringLit
 rows RefListTail = row (one Comma) (RefList ∷ []) ∷ []
 rows RefTail = row (one PathSep) (RefStep ∷ []) ∷ []
 rows RefStep = row ident (Token PathSep ∷ RefStep ∷ []) ∷ row (one StringLit) [] ∷ []
-rows AnyType = row (one KwSet) (SetTail ∷ []) ∷ row ident (PathTail ∷ []) ∷ row (one LBrace) (Attrs ∷ Token RBrace ∷ []) ∷ []
+rows AnyType = row (one KwSet) (SetTail ∷ []) ∷ row ident (PathTail ∷ []) ∷ row (one LBrace)
+    (Attrs ∷ Token RBrace ∷ []) ∷ []
 rows SetTail = row (one Less) (AnyType ∷ Token Greater ∷ []) ∷ row (one PathSep) (Ident ∷ PathTail ∷ []) ∷ []
 rows Record = row (one LBrace) (Attrs ∷ Token RBrace ∷ []) ∷ []
-rows Attrs = row name (Mark ∷ Token Colon ∷ AnyType ∷ AttrsTail ∷ []) ∷ row (one At) (Word ∷ AnnotationTail ∷ Attr ∷ AttrsTail ∷ []) ∷ []
+rows Attrs = row name (Mark ∷ Token Colon ∷ AnyType ∷ AttrsTail ∷ []) ∷ row (one At)
+    (Word ∷ AnnotationTail ∷ Attr ∷ AttrsTail ∷ []) ∷ []
 rows AttrsTail = row (one Comma) (Attrs ∷ []) ∷ []
 rows Attr = row name (Mark ∷ Token Colon ∷ AnyType ∷ []) ∷ row (one At) (Word ∷ AnnotationTail ∷ Attr ∷ []) ∷ []
 rows Mark = row (one Question) [] ∷ []

@@ -1,6 +1,7 @@
 -- What annotations stand for is one, where no key stands twice.
 use Rattle.std.specs.declared.cmp.Ordering.TheVariants.{Less}
-use Rattle.std.proofs.Common.{◌≡◌, ◌⊎◌, ℕ, Bool, true, false, List, [], ◌∷◌, ◌++◌, Option, Some, None, inl, inr, refl, sym, ap, ◌∙◌, subst}
+use Rattle.std.proofs.Common.{◌≡◌, ◌⊎◌, ℕ, Bool, true, false, List, [], ◌∷◌, ◌++◌, Option, Some, None, inl, inr, refl}
+use Rattle.std.proofs.Common.{sym, ap, ◌∙◌, subst}
 use Rattle.std.specs.Prelude.{map}
 use Rattle.std.specs.List.{All}
 use Rattle.std.specs.List.Sorted.{IsStrictlySortedBy}
@@ -84,7 +85,8 @@ same_notes (a ∷ n) (b ∷ m) up e beside =
     sym (hit a.0 a.1 n a.0.text refl) ∙ beside a.0.text (inl refl) ∙ hit b.0 b.1 m a.0.text (sym first) in
     let less = sorted_head text_cmp a.0.text (names n) up in
     let apart : (z : List ℕ) → In z (names n) → a.0.text ≡ z → ⊥ =
-    λ z there f. less_itself text_total a.0.text (subst (λ w. text_cmp a.0.text w ≡ Less) (sym f) (above text_total a.0.text z (names n) less there)) in
+    λ z there f. less_itself text_total a.0.text
+    (subst (λ w. text_cmp a.0.text w ≡ Less) (sym f) (above text_total a.0.text z (names n) less there)) in
     let more : n ≡ m = same_notes n m (sorted_tail text_cmp a.0.text (names n) up) rest
     (λ z there. sym (miss a.0 a.1 n z (apart z there)) ∙ beside z (inr there)
     ∙ miss b.0 b.1 m z (λ f. apart z there (first ∙ f))) in
@@ -158,7 +160,14 @@ module _ (value : (body cs ds : List ℕ) → Unescapes body cs → Unescapes bo
   find_key : (key : List ℕ) (list : List AnnotationSyntax) → In key (map key_of list) → Found key list
   find_key key [] h = absurd h
   find_key key (a ∷ list) h = elim (same (key_of a) key) [
-    | inl e ↦ record { middle = []; second = a; back = list; split = refl; is = e; others = All-nil (IsOtherKey text key) }
+    | inl e ↦ record {
+      middle = [];
+      second = a;
+      back = list;
+      split = refl;
+      is = e;
+      others = All-nil (IsOtherKey text key);
+    }
     | inr out ↦ further key a list (find_key key list) out h
   ]
 
@@ -195,11 +204,14 @@ module _ (value : (body cs ds : List ℕ) → Unescapes body cs → Unescapes bo
     apart_from front (a ∷ rest) e out =
         let once : In (key_of a) (map key_of rest) → ⊥ = λ h.
         let f = find_key (key_of a) rest h in
-        let key = key_named (key_of a) n (into list n all (key_of a) (in_list front (a ∷ rest) e (key_of a) (inl refl))) in
+        let key = key_named (key_of a) n
+        (into list n all (key_of a) (in_list front (a ∷ rest) e (key_of a) (inl refl))) in
         let split : list ≡ front ++ a ∷ (f.middle ++ f.second ∷ f.back) = e ∙ ap (λ l. front ++ a ∷ l) f.split in
         let before : All (IsOtherKey text key.0.text) front =
-        subst (λ k. All (IsOtherKey text k) front) key.1 (none_has (key_of a) front (λ k. out (key_of a) k (inl refl))) in
-        let between : All (IsOtherKey text key.0.text) f.middle = subst (λ k. All (IsOtherKey text k) f.middle) key.1 f.others in
+        subst (λ k. All (IsOtherKey text k) front) key.1
+        (none_has (key_of a) front (λ k. out (key_of a) k (inl refl))) in
+        let between : All (IsOtherKey text key.0.text) f.middle = subst (λ k. All (IsOtherKey text k) f.middle)
+        key.1 f.others in
         faultless _ _ (duplicate front f.middle f.back a f.second key.0 split key.1 (f.is ∙ key.1) before between) in (
           once,
           apart_from (front ++ a ∷ []) rest (e ∙ sym (append_assoc front (a ∷ []) rest))

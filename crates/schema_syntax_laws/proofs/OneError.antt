@@ -24,7 +24,8 @@ use Rattle.schema_syntax_laws.proofs.OneUserFault.{Mounts, mount_ends, sub_mount
 sites_mount : (text : List ℕ) (tokens : List Token) (items : List ItemSyntax) → IsUtf8 text
     → Scans text tokens (length text) → IsSyntax tokens items → Mounts (sites_ends (sites_of items))
 sites_mount text tokens items u s r =
-    let fits = syntax_fits text r (record { placed = scans_placed text tokens (length text) u s; rise = scans_rise text tokens (length text) s }) in
+    let fits = syntax_fits text r (record
+    { placed = scans_placed text tokens (length text) u s; rise = scans_rise text tokens (length text) s }) in
     sub_mounts fits.sub (mount_ends tokens (scans_mount text tokens (length text) u s))
 
 module _ (bad_once : (body : List ℕ) (at bt : ℕ) → BadEscape body at → BadEscape body bt → at ≡ bt) where
@@ -43,15 +44,20 @@ module _ (bad_once : (body : List ℕ) (at bt : ℕ) → BadEscape body at → B
       faults_once bad_once text items f g h.end k.end (sites_mount text tokens items u s r) h.has k.has (omega arith)
 
   module _
-      (scan_once : (text : List ℕ) (ts us : List Token) (at bt : ℕ) → Scans text ts at → Scans text us bt → (ts ≡ us) × (at ≡ bt))
-      (syntax_once : (tokens : List Token) (items others : List ItemSyntax) → IsSyntax tokens items → IsSyntax tokens others → items ≡ others)
-      (fault_once : (text : List ℕ) (fault other : SyntaxFault) → IsSyntaxFault text fault → IsSyntaxFault text other → fault ≡ other)
+      (scan_once : (text : List ℕ) (ts us : List Token) (at bt : ℕ) → Scans text ts at → Scans text us bt
+      → (ts ≡ us) × (at ≡ bt))
+      (syntax_once : (tokens : List Token) (items others : List ItemSyntax) → IsSyntax tokens items
+      → IsSyntax tokens others → items ≡ others)
+      (fault_once : (text : List ℕ) (fault other : SyntaxFault) → IsSyntaxFault text fault → IsSyntaxFault text other
+      → fault ≡ other)
       (apart : (text : List ℕ) (fault : SyntaxFault) → IsSyntaxFault text fault → IsSentence text → ⊥) where
     pub error_once : (text : List ℕ) → IsUtf8 text → (e other : ParseError) → IsErrorOf text e → IsErrorOf text other
         → e ≡ other
     error_once text u e other (syntax f h) (syntax g k) = ap error_of (fault_once text f g h k)
-    error_once text u e other (syntax f h) (user ts g are k) = absurd (apart text f h (record { tokens = ts; scans = are.scans; sentence = are.sentence }))
-    error_once text u e other (user ts f are h) (syntax g k) = absurd (apart text g k (record { tokens = ts; scans = are.scans; sentence = are.sentence }))
+    error_once text u e other (syntax f h) (user ts g are k) =
+        absurd (apart text f h (record { tokens = ts; scans = are.scans; sentence = are.sentence }))
+    error_once text u e other (user ts f are h) (syntax g k) =
+        absurd (apart text g k (record { tokens = ts; scans = are.scans; sentence = are.sentence }))
     error_once text u e other (user ts f are h) (user us g too k) =
         let tokens : ts ≡ us = (scan_once text ts us (length text) (length text) are.scans too.scans).0 in
         let items : h.items ≡ k.items =

@@ -1,5 +1,6 @@
 -- No two user faults of a text end together, so the one that ends first is one.
-use Rattle.std.proofs.Common.{◌≡◌, ℕ, ◌+◌, ◌<◌, ◌≤◌, List, [], ◌∷◌, ◌++◌, map, Option, Some, None, refl, sym, ap, ◌∙◌, subst, inl, inr, arith, append_assoc, slice_range}
+use Rattle.std.proofs.Common.{◌≡◌, ℕ, ◌+◌, ◌<◌, ◌≤◌, List, [], ◌∷◌, ◌++◌, map, Option, Some, None, refl, sym, ap, ◌∙◌}
+use Rattle.std.proofs.Common.{subst, inl, inr, arith, append_assoc, slice_range}
 use Rattle.std.specs.Prelude.{◌⊎◌}
 use Rattle.std.specs.List.{All}
 use Rattle.std.specs.Option.{option_to_list}
@@ -11,12 +12,15 @@ use Rattle.schema_syntax_tokens.specs.declared.token.Token.{Token}
 use Rattle.schema_syntax_tokens.specs.Escapes.{BadEscape}
 use Rattle.schema_syntax_parser.specs.declared.syntax.AnnotationSyntax.{AnnotationSyntax}
 use Rattle.schema_syntax_errors.specs.declared.user_error.UserError.{UserError}
-use Rattle.schema_syntax_errors.specs.declared.user_error.UserError.TheVariants.{EmptyList, StringEscape, ReservedIdentifierUsed, DuplicateAnnotations}
+use Rattle.schema_syntax_errors.specs.declared.user_error.UserError.TheVariants.{EmptyList, StringEscape}
+use Rattle.schema_syntax_errors.specs.declared.user_error.UserError.TheVariants.{ReservedIdentifierUsed}
+use Rattle.schema_syntax_errors.specs.declared.user_error.UserError.TheVariants.{DuplicateAnnotations}
 use Rattle.schema_syntax_reader.specs.Leaves.{word_at, IsBodyAt}
 use Rattle.schema_syntax_reader.specs.Placed.{note_tokens}
 use Rattle.schema_syntax_parser.specs.declared.syntax.ItemSyntax.{ItemSyntax}
 use Rattle.schema_syntax_reader.specs.Sites.{Site, word, text, annotations, empty, sites_of}
-use Rattle.schema_syntax_reader.specs.UserFaults.{IsBadEscapeAt, IsOtherKey, HasUserFault, FaultAt, empty_list, reserved, escape, note_escape, duplicate}
+use Rattle.schema_syntax_reader.specs.UserFaults.{IsBadEscapeAt, IsOtherKey, HasUserFault, FaultAt, empty_list}
+use Rattle.schema_syntax_reader.specs.UserFaults.{reserved, escape, note_escape, duplicate}
 use Rattle.schema_syntax_reader.proofs.Fits.{ends, site_ends, sites_ends, flat_join}
 use Rattle.schema_syntax_reader.proofs.Rising.{Among, among_left, among_right, Sub, none, skip, keep}
 use Rattle.schema_syntax_laws.proofs.TokenPlaces.{Mount}
@@ -65,7 +69,8 @@ mounts_left (x ∷ xs) ys m = (left x xs ys m.0, mounts_left xs ys m.1)
     left : (x : ℕ) (xs ys : List ℕ) → All (λ n. x < n) (xs ++ ys) → All (λ n. x < n) xs
     left x [] ys h = All-nil (λ n. x < n)
     left x (z ∷ xs) ys h =
-        All-cons (λ n. x < n) z xs (All-head (λ n. x < n) z (xs ++ ys) h) (left x xs ys (All-tail (λ n. x < n) z (xs ++ ys) h))
+        All-cons (λ n. x < n) z xs (All-head (λ n. x < n) z (xs ++ ys) h)
+        (left x xs ys (All-tail (λ n. x < n) z (xs ++ ys) h))
 
 mounts_right : (xs ys : List ℕ) → Mounts (xs ++ ys) → Mounts ys
 mounts_right [] ys m = m
@@ -105,7 +110,8 @@ notes_join (x ∷ a) b =
     map-append (λ t. t.loc.end) (x.key ∷ option_to_list x.value) (note_tokens (a ++ b))
     ∙ (ap (λ w. note_ends x ++ w) (notes_join a b)
     ∙ (sym (append_assoc (note_ends x) (ends (note_tokens a)) (ends (note_tokens b)))
-    ∙ ap (λ w. w ++ ends (note_tokens b)) (sym (map-append (λ t. t.loc.end) (x.key ∷ option_to_list x.value) (note_tokens a)))))
+    ∙ ap (λ w. w ++ ends (note_tokens b))
+    (sym (map-append (λ t. t.loc.end) (x.key ∷ option_to_list x.value) (note_tokens a)))))
 
 one_note : (a : AnnotationSyntax) (back : List AnnotationSyntax)
     → ends (note_tokens (a ∷ back)) ≡ note_ends a ++ ends (note_tokens back)
@@ -137,12 +143,15 @@ notes_once front back a b x y n e mounts h k = elim (places front back a b x y e
   | earlier c d f ↦ absurd (let lt : n < n = notes_apart front back y x n n mounts c d f k h in omega (arith, lt))
   | same f ↦ f
   | later c d f ↦ absurd (
-      let whole : front ++ x ∷ back ≡ (front ++ x ∷ c) ++ y ∷ d = ap (λ l. front ++ x ∷ l) f ∙ sym (append_assoc front (x ∷ c) (y ∷ d)) in
-      let lt : n < n = notes_apart (front ++ x ∷ c) d x y n n (subst (λ l. Mounts (ends (note_tokens l))) whole mounts) front c refl h k in
+      let whole : front ++ x ∷ back ≡ (front ++ x ∷ c) ++ y ∷ d = ap (λ l. front ++ x ∷ l) f
+      ∙ sym (append_assoc front (x ∷ c) (y ∷ d)) in
+      let lt : n < n = notes_apart (front ++ x ∷ c) d x y n n
+      (subst (λ l. Mounts (ends (note_tokens l))) whole mounts) front c refl h k in
       omega (arith, lt))
 ]
 
-module _ (bad_once : (body : List ℕ) (at bt : ℕ) → BadEscape body at → BadEscape body bt → at ≡ bt) (source : List ℕ) where
+module _ (bad_once : (body : List ℕ) (at bt : ℕ) → BadEscape body at → BadEscape body bt → at ≡ bt)
+    (source : List ℕ) where
   -- the body of a string is one
   body_once : (t : Token) (b c : List ℕ) → IsBodyAt source t b → IsBodyAt source t c → b ≡ c
   body_once t b c h k =
@@ -178,7 +187,8 @@ module _ (bad_once : (body : List ℕ) (at bt : ℕ) → BadEscape body at → B
   firsts_once P (z ∷ f) back [] other x y e af px ag py =
       absurd (All-head (λ z. P z → ⊥) z f af (subst P (sym (head_is e)) py))
   firsts_once P (z ∷ f) back (w ∷ g) other x y e af px ag py =
-      firsts_once P f back g other x y (tail_is e) (All-tail (λ z. P z → ⊥) z f af) px (All-tail (λ z. P z → ⊥) w g ag) py
+      firsts_once P f back g other x y (tail_is e) (All-tail (λ z. P z → ⊥) z f af) px
+      (All-tail (λ z. P z → ⊥) w g ag) py
 
   some_is : (t u : Token) → Some t ≡ Some u → t ≡ u
   some_is t u e = cc
@@ -189,7 +199,8 @@ module _ (bad_once : (body : List ℕ) (at bt : ℕ) → BadEscape body at → B
       → list ≡ g ++ y ∷ other → t.loc.end ≡ y.key.loc.end → ⊥
   no_value_there list front back g other key t y mounts l k e =
       let x : AnnotationSyntax = record { key = key; value = Some t } in
-      let here : Mounts (ends (note_tokens (front ++ x ∷ back))) = subst (λ n. Mounts (ends (note_tokens n))) l mounts in
+      let here : Mounts (ends (note_tokens (front ++ x ∷ back))) = subst
+      (λ n. Mounts (ends (note_tokens n))) l mounts in
       let same : x ≡ y = notes_once front back g other x y t.loc.end (sym l ∙ k) here (inr (inl refl)) (inl e) in
       let lt = key_below front back key t here in
       let at : key.loc.end ≡ y.key.loc.end = ap (λ (a : AnnotationSyntax). a.key.loc.end) same in
@@ -197,7 +208,8 @@ module _ (bad_once : (body : List ℕ) (at bt : ℕ) → BadEscape body at → B
 
   abbrev twice : AnyId → AnnotationSyntax → AnnotationSyntax → UserError
   twice key first second =
-      DuplicateAnnotations key (record { node = tt; loc = Some first.key.loc }) (record { node = tt; loc = Some second.key.loc })
+      DuplicateAnnotations key (record { node = tt; loc = Some first.key.loc })
+      (record { node = tt; loc = Some second.key.loc })
 
   -- faults of one site that end together are one
   fault_once : {site : Site} {f g : UserError} {p q : ℕ} → Mounts (site_ends site) → FaultAt source site f p
@@ -213,15 +225,21 @@ module _ (bad_once : (body : List ℕ) (at bt : ℕ) → BadEscape body at → B
       let token : t ≡ u = some_is t u (ap (λ (a : AnnotationSyntax). a.value) same) in
       let place : at ≡ bt = escape_once t at bt h (subst (λ z. IsBadEscapeAt source z bt) (sym token) i) in
       λ i. escape_fault (token i) (place i)
-  fault_once {site = annotations list} m (note_escape front back key t at l h) (duplicate f n b first second yek k v w af am) e =
-      absurd (no_value_there list front back (f ++ first ∷ n) b key t second m l (k ∙ sym (append_assoc f (first ∷ n) (second ∷ b))) e)
-  fault_once {site = annotations list} m (duplicate f n b first second yek k v w af am) (note_escape front back key t at l h) e =
-      absurd (no_value_there list front back (f ++ first ∷ n) b key t second m l (k ∙ sym (append_assoc f (first ∷ n) (second ∷ b))) (sym e))
+  fault_once {site = annotations list} m (note_escape front back key t at l h)
+      (duplicate f n b first second yek k v w af am) e =
+      absurd (no_value_there list front back (f ++ first ∷ n) b key t second m l
+      (k ∙ sym (append_assoc f (first ∷ n) (second ∷ b))) e)
+  fault_once {site = annotations list} m (duplicate f n b first second yek k v w af am)
+      (note_escape front back key t at l h) e =
+      absurd (no_value_there list front back (f ++ first ∷ n) b key t second m l
+      (k ∙ sym (append_assoc f (first ∷ n) (second ∷ b))) (sym e))
   fault_once m (duplicate f n b first second key l v w af am) (duplicate g o c third fourth yek k x y ag ao) e =
       let split : _ ≡ (f ++ first ∷ n) ++ second ∷ b = l ∙ sym (append_assoc f (first ∷ n) (second ∷ b)) in
       let other : _ ≡ (g ++ third ∷ o) ++ fourth ∷ c = k ∙ sym (append_assoc g (third ∷ o) (fourth ∷ c)) in
-      let here : Mounts (ends (note_tokens ((f ++ first ∷ n) ++ second ∷ b))) = subst (λ n. Mounts (ends (note_tokens n))) split m in
-      let seconds : second ≡ fourth = notes_once (f ++ first ∷ n) b (g ++ third ∷ o) c second fourth second.key.loc.end (sym split ∙ other) here (inl refl) (inl e) in
+      let here : Mounts (ends (note_tokens ((f ++ first ∷ n) ++ second ∷ b))) = subst
+      (λ n. Mounts (ends (note_tokens n))) split m in
+      let seconds : second ≡ fourth = notes_once (f ++ first ∷ n) b (g ++ third ∷ o) c second fourth
+      second.key.loc.end (sym split ∙ other) here (inl refl) (inl e) in
       let texts : key.text ≡ yek.text = sym w ∙ ap (λ (a : AnnotationSyntax). word_at source a.key) seconds ∙ y in
       let keys : key ≡ yek = any_id_same key yek texts in
       let P : AnnotationSyntax → Type 0 = λ a. word_at source a.key ≡ key.text in
@@ -238,7 +256,8 @@ module _ (bad_once : (body : List ℕ) (at bt : ℕ) → BadEscape body at → B
       subst (λ list. Among t.loc.end (ends (note_tokens list))) (sym e)
       (among_note front back (record { key = key; value = Some t }) t.loc.end (inr (inl refl)))
   fault_end (duplicate front middle back first second key e k l f m) =
-      let whole : front ++ first ∷ (middle ++ second ∷ back) ≡ (front ++ first ∷ middle) ++ second ∷ back = sym (append_assoc front (first ∷ middle) (second ∷ back)) in
+      let whole : front ++ first ∷ (middle ++ second ∷ back) ≡ (front ++ first ∷ middle)
+      ++ second ∷ back = sym (append_assoc front (first ∷ middle) (second ∷ back)) in
       subst (λ list. Among second.key.loc.end (ends (note_tokens list))) (sym (e ∙ whole))
       (among_note (front ++ first ∷ middle) back second second.key.loc.end (inl refl))
 
@@ -246,9 +265,11 @@ module _ (bad_once : (body : List ℕ) (at bt : ℕ) → BadEscape body at → B
   sites_apart : (front back : List Site) (x y : Site) (n m : ℕ) → Mounts (sites_ends (front ++ y ∷ back))
       → (a b : List Site) → front ≡ a ++ x ∷ b → Among n (site_ends x) → Among m (site_ends y) → n < m
   sites_apart front back x y n m mounts a b e h k =
-      mounts_apart (sites_ends front) (sites_ends (y ∷ back)) n m (subst Mounts (flat_join source front (y ∷ back)) mounts)
+      mounts_apart (sites_ends front) (sites_ends (y ∷ back)) n m
+      (subst Mounts (flat_join source front (y ∷ back)) mounts)
       (subst (λ l. Among n (sites_ends l)) (sym e)
-      (subst (Among n) (sym (flat_join source a (x ∷ b))) (among_right n (sites_ends a) (sites_ends (x ∷ b)) (among_left n (site_ends x) (sites_ends b) h))))
+      (subst (Among n) (sym (flat_join source a (x ∷ b)))
+      (among_right n (sites_ends a) (sites_ends (x ∷ b)) (among_left n (site_ends x) (sites_ends b) h))))
       (among_left m (site_ends y) (sites_ends back) k)
 
   -- user faults that end together are one
@@ -257,13 +278,18 @@ module _ (bad_once : (body : List ℕ) (at bt : ℕ) → BadEscape body at → B
   faults_once items f g p q mounts (front, x, back, split, h) (a, y, b, other, k) e =
       let here : Mounts (sites_ends (front ++ x ∷ back)) = subst (λ l. Mounts (sites_ends l)) split mounts in
       elim (places front back a b x y (sym split ∙ other)) [
-        | earlier c d i ↦ absurd (let lt : q < p = sites_apart front back y x q p here c d i (fault_end k) (fault_end h) in omega (arith, lt, e))
+        | earlier c d i ↦ absurd (let lt : q < p = sites_apart front back y x q p here c d i (fault_end k)
+            (fault_end h) in omega (arith, lt, e))
         | same i ↦
             let own : Mounts (site_ends x) =
-            mounts_left (site_ends x) (sites_ends back) (mounts_right (sites_ends front) (sites_ends (x ∷ back)) (subst Mounts (flat_join source front (x ∷ back)) here)) in
+            mounts_left (site_ends x) (sites_ends back)
+            (mounts_right (sites_ends front) (sites_ends (x ∷ back))
+            (subst Mounts (flat_join source front (x ∷ back)) here)) in
             fault_once own h (subst (λ s. FaultAt source s g q) (sym i) k) e
         | later c d i ↦ absurd (
-            let whole : front ++ x ∷ back ≡ (front ++ x ∷ c) ++ y ∷ d = ap (λ l. front ++ x ∷ l) i ∙ sym (append_assoc front (x ∷ c) (y ∷ d)) in
-            let lt : p < q = sites_apart (front ++ x ∷ c) d x y p q (subst (λ l. Mounts (sites_ends l)) whole here) front c refl (fault_end h) (fault_end k) in
+            let whole : front ++ x ∷ back ≡ (front ++ x ∷ c) ++ y ∷ d = ap (λ l. front ++ x ∷ l) i
+            ∙ sym (append_assoc front (x ∷ c) (y ∷ d)) in
+            let lt : p < q = sites_apart (front ++ x ∷ c) d x y p q (subst (λ l. Mounts (sites_ends l)) whole here)
+            front c refl (fault_end h) (fault_end k) in
             omega (arith, lt, e))
       ]

@@ -1,5 +1,7 @@
 -- The tokens of a text stand at places of it, and each ends behind those before it.
-use Rattle.std.proofs.Common.{◌≡◌, ℕ, zero, suc, ◌+◌, ◌-◌, ◌<◌, ◌≤◌, true, ◌&&◌, ◌==◌, cond, List, [], ◌∷◌, ◌++◌, length, take, drop, map, get_or, Option, Some, None, refl, sym, ap, ◌∙◌, subst, inl, inr, arith, slice_range, IsUtf8, if◌then◌else◌}
+use Rattle.std.proofs.Common.{◌≡◌, ℕ, zero, suc, ◌+◌, ◌-◌, ◌<◌, ◌≤◌, true, ◌&&◌, ◌==◌, cond, List, [], ◌∷◌, ◌++◌}
+use Rattle.std.proofs.Common.{length, take, drop, map, get_or, Option, Some, None, refl, sym, ap, ◌∙◌, subst, inl, inr}
+use Rattle.std.proofs.Common.{arith, slice_range, IsUtf8, if◌then◌else◌}
 use Rattle.std.specs.List.{All, AllPass}
 use Rattle.std.specs.Str.{IsCharBoundary}
 use Rattle.std.proofs.lemmas.Bool.{cases_eq, ne_eqb, eq-eqb}
@@ -49,13 +51,17 @@ mark_ascii b k h =
     (mark_below b 63 k _ _ (omega arith) (mark_below b 61 k _ _ (omega arith) (λ e. cc)))))))))))))) h
 
 -- a mark of two bytes has two colons
-colons : (b c : ℕ) (k : TokenKind) → (if b == 58 && c == 58 then Some PathSep else None) ≡ Some k → (b < 128) × (c < 128)
+colons : (b c : ℕ) (k : TokenKind) → (if b == 58 && c == 58 then Some PathSep else None) ≡ Some k
+    → (b < 128) × (c < 128)
 colons b c k h = elim (cases_eq b 58) [
   | inl e ↦ elim (cases_eq c 58) [
     | inl f ↦ (omega arith, omega arith)
-    | inr n ↦ absurd (let f : None ≡ Some k = sym (ap (λ t. cond t (Some PathSep) None) (ap (λ t. t && c == 58) (eq-eqb b 58 e) ∙ ne_eqb c 58 n)) ∙ h in cc)
+    | inr n ↦ absurd (let f : None
+        ≡ Some k = sym (ap (λ t. cond t (Some PathSep) None) (ap (λ t. t && c == 58) (eq-eqb b 58 e) ∙ ne_eqb c 58 n))
+        ∙ h in cc)
   ]
-  | inr n ↦ absurd (let f : None ≡ Some k = sym (ap (λ t. cond (t && c == 58) (Some PathSep) None) (ne_eqb b 58 n)) ∙ h in cc)
+  | inr n ↦ absurd (let f : None ≡ Some k = sym (ap (λ t. cond (t && c == 58) (Some PathSep) None) (ne_eqb b 58 n))
+      ∙ h in cc)
 ]
 
 mark_edges : (w : List ℕ) (k : TokenKind) → mark_kind w ≡ Some k → Edges w
@@ -65,7 +71,16 @@ mark_edges (b ∷ []) k h =
     record { first = b; behind = []; begins = refl; first_ascii = a; front = []; last = b; ends = refl; last_ascii = a }
 mark_edges (b ∷ c ∷ []) k h =
     let a = colons b c k h in
-    record { first = b; behind = c ∷ []; begins = refl; first_ascii = a.0; front = b ∷ []; last = c; ends = refl; last_ascii = a.1 }
+    record {
+      first = b;
+      behind = c ∷ [];
+      begins = refl;
+      first_ascii = a.0;
+      front = b ∷ [];
+      last = c;
+      ends = refl;
+      last_ascii = a.1;
+    }
 mark_edges (b ∷ c ∷ d ∷ bs) k h = cc
 
 -- the last of bytes that may stand in a word
@@ -73,7 +88,8 @@ parts_end : (b : ℕ) (bs : List ℕ) → b < 128 → AllPass is_word_part bs
     → (front : List ℕ) × (last : ℕ) × (b ∷ bs ≡ front ++ last ∷ []) × (last < 128)
 parts_end b [] p h = ([], b, refl, p)
 parts_end b (c ∷ bs) p h =
-    let r = parts_end c bs (part_ascii c (All-head (λ x. is_word_part x ≡ true) c bs h)) (All-tail (λ x. is_word_part x ≡ true) c bs h) in
+    let r = parts_end c bs (part_ascii c (All-head (λ x. is_word_part x ≡ true) c bs h))
+    (All-tail (λ x. is_word_part x ≡ true) c bs h) in
     (b ∷ r.0, r.1, ap (λ t. b ∷ t) r.2, r.3)
 
 edges : (w : List ℕ) (k : TokenKind) → IsForm w k → Edges w
@@ -92,7 +108,16 @@ edges [] k (inl h) = absurd h.0
 edges (b ∷ bs) k (inl h) =
     let a = start_ascii b h.0.0 in
     let r = parts_end b bs a h.0.1 in
-    record { first = b; behind = bs; begins = refl; first_ascii = a; front = r.0; last = r.1; ends = r.2; last_ascii = r.3 }
+    record {
+      first = b;
+      behind = bs;
+      begins = refl;
+      first_ascii = a;
+      front = r.0;
+      last = r.1;
+      ends = r.2;
+      last_ascii = r.3;
+    }
 
 -- a token that stands behind the front of the text
 token_placed : (text front here : List ℕ) (t : Token) (n : ℕ) → IsUtf8 text → text ≡ front ++ here
@@ -105,11 +130,13 @@ token_placed text front here t n u e h s f =
     let at_first : text ≡ front ++ g.first ∷ (g.behind ++ drop n here) =
     e ∙ ap (λ x. front ++ x) (cut ∙ ap (λ x. x ++ drop n here) g.begins) in
     let at_last : text ≡ (front ++ g.front) ++ g.last ∷ drop n here =
-    e ∙ ap (λ x. front ++ x) (cut ∙ ap (λ x. x ++ drop n here) g.ends ∙ append_assoc g.front (g.last ∷ []) (drop n here))
+    e ∙ ap (λ x. front ++ x) (cut ∙ ap (λ x. x ++ drop n here) g.ends
+    ∙ append_assoc g.front (g.last ∷ []) (drop n here))
     ∙ sym (append_assoc front g.front (g.last ∷ drop n here)) in
     let whole : length text ≡ length front + length here = ap length e ∙ length-append front here in
     let first_byte : get_or text t.loc.start 0 ≡ g.first =
-    ap (λ x. get_or x t.loc.start 0) at_first ∙ get_or_at front g.first (g.behind ++ drop n here) 0 t.loc.start (sym s) in
+    ap (λ x. get_or x t.loc.start 0) at_first
+    ∙ get_or_at front g.first (g.behind ++ drop n here) 0 t.loc.start (sym s) in
     let last_byte : get_or text (length (front ++ g.front)) 0 ≡ g.last =
     ap (λ x. get_or x (length (front ++ g.front)) 0) at_last
     ∙ get_or_at (front ++ g.front) g.last (drop n here) 0 (length (front ++ g.front)) refl in
@@ -117,13 +144,16 @@ token_placed text front here t n u e h s f =
     omega (arith, length-append front g.front, size, ap length g.ends, length-append g.front (g.last ∷ [])) in
     let width : t.loc.end - t.loc.start ≡ n = omega arith in
     let there : slice_range text t.loc.start t.loc.end ≡ take n here =
-    ap (λ m. take m (drop t.loc.start text)) width ∙ ap (λ x. take n x) (ap (λ m. drop m text) s ∙ (ap (λ x. drop (length front) x) e ∙ drop_at front here (length front) refl)) in
+    ap (λ m. take m (drop t.loc.start text)) width
+    ∙ ap (λ x. take n x) (ap (λ m. drop m text) s
+    ∙ (ap (λ x. drop (length front) x) e ∙ drop_at front here (length front) refl)) in
     let in_range = h.in_range in
     record {
       in_order = omega arith;
       start = IsCharBoundary-before_ascii text t.loc.start (omega arith) (omega (arith, first_byte, g.first_ascii));
       stop = subst (λ m. IsCharBoundary text m) last_at
-          (IsCharBoundary-after_ascii text (length (front ++ g.front)) u (omega (arith, last_at)) (omega (arith, last_byte, g.last_ascii)));
+          (IsCharBoundary-after_ascii text (length (front ++ g.front)) u (omega (arith, last_at))
+          (omega (arith, last_byte, g.last_ascii)));
       form = subst (λ w. IsForm w t.kind) (sym there) h.form;
     }
 
@@ -158,15 +188,24 @@ stand_from text u front rest from (t ∷ ts) at e l s =
     omega (arith, s.2.start, l, ap length f.1, length-append f.0 here, length-append front f.0) in
     let this = token_placed text (front ++ f.0) here t n u split s.2.token start s.2.stop in
     let next : text ≡ ((front ++ f.0) ++ take n here) ++ drop n here =
-    split ∙ ap (λ x. (front ++ f.0) ++ x) (sym (take-append-drop n here)) ∙ sym (append_assoc (front ++ f.0) (take n here) (drop n here)) in
+    split ∙ ap (λ x. (front ++ f.0) ++ x) (sym (take-append-drop n here))
+    ∙ sym (append_assoc (front ++ f.0) (take n here) (drop n here)) in
     let end : t.loc.end ≡ length ((front ++ f.0) ++ take n here) =
-    omega (arith, start, s.2.stop, length-append (front ++ f.0) (take n here), length-take-le n here s.2.token.in_range) in
+    omega (
+      arith,
+      start,
+      s.2.stop,
+      length-append (front ++ f.0) (take n here),
+      length-take-le n here
+          s.2.token.in_range,
+    ) in
     let others = stand_from text u ((front ++ f.0) ++ take n here) (drop n here) t.loc.end ts at next end s.3 in
     let lt : from < t.loc.end = omega (arith, this.in_order, start, l, length-append front f.0) in
     record {
       placed = All-cons (IsPlaced text) t ts this others.placed;
       above = All-cons (λ s. from < s.loc.end) t ts lt
-          (All-weaker (λ s. t.loc.end < s.loc.end) (λ s. from < s.loc.end) (λ s h. omega (arith, lt, h)) ts others.above);
+          (All-weaker (λ s. t.loc.end < s.loc.end) (λ s. from < s.loc.end) (λ s h. omega (arith, lt, h)) ts
+          others.above);
       mount = (others.above, others.mount);
     }
 

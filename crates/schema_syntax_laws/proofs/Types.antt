@@ -20,7 +20,8 @@ use Rattle.schema_syntax_tree.specs.declared.types.Type.TheVariants as shape
 use Rattle.schema_syntax_tree.specs.declared.types.AttrDecl.{AttrDecl, roll-AttrDecl}
 use Rattle.schema_syntax_tree.specs.declared.annotated.Annotated.{Annotated}
 use Rattle.schema_syntax_errors.specs.declared.user_error.UserError.{UserError}
-use Rattle.schema_syntax_reader.specs.Sites.{Site, annotations, name_sites, type_sites, attr_sites, sites_of_type, sites_of_attr, sites_of_attrs}
+use Rattle.schema_syntax_reader.specs.Sites.{Site, annotations, name_sites, type_sites, attr_sites, sites_of_type}
+use Rattle.schema_syntax_reader.specs.Sites.{sites_of_attr, sites_of_attrs}
 use Rattle.schema_syntax_reader.specs.UserFaults.{FaultAt}
 use Rattle.schema_syntax_reader.specs.Leaves.{AreNotes}
 use Rattle.schema_syntax_reader.specs.Trees.{IsId, IsPathOf, IsNameNode, IsTypeOf, AreAttrsOf}
@@ -52,7 +53,8 @@ of_record xs loc =
     ∙ flat_joined sites_of_attr xs
 
 of_attr : (x : AttrSyntax) → sites_of_attr x
-    ≡ annotations (out-AttrSyntax x).annotations ∷ (name_sites (out-AttrSyntax x).name ++ sites_of_type (out-AttrSyntax x).ty)
+    ≡ annotations (out-AttrSyntax x).annotations
+    ∷ (name_sites (out-AttrSyntax x).name ++ sites_of_type (out-AttrSyntax x).ty)
 of_attr x = fold_out-AttrSyntax (List Site) (List Site) type_sites attr_sites x
 
 module _ (value : (body cs ds : List ℕ) → Unescapes body cs → Unescapes body ds → cs ≡ ds) (text : List ℕ) where
@@ -83,10 +85,13 @@ module _ (value : (body cs ds : List ℕ) → Unescapes body cs → Unescapes bo
 
   -- a node of a type by the form of its syntax
   abbrev View : TypeSyntax-F TypeSyntax AttrSyntax → Node «Type» → Type 0
-  View (TypeSyntax-F.Path p) n = (q : Path) × (n ≡ record { node = shape.Ident q; loc = Some p.loc }) × IsPathOf text p q
-  View (TypeSyntax-F.Set t loc) n = (m : Node «Type») × (n ≡ record { node = shape.Set m; loc = Some loc }) × IsTypeOf text t m
+  View (TypeSyntax-F.Path p) n =
+      (q : Path) × (n ≡ record { node = shape.Ident q; loc = Some p.loc }) × IsPathOf text p q
+  View (TypeSyntax-F.Set t loc) n =
+      (m : Node «Type») × (n ≡ record { node = shape.Set m; loc = Some loc }) × IsTypeOf text t m
   View (TypeSyntax-F.Record xs loc) n =
-      (ys : List (Node (Annotated AttrDecl))) × (n ≡ record { node = shape.Record ys; loc = Some loc }) × AreAttrsOf text xs ys
+      (ys : List (Node (Annotated AttrDecl))) × (n ≡ record { node = shape.Record ys; loc = Some loc })
+      × AreAttrsOf text xs ys
 
   form_path : (p : PathSyntax) → out-TypeSyntax (syntax.Path p) ≡ TypeSyntax-F.Path p
   form_path p = ap out-TypeSyntax (sym (syntax.rolls-Path p)) ∙ out-roll-TypeSyntax (TypeSyntax-F.Path p)
@@ -96,7 +101,8 @@ module _ (value : (body cs ds : List ℕ) → Unescapes body cs → Unescapes bo
 
   form_record : (xs : List AttrSyntax) (loc : Span)
       → out-TypeSyntax (syntax.Record xs loc) ≡ TypeSyntax-F.Record xs loc
-  form_record xs loc = ap out-TypeSyntax (sym (syntax.rolls-Record xs loc)) ∙ out-roll-TypeSyntax (TypeSyntax-F.Record xs loc)
+  form_record xs loc = ap out-TypeSyntax (sym (syntax.rolls-Record xs loc))
+      ∙ out-roll-TypeSyntax (TypeSyntax-F.Record xs loc)
 
   view : {t : TypeSyntax} {n : Node «Type»} → IsTypeOf text t n → View (out-TypeSyntax t) n
   view (tree.path {p = p} {q = q} h) =
@@ -113,26 +119,44 @@ module _ (value : (body cs ds : List ℕ) → Unescapes body cs → Unescapes bo
     pub one_type : {t : TypeSyntax} {n : Node «Type»} → IsTypeOf text t n → (m : Node «Type») → IsTypeOf text t m
         → Faultless (sites_of_type t) → n ≡ m
     one_type (tree.path {p = p} {q = q} h) m k f =
-        let v : View (TypeSyntax-F.Path p) m = subst (λ (x : TypeSyntax-F TypeSyntax AttrSyntax). View x m) (form_path p) (view k) in
+        let v : View (TypeSyntax-F.Path p) m = subst (λ (x : TypeSyntax-F TypeSyntax AttrSyntax). View x m)
+        (form_path p) (view k) in
         ap (λ r. record { node = shape.Ident r; loc = Some p.loc }) (one_path p q v.0 h v.2) ∙ sym v.1
     one_type (tree.set {t = t} {n = e} loc h) m k f =
-        let v : View (TypeSyntax-F.Set t loc) m = subst (λ (x : TypeSyntax-F TypeSyntax AttrSyntax). View x m) (form_set t loc) (view k) in
-        ap (λ r. record { node = shape.Set r; loc = Some loc }) (one_type h v.0 v.2 (subst Faultless (of_set t loc) f)) ∙ sym v.1
+        let v : View (TypeSyntax-F.Set t loc) m = subst (λ (x : TypeSyntax-F TypeSyntax AttrSyntax). View x m)
+        (form_set t loc) (view k) in
+        ap (λ r. record { node = shape.Set r; loc = Some loc })
+        (one_type h v.0 v.2 (subst Faultless (of_set t loc) f)) ∙ sym v.1
     one_type (tree.attributes {xs = xs} {ys = ys} loc h) m k f =
-        let v : View (TypeSyntax-F.Record xs loc) m = subst (λ (x : TypeSyntax-F TypeSyntax AttrSyntax). View x m) (form_record xs loc) (view k) in
-        ap (λ r. record { node = shape.Record r; loc = Some loc }) (one_attrs h v.0 v.2 (subst Faultless (of_record xs loc) f)) ∙ sym v.1
+        let v : View (TypeSyntax-F.Record xs loc) m = subst (λ (x : TypeSyntax-F TypeSyntax AttrSyntax). View x m)
+        (form_record xs loc) (view k) in
+        ap (λ r. record { node = shape.Record r; loc = Some loc })
+        (one_attrs h v.0 v.2 (subst Faultless (of_record xs loc) f)) ∙ sym v.1
 
     pub one_attrs : {xs : List AttrSyntax} {ys : List (Node (Annotated AttrDecl))} → AreAttrsOf text xs ys
         → (zs : List (Node (Annotated AttrDecl))) → AreAttrsOf text xs zs → Faultless (sites_of_attrs xs) → ys ≡ zs
     one_attrs tree.none zs tree.none f = refl
-    one_attrs (tree.more {x = x} {xs = xs} name ty notes a b c r) zs (tree.more {ys = ws} name2 ty2 notes2 a2 b2 c2 r2) f =
-        let own : Faultless (annotations (out-AttrSyntax x).annotations ∷ (name_sites (out-AttrSyntax x).name ++ sites_of_type (out-AttrSyntax x).ty)) =
+    one_attrs (tree.more {x = x} {xs = xs} name ty notes a b c r) zs
+        (tree.more {ys = ws} name2 ty2 notes2 a2 b2 c2 r2) f =
+        let own : Faultless (annotations (out-AttrSyntax x).annotations
+        ∷ (name_sites (out-AttrSyntax x).name ++ sites_of_type (out-AttrSyntax x).ty)) =
         subst Faultless (of_attr x) (all_left IsFaultless (sites_of_attr x) (sites_of_attrs xs) f) in
-        let first : IsFaultless (annotations (out-AttrSyntax x).annotations) = All-head IsFaultless (annotations (out-AttrSyntax x).annotations) (name_sites (out-AttrSyntax x).name ++ sites_of_type (out-AttrSyntax x).ty) own in
+        let first : IsFaultless (annotations (out-AttrSyntax x).annotations) = All-head IsFaultless
+        (annotations (out-AttrSyntax x).annotations)
+        (name_sites (out-AttrSyntax x).name ++ sites_of_type (out-AttrSyntax x).ty) own in
         let of_ty : Faultless (sites_of_type (out-AttrSyntax x).ty) =
-        all_right IsFaultless (name_sites (out-AttrSyntax x).name) (sites_of_type (out-AttrSyntax x).ty) (All-tail IsFaultless (annotations (out-AttrSyntax x).annotations) (name_sites (out-AttrSyntax x).name ++ sites_of_type (out-AttrSyntax x).ty) own) in
+        all_right IsFaultless (name_sites (out-AttrSyntax x).name) (sites_of_type (out-AttrSyntax x).ty)
+        (All-tail IsFaultless (annotations (out-AttrSyntax x).annotations)
+        (name_sites (out-AttrSyntax x).name ++ sites_of_type (out-AttrSyntax x).ty) own) in
         let e : name ≡ name2 = one_name_node (out-AttrSyntax x).name name name2 a a2 in
         let g : ty ≡ ty2 = one_type b ty2 b2 of_ty in
         let k : notes ≡ notes2 = one_annotations (out-AttrSyntax x).annotations notes notes2 first c c2 in
         let more = one_attrs r ws r2 (all_right IsFaultless (sites_of_attr x) (sites_of_attrs xs) f) in
-        λ i. record { node = record { item = roll-AttrDecl (record { name = e i; required = (out-AttrSyntax x).required; ty = g i }); annotations = k i }; loc = Some (out-AttrSyntax x).loc } ∷ more i
+        λ i. record {
+          node = record {
+            item = roll-AttrDecl
+                (record { name = e i; required = (out-AttrSyntax x).required; ty = g i });
+            annotations = k i;
+          };
+          loc = Some (out-AttrSyntax x).loc;
+        } ∷ more i

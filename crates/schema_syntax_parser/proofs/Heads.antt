@@ -1,7 +1,13 @@
 -- What a part may begin with.
-use Rattle.std.proofs.Common.{◌≡◌, ◌<◌, List, [], ◌∷◌, ◌++◌, length, Bool, true, false, refl, ap, ◌∙◌, arith, length-append}
+use Rattle.std.proofs.Common.{◌≡◌, ◌<◌, List, [], ◌∷◌, ◌++◌, length, Bool, true, false, refl, ap, ◌∙◌, arith}
+use Rattle.std.proofs.Common.{length-append}
 use Rattle.schema_syntax_grammar.specs.declared.token_kind.TokenKind.{TokenKind}
-use Rattle.schema_syntax_grammar.specs.declared.token_kind.TokenKind.TheVariants.{KwNamespace, KwEntity, KwExternal, KwIn, KwType, KwSet, KwAppliesTo, KwPrincipal, KwAction, KwResource, KwContext, KwTags, KwEnum, Identifier, StringLit, At, LParen, LBrace, RBrace, LBracket, RBracket, Equals}
+use Rattle.schema_syntax_grammar.specs.declared.token_kind.TokenKind.TheVariants.{KwNamespace, KwEntity, KwExternal}
+use Rattle.schema_syntax_grammar.specs.declared.token_kind.TokenKind.TheVariants.{KwIn, KwType, KwSet, KwAppliesTo}
+use Rattle.schema_syntax_grammar.specs.declared.token_kind.TokenKind.TheVariants.{KwPrincipal, KwAction, KwResource}
+use Rattle.schema_syntax_grammar.specs.declared.token_kind.TokenKind.TheVariants.{KwContext, KwTags, KwEnum, Identifier}
+use Rattle.schema_syntax_grammar.specs.declared.token_kind.TokenKind.TheVariants.{StringLit, At, LParen, LBrace, RBrace}
+use Rattle.schema_syntax_grammar.specs.declared.token_kind.TokenKind.TheVariants.{LBracket, RBracket, Equals}
 use Rattle.schema_syntax_grammar.specs.Grammar.{is_ident, same_kind, is_name_kind}
 use Rattle.schema_syntax_tokens.specs.declared.token.Token.{Token}
 use Rattle.schema_syntax_parser.specs.declared.syntax.PathSyntax.{PathSyntax}
@@ -14,7 +20,13 @@ use Rattle.schema_syntax_parser.specs.declared.syntax.DeclaredSyntax.{DeclaredSy
 use Rattle.schema_syntax_parser.specs.declared.syntax.ItemSyntax.{ItemSyntax}
 use Rattle.cedar_data.specs.Span.{Span}
 use Rattle.std.specs.Prelude.{Option}
-use Rattle.schema_syntax_parser.specs.Syntax.{IsChain, one, more, IsPath, path, IsRef, plain, typed, AreParents, no_parents, in_parents, AreAnnotations, none, bare, valued, IsShape, no_shape, bare_shape, equals_shape, braces, AreTags, no_tags, some_tags, Applies, no_applies, some_applies, IsStringToken, string, IsApp, types, context_path, context_record, is_role, IsAttr, attr, IsDecl, entity_decl, enum_decl, external_entity, action_decl, external_action, common_decl, IsDeclared, declared, IsItem, namespace, outside}
+use Rattle.schema_syntax_parser.specs.Syntax.{IsChain, one, more, IsPath, path, IsRef, plain, typed, AreParents}
+use Rattle.schema_syntax_parser.specs.Syntax.{no_parents, in_parents, AreAnnotations, none, bare, valued, IsShape}
+use Rattle.schema_syntax_parser.specs.Syntax.{no_shape, bare_shape, equals_shape, braces, AreTags, no_tags, some_tags}
+use Rattle.schema_syntax_parser.specs.Syntax.{Applies, no_applies, some_applies, IsStringToken, string, IsApp, types}
+use Rattle.schema_syntax_parser.specs.Syntax.{context_path, context_record, is_role, IsAttr, attr, IsDecl, entity_decl}
+use Rattle.schema_syntax_parser.specs.Syntax.{enum_decl, external_entity, action_decl, external_action, common_decl}
+use Rattle.schema_syntax_parser.specs.Syntax.{IsDeclared, declared, IsItem, namespace, outside}
 
 -- does a token of the kind stand at the front?
 abbrev pub begins : TokenKind → List Token → Bool
@@ -100,13 +112,19 @@ chain_head (one {t = t} h) = record { first = t; rest = []; whole = refl; is = h
 chain_head (more {t = t} {s = s} {u = u} h k r) = record { first = t; rest = s ∷ u; whole = refl; is = h }
 
 pub path_head : {u : List Token} {p : PathSyntax} → IsPath u p → Head Apart u
-path_head (path c) = let h = chain_head c in record { first = h.first; rest = h.rest; whole = h.whole; is = ident_apart h.first.kind h.is }
+path_head (path c) = let h = chain_head c in
+    record { first = h.first; rest = h.rest; whole = h.whole; is = ident_apart h.first.kind h.is }
 
 pub ref_head : {u : List Token} {p : PathSyntax} → IsRef u p → Head Apart u
 ref_head (plain {t = t} h) = record { first = t; rest = []; whole = refl; is = name_apart t.kind h }
 ref_head (typed {u = u} s q c k l) =
     let h = chain_head c in
-    record { first = h.first; rest = h.rest ++ s ∷ q ∷ []; whole = ap (λ (x : List Token). x ++ s ∷ q ∷ []) h.whole; is = ident_apart h.first.kind h.is }
+    record {
+      first = h.first;
+      rest = h.rest ++ s ∷ q ∷ [];
+      whole = ap (λ (x : List Token). x ++ s ∷ q ∷ []) h.whole;
+      is = ident_apart h.first.kind h.is;
+    }
 
 pub string_head : {u : List Token} {t : Token} → IsStringToken u t → Head (λ k. k ≡ StringLit) u
 string_head (string {t = t} h) = record { first = t; rest = []; whole = refl; is = h }
@@ -121,17 +139,24 @@ role_facts KwResource h = (refl, refl)
 role_facts _ h = cc
 
 pub app_head : {u : List Token} {a : AppSyntax} → IsApp u a → Head NoClose u
-app_head (types {w = w} {c = c} {u = u} h k l) = record { first = w; rest = c ∷ u; whole = refl; is = role_facts w.kind h }
-app_head (context_path {w = w} {c = c} {u = u} h k l) = record { first = w; rest = c ∷ u; whole = refl; is = rw h (refl, refl) }
-app_head (context_record {w = w} {c = c} {u = u} h k l) = record { first = w; rest = c ∷ u; whole = refl; is = rw h (refl, refl) }
+app_head (types {w = w} {c = c} {u = u} h k l) =
+    record { first = w; rest = c ∷ u; whole = refl; is = role_facts w.kind h }
+app_head (context_path {w = w} {c = c} {u = u} h k l) =
+    record { first = w; rest = c ∷ u; whole = refl; is = rw h (refl, refl) }
+app_head (context_record {w = w} {c = c} {u = u} h k l) =
+    record { first = w; rest = c ∷ u; whole = refl; is = rw h (refl, refl) }
 
 pub attr_head : {u : List Token} {a : AttrSyntax} → IsAttr u a → Head NoClose u
-attr_head (attr n c {m = m} {u = u} none h k l t) = let f = name_apart n.kind h in record { first = n; rest = m ++ c ∷ u; whole = refl; is = (f.rbrace, f.lbrace) }
-attr_head (attr n c {m = m} {u = u} (bare {a = a} {k = k} {u = b} x w r) h y l t) = record { first = a; rest = k ∷ (b ++ n ∷ (m ++ c ∷ u)); whole = refl; is = rw x (refl, refl) }
-attr_head (attr n c {m = m} {u = u} (valued {a = a} {k = k} {o = o} {v = v} {c = d} {u = b} x w y z q r) h s l t) = record { first = a; rest = k ∷ o ∷ v ∷ d ∷ (b ++ n ∷ (m ++ c ∷ u)); whole = refl; is = rw x (refl, refl) }
+attr_head (attr n c {m = m} {u = u} none h k l t) =
+    let f = name_apart n.kind h in record { first = n; rest = m ++ c ∷ u; whole = refl; is = (f.rbrace, f.lbrace) }
+attr_head (attr n c {m = m} {u = u} (bare {a = a} {k = k} {u = b} x w r) h y l t) =
+    record { first = a; rest = k ∷ (b ++ n ∷ (m ++ c ∷ u)); whole = refl; is = rw x (refl, refl) }
+attr_head (attr n c {m = m} {u = u} (valued {a = a} {k = k} {o = o} {v = v} {c = d} {u = b} x w y z q r) h s l t) =
+    record { first = a; rest = k ∷ o ∷ v ∷ d ∷ (b ++ n ∷ (m ++ c ∷ u)); whole = refl; is = rw x (refl, refl) }
 
 -- what follows a part that may be empty
-pub skip_parents : {P : List Token → PathSyntax → Type 0} {u : List Token} {ps : List PathSyntax} (k : TokenKind) (v : List Token)
+pub skip_parents : {P : List Token → PathSyntax → Type 0} {u : List Token} {ps : List PathSyntax} (k : TokenKind)
+    (v : List Token)
     → AreParents P u ps → same_kind k KwIn ≡ false → begins k v ≡ false → begins k (u ++ v) ≡ false
 skip_parents k v no_parents e f = f
 skip_parents k v (in_parents h l) e f = rw h e
@@ -160,14 +185,18 @@ skip_annotations k v (valued h w o l c r) e f = rw h e
 
 -- a declaration begins with one of four words
 abbrev pub DeclFacts : TokenKind → Type 0
-DeclFacts k = (same_kind At k ≡ false) × (same_kind LParen k ≡ false) × (same_kind RBrace k ≡ false) × (same_kind KwNamespace k ≡ false)
+DeclFacts k = (same_kind At k ≡ false) × (same_kind LParen k ≡ false) × (same_kind RBrace k ≡ false)
+    × (same_kind KwNamespace k ≡ false)
 
 pub decl_head : {u : List Token} {d : DeclSyntax} → IsDecl u d → Head DeclFacts u
 decl_head (entity_decl z h i p s t k) = record { first = _; rest = _; whole = refl; is = rw h (refl, refl, refl, refl) }
-decl_head (enum_decl n o c z h i a b s d k) = record { first = _; rest = _; whole = refl; is = rw h (refl, refl, refl, refl) }
-decl_head (external_entity z h e i p k) = record { first = _; rest = _; whole = refl; is = rw h (refl, refl, refl, refl) }
+decl_head (enum_decl n o c z h i a b s d k) =
+    record { first = _; rest = _; whole = refl; is = rw h (refl, refl, refl, refl) }
+decl_head (external_entity z h e i p k) =
+    record { first = _; rest = _; whole = refl; is = rw h (refl, refl, refl, refl) }
 decl_head (action_decl z h n r s k) = record { first = _; rest = _; whole = refl; is = rw h (refl, refl, refl, refl) }
-decl_head (external_action z h a n r k) = record { first = _; rest = _; whole = refl; is = rw h (refl, refl, refl, refl) }
+decl_head (external_action z h a n r k) =
+    record { first = _; rest = _; whole = refl; is = rw h (refl, refl, refl, refl) }
 decl_head (common_decl z h n e t k) = record { first = _; rest = _; whole = refl; is = rw h (refl, refl, refl, refl) }
 
 -- not empty
@@ -184,5 +213,6 @@ declared_close v (declared (bare h w r) d) = rw h refl
 declared_close v (declared (valued h w o l c r) d) = rw h refl
 
 pub item_length : {u : List Token} {i : ItemSyntax} → IsItem u i → 0 < length u
-item_length (namespace n o c {a = a} {p = p} {u = u} xs h q k ds l) = omega (arith, length-append a (n ∷ (p ++ o ∷ (u ++ c ∷ []))))
+item_length (namespace n o c {a = a} {p = p} {u = u} xs h q k ds l) =
+    omega (arith, length-append a (n ∷ (p ++ o ∷ (u ++ c ∷ []))))
 item_length (outside d) = declared_length d

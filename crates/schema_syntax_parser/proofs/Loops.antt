@@ -1,10 +1,13 @@
 -- A list that is read turn by turn.
-use Rattle.std.proofs.Common.{◌≡◌, ℕ, zero, suc, ◌+◌, ◌-◌, ◌<◌, ◌≤◌, List, [], ◌∷◌, ◌++◌, Option, Some, None, refl, sym, ap, ◌∙◌, append_assoc, arith}
+use Rattle.std.proofs.Common.{◌≡◌, ℕ, zero, suc, ◌+◌, ◌-◌, ◌<◌, ◌≤◌, List, [], ◌∷◌, ◌++◌, Option, Some, None, refl, sym}
+use Rattle.std.proofs.Common.{ap, ◌∙◌, append_assoc, arith}
 use Rattle.std.proofs.lemmas.List.{append-nil}
 use Rattle.schema_syntax_tokens.specs.declared.token.Token.{Token}
 use Rattle.schema_syntax_parser.specs.declared.stop.Stop.{Stop}
 use Rattle.schema_syntax_parser.specs.declared.stop.Stop.TheVariants.{Memory, Mismatch}
-use Rattle.schema_syntax_parser.specs.Reading.{◌>>=◌, Fails, Read, Turn, Done, Last, More, after_turn, many_at, with_items, separated_turn, attr_step, whole_type_step, type_at, attrs_at}
+use Rattle.schema_syntax_parser.specs.Reading.{◌>>=◌, Fails, Read, Turn, Done, Last, More, after_turn, many_at}
+use Rattle.schema_syntax_parser.specs.Reading.{with_items, separated_turn, attr_step, whole_type_step, type_at}
+use Rattle.schema_syntax_parser.specs.Reading.{attrs_at}
 use Rattle.schema_syntax_parser.specs.declared.syntax.AttrSyntax.{AttrSyntax}
 use Rattle.schema_syntax_grammar.specs.declared.token_kind.TokenKind.TheVariants.{RBrace}
 
@@ -19,7 +22,8 @@ with_with done x None = refl
 with_with done x (Some r) = ap (λ d. Some (d, r.1)) (append_assoc done (x ∷ []) r.0)
 
 -- One turn of a loop that has read these items, with other turns to come.
-module _ {A : Type 0} (done : List A) (read : Option (Turn A)) (others : List Token → Read (List A)) (total : Read (List A)) (so_far : with_items done (read >>= after_turn others) ≡ total) where
+module _ {A : Type 0} (done : List A) (read : Option (Turn A)) (others : List Token → Read (List A))
+    (total : Read (List A)) (so_far : with_items done (read >>= after_turn others) ≡ total) where
   pub turn_fails : (e : Stop) → Fails e read → Fails e total
   turn_fails Memory f = tt
   turn_fails Mismatch f = sym so_far ∙ rw f refl
@@ -35,7 +39,8 @@ module _ {A : Type 0} (done : List A) (read : Option (Turn A)) (others : List To
   turn_more x rest e = with_with done x (others rest) ∙ (sym (rw e refl) ∙ so_far)
 
 -- an item that others follow, with no turn left
-pub turn_out : {A : Type 0} (turn : List Token → Option (Turn A)) (done : List A) (left : ℕ) (ts : List Token) (total : Read (List A))
+pub turn_out : {A : Type 0} (turn : List Token → Option (Turn A)) (done : List A) (left : ℕ) (ts : List Token)
+    (total : Read (List A))
     → left ≡ 0 → with_items done (many_at turn (left + 1) ts) ≡ total
     → (x : A) (rest : List Token) → turn ts ≡ Some (More x rest) → total ≡ None
 unfolding many_at

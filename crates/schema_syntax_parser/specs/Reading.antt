@@ -1,8 +1,16 @@
--- Reading from left to right with one token of look-ahead, as functions on lists. Only contracts inside the crate cite this.
-use Rattle.std.specs.Prelude.{◌≡◌, ℕ, zero, suc, ◌+◌, ◌-◌, length, take, List, [], ◌∷◌, ◌++◌, Bool, true, false, Option, Some, None, Result, Ok, Err, if◌then◌else◌}
+-- Reading from left to right with one token of look-ahead, as functions on lists. Only contracts inside the crate cite
+-- this.
+use Rattle.std.specs.Prelude.{◌≡◌, ℕ, zero, suc, ◌+◌, ◌-◌, length, take, List, [], ◌∷◌, ◌++◌, Bool, true, false, Option}
+use Rattle.std.specs.Prelude.{Some, None, Result, Ok, Err, if◌then◌else◌}
 use Rattle.cedar_data.specs.Span.{Span}
 use Rattle.schema_syntax_grammar.specs.declared.token_kind.TokenKind.{TokenKind}
-use Rattle.schema_syntax_grammar.specs.declared.token_kind.TokenKind.TheVariants.{KwNamespace, KwEntity, KwExternal, KwIn, KwType, KwSet, KwAppliesTo, KwAction, KwContext, KwTags, KwEnum, StringLit, At, Comma, Semi, Colon, PathSep, LParen, RParen, LBrace, RBrace, LBracket, RBracket, Less, Greater, Question, Equals}
+use Rattle.schema_syntax_grammar.specs.declared.token_kind.TokenKind.TheVariants.{KwNamespace, KwEntity, KwExternal}
+use Rattle.schema_syntax_grammar.specs.declared.token_kind.TokenKind.TheVariants.{KwIn, KwType, KwSet, KwAppliesTo}
+use Rattle.schema_syntax_grammar.specs.declared.token_kind.TokenKind.TheVariants.{KwAction, KwContext, KwTags, KwEnum}
+use Rattle.schema_syntax_grammar.specs.declared.token_kind.TokenKind.TheVariants.{StringLit, At, Comma, Semi, Colon}
+use Rattle.schema_syntax_grammar.specs.declared.token_kind.TokenKind.TheVariants.{PathSep, LParen, RParen, LBrace}
+use Rattle.schema_syntax_grammar.specs.declared.token_kind.TokenKind.TheVariants.{RBrace, LBracket, RBracket, Less}
+use Rattle.schema_syntax_grammar.specs.declared.token_kind.TokenKind.TheVariants.{Greater, Question, Equals}
 use Rattle.schema_syntax_grammar.specs.Grammar.{is_word_kind, is_ident, same_kind, is_name_kind}
 use Rattle.schema_syntax_tokens.specs.declared.token.Token.{Token}
 use Rattle.schema_syntax_parser.specs.declared.stop.Stop.{Stop}
@@ -15,7 +23,8 @@ use Rattle.schema_syntax_parser.specs.declared.syntax.AttrSyntax.{AttrSyntax, ro
 use Rattle.schema_syntax_parser.specs.declared.syntax.AppSyntax.{AppSyntax}
 use Rattle.schema_syntax_parser.specs.declared.syntax.AppSyntax.TheVariants.{Types, ContextPath, ContextRecord}
 use Rattle.schema_syntax_parser.specs.declared.syntax.DeclSyntax.{DeclSyntax}
-use Rattle.schema_syntax_parser.specs.declared.syntax.DeclSyntax.TheVariants.{Entity, Enum, ExternalEntity, Action, ExternalAction, Common}
+use Rattle.schema_syntax_parser.specs.declared.syntax.DeclSyntax.TheVariants.{Entity, Enum, ExternalEntity, Action}
+use Rattle.schema_syntax_parser.specs.declared.syntax.DeclSyntax.TheVariants.{ExternalAction, Common}
 use Rattle.schema_syntax_parser.specs.declared.syntax.DeclaredSyntax.{DeclaredSyntax}
 use Rattle.schema_syntax_parser.specs.declared.syntax.ItemSyntax.{ItemSyntax}
 use Rattle.schema_syntax_parser.specs.declared.syntax.ItemSyntax.TheVariants.{Namespace, Decl}
@@ -93,22 +102,27 @@ chain_turn separator is ts = class_at is ts >>= λ t. Some (link_at separator t.
 -- an item before the closing token, or before a comma
 abbrev pub closed_at : {A : Type 0} → TokenKind → A → List Token → Option (Turn A)
 closed_at close x [] = None
-closed_at close x (e ∷ ts) = if same_kind close e.kind then Some (Last x ts) else if same_kind Comma e.kind then Some (More x ts) else None
+closed_at close x (e ∷ ts) = if same_kind close e.kind then Some (Last x ts) else if same_kind Comma e.kind then Some
+    (More x ts) else None
 
 unfoldable pub separated_turn : {A : Type 0} → TokenKind → (List Token → Read A) → List Token → Option (Turn A)
 separated_turn close item [] = item [] >>= λ x. closed_at close x.0 x.1
-separated_turn close item (t ∷ ts) = if same_kind close t.kind then Some (Done ts) else item (t ∷ ts) >>= λ x. closed_at close x.0 x.1
+separated_turn close item (t ∷ ts) =
+    if same_kind close t.kind then Some (Done ts) else item (t ∷ ts) >>= λ x. closed_at close x.0 x.1
 
 unfoldable pub path_at : List Token → Read PathSyntax
-path_at ts = all_at (chain_turn PathSep is_ident) ts >>= λ r. Some (record { names = r.0; loc = place_before ts r.1 }, r.1)
+path_at ts = all_at (chain_turn PathSep is_ident) ts >>= λ r. Some
+    (record { names = r.0; loc = place_before ts r.1 }, r.1)
 
 unfoldable pub ref_at : List Token → Read PathSyntax
-ref_at ts = all_at (chain_turn PathSep is_name_kind) ts >>= λ r. Some (record { names = r.0; loc = place_before ts r.1 }, r.1)
+ref_at ts = all_at (chain_turn PathSep is_name_kind) ts >>= λ r. Some
+    (record { names = r.0; loc = place_before ts r.1 }, r.1)
 
 -- one item, or items in brackets
 abbrev pub listed_at : (List Token → Read PathSyntax) → List Token → Read (List PathSyntax)
 listed_at item [] = item [] >>= λ p. Some (p.0 ∷ [], p.1)
-listed_at item (t ∷ ts) = if same_kind LBracket t.kind then all_at (separated_turn RBracket item) ts else item (t ∷ ts) >>= λ p. Some (p.0 ∷ [], p.1)
+listed_at item (t ∷ ts) = if same_kind LBracket t.kind then all_at (separated_turn RBracket item) ts else item
+    (t ∷ ts) >>= λ p. Some (p.0 ∷ [], p.1)
 
 unfoldable pub types_at : List Token → Read (List PathSyntax)
 types_at = listed_at path_at
@@ -132,7 +146,8 @@ value_at k (o ∷ ts) =
 
 unfoldable pub annotation_turn : List Token → Option (Turn AnnotationSyntax)
 annotation_turn [] = Some (Done [])
-annotation_turn (a ∷ ts) = if same_kind At a.kind then class_at is_word_kind ts >>= (λ k. value_at k.0 k.1) else Some (Done (a ∷ ts))
+annotation_turn (a ∷ ts) = if same_kind At a.kind then class_at is_word_kind ts >>= (λ k. value_at k.0 k.1) else Some
+    (Done (a ∷ ts))
 
 unfoldable pub annotations_at : List Token → Read (List AnnotationSyntax)
 annotations_at ts = all_at annotation_turn ts
@@ -170,7 +185,16 @@ attr_step type_at ts = do
   n ← class_at is_name_kind a.1
   c ← token_at Colon (mark_at n.1).1
   t ← type_at c.1
-  Some (roll-AttrSyntax (record { annotations = a.0; name = n.0; required = (mark_at n.1).0; ty = t.0; loc = place_before a.1 t.1 }), t.1)
+  Some (
+    roll-AttrSyntax (record {
+      annotations = a.0;
+      name = n.0;
+      required = (mark_at n.1).0;
+      ty = t.0;
+      loc = place_before a.1 t.1;
+    }),
+    t.1,
+  )
 
 unfoldable mutual
   -- a type, nested at most so deep
@@ -202,20 +226,23 @@ shape_at (t ∷ ts) =
 
 unfoldable pub tags_at : List Token → Read (Option TypeSyntax)
 tags_at [] = Some (None, [])
-tags_at (t ∷ ts) = if same_kind KwTags t.kind then (type_at (length ts) ts >>= λ r. Some (Some r.0, r.1)) else Some (None, t ∷ ts)
+tags_at (t ∷ ts) = if same_kind KwTags t.kind then (type_at (length ts) ts >>= λ r. Some (Some r.0, r.1)) else Some
+    (None, t ∷ ts)
 
 -- what `context` is given, in the member that begins at whole
 unfoldable pub context_at : List Token → List Token → Read AppSyntax
 context_at whole [] = None
 context_at whole (t ∷ ts) =
-    if same_kind LBrace t.kind then (record_at (t ∷ ts) >>= λ r. Some (ContextRecord r.0.0 r.0.1 (place_before whole r.1), r.1))
+    if same_kind LBrace t.kind then
+    (record_at (t ∷ ts) >>= λ r. Some (ContextRecord r.0.0 r.0.1 (place_before whole r.1), r.1))
     else (path_at (t ∷ ts) >>= λ p. Some (ContextPath p.0 (place_before whole p.1), p.1))
 
 unfoldable pub app_at : List Token → Read AppSyntax
 app_at ts = do
   w ← any_at ts
   c ← token_at Colon w.1
-  if is_role w.0.kind then (types_at c.1 >>= λ r. Some (Types w.0 r.0 (place_before ts r.1), r.1)) else (if same_kind KwContext w.0.kind then context_at ts c.1 else None)
+  if is_role w.0.kind then (types_at c.1 >>= λ r. Some (Types w.0 r.0 (place_before ts r.1), r.1)) else
+  (if same_kind KwContext w.0.kind then context_at ts c.1 else None)
 
 unfoldable pub applies_at : List Token → Read (Option (List AppSyntax × Span))
 applies_at [] = Some (None, [])
@@ -287,12 +314,15 @@ common_at ts = do
 unfoldable pub external_at : List Token → Read DeclSyntax
 external_at ts = do
   w ← any_at ts
-  if same_kind KwEntity w.0.kind then external_entity_at w.1 else if same_kind KwAction w.0.kind then external_action_at w.1 else None
+  if same_kind KwEntity w.0.kind then external_entity_at w.1 else if same_kind KwAction w.0.kind then
+  external_action_at w.1 else None
 
 unfoldable pub decl_at : List Token → Read DeclSyntax
 decl_at ts = do
   w ← any_at ts
-  if same_kind KwEntity w.0.kind then entity_at w.1 else (if same_kind KwExternal w.0.kind then external_at w.1 else (if same_kind KwAction w.0.kind then action_at w.1 else (if same_kind KwType w.0.kind then common_at w.1 else None)))
+  if same_kind KwEntity w.0.kind then entity_at w.1 else
+  (if same_kind KwExternal w.0.kind then external_at w.1 else
+      (if same_kind KwAction w.0.kind then action_at w.1 else (if same_kind KwType w.0.kind then common_at w.1 else None)))
 
 unfoldable pub declared_at : List Token → Read DeclaredSyntax
 declared_at ts = do
@@ -302,7 +332,8 @@ declared_at ts = do
 
 unfoldable pub decl_turn : List Token → Option (Turn DeclaredSyntax)
 decl_turn [] = declared_at [] >>= λ d. Some (More d.0 d.1)
-decl_turn (t ∷ ts) = if same_kind RBrace t.kind then Some (Done ts) else declared_at (t ∷ ts) >>= λ d. Some (More d.0 d.1)
+decl_turn (t ∷ ts) = if same_kind RBrace t.kind then Some (Done ts) else declared_at (t ∷ ts) >>= λ d. Some
+    (More d.0 d.1)
 
 -- a namespace behind its annotations and its first word, which begins whole
 unfoldable pub namespace_at : List AnnotationSyntax → List Token → List Token → Read ItemSyntax
@@ -314,11 +345,13 @@ namespace_at annotations whole ts = do
 
 -- a declaration in no namespace, behind its annotations
 unfoldable pub outside_at : List AnnotationSyntax → List Token → Read ItemSyntax
-outside_at annotations ts = decl_at ts >>= λ d. Some (Decl (record { annotations = annotations; decl = d.0; loc = place_before ts d.1 }), d.1)
+outside_at annotations ts = decl_at ts >>= λ d. Some
+    (Decl (record { annotations = annotations; decl = d.0; loc = place_before ts d.1 }), d.1)
 
 abbrev pub item_body_at : List AnnotationSyntax → List Token → Read ItemSyntax
 item_body_at annotations [] = outside_at annotations []
-item_body_at annotations (t ∷ ts) = if same_kind KwNamespace t.kind then namespace_at annotations (t ∷ ts) ts else outside_at annotations (t ∷ ts)
+item_body_at annotations (t ∷ ts) =
+    if same_kind KwNamespace t.kind then namespace_at annotations (t ∷ ts) ts else outside_at annotations (t ∷ ts)
 
 unfoldable pub item_at : List Token → Read ItemSyntax
 item_at ts = annotations_at ts >>= λ a. item_body_at a.0 a.1

@@ -1,8 +1,16 @@
--- The syntax of a list of tokens, one case for each production of the grammar: the tokens are those of the parts, joined.
+-- The syntax of a list of tokens, one case for each production of the grammar: the tokens are those of the parts,
+-- joined.
 use Rattle.std.specs.Prelude.{◌≡◌, List, [], ◌∷◌, ◌++◌, Bool, true, false, Option, Some, None}
 use Rattle.cedar_data.specs.Span.{Span}
 use Rattle.schema_syntax_grammar.specs.declared.token_kind.TokenKind.{TokenKind}
-use Rattle.schema_syntax_grammar.specs.declared.token_kind.TokenKind.TheVariants.{KwNamespace, KwEntity, KwExternal, KwIn, KwType, KwSet, KwAppliesTo, KwPrincipal, KwAction, KwResource, KwContext, KwTags, KwEnum, StringLit, At, Comma, Semi, Colon, PathSep, LParen, RParen, LBrace, RBrace, LBracket, RBracket, Less, Greater, Question, Equals}
+use Rattle.schema_syntax_grammar.specs.declared.token_kind.TokenKind.TheVariants.{KwNamespace, KwEntity, KwExternal}
+use Rattle.schema_syntax_grammar.specs.declared.token_kind.TokenKind.TheVariants.{KwIn, KwType, KwSet, KwAppliesTo}
+use Rattle.schema_syntax_grammar.specs.declared.token_kind.TokenKind.TheVariants.{KwPrincipal, KwAction, KwResource}
+use Rattle.schema_syntax_grammar.specs.declared.token_kind.TokenKind.TheVariants.{KwContext, KwTags, KwEnum, StringLit}
+use Rattle.schema_syntax_grammar.specs.declared.token_kind.TokenKind.TheVariants.{At, Comma, Semi, Colon, PathSep}
+use Rattle.schema_syntax_grammar.specs.declared.token_kind.TokenKind.TheVariants.{LParen, RParen, LBrace, RBrace}
+use Rattle.schema_syntax_grammar.specs.declared.token_kind.TokenKind.TheVariants.{LBracket, RBracket, Less, Greater}
+use Rattle.schema_syntax_grammar.specs.declared.token_kind.TokenKind.TheVariants.{Question, Equals}
 use Rattle.schema_syntax_grammar.specs.Grammar.{is_word_kind, is_ident, is_name_kind}
 use Rattle.schema_syntax_tokens.specs.declared.token.Token.{Token}
 use Rattle.schema_syntax_tokens.specs.TokenLists.{whole_place}
@@ -14,7 +22,8 @@ use Rattle.schema_syntax_parser.specs.declared.syntax.AttrSyntax.{AttrSyntax, ro
 use Rattle.schema_syntax_parser.specs.declared.syntax.AppSyntax.{AppSyntax}
 use Rattle.schema_syntax_parser.specs.declared.syntax.AppSyntax.TheVariants.{Types, ContextPath, ContextRecord}
 use Rattle.schema_syntax_parser.specs.declared.syntax.DeclSyntax.{DeclSyntax}
-use Rattle.schema_syntax_parser.specs.declared.syntax.DeclSyntax.TheVariants.{Entity, Enum, ExternalEntity, Action, ExternalAction, Common}
+use Rattle.schema_syntax_parser.specs.declared.syntax.DeclSyntax.TheVariants.{Entity, Enum, ExternalEntity, Action}
+use Rattle.schema_syntax_parser.specs.declared.syntax.DeclSyntax.TheVariants.{ExternalAction, Common}
 use Rattle.schema_syntax_parser.specs.declared.syntax.DeclaredSyntax.{DeclaredSyntax}
 use Rattle.schema_syntax_parser.specs.declared.syntax.ItemSyntax.{ItemSyntax}
 use Rattle.schema_syntax_parser.specs.declared.syntax.ItemSyntax.TheVariants.{Namespace, Decl}
@@ -99,7 +108,14 @@ mutual
   pub data IsAttr : List Token → AttrSyntax → Type 0 where
     attr : (n c : Token) {a m u : List Token} {xs : List AnnotationSyntax} {required : Bool} {t : TypeSyntax}
         → AreAnnotations a xs → is_name_kind n.kind ≡ true → IsMark m required → c.kind ≡ Colon → IsType u t
-        → IsAttr (a ++ n ∷ (m ++ c ∷ u)) (roll-AttrSyntax (record { annotations = xs; name = n; required = required; ty = t; loc = whole_place (n ∷ (m ++ c ∷ u)) }))
+        → IsAttr (a ++ n ∷ (m ++ c ∷ u))
+        (roll-AttrSyntax (record {
+          annotations = xs;
+          name = n;
+          required = required;
+          ty = t;
+          loc = whole_place (n ∷ (m ++ c ∷ u));
+        }))
 
 -- [['='] Rec]
 pub data IsShape : List Token → Option (List AttrSyntax × Span) → Type 0 where
@@ -142,7 +158,8 @@ pub data Applies : List Token → Option (List AppSyntax × Span) → Type 0 whe
 -- a declaration without its annotations
 pub data IsDecl : List Token → DeclSyntax → Type 0 where
   -- 'entity' Idents ['in' Types] [['='] Rec] ['tags' Type] ';'
-  entity_decl : {e : Token} (z : Token) {i p s t names : List Token} {parents : List PathSyntax} {shape : Option (List AttrSyntax × Span)} {tags : Option TypeSyntax}
+  entity_decl : {e : Token} (z : Token) {i p s t names : List Token} {parents : List PathSyntax}
+      {shape : Option (List AttrSyntax × Span)} {tags : Option TypeSyntax}
       → e.kind ≡ KwEntity → IsChain Comma is_ident i names → AreParents IsPath p parents → IsShape s shape
       → AreTags t tags → z.kind ≡ Semi
       → IsDecl (e ∷ (i ++ (p ++ (s ++ (t ++ z ∷ []))))) (Entity names parents shape tags)
@@ -157,7 +174,8 @@ pub data IsDecl : List Token → DeclSyntax → Type 0 where
       → z.kind ≡ Semi
       → IsDecl (x ∷ e ∷ (i ++ (p ++ z ∷ []))) (ExternalEntity names parents)
   -- 'action' Names ['in' Refs] ['appliesTo' '{' [App {',' App} [',']] '}'] ';'
-  action_decl : {a : Token} (z : Token) {n r s names : List Token} {parents : List PathSyntax} {applies : Option (List AppSyntax × Span)}
+  action_decl : {a : Token} (z : Token) {n r s names : List Token} {parents : List PathSyntax}
+      {applies : Option (List AppSyntax × Span)}
       → a.kind ≡ KwAction → IsChain Comma is_name_kind n names → AreParents IsRef r parents → Applies s applies
       → z.kind ≡ Semi
       → IsDecl (a ∷ (n ++ (r ++ (s ++ z ∷ [])))) (Action names parents applies)
@@ -178,7 +196,8 @@ pub data IsDeclared : List Token → DeclaredSyntax → Type 0 where
 
 -- Anns 'namespace' Path '{' {Decl} '}' | Decl
 pub data IsItem : List Token → ItemSyntax → Type 0 where
-  namespace : (n o c : Token) {a p u : List Token} {xs : List AnnotationSyntax} {name : PathSyntax} {ds : List DeclaredSyntax}
+  namespace : (n o c : Token) {a p u : List Token} {xs : List AnnotationSyntax} {name : PathSyntax}
+      {ds : List DeclaredSyntax}
       → AreAnnotations a xs → n.kind ≡ KwNamespace → IsPath p name → o.kind ≡ LBrace → AreMany IsDeclared u ds
       → c.kind ≡ RBrace
       → IsItem (a ++ n ∷ (p ++ o ∷ (u ++ c ∷ []))) (Namespace xs name ds (whole_place (n ∷ (p ++ o ∷ (u ++ c ∷ [])))))

@@ -22,7 +22,13 @@ cut R [] ys ls h = record { left = []; right = ls; whole = refl; first = tt; sec
 cut R (x ∷ xs) ys [] h = absurd h
 cut R (x ∷ xs) ys (l ∷ ls) h =
     let c = cut R xs ys ls h.1 in
-    record { left = l ∷ c.left; right = c.right; whole = ap (λ (v : List _). l ∷ v) c.whole; first = (h.0, c.first); second = c.second }
+    record {
+      left = l ∷ c.left;
+      right = c.right;
+      whole = ap (λ (v : List _). l ∷ v) c.whole;
+      first = (h.0, c.first);
+      second = c.second;
+    }
 
 abbrev onward : {A B : Type 0} → (A × List Leaf → Option (B × List Leaf)) → Option (A × List Leaf)
     → Option (B × List Leaf)
@@ -38,7 +44,8 @@ Each P (x ∷ xs) = P x × Each P xs
 
 module _ (text : List ℕ) where
   abbrev Run : {A : Type 0} → List Site → Builds A → (A → Type 0) → Type 0
-  Run {A} sites from Is = (ls rest : List Leaf) → AllZip (IsLeaf text) sites ls → (x : A) × (from (ls ++ rest) ≡ Some (x, rest)) × Is x
+  Run {A} sites from Is = (ls rest : List Leaf) → AllZip (IsLeaf text) sites ls
+      → (x : A) × (from (ls ++ rest) ≡ Some (x, rest)) × Is x
 
   -- From leaves of these sites, whatever follows them, a part is built, and it is so.
   pub record Built {A : Type 0} (sites : List Site) (from : Builds A) (Is : A → Type 0) : Type 0 where
@@ -65,7 +72,8 @@ module _ (text : List ℕ) where
       go (l ∷ ls) rest h = absurd h
 
   -- a part, and then another one
-  pub both : {A B : Type 0} {s t : List Site} {f : Builds A} {P : A → Type 0} {Q : B → Type 0} (g : A × List Leaf → Option (B × List Leaf))
+  pub both : {A B : Type 0} {s t : List Site} {f : Builds A} {P : A → Type 0} {Q : B → Type 0}
+      (g : A × List Leaf → Option (B × List Leaf))
       → Built s f P → ((x : A) → P x → Built t (λ leaves. g (x, leaves)) Q)
       → Built (s ++ t) (λ leaves. f leaves >>= g) Q
   both {A} {B} {s} {t} {f} {P} {Q} g first second = record { build = go }
@@ -75,7 +83,8 @@ module _ (text : List ℕ) where
           let c = cut (IsLeaf text) s t ls h in
           let x = first.build c.left (c.right ++ rest) c.first in
           let y = (second x.0 x.2).build c.right rest c.second in
-          let e : ls ++ rest ≡ c.left ++ (c.right ++ rest) = ap (λ (v : List Leaf). v ++ rest) c.whole ∙ append_assoc c.left c.right rest in
+          let e : ls ++ rest ≡ c.left ++ (c.right ++ rest) = ap (λ (v : List Leaf). v ++ rest) c.whole
+          ∙ append_assoc c.left c.right rest in
           (y.0, ap (λ (v : List Leaf). f v >>= g) e ∙ ap (onward g) x.1 ∙ y.1, y.2)
 
   -- a part, of which another is made
@@ -103,7 +112,8 @@ module _ (text : List ℕ) where
   -- another reading of the same
   pub same : {A : Type 0} {s t : List Site} {f g : Builds A} {P : A → Type 0} → s ≡ t
       → ((leaves : List Leaf) → f leaves ≡ g leaves) → Built t g P → Built s f P
-  same {A} {s} {t} {f} {g} {P} e k b = record { build = λ ls rest h. let x = b.build ls rest (rw e at h) in (x.0, k (ls ++ rest) ∙ x.1, x.2) }
+  same {A} {s} {t} {f} {g} {P} e k b =
+      record { build = λ ls rest h. let x = b.build ls rest (rw e at h) in (x.0, k (ls ++ rest) ∙ x.1, x.2) }
 
   -- lists
   module _ {R A : Type 0} (sites : R → List Site) (part : R → Builds A) (Is : R → A → Type 0) where

@@ -1,5 +1,6 @@
 -- Leaves of the sites of a syntax build its tree.
-use Rattle.std.proofs.Common.{◌≡◌, ℕ, ◌-◌, List, [], ◌∷◌, ◌++◌, length, Bool, true, Option, Some, None, refl, sym, ap, ◌∙◌, subst, arith, length-append}
+use Rattle.std.proofs.Common.{◌≡◌, ℕ, ◌-◌, List, [], ◌∷◌, ◌++◌, length, Bool, true, Option, Some, None, refl, sym, ap}
+use Rattle.std.proofs.Common.{◌∙◌, subst, arith, length-append}
 use Rattle.std.specs.List.{AllZip}
 use Rattle.std.proofs.Math.Seq.{take-append_seam}
 use Rattle.std.proofs.lemmas.List.{append-nil}
@@ -12,7 +13,15 @@ use Rattle.schema_syntax_grammar.specs.declared.token_kind.TokenKind.{TokenKind}
 use Rattle.schema_syntax_grammar.specs.declared.token_kind.TokenKind.TheVariants.{StringLit}
 use Rattle.schema_syntax_grammar.specs.Grammar.{is_ident, is_name_kind}
 use Rattle.schema_syntax_tokens.specs.declared.token.Token.{Token}
-use Rattle.schema_syntax_parser.specs.Syntax.{IsChain, one, more, AreSeparated, last, AreListed, single, listed, AreMany, IsPath, path, IsRef, plain, typed, AreParents, no_parents, in_parents, IsType, path_type, set_type, record_type, IsRecord, braces, AreAttrs, no_attr, last_attr, more_attrs, IsAttr, attr, IsShape, no_shape, bare_shape, equals_shape, AreTags, no_tags, some_tags, IsStringToken, string, IsApp, types, context_path, context_record, Applies, no_applies, some_applies, IsDecl, entity_decl, enum_decl, external_entity, action_decl, external_action, common_decl, IsDeclared, declared, IsItem, namespace, outside, IsSyntax}
+use Rattle.schema_syntax_parser.specs.Syntax.{IsChain, one, more, AreSeparated, last, AreListed, single, listed}
+use Rattle.schema_syntax_parser.specs.Syntax.{AreMany, IsPath, path, IsRef, plain, typed, AreParents, no_parents}
+use Rattle.schema_syntax_parser.specs.Syntax.{in_parents, IsType, path_type, set_type, record_type, IsRecord, braces}
+use Rattle.schema_syntax_parser.specs.Syntax.{AreAttrs, no_attr, last_attr, more_attrs, IsAttr, attr, IsShape, no_shape}
+use Rattle.schema_syntax_parser.specs.Syntax.{bare_shape, equals_shape, AreTags, no_tags, some_tags, IsStringToken}
+use Rattle.schema_syntax_parser.specs.Syntax.{string, IsApp, types, context_path, context_record, Applies, no_applies}
+use Rattle.schema_syntax_parser.specs.Syntax.{some_applies, IsDecl, entity_decl, enum_decl, external_entity}
+use Rattle.schema_syntax_parser.specs.Syntax.{action_decl, external_action, common_decl, IsDeclared, declared, IsItem}
+use Rattle.schema_syntax_parser.specs.Syntax.{namespace, outside, IsSyntax}
 use Rattle.schema_syntax_tokens.specs.TokenLists.{whole_place}
 use Rattle.schema_syntax_parser.specs.Syntax as S
 use Rattle.schema_syntax_parser.specs.declared.syntax.PathSyntax.{PathSyntax}
@@ -30,15 +39,29 @@ use Rattle.schema_syntax_tree.specs.declared.annotated.Annotated.{Annotated}
 use Rattle.schema_syntax_tree.specs.declared.namespace.Namespace.{Namespace}
 use Rattle.schema_syntax_reader.specs.declared.leaf.Leaf.{Leaf}
 use Rattle.schema_syntax_reader.specs.declared.leaf.Leaf.TheVariants as leaf
-use Rattle.schema_syntax_reader.specs.Sites.{Site, site_of_kind, name_sites, names_sites, path_sites, paths_sites, sites_of_type, sites_of_attr, sites_of_attrs, shape_sites, tags_sites, app_sites, choices_sites, apps_sites, applies_sites, decl_sites, declared_sites, item_sites, sites_of}
+use Rattle.schema_syntax_reader.specs.Sites.{Site, site_of_kind, name_sites, names_sites, path_sites, paths_sites}
+use Rattle.schema_syntax_reader.specs.Sites.{sites_of_type, sites_of_attr, sites_of_attrs, shape_sites, tags_sites}
+use Rattle.schema_syntax_reader.specs.Sites.{app_sites, choices_sites, apps_sites, applies_sites, decl_sites}
+use Rattle.schema_syntax_reader.specs.Sites.{declared_sites, item_sites, sites_of}
 use Rattle.schema_syntax_reader.specs.Sites as site
 use Rattle.schema_syntax_reader.specs.Leaves.{IsLeaf, IsStringAt, AreNotes}
 use Rattle.schema_syntax_parser.specs.Reading.{◌>>=◌}
-use Rattle.schema_syntax_reader.specs.Building.{Builds, BuiltAttribute, id_from, text_from, notes_from, name_from, bare_id_from, id_node_from, name_node_from, choice_from, all_from, some_from, optional_from, path_of, names_from, path_from, front_names, type_of_ref_from, ref_from, type_from, attr_from, shape_from, tags_from, app_from, applies_from, entity_from, enum_from, external_entity_from, action_from, external_action_from, common_from, decl_from, declared_from, namespace_from, outside_namespace, outside_from, item_from}
-use Rattle.schema_syntax_reader.specs.Trees.{IsId, IsIdNode, IsNameOf, IsNameNode, IsChoice, IsPathOf, IsOptional, IsTypeOfRef, IsRefOf, IsTypeOf, AreAttrsOf, IsShapeOf, AreTagsOf, IsAppOf, AppliesOf, IsDeclOf, IsDeclaredOf, IsItemOf, IsTreeOf}
+use Rattle.schema_syntax_reader.specs.Building.{Builds, BuiltAttribute, id_from, text_from, notes_from, name_from}
+use Rattle.schema_syntax_reader.specs.Building.{bare_id_from, id_node_from, name_node_from, choice_from, all_from}
+use Rattle.schema_syntax_reader.specs.Building.{some_from, optional_from, path_of, names_from, path_from, front_names}
+use Rattle.schema_syntax_reader.specs.Building.{type_of_ref_from, ref_from, type_from, attr_from, shape_from, tags_from}
+use Rattle.schema_syntax_reader.specs.Building.{app_from, applies_from, entity_from, enum_from, external_entity_from}
+use Rattle.schema_syntax_reader.specs.Building.{action_from, external_action_from, common_from, decl_from}
+use Rattle.schema_syntax_reader.specs.Building.{declared_from, namespace_from, outside_namespace, outside_from}
+use Rattle.schema_syntax_reader.specs.Building.{item_from}
+use Rattle.schema_syntax_reader.specs.Trees.{IsId, IsIdNode, IsNameOf, IsNameNode, IsChoice, IsPathOf, IsOptional}
+use Rattle.schema_syntax_reader.specs.Trees.{IsTypeOfRef, IsRefOf, IsTypeOf, AreAttrsOf, IsShapeOf, AreTagsOf, IsAppOf}
+use Rattle.schema_syntax_reader.specs.Trees.{AppliesOf, IsDeclOf, IsDeclaredOf, IsItemOf, IsTreeOf}
 use Rattle.schema_syntax_reader.specs.Trees as tree
-use Rattle.schema_syntax_reader.proofs.Builders.{Each, Built, of_site, done, both, then, kept, same, all_built, some_built, optional_built}
-use Rattle.schema_syntax_reader.proofs.TypeSteps.{sites_path, sites_set, sites_record, sites_attr, type_path, type_set, type_record, attr_out}
+use Rattle.schema_syntax_reader.proofs.Builders.{Each, Built, of_site, done, both, then, kept, same, all_built}
+use Rattle.schema_syntax_reader.proofs.Builders.{some_built, optional_built}
+use Rattle.schema_syntax_reader.proofs.TypeSteps.{sites_path, sites_set, sites_record, sites_attr, type_path, type_set}
+use Rattle.schema_syntax_reader.proofs.TypeSteps.{type_record, attr_out}
 
 -- every item of a list is so
 each_of : {A : Type 0} {P : A → Type 0} → ((x : A) → P x) → (xs : List A) → Each P xs
@@ -78,7 +101,12 @@ chain : {s : TokenKind} {is : TokenKind → Bool} {u names : List Token} → IsC
 chain {is = is} (one {t = t} h) = record { head = t; tail = []; whole = refl; each = (h, tt) }
 chain {is = is} (more {t = t} {names = names} h k r) =
     let c = chain r in
-    record { head = t; tail = names; whole = refl; each = (h, subst (Each (λ t. is t.kind ≡ true)) (sym c.whole) c.each) }
+    record {
+      head = t;
+      tail = names;
+      whole = refl;
+      each = (h, subst (Each (λ t. is t.kind ≡ true)) (sym c.whole) c.each);
+    }
 
 module _ (text : List ℕ) where
   abbrev B : {A : Type 0} → List Site → Builds A → (A → Type 0) → Type 0
@@ -121,7 +149,8 @@ module _ (text : List ℕ) where
   string_leaf _ t h l z = cc
 
   choice : (t : Token) → t.kind ≡ StringLit → B (name_sites t) (choice_from t) (IsChoice text t)
-  choice t h = then text (λ (v : List ℕ). record { node = v; loc = Some t.loc }) (of_site text (site_of_kind t.kind t) (string_leaf t.kind t h)) (λ v is. (is, refl))
+  choice t h = then text (λ (v : List ℕ). record { node = v; loc = Some t.loc })
+      (of_site text (site_of_kind t.kind t) (string_leaf t.kind t h)) (λ v is. (is, refl))
 
   notes_leaf : (list : List AnnotationSyntax) (l : Leaf) → IsLeaf text (site.annotations list) l
       → (n : Annotations) × ((rest : List Leaf) → notes_from (l ∷ rest) ≡ Some (n, rest)) × AreNotes text list n.0
@@ -147,13 +176,17 @@ module _ (text : List ℕ) where
   Idents names = B (names_sites names) (some_from id_node_from names) (AllZip (IsIdNode text) names)
 
   idents_built : {s : TokenKind} {u names : List Token} → IsChain s is_ident u names → Idents names
-  idents_built r = let c = chain r in subst Idents (sym c.whole) (some_built text name_sites id_node_from (IsIdNode text) c.head c.tail (idents (c.head ∷ c.tail) c.each))
+  idents_built r = let c = chain r in
+      subst Idents (sym c.whole) (some_built text name_sites id_node_from (IsIdNode text) c.head c.tail
+      (idents (c.head ∷ c.tail) c.each))
 
   abbrev Names : List Token → Type 0
   Names names = B (names_sites names) (some_from name_node_from names) (AllZip (IsNameNode text) names)
 
   names_built : {s : TokenKind} {u names : List Token} → IsChain s is_name_kind u names → Names names
-  names_built r = let c = chain r in subst Names (sym c.whole) (some_built text name_sites name_node_from (IsNameNode text) c.head c.tail (each_of name_node (c.head ∷ c.tail)))
+  names_built r = let c = chain r in
+      subst Names (sym c.whole) (some_built text name_sites name_node_from (IsNameNode text) c.head c.tail
+      (each_of name_node (c.head ∷ c.tail)))
 
   -- paths
   abbrev IsWhole : List Token → Span → Path → Type 0
@@ -167,14 +200,16 @@ module _ (text : List ℕ) where
   path_names : (t : Token) (ts : List Token) (loc : Span) → Each (λ t. is_ident t.kind ≡ true) (t ∷ ts)
       → B (names_sites (t ∷ ts)) (names_from (t ∷ ts) loc) (IsWhole (t ∷ ts) loc)
   unfolding names_from
-  path_names t ts loc h = kept text (λ (ids : List Id). path_of ids loc) (all_built text name_sites bare_id_from (IsId text) (t ∷ ts) (bare_ids (t ∷ ts) h)) (path_made t ts loc)
+  path_names t ts loc h = kept text (λ (ids : List Id). path_of ids loc)
+      (all_built text name_sites bare_id_from (IsId text) (t ∷ ts) (bare_ids (t ∷ ts) h)) (path_made t ts loc)
 
   abbrev Whole : Span → List Token → Type 0
   Whole loc names = B (names_sites names) (names_from names loc) (IsWhole names loc)
 
   path_built : {u : List Token} {p : PathSyntax} → IsPath u p → B (path_sites p) (path_from p) (IsPathOf text p)
   unfolding path_from
-  path_built (path {u = u} r) = let c = chain r in subst (Whole (whole_place u)) (sym c.whole) (path_names c.head c.tail (whole_place u) c.each)
+  path_built (path {u = u} r) = let c = chain r in
+      subst (Whole (whole_place u)) (sym c.whole) (path_names c.head c.tail (whole_place u) c.each)
 
   abbrev Paths : List PathSyntax → Type 0
   Paths ps = Each (λ p. B (path_sites p) (path_from p) (IsPathOf text p)) ps
@@ -183,7 +218,8 @@ module _ (text : List ℕ) where
   Parents ps = B (paths_sites ps) (all_from path_from ps) (AllZip (IsPathOf text) ps)
 
   parents_built : {u : List Token} {ps : List PathSyntax} → AreParents IsPath u ps → Parents ps
-  parents_built {ps = ps} r = all_built text path_sites path_from (IsPathOf text) ps (of_parents (λ u x p. path_built p) r)
+  parents_built {ps = ps} r = all_built text path_sites path_from (IsPathOf text) ps
+      (of_parents (λ u x p. path_built p) r)
 
   -- references
   front_of : (ts : List Token) (q : Token) → front_names (ts ++ q ∷ []) ≡ ts
@@ -205,29 +241,42 @@ module _ (text : List ℕ) where
 
   whole_ref : (front : List Token) (q : Token) (loc : Span)
       → B (names_sites front) (type_of_ref_from front) (IsTypeOfRef text front)
-      → B (names_sites (front ++ q ∷ [])) (ref_from (record { names = front ++ q ∷ []; loc = loc })) (IsRefOf text (record { names = front ++ q ∷ []; loc = loc }))
+      → B (names_sites (front ++ q ∷ [])) (ref_from (record { names = front ++ q ∷ []; loc = loc }))
+      (IsRefOf text (record { names = front ++ q ∷ []; loc = loc }))
   unfolding ref_from
   whole_ref front q loc b =
       same text (sites_front front q) (λ leaves. rw (front_of front q) refl)
-      (both text (λ path. name_from path.1 >>= λ eid. Some (record { node = record { path = path.0; eid = eid.0 }; loc = Some loc }, eid.1)) b
-      (λ path is. then text (λ (eid : List ℕ). record { node = record { path = path; eid = eid }; loc = Some loc }) (name_built q)
+      (both text (λ path. name_from path.1 >>= λ eid. Some
+      (record { node = record { path = path.0; eid = eid.0 }; loc = Some loc }, eid.1)) b
+      (λ path is. then text (λ (eid : List ℕ). record { node = record { path = path; eid = eid }; loc = Some loc })
+      (name_built q)
       (λ eid h. (front, q, refl, h, is, refl))))
 
   ref_built : {u : List Token} {p : PathSyntax} → IsRef u p → B (path_sites p) (ref_from p) (IsRefOf text p)
   ref_built (plain {t = t} h) = whole_ref [] t (whole_place (t ∷ [])) no_path
   ref_built (typed {u = u} {names = names} s q r e k) =
       let c = chain r in
-      whole_ref names q (whole_place (u ++ s ∷ q ∷ [])) (subst (λ (ts : List Token). B (names_sites ts) (type_of_ref_from ts) (IsTypeOfRef text ts)) (sym c.whole) (typed_path c.head c.tail c.each))
+      whole_ref names q (whole_place (u ++ s ∷ q ∷ []))
+      (subst (λ (ts : List Token). B (names_sites ts) (type_of_ref_from ts) (IsTypeOfRef text ts)) (sym c.whole)
+      (typed_path c.head c.tail c.each))
 
   abbrev Refs : List PathSyntax → Type 0
   Refs ps = B (paths_sites ps) (optional_from ref_from ps) (IsOptional text (AllZip (IsRefOf text)) ps)
 
   refs_built : {u : List Token} {ps : List PathSyntax} → AreParents IsRef u ps → Refs ps
-  refs_built {ps = ps} r = optional_built text path_sites ref_from (IsRefOf text) ps (of_parents (λ u x p. ref_built p) r)
+  refs_built {ps = ps} r = optional_built text path_sites ref_from (IsRefOf text) ps
+      (of_parents (λ u x p. ref_built p) r)
 
   -- types
   abbrev attr_of : AttrSyntax → Node (List ℕ) → Node «Type» → Annotations → BuiltAttribute
-  attr_of a name ty notes = record { node = record { item = roll-AttrDecl (record { name = name; required = (out-AttrSyntax a).required; ty = ty }); annotations = notes }; loc = Some (out-AttrSyntax a).loc }
+  attr_of a name ty notes = record {
+    node = record {
+      item = roll-AttrDecl
+          (record { name = name; required = (out-AttrSyntax a).required; ty = ty });
+      annotations = notes;
+    };
+    loc = Some (out-AttrSyntax a).loc;
+  }
 
   record IsAttrOf (a : AttrSyntax) (n : BuiltAttribute) : Type 0 where
     name : Node (List ℕ)
@@ -240,7 +289,8 @@ module _ (text : List ℕ) where
 
   more_attr : (a : AttrSyntax) (xs : List AttrSyntax) (n : BuiltAttribute) (ys : List BuiltAttribute) → IsAttrOf a n
       → AreAttrsOf text xs ys → AreAttrsOf text (a ∷ xs) (n ∷ ys)
-  more_attr a xs n ys h r = subst (λ (m : BuiltAttribute). AreAttrsOf text (a ∷ xs) (m ∷ ys)) (sym h.whole) (tree.more h.name h.ty h.notes h.is_name h.is_type h.are_notes r)
+  more_attr a xs n ys h r = subst (λ (m : BuiltAttribute). AreAttrsOf text (a ∷ xs) (m ∷ ys)) (sym h.whole)
+      (tree.more h.name h.ty h.notes h.is_name h.is_type h.are_notes r)
 
   abbrev TypeBuilt : TypeSyntax → Type 0
   TypeBuilt t = B (sites_of_type t) (type_from t) (IsTypeOf text t)
@@ -254,8 +304,18 @@ module _ (text : List ℕ) where
   one_attr : (a : AttrSyntax) → TypeBuilt (out-AttrSyntax a).ty → AttrBuilt a
   one_attr a b =
       same text (sites_attr a) (attr_out a)
-      (both text _ (notes (out-AttrSyntax a).annotations) λ n are. both text _ (name_node (out-AttrSyntax a).name) λ name is.
-      then text (λ (ty : Node «Type»). attr_of a name ty n) b (λ ty is_type. record { name = name; ty = ty; notes = n; whole = refl; is_name = is; is_type = is_type; are_notes = are }))
+      (both text _ (notes (out-AttrSyntax a).annotations) λ n are. both text _
+      (name_node (out-AttrSyntax a).name) λ name is.
+      then text (λ (ty : Node «Type»). attr_of a name ty n) b
+      (λ ty is_type. record {
+        name = name;
+        ty = ty;
+        notes = n;
+        whole = refl;
+        is_name = is;
+        is_type = is_type;
+        are_notes = are;
+      }))
 
   no_attrs : AttrsBuilt []
   unfolding all_from
@@ -263,13 +323,19 @@ module _ (text : List ℕ) where
 
   attr_more : (a : AttrSyntax) (xs : List AttrSyntax) → AttrBuilt a → AttrsBuilt xs → AttrsBuilt (a ∷ xs)
   unfolding all_from
-  attr_more a xs b r = both text _ b (λ n is. then text (λ (ys : List BuiltAttribute). n ∷ ys) r (λ ys are. more_attr a xs n ys is are))
+  attr_more a xs b r = both text _ b
+      (λ n is. then text (λ (ys : List BuiltAttribute). n ∷ ys) r (λ ys are. more_attr a xs n ys is are))
 
   mutual
     type_built : {u : List Token} {t : TypeSyntax} → IsType u t → TypeBuilt t
-    type_built (path_type {p = p} r) = same text (sites_path p) (type_path p) (then text _ (path_built r) (λ q is. tree.path is))
-    type_built (set_type {s = s} {o = o} c {u = u} {t = t} ks ko r kc) = let loc = whole_place (s ∷ o ∷ (u ++ c ∷ [])) in same text (sites_set t loc) (type_set t loc) (then text _ (type_built r) (λ n is. tree.set loc is))
-    type_built (record_type {u = u} {xs = xs} (braces c ko r kc)) = let loc = whole_place u in same text (sites_record xs loc) (type_record xs loc) (then text _ (attrs_built r) (λ ys are. tree.attributes loc are))
+    type_built (path_type {p = p} r) =
+        same text (sites_path p) (type_path p) (then text _ (path_built r) (λ q is. tree.path is))
+    type_built (set_type {s = s} {o = o} c {u = u} {t = t} ks ko r kc) =
+        let loc = whole_place (s ∷ o ∷ (u ++ c ∷ [])) in
+        same text (sites_set t loc) (type_set t loc) (then text _ (type_built r) (λ n is. tree.set loc is))
+    type_built (record_type {u = u} {xs = xs} (braces c ko r kc)) =
+        let loc = whole_place u in same text (sites_record xs loc) (type_record xs loc)
+        (then text _ (attrs_built r) (λ ys are. tree.attributes loc are))
 
     attr_built : {u : List Token} {a : AttrSyntax} → IsAttr u a → AttrBuilt a
     attr_built (attr n c xs h m k r) = one_attr _ (type_built r)
@@ -303,7 +369,9 @@ module _ (text : List ℕ) where
   -- members of an `appliesTo` block
   app_built : {u : List Token} {a : AppSyntax} → IsApp u a → B (app_sites a) (app_from a) (IsAppOf text a)
   unfolding app_from
-  app_built (types {ps = ps} k e r) = then text _ (optional_built text path_sites path_from (IsPathOf text) ps (of_list (λ u x p. path_built p) r)) (λ found is. (found, refl, is))
+  app_built (types {ps = ps} k e r) =
+      then text _ (optional_built text path_sites path_from (IsPathOf text) ps (of_list (λ u x p. path_built p) r))
+      (λ found is. (found, refl, is))
   app_built (context_path k e r) = then text _ (path_built r) (λ q is. (q, refl, is))
   app_built (context_record k e r) = then text _ (record_built r) (λ ys are. (ys, refl, are))
 
@@ -326,7 +394,8 @@ module _ (text : List ℕ) where
       → B (applies_sites s) (applies_from s) (AppliesOf text s)
   unfolding applies_from
   applies_built no_applies = done text None refl
-  applies_built (some_applies c {xs = xs} kw ko r kc) = then text _ (some_apps_built xs _ (separated (λ u x p. app_built p) r)) (λ ys are. (are, refl))
+  applies_built (some_applies c {xs = xs} kw ko r kc) =
+      then text _ (some_apps_built xs _ (separated (λ u x p. app_built p) r)) (λ ys are. (are, refl))
 
   -- declarations
   string_choice : {u : List Token} {t : Token} → IsStringToken u t
@@ -341,13 +410,16 @@ module _ (text : List ℕ) where
   decl_built : {u : List Token} {d : DeclSyntax} → IsDecl u d → B (decl_sites d) (decl_from d) (IsDeclOf text d)
   unfolding entity_from enum_from external_entity_from action_from external_action_from common_from
   decl_built (entity_decl z k i p s t kz) =
-      both text _ (idents_built i) λ n are. both text _ (parents_built p) λ ps parents. both text _ (shape_built s) λ shape is. then text _ (tags_built t) λ tags tagged. (are, parents, is, tagged)
+      both text _ (idents_built i) λ n are. both text _ (parents_built p) λ ps parents. both text _ (shape_built s)
+      λ shape is. then text _ (tags_built t) λ tags tagged. (are, parents, is, tagged)
   decl_built (enum_decl n o c z {choices = choices} k i kn ko s kc kz) =
-      both text _ (idents_built i) λ names are. then text _ (choices_built choices _ (separated (λ u x p. string_choice p) s)) λ cs is. (are, is)
+      both text _ (idents_built i) λ names are. then text _
+      (choices_built choices _ (separated (λ u x p. string_choice p) s)) λ cs is. (are, is)
   decl_built (external_entity z kx ke i p kz) =
       both text _ (idents_built i) λ n are. then text _ (parents_built p) λ ps parents. (are, parents)
   decl_built (action_decl z k n r s kz) =
-      both text _ (names_built n) λ names are. both text _ (refs_built r) λ ps parents. then text _ (applies_built s) λ apps is. (are, parents, is)
+      both text _ (names_built n) λ names are. both text _ (refs_built r) λ ps parents. then text _ (applies_built s)
+      λ apps is. (are, parents, is)
   decl_built (external_action z kx ka n r kz) =
       both text _ (names_built n) λ names are. then text _ (refs_built r) λ ps parents. (are, parents)
   decl_built (common_decl {n = n} z kw h ke r kz) =
@@ -356,26 +428,32 @@ module _ (text : List ℕ) where
   declared_built : {u : List Token} {d : DeclaredSyntax} → IsDeclared u d
       → B (declared_sites d) (declared_from d) (IsDeclaredOf text d)
   unfolding declared_from
-  declared_built (declared {xs = xs} a r) = both text _ (notes xs) λ n are. then text _ (decl_built r) λ x is. (is, refl, are)
+  declared_built (declared {xs = xs} a r) =
+      both text _ (notes xs) λ n are. then text _ (decl_built r) λ x is. (is, refl, are)
 
   -- items
   item_built : {u : List Token} {i : ItemSyntax} → IsItem u i → B (item_sites i) (item_from i) (IsItemOf text i)
   unfolding namespace_from outside_from
   item_built (namespace n o c {xs = xs} {ds = ds} a kn p ko r kc) =
-      both text _ (notes xs) λ notes are. both text _ (path_built p) λ name is. then text _ (all_built text declared_sites declared_from (IsDeclaredOf text) ds (many (λ u x p. declared_built p) r)) λ decls is_decls. (name, decls, refl, is, is_decls, are)
+      both text _ (notes xs) λ notes are. both text _ (path_built p) λ name is. then text _
+      (all_built text declared_sites declared_from (IsDeclaredOf text) ds (many (λ u x p. declared_built p) r))
+      λ decls is_decls. (name, decls, refl, is, is_decls, are)
   item_built (outside r) = then text outside_namespace (declared_built r) λ d is. (d, refl, is)
 
   pub tree_built : {tokens : List Token} {items : List ItemSyntax} → IsSyntax tokens items
       → B (sites_of items) (all_from item_from items) (IsTreeOf text items)
-  tree_built {items = items} r = all_built text item_sites item_from (IsItemOf text) items (many (λ u x p. item_built p) r)
+  tree_built {items = items} r =
+      all_built text item_sites item_from (IsItemOf text) items (many (λ u x p. item_built p) r)
 
 abbrev built_of : {A : Type 0} → List A → Option (List A × List Leaf) → List A
 built_of xs None = xs
 built_of xs (Some r) = r.0
 
 -- what is built of leaves that are the whole text's
-module _ {tokens : List Token} {items : List ItemSyntax} (text : List ℕ) (r : IsSyntax tokens items) (leaves : List Leaf) (h : AllZip (IsLeaf text) (sites_of items) leaves) where
-  whole : (schema : List (Annotated Namespace)) × (all_from item_from items leaves ≡ Some (schema, [])) × IsTreeOf text items schema
+module _ {tokens : List Token} {items : List ItemSyntax} (text : List ℕ) (r : IsSyntax tokens items)
+    (leaves : List Leaf) (h : AllZip (IsLeaf text) (sites_of items) leaves) where
+  whole : (schema : List (Annotated Namespace)) × (all_from item_from items leaves ≡ Some (schema, []))
+      × IsTreeOf text items schema
   whole =
       let x = (tree_built text r).build leaves [] h in
       (x.0, ap (all_from item_from items) (sym (append-nil leaves)) ∙ x.1, x.2)

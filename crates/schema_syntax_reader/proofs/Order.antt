@@ -11,13 +11,15 @@ use Rattle.schema_syntax_parser.specs.declared.syntax.ItemSyntax.{ItemSyntax}
 use Rattle.schema_syntax_parser.specs.Syntax.{IsSyntax}
 use Rattle.schema_syntax_errors.specs.declared.user_error.UserError.{UserError}
 use Rattle.schema_syntax_reader.specs.Sites.{Site, sites_of}
-use Rattle.schema_syntax_reader.specs.UserFaults.{FaultAt, empty_list, reserved, escape, note_escape, duplicate, HasUserFault, IsFirstUserFault, IsLawful}
+use Rattle.schema_syntax_reader.specs.UserFaults.{FaultAt, empty_list, reserved, escape, note_escape, duplicate}
+use Rattle.schema_syntax_reader.specs.UserFaults.{HasUserFault, IsFirstUserFault, IsLawful}
 use Rattle.schema_syntax_reader.specs.Placed.{note_tokens, IsPlacedSite, NoSiteFault, IsFirstSiteFault}
 use Rattle.schema_syntax_reader.specs.Stops.{IsStopped}
 use Rattle.schema_syntax_reader.specs.LawfulTrees.{IsStopOf}
 use Rattle.schema_syntax_reader.specs.declared.stopped.Stopped.{Stopped}
 use Rattle.schema_syntax_reader.specs.declared.stopped.Stopped.TheVariants.{Memory, User}
-use Rattle.schema_syntax_reader.proofs.Rising.{Rises, Among, among_left, among_right, rises_apart, rise_ends, sub_rises, scans_rise}
+use Rattle.schema_syntax_reader.proofs.Rising.{Rises, Among, among_left, among_right, rises_apart, rise_ends, sub_rises}
+use Rattle.schema_syntax_reader.proofs.Rising.{scans_rise}
 use Rattle.schema_syntax_reader.proofs.Fits.{ends, site_ends, sites_ends, syntax_fits, flat_join}
 
 module _ (source : List ℕ) where
@@ -31,14 +33,17 @@ module _ (source : List ℕ) where
       map-append (λ t. t.loc.end) (x.key ∷ option_to_list x.value) (note_tokens (a ++ b))
       ∙ (ap (λ w. note_ends x ++ w) (notes_join a b)
       ∙ (sym (append_assoc (note_ends x) (ends (note_tokens a)) (ends (note_tokens b)))
-      ∙ ap (λ w. w ++ ends (note_tokens b)) (sym (map-append (λ t. t.loc.end) (x.key ∷ option_to_list x.value) (note_tokens a)))))
+      ∙ ap (λ w. w ++ ends (note_tokens b))
+      (sym (map-append (λ t. t.loc.end) (x.key ∷ option_to_list x.value) (note_tokens a)))))
 
   -- what ends in one of the annotations ends in the list
   among_note : (front back : List AnnotationSyntax) (a : AnnotationSyntax) (n : ℕ) → Among n (note_ends a)
       → Among n (ends (note_tokens (front ++ a ∷ back)))
   among_note front back a n h =
-      subst (Among n) (sym (notes_join front (a ∷ back))) (among_right n (ends (note_tokens front)) (ends (note_tokens (a ∷ back)))
-      (subst (Among n) (sym (map-append (λ t. t.loc.end) (a.key ∷ option_to_list a.value) (note_tokens back))) (among_left n (note_ends a) (ends (note_tokens back)) h)))
+      subst (Among n) (sym (notes_join front (a ∷ back)))
+      (among_right n (ends (note_tokens front)) (ends (note_tokens (a ∷ back)))
+      (subst (Among n) (sym (map-append (λ t. t.loc.end) (a.key ∷ option_to_list a.value) (note_tokens back)))
+      (among_left n (note_ends a) (ends (note_tokens back)) h)))
 
   -- a fault ends where a token of its site does
   fault_end : {site : Site} {fault : UserError} {end : ℕ} → FaultAt source site fault end → Among end (site_ends site)
@@ -46,10 +51,13 @@ module _ (source : List ℕ) where
   fault_end (reserved t h) = inl refl
   fault_end (escape t at h) = inl refl
   fault_end (note_escape front back key t at e h) =
-      subst (λ list. Among t.loc.end (ends (note_tokens list))) (sym e) (among_note front back (record { key = key; value = Some t }) t.loc.end (inr (inl refl)))
+      subst (λ list. Among t.loc.end (ends (note_tokens list))) (sym e)
+      (among_note front back (record { key = key; value = Some t }) t.loc.end (inr (inl refl)))
   fault_end (duplicate front middle back first second key e k l f m) =
-      let whole : front ++ first ∷ (middle ++ second ∷ back) ≡ (front ++ first ∷ middle) ++ second ∷ back = sym (append_assoc front (first ∷ middle) (second ∷ back)) in
-      subst (λ list. Among second.key.loc.end (ends (note_tokens list))) (sym (e ∙ whole)) (among_note (front ++ first ∷ middle) back second second.key.loc.end (inl refl))
+      let whole : front ++ first ∷ (middle ++ second ∷ back) ≡ (front ++ first ∷ middle)
+      ++ second ∷ back = sym (append_assoc front (first ∷ middle) (second ∷ back)) in
+      subst (λ list. Among second.key.loc.end (ends (note_tokens list))) (sym (e ∙ whole))
+      (among_note (front ++ first ∷ middle) back second second.key.loc.end (inl refl))
 
   -- where one of two places in a list is, seen from the other
   data Where (front back : List Site) (site other : Site) : Type 0 where
@@ -64,7 +72,8 @@ module _ (source : List ℕ) where
       head_is : {x y : Site} {xs ys : List Site} → x ∷ xs ≡ y ∷ ys → x ≡ y
       head_is {x} h = ap (λ (l : List Site). elim l [ [] ↦ x | (z ∷ zs) ↦ z ]) h
   places [] back (x ∷ a) b site other e = later a b (ap (λ (l : List Site). elim l [ [] ↦ [] | (z ∷ zs) ↦ zs ]) e)
-  places (x ∷ front) back [] b site other e = earlier [] front (ap (λ y. y ∷ front) (ap (λ (l : List Site). elim l [ [] ↦ x | (z ∷ zs) ↦ z ]) e))
+  places (x ∷ front) back [] b site other e =
+      earlier [] front (ap (λ y. y ∷ front) (ap (λ (l : List Site). elim l [ [] ↦ x | (z ∷ zs) ↦ z ]) e))
   places (x ∷ front) back (y ∷ a) b site other e =
       step (places front back a b site other (ap (λ (l : List Site). elim l [ [] ↦ [] | (z ∷ zs) ↦ zs ]) e))
     where
@@ -76,18 +85,23 @@ module _ (source : List ℕ) where
   no_fault_in : (front a b : List Site) (other : Site) → All (NoSiteFault source) front → front ≡ a ++ other ∷ b
       → NoSiteFault source other
   no_fault_in front [] b other h e = All-head (NoSiteFault source) other b (subst (All (NoSiteFault source)) e h)
-  no_fault_in front (x ∷ a) b other h e = no_fault_in (a ++ other ∷ b) a b other (All-tail (NoSiteFault source) x (a ++ other ∷ b) (subst (All (NoSiteFault source)) e h)) refl
+  no_fault_in front (x ∷ a) b other h e =
+      no_fault_in (a ++ other ∷ b) a b other
+      (All-tail (NoSiteFault source) x (a ++ other ∷ b) (subst (All (NoSiteFault source)) e h)) refl
 
   -- the ends of a later site
   later_end : (back a b : List Site) (other : Site) (n : ℕ) → back ≡ a ++ other ∷ b → Among n (site_ends other)
       → Among n (sites_ends back)
   later_end back a b other n e h =
-      subst (λ l. Among n (sites_ends l)) (sym e) (subst (Among n) (sym (flat_join source a (other ∷ b))) (among_right n (sites_ends a) (sites_ends (other ∷ b)) (among_left n (site_ends other) (sites_ends b) h)))
+      subst (λ l. Among n (sites_ends l)) (sym e)
+      (subst (Among n) (sym (flat_join source a (other ∷ b)))
+      (among_right n (sites_ends a) (sites_ends (other ∷ b)) (among_left n (site_ends other) (sites_ends b) h)))
 
   rises_from : (front back : List Site) (site : Site) → Rises (sites_ends (front ++ site ∷ back))
       → Rises (site_ends site ++ sites_ends back)
   rises_from [] back site r = r
-  rises_from (x ∷ front) back site r = rises_from front back site (rises_behind (site_ends x) (sites_ends (front ++ site ∷ back)) r)
+  rises_from (x ∷ front) back site r =
+      rises_from front back site (rises_behind (site_ends x) (sites_ends (front ++ site ∷ back)) r)
     where
       rises_behind : (xs ys : List ℕ) → Rises (xs ++ ys) → Rises ys
       rises_behind [] ys r = r
@@ -114,7 +128,9 @@ module _ (source : List ℕ) where
           → f.end ≤ n
       by_place here other n h (earlier a b e) = absurd (no_fault_in f.front a b h.1 f.before e other n h.4)
       by_place here other n h (same e) = f.least other n (subst (λ s. FaultAt source s other n) (sym e) h.4)
-      by_place here other n h (later a b e) = rises_apart (site_ends f.site) (sites_ends f.back) f.end n here (fault_end f.here) (later_end f.back a b h.1 n e (fault_end h.4))
+      by_place here other n h (later a b e) =
+          rises_apart (site_ends f.site) (sites_ends f.back) f.end n here (fault_end f.here)
+          (later_end f.back a b h.1 n e (fault_end h.4))
 
   -- no site with a fault: no user fault
   pub all_lawful : (items : List ItemSyntax) → All (NoSiteFault source) (sites_of items) → IsLawful source items
@@ -122,11 +138,13 @@ module _ (source : List ℕ) where
 
   pub sites_placed : (tokens : List Token) (at : ℕ) (items : List ItemSyntax) → Scans source tokens at
       → All (IsPlaced source) tokens → IsSyntax tokens items → All (IsPlacedSite source) (sites_of items)
-  sites_placed tokens at items s p r = (syntax_fits source r (record { placed = p; rise = scans_rise source tokens at s })).placed
+  sites_placed tokens at items s p r =
+      (syntax_fits source r (record { placed = p; rise = scans_rise source tokens at s })).placed
 
   -- what a stop says of the sites, said of the tokens
   pub stop_of : (tokens : List Token) (at : ℕ) (items : List ItemSyntax) (stop : Stopped) → Scans source tokens at
       → All (IsPlaced source) tokens → IsSyntax tokens items → IsStopped source (sites_of items) stop
       → IsStopOf source tokens stop
   stop_of tokens at items Memory s p r f = tt
-  stop_of tokens at items (User fault) s p r f = record { items = items; syntax = r; first = first_ends_first tokens at items fault s p r f }
+  stop_of tokens at items (User fault) s p r f =
+      record { items = items; syntax = r; first = first_ends_first tokens at items fault s p r f }

@@ -1,5 +1,6 @@
 -- The word at a token's place is a word, and its bytes are its characters.
-use Rattle.std.proofs.Common.{◌≡◌, ℕ, Bool, true, false, not, ◌&&◌, ◌==◌, if◌then◌else◌, List, [], ◌∷◌, slice_range, Option, Some, None, refl, sym, ap, ◌∙◌, subst, inl, inr}
+use Rattle.std.proofs.Common.{◌≡◌, ℕ, Bool, true, false, not, ◌&&◌, ◌==◌, if◌then◌else◌, List, [], ◌∷◌, slice_range}
+use Rattle.std.proofs.Common.{Option, Some, None, refl, sym, ap, ◌∙◌, subst, inl, inr}
 use Rattle.std.specs.List.{list_all}
 use Rattle.std.proofs.lemmas.Str.{chars-IsAscii}
 use Rattle.std.proofs.lemmas.Bool.{and_from}
@@ -26,8 +27,10 @@ mark_or false x r p q = q
 
 single_marks : (b : ℕ) → IsMark (single_mark b)
 single_marks b =
-    mark_or (b == 64) _ _ refl (mark_or (b == 44) _ _ refl (mark_or (b == 59) _ _ refl (mark_or (b == 58) _ _ refl (mark_or (b == 40) _ _ refl (mark_or (b == 41) _ _ refl
-    (mark_or (b == 123) _ _ refl (mark_or (b == 125) _ _ refl (mark_or (b == 91) _ _ refl (mark_or (b == 93) _ _ refl (mark_or (b == 60) _ _ refl (mark_or (b == 62) _ _ refl
+    mark_or (b == 64) _ _ refl (mark_or (b == 44) _ _ refl
+    (mark_or (b == 59) _ _ refl (mark_or (b == 58) _ _ refl (mark_or (b == 40) _ _ refl (mark_or (b == 41) _ _ refl
+    (mark_or (b == 123) _ _ refl (mark_or (b == 125) _ _ refl
+    (mark_or (b == 91) _ _ refl (mark_or (b == 93) _ _ refl (mark_or (b == 60) _ _ refl (mark_or (b == 62) _ _ refl
     (mark_or (b == 63) _ _ refl (mark_or (b == 61) _ _ refl tt)))))))))))))
 
 marks : (w : List ℕ) → IsMark (mark_kind w)
@@ -44,20 +47,24 @@ form_word w k (inr (inr s)) e = let f : false ≡ true = sym (ap kind.is_word_ki
 
 word_test : (w : List ℕ) → IsWord w → is_word w ≡ true
 word_test [] h = absurd h
-word_test (b ∷ bs) h = and_from (is_word_start b) (list_all is_word_part bs) h.0 (list_all-from_AllPass is_word_part bs h.1)
+word_test (b ∷ bs) h = and_from (is_word_start b) (list_all is_word_part bs) h.0
+    (list_all-from_AllPass is_word_part bs h.1)
 
 placed_test : (source : List ℕ) (t : Token) → IsPlacedWord source t
     → is_word (slice_range source t.loc.start t.loc.end) ≡ true
-placed_test source t p = word_test (slice_range source t.loc.start t.loc.end) (form_word (slice_range source t.loc.start t.loc.end) t.kind p.0.form p.1)
+placed_test source t p = word_test (slice_range source t.loc.start t.loc.end)
+    (form_word (slice_range source t.loc.start t.loc.end) t.kind p.0.form p.1)
 
 -- the bytes at the place are the characters there
 pub word_is_bytes : (source : List ℕ) (t : Token) → IsPlacedWord source t
     → word_at source t ≡ slice_range source t.loc.start t.loc.end
-word_is_bytes source t p = chars-IsAscii (slice_range source t.loc.start t.loc.end) (word_ascii (slice_range source t.loc.start t.loc.end) (placed_test source t p))
+word_is_bytes source t p = chars-IsAscii (slice_range source t.loc.start t.loc.end)
+    (word_ascii (slice_range source t.loc.start t.loc.end) (placed_test source t p))
 
 pub word_there : (source : List ℕ) (t : Token) → IsPlacedWord source t → is_word (word_at source t) ≡ true
 word_there source t p = ap is_word (word_is_bytes source t p) ∙ placed_test source t p
 
 pub id_there : (source : List ℕ) (t : Token) → IsPlacedWord source t → is_reserved (word_at source t) ≡ false
     → is_id (word_at source t) ≡ true
-id_there source t p h = and_from (is_word (word_at source t)) (not (is_reserved (word_at source t))) (word_there source t p) (ap not h)
+id_there source t p h = and_from (is_word (word_at source t)) (not (is_reserved (word_at source t)))
+    (word_there source t p) (ap not h)

@@ -1,5 +1,6 @@
 -- Tokens that follow each other, and numbers that rise.
-use Rattle.std.proofs.Common.{◌≡◌, ℕ, ◌≤◌, List, [], ◌∷◌, ◌++◌, length, drop, map, sym, ap, subst, arith, length-append, inl, inr}
+use Rattle.std.proofs.Common.{◌≡◌, ℕ, ◌≤◌, List, [], ◌∷◌, ◌++◌, length, drop, map, sym, ap, subst, arith, length-append}
+use Rattle.std.proofs.Common.{inl, inr}
 use Rattle.std.specs.Prelude.{◌⊎◌}
 use Rattle.std.specs.List.{All}
 use Rattle.std.proofs.lemmas.List.Elements.{All-nil, All-cons, All-head, All-tail, All-weaker}
@@ -29,8 +30,11 @@ from_on from rest [] at s = (All-nil (λ s. from ≤ s.loc.end), tt)
 from_on from rest (t ∷ ts) at s =
     let n = s.2 in
     let others = from_on t.loc.end (drop s.1 s.0) ts at s.3 in
-    let le : from ≤ t.loc.end = omega (arith, s.2.start, s.2.stop, skips_shorter s.2.skips) in
-    (All-cons (λ x. from ≤ x.loc.end) t ts le (All-weaker (λ x. t.loc.end ≤ x.loc.end) (λ x. from ≤ x.loc.end) (λ x h. omega (arith, le, h)) ts others.0), (others.0, others.1))
+    let le : from ≤ t.loc.end = omega (arith, s.2.start, s.2.stop, skips_shorter s.2.skips) in (
+      All-cons (λ x. from ≤ x.loc.end) t ts le
+          (All-weaker (λ x. t.loc.end ≤ x.loc.end) (λ x. from ≤ x.loc.end) (λ x h. omega (arith, le, h)) ts others.0),
+      (others.0, others.1),
+    )
 
 -- the tokens of a text follow each other
 pub scans_rise : (text : List ℕ) (ts : List Token) (at : ℕ) → Scans text ts at → Rise ts
@@ -62,7 +66,8 @@ all_among P (x ∷ xs) n h (inr a) = all_among P xs n (All-tail P x xs h) a
 -- a number before another one is not above it
 pub rises_apart : (xs ys : List ℕ) (n m : ℕ) → Rises (xs ++ ys) → Among n xs → Among m ys → n ≤ m
 rises_apart [] ys n m r a b = absurd a
-rises_apart (x ∷ xs) ys n m r (inl e) b = subst (λ k. k ≤ m) (sym e) (all_among (λ k. x ≤ k) (xs ++ ys) m r.0 (among_right m xs ys b))
+rises_apart (x ∷ xs) ys n m r (inl e) b =
+    subst (λ k. k ≤ m) (sym e) (all_among (λ k. x ≤ k) (xs ++ ys) m r.0 (among_right m xs ys b))
 rises_apart (x ∷ xs) ys n m r (inr a) b = rises_apart xs ys n m r.1 a b
 
 pub rises_right : (xs ys : List ℕ) → Rises (xs ++ ys) → Rises ys
@@ -110,4 +115,5 @@ rise_ends (t ∷ ts) r = (ends_above t.loc.end ts r.0, rise_ends ts r.1)
   where
     ends_above : (n : ℕ) (ts : List Token) → All (λ s. n ≤ s.loc.end) ts → All (λ m. n ≤ m) (map (λ t. t.loc.end) ts)
     ends_above n [] h = All-nil (λ m. n ≤ m)
-    ends_above n (t ∷ ts) h = All-cons (λ m. n ≤ m) t.loc.end (map (λ t. t.loc.end) ts) (All-head (λ s. n ≤ s.loc.end) t ts h) (ends_above n ts (All-tail (λ s. n ≤ s.loc.end) t ts h))
+    ends_above n (t ∷ ts) h = All-cons (λ m. n ≤ m) t.loc.end (map (λ t. t.loc.end) ts)
+        (All-head (λ s. n ≤ s.loc.end) t ts h) (ends_above n ts (All-tail (λ s. n ≤ s.loc.end) t ts h))

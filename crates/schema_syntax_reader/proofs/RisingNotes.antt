@@ -1,5 +1,6 @@
 -- Notes by rising keys: each is found at its key.
-use Rattle.std.proofs.Common.{◌≡◌, ℕ, Bool, true, false, cond, List, [], ◌∷◌, map, length, Option, Some, refl, sym, ap, ◌∙◌, subst, append-nil}
+use Rattle.std.proofs.Common.{◌≡◌, ℕ, Bool, true, false, cond, List, [], ◌∷◌, map, length, Option, Some, refl, sym, ap}
+use Rattle.std.proofs.Common.{◌∙◌, subst, append-nil}
 use Rattle.std.specs.declared.cmp.Ordering.TheVariants.{Less}
 use Rattle.std.specs.Ordering.{is_eq}
 use Rattle.std.specs.Map.{keys_of, lookup}
@@ -48,7 +49,10 @@ kept all entries notes h e rising =
     let whole : all ≡ h.front = h.split ∙ append-nil h.front in
     record {
       apart = subst (λ l. AllPairs HaveOtherKeys l) (sym whole) h.apart;
-      same = subst (λ l. IsPermutation (map note_of l) notes) (sym whole) (subst (λ l. IsPermutation (map note_of h.front) l) (sym e) (subst (λ l. IsPermutation l (map note_of_entry entries)) (notes_of_entries h.front) (IsPermutation-map note_of_entry (map entry_of h.front) entries h.same)));
+      same = subst (λ l. IsPermutation (map note_of l) notes) (sym whole)
+          (subst (λ l. IsPermutation (map note_of h.front) l) (sym e)
+          (subst (λ l. IsPermutation l (map note_of_entry entries)) (notes_of_entries h.front)
+          (IsPermutation-map note_of_entry (map entry_of h.front) entries h.same)));
       rising = rising;
     }
 
@@ -63,7 +67,8 @@ same_bytes w = (bytes_eq-Decides w w).1 refl
 below_other : (v w : List ℕ) → text_cmp v w ≡ Less → bytes_eq v w ≡ true → ⊥
 below_other v w h e =
     let same : v ≡ w = (bytes_eq-Decides v w).0 e in
-    let tie : is_eq (text_cmp v w) ≡ true = is_eq-slice_cmp (encode_utf8_all v) (encode_utf8_all w) ∙ (bytes_eq-Decides (encode_utf8_all v) (encode_utf8_all w)).1 (ap encode_utf8_all same) in
+    let tie : is_eq (text_cmp v w) ≡ true = is_eq-slice_cmp (encode_utf8_all v) (encode_utf8_all w)
+    ∙ (bytes_eq-Decides (encode_utf8_all v) (encode_utf8_all w)).1 (ap encode_utf8_all same) in
     let no : false ≡ true = sym (ap is_eq h) ∙ tie in
     cc
 
@@ -75,20 +80,31 @@ found_behind : (n : AnyId × Option (List ℕ)) (all ns : Notes)
     → AllByRecursion (λ y. text_cmp n.0.text y ≡ Less) (map (λ note. note.0.text) ns)
     → AllByRecursion (IsFound all) ns → AllByRecursion (IsFound (n ∷ all)) ns
 found_behind n all [] below h = tt
-found_behind n all (m ∷ ms) below h = (ap (λ b. cond b (Some n.1) (lookup (λ key. bytes_eq key.text m.0.text) all)) (passes (bytes_eq n.0.text m.0.text) (below_other n.0.text m.0.text below.0)) ∙ h.0, found_behind n all ms below.1 h.1)
+found_behind n all (m ∷ ms) below h = (
+  ap (λ b. cond b (Some n.1) (lookup (λ key. bytes_eq key.text m.0.text) all))
+      (passes (bytes_eq n.0.text m.0.text) (below_other n.0.text m.0.text below.0))
+      ∙ h.0,
+  found_behind n all ms below.1 h.1,
+)
 
 each_found : (ns : Notes) → IsStrictlySortedBy text_cmp (map (λ note. note.0.text) ns)
     → AllByRecursion (IsFound ns) ns
 unfolding IsStrictlySortedBy
 each_found [] h = tt
-each_found (n ∷ ns) h = (ap (λ b. cond b (Some n.1) (lookup (λ key. bytes_eq key.text n.0.text) ns)) (same_bytes n.0.text), found_behind n ns ns h.0 (each_found ns h.1))
+each_found (n ∷ ns) h = (
+  ap (λ b. cond b (Some n.1) (lookup (λ key. bytes_eq key.text n.0.text) ns))
+      (same_bytes n.0.text),
+  found_behind n ns ns h.0 (each_found ns h.1),
+)
 
 -- what is kept is found
 pub kept_found : (ps : List Placed) (notes : Notes) → AreKept ps notes
     → AllByRecursion (λ p. lookup (λ key. bytes_eq key.text (placed_key p).text) notes ≡ Some (value_of p)) ps
 kept_found ps notes h =
     unmapped (IsFound notes) note_of ps
-    (recursion_from_All (IsFound notes) (map note_of ps) (All-permutation (IsFound notes) notes (map note_of ps) (IsPermutation-sym (map note_of ps) notes h.same) (All-from_recursion (IsFound notes) notes (each_found notes h.rising))))
+    (recursion_from_All (IsFound notes) (map note_of ps)
+    (All-permutation (IsFound notes) notes (map note_of ps) (IsPermutation-sym (map note_of ps) notes h.same)
+    (All-from_recursion (IsFound notes) notes (each_found notes h.rising))))
 
 pub kept_as_many : (ps : List Placed) (notes : Notes) → AreKept ps notes → length notes ≡ length ps
 kept_as_many ps notes h = length_permutation (map note_of ps) notes h.same ∙ length-map ps note_of

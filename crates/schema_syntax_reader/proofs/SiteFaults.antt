@@ -10,7 +10,8 @@ use Rattle.schema_syntax_reader.specs.declared.stopped.Stopped.{Stopped}
 use Rattle.schema_syntax_reader.specs.declared.stopped.Stopped.TheVariants.{Memory, User}
 use Rattle.schema_syntax_reader.specs.Sites.{Site, word, text, annotations, empty}
 use Rattle.schema_syntax_reader.specs.Leaves.{word_at}
-use Rattle.schema_syntax_reader.specs.UserFaults.{FaultAt, IsBadEscapeAt, empty_list, reserved, escape, note_escape, duplicate}
+use Rattle.schema_syntax_reader.specs.UserFaults.{FaultAt, IsBadEscapeAt, empty_list, reserved, escape, note_escape}
+use Rattle.schema_syntax_reader.specs.UserFaults.{duplicate}
 use Rattle.schema_syntax_reader.specs.Placed.{NoSiteFault}
 use Rattle.schema_syntax_reader.specs.Stops.{IsFaultOf, IsStoppedAt, IsReservedStop, IsEscapeStop, NoBadEscapeAt}
 
@@ -49,8 +50,29 @@ pub end_of : (source : List ℕ) (site : Site) (fault : UserError) (end : ℕ) �
 end_of source _ _ _ (empty_list brackets) = refl
 end_of source _ _ _ (reserved t h) = (h, refl)
 end_of source _ _ _ (escape t at bad) = ((at, bad), refl)
-end_of source _ _ _ (note_escape {list} front back key t at split bad) = inl (record { front = front; here = record { key = key; value = Some t }; back = back; value = t; at = at; split = split; has = refl; bad = bad; ends = refl })
-end_of source _ _ _ (duplicate {list} front middle back first second key split is_first is_second o p) = inr (record { front = front; first = first; middle = middle; second = second; back = back; split = split; same = is_first ∙ sym is_second; ends = refl })
+end_of source _ _ _ (note_escape {list} front back key t at split bad) =
+    inl (record {
+      front = front;
+      here = record { key = key; value = Some t };
+      back = back;
+      value = t;
+      at = at;
+      split = split;
+      has = refl;
+      bad = bad;
+      ends = refl;
+    })
+end_of source _ _ _ (duplicate {list} front middle back first second key split is_first is_second o p) =
+    inr (record {
+      front = front;
+      first = first;
+      middle = middle;
+      second = second;
+      back = back;
+      split = split;
+      same = is_first ∙ sym is_second;
+      ends = refl;
+    })
 
 pub word_stopped : (source : List ℕ) (t : Token) (e : Stopped) → IsReservedStop source t e
     → IsStoppedAt source (word t) e
@@ -62,7 +84,8 @@ word_stopped source t (User fault) h = record {
 }
 
 pub word_lawful : (source : List ℕ) (t : Token) → is_reserved (word_at source t) ≡ false → NoSiteFault source (word t)
-word_lawful source t free = λ fault end x. let e : false ≡ true = sym free ∙ (end_of source (word t) fault end x).0 in cc
+word_lawful source t free = λ fault end x. let e : false ≡ true = sym free
+    ∙ (end_of source (word t) fault end x).0 in cc
 
 pub text_stopped : (source : List ℕ) (t : Token) (e : Stopped) → IsEscapeStop source t e
     → IsStoppedAt source (text t) e

@@ -1,4 +1,5 @@
--- Building a tree from its syntax and from what its sites stand for, one leaf after the other. Only contracts inside the crate cite this.
+-- Building a tree from its syntax and from what its sites stand for, one leaf after the other. Only contracts inside
+-- the crate cite this.
 use Rattle.std.specs.Prelude.{◌≡◌, ℕ, ◌-◌, length, take, List, [], ◌∷◌, ◌++◌, Option, Some, None, Result, Ok, Err}
 use Rattle.cedar_data.specs.Span.{Span}
 use Rattle.cedar_data.specs.declared.node.Node.{Node}
@@ -141,16 +142,28 @@ BuiltAttribute = Node (Annotated AttrDecl)
 
 -- a type, and an attribute, from what builds their parts
 abbrev pub type_build : TypeSyntax-F (Builds (Node «Type»)) (Builds BuiltAttribute) → Builds (Node «Type»)
-type_build (TypeSyntax-F.Path p) leaves = path_from p leaves >>= λ q. Some (record { node = Ident q.0; loc = Some p.loc }, q.1)
-type_build (TypeSyntax-F.Set element loc) leaves = element leaves >>= λ n. Some (record { node = Set n.0; loc = Some loc }, n.1)
-type_build (TypeSyntax-F.Record attrs loc) leaves = all_from (λ attr. attr) attrs leaves >>= λ xs. Some (record { node = Record xs.0; loc = Some loc }, xs.1)
+type_build (TypeSyntax-F.Path p) leaves =
+    path_from p leaves >>= λ q. Some (record { node = Ident q.0; loc = Some p.loc }, q.1)
+type_build (TypeSyntax-F.Set element loc) leaves =
+    element leaves >>= λ n. Some (record { node = Set n.0; loc = Some loc }, n.1)
+type_build (TypeSyntax-F.Record attrs loc) leaves =
+    all_from (λ attr. attr) attrs leaves >>= λ xs. Some (record { node = Record xs.0; loc = Some loc }, xs.1)
 
 abbrev pub attr_build : AttrSyntax-F (Builds (Node «Type»)) (Builds BuiltAttribute) → Builds BuiltAttribute
 attr_build a leaves = do
   notes ← notes_from leaves
   name ← name_node_from a.name notes.1
   ty ← a.ty name.1
-  Some (record { node = record { item = roll-AttrDecl (record { name = name.0; required = a.required; ty = ty.0 }); annotations = notes.0 }; loc = Some a.loc }, ty.1)
+  Some (
+    record {
+      node = record {
+        item = roll-AttrDecl (record { name = name.0; required = a.required; ty = ty.0 });
+        annotations = notes.0;
+      };
+      loc = Some a.loc;
+    },
+    ty.1,
+  )
 
 -- of a type, and of an attribute
 unfoldable pub type_from : TypeSyntax → Builds (Node «Type»)
@@ -169,13 +182,24 @@ tags_from (Some t) leaves = type_from t leaves >>= λ n. Some (Some n.0, n.1)
 
 -- a member of an `appliesTo` block
 unfoldable pub app_from : AppSyntax → Builds (Node AppDecl)
-app_from (Types w paths loc) leaves = optional_from path_from paths leaves >>= λ ps. Some (record { node = app.PR (record { kind = record { node = role_of w.kind; loc = Some w.loc }; entity_tys = ps.0 }); loc = Some loc }, ps.1)
-app_from (ContextPath p loc) leaves = path_from p leaves >>= λ q. Some (record { node = app.Context (Left q.0); loc = Some loc }, q.1)
-app_from (ContextRecord attrs record_loc loc) leaves = all_from attr_from attrs leaves >>= λ xs. Some (record { node = app.Context (Right (record { node = xs.0; loc = Some record_loc })); loc = Some loc }, xs.1)
+app_from (Types w paths loc) leaves =
+    optional_from path_from paths leaves >>= λ ps. Some (
+      record {
+        node = app.PR (record { kind = record { node = role_of w.kind; loc = Some w.loc }; entity_tys = ps.0 });
+        loc = Some loc;
+      },
+      ps.1,
+    )
+app_from (ContextPath p loc) leaves =
+    path_from p leaves >>= λ q. Some (record { node = app.Context (Left q.0); loc = Some loc }, q.1)
+app_from (ContextRecord attrs record_loc loc) leaves =
+    all_from attr_from attrs leaves >>= λ xs. Some
+    (record { node = app.Context (Right (record { node = xs.0; loc = Some record_loc })); loc = Some loc }, xs.1)
 
 unfoldable pub applies_from : Option (List AppSyntax × Span) → Builds (Option (Node (List (Node AppDecl))))
 applies_from None leaves = Some (None, leaves)
-applies_from (Some r) leaves = some_from app_from r.0 leaves >>= λ xs. Some (Some (record { node = xs.0; loc = Some r.1 }), xs.1)
+applies_from (Some r) leaves =
+    some_from app_from r.0 leaves >>= λ xs. Some (Some (record { node = xs.0; loc = Some r.1 }), xs.1)
 
 unfoldable pub entity_from : List Token → List PathSyntax → Option (List AttrSyntax × Span) → Option TypeSyntax
     → Builds Declaration
@@ -184,7 +208,10 @@ entity_from names parents shape tags leaves = do
   p ← all_from path_from parents n.1
   s ← shape_from shape p.1
   t ← tags_from tags s.1
-  Some (declaration.Entity (entity.Standard (record { names = n.0; member_of_types = p.0; attrs = s.0; tags = t.0 })), t.1)
+  Some (
+    declaration.Entity (entity.Standard (record { names = n.0; member_of_types = p.0; attrs = s.0; tags = t.0 })),
+    t.1,
+  )
 
 unfoldable pub enum_from : List Token → List Token → Builds Declaration
 enum_from names choices leaves = do
@@ -240,7 +267,10 @@ namespace_from p decls loc leaves = do
 
 -- a declaration outside of every namespace
 abbrev pub outside_namespace : Annotated (Node Declaration) → Annotated Namespace
-outside_namespace d = record { item = record { name = None; decls = d ∷ []; loc = None }; annotations = record { 0 = [] } }
+outside_namespace d = record {
+  item = record { name = None; decls = d ∷ []; loc = None };
+  annotations = record { 0 = [] };
+}
 
 unfoldable pub outside_from : DeclaredSyntax → Builds (Annotated Namespace)
 outside_from x leaves = declared_from x leaves >>= λ d. Some (outside_namespace d.0, d.1)

@@ -50,7 +50,8 @@ pub record IsTwice (annotations : List Placed) (fault : UserError) : Type 0 wher
   pub split : annotations ≡ (front ++ old ∷ middle) ++ new ∷ back
   pub apart : AllPairs HaveOtherKeys (front ++ old ∷ middle)
   pub again : placed_key new ≡ placed_key old
-  pub told : fault ≡ DuplicateAnnotations (placed_key new) (record { node = tt; loc = key_place old }) (record { node = tt; loc = key_place new })
+  pub told : fault ≡ DuplicateAnnotations (placed_key new) (record { node = tt; loc = key_place old })
+      (record { node = tt; loc = key_place new })
 
 -- why annotations are refused
 abbrev pub AreRefused : List Placed → AnnotationError → Type 0

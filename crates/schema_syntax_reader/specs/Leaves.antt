@@ -38,7 +38,8 @@ IsNoteValue text _ _ = ⊥
 
 -- the notes give the annotation's key its value
 abbrev pub HasNote : List ℕ → Notes → AnnotationSyntax → Type 0
-HasNote text notes a = (value : Option (List ℕ)) × (lookup (λ key. bytes_eq key.text (word_at text a.key)) notes ≡ Some value) × IsNoteValue text a.value value
+HasNote text notes a = (value : Option (List ℕ))
+    × (lookup (λ key. bytes_eq key.text (word_at text a.key)) notes ≡ Some value) × IsNoteValue text a.value value
 
 -- the notes are those of the annotations, by rising keys
 pub record AreNotes (text : List ℕ) (annotations : List AnnotationSyntax) (notes : Notes) : Type 0 where

@@ -42,7 +42,8 @@ IsReadOr source a p None = IsRead source a p
 IsReadOr source a p (Some fault) = IsKeyRead source a p × IsBadValue source a.value fault
 
 -- all are read up to the first value with a fault
-pub record AreReadTo (source : List ℕ) (list : List AnnotationSyntax) (read : List Placed) (fault : UserError) : Type 0 where
+pub record AreReadTo (source : List ℕ) (list : List AnnotationSyntax) (read : List Placed)
+    (fault : UserError) : Type 0 where
   pub front : List AnnotationSyntax
   pub here : AnnotationSyntax
   pub back : List AnnotationSyntax

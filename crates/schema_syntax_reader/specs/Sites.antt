@@ -14,7 +14,8 @@ use Rattle.schema_syntax_parser.specs.declared.syntax.AttrSyntax.{AttrSyntax}
 use Rattle.schema_syntax_parser.specs.declared.syntax.AppSyntax.{AppSyntax}
 use Rattle.schema_syntax_parser.specs.declared.syntax.AppSyntax.TheVariants.{Types, ContextPath, ContextRecord}
 use Rattle.schema_syntax_parser.specs.declared.syntax.DeclSyntax.{DeclSyntax}
-use Rattle.schema_syntax_parser.specs.declared.syntax.DeclSyntax.TheVariants.{Entity, Enum, ExternalEntity, Action, ExternalAction, Common}
+use Rattle.schema_syntax_parser.specs.declared.syntax.DeclSyntax.TheVariants.{Entity, Enum, ExternalEntity, Action}
+use Rattle.schema_syntax_parser.specs.declared.syntax.DeclSyntax.TheVariants.{ExternalAction, Common}
 use Rattle.schema_syntax_parser.specs.declared.syntax.DeclaredSyntax.{DeclaredSyntax}
 use Rattle.schema_syntax_parser.specs.declared.syntax.ItemSyntax.{ItemSyntax}
 use Rattle.schema_syntax_parser.specs.declared.syntax.ItemSyntax.TheVariants.{Namespace, Decl}
@@ -90,7 +91,8 @@ applies_sites None = []
 applies_sites (Some r) = apps_sites r.0 r.1
 
 abbrev pub decl_sites : DeclSyntax → List Site
-decl_sites (Entity names parents shape tags) = names_sites names ++ (paths_sites parents ++ (shape_sites shape ++ tags_sites tags))
+decl_sites (Entity names parents shape tags) =
+    names_sites names ++ (paths_sites parents ++ (shape_sites shape ++ tags_sites tags))
 decl_sites (Enum names choices brackets) = names_sites names ++ choices_sites choices brackets
 decl_sites (ExternalEntity names parents) = names_sites names ++ paths_sites parents
 decl_sites (Action names parents applies) = names_sites names ++ (paths_sites parents ++ applies_sites applies)

@@ -35,7 +35,9 @@ IsPlacedWord source t = IsPlaced source t × (is_word_kind t.kind ≡ true)
 -- a word is reserved
 abbrev pub IsReservedStop : List ℕ → Token → Stopped → Type 0
 IsReservedStop source t Memory = Unit {0}
-IsReservedStop source t (User fault) = (is_reserved (word_at source t) ≡ true) × (fault ≡ ReservedIdentifierUsed (record { node = word_at source t; loc = Some t.loc }))
+IsReservedStop source t (User fault) =
+    (is_reserved (word_at source t) ≡ true)
+    × (fault ≡ ReservedIdentifierUsed (record { node = word_at source t; loc = Some t.loc }))
 
 -- no backslash of the string begins no escape
 abbrev pub NoBadEscapeAt : List ℕ → Token → Type 0
@@ -44,4 +46,6 @@ NoBadEscapeAt source t = (at : ℕ) → IsBadEscapeAt source t at → ⊥
 -- a string has an unlawful escape
 abbrev pub IsEscapeStop : List ℕ → Token → Stopped → Type 0
 IsEscapeStop source t Memory = Unit {0}
-IsEscapeStop source t (User fault) = (at : ℕ) × IsBadEscapeAt source t at × (fault ≡ StringEscape (record { node = record { at = at } ∷ []; loc = Some t.loc }))
+IsEscapeStop source t (User fault) =
+    (at : ℕ) × IsBadEscapeAt source t at
+    × (fault ≡ StringEscape (record { node = record { at = at } ∷ []; loc = Some t.loc }))

@@ -79,7 +79,8 @@ module _ (text : List ℕ) where
 
   -- the last name of a reference is the id, and those before it are the path
   abbrev pub IsRefOf : PathSyntax → Node QualName → Type 0
-  IsRefOf p n = (front : List Token) × (last : Token) × (p.names ≡ front ++ last ∷ []) × IsNameOf last.kind last n.node.eid × IsTypeOfRef front n.node.path × (n.loc ≡ Some p.loc)
+  IsRefOf p n = (front : List Token) × (last : Token) × (p.names ≡ front ++ last ∷ [])
+      × IsNameOf last.kind last n.node.eid × IsTypeOfRef front n.node.path × (n.loc ≡ Some p.loc)
 
   mutual
     pub data IsTypeOf : TypeSyntax → Node «Type» → Type 0 where
@@ -92,10 +93,17 @@ module _ (text : List ℕ) where
 
     pub data AreAttrsOf : List AttrSyntax → List (Node (Annotated AttrDecl)) → Type 0 where
       none : AreAttrsOf [] []
-      more : {x : AttrSyntax} {xs : List AttrSyntax} {ys : List (Node (Annotated AttrDecl))} (name : Node (List ℕ)) (ty : Node «Type») (notes : Annotations)
+      more : {x : AttrSyntax} {xs : List AttrSyntax} {ys : List (Node (Annotated AttrDecl))} (name : Node (List ℕ))
+          (ty : Node «Type») (notes : Annotations)
           → IsNameNode (out-AttrSyntax x).name name → IsTypeOf (out-AttrSyntax x).ty ty
           → AreNotes text (out-AttrSyntax x).annotations notes.0 → AreAttrsOf xs ys
-          → AreAttrsOf (x ∷ xs) (record { node = record { item = roll-AttrDecl (record { name = name; required = (out-AttrSyntax x).required; ty = ty }); annotations = notes }; loc = Some (out-AttrSyntax x).loc } ∷ ys)
+          → AreAttrsOf (x ∷ xs) (record {
+            node = record {
+              item = roll-AttrDecl (record { name = name; required = (out-AttrSyntax x).required; ty = ty });
+              annotations = notes;
+            };
+            loc = Some (out-AttrSyntax x).loc;
+          } ∷ ys)
 
   -- the attributes of an entity type: none without a place where no record stands
   abbrev pub IsShapeOf : Option (List AttrSyntax × Span) → Node (List (Node (Annotated AttrDecl))) → Type 0
@@ -109,9 +117,20 @@ module _ (text : List ℕ) where
 
   -- a member of an `appliesTo` block
   abbrev pub IsAppOf : AppSyntax → Node AppDecl → Type 0
-  IsAppOf (Types w paths loc) n = (found : Option (List Path)) × (n ≡ record { node = app.PR (record { kind = record { node = role_of w.kind; loc = Some w.loc }; entity_tys = found }); loc = Some loc }) × IsOptional (AllZip IsPathOf) paths found
-  IsAppOf (ContextPath p loc) n = (path : Path) × (n ≡ record { node = app.Context (Left path); loc = Some loc }) × IsPathOf p path
-  IsAppOf (ContextRecord xs record_loc loc) n = (ys : List (Node (Annotated AttrDecl))) × (n ≡ record { node = app.Context (Right (record { node = ys; loc = Some record_loc })); loc = Some loc }) × AreAttrsOf xs ys
+  IsAppOf (Types w paths loc) n =
+      (found : Option (List Path)) × (n
+      ≡ record {
+        node = app.PR (record
+            { kind = record { node = role_of w.kind; loc = Some w.loc }; entity_tys = found });
+        loc = Some loc;
+      })
+      × IsOptional (AllZip IsPathOf) paths found
+  IsAppOf (ContextPath p loc) n =
+      (path : Path) × (n ≡ record { node = app.Context (Left path); loc = Some loc }) × IsPathOf p path
+  IsAppOf (ContextRecord xs record_loc loc) n =
+      (ys : List (Node (Annotated AttrDecl)))
+      × (n ≡ record { node = app.Context (Right (record { node = ys; loc = Some record_loc })); loc = Some loc })
+      × AreAttrsOf xs ys
 
   abbrev pub AppliesOf : Option (List AppSyntax × Span) → Option (Node (List (Node AppDecl))) → Type 0
   AppliesOf None found = found ≡ None
@@ -119,21 +138,33 @@ module _ (text : List ℕ) where
   AppliesOf (Some r) (Some n) = AllZip IsAppOf r.0 n.node × (n.loc ≡ Some r.1)
 
   abbrev pub IsDeclOf : DeclSyntax → Declaration → Type 0
-  IsDeclOf (decl.Entity names parents shape tags) (declaration.Entity (entity.Standard d)) = AllZip IsIdNode names d.names × AllZip IsPathOf parents d.member_of_types × IsShapeOf shape d.attrs × AreTagsOf tags d.tags
-  IsDeclOf (decl.Enum names choices brackets) (declaration.Entity (entity.Enum d)) = AllZip IsIdNode names d.names × AllZip IsChoice choices d.choices
-  IsDeclOf (decl.ExternalEntity names parents) (declaration.Entity (entity.External d)) = AllZip IsIdNode names d.names × AllZip IsPathOf parents d.member_of_types
-  IsDeclOf (decl.Action names parents applies) (declaration.Action (action.Defined d)) = AllZip IsNameNode names d.names × IsOptional (AllZip IsRefOf) parents d.parents × AppliesOf applies d.app_decls
-  IsDeclOf (decl.ExternalAction names parents) (declaration.Action (action.External d)) = AllZip IsNameNode names d.names × IsOptional (AllZip IsRefOf) parents d.parents
+  IsDeclOf (decl.Entity names parents shape tags) (declaration.Entity (entity.Standard d)) =
+      AllZip IsIdNode names d.names × AllZip IsPathOf parents d.member_of_types × IsShapeOf shape d.attrs
+      × AreTagsOf tags d.tags
+  IsDeclOf (decl.Enum names choices brackets) (declaration.Entity (entity.Enum d)) =
+      AllZip IsIdNode names d.names × AllZip IsChoice choices d.choices
+  IsDeclOf (decl.ExternalEntity names parents) (declaration.Entity (entity.External d)) =
+      AllZip IsIdNode names d.names × AllZip IsPathOf parents d.member_of_types
+  IsDeclOf (decl.Action names parents applies) (declaration.Action (action.Defined d)) =
+      AllZip IsNameNode names d.names × IsOptional (AllZip IsRefOf) parents d.parents × AppliesOf applies d.app_decls
+  IsDeclOf (decl.ExternalAction names parents) (declaration.Action (action.External d)) =
+      AllZip IsNameNode names d.names × IsOptional (AllZip IsRefOf) parents d.parents
   IsDeclOf (decl.Common name ty) (declaration.Common d) = IsIdNode name d.name × IsTypeOf ty d.def
   IsDeclOf _ _ = ⊥
 
   abbrev pub IsDeclaredOf : DeclaredSyntax → Annotated (Node Declaration) → Type 0
-  IsDeclaredOf x a = IsDeclOf x.decl a.item.node × (a.item.loc ≡ Some x.loc) × AreNotes text x.annotations a.annotations.0
+  IsDeclaredOf x a = IsDeclOf x.decl a.item.node × (a.item.loc ≡ Some x.loc)
+      × AreNotes text x.annotations a.annotations.0
 
   -- A namespace. A declaration outside of every one is alone in a namespace without name, place and annotations.
   abbrev pub IsItemOf : ItemSyntax → Annotated Namespace → Type 0
-  IsItemOf (item.Namespace notes p decls loc) a = (path : Path) × (ds : List (Annotated (Node Declaration))) × (a.item ≡ record { name = Some path; decls = ds; loc = Some loc }) × IsPathOf p path × AllZip IsDeclaredOf decls ds × AreNotes text notes a.annotations.0
-  IsItemOf (item.Decl x) a = (d : Annotated (Node Declaration)) × (a ≡ record { item = record { name = None; decls = d ∷ []; loc = None }; annotations = record { 0 = [] } }) × IsDeclaredOf x d
+  IsItemOf (item.Namespace notes p decls loc) a =
+      (path : Path) × (ds : List (Annotated (Node Declaration)))
+      × (a.item ≡ record { name = Some path; decls = ds; loc = Some loc }) × IsPathOf p path
+      × AllZip IsDeclaredOf decls ds × AreNotes text notes a.annotations.0
+  IsItemOf (item.Decl x) a = (d : Annotated (Node Declaration))
+      × (a ≡ record { item = record { name = None; decls = d ∷ []; loc = None }; annotations = record { 0 = [] } })
+      × IsDeclaredOf x d
 
   abbrev pub IsTreeOf : List ItemSyntax → List (Annotated Namespace) → Type 0
   IsTreeOf items schema = AllZip IsItemOf items schema

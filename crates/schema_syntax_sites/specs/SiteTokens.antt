@@ -7,7 +7,8 @@ use Rattle.schema_syntax_tokens.specs.declared.token.Token.{Token}
 use Rattle.schema_syntax_reader.specs.Placed.{note_tokens}
 use Rattle.schema_syntax_reader.specs.Sites.{Site, word, text, annotations, empty}
 
--- the tokens of a site: the name or the string, and of annotations each key and each value; a list without items has none
+-- the tokens of a site: the name or the string, and of annotations each key and each value; a list without items has
+-- none
 abbrev pub site_tokens : Site → List Token
 site_tokens (word t) = t ∷ []
 site_tokens (text t) = t ∷ []

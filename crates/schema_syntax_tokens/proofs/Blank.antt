@@ -1,12 +1,14 @@
 -- Blanks: what the first one is, and what follows it.
-use Rattle.std.proofs.Common.{◌≡◌, ℕ, zero, suc, ◌+◌, ◌<◌, ◌≤◌, true, false, List, [], ◌∷◌, ◌++◌, length, take, drop, get_or, refl, sym, ap, ◌∙◌, subst, inl, inr, ◌⊎◌, arith, add-zero}
+use Rattle.std.proofs.Common.{◌≡◌, ℕ, zero, suc, ◌+◌, ◌<◌, ◌≤◌, true, false, List, [], ◌∷◌, ◌++◌, length, take, drop}
+use Rattle.std.proofs.Common.{get_or, refl, sym, ap, ◌∙◌, subst, inl, inr, ◌⊎◌, arith, add-zero}
 use Rattle.std.specs.List.{All}
 use Rattle.std.specs.Char.{is_whitespace, encode_utf8}
 use Rattle.std.specs.Str.{IsUtf8, IsCharBoundary}
 use Rattle.std.proofs.lemmas.List.{take-append-drop, length-append, length-drop, get_or-drop, drop_at}
 use Rattle.std.proofs.lemmas.List.Elements.{All-tail}
 use Rattle.std.proofs.lemmas.Bool.{cases_lt}
-use Rattle.std.proofs.lemmas.Str.{encode_same, length-encode, len_utf8_bounds, IsCharBoundary-end, IsCharBoundary-before_ascii, IsUtf8-past_char, IsUtf8-drop}
+use Rattle.std.proofs.lemmas.Str.{encode_same, length-encode, len_utf8_bounds, IsCharBoundary-end}
+use Rattle.std.proofs.lemmas.Str.{IsCharBoundary-before_ascii, IsUtf8-past_char, IsUtf8-drop}
 use Rattle.schema_syntax_tokens.specs.Scans.{IsInLine, EndsLine, IsComment, IsBlank, NoBlank, IsPastBlank, Skips}
 use Rattle.schema_syntax_tokens.specs.Scans.Skips.{none, more}
 use Rattle.schema_syntax_tokens.specs.Steps.{StartsComment}
@@ -89,7 +91,8 @@ utf8_past b after u (inr s) =
     let e : drop (length b) (b ++ after) ≡ after = drop_at b after (length b) refl in
     let stop : EndsLine (drop (length b) (b ++ after)) = subst (λ t. EndsLine t) (sym e) s.3 in
     let l : length b ≤ length (b ++ after) = omega (arith, length-append b after) in
-    subst (λ t. IsUtf8 t) e (IsUtf8-drop (b ++ after) (length b) u (boundary_at_line_end (b ++ after) (length b) l stop))
+    subst (λ t. IsUtf8 t) e (IsUtf8-drop (b ++ after) (length b) u
+    (boundary_at_line_end (b ++ after) (length b) l stop))
 
 -- what follows a blank is text
 pub IsUtf8-past_blank : (rest after : List ℕ) → IsUtf8 rest → IsPastBlank rest after → IsUtf8 after

@@ -1,5 +1,6 @@
 -- Bodies of strings, and where the first one ends.
-use Rattle.std.proofs.Common.{◌≡◌, ◌≢◌, ℕ, ◌+◌, ◌<◌, ◌≤◌, List, [], ◌∷◌, ◌++◌, length, take, drop, get_or, refl, sym, ap, ◌∙◌, inl, inr, arith}
+use Rattle.std.proofs.Common.{◌≡◌, ◌≢◌, ℕ, ◌+◌, ◌<◌, ◌≤◌, List, [], ◌∷◌, ◌++◌, length, take, drop, get_or, refl, sym}
+use Rattle.std.proofs.Common.{ap, ◌∙◌, inl, inr, arith}
 use Rattle.std.proofs.lemmas.List.{append_assoc, take_more, drop_more, drop_all}
 use Rattle.schema_syntax_tokens.specs.Forms.{IsPlain, IsBody, NoBody, IsBodyEnd}
 
@@ -63,7 +64,8 @@ NoBody-nil (b ∷ bs) after h e = cc
 no_plain : (b : ℕ) (bs after : List ℕ) {body : List ℕ} → IsPlain b → NoBody bs → Body body
     → b ∷ bs ≡ body ++ 34 ∷ after → ⊥
 no_plain b bs after p n none e = let h : b ≡ 34 = cc in p.0 h
-no_plain b bs after p n (plain {b = c} {bs = cs} q k) e = let h : bs ≡ cs ++ 34 ∷ after = cc in n cs after (from_pieces k) h
+no_plain b bs after p n (plain {b = c} {bs = cs} q k) e =
+    let h : bs ≡ cs ++ 34 ∷ after = cc in n cs after (from_pieces k) h
 no_plain b bs after p n (escaped {b = c} q m k) e = let h : b ≡ c = cc in p.1 (h ∙ q)
 
 pub NoBody-plain : (b : ℕ) (bs : List ℕ) → IsPlain b → NoBody bs → NoBody (b ∷ bs)
@@ -73,7 +75,8 @@ no_escaped : (b c : ℕ) (bs after : List ℕ) {body : List ℕ} → b ≡ 92 �
     → b ∷ c ∷ bs ≡ body ++ 34 ∷ after → ⊥
 no_escaped b c bs after p n none e = let h : b ≡ 34 = cc in omega arith
 no_escaped b c bs after p n (plain {b = d} q k) e = let h : b ≡ d = cc in q.1 (sym h ∙ p)
-no_escaped b c bs after p n (escaped {b = d} {c = f} {bs = fs} q m k) e = let h : bs ≡ fs ++ 34 ∷ after = cc in n fs after (from_pieces k) h
+no_escaped b c bs after p n (escaped {b = d} {c = f} {bs = fs} q m k) e =
+    let h : bs ≡ fs ++ 34 ∷ after = cc in n fs after (from_pieces k) h
 
 pub NoBody-escaped : (b c : ℕ) (bs : List ℕ) → b ≡ 92 → NoBody bs → NoBody (b ∷ c ∷ bs)
 NoBody-escaped b c bs p n body after h e = no_escaped b c bs after p n (pieces body h) e
@@ -110,7 +113,8 @@ HasPieces-plain rest at h l p q =
     record {
       in_range = omega arith;
       body = rw (take_more rest at 0 l) (IsBody-append (take at rest) (get_or rest at 0 ∷ []) h.body (p, q));
-      none_there = λ n. h.none_there (rw (drop_more rest at 0 l) (NoBody-plain (get_or rest at 0) (drop (at + 1) rest) (p, q) n));
+      none_there = λ n. h.none_there
+          (rw (drop_more rest at 0 l) (NoBody-plain (get_or rest at 0) (drop (at + 1) rest) (p, q) n));
     }
 
 two_more : (rest : List ℕ) (at : ℕ) → at + 1 < length rest
@@ -125,9 +129,11 @@ two_taken : (rest : List ℕ) (at : ℕ) → at + 1 < length rest
     → take (at + 2) rest ≡ take at rest ++ (get_or rest at 0 ∷ get_or rest (at + 1) 0 ∷ [])
 two_taken rest at l =
     let e : take (at + 1) rest ≡ take at rest ++ (get_or rest at 0 ∷ []) = take_more rest at 0 (omega arith) in
-    let f : take (at + 1 + 1) rest ≡ take (at + 1) rest ++ (get_or rest (at + 1) 0 ∷ []) = take_more rest (at + 1) 0 l in
+    let f : take (at + 1 + 1) rest ≡ take (at + 1) rest
+    ++ (get_or rest (at + 1) 0 ∷ []) = take_more rest (at + 1) 0 l in
     let g : at + 2 ≡ at + 1 + 1 = omega arith in
-    ap (λ n. take n rest) g ∙ f ∙ ap (λ t. t ++ (get_or rest (at + 1) 0 ∷ [])) e ∙ append_assoc (take at rest) (get_or rest at 0 ∷ []) (get_or rest (at + 1) 0 ∷ [])
+    ap (λ n. take n rest) g ∙ f ∙ ap (λ t. t ++ (get_or rest (at + 1) 0 ∷ [])) e
+    ∙ append_assoc (take at rest) (get_or rest at 0 ∷ []) (get_or rest (at + 1) 0 ∷ [])
 
 pub HasPieces-escaped : (rest : List ℕ) (at : ℕ) → HasPieces rest at → at + 1 < length rest → get_or rest at 0 ≡ 92
     → get_or rest (at + 1) 0 ≢ 10 → HasPieces rest (at + 2)
@@ -135,8 +141,11 @@ HasPieces-escaped rest at h l p q =
     let one : IsBody (get_or rest at 0 ∷ get_or rest (at + 1) 0 ∷ []) = inr (p, q, tt) in
     record {
       in_range = omega arith;
-      body = rw (two_taken rest at l) (IsBody-append (take at rest) (get_or rest at 0 ∷ get_or rest (at + 1) 0 ∷ []) h.body one);
-      none_there = λ n. h.none_there (rw (two_more rest at l) (NoBody-escaped (get_or rest at 0) (get_or rest (at + 1) 0) (drop (at + 2) rest) p n));
+      body = rw (two_taken rest at l)
+          (IsBody-append (take at rest) (get_or rest at 0 ∷ get_or rest (at + 1) 0 ∷ []) h.body one);
+      none_there = λ n. h.none_there
+          (rw (two_more rest at l) (NoBody-escaped (get_or rest at 0) (get_or rest (at + 1) 0)
+          (drop (at + 2) rest) p n));
     }
 
 pub HasPieces-quote : (rest : List ℕ) (at : ℕ) → HasPieces rest at → at < length rest → get_or rest at 0 ≡ 34
@@ -152,7 +161,9 @@ HasPieces-lone rest at h l m p =
 
 pub HasPieces-line_end : (rest : List ℕ) (at : ℕ) → HasPieces rest at → at + 1 < length rest → get_or rest at 0 ≡ 92
     → get_or rest (at + 1) 0 ≡ 10 → NoBody rest
-HasPieces-line_end rest at h l p q = h.none_there (rw (two_more rest at l) (NoBody-line_end (get_or rest at 0) (get_or rest (at + 1) 0) (drop (at + 2) rest) p q))
+HasPieces-line_end rest at h l p q =
+    h.none_there (rw (two_more rest at l)
+    (NoBody-line_end (get_or rest at 0) (get_or rest (at + 1) 0) (drop (at + 2) rest) p q))
 
 pub HasPieces-all : (rest : List ℕ) (at : ℕ) → HasPieces rest at → length rest ≤ at → NoBody rest
 HasPieces-all rest at h l = h.none_there (rw (drop_all at rest l) NoBody-nil)

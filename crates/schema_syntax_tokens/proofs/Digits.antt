@@ -1,5 +1,7 @@
 -- The places of `\u{..}`: hex digits, and `_` among them.
-use Rattle.std.proofs.Common.{◌≡◌, ◌≢◌, ℕ, zero, suc, ◌+◌, ◌*◌, ◌^◌, ◌<◌, ◌≤◌, Bool, true, false, cond, not, ◌==◌, List, [], ◌∷◌, ◌++◌, length, take, drop, get_or, refl, sym, ap, ◌∙◌, subst, inl, inr, arith, lit≤}
+use Rattle.std.proofs.Common.{◌≡◌, ◌≢◌, ℕ, zero, suc, ◌+◌, ◌*◌, ◌^◌, ◌<◌, ◌≤◌, Bool, true, false, cond, not, ◌==◌, List}
+use Rattle.std.proofs.Common.{[], ◌∷◌, ◌++◌, length, take, drop, get_or, refl, sym, ap, ◌∙◌, subst, inl, inr, arith}
+use Rattle.std.proofs.Common.{lit≤}
 use Rattle.std.specs.List.{AllPass, prefix_len}
 use Rattle.std.specs.Char.{is_digit, digit_value, IsScalar}
 use Rattle.std.proofs.lemmas.List.{take-append-drop, length-append, append-nil, take_all, take_at, get_or_at}
@@ -30,13 +32,15 @@ other_dropped d p n = elim (or_cases (is_digit d 16) (d == 95) p) [ inl h ↦ ab
 digits_more : (places : List ℕ) (at : ℕ) → at < length places → is_digit (get_or places at 0) 16 ≡ true
     → digits_of (take (at + 1) places) ≡ digits_of (take at places) ++ get_or places at 0 ∷ []
 digits_more places at l h =
-    filter_more (λ b. not (b == 95)) places at 0 l ∙ ap (λ t. digits_of (take at places) ++ cond t (get_or places at 0 ∷ []) []) (digit_kept (get_or places at 0) h)
+    filter_more (λ b. not (b == 95)) places at 0 l
+    ∙ ap (λ t. digits_of (take at places) ++ cond t (get_or places at 0 ∷ []) []) (digit_kept (get_or places at 0) h)
 
 digits_same : (places : List ℕ) (at : ℕ) → at < length places → is_place (get_or places at 0) ≡ true
     → (is_digit (get_or places at 0) 16 ≡ true → ⊥) → digits_of (take (at + 1) places) ≡ digits_of (take at places)
 digits_same places at l p n =
     filter_more (λ b. not (b == 95)) places at 0 l
-    ∙ (ap (λ t. digits_of (take at places) ++ cond t (get_or places at 0 ∷ []) []) (other_dropped (get_or places at 0) p n) ∙ append-nil (digits_of (take at places)))
+    ∙ (ap (λ t. digits_of (take at places) ++ cond t (get_or places at 0 ∷ []) [])
+    (other_dropped (get_or places at 0) p n) ∙ append-nil (digits_of (take at places)))
 
 -- what is known of the places before at
 pub record HasDigits (places : List ℕ) (at digits v : ℕ) : Type 0 where
@@ -47,7 +51,8 @@ pub record HasDigits (places : List ℕ) (at digits v : ℕ) : Type 0 where
   pub first : 0 < at → is_digit (get_or places 0 0) 16 ≡ true
 
 pub HasDigits-none : (places : List ℕ) → HasDigits places 0 0 0
-HasDigits-none places = record { count = refl; few = omega arith; value = refl; bound = omega arith; first = λ h. absurd (omega arith) }
+HasDigits-none places = record
+    { count = refl; few = omega arith; value = refl; bound = omega arith; first = λ h. absurd (omega arith) }
 
 bound_more : (v d x : ℕ) → v < 16 ^ d → x < 16 → v * 16 + x < 16 ^ (d + 1)
 bound_more v d x h l = omega (arith, pow_more 16 d)
@@ -71,9 +76,17 @@ HasDigits-digit places at digits value x h l f d e =
     let more = digits_more places at l d in
     let small : x < 16 = omega (arith, e, ltb-true (digit_value (get_or places at 0)) 16 d) in
     record {
-      count = omega (arith, h.count, ap length more, length-append (digits_of (take at places)) (get_or places at 0 ∷ []));
+      count = omega (
+        arith,
+        h.count,
+        ap length more,
+        length-append (digits_of (take at places))
+            (get_or places at 0 ∷ []),
+      );
       few = omega arith;
-      value = ap (λ v. v * 16 + x) h.value ∙ (ap (λ y. hex_value 0 (digits_of (take at places)) * 16 + y) e ∙ (sym (hex_value-push 0 (digits_of (take at places)) (get_or places at 0)) ∙ ap (hex_value 0) (sym more)));
+      value = ap (λ v. v * 16 + x) h.value
+          ∙ (ap (λ y. hex_value 0 (digits_of (take at places)) * 16 + y) e
+          ∙ (sym (hex_value-push 0 (digits_of (take at places)) (get_or places at 0)) ∙ ap (hex_value 0) (sym more)));
       bound = bound_more value digits x h.bound small;
       first = λ _. first_digit at h.first d;
     }
@@ -112,9 +125,14 @@ HasDigits-all places at digits value h a l s =
 pub too_many : (places : List ℕ) (at value : ℕ) → HasDigits places at 6 value → at < length places
     → is_digit (get_or places at 0) 16 ≡ true → NoPlaces places
 too_many places at value h l d a =
-    let more : length (digits_of (take (at + 1) places)) ≡ length (digits_of (take at places)) + 1 = ap length (digits_more places at l d) ∙ length-append (digits_of (take at places)) (get_or places at 0 ∷ []) in
-    let whole : length (digits_of places) ≡ length (digits_of (take (at + 1) places)) + length (digits_of (drop (at + 1) places)) =
-    ap (λ t. length (digits_of t)) (sym (take-append-drop (at + 1) places)) ∙ (ap length (filter-append (λ b. not (b == 95)) (take (at + 1) places) (drop (at + 1) places)) ∙ length-append (digits_of (take (at + 1) places)) (digits_of (drop (at + 1) places))) in
+    let more : length (digits_of (take (at + 1) places))
+    ≡ length (digits_of (take at places)) + 1 = ap length (digits_more places at l d)
+    ∙ length-append (digits_of (take at places)) (get_or places at 0 ∷ []) in
+    let whole : length (digits_of places)
+    ≡ length (digits_of (take (at + 1) places)) + length (digits_of (drop (at + 1) places)) =
+    ap (λ t. length (digits_of t)) (sym (take-append-drop (at + 1) places))
+    ∙ (ap length (filter-append (λ b. not (b == 95)) (take (at + 1) places) (drop (at + 1) places))
+    ∙ length-append (digits_of (take (at + 1) places)) (digits_of (drop (at + 1) places))) in
     omega (arith, h.count, a.few)
 
 pub no_first : (places : List ℕ) → (is_digit (get_or places 0 0) 16 ≡ true → ⊥) → NoPlaces places
@@ -130,7 +148,8 @@ pub prefix_len-places : (places after : List ℕ) → AllPass is_place places
 prefix_len-places [] after h = refl
 prefix_len-places (b ∷ bs) after h =
     let e : is_place b ≡ true = All-head (λ x. is_place x ≡ true) b bs h in
-    ap (λ t. cond t (1 + prefix_len is_place (bs ++ 125 ∷ after)) 0) e ∙ omega (arith, prefix_len-places bs after (All-tail (λ x. is_place x ≡ true) b bs h))
+    ap (λ t. cond t (1 + prefix_len is_place (bs ++ 125 ∷ after)) 0) e
+    ∙ omega (arith, prefix_len-places bs after (All-tail (λ x. is_place x ≡ true) b bs h))
 
 -- all that a brace behind places tells of the bytes
 pub places_cut : (rest places after : List ℕ) (n : ℕ) → n ≡ prefix_len is_place rest → rest ≡ places ++ 125 ∷ after
@@ -149,9 +168,11 @@ pub no_braced_byte : (rest : List ℕ) (n : ℕ) → n ≡ prefix_len is_place r
 no_braced_byte rest n e l places after h a s = l (places_cut rest places after n e h a).1
 
 pub no_braced_places : (rest : List ℕ) (n : ℕ) → n ≡ prefix_len is_place rest → NoPlaces (take n rest) → NoBraced rest
-no_braced_places rest n e l places after h a s = l (subst (λ t. ArePlaces t) (sym (places_cut rest places after n e h a).2) a)
+no_braced_places rest n e l places after h a s =
+    l (subst (λ t. ArePlaces t) (sym (places_cut rest places after n e h a).2) a)
 
 pub no_braced_scalar : (rest : List ℕ) (n v : ℕ) → n ≡ prefix_len is_place rest
     → v ≡ hex_value 0 (digits_of (take n rest)) → (IsScalar v → ⊥) → NoBraced rest
 no_braced_scalar rest n v e f l places after h a s =
-    l (subst (λ t. IsScalar t) (sym (f ∙ ap (λ t. hex_value 0 (digits_of t)) (places_cut rest places after n e h a).2)) s)
+    l (subst (λ t. IsScalar t) (sym
+    (f ∙ ap (λ t. hex_value 0 (digits_of t)) (places_cut rest places after n e h a).2)) s)

@@ -1,5 +1,6 @@
 -- Tokens end in an ASCII byte, so the text may be cut behind them.
-use Rattle.std.proofs.Common.{◌≡◌, ℕ, ◌+◌, ◌<◌, ◌≤◌, true, not, ◌&&◌, ◌==◌, List, [], ◌∷◌, ◌++◌, length, take, get_or, Some, refl, sym, ap, ◌∙◌, subst, inl, inr, arith, nat_lt}
+use Rattle.std.proofs.Common.{◌≡◌, ℕ, ◌+◌, ◌<◌, ◌≤◌, true, not, ◌&&◌, ◌==◌, List, [], ◌∷◌, ◌++◌, length, take, get_or}
+use Rattle.std.proofs.Common.{Some, refl, sym, ap, ◌∙◌, subst, inl, inr, arith, nat_lt}
 use Rattle.std.specs.List.{AllPass}
 use Rattle.std.specs.Char.{is_whitespace}
 use Rattle.std.specs.Str.{IsUtf8, IsCharBoundary}
@@ -23,13 +24,15 @@ part_ascii b h = grind (arith, nat_tests)
 
 pub mark_ascii : (b : ℕ) → may_be_mark b ≡ true → b < 128
 mark_ascii b h =
-    let p = and_parts (not (is_word_start b) && not (b == 34)) ((not (b == 47) && not (is_whitespace b)) && nat_lt b 128) h in
+    let p = and_parts (not (is_word_start b) && not (b == 34))
+    ((not (b == 47) && not (is_whitespace b)) && nat_lt b 128) h in
     ltb-true b 128 (and_parts (not (b == 47) && not (is_whitespace b)) (nat_lt b 128) p.1).1
 
 parts_end : (b : ℕ) (bs : List ℕ) → is_word_part b ≡ true → AllPass is_word_part bs → EndsAscii (b ∷ bs)
 parts_end b [] p h = ([], b, refl, part_ascii b p)
 parts_end b (c ∷ bs) p h =
-    let r = parts_end c bs (All-head (λ x. is_word_part x ≡ true) c bs h) (All-tail (λ x. is_word_part x ≡ true) c bs h) in
+    let r = parts_end c bs (All-head (λ x. is_word_part x ≡ true) c bs h)
+    (All-tail (λ x. is_word_part x ≡ true) c bs h) in
     (b ∷ r.0, r.1, ap (λ t. b ∷ t) r.2, r.3)
 
 mark_end : (w : List ℕ) (k : TokenKind) → mark_kind w ≡ Some k → EndsAscii w
@@ -51,8 +54,10 @@ boundary_after rest n u l h =
     let m : n ≡ length h.0 + 1 = omega (arith, size, length-take-le n rest l) in
     let in_front : length h.0 < n = omega arith in
     let e : get_or rest (length h.0) 0 ≡ h.1 =
-    sym (get_or-take n rest (length h.0) 0 in_front) ∙ (ap (λ t. get_or t (length h.0) 0) h.2 ∙ get_or_at h.0 h.1 [] 0 (length h.0) refl) in
-    subst (λ k. IsCharBoundary rest k) (sym m) (IsCharBoundary-after_ascii rest (length h.0) u (omega arith) (omega (arith, e, h.3)))
+    sym (get_or-take n rest (length h.0) 0 in_front)
+    ∙ (ap (λ t. get_or t (length h.0) 0) h.2 ∙ get_or_at h.0 h.1 [] 0 (length h.0) refl) in
+    subst (λ k. IsCharBoundary rest k) (sym m)
+    (IsCharBoundary-after_ascii rest (length h.0) u (omega arith) (omega (arith, e, h.3)))
 
 -- the text may be cut behind its first token
 pub boundary_after_token : (rest : List ℕ) (k : TokenKind) (n : ℕ) → IsUtf8 rest → IsLongest rest k n

@@ -1,5 +1,6 @@
 -- What stands behind the first piece of a body.
-use Rattle.std.proofs.Common.{◌≡◌, ◌≢◌, ℕ, true, false, ◌&&◌, nat_eq, List, [], ◌∷◌, ◌++◌, length, take, drop, refl, sym, ap, ◌∙◌, subst, inl, inr, arith}
+use Rattle.std.proofs.Common.{◌≡◌, ◌≢◌, ℕ, true, false, ◌&&◌, nat_eq, List, [], ◌∷◌, ◌++◌, length, take, drop, refl}
+use Rattle.std.proofs.Common.{sym, ap, ◌∙◌, subst, inl, inr, arith}
 use Rattle.std.specs.Char.{encode_utf8}
 use Rattle.std.specs.List.{prefix_len}
 use Rattle.std.specs.Str.{IsUtf8, IsCharBoundary}
@@ -14,7 +15,8 @@ use Rattle.schema_syntax_tokens.proofs.Pieces.{HasUnescaped, HasUnescaped-plain,
 use Rattle.schema_syntax_tokens.proofs.Values.{some_and_none, same_piece, backslash_is}
 
 pub begins_escape : (rest after : List ℕ) (n c : ℕ) → IsEscapeTo rest n c → after ≡ drop n rest → Begins rest c after
-begins_escape rest after n c h e = (take n rest, inr h.escape, sym (take-append-drop n rest) ∙ ap (λ t. take n rest ++ t) (sym e))
+begins_escape rest after n c h e =
+    (take n rest, inr h.escape, sym (take-append-drop n rest) ∙ ap (λ t. take n rest ++ t) (sym e))
 
 pub no_piece_nil : (rest : List ℕ) → length rest ≡ 0 → NoPiece rest
 no_piece_nil [] l c piece after s e = some_and_none piece after c s e
@@ -22,7 +24,8 @@ no_piece_nil (b ∷ bs) l c piece after s e = absurd (omega arith)
 
 pub no_piece_stuck : (rest behind : List ℕ) → rest ≡ encode_utf8 92 ++ behind → NoEscape rest → NoPiece rest
 no_piece_stuck rest behind e n c piece after (inl s) f =
-    let first : encode_utf8 c ++ after ≡ 92 ∷ behind = ap (λ t. t ++ after) (sym s.0) ∙ (sym f ∙ (e ∙ ap (λ t. t ++ behind) (encode_ascii 92 (omega arith)))) in
+    let first : encode_utf8 c ++ after ≡ 92 ∷ behind = ap (λ t. t ++ after) (sym s.0)
+    ∙ (sym f ∙ (e ∙ ap (λ t. t ++ behind) (encode_ascii 92 (omega arith)))) in
     s.1 (backslash_is c after behind first)
 no_piece_stuck rest behind e n c piece after (inr s) f = n piece after c f s
 
@@ -77,8 +80,14 @@ pub AreLeft-more : (left right one other after behind : List ℕ) (c d : ℕ) �
 AreLeft-more left right one other after behind c d r a b e v w h k =
     let s = r v w h k in
     let x = value_some one after s.0 c a s.2 in
-    let y = value_some other behind s.1 d b s.3 in
-    (x.0, y.0, x.2, y.2, s.4 ∙ ((λ i. pointwise nat_eq (x.1 i) (y.1 i)) ∙ ap (λ t. t && pointwise nat_eq x.0 y.0) (eq-eqb c d e)))
+    let y = value_some other behind s.1 d b s.3 in (
+      x.0,
+      y.0,
+      x.2,
+      y.2,
+      s.4 ∙ ((λ i. pointwise nat_eq (x.1 i) (y.1 i))
+          ∙ ap (λ t. t && pointwise nat_eq x.0 y.0) (eq-eqb c d e)),
+    )
 
 -- the bytes up to the next backslash are gone over
 pub past_plain : (body rest plain after written : List ℕ) (n : ℕ) → IsUtf8 rest → HasUnescaped body rest written
@@ -86,11 +95,13 @@ pub past_plain : (body rest plain after written : List ℕ) (n : ℕ) → IsUtf8
     → HasUnescaped body after (written ++ plain) × IsUtf8 after
 past_plain body rest plain after written n u h e p a =
     let cut : IsCharBoundary rest n = boundary_at_backslash rest n e in (
-      HasUnescaped-plain body rest plain after written n h e p a (subst (λ t. IsUtf8 t) (sym p) (IsUtf8-take rest n u cut)),
+      HasUnescaped-plain body rest plain after written n h e p a
+          (subst (λ t. IsUtf8 t) (sym p) (IsUtf8-take rest n u cut)),
       subst (λ t. IsUtf8 t) (sym a) (IsUtf8-drop rest n u cut),
     )
 
 -- nothing is left
 pub all_gone : (body rest written : List ℕ) → HasUnescaped body rest written → length rest ≡ 0 → HasValue body
-all_gone body [] written h l = (h.value, subst (λ t. Unescapes t h.value) (sym (h.split ∙ append-nil h.front)) h.stands_for)
+all_gone body [] written h l =
+    (h.value, subst (λ t. Unescapes t h.value) (sym (h.split ∙ append-nil h.front)) h.stands_for)
 all_gone body (b ∷ bs) written h l = absurd (omega arith)

@@ -1,5 +1,6 @@
 -- Lawful escapes, by what the bytes begin with.
-use Rattle.std.proofs.Common.{◌≡◌, ℕ, zero, suc, ◌+◌, ◌<◌, true, cond, ◌==◌, List, [], ◌∷◌, ◌++◌, length, take, drop, get_or, Option, Some, refl, sym, ap, ◌∙◌, subst, inl, inr, arith, nat_lt, if◌then◌else◌}
+use Rattle.std.proofs.Common.{◌≡◌, ℕ, zero, suc, ◌+◌, ◌<◌, true, cond, ◌==◌, List, [], ◌∷◌, ◌++◌, length, take, drop}
+use Rattle.std.proofs.Common.{get_or, Option, Some, refl, sym, ap, ◌∙◌, subst, inl, inr, arith, nat_lt, if◌then◌else◌}
 use Rattle.std.specs.Str.{IsUtf8, IsCharBoundary}
 use Rattle.std.proofs.lemmas.Bool.{cases_eq, ne_eqb, ltb-true}
 use Rattle.std.proofs.lemmas.Bool.Decides.{nat_tests}
@@ -22,7 +23,8 @@ no_hex_escape rest b n e after c h (inr (inr s)) =
 
 braced_at : (bs : List ℕ) (n c : ℕ) → IsBraced bs n c → IsEscapeTo (92 ∷ 117 ∷ 123 ∷ bs) (suc (suc (suc (n + 1)))) c
 braced_at bs n c h =
-    let cut : take (n + 1) bs ≡ take n bs ++ 125 ∷ [] = take_more bs n 0 h.in_range ∙ ap (λ q. take n bs ++ q ∷ []) h.brace in
+    let cut : take (n + 1) bs ≡ take n bs ++ 125 ∷ [] = take_more bs n 0 h.in_range
+    ∙ ap (λ q. take n bs ++ q ∷ []) h.brace in
     record {
       in_range = omega (arith, h.in_range);
       escape = inr (inr (take n bs, ap (λ t. 92 ∷ 117 ∷ 123 ∷ t) cut, h.places, h.value, h.scalar));
@@ -49,7 +51,8 @@ at_simple b n c x r here there h =
 
 simple_ascii : (b c : ℕ) → simple_escape b ≡ Some c → nat_lt b 128 ≡ true
 simple_ascii b c h =
-    at_simple b 110 c _ _ refl (at_simple b 114 c _ _ refl (at_simple b 116 c _ _ refl (at_simple b 92 c _ _ refl (at_simple b 48 c _ _ refl
+    at_simple b 110 c _ _ refl (at_simple b 114 c _ _ refl
+    (at_simple b 116 c _ _ refl (at_simple b 92 c _ _ refl (at_simple b 48 c _ _ refl
     (at_simple b 39 c _ _ refl (at_simple b 34 c _ _ refl (λ e. cc))))))) h
 
 digit_ascii : (b : ℕ) → is_digit b 16 ≡ true → b < 128
@@ -66,5 +69,6 @@ boundary_after_escape rest n c u h = boundary_after rest n u h.in_range (escape_
 
 -- an escape is no empty text
 pub escape_some : (rest : List ℕ) (n c : ℕ) → IsEscapeTo rest n c → 0 < n
-escape_some rest zero c h = let e = escape_end [] c h.escape in let f : 0 ≡ length e.0 + 1 = ap length e.2 ∙ length-append e.0 (e.1 ∷ []) in omega arith
+escape_some rest zero c h = let e = escape_end [] c h.escape in
+    let f : 0 ≡ length e.0 + 1 = ap length e.2 ∙ length-append e.0 (e.1 ∷ []) in omega arith
 escape_some rest (suc n) c h = omega arith

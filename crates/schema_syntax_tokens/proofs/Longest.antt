@@ -1,8 +1,11 @@
 -- The longest token that begins some bytes: the first byte decides its form.
-use Rattle.std.proofs.Common.{◌≡◌, ◌≢◌, ℕ, zero, suc, ◌+◌, ◌<◌, ◌≤◌, Bool, true, false, cond, not, ◌&&◌, ◌==◌, if◌then◌else◌, List, [], ◌∷◌, ◌++◌, length, take, drop, get_or, Option, Some, None, refl, sym, ap, ◌∙◌, subst, inl, inr, arith, nat_lt}
+use Rattle.std.proofs.Common.{◌≡◌, ◌≢◌, ℕ, zero, suc, ◌+◌, ◌<◌, ◌≤◌, Bool, true, false, cond, not, ◌&&◌, ◌==◌}
+use Rattle.std.proofs.Common.{if◌then◌else◌, List, [], ◌∷◌, ◌++◌, length, take, drop, get_or, Option, Some, None, refl}
+use Rattle.std.proofs.Common.{sym, ap, ◌∙◌, subst, inl, inr, arith, nat_lt}
 use Rattle.std.specs.List.{AllPass, prefix_len}
 use Rattle.std.specs.Char.{is_whitespace}
-use Rattle.std.proofs.lemmas.List.{append_assoc, take-append-drop, take_more, drop_more, length-take-le, length-take, length-append, get_or-take}
+use Rattle.std.proofs.lemmas.List.{append_assoc, take-append-drop, take_more, drop_more, length-take-le, length-take}
+use Rattle.std.proofs.lemmas.List.{length-append, get_or-take}
 use Rattle.std.proofs.lemmas.List.Sums.{prefix_len_passes, prefix_len_stops, prefix_len-le-length}
 use Rattle.std.proofs.lemmas.Bool.{cases_eq, eq-eqb, ne_eqb, and_parts, cases_lt}
 use Rattle.std.proofs.lemmas.Bool.Decides.{nat_tests}
@@ -30,17 +33,21 @@ at_mark b n k x r here there h =
 -- what a mark of one byte begins with
 pub mark_byte : (b : ℕ) (k : TokenKind) → single_mark b ≡ Some k → may_be_mark b ≡ true
 mark_byte b k h =
-    at_mark b 64 k _ _ refl (at_mark b 44 k _ _ refl (at_mark b 59 k _ _ refl (at_mark b 58 k _ _ refl (at_mark b 40 k _ _ refl (at_mark b 41 k _ _ refl
-    (at_mark b 123 k _ _ refl (at_mark b 125 k _ _ refl (at_mark b 91 k _ _ refl (at_mark b 93 k _ _ refl (at_mark b 60 k _ _ refl (at_mark b 62 k _ _ refl
+    at_mark b 64 k _ _ refl (at_mark b 44 k _ _ refl
+    (at_mark b 59 k _ _ refl (at_mark b 58 k _ _ refl (at_mark b 40 k _ _ refl (at_mark b 41 k _ _ refl
+    (at_mark b 123 k _ _ refl (at_mark b 125 k _ _ refl
+    (at_mark b 91 k _ _ refl (at_mark b 93 k _ _ refl (at_mark b 60 k _ _ refl (at_mark b 62 k _ _ refl
     (at_mark b 63 k _ _ refl (at_mark b 61 k _ _ refl (λ e. cc)))))))))))))) h
 
 no_colon : (b c : ℕ) (k : TokenKind) → (b ≡ 58 → ⊥) → (if b == 58 && c == 58 then Some PathSep else None) ≡ Some k → ⊥
-no_colon b c k n h = let e : None ≡ Some k = sym (ap (λ t. cond (t && c == 58) (Some PathSep) None) (ne_eqb b 58 n)) ∙ h in cc
+no_colon b c k n h = let e : None ≡ Some k = sym (ap (λ t. cond (t && c == 58) (Some PathSep) None) (ne_eqb b 58 n))
+    ∙ h in cc
 
 no_second_colon : (b c : ℕ) (k : TokenKind) → b ≡ 58 → (c ≡ 58 → ⊥)
     → (if b == 58 && c == 58 then Some PathSep else None) ≡ Some k → ⊥
 no_second_colon b c k e n h =
-    let f : None ≡ Some k = sym (ap (λ t. cond (t && c == 58) (Some PathSep) None) (eq-eqb b 58 e) ∙ ap (λ t. cond t (Some PathSep) None) (ne_eqb c 58 n)) ∙ h in cc
+    let f : None ≡ Some k = sym (ap (λ t. cond (t && c == 58) (Some PathSep) None) (eq-eqb b 58 e)
+    ∙ ap (λ t. cond t (Some PathSep) None) (ne_eqb c 58 n)) ∙ h in cc
 
 -- a mark of two bytes has two colons
 pub two_colons : (b c : ℕ) (k : TokenKind) → mark_kind (b ∷ c ∷ []) ≡ Some k → (b ≡ 58) × (c ≡ 58)
@@ -58,7 +65,8 @@ mark_start b (c ∷ d ∷ bs) k h = cc
 
 pub mark_no_word : (b : ℕ) → may_be_mark b ≡ true → is_word_start b ≡ true → ⊥
 mark_no_word b h w =
-    let e : not (is_word_start b) ≡ true = (and_parts (not (is_word_start b)) (not (b == 34)) (and_parts (not (is_word_start b) && not (b == 34)) _ h).0).0 in
+    let e : not (is_word_start b) ≡ true =
+    (and_parts (not (is_word_start b)) (not (b == 34)) (and_parts (not (is_word_start b) && not (b == 34)) _ h).0).0 in
     let f : not true ≡ true = ap not (sym w) ∙ e in cc
 
 pub mark_no_quote : (b : ℕ) → may_be_mark b ≡ true → b ≡ 34 → ⊥
@@ -85,7 +93,8 @@ pub form_mark : (b : ℕ) (bs : List ℕ) (k : TokenKind) → is_word_start b �
     → mark_kind (b ∷ bs) ≡ Some k
 form_mark b bs k w n (inl f) = let e : false ≡ true = sym w ∙ f.0.0 in cc
 form_mark b bs k w n (inr (inl f)) = f
-form_mark b bs k w n (inr (inr f)) = let g : b ∷ bs ≡ 34 ∷ (f.0.0 ++ 34 ∷ []) = f.0.2 in let e : b ≡ 34 = cc in absurd (n e)
+form_mark b bs k w n (inr (inr f)) =
+    let g : b ∷ bs ≡ 34 ∷ (f.0.0 ++ 34 ∷ []) = f.0.2 in let e : b ≡ 34 = cc in absurd (n e)
 
 pub no_form_nil : (k : TokenKind) → IsForm [] k → ⊥
 no_form_nil k (inl f) = f.0
@@ -116,8 +125,10 @@ AllPass-le-prefix p bs m l h =
     elim (cases_lt (prefix_len p bs) m) [
       | inl q ↦
           let stops : p (get_or bs (prefix_len p bs) 0) ≡ false = prefix_len_stops p bs 0 (omega arith) in
-          let passes : p (get_or (take m bs) (prefix_len p bs) 0) ≡ true = h (prefix_len p bs) 0 (omega (arith, length-take-le m bs l)) in
-          let same : get_or (take m bs) (prefix_len p bs) 0 ≡ get_or bs (prefix_len p bs) 0 = get_or-take m bs (prefix_len p bs) 0 q in
+          let passes : p (get_or (take m bs) (prefix_len p bs) 0)
+          ≡ true = h (prefix_len p bs) 0 (omega (arith, length-take-le m bs l)) in
+          let same : get_or (take m bs) (prefix_len p bs) 0
+          ≡ get_or bs (prefix_len p bs) 0 = get_or-take m bs (prefix_len p bs) 0 q in
           let e : false ≡ true = sym stops ∙ (ap p (sym same) ∙ passes) in cc
       | inr q ↦ q
     ]
@@ -133,18 +144,21 @@ word_at b bs n w e =
   where
     longest_word : (m : ℕ) (l : TokenKind) → m ≤ length (b ∷ bs) → IsForm (take m (b ∷ bs)) l → m ≤ suc n
     longest_word zero l r f = omega arith
-    longest_word (suc m) l r f = omega (arith, AllPass-le-prefix is_word_part bs m (omega arith) (form_word b (take m bs) l w f))
+    longest_word (suc m) l r f = omega
+        (arith, AllPass-le-prefix is_word_part bs m (omega arith) (form_word b (take m bs) l w f))
 
 -- a word is as long as the letters, digits and `_` go
 pub longest_word : (rest : List ℕ) (n : ℕ) → StartsWord rest → n ≡ prefix_len is_word_part rest
     → IsLongest rest (word_kind (take n rest)) n
 longest_word [] n w e = absurd w
 longest_word (b ∷ bs) n w e =
-    subst (λ m. IsLongest (b ∷ bs) (word_kind (take m (b ∷ bs))) m) (sym (e ∙ prefix_word b bs w)) (word_at b bs (prefix_len is_word_part bs) w refl)
+    subst (λ m. IsLongest (b ∷ bs) (word_kind (take m (b ∷ bs))) m) (sym (e ∙ prefix_word b bs w))
+    (word_at b bs (prefix_len is_word_part bs) w refl)
 
 -- the bytes after the quote of a string, cut where the string ends
 cut_at_quote : (bs : List ℕ) (n : ℕ) → IsBodyEnd bs n → bs ≡ take n bs ++ 34 ∷ drop (n + 1) bs
-cut_at_quote bs n h = sym (take-append-drop n bs) ∙ ap (λ t. take n bs ++ t) (drop_more bs n 0 h.in_range ∙ ap (λ q. q ∷ drop (n + 1) bs) h.quote)
+cut_at_quote bs n h = sym (take-append-drop n bs)
+    ∙ ap (λ t. take n bs ++ t) (drop_more bs n 0 h.in_range ∙ ap (λ q. q ∷ drop (n + 1) bs) h.quote)
 
 taken_to_quote : (bs : List ℕ) (n : ℕ) → IsBodyEnd bs n → take (n + 1) bs ≡ take n bs ++ 34 ∷ []
 taken_to_quote bs n h = take_more bs n 0 h.in_range ∙ ap (λ q. take n bs ++ q ∷ []) h.quote
@@ -162,16 +176,19 @@ string_at bs n h =
     longest_string (suc m) l r f =
         let g = form_string 34 (take m bs) l refl f in
         let cut : g.0 ++ 34 ∷ drop m bs ≡ take n bs ++ 34 ∷ drop (n + 1) bs =
-        sym (append_assoc g.0 (34 ∷ []) (drop m bs)) ∙ (ap (λ t. t ++ drop m bs) (sym g.2) ∙ (take-append-drop m bs ∙ cut_at_quote bs n h)) in
+        sym (append_assoc g.0 (34 ∷ []) (drop m bs))
+        ∙ (ap (λ t. t ++ drop m bs) (sym g.2) ∙ (take-append-drop m bs ∙ cut_at_quote bs n h)) in
         let same : g.0 ≡ take n bs = (same_bodies g.0 (take n bs) (drop m bs) (drop (n + 1) bs) g.1 h.body cut).0 in
-        let whole : length (take m bs) ≡ length (take n bs ++ 34 ∷ []) = ap length (g.2 ∙ ap (λ t. t ++ 34 ∷ []) same) in
+        let whole : length (take m bs)
+        ≡ length (take n bs ++ 34 ∷ []) = ap length (g.2 ∙ ap (λ t. t ++ 34 ∷ []) same) in
         omega (arith, whole, length-append (take n bs) (34 ∷ []), length-take m bs, length-take n bs, h.in_range)
 
 no_string_at : (bs : List ℕ) → NoBody bs → NoForm (34 ∷ bs)
 no_string_at bs h zero k f = no_form_nil k f
 no_string_at bs h (suc m) k f =
     let g = form_string 34 (take m bs) k refl f in
-    h g.0 (drop m bs) g.1 (sym (take-append-drop m bs) ∙ (ap (λ t. t ++ drop m bs) g.2 ∙ append_assoc g.0 (34 ∷ []) (drop m bs)))
+    h g.0 (drop m bs) g.1 (sym (take-append-drop m bs)
+    ∙ (ap (λ t. t ++ drop m bs) g.2 ∙ append_assoc g.0 (34 ∷ []) (drop m bs)))
 
 -- a string ends at the first quote that no backslash precedes
 pub longest_string : (rest : List ℕ) (n : ℕ) → StartsString rest → IsBodyEnd (drop 1 rest) n
@@ -179,7 +196,8 @@ pub longest_string : (rest : List ℕ) (n : ℕ) → StartsString rest → IsBod
 longest_string [] n s h = absurd s
 longest_string (b ∷ bs) n s h =
     let e : suc (n + 1) ≡ n + 2 = omega arith in
-    subst (λ m. IsLongest (b ∷ bs) StringLit m) e (subst (λ q. IsLongest (q ∷ bs) StringLit (suc (n + 1))) (sym s) (string_at bs n h))
+    subst (λ m. IsLongest (b ∷ bs) StringLit m) e
+    (subst (λ q. IsLongest (q ∷ bs) StringLit (suc (n + 1))) (sym s) (string_at bs n h))
 
 pub no_string : (rest : List ℕ) → StartsString rest → NoBody (drop 1 rest) → NoForm rest
 no_string [] s h = absurd s
@@ -202,7 +220,8 @@ longest_mark b bs k w q n h = record { in_range = omega arith; form = inr (inl h
 
 pub longest_colons : (b c : ℕ) (bs : List ℕ) → b ≡ 58 → c ≡ 58 → IsLongest (b ∷ c ∷ bs) PathSep 2
 longest_colons b c bs e f =
-    subst (λ x. IsLongest (x ∷ c ∷ bs) PathSep 2) (sym e) (subst (λ x. IsLongest (58 ∷ x ∷ bs) PathSep 2) (sym f) (colons_at bs))
+    subst (λ x. IsLongest (x ∷ c ∷ bs) PathSep 2) (sym e)
+    (subst (λ x. IsLongest (58 ∷ x ∷ bs) PathSep 2) (sym f) (colons_at bs))
   where
     longest_two : (cs : List ℕ) (m : ℕ) (l : TokenKind) → m ≤ length (58 ∷ 58 ∷ cs) → IsForm (take m (58 ∷ 58 ∷ cs)) l
         → m ≤ 2
@@ -210,7 +229,8 @@ longest_colons b c bs e f =
     longest_two cs (suc zero) l r f = omega arith
     longest_two cs (suc (suc zero)) l r f = omega arith
     longest_two [] (suc (suc (suc m))) l r f = absurd (omega arith)
-    longest_two (d ∷ cs) (suc (suc (suc m))) l r f = let e = form_mark 58 (58 ∷ d ∷ take m cs) l refl (omega arith) f in cc
+    longest_two (d ∷ cs) (suc (suc (suc m))) l r f =
+        let e = form_mark 58 (58 ∷ d ∷ take m cs) l refl (omega arith) f in cc
 
     colons_at : (bs : List ℕ) → IsLongest (58 ∷ 58 ∷ bs) PathSep 2
     colons_at bs = record { in_range = omega arith; form = inr (inl refl); longest = longest_two bs }

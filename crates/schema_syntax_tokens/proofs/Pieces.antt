@@ -1,13 +1,16 @@
 -- What a body stands for, piece by piece.
-use Rattle.std.proofs.Common.{◌≡◌, ◌≢◌, ℕ, ◌+◌, ◌<◌, ◌≤◌, true, false, ◌==◌, List, [], ◌∷◌, ◌++◌, length, take, drop, get_or, refl, sym, ap, ◌∙◌, subst, inl, inr, arith}
+use Rattle.std.proofs.Common.{◌≡◌, ◌≢◌, ℕ, ◌+◌, ◌<◌, ◌≤◌, true, false, ◌==◌, List, [], ◌∷◌, ◌++◌, length, take, drop}
+use Rattle.std.proofs.Common.{get_or, refl, sym, ap, ◌∙◌, subst, inl, inr, arith}
 use Rattle.std.specs.List.{AllPass, All, prefix_len}
 use Rattle.std.specs.Char.{encode_utf8}
 use Rattle.std.specs.Str.{IsUtf8, IsCharBoundary, chars, encode_utf8_all}
-use Rattle.std.proofs.lemmas.List.{take-append-drop, length-append, length-drop, append_assoc, append-nil, drop_at, take_at, drop_more}
+use Rattle.std.proofs.lemmas.List.{take-append-drop, length-append, length-drop, append_assoc, append-nil, drop_at}
+use Rattle.std.proofs.lemmas.List.{take_at, drop_more}
 use Rattle.std.proofs.lemmas.List.Elements.{All-drop, All-take}
 use Rattle.std.proofs.lemmas.List.Sums.{prefix_len_stops, prefix_len-le-length}
 use Rattle.std.proofs.lemmas.Bool.{cases_lt, eqb-true, not-false}
-use Rattle.std.proofs.lemmas.Str.{encode_ascii, encodes-append, encodes-chars, chars_from_encodes, IsCharBoundary-before_ascii, IsCharBoundary-end}
+use Rattle.std.proofs.lemmas.Str.{encode_ascii, encodes-append, encodes-chars, chars_from_encodes}
+use Rattle.std.proofs.lemmas.Str.{IsCharBoundary-before_ascii, IsCharBoundary-end}
 use Rattle.schema_syntax_tokens.specs.Escapes.{Unescapes, NoEscape, BadEscape, IsEscapeTo}
 use Rattle.schema_syntax_tokens.specs.Steps.{is_unescaped}
 use Rattle.schema_syntax_tokens.proofs.Longest.{AllPass-prefix}
@@ -34,8 +37,10 @@ no_backslash c h e =
 Unescapes-plain : (cs : List ℕ) → AllPass is_unescaped (encode_utf8_all cs) → Unescapes (encode_utf8_all cs) cs
 Unescapes-plain [] h = refl
 Unescapes-plain (c ∷ cs) h =
-    let here : AllPass is_unescaped (encode_utf8 c) = All-before (λ x. is_unescaped x ≡ true) (encode_utf8 c) (encode_utf8_all cs) h in
-    let there : AllPass is_unescaped (encode_utf8_all cs) = All-behind (λ x. is_unescaped x ≡ true) (encode_utf8 c) (encode_utf8_all cs) h in
+    let here : AllPass is_unescaped (encode_utf8 c) = All-before (λ x. is_unescaped x ≡ true) (encode_utf8 c)
+    (encode_utf8_all cs) h in
+    let there : AllPass is_unescaped (encode_utf8_all cs) = All-behind (λ x. is_unescaped x ≡ true) (encode_utf8 c)
+    (encode_utf8_all cs) h in
     (encode_utf8 c, encode_utf8_all cs, refl, inl (refl, no_backslash c here), Unescapes-plain cs there)
 
 -- The body ends in rest, and what stands in front of it stands for the characters that are written so far.
@@ -67,11 +72,14 @@ pub HasUnescaped-plain : (body rest plain after written : List ℕ) (n : ℕ) �
     → n ≡ prefix_len is_unescaped rest → plain ≡ take n rest → after ≡ drop n rest → IsUtf8 plain
     → HasUnescaped body after (written ++ plain)
 HasUnescaped-plain body rest plain after written n h e p a u =
-    let passes : AllPass is_unescaped plain = subst (λ t. AllPass is_unescaped t) (sym p) (subst (λ m. AllPass is_unescaped (take m rest)) (sym e) (AllPass-prefix is_unescaped rest)) in
+    let passes : AllPass is_unescaped plain = subst (λ t. AllPass is_unescaped t) (sym p)
+    (subst (λ m. AllPass is_unescaped (take m rest)) (sym e) (AllPass-prefix is_unescaped rest)) in
     let same : encode_utf8_all (chars plain) ≡ plain = encodes-chars plain u in
-    let cut : rest ≡ plain ++ after = sym (take-append-drop n rest) ∙ (ap (λ t. t ++ drop n rest) (sym p) ∙ ap (λ t. plain ++ t) (sym a)) in
+    let cut : rest ≡ plain ++ after = sym (take-append-drop n rest)
+    ∙ (ap (λ t. t ++ drop n rest) (sym p) ∙ ap (λ t. plain ++ t) (sym a)) in
     let stands : Unescapes plain (chars plain) =
-    subst (λ t. Unescapes t (chars plain)) same (Unescapes-plain (chars plain) (subst (λ t. AllPass is_unescaped t) (sym same) passes)) in
+    subst (λ t. Unescapes t (chars plain)) same
+    (Unescapes-plain (chars plain) (subst (λ t. AllPass is_unescaped t) (sym same) passes)) in
     has_more body rest after written plain plain (chars plain) h cut stands same
 
 -- one escape
@@ -79,7 +87,8 @@ pub HasUnescaped-escape : (body rest after written : List ℕ) (n c : ℕ) → H
     → IsEscapeTo rest n c → after ≡ drop n rest → HasUnescaped body after (written ++ encode_utf8 c)
 HasUnescaped-escape body rest after written n c h l a =
     let cut : rest ≡ take n rest ++ after = sym (take-append-drop n rest) ∙ ap (λ t. take n rest ++ t) (sym a) in
-    let stands : Unescapes (take n rest) (c ∷ []) = (take n rest, [], sym (append-nil (take n rest)), inr l.escape, refl) in
+    let stands : Unescapes (take n rest)
+    (c ∷ []) = (take n rest, [], sym (append-nil (take n rest)), inr l.escape, refl) in
     has_more body rest after written (take n rest) (encode_utf8 c) (c ∷ []) h cut stands (append-nil (encode_utf8 c))
 
 -- the end
@@ -87,13 +96,15 @@ pub HasUnescaped-all : (body rest written : List ℕ) → HasUnescaped body rest
     → length rest ≡ 0 → Unescapes body (chars written)
 HasUnescaped-all body [] written h u l =
     let same : h.value ≡ chars written = chars_from_encodes h.value written u h.bytes in
-    subst (λ cs. Unescapes body cs) same (subst (λ t. Unescapes t h.value) (sym (h.split ∙ append-nil h.front)) h.stands_for)
+    subst (λ cs. Unescapes body cs) same
+    (subst (λ t. Unescapes t h.value) (sym (h.split ∙ append-nil h.front)) h.stands_for)
 HasUnescaped-all body (b ∷ bs) written h u l = absurd (omega arith)
 
 -- where the bytes up to the next backslash end, the text may be cut, and a backslash stands there or nothing
 stop_byte : (rest : List ℕ) (n : ℕ) → n ≡ prefix_len is_unescaped rest → n < length rest → get_or rest n 0 ≡ 92
 stop_byte rest n e l =
-    let stops : is_unescaped (get_or rest n 0) ≡ false = ap (λ m. is_unescaped (get_or rest m 0)) e ∙ prefix_len_stops is_unescaped rest 0 (omega arith) in
+    let stops : is_unescaped (get_or rest n 0) ≡ false = ap (λ m. is_unescaped (get_or rest m 0)) e
+    ∙ prefix_len_stops is_unescaped rest 0 (omega arith) in
     eqb-true (get_or rest n 0) 92 (not-false (get_or rest n 0 == 92) stops)
 
 pub boundary_at_backslash : (rest : List ℕ) (n : ℕ) → n ≡ prefix_len is_unescaped rest → IsCharBoundary rest n

@@ -8,7 +8,8 @@ use Rattle.std.proofs.lemmas.Str.{IsUtf8-take, IsCharBoundary-before_ascii, IsCh
 pub boundary_opened : (part opened : List ℕ) (n : ℕ) → IsUtf8 part → opened ≡ take n part → n + 1 ≡ length part
     → 0 < n → get_or part 0 0 ≡ 34 → get_or part n 0 ≡ 34 → IsCharBoundary opened 1
 boundary_opened part opened n u e l s f g =
-    let text : IsUtf8 opened = subst (λ t. IsUtf8 t) (sym e) (IsUtf8-take part n u (IsCharBoundary-before_ascii part n (omega arith) (omega arith))) in
+    let text : IsUtf8 opened = subst (λ t. IsUtf8 t) (sym e)
+    (IsUtf8-take part n u (IsCharBoundary-before_ascii part n (omega arith) (omega arith))) in
     let size : length opened ≡ n = ap length e ∙ length-take-le n part (omega arith) in
     let first : get_or opened 0 0 ≡ 34 = ap (λ t. get_or t 0 0) e ∙ (get_or-take n part 0 0 s ∙ f) in
     IsCharBoundary-after_ascii opened 0 text (omega arith) (omega arith)

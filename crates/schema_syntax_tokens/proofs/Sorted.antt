@@ -74,40 +74,55 @@ fronts_decide [] (y ∷ ys) us vs h k = let e : y ∷ ys ≡ [] = h (y ∷ ys) r
 fronts_decide (x ∷ xs) [] us vs h k = let e : x ∷ xs ≡ [] = k (x ∷ xs) refl in cc
 fronts_decide (x ∷ xs) (y ∷ ys) us vs h k =
     then_front (nat_cmp x y) _ (slice_cmp nat_cmp xs ys) (slice_cmp nat_cmp us vs)
-    (λ e. fronts_decide xs ys us vs (λ z f. h z (λ i. sym (same_number x y e) i ∷ f i)) (λ z f. k z (λ i. same_number x y e i ∷ f i)))
+    (λ e. fronts_decide xs ys us vs (λ z f. h z (λ i. sym (same_number x y e) i ∷ f i))
+    (λ z f. k z (λ i. same_number x y e i ∷ f i)))
 
 chars_decide : (c d : ℕ) (us vs : List ℕ)
-    → slice_cmp nat_cmp (encode_utf8 c ++ us) (encode_utf8 d ++ vs) ≡ ordering_then (slice_cmp nat_cmp (encode_utf8 c) (encode_utf8 d)) (slice_cmp nat_cmp us vs)
+    → slice_cmp nat_cmp (encode_utf8 c ++ us) (encode_utf8 d ++ vs)
+    ≡ ordering_then (slice_cmp nat_cmp (encode_utf8 c) (encode_utf8 d)) (slice_cmp nat_cmp us vs)
 chars_decide c d us vs =
     fronts_decide (encode_utf8 c) (encode_utf8 d) us vs
-    (λ z e. sym (encode_same d c [] z (append-nil (encode_utf8 d) ∙ e)).1) (λ z e. sym (encode_same c d [] z (append-nil (encode_utf8 c) ∙ e)).1)
+    (λ z e. sym (encode_same d c [] z (append-nil (encode_utf8 d) ∙ e)).1)
+    (λ z e. sym (encode_same c d [] z (append-nil (encode_utf8 c) ∙ e)).1)
 
 -- the first characters, where their order is known
 first_decides : (left right one other after behind : List ℕ) (c d : ℕ) (o : Ordering)
     → AreOrdered left right one other → Begins one c after → Begins other d behind
     → slice_cmp nat_cmp (encode_utf8 c) (encode_utf8 d) ≡ o
     → (v w : List ℕ) → Unescapes left v → Unescapes right w
-    → (x : List ℕ) × (y : List ℕ) × Unescapes after x × Unescapes behind y × (text_cmp v w ≡ ordering_then o (text_cmp x y))
+    → (x : List ℕ) × (y : List ℕ) × Unescapes after x × Unescapes behind y
+    × (text_cmp v w ≡ ordering_then o (text_cmp x y))
 first_decides left right one other after behind c d o r a b e v w h k =
     let s = r v w h k in
     let x = value_some one after s.0 c a s.2 in
     let y = value_some other behind s.1 d b s.3 in
-    let cut : text_cmp (c ∷ x.0) (d ∷ y.0) ≡ ordering_then (slice_cmp nat_cmp (encode_utf8 c) (encode_utf8 d)) (text_cmp x.0 y.0) = chars_decide c d (encode_utf8_all x.0) (encode_utf8_all y.0) in
-    (x.0, y.0, x.2, y.2, s.4 ∙ ((λ i. text_cmp (x.1 i) (y.1 i)) ∙ (cut ∙ ap (λ t. ordering_then t (text_cmp x.0 y.0)) e)))
+    let cut : text_cmp (c ∷ x.0) (d ∷ y.0)
+    ≡ ordering_then (slice_cmp nat_cmp (encode_utf8 c) (encode_utf8 d)) (text_cmp x.0 y.0) =
+    chars_decide c d (encode_utf8_all x.0) (encode_utf8_all y.0) in (
+      x.0,
+      y.0,
+      x.2,
+      y.2,
+      s.4 ∙ ((λ i. text_cmp (x.1 i) (y.1 i))
+          ∙ (cut ∙ ap (λ t. ordering_then t (text_cmp x.0 y.0)) e)),
+    )
 
 pub AreOrdered-less : (left right one other after behind : List ℕ) (c d : ℕ) → AreOrdered left right one other
     → Begins one c after → Begins other d behind → slice_cmp nat_cmp (encode_utf8 c) (encode_utf8 d) ≡ Less
     → (v w : List ℕ) → Unescapes left v → Unescapes right w
     → Less ≡ text_cmp v w
-AreOrdered-less left right one other after behind c d r a b e v w h k = sym (first_decides left right one other after behind c d Less r a b e v w h k).4
+AreOrdered-less left right one other after behind c d r a b e v w h k =
+    sym (first_decides left right one other after behind c d Less r a b e v w h k).4
 
 pub AreOrdered-greater : (left right one other after behind : List ℕ) (c d : ℕ) → AreOrdered left right one other
     → Begins one c after → Begins other d behind → slice_cmp nat_cmp (encode_utf8 c) (encode_utf8 d) ≡ Greater
     → (v w : List ℕ) → Unescapes left v → Unescapes right w
     → Greater ≡ text_cmp v w
-AreOrdered-greater left right one other after behind c d r a b e v w h k = sym (first_decides left right one other after behind c d Greater r a b e v w h k).4
+AreOrdered-greater left right one other after behind c d r a b e v w h k =
+    sym (first_decides left right one other after behind c d Greater r a b e v w h k).4
 
 pub AreOrdered-more : (left right one other after behind : List ℕ) (c d : ℕ) → AreOrdered left right one other
     → Begins one c after → Begins other d behind → slice_cmp nat_cmp (encode_utf8 c) (encode_utf8 d) ≡ Equal
     → AreOrdered left right after behind
-AreOrdered-more left right one other after behind c d r a b e v w h k = first_decides left right one other after behind c d Equal r a b e v w h k
+AreOrdered-more left right one other after behind c d r a b e v w h k =
+    first_decides left right one other after behind c d Equal r a b e v w h k

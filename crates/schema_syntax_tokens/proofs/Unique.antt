@@ -1,5 +1,6 @@
 -- A text has one list of tokens.
-use Rattle.std.proofs.Common.{◌≡◌, ℕ, zero, suc, ◌<◌, Bool, true, not, ◌==◌, ◌||◌, ◌&&◌, List, [], ◌∷◌, ◌++◌, length, take, drop, Some, refl, sym, ap, ◌∙◌, subst, inl, inr, arith, nat_lt}
+use Rattle.std.proofs.Common.{◌≡◌, ℕ, zero, suc, ◌<◌, Bool, true, not, ◌==◌, ◌||◌, ◌&&◌, List, [], ◌∷◌, ◌++◌, length}
+use Rattle.std.proofs.Common.{take, drop, Some, refl, sym, ap, ◌∙◌, subst, inl, inr, arith, nat_lt}
 use Rattle.std.specs.List.{All}
 use Rattle.std.specs.Char.{encode_utf8, is_whitespace}
 use Rattle.std.proofs.lemmas.List.Elements.{All-head, All-tail}
@@ -13,7 +14,8 @@ use Rattle.schema_syntax_tokens.specs.Forms.{word_kind, IsForm}
 use Rattle.cedar_data.specs.Words.{is_word_start}
 use Rattle.schema_syntax_tokens.specs.Scans.{IsInLine, EndsLine, IsBlank, NoBlank, Skips, IsLongest, ScansFrom, Scans}
 use Rattle.schema_syntax_tokens.specs.Scans.Skips.{none, more}
-use Rattle.schema_syntax_tokens.proofs.Longest.{may_be_mark, mark_start, mark_no_word, mark_no_quote, form_mark, no_form_nil}
+use Rattle.schema_syntax_tokens.proofs.Longest.{may_be_mark, mark_start, mark_no_word, mark_no_quote, form_mark}
+use Rattle.schema_syntax_tokens.proofs.Longest.{no_form_nil}
 use Rattle.schema_syntax_tokens.proofs.Ends.{mark_ascii}
 
 -- a comment's line ends where the first line end is
@@ -21,12 +23,15 @@ same_line : (xs ys us vs : List ℕ) → All IsInLine xs → All IsInLine ys →
     → xs ++ us ≡ ys ++ vs → us ≡ vs
 same_line [] [] us vs h k s t e = e
 same_line [] (y ∷ ys) [] vs h k s t e = cc
-same_line [] (y ∷ ys) (u ∷ us) vs h k (inl s) t e = let f : u ≡ y = cc in absurd ((All-head IsInLine y ys k).0 (sym f ∙ s))
-same_line [] (y ∷ ys) (u ∷ us) vs h k (inr s) t e = let f : u ≡ y = cc in absurd ((All-head IsInLine y ys k).1 (sym f ∙ s))
+same_line [] (y ∷ ys) (u ∷ us) vs h k (inl s) t e =
+    let f : u ≡ y = cc in absurd ((All-head IsInLine y ys k).0 (sym f ∙ s))
+same_line [] (y ∷ ys) (u ∷ us) vs h k (inr s) t e =
+    let f : u ≡ y = cc in absurd ((All-head IsInLine y ys k).1 (sym f ∙ s))
 same_line (x ∷ xs) [] us [] h k s t e = cc
 same_line (x ∷ xs) [] us (v ∷ vs) h k s (inl t) e = let f : x ≡ v = cc in absurd ((All-head IsInLine x xs h).0 (f ∙ t))
 same_line (x ∷ xs) [] us (v ∷ vs) h k s (inr t) e = let f : x ≡ v = cc in absurd ((All-head IsInLine x xs h).1 (f ∙ t))
-same_line (x ∷ xs) (y ∷ ys) us vs h k s t e = same_line xs ys us vs (All-tail IsInLine x xs h) (All-tail IsInLine y ys k) s t cc
+same_line (x ∷ xs) (y ∷ ys) us vs h k s t e =
+    same_line xs ys us vs (All-tail IsInLine x xs h) (All-tail IsInLine y ys k) s t cc
 
 -- a space does not begin with `/`
 space_no_slash : (c : ℕ) (us vs : List ℕ) → is_whitespace c ≡ true → encode_utf8 c ++ us ≡ 47 ∷ vs → ⊥
@@ -36,9 +41,13 @@ space_no_slash c us vs w e =
 
 -- the first blank is one
 same_blank : (b d us vs : List ℕ) → IsBlank b us → IsBlank d vs → b ++ us ≡ d ++ vs → us ≡ vs
-same_blank b d us vs (inl s) (inl t) e = (encode_same s.0 t.0 us vs (ap (λ x. x ++ us) (sym s.2) ∙ (e ∙ ap (λ x. x ++ vs) t.2))).1
-same_blank b d us vs (inl s) (inr t) e = absurd (space_no_slash s.0 us (47 ∷ (t.0 ++ vs)) s.1 (ap (λ x. x ++ us) (sym s.2) ∙ (e ∙ ap (λ x. x ++ vs) t.1)))
-same_blank b d us vs (inr s) (inl t) e = absurd (space_no_slash t.0 vs (47 ∷ (s.0 ++ us)) t.1 (ap (λ x. x ++ vs) (sym t.2) ∙ (sym e ∙ ap (λ x. x ++ us) s.1)))
+same_blank b d us vs (inl s) (inl t) e =
+    (encode_same s.0 t.0 us vs (ap (λ x. x ++ us) (sym s.2) ∙ (e ∙ ap (λ x. x ++ vs) t.2))).1
+same_blank b d us vs (inl s) (inr t) e =
+    absurd (space_no_slash s.0 us (47 ∷ (t.0 ++ vs)) s.1 (ap (λ x. x ++ us) (sym s.2) ∙ (e ∙ ap (λ x. x ++ vs) t.1)))
+same_blank b d us vs (inr s) (inl t) e =
+    absurd (space_no_slash t.0 vs (47 ∷ (s.0 ++ us)) t.1
+    (ap (λ x. x ++ vs) (sym t.2) ∙ (sym e ∙ ap (λ x. x ++ us) s.1)))
 same_blank b d us vs (inr s) (inr t) e =
     let g : 47 ∷ 47 ∷ (s.0 ++ us) ≡ 47 ∷ 47 ∷ (t.0 ++ vs) = ap (λ x. x ++ us) (sym s.1) ∙ (e ∙ ap (λ x. x ++ vs) t.1) in
     same_line s.0 t.0 us vs s.2 t.2 s.3 t.3 cc
@@ -62,7 +71,8 @@ start_ascii b h = grind (arith, nat_tests)
 start_no_blank : (b : ℕ) → is_word_start b ≡ true → (not (b == 47) && not (is_whitespace b)) ≡ true
 unfolding no_blank_byte
 start_no_blank b h =
-    sym (ap (λ t. not t || (not (b == 47) && not (is_whitespace b))) h) ∙ agree_below_at no_blank_byte (λ _. true) 128 b refl (start_ascii b h)
+    sym (ap (λ t. not t || (not (b == 47) && not (is_whitespace b))) h)
+    ∙ agree_below_at no_blank_byte (λ _. true) 128 b refl (start_ascii b h)
 
 mark_no_blank : (b : ℕ) → may_be_mark b ≡ true → (not (b == 47) && not (is_whitespace b)) ≡ true
 mark_no_blank b h = (and_parts _ (nat_lt b 128) (and_parts (not (is_word_start b) && not (b == 34)) _ h).1).0
@@ -93,7 +103,8 @@ token_no_blank : (rest : List ℕ) (k : TokenKind) (n : ℕ) → IsLongest rest 
 token_no_blank [] k zero h b after e i = no_form_nil k h.form
 token_no_blank [] k (suc n) h b after e i = no_form_nil k h.form
 token_no_blank (x ∷ xs) k zero h b after e i = no_form_nil k h.form
-token_no_blank (x ∷ xs) k (suc n) h b after e i = let s = form_start x (take n xs) k h.form in start_and_blank x xs b after s.0 s.1 e i
+token_no_blank (x ∷ xs) k (suc n) h b after e i =
+    let s = form_start x (take n xs) k h.form in start_and_blank x xs b after s.0 s.1 e i
 
 -- a text has one kind
 kind_word : (b : ℕ) (bs : List ℕ) (k : TokenKind) → is_word_start b ≡ true → IsForm (b ∷ bs) k
@@ -147,12 +158,15 @@ one_scan_from from rest (t ∷ ts) [] at bt h k =
 one_scan_from from rest (t ∷ ts) (u ∷ us) at bt h k =
     let here = h.2.token in
     let there = k.2.token in
-    let same : h.0 ≡ k.0 = one_end h.2.skips k.2.skips (token_no_blank h.0 t.kind h.1 here) (token_no_blank k.0 u.kind k.1 there) in
+    let same : h.0 ≡ k.0 = one_end h.2.skips k.2.skips (token_no_blank h.0 t.kind h.1 here)
+    (token_no_blank k.0 u.kind k.1 there) in
     let token = one_token k.0 t.kind u.kind h.1 k.1 (subst (λ r. IsLongest r t.kind h.1) same here) there in
     let start : t.loc.start ≡ u.loc.start = omega (arith, h.2.start, k.2.start, ap length same) in
     let stop : t.loc.end ≡ u.loc.end = omega (arith, h.2.stop, k.2.stop, token.1) in
     let behind : ScansFrom u.loc.end (drop k.1 k.0) ts at =
-    subst (λ n. ScansFrom n (drop k.1 k.0) ts at) stop (subst (λ n. ScansFrom t.loc.end (drop n k.0) ts at) token.1 (subst (λ r. ScansFrom t.loc.end (drop h.1 r) ts at) same h.3)) in
+    subst (λ n. ScansFrom n (drop k.1 k.0) ts at) stop
+    (subst (λ n. ScansFrom t.loc.end (drop n k.0) ts at) token.1
+    (subst (λ r. ScansFrom t.loc.end (drop h.1 r) ts at) same h.3)) in
     let tail = one_scan_from u.loc.end (drop k.1 k.0) ts us at bt behind k.3 in
     let head : t ≡ u = same_token t u token.0 start stop in
     ((λ i. head i ∷ tail.0 i), tail.1)

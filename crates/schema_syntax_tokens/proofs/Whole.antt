@@ -1,8 +1,10 @@
 -- The scan of a whole text, as far as it has come.
-use Rattle.std.proofs.Common.{◌≡◌, ℕ, zero, suc, ◌+◌, ◌-◌, ◌<◌, ◌≤◌, List, [], ◌∷◌, ◌++◌, length, take, drop, refl, sym, ap, ◌∙◌, subst, arith, slice_range}
+use Rattle.std.proofs.Common.{◌≡◌, ℕ, zero, suc, ◌+◌, ◌-◌, ◌<◌, ◌≤◌, List, [], ◌∷◌, ◌++◌, length, take, drop, refl, sym}
+use Rattle.std.proofs.Common.{ap, ◌∙◌, subst, arith, slice_range}
 use Rattle.std.specs.List.{All}
 use Rattle.std.specs.Str.{IsUtf8, IsCharBoundary}
-use Rattle.std.proofs.lemmas.List.{take-append-drop, length-take-le, length-append, length-drop, append_assoc, append-nil, drop_at}
+use Rattle.std.proofs.lemmas.List.{take-append-drop, length-take-le, length-append, length-drop, append_assoc}
+use Rattle.std.proofs.lemmas.List.{append-nil, drop_at}
 use Rattle.std.proofs.lemmas.List.Elements.{All-nil, All-push}
 use Rattle.std.proofs.lemmas.Str.{IsUtf8-drop, IsCharBoundary-at_seam}
 use Rattle.schema_syntax_grammar.specs.declared.token_kind.TokenKind.{TokenKind}
@@ -54,15 +56,20 @@ is_placed : (text front here : List ℕ) (t : Token) (n : ℕ) → IsUtf8 here �
     → t.loc.start ≡ length front → t.loc.end ≡ t.loc.start + n → IsPlaced text t
 is_placed text front here t n u e h s f =
     let after : IsUtf8 (drop n here) = IsUtf8-drop here n u (boundary_after_token here t.kind n u h) in
-    let whole : text ≡ (front ++ take n here) ++ drop n here = e ∙ (ap (λ x. front ++ x) (sym (take-append-drop n here)) ∙ sym (append_assoc front (take n here) (drop n here))) in
-    let size : length (front ++ take n here) ≡ t.loc.end = omega (arith, length-append front (take n here), length-take-le n here h.in_range) in
+    let whole : text ≡ (front ++ take n here) ++ drop n here = e
+    ∙ (ap (λ x. front ++ x) (sym (take-append-drop n here)) ∙ sym (append_assoc front (take n here) (drop n here))) in
+    let size : length (front ++ take n here)
+    ≡ t.loc.end = omega (arith, length-append front (take n here), length-take-le n here h.in_range) in
     let width : t.loc.end - t.loc.start ≡ n = omega arith in
     let there : slice_range text t.loc.start t.loc.end ≡ take n here =
-    ap (λ m. take m (drop t.loc.start text)) width ∙ ap (λ x. take n x) (ap (λ m. drop m text) s ∙ (ap (λ x. drop (length front) x) e ∙ drop_at front here (length front) refl)) in
+    ap (λ m. take m (drop t.loc.start text)) width
+    ∙ ap (λ x. take n x) (ap (λ m. drop m text) s
+    ∙ (ap (λ x. drop (length front) x) e ∙ drop_at front here (length front) refl)) in
     record {
       in_order = omega (arith, longest_some here t.kind n h);
       start = subst (λ m. IsCharBoundary text m) (sym s) (IsCharBoundary-at_seam text front here e u);
-      stop = subst (λ m. IsCharBoundary text m) size (IsCharBoundary-at_seam text (front ++ take n here) (drop n here) whole after);
+      stop = subst (λ m. IsCharBoundary text m) size
+          (IsCharBoundary-at_seam text (front ++ take n here) (drop n here) whole after);
       form = subst (λ w. IsForm w t.kind) (sym there) h.form;
     }
 
@@ -74,21 +81,32 @@ pub HasScanned-more : (text rest here after : List ℕ) (tokens : List Token) (t
 HasScanned-more text rest here after tokens t n h u s l e begins ends =
     let f = skips_front s in
     let front : List ℕ = h.front ++ f.0 in
-    let split : text ≡ (h.front ++ f.0) ++ here = h.split ∙ (ap (λ x. h.front ++ x) f.1 ∙ sym (append_assoc h.front f.0 here)) in
+    let split : text ≡ (h.front ++ f.0) ++ here = h.split
+    ∙ (ap (λ x. h.front ++ x) f.1 ∙ sym (append_assoc h.front f.0 here)) in
     let whole : text ≡ ((h.front ++ f.0) ++ take n here) ++ after =
-    split ∙ (ap (λ x. (h.front ++ f.0) ++ x) (sym (take-append-drop n here)) ∙ (sym (append_assoc (h.front ++ f.0) (take n here) (drop n here)) ∙ ap (λ x. ((h.front ++ f.0) ++ take n here) ++ x) (sym e))) in
+    split ∙ (ap (λ x. (h.front ++ f.0) ++ x) (sym (take-append-drop n here))
+    ∙ (sym (append_assoc (h.front ++ f.0) (take n here) (drop n here))
+    ∙ ap (λ x. ((h.front ++ f.0) ++ take n here) ++ x) (sym e))) in
     let at_here : length text ≡ length (h.front ++ f.0) + length here = at_rest text (h.front ++ f.0) here split in
     let at_old : length text ≡ length h.front + length rest = at_rest text h.front rest h.split in
     let size : length after ≡ length here - n = ap length e ∙ length-drop n here in
-    let next : IsNext (length text - length rest) rest t here n = record { skips = s; token = l; start = omega arith; stop = ends } in
+    let next : IsNext (length text - length rest) rest t here n = record
+    { skips = s; token = l; start = omega arith; stop = ends } in
     let from : length text - length after ≡ t.loc.end = omega (arith, l.in_range) in
     record {
       front = (h.front ++ f.0) ++ take n here;
       split = whole;
       more_follow = λ ts at k.
           subst (λ us. Scans text us at) (sym (append_assoc tokens (t ∷ []) ts))
-          (h.more_follow (t ∷ ts) at (here, n, next, subst (λ m. ScansFrom m (drop n here) ts at) from (subst (λ x. ScansFrom (length text - length after) x ts at) e k)));
-      placed = All-push (IsPlaced text) tokens t h.placed (is_placed text (h.front ++ f.0) here t n u split l (omega arith) ends);
+          (h.more_follow (t ∷ ts) at (
+            here,
+            n,
+            next,
+            subst (λ m. ScansFrom m (drop n here) ts at) from
+                (subst (λ x. ScansFrom (length text - length after) x ts at) e k),
+          ));
+      placed = All-push (IsPlaced text) tokens t h.placed
+          (is_placed text (h.front ++ f.0) here t n u split l (omega arith) ends);
     }
 
 -- the end
@@ -104,7 +122,8 @@ pub boundary_here : (text rest here : List ℕ) (tokens : List Token) (at : ℕ)
     → IsUtf8 here → Skips rest here → at + length here ≡ length text → IsCharBoundary text at
 boundary_here text rest here tokens at h u s e =
     let f = skips_front s in
-    let split : text ≡ (h.front ++ f.0) ++ here = h.split ∙ (ap (λ x. h.front ++ x) f.1 ∙ sym (append_assoc h.front f.0 here)) in
+    let split : text ≡ (h.front ++ f.0) ++ here = h.split
+    ∙ (ap (λ x. h.front ++ x) f.1 ∙ sym (append_assoc h.front f.0 here)) in
     let at_here : length text ≡ length (h.front ++ f.0) + length here = at_rest text (h.front ++ f.0) here split in
     let same : length (h.front ++ f.0) ≡ at = omega arith in
     subst (λ m. IsCharBoundary text m) same (IsCharBoundary-at_seam text (h.front ++ f.0) here split u)

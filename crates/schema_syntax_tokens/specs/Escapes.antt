@@ -1,5 +1,6 @@
 -- What the body of a string stands for.
-use Rattle.std.specs.Prelude.{◌≡◌, ◌≢◌, ℕ, ◌+◌, ◌*◌, ◌≤◌, Bool, true, not, ◌||◌, ◌⊎◌, List, [], ◌∷◌, ◌++◌, Option, Some, None, length, take, slice_index, if◌then◌else◌, ◌==◌}
+use Rattle.std.specs.Prelude.{◌≡◌, ◌≢◌, ℕ, ◌+◌, ◌*◌, ◌≤◌, Bool, true, not, ◌||◌, ◌⊎◌, List, [], ◌∷◌, ◌++◌, Option, Some}
+use Rattle.std.specs.Prelude.{None, length, take, slice_index, if◌then◌else◌, ◌==◌}
 use Rattle.std.specs.List.{AllPass, filter}
 use Rattle.std.specs.Char.{encode_utf8, is_digit, digit_value, IsScalar}
 use Rattle.schema_syntax_tokens.specs.declared.escapes.Refusal.{Refusal}
@@ -42,11 +43,13 @@ IsSimple e c = (b : ℕ) × (e ≡ 92 ∷ b ∷ []) × (simple_escape b ≡ Some
 
 -- `\xHH`, up to 7F
 abbrev pub IsHex : List ℕ → ℕ → Type 0
-IsHex e c = (a : ℕ) × (b : ℕ) × (e ≡ 92 ∷ 120 ∷ a ∷ b ∷ []) × (is_digit a 16 ≡ true) × (is_digit b 16 ≡ true) × (c ≡ hex_value 0 (a ∷ b ∷ [])) × (c ≤ 127)
+IsHex e c = (a : ℕ) × (b : ℕ) × (e ≡ 92 ∷ 120 ∷ a ∷ b ∷ []) × (is_digit a 16 ≡ true) × (is_digit b 16 ≡ true)
+    × (c ≡ hex_value 0 (a ∷ b ∷ [])) × (c ≤ 127)
 
 -- `\u{H}`
 abbrev pub IsUnicode : List ℕ → ℕ → Type 0
-IsUnicode e c = (places : List ℕ) × (e ≡ 92 ∷ 117 ∷ 123 ∷ (places ++ 125 ∷ [])) × ArePlaces places × (c ≡ hex_value 0 (digits_of places)) × IsScalar c
+IsUnicode e c = (places : List ℕ) × (e ≡ 92 ∷ 117 ∷ 123 ∷ (places ++ 125 ∷ [])) × ArePlaces places
+    × (c ≡ hex_value 0 (digits_of places)) × IsScalar c
 
 -- a lawful escape, and its character
 abbrev pub IsEscape : List ℕ → ℕ → Type 0
@@ -64,7 +67,8 @@ StandsFor piece c = ((piece ≡ encode_utf8 c) × (c ≢ 92)) ⊎ IsEscape piece
 -- the body stands for these characters
 abbrev pub Unescapes : List ℕ → List ℕ → Type 0
 Unescapes body [] = body ≡ []
-Unescapes body (c ∷ cs) = (piece : List ℕ) × (rest : List ℕ) × (body ≡ piece ++ rest) × StandsFor piece c × Unescapes rest cs
+Unescapes body (c ∷ cs) = (piece : List ℕ) × (rest : List ℕ) × (body ≡ piece ++ rest) × StandsFor piece c
+    × Unescapes rest cs
 
 -- no lawful escape starts there
 abbrev pub NoEscape : List ℕ → Type 0

@@ -1,5 +1,6 @@
 -- A text as it is laid out: lexemes, and gaps between them.
-use Rattle.std.specs.Prelude.{◌≡◌, ℕ, ◌+◌, Bool, true, false, not, ◌||◌, ◌==◌, List, [], ◌∷◌, ◌++◌, length, slice_range, if◌then◌else◌}
+use Rattle.std.specs.Prelude.{◌≡◌, ℕ, ◌+◌, Bool, true, false, not, ◌||◌, ◌==◌, List, [], ◌∷◌, ◌++◌, length, slice_range}
+use Rattle.std.specs.Prelude.{if◌then◌else◌}
 use Rattle.std.specs.List.{All}
 use Rattle.schema_syntax_grammar.specs.declared.token_kind.TokenKind.{TokenKind}
 use Rattle.schema_syntax_grammar.specs.declared.token_kind.TokenKind.TheVariants.{Colon}
@@ -37,7 +38,9 @@ lexemes_of (lexeme x ∷ ps) = x ∷ lexemes_of ps
 abbrev pub tokens_from : ℕ → List Piece → List Token
 tokens_from from [] = []
 tokens_from from (gap bytes ∷ ps) = tokens_from (from + length bytes) ps
-tokens_from from (lexeme x ∷ ps) = record { kind = x.kind; loc = record { start = from; end = from + length x.text } } ∷ tokens_from (from + length x.text) ps
+tokens_from from (lexeme x ∷ ps) =
+    record { kind = x.kind; loc = record { start = from; end = from + length x.text } } ∷ tokens_from
+    (from + length x.text) ps
 
 -- a space or a line feed
 abbrev pub is_plain_blank : ℕ → Bool
@@ -68,8 +71,8 @@ abbrev pub is_calm : Edge → Bool
 is_calm colon = false
 is_calm _ = true
 
--- The pieces may stand behind this edge: the gaps are blanks, the lexemes are tokens, no two merge, and what may stand behind a word may
--- stand behind the last.
+-- The pieces may stand behind this edge: the gaps are blanks, the lexemes are tokens, no two merge, and what may stand
+-- behind a word may stand behind the last.
 pub data Follow : Edge → List Piece → Type 0 where
   done : {e : Edge} → is_calm e ≡ true → Follow e []
   by_gap : {e : Edge} {b : ℕ} {bs : List ℕ} {ps : List Piece} → AreBlanks (b ∷ bs) → Follow free ps

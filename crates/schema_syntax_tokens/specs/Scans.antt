@@ -1,5 +1,6 @@
 -- What the tokens of a text are.
-use Rattle.std.specs.Prelude.{◌≡◌, ◌≢◌, ℕ, ◌+◌, ◌≤◌, true, ◌⊎◌, List, [], ◌∷◌, ◌++◌, length, take, drop, ◌<◌, slice_range}
+use Rattle.std.specs.Prelude.{◌≡◌, ◌≢◌, ℕ, ◌+◌, ◌≤◌, true, ◌⊎◌, List, [], ◌∷◌, ◌++◌, length, take, drop, ◌<◌}
+use Rattle.std.specs.Prelude.{slice_range}
 use Rattle.std.specs.List.{All}
 use Rattle.std.specs.Char.{is_whitespace, encode_utf8}
 use Rattle.std.specs.Str.{IsCharBoundary}
@@ -60,8 +61,10 @@ pub record IsNext (from : ℕ) (rest : List ℕ) (t : Token) (here : List ℕ) (
 
 -- rest begins at the byte from, and the tokens stop at the byte at
 abbrev pub ScansFrom : ℕ → List ℕ → List Token → ℕ → Type 0
-ScansFrom from rest [] at = (here : List ℕ) × Skips rest here × (at + length here ≡ from + length rest) × NoBlank here × NoForm here
-ScansFrom from rest (t ∷ ts) at = (here : List ℕ) × (n : ℕ) × IsNext from rest t here n × ScansFrom t.loc.end (drop n here) ts at
+ScansFrom from rest [] at = (here : List ℕ) × Skips rest here × (at + length here ≡ from + length rest) × NoBlank here
+    × NoForm here
+ScansFrom from rest (t ∷ ts) at =
+    (here : List ℕ) × (n : ℕ) × IsNext from rest t here n × ScansFrom t.loc.end (drop n here) ts at
 
 -- The text before the byte at is blanks and these tokens in turn, and there neither a blank nor a token begins.
 abbrev pub Scans : List ℕ → List Token → ℕ → Type 0

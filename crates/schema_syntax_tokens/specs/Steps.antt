@@ -1,5 +1,6 @@
 -- What the steps of the scanner, of the escapes and of quoting find. Only contracts inside the crate cite this.
-use Rattle.std.specs.Prelude.{◌≡◌, ◌≢◌, ℕ, ◌<◌, ◌≤◌, Bool, true, false, not, ◌==◌, List, [], ◌∷◌, ◌++◌, length, take, slice_index}
+use Rattle.std.specs.Prelude.{◌≡◌, ◌≢◌, ℕ, ◌<◌, ◌≤◌, Bool, true, false, not, ◌==◌, List, [], ◌∷◌, ◌++◌, length, take}
+use Rattle.std.specs.Prelude.{slice_index}
 use Rattle.std.specs.List.{All}
 use Rattle.std.specs.Char.{is_digit, IsScalar}
 use Rattle.cedar_data.specs.Words.{is_word_start}
@@ -46,7 +47,8 @@ is_unescaped b = not (b == 92)
 
 -- the bytes begin with two hex digits of the value c, which is at most 7F
 abbrev pub IsHexPair : List ℕ → ℕ → Type 0
-IsHexPair rest c = (a : ℕ) × (b : ℕ) × (after : List ℕ) × (rest ≡ a ∷ b ∷ after) × (is_digit a 16 ≡ true) × (is_digit b 16 ≡ true)
+IsHexPair rest c = (a : ℕ) × (b : ℕ) × (after : List ℕ) × (rest ≡ a ∷ b ∷ after) × (is_digit a 16 ≡ true)
+    × (is_digit b 16 ≡ true)
     × (c ≡ hex_value 0 (a ∷ b ∷ [])) × (c ≤ 127)
 
 abbrev pub NoHexPair : List ℕ → Type 0
@@ -69,7 +71,8 @@ pub record IsBraced (rest : List ℕ) (n c : ℕ) : Type 0 where
 
 -- the bytes begin with no such places and `}`
 abbrev pub NoBraced : List ℕ → Type 0
-NoBraced rest = (places after : List ℕ) → rest ≡ places ++ 125 ∷ after → ArePlaces places → IsScalar (hex_value 0 (digits_of places)) → ⊥
+NoBraced rest = (places after : List ℕ) → rest ≡ places ++ 125 ∷ after → ArePlaces places
+    → IsScalar (hex_value 0 (digits_of places)) → ⊥
 
 -- none of these bytes is escaped in a string
 abbrev pub NoneEscaped : List ℕ → Type 0

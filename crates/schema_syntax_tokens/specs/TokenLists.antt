@@ -13,7 +13,8 @@ abbrev pub end_of : Token → List Token → ℕ
 end_of t [] = t.loc.end
 end_of t (s ∷ u) = end_of s u
 
--- From the first token through the last. The tokens of a text follow each other, so the greater number is the end of the last.
+-- From the first token through the last. The tokens of a text follow each other, so the greater number is the end of
+-- the last.
 abbrev pub whole_place : List Token → Span
 whole_place [] = record { start = 0; end = 0 }
 whole_place (t ∷ u) = record { start = t.loc.start; end = max t.loc.start (end_of t u) }

@@ -25,28 +25,29 @@ same_text x y =
     let decides = bytes_eq-Decides (encode_utf8_all x.text) (encode_utf8_all y.text) in
     (λ h. sym (id_bytes x) ∙ (decides.0 h ∙ id_bytes y), λ e. decides.1 (ap encode_utf8_all e))
 
-module _ (E : Id → Id → Bool) (is : (x y : Id) → E x y ≡ bytes_eq (encode_utf8_all x.text) (encode_utf8_all y.text)) where
-  to_texts : (xs ys : List Id) → pointwise E xs ys ≡ true → texts_of xs ≡ texts_of ys
-  to_texts [] [] h = refl
-  to_texts [] (y ∷ ys) h = cc
-  to_texts (x ∷ xs) [] h = cc
-  to_texts (x ∷ xs) (y ∷ ys) h =
-      let first : x.text ≡ y.text = (same_text x y).0 (sym (is x y) ∙ first_so (E x y) (pointwise E xs ys) h) in
-      let rest : texts_of xs ≡ texts_of ys = to_texts xs ys (second_so (E x y) (pointwise E xs ys) h) in
-      cc
+module _ (E : Id → Id → Bool) (is : (x y : Id) → E x y ≡ bytes_eq (encode_utf8_all x.text) (encode_utf8_all y.text))
+  where
+    to_texts : (xs ys : List Id) → pointwise E xs ys ≡ true → texts_of xs ≡ texts_of ys
+    to_texts [] [] h = refl
+    to_texts [] (y ∷ ys) h = cc
+    to_texts (x ∷ xs) [] h = cc
+    to_texts (x ∷ xs) (y ∷ ys) h =
+        let first : x.text ≡ y.text = (same_text x y).0 (sym (is x y) ∙ first_so (E x y) (pointwise E xs ys) h) in
+        let rest : texts_of xs ≡ texts_of ys = to_texts xs ys (second_so (E x y) (pointwise E xs ys) h) in
+        cc
 
-  from_texts : (xs ys : List Id) → texts_of xs ≡ texts_of ys → pointwise E xs ys ≡ true
-  from_texts [] [] h = refl
-  from_texts [] (y ∷ ys) h = cc
-  from_texts (x ∷ xs) [] h = cc
-  from_texts (x ∷ xs) (y ∷ ys) h =
-      let first : x.text ≡ y.text = cc in
-      let rest : texts_of xs ≡ texts_of ys = cc in
-      and_from (E x y) (pointwise E xs ys) (is x y ∙ (same_text x y).1 first) (from_texts xs ys rest)
+    from_texts : (xs ys : List Id) → texts_of xs ≡ texts_of ys → pointwise E xs ys ≡ true
+    from_texts [] [] h = refl
+    from_texts [] (y ∷ ys) h = cc
+    from_texts (x ∷ xs) [] h = cc
+    from_texts (x ∷ xs) (y ∷ ys) h =
+        let first : x.text ≡ y.text = cc in
+        let rest : texts_of xs ≡ texts_of ys = cc in
+        and_from (E x y) (pointwise E xs ys) (is x y ∙ (same_text x y).1 first) (from_texts xs ys rest)
 
-  -- ids are equal in turn where their texts are
-  pub ids_equal : (xs ys : List Id) → (pointwise E xs ys ≡ true) ↔ (texts_of xs ≡ texts_of ys)
-  ids_equal xs ys = (to_texts xs ys, from_texts xs ys)
+    -- ids are equal in turn where their texts are
+    pub ids_equal : (xs ys : List Id) → (pointwise E xs ys ≡ true) ↔ (texts_of xs ≡ texts_of ys)
+    ids_equal xs ys = (to_texts xs ys, from_texts xs ys)
 
 -- and ordered as their texts are
 pub ids_ordered : (C : Id → Id → Ordering) → ((x y : Id) → C x y ≡ text_cmp x.text y.text) → (xs ys : List Id)

@@ -33,8 +33,12 @@ pub IsFedTo-more : {S : Type 0} (write : S → List ℕ → S) (old now new : S)
     → IsFedTo write old now body rest → IsFedTo write old new body after
 IsFedTo-more write old now new body rest after c b e f v h =
     let s = f v h in
-    let t = value_some rest after s.0 c b s.1 in
-    (t.0, t.2, s.2 ∙ (ap (λ w. fold write now (flat_map fed.char w)) t.1 ∙ sym (fed_then write now new _ (fed.char c) (flat_map fed.char t.0) e refl)))
+    let t = value_some rest after s.0 c b s.1 in (
+      t.0,
+      t.2,
+      s.2 ∙ (ap (λ w. fold write now (flat_map fed.char w)) t.1
+          ∙ sym (fed_then write now new _ (fed.char c) (flat_map fed.char t.0) e refl)),
+    )
 
 pub IsFedTo-all : {S : Type 0} (write : S → List ℕ → S) (old now : S) (body rest : List ℕ) → NoPiece rest
     → IsFedTo write old now body rest

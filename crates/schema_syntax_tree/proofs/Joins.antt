@@ -20,14 +20,18 @@ first_and_behind s w (v ∷ vs) = ap (λ t. w ++ (s ++ t)) (first_and_behind s v
 -- the text of the first id, with those behind it still to come
 pub begun : (s t : List ℕ) (x : Id) (rest ids : List Id) → t ≡ x.text → ids ≡ x ∷ rest
     → t ++ behind s (texts_of rest) ≡ joined_by s (texts_of ids)
-begun s t x rest ids h e = ap (λ u. u ++ behind s (texts_of rest)) h ∙ (sym (first_and_behind s x.text (texts_of rest)) ∙ ap (λ l. joined_by s (texts_of l)) (sym e))
+begun s t x rest ids h e = ap (λ u. u ++ behind s (texts_of rest)) h
+    ∙ (sym (first_and_behind s x.text (texts_of rest)) ∙ ap (λ l. joined_by s (texts_of l)) (sym e))
 
 -- one id more
 pub one_more : (s t u whole : List ℕ) (x : Id) (rest ids : List Id) → u ≡ (t ++ s) ++ x.text → ids ≡ x ∷ rest
     → t ++ behind s (texts_of ids) ≡ whole → u ++ behind s (texts_of rest) ≡ whole
 one_more s t u whole x rest ids h e k =
-    ap (λ v. v ++ behind s (texts_of rest)) h ∙ (append_assoc (t ++ s) x.text (behind s (texts_of rest)) ∙ (append_assoc t s (x.text ++ behind s (texts_of rest)) ∙ (ap (λ l. t ++ behind s (texts_of l)) (sym e) ∙ k)))
+    ap (λ v. v ++ behind s (texts_of rest)) h
+    ∙ (append_assoc (t ++ s) x.text (behind s (texts_of rest))
+    ∙ (append_assoc t s (x.text ++ behind s (texts_of rest)) ∙ (ap (λ l. t ++ behind s (texts_of l)) (sym e) ∙ k)))
 
 -- `::` is its own characters
 pub separator_chars : chars (codes "::") ≡ codes "::"
-separator_chars = chars-IsAscii (codes "::") (IsAscii-cons 58 (58 ∷ []) (omega arith) (IsAscii-cons 58 [] (omega arith) IsAscii-nil))
+separator_chars = chars-IsAscii (codes "::")
+    (IsAscii-cons 58 (58 ∷ []) (omega arith) (IsAscii-cons 58 [] (omega arith) IsAscii-nil))

@@ -27,8 +27,10 @@ id_bytes id = word_bytes id.text (id_is_word id.text id.word)
 pub same_tests : (v w : List ℕ) → pointwise nat_eq v w ≡ pointwise nat_eq (encode_utf8_all v) (encode_utf8_all w)
 same_tests v w =
     let characters = slice_eq-Decides Decides-eqb v w (pointwise nat_eq v w) refl in
-    let bytes = slice_eq-Decides Decides-eqb (encode_utf8_all v) (encode_utf8_all w) (pointwise nat_eq (encode_utf8_all v) (encode_utf8_all w)) refl in
-    let same : Decides (pointwise nat_eq (encode_utf8_all v) (encode_utf8_all w)) (v ≡ w) = (λ h. encodes_same v w (bytes.0 h), λ e. bytes.1 (ap encode_utf8_all e)) in
+    let bytes = slice_eq-Decides Decides-eqb (encode_utf8_all v) (encode_utf8_all w)
+    (pointwise nat_eq (encode_utf8_all v) (encode_utf8_all w)) refl in
+    let same : Decides (pointwise nat_eq (encode_utf8_all v) (encode_utf8_all w))
+    (v ≡ w) = (λ h. encodes_same v w (bytes.0 h), λ e. bytes.1 (ap encode_utf8_all e)) in
     same_from_decides _ _ characters same
 
 pub word_chars : (w : List ℕ) → is_word w ≡ true → chars w ≡ w

@@ -22,14 +22,26 @@ start_part b h = grind (arith, nat_tests)
 parts_stand : (w : List ℕ) → list_all is_word_part w ≡ true → Unescapes w w
 parts_stand [] h = refl
 parts_stand (b ∷ bs) h =
-    let part : is_word_part b ≡ true = first_so (is_word_part b) (list_all is_word_part bs) h in
-    (b ∷ [], bs, refl, inl (sym (encode_ascii b (low b part)), no_backslash b part), parts_stand bs (second_so (is_word_part b) (list_all is_word_part bs) h))
+    let part : is_word_part b ≡ true = first_so (is_word_part b) (list_all is_word_part bs) h in (
+      b ∷ [],
+      bs,
+      refl,
+      inl (sym (encode_ascii b (low b part)), no_backslash b part),
+      parts_stand bs
+          (second_so (is_word_part b) (list_all is_word_part bs) h),
+    )
 
 pub word_stands : (w : List ℕ) → is_word w ≡ true → Unescapes w w
 word_stands [] h = refl
 word_stands (b ∷ bs) h =
-    let part : is_word_part b ≡ true = start_part b (first_so (is_word_start b) (list_all is_word_part bs) h) in
-    (b ∷ [], bs, refl, inl (sym (encode_ascii b (low b part)), no_backslash b part), parts_stand bs (second_so (is_word_start b) (list_all is_word_part bs) h))
+    let part : is_word_part b ≡ true = start_part b (first_so (is_word_start b) (list_all is_word_part bs) h) in (
+      b ∷ [],
+      bs,
+      refl,
+      inl (sym (encode_ascii b (low b part)), no_backslash b part),
+      parts_stand bs
+          (second_so (is_word_start b) (list_all is_word_part bs) h),
+    )
 
 pub id_stands : (w : List ℕ) → is_id w ≡ true → Unescapes w w
 id_stands w h = word_stands w (id_is_word w h)

@@ -24,12 +24,14 @@ StandsForNothing body = (value : List ℕ) → Unescapes body value → ⊥
 
 pub same_value : (body x y : List ℕ) → ∥ Unescapes body x ∥₁ → ∥ Unescapes body y ∥₁ → x ≡ y
 same_value body x y p q =
-    ∥∥₁_elim p (Coded-set (coded_list coded_ℕ) x y) (λ h. ∥∥₁_elim q (Coded-set (coded_list coded_ℕ) x y) (λ k. one_value body x y h k))
+    ∥∥₁_elim p (Coded-set (coded_list coded_ℕ) x y)
+    (λ h. ∥∥₁_elim q (Coded-set (coded_list coded_ℕ) x y) (λ k. one_value body x y h k))
 
 lent_from : (body x y : List ℕ) → x ≡ y → (p : ∥ Unescapes body x ∥₁) (q : ∥ Unescapes body y ∥₁)
     → (let a : IsLent body = (x, p) in a) ≡ (let b : IsLent body = (y, q) in b)
 lent_from body x y e p q =
-    let P : List ℕ → Type 0 = λ z. (r : ∥ Unescapes body z ∥₁) → (let a : IsLent body = (x, p) in a) ≡ (let b : IsLent body = (z, r) in b) in
+    let P : List ℕ → Type 0 = λ z. (r : ∥ Unescapes body z ∥₁)
+    → (let a : IsLent body = (x, p) in a) ≡ (let b : IsLent body = (z, r) in b) in
     subst P e (λ r i. (x, ∥∥₁_prop p r i)) q
 
 pub IsLent-prop : (body : List ℕ) → IsProp (IsLent body)
@@ -43,5 +45,6 @@ lent_value body s v h = subst (λ t. Unescapes body t) (same_value body v s.0 �
 pub fed_alike : (x y : List ℕ) → on encode_utf8_all (pointwise nat_eq) x y ≡ true
     → flat_map fed.char x ≡ flat_map fed.char y
 fed_alike x y same =
-    let bytes = slice_eq-Decides Decides-eqb (encode_utf8_all x) (encode_utf8_all y) (pointwise nat_eq (encode_utf8_all x) (encode_utf8_all y)) refl in
+    let bytes = slice_eq-Decides Decides-eqb (encode_utf8_all x) (encode_utf8_all y)
+    (pointwise nat_eq (encode_utf8_all x) (encode_utf8_all y)) refl in
     ap (flat_map fed.char) (encodes_same x y (bytes.0 same))

@@ -29,7 +29,8 @@ value_tie (Some x) (Some y) = texts_ties (encode_utf8_all x) (encode_utf8_all y)
 
 note_tie : (p q : LentNote) → note_eq p q ≡ eq_by_cmp note_cmp p q
 note_tie p q =
-    both_tied _ _ (on any_id_utf8 (slice_cmp nat_cmp) p.0 q.0) (option_cmp text_cmp p.1 q.1) (texts_ties (any_id_utf8 p.0) (any_id_utf8 q.0)) (value_tie p.1 q.1)
+    both_tied _ _ (on any_id_utf8 (slice_cmp nat_cmp) p.0 q.0) (option_cmp text_cmp p.1 q.1)
+    (texts_ties (any_id_utf8 p.0) (any_id_utf8 q.0)) (value_tie p.1 q.1)
 
 pub ties_of_notes : (xs ys : List LentNote) → pointwise note_eq xs ys ≡ eq_by_cmp (slice_cmp note_cmp) xs ys
 ties_of_notes = lists_ties note_cmp note_tie
@@ -39,7 +40,11 @@ abbrev pub note_fed : LentNote → List (List ℕ)
 note_fed p = fed.str (any_id_utf8 p.0) ++ fed.option (flat_map fed.char) p.1
 
 words_fed : Alike (on any_id_utf8 (pointwise nat_eq)) (λ id. fed.str (any_id_utf8 id))
-words_fed = record { fed = λ x y same. ap fed.str ((slice_eq-Decides Decides-eqb (any_id_utf8 x) (any_id_utf8 y) (pointwise nat_eq (any_id_utf8 x) (any_id_utf8 y)) refl).0 same) }
+words_fed = record {
+  fed = λ x y same. ap fed.str
+      ((slice_eq-Decides Decides-eqb (any_id_utf8 x) (any_id_utf8 y) (pointwise nat_eq (any_id_utf8 x) (any_id_utf8 y))
+      refl).0 same);
+}
 
 values_fed : (x y : Option (List ℕ)) → option_eq (on encode_utf8_all (pointwise nat_eq)) x y ≡ true
     → fed.option (flat_map fed.char) x ≡ fed.option (flat_map fed.char) y
@@ -50,4 +55,5 @@ values_fed (Some x) (Some y) same = ap (λ writes. fed.option (λ w. w) (Some wr
 
 pub notes_fed_alike : (xs ys : List LentNote) → pointwise note_eq xs ys ≡ true
     → fed.slice note_fed xs ≡ fed.slice note_fed ys
-notes_fed_alike = (items_Alike (and-Alike (on_Alike note_key words_fed) (on_Alike note_value (record { fed = values_fed })))).fed
+notes_fed_alike = (items_Alike
+    (and-Alike (on_Alike note_key words_fed) (on_Alike note_value (record { fed = values_fed })))).fed

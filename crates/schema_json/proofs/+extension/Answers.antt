@@ -10,22 +10,29 @@ extension::is_extension_among-is_extension-requires g t c κs within =
     let size = size-TypeOfAttribute g.row.N.Denot in
     let it = c.loop-attribute-item.result in
     let le = most_at size c.args.entries.now c.loop-attribute.attribute-index it c.loop-attribute-test.true in
-    let same : size it.1 ≡ size (get_or c.args.entries.now c.loop-attribute.attribute-index it).1 = ap (λ p. size p.1) c.loop-attribute-item.is in
+    let same : size it.1 ≡ size (get_or c.args.entries.now c.loop-attribute.attribute-index it).1 = ap (λ p. size p.1)
+    c.loop-attribute-item.is in
     let below = size_is-TypeOfAttribute g.row.N.Denot it.1 in
     (omega (arith, le, same, c.decreases, below), search rules)
 
 pub extension::is_extension_among-returns-in_err-found :
     goal.extension::is_extension_among-returns-in_err-found
 extension::is_extension_among-returns-in_err-found g t c =
-    let step = answers_step g.row.N.Denot c.args.entries.now c.loop-attribute.attribute-index c.loop-attribute-item.result c.loop-attribute-test.true c.loop-attribute-item.is in
-    c.from_residual.ensures ∙ (one_answer c.loop-attribute.found None _ _ _ c.in_err-found.ensures step ∙ c.loop-attribute.invariant)
+    let step = answers_step g.row.N.Denot c.args.entries.now c.loop-attribute.attribute-index
+    c.loop-attribute-item.result c.loop-attribute-test.true c.loop-attribute-item.is in
+    c.from_residual.ensures ∙ (one_answer c.loop-attribute.found None _ _ _ c.in_err-found.ensures step
+    ∙ c.loop-attribute.invariant)
 
 pub extension::is_extension_among-loop-attribute-preserved :
     goal.extension::is_extension_among-loop-attribute-preserved
 extension::is_extension_among-loop-attribute-preserved g t c =
-    let step = answers_step g.row.N.Denot c.args.entries.now c.loop-attribute.attribute-index c.loop-attribute-item.result c.loop-attribute-test.true c.loop-attribute-item.is in
-    sym (either_more c.loop-attribute.found c.in_ok-found.field-0 _) ∙ (one_answer c.loop-attribute.found (Some c.in_ok-found.field-0) _ _ _ c.in_ok-found.ensures step ∙ c.loop-attribute.invariant)
+    let step = answers_step g.row.N.Denot c.args.entries.now c.loop-attribute.attribute-index
+    c.loop-attribute-item.result c.loop-attribute-test.true c.loop-attribute-item.is in
+    sym (either_more c.loop-attribute.found c.in_ok-found.field-0 _)
+    ∙ (one_answer c.loop-attribute.found (Some c.in_ok-found.field-0) _ _ _ c.in_ok-found.ensures step
+    ∙ c.loop-attribute.invariant)
 
 pub types::TypeVariant::is_extension-returns-in-Record : goal.types::TypeVariant::is_extension-returns-in-Record
 types::TypeVariant::is_extension-returns-in-Record g t c =
-    rw (c.in-Record.is, variant_answered g.row.N.Denot c.in-Record.record, ← c.as_slice.ensures.entries) c.is_extension_among.ensures
+    rw (c.in-Record.is, variant_answered g.row.N.Denot c.in-Record.record, ← c.as_slice.ensures.entries)
+    c.is_extension_among.ensures

@@ -51,14 +51,17 @@ pub the_items_listed : (K X : Type 0) (m : List (K × X))
 the_items_listed K X m = values_listed K X m
 
 abbrev fields : Type 0 → Former {0}
-fields K = via (vec.the_former (entry this K) Global) (λ X. Inside K X) (λ X a. a.entries) (λ X v. record { entries = v }) (λ X a. refl) (λ X v. refl)
+fields K = via (vec.the_former (entry this K) Global) (λ X. Inside K X) (λ X a. a.entries)
+    (λ X v. record { entries = v }) (λ X a. refl) (λ X v. refl)
 
-module _ (K : RattleType) (G : ord.Ghosts K.Denot) (G' : eq.Ghosts K.Denot) (G'' : partial.Ghosts K.Denot) (R R' : RattleType) (h : R.Denot → R'.Denot) where
+module _ (K : RattleType) (G : ord.Ghosts K.Denot) (G' : eq.Ghosts K.Denot) (G'' : partial.Ghosts K.Denot)
+    (R R' : RattleType) (h : R.Denot → R'.Denot) where
   abbrev pair_of : RattleType → RattleType
   pair_of S = Tuple (K ∷ (S ∷ []))
 
   pair_places : Alike R R' h → Alike (pair_of R) (pair_of R') (on_value h)
-  pair_places a = struct_places (tuple_type (K ∷ (R ∷ []))) (tuple_type (K ∷ (R' ∷ []))) (λ x. x, (h, tt)) (on_value h) (λ d. refl) refl (stays K, (laid _ _ _ a, tt))
+  pair_places a = struct_places (tuple_type (K ∷ (R ∷ []))) (tuple_type (K ∷ (R' ∷ []))) (λ x. x, (h, tt))
+      (on_value h) (λ d. refl) refl (stays K, (laid _ _ _ a, tt))
 
   same_keys : (es : List (K.Denot × R.Denot)) → keys_of (map (on_value h) es) ≡ keys_of es
   same_keys es = keys_on_values h es
@@ -70,9 +73,11 @@ module _ (K : RattleType) (G : ord.Ghosts K.Denot) (G' : eq.Ghosts K.Denot) (G''
       R.Denot R'.Denot h (C.the_row K R G G' G'').coded (C.the_row K R' G G' G'').coded
       (invariant K.Denot R.Denot G G' G'') (invariant K.Denot R'.Denot G G' G'')
       (λ u. IsStrictlySortedBy-prop G.cmp _) (λ u. IsStrictlySortedBy-prop G.cmp _)
-      (λ u s. subst (IsStrictlySortedBy G.cmp) (sym (same_keys u.entries.items)) s) (λ u s. subst (IsStrictlySortedBy G.cmp) (same_keys u.entries.items) s)
+      (λ u s. subst (IsStrictlySortedBy G.cmp) (sym (same_keys u.entries.items)) s)
+      (λ u s. subst (IsStrictlySortedBy G.cmp) (same_keys u.entries.items) s)
       (over (I.the_row K R G G' G'')) (over (I.the_row K R' G G' G''))
-      (struct_places (I.the_type K R G G' G'') (I.the_type K R' G G' G'') (vec.mapped (on_value h), tt) _ (λ d. refl) refl (laid _ _ _ (vec.the_places heap.the_row ghosts (pair_of R) (pair_of R') (on_value h) (pair_places a)), tt))
+      (struct_places (I.the_type K R G G' G'') (I.the_type K R' G G' G'') (vec.mapped (on_value h), tt) _ (λ d. refl)
+      refl (laid _ _ _ (vec.the_places heap.the_row ghosts (pair_of R) (pair_of R') (on_value h) (pair_places a)), tt))
 
   pub the_codes_placed : Recodes R R' h
       → Recodes (C.the_row K R G G' G'') (C.the_row K R' G G' G'') ((the_former this K.Denot).map R.Denot R'.Denot h)
@@ -80,15 +85,18 @@ module _ (K : RattleType) (G : ord.Ghosts K.Denot) (G' : eq.Ghosts K.Denot) (G''
 
 module _ {K X Y : Type 0} (h : X → Y) where
   pub entries_eq : (F : K × Y → K × Y → Bool) (es fs : List (K × X))
-      → pointwise F (map (on_value h) es) (map (on_value h) fs) ≡ pointwise (λ p q. F (on_value h p) (on_value h q)) es fs
+      → pointwise F (map (on_value h) es) (map (on_value h) fs)
+      ≡ pointwise (λ p q. F (on_value h p) (on_value h q)) es fs
   entries_eq = pointwise-map (on_value h)
 
   pub entries_cmp : (F : K × Y → K × Y → Ordering) (es fs : List (K × X))
-      → slice_cmp F (map (on_value h) es) (map (on_value h) fs) ≡ slice_cmp (λ p q. F (on_value h p) (on_value h q)) es fs
+      → slice_cmp F (map (on_value h) es) (map (on_value h) fs)
+      ≡ slice_cmp (λ p q. F (on_value h p) (on_value h q)) es fs
   entries_cmp = lex_map (on_value h)
 
   pub entries_partial_cmp : (F : K × Y → K × Y → Option Ordering) (es fs : List (K × X))
-      → slice_partial_cmp F (map (on_value h) es) (map (on_value h) fs) ≡ slice_partial_cmp (λ p q. F (on_value h p) (on_value h q)) es fs
+      → slice_partial_cmp F (map (on_value h) es) (map (on_value h) fs)
+      ≡ slice_partial_cmp (λ p q. F (on_value h p) (on_value h q)) es fs
   entries_partial_cmp = slice_partial_cmp-map (on_value h)
 
   pub entries_hashed : (F : K × Y → HashWrites) (es : List (K × X))

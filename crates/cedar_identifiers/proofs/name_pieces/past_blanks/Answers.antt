@@ -8,10 +8,13 @@ pub loop-after-init : goal.loop-after-init
 loop-after-init c = (c.utf8.text, here)
 
 pub loop-after-smaller : goal.loop-after-smaller
-loop-after-smaller c = rw c.in-Some.ensures.1 (past-blank c.loop-after.rest.now c.loop-after.invariant.0 c.in-Some.ensures.0).shorter
+loop-after-smaller c = rw c.in-Some.ensures.1
+    (past-blank c.loop-after.rest.now c.loop-after.invariant.0 c.in-Some.ensures.0).shorter
 
 pub loop-after-preserved : goal.loop-after-preserved
 loop-after-preserved c = (
-  subst IsUtf8 (sym c.in-Some.ensures.1) (past-blank c.loop-after.rest.now c.loop-after.invariant.0 c.in-Some.ensures.0).rest,
-  behind-blank _ c.loop-after.rest.now c.in-Some.after.now c.in-Some.ensures.0 c.in-Some.ensures.1 c.loop-after.invariant.1,
+  subst IsUtf8 (sym c.in-Some.ensures.1)
+      (past-blank c.loop-after.rest.now c.loop-after.invariant.0 c.in-Some.ensures.0).rest,
+  behind-blank _ c.loop-after.rest.now c.in-Some.after.now c.in-Some.ensures.0 c.in-Some.ensures.1
+      c.loop-after.invariant.1,
 )

@@ -12,14 +12,19 @@ use Rattle.cedar_names.proofs.all_defs.add_name.Goals as goal
 pub returns-in-Ok-clause-added : goal.returns-in-Ok-clause-added
 returns-in-Ok-clause-added c =
     let name = c.args.name in
-    let there = sym (name_sought (ids_of name) c.as_slice.result.now) ∙ hit (λ x. slice_cmp ids_in_order (ids_of x) (ids_of name)) c.as_slice.result.now _ c.in-Ok.ensures.found in
+    let there = sym (name_sought (ids_of name) c.as_slice.result.now)
+    ∙ hit (λ x. slice_cmp ids_in_order (ids_of x) (ids_of name)) c.as_slice.result.now _ c.in-Ok.ensures.found in
     name_there _ _ (ap (λ l. among (map components_of l) (components_of name)) (sym c.as_slice.ensures.value) ∙ there)
 
 pub returns-in_ok-insert-in-Err-clause-sorted : goal.returns-in_ok-insert-in-Err-clause-sorted
 returns-in_ok-insert-in-Err-clause-sorted c =
-    let within = subst (λ l. StandsWithin (λ x. slice_cmp ids_in_order (ids_of x) (ids_of c.args.name)) l c.in-Err.at c.in-Err.at) c.as_slice.ensures.value c.in-Err.ensures.absent in
-    rw c.in_ok-insert-in-Err.ensures.items (stays_sorted names_total c.args.name c.args.names.now.items c.in-Err.at c.requires within.in_range within.below within.above)
+    let within = subst (λ l. StandsWithin (λ x. slice_cmp ids_in_order (ids_of x) (ids_of c.args.name)) l c.in-Err.at
+    c.in-Err.at) c.as_slice.ensures.value c.in-Err.ensures.absent in
+    rw c.in_ok-insert-in-Err.ensures.items
+    (stays_sorted names_total c.args.name c.args.names.now.items c.in-Err.at c.requires within.in_range within.below
+    within.above)
 
 pub returns-in_ok-insert-in-Err-clause-added : goal.returns-in_ok-insert-in-Err-clause-added
 returns-in_ok-insert-in-Err-clause-added c = λ n.
-    ap (λ l. among (map components_of l) n) c.in_ok-insert-in-Err.ensures.items ∙ name_put_in c.args.names.now.items c.in-Err.at c.args.name n
+    ap (λ l. among (map components_of l) n) c.in_ok-insert-in-Err.ensures.items
+    ∙ name_put_in c.args.names.now.items c.in-Err.at c.args.name n

@@ -7,4 +7,5 @@ use Rattle.cedar_names.proofs.all_defs.add_type.Goals as goal
 pub returns-then-ends_with : goal.returns-then-ends_with
 returns-then-ends_with c =
     let ty = components_of c.args.ty.now in
-    name_there (map components_of c.args.types.now.items) ty (ap (λ l. among (map components_of l) ty) (sym c.as_slice.ensures.value) ∙ c.ends_with.ensures c.if-ends_with.true)
+    name_there (map components_of c.args.types.now.items) ty
+    (ap (λ l. among (map components_of l) ty) (sym c.as_slice.ensures.value) ∙ c.ends_with.ensures c.if-ends_with.true)

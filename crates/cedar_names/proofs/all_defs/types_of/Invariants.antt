@@ -4,4 +4,6 @@ use Rattle.cedar_names.specs.Definitions.{among, action_of}
 use Rattle.cedar_names.proofs.all_defs.types_of.Given as goal
 
 abbrev pub invariant-loop-action : goal.invariant-loop-action
-invariant-loop-action l = (n : List (List ℕ)) → among (map components_of l.types.items) n ≡ among (map (λ a. a.0) (map action_of (take l.action-index l.actions))) n
+invariant-loop-action l = (n : List (List ℕ))
+    → among (map components_of l.types.items) n
+    ≡ among (map (λ a. a.0) (map action_of (take l.action-index l.actions))) n

@@ -11,6 +11,9 @@ returns g c =
     let sorted = c.sort_unstable.new.self.items in
     let is = dedup_is g.T.PartialEq.eq sorted c.dedup.new.self.items c.dedup.ensures.filtered in
     record {
-      sorted = subst (IsStrictlySortedBy g.T.Ord.cmp) (sym is) (IsStrictlySortedBy-dedup g.met.T.Ord.total g.met.T.Ord.matches_eq sorted c.sort_unstable.ensures.sorted);
-      same = λ passes alike. ap (list_any passes) is ∙ kept g.T.PartialEq.eq passes (λ x y e. alike x y (sym (g.met.T.Ord.matches_eq x y) ∙ e)) sorted ∙ shuffled passes _ sorted c.sort_unstable.ensures.permutation;
+      sorted = subst (IsStrictlySortedBy g.T.Ord.cmp) (sym is)
+          (IsStrictlySortedBy-dedup g.met.T.Ord.total g.met.T.Ord.matches_eq sorted c.sort_unstable.ensures.sorted);
+      same = λ passes alike. ap (list_any passes) is
+          ∙ kept g.T.PartialEq.eq passes (λ x y e. alike x y (sym (g.met.T.Ord.matches_eq x y) ∙ e)) sorted
+          ∙ shuffled passes _ sorted c.sort_unstable.ensures.permutation;
     }

@@ -3,5 +3,6 @@ use Rattle.cedar_names.proofs.table_words.into_set.Goals as goal
 
 pub from_sorted_vec-requires : goal.from_sorted_vec-requires
 from_sorted_vec-requires c =
-    let all : c.loop-id.items.items ≡ c.args.seen.keys = sym (append-nil _) ∙ ap (λ rest. c.loop-id.items.items ++ rest) (sym c.in-None.ensures.steps.0) ∙ c.loop-id.invariant in
+    let all : c.loop-id.items.items ≡ c.args.seen.keys = sym (append-nil _)
+    ∙ ap (λ rest. c.loop-id.items.items ++ rest) (sym c.in-None.ensures.steps.0) ∙ c.loop-id.invariant in
     rw all c.len.ensures.ordered

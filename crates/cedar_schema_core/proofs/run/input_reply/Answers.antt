@@ -4,8 +4,10 @@ use Rattle.cedar_schema_core.proofs.run.input_reply.Goals as goal
 
 pub returns-in-Ok : goal.returns-in-Ok
 returns-in-Ok c =
-    text_planned c.args.command.now c.in-Ok.text.now c.args.bytes.now c.text_reply.result c.in-Ok.ensures.cases.0 c.in-Ok.ensures.cases.1 c.requires c.text_reply.ensures
+    text_planned c.args.command.now c.in-Ok.text.now c.args.bytes.now c.text_reply.result c.in-Ok.ensures.cases.0
+    c.in-Ok.ensures.cases.1 c.requires c.text_reply.ensures
 
 pub returns-in-Err : goal.returns-in-Err
 returns-in-Err c =
-    so (IsInputPlan c.args.command.now c.args.bytes.now) c.line.result not_text_report (not_text c.requires c.in-Err.ensures.cases.0) c.line.ensures
+    so (IsInputPlan c.args.command.now c.args.bytes.now) c.line.result not_text_report
+    (not_text c.requires c.in-Err.ensures.cases.0) c.line.ensures

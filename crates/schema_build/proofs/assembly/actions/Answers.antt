@@ -6,6 +6,9 @@ use Rattle.schema_build.proofs.assembly.actions.Goals as goal
 
 pub returns : goal.returns
 returns c f table hold =
-    let at = subst (λ l. AreAllAt (map (λ e. e.name) l) c.args.above.now c.in_ok-ancestors.ancestors.items) c.deref.ensures.value c.in_ok-ancestors.ensures in
-    let built = actions_built f table c.args.entries.items c.args.above.now c.in_ok-ancestors.ancestors.items c.args.kinds.items hold at in
-    IfOk-weaker c.actions_of.result _ (λ out. AreActionsBuilt f table out.items) (λ out is. subst (AreActionsBuilt f table) (sym is) built) c.actions_of.ensures
+    let at = subst (λ l. AreAllAt (map (λ e. e.name) l) c.args.above.now c.in_ok-ancestors.ancestors.items)
+    c.deref.ensures.value c.in_ok-ancestors.ensures in
+    let built = actions_built f table c.args.entries.items c.args.above.now c.in_ok-ancestors.ancestors.items
+    c.args.kinds.items hold at in
+    IfOk-weaker c.actions_of.result _ (λ out. AreActionsBuilt f table out.items)
+    (λ out is. subst (AreActionsBuilt f table) (sym is) built) c.actions_of.ensures

@@ -11,6 +11,9 @@ returns c =
     (YieldsList-from_map _ action_of_parts
     (YieldsList-at c.map.ensures.source
     (YieldsList-from_zip
-    (YieldsList-at c.zip-2.ensures.first (YieldsList-from_zip (YieldsList-at c.zip.ensures.first (YieldsList-from_vec c.args.entries.items c.into_iter.ensures.rest (search rules))) (YieldsList-from_vec c.args.ancestors.items c.zip.ensures.second.0 (search rules))))
+    (YieldsList-at c.zip-2.ensures.first
+    (YieldsList-from_zip (YieldsList-at c.zip.ensures.first
+    (YieldsList-from_vec c.args.entries.items c.into_iter.ensures.rest (search rules)))
+    (YieldsList-from_vec c.args.ancestors.items c.zip.ensures.second.0 (search rules))))
     (YieldsList-from_vec c.args.kinds.items c.zip-2.ensures.second.0 (search rules))))
     c.map.ensures.closure (λ x r q k. search (rules, tests)))

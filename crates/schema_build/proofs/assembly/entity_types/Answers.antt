@@ -6,6 +6,9 @@ use Rattle.schema_build.proofs.assembly.entity_types.Goals as goal
 
 pub returns : goal.returns
 returns c f table hold =
-    let at = subst (λ l. AreAllAt (map (λ e. e.name) l) c.args.above.now c.in_ok-ancestors.ancestors.items) c.deref.ensures.value c.in_ok-ancestors.ensures in
-    let built = entities_built f table c.args.entries.items c.args.above.now c.in_ok-ancestors.ancestors.items c.args.kinds.items hold at in
-    IfOk-weaker c.entity_types_of.result _ (λ out. AreEntitiesBuilt f table out.items) (λ out is. subst (AreEntitiesBuilt f table) (sym is) built) c.entity_types_of.ensures
+    let at = subst (λ l. AreAllAt (map (λ e. e.name) l) c.args.above.now c.in_ok-ancestors.ancestors.items)
+    c.deref.ensures.value c.in_ok-ancestors.ensures in
+    let built = entities_built f table c.args.entries.items c.args.above.now c.in_ok-ancestors.ancestors.items
+    c.args.kinds.items hold at in
+    IfOk-weaker c.entity_types_of.result _ (λ out. AreEntitiesBuilt f table out.items)
+    (λ out is. subst (AreEntitiesBuilt f table) (sym is) built) c.entity_types_of.ensures

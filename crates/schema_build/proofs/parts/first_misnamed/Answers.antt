@@ -9,6 +9,8 @@ pub returns-then-not-is_action_type : goal.returns-then-not-is_action_type
 returns-then-not-is_action_type c =
     let a = c.loop-uid-item.result in (
       a.1,
-      first_at IsMisnamed c.args.actions.now c.loop-uid.uid-index a c.loop-uid-test.true c.loop-uid-item.is c.loop-uid.invariant
-          (differs (basename (components_of a.0.ty.name)) (codes "Action") c.is_action_type.result c.is_action_type.ensures c.if-not-is_action_type.true),
+      first_at IsMisnamed c.args.actions.now c.loop-uid.uid-index a c.loop-uid-test.true c.loop-uid-item.is
+          c.loop-uid.invariant
+          (differs (basename (components_of a.0.ty.name)) (codes "Action") c.is_action_type.result
+          c.is_action_type.ensures c.if-not-is_action_type.true),
     )

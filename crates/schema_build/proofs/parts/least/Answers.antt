@@ -13,6 +13,11 @@ loop-name-preserved c =
     let others = c.args.others.now in
     let i = c.loop-name.name-index in
     elim c.match-cmp.branch [
-      | in-Less w ↦ subst (λ b. IsLeastSoFar first others (i + 1) b.now) (sym w.least-is) (least_taken first others i c.loop-name.least.now c.name-item.result c.loop-name-test.true c.name-item.is (sym c.cmp.ensures ∙ w.in-Less.is) c.loop-name.invariant)
-      | in-Equal w ↦ subst (λ b. IsLeastSoFar first others (i + 1) b.now) (sym w.least-is) (least_kept first others i c.loop-name.least.now c.name-item.result c.loop-name-test.true c.name-item.is (not_less (names_in_order c.name-item.result.name c.loop-name.least.now.name) c.cmp.result c.cmp.ensures w.in-Equal.is) c.loop-name.invariant)
+      | in-Less w ↦ subst (λ b. IsLeastSoFar first others (i + 1) b.now) (sym w.least-is)
+          (least_taken first others i c.loop-name.least.now c.name-item.result c.loop-name-test.true c.name-item.is
+          (sym c.cmp.ensures ∙ w.in-Less.is) c.loop-name.invariant)
+      | in-Equal w ↦ subst (λ b. IsLeastSoFar first others (i + 1) b.now) (sym w.least-is)
+          (least_kept first others i c.loop-name.least.now c.name-item.result c.loop-name-test.true c.name-item.is
+          (not_less (names_in_order c.name-item.result.name c.loop-name.least.now.name) c.cmp.result c.cmp.ensures
+          w.in-Equal.is) c.loop-name.invariant)
     ]

@@ -9,5 +9,11 @@ use Rattle.schema_build_checks.proofs.called_action.check_action_types.Goals as 
 pub returns-in-Some-clause-err : goal.returns-in-Some-clause-err
 returns-in-Some-clause-err c =
     let xs = c.as_slice-ns-items.result.now in
-    let all = whole_given (λ e. flat_map (called_action e.0) e.1.entity_types) xs _ c.loop-ns.ns-index c.loop-ns-test.false c.as_slice-ns-items.ensures.entries in
-    inr (c.in-Some.name, subst (λ l. IsFirstLeast names_in_order l c.in-Some.name) (c.loop-ns.invariant ∙ all) c.in-Some.ensures, refl)
+    let all = whole_given (λ e. flat_map (called_action e.0) e.1.entity_types) xs _ c.loop-ns.ns-index
+    c.loop-ns-test.false c.as_slice-ns-items.ensures.entries in
+    inr (
+      c.in-Some.name,
+      subst (λ l. IsFirstLeast names_in_order l c.in-Some.name) (c.loop-ns.invariant ∙ all)
+          c.in-Some.ensures,
+      refl,
+    )

@@ -10,7 +10,8 @@ returns-in_ok-shadowed_def-in-Some-clause-err c =
     let f = c.args.fragment.now in
     let xs = c.as_slice-ns-items.result.now in
     let uid = c.in-Some.shadowing_def in
-    let all = whole_given (hiding_actions_in (tests_of c.args.defs.now)) xs f.0 c.loop-ns.ns-index c.loop-ns-test.false c.as_slice-ns-items.ensures.entries in
+    let all = whole_given (hiding_actions_in (tests_of c.args.defs.now)) xs f.0 c.loop-ns.ns-index
+    c.loop-ns-test.false c.as_slice-ns-items.ensures.entries in
     let is = c.loop-ns.invariant ∙ all ∙ ap (λ t. hiding_actions t f) c.requires in
     let least = least_seen at_of actions_at_in_order c.loop-ns.found.items uid c.in-Some.ensures in
     inr (subst (λ l. IsFirstLeast actions_at_in_order l (at_of uid)) is least, c.in_ok-shadowed_def-in-Some.ensures)

@@ -5,4 +5,5 @@ use Rattle.schema_build_checks.specs.DeclaredAt.{at_of, hiding_actions_in}
 use Rattle.schema_build_checks.proofs.hiding_actions.check_action_shadowing.Given as goal
 
 abbrev pub invariant-loop-ns : goal.invariant-loop-ns
-invariant-loop-ns l = map at_of l.found.items ≡ flat_map (hiding_actions_in (tests_of l.defs)) (take l.ns-index l.ns-items)
+invariant-loop-ns l = map at_of l.found.items
+    ≡ flat_map (hiding_actions_in (tests_of l.defs)) (take l.ns-index l.ns-items)

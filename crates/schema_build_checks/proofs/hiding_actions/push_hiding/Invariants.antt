@@ -6,4 +6,5 @@ use Rattle.schema_build_checks.proofs.hiding_actions.push_hiding.Given as goal
 
 abbrev pub invariant-loop-id : goal.invariant-loop-id
 invariant-loop-id l =
-    map at_of l.found.items ≡ map at_of l.initial.found.items ++ flat_map (hiding_action (tests_of l.defs) l.ns) (take l.id-index l.actions)
+    map at_of l.found.items ≡ map at_of l.initial.found.items
+    ++ flat_map (hiding_action (tests_of l.defs) l.ns) (take l.id-index l.actions)

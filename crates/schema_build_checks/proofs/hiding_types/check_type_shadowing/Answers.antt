@@ -10,6 +10,10 @@ pub returns-in_ok-shadowed_def-in-Some-clause-err : goal.returns-in_ok-shadowed_
 returns-in_ok-shadowed_def-in-Some-clause-err c =
     let f = c.args.fragment.now in
     let xs = c.as_slice-ns-items.result.now in
-    let all = whole_given (hiding_types_in (tests_of c.args.defs.now)) xs f.0 c.loop-ns.ns-index c.loop-ns-test.false c.as_slice-ns-items.ensures.entries in
+    let all = whole_given (hiding_types_in (tests_of c.args.defs.now)) xs f.0 c.loop-ns.ns-index c.loop-ns-test.false
+    c.as_slice-ns-items.ensures.entries in
     let is = c.loop-ns.invariant ∙ all ∙ ap (λ t. hiding_types t f) c.requires in
-    inr (subst (λ l. IsFirstLeast names_in_order l c.in-Some.shadowing_def) is c.in-Some.ensures, c.in_ok-shadowed_def-in-Some.ensures)
+    inr (
+      subst (λ l. IsFirstLeast names_in_order l c.in-Some.shadowing_def) is c.in-Some.ensures,
+      c.in_ok-shadowed_def-in-Some.ensures,
+    )

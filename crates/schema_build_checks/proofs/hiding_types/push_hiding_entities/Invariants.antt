@@ -6,4 +6,5 @@ use Rattle.schema_build_checks.proofs.hiding_types.push_hiding_entities.Given as
 
 abbrev pub invariant-loop-id : goal.invariant-loop-id
 invariant-loop-id l =
-    l.found.items ≡ l.initial.found.items ++ flat_map (hiding_entity (tests_of l.defs) l.ns) (take l.id-index l.entities)
+    l.found.items ≡ l.initial.found.items
+    ++ flat_map (hiding_entity (tests_of l.defs) l.ns) (take l.id-index l.entities)

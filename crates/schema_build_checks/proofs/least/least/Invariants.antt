@@ -5,4 +5,5 @@ use Rattle.schema_build_checks.specs.Least.{IsFirstLeast}
 use Rattle.schema_build_checks.proofs.least.least.Given as goal
 
 abbrev pub invariant-loop-item : goal.invariant-loop-item
-invariant-loop-item g l = (taken : List _) × (taken ++ into_iter_items l.item-iterator ≡ l.fn.items.items) × MatchOption l.least (taken ≡ []) (IsFirstLeast g.T.Ord.cmp taken)
+invariant-loop-item g l = (taken : List _) × (taken ++ into_iter_items l.item-iterator ≡ l.fn.items.items)
+    × MatchOption l.least (taken ≡ []) (IsFirstLeast g.T.Ord.cmp taken)

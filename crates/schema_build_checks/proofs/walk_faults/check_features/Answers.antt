@@ -18,7 +18,8 @@ returns-in-Err-First-clause-err c =
     let parts = fragment_parts c.args.fragment.now in
     let feature = c.in-Err-First.feature in
     let told = UnsupportedFeature (record { 0 = feature }) in
-    let first = first_at (λ v e. unsupported e.1) _ parts c.in-Err-First.field-0 feature c.in-Err-First.field-0-is c.in-Err-First.ensures.refused in
+    let first = first_at (λ v e. unsupported e.1) _ parts c.in-Err-First.field-0 feature c.in-Err-First.field-0-is
+    c.in-Err-First.ensures.refused in
     inr (subst (λ l. IsAboutFirst NamesFeature l told)
     (sym (c.fragment_gives_what_its_parts_give.ensures (λ ns part. unsupported part)))
     (about_first NamesFeature _ feature told first (record { 0 = feature }, refl, refl)))

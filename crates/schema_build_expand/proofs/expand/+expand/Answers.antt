@@ -14,7 +14,8 @@ use Rattle.schema_build_expand.specs.Targets.{IsReady, ExpandsTo, ShapeExpandsTo
 use Rattle.schema_build_expand.proofs.Depths.{depth, variant_depth, entries_depth}
 use Rattle.schema_build_expand.proofs.Deep.{shape_deep, set_deep, record_is_deep, entry_deep}
 use Rattle.schema_build_expand.proofs.Made.{zip_more, if_ok, entries_made, keys_kept}
-use Rattle.schema_build_expand.proofs.Walked.{all_record, all_entry, common_walked, shape_walked, set_walked, entity_walked, either_walked, extension_walked}
+use Rattle.schema_build_expand.proofs.Walked.{all_record, all_entry, common_walked, shape_walked, set_walked}
+use Rattle.schema_build_expand.proofs.Walked.{entity_walked, either_walked, extension_walked}
 use Rattle.schema_build_expand.proofs.expand.+expand.Goals as goal
 
 pub expand_entries-expand_type-requires : goal.expand_entries-expand_type-requires

@@ -33,7 +33,8 @@ pub needed-requires-clause-roots : goal.needed-requires-clause-roots
 needed-requires-clause-roots g c =
     let same : length g.s.commons ≡ length c.deref-2.result.now =
     omega (arith, c.requires.1.1.1.0, c.in_ok-rows.ensures.same, ap length c.deref-2.ensures.value) in
-    rw c.deref-4.ensures.value (subst (λ n. All (λ v. v < n) c.in_ok-roots.roots.items) same c.in_ok-roots.ensures.below)
+    rw c.deref-4.ensures.value (subst (λ n. All (λ v. v < n) c.in_ok-roots.roots.items) same
+    c.in_ok-roots.ensures.below)
 
 pub expand_commons-requires : goal.expand_commons-requires
 expand_commons-requires g c κs within =

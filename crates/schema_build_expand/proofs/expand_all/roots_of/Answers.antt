@@ -24,7 +24,8 @@ loop-names-preserved g c =
       below = subst (All (λ k. k < length g.s.commons)) (sym grown)
           (below_more g.s g.R.Meanings.place uses it l.roots.items row made l.invariant.below);
       among = subst (AreRanksAmong g.s g.R.Meanings.place (take (i + 1) uses)) (sym grown)
-          (among_more g.s g.R.Meanings.place uses it i l.roots.items row lt c.loop-names-item.is made l.invariant.among);
+          (among_more g.s g.R.Meanings.place uses it i l.roots.items row lt c.loop-names-item.is made
+          l.invariant.among);
     }
 
 pub returns-clause-whole : goal.returns-clause-whole

@@ -14,7 +14,8 @@ returns-then-contains c =
     let rows = c.args.rows.now in
     let v = c.loop-vertex.vertex-counter in
     let d : Decides c.contains.result
-    (HasEdge rows v v) = own_target rows v c.index-rows-vertex.result c.deref.result.now c.contains.result c.loop-vertex-test.true c.index-rows-vertex.is c.deref.ensures.value c.contains.ensures.cases in
+    (HasEdge rows v v) = own_target rows v c.index-rows-vertex.result c.deref.result.now c.contains.result
+    c.loop-vertex-test.true c.index-rows-vertex.is c.deref.ensures.value c.contains.ensures.cases in
     λ graph all. least_of graph rows all v (d.0 c.if-contains.true) c.loop-vertex.invariant
 
 pub loop-vertex-preserved : goal.loop-vertex-preserved
@@ -22,7 +23,8 @@ loop-vertex-preserved c =
     let rows = c.args.rows.now in
     let v = c.loop-vertex.vertex-counter in
     let d : Decides c.contains.result
-    (HasEdge rows v v) = own_target rows v c.index-rows-vertex.result c.deref.result.now c.contains.result c.loop-vertex-test.true c.index-rows-vertex.is c.deref.ensures.value c.contains.ensures.cases in
+    (HasEdge rows v v) = own_target rows v c.index-rows-vertex.result c.deref.result.now c.contains.result
+    c.loop-vertex-test.true c.index-rows-vertex.is c.deref.ensures.value c.contains.ensures.cases in
     λ u lt e. elim (cases_lt u v) [
       | inl less ↦ c.loop-vertex.invariant u less e
       | inr more ↦

@@ -21,7 +21,8 @@ loop-left-preserved-then-marks-vertex c =
     let order = c.args.order.now in
     let some : 0 < l.left = c.loop-left-test.true in
     let vertex = get_or order (l.left - 1) 0 in
-    let inside : vertex < length graph = c.requires.order.below (l.left - 1) 0 (omega (arith, some, l.invariant.within)) in
+    let inside : vertex < length graph = c.requires.order.below (l.left - 1) 0
+    (omega (arith, some, l.invariant.within)) in
     let row : targets_of graph vertex ≡ c.deref.result.now =
     targets_at graph vertex c.index-graph-vertex.result inside c.index-graph-vertex.is ∙ sym c.deref.ensures.value in
     record {

@@ -1,4 +1,5 @@
-use Rattle.std.proofs.Common.{◌≡◌, true, ◌∷◌, [], ◌++◌, ◌<◌, false, length, get_or, sym, ap, ◌∙◌, subst, arith, All, Contains}
+use Rattle.std.proofs.Common.{◌≡◌, true, ◌∷◌, [], ◌++◌, ◌<◌, false, length, get_or, sym, ap, ◌∙◌, subst, arith, All}
+use Rattle.std.proofs.Common.{Contains}
 use Rattle.std.proofs.lemmas.List.{get_or_default, take_all}
 use Rattle.std.proofs.lemmas.List.Elements.{All-push, All-weaker}
 use Rattle.schema_build_graph.specs.Needed.{IsWanted}
@@ -42,7 +43,8 @@ loop-vertex-preserved c =
             below = subst (All (λ v. v < length graph)) (sym same) l.invariant.below;
             behind = subst (StandBehind graph) (sym same) l.invariant.behind;
             whole = λ v d m. subst (λ k. Contains k v) (sym same)
-                (whole_same graph order c.requires.order marks closed old i lt l.invariant.whole (read ∙ w.if-index.false) v d m);
+                (whole_same graph order c.requires.order marks closed old i lt l.invariant.whole
+                (read ∙ w.if-index.false) v d m);
             only = subst (All (λ v. is_marked marks v ≡ true)) (sym same) l.invariant.only;
           }
     ]

@@ -1,4 +1,5 @@
-use Rattle.std.proofs.Common.{◌≡◌, ◌+◌, ◌<◌, ◌++◌, ◌∷◌, [], length, get_or, take, arith, All, Contains, subst, sym, ap, ◌∙◌}
+use Rattle.std.proofs.Common.{◌≡◌, ◌+◌, ◌<◌, ◌++◌, ◌∷◌, [], length, get_or, take, arith, All, Contains, subst, sym, ap}
+use Rattle.std.proofs.Common.{◌∙◌}
 use Rattle.std.proofs.lemmas.List.{take_all}
 use Rattle.schema_build_graph.specs.Marks.{AddsFrom}
 use Rattle.schema_build_graph.proofs.Steps.{marked_more, marked_same, added_more, covers_more, covers_same}
@@ -19,14 +20,16 @@ loop-target-preserved c =
           ∙ w.in_ok-push.ensures.items in
           record {
             marked = marked_more c.args.stamp
-                (get_or ts i 0) l.found.items l.marks after c.if-marks-target.marks l.invariant.marked inside w.if-marks-target.true grown w.marks-is;
+                (get_or ts i 0) l.found.items l.marks after c.if-marks-target.marks l.invariant.marked inside
+                w.if-marks-target.true grown w.marks-is;
             added = added_more ts c.args.found.now.items l.found.items after i here l.invariant.added grown;
             covers = covers_more ts l.found.items after i here l.invariant.covers grown;
           }
       | else-marks-target w ↦
           let same : after ≡ l.found.items = ap (λ v. v.items) w.found-is in
           record {
-            marked = marked_same c.args.stamp l.found.items l.marks after c.if-marks-target.marks l.invariant.marked same w.marks-is;
+            marked = marked_same c.args.stamp l.found.items l.marks after c.if-marks-target.marks l.invariant.marked
+                same w.marks-is;
             added = subst (AddsFrom ts c.args.found.now.items) (sym same) l.invariant.added;
             covers = subst (λ f. All (Contains f) (take (i + 1) ts)) (sym same)
                 (covers_same ts l.found.items i here l.invariant.covers

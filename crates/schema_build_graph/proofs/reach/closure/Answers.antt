@@ -1,4 +1,5 @@
-use Rattle.std.proofs.Common.{◌≡◌, ◌+◌, ◌<◌, ◌≤◌, ◌++◌, ◌∷◌, [], length, length-append, take, drop, arith, All, subst, sym, ap, ◌∙◌}
+use Rattle.std.proofs.Common.{◌≡◌, ◌+◌, ◌<◌, ◌≤◌, ◌++◌, ◌∷◌, [], length, length-append, take, drop, arith, All, subst}
+use Rattle.std.proofs.Common.{sym, ap, ◌∙◌}
 use Rattle.std.proofs.lemmas.List.Elements.{All-weaker}
 use Rattle.schema_build_graph.specs.Graph.{AreReached}
 use Rattle.schema_build_graph.proofs.Rows.{written, each_push}
@@ -18,6 +19,7 @@ loop-start-preserved c =
           (λ m h. omega arith) now c.in_ok-reachable.ensures.marks);
       same = ap length c.in_ok-push.ensures.items ∙ length-append l.rows.items (c.in_ok-reachable.field-0 ∷ [])
           ∙ ap (λ n. n + 1) l.invariant.same;
-      each = each_push (λ a row. AreReached c.args.graph.now a row.items) l.rows.items c.push.new.self.items c.in_ok-reachable.field-0 l.start l.invariant.same c.in_ok-push.ensures.items
+      each = each_push (λ a row. AreReached c.args.graph.now a row.items) l.rows.items c.push.new.self.items
+          c.in_ok-reachable.field-0 l.start l.invariant.same c.in_ok-push.ensures.items
           l.invariant.each c.in_ok-reachable.ensures.reached;
     }

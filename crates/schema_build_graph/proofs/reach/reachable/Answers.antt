@@ -3,7 +3,8 @@ use Rattle.std.proofs.lemmas.Grind.{common_steps}
 use Rattle.schema_build_graph.specs.Marks.{IsMarked, AddsFrom}
 use Rattle.schema_build_graph.specs.Graph.{targets_of}
 use Rattle.schema_build_graph.proofs.Marked.{marked_none}
-use Rattle.schema_build_graph.proofs.Found.{targets_at, sound_first, sound_next, reached, still_covered, next_covered, longer}
+use Rattle.schema_build_graph.proofs.Found.{targets_at, sound_first, sound_next, reached, still_covered, next_covered}
+use Rattle.schema_build_graph.proofs.Found.{longer}
 use Rattle.schema_build_graph.proofs.reach.reachable.Goals as goal
 
 pub add_new-requires-clause-marked : goal.add_new-requires-clause-marked
@@ -13,8 +14,11 @@ add_new-requires-clause-marked c = subst (λ f. IsMarked c.args.stamp f c.args.m
 pub loop-at-init : goal.loop-at-init
 loop-at-init c =
     let added : AddsFrom c.deref.result.now [] c.add_new.new.found.items = subst
-    (λ f. AddsFrom c.deref.result.now f c.add_new.new.found.items) c.new-found.ensures.items c.in_ok-add_new.ensures.added in
-    let row : targets_of c.args.graph.now c.args.start ≡ c.deref.result.now = targets_at c.args.graph.now c.args.start c.index-graph-start.result c.requires.start c.index-graph-start.is ∙ sym c.deref.ensures.value in
+    (λ f. AddsFrom c.deref.result.now f c.add_new.new.found.items) c.new-found.ensures.items
+    c.in_ok-add_new.ensures.added in
+    let row : targets_of c.args.graph.now c.args.start
+    ≡ c.deref.result.now = targets_at c.args.graph.now c.args.start c.index-graph-start.result c.requires.start
+    c.index-graph-start.is ∙ sym c.deref.ensures.value in
     record {
       marked = c.in_ok-add_new.ensures.marked;
       within = omega arith;
@@ -42,11 +46,13 @@ loop-at-preserved c =
       sound = sound_next graph c.args.start (get_or l.found.items l.at 0) targets l.found.items after row
           (l.invariant.sound l.at 0 here) added l.invariant.sound;
       first = still_covered (targets_of graph c.args.start) targets l.found.items after added l.invariant.first;
-      next = next_covered graph targets l.found.items after l.at here row added l.invariant.next c.in_ok-add_new-2.ensures.covers;
+      next = next_covered graph targets l.found.items after l.at here row added l.invariant.next
+          c.in_ok-add_new-2.ensures.covers;
     }
 
 pub returns-clause-reached : goal.returns-clause-reached
 returns-clause-reached c =
     let l = c.loop-at in
-    reached c.args.graph.now c.args.start l.found.items c.sort_unstable.new.self.items l.at l.invariant.marked.apart c.sort_unstable.ensures.permutation c.sort_unstable.ensures.sorted
+    reached c.args.graph.now c.args.start l.found.items c.sort_unstable.new.self.items l.at l.invariant.marked.apart
+    c.sort_unstable.ensures.permutation c.sort_unstable.ensures.sorted
     (omega arith) l.invariant.sound l.invariant.first l.invariant.next

@@ -9,7 +9,8 @@ returns c =
     let l = c.loop-kept in
     let xs = c.args.groups.now.items in
     subst (IsMerged c.args.place xs) (sym c.truncate.ensures.items) (elim c.loop-kept-test.branch [
-      | then-loop-kept-test+else-index-place w ↦ merged_some xs l.kept c.args.place w.index.result.now c.requires l.invariant.within w.loop-kept-test.true w.index.ensures w.if-index-place.false l.invariant.behind
+      | then-loop-kept-test+else-index-place w ↦ merged_some xs l.kept c.args.place w.index.result.now c.requires
+          l.invariant.within w.loop-kept-test.true w.index.ensures w.if-index-place.false l.invariant.behind
       | else-loop-kept-test w ↦ merged_none xs l.kept c.args.place
           (omega (arith, w.loop-kept-test.false)) l.invariant.behind
     ])

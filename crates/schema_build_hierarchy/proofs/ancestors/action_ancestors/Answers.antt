@@ -16,8 +16,10 @@ use Rattle.schema_build_hierarchy.proofs.ancestors.action_ancestors.Goals as goa
 
 pub closure-requires : goal.closure-requires
 closure-requires g c =
-    rows_below action_key (action_parents (tests_of c.args.defs.now)) (map action_of_entry c.args.entries.now) c.deref.result.now
-    (subst (AreParentRows action_key (action_parents (tests_of c.args.defs.now)) (map action_of_entry c.args.entries.now)) (sym c.deref.ensures.value) c.in_ok-rows.ensures)
+    rows_below action_key (action_parents (tests_of c.args.defs.now)) (map action_of_entry c.args.entries.now)
+    c.deref.result.now
+    (subst (AreParentRows action_key (action_parents (tests_of c.args.defs.now))
+    (map action_of_entry c.args.entries.now)) (sym c.deref.ensures.value) c.in_ok-rows.ensures)
 
 pub returns : goal.returns
 returns g c =
@@ -28,9 +30,13 @@ returns g c =
     let are = subst (AreParentRows action_key (action_parents t) es) (sym c.deref.ensures.value) c.in_ok-rows.ensures in
     let held = c.requires.0 in
     IfOk-weaker c.closure.result _ _ (λ rows all.
-    subst (λ names. AreAncestorRows (IsAncestorAmong action_key (action_parents t) g.ds) names rows.items) (map_twice action_key action_of_entry entries)
+    subst (λ names. AreAncestorRows (IsAncestorAmong action_key (action_parents t) g.ds) names rows.items)
+    (map_twice action_key action_of_entry entries)
     (rows_moved (IsAncestorAmong action_key (action_parents t) es) (IsAncestorAmong action_key (action_parents t) g.ds)
-    (ancestor_moved action_key (action_parents t) es g.ds (λ d h. (held.same d).1 h)) (ancestor_moved action_key (action_parents t) g.ds es (λ d h. (held.same d).0 h)) (map action_key es) rows.items
+    (ancestor_moved action_key (action_parents t) es g.ds (λ d h. (held.same d).1 h))
+    (ancestor_moved action_key (action_parents t) g.ds es (λ d h. (held.same d).0 h)) (map action_key es) rows.items
     (rows_are action_key (action_parents t) es graph are
-    (λ i j a b p q e. one_place (on_total (λ (d : Declared _ _). d.name) actions_total) es held.rising i j a b p q (actions_tied a.name b.name e))
-    (declared_moved action_key (action_parents t) g.ds es (λ d h. (held.same d).0 h) (λ d h. (held.same d).1 h) c.requires.1) rows.items all))) c.closure.ensures
+    (λ i j a b p q e. one_place (on_total (λ (d : Declared _ _). d.name) actions_total) es held.rising i j a b p q
+    (actions_tied a.name b.name e))
+    (declared_moved action_key (action_parents t) g.ds es (λ d h. (held.same d).0 h) (λ d h. (held.same d).1 h)
+    c.requires.1) rows.items all))) c.closure.ensures

@@ -16,7 +16,8 @@ use Rattle.schema_build_hierarchy.proofs.ancestors.action_parent_rows.Goals as g
 
 pub ranks_of-requires : goal.ranks_of-requires
 ranks_of-requires g c =
-    sorted_seen (λ e. e.name) _ c.args.entries.now (sorted_back action_of_entry (λ a b. actions_at_in_order a.name b.name) c.args.entries.now c.requires.rising)
+    sorted_seen (λ e. e.name) _ c.args.entries.now
+    (sorted_back action_of_entry (λ a b. actions_at_in_order a.name b.name) c.args.entries.now c.requires.rising)
 
 pub loop-entry-preserved : goal.loop-entry-preserved
 loop-entry-preserved g c =
@@ -30,11 +31,17 @@ loop-entry-preserved g c =
     let row = c.in_ok-ranks_of.field-0 in
     let front : take (i + 1) ds ≡ take i ds ++ action_of_entry e ∷ [] =
     take_more ds i (action_of_entry e) (omega (arith, length-map entries action_of_entry, c.loop-entry-test.true))
-    ∙ ap (λ z. take i ds ++ z ∷ []) (get_or-map action_of_entry entries i e (action_of_entry e) c.loop-entry-test.true ∙ ap action_of_entry (sym c.entry-item.is)) in
-    let ranks : AreRanksOf uids_in_order (map (λ e. e.name) entries) names row.items = subst (λ ns. AreRanksOf uids_in_order (map (λ e. e.name) entries) ns row.items) c.deref.ensures.value c.in_ok-ranks_of.ensures in
+    ∙ ap (λ z. take i ds ++ z ∷ [])
+    (get_or-map action_of_entry entries i e (action_of_entry e) c.loop-entry-test.true
+    ∙ ap action_of_entry (sym c.entry-item.is)) in
+    let ranks : AreRanksOf uids_in_order (map (λ e. e.name) entries) names row.items = subst
+    (λ ns. AreRanksOf uids_in_order (map (λ e. e.name) entries) ns row.items) c.deref.ensures.value
+    c.in_ok-ranks_of.ensures in
     subst (λ l. AreRowsFor action_key (action_parents t) ds l c.push.new.self.items) (sym front)
-    (rows_more action_key (action_parents t) ds (take i ds) c.loop-entry.rows.items c.push.new.self.items (action_of_entry e) row c.loop-entry.invariant
-    (row_for (λ e. e.name) action_of_entry action_key action_of (λ e. refl) (λ a b h. actions_exact (at_of a) (at_of b) h) (λ a b h. actions_tied (at_of a) (at_of b) h)
+    (rows_more action_key (action_parents t) ds (take i ds) c.loop-entry.rows.items c.push.new.self.items
+    (action_of_entry e) row c.loop-entry.invariant
+    (row_for (λ e. e.name) action_of_entry action_key action_of (λ e. refl)
+    (λ a b h. actions_exact (at_of a) (at_of b) h) (λ a b h. actions_tied (at_of a) (at_of b) h)
     entries names row.items targets ranks
     (λ j h. subst (λ l. Contains l j) c.in_ok-names.ensures h)
     (λ x h. subst (λ l. Contains l (action_key (action_of_entry x))) (sym c.in_ok-names.ensures) h))

@@ -7,4 +7,5 @@ use Rattle.schema_build_hierarchy.specs.Ancestors.{AreRowsFor}
 use Rattle.schema_build_hierarchy.proofs.ancestors.action_parent_rows.Given as goal
 
 abbrev pub invariant-loop-entry : goal.invariant-loop-entry
-invariant-loop-entry g l = AreRowsFor action_key (action_parents (tests_of l.defs)) (map action_of_entry l.entries) (take l.entry-index (map action_of_entry l.entries)) l.rows.items
+invariant-loop-entry g l = AreRowsFor action_key (action_parents (tests_of l.defs)) (map action_of_entry l.entries)
+    (take l.entry-index (map action_of_entry l.entries)) l.rows.items

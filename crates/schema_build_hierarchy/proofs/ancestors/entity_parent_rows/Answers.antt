@@ -1,4 +1,5 @@
-use Rattle.std.proofs.Common.{◌≡◌, ◌+◌, not, List, [], ◌∷◌, ◌++◌, map, take, arith, refl, sym, ap, ◌∙◌, subst, Contains, ℕ}
+use Rattle.std.proofs.Common.{◌≡◌, ◌+◌, not, List, [], ◌∷◌, ◌++◌, map, take, arith, refl, sym, ap, ◌∙◌, subst, Contains}
+use Rattle.std.proofs.Common.{ℕ}
 use Rattle.std.proofs.lemmas.List.{take_more, get_or-map, length-map}
 use Rattle.cedar_identifiers.specs.Names.{components_of, has_cedar}
 use Rattle.cedar_identifiers.specs.declared.name.Name.{Name}
@@ -16,7 +17,8 @@ use Rattle.schema_build_hierarchy.proofs.ancestors.entity_parent_rows.Goals as g
 
 pub ranks_of-requires : goal.ranks_of-requires
 ranks_of-requires g c =
-    sorted_seen (λ e. e.name) _ c.args.entries.now (sorted_back entity_of (λ a b. names_in_order a.name b.name) c.args.entries.now c.requires.rising)
+    sorted_seen (λ e. e.name) _ c.args.entries.now
+    (sorted_back entity_of (λ a b. names_in_order a.name b.name) c.args.entries.now c.requires.rising)
 
 pub loop-entry-preserved : goal.loop-entry-preserved
 loop-entry-preserved g c =
@@ -31,12 +33,18 @@ loop-entry-preserved g c =
     let free = λ (n : List (List ℕ)). not (has_cedar n) in
     let front : take (i + 1) ds ≡ take i ds ++ entity_of e ∷ [] =
     take_more ds i (entity_of e) (omega (arith, length-map entries entity_of, c.loop-entry-test.true))
-    ∙ ap (λ z. take i ds ++ z ∷ []) (get_or-map entity_of entries i e (entity_of e) c.loop-entry-test.true ∙ ap entity_of (sym c.entry-item.is)) in
-    let ranks : AreRanksOf (λ (a b : Name). names_in_order a.name b.name) (map (λ e. e.name) entries) names row.items = subst (λ ns. AreRanksOf (λ (a b : Name). names_in_order a.name b.name) (map (λ e. e.name) entries) ns row.items) c.deref.ensures.value c.in_ok-ranks_of.ensures in
+    ∙ ap (λ z. take i ds ++ z ∷ [])
+    (get_or-map entity_of entries i e (entity_of e) c.loop-entry-test.true ∙ ap entity_of (sym c.entry-item.is)) in
+    let ranks : AreRanksOf (λ (a b : Name). names_in_order a.name b.name) (map (λ e. e.name) entries) names
+    row.items = subst (λ ns. AreRanksOf (λ (a b : Name). names_in_order a.name b.name) (map (λ e. e.name) entries) ns
+    row.items) c.deref.ensures.value c.in_ok-ranks_of.ensures in
     subst (λ l. AreRowsFor entity_name (entity_parents t) ds l c.push.new.self.items) (sym front)
-    (rows_more entity_name (entity_parents t) ds (take i ds) c.loop-entry.rows.items c.push.new.self.items (entity_of e) row c.loop-entry.invariant
-    (row_for (λ e. e.name) entity_of entity_name (λ (n : Name). components_of n.name) (λ e. refl) (λ a b h. names_exact a.name b.name h) (λ a b h. names_tied a.name b.name h)
+    (rows_more entity_name (entity_parents t) ds (take i ds) c.loop-entry.rows.items c.push.new.self.items
+    (entity_of e) row c.loop-entry.invariant
+    (row_for (λ e. e.name) entity_of entity_name (λ (n : Name). components_of n.name) (λ e. refl)
+    (λ a b h. names_exact a.name b.name h) (λ a b h. names_tied a.name b.name h)
     entries names row.items targets ranks
     (λ j h. filter_kept free targets j (subst (λ l. Contains l j) c.in_ok-names.ensures h))
-    (λ x h. subst (λ l. Contains l (entity_name (entity_of x))) (sym c.in_ok-names.ensures) (filter_keeps free targets (entity_name (entity_of x)) h (ap not x.name.unreserved))))
+    (λ x h. subst (λ l. Contains l (entity_name (entity_of x))) (sym c.in_ok-names.ensures)
+    (filter_keeps free targets (entity_name (entity_of x)) h (ap not x.name.unreserved))))
     c.in_ok-push.ensures.items)

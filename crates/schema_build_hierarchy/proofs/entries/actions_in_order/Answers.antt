@@ -21,10 +21,16 @@ returns c =
     let xs = c.as_slice-ns-items.result.now in
     let entries = c.loop-ns.entries.items in
     let items = c.in_order.result.items in
-    let is : map action_of_entry entries ≡ flat_map actions_of f = c.loop-ns.invariant.gathered ∙ whole_given actions_of xs f c.loop-ns.ns-index c.loop-ns-test.false c.as_slice-ns-items.ensures.entries in
-    let rising = subst (All (λ e. IsStrictlySortedBy text_cmp (keys_of e.1.actions))) (take_all c.loop-ns.ns-index xs c.loop-ns-test.false ∙ c.as_slice-ns-items.ensures.entries) c.loop-ns.invariant.rising in
+    let is : map action_of_entry entries ≡ flat_map actions_of f = c.loop-ns.invariant.gathered
+    ∙ whole_given actions_of xs f c.loop-ns.ns-index c.loop-ns-test.false c.as_slice-ns-items.ensures.entries in
+    let rising = subst (All (λ e. IsStrictlySortedBy text_cmp (keys_of e.1.actions)))
+    (take_all c.loop-ns.ns-index xs c.loop-ns-test.false ∙ c.as_slice-ns-items.ensures.entries)
+    c.loop-ns.invariant.rising in
     record {
-      rising = sorted_seen action_of_entry (λ a b. actions_at_in_order a.name b.name) items (sorted_back (λ e. e.name) uids_in_order items c.in_order.ensures.sorted);
-      same = same_members (λ e. e.name) action_of_entry uids_in_order (λ a b. actions_at_in_order a.name b.name) (λ a b h. h) entries items (flat_map actions_of f) is
-          (actions_once f (options_total (on_total (λ (n : Name). n.name) names_total)) c.as_slice-ns-items.ensures.sorted rising) c.in_order.ensures.kept c.in_order.ensures.whole;
+      rising = sorted_seen action_of_entry (λ a b. actions_at_in_order a.name b.name) items
+          (sorted_back (λ e. e.name) uids_in_order items c.in_order.ensures.sorted);
+      same = same_members (λ e. e.name) action_of_entry uids_in_order (λ a b. actions_at_in_order a.name b.name)
+          (λ a b h. h) entries items (flat_map actions_of f) is
+          (actions_once f (options_total (on_total (λ (n : Name). n.name) names_total))
+          c.as_slice-ns-items.ensures.sorted rising) c.in_order.ensures.kept c.in_order.ensures.whole;
     }

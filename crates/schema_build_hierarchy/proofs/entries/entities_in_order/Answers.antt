@@ -20,10 +20,16 @@ returns c =
     let xs = c.as_slice-ns-items.result.now in
     let entries = c.loop-ns.entries.items in
     let items = c.in_order.result.items in
-    let is : map entity_of entries ≡ flat_map entities_of f = c.loop-ns.invariant.gathered ∙ whole_given entities_of xs f c.loop-ns.ns-index c.loop-ns-test.false c.as_slice-ns-items.ensures.entries in
-    let rising = subst (All (λ e. IsStrictlySortedBy (λ x y. text_cmp x.id.text y.id.text) (keys_of e.1.entity_types))) (take_all c.loop-ns.ns-index xs c.loop-ns-test.false ∙ c.as_slice-ns-items.ensures.entries) c.loop-ns.invariant.rising in
+    let is : map entity_of entries ≡ flat_map entities_of f = c.loop-ns.invariant.gathered
+    ∙ whole_given entities_of xs f c.loop-ns.ns-index c.loop-ns-test.false c.as_slice-ns-items.ensures.entries in
+    let rising = subst (All (λ e. IsStrictlySortedBy (λ x y. text_cmp x.id.text y.id.text)
+    (keys_of e.1.entity_types))) (take_all c.loop-ns.ns-index xs c.loop-ns-test.false
+    ∙ c.as_slice-ns-items.ensures.entries) c.loop-ns.invariant.rising in
     record {
-      rising = sorted_seen entity_of (λ a b. names_in_order a.name b.name) items (sorted_back (λ e. e.name) (λ (a b : Name). names_in_order a.name b.name) items c.in_order.ensures.sorted);
-      same = same_members (λ e. e.name) entity_of (λ (a b : Name). names_in_order a.name b.name) (λ a b. names_in_order a.name b.name) (λ a b h. h) entries items (flat_map entities_of f) is
-          (entities_once f (options_total (on_total (λ (n : Name). n.name) names_total)) c.as_slice-ns-items.ensures.sorted rising) c.in_order.ensures.kept c.in_order.ensures.whole;
+      rising = sorted_seen entity_of (λ a b. names_in_order a.name b.name) items
+          (sorted_back (λ e. e.name) (λ (a b : Name). names_in_order a.name b.name) items c.in_order.ensures.sorted);
+      same = same_members (λ e. e.name) entity_of (λ (a b : Name). names_in_order a.name b.name)
+          (λ a b. names_in_order a.name b.name) (λ a b h. h) entries items (flat_map entities_of f) is
+          (entities_once f (options_total (on_total (λ (n : Name). n.name) names_total))
+          c.as_slice-ns-items.ensures.sorted rising) c.in_order.ensures.kept c.in_order.ensures.whole;
     }

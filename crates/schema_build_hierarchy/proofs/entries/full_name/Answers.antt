@@ -11,6 +11,11 @@ pub invariant_of-result : goal.invariant_of-result
 invariant_of-result c =
     let word : InternalName = record { first = c.in_ok-clone_in.field-0; others = c.new.result; loc = c.args.loc } in
     let lone : has_cedar (components_of word) ≡ false =
-    ap (λ (o : List Id). has_cedar (texts_of (c.in_ok-clone_in.field-0 ∷ o))) c.new.ensures ∙ ap (λ (i : Id). is_cedar i.text || false) c.in_ok-clone_in.ensures
+    ap (λ (o : List Id). has_cedar (texts_of (c.in_ok-clone_in.field-0 ∷ o))) c.new.ensures
+    ∙ ap (λ (i : Id). is_cedar i.text || false) c.in_ok-clone_in.ensures
     ∙ ap (λ b. b || false) c.args.id.now.unreserved in
-    record { unreserved = subst (λ n. has_cedar (components_of n) ≡ false) (sym (c.in_ok-name.ensures.name ∙ ap (λ n. qualified n word) c.name_of.ensures)) (unreserved_qualified c.args.ns.now word lone) }
+    record {
+      unreserved = subst (λ n. has_cedar (components_of n) ≡ false)
+          (sym (c.in_ok-name.ensures.name ∙ ap (λ n. qualified n word) c.name_of.ensures))
+          (unreserved_qualified c.args.ns.now word lone);
+    }

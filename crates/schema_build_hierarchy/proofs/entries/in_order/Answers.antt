@@ -18,7 +18,12 @@ returns g c =
     let o = on_total (λ (e : Entry _ _). e.name) g.met.K.Ord.total in
     let same = λ (a b : Entry _ _). g.met.K.Ord.matches_eq a.name b.name in
     record {
-      sorted = subst (λ l. IsStrictlySortedBy g.K.Ord.cmp (map (λ e. e.name) l)) (sym is) (sorted_seen (λ e. e.name) g.K.Ord.cmp _ (IsStrictlySortedBy-dedup o same sorted c.sort_unstable.ensures.sorted));
-      kept = subst (All (Contains entries)) (sym is) (once_kept o E same entries sorted c.sort_unstable.ensures.permutation);
-      whole = subst (λ l. All (λ e. HasAlike g.K.Ord.cmp (map (λ e. e.name) l) e.name) entries) (sym is) (alike_named (λ e. e.name) g.K.Ord.cmp _ entries (once_whole o E same entries sorted c.sort_unstable.ensures.permutation));
+      sorted = subst (λ l. IsStrictlySortedBy g.K.Ord.cmp (map (λ e. e.name) l)) (sym is)
+          (sorted_seen (λ e. e.name) g.K.Ord.cmp _
+          (IsStrictlySortedBy-dedup o same sorted c.sort_unstable.ensures.sorted));
+      kept = subst (All (Contains entries)) (sym is)
+          (once_kept o E same entries sorted c.sort_unstable.ensures.permutation);
+      whole = subst (λ l. All (λ e. HasAlike g.K.Ord.cmp (map (λ e. e.name) l) e.name) entries) (sym is)
+          (alike_named (λ e. e.name) g.K.Ord.cmp _ entries
+          (once_whole o E same entries sorted c.sort_unstable.ensures.permutation));
     }

@@ -4,4 +4,10 @@ use Rattle.cedar_identifiers.specs.declared.name.Name.{Name}
 use Rattle.schema_build_hierarchy.proofs.external.external_under.Goals as goal
 
 pub returns : goal.returns
-returns c = (_, refl, ap (λ (n : Name). n.name) c.in_ok-external_type.ensures, (λ i. texts_of (c.in_ok-clone_in.ensures i ∷ c.in_ok-clone_in-2.ensures i)), refl)
+returns c = (
+  _,
+  refl,
+  ap (λ (n : Name). n.name) c.in_ok-external_type.ensures,
+  (λ i. texts_of (c.in_ok-clone_in.ensures i ∷ c.in_ok-clone_in-2.ensures i)),
+  refl,
+)

@@ -6,4 +6,5 @@ use Rattle.schema_build_hierarchy.specs.Unreserved.{unreserved_names}
 use Rattle.schema_build_hierarchy.proofs.parents.targets_of.Given as goal
 
 abbrev pub invariant-loop-name : goal.invariant-loop-name
-invariant-loop-name l = map (λ n. components_of n.name) l.found.items ≡ unreserved_names (parents_in (tests_of l.defs) l.ns (take l.name-index l.names))
+invariant-loop-name l = map (λ n. components_of n.name) l.found.items
+    ≡ unreserved_names (parents_in (tests_of l.defs) l.ns (take l.name-index l.names))

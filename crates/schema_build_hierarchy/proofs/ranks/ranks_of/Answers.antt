@@ -12,12 +12,15 @@ loop-name-preserved g c =
     let names = c.args.names.now in
     let i = c.loop-name.name-index in
     let x = c.name-item.result in
-    let front : take (i + 1) names ≡ take i names ++ x ∷ [] = take_more names i x c.loop-name-test.true ∙ ap (λ z. take i names ++ z ∷ []) (sym c.name-item.is) in
+    let front : take (i + 1) names ≡ take i names ++ x ∷ [] = take_more names i x c.loop-name-test.true
+    ∙ ap (λ z. take i names ++ z ∷ []) (sym c.name-item.is) in
     elim c.match-rank_of.branch [
       | in-Some+in_ok-push-in-Some w ↦
           subst (λ l. AreRanksOf g.K.Ord.cmp own l c.match-rank_of.row.items) (sym front)
-          (ranks_push o own c.requires (take i names) c.loop-name.row.items c.match-rank_of.row.items x w.in-Some.rank c.loop-name.invariant
-          (subst (IsRankOf g.K.Ord.cmp own x) w.in-Some.is c.rank_of.ensures) (ap (λ r. r.items) w.row-is ∙ w.in_ok-push-in-Some.ensures.items))
+          (ranks_push o own c.requires (take i names) c.loop-name.row.items c.match-rank_of.row.items x w.in-Some.rank
+          c.loop-name.invariant
+          (subst (IsRankOf g.K.Ord.cmp own x) w.in-Some.is c.rank_of.ensures)
+          (ap (λ r. r.items) w.row-is ∙ w.in_ok-push-in-Some.ensures.items))
       | in-None w ↦
           subst (λ l. AreRanksOf g.K.Ord.cmp own l c.match-rank_of.row.items) (sym front)
           (subst (λ l. AreRanksOf g.K.Ord.cmp own (take i names ++ x ∷ []) l.items) (sym w.row-is)

@@ -14,7 +14,8 @@ returns-then-entry-clause-some c =
     let f = c.args.names.now.fragment in
     let table = c.args.names.now.table in (
       record { principals = []; resources = []; context = no_more },
-      bare_applies (tests_alone f table) (fragment_scope f table) c.args.entry.now.ns.now c.args.entry.now.ty.now (c.requires.bare c.if-entry.true),
+      bare_applies (tests_alone f table) (fragment_scope f table) c.args.entry.now.ns.now c.args.entry.now.ty.now
+          (c.requires.bare c.if-entry.true),
       (c.if-entry.true, refl, refl, refl),
     )
 
@@ -28,9 +29,12 @@ pub returns-in-None-clause-some : goal.returns-in-None-clause-some
 returns-in-None-clause-some c =
     let f = c.args.names.now.fragment in
     let table = c.args.names.now.table in
-    let (a, means, standing) = nothing_made (tests_alone f table) (fragment_scope f table) c.args.entry.now.ns.now c.new.result c.new-in-None.result
-    c.from_sorted_vec.result c.new.ensures c.new-in-None.ensures (c.from_sorted_vec.ensures ∙ c.new-in-None-2.ensures.items) in (
+    let (a, means, standing) = nothing_made (tests_alone f table) (fragment_scope f table) c.args.entry.now.ns.now
+    c.new.result c.new-in-None.result
+    c.from_sorted_vec.result c.new.ensures c.new-in-None.ensures
+    (c.from_sorted_vec.ensures ∙ c.new-in-None-2.ensures.items) in (
       a,
-      subst (λ o. IsApplyMeaning (tests_alone f table) (fragment_scope f table) c.args.entry.now.ns.now o a) (sym c.in-None.is) means,
+      subst (λ o. IsApplyMeaning (tests_alone f table) (fragment_scope f table) c.args.entry.now.ns.now o a)
+          (sym c.in-None.is) means,
       (c.if-entry.false, standing.1, standing.2, standing.3),
     )

@@ -1,4 +1,5 @@
-use Rattle.std.proofs.Common.{◌<◌, ◌≤◌, [], map, take, length, refl, sym, ap, ◌∙◌, subst, inr, arith, Contains, IfNone, IfSome}
+use Rattle.std.proofs.Common.{◌<◌, ◌≤◌, [], map, take, length, refl, sym, ap, ◌∙◌, subst, inr, arith, Contains, IfNone}
+use Rattle.std.proofs.Common.{IfSome}
 use Rattle.std.proofs.lemmas.Cmp.{on_total}
 use Rattle.std.specs.List.{AllZip}
 use Rattle.std.proofs.lemmas.List.{get_or-map, length-map, take_all}
@@ -21,9 +22,11 @@ loop-entry-init c =
     let t = tests_alone c.args.names.now.fragment c.args.names.now.table in
     let s = fragment_scope c.args.names.now.fragment c.args.names.now.table in
     let none : AllZip (IsActionKindBuilt t s) (take 0 (map action_of_entry c.args.entries.now)) [] = tt in
-    subst (AllZip (IsActionKindBuilt t s) (take 0 (map action_of_entry c.args.entries.now))) (sym c.in_ok-kinds.ensures.items) none
+    subst (AllZip (IsActionKindBuilt t s) (take 0 (map action_of_entry c.args.entries.now)))
+    (sym c.in_ok-kinds.ensures.items) none
 
-among : (c : goal.After-entry-item) → Contains (declared_actions c.args.names.now.fragment) (action_of_entry c.entry-item.result)
+among : (c : goal.After-entry-item)
+    → Contains (declared_actions c.args.names.now.fragment) (action_of_entry c.entry-item.result)
 among c =
     let e = c.entry-item.result in
     let entries = c.args.entries.now in
@@ -32,7 +35,8 @@ among c =
 
 pub action_kind-requires-clause-meant : goal.action_kind-requires-clause-meant
 action_kind-requires-clause-meant c =
-    action_meant c.args.names.now.fragment c.args.names.now.table c.requires.known (action_of_entry c.entry-item.result) (among c)
+    action_meant c.args.names.now.fragment c.args.names.now.table c.requires.known
+    (action_of_entry c.entry-item.result) (among c)
 
 pub action_kind-requires-clause-ready : goal.action_kind-requires-clause-ready
 action_kind-requires-clause-ready c =
@@ -53,10 +57,13 @@ returns-in-None-clause-err c =
     let d = action_of_entry e in
     let entries = c.args.entries.now in
     let i = c.loop-entry.entry-index in
-    let lt : i < length (map action_of_entry entries) = omega (arith, c.loop-entry-test.true, length-map entries action_of_entry) in
-    let at = get_or-map action_of_entry entries i e d c.loop-entry-test.true ∙ ap action_of_entry (sym c.entry-item.is) in
+    let lt : i < length (map action_of_entry entries) = omega
+    (arith, c.loop-entry-test.true, length-map entries action_of_entry) in
+    let at = get_or-map action_of_entry entries i e d c.loop-entry-test.true
+    ∙ ap action_of_entry (sym c.entry-item.is) in
     let one : AreDeclaredOnce (fragment_scope f c.table.result.now) =
-    subst (λ f. AreDeclaredOnce (fragment_scope f c.table.result.now)) c.fragment.ensures c.common_types_are_declared_once.ensures in
+    subst (λ f. AreDeclaredOnce (fragment_scope f c.table.result.now)) c.fragment.ensures
+    c.common_types_are_declared_once.ensures in
     let declared : AreDeclaredOnce s = subst (λ t. AreDeclaredOnce (fragment_scope f t)) c.table.ensures one in
     let once : ExpandsOnce s = c.types_stand_for_one.ensures s declared in
     let told = c.in_ok-no_context-in-None.ensures in
@@ -64,11 +71,14 @@ returns-in-None-clause-err c =
       d,
       refl,
       record {
-        among = (c.requires.entries.same d).1 (contains_map action_of_entry entries e (i, c.loop-entry-test.true, sym c.entry-item.is));
+        among = (c.requires.entries.same d).1
+            (contains_map action_of_entry entries e (i, c.loop-entry-test.true, sym c.entry-item.is));
         passes_too = subst (λ o. IfNone o (LacksContext s d)) c.in-None.is c.in_ok-kind.ensures.none;
         none_less = λ y cy py.
-            none_less (IsActionKindBuilt t s) (LacksContext s) (action_apart t s once) (on_total (λ (d : Declared _ _). d.name) actions_total)
-            (map action_of_entry entries) c.loop-entry.kinds.items i d c.requires.entries.rising lt at c.loop-entry.invariant y
+            none_less (IsActionKindBuilt t s) (LacksContext s) (action_apart t s once)
+            (on_total (λ (d : Declared _ _). d.name) actions_total)
+            (map action_of_entry entries) c.loop-entry.kinds.items i d c.requires.entries.rising lt at
+            c.loop-entry.invariant y
             ((c.requires.entries.same y).0 cy) py;
       },
     )))
@@ -81,7 +91,8 @@ loop-entry-preserved c =
     let built : IsActionKindBuilt t s (action_of_entry e) c.in-Some.kind =
     subst (λ o. IfSome o (IsActionKindBuilt t s (action_of_entry e))) c.in-Some.is c.in_ok-kind.ensures.some in
     subst (AllZip (IsActionKindBuilt t s) _) (sym c.in_ok-push-in-Some.ensures.items)
-    (zip_more action_of_entry (IsActionKindBuilt t s) c.args.entries.now c.loop-entry.kinds.items c.loop-entry.entry-index e c.in-Some.kind
+    (zip_more action_of_entry (IsActionKindBuilt t s) c.args.entries.now c.loop-entry.kinds.items
+    c.loop-entry.entry-index e c.in-Some.kind
     c.loop-entry-test.true c.entry-item.is c.loop-entry.invariant built)
 
 pub returns-clause-kinds : goal.returns-clause-kinds
@@ -89,8 +100,10 @@ returns-clause-kinds c =
     let t = tests_alone c.args.names.now.fragment c.args.names.now.table in
     let s = fragment_scope c.args.names.now.fragment c.args.names.now.table in
     let ds = map action_of_entry c.args.entries.now in
-    let past : length ds ≤ c.loop-entry.entry-index = omega (arith, c.loop-entry-test.false, length-map c.args.entries.now action_of_entry) in
-    subst (λ l. AllZip (IsActionKindBuilt t s) l c.loop-entry.kinds.items) (take_all c.loop-entry.entry-index ds past) c.loop-entry.invariant
+    let past : length ds ≤ c.loop-entry.entry-index = omega
+    (arith, c.loop-entry-test.false, length-map c.args.entries.now action_of_entry) in
+    subst (λ l. AllZip (IsActionKindBuilt t s) l c.loop-entry.kinds.items) (take_all c.loop-entry.entry-index ds past)
+    c.loop-entry.invariant
 
 pub returns-clause-ok : goal.returns-clause-ok
 returns-clause-ok c = λ y cy py.
@@ -99,8 +112,10 @@ returns-clause-ok c = λ y cy py.
     let t = tests_alone f table in
     let s = fragment_scope f table in
     let one : AreDeclaredOnce (fragment_scope f c.table.result.now) =
-    subst (λ f. AreDeclaredOnce (fragment_scope f c.table.result.now)) c.fragment.ensures c.common_types_are_declared_once.ensures in
+    subst (λ f. AreDeclaredOnce (fragment_scope f c.table.result.now)) c.fragment.ensures
+    c.common_types_are_declared_once.ensures in
     let declared : AreDeclaredOnce s = subst (λ t. AreDeclaredOnce (fragment_scope f t)) c.table.ensures one in
     let once : ExpandsOnce s = c.types_stand_for_one.ensures s declared in
-    none_lacks (IsActionKindBuilt t s) (LacksContext s) (action_apart t s once) (map action_of_entry c.args.entries.now) c.loop-entry.kinds.items
+    none_lacks (IsActionKindBuilt t s) (LacksContext s) (action_apart t s once)
+    (map action_of_entry c.args.entries.now) c.loop-entry.kinds.items
     (returns-clause-kinds c) y ((c.requires.entries.same y).0 cy) py

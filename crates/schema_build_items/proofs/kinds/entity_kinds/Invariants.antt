@@ -7,4 +7,5 @@ use Rattle.schema_build_items.proofs.kinds.entity_kinds.Given as goal
 
 abbrev pub invariant-loop-entry : goal.invariant-loop-entry
 invariant-loop-entry l =
-    AllZip (IsKindBuilt (fragment_scope l.names.fragment l.names.table)) (take l.entry-index (map entity_of l.entries)) l.kinds.items
+    AllZip (IsKindBuilt (fragment_scope l.names.fragment l.names.table))
+    (take l.entry-index (map entity_of l.entries)) l.kinds.items

@@ -10,4 +10,5 @@ returns-in_ok-expand_in-in-Some c =
     let s = fragment_scope c.args.names.now.fragment c.args.names.now.table in
     let ns = name_of c.args.ns.now in
     let made = c.in_ok-expand_in-in-Some.field-0 in
-    subst (λ o. TagsBuilt s ns o (Some made)) (sym c.in-Some.is) (tags_made s ns c.in-Some.ty made c.in_ok-expand_in-in-Some.ensures)
+    subst (λ o. TagsBuilt s ns o (Some made)) (sym c.in-Some.is)
+    (tags_made s ns c.in-Some.ty made c.in_ok-expand_in-in-Some.ensures)

@@ -15,7 +15,10 @@ returns g c =
     let same = g.met.T.Ord.matches_eq in
     let is = dedup_is E sorted c.dedup.new.self.items c.dedup.ensures.filtered in
     record {
-      sorted = subst (IsStrictlySortedBy g.T.Ord.cmp) (sym is) (IsStrictlySortedBy-dedup o same sorted c.sort_unstable.ensures.sorted);
-      kept = subst (All (Contains items)) (sym is) (once_kept o E same items sorted c.sort_unstable.ensures.permutation);
-      whole = subst (λ l. All (HasAlike g.T.Ord.cmp l) items) (sym is) (once_whole o E same items sorted c.sort_unstable.ensures.permutation);
+      sorted = subst (IsStrictlySortedBy g.T.Ord.cmp) (sym is)
+          (IsStrictlySortedBy-dedup o same sorted c.sort_unstable.ensures.sorted);
+      kept = subst (All (Contains items)) (sym is)
+          (once_kept o E same items sorted c.sort_unstable.ensures.permutation);
+      whole = subst (λ l. All (HasAlike g.T.Ord.cmp l) items) (sym is)
+          (once_whole o E same items sorted c.sort_unstable.ensures.permutation);
     }

@@ -10,5 +10,6 @@ unreachable-requires c =
     let v = c.in_namespace.result in
     let f = v.names.now.fragment in
     let table = v.names.now.table in
-    entity_target (tests_alone f table) (fragment_scope f table) (name_of v.ns.now) c.args.name.now c.in_ok-target.target refl
+    entity_target (tests_alone f table) (fragment_scope f table) (name_of v.ns.now) c.args.name.now
+    c.in_ok-target.target refl
     c.in_ok-target.ensures c.in_default.not-Entity

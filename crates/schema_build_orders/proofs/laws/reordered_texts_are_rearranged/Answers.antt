@@ -1,4 +1,5 @@
-use Rattle.schema_build_orders.proofs.Rearranging.{reordered_items, reordered_within, divided_items, rearranged_back, rearranged_itself}
+use Rattle.schema_build_orders.proofs.Rearranging.{reordered_items, reordered_within, divided_items, rearranged_back}
+use Rattle.schema_build_orders.proofs.Rearranging.{rearranged_itself}
 use Rattle.schema_build_orders.proofs.laws.reordered_texts_are_rearranged.Goals as goal
 
 pub returns : goal.returns

@@ -28,7 +28,8 @@ returns-in_err-check_action_cycle-clause-err g c =
     let e = c.in_err-check_action_cycle.field-0.0 in
     refused (HierarchyFault g.g.0 g.g.1.0 g.g.1.1) c.from_residual-in_err-check_action_cycle.result e
     c.from_residual-in_err-check_action_cycle.ensures.1
-    (or_first (HasActionCycle g.g.0 g.g.1.1) (HasExternalUnderEnum g.g.0 g.g.1.0) e c.in_err-check_action_cycle.ensures.err)
+    (or_first (HasActionCycle g.g.0 g.g.1.1) (HasExternalUnderEnum g.g.0 g.g.1.0) e
+    c.in_err-check_action_cycle.ensures.err)
 
 pub returns-in_err-check_external_types-clause-err :
     goal.returns-in_err-check_external_types-clause-err
@@ -42,7 +43,8 @@ returns-in_err-check_external_types-clause-err g c =
 pub returns-clause-above : goal.returns-clause-above
 returns-clause-above g c =
     let names = map (λ e. entity_name (entity_of e)) c.args.entities.now in
-    subst (λ z. AreAncestorRows (IsAncestor z g.g.1.0) names c.in_ok-above.above.items) (sym c.requires.0) c.in_ok-above.ensures
+    subst (λ z. AreAncestorRows (IsAncestor z g.g.1.0) names c.in_ok-above.above.items) (sym c.requires.0)
+    c.in_ok-above.ensures
 
 pub returns-clause-above_actions : goal.returns-clause-above_actions
 returns-clause-above_actions g c =

@@ -45,15 +45,18 @@ returns-in_err-kinds-clause-err g c =
 pub build_hierarchies-requires : goal.build_hierarchies-requires
 build_hierarchies-requires g c =
     let own = tests_of c.defs-defs.result.now in
-    let entities : declared_entities c.args.fragment.now ≡ g.g.1.1.0 = ap declared_entities c.requires.0 ∙ sym c.requires.1.1.1.0 in
-    let actions : declared_actions c.args.fragment.now ≡ g.g.1.1.1 = ap declared_actions c.requires.0 ∙ sym c.requires.1.1.1.1.0 in (
+    let entities : declared_entities c.args.fragment.now ≡ g.g.1.1.0 = ap declared_entities c.requires.0
+    ∙ sym c.requires.1.1.1.0 in
+    let actions : declared_actions c.args.fragment.now ≡ g.g.1.1.1 = ap declared_actions c.requires.0
+    ∙ sym c.requires.1.1.1.1.0 in (
       c.requires.1.1.0 ∙ sym c.defs-defs.ensures,
       (
         moved AreEntities entities (sym c.deref-3.ensures.value) c.in_ok-entities.ensures,
         (
           moved AreActions actions (sym c.deref-4.ensures.value) c.in_ok-actions.ensures,
           (
-            subst (AreParentsDeclared entity_name (entity_parents own)) entities c.in_ok-check_declared_types.ensures.declared,
+            subst (AreParentsDeclared entity_name (entity_parents own)) entities
+                c.in_ok-check_declared_types.ensures.declared,
             subst (AreParentsDeclared action_key (action_parents own)) actions c.action_parents_are_declared.ensures,
           ),
         ),
@@ -95,16 +98,21 @@ returns-clause-parts g c =
     let s = fragment_scope f table in
     let above_actions = c.in_ok-above.above_actions.items in
     record {
-      entities = subst (λ f. AreEntities (declared_entities f) c.in_ok-entities.entities.items) c.requires.0 c.in_ok-entities.ensures;
-      actions = subst (λ f. AreActions (declared_actions f) c.in_ok-actions.actions.items) c.requires.0 c.in_ok-actions.ensures;
+      entities = subst (λ f. AreEntities (declared_entities f) c.in_ok-entities.entities.items) c.requires.0
+          c.in_ok-entities.ensures;
+      actions = subst (λ f. AreActions (declared_actions f) c.in_ok-actions.actions.items) c.requires.0
+          c.in_ok-actions.ensures;
       kinds = subst (λ es. AllZip (IsKindBuilt s) (map entity_of es) c.in_ok-kinds.kinds.items)
           c.deref.ensures.value c.in_ok-kinds.ensures.kinds;
-      applied = subst (λ es. AllZip (IsActionKindBuilt (tests_alone f table) s) (map action_of_entry es) c.in_ok-kinds.applied.items)
+      applied = subst (λ es. AllZip (IsActionKindBuilt (tests_alone f table) s) (map action_of_entry es)
+          c.in_ok-kinds.applied.items)
           c.deref-2.ensures.value c.in_ok-kinds.ensures.applied;
       above = moved_thrice
-          (λ t ds es. AreAncestorRows (IsAncestor t ds) (map (λ e. entity_name (entity_of e)) es) c.in_ok-above.above.items)
+          (λ t ds es. AreAncestorRows (IsAncestor t ds) (map (λ e. entity_name (entity_of e)) es)
+          c.in_ok-above.above.items)
           c.requires.1.1.0 c.requires.1.1.1.0 c.deref-3.ensures.value c.in_ok-above.ensures.above;
       above_actions = moved_thrice
-          (λ t ds es. AreAncestorRows (IsActionAncestor t ds) (map (λ e. action_key (action_of_entry e)) es) above_actions)
+          (λ t ds es. AreAncestorRows (IsActionAncestor t ds) (map (λ e. action_key (action_of_entry e)) es)
+          above_actions)
           c.requires.1.1.0 c.requires.1.1.1.1.0 c.deref-4.ensures.value c.in_ok-above.ensures.above_actions;
     }

@@ -28,7 +28,20 @@ build_meanings-requires c =
     let declared : Never (DeclarationFault names.fragment names.table) = moved (λ f t. Never (DeclarationFault f t))
     (sym c.in_ok-names.ensures.fragment) (sym c.in_ok-names.ensures.table) c.in_ok-check_declarations.ensures.ok in (
       sym c.in_ok-names.ensures.fragment,
-      (refl, (refl, (refl, (refl, all_known names.fragment names.table declared c.in_ok-check_references.ensures.types)))),
+      (
+        refl,
+        (
+          refl,
+          (
+            refl,
+            (
+              refl,
+              all_known names.fragment names.table declared
+                  c.in_ok-check_references.ensures.types,
+            ),
+          ),
+        ),
+      ),
     )
 
 pub returns-clause-err : goal.returns-clause-err
@@ -40,7 +53,8 @@ returns-clause-err c =
     c.in_ok-names.ensures.fragment c.in_ok-names.ensures.table
     (never_else (HasUndefinedTypes names.fragment names.table) (HasUndefinedActions names.fragment names.table)
     c.in_ok-check_references.ensures.types c.in_ok-check_references.ensures.actions) in
-    IfErr-weaker c.build_meanings.result (OrMemory (MeaningFault names.fragment names.table)) (OrMemory (BuildFault f table))
+    IfErr-weaker c.build_meanings.result (OrMemory (MeaningFault names.fragment names.table))
+    (OrMemory (BuildFault f table))
     (λ e told.
     or_behind (DeclarationFault f table) (OrElse (ReferenceFault f table) (MeaningFault f table))
     c.in_ok-check_declarations.ensures.ok e

@@ -5,5 +5,10 @@ use Rattle.schema_build_parts.proofs.parts.fragment_parts.Given as goal
 
 abbrev pub ghost-build_meanings : goal.ghost-build_meanings
 ghost-build_meanings a =
-    let names = a.names.now in
-    (names.table, (tests_of (defined names.fragment names.table), (declared_entities names.fragment, declared_actions names.fragment)))
+    let names = a.names.now in (
+      names.table,
+      (
+        tests_of (defined names.fragment names.table),
+        (declared_entities names.fragment, declared_actions names.fragment),
+      ),
+    )

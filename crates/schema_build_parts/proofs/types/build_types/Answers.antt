@@ -11,7 +11,8 @@ use Rattle.schema_build_parts.proofs.types.build_types.Goals as goal
 pub entity_kinds-requires-clause-done : goal.entity_kinds-requires-clause-done
 entity_kinds-requires-clause-done c =
     let names = c.args.names.now in
-    subst (AreExpanded (fragment_scope names.fragment names.table)) (sym c.deref.ensures.value) c.in_ok-done.ensures.expanded
+    subst (AreExpanded (fragment_scope names.fragment names.table)) (sym c.deref.ensures.value)
+    c.in_ok-done.ensures.expanded
 
 pub entity_kinds-requires-clause-ready : goal.entity_kinds-requires-clause-ready
 entity_kinds-requires-clause-ready c =
@@ -21,7 +22,8 @@ entity_kinds-requires-clause-ready c =
 pub action_kinds-requires-clause-done : goal.action_kinds-requires-clause-done
 action_kinds-requires-clause-done c =
     let names = c.args.names.now in
-    subst (AreExpanded (fragment_scope names.fragment names.table)) (sym c.deref-2.ensures.value) c.in_ok-done.ensures.expanded
+    subst (AreExpanded (fragment_scope names.fragment names.table)) (sym c.deref-2.ensures.value)
+    c.in_ok-done.ensures.expanded
 
 pub action_kinds-requires-clause-ready : goal.action_kinds-requires-clause-ready
 action_kinds-requires-clause-ready c =

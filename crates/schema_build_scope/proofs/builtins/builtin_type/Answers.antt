@@ -7,6 +7,7 @@ use Rattle.schema_build_scope.proofs.builtins.builtin_type.Goals as goal
 pub returns-in-len1-up : goal.returns-in-len1-up
 returns-in-len1-up c =
     let same =
-    last_decides (table_scope c.args.table.now) c.args.name.now c.as_slice.result.now c.word-item.result c.as_slice.ensures
+    last_decides (table_scope c.args.table.now) c.args.name.now c.as_slice.result.now c.word-item.result
+    c.as_slice.ensures
     c.in-len1-up.len_at_least c.word-item.is c.requires in
     IfOk-weaker c.word_type-in-len1-up.result _ _ (λ ty h. (h.0, same ∙ h.1, h.2)) c.word_type-in-len1-up.ensures

@@ -8,7 +8,8 @@ pub returns : goal.returns
 returns c =
     let e = c.index-entries-rank.result in (
       e.1,
-      slice_get_read c.args.entries.now (length c.args.entries.now) c.args.rank e refl c.requires c.index-entries-rank.is
+      slice_get_read c.args.entries.now (length c.args.entries.now) c.args.rank e refl c.requires
+          c.index-entries-rank.is
           ∙ ap (λ (n : InternalName). let x : InternalName × LentType = (n, e.1) in Some x)
           (ap (λ (x : InternalName × LentType). x.0) c.index-entries-rank.is ∙ sym c.in_ok-ty.ensures),
     )

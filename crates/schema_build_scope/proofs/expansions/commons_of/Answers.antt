@@ -31,6 +31,8 @@ loop-common-preserved c =
       lent = ap (map lent_at) c.in_ok-push.ensures.items
           ∙ map-append lent_at old (x ∷ [])
           ∙ (λ j. c.loop-common.invariant.lent j ++ seen j ∷ [])
-          ∙ sym (map-append (λ (e : InternalName × LentType). lent_type e.1) (take i entries) (get_or entries i item ∷ []))
-          ∙ ap (map (λ (e : InternalName × LentType). lent_type e.1)) (sym (take_more entries i item c.loop-common-test.true));
+          ∙ sym (map-append (λ (e : InternalName × LentType). lent_type e.1) (take i entries)
+          (get_or entries i item ∷ []))
+          ∙ ap (map (λ (e : InternalName × LentType). lent_type e.1))
+          (sym (take_more entries i item c.loop-common-test.true));
     }

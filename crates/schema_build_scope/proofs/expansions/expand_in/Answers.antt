@@ -14,13 +14,17 @@ expand_type-requires-clause-done c =
 pub expand_type-requires-clause-ready : goal.expand_type-requires-clause-ready
 expand_type-requires-clause-ready c =
     let s = fragment_scope c.args.names.now.fragment c.args.names.now.table in
-    subst (λ n. All (IsReady (fragment_scope n.fragment n.table) c.args.done.now (name_of c.in_namespace.result.ns.now)) (parts c.args.ty.now))
+    subst (λ n. All (IsReady (fragment_scope n.fragment n.table) c.args.done.now
+    (name_of c.in_namespace.result.ns.now)) (parts c.args.ty.now))
     (sym c.in_namespace.ensures.names)
-    (subst (λ p. All (IsReady s c.args.done.now (name_of p)) (parts c.args.ty.now)) (sym c.in_namespace.ensures.place) c.requires.ready)
+    (subst (λ p. All (IsReady s c.args.done.now (name_of p)) (parts c.args.ty.now)) (sym c.in_namespace.ensures.place)
+    c.requires.ready)
 
 pub returns : goal.returns
 returns c =
-    subst (λ p. IfOk c.expand_type.result (ExpandsTo (fragment_scope c.args.names.now.fragment c.args.names.now.table) (name_of p) c.args.ty.now))
+    subst (λ p. IfOk c.expand_type.result
+    (ExpandsTo (fragment_scope c.args.names.now.fragment c.args.names.now.table) (name_of p) c.args.ty.now))
     c.in_namespace.ensures.place
-    (subst (λ n. IfOk c.expand_type.result (ExpandsTo (fragment_scope n.fragment n.table) (name_of c.in_namespace.result.ns.now) c.args.ty.now))
+    (subst (λ n. IfOk c.expand_type.result
+    (ExpandsTo (fragment_scope n.fragment n.table) (name_of c.in_namespace.result.ns.now) c.args.ty.now))
     c.in_namespace.ensures.names c.expand_type.ensures)

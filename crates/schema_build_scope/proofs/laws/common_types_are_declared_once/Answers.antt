@@ -5,4 +5,5 @@ use Rattle.schema_build_scope.proofs.laws.common_types_are_declared_once.Goals a
 
 pub returns : goal.returns
 returns c =
-    declared_once (fragment_scope c.args.fragment.now c.args.table.now) (fragment_apart c.args.fragment.now c.args.table.now)
+    declared_once (fragment_scope c.args.fragment.now c.args.table.now)
+    (fragment_apart c.args.fragment.now c.args.table.now)

@@ -5,4 +5,5 @@ use Rattle.schema_build_scope.proofs.lent_commons.push_commons.Given as goal
 
 abbrev pub invariant-loop-id : goal.invariant-loop-id
 invariant-loop-id l =
-    lent_commons l.found.items ≡ lent_commons l.initial.found.items ++ map (common_entry l.ns) (take l.id-index l.commons)
+    lent_commons l.found.items ≡ lent_commons l.initial.found.items
+    ++ map (common_entry l.ns) (take l.id-index l.commons)

@@ -10,7 +10,8 @@ use Rattle.schema_build_scope.proofs.names_in.common_target.Goals as goal
 pub builtin_type-requires : goal.builtin_type-requires
 builtin_type-requires c =
     subst (λ (t : ExtensionTable). IsSome (builtin (table_scope t) (components_of c.args.name))) (sym c.table.ensures)
-    (undeclared_builtin c.args.names.now.fragment c.args.names.now.table (components_of c.args.name) c.requires c.in-None.ensures)
+    (undeclared_builtin c.args.names.now.fragment c.args.names.now.table (components_of c.args.name) c.requires
+    c.in-None.ensures)
 
 pub returns : goal.returns
 returns c =

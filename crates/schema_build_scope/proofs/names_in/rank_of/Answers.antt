@@ -9,5 +9,6 @@ returns-in-Ok c =
 
 pub returns-in-Err : goal.returns-in-Err
 returns-in-Err c =
-    gap_undeclared c.args.names.now.fragment c.args.names.now.table lent_type c.commons.result.now c.commons.ensures.entries
+    gap_undeclared c.args.names.now.fragment c.args.names.now.table lent_type c.commons.result.now
+    c.commons.ensures.entries
     c.args.name.now c.in-Err.field-0 c.in-Err.ensures.absent

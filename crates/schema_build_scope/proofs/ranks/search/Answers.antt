@@ -7,7 +7,9 @@ loop-low-preserved-in-Less g c =
     let l = c.loop-low in
     record {
       ordered = omega arith;
-      gap = below_more g.met.K.Ord.total c.args.key.now c.args.entries.now l.low l.high _ c.index-entries-middle.result c.requires l.invariant.gap (omega arith) c.index-entries-middle.is (ap (λ e. g.K.Ord.cmp e.0 c.args.key.now) c.index-entries-middle.is ∙ sym c.cmp.ensures ∙ c.in-Less.is);
+      gap = below_more g.met.K.Ord.total c.args.key.now c.args.entries.now l.low l.high _
+          c.index-entries-middle.result c.requires l.invariant.gap (omega arith) c.index-entries-middle.is
+          (ap (λ e. g.K.Ord.cmp e.0 c.args.key.now) c.index-entries-middle.is ∙ sym c.cmp.ensures ∙ c.in-Less.is);
     }
 
 pub loop-low-preserved : goal.loop-low-preserved
@@ -15,5 +17,7 @@ loop-low-preserved g c =
     let l = c.loop-low in
     record {
       ordered = omega arith;
-      gap = above_more g.met.K.Ord.total c.args.key.now c.args.entries.now l.low l.high _ c.index-entries-middle.result c.requires l.invariant.gap (omega arith) c.index-entries-middle.is (ap (λ e. g.K.Ord.cmp e.0 c.args.key.now) c.index-entries-middle.is ∙ sym c.cmp.ensures ∙ c.in-Greater.is);
+      gap = above_more g.met.K.Ord.total c.args.key.now c.args.entries.now l.low l.high _
+          c.index-entries-middle.result c.requires l.invariant.gap (omega arith) c.index-entries-middle.is
+          (ap (λ e. g.K.Ord.cmp e.0 c.args.key.now) c.index-entries-middle.is ∙ sym c.cmp.ensures ∙ c.in-Greater.is);
     }

@@ -8,7 +8,8 @@ use Rattle.schema_build_scope.proofs.references.check_references.Goals as goal
 
 pub returns-in-Some-clause-err : goal.returns-in-Some-clause-err
 returns-in-Some-clause-err c =
-    let types : c.in_ok-found.found.types.items ≡ types_among (undefined_alone c.args.names.now.fragment c.args.names.now.table) =
+    let types : c.in_ok-found.found.types.items
+    ≡ types_among (undefined_alone c.args.names.now.fragment c.args.names.now.table) =
     c.in_ok-found.ensures.types ∙ (λ i. types_among (undefined (c.defs.ensures i) (c.fragment.ensures i))) in
     let named = c.in-Some.ensures.some.0 ∙ types in
     inr (inl (named, not_empty c.in-Some.undefined_types _ named c.in-Some.ensures.some.1))

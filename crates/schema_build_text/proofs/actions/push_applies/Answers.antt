@@ -7,14 +7,24 @@ use Rattle.schema_build_text.proofs.actions.push_applies.Goals as goal
 
 pub returns-then-is_empty : goal.returns-then-is_empty
 returns-then-is_empty c =
-    so (adds_nothing c.args.text.now) (no_principals c.args.base c.args.principals.now c.args.resources.now (context_attributes (type_content c.args.context.now)) (sym c.is_empty.ensures ∙ c.if-is_empty.true))
+    so (adds_nothing c.args.text.now)
+    (no_principals c.args.base c.args.principals.now c.args.resources.now
+    (context_attributes (type_content c.args.context.now)) (sym c.is_empty.ensures ∙ c.if-is_empty.true))
 
 pub returns-then-is_empty-2 : goal.returns-then-is_empty-2
 returns-then-is_empty-2 c =
-    so (adds_nothing c.args.text.now) (no_resources c.args.base c.args.principals.now c.args.resources.now (context_attributes (type_content c.args.context.now)) (sym c.is_empty-2.ensures ∙ c.if-is_empty-2.true))
+    so (adds_nothing c.args.text.now)
+    (no_resources c.args.base c.args.principals.now c.args.resources.now
+    (context_attributes (type_content c.args.context.now)) (sym c.is_empty-2.ensures ∙ c.if-is_empty-2.true))
 
 pub returns : goal.returns
 returns c =
     so
-    (then c.in_ok-push.ensures (then c.in_ok-push_names_line.ensures (then c.in_ok-push_names_line-2.ensures (then c.in_ok-push_spaces.ensures (then c.in_ok-push-2.ensures (then c.in_ok-push_context.ensures (then c.in_ok-push-3.ensures (then c.in_ok-push_spaces-2.ensures c.in_ok-push-4.ensures))))))))
-    (both_targets c.args.base c.in_ok-inner.inner c.args.principals.now c.args.resources.now (context_attributes (type_content c.args.context.now)) c.in_ok-inner.ensures (sym c.is_empty.ensures ∙ c.if-is_empty.false) (sym c.is_empty-2.ensures ∙ c.if-is_empty-2.false))
+    (then c.in_ok-push.ensures (then c.in_ok-push_names_line.ensures
+    (then c.in_ok-push_names_line-2.ensures
+    (then c.in_ok-push_spaces.ensures
+    (then c.in_ok-push-2.ensures (then c.in_ok-push_context.ensures
+    (then c.in_ok-push-3.ensures (then c.in_ok-push_spaces-2.ensures c.in_ok-push-4.ensures))))))))
+    (both_targets c.args.base c.in_ok-inner.inner c.args.principals.now c.args.resources.now
+    (context_attributes (type_content c.args.context.now)) c.in_ok-inner.ensures
+    (sym c.is_empty.ensures ∙ c.if-is_empty.false) (sym c.is_empty-2.ensures ∙ c.if-is_empty-2.false))

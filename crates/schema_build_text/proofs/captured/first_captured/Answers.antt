@@ -9,11 +9,14 @@ use Rattle.schema_build_text.proofs.captured.first_captured.Goals as goal
 pub returns-clause-first : goal.returns-clause-first
 returns-clause-first c =
     IfOk-weaker c.first_captured_of.result _ _
-    (λ found told. told (content c.args.entities.now c.args.actions.now) (ap (map item_content) c.deref.ensures.value ∙ c.in_ok-items.ensures))
+    (λ found told. told (content c.args.entities.now c.args.actions.now)
+    (ap (map item_content) c.deref.ensures.value ∙ c.in_ok-items.ensures))
     c.first_captured_of.ensures
 
 pub returns-clause-meant : goal.returns-clause-meant
 returns-clause-meant c =
     IfOk-weaker c.first_captured_of.result _ _
-    (λ found told m stands. subst (λ s. MatchOption found (captured_items s ≡ []) (IsFirstOf (captured_items s))) stands (told (content c.args.entities.now c.args.actions.now) (ap (map item_content) c.deref.ensures.value ∙ c.in_ok-items.ensures)))
+    (λ found told m stands. subst (λ s. MatchOption found (captured_items s ≡ []) (IsFirstOf (captured_items s)))
+    stands (told (content c.args.entities.now c.args.actions.now)
+    (ap (map item_content) c.deref.ensures.value ∙ c.in_ok-items.ensures)))
     c.first_captured_of.ensures

@@ -9,4 +9,6 @@ pub returns : goal.returns
 returns c =
     let items = c.args.items.now in
     let none : c.loop-left.left ≡ 0 = omega (arith, c.loop-left-test.false) in
-    λ s same. c.loop-left.invariant.2 ∙ (ap (λ k. first_item (captured_before (map item_content (drop k items)))) none ∙ (ap (λ l. first_item (captured_before l)) same ∙ ap first_item (walk_captured s)))
+    λ s same. c.loop-left.invariant.2
+    ∙ (ap (λ k. first_item (captured_before (map item_content (drop k items)))) none
+    ∙ (ap (λ l. first_item (captured_before l)) same ∙ ap first_item (walk_captured s)))

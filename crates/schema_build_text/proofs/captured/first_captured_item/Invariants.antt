@@ -9,7 +9,8 @@ abbrev pub invariant-loop-left : goal.invariant-loop-left
 invariant-loop-left l =
     (l.left ≤ length l.items)
     × (namespace_behind (option_copied l.action) ≡ first_action (map item_content (drop l.left l.items)))
-    × (option_map item_content (option_copied l.found) ≡ first_item (captured_before (map item_content (drop l.left l.items))))
+    × (option_map item_content (option_copied l.found)
+    ≡ first_item (captured_before (map item_content (drop l.left l.items))))
 
 abbrev pub decreases-loop-left : goal.decreases-loop-left
 decreases-loop-left l = l.left

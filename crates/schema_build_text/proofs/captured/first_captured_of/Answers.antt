@@ -10,5 +10,8 @@ pub returns-in-Some : goal.returns-in-Some
 returns-in-Some c =
     let x = item_content c.in-Some.item.now in
     IfOk-weaker c.capture.result _ _
-    (λ found told s same. let first : Some x ≡ first_item (captured_items s) = sym (ap (λ r. option_map item_content (option_copied r)) c.in-Some.is) ∙ c.first_captured_item.ensures s same in about_first found x (captured_items s) first (captured_named s x first) told)
+    (λ found told s same. let first : Some x
+    ≡ first_item (captured_items s) = sym (ap (λ r. option_map item_content (option_copied r)) c.in-Some.is)
+    ∙ c.first_captured_item.ensures s same in
+    about_first found x (captured_items s) first (captured_named s x first) told)
     c.capture.ensures

@@ -22,7 +22,9 @@ returns-then-are_together c =
     c.item_holds.ensures
     ∙ sym
     (ap (λ a. is_captured_by (namespace_behind (option_copied a)) x) c.in-Some.is
-    ∙ (told_beside x c.name_of-name.result.now (namespace (components_of c.in-Some.action.now)) c.are_together.result c.name_of-name.ensures (ap (λ l. length l == 0) (sym c.as_slice.ensures) ∙ (sym c.is_empty.ensures ∙ c.if-is_empty.false)) c.are_together.ensures
+    ∙ (told_beside x c.name_of-name.result.now (namespace (components_of c.in-Some.action.now)) c.are_together.result
+    c.name_of-name.ensures (ap (λ l. length l == 0) (sym c.as_slice.ensures)
+    ∙ (sym c.is_empty.ensures ∙ c.if-is_empty.false)) c.are_together.ensures
     ∙ ap (λ b. b && item_holds x) c.if-are_together.true))
 
 pub returns-else-are_together : goal.returns-else-are_together
@@ -31,5 +33,7 @@ returns-else-are_together c =
     c.if-are_together.false
     ∙ sym
     (ap (λ a. is_captured_by (namespace_behind (option_copied a)) x) c.in-Some.is
-    ∙ (told_beside x c.name_of-name.result.now (namespace (components_of c.in-Some.action.now)) c.are_together.result c.name_of-name.ensures (ap (λ l. length l == 0) (sym c.as_slice.ensures) ∙ (sym c.is_empty.ensures ∙ c.if-is_empty.false)) c.are_together.ensures
+    ∙ (told_beside x c.name_of-name.result.now (namespace (components_of c.in-Some.action.now)) c.are_together.result
+    c.name_of-name.ensures (ap (λ l. length l == 0) (sym c.as_slice.ensures)
+    ∙ (sym c.is_empty.ensures ∙ c.if-is_empty.false)) c.are_together.ensures
     ∙ ap (λ b. b && item_holds x) c.if-are_together.false))

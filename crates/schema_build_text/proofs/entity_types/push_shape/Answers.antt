@@ -4,7 +4,9 @@ use Rattle.schema_build_text.proofs.Declared.{no_shape, some_shape}
 use Rattle.schema_build_text.proofs.entity_types.push_shape.Goals as goal
 
 pub returns-then-is_empty : goal.returns-then-is_empty
-returns-then-is_empty c = so (adds_nothing c.args.text.now) (no_shape c.args.base c.args.entries.now (sym c.is_empty.ensures ∙ c.if-is_empty.true))
+returns-then-is_empty c = so (adds_nothing c.args.text.now)
+    (no_shape c.args.base c.args.entries.now (sym c.is_empty.ensures ∙ c.if-is_empty.true))
 
 pub returns : goal.returns
-returns c = so (then c.in_ok-push.ensures c.in_ok-push_record.ensures) (some_shape c.args.base c.args.entries.now (sym c.is_empty.ensures ∙ c.if-is_empty.false))
+returns c = so (then c.in_ok-push.ensures c.in_ok-push_record.ensures)
+    (some_shape c.args.base c.args.entries.now (sym c.is_empty.ensures ∙ c.if-is_empty.false))

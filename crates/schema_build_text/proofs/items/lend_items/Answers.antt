@@ -9,5 +9,7 @@ pub returns : goal.returns
 returns c =
     let es = c.args.entities.now in
     let us = c.args.actions.now in
-    let all = ap (map (λ a. action (action_content a))) (take_all c.loop-uid.uid-index us (omega (arith, c.loop-uid-test.false))) ∙ sym (map_both action action_content us) in
+    let all = ap (map (λ a. action (action_content a)))
+    (take_all c.loop-uid.uid-index us (omega (arith, c.loop-uid-test.false)))
+    ∙ sym (map_both action action_content us) in
     c.loop-uid.invariant ∙ (λ i. sym (map_both entity_type entity_content es) i ++ all i)

@@ -8,22 +8,31 @@ pub returns-in-Less : goal.returns-in-Less
 returns-in-Less c =
     let a = c.args.a.now in
     let b = c.args.b.now in
-    let p = front_of a c.in-Some.a_front.now c.in-Some.field-0-0.now (sym c.as_slice.ensures ∙ c.in-Some.ensures.cases.0) in
-    let q = front_of b c.in-Some-split_last-2.b_front.now c.in-Some-split_last-2.field-0-0.now (sym c.as_slice-in-Some.ensures ∙ c.in-Some-split_last-2.ensures.cases.0) in
-    decided ids_in_order (λ x y. refl) a b Less c.in-Some.a_front.now c.in-Some-split_last-2.b_front.now p q (sym c.in-Less.ensures)
+    let p = front_of a c.in-Some.a_front.now c.in-Some.field-0-0.now
+    (sym c.as_slice.ensures ∙ c.in-Some.ensures.cases.0) in
+    let q = front_of b c.in-Some-split_last-2.b_front.now c.in-Some-split_last-2.field-0-0.now
+    (sym c.as_slice-in-Some.ensures ∙ c.in-Some-split_last-2.ensures.cases.0) in
+    decided ids_in_order (λ x y. refl) a b Less c.in-Some.a_front.now c.in-Some-split_last-2.b_front.now p q
+    (sym c.in-Less.ensures)
 
 pub returns-in-Greater : goal.returns-in-Greater
 returns-in-Greater c =
     let a = c.args.a.now in
     let b = c.args.b.now in
-    let p = front_of a c.in-Some.a_front.now c.in-Some.field-0-0.now (sym c.as_slice.ensures ∙ c.in-Some.ensures.cases.0) in
-    let q = front_of b c.in-Some-split_last-2.b_front.now c.in-Some-split_last-2.field-0-0.now (sym c.as_slice-in-Some.ensures ∙ c.in-Some-split_last-2.ensures.cases.0) in
-    decided ids_in_order (λ x y. refl) a b Greater c.in-Some.a_front.now c.in-Some-split_last-2.b_front.now p q (sym c.in-Greater.ensures)
+    let p = front_of a c.in-Some.a_front.now c.in-Some.field-0-0.now
+    (sym c.as_slice.ensures ∙ c.in-Some.ensures.cases.0) in
+    let q = front_of b c.in-Some-split_last-2.b_front.now c.in-Some-split_last-2.field-0-0.now
+    (sym c.as_slice-in-Some.ensures ∙ c.in-Some-split_last-2.ensures.cases.0) in
+    decided ids_in_order (λ x y. refl) a b Greater c.in-Some.a_front.now c.in-Some-split_last-2.b_front.now p q
+    (sym c.in-Greater.ensures)
 
 pub returns-in-Equal : goal.returns-in-Equal
 returns-in-Equal c =
     let a = c.args.a.now in
     let b = c.args.b.now in
-    let p = front_of a c.in-Some.a_front.now c.in-Some.field-0-0.now (sym c.as_slice.ensures ∙ c.in-Some.ensures.cases.0) in
-    let q = front_of b c.in-Some-split_last-2.b_front.now c.in-Some-split_last-2.field-0-0.now (sym c.as_slice-in-Some.ensures ∙ c.in-Some-split_last-2.ensures.cases.0) in
-    c.cmp-in-Equal.ensures ∙ decided _ (λ x y. refl) a b Equal c.in-Some.a_front.now c.in-Some-split_last-2.b_front.now p q (sym c.in-Equal.ensures)
+    let p = front_of a c.in-Some.a_front.now c.in-Some.field-0-0.now
+    (sym c.as_slice.ensures ∙ c.in-Some.ensures.cases.0) in
+    let q = front_of b c.in-Some-split_last-2.b_front.now c.in-Some-split_last-2.field-0-0.now
+    (sym c.as_slice-in-Some.ensures ∙ c.in-Some-split_last-2.ensures.cases.0) in
+    c.cmp-in-Equal.ensures ∙ decided _ (λ x y. refl) a b Equal c.in-Some.a_front.now
+    c.in-Some-split_last-2.b_front.now p q (sym c.in-Equal.ensures)

@@ -7,4 +7,5 @@ use Rattle.schema_build_text.proofs.names.push_opening.Goals as goal
 pub returns-in_ok-push-in-Some-2 : goal.returns-in_ok-push-in-Some-2
 returns-in_ok-push-in-Some-2 c =
     so (then c.in_ok-push-in-Some.ensures (then c.in_ok-push_path-in-Some.ensures c.in_ok-push-in-Some-2.ensures))
-    (sym (ap opening (front_of c.args.name.now c.in-Some.front.now c.in-Some.field-0-0.now (sym c.as_slice.ensures ∙ c.in-Some.ensures.cases.0))))
+    (sym (ap opening (front_of c.args.name.now c.in-Some.front.now c.in-Some.field-0-0.now
+    (sym c.as_slice.ensures ∙ c.in-Some.ensures.cases.0))))

@@ -14,5 +14,6 @@ loop-id-preserved c =
 pub returns : goal.returns
 returns c =
     so
-    (then (so c.in_ok-push.ensures c.as_str.ensures) (adds_all c.loop-id.invariant (at_drop_all behind_text c.args.others.now c.loop-id.id-index c.loop-id-test.false)))
+    (then (so c.in_ok-push.ensures c.as_str.ensures)
+    (adds_all c.loop-id.invariant (at_drop_all behind_text c.args.others.now c.loop-id.id-index c.loop-id-test.false)))
     (path_text c.args.first.now c.args.others.now)

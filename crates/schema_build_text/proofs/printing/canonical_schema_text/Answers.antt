@@ -10,5 +10,7 @@ use Rattle.schema_build_text.proofs.printing.canonical_schema_text.Goals as goal
 pub returns : goal.returns
 returns c =
     IfOk-weaker c.print_items.result _ _
-    (λ text told m stands. told (content c.args.entities.now c.args.actions.now) (ap (map item_content) c.deref.ensures.value ∙ c.in_ok-items.ensures) ∙ (ap (λ s. canonical_text (schema_reading s)) stands ∙ ap canonical_text (meaning_back m)))
+    (λ text told m stands. told (content c.args.entities.now c.args.actions.now)
+    (ap (map item_content) c.deref.ensures.value ∙ c.in_ok-items.ensures)
+    ∙ (ap (λ s. canonical_text (schema_reading s)) stands ∙ ap canonical_text (meaning_back m)))
     c.print_items.ensures

@@ -11,6 +11,8 @@ pub returns : goal.returns
 returns c =
     let items = c.args.items.now in
     let behind = namespace_behind (option_copied c.loop-item.before) in
-    let left = at_drop_all (λ xs. text_behind behind (map item_content xs)) items c.loop-item.item-index c.loop-item-test.false ∙ sym (append-nil (after_text behind)) in
+    let left = at_drop_all (λ xs. text_behind behind (map item_content xs)) items c.loop-item.item-index
+    c.loop-item-test.false ∙ sym (append-nil (after_text behind)) in
     let e = adds_all (round c.in_ok-push_after.ensures c.loop-item.invariant left) refl in
-    λ s same. e.grown ∙ (ap (λ t. encode_utf8_all t ++ text_behind None (map item_content items)) c.new-text.ensures ∙ (ap (text_behind None) same ∙ printed s))
+    λ s same. e.grown ∙ (ap (λ t. encode_utf8_all t ++ text_behind None (map item_content items)) c.new-text.ensures
+    ∙ (ap (text_behind None) same ∙ printed s))

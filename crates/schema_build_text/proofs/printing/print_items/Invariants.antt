@@ -7,4 +7,5 @@ use Rattle.schema_build_text.proofs.printing.print_items.Given as goal
 
 abbrev pub invariant-loop-item : goal.invariant-loop-item
 invariant-loop-item l =
-    Leaves l.initial.text l.text (text_behind (namespace_behind (option_copied l.before)) (map item_content (drop l.item-index l.items))) (text_behind None (map item_content l.items))
+    Leaves l.initial.text l.text (text_behind (namespace_behind (option_copied l.before))
+    (map item_content (drop l.item-index l.items))) (text_behind None (map item_content l.items))

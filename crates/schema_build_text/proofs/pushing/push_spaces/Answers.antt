@@ -8,7 +8,8 @@ pub loop-left-init : goal.loop-left-init
 loop-left-init c = begun c.args.text.now (spaces c.args.count)
 
 pub loop-left-preserved : goal.loop-left-preserved
-loop-left-preserved c = round c.in_ok-push.ensures c.loop-left.invariant (spaces_step c.loop-left.left (c.loop-left.left - 1) (omega arith))
+loop-left-preserved c = round c.in_ok-push.ensures c.loop-left.invariant
+    (spaces_step c.loop-left.left (c.loop-left.left - 1) (omega arith))
 
 pub returns : goal.returns
 returns c = let none : c.loop-left.left ≡ 0 = omega arith in adds_all c.loop-left.invariant (ap spaces none)

@@ -11,15 +11,20 @@ use Rattle.schema_build_text.proofs.rows.push_choices.Goals as goal
 pub loop-choice-init : goal.loop-choice-init
 loop-choice-init c =
     let row = λ (l : List Eid). row_behind (codes ", ") false (map (λ x. quoted x.0) l) in
-    begun_as c.push.new.text _ _ (ap (λ it. row (items_left it)) c.into_iter-choice-iterator.ensures.into_iter_gives ∙ ap row c.iter-choice-items.ensures)
+    begun_as c.push.new.text _ _ (ap (λ it. row (items_left it)) c.into_iter-choice-iterator.ensures.into_iter_gives
+    ∙ ap row c.iter-choice-items.ensures)
 
 pub loop-choice-preserved : goal.loop-choice-preserved
 loop-choice-preserved c =
     round (then c.in_ok-push_between.ensures c.in_ok-push_string.ensures) c.loop-choice.invariant
-    (row_front (λ (x : Eid). quoted x.0) (codes ", ") c.loop-choice.behind _ (items_left c.next.new.self) c.in-Some.choice.now c.in-Some.ensures.steps)
+    (row_front (λ (x : Eid). quoted x.0) (codes ", ") c.loop-choice.behind _ (items_left c.next.new.self)
+    c.in-Some.choice.now c.in-Some.ensures.steps)
 
 pub returns : goal.returns
 returns c =
     let row = λ (l : List Eid). row_behind (codes ", ") c.loop-choice.behind (map (λ x. quoted x.0) l) in
-    so (then c.in_ok-push.ensures (then (adds_all c.loop-choice.invariant (ap row c.in-None.ensures.steps.0)) c.in_ok-push-2.ensures))
-    (ap (λ t. codes "[" ++ (t ++ codes "]")) (joined_row (codes ", ") (map (λ x. quoted x.0) c.args.choices.now) ∙ ap (joined_by (codes ", ")) (sym (map_both quoted (λ (x : Eid). x.0) c.args.choices.now))))
+    so (then c.in_ok-push.ensures (then (adds_all c.loop-choice.invariant (ap row c.in-None.ensures.steps.0))
+    c.in_ok-push-2.ensures))
+    (ap (λ t. codes "[" ++ (t ++ codes "]"))
+    (joined_row (codes ", ") (map (λ x. quoted x.0) c.args.choices.now)
+    ∙ ap (joined_by (codes ", ")) (sym (map_both quoted (λ (x : Eid). x.0) c.args.choices.now))))

@@ -8,4 +8,5 @@ use Rattle.schema_build_text.proofs.rows.push_entity_name.Goals as goal
 
 pub returns-in-Some : goal.returns-in-Some
 returns-in-Some c =
-    on_ok_weaker c.push_name.result (λ e. so e (sym (ap (λ ns. name_text (first_name (names_content ns))) c.in-Some.ensures))) c.push_name.ensures
+    on_ok_weaker c.push_name.result
+    (λ e. so e (sym (ap (λ ns. name_text (first_name (names_content ns))) c.in-Some.ensures))) c.push_name.ensures

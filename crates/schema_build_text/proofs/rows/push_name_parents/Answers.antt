@@ -7,4 +7,5 @@ use Rattle.schema_build_text.proofs.rows.push_name_parents.Goals as goal
 
 pub returns : goal.returns
 returns c =
-    on_ok_weaker c.push_parents.result (λ e. so e (ap parents_text (names_shown _ (names_go _ (λ x y. refl)) c.args.names.now))) c.push_parents.ensures
+    on_ok_weaker c.push_parents.result
+    (λ e. so e (ap parents_text (names_shown _ (names_go _ (λ x y. refl)) c.args.names.now))) c.push_parents.ensures

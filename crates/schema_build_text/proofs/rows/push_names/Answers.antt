@@ -7,4 +7,5 @@ use Rattle.schema_build_text.proofs.rows.push_names.Goals as goal
 
 pub returns : goal.returns
 returns c =
-    on_ok_weaker c.push_list.result (λ e. so e (ap list_text (names_shown _ (names_go _ (λ x y. refl)) c.args.names.now))) c.push_list.ensures
+    on_ok_weaker c.push_list.result
+    (λ e. so e (ap list_text (names_shown _ (names_go _ (λ x y. refl)) c.args.names.now))) c.push_list.ensures

@@ -5,8 +5,10 @@ use Rattle.schema_build_text.proofs.rows.push_parents.Goals as goal
 
 pub returns-then-is_empty : goal.returns-then-is_empty
 returns-then-is_empty g c =
-    so (adds_nothing c.args.text.now) (no_parents g.T.Listed.shown g.T.Ord.cmp c.args.items.now (sym c.is_empty.ensures ∙ c.if-is_empty.true))
+    so (adds_nothing c.args.text.now)
+    (no_parents g.T.Listed.shown g.T.Ord.cmp c.args.items.now (sym c.is_empty.ensures ∙ c.if-is_empty.true))
 
 pub returns : goal.returns
 returns g c =
-    so (then c.in_ok-push.ensures c.in_ok-push_list.ensures) (some_parents g.T.Listed.shown g.T.Ord.cmp c.args.items.now (sym c.is_empty.ensures ∙ c.if-is_empty.false))
+    so (then c.in_ok-push.ensures c.in_ok-push_list.ensures)
+    (some_parents g.T.Listed.shown g.T.Ord.cmp c.args.items.now (sym c.is_empty.ensures ∙ c.if-is_empty.false))

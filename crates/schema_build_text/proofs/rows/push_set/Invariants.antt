@@ -5,7 +5,8 @@ use Rattle.schema_build_text.proofs.rows.push_set.Given as goal
 
 abbrev pub invariant-loop-item : goal.invariant-loop-item
 invariant-loop-item g l =
-    Leaves l.initial.text l.text (row_behind (codes ", ") l.behind (map (λ x. g.T.Listed.shown x.now) l.set.keys)) (row_behind (codes ", ") l.initial.behind (map (λ x. g.T.Listed.shown x.now) l.initial.set.keys))
+    Leaves l.initial.text l.text (row_behind (codes ", ") l.behind (map (λ x. g.T.Listed.shown x.now) l.set.keys))
+    (row_behind (codes ", ") l.initial.behind (map (λ x. g.T.Listed.shown x.now) l.initial.set.keys))
 
 abbrev pub decreases-loop-item : goal.decreases-loop-item
 decreases-loop-item g l = length l.set.keys

@@ -5,8 +5,11 @@ use Rattle.schema_build_text.proofs.Rowed.{dropped_all, insert_map, sorted_more}
 use Rattle.schema_build_text.proofs.rows.sorted_set.Goals as goal
 
 pub loop-left-init : goal.loop-left-init
-loop-left-init g c =
-    (omega arith, ap (map (λ x. x.now)) c.new-set.ensures.empty ∙ sym (ap (sorted_once g.T.Ord.cmp) (dropped_all c.args.items.now)))
+loop-left-init g c = (
+  omega arith,
+  ap (map (λ x. x.now)) c.new-set.ensures.empty
+      ∙ sym (ap (sorted_once g.T.Ord.cmp) (dropped_all c.args.items.now)),
+)
 
 pub offset_bounds-items-left : goal.offset_bounds-items-left
 offset_bounds-items-left g c = omega (arith, c.loop-left.invariant.0, c.loop-left-test.true)
@@ -22,7 +25,8 @@ loop-left-preserved g c =
       ap (map (λ x. x.now)) c.in_ok-insert.ensures.keys
           ∙ (insert_map (λ x. x.now) (λ x y. g.T.Ord.cmp x.now y.now) g.T.Ord.cmp (λ x y. refl) c.loop-left.set.keys _
           ∙ (ap (λ l. insert_key g.T.Ord.cmp l x) c.loop-left.invariant.1
-          ∙ sorted_more g.T.Ord.cmp c.args.items.now (c.loop-left.left - 1) c.loop-left.left x n (omega (arith, c.loop-left.invariant.0, c.loop-left-test.true)) c.index-items-left.is)),
+          ∙ sorted_more g.T.Ord.cmp c.args.items.now (c.loop-left.left - 1) c.loop-left.left x n
+          (omega (arith, c.loop-left.invariant.0, c.loop-left-test.true)) c.index-items-left.is)),
     )
 
 pub returns : goal.returns

@@ -18,7 +18,8 @@ returns-in-Some-clause-refusal c =
 pub returns-clause-text : goal.returns-clause-text
 returns-clause-text c =
     let s = content c.args.entities.now c.args.actions.now in
-    λ m stands. c.in_ok-print_items-in-None.ensures s (ap (map item_content) c.deref-in-None.ensures.value ∙ c.in_ok-items.ensures)
+    λ m stands. c.in_ok-print_items-in-None.ensures s
+    (ap (map item_content) c.deref-in-None.ensures.value ∙ c.in_ok-items.ensures)
     ∙ (ap (λ t. canonical_text (schema_reading t)) stands ∙ ap canonical_text (meaning_back m))
 
 pub returns-clause-uncaptured : goal.returns-clause-uncaptured

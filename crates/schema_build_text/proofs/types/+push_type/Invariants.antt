@@ -19,4 +19,6 @@ decreases-push_entries l = 3 * most (λ p. size-Type p.0) (values_of l.entries.n
 
 abbrev pub invariant-push_entries-loop-name : goal.invariant-push_entries-loop-name
 invariant-push_entries-loop-name l =
-    Leaves l.initial.text l.text (lines_text true l.base (plain_attributes (attributes_content (drop l.name-index l.entries)))) (lines_text true l.base (plain_attributes (attributes_content l.entries)))
+    Leaves l.initial.text l.text (lines_text true l.base
+    (plain_attributes (attributes_content (drop l.name-index l.entries))))
+    (lines_text true l.base (plain_attributes (attributes_content l.entries)))

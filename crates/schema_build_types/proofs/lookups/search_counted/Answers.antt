@@ -6,7 +6,11 @@ use Rattle.schema_build_types.proofs.lookups.search_counted.Goals as goal
 pub loop-low-init : goal.loop-low-init
 loop-low-init g c = record {
   ordered = omega arith;
-  gap = record { in_range = omega arith; below = λ k d h. absurd (omega arith); above = λ k d h i. absurd (omega arith) };
+  gap = record {
+    in_range = omega arith;
+    below = λ k d h. absurd (omega arith);
+    above = λ k d h i. absurd (omega arith);
+  };
   counted = omega arith;
   cost = none_yet c.args.steps.now (length c.args.entries.now);
 }
@@ -16,10 +20,13 @@ loop-low-preserved-in-Less g c =
     let l = c.loop-low in
     record {
       ordered = omega arith;
-      gap = below_more g.met.K.Ord.total c.args.key.now c.args.entries.now l.low l.high _ c.index-entries-middle.result c.requires l.invariant.gap (omega arith) c.index-entries-middle.is (ap (λ e. g.K.Ord.cmp e.0 c.args.key.now) c.index-entries-middle.is ∙ sym c.cmp.ensures ∙ c.in-Less.is);
+      gap = below_more g.met.K.Ord.total c.args.key.now c.args.entries.now l.low l.high _
+          c.index-entries-middle.result c.requires l.invariant.gap (omega arith) c.index-entries-middle.is
+          (ap (λ e. g.K.Ord.cmp e.0 c.args.key.now) c.index-entries-middle.is ∙ sym c.cmp.ensures ∙ c.in-Less.is);
       counted = omega arith;
       cost = (let ticked : c.tick.new.self ≡ l.steps + 1 = c.tick.ensures in
-          rw ticked (halved c.args.steps.now l.steps (l.high - l.low) _ (length c.args.entries.now) l.invariant.counted l.invariant.cost (omega arith) (omega arith)));
+          rw ticked (halved c.args.steps.now l.steps (l.high - l.low) _ (length c.args.entries.now)
+          l.invariant.counted l.invariant.cost (omega arith) (omega arith)));
     }
 
 pub loop-low-preserved : goal.loop-low-preserved
@@ -27,14 +34,18 @@ loop-low-preserved g c =
     let l = c.loop-low in
     record {
       ordered = omega arith;
-      gap = above_more g.met.K.Ord.total c.args.key.now c.args.entries.now l.low l.high _ c.index-entries-middle.result c.requires l.invariant.gap (omega arith) c.index-entries-middle.is (ap (λ e. g.K.Ord.cmp e.0 c.args.key.now) c.index-entries-middle.is ∙ sym c.cmp.ensures ∙ c.in-Greater.is);
+      gap = above_more g.met.K.Ord.total c.args.key.now c.args.entries.now l.low l.high _
+          c.index-entries-middle.result c.requires l.invariant.gap (omega arith) c.index-entries-middle.is
+          (ap (λ e. g.K.Ord.cmp e.0 c.args.key.now) c.index-entries-middle.is ∙ sym c.cmp.ensures ∙ c.in-Greater.is);
       counted = omega arith;
       cost = (let ticked : c.tick.new.self ≡ l.steps + 1 = c.tick.ensures in
-          rw ticked (halved c.args.steps.now l.steps (l.high - l.low) _ (length c.args.entries.now) l.invariant.counted l.invariant.cost (omega arith) (omega arith)));
+          rw ticked (halved c.args.steps.now l.steps (l.high - l.low) _ (length c.args.entries.now)
+          l.invariant.counted l.invariant.cost (omega arith) (omega arith)));
     }
 
 pub returns-in-Equal-clause-cost : goal.returns-in-Equal-clause-cost
 returns-in-Equal-clause-cost g c =
     let l = c.loop-low in
     let ticked : c.tick.new.self ≡ l.steps + 1 = c.tick.ensures in
-    rw ticked (halved c.args.steps.now l.steps (l.high - l.low) 0 (length c.args.entries.now) l.invariant.counted l.invariant.cost (omega arith) (omega arith)).cost
+    rw ticked (halved c.args.steps.now l.steps (l.high - l.low) 0 (length c.args.entries.now) l.invariant.counted
+    l.invariant.cost (omega arith) (omega arith)).cost

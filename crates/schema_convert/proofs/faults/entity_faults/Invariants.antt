@@ -6,4 +6,5 @@ use Rattle.schema_convert.proofs.faults.entity_faults.Given as goal
 
 abbrev pub invariant-loop-id : goal.invariant-loop-id
 invariant-loop-id l =
-    l.faults.items ++ filter_map reserved_id (map (λ x. x.now) (into_iter_items l.id-iterator)) ≡ filter_map reserved_id (map (λ x. x.now) l.fn.ids.items)
+    l.faults.items ++ filter_map reserved_id (map (λ x. x.now) (into_iter_items l.id-iterator))
+    ≡ filter_map reserved_id (map (λ x. x.now) l.fn.ids.items)

@@ -5,4 +5,5 @@ use Rattle.schema_convert.proofs.faults.first_common.Given as goal
 
 abbrev pub invariant-loop-id : goal.invariant-loop-id
 invariant-loop-id l =
-    first_some common_fault (map (λ x. x.now) (into_iter_items l.id-iterator)) ≡ first_some common_fault (map (λ x. x.now) l.fn.ids.items)
+    first_some common_fault (map (λ x. x.now) (into_iter_items l.id-iterator))
+    ≡ first_some common_fault (map (λ x. x.now) l.fn.ids.items)

@@ -5,4 +5,5 @@ use Rattle.schema_syntax_tree.specs.Paths.{ids_left}
 use Rattle.schema_convert.proofs.faults.is_reserved_path.Given as goal
 
 abbrev pub invariant-loop-id : goal.invariant-loop-id
-invariant-loop-id l = list_any (λ id. is_cedar id.text) (ids_left l.id-iterator) ≡ list_any (λ id. is_cedar id.text) l.fn.path.ids
+invariant-loop-id l = list_any (λ id. is_cedar id.text) (ids_left l.id-iterator)
+    ≡ list_any (λ id. is_cedar id.text) l.fn.path.ids

@@ -7,7 +7,13 @@ use Rattle.schema_convert.proofs.faults.name_faults.Goals as goal
 
 pub loop-namespace-preserved : goal.loop-namespace-preserved
 loop-namespace-preserved c =
-    more_at (filter_map name_fault) (λ n. option_to_list (name_fault n)) refl (λ x xs. consed (name_fault x) (filter_map name_fault xs)) _ _ c.args.namespaces.now c.loop-namespace.namespace-index c.namespace-item.result _ c.loop-namespace.invariant c.loop-namespace-test.true c.namespace-item.is (c.in_ok-push_fault.ensures ∙ ap (λ o. c.loop-namespace.faults.items ++ option_to_list o) c.in_ok-fault.ensures)
+    more_at (filter_map name_fault) (λ n. option_to_list (name_fault n)) refl
+    (λ x xs. consed (name_fault x) (filter_map name_fault xs)) _ _ c.args.namespaces.now
+    c.loop-namespace.namespace-index c.namespace-item.result _ c.loop-namespace.invariant c.loop-namespace-test.true
+    c.namespace-item.is (c.in_ok-push_fault.ensures
+    ∙ ap (λ o. c.loop-namespace.faults.items ++ option_to_list o) c.in_ok-fault.ensures)
 
 pub returns : goal.returns
-returns c = over_at (filter_map name_fault) (λ n. option_to_list (name_fault n)) refl (λ x xs. consed (name_fault x) (filter_map name_fault xs)) _ c.args.namespaces.now c.loop-namespace.namespace-index _ c.loop-namespace.invariant c.loop-namespace-test.false
+returns c = over_at (filter_map name_fault) (λ n. option_to_list (name_fault n)) refl
+    (λ x xs. consed (name_fault x) (filter_map name_fault xs)) _ c.args.namespaces.now
+    c.loop-namespace.namespace-index _ c.loop-namespace.invariant c.loop-namespace-test.false

@@ -8,4 +8,5 @@ use Rattle.schema_convert.proofs.openings.openings_by_name.Given as goal
 
 abbrev pub invariant-loop-namespace : goal.invariant-loop-namespace
 invariant-loop-namespace l =
-    Grouped (λ n. n.item.name) (option_cmp path_cmp) l.fn.namespaces.items (into_iter_items l.namespace-iterator) l.places.entries (map opened l.groups.items)
+    Grouped (λ n. n.item.name) (option_cmp path_cmp) l.fn.namespaces.items (into_iter_items l.namespace-iterator)
+    l.places.entries (map opened l.groups.items)

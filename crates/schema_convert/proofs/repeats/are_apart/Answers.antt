@@ -20,5 +20,6 @@ returns g c = λ e.
     let moved : IsPermutation items sorted =
     subst (λ l. IsPermutation l sorted) same c.sort_unstable.ensures.permutation in
     sym (repeat_now g.T.Ord.cmp items)
-    ∙ ap (option_map both_now) (none_repeats R (on_total (λ (p : Bor g.row.T.Denot). p.now) g.met.T.Ord.total) items sorted
+    ∙ ap (option_map both_now) (none_repeats R
+    (on_total (λ (p : Bor g.row.T.Denot). p.now) g.met.T.Ord.total) items sorted
     moved (c.all_rise.ensures e))

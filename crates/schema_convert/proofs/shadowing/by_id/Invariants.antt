@@ -5,4 +5,5 @@ use Rattle.schema_convert.proofs.Sorted.{id_entries}
 use Rattle.schema_convert.proofs.shadowing.by_id.Given as goal
 
 abbrev pub invariant-loop-name : goal.invariant-loop-name
-invariant-loop-name l = map entry_now l.entries.items ++ id_entries (into_iter_items l.name-iterator) ≡ id_entries l.fn.names.items
+invariant-loop-name l = map entry_now l.entries.items ++ id_entries (into_iter_items l.name-iterator)
+    ≡ id_entries l.fn.names.items

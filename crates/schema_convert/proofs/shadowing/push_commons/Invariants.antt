@@ -6,4 +6,5 @@ use Rattle.schema_convert.proofs.shadowing.push_commons.Given as goal
 
 abbrev pub invariant-loop-common : goal.invariant-loop-common
 invariant-loop-common l =
-    l.warnings.items ++ of_commons l.table (map entry_now l.entities) (into_iter_items l.common-iterator) ≡ l.fn.warnings.items ++ of_commons l.table (map entry_now l.entities) l.fn.commons
+    l.warnings.items ++ of_commons l.table (map entry_now l.entities) (into_iter_items l.common-iterator)
+    ≡ l.fn.warnings.items ++ of_commons l.table (map entry_now l.entities) l.fn.commons

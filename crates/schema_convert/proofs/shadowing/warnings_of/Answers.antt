@@ -12,5 +12,9 @@ use Rattle.schema_convert.proofs.shadowing.warnings_of.Goals as goal
 pub loop-namespace-init : goal.loop-namespace-init
 loop-namespace-init c =
     let table = c.args.table.now in
-    let sorted = c.into_iter-namespace-iterator.ensures.into_iter_gives.0 ∙ c.into_vec-namespace-items.ensures.entries in
-    ap (λ (w : List SchemaWarning). w ++ of_namespaces table (into_iter_items c.into_iter-namespace-iterator.result)) c.new-warnings.ensures.items ∙ (ap (of_namespaces table) sorted ∙ ap (flat_map (λ (n : Option Path × Annotated Namespace). declared_warnings table n.1.item.decls)) c.in_ok-sorted.ensures)
+    let sorted = c.into_iter-namespace-iterator.ensures.into_iter_gives.0
+    ∙ c.into_vec-namespace-items.ensures.entries in
+    ap (λ (w : List SchemaWarning). w ++ of_namespaces table (into_iter_items c.into_iter-namespace-iterator.result))
+    c.new-warnings.ensures.items ∙ (ap (of_namespaces table) sorted
+    ∙ ap (flat_map (λ (n : Option Path × Annotated Namespace). declared_warnings table n.1.item.decls))
+    c.in_ok-sorted.ensures)

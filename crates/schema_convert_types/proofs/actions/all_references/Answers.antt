@@ -4,4 +4,5 @@ use Rattle.schema_convert_types.proofs.actions.all_references.Goals as goal
 
 pub loop-parent-preserved : goal.loop-parent-preserved
 loop-parent-preserved c =
-    one_more reference_of _ _ _ _ c.in-Some.parent _ _ c.loop-parent.invariant c.in-Some.ensures.steps c.in_ok-push.ensures.items c.in_ok-reference.ensures
+    one_more reference_of _ _ _ _ c.in-Some.parent _ _ c.loop-parent.invariant c.in-Some.ensures.steps
+    c.in_ok-push.ensures.items c.in_ok-reference.ensures

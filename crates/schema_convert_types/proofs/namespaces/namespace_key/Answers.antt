@@ -4,4 +4,6 @@ use Rattle.schema_convert_types.specs.Fragments.{declarable_name, namespace_key}
 use Rattle.schema_convert_types.proofs.namespaces.namespace_key.Goals as goal
 
 pub returns : goal.returns
-returns c = ap (option_map Some) (c.in-Some-declarable_name.ensures ∙ ap declarable_name c.in_ok-internal_name-in-Some.ensures) ∙ ap namespace_key (sym c.in-Some.is)
+returns c = ap (option_map Some)
+    (c.in-Some-declarable_name.ensures ∙ ap declarable_name c.in_ok-internal_name-in-Some.ensures)
+    ∙ ap namespace_key (sym c.in-Some.is)

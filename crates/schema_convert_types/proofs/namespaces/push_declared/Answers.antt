@@ -14,4 +14,6 @@ returns-in-Entity-clause-entities c =
     let kind = ap (λ d. entity_entries_of d notes loc) (sym c.in-Entity.is) in
     let noted = ap (λ ns. entity_entries_of node ns loc) c.in_ok-annotations.ensures in
     let placed = ap (λ r. entity_entries_of r.0 c.args.decl.annotations r.1) c.into_inner-decl.ensures in
-    on_ok_weaker c.push_entities.result (λ h. h ∙ ap (λ (l : List (UnreservedId × EntityType RawName)). c.args.entries.now.entities.items ++ l) (kind ∙ (noted ∙ placed))) c.push_entities.ensures
+    on_ok_weaker c.push_entities.result
+    (λ h. h ∙ ap (λ (l : List (UnreservedId × EntityType RawName)). c.args.entries.now.entities.items ++ l)
+    (kind ∙ (noted ∙ placed))) c.push_entities.ensures

@@ -10,7 +10,8 @@ invariant_of-result c = record { word = ap is_id (c.in_ok-text.ensures ∙ chars
 
 pub returns : goal.returns
 returns c = λ i. record {
-  first = id_same (record { text = c.in_ok-text.text; word = c.result-1.given.0 }) action_name.first (c.in_ok-text.ensures ∙ chars-from_test (codes "Action") refl) i;
+  first = id_same (record { text = c.in_ok-text.text; word = c.result-1.given.0 }) action_name.first
+      (c.in_ok-text.ensures ∙ chars-from_test (codes "Action") refl) i;
   others = c.new.ensures i;
   loc = None;
 }

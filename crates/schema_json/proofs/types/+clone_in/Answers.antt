@@ -9,5 +9,6 @@ clone_attributes-clone_in-requires-in-loop-name g t c κs within =
     let size = size-TypeOfAttribute g.row.N.Denot in
     let it = c.loop-name-item.result in
     let le = most_at size c.args.entries.now c.loop-name.name-index it c.loop-name-test.true in
-    let same : size it.1 ≡ size (get_or c.args.entries.now c.loop-name.name-index it).1 = ap (λ p. size p.1) c.loop-name-item.is in
+    let same : size it.1 ≡ size (get_or c.args.entries.now c.loop-name.name-index it).1 = ap (λ p. size p.1)
+    c.loop-name-item.is in
     (omega (arith, le, same, c.decreases), search rules)

@@ -15,4 +15,6 @@ abbrev pub decreases-gather_entries : goal.decreases-gather_entries
 decreases-gather_entries g l = 2 * most (size-TypeOfAttribute g.row.N.Denot) (values_of l.entries.now) + 1
 
 abbrev pub invariant-gather_entries-loop-attribute : goal.invariant-gather_entries-loop-attribute
-invariant-gather_entries-loop-attribute g l = map (λ name. name.now) l.found.items ++ entry_references (drop l.attribute-index l.entries) ≡ map (λ name. name.now) l.initial.found.items ++ entry_references l.entries
+invariant-gather_entries-loop-attribute g l =
+    map (λ name. name.now) l.found.items ++ entry_references (drop l.attribute-index l.entries)
+    ≡ map (λ name. name.now) l.initial.found.items ++ entry_references l.entries

@@ -7,4 +7,5 @@ use Rattle.schema_json_io.proofs.read.read_value.Goals as goal
 pub returns-in-Err : goal.returns-in-Err
 returns-in-Err c =
     let d = view c.args.value.now in
-    subst (IsValueCause d) (sym c.of_shape.ensures) (value_cause d c.in-Err.fault (sym c.has_float.ensures ∙ c.if-has_float.false) c.in-Err.ensures)
+    subst (IsValueCause d) (sym c.of_shape.ensures)
+    (value_cause d c.in-Err.fault (sym c.has_float.ensures ∙ c.if-has_float.false) c.in-Err.ensures)

@@ -20,11 +20,16 @@ abbrev pub decreases-first_in_members : goal.decreases-first_in_members
 decreases-first_in_members l = length (members_tokens (members_view l.members.now.items))
 
 abbrev pub invariant-first_in_items-loop-item : goal.invariant-first_in_items-loop-item
-invariant-first_in_items-loop-item l = first_again (items_keys (items_view (drop l.item-index l.item-items))) ≡ first_again (items_keys (items_view l.item-items))
+invariant-first_in_items-loop-item l =
+    first_again (items_keys (items_view (drop l.item-index l.item-items)))
+    ≡ first_again (items_keys (items_view l.item-items))
 
 abbrev pub invariant-first_in_members-loop-member : goal.invariant-first_in_members-loop-member
 invariant-first_in_members-loop-member l = record {
-  same : first_again (members_keys (map (λ m. m.0.now) (take l.member-index l.member-items)) (members_view (drop l.member-index l.member-items))) ≡ first_again (members_keys [] (members_view l.member-items));
+  same : first_again (members_keys (map (λ m. m.0.now) (take l.member-index l.member-items))
+      (members_view (drop l.member-index l.member-items)))
+      ≡ first_again (members_keys [] (members_view l.member-items));
   seen : (q : List ℕ)
-      → contains_by (λ k. slice_cmp nat_cmp q k.now) l.seen ≡ list_any (bytes_eq q) (map (λ m. m.0.now) (take l.member-index l.member-items));
+      → contains_by (λ k. slice_cmp nat_cmp q k.now) l.seen
+      ≡ list_any (bytes_eq q) (map (λ m. m.0.now) (take l.member-index l.member-items));
 }

@@ -14,14 +14,18 @@ use Rattle.schema_json_shapes.proofs.actions.action_type_at.Goals as goal
 pub returns-in_ok-read_named-in-Some : goal.returns-in_ok-read_named-in-Some
 returns-in_ok-read_named-in-Some c =
     let o = get_member (codes "type") (members_view c.args.members.now.entries) in
-    given_some (named role.Name) (codes "type") (IsNamed) o (view c.in-Some.value.now) c.in_ok-read_named-in-Some.field-0 refl c.in-Some.ensures c.in_ok-read_named-in-Some.ensures.0 c.in_ok-read_named-in-Some.ensures.1
+    given_some (named role.Name) (codes "type") (IsNamed) o (view c.in-Some.value.now)
+    c.in_ok-read_named-in-Some.field-0 refl c.in-Some.ensures c.in_ok-read_named-in-Some.ensures.0
+    c.in_ok-read_named-in-Some.ensures.1
 
 pub returns-in_err-read_named-in-Some : goal.returns-in_err-read_named-in-Some
 returns-in_err-read_named-in-Some c =
     let o = get_member (codes "type") (members_view c.args.members.now.entries) in
     let e = c.in_err-read_named-in-Some.field-0.0 in
-    refused c.from_residual.result e (field_demands (or_null (named role.Name)) (codes "type") o) _ c.from_residual.ensures.1
-    (given_fails (named role.Name) (codes "type") o (view c.in-Some.value.now) e refl c.in-Some.ensures c.in_err-read_named-in-Some.ensures)
+    refused c.from_residual.result e (field_demands (or_null (named role.Name)) (codes "type") o) _
+    c.from_residual.ensures.1
+    (given_fails (named role.Name) (codes "type") o (view c.in-Some.value.now) e refl c.in-Some.ensures
+    c.in_err-read_named-in-Some.ensures)
 
 pub returns-in-None : goal.returns-in-None
 returns-in-None c =

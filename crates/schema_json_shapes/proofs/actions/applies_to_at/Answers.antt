@@ -13,14 +13,18 @@ use Rattle.schema_json_shapes.proofs.actions.applies_to_at.Goals as goal
 pub returns-in_ok-read_applies_to-in-Some : goal.returns-in_ok-read_applies_to-in-Some
 returns-in_ok-read_applies_to-in-Some c =
     let o = get_member (codes "appliesTo") (members_view c.args.members.now.entries) in
-    given_some (applies_to) (codes "appliesTo") (IsAppliesTo) o (view c.in-Some.value.now) c.in_ok-read_applies_to-in-Some.field-0 refl c.in-Some.ensures c.in_ok-read_applies_to-in-Some.ensures.0 c.in_ok-read_applies_to-in-Some.ensures.1
+    given_some (applies_to) (codes "appliesTo") (IsAppliesTo) o (view c.in-Some.value.now)
+    c.in_ok-read_applies_to-in-Some.field-0 refl c.in-Some.ensures c.in_ok-read_applies_to-in-Some.ensures.0
+    c.in_ok-read_applies_to-in-Some.ensures.1
 
 pub returns-in_err-read_applies_to-in-Some : goal.returns-in_err-read_applies_to-in-Some
 returns-in_err-read_applies_to-in-Some c =
     let o = get_member (codes "appliesTo") (members_view c.args.members.now.entries) in
     let e = c.in_err-read_applies_to-in-Some.field-0.0 in
-    refused c.from_residual.result e (field_demands (or_null (applies_to)) (codes "appliesTo") o) _ c.from_residual.ensures.1
-    (given_fails (applies_to) (codes "appliesTo") o (view c.in-Some.value.now) e refl c.in-Some.ensures c.in_err-read_applies_to-in-Some.ensures)
+    refused c.from_residual.result e (field_demands (or_null (applies_to)) (codes "appliesTo") o) _
+    c.from_residual.ensures.1
+    (given_fails (applies_to) (codes "appliesTo") o (view c.in-Some.value.now) e refl c.in-Some.ensures
+    c.in_err-read_applies_to-in-Some.ensures)
 
 pub returns-in-None : goal.returns-in-None
 returns-in-None c =

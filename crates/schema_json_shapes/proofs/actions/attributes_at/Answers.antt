@@ -13,14 +13,17 @@ use Rattle.schema_json_shapes.proofs.actions.attributes_at.Goals as goal
 pub returns-in_ok-read_attributes-in-Some : goal.returns-in_ok-read_attributes-in-Some
 returns-in_ok-read_attributes-in-Some c =
     let o = get_member (codes "attributes") (members_view c.args.members.now.entries) in
-    given_some (keys) (codes "attributes") (AreKeys) o (view c.in-Some.value.now) c.in_ok-read_attributes-in-Some.field-0 refl c.in-Some.ensures c.in_ok-read_attributes-in-Some.ensures.0 c.in_ok-read_attributes-in-Some.ensures.1
+    given_some (keys) (codes "attributes") (AreKeys) o (view c.in-Some.value.now)
+    c.in_ok-read_attributes-in-Some.field-0 refl c.in-Some.ensures c.in_ok-read_attributes-in-Some.ensures.0
+    c.in_ok-read_attributes-in-Some.ensures.1
 
 pub returns-in_err-read_attributes-in-Some : goal.returns-in_err-read_attributes-in-Some
 returns-in_err-read_attributes-in-Some c =
     let o = get_member (codes "attributes") (members_view c.args.members.now.entries) in
     let e = c.in_err-read_attributes-in-Some.field-0.0 in
     refused c.from_residual.result e (field_demands (or_null (keys)) (codes "attributes") o) _ c.from_residual.ensures.1
-    (given_fails (keys) (codes "attributes") o (view c.in-Some.value.now) e refl c.in-Some.ensures c.in_err-read_attributes-in-Some.ensures)
+    (given_fails (keys) (codes "attributes") o (view c.in-Some.value.now) e refl c.in-Some.ensures
+    c.in_err-read_attributes-in-Some.ensures)
 
 pub returns-in-None : goal.returns-in-None
 returns-in-None c =

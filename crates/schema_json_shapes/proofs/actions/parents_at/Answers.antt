@@ -14,14 +14,18 @@ use Rattle.schema_json_shapes.proofs.actions.parents_at.Goals as goal
 pub returns-in_ok-read_parents-in-Some : goal.returns-in_ok-read_parents-in-Some
 returns-in_ok-read_parents-in-Some c =
     let o = get_member (codes "memberOf") (members_view c.args.members.now.entries) in
-    given_some (action_ids) (codes "memberOf") (IsList IsActionId) o (view c.in-Some.value.now) c.in_ok-read_parents-in-Some.field-0 refl c.in-Some.ensures c.in_ok-read_parents-in-Some.ensures.0 c.in_ok-read_parents-in-Some.ensures.1
+    given_some (action_ids) (codes "memberOf") (IsList IsActionId) o (view c.in-Some.value.now)
+    c.in_ok-read_parents-in-Some.field-0 refl c.in-Some.ensures c.in_ok-read_parents-in-Some.ensures.0
+    c.in_ok-read_parents-in-Some.ensures.1
 
 pub returns-in_err-read_parents-in-Some : goal.returns-in_err-read_parents-in-Some
 returns-in_err-read_parents-in-Some c =
     let o = get_member (codes "memberOf") (members_view c.args.members.now.entries) in
     let e = c.in_err-read_parents-in-Some.field-0.0 in
-    refused c.from_residual.result e (field_demands (or_null (action_ids)) (codes "memberOf") o) _ c.from_residual.ensures.1
-    (given_fails (action_ids) (codes "memberOf") o (view c.in-Some.value.now) e refl c.in-Some.ensures c.in_err-read_parents-in-Some.ensures)
+    refused c.from_residual.result e (field_demands (or_null (action_ids)) (codes "memberOf") o) _
+    c.from_residual.ensures.1
+    (given_fails (action_ids) (codes "memberOf") o (view c.in-Some.value.now) e refl c.in-Some.ensures
+    c.in_err-read_parents-in-Some.ensures)
 
 pub returns-in-None : goal.returns-in-None
 returns-in-None c =

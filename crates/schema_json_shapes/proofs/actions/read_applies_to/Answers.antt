@@ -7,7 +7,11 @@ use Rattle.schema_json_shapes.proofs.Objects.{no_object, reads_object}
 use Rattle.schema_json_shapes.proofs.actions.read_applies_to.Goals as goal
 
 pub returns-in-Some : goal.returns-in-Some
-returns-in-Some c = reads_object c.read_applies_to_members.result applies_to (codes "appliesTo") (view c.args.value.now) (members_view c.in-Some.members.now.entries) IsAppliesTo c.in-Some.ensures c.read_applies_to_members.ensures
+returns-in-Some c = reads_object c.read_applies_to_members.result applies_to (codes "appliesTo")
+    (view c.args.value.now) (members_view c.in-Some.members.now.entries) IsAppliesTo c.in-Some.ensures
+    c.read_applies_to_members.ensures
 
 pub returns-in-None : goal.returns-in-None
-returns-in-None c = no_object applies_to (codes "appliesTo") (record { on_null = refl; on_flag = refl; on_number = refl; on_string = λ s. refl; on_array = refl }) (view c.args.value.now) c.wrong_type.result c.in-None.ensures c.wrong_type.ensures
+returns-in-None c = no_object applies_to (codes "appliesTo")
+    (record { on_null = refl; on_flag = refl; on_number = refl; on_string = λ s. refl; on_array = refl })
+    (view c.args.value.now) c.wrong_type.result c.in-None.ensures c.wrong_type.ensures

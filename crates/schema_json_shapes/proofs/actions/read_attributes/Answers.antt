@@ -15,4 +15,6 @@ returns-in_ok-read_keys-in-Some c =
     )
 
 pub returns-in-None : goal.returns-in-None
-returns-in-None c = no_object keys (codes "attributes") (record { on_null = refl; on_flag = refl; on_number = refl; on_string = λ s. refl; on_array = refl }) (view c.args.value.now) c.wrong_type.result c.in-None.ensures c.wrong_type.ensures
+returns-in-None c = no_object keys (codes "attributes")
+    (record { on_null = refl; on_flag = refl; on_number = refl; on_string = λ s. refl; on_array = refl })
+    (view c.args.value.now) c.wrong_type.result c.in-None.ensures c.wrong_type.ensures

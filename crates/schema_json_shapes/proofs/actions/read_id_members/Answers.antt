@@ -17,7 +17,9 @@ use Rattle.schema_json_shapes.proofs.Wholes.{action_id_whole}
 use Rattle.schema_json_shapes.proofs.actions.read_id_members.Goals as goal
 
 pub needed-value-requires : goal.needed-value-requires
-needed-value-requires c = action_id_has_id (codes "memberOf") (members_view c.args.members.now.entries) (subst (λ fs. AllMet (fits_table fs (members_view c.args.members.now.entries))) c.action_id_fields.ensures c.in_ok-check_fields.ensures.0)
+needed-value-requires c = action_id_has_id (codes "memberOf") (members_view c.args.members.now.entries)
+    (subst (λ fs. AllMet (fits_table fs (members_view c.args.members.now.entries))) c.action_id_fields.ensures
+    c.in_ok-check_fields.ensures.0)
 
 pub returns-in_err-id : goal.returns-in_err-id
 returns-in_err-id c =
@@ -26,9 +28,15 @@ returns-in_err-id c =
     let table = object_demands action_id (codes "memberOf") ms in
     let d0 = field_demands (action_id_member (codes "id")) (codes "id") (get_member (codes "id") ms) in
     let d1 = field_demands (action_id_member (codes "type")) (codes "type") (get_member (codes "type") ms) in
-    let whole = action_id_whole (codes "memberOf") ms (Rises-view c.args.members.now.entries c.len.ensures.ordered) own in
+    let whole = action_id_whole (codes "memberOf") ms
+    (Rises-view c.args.members.now.entries c.len.ensures.ordered) own in
     let e = c.in_err-id.field-0.0 in
-    refused c.from_residual-in_err-id.result e (demands action_id (codes "memberOf") (object ms)) (IsActionIdIn ms) c.from_residual-in_err-id.ensures.1 (subst (λ ds. IsFault ds e) (sym whole) (passes table (d0 ++ (d1 ++ [])) e own (fails d0 (d1 ++ []) e (subst (λ o. IsFault (field_demands text (codes "id") o) e) (sym c.needed-value.ensures) c.in_err-id.ensures))))
+    refused c.from_residual-in_err-id.result e (demands action_id (codes "memberOf") (object ms)) (IsActionIdIn ms)
+    c.from_residual-in_err-id.ensures.1
+    (subst (λ ds. IsFault ds e) (sym whole)
+    (passes table (d0 ++ (d1 ++ [])) e own
+    (fails d0 (d1 ++ []) e (subst (λ o. IsFault (field_demands text (codes "id") o) e) (sym c.needed-value.ensures)
+    c.in_err-id.ensures))))
 
 pub returns-in_err-ty : goal.returns-in_err-ty
 returns-in_err-ty c =
@@ -37,9 +45,15 @@ returns-in_err-ty c =
     let table = object_demands action_id (codes "memberOf") ms in
     let d0 = field_demands (action_id_member (codes "id")) (codes "id") (get_member (codes "id") ms) in
     let d1 = field_demands (action_id_member (codes "type")) (codes "type") (get_member (codes "type") ms) in
-    let whole = action_id_whole (codes "memberOf") ms (Rises-view c.args.members.now.entries c.len.ensures.ordered) own in
+    let whole = action_id_whole (codes "memberOf") ms
+    (Rises-view c.args.members.now.entries c.len.ensures.ordered) own in
     let e = c.in_err-ty.field-0.0 in
-    refused c.from_residual-in_err-ty.result e (demands action_id (codes "memberOf") (object ms)) (IsActionIdIn ms) c.from_residual-in_err-ty.ensures.1 (subst (λ ds. IsFault ds e) (sym whole) (passes table (d0 ++ (d1 ++ [])) e own (passes d0 (d1 ++ []) e (subst (λ o. AllMet (field_demands text (codes "id") o)) (sym c.needed-value.ensures) c.in_ok-id.ensures.0) (fails d1 [] e c.in_err-ty.ensures))))
+    refused c.from_residual-in_err-ty.result e (demands action_id (codes "memberOf") (object ms)) (IsActionIdIn ms)
+    c.from_residual-in_err-ty.ensures.1
+    (subst (λ ds. IsFault ds e) (sym whole)
+    (passes table (d0 ++ (d1 ++ [])) e own
+    (passes d0 (d1 ++ []) e (subst (λ o. AllMet (field_demands text (codes "id") o)) (sym c.needed-value.ensures)
+    c.in_ok-id.ensures.0) (fails d1 [] e c.in_err-ty.ensures))))
 
 pub returns : goal.returns
 returns c =
@@ -48,10 +62,15 @@ returns c =
     let table = object_demands action_id (codes "memberOf") ms in
     let d0 = field_demands (action_id_member (codes "id")) (codes "id") (get_member (codes "id") ms) in
     let d1 = field_demands (action_id_member (codes "type")) (codes "type") (get_member (codes "type") ms) in
-    let whole = action_id_whole (codes "memberOf") ms (Rises-view c.args.members.now.entries c.len.ensures.ordered) own in (
-      subst AllMet (sym whole) (both_met table (d0 ++ (d1 ++ [])) own (both_met d0 (d1 ++ []) (subst (λ o. AllMet (field_demands text (codes "id") o)) (sym c.needed-value.ensures) c.in_ok-id.ensures.0) (both_met d1 [] c.in_ok-ty.ensures.0 tt))),
+    let whole = action_id_whole (codes "memberOf") ms
+    (Rises-view c.args.members.now.entries c.len.ensures.ordered) own in (
+      subst AllMet (sym whole) (both_met table (d0 ++ (d1 ++ [])) own
+          (both_met d0 (d1 ++ []) (subst (λ o. AllMet (field_demands text (codes "id") o)) (sym c.needed-value.ensures)
+          c.in_ok-id.ensures.0) (both_met d1 [] c.in_ok-ty.ensures.0 tt))),
       record {
-        named = subst (λ o. IsTextIn o c.new.result.id) (sym c.needed-value.ensures) (subst (IsTextIn (Some (view c.needed-value.result.now))) (sym c.new.ensures.id) c.in_ok-id.ensures.1);
-        typed = subst (IsOptional IsNamed (not_null (get_member (codes "type") ms))) (sym c.new.ensures.ty) c.in_ok-ty.ensures.1;
+        named = subst (λ o. IsTextIn o c.new.result.id) (sym c.needed-value.ensures)
+            (subst (IsTextIn (Some (view c.needed-value.result.now))) (sym c.new.ensures.id) c.in_ok-id.ensures.1);
+        typed = subst (IsOptional IsNamed (not_null (get_member (codes "type") ms))) (sym c.new.ensures.ty)
+            c.in_ok-ty.ensures.1;
       },
     )

@@ -13,10 +13,14 @@ loop-key-preserved c =
     let l = c.loop-key in
     let left = c.next.new.self in
     let key = string_bytes c.in-Some.key.now in
-    let spelling : encode_utf8_all (chars key) ≡ key = subst (λ bs. encode_utf8_all (chars bs) ≡ bs) c.as_str.ensures.value (encodes-chars c.as_str.result.now c.as_str.utf8) in
+    let spelling : encode_utf8_all (chars key)
+    ≡ key = subst (λ bs. encode_utf8_all (chars bs) ≡ bs) c.as_str.ensures.value
+    (encodes-chars c.as_str.result.now c.as_str.utf8) in
     record {
       keys =
-          ap (λ ys. ys ++ key_texts (members_view left)) (c.in_ok-push.ensures.items ∙ ap (λ t. l.keys.items ++ t ∷ []) (c.in_ok-from_str.ensures ∙ ap chars c.as_str.ensures.value))
+          ap (λ ys. ys ++ key_texts (members_view left))
+          (c.in_ok-push.ensures.items ∙ ap (λ t. l.keys.items ++ t ∷ [])
+          (c.in_ok-from_str.ensures ∙ ap chars c.as_str.ensures.value))
           ∙ append_assoc l.keys.items (chars key ∷ []) (key_texts (members_view left))
           ∙ sym (ap (λ es. l.keys.items ++ key_texts (members_view es)) c.in-Some.ensures.steps) ∙ l.invariant.keys;
       spelled = λ s. l.invariant.spelled (subst Spelled (sym c.in-Some.ensures.steps) (spelling, s));
@@ -27,5 +31,7 @@ from_sorted_vec-requires c =
     let l = c.loop-key in
     let es = c.args.members.now.entries in
     let ended : l.key-iterator ≡ [] = c.in-None.ensures.steps.0 in
-    let all : l.keys.items ≡ key_texts (members_view es) = sym (append-nil _) ∙ ap (λ xs. l.keys.items ++ key_texts (members_view xs)) (sym ended) ∙ l.invariant.keys in
-    subst (IsStrictlySortedBy text_cmp) (sym all) (keys_rise es (l.invariant.spelled (subst Spelled (sym ended) tt)) c.len.ensures.ordered)
+    let all : l.keys.items ≡ key_texts (members_view es) = sym (append-nil _)
+    ∙ ap (λ xs. l.keys.items ++ key_texts (members_view xs)) (sym ended) ∙ l.invariant.keys in
+    subst (IsStrictlySortedBy text_cmp) (sym all)
+    (keys_rise es (l.invariant.spelled (subst Spelled (sym ended) tt)) c.len.ensures.ordered)

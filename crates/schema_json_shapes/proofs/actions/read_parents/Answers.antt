@@ -8,7 +8,10 @@ use Rattle.schema_json_shapes.proofs.Objects.{no_array, reads_array}
 use Rattle.schema_json_shapes.proofs.actions.read_parents.Goals as goal
 
 pub returns-in-Some : goal.returns-in-Some
-returns-in-Some c = reads_array c.read_action_ids.result action_ids (codes "memberOf") (view c.args.value.now) (items_view c.in-Some.items.now.items) (IsList IsActionId) c.in-Some.ensures c.read_action_ids.ensures
+returns-in-Some c = reads_array c.read_action_ids.result action_ids (codes "memberOf") (view c.args.value.now)
+    (items_view c.in-Some.items.now.items) (IsList IsActionId) c.in-Some.ensures c.read_action_ids.ensures
 
 pub returns-in-None : goal.returns-in-None
-returns-in-None c = no_array action_ids (codes "memberOf") (record { on_null = refl; on_flag = refl; on_number = refl; on_string = λ s. refl; on_object = λ ms. refl }) (view c.args.value.now) c.wrong_type.result c.in-None.ensures c.wrong_type.ensures
+returns-in-None c = no_array action_ids (codes "memberOf")
+    (record { on_null = refl; on_flag = refl; on_number = refl; on_string = λ s. refl; on_object = λ ms. refl })
+    (view c.args.value.now) c.wrong_type.result c.in-None.ensures c.wrong_type.ensures

@@ -4,7 +4,8 @@ use Rattle.schema_json_shapes.specs.Walk.{annotation, annotations, key_demands, 
 use Rattle.schema_json_shapes.specs.Said.{IsAnyId, IsAnnotation}
 use Rattle.schema_json_shapes.specs.Reads.{IsFault}
 use Rattle.schema_json_shapes.proofs.Demands.{refused}
-use Rattle.schema_json_shapes.proofs.Ahead.{Left, all_left, first_fails, first_passes, none_left, Found, none_found, one_found, all_found}
+use Rattle.schema_json_shapes.proofs.Ahead.{Left, all_left, first_fails, first_passes, none_left, Found, none_found}
+use Rattle.schema_json_shapes.proofs.Ahead.{one_found, all_found}
 use Rattle.schema_json_shapes.proofs.annotations.read_entries.Goals as goal
 
 pub loop-key-init : goal.loop-key-init
@@ -12,7 +13,10 @@ loop-key-init c =
     let all = c.args.members.now.entries in
     let start = c.into_iter-key-iterator.result in
     let same = c.into_iter-key-iterator.ensures in
-    record { left = all_left (key_demands annotations) (λ k. annotation) start all (search rules); found = none_found IsAnyId IsAnnotation start all c.new-entries.result.items (search rules) (search rules) }
+    record {
+      left = all_left (key_demands annotations) (λ k. annotation) start all (search rules);
+      found = none_found IsAnyId IsAnnotation start all c.new-entries.result.items (search rules) (search rules);
+    }
 
 pub loop-key-preserved : goal.loop-key-preserved
 loop-key-preserved c =
@@ -21,11 +25,17 @@ loop-key-preserved c =
     let key = string_bytes c.in-Some.key.now in
     let d = view c.in-Some.value.now in
     let all = members_view c.args.members.now.entries in
-    let met = subst (λ n. AllMet (key_demands annotations n ++ demands annotation n d)) c.as_str.ensures.value c.in_ok-entry.ensures.0 in
-    let says = subst (λ n. IsAnyId n c.in_ok-entry.entry.0 × IsAnnotation d c.in_ok-entry.entry.1) c.as_str.ensures.value c.in_ok-entry.ensures.1 in
+    let met = subst (λ n. AllMet (key_demands annotations n ++ demands annotation n d)) c.as_str.ensures.value
+    c.in_ok-entry.ensures.0 in
+    let says = subst (λ n. IsAnyId n c.in_ok-entry.entry.0 × IsAnnotation d c.in_ok-entry.entry.1)
+    c.as_str.ensures.value c.in_ok-entry.ensures.1 in
     record {
-      left = first_passes (key_demands annotations) (λ k. annotation) key d (members_view left) all (subst (λ es. Left (key_demands annotations) (λ k. annotation) (members_view es) all) c.in-Some.ensures.steps l.invariant.left) met;
-      found = one_found IsAnyId IsAnnotation key d (members_view left) all l.entries.items _ c.in_ok-entry.entry (subst (λ es. Found IsAnyId IsAnnotation (members_view es) all l.entries.items) c.in-Some.ensures.steps l.invariant.found) says c.in_ok-push.ensures.items;
+      left = first_passes (key_demands annotations) (λ k. annotation) key d (members_view left) all
+          (subst (λ es. Left (key_demands annotations) (λ k. annotation) (members_view es) all)
+          c.in-Some.ensures.steps l.invariant.left) met;
+      found = one_found IsAnyId IsAnnotation key d (members_view left) all l.entries.items _ c.in_ok-entry.entry
+          (subst (λ es. Found IsAnyId IsAnnotation (members_view es) all l.entries.items) c.in-Some.ensures.steps
+          l.invariant.found) says c.in_ok-push.ensures.items;
     }
 
 pub returns-in_err-entry : goal.returns-in_err-entry
@@ -36,14 +46,21 @@ returns-in_err-entry c =
     let d = view c.in-Some.value.now in
     let all = members_view c.args.members.now.entries in
     let e = c.in_err-entry.field-0.0 in
-    let fault = subst (λ n. IsFault (key_demands annotations n ++ demands annotation n d) e) c.as_str.ensures.value c.in_err-entry.ensures in
+    let fault = subst (λ n. IsFault (key_demands annotations n ++ demands annotation n d) e) c.as_str.ensures.value
+    c.in_err-entry.ensures in
     refused c.from_residual.result e _ _ c.from_residual.ensures.1
-    (first_fails (key_demands annotations) (λ k. annotation) key d (members_view left) all e (subst (λ es. Left (key_demands annotations) (λ k. annotation) (members_view es) all) c.in-Some.ensures.steps l.invariant.left) fault)
+    (first_fails (key_demands annotations) (λ k. annotation) key d (members_view left) all e
+    (subst (λ es. Left (key_demands annotations) (λ k. annotation) (members_view es) all) c.in-Some.ensures.steps
+    l.invariant.left) fault)
 
 pub returns : goal.returns
 returns c =
     let l = c.loop-key in
     let all = members_view c.args.members.now.entries in (
-      none_left (key_demands annotations) (λ k. annotation) all (subst (λ es. Left (key_demands annotations) (λ k. annotation) (members_view es) all) c.in-None.ensures.steps.0 l.invariant.left),
-      all_found IsAnyId IsAnnotation all l.entries.items (subst (λ es. Found IsAnyId IsAnnotation (members_view es) all l.entries.items) c.in-None.ensures.steps.0 l.invariant.found),
+      none_left (key_demands annotations) (λ k. annotation) all
+          (subst (λ es. Left (key_demands annotations) (λ k. annotation) (members_view es) all) c.in-None.ensures.steps.0
+          l.invariant.left),
+      all_found IsAnyId IsAnnotation all l.entries.items
+          (subst (λ es. Found IsAnyId IsAnnotation (members_view es) all l.entries.items) c.in-None.ensures.steps.0
+          l.invariant.found),
     )

@@ -6,6 +6,7 @@ use Rattle.schema_json_shapes.proofs.annotations.read_entries.Given as goal
 
 abbrev pub invariant-loop-key : goal.invariant-loop-key
 invariant-loop-key l = record {
-  left : Left (key_demands annotations) (λ k. annotation) (members_view l.key-iterator) (members_view l.members.entries);
+  left : Left (key_demands annotations) (λ k. annotation) (members_view l.key-iterator)
+      (members_view l.members.entries);
   found : Found IsAnyId IsAnnotation (members_view l.key-iterator) (members_view l.members.entries) l.entries.items;
 }

@@ -9,9 +9,16 @@ pub returns-in-Some : goal.returns-in-Some
 returns-in-Some c =
     let ns = present is_there not_enum (members_view c.args.members.now.entries) in
     let e = c.in-Some.ensures.some in
-    inr (inl (asked _ _ _ (sym c.is_there.ensures ∙ c.if-not-is_there.false) (conflict_named EnumConflict ns c.in-Some.fields (e.0 ∙ c.in_ok-there.ensures) e.1)))
+    inr (inl (asked _ _ _ (sym c.is_there.ensures ∙ c.if-not-is_there.false)
+    (conflict_named EnumConflict ns c.in-Some.fields (e.0 ∙ c.in_ok-there.ensures) e.1)))
 
 pub returns-in-None : goal.returns-in-None
 returns-in-None c =
-    let ns = present is_there not_enum (members_view c.args.members.now.entries) in
-    ((asked _ _ _ (sym c.is_there.ensures ∙ c.if-not-is_there.false) (no_conflict EnumConflict ns c.in_ok-there.field-0.items c.in_ok-there.ensures c.in-None.ensures.none), tt), tt)
+    let ns = present is_there not_enum (members_view c.args.members.now.entries) in (
+      (
+        asked _ _ _ (sym c.is_there.ensures ∙ c.if-not-is_there.false)
+            (no_conflict EnumConflict ns c.in_ok-there.field-0.items c.in_ok-there.ensures c.in-None.ensures.none),
+        tt,
+      ),
+      tt,
+    )

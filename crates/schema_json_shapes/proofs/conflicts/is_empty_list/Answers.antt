@@ -8,4 +8,5 @@ use Rattle.schema_json_shapes.proofs.conflicts.is_empty_list.Goals as goal
 pub returns-in-Array : goal.returns-in-Array
 returns-in-Array c =
     let e : c.len.result ≡ length c.in-Array.items.items = omega arith in
-    ap (λ n. nat_eq n 0) e ∙ len_zero c.in-Array.items.items ∙ ap is_empty_list (sym (ap view c.in-Array.is ∙ view-Array c.in-Array.items))
+    ap (λ n. nat_eq n 0) e ∙ len_zero c.in-Array.items.items
+    ∙ ap is_empty_list (sym (ap view c.in-Array.is ∙ view-Array c.in-Array.items))

@@ -6,4 +6,6 @@ use Rattle.schema_json_shapes.specs.Seen.{name_texts}
 use Rattle.schema_json_shapes.proofs.conflicts.there.Given as goal
 
 abbrev pub invariant-loop-field : goal.invariant-loop-field
-invariant-loop-field l = l.found.items ++ map chars (present is_there (name_texts (drop l.field-index l.fields)) (members_view l.members.entries)) ≡ map chars (present is_there (name_texts l.fields) (members_view l.members.entries))
+invariant-loop-field l = l.found.items
+    ++ map chars (present is_there (name_texts (drop l.field-index l.fields)) (members_view l.members.entries))
+    ≡ map chars (present is_there (name_texts l.fields) (members_view l.members.entries))

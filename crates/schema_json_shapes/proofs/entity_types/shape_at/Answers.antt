@@ -12,5 +12,8 @@ returns-in-Some c =
 
 pub returns-in-None : goal.returns-in-None
 returns-in-None c =
-    let o = get_member c.args.name.now (members_view c.args.members.now.entries) in
-    (c.in_ok-ty.ensures.0, shape_none o c.into_inner.result (subst (IsOptional IsType o) c.in-None.is c.in_ok-ty.ensures.1) (c.into_inner.ensures ∙ c.default.ensures))
+    let o = get_member c.args.name.now (members_view c.args.members.now.entries) in (
+      c.in_ok-ty.ensures.0,
+      shape_none o c.into_inner.result
+          (subst (IsOptional IsType o) c.in-None.is c.in_ok-ty.ensures.1) (c.into_inner.ensures ∙ c.default.ensures),
+    )

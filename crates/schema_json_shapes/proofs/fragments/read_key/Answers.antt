@@ -5,4 +5,5 @@ use Rattle.schema_json_shapes.proofs.fragments.read_key.Goals as goal
 pub returns : goal.returns
 returns c =
     let h : 0 < length c.args.key.now = omega arith in
-    key_says c.args.key.now c.in_ok-read_namespace_name.field-0 h c.in_ok-read_namespace_name.ensures.0 c.in_ok-read_namespace_name.ensures.1
+    key_says c.args.key.now c.in_ok-read_namespace_name.field-0 h c.in_ok-read_namespace_name.ensures.0
+    c.in_ok-read_namespace_name.ensures.1

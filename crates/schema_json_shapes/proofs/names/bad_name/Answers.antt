@@ -9,5 +9,6 @@ returns-in-Ok c = inr (inl (record {
   told = λ i. BadName (c.in-Ok.ensures.0 i) (c.in-Ok.ensures.1 i) c.args.fault;
   is_cause = c.requires;
   no_want = c.in_default.not-Memory;
-  no_name = λ n. c.in_default.not-Memory (c.one_reading.ensures.no_fault (kind_of c.args.role) n.0 c.args.fault n.1 c.requires);
+  no_name = λ n. c.in_default.not-Memory
+      (c.one_reading.ensures.no_fault (kind_of c.args.role) n.0 c.args.fault n.1 c.requires);
 }))

@@ -10,5 +10,6 @@ returns-in_err-id c =
     let k = c.args.key.now in
     let d = view c.args.value.now in
     let e = c.in_err-id.field-0.0 in
-    refused c.from_residual.result e (key_demands common_types k ++ demands (typed site.Common) k d) _ c.from_residual.ensures.1
+    refused c.from_residual.result e (key_demands common_types k ++ demands (typed site.Common) k d) _
+    c.from_residual.ensures.1
     (fails (key_demands common_types k) (demands (typed site.Common) k d) e c.in_err-id.ensures)

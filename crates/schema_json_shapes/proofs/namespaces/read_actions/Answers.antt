@@ -6,4 +6,6 @@ use Rattle.schema_json_shapes.proofs.Objects.{no_object}
 use Rattle.schema_json_shapes.proofs.namespaces.read_actions.Goals as goal
 
 pub returns-in-None : goal.returns-in-None
-returns-in-None c = no_object actions (codes "actions") (record { on_null = refl; on_flag = refl; on_number = refl; on_string = λ s. refl; on_array = refl }) (view c.args.value.now) c.wrong_type.result c.in-None.ensures c.wrong_type.ensures
+returns-in-None c = no_object actions (codes "actions")
+    (record { on_null = refl; on_flag = refl; on_number = refl; on_string = λ s. refl; on_array = refl })
+    (view c.args.value.now) c.wrong_type.result c.in-None.ensures c.wrong_type.ensures

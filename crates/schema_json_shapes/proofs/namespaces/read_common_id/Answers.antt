@@ -6,4 +6,8 @@ pub returns-in-Err : goal.returns-in-Err
 returns-in-Err c =
     let e = c.in-Err.ensures.err in
     let same = c.in_ok-id.ensures.1.normal in
-    inr (inr (c.in_ok-id.ensures.0.0, inl (ap is_keyword_name same ∙ e.1, c.in-Err.reserved.id, ap (λ i. i.id.text) e.0 ∙ sym same, refl)))
+    inr (inr (
+      c.in_ok-id.ensures.0.0,
+      inl
+          (ap is_keyword_name same ∙ e.1, c.in-Err.reserved.id, ap (λ i. i.id.text) e.0 ∙ sym same, refl),
+    ))

@@ -32,6 +32,7 @@ decreases-read_attribute_entries l = 6 * members_depth (members_view l.members.n
 abbrev pub invariant-read_attribute_entries-loop-key : goal.invariant-read_attribute_entries-loop-key
 invariant-read_attribute_entries-loop-key l = record {
   done : (before : List Entry) × (l.members.entries ≡ before ++ l.key-iterator);
-  left : Left (key_demands attributes) (λ k. typed site.Attribute) (members_view l.key-iterator) (members_view l.members.entries);
+  left : Left (key_demands attributes) (λ k. typed site.Attribute) (members_view l.key-iterator)
+      (members_view l.members.entries);
   found : FoundAttributes (members_view l.key-iterator) (members_view l.members.entries) l.entries.items;
 }

@@ -11,6 +11,8 @@ pub returns : goal.returns
 returns c =
     let ms = members_view c.args.members.now.entries in
     let there = c.needed-value.ensures in (
-      subst (λ o. AllMet (field_demands (named role.EntityOrCommonType) (codes "name") o)) (sym there) c.in_ok-type_name.ensures.0,
-      either_says ms (view c.needed-value.result.now) c.in_ok-type_name.type_name c.requires.word there c.in_ok-type_name.ensures.1,
+      subst (λ o. AllMet (field_demands (named role.EntityOrCommonType) (codes "name") o)) (sym there)
+          c.in_ok-type_name.ensures.0,
+      either_says ms (view c.needed-value.result.now) c.in_ok-type_name.type_name c.requires.word there
+          c.in_ok-type_name.ensures.1,
     )

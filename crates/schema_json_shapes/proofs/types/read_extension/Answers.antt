@@ -11,6 +11,7 @@ pub returns : goal.returns
 returns c =
     let ms = members_view c.args.members.now.entries in
     let there = c.needed-value.ensures in (
-      subst (λ o. AllMet (field_demands (named role.ExtensionType) (codes "name") o)) (sym there) c.in_ok-name.ensures.0,
+      subst (λ o. AllMet (field_demands (named role.ExtensionType) (codes "name") o)) (sym there)
+          c.in_ok-name.ensures.0,
       extension_says ms (view c.needed-value.result.now) c.in_ok-name.name c.requires.word there c.in_ok-name.ensures.1,
     )

@@ -12,4 +12,5 @@ returns g c =
     let key = codes "memberOfTypes" in
     let ms = members_view c.args.members.now.entries in
     let some : 0 < length c.args.parents.now = omega (arith, c.if-parents-eq0.false) in
-    on_ok_weaker c.put.result (λ e. e ∙ ap (λ d. put key d ms) c.in_ok-value.ensures ∙ sym (list_put f key c.args.parents.now ms some)) c.put.ensures.ok
+    on_ok_weaker c.put.result (λ e. e ∙ ap (λ d. put key d ms) c.in_ok-value.ensures
+    ∙ sym (list_put f key c.args.parents.now ms some)) c.put.ensures.ok

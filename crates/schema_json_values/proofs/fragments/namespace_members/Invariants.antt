@@ -6,4 +6,5 @@ use Rattle.schema_json_values.specs.FragmentValues.{namespace_entry}
 use Rattle.schema_json_values.proofs.fragments.namespace_members.Given as goal
 
 abbrev pub invariant-loop-name : goal.invariant-loop-name
-invariant-loop-name g l = put_all (map (namespace_entry g.N.NameText.components) (drop l.name-index l.entries)) (members_view l.members.entries) ≡ put_all (map (namespace_entry g.N.NameText.components) l.entries) no_members
+invariant-loop-name g l = put_all (map (namespace_entry g.N.NameText.components) (drop l.name-index l.entries))
+    (members_view l.members.entries) ≡ put_all (map (namespace_entry g.N.NameText.components) l.entries) no_members

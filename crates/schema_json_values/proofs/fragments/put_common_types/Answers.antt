@@ -14,4 +14,5 @@ returns g c =
     let ms = members_view c.args.members.now.entries in
     let some : 0 < length c.args.entries.now = omega (arith, c.if-entries-eq0.false) in
     let value = view-Object c.in_ok-common.common ∙ ap object c.in_ok-common.ensures in
-    on_ok_weaker c.put.result (λ e. e ∙ ap (λ d. put key d ms) value ∙ sym (object_put f key c.args.entries.now ms some)) c.put.ensures.ok
+    on_ok_weaker c.put.result (λ e. e ∙ ap (λ d. put key d ms) value
+    ∙ sym (object_put f key c.args.entries.now ms some)) c.put.ensures.ok

@@ -4,4 +4,6 @@ use Rattle.schema_json_values.specs.FragmentValues.{name_value}
 use Rattle.schema_json_values.proofs.leaves.names_value.Given as goal
 
 abbrev pub invariant-loop-name : goal.invariant-loop-name
-invariant-loop-name g l = map view l.items.items ++ map (name_value g.N.NameText.components) (drop l.name-index l.names) ≡ map (name_value g.N.NameText.components) l.names
+invariant-loop-name g l = map view l.items.items
+    ++ map (name_value g.N.NameText.components) (drop l.name-index l.names)
+    ≡ map (name_value g.N.NameText.components) l.names

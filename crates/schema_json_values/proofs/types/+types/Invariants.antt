@@ -18,4 +18,5 @@ decreases-attribute_entries g l = 2 * most (size-TypeOfAttribute g.row.N.Denot) 
 
 abbrev pub invariant-attribute_entries-loop-name : goal.invariant-attribute_entries-loop-name
 invariant-attribute_entries-loop-name g l =
-    put_all (map (attribute_entry g.N.NameText.components) (drop l.name-index l.entries)) (members_view l.members.entries) ≡ put_all (map (attribute_entry g.N.NameText.components) l.entries) no_members
+    put_all (map (attribute_entry g.N.NameText.components) (drop l.name-index l.entries))
+    (members_view l.members.entries) ≡ put_all (map (attribute_entry g.N.NameText.components) l.entries) no_members

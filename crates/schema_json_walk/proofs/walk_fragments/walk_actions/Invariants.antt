@@ -5,4 +5,5 @@ use Rattle.schema_json_walk.proofs.walk_fragments.walk_actions.Given as goal
 
 abbrev pub invariant-loop-action : goal.invariant-loop-action
 invariant-loop-action g l =
-    FoldsTo (g.V.Visitor.takes l.ns) l.initial.visitor (each_value (of_action itself) (take l.action-index l.entries)) l.visitor
+    FoldsTo (g.V.Visitor.takes l.ns) l.initial.visitor
+    (each_value (of_action itself) (take l.action-index l.entries)) l.visitor

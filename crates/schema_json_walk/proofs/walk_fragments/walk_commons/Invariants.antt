@@ -5,4 +5,5 @@ use Rattle.schema_json_walk.proofs.walk_fragments.walk_commons.Given as goal
 
 abbrev pub invariant-loop-common : goal.invariant-loop-common
 invariant-loop-common g l =
-    FoldsTo (g.V.Visitor.takes l.ns) l.initial.visitor (each_value (of_common itself) (take l.common-index l.entries)) l.visitor
+    FoldsTo (g.V.Visitor.takes l.ns) l.initial.visitor
+    (each_value (of_common itself) (take l.common-index l.entries)) l.visitor

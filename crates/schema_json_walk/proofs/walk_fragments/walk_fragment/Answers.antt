@@ -14,8 +14,10 @@ loop-ns-preserved g c =
     let at = c.loop-ns.visitor in
     each_taken (takes_placed g.V.Visitor.takes)
     (of_entry (λ ns part. let placed : Option Name × Part g.row.N.Denot = (ns, part) in placed ∷ []))
-    c.as_slice-ns-items.result.now c.loop-ns.ns-index it c.args.visitor.now at c.walk_namespace.new.visitor c.loop-ns-test.true c.loop-ns-item.is c.loop-ns.invariant
-    (namespace_placed g.V.Visitor.takes g.V.Visitor.refuses it.0 it.1 at c.walk_namespace.new.visitor c.in_ok-walk_namespace.ensures.taken)
+    c.as_slice-ns-items.result.now c.loop-ns.ns-index it c.args.visitor.now at c.walk_namespace.new.visitor
+    c.loop-ns-test.true c.loop-ns-item.is c.loop-ns.invariant
+    (namespace_placed g.V.Visitor.takes g.V.Visitor.refuses it.0 it.1 at c.walk_namespace.new.visitor
+    c.in_ok-walk_namespace.ensures.taken)
 
 pub returns-in_err-walk_namespace-clause-refused : goal.returns-in_err-walk_namespace-clause-refused
 returns-in_err-walk_namespace-clause-refused g c =
@@ -26,5 +28,6 @@ returns-in_err-walk_namespace-clause-refused g c =
     (rw (← c.as_slice-ns-items.ensures.entries)
     (each_stops (takes_placed g.V.Visitor.takes) (refuses_placed g.V.Visitor.refuses)
     (of_entry (λ ns part. let placed : Option Name × Part g.row.N.Denot = (ns, part) in placed ∷ []))
-    c.as_slice-ns-items.result.now c.loop-ns.ns-index it c.args.visitor.now at e c.loop-ns-test.true c.loop-ns-item.is c.loop-ns.invariant
+    c.as_slice-ns-items.result.now c.loop-ns.ns-index it c.args.visitor.now at e c.loop-ns-test.true c.loop-ns-item.is
+    c.loop-ns.invariant
     (namespace_stops g.V.Visitor.takes g.V.Visitor.refuses it.0 it.1 at e c.in_err-walk_namespace.ensures.refused)))

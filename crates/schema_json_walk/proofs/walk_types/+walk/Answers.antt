@@ -13,7 +13,8 @@ walk_entries-walk_type-requires g t c κs within =
     let size = size-TypeOfAttribute g.row.N.Denot in
     let it = c.loop-attribute-item.result in
     let le = most_at size c.args.entries.now c.loop-attribute.attribute-index it c.loop-attribute-test.true in
-    let same : size it.1 ≡ size (get_or c.args.entries.now c.loop-attribute.attribute-index it).1 = ap (λ p. size p.1) c.loop-attribute-item.is in
+    let same : size it.1 ≡ size (get_or c.args.entries.now c.loop-attribute.attribute-index it).1 = ap (λ p. size p.1)
+    c.loop-attribute-item.is in
     let below = size_is-TypeOfAttribute g.row.N.Denot it.1 in
     (omega (arith, le, same, c.decreases, below), search rules)
 
@@ -22,8 +23,11 @@ walk_entries-loop-attribute-preserved g t c =
     let R = g.V.Visitor.takes c.args.ns.now in
     let it = c.loop-attribute-item.result in
     let s = c.loop-attribute.visitor in
-    each_taken R (λ e. of_attribute itself e.1) c.args.entries.now c.loop-attribute.attribute-index it c.args.visitor.now s c.walk_type.new.visitor c.loop-attribute-test.true c.loop-attribute-item.is c.loop-attribute.invariant
-    (subst (λ l. FoldsTo R s l c.walk_type.new.visitor) (sym (attribute_walked itself it.1)) c.in_ok-walk_type.ensures.taken)
+    each_taken R (λ e. of_attribute itself e.1) c.args.entries.now c.loop-attribute.attribute-index it
+    c.args.visitor.now s c.walk_type.new.visitor c.loop-attribute-test.true c.loop-attribute-item.is
+    c.loop-attribute.invariant
+    (subst (λ l. FoldsTo R s l c.walk_type.new.visitor) (sym (attribute_walked itself it.1))
+    c.in_ok-walk_type.ensures.taken)
 
 pub walk_entries-returns-in_err-walk_type-clause-refused : goal.walk_entries-returns-in_err-walk_type-clause-refused
 walk_entries-returns-in_err-walk_type-clause-refused g t c =
@@ -33,26 +37,33 @@ walk_entries-returns-in_err-walk_type-clause-refused g t c =
     let s = c.loop-attribute.visitor in
     let e = c.in_err-walk_type.field-0.0 in
     handed _ c.from_residual.result e c.from_residual.ensures.1
-    (each_stops R Q (λ e. of_attribute itself e.1) c.args.entries.now c.loop-attribute.attribute-index it c.args.visitor.now s e c.loop-attribute-test.true c.loop-attribute-item.is c.loop-attribute.invariant
+    (each_stops R Q (λ e. of_attribute itself e.1) c.args.entries.now c.loop-attribute.attribute-index it
+    c.args.visitor.now s e c.loop-attribute-test.true c.loop-attribute-item.is c.loop-attribute.invariant
     (subst (λ l. StopsAmong R Q s l e) (sym (attribute_walked itself it.1)) c.in_err-walk_type.ensures.refused))
 
 pub walk_record-returns-in_err-meet_where-clause-refused : goal.walk_record-returns-in_err-meet_where-clause-refused
 walk_record-returns-in_err-meet_where-clause-refused g t c =
     rw (record_walked itself c.args.fields.now)
-    (err_front (g.V.Visitor.takes c.args.ns.now) (g.V.Visitor.refuses c.args.ns.now) _ _ c.from_residual.result c.args.visitor.now c.in_err-meet_where.field-0.0 c.from_residual.ensures.1 c.in_err-meet_where.ensures.refused)
+    (err_front (g.V.Visitor.takes c.args.ns.now) (g.V.Visitor.refuses c.args.ns.now) _ _ c.from_residual.result
+    c.args.visitor.now c.in_err-meet_where.field-0.0 c.from_residual.ensures.1 c.in_err-meet_where.ensures.refused)
 
 pub walk_record-returns-clause-taken : goal.walk_record-returns-clause-taken
 walk_record-returns-clause-taken g t c =
     rw (record_walked itself c.args.fields.now, ← c.as_slice.ensures.entries)
-    (ok_then (g.V.Visitor.takes c.args.ns.now) (g.V.Visitor.refuses c.args.ns.now) _ _ c.walk_entries.result c.args.visitor.now c.meet_where.new.visitor c.walk_entries.new.visitor c.in_ok-meet_where.ensures.taken c.walk_entries.ensures.taken)
+    (ok_then (g.V.Visitor.takes c.args.ns.now) (g.V.Visitor.refuses c.args.ns.now) _ _ c.walk_entries.result
+    c.args.visitor.now c.meet_where.new.visitor c.walk_entries.new.visitor c.in_ok-meet_where.ensures.taken
+    c.walk_entries.ensures.taken)
 
 pub walk_record-returns-clause-refused : goal.walk_record-returns-clause-refused
 walk_record-returns-clause-refused g t c =
     rw (record_walked itself c.args.fields.now, ← c.as_slice.ensures.entries)
-    (err_behind (g.V.Visitor.takes c.args.ns.now) (g.V.Visitor.refuses c.args.ns.now) _ _ c.walk_entries.result c.args.visitor.now c.meet_where.new.visitor c.in_ok-meet_where.ensures.taken c.walk_entries.ensures.refused)
+    (err_behind (g.V.Visitor.takes c.args.ns.now) (g.V.Visitor.refuses c.args.ns.now) _ _ c.walk_entries.result
+    c.args.visitor.now c.meet_where.new.visitor c.in_ok-meet_where.ensures.taken c.walk_entries.ensures.refused)
 
 pub walk_variant-returns-in-Record-clause-taken : goal.walk_variant-returns-in-Record-clause-taken
-walk_variant-returns-in-Record-clause-taken g t c = rw (c.in-Record.is, variant_walked itself c.in-Record.fields) c.walk_record.ensures.taken
+walk_variant-returns-in-Record-clause-taken g t c =
+    rw (c.in-Record.is, variant_walked itself c.in-Record.fields) c.walk_record.ensures.taken
 
 pub walk_variant-returns-in-Record-clause-refused : goal.walk_variant-returns-in-Record-clause-refused
-walk_variant-returns-in-Record-clause-refused g t c = rw (c.in-Record.is, variant_walked itself c.in-Record.fields) c.walk_record.ensures.refused
+walk_variant-returns-in-Record-clause-refused g t c =
+    rw (c.in-Record.is, variant_walked itself c.in-Record.fields) c.walk_record.ensures.refused

@@ -12,5 +12,7 @@ returns-in-Some g c =
     let a = c.args.action.now in
     let ext : a.external ≡ false = c.if-action.false in
     on_ok_weaker c.push_targets.result
-    (λ e. so (then c.in_ok-push_action_parents.ensures e) (applied_shown names c.args.base a.external a.applies_to c.in-Some.spec (parents_pieces ref_pieces (printed_parents names a.member_of)) ext c.in-Some.is))
+    (λ e. so (then c.in_ok-push_action_parents.ensures e)
+    (applied_shown names c.args.base a.external a.applies_to c.in-Some.spec
+    (parents_pieces ref_pieces (printed_parents names a.member_of)) ext c.in-Some.is))
     c.push_targets.ensures

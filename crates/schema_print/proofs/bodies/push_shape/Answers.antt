@@ -6,8 +6,12 @@ use Rattle.schema_print.proofs.bodies.push_shape.Goals as goal
 
 pub returns-then-has_no_attributes : goal.returns-then-has_no_attributes
 returns-then-has_no_attributes g c =
-    so (adds_nothing c.args.text.now) (shape_none c.args.base (printed_type g.N.NameText.components c.args.shape.now) (sym c.has_no_attributes.ensures ∙ c.if-has_no_attributes.true))
+    so (adds_nothing c.args.text.now)
+    (shape_none c.args.base (printed_type g.N.NameText.components c.args.shape.now)
+    (sym c.has_no_attributes.ensures ∙ c.if-has_no_attributes.true))
 
 pub returns : goal.returns
 returns g c =
-    so (then c.in_ok-push.ensures c.in_ok-push_type.ensures) (shape_some c.args.base (printed_type g.N.NameText.components c.args.shape.now) (sym c.has_no_attributes.ensures ∙ c.if-has_no_attributes.false))
+    so (then c.in_ok-push.ensures c.in_ok-push_type.ensures)
+    (shape_some c.args.base (printed_type g.N.NameText.components c.args.shape.now)
+    (sym c.has_no_attributes.ensures ∙ c.if-has_no_attributes.false))

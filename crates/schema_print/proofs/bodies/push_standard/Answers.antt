@@ -14,5 +14,9 @@ returns g c =
     let names = g.N.NameText.components in
     let e = c.args.standard.now in
     so
-    (then (so c.in_ok-push_parents.ensures (ap (λ ns. laid (parents_pieces path_pieces (paths_of_names names ns))) c.as_slice.ensures)) (then c.in_ok-push_shape.ensures c.in_ok-push_tags.ensures))
-    (three_laid (parents_pieces path_pieces (paths_of_names names e.member_of_types)) (shape_type_pieces true c.args.base (printed_type names e.shape.0)) (tags_pieces true (option_map (printed_type names) e.tags)))
+    (then (so c.in_ok-push_parents.ensures
+    (ap (λ ns. laid (parents_pieces path_pieces (paths_of_names names ns))) c.as_slice.ensures))
+    (then c.in_ok-push_shape.ensures c.in_ok-push_tags.ensures))
+    (three_laid (parents_pieces path_pieces (paths_of_names names e.member_of_types))
+    (shape_type_pieces true c.args.base (printed_type names e.shape.0))
+    (tags_pieces true (option_map (printed_type names) e.tags)))

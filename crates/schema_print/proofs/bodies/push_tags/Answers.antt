@@ -8,4 +8,5 @@ use Rattle.schema_print.proofs.bodies.push_tags.Goals as goal
 
 pub returns-in-None : goal.returns-in-None
 returns-in-None g c =
-    so (adds_nothing c.args.text.now) (ap (λ o. laid (tags_pieces true (option_map (printed_type g.N.NameText.components) o))) (sym c.in-None.is))
+    so (adds_nothing c.args.text.now)
+    (ap (λ o. laid (tags_pieces true (option_map (printed_type g.N.NameText.components) o))) (sym c.in-None.is))

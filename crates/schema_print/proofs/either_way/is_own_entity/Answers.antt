@@ -10,4 +10,5 @@ pub returns-then-is_unqualified : goal.returns-then-is_unqualified
 returns-then-is_unqualified c =
     let t = tests_of (defined c.args.fragment.now c.args.table.now) in
     subst (λ o. c.is_entity_behind.result ≡ passes_behind t.is_entity (name_of o) c.args.name.now) (sym c.in-Some.is)
-    (and_passed _ _ _ _ _ c.if-is_unqualified.true c.is_unqualified.ensures (c.is_entity_behind.ensures c.args.table.now) refl)
+    (and_passed _ _ _ _ _ c.if-is_unqualified.true c.is_unqualified.ensures
+    (c.is_entity_behind.ensures c.args.table.now) refl)

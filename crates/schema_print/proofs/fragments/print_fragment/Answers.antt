@@ -16,12 +16,16 @@ loop-name-init g c = begun _ _
 pub loop-name-preserved : goal.loop-name-preserved
 loop-name-preserved g c =
     round (then c.in_ok-push_between.ensures c.in_ok-push_namespace.ensures) c.loop-name.invariant
-    (row_step (λ b. laid (block_pieces g.N.NameText.components true b)) (codes "\n") c.loop-name.behind _ c.loop-name.name-index c.loop-name-item.result c.loop-name-test.true c.loop-name-item.is)
+    (row_step (λ b. laid (block_pieces g.N.NameText.components true b)) (codes "\n") c.loop-name.behind _
+    c.loop-name.name-index c.loop-name-item.result c.loop-name-test.true c.loop-name-item.is)
 
 pub returns : goal.returns
 returns g c =
     let names = g.N.NameText.components in
-    let one = λ (bs : List (Option Name × NamespaceDefinition g.row.N.Denot g.N.NameText)). row_behind (codes "\n") false (map (λ b. laid (block_pieces names true b)) bs) in
-    let e = adds_all c.loop-name.invariant (at_drop_all (λ bs. row_behind (codes "\n") c.loop-name.behind (map (λ b. laid (block_pieces names true b)) bs)) c.as_slice-name-items.result.now c.loop-name.name-index c.loop-name-test.false) in
+    let one = λ (bs : List (Option Name × NamespaceDefinition g.row.N.Denot g.N.NameText)). row_behind (codes "\n")
+    false (map (λ b. laid (block_pieces names true b)) bs) in
+    let e = adds_all c.loop-name.invariant
+    (at_drop_all (λ bs. row_behind (codes "\n") c.loop-name.behind (map (λ b. laid (block_pieces names true b)) bs))
+    c.as_slice-name-items.result.now c.loop-name.name-index c.loop-name-test.false) in
     e.grown ∙ (ap (λ t. encode_utf8_all t ++ one c.as_slice-name-items.result.now) c.new-text.ensures
     ∙ (ap one c.as_slice-name-items.ensures.entries ∙ sym (joined_row (block_pieces names true) c.args.fragment.now.0)))

@@ -7,4 +7,7 @@ use Rattle.schema_print.proofs.fragments.print_fragment.Given as goal
 
 abbrev pub invariant-loop-name : goal.invariant-loop-name
 invariant-loop-name g l =
-    Leaves l.initial.text l.text (row_behind (codes "\n") l.behind (map (λ b. laid (block_pieces g.N.NameText.components true b)) (drop l.name-index l.name-items))) (row_behind (codes "\n") l.initial.behind (map (λ b. laid (block_pieces g.N.NameText.components true b)) l.name-items))
+    Leaves l.initial.text l.text (row_behind (codes "\n") l.behind
+    (map (λ b. laid (block_pieces g.N.NameText.components true b)) (drop l.name-index l.name-items)))
+    (row_behind (codes "\n") l.initial.behind
+    (map (λ b. laid (block_pieces g.N.NameText.components true b)) l.name-items))

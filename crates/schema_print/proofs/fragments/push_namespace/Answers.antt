@@ -10,12 +10,18 @@ use Rattle.schema_print.proofs.fragments.push_namespace.Goals as goal
 
 pub returns-in-None : goal.returns-in-None
 returns-in-None g c =
-    on_ok_weaker c.push_items.result (λ e. so e (ap (λ o. laid (named_block g.N.NameText.components true o c.args.namespace.now)) (sym c.in-None.is))) c.push_items.ensures
+    on_ok_weaker c.push_items.result
+    (λ e. so e (ap (λ o. laid (named_block g.N.NameText.components true o c.args.namespace.now)) (sym c.in-None.is)))
+    c.push_items.ensures
 
 pub returns-in_ok-push-in-Some-3 : goal.returns-in_ok-push-in-Some-3
 returns-in_ok-push-in-Some-3 g c =
     let names = g.N.NameText.components in
     let n = c.args.namespace.now in
     so
-    (then c.in_ok-push_notes-in-Some.ensures (then c.in_ok-push-in-Some.ensures (then c.in_ok-push_name-in-Some.ensures (then c.in_ok-push-in-Some-2.ensures (then c.in_ok-push_items-in-Some.ensures c.in_ok-push-in-Some-3.ensures)))))
-    (block_laid n.annotations.0 (printed_name (components_of c.in-Some.name.name)) (items_pieces names true 2 n) ∙ ap (λ o. laid (named_block names true o n)) (sym c.in-Some.is))
+    (then c.in_ok-push_notes-in-Some.ensures
+    (then c.in_ok-push-in-Some.ensures
+    (then c.in_ok-push_name-in-Some.ensures
+    (then c.in_ok-push-in-Some-2.ensures (then c.in_ok-push_items-in-Some.ensures c.in_ok-push-in-Some-3.ensures)))))
+    (block_laid n.annotations.0 (printed_name (components_of c.in-Some.name.name)) (items_pieces names true 2 n)
+    ∙ ap (λ o. laid (named_block names true o n)) (sym c.in-Some.is))

@@ -15,10 +15,16 @@ pub loop-id-preserved : goal.loop-id-preserved
 loop-id-preserved g c =
     let names = g.N.NameText.components in
     let it = c.loop-id-item.result in
-    let item = so (then c.in_ok-push_head.ensures (then c.in_ok-push_string.ensures (then c.in_ok-push_action_body.ensures c.in_ok-push.ensures))) (action_laid c.args.base it.1.annotations.0 it.1.external it.0 (action_body_pieces names true c.args.base it.1)) in
+    let item = so (then c.in_ok-push_head.ensures
+    (then c.in_ok-push_string.ensures (then c.in_ok-push_action_body.ensures c.in_ok-push.ensures)))
+    (action_laid c.args.base it.1.annotations.0 it.1.external it.0 (action_body_pieces names true c.args.base it.1)) in
     round (then c.in_ok-push_between.ensures item) c.loop-id.invariant
-    (row_step (λ x. laid (action_pieces names true c.args.base x)) (codes "\n") c.loop-id.behind c.args.actions.now c.loop-id.id-index it c.loop-id-test.true c.loop-id-item.is)
+    (row_step (λ x. laid (action_pieces names true c.args.base x)) (codes "\n") c.loop-id.behind c.args.actions.now
+    c.loop-id.id-index it c.loop-id-test.true c.loop-id-item.is)
 
 pub returns : goal.returns
 returns g c =
-    adds_all c.loop-id.invariant (at_drop_all (λ xs. row_behind (codes "\n") c.loop-id.behind (map (λ x. laid (action_pieces g.N.NameText.components true c.args.base x)) xs)) c.args.actions.now c.loop-id.id-index c.loop-id-test.false)
+    adds_all c.loop-id.invariant (at_drop_all
+    (λ xs. row_behind (codes "\n") c.loop-id.behind
+    (map (λ x. laid (action_pieces g.N.NameText.components true c.args.base x)) xs)) c.args.actions.now
+    c.loop-id.id-index c.loop-id-test.false)

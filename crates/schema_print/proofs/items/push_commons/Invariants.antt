@@ -7,4 +7,7 @@ use Rattle.schema_print.proofs.items.push_commons.Given as goal
 
 abbrev pub invariant-loop-name : goal.invariant-loop-name
 invariant-loop-name g l =
-    Leaves l.initial.text l.text (row_behind (codes "\n") l.behind (map (λ x. laid (common_type_pieces g.N.NameText.components true l.base x)) (drop l.name-index l.commons))) (row_behind (codes "\n") l.initial.behind (map (λ x. laid (common_type_pieces g.N.NameText.components true l.base x)) l.commons))
+    Leaves l.initial.text l.text (row_behind (codes "\n") l.behind
+    (map (λ x. laid (common_type_pieces g.N.NameText.components true l.base x)) (drop l.name-index l.commons)))
+    (row_behind (codes "\n") l.initial.behind
+    (map (λ x. laid (common_type_pieces g.N.NameText.components true l.base x)) l.commons))

@@ -15,10 +15,17 @@ pub loop-name-preserved : goal.loop-name-preserved
 loop-name-preserved g c =
     let names = g.N.NameText.components in
     let it = c.loop-name-item.result in
-    let item = so (then c.in_ok-push_head.ensures (then (so c.in_ok-push.ensures c.as_str.ensures) (then c.in_ok-push_entity_body.ensures c.in_ok-push-2.ensures))) (entity_laid c.args.base it.1.annotations.0 it.1.external it.0.id.text (entity_body_pieces names true c.args.base it.1)) in
+    let item = so (then c.in_ok-push_head.ensures
+    (then (so c.in_ok-push.ensures c.as_str.ensures) (then c.in_ok-push_entity_body.ensures c.in_ok-push-2.ensures)))
+    (entity_laid c.args.base it.1.annotations.0 it.1.external it.0.id.text
+    (entity_body_pieces names true c.args.base it.1)) in
     round (then c.in_ok-push_between.ensures item) c.loop-name.invariant
-    (row_step (λ x. laid (entity_pieces names true c.args.base x)) (codes "\n") c.loop-name.behind c.args.entity_types.now c.loop-name.name-index it c.loop-name-test.true c.loop-name-item.is)
+    (row_step (λ x. laid (entity_pieces names true c.args.base x)) (codes "\n") c.loop-name.behind
+    c.args.entity_types.now c.loop-name.name-index it c.loop-name-test.true c.loop-name-item.is)
 
 pub returns : goal.returns
 returns g c =
-    adds_all c.loop-name.invariant (at_drop_all (λ xs. row_behind (codes "\n") c.loop-name.behind (map (λ x. laid (entity_pieces g.N.NameText.components true c.args.base x)) xs)) c.args.entity_types.now c.loop-name.name-index c.loop-name-test.false)
+    adds_all c.loop-name.invariant
+    (at_drop_all (λ xs. row_behind (codes "\n") c.loop-name.behind
+    (map (λ x. laid (entity_pieces g.N.NameText.components true c.args.base x)) xs)) c.args.entity_types.now
+    c.loop-name.name-index c.loop-name-test.false)

@@ -2,4 +2,5 @@ use Rattle.schema_print_text.specs.Growing.{then}
 use Rattle.schema_print.proofs.items.push_head.Goals as goal
 
 pub returns : goal.returns
-returns c = then c.in_ok-push_notes.ensures (then c.in_ok-push_spaces.ensures (then c.in_ok-push_between.ensures c.in_ok-push.ensures))
+returns c = then c.in_ok-push_notes.ensures
+    (then c.in_ok-push_spaces.ensures (then c.in_ok-push_between.ensures c.in_ok-push.ensures))

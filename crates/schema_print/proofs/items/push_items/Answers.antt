@@ -14,9 +14,16 @@ returns g c =
     let b = not c.is_empty-begun.result in
     let f = b || not c.is_empty.result in
     so
-    (then (so c.in_ok-push_commons.ensures (ap (λ xs. row_behind (codes "\n") false (map (λ x. laid (common_type_pieces names true base x)) xs)) c.as_slice-commons.ensures.entries))
-    (then (so c.in_ok-push_entity_types.ensures (ap (λ xs. row_behind (codes "\n") b (map (λ x. laid (entity_pieces names true base x)) xs)) c.as_slice-entity_types.ensures.entries))
-    (so c.in_ok-push_actions.ensures (ap (λ xs. row_behind (codes "\n") f (map (λ x. laid (action_pieces names true base x)) xs)) c.as_slice.ensures.entries))))
-    (items_row (common_type_pieces names true base) (entity_pieces names true base) (action_pieces names true base) n.common_types n.entity_types n.actions b f
+    (then (so c.in_ok-push_commons.ensures
+    (ap (λ xs. row_behind (codes "\n") false (map (λ x. laid (common_type_pieces names true base x)) xs))
+    c.as_slice-commons.ensures.entries))
+    (then (so c.in_ok-push_entity_types.ensures
+    (ap (λ xs. row_behind (codes "\n") b (map (λ x. laid (entity_pieces names true base x)) xs))
+    c.as_slice-entity_types.ensures.entries))
+    (so c.in_ok-push_actions.ensures
+    (ap (λ xs. row_behind (codes "\n") f (map (λ x. laid (action_pieces names true base x)) xs))
+    c.as_slice.ensures.entries))))
+    (items_row (common_type_pieces names true base) (entity_pieces names true base) (action_pieces names true base)
+    n.common_types n.entity_types n.actions b f
     (ap not (c.is_empty-begun.ensures ∙ ap (λ t. length t == 0) c.as_slice-commons.ensures.entries))
     (ap (λ t. b || not t) (c.is_empty.ensures ∙ ap (λ t. length t == 0) c.as_slice-entity_types.ensures.entries)))

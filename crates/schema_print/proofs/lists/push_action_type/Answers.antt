@@ -8,8 +8,11 @@ use Rattle.schema_print.proofs.lists.push_action_type.Goals as goal
 
 pub returns-in-Some : goal.returns-in-Some
 returns-in-Some g c =
-    on_ok_weaker c.push_name.result (λ e. so e (ap (λ o. laid (path_pieces (parent_type g.N.NameText.components o))) (sym c.in-Some.is))) c.push_name.ensures
+    on_ok_weaker c.push_name.result
+    (λ e. so e (ap (λ o. laid (path_pieces (parent_type g.N.NameText.components o))) (sym c.in-Some.is)))
+    c.push_name.ensures
 
 pub returns-in-None : goal.returns-in-None
 returns-in-None g c =
-    on_ok_weaker c.push.result (λ e. so e (ap (λ o. laid (path_pieces (parent_type g.N.NameText.components o))) (sym c.in-None.is))) c.push.ensures
+    on_ok_weaker c.push.result (λ e. so e
+    (ap (λ o. laid (path_pieces (parent_type g.N.NameText.components o))) (sym c.in-None.is))) c.push.ensures

@@ -10,7 +10,9 @@ use Rattle.schema_print.proofs.lists.push_actions.Goals as goal
 
 pub returns-then-is_empty : goal.returns-then-is_empty
 returns-then-is_empty g c =
-    so (adds_nothing c.args.text.now) (parents_none ref_pieces (printed_parent g.N.NameText.components) c.args.actions.now (sym c.is_empty.ensures ∙ c.if-is_empty.true))
+    so (adds_nothing c.args.text.now)
+    (parents_none ref_pieces (printed_parent g.N.NameText.components) c.args.actions.now
+    (sym c.is_empty.ensures ∙ c.if-is_empty.true))
 
 pub loop-action-init : goal.loop-action-init
 loop-action-init g c = begun c.push.new.text _
@@ -18,11 +20,15 @@ loop-action-init g c = begun c.push.new.text _
 pub loop-action-preserved : goal.loop-action-preserved
 loop-action-preserved g c =
     round (then c.in_ok-push_between.ensures c.in_ok-push_action.ensures) c.loop-action.invariant
-    (row_step (λ a. laid (ref_pieces (printed_parent g.N.NameText.components a))) (codes ", ") c.loop-action.behind c.args.actions.now c.loop-action.action-index c.action-item.result c.loop-action-test.true c.action-item.is)
+    (row_step (λ a. laid (ref_pieces (printed_parent g.N.NameText.components a))) (codes ", ") c.loop-action.behind
+    c.args.actions.now c.loop-action.action-index c.action-item.result c.loop-action-test.true c.action-item.is)
 
 pub returns : goal.returns
 returns g c =
     let one = printed_parent g.N.NameText.components in
-    let row = adds_all c.loop-action.invariant (at_drop_all (λ xs. row_behind (codes ", ") c.loop-action.behind (map (λ a. laid (ref_pieces (one a))) xs)) c.args.actions.now c.loop-action.action-index c.loop-action-test.false) in
+    let row = adds_all c.loop-action.invariant
+    (at_drop_all (λ xs. row_behind (codes ", ") c.loop-action.behind (map (λ a. laid (ref_pieces (one a))) xs))
+    c.args.actions.now c.loop-action.action-index c.loop-action-test.false) in
     so (then c.in_ok-push.ensures (then row c.in_ok-push-2.ensures))
-    (ap (λ t. codes " in " ++ t) (brackets_made ref_pieces one c.args.actions.now) ∙ parents_some ref_pieces one c.args.actions.now (sym c.is_empty.ensures ∙ c.if-is_empty.false))
+    (ap (λ t. codes " in " ++ t) (brackets_made ref_pieces one c.args.actions.now)
+    ∙ parents_some ref_pieces one c.args.actions.now (sym c.is_empty.ensures ∙ c.if-is_empty.false))

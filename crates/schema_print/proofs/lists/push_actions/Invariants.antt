@@ -8,4 +8,7 @@ use Rattle.schema_print.proofs.lists.push_actions.Given as goal
 
 abbrev pub invariant-loop-action : goal.invariant-loop-action
 invariant-loop-action g l =
-    Leaves l.initial.text l.text (row_behind (codes ", ") l.behind (map (λ a. laid (ref_pieces (printed_parent g.N.NameText.components a))) (drop l.action-index l.actions))) (row_behind (codes ", ") l.initial.behind (map (λ a. laid (ref_pieces (printed_parent g.N.NameText.components a))) l.actions))
+    Leaves l.initial.text l.text (row_behind (codes ", ") l.behind
+    (map (λ a. laid (ref_pieces (printed_parent g.N.NameText.components a))) (drop l.action-index l.actions)))
+    (row_behind (codes ", ") l.initial.behind
+    (map (λ a. laid (ref_pieces (printed_parent g.N.NameText.components a))) l.actions))

@@ -13,7 +13,8 @@ use Rattle.schema_print.proofs.lists.push_choices.Goals as goal
 pub loop-choice-init : goal.loop-choice-init
 loop-choice-init c =
     let row = λ (l : List Eid). row_behind (codes ", ") false (map (λ x. laid (string_pieces x.0)) l) in
-    begun_as c.push.new.text _ _ (ap (λ it. row (items_left it)) c.into_iter-choice-iterator.ensures.into_iter_gives ∙ ap row c.iter-choice-items.ensures)
+    begun_as c.push.new.text _ _ (ap (λ it. row (items_left it)) c.into_iter-choice-iterator.ensures.into_iter_gives
+    ∙ ap row c.iter-choice-items.ensures)
 
 pub loop-choice-preserved : goal.loop-choice-preserved
 loop-choice-preserved c =
@@ -21,10 +22,12 @@ loop-choice-preserved c =
     let d = c.in-Some.choice.now in
     let row = λ (l : List Eid). row_behind (codes ", ") b (map (λ x. laid (string_pieces x.0)) l) in
     let later = row_behind (codes ", ") true (map (λ x. laid (string_pieces x.0)) (items_left c.next.new.self)) in
-    round (then c.in_ok-push_between.ensures (so c.in_ok-push_string.ensures (sym (append-nil (quoted d.0))))) c.loop-choice.invariant
+    round (then c.in_ok-push_between.ensures (so c.in_ok-push_string.ensures (sym (append-nil (quoted d.0)))))
+    c.loop-choice.invariant
     (ap row c.in-Some.ensures.steps ∙ sym (append_assoc (between (codes ", ") b) (laid (string_pieces d.0)) later))
 
 pub returns : goal.returns
 returns c =
     let row = λ (l : List Eid). row_behind (codes ", ") c.loop-choice.behind (map (λ x. laid (string_pieces x.0)) l) in
-    so (then c.in_ok-push.ensures (then (adds_all c.loop-choice.invariant (ap row c.in-None.ensures.steps.0)) c.in_ok-push-2.ensures)) (brackets_made string_pieces (λ x. x.0) c.args.choices.now)
+    so (then c.in_ok-push.ensures (then (adds_all c.loop-choice.invariant (ap row c.in-None.ensures.steps.0))
+    c.in_ok-push-2.ensures)) (brackets_made string_pieces (λ x. x.0) c.args.choices.now)

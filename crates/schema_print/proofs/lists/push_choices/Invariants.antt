@@ -8,4 +8,6 @@ use Rattle.schema_print.proofs.lists.push_choices.Given as goal
 
 abbrev pub invariant-loop-choice : goal.invariant-loop-choice
 invariant-loop-choice l =
-    Leaves l.initial.text l.text (row_behind (codes ", ") l.behind (map (λ c. laid (string_pieces c.0)) (items_left l.choice-iterator))) (row_behind (codes ", ") l.initial.behind (map (λ c. laid (string_pieces c.0)) l.choices))
+    Leaves l.initial.text l.text (row_behind (codes ", ") l.behind
+    (map (λ c. laid (string_pieces c.0)) (items_left l.choice-iterator)))
+    (row_behind (codes ", ") l.initial.behind (map (λ c. laid (string_pieces c.0)) l.choices))

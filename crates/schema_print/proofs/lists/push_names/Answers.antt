@@ -14,9 +14,14 @@ loop-name-init g c = begun c.push.new.text _
 pub loop-name-preserved : goal.loop-name-preserved
 loop-name-preserved g c =
     round (then c.in_ok-push_between.ensures c.in_ok-push_name.ensures) c.loop-name.invariant
-    (row_step (λ n. laid (path_pieces (printed_name (g.N.NameText.components n)))) (codes ", ") c.loop-name.behind c.args.names.now c.loop-name.name-index c.name-item.result c.loop-name-test.true c.name-item.is)
+    (row_step (λ n. laid (path_pieces (printed_name (g.N.NameText.components n)))) (codes ", ") c.loop-name.behind
+    c.args.names.now c.loop-name.name-index c.name-item.result c.loop-name-test.true c.name-item.is)
 
 pub returns : goal.returns
 returns g c =
-    let row = adds_all c.loop-name.invariant (at_drop_all (λ ns. row_behind (codes ", ") c.loop-name.behind (map (λ n. laid (path_pieces (printed_name (g.N.NameText.components n)))) ns)) c.args.names.now c.loop-name.name-index c.loop-name-test.false) in
-    so (then c.in_ok-push.ensures (then row c.in_ok-push-2.ensures)) (brackets_made path_pieces (λ n. printed_name (g.N.NameText.components n)) c.args.names.now)
+    let row = adds_all c.loop-name.invariant
+    (at_drop_all (λ ns. row_behind (codes ", ") c.loop-name.behind
+    (map (λ n. laid (path_pieces (printed_name (g.N.NameText.components n)))) ns)) c.args.names.now
+    c.loop-name.name-index c.loop-name-test.false) in
+    so (then c.in_ok-push.ensures (then row c.in_ok-push-2.ensures))
+    (brackets_made path_pieces (λ n. printed_name (g.N.NameText.components n)) c.args.names.now)

@@ -8,4 +8,7 @@ use Rattle.schema_print.proofs.lists.push_names.Given as goal
 
 abbrev pub invariant-loop-name : goal.invariant-loop-name
 invariant-loop-name g l =
-    Leaves l.initial.text l.text (row_behind (codes ", ") l.behind (map (λ n. laid (path_pieces (printed_name (g.N.NameText.components n)))) (drop l.name-index l.names))) (row_behind (codes ", ") l.initial.behind (map (λ n. laid (path_pieces (printed_name (g.N.NameText.components n)))) l.names))
+    Leaves l.initial.text l.text (row_behind (codes ", ") l.behind
+    (map (λ n. laid (path_pieces (printed_name (g.N.NameText.components n)))) (drop l.name-index l.names)))
+    (row_behind (codes ", ") l.initial.behind
+    (map (λ n. laid (path_pieces (printed_name (g.N.NameText.components n)))) l.names))

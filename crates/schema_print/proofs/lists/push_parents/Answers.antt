@@ -7,8 +7,12 @@ use Rattle.schema_print.proofs.lists.push_parents.Goals as goal
 
 pub returns-then-is_empty : goal.returns-then-is_empty
 returns-then-is_empty g c =
-    so (adds_nothing c.args.text.now) (parents_none path_pieces (λ n. printed_name (g.N.NameText.components n)) c.args.names.now (sym c.is_empty.ensures ∙ c.if-is_empty.true))
+    so (adds_nothing c.args.text.now)
+    (parents_none path_pieces (λ n. printed_name (g.N.NameText.components n)) c.args.names.now
+    (sym c.is_empty.ensures ∙ c.if-is_empty.true))
 
 pub returns : goal.returns
 returns g c =
-    so (then c.in_ok-push.ensures c.in_ok-push_names.ensures) (parents_some path_pieces (λ n. printed_name (g.N.NameText.components n)) c.args.names.now (sym c.is_empty.ensures ∙ c.if-is_empty.false))
+    so (then c.in_ok-push.ensures c.in_ok-push_names.ensures)
+    (parents_some path_pieces (λ n. printed_name (g.N.NameText.components n)) c.args.names.now
+    (sym c.is_empty.ensures ∙ c.if-is_empty.false))

@@ -14,4 +14,6 @@ pub returns-in-Some : goal.returns-in-Some
 returns-in-Some g c =
     let old = map components_of c.args.names.now.items in
     let n = c.args.namespace.now in
-    on_ok_weaker c.add_repeated.result (λ e. e ∙ (ap (λ o. old ++ repeated_in o n) c.in-Some.is ∙ ap (λ o. old ++ collisions_in o n) (sym c.in-Some.is))) c.add_repeated.ensures
+    on_ok_weaker c.add_repeated.result
+    (λ e. e ∙ (ap (λ o. old ++ repeated_in o n) c.in-Some.is ∙ ap (λ o. old ++ collisions_in o n) (sym c.in-Some.is)))
+    c.add_repeated.ensures

@@ -15,15 +15,21 @@ loop-id-preserved g c =
     let types = c.args.namespace.now.entity_types in
     let before = map components_of c.loop-id.names.items in
     let u = c.as_unreserved-id.result.now in
-    gathers_round (if_wanted (names_entity_type types c.loop-id-item.result.0.id.id.text) (declared_in name c.loop-id-item.result.0.id.id.text))
+    gathers_round (if_wanted (names_entity_type types c.loop-id-item.result.0.id.id.text)
+    (declared_in name c.loop-id-item.result.0.id.id.text))
     (c.in_ok-add_name.ensures ∙ (ap (λ b. before ++ if_wanted b (declared_in name u.id.text)) c.is_entity_type.ensures
-    ∙ ap (λ (x : UnreservedId). before ++ if_wanted (names_entity_type types x.id.text) (declared_in name x.id.text)) c.as_unreserved-id.ensures))
+    ∙ ap (λ (x : UnreservedId). before ++ if_wanted (names_entity_type types x.id.text) (declared_in name x.id.text))
+    c.as_unreserved-id.ensures))
     c.loop-id.invariant
-    (wanted_step (λ e. names_entity_type types e.0.id.id.text) (λ e. declared_in name e.0.id.id.text) c.as_slice-id-items.result.now c.loop-id.id-index c.loop-id-item.result c.loop-id-test.true c.loop-id-item.is)
+    (wanted_step (λ e. names_entity_type types e.0.id.id.text) (λ e. declared_in name e.0.id.id.text)
+    c.as_slice-id-items.result.now c.loop-id.id-index c.loop-id-item.result c.loop-id-test.true c.loop-id-item.is)
 
 pub returns : goal.returns
 returns g c =
     let name = c.args.name.now in
     let types = c.args.namespace.now.entity_types in
-    gathers_ended c.loop-id.invariant (at_drop_all (λ cs. map (λ e. declared_in name e.0.id.id.text) (named_twice types cs)) c.as_slice-id-items.result.now c.loop-id.id-index c.loop-id-test.false)
-    ∙ ap (λ cs. map components_of c.args.names.now.items ++ map (λ e. declared_in name e.0.id.id.text) (named_twice types cs)) c.as_slice-id-items.ensures.entries
+    gathers_ended c.loop-id.invariant
+    (at_drop_all (λ cs. map (λ e. declared_in name e.0.id.id.text) (named_twice types cs))
+    c.as_slice-id-items.result.now c.loop-id.id-index c.loop-id-test.false)
+    ∙ ap (λ cs. map components_of c.args.names.now.items
+    ++ map (λ e. declared_in name e.0.id.id.text) (named_twice types cs)) c.as_slice-id-items.ensures.entries

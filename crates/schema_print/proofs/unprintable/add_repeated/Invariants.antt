@@ -7,4 +7,8 @@ use Rattle.schema_print.proofs.unprintable.add_repeated.Given as goal
 
 abbrev pub invariant-loop-id : goal.invariant-loop-id
 invariant-loop-id g l =
-    Gathers (map components_of l.initial.names.items) (map components_of l.names.items) (map (λ e. declared_in l.name e.0.id.id.text) (filter (λ e. names_entity_type l.namespace.entity_types e.0.id.id.text) (drop l.id-index l.id-items))) (map (λ e. declared_in l.name e.0.id.id.text) (filter (λ e. names_entity_type l.namespace.entity_types e.0.id.id.text) l.id-items))
+    Gathers (map components_of l.initial.names.items) (map components_of l.names.items)
+    (map (λ e. declared_in l.name e.0.id.id.text)
+    (filter (λ e. names_entity_type l.namespace.entity_types e.0.id.id.text) (drop l.id-index l.id-items)))
+    (map (λ e. declared_in l.name e.0.id.id.text)
+    (filter (λ e. names_entity_type l.namespace.entity_types e.0.id.id.text) l.id-items))

@@ -16,8 +16,10 @@ loop-id-preserved g c =
     gathers_round (if_wanted (is_shapeless it.1) (declared_in name it.0.id.text))
     (c.in_ok-add_name.ensures ∙ ap (λ b. before ++ if_wanted b (declared_in name it.0.id.text)) c.is_shapeless.ensures)
     c.loop-id.invariant
-    (wanted_step (λ e. is_shapeless e.1) (λ e. declared_in name e.0.id.text) c.args.entity_types.now c.loop-id.id-index it c.loop-id-test.true c.loop-id-item.is)
+    (wanted_step (λ e. is_shapeless e.1) (λ e. declared_in name e.0.id.text) c.args.entity_types.now
+    c.loop-id.id-index it c.loop-id-test.true c.loop-id-item.is)
 
 pub returns : goal.returns
 returns g c =
-    gathers_ended c.loop-id.invariant (at_drop_all (shapeless_in c.args.name.now) c.args.entity_types.now c.loop-id.id-index c.loop-id-test.false)
+    gathers_ended c.loop-id.invariant
+    (at_drop_all (shapeless_in c.args.name.now) c.args.entity_types.now c.loop-id.id-index c.loop-id-test.false)

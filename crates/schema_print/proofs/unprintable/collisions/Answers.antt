@@ -12,10 +12,14 @@ loop-name-init g c = gathers_begun _ _ _ refl
 pub loop-name-preserved : goal.loop-name-preserved
 loop-name-preserved g c =
     gathers_round (block_collisions c.loop-name-item.result) c.in_ok-add_collisions.ensures c.loop-name.invariant
-    (given_step block_collisions c.as_slice-name-items.result.now c.loop-name.name-index c.loop-name-item.result c.loop-name-test.true c.loop-name-item.is)
+    (given_step block_collisions c.as_slice-name-items.result.now c.loop-name.name-index c.loop-name-item.result
+    c.loop-name-test.true c.loop-name-item.is)
 
 pub returns : goal.returns
 returns g c =
-    gathers_ended c.loop-name.invariant (at_drop_all (flat_map block_collisions) c.as_slice-name-items.result.now c.loop-name.name-index c.loop-name-test.false)
-    ∙ (ap (λ ns. map components_of ns ++ flat_map block_collisions c.as_slice-name-items.result.now) c.new-names.ensures.items
+    gathers_ended c.loop-name.invariant
+    (at_drop_all (flat_map block_collisions) c.as_slice-name-items.result.now c.loop-name.name-index
+    c.loop-name-test.false)
+    ∙ (ap (λ ns. map components_of ns ++ flat_map block_collisions c.as_slice-name-items.result.now)
+    c.new-names.ensures.items
     ∙ ap (flat_map block_collisions) c.as_slice-name-items.ensures.entries)

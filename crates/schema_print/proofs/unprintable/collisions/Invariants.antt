@@ -7,4 +7,5 @@ use Rattle.schema_print.proofs.unprintable.collisions.Given as goal
 
 abbrev pub invariant-loop-name : goal.invariant-loop-name
 invariant-loop-name g l =
-    Gathers (map components_of l.initial.names.items) (map components_of l.names.items) (flat_map block_collisions (drop l.name-index l.name-items)) (flat_map block_collisions l.name-items)
+    Gathers (map components_of l.initial.names.items) (map components_of l.names.items)
+    (flat_map block_collisions (drop l.name-index l.name-items)) (flat_map block_collisions l.name-items)

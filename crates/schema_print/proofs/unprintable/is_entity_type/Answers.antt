@@ -13,11 +13,13 @@ returns-in-Some g c =
     let types = c.args.namespace.now.entity_types in
     let name = c.args.id.now.id.text in
     ap (λ o. is_some (option_copied o)) (sym c.in-Some.is) ∙ (ap is_some c.get.ensures
-    ∙ (is_some-lookup _ types ∙ (λ j. list_any (λ k. is_eq-slice_cmp (encode_utf8_all name) (encode_utf8_all k.id.text) j) (keys_of types))))
+    ∙ (is_some-lookup _ types ∙ (λ j. list_any
+    (λ k. is_eq-slice_cmp (encode_utf8_all name) (encode_utf8_all k.id.text) j) (keys_of types))))
 
 pub returns-in-None : goal.returns-in-None
 returns-in-None g c =
     let types = c.args.namespace.now.entity_types in
     let name = c.args.id.now.id.text in
     ap (λ o. is_some (option_copied o)) (sym c.in-None.is) ∙ (ap is_some c.get.ensures
-    ∙ (is_some-lookup _ types ∙ (λ j. list_any (λ k. is_eq-slice_cmp (encode_utf8_all name) (encode_utf8_all k.id.text) j) (keys_of types))))
+    ∙ (is_some-lookup _ types ∙ (λ j. list_any
+    (λ k. is_eq-slice_cmp (encode_utf8_all name) (encode_utf8_all k.id.text) j) (keys_of types))))

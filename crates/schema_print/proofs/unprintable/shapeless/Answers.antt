@@ -11,11 +11,18 @@ loop-name-init g c = gathers_begun _ _ _ refl
 
 pub loop-name-preserved : goal.loop-name-preserved
 loop-name-preserved g c =
-    gathers_round (block_shapeless c.loop-name-item.result) (c.in_ok-add_shapeless.ensures ∙ ap (λ es. map components_of c.loop-name.names.items ++ shapeless_in c.loop-name-item.result.0 es) c.as_slice.ensures.entries) c.loop-name.invariant
-    (given_step block_shapeless c.as_slice-name-items.result.now c.loop-name.name-index c.loop-name-item.result c.loop-name-test.true c.loop-name-item.is)
+    gathers_round (block_shapeless c.loop-name-item.result)
+    (c.in_ok-add_shapeless.ensures
+    ∙ ap (λ es. map components_of c.loop-name.names.items ++ shapeless_in c.loop-name-item.result.0 es)
+    c.as_slice.ensures.entries) c.loop-name.invariant
+    (given_step block_shapeless c.as_slice-name-items.result.now c.loop-name.name-index c.loop-name-item.result
+    c.loop-name-test.true c.loop-name-item.is)
 
 pub returns : goal.returns
 returns g c =
-    gathers_ended c.loop-name.invariant (at_drop_all (flat_map block_shapeless) c.as_slice-name-items.result.now c.loop-name.name-index c.loop-name-test.false)
-    ∙ (ap (λ ns. map components_of ns ++ flat_map block_shapeless c.as_slice-name-items.result.now) c.new-names.ensures.items
+    gathers_ended c.loop-name.invariant
+    (at_drop_all (flat_map block_shapeless) c.as_slice-name-items.result.now c.loop-name.name-index
+    c.loop-name-test.false)
+    ∙ (ap (λ ns. map components_of ns ++ flat_map block_shapeless c.as_slice-name-items.result.now)
+    c.new-names.ensures.items
     ∙ ap (flat_map block_shapeless) c.as_slice-name-items.ensures.entries)

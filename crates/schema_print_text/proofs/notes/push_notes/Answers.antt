@@ -12,11 +12,14 @@ loop-key-init c = begun c.args.text.now _
 pub loop-key-preserved : goal.loop-key-preserved
 loop-key-preserved c =
     round
-    (then c.in_ok-push_spaces.ensures (then c.in_ok-push.ensures (then (so c.in_ok-push-2.ensures c.as_str.ensures) (then c.in_ok-push_value.ensures c.in_ok-push-3.ensures))))
+    (then c.in_ok-push_spaces.ensures
+    (then c.in_ok-push.ensures (then (so c.in_ok-push-2.ensures c.as_str.ensures)
+    (then c.in_ok-push_value.ensures c.in_ok-push-3.ensures))))
     c.loop-key.invariant
     (note_step c.args.base _ c.loop-key.key-index c.loop-key-item.result c.loop-key-test.true c.loop-key-item.is)
 
 pub returns : goal.returns
 returns c =
-    so (adds_all c.loop-key.invariant (at_drop_all (λ ns. laid (notes_pieces c.args.base ns)) _ c.loop-key.key-index c.loop-key-test.false))
+    so (adds_all c.loop-key.invariant
+    (at_drop_all (λ ns. laid (notes_pieces c.args.base ns)) _ c.loop-key.key-index c.loop-key-test.false))
     (ap (λ ns. laid (notes_pieces c.args.base ns)) c.as_slice-key-items.ensures.entries)

@@ -6,4 +6,5 @@ use Rattle.schema_print_text.proofs.notes.push_notes.Given as goal
 
 abbrev pub invariant-loop-key : goal.invariant-loop-key
 invariant-loop-key l =
-    Leaves l.initial.text l.text (laid (notes_pieces l.base (drop l.key-index l.key-items))) (laid (notes_pieces l.base l.key-items))
+    Leaves l.initial.text l.text (laid (notes_pieces l.base (drop l.key-index l.key-items)))
+    (laid (notes_pieces l.base l.key-items))

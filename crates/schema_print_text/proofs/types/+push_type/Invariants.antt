@@ -22,4 +22,6 @@ decreases-push_entries g l = 2 * most (size-TypeOfAttribute g.row.N.Denot) (valu
 
 abbrev pub invariant-push_entries-loop-name : goal.invariant-push_entries-loop-name
 invariant-push_entries-loop-name g l =
-    Leaves l.initial.text l.text (laid (lines_pieces true l.base (printed_entries g.N.NameText.components (drop l.name-index l.entries)))) (laid (lines_pieces true l.base (printed_entries g.N.NameText.components l.entries)))
+    Leaves l.initial.text l.text (laid
+    (lines_pieces true l.base (printed_entries g.N.NameText.components (drop l.name-index l.entries))))
+    (laid (lines_pieces true l.base (printed_entries g.N.NameText.components l.entries)))

@@ -11,5 +11,6 @@ returns-in-Record g c =
     let names = g.N.NameText.components in
     let r = c.in-Record.record in
     let es = (out-RecordType g.row.N.Denot r).attributes in
-    bare g.row.N.Denot names c.args.ty.now (Record r) (rec (printed_entries names es)) _ c.in-Record.is (variant_record g.row.N.Denot names r)
+    bare g.row.N.Denot names c.args.ty.now (Record r) (rec (printed_entries names es)) _ c.in-Record.is
+    (variant_record g.row.N.Denot names r)
     (c.is_empty.ensures ∙ (ap (λ xs. length xs == 0) c.as_slice.ensures.entries ∙ entries_bare g.row.N.Denot names es))

@@ -6,4 +6,5 @@ pub returns-clause-spelled : goal.returns-clause-spelled
 returns-clause-spelled c = spells_schema c.laid_text_is_read.ensures.string c.quoted_is_one_string.ensures.value
 
 pub returns-clause-read : goal.returns-clause-read
-returns-clause-read c = λ closing groups h. c.laid_text_is_read.ensures.read (schema_pieces closing groups) (follow_schema c.laid_text_is_read.ensures.string c.quoted_is_one_string.ensures.value closing groups h)
+returns-clause-read c = λ closing groups h. c.laid_text_is_read.ensures.read (schema_pieces closing groups)
+    (follow_schema c.laid_text_is_read.ensures.string c.quoted_is_one_string.ensures.value closing groups h)

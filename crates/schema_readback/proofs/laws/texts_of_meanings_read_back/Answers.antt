@@ -7,5 +7,6 @@ use Rattle.schema_readback.proofs.laws.texts_of_meanings_read_back.Goals as goal
 
 pub returns : goal.returns
 returns c = λ closing m h.
-    subst (λ text. ReadsBack text (flat_map group_items (groups_of_meaning m))) (c.texts_of_meanings_are_laid_out.ensures closing m)
+    subst (λ text. ReadsBack text (flat_map group_items (groups_of_meaning m)))
+    (c.texts_of_meanings_are_laid_out.ensures closing m)
     (c.laid_schemas_read_back.ensures closing (groups_of_meaning m) h)

@@ -7,4 +7,5 @@ use Rattle.schema_resolve.proofs.designator.look_up.Goals as goal
 
 pub returns-in_ok-neither-in-None-clause-err : goal.returns-in_ok-neither-in-None-clause-err
 returns-in_ok-neither-in-None-clause-err c =
-    rw (none_defined (tests_of c.args.defs.now) CommonOrEntity (components_of c.args.name.now) (sym c.kind_of.ensures ∙ c.in-None.is)) c.in_ok-neither-in-None.ensures
+    rw (none_defined (tests_of c.args.defs.now) CommonOrEntity (components_of c.args.name.now)
+    (sym c.kind_of.ensures ∙ c.in-None.is)) c.in_ok-neither-in-None.ensures

@@ -14,11 +14,19 @@ use Rattle.schema_resolve.proofs.gather.gather_undefined.Goals as goal
 pub returns-clause-types : goal.returns-clause-types
 returns-clause-types c =
     let t = tests_of c.args.all_defs.now in
-    let all = gathers_all (fragment_parts c.args.fragment.now) _ c.walk_fragment.new.visitor c.in_ok-walk_fragment.ensures.taken in
-    all.types ∙ ap (λ l. l ++ types_among (flat_map (λ e. by_reference (untargeted_in t (name_of e.0)) e.1) (fragment_parts c.args.fragment.now))) c.new.ensures.items ∙ ap types_among (sym (fragment_by_parts (λ ns. by_reference (untargeted_in t (name_of ns))) c.args.fragment.now))
+    let all = gathers_all (fragment_parts c.args.fragment.now) _ c.walk_fragment.new.visitor
+    c.in_ok-walk_fragment.ensures.taken in
+    all.types ∙ ap (λ l. l ++ types_among
+    (flat_map (λ e. by_reference (untargeted_in t (name_of e.0)) e.1) (fragment_parts c.args.fragment.now)))
+    c.new.ensures.items ∙ ap types_among
+    (sym (fragment_by_parts (λ ns. by_reference (untargeted_in t (name_of ns))) c.args.fragment.now))
 
 pub returns-clause-actions : goal.returns-clause-actions
 returns-clause-actions c =
     let t = tests_of c.args.all_defs.now in
-    let all = gathers_all (fragment_parts c.args.fragment.now) _ c.walk_fragment.new.visitor c.in_ok-walk_fragment.ensures.taken in
-    all.actions ∙ ap (λ l. uids l ++ actions_among (flat_map (λ e. by_reference (untargeted_in t (name_of e.0)) e.1) (fragment_parts c.args.fragment.now))) c.new-2.ensures.items ∙ ap actions_among (sym (fragment_by_parts (λ ns. by_reference (untargeted_in t (name_of ns))) c.args.fragment.now))
+    let all = gathers_all (fragment_parts c.args.fragment.now) _ c.walk_fragment.new.visitor
+    c.in_ok-walk_fragment.ensures.taken in
+    all.actions ∙ ap (λ l. uids l ++ actions_among
+    (flat_map (λ e. by_reference (untargeted_in t (name_of e.0)) e.1) (fragment_parts c.args.fragment.now)))
+    c.new-2.ensures.items ∙ ap actions_among
+    (sym (fragment_by_parts (λ ns. by_reference (untargeted_in t (name_of ns))) c.args.fragment.now))

@@ -6,8 +6,10 @@ use Rattle.schema_resolve.proofs.laws.one_target.Goals as goal
 
 pub returns-clause-found : goal.returns-clause-found
 returns-clause-found c = λ name.
-    let r = c.args.reference.now in
-    (found_first (λ p. is_defined (tests_of c.args.defs.now) r.reference_type (components_of p)) r.possibilities name, first_found (λ p. is_defined (tests_of c.args.defs.now) r.reference_type (components_of p)) r.possibilities name)
+    let r = c.args.reference.now in (
+      found_first (λ p. is_defined (tests_of c.args.defs.now) r.reference_type (components_of p)) r.possibilities name,
+      first_found (λ p. is_defined (tests_of c.args.defs.now) r.reference_type (components_of p)) r.possibilities name,
+    )
 
 pub returns-clause-one : goal.returns-clause-one
 returns-clause-one c = λ a b.

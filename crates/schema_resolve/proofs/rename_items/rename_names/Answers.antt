@@ -9,7 +9,8 @@ returns-in_err-name-clause-err g c =
     let u = (g.R.Renamer.untargeted c.args.renamer.now).types Entity in
     let xs = c.args.names.now in
     refused _ c.in_err-name.field-0.0 (flat_map u xs) c.from_residual.ensures.1
-    (each_first u xs c.loop-name.name-index c.name-item.result c.in_err-name.field-0.0 c.loop-name-test.true c.name-item.is c.loop-name.invariant.defined c.in_err-name.ensures.err)
+    (each_first u xs c.loop-name.name-index c.name-item.result c.in_err-name.field-0.0 c.loop-name-test.true
+    c.name-item.is c.loop-name.invariant.defined c.in_err-name.ensures.err)
 
 pub loop-name-preserved : goal.loop-name-preserved
 loop-name-preserved g c =
@@ -19,6 +20,8 @@ loop-name-preserved g c =
     let i = c.loop-name.name-index in
     let it = c.name-item.result in
     record {
-      out = c.in_ok-push.ensures.items ∙ (λ k. c.loop-name.invariant.out k ++ c.in_ok-name.ensures.name k ∷ []) ∙ sym (map_more f xs i it c.loop-name-test.true c.name-item.is);
-      defined = each_more u xs i it c.loop-name-test.true c.name-item.is c.loop-name.invariant.defined c.in_ok-name.ensures.defined;
+      out = c.in_ok-push.ensures.items ∙ (λ k. c.loop-name.invariant.out k ++ c.in_ok-name.ensures.name k ∷ [])
+          ∙ sym (map_more f xs i it c.loop-name-test.true c.name-item.is);
+      defined = each_more u xs i it c.loop-name-test.true c.name-item.is c.loop-name.invariant.defined
+          c.in_ok-name.ensures.defined;
     }

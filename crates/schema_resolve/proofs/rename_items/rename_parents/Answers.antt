@@ -9,5 +9,7 @@ use Rattle.schema_resolve.proofs.rename_items.rename_parents.Goals as goal
 pub returns-in_err-rename_uids-in-Some-clause-err : goal.returns-in_err-rename_uids-in-Some-clause-err
 returns-in_err-rename_uids-in-Some-clause-err g c =
     let u = of_uid (by_reference (g.R.Renamer.untargeted c.args.renamer.now)) in
-    refused c.from_residual.result c.in_err-rename_uids-in-Some.field-0.0 (option_map_or (flat_map u) c.args.parents.now []) c.from_residual.ensures.1
-    (rw (ap (λ o. option_map_or (flat_map u) o []) c.in-Some.is, ← c.as_slice.ensures) c.in_err-rename_uids-in-Some.ensures.err)
+    refused c.from_residual.result c.in_err-rename_uids-in-Some.field-0.0
+    (option_map_or (flat_map u) c.args.parents.now []) c.from_residual.ensures.1
+    (rw (ap (λ o. option_map_or (flat_map u) o []) c.in-Some.is, ← c.as_slice.ensures)
+    c.in_err-rename_uids-in-Some.ensures.err)

@@ -11,7 +11,8 @@ returns-in_err-uid-clause-err g c =
     let u = of_uid (by_reference (g.R.Renamer.untargeted c.args.renamer.now)) in
     let xs = c.args.uids.now in
     refused _ c.in_err-uid.field-0.0 (flat_map u xs) c.from_residual.ensures.1
-    (each_first u xs c.loop-uid.uid-index c.uid-item.result c.in_err-uid.field-0.0 c.loop-uid-test.true c.uid-item.is c.loop-uid.invariant.defined c.in_err-uid.ensures.err)
+    (each_first u xs c.loop-uid.uid-index c.uid-item.result c.in_err-uid.field-0.0 c.loop-uid-test.true c.uid-item.is
+    c.loop-uid.invariant.defined c.in_err-uid.ensures.err)
 
 pub loop-uid-preserved : goal.loop-uid-preserved
 loop-uid-preserved g c =
@@ -21,6 +22,8 @@ loop-uid-preserved g c =
     let i = c.loop-uid.uid-index in
     let it = c.uid-item.result in
     record {
-      out = c.in_ok-push.ensures.items ∙ (λ k. c.loop-uid.invariant.out k ++ c.in_ok-uid.ensures.out k ∷ []) ∙ sym (map_more f xs i it c.loop-uid-test.true c.uid-item.is);
-      defined = each_more u xs i it c.loop-uid-test.true c.uid-item.is c.loop-uid.invariant.defined c.in_ok-uid.ensures.defined;
+      out = c.in_ok-push.ensures.items ∙ (λ k. c.loop-uid.invariant.out k ++ c.in_ok-uid.ensures.out k ∷ [])
+          ∙ sym (map_more f xs i it c.loop-uid-test.true c.uid-item.is);
+      defined = each_more u xs i it c.loop-uid-test.true c.uid-item.is c.loop-uid.invariant.defined
+          c.in_ok-uid.ensures.defined;
     }

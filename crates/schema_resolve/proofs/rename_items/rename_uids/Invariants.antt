@@ -7,6 +7,7 @@ use Rattle.schema_resolve.proofs.rename_items.rename_uids.Given as goal
 
 abbrev pub invariant-loop-uid : goal.invariant-loop-uid
 invariant-loop-uid g l = record {
-  out : l.out.items ≡ map (renamed_uid (g.R.Renamer.becomes l.renamer) (g.R.Renamer.action_becomes l.renamer)) (take l.uid-index l.uids);
+  out : l.out.items ≡ map (renamed_uid (g.R.Renamer.becomes l.renamer) (g.R.Renamer.action_becomes l.renamer))
+      (take l.uid-index l.uids);
   defined : flat_map (of_uid (by_reference (g.R.Renamer.untargeted l.renamer))) (take l.uid-index l.uids) ≡ [];
 }

@@ -7,6 +7,8 @@ use Rattle.schema_resolve.proofs.rename_namespaces.rename_actions.Given as goal
 
 abbrev pub invariant-loop-id : goal.invariant-loop-id
 invariant-loop-id g l = record {
-  out : l.out.items ≡ map (on_value (renamed_action (g.R.Renamer.becomes l.renamer) (g.R.Renamer.action_becomes l.renamer))) (take l.id-index l.id-items);
+  out : l.out.items ≡ map (on_value
+      (renamed_action (g.R.Renamer.becomes l.renamer) (g.R.Renamer.action_becomes l.renamer)))
+      (take l.id-index l.id-items);
   defined : each_value (of_action (by_reference (g.R.Renamer.untargeted l.renamer))) (take l.id-index l.id-items) ≡ [];
 }

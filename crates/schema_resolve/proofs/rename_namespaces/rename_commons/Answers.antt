@@ -12,29 +12,50 @@ loop-id-preserved g c =
     let i = c.loop-id.id-index in
     let it = c.loop-id-item.result in
     record {
-      out = c.in_ok-push.ensures.items ∙ (λ k. c.loop-id.invariant.out k ++ (c.in_ok-id.ensures k, c.in_ok-common.ensures.out k) ∷ []) ∙ sym (map_more (on_value (renamed_common (g.R.Renamer.becomes c.args.renamer.now))) es i it c.loop-id-test.true c.loop-id-item.is);
-      defined = each_more (λ e. of_common (by_reference (g.R.Renamer.untargeted c.args.renamer.now)) e.1) es i it c.loop-id-test.true c.loop-id-item.is c.loop-id.invariant.defined c.in_ok-common.ensures.defined;
+      out = c.in_ok-push.ensures.items
+          ∙ (λ k. c.loop-id.invariant.out k ++ (c.in_ok-id.ensures k, c.in_ok-common.ensures.out k) ∷ [])
+          ∙ sym (map_more (on_value (renamed_common (g.R.Renamer.becomes c.args.renamer.now))) es i it
+          c.loop-id-test.true c.loop-id-item.is);
+      defined = each_more (λ e. of_common (by_reference (g.R.Renamer.untargeted c.args.renamer.now)) e.1) es i it
+          c.loop-id-test.true c.loop-id-item.is c.loop-id.invariant.defined c.in_ok-common.ensures.defined;
     }
 
 pub returns-in_err-common-clause-err : goal.returns-in_err-common-clause-err
 returns-in_err-common-clause-err g c =
     let es = c.as_slice-id-items.result.now in
     let e = c.in_err-common.field-0.0 in
-    refused c.from_residual-in_err-common.result e (each_value (of_common (by_reference (g.R.Renamer.untargeted c.args.renamer.now))) c.args.commons.now) c.from_residual-in_err-common.ensures.1
-    (rw (← c.as_slice-id-items.ensures.entries) (each_first (λ e. of_common (by_reference (g.R.Renamer.untargeted c.args.renamer.now)) e.1) es c.loop-id.id-index c.loop-id-item.result e c.loop-id-test.true c.loop-id-item.is c.loop-id.invariant.defined c.in_err-common.ensures.err))
+    refused c.from_residual-in_err-common.result e
+    (each_value (of_common (by_reference (g.R.Renamer.untargeted c.args.renamer.now))) c.args.commons.now)
+    c.from_residual-in_err-common.ensures.1
+    (rw (← c.as_slice-id-items.ensures.entries)
+    (each_first (λ e. of_common (by_reference (g.R.Renamer.untargeted c.args.renamer.now)) e.1) es c.loop-id.id-index
+    c.loop-id-item.result e c.loop-id-test.true c.loop-id-item.is c.loop-id.invariant.defined
+    c.in_err-common.ensures.err))
 
 pub from_sorted_vec-requires : goal.from_sorted_vec-requires
 from_sorted_vec-requires g c =
     let es = c.as_slice-id-items.result.now in
-    let all = c.loop-id.invariant.out ∙ map_all (on_value (renamed_common (g.R.Renamer.becomes c.args.renamer.now))) es c.loop-id.id-index c.loop-id-test.false in
-    rw (all, keys_on_values (renamed_common (g.R.Renamer.becomes c.args.renamer.now)) es, c.as_slice-id-items.ensures.entries) c.as_slice-id-items.ensures.sorted
+    let all = c.loop-id.invariant.out
+    ∙ map_all (on_value (renamed_common (g.R.Renamer.becomes c.args.renamer.now))) es c.loop-id.id-index
+    c.loop-id-test.false in
+    rw (
+      all,
+      keys_on_values (renamed_common (g.R.Renamer.becomes c.args.renamer.now)) es,
+      c.as_slice-id-items.ensures.entries,
+    ) c.as_slice-id-items.ensures.sorted
 
 pub returns-clause-out : goal.returns-clause-out
 returns-clause-out g c =
     let es = c.as_slice-id-items.result.now in
-    c.from_sorted_vec.ensures ∙ c.loop-id.invariant.out ∙ map_all (on_value (renamed_common (g.R.Renamer.becomes c.args.renamer.now))) es c.loop-id.id-index c.loop-id-test.false ∙ ap (map (on_value (renamed_common (g.R.Renamer.becomes c.args.renamer.now)))) c.as_slice-id-items.ensures.entries
+    c.from_sorted_vec.ensures ∙ c.loop-id.invariant.out
+    ∙ map_all (on_value (renamed_common (g.R.Renamer.becomes c.args.renamer.now))) es c.loop-id.id-index
+    c.loop-id-test.false ∙ ap (map (on_value (renamed_common (g.R.Renamer.becomes c.args.renamer.now))))
+    c.as_slice-id-items.ensures.entries
 
 pub returns-clause-defined : goal.returns-clause-defined
 returns-clause-defined g c =
     let es = c.as_slice-id-items.result.now in
-    ap (each_value (of_common (by_reference (g.R.Renamer.untargeted c.args.renamer.now)))) (sym c.as_slice-id-items.ensures.entries) ∙ each_all (λ e. of_common (by_reference (g.R.Renamer.untargeted c.args.renamer.now)) e.1) es c.loop-id.id-index c.loop-id-test.false c.loop-id.invariant.defined
+    ap (each_value (of_common (by_reference (g.R.Renamer.untargeted c.args.renamer.now))))
+    (sym c.as_slice-id-items.ensures.entries)
+    ∙ each_all (λ e. of_common (by_reference (g.R.Renamer.untargeted c.args.renamer.now)) e.1) es c.loop-id.id-index
+    c.loop-id-test.false c.loop-id.invariant.defined

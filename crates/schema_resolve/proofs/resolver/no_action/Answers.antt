@@ -5,5 +5,10 @@ use Rattle.schema_resolve.specs.Qualified.{in_namespace}
 use Rattle.schema_resolve.proofs.resolver.no_action.Goals as goal
 
 pub returns : goal.returns
-returns c =
-    (c.with_type.result, c.new.ensures, c.with_type.ensures.id ∙ c.in_ok-id.ensures, c.with_type.ensures.ty ∙ ap Some (c.in_ok-ty-2.ensures ∙ ap (λ n. in_namespace (option_copied c.args.ns) Entity n) c.in_ok-ty.ensures))
+returns c = (
+  c.with_type.result,
+  c.new.ensures,
+  c.with_type.ensures.id ∙ c.in_ok-id.ensures,
+  c.with_type.ensures.ty
+      ∙ ap Some (c.in_ok-ty-2.ensures ∙ ap (λ n. in_namespace (option_copied c.args.ns) Entity n) c.in_ok-ty.ensures),
+)

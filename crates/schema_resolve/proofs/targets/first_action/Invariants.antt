@@ -5,4 +5,5 @@ use Rattle.schema_resolve.specs.Targets.{is_action}
 use Rattle.schema_resolve.proofs.targets.first_action.Given as goal
 
 abbrev pub invariant-loop-ty : goal.invariant-loop-ty
-invariant-loop-ty l = find (is_action (tests_of l.defs) l.id) (items_left l.ty-iterator) ≡ find (is_action (tests_of l.defs) l.id) l.types
+invariant-loop-ty l = find (is_action (tests_of l.defs) l.id) (items_left l.ty-iterator)
+    ≡ find (is_action (tests_of l.defs) l.id) l.types

@@ -6,4 +6,5 @@ use Rattle.schema_resolve.specs.Targets.{is_defined}
 use Rattle.schema_resolve.proofs.targets.first_defined.Given as goal
 
 abbrev pub invariant-loop-name : goal.invariant-loop-name
-invariant-loop-name l = find (λ name. is_defined (tests_of l.defs) l.kind (components_of name)) (items_left l.name-iterator) ≡ find (λ name. is_defined (tests_of l.defs) l.kind (components_of name)) l.names
+invariant-loop-name l = find (λ name. is_defined (tests_of l.defs) l.kind (components_of name))
+    (items_left l.name-iterator) ≡ find (λ name. is_defined (tests_of l.defs) l.kind (components_of name)) l.names

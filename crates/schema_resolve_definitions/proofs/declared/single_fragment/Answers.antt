@@ -13,9 +13,12 @@ loop-ns-preserved c =
     let inv = c.loop-ns.invariant in
     let step = c.in_ok-push_namespace.ensures in
     record {
-      commons = next_given (λ e. commons_in e.0 e.1) xs i it [] _ _ c.loop-ns-test.true c.loop-ns-item.is inv.commons step.commons;
-      entities = next_given (λ e. entities_in e.0 e.1) xs i it [] _ _ c.loop-ns-test.true c.loop-ns-item.is inv.entities step.entities;
-      actions = next_given (λ e. actions_in e.0 e.1) xs i it [] _ _ c.loop-ns-test.true c.loop-ns-item.is inv.actions step.actions;
+      commons = next_given (λ e. commons_in e.0 e.1) xs i it [] _ _ c.loop-ns-test.true c.loop-ns-item.is inv.commons
+          step.commons;
+      entities = next_given (λ e. entities_in e.0 e.1) xs i it [] _ _ c.loop-ns-test.true c.loop-ns-item.is
+          inv.entities step.entities;
+      actions = next_given (λ e. actions_in e.0 e.1) xs i it [] _ _ c.loop-ns-test.true c.loop-ns-item.is inv.actions
+          step.actions;
     }
 
 pub returns : goal.returns
@@ -26,7 +29,13 @@ returns c =
     let made = c.from_names.ensures in
     let whole = c.as_slice-ns-items.ensures.entries in
     λ k. record {
-      is_common = λ n. (made.commons n ∙ ap (λ l. among l n) (all_given (λ e. commons_in e.0 e.1) xs i [] _ c.loop-ns-test.false inv.commons ∙ ap (flat_map (λ e. commons_in e.0 e.1)) whole)) k;
-      is_entity = λ n. (made.entities n ∙ ap (λ l. among l n) (all_given (λ e. entities_in e.0 e.1) xs i [] _ c.loop-ns-test.false inv.entities ∙ ap (flat_map (λ e. entities_in e.0 e.1)) whole)) k;
-      is_action = λ a. (made.actions a ∙ ap (λ l. among_actions l a) (all_given (λ e. actions_in e.0 e.1) xs i [] _ c.loop-ns-test.false inv.actions ∙ ap (flat_map (λ e. actions_in e.0 e.1)) whole)) k;
+      is_common = λ n. (made.commons n
+          ∙ ap (λ l. among l n) (all_given (λ e. commons_in e.0 e.1) xs i [] _ c.loop-ns-test.false inv.commons
+          ∙ ap (flat_map (λ e. commons_in e.0 e.1)) whole)) k;
+      is_entity = λ n. (made.entities n
+          ∙ ap (λ l. among l n) (all_given (λ e. entities_in e.0 e.1) xs i [] _ c.loop-ns-test.false inv.entities
+          ∙ ap (flat_map (λ e. entities_in e.0 e.1)) whole)) k;
+      is_action = λ a. (made.actions a
+          ∙ ap (λ l. among_actions l a) (all_given (λ e. actions_in e.0 e.1) xs i [] _ c.loop-ns-test.false
+          inv.actions ∙ ap (flat_map (λ e. actions_in e.0 e.1)) whole)) k;
     }

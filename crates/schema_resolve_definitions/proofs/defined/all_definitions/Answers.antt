@@ -16,8 +16,11 @@ put_together : (d0 e h d : Definitions) (words : List (List ℕ)) (names : List 
 put_together d0 e h d words names same are ec ee ea hc he ha =
     let same_names : names ≡ names_of_builtins (tests_of d) words = are ∙ ap (λ t. names_of_builtins t words) same in
     λ k. record {
-      is_common = λ n. (ap (λ l. among l n) hc ∙ ec n ∙ (λ j. (same j).is_common n || among (same_names j) n) ∙ sym (list_any-append (same_name n) d.commons (names_of_builtins (tests_of d) words))) k;
-      is_entity = λ n. (he n ∙ (λ j. among (ee j) n || among (map (λ (a : List (List ℕ) × List ℕ). a.0) (ea j)) n) ∙ (λ j. (same j).is_entity n || types_alike d0.actions d.actions (λ a i. (same i).is_action a) n j) ∙ sym (list_any-append (same_name n) d.entities (map (λ (a : List (List ℕ) × List ℕ). a.0) d.actions))) k;
+      is_common = λ n. (ap (λ l. among l n) hc ∙ ec n ∙ (λ j. (same j).is_common n || among (same_names j) n)
+          ∙ sym (list_any-append (same_name n) d.commons (names_of_builtins (tests_of d) words))) k;
+      is_entity = λ n. (he n ∙ (λ j. among (ee j) n || among (map (λ (a : List (List ℕ) × List ℕ). a.0) (ea j)) n)
+          ∙ (λ j. (same j).is_entity n || types_alike d0.actions d.actions (λ a i. (same i).is_action a) n j)
+          ∙ sym (list_any-append (same_name n) d.entities (map (λ (a : List (List ℕ) × List ℕ). a.0) d.actions))) k;
       is_action = λ a. (ap (λ l. among_actions l a) (ha ∙ ea) ∙ (λ j. (same j).is_action a)) k;
     }
 
@@ -25,5 +28,6 @@ pub returns : goal.returns
 returns c =
     let t = c.in_ok-add_action_entity_types.ensures in
     let m = c.in_ok-mark_all_as_common_types.ensures in
-    put_together c.in_ok-defs.defs c.mark_all_as_common_types.new.self c.add_action_entity_types.new.self (declared c.args.fragment.now) (builtins c.args.table.now) _
+    put_together c.in_ok-defs.defs c.mark_all_as_common_types.new.self c.add_action_entity_types.new.self
+    (declared c.args.fragment.now) (builtins c.args.table.now) _
     c.in_ok-defs.ensures c.in_ok-names.ensures m.commons m.entities m.actions t.commons t.entities t.actions

@@ -12,8 +12,10 @@ pub returns : goal.returns
 returns c =
     let t = tests_of c.args.defs.now in
     let primitives = codes "Bool" ∷ codes "Long" ∷ codes "String" ∷ [] in
-    let first = c.in_ok-push_primitives.ensures ∙ ap (λ l. map components_of l ++ names_of_builtins t primitives) c.new-names.ensures.items in
+    let first = c.in_ok-push_primitives.ensures
+    ∙ ap (λ l. map components_of l ++ names_of_builtins t primitives) c.new-names.ensures.items in
     c.in_ok-push_extensions.ensures
     ∙ (λ i. first i ++ flat_map (λ n. names_of_builtin t n.id.text) (c.as_slice.ensures.items i))
-    ∙ ap (λ l. names_of_builtins t primitives ++ l) (given_of (λ n. n.id.text) (names_of_builtin t) c.args.table.now.names)
+    ∙ ap (λ l. names_of_builtins t primitives ++ l)
+    (given_of (λ n. n.id.text) (names_of_builtin t) c.args.table.now.names)
     ∙ sym (all_parts t primitives (table_names c.args.table.now))

@@ -8,4 +8,5 @@ pub invariant_of-result : goal.invariant_of-result
 invariant_of-result c = record { word = ap is_id (c.in_ok-text.ensures ∙ chars-from_test (codes "__cedar") refl) }
 
 pub returns : goal.returns
-returns c = λ k. (c.in_ok-text.ensures ∙ chars-from_test (codes "__cedar") refl) k ∷ texts_of ((c.in_ok-push.ensures.ok ∙ (λ j. c.new-others.ensures j ++ c.in_ok-clone_in.ensures j ∷ [])) k)
+returns c = λ k. (c.in_ok-text.ensures ∙ chars-from_test (codes "__cedar") refl) k ∷ texts_of
+    ((c.in_ok-push.ensures.ok ∙ (λ j. c.new-others.ensures j ++ c.in_ok-clone_in.ensures j ∷ [])) k)

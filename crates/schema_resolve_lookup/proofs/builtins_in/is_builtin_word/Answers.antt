@@ -4,7 +4,8 @@ use Rattle.schema_resolve_lookup.proofs.builtins_in.is_builtin_word.Goals as goa
 
 pub returns-then-is_primitive_word : goal.returns-then-is_primitive_word
 returns-then-is_primitive_word c =
-    or_passed _ _ _ _ c.if-is_primitive_word.true c.is_primitive_word.ensures (is_builtin_word c.args.table.now c.args.word.now)
+    or_passed _ _ _ _ c.if-is_primitive_word.true c.is_primitive_word.ensures
+    (is_builtin_word c.args.table.now c.args.word.now)
 
 pub returns-else-is_primitive_word : goal.returns-else-is_primitive_word
 returns-else-is_primitive_word c =

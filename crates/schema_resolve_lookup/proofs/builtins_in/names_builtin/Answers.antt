@@ -10,19 +10,24 @@ use Rattle.schema_resolve_lookup.proofs.builtins_in.names_builtin.Goals as goal
 pub returns-in-Some : goal.returns-in-Some
 returns-in-Some c =
     let words = builtins c.args.table.now in
-    told_behind (tests_of (declared c.args.fragment.now)) c.args.sought.namespace c.in-Some.before c.args.sought.last.now.text words _ c.in-Some.is
-    (ap (λ w. list_any (bytes_eq w) words) (sym c.as_str.ensures) ∙ (sym c.is_builtin_word.ensures ∙ c.if-is_builtin_word.true))
+    told_behind (tests_of (declared c.args.fragment.now)) c.args.sought.namespace c.in-Some.before
+    c.args.sought.last.now.text words _ c.in-Some.is
+    (ap (λ w. list_any (bytes_eq w) words) (sym c.as_str.ensures)
+    ∙ (sym c.is_builtin_word.ensures ∙ c.if-is_builtin_word.true))
     c.is_under_cedar.ensures
 
 pub returns-in-None : goal.returns-in-None
 returns-in-None c =
     let words = builtins c.args.table.now in
-    told_alone (tests_of (declared c.args.fragment.now)) c.args.sought.namespace c.args.sought.last.now.text words _ c.in-None.is
-    (ap (λ w. list_any (bytes_eq w) words) (sym c.as_str.ensures) ∙ (sym c.is_builtin_word.ensures ∙ c.if-is_builtin_word.true))
+    told_alone (tests_of (declared c.args.fragment.now)) c.args.sought.namespace c.args.sought.last.now.text words
+    _ c.in-None.is
+    (ap (λ w. list_any (bytes_eq w) words) (sym c.as_str.ensures)
+    ∙ (sym c.is_builtin_word.ensures ∙ c.if-is_builtin_word.true))
     c.is_declared.ensures
 
 pub returns-else-is_builtin_word : goal.returns-else-is_builtin_word
 returns-else-is_builtin_word c =
     let words = builtins c.args.table.now in
-    told_other (tests_of (declared c.args.fragment.now)) c.args.sought.namespace c.args.sought.last.now.text words _ c.if-is_builtin_word.false
+    told_other (tests_of (declared c.args.fragment.now)) c.args.sought.namespace c.args.sought.last.now.text words _
+    c.if-is_builtin_word.false
     (c.is_builtin_word.ensures ∙ ap (λ w. list_any (bytes_eq w) words) c.as_str.ensures)

@@ -7,4 +7,5 @@ use Rattle.schema_resolve_lookup.proofs.declared_in.any_entity.Given as goal
 
 abbrev pub invariant-loop-ns : goal.invariant-loop-ns
 invariant-loop-ns l =
-    list_any (λ e. among (entities_in e.0 e.1) (name_sought l.sought)) (drop l.ns-index l.entries) ≡ list_any (λ e. among (entities_in e.0 e.1) (name_sought l.sought)) l.entries
+    list_any (λ e. among (entities_in e.0 e.1) (name_sought l.sought)) (drop l.ns-index l.entries)
+    ≡ list_any (λ e. among (entities_in e.0 e.1) (name_sought l.sought)) l.entries

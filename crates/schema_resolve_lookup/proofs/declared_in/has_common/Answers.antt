@@ -15,4 +15,5 @@ returns-then-is_before c =
 pub returns-else-is_before : goal.returns-else-is_before
 returns-else-is_before c =
     and_stopped _ _ _ _ c.if-is_before.false c.is_before.ensures
-    (common_there c.args.ns.now c.args.definition.now (words_before c.args.sought.namespace) c.args.sought.last.now.text)
+    (common_there c.args.ns.now c.args.definition.now (words_before c.args.sought.namespace)
+    c.args.sought.last.now.text)

@@ -5,4 +5,5 @@ use Rattle.schema_resolve_lookup.proofs.defined_in.is_common.Goals as goal
 
 pub returns : goal.returns
 returns c =
-    c.is_common_sought.ensures ∙ ap (tests_of (defined c.args.fragment.now c.args.table.now)).is_common c.as_written.ensures
+    c.is_common_sought.ensures ∙ ap (tests_of (defined c.args.fragment.now c.args.table.now)).is_common
+    c.as_written.ensures

@@ -5,4 +5,5 @@ use Rattle.schema_syntax_errors.proofs.help.ends_in_brace.Goals as goal
 
 pub returns : goal.returns
 unfolding trim_end
-returns c = brace_test c.ends_with.result c.trim_end.result.now (chars c.args.text.now) c.trim_end.utf8 (sym c.trim_end.ensures.trim) c.ends_with.ensures.cases
+returns c = brace_test c.ends_with.result c.trim_end.result.now (chars c.args.text.now) c.trim_end.utf8
+    (sym c.trim_end.ensures.trim) c.ends_with.ensures.cases

@@ -1,10 +1,12 @@
 use Rattle.std.proofs.Common.{sym, ◌∙◌}
 use Rattle.schema_syntax_grammar.proofs.Faults.{whole_sentence, fault}
 use Rattle.schema_syntax_grammar.proofs.expected.fault_of.Goals as goal
-use Rattle.schema_syntax_grammar.proofs.expected.fault_of.Goals.{else-front-kinds-via-then-front-kinds+else-may_end, else-front-kinds-via-else-front-kinds}
+use Rattle.schema_syntax_grammar.proofs.expected.fault_of.Goals.{else-front-kinds-via-then-front-kinds+else-may_end}
+use Rattle.schema_syntax_grammar.proofs.expected.fault_of.Goals.{else-front-kinds-via-else-front-kinds}
 
 pub returns-then-may_end : goal.returns-then-may_end
-returns-then-may_end c = whole_sentence _ _ _ c.if-front-kinds.true c.in_ok-front.ensures.stack (sym c.may_end.ensures ∙ c.if-may_end.true)
+returns-then-may_end c = whole_sentence _ _ _ c.if-front-kinds.true c.in_ok-front.ensures.stack
+    (sym c.may_end.ensures ∙ c.if-may_end.true)
 
 pub returns : goal.returns
 returns c =

@@ -7,4 +7,5 @@ returns-then-front-kinds c = cut_iff _ _ _ c.if-front-kinds.true c.in_ok-front.e
 
 pub returns : goal.returns
 returns c =
-    rw c.may_end.ensures (end_iff _ _ (whole _ _ _ c.in_ok-front.ensures.within c.if-front-kinds.false c.in_ok-front.ensures.stack))
+    rw c.may_end.ensures (end_iff _ _
+    (whole _ _ _ c.in_ok-front.ensures.within c.if-front-kinds.false c.in_ok-front.ensures.stack))

@@ -14,4 +14,7 @@ unreachable-requires c =
 pub returns-in-Ok : goal.returns-in-Ok
 returns-in-Ok c =
     let m = made c.requires.sentence c.args.tokens.now refl in
-    record { syntax = subst (IsSyntax c.args.tokens.now) (sym (read_found c.args.tokens.now m.0 _ _ c.in-Ok.ensures m.1)) m.1 }
+    record {
+      syntax = subst (IsSyntax c.args.tokens.now)
+          (sym (read_found c.args.tokens.now m.0 _ _ c.in-Ok.ensures m.1)) m.1;
+    }

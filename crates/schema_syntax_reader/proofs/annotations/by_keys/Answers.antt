@@ -11,16 +11,27 @@ pub returns-in-Some-place_in-clause-twice : goal.returns-in-Some-place_in-clause
 returns-in-Some-place_in-clause-twice c =
     let a = c.in-Some.annotation in
     let tree = c.loop-annotation.tree in
-    let at = found_place (lookup (is_at (key_cmp (placed_key a))) tree.entries) c.in-Some-place_in.loc (sym c.in-Some-place_in.is ∙ c.place_in.ensures) in
-    subst (λ k. IsTwice c.args.annotations.items (DuplicateAnnotations k (record { node = tt; loc = c.in-Some-place_in.loc }) (record { node = tt; loc = key_place a })))
+    let at = found_place (lookup (is_at (key_cmp (placed_key a))) tree.entries) c.in-Some-place_in.loc
+    (sym c.in-Some-place_in.is ∙ c.place_in.ensures) in
+    subst (λ k. IsTwice c.args.annotations.items
+    (DuplicateAnnotations k (record { node = tt; loc = c.in-Some-place_in.loc })
+    (record { node = tt; loc = key_place a })))
     (sym c.in_ok-key.ensures)
-    (subst (λ l. IsTwice c.args.annotations.items (DuplicateAnnotations (placed_key a) (record { node = tt; loc = l }) (record { node = tt; loc = key_place a }))) at.2
-    (has_twice c.args.annotations.items (into_iter_items c.loop-annotation.annotation-iterator) (into_iter_items c.next.new.self) a tree.entries at.0 c.loop-annotation.invariant c.in-Some.ensures.steps.0 at.1))
+    (subst (λ l. IsTwice c.args.annotations.items
+    (DuplicateAnnotations (placed_key a) (record { node = tt; loc = l }) (record { node = tt; loc = key_place a })))
+    at.2
+    (has_twice c.args.annotations.items (into_iter_items c.loop-annotation.annotation-iterator)
+    (into_iter_items c.next.new.self) a tree.entries at.0 c.loop-annotation.invariant c.in-Some.ensures.steps.0 at.1))
 
 pub loop-annotation-preserved : goal.loop-annotation-preserved
 loop-annotation-preserved c =
     let a = c.in-Some.annotation in
     let entries = c.loop-annotation.tree.entries in
-    let none = found_none (lookup (is_at (key_cmp (placed_key a))) entries) (sym c.in_default.is ∙ c.place_in.ensures) in
-    let into = c.in_ok-insert.ensures.entries ∙ ap (λ v. insert_entry key_cmp entries (placed_key a) (record { value = v; place = key_place a })) c.without_place.ensures in
-    has_more c.args.annotations.items (into_iter_items c.loop-annotation.annotation-iterator) (into_iter_items c.next.new.self) a entries c.insert.new.self.entries c.loop-annotation.invariant c.in-Some.ensures.steps.0 none into
+    let none = found_none (lookup (is_at (key_cmp (placed_key a))) entries)
+    (sym c.in_default.is ∙ c.place_in.ensures) in
+    let into = c.in_ok-insert.ensures.entries
+    ∙ ap (λ v. insert_entry key_cmp entries (placed_key a) (record { value = v; place = key_place a }))
+    c.without_place.ensures in
+    has_more c.args.annotations.items (into_iter_items c.loop-annotation.annotation-iterator)
+    (into_iter_items c.next.new.self) a entries c.insert.new.self.entries c.loop-annotation.invariant
+    c.in-Some.ensures.steps.0 none into

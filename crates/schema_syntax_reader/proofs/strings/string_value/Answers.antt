@@ -5,6 +5,8 @@ use Rattle.schema_syntax_reader.proofs.strings.string_value.Goals as goal
 
 pub returns-in-Ok-clause-lawful : goal.returns-in-Ok-clause-lawful
 returns-in-Ok-clause-lawful c = λ at bad.
-    let part : slice_range c.args.text.now c.args.token.now.loc.start c.args.token.now.loc.end ≡ 34 ∷ (c.unwrap-body.result.now ++ 34 ∷ []) = rw c.unwrap-body.ensures at c.string_body.ensures.value in
+    let part : slice_range c.args.text.now c.args.token.now.loc.start c.args.token.now.loc.end
+    ≡ 34 ∷ (c.unwrap-body.result.now ++ 34 ∷ []) = rw c.unwrap-body.ensures at c.string_body.ensures.value in
     let same : bad.0 ≡ c.unwrap-body.result.now = one_body bad.0 c.unwrap-body.result.now (sym bad.2 ∙ part) in
-    c.one_value.ensures.value_or_bad c.unwrap-body.result.now c.in-Ok.value bad.1 c.in-Ok.ensures (subst (λ b. BadEscape b bad.1) same bad.3)
+    c.one_value.ensures.value_or_bad c.unwrap-body.result.now c.in-Ok.value bad.1 c.in-Ok.ensures
+    (subst (λ b. BadEscape b bad.1) same bad.3)

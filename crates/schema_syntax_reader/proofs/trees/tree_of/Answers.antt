@@ -2,7 +2,10 @@ use Rattle.schema_syntax_reader.proofs.Built.{tree_found, tree_there}
 use Rattle.schema_syntax_reader.proofs.trees.tree_of.Goals as goal
 
 pub returns-in-Ok : goal.returns-in-Ok
-returns-in-Ok c = record { tree = λ text h. rw c.from_vec.ensures (tree_found text c.requires.fit.2 c.args.leaves.items h _ _ c.in-Ok.ensures) }
+returns-in-Ok c = record {
+  tree = λ text h. rw c.from_vec.ensures
+      (tree_found text c.requires.fit.2 c.args.leaves.items h _ _ c.in-Ok.ensures);
+}
 
 pub unreachable-requires : goal.unreachable-requires
 unreachable-requires c =

@@ -7,12 +7,14 @@ pub of-requires : goal.of-requires
 of-requires c =
     let source = c.args.text.now in
     let t = c.args.token.now in
-    let part : c.unwrap.result.now ≡ slice_range source t.loc.start t.loc.end = rw c.unwrap.ensures at c.token_text.ensures.value in
+    let part : c.unwrap.result.now
+    ≡ slice_range source t.loc.start t.loc.end = rw c.unwrap.ensures at c.token_text.ensures.value in
     ap is_word (part ∙ sym (word_is_bytes source t c.requires)) ∙ word_there source t c.requires
 
 pub returns : goal.returns
 returns c =
     let source = c.args.text.now in
     let t = c.args.token.now in
-    let part : c.unwrap.result.now ≡ slice_range source t.loc.start t.loc.end = rw c.unwrap.ensures at c.token_text.ensures.value in
+    let part : c.unwrap.result.now
+    ≡ slice_range source t.loc.start t.loc.end = rw c.unwrap.ensures at c.token_text.ensures.value in
     c.of.ensures ∙ (part ∙ sym (word_is_bytes source t c.requires))

@@ -8,5 +8,9 @@ loop-after-init c = (c.utf8.text, none, omega arith)
 
 pub loop-after-preserved : goal.loop-after-preserved
 loop-after-preserved c =
-    let past = c.in-Some.ensures.cases in
-    (IsUtf8-past_blank c.loop-after.rest.now c.in-Some.after.now c.loop-after.invariant.0 past, skips_more c.loop-after.invariant.1 past, omega (arith, c.in-Some.ensures.shorter))
+    let past = c.in-Some.ensures.cases in (
+      IsUtf8-past_blank c.loop-after.rest.now c.in-Some.after.now c.loop-after.invariant.0 past,
+      skips_more
+          c.loop-after.invariant.1 past,
+      omega (arith, c.in-Some.ensures.shorter),
+    )

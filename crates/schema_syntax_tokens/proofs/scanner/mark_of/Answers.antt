@@ -17,5 +17,7 @@ returns-in-None c =
 pub returns-in-Some : goal.returns-in-Some
 returns-in-Some c =
     let some : 0 < length c.args.rest.now = grind (arith, nat_tests) in
-    let mark : single_mark (get_or c.args.rest.now 0 0) ≡ Some c.in-Some.kind = sym c.single_mark.ensures ∙ c.in-Some.is in
-    mark_of_byte c.args.rest.now c.in-Some.kind c.requires (iff_false c.starts_colons.ensures c.if-starts_colons.false) some mark
+    let mark : single_mark (get_or c.args.rest.now 0 0) ≡ Some c.in-Some.kind = sym c.single_mark.ensures
+    ∙ c.in-Some.is in
+    mark_of_byte c.args.rest.now c.in-Some.kind c.requires
+    (iff_false c.starts_colons.ensures c.if-starts_colons.false) some mark

@@ -11,21 +11,26 @@ returns-in-None-clause-scans c =
     let text = c.args.text.now in
     let rest = c.loop-tokens.rest.now in
     let here = c.past_blanks-here.result.now in
-    let in_range : length rest ≤ length text = rest_in_range text rest here c.loop-tokens.tokens.items c.loop-tokens.invariant.1 in
+    let in_range : length rest ≤ length text = rest_in_range text rest here c.loop-tokens.tokens.items
+    c.loop-tokens.invariant.1 in
     let shorter : length here ≤ length rest = c.past_blanks-here.ensures.shorter in
-    HasScanned-all text rest here c.loop-tokens.tokens.items (length text - length here) c.loop-tokens.invariant.1 c.past_blanks-here.ensures.skips c.past_blanks-here.ensures.stop c.in-None.ensures (omega arith)
+    HasScanned-all text rest here c.loop-tokens.tokens.items (length text - length here) c.loop-tokens.invariant.1
+    c.past_blanks-here.ensures.skips c.past_blanks-here.ensures.stop c.in-None.ensures (omega arith)
 
 pub returns-in-None-clause-boundary : goal.returns-in-None-clause-boundary
 returns-in-None-clause-boundary c =
     let text = c.args.text.now in
     let rest = c.loop-tokens.rest.now in
     let here = c.past_blanks-here.result.now in
-    let in_range : length rest ≤ length text = rest_in_range text rest here c.loop-tokens.tokens.items c.loop-tokens.invariant.1 in
+    let in_range : length rest ≤ length text = rest_in_range text rest here c.loop-tokens.tokens.items
+    c.loop-tokens.invariant.1 in
     let shorter : length here ≤ length rest = c.past_blanks-here.ensures.shorter in
-    boundary_here text rest here c.loop-tokens.tokens.items (length text - length here) c.loop-tokens.invariant.1 c.past_blanks-here.utf8 c.past_blanks-here.ensures.skips (omega arith)
+    boundary_here text rest here c.loop-tokens.tokens.items (length text - length here) c.loop-tokens.invariant.1
+    c.past_blanks-here.utf8 c.past_blanks-here.ensures.skips (omega arith)
 
 pub split_at-requires : goal.split_at-requires
-split_at-requires c = boundary_after_token c.past_blanks-here.result.now c.in-Some.kind c.in-Some.len c.past_blanks-here.utf8 c.in-Some.ensures
+split_at-requires c = boundary_after_token c.past_blanks-here.result.now c.in-Some.kind c.in-Some.len
+    c.past_blanks-here.utf8 c.in-Some.ensures
 
 pub loop-tokens-preserved : goal.loop-tokens-preserved
 loop-tokens-preserved c =
@@ -33,13 +38,18 @@ loop-tokens-preserved c =
     let rest = c.loop-tokens.rest.now in
     let here = c.past_blanks-here.result.now in
     let len = c.in-Some.len in
-    let in_range : length rest ≤ length text = rest_in_range text rest here c.loop-tokens.tokens.items c.loop-tokens.invariant.1 in
+    let in_range : length rest ≤ length text = rest_in_range text rest here c.loop-tokens.tokens.items
+    c.loop-tokens.invariant.1 in
     let shorter : length here ≤ length rest = c.past_blanks-here.ensures.shorter in
     let token : Token = record { kind = c.in-Some.kind; loc = c.new.result } in
-    let follows : IsUtf8 (drop len here) = IsUtf8-drop here len c.past_blanks-here.utf8 (boundary_after_token here c.in-Some.kind len c.past_blanks-here.utf8 c.in-Some.ensures) in
+    let follows : IsUtf8 (drop len here) = IsUtf8-drop here len c.past_blanks-here.utf8
+    (boundary_after_token here c.in-Some.kind len c.past_blanks-here.utf8 c.in-Some.ensures) in
     let begins : c.new.result.start ≡ length text - length here = ap (λ s. s.start) c.new.ensures in
-    let ends : c.new.result.end ≡ c.new.result.start + len = ap (λ s. s.end) c.new.ensures ∙ ap (λ n. n + len) (sym begins) in (
+    let ends : c.new.result.end ≡ c.new.result.start + len = ap (λ s. s.end) c.new.ensures
+    ∙ ap (λ n. n + len) (sym begins) in (
       subst (λ t. IsUtf8 t) (sym c.split_at.ensures.back) follows,
       subst (λ ts. HasScanned text c.split_at.result.1.now ts) (sym c.in_ok-push-in-Some.ensures.items)
-          (HasScanned-more text rest here c.split_at.result.1.now c.loop-tokens.tokens.items token len c.loop-tokens.invariant.1 c.past_blanks-here.utf8 c.past_blanks-here.ensures.skips c.in-Some.ensures c.split_at.ensures.back (omega arith) ends),
+          (HasScanned-more text rest here c.split_at.result.1.now c.loop-tokens.tokens.items token len
+          c.loop-tokens.invariant.1 c.past_blanks-here.utf8 c.past_blanks-here.ensures.skips c.in-Some.ensures
+          c.split_at.ensures.back (omega arith) ends),
     )

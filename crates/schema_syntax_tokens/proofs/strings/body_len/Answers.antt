@@ -1,5 +1,6 @@
 use Rattle.std.proofs.Common.{arith}
-use Rattle.schema_syntax_tokens.proofs.Bodies.{HasPieces-none, HasPieces-plain, HasPieces-escaped, HasPieces-quote, HasPieces-lone, HasPieces-line_end, HasPieces-all}
+use Rattle.schema_syntax_tokens.proofs.Bodies.{HasPieces-none, HasPieces-plain, HasPieces-escaped, HasPieces-quote}
+use Rattle.schema_syntax_tokens.proofs.Bodies.{HasPieces-lone, HasPieces-line_end, HasPieces-all}
 use Rattle.schema_syntax_tokens.proofs.strings.body_len.Goals as goal
 
 pub loop-at-init : goal.loop-at-init

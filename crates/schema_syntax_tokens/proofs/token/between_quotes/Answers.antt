@@ -8,6 +8,9 @@ split_at-requires-2 c =
     let same = c.as_bytes-bytes.ensures.value in
     let len : 2 ≤ length part = subst (λ t. 2 ≤ length t) same c.if-len-lt2.false in
     let first : get_or part 0 0 ≡ 34 = subst (λ t. get_or t 0 0 ≡ 34) same c.if-bytes-ne34.false in
-    let last : get_or part (length part - 1) 0 ≡ 34 = subst (λ t. get_or t (length t - 1) 0 ≡ 34) same c.if-bytes-len-ne34.false in
-    let front : c.split_at.result.0.now ≡ take (length part - 1) part = c.split_at.ensures.front ∙ ap (λ t. take (length t - 1) part) same in
-    boundary_opened part c.split_at.result.0.now (length part - 1) c.utf8.part front (omega arith) (omega arith) first last
+    let last : get_or part (length part - 1) 0
+    ≡ 34 = subst (λ t. get_or t (length t - 1) 0 ≡ 34) same c.if-bytes-len-ne34.false in
+    let front : c.split_at.result.0.now ≡ take (length part - 1) part = c.split_at.ensures.front
+    ∙ ap (λ t. take (length t - 1) part) same in
+    boundary_opened part c.split_at.result.0.now (length part - 1) c.utf8.part front (omega arith)
+    (omega arith) first last

@@ -13,15 +13,18 @@ loop-key-init g c =
     let all = c.into_iter-key-iterator.ensures.into_iter_gives.0 in
     record {
       made = (λ i. with_entries g.K.Ord.cmp (none i) (all i));
-      last = λ q. (λ i. option_or (last_at (is_at (g.K.Ord.cmp q)) (all i)) (lookup (is_at (g.K.Ord.cmp q)) (none i))) ∙ or_none _;
+      last = λ q. (λ i. option_or (last_at (is_at (g.K.Ord.cmp q)) (all i)) (lookup (is_at (g.K.Ord.cmp q)) (none i)))
+          ∙ or_none _;
     }
 
 pub loop-key-preserved : goal.loop-key-preserved
 loop-key-preserved g c =
     let step = c.in-Some.ensures.steps.0 in
     record {
-      made = ap (λ m. with_entries g.K.Ord.cmp m c.next.new.self.rest.items) c.in_ok-insert.ensures.entries ∙ ap (with_entries g.K.Ord.cmp c.loop-key.tree.entries) (sym step) ∙ c.loop-key.invariant.made;
-      last = λ q. last_more g.K.Ord.cmp g.met.K.Ord.total q c.in-Some.key c.in-Some.value c.next.new.self.rest.items _ _ (c.in_ok-insert.ensures.updates.0 q)
+      made = ap (λ m. with_entries g.K.Ord.cmp m c.next.new.self.rest.items) c.in_ok-insert.ensures.entries
+          ∙ ap (with_entries g.K.Ord.cmp c.loop-key.tree.entries) (sym step) ∙ c.loop-key.invariant.made;
+      last = λ q. last_more g.K.Ord.cmp g.met.K.Ord.total q c.in-Some.key c.in-Some.value c.next.new.self.rest.items _
+          _ (c.in_ok-insert.ensures.updates.0 q)
           ∙ ap (λ rest. option_or (last_at (is_at (g.K.Ord.cmp q)) rest) (get g.K.Ord.cmp c.loop-key.tree q)) (sym step)
           ∙ c.loop-key.invariant.last q;
     }

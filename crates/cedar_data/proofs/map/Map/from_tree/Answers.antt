@@ -5,5 +5,6 @@ use Rattle.cedar_data.proofs.map.Map.from_tree.Goals as goal
 
 pub invariant_of-result : goal.invariant_of-result
 invariant_of-result g c =
-    let all : c.loop-key.entries.items ≡ c.args.tree.entries = sym (append-nil _) ∙ ap (λ rest. c.loop-key.entries.items ++ rest) (sym c.in-None.ensures.steps.0) ∙ c.loop-key.invariant in
+    let all : c.loop-key.entries.items ≡ c.args.tree.entries = sym (append-nil _)
+    ∙ ap (λ rest. c.loop-key.entries.items ++ rest) (sym c.in-None.ensures.steps.0) ∙ c.loop-key.invariant in
     subst (λ es. IsStrictlySortedBy g.K.Ord.cmp (keys_of es)) (sym all) c.len.ensures.ordered

@@ -9,10 +9,15 @@ pub returns-in-Ok : goal.returns-in-Ok
 returns-in-Ok g c =
     let hit = c.in-Ok.ensures.found in
     let q = c.args.key.now in
-    sym (lookup_hit g.met.K.Ord.total q c.as_slice-entries.result.now c.in-Ok.at c.index-entries-at.result (subst (λ es. IsStrictlySortedBy g.K.Ord.cmp (keys_of es)) (sym c.as_slice-entries.ensures.entries) c.as_slice-entries.ensures.sorted) hit.in_range (hit.equal c.index-entries-at.result))
+    sym (lookup_hit g.met.K.Ord.total q c.as_slice-entries.result.now c.in-Ok.at c.index-entries-at.result
+    (subst (λ es. IsStrictlySortedBy g.K.Ord.cmp (keys_of es)) (sym c.as_slice-entries.ensures.entries)
+    c.as_slice-entries.ensures.sorted) hit.in_range (hit.equal c.index-entries-at.result))
     ∙ ap (lookup (is_at (g.K.Ord.cmp q))) c.as_slice-entries.ensures.entries
 
 pub returns-in-Err : goal.returns-in-Err
 returns-in-Err g c =
     let q = c.args.key.now in
-    sym (lookup_miss g.met.K.Ord.total q c.as_slice-entries.result.now c.in-Err.field-0 (subst (λ es. IsStrictlySortedBy g.K.Ord.cmp (keys_of es)) (sym c.as_slice-entries.ensures.entries) c.as_slice-entries.ensures.sorted) c.in-Err.ensures.absent) ∙ ap (lookup (is_at (g.K.Ord.cmp q))) c.as_slice-entries.ensures.entries
+    sym (lookup_miss g.met.K.Ord.total q c.as_slice-entries.result.now c.in-Err.field-0
+    (subst (λ es. IsStrictlySortedBy g.K.Ord.cmp (keys_of es)) (sym c.as_slice-entries.ensures.entries)
+    c.as_slice-entries.ensures.sorted) c.in-Err.ensures.absent)
+    ∙ ap (lookup (is_at (g.K.Ord.cmp q))) c.as_slice-entries.ensures.entries

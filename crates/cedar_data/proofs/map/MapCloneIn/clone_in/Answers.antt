@@ -6,5 +6,6 @@ use Rattle.cedar_data.proofs.map.MapCloneIn.clone_in.Goals as goal
 
 pub from_sorted_vec-requires : goal.from_sorted_vec-requires
 from_sorted_vec-requires g c =
-    let all : c.loop-entry.entries.items ≡ c.args.self.now = c.loop-entry.invariant ∙ take_all c.loop-entry.entry-index _ c.loop-entry-test.false ∙ c.as_slice-entry-items.ensures.entries in
+    let all : c.loop-entry.entries.items ≡ c.args.self.now = c.loop-entry.invariant
+    ∙ take_all c.loop-entry.entry-index _ c.loop-entry-test.false ∙ c.as_slice-entry-items.ensures.entries in
     subst (λ es. IsStrictlySortedBy g.K.Ord.cmp (keys_of es)) (sym all) c.as_slice-entry-items.ensures.sorted

@@ -5,5 +5,6 @@ use Rattle.cedar_data.proofs.set.SetCloneIn.clone_in.Goals as goal
 
 pub from_sorted_vec-requires : goal.from_sorted_vec-requires
 from_sorted_vec-requires g c =
-    let all : c.loop-item.items.items ≡ c.args.self.now = c.loop-item.invariant ∙ take_all c.loop-item.item-index _ c.loop-item-test.false ∙ c.as_slice-item-items.ensures.items in
+    let all : c.loop-item.items.items ≡ c.args.self.now = c.loop-item.invariant
+    ∙ take_all c.loop-item.item-index _ c.loop-item-test.false ∙ c.as_slice-item-items.ensures.items in
     subst (λ es. IsStrictlySortedBy g.T.Ord.cmp es) (sym all) c.as_slice-item-items.ensures.sorted

@@ -8,5 +8,7 @@ use Rattle.cedar_data.proofs.text.Text.push_str.Goals as goal
 
 pub returns-clause-ok : goal.returns-clause-ok
 returns-clause-ok c =
-    let P : List ℕ → Type 0 = λ old. OnOk c.push_str.result (chars (string_bytes c.push_str.new.self) ≡ old ++ chars c.args.more.now) in
-    subst P c.self.view_is (chars_pushed c.push_str.result _ _ _ (IsUtf8-string_bytes c.self.inside.text) c.push_str.ensures.bytes)
+    let P : List ℕ → Type 0 = λ old. OnOk c.push_str.result
+    (chars (string_bytes c.push_str.new.self) ≡ old ++ chars c.args.more.now) in
+    subst P c.self.view_is (chars_pushed c.push_str.result _ _ _ (IsUtf8-string_bytes c.self.inside.text)
+    c.push_str.ensures.bytes)

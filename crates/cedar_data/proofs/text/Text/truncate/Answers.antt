@@ -8,10 +8,14 @@ use Rattle.cedar_data.proofs.text.Text.truncate.Goals as goal
 
 pub truncate-requires : goal.truncate-requires
 truncate-requires c =
-    let is : IsTextFront (chars (string_bytes c.self.inside.text)) c.args.len c.requires.0 = subst (λ t. IsTextFront t c.args.len c.requires.0) (sym c.self.view_is) c.requires.1 in
-    λ within. cut_place (string_bytes c.self.inside.text) (IsUtf8-string_bytes c.self.inside.text) c.args.len c.requires.0 is
+    let is : IsTextFront (chars (string_bytes c.self.inside.text)) c.args.len c.requires.0 = subst
+    (λ t. IsTextFront t c.args.len c.requires.0) (sym c.self.view_is) c.requires.1 in
+    λ within. cut_place (string_bytes c.self.inside.text) (IsUtf8-string_bytes c.self.inside.text) c.args.len
+    c.requires.0 is
 
 pub returns : goal.returns
 returns c = λ front given.
-    let is : IsTextFront (chars (string_bytes c.self.inside.text)) c.args.len front = subst (λ t. IsTextFront t c.args.len front) (sym c.self.view_is) given in
-    ap chars c.truncate.ensures.bytes ∙ cut_front (string_bytes c.self.inside.text) (IsUtf8-string_bytes c.self.inside.text) c.args.len front is
+    let is : IsTextFront (chars (string_bytes c.self.inside.text)) c.args.len front = subst
+    (λ t. IsTextFront t c.args.len front) (sym c.self.view_is) given in
+    ap chars c.truncate.ensures.bytes
+    ∙ cut_front (string_bytes c.self.inside.text) (IsUtf8-string_bytes c.self.inside.text) c.args.len front is

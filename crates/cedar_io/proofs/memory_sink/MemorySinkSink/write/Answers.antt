@@ -13,4 +13,5 @@ returns-clause-left c = λ some fits.
     let room : before.room ≡ vec_len s.bytes - s.used = ap (λ v. v.room) (sym c.self.view_is) in
     let made : after.made ≡ counted s.calls.made = ap (λ a. a.made) c.next_is_listed-listed.ensures.counts in
     let same = ap (λ a. a.failing.items) c.next_is_listed-listed.ensures.counts ∙ ap (λ v. v.failing) c.self.view_is in
-    sure_falls_at before (vec_len s.bytes - (s.used + n)) after.made n after.failing.items (omega arith) same (omega arith)
+    sure_falls_at before (vec_len s.bytes - (s.used + n)) after.made n after.failing.items (omega arith) same
+    (omega arith)

@@ -8,4 +8,6 @@ use Rattle.cedar_names.proofs.all_defs.AllDefs.common_counted.Goals as goal
 pub returns-clause-answer : goal.returns-clause-answer
 returns-clause-answer g c =
     let name = c.args.name.now in
-    c.is_there.ensures.there ∙ name_sought (ids_of name) c.as_slice.result.now ∙ ap (λ l. among (map components_of l) (components_of name)) c.as_slice.ensures.value ∙ ap (λ d. among d.commons (components_of name)) c.self.view_is
+    c.is_there.ensures.there ∙ name_sought (ids_of name) c.as_slice.result.now
+    ∙ ap (λ l. among (map components_of l) (components_of name)) c.as_slice.ensures.value
+    ∙ ap (λ d. among d.commons (components_of name)) c.self.view_is

@@ -9,4 +9,6 @@ pub returns : goal.returns
 returns c =
     let ty = c.args.ty.now in
     let id = c.args.id.now in
-    c.is_there.ensures.there ∙ action_sought (ids_of ty, id) c.as_slice.result.now ∙ ap (λ l. among_actions (map action_of l) (components_of ty, id)) c.as_slice.ensures.value ∙ ap (λ d. among_actions d.actions (components_of ty, id)) c.self.view_is
+    c.is_there.ensures.there ∙ action_sought (ids_of ty, id) c.as_slice.result.now
+    ∙ ap (λ l. among_actions (map action_of l) (components_of ty, id)) c.as_slice.ensures.value
+    ∙ ap (λ d. among_actions d.actions (components_of ty, id)) c.self.view_is

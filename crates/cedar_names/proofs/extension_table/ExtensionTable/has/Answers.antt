@@ -10,7 +10,12 @@ loop-low-preserved-in-Less c =
     record {
       ordered = omega arith;
       in_range = omega arith;
-      below = below_more _ by_bytes nat_list_cmp_total c.args.self.now.names c.as_slice-names.ensures.sorted c.args.id.now l.low (c.loop-low.low + (c.loop-low.high - c.loop-low.low) / 2) c.index-names-middle.result l.invariant.below (omega arith) (c.index-names-middle.is ∙ ap (λ ns. get_or ns (c.loop-low.low + (c.loop-low.high - c.loop-low.low) / 2) c.index-names-middle.result) c.as_slice-names.ensures.items) (ap (λ t. slice_cmp nat_cmp t c.args.id.now) (sym c.as_str.ensures) ∙ sym c.cmp.ensures ∙ c.in-Less.is);
+      below = below_more _ by_bytes nat_list_cmp_total c.args.self.now.names c.as_slice-names.ensures.sorted
+          c.args.id.now l.low (c.loop-low.low + (c.loop-low.high - c.loop-low.low) / 2) c.index-names-middle.result
+          l.invariant.below (omega arith)
+          (c.index-names-middle.is ∙ ap (λ ns. get_or ns (c.loop-low.low + (c.loop-low.high - c.loop-low.low) / 2)
+          c.index-names-middle.result) c.as_slice-names.ensures.items)
+          (ap (λ t. slice_cmp nat_cmp t c.args.id.now) (sym c.as_str.ensures) ∙ sym c.cmp.ensures ∙ c.in-Less.is);
       above = l.invariant.above;
     }
 
@@ -21,11 +26,21 @@ loop-low-preserved c =
       ordered = omega arith;
       in_range = omega arith;
       below = l.invariant.below;
-      above = above_more _ by_bytes nat_list_cmp_total c.args.self.now.names c.as_slice-names.ensures.sorted c.args.id.now (c.loop-low.low + (c.loop-low.high - c.loop-low.low) / 2) c.index-names-middle.result (omega arith) (c.index-names-middle.is ∙ ap (λ ns. get_or ns (c.loop-low.low + (c.loop-low.high - c.loop-low.low) / 2) c.index-names-middle.result) c.as_slice-names.ensures.items) (ap (λ t. slice_cmp nat_cmp t c.args.id.now) (sym c.as_str.ensures) ∙ sym c.cmp.ensures ∙ c.in-Greater.is);
+      above = above_more _ by_bytes nat_list_cmp_total c.args.self.now.names c.as_slice-names.ensures.sorted
+          c.args.id.now (c.loop-low.low + (c.loop-low.high - c.loop-low.low) / 2) c.index-names-middle.result
+          (omega arith) (c.index-names-middle.is
+          ∙ ap (λ ns. get_or ns (c.loop-low.low + (c.loop-low.high - c.loop-low.low) / 2) c.index-names-middle.result)
+          c.as_slice-names.ensures.items)
+          (ap (λ t. slice_cmp nat_cmp t c.args.id.now) (sym c.as_str.ensures) ∙ sym c.cmp.ensures ∙ c.in-Greater.is);
     }
 
 pub returns-in-Equal : goal.returns-in-Equal
-returns-in-Equal c = sym (hit c.args.self.now.names c.args.id.now (c.loop-low.low + (c.loop-low.high - c.loop-low.low) / 2) c.index-names-middle.result (omega arith) (c.index-names-middle.is ∙ ap (λ ns. get_or ns (c.loop-low.low + (c.loop-low.high - c.loop-low.low) / 2) c.index-names-middle.result) c.as_slice-names.ensures.items) (ap (λ t. slice_cmp nat_cmp t c.args.id.now) (sym c.as_str.ensures) ∙ sym c.cmp.ensures ∙ c.in-Equal.is))
+returns-in-Equal c = sym (hit c.args.self.now.names c.args.id.now
+    (c.loop-low.low + (c.loop-low.high - c.loop-low.low) / 2) c.index-names-middle.result (omega arith)
+    (c.index-names-middle.is ∙ ap (λ ns. get_or ns (c.loop-low.low + (c.loop-low.high - c.loop-low.low) / 2)
+    c.index-names-middle.result) c.as_slice-names.ensures.items)
+    (ap (λ t. slice_cmp nat_cmp t c.args.id.now) (sym c.as_str.ensures) ∙ sym c.cmp.ensures ∙ c.in-Equal.is))
 
 pub returns : goal.returns
-returns c = sym (miss c.args.self.now.names c.args.id.now c.loop-low.low c.loop-low.invariant.below (λ k d ge lt. c.loop-low.invariant.above k d (omega arith) lt))
+returns c = sym (miss c.args.self.now.names c.args.id.now c.loop-low.low c.loop-low.invariant.below
+    (λ k d ge lt. c.loop-low.invariant.above k d (omega arith) lt))

@@ -9,6 +9,7 @@ abbrev pub invariant-loop-at : goal.invariant-loop-at
 invariant-loop-at l = record {
   lawful : (k : ℕ) → k < l.at → fault_at (map (λ name. string_bytes name) l.names) k ≡ None;
   same : (text : List ℕ)
-      → list_any (λ n. bytes_eq text n.id.text) l.seen.keys ≡ repeats (take l.at (map (λ name. string_bytes name) l.names)) text;
+      → list_any (λ n. bytes_eq text n.id.text) l.seen.keys
+      ≡ repeats (take l.at (map (λ name. string_bytes name) l.names)) text;
   extensions : list_any (λ n. is_builtin n.id.text) l.seen.keys ≡ false;
 }

@@ -8,26 +8,39 @@ use Rattle.cedar_schema_core.proofs.command.Command.of_words.Goals as goal
 
 pub returns-then-is_empty : goal.returns-then-is_empty
 returns-then-is_empty c =
-    let words = alone c.args.words.now c.in-Some.names.now c.in-Some.first.now c.as_str.result.now c.is_empty.result c.in-Some.ensures.cases c.as_str.ensures.value c.is_empty.ensures c.if-is_empty.true in
-    recover c.in_ok-all_available-in-recover.field-0 (words ∙ ap (λ w. w ∷ []) c.in-recover.is) c.in_ok-all_available-in-recover.ensures
+    let words = alone c.args.words.now c.in-Some.names.now c.in-Some.first.now c.as_str.result.now c.is_empty.result
+    c.in-Some.ensures.cases c.as_str.ensures.value c.is_empty.ensures c.if-is_empty.true in
+    recover c.in_ok-all_available-in-recover.field-0 (words ∙ ap (λ w. w ∷ []) c.in-recover.is)
+    c.in_ok-all_available-in-recover.ensures
 
 pub returns-then-is_empty-2 : goal.returns-then-is_empty-2
 returns-then-is_empty-2 c =
-    let words = alone c.args.words.now c.in-Some.names.now c.in-Some.first.now c.as_str.result.now c.is_empty-in-check.result c.in-Some.ensures.cases c.as_str.ensures.value c.is_empty-in-check.ensures c.if-is_empty-2.true in
-    check c.in_ok-all_available-in-check.field-0 (words ∙ ap (λ w. w ∷ []) c.in-check.is) c.in_ok-all_available-in-check.ensures
+    let words = alone c.args.words.now c.in-Some.names.now c.in-Some.first.now c.as_str.result.now
+    c.is_empty-in-check.result c.in-Some.ensures.cases c.as_str.ensures.value c.is_empty-in-check.ensures
+    c.if-is_empty-2.true in
+    check c.in_ok-all_available-in-check.field-0 (words ∙ ap (λ w. w ∷ []) c.in-check.is)
+    c.in_ok-all_available-in-check.ensures
 
 pub returns-then-is_empty-3 : goal.returns-then-is_empty-3
 returns-then-is_empty-3 c =
-    let words = alone c.args.words.now c.in-Some.names.now c.in-Some.first.now c.as_str.result.now c.is_empty-in-text.result c.in-Some.ensures.cases c.as_str.ensures.value c.is_empty-in-text.ensures c.if-is_empty-3.true in
-    to_json c.in_ok-all_available-in-text.field-0 (words ∙ ap (λ w. w ∷ []) c.in-text.is) c.in_ok-all_available-in-text.ensures
+    let words = alone c.args.words.now c.in-Some.names.now c.in-Some.first.now c.as_str.result.now
+    c.is_empty-in-text.result c.in-Some.ensures.cases c.as_str.ensures.value c.is_empty-in-text.ensures
+    c.if-is_empty-3.true in
+    to_json c.in_ok-all_available-in-text.field-0 (words ∙ ap (λ w. w ∷ []) c.in-text.is)
+    c.in_ok-all_available-in-text.ensures
 
 pub returns-then-is_empty-4 : goal.returns-then-is_empty-4
 returns-then-is_empty-4 c =
-    let words = alone c.args.words.now c.in-Some.names.now c.in-Some.first.now c.as_str.result.now c.is_empty-in-text-2.result c.in-Some.ensures.cases c.as_str.ensures.value c.is_empty-in-text-2.ensures c.if-is_empty-4.true in
-    from_json c.in_ok-all_available-in-text-2.field-0 (words ∙ ap (λ w. w ∷ []) c.in-text-2.is) c.in_ok-all_available-in-text-2.ensures
+    let words = alone c.args.words.now c.in-Some.names.now c.in-Some.first.now c.as_str.result.now
+    c.is_empty-in-text-2.result c.in-Some.ensures.cases c.as_str.ensures.value c.is_empty-in-text-2.ensures
+    c.if-is_empty-4.true in
+    from_json c.in_ok-all_available-in-text-2.field-0 (words ∙ ap (λ w. w ∷ []) c.in-text-2.is)
+    c.in_ok-all_available-in-text-2.ensures
 
 pub returns-in-text-3 : goal.returns-in-text-3
 returns-in-text-3 c =
     IfOk-weaker c.recover_with.result _ _ (λ found h.
     named_command (map string_bytes c.args.words.now) (map string_bytes c.in-Some.names.now) found
-    (split_words c.args.words.now c.in-Some.names.now c.in-Some.first.now c.as_str.result.now c.in-Some.ensures.cases c.as_str.ensures.value ∙ ap (λ w. w ∷ map string_bytes c.in-Some.names.now) c.in-text-3.is) h) c.recover_with.ensures
+    (split_words c.args.words.now c.in-Some.names.now c.in-Some.first.now c.as_str.result.now c.in-Some.ensures.cases
+    c.as_str.ensures.value ∙ ap (λ w. w ∷ map string_bytes c.in-Some.names.now) c.in-text-3.is) h)
+    c.recover_with.ensures

@@ -12,6 +12,8 @@ use Rattle.schema_build.proofs.schema.ValidatorSchema.empty.Goals as goal
 pub invariant_of-result : goal.invariant_of-result
 invariant_of-result c =
     let by_name = λ (a b : Name). names_in_order a.name b.name in (
-      subst (λ (l : List (Name × ValidatorEntityType)). IsStrictlySortedBy by_name (keys_of l)) (sym c.new.ensures.items) (none_rise by_name),
-      subst (λ (l : List (EntityUID × ValidatorActionId)). IsStrictlySortedBy uids_in_order (keys_of l)) (sym c.new-2.ensures.items) (none_rise uids_in_order),
+      subst (λ (l : List (Name × ValidatorEntityType)). IsStrictlySortedBy by_name (keys_of l))
+          (sym c.new.ensures.items) (none_rise by_name),
+      subst (λ (l : List (EntityUID × ValidatorActionId)). IsStrictlySortedBy uids_in_order (keys_of l))
+          (sym c.new-2.ensures.items) (none_rise uids_in_order),
     )

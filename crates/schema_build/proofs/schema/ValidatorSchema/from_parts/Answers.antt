@@ -13,7 +13,8 @@ returns-in-Some-first_enum_below-clause-fault c =
       subst (NoneIs IsMisnamed) c.as_slice.ensures.entries c.in_default.ensures,
       (
         found.0,
-        subst (λ es. IsFirstThat (λ e. IsEnumBelow e.1) es (c.in_ok-enum_type.enum_type, found.0)) c.as_slice-2.ensures.entries here,
+        subst (λ es. IsFirstThat (λ e. IsEnumBelow e.1) es (c.in_ok-enum_type.enum_type, found.0))
+            c.as_slice-2.ensures.entries here,
         subst (IsLeastName found.0.ancestors) parent found.2,
       ),
     )

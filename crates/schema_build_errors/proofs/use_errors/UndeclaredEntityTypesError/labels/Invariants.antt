@@ -4,4 +4,5 @@ use Rattle.schema_build_errors.specs.UseTexts.{undeclared_labels}
 use Rattle.schema_build_errors.proofs.use_errors.UndeclaredEntityTypesError.labels.Given as goal
 
 abbrev pub invariant-loop-name : goal.invariant-loop-name
-invariant-loop-name l = l.labels.items ++ undeclared_labels (items_left l.name-iterator) ≡ undeclared_labels l.self.types
+invariant-loop-name l = l.labels.items ++ undeclared_labels (items_left l.name-iterator)
+    ≡ undeclared_labels l.self.types

@@ -1,4 +1,5 @@
-use Rattle.std.proofs.Common.{◌≡◌, ◌≢◌, ◌-◌, ◌<◌, ◌++◌, ◌∷◌, ◌⊎◌, ℕ, Bool, true, false, List, [], length, length-append, get_or, take, drop, sym, ap, ◌∙◌, subst, arith, All, Contains, Vec, inl, inr}
+use Rattle.std.proofs.Common.{◌≡◌, ◌≢◌, ◌-◌, ◌<◌, ◌++◌, ◌∷◌, ◌⊎◌, ℕ, Bool, true, false, List, [], length, length-append}
+use Rattle.std.proofs.Common.{get_or, take, drop, sym, ap, ◌∙◌, subst, arith, All, Contains, Vec, inl, inr}
 use Rattle.std.specs.Bool.{Decides}
 use Rattle.std.specs.declared.alloc.Global.{Global}
 use Rattle.std.proofs.lemmas.List.{length-drop, take_all}
@@ -51,7 +52,9 @@ returns-clause-searched c =
     let groups : c.truncate-2.new.self.items ≡ before = c.truncate-2.ensures.items
     ∙ front_only s.groups.items before c.args.group (c.len.result - 1) c.requires.last.1
     (omega (arith, c.len.ensures, s.groups.ok.0)) in
-    let done : c.extend_from_slice.new.self.items ≡ s.done.items ++ drop c.args.group.standing s.standing.items = c.in_ok-extend_from_slice.ensures.items ∙ ap (λ xs. s.done.items ++ xs) rest in
+    let done : c.extend_from_slice.new.self.items ≡ s.done.items
+    ++ drop c.args.group.standing s.standing.items = c.in_ok-extend_from_slice.ensures.items
+    ∙ ap (λ xs. s.done.items ++ xs) rest in
     let told : Told graph b vs = elim c.if-vertices-eq1.branch [
       | then-vertices-eq1 w ↦
           let one : length vs ≡ 1 = w.if-vertices-eq1.true in
@@ -60,16 +63,24 @@ returns-clause-searched c =
           (subst (λ x. x < length graph) (sym (first_of_rest s.standing.items f))
           (c.requires.searched.is_open f lt).0) in
           let d : Decides w.contains-cyclic.result (HasEdge graph (get_or vs 0 0) (get_or vs 0 0)) =
-          own_target graph (get_or vs 0 0) w.index-graph-vertices.result w.deref-then-vertices-eq1.result.now w.contains-cyclic.result v w.index-graph-vertices.is w.deref-then-vertices-eq1.ensures.value w.contains-cyclic.ensures.cases in (
+          own_target graph (get_or vs 0 0) w.index-graph-vertices.result w.deref-then-vertices-eq1.result.now
+          w.contains-cyclic.result v w.index-graph-vertices.is w.deref-then-vertices-eq1.ensures.value
+          w.contains-cyclic.ensures.cases in (
             (λ e. inr (d.0 (sym w.cyclic-is ∙ e))),
-            (λ e. (one, (λ edge. (let yes' : w.contains-cyclic.result ≡ true = d.1 edge in let no' : w.contains-cyclic.result ≡ false = sym w.cyclic-is ∙ e in cc)))),
+            (λ e. (
+              one,
+              (λ edge. (let yes' : w.contains-cyclic.result ≡ true = d.1 edge in
+                  let no' : w.contains-cyclic.result ≡ false = sym w.cyclic-is ∙ e in cc)),
+            )),
           )
       | else-vertices-eq1 w ↦
           ((λ e. inl w.if-vertices-eq1.false), (λ e. absurd (let yes' : b ≡ true = w.cyclic-is in cc)))
     ] in
     let told' : Told graph b (drop f s.standing.items) = subst (Told graph b) rest told in
     rw (states, c.truncate.ensures.items, groups, done)
-    (closed graph s.states.items s.standing.items s.targets.items s.groups.items s.done.items c.requires.searched before c.args.group c.requires.last.1 c.requires.looked b told'.0 told'.1 c.mark_done.new.states (c.mark_done.ensures.same ∙ ap length c.deref_mut.ensures.value)
+    (closed graph s.states.items s.standing.items s.targets.items s.groups.items s.done.items c.requires.searched
+    before c.args.group c.requires.last.1 c.requires.looked b told'.0 told'.1 c.mark_done.new.states
+    (c.mark_done.ensures.same ∙ ap length c.deref_mut.ensures.value)
     (subst (All (λ v. state_at c.mark_done.new.states v ≡ Done b)) rest c.mark_done.ensures.marked)
     (others_kept c.deref_mut.result.now s.states.items c.mark_done.new.states vs
     (drop f s.standing.items) c.deref_mut.ensures.value rest c.mark_done.ensures.others))
@@ -85,7 +96,8 @@ returns-clause-smaller c =
     let groups : c.truncate-2.new.self.items ≡ before = c.truncate-2.ensures.items
     ∙ front_only s.groups.items before c.args.group (c.len.result - 1) c.requires.last.1
     (omega (arith, c.len.ensures, s.groups.ok.0)) in
-    rw (states, groups) (weight_closed c.args.graph.now s.states.items c.mark_done.new.states c.if-vertices-eq1.cyclic s.targets.items s.groups.items before (c.mark_done.ensures.same ∙ ap length c.deref_mut.ensures.value)
+    rw (states, groups) (weight_closed c.args.graph.now s.states.items c.mark_done.new.states c.if-vertices-eq1.cyclic
+    s.targets.items s.groups.items before (c.mark_done.ensures.same ∙ ap length c.deref_mut.ensures.value)
     (subst (λ old. (v : ℕ)
     → (state_at c.mark_done.new.states v ≡ Done c.if-vertices-eq1.cyclic)
     ⊎ (state_at c.mark_done.new.states v ≡ state_at old v)) c.deref_mut.ensures.value c.mark_done.ensures.each)

@@ -16,7 +16,8 @@ returns-in-Open-clause-searched c =
     let s = c.take_target-target.new.self in
     let v = c.take_target-target.result in
     let held = c.take_target-target.ensures.searched in
-    merged c.args.graph.now s.states.items s.standing.items s.targets.items s.groups.items s.done.items v held c.in-Open.place
+    merged c.args.graph.now s.states.items s.standing.items s.targets.items s.groups.items s.done.items v held
+    c.in-Open.place
     (state_read s.states.items v c.index.result.now (omega (arith, held.range v refl, held.same)) c.index.ensures
     ∙ c.in-Open.is) c.merge.new.groups.items c.merge.ensures
 
@@ -25,6 +26,7 @@ returns-in-Done-clause-searched c =
     let s = c.take_target-target.new.self in
     let v = c.take_target-target.result in
     let held = c.take_target-target.ensures.searched in
-    skipped c.args.graph.now s.states.items s.standing.items s.targets.items s.groups.items s.done.items v held c.in-Done.field-0
+    skipped c.args.graph.now s.states.items s.standing.items s.targets.items s.groups.items s.done.items v held
+    c.in-Done.field-0
     (state_read s.states.items v c.index.result.now (omega (arith, held.range v refl, held.same)) c.index.ensures
     ∙ c.in-Done.is)

@@ -13,6 +13,8 @@ returns-in_ok-full-in-Some c =
     let ns = name_of c.args.self.now.ns.now in
     let meant =
     means_found (tests_of c.defs.result.now) (tests_of (defined f table)) c.defs.ensures
-    (option_copied c.name_of.result) ns c.name_of.ensures c.args.kind c.args.name.now c.find_meant.result c.in-Some.meant
+    (option_copied c.name_of.result) ns c.name_of.ensures c.args.kind c.args.name.now c.find_meant.result
+    c.in-Some.meant
     true c.in_ok-full-in-Some.full c.find_meant.ensures c.in-Some.is c.if-meant.true c.in_ok-full-in-Some.ensures in
-    rank_common f table ns c.args.kind c.args.name.now c.in_ok-full-in-Some.full meant c.rank_of.result c.rank_of.ensures
+    rank_common f table ns c.args.kind c.args.name.now c.in_ok-full-in-Some.full meant c.rank_of.result
+    c.rank_of.ensures

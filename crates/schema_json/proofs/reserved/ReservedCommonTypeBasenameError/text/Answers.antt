@@ -4,5 +4,8 @@ use Rattle.schema_json.proofs.reserved.ReservedCommonTypeBasenameError.text.Goal
 
 pub returns : goal.returns
 returns c = record {
-  text = c.in_ok-push_text.ensures.ok ∙ ap (λ t. t ++ c.args.self.now.id.id.text) (c.in_ok-text.ensures ∙ chars-from_test (codes "this is reserved and cannot be the basename of a common-type declaration: ") refl);
+  text = c.in_ok-push_text.ensures.ok
+      ∙ ap (λ t. t ++ c.args.self.now.id.id.text)
+      (c.in_ok-text.ensures ∙ chars-from_test
+      (codes "this is reserved and cannot be the basename of a common-type declaration: ") refl);
 }

@@ -11,6 +11,10 @@ use Rattle.schema_print.proofs.cedar_text.RecordTypeCedarText.indented_text.Goal
 pub returns : goal.returns
 returns g c = record {
   text =
-      (so c.in_ok-push_record.ensures (ap (λ es. laid (type_pieces true c.args.base (rec (printed_entries g.N.NameText.components es)))) c.as_slice.ensures.entries)).grown
-      ∙ ap (λ t. encode_utf8_all t ++ laid (type_pieces true c.args.base (rec (printed_entries g.N.NameText.components (attributes_of c.args.self.now))))) c.new-text.ensures;
+      (so c.in_ok-push_record.ensures
+      (ap (λ es. laid (type_pieces true c.args.base (rec (printed_entries g.N.NameText.components es))))
+      c.as_slice.ensures.entries)).grown
+      ∙ ap (λ t. encode_utf8_all t ++ laid
+      (type_pieces true c.args.base (rec (printed_entries g.N.NameText.components (attributes_of c.args.self.now)))))
+      c.new-text.ensures;
 }

@@ -17,10 +17,14 @@ pub returns-in_ok-push : goal.returns-in_ok-push
 returns-in_ok-push c =
     let ns = option_copied c.name_of-ns.result in
     let t = tests_of c.args.self.now.defs.now in
-    let found : option_map (candidate ns c.in_ok-ty.ty.name) c.find_action.result ≡ find (is_action t c.args.id.now) (candidates ns (written_type c.args.ty.now))
-    = c.find_action.ensures ∙ ap (λ (name : RawName). find (is_action t c.args.id.now) (candidates ns name.name)) c.in_ok-ty.ensures in
+    let found : option_map (candidate ns c.in_ok-ty.ty.name) c.find_action.result
+    ≡ find (is_action t c.args.id.now) (candidates ns (written_type c.args.ty.now))
+    = c.find_action.ensures ∙ ap (λ (name : RawName). find (is_action t c.args.id.now) (candidates ns name.name))
+    c.in_ok-ty.ensures in
     rw (← c.name_of-ns.ensures)
-    (rw (missed _ c.find_action.result _ (action_reference c.args.id.now (Some (type_in_namespace ns c.args.id.now c.args.ty.now))) (c.is_none.ensures ∙ ap not c.if-is_none.true) found)
+    (rw (missed _ c.find_action.result _
+    (action_reference c.args.id.now (Some (type_in_namespace ns c.args.id.now c.args.ty.now)))
+    (c.is_none.ensures ∙ ap not c.if-is_none.true) found)
     record {
       defs = refl;
       types = sym (append-nil c.args.self.now.types.items);

@@ -10,9 +10,12 @@ pub returns-in_ok-push : goal.returns-in_ok-push
 returns-in_ok-push c =
     let ns = option_copied c.name_of-ns.result in
     rw (← c.name_of-ns.ensures)
-    (rw (missed _ c.find_type.result _ (type_reference (in_namespace ns c.args.kind c.args.name.now)) (c.is_none.ensures ∙ ap not c.if-is_none.true) c.find_type.ensures.first)
+    (rw (missed _ c.find_type.result _ (type_reference (in_namespace ns c.args.kind c.args.name.now))
+    (c.is_none.ensures ∙ ap not c.if-is_none.true) c.find_type.ensures.first)
     record {
       defs = refl;
-      types = c.in_ok-push.ensures.items ∙ ap (λ x. c.args.self.now.types.items ++ x ∷ []) (c.in_ok-undefined.ensures ∙ ap (in_namespace ns c.args.kind) c.in_ok-name.ensures);
+      types = c.in_ok-push.ensures.items
+          ∙ ap (λ x. c.args.self.now.types.items ++ x ∷ [])
+          (c.in_ok-undefined.ensures ∙ ap (in_namespace ns c.args.kind) c.in_ok-name.ensures);
       actions = sym (append-nil (uids c.args.self.now.actions.items));
     })

@@ -7,5 +7,7 @@ use Rattle.schema_resolve.proofs.targets.AllDefsRenamerConditionalNameInternalNa
 pub returns-in_ok-clone_in-in-None-clause-err : goal.returns-in_ok-clone_in-in-None-clause-err
 returns-in_ok-clone_in-in-None-clause-err c =
     let uid = c.args.uid.now in
-    let none : action_target (tests_of c.args.self.now) uid.id uid.ty ≡ None = ap (action_target (tests_of c.args.self.now) uid.id) c.ty.ensures ∙ (sym c.first_action.ensures ∙ ap option_copied c.in-None.is) in
+    let none : action_target (tests_of c.args.self.now) uid.id uid.ty
+    ≡ None = ap (action_target (tests_of c.args.self.now) uid.id) c.ty.ensures
+    ∙ (sym c.first_action.ensures ∙ ap option_copied c.in-None.is) in
     rw none (uid, c.new.ensures ∙ ap (λ x. x ∷ []) c.in_ok-clone_in-in-None.ensures, refl, refl)

@@ -4,4 +4,6 @@ use Rattle.std.specs.List.{flat_map}
 use Rattle.schema_resolve_errors.proofs.resolve_error.TypeNotDefinedError.join_nonempty.Given as goal
 
 abbrev pub invariant-loop-error : goal.invariant-loop-error
-invariant-loop-error l = l.head ∷ (l.tail.items ++ flat_map (λ x. x.undefined_types) (into_iter_items l.error-iterator)) ≡ flat_map (λ x. x.undefined_types) l.fn.errs
+invariant-loop-error l = l.head
+    ∷ (l.tail.items ++ flat_map (λ x. x.undefined_types) (into_iter_items l.error-iterator))
+    ≡ flat_map (λ x. x.undefined_types) l.fn.errs

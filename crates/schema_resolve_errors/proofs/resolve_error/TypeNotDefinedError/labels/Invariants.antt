@@ -4,4 +4,5 @@ use Rattle.schema_resolve_errors.specs.ErrorTexts.{type_labels}
 use Rattle.schema_resolve_errors.proofs.resolve_error.TypeNotDefinedError.labels.Given as goal
 
 abbrev pub invariant-loop-reference : goal.invariant-loop-reference
-invariant-loop-reference l = l.labels.items ++ type_labels (items_left l.reference-iterator) ≡ type_labels l.self.undefined_types
+invariant-loop-reference l = l.labels.items ++ type_labels (items_left l.reference-iterator)
+    ≡ type_labels l.self.undefined_types

@@ -6,4 +6,5 @@ use Rattle.schema_syntax_tree.proofs.Joins.{behind}
 use Rattle.schema_syntax_tree.proofs.path.Path.text.Given as goal
 
 abbrev pub invariant-loop-id : goal.invariant-loop-id
-invariant-loop-id l = l.text ++ behind (codes "::") (texts_of (ids_left l.id-iterator)) ≡ joined_by (codes "::") (texts_of l.fn.self.ids)
+invariant-loop-id l = l.text ++ behind (codes "::") (texts_of (ids_left l.id-iterator))
+    ≡ joined_by (codes "::") (texts_of l.fn.self.ids)

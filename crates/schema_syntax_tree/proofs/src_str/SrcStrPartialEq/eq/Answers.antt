@@ -8,5 +8,6 @@ use Rattle.schema_syntax_tree.proofs.src_str.SrcStrPartialEq.eq.Goals as goal
 pub returns : goal.returns
 returns c =
     let same : c.same_value.result ≡ pointwise nat_eq c.args.self.now c.args.other.now =
-    ∥∥₁_elim c.raw.ensures (Bool-set _ _) (λ h. ∥∥₁_elim c.raw-2.ensures (Bool-set _ _) (λ k. c.same_value.ensures c.args.self.now c.args.other.now h k)) in
+    ∥∥₁_elim c.raw.ensures (Bool-set _ _)
+    (λ h. ∥∥₁_elim c.raw-2.ensures (Bool-set _ _) (λ k. c.same_value.ensures c.args.self.now c.args.other.now h k)) in
     same ∙ same_tests c.args.self.now c.args.other.now

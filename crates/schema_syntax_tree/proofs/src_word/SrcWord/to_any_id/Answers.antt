@@ -6,8 +6,10 @@ use Rattle.schema_syntax_tree.proofs.src_word.SrcWord.to_any_id.Goals as goal
 
 pub invariant_of-result : goal.invariant_of-result
 invariant_of-result c =
-    let text : c.in_ok-from_str.field-0 ≡ c.self.inside.text.now = c.in_ok-from_str.ensures ∙ word_chars c.self.inside.text.now c.self.inside.word in
+    let text : c.in_ok-from_str.field-0 ≡ c.self.inside.text.now = c.in_ok-from_str.ensures
+    ∙ word_chars c.self.inside.text.now c.self.inside.word in
     record { word = ap is_word text ∙ c.self.inside.word }
 
 pub returns : goal.returns
-returns c = any_id_same _ _ (c.in_ok-from_str.ensures ∙ word_chars c.self.inside.text.now c.self.inside.word ∙ ap (λ id. id.text) c.self.view_is)
+returns c = any_id_same _ _ (c.in_ok-from_str.ensures ∙ word_chars c.self.inside.text.now c.self.inside.word
+    ∙ ap (λ id. id.text) c.self.view_is)
