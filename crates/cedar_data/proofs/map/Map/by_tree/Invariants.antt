@@ -2,7 +2,7 @@ use Rattle.std.proofs.Common.{◌≡◌}
 use Rattle.std.specs.BTreeMap.{get, is_at}
 use Rattle.std.specs.Option.{option_or}
 use Rattle.cedar_data.specs.Maps.{with_entries, map_of, last_at}
-use Rattle.cedar_data.proofs.map.Map.from_entries.Given as goal
+use Rattle.cedar_data.proofs.map.Map.by_tree.Given as goal
 
 abbrev pub invariant-loop-key : goal.invariant-loop-key
 invariant-loop-key g l = record {
