@@ -242,7 +242,7 @@ app_at ts = do
   w ← any_at ts
   c ← token_at Colon w.1
   if is_role w.0.kind then (types_at c.1 >>= λ r. Some (Types w.0 r.0 (place_before ts r.1), r.1)) else
-  (if same_kind KwContext w.0.kind then context_at ts c.1 else None)
+      (if same_kind KwContext w.0.kind then context_at ts c.1 else None)
 
 unfoldable pub applies_at : List Token → Read (Option (List AppSyntax × Span))
 applies_at [] = Some (None, [])
@@ -314,15 +314,16 @@ common_at ts = do
 unfoldable pub external_at : List Token → Read DeclSyntax
 external_at ts = do
   w ← any_at ts
-  if same_kind KwEntity w.0.kind then external_entity_at w.1 else if same_kind KwAction w.0.kind then
-  external_action_at w.1 else None
+  if same_kind KwEntity w.0.kind then external_entity_at w.1 else
+      (if same_kind KwAction w.0.kind then external_action_at w.1 else None)
 
 unfoldable pub decl_at : List Token → Read DeclSyntax
 decl_at ts = do
   w ← any_at ts
   if same_kind KwEntity w.0.kind then entity_at w.1 else
-  (if same_kind KwExternal w.0.kind then external_at w.1 else
-      (if same_kind KwAction w.0.kind then action_at w.1 else (if same_kind KwType w.0.kind then common_at w.1 else None)))
+      (if same_kind KwExternal w.0.kind then external_at w.1 else
+      (if same_kind KwAction w.0.kind then action_at w.1 else
+      (if same_kind KwType w.0.kind then common_at w.1 else None)))
 
 unfoldable pub declared_at : List Token → Read DeclaredSyntax
 declared_at ts = do
