@@ -35,7 +35,7 @@ use Rattle.schema_syntax_reader.specs.Sites.{names_sites, path_sites, paths_site
 use Rattle.schema_syntax_reader.specs.Sites.{sites_of_attrs, shape_sites, tags_sites, app_sites, choices_sites}
 use Rattle.schema_syntax_reader.specs.Sites.{apps_sites, applies_sites, decl_sites, declared_sites, item_sites}
 use Rattle.schema_syntax_reader.specs.Sites.{sites_of}
-use Rattle.schema_syntax_reader.specs.Placed.{Rise, note_tokens, IsPlacedNote, IsPlacedSite}
+use Rattle.schema_syntax_reader.specs.Placed.{AreScanned, note_tokens, IsPlacedNote, IsPlacedSite}
 use Rattle.schema_syntax_reader.proofs.SiteEquations.{of_path, of_set, of_record, of_attr}
 use Rattle.schema_syntax_reader.proofs.Rising.{all_both, rise_both, Sub, none, skip, keep, sub_join, sub_none, sub_map}
 use Rattle.schema_syntax_reader.proofs.Rising.{sub_rise}
@@ -53,7 +53,7 @@ site_ends (empty brackets) = brackets.end ∷ []
 abbrev pub sites_ends : List Site → List ℕ
 sites_ends sites = flat_map site_ends sites
 
-name_split : (k : TokenKind) → is_name_kind k ≡ true → (k ≡ StringLit) ⊎ (is_ident k ≡ true)
+pub name_split : (k : TokenKind) → is_name_kind k ≡ true → (k ≡ StringLit) ⊎ (is_ident k ≡ true)
 name_split StringLit h = inl refl
 name_split KwNamespace h = inr refl
 name_split KwEntity h = inr refl
@@ -88,22 +88,20 @@ site_word Identifier h t = refl
 site_word _ h t = cc
 
 module _ (source : List ℕ) where
-  -- tokens as the scanner leaves them
-  pub record Good (u : List Token) : Type 0 where
-    pub placed : All (IsPlaced source) u
-    pub rise : Rise u
+  abbrev Good : List Token → Type 0
+  Good u = AreScanned source u
 
   pub record Fits (u : List Token) (sites : List Site) : Type 0 where
     pub placed : All (IsPlacedSite source) sites
     pub sub : Sub (sites_ends sites) (ends u)
 
-  good_left : (u v : List Token) → Good (u ++ v) → Good u
+  pub good_left : (u v : List Token) → Good (u ++ v) → Good u
   good_left u v g = record { placed = (all_both (IsPlaced source) u v g.placed).0; rise = (rise_both u v g.rise).0 }
 
-  good_right : (u v : List Token) → Good (u ++ v) → Good v
+  pub good_right : (u v : List Token) → Good (u ++ v) → Good v
   good_right u v g = record { placed = (all_both (IsPlaced source) u v g.placed).1; rise = (rise_both u v g.rise).1 }
 
-  good_rest : (t : Token) (u : List Token) → Good (t ∷ u) → Good u
+  pub good_rest : (t : Token) (u : List Token) → Good (t ∷ u) → Good u
   good_rest t u g = record { placed = All-tail (IsPlaced source) t u g.placed; rise = g.rise.1 }
 
   pub flat_join : (a b : List Site) → sites_ends (a ++ b) ≡ sites_ends a ++ sites_ends b
@@ -178,7 +176,7 @@ module _ (source : List ℕ) where
   path_fits : {u : List Token} {p : PathSyntax} → IsPath u p → Good u → Fits u (path_sites p)
   path_fits (S.path c) g = idents_fit c g
 
-  names_append : (a b : List Token) → names_sites (a ++ b) ≡ names_sites a ++ names_sites b
+  pub names_append : (a b : List Token) → names_sites (a ++ b) ≡ names_sites a ++ names_sites b
   names_append [] b = refl
   names_append (t ∷ a) b = ap (λ x. name_sites t ++ x) (names_append a b)
 
@@ -225,13 +223,13 @@ module _ (source : List ℕ) where
       fits_skip i u (paths_sites ps) (listed_fit P path_sites each l (good_rest i u g))
 
   -- annotations
-  notes_sub : {u : List Token} {list : List AnnotationSyntax} → AreAnnotations u list → Sub (note_tokens list) u
+  pub notes_sub : {u : List Token} {list : List AnnotationSyntax} → AreAnnotations u list → Sub (note_tokens list) u
   notes_sub S.none = none
   notes_sub (S.bare {a = a} {k = k} h w r) = skip a (keep k (notes_sub r))
   notes_sub (S.valued {a = a} {k = k} {o = o} {v = v} {c = c} h w p q t r) =
       skip a (keep k (skip o (keep v (skip c (notes_sub r)))))
 
-  notes_placed : {u : List Token} {list : List AnnotationSyntax} → AreAnnotations u list → All (IsPlaced source) u
+  pub notes_placed : {u : List Token} {list : List AnnotationSyntax} → AreAnnotations u list → All (IsPlaced source) u
       → All (IsPlacedNote source) list
   notes_placed S.none g = All-nil (IsPlacedNote source)
   notes_placed (S.bare {a = a} {k = k} {u = u} {xs = list} h w r) g =

@@ -189,7 +189,8 @@ none_at source list ps notes h kept = λ fault end x.
     (apart_texts ps kept.apart) in
     elim (end_of source (annotations list) fault end x) [
       | inl e ↦ lawful_split source e.front e.here e.back e.value e.at
-          (subst (λ l. AllByRecursion (λ a. NoBadValue source a.value) l) e.split (all_lawful source list ps h)) e.has e.bad
+          (subst (λ l. AllByRecursion (λ a. NoBadValue source a.value) l) e.split (all_lawful source list ps h)) e.has
+          e.bad
       | inr e ↦ apart_split (λ a. word_at source a.key) e.front e.first e.middle e.second e.back
           (subst (λ l. Apart (words source l)) e.split apart) e.same
     ]
@@ -264,10 +265,12 @@ key_stops source list done s rest front old middle new fault rise split read key
         | inr e ↦ elim (two_splits done (s ∷ rest) (e.front ++ e.first ∷ e.middle) e.second e.back
             (sym split ∙ (e.split ∙ sym (append_assoc e.front (e.first ∷ e.middle) (e.second ∷ e.back))))) [
               | inl q ↦ absurd (apart_split w e.front e.first e.middle e.second q.0
-                  (subst (λ l. Apart (words source l)) (q.1 ∙ append_assoc e.front (e.first ∷ e.middle) (e.second ∷ q.0))
+                  (subst (λ l. Apart (words source l))
+                  (q.1 ∙ append_assoc e.front (e.first ∷ e.middle) (e.second ∷ q.0))
                   apart) e.same)
               | inr q ↦ subst (λ n. s.key.loc.end ≤ n) (sym e.ends)
-                  (behind_key s.key.loc.end q.0 e.second e.back (subst (λ l. Behind s.key.loc.end (note_tokens l)) q.1 behind))
+                  (behind_key s.key.loc.end q.0 e.second e.back
+                  (subst (λ l. Behind s.key.loc.end (note_tokens l)) q.1 behind))
             ]
       ];
     }
@@ -306,7 +309,8 @@ value_stops source list done s rest before last t fault rise split read key pair
             (append_assoc done (s ∷ []) rest
             ∙ (sym split ∙ (e.split ∙ sym (append_assoc e.front (e.first ∷ e.middle) (e.second ∷ e.back)))))) [
               | inl q ↦ absurd (apart_split w e.front e.first e.middle e.second q.0
-                  (subst (λ l. Apart (words source l)) (q.1 ∙ append_assoc e.front (e.first ∷ e.middle) (e.second ∷ q.0))
+                  (subst (λ l. Apart (words source l))
+                  (q.1 ∙ append_assoc e.front (e.first ∷ e.middle) (e.second ∷ q.0))
                   apart) e.same)
               | inr q ↦ subst (λ n. t.loc.end ≤ n) (sym e.ends)
                   (behind_key t.loc.end q.0 e.second e.back (subst (λ l. Behind t.loc.end (note_tokens l)) q.1 behind))

@@ -8,7 +8,8 @@ use Rattle.schema_syntax_parser.specs.declared.syntax.TypeSyntax.TheVariants.{Pa
 use Rattle.schema_syntax_parser.specs.declared.syntax.TypeSyntax.TheVariants.{rolls-Record}
 use Rattle.schema_syntax_parser.specs.declared.syntax.TypeSyntax.TheOpen.{TypeSyntax-F, AttrSyntax-F}
 use Rattle.schema_syntax_parser.specs.declared.syntax.TypeSyntax.TheFolds.{fold-roll-TypeSyntax, fold-roll-AttrSyntax}
-use Rattle.schema_syntax_parser.specs.declared.syntax.AttrSyntax.{AttrSyntax, roll-AttrSyntax}
+use Rattle.schema_syntax_parser.specs.declared.syntax.TypeSyntax.TheFolds.{fold_out-AttrSyntax}
+use Rattle.schema_syntax_parser.specs.declared.syntax.AttrSyntax.{AttrSyntax, roll-AttrSyntax, out-AttrSyntax}
 use Rattle.schema_syntax_reader.specs.Sites.{Site, annotations, name_sites, path_sites, type_sites, attr_sites}
 use Rattle.schema_syntax_reader.specs.Sites.{sites_of_type, sites_of_attr, sites_of_attrs}
 
@@ -32,3 +33,8 @@ of_record xs loc = ap sites_of_type (sym (rolls-Record xs loc))
 pub of_attr : (a : AttrSyntax-F TypeSyntax AttrSyntax)
     → sites_of_attr (roll-AttrSyntax a) ≡ annotations a.annotations ∷ (name_sites a.name ++ sites_of_type a.ty)
 of_attr a = fold-roll-AttrSyntax (List Site) (List Site) type_sites attr_sites a
+
+pub of_out_attr : (a : AttrSyntax)
+    → sites_of_attr a ≡ annotations (out-AttrSyntax a).annotations
+    ∷ (name_sites (out-AttrSyntax a).name ++ sites_of_type (out-AttrSyntax a).ty)
+of_out_attr a = fold_out-AttrSyntax (List Site) (List Site) type_sites attr_sites a

@@ -9,10 +9,6 @@ use Rattle.cedar_identifiers.specs.declared.any_id.AnyId.{AnyId}
 use Rattle.schema_syntax_tokens.specs.declared.token.Token.{Token}
 use Rattle.schema_syntax_tokens.specs.Escapes.{Unescapes}
 use Rattle.schema_syntax_parser.specs.declared.syntax.AnnotationSyntax.{AnnotationSyntax}
-use Rattle.schema_syntax_reader.specs.Sites.{Site}
-use Rattle.schema_syntax_reader.specs.Sites as site
-use Rattle.schema_syntax_reader.specs.declared.leaf.Leaf.{Leaf}
-use Rattle.schema_syntax_reader.specs.declared.leaf.Leaf.TheVariants as leaf
 
 -- the characters at the token's place
 abbrev pub word_at : List ℕ → Token → List ℕ
@@ -46,10 +42,3 @@ pub record AreNotes (text : List ℕ) (annotations : List AnnotationSyntax) (not
   pub sorted : IsStrictlySortedBy text_cmp (map (λ note. note.0.text) notes)
   pub as_many : length notes ≡ length annotations
   pub each : All (HasNote text notes) annotations
-
--- what a site stands for
-abbrev pub IsLeaf : List ℕ → Site → Leaf → Type 0
-IsLeaf text (site.word t) (leaf.Word id) = id.text ≡ word_at text t
-IsLeaf text (site.text t) (leaf.Text value) = IsStringAt text t value
-IsLeaf text (site.annotations list) (leaf.Annotations notes) = AreNotes text list notes.0
-IsLeaf text _ _ = ⊥

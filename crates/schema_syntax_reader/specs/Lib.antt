@@ -1,11 +1,10 @@
-pub mod Building
 pub mod Collected
 pub mod Deduplicated
 pub mod LawfulTrees
 pub mod Leaves
 pub mod Placed
 pub mod ReadNotes
-pub mod SiteViews
+pub mod Readings
 pub mod Sites
 pub mod Stops
 pub mod Trees

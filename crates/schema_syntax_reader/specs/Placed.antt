@@ -4,7 +4,7 @@ use Rattle.std.specs.Prelude.{◌≡◌, ◌≤◌, ℕ, true, List, [], ◌∷�
 use Rattle.std.specs.List.{All, flat_map}
 use Rattle.std.specs.Option.{option_to_list}
 use Rattle.schema_syntax_grammar.specs.declared.token_kind.TokenKind.TheVariants.{StringLit}
-use Rattle.schema_syntax_grammar.specs.Grammar.{is_word_kind, is_ident}
+use Rattle.schema_syntax_grammar.specs.Grammar.{is_word_kind, is_ident, is_name_kind}
 use Rattle.schema_syntax_tokens.specs.declared.token.Token.{Token}
 use Rattle.schema_syntax_tokens.specs.Scans.{IsPlaced}
 use Rattle.schema_syntax_parser.specs.declared.syntax.AnnotationSyntax.{AnnotationSyntax}
@@ -20,6 +20,19 @@ Rise (t ∷ ts) = All (λ s. t.loc.end ≤ s.loc.end) ts × Rise ts
 -- the tokens of annotations, without the marks
 abbrev pub note_tokens : List AnnotationSyntax → List Token
 note_tokens list = flat_map (λ a. a.key ∷ option_to_list a.value) list
+
+-- tokens as the scanner leaves them: each stands in the text, and ends no later than those behind it
+pub record AreScanned (source : List ℕ) (tokens : List Token) : Type 0 where
+  pub placed : All (IsPlaced source) tokens
+  pub rise : Rise tokens
+
+-- a part of a syntax whose tokens are such
+abbrev pub IsScanned : {A : Type 0} → (List Token → A → Type 0) → List ℕ → A → Type 0
+IsScanned P source part = (tokens : List Token) × P tokens part × AreScanned source tokens
+
+-- a name stands at its place
+abbrev pub IsPlacedName : List ℕ → Token → Type 0
+IsPlacedName source t = IsPlaced source t × (is_name_kind t.kind ≡ true)
 
 -- a string stands at its place
 abbrev pub IsPlacedString : List ℕ → Token → Type 0

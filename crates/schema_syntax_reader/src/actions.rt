@@ -1,17 +1,21 @@
 ghost use Rattle.std.specs.Prelude.{◌≡◌};
-ghost use Rattle.schema_syntax_reader.specs.Trees.{role_of};
-ghost use Rattle.schema_syntax_reader.specs.Building.{GivesBuilt, app_from, applies_from};
+ghost use Rattle.schema_syntax_parser.specs.Syntax.{IsApp, Applies};
+ghost use Rattle.schema_syntax_reader.specs.Sites.{app_sites, applies_sites, empty};
+ghost use Rattle.schema_syntax_reader.specs.Placed.{IsScanned};
+ghost use Rattle.schema_syntax_reader.specs.Readings.{Reads};
+ghost use Rattle.schema_syntax_reader.specs.Stops.{IsStoppedAt};
+ghost use Rattle.schema_syntax_reader.specs.Trees.{role_of, IsAppOf, AppliesOf};
 
-use crate::leaf::Leaf;
 use crate::parts::{Part, optional, some};
 use crate::paths::{Paths, path};
+use crate::stopped::Stopped;
 use crate::types::attrs;
 use cedar_data::{List, Loc, Node, NonEmpty};
+use schema_syntax_errors::UserError;
 use schema_syntax_grammar::TokenKind;
-use schema_syntax_parser::{AppSyntax, Stop};
+use schema_syntax_parser::AppSyntax;
 use schema_syntax_tree::{AppDecl, Either, PR, PRAppDecl};
 use std::alloc::Global;
-use std::collections::VecDeque;
 
 // Whom the word stands for.
 fn role_of(kind: TokenKind) -> PR
@@ -24,18 +28,24 @@ fn role_of(kind: TokenKind) -> PR
     }
 }
 
+/// The fault of a list without items where one has to stand, with its brackets.
+pub fn empty_list(brackets: &Loc) -> Stopped
+    ensures { (source : _) → IsStoppedAt source (empty brackets.now) result }
+{
+    Stopped::User(UserError::EmptyList(Node {
+        node: (),
+        loc: Some(*brackets),
+    }))
+}
+
 // A member of an `appliesTo` block.
-#[tactic(auto, unfolding(crate::specs::Building::app_from))]
-fn app<'a>(
-    alloc: Global,
-    raw: &AppSyntax,
-    leaves: &mut VecDeque<Leaf<'a>>,
-) -> Result<Node<AppDecl<'a>>, Stop>
-    ensures { GivesBuilt (λ x. x) result (app_from raw.now leaves.old.items) leaves.new.items }
+fn app<'a>(alloc: Global, text: &'a str, raw: &AppSyntax) -> Result<Node<AppDecl<'a>>, Stopped>
+    requires { IsScanned IsApp text.now raw.now }
+    ensures { Reads text.now (app_sites raw.now) (IsAppOf text.now raw.now) result }
 {
     match raw {
         AppSyntax::Types(word, paths, loc) => {
-            let entity_tys = optional::<Paths>(alloc, paths.as_slice(), leaves)?;
+            let entity_tys = optional::<Paths>(alloc, text, paths.as_slice())?;
             let kind = Node {
                 node: role_of(word.kind),
                 loc: Some(word.loc),
@@ -46,15 +56,16 @@ fn app<'a>(
             })
         }
         AppSyntax::ContextPath(raw, loc) => {
-            let path = path(alloc, raw, leaves)?;
+            let path = path(alloc, text, raw)?;
             Ok(Node {
                 node: AppDecl::Context(Either::Left(path)),
                 loc: Some(*loc),
             })
         }
         AppSyntax::ContextRecord(raws, record_loc, loc) => {
+            let attrs = attrs(alloc, text, raws.as_slice())?;
             let attrs = Node {
-                node: List::from_vec(attrs(alloc, raws.as_slice(), leaves)?),
+                node: List::from_vec(attrs),
                 loc: Some(*record_loc),
             };
             Ok(Node {
@@ -73,34 +84,36 @@ impl<'a> Part<'a> for Apps {
 
     type Item = Node<AppDecl<'a>>;
 
-    ghost builds = { app_from };
+    ghost fits = { IsScanned IsApp };
 
-    fn build(
-        alloc: Global,
-        raw: &AppSyntax,
-        leaves: &mut VecDeque<Leaf<'a>>,
-    ) -> Result<Node<AppDecl<'a>>, Stop> {
-        app(alloc, raw, leaves)
+    ghost sites = { app_sites };
+
+    ghost stands_for = { IsAppOf };
+
+    fn read(alloc: Global, text: &'a str, raw: &AppSyntax) -> Result<Node<AppDecl<'a>>, Stopped> {
+        app(alloc, text, raw)
     }
 }
 
 // The `appliesTo` block, where it stands.
-#[tactic(auto, unfolding(crate::specs::Building::applies_from))]
 pub fn applies<'a>(
     alloc: Global,
+    text: &'a str,
     raw: &Option<(List<AppSyntax>, Loc)>,
-    leaves: &mut VecDeque<Leaf<'a>>,
-) -> Result<Option<Node<NonEmpty<Node<AppDecl<'a>>>>>, Stop>
-    ensures { GivesBuilt (λ x. x) result (applies_from raw.now leaves.old.items) leaves.new.items }
+) -> Result<Option<Node<NonEmpty<Node<AppDecl<'a>>>>>, Stopped>
+    requires { IsScanned Applies text.now raw.now }
+    ensures { Reads text.now (applies_sites raw.now) (AppliesOf text.now raw.now) result }
 {
-    match raw {
-        None => Ok(None),
-        Some((raws, loc)) => {
-            let node = some::<Apps>(alloc, raws.as_slice(), leaves)?;
-            Ok(Some(Node {
-                node,
-                loc: Some(*loc),
-            }))
-        }
+    let Some((raws, braces)) = raw else {
+        return Ok(None);
+    };
+    let raws = raws.as_slice();
+    if raws.is_empty() {
+        return Err(empty_list(braces));
     }
+    let node = some::<Apps>(alloc, text, raws)?;
+    Ok(Some(Node {
+        node,
+        loc: Some(*braces),
+    }))
 }

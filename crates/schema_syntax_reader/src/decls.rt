@@ -1,37 +1,41 @@
-ghost use Rattle.schema_syntax_reader.specs.Building.{GivesBuilt, entity_from, enum_from, external_entity_from, action_from, external_action_from, common_from, decl_from};
+ghost use Rattle.schema_syntax_parser.specs.Syntax.{IsDecl};
+ghost use Rattle.schema_syntax_parser.specs.declared.syntax.DeclSyntax.TheVariants as syntax;
+ghost use Rattle.schema_syntax_reader.specs.Sites.{decl_sites};
+ghost use Rattle.schema_syntax_reader.specs.Placed.{IsScanned};
+ghost use Rattle.schema_syntax_reader.specs.Readings.{Reads};
+ghost use Rattle.schema_syntax_reader.specs.Trees.{IsDeclOf};
 
-use crate::actions::applies;
-use crate::leaf::Leaf;
+use crate::actions::{applies, empty_list};
 use crate::names::{Choices, Ids, Names, id_node};
 use crate::parts::{all, optional, some};
 use crate::paths::{Paths, References};
+use crate::stopped::Stopped;
 use crate::types::{shape, tags, ty};
 use cedar_data::{Boxed, List, Loc};
-use schema_syntax_parser::{AppSyntax, AttrSyntax, DeclSyntax, PathSyntax, Stop, TypeSyntax};
+use schema_syntax_parser::{AppSyntax, AttrSyntax, DeclSyntax, PathSyntax, TypeSyntax};
 use schema_syntax_tokens::Token;
 use schema_syntax_tree::{
     ActionDecl, Declaration, DefinedActionDecl, EntityDecl, EnumEntityDecl, ExternalActionDecl,
     ExternalEntityDecl, StandardEntityDecl, TypeDecl,
 };
 use std::alloc::Global;
-use std::collections::VecDeque;
 
 // Entity types.
-#[tactic(auto, unfolding(crate::specs::Building::entity_from))]
 fn entity<'a>(
     alloc: Global,
+    text: &'a str,
     names: &[Token],
     parents: &[PathSyntax],
     shape_raw: &Option<(List<AttrSyntax>, Loc)>,
     tags_raw: &Option<TypeSyntax>,
-    leaves: &mut VecDeque<Leaf<'a>>,
-) -> Result<Declaration<'a>, Stop>
-    ensures { GivesBuilt (λ x. x) result (entity_from names.now parents.now shape_raw.now tags_raw.now leaves.old.items) leaves.new.items }
+) -> Result<Declaration<'a>, Stopped>
+    requires { IsScanned IsDecl text.now (syntax.Entity names.now parents.now shape_raw.now tags_raw.now) }
+    ensures { let raw = syntax.Entity names.now parents.now shape_raw.now tags_raw.now in Reads text.now (decl_sites raw) (IsDeclOf text.now raw) result }
 {
-    let names = some::<Ids>(alloc, names, leaves)?;
-    let parents = all::<Paths>(alloc, parents, leaves)?;
-    let attrs = shape(alloc, shape_raw, leaves)?;
-    let tags = tags(alloc, tags_raw, leaves)?;
+    let names = some::<Ids>(alloc, text, names)?;
+    let parents = all::<Paths>(alloc, text, parents)?;
+    let attrs = shape(alloc, text, shape_raw)?;
+    let tags = tags(alloc, text, tags_raw)?;
     Ok(Declaration::Entity(EntityDecl::Standard(StandardEntityDecl {
         names,
         member_of_types: List::from_vec(parents),
@@ -41,32 +45,36 @@ fn entity<'a>(
 }
 
 // Entity types of listed ids.
-#[tactic(auto, unfolding(crate::specs::Building::enum_from))]
 fn listed<'a>(
     alloc: Global,
+    text: &'a str,
     names: &[Token],
     choices: &[Token],
-    leaves: &mut VecDeque<Leaf<'a>>,
-) -> Result<Declaration<'a>, Stop>
-    ensures { GivesBuilt (λ x. x) result (enum_from names.now choices.now leaves.old.items) leaves.new.items }
+    brackets: &Loc,
+) -> Result<Declaration<'a>, Stopped>
+    requires { IsScanned IsDecl text.now (syntax.Enum names.now choices.now brackets.now) }
+    ensures { let raw = syntax.Enum names.now choices.now brackets.now in Reads text.now (decl_sites raw) (IsDeclOf text.now raw) result }
 {
-    let names = some::<Ids>(alloc, names, leaves)?;
-    let choices = some::<Choices>(alloc, choices, leaves)?;
+    let names = some::<Ids>(alloc, text, names)?;
+    if choices.is_empty() {
+        return Err(empty_list(brackets));
+    }
+    let choices = some::<Choices>(alloc, text, choices)?;
     Ok(Declaration::Entity(EntityDecl::Enum(EnumEntityDecl { names, choices })))
 }
 
 // Entity types of another schema.
-#[tactic(auto, unfolding(crate::specs::Building::external_entity_from))]
 fn external_entity<'a>(
     alloc: Global,
+    text: &'a str,
     names: &[Token],
     parents: &[PathSyntax],
-    leaves: &mut VecDeque<Leaf<'a>>,
-) -> Result<Declaration<'a>, Stop>
-    ensures { GivesBuilt (λ x. x) result (external_entity_from names.now parents.now leaves.old.items) leaves.new.items }
+) -> Result<Declaration<'a>, Stopped>
+    requires { IsScanned IsDecl text.now (syntax.ExternalEntity names.now parents.now) }
+    ensures { let raw = syntax.ExternalEntity names.now parents.now in Reads text.now (decl_sites raw) (IsDeclOf text.now raw) result }
 {
-    let names = some::<Ids>(alloc, names, leaves)?;
-    let parents = all::<Paths>(alloc, parents, leaves)?;
+    let names = some::<Ids>(alloc, text, names)?;
+    let parents = all::<Paths>(alloc, text, parents)?;
     Ok(Declaration::Entity(EntityDecl::External(ExternalEntityDecl {
         names,
         member_of_types: List::from_vec(parents),
@@ -74,19 +82,19 @@ fn external_entity<'a>(
 }
 
 // Actions.
-#[tactic(auto, unfolding(crate::specs::Building::action_from))]
 fn action<'a>(
     alloc: Global,
+    text: &'a str,
     names: &[Token],
     parents: &[PathSyntax],
     applies_raw: &Option<(List<AppSyntax>, Loc)>,
-    leaves: &mut VecDeque<Leaf<'a>>,
-) -> Result<Declaration<'a>, Stop>
-    ensures { GivesBuilt (λ x. x) result (action_from names.now parents.now applies_raw.now leaves.old.items) leaves.new.items }
+) -> Result<Declaration<'a>, Stopped>
+    requires { IsScanned IsDecl text.now (syntax.Action names.now parents.now applies_raw.now) }
+    ensures { let raw = syntax.Action names.now parents.now applies_raw.now in Reads text.now (decl_sites raw) (IsDeclOf text.now raw) result }
 {
-    let names = some::<Names>(alloc, names, leaves)?;
-    let parents = optional::<References>(alloc, parents, leaves)?;
-    let app_decls = applies(alloc, applies_raw, leaves)?;
+    let names = some::<Names>(alloc, text, names)?;
+    let parents = optional::<References>(alloc, text, parents)?;
+    let app_decls = applies(alloc, text, applies_raw)?;
     let decl = DefinedActionDecl {
         names,
         parents,
@@ -97,44 +105,41 @@ fn action<'a>(
 }
 
 // Actions of another schema.
-#[tactic(auto, unfolding(crate::specs::Building::external_action_from))]
 fn external_action<'a>(
     alloc: Global,
+    text: &'a str,
     names: &[Token],
     parents: &[PathSyntax],
-    leaves: &mut VecDeque<Leaf<'a>>,
-) -> Result<Declaration<'a>, Stop>
-    ensures { GivesBuilt (λ x. x) result (external_action_from names.now parents.now leaves.old.items) leaves.new.items }
+) -> Result<Declaration<'a>, Stopped>
+    requires { IsScanned IsDecl text.now (syntax.ExternalAction names.now parents.now) }
+    ensures { let raw = syntax.ExternalAction names.now parents.now in Reads text.now (decl_sites raw) (IsDeclOf text.now raw) result }
 {
-    let names = some::<Names>(alloc, names, leaves)?;
-    let parents = optional::<References>(alloc, parents, leaves)?;
+    let names = some::<Names>(alloc, text, names)?;
+    let parents = optional::<References>(alloc, text, parents)?;
     let decl = ExternalActionDecl { names, parents };
     let decl = Boxed::new(alloc, ActionDecl::External(decl))?;
     Ok(Declaration::Action(decl))
 }
 
 // A common type.
-#[tactic(auto, unfolding(crate::specs::Building::common_from))]
 fn common<'a>(
     alloc: Global,
+    text: &'a str,
     name: &Token,
     raw: &TypeSyntax,
-    leaves: &mut VecDeque<Leaf<'a>>,
-) -> Result<Declaration<'a>, Stop>
-    ensures { GivesBuilt (λ x. x) result (common_from name.now raw.now leaves.old.items) leaves.new.items }
+) -> Result<Declaration<'a>, Stopped>
+    requires { IsScanned IsDecl text.now (syntax.Common name.now raw.now) }
+    ensures { Reads text.now (decl_sites (syntax.Common name.now raw.now)) (IsDeclOf text.now (syntax.Common name.now raw.now)) result }
 {
-    let name = id_node(name, leaves)?;
-    let def = ty(alloc, raw, leaves)?;
+    let name = id_node(alloc, text, name)?;
+    let def = ty(alloc, text, raw)?;
     Ok(Declaration::Common(TypeDecl { name, def }))
 }
 
 // A declaration without its annotations.
-pub fn decl<'a>(
-    alloc: Global,
-    raw: &DeclSyntax,
-    leaves: &mut VecDeque<Leaf<'a>>,
-) -> Result<Declaration<'a>, Stop>
-    ensures { GivesBuilt (λ x. x) result (decl_from raw.now leaves.old.items) leaves.new.items }
+pub fn decl<'a>(alloc: Global, text: &'a str, raw: &DeclSyntax) -> Result<Declaration<'a>, Stopped>
+    requires { IsScanned IsDecl text.now raw.now }
+    ensures { Reads text.now (decl_sites raw.now) (IsDeclOf text.now raw.now) result }
 {
     match raw {
         DeclSyntax::Entity {
@@ -144,26 +149,28 @@ pub fn decl<'a>(
             tags,
         } => entity(
             alloc,
+            text,
             names.as_slice(),
             parents.as_slice(),
             shape,
             tags,
-            leaves,
         ),
-        DeclSyntax::Enum { names, choices, .. } => {
-            listed(alloc, names.as_slice(), choices.as_slice(), leaves)
-        }
+        DeclSyntax::Enum {
+            names,
+            choices,
+            brackets,
+        } => listed(alloc, text, names.as_slice(), choices.as_slice(), brackets),
         DeclSyntax::ExternalEntity { names, parents } => {
-            external_entity(alloc, names.as_slice(), parents.as_slice(), leaves)
+            external_entity(alloc, text, names.as_slice(), parents.as_slice())
         }
         DeclSyntax::Action {
             names,
             parents,
             applies,
-        } => action(alloc, names.as_slice(), parents.as_slice(), applies, leaves),
+        } => action(alloc, text, names.as_slice(), parents.as_slice(), applies),
         DeclSyntax::ExternalAction { names, parents } => {
-            external_action(alloc, names.as_slice(), parents.as_slice(), leaves)
+            external_action(alloc, text, names.as_slice(), parents.as_slice())
         }
-        DeclSyntax::Common { name, ty } => common(alloc, name, ty, leaves),
+        DeclSyntax::Common { name, ty } => common(alloc, text, name, ty),
     }
 }

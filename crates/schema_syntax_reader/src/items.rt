@@ -1,27 +1,31 @@
-ghost use Rattle.schema_syntax_reader.specs.Building.{GivesBuilt, declared_from, namespace_from, outside_from, item_from};
+ghost use Rattle.schema_syntax_parser.specs.Syntax.{IsDeclared, IsItem};
+ghost use Rattle.schema_syntax_parser.specs.declared.syntax.ItemSyntax.TheVariants as syntax;
+ghost use Rattle.schema_syntax_reader.specs.Sites.{declared_sites, item_sites};
+ghost use Rattle.schema_syntax_reader.specs.Placed.{IsScanned};
+ghost use Rattle.schema_syntax_reader.specs.Readings.{Reads};
+ghost use Rattle.schema_syntax_reader.specs.Trees.{IsDeclaredOf, IsItemOf};
 
 use crate::decls::decl;
-use crate::leaf::Leaf;
 use crate::names::notes;
 use crate::parts::{Part, all};
 use crate::paths::path;
+use crate::stopped::Stopped;
 use cedar_data::{List, Loc, Node};
-use schema_syntax_parser::{DeclaredSyntax, ItemSyntax, PathSyntax, Stop};
+use schema_syntax_parser::{AnnotationSyntax, DeclaredSyntax, ItemSyntax, PathSyntax};
 use schema_syntax_tree::{Annotated, Declaration, Namespace, SrcAnnotations};
 use std::alloc::Global;
-use std::collections::VecDeque;
 
 // A declaration with its annotations.
-#[tactic(auto, unfolding(crate::specs::Building::declared_from))]
 fn declared<'a>(
     alloc: Global,
+    text: &'a str,
     raw: &DeclaredSyntax,
-    leaves: &mut VecDeque<Leaf<'a>>,
-) -> Result<Annotated<'a, Node<Declaration<'a>>>, Stop>
-    ensures { GivesBuilt (λ x. x) result (declared_from raw.now leaves.old.items) leaves.new.items }
+) -> Result<Annotated<'a, Node<Declaration<'a>>>, Stopped>
+    requires { IsScanned IsDeclared text.now raw.now }
+    ensures { Reads text.now (declared_sites raw.now) (IsDeclaredOf text.now raw.now) result }
 {
-    let annotations = notes(leaves)?;
-    let node = decl(alloc, &raw.decl, leaves)?;
+    let annotations = notes(alloc, text, raw.annotations.as_slice())?;
+    let node = decl(alloc, text, &raw.decl)?;
     let item = Node {
         node,
         loc: Some(raw.loc),
@@ -37,49 +41,54 @@ impl<'a> Part<'a> for Decls {
 
     type Item = Annotated<'a, Node<Declaration<'a>>>;
 
-    ghost builds = { declared_from };
+    ghost fits = { IsScanned IsDeclared };
 
-    fn build(
+    ghost sites = { declared_sites };
+
+    ghost stands_for = { IsDeclaredOf };
+
+    fn read(
         alloc: Global,
+        text: &'a str,
         raw: &DeclaredSyntax,
-        leaves: &mut VecDeque<Leaf<'a>>,
-    ) -> Result<Annotated<'a, Node<Declaration<'a>>>, Stop> {
-        declared(alloc, raw, leaves)
+    ) -> Result<Annotated<'a, Node<Declaration<'a>>>, Stopped> {
+        declared(alloc, text, raw)
     }
 }
 
-// A namespace, from its path, its declarations and its place.
-#[tactic(auto, unfolding(crate::specs::Building::namespace_from))]
+// A namespace, from its annotations, its path, its declarations and its place.
 fn namespace<'a>(
     alloc: Global,
+    text: &'a str,
+    list: &[AnnotationSyntax],
     name: &PathSyntax,
     decls: &[DeclaredSyntax],
-    loc: Loc,
-    leaves: &mut VecDeque<Leaf<'a>>,
-) -> Result<Annotated<'a, Namespace<'a>>, Stop>
-    ensures { GivesBuilt (λ x. x) result (namespace_from name.now decls.now loc leaves.old.items) leaves.new.items }
+    loc: &Loc,
+) -> Result<Annotated<'a, Namespace<'a>>, Stopped>
+    requires { IsScanned IsItem text.now (syntax.Namespace list.now name.now decls.now loc.now) }
+    ensures { let raw = syntax.Namespace list.now name.now decls.now loc.now in Reads text.now (item_sites raw) (IsItemOf text.now raw) result }
 {
-    let annotations = notes(leaves)?;
-    let name = path(alloc, name, leaves)?;
-    let decls = all::<Decls>(alloc, decls, leaves)?;
+    let annotations = notes(alloc, text, list)?;
+    let name = path(alloc, text, name)?;
+    let decls = all::<Decls>(alloc, text, decls)?;
     let item = Namespace {
         name: Some(name),
         decls: List::from_vec(decls),
-        loc: Some(loc),
+        loc: Some(*loc),
     };
     Ok(Annotated { item, annotations })
 }
 
 // A declaration outside of every namespace: it is alone in one without name, place and annotations.
-#[tactic(auto, unfolding(crate::specs::Building::outside_from))]
 fn outside<'a>(
     alloc: Global,
+    text: &'a str,
     raw: &DeclaredSyntax,
-    leaves: &mut VecDeque<Leaf<'a>>,
-) -> Result<Annotated<'a, Namespace<'a>>, Stop>
-    ensures { GivesBuilt (λ x. x) result (outside_from raw.now leaves.old.items) leaves.new.items }
+) -> Result<Annotated<'a, Namespace<'a>>, Stopped>
+    requires { IsScanned IsItem text.now (syntax.Decl raw.now) }
+    ensures { Reads text.now (item_sites (syntax.Decl raw.now)) (IsItemOf text.now (syntax.Decl raw.now)) result }
 {
-    let decl = declared(alloc, raw, leaves)?;
+    let decl = declared(alloc, text, raw)?;
     let mut decls = Vec::with_capacity(alloc, 1)?;
     decls.push(decl)?;
     let item = Namespace {
@@ -99,18 +108,22 @@ impl<'a> Part<'a> for Items {
 
     type Item = Annotated<'a, Namespace<'a>>;
 
-    ghost builds = { item_from };
+    ghost fits = { IsScanned IsItem };
 
-    fn build(
+    ghost sites = { item_sites };
+
+    ghost stands_for = { IsItemOf };
+
+    fn read(
         alloc: Global,
+        text: &'a str,
         raw: &ItemSyntax,
-        leaves: &mut VecDeque<Leaf<'a>>,
-    ) -> Result<Annotated<'a, Namespace<'a>>, Stop> {
+    ) -> Result<Annotated<'a, Namespace<'a>>, Stopped> {
         match raw {
-            ItemSyntax::Namespace(_, name, decls, loc) => {
-                namespace(alloc, name, decls.as_slice(), *loc, leaves)
+            ItemSyntax::Namespace(list, name, decls, loc) => {
+                namespace(alloc, text, list.as_slice(), name, decls.as_slice(), loc)
             }
-            ItemSyntax::Decl(raw) => outside(alloc, raw, leaves),
+            ItemSyntax::Decl(raw) => outside(alloc, text, raw),
         }
     }
 }

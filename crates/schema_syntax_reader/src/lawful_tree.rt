@@ -5,10 +5,10 @@ ghost use Rattle.schema_syntax_tokens.specs.Scans.{Scans, IsPlaced};
 ghost use Rattle.schema_syntax_tokens.specs.TokenLists.{kinds_of};
 ghost use Rattle.schema_syntax_reader.specs.LawfulTrees.{IsLawfulTree, IsStopOf};
 
-use crate::leaves::leaves_of;
-use crate::sites::sites_of;
+use crate::items::Items;
+use crate::parts::all;
 use crate::stopped::Stopped;
-use crate::trees::tree_of;
+use cedar_data::List;
 use schema_syntax_parser::syntax_of;
 use schema_syntax_tokens::Token;
 use schema_syntax_tree::Schema;
@@ -28,13 +28,6 @@ pub fn tree_of_tokens<'a>(
 {
     let items = syntax_of(alloc, &tokens)?;
     drop(tokens);
-    let items = items.as_slice();
-    let leaves = {
-        let sites = sites_of(alloc, items)?;
-        leaves_of(alloc, text, &sites)?
-    };
-    match tree_of(alloc, items, leaves) {
-        Ok(schema) => Ok(schema),
-        Err(_) => Err(Stopped::Memory),
-    }
+    let namespaces = all::<Items>(alloc, text, items.as_slice())?;
+    Ok(List::from_vec(namespaces))
 }

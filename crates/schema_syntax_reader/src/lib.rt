@@ -6,17 +6,12 @@ pub mod annotations;
 mod decls;
 mod items;
 pub mod lawful_tree;
-mod leaf;
-mod leaves;
 mod names;
 mod notes;
 mod parts;
 mod paths;
-mod site;
-mod sites;
 pub mod stopped;
 mod strings;
-mod trees;
 mod types;
 mod words;
 

@@ -1,81 +1,90 @@
-ghost use Rattle.schema_syntax_reader.specs.Building.{GivesBuilt, id_from, text_from, notes_from, name_from, bare_id_from, id_node_from, name_node_from, choice_from};
+ghost use Rattle.std.specs.Prelude.{◌≡◌, ◌∷◌, [], true};
+ghost use Rattle.schema_syntax_tokens.specs.Scans.{IsPlaced};
+ghost use Rattle.schema_syntax_parser.specs.Syntax.{AreAnnotations};
+ghost use Rattle.schema_syntax_reader.specs.Sites.{name_sites, annotations, word};
+ghost use Rattle.schema_syntax_reader.specs.Leaves.{AreNotes};
+ghost use Rattle.schema_syntax_reader.specs.Placed.{IsScanned, IsPlacedSite, IsPlacedString, IsPlacedName};
+ghost use Rattle.schema_syntax_reader.specs.Readings.{Reads};
+ghost use Rattle.schema_syntax_reader.specs.Trees.{IsId, IsIdNode, IsNameOf, IsNameNode, IsChoice};
 
-use crate::leaf::Leaf;
+use crate::notes::notes_of;
 use crate::parts::Part;
+use crate::stopped::Stopped;
+use crate::strings::string_value;
+use crate::words::name_word;
 use cedar_data::Node;
-use schema_syntax_parser::Stop;
+use schema_syntax_grammar::TokenKind;
+use schema_syntax_parser::AnnotationSyntax;
 use schema_syntax_tokens::Token;
 use schema_syntax_tree::{SrcAnnotations, SrcId, SrcStr};
 use std::alloc::Global;
-use std::collections::VecDeque;
 
-// What the word that comes next stands for.
-fn id<'a>(leaves: &mut VecDeque<Leaf<'a>>) -> Result<SrcId<'a>, Stop>
-    ensures { GivesBuilt (λ x. x) result (id_from leaves.old.items) leaves.new.items }
+// The annotations of an item.
+pub fn notes<'a>(
+    alloc: Global,
+    text: &'a str,
+    list: &[AnnotationSyntax],
+) -> Result<SrcAnnotations<'a>, Stopped>
+    requires { IsScanned AreAnnotations text.now list.now }
+    ensures { Reads text.now (annotations list.now ∷ []) (λ notes. AreNotes text.now list.now notes.0) result }
 {
-    match leaves.pop_front() {
-        Some(Leaf::Word(id)) => Ok(id),
-        Some(Leaf::Text(_text)) => Err(Stop::Mismatch),
-        Some(Leaf::Annotations(_notes)) => Err(Stop::Mismatch),
-        None => Err(Stop::Mismatch),
-    }
+    notes_of(alloc, text, list)
 }
 
-// What the string that comes next stands for.
-fn text<'a>(leaves: &mut VecDeque<Leaf<'a>>) -> Result<SrcStr<'a>, Stop>
-    ensures { GivesBuilt (λ x. x) result (text_from leaves.old.items) leaves.new.items }
+// An id.
+fn id<'a>(alloc: Global, text: &'a str, token: &Token) -> Result<SrcId<'a>, Stopped>
+    requires { IsPlacedSite text.now (word token.now) }
+    ensures { Reads text.now (name_sites token.now) (IsId text.now token.now) result }
 {
-    match leaves.pop_front() {
-        Some(Leaf::Text(text)) => Ok(text),
-        Some(Leaf::Word(_word)) => Err(Stop::Mismatch),
-        Some(Leaf::Annotations(_notes)) => Err(Stop::Mismatch),
-        None => Err(Stop::Mismatch),
-    }
+    name_word(alloc, text, token)
 }
 
-// What the annotations that come next stand for.
-pub fn notes<'a>(leaves: &mut VecDeque<Leaf<'a>>) -> Result<SrcAnnotations<'a>, Stop>
-    ensures { GivesBuilt (λ x. x) result (notes_from leaves.old.items) leaves.new.items }
+// An id, with its place.
+pub fn id_node<'a>(alloc: Global, text: &'a str, token: &Token) -> Result<Node<SrcId<'a>>, Stopped>
+    requires { IsPlacedSite text.now (word token.now) }
+    ensures { Reads text.now (name_sites token.now) (IsIdNode text.now token.now) result }
 {
-    match leaves.pop_front() {
-        Some(Leaf::Annotations(notes)) => Ok(notes),
-        Some(Leaf::Word(_word)) => Err(Stop::Mismatch),
-        Some(Leaf::Text(_text)) => Err(Stop::Mismatch),
-        None => Err(Stop::Mismatch),
-    }
-}
-
-// What the name that comes next stands for.
-pub fn name<'a>(leaves: &mut VecDeque<Leaf<'a>>) -> Result<SrcStr<'a>, Stop>
-    ensures { GivesBuilt (λ x. x) result (name_from leaves.old.items) leaves.new.items }
-{
-    match leaves.pop_front() {
-        Some(Leaf::Word(id)) => Ok(SrcStr::from_id(&id)),
-        Some(Leaf::Text(text)) => Ok(text),
-        Some(Leaf::Annotations(_notes)) => Err(Stop::Mismatch),
-        None => Err(Stop::Mismatch),
-    }
-}
-
-// An id with the place of its token.
-pub fn id_node<'a>(token: &Token, leaves: &mut VecDeque<Leaf<'a>>) -> Result<Node<SrcId<'a>>, Stop>
-    ensures { GivesBuilt (λ x. x) result (id_node_from token.now leaves.old.items) leaves.new.items }
-{
-    let node = id(leaves)?;
+    let node = id(alloc, text, token)?;
     Ok(Node {
         node,
         loc: Some(token.loc),
     })
 }
 
-// A name with the place of its token.
-pub fn name_node<'a>(
-    token: &Token,
-    leaves: &mut VecDeque<Leaf<'a>>,
-) -> Result<Node<SrcStr<'a>>, Stop>
-    ensures { GivesBuilt (λ x. x) result (name_node_from token.now leaves.old.items) leaves.new.items }
+// A name: a word, or a string.
+pub fn name<'a>(alloc: Global, text: &'a str, token: &Token) -> Result<SrcStr<'a>, Stopped>
+    requires { IsPlacedName text.now token.now }
+    ensures { Reads text.now (name_sites token.now) (IsNameOf text.now token.now.kind token.now) result }
 {
-    let node = name(leaves)?;
+    if token.kind == TokenKind::StringLit {
+        return string_value(alloc, text, token);
+    }
+    let id = name_word(alloc, text, token)?;
+    Ok(SrcStr::from_id(&id))
+}
+
+// A name, with its place.
+pub fn name_node<'a>(
+    alloc: Global,
+    text: &'a str,
+    token: &Token,
+) -> Result<Node<SrcStr<'a>>, Stopped>
+    requires { IsPlacedName text.now token.now }
+    ensures { Reads text.now (name_sites token.now) (IsNameNode text.now token.now) result }
+{
+    let node = name(alloc, text, token)?;
+    Ok(Node {
+        node,
+        loc: Some(token.loc),
+    })
+}
+
+// The id of an entity, with its place.
+fn choice<'a>(alloc: Global, text: &'a str, token: &Token) -> Result<Node<SrcStr<'a>>, Stopped>
+    requires { IsPlacedString text.now token.now }
+    ensures { Reads text.now (name_sites token.now) (IsChoice text.now token.now) result }
+{
+    let node = string_value(alloc, text, token)?;
     Ok(Node {
         node,
         loc: Some(token.loc),
@@ -90,14 +99,14 @@ impl<'a> Part<'a> for BareIds {
 
     type Item = SrcId<'a>;
 
-    ghost builds = { bare_id_from };
+    ghost fits = { λ text token. IsPlacedSite text (word token) };
 
-    fn build(
-        _alloc: Global,
-        _raw: &Token,
-        leaves: &mut VecDeque<Leaf<'a>>,
-    ) -> Result<SrcId<'a>, Stop> {
-        id(leaves)
+    ghost sites = { name_sites };
+
+    ghost stands_for = { IsId };
+
+    fn read(alloc: Global, text: &'a str, raw: &Token) -> Result<SrcId<'a>, Stopped> {
+        id(alloc, text, raw)
     }
 }
 
@@ -109,14 +118,14 @@ impl<'a> Part<'a> for Ids {
 
     type Item = Node<SrcId<'a>>;
 
-    ghost builds = { id_node_from };
+    ghost fits = { λ text token. IsPlacedSite text (word token) };
 
-    fn build(
-        _alloc: Global,
-        raw: &Token,
-        leaves: &mut VecDeque<Leaf<'a>>,
-    ) -> Result<Node<SrcId<'a>>, Stop> {
-        id_node(raw, leaves)
+    ghost sites = { name_sites };
+
+    ghost stands_for = { IsIdNode };
+
+    fn read(alloc: Global, text: &'a str, raw: &Token) -> Result<Node<SrcId<'a>>, Stopped> {
+        id_node(alloc, text, raw)
     }
 }
 
@@ -128,14 +137,14 @@ impl<'a> Part<'a> for Names {
 
     type Item = Node<SrcStr<'a>>;
 
-    ghost builds = { name_node_from };
+    ghost fits = { IsPlacedName };
 
-    fn build(
-        _alloc: Global,
-        raw: &Token,
-        leaves: &mut VecDeque<Leaf<'a>>,
-    ) -> Result<Node<SrcStr<'a>>, Stop> {
-        name_node(raw, leaves)
+    ghost sites = { name_sites };
+
+    ghost stands_for = { IsNameNode };
+
+    fn read(alloc: Global, text: &'a str, raw: &Token) -> Result<Node<SrcStr<'a>>, Stopped> {
+        name_node(alloc, text, raw)
     }
 }
 
@@ -147,17 +156,13 @@ impl<'a> Part<'a> for Choices {
 
     type Item = Node<SrcStr<'a>>;
 
-    ghost builds = { choice_from };
+    ghost fits = { IsPlacedString };
 
-    fn build(
-        _alloc: Global,
-        raw: &Token,
-        leaves: &mut VecDeque<Leaf<'a>>,
-    ) -> Result<Node<SrcStr<'a>>, Stop> {
-        let value = text(leaves)?;
-        Ok(Node {
-            node: value,
-            loc: Some(raw.loc),
-        })
+    ghost sites = { name_sites };
+
+    ghost stands_for = { IsChoice };
+
+    fn read(alloc: Global, text: &'a str, raw: &Token) -> Result<Node<SrcStr<'a>>, Stopped> {
+        choice(alloc, text, raw)
     }
 }

@@ -1,78 +1,73 @@
-ghost use Rattle.std.specs.Prelude.{◌≡◌};
-ghost use Rattle.schema_syntax_reader.specs.Building.{GivesBuilt, all_from, some_from, optional_from, at_least_one};
+ghost use Rattle.std.specs.Prelude.{◌<◌, length};
+ghost use Rattle.std.specs.List.{All, AllZip, flat_map};
+ghost use Rattle.schema_syntax_reader.specs.Readings.{Reads};
+ghost use Rattle.schema_syntax_reader.specs.Trees.{IsOptional};
 
-use crate::leaf::Leaf;
+use crate::stopped::Stopped;
 use cedar_data::NonEmpty;
-use schema_syntax_parser::Stop;
 use std::alloc::Global;
-use std::collections::VecDeque;
 
-/// What is built of a part of a syntax, from the leaves that come next.
+/// A kind of parts of a syntax: where it is read, its sites, and what it stands for.
 pub trait Part<'a> {
-    ghost use Rattle.schema_syntax_reader.specs.Building.{Builds, GivesBuilt};
+    ghost use Rattle.std.specs.Prelude.{ℕ, List};
+    ghost use Rattle.schema_syntax_reader.specs.Sites.{Site};
+    ghost use Rattle.schema_syntax_reader.specs.Readings.{Reads};
 
     type Raw;
 
     type Item: Drop;
 
-    ghost builds: { Self.Raw → Builds Self.Item };
+    ghost fits: { List ℕ → Self.Raw → Type 0 };
 
-    fn build(
-        alloc: Global,
-        raw: &Self::Raw,
-        leaves: &mut VecDeque<Leaf<'a>>,
-    ) -> Result<Self::Item, Stop>
-        ensures { GivesBuilt (λ x. x) result (builds raw.now leaves.old.items) leaves.new.items };
+    ghost sites: { Self.Raw → List Site };
+
+    ghost stands_for: { List ℕ → Self.Raw → Self.Item → Type 0 };
+
+    fn read(alloc: Global, text: &'a str, raw: &Self::Raw) -> Result<Self::Item, Stopped>
+        requires { fits text.now raw.now }
+        ensures { Reads text.now (sites raw.now) (stands_for text.now raw.now) result };
 }
 
-// What is built of the parts, in order.
+// The parts, in order.
 pub fn all<'a, P: Part<'a>>(
     alloc: Global,
+    text: &'a str,
     raws: &[P::Raw],
-    leaves: &mut VecDeque<Leaf<'a>>,
-) -> Result<Vec<P::Item>, Stop>
-    ensures { GivesBuilt (λ v. v.items) result (all_from P.builds raws.now leaves.old.items) leaves.new.items }
+) -> Result<Vec<P::Item>, Stopped>
+    requires { All (P.fits text.now) raws.now }
+    ensures { Reads text.now (flat_map P.sites raws.now) (λ items. AllZip (P.stands_for text.now) raws.now items.items) result }
 {
     let mut items = Vec::with_capacity(alloc, raws.len())?;
     for raw in raws {
-        let item = P::build(alloc, raw, leaves)?;
+        let item = P::read(alloc, text, raw)?;
         items.push(item)?;
     }
     Ok(items)
 }
 
-// The list, where it has an item.
-fn at_least_one<T: Drop>(items: Vec<T>) -> Option<NonEmpty<T>>
-    ensures { result ≡ at_least_one items.items }
-{
-    NonEmpty::from_vec(items)
-}
-
-// What is built of the parts, of which there is one at least.
-#[tactic(auto, unfolding(crate::specs::Building::some_from))]
+// The parts, of which there is one at least.
 pub fn some<'a, P: Part<'a>>(
     alloc: Global,
+    text: &'a str,
     raws: &[P::Raw],
-    leaves: &mut VecDeque<Leaf<'a>>,
-) -> Result<NonEmpty<P::Item>, Stop>
-    ensures { GivesBuilt (λ list. list) result (some_from P.builds raws.now leaves.old.items) leaves.new.items }
+) -> Result<NonEmpty<P::Item>, Stopped>
+    requires fits { All (P.fits text.now) raws.now }
+    requires some { 0 < length raws.now }
+    ensures { Reads text.now (flat_map P.sites raws.now) (λ items. AllZip (P.stands_for text.now) raws.now items) result }
 {
-    let items = all::<P>(alloc, raws, leaves)?;
-    match at_least_one(items) {
-        Some(list) => Ok(list),
-        None => Err(Stop::Mismatch),
-    }
+    let items = all::<P>(alloc, text, raws)?;
+    Ok(NonEmpty::from_vec(items).unwrap())
 }
 
-// What is built of the parts, where there is one.
-#[tactic(auto, unfolding(crate::specs::Building::optional_from))]
+// The parts, where there is one.
 pub fn optional<'a, P: Part<'a>>(
     alloc: Global,
+    text: &'a str,
     raws: &[P::Raw],
-    leaves: &mut VecDeque<Leaf<'a>>,
-) -> Result<Option<NonEmpty<P::Item>>, Stop>
-    ensures { GivesBuilt (λ list. list) result (optional_from P.builds raws.now leaves.old.items) leaves.new.items }
+) -> Result<Option<NonEmpty<P::Item>>, Stopped>
+    requires { All (P.fits text.now) raws.now }
+    ensures { Reads text.now (flat_map P.sites raws.now) (λ items. IsOptional text.now (AllZip (P.stands_for text.now)) raws.now items) result }
 {
-    let items = all::<P>(alloc, raws, leaves)?;
-    Ok(at_least_one(items))
+    let items = all::<P>(alloc, text, raws)?;
+    Ok(NonEmpty::from_vec(items))
 }

@@ -1,84 +1,74 @@
-ghost use Rattle.std.specs.Prelude.{◌≡◌};
-ghost use Rattle.schema_syntax_reader.specs.Building.{GivesBuilt, path_of, names_from, path_from, type_of_ref_from, ref_from};
+ghost use Rattle.std.specs.Prelude.{◌≡◌, ◌<◌, Some, length};
+ghost use Rattle.std.specs.List.{All, AllZip};
+ghost use Rattle.schema_syntax_parser.specs.Syntax.{IsPath, IsRef};
+ghost use Rattle.schema_syntax_reader.specs.Sites.{names_sites, path_sites, word};
+ghost use Rattle.schema_syntax_reader.specs.Placed.{IsScanned, IsPlacedSite};
+ghost use Rattle.schema_syntax_reader.specs.Readings.{Reads};
+ghost use Rattle.schema_syntax_reader.specs.Trees.{IsId, IsPathOf, IsTypeOfRef, IsRefOf};
 
-use crate::leaf::Leaf;
 use crate::names::{BareIds, name};
 use crate::parts::{Part, all};
+use crate::stopped::Stopped;
 use cedar_data::{Loc, Node};
-use schema_syntax_parser::{PathSyntax, Stop};
+use schema_syntax_parser::PathSyntax;
 use schema_syntax_tokens::{Token, whole_place};
-use schema_syntax_tree::{Path, QualName, SrcId};
+use schema_syntax_tree::{Path, QualName};
 use std::alloc::Global;
-use std::collections::VecDeque;
-
-// The path of the ids, where there is one.
-fn path_of<'a>(mut ids: Vec<SrcId<'a>>, loc: Loc) -> Option<Path<'a>>
-    ensures { result ≡ path_of ids.entry.items loc }
-{
-    let basename = ids.pop()?;
-    Some(Path::new(basename, ids, Some(loc)))
-}
 
 // The path of the names, which has this place.
-#[tactic(auto, unfolding(crate::specs::Building::names_from))]
 fn path_of_names<'a>(
     alloc: Global,
+    text: &'a str,
     names: &[Token],
     loc: Loc,
-    leaves: &mut VecDeque<Leaf<'a>>,
-) -> Result<Path<'a>, Stop>
-    ensures { GivesBuilt (λ x. x) result (names_from names.now loc leaves.old.items) leaves.new.items }
+) -> Result<Path<'a>, Stopped>
+    requires words { All (λ t. IsPlacedSite text.now (word t)) names.now }
+    requires some { 0 < length names.now }
+    ensures { Reads text.now (names_sites names.now) (λ path. AllZip (IsId text.now) names.now path.ids × (path.loc ≡ Some loc)) result }
 {
-    let ids = all::<BareIds>(alloc, names, leaves)?;
-    match path_of(ids, loc) {
-        Some(path) => Ok(path),
-        None => Err(Stop::Mismatch),
-    }
+    let mut ids = all::<BareIds>(alloc, text, names)?;
+    let basename = ids.pop().unwrap();
+    Ok(Path::new(basename, ids, Some(loc)))
 }
 
 // A path.
-#[tactic(auto, unfolding(crate::specs::Building::path_from))]
-pub fn path<'a>(
-    alloc: Global,
-    raw: &PathSyntax,
-    leaves: &mut VecDeque<Leaf<'a>>,
-) -> Result<Path<'a>, Stop>
-    ensures { GivesBuilt (λ x. x) result (path_from raw.now leaves.old.items) leaves.new.items }
+pub fn path<'a>(alloc: Global, text: &'a str, raw: &PathSyntax) -> Result<Path<'a>, Stopped>
+    requires { IsScanned IsPath text.now raw.now }
+    ensures { Reads text.now (path_sites raw.now) (IsPathOf text.now raw.now) result }
 {
-    path_of_names(alloc, raw.names.as_slice(), raw.loc, leaves)
+    path_of_names(alloc, text, raw.names.as_slice(), raw.loc)
 }
 
 // The path of a reference's type, where one stands before the id.
-#[tactic(auto, unfolding(crate::specs::Building::type_of_ref_from))]
 fn type_of_reference<'a>(
     alloc: Global,
+    text: &'a str,
     names: &[Token],
-    leaves: &mut VecDeque<Leaf<'a>>,
-) -> Result<Option<Path<'a>>, Stop>
-    ensures { GivesBuilt (λ x. x) result (type_of_ref_from names.now leaves.old.items) leaves.new.items }
+) -> Result<Option<Path<'a>>, Stopped>
+    requires { All (λ t. IsPlacedSite text.now (word t)) names.now }
+    ensures { Reads text.now (names_sites names.now) (IsTypeOfRef text.now names.now) result }
 {
     match names {
         [] => Ok(None),
         [_, ..] => {
-            let path = path_of_names(alloc, names, whole_place(names), leaves)?;
+            let path = path_of_names(alloc, text, names, whole_place(names))?;
             Ok(Some(path))
         }
     }
 }
 
 // A reference to an action.
-#[tactic(auto, unfolding(crate::specs::Building::ref_from))]
 fn reference<'a>(
     alloc: Global,
+    text: &'a str,
     raw: &PathSyntax,
-    leaves: &mut VecDeque<Leaf<'a>>,
-) -> Result<Node<QualName<'a>>, Stop>
-    ensures { GivesBuilt (λ x. x) result (ref_from raw.now leaves.old.items) leaves.new.items }
+) -> Result<Node<QualName<'a>>, Stopped>
+    requires { IsScanned IsRef text.now raw.now }
+    ensures { Reads text.now (path_sites raw.now) (IsRefOf text.now raw.now) result }
 {
-    let names = raw.names.as_slice();
-    let (front, _) = names.split_at(names.len().saturating_sub(1));
-    let path = type_of_reference(alloc, front, leaves)?;
-    let eid = name(leaves)?;
+    let (last, front) = raw.names.as_slice().split_last().unwrap();
+    let path = type_of_reference(alloc, text, front)?;
+    let eid = name(alloc, text, last)?;
     Ok(Node {
         node: QualName { path, eid },
         loc: Some(raw.loc),
@@ -93,14 +83,14 @@ impl<'a> Part<'a> for Paths {
 
     type Item = Path<'a>;
 
-    ghost builds = { path_from };
+    ghost fits = { IsScanned IsPath };
 
-    fn build(
-        alloc: Global,
-        raw: &PathSyntax,
-        leaves: &mut VecDeque<Leaf<'a>>,
-    ) -> Result<Path<'a>, Stop> {
-        path(alloc, raw, leaves)
+    ghost sites = { path_sites };
+
+    ghost stands_for = { IsPathOf };
+
+    fn read(alloc: Global, text: &'a str, raw: &PathSyntax) -> Result<Path<'a>, Stopped> {
+        path(alloc, text, raw)
     }
 }
 
@@ -112,13 +102,13 @@ impl<'a> Part<'a> for References {
 
     type Item = Node<QualName<'a>>;
 
-    ghost builds = { ref_from };
+    ghost fits = { IsScanned IsRef };
 
-    fn build(
-        alloc: Global,
-        raw: &PathSyntax,
-        leaves: &mut VecDeque<Leaf<'a>>,
-    ) -> Result<Node<QualName<'a>>, Stop> {
-        reference(alloc, raw, leaves)
+    ghost sites = { path_sites };
+
+    ghost stands_for = { IsRefOf };
+
+    fn read(alloc: Global, text: &'a str, raw: &PathSyntax) -> Result<Node<QualName<'a>>, Stopped> {
+        reference(alloc, text, raw)
     }
 }

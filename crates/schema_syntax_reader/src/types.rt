@@ -1,34 +1,34 @@
-ghost use Rattle.schema_syntax_reader.specs.Building.{GivesBuilt, all_from, type_from, attr_from, shape_from, tags_from};
+ghost use Rattle.std.specs.List.{All, AllZip};
+ghost use Rattle.schema_syntax_parser.specs.Syntax.{IsType, IsAttr, IsShape, AreTags};
+ghost use Rattle.schema_syntax_reader.specs.Sites.{sites_of_type, sites_of_attr, sites_of_attrs, shape_sites, tags_sites};
+ghost use Rattle.schema_syntax_reader.specs.Placed.{IsScanned};
+ghost use Rattle.schema_syntax_reader.specs.Readings.{Reads, IsAttrOf};
+ghost use Rattle.schema_syntax_reader.specs.Trees.{IsTypeOf, AreAttrsOf, IsShapeOf, AreTagsOf};
 
-use crate::leaf::Leaf;
 use crate::names::{name_node, notes};
 use crate::paths::path;
+use crate::stopped::Stopped;
 use cedar_data::{Boxed, List, Loc, Node};
-use schema_syntax_parser::{AttrSyntax, Stop, TypeSyntax};
+use schema_syntax_parser::{AttrSyntax, TypeSyntax};
 use schema_syntax_tree::{Annotated, AttrDecl, Type};
 use std::alloc::Global;
-use std::collections::VecDeque;
 
 // A type.
-#[tactic(auto, using(crate::proofs::TypeSteps::type_path, crate::proofs::TypeSteps::type_set, crate::proofs::TypeSteps::type_record))]
 #[cycle(types)]
-pub fn ty<'a>(
-    alloc: Global,
-    raw: &TypeSyntax,
-    leaves: &mut VecDeque<Leaf<'a>>,
-) -> Result<Node<Type<'a>>, Stop>
-    ensures { GivesBuilt (λ x. x) result (type_from raw.now leaves.old.items) leaves.new.items }
+pub fn ty<'a>(alloc: Global, text: &'a str, raw: &TypeSyntax) -> Result<Node<Type<'a>>, Stopped>
+    requires { IsScanned IsType text.now raw.now }
+    ensures { Reads text.now (sites_of_type raw.now) (IsTypeOf text.now raw.now) result }
 {
     match raw {
         TypeSyntax::Path(raw) => {
-            let name = path(alloc, raw, leaves)?;
+            let name = path(alloc, text, raw)?;
             Ok(Node {
                 node: Type::Ident(name),
                 loc: Some(raw.loc),
             })
         }
         TypeSyntax::Set(element, loc) => {
-            let element = ty(alloc, element.get(), leaves)?;
+            let element = ty(alloc, text, element.get())?;
             let element = Boxed::new(alloc, element)?;
             Ok(Node {
                 node: Type::Set(element),
@@ -36,7 +36,7 @@ pub fn ty<'a>(
             })
         }
         TypeSyntax::Record(raws, loc) => {
-            let attrs = attrs(alloc, raws.as_slice(), leaves)?;
+            let attrs = attrs(alloc, text, raws.as_slice())?;
             Ok(Node {
                 node: Type::Record(List::from_vec(attrs)),
                 loc: Some(*loc),
@@ -46,18 +46,18 @@ pub fn ty<'a>(
 }
 
 // An attribute.
-#[tactic(auto, using(crate::proofs::TypeSteps::attr_out))]
 #[cycle(types)]
 fn attr<'a>(
     alloc: Global,
+    text: &'a str,
     raw: &AttrSyntax,
-    leaves: &mut VecDeque<Leaf<'a>>,
-) -> Result<Node<Annotated<'a, AttrDecl<'a>>>, Stop>
-    ensures { GivesBuilt (λ x. x) result (attr_from raw.now leaves.old.items) leaves.new.items }
+) -> Result<Node<Annotated<'a, AttrDecl<'a>>>, Stopped>
+    requires { IsScanned IsAttr text.now raw.now }
+    ensures { Reads text.now (sites_of_attr raw.now) (IsAttrOf text.now raw.now) result }
 {
-    let annotations = notes(leaves)?;
-    let name = name_node(&raw.name, leaves)?;
-    let ty = ty(alloc, &raw.ty, leaves)?;
+    let annotations = notes(alloc, text, raw.annotations.as_slice())?;
+    let name = name_node(alloc, text, &raw.name)?;
+    let ty = ty(alloc, text, &raw.ty)?;
     let required = raw.required;
     let item = AttrDecl { name, required, ty };
     Ok(Node {
@@ -70,27 +70,28 @@ fn attr<'a>(
 #[cycle(types)]
 pub fn attrs<'a>(
     alloc: Global,
+    text: &'a str,
     raws: &[AttrSyntax],
-    leaves: &mut VecDeque<Leaf<'a>>,
-) -> Result<Vec<Node<Annotated<'a, AttrDecl<'a>>>>, Stop>
-    ensures { GivesBuilt (λ v. v.items) result (all_from attr_from raws.now leaves.old.items) leaves.new.items }
+) -> Result<Vec<Node<Annotated<'a, AttrDecl<'a>>>>, Stopped>
+    requires { All (IsScanned IsAttr text.now) raws.now }
+    ensures { Reads text.now (sites_of_attrs raws.now) (λ attrs. AreAttrsOf text.now raws.now attrs.items) result }
 {
     let mut items = Vec::with_capacity(alloc, raws.len())?;
     for raw in raws {
-        let item = attr(alloc, raw, leaves)?;
+        let item = attr(alloc, text, raw)?;
         items.push(item)?;
     }
     Ok(items)
 }
 
 // The attributes of an entity type: none, and no place, where no record stands.
-#[tactic(auto, unfolding(crate::specs::Building::shape_from))]
 pub fn shape<'a>(
     alloc: Global,
+    text: &'a str,
     raw: &Option<(List<AttrSyntax>, Loc)>,
-    leaves: &mut VecDeque<Leaf<'a>>,
-) -> Result<Node<List<Node<Annotated<'a, AttrDecl<'a>>>>>, Stop>
-    ensures { GivesBuilt (λ x. x) result (shape_from raw.now leaves.old.items) leaves.new.items }
+) -> Result<Node<List<Node<Annotated<'a, AttrDecl<'a>>>>>, Stopped>
+    requires { IsScanned IsShape text.now raw.now }
+    ensures { Reads text.now (shape_sites raw.now) (IsShapeOf text.now raw.now) result }
 {
     match raw {
         None => Ok(Node {
@@ -98,7 +99,7 @@ pub fn shape<'a>(
             loc: None,
         }),
         Some((raws, loc)) => {
-            let attrs = attrs(alloc, raws.as_slice(), leaves)?;
+            let attrs = attrs(alloc, text, raws.as_slice())?;
             Ok(Node {
                 node: List::from_vec(attrs),
                 loc: Some(*loc),
@@ -108,18 +109,18 @@ pub fn shape<'a>(
 }
 
 // The type of the tags, where they are.
-#[tactic(auto, unfolding(crate::specs::Building::tags_from))]
 pub fn tags<'a>(
     alloc: Global,
+    text: &'a str,
     raw: &Option<TypeSyntax>,
-    leaves: &mut VecDeque<Leaf<'a>>,
-) -> Result<Option<Node<Type<'a>>>, Stop>
-    ensures { GivesBuilt (λ x. x) result (tags_from raw.now leaves.old.items) leaves.new.items }
+) -> Result<Option<Node<Type<'a>>>, Stopped>
+    requires { IsScanned AreTags text.now raw.now }
+    ensures { Reads text.now (tags_sites raw.now) (AreTagsOf text.now raw.now) result }
 {
     match raw {
         None => Ok(None),
         Some(raw) => {
-            let ty = ty(alloc, raw, leaves)?;
+            let ty = ty(alloc, text, raw)?;
             Ok(Some(ty))
         }
     }

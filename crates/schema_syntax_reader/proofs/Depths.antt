@@ -1,0 +1,56 @@
+-- How deep types are.
+use Rattle.std.proofs.Common.{◌≡◌, ◌<◌, ◌≤◌, ◌+◌, ℕ, List, [], ◌∷◌, length, map, get_or, sym, ap, ◌∙◌, subst, arith}
+use Rattle.std.proofs.Common.{zero, suc}
+use Rattle.cedar_data.specs.Span.{Span}
+use Rattle.schema_syntax_parser.specs.declared.syntax.TypeSyntax.{TypeSyntax}
+use Rattle.schema_syntax_parser.specs.declared.syntax.TypeSyntax.TheVariants.{Set, Record, rolls-Set, rolls-Record}
+use Rattle.schema_syntax_parser.specs.declared.syntax.TypeSyntax.TheOpen.{TypeSyntax-F, AttrSyntax-F}
+use Rattle.schema_syntax_parser.specs.declared.syntax.TypeSyntax.TheFolds.{fold-TypeSyntax, fold-AttrSyntax}
+use Rattle.schema_syntax_parser.specs.declared.syntax.TypeSyntax.TheFolds.{fold-roll-TypeSyntax, fold_out-AttrSyntax}
+use Rattle.schema_syntax_parser.specs.declared.syntax.AttrSyntax.{AttrSyntax, out-AttrSyntax}
+
+abbrev total : List ℕ → ℕ
+total [] = 0
+total (n ∷ ns) = n + total ns
+
+abbrev type_deep : TypeSyntax-F ℕ ℕ → ℕ
+type_deep (TypeSyntax-F.Path p) = 0
+type_deep (TypeSyntax-F.Set element loc) = element + 1
+type_deep (TypeSyntax-F.Record attrs loc) = total attrs + 1
+
+abbrev attr_deep : AttrSyntax-F ℕ ℕ → ℕ
+attr_deep a = a.ty
+
+abbrev pub type_depth : TypeSyntax → ℕ
+type_depth = fold-TypeSyntax ℕ ℕ type_deep attr_deep
+
+abbrev pub attr_depth : AttrSyntax → ℕ
+attr_depth = fold-AttrSyntax ℕ ℕ type_deep attr_deep
+
+abbrev pub attrs_depth : List AttrSyntax → ℕ
+attrs_depth attrs = total (map attr_depth attrs)
+
+pub set_deep : (t element : TypeSyntax) (loc : Span) → t ≡ Set element loc → type_depth t ≡ type_depth element + 1
+set_deep t element loc e =
+    ap type_depth (e ∙ sym (rolls-Set element loc))
+    ∙ fold-roll-TypeSyntax ℕ ℕ type_deep attr_deep (TypeSyntax-F.Set element loc)
+
+pub record_deep : (t : TypeSyntax) (attrs : List AttrSyntax) (loc : Span) → t ≡ Record attrs loc
+    → type_depth t ≡ attrs_depth attrs + 1
+record_deep t attrs loc e =
+    ap type_depth (e ∙ sym (rolls-Record attrs loc))
+    ∙ fold-roll-TypeSyntax ℕ ℕ type_deep attr_deep (TypeSyntax-F.Record attrs loc)
+
+pub attr_deep_as : (a : AttrSyntax) → attr_depth a ≡ type_depth (out-AttrSyntax a).ty
+attr_deep_as a = fold_out-AttrSyntax ℕ ℕ type_deep attr_deep a
+
+-- an attribute is no deeper than all together
+pub among_attrs : (attrs : List AttrSyntax) (i : ℕ) (a : AttrSyntax) → i < length attrs → a ≡ get_or attrs i a
+    → attr_depth a ≤ attrs_depth attrs
+among_attrs attrs i a lt at = subst (λ x. attr_depth x ≤ attrs_depth attrs) (sym at) (below attrs i lt)
+  where
+    below : (xs : List AttrSyntax) (k : ℕ) → k < length xs → attr_depth (get_or xs k a) ≤ attrs_depth xs
+    below [] k h = absurd (omega (arith, h))
+    below (x ∷ xs) zero h = omega arith
+    below (x ∷ xs) (suc k) h =
+        let more : attr_depth (get_or xs k a) ≤ attrs_depth xs = below xs k (omega (arith, h)) in omega (arith, more)

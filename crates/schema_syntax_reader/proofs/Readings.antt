@@ -1,0 +1,153 @@
+-- Parts that are read one after another.
+use Rattle.std.proofs.Common.{◌≡◌, ℕ, ◌+◌, ◌<◌, List, [], ◌∷◌, ◌++◌, take, drop, length, get_or, refl, sym, ap, ◌∙◌}
+use Rattle.std.proofs.Common.{subst}
+use Rattle.std.proofs.Common.{append_assoc, ◌≤◌, arith}
+use Rattle.std.specs.Prelude.{Result, Option, Some, None, IfNone, IsSome}
+use Rattle.std.specs.List.{All, AllZip, flat_map}
+use Rattle.std.specs.Result.{IsErrAnd}
+use Rattle.std.proofs.lemmas.List.{take_more, drop_more, take-append-drop, append-nil, take_all}
+use Rattle.std.proofs.lemmas.List.Elements.{All-append, All-nil, All-cons}
+use Rattle.std.proofs.lemmas.Result.{err_from_is_err_and}
+use Rattle.std.proofs.lemmas.Slice.Zip.{all_zipped_more}
+use Rattle.schema_syntax_reader.specs.declared.stopped.Stopped.{Stopped}
+use Rattle.schema_syntax_reader.specs.declared.stopped.Stopped.TheVariants.{Memory, User}
+use Rattle.schema_syntax_reader.specs.Sites.{Site}
+use Rattle.schema_syntax_reader.specs.Placed.{NoSiteFault}
+use Rattle.schema_syntax_reader.specs.Stops.{IsStopped, IsStoppedAt}
+use Rattle.schema_syntax_reader.specs.Readings.{Reads}
+
+module _ (source : List ℕ) where
+  abbrev pub Faultless : List Site → Type 0
+  Faultless sites = All (NoSiteFault source) sites
+
+  -- a fault among the first sites is the first of all
+  pub stopped_left : (a b : List Site) (e : Stopped) → IsStopped source a e → IsStopped source (a ++ b) e
+  stopped_left a b Memory h = tt
+  stopped_left a b (User fault) h = record {
+    front = h.front;
+    site = h.site;
+    back = h.back ++ b;
+    end = h.end;
+    split = ap (λ l. l ++ b) h.split ∙ append_assoc h.front (h.site ∷ h.back) b;
+    before = h.before;
+    here = h.here;
+    least = h.least;
+  }
+
+  -- where the first sites have none, the first of the others is
+  pub stopped_right : (a b : List Site) (e : Stopped) → Faultless a → IsStopped source b e
+      → IsStopped source (a ++ b) e
+  stopped_right a b Memory all h = tt
+  stopped_right a b (User fault) all h = record {
+    front = a ++ h.front;
+    site = h.site;
+    back = h.back;
+    end = h.end;
+    split = ap (λ l. a ++ l) h.split ∙ sym (append_assoc a h.front (h.site ∷ h.back));
+    before = All-append (NoSiteFault source) a h.front all h.before;
+    here = h.here;
+    least = h.least;
+  }
+
+  pub stopped_at : (site : Site) (e : Stopped) → IsStoppedAt source site e → IsStopped source (site ∷ []) e
+  stopped_at site Memory h = tt
+  stopped_at site (User fault) h = record {
+    front = [];
+    site = site;
+    back = [];
+    end = h.end;
+    split = refl;
+    before = All-nil (NoSiteFault source);
+    here = h.here;
+    least = h.least;
+  }
+
+  pub no_fault_at : (site : Site) → NoSiteFault source site → Faultless (site ∷ [])
+  no_fault_at site h = All-cons (NoSiteFault source) site [] h (All-nil (NoSiteFault source))
+
+  pub both_faultless : (a b : List Site) → Faultless a → Faultless b → Faultless (a ++ b)
+  both_faultless a b h k = All-append (NoSiteFault source) a b h k
+
+  module _ {A : Type 0} (Is : A → Type 0) (r : Result A Stopped) (e : Stopped) (err : IsErrAnd r (λ x. x ≡ e)) where
+    pub stops : (sites : List Site) → IsStopped source sites e → Reads source sites Is r
+    stops sites h = let p = err_from_is_err_and r err in
+        subst (λ x. Reads source sites Is x) (sym p.1) (subst (IsStopped source sites) (sym p.2) h)
+
+    -- the first part stops
+    pub stops_left : (a b : List Site) → IsStopped source a e → Reads source (a ++ b) Is r
+    stops_left a b h = stops (a ++ b) (stopped_left a b e h)
+
+    -- the part behind it stops
+    pub stops_right : (a b : List Site) → Faultless a → IsStopped source b e → Reads source (a ++ b) Is r
+    stops_right a b all h = stops (a ++ b) (stopped_right a b e all h)
+
+  -- a list, of which so many parts are read
+  module _ {R A : Type 0} (sites : R → List Site) (Is : R → A → Type 0) (raws : List R) where
+    pub record ReadTo (i : ℕ) (items : List A) : Type 0 where
+      pub each : AllZip Is (take i raws) items
+      pub lawful : Faultless (flat_map sites (take i raws))
+
+    flat_joined : (xs ys : List R) → flat_map sites (xs ++ ys) ≡ flat_map sites xs ++ flat_map sites ys
+    flat_joined [] ys = refl
+    flat_joined (x ∷ xs) ys = ap (λ l. sites x ++ l) (flat_joined xs ys)
+        ∙ sym (append_assoc (sites x) (flat_map sites xs) (flat_map sites ys))
+
+    pub none_read : (items : List A) → items ≡ [] → ReadTo 0 items
+    none_read items none = subst (ReadTo 0) (sym none) (record { each = tt; lawful = All-nil (NoSiteFault source) })
+
+    module _ (i : ℕ) (r : R) (lt : i < length raws) (at : r ≡ get_or raws i r) where
+      taken : take (i + 1) raws ≡ take i raws ++ r ∷ []
+      taken = take_more raws i r lt ∙ ap (λ x. take i raws ++ x ∷ []) (sym at)
+
+      pub one_more_read : (items items' : List A) (x : A) → ReadTo i items → Is r x → Faultless (sites r)
+          → items' ≡ items ++ x ∷ [] → ReadTo (i + 1) items'
+      one_more_read items items' x so_far is all into = record {
+        each = subst (λ l. AllZip Is l items') (sym taken)
+            (subst (AllZip Is (take i raws ++ r ∷ [])) (sym into)
+            (all_zipped_more Is (take i raws) items r x so_far.each is));
+        lawful = subst (λ l. Faultless (flat_map sites l)) (sym taken)
+            (subst Faultless (sym (flat_joined (take i raws) (r ∷ [])))
+            (All-append (NoSiteFault source) (flat_map sites (take i raws)) (sites r ++ []) so_far.lawful
+            (subst Faultless (sym (append-nil (sites r))) all)));
+      }
+
+      pub stopped_at_part : (items : List A) (e : Stopped) → ReadTo i items → IsStopped source (sites r) e
+          → IsStopped source (flat_map sites raws) e
+      stopped_at_part items e so_far h =
+          let split : raws ≡ take i raws ++ r ∷ drop (i + 1) raws = sym (take-append-drop i raws)
+          ∙ ap (λ l. take i raws ++ l) (drop_more raws i r lt ∙ ap (λ x. x ∷ drop (i + 1) raws) (sym at)) in
+          subst (λ l. IsStopped source l e)
+          (sym (ap (flat_map sites) split ∙ flat_joined (take i raws) (r ∷ drop (i + 1) raws)))
+          (stopped_right (flat_map sites (take i raws)) (sites r ++ flat_map sites (drop (i + 1) raws)) e so_far.lawful
+          (stopped_left (sites r) (flat_map sites (drop (i + 1) raws)) e h))
+
+    pub all_read : (i : ℕ) (items : List A) → length raws ≤ i → ReadTo i items
+        → AllZip Is raws items × Faultless (flat_map sites raws)
+    all_read i items over so_far =
+        let whole : take i raws ≡ raws = take_all i raws over in (
+          subst (λ l. AllZip Is l items) whole so_far.each,
+          subst (λ l. Faultless (flat_map sites l)) whole so_far.lawful,
+        )
+
+-- of a part there is an item
+pub some_read : {R A : Type 0} (Is : R → A → Type 0) (raws : List R) (items : List A) → 0 < length raws
+    → AllZip Is raws items → items ≡ [] → ⊥
+some_read Is [] items some h none = absurd (omega (arith, some))
+some_read Is (r ∷ raws) [] some h none = h
+some_read Is (r ∷ raws) (x ∷ items) some h none = cc
+
+pub some_list : {A B : Type 0} (found : Option B) (items : List A) → IfNone found (items ≡ []) → (items ≡ [] → ⊥)
+    → IsSome found
+some_list None items h some = absurd (some h)
+some_list (Some x) items h some = refl
+
+pub some_items : {R A : Type 0} (Is : R → A → Type 0) (raws : List R) (items : List A) → 0 < length raws
+    → AllZip Is raws items → 0 < length items
+some_items Is [] items some h = absurd (omega (arith, some))
+some_items Is (r ∷ raws) [] some h = absurd h
+some_items Is (r ∷ raws) (x ∷ items) some h = omega arith
+
+-- one of items that are all so
+pub one_placed : {R : Type 0} (P : R → Type 0) (raws : List R) (i : ℕ) (r : R) → i < length raws
+    → r ≡ get_or raws i r → All P raws → P r
+one_placed P raws i r lt at all = subst P (sym at) (all i r lt)
