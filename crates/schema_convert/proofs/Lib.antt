@@ -1,6 +1,7 @@
 mod Among
 mod Borrowed
 mod FirstRepeat
+mod Filtered
 mod Gathered
 mod Grouped
 mod Lawful
@@ -9,5 +10,6 @@ mod Ranked
 mod Seen
 mod Sorted
 mod Valued
+mod Taken
 mod Warnings
 mod Apart

@@ -36,7 +36,7 @@ use Rattle.schema_convert.proofs.Own.{own_names}
 use Rattle.schema_convert.proofs.Ranked.{either_false}
 use Rattle.schema_convert.proofs.Valued.{equal_from}
 
-ids_total : IsTotalOrder id_text_cmp
+pub ids_total : IsTotalOrder id_text_cmp
 ids_total = on_total (λ (id : Id). id.text) (on_total encode_utf8_all (lists_total nat_cmp_total))
 
 abbrev id_eq : Node Id → Node Id → Bool

@@ -1,5 +1,5 @@
 ghost use Rattle.std.specs.Prelude.{◌≡◌, ◌++◌, map, option_map, IfOk, OnOk};
-ghost use Rattle.std.specs.List.{flat_map};
+ghost use Rattle.std.specs.List.{filter, flat_map};
 ghost use Rattle.std.specs.Option.{option_copied};
 ghost use Rattle.schema_convert.specs.Borrowed.{entry_now, optional_now};
 ghost use Rattle.schema_convert.specs.Shadowings.{by_id, is_primitive_name, is_taken, builtin_shadowed, entity_shadowed, common_warnings, warnings_in, declared_warnings, by_name, warnings_of};
@@ -132,6 +132,38 @@ fn push_entities<'s>(
     Ok(())
 }
 
+// Those of the names that are taken by a type that every schema has or by one of the table's.
+fn taken_names<'a, 's>(
+    alloc: Global,
+    table: &ExtensionTable,
+    names: Vec<&'a Node<SrcId<'s>>>,
+) -> Result<Vec<&'a Node<SrcId<'s>>>, AllocError>
+    ensures { IfOk result (λ taken. map (λ x. x.now) taken.items ≡ filter (λ n. is_taken table.now n.node.text) (map (λ x. x.now) names.entry.items)) }
+{
+    let mut taken = Vec::new(alloc);
+    for name in names {
+        if is_taken(table, name.node.as_str()) {
+            taken.push(name)?;
+        }
+    }
+    Ok(taken)
+}
+
+// Adds the warnings of entity types with these names, of which those that are not taken need no order.
+fn push_taken(
+    alloc: Global,
+    warnings: &mut Vec<SchemaWarning>,
+    table: &ExtensionTable,
+    names: Vec<&Node<SrcId<'_>>>,
+) -> Result<(), AllocError>
+    ensures { OnOk result (warnings.new.items ≡ warnings.old.items ++ flat_map (λ e. builtin_shadowed table.now e.1) (by_id (map (λ x. x.now) names.entry.items))) }
+{
+    let taken = taken_names(alloc, table, names)?;
+    let entities = by_id(alloc, taken)?;
+    push_entities(alloc, warnings, table, entities)?;
+    Ok(())
+}
+
 // Adds the warnings of a namespace.
 fn push_declared<'s>(
     alloc: Global,
@@ -143,6 +175,9 @@ fn push_declared<'s>(
 {
     let common_names = common_names_in(alloc, decls)?;
     let entity_names = entity_names_in(alloc, decls)?;
+    if common_names.is_empty() {
+        return push_taken(alloc, warnings, table, entity_names);
+    }
     let commons = by_id(alloc, common_names)?;
     let entities = by_id(alloc, entity_names)?;
     push_commons(alloc, warnings, table, &entities, commons)?;
