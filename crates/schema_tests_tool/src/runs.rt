@@ -19,10 +19,10 @@ fn strings(alloc: Global, words: &str) -> Result<Vec<String>, AllocError> {
 }
 
 // How much room the outputs have in most runs.
-const AMPLE: usize = 4096;
+pub(crate) const AMPLE: usize = 4096;
 
 // Does a run end with this code, with this on the two outputs, which have room for so much?
-fn ends<S: Source>(
+pub(crate) fn ends<S: Source>(
     alloc: Global,
     words: &str,
     source: &mut S,
@@ -163,7 +163,7 @@ fn failing_source(alloc: Global, text: &str, call: u64) -> Result<MemorySource, 
 }
 
 // Does a run on the text, with a read that fails or with little room, end so?
-fn ends_badly(
+pub(crate) fn ends_badly(
     alloc: Global,
     text: &str,
     call: u64,
