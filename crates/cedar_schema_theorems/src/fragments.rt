@@ -1,13 +1,13 @@
 //! What is proved of trees, of the fragments that they stand for, and of what fragments mean.
 ghost use Rattle.std.specs.Prelude.{◌≡◌, ◌↔◌, ℕ, Bool, List, []};
 ghost use Rattle.std.specs.List.{AllZip, AllByRecursion, flat_map};
-ghost use Rattle.cedar_identifiers.specs.declared.raw_name.RawName.{RawName};
+ghost use Rattle.cedar_identifiers.specs.declared.raw_name.RawName.{RawName as Raw};
 ghost use Rattle.cedar_names.specs.Meaning.{SchemaMeaning};
 ghost use Rattle.cedar_names.specs.declared.extension_table.ExtensionTable.{ExtensionTable};
 ghost use Rattle.schema_syntax_tokens.specs.Laid.{laid};
 ghost use Rattle.schema_syntax_tree.specs.declared.annotated.Annotated.{Annotated};
 ghost use Rattle.schema_syntax_tree.specs.declared.namespace.Namespace.{Namespace};
-ghost use Rattle.schema_json.specs.declared.fragment.Fragment.{Fragment};
+ghost use Rattle.schema_json.specs.declared.fragment.Fragment.{Fragment as Fragments};
 ghost use Rattle.schema_convert_types.specs.Declarations.{as_written};
 ghost use Rattle.schema_convert.specs.Faults.{translation_faults};
 ghost use Rattle.schema_convert.specs.Translatable.{IsTranslatable};
@@ -19,15 +19,22 @@ ghost use Rattle.schema_says.specs.BareFragments.{bare_fragment};
 ghost use Rattle.schema_says.specs.Named.{IsWellNamed};
 ghost use Rattle.schema_says.specs.TranslatedAs.{IsTranslatedAs};
 ghost use Rattle.schema_print.specs.FragmentGroups.{AreGroupsOf};
+ghost use Rattle.schema_print.specs.Printable.{IsPrintable};
 ghost use Rattle.schema_print_says.specs.CedarForm.{cedar_form};
 ghost use Rattle.schema_print_says.specs.Plain.{components_written, IsPlainFragment};
+ghost use Rattle.schema_print_plain.specs.Orderly.{IsOrderly};
+ghost use Rattle.schema_print_plain.specs.ReadAs.{IsReadAs, ResolveAlike};
 ghost use Rattle.schema_build_errors.specs.declared.schema_error.SchemaError.{SchemaError};
 ghost use Rattle.schema_build_parts.specs.BuildFaults.{BuildFault};
 ghost use Rattle.schema_build.specs.FaultsTold.{AreToldAlike, IsInOrder};
 ghost use Rattle.schema_build.specs.Meaning.{FragmentMeaning};
 
+use cedar_identifiers::RawName;
 use schema_build::{one_build_fault, one_fragment_meaning};
 use schema_convert::laws::lawful_trees;
+use schema_json::Fragment;
+use schema_print::ToCedarSchema;
+use schema_print_plain::laws::printable_fragments_read_back;
 use schema_print_says::laws::printed_fragments_read_back;
 use schema_says::laws::trees_that_say_the_same;
 
@@ -51,7 +58,7 @@ pub fn what_is_said_decides()
 /// The printed text of a fragment that a text can say has no fault, and its fragment is that one in the form that its text has,
 /// places aside.
 pub fn printed_fragments_say_the_same()
-    ensures { (closing : Bool) (f : Fragment RawName as_written) (groups : List Group)
+    ensures { (closing : Bool) (f : Fragments Raw as_written) (groups : List Group)
         → AreGroupsOf components_written f groups → IsPlainFragment f
         → (t : IsTranslatedAs (laid (schema_pieces closing groups)) (flat_map group_items groups))
         × (bare_fragment (translated t.reads.tree) ≡ bare_fragment (cedar_form f)) }
@@ -59,9 +66,20 @@ pub fn printed_fragments_say_the_same()
     printed_fragments_read_back();
 }
 
+/// What `to_cedarschema` writes of a printable fragment, whose maps rise by their keys and whose enums have a choice as
+/// those of each fragment in memory do, has no fault of its syntax, no user fault and no fault of translation; its
+/// fragment is that one in the form that its text has, places aside; and both resolve alike.
+pub fn texts_of_printable_fragments_say_them()
+    ensures { (f : Fragments Raw as_written) (table : ExtensionTable) → IsPrintable f table → IsOrderly f
+        → IsReadAs (⟦<Fragment<RawName> as ToCedarSchema>⟧.schema_text f) table (cedar_form f)
+        × ResolveAlike f (cedar_form f) table }
+{
+    printable_fragments_read_back();
+}
+
 /// A fragment has at most one meaning under a table.
 pub fn a_fragment_has_one_meaning()
-    ensures { (f : Fragment RawName as_written) (table : ExtensionTable) (m n : SchemaMeaning) → FragmentMeaning f table m
+    ensures { (f : Fragments Raw as_written) (table : ExtensionTable) (m n : SchemaMeaning) → FragmentMeaning f table m
         → FragmentMeaning f table n → m ≡ n }
 {
     one_fragment_meaning();
@@ -70,7 +88,7 @@ pub fn a_fragment_has_one_meaning()
 /// What is told of the fault that keeps a fragment from being a schema is one: its text, its advice and its places. The entries of
 /// the fragment are to be in the order of their names, as those of each fragment in memory are.
 pub fn faults_are_told_alike()
-    ensures { (f : Fragment RawName as_written) (table : ExtensionTable) (error other : SchemaError) → IsInOrder f
+    ensures { (f : Fragments Raw as_written) (table : ExtensionTable) (error other : SchemaError) → IsInOrder f
         → BuildFault f table error → BuildFault f table other → AreToldAlike error other }
 {
     one_build_fault();

@@ -11,7 +11,7 @@ pub mod texts;
 
 pub use fragments::{
     a_fragment_has_one_meaning, a_tree_is_translated_where_it_can_be, faults_are_told_alike,
-    printed_fragments_say_the_same, what_is_said_decides,
+    printed_fragments_say_the_same, texts_of_printable_fragments_say_them, what_is_said_decides,
 };
 pub use orders::{blanks_change_no_meaning, divisions_change_no_meaning, order_changes_no_meaning};
 pub use runs::{

@@ -1,0 +1,3 @@
+mod OrderlyItems
+mod OrderlyRecords
+mod Rising

@@ -1,0 +1,7 @@
+mod Blocks
+mod ClosedTypes
+mod Grouping
+mod PartsOfEach
+mod PlainItems
+mod Printables
+mod RecordTypes
