@@ -18,6 +18,8 @@ use Rattle.schema_build_parts.specs.BuildFaults.{BuildFault}
 use Rattle.schema_build.specs.Meaning.{FragmentMeaning}
 use Rattle.schema_build_text.specs.Captured.{IsUncaptured}
 use Rattle.schema_says.specs.TranslatedAs.{IsTranslatedAs}
+use Rattle.schema_build_closed.specs.HalfFilled.{IsHalfFilled}
+use Rattle.cedar_schema_core.specs.Json.{JsonMeaning, IsRecoveredJson}
 use Rattle.cedar_schema_core.specs.Meanings.{TextMeaning}
 use Rattle.cedar_schema_core.specs.Recovery.{IsRecovered}
 use Rattle.cedar_schema_core.specs.declared.recover.Recovered.{Recovered}
@@ -48,6 +50,24 @@ text_means sentences text w table m t means none free =
       uncaptured = free;
     }
 
+-- Of two texts with one meaning, of which the one is the other's canonical text: what is recovered of it is itself.
+module _ (one : (text : List ℕ) (table : ExtensionTable) (m n : SchemaMeaning) → TextMeaning text table m
+    → TextMeaning text table n → m ≡ n) (table : ExtensionTable) (m : SchemaMeaning) (r s : Recovered)
+    (canonical : encode_utf8_all r.text ≡ canonical_text m) (means : TextMeaning (encode_utf8_all r.text) table m)
+    (again : IsRecovered (encode_utf8_all r.text) table s) where
+  same_meaning : again.meaning ≡ m
+  same_meaning = one (encode_utf8_all r.text) table again.meaning m again.means means
+
+  pub text_again : s.text ≡ r.text
+  text_again = encodes_same s.text r.text (again.canonical ∙ (ap canonical_text same_meaning ∙ sym canonical))
+
+  pub counts_again : r.entity_types ≡ length m.entities → r.actions ≡ length m.actions
+      → (s.entity_types ≡ r.entity_types) × (s.actions ≡ r.actions)
+  counts_again entities actions = (
+    again.entity_types ∙ (ap (λ (m : SchemaMeaning). length m.entities) same_meaning ∙ sym entities),
+    again.actions ∙ (ap (λ (m : SchemaMeaning). length m.actions) same_meaning ∙ sym actions),
+  )
+
 module _ (one : (text : List ℕ) (table : ExtensionTable) (m n : SchemaMeaning) → TextMeaning text table m
     → TextMeaning text table n → m ≡ n)
     (same : (closing : Bool) (text : List ℕ) (table : ExtensionTable) (m : SchemaMeaning) → TextMeaning text table m
@@ -66,22 +86,44 @@ module _ (one : (text : List ℕ) (table : ExtensionTable) (m n : SchemaMeaning)
   recovered_means text table r h =
       subst (λ l. TextMeaning l table h.meaning) (sym h.canonical) (same true text table h.meaning h.means)
 
-  pub one_recovered : (text : List ℕ) (table : ExtensionTable) (r s : Recovered) (h : IsRecovered text table r)
-      (k : IsRecovered (encode_utf8_all r.text) table s) → k.meaning ≡ h.meaning
-  one_recovered text table r s h k =
-      one (encode_utf8_all r.text) table k.meaning h.meaning k.means (recovered_means text table r h)
-
   pub one_text : (text : List ℕ) (table : ExtensionTable) (r s : Recovered) → IsRecovered text table r
       → IsRecovered (encode_utf8_all r.text) table s → s.text ≡ r.text
-  one_text text table r s h k =
-      encodes_same s.text r.text
-      (k.canonical ∙ (ap canonical_text (one_recovered text table r s h k) ∙ sym h.canonical))
+  one_text text table r s h k = text_again one table h.meaning r s h.canonical (recovered_means text table r h) k
 
   pub one_count : (text : List ℕ) (table : ExtensionTable) (r s : Recovered) → IsRecovered text table r
       → IsRecovered (encode_utf8_all r.text) table s
       → (s.entity_types ≡ r.entity_types) × (s.actions ≡ r.actions)
   one_count text table r s h k =
-      let e = one_recovered text table r s h k in (
-        k.entity_types ∙ (ap (λ (m : SchemaMeaning). length m.entities) e ∙ sym h.entity_types),
-        k.actions ∙ (ap (λ (m : SchemaMeaning). length m.actions) e ∙ sym h.actions),
-      )
+      counts_again one table h.meaning r s h.canonical (recovered_means text table r h) k h.entity_types h.actions
+
+module _ (one : (text : List ℕ) (table : ExtensionTable) (m n : SchemaMeaning) → TextMeaning text table m
+    → TextMeaning text table n → m ≡ n)
+    (json : (closing : Bool) (text : List ℕ) (table : ExtensionTable) (m : SchemaMeaning) → JsonMeaning text table m
+    → TextMeaning (schema_text closing m) table m ↔ (¬ IsHalfFilled m)) where
+  -- the text that is recovered from JSON means what that means, where it is not half filled
+  pub json_means : (text : List ℕ) (table : ExtensionTable) (r : Recovered) (h : IsRecoveredJson text table r)
+      → ¬ IsHalfFilled h.meaning → TextMeaning (encode_utf8_all r.text) table h.meaning
+  json_means text table r h whole =
+      subst (λ l. TextMeaning l table h.meaning) (sym h.canonical) ((json true text table h.meaning h.means).1 whole)
+
+  pub one_json_text : (text : List ℕ) (table : ExtensionTable) (r s : Recovered) (h : IsRecoveredJson text table r)
+      → ¬ IsHalfFilled h.meaning → IsRecovered (encode_utf8_all r.text) table s → s.text ≡ r.text
+  one_json_text text table r s h whole k =
+      text_again one table h.meaning r s h.canonical (json_means text table r h whole) k
+
+  pub one_json_count : (text : List ℕ) (table : ExtensionTable) (r s : Recovered) (h : IsRecoveredJson text table r)
+      → ¬ IsHalfFilled h.meaning → IsRecovered (encode_utf8_all r.text) table s
+      → (s.entity_types ≡ r.entity_types) × (s.actions ≡ r.actions)
+  one_json_count text table r s h whole k =
+      counts_again one table h.meaning r s h.canonical (json_means text table r h whole) k h.entity_types h.actions
+
+-- the canonical text of what a JSON text means, where that is one
+pub json_kept : ((text : List ℕ) (table : ExtensionTable) (m n : SchemaMeaning) → JsonMeaning text table m
+    → JsonMeaning text table n → m ≡ n)
+    → ((closing : Bool) (text : List ℕ) (table : ExtensionTable) (m : SchemaMeaning) → JsonMeaning text table m
+    → TextMeaning (schema_text closing m) table m ↔ (¬ IsHalfFilled m))
+    → (text : List ℕ) (table : ExtensionTable) (m n : SchemaMeaning) (written : List ℕ) → written ≡ canonical_text m
+    → JsonMeaning text table m → JsonMeaning text table n → TextMeaning written table n ↔ (¬ IsHalfFilled n)
+json_kept one json text table m n written is h k =
+    subst (λ t. TextMeaning t table n ↔ (¬ IsHalfFilled n)) (ap canonical_text (one text table n m k h) ∙ sym is)
+    (json true text table n k)

@@ -1,17 +1,20 @@
 -- A run that is done keeps the meaning of its input.
-use Rattle.std.proofs.Common.{ℕ, List, Bool, true, sym, subst}
+use Rattle.std.proofs.Common.{◌↔◌, ℕ, List, Bool, true, sym, subst}
 use Rattle.cedar_names.specs.CanonicalText.{schema_text}
 use Rattle.cedar_names.specs.Meaning.{SchemaMeaning}
 use Rattle.cedar_names.specs.declared.extension_table.ExtensionTable.{ExtensionTable}
+use Rattle.schema_build_closed.specs.HalfFilled.{IsHalfFilled}
 use Rattle.cedar_schema_core.specs.declared.command.Command.{Command}
 use Rattle.cedar_schema_core.specs.declared.command.Command.TheVariants.{Recover, Check, ToJson, FromJson}
 use Rattle.cedar_schema_core.specs.Commands.{Asks}
+use Rattle.cedar_schema_core.specs.Json.{JsonMeaning}
 use Rattle.cedar_schema_core.specs.Meanings.{TextMeaning}
 use Rattle.cedar_schema_core.specs.Run.{Device, Completed, KeepsMeaning}
 
 module _ (same : (closing : Bool) (text : List ℕ) (table : ExtensionTable) (m : SchemaMeaning)
-    → TextMeaning text table m
-    → TextMeaning (schema_text closing m) table m) (source out err : Device) where
+    → TextMeaning text table m → TextMeaning (schema_text closing m) table m)
+    (json : (closing : Bool) (text : List ℕ) (table : ExtensionTable) (m : SchemaMeaning) → JsonMeaning text table m
+    → TextMeaning (schema_text closing m) table m ↔ (¬ IsHalfFilled m)) (source out err : Device) where
   keeps : (c : Command) → Completed c source out err → KeepsMeaning c source out
   keeps (Recover table) done =
       let m = done.writes.writes.0 in
@@ -28,7 +31,20 @@ module _ (same : (closing : Bool) (text : List ℕ) (table : ExtensionTable) (m 
       }
   keeps (Check table) done = tt
   keeps (ToJson table) done = tt
-  keeps (FromJson table) done = tt
+  keeps (FromJson table) done =
+      let m = done.writes.writes.0 in
+      let means = done.writes.writes.1 in
+      let written = done.writes.writes.3 in
+      record {
+        bytes = done.bytes;
+        meaning = m;
+        text = done.text;
+        read = done.read;
+        means = means;
+        written = done.written;
+        keeps = subst (λ t. TextMeaning t table m ↔ (¬ IsHalfFilled m)) (sym written)
+            (json true done.bytes table m means);
+      }
 
   pub kept : (words : List (List ℕ)) → (c : Command) × Asks words c × Completed c source out err
       → (c : Command) × Asks words c × KeepsMeaning c source out

@@ -1,5 +1,5 @@
 -- What a run did. A source or a sink is known by what it tells before and after.
-use Rattle.std.specs.Prelude.{◌≡◌, ◌≢◌, ℕ, List, [], Option}
+use Rattle.std.specs.Prelude.{◌≡◌, ◌≢◌, ◌↔◌, ℕ, List, [], Option}
 use Rattle.std.specs.List.{flat_map}
 use Rattle.cedar_io.specs.Outside.{Rose, IsEnd, Appends, AppendsPart}
 use Rattle.cedar_schema_core.specs.declared.status.Status.{Status}
@@ -11,6 +11,8 @@ use Rattle.schema_convert_errors.specs.declared.warnings.SchemaWarning.{SchemaWa
 use Rattle.cedar_names.specs.declared.extension_table.ExtensionTable.{ExtensionTable}
 use Rattle.cedar_schema_core.specs.declared.command.Command.{Command}
 use Rattle.cedar_schema_core.specs.declared.command.Command.TheVariants.{Recover, Check, ToJson, FromJson}
+use Rattle.schema_build_closed.specs.HalfFilled.{IsHalfFilled}
+use Rattle.cedar_schema_core.specs.Json.{JsonMeaning}
 use Rattle.cedar_schema_core.specs.Meanings.{TextMeaning}
 use Rattle.cedar_schema_core.specs.Commands.{Asks}
 use Rattle.cedar_schema_core.specs.Answers.{IsWrittenBy}
@@ -86,12 +88,23 @@ pub record Recovers (table : ExtensionTable) (source out : Device) : Type 0 wher
   pub written : Appends out.before text out.after
   pub keeps : TextMeaning text table meaning
 
--- what a recovery wrote means what the input means; the other commands read or write another form, or write no schema
+-- The whole input was read and means something, and what was written of it is a text that means the same exactly where
+-- that is not half filled.
+pub record RecoversJson (table : ExtensionTable) (source out : Device) : Type 0 where
+  pub bytes : List ℕ
+  pub meaning : SchemaMeaning
+  pub text : List ℕ
+  pub read : HadLeft source.before bytes
+  pub means : JsonMeaning bytes table meaning
+  pub written : Appends out.before text out.after
+  pub keeps : TextMeaning text table meaning ↔ (¬ IsHalfFilled meaning)
+
+-- what a recovery wrote means what the input means; the other commands write another form, or no schema
 abbrev pub KeepsMeaning : Command → Device → Device → Type 0
 KeepsMeaning (Recover table) source out = Recovers table source out
 KeepsMeaning (Check table) source out = Unit {0}
 KeepsMeaning (ToJson table) source out = Unit {0}
-KeepsMeaning (FromJson table) source out = Unit {0}
+KeepsMeaning (FromJson table) source out = RecoversJson table source out
 
 -- no count of faults rose
 pub record NoneCounted (source out err : Device) : Type 0 where

@@ -2,11 +2,14 @@
 ghost use Rattle.std.specs.Prelude.{◌≡◌, ◌≢◌, ◌↔◌, true, IfOk, IfErr};
 ghost use Rattle.std.specs.Str.{encode_utf8_all};
 ghost use Rattle.serde_json.specs.Written.{compact_text};
+ghost use Rattle.cedar_names.specs.Meaning.{SchemaMeaning};
 ghost use Rattle.schema_json_io.specs.Texts.{TextShape};
-ghost use Rattle.cedar_schema_core.specs.Json.{value_of, IsJsonOfText, IsValidJson, IsRecoveredJson, IsRefusalOfJson};
+ghost use Rattle.schema_build_closed.specs.HalfFilled.{IsHalfFilled};
+ghost use Rattle.cedar_schema_core.specs.Json.{value_of, IsJsonOfText, JsonMeaning, IsValidJson, IsRecoveredJson, IsRefusalOfJson};
+ghost use Rattle.cedar_schema_core.specs.Meanings.{TextMeaning};
 ghost use Rattle.cedar_schema_core.specs.Steps.{IsUnparsed, IsUnread};
 
-use crate::laws::one_json_reading;
+use crate::laws::{one_json_reading, texts_of_json_mean_the_same};
 use crate::recover::{Recovered, build, print, translate};
 use cedar_data::Text;
 use cedar_identifiers::RawName;
@@ -80,7 +83,8 @@ fn read(alloc: Global, text: &str, form: JsonForm) -> Result<Fragment<RawName>, 
     }
 }
 
-/// The canonical text of what a JSON text means under a table of extension types, with its counts. It has no warnings.
+/// The canonical text of what a JSON text means under a table of extension types, with its counts. It has no warnings, and means
+/// the same exactly where that is not half filled.
 pub fn recover_json(
     alloc: Global,
     text: &str,
@@ -88,10 +92,12 @@ pub fn recover_json(
     form: JsonForm,
 ) -> Result<Recovered, RecoverError>
     ensures recovered { IfOk result (IsRecoveredJson text.now table.now) }
+    ensures keeps { IfOk result (λ recovered. (m : SchemaMeaning) → JsonMeaning text.now table.now m → TextMeaning (encode_utf8_all recovered.text) table.now m ↔ (¬ IsHalfFilled m)) }
     ensures refused { IfErr result (IsRefusalOfJson text.now table.now) }
     ensures invalid { IfErr result (λ fault. fault ≢ RecoverError.Memory → IsValidJson text.now table.now → ⊥) }
 {
     one_json_reading();
+    texts_of_json_mean_the_same();
     let fragment = read(alloc, text, form)?;
     let schema = build(alloc, fragment, table)?;
     let text = print(alloc, &schema)?;

@@ -11,10 +11,11 @@ ghost use Rattle.schema_convert_types.specs.Declarations.{as_written};
 ghost use Rattle.schema_convert_errors.specs.declared.error_list.CedarSchemaParseErrors.{CedarSchemaParseErrors};
 ghost use Rattle.schema_convert_errors.specs.declared.warnings.SchemaWarning.{SchemaWarning};
 ghost use Rattle.schema_convert.specs.Translated.{IsTranslationOfText};
-ghost use Rattle.cedar_schema_core.specs.Json.{JsonMeaning, IsValidJson, IsRefusalOfJson};
+ghost use Rattle.cedar_schema_core.specs.Json.{JsonMeaning, IsValidJson, IsRecoveredJson, IsRefusalOfJson};
 ghost use Rattle.cedar_schema_core.specs.Meanings.{TextMeaning, IsValid};
 ghost use Rattle.schema_build.specs.Texts.{IsParseRefusal};
 ghost use Rattle.schema_build_closed.specs.Closed.{IsClosed};
+ghost use Rattle.schema_build_closed.specs.HalfFilled.{IsHalfFilled};
 ghost use Rattle.cedar_schema_core.specs.Recovery.{IsRecovered, IsRefusal};
 ghost use Rattle.cedar_schema_core.specs.declared.recover.Recovered.{Recovered};
 ghost use Rattle.cedar_schema_core.specs.Plan.{Report, IsPlan};
@@ -22,7 +23,7 @@ ghost use Rattle.cedar_schema_core_faults.specs.Told.{fault_text};
 
 use cedar_schema_core_faults::RecoverError;
 use schema_build::{one_build_fault, one_fragment_meaning};
-use schema_build_closed::laws::meanings_of_texts_are_closed;
+use schema_build_closed::laws::{meanings_of_json_are_closed, meanings_of_texts_are_closed};
 use schema_build_says::laws::what_says_a_closed_meaning_means_it;
 use schema_says::laws::texts_of_meanings_are_translated;
 use schema_syntax::laws::tree_or_error;
@@ -122,6 +123,16 @@ pub fn canonical_texts_mean_the_same()
     texts_of_closed_meanings_mean_them();
 }
 
+/// The text of what a JSON text means, in either layout, means the same exactly where that is not half filled.
+pub fn texts_of_json_mean_the_same()
+    ensures { (closing : Bool) (text : List ℕ) (table : ExtensionTable) (m : SchemaMeaning) → JsonMeaning text table m
+        → TextMeaning (schema_text closing m) table m ↔ (¬ IsHalfFilled m) }
+{
+    meanings_of_json_are_closed();
+    meanings_of_texts_are_closed();
+    texts_of_closed_meanings_mean_them();
+}
+
 /// Two texts have one canonical text exactly where they mean the same.
 pub fn canonical_texts_tell_meanings_apart()
     ensures { (text other : List ℕ) (table : ExtensionTable) (m n : SchemaMeaning) → TextMeaning text table m
@@ -145,5 +156,25 @@ pub fn recovered_texts_recover_themselves()
         → IsValid (encode_utf8_all first.text) table }
 {
     canonical_texts_mean_the_same();
+    one_text_meaning();
+}
+
+/// What is recovered of a text that was recovered from JSON is that text, with as many entity types and actions, where
+/// the meaning is not half filled; and it has that meaning.
+pub fn recovered_json_recovers_itself()
+    ensures text { (text : List ℕ) (table : ExtensionTable) (first second : Recovered)
+        (is : IsRecoveredJson text table first) → ¬ IsHalfFilled is.meaning
+        → IsRecovered (encode_utf8_all first.text) table second → second.text ≡ first.text }
+    ensures entity_types { (text : List ℕ) (table : ExtensionTable) (first second : Recovered)
+        (is : IsRecoveredJson text table first) → ¬ IsHalfFilled is.meaning
+        → IsRecovered (encode_utf8_all first.text) table second → second.entity_types ≡ first.entity_types }
+    ensures actions { (text : List ℕ) (table : ExtensionTable) (first second : Recovered)
+        (is : IsRecoveredJson text table first) → ¬ IsHalfFilled is.meaning
+        → IsRecovered (encode_utf8_all first.text) table second → second.actions ≡ first.actions }
+    ensures means { (text : List ℕ) (table : ExtensionTable) (first : Recovered)
+        (is : IsRecoveredJson text table first) → ¬ IsHalfFilled is.meaning
+        → TextMeaning (encode_utf8_all first.text) table is.meaning }
+{
+    texts_of_json_mean_the_same();
     one_text_meaning();
 }

@@ -10,7 +10,7 @@ ghost use Rattle.cedar_schema_core.specs.Run.{device, IsReported, IsDelivered, I
 ghost use Rattle.cedar_schema_core.specs.Replies.{report_of};
 
 use crate::command::Command;
-use crate::laws::{canonical_texts_mean_the_same, one_plan};
+use crate::laws::{canonical_texts_mean_the_same, one_plan, texts_of_json_mean_the_same};
 use crate::output::{Output, output_of};
 use crate::reply::{Reply, warning_lines};
 use crate::status::Status;
@@ -123,7 +123,8 @@ pub fn run_tool<S: Source, O: Sink, E: Sink>(
     // Done: the words ask for a command, the input is valid, what the command writes of its meaning was written, and nothing else.
     ensures completed { result ≡ Status.Done → (c : Command) × Asks (map string_bytes words.now) c × Completed c (device S.left S.faults source.old source.new) (device O.taken O.faults out.old out.new) (device E.taken E.faults err.old err.new) }
 
-    // Done by a recovery: the text that was written is valid under the same table, and means what the input means.
+    // Done by a recovery: the text that was written is valid under the same table, and means what the input means; of JSON exactly
+    // where that is not half filled.
     ensures recovers { result ≡ Status.Done → (c : Command) × Asks (map string_bytes words.now) c × KeepsMeaning c (device S.left S.faults source.old source.new) (device O.taken O.faults out.old out.new) }
 
     // With no fault counted, the status is the one planned for the words and the input, or memory was wanted.
@@ -141,6 +142,7 @@ pub fn run_tool<S: Source, O: Sink, E: Sink>(
 {
     one_plan();
     canonical_texts_mean_the_same();
+    texts_of_json_mean_the_same();
     match prepare(alloc, words, source) {
         Ok(reply) => deliver(&reply, out, err),
         Err(_) => Status::Memory,

@@ -17,7 +17,7 @@ pub use orders::{blanks_change_no_meaning, divisions_change_no_meaning, order_ch
 pub use runs::{
     a_run_has_one_plan, a_text_has_one_meaning, a_text_has_one_refusal,
     canonical_texts_stand_for_meanings, recovering_again_changes_nothing, refused_is_not_valid,
-    what_is_recovered_means_the_same,
+    what_is_recovered_from_json_means_the_same, what_is_recovered_means_the_same,
 };
 pub use texts::{
     a_text_has_one_error, a_text_has_one_syntax_fault, a_text_has_one_translation,

@@ -4,6 +4,8 @@ ghost use Rattle.std.specs.Str.{encode_utf8_all};
 ghost use Rattle.cedar_names.specs.CanonicalText.{schema_text, canonical_text};
 ghost use Rattle.cedar_names.specs.Meaning.{SchemaMeaning};
 ghost use Rattle.cedar_names.specs.declared.extension_table.ExtensionTable.{ExtensionTable};
+ghost use Rattle.schema_build_closed.specs.HalfFilled.{IsHalfFilled};
+ghost use Rattle.cedar_schema_core.specs.Json.{JsonMeaning};
 ghost use Rattle.cedar_schema_core.specs.Meanings.{TextMeaning, IsValid};
 ghost use Rattle.cedar_schema_core.specs.Recovery.{IsRecovered, IsRefusal};
 ghost use Rattle.cedar_schema_core.specs.declared.recover.Recovered.{Recovered};
@@ -13,6 +15,7 @@ ghost use Rattle.cedar_schema_core_faults.specs.Told.{fault_text};
 use cedar_schema_core::{
     RecoverError, canonical_texts_mean_the_same, canonical_texts_tell_meanings_apart, one_plan,
     one_refusal, one_text_meaning, recovered_texts_recover_themselves, refused_or_valid,
+    texts_of_json_mean_the_same,
 };
 
 /// A text has at most one meaning under a table.
@@ -30,6 +33,15 @@ pub fn what_is_recovered_means_the_same()
         → TextMeaning (schema_text closing m) table m }
 {
     canonical_texts_mean_the_same();
+}
+
+/// What is recovered from JSON means the same: the text of what a JSON text means is valid under the same table, and means the same,
+/// exactly where no action has principals alone, resources alone or a context alone.
+pub fn what_is_recovered_from_json_means_the_same()
+    ensures { (closing : Bool) (text : List ℕ) (table : ExtensionTable) (m : SchemaMeaning) → JsonMeaning text table m
+        → TextMeaning (schema_text closing m) table m ↔ (¬ IsHalfFilled m) }
+{
+    texts_of_json_mean_the_same();
 }
 
 /// Two valid texts have one canonical text exactly where they mean the same.

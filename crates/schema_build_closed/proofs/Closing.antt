@@ -1,5 +1,5 @@
--- What a well-formed fragment without a build fault means is closed.
-use Rattle.std.proofs.Common.{ℕ, List, Contains, Option, Some, None, inl, inr}
+-- What a formed fragment without a build fault means is closed, where it is not half filled.
+use Rattle.std.proofs.Common.{ℕ, Bool, true, false, List, Contains, Option, Some, None, inl, inr}
 use Rattle.std.specs.List.{AllByRecursion}
 use Rattle.cedar_identifiers.specs.declared.name_text.NameText as named
 use Rattle.cedar_identifiers.specs.declared.raw_name.RawName.{RawName}
@@ -15,12 +15,17 @@ use Rattle.schema_build_parts.specs.BuildFaults.{BuildFault}
 use Rattle.schema_build.specs.Meaning.{FragmentMeaning}
 use Rattle.schema_build_closed.specs.Known.{entity_names, action_names, IsKnownName, AreKnownTags}
 use Rattle.schema_build_closed.specs.Closed.{IsClosedEntity, IsClosedAction, IsClosed}
+use Rattle.schema_build_closed.specs.HalfFilled.{IsHalfFilled}
+use Rattle.schema_build_closed.specs.Kinds.{HasBothOrNeither, AppliesWhereOwn}
+use Rattle.schema_build_closed.specs.Formed.{IsFormed}
 use Rattle.schema_build_closed.specs.WellFormed.{IsWellFormed}
 use Rattle.schema_build_closed.proofs.Above.{ancestors_closed}
 use Rattle.schema_build_closed.proofs.Apart.{names_apart}
 use Rattle.schema_build_closed.proofs.Bare.{none_unsupported}
 use Rattle.schema_build_closed.proofs.Declared.{type_named}
 use Rattle.schema_build_closed.proofs.Entries.{has_choice, entity_closed, action_closed}
+use Rattle.schema_build_closed.proofs.Filled.{IsFilled, all_filled, none_half, neither_there, formed_too}
+use Rattle.schema_build_closed.proofs.Filled.{formed_filled}
 use Rattle.schema_build_closed.proofs.Known.{spelled, all_spelled}
 use Rattle.schema_build_closed.proofs.Lists.{each_has, all_have}
 use Rattle.schema_build_closed.proofs.Open.{names_open, known_proper}
@@ -63,17 +68,17 @@ module _ (table : ExtensionTable) (m : SchemaMeaning)
   }
 
 module _ {G : named.Ghosts RawName} (f : Fragment RawName G) (table : ExtensionTable) (m : SchemaMeaning)
-    (formed : IsWellFormed f) (mean : FragmentMeaning f table m) (rows : HasNoFault f table) where
+    (is_formed : IsFormed f) (mean : FragmentMeaning f table m) (rows : HasNoFault f table) (filled : IsFilled m) where
   abbrev entity_is : (e : EntityMeaning) → Contains m.entities e → IsClosedEntity table m e
-  entity_is = entity_closed f table m mean formed (none_unsupported f rows.features)
+  entity_is = entity_closed f table m mean is_formed (none_unsupported f rows.features)
       (none_used f table m mean rows.undeclared)
 
   abbrev action_is : (a : ActionMeaning) → Contains m.actions a → IsClosedAction table m a
-  action_is = action_closed f table m mean formed (none_unsupported f rows.features)
-      (none_used f table m mean rows.undeclared) (none_untyped f table rows.undefined)
+  action_is a c = action_closed f table m mean is_formed (none_unsupported f rows.features)
+      (none_used f table m mean rows.undeclared) a c (filled a c)
 
   abbrev choice_is : (e : EntityMeaning) → Contains m.entities e → HasChoice e.choices
-  choice_is = has_choice f table m mean formed (none_unsupported f rows.features)
+  choice_is = has_choice f table m mean is_formed (none_unsupported f rows.features)
       (none_used f table m mean rows.undeclared)
 
   made_of_words : IsOfWords m
@@ -95,7 +100,27 @@ module _ {G : named.Ghosts RawName} (f : Fragment RawName G) (table : ExtensionT
     uncaptured = uncaptured;
   }
 
-pub closed : {G : named.Ghosts RawName} (f : Fragment RawName G) (table : ExtensionTable) (m : SchemaMeaning)
-    → IsWellFormed f → FragmentMeaning f table m → Never (BuildFault f table) → IsUncaptured m → IsClosed table m
-closed f table m formed mean never uncaptured =
-    closed_by_rows f table m formed mean (no_fault f table never) uncaptured
+module _ {G : named.Ghosts RawName} (f : Fragment RawName G) (table : ExtensionTable) (m : SchemaMeaning) where
+  pub formed_closed : IsFormed f → FragmentMeaning f table m → Never (BuildFault f table) → IsUncaptured m
+      → (IsHalfFilled m → ⊥) → IsClosed table m
+  formed_closed is_formed mean never uncaptured none =
+      closed_by_rows f table m is_formed mean (no_fault f table never) (all_filled m none) uncaptured
+
+  -- what a well-formed fragment means is not half filled
+  pub closed : IsWellFormed f → FragmentMeaning f table m → Never (BuildFault f table) → IsUncaptured m
+      → IsClosed table m
+  closed formed mean never uncaptured =
+      let rows = no_fault f table never in
+      closed_by_rows f table m (formed_too f formed) mean rows
+      (formed_filled f formed table m mean (none_untyped f table rows.undefined)) uncaptured
+
+-- an action that applies to what closed actions do applies to both or to neither
+own_filled : (external : Bool) (a : ActionMeaning) → AppliesWhereOwn external a
+    → HasBothOrNeither a.principals a.resources a.context
+own_filled true a (ps, rs, context) = neither_there a.principals a.resources a.context ps rs context
+own_filled false a h = h
+
+-- no closed meaning is half filled
+pub closed_filled : (table : ExtensionTable) (m : SchemaMeaning) → IsClosed table m → IsHalfFilled m → ⊥
+closed_filled table m closed = none_half m
+    (λ a c. own_filled a.is_external a (each_has (IsClosedAction table m) m.actions a closed.actions c).applies)

@@ -42,15 +42,15 @@ use Rattle.schema_build_closed.specs.Ordered.{IsOrderedType}
 use Rattle.schema_build_closed.specs.Kinds.{HasItsParts, HasBothOrNeither, AppliesWhereOwn}
 use Rattle.schema_build_closed.specs.Known.{entity_names, action_names, AreKnownTypes, AreKnownTags}
 use Rattle.schema_build_closed.specs.Closed.{IsClosedEntity, IsClosedAction}
-use Rattle.schema_build_closed.specs.WellFormed.{TagsRise, IsKindFormed, AreRolesFormed, IsSpecFormed, IsWellFormed}
+use Rattle.schema_build_closed.specs.Formed.{ContextRises, IsFormed}
+use Rattle.schema_build_closed.specs.WellFormed.{TagsRise, IsKindFormed}
 use Rattle.schema_build_closed.proofs.Above.{ancestor_named, action_ancestor_named, enum_rootless}
 use Rattle.schema_build_closed.proofs.Bare.{empty_means, no_value, entity_bare, action_bare}
 use Rattle.schema_build_closed.proofs.Declared.{entity_declared, entity_stands, action_declared, action_stands}
-use Rattle.schema_build_closed.proofs.Formed.{rising_ordered, kind_formed, spec_formed}
+use Rattle.schema_build_closed.proofs.Formed.{rising_ordered, kind_formed, context_rises}
 use Rattle.schema_build_closed.proofs.Known.{known}
-use Rattle.schema_build_closed.proofs.Lists.{has_first, has_none, all_have}
+use Rattle.schema_build_closed.proofs.Lists.{all_have, no_members}
 use Rattle.schema_build_closed.proofs.Undeclared.{target_named}
-use Rattle.schema_build_closed.proofs.Undefined.{untyped, target_there}
 use Rattle.schema_build_closed.proofs.Walked.{entity_none, action_none, principal_none, resource_none}
 use Rattle.schema_build_closed.proofs.Words.{both_true}
 
@@ -61,21 +61,8 @@ none_rises R = tt
 none_ordered : IsOrderedType (plain.Rec no_more)
 none_ordered = (none_rises text_cmp, tt)
 
--- both, where there are both
-both_there : (ps rs : List (List (List ℕ))) (context : Attributes) (p r : List (List ℕ)) → Contains ps p
-    → Contains rs r → HasBothOrNeither ps rs context
-both_there [] rs context p r c d = has_none p c
-both_there (x ∷ ps) [] context p r c d = has_none r d
-both_there (x ∷ ps) (y ∷ rs) context p r c d = tt
-
-neither_there : (ps rs : List (List (List ℕ))) (context : Attributes) → ps ≡ [] → rs ≡ [] → context ≡ no_more
-    → HasBothOrNeither ps rs context
-neither_there [] [] context p r c = c
-neither_there [] (y ∷ rs) context p r c = absurd (cc)
-neither_there (x ∷ ps) rs context p r c = absurd (cc)
-
 module _ {G : named.Ghosts RawName} (f : Fragment RawName G) (table : ExtensionTable) (m : SchemaMeaning)
-    (mean : FragmentMeaning f table m) (formed : IsWellFormed f)
+    (mean : FragmentMeaning f table m) (is_formed : IsFormed f)
     (bare : of_fragment (λ ns part. unsupported part) f ≡ [])
     (undeclared : undeclared_uses (tests_of (defined f table)) f ≡ []) where
   abbrev scope : Scope RawName
@@ -90,7 +77,7 @@ module _ {G : named.Ghosts RawName} (f : Fragment RawName G) (table : ExtensionT
       → TagsExpand scope ns tags p → TagsRise tags → AreKnownTags table m p
   tags_closed ns None p e r = subst (AreKnownTags table m) (sym e) tt
   tags_closed ns (Some t) p (x, e, h) r =
-      subst (AreKnownTags table m) (sym e) (rising_ordered f formed table ns t x h r, known f table m mean ns t x h)
+      subst (AreKnownTags table m) (sym e) (rising_ordered f is_formed table ns t x h r, known f table m mean ns t x h)
 
   no_tags : (ns : Option InternalName) (tags : Option («Type» RawName)) (p : Option PlainType)
       → TagsExpand scope ns tags p → tags ≡ None → p ≡ None
@@ -115,7 +102,7 @@ module _ {G : named.Ghosts RawName} (f : Fragment RawName G) (table : ExtensionT
 
   ordered_by : (e : EntityMeaning) (ns : Option InternalName) (kind : EntityTypeKind RawName)
       → IsKindMeaning scope ns kind (kind_meaning e) → IsKindFormed kind → IsOrderedType (plain.Rec e.attributes)
-  ordered_by e ns (Standard k) km r = rising_ordered f formed table ns k.shape.0 (plain.Rec e.attributes) km.0 r.0
+  ordered_by e ns (Standard k) km r = rising_ordered f is_formed table ns k.shape.0 (plain.Rec e.attributes) km.0 r.0
   ordered_by e ns (Enum ids) km r = subst (λ xs. IsOrderedType (plain.Rec xs)) (sym km.0) none_ordered
 
   attributes_by : (e : EntityMeaning) (ns : Option InternalName) (kind : EntityTypeKind RawName)
@@ -137,21 +124,17 @@ module _ {G : named.Ghosts RawName} (f : Fragment RawName G) (table : ExtensionT
       seen_some [] h = h
       seen_some (x ∷ xs) h = tt
 
-  no_members : {A : Type 0} (xs : List A) → ((x : A) → Contains xs x → ⊥) → xs ≡ []
-  no_members [] none = refl
-  no_members (x ∷ xs) none = absurd (none x (has_first x xs))
-
   pub has_choice : (e : EntityMeaning) → Contains m.entities e → HasChoice e.choices
   has_choice e c =
       let (d, cd, is) = entity_declared f table m mean e c in
-      choices_by e (name_of d.ns) d.ty.kind is.kind (kind_formed f formed table d (entity_stands f d cd))
+      choices_by e (name_of d.ns) d.ty.kind is.kind (kind_formed f is_formed table d (entity_stands f d cd))
 
   pub entity_closed : (e : EntityMeaning) → Contains m.entities e → IsClosedEntity table m e
   entity_closed e c =
       let (d, cd, is) = entity_declared f table m mean e c in
       let s = entity_stands f d cd in
       let ns = name_of d.ns in
-      let r = kind_formed f formed table d s in
+      let r = kind_formed f is_formed table d s in
       let own : (d.ty.external ≡ true → is_bare_kind d.ty.kind ≡ true) =
       subst (λ (z : DeclaredEntity). z.ty.external ≡ true → is_bare_kind z.ty.kind ≡ true) s.is
       (entity_bare s.item.1 (entity_none (λ ns part. unsupported part) f bare d s)) in
@@ -169,8 +152,7 @@ module _ {G : named.Ghosts RawName} (f : Fragment RawName G) (table : ExtensionT
       }
 
   -- what an action applies to
-  module _ (untyped_none : of_fragment (untyped (tests_of (defined f table))) f ≡ [])
-      (a : ActionMeaning) (d : Declared ActionAt (ActionType RawName G)) (c : Contains (declared_actions f) d)
+  module _ (a : ActionMeaning) (d : Declared ActionAt (ActionType RawName G)) (c : Contains (declared_actions f) d)
       (is : IsActionMeaning f table d a) where
     abbrev all_tests : Tests
     all_tests = tests_of (defined f table)
@@ -186,64 +168,22 @@ module _ {G : named.Ghosts RawName} (f : Fragment RawName G) (table : ExtensionT
         let (p, cp, e) = (just.just b).0 cb in
         target_named f table m mean d.ns p b (quiet p cp) e)
 
-    meant_one : (p : RawName) (names : List RawName) (found : List (List (List ℕ)))
-        → AreJust components_cmp (IsMeantByOne all_tests d.ns (p ∷ names)) found
-        → untyped all_tests d.ns (principal p) ≡ [] → (b : List (List ℕ)) × Contains found b
-    meant_one p names found just quiet =
-        let (b, e) = target_there all_tests d.ns p quiet in
-        (b, (just.just b).1 (p, has_first p names, e))
-
-    none_meant : (found : List (List (List ℕ))) → AreJust components_cmp (IsMeantByOne all_tests d.ns []) found
-        → found ≡ []
-    none_meant found just = no_members found (λ b c. (let (p, cp, e) = (just.just b).0 c in has_none p cp))
-
-    -- names of both, or of neither
-    roles_by : (names others : List RawName) (context : «Type» RawName)
-        → AreJust components_cmp (IsMeantByOne all_tests d.ns names) a.principals
-        → AreJust components_cmp (IsMeantByOne all_tests d.ns others) a.resources
-        → Expands RawName scope (name_of d.ns) context (plain.Rec a.context) → AreRolesFormed names others context
-        → ((p : RawName) → Contains names p → untyped all_tests d.ns (principal p) ≡ [])
-        → ((p : RawName) → Contains others p → untyped all_tests d.ns (principal p) ≡ [])
-        → HasBothOrNeither a.principals a.resources a.context
-    roles_by [] [] context ps rs x r quiet also =
-        neither_there a.principals a.resources a.context (none_meant a.principals ps) (none_meant a.resources rs)
-        (empty_means scope (name_of d.ns) context a.context r x)
-    roles_by [] (q ∷ qs) context ps rs x r quiet also = absurd r
-    roles_by (p ∷ ns) [] context ps rs x r quiet also = absurd r
-    roles_by (p ∷ ns) (q ∷ qs) context ps rs x r quiet also =
-        let (b, cb) = meant_one p ns a.principals ps (quiet p (has_first p ns)) in
-        let (k, ck) = meant_one q qs a.resources rs (also q (has_first q qs)) in
-        both_there a.principals a.resources a.context b k cb ck
-
+    -- another schema's action applies to nothing
     applies_by : (spec : Option (ApplySpec RawName)) → d.ty.applies_to ≡ spec
-        → IsApplyMeaning all_tests scope d.ns spec (apply_meaning a) → IsSpecFormed spec → (external : Bool)
-        → d.ty.external ≡ external → AppliesWhereOwn external a
-    applies_by None e am r true x = (am.0, am.1, am.2)
-    applies_by None e am r false x = neither_there a.principals a.resources a.context am.0 am.1 am.2
-    applies_by (Some spec) e am r true x =
+        → IsApplyMeaning all_tests scope d.ns spec (apply_meaning a) → (external : Bool) → d.ty.external ≡ external
+        → HasBothOrNeither a.principals a.resources a.context → AppliesWhereOwn external a
+    applies_by None e am true x filled = (am.0, am.1, am.2)
+    applies_by (Some spec) e am true x filled =
         let s = action_stands f d c in
         let own : (d.ty.external ≡ true → is_bare_action d.ty ≡ true) =
         subst (λ (z : Declared ActionAt (ActionType RawName G)). z.ty.external ≡ true → is_bare_action z.ty ≡ true)
         s.is (action_bare s.item.1 (action_none (λ ns part. unsupported part) f bare d s)) in
         let both = both_true (is_none d.ty.attributes) (is_none d.ty.applies_to) (own x) in
         absurd (let no : Some spec ≡ None = sym e ∙ no_value d.ty.applies_to both.1 in cc)
-    applies_by (Some spec) e am r false x =
-        let s = action_stands f d c in
-        let places : s.entry.0 ≡ d.ns = ap (λ (z : Declared ActionAt (ActionType RawName G)). z.ns) s.is in
-        let applies : s.item.1.applies_to ≡ Some spec =
-        ap (λ (z : Declared ActionAt (ActionType RawName G)). z.ty.applies_to) s.is ∙ e in
-        let walk = action_none (untyped all_tests) f untyped_none d s in
-        let quiet_principals = λ (p : RawName) (cp : Contains spec.principal_types p).
-        ap (λ ns. untyped all_tests ns (principal p)) (sym places)
-        ∙ principal_none (untyped all_tests s.entry.0) s.item.1 walk spec applies p cp in
-        let quiet_resources = λ (p : RawName) (cp : Contains spec.resource_types p).
-        ap (λ ns. untyped all_tests ns (resource p)) (sym places)
-        ∙ resource_none (untyped all_tests s.entry.0) s.item.1 walk spec applies p cp in
-        roles_by spec.principal_types spec.resource_types spec.context.0 am.0 am.1 am.2 r.0 quiet_principals
-        quiet_resources
+    applies_by spec e am false x filled = filled
 
     closed_by : (spec : Option (ApplySpec RawName)) → d.ty.applies_to ≡ spec
-        → IsApplyMeaning all_tests scope d.ns spec (apply_meaning a) → IsSpecFormed spec
+        → IsApplyMeaning all_tests scope d.ns spec (apply_meaning a) → ContextRises spec
         → AppliesWhereOwn a.is_external a → IsClosedAction table m a
     closed_by None e am r own = record {
       applies = own;
@@ -277,15 +217,16 @@ module _ {G : named.Ghosts RawName} (f : Fragment RawName G) (table : ExtensionT
           resources = named_all spec.resource_types a.resources am.1
               (λ p cp. ap (λ ns. given ns (resource p)) (sym places)
               ∙ resource_none (given s.entry.0) s.item.1 walk spec applies p cp);
-          ordered = rising_ordered f formed table (name_of d.ns) spec.context.0 (plain.Rec a.context) am.2 r.1;
+          ordered = rising_ordered f is_formed table (name_of d.ns) spec.context.0 (plain.Rec a.context) am.2 r;
           context = record_closed (name_of d.ns) spec.context.0 a.context am.2;
         }
 
-  pub action_closed : of_fragment (untyped (tests_of (defined f table))) f ≡ [] → (a : ActionMeaning)
-      → Contains m.actions a → IsClosedAction table m a
-  action_closed none a c =
+  -- an action of which all is told
+  pub action_closed : (a : ActionMeaning) → Contains m.actions a → HasBothOrNeither a.principals a.resources a.context
+      → IsClosedAction table m a
+  action_closed a c filled =
       let (d, cd, is) = action_declared f table m mean a c in
-      let r = spec_formed f formed table d (action_stands f d cd) in
+      let r = context_rises f is_formed table d (action_stands f d cd) in
       let own = subst (λ x. AppliesWhereOwn x a) (sym is.is_external)
-      (applies_by none a d cd is d.ty.applies_to refl is.applies r d.ty.external refl) in
-      closed_by none a d cd is d.ty.applies_to refl is.applies r own
+      (applies_by a d cd is d.ty.applies_to refl is.applies d.ty.external refl filled) in
+      closed_by a d cd is d.ty.applies_to refl is.applies r own

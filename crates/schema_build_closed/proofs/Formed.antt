@@ -1,4 +1,4 @@
--- The types of a well-formed fragment rise.
+-- The types of a formed fragment rise.
 use Rattle.std.proofs.Common.{◌≡◌, ℕ, Bool, true, false, cond, List, [], ◌∷◌, map, All, Contains, Option, Some, None}
 use Rattle.std.proofs.Common.{subst}
 use Rattle.std.specs.Prelude.{codes}
@@ -30,7 +30,8 @@ use Rattle.schema_build_hierarchy.proofs.Above.{contains_at}
 use Rattle.schema_build_hierarchy.proofs.Gathered.{contains_flat}
 use Rattle.schema_build_hierarchy.proofs.Ordered.{contains_map, contains_unmap}
 use Rattle.schema_build_closed.specs.Ordered.{IsOrderedType}
-use Rattle.schema_build_closed.specs.WellFormed.{Rises, IsKindFormed, IsSpecFormed, IsWellFormed}
+use Rattle.schema_build_closed.specs.Formed.{ContextRises, IsFormed}
+use Rattle.schema_build_closed.specs.WellFormed.{Rises, IsKindFormed}
 use Rattle.schema_build_closed.proofs.Declared.{EntityStands, ActionStands}
 use Rattle.schema_build_closed.proofs.Lists.{has_first, has_later, same_some}
 use Rattle.schema_build_closed.proofs.Rising.{ordered}
@@ -58,19 +59,19 @@ builtin_ordered s (v ∷ w ∷ []) p e = by_test (bytes_eq v (codes "__cedar")) 
 builtin_ordered s (v ∷ w ∷ x ∷ more) p e = absurd (cc)
 
 -- what holds of all values of entries holds of those of their map
-values_kept : {K X : Type 0} (cmp : K → K → Ordering) (P : X → Type 0) (old es : List (K × X))
+pub values_kept : {K X : Type 0} (cmp : K → K → Ordering) (P : X → Type 0) (old es : List (K × X))
     → All P (values_of old) → ((e : K × X) → Contains es e → P e.1) → All P (values_of (with_entries cmp old es))
 values_kept cmp P old [] h each = h
 values_kept cmp P old (e ∷ es) h each =
     values_kept cmp P (insert_entry cmp old e.0 e.1) es
     (All-values-insert_entry cmp e.0 e.1 P old h (each e (has_first e es))) (λ x c. each x (has_later e es x c))
 
-module _ {G : named.Ghosts RawName} (f : Fragment RawName G) (formed : IsWellFormed f) (table : ExtensionTable) where
+module _ {G : named.Ghosts RawName} (f : Fragment RawName G) (is_formed : IsFormed f) (table : ExtensionTable) where
   commons_rise : (c : InternalName × TypeAt) → Contains (declared_commons f) c → Rises RawName c.1.ty
   commons_rise c there =
       let (e, ce, d) = contains_flat (λ e. map (common_entry e.0) e.1.common_types) f.0 c there in
       let (x, cx, same) = contains_unmap (common_entry e.0) e.1.common_types c d in
-      let all = All-contains (λ e. All (λ c. Rises RawName c.1.ty) e.1.common_types) f.0 e formed.commons ce in
+      let all = All-contains (λ e. All (λ c. Rises RawName c.1.ty) e.1.common_types) f.0 e is_formed.commons ce in
       let one : Rises RawName x.1.ty = All-contains (λ c. Rises RawName c.1.ty) e.1.common_types x all cx in
       subst (λ (z : InternalName × TypeAt). Rises RawName z.1.ty) same one
 
@@ -92,14 +93,15 @@ module _ {G : named.Ghosts RawName} (f : Fragment RawName G) (formed : IsWellFor
 
   pub kind_formed : (d : DeclaredEntity) → EntityStands f d → IsKindFormed d.ty.kind
   kind_formed d s =
-      let all = All-contains (λ e. All (λ d. IsKindFormed d.1.kind) e.1.entity_types) f.0 s.entry formed.entities
+      let all = All-contains (λ e. All (λ d. IsKindFormed d.1.kind) e.1.entity_types) f.0 s.entry is_formed.entities
       s.inside in
       let one = All-contains (λ d. IsKindFormed d.1.kind) s.entry.1.entity_types s.item all s.among in
       subst (λ (z : DeclaredEntity). IsKindFormed z.ty.kind) s.is one
 
-  pub spec_formed : (d : DeclaredAs ActionAt (ActionType RawName G)) → ActionStands f d → IsSpecFormed d.ty.applies_to
-  spec_formed d s =
-      let all = All-contains (λ e. All (λ a. IsSpecFormed a.1.applies_to) e.1.actions) f.0 s.entry formed.actions
+  pub context_rises : (d : DeclaredAs ActionAt (ActionType RawName G)) → ActionStands f d
+      → ContextRises d.ty.applies_to
+  context_rises d s =
+      let all = All-contains (λ e. All (λ a. ContextRises a.1.applies_to) e.1.actions) f.0 s.entry is_formed.actions
       s.inside in
-      let one = All-contains (λ a. IsSpecFormed a.1.applies_to) s.entry.1.actions s.item all s.among in
-      subst (λ (z : DeclaredAs ActionAt (ActionType RawName G)). IsSpecFormed z.ty.applies_to) s.is one
+      let one = All-contains (λ a. ContextRises a.1.applies_to) s.entry.1.actions s.item all s.among in
+      subst (λ (z : DeclaredAs ActionAt (ActionType RawName G)). ContextRises z.ty.applies_to) s.is one

@@ -16,9 +16,13 @@ mod Chains
 mod Above
 mod Formed
 mod Entries
+mod Filled
 mod Closing
 mod Views
 mod SaidTypes
+mod JsonTypes
+mod JsonMaps
+mod JsonFragments
 mod SaidDecls
 pub mod SaidFragments
 pub mod Scanned

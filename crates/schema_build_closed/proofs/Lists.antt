@@ -1,6 +1,6 @@
 -- Members of lists, and lists side by side.
-use Rattle.std.proofs.Common.{◌≡◌, Bool, true, false, cond, List, [], ◌∷◌, ◌++◌, Contains, Ordering, Option, Some, None}
-use Rattle.std.proofs.Common.{refl, sym, ap, ◌∙◌, subst, inl, inr, arith}
+use Rattle.std.proofs.Common.{◌≡◌, Bool, true, false, cond, List, [], ◌∷◌, ◌++◌, All, Contains, Ordering, Option, Some}
+use Rattle.std.proofs.Common.{None, refl, sym, ap, ◌∙◌, subst, inl, inr, arith}
 use Rattle.std.specs.Option.{option_map}
 use Rattle.std.specs.List.{AllByRecursion, AllZip, flat_map}
 use Rattle.std.specs.List.Sorted.{IsStrictlySortedBy}
@@ -21,12 +21,20 @@ has_later x xs y c = Contains-append_right (x ∷ []) xs y c
 pub has_none : {A X : Type 0} (x : A) → Contains [] x → X
 has_none x c = absurd (omega (arith, c.1))
 
+pub no_members : {A : Type 0} (xs : List A) → ((x : A) → Contains xs x → ⊥) → xs ≡ []
+no_members [] none = refl
+no_members (x ∷ xs) none = absurd (none x (has_first x xs))
+
 -- what holds of all holds of each, and the other way round
 pub each_has : {A : Type 0} (P : A → Type 0) (xs : List A) (x : A) → AllByRecursion P xs → Contains xs x → P x
 each_has P xs x h c = All-contains P xs x (All-from_recursion P xs h) c
 
 pub all_have : {A : Type 0} (P : A → Type 0) (xs : List A) → ((x : A) → Contains xs x → P x) → AllByRecursion P xs
 all_have P xs each = recursion_from_All P xs (All-weaker (Contains xs) P (λ x c. each x c) xs (All-contains_itself xs))
+
+-- the same, by index
+pub all_of : {A : Type 0} (P : A → Type 0) (xs : List A) → ((x : A) → Contains xs x → P x) → All P xs
+all_of P xs each = All-weaker (Contains xs) P (λ x c. each x c) xs (All-contains_itself xs)
 
 pub in_flat : {A B : Type 0} (g : A → List B) (xs : List A) (x : A) (y : B) → Contains xs x → Contains (g x) y
     → Contains (flat_map g xs) y

@@ -5,7 +5,6 @@ use Rattle.std.specs.Prelude.{filter, if◌then◌else◌}
 use Rattle.std.specs.BTreeMap.{is_at}
 use Rattle.std.specs.List.{AllByRecursion, flat_map}
 use Rattle.std.specs.Option.{option_or}
-use Rattle.std.proofs.lemmas.List.Elements.{All-weaker, All-contains_itself}
 use Rattle.cedar_data.specs.Text.{text_cmp}
 use Rattle.cedar_identifiers.specs.declared.name.Name.{Name}
 use Rattle.cedar_identifiers.specs.declared.raw_name.RawName.{RawName}
@@ -25,12 +24,9 @@ use Rattle.schema_says.specs.Sayable.{AppliesWell, IsSayable}
 use Rattle.schema_says.proofs.Orders.{text_total, namespace_total}
 use Rattle.schema_build_closed.specs.Chosen.{IsChosenDecl, AreChosen}
 use Rattle.schema_build_closed.specs.WellFormed.{Rises, IsKindFormed, IsSpecFormed, IsWellFormed}
-use Rattle.schema_build_closed.proofs.Lists.{same_some}
+use Rattle.schema_build_closed.proofs.Lists.{all_of, same_some}
 use Rattle.schema_build_closed.proofs.SaidDecls.{kind_said, common_said, spec_said}
 use Rattle.schema_build_closed.proofs.SaidTypes.{found_there}
-
-all_of : {A : Type 0} (P : A → Type 0) (xs : List A) → ((x : A) → Contains xs x → P x) → All P xs
-all_of P xs each = All-weaker (Contains xs) P (λ x c. each x c) xs (All-contains_itself xs)
 
 -- what is found says something that is written
 found_some : {V W : Type 0} (Says : V → W → Type 0) (v : V) (o : Option W) → FoundSays Says (Some v) o

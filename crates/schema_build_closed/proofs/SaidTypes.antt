@@ -50,10 +50,10 @@ module _ {K N V : Type 0} {order : N → N → Ordering} (total : IsTotalOrder o
         ∙ found_there es (sorted_tail order (name d.0) names up) e there
   ]
 
-by_layer_of : (t : «Type» RawName) (v : View RawName) → view t ≡ v → LayerRises RawName v → Rises RawName t
+pub by_layer_of : (t : «Type» RawName) (v : View RawName) → view t ≡ v → LayerRises RawName v → Rises RawName t
 by_layer_of t v e h = rises_by_layer t (subst (LayerRises RawName) (sym e) h)
 
-all_rise : (es : List (List ℕ × TypeOfAttribute RawName))
+pub all_rise : (es : List (List ℕ × TypeOfAttribute RawName))
     → ((e : List ℕ × TypeOfAttribute RawName) → Contains es e → Rises RawName (out-TypeOfAttribute RawName e.1).ty)
     → AllRise RawName es
 all_rise [] each = none_rise

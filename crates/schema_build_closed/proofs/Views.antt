@@ -13,7 +13,7 @@ use Rattle.schema_json.specs.declared.types.RecordType.{RecordType}
 use Rattle.schema_build_expand.specs.View.{set_layer, record_layer, reference_layer, shape_view, outer_view, view}
 use Rattle.schema_build_closed.proofs.Bare.{ShapeOf, empty_shape, empty_outside, alike_type}
 
-shape_viewed : (v : TypeVariant RawName) (o : ShapeOf) (loc : Option Span) → out-TypeVariant RawName v ≡ o
+pub shape_viewed : (v : TypeVariant RawName) (o : ShapeOf) (loc : Option Span) → out-TypeVariant RawName v ≡ o
     → view (shape.Variant v loc) ≡ shape_view o
 shape_viewed v o loc e = ap view (sym (shape.rolls-Variant v loc))
     ∙ (ap outer_view (out-roll-Type RawName (Type-F.Variant v loc)) ∙ ap shape_view e)

@@ -1,9 +1,10 @@
 //! Laws of meanings of fragments without a build fault. Each law is what its function ensures.
-ghost use Rattle.std.specs.Prelude.{ℕ, List};
+ghost use Rattle.std.specs.Prelude.{◌↔◌, ℕ, List};
 ghost use Rattle.cedar_identifiers.specs.declared.raw_name.RawName.{RawName};
 ghost use Rattle.cedar_names.specs.Meaning.{SchemaMeaning};
 ghost use Rattle.cedar_names.specs.declared.extension_table.ExtensionTable.{ExtensionTable};
 ghost use Rattle.schema_json.specs.declared.fragment.Fragment.{Fragment};
+ghost use Rattle.schema_json_io.specs.Texts.{TextShape};
 ghost use Rattle.schema_convert_types.specs.Declarations.{as_written};
 ghost use Rattle.schema_convert_errors.specs.declared.warnings.SchemaWarning.{SchemaWarning};
 ghost use Rattle.schema_convert.specs.Translated.{IsTranslationOfText};
@@ -16,12 +17,22 @@ ghost use Rattle.schema_build_parts.specs.BuildFaults.{BuildFault};
 ghost use Rattle.schema_build.specs.Meaning.{FragmentMeaning};
 ghost use Rattle.schema_build_closed.specs.Chosen.{AreChosen};
 ghost use Rattle.schema_build_closed.specs.Closed.{IsClosed};
+ghost use Rattle.schema_build_closed.specs.HalfFilled.{IsHalfFilled};
+ghost use Rattle.schema_build_closed.specs.Formed.{IsFormed};
 ghost use Rattle.schema_build_closed.specs.WellFormed.{IsWellFormed};
 
 use schema_readback::laws::trees_are_spelled;
 use schema_says::laws::{faults_depend_on_what_is_said, fragments_say_what_trees_say};
 
-/// What a fragment without a build fault means is closed, where nothing in it is captured.
+/// What a formed fragment without a build fault means is closed exactly where it is not half filled, where nothing in
+/// it is captured.
+pub fn formed_meanings_are_closed()
+    ensures { (f : Fragment RawName as_written) (table : ExtensionTable) (m : SchemaMeaning) → IsFormed f
+        → FragmentMeaning f table m → Never (BuildFault f table) → IsUncaptured m
+        → IsClosed table m ↔ (¬ IsHalfFilled m) }
+{}
+
+/// What a well-formed fragment without a build fault means is closed, where nothing in it is captured.
 pub fn meanings_are_closed()
     ensures { (f : Fragment RawName as_written) (table : ExtensionTable) (m : SchemaMeaning) → IsWellFormed f
         → FragmentMeaning f table m → Never (BuildFault f table) → IsUncaptured m → IsClosed table m }
@@ -52,4 +63,20 @@ pub fn meanings_of_texts_are_closed()
 {
     fragments_of_texts_are_well_formed();
     meanings_are_closed();
+}
+
+/// The fragment that a JSON text says is formed.
+pub fn fragments_of_json_are_formed()
+    ensures { (text : List ℕ) (f : Fragment RawName as_written) → TextShape text f → IsFormed f }
+{}
+
+/// What the fragment of a JSON text means is closed exactly where it is not half filled, where the fragment has no
+/// build fault and nothing in its meaning is captured.
+pub fn meanings_of_json_are_closed()
+    ensures { (text : List ℕ) (table : ExtensionTable) (f : Fragment RawName as_written) (m : SchemaMeaning)
+        → TextShape text f → FragmentMeaning f table m → Never (BuildFault f table) → IsUncaptured m
+        → IsClosed table m ↔ (¬ IsHalfFilled m) }
+{
+    fragments_of_json_are_formed();
+    formed_meanings_are_closed();
 }

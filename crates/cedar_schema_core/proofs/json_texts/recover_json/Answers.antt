@@ -1,5 +1,7 @@
 use Rattle.std.proofs.Common.{length, ap, ◌∙◌}
+use Rattle.std.specs.Str.{encode_utf8_all}
 use Rattle.std.proofs.lemmas.Result.{err_from_is_err_and}
+use Rattle.cedar_schema_core.proofs.Canonical.{json_kept}
 use Rattle.cedar_schema_core.proofs.Counted.{entities_counted, actions_counted}
 use Rattle.cedar_schema_core.proofs.JsonRefusals.{unread, unbuilt_json, unprinted_json}
 use Rattle.cedar_schema_core.proofs.json_texts.recover_json.Goals as goal
@@ -47,3 +49,16 @@ returns-clause-recovered c =
           ∙ entities_counted schema.entity_types schema.actions built.0 built.2;
       actions = ap length c.actions.ensures ∙ actions_counted schema.entity_types schema.actions built.0 built.2;
     }
+
+pub returns-clause-keeps : goal.returns-clause-keeps
+returns-clause-keeps c = λ n k.
+    let built = c.in_ok-schema.ensures.built in
+    json_kept c.one_json_reading.ensures.meaning c.texts_of_json_mean_the_same.ensures c.args.text.now
+    c.args.table.now built.0 n (encode_utf8_all c.in_ok-text.text) (c.in_ok-text.ensures.text built.0 built.2)
+    (record {
+      fragment = c.in_ok-fragment.fragment;
+      says = c.in_ok-fragment.ensures.said;
+      faultless = c.in_ok-schema.ensures.faultless;
+      means = built.1;
+      uncaptured = c.in_ok-text.ensures.uncaptured built.0 built.2;
+    }) k

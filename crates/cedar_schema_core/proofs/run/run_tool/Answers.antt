@@ -15,7 +15,7 @@ returns-in-Ok-clause-completed g c =
 
 pub returns-in-Ok-clause-recovers : goal.returns-in-Ok-clause-recovers
 returns-in-Ok-clause-recovers g c = λ d.
-    kept c.canonical_texts_mean_the_same.ensures _ _ _ _
+    kept c.canonical_texts_mean_the_same.ensures c.texts_of_json_mean_the_same.ensures _ _ _ _
     (completed _ _ _ _ c.deliver.result
     (delivered (report_of c.in-Ok.reply) c.in-Ok.ensures.reported c.deliver.ensures.delivered) d)
 
