@@ -1,12 +1,13 @@
 //! Laws of what a text means and of what the program is to do. Each law is what its function ensures; the functions do
 //! nothing but cite laws below them.
-ghost use Rattle.std.specs.Prelude.{◌≡◌, ◌≢◌, ◌↔◌, ℕ, Bool, List, IsUtf8};
+ghost use Rattle.std.specs.Prelude.{◌≡◌, ◌≢◌, ◌↔◌, ◌≤◌, ℕ, Bool, List, IsUtf8};
 ghost use Rattle.std.specs.Str.{encode_utf8_all};
 ghost use Rattle.cedar_identifiers.specs.declared.raw_name.RawName.{RawName as Raw};
 ghost use Rattle.cedar_names.specs.CanonicalText.{schema_text, canonical_text};
 ghost use Rattle.cedar_names.specs.Meaning.{SchemaMeaning};
 ghost use Rattle.cedar_names.specs.declared.extension_table.ExtensionTable.{ExtensionTable};
 ghost use Rattle.schema_json.specs.declared.fragment.Fragment.{Fragment};
+ghost use Rattle.schema_generate.specs.Generated.{max_size, generated};
 ghost use Rattle.schema_convert_types.specs.Declarations.{as_written};
 ghost use Rattle.schema_convert_errors.specs.declared.error_list.CedarSchemaParseErrors.{CedarSchemaParseErrors};
 ghost use Rattle.schema_convert_errors.specs.declared.warnings.SchemaWarning.{SchemaWarning};
@@ -25,6 +26,9 @@ use cedar_schema_core_faults::RecoverError;
 use schema_build::{one_build_fault, one_fragment_meaning};
 use schema_build_closed::laws::{meanings_of_json_are_closed, meanings_of_texts_are_closed};
 use schema_build_says::laws::what_says_a_closed_meaning_means_it;
+use schema_generate_valid::laws::{
+    generated_texts_are_translated, what_is_generated_means_something,
+};
 use schema_says::laws::texts_of_meanings_are_translated;
 use schema_syntax::laws::tree_or_error;
 use schema_syntax_laws::{one_error, one_tree};
@@ -177,4 +181,13 @@ pub fn recovered_json_recovers_itself()
 {
     texts_of_json_mean_the_same();
     one_text_meaning();
+}
+
+/// A generated text is valid, under every table.
+pub fn generated_texts_are_valid()
+    ensures { (n : ℕ) (table : ExtensionTable) → 1 ≤ n → n ≤ max_size → IsValid (generated n) table }
+{
+    generated_texts_are_translated();
+    what_is_generated_means_something();
+    syntax_is_sentence();
 }

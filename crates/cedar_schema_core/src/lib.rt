@@ -16,10 +16,10 @@ pub use cedar_schema_core_faults::{RecoverError, fault_text};
 pub use command::Command;
 pub use json_texts::{JsonForm, recover_json, to_json_text};
 pub use laws::{
-    canonical_texts_mean_the_same, canonical_texts_tell_meanings_apart, one_json_reading, one_plan,
-    one_refusal, one_text_meaning, one_translation, recovered_json_recovers_itself,
-    recovered_texts_recover_themselves, refused_or_valid, texts_of_closed_meanings_mean_them,
-    texts_of_json_mean_the_same,
+    canonical_texts_mean_the_same, canonical_texts_tell_meanings_apart, generated_texts_are_valid,
+    one_json_reading, one_plan, one_refusal, one_text_meaning, one_translation,
+    recovered_json_recovers_itself, recovered_texts_recover_themselves, refused_or_valid,
+    texts_of_closed_meanings_mean_them, texts_of_json_mean_the_same,
 };
 pub use recover::{Recovered, recover_schema};
 pub use run::run_tool;

@@ -28,13 +28,13 @@ use Rattle.schema_says.proofs.Orders.{text_total, text_exact, namespace_total, n
 use Rattle.schema_build_says.proofs.Members.{IsIn, in_map, map_to, in_flat, flat_to, found_there}
 
 -- what is found says something that is written
-found_some : {V W : Type 0} (Says : V → W → Type 0) (v : V) (o : Option W) → FoundSays Says (Some v) o
+pub found_some : {V W : Type 0} (Says : V → W → Type 0) (v : V) (o : Option W) → FoundSays Says (Some v) o
     → (w : W) × (o ≡ Some w) × Says v w
 found_some Says v None h = absurd h
 found_some Says v (Some w) h = (w, refl, h)
 
 -- something is found that says what is written
-found_value : {V W : Type 0} (Says : V → W → Type 0) (o : Option V) (w : W) → FoundSays Says o (Some w)
+pub found_value : {V W : Type 0} (Says : V → W → Type 0) (o : Option V) (w : W) → FoundSays Says o (Some w)
     → (v : V) × (o ≡ Some v)
 found_value Says None w h = absurd h
 found_value Says (Some v) w h = (v, refl)
@@ -44,7 +44,7 @@ pair_same : {A B : Type 0} (a c : A) (b d : B) → a ≡ c → b ≡ d
 pair_same a c b d e f = λ i. (e i, f i)
 
 -- what is found beside a name stands there
-lookup_in : {K N V : Type 0} (order : N → N → Ordering) (name : K → N) (es : List (K × V)) (n : N) (v : V)
+pub lookup_in : {K N V : Type 0} (order : N → N → Ordering) (name : K → N) (es : List (K × V)) (n : N) (v : V)
     → lookup (λ k. is_at (order n) (name k)) es ≡ Some v
     → (k : K) × IsIn (let p : K × V = (k, v) in p) es × (order n (name k) ≡ Equal)
 lookup_in order name [] n v h = absurd (true≢false (sym (ap is_some h)))

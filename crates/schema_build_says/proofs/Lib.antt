@@ -1,4 +1,4 @@
-mod Blocks
+pub mod Blocks
 mod DeclaredActions
 mod DeclaredEntities
 mod Defining
@@ -7,7 +7,7 @@ mod Expanding
 mod Faultless
 mod Just
 mod Meant
-mod Members
+pub mod Members
 mod Parents
 mod Themselves
 mod Uncaptured

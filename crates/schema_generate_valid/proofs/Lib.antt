@@ -1,0 +1,13 @@
+mod Ancestors
+mod Declared
+mod Defined
+mod Expanding
+mod Faultless
+mod Given
+mod Meant
+mod Names
+mod Records
+mod Sayable
+mod Spelled
+mod Walked
+mod Words

@@ -1,0 +1,3 @@
+pub mod Declares
+pub mod Pieces
+pub mod Said
