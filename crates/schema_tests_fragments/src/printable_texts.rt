@@ -4,16 +4,20 @@ use crate::printable_table::printable_lines;
 use cedar_names::ExtensionTable;
 use schema_json_io::read::from_json_str;
 use schema_print::is_printable;
+use schema_print_faithful::faithful_text;
 use schema_tests_lines::answer_and_text;
 use std::alloc::Global;
 
-// Is the fragment of the line's text printable where the line says so?
+// Is the fragment of the line's text printable, and has it a faithful text, where the line says so?
 fn agrees(alloc: Global, line: &str, table: &ExtensionTable) -> bool {
     let (answer, text) = answer_and_text(line);
-    match from_json_str(alloc, text) {
-        Ok(fragment) => is_printable(&fragment, table) == (answer == "yes"),
-        Err(_) => false,
-    }
+    let Ok(fragment) = from_json_str(alloc, text) else {
+        return false;
+    };
+    let Ok(faithful) = faithful_text(alloc, &fragment, table) else {
+        return false;
+    };
+    is_printable(&fragment, table) == (answer == "yes") && faithful.is_some() == (answer == "yes")
 }
 
 // The first of the lines that does not agree, or nothing.
