@@ -111,7 +111,7 @@ fn count_written(alloc: Global, text: &str, words: &str) -> Result<Option<usize>
         return Ok(None);
     }
     match str::from_utf8(out.as_slice()) {
-        Ok(written) => Ok(Some(written.split(words).count() - 1)),
+        Ok(written) => Ok(Some(written.split(words).count().saturating_sub(1))),
         Err(_) => Ok(None),
     }
 }
