@@ -1,0 +1,12 @@
+pub mod Fields
+pub mod Placed
+pub mod Names
+pub mod Notes
+pub mod BareTypes
+pub mod Types
+pub mod Records
+pub mod Lists
+pub mod Entities
+pub mod Actions
+pub mod Fragments
+pub mod Reading
