@@ -56,3 +56,41 @@ fn printed_texts_agree_with_table(rt: HostRuntime) {
     let wrong = first_wrong(rt.alloc(), printed_lines());
     assert!(rt; wrong.is_empty(), "{wrong}");
 }
+
+// Texts whose fragments are those of their printed texts.
+const READ_BACK: &str = "entity User = { jobLevel: Long, } tags Set<String>;
+entity Foo {a: {}};
+entity Foo enum [\"\\0\\n\\x7f\"];
+entity enum enum [\"enum\"];
+action Delete in Action::\"\\n\\x00\";
+external entity external;
+namespace N { external entity Foo in [N::Bar, Baz]; }
+external action Foo, Bar in [Action::\"Baz\"];
+@doc(\"n\") namespace T { @doc(\"c\") type Task = { @doc(\"id\") \"id\": Long, }; }";
+
+// Does the printed text of the fragment say it again, whatever its places?
+fn is_said_again(alloc: Global, fragment: &Fragment<RawName>, table: &ExtensionTable) -> bool {
+    let Ok(printed) = fragment.to_cedarschema(alloc) else {
+        return false;
+    };
+    match parse_cedar_schema_fragment(alloc, printed.as_str(), table) {
+        Ok((again, _)) => again == *fragment,
+        Err(_) => false,
+    }
+}
+
+// Is the text one of a fragment whose printed text says it again?
+fn reads_back(alloc: Global, text: &str) -> bool {
+    let table = ExtensionTable::none(alloc);
+    match parse_cedar_schema_fragment(alloc, text, &table) {
+        Ok((fragment, _)) => is_said_again(alloc, &fragment, &table),
+        Err(_) => false,
+    }
+}
+
+#[test]
+fn printed_texts_read_back(rt: HostRuntime) {
+    for line in READ_BACK.lines() {
+        assert!(rt; reads_back(rt.alloc(), line), "{line}");
+    }
+}
