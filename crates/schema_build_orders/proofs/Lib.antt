@@ -18,6 +18,4 @@ mod Reordering
 mod Rearranging
 mod Saying
 mod Ordered
-mod Spelled
 mod Texts
-mod Tokens

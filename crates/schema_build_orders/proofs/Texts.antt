@@ -36,7 +36,7 @@ use Rattle.schema_build.specs.FaultsTold.{IsInOrder}
 use Rattle.schema_build_orders.specs.Alike.{declared_alone, DeclareTheSame}
 use Rattle.schema_build_orders.specs.Reordered.{AreRearranged}
 use Rattle.schema_build_orders.specs.Texts.{IsWrittenAs, HaveTheSameTokens, IsTranslatedAlike}
-use Rattle.schema_build_orders.proofs.Spelled.{schema_named}
+use Rattle.schema_build_closed.proofs.Spelled.{schema_good}
 
 abbrev Frag : Type 0
 Frag = Fragment RawName as_written
@@ -108,8 +108,8 @@ module _ (sentences : (tokens : List Token) (items : List ItemSyntax) → IsSynt
       let first = reads_back text w h in
       let second = reads_back other v k in
       let same : tree ≡ first.tree = one_tree text tree first.tree is (tree_of text w first) in
-      let named = schema_named h.lexemes w h.spell in
-      let also = schema_named k.lexemes v k.spell in
+      let named = (schema_good h.lexemes w h.spell).0 in
+      let also = (schema_good k.lexemes v k.spell).0 in
       let lawful : translation_faults first.tree ≡ [] = ap translation_faults (sym same) ∙ t.lawful in
       let sayable = decide_to first.tree w first.says named lawful in
       let faultless = decide_from second.tree v second.says also (too w v r sayable) in

@@ -1,6 +1,5 @@
 mod Entries
 mod Names
-mod Halving
 mod Paths
 mod Apart
 mod Rounds
@@ -10,7 +9,6 @@ mod Found
 mod Quiet
 mod TypeParts
 mod Known
-mod Candidates
 mod Meanings
 mod Targets
 mod UndefinedNames

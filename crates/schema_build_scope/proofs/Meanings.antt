@@ -14,7 +14,7 @@ use Rattle.schema_resolve_definitions.specs.Tests.{Tests}
 use Rattle.schema_resolve.specs.Meanings.{means, kind_there}
 use Rattle.schema_resolve.specs.Tried.{kind_found, own_kind, candidate}
 use Rattle.schema_build_scope.specs.Meant.{kind_if, meant_candidate}
-use Rattle.schema_build_scope.proofs.Candidates.{behind_parts, either_told, own_found, plain_found, none_found}
+use Rattle.schema_resolve.proofs.Candidates.{behind_parts, either_told, own_found, plain_found, none_found}
 
 some_is : (x y : Bool) → Some x ≡ Some y → x ≡ y
 some_is x y e = cc

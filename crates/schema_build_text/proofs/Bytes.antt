@@ -14,7 +14,7 @@ use Rattle.cedar_data.specs.Words.{is_word_start, is_word_part, is_word}
 use Rattle.cedar_identifiers.specs.Words.{is_id, is_reserved}
 use Rattle.schema_build_text.specs.Adds.{Adds}
 use Rattle.schema_build_text.specs.Growing.{so}
-use Rattle.schema_build_text.proofs.Quoted.{quoted_utf8}
+use Rattle.schema_syntax_tokens.proofs.Quoted.{quoted_utf8}
 
 -- a text that is pushed adds its bytes
 pub adds_chars : (old new more : List ℕ) → IsUtf8 more → new ≡ old ++ chars more → Adds old new more

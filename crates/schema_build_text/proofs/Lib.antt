@@ -1,16 +1,15 @@
 mod Besides
 mod Bytes
-mod Declared
-mod Grouped
+pub mod Declared
+pub mod Grouped
 mod Holding
 mod InOrder
-mod Layers
+pub mod Layers
 mod Meant
 pub mod Named
 mod Parts
 mod Plain
-mod Quoted
-mod Rowed
+pub mod Rowed
 mod Sizes
 mod Uncaptured
 mod Walked

@@ -1,4 +1,3 @@
 pub mod Contents
 mod Cost
-mod Halved
 mod Sizes

@@ -49,21 +49,21 @@ abbrev mutual
   attribute_lacks (first name required ty more) = type_lacks ty ++ attribute_lacks more
 
 -- a context that is no record lacks that too, unless it lacks something that is named before it
-abbrev context_lacks : TypeContent → List Lack
+abbrev pub context_lacks : TypeContent → List Lack
 context_lacks (said.Rec attributes more) = type_lacks (said.Rec attributes more)
 context_lacks said.SetOfUnknown = UnknownElement ∷ []
 context_lacks (said.Entity (n ∷ m ∷ more)) = JoinedEntities ∷ []
 context_lacks ty = Unsupported ∷ type_lacks ty
 
-abbrev tag_lacks : Option TypeContent → List Lack
+abbrev pub tag_lacks : Option TypeContent → List Lack
 tag_lacks None = []
 tag_lacks (Some ty) = type_lacks ty
 
-abbrev entity_lacks : EntityContent → List Lack
+abbrev pub entity_lacks : EntityContent → List Lack
 entity_lacks e = open_lack e.more ++ (attribute_lacks e.attributes ++ tag_lacks e.tags)
 
 -- what the entity types of a namespace lack, then what its actions lack
-abbrev namespace_lacks : SchemaContent → List (List ℕ) → List Lack
+abbrev pub namespace_lacks : SchemaContent → List (List ℕ) → List Lack
 namespace_lacks c n = flat_map entity_lacks (filter (λ e. same_name n (namespace e.name)) c.entities)
     ++ flat_map (λ a. context_lacks a.context) (filter (λ a. same_name n (namespace a.ty)) c.actions)
 

@@ -21,7 +21,7 @@ use Rattle.schema_readback.specs.Printed.{path_pieces, name_piece}
 use Rattle.schema_print_text.specs.Adds.{Adds}
 use Rattle.schema_print_text.specs.PrintedTypes.{printed_name}
 use Rattle.schema_print_text.specs.Growing.{so}
-use Rattle.schema_print_text.proofs.Quoted.{quoted_utf8}
+use Rattle.schema_syntax_tokens.proofs.Quoted.{quoted_utf8}
 
 -- a text that is pushed adds its bytes
 pub adds_chars : (old new more : List ℕ) → IsUtf8 more → new ≡ old ++ chars more → Adds old new more

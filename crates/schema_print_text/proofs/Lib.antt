@@ -1,5 +1,4 @@
 pub mod Bytes
 pub mod Layers
 pub mod Laying
-pub mod Quoted
 pub mod Sizes

@@ -64,7 +64,7 @@ either_told t n b h = go (t.is_common n) (t.is_entity n) h
     go false true e = cc
     go false false e = cc
 
-behind_parts : (ns : InternalName) (first : Id) (loc : Option Loc)
+pub behind_parts : (ns : InternalName) (first : Id) (loc : Option Loc)
     → components_of (behind ns (record { first = first; others = []; loc = loc })) ≡ components_of ns ++ first.text ∷ []
 behind_parts ns first loc = ap (λ l. ns.first.text ∷ l) (map-append (λ (i : Id). i.text) ns.others (first ∷ []))
 

@@ -1,4 +1,4 @@
-mod Candidates
+pub mod Candidates
 mod Equations
 mod First
 mod Gathering

@@ -10,6 +10,7 @@ pub mod Longest
 mod OneString
 mod Pieces
 mod Quotation
+pub mod Quoted
 mod Quoting
 mod Sorted
 mod Standing

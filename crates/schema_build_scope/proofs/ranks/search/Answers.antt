@@ -1,5 +1,5 @@
 use Rattle.std.proofs.Common.{arith, sym, ap, ◌∙◌}
-use Rattle.schema_build_scope.proofs.Halving.{below_more, above_more}
+use Rattle.cedar_data.proofs.Halving.{below_more, above_more}
 use Rattle.schema_build_scope.proofs.ranks.search.Goals as goal
 
 pub loop-low-preserved-in-Less : goal.loop-low-preserved-in-Less

@@ -1,5 +1,5 @@
 use Rattle.std.proofs.Common.{sym}
-use Rattle.schema_build_types.proofs.Halved.{lookup_hit, lookup_miss}
+use Rattle.cedar_data.proofs.Halving.{lookup_hit, lookup_miss}
 use Rattle.schema_build_types.proofs.lookups.get_counted.Goals as goal
 
 pub returns-in-Ok-clause-value : goal.returns-in-Ok-clause-value

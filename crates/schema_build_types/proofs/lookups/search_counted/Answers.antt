@@ -1,5 +1,5 @@
 use Rattle.std.proofs.Common.{◌≡◌, ◌+◌, ◌-◌, arith, sym, ap, ◌∙◌, length}
-use Rattle.schema_build_types.proofs.Halved.{below_more, above_more}
+use Rattle.cedar_data.proofs.Halving.{below_more, above_more}
 use Rattle.schema_build_types.proofs.Cost.{none_yet, halved}
 use Rattle.schema_build_types.proofs.lookups.search_counted.Goals as goal
 
