@@ -1,2 +1,4 @@
 mod Builtin
 mod Looked
+mod Ordered
+mod Searched

@@ -2,14 +2,11 @@
 use Rattle.std.proofs.Common.{◌≡◌, ℕ, Bool, true, false, ◌&&◌, ◌||◌, List, [], ◌∷◌, ◌++◌, map, codes, Option, Some}
 use Rattle.std.proofs.Common.{None, refl, sym, ap, ◌∙◌}
 use Rattle.std.specs.List.{flat_map, list_any}
-use Rattle.std.specs.Cmp.Lexicographic.{pointwise}
-use Rattle.std.specs.Str.{bytes_eq, encode_utf8_all}
+use Rattle.std.specs.Str.{bytes_eq}
 use Rattle.std.proofs.Math.Bool.{and-false}
 use Rattle.std.proofs.lemmas.List.{map-append}
 use Rattle.std.proofs.lemmas.List.Folds.{list_any-append}
-use Rattle.cedar_data.proofs.Ascii.{word_bytes}
-use Rattle.cedar_identifiers.proofs.Ids.{id_is_word}
-use Rattle.cedar_identifiers.specs.Names.{components_of, texts_of}
+use Rattle.cedar_identifiers.specs.Names.{components_of}
 use Rattle.cedar_identifiers.specs.declared.id.Id.{Id}
 use Rattle.cedar_identifiers.specs.declared.name.Name.{Name}
 use Rattle.cedar_identifiers.specs.declared.name_text.NameText as named
@@ -20,19 +17,13 @@ use Rattle.schema_json.specs.declared.fragment.Fragment.{Fragment}
 use Rattle.schema_json.specs.declared.fragment.NamespaceDefinition.{NamespaceDefinition}
 use Rattle.schema_resolve_definitions.specs.Declarations.{declared, declared_name, action_type, commons_in, entities_in}
 use Rattle.schema_resolve_definitions.specs.Declarations.{actions_in}
-use Rattle.schema_resolve_lookup.specs.Sought.{namespace_words, is_there}
+use Rattle.schema_resolve_lookup.specs.Sought.{namespace_words, is_there, passes_in}
 
 and_true : (b : Bool) → (b && true) ≡ b
 and_true true = refl
 and_true false = refl
 
--- what one test after another tells
-pub and_passed : (first second x y all : Bool) → first ≡ true → first ≡ x → second ≡ y → all ≡ (x && y) → second ≡ all
-and_passed first second x y all h e k whole = k ∙ sym (whole ∙ ap (λ b. b && y) (sym e ∙ h))
-
-pub and_stopped : (first x y all : Bool) → first ≡ false → first ≡ x → all ≡ (x && y) → first ≡ all
-and_stopped first x y all h e whole = h ∙ sym (whole ∙ ap (λ b. b && y) (sym e ∙ h))
-
+-- what one test or another tells
 pub or_passed : (first x y all : Bool) → first ≡ true → first ≡ x → all ≡ (x || y) → first ≡ all
 or_passed first x y all h e whole = h ∙ sym (whole ∙ ap (λ b. b || y) (sym e ∙ h))
 
@@ -42,6 +33,11 @@ or_next first second x y all h e k whole = k ∙ sym (whole ∙ ap (λ b. b || y
 and_assoc : (a b c : Bool) → (a && (b && c)) ≡ ((a && b) && c)
 and_assoc true b c = refl
 and_assoc false b c = refl
+
+and_first : (a b c : Bool) → ((a && b) && c) ≡ (b && (a && c))
+and_first true b c = refl
+and_first false true c = refl
+and_first false false c = refl
 
 -- of two names the words before the last, and the last ones
 no_words : (xs : List (List ℕ)) (l : List ℕ) → same_name (xs ++ l ∷ []) [] ≡ false
@@ -59,6 +55,11 @@ same_behind [] (y ∷ ys) l m = ap (λ b. bytes_eq l y && b) (some_words ys m) �
 same_behind (x ∷ xs) [] l m = ap (λ b. bytes_eq x m && b) (no_words xs l) ∙ and-false (bytes_eq x m)
 same_behind (x ∷ xs) (y ∷ ys) l m =
     ap (λ b. bytes_eq x y && b) (same_behind xs ys l m) ∙ and_assoc (bytes_eq x y) (same_name xs ys) (bytes_eq l m)
+
+-- whether a word is `Action`, told of a copy of it
+pub is_action_word : (l lent : List ℕ) (answer : Bool) → lent ≡ l → answer ≡ bytes_eq lent (codes "Action")
+    → bytes_eq l (codes "Action") ≡ answer
+is_action_word l lent answer same told = ap (λ t. bytes_eq t (codes "Action")) (sym same) ∙ sym told
 
 -- a test of some item
 pub any_given : {A B : Type 0} (test : B → Bool) (give : A → List B) (xs : List A)
@@ -127,27 +128,28 @@ module _ {G : named.Ghosts RawName} (ns : Option Name) (n : NamespaceDefinition 
       ∙ ap (λ b. b && is_there n.actions)
       (ap (same_name (xs ++ l ∷ [])) (action_words ns) ∙ same_behind xs (namespace_words ns) l (codes "Action"))
 
-module _ {G : named.Ghosts RawName} where
-  -- the types of actions, namespace by namespace
-  pub types_given : (name : List (List ℕ)) (f : Fragment RawName G) → among (map (λ a. a.0) (declared f).actions) name
-      ≡ list_any (λ e. among (map (λ a. a.0) (actions_in e.0 e.1)) name) f.0
-  types_given name f =
-      any_seen (same_name name) (λ (a : List (List ℕ) × List ℕ). a.0) (declared f).actions
-      ∙ any_given (λ (a : List (List ℕ) × List ℕ). same_name name a.0) (λ e. actions_in e.0 e.1) f.0
-      ∙ sym (λ i. list_any (λ e. any_seen (same_name name) (λ (a : List (List ℕ) × List ℕ). a.0)
+module _ {G : named.Ghosts RawName} (f : Fragment RawName G) (xs : List (List ℕ)) (l : List ℕ) where
+  -- of the whole fragment it is told by the namespace
+  pub commons_given : among (declared f).commons (xs ++ l ∷ [])
+      ≡ passes_in f xs (λ n. list_any (λ e. bytes_eq l e.0.id.id.text) n.common_types)
+  commons_given =
+      any_given (same_name (xs ++ l ∷ [])) (λ e. commons_in e.0 e.1) f.0
+      ∙ (λ i. list_any (λ e. common_there e.0 e.1 xs l i) f.0)
+
+  pub entities_given : among (declared f).entities (xs ++ l ∷ [])
+      ≡ passes_in f xs (λ n. list_any (λ e. bytes_eq l e.0.id.text) n.entity_types)
+  entities_given =
+      any_given (same_name (xs ++ l ∷ [])) (λ e. entities_in e.0 e.1) f.0
+      ∙ (λ i. list_any (λ e. entity_there e.0 e.1 xs l i) f.0)
+
+  pub types_given : among (map (λ a. a.0) (declared f).actions) (xs ++ l ∷ [])
+      ≡ (bytes_eq l (codes "Action") && passes_in f xs (λ n. is_there n.actions))
+  types_given =
+      any_seen (same_name (xs ++ l ∷ [])) (λ (a : List (List ℕ) × List ℕ). a.0) (declared f).actions
+      ∙ any_given (λ (a : List (List ℕ) × List ℕ). same_name (xs ++ l ∷ []) a.0) (λ e. actions_in e.0 e.1) f.0
+      ∙ sym (λ i. list_any (λ e. any_seen (same_name (xs ++ l ∷ [])) (λ (a : List (List ℕ) × List ℕ). a.0)
       (actions_in e.0 e.1) i) f.0)
-
--- ids in turn, by their texts
-ids_alike : (E : Id → Id → Bool) → ((x y : Id) → E x y ≡ bytes_eq (encode_utf8_all x.text) (encode_utf8_all y.text))
-    → (x y : Id) → E x y ≡ bytes_eq x.text y.text
-ids_alike E e x y =
-    e x y ∙ (λ i. bytes_eq (word_bytes x.text (id_is_word x.text x.word) i)
-    (word_bytes y.text (id_is_word y.text y.word) i))
-
-pub words_alike : (E : Id → Id → Bool)
-    → ((x y : Id) → E x y ≡ bytes_eq (encode_utf8_all x.text) (encode_utf8_all y.text))
-    → (xs ys : List Id) → pointwise E xs ys ≡ same_name (texts_of xs) (texts_of ys)
-words_alike E e [] [] = refl
-words_alike E e [] (y ∷ ys) = refl
-words_alike E e (x ∷ xs) [] = refl
-words_alike E e (x ∷ xs) (y ∷ ys) = λ i. ids_alike E e x y i && words_alike E e xs ys i
+      ∙ (λ i. list_any (λ e. (action_there e.0 e.1 xs l
+      ∙ and_first (same_name xs (namespace_words e.0)) (bytes_eq l (codes "Action")) (is_there e.1.actions)) i) f.0)
+      ∙ any_where (bytes_eq l (codes "Action"))
+      (λ e. same_name xs (namespace_words e.0) && is_there e.1.actions) f.0

@@ -1,10 +1,8 @@
 ghost use Rattle.std.specs.Prelude.{◌≡◌, ◌++◌, [], ◌∷◌};
-ghost use Rattle.std.specs.Str.{bytes_eq};
-ghost use Rattle.cedar_identifiers.specs.Names.{components_of, texts_of};
-ghost use Rattle.cedar_names.specs.Definitions.{same_name};
-ghost use Rattle.schema_resolve_lookup.specs.Sought.{namespace_words, words_before, name_sought};
+ghost use Rattle.cedar_identifiers.specs.Names.{components_of};
+ghost use Rattle.schema_resolve_lookup.specs.Sought.{name_sought};
 
-use cedar_identifiers::{Id, InternalName, Name};
+use cedar_identifiers::{Id, InternalName};
 
 // A name that is looked up: the namespace that stands in it, if one does, and its last word.
 #[derive(Clone, Copy)]
@@ -50,34 +48,4 @@ pub(crate) fn behind<'a>(namespace: &'a InternalName, last: &'a Id) -> Sought<'a
         }),
         last,
     }
-}
-
-// Whether the namespace is the one that stands in the name.
-pub(crate) fn is_before(namespace: Option<Before<'_>>, ns: &Option<Name>) -> bool
-    ensures { result ≡ same_name (words_before namespace.entry) (namespace_words ns.now) }
-{
-    match ns {
-        None => namespace.is_none(),
-        Some(ns) => match namespace {
-            None => false,
-            Some(before) => {
-                same_word(before.first, &ns.name.first)
-                    && same_words(before.others, ns.name.others.as_slice())
-            }
-        },
-    }
-}
-
-// Whether they are the same word.
-pub(crate) fn same_word(a: &Id, b: &Id) -> bool
-    ensures { result ≡ bytes_eq a.now.text b.now.text }
-{
-    a.as_str() == b.as_str()
-}
-
-// Whether they are the same words in turn.
-fn same_words(a: &[Id], b: &[Id]) -> bool
-    ensures { result ≡ same_name (texts_of a.now) (texts_of b.now) }
-{
-    a == b
 }

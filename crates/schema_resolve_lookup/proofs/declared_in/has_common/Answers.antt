@@ -1,19 +1,22 @@
-use Rattle.std.proofs.Common.{ap, ◌∙◌}
+use Rattle.std.proofs.Common.{rules, refl, ap, ◌∙◌}
+use Rattle.std.proofs.lemmas.Fn.{always_returns_same}
 use Rattle.std.specs.List.{list_any}
 use Rattle.std.specs.Str.{bytes_eq}
-use Rattle.schema_resolve_lookup.specs.Sought.{words_before}
-use Rattle.schema_resolve_lookup.proofs.Looked.{common_there, and_passed, and_stopped}
+use Rattle.cedar_names.specs.Orders.{ids_in_order}
+use Rattle.schema_resolve_lookup.proofs.Ordered.{words_total, word_alike, sorted_seen}
+use Rattle.schema_resolve_lookup.proofs.Searched.{found_any}
 use Rattle.schema_resolve_lookup.proofs.declared_in.has_common.Goals as goal
 
-pub returns-then-is_before : goal.returns-then-is_before
-returns-then-is_before c =
-    let word = c.args.sought.last.now.text in
-    and_passed _ _ _ _ _ c.if-is_before.true c.is_before.ensures
-    (c.is_common_word.ensures ∙ ap (list_any (λ e. bytes_eq word e.0.id.id.text)) c.as_slice.ensures.entries)
-    (common_there c.args.ns.now c.args.definition.now (words_before c.args.sought.namespace) word)
-
-pub returns-else-is_before : goal.returns-else-is_before
-returns-else-is_before c =
-    and_stopped _ _ _ _ c.if-is_before.false c.is_before.ensures
-    (common_there c.args.ns.now c.args.definition.now (words_before c.args.sought.namespace)
-    c.args.sought.last.now.text)
+pub returns : goal.returns
+returns c =
+    let word = c.args.word.now in
+    let entries = c.as_slice-entries.result.now in
+    c.is_ok.ensures.value
+    ∙ (found_any words_total (λ e. e.0.id.id) word (λ e. bytes_eq word.text e.0.id.id.text)
+    (λ e. word_alike e.0.id.id word) entries
+    (sorted_seen _ ids_in_order (λ k. k.id.id) (λ a b. refl) c.args.commons.now entries
+    c.as_slice-entries.ensures.entries c.as_slice-entries.ensures.sorted) c.binary_search_by.result
+    c.binary_search_by.ensures.bound
+    (c.binary_search_by.ensures.position (λ e. ids_in_order e.0.id.id word)
+    (always_returns_same _ _ _ (λ a r f' k. search rules)))
+    ∙ ap (list_any (λ e. bytes_eq word.text e.0.id.id.text)) c.as_slice-entries.ensures.entries)

@@ -1,14 +1,29 @@
-use Rattle.std.proofs.Common.{map, ap, sym, ◌∙◌}
-use Rattle.std.specs.List.{list_any}
-use Rattle.cedar_names.specs.Definitions.{among}
-use Rattle.schema_resolve_definitions.specs.Declarations.{actions_in}
-use Rattle.schema_resolve_lookup.specs.Sought.{name_sought}
-use Rattle.schema_resolve_lookup.proofs.Looked.{types_given}
+use Rattle.std.proofs.Common.{ap, sym, ◌∙◌, ◌&&◌}
+use Rattle.std.specs.Option.{option_copied}
+use Rattle.schema_resolve_lookup.specs.Sought.{words_before, is_there, passes, passes_in}
+use Rattle.schema_resolve_lookup.proofs.Looked.{types_given, is_action_word}
 use Rattle.schema_resolve_lookup.proofs.declared_in.is_type_of_action.Goals as goal
 
-pub returns : goal.returns
-returns c =
-    let name = name_sought c.args.sought in
-    c.any_action_type.ensures
-    ∙ ap (list_any (λ e. among (map (λ a. a.0) (actions_in e.0 e.1)) name)) c.as_slice.ensures.entries
-    ∙ sym (types_given name c.args.fragment.now)
+pub returns-in-Some : goal.returns-in-Some
+returns-in-Some c =
+    let words = words_before c.args.sought.namespace in
+    let word = c.args.sought.last.now.text in
+    let named = is_action_word word _ _ c.as_str.ensures c.eq.ensures ∙ c.if-eq.true in
+    let found = c.namespace_of.ensures _ ∙ ap (λ n. passes (option_copied n) (λ n. is_there n.actions)) c.in-Some.is in
+    c.has_actions.ensures ∙ sym (types_given c.args.fragment.now words word ∙ (λ i. named i && found i))
+
+pub returns-in-None : goal.returns-in-None
+returns-in-None c =
+    let words = words_before c.args.sought.namespace in
+    let word = c.args.sought.last.now.text in
+    let named = is_action_word word _ _ c.as_str.ensures c.eq.ensures ∙ c.if-eq.true in
+    let found = c.namespace_of.ensures _ ∙ ap (λ n. passes (option_copied n) (λ n. is_there n.actions)) c.in-None.is in
+    sym (types_given c.args.fragment.now words word ∙ (λ i. named i && found i))
+
+pub returns-else-eq : goal.returns-else-eq
+returns-else-eq c =
+    let words = words_before c.args.sought.namespace in
+    let word = c.args.sought.last.now.text in
+    let named = is_action_word word _ _ c.as_str.ensures c.eq.ensures ∙ c.if-eq.false in
+    c.if-eq.false ∙ sym (types_given c.args.fragment.now words word
+    ∙ ap (λ b. b && passes_in c.args.fragment.now words (λ n. is_there n.actions)) named)

@@ -1,0 +1,50 @@
+ghost use Rattle.std.specs.Prelude.{◌≡◌, Some};
+ghost use Rattle.std.specs.Option.{option_copied};
+ghost use Rattle.std.specs.Cmp.Lexicographic.{slice_cmp};
+ghost use Rattle.cedar_names.specs.Orders.{ids_in_order};
+ghost use Rattle.schema_resolve_lookup.specs.Sought.{ids_before, namespace_ids, words_before, passes_in, passes};
+
+use crate::sought::Before;
+use cedar_identifiers::{Name, RawName};
+use schema_json::{Fragment, NamespaceDefinition};
+use std::cmp::Ordering;
+
+// The namespace of these words, found by halving.
+pub(crate) fn namespace_of<'a>(
+    fragment: &'a Fragment<RawName>,
+    sought: Option<Before<'_>>,
+) -> Option<&'a NamespaceDefinition<RawName>>
+    ensures { (test : _) → passes_in fragment.now (words_before sought.entry) test ≡ passes (option_copied result) test }
+{
+    let entries = fragment.0.as_slice();
+    match entries.binary_search_by(|entry| compare(&entry.0, sought)) {
+        Ok(at) => Some(&entries[at].1),
+        Err(_) => None,
+    }
+}
+
+// How the namespace stands to the one that is sought.
+fn compare(ns: &Option<Name>, sought: Option<Before<'_>>) -> Ordering
+    ensures { result ≡ slice_cmp ids_in_order (namespace_ids ns.now) (ids_before sought.entry) }
+{
+    match ns {
+        None => match sought {
+            None => Ordering::Equal,
+            Some(_) => Ordering::Less,
+        },
+        Some(ns) => match sought {
+            None => Ordering::Greater,
+            Some(before) => compare_named(ns, before),
+        },
+    }
+}
+
+// How the namespace stands to these words: by the first of each, and then by the others in turn.
+fn compare_named(ns: &Name, before: Before<'_>) -> Ordering
+    ensures { result ≡ slice_cmp ids_in_order (namespace_ids (Some ns.now)) (ids_before (Some before.entry)) }
+{
+    match ns.name.first.cmp(before.first) {
+        Ordering::Equal => ns.name.others.as_slice().cmp(before.others),
+        unequal => unequal,
+    }
+}
