@@ -1,5 +1,8 @@
 //! Each law is what its function ensures; the functions do nothing.
-ghost use Rattle.std.specs.Prelude.{◌≡◌, ◌≢◌, ℕ, List};
+ghost use Rattle.std.specs.Prelude.{◌≡◌, ◌≢◌, ◌≤◌, ℕ, List};
+ghost use Rattle.serde_json.specs.Data.{depth};
+ghost use Rattle.serde_json.specs.Read.{max_depth};
+ghost use Rattle.serde_json.specs.Written.{compact_text};
 ghost use Rattle.cedar_identifiers.specs.declared.raw_name.RawName.{RawName as Raw};
 ghost use Rattle.schema_json.specs.declared.fragment.Fragment.{Fragment};
 ghost use Rattle.schema_says.specs.BareFragments.{bare_fragment};
@@ -39,4 +42,18 @@ pub fn sayable_texts_are_read()
         → Holds text (json_value ⟦<RawName as NameText>⟧.components f) → TextShape text g → g ≡ bare_fragment f }
     ensures refused { (text : List ℕ) (f : Fragment Raw ⟦<RawName as NameText>⟧) (e : Error) → IsSayableFragment f
         → Holds text (json_value ⟦<RawName as NameText>⟧.components f) → e.fault ≢ Memory → ¬ IsTextError text e }
+{}
+
+/// Reading the compact text of the JSON value of a sayable fragment gives the fragment, places aside, and nothing else,
+/// where the value is nested no deeper than JSON that is read may be; it is refused only where memory is out.
+pub fn written_texts_are_read()
+    ensures said { (f : Fragment Raw ⟦<RawName as NameText>⟧) → IsSayableFragment f
+        → depth (json_value ⟦<RawName as NameText>⟧.components f) ≤ max_depth
+        → TextShape (compact_text (json_value ⟦<RawName as NameText>⟧.components f)) (bare_fragment f) }
+    ensures alone { (f g : Fragment Raw ⟦<RawName as NameText>⟧) → IsSayableFragment f
+        → depth (json_value ⟦<RawName as NameText>⟧.components f) ≤ max_depth
+        → TextShape (compact_text (json_value ⟦<RawName as NameText>⟧.components f)) g → g ≡ bare_fragment f }
+    ensures refused { (f : Fragment Raw ⟦<RawName as NameText>⟧) (e : Error) → IsSayableFragment f
+        → depth (json_value ⟦<RawName as NameText>⟧.components f) ≤ max_depth → e.fault ≢ Memory
+        → ¬ IsTextError (compact_text (json_value ⟦<RawName as NameText>⟧.components f)) e }
 {}

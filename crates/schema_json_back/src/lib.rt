@@ -3,4 +3,7 @@
 
 pub mod laws;
 
-pub use laws::{sayable_fragments_read_back, sayable_texts_are_read, sayable_values_are_read};
+pub use laws::{
+    sayable_fragments_read_back, sayable_texts_are_read, sayable_values_are_read,
+    written_texts_are_read,
+};

@@ -1,7 +1,8 @@
 //! Each law is what its function ensures; the functions do nothing.
-ghost use Rattle.std.specs.Prelude.{◌≡◌, ◌≢◌, false, List, [], ◌∷◌, ℕ};
-ghost use Rattle.serde_json.specs.Data.{Data};
-ghost use Rattle.serde_json.specs.Written.{has_float};
+ghost use Rattle.std.specs.Prelude.{◌≡◌, ◌≢◌, ◌≤◌, false, List, [], ◌∷◌, ℕ};
+ghost use Rattle.serde_json.specs.Data.{Data, depth};
+ghost use Rattle.serde_json.specs.Read.{max_depth};
+ghost use Rattle.serde_json.specs.Written.{compact_text, has_float};
 ghost use Rattle.cedar_identifiers.specs.Names.{components_of, name_text};
 ghost use Rattle.cedar_identifiers.specs.NameReading.{ReadsAs};
 ghost use Rattle.cedar_identifiers.specs.declared.any_id.AnyId.{AnyId};
@@ -14,7 +15,7 @@ ghost use Rattle.schema_json.specs.declared.fragment.Fragment.{Fragment};
 ghost use Rattle.schema_json_errors.specs.declared.json_error.JsonDeserializationError.{JsonDeserializationError as Error};
 ghost use Rattle.schema_json_errors.specs.declared.json_fault.JsonFault.TheVariants.{Memory};
 ghost use Rattle.schema_json_io.specs.Causes.{IsTextError};
-ghost use Rattle.schema_json_io.specs.Texts.{TextShape};
+ghost use Rattle.schema_json_io.specs.Texts.{Holds, TextShape};
 ghost use Rattle.schema_json_shapes.specs.Shapes.{IsFragment, JsonShape, IsShapeFault};
 ghost use Rattle.schema_json_shapes.specs.declared.shape_fault.ShapeFault.{ShapeFault as Fault};
 ghost use Rattle.schema_json_values.specs.FragmentValues.{json_value};
@@ -43,6 +44,13 @@ pub fn one_fragment_or_error()
 /// The JSON value of a fragment has no float, so it has one compact text.
 pub fn values_have_no_float<N: NameText>()
     ensures { (f : Fragment N ⟦<N as NameText>⟧) → has_float (json_value N.components f) ≡ false }
+{}
+
+/// The compact text of the JSON value of a fragment holds this value, where it is nested no deeper than JSON that is read may
+/// be.
+pub fn compact_texts_hold_their_values<N: NameText>()
+    ensures { (f : Fragment N ⟦<N as NameText>⟧) → depth (json_value N.components f) ≤ max_depth
+        → Holds (compact_text (json_value N.components f)) (json_value N.components f) }
 {}
 
 /// Names and words are read from their texts.
