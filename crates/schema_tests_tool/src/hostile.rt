@@ -1,6 +1,7 @@
 // Devices that fail at each of their calls, outputs that are full at each byte, and texts that a stranger may send.
 
 use crate::runs::{AMPLE, ends, ends_badly};
+use crate::worked_table::photo_text;
 use cedar_io::{MemorySink, MemorySource, SteadySource};
 use cedar_schema_core::run_tool;
 use std::alloc::{AllocError, Global};
@@ -99,15 +100,19 @@ type T4 = {a: T3, b: T3}; type T5 = {a: T4, b: T4}; type T6 = {a: T5, b: T5}; ty
 type T8 = {a: T7, b: T7}; type T9 = {a: T8, b: T8}; type T10 = {a: T9, b: T9}; entity E {x: T10};"
 }
 
-// How often the words stand in what a run writes for the text, where it ends well.
-fn count_written(alloc: Global, text: &str, words: &str) -> Result<Option<usize>, AllocError> {
-    let mut out = MemorySink::with_room(alloc, 1_000_000, Vec::new(alloc))?;
+// The code that recovering the text ends with, as the output takes what is written.
+fn recover_into(alloc: Global, text: &str, out: &mut MemorySink) -> Result<u8, AllocError> {
     let mut err = MemorySink::with_room(alloc, AMPLE, Vec::new(alloc))?;
     let mut source = SteadySource::new(text.as_bytes().to_vec(alloc)?);
     let mut command = Vec::new(alloc);
     command.push(String::from_str(alloc, "recover")?)?;
-    let status = run_tool(alloc, &command, &mut source, &mut out, &mut err);
-    if status.code() != 0 {
+    Ok(run_tool(alloc, &command, &mut source, out, &mut err).code())
+}
+
+// How often the words stand in what a run writes for the text, where it ends well.
+fn count_written(alloc: Global, text: &str, words: &str) -> Result<Option<usize>, AllocError> {
+    let mut out = MemorySink::with_room(alloc, 1_000_000, Vec::new(alloc))?;
+    if recover_into(alloc, text, &mut out)? != 0 {
         return Ok(None);
     }
     match str::from_utf8(out.as_slice()) {
@@ -119,4 +124,26 @@ fn count_written(alloc: Global, text: &str, words: &str) -> Result<Option<usize>
 #[test]
 fn towers_of_common_types_are_written_out(rt: HostRuntime) {
     assert!(rt; count_written(rt.alloc(), tower(), "__cedar::Long") == Ok(Some(1024)));
+}
+
+// The code that recovering the text ends with.
+fn code_of(alloc: Global, text: &str) -> Result<u8, AllocError> {
+    let mut out = MemorySink::with_room(alloc, AMPLE, Vec::new(alloc))?;
+    recover_into(alloc, text, &mut out)
+}
+
+// Is a schema of so many of the bytes answered? It is one where nothing stands in it, or all but its last line end.
+fn is_front_answered(alloc: Global, size: usize) -> bool {
+    let code = if size == 0 || size >= 592 { 0 } else { 1 };
+    match photo_text().get(..size) {
+        Some(front) => code_of(alloc, front) == Ok(code),
+        None => false,
+    }
+}
+
+#[test]
+fn each_beginning_of_a_schema_is_answered(rt: HostRuntime) {
+    for size in 0..594 {
+        assert!(rt; is_front_answered(rt.alloc(), size), "{size}");
+    }
 }

@@ -17,3 +17,5 @@ mod table;
 mod told_table;
 #[cfg(test)]
 mod valid_table;
+#[cfg(test)]
+mod worked_table;

@@ -4,6 +4,7 @@ use crate::json_table::json_lines;
 use crate::table::{recovered_lines, run_lines};
 use crate::told_table::told_lines;
 use crate::valid_table::valid_lines;
+use crate::worked_table::worked_lines;
 use cedar_io::{MemorySink, MemorySource, Source, SteadySource};
 use cedar_schema_core::run_tool;
 use schema_tests_lines::{answer_and_text, with_line_ends};
@@ -118,6 +119,13 @@ fn run_agrees(alloc: Global, line: &str) -> bool {
 #[test]
 fn commands_are_answered(rt: HostRuntime) {
     for line in run_lines().lines() {
+        assert!(rt; run_agrees(rt.alloc(), line), "{line}");
+    }
+}
+
+#[test]
+fn worked_rows_are_answered(rt: HostRuntime) {
+    for line in worked_lines().lines() {
         assert!(rt; run_agrees(rt.alloc(), line), "{line}");
     }
 }
