@@ -1,13 +1,13 @@
 -- What a command writes of a text that is recovered.
 use Rattle.std.proofs.Common.{◌≡◌, ◌++◌, ℕ, List, [], refl, ap, ap₂, ◌∙◌}
-use Rattle.std.specs.Prelude.{codes, decimal}
+use Rattle.std.specs.Prelude.{codes, decimal, length}
 use Rattle.std.specs.Str.{chars, encode_utf8_all}
 use Rattle.std.proofs.lemmas.Str.{encodes-append, encodes-IsAscii}
 use Rattle.cedar_data.proofs.Ascii.{chars-from_test, IsAscii-from_test}
 use Rattle.cedar_data.specs.declared.text.Text.{Text}
 use Rattle.cedar_names.specs.declared.extension_table.ExtensionTable.{ExtensionTable}
 use Rattle.schema_convert_errors.specs.declared.warnings.SchemaWarning.{SchemaWarning}
-use Rattle.cedar_schema_core.specs.declared.command.Command.TheVariants.{Recover, Check, ToJson, FromJson}
+use Rattle.cedar_schema_core.specs.declared.command.Command.TheVariants.{Recover, Check, ToJson, FromJson, Generate}
 use Rattle.cedar_schema_core.specs.declared.recover.Recovered.{Recovered}
 use Rattle.cedar_schema_core.specs.Answers.{IsWrittenBy}
 use Rattle.cedar_schema_core.specs.Json.{IsJsonOfText, IsRecoveredJson}
@@ -36,6 +36,23 @@ module _ (text : List ℕ) (table : ExtensionTable) where
       h.warns,
       is ∙ (λ i. decimal (h.entity_types i)
           ++ (codes " entity types, " ++ (decimal (h.actions i) ++ codes " actions\n"))),
+    );
+  }
+
+  -- `generate` writes the counts and both lengths
+  pub made_written : (size read : ℕ) (r : Recovered) (line : List ℕ) → IsRecovered text table r → read ≡ length text
+      → encode_utf8_all line ≡ decimal read ++ (codes " bytes in, " ++ (decimal r.entity_types
+      ++ (codes " entity types, " ++ (decimal r.actions ++ (codes " actions, "
+      ++ (decimal (length (encode_utf8_all r.text)) ++ codes " bytes out\n"))))))
+      → IsWrittenBy (Generate size table) text (encode_utf8_all line) r.warnings.items
+  made_written size read r line h long is = record {
+    writes = (
+      h.meaning,
+      h.means,
+      h.warns,
+      is ∙ (λ i. decimal (long i) ++ (codes " bytes in, " ++ (decimal (h.entity_types i)
+          ++ (codes " entity types, " ++ (decimal (h.actions i) ++ (codes " actions, "
+          ++ (decimal (length (h.canonical i)) ++ codes " bytes out\n"))))))),
     );
   }
 

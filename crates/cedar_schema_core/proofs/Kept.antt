@@ -5,7 +5,7 @@ use Rattle.cedar_names.specs.Meaning.{SchemaMeaning}
 use Rattle.cedar_names.specs.declared.extension_table.ExtensionTable.{ExtensionTable}
 use Rattle.schema_build_closed.specs.HalfFilled.{IsHalfFilled}
 use Rattle.cedar_schema_core.specs.declared.command.Command.{Command}
-use Rattle.cedar_schema_core.specs.declared.command.Command.TheVariants.{Recover, Check, ToJson, FromJson}
+use Rattle.cedar_schema_core.specs.declared.command.Command.TheVariants.{Recover, Check, ToJson, FromJson, Generate}
 use Rattle.cedar_schema_core.specs.Commands.{Asks}
 use Rattle.cedar_schema_core.specs.Json.{JsonMeaning}
 use Rattle.cedar_schema_core.specs.Meanings.{TextMeaning}
@@ -24,13 +24,14 @@ module _ (same : (closing : Bool) (text : List ℕ) (table : ExtensionTable) (m 
         bytes = done.bytes;
         meaning = m;
         text = done.text;
-        read = done.read;
+        read = done.works.read;
         means = means;
         written = done.written;
         keeps = subst (λ t. TextMeaning t table m) (sym written) (same true done.bytes table m means);
       }
   keeps (Check table) done = tt
   keeps (ToJson table) done = tt
+  keeps (Generate size table) done = tt
   keeps (FromJson table) done =
       let m = done.writes.writes.0 in
       let means = done.writes.writes.1 in
@@ -39,7 +40,7 @@ module _ (same : (closing : Bool) (text : List ℕ) (table : ExtensionTable) (m 
         bytes = done.bytes;
         meaning = m;
         text = done.text;
-        read = done.read;
+        read = done.works.read;
         means = means;
         written = done.written;
         keeps = subst (λ t. TextMeaning t table m ↔ (¬ IsHalfFilled m)) (sym written)

@@ -13,13 +13,13 @@ use Rattle.schema_convert_errors.specs.declared.warnings.SchemaWarning.{SchemaWa
 use Rattle.schema_convert.specs.Translated.{IsTranslationOfText}
 use Rattle.schema_build.specs.Texts.{IsParseRefusal}
 use Rattle.cedar_schema_core.specs.declared.command.Command.{Command}
-use Rattle.cedar_schema_core.specs.declared.command.Command.TheVariants.{Recover, Check, ToJson, FromJson}
+use Rattle.cedar_schema_core.specs.declared.command.Command.TheVariants.{Recover, Check, ToJson, FromJson, Generate}
 use Rattle.cedar_schema_core_faults.specs.Told.{fault_text}
 use Rattle.cedar_schema_core_faults.specs.declared.recover_error.RecoverError.{RecoverError}
 use Rattle.cedar_schema_core_faults.specs.declared.recover_error.RecoverError.TheVariants.{Parse, Schema, Captured}
 use Rattle.cedar_schema_core_faults.specs.declared.recover_error.RecoverError.TheVariants.{Memory}
 use Rattle.cedar_schema_core.specs.Answers.{Writes, Refuses}
-use Rattle.cedar_schema_core.specs.Commands.{count_line}
+use Rattle.cedar_schema_core.specs.Commands.{count_line, made_line}
 use Rattle.cedar_schema_core.specs.Json.{value_of, JsonMeaning, IsValidJson, IsRefusalOfJson}
 use Rattle.cedar_schema_core.specs.Meanings.{TextMeaning, IsValid}
 use Rattle.cedar_schema_core.specs.Recovery.{IsRefusal}
@@ -54,6 +54,8 @@ module _ (one : (text : List ℕ) (table : ExtensionTable) (m n : SchemaMeaning)
       (e ∙ (ap (λ z. compact_text (value_of z) ++ codes "\n") same ∙ sym f), l ∙ sym r)
   writes_once (FromJson table) text out other v w (m, h, l, e) (n, k, r, f) =
       (e ∙ (ap canonical_text (json_meaning text table m n h k) ∙ sym f), l ∙ sym r)
+  writes_once (Generate size table) text out other v w (m, h, l, e) (n, k, r, f) =
+      (e ∙ (ap (made_line text) (one text table m n h k) ∙ sym f), (translation text table l.0 r.0 v w l.1 r.1).1)
 
   pub refuses_once : (c : Command) (text : List ℕ) (e other : RecoverError) → IsUtf8 text → e ≢ Memory → other ≢ Memory
       → Refuses c text e → Refuses c text other → fault_text text e ≡ fault_text text other
@@ -62,6 +64,7 @@ module _ (one : (text : List ℕ) (table : ExtensionTable) (m n : SchemaMeaning)
   refuses_once (ToJson table) text e other u n m h k =
       refusal text table e other u n m (unparsed text table e h) (unparsed text table other k)
   refuses_once (FromJson table) text e other u n m h k = json_refusal text table e other n m h k
+  refuses_once (Generate size table) text e other u n m h k = refusal text table e other u n m h k
 
   untranslated : (text : List ℕ) (table : ExtensionTable) (f : Fragment RawName as_written) (w : List SchemaWarning)
       (e : RecoverError) → IsTranslationOfText text table f w → e ≢ Memory → IsUnparsed text e → ⊥
@@ -76,3 +79,4 @@ module _ (one : (text : List ℕ) (table : ExtensionTable) (m n : SchemaMeaning)
   refuses_or_writes (Check table) text out w e n h (m, k, l, f) = invalid text table e h n (m, k)
   refuses_or_writes (ToJson table) text out w e n h (a, k, l, f) = untranslated text table a k.0 e k.1 n h
   refuses_or_writes (FromJson table) text out w e n h (m, k, l, f) = json_invalid text table e h n (m, k)
+  refuses_or_writes (Generate size table) text out w e n h (m, k, l, f) = invalid text table e h n (m, k)

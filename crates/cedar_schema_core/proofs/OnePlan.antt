@@ -1,17 +1,20 @@
 -- For the same words and the same input there is one report at most.
-use Rattle.std.proofs.Common.{◌≡◌, ◌≢◌, ℕ, List, refl, sym, ap, ◌∙◌, subst, arith, [], IsUtf8}
+use Rattle.std.proofs.Common.{◌≡◌, ◌≢◌, ◌<◌, ◌^◌, ℕ, List, refl, sym, ap, ◌∙◌, subst, arith, [], IsUtf8, Some, None}
+use Rattle.std.specs.Prelude.{decimal}
+use Rattle.std.proofs.lemmas.Fmt.{decimal_injective}
 use Rattle.schema_convert_errors.specs.declared.warnings.SchemaWarning.{SchemaWarning}
 use Rattle.cedar_schema_core.specs.declared.command.Command.{Command}
-use Rattle.cedar_schema_core.specs.declared.command.Command.TheVariants.{Recover, Check, ToJson, FromJson}
+use Rattle.cedar_schema_core.specs.declared.command.Command.TheVariants.{Recover, Check, ToJson, FromJson, Generate}
 use Rattle.cedar_schema_core_faults.specs.declared.recover_error.RecoverError.{RecoverError}
 use Rattle.cedar_schema_core_faults.specs.declared.recover_error.RecoverError.TheVariants.{Memory}
 use Rattle.std.specs.Str.{encode_utf8_all}
 use Rattle.cedar_schema_core_faults.specs.Told.{fault_text}
 use Rattle.cedar_schema_core.specs.declared.status.Status.TheVariants.{Refused}
-use Rattle.cedar_schema_core.specs.Answers.{Writes, Refuses}
+use Rattle.cedar_schema_core.specs.Answers.{Writes, Refuses, IsWrittenBy}
 use Rattle.cedar_schema_core.specs.Commands.{IsTableInOrder, Asks, recover, recover_with, check, to_json, from_json}
+use Rattle.cedar_schema_core.specs.Commands.{generate, own_text, Reads}
 use Rattle.cedar_schema_core.specs.Plan.{Report, IsAnswer, refused, done, done_report, IsInputPlan, too_long, not_text}
-use Rattle.cedar_schema_core.specs.Plan.{answered, IsPlan, usage, asked}
+use Rattle.cedar_schema_core.specs.Plan.{answered, IsPlan, usage, asked, made}
 use Rattle.cedar_schema_core.proofs.Tables.{one_table_of_texts, one_table_of_names}
 
 -- words ask for one command
@@ -43,6 +46,29 @@ one_command words c d (recover_with names t e h) (from_json u f k) = cc
 one_command words c d (recover_with names t e h) (recover_with others u f k) =
     let same : others ≡ names = cc in
     ap Recover (one_table_of_names names t u h (subst (λ ns. IsTableInOrder ns u) same k))
+one_command words c d (generate n t e some small h) (recover u f k) = cc
+one_command words c d (generate n t e some small h) (check u f k) = cc
+one_command words c d (generate n t e some small h) (to_json u f k) = cc
+one_command words c d (generate n t e some small h) (from_json u f k) = cc
+one_command words c d (generate n t e some small h) (recover_with names u f k) = cc
+one_command words c d (recover t e h) (generate n u f some small k) = cc
+one_command words c d (check t e h) (generate n u f some small k) = cc
+one_command words c d (to_json t e h) (generate n u f some small k) = cc
+one_command words c d (from_json t e h) (generate n u f some small k) = cc
+one_command words c d (recover_with names t e h) (generate n u f some small k) = cc
+one_command words c d (generate n t e some small h) (generate m u f more fits k) =
+    let below : n < 2 ^ 64 = omega (arith, small) in
+    let fit : m < 2 ^ 64 = omega (arith, fits) in
+    let digits : decimal n ≡ decimal m = cc in
+    let sizes = decimal_injective n m below fit digits in
+    let tables = one_table_of_texts t u (h ∙ sym k) in
+    λ i. Generate (sizes i) (tables i)
+
+-- where a command with a text of its own is asked for, none is that reads the input
+pub no_reader : (words : List (List ℕ)) (c : Command) (text : List ℕ) → Asks words c → own_text c ≡ Some text
+    → (d : Command) → Asks words d → Reads d → ⊥
+no_reader words c text a own d b reads =
+    let none : own_text c ≡ None = subst Reads (sym (one_command words c d a b)) reads in cc
 
 module _ (writes : (c : Command) (text out other : List ℕ) (v w : List SchemaWarning) → Writes c text out v
     → Writes c text other w → (out ≡ other) × (v ≡ w))
@@ -73,10 +99,28 @@ module _ (writes : (c : Command) (text out other : List ℕ) (v w : List SchemaW
   one_input_plan c bytes report other (answered s u h) (not_text t k) = absurd (k u)
   one_input_plan c bytes report other (answered s u h) (answered t v k) = one_answer c bytes report other u h k
 
+  one_made : (c : Command) (text other : List ℕ) → own_text c ≡ Some text → own_text c ≡ Some other
+      → (out out' : List ℕ) (v w : List SchemaWarning) → IsWrittenBy c text out v → IsWrittenBy c other out' w
+      → done_report out v ≡ done_report out' w
+  one_made c text other own its out out' v w h k =
+      let texts : other ≡ text = cc in
+      let same = writes c text out out' v w h.writes (subst (λ t. Writes c t out' w) texts k.writes) in
+      λ i. done_report (same.0 i) (same.1 i)
+
   pub one_plan_from : (words : List (List ℕ)) (bytes : List ℕ) (report other : Report) → IsPlan words bytes report
       → IsPlan words bytes other → report ≡ other
   one_plan_from words bytes report other (usage h) (usage k) = refl
-  one_plan_from words bytes report other (usage h) (asked c a k) = absurd (h c a)
-  one_plan_from words bytes report other (asked c a h) (usage k) = absurd (k c a)
-  one_plan_from words bytes report other (asked c a h) (asked d b k) =
+  one_plan_from words bytes report other (usage h) (asked c a r k) = absurd (h c a)
+  one_plan_from words bytes report other (usage h) (made c a text own out w k) = absurd (h c a)
+  one_plan_from words bytes report other (asked c a r h) (usage k) = absurd (k c a)
+  one_plan_from words bytes report other (asked c a r h) (asked d b s k) =
       one_input_plan c bytes report other h (subst (λ e. IsInputPlan e bytes other) (sym (one_command words c d a b)) k)
+  one_plan_from words bytes report other (asked c a r h) (made d b text own out w k) =
+      absurd (no_reader words d text b own c a r)
+  one_plan_from words bytes report other (made c a text own out v h) (usage k) = absurd (k c a)
+  one_plan_from words bytes report other (made c a text own out v h) (asked d b s k) =
+      absurd (no_reader words c text a own d b s)
+  one_plan_from words bytes report other (made c a text own out v h) (made d b text' own' out' w k) =
+      let same : d ≡ c = sym (one_command words c d a b) in
+      one_made c text text' own (subst (λ e. own_text e ≡ Some text') same own') out out' v w h
+      (subst (λ e. IsWrittenBy e text' out' w) same k)

@@ -9,16 +9,16 @@ use Rattle.schema_convert_types.specs.Declarations.{as_written}
 use Rattle.schema_convert_errors.specs.declared.warnings.SchemaWarning.{SchemaWarning}
 use Rattle.schema_build.specs.Texts.{IsFragmentOf}
 use Rattle.cedar_schema_core.specs.declared.command.Command.{Command}
-use Rattle.cedar_schema_core.specs.declared.command.Command.TheVariants.{Recover, Check, ToJson, FromJson}
+use Rattle.cedar_schema_core.specs.declared.command.Command.TheVariants.{Recover, Check, ToJson, FromJson, Generate}
 use Rattle.cedar_schema_core_faults.specs.declared.recover_error.RecoverError.{RecoverError}
-use Rattle.cedar_schema_core.specs.Commands.{count_line}
+use Rattle.cedar_schema_core.specs.Commands.{count_line, made_line}
 use Rattle.cedar_schema_core.specs.Json.{value_of, JsonMeaning, IsRefusalOfJson}
 use Rattle.cedar_schema_core.specs.Meanings.{TextMeaning, Warns}
 use Rattle.cedar_schema_core.specs.Recovery.{IsRefusal}
 use Rattle.cedar_schema_core.specs.Steps.{IsUnparsed}
 
--- The text is valid and this is written of it, with these warnings: of its meaning the canonical text or the counts, or
--- the JSON of its fragment. Nothing is warned of where JSON is written or read.
+-- The text is valid and this is written of it, with these warnings: of its meaning the canonical text, the counts, or
+-- the counts with both lengths; or the JSON of its fragment. Nothing is warned of where JSON is written or read.
 abbrev pub Writes : Command → List ℕ → List ℕ → List SchemaWarning → Type 0
 Writes (Recover table) text out warnings = (m : SchemaMeaning) × TextMeaning text table m × Warns text table warnings
     × (out ≡ canonical_text m)
@@ -28,6 +28,8 @@ Writes (ToJson table) text out warnings = (f : Fragment RawName as_written) × I
     × (warnings ≡ []) × (out ≡ compact_text (value_of f) ++ codes "\n")
 Writes (FromJson table) text out warnings = (m : SchemaMeaning) × JsonMeaning text table m × (warnings ≡ [])
     × (out ≡ canonical_text m)
+Writes (Generate size table) text out warnings = (m : SchemaMeaning) × TextMeaning text table m
+    × Warns text table warnings × (out ≡ made_line text m)
 
 -- why a command writes nothing of a text
 abbrev pub Refuses : Command → List ℕ → RecoverError → Type 0
@@ -35,6 +37,7 @@ Refuses (Recover table) text e = IsRefusal text table e
 Refuses (Check table) text e = IsRefusal text table e
 Refuses (ToJson table) text e = IsUnparsed text e
 Refuses (FromJson table) text e = IsRefusalOfJson text table e
+Refuses (Generate size table) text e = IsRefusal text table e
 
 -- the command writes this of the text, with these warnings
 pub record IsWrittenBy (c : Command) (text out : List ℕ) (warnings : List SchemaWarning) : Type 0 where

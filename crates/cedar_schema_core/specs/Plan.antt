@@ -1,5 +1,5 @@
 -- What the program is to do, for its words and its input.
-use Rattle.std.specs.Prelude.{◌≢◌, ◌<◌, ◌≤◌, ℕ, List, [], ◌++◌, length, codes, IsUtf8}
+use Rattle.std.specs.Prelude.{◌≡◌, ◌≢◌, ◌<◌, ◌≤◌, ℕ, List, [], ◌++◌, length, codes, IsUtf8, Some}
 use Rattle.std.specs.List.{flat_map}
 use Rattle.std.specs.Str.{encode_utf8_all}
 use Rattle.cedar_io.specs.Input.{max_input}
@@ -12,7 +12,7 @@ use Rattle.cedar_schema_core.specs.declared.status.Status.TheVariants.{TooLong}
 use Rattle.cedar_schema_core_faults.specs.declared.recover_error.RecoverError.{RecoverError}
 use Rattle.cedar_schema_core_faults.specs.declared.recover_error.RecoverError.TheVariants.{Memory}
 use Rattle.cedar_schema_core_faults.specs.Told.{fault_text}
-use Rattle.cedar_schema_core.specs.Commands.{Asks}
+use Rattle.cedar_schema_core.specs.Commands.{Asks, own_text, Reads}
 use Rattle.cedar_schema_core.specs.Answers.{IsWrittenBy, IsRefusedBy}
 
 -- a status, and what goes to the output and to the error output, as bytes
@@ -60,7 +60,12 @@ pub data IsInputPlan (c : Command) (bytes : List ℕ) : Report → Type 0 where
   answered : length bytes ≤ max_input → IsUtf8 bytes → {report : Report} → IsAnswer c bytes report
       → IsInputPlan c bytes report
 
--- the report for these words and this input, where no read fails: the words ask for no command, or for one
+-- the report for these words and this input, where no read fails: the words ask for no command, for one that reads the
+-- input, or for one that makes its own text, which is never refused
 pub data IsPlan (words : List (List ℕ)) (bytes : List ℕ) : Report → Type 0 where
   usage : ((c : Command) → Asks words c → ⊥) → IsPlan words bytes usage_report
-  asked : (c : Command) → Asks words c → {report : Report} → IsInputPlan c bytes report → IsPlan words bytes report
+  asked : (c : Command) → Asks words c → Reads c → {report : Report} → IsInputPlan c bytes report
+      → IsPlan words bytes report
+  made : (c : Command) → Asks words c → (text : List ℕ) → own_text c ≡ Some text → (out : List ℕ)
+      → (warnings : List SchemaWarning) → IsWrittenBy c text out warnings
+      → IsPlan words bytes (done_report out warnings)

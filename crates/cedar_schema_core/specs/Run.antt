@@ -1,5 +1,5 @@
 -- What a run did. A source or a sink is known by what it tells before and after.
-use Rattle.std.specs.Prelude.{◌≡◌, ◌≢◌, ◌↔◌, ℕ, List, [], Option}
+use Rattle.std.specs.Prelude.{◌≡◌, ◌≢◌, ◌↔◌, ℕ, List, [], Option, MatchOption}
 use Rattle.std.specs.List.{flat_map}
 use Rattle.cedar_io.specs.Outside.{Rose, IsEnd, Appends, AppendsPart}
 use Rattle.cedar_schema_core.specs.declared.status.Status.{Status}
@@ -10,11 +10,11 @@ use Rattle.cedar_names.specs.Meaning.{SchemaMeaning}
 use Rattle.schema_convert_errors.specs.declared.warnings.SchemaWarning.{SchemaWarning}
 use Rattle.cedar_names.specs.declared.extension_table.ExtensionTable.{ExtensionTable}
 use Rattle.cedar_schema_core.specs.declared.command.Command.{Command}
-use Rattle.cedar_schema_core.specs.declared.command.Command.TheVariants.{Recover, Check, ToJson, FromJson}
+use Rattle.cedar_schema_core.specs.declared.command.Command.TheVariants.{Recover, Check, ToJson, FromJson, Generate}
 use Rattle.schema_build_closed.specs.HalfFilled.{IsHalfFilled}
 use Rattle.cedar_schema_core.specs.Json.{JsonMeaning}
 use Rattle.cedar_schema_core.specs.Meanings.{TextMeaning}
-use Rattle.cedar_schema_core.specs.Commands.{Asks}
+use Rattle.cedar_schema_core.specs.Commands.{Asks, own_text, Reads}
 use Rattle.cedar_schema_core.specs.Answers.{IsWrittenBy}
 use Rattle.cedar_schema_core.specs.Plan.{Report, IsPlan, read_fault_report, warning_line}
 
@@ -31,16 +31,17 @@ abbrev pub device : {D : Type 0} → (D → Option (List ℕ)) → (D → ℕ) �
 device told faults old new = record
     { before = told old; after = told new; faults_before = faults old; faults_after = faults new; Same = new ≡ old }
 
--- how the source stands: as before where the words ask for no command, and at its end where a command read it whole
+-- how the source stands: as before where the words ask for no command that reads it, and at its end where a command
+-- read it whole
 pub record LeftAs (words : List (List ℕ)) (source : Device) (status : Status) : Type 0 where
-  pub unread : ((c : Command) → Asks words c → ⊥) → source.Same
-  pub end : (c : Command) → Asks words c → status ≢ TooLong → IsEnd source.after
+  pub unread : ((c : Command) → Asks words c → Reads c → ⊥) → source.Same
+  pub end : (c : Command) → Asks words c → Reads c → status ≢ TooLong → IsEnd source.after
 
 -- the report on the words and the source: the plan for the bytes that were left, or a read fault, which was counted
 pub data IsReported (words : List (List ℕ)) (source : Device) : Report → Type 0 where
   planned : (bytes : List ℕ) → HadLeft source.before bytes → {report : Report} → IsPlan words bytes report
       → LeftAs words source report.status → IsReported words source report
-  read_fault : (c : Command) → Asks words c → Rose source.faults_before source.faults_after
+  read_fault : (c : Command) → Asks words c → Reads c → Rose source.faults_before source.faults_after
       → IsReported words source read_fault_report
 
 -- the text was taken whole; where there is none the sink stands as before
@@ -65,14 +66,23 @@ pub data IsRun (words : List (List ℕ)) (source out err : Device) : Status → 
       → IsDelivered out err report status → IsRun words source out err status
   wanted_memory : out.Same → err.Same → IsRun words source out err Memory
 
--- the whole input was read, and what the command writes of it was written and nothing else, with a line for each
--- warning to the error output
+-- the whole input was read, and nothing is left
+pub record ReadWhole (source : Device) (bytes : List ℕ) : Type 0 where
+  pub read : HadLeft source.before bytes
+  pub end : IsEnd source.after
+
+-- what the command works on: the whole input, or its own text, where the source stands as before
+abbrev pub WorksOn : Command → Device → List ℕ → Type 0
+WorksOn c source bytes =
+    MatchOption (own_text c) (ReadWhole source bytes) (λ own. (own ≡ bytes) × source.Same)
+
+-- what the command writes of what it works on was written and nothing else, with a line for each warning to the error
+-- output
 pub record Completed (c : Command) (source out err : Device) : Type 0 where
   pub bytes : List ℕ
   pub text : List ℕ
   pub warnings : List SchemaWarning
-  pub read : HadLeft source.before bytes
-  pub end : IsEnd source.after
+  pub works : WorksOn c source bytes
   pub writes : IsWrittenBy c bytes text warnings
   pub written : Appends out.before text out.after
   pub warned : Appends err.before (encode_utf8_all (flat_map warning_line warnings)) err.after
@@ -105,6 +115,7 @@ KeepsMeaning (Recover table) source out = Recovers table source out
 KeepsMeaning (Check table) source out = Unit {0}
 KeepsMeaning (ToJson table) source out = Unit {0}
 KeepsMeaning (FromJson table) source out = RecoversJson table source out
+KeepsMeaning (Generate size table) source out = Unit {0}
 
 -- no count of faults rose
 pub record NoneCounted (source out err : Device) : Type 0 where

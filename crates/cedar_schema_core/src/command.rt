@@ -1,13 +1,17 @@
-ghost use Rattle.std.specs.Prelude.{◌≡◌, IfOk, IfErr, MatchOption, map, ◌≢◌};
+ghost use Rattle.std.specs.Prelude.{◌≡◌, ◌≢◌, ◌≤◌, ℕ, [], ◌∷◌, IfOk, IfErr, MatchOption, map, decimal};
 ghost use Rattle.std.specs.List.Sorted.{IsStrictlySortedBy};
+ghost use Rattle.std.specs.Str.{bytes_eq};
 ghost use Rattle.std.specs.String.{string_bytes};
 ghost use Rattle.cedar_data.specs.Text.{text_cmp};
-ghost use Rattle.cedar_schema_core.specs.Commands.{Asks, IsTableInOrder};
+ghost use Rattle.schema_generate.specs.Generated.{max_size};
+ghost use Rattle.cedar_schema_core.specs.Commands.{Asks, IsTableInOrder, IsStandard};
 
 use cedar_names::{ExtensionTable, TableError};
+use itoa::Buffer;
+use schema_generate::MAX_SIZE;
 use std::alloc::{AllocError, Global};
 
-/// A command of the program, with the table of extension types under which it reads its input.
+/// A command of the program, with the table of extension types under which it reads its text.
 #[derive(Drop)]
 pub enum Command {
     /// Writes the canonical text of the input's meaning.
@@ -18,6 +22,8 @@ pub enum Command {
     ToJson(ExtensionTable),
     /// Writes the canonical text of the meaning of an input that is JSON.
     FromJson(ExtensionTable),
+    /// Writes how much the text of this size holds, which the program makes.
+    Generate(u32, ExtensionTable),
 }
 
 impl Command {
@@ -54,6 +60,7 @@ impl Command {
                 Ok(None)
             }
             "recover-with" => recover_with(alloc, names),
+            "generate" => generate(alloc, names),
             _ => Ok(None),
         }
     }
@@ -71,6 +78,44 @@ fn recover_with(alloc: Global, names: &[String]) -> Result<Option<Command>, Allo
         Err(TableError::Memory) => Err(AllocError),
         Err(_) => Ok(None),
     }
+}
+
+// The size that a word says in decimal, of a text that can be made.
+fn size_of(word: &str) -> Option<u32>
+    ensures { MatchOption result ((size : ℕ) → 1 ≤ size → size ≤ max_size → word.now ≡ decimal size → ⊥)
+        (λ size. (1 ≤ size) × (size ≤ max_size) × (word.now ≡ decimal size)) }
+{
+    let Ok(size) = word.parse::<u32>() else {
+        return None;
+    };
+    if 1 <= size && size <= MAX_SIZE && is_decimal(word, size) {
+        return Some(size);
+    }
+    None
+}
+
+// Whether the word is the size in decimal, without a sign and without a zero in front.
+fn is_decimal(word: &str, size: u32) -> bool
+    ensures { result ≡ bytes_eq (decimal size) word.now }
+{
+    let mut buffer = Buffer::new();
+    buffer.format(size) == word
+}
+
+// The command that makes a text of the size that the one word says.
+fn generate(alloc: Global, sizes: &[String]) -> Result<Option<Command>, AllocError>
+    ensures { IfOk result (λ command. MatchOption command
+        ((size : ℕ) → 1 ≤ size → size ≤ max_size → map string_bytes sizes.now ≡ decimal size ∷ [] → ⊥)
+        (λ c. (size : ℕ) × (table : ExtensionTable) × (c ≡ Command.Generate size table) × (1 ≤ size)
+        × (size ≤ max_size) × (map string_bytes sizes.now ≡ decimal size ∷ []) × IsStandard table)) }
+{
+    let [word] = sizes else {
+        return Ok(None);
+    };
+    let Some(size) = size_of(word.as_str()) else {
+        return Ok(None);
+    };
+    Ok(Some(Command::Generate(size, ExtensionTable::all_available(alloc)?)))
 }
 
 // The names of a table stand in the order of their texts.

@@ -23,5 +23,6 @@ pub use laws::{
 };
 pub use recover::{Recovered, recover_schema};
 pub use run::run_tool;
+pub use schema_generate::{MAX_SIZE, generate_text};
 pub use status::Status;
 pub use std_streams::{StdSink, StdSource};

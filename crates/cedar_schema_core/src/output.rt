@@ -1,15 +1,18 @@
 //! What a command writes of a text.
-ghost use Rattle.std.specs.Prelude.{◌≡◌, ◌++◌, codes, decimal, IfOk, MatchResult};
+ghost use Rattle.std.specs.Prelude.{◌≡◌, ◌++◌, codes, decimal, length, IfOk, MatchResult};
 ghost use Rattle.std.specs.Str.{encode_utf8_all};
+ghost use Rattle.std.specs.Option.{option_map};
 ghost use Rattle.cedar_schema_core.specs.Answers.{IsWrittenBy, IsRefusedBy};
+ghost use Rattle.cedar_schema_core.specs.Commands.{own_text, IsSized};
 
 use crate::command::Command;
 use crate::json_texts::{JsonForm, recover_json, to_json_text};
-use crate::recover::recover_schema;
+use crate::recover::{Recovered, recover_schema};
 use cedar_data::{Text, around};
 use cedar_names::ExtensionTable;
 use cedar_schema_core_faults::{RecoverError, number_text};
 use schema_convert::SchemaWarning;
+use schema_generate::generate_text;
 use std::alloc::{AllocError, Global};
 
 /// What a command writes, with the warnings of the text.
@@ -29,6 +32,22 @@ fn count_line(alloc: Global, entity_types: usize, actions: usize) -> Result<Text
     let mut text = types;
     text.push_text(&counted)?;
     Ok(text)
+}
+
+// How long the text is, how much it holds, and how long the canonical text is.
+fn made_line(alloc: Global, read: usize, recovered: &Recovered) -> Result<Text, AllocError>
+    ensures { IfOk result (λ text. encode_utf8_all text ≡ decimal read ++ (codes " bytes in, "
+        ++ (decimal recovered.now.entity_types ++ (codes " entity types, " ++ (decimal recovered.now.actions
+        ++ (codes " actions, " ++ (decimal (length (encode_utf8_all recovered.now.text)) ++ codes " bytes out\n"))))))) }
+{
+    let types = number_text(alloc, recovered.entity_types)?;
+    let actions = number_text(alloc, recovered.actions)?;
+    let written = number_text(alloc, recovered.text.as_str().len())?;
+    let mut line = number_text(alloc, read)?;
+    line.push_text(&around(alloc, " bytes in, ", &types, " entity types, ")?)?;
+    line.push_text(&actions)?;
+    line.push_text(&around(alloc, " actions, ", &written, " bytes out\n")?)?;
+    Ok(line)
 }
 
 // The canonical text of the text's meaning.
@@ -85,6 +104,26 @@ fn json_recovery(alloc: Global, text: &str, table: &ExtensionTable) -> Result<Ou
     })
 }
 
+// The counts of the text's meaning, and how long the text and its canonical text are.
+#[tactic(auto, using(crate::proofs::Answered::made_written))]
+fn made_counts(
+    alloc: Global,
+    text: &str,
+    size: u32,
+    table: &ExtensionTable,
+) -> Result<Output, RecoverError>
+    ensures { MatchResult result (λ o. IsWrittenBy (Command.Generate size table.now) text.now (encode_utf8_all o.text) o.warnings.items) (IsRefusedBy (Command.Generate size table.now) text.now) }
+{
+    let recovered = recover_schema(alloc, text, table)?;
+    match made_line(alloc, text.len(), &recovered) {
+        Ok(line) => Ok(Output {
+            text: line,
+            warnings: recovered.warnings,
+        }),
+        Err(_) => Err(RecoverError::Memory),
+    }
+}
+
 /// What the command writes of the text, or why it writes nothing.
 pub(crate) fn output_of(
     alloc: Global,
@@ -98,5 +137,19 @@ pub(crate) fn output_of(
         Command::Check(table) => counts(alloc, text, table),
         Command::ToJson(table) => json_line(alloc, text, table),
         Command::FromJson(table) => json_recovery(alloc, text, table),
+        Command::Generate(size, table) => made_counts(alloc, text, *size, table),
+    }
+}
+
+/// The text that the command makes for itself, where it reads no input.
+pub(crate) fn own_text_of(alloc: Global, command: &Command) -> Result<Option<Text>, AllocError>
+    requires { IsSized command.now }
+    ensures { IfOk result (λ own. option_map encode_utf8_all own ≡ own_text command.now) }
+{
+    match command {
+        Command::Generate(size, _) => Ok(Some(generate_text(alloc, *size)?)),
+        Command::Recover(_) | Command::Check(_) | Command::ToJson(_) | Command::FromJson(_) => {
+            Ok(None)
+        }
     }
 }

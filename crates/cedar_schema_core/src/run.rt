@@ -4,14 +4,17 @@ ghost use Rattle.std.specs.Str.{encode_utf8_all, IsAscii};
 ghost use Rattle.cedar_io.specs.Outside.{Rose};
 ghost use Rattle.cedar_io.specs.Input.{TookAtMost, max_input};
 ghost use Rattle.cedar_names.specs.CanonicalText.{canonical_text};
-ghost use Rattle.cedar_schema_core.specs.Commands.{Asks};
+ghost use Rattle.cedar_schema_core.specs.Commands.{Asks, IsSized, Reads, own_text};
 ghost use Rattle.cedar_schema_core.specs.Plan.{Report, IsPlan, IsInputPlan, IsAnswer, done_report, refused_report, read_fault_report};
 ghost use Rattle.cedar_schema_core.specs.Run.{device, IsReported, IsDelivered, IsRun, Completed, KeepsMeaning, NoneCounted};
 ghost use Rattle.cedar_schema_core.specs.Replies.{report_of};
 
 use crate::command::Command;
-use crate::laws::{canonical_texts_mean_the_same, one_plan, texts_of_json_mean_the_same};
-use crate::output::{Output, output_of};
+use crate::laws::{
+    canonical_texts_mean_the_same, generated_texts_are_valid, one_plan, refused_or_valid,
+    texts_of_json_mean_the_same,
+};
+use crate::output::{Output, output_of, own_text_of};
 use crate::reply::{Reply, warning_lines};
 use crate::status::Status;
 use cedar_data::Text;
@@ -74,7 +77,36 @@ fn input_reply(alloc: Global, command: &Command, bytes: &[u8]) -> Result<Reply, 
     }
 }
 
-// Reads the input where the words ask for a command, and takes all memory that the run needs.
+// The reply for the text that a command makes for itself, which is never refused.
+fn own_reply(alloc: Global, command: &Command, text: &str) -> Result<Reply, AllocError>
+    requires sized { IsSized command.now }
+    requires own { own_text command.now ≡ Some text.now }
+    ensures { (words : List (List ℕ)) (bytes : List ℕ) → Asks words command.now → IfOk result (λ reply. IsPlan words bytes (report_of reply)) }
+{
+    generated_texts_are_valid();
+    refused_or_valid();
+    text_reply(alloc, command, text)
+}
+
+// Reads the input of a command, and takes all memory that the reply needs.
+fn read_reply<S: Source>(
+    alloc: Global,
+    command: &Command,
+    source: &mut S,
+) -> Result<Reply, AllocError>
+    ensures reported { (words : List (List ℕ)) → Asks words command.now → Reads command.now → IfOk result (λ reply. IsReported words (device S.left S.faults source.old source.new) (report_of reply)) }
+    ensures taken { TookAtMost (max_input + 1) (S.left source.old) (S.left source.new) }
+    ensures later { S.faults source.old ≤ S.faults source.new }
+{
+    match read_input(alloc, source) {
+        Ok(bytes) => input_reply(alloc, command, &bytes),
+        Err(ReadEnd::Failed) => Reply::line(alloc, Status::ReadFault, READ_FAULT),
+        Err(ReadEnd::TooLong) => Reply::line(alloc, Status::TooLong, TOO_LONG),
+        Err(ReadEnd::Memory) => Err(AllocError),
+    }
+}
+
+// Reads the input where the words ask for a command that reads it, and takes all memory that the run needs.
 fn prepare<S: Source>(alloc: Global, words: &[String], source: &mut S) -> Result<Reply, AllocError>
     ensures reported { IfOk result (λ reply. IsReported (map string_bytes words.now) (device S.left S.faults source.old source.new) (report_of reply)) }
     ensures taken { TookAtMost (max_input + 1) (S.left source.old) (S.left source.new) }
@@ -83,11 +115,9 @@ fn prepare<S: Source>(alloc: Global, words: &[String], source: &mut S) -> Result
     let Some(command) = Command::of_words(alloc, words)? else {
         return Reply::line(alloc, Status::Usage, USAGE);
     };
-    match read_input(alloc, source) {
-        Ok(bytes) => input_reply(alloc, &command, &bytes),
-        Err(ReadEnd::Failed) => Reply::line(alloc, Status::ReadFault, READ_FAULT),
-        Err(ReadEnd::TooLong) => Reply::line(alloc, Status::TooLong, TOO_LONG),
-        Err(ReadEnd::Memory) => Err(AllocError),
+    match own_text_of(alloc, &command)? {
+        Some(text) => own_reply(alloc, &command, text.as_str()),
+        None => read_reply(alloc, &command, source),
     }
 }
 
@@ -120,7 +150,7 @@ pub fn run_tool<S: Source, O: Sink, E: Sink>(
     // How the run ended, by its cause.
     ensures run { IsRun (map string_bytes words.now) (device S.left S.faults source.old source.new) (device O.taken O.faults out.old out.new) (device E.taken E.faults err.old err.new) result }
 
-    // Done: the words ask for a command, the input is valid, what the command writes of its meaning was written, and nothing else.
+    // Done: the words ask for a command, the input, or the text that the command makes, is valid, what the command writes of its meaning was written, and nothing else.
     ensures completed { result ≡ Status.Done → (c : Command) × Asks (map string_bytes words.now) c × Completed c (device S.left S.faults source.old source.new) (device O.taken O.faults out.old out.new) (device E.taken E.faults err.old err.new) }
 
     // Done by a recovery: the text that was written is valid under the same table, and means what the input means; of JSON exactly

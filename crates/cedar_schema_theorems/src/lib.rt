@@ -15,7 +15,7 @@ pub use fragments::{
 };
 pub use orders::{blanks_change_no_meaning, divisions_change_no_meaning, order_changes_no_meaning};
 pub use runs::{
-    a_run_has_one_plan, a_text_has_one_meaning, a_text_has_one_refusal,
+    a_made_text_is_valid, a_run_has_one_plan, a_text_has_one_meaning, a_text_has_one_refusal,
     canonical_texts_stand_for_meanings, recovering_again_changes_nothing, refused_is_not_valid,
     what_is_recovered_from_json_means_the_same, what_is_recovered_means_the_same,
 };

@@ -1,9 +1,10 @@
 //! What is proved of what a text means, and of what the program does with it.
-ghost use Rattle.std.specs.Prelude.{◌≡◌, ◌≢◌, ◌↔◌, ℕ, Bool, List, IsUtf8};
+ghost use Rattle.std.specs.Prelude.{◌≡◌, ◌≢◌, ◌↔◌, ◌≤◌, ℕ, Bool, List, IsUtf8};
 ghost use Rattle.std.specs.Str.{encode_utf8_all};
 ghost use Rattle.cedar_names.specs.CanonicalText.{schema_text, canonical_text};
 ghost use Rattle.cedar_names.specs.Meaning.{SchemaMeaning};
 ghost use Rattle.cedar_names.specs.declared.extension_table.ExtensionTable.{ExtensionTable};
+ghost use Rattle.schema_generate.specs.Generated.{max_size, generated};
 ghost use Rattle.schema_build_closed.specs.HalfFilled.{IsHalfFilled};
 ghost use Rattle.cedar_schema_core.specs.Json.{JsonMeaning};
 ghost use Rattle.cedar_schema_core.specs.Meanings.{TextMeaning, IsValid};
@@ -13,9 +14,9 @@ ghost use Rattle.cedar_schema_core.specs.Plan.{Report, IsPlan};
 ghost use Rattle.cedar_schema_core_faults.specs.Told.{fault_text};
 
 use cedar_schema_core::{
-    RecoverError, canonical_texts_mean_the_same, canonical_texts_tell_meanings_apart, one_plan,
-    one_refusal, one_text_meaning, recovered_texts_recover_themselves, refused_or_valid,
-    texts_of_json_mean_the_same,
+    RecoverError, canonical_texts_mean_the_same, canonical_texts_tell_meanings_apart,
+    generated_texts_are_valid, one_plan, one_refusal, one_text_meaning,
+    recovered_texts_recover_themselves, refused_or_valid, texts_of_json_mean_the_same,
 };
 
 /// A text has at most one meaning under a table.
@@ -83,4 +84,11 @@ pub fn a_run_has_one_plan()
         → IsPlan words bytes other → report ≡ other }
 {
     one_plan();
+}
+
+/// A text that the program makes is valid, for every size and under every table.
+pub fn a_made_text_is_valid()
+    ensures { (size : ℕ) (table : ExtensionTable) → 1 ≤ size → size ≤ max_size → IsValid (generated size) table }
+{
+    generated_texts_are_valid();
 }

@@ -3,7 +3,7 @@ use Rattle.std.specs.Prelude.{map}
 use Rattle.std.proofs.lemmas.Result.{IfOk-weaker}
 use Rattle.std.specs.String.{string_bytes}
 use Rattle.cedar_schema_core.specs.Commands.{recover, check, to_json, from_json}
-use Rattle.cedar_schema_core.proofs.Words.{split_words, alone, named_command}
+use Rattle.cedar_schema_core.proofs.Words.{split_words, alone, named_command, sized_command}
 use Rattle.cedar_schema_core.proofs.command.Command.of_words.Goals as goal
 
 pub returns-then-is_empty : goal.returns-then-is_empty
@@ -44,3 +44,11 @@ returns-in-text-3 c =
     (split_words c.args.words.now c.in-Some.names.now c.in-Some.first.now c.as_str.result.now c.in-Some.ensures.cases
     c.as_str.ensures.value ∙ ap (λ w. w ∷ map string_bytes c.in-Some.names.now) c.in-text-3.is) h)
     c.recover_with.ensures
+
+pub returns-in-generate : goal.returns-in-generate
+returns-in-generate c =
+    IfOk-weaker c.generate.result _ _ (λ found h.
+    sized_command (map string_bytes c.args.words.now) (map string_bytes c.in-Some.names.now) found
+    (split_words c.args.words.now c.in-Some.names.now c.in-Some.first.now c.as_str.result.now c.in-Some.ensures.cases
+    c.as_str.ensures.value ∙ ap (λ w. w ∷ map string_bytes c.in-Some.names.now) c.in-generate.is) h)
+    c.generate.ensures
