@@ -23,7 +23,6 @@ use Rattle.schema_build_hierarchy.specs.Declarations.{entity_in, entity_name, en
 use Rattle.schema_says.specs.FragmentsSay.{FragmentSays}
 use Rattle.schema_says.proofs.MeantSayable.{equal_names}
 use Rattle.schema_generate_valid.specs.Declares.{entity_path, generated_items}
-use Rattle.schema_generate_valid.specs.Said.{IsEntityOf}
 use Rattle.schema_generate_valid.proofs.Declared.{Block, no_commons, entity_at, entity_there}
 use Rattle.schema_build_says.proofs.Members.{IsIn, left_to, right_to, in_map, map_to, flat_to, flat_nothing}
 use Rattle.schema_generate_valid.proofs.Names.{not_true}

@@ -1,5 +1,5 @@
 -- What the types of a fragment stand for that says what a generated text declares.
-use Rattle.std.proofs.Common.{◌≡◌, ◌⊎◌, inl, inr, ℕ, ◌≤◌, Bool, true, false, cond, ◌||◌, List, [], ◌∷◌, ◌++◌, codes}
+use Rattle.std.proofs.Common.{◌≡◌, inl, inr, ℕ, ◌≤◌, Bool, true, false, cond, List, [], ◌∷◌, ◌++◌, codes}
 use Rattle.std.proofs.Common.{map, Option}
 use Rattle.std.proofs.Common.{Some, None, is_some, refl, sym, ap, ◌∙◌, subst, true≢false, if◌then◌else◌}
 use Rattle.std.specs.Prelude.{slice_get}
@@ -15,7 +15,7 @@ use Rattle.cedar_names.specs.Definitions.{among}
 use Rattle.cedar_names.specs.Meaning.{PlainType, Attributes, no_more, attribute}
 use Rattle.cedar_names.specs.Orders.{names_in_order}
 use Rattle.cedar_names.specs.declared.extension_table.ExtensionTable.{ExtensionTable}
-use Rattle.schema_json.specs.Shapes.{attributes_of, is_open}
+use Rattle.schema_json.specs.Shapes.{attributes_of}
 use Rattle.schema_json.specs.declared.fragment.Fragment.{Fragment}
 use Rattle.schema_json.specs.declared.types.Type.{«Type»}
 use Rattle.schema_json.specs.declared.types.Type.TheVariants as shape
@@ -23,16 +23,14 @@ use Rattle.schema_json.specs.declared.types.TypeVariant.{TypeVariant-F, out-Type
 use Rattle.schema_json.specs.declared.types.TypeVariant.TheVariants as variant
 use Rattle.schema_json.specs.declared.types.TypeOfAttribute.{TypeOfAttribute, out-TypeOfAttribute}
 use Rattle.schema_convert_types.specs.Declarations.{as_written}
-use Rattle.schema_resolve_definitions.specs.Declarations.{declared}
 use Rattle.schema_resolve_definitions.specs.Defined.{builtins, is_hidden, names_of_builtin, names_of_builtins}
 use Rattle.schema_resolve_definitions.specs.Tests.{Tests}
 use Rattle.schema_build_expand.specs.Expands.{Expands, by_layer, LayerExpands, to_record, to_entity, to_builtin}
 use Rattle.schema_build_expand.specs.Expands.{ExpandAll, to_no_attributes, to_attribute}
 use Rattle.schema_build_expand.specs.Scope.{Scope, AreDeclaredOnce, IsUndeclared}
-use Rattle.schema_build_expand.specs.View.{View, record_layer, reference_layer, view}
-use Rattle.schema_build_scope.specs.Commons.{declared_commons}
+use Rattle.schema_build_expand.specs.View.{record_layer, reference_layer, view}
 use Rattle.schema_build_scope.specs.FragmentScope.{fragment_scope, declaration}
-use Rattle.schema_readback.specs.Written.{WrittenAttributes, path, rec}
+use Rattle.schema_readback.specs.Written.{WrittenAttributes, rec}
 use Rattle.schema_says.specs.FragmentsSay.{FragmentSays}
 use Rattle.schema_says.specs.TypesSay.{TypeSays, AttributeSays}
 use Rattle.schema_says.proofs.Orders.{text_total}

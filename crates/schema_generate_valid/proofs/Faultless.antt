@@ -1,5 +1,5 @@
 -- A fragment that says what a generated text declares is without a build fault.
-use Rattle.std.proofs.Common.{◌≡◌, ◌<◌, ◌≤◌, inl, inr, ℕ, Bool, true, false, not, cond, ◌||◌, List, [], ◌∷◌, ◌++◌}
+use Rattle.std.proofs.Common.{◌≡◌, ◌<◌, ◌≤◌, inl, inr, ℕ, Bool, true, false, not, cond, List, [], ◌∷◌, ◌++◌}
 use Rattle.std.proofs.Common.{codes}
 use Rattle.std.proofs.Common.{length, map, filter, flat_map, Option, Some, None, is_some, Contains, refl, sym, ap, ◌∙◌}
 use Rattle.std.proofs.Common.{subst, arith, true≢false, if◌then◌else◌}
@@ -8,10 +8,8 @@ use Rattle.std.specs.Str.{bytes_eq}
 use Rattle.std.specs.declared.cmp.Ordering.{Ordering}
 use Rattle.std.proofs.lemmas.List.Elements.{All-contains}
 use Rattle.cedar_identifiers.specs.Names.{components_of}
-use Rattle.cedar_identifiers.specs.declared.internal_name.InternalName.{InternalName}
 use Rattle.cedar_identifiers.specs.declared.name.Name.{Name}
 use Rattle.cedar_identifiers.specs.declared.raw_name.RawName.{RawName}
-use Rattle.cedar_identifiers.specs.declared.reference_type.ReferenceType.TheVariants.{Entity, CommonOrEntity}
 use Rattle.cedar_names.specs.Orders.{names_in_order}
 use Rattle.cedar_names.specs.declared.extension_table.ExtensionTable.{ExtensionTable}
 use Rattle.schema_json.specs.declared.action_type.ActionEntityUID.{ActionEntityUID}
@@ -44,7 +42,7 @@ use Rattle.schema_build_scope.specs.CycleRow.{HasCommonCycle}
 use Rattle.schema_build_scope.specs.FragmentScope.{fragment_scope}
 use Rattle.schema_build_scope.specs.Rows.{OrElse}
 use Rattle.schema_build_scope.specs.UndefinedRows.{HasUndefinedTypes, HasUndefinedActions}
-use Rattle.schema_build_hierarchy.specs.Declarations.{DeclaredEntity, entity_name, declared_entities, action_key}
+use Rattle.schema_build_hierarchy.specs.Declarations.{entity_name, declared_entities, action_key}
 use Rattle.schema_build_hierarchy.specs.Declarations.{declared_actions}
 use Rattle.schema_build_hierarchy.specs.FirstUses.{IsFirstUse, AreFirstUses}
 use Rattle.schema_build_hierarchy.specs.Parents.{action_parents, action_parents_in, IsActionAncestor}
@@ -60,7 +58,7 @@ use Rattle.schema_generate_valid.specs.Declares.{attributes_of, entity_of, actio
 use Rattle.schema_generate_valid.specs.Said.{DeclaredAction, IsActionOf}
 use Rattle.schema_generate_valid.proofs.Declared.{Block, id_text, block_is, entity_block, no_commons, entity_at}
 use Rattle.schema_generate_valid.proofs.Declared.{action_at}
-use Rattle.schema_generate_valid.proofs.Defined.{IsDeclaredName, IsTypeName, own, own_there, t, entity_defined}
+use Rattle.schema_generate_valid.proofs.Defined.{IsDeclaredName, own_there, t, entity_defined}
 use Rattle.schema_generate_valid.proofs.Defined.{type_defined}
 use Rattle.schema_generate_valid.proofs.Given.{no_parents, fragment_gives}
 use Rattle.schema_build_says.proofs.Members.{IsIn, in_from, flat_nothing}

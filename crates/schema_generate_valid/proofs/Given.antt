@@ -1,7 +1,6 @@
 -- What a walk gives of a fragment that says what a generated text declares.
-use Rattle.std.proofs.Common.{◌≡◌, inl, inr, ℕ, ◌<◌, ◌≤◌, ◌==◌, Bool, true, false, not, ◌&&◌, List, [], ◌∷◌, ◌++◌, map}
-use Rattle.std.proofs.Common.{flat_map}
-use Rattle.std.proofs.Common.{Option, Some, None, refl, sym, ap, ◌∙◌, subst, arith, if◌then◌else◌, ◌+◌, ◌*◌, ◌%◌}
+use Rattle.std.proofs.Common.{◌≡◌, inl, inr, ℕ, ◌<◌, ◌≤◌, ◌==◌, Bool, true, false, not, ◌&&◌, List, [], ◌∷◌, ◌++◌}
+use Rattle.std.proofs.Common.{Option, Some, None, refl, sym, ap, ◌∙◌, subst, arith, if◌then◌else◌, ◌+◌, ◌*◌}
 use Rattle.std.specs.List.{AllByRecursion}
 use Rattle.std.specs.Option.{option_map_or}
 use Rattle.std.proofs.lemmas.Nat.{mod_below}
@@ -34,7 +33,7 @@ use Rattle.schema_generate_valid.specs.Declares.{generated_items}
 use Rattle.schema_generate_valid.proofs.Declared.{Block, block_is, entity_block, action_block, no_commons}
 use Rattle.schema_generate_valid.proofs.Defined.{IsDeclaredName, IsTypeName}
 use Rattle.schema_build_says.proofs.Members.{IsIn, flat_nothing, append_nothing}
-use Rattle.schema_generate_valid.proofs.Walked.{AreNames, record_gives, context_gives, names_give}
+use Rattle.schema_generate_valid.proofs.Walked.{record_gives, context_gives, names_give}
 
 pub no_tags : (o : Option («Type» RawName)) → TagsSay o None → o ≡ None
 no_tags None h = refl

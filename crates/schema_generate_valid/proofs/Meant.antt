@@ -1,26 +1,23 @@
 -- What a fragment means that says what a generated text declares.
-use Rattle.std.proofs.Common.{◌≡◌, ◌↔◌, ◌⊎◌, inl, inr, ℕ, ◌<◌, ◌≤◌, Bool, true, false, List, [], ◌∷◌, ◌++◌, codes, map}
+use Rattle.std.proofs.Common.{◌≡◌, ◌⊎◌, inl, inr, ℕ, ◌<◌, ◌≤◌, Bool, List, [], ◌∷◌, map}
 use Rattle.std.proofs.Common.{flat_map}
-use Rattle.std.proofs.Common.{Option, Some, None, Contains, refl, sym, ap, ◌∙◌, subst, arith, true≢false, is_lt}
+use Rattle.std.proofs.Common.{Option, Some, None, refl, sym, ap, ◌∙◌, subst, arith, true≢false, is_lt}
 use Rattle.std.proofs.Common.{append-nil}
 use Rattle.std.specs.BTreeSet.{insert_key}
 use Rattle.std.specs.Cmp.{tied_itself}
 use Rattle.std.specs.Cmp.Lexicographic.{slice_cmp}
-use Rattle.std.specs.List.{AllByRecursion, AllZip}
+use Rattle.std.specs.List.{AllZip}
 use Rattle.std.specs.List.Sorted.{IsStrictlySortedBy}
-use Rattle.std.specs.Option.{option_map}
 use Rattle.std.specs.Ordering.{ordering_then, match_ordering}
 use Rattle.std.specs.declared.cmp.Ordering.{Ordering}
 use Rattle.std.specs.declared.cmp.Ordering.TheVariants.{Less, Equal, Greater}
 use Rattle.std.proofs.lemmas.Map.Keys.{sorted_head}
 use Rattle.cedar_data.specs.Text.{text_cmp}
 use Rattle.cedar_identifiers.specs.Names.{components_of}
-use Rattle.cedar_identifiers.specs.declared.name.Name.{Name}
 use Rattle.cedar_identifiers.specs.declared.raw_name.RawName.{RawName}
-use Rattle.cedar_identifiers.specs.declared.reference_type.ReferenceType.TheVariants.{Entity}
 use Rattle.cedar_identifiers.specs.declared.unreserved_id.UnreservedId.{UnreservedId}
 use Rattle.cedar_names.specs.CanonicalText.{namespace, in_order}
-use Rattle.cedar_names.specs.Meaning.{PlainType, EntityMeaning, ActionMeaning, SchemaMeaning}
+use Rattle.cedar_names.specs.Meaning.{EntityMeaning, ActionMeaning, SchemaMeaning}
 use Rattle.cedar_names.specs.Orders.{ids_of, names_in_order, names_total}
 use Rattle.cedar_names.specs.declared.extension_table.ExtensionTable.{ExtensionTable}
 use Rattle.schema_json.specs.Actions.{action_name}
@@ -49,17 +46,16 @@ use Rattle.schema_build_text.specs.Captured.{captured_in, IsUncaptured}
 use Rattle.schema_build_text.specs.Walk.{ItemContent, entity_type, action, namespace_of, items_of, namespaces_of}
 use Rattle.schema_build_types.specs.Content.{actions_cmp}
 use Rattle.schema_build_types.specs.Standing.{entity_as_built, action_as_built, schema_as_built}
-use Rattle.schema_build.specs.Meaning.{key_of, IsEntityMeaning, IsActionMeaning, EntitiesMean, ActionsMean}
+use Rattle.schema_build.specs.Meaning.{IsEntityMeaning, IsActionMeaning, EntitiesMean, ActionsMean}
 use Rattle.schema_build.specs.Meaning.{FragmentMeaning}
 use Rattle.schema_says.specs.DeclarationsSay.{written_paths, KindSays, AppliesSay}
-use Rattle.schema_says.specs.FragmentsSay.{FragmentSays, NamespaceSays, namespace_order, name_components}
-use Rattle.schema_says.proofs.Orders.{text_total}
-use Rattle.schema_generate.specs.Generated.{max_size, target_of, resource_of}
+use Rattle.schema_says.specs.FragmentsSay.{FragmentSays, namespace_order, name_components}
+use Rattle.schema_generate.specs.Generated.{max_size, resource_of}
 use Rattle.schema_generate_valid.specs.Declares.{entity_path, attributes_of, entity_of, action_of, generated_items}
-use Rattle.schema_generate_valid.specs.Said.{DeclaredAction, IsEntityOf, IsActionOf}
+use Rattle.schema_generate_valid.specs.Said.{DeclaredAction}
 use Rattle.schema_generate_valid.proofs.Ancestors.{target_found, ancestors_of, are_ancestors}
 use Rattle.schema_generate_valid.proofs.Declared.{Block, id_text, block_is, block_there, entity_at, action_at}
-use Rattle.schema_generate_valid.proofs.Defined.{IsDeclaredName, IsTypeName, t}
+use Rattle.schema_generate_valid.proofs.Defined.{IsDeclaredName, t}
 use Rattle.schema_generate_valid.proofs.Expanding.{declared_once, record_expands}
 use Rattle.schema_generate_valid.proofs.Faultless.{no_action_ancestor}
 use Rattle.schema_generate_valid.proofs.Given.{no_tags, target_declared, resource_declared}

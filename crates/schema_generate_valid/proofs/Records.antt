@@ -1,11 +1,11 @@
 -- What says a record stands for records alone.
-use Rattle.std.proofs.Common.{◌≡◌, ℕ, Bool, true, false, List, refl, sym, ap, ◌∙◌, subst, Option}
+use Rattle.std.proofs.Common.{◌≡◌, ℕ, Bool, List, refl, sym, ap, ◌∙◌, Option}
 use Rattle.cedar_data.specs.Span.{Span}
 use Rattle.cedar_identifiers.specs.declared.internal_name.InternalName.{InternalName}
 use Rattle.cedar_identifiers.specs.declared.raw_name.RawName.{RawName}
 use Rattle.cedar_names.specs.Meaning.{PlainType, Attributes}
 use Rattle.schema_json.specs.Shapes.{attributes_of, is_open}
-use Rattle.schema_json.specs.declared.types.Type.{«Type», Type-F, out-Type, out-roll-Type}
+use Rattle.schema_json.specs.declared.types.Type.{«Type», Type-F, out-roll-Type}
 use Rattle.schema_json.specs.declared.types.Type.TheVariants as shape
 use Rattle.schema_json.specs.declared.types.TypeVariant.{TypeVariant, TypeVariant-F, out-TypeVariant}
 use Rattle.schema_json.specs.declared.types.TypeVariant.{out-roll-TypeVariant}

@@ -1,10 +1,10 @@
 -- What a generated text declares can be translated.
 use Rattle.std.proofs.Common.{◌≡◌, ℕ, zero, suc, ◌+◌, ◌<◌, ◌≤◌, ◌^◌, ◌==◌, Bool, true, false, cond, List, [], ◌∷◌, ◌++◌}
 use Rattle.std.proofs.Common.{map}
-use Rattle.std.proofs.Common.{flat_map, Option, Some, None, is_some, refl, sym, ap, ◌∙◌, subst, arith, true≢false, find}
+use Rattle.std.proofs.Common.{flat_map, Some, None, is_some, refl, sym, ap, ◌∙◌, subst, arith, true≢false, find}
 use Rattle.std.proofs.Common.{if◌then◌else◌}
-use Rattle.std.specs.Prelude.{codes, decimal}
-use Rattle.std.specs.List.{AllByRecursion, filter, range_with_len}
+use Rattle.std.specs.Prelude.{decimal}
+use Rattle.std.specs.List.{AllByRecursion, range_with_len}
 use Rattle.std.specs.Ordering.{is_eq}
 use Rattle.std.proofs.lemmas.Fmt.{decimal_injective}
 use Rattle.cedar_data.specs.Text.{text_cmp}
@@ -13,8 +13,8 @@ use Rattle.schema_syntax_tree.specs.declared.pr.PR.TheVariants.{Principal, Resou
 use Rattle.schema_convert.specs.Repeats.{same_among, NoneRepeats}
 use Rattle.schema_readback.specs.PrintedDecls.{IsSome}
 use Rattle.schema_readback.specs.Written.{WrittenMember, types, WrittenDeclared, WrittenItem}
-use Rattle.schema_says.specs.FragmentsSay.{entities_of_decl, actions_of_decl, commons_of_decl, NamespaceName}
-use Rattle.schema_says.specs.FragmentsSay.{WrittenNamespace, decls_of_item, items_of_namespace, opened, written_in}
+use Rattle.schema_says.specs.FragmentsSay.{entities_of_decl, actions_of_decl, commons_of_decl}
+use Rattle.schema_says.specs.FragmentsSay.{WrittenNamespace, decls_of_item, items_of_namespace, opened}
 use Rattle.schema_says.specs.Named.{IsWellNamed}
 use Rattle.schema_says.specs.Sayable.{says_alike, AreLawfulMembers, AppliesWell, IsFreeCommonName, names_written}
 use Rattle.schema_says.specs.Sayable.{IsSayableNamespace, IsSayable}

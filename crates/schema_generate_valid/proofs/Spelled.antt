@@ -1,8 +1,8 @@
 -- A generated text is laid out of lexemes that spell what it declares.
-use Rattle.std.proofs.Common.{◌≡◌, ℕ, zero, suc, ◌+◌, ◌*◌, ◌%◌, ◌==◌, ◌<◌, ◌≤◌, ◌^◌, Bool, true, false, cond, List, []}
+use Rattle.std.proofs.Common.{◌≡◌, ℕ, zero, suc, ◌+◌, ◌*◌, ◌%◌, ◌==◌, ◌<◌, ◌≤◌, ◌^◌, Bool, true, false, List, []}
 use Rattle.std.proofs.Common.{◌∷◌, ◌++◌, refl, sym}
 use Rattle.std.proofs.Common.{ap, ◌∙◌, subst, arith, inl, inr, append_assoc, flat_map, Some, None, if◌then◌else◌}
-use Rattle.std.specs.Prelude.{codes, decimal}
+use Rattle.std.specs.Prelude.{codes}
 use Rattle.std.specs.List.{AllByRecursion, range_with_len}
 use Rattle.std.specs.List.Sorted.{IsStrictlySortedBy}
 use Rattle.cedar_data.specs.Text.{text_cmp}
@@ -10,7 +10,6 @@ use Rattle.schema_syntax_grammar.specs.declared.token_kind.TokenKind.{TokenKind}
 use Rattle.std.proofs.lemmas.Nat.{mod_below}
 use Rattle.schema_syntax_grammar.specs.declared.token_kind.TokenKind.TheVariants.{Identifier, Comma, Semi, Colon}
 use Rattle.schema_syntax_grammar.specs.declared.token_kind.TokenKind.TheVariants.{RBrace, LBrace, Equals}
-use Rattle.schema_syntax_tree.specs.declared.pr.PR.TheVariants.{Principal, Resource}
 use Rattle.schema_syntax_tokens.specs.Forms.{word_kind}
 use Rattle.schema_syntax_tokens.specs.Laid.{Lexeme, Piece, laid, lexemes_of, AreBlanks, none, blank, free, word, Follow}
 use Rattle.schema_syntax_tokens.specs.Laid.{done, by_gap, by_lexeme, IsReadAs, Edge, edge_of, may_touch}
@@ -21,13 +20,13 @@ use Rattle.schema_readback.specs.Printed as printed
 use Rattle.cedar_data.specs.Words.{is_word}
 use Rattle.schema_readback.specs.Notes.{SpellNotes, no_note}
 use Rattle.schema_readback.specs.ReadsBack.{ReadsBack}
-use Rattle.schema_readback.specs.Written.{WrittenDeclared, WrittenItem, entity, no_more, attribute, path, outside}
-use Rattle.schema_readback.specs.Spellings.{IsIdent, SpellsName, bare, one, one_name, last_item, more_items}
+use Rattle.schema_readback.specs.Written.{WrittenItem, entity, outside}
+use Rattle.schema_readback.specs.Spellings.{IsIdent, bare, one, one_name, last_item, more_items}
 use Rattle.schema_readback.specs.Spellings.{single_item}
-use Rattle.schema_readback.specs.Spellings.{AreManyOf, no_more_items, item_first, AreParentsOf, no_parent, some_parents}
-use Rattle.schema_readback.specs.Spellings.{SpellsPath, SpellsType, path_type, braces, last_attribute, more_attributes}
-use Rattle.schema_readback.specs.Spellings.{required, equals_shape, no_tags, types_of, some_applies, SpellsDeclared}
-use Rattle.schema_readback.specs.Spellings.{declared_of, SpellsDecl, entity_of, action_of, SpellsItem, outside_of}
+use Rattle.schema_readback.specs.Spellings.{AreManyOf, no_more_items, item_first, no_parent, some_parents}
+use Rattle.schema_readback.specs.Spellings.{path_type, braces, last_attribute, more_attributes}
+use Rattle.schema_readback.specs.Spellings.{required, equals_shape, no_tags, types_of, some_applies}
+use Rattle.schema_readback.specs.Spellings.{declared_of, entity_of, action_of, SpellsItem, outside_of}
 use Rattle.schema_readback.specs.Spellings.{SpellsSchema, SpellsShape}
 use Rattle.schema_generate.specs.Generated.{max_size, entity_word, action_word, parent_of, target_of, resource_of}
 use Rattle.schema_generate.specs.Generated.{parent_part, entity_line, action_line, lines_of, generated}

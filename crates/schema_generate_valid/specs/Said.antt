@@ -1,5 +1,5 @@
 -- The declared entity type or action of a number.
-use Rattle.std.specs.Prelude.{◌≡◌, ◌<◌, ℕ, List, [], ◌∷◌, codes, None}
+use Rattle.std.specs.Prelude.{◌≡◌, ◌<◌, ℕ, [], ◌∷◌, codes, None}
 use Rattle.cedar_identifiers.specs.declared.raw_name.RawName.{RawName}
 use Rattle.schema_convert_types.specs.Declarations.{as_written}
 use Rattle.schema_json.specs.declared.action_type.ActionType.{ActionType}

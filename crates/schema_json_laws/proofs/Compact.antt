@@ -1,7 +1,7 @@
 -- The compact text of a tidy value is read as the value, and no key in it comes again.
-use Rattle.std.proofs.Common.{◌≡◌, ℕ, suc, ◌≤◌, max, Bool, true, false, List, [], ◌∷◌, ◌++◌, Option, Some, None, refl}
+use Rattle.std.proofs.Common.{◌≡◌, ℕ, suc, ◌≤◌, max, false, List, [], ◌∷◌, ◌++◌, Some, refl}
 use Rattle.std.proofs.Common.{sym, ap, ap₂, ◌∙◌, subst, arith, append-nil, option_map, option_and_then}
-use Rattle.std.specs.Prelude.{◌||◌, All, Contains, ⊤}
+use Rattle.std.specs.Prelude.{◌||◌, All, ⊤}
 use Rattle.std.specs.Ordering.{match_ordering, nat_cmp, ordering_reverse}
 use Rattle.std.specs.Cmp.Lexicographic.{slice_cmp}
 use Rattle.std.specs.declared.cmp.Ordering.{Ordering}
@@ -10,7 +10,6 @@ use Rattle.std.proofs.lemmas.Cmp.{nat_list_cmp_total, tied_itself}
 use Rattle.std.proofs.lemmas.List.Elements.{All-nil, All-cons, All-head, All-tail, All-append, All-push, All-contains}
 use Rattle.json.specs.Json as json
 use Rattle.json.specs.Lex.{tokens}
-use Rattle.json.specs.Print.{print}
 use Rattle.json.specs.Tree as tree
 use Rattle.json.proofs.Found.{Some_inj}
 use Rattle.json.proofs.Printed.Tokens.{tokens-print}
