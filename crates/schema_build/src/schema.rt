@@ -10,6 +10,9 @@ ghost use Rattle.schema_build_checks.specs.Rows.{Never, OrMemory};
 ghost use Rattle.schema_build_parts.specs.BuildFaults.{BuildFault};
 ghost use Rattle.schema_build_text.specs.Captured.{IsUncaptured, IsTextRefusal};
 ghost use Rattle.schema_build_types.specs.Content.{content};
+ghost use Rattle.schema_build_types.specs.Lacks.{schema_lacks};
+ghost use Rattle.schema_build_recovered.specs.Recovered.{IsRecoveredFragment};
+ghost use Rattle.schema_build_recovered.specs.Refusals.{IsFirstLack};
 ghost use Rattle.schema_build.specs.Parts.{IsMisnamed, IsEnumBelow, NoneIs, PartsFault};
 ghost use Rattle.schema_build.specs.Schemas.{StandsFor, Builds};
 
@@ -20,9 +23,10 @@ use cedar_identifiers::{Name, RawName};
 use cedar_names::{EntityUID, ExtensionTable, Steps};
 use schema_build_equal::same_content;
 use schema_build_errors::{
-    EnumEntityInHierarchyError, InvalidActionTypeError, SchemaError, ToTextError,
+    EnumEntityInHierarchyError, InvalidActionTypeError, RecoveryError, SchemaError, ToTextError,
 };
 use schema_build_parts::{FragmentParts, fragment_parts};
+use schema_build_recovered::recovered_fragment;
 use schema_build_scope::laws::common_types_are_declared_once;
 use schema_build_text::uncaptured_schema_text;
 use schema_build_types::{ValidatorActionId, ValidatorEntityType, get_counted};
@@ -171,6 +175,17 @@ impl ValidatorSchema {
         ensures same { result ≡ true ↔ content a.now.entity_types a.now.actions ≡ content b.now.entity_types b.now.actions }
     {
         same_content(&a.entity_types, &a.actions, &b.entity_types, &b.actions)
+    }
+
+    /// The fragment that is recovered of what the schema stands for: without common types, annotations and places. Refused is
+    /// what no text says, by the first of it: namespace by namespace, entity types before actions, and an outer type before the
+    /// types inside it.
+    pub fn to_json_schema(&self, alloc: Global) -> Result<Fragment<RawName>, RecoveryError>
+        ensures recovered { IfOk result (λ f. (m : SchemaMeaning) → StandsFor self.now m → IsRecoveredFragment m f) }
+        ensures whole { OnOk result (schema_lacks (content self.now.entity_types self.now.actions) ≡ []) }
+        ensures lack { IfErr result (IsFirstLack (schema_lacks (content self.now.entity_types self.now.actions))) }
+    {
+        recovered_fragment(alloc, &self.entity_types, &self.actions)
     }
 
     /// The canonical text of what the schema stands for: `Captured` where an item has a type that would be read otherwise

@@ -1,4 +1,4 @@
-use Rattle.std.proofs.Common.{◌≡◌, ◌≤◌, ℕ, arith, Ok, decimal, sym, ◌∙◌, ap}
+use Rattle.std.proofs.Common.{◌≡◌, arith, decimal, sym, ◌∙◌, ap}
 use Rattle.std.proofs.lemmas.Fmt.{parse-decimal}
 use Rattle.std.proofs.lemmas.Slice.Eq.{bytes_eq-Decides}
 use Rattle.cedar_schema_core.proofs.command.size_of.Goals as goal

@@ -1,0 +1,17 @@
+mod Contexts
+mod Declared
+mod Entities
+mod Fragments
+mod Free
+mod Gathered
+mod Halves
+mod Keys
+mod Lacking
+mod Parents
+mod Rows
+mod Several
+mod Sides
+mod Sorted
+mod Spaces
+mod Variants
+mod Walks
