@@ -1,5 +1,5 @@
-//! The front end used as a library. A schema is read, its fragment is printed, the types above a type are asked for, and a
-//! text that is no schema is refused.
+//! The front end used as a library. A schema is read, its fragment is printed, so is the fragment that is recovered of the
+//! built schema, the types above a type are asked for, and a text that is no schema is refused.
 #![tactic(auto)]
 
 use cedar_data::Text;
@@ -27,6 +27,14 @@ const NO_SCHEMA: &str = "entity User in Gruop; entity Group;";
 // The fragment of the schema, printed. There is none where memory is wanted.
 fn printed(alloc: Global, table: &ExtensionTable) -> Option<Text> {
     let (fragment, _) = Fragment::<RawName>::from_cedarschema_str(alloc, SCHEMA, table).ok()?;
+    fragment.to_cedarschema(alloc).ok()
+}
+
+// The fragment that is recovered of the schema, printed: names in full, and no common type. There is none where memory is
+// wanted.
+fn recovered(alloc: Global, table: &ExtensionTable) -> Option<Text> {
+    let (schema, _) = ValidatorSchema::from_cedarschema_str(alloc, SCHEMA, table).ok()?;
+    let fragment = schema.to_json_schema(alloc).ok()?;
     fragment.to_cedarschema(alloc).ok()
 }
 
@@ -62,10 +70,11 @@ fn refusal(alloc: Global, table: &ExtensionTable) -> Option<Text> {
     }
 }
 
-// All three, each behind the one before.
+// All four, each behind the one before.
 fn shown(alloc: Global) -> Option<Text> {
     let table = ExtensionTable::all_available(alloc).ok()?;
     let mut text = printed(alloc, &table)?;
+    text.push_str(recovered(alloc, &table)?.as_str()).ok()?;
     text.push_str(lines_of_types_above_users(alloc, &table)?.as_str())
         .ok()?;
     text.push_str(refusal(alloc, &table)?.as_str()).ok()?;
