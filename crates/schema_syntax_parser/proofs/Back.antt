@@ -720,6 +720,30 @@ item_back (namespace n o c {a = a} {p = p} {u = u} xs hn ps ho ds hc) v =
     ∙ place_back (n ∷ (p ++ o ∷ (u ++ c ∷ []))) v in
     ap item_at whole ∙ rw (anns, word, name, opens, decls, place) refl
 
+-- the first item of tokens that have a syntax, as it is read
+pub record FirstRead (tokens : List Token) : Type 0 where
+  pub item : ItemSyntax
+  pub front : List Token
+  pub rest : List Token
+  pub others : List ItemSyntax
+  pub split : tokens ≡ front ++ rest
+  pub is : IsItem front item
+  pub left : IsSyntax rest others
+  pub read : item_at tokens ≡ Some (item, rest)
+
+pub first_read : {u : List Token} {xs : List ItemSyntax} → IsSyntax u xs → 0 < length u → FirstRead u
+first_read S.none h = absurd (omega (arith, h))
+first_read (S.more {u = u} {v = w} {x = x} {xs = xs} i r) h = record {
+  item = x;
+  front = u;
+  rest = w;
+  others = xs;
+  split = refl;
+  is = i;
+  left = r;
+  read = item_back i w;
+}
+
 item_turn_item : (ts : List Token) → 0 < length ts → item_turn ts ≡ item_at ts >>= λ i. Some (More i.0 i.1)
 unfolding item_turn
 item_turn_item [] h = absurd (omega (arith, h))

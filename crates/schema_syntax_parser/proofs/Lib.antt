@@ -1,4 +1,5 @@
 pub mod Back
+pub mod First
 pub mod Heads
 pub mod Loops
 pub mod Made

@@ -11,9 +11,9 @@ use Rattle.schema_syntax_grammar.specs.declared.token_kind.TokenKind.TheVariants
 use Rattle.schema_syntax_grammar.specs.declared.token_kind.TokenKind.TheVariants.{LParen, RParen, LBrace, RBrace}
 use Rattle.schema_syntax_grammar.specs.declared.token_kind.TokenKind.TheVariants.{LBracket, RBracket, Less, Greater}
 use Rattle.schema_syntax_grammar.specs.declared.token_kind.TokenKind.TheVariants.{Question, Equals}
-use Rattle.schema_syntax_grammar.specs.Grammar.{is_word_kind, is_ident, is_name_kind}
+use Rattle.schema_syntax_grammar.specs.Grammar.{is_word_kind, is_ident, is_name_kind, Sentence}
 use Rattle.schema_syntax_tokens.specs.declared.token.Token.{Token}
-use Rattle.schema_syntax_tokens.specs.TokenLists.{whole_place}
+use Rattle.schema_syntax_tokens.specs.TokenLists.{kinds_of, whole_place}
 use Rattle.schema_syntax_parser.specs.declared.syntax.PathSyntax.{PathSyntax}
 use Rattle.schema_syntax_parser.specs.declared.syntax.AnnotationSyntax.{AnnotationSyntax}
 use Rattle.schema_syntax_parser.specs.declared.syntax.TypeSyntax.{TypeSyntax}
@@ -206,3 +206,10 @@ pub data IsItem : List Token → ItemSyntax → Type 0 where
 -- {Item}
 abbrev pub IsSyntax : List Token → List ItemSyntax → Type 0
 IsSyntax tokens items = AreMany IsItem tokens items
+
+-- the tokens are those of this item, and then the rest, whose kinds are those of a schema
+pub record IsFirstItem (tokens : List Token) (item : ItemSyntax) (rest : List Token) : Type 0 where
+  pub front : List Token
+  pub split : tokens ≡ front ++ rest
+  pub is : IsItem front item
+  pub sentence : Sentence (kinds_of rest)

@@ -105,35 +105,9 @@ fn item_body(
 
 // An item.
 #[tactic(auto, unfolding(crate::specs::Reading::item_at))]
-fn item(alloc: Global, tokens: &[Token]) -> Result<(ItemSyntax, &[Token]), Stop>
+pub fn item(alloc: Global, tokens: &[Token]) -> Result<(ItemSyntax, &[Token]), Stop>
     ensures { Gives (λ r. (r.0, r.1.now)) result (item_at tokens.now) }
 {
     let (annotations, rest) = annotations(alloc, tokens)?;
     item_body(alloc, annotations, rest)
-}
-
-// The items of a schema.
-struct ItemTurns;
-
-impl Turns for ItemTurns {
-    type Item = ItemSyntax;
-
-    ghost turns = { item_turn };
-
-    #[tactic(auto, unfolding(crate::specs::Reading::item_turn))]
-    fn turn(alloc: Global, tokens: &[Token]) -> Result<Turn<'_, ItemSyntax>, Stop> {
-        if tokens.is_empty() {
-            return Ok(Turn::Done(tokens));
-        }
-        let (item, rest) = item(alloc, tokens)?;
-        Ok(Turn::More(item, rest))
-    }
-}
-
-// All items, and the tokens behind them.
-#[tactic(auto, unfolding(crate::specs::Reading::items_at))]
-pub fn items(alloc: Global, tokens: &[Token]) -> Result<(List<ItemSyntax>, &[Token]), Stop>
-    ensures { Gives (λ r. (r.0, r.1.now)) result (items_at tokens.now) }
-{
-    all::<ItemTurns>(alloc, tokens)
 }

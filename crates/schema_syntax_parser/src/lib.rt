@@ -15,7 +15,7 @@ mod turns;
 mod types;
 
 pub use laws::{one_syntax, sentences_have_a_syntax, syntax_is_sentence};
-pub use parse::syntax_of;
+pub use parse::next_item;
 pub use stop::Stop;
 pub use syntax::{
     AnnotationSyntax, AppSyntax, AttrSyntax, DeclSyntax, DeclaredSyntax, ItemSyntax, PathSyntax,

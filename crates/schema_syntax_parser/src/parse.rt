@@ -1,22 +1,28 @@
-ghost use Rattle.std.specs.Prelude.{IfOk};
+ghost use Rattle.std.specs.Prelude.{◌≡◌, ◌<◌, [], length, IfOk, IfSome, MatchOption};
 ghost use Rattle.schema_syntax_grammar.specs.Grammar.{Sentence};
-ghost use Rattle.schema_syntax_parser.specs.Syntax.{IsSyntax};
+ghost use Rattle.schema_syntax_parser.specs.Syntax.{IsFirstItem};
 ghost use Rattle.schema_syntax_tokens.specs.TokenLists.{kinds_of};
 
-use crate::items::items;
+use crate::items::item;
 use crate::stop::Stop;
 use crate::syntax::ItemSyntax;
-use cedar_data::List;
 use schema_syntax_tokens::Token;
 use std::alloc::{AllocError, Global};
 
-/// The one syntax of the tokens, whose kinds are those of a schema.
-pub fn syntax_of(alloc: Global, tokens: &[Token]) -> Result<List<ItemSyntax>, AllocError>
+/// The first item of the tokens, whose kinds are those of a schema, and the tokens behind it; `None` exactly where there is no token.
+pub fn next_item(
+    alloc: Global,
+    tokens: &[Token],
+) -> Result<Option<(ItemSyntax, &[Token])>, AllocError>
     requires sentence { Sentence (kinds_of tokens.now) }
-    ensures syntax { IfOk result (IsSyntax tokens.now) }
+    ensures item { IfOk result (λ next. MatchOption next (tokens.now ≡ []) (λ n. IsFirstItem tokens.now n.0 n.1.now)) }
+    ensures shorter { IfOk result (λ next. IfSome next (λ n. length n.1.now < length tokens.now)) }
 {
-    match items(alloc, tokens) {
-        Ok((items, _)) => Ok(items),
+    if tokens.is_empty() {
+        return Ok(None);
+    }
+    match item(alloc, tokens) {
+        Ok(read) => Ok(Some(read)),
         Err(Stop::Mismatch) => unreachable!(),
         Err(Stop::Memory) => Err(AllocError),
     }

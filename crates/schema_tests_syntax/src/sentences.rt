@@ -3,7 +3,7 @@
 use crate::letters::find_kinds;
 use crate::sentence_table::sentence_lines;
 use schema_syntax::{Refused, SyntaxFault, sentence_of, syntax_fault_of};
-use schema_syntax_parser::{ItemSyntax, syntax_of};
+use schema_syntax_parser::{ItemSyntax, next_item};
 use schema_syntax_reader::tree_of_tokens;
 use schema_tests_lines::{Wanted, answer_and_text};
 use std::alloc::Global;
@@ -68,10 +68,10 @@ fn syntax_faults_agree_with_table(rt: HostRuntime) {
     }
 }
 
-// Are the items a declaration from here to there?
-fn are_one_declaration(items: &[ItemSyntax], start: usize, end: usize) -> bool {
-    match items {
-        [ItemSyntax::Decl(decl)] => decl.loc.start == start && decl.loc.end == end,
+// Is the item a declaration from here to there?
+fn is_declaration(item: &ItemSyntax, start: usize, end: usize) -> bool {
+    match item {
+        ItemSyntax::Decl(decl) => decl.loc.start == start && decl.loc.end == end,
         _ => false,
     }
 }
@@ -81,10 +81,11 @@ fn has_one_declaration(alloc: Global, text: &str, start: usize, end: usize) -> b
     let Ok(tokens) = sentence_of(alloc, text) else {
         return false;
     };
-    let Ok(items) = syntax_of(alloc, &tokens) else {
+    let Ok(Some((item, rest))) = next_item(alloc, &tokens) else {
         return false;
     };
-    are_one_declaration(items.as_slice(), start, end) && tree_of_tokens(alloc, text, tokens).is_ok()
+    let is_one = rest.is_empty() && is_declaration(&item, start, end);
+    is_one && tree_of_tokens(alloc, text, tokens).is_ok()
 }
 
 #[test]
