@@ -1,6 +1,6 @@
 -- Lists that have to have an item.
 use Rattle.std.proofs.Common.{◌≡◌, ◌<◌, ℕ, List, [], ◌∷◌, length, refl, sym, subst, arith}
-use Rattle.std.proofs.Common.{true, false, nat_eq, true≢false}
+use Rattle.std.proofs.Common.{true, false, nat_eq, true≢false, Some, None}
 use Rattle.std.specs.List.{flat_map}
 use Rattle.std.proofs.lemmas.Bool.{eqb-true}
 use Rattle.cedar_data.specs.Span.{Span}
@@ -9,6 +9,7 @@ use Rattle.schema_syntax_parser.specs.declared.syntax.AppSyntax.{AppSyntax}
 use Rattle.schema_syntax_reader.specs.declared.stopped.Stopped.{Stopped}
 use Rattle.schema_syntax_reader.specs.Sites.{empty, names_sites, choices_sites, app_sites, apps_sites}
 use Rattle.schema_syntax_reader.specs.Stops.{IsStopped, IsStoppedAt}
+use Rattle.schema_syntax_reader.specs.Trees.{IsOptional}
 use Rattle.schema_syntax_reader.proofs.Readings.{Faultless, stopped_at}
 
 -- whether a list has an item
@@ -19,6 +20,17 @@ is_nothing (x ∷ xs) h = let none : length (x ∷ xs) ≡ 0 = eqb-true (length 
 pub is_something : {A : Type 0} (xs : List A) → nat_eq (length xs) 0 ≡ false → 0 < length xs
 is_something [] h = absurd (true≢false h)
 is_something (x ∷ xs) h = omega arith
+
+-- a list that may be absent is there where it has an item
+pub optional_none : {A B : Type 0} (source : List ℕ) (Is : List A → List B → Type 0) (xs : List A) → xs ≡ []
+    → IsOptional source Is xs None
+optional_none source Is [] h = refl
+optional_none source Is (x ∷ xs) h = cc
+
+pub optional_some : {A B : Type 0} (source : List ℕ) (Is : List A → List B → Type 0) (xs : List A) (ys : List B)
+    → 0 < length xs → Is xs ys → IsOptional source Is xs (Some ys)
+optional_some source Is [] ys h is = absurd (omega (arith, h))
+optional_some source Is (x ∷ xs) ys h is = is
 
 module _ (source : List ℕ) where
   pub choices_empty : (choices : List Token) (brackets : Span) (e : Stopped) → choices ≡ []

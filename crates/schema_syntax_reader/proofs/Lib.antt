@@ -2,6 +2,7 @@ pub mod Bodies
 pub mod Chosen
 pub mod Depths
 pub mod Fits
+pub mod ItemReads
 pub mod Keys
 pub mod NameReads
 pub mod NoteFaults

@@ -2,11 +2,12 @@
 use Rattle.std.proofs.Common.{◌≡◌, ◌≢◌, ℕ, zero, suc, ◌≤◌, List, [], ◌∷◌, ◌++◌, map, Option, None, Some, ◌⊎◌, inl, inr}
 use Rattle.std.proofs.Common.{refl, sym, ap, ◌∙◌, subst, append_assoc, append-nil, arith}
 use Rattle.std.specs.List.{All, AllZip, AllPairs, AllByRecursion}
+use Rattle.std.specs.List.Sorted.{IsStrictlySortedBy}
 use Rattle.std.specs.Option.{option_to_list}
 use Rattle.std.specs.Map.{lookup}
 use Rattle.std.specs.Str.{bytes_eq}
 use Rattle.std.proofs.lemmas.List.{map-append}
-use Rattle.std.proofs.lemmas.List.Elements.{All-from_recursion, recursion_from_All, All-head, All-tail}
+use Rattle.std.proofs.lemmas.List.Elements.{All-from_recursion, recursion_from_All, All-head, All-tail, All-nil}
 use Rattle.std.proofs.lemmas.Grind.{flat_map-append}
 use Rattle.std.proofs.lemmas.Slice.Zip.{AllZip-long}
 use Rattle.cedar_identifiers.proofs.Same.{any_id_same}
@@ -392,3 +393,18 @@ pub escape_stops : (source : List ℕ) (list : List AnnotationSyntax) (all : Lis
 escape_stops source list all fault notes rise h kept =
     bad_stops source list h.front h.here h.back h.before h.last h.here.value fault rise h.split h.each h.key
     (subst (AllPairs HaveOtherKeys) h.split_read kept.apart) refl h.bad
+
+-- no annotation at all
+no_item : {A : Type 0} (xs : List A) (x : A) (ys : List A) → [] ≡ xs ++ x ∷ ys → ⊥
+no_item [] x ys e = cc
+no_item (a ∷ xs) x ys e = cc
+
+pub no_note : (source : List ℕ) → AreNotes source [] []
+unfolding IsStrictlySortedBy
+no_note source = record { sorted = tt; as_many = refl; each = All-nil (HasNote source []) }
+
+pub nothing_at : (source : List ℕ) → NoSiteFault source (annotations [])
+nothing_at source fault end f = elim (end_of source (annotations []) fault end f) [
+  | inl h ↦ no_item h.front h.here h.back h.split
+  | inr h ↦ no_item h.front h.first (h.middle ++ h.second ∷ h.back) h.split
+]

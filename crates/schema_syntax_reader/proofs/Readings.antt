@@ -6,7 +6,7 @@ use Rattle.std.specs.Prelude.{Result, Option, Some, None, IfNone, IsSome}
 use Rattle.std.specs.List.{All, AllZip, flat_map}
 use Rattle.std.specs.Result.{IsErrAnd}
 use Rattle.std.proofs.lemmas.List.{take_more, drop_more, take-append-drop, append-nil, take_all}
-use Rattle.std.proofs.lemmas.List.Elements.{All-append, All-nil, All-cons}
+use Rattle.std.proofs.lemmas.List.Elements.{All-append, All-nil, All-cons, All-head, All-tail}
 use Rattle.std.proofs.lemmas.Result.{err_from_is_err_and}
 use Rattle.std.proofs.lemmas.Slice.Zip.{all_zipped_more}
 use Rattle.schema_syntax_reader.specs.declared.stopped.Stopped.{Stopped}
@@ -129,18 +129,33 @@ module _ (source : List ℕ) where
           subst (λ l. Faultless (flat_map sites l)) whole so_far.lawful,
         )
 
+  -- a list with a first part
+  module _ {R A : Type 0} (sites : R → List Site) (Is : R → A → Type 0) (raws : List R) (r : R) (others : List R)
+      (split : raws ≡ r ∷ others) where
+    pub first_stops : (e : Stopped) → IsStopped source (sites r) e → IsStopped source (flat_map sites raws) e
+    first_stops e h = subst (λ l. IsStopped source (flat_map sites l) e) (sym split)
+        (stopped_left (sites r) (flat_map sites others) e h)
+
+    pub others_stop : (e : Stopped) → Faultless (sites r) → IsStopped source (flat_map sites others) e
+        → IsStopped source (flat_map sites raws) e
+    others_stop e all h = subst (λ l. IsStopped source (flat_map sites l) e) (sym split)
+        (stopped_right (sites r) (flat_map sites others) e all h)
+
+    pub first_and_others : (x : A) (xs items : List A) → Is r x → Faultless (sites r) → AllZip Is others xs
+        → Faultless (flat_map sites others) → items ≡ x ∷ xs → AllZip Is raws items × Faultless (flat_map sites raws)
+    first_and_others x xs items is all each lawful same = (
+      subst (λ l. AllZip Is l items) (sym split) (subst (AllZip Is (r ∷ others)) (sym same) (is, each)),
+      subst (λ l. Faultless (flat_map sites l)) (sym split)
+          (both_faultless (sites r) (flat_map sites others) all lawful),
+    )
+
+-- the first of items that are all so, and the others
+pub first_fits : {R : Type 0} (P : R → Type 0) (raws : List R) (r : R) (others : List R) → raws ≡ r ∷ others
+    → All P raws → P r × All P others
+first_fits P raws r others split all =
+    let same = subst (All P) split all in (All-head P r others same, All-tail P r others same)
+
 -- of a part there is an item
-pub some_read : {R A : Type 0} (Is : R → A → Type 0) (raws : List R) (items : List A) → 0 < length raws
-    → AllZip Is raws items → items ≡ [] → ⊥
-some_read Is [] items some h none = absurd (omega (arith, some))
-some_read Is (r ∷ raws) [] some h none = h
-some_read Is (r ∷ raws) (x ∷ items) some h none = cc
-
-pub some_list : {A B : Type 0} (found : Option B) (items : List A) → IfNone found (items ≡ []) → (items ≡ [] → ⊥)
-    → IsSome found
-some_list None items h some = absurd (some h)
-some_list (Some x) items h some = refl
-
 pub some_items : {R A : Type 0} (Is : R → A → Type 0) (raws : List R) (items : List A) → 0 < length raws
     → AllZip Is raws items → 0 < length items
 some_items Is [] items some h = absurd (omega (arith, some))
@@ -151,3 +166,10 @@ some_items Is (r ∷ raws) (x ∷ items) some h = omega arith
 pub one_placed : {R : Type 0} (P : R → Type 0) (raws : List R) (i : ℕ) (r : R) → i < length raws
     → r ≡ get_or raws i r → All P raws → P r
 one_placed P raws i r lt at all = subst P (sym at) (all i r lt)
+
+-- a list of one item
+pub only_one : {R : Type 0} (raws : List R) (r : R) → 1 ≤ length raws → length raws < 2 → r ≡ get_or raws 0 r
+    → raws ≡ r ∷ []
+only_one [] r some few at = absurd (omega (arith, some))
+only_one (x ∷ []) r some few at = ap (λ y. y ∷ []) (sym at)
+only_one (x ∷ y ∷ raws) r some few at = absurd (omega (arith, few))

@@ -100,30 +100,31 @@ fn outside<'a>(
     Ok(Annotated { item, annotations })
 }
 
-// The items of a schema.
-pub struct Items;
-
-impl<'a> Part<'a> for Items {
-    type Raw = ItemSyntax;
-
-    type Item = Annotated<'a, Namespace<'a>>;
-
-    ghost fits = { IsScanned IsItem };
-
-    ghost sites = { item_sites };
-
-    ghost stands_for = { IsItemOf };
-
-    fn read(
-        alloc: Global,
-        text: &'a str,
-        raw: &ItemSyntax,
-    ) -> Result<Annotated<'a, Namespace<'a>>, Stopped> {
-        match raw {
-            ItemSyntax::Namespace(list, name, decls, loc) => {
-                namespace(alloc, text, list.as_slice(), name, decls.as_slice(), loc)
-            }
-            ItemSyntax::Decl(raw) => outside(alloc, text, raw),
+// An item.
+fn read_item<'a>(
+    alloc: Global,
+    text: &'a str,
+    raw: &ItemSyntax,
+) -> Result<Annotated<'a, Namespace<'a>>, Stopped>
+    requires { IsScanned IsItem text.now raw.now }
+    ensures { Reads text.now (item_sites raw.now) (IsItemOf text.now raw.now) result }
+{
+    match raw {
+        ItemSyntax::Namespace(list, name, decls, loc) => {
+            namespace(alloc, text, list.as_slice(), name, decls.as_slice(), loc)
         }
+        ItemSyntax::Decl(raw) => outside(alloc, text, raw),
     }
+}
+
+// An item, whose syntax is let go once it is read.
+pub fn item<'a>(
+    alloc: Global,
+    text: &'a str,
+    raw: ItemSyntax,
+) -> Result<Annotated<'a, Namespace<'a>>, Stopped>
+    requires { IsScanned IsItem text.now raw }
+    ensures { Reads text.now (item_sites raw) (IsItemOf text.now raw) result }
+{
+    read_item(alloc, text, &raw)
 }

@@ -5,11 +5,10 @@ ghost use Rattle.schema_syntax_tokens.specs.Scans.{Scans, IsPlaced};
 ghost use Rattle.schema_syntax_tokens.specs.TokenLists.{kinds_of};
 ghost use Rattle.schema_syntax_reader.specs.LawfulTrees.{IsLawfulTree, IsStopOf};
 
-use crate::items::Items;
-use crate::parts::all;
+use crate::items::item;
 use crate::stopped::Stopped;
 use cedar_data::List;
-use schema_syntax_parser::syntax_of;
+use schema_syntax_parser::next_item;
 use schema_syntax_tokens::Token;
 use schema_syntax_tree::Schema;
 use std::alloc::Global;
@@ -26,8 +25,12 @@ pub fn tree_of_tokens<'a>(
     ensures tree { IfOk result (IsLawfulTree text.now tokens.items) }
     ensures fault { IfErr result (IsStopOf text.now tokens.items) }
 {
-    let items = syntax_of(alloc, &tokens)?;
-    drop(tokens);
-    let namespaces = all::<Items>(alloc, text, items.as_slice())?;
+    let mut namespaces = Vec::new(alloc);
+    let mut rest = tokens.as_slice();
+    while let Some((raw, after)) = next_item(alloc, rest)? {
+        let namespace = item(alloc, text, raw)?;
+        namespaces.push(namespace)?;
+        rest = after;
+    }
     Ok(List::from_vec(namespaces))
 }

@@ -32,7 +32,7 @@ pub fn notes<'a>(
 }
 
 // An id.
-fn id<'a>(alloc: Global, text: &'a str, token: &Token) -> Result<SrcId<'a>, Stopped>
+pub fn id<'a>(alloc: Global, text: &'a str, token: &Token) -> Result<SrcId<'a>, Stopped>
     requires { IsPlacedSite text.now (word token.now) }
     ensures { Reads text.now (name_sites token.now) (IsId text.now token.now) result }
 {

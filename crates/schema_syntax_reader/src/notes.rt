@@ -121,6 +121,9 @@ pub fn notes_of<'a>(
     ensures lawful { OnOk result (NoSiteFault text.now (annotations list.now)) }
     ensures fault { IfErr result (IsStoppedAt text.now (annotations list.now)) }
 {
+    if list.is_empty() {
+        return Ok(SrcAnnotations::new(alloc));
+    }
     let read = read_notes(alloc, text, list)?;
     let fault = read.fault;
     match deduplicate_annotations(alloc, (), read.notes) {

@@ -55,8 +55,10 @@ pub fn some<'a, P: Part<'a>>(
     requires some { 0 < length raws.now }
     ensures { Reads text.now (flat_map P.sites raws.now) (λ items. AllZip (P.stands_for text.now) raws.now items) result }
 {
-    let items = all::<P>(alloc, text, raws)?;
-    Ok(NonEmpty::from_vec(items).unwrap())
+    let (first, others) = raws.split_first().unwrap();
+    let head = P::read(alloc, text, first)?;
+    let tail = all::<P>(alloc, text, others)?;
+    Ok(NonEmpty::from_parts(head, tail))
 }
 
 // The parts, where there is one.
@@ -68,6 +70,9 @@ pub fn optional<'a, P: Part<'a>>(
     requires { All (P.fits text.now) raws.now }
     ensures { Reads text.now (flat_map P.sites raws.now) (λ items. IsOptional text.now (AllZip (P.stands_for text.now)) raws.now items) result }
 {
-    let items = all::<P>(alloc, text, raws)?;
-    Ok(NonEmpty::from_vec(items))
+    if raws.is_empty() {
+        return Ok(None);
+    }
+    let items = some::<P>(alloc, text, raws)?;
+    Ok(Some(items))
 }

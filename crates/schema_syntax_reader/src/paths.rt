@@ -6,7 +6,7 @@ ghost use Rattle.schema_syntax_reader.specs.Placed.{IsScanned, IsPlacedSite};
 ghost use Rattle.schema_syntax_reader.specs.Readings.{Reads};
 ghost use Rattle.schema_syntax_reader.specs.Trees.{IsId, IsPathOf, IsTypeOfRef, IsRefOf};
 
-use crate::names::{BareIds, name};
+use crate::names::{BareIds, id, name};
 use crate::parts::{Part, all};
 use crate::stopped::Stopped;
 use cedar_data::{Loc, Node};
@@ -26,6 +26,10 @@ fn path_of_names<'a>(
     requires some { 0 < length names.now }
     ensures { Reads text.now (names_sites names.now) (λ path. AllZip (IsId text.now) names.now path.ids × (path.loc ≡ Some loc)) result }
 {
+    if let [only] = names {
+        let basename = id(alloc, text, only)?;
+        return Ok(Path::single(alloc, basename, Some(loc)));
+    }
     let mut ids = all::<BareIds>(alloc, text, names)?;
     let basename = ids.pop().unwrap();
     Ok(Path::new(basename, ids, Some(loc)))

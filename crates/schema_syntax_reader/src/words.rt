@@ -22,6 +22,16 @@ pub fn any_word<'a>(text: &'a str, token: &Token) -> SrcWord<'a>
     SrcWord::of(token_text(token, text).unwrap())
 }
 
+// Whether the word is reserved. Most words begin as no reserved one does.
+fn is_reserved_word(word: &str) -> bool
+    ensures { result ≡ is_reserved word.now }
+{
+    match word.as_bytes() {
+        [b'i' | b't' | b'f' | b'e' | b'l' | b'h', ..] => is_reserved(word),
+        _ => false,
+    }
+}
+
 /// The word at the token's place, which is a name unless it is reserved.
 pub fn name_word<'a>(alloc: Global, text: &'a str, token: &Token) -> Result<SrcId<'a>, Stopped>
     requires { IsPlacedWord text.now token.now }
@@ -30,7 +40,7 @@ pub fn name_word<'a>(alloc: Global, text: &'a str, token: &Token) -> Result<SrcI
     ensures reserved { IfErr result (IsReservedStop text.now token.now) }
 {
     let part = token_text(token, text).unwrap();
-    if is_reserved(part) {
+    if is_reserved_word(part) {
         let word = Text::from_str(alloc, part)?;
         return Err(Stopped::User(UserError::ReservedIdentifierUsed(Node {
             node: word,
