@@ -768,9 +768,3 @@ items_back u xs r = many_items r (length u + 1) (omega arith)
 pub one_syntax : (u : List Token) (xs ys : List ItemSyntax) → IsSyntax u xs → IsSyntax u ys → xs ≡ ys
 one_syntax u xs ys p q = ap (λ (o : Read (List ItemSyntax)). elim o [ None ↦ xs | Some r ↦ r.0 ])
     (sym (items_back u xs p) ∙ items_back u ys q)
-
--- what is read of tokens is their syntax
-pub read_found : (u : List Token) (xs ys : List ItemSyntax) (rest : List Token) → items_at u ≡ Some (ys, rest)
-    → IsSyntax u xs → ys ≡ xs
-read_found u xs ys rest e p = ap (λ (o : Read (List ItemSyntax)). elim o [ None ↦ ys | Some r ↦ r.0 ])
-    (sym e ∙ items_back u xs p)
