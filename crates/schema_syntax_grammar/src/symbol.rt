@@ -155,6 +155,8 @@ impl Symbol {
     }
 
     /// The symbols that come after a token of the kind, where it is the first of the symbol.
+    // Callers go over symbols in a loop, before which LLVM would make each comparison of the kind.
+    #[inline(never)]
     #[tactic(auto, unfolding(crate::specs::Table::after_front))]
     pub fn after_front(self, kind: TokenKind) -> Option<&'static [Symbol]>
         ensures { option_copied result ≡ after_front self kind }
