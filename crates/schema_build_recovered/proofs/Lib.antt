@@ -2,7 +2,6 @@ mod Contexts
 mod Declared
 mod Entities
 mod Fragments
-mod Free
 mod Gathered
 mod Halves
 mod Keys

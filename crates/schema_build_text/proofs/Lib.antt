@@ -7,7 +7,7 @@ mod InOrder
 pub mod Layers
 mod Meant
 pub mod Named
-mod Parts
+pub mod Parts
 mod Plain
 pub mod Rowed
 mod Sizes

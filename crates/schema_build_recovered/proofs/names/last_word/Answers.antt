@@ -1,6 +1,6 @@
 use Rattle.std.proofs.Common.{ap, sym, ◌∙◌}
 use Rattle.schema_build_text.proofs.Named.{last_of}
-use Rattle.schema_build_recovered.proofs.Free.{word_free}
+use Rattle.schema_build_text.proofs.Parts.{word_free}
 use Rattle.schema_build_recovered.proofs.names.last_word.Goals as goal
 
 pub invariant_of-result-in-Some : goal.invariant_of-result-in-Some
