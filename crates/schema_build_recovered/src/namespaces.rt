@@ -8,6 +8,7 @@ ghost use Rattle.cedar_names.specs.CanonicalText.{namespace};
 ghost use Rattle.cedar_names.specs.Definitions.{same_name};
 ghost use Rattle.schema_build_types.specs.Content.{content, entity_content, action_content};
 ghost use Rattle.schema_build_text.specs.Readings.{schema_reading, entity_reading, action_reading};
+ghost use Rattle.schema_build_recovered.specs.Lent.{entities_at, actions_at, lent_content, all_words};
 ghost use Rattle.schema_build_recovered.specs.Places.{words_of, on_side};
 ghost use Rattle.schema_build_recovered.specs.Recovered.{IsMapOf, IsRecoveredEntity, IsRecoveredAction, IsRecoveredNamespace};
 ghost use Rattle.schema_build_types.specs.Lacks.{entity_lacks, context_lacks, namespace_lacks};
@@ -57,7 +58,8 @@ fn side<'a, T: Item>(
     pivot: Namespace<'a>,
     below: bool,
 ) -> Result<Vec<&'a T>, AllocError>
-    ensures { IfOk result (λ those. map (λ x. x.now) those.items ≡ filter (λ x. on_side below (words_of pivot.entry.words) (T.home_words x)) (map (λ x. x.now) items.now.items)) }
+    ensures { IfOk result (λ those. map (λ x. x.now) those.items
+        ≡ filter (λ x. on_side below (words_of pivot.entry.words) (T.home_words x)) (map (λ x. x.now) items.now.items)) }
 {
     let mut those = Vec::new(alloc);
     for at in 0..items.len() {
@@ -75,9 +77,10 @@ fn recovered_entity_types<'a>(
     home: Namespace<'a>,
     entities: &Vec<&'a (Name, ValidatorEntityType)>,
 ) -> Result<Map<UnreservedId, EntityType<RawName>>, RecoveryError>
-    ensures recovered { IfOk result (IsMapOf (λ a b. text_cmp a.id.text b.id.text) IsRecoveredEntity (map (λ e. entity_reading (entity_content e)) (filter (λ e. same_name (words_of home.entry.words) (namespace (components_of e.0.name))) (map (λ x. x.now) entities.now.items)))) }
-    ensures whole { OnOk result (flat_map (λ e. entity_lacks (entity_content e)) (filter (λ e. same_name (words_of home.entry.words) (namespace (components_of e.0.name))) (map (λ x. x.now) entities.now.items)) ≡ []) }
-    ensures lack { IfErr result (IsFirstLack (flat_map (λ e. entity_lacks (entity_content e)) (filter (λ e. same_name (words_of home.entry.words) (namespace (components_of e.0.name))) (map (λ x. x.now) entities.now.items)))) }
+    ensures recovered { IfOk result (IsMapOf (λ a b. text_cmp a.id.text b.id.text) IsRecoveredEntity
+        (map (λ e. entity_reading (entity_content e)) (entities_at home.entry.words entities.now.items))) }
+    ensures whole { OnOk result (flat_map (λ e. entity_lacks (entity_content e)) (entities_at home.entry.words entities.now.items) ≡ []) }
+    ensures lack { IfErr result (IsFirstLack (flat_map (λ e. entity_lacks (entity_content e)) (entities_at home.entry.words entities.now.items))) }
 {
     let mut rows = Vec::new(alloc);
     for at in 0..entities.len() {
@@ -96,9 +99,10 @@ fn recovered_actions<'a>(
     home: Namespace<'a>,
     actions: &Vec<&'a (EntityUID, ValidatorActionId)>,
 ) -> Result<Map<Text, ActionType<RawName>>, RecoveryError>
-    ensures recovered { IfOk result (IsMapOf text_cmp IsRecoveredAction (map (λ a. action_reading (action_content a)) (filter (λ a. same_name (words_of home.entry.words) (namespace (components_of a.0.ty.name))) (map (λ x. x.now) actions.now.items)))) }
-    ensures whole { OnOk result (flat_map (λ a. context_lacks (action_content a).context) (filter (λ a. same_name (words_of home.entry.words) (namespace (components_of a.0.ty.name))) (map (λ x. x.now) actions.now.items)) ≡ []) }
-    ensures lack { IfErr result (IsFirstLack (flat_map (λ a. context_lacks (action_content a).context) (filter (λ a. same_name (words_of home.entry.words) (namespace (components_of a.0.ty.name))) (map (λ x. x.now) actions.now.items)))) }
+    ensures recovered { IfOk result (IsMapOf text_cmp IsRecoveredAction
+        (map (λ a. action_reading (action_content a)) (actions_at home.entry.words actions.now.items))) }
+    ensures whole { OnOk result (flat_map (λ a. context_lacks (action_content a).context) (actions_at home.entry.words actions.now.items) ≡ []) }
+    ensures lack { IfErr result (IsFirstLack (flat_map (λ a. context_lacks (action_content a).context) (actions_at home.entry.words actions.now.items))) }
 {
     let mut rows = Vec::new(alloc);
     for at in 0..actions.len() {
@@ -118,9 +122,9 @@ fn recovered_namespace<'a>(
     entities: &Vec<&'a (Name, ValidatorEntityType)>,
     actions: &Vec<&'a (EntityUID, ValidatorActionId)>,
 ) -> Result<(Option<Name>, NamespaceDefinition<RawName>), RecoveryError>
-    ensures recovered { IfOk result (IsRecoveredNamespace (schema_reading (content (map (λ x. x.now) entities.now.items) (map (λ x. x.now) actions.now.items))) (words_of home.entry.words)) }
-    ensures whole { OnOk result (namespace_lacks (content (map (λ x. x.now) entities.now.items) (map (λ x. x.now) actions.now.items)) (words_of home.entry.words) ≡ []) }
-    ensures lack { IfErr result (IsFirstLack (namespace_lacks (content (map (λ x. x.now) entities.now.items) (map (λ x. x.now) actions.now.items)) (words_of home.entry.words))) }
+    ensures recovered { IfOk result (IsRecoveredNamespace (schema_reading (lent_content entities.now.items actions.now.items)) (words_of home.entry.words)) }
+    ensures whole { OnOk result (namespace_lacks (lent_content entities.now.items actions.now.items) (words_of home.entry.words) ≡ []) }
+    ensures lack { IfErr result (IsFirstLack (namespace_lacks (lent_content entities.now.items actions.now.items) (words_of home.entry.words))) }
 {
     let entity_types = recovered_entity_types(alloc, home, entities)?;
     let actions = recovered_actions(alloc, home, actions)?;
@@ -146,10 +150,11 @@ pub fn recover_namespaces<'a>(
     actions: &Vec<&'a (EntityUID, ValidatorActionId)>,
     found: &mut Vec<(Option<Name>, NamespaceDefinition<RawName>)>,
 ) -> Result<(), RecoveryError>
-    requires { IsStrictlySortedBy (slice_cmp text_cmp) (map (λ n. words_of n.words) namespaces.now) }
-    ensures recovered { OnOk result ((rows : _) × (found.new.items ≡ found.old.items ++ rows) × AllZip (IsRecoveredNamespace (schema_reading (content (map (λ x. x.now) entities.now.items) (map (λ x. x.now) actions.now.items)))) (map (λ n. words_of n.words) namespaces.now) rows) }
-    ensures whole { OnOk result (flat_map (namespace_lacks (content (map (λ x. x.now) entities.now.items) (map (λ x. x.now) actions.now.items))) (map (λ n. words_of n.words) namespaces.now) ≡ []) }
-    ensures lack { IfErr result (IsFirstLack (flat_map (namespace_lacks (content (map (λ x. x.now) entities.now.items) (map (λ x. x.now) actions.now.items))) (map (λ n. words_of n.words) namespaces.now))) }
+    requires { IsStrictlySortedBy (slice_cmp text_cmp) (all_words namespaces.now) }
+    ensures recovered { OnOk result ((rows : _) × (found.new.items ≡ found.old.items ++ rows)
+        × AllZip (IsRecoveredNamespace (schema_reading (lent_content entities.now.items actions.now.items))) (all_words namespaces.now) rows) }
+    ensures whole { OnOk result (flat_map (namespace_lacks (lent_content entities.now.items actions.now.items)) (all_words namespaces.now) ≡ []) }
+    ensures lack { IfErr result (IsFirstLack (flat_map (namespace_lacks (lent_content entities.now.items actions.now.items)) (all_words namespaces.now))) }
 {
     if namespaces.is_empty() {
         return Ok(());
