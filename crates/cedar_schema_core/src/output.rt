@@ -112,7 +112,9 @@ fn made_counts(
     size: u32,
     table: &ExtensionTable,
 ) -> Result<Output, RecoverError>
-    ensures { MatchResult result (λ o. IsWrittenBy (Command.Generate size table.now) text.now (encode_utf8_all o.text) o.warnings.items) (IsRefusedBy (Command.Generate size table.now) text.now) }
+    ensures { MatchResult result
+        (λ o. IsWrittenBy (Command.Generate size table.now) text.now (encode_utf8_all o.text) o.warnings.items)
+        (IsRefusedBy (Command.Generate size table.now) text.now) }
 {
     let recovered = recover_schema(alloc, text, table)?;
     match made_line(alloc, text.len(), &recovered) {

@@ -4,7 +4,7 @@ ghost use Rattle.std.specs.Str.{encode_utf8_all, IsAscii};
 ghost use Rattle.cedar_io.specs.Outside.{Rose};
 ghost use Rattle.cedar_io.specs.Input.{TookAtMost, max_input};
 ghost use Rattle.cedar_names.specs.CanonicalText.{canonical_text};
-ghost use Rattle.cedar_schema_core.specs.Commands.{Asks, IsSized, Reads, own_text};
+ghost use Rattle.cedar_schema_core.specs.Commands.{Asks, Reads, own_text};
 ghost use Rattle.cedar_schema_core.specs.Plan.{Report, IsPlan, IsInputPlan, IsAnswer, done_report, refused_report, read_fault_report};
 ghost use Rattle.cedar_schema_core.specs.Run.{device, IsReported, IsDelivered, IsRun, Completed, KeepsMeaning, NoneCounted};
 ghost use Rattle.cedar_schema_core.specs.Replies.{report_of};
@@ -79,7 +79,6 @@ fn input_reply(alloc: Global, command: &Command, bytes: &[u8]) -> Result<Reply, 
 
 // The reply for the text that a command makes for itself, which is never refused.
 fn own_reply(alloc: Global, command: &Command, text: &str) -> Result<Reply, AllocError>
-    requires sized { IsSized command.now }
     requires own { own_text command.now ≡ Some text.now }
     ensures { (words : List (List ℕ)) (bytes : List ℕ) → Asks words command.now → IfOk result (λ reply. IsPlan words bytes (report_of reply)) }
 {
@@ -94,7 +93,8 @@ fn read_reply<S: Source>(
     command: &Command,
     source: &mut S,
 ) -> Result<Reply, AllocError>
-    ensures reported { (words : List (List ℕ)) → Asks words command.now → Reads command.now → IfOk result (λ reply. IsReported words (device S.left S.faults source.old source.new) (report_of reply)) }
+    ensures reported { (words : List (List ℕ)) → Asks words command.now → Reads command.now
+        → IfOk result (λ reply. IsReported words (device S.left S.faults source.old source.new) (report_of reply)) }
     ensures taken { TookAtMost (max_input + 1) (S.left source.old) (S.left source.new) }
     ensures later { S.faults source.old ≤ S.faults source.new }
 {
@@ -150,7 +150,8 @@ pub fn run_tool<S: Source, O: Sink, E: Sink>(
     // How the run ended, by its cause.
     ensures run { IsRun (map string_bytes words.now) (device S.left S.faults source.old source.new) (device O.taken O.faults out.old out.new) (device E.taken E.faults err.old err.new) result }
 
-    // Done: the words ask for a command, the input, or the text that the command makes, is valid, what the command writes of its meaning was written, and nothing else.
+    // Done: the words ask for a command, the input, or the text that the command makes, is valid, what the command writes of
+    // its meaning was written, and nothing else.
     ensures completed { result ≡ Status.Done → (c : Command) × Asks (map string_bytes words.now) c × Completed c (device S.left S.faults source.old source.new) (device O.taken O.faults out.old out.new) (device E.taken E.faults err.old err.new) }
 
     // Done by a recovery: the text that was written is valid under the same table, and means what the input means; of JSON exactly
