@@ -6,7 +6,7 @@ ghost use Rattle.schema_convert.specs.Faults.{is_reserved_path, reserved_namespa
 use crate::members::block_fault;
 use crate::names_in::{action_names_in, common_names_in, entity_names_in};
 use crate::repeats::first_repeat;
-use cedar_data::{Node, NonEmpty, Text};
+use cedar_data::{Boxed, Node, NonEmpty, Text};
 use cedar_identifiers::is_cedar;
 use schema_convert_errors::{
     DuplicateDeclarations, ReservedName, ReservedSchemaKeyword, ToJsonSchemaError,
@@ -32,13 +32,14 @@ fn is_reserved_path(path: &Path<'_>) -> bool
 // The fault of a namespace whose name is reserved.
 fn reserved_namespace(
     alloc: Global,
-    name: &Option<Path<'_>>,
+    name: &Option<Boxed<Path<'_>>>,
 ) -> Result<Option<ToJsonSchemaError>, AllocError>
     ensures { IfOk result (λ fault. fault ≡ reserved_namespace name.now) }
 {
     let Some(path) = name else {
         return Ok(None);
     };
+    let path = path.get();
     if !is_reserved_path(path) {
         return Ok(None);
     }

@@ -5,7 +5,7 @@ ghost use Rattle.schema_convert.specs.Borrowed.{entry_now, optional_now};
 ghost use Rattle.schema_convert.specs.Shadowings.{by_id, is_primitive_name, is_taken, builtin_shadowed, entity_shadowed, common_warnings, warnings_in, declared_warnings, by_name, warnings_of};
 
 use crate::names_in::{common_names_in, entity_names_in};
-use cedar_data::{Map, Node, Text};
+use cedar_data::{Boxed, Map, Node, Text};
 use cedar_names::ExtensionTable;
 use schema_convert_errors::{SchemaWarning, ShadowsBuiltinWarning, ShadowsEntityWarning};
 use schema_syntax_tree::{Annotated, Declaration, Namespace, Path, SrcId};
@@ -189,7 +189,7 @@ fn push_declared<'s>(
 fn by_name<'a, 's>(
     alloc: Global,
     namespaces: &'a [Annotated<'s, Namespace<'s>>],
-) -> Result<Map<Option<&'a Path<'s>>, &'a Annotated<'s, Namespace<'s>>>, AllocError>
+) -> Result<Map<Option<&'a Boxed<Path<'s>>>, &'a Annotated<'s, Namespace<'s>>>, AllocError>
     ensures { IfOk result (λ sorted. map optional_now sorted ≡ by_name namespaces.now) }
 {
     let mut entries = Vec::new(alloc);

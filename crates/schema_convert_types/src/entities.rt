@@ -3,7 +3,7 @@ ghost use Rattle.schema_convert_types.specs.Declarations.{raw_names, nothing, en
 
 use crate::names::raw_name;
 use crate::types::{cedar_type_to_json_type, record_type};
-use cedar_data::{List, Loc, Map, Node, NonEmpty};
+use cedar_data::{Boxed, List, Loc, Map, Node, NonEmpty};
 use cedar_identifiers::{Annotations, Eid, RawName};
 use schema_json::{
     AttributesOrContext, EntityType, EntityTypeKind, RecordType, StandardEntityType, Type,
@@ -42,13 +42,13 @@ pub fn nothing(alloc: Global) -> AttributesOrContext<RawName>
 // The type of the tags, where there are tags.
 fn tags_of(
     alloc: Global,
-    tags: Option<Node<schema_syntax_tree::Type<'_>>>,
+    tags: Option<Boxed<Node<schema_syntax_tree::Type<'_>>>>,
 ) -> Result<Option<Type<RawName>>, AllocError>
     ensures { IfOk result (λ out. out ≡ tags_of tags.entry) }
 {
     match tags {
         None => Ok(None),
-        Some(ty) => Ok(Some(cedar_type_to_json_type(alloc, ty)?)),
+        Some(ty) => Ok(Some(cedar_type_to_json_type(alloc, ty.into_inner())?)),
     }
 }
 

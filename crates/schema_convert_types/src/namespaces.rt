@@ -9,7 +9,7 @@ use crate::entities::entity_type;
 use crate::entries::push_each;
 use crate::names::internal_name;
 use crate::types::cedar_type_to_json_type;
-use cedar_data::{List, Loc, Map, Node, NonEmptyIter, Text};
+use cedar_data::{Boxed, List, Loc, Map, Node, NonEmptyIter, Text};
 use cedar_identifiers::{Annotations, Id, InternalName, Name, RawName, UnreservedId};
 use schema_json::{
     ActionType, CommonType, CommonTypeId, EntityType, Fragment, NamespaceDefinition,
@@ -206,12 +206,15 @@ fn declarable_name(name: InternalName) -> Option<Name>
 }
 
 // The name of a namespace that may be declared.
-fn namespace_key(alloc: Global, name: Option<Path<'_>>) -> Result<Option<Option<Name>>, AllocError>
+fn namespace_key(
+    alloc: Global,
+    name: Option<Boxed<Path<'_>>>,
+) -> Result<Option<Option<Name>>, AllocError>
     ensures { IfOk result (λ key. key ≡ namespace_key name.entry) }
 {
     match name {
         None => Ok(Some(None)),
-        Some(path) => match declarable_name(internal_name(alloc, &path)?) {
+        Some(path) => match declarable_name(internal_name(alloc, path.get())?) {
             None => Ok(None),
             Some(name) => Ok(Some(Some(name))),
         },

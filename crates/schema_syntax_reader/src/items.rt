@@ -10,7 +10,7 @@ use crate::names::notes;
 use crate::parts::{Part, all};
 use crate::paths::path;
 use crate::stopped::Stopped;
-use cedar_data::{List, Loc, Node};
+use cedar_data::{Boxed, List, Loc, Node};
 use schema_syntax_parser::{AnnotationSyntax, DeclaredSyntax, ItemSyntax, PathSyntax};
 use schema_syntax_tree::{Annotated, Declaration, Namespace, SrcAnnotations};
 use std::alloc::Global;
@@ -72,7 +72,7 @@ fn namespace<'a>(
     let name = path(alloc, text, name)?;
     let decls = all::<Decls>(alloc, text, decls)?;
     let item = Namespace {
-        name: Some(name),
+        name: Some(Boxed::new(alloc, name)?),
         decls: List::from_vec(decls),
         loc: Some(*loc),
     };

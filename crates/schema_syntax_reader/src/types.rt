@@ -113,7 +113,7 @@ pub fn tags<'a>(
     alloc: Global,
     text: &'a str,
     raw: &Option<TypeSyntax>,
-) -> Result<Option<Node<Type<'a>>>, Stopped>
+) -> Result<Option<Boxed<Node<Type<'a>>>>, Stopped>
     requires { IsScanned AreTags text.now raw.now }
     ensures { Reads text.now (tags_sites raw.now) (AreTagsOf text.now raw.now) result }
 {
@@ -121,7 +121,7 @@ pub fn tags<'a>(
         None => Ok(None),
         Some(raw) => {
             let ty = ty(alloc, text, raw)?;
-            Ok(Some(ty))
+            Ok(Some(Boxed::new(alloc, ty)?))
         }
     }
 }

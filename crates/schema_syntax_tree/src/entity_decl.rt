@@ -7,7 +7,7 @@ use crate::path::Path;
 use crate::src_id::SrcId;
 use crate::src_str::SrcStr;
 use crate::types::{AttrDecl, Type};
-use cedar_data::{CloneIn, List, Node, NonEmpty, NonEmptyIter};
+use cedar_data::{Boxed, CloneIn, List, Node, NonEmpty, NonEmptyIter};
 use std::alloc::{AllocError, Global};
 
 /// The declaration of one or more entity types that are alike but for their names.
@@ -24,7 +24,7 @@ pub struct StandardEntityDecl<'a> {
     pub names: NonEmpty<Node<SrcId<'a>>>,
     pub member_of_types: List<Path<'a>>,
     pub attrs: Node<List<Node<Annotated<'a, AttrDecl<'a>>>>>,
-    pub tags: Option<Node<Type<'a>>>,
+    pub tags: Option<Boxed<Node<Type<'a>>>>,
 }
 
 /// Entity types that another schema declares, with the ancestors that are known.

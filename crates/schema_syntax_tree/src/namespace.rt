@@ -3,7 +3,7 @@ ghost use Rattle.std.specs.Prelude.{◌≡◌, ◌↔◌, true, None};
 use crate::annotated::Annotated;
 use crate::declaration::Declaration;
 use crate::path::Path;
-use cedar_data::{CloneIn, List, Loc, Node};
+use cedar_data::{Boxed, CloneIn, List, Loc, Node};
 use std::alloc::{AllocError, Global};
 
 /// A schema: its namespaces, in the order of the text.
@@ -13,7 +13,7 @@ pub type Schema<'a> = List<Annotated<'a, Namespace<'a>>>;
 /// every other.
 #[derive(Drop)]
 pub struct Namespace<'a> {
-    pub name: Option<Path<'a>>,
+    pub name: Option<Boxed<Path<'a>>>,
     pub decls: List<Annotated<'a, Node<Declaration<'a>>>>,
     pub loc: Option<Loc>,
 }

@@ -132,6 +132,7 @@ fn find_standard(alloc: Global, wanted: &mut Wanted<'_>, entity: &StandardEntity
     find_paths(wanted, entity.member_of_types.as_slice());
     find_record(alloc, wanted, &entity.attrs);
     if let Some(tags) = &entity.tags {
+        let tags = tags.get();
         wanted.piece(" tags");
         find_type(alloc, wanted, &tags.node);
         wanted.place(tags.loc);
@@ -244,7 +245,7 @@ fn find_declaration(alloc: Global, wanted: &mut Wanted<'_>, declaration: &Declar
 fn find_namespace(alloc: Global, wanted: &mut Wanted<'_>, namespace: &Namespace<'_>) {
     if let Some(name) = &namespace.name {
         wanted.piece(" namespace");
-        find_path(wanted, name);
+        find_path(wanted, name.get());
     }
     wanted.place(namespace.loc);
     wanted.piece("(");

@@ -49,7 +49,8 @@ returns-in_err-decls c =
 pub returns : goal.returns
 returns c =
     let path = path_sites c.args.name.now in
-    let decls = flat_map declared_sites c.args.decls.now in (
+    let decls = flat_map declared_sites c.args.decls.now in
+    rw c.in_ok-new.ensures (
       (
         c.in_ok-name.name,
         c.from_vec.result,
