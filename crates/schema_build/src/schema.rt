@@ -12,7 +12,7 @@ ghost use Rattle.schema_build_text.specs.Captured.{IsUncaptured, IsTextRefusal};
 ghost use Rattle.schema_build_types.specs.Content.{content};
 ghost use Rattle.schema_build_types.specs.Lacks.{schema_lacks};
 ghost use Rattle.schema_build_recovered.specs.Recovered.{IsRecoveredFragment};
-ghost use Rattle.schema_build_recovered.specs.Refusals.{IsFirstLack};
+ghost use Rattle.schema_build_recovered.specs.Refusals.{IsFirstLack, NamesLacksFirst};
 ghost use Rattle.schema_build.specs.Parts.{IsMisnamed, IsEnumBelow, NoneIs, PartsFault};
 ghost use Rattle.schema_build.specs.Schemas.{StandsFor, Builds};
 
@@ -26,9 +26,8 @@ use schema_build_errors::{
     EnumEntityInHierarchyError, InvalidActionTypeError, RecoveryError, SchemaError, ToTextError,
 };
 use schema_build_parts::{FragmentParts, fragment_parts};
-use schema_build_recovered::recovered_fragment;
+use schema_build_recovered::{recovered_fragment, whole_schema_text};
 use schema_build_scope::laws::common_types_are_declared_once;
-use schema_build_text::uncaptured_schema_text;
 use schema_build_types::{ValidatorActionId, ValidatorEntityType, get_counted};
 use schema_json::Fragment;
 use std::alloc::Global;
@@ -188,13 +187,16 @@ impl ValidatorSchema {
         recovered_fragment(alloc, &self.entity_types, &self.actions)
     }
 
-    /// The canonical text of what the schema stands for: `Captured` where an item has a type that would be read otherwise
-    /// in its namespace, and about the first of them.
+    /// The canonical text of what the schema stands for. `Recovery` where the schema holds what no text says, by the first
+    /// of it, as `to_json_schema` tells it; else `Captured` where an item has a type that would be read otherwise in its
+    /// namespace, about the first of them.
     pub fn to_cedar_schema(&self, alloc: Global) -> Result<Text, ToTextError>
         ensures text { IfOk result (λ text. (m : SchemaMeaning) → StandsFor self.now m → encode_utf8_all text ≡ canonical_text m) }
+        ensures whole { OnOk result (schema_lacks (content self.now.entity_types self.now.actions) ≡ []) }
         ensures uncaptured { OnOk result ((m : SchemaMeaning) → StandsFor self.now m → IsUncaptured m) }
+        ensures lacks { IfErr result (NamesLacksFirst (schema_lacks (content self.now.entity_types self.now.actions))) }
         ensures refusal { IfErr result (λ e. (m : SchemaMeaning) → StandsFor self.now m → IsTextRefusal m e) }
     {
-        uncaptured_schema_text(alloc, &self.entity_types, &self.actions)
+        whole_schema_text(alloc, &self.entity_types, &self.actions)
     }
 }

@@ -14,13 +14,14 @@ use Rattle.cedar_names.specs.Meaning.{EntityMeaning, ActionMeaning, SchemaMeanin
 use Rattle.schema_json.specs.declared.fragment.NamespaceDefinition.{NamespaceDefinition}
 use Rattle.schema_build_types.specs.Content.{SchemaContent, content, entity_content, action_content}
 use Rattle.schema_build_types.specs.Lacks.{namespace_lacks, schema_lacks}
+use Rattle.schema_build_text.proofs.InOrder.{entity_named, action_named}
 use Rattle.schema_build_text.specs.Readings.{schema_reading, entity_reading, action_reading}
 use Rattle.schema_build_text.proofs.Rowed.{map_both}
 use Rattle.schema_build_recovered.specs.Places.{words_of}
 use Rattle.schema_build_recovered.specs.Recovered.{IsRecoveredNamespace}
 use Rattle.schema_build_recovered.specs.declared.names.Namespace.{Namespace}
 use Rattle.schema_build_recovered.proofs.Gathered.{lent_at, lent_long}
-use Rattle.schema_build_recovered.proofs.Halves.{entity_key, action_key, entity_named, action_named}
+use Rattle.schema_build_recovered.proofs.Halves.{entity_key, action_key}
 use Rattle.schema_build_recovered.proofs.Keys.{key_order, rows_are}
 use Rattle.schema_build_recovered.proofs.Sides.{IsRising}
 use Rattle.schema_build_recovered.proofs.Spaces.{in_order_rises}
@@ -47,13 +48,13 @@ entity_keys : (entities : Entities)
     → map (λ (e : EntityMeaning). namespace e.name) (map entity_reading (map entity_content entities))
     ≡ map entity_key entities
 entity_keys [] = refl
-entity_keys (e ∷ entities) = λ i. namespace (entity_named e i) ∷ entity_keys entities i
+entity_keys (e ∷ entities) = λ i. namespace (entity_named e.0 e.1 i) ∷ entity_keys entities i
 
 action_keys : (actions : Actions)
     → map (λ (a : ActionMeaning). namespace a.ty) (map action_reading (map action_content actions))
     ≡ map action_key actions
 action_keys [] = refl
-action_keys (a ∷ actions) = λ i. namespace (action_named a i) ∷ action_keys actions i
+action_keys (a ∷ actions) = λ i. namespace (action_named a.0 a.1 i) ∷ action_keys actions i
 
 pub namespaces_are : (entities : Entities) (actions : Actions)
     → in_order (map entity_key entities ++ map action_key actions)

@@ -16,33 +16,13 @@ use Rattle.schema_build_types.specs.Content.{entity_content, action_content, con
 use Rattle.schema_build_types.specs.Content.{EntityContent, ActionContent}
 use Rattle.schema_build_types.specs.Lacks.{Lack, entity_lacks, context_lacks, namespace_lacks}
 use Rattle.schema_build_types.specs.declared.entity_type.ValidatorEntityType.{ValidatorEntityType}
-use Rattle.schema_build_types.specs.declared.entity_type.ValidatorEntityTypeKind.{ValidatorEntityTypeKind}
-use Rattle.schema_build_types.specs.declared.entity_type.ValidatorEntityTypeKind.TheVariants as kind
 use Rattle.schema_build_types.specs.declared.action.ValidatorActionId.{ValidatorActionId}
-use Rattle.schema_build_types.specs.declared.action.ValidatorActionKind.{ValidatorActionKind}
-use Rattle.schema_build_types.specs.declared.action.ValidatorActionKind.TheVariants as action
 use Rattle.schema_build_text.specs.Readings.{schema_reading, entity_reading, action_reading}
+use Rattle.schema_build_text.proofs.InOrder.{entity_named, action_named}
 use Rattle.schema_build_text.proofs.Named.{same_list}
 use Rattle.schema_build_text.proofs.Rowed.{map_both}
 use Rattle.schema_build_recovered.specs.Places.{on_side}
 use Rattle.schema_build_recovered.specs.Recovered.{IsMapOf, IsRecoveredEntity, IsRecoveredAction, IsRecoveredNamespace}
-
-pub entity_named : (e : Name × ValidatorEntityType) → (entity_content e).name ≡ components_of e.0.name
-entity_named e = by e.1.kind
-  where
-    by : (k : ValidatorEntityTypeKind)
-        → (entity_content (e.0, record { ancestors = e.1.ancestors; kind = k })).name ≡ components_of e.0.name
-    by (kind.Standard attributes more tags) = refl
-    by (kind.Enum choices) = refl
-    by kind.External = refl
-
-pub action_named : (a : EntityUID × ValidatorActionId) → (action_content a).ty ≡ components_of a.0.ty.name
-action_named a = by a.1.kind
-  where
-    by : (k : ValidatorActionKind)
-        → (action_content (a.0, record { ancestors = a.1.ancestors; kind = k })).ty ≡ components_of a.0.ty.name
-    by (action.Defined principals resources context) = refl
-    by action.External = refl
 
 -- what passes a test is among what passes a test that follows
 kept : {X Y : Type 0} (f : X → Y) (p : Y → Bool) (q : X → Bool) → ((x : X) → p (f x) ≡ true → q x ≡ true)
@@ -85,7 +65,7 @@ home_entities n entities =
     let p = λ (e : EntityMeaning). same_name n (namespace e.name) in
     ap (filter p) (map_both entity_reading entity_content entities)
     ∙ read_of (λ e. entity_reading (entity_content e)) p (λ e. same_name n (entity_key e))
-    (λ e. ap (λ k. same_name n (namespace k)) (entity_named e)) entities
+    (λ e. ap (λ k. same_name n (namespace k)) (entity_named e.0 e.1)) entities
 
 pub home_actions : (n : List (List ℕ)) (actions : List (EntityUID × ValidatorActionId))
     → filter (λ (a : ActionMeaning). same_name n (namespace a.ty)) (map action_reading (map action_content actions))
@@ -94,7 +74,7 @@ home_actions n actions =
     let p = λ (a : ActionMeaning). same_name n (namespace a.ty) in
     ap (filter p) (map_both action_reading action_content actions)
     ∙ read_of (λ a. action_reading (action_content a)) p (λ a. same_name n (action_key a))
-    (λ a. ap (λ k. same_name n (namespace k)) (action_named a)) actions
+    (λ a. ap (λ k. same_name n (namespace k)) (action_named a.0 a.1)) actions
 
 flat_both : {X Y A : Type 0} (f : Y → List A) (g : X → Y) (xs : List X)
     → flat_map f (map g xs) ≡ flat_map (λ x. f (g x)) xs
@@ -114,9 +94,9 @@ pub home_lacks : (n : List (List ℕ)) (entities : List (Name × ValidatorEntity
     → namespace_lacks (content entities actions) n ≡ entities_lack n entities ++ actions_lack n actions
 home_lacks n entities actions =
     let one = read_of entity_content (λ (e : EntityContent). same_name n (namespace e.name))
-    (λ e. same_name n (entity_key e)) (λ e. ap (λ k. same_name n (namespace k)) (entity_named e)) entities in
+    (λ e. same_name n (entity_key e)) (λ e. ap (λ k. same_name n (namespace k)) (entity_named e.0 e.1)) entities in
     let two = read_of action_content (λ (a : ActionContent). same_name n (namespace a.ty))
-    (λ a. same_name n (action_key a)) (λ a. ap (λ k. same_name n (namespace k)) (action_named a)) actions in
+    (λ a. same_name n (action_key a)) (λ a. ap (λ k. same_name n (namespace k)) (action_named a.0 a.1)) actions in
     let left = ap (flat_map entity_lacks) one
     ∙ flat_both entity_lacks entity_content (filter (λ e. same_name n (entity_key e)) entities) in
     let right = ap (flat_map (λ (a : ActionContent). context_lacks a.context)) two
@@ -130,13 +110,13 @@ module _ (below : Bool) (pivot n : List (List ℕ)) (on : on_side below pivot n 
       → on_side below pivot (entity_key e) ≡ true
   entity_on e h =
       subst (λ k. on_side below pivot k ≡ true)
-      (same_list n (namespace (entity_content e).name) h ∙ ap namespace (entity_named e)) on
+      (same_list n (namespace (entity_content e).name) h ∙ ap namespace (entity_named e.0 e.1)) on
 
   action_on : (a : EntityUID × ValidatorActionId) → same_name n (namespace (action_content a).ty) ≡ true
       → on_side below pivot (action_key a) ≡ true
   action_on a h =
       subst (λ k. on_side below pivot k ≡ true)
-      (same_list n (namespace (action_content a).ty) h ∙ ap namespace (action_named a)) on
+      (same_list n (namespace (action_content a).ty) h ∙ ap namespace (action_named a.0 a.1)) on
 
   module _ (entities : List (Name × ValidatorEntityType)) (actions : List (EntityUID × ValidatorActionId))
       (some_entities : List (Name × ValidatorEntityType)) (some_actions : List (EntityUID × ValidatorActionId))

@@ -6,11 +6,11 @@ mod Gathered
 mod Halves
 mod Keys
 mod Lacking
+mod NoLack
 mod Parents
 mod Rows
 mod Several
 mod Sides
-mod Sorted
 mod Spaces
 mod Variants
 mod Walks

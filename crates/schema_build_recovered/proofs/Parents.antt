@@ -11,7 +11,7 @@ use Rattle.schema_json.specs.declared.action_type.ActionEntityUID.{ActionEntityU
 use Rattle.schema_build_types.specs.Content.{actions_in_order, actions_cmp}
 use Rattle.schema_build_recovered.specs.Recovered.{IsRecoveredParent, AreRecoveredParents}
 use Rattle.schema_build_text.proofs.Rowed.{no_items, some_sorted}
-use Rattle.schema_build_recovered.proofs.Sorted.{actions_in_order_is}
+use Rattle.schema_build_text.proofs.Rowed.{actions_in_order_is}
 
 pub no_parents : (G : named.Ghosts RawName) (us : List EntityUID) → (length us == 0) ≡ true
     → AreRecoveredParents {G = G} (actions_in_order us) None

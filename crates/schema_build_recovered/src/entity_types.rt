@@ -9,12 +9,12 @@ ghost use Rattle.schema_build_text.specs.Readings.{plain_type, plain_attributes,
 ghost use Rattle.schema_build_recovered.specs.Recovered.{IsWritten, IsRecoveredType, AreRecoveredTags, IsRecoveredKind, IsRecoveredEntity};
 ghost use Rattle.schema_build_recovered.specs.Refusals.{IsFirstLack};
 
-use crate::names::last_word;
 use crate::sets::written_names;
 use crate::types::{recovered_record, recovered_type};
 use cedar_data::{CloneIn, Map, Text};
 use cedar_identifiers::{Annotations, Name, RawName, UnreservedId};
 use schema_build_errors::RecoveryError;
+use schema_build_text::last_word;
 use schema_build_types::{Type as BuiltType, ValidatorEntityType, ValidatorEntityTypeKind};
 use schema_json::{
     AttributesOrContext, EntityType, EntityTypeKind, RecordType, StandardEntityType, Type,

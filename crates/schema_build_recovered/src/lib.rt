@@ -1,4 +1,4 @@
-//! The fragment that is recovered of a built schema, and what stands against it.
+//! The fragment that is recovered of a built schema, its text, and what stands against them.
 #![tactic(auto)]
 
 mod actions;
@@ -7,6 +7,9 @@ pub mod fragment;
 mod names;
 mod namespaces;
 mod sets;
+pub mod text;
 mod types;
+mod whole;
 
 pub use fragment::recovered_fragment;
+pub use text::whole_schema_text;

@@ -3,12 +3,12 @@ ghost use Rattle.std.specs.Cmp.Lexicographic.{slice_cmp};
 ghost use Rattle.cedar_data.specs.Text.{text_cmp};
 ghost use Rattle.cedar_identifiers.specs.Names.{components_of, texts_of, has_cedar};
 ghost use Rattle.cedar_names.specs.Definitions.{same_name};
-ghost use Rattle.cedar_names.specs.CanonicalText.{basename, namespace};
+ghost use Rattle.cedar_names.specs.CanonicalText.{namespace};
 ghost use Rattle.schema_build_recovered.specs.Recovered.{IsName, IsWritten, IsKey};
 ghost use Rattle.schema_build_recovered.specs.Places.{words_of, on_side};
 
 use cedar_data::{CloneIn, List};
-use cedar_identifiers::{Id, InternalName, Name, RawName, UnreservedId};
+use cedar_identifiers::{Id, InternalName, Name, RawName};
 use std::alloc::{AllocError, Global};
 use std::cmp::Ordering;
 
@@ -97,19 +97,5 @@ pub fn key_of(alloc: Global, namespace: Namespace<'_>) -> Result<Option<Name>, A
             let name = name_of(alloc, first, others)?;
             Ok(Some(Name { name }))
         }
-    }
-}
-
-/// The last word of the name.
-pub fn last_word(alloc: Global, name: &Name) -> Result<UnreservedId, AllocError>
-    ensures { IfOk result (λ word. word.id.text ≡ basename (components_of name.now.name)) }
-{
-    match name.name.others.as_slice().split_last() {
-        None => Ok(UnreservedId {
-            id: name.name.first.clone_in(alloc)?,
-        }),
-        Some((last, _)) => Ok(UnreservedId {
-            id: last.clone_in(alloc)?,
-        }),
     }
 }

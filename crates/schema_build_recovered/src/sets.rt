@@ -9,22 +9,10 @@ use crate::names::written_name;
 use cedar_data::{CloneIn, List};
 use cedar_identifiers::{Name, RawName};
 use cedar_names::EntityUID;
+use schema_build_text::sorted_set;
 use schema_json::ActionEntityUID;
 use std::alloc::{AllocError, Global};
 use std::collections::BTreeSet;
-
-// The items in order, each once.
-fn sorted_set<'a, T: Ord>(alloc: Global, items: &'a [T]) -> Result<BTreeSet<&'a T>, AllocError>
-    ensures { IfOk result (λ set. map (λ x. x.now) set.keys ≡ sorted_once T.cmp items.now) }
-{
-    let mut set = BTreeSet::new(alloc);
-    let mut left = items.len();
-    while left > 0 {
-        left -= 1;
-        set.insert(&items[left])?;
-    }
-    Ok(set)
-}
 
 // The items of the set.
 fn listed<T: Ord + Drop>(alloc: Global, set: BTreeSet<T>) -> Result<Vec<T>, AllocError>

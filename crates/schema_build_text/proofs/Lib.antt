@@ -3,7 +3,7 @@ mod Bytes
 pub mod Declared
 pub mod Grouped
 mod Holding
-mod InOrder
+pub mod InOrder
 pub mod Layers
 mod Meant
 pub mod Named

@@ -85,7 +85,7 @@ pub in_order_is : (ns : List (List (List ℕ))) → in_order ns ≡ sorted_once 
 in_order_is [] = refl
 in_order_is (n ∷ ns) = ap (λ l. insert_key (slice_cmp text_cmp) l n) (in_order_is ns)
 
-actions_in_order_is : (us : List EntityUID) → actions_in_order us ≡ sorted_once actions_cmp (map action_of us)
+pub actions_in_order_is : (us : List EntityUID) → actions_in_order us ≡ sorted_once actions_cmp (map action_of us)
 actions_in_order_is [] = refl
 actions_in_order_is (a ∷ us) = ap (λ l. insert_key actions_cmp l (action_of a)) (actions_in_order_is us)
 
@@ -110,13 +110,18 @@ names_shown C same names =
     ∙ ap (map name_text) (names_sorted C same names)
 
 -- and actions
+pub actions_sorted : (C : EntityUID → EntityUID → Ordering)
+    → ((x y : EntityUID) → C x y ≡ actions_cmp (action_of x) (action_of y)) → (actions : List EntityUID)
+    → map action_of (sorted_once C actions) ≡ actions_in_order actions
+actions_sorted C same actions = sorted_map action_of C actions_cmp same actions ∙ sym (actions_in_order_is actions)
+
 pub actions_shown : (C : EntityUID → EntityUID → Ordering)
     → ((x y : EntityUID) → C x y ≡ actions_cmp (action_of x) (action_of y)) → (actions : List EntityUID)
     → map (λ a. action_name_text (action_of a)) (sorted_once C actions)
     ≡ map action_name_text (actions_in_order actions)
 actions_shown C same actions =
     sym (map_both action_name_text action_of (sorted_once C actions))
-    ∙ ap (map action_name_text) (sorted_map action_of C actions_cmp same actions ∙ sym (actions_in_order_is actions))
+    ∙ ap (map action_name_text) (actions_sorted C same actions)
 
 -- the order of names is that of their components
 pub names_go : (C : Id → Id → Ordering) → ((x y : Id) → C x y ≡ text_cmp x.text y.text) → (a b : Name)

@@ -168,8 +168,8 @@ fn namespace_name(alloc: Global, name: &Name) -> Result<Option<Name>, AllocError
     }
 }
 
-// The last word of a name.
-fn last_word(alloc: Global, name: &Name) -> Result<UnreservedId, AllocError>
+/// The last word of a name.
+pub fn last_word(alloc: Global, name: &Name) -> Result<UnreservedId, AllocError>
     ensures { IfOk result (λ word. word.id.text ≡ basename (components_of name.now.name)) }
 {
     match name.name.others.as_slice().split_last() {

@@ -13,6 +13,7 @@ mod rows;
 pub mod to_text;
 mod types;
 
-pub use captured::first_captured;
+pub use captured::{first_captured, last_word};
 pub use printing::canonical_schema_text;
+pub use rows::sorted_set;
 pub use to_text::uncaptured_schema_text;

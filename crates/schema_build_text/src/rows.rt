@@ -61,8 +61,8 @@ fn is_rising<T: Ord>(items: &[T]) -> bool
     true
 }
 
-// The items in order, each once.
-fn sorted_set<'a, T: Ord>(alloc: Global, items: &'a [T]) -> Result<BTreeSet<&'a T>, AllocError>
+/// The items in order, each once.
+pub fn sorted_set<'a, T: Ord>(alloc: Global, items: &'a [T]) -> Result<BTreeSet<&'a T>, AllocError>
     ensures { IfOk result (λ set. map (λ x. x.now) set.keys ≡ sorted_once T.cmp items.now) }
 {
     let mut set = BTreeSet::new(alloc);

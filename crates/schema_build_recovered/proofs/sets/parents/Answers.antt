@@ -6,8 +6,7 @@ use Rattle.cedar_data.specs.Text.{text_cmp}
 use Rattle.cedar_names.specs.Definitions.{action_of}
 use Rattle.schema_build_recovered.specs.Recovered.{IsRecoveredParent}
 use Rattle.schema_build_recovered.proofs.Rows.{zip_more, zip_lent}
-use Rattle.schema_build_text.proofs.Rowed.{names_go}
-use Rattle.schema_build_recovered.proofs.Sorted.{actions_sorted}
+use Rattle.schema_build_text.proofs.Rowed.{actions_sorted, names_go}
 use Rattle.schema_build_recovered.proofs.Parents.{some_parents, no_parents}
 use Rattle.schema_build_recovered.proofs.sets.parents.Goals as goal
 
