@@ -36,10 +36,18 @@ use std::sync::ledger::Ledger;
 
 /// A built schema: its entity types in the order of their names, and its actions in the order of their types and ids, each
 /// once.
-#[derive(Drop)]
 pub struct ValidatorSchema {
     entity_types: Vec<(Name, ValidatorEntityType)>,
     actions: Vec<(EntityUID, ValidatorActionId)>,
+}
+
+impl Drop for ValidatorSchema {
+    fn drop(self) {
+        let ValidatorSchema {
+            entity_types: _entity_types,
+            actions: _actions,
+        } = self;
+    }
 }
 
 impl Model for ValidatorSchema {
