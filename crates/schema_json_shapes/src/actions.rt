@@ -66,8 +66,8 @@ fn check_members(alloc: Global, members: &Members) -> Result<(), ShapeFault>
     check_external_action(alloc, members)
 }
 
-// The names of the attributes.
-fn attributes_at(alloc: Global, members: &Members) -> Result<Option<Set<Text>>, ShapeFault>
+/// The names of the attributes, where they are there and not null.
+pub fn attributes_at(alloc: Global, members: &Members) -> Result<Option<Set<Text>>, ShapeFault>
     ensures { let o = get_member (codes "attributes") (members_view members.now.entries) in
         Reads result (field_demands (or_null keys) (codes "attributes") o) (IsOptional AreKeys (not_null o)) }
 {
@@ -197,7 +197,8 @@ fn read_id_members(alloc: Global, members: &Members) -> Result<ActionEntityUID<R
     Ok(ActionEntityUID::new(ty, id))
 }
 
-fn action_type_at(alloc: Global, members: &Members) -> Result<Option<RawName>, ShapeFault>
+/// The type of a reference to an action, where it is there and not null.
+pub fn action_type_at(alloc: Global, members: &Members) -> Result<Option<RawName>, ShapeFault>
     ensures { let o = get_member (codes "type") (members_view members.now.entries) in
         Reads result (field_demands (or_null (named NameRole.Name)) (codes "type") o) (IsOptional IsNamed (not_null o)) }
 {

@@ -98,7 +98,8 @@ pub fn shape_at(alloc: Global, members: &Members, name: &str) -> Result<Type<Raw
     }
 }
 
-fn parents_at(alloc: Global, members: &Members) -> Result<List<RawName>, ShapeFault>
+/// The names of the parents, none where they are absent.
+pub fn parents_at(alloc: Global, members: &Members) -> Result<List<RawName>, ShapeFault>
     ensures { let o = get_member (codes "memberOfTypes") (members_view members.now.entries) in
         Reads result (field_demands names (codes "memberOfTypes") o) (IsListOrNone IsNamed o) }
 {

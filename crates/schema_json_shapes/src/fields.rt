@@ -25,7 +25,7 @@ pub fn at<'v>(members: &'v Members, name: &str) -> Option<&'v Value>
 }
 
 /// The member of this name, which is there.
-pub(crate) fn needed<'v>(members: &'v Members, name: &str) -> &'v Value
+pub fn needed<'v>(members: &'v Members, name: &str) -> &'v Value
     requires { is_there (get_member name.now (members_view members.now.entries)) ≡ true }
     ensures { get_member name.now (members_view members.now.entries) ≡ Some (view result.now) }
 {
@@ -56,7 +56,8 @@ fn is_field(fields: &[Field], key: &str) -> bool
     false
 }
 
-fn first_unknown<'v>(fields: &[Field], members: &'v Members) -> Option<&'v str>
+/// The least key of the object that is none of these fields.
+pub fn first_unknown<'v>(fields: &[Field], members: &'v Members) -> Option<&'v str>
     ensures { option_map (λ k. k.now) result ≡ first_unknown (table fields.now) (members_view members.now.entries) }
 {
     for (key, _) in members {

@@ -60,8 +60,8 @@ fn namespace_entry(
     Ok((name, definition))
 }
 
-// The name of a namespace, of which the empty one has none.
-fn read_key(alloc: Global, key: &str) -> Result<Option<Name>, ShapeFault>
+/// The name of a namespace, of which the empty one has none.
+pub fn read_key(alloc: Global, key: &str) -> Result<Option<Name>, ShapeFault>
     ensures { Reads result (namespace_key key.now) (IsNamespaceKey key.now) }
 {
     if key.len() == 0 {

@@ -42,11 +42,7 @@ fn copied(alloc: Global, role: NameRole, text: &str) -> Result<(Text, Text), All
 }
 
 /// A name as it is written, in a role of such names.
-pub(crate) fn read_raw_name(
-    alloc: Global,
-    role: NameRole,
-    text: &str,
-) -> Result<RawName, ShapeFault>
+pub fn read_raw_name(alloc: Global, role: NameRole, text: &str) -> Result<RawName, ShapeFault>
     requires { kind_of role ≡ kind.InternalName }
     ensures { Reads result (is_name role text.now ∷ []) (IsRawName text.now) }
 {
@@ -57,7 +53,7 @@ pub(crate) fn read_raw_name(
 }
 
 /// A word that may be declared, in a role of such words.
-pub(crate) fn read_id(alloc: Global, role: NameRole, text: &str) -> Result<UnreservedId, ShapeFault>
+pub fn read_id(alloc: Global, role: NameRole, text: &str) -> Result<UnreservedId, ShapeFault>
     requires { kind_of role ≡ kind.UnreservedId }
     ensures { Reads result (is_name role text.now ∷ []) (IsId text.now) }
 {

@@ -188,8 +188,8 @@ fn common_type(typed: Typed) -> CommonType<RawName>
     }
 }
 
-// The name of a common type.
-fn read_common_id(alloc: Global, key: &str) -> Result<CommonTypeId, ShapeFault>
+/// The name of a common type.
+pub fn read_common_id(alloc: Global, key: &str) -> Result<CommonTypeId, ShapeFault>
     ensures { Reads result (key_demands common_types key.now) (IsCommonId key.now) }
 {
     let id = read_id(alloc, NameRole::Id, key)?;
