@@ -1,0 +1,3 @@
+pub mod EntriesAhead
+pub mod OldObjects
+pub mod OldWords

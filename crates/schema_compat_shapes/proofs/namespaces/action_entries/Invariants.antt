@@ -1,0 +1,12 @@
+use Rattle.serde_json.specs.View.{members_view}
+use Rattle.schema_json_shapes.specs.Said.{IsText}
+use Rattle.schema_compat_shapes.specs.OldWalk.{old_action_demands}
+use Rattle.schema_compat_shapes.specs.OldParts.{IsOldAction}
+use Rattle.schema_compat_shapes.proofs.EntriesAhead.{EntriesAhead}
+use Rattle.schema_compat_shapes.proofs.namespaces.action_entries.Given as goal
+
+abbrev pub invariant-loop-key : goal.invariant-loop-key
+invariant-loop-key l = record {
+  ahead : EntriesAhead old_action_demands IsText IsOldAction (members_view l.key-iterator)
+      (members_view l.members.entries) l.entries.items;
+}

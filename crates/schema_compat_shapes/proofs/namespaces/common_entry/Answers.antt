@@ -1,0 +1,13 @@
+use Rattle.serde_json.specs.View.{view}
+use Rattle.schema_json_shapes.specs.Walk.{common_types, key_demands}
+use Rattle.schema_json_shapes.proofs.Demands.{fails, refused}
+use Rattle.schema_compat_shapes.specs.OldWalk.{old_type_demands, old_common_type_demands}
+use Rattle.schema_compat_shapes.proofs.namespaces.common_entry.Goals as goal
+
+pub returns-in_err-id : goal.returns-in_err-id
+returns-in_err-id c =
+    let k = c.args.key.now in
+    let d = view c.args.value.now in
+    let e = c.in_err-id.field-0.0 in
+    refused c.from_residual.result e (old_common_type_demands k d) _ c.from_residual.ensures.1
+    (fails (key_demands common_types k) (old_type_demands k d) e c.in_err-id.ensures)

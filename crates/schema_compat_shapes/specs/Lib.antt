@@ -1,0 +1,3 @@
+pub mod OldTypes
+pub mod OldWalk
+pub mod OldParts

@@ -1,0 +1,44 @@
+// Entity types.
+ghost use Rattle.std.specs.Prelude.{◌≡◌};
+ghost use Rattle.serde_json.specs.View.{view, members_view};
+ghost use Rattle.schema_json_shapes.specs.Reads.{Reads};
+ghost use Rattle.schema_compat_shapes.specs.OldWalk.{of_object, old_entity_type_members};
+ghost use Rattle.schema_compat_shapes.specs.OldParts.{IsOldEntityType, IsOldEntityTypeIn};
+
+use crate::shapes::shape_at;
+use crate::tables::entity_type_fields;
+use schema_compat_types::EntityType;
+use schema_json_shapes::ShapeFault;
+use schema_json_shapes::entity_types::parents_at;
+use schema_json_shapes::fields::{Members, check_fields};
+use schema_json_shapes::leaves::wrong_type;
+use serde_json::Value;
+use std::alloc::Global;
+
+// An entity type.
+pub(crate) fn read_entity_type(
+    alloc: Global,
+    value: &Value,
+    label: &str,
+) -> Result<EntityType, ShapeFault>
+    ensures { Reads result (of_object old_entity_type_members label.now (view value.now))
+        (IsOldEntityType (view value.now)) }
+{
+    match value.as_object() {
+        Some(members) => read_members(alloc, members),
+        None => Err(wrong_type(alloc, label)),
+    }
+}
+
+fn read_members(alloc: Global, members: &Members) -> Result<EntityType, ShapeFault>
+    ensures { let ms = members_view members.now.entries in
+        Reads result (old_entity_type_members ms) (IsOldEntityTypeIn ms) }
+{
+    check_fields(alloc, entity_type_fields(), members)?;
+    let member_of_types = parents_at(alloc, members)?;
+    let shape = shape_at(alloc, members, "shape")?;
+    Ok(EntityType {
+        member_of_types,
+        shape,
+    })
+}
