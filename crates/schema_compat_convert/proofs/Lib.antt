@@ -1,0 +1,4 @@
+pub mod Layers
+pub mod Ahead
+pub mod Kept
+mod Typed

@@ -1,0 +1,173 @@
+-- What the data of the deprecated form becomes, part by part: no part has a place or an annotation.
+use Rattle.std.specs.Prelude.{◌≡◌, ℕ, Bool, false, List, [], ◌∷◌, Option, Some, None}
+use Rattle.std.specs.List.{AllZip}
+use Rattle.std.specs.List.Sorted.{IsStrictlySortedBy}
+use Rattle.std.specs.Map.{keys_of}
+use Rattle.std.specs.Option.{option_map}
+use Rattle.std.specs.Str.{encode_utf8_all}
+use Rattle.std.specs.declared.cmp.Ordering.{Ordering}
+use Rattle.cedar_data.specs.Maps.{map_of}
+use Rattle.cedar_data.specs.Text.{text_cmp}
+use Rattle.cedar_identifiers.specs.declared.annotations.Annotations.{Annotations}
+use Rattle.cedar_identifiers.specs.declared.name.Name.{Name}
+use Rattle.cedar_identifiers.specs.declared.name_text.NameText as ghosts
+use Rattle.cedar_identifiers.specs.declared.raw_name.RawName.{RawName}
+use Rattle.cedar_identifiers.specs.declared.unreserved_id.UnreservedId.{UnreservedId}
+use Rattle.schema_json.specs.declared.types.Type.{«Type»}
+use Rattle.schema_json.specs.declared.types.Type.TheVariants.{CommonTypeRef}
+use Rattle.schema_json.specs.declared.types.TypeVariant.{TypeVariant}
+use Rattle.schema_json.specs.declared.types.TypeVariant.TheVariants as variant
+use Rattle.schema_json.specs.declared.types.RecordType.{roll-RecordType}
+use Rattle.schema_json.specs.declared.types.TypeOfAttribute.{TypeOfAttribute, roll-TypeOfAttribute}
+use Rattle.schema_json.specs.declared.common_type.CommonType.{CommonType}
+use Rattle.schema_json.specs.declared.entity_type.EntityType.{EntityType}
+use Rattle.schema_json.specs.declared.entity_type.EntityTypeKind.TheVariants.{Standard}
+use Rattle.schema_json.specs.declared.action_type.ActionType.{ActionType}
+use Rattle.schema_json.specs.declared.action_type.ActionEntityUID.{ActionEntityUID}
+use Rattle.schema_json.specs.declared.action_type.ApplySpec.{ApplySpec}
+use Rattle.schema_json.specs.declared.fragment.Fragment.{Fragment}
+use Rattle.schema_json.specs.declared.fragment.NamespaceDefinition.{NamespaceDefinition}
+use Rattle.schema_json_shapes.specs.Said.{IsRawName, IsId, plain}
+use Rattle.schema_json_shapes.specs.Shapes.{IsNamespaceKey, id_order, common_id_order, namespace_order}
+use Rattle.schema_json_shapes.specs.Walk.{AllMet, FirstUnmet}
+use Rattle.schema_json_shapes.specs.declared.shape_fault.ShapeFault.{ShapeFault}
+use Rattle.schema_compat_types.specs.declared.types.SchemaType.{SchemaType}
+use Rattle.schema_compat_types.specs.declared.types.SchemaType.TheVariants as written
+use Rattle.schema_compat_types.specs.declared.types.SchemaTypeVariant.{SchemaTypeVariant}
+use Rattle.schema_compat_types.specs.declared.types.SchemaTypeVariant.TheVariants as shape
+use Rattle.schema_compat_types.specs.declared.types.TypeOfAttribute.{TypeOfAttribute as OldAttribute}
+use Rattle.schema_compat_types.specs.declared.types.TypeOfAttribute.{out-TypeOfAttribute}
+use Rattle.schema_compat_types.specs.declared.entity_type.EntityType.{EntityType as OldEntityType}
+use Rattle.schema_compat_types.specs.declared.action_type.ActionType.{ActionType as OldAction}
+use Rattle.schema_compat_types.specs.declared.action_type.ActionEntityUID.{ActionEntityUID as OldUid}
+use Rattle.schema_compat_types.specs.declared.action_type.ApplySpec.{ApplySpec as OldApply}
+use Rattle.schema_compat_types.specs.declared.fragment.NamespaceDefinition.{NamespaceDefinition as OldNamespace}
+use Rattle.schema_compat_types.specs.declared.fragment.SchemaFragment.{SchemaFragment}
+use Rattle.schema_compat_convert.specs.Demands.{asks_fragment}
+
+abbrev pub no_annotations : Annotations
+no_annotations = record { 0 = [] }
+
+-- ---- types
+
+abbrev pub attribute_of : «Type» RawName → Bool → TypeOfAttribute RawName
+attribute_of t required =
+    roll-TypeOfAttribute RawName (record { ty = t; annotations = no_annotations; required = required })
+
+abbrev pub record_shape : List (List ℕ × TypeOfAttribute RawName) → Bool → TypeVariant RawName
+record_shape attributes is_open =
+    variant.Record (roll-RecordType RawName (record { attributes = attributes; additional_attributes = is_open }))
+
+mutual
+  -- the type becomes the type
+  pub data TypeBecomes : SchemaType → «Type» RawName → Type 0 where
+    of_shape : (v : SchemaTypeVariant) (w : TypeVariant RawName) → ShapeBecomes v w
+        → TypeBecomes (written.Variant v) (plain w)
+    of_reference : (text : List ℕ) (n : RawName) → IsRawName (encode_utf8_all text) n
+        → TypeBecomes (written.TypeDef text) (CommonTypeRef n None)
+
+  -- the shape becomes the shape
+  pub data ShapeBecomes : SchemaTypeVariant → TypeVariant RawName → Type 0 where
+    of_string : ShapeBecomes shape.String variant.String
+    of_long : ShapeBecomes shape.Long variant.Long
+    of_boolean : ShapeBecomes shape.Boolean variant.Boolean
+    of_set : (s : SchemaType) (t : «Type» RawName) → TypeBecomes s t → ShapeBecomes (shape.Set s) (variant.Set t)
+    -- the attributes stand in the order of their names
+    of_record : (es : List (List ℕ × OldAttribute)) (fs : List (List ℕ × TypeOfAttribute RawName)) (is_open : Bool)
+        → IsStrictlySortedBy text_cmp (keys_of es) → AttributesBecome es fs
+        → ShapeBecomes (shape.Record es is_open) (record_shape fs is_open)
+    of_entity : (text : List ℕ) (n : RawName) → IsRawName (encode_utf8_all text) n
+        → ShapeBecomes (shape.Entity text) (variant.Entity n)
+    of_extension : (text : List ℕ) (id : UnreservedId) → IsId (encode_utf8_all text) id
+        → ShapeBecomes (shape.Extension text) (variant.Extension id)
+
+  -- the attributes become the attributes, one by one
+  pub data AttributesBecome : List (List ℕ × OldAttribute) → List (List ℕ × TypeOfAttribute RawName) → Type 0 where
+    no_attribute : AttributesBecome [] []
+    next_attribute : (k : List ℕ) (a : OldAttribute) (t : «Type» RawName) (es : List (List ℕ × OldAttribute))
+        (fs : List (List ℕ × TypeOfAttribute RawName)) → TypeBecomes (out-TypeOfAttribute a).ty t
+        → AttributesBecome es fs
+        → AttributesBecome ((k, a) ∷ es) ((k, attribute_of t (out-TypeOfAttribute a).required) ∷ fs)
+
+-- ---- what is declared
+
+-- each value under its key
+abbrev pub ValuesBecome : {K V W : Type 0} → (V → W → Type 0) → List (K × V) → List (K × W) → Type 0
+ValuesBecome Becomes es fs = AllZip (λ e f. (f.0 ≡ e.0) × Becomes e.1 f.1) es fs
+
+-- the same of a map, in the order of its keys
+abbrev pub MapBecomes : {K V W : Type 0} → (K → K → Ordering) → (V → W → Type 0) → List (K × V) → List (K × W) → Type 0
+MapBecomes order Becomes es fs = IsStrictlySortedBy order (keys_of es) × ValuesBecome Becomes es fs
+
+-- a common type
+pub record CommonTypeBecomes (s : SchemaType) (c : CommonType RawName) : Type 0 where
+  pub ty : TypeBecomes s c.ty
+  pub bare : c.annotations ≡ no_annotations
+  pub placeless : c.loc ≡ None
+
+-- an entity type without tags that no other schema declares
+pub record EntityTypeBecomes (e : OldEntityType) (f : EntityType RawName) : Type 0 where
+  pub ty : «Type» RawName
+  pub kind : f.kind
+      ≡ Standard (record { member_of_types = e.member_of_types; shape = record { 0 = ty }; tags = None })
+  pub shaped : TypeBecomes e.shape.0 ty
+  pub own : f.external ≡ false
+  pub bare : f.annotations ≡ no_annotations
+  pub placeless : f.loc ≡ None
+
+-- both lists are there
+pub record ApplyBecomes (a : OldApply) (b : ApplySpec RawName) : Type 0 where
+  pub resources : a.resource_types ≡ Some b.resource_types
+  pub principals : a.principal_types ≡ Some b.principal_types
+  pub in_context : TypeBecomes a.context.0 b.context.0
+
+-- what may be absent, and stays so
+abbrev pub OptionBecomes : {A B : Type 0} → (A → B → Type 0) → Option A → Option B → Type 0
+OptionBecomes Becomes None None = Unit {0}
+OptionBecomes Becomes (Some a) (Some b) = Becomes a b
+OptionBecomes Becomes _ _ = ⊥
+
+-- attributes that are there become none
+abbrev pub no_names : Option (List (List ℕ)) → Option (List (List ℕ))
+no_names attributes = option_map (λ names. []) attributes
+
+module _ {G : ghosts.Ghosts RawName} where
+  -- the same id and type
+  abbrev pub UidBecomes : OldUid → ActionEntityUID RawName G → Type 0
+  UidBecomes u v = (v.id ≡ u.id) × (v.ty ≡ u.ty)
+
+  -- an action that no other schema declares
+  pub record ActionBecomes (a : OldAction) (b : ActionType RawName G) : Type 0 where
+    pub attributed : b.attributes ≡ no_names a.attributes
+    pub applied : OptionBecomes ApplyBecomes a.applies_to b.applies_to
+    pub parents : OptionBecomes (AllZip UidBecomes) a.member_of b.member_of
+    pub own : b.external ≡ false
+    pub bare : b.annotations ≡ no_annotations
+    pub placeless : b.loc ≡ None
+
+  -- ---- namespaces and fragments
+
+  -- a namespace, and what it declares
+  pub record NamespaceBecomes (n : OldNamespace) (m : NamespaceDefinition RawName G) : Type 0 where
+    pub commons : MapBecomes common_id_order CommonTypeBecomes n.common_types m.common_types
+    pub entities : MapBecomes id_order EntityTypeBecomes n.entity_types m.entity_types
+    pub actions : MapBecomes text_cmp ActionBecomes n.actions m.actions
+    pub bare : m.annotations ≡ no_annotations
+
+  -- a namespace under its name, which the text is
+  abbrev pub EntryBecomes : List ℕ × OldNamespace → Option Name × NamespaceDefinition RawName G → Type 0
+  EntryBecomes e f = IsNamespaceKey (encode_utf8_all e.0) f.0 × NamespaceBecomes e.1 f.1
+
+  -- the namespaces by name
+  abbrev pub FragmentBecomes : SchemaFragment → Fragment RawName G → Type 0
+  FragmentBecomes s f =
+      (entries : List (Option Name × NamespaceDefinition RawName G)) × AllZip EntryBecomes s.0 entries
+      × (f.0 ≡ map_of namespace_order entries)
+
+  -- the data keeps what it must, and becomes the fragment
+  abbrev pub IsConverted : SchemaFragment → Fragment RawName G → Type 0
+  IsConverted s f = AllMet (asks_fragment s) × FragmentBecomes s f
+
+-- the first fault of the data
+abbrev pub IsFirstConversionFault : SchemaFragment → ShapeFault → Type 0
+IsFirstConversionFault s e = FirstUnmet (asks_fragment s) e

@@ -1,0 +1,9 @@
+//! Fragments made of the data of the deprecated JSON form.
+#![tactic(auto)]
+
+pub mod convert;
+pub mod fragments;
+pub mod items;
+pub mod types;
+
+pub use fragments::convert_fragment;
