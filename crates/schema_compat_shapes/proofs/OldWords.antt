@@ -1,17 +1,15 @@
 -- Types whose fields read, and what they say.
-use Rattle.std.proofs.Common.{◌≡◌, ℕ, Bool, true, false, List, [], ◌∷◌, Option, Some, None, String, Global, refl, sym}
-use Rattle.std.proofs.Common.{ap, subst, ◌∙◌}
-use Rattle.std.specs.Prelude.{◌&&◌, ◌||◌, codes}
+use Rattle.std.proofs.Common.{◌≡◌, ℕ, Bool, true, false, List, ◌∷◌, Option, Some, None, String, Global, refl, sym}
+use Rattle.std.proofs.Common.{ap, subst}
+use Rattle.std.specs.Prelude.{◌&&◌, codes}
 use Rattle.std.specs.Str.{chars}
-use Rattle.serde_json.specs.Data.{Data, null, boolean, number, string, array, object, Members, no_members, member}
+use Rattle.serde_json.specs.Data.{Data, null, boolean, number, string, array, object, Members, member}
 use Rattle.serde_json.specs.Find.{get_member, as_object}
 use Rattle.serde_json.specs.View.{view, members_view}
 use Rattle.serde_json.proofs.Views.{Entry}
 use Rattle.serde_json.specs.declared.value.Value.{Value}
 use Rattle.cedar_data.specs.Maps.{map_of}
 use Rattle.cedar_data.specs.Text.{text_cmp}
-use Rattle.schema_compat_types.specs.declared.types.SchemaType.{SchemaType}
-use Rattle.schema_compat_types.specs.declared.types.SchemaTypeVariant.{SchemaTypeVariant}
 use Rattle.schema_compat_types.specs.declared.types.SchemaTypeVariant.TheVariants as variant
 use Rattle.schema_compat_types.specs.declared.types.TypeOfAttribute.{TypeOfAttribute}
 use Rattle.schema_json_shapes.specs.declared.words.TypeWord.{TypeWord}

@@ -1,5 +1,5 @@
 -- What the value of a fragment says in the deprecated form, part by part.
-use Rattle.std.specs.Prelude.{◌≡◌, ℕ, true, false, List, [], codes, Option, Some, None}
+use Rattle.std.specs.Prelude.{◌≡◌, true, false, [], codes, Option, Some, None}
 use Rattle.serde_json.specs.Data.{Data, object, Members}
 use Rattle.serde_json.specs.Find.{get_member}
 use Rattle.cedar_data.specs.Text.{text_cmp}

@@ -34,7 +34,8 @@ pub(crate) fn parents_at(
 }
 
 fn read_parents(alloc: Global, value: &Value) -> Result<List<ActionEntityUID>, ShapeFault>
-    ensures { Reads result (demands action_ids (codes "memberOf") (view value.now)) (IsList IsOldActionId (view value.now)) }
+    ensures { Reads result (demands action_ids (codes "memberOf") (view value.now))
+        (IsList IsOldActionId (view value.now)) }
 {
     match value.as_array() {
         Some(items) => read_action_ids(alloc, items),

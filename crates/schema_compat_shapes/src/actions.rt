@@ -62,7 +62,8 @@ fn applies_to_at(alloc: Global, members: &Members) -> Result<Option<ApplySpec>, 
 }
 
 fn read_applies_to(alloc: Global, value: &Value) -> Result<ApplySpec, ShapeFault>
-    ensures { Reads result (old_applies_to_demands (codes "appliesTo") (view value.now)) (IsOldAppliesTo (view value.now)) }
+    ensures { Reads result (old_applies_to_demands (codes "appliesTo") (view value.now))
+        (IsOldAppliesTo (view value.now)) }
 {
     match value.as_object() {
         Some(members) => read_applies_to_members(alloc, members),

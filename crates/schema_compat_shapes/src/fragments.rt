@@ -16,8 +16,8 @@ use schema_json_shapes::leaves::wrong_type;
 use serde_json::Value;
 use std::alloc::Global;
 
-/// What a value says in the deprecated form, or the first fault of reading it. Numbers are not looked at, nor are the names
-/// of namespaces and those in types.
+/// What a value says in the deprecated form, or the first fault of reading it. Numbers are not looked at, nor are the
+/// names of namespaces and those in types.
 pub fn read_fragment(alloc: Global, value: &Value) -> Result<SchemaFragment, ShapeFault>
     ensures { MatchResult result (IsOldRead (view value.now)) (λ e. (e ≡ Memory) ⊎ IsFirstOldFault (view value.now) e) }
 {

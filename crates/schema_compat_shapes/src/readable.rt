@@ -34,7 +34,8 @@ fn is_flag_or_none(members: &Members, name: &str) -> bool
 
 // The members of the object that the member is.
 fn object_at<'v>(members: &'v Members, name: &str) -> Option<&'v Members>
-    ensures { option_map (λ m. members_view m.now.entries) result ≡ object_of (get_member name.now (members_view members.now.entries)) }
+    ensures { option_map (λ m. members_view m.now.entries) result
+        ≡ object_of (get_member name.now (members_view members.now.entries)) }
 {
     match at(members, name) {
         Some(value) => value.as_object(),
@@ -137,7 +138,8 @@ pub(crate) fn text_in<'v>(members: &'v Members, name: &str) -> &'v str
 // The members of the type that the member is.
 pub(crate) fn type_in<'v>(members: &'v Members, name: &str) -> &'v Members
     requires { is_old_type (object_of (get_member name.now (members_view members.now.entries))) ≡ true }
-    ensures there { get_member name.now (members_view members.now.entries) ≡ Some (object (members_view result.now.entries)) }
+    ensures there { get_member name.now (members_view members.now.entries)
+        ≡ Some (object (members_view result.now.entries)) }
     ensures typed { is_text (get_member (codes "type") (members_view result.now.entries)) ≡ true }
 {
     match object_at(members, name) {
@@ -149,7 +151,8 @@ pub(crate) fn type_in<'v>(members: &'v Members, name: &str) -> &'v Members
 // The attributes that the member is.
 pub(crate) fn attributes_in<'v>(members: &'v Members, name: &str) -> &'v Members
     requires { are_old_attributes (object_of (get_member name.now (members_view members.now.entries))) ≡ true }
-    ensures there { get_member name.now (members_view members.now.entries) ≡ Some (object (members_view result.now.entries)) }
+    ensures there { get_member name.now (members_view members.now.entries)
+        ≡ Some (object (members_view result.now.entries)) }
     ensures all { are_all_attributes (members_view result.now.entries) ≡ true }
 {
     match object_at(members, name) {

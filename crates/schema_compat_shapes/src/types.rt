@@ -75,7 +75,8 @@ fn read_set(alloc: Global, members: &Members) -> Result<SchemaTypeVariant, Alloc
 #[cycle(types)]
 fn read_record(alloc: Global, members: &Members) -> Result<SchemaTypeVariant, AllocError>
     requires word { HasWord (members_view members.now.entries) TypeWord.Record }
-    requires reads { are_old_attributes (object_of (get_member (codes "attributes") (members_view members.now.entries))) ≡ true }
+    requires reads { let ms = members_view members.now.entries in
+        are_old_attributes (object_of (get_member (codes "attributes") ms)) ≡ true }
     ensures { IfOk result (λ v. SaysOldVariant (members_view members.now.entries) v) }
 {
     let inner = attributes_in(members, "attributes");

@@ -11,8 +11,8 @@ pub struct ActionType {
     pub member_of: Option<List<ActionEntityUID>>,
 }
 
-/// What an action may be applied to: the lists `resourceTypes` and `principalTypes`, where they are there and not null, and
-/// the type `context`, which is the closed record without attributes where it is absent.
+/// What an action may be applied to: the lists `resourceTypes` and `principalTypes`, where they are there and not null,
+/// and the type `context`, which is the closed record without attributes where it is absent.
 #[derive(PartialEq, Eq, Drop)]
 pub struct ApplySpec {
     pub resource_types: Option<List<RawName>>,

@@ -1,7 +1,7 @@
-use Rattle.std.proofs.Common.{◌≡◌, ◌++◌, sym, subst}
+use Rattle.std.proofs.Common.{◌++◌, subst}
 use Rattle.std.specs.Prelude.{codes}
 use Rattle.serde_json.specs.Find.{get_member}
-use Rattle.serde_json.specs.View.{view, members_view}
+use Rattle.serde_json.specs.View.{members_view}
 use Rattle.schema_json_shapes.specs.Walk.{AllMet, fits_table}
 use Rattle.schema_json_shapes.specs.Reads.{IsFault, field_demands}
 use Rattle.schema_json_shapes.proofs.Demands.{both_met, fails, passes, refused}
