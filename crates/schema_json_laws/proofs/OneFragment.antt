@@ -57,7 +57,7 @@ common_once (object ms) c e h k = λ i. record {
   loc = (h.placeless ∙ sym k.placeless) i;
 }
 
-named_once : (d : Data) (n m : RawName) → IsNamed d n → IsNamed d m → n ≡ m
+pub named_once : (d : Data) (n m : RawName) → IsNamed d n → IsNamed d m → n ≡ m
 named_once null n m h k = absurd h
 named_once (boolean b) n m h k = absurd h
 named_once (number x) n m h k = absurd h
@@ -104,7 +104,7 @@ entity_once (object ms) a b h k = λ i. record {
 
 -- ---- actions
 
-keys_once : (d : Data) (a b : List (List ℕ)) → AreKeys d a → AreKeys d b → a ≡ b
+pub keys_once : (d : Data) (a b : List (List ℕ)) → AreKeys d a → AreKeys d b → a ≡ b
 keys_once null a b h k = absurd h
 keys_once (boolean x) a b h k = absurd h
 keys_once (number n) a b h k = absurd h
@@ -112,7 +112,7 @@ keys_once (string s) a b h k = absurd h
 keys_once (array ds) a b h k = absurd h
 keys_once (object ms) a b h k = h ∙ sym k
 
-names_once : (d : Data) (xs ys : List RawName) → IsList IsNamed d xs → IsList IsNamed d ys → xs ≡ ys
+pub names_once : (d : Data) (xs ys : List RawName) → IsList IsNamed d xs → IsList IsNamed d ys → xs ≡ ys
 names_once = list_once IsNamed named_once
 
 applies_once : (d : Data) (a b : ApplySpec RawName) → IsAppliesTo d a → IsAppliesTo d b → a ≡ b
@@ -132,7 +132,7 @@ applies_once (object ms) a b h k = λ i. record {
   };
 }
 
-text_in_once : (o : Option Data) (a b : List ℕ) → IsTextIn o a → IsTextIn o b → a ≡ b
+pub text_in_once : (o : Option Data) (a b : List ℕ) → IsTextIn o a → IsTextIn o b → a ≡ b
 text_in_once None a b h k = absurd h
 text_in_once (Some null) a b h k = absurd h
 text_in_once (Some (boolean x)) a b h k = absurd h
@@ -141,10 +141,10 @@ text_in_once (Some (string s)) a b h k = h ∙ sym k
 text_in_once (Some (array ds)) a b h k = absurd h
 text_in_once (Some (object ms)) a b h k = absurd h
 
-text_once : (s a b : List ℕ) → IsText s a → IsText s b → a ≡ b
+pub text_once : (s a b : List ℕ) → IsText s a → IsText s b → a ≡ b
 text_once s a b h k = h ∙ sym k
 
-common_id_once : (s : List ℕ) (a b : CommonTypeId) → IsCommonId s a → IsCommonId s b → a ≡ b
+pub common_id_once : (s : List ℕ) (a b : CommonTypeId) → IsCommonId s a → IsCommonId s b → a ≡ b
 common_id_once s a b h k = λ i. record { id = one_id s a.id b.id h k i }
 
 -- ---- namespaces

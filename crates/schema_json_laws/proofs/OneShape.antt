@@ -172,10 +172,10 @@ SaysBy word.Extension ms t = (s : List ℕ) × (id : UnreservedId) × (get_membe
 SaysBy word.Reference ms t = (s : List ℕ) × (n : RawName) × (get_member (codes "type") ms ≡ Some (string s))
     × IsRawName s n × (t ≡ CommonTypeRef n None)
 
-one_string : (s t : List ℕ) → Some (string s) ≡ Some (string t) → s ≡ t
+pub one_string : (s t : List ℕ) → Some (string s) ≡ Some (string t) → s ≡ t
 one_string s t e = cc
 
-one_object : (ms ns : Members) → Some (object ms) ≡ Some (object ns) → ms ≡ ns
+pub one_object : (ms ns : Members) → Some (object ms) ≡ Some (object ns) → ms ≡ ns
 one_object ms ns e = cc
 
 -- what goes by one word goes by the text

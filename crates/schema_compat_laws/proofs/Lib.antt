@@ -1,0 +1,2 @@
+pub mod OneOldShape
+pub mod OneOldFragment
