@@ -1,1 +1,1 @@
-mod Causes
+pub mod Causes

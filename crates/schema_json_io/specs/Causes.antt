@@ -18,20 +18,28 @@ use Rattle.schema_json_io.specs.Texts.{HasNoRepeat, Holds}
 abbrev pub IsFirstFault : Data → JsonFault → Type 0
 IsFirstFault d e = (fault : ShapeFault) × IsShapeFault d fault × (e ≡ of_shape fault)
 
+-- why a value is refused, where this tells the first fault of a value without a float
+abbrev pub IsValueCauseBy : (Data → JsonFault → Type 0) → Data → JsonFault → Type 0
+IsValueCauseBy IsFirst d cause.NotJson = ⊥
+IsValueCauseBy IsFirst d (cause.RepeatedKey name) = ⊥
+IsValueCauseBy IsFirst d cause.Float = has_float d ≡ true
+IsValueCauseBy IsFirst d cause.Memory = ⊤
+IsValueCauseBy IsFirst d e = (has_float d ≡ false) × IsFirst d e
+
+-- the same of a text
+abbrev pub IsTextCauseBy : (Data → JsonFault → Type 0) → List ℕ → JsonFault → Type 0
+IsTextCauseBy IsFirst text cause.NotJson = read text ≡ None
+IsTextCauseBy IsFirst text (cause.RepeatedKey name) =
+    (d : Data) × (read text ≡ Some d) × (key : List ℕ) × RepeatedKey text key × (name ≡ chars key)
+IsTextCauseBy IsFirst text cause.Float = (d : Data) × (read text ≡ Some d) × HasNoRepeat text × (has_float d ≡ true)
+IsTextCauseBy IsFirst text cause.Memory = ⊤
+IsTextCauseBy IsFirst text e = (d : Data) × Holds text d × IsFirst d e
+
 abbrev pub IsValueCause : Data → JsonFault → Type 0
-IsValueCause d cause.NotJson = ⊥
-IsValueCause d (cause.RepeatedKey name) = ⊥
-IsValueCause d cause.Float = has_float d ≡ true
-IsValueCause d cause.Memory = ⊤
-IsValueCause d e = (has_float d ≡ false) × IsFirstFault d e
+IsValueCause d e = IsValueCauseBy IsFirstFault d e
 
 abbrev pub IsTextCause : List ℕ → JsonFault → Type 0
-IsTextCause text cause.NotJson = read text ≡ None
-IsTextCause text (cause.RepeatedKey name) =
-    (d : Data) × (read text ≡ Some d) × (key : List ℕ) × RepeatedKey text key × (name ≡ chars key)
-IsTextCause text cause.Float = (d : Data) × (read text ≡ Some d) × HasNoRepeat text × (has_float d ≡ true)
-IsTextCause text cause.Memory = ⊤
-IsTextCause text e = (d : Data) × Holds text d × IsFirstFault d e
+IsTextCause text e = IsTextCauseBy IsFirstFault text e
 
 -- the cause, with the advice beside it
 abbrev pub IsTextError : List ℕ → JsonDeserializationError → Type 0

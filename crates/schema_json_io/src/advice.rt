@@ -9,7 +9,7 @@ use serde_json::Value;
 
 /// The advice beside a fault of the text: it may be in the Cedar format where its first character that is not blank is
 /// not `{`, and else lack a namespace where it is an object with a field of one.
-pub(crate) fn advice_on(text: &str, value: Option<&Value>) -> Option<JsonAdvice>
+pub fn advice_on(text: &str, value: Option<&Value>) -> Option<JsonAdvice>
     requires { option_map (λ v. view v.now) value ≡ read text.now }
     ensures { result ≡ advice_on text.now }
 {

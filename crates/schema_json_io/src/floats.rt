@@ -4,9 +4,9 @@ ghost use Rattle.serde_json.specs.Written.{has_float, items_have_float, members_
 
 use serde_json::{Map, Value};
 
-// Whether a number of the value is no whole number of 64 bits.
+/// Whether a number of the value is no whole number of 64 bits.
 #[cycle(float)]
-pub(crate) fn has_float(value: &Value) -> bool
+pub fn has_float(value: &Value) -> bool
     ensures { result ≡ has_float (view value.now) }
 {
     match value {

@@ -2,9 +2,9 @@
 #![tactic(auto)]
 
 pub mod advice;
-mod floats;
+pub mod floats;
 pub mod read;
-mod shape_faults;
+pub mod shape_faults;
 
 pub use read::{FragmentJson, from_json_str, from_json_value};
 pub use schema_json_errors::{JsonAdvice, JsonDeserializationError, JsonFault};

@@ -42,8 +42,8 @@ fn read_text(alloc: Global, text: &str, value: &Value) -> Result<Fragment<RawNam
     read_value(alloc, value)
 }
 
-// The error of this fault, with this advice where it may stand beside it.
-fn with_advice(fault: JsonFault, advice: Option<JsonAdvice>) -> JsonDeserializationError
+/// The error of this fault, with this advice where it may stand beside it.
+pub fn with_advice(fault: JsonFault, advice: Option<JsonAdvice>) -> JsonDeserializationError
     ensures fault { result.fault ≡ fault }
     ensures advice { result.advice ≡ beside fault advice }
 {

@@ -5,7 +5,7 @@ use schema_json_errors::JsonFault;
 use schema_json_shapes::ShapeFault;
 
 /// The fault of a value, as a fault of reading JSON.
-pub(crate) fn of_shape(fault: ShapeFault) -> JsonFault
+pub fn of_shape(fault: ShapeFault) -> JsonFault
     ensures { result ≡ of_shape fault }
 {
     match fault {
