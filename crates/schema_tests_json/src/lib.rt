@@ -5,6 +5,10 @@
 #[cfg(test)]
 mod keys;
 #[cfg(test)]
+mod old_shapes;
+#[cfg(test)]
+mod old_table;
+#[cfg(test)]
 mod shape_table;
 #[cfg(test)]
 mod shapes;

@@ -53,7 +53,7 @@ fn fault_line(alloc: Global, fault: &JsonFault) -> Result<String, AllocError> {
 }
 
 // The fault and its advice.
-fn error_line(alloc: Global, error: &JsonDeserializationError) -> Result<String, AllocError> {
+pub fn error_line(alloc: Global, error: &JsonDeserializationError) -> Result<String, AllocError> {
     let mut line = fault_line(alloc, &error.fault)?;
     match error.advice {
         Some(JsonAdvice::CedarFormat) => line.push_str("; CedarFormat")?,
