@@ -149,7 +149,7 @@ common_id_once s a b h k = λ i. record { id = one_id s a.id b.id h k i }
 
 -- ---- namespaces
 
-name_once : (s : List ℕ) (a b : Option Name) → IsNamespaceKey s a → IsNamespaceKey s b → a ≡ b
+pub name_once : (s : List ℕ) (a b : Option Name) → IsNamespaceKey s a → IsNamespaceKey s b → a ≡ b
 name_once [] a b h k = h ∙ sym k
 name_once (c ∷ s) a b (n, is, (reads, placeless)) (m, is', (reads', placeless')) =
     let same = one_name (c ∷ s) kind.Name (components_of n.name) (components_of m.name) reads reads' in

@@ -11,14 +11,14 @@ use Rattle.cedar_identifiers.specs.declared.raw_name.RawName.{RawName}
 use Rattle.schema_json.specs.declared.fragment.Fragment.{Fragment}
 use Rattle.schema_json_keys.specs.Keys.{Key, ComesAgain, FirstAgain, keys_of, RepeatedKey}
 use Rattle.schema_json_shapes.specs.Walk.{fragment, demands}
-use Rattle.schema_json_shapes.specs.Shapes.{IsFragment, IsShapeFault}
+use Rattle.schema_json_shapes.specs.Shapes.{IsFragment}
 use Rattle.schema_json_shapes.proofs.Demands.{met_or_unmet}
 use Rattle.schema_json_laws.proofs.OneFragment.{one_fragment, one_fault_of}
 use Rattle.schema_json_errors.specs.declared.json_error.JsonDeserializationError.{JsonDeserializationError}
 use Rattle.schema_json_errors.specs.declared.json_fault.JsonFault.{JsonFault}
 use Rattle.schema_json_errors.specs.declared.json_fault.JsonFault.TheVariants as cause
 use Rattle.schema_json_io.specs.Advice.{advice_on, beside}
-use Rattle.schema_json_io.specs.Causes.{IsFirstFault, IsTextCause, IsTextError}
+use Rattle.schema_json_io.specs.Causes.{IsFirstFault, IsTextCauseBy, IsTextError}
 use Rattle.schema_json_io.specs.Faults.{of_shape}
 use Rattle.schema_json_io.specs.Texts.{HasNoRepeat, Holds, TextShape}
 
@@ -28,7 +28,7 @@ some_is a b e = cc
 none_some : {A : Type 0} (o : Option A) (a : A) → o ≡ None → o ≡ Some a → ⊥
 none_some o a h k = let both : None ≡ Some a = sym h ∙ k in cc
 
-one_value : (text : List ℕ) (d e : Data) → read text ≡ Some d → read text ≡ Some e → d ≡ e
+pub one_value : (text : List ℕ) (d e : Data) → read text ≡ Some d → read text ≡ Some e → d ≡ e
 one_value text d e h k = some_is d e (sym h ∙ k)
 
 true_false : true ≡ false → ⊥
@@ -61,50 +61,64 @@ one_repeated text x y (j, is, f) (i, too, g) =
 
 -- ---- causes
 
--- the cause of a refusal that is no want of memory
-data CauseOf (text : List ℕ) (e : JsonFault) : Type 0 where
-  no_json : e ≡ cause.NotJson → read text ≡ None → CauseOf text e
+-- the cause of a refusal that is no want of memory, where this tells the first fault of a value
+pub data CauseOf (IsFirst : Data → JsonFault → Type 0) (text : List ℕ) (e : JsonFault) : Type 0 where
+  no_json : e ≡ cause.NotJson → read text ≡ None → CauseOf IsFirst text e
   repeats : (d : Data) (key : List ℕ) → read text ≡ Some d → RepeatedKey text key → e ≡ cause.RepeatedKey (chars key)
-      → CauseOf text e
-  floats : (d : Data) → read text ≡ Some d → HasNoRepeat text → has_float d ≡ true → e ≡ cause.Float → CauseOf text e
-  misshapen : (d : Data) → Holds text d → IsFirstFault d e → CauseOf text e
+      → CauseOf IsFirst text e
+  floats : (d : Data) → read text ≡ Some d → HasNoRepeat text → has_float d ≡ true → e ≡ cause.Float
+      → CauseOf IsFirst text e
+  misshapen : (d : Data) → Holds text d → IsFirst d e → CauseOf IsFirst text e
 
-cause_of : (text : List ℕ) (e : JsonFault) → e ≢ cause.Memory → IsTextCause text e → CauseOf text e
-cause_of text cause.NotJson n h = no_json refl h
-cause_of text (cause.RepeatedKey name) n h = repeats h.0 h.2 h.1 h.3 (ap cause.RepeatedKey h.4)
-cause_of text cause.Float n h = floats h.0 h.1 h.2 h.3 refl
-cause_of text cause.Memory n h = absurd (n refl)
-cause_of text _ n h = misshapen h.0 h.1 h.2
+module _ (IsFirst : Data → JsonFault → Type 0) (text : List ℕ) where
+  pub cause_of : (e : JsonFault) → e ≢ cause.Memory → IsTextCauseBy IsFirst text e → CauseOf IsFirst text e
+  cause_of cause.NotJson n h = no_json refl h
+  cause_of (cause.RepeatedKey name) n h = repeats h.0 h.2 h.1 h.3 (ap cause.RepeatedKey h.4)
+  cause_of cause.Float n h = floats h.0 h.1 h.2 h.3 refl
+  cause_of cause.Memory n h = absurd (n refl)
+  cause_of _ n h = misshapen h.0 h.1 h.2
 
-one_cause : (text : List ℕ) (e f : JsonFault) → CauseOf text e → CauseOf text f → e ≡ f
-one_cause text e f (no_json p r) (no_json q s) = p ∙ sym q
-one_cause text e f (no_json p r) (repeats d key s rep q) = absurd (none_some (read text) d r s)
-one_cause text e f (no_json p r) (floats d s once wide q) = absurd (none_some (read text) d r s)
-one_cause text e f (no_json p r) (misshapen d holds first) = absurd (none_some (read text) d r holds.reads)
-one_cause text e f (repeats d key s rep p) (no_json q r) = absurd (none_some (read text) d r s)
-one_cause text e f (repeats d key s rep p) (repeats d' key' s' rep' q) =
-    p ∙ (ap (λ k. cause.RepeatedKey (chars k)) (one_repeated text key key' rep rep') ∙ sym q)
-one_cause text e f (repeats d key s rep p) (floats d' s' once wide q) = absurd (once key rep)
-one_cause text e f (repeats d key s rep p) (misshapen d' holds first) = absurd (holds.once key rep)
-one_cause text e f (floats d s once wide p) (no_json q r) = absurd (none_some (read text) d r s)
-one_cause text e f (floats d s once wide p) (repeats d' key s' rep q) = absurd (once key rep)
-one_cause text e f (floats d s once wide p) (floats d' s' once' wide' q) = p ∙ sym q
-one_cause text e f (floats d s once wide p) (misshapen d' holds first) =
-    absurd (true_false (sym wide ∙ (ap has_float (one_value text d d' s holds.reads) ∙ holds.whole)))
-one_cause text e f (misshapen d holds first) (no_json q r) = absurd (none_some (read text) d r holds.reads)
-one_cause text e f (misshapen d holds first) (repeats d' key s rep q) = absurd (holds.once key rep)
-one_cause text e f (misshapen d holds first) (floats d' s once wide q) =
-    absurd (true_false (sym wide ∙ (ap has_float (one_value text d' d s holds.reads) ∙ holds.whole)))
-one_cause text e f (misshapen d holds (x, is, told)) (misshapen d' holds' (y, is', told')) =
-    let same : d' ≡ d = one_value text d' d holds'.reads holds.reads in
-    told ∙ (ap of_shape (one_fault_of (demands fragment [] d) x y is (subst (λ z. IsShapeFault z y) same is'))
-    ∙ sym told')
+  -- a text that holds a value without a first fault is not refused
+  pub caused : (d : Data) (e : JsonFault) → Holds text d → (IsFirst d e → ⊥) → CauseOf IsFirst text e → ⊥
+  caused d e holds lawful (no_json p r) = none_some (read text) d r holds.reads
+  caused d e holds lawful (repeats d' key s rep p) = holds.once key rep
+  caused d e holds lawful (floats d' s once wide p) =
+      true_false (sym wide ∙ (ap has_float (one_value text d' d s holds.reads) ∙ holds.whole))
+  caused d e holds lawful (misshapen d' holds' first) =
+      lawful (subst (λ z. IsFirst z e) (one_value text d' d holds'.reads holds.reads) first)
+
+  pub one_cause : ((d : Data) (e f : JsonFault) → IsFirst d e → IsFirst d f → e ≡ f) → (e f : JsonFault)
+      → CauseOf IsFirst text e → CauseOf IsFirst text f → e ≡ f
+  one_cause one e f (no_json p r) (no_json q s) = p ∙ sym q
+  one_cause one e f (no_json p r) (repeats d key s rep q) = absurd (none_some (read text) d r s)
+  one_cause one e f (no_json p r) (floats d s once wide q) = absurd (none_some (read text) d r s)
+  one_cause one e f (no_json p r) (misshapen d holds first) = absurd (none_some (read text) d r holds.reads)
+  one_cause one e f (repeats d key s rep p) (no_json q r) = absurd (none_some (read text) d r s)
+  one_cause one e f (repeats d key s rep p) (repeats d' key' s' rep' q) =
+      p ∙ (ap (λ k. cause.RepeatedKey (chars k)) (one_repeated text key key' rep rep') ∙ sym q)
+  one_cause one e f (repeats d key s rep p) (floats d' s' once wide q) = absurd (once key rep)
+  one_cause one e f (repeats d key s rep p) (misshapen d' holds first) = absurd (holds.once key rep)
+  one_cause one e f (floats d s once wide p) (no_json q r) = absurd (none_some (read text) d r s)
+  one_cause one e f (floats d s once wide p) (repeats d' key s' rep q) = absurd (once key rep)
+  one_cause one e f (floats d s once wide p) (floats d' s' once' wide' q) = p ∙ sym q
+  one_cause one e f (floats d s once wide p) (misshapen d' holds first) =
+      absurd (true_false (sym wide ∙ (ap has_float (one_value text d d' s holds.reads) ∙ holds.whole)))
+  one_cause one e f (misshapen d holds first) (no_json q r) = absurd (none_some (read text) d r holds.reads)
+  one_cause one e f (misshapen d holds first) (repeats d' key s rep q) = absurd (holds.once key rep)
+  one_cause one e f (misshapen d holds first) (floats d' s once wide q) =
+      absurd (true_false (sym wide ∙ (ap has_float (one_value text d' d s holds.reads) ∙ holds.whole)))
+  one_cause one e f (misshapen d holds first) (misshapen d' holds' first') =
+      one d e f first (subst (λ z. IsFirst z f) (one_value text d' d holds'.reads holds.reads) first')
+
+first_once : (d : Data) (e f : JsonFault) → IsFirstFault d e → IsFirstFault d f → e ≡ f
+first_once d e f (x, is, told) (y, is', told') =
+    told ∙ (ap of_shape (one_fault_of (demands fragment [] d) x y is is') ∙ sym told')
 
 pub one_error : (text : List ℕ) (e f : JsonDeserializationError) → e.fault ≢ cause.Memory → f.fault ≢ cause.Memory
     → IsTextError text e → IsTextError text f → e ≡ f
 one_error text e f m n h k =
-    let same : e.fault ≡ f.fault = one_cause text e.fault f.fault (cause_of text e.fault m h.0)
-    (cause_of text f.fault n k.0) in
+    let same : e.fault ≡ f.fault = one_cause IsFirstFault text first_once e.fault f.fault
+    (cause_of IsFirstFault text e.fault m h.0) (cause_of IsFirstFault text f.fault n k.0) in
     let advice : e.advice ≡ f.advice = h.1 ∙ (ap (λ c. beside c (advice_on text)) same ∙ sym k.1) in
     λ i. record { fault = same i; advice = advice i }
 
@@ -116,15 +130,9 @@ module _ {G : ghosts.Ghosts RawName} where
       let same : e ≡ d = one_value text e d holds'.reads holds.reads in
       one_fragment d f g shape.1 (subst (λ z. IsFragment z g) same shape'.1)
 
-  caused : (text : List ℕ) (f : Fragment RawName G) (e : JsonFault) → TextShape text f → CauseOf text e → ⊥
-  caused text f e (d, holds, shape) (no_json p r) = none_some (read text) d r holds.reads
-  caused text f e (d, holds, shape) (repeats d' key s rep p) = holds.once key rep
-  caused text f e (d, holds, shape) (floats d' s once wide p) =
-      true_false (sym wide ∙ (ap has_float (one_value text d' d s holds.reads) ∙ holds.whole))
-  caused text f e (d, holds, shape) (misshapen d' holds' (x, is, told)) =
-      let same : d' ≡ d = one_value text d' d holds'.reads holds.reads in
-      met_or_unmet (demands fragment [] d) x shape.0 (subst (λ z. IsShapeFault z x) same is)
-
   pub said_or_refused : (text : List ℕ) (f : Fragment RawName G) (e : JsonDeserializationError) → TextShape text f
       → e.fault ≢ cause.Memory → IsTextError text e → ⊥
-  said_or_refused text f e h n k = caused text f e.fault h (cause_of text e.fault n k.0)
+  said_or_refused text f e (d, holds, shape) n k =
+      caused IsFirstFault text d e.fault holds
+      (λ (x, is, told). met_or_unmet (demands fragment [] d) x shape.0 is)
+      (cause_of IsFirstFault text e.fault n k.0)
