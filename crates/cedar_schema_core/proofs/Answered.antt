@@ -8,6 +8,7 @@ use Rattle.cedar_data.specs.declared.text.Text.{Text}
 use Rattle.cedar_names.specs.declared.extension_table.ExtensionTable.{ExtensionTable}
 use Rattle.schema_convert_errors.specs.declared.warnings.SchemaWarning.{SchemaWarning}
 use Rattle.cedar_schema_core.specs.declared.command.Command.TheVariants.{Recover, Check, ToJson, FromJson, Generate}
+use Rattle.cedar_schema_core.specs.declared.json_texts.JsonForm.{JsonForm}
 use Rattle.cedar_schema_core.specs.declared.recover.Recovered.{Recovered}
 use Rattle.cedar_schema_core.specs.Answers.{IsWrittenBy}
 use Rattle.cedar_schema_core.specs.Json.{IsJsonOfText, IsRecoveredJson}
@@ -68,7 +69,7 @@ module _ (text : List ℕ) (table : ExtensionTable) where
     );
   }
 
-  -- `from-json` writes the canonical text
-  pub json_recovered : (r : Recovered) → IsRecoveredJson text table r
-      → IsWrittenBy (FromJson table) text (encode_utf8_all r.text) r.warnings.items
-  json_recovered r h = record { writes = (h.meaning, h.means, h.no_warnings, h.canonical) }
+  -- `from-json` and `from-deprecated` write the canonical text
+  pub json_recovered : (form : JsonForm) (r : Recovered) → IsRecoveredJson form text table r
+      → IsWrittenBy (FromJson form table) text (encode_utf8_all r.text) r.warnings.items
+  json_recovered form r h = record { writes = (h.meaning, h.means, h.no_warnings, h.canonical) }

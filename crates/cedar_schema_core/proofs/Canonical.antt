@@ -2,6 +2,7 @@
 use Rattle.std.proofs.Common.{◌≡◌, ◌↔◌, ℕ, Bool, true, List, length, refl, sym, ap, ◌∙◌, subst}
 use Rattle.std.specs.Str.{encode_utf8_all}
 use Rattle.std.proofs.lemmas.Str.{encodes_same}
+use Rattle.cedar_identifiers.specs.declared.raw_name.RawName.{RawName}
 use Rattle.cedar_names.specs.CanonicalText.{canonical_text, schema_text}
 use Rattle.cedar_names.specs.Meaning.{SchemaMeaning}
 use Rattle.cedar_names.specs.declared.extension_table.ExtensionTable.{ExtensionTable}
@@ -10,6 +11,10 @@ use Rattle.schema_syntax_parser.specs.Syntax.{IsSyntax}
 use Rattle.schema_syntax_parser.specs.declared.syntax.ItemSyntax.{ItemSyntax}
 use Rattle.schema_syntax_tokens.specs.TokenLists.{kinds_of}
 use Rattle.schema_syntax_tokens.specs.declared.token.Token.{Token}
+use Rattle.schema_json.specs.declared.fragment.Fragment.{Fragment}
+use Rattle.schema_json_io.specs.Texts.{TextShape}
+use Rattle.schema_compat.specs.Causes.{OldText}
+use Rattle.schema_convert_types.specs.Declarations.{as_written}
 use Rattle.schema_convert.specs.Shadowings.{shadowings}
 use Rattle.schema_convert.specs.Translated.{translated}
 use Rattle.schema_readback.specs.Written.{WrittenItem}
@@ -18,7 +23,10 @@ use Rattle.schema_build_parts.specs.BuildFaults.{BuildFault}
 use Rattle.schema_build.specs.Meaning.{FragmentMeaning}
 use Rattle.schema_build_text.specs.Captured.{IsUncaptured}
 use Rattle.schema_says.specs.TranslatedAs.{IsTranslatedAs}
+use Rattle.schema_build_closed.specs.Closed.{IsClosed}
 use Rattle.schema_build_closed.specs.HalfFilled.{IsHalfFilled}
+use Rattle.cedar_schema_core.specs.declared.json_texts.JsonForm.{JsonForm}
+use Rattle.cedar_schema_core.specs.declared.json_texts.JsonForm.TheVariants.{Current, Deprecated}
 use Rattle.cedar_schema_core.specs.Json.{JsonMeaning, IsRecoveredJson}
 use Rattle.cedar_schema_core.specs.Meanings.{TextMeaning}
 use Rattle.cedar_schema_core.specs.Recovery.{IsRecovered}
@@ -98,32 +106,50 @@ module _ (one : (text : List ℕ) (table : ExtensionTable) (m n : SchemaMeaning)
 
 module _ (one : (text : List ℕ) (table : ExtensionTable) (m n : SchemaMeaning) → TextMeaning text table m
     → TextMeaning text table n → m ≡ n)
-    (json : (closing : Bool) (text : List ℕ) (table : ExtensionTable) (m : SchemaMeaning) → JsonMeaning text table m
-    → TextMeaning (schema_text closing m) table m ↔ (¬ IsHalfFilled m)) where
+    (json : (closing : Bool) (form : JsonForm) (text : List ℕ) (table : ExtensionTable) (m : SchemaMeaning)
+    → JsonMeaning form text table m → TextMeaning (schema_text closing m) table m ↔ (¬ IsHalfFilled m)) where
   -- the text that is recovered from JSON means what that means, where it is not half filled
-  pub json_means : (text : List ℕ) (table : ExtensionTable) (r : Recovered) (h : IsRecoveredJson text table r)
+  pub json_means : (form : JsonForm) (text : List ℕ) (table : ExtensionTable) (r : Recovered)
+      (h : IsRecoveredJson form text table r)
       → ¬ IsHalfFilled h.meaning → TextMeaning (encode_utf8_all r.text) table h.meaning
-  json_means text table r h whole =
-      subst (λ l. TextMeaning l table h.meaning) (sym h.canonical) ((json true text table h.meaning h.means).1 whole)
+  json_means form text table r h whole =
+      subst (λ l. TextMeaning l table h.meaning) (sym h.canonical)
+      ((json true form text table h.meaning h.means).1 whole)
 
-  pub one_json_text : (text : List ℕ) (table : ExtensionTable) (r s : Recovered) (h : IsRecoveredJson text table r)
+  pub one_json_text : (form : JsonForm) (text : List ℕ) (table : ExtensionTable) (r s : Recovered)
+      (h : IsRecoveredJson form text table r)
       → ¬ IsHalfFilled h.meaning → IsRecovered (encode_utf8_all r.text) table s → s.text ≡ r.text
-  one_json_text text table r s h whole k =
-      text_again one table h.meaning r s h.canonical (json_means text table r h whole) k
+  one_json_text form text table r s h whole k =
+      text_again one table h.meaning r s h.canonical (json_means form text table r h whole) k
 
-  pub one_json_count : (text : List ℕ) (table : ExtensionTable) (r s : Recovered) (h : IsRecoveredJson text table r)
+  pub one_json_count : (form : JsonForm) (text : List ℕ) (table : ExtensionTable) (r s : Recovered)
+      (h : IsRecoveredJson form text table r)
       → ¬ IsHalfFilled h.meaning → IsRecovered (encode_utf8_all r.text) table s
       → (s.entity_types ≡ r.entity_types) × (s.actions ≡ r.actions)
-  one_json_count text table r s h whole k =
-      counts_again one table h.meaning r s h.canonical (json_means text table r h whole) k h.entity_types h.actions
+  one_json_count form text table r s h whole k =
+      counts_again one table h.meaning r s h.canonical (json_means form text table r h whole) k h.entity_types h.actions
 
 -- the canonical text of what a JSON text means, where that is one
-pub json_kept : ((text : List ℕ) (table : ExtensionTable) (m n : SchemaMeaning) → JsonMeaning text table m
-    → JsonMeaning text table n → m ≡ n)
-    → ((closing : Bool) (text : List ℕ) (table : ExtensionTable) (m : SchemaMeaning) → JsonMeaning text table m
-    → TextMeaning (schema_text closing m) table m ↔ (¬ IsHalfFilled m))
-    → (text : List ℕ) (table : ExtensionTable) (m n : SchemaMeaning) (written : List ℕ) → written ≡ canonical_text m
-    → JsonMeaning text table m → JsonMeaning text table n → TextMeaning written table n ↔ (¬ IsHalfFilled n)
-json_kept one json text table m n written is h k =
-    subst (λ t. TextMeaning t table n ↔ (¬ IsHalfFilled n)) (ap canonical_text (one text table n m k h) ∙ sym is)
-    (json true text table n k)
+pub json_kept : ((form : JsonForm) (text : List ℕ) (table : ExtensionTable) (m n : SchemaMeaning)
+    → JsonMeaning form text table m → JsonMeaning form text table n → m ≡ n)
+    → ((closing : Bool) (form : JsonForm) (text : List ℕ) (table : ExtensionTable) (m : SchemaMeaning)
+    → JsonMeaning form text table m → TextMeaning (schema_text closing m) table m ↔ (¬ IsHalfFilled m))
+    → (form : JsonForm) (text : List ℕ) (table : ExtensionTable) (m n : SchemaMeaning) (written : List ℕ)
+    → written ≡ canonical_text m → JsonMeaning form text table m → JsonMeaning form text table n
+    → TextMeaning written table n ↔ (¬ IsHalfFilled n)
+json_kept one json form text table m n written is h k =
+    subst (λ t. TextMeaning t table n ↔ (¬ IsHalfFilled n)) (ap canonical_text (one form text table n m k h) ∙ sym is)
+    (json true form text table n k)
+
+-- what a JSON text means is closed exactly where it is not half filled, in each form
+abbrev pub ClosedFrom : (List ℕ → Fragment RawName as_written → Type 0) → Type 0
+ClosedFrom Says = (text : List ℕ) (table : ExtensionTable) (f : Fragment RawName as_written) (m : SchemaMeaning)
+    → Says text f → FragmentMeaning f table m → Never (BuildFault f table) → IsUncaptured m
+    → IsClosed table m ↔ (¬ IsHalfFilled m)
+
+pub json_closed : ClosedFrom TextShape → ClosedFrom OldText → (form : JsonForm) (text : List ℕ) (table : ExtensionTable)
+    (m : SchemaMeaning) → JsonMeaning form text table m → IsClosed table m ↔ (¬ IsHalfFilled m)
+json_closed current old Current text table m j =
+    current text table j.fragment m j.says j.means j.faultless j.uncaptured
+json_closed current old Deprecated text table m j =
+    old text table j.fragment m j.says j.means j.faultless j.uncaptured

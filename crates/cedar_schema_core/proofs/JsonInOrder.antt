@@ -31,7 +31,7 @@ same_order None (Some b) = refl
 same_order (Some a) None = refl
 same_order (Some a) (Some b) = refl
 
-same_namespaces : namespace_cmp ≡ namespace_order
+pub same_namespaces : namespace_cmp ≡ namespace_order
 same_namespaces = λ i a b. same_order a b i
 
 -- the keys of a map that an object says rise

@@ -6,6 +6,7 @@ use Rattle.cedar_names.specs.declared.extension_table.ExtensionTable.{ExtensionT
 use Rattle.schema_build_closed.specs.HalfFilled.{IsHalfFilled}
 use Rattle.cedar_schema_core.specs.declared.command.Command.{Command}
 use Rattle.cedar_schema_core.specs.declared.command.Command.TheVariants.{Recover, Check, ToJson, FromJson, Generate}
+use Rattle.cedar_schema_core.specs.declared.json_texts.JsonForm.{JsonForm}
 use Rattle.cedar_schema_core.specs.Commands.{Asks}
 use Rattle.cedar_schema_core.specs.Json.{JsonMeaning}
 use Rattle.cedar_schema_core.specs.Meanings.{TextMeaning}
@@ -13,8 +14,9 @@ use Rattle.cedar_schema_core.specs.Run.{Device, Completed, KeepsMeaning}
 
 module _ (same : (closing : Bool) (text : List ℕ) (table : ExtensionTable) (m : SchemaMeaning)
     → TextMeaning text table m → TextMeaning (schema_text closing m) table m)
-    (json : (closing : Bool) (text : List ℕ) (table : ExtensionTable) (m : SchemaMeaning) → JsonMeaning text table m
-    → TextMeaning (schema_text closing m) table m ↔ (¬ IsHalfFilled m)) (source out err : Device) where
+    (json : (closing : Bool) (form : JsonForm) (text : List ℕ) (table : ExtensionTable) (m : SchemaMeaning)
+    → JsonMeaning form text table m → TextMeaning (schema_text closing m) table m ↔ (¬ IsHalfFilled m))
+    (source out err : Device) where
   keeps : (c : Command) → Completed c source out err → KeepsMeaning c source out
   keeps (Recover table) done =
       let m = done.writes.writes.0 in
@@ -32,7 +34,7 @@ module _ (same : (closing : Bool) (text : List ℕ) (table : ExtensionTable) (m 
   keeps (Check table) done = tt
   keeps (ToJson table) done = tt
   keeps (Generate size table) done = tt
-  keeps (FromJson table) done =
+  keeps (FromJson form table) done =
       let m = done.writes.writes.0 in
       let means = done.writes.writes.1 in
       let written = done.writes.writes.3 in
@@ -44,7 +46,7 @@ module _ (same : (closing : Bool) (text : List ℕ) (table : ExtensionTable) (m 
         means = means;
         written = done.written;
         keeps = subst (λ t. TextMeaning t table m ↔ (¬ IsHalfFilled m)) (sym written)
-            (json true done.bytes table m means);
+            (json true form done.bytes table m means);
       }
 
   pub kept : (words : List (List ℕ)) → (c : Command) × Asks words c × Completed c source out err

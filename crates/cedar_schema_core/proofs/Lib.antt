@@ -13,6 +13,7 @@ mod RisingMaps
 mod TranslatedInOrder
 mod JsonInOrder
 mod OneRefusal
+mod OldInOrder
 mod JsonRefusals
 mod OneOutput
 mod Canonical

@@ -20,6 +20,7 @@ use Rattle.cedar_schema_core_faults.specs.declared.recover_error.RecoverError.Th
 use Rattle.cedar_schema_core_faults.specs.declared.recover_error.RecoverError.TheVariants.{Memory}
 use Rattle.cedar_schema_core.specs.Answers.{Writes, Refuses}
 use Rattle.cedar_schema_core.specs.Commands.{count_line, made_line}
+use Rattle.cedar_schema_core.specs.declared.json_texts.JsonForm.{JsonForm}
 use Rattle.cedar_schema_core.specs.Json.{value_of, JsonMeaning, IsValidJson, IsRefusalOfJson}
 use Rattle.cedar_schema_core.specs.Meanings.{TextMeaning, IsValid}
 use Rattle.cedar_schema_core.specs.Recovery.{IsRefusal}
@@ -37,12 +38,13 @@ module _ (one : (text : List ℕ) (table : ExtensionTable) (m n : SchemaMeaning)
     → IsValid text table → ⊥)
     (refusal : (text : List ℕ) (table : ExtensionTable) (e other : RecoverError) → IsUtf8 text → e ≢ Memory
     → other ≢ Memory → IsRefusal text table e → IsRefusal text table other → fault_text text e ≡ fault_text text other)
-    (json_meaning : (text : List ℕ) (table : ExtensionTable) (m n : SchemaMeaning) → JsonMeaning text table m
-    → JsonMeaning text table n → m ≡ n)
-    (json_refusal : (text : List ℕ) (table : ExtensionTable) (e other : RecoverError) → e ≢ Memory → other ≢ Memory
-    → IsRefusalOfJson text table e → IsRefusalOfJson text table other → fault_text text e ≡ fault_text text other)
-    (json_invalid : (text : List ℕ) (table : ExtensionTable) (e : RecoverError) → IsRefusalOfJson text table e
-    → e ≢ Memory → IsValidJson text table → ⊥) where
+    (json_meaning : (form : JsonForm) (text : List ℕ) (table : ExtensionTable) (m n : SchemaMeaning)
+    → JsonMeaning form text table m → JsonMeaning form text table n → m ≡ n)
+    (json_refusal : (form : JsonForm) (text : List ℕ) (table : ExtensionTable) (e other : RecoverError) → e ≢ Memory
+    → other ≢ Memory → IsRefusalOfJson form text table e → IsRefusalOfJson form text table other
+    → fault_text text e ≡ fault_text text other)
+    (json_invalid : (form : JsonForm) (text : List ℕ) (table : ExtensionTable) (e : RecoverError)
+    → IsRefusalOfJson form text table e → e ≢ Memory → IsValidJson form text table → ⊥) where
   pub writes_once : (c : Command) (text out other : List ℕ) (v w : List SchemaWarning) → Writes c text out v
       → Writes c text other w → (out ≡ other) × (v ≡ w)
   writes_once (Recover table) text out other v w (m, h, l, e) (n, k, r, f) =
@@ -52,8 +54,8 @@ module _ (one : (text : List ℕ) (table : ExtensionTable) (m n : SchemaMeaning)
   writes_once (ToJson table) text out other v w (a, h, l, e) (b, k, r, f) =
       let same = (translation text table a b h.0 k.0 h.1 k.1).0 in
       (e ∙ (ap (λ z. compact_text (value_of z) ++ codes "\n") same ∙ sym f), l ∙ sym r)
-  writes_once (FromJson table) text out other v w (m, h, l, e) (n, k, r, f) =
-      (e ∙ (ap canonical_text (json_meaning text table m n h k) ∙ sym f), l ∙ sym r)
+  writes_once (FromJson form table) text out other v w (m, h, l, e) (n, k, r, f) =
+      (e ∙ (ap canonical_text (json_meaning form text table m n h k) ∙ sym f), l ∙ sym r)
   writes_once (Generate size table) text out other v w (m, h, l, e) (n, k, r, f) =
       (e ∙ (ap (made_line text) (one text table m n h k) ∙ sym f), (translation text table l.0 r.0 v w l.1 r.1).1)
 
@@ -63,7 +65,7 @@ module _ (one : (text : List ℕ) (table : ExtensionTable) (m n : SchemaMeaning)
   refuses_once (Check table) text e other u n m h k = refusal text table e other u n m h k
   refuses_once (ToJson table) text e other u n m h k =
       refusal text table e other u n m (unparsed text table e h) (unparsed text table other k)
-  refuses_once (FromJson table) text e other u n m h k = json_refusal text table e other n m h k
+  refuses_once (FromJson form table) text e other u n m h k = json_refusal form text table e other n m h k
   refuses_once (Generate size table) text e other u n m h k = refusal text table e other u n m h k
 
   untranslated : (text : List ℕ) (table : ExtensionTable) (f : Fragment RawName as_written) (w : List SchemaWarning)
@@ -78,5 +80,5 @@ module _ (one : (text : List ℕ) (table : ExtensionTable) (m n : SchemaMeaning)
   refuses_or_writes (Recover table) text out w e n h (m, k, l, f) = invalid text table e h n (m, k)
   refuses_or_writes (Check table) text out w e n h (m, k, l, f) = invalid text table e h n (m, k)
   refuses_or_writes (ToJson table) text out w e n h (a, k, l, f) = untranslated text table a k.0 e k.1 n h
-  refuses_or_writes (FromJson table) text out w e n h (m, k, l, f) = json_invalid text table e h n (m, k)
+  refuses_or_writes (FromJson form table) text out w e n h (m, k, l, f) = json_invalid form text table e h n (m, k)
   refuses_or_writes (Generate size table) text out w e n h (m, k, l, f) = invalid text table e h n (m, k)

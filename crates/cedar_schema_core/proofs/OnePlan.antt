@@ -5,6 +5,7 @@ use Rattle.std.proofs.lemmas.Fmt.{decimal_injective}
 use Rattle.schema_convert_errors.specs.declared.warnings.SchemaWarning.{SchemaWarning}
 use Rattle.cedar_schema_core.specs.declared.command.Command.{Command}
 use Rattle.cedar_schema_core.specs.declared.command.Command.TheVariants.{Recover, Check, ToJson, FromJson, Generate}
+use Rattle.cedar_schema_core.specs.declared.json_texts.JsonForm.TheVariants.{Current, Deprecated}
 use Rattle.cedar_schema_core_faults.specs.declared.recover_error.RecoverError.{RecoverError}
 use Rattle.cedar_schema_core_faults.specs.declared.recover_error.RecoverError.TheVariants.{Memory}
 use Rattle.std.specs.Str.{encode_utf8_all}
@@ -12,10 +13,12 @@ use Rattle.cedar_schema_core_faults.specs.Told.{fault_text}
 use Rattle.cedar_schema_core.specs.declared.status.Status.TheVariants.{Refused}
 use Rattle.cedar_schema_core.specs.Answers.{Writes, Refuses, IsWrittenBy}
 use Rattle.cedar_schema_core.specs.Commands.{IsTableInOrder, Asks, recover, recover_with, check, to_json, from_json}
+use Rattle.cedar_schema_core.specs.Commands.{from_deprecated}
 use Rattle.cedar_schema_core.specs.Commands.{generate, own_text, Reads}
 use Rattle.cedar_schema_core.specs.Plan.{Report, IsAnswer, refused, done, done_report, IsInputPlan, too_long, not_text}
 use Rattle.cedar_schema_core.specs.Plan.{answered, IsPlan, usage, asked, made}
 use Rattle.cedar_schema_core.proofs.Tables.{one_table_of_texts, one_table_of_names}
+use Rattle.cedar_schema_core.proofs.Words.{never_both}
 
 -- words ask for one command
 pub one_command : (words : List (List ℕ)) (c d : Command) → Asks words c → Asks words d → c ≡ d
@@ -40,7 +43,7 @@ one_command words c d (recover_with names t e h) (to_json u f k) = cc
 one_command words c d (from_json t e h) (recover u f k) = cc
 one_command words c d (from_json t e h) (check u f k) = cc
 one_command words c d (from_json t e h) (to_json u f k) = cc
-one_command words c d (from_json t e h) (from_json u f k) = ap FromJson (one_table_of_texts t u (h ∙ sym k))
+one_command words c d (from_json t e h) (from_json u f k) = ap (FromJson Current) (one_table_of_texts t u (h ∙ sym k))
 one_command words c d (from_json t e h) (recover_with names u f k) = cc
 one_command words c d (recover_with names t e h) (from_json u f k) = cc
 one_command words c d (recover_with names t e h) (recover_with others u f k) =
@@ -56,6 +59,20 @@ one_command words c d (check t e h) (generate n u f some small k) = cc
 one_command words c d (to_json t e h) (generate n u f some small k) = cc
 one_command words c d (from_json t e h) (generate n u f some small k) = cc
 one_command words c d (recover_with names t e h) (generate n u f some small k) = cc
+one_command words c d (recover t e h) (from_deprecated u f k) = cc
+one_command words c d (check t e h) (from_deprecated u f k) = cc
+one_command words c d (to_json t e h) (from_deprecated u f k) = cc
+one_command words c d (from_deprecated t e h) (recover u f k) = cc
+one_command words c d (from_deprecated t e h) (check u f k) = cc
+one_command words c d (from_deprecated t e h) (to_json u f k) = cc
+one_command words c d (from_json t e h) (from_deprecated u f k) = cc
+one_command words c d (from_deprecated t e h) (from_json u f k) = cc
+one_command words c d (from_deprecated t e h) (from_deprecated u f k) =
+    ap (FromJson Deprecated) (one_table_of_texts t u (h ∙ sym k))
+one_command words c d (from_deprecated t e h) (recover_with names u f k) = absurd (never_both names (sym f ∙ e))
+one_command words c d (recover_with names t e h) (from_deprecated u f k) = absurd (never_both names (sym e ∙ f))
+one_command words c d (generate n t e some small h) (from_deprecated u f k) = cc
+one_command words c d (from_deprecated t e h) (generate n u f some small k) = cc
 one_command words c d (generate n t e some small h) (generate m u f more fits k) =
     let below : n < 2 ^ 64 = omega (arith, small) in
     let fit : m < 2 ^ 64 = omega (arith, fits) in

@@ -108,7 +108,7 @@ module _ (valid : (size : ℕ) (table : ExtensionTable) → 1 ≤ size → size 
   not_refused (Recover table) text e s own n h = cc
   not_refused (Check table) text e s own n h = cc
   not_refused (ToJson table) text e s own n h = cc
-  not_refused (FromJson table) text e s own n h = cc
+  not_refused (FromJson form table) text e s own n h = cc
   not_refused (Generate size table) text e s own n h =
       let same : generated size ≡ text = cc in
       apart text table e h n (subst (λ t. IsValid t table) same (valid size table s.0 s.1))

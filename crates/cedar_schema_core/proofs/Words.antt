@@ -10,7 +10,7 @@ use Rattle.schema_generate.specs.Generated.{max_size}
 use Rattle.cedar_schema_core.specs.declared.command.Command.{Command}
 use Rattle.cedar_schema_core.specs.declared.command.Command.TheVariants.{Recover, Generate}
 use Rattle.cedar_schema_core.specs.Commands.{IsTableInOrder, IsStandard, IsSized, Asks, recover}
-use Rattle.cedar_schema_core.specs.Commands.{recover_with, check, to_json, from_json, generate}
+use Rattle.cedar_schema_core.specs.Commands.{recover_with, check, to_json, from_json, from_deprecated, generate}
 
 -- the texts of the words are that of the first and those of the others
 pub split_words : (words names : List (String Global)) (word : String Global) (first : List ℕ)
@@ -26,6 +26,11 @@ pub alone : (words names : List (String Global)) (word : String Global) (first :
 alone words [] word first none h is tests t = split_words words [] word first h is
 alone words (n ∷ ns) word first none h is tests t = absurd (grind (arith, nat_tests))
 
+-- the names of these two commands begin otherwise
+pub never_both : (names : List (List ℕ)) → codes "recover-with" ∷ names ≡ codes "from-deprecated" ∷ [] → ⊥
+never_both names e =
+    let first : 114 ≡ 102 = ap (λ (ws : List (List ℕ)). get_or (get_or ws 0 []) 0 0) e in absurd (omega (arith, first))
+
 none_asked : (words names : List (List ℕ)) → words ≡ codes "recover-with" ∷ names
     → ((table : ExtensionTable) → IsTableInOrder names table → ⊥) → (c : Command) → Asks words c → ⊥
 none_asked words names is none c (recover table e s) = cc
@@ -35,6 +40,7 @@ none_asked words names is none c (recover_with others table e o) =
 none_asked words names is none c (check table e s) = cc
 none_asked words names is none c (to_json table e s) = cc
 none_asked words names is none c (from_json table e s) = cc
+none_asked words names is none c (from_deprecated table e s) = never_both names (sym is ∙ e)
 none_asked words names is none c (generate size table e some small s) = cc
 
 -- the names behind `recover-with` make a table, or there is no command
@@ -52,6 +58,7 @@ none_sized words sizes is none c (recover_with others table e o) = cc
 none_sized words sizes is none c (check table e s) = cc
 none_sized words sizes is none c (to_json table e s) = cc
 none_sized words sizes is none c (from_json table e s) = cc
+none_sized words sizes is none c (from_deprecated table e s) = cc
 none_sized words sizes is none c (generate size table e some small s) = none size some small cc
 
 -- the word behind `generate` says a size, or there is no command
@@ -72,6 +79,7 @@ sized words c (recover_with names table e o) = tt
 sized words c (check table e s) = tt
 sized words c (to_json table e s) = tt
 sized words c (from_json table e s) = tt
+sized words c (from_deprecated table e s) = tt
 sized words c (generate size table e some small s) = (some, small)
 
 -- a list of one item is that item

@@ -26,7 +26,7 @@ Writes (Check table) text out warnings = (m : SchemaMeaning) × TextMeaning text
     × (out ≡ count_line m)
 Writes (ToJson table) text out warnings = (f : Fragment RawName as_written) × IsFragmentOf text table f
     × (warnings ≡ []) × (out ≡ compact_text (value_of f) ++ codes "\n")
-Writes (FromJson table) text out warnings = (m : SchemaMeaning) × JsonMeaning text table m × (warnings ≡ [])
+Writes (FromJson form table) text out warnings = (m : SchemaMeaning) × JsonMeaning form text table m × (warnings ≡ [])
     × (out ≡ canonical_text m)
 Writes (Generate size table) text out warnings = (m : SchemaMeaning) × TextMeaning text table m
     × Warns text table warnings × (out ≡ made_line text m)
@@ -36,7 +36,7 @@ abbrev pub Refuses : Command → List ℕ → RecoverError → Type 0
 Refuses (Recover table) text e = IsRefusal text table e
 Refuses (Check table) text e = IsRefusal text table e
 Refuses (ToJson table) text e = IsUnparsed text e
-Refuses (FromJson table) text e = IsRefusalOfJson text table e
+Refuses (FromJson form table) text e = IsRefusalOfJson form text table e
 Refuses (Generate size table) text e = IsRefusal text table e
 
 -- the command writes this of the text, with these warnings

@@ -9,6 +9,7 @@ use Rattle.cedar_names.specs.declared.extension_table.ExtensionTable.{ExtensionT
 use Rattle.schema_generate.specs.Generated.{max_size, generated}
 use Rattle.cedar_schema_core.specs.declared.command.Command.{Command}
 use Rattle.cedar_schema_core.specs.declared.command.Command.TheVariants.{Recover, Check, ToJson, FromJson, Generate}
+use Rattle.cedar_schema_core.specs.declared.json_texts.JsonForm.TheVariants.{Current, Deprecated}
 
 -- the table of all extensions that Cedar has
 abbrev pub IsStandard : ExtensionTable → Type 0
@@ -20,14 +21,17 @@ pub record IsTableInOrder (names : List (List ℕ)) (table : ExtensionTable) : T
   pub rise : IsStrictlySortedBy (λ a b. text_cmp a.id.text b.id.text) table.names
 
 -- the words ask for the command: `recover-with` and the names of a lawful table, `generate` and a size in decimal, or
--- the one word of another command
+-- the one word of another command, which tells the form of JSON that is read
 pub data Asks (words : List (List ℕ)) : Command → Type 0 where
   recover : (table : ExtensionTable) → words ≡ codes "recover" ∷ [] → IsStandard table → Asks words (Recover table)
   recover_with : (names : List (List ℕ)) (table : ExtensionTable) → words ≡ codes "recover-with" ∷ names
       → IsTableInOrder names table → Asks words (Recover table)
   check : (table : ExtensionTable) → words ≡ codes "check" ∷ [] → IsStandard table → Asks words (Check table)
   to_json : (table : ExtensionTable) → words ≡ codes "to-json" ∷ [] → IsStandard table → Asks words (ToJson table)
-  from_json : (table : ExtensionTable) → words ≡ codes "from-json" ∷ [] → IsStandard table → Asks words (FromJson table)
+  from_json : (table : ExtensionTable) → words ≡ codes "from-json" ∷ [] → IsStandard table
+      → Asks words (FromJson Current table)
+  from_deprecated : (table : ExtensionTable) → words ≡ codes "from-deprecated" ∷ [] → IsStandard table
+      → Asks words (FromJson Deprecated table)
   generate : (size : ℕ) (table : ExtensionTable) → words ≡ codes "generate" ∷ decimal size ∷ [] → 1 ≤ size
       → size ≤ max_size → IsStandard table → Asks words (Generate size table)
 
@@ -36,7 +40,7 @@ abbrev pub own_text : Command → Option (List ℕ)
 own_text (Recover table) = None
 own_text (Check table) = None
 own_text (ToJson table) = None
-own_text (FromJson table) = None
+own_text (FromJson form table) = None
 own_text (Generate size table) = Some (generated size)
 
 -- the size of the text that a command makes is one that texts are made with
@@ -44,7 +48,7 @@ abbrev pub IsSized : Command → Type 0
 IsSized (Recover table) = Unit {0}
 IsSized (Check table) = Unit {0}
 IsSized (ToJson table) = Unit {0}
-IsSized (FromJson table) = Unit {0}
+IsSized (FromJson form table) = Unit {0}
 IsSized (Generate size table) = (1 ≤ size) × (size ≤ max_size)
 
 -- the command works on its input

@@ -11,6 +11,7 @@ use Rattle.schema_convert_errors.specs.declared.warnings.SchemaWarning.{SchemaWa
 use Rattle.cedar_names.specs.declared.extension_table.ExtensionTable.{ExtensionTable}
 use Rattle.cedar_schema_core.specs.declared.command.Command.{Command}
 use Rattle.cedar_schema_core.specs.declared.command.Command.TheVariants.{Recover, Check, ToJson, FromJson, Generate}
+use Rattle.cedar_schema_core.specs.declared.json_texts.JsonForm.{JsonForm}
 use Rattle.schema_build_closed.specs.HalfFilled.{IsHalfFilled}
 use Rattle.cedar_schema_core.specs.Json.{JsonMeaning}
 use Rattle.cedar_schema_core.specs.Meanings.{TextMeaning}
@@ -100,12 +101,12 @@ pub record Recovers (table : ExtensionTable) (source out : Device) : Type 0 wher
 
 -- The whole input was read and means something, and what was written of it is a text that means the same exactly where
 -- that is not half filled.
-pub record RecoversJson (table : ExtensionTable) (source out : Device) : Type 0 where
+pub record RecoversJson (form : JsonForm) (table : ExtensionTable) (source out : Device) : Type 0 where
   pub bytes : List ℕ
   pub meaning : SchemaMeaning
   pub text : List ℕ
   pub read : HadLeft source.before bytes
-  pub means : JsonMeaning bytes table meaning
+  pub means : JsonMeaning form bytes table meaning
   pub written : Appends out.before text out.after
   pub keeps : TextMeaning text table meaning ↔ (¬ IsHalfFilled meaning)
 
@@ -114,7 +115,7 @@ abbrev pub KeepsMeaning : Command → Device → Device → Type 0
 KeepsMeaning (Recover table) source out = Recovers table source out
 KeepsMeaning (Check table) source out = Unit {0}
 KeepsMeaning (ToJson table) source out = Unit {0}
-KeepsMeaning (FromJson table) source out = RecoversJson table source out
+KeepsMeaning (FromJson form table) source out = RecoversJson form table source out
 KeepsMeaning (Generate size table) source out = Unit {0}
 
 -- no count of faults rose

@@ -11,6 +11,7 @@ use Rattle.cedar_schema_core_faults.specs.declared.recover_error.RecoverError.{R
 use Rattle.cedar_schema_core_faults.specs.declared.recover_error.RecoverError.TheVariants.{Parse, Schema, Captured}
 use Rattle.cedar_schema_core_faults.specs.declared.recover_error.RecoverError.TheVariants.{Memory}
 use Rattle.schema_build.specs.Texts.{IsParseRefusal}
+use Rattle.cedar_schema_core.specs.declared.json_texts.JsonForm.{JsonForm}
 use Rattle.cedar_schema_core.specs.Json.{IsReadError}
 
 -- the text is translated to nothing
@@ -21,11 +22,11 @@ IsUnparsed text (Captured c) = ⊥
 IsUnparsed text Memory = Unit {0}
 
 -- the JSON text is read as nothing
-abbrev pub IsUnread : List ℕ → RecoverError → Type 0
-IsUnread text (Parse e) = ⊥
-IsUnread text (Schema e) = IsReadError text e
-IsUnread text (Captured c) = ⊥
-IsUnread text Memory = Unit {0}
+abbrev pub IsUnread : JsonForm → List ℕ → RecoverError → Type 0
+IsUnread form text (Parse e) = ⊥
+IsUnread form text (Schema e) = IsReadError form text e
+IsUnread form text (Captured c) = ⊥
+IsUnread form text Memory = Unit {0}
 
 -- no schema is built of the fragment
 abbrev pub IsUnbuilt : {G : named.Ghosts RawName} → Fragment RawName G → ExtensionTable → RecoverError → Type 0

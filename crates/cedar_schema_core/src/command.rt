@@ -6,6 +6,7 @@ ghost use Rattle.cedar_data.specs.Text.{text_cmp};
 ghost use Rattle.schema_generate.specs.Generated.{max_size};
 ghost use Rattle.cedar_schema_core.specs.Commands.{Asks, IsTableInOrder, IsStandard};
 
+use crate::json_texts::JsonForm;
 use cedar_names::{ExtensionTable, TableError};
 use itoa::Buffer;
 use schema_generate::MAX_SIZE;
@@ -20,8 +21,8 @@ pub enum Command {
     Check(ExtensionTable),
     /// Writes the JSON of the input's fragment.
     ToJson(ExtensionTable),
-    /// Writes the canonical text of the meaning of an input that is JSON.
-    FromJson(ExtensionTable),
+    /// Writes the canonical text of the meaning of an input that is JSON in this form.
+    FromJson(JsonForm, ExtensionTable),
     /// Writes how much the text of this size holds, which the program makes.
     Generate(u32, ExtensionTable),
 }
@@ -55,7 +56,15 @@ impl Command {
             }
             "from-json" => {
                 if names.is_empty() {
-                    return Ok(Some(Command::FromJson(ExtensionTable::all_available(alloc)?)));
+                    let table = ExtensionTable::all_available(alloc)?;
+                    return Ok(Some(Command::FromJson(JsonForm::Current, table)));
+                }
+                Ok(None)
+            }
+            "from-deprecated" => {
+                if names.is_empty() {
+                    let table = ExtensionTable::all_available(alloc)?;
+                    return Ok(Some(Command::FromJson(JsonForm::Deprecated, table)));
                 }
                 Ok(None)
             }

@@ -1,11 +1,10 @@
 //! Schemas in JSON: written of a schema text, and recovered from.
-ghost use Rattle.std.specs.Prelude.{◌≡◌, ◌≢◌, ◌↔◌, true, IfOk, IfErr};
+ghost use Rattle.std.specs.Prelude.{◌≡◌, ◌≢◌, ◌↔◌, true, IfOk, IfErr, MatchResult};
 ghost use Rattle.std.specs.Str.{encode_utf8_all};
 ghost use Rattle.serde_json.specs.Written.{compact_text};
 ghost use Rattle.cedar_names.specs.Meaning.{SchemaMeaning};
-ghost use Rattle.schema_json_io.specs.Texts.{TextShape};
 ghost use Rattle.schema_build_closed.specs.HalfFilled.{IsHalfFilled};
-ghost use Rattle.cedar_schema_core.specs.Json.{value_of, IsJsonOfText, JsonMeaning, IsValidJson, IsRecoveredJson, IsRefusalOfJson};
+ghost use Rattle.cedar_schema_core.specs.Json.{value_of, SaysIn, IsJsonOfText, JsonMeaning, IsErrorIn, IsValidJson, IsRecoveredJson, IsRefusalOfJson};
 ghost use Rattle.cedar_schema_core.specs.Meanings.{TextMeaning};
 ghost use Rattle.cedar_schema_core.specs.Steps.{IsUnparsed, IsUnread};
 
@@ -16,7 +15,9 @@ use cedar_identifiers::RawName;
 use cedar_names::ExtensionTable;
 use cedar_schema_core_faults::RecoverError;
 use schema_build::SchemaError;
+use schema_compat::from_deprecated_json_str;
 use schema_json::Fragment;
+use schema_json_errors::JsonDeserializationError;
 use schema_json_io::{JsonFault, WriteJson, from_json_str};
 use schema_json_laws::values_have_no_float;
 use std::alloc::{AllocError, Global};
@@ -26,6 +27,8 @@ use std::alloc::{AllocError, Global};
 pub enum JsonForm {
     /// The form of today, in which each part has its place and nothing else stands.
     Current,
+    /// The form before: types may have further fields, and one that does not read refers to a common type.
+    Deprecated,
 }
 
 // The compact JSON of a fragment.
@@ -57,12 +60,26 @@ fn is_memory(fault: &JsonFault) -> bool
     matches!(fault, JsonFault::Memory)
 }
 
-// The fragment that a JSON text says in the form of today.
-fn read_current(alloc: Global, text: &str) -> Result<Fragment<RawName>, RecoverError>
-    ensures said { IfOk result (TextShape text.now) }
-    ensures refused { IfErr result (IsUnread text.now) }
+// The fragment that a JSON text says in its form.
+fn said(
+    alloc: Global,
+    text: &str,
+    form: JsonForm,
+) -> Result<Fragment<RawName>, JsonDeserializationError>
+    ensures { MatchResult result (SaysIn form text.now) (IsErrorIn form text.now) }
 {
-    match from_json_str(alloc, text) {
+    match form {
+        JsonForm::Current => from_json_str(alloc, text),
+        JsonForm::Deprecated => from_deprecated_json_str(alloc, text),
+    }
+}
+
+// The same, or the refusal.
+fn read(alloc: Global, text: &str, form: JsonForm) -> Result<Fragment<RawName>, RecoverError>
+    ensures said { IfOk result (SaysIn form text.now) }
+    ensures refused { IfErr result (IsUnread form text.now) }
+{
+    match said(alloc, text, form) {
         Ok(fragment) => Ok(fragment),
         Err(error) => {
             if is_memory(&error.fault) {
@@ -70,16 +87,6 @@ fn read_current(alloc: Global, text: &str) -> Result<Fragment<RawName>, RecoverE
             }
             Err(RecoverError::Schema(SchemaError::JsonDeserialization(error)))
         }
-    }
-}
-
-// The fragment that a JSON text says in its form.
-fn read(alloc: Global, text: &str, form: JsonForm) -> Result<Fragment<RawName>, RecoverError>
-    ensures said { IfOk result (TextShape text.now) }
-    ensures refused { IfErr result (IsUnread text.now) }
-{
-    match form {
-        JsonForm::Current => read_current(alloc, text),
     }
 }
 
@@ -91,10 +98,10 @@ pub fn recover_json(
     table: &ExtensionTable,
     form: JsonForm,
 ) -> Result<Recovered, RecoverError>
-    ensures recovered { IfOk result (IsRecoveredJson text.now table.now) }
-    ensures keeps { IfOk result (λ recovered. (m : SchemaMeaning) → JsonMeaning text.now table.now m → TextMeaning (encode_utf8_all recovered.text) table.now m ↔ (¬ IsHalfFilled m)) }
-    ensures refused { IfErr result (IsRefusalOfJson text.now table.now) }
-    ensures invalid { IfErr result (λ fault. fault ≢ RecoverError.Memory → IsValidJson text.now table.now → ⊥) }
+    ensures recovered { IfOk result (IsRecoveredJson form text.now table.now) }
+    ensures keeps { IfOk result (λ recovered. (m : SchemaMeaning) → JsonMeaning form text.now table.now m → TextMeaning (encode_utf8_all recovered.text) table.now m ↔ (¬ IsHalfFilled m)) }
+    ensures refused { IfErr result (IsRefusalOfJson form text.now table.now) }
+    ensures invalid { IfErr result (λ fault. fault ≢ RecoverError.Memory → IsValidJson form text.now table.now → ⊥) }
 {
     one_json_reading();
     texts_of_json_mean_the_same();

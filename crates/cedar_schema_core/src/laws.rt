@@ -22,9 +22,12 @@ ghost use Rattle.cedar_schema_core.specs.declared.recover.Recovered.{Recovered};
 ghost use Rattle.cedar_schema_core.specs.Plan.{Report, IsPlan};
 ghost use Rattle.cedar_schema_core_faults.specs.Told.{fault_text};
 
+use crate::json_texts::JsonForm;
 use cedar_schema_core_faults::RecoverError;
 use schema_build::{one_build_fault, one_fragment_meaning};
-use schema_build_closed::laws::{meanings_of_json_are_closed, meanings_of_texts_are_closed};
+use schema_build_closed::laws::{
+    meanings_of_json_are_closed, meanings_of_old_json_are_closed, meanings_of_texts_are_closed,
+};
 use schema_build_says::laws::what_says_a_closed_meaning_means_it;
 use schema_generate_valid::laws::{
     generated_texts_are_translated, what_is_generated_means_something,
@@ -81,16 +84,16 @@ pub fn one_refusal()
     one_build_fault();
 }
 
-/// A JSON text has at most one meaning under a table, what is told of its refusals is one, and a text that is refused
-/// means nothing.
+/// A JSON text in either form has at most one meaning under a table, what is told of its refusals is one, and a text that
+/// is refused means nothing.
 pub fn one_json_reading()
-    ensures meaning { (text : List ℕ) (table : ExtensionTable) (m n : SchemaMeaning) → JsonMeaning text table m
-        → JsonMeaning text table n → m ≡ n }
-    ensures refusal { (text : List ℕ) (table : ExtensionTable) (e other : RecoverError) → e ≢ RecoverError.Memory
-        → other ≢ RecoverError.Memory → IsRefusalOfJson text table e → IsRefusalOfJson text table other
-        → fault_text text e ≡ fault_text text other }
-    ensures invalid { (text : List ℕ) (table : ExtensionTable) (e : RecoverError) → IsRefusalOfJson text table e
-        → e ≢ RecoverError.Memory → IsValidJson text table → ⊥ }
+    ensures meaning { (form : JsonForm) (text : List ℕ) (table : ExtensionTable) (m n : SchemaMeaning)
+        → JsonMeaning form text table m → JsonMeaning form text table n → m ≡ n }
+    ensures refusal { (form : JsonForm) (text : List ℕ) (table : ExtensionTable) (e other : RecoverError)
+        → e ≢ RecoverError.Memory → other ≢ RecoverError.Memory → IsRefusalOfJson form text table e
+        → IsRefusalOfJson form text table other → fault_text text e ≡ fault_text text other }
+    ensures invalid { (form : JsonForm) (text : List ℕ) (table : ExtensionTable) (e : RecoverError)
+        → IsRefusalOfJson form text table e → e ≢ RecoverError.Memory → IsValidJson form text table → ⊥ }
 {
     one_fragment_meaning();
     one_build_fault();
@@ -127,12 +130,13 @@ pub fn canonical_texts_mean_the_same()
     texts_of_closed_meanings_mean_them();
 }
 
-/// The text of what a JSON text means, in either layout, means the same exactly where that is not half filled.
+/// The text of what a JSON text means in its form, in either layout, means the same exactly where that is not half filled.
 pub fn texts_of_json_mean_the_same()
-    ensures { (closing : Bool) (text : List ℕ) (table : ExtensionTable) (m : SchemaMeaning) → JsonMeaning text table m
-        → TextMeaning (schema_text closing m) table m ↔ (¬ IsHalfFilled m) }
+    ensures { (closing : Bool) (form : JsonForm) (text : List ℕ) (table : ExtensionTable) (m : SchemaMeaning)
+        → JsonMeaning form text table m → TextMeaning (schema_text closing m) table m ↔ (¬ IsHalfFilled m) }
 {
     meanings_of_json_are_closed();
+    meanings_of_old_json_are_closed();
     meanings_of_texts_are_closed();
     texts_of_closed_meanings_mean_them();
 }
@@ -166,17 +170,17 @@ pub fn recovered_texts_recover_themselves()
 /// What is recovered of a text that was recovered from JSON is that text, with as many entity types and actions, where
 /// the meaning is not half filled; and it has that meaning.
 pub fn recovered_json_recovers_itself()
-    ensures text { (text : List ℕ) (table : ExtensionTable) (first second : Recovered)
-        (is : IsRecoveredJson text table first) → ¬ IsHalfFilled is.meaning
+    ensures text { (form : JsonForm) (text : List ℕ) (table : ExtensionTable)
+        (first second : Recovered) (is : IsRecoveredJson form text table first) → ¬ IsHalfFilled is.meaning
         → IsRecovered (encode_utf8_all first.text) table second → second.text ≡ first.text }
-    ensures entity_types { (text : List ℕ) (table : ExtensionTable) (first second : Recovered)
-        (is : IsRecoveredJson text table first) → ¬ IsHalfFilled is.meaning
+    ensures entity_types { (form : JsonForm) (text : List ℕ) (table : ExtensionTable)
+        (first second : Recovered) (is : IsRecoveredJson form text table first) → ¬ IsHalfFilled is.meaning
         → IsRecovered (encode_utf8_all first.text) table second → second.entity_types ≡ first.entity_types }
-    ensures actions { (text : List ℕ) (table : ExtensionTable) (first second : Recovered)
-        (is : IsRecoveredJson text table first) → ¬ IsHalfFilled is.meaning
+    ensures actions { (form : JsonForm) (text : List ℕ) (table : ExtensionTable)
+        (first second : Recovered) (is : IsRecoveredJson form text table first) → ¬ IsHalfFilled is.meaning
         → IsRecovered (encode_utf8_all first.text) table second → second.actions ≡ first.actions }
-    ensures means { (text : List ℕ) (table : ExtensionTable) (first : Recovered)
-        (is : IsRecoveredJson text table first) → ¬ IsHalfFilled is.meaning
+    ensures means { (form : JsonForm) (text : List ℕ) (table : ExtensionTable) (first : Recovered)
+        (is : IsRecoveredJson form text table first) → ¬ IsHalfFilled is.meaning
         → TextMeaning (encode_utf8_all first.text) table is.meaning }
 {
     texts_of_json_mean_the_same();

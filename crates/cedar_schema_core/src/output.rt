@@ -94,10 +94,15 @@ fn json_line(alloc: Global, text: &str, table: &ExtensionTable) -> Result<Output
 
 // The canonical text of the JSON text's meaning.
 #[tactic(auto, using(crate::proofs::Answered::json_recovered))]
-fn json_recovery(alloc: Global, text: &str, table: &ExtensionTable) -> Result<Output, RecoverError>
-    ensures { MatchResult result (λ o. IsWrittenBy (Command.FromJson table.now) text.now (encode_utf8_all o.text) o.warnings.items) (IsRefusedBy (Command.FromJson table.now) text.now) }
+fn json_recovery(
+    alloc: Global,
+    text: &str,
+    form: JsonForm,
+    table: &ExtensionTable,
+) -> Result<Output, RecoverError>
+    ensures { MatchResult result (λ o. IsWrittenBy (Command.FromJson form table.now) text.now (encode_utf8_all o.text) o.warnings.items) (IsRefusedBy (Command.FromJson form table.now) text.now) }
 {
-    let recovered = recover_json(alloc, text, table, JsonForm::Current)?;
+    let recovered = recover_json(alloc, text, table, form)?;
     Ok(Output {
         text: recovered.text,
         warnings: recovered.warnings,
@@ -138,7 +143,7 @@ pub(crate) fn output_of(
         Command::Recover(table) => recovery(alloc, text, table),
         Command::Check(table) => counts(alloc, text, table),
         Command::ToJson(table) => json_line(alloc, text, table),
-        Command::FromJson(table) => json_recovery(alloc, text, table),
+        Command::FromJson(form, table) => json_recovery(alloc, text, *form, table),
         Command::Generate(size, table) => made_counts(alloc, text, *size, table),
     }
 }
@@ -150,8 +155,7 @@ pub(crate) fn own_text_of(alloc: Global, command: &Command) -> Result<Option<Tex
 {
     match command {
         Command::Generate(size, _) => Ok(Some(generate_text(alloc, *size)?)),
-        Command::Recover(_) | Command::Check(_) | Command::ToJson(_) | Command::FromJson(_) => {
-            Ok(None)
-        }
+        Command::Recover(_) | Command::Check(_) | Command::ToJson(_) | Command::FromJson(_, _) =>
+            Ok(None),
     }
 }

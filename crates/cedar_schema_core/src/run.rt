@@ -154,8 +154,8 @@ pub fn run_tool<S: Source, O: Sink, E: Sink>(
     // its meaning was written, and nothing else.
     ensures completed { result ≡ Status.Done → (c : Command) × Asks (map string_bytes words.now) c × Completed c (device S.left S.faults source.old source.new) (device O.taken O.faults out.old out.new) (device E.taken E.faults err.old err.new) }
 
-    // Done by a recovery: the text that was written is valid under the same table, and means what the input means; of JSON exactly
-    // where that is not half filled.
+    // Done by a recovery: the text that was written is valid under the same table, and means what the input means; of JSON, in the
+    // form that the command names, exactly where that is not half filled.
     ensures recovers { result ≡ Status.Done → (c : Command) × Asks (map string_bytes words.now) c × KeepsMeaning c (device S.left S.faults source.old source.new) (device O.taken O.faults out.old out.new) }
 
     // With no fault counted, the status is the one planned for the words and the input, or memory was wanted.

@@ -14,7 +14,7 @@ ghost use Rattle.cedar_schema_core.specs.Plan.{Report, IsPlan};
 ghost use Rattle.cedar_schema_core_faults.specs.Told.{fault_text};
 
 use cedar_schema_core::{
-    RecoverError, canonical_texts_mean_the_same, canonical_texts_tell_meanings_apart,
+    JsonForm, RecoverError, canonical_texts_mean_the_same, canonical_texts_tell_meanings_apart,
     generated_texts_are_valid, one_plan, one_refusal, one_text_meaning,
     recovered_texts_recover_themselves, refused_or_valid, texts_of_json_mean_the_same,
 };
@@ -36,11 +36,11 @@ pub fn what_is_recovered_means_the_same()
     canonical_texts_mean_the_same();
 }
 
-/// What is recovered from JSON means the same: the text of what a JSON text means is valid under the same table, and means the same,
-/// exactly where no action has principals alone, resources alone or a context alone.
+/// What is recovered from JSON means the same: the text of what a JSON text means in its form, the one of today or the deprecated one,
+/// is valid under the same table, and means the same, exactly where no action has principals alone, resources alone or a context alone.
 pub fn what_is_recovered_from_json_means_the_same()
-    ensures { (closing : Bool) (text : List ℕ) (table : ExtensionTable) (m : SchemaMeaning) → JsonMeaning text table m
-        → TextMeaning (schema_text closing m) table m ↔ (¬ IsHalfFilled m) }
+    ensures { (closing : Bool) (form : JsonForm) (text : List ℕ) (table : ExtensionTable) (m : SchemaMeaning)
+        → JsonMeaning form text table m → TextMeaning (schema_text closing m) table m ↔ (¬ IsHalfFilled m) }
 {
     texts_of_json_mean_the_same();
 }

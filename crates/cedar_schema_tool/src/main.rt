@@ -18,6 +18,7 @@ Reads a Cedar schema from standard input.
   check                 writes how many entity types and actions it has
   to-json               writes it as JSON
   from-json             reads it as JSON, and writes its canonical text
+  from-deprecated       the same of the deprecated form of JSON
   generate SIZE         reads nothing, makes a schema of 1 to 4096 entity types and as many actions,
                         and writes how much it holds
   --help, --version     this text, and the version

@@ -10,3 +10,4 @@ mod OneFault
 mod DeclaredOnce
 mod Least
 mod Misnamed
+mod OldJson

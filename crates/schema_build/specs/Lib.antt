@@ -1,6 +1,7 @@
 pub mod Assembly
 pub mod FaultsTold
 pub mod Meaning
+pub mod OldJson
 pub mod Parts
 pub mod Schemas
 pub mod TextErrorTexts

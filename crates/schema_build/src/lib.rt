@@ -2,6 +2,7 @@
 #![tactic(auto)]
 
 mod assembly;
+pub mod from_old_json;
 pub mod from_text;
 pub mod laws;
 mod parts;

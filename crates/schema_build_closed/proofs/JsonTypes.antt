@@ -9,6 +9,7 @@ use Rattle.serde_json.specs.Data.{Data, object, Members}
 use Rattle.cedar_data.specs.Maps.{map_of}
 use Rattle.cedar_data.specs.Text.{text_cmp}
 use Rattle.cedar_identifiers.specs.declared.raw_name.RawName.{RawName}
+use Rattle.cedar_identifiers.specs.declared.unreserved_id.UnreservedId.{UnreservedId}
 use Rattle.cedar_identifiers.specs.declared.reference_type.ReferenceType.TheVariants.{Entity, CommonOrEntity}
 use Rattle.schema_json.specs.Shapes.{attributes_of, is_open}
 use Rattle.schema_json.specs.declared.types.Type.{«Type»}
@@ -38,23 +39,38 @@ use Rattle.schema_build_closed.proofs.Views.{shape_viewed, reference_viewed, set
 abbrev Attribute : Type 0
 Attribute = TypeOfAttribute RawName
 
-string_rise : Rises RawName (plain variant.String)
+pub string_rise : Rises RawName (plain variant.String)
 string_rise = by_layer_of _ string_layer (shape_viewed variant.String TypeVariant-F.String None
     (ap (out-TypeVariant RawName) (sym variant.rolls-String) ∙ out-roll-TypeVariant RawName TypeVariant-F.String))
     string_rises
 
-long_rise : Rises RawName (plain variant.Long)
+pub long_rise : Rises RawName (plain variant.Long)
 long_rise = by_layer_of _ long_layer (shape_viewed variant.Long TypeVariant-F.Long None
     (ap (out-TypeVariant RawName) (sym variant.rolls-Long) ∙ out-roll-TypeVariant RawName TypeVariant-F.Long))
     long_rises
 
-boolean_rise : Rises RawName (plain variant.Boolean)
+pub boolean_rise : Rises RawName (plain variant.Boolean)
 boolean_rise = by_layer_of _ boolean_layer (shape_viewed variant.Boolean TypeVariant-F.Boolean None
     (ap (out-TypeVariant RawName) (sym variant.rolls-Boolean) ∙ out-roll-TypeVariant RawName TypeVariant-F.Boolean))
     boolean_rises
 
+pub set_rise : (t : «Type» RawName) → Rises RawName t → Rises RawName (plain (variant.Set t))
+set_rise t h = by_layer_of _ _ (set_viewed _ t None refl) (set_rises t h)
+
+pub entity_rise : (n : RawName) → Rises RawName (plain (variant.Entity n))
+entity_rise n =
+    by_layer_of _ (reference_layer Entity n) (shape_viewed (variant.Entity n) (TypeVariant-F.Entity n) None
+    (ap (out-TypeVariant RawName) (sym (variant.rolls-Entity n))
+    ∙ out-roll-TypeVariant RawName (TypeVariant-F.Entity n))) (reference_rises Entity n)
+
+pub extension_rise : (id : UnreservedId) → Rises RawName (plain (variant.Extension id))
+extension_rise id =
+    by_layer_of _ (extension_layer id.id.text) (shape_viewed (variant.Extension id) (TypeVariant-F.Extension id) None
+    (ap (out-TypeVariant RawName) (sym (variant.rolls-Extension id))
+    ∙ out-roll-TypeVariant RawName (TypeVariant-F.Extension id))) (extension_rises id.id.text)
+
 -- a record whose attributes rise
-record_rise : (es : List (List ℕ × Attribute)) (more : Bool) → IsStrictlySortedBy text_cmp (keys_of es)
+pub record_rise : (es : List (List ℕ × Attribute)) (more : Bool) → IsStrictlySortedBy text_cmp (keys_of es)
     → ((e : List ℕ × Attribute) → Contains es e → Rises RawName (out-TypeOfAttribute RawName e.1).ty)
     → Rises RawName (record_of es more)
 record_rise es more up each =
@@ -81,19 +97,12 @@ mutual
   type_rises d t (string_type ms w) = string_rise
   type_rises d t (long_type ms w) = long_rise
   type_rises d t (boolean_type ms w) = boolean_rise
-  type_rises d t (set_type ms e x w at says) =
-      by_layer_of _ _ (set_viewed _ x None refl) (set_rises x (type_rises e x says))
+  type_rises d t (set_type ms e x w at says) = set_rise x (type_rises e x says)
   type_rises d t (record_type ms inner es w at says) = made_rises es (attributes_rise inner es says) _
-  type_rises d t (entity_type ms s n w at is) =
-      by_layer_of _ (reference_layer Entity n) (shape_viewed (variant.Entity n) (TypeVariant-F.Entity n) None
-      (ap (out-TypeVariant RawName) (sym (variant.rolls-Entity n))
-      ∙ out-roll-TypeVariant RawName (TypeVariant-F.Entity n))) (reference_rises Entity n)
+  type_rises d t (entity_type ms s n w at is) = entity_rise n
   type_rises d t (either_type ms s n w at is) =
       by_layer_of _ _ (reference_viewed _ n None refl) (reference_rises CommonOrEntity n)
-  type_rises d t (extension_type ms s id w at is) =
-      by_layer_of _ (extension_layer id.id.text) (shape_viewed (variant.Extension id) (TypeVariant-F.Extension id) None
-      (ap (out-TypeVariant RawName) (sym (variant.rolls-Extension id))
-      ∙ out-roll-TypeVariant RawName (TypeVariant-F.Extension id))) (extension_rises id.id.text)
+  type_rises d t (extension_type ms s id w at is) = extension_rise id
   type_rises d t (reference ms s n at is_word is) = common_rises t n None refl
 
   attributes_rise : (ms : Members) (es : List (List ℕ × Attribute)) → AreAttributes ms es

@@ -23,6 +23,7 @@ mod SaidTypes
 mod JsonTypes
 mod JsonMaps
 mod JsonFragments
+mod OldFragments
 mod SaidDecls
 pub mod SaidFragments
 pub mod Scanned

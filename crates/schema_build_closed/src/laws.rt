@@ -5,6 +5,7 @@ ghost use Rattle.cedar_names.specs.Meaning.{SchemaMeaning};
 ghost use Rattle.cedar_names.specs.declared.extension_table.ExtensionTable.{ExtensionTable};
 ghost use Rattle.schema_json.specs.declared.fragment.Fragment.{Fragment};
 ghost use Rattle.schema_json_io.specs.Texts.{TextShape};
+ghost use Rattle.schema_compat.specs.Causes.{OldText};
 ghost use Rattle.schema_convert_types.specs.Declarations.{as_written};
 ghost use Rattle.schema_convert_errors.specs.declared.warnings.SchemaWarning.{SchemaWarning};
 ghost use Rattle.schema_convert.specs.Translated.{IsTranslationOfText};
@@ -78,5 +79,21 @@ pub fn meanings_of_json_are_closed()
         → IsClosed table m ↔ (¬ IsHalfFilled m) }
 {
     fragments_of_json_are_formed();
+    formed_meanings_are_closed();
+}
+
+/// The fragment that a JSON text says in the deprecated form is formed.
+pub fn fragments_of_old_json_are_formed()
+    ensures { (text : List ℕ) (f : Fragment RawName as_written) → OldText text f → IsFormed f }
+{}
+
+/// What the fragment of a JSON text in the deprecated form means is closed exactly where it is not half filled, where the
+/// fragment has no build fault and nothing in its meaning is captured.
+pub fn meanings_of_old_json_are_closed()
+    ensures { (text : List ℕ) (table : ExtensionTable) (f : Fragment RawName as_written) (m : SchemaMeaning)
+        → OldText text f → FragmentMeaning f table m → Never (BuildFault f table) → IsUncaptured m
+        → IsClosed table m ↔ (¬ IsHalfFilled m) }
+{
+    fragments_of_old_json_are_formed();
     formed_meanings_are_closed();
 }

@@ -1,2 +1,4 @@
 pub mod OneOldShape
 pub mod OneOldFragment
+pub mod OneConversion
+pub mod OneOldReading

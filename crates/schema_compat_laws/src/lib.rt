@@ -1,6 +1,8 @@
-//! Laws of the deprecated JSON form: what a value says is one, and so is the fault of reading it.
+//! Laws of the deprecated JSON form: what a value or a text says is one, and so is the fault for which it is refused.
 #![tactic(auto)]
 
 pub mod laws;
+pub mod text_laws;
 
 pub use laws::one_reading_or_fault;
+pub use text_laws::one_old_fragment_or_error;

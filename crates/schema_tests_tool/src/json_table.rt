@@ -1,4 +1,4 @@
-// Runs of the commands that write and read JSON. The first were chosen by hand, the others made at random from valid
+// Runs of the commands that write and read JSON, in the form of today and in the deprecated one. The first were chosen by hand, the others made at random from valid
 // texts; how they are answered was told by a second program, which was written from the definitions in Python. ␤ stands
 // for a line feed; a line that ends with a backslash goes on in the next.
 
@@ -300,5 +300,36 @@ from-json|1||error: failed to resolve type: T␤|{\"N::M\":{\"actions\":{},\"com
 from-json|1||error: failed to resolve type: x␤|{\"M\":{\"actions\":{\"a\":{\"external\":true},\"c\":{\"external\":true\
 }},\"commonTypes\":{\"A\":{\"name\":\"x\",\"type\":\"EntityOrCommon\"}},\"entityTypes\":{}},\"N::M\":{\"actions\":{},\
 \"entityTypes\":{}}}
+from-deprecated|1||error: failed to resolve type: Set␤|{\"\":{\"entityTypes\":{\"A\":{\"shape\":{\"type\":\"Record\",\
+\"attributes\":{\"s\":{\"type\":\"Set\"}}}}},\"actions\":{}}}
+from-deprecated|0|entity A = {␤  x: __cedar::Long,␤};␤||{\"\":{\"entityTypes\":{\"A\":{\"shape\":{\"type\":\"Record\",\
+\"attributes\":{\"x\":{\"type\":\"Long\",\"extra\":1}}}}},\"actions\":{}}}
+from-deprecated|1||error: failed to resolve type: Set␤|{\"\":{\"entityTypes\":{\"A\":{\"shape\":{\"type\":\"Record\",\
+\"attributes\":{\"x\":{\"type\":\"Set\",\"element\":{\"type\":\"Long\"},\"extra\":1}}}}},\"actions\":{}}}
+from-deprecated|1||error: missing field `resourceTypes`␤|{\"\":{\"entityTypes\":{},\"actions\":{\"a\":{\"appliesTo\":{\
+\"principalTypes\":[]}}}}}
+from-deprecated|0|entity A;␤␤action \"a\";␤||{\"\":{\"entityTypes\":{\"A\":{}},\"actions\":{\"a\":{\"appliesTo\":{\"re\
+sourceTypes\":[\"A\"],\"principalTypes\":[]}}}}}
+from-deprecated|1||error: invalid namespace `1`: unexpected token `1`␤|{\"1\":{\"entityTypes\":{},\"actions\":{}}}
+from-deprecated|1||error: missing field `entityTypes`␤  help: JSON formatted schema must specify a namespace. If you w\
+ant to use the empty namespace, explicitly specify it with `{ \"\": {..} }`␤|{\"entityTypes\":{},\"actions\":{}}
+from-deprecated|1||error: the text is not JSON␤  help: this API was expecting a schema in the JSON format; did you mea\
+n to use a different function, which expects the Cedar schema format?␤|entity A;
+from-deprecated|1||error: unsupported feature used in schema␤|{\"\":{\"entityTypes\":{},\"actions\":{\"a\":{\"attribut\
+es\":{\"x\":1,\"y\":2}}}}}
+from-deprecated|0|namespace N {␤  entity G;␤␤  entity U in [N::G] = {␤    b?: __cedar::Bool,␤    e: N::G,␤    i: __ced\
+ar::ipaddr,␤    r: {    },␤    s: Set<__cedar::String>,␤    t: __cedar::Long,␤  };␤␤  action \"all\";␤␤  action \"do\
+\" in [N::Action::\"all\"] appliesTo {␤    principal: [N::U],␤    resource: [N::G],␤    context: {␤      k: __cedar::Lon\
+g,␤    },␤  };␤}␤||{\"N\":{\"entityTypes\":{\"U\":{\"memberOfTypes\":[\"G\"],\"shape\":{\"type\":\"Record\",\"attribut\
+es\":{\"b\":{\"type\":\"Boolean\",\"required\":false},\"e\":{\"type\":\"Entity\",\"name\":\"G\"},\"i\":{\"type\":\"Ext\
+ension\",\"name\":\"ipaddr\"},\"r\":{\"type\":\"Record\",\"attributes\":{}},\"s\":{\"type\":\"Set\",\"element\":{\"typ\
+e\":\"String\"}},\"t\":{\"type\":\"T\"}}}},\"G\":{}},\"actions\":{\"do\":{\"memberOf\":[{\"id\":\"all\"}],\"appliesTo\
+\":{\"resourceTypes\":[\"G\"],\"principalTypes\":[\"U\"],\"context\":{\"type\":\"C\"}}},\"all\":{}},\"commonTypes\":{\
+\"T\":{\"type\":\"Long\",\"further\":[]},\"C\":{\"type\":\"Record\",\"attributes\":{\"k\":{\"type\":\"T\"}}}}}}
+from-deprecated|1||error: the type `Action` of the empty namespace is used in namespace `N` by entity type `E`, where \
+it would be read as `N::Action`␤|{\"\":{\"entityTypes\":{},\"actions\":{\"z\":{}},\"commonTypes\":{\"T\":{\"type\":\"E\
+ntity\",\"name\":\"Action\"}}},\"N\":{\"entityTypes\":{\"E\":{\"shape\":{\"type\":\"Record\",\"attributes\":{\"x\":{\"\
+type\":\"T\"}}}}},\"actions\":{\"a\":{}}}}
+from-deprecated x|2||usage: cedar_schema_tool COMMAND [NAME..]␤|{}
 "
 }

@@ -5,8 +5,8 @@ pub returns : goal.returns
 returns c =
     let meaning = c.one_fragment_meaning.ensures in
     record {
-      meaning = λ text table m n h k. one_json_meaning meaning text table m n h k;
-      refusal = λ text table e other n m h k. json_refusal_once meaning text table c.one_build_fault.ensures e
-          other n m h k;
-      invalid = λ text table e h n valid. json_invalid meaning text table e h n valid;
+      meaning = λ form text table m n h k. one_json_meaning meaning form text table m n h k;
+      refusal = λ form text table e other n m h k. json_refusal_once meaning form text table
+          c.one_build_fault.ensures e other n m h k;
+      invalid = λ form text table e h n valid. json_invalid meaning form text table e h n valid;
     }

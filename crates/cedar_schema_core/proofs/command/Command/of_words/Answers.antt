@@ -2,7 +2,7 @@ use Rattle.std.proofs.Common.{[], ◌∷◌, ap, ◌∙◌}
 use Rattle.std.specs.Prelude.{map}
 use Rattle.std.proofs.lemmas.Result.{IfOk-weaker}
 use Rattle.std.specs.String.{string_bytes}
-use Rattle.cedar_schema_core.specs.Commands.{recover, check, to_json, from_json}
+use Rattle.cedar_schema_core.specs.Commands.{recover, check, to_json, from_json, from_deprecated}
 use Rattle.cedar_schema_core.proofs.Words.{split_words, alone, named_command, sized_command}
 use Rattle.cedar_schema_core.proofs.command.Command.of_words.Goals as goal
 
@@ -34,15 +34,23 @@ returns-then-is_empty-4 c =
     let words = alone c.args.words.now c.in-Some.names.now c.in-Some.first.now c.as_str.result.now
     c.is_empty-in-text-2.result c.in-Some.ensures.cases c.as_str.ensures.value c.is_empty-in-text-2.ensures
     c.if-is_empty-4.true in
-    from_json c.in_ok-all_available-in-text-2.field-0 (words ∙ ap (λ w. w ∷ []) c.in-text-2.is)
-    c.in_ok-all_available-in-text-2.ensures
+    from_json c.in_ok-table-in-text-2.table (words ∙ ap (λ w. w ∷ []) c.in-text-2.is)
+    c.in_ok-table-in-text-2.ensures
 
-pub returns-in-text-3 : goal.returns-in-text-3
-returns-in-text-3 c =
+pub returns-then-is_empty-5 : goal.returns-then-is_empty-5
+returns-then-is_empty-5 c =
+    let words = alone c.args.words.now c.in-Some.names.now c.in-Some.first.now c.as_str.result.now
+    c.is_empty-in-text-3.result c.in-Some.ensures.cases c.as_str.ensures.value c.is_empty-in-text-3.ensures
+    c.if-is_empty-5.true in
+    from_deprecated c.in_ok-table-in-text-3.table (words ∙ ap (λ w. w ∷ []) c.in-text-3.is)
+    c.in_ok-table-in-text-3.ensures
+
+pub returns-in-text-4 : goal.returns-in-text-4
+returns-in-text-4 c =
     IfOk-weaker c.recover_with.result _ _ (λ found h.
     named_command (map string_bytes c.args.words.now) (map string_bytes c.in-Some.names.now) found
     (split_words c.args.words.now c.in-Some.names.now c.in-Some.first.now c.as_str.result.now c.in-Some.ensures.cases
-    c.as_str.ensures.value ∙ ap (λ w. w ∷ map string_bytes c.in-Some.names.now) c.in-text-3.is) h)
+    c.as_str.ensures.value ∙ ap (λ w. w ∷ map string_bytes c.in-Some.names.now) c.in-text-4.is) h)
     c.recover_with.ensures
 
 pub returns-in-generate : goal.returns-in-generate
