@@ -74,7 +74,7 @@ fn said(
     }
 }
 
-// The same, or the refusal.
+// The fragment that a JSON text says in its form, or the refusal.
 fn read(alloc: Global, text: &str, form: JsonForm) -> Result<Fragment<RawName>, RecoverError>
     ensures said { IfOk result (SaysIn form text.now) }
     ensures refused { IfErr result (IsUnread form text.now) }

@@ -1,6 +1,6 @@
-// Runs of the commands that write and read JSON, in the form of today and in the deprecated one. The first were chosen by hand, the others made at random from valid
-// texts; how they are answered was told by a second program, which was written from the definitions in Python. ␤ stands
-// for a line feed; a line that ends with a backslash goes on in the next.
+// Runs of the commands that write and read JSON, in the form of today and in the deprecated one. The first were chosen by
+// hand, the others made at random from valid texts; how they are answered was told by a second program, which was written
+// from the definitions in Python. ␤ stands for a line feed; a line that ends with a backslash goes on in the next.
 
 /// Runs: the words, the exit code, the output, the error output and the input, with `|` between.
 pub fn json_lines() -> &'static str {
