@@ -105,6 +105,12 @@ told_alone t None l ws hidden is builtin h =
     with_true false b e = refl
 told_alone t (Some before) l ws hidden is builtin h = absurd (cc)
 
+pub shown_alone : (t : Tests) (o : Option Before) (l : List ℕ) (ws : List (List ℕ)) → o ≡ None
+    → list_any (bytes_eq l) ws ≡ true → is_hidden t l ≡ false
+    → true ≡ among (names_of_builtins t ws) (words_before o ++ l ∷ [])
+shown_alone t None l ws is builtin shown = told_alone t None l ws false is builtin (sym shown)
+shown_alone t (Some before) l ws is builtin shown = absurd (cc)
+
 pub told_other : (t : Tests) (o : Option Before) (l : List ℕ) (ws : List (List ℕ)) (answer : Bool) → answer ≡ false
     → answer ≡ list_any (bytes_eq l) ws → answer ≡ among (names_of_builtins t ws) (words_before o ++ l ∷ [])
 told_other t None l ws answer stopped h =
@@ -114,6 +120,35 @@ told_other t (Some before) l ws answer stopped h =
     let under = same_name (words_before (Some before)) cedar in
     stopped ∙ sym (builtin_behind t before.first.now.text (texts_of before.others.now) l ws
     ∙ ap (λ b. under && b) (sym h ∙ stopped) ∙ and-false under)
+
+-- a builtin word is not hidden where none of them is
+pub not_hidden : (t : Tests) (l : List ℕ) (ws : List (List ℕ)) → list_any (bytes_eq l) ws ≡ true
+    → list_any (is_hidden t) ws ≡ false → is_hidden t l ≡ false
+not_hidden t l [] there none = absurd (cc)
+not_hidden t l (w ∷ ws) there none =
+    by (bytes_eq l w) refl
+    (λ e. not_hidden t l ws (ap (λ b. b || list_any (bytes_eq l) ws) (sym e) ∙ there)
+    (second (is_hidden t w) (list_any (is_hidden t) ws) none))
+  where
+    first : (a b : Bool) → (a || b) ≡ false → a ≡ false
+    first false b e = refl
+    first true b e = e
+
+    second : (a b : Bool) → (a || b) ≡ false → b ≡ false
+    second false b e = e
+    second true b e = absurd (cc)
+
+    by : (b : Bool) → bytes_eq l w ≡ b → (bytes_eq l w ≡ false → is_hidden t l ≡ false) → is_hidden t l ≡ false
+    by true e others = ap (is_hidden t) ((bytes_eq-Decides l w).0 e)
+        ∙ first (is_hidden t w) (list_any (is_hidden t) ws) none
+    by false e others = others e
+
+-- behind three that are not
+pub past_three : (x y z rest : Bool) → (x || (y || (z || false))) ≡ false → rest ≡ (x || (y || (z || rest)))
+past_three false false false rest none = refl
+past_three true y z rest none = absurd (cc)
+past_three false true z rest none = absurd (cc)
+past_three false false true rest none = absurd (cc)
 
 -- the builtin words
 joined : (a b c d : Bool) → (a || (b || (c || d))) ≡ ((a || (b || (c || false))) || d)

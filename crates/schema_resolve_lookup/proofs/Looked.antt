@@ -2,7 +2,7 @@
 use Rattle.std.proofs.Common.{◌≡◌, ℕ, Bool, true, false, ◌&&◌, ◌||◌, List, [], ◌∷◌, ◌++◌, map, codes, Option, Some}
 use Rattle.std.proofs.Common.{None, refl, sym, ap, ◌∙◌}
 use Rattle.std.specs.List.{flat_map, list_any}
-use Rattle.std.specs.Str.{bytes_eq}
+use Rattle.std.specs.Str.{bytes_eq, encode_utf8_all}
 use Rattle.std.proofs.Math.Bool.{and-false}
 use Rattle.std.proofs.lemmas.List.{map-append}
 use Rattle.std.proofs.lemmas.List.Folds.{list_any-append}
@@ -11,7 +11,7 @@ use Rattle.cedar_identifiers.specs.declared.id.Id.{Id}
 use Rattle.cedar_identifiers.specs.declared.name.Name.{Name}
 use Rattle.cedar_identifiers.specs.declared.name_text.NameText as named
 use Rattle.cedar_identifiers.specs.declared.raw_name.RawName.{RawName}
-use Rattle.cedar_names.specs.Definitions.{among, same_name}
+use Rattle.cedar_names.specs.Definitions.{among, among_actions, same_name, same_action}
 use Rattle.schema_json.specs.Actions.{action_name}
 use Rattle.schema_json.specs.declared.fragment.Fragment.{Fragment}
 use Rattle.schema_json.specs.declared.fragment.NamespaceDefinition.{NamespaceDefinition}
@@ -128,6 +128,17 @@ module _ {G : named.Ghosts RawName} (ns : Option Name) (n : NamespaceDefinition 
       ∙ ap (λ b. b && is_there n.actions)
       (ap (same_name (xs ++ l ∷ [])) (action_words ns) ∙ same_behind xs (namespace_words ns) l (codes "Action"))
 
+  pub named_there : (id : List ℕ) → among_actions (actions_in ns n) (xs ++ l ∷ [], id)
+      ≡ ((same_name xs (namespace_words ns) && bytes_eq l (codes "Action"))
+      && list_any (λ e. bytes_eq (encode_utf8_all id) (encode_utf8_all e.0)) n.actions)
+  named_there id =
+      let told = list_any (λ e. bytes_eq (encode_utf8_all id) (encode_utf8_all e.0)) n.actions in
+      any_seen (same_action (xs ++ l ∷ [], id)) (λ e. (components_of (action_type ns), e.0)) n.actions
+      ∙ any_where (same_name (xs ++ l ∷ []) (components_of (action_type ns)))
+      (λ e. bytes_eq (encode_utf8_all id) (encode_utf8_all e.0)) n.actions
+      ∙ ap (λ b. b && told)
+      (ap (same_name (xs ++ l ∷ [])) (action_words ns) ∙ same_behind xs (namespace_words ns) l (codes "Action"))
+
 module _ {G : named.Ghosts RawName} (f : Fragment RawName G) (xs : List (List ℕ)) (l : List ℕ) where
   -- of the whole fragment it is told by the namespace
   pub commons_given : among (declared f).commons (xs ++ l ∷ [])
@@ -153,3 +164,15 @@ module _ {G : named.Ghosts RawName} (f : Fragment RawName G) (xs : List (List �
       ∙ and_first (same_name xs (namespace_words e.0)) (bytes_eq l (codes "Action")) (is_there e.1.actions)) i) f.0)
       ∙ any_where (bytes_eq l (codes "Action"))
       (λ e. same_name xs (namespace_words e.0) && is_there e.1.actions) f.0
+
+  pub actions_given : (id : List ℕ) → among_actions (declared f).actions (xs ++ l ∷ [], id)
+      ≡ (bytes_eq l (codes "Action")
+      && passes_in f xs (λ n. list_any (λ e. bytes_eq (encode_utf8_all id) (encode_utf8_all e.0)) n.actions))
+  actions_given id =
+      any_given (same_action (xs ++ l ∷ [], id)) (λ e. actions_in e.0 e.1) f.0
+      ∙ (λ i. list_any (λ e. (named_there e.0 e.1 xs l id
+      ∙ and_first (same_name xs (namespace_words e.0)) (bytes_eq l (codes "Action"))
+      (list_any (λ a. bytes_eq (encode_utf8_all id) (encode_utf8_all a.0)) e.1.actions)) i) f.0)
+      ∙ any_where (bytes_eq l (codes "Action"))
+      (λ e. same_name xs (namespace_words e.0)
+      && list_any (λ a. bytes_eq (encode_utf8_all id) (encode_utf8_all a.0)) e.1.actions) f.0

@@ -1,6 +1,6 @@
 -- The order of words and of namespaces, and what it does not tell apart.
 use Rattle.std.proofs.Common.{◌≡◌, ◌&&◌, List, [], ◌∷◌, map, Ordering, Option, Some, None, refl, sym, ap, ◌∙◌}
-use Rattle.std.proofs.Common.{subst}
+use Rattle.std.proofs.Common.{subst, ℕ}
 use Rattle.std.specs.declared.cmp.Ordering.TheVariants.{Less, Equal, Greater}
 use Rattle.std.specs.Cmp.Lexicographic.{slice_cmp}
 use Rattle.std.specs.List.{AllByRecursion}
@@ -12,6 +12,7 @@ use Rattle.std.specs.Str.{bytes_eq, encode_utf8_all}
 use Rattle.std.proofs.lemmas.Cmp.{nat_list_cmp_total, on_total}
 use Rattle.std.proofs.lemmas.Map.Text.{is_eq-slice_cmp}
 use Rattle.cedar_data.proofs.Ascii.{word_bytes}
+use Rattle.cedar_data.specs.Text.{text_cmp}
 use Rattle.cedar_identifiers.proofs.Ids.{id_is_word}
 use Rattle.cedar_identifiers.specs.Names.{texts_of}
 use Rattle.cedar_identifiers.specs.declared.id.Id.{Id}
@@ -33,6 +34,16 @@ eq_both Greater b = refl
 
 pub words_total : IsTotalOrder ids_in_order
 words_total = on_total (λ (i : Id). encode_utf8_all i.text) nat_list_cmp_total
+
+pub texts_total : IsTotalOrder text_cmp
+texts_total = on_total encode_utf8_all nat_list_cmp_total
+
+-- texts that the order does not tell apart have the same bytes
+pub text_alike : (x y : List ℕ) → is_eq (text_cmp x y) ≡ bytes_eq (encode_utf8_all y) (encode_utf8_all x)
+text_alike x y =
+    ap is_eq (nat_list_cmp_total.antisymm (encode_utf8_all x) (encode_utf8_all y))
+    ∙ eq_back (slice_cmp nat_cmp (encode_utf8_all y) (encode_utf8_all x))
+    ∙ is_eq-slice_cmp (encode_utf8_all y) (encode_utf8_all x)
 
 -- words that the order does not tell apart are the same
 pub word_alike : (x y : Id) → is_eq (ids_in_order x y) ≡ bytes_eq y.text x.text

@@ -1,15 +1,17 @@
 ghost use Rattle.std.specs.Prelude.{◌≡◌, map};
 ghost use Rattle.std.specs.List.{list_any};
-ghost use Rattle.std.specs.Str.{bytes_eq};
-ghost use Rattle.cedar_names.specs.Definitions.{among};
+ghost use Rattle.std.specs.Str.{bytes_eq, encode_utf8_all};
+ghost use Rattle.cedar_names.specs.Definitions.{among, among_actions};
 ghost use Rattle.schema_resolve_definitions.specs.Declarations.{declared};
 ghost use Rattle.schema_resolve_lookup.specs.Sought.{name_sought, is_there};
 
 use crate::namespaces::namespace_of;
 use crate::sought::Sought;
-use cedar_data::Map;
+use cedar_data::{Map, Text};
 use cedar_identifiers::{Id, RawName, UnreservedId};
-use schema_json::{CommonType, CommonTypeId, EntityType, Fragment, NamespaceDefinition};
+use schema_json::{
+    ActionType, CommonType, CommonTypeId, EntityType, Fragment, NamespaceDefinition,
+};
 
 // Whether the fragment declares a common type of this name.
 pub(crate) fn declares_common(fragment: &Fragment<RawName>, sought: Sought<'_>) -> bool
@@ -60,6 +62,25 @@ pub(crate) fn is_type_of_action(fragment: &Fragment<RawName>, sought: Sought<'_>
             Some(definition) => has_actions(definition),
             None => false,
         }
+}
+
+// Whether the fragment declares the action with this id whose type has this name.
+pub(crate) fn declares_action(fragment: &Fragment<RawName>, sought: Sought<'_>, id: &Text) -> bool
+    ensures { result ≡ among_actions (declared fragment.now).actions (name_sought sought.entry, id.now) }
+{
+    sought.last.as_str() == "Action"
+        && match namespace_of(fragment, sought.namespace) {
+            Some(definition) => has_action(&definition.actions, id),
+            None => false,
+        }
+}
+
+// Whether an action has this id, found by halving.
+fn has_action(actions: &Map<Text, ActionType<RawName>>, id: &Text) -> bool
+    ensures { result ≡ list_any (λ e. bytes_eq (encode_utf8_all id.now) (encode_utf8_all e.0)) actions.now }
+{
+    let entries = actions.as_slice();
+    entries.binary_search_by(|entry| entry.0.cmp(id)).is_ok()
 }
 
 // Whether the namespace has an action.

@@ -1,7 +1,9 @@
-ghost use Rattle.std.specs.Prelude.{◌≡◌, ◌++◌, [], ◌∷◌};
+ghost use Rattle.std.specs.Prelude.{◌≡◌, ◌++◌, false, [], ◌∷◌};
+ghost use Rattle.std.specs.List.{list_any};
 ghost use Rattle.cedar_identifiers.specs.Names.{components_of};
 ghost use Rattle.cedar_names.specs.declared.extension_table.ExtensionTable.{ExtensionTable};
-ghost use Rattle.schema_resolve_definitions.specs.Defined.{defined};
+ghost use Rattle.schema_resolve_definitions.specs.Declarations.{declared};
+ghost use Rattle.schema_resolve_definitions.specs.Defined.{defined, builtins, is_hidden};
 ghost use Rattle.schema_resolve_definitions.specs.Tests.{tests_of};
 ghost use Rattle.schema_resolve_lookup.specs.Sought.{name_sought};
 
@@ -16,7 +18,7 @@ use schema_json::Fragment;
 pub fn is_common(fragment: &Fragment<RawName>, table: &ExtensionTable, name: &InternalName) -> bool
     ensures { result ≡ (tests_of (defined fragment.now table.now)).is_common (components_of name.now) }
 {
-    is_common_sought(fragment, table, as_written(name))
+    is_common_sought(fragment, table, true, as_written(name))
 }
 
 /// Whether a common type with this last word is defined behind the namespace.
@@ -28,18 +30,20 @@ pub fn is_common_behind(
 ) -> bool
     ensures { result ≡ (tests_of (defined fragment.now table.now)).is_common (components_of namespace.now ++ last.now.text ∷ []) }
 {
-    is_common_sought(fragment, table, behind(namespace, last))
+    is_common_sought(fragment, table, true, behind(namespace, last))
 }
 
-// Whether a common type of this name is defined.
-fn is_common_sought(
+// Whether a common type of this name is defined. Where no name of a builtin type may be hidden, that is not looked up.
+pub(crate) fn is_common_sought(
     fragment: &Fragment<RawName>,
     table: &ExtensionTable,
+    may_hide: bool,
     sought: Sought<'_>,
 ) -> bool
+    requires { may_hide ≡ false → list_any (is_hidden (tests_of (declared fragment.now))) (builtins table.now) ≡ false }
     ensures { result ≡ (tests_of (defined fragment.now table.now)).is_common (name_sought sought.entry) }
 {
-    declares_common(fragment, sought) || names_builtin(fragment, table, sought)
+    declares_common(fragment, sought) || names_builtin(fragment, table, may_hide, sought)
 }
 
 /// Whether an entity type of this name is defined where the fragment stands alone, whatever the table is.
