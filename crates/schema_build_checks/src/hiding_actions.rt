@@ -9,11 +9,12 @@ ghost use Rattle.schema_build_checks.specs.Rows.{Never, OrMemory};
 use crate::least::least;
 use cedar_data::{CloneIn, Text};
 use cedar_identifiers::{Eid, Name, RawName};
-use cedar_names::{AllDefs, EntityUID};
+use cedar_names::EntityUID;
 use schema_build_errors::{ActionShadowingError, SchemaError};
 use schema_json::action_uid::action_name;
 use schema_json::{ActionType, Fragment, NamespaceDefinition};
 use schema_resolve_definitions::declared::action_type;
+use schema_resolve_lookup::DeclaredDefs;
 use std::alloc::{AllocError, Global};
 
 /// Refuses a fragment in which an action of a named namespace has the id of an action of the empty one, and names the least
@@ -21,7 +22,7 @@ use std::alloc::{AllocError, Global};
 pub fn check_action_shadowing(
     alloc: Global,
     fragment: &Fragment<RawName>,
-    defs: &AllDefs,
+    defs: &DeclaredDefs<'_>,
 ) -> Result<(), SchemaError>
     requires { tests_of defs.now ≡ tests_of (declared fragment.now) }
     ensures ok { OnOk result (Never (ActionHides fragment.now)) }
@@ -47,7 +48,7 @@ pub fn check_action_shadowing(
 fn push_hiding_actions(
     alloc: Global,
     found: &mut Vec<EntityUID>,
-    defs: &AllDefs,
+    defs: &DeclaredDefs<'_>,
     ns: &Option<Name>,
     definition: &NamespaceDefinition<RawName>,
 ) -> Result<(), AllocError>
@@ -63,7 +64,7 @@ fn push_hiding_actions(
 fn push_hiding(
     alloc: Global,
     found: &mut Vec<EntityUID>,
-    defs: &AllDefs,
+    defs: &DeclaredDefs<'_>,
     ns: &Option<Name>,
     actions: &[(Text, ActionType<RawName>)],
 ) -> Result<(), AllocError>

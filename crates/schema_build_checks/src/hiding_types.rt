@@ -11,10 +11,10 @@ use crate::declared_at::declared_at;
 use crate::least::least;
 use cedar_data::CloneIn;
 use cedar_identifiers::{Id, InternalName, Name, RawName, UnreservedId};
-use cedar_names::AllDefs;
 use schema_build_errors::{SchemaError, TypeShadowingError};
 use schema_json::{CommonType, CommonTypeId, EntityType, Fragment, NamespaceDefinition};
 use schema_resolve_definitions::declared::alone;
+use schema_resolve_lookup::DeclaredDefs;
 use std::alloc::{AllocError, Global};
 
 /// Refuses a fragment in which a type of a named namespace has the name of a type of the empty one, and names the least of
@@ -22,7 +22,7 @@ use std::alloc::{AllocError, Global};
 pub fn check_type_shadowing(
     alloc: Global,
     fragment: &Fragment<RawName>,
-    defs: &AllDefs,
+    defs: &DeclaredDefs<'_>,
 ) -> Result<(), SchemaError>
     requires { tests_of defs.now ≡ tests_of (declared fragment.now) }
     ensures ok { OnOk result (Never (TypeHides fragment.now)) }
@@ -48,7 +48,7 @@ pub fn check_type_shadowing(
 fn push_hiding_types(
     alloc: Global,
     found: &mut Vec<InternalName>,
-    defs: &AllDefs,
+    defs: &DeclaredDefs<'_>,
     ns: &Option<Name>,
     definition: &NamespaceDefinition<RawName>,
 ) -> Result<(), AllocError>
@@ -69,7 +69,7 @@ fn push_hiding_types(
 fn push_hiding_commons(
     alloc: Global,
     found: &mut Vec<InternalName>,
-    defs: &AllDefs,
+    defs: &DeclaredDefs<'_>,
     ns: &Option<Name>,
     commons: &[(CommonTypeId, CommonType<RawName>)],
 ) -> Result<(), AllocError>
@@ -87,7 +87,7 @@ fn push_hiding_commons(
 fn push_hiding_entities(
     alloc: Global,
     found: &mut Vec<InternalName>,
-    defs: &AllDefs,
+    defs: &DeclaredDefs<'_>,
     ns: &Option<Name>,
     entities: &[(UnreservedId, EntityType<RawName>)],
 ) -> Result<(), AllocError>
@@ -102,7 +102,7 @@ fn push_hiding_entities(
 }
 
 // Whether the empty namespace declares a type of this name.
-fn is_hidden(alloc: Global, defs: &AllDefs, id: &Id) -> Result<bool, AllocError>
+fn is_hidden(alloc: Global, defs: &DeclaredDefs<'_>, id: &Id) -> Result<bool, AllocError>
     ensures { IfOk result (λ hidden. hidden ≡ is_hidden (tests_of defs.now) id.now.text) }
 {
     let word = alone(alloc, id.clone_in(alloc)?);

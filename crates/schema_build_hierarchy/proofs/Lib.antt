@@ -1,3 +1,4 @@
+mod ActionTypes
 mod Paths
 pub mod Ranked
 pub mod Once

@@ -57,7 +57,7 @@ same_names (x ∷ xs) (y ∷ ys) h =
     let rest : xs ≡ ys = same_names xs ys both.1 in
     cc
 
-or_second : (a b : Bool) → (a || b) ≡ true → a ≡ false → b ≡ true
+pub or_second : (a b : Bool) → (a || b) ≡ true → a ≡ false → b ≡ true
 or_second true b h k = absurd (cc)
 or_second false b h k = h
 

@@ -1,5 +1,5 @@
 -- Rows about the hierarchies of entity types and of actions.
-use Rattle.std.specs.Prelude.{◌≡◌, ◌<◌, ℕ, Bool, true, false, not, List, [], map, length, Contains, Option, None}
+use Rattle.std.specs.Prelude.{◌≡◌, ◌<◌, ℕ, Bool, true, false, not, codes, List, [], map, length, Contains, Option, None}
 use Rattle.std.specs.List.{filter}
 use Rattle.std.specs.Option.{option_to_list}
 use Rattle.std.specs.Ordering.{is_lt}
@@ -9,6 +9,7 @@ use Rattle.cedar_identifiers.specs.declared.name.Name.{Name}
 use Rattle.cedar_identifiers.specs.declared.name_text.NameText as named
 use Rattle.cedar_identifiers.specs.declared.raw_name.RawName.{RawName}
 use Rattle.cedar_identifiers.specs.declared.reference_type.ReferenceType.TheVariants.{Entity}
+use Rattle.cedar_names.specs.CanonicalText.{basename}
 use Rattle.cedar_names.specs.Orders.{names_in_order}
 use Rattle.schema_json.specs.declared.entity_type.EntityTypeKind.{EntityTypeKind}
 use Rattle.schema_json.specs.declared.entity_type.EntityTypeKind.TheVariants.{Standard, Enum}
@@ -26,6 +27,11 @@ use Rattle.schema_build_checks.specs.DeclaredAt.{ActionAt, at_of, actions_at_in_
 use Rattle.schema_build_hierarchy.specs.Declarations.{Declared, DeclaredEntity, entity_name, action_key}
 use Rattle.schema_build_hierarchy.specs.FirstUses.{AreFirstUses}
 use Rattle.schema_build_hierarchy.specs.Parents.{IsAncestor, IsActionAncestor}
+
+-- every entity type that is defined and not one of the fragment's own is named `Action`
+abbrev pub AreOwnButActions : Tests → Tests → Type 0
+AreOwnButActions t own = (n : List (List ℕ)) → t.is_entity n ≡ true → own.is_entity n ≡ false
+    → basename n ≡ codes "Action"
 
 -- what the name means as an entity type, at the place of its use, where that is not one of the fragment's own
 abbrev pub undeclared_target : Tests → Tests → Option Name → RawName → List InternalName

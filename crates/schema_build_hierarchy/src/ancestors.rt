@@ -15,16 +15,17 @@ use crate::parents::{action_parents, entity_parents};
 use crate::ranks::ranks_of;
 use cedar_data::CloneIn;
 use cedar_identifiers::{NameText, RawName};
-use cedar_names::{AllDefs, EntityUID};
+use cedar_names::EntityUID;
 use schema_build_errors::{CycleInActionHierarchyError, SchemaError};
 use schema_build_graph::{closure, least_cyclic};
+use schema_resolve_lookup::FragmentDefs;
 use std::alloc::{AllocError, Global};
 
 /// For each declared entity type the ranks of its ancestors, rising. Each parent is declared.
 pub fn entity_ancestors<'f>(
     alloc: Global,
     entries: &[EntityEntry<'f>],
-    defs: &AllDefs,
+    defs: &FragmentDefs<'_>,
 ) -> Result<Vec<Vec<usize>>, AllocError>
     ghost ds: { List DeclaredEntity }
     requires entries { AreEntities ds entries.now }
@@ -39,7 +40,7 @@ pub fn entity_ancestors<'f>(
 fn entity_parent_rows<'f>(
     alloc: Global,
     entries: &[EntityEntry<'f>],
-    defs: &AllDefs,
+    defs: &FragmentDefs<'_>,
 ) -> Result<Vec<Vec<usize>>, AllocError>
     ghost ds: { List DeclaredEntity }
     requires { AreEntities ds entries.now }
@@ -57,7 +58,7 @@ fn entity_parent_rows<'f>(
 pub fn action_ancestors<'f>(
     alloc: Global,
     entries: &[ActionEntry<'f>],
-    defs: &AllDefs,
+    defs: &FragmentDefs<'_>,
 ) -> Result<Vec<Vec<usize>>, AllocError>
     ghost ds: { List (Declared ActionAt (ActionTold Raw ⟦<RawName as NameText>⟧)) }
     requires entries { AreActions ds entries.now }
@@ -72,7 +73,7 @@ pub fn action_ancestors<'f>(
 fn action_parent_rows<'f>(
     alloc: Global,
     entries: &[ActionEntry<'f>],
-    defs: &AllDefs,
+    defs: &FragmentDefs<'_>,
 ) -> Result<Vec<Vec<usize>>, AllocError>
     ghost ds: { List (Declared ActionAt (ActionTold Raw ⟦<RawName as NameText>⟧)) }
     requires { AreActions ds entries.now }

@@ -1,4 +1,7 @@
-ghost use Rattle.std.specs.Prelude.{◌≡◌, IfOk, OnOk, IfErr, ⊤};
+ghost use Rattle.std.specs.Prelude.{◌≡◌, codes, IfOk, OnOk, IfErr, ⊤};
+ghost use Rattle.std.specs.Str.{bytes_eq};
+ghost use Rattle.cedar_identifiers.specs.Names.{components_of};
+ghost use Rattle.cedar_names.specs.CanonicalText.{basename};
 ghost use Rattle.cedar_names.specs.declared.extension_table.ExtensionTable.{ExtensionTable as TableTold};
 ghost use Rattle.schema_json_walk.specs.Visits.{part_of};
 ghost use Rattle.schema_resolve_definitions.specs.Defined.{defined};
@@ -12,14 +15,14 @@ ghost use Rattle.schema_build_hierarchy.specs.Rows.{HasUndeclaredEntityTypes, un
 
 use crate::firsts::{first_uses, unreserved};
 use crate::parents::entity_target;
+use crate::use_finder::UseFinder;
 use cedar_data::NonEmpty;
 use cedar_identifiers::{InternalName, Name, RawName};
-use cedar_names::AllDefs;
 use schema_build_errors::{SchemaError, UndeclaredEntityTypesError};
 use schema_json::Fragment;
 use schema_json_walk::laws::fragment_gives_what_its_parts_give;
 use schema_json_walk::{LentPart, Visitor, walk_fragment};
-use schema_resolve_definitions::single_fragment;
+use schema_resolve_lookup::{DeclaredDefs, FragmentDefs};
 use std::alloc::{AllocError, Global};
 
 /// Refuses a fragment in which a parent of an entity type, a principal or a resource means an entity type that is not
@@ -28,7 +31,7 @@ use std::alloc::{AllocError, Global};
 pub fn check_declared_types(
     alloc: Global,
     fragment: &Fragment<RawName>,
-    defs: &AllDefs,
+    defs: &FragmentDefs<'_>,
 ) -> Result<(), SchemaError>
     ghost table: { TableTold }
     requires { tests_of defs.now ≡ tests_of (defined fragment.now table) }
@@ -50,15 +53,17 @@ pub fn check_declared_types(
 fn undeclared_uses(
     alloc: Global,
     fragment: &Fragment<RawName>,
-    defs: &AllDefs,
+    defs: &FragmentDefs<'_>,
 ) -> Result<Vec<InternalName>, AllocError>
+    ghost table: { TableTold }
+    requires { tests_of defs.now ≡ tests_of (defined fragment.now table) }
     ensures { IfOk result (λ uses. uses.items ≡ undeclared_uses (tests_of defs.now) fragment.now) }
 {
-    let own = single_fragment(alloc, fragment)?;
+    let own = DeclaredDefs::new(fragment);
     let mut finder = UseFinder {
         alloc,
         defs,
-        own: &own,
+        own,
         uses: Vec::new(alloc),
     };
     fragment_gives_what_its_parts_give::<RawName, InternalName>(fragment);
@@ -66,24 +71,25 @@ fn undeclared_uses(
     Ok(finder.uses)
 }
 
-// The uses met so far.
-#[derive(Drop)]
-struct UseFinder<'d> {
-    alloc: Global,
-    defs: &'d AllDefs,
-    own: &'d AllDefs,
-    uses: Vec<InternalName>,
+// Whether the last word of the name is `Action`.
+fn is_named_action(name: &InternalName) -> bool
+    ensures { result ≡ bytes_eq (basename (components_of name.now)) (codes "Action") }
+{
+    match name.others.as_slice().split_last() {
+        Some((last, _)) => last.as_str() == "Action",
+        None => name.first.as_str() == "Action",
+    }
 }
 
-impl<'d> Visitor<RawName> for UseFinder<'d> {
+impl<'d, 'f, 'g> Visitor<RawName> for UseFinder<'d, 'f, 'g> {
     type Refusal = AllocError;
 
-    ghost takes = { λ ns before part after. Finds (undeclared_part (tests_of before.defs.now) (tests_of before.own.now) ns part) before after };
+    ghost takes = { λ ns before part after. Finds (undeclared_part (tests_of before.defs.now) (tests_of before.own) ns part) before after };
 
     ghost refuses = { λ _ _ _ _. ⊤ };
 
     fn visit(&mut self, ns: &Option<Name>, part: LentPart<'_, RawName>) -> Result<(), AllocError>
-        ensures taken { OnOk result (Finds (undeclared_part (tests_of self.old.defs.now) (tests_of self.old.own.now) ns.now (part_of part.entry)) self.old self.new) }
+        ensures taken { OnOk result (Finds (undeclared_part (tests_of self.old.defs.now) (tests_of self.old.own) ns.now (part_of part.entry)) self.old self.new) }
         ensures refused { IfErr result (λ _. ⊤) }
     {
         match part {
@@ -95,11 +101,15 @@ impl<'d> Visitor<RawName> for UseFinder<'d> {
     }
 }
 
-impl<'d> UseFinder<'d> {
-    // Keeps what the name means as an entity type, where that is not declared.
+impl<'d, 'f, 'g> UseFinder<'d, 'f, 'g> {
+    // Keeps what the name means as an entity type, where that is not declared: only types of actions are defined so, so
+    // no other name is looked up.
     fn meet(&mut self, ns: &Option<Name>, name: &RawName) -> Result<(), AllocError>
-        ensures { OnOk result (Finds (undeclared_target (tests_of self.old.defs.now) (tests_of self.old.own.now) ns.now name.now) self.old self.new) }
+        ensures { OnOk result (Finds (undeclared_target (tests_of self.old.defs.now) (tests_of self.old.own) ns.now name.now) self.old self.new) }
     {
+        if !is_named_action(&name.name) {
+            return Ok(());
+        }
         if let Some(target) = entity_target(self.alloc, self.defs, ns, name)? {
             if !self.own.is_defined_as_entity(&target) {
                 self.uses.push(target)?;

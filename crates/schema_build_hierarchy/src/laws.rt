@@ -16,11 +16,11 @@ ghost use Rattle.schema_build_hierarchy.specs.Parents.{action_parents, IsAncesto
 
 use crate::entries::{ActionEntry, EntityEntry};
 use cedar_identifiers::{NameText, RawName};
-use cedar_names::AllDefs;
 use schema_json::Fragment;
+use schema_resolve_lookup::FragmentDefs;
 
 /// Every parent of an action is declared, since a reference to an action means only what is declared.
-pub fn action_parents_are_declared(fragment: &Fragment<RawName>, defs: &AllDefs)
+pub fn action_parents_are_declared(fragment: &Fragment<RawName>, defs: &FragmentDefs<'_>)
     ghost table: { TableTold }
     requires { tests_of defs.now ≡ tests_of (defined fragment.now table) }
     ensures { AreParentsDeclared action_key (action_parents (tests_of defs.now)) (declared_actions fragment.now) }

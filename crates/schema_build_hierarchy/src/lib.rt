@@ -10,6 +10,7 @@ mod firsts;
 pub mod laws;
 mod parents;
 mod ranks;
+mod use_finder;
 
 pub use ancestors::{action_ancestors, check_action_cycle, entity_ancestors};
 pub use declared_types::check_declared_types;

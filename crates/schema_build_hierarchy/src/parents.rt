@@ -15,16 +15,17 @@ ghost use Rattle.schema_build_hierarchy.specs.Unreserved.{unreserved_names};
 use crate::entries::{ActionEntry, EntityEntry};
 use cedar_data::{CloneIn, Text};
 use cedar_identifiers::{Eid, InternalName, Name, RawName};
-use cedar_names::{AllDefs, EntityUID};
+use cedar_names::EntityUID;
 use schema_json::action_uid::action_name;
 use schema_json::{ActionEntityUID, EntityTypeKind};
 use schema_resolve_definitions::declared::name_of;
+use schema_resolve_lookup::FragmentDefs;
 use std::alloc::{AllocError, Global};
 
 // What the name means as an entity type in the namespace, at the place of the name.
 pub(crate) fn entity_target(
     alloc: Global,
-    defs: &AllDefs,
+    defs: &FragmentDefs<'_>,
     ns: &Option<Name>,
     name: &RawName,
 ) -> Result<Option<InternalName>, AllocError>
@@ -43,7 +44,7 @@ pub(crate) fn entity_target(
 // What the parents of the entity type mean, but for names with the component `__cedar`.
 pub(crate) fn entity_parents<'f>(
     alloc: Global,
-    defs: &AllDefs,
+    defs: &FragmentDefs<'_>,
     entry: &EntityEntry<'f>,
 ) -> Result<Vec<Name>, AllocError>
     ensures { IfOk result (λ names. map (λ n. components_of n.name) names.items ≡ unreserved_names (entity_parents (tests_of defs.now) (entity_of entry.now))) }
@@ -59,7 +60,7 @@ pub(crate) fn entity_parents<'f>(
 // What the names mean as entity types, but for those with the component `__cedar`.
 fn targets_of(
     alloc: Global,
-    defs: &AllDefs,
+    defs: &FragmentDefs<'_>,
     ns: &Option<Name>,
     names: &[RawName],
 ) -> Result<Vec<Name>, AllocError>
@@ -77,7 +78,7 @@ fn targets_of(
 // What the name means as an entity type, where that has no component `__cedar`.
 fn unreserved_target(
     alloc: Global,
-    defs: &AllDefs,
+    defs: &FragmentDefs<'_>,
     ns: &Option<Name>,
     name: &RawName,
 ) -> Result<Option<Name>, AllocError>
@@ -92,7 +93,7 @@ fn unreserved_target(
 // What the parents of the action mean.
 pub(crate) fn action_parents<'f>(
     alloc: Global,
-    defs: &AllDefs,
+    defs: &FragmentDefs<'_>,
     entry: &ActionEntry<'f>,
 ) -> Result<Vec<EntityUID>, AllocError>
     ensures { IfOk result (λ uids. map action_of uids.items ≡ action_parents (tests_of defs.now) (action_of_entry entry.now)) }
@@ -106,7 +107,7 @@ pub(crate) fn action_parents<'f>(
 // The actions that the references mean.
 fn action_targets_of(
     alloc: Global,
-    defs: &AllDefs,
+    defs: &FragmentDefs<'_>,
     ns: &Option<Name>,
     uids: &[ActionEntityUID<RawName>],
 ) -> Result<Vec<EntityUID>, AllocError>
@@ -125,7 +126,7 @@ fn action_targets_of(
 // The type of the action that a reference in the namespace means.
 fn action_target(
     alloc: Global,
-    defs: &AllDefs,
+    defs: &FragmentDefs<'_>,
     ns: &Option<Name>,
     id: &Text,
     ty: &Option<RawName>,
@@ -141,7 +142,7 @@ fn action_target(
 }
 
 // The name as a type, where an action of that type has this id.
-fn as_action(defs: &AllDefs, ty: InternalName, id: &Text) -> Option<Name>
+fn as_action(defs: &FragmentDefs<'_>, ty: InternalName, id: &Text) -> Option<Name>
     ensures { option_map (λ n. n.name) result ≡ (if is_action (tests_of defs.now) id.now ty then Some ty else None) }
 {
     let ty = Name::from_internal(ty)?;

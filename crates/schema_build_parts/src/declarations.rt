@@ -10,7 +10,7 @@ use schema_build_checks::{
 };
 use schema_build_errors::SchemaError;
 use schema_json::Fragment;
-use schema_resolve_definitions::single_fragment;
+use schema_resolve_lookup::DeclaredDefs;
 use std::alloc::Global;
 
 /// Refuses a fragment by what no declaration may be beside others, and then by what no schema has: by the first that
@@ -25,7 +25,7 @@ pub fn check_declarations(
     ensures err { IfErr result (OrMemory (DeclarationFault fragment.now table.now)) }
 {
     check_action_types(alloc, fragment)?;
-    let declared = single_fragment(alloc, fragment)?;
+    let declared = DeclaredDefs::new(fragment);
     check_type_shadowing(alloc, fragment, &declared)?;
     check_action_shadowing(alloc, fragment, &declared)?;
     check_extension_types(alloc, fragment, table)?;

@@ -11,12 +11,12 @@ ghost use Rattle.schema_build_hierarchy.specs.Parents.{entity_parents, action_pa
 ghost use Rattle.schema_build_parts.specs.BuildFaults.{HierarchyFault};
 
 use cedar_identifiers::{NameText, RawName};
-use cedar_names::AllDefs;
 use schema_build_errors::SchemaError;
 use schema_build_hierarchy::{
     ActionEntry, EntityEntry, action_ancestors, check_action_cycle, check_external_types,
     entity_ancestors,
 };
+use schema_resolve_lookup::FragmentDefs;
 use std::alloc::Global;
 
 // The ranks of the ancestors of each entity type and of each action. It refuses actions of which one stands above
@@ -25,7 +25,7 @@ pub(crate) fn build_hierarchies(
     alloc: Global,
     entities: &[EntityEntry<'_>],
     actions: &[ActionEntry<'_>],
-    defs: &AllDefs,
+    defs: &FragmentDefs<'_>,
 ) -> Result<(Vec<Vec<usize>>, Vec<Vec<usize>>), SchemaError>
     ghost g: { Tests × (List DeclaredEntity × List (Declared ActionAt (ActionTold Raw ⟦<RawName as NameText>⟧))) }
     requires tests { g.0 ≡ tests_of defs.now }

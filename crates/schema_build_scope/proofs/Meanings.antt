@@ -1,6 +1,7 @@
 -- What is found of a reference is what it means.
 use Rattle.std.proofs.Common.{◌≡◌, Bool, true, false, List, [], ◌∷◌, Option, Some, None, sym, ap, ◌∙◌}
-use Rattle.std.specs.Prelude.{if◌then◌else◌}
+use Rattle.std.proofs.Common.{ℕ, refl, subst}
+use Rattle.std.specs.Prelude.{if◌then◌else◌, IsSome}
 use Rattle.std.specs.Option.{option_map}
 use Rattle.cedar_data.specs.declared.loc.Loc.{Loc}
 use Rattle.cedar_identifiers.specs.Candidates.{qualified}
@@ -70,3 +71,30 @@ module _ (t : Tests) (ns : Option InternalName) (kind : ReferenceType) (name : R
   pub none_meant : own_kind t ns kind name.name ≡ None → kind_found t kind (components_of name.name) ≡ None
       → None ≡ means t ns kind name
   none_meant none h = ap (option_map kinded) (none_found t ns kind name.name none h)
+
+  -- what means something and is not behind its namespace is found as it is written
+  pub known_meant : own_kind t ns kind name.name ≡ None → IsSome (means t ns kind name)
+      → (b : Bool) × (kind_found t kind (components_of name.name) ≡ Some b)
+  known_meant none some = go (kind_found t kind (components_of name.name)) refl
+    where
+      go : (o : Option Bool) → kind_found t kind (components_of name.name) ≡ o
+          → (b : Bool) × (kind_found t kind (components_of name.name) ≡ Some b)
+      go (Some b) e = (b, e)
+      go None e =
+          absurd (let h : IsSome {T = InternalName × ReferenceType} None = subst IsSome (sym (none_meant none e)) some in
+          cc)
+
+-- what is found in a kind that leaves nothing open
+pub known_common : (t : Tests) (n : List (List ℕ)) (b : Bool) → kind_found t Common n ≡ Some b → true ≡ b
+known_common t n b h = go (t.is_common n) h
+  where
+    go : (c : Bool) → (if c then Some true else None) ≡ Some b → true ≡ b
+    go true e = some_is true b e
+    go false e = cc
+
+pub known_entity : (t : Tests) (n : List (List ℕ)) (b : Bool) → kind_found t Entity n ≡ Some b → false ≡ b
+known_entity t n b h = go (t.is_entity n) h
+  where
+    go : (c : Bool) → (if c then Some false else None) ≡ Some b → false ≡ b
+    go true e = some_is false b e
+    go false e = cc

@@ -11,9 +11,9 @@ use crate::lent_commons::{LentType, declared_commons};
 use crate::names_in::NamesIn;
 use cedar_data::Map;
 use cedar_identifiers::{InternalName, Name, NameText, RawName};
-use cedar_names::{AllDefs, ExtensionTable};
+use cedar_names::ExtensionTable;
 use schema_json::Fragment;
-use schema_resolve_definitions::all_definitions;
+use schema_resolve_lookup::FragmentDefs;
 use std::alloc::{AllocError, Global};
 use std::marker::Model;
 
@@ -22,7 +22,7 @@ use std::marker::Model;
 pub struct FragmentNames<'f> {
     fragment: &'f Fragment<RawName>,
     table: &'f ExtensionTable,
-    defs: AllDefs,
+    defs: FragmentDefs<'f>,
     commons: Map<InternalName, LentType<'f>>,
 }
 
@@ -47,7 +47,7 @@ impl<'f> Model for FragmentNames<'f> {
 }
 
 impl<'f> FragmentNames<'f> {
-    /// The names of this fragment under this table: what is defined is put in order once, and so are the common types.
+    /// The names of this fragment under this table: the common types are put in order once.
     pub fn new(
         alloc: Global,
         fragment: &'f Fragment<RawName>,
@@ -56,7 +56,7 @@ impl<'f> FragmentNames<'f> {
         ensures fragment { IfOk result (λ names. names.fragment ≡ fragment.now) }
         ensures table { IfOk result (λ names. names.table ≡ table.now) }
     {
-        let defs = all_definitions(alloc, fragment, table)?;
+        let defs = FragmentDefs::new(alloc, fragment, table)?;
         let commons = declared_commons(alloc, fragment)?;
         let commons = Map::from_entries(alloc, commons)?;
         Ok(FragmentNames {
@@ -82,7 +82,7 @@ impl<'f> FragmentNames<'f> {
     }
 
     /// All that is defined.
-    pub fn defs(&self) -> &AllDefs
+    pub fn defs(&self) -> &FragmentDefs<'f>
         ensures { tests_of result.now ≡ tests_of (defined self.now.fragment self.now.table) }
     {
         &self.defs

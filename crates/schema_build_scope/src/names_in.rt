@@ -12,7 +12,7 @@ ghost use Rattle.schema_build_scope.specs.NamedTargets.{IsRankOfName, IsCommonTa
 
 use crate::builtins::builtin_type;
 use crate::fragment_names::FragmentNames;
-use crate::meant::find_meant;
+use crate::meant::{find_known, find_meant};
 use crate::ranks::search;
 use cedar_data::CloneIn;
 use cedar_identifiers::{InternalName, Name, RawName, ReferenceType};
@@ -40,16 +40,12 @@ impl<'n, 'f> Meanings<RawName> for NamesIn<'n, 'f> {
         kind: ReferenceType,
         name: &RawName,
     ) -> Result<Target, AllocError> {
-        match find_meant(self.names.defs(), name_of(self.ns), kind, name) {
-            Some(meant) => {
-                let full = candidate(alloc, self.ns, &name.name, meant.is_own)?;
-                if meant.is_common {
-                    common_target(alloc, self.names, full)
-                } else {
-                    Ok(entity_target(full))
-                }
-            }
-            None => unreachable!(),
+        let meant = find_known(self.names.defs(), name_of(self.ns), kind, name);
+        let full = candidate(alloc, self.ns, &name.name, meant.is_own)?;
+        if meant.is_common {
+            common_target(alloc, self.names, full)
+        } else {
+            Ok(entity_target(full))
         }
     }
 

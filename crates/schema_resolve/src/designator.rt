@@ -1,13 +1,14 @@
 ghost use Rattle.std.specs.Prelude.{◌≡◌, [], ◌∷◌, None, IfOk, OnOk, IfErr};
 ghost use Rattle.cedar_identifiers.specs.Names.{components_of};
 ghost use Rattle.schema_resolve_definitions.specs.Tests.{tests_of};
+ghost use Rattle.schema_resolve.specs.Tried.{kind_found};
 ghost use Rattle.schema_resolve.specs.Designated.{designating, type_as_written, undesignated_type, undesignated};
 ghost use Rattle.schema_resolve.specs.Faults.{NamesFirst};
 ghost use Rattle.schema_resolve.specs.Qualified.{in_namespace};
 ghost use Rattle.schema_resolve.specs.References.{reference_to};
 
 use crate::renamer::Renamer;
-use crate::tried::kind_of;
+use crate::tried::told;
 use cedar_data::{CloneIn, Loc, NonEmpty};
 use cedar_identifiers::{InternalName, RawName, ReferenceType};
 use cedar_names::AllDefs;
@@ -69,10 +70,18 @@ fn look_up(alloc: Global, defs: &AllDefs, name: &InternalName) -> Result<bool, R
     ensures defined { OnOk result (undesignated_type (tests_of defs.now) ReferenceType.CommonOrEntity name.now ≡ []) }
     ensures err { IfErr result (NamesFirst (undesignated_type (tests_of defs.now) ReferenceType.CommonOrEntity name.now)) }
 {
-    match kind_of(defs, ReferenceType::CommonOrEntity, name) {
+    match kind_of(defs, name) {
         Some(is_common) => Ok(is_common),
         None => Err(ResolveError::TypeNotDefined(neither(alloc, name)?)),
     }
+}
+
+// What the name is, where it is a common type or an entity type, and whether it is a common type.
+fn kind_of(defs: &AllDefs, name: &InternalName) -> Option<bool>
+    ensures { result ≡ kind_found (tests_of defs.now) ReferenceType.CommonOrEntity (components_of name.now) }
+{
+    let is_common = defs.is_defined_as_common(name);
+    told(is_common, !is_common && defs.is_defined_as_entity(name))
 }
 
 // The error of a name that is neither a common type nor an entity type.

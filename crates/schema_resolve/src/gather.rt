@@ -14,11 +14,11 @@ use crate::scope::written;
 use crate::tried::{find_action, find_type};
 use cedar_data::{CloneIn, Text};
 use cedar_identifiers::{ConditionalName, Name, RawName, ReferenceType};
-use cedar_names::{AllDefs, ExtensionTable};
+use cedar_names::ExtensionTable;
 use schema_json::{ActionEntityUID, Fragment};
 use schema_json_walk::{LentPart, Visitor, walk_fragment};
-use schema_resolve_definitions::all_definitions;
 use schema_resolve_definitions::declared::name_of;
+use schema_resolve_lookup::FragmentDefs;
 use std::alloc::{AllocError, Global};
 
 /// References of a fragment that mean nothing, in the order of the walk.
@@ -34,7 +34,7 @@ pub struct UndefinedReferences {
 pub fn gather_undefined(
     alloc: Global,
     fragment: &Fragment<RawName>,
-    all_defs: &AllDefs,
+    all_defs: &FragmentDefs<'_>,
 ) -> Result<UndefinedReferences, AllocError>
     ensures types { IfOk result (λ found. found.types.items ≡ types_among (undefined (tests_of all_defs.now) fragment.now)) }
     ensures actions { IfOk result (λ found. uids found.actions.items ≡ actions_among (undefined (tests_of all_defs.now) fragment.now)) }
@@ -59,20 +59,20 @@ pub fn gather_undefined_alone(
     ensures types { IfOk result (λ found. found.types.items ≡ types_among (undefined (tests_of (defined fragment.now table.now)) fragment.now)) }
     ensures actions { IfOk result (λ found. uids found.actions.items ≡ actions_among (undefined (tests_of (defined fragment.now table.now)) fragment.now)) }
 {
-    let defs = all_definitions(alloc, fragment, table)?;
+    let defs = FragmentDefs::new(alloc, fragment, table)?;
     gather_undefined(alloc, fragment, &defs)
 }
 
 // The references met so far that mean nothing.
 #[derive(Drop)]
-struct Gatherer<'d> {
+struct Gatherer<'d, 'f> {
     alloc: Global,
-    defs: &'d AllDefs,
+    defs: &'d FragmentDefs<'f>,
     types: Vec<ConditionalName>,
     actions: Vec<ActionEntityUID<ConditionalName>>,
 }
 
-impl<'d> Visitor<RawName> for Gatherer<'d> {
+impl<'d, 'f> Visitor<RawName> for Gatherer<'d, 'f> {
     type Refusal = AllocError;
 
     ghost takes = { λ ns before part after. Gathers (by_reference (untargeted_in (tests_of before.defs.now) (name_of ns)) part) before after };
@@ -100,7 +100,7 @@ impl<'d> Visitor<RawName> for Gatherer<'d> {
     }
 }
 
-impl<'d> Gatherer<'d> {
+impl<'d, 'f> Gatherer<'d, 'f> {
     // Keeps the name, where it means nothing.
     fn meet_type(
         &mut self,

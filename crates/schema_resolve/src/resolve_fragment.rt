@@ -13,11 +13,11 @@ use crate::rename_namespaces::rename_namespace;
 use crate::resolver::Resolver;
 use crate::scope::Scope;
 use cedar_identifiers::{InternalName, Name, RawName};
-use cedar_names::{AllDefs, ExtensionTable};
+use cedar_names::ExtensionTable;
 use schema_json::{Fragment, NamespaceDefinition};
-use schema_resolve_definitions::all_definitions;
 use schema_resolve_definitions::declared::name_of;
 use schema_resolve_errors::ResolveError;
+use schema_resolve_lookup::FragmentDefs;
 use std::alloc::Global;
 
 /// What the names of a fragment mean where it stands alone.
@@ -43,7 +43,7 @@ pub trait ResolveFragment {
 }
 
 // What each name in each namespace means.
-impl FragmentRenamer<RawName, InternalName> for AllDefs {
+impl<'f> FragmentRenamer<RawName, InternalName> for FragmentDefs<'f> {
     ghost becomes_in = { λ d ns. resolving_in (tests_of d) (name_of ns) };
 
     ghost action_becomes_in = { λ d ns. meant_type (tests_of d) (name_of ns) };
@@ -73,7 +73,7 @@ impl ResolveFragment for Fragment<RawName> {
         alloc: Global,
         table: &ExtensionTable,
     ) -> Result<Fragment<InternalName>, ResolveError> {
-        let defs = all_definitions(alloc, self, table)?;
+        let defs = FragmentDefs::new(alloc, self, table)?;
         rename_fragment(alloc, &defs, self)
     }
 }

@@ -14,15 +14,15 @@ use crate::scope::{Scope, written};
 use crate::tried::{find_action, find_type};
 use cedar_data::{CloneIn, Loc, NonEmpty};
 use cedar_identifiers::{InternalName, RawName, ReferenceType};
-use cedar_names::AllDefs;
 use schema_json::{ActionEntityUID, Type};
 use schema_resolve_errors::{ActionNotDefinedError, ResolveError, TypeNotDefinedError};
+use schema_resolve_lookup::FragmentDefs;
 use std::alloc::{AllocError, Global};
 
 // What each name in a namespace means.
 #[derive(Drop)]
-pub(crate) struct Resolver<'a> {
-    pub(crate) defs: &'a AllDefs,
+pub(crate) struct Resolver<'a, 'f> {
+    pub(crate) defs: &'a FragmentDefs<'f>,
     pub(crate) scope: Scope<'a>,
 }
 
@@ -71,7 +71,7 @@ fn no_action(
     Ok(ActionNotDefinedError(NonEmpty::new(alloc, ActionEntityUID::with_type(ty, id))))
 }
 
-impl<'a> Renamer<RawName, InternalName> for Resolver<'a> {
+impl<'a, 'f> Renamer<RawName, InternalName> for Resolver<'a, 'f> {
     ghost becomes = { λ r. resolving_in (tests_of r.defs.now) (option_copied r.scope.ns) };
 
     ghost action_becomes = { λ r. meant_type (tests_of r.defs.now) (option_copied r.scope.ns) };

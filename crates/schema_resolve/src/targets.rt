@@ -5,7 +5,6 @@ ghost use Rattle.schema_resolve_definitions.specs.Tests.{tests_of};
 ghost use Rattle.schema_resolve.specs.Targets.{is_defined, is_action, resolving, action_target_name, untargeted};
 
 use crate::renamer::Renamer;
-use crate::tried::is_action;
 use cedar_data::{CloneIn, Loc, NonEmpty, Text};
 use cedar_identifiers::{ConditionalName, InternalName, ReferenceType};
 use cedar_names::AllDefs;
@@ -40,6 +39,13 @@ fn first_defined<'a>(
         }
     }
     None
+}
+
+// Whether an action with this type and id is defined.
+fn is_action(defs: &AllDefs, id: &Text, ty: &InternalName) -> bool
+    ensures { result ≡ is_action (tests_of defs.now) id.now ty.now }
+{
+    !ty.has_cedar() && defs.is_defined_as_action_named(ty, id)
 }
 
 // The first of the types with which the action is defined.

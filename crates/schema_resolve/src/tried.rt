@@ -8,7 +8,7 @@ ghost use Rattle.schema_resolve.specs.Tried.{kind_told, kind_found, own_kind, is
 
 use cedar_data::Text;
 use cedar_identifiers::{Id, InternalName, ReferenceType, is_cedar};
-use cedar_names::AllDefs;
+use schema_resolve_lookup::FragmentDefs;
 
 // Which candidate of a name is the first that is defined, and whether it is a common type.
 #[derive(Clone, Copy)]
@@ -19,7 +19,7 @@ pub(crate) struct Found {
 
 // The first candidate of the name in the namespace that is defined in the kind that is asked for.
 pub(crate) fn find_type(
-    defs: &AllDefs,
+    defs: &FragmentDefs<'_>,
     ns: Option<&InternalName>,
     kind: ReferenceType,
     name: &InternalName,
@@ -43,7 +43,7 @@ pub(crate) fn find_type(
 }
 
 // What the name is, where it is defined in the kind that is asked for, and whether it is a common type.
-pub(crate) fn kind_of(defs: &AllDefs, kind: ReferenceType, name: &InternalName) -> Option<bool>
+fn kind_of(defs: &FragmentDefs<'_>, kind: ReferenceType, name: &InternalName) -> Option<bool>
     ensures { result ≡ kind_found (tests_of defs.now) kind (components_of name.now) }
 {
     match kind {
@@ -57,7 +57,7 @@ pub(crate) fn kind_of(defs: &AllDefs, kind: ReferenceType, name: &InternalName) 
 }
 
 // A common type, or else an entity type, or nothing.
-fn told(is_common: bool, is_entity: bool) -> Option<bool>
+pub(crate) fn told(is_common: bool, is_entity: bool) -> Option<bool>
     ensures { result ≡ kind_told is_common is_entity }
 {
     if is_common {
@@ -70,7 +70,12 @@ fn told(is_common: bool, is_entity: bool) -> Option<bool>
 }
 
 // What the name with this last word behind a namespace is, which is not made.
-fn kind_behind(defs: &AllDefs, kind: ReferenceType, ns: &InternalName, last: &Id) -> Option<bool>
+fn kind_behind(
+    defs: &FragmentDefs<'_>,
+    kind: ReferenceType,
+    ns: &InternalName,
+    last: &Id,
+) -> Option<bool>
     ensures { result ≡ kind_found (tests_of defs.now) kind (components_of ns.now ++ last.now.text ∷ []) }
 {
     match kind {
@@ -88,7 +93,7 @@ fn kind_behind(defs: &AllDefs, kind: ReferenceType, ns: &InternalName, last: &Id
 
 // What an unqualified name is behind its namespace.
 fn own_kind(
-    defs: &AllDefs,
+    defs: &FragmentDefs<'_>,
     ns: Option<&InternalName>,
     kind: ReferenceType,
     name: &InternalName,
@@ -117,7 +122,7 @@ fn is_unqualified(name: &InternalName) -> bool
 // The first candidate of the type in the namespace with which an action with this id is defined: whether it is the one
 // behind the namespace.
 pub(crate) fn find_action(
-    defs: &AllDefs,
+    defs: &FragmentDefs<'_>,
     ns: Option<&InternalName>,
     id: &Text,
     ty: &InternalName,
@@ -134,14 +139,19 @@ pub(crate) fn find_action(
 }
 
 // Whether an action with this type and id is defined.
-pub(crate) fn is_action(defs: &AllDefs, id: &Text, ty: &InternalName) -> bool
+fn is_action(defs: &FragmentDefs<'_>, id: &Text, ty: &InternalName) -> bool
     ensures { result ≡ is_action (tests_of defs.now) id.now ty.now }
 {
     !ty.has_cedar() && defs.is_defined_as_action_named(ty, id)
 }
 
 // Whether the action with this id is defined whose type is the unqualified name behind its namespace.
-fn is_own_action(defs: &AllDefs, id: &Text, ns: Option<&InternalName>, ty: &InternalName) -> bool
+fn is_own_action(
+    defs: &FragmentDefs<'_>,
+    id: &Text,
+    ns: Option<&InternalName>,
+    ty: &InternalName,
+) -> bool
     ensures { result ≡ is_own_action (tests_of defs.now) id.now (option_copied ns.entry) ty.now }
 {
     match ns {
@@ -151,7 +161,7 @@ fn is_own_action(defs: &AllDefs, id: &Text, ns: Option<&InternalName>, ty: &Inte
 }
 
 // Whether the action with this id is defined whose type has this last word behind a namespace.
-fn is_action_behind(defs: &AllDefs, id: &Text, ns: &InternalName, last: &Id) -> bool
+fn is_action_behind(defs: &FragmentDefs<'_>, id: &Text, ns: &InternalName, last: &Id) -> bool
     ensures { result ≡ is_action_there (tests_of defs.now) id.now (components_of ns.now ++ last.now.text ∷ []) }
 {
     !(ns.has_cedar() || is_cedar(last.as_str())) && defs.is_defined_as_action_behind(ns, last, id)

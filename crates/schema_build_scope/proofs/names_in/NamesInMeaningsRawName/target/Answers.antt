@@ -1,4 +1,4 @@
-use Rattle.std.proofs.Common.{true, false}
+use Rattle.std.proofs.Common.{true, false, Some, refl}
 use Rattle.std.specs.Option.{option_copied}
 use Rattle.std.proofs.lemmas.Result.{IfOk-weaker}
 use Rattle.cedar_identifiers.specs.Names.{components_of}
@@ -17,9 +17,9 @@ common_target-requires c =
     let t = tests_of (defined f table) in
     let meant =
     means_found (tests_of c.defs.result.now) t c.defs.ensures (option_copied c.name_of.result) ns c.name_of.ensures
-    c.args.kind c.args.name.now c.find_meant.result c.in-Some.meant true c.in_ok-full-in-Some.full c.find_meant.ensures
-    c.in-Some.is c.if-meant.true c.in_ok-full-in-Some.ensures in
-    meant_common t ns c.args.kind c.args.name.now c.in_ok-full-in-Some.full meant
+    c.args.kind c.args.name.now (Some c.find_known-meant.result) c.find_known-meant.result true c.in_ok-full.full c.find_known-meant.ensures
+    refl c.if-meant.true c.in_ok-full.ensures in
+    meant_common t ns c.args.kind c.args.name.now c.in_ok-full.full meant
 
 pub entity_target-requires : goal.entity_target-requires
 entity_target-requires c =
@@ -29,10 +29,10 @@ entity_target-requires c =
     let t = tests_of (defined f table) in
     let meant =
     means_found (tests_of c.defs.result.now) t c.defs.ensures (option_copied c.name_of.result) ns c.name_of.ensures
-    c.args.kind c.args.name.now c.find_meant.result c.in-Some.meant false c.in_ok-full-in-Some.full c.find_meant.ensures
-    c.in-Some.is c.if-meant.false c.in_ok-full-in-Some.ensures in
-    entity_free f table (components_of c.in_ok-full-in-Some.full)
-    (meant_entity t ns c.args.kind c.args.name.now c.in_ok-full-in-Some.full meant)
+    c.args.kind c.args.name.now (Some c.find_known-meant.result) c.find_known-meant.result false c.in_ok-full.full c.find_known-meant.ensures
+    refl c.if-meant.false c.in_ok-full.ensures in
+    entity_free f table (components_of c.in_ok-full.full)
+    (meant_entity t ns c.args.kind c.args.name.now c.in_ok-full.full meant)
 
 pub returns-then-meant : goal.returns-then-meant
 returns-then-meant c =
@@ -42,7 +42,7 @@ returns-then-meant c =
     let t = tests_of (defined f table) in
     let meant =
     means_found (tests_of c.defs.result.now) t c.defs.ensures (option_copied c.name_of.result) ns c.name_of.ensures
-    c.args.kind c.args.name.now c.find_meant.result c.in-Some.meant true c.in_ok-full-in-Some.full c.find_meant.ensures
-    c.in-Some.is c.if-meant.true c.in_ok-full-in-Some.ensures in
+    c.args.kind c.args.name.now (Some c.find_known-meant.result) c.find_known-meant.result true c.in_ok-full.full c.find_known-meant.ensures
+    refl c.if-meant.true c.in_ok-full.ensures in
     IfOk-weaker c.common_target.result _ _
-    (common_meant f table ns c.args.kind c.args.name.now c.in_ok-full-in-Some.full meant) c.common_target.ensures
+    (common_meant f table ns c.args.kind c.args.name.now c.in_ok-full.full meant) c.common_target.ensures

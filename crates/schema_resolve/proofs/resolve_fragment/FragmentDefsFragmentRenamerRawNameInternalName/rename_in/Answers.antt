@@ -1,4 +1,4 @@
-use Rattle.schema_resolve.proofs.resolve_fragment.AllDefsFragmentRenamerRawNameInternalName.rename_in.Goals as goal
+use Rattle.schema_resolve.proofs.resolve_fragment.FragmentDefsFragmentRenamerRawNameInternalName.rename_in.Goals as goal
 
 pub returns-clause-out : goal.returns-clause-out
 returns-clause-out c = rw (← c.name_of.ensures) c.rename_namespace.ensures.out

@@ -1,0 +1,10 @@
+use Rattle.std.proofs.Common.{sym, ap, codes, ◌∙◌}
+use Rattle.std.specs.Str.{bytes_eq}
+use Rattle.schema_build_hierarchy.proofs.ActionTypes.{last_of}
+use Rattle.schema_build_hierarchy.proofs.declared_types.is_named_action.Goals as goal
+
+pub returns-in-Some : goal.returns-in-Some
+returns-in-Some c =
+    let last = last_of c.args.name.now c.in-Some.field-0-1.now c.in-Some.last.now
+    (sym c.as_slice.ensures ∙ c.in-Some.ensures.cases.0) in
+    c.eq.ensures ∙ ap (λ t. bytes_eq t (codes "Action")) (c.as_str.ensures ∙ last)
