@@ -1,7 +1,6 @@
 mod Among
 mod Borrowed
 mod FirstRepeat
-mod Filtered
 mod Gathered
 mod Grouped
 mod Lawful

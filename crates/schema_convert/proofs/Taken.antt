@@ -18,7 +18,7 @@ use Rattle.schema_syntax_tree.specs.declared.annotated.Annotated.{Annotated}
 use Rattle.schema_syntax_tree.specs.declared.declaration.Declaration.{Declaration}
 use Rattle.schema_convert.specs.NamesIn.{entity_names_in, common_names_in, id_text_cmp}
 use Rattle.schema_convert.specs.Shadowings.{by_id, is_taken, builtin_shadowed, warnings_in, declared_warnings}
-use Rattle.schema_convert.proofs.Filtered.{given_of_filtered}
+use Rattle.schema_convert_types.proofs.Filtered.{given_of_filtered}
 use Rattle.schema_convert.proofs.Warnings.{ids_total}
 
 -- words that their order does not tell apart

@@ -8,6 +8,7 @@ use crate::names_in::{common_names_in, entity_names_in};
 use cedar_data::{Boxed, Map, Node, Text};
 use cedar_names::ExtensionTable;
 use schema_convert_errors::{SchemaWarning, ShadowsBuiltinWarning, ShadowsEntityWarning};
+use schema_convert_types::map_of;
 use schema_syntax_tree::{Annotated, Declaration, Namespace, Path, SrcId};
 use std::alloc::{AllocError, Global};
 
@@ -22,7 +23,7 @@ fn by_id<'a, 's>(
     for name in names {
         entries.push((&name.node, name))?;
     }
-    let sorted = Map::from_entries(alloc, entries)?;
+    let sorted = map_of(alloc, entries)?;
     Ok(sorted)
 }
 
@@ -196,7 +197,7 @@ fn by_name<'a, 's>(
     for namespace in namespaces {
         entries.push((namespace.item.name.as_ref(), namespace))?;
     }
-    let sorted = Map::from_entries(alloc, entries)?;
+    let sorted = map_of(alloc, entries)?;
     Ok(sorted)
 }
 

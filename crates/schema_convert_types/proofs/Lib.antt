@@ -1,4 +1,6 @@
 mod Definitions
+pub mod Filtered
 mod Lists
 mod Reserved
+mod StablySorted
 mod TypeSteps

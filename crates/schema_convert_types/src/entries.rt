@@ -1,9 +1,22 @@
-ghost use Rattle.std.specs.Prelude.{◌≡◌, ◌++◌, OnOk};
+ghost use Rattle.std.specs.Prelude.{◌≡◌, ◌++◌, IfOk, OnOk};
+ghost use Rattle.cedar_data.specs.Maps.{map_of};
 ghost use Rattle.schema_convert_types.specs.Declarations.{each_with};
 
-use cedar_data::CloneIn;
+use cedar_data::{CloneIn, Map};
 use std::alloc::{AllocError, Global};
 use std::mem;
+
+/// The map of these entries, of which the last of a key counts. They are put in order as a whole, so that none is moved for
+/// each that comes behind it.
+pub fn map_of<K: Ord + Drop, T: Drop>(
+    alloc: Global,
+    mut entries: Vec<(K, T)>,
+) -> Result<Map<K, T>, AllocError>
+    ensures { IfOk result (λ map. map ≡ map_of K.cmp entries.items) }
+{
+    entries.sort_by(|a, b| a.0.cmp(&b.0))?;
+    Map::from_entries(alloc, entries)
+}
 
 /// Adds each of the names with the same beside it: the item itself for the last name, and copies for the others.
 pub fn push_each<K: Drop, T: CloneIn>(

@@ -3,12 +3,13 @@
 
 mod actions;
 mod entities;
-mod entries;
+pub mod entries;
 pub mod into_variant;
 pub mod names;
 pub mod namespaces;
 pub mod types;
 
+pub use entries::map_of;
 pub use into_variant::IntoVariant;
 pub use names::{path_to_internal_name, path_to_raw_name};
 pub use namespaces::fragment_of;

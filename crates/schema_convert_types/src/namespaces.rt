@@ -6,10 +6,10 @@ ghost use Rattle.schema_convert_types.specs.Fragments.{entity_entries_of, action
 
 use crate::actions::{action_ids, action_type};
 use crate::entities::entity_type;
-use crate::entries::push_each;
+use crate::entries::{map_of, push_each};
 use crate::names::internal_name;
 use crate::types::cedar_type_to_json_type;
-use cedar_data::{Boxed, List, Loc, Map, Node, NonEmptyIter, Text};
+use cedar_data::{Boxed, List, Loc, Node, NonEmptyIter, Text};
 use cedar_identifiers::{Annotations, Id, InternalName, Name, RawName, UnreservedId};
 use schema_json::{
     ActionType, CommonType, CommonTypeId, EntityType, Fragment, NamespaceDefinition,
@@ -187,9 +187,9 @@ fn definition_of<'a>(
         entities,
         actions,
     } = entries_of(alloc, decls)?;
-    let common_types = Map::from_entries(alloc, commons)?;
-    let entity_types = Map::from_entries(alloc, entities)?;
-    let actions = Map::from_entries(alloc, actions)?;
+    let common_types = map_of(alloc, commons)?;
+    let entity_types = map_of(alloc, entities)?;
+    let actions = map_of(alloc, actions)?;
     Ok(NamespaceDefinition {
         common_types,
         entity_types,
@@ -252,6 +252,6 @@ pub fn fragment_of<'a>(
     for namespace in namespaces {
         push_namespace(alloc, &mut entries, namespace)?;
     }
-    let entries = Map::from_entries(alloc, entries)?;
+    let entries = map_of(alloc, entries)?;
     Ok(Fragment(entries))
 }

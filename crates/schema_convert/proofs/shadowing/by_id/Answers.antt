@@ -11,6 +11,6 @@ loop-name-preserved c =
 
 pub returns : goal.returns
 returns c =
-    ids_sorted c.args.names.items c.loop-name.entries.items c.in_ok-sorted.sorted c.in_ok-sorted.ensures.entries
+    ids_sorted c.args.names.items c.loop-name.entries.items c.in_ok-sorted.sorted c.in_ok-sorted.ensures
     (over id_entries (λ n. id_entry n ∷ []) refl (λ x xs. refl) _ _ _ c.loop-name.invariant
     (sym c.loop-name.name-iterator.rest.ok.0 ∙ c.in-None.ensures.steps.0))

@@ -15,6 +15,6 @@ loop-namespace-preserved c =
 pub returns : goal.returns
 returns c =
     names_sorted c.args.namespaces.now c.loop-namespace.entries.items c.in_ok-sorted.sorted
-    c.in_ok-sorted.ensures.entries
+    c.in_ok-sorted.ensures
     (over_at name_entries (λ n. (n.item.name, n) ∷ []) refl (λ x xs. refl) _ c.args.namespaces.now
     c.loop-namespace.namespace-index _ c.loop-namespace.invariant c.loop-namespace-test.false)

@@ -9,7 +9,7 @@ use Rattle.schema_convert_types.proofs.namespaces.fragment_of.Goals as goal
 pub returns : goal.returns
 returns c =
     let all = c.args.namespaces.items in
-    fragment_made _ (λ a b. names_order a b) all _ _ c.in_ok-entries.ensures.entries
+    fragment_made _ (λ a b. names_order a b) all _ _ c.in_ok-entries.ensures
     (none_gathered (filter_map namespace_entry) c.loop-namespace.entries.items
     (into_iter_items c.loop-namespace.namespace-iterator) (filter_map namespace_entry all) c.loop-namespace.invariant
     (sym c.loop-namespace.namespace-iterator.rest.ok.0 ∙ c.in-None.ensures.steps.0) refl)
