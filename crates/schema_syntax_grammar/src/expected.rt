@@ -5,7 +5,7 @@ ghost use Rattle.schema_syntax_grammar.specs.Fault.{IsFault};
 ghost use Rattle.schema_syntax_grammar.specs.Grammar.{IsExpected, Sentence, Viable};
 ghost use Rattle.schema_syntax_grammar.specs.declared.token_kind.TheConstants.{ALL_KINDS};
 
-use crate::stack::{allowed, longest_front, may_end};
+use crate::stack::longest_front;
 use crate::token_kind::TokenKind;
 use std::alloc::{AllocError, Global};
 
@@ -26,7 +26,7 @@ pub fn is_sentence(alloc: Global, kinds: &[TokenKind]) -> Result<bool, AllocErro
     if front.read < kinds.len() {
         return Ok(false);
     }
-    Ok(may_end(&front.stack))
+    Ok(front.may_end())
 }
 
 /// How many of the kinds begin a sentence: as many as possible.
@@ -51,7 +51,7 @@ pub fn expected_after(
     if front.read < kinds.len() {
         return Ok(None);
     }
-    Ok(Some(allowed(alloc, &front.stack)?))
+    Ok(Some(front.allowed(alloc)?))
 }
 
 /// Where the kinds stop being the beginning of a sentence, or that they are no whole one, with what may come there; `None` exactly where
@@ -60,10 +60,10 @@ pub fn fault_of(alloc: Global, kinds: &[TokenKind]) -> Result<Option<Fault>, All
     ensures { IfOk result (λ found. MatchOption found (Sentence kinds.now) (λ fault. IsFault ALL_KINDS kinds.now fault.place fault.expected.items)) }
 {
     let front = longest_front(alloc, kinds)?;
-    if front.read == kinds.len() && may_end(&front.stack) {
+    if front.read == kinds.len() && front.may_end() {
         return Ok(None);
     }
-    let expected = allowed(alloc, &front.stack)?;
+    let expected = front.allowed(alloc)?;
     Ok(Some(Fault {
         place: front.read,
         expected,

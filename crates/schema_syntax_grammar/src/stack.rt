@@ -1,6 +1,6 @@
-// What may still come, as a stack of symbols.
+// What may still come, as a stack of symbols, the next one last.
 
-ghost use Rattle.std.specs.Prelude.{◌≡◌, ◌++◌, ◌+◌, ◌<◌, ◌≤◌, [], ◌∷◌, None, Some, OnOk, IfOk, MatchBool, MatchOption, is_some, drop, length, slice_get, take};
+ghost use Rattle.std.specs.Prelude.{◌≡◌, ◌++◌, ◌+◌, ◌<◌, ◌≤◌, [], ◌∷◌, None, Some, OnOk, IfOk, MatchBool, MatchOption, is_some, length, reverse, slice_get, take};
 ghost use Rattle.std.specs.Bool.{OnFalse};
 ghost use Rattle.std.specs.List.{filter};
 ghost use Rattle.schema_syntax_grammar.specs.Machine.{all_nullable, may, run, step};
@@ -10,17 +10,17 @@ ghost use Rattle.schema_syntax_grammar.specs.declared.token_kind.TokenKind.{Toke
 use crate::symbol::Symbol;
 use crate::token_kind::{ALL_KINDS, TokenKind};
 use std::alloc::{AllocError, Global};
-use std::collections::VecDeque;
 
-// Which symbol of the stack takes a token of the kind, and what comes in its place.
-fn taker(stack: &VecDeque<Symbol>, kind: TokenKind) -> Option<(usize, &'static [Symbol])>
-    ensures within { MatchOption result (step stack.now.items kind ≡ None) (λ found. found.0 < length stack.now.items) }
-    ensures value { MatchOption result (step stack.now.items kind ≡ None) (λ found. step stack.now.items kind ≡ Some (found.1.now ++ drop (found.0 + 1) stack.now.items)) }
+// How many symbols stay below the one that takes a token of the kind, and what comes in its place.
+fn taker(stack: &[Symbol], kind: TokenKind) -> Option<(usize, &'static [Symbol])>
+    ensures { MatchOption result (step (reverse stack.now) kind ≡ None) (λ found. step (reverse stack.now) kind ≡ Some (found.1.now ++ reverse (take found.0 stack.now))) }
 {
-    for i in 0..stack.len() {
-        let symbol = stack[i];
+    let mut left = stack.len();
+    while left > 0 {
+        left -= 1;
+        let symbol = stack[left];
         if let Some(next) = symbol.after_front(kind) {
-            return Some((i, next));
+            return Some((left, next));
         }
         if !symbol.is_nullable() {
             return None;
@@ -29,36 +29,27 @@ fn taker(stack: &VecDeque<Symbol>, kind: TokenKind) -> Option<(usize, &'static [
     None
 }
 
-// Takes so many symbols off the stack.
-fn drop_front(stack: &mut VecDeque<Symbol>, count: usize)
-    ensures { stack.new.items ≡ drop count stack.old.items }
-{
-    for _ in 0..count {
-        let _ = stack.pop_front();
-    }
-}
-
 // Puts the symbols on the stack, the first one on top.
-fn push_all(stack: &mut VecDeque<Symbol>, symbols: &[Symbol]) -> Result<(), AllocError>
-    ensures { OnOk result (stack.new.items ≡ symbols.now ++ stack.old.items) }
+fn push_all(stack: &mut Vec<Symbol>, symbols: &[Symbol]) -> Result<(), AllocError>
+    ensures { OnOk result (reverse stack.new.items ≡ symbols.now ++ reverse stack.old.items) }
 {
     let mut i = symbols.len();
     while i > 0 {
         i -= 1;
-        stack.push_front(symbols[i])?;
+        stack.push(symbols[i])?;
     }
     Ok(())
 }
 
 // Takes a token of the kind, where one may come; else the stack stays as it is.
-fn advance(stack: &mut VecDeque<Symbol>, kind: TokenKind) -> Result<bool, AllocError>
-    ensures step { IfOk result (λ taken. MatchBool taken (step stack.old.items kind ≡ Some stack.new.items) (step stack.old.items kind ≡ None)) }
+fn advance(stack: &mut Vec<Symbol>, kind: TokenKind) -> Result<bool, AllocError>
+    ensures step { IfOk result (λ taken. MatchBool taken (step (reverse stack.old.items) kind ≡ Some (reverse stack.new.items)) (step (reverse stack.old.items) kind ≡ None)) }
     ensures kept { IfOk result (λ taken. OnFalse taken (stack.new.items ≡ stack.old.items)) }
 {
     match taker(stack, kind) {
         None => Ok(false),
-        Some((at, next)) => {
-            drop_front(stack, at + 1);
+        Some((left, next)) => {
+            stack.truncate(left);
             push_all(stack, next)?;
             Ok(true)
         }
@@ -66,11 +57,13 @@ fn advance(stack: &mut VecDeque<Symbol>, kind: TokenKind) -> Result<bool, AllocE
 }
 
 // May the end come?
-pub fn may_end(stack: &VecDeque<Symbol>) -> bool
-    ensures { result ≡ all_nullable stack.now.items }
+fn may_end(stack: &[Symbol]) -> bool
+    ensures { result ≡ all_nullable (reverse stack.now) }
 {
-    for i in 0..stack.len() {
-        if !stack[i].is_nullable() {
+    let mut left = stack.len();
+    while left > 0 {
+        left -= 1;
+        if !stack[left].is_nullable() {
             return false;
         }
     }
@@ -78,8 +71,8 @@ pub fn may_end(stack: &VecDeque<Symbol>) -> bool
 }
 
 // May the kind come next, or the end for `End`?
-fn may_follow(stack: &VecDeque<Symbol>, kind: TokenKind) -> bool
-    ensures { result ≡ may stack.now.items kind }
+fn may_follow(stack: &[Symbol], kind: TokenKind) -> bool
+    ensures { result ≡ may (reverse stack.now) kind }
 {
     match kind {
         TokenKind::End => may_end(stack),
@@ -88,8 +81,8 @@ fn may_follow(stack: &VecDeque<Symbol>, kind: TokenKind) -> bool
 }
 
 // The kinds that may come next, in the order of all kinds.
-pub fn allowed(alloc: Global, stack: &VecDeque<Symbol>) -> Result<Vec<TokenKind>, AllocError>
-    ensures { IfOk result (λ list. list.items ≡ filter (may stack.now.items) ALL_KINDS) }
+fn allowed(alloc: Global, stack: &[Symbol]) -> Result<Vec<TokenKind>, AllocError>
+    ensures { IfOk result (λ list. list.items ≡ filter (may (reverse stack.now)) ALL_KINDS) }
 {
     ALL_KINDS
         .iter()
@@ -102,17 +95,33 @@ pub fn allowed(alloc: Global, stack: &VecDeque<Symbol>) -> Result<Vec<TokenKind>
 #[derive(Drop)]
 pub struct Front {
     pub read: usize,
-    pub stack: VecDeque<Symbol>,
+    pub stack: Vec<Symbol>,
+}
+
+impl Front {
+    // May the end come?
+    pub fn may_end(&self) -> bool
+        ensures { result ≡ all_nullable (reverse self.now.stack.items) }
+    {
+        may_end(&self.stack)
+    }
+
+    // The kinds that may come next, in the order of all kinds.
+    pub fn allowed(&self, alloc: Global) -> Result<Vec<TokenKind>, AllocError>
+        ensures { IfOk result (λ list. list.items ≡ filter (may (reverse self.now.stack.items)) ALL_KINDS) }
+    {
+        allowed(alloc, &self.stack)
+    }
 }
 
 // The longest front of the kinds that begins a sentence.
 pub fn longest_front(alloc: Global, kinds: &[TokenKind]) -> Result<Front, AllocError>
     ensures within { IfOk result (λ front. front.read ≤ length kinds.now) }
-    ensures stack { IfOk result (λ front. run (Symbol.Schema ∷ []) (take front.read kinds.now) ≡ Some front.stack.items) }
-    ensures stops { IfOk result (λ front. (k : TokenKind) → slice_get kinds.now front.read ≡ Some k → step front.stack.items k ≡ None) }
+    ensures stack { IfOk result (λ front. run (Symbol.Schema ∷ []) (take front.read kinds.now) ≡ Some (reverse front.stack.items)) }
+    ensures stops { IfOk result (λ front. (k : TokenKind) → slice_get kinds.now front.read ≡ Some k → step (reverse front.stack.items) k ≡ None) }
 {
-    let mut stack = VecDeque::new(alloc);
-    stack.push_front(Symbol::Schema)?;
+    let mut stack = Vec::new(alloc);
+    stack.push(Symbol::Schema)?;
     for i in 0..kinds.len() {
         if !advance(&mut stack, kinds[i])? {
             return Ok(Front { read: i, stack });
