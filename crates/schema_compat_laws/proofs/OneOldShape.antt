@@ -1,8 +1,8 @@
 -- What the object of a type says is one.
-use Rattle.std.proofs.Common.{◌≡◌, ℕ, Bool, true, false, List, [], ◌∷◌, Some, refl, sym, ap, ◌∙◌, subst}
+use Rattle.std.proofs.Common.{◌≡◌, ℕ, Bool, true, false, List, ◌∷◌, Some, refl, sym, ap, ◌∙◌, subst}
 use Rattle.std.specs.Prelude.{codes}
 use Rattle.std.specs.Str.{chars}
-use Rattle.serde_json.specs.Data.{Data, null, boolean, number, string, array, object, Members}
+use Rattle.serde_json.specs.Data.{null, boolean, number, string, array, object, Members}
 use Rattle.serde_json.specs.Find.{get_member}
 use Rattle.cedar_data.specs.Maps.{map_of}
 use Rattle.cedar_data.specs.Text.{text_cmp}
