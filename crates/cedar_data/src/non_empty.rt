@@ -12,10 +12,19 @@ use std::marker::Model;
 use std::vec::IntoIter;
 
 /// A list with at least one item. Contracts see it as the list.
-#[derive(Debug, Drop)]
+#[derive(Debug)]
 pub struct NonEmpty<T> {
     head: T,
     tail: Vec<T>,
+}
+
+impl<T: Drop> Drop for NonEmpty<T> {
+    fn drop(self) {
+        let NonEmpty {
+            head: _head,
+            tail: _tail,
+        } = self;
+    }
 }
 
 impl<T> Model for NonEmpty<T> {
@@ -175,10 +184,18 @@ impl<T: CloneIn> CloneIn for NonEmpty<T> {
 }
 
 /// The items of a list that isn't empty, in order.
-#[derive(Drop)]
 pub struct NonEmptyIter<'a, T> {
     head: Option<&'a T>,
     tail: &'a [T],
+}
+
+impl<'a, T> Drop for NonEmptyIter<'a, T> {
+    fn drop(self) {
+        let NonEmptyIter {
+            head: _head,
+            tail: _tail,
+        } = self;
+    }
 }
 
 impl<'a, T> Iterator for NonEmptyIter<'a, T> {
@@ -199,10 +216,18 @@ impl<'a, T> Iterator for NonEmptyIter<'a, T> {
 }
 
 /// The items of a list that isn't empty, handed over in order.
-#[derive(Drop)]
 pub struct NonEmptyIntoIter<T> {
     head: Option<T>,
     tail: IntoIter<T>,
+}
+
+impl<T: Drop> Drop for NonEmptyIntoIter<T> {
+    fn drop(self) {
+        let NonEmptyIntoIter {
+            head: _head,
+            tail: _tail,
+        } = self;
+    }
 }
 
 impl<T: Drop> Iterator for NonEmptyIntoIter<T> {

@@ -16,9 +16,15 @@ use std::hash::{Hash, Hasher};
 use std::marker::Model;
 
 /// An owned text, which contracts see as its list of characters. It is ordered by its bytes in UTF-8.
-#[derive(Debug, Drop)]
+#[derive(Debug)]
 pub struct Text {
     text: String,
+}
+
+impl Drop for Text {
+    fn drop(self) {
+        let Text { text: _text } = self;
+    }
 }
 
 impl Model for Text {

@@ -5,8 +5,14 @@ use cedar_data::{CloneIn, Map, Text};
 use std::alloc::{AllocError, Global};
 
 /// What is said beside an item: keys, each with a value or without one.
-#[derive(PartialEq, Eq, PartialOrd, Ord, Hash, Drop)]
+#[derive(PartialEq, Eq, PartialOrd, Ord, Hash)]
 pub struct Annotations(pub Map<AnyId, Option<Text>>);
+
+impl Drop for Annotations {
+    fn drop(self) {
+        let Annotations(_value) = self;
+    }
+}
 
 impl Annotations {
     /// No annotation, which takes no memory.

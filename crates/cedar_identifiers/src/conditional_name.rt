@@ -7,11 +7,21 @@ use cedar_data::{CloneIn, NonEmpty};
 use std::alloc::{AllocError, Global};
 
 /// A reference: the names that it may stand for, the first that is defined before the others.
-#[derive(PartialEq, Eq, PartialOrd, Ord, Hash, Debug, Drop)]
+#[derive(PartialEq, Eq, PartialOrd, Ord, Hash, Debug)]
 pub struct ConditionalName {
     pub possibilities: NonEmpty<InternalName>,
     pub raw: RawName,
     pub reference_type: ReferenceType,
+}
+
+impl Drop for ConditionalName {
+    fn drop(self) {
+        let ConditionalName {
+            possibilities: _possibilities,
+            raw: _raw,
+            reference_type: _reference_type,
+        } = self;
+    }
 }
 
 impl ConditionalName {

@@ -1,7 +1,6 @@
 ghost use Rattle.std.specs.Prelude.{◌≡◌, true};
 ghost use Rattle.cedar_identifiers.specs.Words.{is_id};
 
-use crate::internal_name::InternalName;
 use crate::name_fault::NameFault;
 use crate::name_kind::NameKind;
 use crate::name_reader::read_name;
@@ -24,9 +23,8 @@ impl Id {
         ensures ok { IfOk result (λ id. ReadsAs NameKind.Id s.now (id.text ∷ [])) }
         ensures err { IfErr result (NameFaultOf NameKind.Id s.now) }
     {
-        let InternalName { first, others, .. } = read_name(alloc, NameKind::Id, s)?;
-        drop(others);
-        Ok(first)
+        let name = read_name(alloc, NameKind::Id, s)?;
+        Ok(name.into_first())
     }
 
     /// The word, whose bytes are its characters.

@@ -16,13 +16,23 @@ use std::alloc::{AllocError, Global};
 use std::mem;
 
 /// A name: its components, the outermost first, with a place that no comparison sees.
-#[derive(Debug, Drop)]
+#[derive(Debug)]
 #[derive_where(PartialEq, Eq, PartialOrd, Ord, Hash)]
 pub struct InternalName {
     pub first: Id,
     pub others: List<Id>,
     #[derive_where(skip(EqHashOrd))]
     pub loc: Option<Loc>,
+}
+
+impl Drop for InternalName {
+    fn drop(self) {
+        let InternalName {
+            first: _first,
+            others: _others,
+            loc: _loc,
+        } = self;
+    }
 }
 
 impl InternalName {
@@ -100,6 +110,19 @@ impl InternalName {
             }
             None => Ok(self),
         }
+    }
+
+    // The outermost component.
+    pub(crate) fn into_first(self) -> Id
+        ensures { result ≡ self.first }
+    {
+        let InternalName {
+            first,
+            others,
+            loc: _loc,
+        } = self;
+        drop(others);
+        first
     }
 
     // The name, which is unqualified, with the namespace before it.

@@ -9,10 +9,16 @@ use cedar_data::{CloneIn, Loc};
 use std::alloc::{AllocError, Global};
 
 /// A name without the component `__cedar`.
-#[derive(PartialEq, Eq, PartialOrd, Ord, Hash, Debug, Drop)]
+#[derive(PartialEq, Eq, PartialOrd, Ord, Hash, Debug)]
 pub struct Name {
     pub name: InternalName,
     pub ghost unreserved: { has_cedar (components_of name) ≡ false },
+}
+
+impl Drop for Name {
+    fn drop(self) {
+        let Name { name: _name } = self;
+    }
 }
 
 impl Name {

@@ -14,9 +14,15 @@ use cedar_data::{CloneIn, Loc, NonEmpty};
 use std::alloc::{AllocError, Global};
 
 /// A name as it was written, which a namespace may still qualify.
-#[derive(PartialEq, Eq, PartialOrd, Ord, Hash, Debug, Drop)]
+#[derive(PartialEq, Eq, PartialOrd, Ord, Hash, Debug)]
 pub struct RawName {
     pub name: InternalName,
+}
+
+impl Drop for RawName {
+    fn drop(self) {
+        let RawName { name: _name } = self;
+    }
 }
 
 impl RawName {

@@ -2,7 +2,6 @@ ghost use Rattle.std.specs.Prelude.{◌≡◌, false};
 ghost use Rattle.cedar_identifiers.specs.Words.{is_cedar};
 
 use crate::id::Id;
-use crate::internal_name::InternalName;
 use crate::name_fault::NameFault;
 use crate::name_kind::NameKind;
 use crate::name_reader::read_name;
@@ -11,10 +10,16 @@ use cedar_data::CloneIn;
 use std::alloc::{AllocError, Global};
 
 /// A word that may stand in a declared name: any `Id` but `__cedar`.
-#[derive(PartialEq, Eq, PartialOrd, Ord, Hash, Debug, Drop)]
+#[derive(PartialEq, Eq, PartialOrd, Ord, Hash, Debug)]
 pub struct UnreservedId {
     pub id: Id,
     pub ghost unreserved: { is_cedar id.text ≡ false },
+}
+
+impl Drop for UnreservedId {
+    fn drop(self) {
+        let UnreservedId { id: _id } = self;
+    }
 }
 
 impl UnreservedId {
@@ -26,9 +31,10 @@ impl UnreservedId {
         ensures ok { IfOk result (λ id. ReadsAs NameKind.UnreservedId s.now (id.id.text ∷ [])) }
         ensures err { IfErr result (NameFaultOf NameKind.UnreservedId s.now) }
     {
-        let InternalName { first, others, .. } = read_name(alloc, NameKind::UnreservedId, s)?;
-        drop(others);
-        Ok(UnreservedId { id: first })
+        let name = read_name(alloc, NameKind::UnreservedId, s)?;
+        Ok(UnreservedId {
+            id: name.into_first(),
+        })
     }
 
     /// The word as one that is not `__cedar`, and `None` exactly where it is.

@@ -18,12 +18,22 @@ use std::marker::Model;
 use std::sync::ledger::Ledger;
 
 /// What is defined: names of common types, names of entity types, and actions. Contracts see three sets, without places.
-#[derive(Drop)]
 pub struct AllDefs {
     common_defs: Vec<InternalName>,
     entity_defs: Vec<InternalName>,
     action_defs: Vec<EntityUID>,
     alloc: Global,
+}
+
+impl Drop for AllDefs {
+    fn drop(self) {
+        let AllDefs {
+            common_defs: _common_defs,
+            entity_defs: _entity_defs,
+            action_defs: _action_defs,
+            alloc: _alloc,
+        } = self;
+    }
 }
 
 impl Model for AllDefs {

@@ -12,7 +12,7 @@ use schema_syntax_tokens::push_quoted;
 use std::alloc::{AllocError, Global};
 
 /// An entity: its type and its id, with a place that no comparison sees. It is ordered by type, then by the bytes of its id.
-#[derive(Debug, Drop)]
+#[derive(Debug)]
 #[derive_where(PartialEq, Eq, PartialOrd, Ord, Hash)]
 pub struct EntityUID {
     pub ty: Name,
@@ -21,9 +21,27 @@ pub struct EntityUID {
     pub loc: Option<Loc>,
 }
 
+impl Drop for EntityUID {
+    fn drop(self) {
+        let EntityUID {
+            ty: _ty,
+            eid: _eid,
+            loc: _loc,
+        } = self;
+    }
+}
+
 impl EntityUID {
-    ghost use Rattle.std.specs.Prelude.{IfOk};
+    ghost use Rattle.std.specs.Prelude.{◌≡◌, ◌×◌, IfOk};
     ghost use Rattle.cedar_names.specs.EntityTexts.{entity_text};
+
+    /// The type and the id, without the place.
+    pub fn components(self) -> (Name, Eid)
+        ensures { result ≡ (self.ty, self.eid) }
+    {
+        let EntityUID { ty, eid, loc: _loc } = self;
+        (ty, eid)
+    }
 
     /// The entity's text: its type, `::` and its id as a string.
     pub fn text(&self, alloc: Global) -> Result<Text, AllocError>

@@ -12,10 +12,15 @@ use std::collections::BTreeSet;
 
 /// The names of the extension types that a schema may use: distinct words, none of them reserved or the name of what every
 /// schema has.
-#[derive(Drop)]
 pub struct ExtensionTable {
     pub names: Set<UnreservedId>,
     pub ghost extensions: { list_any (λ n. is_builtin n.id.text) names ≡ false },
+}
+
+impl Drop for ExtensionTable {
+    fn drop(self) {
+        let ExtensionTable { names: _names } = self;
+    }
 }
 
 /// Another name for the table.

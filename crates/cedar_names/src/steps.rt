@@ -5,10 +5,18 @@ use std::marker::Model;
 use std::sync::ledger::{Book, Ledger, Share};
 
 /// How many steps were taken. It takes no bytes, and only `tick` changes it.
-#[derive(Drop)]
 pub struct Steps<L: Ledger> {
     book: Book<L>,
     share: Share<L>,
+}
+
+impl<L: Ledger + Drop> Drop for Steps<L> {
+    fn drop(self) {
+        let Steps {
+            book: _book,
+            share: _share,
+        } = self;
+    }
 }
 
 impl<L: Ledger> Model for Steps<L> {

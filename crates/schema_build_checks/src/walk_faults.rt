@@ -52,7 +52,7 @@ pub fn check_features(alloc: Global, fragment: &Fragment<RawName>) -> Result<(),
 fn unknown(alloc: Global, id: UnreservedId) -> SchemaError
     ensures { NamesExtension id result }
 {
-    let name = alone(alloc, id.id);
+    let name = alone(alloc, id.into_id());
     let actual = Name { name };
     SchemaError::UnknownExtensionType(UnknownExtensionTypeError { actual })
 }

@@ -13,9 +13,15 @@ use schema_syntax_errors::ParseErrors;
 use std::alloc::{AllocError, Global};
 
 /// What keeps a tree from being a fragment: at least one fault, in order.
-#[derive(PartialEq, Eq, Debug, Drop)]
+#[derive(PartialEq, Eq, Debug)]
 pub struct ToJsonSchemaErrors {
     pub errors: NonEmpty<ToJsonSchemaError>,
+}
+
+impl Drop for ToJsonSchemaErrors {
+    fn drop(self) {
+        let ToJsonSchemaErrors { errors: _errors } = self;
+    }
 }
 
 impl ToJsonSchemaErrors {

@@ -141,8 +141,7 @@ impl ActionEntityUID<Name> {
         ensures id { result.id ≡ uid.eid.0 }
         ensures ty { result.ty ≡ Some uid.ty }
     {
-        let EntityUID { ty, eid, .. } = uid;
-        let Eid(id) = eid;
+        let (ty, Eid(id)) = uid.components();
         ActionEntityUID::with_type(ty, id)
     }
 }

@@ -10,9 +10,15 @@ use cedar_identifiers::{Annotations, UnreservedId};
 use std::alloc::{AllocError, Global};
 
 /// The name of a declared common type.
-#[derive(PartialEq, Eq, PartialOrd, Ord, Hash, Drop)]
+#[derive(PartialEq, Eq, PartialOrd, Ord, Hash)]
 pub struct CommonTypeId {
     pub id: UnreservedId,
+}
+
+impl Drop for CommonTypeId {
+    fn drop(self) {
+        let CommonTypeId { id: _id } = self;
+    }
 }
 
 /// A declared common type: what it stands for, with a place that no comparison sees.

@@ -6,9 +6,14 @@ use cedar_identifiers::{Annotations, Name, NameText, UnreservedId};
 use std::alloc::{AllocError, Global};
 
 /// A fragment of a schema: its namespaces by name. The empty one has none.
-#[derive(Drop)]
 #[derive_where(PartialEq, Eq, PartialOrd, Ord, Hash; N)]
 pub struct Fragment<N: NameText>(pub Map<Option<Name>, NamespaceDefinition<N>>);
+
+impl<N: NameText + Drop> Drop for Fragment<N> {
+    fn drop(self) {
+        let Fragment(_value) = self;
+    }
+}
 
 /// A namespace: the common types, entity types and actions that it declares, by name.
 #[derive(Drop)]

@@ -10,9 +10,15 @@ use cedar_data::{CloneIn, Label, Loc, NonEmpty, NonEmptyIntoIter, NonEmptyIter, 
 use std::alloc::{AllocError, Global};
 
 /// The faults of a text, at least one. They speak by the first.
-#[derive(PartialEq, Eq, Debug, Drop)]
+#[derive(PartialEq, Eq, Debug)]
 pub struct ParseErrors {
     pub errors: NonEmpty<ParseError>,
+}
+
+impl Drop for ParseErrors {
+    fn drop(self) {
+        let ParseErrors { errors: _errors } = self;
+    }
 }
 
 impl ParseErrors {

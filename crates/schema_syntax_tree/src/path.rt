@@ -14,12 +14,20 @@ use std::mem;
 
 /// The name of a namespace or a type as it was written: its ids, the outermost first, with a place that no comparison
 /// sees.
-#[derive(Drop)]
 #[derive_where(PartialEq, Eq, PartialOrd, Ord, Hash)]
 pub struct Path<'a> {
     ids: NonEmpty<SrcId<'a>>,
     #[derive_where(skip(EqHashOrd))]
     loc: Option<Loc>,
+}
+
+impl<'a> Drop for Path<'a> {
+    fn drop(self) {
+        let Path {
+            ids: _ids,
+            loc: _loc,
+        } = self;
+    }
 }
 
 impl<'a> Path<'a> {
@@ -139,9 +147,14 @@ impl<'a> CloneIn for Path<'a> {
 }
 
 /// The ids of a path, the outermost first.
-#[derive(Drop)]
 pub struct PathIter<'b, 'a> {
     ids: NonEmptyIter<'b, SrcId<'a>>,
+}
+
+impl<'b, 'a> Drop for PathIter<'b, 'a> {
+    fn drop(self) {
+        let PathIter { ids: _ids } = self;
+    }
 }
 
 impl<'b, 'a> Iterator for PathIter<'b, 'a> {
@@ -157,11 +170,20 @@ impl<'b, 'a> Iterator for PathIter<'b, 'a> {
 }
 
 /// The ids that a path had, the outermost first, each with the path's place.
-#[derive(Drop)]
 pub struct PathIntoIter<'a> {
     first: Option<SrcId<'a>>,
     others: VecDeque<SrcId<'a>>,
     loc: Option<Loc>,
+}
+
+impl<'a> Drop for PathIntoIter<'a> {
+    fn drop(self) {
+        let PathIntoIter {
+            first: _first,
+            others: _others,
+            loc: _loc,
+        } = self;
+    }
 }
 
 impl<'a> Iterator for PathIntoIter<'a> {

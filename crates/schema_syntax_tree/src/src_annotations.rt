@@ -30,9 +30,14 @@ pub struct SrcAnnotation<'a> {
 }
 
 /// What is said beside an item, in slices of the source. Contracts see the `Annotations`.
-#[derive(Drop)]
 pub struct SrcAnnotations<'a> {
     notes: Map<SrcWord<'a>, Option<SrcStr<'a>>>,
+}
+
+impl<'a> Drop for SrcAnnotations<'a> {
+    fn drop(self) {
+        let SrcAnnotations { notes: _notes } = self;
+    }
 }
 
 impl<'a> Model for SrcAnnotations<'a> {

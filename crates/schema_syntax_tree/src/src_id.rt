@@ -17,10 +17,15 @@ use std::hash::{Hash, Hasher};
 use std::marker::Model;
 
 /// A slice of a source that is an `Id`. Contracts see the `Id`.
-#[derive(Drop)]
 pub struct SrcId<'a> {
     text: &'a str,
     ghost word: { is_id text.now ≡ true },
+}
+
+impl<'a> Drop for SrcId<'a> {
+    fn drop(self) {
+        let SrcId { text: _text } = self;
+    }
 }
 
 impl<'a> Model for SrcId<'a> {

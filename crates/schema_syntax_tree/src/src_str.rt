@@ -19,10 +19,15 @@ use std::hash::{Hash, Hasher};
 use std::marker::Model;
 
 /// The body of a string of a source. Contracts see the characters that it stands for.
-#[derive(Drop)]
 pub struct SrcStr<'a> {
     body: &'a str,
     ghost stands: { IsLent body.now } by { IsLent-prop body.now },
+}
+
+impl<'a> Drop for SrcStr<'a> {
+    fn drop(self) {
+        let SrcStr { body: _body } = self;
+    }
 }
 
 impl<'a> Model for SrcStr<'a> {

@@ -16,10 +16,15 @@ use std::hash::{Hash, Hasher};
 use std::marker::Model;
 
 /// A slice of a source that is a word. Contracts see the `AnyId`.
-#[derive(Drop)]
 pub struct SrcWord<'a> {
     text: &'a str,
     ghost word: { is_word text.now ≡ true },
+}
+
+impl<'a> Drop for SrcWord<'a> {
+    fn drop(self) {
+        let SrcWord { text: _text } = self;
+    }
 }
 
 impl<'a> Model for SrcWord<'a> {
