@@ -1,6 +1,7 @@
 pub mod Entries
 pub mod Fed
 pub mod Halving
+pub mod Held
 pub mod Maps
 pub mod NonEmpty
 pub mod Rows

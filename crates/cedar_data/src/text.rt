@@ -10,20 +10,33 @@ ghost use Rattle.cedar_data.specs.Text.{text_cmp, IsTextFront};
 ghost use Rattle.std.proofs.Common.{rules};
 
 use crate::clone_in::CloneIn;
+use arrayvec::ArrayString;
 use std::alloc::{AllocError, Global};
 use std::cmp::Ordering;
 use std::hash::{Hash, Hasher};
 use std::marker::Model;
 
-/// An owned text, which contracts see as its list of characters. It is ordered by its bytes in UTF-8.
+/// An owned text, which contracts see as its list of characters. It is ordered by its bytes in UTF-8. A text of at most 16
+/// bytes stands in the value itself and takes no memory.
 #[derive(Debug)]
 pub struct Text {
-    text: String,
+    held: Held,
+    alloc: Global,
+}
+
+// Where the characters stand: in the value itself, or in a string.
+#[derive(Debug, Drop)]
+enum Held {
+    Short(ArrayString<16>),
+    Long(String),
 }
 
 impl Drop for Text {
     fn drop(self) {
-        let Text { text: _text } = self;
+        let Text {
+            held: _held,
+            alloc: _alloc,
+        } = self;
     }
 }
 
@@ -31,13 +44,73 @@ impl Model for Text {
     ghost use Rattle.std.specs.Prelude.{List, ℕ};
     ghost use Rattle.std.specs.Coded.{coded_list, coded_ℕ};
     ghost use Rattle.std.specs.Str.{chars};
-    ghost use Rattle.std.specs.String.{string_bytes};
+    ghost use Rattle.cedar_data.specs.Held.{held_bytes};
 
     ghost Value = { List ℕ };
 
     ghost coded = { coded_list coded_ℕ };
 
-    ghost view = { λ t. chars (string_bytes t.text) };
+    ghost view = { λ t. chars (held_bytes t.held) };
+}
+
+impl Held {
+    ghost use Rattle.std.specs.Prelude.{◌≡◌, ◌++◌, ◌≤◌, if◌then◌else◌, take, length, IfOk};
+    ghost use Rattle.std.specs.Result.{is_ok};
+    ghost use Rattle.std.specs.Str.{IsUtf8};
+    ghost use Rattle.std.specs.String.Boundary.{IsSplitPoint};
+    ghost use Rattle.cedar_data.specs.Held.{held_bytes};
+
+    // A copy of the text.
+    fn from_str(alloc: Global, s: &str) -> Result<Held, AllocError>
+        ensures { IfOk result (λ held. held_bytes held ≡ s.now) }
+    {
+        match ArrayString::from(s) {
+            Ok(text) => Ok(Held::Short(text)),
+            Err(_) => Ok(Held::Long(String::from_str(alloc, s)?)),
+        }
+    }
+
+    // The text, lent.
+    fn as_str(&self) -> &str
+        ensures bytes { result.now ≡ held_bytes self.now }
+        ensures text { IsUtf8 (held_bytes self.now) }
+    {
+        match self {
+            Held::Short(text) => text.as_str(),
+            Held::Long(text) => text.as_str(),
+        }
+    }
+
+    // Adds the bytes at the end. A text that they do not fit into becomes a string first.
+    fn push_str(&mut self, alloc: Global, more: &str) -> Result<(), AllocError>
+        ensures bytes { held_bytes self.new ≡ (if is_ok result then held_bytes self.old ++ more.now else held_bytes self.old) }
+        ensures text { IsUtf8 (held_bytes self.old) }
+    {
+        let _text = self.as_str();
+        match self {
+            Held::Short(text) => {
+                if text.try_push_str(more).is_ok() {
+                    return Ok(());
+                }
+                let mut long = String::from_str(alloc, text.as_str())?;
+                long.push_str(more)?;
+                *self = Held::Long(long);
+                Ok(())
+            }
+            Held::Long(text) => text.push_str(more),
+        }
+    }
+
+    // Takes off all but the first bytes, which end where a character does.
+    fn truncate(&mut self, len: usize)
+        requires { len ≤ length (held_bytes self.old) → IsSplitPoint (held_bytes self.old) len }
+        ensures { held_bytes self.new ≡ take len (held_bytes self.old) }
+    {
+        match self {
+            Held::Short(text) => text.truncate(len),
+            Held::Long(text) => text.truncate(len),
+        }
+    }
 }
 
 impl Text {
@@ -45,24 +118,26 @@ impl Text {
     pub fn new(alloc: Global) -> Text
         ensures { result ≡ [] }
     {
-        Text {
-            text: String::new(alloc),
-        }
+        Text::from_string(String::new(alloc))
     }
 
     /// A copy of the text.
     pub fn from_str(alloc: Global, s: &str) -> Result<Text, AllocError>
         ensures { IfOk result (λ t. t ≡ chars s.now) }
     {
-        let text = String::from_str(alloc, s)?;
-        Ok(Text { text })
+        let held = Held::from_str(alloc, s)?;
+        Ok(Text { held, alloc })
     }
 
     /// The text that the string holds, which takes no memory.
     pub fn from_string(text: String) -> Text
         ensures { result ≡ chars (string_bytes text) }
     {
-        Text { text }
+        let alloc = *text.allocator();
+        Text {
+            held: Held::Long(text),
+            alloc,
+        }
     }
 
     /// The text, lent as bytes in UTF-8.
@@ -70,7 +145,7 @@ impl Text {
         ensures bytes { result.now ≡ encode_utf8_all self.now }
         ensures characters { all_scalars self.now ≡ true }
     {
-        self.text.as_str()
+        self.held.as_str()
     }
 
     /// Adds the characters at the end.
@@ -78,7 +153,7 @@ impl Text {
         ensures ok { OnOk result (self.new ≡ self.old ++ chars more.now) }
         ensures err { OnErr result (self.new ≡ self.old) }
     {
-        self.text.push_str(more)
+        self.held.push_str(self.alloc, more)
     }
 
     /// Adds the text at the end.
@@ -94,7 +169,8 @@ impl Text {
         requires { (front : List ℕ) × IsTextFront self.old len front }
         ensures { (front : List ℕ) → IsTextFront self.old len front → self.new ≡ front }
     {
-        self.text.truncate(len);
+        let _text = self.held.as_str();
+        self.held.truncate(len);
     }
 }
 

@@ -4,4 +4,4 @@ use Rattle.std.proofs.lemmas.Str.{chars-nil}
 use Rattle.cedar_data.proofs.text.Text.new.Goals as goal
 
 pub returns : goal.returns
-returns c = ap chars c.new.ensures.bytes ∙ chars-nil
+returns c = c.from_string.ensures ∙ ap chars c.new.ensures.bytes ∙ chars-nil

@@ -1,0 +1,9 @@
+-- Where the characters of a text stand.
+use Rattle.std.specs.Prelude.{ℕ, List}
+use Rattle.std.specs.String.{string_bytes}
+use Rattle.cedar_data.specs.declared.text.Held.{Held}
+use Rattle.cedar_data.specs.declared.text.Held.TheVariants.{Short, Long}
+
+abbrev pub held_bytes : Held → List ℕ
+held_bytes (Short text) = text.bytes
+held_bytes (Long text) = string_bytes text
