@@ -5,24 +5,45 @@ ghost use Rattle.cedar_data.specs.Words.{is_word_start, is_word_part};
 
 use schema_syntax_grammar::TokenKind;
 
-/// The kind of the word.
+/// The kind of the word. Only the words of its own length are compared with it.
 pub(crate) fn word_kind(word: &str) -> TokenKind
     ensures { result ≡ word_kind word.now }
 {
-    match word {
-        "namespace" => TokenKind::KwNamespace,
-        "entity" => TokenKind::KwEntity,
-        "external" => TokenKind::KwExternal,
-        "in" => TokenKind::KwIn,
-        "type" => TokenKind::KwType,
-        "Set" => TokenKind::KwSet,
-        "appliesTo" => TokenKind::KwAppliesTo,
-        "principal" => TokenKind::KwPrincipal,
-        "action" => TokenKind::KwAction,
-        "resource" => TokenKind::KwResource,
-        "context" => TokenKind::KwContext,
-        "tags" => TokenKind::KwTags,
-        "enum" => TokenKind::KwEnum,
+    match word.len() {
+        2 => match word {
+            "in" => TokenKind::KwIn,
+            _ => TokenKind::Identifier,
+        },
+        3 => match word {
+            "Set" => TokenKind::KwSet,
+            _ => TokenKind::Identifier,
+        },
+        4 => match word {
+            "type" => TokenKind::KwType,
+            "tags" => TokenKind::KwTags,
+            "enum" => TokenKind::KwEnum,
+            _ => TokenKind::Identifier,
+        },
+        6 => match word {
+            "entity" => TokenKind::KwEntity,
+            "action" => TokenKind::KwAction,
+            _ => TokenKind::Identifier,
+        },
+        7 => match word {
+            "context" => TokenKind::KwContext,
+            _ => TokenKind::Identifier,
+        },
+        8 => match word {
+            "external" => TokenKind::KwExternal,
+            "resource" => TokenKind::KwResource,
+            _ => TokenKind::Identifier,
+        },
+        9 => match word {
+            "namespace" => TokenKind::KwNamespace,
+            "appliesTo" => TokenKind::KwAppliesTo,
+            "principal" => TokenKind::KwPrincipal,
+            _ => TokenKind::Identifier,
+        },
         _ => TokenKind::Identifier,
     }
 }
