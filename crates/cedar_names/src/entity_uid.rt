@@ -32,7 +32,7 @@ impl Drop for EntityUID {
 }
 
 impl EntityUID {
-    ghost use Rattle.std.specs.Prelude.{◌≡◌, ◌×◌, IfOk};
+    ghost use Rattle.std.specs.Prelude.{◌≡◌, IfOk};
     ghost use Rattle.cedar_names.specs.EntityTexts.{entity_text};
 
     /// The type and the id, without the place.
