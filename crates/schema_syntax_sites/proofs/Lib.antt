@@ -1,1 +1,5 @@
-mod Fitted
+mod ExactSites
+mod KeywordReadings
+mod OneReading
+mod ReadParts
+mod ReadingForms
