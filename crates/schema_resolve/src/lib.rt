@@ -11,6 +11,7 @@ mod rename_fragments;
 mod rename_items;
 mod rename_namespaces;
 mod rename_types;
+mod renamed;
 mod renamer;
 pub mod resolve_fragment;
 mod resolver;
