@@ -60,6 +60,12 @@ read_object-read_shape-requires t c =
       ),
     )
 
+pub read_object-returns-in_err-text : goal.read_object-returns-in_err-text
+read_object-returns-in_err-text t c =
+    let e = c.in_err-text.field-0.0 in
+    refused c.from_residual.result e _ _ c.from_residual.ensures.1
+    (fails _ _ e c.in_err-text.ensures)
+
 pub read_object-returns-in_err-is_open : goal.read_object-returns-in_err-is_open
 read_object-returns-in_err-is_open t c =
     let ms = members_view c.args.members.now.entries in
