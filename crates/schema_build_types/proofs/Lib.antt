@@ -1,3 +1,4 @@
 pub mod Contents
 mod Cost
+mod Paired
 mod Sizes

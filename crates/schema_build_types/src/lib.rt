@@ -3,11 +3,13 @@
 
 pub mod action;
 pub mod entity_type;
+pub mod entries;
 pub mod laws;
 pub mod lookups;
 pub mod types;
 
 pub use action::{ValidatorActionId, ValidatorActionKind};
 pub use entity_type::{ValidatorEntityType, ValidatorEntityTypeKind};
+pub use entries::{ActionEntry, EntityTypeEntry, Entry};
 pub use lookups::get_counted;
 pub use types::Type;

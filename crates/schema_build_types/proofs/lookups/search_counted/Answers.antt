@@ -1,15 +1,17 @@
-use Rattle.std.proofs.Common.{◌≡◌, ◌+◌, ◌-◌, arith, sym, ap, ◌∙◌, length}
-use Rattle.cedar_data.proofs.Halving.{below_more, above_more}
+use Rattle.std.proofs.Common.{◌≡◌, ◌+◌, ◌-◌, arith, sym, ◌∙◌, length}
+use Rattle.std.proofs.lemmas.List.{length-map}
 use Rattle.schema_build_types.proofs.Cost.{none_yet, halved}
+use Rattle.schema_build_types.proofs.Paired.{below_paired, above_paired}
 use Rattle.schema_build_types.proofs.lookups.search_counted.Goals as goal
 
 pub loop-low-init : goal.loop-low-init
 loop-low-init g c = record {
   ordered = omega arith;
+  within = omega arith;
   gap = record {
-    in_range = omega arith;
+    in_range = omega (arith, length-map c.args.entries.now g.E.Entry.pair);
     below = λ k d h. absurd (omega arith);
-    above = λ k d h i. absurd (omega arith);
+    above = λ k d h i. absurd (omega (arith, length-map c.args.entries.now g.E.Entry.pair));
   };
   counted = omega arith;
   cost = none_yet c.args.steps.now (length c.args.entries.now);
@@ -20,9 +22,10 @@ loop-low-preserved-in-Less g c =
     let l = c.loop-low in
     record {
       ordered = omega arith;
-      gap = below_more g.met.K.Ord.total c.args.key.now c.args.entries.now l.low l.high _
+      within = omega arith;
+      gap = below_paired g.E.Entry.pair g.met.E.Key.Ord.total c.args.key.now c.args.entries.now l.low l.high _
           c.index-entries-middle.result c.requires l.invariant.gap (omega arith) c.index-entries-middle.is
-          (ap (λ e. g.K.Ord.cmp e.0 c.args.key.now) c.index-entries-middle.is ∙ sym c.cmp.ensures ∙ c.in-Less.is);
+          c.key.result.now c.key.ensures (sym c.cmp.ensures ∙ c.in-Less.is);
       counted = omega arith;
       cost = (let ticked : c.tick.new.self ≡ l.steps + 1 = c.tick.ensures in
           rw ticked (halved c.args.steps.now l.steps (l.high - l.low) _ (length c.args.entries.now)
@@ -34,9 +37,10 @@ loop-low-preserved g c =
     let l = c.loop-low in
     record {
       ordered = omega arith;
-      gap = above_more g.met.K.Ord.total c.args.key.now c.args.entries.now l.low l.high _
+      within = omega arith;
+      gap = above_paired g.E.Entry.pair g.met.E.Key.Ord.total c.args.key.now c.args.entries.now l.low l.high _
           c.index-entries-middle.result c.requires l.invariant.gap (omega arith) c.index-entries-middle.is
-          (ap (λ e. g.K.Ord.cmp e.0 c.args.key.now) c.index-entries-middle.is ∙ sym c.cmp.ensures ∙ c.in-Greater.is);
+          c.key.result.now c.key.ensures (sym c.cmp.ensures ∙ c.in-Greater.is);
       counted = omega arith;
       cost = (let ticked : c.tick.new.self ≡ l.steps + 1 = c.tick.ensures in
           rw ticked (halved c.args.steps.now l.steps (l.high - l.low) _ (length c.args.entries.now)

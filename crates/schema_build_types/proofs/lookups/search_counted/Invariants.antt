@@ -1,4 +1,4 @@
-use Rattle.std.proofs.Common.{◌≤◌, ◌-◌, length}
+use Rattle.std.proofs.Common.{◌≤◌, ◌-◌, length, map}
 use Rattle.cedar_data.specs.Halving.{IsGap}
 use Rattle.schema_build_types.proofs.Cost.{IsCost}
 use Rattle.schema_build_types.proofs.lookups.search_counted.Given as goal
@@ -6,7 +6,8 @@ use Rattle.schema_build_types.proofs.lookups.search_counted.Given as goal
 abbrev pub invariant-loop-low : goal.invariant-loop-low
 invariant-loop-low g l = record {
   ordered : l.low ≤ l.high;
-  gap : IsGap g.K.Ord.cmp l.key l.entries l.low l.high;
+  within : l.high ≤ length l.entries;
+  gap : IsGap g.E.Key.Ord.cmp l.key (map g.E.Entry.pair l.entries) l.low l.high;
   counted : l.fn.steps ≤ l.steps;
   cost : IsCost (l.steps - l.fn.steps) (l.high - l.low) (length l.entries);
 }
