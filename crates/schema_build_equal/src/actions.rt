@@ -4,8 +4,7 @@ ghost use Rattle.schema_build_equal.specs.Declared.{action_kind};
 
 use crate::sets::{same_actions, same_names, same_uid};
 use crate::types::same_type;
-use cedar_names::EntityUID;
-use schema_build_types::{ValidatorActionId, ValidatorActionKind};
+use schema_build_types::{ActionEntry, ValidatorActionKind};
 
 // Whether the same is declared of two actions, their ancestors aside.
 fn same_kind(a: &ValidatorActionKind, b: &ValidatorActionKind) -> bool
@@ -34,23 +33,20 @@ fn same_kind(a: &ValidatorActionKind, b: &ValidatorActionKind) -> bool
 }
 
 // Whether two actions say the same.
-fn same_action(a: &(EntityUID, ValidatorActionId), b: &(EntityUID, ValidatorActionId)) -> bool
+fn same_action(a: &ActionEntry, b: &ActionEntry) -> bool
     ensures { result ≡ true ↔ action_content a.now ≡ action_content b.now }
 {
-    if !same_uid(&a.0, &b.0) {
+    if !same_uid(&a.uid, &b.uid) {
         return false;
     }
-    if !same_actions(a.1.ancestors.as_slice(), b.1.ancestors.as_slice()) {
+    if !same_actions(a.action.ancestors.as_slice(), b.action.ancestors.as_slice()) {
         return false;
     }
-    same_kind(&a.1.kind, &b.1.kind)
+    same_kind(&a.action.kind, &b.action.kind)
 }
 
 /// Whether the actions say the same in turn.
-pub fn same_declared_actions(
-    a: &[(EntityUID, ValidatorActionId)],
-    b: &[(EntityUID, ValidatorActionId)],
-) -> bool
+pub fn same_declared_actions(a: &[ActionEntry], b: &[ActionEntry]) -> bool
     ensures { result ≡ true ↔ map action_content a.now ≡ map action_content b.now }
 {
     if a.len() != b.len() {

@@ -5,8 +5,7 @@ ghost use Rattle.schema_build_equal.specs.Declared.{entity_kind};
 
 use crate::sets::{same_name, same_names};
 use crate::types::{same_attributes, same_type};
-use cedar_identifiers::Name;
-use schema_build_types::{Type, ValidatorEntityType, ValidatorEntityTypeKind};
+use schema_build_types::{EntityTypeEntry, Type, ValidatorEntityTypeKind};
 
 // Whether both have tags of one type, or neither has tags.
 fn same_tags(a: &Option<Type>, b: &Option<Type>) -> bool
@@ -55,23 +54,20 @@ fn same_kind(a: &ValidatorEntityTypeKind, b: &ValidatorEntityTypeKind) -> bool
 }
 
 // Whether two entity types say the same.
-fn same_entity_type(a: &(Name, ValidatorEntityType), b: &(Name, ValidatorEntityType)) -> bool
+fn same_entity_type(a: &EntityTypeEntry, b: &EntityTypeEntry) -> bool
     ensures { result ≡ true ↔ entity_content a.now ≡ entity_content b.now }
 {
-    if !same_name(&a.0, &b.0) {
+    if !same_name(&a.name, &b.name) {
         return false;
     }
-    if !same_names(a.1.ancestors.as_slice(), b.1.ancestors.as_slice()) {
+    if !same_names(a.ty.ancestors.as_slice(), b.ty.ancestors.as_slice()) {
         return false;
     }
-    same_kind(&a.1.kind, &b.1.kind)
+    same_kind(&a.ty.kind, &b.ty.kind)
 }
 
 /// Whether the entity types say the same in turn.
-pub fn same_entity_types(
-    a: &[(Name, ValidatorEntityType)],
-    b: &[(Name, ValidatorEntityType)],
-) -> bool
+pub fn same_entity_types(a: &[EntityTypeEntry], b: &[EntityTypeEntry]) -> bool
     ensures { result ≡ true ↔ map entity_content a.now ≡ map entity_content b.now }
 {
     if a.len() != b.len() {
