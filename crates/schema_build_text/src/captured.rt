@@ -15,10 +15,9 @@ use crate::items::{Item, items_in_order, name_of};
 use crate::names::are_together;
 use cedar_data::{CloneIn, List, NonEmpty, Text};
 use cedar_identifiers::{InternalName, Name, UnreservedId};
-use cedar_names::EntityUID;
 use schema_build_errors::{CapturedItem, ReferenceCaptured};
 use schema_build_types::{
-    Type, ValidatorActionId, ValidatorActionKind, ValidatorEntityType, ValidatorEntityTypeKind,
+    ActionEntry, EntityTypeEntry, Type, ValidatorActionKind, ValidatorEntityTypeKind,
 };
 use std::alloc::{AllocError, Global};
 
@@ -231,8 +230,8 @@ pub fn first_captured_of(
 /// The first captured item of a built schema, in the order of the walk; none exactly where nothing is captured.
 pub fn first_captured(
     alloc: Global,
-    entities: &[(Name, ValidatorEntityType)],
-    actions: &[(EntityUID, ValidatorActionId)],
+    entities: &[EntityTypeEntry],
+    actions: &[ActionEntry],
 ) -> Result<Option<ReferenceCaptured>, AllocError>
     ensures first { IfOk result (λ found. MatchOption found (captured_items (content entities.now actions.now) ≡ []) (IsFirstOf (captured_items (content entities.now actions.now)))) }
     ensures meant { IfOk result (λ found. (m : SchemaMeaning) → SchemaStandsFor entities.now actions.now m → MatchOption found (IsUncaptured m) (IsFirstCaptured m)) }

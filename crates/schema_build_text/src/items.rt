@@ -12,7 +12,7 @@ use crate::names::compare_namespaces;
 use cedar_data::Text;
 use cedar_identifiers::{InternalName, Name};
 use cedar_names::EntityUID;
-use schema_build_types::{ValidatorActionId, ValidatorEntityType};
+use schema_build_types::{ActionEntry, EntityTypeEntry, ValidatorActionId, ValidatorEntityType};
 use std::alloc::{AllocError, Global};
 
 /// An entity type or an action of a built schema, lent.
@@ -35,17 +35,17 @@ pub fn name_of<'a>(item: &Item<'a>) -> &'a InternalName
 // The entity types, then the actions.
 fn lend_items<'a>(
     alloc: Global,
-    entities: &'a [(Name, ValidatorEntityType)],
-    actions: &'a [(EntityUID, ValidatorActionId)],
+    entities: &'a [EntityTypeEntry],
+    actions: &'a [ActionEntry],
 ) -> Result<Vec<Item<'a>>, AllocError>
     ensures { IfOk result (λ items. map item_content items.items ≡ items_of (content entities.now actions.now)) }
 {
     let mut items = Vec::with_capacity(alloc, entities.len())?;
-    for (name, ty) in entities {
-        items.push(Item::EntityType(name, ty))?;
+    for entity in entities {
+        items.push(Item::EntityType(&entity.name, &entity.ty))?;
     }
-    for (uid, action) in actions {
-        items.push(Item::Action(uid, action))?;
+    for action in actions {
+        items.push(Item::Action(&action.uid, &action.action))?;
     }
     Ok(items)
 }
@@ -53,8 +53,8 @@ fn lend_items<'a>(
 /// The items in the order of the walk: by namespace, and in each the entity types, then the actions.
 pub fn items_in_order<'a>(
     alloc: Global,
-    entities: &'a [(Name, ValidatorEntityType)],
-    actions: &'a [(EntityUID, ValidatorActionId)],
+    entities: &'a [EntityTypeEntry],
+    actions: &'a [ActionEntry],
 ) -> Result<Vec<Item<'a>>, AllocError>
     ensures { IfOk result (λ items. map item_content items.items ≡ walk (content entities.now actions.now)) }
 {

@@ -14,9 +14,8 @@ ghost use Rattle.schema_build_text.specs.Walk.{walk};
 use crate::items::{Item, items_in_order, name_of, push_item};
 use crate::names::{base_of, push_break, push_closing, push_opening};
 use cedar_data::Text;
-use cedar_identifiers::{InternalName, Name};
-use cedar_names::EntityUID;
-use schema_build_types::{ValidatorActionId, ValidatorEntityType};
+use cedar_identifiers::InternalName;
+use schema_build_types::{ActionEntry, EntityTypeEntry};
 use std::alloc::{AllocError, Global};
 
 // Adds what stands before the item.
@@ -62,8 +61,8 @@ pub fn print_items(alloc: Global, items: &[Item<'_>]) -> Result<Text, AllocError
 /// The canonical text of a built schema: of the meaning for which its entity types and actions stand.
 pub fn canonical_schema_text(
     alloc: Global,
-    entities: &[(Name, ValidatorEntityType)],
-    actions: &[(EntityUID, ValidatorActionId)],
+    entities: &[EntityTypeEntry],
+    actions: &[ActionEntry],
 ) -> Result<Text, AllocError>
     ensures { IfOk result (λ text. (m : SchemaMeaning) → SchemaStandsFor entities.now actions.now m → encode_utf8_all text ≡ canonical_text m) }
 {

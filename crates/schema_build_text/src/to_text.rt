@@ -9,18 +9,16 @@ use crate::captured::first_captured_of;
 use crate::items::items_in_order;
 use crate::printing::print_items;
 use cedar_data::Text;
-use cedar_identifiers::Name;
-use cedar_names::EntityUID;
 use schema_build_errors::ToTextError;
-use schema_build_types::{ValidatorActionId, ValidatorEntityType};
+use schema_build_types::{ActionEntry, EntityTypeEntry};
 use std::alloc::Global;
 
 /// The canonical text of a built schema of which nothing is captured; `Captured` where an item is captured, and about the
 /// first of them.
 pub fn uncaptured_schema_text(
     alloc: Global,
-    entities: &[(Name, ValidatorEntityType)],
-    actions: &[(EntityUID, ValidatorActionId)],
+    entities: &[EntityTypeEntry],
+    actions: &[ActionEntry],
 ) -> Result<Text, ToTextError>
     ensures text { IfOk result (λ text. (m : SchemaMeaning) → SchemaStandsFor entities.now actions.now m → encode_utf8_all text ≡ canonical_text m) }
     ensures uncaptured { OnOk result ((m : SchemaMeaning) → SchemaStandsFor entities.now actions.now m → IsUncaptured m) }

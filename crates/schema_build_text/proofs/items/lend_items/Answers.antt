@@ -10,6 +10,6 @@ returns c =
     let es = c.args.entities.now in
     let us = c.args.actions.now in
     let all = ap (map (λ a. action (action_content a)))
-    (take_all c.loop-uid.uid-index us (omega (arith, c.loop-uid-test.false)))
+    (take_all c.loop-action.action-index us (omega (arith, c.loop-action-test.false)))
     ∙ sym (map_both action action_content us) in
-    c.loop-uid.invariant ∙ (λ i. sym (map_both entity_type entity_content es) i ++ all i)
+    c.loop-action.invariant ∙ (λ i. sym (map_both entity_type entity_content es) i ++ all i)

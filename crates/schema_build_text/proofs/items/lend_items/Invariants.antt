@@ -4,11 +4,11 @@ use Rattle.schema_build_text.specs.Items.{item_content}
 use Rattle.schema_build_text.specs.Walk.{entity_type, action}
 use Rattle.schema_build_text.proofs.items.lend_items.Given as goal
 
-abbrev pub invariant-loop-name : goal.invariant-loop-name
-invariant-loop-name l = map item_content l.items.items
-    ≡ map (λ e. entity_type (entity_content e)) (take l.name-index l.entities)
+abbrev pub invariant-loop-entity : goal.invariant-loop-entity
+invariant-loop-entity l = map item_content l.items.items
+    ≡ map (λ e. entity_type (entity_content e)) (take l.entity-index l.entities)
 
-abbrev pub invariant-loop-uid : goal.invariant-loop-uid
-invariant-loop-uid l =
+abbrev pub invariant-loop-action : goal.invariant-loop-action
+invariant-loop-action l =
     map item_content l.items.items ≡ map (λ e. entity_type (entity_content e)) l.entities
-    ++ map (λ a. action (action_content a)) (take l.uid-index l.actions)
+    ++ map (λ a. action (action_content a)) (take l.action-index l.actions)
