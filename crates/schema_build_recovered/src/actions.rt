@@ -12,9 +12,8 @@ use crate::sets::{parents, written_names};
 use crate::types::{only_name, recovered_record};
 use cedar_data::{CloneIn, Text};
 use cedar_identifiers::{Annotations, Name, RawName};
-use cedar_names::EntityUID;
 use schema_build_errors::RecoveryError;
-use schema_build_types::{Type as BuiltType, ValidatorActionId, ValidatorActionKind};
+use schema_build_types::{ActionEntry, Type as BuiltType, ValidatorActionKind};
 use schema_json::{ActionType, ApplySpec, AttributesOrContext, RecordType};
 use std::alloc::Global;
 
@@ -79,13 +78,13 @@ fn recovered_spec(
 // What the action applies to, where another schema does not declare it.
 fn recovered_applies_to(
     alloc: Global,
-    entry: &(EntityUID, ValidatorActionId),
+    entry: &ActionEntry,
 ) -> Result<Option<ApplySpec<RawName>>, RecoveryError>
     ensures recovered { IfOk result (IsRecoveredApplies (action_reading (action_content entry.now)) (action_content entry.now).is_external) }
     ensures whole { OnOk result (context_lacks (action_content entry.now).context ≡ []) }
     ensures lack { IfErr result (IsFirstLack (context_lacks (action_content entry.now).context)) }
 {
-    match &entry.1.kind {
+    match &entry.action.kind {
         ValidatorActionKind::Defined {
             principals,
             resources,
@@ -101,16 +100,16 @@ fn recovered_applies_to(
 /// The action, under its id.
 pub fn recovered_action(
     alloc: Global,
-    entry: &(EntityUID, ValidatorActionId),
+    entry: &ActionEntry,
 ) -> Result<(Text, ActionType<RawName>), RecoveryError>
     ensures recovered { IfOk result (IsRecoveredAction (action_reading (action_content entry.now))) }
     ensures whole { OnOk result (context_lacks (action_content entry.now).context ≡ []) }
     ensures lack { IfErr result (IsFirstLack (context_lacks (action_content entry.now).context)) }
 {
     let applies_to = recovered_applies_to(alloc, entry)?;
-    let member_of = parents(alloc, entry.1.ancestors.as_slice())?;
-    let id = entry.0.eid.0.clone_in(alloc)?;
-    let external = matches!(&entry.1.kind, ValidatorActionKind::External);
+    let member_of = parents(alloc, entry.action.ancestors.as_slice())?;
+    let id = entry.uid.eid.0.clone_in(alloc)?;
+    let external = matches!(&entry.action.kind, ValidatorActionKind::External);
     let annotations = Annotations::new(alloc);
     Ok((
         id,

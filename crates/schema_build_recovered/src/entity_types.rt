@@ -15,7 +15,7 @@ use cedar_data::{CloneIn, Map, Text};
 use cedar_identifiers::{Annotations, Name, RawName, UnreservedId};
 use schema_build_errors::RecoveryError;
 use schema_build_text::last_word;
-use schema_build_types::{Type as BuiltType, ValidatorEntityType, ValidatorEntityTypeKind};
+use schema_build_types::{EntityTypeEntry, Type as BuiltType, ValidatorEntityTypeKind};
 use schema_json::{
     AttributesOrContext, EntityType, EntityTypeKind, RecordType, StandardEntityType, Type,
 };
@@ -79,14 +79,14 @@ fn recovered_external(
 // What is declared of the entity type.
 fn recovered_kind(
     alloc: Global,
-    entry: &(Name, ValidatorEntityType),
+    entry: &EntityTypeEntry,
 ) -> Result<EntityTypeKind<RawName>, RecoveryError>
     ensures recovered { IfOk result (IsRecoveredKind (entity_reading (entity_content entry.now)) (entity_reading (entity_content entry.now)).choices) }
     ensures whole { OnOk result (entity_lacks (entity_content entry.now) ≡ []) }
     ensures lack { IfErr result (IsFirstLack (entity_lacks (entity_content entry.now))) }
 {
-    let ancestors = entry.1.ancestors.as_slice();
-    match &entry.1.kind {
+    let ancestors = entry.ty.ancestors.as_slice();
+    match &entry.ty.kind {
         ValidatorEntityTypeKind::Standard {
             attributes,
             more,
@@ -110,15 +110,15 @@ fn recovered_kind(
 /// The entity type, under its basename.
 pub fn recovered_entity_type(
     alloc: Global,
-    entry: &(Name, ValidatorEntityType),
+    entry: &EntityTypeEntry,
 ) -> Result<(UnreservedId, EntityType<RawName>), RecoveryError>
     ensures recovered { IfOk result (IsRecoveredEntity (entity_reading (entity_content entry.now))) }
     ensures whole { OnOk result (entity_lacks (entity_content entry.now) ≡ []) }
     ensures lack { IfErr result (IsFirstLack (entity_lacks (entity_content entry.now))) }
 {
     let kind = recovered_kind(alloc, entry)?;
-    let name = last_word(alloc, &entry.0)?;
-    let external = matches!(&entry.1.kind, ValidatorEntityTypeKind::External);
+    let name = last_word(alloc, &entry.name)?;
+    let external = matches!(&entry.ty.kind, ValidatorEntityTypeKind::External);
     let annotations = Annotations::new(alloc);
     Ok((
         name,

@@ -13,11 +13,10 @@ use crate::names::{Namespace, namespace_of};
 use crate::namespaces::recover_namespaces;
 use crate::sets::in_order;
 use cedar_data::Map;
-use cedar_identifiers::{Name, RawName};
-use cedar_names::EntityUID;
+use cedar_identifiers::RawName;
 use schema_build_errors::RecoveryError;
 use schema_build_text::laws::meanings_are_read_back;
-use schema_build_types::{ValidatorActionId, ValidatorEntityType};
+use schema_build_types::{ActionEntry, EntityTypeEntry};
 use schema_json::Fragment;
 use std::alloc::{AllocError, Global};
 
@@ -35,17 +34,17 @@ fn lend<'a, T>(alloc: Global, items: &'a [T]) -> Result<Vec<&'a T>, AllocError>
 // The namespaces of the items, in order, each once.
 fn namespaces<'a>(
     alloc: Global,
-    entities: &'a [(Name, ValidatorEntityType)],
-    actions: &'a [(EntityUID, ValidatorActionId)],
+    entities: &'a [EntityTypeEntry],
+    actions: &'a [ActionEntry],
 ) -> Result<Vec<Namespace<'a>>, AllocError>
     ensures { IfOk result (λ found. map (λ n. words_of n.words) found.items ≡ namespaces (schema_reading (content entities.now actions.now))) }
 {
     let mut all = Vec::new(alloc);
-    for (name, _) in entities {
-        all.push(namespace_of(name))?;
+    for entity in entities {
+        all.push(namespace_of(&entity.name))?;
     }
-    for (uid, _) in actions {
-        all.push(namespace_of(&uid.ty))?;
+    for action in actions {
+        all.push(namespace_of(&action.uid.ty))?;
     }
     let rising = in_order(alloc, &all)?;
     let mut namespaces = Vec::with_capacity(alloc, rising.len())?;
@@ -59,8 +58,8 @@ fn namespaces<'a>(
 /// stands for. Refused is what no text says, by the first that is lacking, in the order of the walk.
 pub fn recovered_fragment(
     alloc: Global,
-    entities: &[(Name, ValidatorEntityType)],
-    actions: &[(EntityUID, ValidatorActionId)],
+    entities: &[EntityTypeEntry],
+    actions: &[ActionEntry],
 ) -> Result<Fragment<RawName>, RecoveryError>
     ensures recovered { IfOk result (λ f. (m : SchemaMeaning) → SchemaStandsFor entities.now actions.now m → IsRecoveredFragment m f) }
     ensures whole { OnOk result (schema_lacks (content entities.now actions.now) ≡ []) }

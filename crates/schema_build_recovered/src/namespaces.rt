@@ -19,9 +19,8 @@ use crate::entity_types::recovered_entity_type;
 use crate::names::{Namespace, are_one, is_on_side, key_of, namespace_of};
 use cedar_data::{Map, Text};
 use cedar_identifiers::{Annotations, Name, RawName, UnreservedId};
-use cedar_names::EntityUID;
 use schema_build_errors::RecoveryError;
-use schema_build_types::{ValidatorActionId, ValidatorEntityType};
+use schema_build_types::{ActionEntry, EntityTypeEntry};
 use schema_json::{ActionType, EntityType, NamespaceDefinition};
 use std::alloc::{AllocError, Global};
 
@@ -35,19 +34,19 @@ pub trait Item {
         ensures { words_of result.words ≡ home_words self.now };
 }
 
-impl Item for (Name, ValidatorEntityType) {
+impl Item for EntityTypeEntry {
     ghost home_words = { λ e. namespace (components_of e.0.name) };
 
     fn home(&self) -> Namespace<'_> {
-        namespace_of(&self.0)
+        namespace_of(&self.name)
     }
 }
 
-impl Item for (EntityUID, ValidatorActionId) {
+impl Item for ActionEntry {
     ghost home_words = { λ a. namespace (components_of a.0.ty.name) };
 
     fn home(&self) -> Namespace<'_> {
-        namespace_of(&self.0.ty)
+        namespace_of(&self.uid.ty)
     }
 }
 
@@ -75,7 +74,7 @@ fn side<'a, T: Item>(
 fn recovered_entity_types<'a>(
     alloc: Global,
     home: Namespace<'a>,
-    entities: &Vec<&'a (Name, ValidatorEntityType)>,
+    entities: &Vec<&'a EntityTypeEntry>,
 ) -> Result<Map<UnreservedId, EntityType<RawName>>, RecoveryError>
     ensures recovered { IfOk result (IsMapOf (λ a b. text_cmp a.id.text b.id.text) IsRecoveredEntity
         (map (λ e. entity_reading (entity_content e)) (entities_at home.entry.words entities.now.items))) }
@@ -85,7 +84,7 @@ fn recovered_entity_types<'a>(
     let mut rows = Vec::new(alloc);
     for at in 0..entities.len() {
         let entry = entities[at];
-        if are_one(home, namespace_of(&entry.0)) {
+        if are_one(home, namespace_of(&entry.name)) {
             let row = recovered_entity_type(alloc, entry)?;
             rows.push(row)?;
         }
@@ -97,7 +96,7 @@ fn recovered_entity_types<'a>(
 fn recovered_actions<'a>(
     alloc: Global,
     home: Namespace<'a>,
-    actions: &Vec<&'a (EntityUID, ValidatorActionId)>,
+    actions: &Vec<&'a ActionEntry>,
 ) -> Result<Map<Text, ActionType<RawName>>, RecoveryError>
     ensures recovered { IfOk result (IsMapOf text_cmp IsRecoveredAction
         (map (λ a. action_reading (action_content a)) (actions_at home.entry.words actions.now.items))) }
@@ -107,7 +106,7 @@ fn recovered_actions<'a>(
     let mut rows = Vec::new(alloc);
     for at in 0..actions.len() {
         let entry = actions[at];
-        if are_one(home, namespace_of(&entry.0.ty)) {
+        if are_one(home, namespace_of(&entry.uid.ty)) {
             let row = recovered_action(alloc, entry)?;
             rows.push(row)?;
         }
@@ -119,8 +118,8 @@ fn recovered_actions<'a>(
 fn recovered_namespace<'a>(
     alloc: Global,
     home: Namespace<'a>,
-    entities: &Vec<&'a (Name, ValidatorEntityType)>,
-    actions: &Vec<&'a (EntityUID, ValidatorActionId)>,
+    entities: &Vec<&'a EntityTypeEntry>,
+    actions: &Vec<&'a ActionEntry>,
 ) -> Result<(Option<Name>, NamespaceDefinition<RawName>), RecoveryError>
     ensures recovered { IfOk result (IsRecoveredNamespace (schema_reading (lent_content entities.now.items actions.now.items)) (words_of home.entry.words)) }
     ensures whole { OnOk result (namespace_lacks (lent_content entities.now.items actions.now.items) (words_of home.entry.words) ≡ []) }
@@ -146,8 +145,8 @@ fn recovered_namespace<'a>(
 pub fn recover_namespaces<'a>(
     alloc: Global,
     namespaces: &[Namespace<'a>],
-    entities: &Vec<&'a (Name, ValidatorEntityType)>,
-    actions: &Vec<&'a (EntityUID, ValidatorActionId)>,
+    entities: &Vec<&'a EntityTypeEntry>,
+    actions: &Vec<&'a ActionEntry>,
     found: &mut Vec<(Option<Name>, NamespaceDefinition<RawName>)>,
 ) -> Result<(), RecoveryError>
     requires { IsStrictlySortedBy (slice_cmp text_cmp) (all_words namespaces.now) }

@@ -11,11 +11,9 @@ ghost use Rattle.schema_build_recovered.specs.Refusals.{IsFirstLack, NamesLacksF
 use crate::fragment::recovered_fragment;
 use crate::whole::is_whole_schema;
 use cedar_data::Text;
-use cedar_identifiers::Name;
-use cedar_names::EntityUID;
 use schema_build_errors::{RecoveryError, ToTextError};
 use schema_build_text::uncaptured_schema_text;
-use schema_build_types::{ValidatorActionId, ValidatorEntityType};
+use schema_build_types::{ActionEntry, EntityTypeEntry};
 use std::alloc::Global;
 
 // The refusal for what no text says.
@@ -34,8 +32,8 @@ fn refusal(lack: RecoveryError) -> ToTextError
 // Refuses a schema of which no text says some type, by the first of it.
 fn refuse_lack(
     alloc: Global,
-    entities: &[(Name, ValidatorEntityType)],
-    actions: &[(EntityUID, ValidatorActionId)],
+    entities: &[EntityTypeEntry],
+    actions: &[ActionEntry],
 ) -> Result<(), ToTextError>
     ensures whole { OnOk result (schema_lacks (content entities.now actions.now) ≡ []) }
     ensures lacks { IfErr result (NamesLacksFirst (schema_lacks (content entities.now actions.now))) }
@@ -54,8 +52,8 @@ fn refuse_lack(
 /// is the first that is lacking, `Recovery`, and where nothing is lacking the first that is captured, `Captured`.
 pub fn whole_schema_text(
     alloc: Global,
-    entities: &[(Name, ValidatorEntityType)],
-    actions: &[(EntityUID, ValidatorActionId)],
+    entities: &[EntityTypeEntry],
+    actions: &[ActionEntry],
 ) -> Result<Text, ToTextError>
     ensures text { IfOk result (λ text. (m : SchemaMeaning) → SchemaStandsFor entities.now actions.now m → encode_utf8_all text ≡ canonical_text m) }
     ensures whole { OnOk result (schema_lacks (content entities.now actions.now) ≡ []) }

@@ -5,10 +5,8 @@ ghost use Rattle.schema_build_types.specs.Lacks.{type_lacks, attribute_lacks, co
 
 use crate::types::only_name;
 use cedar_data::Text;
-use cedar_identifiers::Name;
-use cedar_names::EntityUID;
 use schema_build_types::{
-    Type, ValidatorActionId, ValidatorActionKind, ValidatorEntityType, ValidatorEntityTypeKind,
+    ActionEntry, EntityTypeEntry, Type, ValidatorActionKind, ValidatorEntityTypeKind,
 };
 
 // Whether a text says the type.
@@ -63,10 +61,10 @@ fn is_whole_context(context: &Type) -> bool
 }
 
 // Whether a text says the entity type.
-fn is_whole_entity_type(entry: &(Name, ValidatorEntityType)) -> bool
+fn is_whole_entity_type(entry: &EntityTypeEntry) -> bool
     ensures { result ≡ true → entity_lacks (entity_content entry.now) ≡ [] }
 {
-    match &entry.1.kind {
+    match &entry.ty.kind {
         ValidatorEntityTypeKind::Standard {
             attributes,
             more,
@@ -77,17 +75,17 @@ fn is_whole_entity_type(entry: &(Name, ValidatorEntityType)) -> bool
 }
 
 // Whether a text says the action.
-fn is_whole_action(entry: &(EntityUID, ValidatorActionId)) -> bool
+fn is_whole_action(entry: &ActionEntry) -> bool
     ensures { result ≡ true → context_lacks (action_content entry.now).context ≡ [] }
 {
-    match &entry.1.kind {
+    match &entry.action.kind {
         ValidatorActionKind::Defined { context, .. } => is_whole_context(context),
         ValidatorActionKind::External => true,
     }
 }
 
 // Whether a text says each of the entity types.
-fn entity_types_are_whole(entities: &[(Name, ValidatorEntityType)]) -> bool
+fn entity_types_are_whole(entities: &[EntityTypeEntry]) -> bool
     ensures { result ≡ true → All (λ e. entity_lacks (entity_content e) ≡ []) entities.now }
 {
     for entry in entities {
@@ -99,7 +97,7 @@ fn entity_types_are_whole(entities: &[(Name, ValidatorEntityType)]) -> bool
 }
 
 // Whether a text says each of the actions.
-fn actions_are_whole(actions: &[(EntityUID, ValidatorActionId)]) -> bool
+fn actions_are_whole(actions: &[ActionEntry]) -> bool
     ensures { result ≡ true → All (λ a. context_lacks (action_content a).context ≡ []) actions.now }
 {
     for entry in actions {
@@ -111,10 +109,7 @@ fn actions_are_whole(actions: &[(EntityUID, ValidatorActionId)]) -> bool
 }
 
 /// Whether a text says each type of a built schema of these entity types and actions.
-pub fn is_whole_schema(
-    entities: &[(Name, ValidatorEntityType)],
-    actions: &[(EntityUID, ValidatorActionId)],
-) -> bool
+pub fn is_whole_schema(entities: &[EntityTypeEntry], actions: &[ActionEntry]) -> bool
     ensures { result ≡ true → schema_lacks (content entities.now actions.now) ≡ [] }
 {
     entity_types_are_whole(entities) && actions_are_whole(actions)

@@ -10,27 +10,30 @@ use Rattle.schema_build_recovered.proofs.Spaces.{namespace_order, by_words, sort
 use Rattle.schema_build_recovered.proofs.Walks.{words}
 use Rattle.schema_build_recovered.proofs.fragment.namespaces.Goals as goal
 
-pub loop-name-init : goal.loop-name-init
-loop-name-init c = ap words c.new-all.ensures.items
+pub loop-entity-init : goal.loop-entity-init
+loop-entity-init c = ap words c.new-all.ensures.items
 
-pub loop-name-preserved : goal.loop-name-preserved
-loop-name-preserved c =
+pub loop-entity-preserved : goal.loop-entity-preserved
+loop-entity-preserved c =
     rw c.in_ok-push.ensures.items
-    (keyed_more entity_key [] c.args.entities.now c.loop-name.name-index c.loop-name-item.result c.loop-name.all.items
-    c.namespace_of.result c.loop-name-test.true c.loop-name-item.is c.namespace_of.ensures c.loop-name.invariant)
+    (keyed_more entity_key [] c.args.entities.now c.loop-entity.entity-index c.entity-item.result
+    c.loop-entity.all.items
+    c.namespace_of.result c.loop-entity-test.true c.entity-item.is
+    (c.namespace_of.ensures ∙ ap entity_key c.entity.view_is) c.loop-entity.invariant)
 
-pub loop-uid-init : goal.loop-uid-init
-loop-uid-init c =
-    c.loop-name.invariant
-    ∙ ap (map entity_key) (take_all c.loop-name.name-index c.args.entities.now (omega (arith, c.loop-name-test.false)))
+pub loop-action-init : goal.loop-action-init
+loop-action-init c =
+    c.loop-entity.invariant
+    ∙ ap (map entity_key) (take_all c.loop-entity.entity-index c.args.entities.now
+    (omega (arith, c.loop-entity-test.false)))
     ∙ sym (append-nil (map entity_key c.args.entities.now))
 
-pub loop-uid-preserved : goal.loop-uid-preserved
-loop-uid-preserved c =
+pub loop-action-preserved : goal.loop-action-preserved
+loop-action-preserved c =
     rw c.in_ok-push-2.ensures.items
-    (keyed_more action_key (map entity_key c.args.entities.now) c.args.actions.now c.loop-uid.uid-index
-    c.loop-uid-item.result c.loop-uid.all.items c.namespace_of-in-loop-uid.result c.loop-uid-test.true
-    c.loop-uid-item.is c.namespace_of-in-loop-uid.ensures c.loop-uid.invariant)
+    (keyed_more action_key (map entity_key c.args.entities.now) c.args.actions.now c.loop-action.action-index
+    c.action-item.result c.loop-action.all.items c.namespace_of-in-loop-action.result c.loop-action-test.true
+    c.action-item.is (c.namespace_of-in-loop-action.ensures ∙ ap action_key c.action.view_is) c.loop-action.invariant)
 
 pub loop-at-init : goal.loop-at-init
 loop-at-init c = c.in_ok-namespaces.ensures.items
@@ -50,7 +53,7 @@ returns c =
     omega (arith, c.loop-at-test.false, c.len-at-end.ensures, lent_long c.in_ok-rising.rising.items) in
     let found = c.loop-at.invariant ∙ take_all c.loop-at.at rising done ∙ c.in_ok-rising.ensures
     ∙ ap (sorted_once namespace_order) c.deref.ensures.value in
-    let all = take_all c.loop-uid.uid-index c.args.actions.now (omega (arith, c.loop-uid-test.false)) in
-    ap words found ∙ sorted_by_words (λ n. words_of n.words) namespace_order by_words c.loop-uid.all.items
-    ∙ ap in_order (c.loop-uid.invariant ∙ ap (λ l. map entity_key c.args.entities.now ++ map action_key l) all)
+    let all = take_all c.loop-action.action-index c.args.actions.now (omega (arith, c.loop-action-test.false)) in
+    ap words found ∙ sorted_by_words (λ n. words_of n.words) namespace_order by_words c.loop-action.all.items
+    ∙ ap in_order (c.loop-action.invariant ∙ ap (λ l. map entity_key c.args.entities.now ++ map action_key l) all)
     ∙ namespaces_are c.args.entities.now c.args.actions.now
