@@ -40,9 +40,9 @@ fn recovered(alloc: Global, table: &ExtensionTable) -> Option<Text> {
 
 // The types above the one of this name.
 fn types_above<'a>(schema: &'a ValidatorSchema, name: &Name) -> &'a [Name] {
-    for (declared, entity_type) in schema.entity_types() {
-        if declared == name {
-            return entity_type.ancestors.as_slice();
+    for entry in schema.entity_types() {
+        if entry.name == *name {
+            return entry.ty.ancestors.as_slice();
         }
     }
     &[]

@@ -5,12 +5,13 @@ ghost use Rattle.cedar_names.specs.declared.extension_table.ExtensionTable.{Exte
 ghost use Rattle.schema_json.specs.declared.fragment.Fragment.{Fragment as Fragments};
 ghost use Rattle.schema_build.specs.Assembly.{AreAt, AreAllAt, AreEntitiesBuilt, AreActionsBuilt, HoldEntities, HoldActions, entity_type_of, action_of_parts};
 
-use cedar_data::{CloneIn, List};
+use cedar_data::{CloneIn, List, Map};
 use cedar_identifiers::{Name, NameText, RawName};
 use cedar_names::EntityUID;
-use schema_build_hierarchy::{ActionEntry, EntityEntry, Entry};
+use schema_build_hierarchy::{ActionEntry as DeclaredAction, EntityEntry as DeclaredEntity, Entry};
 use schema_build_types::{
-    ValidatorActionId, ValidatorActionKind, ValidatorEntityType, ValidatorEntityTypeKind,
+    ActionEntry, EntityTypeEntry, ValidatorActionId, ValidatorActionKind, ValidatorEntityType,
+    ValidatorEntityTypeKind,
 };
 use std::alloc::{AllocError, Global};
 
@@ -48,31 +49,35 @@ fn all_names_at<K: CloneIn, T>(
 
 // An entity type from its declaration, its ancestors and what is built for it.
 fn entity_type_of(
-    parts: ((EntityEntry<'_>, List<Name>), ValidatorEntityTypeKind),
-) -> (Name, ValidatorEntityType)
+    parts: ((DeclaredEntity<'_>, List<Name>), ValidatorEntityTypeKind),
+) -> EntityTypeEntry
     ensures { result ≡ entity_type_of parts.entry }
 {
     let ((entry, ancestors), kind) = parts;
-    (entry.name, ValidatorEntityType { ancestors, kind })
+    EntityTypeEntry {
+        name: entry.name,
+        ty: ValidatorEntityType { ancestors, kind },
+    }
 }
 
 // An action from its declaration, its ancestors and what is built for it.
-fn action_of(
-    parts: ((ActionEntry<'_>, List<EntityUID>), ValidatorActionKind),
-) -> (EntityUID, ValidatorActionId)
+fn action_of(parts: ((DeclaredAction<'_>, List<EntityUID>), ValidatorActionKind)) -> ActionEntry
     ensures { result ≡ action_of_parts parts.entry }
 {
     let ((entry, ancestors), kind) = parts;
-    (entry.name, ValidatorActionId { ancestors, kind })
+    ActionEntry {
+        uid: entry.name,
+        action: ValidatorActionId { ancestors, kind },
+    }
 }
 
 // The entity types, put together.
 fn entity_types_of(
     alloc: Global,
-    entries: Vec<EntityEntry<'_>>,
+    entries: Vec<DeclaredEntity<'_>>,
     ancestors: Vec<List<Name>>,
     kinds: Vec<ValidatorEntityTypeKind>,
-) -> Result<Vec<(Name, ValidatorEntityType)>, AllocError>
+) -> Result<Vec<EntityTypeEntry>, AllocError>
     ensures { IfOk result (λ built. built.items ≡ map entity_type_of (zip (zip entries.entry.items ancestors.items) kinds.items)) }
 {
     entries
@@ -86,10 +91,10 @@ fn entity_types_of(
 // The actions, put together.
 fn actions_of(
     alloc: Global,
-    entries: Vec<ActionEntry<'_>>,
+    entries: Vec<DeclaredAction<'_>>,
     ancestors: Vec<List<EntityUID>>,
     kinds: Vec<ValidatorActionKind>,
-) -> Result<Vec<(EntityUID, ValidatorActionId)>, AllocError>
+) -> Result<Vec<ActionEntry>, AllocError>
     ensures { IfOk result (λ built. built.items ≡ map action_of_parts (zip (zip entries.entry.items ancestors.items) kinds.items)) }
 {
     entries
@@ -103,10 +108,10 @@ fn actions_of(
 // The entity types of a fragment, from their declarations, the places of their ancestors and what is built for each.
 pub(crate) fn entity_types(
     alloc: Global,
-    entries: Vec<EntityEntry<'_>>,
+    entries: Vec<DeclaredEntity<'_>>,
     above: &[Vec<usize>],
     kinds: Vec<ValidatorEntityTypeKind>,
-) -> Result<Vec<(Name, ValidatorEntityType)>, AllocError>
+) -> Result<Vec<EntityTypeEntry>, AllocError>
     requires { All (λ (row : Vec ℕ GlobalTold). All (λ place. place < length entries.items) row.items) above.now }
     ensures { (f : Fragments Raw ⟦<RawName as NameText>⟧) (table : Table) → HoldEntities f table entries.entry.items above.now kinds.items → IfOk result (λ built. AreEntitiesBuilt f table built.items) }
 {
@@ -117,13 +122,41 @@ pub(crate) fn entity_types(
 // The actions of a fragment, from their declarations, the places of their ancestors and what is built for each.
 pub(crate) fn actions(
     alloc: Global,
-    entries: Vec<ActionEntry<'_>>,
+    entries: Vec<DeclaredAction<'_>>,
     above: &[Vec<usize>],
     kinds: Vec<ValidatorActionKind>,
-) -> Result<Vec<(EntityUID, ValidatorActionId)>, AllocError>
+) -> Result<Vec<ActionEntry>, AllocError>
     requires { All (λ (row : Vec ℕ GlobalTold). All (λ place. place < length entries.items) row.items) above.now }
     ensures { (f : Fragments Raw ⟦<RawName as NameText>⟧) (table : Table) → HoldActions f table entries.entry.items above.now kinds.items → IfOk result (λ built. AreActionsBuilt f table built.items) }
 {
     let ancestors = all_names_at(alloc, &entries, above)?;
     actions_of(alloc, entries, ancestors, kinds)
+}
+
+// The entries of a map of entity types.
+pub(crate) fn entity_type_entries(
+    alloc: Global,
+    entity_types: Map<Name, ValidatorEntityType>,
+) -> Result<Vec<EntityTypeEntry>, AllocError>
+    ensures { IfOk result (λ entries. entries.items ≡ entity_types) }
+{
+    entity_types
+        .into_vec()
+        .into_iter()
+        .map(|(name, ty)| EntityTypeEntry { name, ty })
+        .collect(alloc)
+}
+
+// The entries of a map of actions.
+pub(crate) fn action_entries(
+    alloc: Global,
+    actions: Map<EntityUID, ValidatorActionId>,
+) -> Result<Vec<ActionEntry>, AllocError>
+    ensures { IfOk result (λ entries. entries.items ≡ actions) }
+{
+    actions
+        .into_vec()
+        .into_iter()
+        .map(|(uid, action)| ActionEntry { uid, action })
+        .collect(alloc)
 }

@@ -1,6 +1,7 @@
 ghost use Rattle.std.specs.Prelude.{◌≡◌, ◌↔◌, true, ◌+◌, ◌-◌, ◌*◌, ◌^◌, ◌≤◌, length, [], IfOk, IfErr, OnOk};
 ghost use Rattle.std.specs.BTreeMap.{is_at};
-ghost use Rattle.std.specs.Map.{lookup};
+ghost use Rattle.std.specs.List.Sorted.{IsStrictlySortedBy};
+ghost use Rattle.std.specs.Map.{lookup, keys_of};
 ghost use Rattle.std.specs.Option.{option_copied};
 ghost use Rattle.std.specs.Str.{encode_utf8_all};
 ghost use Rattle.cedar_names.specs.CanonicalText.{canonical_text};
@@ -16,7 +17,7 @@ ghost use Rattle.schema_build_recovered.specs.Refusals.{IsFirstLack, NamesLacksF
 ghost use Rattle.schema_build.specs.Parts.{IsMisnamed, IsEnumBelow, NoneIs, PartsFault};
 ghost use Rattle.schema_build.specs.Schemas.{StandsFor, Builds};
 
-use crate::assembly::{actions, entity_types};
+use crate::assembly::{action_entries, actions, entity_type_entries, entity_types};
 use crate::parts::{first_enum_below, first_misnamed};
 use cedar_data::{CloneIn, Map, Text};
 use cedar_identifiers::{Name, RawName};
@@ -28,7 +29,9 @@ use schema_build_errors::{
 use schema_build_parts::{FragmentParts, fragment_parts};
 use schema_build_recovered::{recovered_fragment, whole_schema_text};
 use schema_build_scope::laws::common_types_are_declared_once;
-use schema_build_types::{ValidatorActionId, ValidatorEntityType, get_counted};
+use schema_build_types::{
+    ActionEntry, EntityTypeEntry, ValidatorActionId, ValidatorEntityType, get_counted,
+};
 use schema_json::Fragment;
 use std::alloc::Global;
 use std::marker::Model;
@@ -37,8 +40,8 @@ use std::sync::ledger::Ledger;
 /// A built schema: its entity types in the order of their names, and its actions in the order of their types and ids, each
 /// once.
 pub struct ValidatorSchema {
-    entity_types: Vec<(Name, ValidatorEntityType)>,
-    actions: Vec<(EntityUID, ValidatorActionId)>,
+    entity_types: Vec<EntityTypeEntry>,
+    actions: Vec<ActionEntry>,
 }
 
 impl Drop for ValidatorSchema {
@@ -132,21 +135,23 @@ impl ValidatorSchema {
             return Err(SchemaError::EnumEntityInHierarchy(error));
         }
         Ok(ValidatorSchema {
-            entity_types: entity_types.into_vec(),
-            actions: actions.into_vec(),
+            entity_types: entity_type_entries(alloc, entity_types)?,
+            actions: action_entries(alloc, actions)?,
         })
     }
 
     /// The entity types, in the order of their names.
-    pub fn entity_types(&self) -> &[(Name, ValidatorEntityType)]
-        ensures { result.now ≡ self.now.entity_types }
+    pub fn entity_types(&self) -> &[EntityTypeEntry]
+        ensures entries { result.now ≡ self.now.entity_types }
+        ensures sorted { IsStrictlySortedBy (λ a b. names_in_order a.name b.name) (keys_of result.now) }
     {
         &self.entity_types
     }
 
     /// The actions, in the order of their types and ids.
-    pub fn actions(&self) -> &[(EntityUID, ValidatorActionId)]
-        ensures { result.now ≡ self.now.actions }
+    pub fn actions(&self) -> &[ActionEntry]
+        ensures entries { result.now ≡ self.now.actions }
+        ensures sorted { IsStrictlySortedBy uids_in_order (keys_of result.now) }
     {
         &self.actions
     }

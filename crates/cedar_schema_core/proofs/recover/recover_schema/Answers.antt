@@ -47,7 +47,8 @@ returns-clause-recovered c =
       };
       canonical = c.in_ok-text.ensures.text built.0 built.2;
       warns = (f, c.in_ok-fragment.ensures.parsed);
-      entity_types = ap length c.entity_types.ensures
+      entity_types = ap length c.entity_types.ensures.entries
           ∙ entities_counted schema.entity_types schema.actions built.0 built.2;
-      actions = ap length c.actions.ensures ∙ actions_counted schema.entity_types schema.actions built.0 built.2;
+      actions = ap length c.actions.ensures.entries
+          ∙ actions_counted schema.entity_types schema.actions built.0 built.2;
     }
