@@ -1,5 +1,6 @@
 -- A namespace and a fragment whose maps were made.
 use Rattle.std.proofs.Common.{◌≡◌, ℕ, List, Option, Some, None, refl, sym, ap, ◌∙◌}
+use Rattle.std.specs.Prelude.{Result, Ok, Err, IfOk}
 use Rattle.std.specs.Cmp.Lexicographic.{slice_cmp}
 use Rattle.std.specs.Cmp.Derive.Mapped.{lex_map}
 use Rattle.std.specs.List.{filter_map}
@@ -29,18 +30,25 @@ use Rattle.schema_convert_types.specs.Fragments.{common_cmp, unreserved_cmp, com
 use Rattle.schema_convert_types.specs.Fragments.{action_entries, definition_of, namespace_cmp, namespace_entry}
 use Rattle.schema_convert_types.specs.Fragments.{fragment_of}
 
-pub definition_made : (decls : List (Annotated (Node Declaration))) (notes : Annotations)
-    (commons cs : List (CommonTypeId × CommonType RawName)) (entities es : List (UnreservedId × EntityType RawName))
-    (actions as_ : List (List ℕ × ActionType RawName as_written))
-    → cs ≡ map_of common_cmp commons → commons ≡ common_entries decls → es ≡ map_of unreserved_cmp entities
-    → entities ≡ entity_entries decls → as_ ≡ map_of text_cmp actions → actions ≡ action_entries decls
-    → (let made : NamespaceDefinition RawName as_written = record
-    { common_types = cs; entity_types = es; actions = as_; annotations = notes } in made) ≡ definition_of decls notes
-definition_made decls notes commons cs entities es actions as_ c d e f a b =
-    let cs_are = c ∙ ap (map_of common_cmp) d in
-    let es_are = e ∙ ap (map_of unreserved_cmp) f in
-    let as_are = a ∙ ap (map_of text_cmp) b in
-    λ i. record { common_types = cs_are i; entity_types = es_are i; actions = as_are i; annotations = notes }
+pub definition_made : {E : Type 0} (decls : List (Annotated (Node Declaration))) (notes : Annotations)
+    (commons : List (CommonTypeId × CommonType RawName)) (entities : List (UnreservedId × EntityType RawName))
+    (actions : List (List ℕ × ActionType RawName as_written)) (r : Result (NamespaceDefinition RawName as_written) E)
+    → IfOk r (λ d. d ≡ record {
+      common_types = map_of common_cmp commons;
+      entity_types = map_of unreserved_cmp entities;
+      actions = map_of text_cmp actions;
+      annotations = notes;
+    })
+    → commons ≡ common_entries decls → entities ≡ entity_entries decls → actions ≡ action_entries decls
+    → IfOk r (λ d. d ≡ definition_of decls notes)
+definition_made decls notes commons entities actions (Err e) h c f a = tt
+definition_made decls notes commons entities actions (Ok d) h c f a =
+    h ∙ (λ i. record {
+      common_types = map_of common_cmp (c i);
+      entity_types = map_of unreserved_cmp (f i);
+      actions = map_of text_cmp (a i);
+      annotations = notes;
+    })
 
 -- the derived order of names goes by their components
 pub names_order : (a b : Name)
@@ -58,12 +66,17 @@ module _ (D : Name → Name → Ordering)
   namespaces_order (Some a) None = refl
   namespaces_order (Some a) (Some b) = is a b
 
-  pub fragment_made : (namespaces : List (Annotated Namespace))
-      (entries made : List (Option Name × NamespaceDefinition RawName as_written))
-      → made ≡ map_of (option_cmp D) entries → entries ≡ filter_map namespace_entry namespaces
-      → (let whole : Fragment RawName as_written = record { 0 = made } in whole) ≡ fragment_of namespaces
-  fragment_made namespaces entries made h e =
-      let all : made ≡ map_of namespace_cmp (filter_map namespace_entry namespaces) = h
-      ∙ (ap (map_of (option_cmp D)) e
-      ∙ (λ i. map_of (λ a b. namespaces_order a b i) (filter_map namespace_entry namespaces))) in
+  pub entries_made : (entries made : List (Option Name × NamespaceDefinition RawName as_written))
+      → made ≡ map_of (option_cmp D) entries
+      → (let whole : Fragment RawName as_written = record { 0 = made } in whole) ≡ record
+      { 0 = map_of namespace_cmp entries }
+  entries_made entries made h =
+      let all : made ≡ map_of namespace_cmp entries = h ∙ (λ i. map_of (λ a b. namespaces_order a b i) entries) in
       λ i. record { 0 = all i }
+
+pub fragment_made : {E : Type 0} (namespaces : List (Annotated Namespace))
+    (entries : List (Option Name × NamespaceDefinition RawName as_written)) (r : Result (Fragment RawName as_written) E)
+    → IfOk r (λ f. f ≡ record { 0 = map_of namespace_cmp entries }) → entries ≡ filter_map namespace_entry namespaces
+    → IfOk r (λ f. f ≡ fragment_of namespaces)
+fragment_made namespaces entries (Err e) h is = tt
+fragment_made namespaces entries (Ok f) h is = h ∙ (λ i. record { 0 = map_of namespace_cmp (is i) })

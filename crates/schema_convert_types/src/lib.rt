@@ -12,5 +12,7 @@ pub mod types;
 pub use entries::map_of;
 pub use into_variant::IntoVariant;
 pub use names::{path_to_internal_name, path_to_raw_name};
-pub use namespaces::fragment_of;
+pub use namespaces::{
+    Entries, definition_from, fragment_from, fragment_of, namespace_key, push_declared,
+};
 pub use types::cedar_type_to_json_type;

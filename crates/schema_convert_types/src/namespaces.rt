@@ -1,8 +1,10 @@
-ghost use Rattle.std.specs.Prelude.{◌≡◌, ◌++◌, IfOk, OnOk};
+ghost use Rattle.std.specs.Prelude.{◌≡◌, [], ◌++◌, IfOk, OnOk};
+ghost use Rattle.cedar_data.specs.Maps.{map_of};
 ghost use Rattle.cedar_data.specs.NonEmpty.{items_left};
+ghost use Rattle.cedar_data.specs.Text.{text_cmp};
 ghost use Rattle.std.specs.Option.{option_to_list};
 ghost use Rattle.schema_convert_types.specs.Declarations.{declarable, unreserved};
-ghost use Rattle.schema_convert_types.specs.Fragments.{entity_entries_of, action_entries_of, common_entries_of, entity_entries, action_entries, common_entries, definition_of, namespace_key, declarable_name, namespace_entry, fragment_of};
+ghost use Rattle.schema_convert_types.specs.Fragments.{entity_entries_of, action_entries_of, common_entries_of, entity_entries, action_entries, common_entries, unreserved_cmp, common_cmp, definition_of, namespace_key, declarable_name, namespace_entry, namespace_cmp, fragment_of};
 
 use crate::actions::{action_ids, action_type};
 use crate::entities::entity_type;
@@ -19,12 +21,27 @@ use schema_syntax_tree::{
 };
 use std::alloc::{AllocError, Global};
 
-// What declarations declare, by kind.
+/// What declarations declare, by kind.
 #[derive(Drop)]
-struct Entries {
-    commons: Vec<(CommonTypeId, CommonType<RawName>)>,
-    entities: Vec<(UnreservedId, EntityType<RawName>)>,
-    actions: Vec<(Text, ActionType<RawName>)>,
+pub struct Entries {
+    pub commons: Vec<(CommonTypeId, CommonType<RawName>)>,
+    pub entities: Vec<(UnreservedId, EntityType<RawName>)>,
+    pub actions: Vec<(Text, ActionType<RawName>)>,
+}
+
+impl Entries {
+    /// Nothing.
+    pub fn new(alloc: Global) -> Entries
+        ensures commons { result.commons.items ≡ [] }
+        ensures entities { result.entities.items ≡ [] }
+        ensures actions { result.actions.items ≡ [] }
+    {
+        Entries {
+            commons: Vec::new(alloc),
+            entities: Vec::new(alloc),
+            actions: Vec::new(alloc),
+        }
+    }
 }
 
 // The word as one that may be declared.
@@ -122,8 +139,8 @@ fn push_common(
     Ok(())
 }
 
-// Adds what the declaration declares.
-fn push_declared<'a>(
+/// Adds what the declaration declares.
+pub fn push_declared<'a>(
     alloc: Global,
     entries: &mut Entries,
     decl: Annotated<'a, Node<Declaration<'a>>>,
@@ -163,30 +180,26 @@ fn entries_of<'a>(
     ensures entities { IfOk result (λ entries. entries.entities.items ≡ entity_entries decls.entry) }
     ensures actions { IfOk result (λ entries. entries.actions.items ≡ action_entries decls.entry) }
 {
-    let mut entries = Entries {
-        commons: Vec::new(alloc),
-        entities: Vec::new(alloc),
-        actions: Vec::new(alloc),
-    };
+    let mut entries = Entries::new(alloc);
     for decl in decls.into_vec() {
         push_declared(alloc, &mut entries, decl)?;
     }
     Ok(entries)
 }
 
-// What a namespace with these declarations and annotations defines.
-fn definition_of<'a>(
+/// What a namespace with these entries and annotations defines.
+pub fn definition_from(
     alloc: Global,
-    decls: List<Annotated<'a, Node<Declaration<'a>>>>,
+    entries: Entries,
     annotations: Annotations,
 ) -> Result<NamespaceDefinition<RawName>, AllocError>
-    ensures { IfOk result (λ definition. definition ≡ definition_of decls.entry annotations) }
+    ensures { IfOk result (λ definition. definition ≡ record { common_types = map_of common_cmp entries.commons.items; entity_types = map_of unreserved_cmp entries.entities.items; actions = map_of text_cmp entries.actions.items; annotations = annotations }) }
 {
     let Entries {
         commons,
         entities,
         actions,
-    } = entries_of(alloc, decls)?;
+    } = entries;
     let common_types = map_of(alloc, commons)?;
     let entity_types = map_of(alloc, entities)?;
     let actions = map_of(alloc, actions)?;
@@ -198,6 +211,18 @@ fn definition_of<'a>(
     })
 }
 
+// What a namespace with these declarations and annotations defines.
+fn definition_of<'a>(
+    alloc: Global,
+    decls: List<Annotated<'a, Node<Declaration<'a>>>>,
+    annotations: Annotations,
+) -> Result<NamespaceDefinition<RawName>, AllocError>
+    ensures { IfOk result (λ definition. definition ≡ definition_of decls.entry annotations) }
+{
+    let entries = entries_of(alloc, decls)?;
+    definition_from(alloc, entries, annotations)
+}
+
 // The name as one that may be declared.
 fn declarable_name(name: InternalName) -> Option<Name>
     ensures { result ≡ declarable_name name }
@@ -205,8 +230,8 @@ fn declarable_name(name: InternalName) -> Option<Name>
     Name::from_internal(name)
 }
 
-// The name of a namespace that may be declared.
-fn namespace_key(
+/// The name of a namespace that may be declared.
+pub fn namespace_key(
     alloc: Global,
     name: Option<Boxed<Path<'_>>>,
 ) -> Result<Option<Option<Name>>, AllocError>
@@ -240,6 +265,17 @@ fn push_namespace<'a>(
     Ok(())
 }
 
+/// The fragment of these entries, of which the last of a name counts.
+pub fn fragment_from(
+    alloc: Global,
+    entries: Vec<(Option<Name>, NamespaceDefinition<RawName>)>,
+) -> Result<Fragment<RawName>, AllocError>
+    ensures { IfOk result (λ fragment. fragment ≡ record { 0 = map_of namespace_cmp entries.items }) }
+{
+    let entries = map_of(alloc, entries)?;
+    Ok(Fragment(entries))
+}
+
 /// The fragment of namespaces with distinct names that may be declared, and distinct such declarations of each kind. Any
 /// other name is left out, and of those that stand twice the last counts.
 pub fn fragment_of<'a>(
@@ -252,6 +288,5 @@ pub fn fragment_of<'a>(
     for namespace in namespaces {
         push_namespace(alloc, &mut entries, namespace)?;
     }
-    let entries = map_of(alloc, entries)?;
-    Ok(Fragment(entries))
+    fragment_from(alloc, entries)
 }

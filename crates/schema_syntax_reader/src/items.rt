@@ -117,7 +117,7 @@ fn read_item<'a>(
     }
 }
 
-// An item, whose syntax is let go once it is read.
+/// What an item stands for, or of its user faults the one that ends first. Its syntax is let go once it is read.
 pub fn item<'a>(
     alloc: Global,
     text: &'a str,

@@ -4,7 +4,7 @@
 mod actions;
 pub mod annotations;
 mod decls;
-mod items;
+pub mod items;
 pub mod lawful_tree;
 mod names;
 mod notes;
@@ -16,5 +16,6 @@ mod types;
 mod words;
 
 pub use annotations::deduplicate_annotations;
+pub use items::item;
 pub use lawful_tree::tree_of_tokens;
 pub use stopped::Stopped;

@@ -1,0 +1,5 @@
+use Rattle.schema_convert_types.proofs.Definitions.{names_order, entries_made}
+use Rattle.schema_convert_types.proofs.namespaces.fragment_from.Goals as goal
+
+pub returns : goal.returns
+returns c = entries_made _ (λ a b. names_order a b) c.args.entries.items _ c.in_ok-entries.ensures
