@@ -40,7 +40,7 @@ module _ {A B : Type 0} (f : A → List B) where
         ],
       )
 
-among_map : {A C : Type 0} (g : A → C) (w : C) (xs : List A)
+pub among_map : {A C : Type 0} (g : A → C) (w : C) (xs : List A)
     → IsAmong w (map g xs) ↔ (x : A) × IsAmong x xs × (w ≡ g x)
 among_map g w [] = (λ h. absurd h, λ h. absurd h.1)
 among_map g w (z ∷ xs) =

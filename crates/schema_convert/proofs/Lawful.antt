@@ -182,7 +182,7 @@ applied None names = (λ h. tt, λ h. refl)
 applied (Some block) [] = (λ h. tt, λ h. refl)
 applied (Some block) (name ∷ names) = block_lawful name block.node
 
-action_lawful : (d : Declaration) → action_fault d ≡ None ↔ AppliesLawfully d
+pub action_lawful : (d : Declaration) → action_fault d ≡ None ↔ AppliesLawfully d
 action_lawful (Entity d) = (λ h. tt, λ h. refl)
 action_lawful (Action (Defined d)) = applied d.app_decls d.names
 action_lawful (Action (External d)) = (λ h. tt, λ h. refl)

@@ -12,3 +12,10 @@ mod Valued
 mod Taken
 mod Warnings
 mod Apart
+mod Counted
+mod PlainNames
+mod PlainJoined
+mod PlainTree
+mod Readings
+mod ItemByItem
+mod Rest

@@ -141,7 +141,7 @@ module _ (table : ExtensionTable) (decls : List (Annotated (Node Declaration))) 
       )
 
 -- what is among items that are all so is so
-all_at : {A : Type 0} (P : A → Type 0) (x : A) (xs : List A) → AllByRecursion P xs → IsAmong x xs → P x
+pub all_at : {A : Type 0} (P : A → Type 0) (x : A) (xs : List A) → AllByRecursion P xs → IsAmong x xs → P x
 all_at P x [] h i = absurd i
 all_at P x (y ∷ xs) h (inl is) = subst P (sym is) h.0
 all_at P x (y ∷ xs) h (inr i) = all_at P x xs h.1 i

@@ -1,8 +1,14 @@
-ghost use Rattle.std.specs.Prelude.{◌≡◌, IfOk, IfErr};
+ghost use Rattle.std.specs.Prelude.{◌≡◌, ℕ, List, length, IfOk, IfErr};
+ghost use Rattle.std.specs.List.{All};
+ghost use Rattle.schema_syntax_grammar.specs.Grammar.{Sentence};
+ghost use Rattle.schema_syntax_tokens.specs.Scans.{Scans, IsPlaced};
+ghost use Rattle.schema_syntax_tokens.specs.TokenLists.{kinds_of};
+ghost use Rattle.schema_syntax.specs.ParseAnswers.{IsRefusalOf};
 ghost use Rattle.schema_convert.specs.Translated.{IsTranslation, IsFailureOf, IsTranslationOfText, IsParseFailureOf};
 
 use crate::faults::faults_in;
 use crate::joined::joined;
+use crate::reading::fragment_at_once;
 use crate::shadowing::warnings_of;
 use cedar_data::NonEmpty;
 use cedar_identifiers::RawName;
@@ -12,7 +18,8 @@ use schema_convert_errors::{
 };
 use schema_convert_types::fragment_of;
 use schema_json::Fragment;
-use schema_syntax::{ParseSchemaError, parse_schema};
+use schema_syntax::{ParseSchemaError, parse_tokens, refused, sentence_of, stopped};
+use schema_syntax_tokens::Token;
 use schema_syntax_tree::Schema;
 use std::alloc::Global;
 
@@ -37,8 +44,44 @@ pub fn cedar_schema_to_json_schema(
     Ok((fragment, warnings))
 }
 
+// The errors of a text that has no tree.
+fn syntax_errors(error: ParseSchemaError) -> CedarSchemaParseErrors
+    ensures { (text : List ℕ) → IsRefusalOf text error → IsParseFailureOf text result }
+{
+    match error {
+        ParseSchemaError::Memory => CedarSchemaParseErrors::Memory,
+        ParseSchemaError::Errors(errors) => CedarSchemaParseErrors::SyntaxError(errors),
+    }
+}
+
+// The fragment that a schema text of these tokens stands for, by way of its tree.
+fn through_tree(
+    alloc: Global,
+    src: &str,
+    tokens: Vec<Token>,
+    table: &ExtensionTable,
+) -> Result<(Fragment<RawName>, Vec<SchemaWarning>), CedarSchemaParseErrors>
+    requires scans { Scans src.now tokens.items (length src.now) }
+    requires placed { All (IsPlaced src.now) tokens.items }
+    requires sentence { Sentence (kinds_of tokens.items) }
+    ensures translation { IfOk result (λ out. IsTranslationOfText src.now table.now out.0 out.1.items) }
+    ensures refusal { IfErr result (IsParseFailureOf src.now) }
+{
+    match parse_tokens(alloc, src, tokens) {
+        Err(error) => Err(syntax_errors(error)),
+        Ok(schema) => match cedar_schema_to_json_schema(alloc, schema, table) {
+            Ok(translation) => Ok(translation),
+            Err(ToJsonSchemaFailure::Errors(errors)) => {
+                Err(CedarSchemaParseErrors::JsonError(errors))
+            }
+            Err(ToJsonSchemaFailure::Memory) => Err(CedarSchemaParseErrors::Memory),
+        },
+    }
+}
+
 /// The fragment that a schema text stands for, with its warnings, or the fault that keeps it from having a tree, or all
-/// faults that keep its tree from being a fragment.
+/// faults that keep its tree from being a fragment. Where nothing is to be said of the text, each item of it is translated
+/// as it is read, and no tree is made.
 pub fn parse_cedar_schema_fragment(
     alloc: Global,
     src: &str,
@@ -47,15 +90,12 @@ pub fn parse_cedar_schema_fragment(
     ensures translation { IfOk result (λ out. IsTranslationOfText src.now table.now out.0 out.1.items) }
     ensures refusal { IfErr result (IsParseFailureOf src.now) }
 {
-    match parse_schema(alloc, src) {
-        Err(ParseSchemaError::Memory) => Err(CedarSchemaParseErrors::Memory),
-        Err(ParseSchemaError::Errors(errors)) => Err(CedarSchemaParseErrors::SyntaxError(errors)),
-        Ok(schema) => match cedar_schema_to_json_schema(alloc, schema, table) {
-            Ok(translation) => Ok(translation),
-            Err(ToJsonSchemaFailure::Errors(errors)) => {
-                Err(CedarSchemaParseErrors::JsonError(errors))
-            }
-            Err(ToJsonSchemaFailure::Memory) => Err(CedarSchemaParseErrors::Memory),
+    match sentence_of(alloc, src) {
+        Err(why) => Err(syntax_errors(refused(alloc, why))),
+        Ok(tokens) => match fragment_at_once(alloc, src, tokens.as_slice(), table) {
+            Err(why) => Err(syntax_errors(stopped(alloc, why))),
+            Ok(Some(fragment)) => Ok((fragment, Vec::new(alloc))),
+            Ok(None) => through_tree(alloc, src, tokens, table),
         },
     }
 }

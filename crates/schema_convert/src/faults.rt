@@ -17,8 +17,8 @@ use schema_syntax_tree::{
 };
 use std::alloc::{AllocError, Global};
 
-// Whether an id of the path is `__cedar`.
-fn is_reserved_path(path: &Path<'_>) -> bool
+/// Whether an id of the path is `__cedar`.
+pub fn is_reserved_path(path: &Path<'_>) -> bool
     ensures { result ≡ is_reserved_path path.now }
 {
     for id in path.iter() {
@@ -215,8 +215,8 @@ fn applies_fault<'s>(
     }
 }
 
-// The fault of a declaration of actions.
-fn action_fault(
+/// The fault of a declaration of actions.
+pub fn action_fault(
     alloc: Global,
     decl: &Declaration<'_>,
 ) -> Result<Option<ToJsonSchemaError>, AllocError>

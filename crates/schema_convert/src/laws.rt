@@ -9,6 +9,9 @@ ghost use Rattle.schema_convert.specs.Joined.{first_values, joined, value_of, Ha
 ghost use Rattle.schema_convert.specs.Repeats.{first_repeat, NoneRepeats, IsFirstRepeat};
 ghost use Rattle.schema_convert.specs.Shadowings.{shadowings};
 ghost use Rattle.schema_convert.specs.Translatable.{IsTranslatable};
+ghost use Rattle.schema_convert_types.specs.Fragments.{fragment_of};
+ghost use Rattle.schema_convert.specs.Plain.{IsPlainTree, apart};
+ghost use Rattle.schema_convert.specs.Translated.{IsTranslation};
 ghost use Rattle.schema_convert.specs.Warned.{IsAmong, IsWarnedOf};
 
 /// No two of the namespaces that a tree has have one name.
@@ -37,4 +40,9 @@ pub fn lawful_trees()
 /// types that have the name of an entity type of their namespace.
 pub fn warnings_are_of()
     ensures { (tree : List (Annotated Namespace)) (table : ExtensionTable) (w : SchemaWarning) → translation_faults tree ≡ [] → IsAmong w (shadowings tree table) ↔ IsWarnedOf tree table w }
+{}
+
+/// A tree of which nothing is to be said is translated namespace by namespace, with no warning.
+pub fn plain_trees()
+    ensures { (table : ExtensionTable) (tree : List (Annotated Namespace)) → IsPlainTree table tree → IsTranslation tree table (fragment_of (apart tree)) [] }
 {}

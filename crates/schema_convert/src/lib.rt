@@ -3,17 +3,21 @@
 
 pub mod convert;
 mod faults;
+mod gathering;
 mod joined;
 pub mod laws;
 mod members;
 mod names_in;
 mod openings;
+mod plain;
+mod reading;
 mod repeats;
 mod shadowing;
 
 pub use convert::{cedar_schema_to_json_schema, parse_cedar_schema_fragment};
 pub use laws::{
-    first_openings_have_values, lawful_trees, names_are_own, repeats_are_first, warnings_are_of,
+    first_openings_have_values, lawful_trees, names_are_own, plain_trees, repeats_are_first,
+    warnings_are_of,
 };
 pub use schema_convert_errors::{
     CedarSchemaParseErrors, DuplicateContext, DuplicateDeclarations, DuplicateNamespace,

@@ -37,8 +37,8 @@ fn is_primitive_name(word: &str) -> bool
     }
 }
 
-// Whether it is that, or one of the table's.
-fn is_taken(table: &ExtensionTable, word: &str) -> bool
+/// Whether it is that, or one of the table's.
+pub fn is_taken(table: &ExtensionTable, word: &str) -> bool
     ensures { result ≡ is_taken table.now word.now }
 {
     is_primitive_name(word) || table.has(word)

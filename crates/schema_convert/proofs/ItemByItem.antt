@@ -1,0 +1,302 @@
+-- What is gathered of one item more, and the fragment of what was gathered.
+use Rattle.std.proofs.Common.{◌≡◌, ◌≤◌, ℕ, Bool, true, false, List, [], ◌∷◌, ◌++◌, length, Option, Some, None, refl}
+use Rattle.std.proofs.Common.{sym, ap}
+use Rattle.std.proofs.Common.{◌∙◌, subst, true≢false, is_some, append-nil, flat_map, filter_map, option_to_list, arith}
+use Rattle.std.specs.List.{AllByRecursion, cons_option}
+use Rattle.std.specs.Option.{option_map}
+use Rattle.std.specs.Prelude.{Result, Ok, Err, IfOk}
+use Rattle.std.proofs.lemmas.Grind.{flat_map-append}
+use Rattle.std.proofs.lemmas.List.Elements.{filter_map-append}
+use Rattle.cedar_data.specs.Maps.{map_of}
+use Rattle.cedar_data.specs.Text.{text_cmp}
+use Rattle.cedar_data.specs.declared.node.Node.{Node}
+use Rattle.cedar_identifiers.specs.declared.annotations.Annotations.{Annotations}
+use Rattle.cedar_identifiers.specs.declared.name.Name.{Name}
+use Rattle.cedar_identifiers.specs.declared.raw_name.RawName.{RawName}
+use Rattle.cedar_names.specs.declared.extension_table.ExtensionTable.{ExtensionTable}
+use Rattle.schema_syntax_tree.specs.declared.annotated.Annotated.{Annotated}
+use Rattle.schema_syntax_tree.specs.declared.declaration.Declaration.{Declaration}
+use Rattle.schema_syntax_tree.specs.declared.namespace.Namespace.{Namespace}
+use Rattle.schema_syntax_tree.specs.declared.path.Path.{Path}
+use Rattle.schema_json.specs.declared.fragment.Fragment.{Fragment}
+use Rattle.schema_json.specs.declared.fragment.NamespaceDefinition.{NamespaceDefinition}
+use Rattle.schema_convert_types.specs.Declarations.{as_written}
+use Rattle.schema_convert_types.specs.Fragments.{common_cmp, unreserved_cmp, namespace_cmp, common_entries}
+use Rattle.schema_convert_types.specs.Fragments.{entity_entries, action_entries, common_entries_of, entity_entries_of}
+use Rattle.schema_convert_types.specs.Fragments.{action_entries_of, namespace_entry, namespace_key, definition_of}
+use Rattle.schema_convert_types.specs.Fragments.{fragment_of}
+use Rattle.schema_convert_types.specs.declared.namespaces.Entries.{Entries}
+use Rattle.schema_convert.specs.Gathered.{EachPlain, Adds, IsOwn, IsGatheredOf, AddsOutside, AddsNamed}
+use Rattle.schema_convert.specs.Gathered.{AddsOwn}
+use Rattle.schema_convert.specs.Joined.{named, named_so, outside, unnamed_so, empty_namespace}
+use Rattle.schema_convert.specs.Plain.{IsPlain, AreOnce, AreUnlike, ArePlain, HasRisingNotes, IsPlainNamespace}
+use Rattle.schema_convert.specs.Plain.{IsPlainTree, apart}
+use Rattle.schema_convert.specs.Translatable.{IsFreeName}
+use Rattle.schema_convert.specs.Translated.{IsTranslation}
+use Rattle.schema_convert.specs.declared.gathering.Gathered.{Gathered}
+use Rattle.schema_convert.proofs.Counted.{at_most_all}
+use Rattle.schema_convert.proofs.PlainNames.{text_total, unreserved_total, common_total}
+use Rattle.schema_convert.proofs.PlainTree.{keys_total, plain_tree}
+
+all_append : {A : Type 0} (P : A → Type 0) (xs ys : List A) → AllByRecursion P xs → AllByRecursion P ys
+    → AllByRecursion P (xs ++ ys)
+all_append P [] ys h g = g
+all_append P (x ∷ xs) ys h g = (h.0, all_append P xs ys h.1 g)
+
+one_option : {A : Type 0} (o : Option A) → cons_option o [] ≡ option_to_list o
+one_option None = refl
+one_option (Some x) = refl
+
+no_append : {A : Type 0} (xs ys : List A) → (ys ≡ [] → ⊥) → xs ++ ys ≡ [] → ⊥
+no_append [] ys some h = some h
+no_append (x ∷ xs) ys some h = cc
+
+-- nothing was gathered of no item
+pub nothing_gathered : (table : ExtensionTable) (g : Gathered) → g.namespaces.items ≡ []
+    → g.outside.commons.items ≡ [] → g.outside.entities.items ≡ [] → g.outside.actions.items ≡ []
+    → g.has_outside ≡ false → IsGatheredOf table [] g
+nothing_gathered table g namespaces commons entities actions without =
+    record {
+      namespaces = namespaces;
+      each = tt;
+      commons = commons;
+      entities = entities;
+      actions = actions;
+      plain = tt;
+      none = λ h. refl;
+      some = λ h e. true≢false (sym h ∙ without);
+    }
+
+module _ (table : ExtensionTable) (tree : List (Annotated Namespace)) (n : Annotated Namespace) where
+  named_more : (o : Option Path) → n.item.name ≡ o → named (tree ++ n ∷ []) ≡ named tree ++ named_so o n
+  named_more o is =
+      flat_map-append (λ (m : Annotated Namespace). named_so m.item.name m) tree (n ∷ [])
+      ∙ ap (λ l. named tree ++ l) (append-nil (named_so n.item.name n) ∙ ap (λ p. named_so p n) is)
+
+  outside_more : (o : Option Path) → n.item.name ≡ o
+      → outside (tree ++ n ∷ []) ≡ outside tree ++ unnamed_so o n.item.decls
+  outside_more o is =
+      flat_map-append (λ (m : Annotated Namespace). unnamed_so m.item.name m.item.decls) tree (n ∷ [])
+      ∙ ap (λ l. outside tree ++ l)
+      (append-nil (unnamed_so n.item.name n.item.decls) ∙ ap (λ p. unnamed_so p n.item.decls) is)
+
+  -- a namespace that has a name
+  pub more_named : (before after : Gathered) (path : Path) → n.item.name ≡ Some path
+      → IsGatheredOf table tree before → AddsNamed table before.namespaces.items after.namespaces.items n
+      → after.outside ≡ before.outside → after.has_outside ≡ before.has_outside
+      → IsGatheredOf table (tree ++ n ∷ []) after
+  more_named before after path is so_far adds same flag =
+      let names = named_more (Some path) is in
+      let out : outside (tree ++ n ∷ []) ≡ outside tree = outside_more (Some path) is ∙ append-nil (outside tree) in
+      record {
+        namespaces = adds.entry
+            ∙ (ap (λ l. l ++ option_to_list (namespace_entry n)) so_far.namespaces
+            ∙ (ap (λ l. filter_map namespace_entry (named tree) ++ l) (sym (one_option (namespace_entry n)))
+            ∙ (sym (filter_map-append namespace_entry (named tree) (n ∷ []))
+            ∙ ap (filter_map namespace_entry) (sym names))));
+        each = subst (AllByRecursion (IsPlainNamespace table)) (sym names)
+            (all_append (IsPlainNamespace table) (named tree) (n ∷ []) so_far.each (adds.plain, tt));
+        commons = ap (λ (e : Entries). e.commons.items) same ∙ (so_far.commons ∙ ap common_entries (sym out));
+        entities = ap (λ (e : Entries). e.entities.items) same ∙ (so_far.entities ∙ ap entity_entries (sym out));
+        actions = ap (λ (e : Entries). e.actions.items) same ∙ (so_far.actions ∙ ap action_entries (sym out));
+        plain = subst (EachPlain table) (sym out) so_far.plain;
+        none = λ h. out ∙ so_far.none (sym flag ∙ h);
+        some = λ h e. so_far.some (sym flag ∙ h) (sym out ∙ e);
+      }
+
+  none_by : (before after : Gathered) (decls : List (Annotated (Node Declaration))) → IsGatheredOf table tree before
+      → AddsOutside table before after decls → after.has_outside ≡ false → outside tree ++ decls ≡ []
+  none_by before after [] so_far adds h = append-nil (outside tree) ∙ so_far.none (sym (adds.some refl) ∙ h)
+  none_by before after (d ∷ decls) so_far adds h =
+      absurd (true≢false (sym (adds.now (λ e. cons_not d decls e)) ∙ h))
+    where
+      cons_not : (x : Annotated (Node Declaration)) (xs : List (Annotated (Node Declaration))) → x ∷ xs ≡ [] → ⊥
+      cons_not x xs e = cc
+
+  some_by : (before after : Gathered) (decls : List (Annotated (Node Declaration))) → IsGatheredOf table tree before
+      → AddsOutside table before after decls → after.has_outside ≡ true → outside tree ++ decls ≡ [] → ⊥
+  some_by before after [] so_far adds h e =
+      so_far.some (sym (adds.some refl) ∙ h) (sym (append-nil (outside tree)) ∙ e)
+  some_by before after (d ∷ decls) so_far adds h e =
+      no_append (outside tree) (d ∷ decls) (λ g. cons_not d decls g) e
+    where
+      cons_not : (x : Annotated (Node Declaration)) (xs : List (Annotated (Node Declaration))) → x ∷ xs ≡ [] → ⊥
+      cons_not x xs g = cc
+
+  -- declarations outside of every namespace
+  pub more_outside : (before after : Gathered) → n.item.name ≡ None → IsGatheredOf table tree before
+      → AddsOutside table before after n.item.decls → IsGatheredOf table (tree ++ n ∷ []) after
+  more_outside before after is so_far adds =
+      let decls = n.item.decls in
+      let names : named (tree ++ n ∷ []) ≡ named tree = named_more None is ∙ append-nil (named tree) in
+      let out : outside (tree ++ n ∷ []) ≡ outside tree ++ decls = outside_more None is in
+      record {
+        namespaces = adds.others ∙ (so_far.namespaces ∙ ap (filter_map namespace_entry) (sym names));
+        each = subst (AllByRecursion (IsPlainNamespace table)) (sym names) so_far.each;
+        commons = adds.entries.commons
+            ∙ (ap (λ l. l ++ common_entries decls) so_far.commons
+            ∙ (sym (flat_map-append (λ (d : Annotated (Node Declaration)). common_entries_of d.item.node d.annotations
+            d.item.loc) (outside tree) decls) ∙ ap common_entries (sym out)));
+        entities = adds.entries.entities
+            ∙ (ap (λ l. l ++ entity_entries decls) so_far.entities
+            ∙ (sym (flat_map-append (λ (d : Annotated (Node Declaration)). entity_entries_of d.item.node d.annotations
+            d.item.loc) (outside tree) decls) ∙ ap entity_entries (sym out)));
+        actions = adds.entries.actions
+            ∙ (ap (λ l. l ++ action_entries decls) so_far.actions
+            ∙ (sym (flat_map-append (λ (d : Annotated (Node Declaration)). action_entries_of d.item.node d.annotations
+            d.item.loc) (outside tree) decls) ∙ ap action_entries (sym out)));
+        plain = subst (EachPlain table) (sym out)
+            (all_append (λ (d : Annotated (Node Declaration)). IsPlain table d.item.node) (outside tree)
+            decls so_far.plain
+            adds.entries.plain);
+        none = λ h. out ∙ none_by before after decls so_far adds h;
+        some = λ h e. some_by before after decls so_far adds h (sym out ∙ e);
+      }
+
+name_some : {X : Type 0} (o : Option X) → is_some o ≡ true → (x : X) × (o ≡ Some x)
+name_some None h = absurd (true≢false (sym h))
+name_some (Some x) h = (x, refl)
+
+name_none : {X : Type 0} (o : Option X) → is_some o ≡ false → o ≡ None
+name_none None h = refl
+name_none (Some x) h = absurd (true≢false h)
+
+module _ (table : ExtensionTable) (n : Annotated Namespace) (before after : Gathered) where
+  -- what one item more leaves
+  abbrev pub Grows : Bool → Type 0
+  Grows plain = plain ≡ true → (tree : List (Annotated Namespace)) → IsGatheredOf table tree before
+      → IsGatheredOf table (tree ++ n ∷ []) after
+
+  pub named_item : {E : Type 0} → is_some n.item.name ≡ true → after.outside ≡ before.outside
+      → after.has_outside ≡ before.has_outside
+      → (r : Result Bool E)
+      → IfOk r (λ plain. plain ≡ true → AddsNamed table before.namespaces.items after.namespaces.items n)
+      → IfOk r Grows
+  named_item has same flag (Err e) h = tt
+  named_item has same flag (Ok b) h = λ plain tree so_far.
+      let path = name_some n.item.name has in
+      more_named table tree n before after path.0 path.1 so_far (h plain) same flag
+
+  pub outside_item : {E : Type 0} → is_some n.item.name ≡ false → (r : Result Bool E)
+      → IfOk r (λ plain. plain ≡ true → AddsOutside table before after n.item.decls)
+      → IfOk r Grows
+  outside_item has (Err e) h = tt
+  outside_item has (Ok b) h = λ plain tree so_far.
+      more_outside table tree n before after (name_none n.item.name has) so_far (h plain)
+
+-- entries that are those of plain declarations, and what they define
+pub own_plain : (table : ExtensionTable) (decls : List (Annotated (Node Declaration))) (entries : Entries)
+    (notes : Annotations) (d : NamespaceDefinition RawName as_written) → IsOwn entries notes d
+    → entries.commons.items ≡ common_entries decls → entries.entities.items ≡ entity_entries decls
+    → entries.actions.items ≡ action_entries decls → EachPlain table decls
+    → (d ≡ definition_of decls notes) × ArePlain table decls
+own_plain table decls entries notes d own commons entities actions plain =
+    let made : d ≡ definition_of decls notes = own.is ∙ (λ i. record {
+      common_types = map_of common_cmp (commons i);
+      entity_types = map_of unreserved_cmp (entities i);
+      actions = map_of text_cmp (actions i);
+      annotations = notes;
+    }) in (
+      made,
+      record {
+        each = plain;
+        commons_once = subst (AreOnce common_cmp) commons own.commons_once;
+        entities_once = subst (AreOnce unreserved_cmp) entities own.entities_once;
+        actions_once = subst (AreOnce text_cmp) actions own.actions_once;
+        unlike = subst (λ (x : NamespaceDefinition RawName as_written). AreUnlike x.common_types x.entity_types) made
+            own.unlike;
+      },
+    )
+
+module _ (table : ExtensionTable) (tree : List (Annotated Namespace))
+    (rising : AllByRecursion HasRisingNotes (named tree))
+    where
+  -- as many namespaces as were gathered
+  finished : (es : List (Option Name × NamespaceDefinition RawName as_written)) (f : Fragment RawName as_written)
+      → es ≡ filter_map namespace_entry (apart tree) → f ≡ record { 0 = map_of namespace_cmp es }
+      → length es ≤ length f.0 → AllByRecursion (IsPlainNamespace table) (apart tree) → IsTranslation tree table f []
+  finished es f are made many plain =
+      let all : f ≡ fragment_of (apart tree) = made ∙ (λ i. record { 0 = map_of namespace_cmp (are i) }) in
+      let most = at_most_all namespace_cmp keys_total es in
+      let long : length f.0 ≡ length (map_of namespace_cmp es) = ap
+      (λ (x : Fragment RawName as_written). length x.0) made in
+      let once : length (map_of namespace_cmp es) ≡ length es = omega (arith, most, long, many) in
+      subst (λ (x : Fragment RawName as_written). IsTranslation tree table x []) (sym all)
+      (plain_tree table tree (record {
+        each = plain;
+        notes = rising;
+        once = subst (AreOnce namespace_cmp) are once;
+      }))
+
+  -- nothing stands outside of the namespaces
+  pub finished_without : (g : Gathered) (f : Fragment RawName as_written) → IsGatheredOf table tree g
+      → g.has_outside ≡ false → f ≡ record { 0 = map_of namespace_cmp g.namespaces.items }
+      → length g.namespaces.items ≤ length f.0 → IsTranslation tree table f []
+  finished_without g f so_far without made many =
+      let same : apart tree ≡ named tree = ap (λ l. named tree ++ empty_namespace l) (so_far.none without)
+      ∙ append-nil (named tree) in
+      finished g.namespaces.items f (so_far.namespaces ∙ ap (filter_map namespace_entry) (sym same)) made many
+      (subst (AllByRecursion (IsPlainNamespace table)) (sym same) so_far.each)
+
+  abbrev IsEmptyOf : List (Annotated (Node Declaration)) → Type 0
+  IsEmptyOf decls = (n : Annotated Namespace) × (empty_namespace decls ≡ n ∷ []) × (n.item.name ≡ None)
+      × (n.item.decls ≡ decls) × (n.annotations ≡ record { 0 = [] })
+
+  empty_of : (decls : List (Annotated (Node Declaration))) → (decls ≡ [] → ⊥) → IsEmptyOf decls
+  empty_of [] some = absurd (some refl)
+  empty_of (d ∷ ds) some = (
+    record { item = record { name = None; decls = d ∷ ds; loc = None }; annotations = record { 0 = [] } },
+    refl,
+    refl,
+    refl,
+    refl,
+  )
+
+  -- something stands outside of them
+  pub finished_with : (g : Gathered) (d : NamespaceDefinition RawName as_written)
+      (es : List (Option Name × NamespaceDefinition RawName as_written)) (f : Fragment RawName as_written)
+      → IsGatheredOf table tree g → g.has_outside ≡ true → IsOwn g.outside (record { 0 = [] }) d
+      → es ≡ g.namespaces.items ++ (None, d) ∷ [] → f ≡ record { 0 = map_of namespace_cmp es }
+      → length es ≤ length f.0
+      → IsTranslation tree table f []
+  finished_with g d es f so_far with own into made many =
+      let decls = outside tree in
+      let is = own_plain table decls g.outside (record { 0 = [] }) d own so_far.commons so_far.entities so_far.actions
+      so_far.plain in
+      let n = empty_of decls (so_far.some with) in
+      let entry : namespace_entry n.0 ≡ Some (None, definition_of decls (record { 0 = [] })) =
+      entry_of n.0 decls n.2 n.3 n.4 in
+      let all : filter_map namespace_entry (apart tree)
+      ≡ filter_map namespace_entry (named tree) ++ (None, definition_of decls (record { 0 = [] })) ∷ [] =
+      ap (λ l. filter_map namespace_entry (named tree ++ l)) n.1
+      ∙ (filter_map-append namespace_entry (named tree) (n.0 ∷ [])
+      ∙ ap (λ o. filter_map namespace_entry (named tree) ++ cons_option o []) entry) in
+      let are : es ≡ filter_map namespace_entry (apart tree) =
+      into ∙ ((λ i. so_far.namespaces i ++ (None, is.0 i) ∷ []) ∙ sym all) in
+      let here : IsPlainNamespace table n.0 = record {
+        free = subst IsFreeName (sym n.2) tt;
+        decls = subst (ArePlain table) (sym n.3) is.1;
+      } in
+      finished es f are made many
+      (subst (λ l. AllByRecursion (IsPlainNamespace table) (named tree ++ l)) (sym n.1)
+      (all_append (IsPlainNamespace table) (named tree) (n.0 ∷ []) so_far.each (here, tt)))
+    where
+      entry_of : (n : Annotated Namespace) (decls : List (Annotated (Node Declaration))) → n.item.name ≡ None
+          → n.item.decls ≡ decls → n.annotations ≡ record { 0 = [] }
+          → namespace_entry n ≡ Some (None, definition_of decls (record { 0 = [] }))
+      entry_of n decls name same notes =
+          ap (λ o. option_map (λ key. (key, definition_of n.item.decls n.annotations)) (namespace_key o)) name
+          ∙ (λ i. Some (None, definition_of (same i) (notes i)))
+
+  -- the namespaces, and what stands outside of them where something does
+  pub whole : (g : Gathered) (es : List (Option Name × NamespaceDefinition RawName as_written))
+      (f : Fragment RawName as_written) → IsGatheredOf table tree g
+      → AddsOwn g.has_outside g.outside g.namespaces.items es → f ≡ record { 0 = map_of namespace_cmp es }
+      → length es ≤ length f.0 → IsTranslation tree table f []
+  whole g es f so_far adds made many = by g.has_outside refl adds
+    where
+      by : (b : Bool) → g.has_outside ≡ b → AddsOwn b g.outside g.namespaces.items es → IsTranslation tree table f []
+      by true with a = finished_with g a.0 es f so_far with a.1 a.2 made many
+      by false without a =
+          finished_without g f so_far without (made ∙ (λ i. record { 0 = map_of namespace_cmp (a i) }))
+          (subst (λ l. length l ≤ length f.0) a many)

@@ -1,0 +1,13 @@
+use Rattle.std.proofs.Common.{refl, sym, ◌∙◌}
+use Rattle.schema_convert.proofs.ItemByItem.{named_item, outside_item}
+use Rattle.schema_convert.proofs.gathering.push_item.Goals as goal
+
+pub returns-then-is_some : goal.returns-then-is_some
+returns-then-is_some c =
+    named_item c.args.table.now c.args.namespace c.args.gathered.now _ (sym c.is_some.ensures ∙ c.if-is_some.true)
+    refl refl c.push_named.result c.push_named.ensures
+
+pub returns : goal.returns
+returns c =
+    outside_item c.args.table.now c.args.namespace c.args.gathered.now _ (sym c.is_some.ensures ∙ c.if-is_some.false)
+    c.push_outside.result c.push_outside.ensures

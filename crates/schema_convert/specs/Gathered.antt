@@ -1,0 +1,80 @@
+-- What is gathered of a tree, item by item. Only contracts inside the crate cite this.
+use Rattle.std.specs.Prelude.{◌≡◌, ◌≤◌, Bool, true, false, List, [], ◌∷◌, ◌++◌, Option, Some, None, length}
+use Rattle.std.specs.List.{AllByRecursion, filter_map}
+use Rattle.std.specs.Option.{option_to_list}
+use Rattle.cedar_identifiers.specs.declared.name.Name.{Name}
+use Rattle.cedar_data.specs.Maps.{map_of}
+use Rattle.cedar_data.specs.Text.{text_cmp}
+use Rattle.cedar_data.specs.declared.node.Node.{Node}
+use Rattle.cedar_identifiers.specs.declared.annotations.Annotations.{Annotations}
+use Rattle.cedar_identifiers.specs.declared.raw_name.RawName.{RawName}
+use Rattle.cedar_names.specs.declared.extension_table.ExtensionTable.{ExtensionTable}
+use Rattle.schema_syntax_tree.specs.declared.annotated.Annotated.{Annotated}
+use Rattle.schema_syntax_tree.specs.declared.declaration.Declaration.{Declaration}
+use Rattle.schema_syntax_tree.specs.declared.namespace.Namespace.{Namespace}
+use Rattle.schema_json.specs.declared.fragment.NamespaceDefinition.{NamespaceDefinition}
+use Rattle.schema_convert_types.specs.Declarations.{as_written}
+use Rattle.schema_convert_types.specs.Fragments.{common_cmp, unreserved_cmp, common_entries, entity_entries}
+use Rattle.schema_convert_types.specs.Fragments.{action_entries, namespace_entry}
+use Rattle.schema_convert_types.specs.declared.namespaces.Entries.{Entries}
+use Rattle.schema_convert.specs.Joined.{named, outside}
+use Rattle.schema_convert.specs.Plain.{IsPlain, AreOnce, AreUnlike, IsPlainNamespace}
+use Rattle.schema_convert.specs.declared.gathering.Gathered.{Gathered}
+
+-- each of the declarations is plain by itself
+abbrev pub EachPlain : ExtensionTable → List (Annotated (Node Declaration)) → Type 0
+EachPlain table decls = AllByRecursion (λ d. IsPlain table d.item.node) decls
+
+-- the entries after are those before, and those of these declarations, each of which is plain
+pub record Adds (table : ExtensionTable) (before after : Entries) (decls : List (Annotated (Node Declaration)))
+    : Type 0 where
+  pub commons : after.commons.items ≡ before.commons.items ++ common_entries decls
+  pub entities : after.entities.items ≡ before.entities.items ++ entity_entries decls
+  pub actions : after.actions.items ≡ before.actions.items ++ action_entries decls
+  pub plain : EachPlain table decls
+
+-- what the entries define, where no name stands twice among them
+pub record IsOwn (entries : Entries) (notes : Annotations) (d : NamespaceDefinition RawName as_written) : Type 0 where
+  pub is : d ≡ record {
+    common_types = map_of common_cmp entries.commons.items;
+    entity_types = map_of unreserved_cmp entries.entities.items;
+    actions = map_of text_cmp entries.actions.items;
+    annotations = notes;
+  }
+  pub commons_once : AreOnce common_cmp entries.commons.items
+  pub entities_once : AreOnce unreserved_cmp entries.entities.items
+  pub actions_once : AreOnce text_cmp entries.actions.items
+  pub unlike : AreUnlike d.common_types d.entity_types
+
+-- what was gathered is of the items of this tree, of which nothing is to be said so far
+pub record IsGatheredOf (table : ExtensionTable) (tree : List (Annotated Namespace)) (g : Gathered) : Type 0 where
+  pub namespaces : g.namespaces.items ≡ filter_map namespace_entry (named tree)
+  pub each : AllByRecursion (IsPlainNamespace table) (named tree)
+  pub commons : g.outside.commons.items ≡ common_entries (outside tree)
+  pub entities : g.outside.entities.items ≡ entity_entries (outside tree)
+  pub actions : g.outside.actions.items ≡ action_entries (outside tree)
+  pub plain : EachPlain table (outside tree)
+  pub none : g.has_outside ≡ false → outside tree ≡ []
+  pub some : g.has_outside ≡ true → outside tree ≡ [] → ⊥
+
+-- declarations outside of every namespace are gathered too
+pub record AddsOutside (table : ExtensionTable) (before after : Gathered) (decls : List (Annotated (Node Declaration)))
+    : Type 0 where
+  pub entries : Adds table before.outside after.outside decls
+  pub others : after.namespaces.items ≡ before.namespaces.items
+  pub some : decls ≡ [] → after.has_outside ≡ before.has_outside
+  pub now : (decls ≡ [] → ⊥) → after.has_outside ≡ true
+
+-- the entry of a namespace that has a name is there too, and nothing is to be said of it
+pub record AddsNamed (table : ExtensionTable)
+    (before after : List (Option Name × NamespaceDefinition RawName as_written))
+    (n : Annotated Namespace) : Type 0 where
+  pub entry : after ≡ before ++ option_to_list (namespace_entry n)
+  pub plain : IsPlainNamespace table n
+
+-- the entries of the namespaces, and where declarations stand outside of these, the entry of what they define
+abbrev pub AddsOwn : Bool → Entries → List (Option Name × NamespaceDefinition RawName as_written)
+    → List (Option Name × NamespaceDefinition RawName as_written) → Type 0
+AddsOwn false outside before after = after ≡ before
+AddsOwn true outside before after = (d : NamespaceDefinition RawName as_written)
+    × IsOwn outside (record { 0 = [] }) d × (after ≡ before ++ (None, d) ∷ [])

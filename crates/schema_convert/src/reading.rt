@@ -1,0 +1,45 @@
+ghost use Rattle.std.specs.Prelude.{[], List, length, IfOk, IfErr, IfSome};
+ghost use Rattle.std.specs.List.{All};
+ghost use Rattle.schema_syntax_grammar.specs.Grammar.{Sentence};
+ghost use Rattle.schema_syntax_tokens.specs.Scans.{Scans, IsPlaced};
+ghost use Rattle.schema_syntax_tokens.specs.TokenLists.{kinds_of};
+ghost use Rattle.schema_syntax_tree.specs.declared.annotated.Annotated.{Annotated};
+ghost use Rattle.schema_syntax_tree.specs.declared.namespace.Namespace.{Namespace};
+ghost use Rattle.schema_syntax_reader.specs.LawfulTrees.{IsLawfulTree, IsStopOf};
+ghost use Rattle.schema_convert.specs.Translated.{IsTranslation};
+
+use crate::gathering::{Gathered, gathered_fragment, push_item};
+use cedar_identifiers::RawName;
+use cedar_names::ExtensionTable;
+use schema_json::Fragment;
+use schema_syntax_parser::next_item;
+use schema_syntax_reader::{Stopped, item};
+use schema_syntax_tokens::Token;
+use std::alloc::Global;
+
+/// The fragment that a text of these tokens stands for, where it has neither faults nor warnings and opens no namespace
+/// twice: each item is translated once it is read. Or of its user faults the one that ends first.
+pub fn fragment_at_once(
+    alloc: Global,
+    text: &str,
+    tokens: &[Token],
+    table: &ExtensionTable,
+) -> Result<Option<Fragment<RawName>>, Stopped>
+    requires scans { Scans text.now tokens.now (length text.now) }
+    requires placed { All (IsPlaced text.now) tokens.now }
+    requires sentence { Sentence (kinds_of tokens.now) }
+    ensures found { IfOk result (λ found. IfSome found (λ fragment. (tree : List (Annotated Namespace)) × IsLawfulTree text.now tokens.now tree × IsTranslation tree table.now fragment [])) }
+    ensures fault { IfErr result (IsStopOf text.now tokens.now) }
+{
+    let mut gathered = Gathered::new(alloc);
+    let mut rest = tokens;
+    while let Some((raw, after)) = next_item(alloc, rest)? {
+        let namespace = item(alloc, text, raw)?;
+        if !push_item(alloc, table, &mut gathered, namespace)? {
+            return Ok(None);
+        }
+        rest = after;
+    }
+    let fragment = gathered_fragment(alloc, gathered)?;
+    Ok(fragment)
+}
