@@ -1,5 +1,5 @@
 -- Maps that have as many entries as were put into them: no key stood twice.
-use Rattle.std.proofs.Common.{◌≡◌, ◌≤◌, ◌+◌, ℕ, suc, Bool, true, false, cond, List, [], ◌∷◌, ◌++◌, length, map, Option}
+use Rattle.std.proofs.Common.{◌≡◌, ◌≤◌, ◌+◌, suc, Bool, true, false, cond, List, [], ◌∷◌, ◌++◌, length, map, Option}
 use Rattle.std.proofs.Common.{Some, None, refl, sym, ap, ◌∙◌, subst, true≢false, is_some, find, arith}
 use Rattle.std.proofs.Common.{append_assoc, append-nil}
 use Rattle.std.specs.declared.cmp.Ordering.{Ordering}
@@ -16,7 +16,7 @@ use Rattle.std.proofs.lemmas.List.Folds.{find-append}
 use Rattle.cedar_data.specs.Maps.{with_entries, map_of}
 use Rattle.schema_convert.proofs.Among.{HasNot, AreFresh}
 use Rattle.schema_convert.proofs.FirstRepeat.{AreNew}
-use Rattle.schema_convert.proofs.Valued.{put, equal_from}
+use Rattle.schema_convert.proofs.Valued.{put}
 
 none_some : {X : Type 0} (x : X) → Some x ≡ None → true ≡ false
 none_some x h = ap is_some h

@@ -1,7 +1,7 @@
 -- What is gathered of one item more, and the fragment of what was gathered.
-use Rattle.std.proofs.Common.{◌≡◌, ◌≤◌, ℕ, Bool, true, false, List, [], ◌∷◌, ◌++◌, length, Option, Some, None, refl}
+use Rattle.std.proofs.Common.{◌≡◌, ◌≤◌, Bool, true, false, List, [], ◌∷◌, ◌++◌, length, Option, Some, None, refl}
 use Rattle.std.proofs.Common.{sym, ap}
-use Rattle.std.proofs.Common.{◌∙◌, subst, true≢false, is_some, append-nil, flat_map, filter_map, option_to_list, arith}
+use Rattle.std.proofs.Common.{◌∙◌, subst, true≢false, is_some, append-nil, filter_map, option_to_list, arith}
 use Rattle.std.specs.List.{AllByRecursion, cons_option}
 use Rattle.std.specs.Option.{option_map}
 use Rattle.std.specs.Prelude.{Result, Ok, Err, IfOk}
@@ -26,16 +26,15 @@ use Rattle.schema_convert_types.specs.Fragments.{entity_entries, action_entries,
 use Rattle.schema_convert_types.specs.Fragments.{action_entries_of, namespace_entry, namespace_key, definition_of}
 use Rattle.schema_convert_types.specs.Fragments.{fragment_of}
 use Rattle.schema_convert_types.specs.declared.namespaces.Entries.{Entries}
-use Rattle.schema_convert.specs.Gathered.{EachPlain, Adds, IsOwn, IsGatheredOf, AddsOutside, AddsNamed}
+use Rattle.schema_convert.specs.Gathered.{EachPlain, IsOwn, IsGatheredOf, AddsOutside, AddsNamed}
 use Rattle.schema_convert.specs.Gathered.{AddsOwn}
 use Rattle.schema_convert.specs.Joined.{named, named_so, outside, unnamed_so, empty_namespace}
 use Rattle.schema_convert.specs.Plain.{IsPlain, AreOnce, AreUnlike, ArePlain, HasRisingNotes, IsPlainNamespace}
-use Rattle.schema_convert.specs.Plain.{IsPlainTree, apart}
+use Rattle.schema_convert.specs.Plain.{apart}
 use Rattle.schema_convert.specs.Translatable.{IsFreeName}
 use Rattle.schema_convert.specs.Translated.{IsTranslation}
 use Rattle.schema_convert.specs.declared.gathering.Gathered.{Gathered}
 use Rattle.schema_convert.proofs.Counted.{at_most_all}
-use Rattle.schema_convert.proofs.PlainNames.{text_total, unreserved_total, common_total}
 use Rattle.schema_convert.proofs.PlainTree.{keys_total, plain_tree}
 
 all_append : {A : Type 0} (P : A → Type 0) (xs ys : List A) → AllByRecursion P xs → AllByRecursion P ys
@@ -209,8 +208,7 @@ own_plain table decls entries notes d own commons entities actions plain =
     )
 
 module _ (table : ExtensionTable) (tree : List (Annotated Namespace))
-    (rising : AllByRecursion HasRisingNotes (named tree))
-    where
+    (rising : AllByRecursion HasRisingNotes (named tree)) where
   -- as many namespaces as were gathered
   finished : (es : List (Option Name × NamespaceDefinition RawName as_written)) (f : Fragment RawName as_written)
       → es ≡ filter_map namespace_entry (apart tree) → f ≡ record { 0 = map_of namespace_cmp es }

@@ -1,7 +1,7 @@
 -- Trees of which nothing is to be said are translated namespace by namespace.
-use Rattle.std.proofs.Common.{◌≡◌, ℕ, Bool, true, false, cond, List, [], ◌∷◌, ◌++◌, map, Option, Some, None, refl, sym}
+use Rattle.std.proofs.Common.{◌≡◌, ℕ, Bool, true, false, List, [], ◌∷◌, ◌++◌, map, Option, Some, None, refl, sym}
 use Rattle.std.proofs.Common.{ap}
-use Rattle.std.proofs.Common.{◌∙◌, subst, true≢false, find, ◌⊎◌, inl, inr, flat_map, filter_map, ◌||◌}
+use Rattle.std.proofs.Common.{◌∙◌, subst, true≢false, find, inl, inr, flat_map, filter_map, ◌||◌}
 use Rattle.std.specs.BTreeMap.{is_at}
 use Rattle.std.specs.Cmp.Derive.Mapped.{lex_map}
 use Rattle.std.specs.Cmp.Lexicographic.{slice_cmp, lists_total, options_total}
@@ -12,8 +12,7 @@ use Rattle.std.specs.Map.{lookup}
 use Rattle.std.specs.Option.{option_cmp, option_map}
 use Rattle.std.specs.Ordering.{is_eq}
 use Rattle.std.specs.declared.cmp.Ordering.{Ordering}
-use Rattle.std.specs.declared.cmp.Ordering.TheVariants.{Less, Equal, Greater}
-use Rattle.std.proofs.lemmas.List.{map-append}
+use Rattle.std.specs.declared.cmp.Ordering.TheVariants.{Equal}
 use Rattle.cedar_data.specs.Maps.{map_of}
 use Rattle.cedar_data.specs.Span.{Span}
 use Rattle.cedar_data.specs.Text.{text_cmp}
@@ -33,23 +32,19 @@ use Rattle.schema_syntax_tree.specs.declared.path.Path.{Path}
 use Rattle.schema_json.specs.Keywords.{is_keyword_name}
 use Rattle.schema_json.specs.declared.common_type.CommonType.{CommonType}
 use Rattle.schema_json.specs.declared.common_type.CommonTypeId.{CommonTypeId}
-use Rattle.schema_json.specs.declared.entity_type.EntityType.{EntityType}
-use Rattle.schema_json.specs.declared.fragment.NamespaceDefinition.{NamespaceDefinition}
 use Rattle.schema_convert_errors.specs.declared.warnings.SchemaWarning.{SchemaWarning}
-use Rattle.schema_convert_types.specs.Declarations.{as_written}
 use Rattle.schema_convert_types.specs.Names.{internal_name_of, name_of_ids}
-use Rattle.schema_convert_types.specs.Fragments.{declarable_name, declarable_name_so, namespace_key, namespace_entry}
+use Rattle.schema_convert_types.specs.Fragments.{declarable_name_so, namespace_key, namespace_entry}
 use Rattle.schema_convert_types.specs.Fragments.{namespace_cmp, common_entries, entity_entries, common_cmp}
 use Rattle.schema_convert_types.specs.Fragments.{unreserved_cmp, fragment_of, definition_of}
-use Rattle.schema_convert.specs.Faults.{is_reserved_path, action_fault}
-use Rattle.schema_convert.specs.Joined.{named, outside, empty_namespace, joined, joined_by_name, have_one_name}
+use Rattle.schema_convert.specs.Joined.{named, outside, empty_namespace, joined, have_one_name}
 use Rattle.schema_convert.specs.NamesIn.{entities_of, commons_of, entity_names_in, common_names_in, id_cmp, id_text_cmp}
 use Rattle.schema_convert.specs.NamesIn.{path_cmp}
-use Rattle.schema_convert.specs.Plain.{IsFreeId, IsPlain, ArePlain, IsPlainNamespace, IsPlainTree, AreUnlike, apart}
-use Rattle.schema_convert.specs.Shadowings.{is_taken, shadowings}
+use Rattle.schema_convert.specs.Plain.{IsFreeId, IsPlain, ArePlain, IsPlainNamespace, IsPlainTree, apart}
+use Rattle.schema_convert.specs.Shadowings.{shadowings}
 use Rattle.schema_convert.specs.Translatable.{IsFreeName, AppliesLawfully, IsFreeCommon, IsLawfulNamespace}
-use Rattle.schema_convert.specs.Translated.{IsTranslation, translated}
-use Rattle.schema_convert.specs.Warned.{IsAmong, SaysBuiltin, SaysEntity, IsOfDeclared, IsWarnedOf}
+use Rattle.schema_convert.specs.Translated.{IsTranslation}
+use Rattle.schema_convert.specs.Warned.{IsAmong, SaysBuiltin, IsOfDeclared}
 use Rattle.schema_convert.proofs.Among.{among_map, among_map_of}
 use Rattle.schema_convert.proofs.Counted.{keys_new, items_new, fresh, none_cond, absent_parts}
 use Rattle.schema_convert.proofs.FirstRepeat.{AreNew}
@@ -58,7 +53,6 @@ use Rattle.schema_convert.proofs.PlainJoined.{joined_as_they_stand}
 use Rattle.schema_convert.proofs.PlainNames.{text_eq, text_total, unreserved_total, common_total, entity_key}
 use Rattle.schema_convert.proofs.PlainNames.{common_key}
 use Rattle.schema_convert.proofs.PlainNames.{entity_keys, common_keys, entities_once, commons_once, actions_once}
-use Rattle.schema_convert.proofs.Valued.{map_last}
 use Rattle.schema_convert.proofs.Warnings.{warned, all_at}
 
 -- what holds of each part of each item

@@ -1,7 +1,7 @@
 -- Items that are all so, seen one after another: where those that are left are so, all are.
 use Rattle.std.proofs.Common.{◌≡◌, ℕ, suc, ◌+◌, ◌<◌, ◌≤◌, List, [], ◌∷◌, length, get_or, drop, sym, ap, ◌∙◌, subst}
 use Rattle.std.proofs.Common.{drop-cons, add-one, arith}
-use Rattle.std.proofs.Common.{Option, Some, None, is_some, true, false, true≢false}
+use Rattle.std.proofs.Common.{Option, Some, None, is_some, false, true≢false}
 use Rattle.std.specs.Borrow.{Bor}
 use Rattle.std.specs.Option.{option_copied}
 use Rattle.std.specs.List.{AllByRecursion}

@@ -1,5 +1,5 @@
 -- Trees of which nothing is to be said: they have no fault and no warning, and open no namespace twice.
-use Rattle.std.specs.Prelude.{◌≡◌, ℕ, false, List, ◌++◌, None, length}
+use Rattle.std.specs.Prelude.{◌≡◌, false, List, ◌++◌, None, length}
 use Rattle.std.specs.BTreeMap.{is_at}
 use Rattle.std.specs.List.{AllByRecursion, filter_map}
 use Rattle.std.specs.List.Sorted.{IsStrictlySortedBy}

@@ -15,9 +15,7 @@ use crate::plain::is_plain;
 use cedar_data::{Boxed, List, Node};
 use cedar_identifiers::{Annotations, Name, RawName};
 use cedar_names::ExtensionTable;
-use schema_convert_types::{
-    Entries, definition_from, fragment_from, namespace_key, push_declared,
-};
+use schema_convert_types::{Entries, definition_from, fragment_from, namespace_key, push_declared};
 use schema_json::{Fragment, NamespaceDefinition};
 use schema_syntax_tree::{Annotated, Declaration, Namespace, Path};
 use std::alloc::{AllocError, Global};

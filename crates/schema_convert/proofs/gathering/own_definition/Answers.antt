@@ -25,11 +25,29 @@ returns c =
     let most_actions = at_most_all text_cmp text_total c.args.entries.actions.items in
     record {
       is = c.in_ok-definition.ensures;
-      commons_once = omega (arith, commons, most_commons, c.as_slice.ensures.len, c.len-commons.ensures,
-          c.if-as_slice-commons.false);
-      entities_once = omega (arith, entities, most_entities, c.as_slice-else-as_slice-commons.ensures.len,
-          c.len-entities.ensures, c.if-as_slice-entities.false);
-      actions_once = omega (arith, actions, most_actions, c.as_slice-else-as_slice-entities.ensures.len,
-          c.len-actions.ensures, c.if-as_slice-actions.false);
+      commons_once = omega (
+        arith,
+        commons,
+        most_commons,
+        c.as_slice.ensures.len,
+        c.len-commons.ensures,
+        c.if-as_slice-commons.false,
+      );
+      entities_once = omega (
+        arith,
+        entities,
+        most_entities,
+        c.as_slice-else-as_slice-commons.ensures.len,
+        c.len-entities.ensures,
+        c.if-as_slice-entities.false,
+      );
+      actions_once = omega (
+        arith,
+        actions,
+        most_actions,
+        c.as_slice-else-as_slice-entities.ensures.len,
+        c.len-actions.ensures,
+        c.if-as_slice-actions.false,
+      );
       unlike = c.are_apart.ensures c.if-not-are_apart.false;
     }

@@ -3,7 +3,7 @@ use Rattle.std.proofs.lemmas.Result.{err_from_is_err_and}
 use Rattle.schema_syntax_parser.specs.Syntax.{IsFirstItem}
 use Rattle.schema_syntax_parser.proofs.Sentences.{sentence_of}
 use Rattle.schema_syntax_reader.proofs.ItemReads.{no_item_yet, next_is, one_scanned, one_more_item}
-use Rattle.schema_syntax_reader.proofs.ItemReads.{stopped_at_item, all_items}
+use Rattle.schema_syntax_reader.proofs.ItemReads.{stopped_at_item}
 use Rattle.schema_convert.proofs.Readings.{found}
 use Rattle.schema_convert.proofs.reading.fragment_at_once.Goals as goal
 
