@@ -1,5 +1,5 @@
--- What the scanner and the grammar say of the sites of a text, and which sites have no fault. Only contracts inside the
--- crate cite this.
+-- What the scanner and the grammar say of the sites of a text, and which sites have no fault. Only contracts of readers
+-- cite this.
 use Rattle.std.specs.Prelude.{◌≡◌, ◌≤◌, ℕ, true, List, [], ◌∷◌, ◌++◌, Option, None, Some}
 use Rattle.std.specs.List.{All, flat_map}
 use Rattle.std.specs.Option.{option_to_list}
