@@ -7,6 +7,7 @@ pub mod entries;
 pub mod into_variant;
 pub mod names;
 pub mod namespaces;
+mod room;
 pub mod types;
 
 pub use entries::map_of;

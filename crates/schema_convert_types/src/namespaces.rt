@@ -10,6 +10,7 @@ use crate::actions::{action_ids, action_type};
 use crate::entities::entity_type;
 use crate::entries::{map_of, push_each};
 use crate::names::internal_name;
+use crate::room::room_for;
 use crate::types::cedar_type_to_json_type;
 use cedar_data::{Boxed, List, Loc, Node, NonEmptyIter, Text};
 use cedar_identifiers::{Annotations, Id, InternalName, Name, RawName, UnreservedId};
@@ -180,8 +181,14 @@ fn entries_of<'a>(
     ensures entities { IfOk result (λ entries. entries.entities.items ≡ entity_entries decls.entry) }
     ensures actions { IfOk result (λ entries. entries.actions.items ≡ action_entries decls.entry) }
 {
-    let mut entries = Entries::new(alloc);
-    for decl in decls.into_vec() {
+    let decls = decls.into_vec();
+    let room = room_for(decls.as_slice());
+    let mut entries = Entries {
+        commons: Vec::with_capacity(alloc, room.commons)?,
+        entities: Vec::with_capacity(alloc, room.entities)?,
+        actions: Vec::with_capacity(alloc, room.actions)?,
+    };
+    for decl in decls {
         push_declared(alloc, &mut entries, decl)?;
     }
     Ok(entries)
@@ -284,7 +291,7 @@ pub fn fragment_of<'a>(
 ) -> Result<Fragment<RawName>, AllocError>
     ensures { IfOk result (λ fragment. fragment ≡ fragment_of namespaces.entry.items) }
 {
-    let mut entries = Vec::new(alloc);
+    let mut entries = Vec::with_capacity(alloc, namespaces.len())?;
     for namespace in namespaces {
         push_namespace(alloc, &mut entries, namespace)?;
     }
