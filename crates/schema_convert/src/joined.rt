@@ -1,5 +1,5 @@
-ghost use Rattle.std.specs.Prelude.{◌≡◌, ◌++◌, IfOk, OnOk};
-ghost use Rattle.schema_convert.specs.Joined.{named_so, unnamed_so, empty_namespace, joined};
+ghost use Rattle.std.specs.Prelude.{◌≡◌, ◌≤◌, ◌++◌, length, IfOk, OnOk};
+ghost use Rattle.schema_convert.specs.Joined.{named_so, unnamed_so, outside, empty_namespace, joined};
 
 use crate::openings::{joined_by_name, push_all};
 use cedar_data::{List, Node};
@@ -46,6 +46,19 @@ fn push_empty<'a>(
     Ok(())
 }
 
+// How many declarations stand outside of every namespace.
+fn count_outside<'a>(namespaces: &[Annotated<'a, Namespace<'a>>]) -> usize
+    ensures { result ≤ length (outside namespaces.now) }
+{
+    let mut count = 0usize;
+    for namespace in namespaces {
+        if namespace.item.name.is_none() {
+            count = count.saturating_add(namespace.item.decls.as_slice().len());
+        }
+    }
+    count
+}
+
 /// The namespaces that a tree has: one for each name, in the order of the first openings, and behind them the one of all
 /// declarations that stand outside of these, where there are any.
 pub fn joined<'a>(
@@ -54,9 +67,10 @@ pub fn joined<'a>(
 ) -> Result<Vec<Annotated<'a, Namespace<'a>>>, AllocError>
     ensures { IfOk result (λ namespaces. namespaces.items ≡ joined schema.entry) }
 {
+    let openings = schema.into_vec();
     let mut named = Vec::new(alloc);
-    let mut outside = Vec::new(alloc);
-    for namespace in schema.into_vec() {
+    let mut outside = Vec::with_capacity(alloc, count_outside(openings.as_slice()))?;
+    for namespace in openings {
         push_namespace(alloc, &mut named, &mut outside, namespace)?;
     }
     let mut namespaces = joined_by_name(alloc, named)?;

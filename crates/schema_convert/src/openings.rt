@@ -50,10 +50,7 @@ pub fn push_all<'a>(
 ) -> Result<(), AllocError>
     ensures { OnOk result (decls.new.items ≡ decls.old.items ++ more.entry) }
 {
-    for decl in more.into_vec() {
-        decls.push(decl)?;
-    }
-    Ok(())
+    decls.append(&mut more.into_vec())
 }
 
 // Adds the entries.
@@ -63,10 +60,7 @@ fn push_entries<'a>(
 ) -> Result<(), AllocError>
     ensures { OnOk result (entries.new.items ≡ entries.old.items ++ more.entry.0) }
 {
-    for entry in more.into_map().into_vec() {
-        entries.push(entry)?;
-    }
-    Ok(())
+    entries.append(&mut more.into_map().into_vec())
 }
 
 // The annotations of these entries: each key with its first value.
