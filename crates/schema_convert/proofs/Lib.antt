@@ -1,4 +1,5 @@
 mod Among
+mod Below
 mod Borrowed
 mod FirstRepeat
 mod Gathered

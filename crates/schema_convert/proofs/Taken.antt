@@ -106,9 +106,8 @@ module _ (table : ExtensionTable) where
   entities_alone decls none = ap (λ cs. warnings_in table (by_id cs) (by_id (entity_names_in decls))) none
 
   pub told_alone : {A E : Type 0} (r : Result A E) (decls : List (Annotated (Node Declaration)))
-      (names : List (Node Id)) (old new : List SchemaWarning) → common_names_in decls ≡ []
-      → names ≡ entity_names_in decls → OnOk r (new ≡ old ++ flat_map told (by_id names))
+      (old new : List SchemaWarning) → common_names_in decls ≡ []
+      → OnOk r (new ≡ old ++ flat_map told (by_id (entity_names_in decls)))
       → OnOk r (new ≡ old ++ declared_warnings table decls)
-  told_alone (Err e) decls names old new none is h = tt
-  told_alone (Ok x) decls names old new none is h =
-      h ∙ ap (λ ns. old ++ flat_map told (by_id ns)) is ∙ ap (λ ws. old ++ ws) (sym (entities_alone decls none))
+  told_alone (Err e) decls old new none h = tt
+  told_alone (Ok x) decls old new none h = h ∙ ap (λ ws. old ++ ws) (sym (entities_alone decls none))

@@ -1,7 +1,8 @@
 ghost use Rattle.std.specs.Prelude.{◌≡◌, [], ◌∷◌, ◌++◌, map, IfOk, OnOk};
 ghost use Rattle.std.specs.List.{filter_map};
 ghost use Rattle.std.specs.Option.{option_to_list};
-ghost use Rattle.schema_convert.specs.Faults.{is_reserved_path, reserved_namespace, id_twice, action_twice, declared_twice, name_fault, reserved_id, keyword, common_fault, first_some, applies_fault, action_fault, action_faults, declaration_faults, all_declaration_faults, faults_in};
+ghost use Rattle.schema_convert.specs.Faults.{is_reserved_path, reserved_namespace, id_twice, action_twice, declared_twice, name_fault, reserved_id, keyword, common_fault, first_some, applies_fault, action_fault, entity_faults, action_faults, declaration_faults, all_declaration_faults, faults_in};
+ghost use Rattle.schema_convert.specs.NamesIn.{entities_of};
 
 use crate::members::block_fault;
 use crate::names_in::{action_names_in, common_names_in, entity_names_in};
@@ -231,17 +232,34 @@ pub fn action_fault(
     }
 }
 
-// All reserved names of entity types.
-fn entity_faults(
+// Adds the fault of each reserved name among those of the entity types that the declaration declares.
+fn push_reserved(
     alloc: Global,
-    ids: Vec<&Node<SrcId<'_>>>,
+    faults: &mut Vec<ToJsonSchemaError>,
+    decl: &Declaration<'_>,
+) -> Result<(), AllocError>
+    ensures { OnOk result (faults.new.items ≡ faults.old.items ++ filter_map reserved_id (entities_of decl.now)) }
+{
+    let Declaration::Entity(decl) = decl else {
+        return Ok(());
+    };
+    for name in decl.names() {
+        let fault = reserved_id(alloc, name)?;
+        push_fault(faults, fault)?;
+    }
+    Ok(())
+}
+
+// All reserved names of entity types.
+fn entity_faults<'a>(
+    alloc: Global,
+    decls: &[Annotated<'a, Node<Declaration<'a>>>],
 ) -> Result<Vec<ToJsonSchemaError>, AllocError>
-    ensures { IfOk result (λ faults. faults.items ≡ filter_map reserved_id (map (λ x. x.now) ids.entry.items)) }
+    ensures { IfOk result (λ faults. faults.items ≡ entity_faults decls.now) }
 {
     let mut faults = Vec::new(alloc);
-    for id in ids {
-        let fault = reserved_id(alloc, id)?;
-        push_fault(&mut faults, fault)?;
+    for decl in decls {
+        push_reserved(alloc, &mut faults, &decl.item.node)?;
     }
     Ok(faults)
 }
@@ -296,8 +314,7 @@ fn declaration_faults<'a>(
 ) -> Result<Vec<ToJsonSchemaError>, AllocError>
     ensures { IfOk result (λ faults. faults.items ≡ declaration_faults decls.now) }
 {
-    let entities = entity_names_in(alloc, decls)?;
-    let faults = entity_faults(alloc, entities)?;
+    let faults = entity_faults(alloc, decls)?;
     if !faults.is_empty() {
         return Ok(faults);
     }

@@ -1,7 +1,9 @@
-ghost use Rattle.std.specs.Prelude.{◌≡◌, ◌++◌, map, option_map, IfOk, OnOk};
+ghost use Rattle.std.specs.Prelude.{◌≡◌, ◌++◌, true, false, map, option_map, IfOk, OnOk};
 ghost use Rattle.std.specs.List.{filter, flat_map};
 ghost use Rattle.std.specs.Option.{option_copied};
+ghost use Rattle.cedar_names.specs.Tables.{table_has};
 ghost use Rattle.schema_convert.specs.Borrowed.{entry_now, optional_now};
+ghost use Rattle.schema_convert.specs.NamesIn.{entities_of, entity_names_in};
 ghost use Rattle.schema_convert.specs.Shadowings.{by_id, is_primitive_name, is_taken, builtin_shadowed, entity_shadowed, common_warnings, warnings_in, declared_warnings, by_name, warnings_of};
 
 use crate::names_in::{common_names_in, entity_names_in};
@@ -31,17 +33,41 @@ fn by_id<'a, 's>(
 fn is_primitive_name(word: &str) -> bool
     ensures { result ≡ is_primitive_name word.now }
 {
-    match word {
-        "Long" | "String" | "Bool" => true,
+    match word.len() {
+        4 => word == "Long" || word == "Bool",
+        6 => word == "String",
         _ => false,
     }
+}
+
+// Whether the first byte of the word is less than that of each of the table's names, as a capital letter mostly is.
+fn begins_below(table: &ExtensionTable, word: &str) -> bool
+    ensures { result ≡ true → table_has table.now word.now ≡ false }
+{
+    let Some(least) = table.names.as_slice().first() else {
+        return false;
+    };
+    match (word.as_bytes().first(), least.as_str().as_bytes().first()) {
+        (Some(first), Some(other)) => *first < *other,
+        _ => false,
+    }
+}
+
+// Whether the word is one of the table's.
+fn stands_in(table: &ExtensionTable, word: &str) -> bool
+    ensures { result ≡ table_has table.now word.now }
+{
+    if begins_below(table, word) {
+        return false;
+    }
+    table.has(word)
 }
 
 /// Whether it is that, or one of the table's.
 pub fn is_taken(table: &ExtensionTable, word: &str) -> bool
     ensures { result ≡ is_taken table.now word.now }
 {
-    is_primitive_name(word) || table.has(word)
+    is_primitive_name(word) || stands_in(table, word)
 }
 
 // Adds the warning of a declared type that is named so.
@@ -133,33 +159,50 @@ fn push_entities<'s>(
     Ok(())
 }
 
-// Those of the names that are taken by a type that every schema has or by one of the table's.
-fn taken_names<'a, 's>(
-    alloc: Global,
+// Adds those of the names of entity types that are taken, of the declaration's.
+fn push_taken_of<'a, 's>(
+    taken: &mut Vec<&'a Node<SrcId<'s>>>,
     table: &ExtensionTable,
-    names: Vec<&'a Node<SrcId<'s>>>,
-) -> Result<Vec<&'a Node<SrcId<'s>>>, AllocError>
-    ensures { IfOk result (λ taken. map (λ x. x.now) taken.items ≡ filter (λ n. is_taken table.now n.node.text) (map (λ x. x.now) names.entry.items)) }
+    decl: &'a Declaration<'s>,
+) -> Result<(), AllocError>
+    ensures { OnOk result (map (λ x. x.now) taken.new.items ≡ map (λ x. x.now) taken.old.items ++ filter (λ n. is_taken table.now n.node.text) (entities_of decl.now)) }
 {
-    let mut taken = Vec::new(alloc);
-    for name in names {
+    let Declaration::Entity(decl) = decl else {
+        return Ok(());
+    };
+    for name in decl.names() {
         if is_taken(table, name.node.as_str()) {
             taken.push(name)?;
         }
     }
+    Ok(())
+}
+
+// The names of entity types that are taken by a type that every schema has or by one of the table's.
+fn taken_names<'a, 's>(
+    alloc: Global,
+    table: &ExtensionTable,
+    decls: &'a [Annotated<'s, Node<Declaration<'s>>>],
+) -> Result<Vec<&'a Node<SrcId<'s>>>, AllocError>
+    ensures { IfOk result (λ taken. map (λ x. x.now) taken.items ≡ filter (λ n. is_taken table.now n.node.text) (entity_names_in decls.now)) }
+{
+    let mut taken = Vec::new(alloc);
+    for decl in decls {
+        push_taken_of(&mut taken, table, &decl.item.node)?;
+    }
     Ok(taken)
 }
 
-// Adds the warnings of entity types with these names, of which those that are not taken need no order.
-fn push_taken(
+// Adds the warnings of the entity types that the declarations declare. Those with names that are not taken need no order.
+fn push_taken<'s>(
     alloc: Global,
     warnings: &mut Vec<SchemaWarning>,
     table: &ExtensionTable,
-    names: Vec<&Node<SrcId<'_>>>,
+    decls: &[Annotated<'s, Node<Declaration<'s>>>],
 ) -> Result<(), AllocError>
-    ensures { OnOk result (warnings.new.items ≡ warnings.old.items ++ flat_map (λ e. builtin_shadowed table.now e.1) (by_id (map (λ x. x.now) names.entry.items))) }
+    ensures { OnOk result (warnings.new.items ≡ warnings.old.items ++ flat_map (λ e. builtin_shadowed table.now e.1) (by_id (entity_names_in decls.now))) }
 {
-    let taken = taken_names(alloc, table, names)?;
+    let taken = taken_names(alloc, table, decls)?;
     let entities = by_id(alloc, taken)?;
     push_entities(alloc, warnings, table, entities)?;
     Ok(())
@@ -175,11 +218,11 @@ fn push_declared<'s>(
     ensures { OnOk result (warnings.new.items ≡ warnings.old.items ++ declared_warnings table.now decls.now) }
 {
     let common_names = common_names_in(alloc, decls)?;
-    let entity_names = entity_names_in(alloc, decls)?;
     if common_names.is_empty() {
-        return push_taken(alloc, warnings, table, entity_names);
+        return push_taken(alloc, warnings, table, decls);
     }
     let commons = by_id(alloc, common_names)?;
+    let entity_names = entity_names_in(alloc, decls)?;
     let entities = by_id(alloc, entity_names)?;
     push_commons(alloc, warnings, table, &entities, commons)?;
     push_entities(alloc, warnings, table, entities)?;

@@ -1,19 +1,20 @@
-use Rattle.std.proofs.Common.{refl, sym, ap, ◌∙◌, ◌++◌, map}
+use Rattle.std.proofs.Common.{refl}
 use Rattle.std.specs.List.{filter_map}
-use Rattle.std.specs.Option.{option_to_list}
-use Rattle.schema_convert.specs.Faults.{reserved_id}
-use Rattle.schema_convert.proofs.Gathered.{consed, more, over}
+use Rattle.std.proofs.lemmas.List.Elements.{filter_map-append}
+use Rattle.schema_convert.specs.Faults.{entity_faults, reserved_id}
+use Rattle.schema_convert.specs.NamesIn.{entities_of, entity_names_in}
+use Rattle.schema_convert.proofs.Gathered.{more_at, over_at}
 use Rattle.schema_convert.proofs.faults.entity_faults.Goals as goal
 
-pub loop-id-preserved : goal.loop-id-preserved
-loop-id-preserved c =
-    more (λ ids. filter_map reserved_id (map (λ x. x.now) ids)) (λ x. option_to_list (reserved_id x.now)) refl
-    (λ x xs. consed (reserved_id x.now) (filter_map reserved_id (map (λ x. x.now) xs))) _ _ _ _ c.in-Some.id _
-    c.loop-id.invariant c.in-Some.ensures.steps.0
-    (c.in_ok-push_fault.ensures ∙ ap (λ o. c.loop-id.faults.items ++ option_to_list o) c.in_ok-fault.ensures)
+pub loop-decl-preserved : goal.loop-decl-preserved
+loop-decl-preserved c =
+    more_at entity_faults (λ d. filter_map reserved_id (entities_of d.item.node)) refl
+    (λ x xs. filter_map-append reserved_id (entities_of x.item.node) (entity_names_in xs)) _ _ c.args.decls.now
+    c.loop-decl.decl-index c.decl-item.result _ c.loop-decl.invariant c.loop-decl-test.true c.decl-item.is
+    c.in_ok-push_reserved.ensures
 
 pub returns : goal.returns
 returns c =
-    over (λ ids. filter_map reserved_id (map (λ x. x.now) ids)) (λ x. option_to_list (reserved_id x.now)) refl
-    (λ x xs. consed (reserved_id x.now) (filter_map reserved_id (map (λ x. x.now) xs))) _ _ _ c.loop-id.invariant
-    (sym c.loop-id.id-iterator.rest.ok.0 ∙ c.in-None.ensures.steps.0)
+    over_at entity_faults (λ d. filter_map reserved_id (entities_of d.item.node)) refl
+    (λ x xs. filter_map-append reserved_id (entities_of x.item.node) (entity_names_in xs)) _ c.args.decls.now
+    c.loop-decl.decl-index _ c.loop-decl.invariant c.loop-decl-test.false

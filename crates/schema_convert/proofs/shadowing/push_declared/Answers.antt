@@ -20,5 +20,5 @@ returns-then-is_empty c =
     let items : c.in_ok-common_names.common_names.items ≡ [] = nil_from_length _ (omega (arith, zero)) in
     let none : common_names_in c.args.decls.now ≡ [] =
     sym c.in_ok-common_names.ensures ∙ ap (map (λ x. x.now)) items in
-    told_alone c.args.table.now c.push_taken.result c.args.decls.now _ c.args.warnings.now.items
-    c.push_taken.new.warnings.items none c.in_ok-entity_names.ensures c.push_taken.ensures
+    told_alone c.args.table.now c.push_taken.result c.args.decls.now c.args.warnings.now.items
+    c.push_taken.new.warnings.items none c.push_taken.ensures
