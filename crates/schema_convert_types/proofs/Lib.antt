@@ -1,6 +1,7 @@
 mod Definitions
 pub mod Filtered
 mod Lists
+mod Moved
 mod Reserved
 mod StablySorted
 mod TypeSteps

@@ -50,7 +50,7 @@ module _ {K X : Type 0} {R : K → K → Ordering} (o : IsTotalOrder R) where
   below_less j k [] less b = tt
   below_less j k (e ∷ es) less b = (o.trans j k e.0 less b.0, below_less j k es less b.1)
 
-  abbrev TiedAlike : List (K × X) → List (K × X) → Type 0
+  abbrev pub TiedAlike : List (K × X) → List (K × X) → Type 0
   TiedAlike m n = (e : K × X) → filter (λ f. is_eq (R e.0 f.0)) m ≡ filter (λ f. is_eq (R e.0 f.0)) n
 
   first_of : (a b : K × X) (m n : List (K × X)) → a ∷ m ≡ b ∷ n → a ≡ b
@@ -97,13 +97,16 @@ module _ {K X : Type 0} {R : K → K → Ordering} (o : IsTotalOrder R) where
       sym (λ i. filter (λ f. is_tie (R e.0 f.0) (R f.0 e.0) (o.antisymm f.0 e.0) i) ys) ∙ stable e
       ∙ (λ i. filter (λ f. is_tie (R e.0 f.0) (R f.0 e.0) (o.antisymm f.0 e.0) i) xs)
 
-  maps_tied : (xs ys : List (K × X)) → IsStableBy (λ a b. is_lt (R a.0 b.0)) xs ys → (e : K × X)
-      → filter (λ f. is_eq (R e.0 f.0)) (map_of R ys) ≡ filter (λ f. is_eq (R e.0 f.0)) (map_of R xs)
-  maps_tied xs ys stable e =
-      map_filtered o (λ k. is_eq (R e.0 k)) (told_alike o e.0) ys ∙ ap (map_of R) (tied_kept xs ys stable e)
+  maps_tied : (xs ys : List (K × X)) → TiedAlike ys xs → TiedAlike (map_of R ys) (map_of R xs)
+  maps_tied xs ys alike e =
+      map_filtered o (λ k. is_eq (R e.0 k)) (told_alike o e.0) ys ∙ ap (map_of R) (alike e)
       ∙ sym (map_filtered o (λ k. is_eq (R e.0 k)) (told_alike o e.0) xs)
+
+  -- entries are known by those of each key, as far as the map goes that is made of them
+  pub map_of_alike : (xs ys : List (K × X)) → TiedAlike ys xs → map_of R ys ≡ map_of R xs
+  map_of_alike xs ys alike =
+      known_by_ties (map_of R ys) (map_of R xs) (map_rises o ys) (map_rises o xs) (maps_tied xs ys alike)
 
   -- so the map that is made of them stays
   pub map_of_sorted : (xs ys : List (K × X)) → IsStableBy (λ a b. is_lt (R a.0 b.0)) xs ys → map_of R ys ≡ map_of R xs
-  map_of_sorted xs ys stable =
-      known_by_ties (map_of R ys) (map_of R xs) (map_rises o ys) (map_rises o xs) (maps_tied xs ys stable)
+  map_of_sorted xs ys stable = map_of_alike xs ys (tied_kept xs ys stable)

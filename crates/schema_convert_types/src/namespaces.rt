@@ -8,7 +8,7 @@ ghost use Rattle.schema_convert_types.specs.Fragments.{entity_entries_of, action
 
 use crate::actions::{action_ids, action_type};
 use crate::entities::entity_type;
-use crate::entries::{map_of, push_each};
+use crate::entries::{map_by_places, push_each};
 use crate::names::internal_name;
 use crate::room::room_for;
 use crate::types::cedar_type_to_json_type;
@@ -207,9 +207,9 @@ pub fn definition_from(
         entities,
         actions,
     } = entries;
-    let common_types = map_of(alloc, commons)?;
-    let entity_types = map_of(alloc, entities)?;
-    let actions = map_of(alloc, actions)?;
+    let common_types = map_by_places(alloc, commons)?;
+    let entity_types = map_by_places(alloc, entities)?;
+    let actions = map_by_places(alloc, actions)?;
     Ok(NamespaceDefinition {
         common_types,
         entity_types,
@@ -279,7 +279,7 @@ pub fn fragment_from(
 ) -> Result<Fragment<RawName>, AllocError>
     ensures { IfOk result (λ fragment. fragment ≡ record { 0 = map_of namespace_cmp entries.items }) }
 {
-    let entries = map_of(alloc, entries)?;
+    let entries = map_by_places(alloc, entries)?;
     Ok(Fragment(entries))
 }
 
