@@ -4,10 +4,16 @@ use crate::text::Text;
 use std::alloc::{AllocError, Global};
 
 /// A place that a report points to, and what it says there.
-#[derive(Debug, Drop)]
+#[derive(Debug)]
 pub struct Label {
     pub span: Loc,
     pub text: Option<Text>,
+}
+
+impl Drop for Label {
+    fn drop(self) {
+        let Label { span: _span, text: _text } = self;
+    }
 }
 
 impl CloneIn for Label {

@@ -8,10 +8,16 @@ use cedar_data::{CloneIn, Text};
 use std::alloc::{AllocError, Global};
 
 /// A word that may stand in a name: none of `in`, `true`, `false`, `if`, `then`, `else`, `is`, `like` and `has`.
-#[derive(PartialEq, Eq, PartialOrd, Ord, Hash, Debug, Drop)]
+#[derive(PartialEq, Eq, PartialOrd, Ord, Hash, Debug)]
 pub struct Id {
     pub text: Text,
     pub ghost word: { is_id text ≡ true },
+}
+
+impl Drop for Id {
+    fn drop(self) {
+        let Id { text: _text } = self;
+    }
 }
 
 impl Id {

@@ -9,12 +9,20 @@ use schema_syntax_tokens::push_quoted;
 use std::alloc::{AllocError, Global};
 
 /// The declaration of a namespace that uses the type `Action` of the empty namespace.
-#[derive(Drop)]
 pub enum CapturedItem {
     /// The entity type of this name.
     EntityType(UnreservedId),
     /// The action with this id.
     Action(Text),
+}
+
+impl Drop for CapturedItem {
+    fn drop(self) {
+        match self {
+            CapturedItem::EntityType(_value) => {}
+            CapturedItem::Action(_value) => {}
+        }
+    }
 }
 
 impl CapturedItem {
@@ -39,12 +47,17 @@ impl CloneIn for CapturedItem {
 }
 
 /// A schema that cannot be printed, since a type of a named namespace with actions holds the type `Action` of the empty namespace, and would be read there as the type of the namespace's own actions.
-#[derive(Drop)]
 pub struct ReferenceCaptured {
     /// The namespace.
     pub namespace: Name,
     /// The first declaration in it, in the order of the walk, that uses the type.
     pub item: CapturedItem,
+}
+
+impl Drop for ReferenceCaptured {
+    fn drop(self) {
+        let ReferenceCaptured { namespace: _namespace, item: _item } = self;
+    }
 }
 
 impl ReferenceCaptured {

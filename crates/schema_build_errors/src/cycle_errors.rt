@@ -10,10 +10,15 @@ use cedar_names::EntityUID;
 use std::alloc::{AllocError, Global};
 
 /// A common type that reaches itself by the references of common types.
-#[derive(Drop)]
 pub struct CycleInCommonTypeReferencesError {
     /// The least such common type, at the place of its declaration.
     pub ty: InternalName,
+}
+
+impl Drop for CycleInCommonTypeReferencesError {
+    fn drop(self) {
+        let CycleInCommonTypeReferencesError { ty: _ty } = self;
+    }
 }
 
 impl CycleInCommonTypeReferencesError {
@@ -61,10 +66,15 @@ impl CloneIn for CycleInCommonTypeReferencesError {
 }
 
 /// An action that reaches itself by the parents of actions.
-#[derive(Drop)]
 pub struct CycleInActionHierarchyError {
     /// The least such action, at the place of its declaration.
     pub uid: EntityUID,
+}
+
+impl Drop for CycleInActionHierarchyError {
+    fn drop(self) {
+        let CycleInActionHierarchyError { uid: _uid } = self;
+    }
 }
 
 impl CycleInActionHierarchyError {

@@ -10,10 +10,15 @@ use cedar_names::EntityUID;
 use std::alloc::{AllocError, Global};
 
 /// An entity type is declared with the name `Action`, which the actions of a namespace have for their type.
-#[derive(Drop)]
 pub struct ActionEntityTypeDeclaredError {
     /// The place of the declaration, if it has one.
     pub loc: Option<Loc>,
+}
+
+impl Drop for ActionEntityTypeDeclaredError {
+    fn drop(self) {
+        let ActionEntityTypeDeclaredError { loc: _loc } = self;
+    }
 }
 
 impl ActionEntityTypeDeclaredError {
@@ -53,12 +58,20 @@ impl CloneIn for ActionEntityTypeDeclaredError {
 }
 
 /// A type of a named namespace has the basename of a type of the empty namespace.
-#[derive(Drop)]
 pub struct TypeShadowingError {
     /// The type of the empty namespace.
     pub shadowed_def: InternalName,
     /// The type that hides it, at the place of its declaration.
     pub shadowing_def: InternalName,
+}
+
+impl Drop for TypeShadowingError {
+    fn drop(self) {
+        let TypeShadowingError {
+            shadowed_def: _shadowed_def,
+            shadowing_def: _shadowing_def,
+        } = self;
+    }
 }
 
 impl TypeShadowingError {
@@ -105,12 +118,20 @@ impl CloneIn for TypeShadowingError {
 }
 
 /// An action of a named namespace has the id of an action of the empty namespace.
-#[derive(Drop)]
 pub struct ActionShadowingError {
     /// The action of the empty namespace.
     pub shadowed_def: EntityUID,
     /// The action that hides it, at the place of its declaration.
     pub shadowing_def: EntityUID,
+}
+
+impl Drop for ActionShadowingError {
+    fn drop(self) {
+        let ActionShadowingError {
+            shadowed_def: _shadowed_def,
+            shadowing_def: _shadowing_def,
+        } = self;
+    }
 }
 
 impl ActionShadowingError {

@@ -10,12 +10,20 @@ use cedar_names::EntityUID;
 use std::alloc::{AllocError, Global};
 
 /// An external entity type that has an enumerated entity type among its ancestors.
-#[derive(Drop)]
 pub struct ExternalWithEnumAncestorError {
     /// The least such external type, at the place of its declaration.
     pub external_type: Name,
     /// The least enumerated type among its ancestors.
     pub enum_type: Name,
+}
+
+impl Drop for ExternalWithEnumAncestorError {
+    fn drop(self) {
+        let ExternalWithEnumAncestorError {
+            external_type: _external_type,
+            enum_type: _enum_type,
+        } = self;
+    }
 }
 
 impl ExternalWithEnumAncestorError {
@@ -64,10 +72,15 @@ impl CloneIn for ExternalWithEnumAncestorError {
 }
 
 /// An action whose type has another basename than `Action`.
-#[derive(Drop)]
 pub struct InvalidActionTypeError {
     /// The least such action.
     pub uid: EntityUID,
+}
+
+impl Drop for InvalidActionTypeError {
+    fn drop(self) {
+        let InvalidActionTypeError { uid: _uid } = self;
+    }
 }
 
 impl InvalidActionTypeError {
@@ -110,12 +123,20 @@ impl CloneIn for InvalidActionTypeError {
 }
 
 /// An enumerated entity type with an ancestor.
-#[derive(Drop)]
 pub struct EnumEntityInHierarchyError {
     /// The least such type.
     pub enum_type: Name,
     /// The least of its ancestors.
     pub parent_type: Name,
+}
+
+impl Drop for EnumEntityInHierarchyError {
+    fn drop(self) {
+        let EnumEntityInHierarchyError {
+            enum_type: _enum_type,
+            parent_type: _parent_type,
+        } = self;
+    }
 }
 
 impl EnumEntityInHierarchyError {

@@ -10,12 +10,20 @@ use cedar_names::EntityUID;
 use std::alloc::{AllocError, Global};
 
 /// What has a type that must be a record: the context of an action, or the shape of an entity type.
-#[derive(Drop)]
 pub enum ContextOrShape {
     /// The context of this action.
     ActionContext(EntityUID),
     /// The shape of this entity type.
     EntityTypeShape(Name),
+}
+
+impl Drop for ContextOrShape {
+    fn drop(self) {
+        match self {
+            ContextOrShape::ActionContext(_value) => {}
+            ContextOrShape::EntityTypeShape(_value) => {}
+        }
+    }
 }
 
 impl ContextOrShape {
@@ -64,10 +72,15 @@ impl CloneIn for ContextOrShape {
 }
 
 /// An entity type whose shape, or an action whose context, is no record.
-#[derive(Drop)]
 pub struct ContextOrShapeNotRecordError {
     /// The least such entity type, or else the least such action, at the place of its declaration.
     pub ctx_or_shape: ContextOrShape,
+}
+
+impl Drop for ContextOrShapeNotRecordError {
+    fn drop(self) {
+        let ContextOrShapeNotRecordError { ctx_or_shape: _ctx_or_shape } = self;
+    }
 }
 
 impl ContextOrShapeNotRecordError {

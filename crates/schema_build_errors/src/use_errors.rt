@@ -12,10 +12,15 @@ use schema_resolve_errors::name_texts::name_texts;
 use std::alloc::{AllocError, Global};
 
 /// An extension type that the table does not hold.
-#[derive(Drop)]
 pub struct UnknownExtensionTypeError {
     /// The name of the extension type.
     pub actual: Name,
+}
+
+impl Drop for UnknownExtensionTypeError {
+    fn drop(self) {
+        let UnknownExtensionTypeError { actual: _actual } = self;
+    }
 }
 
 impl UnknownExtensionTypeError {
@@ -58,7 +63,6 @@ impl CloneIn for UnknownExtensionTypeError {
 }
 
 /// What a fragment may say and a schema may not have.
-#[derive(Drop)]
 pub enum UnsupportedFeature {
     /// A record, and so an entity type, that is open for further attributes.
     OpenRecordsAndEntities,
@@ -66,6 +70,16 @@ pub enum UnsupportedFeature {
     ActionAttributes(List<Text>),
     /// An external declaration that says more than its name, its parents and its annotations.
     ExternalNotBare,
+}
+
+impl Drop for UnsupportedFeature {
+    fn drop(self) {
+        match self {
+            UnsupportedFeature::OpenRecordsAndEntities => {}
+            UnsupportedFeature::ActionAttributes(_value) => {}
+            UnsupportedFeature::ExternalNotBare => {}
+        }
+    }
 }
 
 impl CloneIn for UnsupportedFeature {
@@ -83,8 +97,13 @@ impl CloneIn for UnsupportedFeature {
 }
 
 /// A part of a fragment that a schema may not have.
-#[derive(Drop)]
 pub struct UnsupportedFeatureError(pub UnsupportedFeature);
+
+impl Drop for UnsupportedFeatureError {
+    fn drop(self) {
+        let UnsupportedFeatureError(_value) = self;
+    }
+}
 
 impl UnsupportedFeatureError {
     /// What the error says.
@@ -123,10 +142,15 @@ impl CloneIn for UnsupportedFeatureError {
 }
 
 /// Parents, principals or resources that are no declared entity types.
-#[derive(Drop)]
 pub struct UndeclaredEntityTypesError {
     /// Their names, sorted, each once and at the place of its first use.
     pub types: NonEmpty<Name>,
+}
+
+impl Drop for UndeclaredEntityTypesError {
+    fn drop(self) {
+        let UndeclaredEntityTypesError { types: _types } = self;
+    }
 }
 
 impl UndeclaredEntityTypesError {

@@ -5,15 +5,19 @@ use cedar_names::EntityUID;
 use std::alloc::{AllocError, Global};
 
 /// An action of a built schema.
-#[derive(Drop)]
 pub struct ValidatorActionId {
     /// All actions that it stands below.
     pub ancestors: List<EntityUID>,
     pub kind: ValidatorActionKind,
 }
 
+impl Drop for ValidatorActionId {
+    fn drop(self) {
+        let ValidatorActionId { ancestors: _ancestors, kind: _kind } = self;
+    }
+}
+
 /// What is declared of an action.
-#[derive(Drop)]
 pub enum ValidatorActionKind {
     /// The types of the principals and resources that it applies to, and the type of its context.
     Defined {
@@ -23,6 +27,19 @@ pub enum ValidatorActionKind {
     },
     /// Another schema declares it.
     External,
+}
+
+impl Drop for ValidatorActionKind {
+    fn drop(self) {
+        match self {
+            ValidatorActionKind::Defined {
+                principals: _principals,
+                resources: _resources,
+                context: _context,
+            } => {}
+            ValidatorActionKind::External => {}
+        }
+    }
 }
 
 impl CloneIn for ValidatorActionId {

@@ -4,15 +4,19 @@ use cedar_identifiers::{Eid, Name};
 use std::alloc::{AllocError, Global};
 
 /// An entity type of a built schema.
-#[derive(Drop)]
 pub struct ValidatorEntityType {
     /// All entity types that it stands below.
     pub ancestors: List<Name>,
     pub kind: ValidatorEntityTypeKind,
 }
 
+impl Drop for ValidatorEntityType {
+    fn drop(self) {
+        let ValidatorEntityType { ancestors: _ancestors, kind: _kind } = self;
+    }
+}
+
 /// What is declared of an entity type.
-#[derive(Drop)]
 pub enum ValidatorEntityTypeKind {
     /// Its attributes, each with its type and its required mark, whether its entities may have more of them, and the type of
     /// its tags where it has tags.
@@ -25,6 +29,20 @@ pub enum ValidatorEntityTypeKind {
     Enum(NonEmpty<Eid>),
     /// Another schema declares it.
     External,
+}
+
+impl Drop for ValidatorEntityTypeKind {
+    fn drop(self) {
+        match self {
+            ValidatorEntityTypeKind::Standard {
+                attributes: _attributes,
+                more: _more,
+                tags: _tags,
+            } => {}
+            ValidatorEntityTypeKind::Enum(_value) => {}
+            ValidatorEntityTypeKind::External => {}
+        }
+    }
 }
 
 impl CloneIn for ValidatorEntityType {

@@ -7,7 +7,7 @@ use cedar_names::EntityUID;
 use std::marker::Model;
 
 /// A value under its key, as it stands among entries.
-pub trait Entry {
+pub trait Keyed {
     type Key: Ord;
 
     type Value;
@@ -23,10 +23,15 @@ pub trait Entry {
 }
 
 /// An entity type of a built schema under its name. Contracts see the pair of the two.
-#[derive(Drop)]
 pub struct EntityTypeEntry {
     pub name: Name,
     pub ty: ValidatorEntityType,
+}
+
+impl Drop for EntityTypeEntry {
+    fn drop(self) {
+        let EntityTypeEntry { name: _name, ty: _ty } = self;
+    }
 }
 
 impl Model for EntityTypeEntry {
@@ -42,7 +47,7 @@ impl Model for EntityTypeEntry {
     ghost view = { λ e. (e.name, e.ty) };
 }
 
-impl Entry for EntityTypeEntry {
+impl Keyed for EntityTypeEntry {
     type Key = Name;
 
     type Value = ValidatorEntityType;
@@ -59,10 +64,15 @@ impl Entry for EntityTypeEntry {
 }
 
 /// An action of a built schema under its type and id. Contracts see the pair of the two.
-#[derive(Drop)]
 pub struct ActionEntry {
     pub uid: EntityUID,
     pub action: ValidatorActionId,
+}
+
+impl Drop for ActionEntry {
+    fn drop(self) {
+        let ActionEntry { uid: _uid, action: _action } = self;
+    }
 }
 
 impl Model for ActionEntry {
@@ -78,7 +88,7 @@ impl Model for ActionEntry {
     ghost view = { λ a. (a.uid, a.action) };
 }
 
-impl Entry for ActionEntry {
+impl Keyed for ActionEntry {
     type Key = EntityUID;
 
     type Value = ValidatorActionId;

@@ -10,6 +10,6 @@ pub mod types;
 
 pub use action::{ValidatorActionId, ValidatorActionKind};
 pub use entity_type::{ValidatorEntityType, ValidatorEntityTypeKind};
-pub use entries::{ActionEntry, EntityTypeEntry, Entry};
+pub use entries::{ActionEntry, EntityTypeEntry, Keyed};
 pub use lookups::get_counted;
 pub use types::Type;

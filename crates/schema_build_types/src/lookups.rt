@@ -5,13 +5,13 @@ ghost use Rattle.std.specs.List.Sorted.{IsStrictlySortedBy};
 ghost use Rattle.std.specs.Option.{option_copied};
 ghost use Rattle.cedar_data.specs.Halving.{IsHit, IsGap};
 
-use crate::entries::Entry;
+use crate::entries::Keyed;
 use cedar_names::Steps;
 use std::cmp::Ordering;
 use std::sync::ledger::Ledger;
 
 /// The value at the key among entries whose keys rise, found by halving. A step is one comparison with an entry's key.
-pub fn get_counted<'a, E: Entry, L: Ledger>(
+pub fn get_counted<'a, E: Keyed, L: Ledger>(
     entries: &'a [E],
     key: &E::Key,
     steps: &mut Steps<L>,
@@ -28,7 +28,7 @@ pub fn get_counted<'a, E: Entry, L: Ledger>(
 }
 
 // Where the key stands among entries whose keys rise, or the gap where it would stand.
-fn search_counted<E: Entry, L: Ledger>(
+fn search_counted<E: Keyed, L: Ledger>(
     entries: &[E],
     key: &E::Key,
     steps: &mut Steps<L>,

@@ -144,8 +144,8 @@ fn push_named<'a>(
 ) -> Result<bool, AllocError>
     ensures { IfOk result (λ plain. plain ≡ true → AddsNamed table.now namespaces.old.items namespaces.new.items namespace.entry) }
 {
-    let Annotated { item, annotations } = namespace;
-    let Namespace { name, decls, .. } = item;
+    let (item, annotations) = namespace.into_parts();
+    let (name, decls, _) = item.into_parts();
     if !is_free_name(&name) {
         return Ok(false);
     }
@@ -172,7 +172,9 @@ pub fn push_item<'a>(
     if namespace.item.name.is_some() {
         return push_named(alloc, table, &mut gathered.namespaces, namespace);
     }
-    push_outside(alloc, table, gathered, namespace.item.decls)
+    let (item, _) = namespace.into_parts();
+    let (_, decls, _) = item.into_parts();
+    push_outside(alloc, table, gathered, decls)
 }
 
 // The entries of the namespaces, and of what stands outside of these, where something does and no name stands twice there.

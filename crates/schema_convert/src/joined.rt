@@ -20,7 +20,9 @@ fn push_namespace<'a>(
         namespaces.push(namespace)?;
         return Ok(());
     }
-    push_all(outside, namespace.item.decls)
+    let (item, _) = namespace.into_parts();
+    let (_, decls, _) = item.into_parts();
+    push_all(outside, decls)
 }
 
 // Adds the namespace of the declarations outside of every other, where there are any.

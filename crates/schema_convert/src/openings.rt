@@ -93,8 +93,9 @@ fn with_others<'a>(
     let mut decls = decls.into_vec();
     let mut entries = annotations.into_map().into_vec();
     for opening in others {
-        let Annotated { item, annotations } = opening;
-        push_all(&mut decls, item.decls)?;
+        let (item, annotations) = opening.into_parts();
+        let (_, others, _) = item.into_parts();
+        push_all(&mut decls, others)?;
         push_entries(&mut entries, annotations)?;
     }
     let annotations = first_values(alloc, entries)?;
@@ -109,8 +110,8 @@ fn opened_as<'a>(
     ensures { IfOk result (λ namespace. namespace ≡ opened_as openings.entry.first (openings.entry.first ∷ openings.entry.others.items)) }
 {
     let Openings { first, others } = openings;
-    let Annotated { item, annotations } = first;
-    let Namespace { name, decls, loc } = item;
+    let (item, annotations) = first.into_parts();
+    let (name, decls, loc) = item.into_parts();
     let (decls, annotations) = with_others(alloc, decls, annotations, others)?;
     let item = Namespace { name, decls, loc };
     Ok(Annotated { item, annotations })

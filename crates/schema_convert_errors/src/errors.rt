@@ -3,23 +3,43 @@ use schema_syntax_tree::PR;
 use std::alloc::{AllocError, Global};
 
 /// A name that is declared twice in a namespace, with the place of its first declaration and that of the second.
-#[derive(PartialEq, Eq, Debug, Drop)]
+#[derive(PartialEq, Eq, Debug)]
 pub struct DuplicateDeclarations {
     pub decl: Text,
     pub loc1: Option<Loc>,
     pub loc2: Option<Loc>,
 }
 
+impl Drop for DuplicateDeclarations {
+    fn drop(self) {
+        let DuplicateDeclarations {
+            decl: _decl,
+            loc1: _loc1,
+            loc2: _loc2,
+        } = self;
+    }
+}
+
 /// A second context of an action, with the places of the first and the second.
-#[derive(PartialEq, Eq, Debug, Drop)]
+#[derive(PartialEq, Eq, Debug)]
 pub struct DuplicateContext {
     pub name: Text,
     pub loc1: Option<Loc>,
     pub loc2: Option<Loc>,
 }
 
+impl Drop for DuplicateContext {
+    fn drop(self) {
+        let DuplicateContext {
+            name: _name,
+            loc1: _loc1,
+            loc2: _loc2,
+        } = self;
+    }
+}
+
 /// A second list of an action's principals or resources, with the places of the first and the second.
-#[derive(PartialEq, Eq, Debug, Drop)]
+#[derive(PartialEq, Eq, Debug)]
 pub struct DuplicatePrincipalOrResource {
     pub name: Text,
     pub kind: PR,
@@ -27,15 +47,37 @@ pub struct DuplicatePrincipalOrResource {
     pub loc2: Option<Loc>,
 }
 
+impl Drop for DuplicatePrincipalOrResource {
+    fn drop(self) {
+        let DuplicatePrincipalOrResource {
+            name: _name,
+            kind: _kind,
+            loc1: _loc1,
+            loc2: _loc2,
+        } = self;
+    }
+}
+
 /// Why an action has no principals or resources: the list is not there, or it is `[]`.
-#[derive(PartialEq, Eq, Debug, Drop)]
+#[derive(PartialEq, Eq, Debug)]
 pub enum MissingOrEmpty {
     Missing,
     Empty { loc: Option<Loc> },
 }
 
+impl Drop for MissingOrEmpty {
+    fn drop(self) {
+        match self {
+            MissingOrEmpty::Missing => {}
+            MissingOrEmpty::Empty {
+                loc: _loc,
+            } => {}
+        }
+    }
+}
+
 /// An action without principals or resources.
-#[derive(PartialEq, Eq, Debug, Drop)]
+#[derive(PartialEq, Eq, Debug)]
 pub struct NoPrincipalOrResource {
     pub kind: PR,
     pub name: Text,
@@ -43,37 +85,76 @@ pub struct NoPrincipalOrResource {
     pub name_loc: Option<Loc>,
 }
 
+impl Drop for NoPrincipalOrResource {
+    fn drop(self) {
+        let NoPrincipalOrResource {
+            kind: _kind,
+            name: _name,
+            missing_or_empty: _missing_or_empty,
+            name_loc: _name_loc,
+        } = self;
+    }
+}
+
 /// A namespace that stood before, with its place and the earlier one's.
-#[derive(PartialEq, Eq, Debug, Drop)]
+#[derive(PartialEq, Eq, Debug)]
 pub struct DuplicateNamespace {
     pub namespace_id: Text,
     pub loc1: Option<Loc>,
     pub loc2: Option<Loc>,
 }
 
+impl Drop for DuplicateNamespace {
+    fn drop(self) {
+        let DuplicateNamespace {
+            namespace_id: _namespace_id,
+            loc1: _loc1,
+            loc2: _loc2,
+        } = self;
+    }
+}
+
 /// A type's name that means nothing. No call here gives it.
-#[derive(PartialEq, Eq, Debug, Drop)]
+#[derive(PartialEq, Eq, Debug)]
 pub struct UnknownTypeName {
     pub name: Text,
     pub loc: Option<Loc>,
 }
 
+impl Drop for UnknownTypeName {
+    fn drop(self) {
+        let UnknownTypeName { name: _name, loc: _loc } = self;
+    }
+}
+
 /// A declared name with `__cedar` in it.
-#[derive(PartialEq, Eq, Debug, Drop)]
+#[derive(PartialEq, Eq, Debug)]
 pub struct ReservedName {
     pub name: Text,
     pub loc: Option<Loc>,
 }
 
+impl Drop for ReservedName {
+    fn drop(self) {
+        let ReservedName { name: _name, loc: _loc } = self;
+    }
+}
+
 /// A common type that is named like one of the types that every schema has.
-#[derive(PartialEq, Eq, Debug, Drop)]
+#[derive(PartialEq, Eq, Debug)]
 pub struct ReservedSchemaKeyword {
     pub keyword: Text,
     pub loc: Option<Loc>,
 }
 
+impl Drop for ReservedSchemaKeyword {
+    fn drop(self) {
+        let ReservedSchemaKeyword { keyword: _keyword, loc: _loc } = self;
+    }
+}
+
 /// What keeps a tree from being a fragment.
-#[derive(PartialEq, Eq, Debug, Drop)]
+#[derive(PartialEq, Eq, Debug)]
 pub enum ToJsonSchemaError {
     DuplicateDeclarations(DuplicateDeclarations),
     DuplicateContext(DuplicateContext),
@@ -83,6 +164,21 @@ pub enum ToJsonSchemaError {
     UnknownTypeName(UnknownTypeName),
     ReservedName(ReservedName),
     ReservedSchemaKeyword(ReservedSchemaKeyword),
+}
+
+impl Drop for ToJsonSchemaError {
+    fn drop(self) {
+        match self {
+            ToJsonSchemaError::DuplicateDeclarations(_value) => {}
+            ToJsonSchemaError::DuplicateContext(_value) => {}
+            ToJsonSchemaError::DuplicatePrincipalOrResource(_value) => {}
+            ToJsonSchemaError::NoPrincipalOrResource(_value) => {}
+            ToJsonSchemaError::DuplicateNamespaces(_value) => {}
+            ToJsonSchemaError::UnknownTypeName(_value) => {}
+            ToJsonSchemaError::ReservedName(_value) => {}
+            ToJsonSchemaError::ReservedSchemaKeyword(_value) => {}
+        }
+    }
 }
 
 impl CloneIn for MissingOrEmpty {

@@ -6,25 +6,50 @@ use cedar_data::{CloneIn, Label, Loc, Severity, Text, message, push_both};
 use std::alloc::{AllocError, Global};
 
 /// A declared type that is named like a builtin one, with the place of its name.
-#[derive(PartialEq, Eq, Debug, Drop)]
+#[derive(PartialEq, Eq, Debug)]
 pub struct ShadowsBuiltinWarning {
     pub name: Text,
     pub loc: Option<Loc>,
 }
 
+impl Drop for ShadowsBuiltinWarning {
+    fn drop(self) {
+        let ShadowsBuiltinWarning { name: _name, loc: _loc } = self;
+    }
+}
+
 /// A common type that is named like an entity type of its namespace, with the places of both names.
-#[derive(PartialEq, Eq, Debug, Drop)]
+#[derive(PartialEq, Eq, Debug)]
 pub struct ShadowsEntityWarning {
     pub name: Text,
     pub entity_loc: Option<Loc>,
     pub common_loc: Option<Loc>,
 }
 
+impl Drop for ShadowsEntityWarning {
+    fn drop(self) {
+        let ShadowsEntityWarning {
+            name: _name,
+            entity_loc: _entity_loc,
+            common_loc: _common_loc,
+        } = self;
+    }
+}
+
 /// What a schema may do but should not.
-#[derive(PartialEq, Eq, Debug, Drop)]
+#[derive(PartialEq, Eq, Debug)]
 pub enum SchemaWarning {
     ShadowsBuiltin(ShadowsBuiltinWarning),
     ShadowsEntity(ShadowsEntityWarning),
+}
+
+impl Drop for SchemaWarning {
+    fn drop(self) {
+        match self {
+            SchemaWarning::ShadowsBuiltin(_value) => {}
+            SchemaWarning::ShadowsEntity(_value) => {}
+        }
+    }
 }
 
 impl ShadowsBuiltinWarning {

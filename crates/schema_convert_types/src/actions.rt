@@ -22,7 +22,7 @@ fn reference(
 ) -> Result<ActionEntityUID<RawName>, AllocError>
     ensures { IfOk result (λ out. out ≡ reference_of parent.entry) }
 {
-    let QualName { path, eid } = parent.node;
+    let (QualName { path, eid }, _) = parent.into_inner();
     let id = eid.to_text(alloc)?;
     let ty = type_name(alloc, path)?;
     Ok(ActionEntityUID { id, ty })
@@ -159,8 +159,10 @@ fn apply_spec(
     let Some(block) = block else {
         return Ok(spec);
     };
-    for member in block.node {
-        spec = with_member(alloc, member.node, spec)?;
+    let (members, _) = block.into_inner();
+    for member in members {
+        let (member, _) = member.into_inner();
+        spec = with_member(alloc, member, spec)?;
     }
     Ok(spec)
 }

@@ -150,7 +150,7 @@ pub fn push_declared<'a>(
     ensures entities { OnOk result (entries.new.entities.items ≡ entries.old.entities.items ++ entity_entries_of decl.entry.item.node decl.entry.annotations decl.entry.item.loc) }
     ensures actions { OnOk result (entries.new.actions.items ≡ entries.old.actions.items ++ action_entries_of decl.entry.item.node decl.entry.annotations decl.entry.item.loc) }
 {
-    let Annotated { item, annotations } = decl;
+    let (item, annotations) = decl.into_parts();
     let (decl, loc) = item.into_inner();
     let annotations = annotations.to_annotations(alloc)?;
     match decl {
@@ -261,8 +261,8 @@ fn push_namespace<'a>(
 ) -> Result<(), AllocError>
     ensures { OnOk result (entries.new.items ≡ entries.old.items ++ option_to_list (namespace_entry namespace.entry)) }
 {
-    let Annotated { item, annotations } = namespace;
-    let Namespace { name, decls, .. } = item;
+    let (item, annotations) = namespace.into_parts();
+    let (name, decls, _) = item.into_parts();
     let Some(key) = namespace_key(alloc, name)? else {
         return Ok(());
     };

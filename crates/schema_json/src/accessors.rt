@@ -1,7 +1,7 @@
 ghost use Rattle.std.specs.Prelude.{◌≡◌, None};
 ghost use Rattle.std.specs.Option.{option_copied};
 ghost use Rattle.schema_json.specs.declared.types.Type.{Variant};
-ghost use Rattle.schema_json.specs.Shapes.{empty_record, is_empty_record, is_empty_type, type_place, with_place, record_type};
+ghost use Rattle.schema_json.specs.Shapes.{empty_record, is_empty_record, is_empty_type, type_place, record_type};
 
 use crate::entity_type::AttributesOrContext;
 use crate::types::{RecordType, Type, TypeVariant};
@@ -36,19 +36,6 @@ impl<N> Type<N> {
         match self {
             Type::Variant { loc, .. } => loc.as_ref(),
             Type::CommonTypeRef { loc, .. } => loc.as_ref(),
-        }
-    }
-
-    /// The type at this place, or without one.
-    pub fn with_loc(self, new_loc: Option<Loc>) -> Type<N>
-        ensures { result ≡ with_place new_loc self }
-    {
-        match self {
-            Type::Variant { ty, .. } => Type::Variant { ty, loc: new_loc },
-            Type::CommonTypeRef { type_name, .. } => Type::CommonTypeRef {
-                type_name,
-                loc: new_loc,
-            },
         }
     }
 }

@@ -7,7 +7,6 @@ use cedar_identifiers::{Annotations, NameText};
 use std::alloc::{AllocError, Global};
 
 /// A declared action, with a place that no comparison sees.
-#[derive(Drop)]
 #[derive_where(PartialEq, Eq, PartialOrd, Ord, Hash; N)]
 pub struct ActionType<N: NameText> {
     /// The names of its attributes, where any were written.
@@ -19,6 +18,19 @@ pub struct ActionType<N: NameText> {
     pub annotations: Annotations,
     #[derive_where(skip(EqHashOrd))]
     pub loc: Option<Loc>,
+}
+
+impl<N: NameText + Drop> Drop for ActionType<N> {
+    fn drop(self) {
+        let ActionType {
+            attributes: _attributes,
+            applies_to: _applies_to,
+            member_of: _member_of,
+            external: _external,
+            annotations: _annotations,
+            loc: _loc,
+        } = self;
+    }
 }
 
 /// What an action may be applied to.

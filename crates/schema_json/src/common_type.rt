@@ -22,13 +22,22 @@ impl Drop for CommonTypeId {
 }
 
 /// A declared common type: what it stands for, with a place that no comparison sees.
-#[derive(Drop)]
 #[derive_where(PartialEq, Eq, PartialOrd, Ord, Hash; N)]
 pub struct CommonType<N> {
     pub ty: Type<N>,
     pub annotations: Annotations,
     #[derive_where(skip(EqHashOrd))]
     pub loc: Option<Loc>,
+}
+
+impl<N: Drop> Drop for CommonType<N> {
+    fn drop(self) {
+        let CommonType {
+            ty: _ty,
+            annotations: _annotations,
+            loc: _loc,
+        } = self;
+    }
 }
 
 impl CommonTypeId {

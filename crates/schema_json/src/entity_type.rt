@@ -4,7 +4,6 @@ use cedar_identifiers::{Annotations, Eid};
 use std::alloc::{AllocError, Global};
 
 /// A declared entity type, with a place that no comparison sees.
-#[derive(Drop)]
 #[derive_where(PartialEq, Eq, PartialOrd, Ord, Hash; N)]
 pub struct EntityType<N> {
     pub kind: EntityTypeKind<N>,
@@ -15,8 +14,18 @@ pub struct EntityType<N> {
     pub loc: Option<Loc>,
 }
 
+impl<N: Drop> Drop for EntityType<N> {
+    fn drop(self) {
+        let EntityType {
+            kind: _kind,
+            external: _external,
+            annotations: _annotations,
+            loc: _loc,
+        } = self;
+    }
+}
+
 /// What is declared of an entity type.
-#[derive(Drop)]
 #[derive_where(PartialEq, Eq, PartialOrd, Ord, Hash; N)]
 pub enum EntityTypeKind<N> {
     Standard(StandardEntityType<N>),
@@ -24,13 +33,33 @@ pub enum EntityTypeKind<N> {
     Enum { choices: NonEmpty<Eid> },
 }
 
+impl<N: Drop> Drop for EntityTypeKind<N> {
+    fn drop(self) {
+        match self {
+            EntityTypeKind::Standard(_value) => {}
+            EntityTypeKind::Enum {
+                choices: _choices,
+            } => {}
+        }
+    }
+}
+
 /// The parents of an entity type, the type of its attributes, and the type of its tags where it has tags.
-#[derive(Drop)]
 #[derive_where(PartialEq, Eq, PartialOrd, Ord, Hash; N)]
 pub struct StandardEntityType<N> {
     pub member_of_types: List<N>,
     pub shape: AttributesOrContext<N>,
     pub tags: Option<Type<N>>,
+}
+
+impl<N: Drop> Drop for StandardEntityType<N> {
+    fn drop(self) {
+        let StandardEntityType {
+            member_of_types: _member_of_types,
+            shape: _shape,
+            tags: _tags,
+        } = self;
+    }
 }
 
 /// The type of an entity type's attributes or of an action's context.

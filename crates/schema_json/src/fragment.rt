@@ -16,13 +16,23 @@ impl<N: NameText + Drop> Drop for Fragment<N> {
 }
 
 /// A namespace: the common types, entity types and actions that it declares, by name.
-#[derive(Drop)]
 #[derive_where(PartialEq, Eq, PartialOrd, Ord, Hash; N)]
 pub struct NamespaceDefinition<N: NameText> {
     pub common_types: Map<CommonTypeId, CommonType<N>>,
     pub entity_types: Map<UnreservedId, EntityType<N>>,
     pub actions: Map<Text, ActionType<N>>,
     pub annotations: Annotations,
+}
+
+impl<N: NameText + Drop> Drop for NamespaceDefinition<N> {
+    fn drop(self) {
+        let NamespaceDefinition {
+            common_types: _common_types,
+            entity_types: _entity_types,
+            actions: _actions,
+            annotations: _annotations,
+        } = self;
+    }
 }
 
 impl<N: CloneIn + NameText> CloneIn for Fragment<N> {

@@ -1,4 +1,5 @@
 ghost use Rattle.std.specs.Prelude.{◌≡◌, IfOk};
+ghost use Rattle.schema_json.specs.Shapes.{with_place};
 
 use cedar_data::{Boxed, CloneIn, Loc, Map, Text};
 use cedar_identifiers::{Annotations, UnreservedId};
@@ -6,7 +7,6 @@ use std::alloc::{AllocError, Global};
 
 /// A type as it is written in a fragment, with a place that no comparison sees.
 #[cycle(types)]
-#[derive(Drop)]
 #[derive_where(PartialEq, Eq, PartialOrd, Ord, Hash; N)]
 pub enum Type<N> {
     /// A type of one of the shapes of `TypeVariant`.
@@ -23,9 +23,38 @@ pub enum Type<N> {
     },
 }
 
+impl<N: Drop> Drop for Type<N> {
+    fn drop(self) {
+        match self {
+            Type::Variant {
+                ty: _ty,
+                loc: _loc,
+            } => {}
+            Type::CommonTypeRef {
+                type_name: _type_name,
+                loc: _loc,
+            } => {}
+        }
+    }
+}
+
+impl<N> Type<N> {
+    /// The type at this place, or without one.
+    pub fn with_loc(self, new_loc: Option<Loc>) -> Type<N>
+        ensures { result ≡ with_place new_loc self }
+    {
+        match self {
+            Type::Variant { ty, loc: _ } => Type::Variant { ty, loc: new_loc },
+            Type::CommonTypeRef { type_name, loc: _ } => Type::CommonTypeRef {
+                type_name,
+                loc: new_loc,
+            },
+        }
+    }
+}
+
 /// The shape of a type.
 #[cycle(types)]
-#[derive(Drop)]
 #[derive_where(PartialEq, Eq, PartialOrd, Ord, Hash; N)]
 pub enum TypeVariant<N> {
     String,
@@ -42,23 +71,63 @@ pub enum TypeVariant<N> {
     Extension { name: UnreservedId },
 }
 
+impl<N: Drop> Drop for TypeVariant<N> {
+    fn drop(self) {
+        match self {
+            TypeVariant::String => {}
+            TypeVariant::Long => {}
+            TypeVariant::Boolean => {}
+            TypeVariant::Set {
+                element: _element,
+            } => {}
+            TypeVariant::Record(_value) => {}
+            TypeVariant::Entity {
+                name: _name,
+            } => {}
+            TypeVariant::EntityOrCommon {
+                type_name: _type_name,
+            } => {}
+            TypeVariant::Extension {
+                name: _name,
+            } => {}
+        }
+    }
+}
+
 /// The records with these attributes, and with others where it is open.
 #[cycle(types)]
-#[derive(Drop)]
 #[derive_where(PartialEq, Eq, PartialOrd, Ord, Hash; N)]
 pub struct RecordType<N> {
     pub attributes: Map<Text, TypeOfAttribute<N>>,
     pub additional_attributes: bool,
 }
 
+impl<N: Drop> Drop for RecordType<N> {
+    fn drop(self) {
+        let RecordType {
+            attributes: _attributes,
+            additional_attributes: _additional_attributes,
+        } = self;
+    }
+}
+
 /// The type of an attribute, and whether each record has the attribute.
 #[cycle(types)]
-#[derive(Drop)]
 #[derive_where(PartialEq, Eq, PartialOrd, Ord, Hash; N)]
 pub struct TypeOfAttribute<N> {
     pub ty: Type<N>,
     pub annotations: Annotations,
     pub required: bool,
+}
+
+impl<N: Drop> Drop for TypeOfAttribute<N> {
+    fn drop(self) {
+        let TypeOfAttribute {
+            ty: _ty,
+            annotations: _annotations,
+            required: _required,
+        } = self;
+    }
 }
 
 impl<N: CloneIn> CloneIn for Type<N> {

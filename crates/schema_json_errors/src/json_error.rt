@@ -15,10 +15,16 @@ pub enum JsonAdvice {
 }
 
 /// Why no fragment was read, with advice.
-#[derive(Debug, Drop)]
+#[derive(Debug)]
 pub struct JsonDeserializationError {
     pub fault: JsonFault,
     pub advice: Option<JsonAdvice>,
+}
+
+impl Drop for JsonDeserializationError {
+    fn drop(self) {
+        let JsonDeserializationError { fault: _fault, advice: _advice } = self;
+    }
 }
 
 impl JsonAdvice {

@@ -6,15 +6,25 @@ use cedar_identifiers::InternalName;
 use std::alloc::{AllocError, AllocFailed, Global};
 
 /// Names that a namespace has both as an entity type and as a common type, sorted.
-#[derive(Drop)]
 pub struct NameCollisionsError {
     pub names: NonEmpty<InternalName>,
 }
 
+impl Drop for NameCollisionsError {
+    fn drop(self) {
+        let NameCollisionsError { names: _names } = self;
+    }
+}
+
 /// Entity types whose shapes are no records, sorted by their names.
-#[derive(Drop)]
 pub struct UnconvertibleEntityTypeShapeError {
     pub names: NonEmpty<InternalName>,
+}
+
+impl Drop for UnconvertibleEntityTypeShapeError {
+    fn drop(self) {
+        let UnconvertibleEntityTypeShapeError { names: _names } = self;
+    }
 }
 
 /// Why a fragment cannot be printed: names collide, a shape is no record, or memory is wanted.

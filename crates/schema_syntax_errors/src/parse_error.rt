@@ -12,7 +12,7 @@ use schema_syntax_grammar::TokenKind;
 use std::alloc::{AllocError, Global};
 
 /// Why a text is no schema. The places are byte offsets.
-#[derive(PartialEq, Eq, Debug, Drop)]
+#[derive(PartialEq, Eq, Debug)]
 pub enum ParseError {
     /// No token stands at this place.
     InvalidToken {
@@ -38,6 +38,32 @@ pub enum ParseError {
     },
     /// The text follows the grammar, and has what it may not have.
     User(UserError),
+}
+
+impl Drop for ParseError {
+    fn drop(self) {
+        match self {
+            ParseError::InvalidToken {
+                location: _location,
+            } => {}
+            ParseError::UnrecognizedEof {
+                location: _location,
+                expected: _expected,
+            } => {}
+            ParseError::UnrecognizedToken {
+                start: _start,
+                token: _token,
+                end: _end,
+                expected: _expected,
+            } => {}
+            ParseError::ExtraToken {
+                start: _start,
+                token: _token,
+                end: _end,
+            } => {}
+            ParseError::User(_value) => {}
+        }
+    }
 }
 
 impl ParseError {

@@ -10,7 +10,7 @@ use cedar_identifiers::AnyId;
 use std::alloc::{AllocError, Global};
 
 /// What a text that follows the grammar still may not have.
-#[derive(Debug, Drop)]
+#[derive(Debug)]
 pub enum UserError {
     /// A list without an item where one has to stand, from bracket to bracket.
     EmptyList(Node<()>),
@@ -20,6 +20,17 @@ pub enum UserError {
     ReservedIdentifierUsed(Node<Text>),
     /// An annotation key that stands twice on one item, with the place where it stood before and its own.
     DuplicateAnnotations(AnyId, Node<()>, Node<()>),
+}
+
+impl Drop for UserError {
+    fn drop(self) {
+        match self {
+            UserError::EmptyList(_value) => {}
+            UserError::StringEscape(_value) => {}
+            UserError::ReservedIdentifierUsed(_value) => {}
+            UserError::DuplicateAnnotations(_value0, _value1, _value2) => {}
+        }
+    }
 }
 
 impl UserError {

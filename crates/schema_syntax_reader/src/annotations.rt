@@ -41,21 +41,22 @@ fn by_keys<'a>(
 {
     let mut tree = BTreeMap::new(alloc);
     for annotation in annotations {
-        let SrcAnnotation { key, value } = annotation.node;
+        let (SrcAnnotation { key, value }, _) = annotation.into_inner();
+        let (key, place) = key.into_inner();
         let second = Node {
             node: (),
-            loc: key.loc,
+            loc: place,
         };
-        if let Some(loc) = place_in(&tree, &key.node) {
+        if let Some(loc) = place_in(&tree, &key) {
             let first = Node { node: (), loc };
-            let key = key.node.to_any_id(alloc)?;
+            let key = key.to_any_id(alloc)?;
             return Err(AnnotationError::User(UserError::DuplicateAnnotations(key, first, second)));
         }
         let kept = Kept {
             value: without_place(value),
-            place: key.loc,
+            place,
         };
-        tree.insert(key.node, kept)?;
+        tree.insert(key, kept)?;
     }
     Ok(tree)
 }
@@ -66,7 +67,7 @@ fn without_place<'a>(value: Option<Node<SrcStr<'a>>>) -> Option<SrcStr<'a>>
 {
     match value {
         None => None,
-        Some(value) => Some(value.node),
+        Some(value) => Some(value.into_inner().0),
     }
 }
 

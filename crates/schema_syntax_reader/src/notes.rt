@@ -131,7 +131,7 @@ pub fn notes_of<'a>(
         Err(AnnotationError::Memory) => Err(Stopped::Memory),
         Ok(annotated) => match fault {
             Some(fault) => Err(Stopped::User(fault)),
-            None => Ok(annotated.annotations),
+            None => Ok(annotated.into_parts().1),
         },
     }
 }

@@ -11,11 +11,20 @@ pub type Schema<'a> = List<Annotated<'a, Namespace<'a>>>;
 
 /// A namespace with its declarations, in the order of the text. The one without a name holds what stands outside of
 /// every other.
-#[derive(Drop)]
 pub struct Namespace<'a> {
     pub name: Option<Boxed<Path<'a>>>,
     pub decls: List<Annotated<'a, Node<Declaration<'a>>>>,
     pub loc: Option<Loc>,
+}
+
+impl<'a> Drop for Namespace<'a> {
+    fn drop(self) {
+        let Namespace {
+            name: _name,
+            decls: _decls,
+            loc: _loc,
+        } = self;
+    }
 }
 
 impl<'a> Namespace<'a> {
@@ -24,6 +33,20 @@ impl<'a> Namespace<'a> {
         ensures { result ≡ true ↔ self.now.name ≡ None }
     {
         self.name.is_none()
+    }
+
+    /// The name, the declarations and the place.
+    pub fn into_parts(
+        self,
+    ) -> (
+        Option<Boxed<Path<'a>>>,
+        List<Annotated<'a, Node<Declaration<'a>>>>,
+        Option<Loc>,
+    )
+        ensures { result ≡ (self.entry.name, self.entry.decls, self.entry.loc) }
+    {
+        let Namespace { name, decls, loc } = self;
+        (name, decls, loc)
     }
 }
 

@@ -191,7 +191,7 @@ fn are_kept(alloc: Global, keys: &str, sorted: &str) -> bool {
     let Ok(annotated) = deduplicate_annotations(alloc, 7u8, annotations) else {
         return false;
     };
-    let Annotated { item, annotations } = annotated;
+    let (item, annotations) = annotated.into_parts();
     let mut wanted = Wanted::new(sorted);
     let notes = annotations.into_map();
     for (key, _) in notes.as_slice() {
