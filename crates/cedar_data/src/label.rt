@@ -12,7 +12,10 @@ pub struct Label {
 
 impl Drop for Label {
     fn drop(self) {
-        let Label { span: _span, text: _text } = self;
+        let Label {
+            span: _span,
+            text: _text,
+        } = self;
     }
 }
 

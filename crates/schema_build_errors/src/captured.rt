@@ -56,7 +56,10 @@ pub struct ReferenceCaptured {
 
 impl Drop for ReferenceCaptured {
     fn drop(self) {
-        let ReferenceCaptured { namespace: _namespace, item: _item } = self;
+        let ReferenceCaptured {
+            namespace: _namespace,
+            item: _item,
+        } = self;
     }
 }
 

@@ -79,7 +79,9 @@ pub struct ContextOrShapeNotRecordError {
 
 impl Drop for ContextOrShapeNotRecordError {
     fn drop(self) {
-        let ContextOrShapeNotRecordError { ctx_or_shape: _ctx_or_shape } = self;
+        let ContextOrShapeNotRecordError {
+            ctx_or_shape: _ctx_or_shape,
+        } = self;
     }
 }
 

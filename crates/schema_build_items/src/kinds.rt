@@ -12,7 +12,7 @@ ghost use Rattle.schema_build_hierarchy.specs.Entries.{AreEntities, entity_of};
 ghost use Rattle.schema_build_items.specs.Kinds.{IsKindBuilt, IsKindReady, AreTagsReady, IsKindOf, TagsBuilt};
 ghost use Rattle.schema_build_items.specs.NoRecord.{LacksShape, AreShapesRecords, HasNoRecordShape, IsNoRecord, IsShapeError};
 
-use cedar_data::CloneIn;
+use cedar_data::{Boxed, CloneIn};
 use cedar_identifiers::{Name, RawName};
 use schema_build_errors::{ContextOrShape, ContextOrShapeNotRecordError, SchemaError};
 use schema_build_expand::laws::types_stand_for_one;
@@ -119,14 +119,14 @@ fn expand_tags(
     names: &FragmentNames<'_>,
     done: &[Option<BuiltType>],
     ns: &Option<Name>,
-    tags: &Option<Type<RawName>>,
+    tags: &Option<Boxed<Type<RawName>>>,
 ) -> Result<Option<BuiltType>, AllocError>
     requires ready { AreTagsReady names.now.fragment names.now.table done.now ns.now tags.now }
     requires done { AreExpanded (fragment_scope names.now.fragment names.now.table) done.now }
     ensures { IfOk result (TagsBuilt (fragment_scope names.now.fragment names.now.table) (name_of ns.now) tags.now) }
 {
     match tags {
-        Some(ty) => Ok(Some(expand_in(alloc, names, done, ns, ty)?)),
+        Some(ty) => Ok(Some(expand_in(alloc, names, done, ns, ty.get())?)),
         None => Ok(None),
     }
 }

@@ -11,7 +11,7 @@ ghost use Rattle.schema_build_recovered.specs.Refusals.{IsFirstLack};
 
 use crate::sets::written_names;
 use crate::types::{recovered_record, recovered_type};
-use cedar_data::{CloneIn, Map, Text};
+use cedar_data::{Boxed, CloneIn, Map, Text};
 use cedar_identifiers::{Annotations, Name, RawName, UnreservedId};
 use schema_build_errors::RecoveryError;
 use schema_build_text::last_word;
@@ -25,14 +25,17 @@ use std::alloc::{AllocError, Global};
 fn recovered_tags(
     alloc: Global,
     tags: &Option<BuiltType>,
-) -> Result<Option<Type<RawName>>, RecoveryError>
+) -> Result<Option<Boxed<Type<RawName>>>, RecoveryError>
     ensures recovered { IfOk result (AreRecoveredTags (option_map plain_type (option_map type_content tags.now))) }
     ensures whole { OnOk result (tag_lacks (option_map type_content tags.now) ≡ []) }
     ensures lack { IfErr result (IsFirstLack (tag_lacks (option_map type_content tags.now))) }
 {
     match tags {
         None => Ok(None),
-        Some(ty) => Ok(Some(recovered_type(alloc, ty)?)),
+        Some(ty) => {
+            let ty = recovered_type(alloc, ty)?;
+            Ok(Some(Boxed::new(alloc, ty)?))
+        }
     }
 }
 

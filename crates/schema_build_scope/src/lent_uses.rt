@@ -4,7 +4,7 @@ ghost use Rattle.schema_build_scope.specs.LentCommons.{lent_type};
 ghost use Rattle.schema_build_scope.specs.Uses.{used_by_apply, used_by_kind, used_by_tags, used_types};
 
 use crate::lent_commons::LentType;
-use cedar_data::Text;
+use cedar_data::{Boxed, Text};
 use cedar_identifiers::{Name, RawName, UnreservedId};
 use schema_json::{ActionType, ApplySpec, EntityType, EntityTypeKind, Fragment, Type};
 use std::alloc::{AllocError, Global};
@@ -60,12 +60,12 @@ fn push_kind<'f>(
 fn push_tags<'f>(
     uses: &mut Vec<LentType<'f>>,
     ns: &'f Option<Name>,
-    tags: &'f Option<Type<RawName>>,
+    tags: &'f Option<Boxed<Type<RawName>>>,
 ) -> Result<(), AllocError>
     ensures { OnOk result (map lent_type uses.new.items ≡ map lent_type uses.old.items ++ used_by_tags ns.now tags.now) }
 {
     if let Some(ty) = tags {
-        uses.push(LentType { ns, ty })?;
+        uses.push(LentType { ns, ty: ty.get() })?;
     }
     Ok(())
 }

@@ -13,7 +13,10 @@ pub struct ValidatorActionId {
 
 impl Drop for ValidatorActionId {
     fn drop(self) {
-        let ValidatorActionId { ancestors: _ancestors, kind: _kind } = self;
+        let ValidatorActionId {
+            ancestors: _ancestors,
+            kind: _kind,
+        } = self;
     }
 }
 

@@ -12,7 +12,10 @@ pub struct ValidatorEntityType {
 
 impl Drop for ValidatorEntityType {
     fn drop(self) {
-        let ValidatorEntityType { ancestors: _ancestors, kind: _kind } = self;
+        let ValidatorEntityType {
+            ancestors: _ancestors,
+            kind: _kind,
+        } = self;
     }
 }
 

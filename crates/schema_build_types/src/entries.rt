@@ -30,7 +30,10 @@ pub struct EntityTypeEntry {
 
 impl Drop for EntityTypeEntry {
     fn drop(self) {
-        let EntityTypeEntry { name: _name, ty: _ty } = self;
+        let EntityTypeEntry {
+            name: _name,
+            ty: _ty,
+        } = self;
     }
 }
 
@@ -71,7 +74,10 @@ pub struct ActionEntry {
 
 impl Drop for ActionEntry {
     fn drop(self) {
-        let ActionEntry { uid: _uid, action: _action } = self;
+        let ActionEntry {
+            uid: _uid,
+            action: _action,
+        } = self;
     }
 }
 

@@ -69,9 +69,7 @@ impl Drop for MissingOrEmpty {
     fn drop(self) {
         match self {
             MissingOrEmpty::Missing => {}
-            MissingOrEmpty::Empty {
-                loc: _loc,
-            } => {}
+            MissingOrEmpty::Empty { loc: _loc } => {}
         }
     }
 }
@@ -123,7 +121,10 @@ pub struct UnknownTypeName {
 
 impl Drop for UnknownTypeName {
     fn drop(self) {
-        let UnknownTypeName { name: _name, loc: _loc } = self;
+        let UnknownTypeName {
+            name: _name,
+            loc: _loc,
+        } = self;
     }
 }
 
@@ -136,7 +137,10 @@ pub struct ReservedName {
 
 impl Drop for ReservedName {
     fn drop(self) {
-        let ReservedName { name: _name, loc: _loc } = self;
+        let ReservedName {
+            name: _name,
+            loc: _loc,
+        } = self;
     }
 }
 
@@ -149,7 +153,10 @@ pub struct ReservedSchemaKeyword {
 
 impl Drop for ReservedSchemaKeyword {
     fn drop(self) {
-        let ReservedSchemaKeyword { keyword: _keyword, loc: _loc } = self;
+        let ReservedSchemaKeyword {
+            keyword: _keyword,
+            loc: _loc,
+        } = self;
     }
 }
 

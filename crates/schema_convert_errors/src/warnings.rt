@@ -14,7 +14,10 @@ pub struct ShadowsBuiltinWarning {
 
 impl Drop for ShadowsBuiltinWarning {
     fn drop(self) {
-        let ShadowsBuiltinWarning { name: _name, loc: _loc } = self;
+        let ShadowsBuiltinWarning {
+            name: _name,
+            loc: _loc,
+        } = self;
     }
 }
 

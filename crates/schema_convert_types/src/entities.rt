@@ -43,12 +43,15 @@ pub fn nothing(alloc: Global) -> AttributesOrContext<RawName>
 fn tags_of(
     alloc: Global,
     tags: Option<Boxed<Node<schema_syntax_tree::Type<'_>>>>,
-) -> Result<Option<Type<RawName>>, AllocError>
+) -> Result<Option<Boxed<Type<RawName>>>, AllocError>
     ensures { IfOk result (λ out. out ≡ tags_of tags.entry) }
 {
     match tags {
         None => Ok(None),
-        Some(ty) => Ok(Some(cedar_type_to_json_type(alloc, ty.into_inner())?)),
+        Some(ty) => {
+            let ty = cedar_type_to_json_type(alloc, ty.into_inner())?;
+            Ok(Some(Boxed::new(alloc, ty)?))
+        }
     }
 }
 

@@ -1,5 +1,5 @@
 use crate::types::Type;
-use cedar_data::{CloneIn, List, Loc, NonEmpty};
+use cedar_data::{Boxed, CloneIn, List, Loc, NonEmpty};
 use cedar_identifiers::{Annotations, Eid};
 use std::alloc::{AllocError, Global};
 
@@ -37,9 +37,7 @@ impl<N: Drop> Drop for EntityTypeKind<N> {
     fn drop(self) {
         match self {
             EntityTypeKind::Standard(_value) => {}
-            EntityTypeKind::Enum {
-                choices: _choices,
-            } => {}
+            EntityTypeKind::Enum { choices: _choices } => {}
         }
     }
 }
@@ -49,7 +47,7 @@ impl<N: Drop> Drop for EntityTypeKind<N> {
 pub struct StandardEntityType<N> {
     pub member_of_types: List<N>,
     pub shape: AttributesOrContext<N>,
-    pub tags: Option<Type<N>>,
+    pub tags: Option<Boxed<Type<N>>>,
 }
 
 impl<N: Drop> Drop for StandardEntityType<N> {

@@ -26,10 +26,7 @@ pub enum Type<N> {
 impl<N: Drop> Drop for Type<N> {
     fn drop(self) {
         match self {
-            Type::Variant {
-                ty: _ty,
-                loc: _loc,
-            } => {}
+            Type::Variant { ty: _ty, loc: _loc } => {}
             Type::CommonTypeRef {
                 type_name: _type_name,
                 loc: _loc,
@@ -77,19 +74,13 @@ impl<N: Drop> Drop for TypeVariant<N> {
             TypeVariant::String => {}
             TypeVariant::Long => {}
             TypeVariant::Boolean => {}
-            TypeVariant::Set {
-                element: _element,
-            } => {}
+            TypeVariant::Set { element: _element } => {}
             TypeVariant::Record(_value) => {}
-            TypeVariant::Entity {
-                name: _name,
-            } => {}
+            TypeVariant::Entity { name: _name } => {}
             TypeVariant::EntityOrCommon {
                 type_name: _type_name,
             } => {}
-            TypeVariant::Extension {
-                name: _name,
-            } => {}
+            TypeVariant::Extension { name: _name } => {}
         }
     }
 }

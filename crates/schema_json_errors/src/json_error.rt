@@ -23,7 +23,10 @@ pub struct JsonDeserializationError {
 
 impl Drop for JsonDeserializationError {
     fn drop(self) {
-        let JsonDeserializationError { fault: _fault, advice: _advice } = self;
+        let JsonDeserializationError {
+            fault: _fault,
+            advice: _advice,
+        } = self;
     }
 }
 

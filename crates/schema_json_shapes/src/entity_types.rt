@@ -16,9 +16,9 @@ use crate::leaves::{flag_at, read_text, wrong_type};
 use crate::names::read_names;
 use crate::shape_fault::ShapeFault;
 use crate::tables::entity_type_fields;
-use crate::types::type_at;
+use crate::types::{boxed_type_at, type_at};
 use crate::words::TypeSite;
-use cedar_data::{List, NonEmpty};
+use cedar_data::{Boxed, List, NonEmpty};
 use cedar_identifiers::{Eid, RawName};
 use schema_json::{AttributesOrContext, EntityType, EntityTypeKind, StandardEntityType, Type};
 use serde_json::Value;
@@ -49,7 +49,7 @@ fn read_members(alloc: Global, members: &Members) -> Result<EntityType<RawName>,
     let external = flag_at(alloc, members, "external", false)?;
     let member_of_types = parents_at(alloc, members)?;
     let shape = shape_at(alloc, members, "shape")?;
-    let tags = type_at(alloc, members, "tags")?;
+    let tags = boxed_type_at(alloc, members, "tags")?;
     let kind = kind_of(choices, member_of_types, shape, tags);
     Ok(EntityType {
         kind,
@@ -73,7 +73,7 @@ fn kind_of(
     choices: Option<NonEmpty<Eid>>,
     member_of_types: List<RawName>,
     shape: Type<RawName>,
-    tags: Option<Type<RawName>>,
+    tags: Option<Boxed<Type<RawName>>>,
 ) -> EntityTypeKind<RawName>
     ensures { result ≡ kind_from choices member_of_types shape tags }
 {

@@ -50,6 +50,21 @@ pub fn type_at(
     }
 }
 
+/// The type in a field, in a box, where it is there.
+pub fn boxed_type_at(
+    alloc: Global,
+    members: &Members,
+    name: &str,
+) -> Result<Option<Boxed<Type<RawName>>>, ShapeFault>
+    ensures { let o = get_member name.now (members_view members.now.entries) in
+        Reads result (field_demands (typed TypeSite.Plain) name.now o) (IsOptional IsType o) }
+{
+    match type_at(alloc, members, name)? {
+        Some(ty) => Ok(Some(Boxed::new(alloc, ty)?)),
+        None => Ok(None),
+    }
+}
+
 /// A type, an attribute or a common type.
 #[cycle(types)]
 pub fn read_typed(

@@ -6,7 +6,7 @@ ghost use Rattle.schema_json_values.specs.FragmentValues.{common_type_value, wit
 use crate::annotations::put_annotations;
 use crate::leaves::{Members, names_value, put_flag, text_value};
 use crate::types::type_members;
-use cedar_data::NonEmpty;
+use cedar_data::{Boxed, NonEmpty};
 use cedar_identifiers::{Eid, NameText};
 use schema_json::{CommonType, EntityType, EntityTypeKind, StandardEntityType, Type};
 use serde_json::{Map, Value, put};
@@ -43,13 +43,13 @@ pub fn put_shape<N: NameText>(
 fn put_tags<N: NameText>(
     members: &mut Members,
     alloc: Global,
-    tags: &Option<Type<N>>,
+    tags: &Option<Boxed<Type<N>>>,
 ) -> Result<(), AllocError>
     ensures { OnOk result (members_view members.new.entries ≡ with_tags N.components tags.now (members_view members.old.entries)) }
 {
     match tags {
         Some(ty) => {
-            let value = Value::Object(type_members(alloc, ty)?);
+            let value = Value::Object(type_members(alloc, ty.get())?);
             put(members, alloc, "tags", value)
         }
         None => Ok(()),

@@ -9,7 +9,7 @@ use crate::bare::{is_bare_action, is_bare_entity};
 use crate::lent_part::LentPart;
 use crate::visitor::{Visitor, meet, meet_where};
 use crate::walk_types::{walk_type, walk_variant};
-use cedar_data::{List, Set, Text};
+use cedar_data::{Boxed, List, Set, Text};
 use cedar_identifiers::{Name, NameText};
 use schema_json::{
     ActionEntityUID, ActionType, ApplySpec, AttributesOrContext, CommonType, EntityType,
@@ -95,13 +95,13 @@ fn walk_resources<'a, N, V: Visitor<N>>(
 fn walk_tags<'a, N, V: Visitor<N>>(
     visitor: &mut V,
     ns: &'a Option<Name>,
-    tags: &'a Option<Type<N>>,
+    tags: &'a Option<Boxed<Type<N>>>,
 ) -> Result<(), V::Refusal>
     ensures taken { OnOk result (FoldsTo (V.takes ns.now) visitor.old (option_map_or (of_type itself) tags.now []) visitor.new) }
     ensures refused { IfErr result (StopsAmong (V.takes ns.now) (V.refuses ns.now) visitor.old (option_map_or (of_type itself) tags.now [])) }
 {
     match tags {
-        Some(tags) => walk_type(visitor, ns, tags),
+        Some(tags) => walk_type(visitor, ns, tags.get()),
         None => Ok(()),
     }
 }

@@ -8,7 +8,7 @@ ghost use Rattle.schema_print.specs.RowsOfTexts.{names_line_text};
 ghost use Rattle.schema_print.specs.PrintedFragments.{paths_of_names, shape_type_pieces, context_type_pieces, standard_pieces, entity_body_pieces, spec_pieces, action_body_pieces};
 
 use crate::lists::{push_action_parents, push_choices, push_names, push_parents};
-use cedar_data::Text;
+use cedar_data::{Boxed, Text};
 use cedar_identifiers::NameText;
 use schema_json::{ActionType, ApplySpec, EntityType, EntityTypeKind, StandardEntityType, Type};
 use schema_print_text::{deeper, has_no_attributes, push, push_spaces, push_type};
@@ -51,7 +51,7 @@ fn push_context<N: NameText>(
 fn push_tags<N: NameText>(
     text: &mut Text,
     alloc: Global,
-    tags: &Option<Type<N>>,
+    tags: &Option<Boxed<Type<N>>>,
 ) -> Result<(), AllocError>
     ensures { OnOk result (Adds text.old text.new (laid (tags_pieces true (option_map (printed_type N.components) tags.now)))) }
 {
@@ -59,7 +59,7 @@ fn push_tags<N: NameText>(
         None => Ok(()),
         Some(ty) => {
             push(text, " tags ")?;
-            push_type(text, alloc, 0, ty)?;
+            push_type(text, alloc, 0, ty.get())?;
             Ok(())
         }
     }

@@ -5,7 +5,7 @@ ghost use Rattle.schema_print_text.specs.PrintedTypes.{printed_variant, printed_
 ghost use Rattle.schema_print_says.specs.Plain.{components_written, IsRisingType, AreRisingAttributes};
 ghost use Rattle.schema_print_plain.specs.Orderly.{IsOrderlyType, AreOrderlyTags};
 
-use cedar_data::Text;
+use cedar_data::{Boxed, Text};
 use cedar_identifiers::{Annotations, RawName};
 use schema_json::{Type, TypeOfAttribute, TypeVariant};
 
@@ -56,11 +56,11 @@ fn attributes_are_orderly(entries: &[(Text, TypeOfAttribute<RawName>)])
 }
 
 // The type of tags is orderly, where there is one.
-pub fn tags_are_orderly(tags: &Option<Type<RawName>>)
+pub fn tags_are_orderly(tags: &Option<Boxed<Type<RawName>>>)
     ensures { AreOrderlyTags tags.now }
 {
     match tags {
-        Some(ty) => type_is_orderly(ty),
+        Some(ty) => type_is_orderly(ty.get()),
         None => {}
     }
 }

@@ -8,7 +8,7 @@ ghost use Rattle.schema_resolve.specs.ReferenceParts.{by_reference};
 
 use crate::rename_types::rename_type;
 use crate::renamer::Renamer;
-use cedar_data::{CloneIn, List};
+use cedar_data::{Boxed, CloneIn, List};
 use cedar_identifiers::{NameText, ReferenceType};
 use schema_json::{
     ActionEntityUID, ActionType, ApplySpec, AttributesOrContext, CommonType, EntityType,
@@ -69,14 +69,17 @@ pub(crate) fn rename_context<N: NameText, M: NameText + Drop, R: Renamer<N, M>>(
 fn rename_tags<N: NameText, M: NameText + Drop, R: Renamer<N, M>>(
     alloc: Global,
     renamer: &R,
-    tags: &Option<Type<N>>,
-) -> Result<Option<Type<M>>, ResolveError>
+    tags: &Option<Boxed<Type<N>>>,
+) -> Result<Option<Boxed<Type<M>>>, ResolveError>
     ensures out { IfOk result (λ out. out ≡ option_map (renamed (R.becomes renamer.now)) tags.now) }
     ensures defined { OnOk result (option_map_or (of_type (by_reference (R.untargeted renamer.now))) tags.now [] ≡ []) }
     ensures err { IfErr result (NamesFirst (option_map_or (of_type (by_reference (R.untargeted renamer.now))) tags.now [])) }
 {
     match tags {
-        Some(tags) => Ok(Some(rename_type(alloc, renamer, tags)?)),
+        Some(tags) => {
+            let tags = rename_type(alloc, renamer, tags.get())?;
+            Ok(Some(Boxed::new(alloc, tags)?))
+        }
         None => Ok(None),
     }
 }

@@ -9,7 +9,10 @@ pub struct PathSyntax {
 
 impl Drop for PathSyntax {
     fn drop(self) {
-        let PathSyntax { names: _names, loc: _loc } = self;
+        let PathSyntax {
+            names: _names,
+            loc: _loc,
+        } = self;
     }
 }
 
@@ -21,7 +24,10 @@ pub struct AnnotationSyntax {
 
 impl Drop for AnnotationSyntax {
     fn drop(self) {
-        let AnnotationSyntax { key: _key, value: _value } = self;
+        let AnnotationSyntax {
+            key: _key,
+            value: _value,
+        } = self;
     }
 }
 

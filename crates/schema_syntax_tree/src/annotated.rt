@@ -13,7 +13,10 @@ pub struct Annotated<'a, T> {
 
 impl<'a, T: Drop> Drop for Annotated<'a, T> {
     fn drop(self) {
-        let Annotated { item: _item, annotations: _annotations } = self;
+        let Annotated {
+            item: _item,
+            annotations: _annotations,
+        } = self;
     }
 }
 
