@@ -9,89 +9,89 @@ ghost use Rattle.schema_resolve_definitions.specs.Tests.{tests_of};
 ghost use Rattle.schema_resolve_lookup.specs.Sought.{name_sought, words_before};
 
 use crate::declared_in::{declares_common, declares_entity};
+use crate::namespaces::Searched;
 use crate::sought::{Before, Sought};
 use cedar_data::Text;
-use cedar_identifiers::{Id, RawName, UnreservedId, is_cedar};
+use cedar_identifiers::{Id, UnreservedId, is_cedar};
 use cedar_names::ExtensionTable;
-use schema_json::Fragment;
 use std::alloc::{AllocError, Global};
 
 // Whether the name is that of a builtin type: behind `__cedar`, or by itself where the empty namespace does not declare it.
 // Where none of these names may be hidden so, that is not looked up.
 pub(crate) fn names_builtin(
-    fragment: &Fragment<RawName>,
+    searched: &Searched<'_>,
     table: &ExtensionTable,
     may_hide: bool,
     sought: Sought<'_>,
 ) -> bool
-    requires { may_hide ≡ false → list_any (is_hidden (tests_of (declared fragment.now))) (builtins table.now) ≡ false }
-    ensures { result ≡ among (names_of_builtins (tests_of (declared fragment.now)) (builtins table.now)) (name_sought sought.entry) }
+    requires { may_hide ≡ false → list_any (is_hidden (tests_of (declared searched.now.fragment.now))) (builtins table.now) ≡ false }
+    ensures { result ≡ among (names_of_builtins (tests_of (declared searched.now.fragment.now)) (builtins table.now)) (name_sought sought.entry) }
 {
     is_builtin_word(table, sought.last.as_str())
         && match sought.namespace {
             Some(before) => is_under_cedar(before),
-            None => !may_hide || !is_declared(fragment, sought),
+            None => !may_hide || !is_declared(searched, sought),
         }
 }
 
 // Whether the empty namespace declares the name of a builtin type.
 pub(crate) fn hides_builtin(
     alloc: Global,
-    fragment: &Fragment<RawName>,
+    searched: &Searched<'_>,
     table: &ExtensionTable,
 ) -> Result<bool, AllocError>
-    ensures { IfOk result (λ hides. hides ≡ list_any (is_hidden (tests_of (declared fragment.now))) (builtins table.now)) }
+    ensures { IfOk result (λ hides. hides ≡ list_any (is_hidden (tests_of (declared searched.now.fragment.now))) (builtins table.now)) }
 {
-    if hides_primitive(alloc, fragment)? {
+    if hides_primitive(alloc, searched)? {
         return Ok(true);
     }
-    Ok(hides_extension(fragment, table.names.as_slice()))
+    Ok(hides_extension(searched, table.names.as_slice()))
 }
 
 // Whether the empty namespace declares the name of a primitive type.
-fn hides_primitive(alloc: Global, fragment: &Fragment<RawName>) -> Result<bool, AllocError>
-    ensures { IfOk result (λ hides. hides ≡ list_any (is_hidden (tests_of (declared fragment.now))) (codes "Bool" ∷ codes "Long" ∷ codes "String" ∷ [])) }
+fn hides_primitive(alloc: Global, searched: &Searched<'_>) -> Result<bool, AllocError>
+    ensures { IfOk result (λ hides. hides ≡ list_any (is_hidden (tests_of (declared searched.now.fragment.now))) (codes "Bool" ∷ codes "Long" ∷ codes "String" ∷ [])) }
 {
     let bool = Text::from_str(alloc, "Bool")?;
     let long = Text::from_str(alloc, "Long")?;
     let string = Text::from_str(alloc, "String")?;
-    Ok(is_one_hidden(fragment, bool, long, string))
+    Ok(is_one_hidden(searched, bool, long, string))
 }
 
 // Whether the empty namespace declares a type with one of these words as its name.
-fn is_one_hidden(fragment: &Fragment<RawName>, first: Text, second: Text, third: Text) -> bool
+fn is_one_hidden(searched: &Searched<'_>, first: Text, second: Text, third: Text) -> bool
     requires first { is_id first ≡ true }
     requires second { is_id second ≡ true }
     requires third { is_id third ≡ true }
-    ensures { result ≡ list_any (is_hidden (tests_of (declared fragment.now))) (first ∷ second ∷ third ∷ []) }
+    ensures { result ≡ list_any (is_hidden (tests_of (declared searched.now.fragment.now))) (first ∷ second ∷ third ∷ []) }
 {
-    let first = is_word_hidden(fragment, first);
-    let second = is_word_hidden(fragment, second);
-    let third = is_word_hidden(fragment, third);
+    let first = is_word_hidden(searched, first);
+    let second = is_word_hidden(searched, second);
+    let third = is_word_hidden(searched, third);
     first || second || third
 }
 
 // Whether the empty namespace declares a type with this word as its name.
-fn is_word_hidden(fragment: &Fragment<RawName>, word: Text) -> bool
+fn is_word_hidden(searched: &Searched<'_>, word: Text) -> bool
     requires { is_id word ≡ true }
-    ensures { result ≡ is_hidden (tests_of (declared fragment.now)) word }
+    ensures { result ≡ is_hidden (tests_of (declared searched.now.fragment.now)) word }
 {
-    is_hidden(fragment, &Id { text: word })
+    is_hidden(searched, &Id { text: word })
 }
 
 // Whether the empty namespace declares one of these names.
-fn hides_extension(fragment: &Fragment<RawName>, names: &[UnreservedId]) -> bool
-    ensures { result ≡ list_any (λ n. is_hidden (tests_of (declared fragment.now)) n.id.text) names.now }
+fn hides_extension(searched: &Searched<'_>, names: &[UnreservedId]) -> bool
+    ensures { result ≡ list_any (λ n. is_hidden (tests_of (declared searched.now.fragment.now)) n.id.text) names.now }
 {
-    names.iter().any(|name| is_hidden(fragment, &name.id))
+    names.iter().any(|name| is_hidden(searched, &name.id))
 }
 
 // Whether the empty namespace declares a type of this name.
-fn is_hidden(fragment: &Fragment<RawName>, word: &Id) -> bool
-    ensures { result ≡ is_hidden (tests_of (declared fragment.now)) word.now.text }
+fn is_hidden(searched: &Searched<'_>, word: &Id) -> bool
+    ensures { result ≡ is_hidden (tests_of (declared searched.now.fragment.now)) word.now.text }
 {
     is_declared(
-        fragment,
+        searched,
         Sought {
             namespace: None,
             last: word,
@@ -107,10 +107,10 @@ fn is_under_cedar(before: Before<'_>) -> bool
 }
 
 // Whether a type of this name is declared.
-fn is_declared(fragment: &Fragment<RawName>, sought: Sought<'_>) -> bool
-    ensures { result ≡ (among (declared fragment.now).commons (name_sought sought.entry) || among (declared fragment.now).entities (name_sought sought.entry)) }
+fn is_declared(searched: &Searched<'_>, sought: Sought<'_>) -> bool
+    ensures { result ≡ (among (declared searched.now.fragment.now).commons (name_sought sought.entry) || among (declared searched.now.fragment.now).entities (name_sought sought.entry)) }
 {
-    declares_common(fragment, sought) || declares_entity(fragment, sought)
+    declares_common(searched, sought) || declares_entity(searched, sought)
 }
 
 // Whether the word is the name of a primitive type or of an extension type.

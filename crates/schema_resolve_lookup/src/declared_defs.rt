@@ -4,6 +4,7 @@ ghost use Rattle.cedar_names.specs.Definitions.{among, among_actions};
 ghost use Rattle.schema_resolve_definitions.specs.Declarations.{declared};
 
 use crate::declared_in::{declares_action, declares_common, declares_entity};
+use crate::namespaces::Searched;
 use crate::sought::as_written;
 use cedar_data::Text;
 use cedar_identifiers::{InternalName, RawName};
@@ -13,7 +14,7 @@ use std::marker::Model;
 /// What a fragment declares and nothing else: contracts see three sets, as of `AllDefs`.
 #[derive(Drop)]
 pub struct DeclaredDefs<'f> {
-    fragment: &'f Fragment<RawName>,
+    searched: Searched<'f>,
 }
 
 impl<'f> Model for DeclaredDefs<'f> {
@@ -22,7 +23,7 @@ impl<'f> Model for DeclaredDefs<'f> {
 
     ghost Value = { Definitions };
 
-    ghost view = { λ d. declared d.fragment.now };
+    ghost view = { λ d. declared d.searched.fragment.now };
 }
 
 impl<'f> DeclaredDefs<'f> {
@@ -30,27 +31,29 @@ impl<'f> DeclaredDefs<'f> {
     pub fn new(fragment: &'f Fragment<RawName>) -> DeclaredDefs<'f>
         ensures { result ≡ declared fragment.now }
     {
-        DeclaredDefs { fragment }
+        DeclaredDefs {
+            searched: Searched::new(fragment),
+        }
     }
 
     /// Whether a common type of this name is declared.
     pub fn is_defined_as_common(&self, name: &InternalName) -> bool
         ensures { result ≡ among self.now.commons (components_of name.now) }
     {
-        declares_common(self.fragment, as_written(name))
+        declares_common(&self.searched, as_written(name))
     }
 
     /// Whether an entity type of this name is declared.
     pub fn is_defined_as_entity(&self, name: &InternalName) -> bool
         ensures { result ≡ among self.now.entities (components_of name.now) }
     {
-        declares_entity(self.fragment, as_written(name))
+        declares_entity(&self.searched, as_written(name))
     }
 
     /// Whether the action with this type and this id is declared.
     pub fn is_defined_as_action_named(&self, ty: &InternalName, id: &Text) -> bool
         ensures { result ≡ among_actions self.now.actions (components_of ty.now, id.now) }
     {
-        declares_action(self.fragment, as_written(ty), id)
+        declares_action(&self.searched, as_written(ty), id)
     }
 }

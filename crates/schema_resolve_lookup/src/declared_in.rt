@@ -5,19 +5,17 @@ ghost use Rattle.cedar_names.specs.Definitions.{among, among_actions};
 ghost use Rattle.schema_resolve_definitions.specs.Declarations.{declared};
 ghost use Rattle.schema_resolve_lookup.specs.Sought.{name_sought, is_there};
 
-use crate::namespaces::namespace_of;
+use crate::namespaces::{Searched, namespace_of};
 use crate::sought::Sought;
 use cedar_data::{Map, Text};
 use cedar_identifiers::{Id, RawName, UnreservedId};
-use schema_json::{
-    ActionType, CommonType, CommonTypeId, EntityType, Fragment, NamespaceDefinition,
-};
+use schema_json::{ActionType, CommonType, CommonTypeId, EntityType, NamespaceDefinition};
 
 // Whether the fragment declares a common type of this name.
-pub(crate) fn declares_common(fragment: &Fragment<RawName>, sought: Sought<'_>) -> bool
-    ensures { result ≡ among (declared fragment.now).commons (name_sought sought.entry) }
+pub(crate) fn declares_common(searched: &Searched<'_>, sought: Sought<'_>) -> bool
+    ensures { result ≡ among (declared searched.now.fragment.now).commons (name_sought sought.entry) }
 {
-    match namespace_of(fragment, sought.namespace) {
+    match namespace_of(searched, sought.namespace) {
         Some(definition) => has_common(&definition.common_types, sought.last),
         None => false,
     }
@@ -34,10 +32,10 @@ fn has_common(commons: &Map<CommonTypeId, CommonType<RawName>>, word: &Id) -> bo
 }
 
 // Whether the fragment declares an entity type of this name.
-pub(crate) fn declares_entity(fragment: &Fragment<RawName>, sought: Sought<'_>) -> bool
-    ensures { result ≡ among (declared fragment.now).entities (name_sought sought.entry) }
+pub(crate) fn declares_entity(searched: &Searched<'_>, sought: Sought<'_>) -> bool
+    ensures { result ≡ among (declared searched.now.fragment.now).entities (name_sought sought.entry) }
 {
-    match namespace_of(fragment, sought.namespace) {
+    match namespace_of(searched, sought.namespace) {
         Some(definition) => has_entity(&definition.entity_types, sought.last),
         None => false,
     }
@@ -54,22 +52,22 @@ fn has_entity(entities: &Map<UnreservedId, EntityType<RawName>>, word: &Id) -> b
 }
 
 // Whether the name is that of the type of an action that the fragment declares.
-pub(crate) fn is_type_of_action(fragment: &Fragment<RawName>, sought: Sought<'_>) -> bool
-    ensures { result ≡ among (map (λ a. a.0) (declared fragment.now).actions) (name_sought sought.entry) }
+pub(crate) fn is_type_of_action(searched: &Searched<'_>, sought: Sought<'_>) -> bool
+    ensures { result ≡ among (map (λ a. a.0) (declared searched.now.fragment.now).actions) (name_sought sought.entry) }
 {
     sought.last.as_str() == "Action"
-        && match namespace_of(fragment, sought.namespace) {
+        && match namespace_of(searched, sought.namespace) {
             Some(definition) => has_actions(definition),
             None => false,
         }
 }
 
 // Whether the fragment declares the action with this id whose type has this name.
-pub(crate) fn declares_action(fragment: &Fragment<RawName>, sought: Sought<'_>, id: &Text) -> bool
-    ensures { result ≡ among_actions (declared fragment.now).actions (name_sought sought.entry, id.now) }
+pub(crate) fn declares_action(searched: &Searched<'_>, sought: Sought<'_>, id: &Text) -> bool
+    ensures { result ≡ among_actions (declared searched.now.fragment.now).actions (name_sought sought.entry, id.now) }
 {
     sought.last.as_str() == "Action"
-        && match namespace_of(fragment, sought.namespace) {
+        && match namespace_of(searched, sought.namespace) {
             Some(definition) => has_action(&definition.actions, id),
             None => false,
         }

@@ -9,6 +9,7 @@ ghost use Rattle.schema_resolve_lookup.specs.Sought.{name_sought};
 
 use crate::builtins_in::names_builtin;
 use crate::declared_in::{declares_common, declares_entity, is_type_of_action};
+use crate::namespaces::Searched;
 use crate::sought::{Sought, as_written, behind};
 use cedar_identifiers::{Id, InternalName, RawName};
 use cedar_names::ExtensionTable;
@@ -18,7 +19,7 @@ use schema_json::Fragment;
 pub fn is_common(fragment: &Fragment<RawName>, table: &ExtensionTable, name: &InternalName) -> bool
     ensures { result ≡ (tests_of (defined fragment.now table.now)).is_common (components_of name.now) }
 {
-    is_common_sought(fragment, table, true, as_written(name))
+    is_common_sought(&Searched::new(fragment), table, true, as_written(name))
 }
 
 /// Whether a common type with this last word is defined behind the namespace.
@@ -30,39 +31,40 @@ pub fn is_common_behind(
 ) -> bool
     ensures { result ≡ (tests_of (defined fragment.now table.now)).is_common (components_of namespace.now ++ last.now.text ∷ []) }
 {
-    is_common_sought(fragment, table, true, behind(namespace, last))
+    let sought = behind(namespace, last);
+    is_common_sought(&Searched::new(fragment), table, true, sought)
 }
 
 // Whether a common type of this name is defined. Where no name of a builtin type may be hidden, that is not looked up.
 pub(crate) fn is_common_sought(
-    fragment: &Fragment<RawName>,
+    searched: &Searched<'_>,
     table: &ExtensionTable,
     may_hide: bool,
     sought: Sought<'_>,
 ) -> bool
-    requires { may_hide ≡ false → list_any (is_hidden (tests_of (declared fragment.now))) (builtins table.now) ≡ false }
-    ensures { result ≡ (tests_of (defined fragment.now table.now)).is_common (name_sought sought.entry) }
+    requires { may_hide ≡ false → list_any (is_hidden (tests_of (declared searched.now.fragment.now))) (builtins table.now) ≡ false }
+    ensures { result ≡ (tests_of (defined searched.now.fragment.now table.now)).is_common (name_sought sought.entry) }
 {
-    declares_common(fragment, sought) || names_builtin(fragment, table, may_hide, sought)
+    declares_common(searched, sought) || names_builtin(searched, table, may_hide, sought)
 }
 
 /// Whether an entity type of this name is defined where the fragment stands alone, whatever the table is.
 pub fn is_entity(fragment: &Fragment<RawName>, name: &InternalName) -> bool
     ensures { (table : ExtensionTable) → result ≡ (tests_of (defined fragment.now table)).is_entity (components_of name.now) }
 {
-    is_entity_sought(fragment, as_written(name))
+    is_entity_sought(&Searched::new(fragment), as_written(name))
 }
 
 /// Whether an entity type with this last word is defined behind the namespace, whatever the table is.
 pub fn is_entity_behind(fragment: &Fragment<RawName>, namespace: &InternalName, last: &Id) -> bool
     ensures { (table : ExtensionTable) → result ≡ (tests_of (defined fragment.now table)).is_entity (components_of namespace.now ++ last.now.text ∷ []) }
 {
-    is_entity_sought(fragment, behind(namespace, last))
+    is_entity_sought(&Searched::new(fragment), behind(namespace, last))
 }
 
 // Whether an entity type of this name is defined.
-fn is_entity_sought(fragment: &Fragment<RawName>, sought: Sought<'_>) -> bool
-    ensures { (table : ExtensionTable) → result ≡ (tests_of (defined fragment.now table)).is_entity (name_sought sought.entry) }
+pub(crate) fn is_entity_sought(searched: &Searched<'_>, sought: Sought<'_>) -> bool
+    ensures { (table : ExtensionTable) → result ≡ (tests_of (defined searched.now.fragment.now table)).is_entity (name_sought sought.entry) }
 {
-    declares_entity(fragment, sought) || is_type_of_action(fragment, sought)
+    declares_entity(searched, sought) || is_type_of_action(searched, sought)
 }

@@ -1,4 +1,4 @@
-ghost use Rattle.std.specs.Prelude.{◌≡◌, Some};
+ghost use Rattle.std.specs.Prelude.{◌≡◌, Some, IfSome};
 ghost use Rattle.std.specs.Option.{option_copied};
 ghost use Rattle.std.specs.Cmp.Lexicographic.{slice_cmp};
 ghost use Rattle.cedar_names.specs.Orders.{ids_in_order};
@@ -7,20 +7,62 @@ ghost use Rattle.schema_resolve_lookup.specs.Sought.{ids_before, namespace_ids, 
 use crate::sought::Before;
 use cedar_identifiers::{Name, RawName};
 use schema_json::{Fragment, NamespaceDefinition};
+use std::cell::Cell;
 use std::cmp::Ordering;
 
-// The namespace of these words, found by halving.
+// A fragment whose namespaces are looked up, and where the named one stands that was found last.
+#[derive(Drop)]
+pub(crate) struct Searched<'f> {
+    pub(crate) fragment: &'f Fragment<RawName>,
+    recent: Cell<usize>,
+}
+
+impl<'f> Searched<'f> {
+    pub(crate) fn new(fragment: &'f Fragment<RawName>) -> Searched<'f>
+        ensures { result.fragment.now ≡ fragment.now }
+    {
+        Searched {
+            fragment,
+            recent: Cell::new(0),
+        }
+    }
+}
+
+// The namespace of these words: the one that was found last, or else found by halving.
 pub(crate) fn namespace_of<'a>(
-    fragment: &'a Fragment<RawName>,
+    searched: &Searched<'a>,
     sought: Option<Before<'_>>,
 ) -> Option<&'a NamespaceDefinition<RawName>>
-    ensures { (test : _) → passes_in fragment.now (words_before sought.entry) test ≡ passes (option_copied result) test }
+    ensures { (test : _) → passes_in searched.now.fragment.now (words_before sought.entry) test ≡ passes (option_copied result) test }
 {
-    let entries = fragment.0.as_slice();
+    if let Some(definition) = found_last(searched, sought) {
+        return Some(definition);
+    }
+    let entries = searched.fragment.0.as_slice();
     match entries.binary_search_by(|entry| compare(&entry.0, sought)) {
-        Ok(at) => Some(&entries[at].1),
+        Ok(at) => {
+            if sought.is_some() {
+                searched.recent.set(at);
+            }
+            Some(&entries[at].1)
+        }
         Err(_) => None,
     }
+}
+
+// The namespace that was found last, where it has these words.
+fn found_last<'a>(
+    searched: &Searched<'a>,
+    sought: Option<Before<'_>>,
+) -> Option<&'a NamespaceDefinition<RawName>>
+    ensures { IfSome result (λ definition. (test : _) → passes_in searched.now.fragment.now (words_before sought.entry) test ≡ test definition.now) }
+{
+    let entries = searched.fragment.0.as_slice();
+    let at = searched.recent.get();
+    if at < entries.len() && compare(&entries[at].0, sought).is_eq() {
+        return Some(&entries[at].1);
+    }
+    None
 }
 
 // How the namespace stands to the one that is sought.

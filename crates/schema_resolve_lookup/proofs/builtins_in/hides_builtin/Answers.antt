@@ -10,7 +10,7 @@ use Rattle.schema_resolve_lookup.proofs.builtins_in.hides_builtin.Goals as goal
 
 pub returns : goal.returns
 returns c =
-    let hidden = is_hidden (tests_of (declared c.args.fragment.now)) in
+    let hidden = is_hidden (tests_of (declared c.args.searched.now.fragment.now)) in
     c.hides_extension.ensures ∙ ap (list_any (λ n. hidden n.id.text)) c.as_slice.ensures.items
     ∙ sym (any_seen hidden (λ n. n.id.text) c.args.table.now.names)
     ∙ past_three (hidden (codes "Bool")) (hidden (codes "Long")) (hidden (codes "String"))

@@ -22,4 +22,4 @@ returns c =
     let long = c.in_ok-long.ensures ∙ chars-from_test (codes "Long") refl in
     let string = c.in_ok-string.ensures ∙ chars-from_test (codes "String") refl in
     c.is_one_hidden.ensures
-    ∙ (λ i. list_any (is_hidden (tests_of (declared c.args.fragment.now))) (bool i ∷ long i ∷ string i ∷ []))
+    ∙ (λ i. list_any (is_hidden (tests_of (declared c.args.searched.now.fragment.now))) (bool i ∷ long i ∷ string i ∷ []))

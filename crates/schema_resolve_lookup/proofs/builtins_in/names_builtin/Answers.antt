@@ -10,7 +10,7 @@ use Rattle.schema_resolve_lookup.proofs.builtins_in.names_builtin.Goals as goal
 pub returns-in-Some : goal.returns-in-Some
 returns-in-Some c =
     let words = builtins c.args.table.now in
-    told_behind (tests_of (declared c.args.fragment.now)) c.args.sought.namespace c.in-Some.before
+    told_behind (tests_of (declared c.args.searched.now.fragment.now)) c.args.sought.namespace c.in-Some.before
     c.args.sought.last.now.text words _ c.in-Some.is
     (ap (λ w. list_any (bytes_eq w) words) (sym c.as_str.ensures)
     ∙ (sym c.is_builtin_word.ensures ∙ c.if-is_builtin_word.true))
@@ -18,7 +18,7 @@ returns-in-Some c =
 
 pub returns-then-not-may_hide : goal.returns-then-not-may_hide
 returns-then-not-may_hide c =
-    let t = tests_of (declared c.args.fragment.now) in
+    let t = tests_of (declared c.args.searched.now.fragment.now) in
     let words = builtins c.args.table.now in
     let word = c.args.sought.last.now.text in
     let builtin = ap (λ w. list_any (bytes_eq w) words) (sym c.as_str.ensures)
@@ -30,7 +30,7 @@ returns-then-not-may_hide c =
 pub returns-else-not-may_hide : goal.returns-else-not-may_hide
 returns-else-not-may_hide c =
     let words = builtins c.args.table.now in
-    told_alone (tests_of (declared c.args.fragment.now)) c.args.sought.namespace c.args.sought.last.now.text words
+    told_alone (tests_of (declared c.args.searched.now.fragment.now)) c.args.sought.namespace c.args.sought.last.now.text words
     _ c.in-None.is
     (ap (λ w. list_any (bytes_eq w) words) (sym c.as_str.ensures)
     ∙ (sym c.is_builtin_word.ensures ∙ c.if-is_builtin_word.true))
@@ -39,6 +39,6 @@ returns-else-not-may_hide c =
 pub returns-else-is_builtin_word : goal.returns-else-is_builtin_word
 returns-else-is_builtin_word c =
     let words = builtins c.args.table.now in
-    told_other (tests_of (declared c.args.fragment.now)) c.args.sought.namespace c.args.sought.last.now.text words _
+    told_other (tests_of (declared c.args.searched.now.fragment.now)) c.args.sought.namespace c.args.sought.last.now.text words _
     c.if-is_builtin_word.false
     (c.is_builtin_word.ensures ∙ ap (λ w. list_any (bytes_eq w) words) c.as_str.ensures)

@@ -15,7 +15,7 @@ returns-in-Some c =
     let found = c.namespace_of.ensures _
     ∙ ap (λ n. passes (option_copied n) (λ n. list_any (λ e. bytes_eq (encode_utf8_all id) (encode_utf8_all e.0))
     n.actions)) c.in-Some.is in
-    c.has_action.ensures ∙ sym (actions_given c.args.fragment.now words word id ∙ (λ i. named i && found i))
+    c.has_action.ensures ∙ sym (actions_given c.args.searched.now.fragment.now words word id ∙ (λ i. named i && found i))
 
 pub returns-in-None : goal.returns-in-None
 returns-in-None c =
@@ -26,7 +26,7 @@ returns-in-None c =
     let found = c.namespace_of.ensures _
     ∙ ap (λ n. passes (option_copied n) (λ n. list_any (λ e. bytes_eq (encode_utf8_all id) (encode_utf8_all e.0))
     n.actions)) c.in-None.is in
-    sym (actions_given c.args.fragment.now words word id ∙ (λ i. named i && found i))
+    sym (actions_given c.args.searched.now.fragment.now words word id ∙ (λ i. named i && found i))
 
 pub returns-else-eq : goal.returns-else-eq
 returns-else-eq c =
@@ -34,6 +34,6 @@ returns-else-eq c =
     let word = c.args.sought.last.now.text in
     let id = c.args.id.now in
     let named = is_action_word word _ _ c.as_str.ensures c.eq.ensures ∙ c.if-eq.false in
-    c.if-eq.false ∙ sym (actions_given c.args.fragment.now words word id
-    ∙ ap (λ b. b && passes_in c.args.fragment.now words
+    c.if-eq.false ∙ sym (actions_given c.args.searched.now.fragment.now words word id
+    ∙ ap (λ b. b && passes_in c.args.searched.now.fragment.now words
     (λ n. list_any (λ e. bytes_eq (encode_utf8_all id) (encode_utf8_all e.0)) n.actions)) named)

@@ -10,7 +10,7 @@ returns-in-Some c =
     let word = c.args.sought.last.now.text in
     let named = is_action_word word _ _ c.as_str.ensures c.eq.ensures ∙ c.if-eq.true in
     let found = c.namespace_of.ensures _ ∙ ap (λ n. passes (option_copied n) (λ n. is_there n.actions)) c.in-Some.is in
-    c.has_actions.ensures ∙ sym (types_given c.args.fragment.now words word ∙ (λ i. named i && found i))
+    c.has_actions.ensures ∙ sym (types_given c.args.searched.now.fragment.now words word ∙ (λ i. named i && found i))
 
 pub returns-in-None : goal.returns-in-None
 returns-in-None c =
@@ -18,12 +18,12 @@ returns-in-None c =
     let word = c.args.sought.last.now.text in
     let named = is_action_word word _ _ c.as_str.ensures c.eq.ensures ∙ c.if-eq.true in
     let found = c.namespace_of.ensures _ ∙ ap (λ n. passes (option_copied n) (λ n. is_there n.actions)) c.in-None.is in
-    sym (types_given c.args.fragment.now words word ∙ (λ i. named i && found i))
+    sym (types_given c.args.searched.now.fragment.now words word ∙ (λ i. named i && found i))
 
 pub returns-else-eq : goal.returns-else-eq
 returns-else-eq c =
     let words = words_before c.args.sought.namespace in
     let word = c.args.sought.last.now.text in
     let named = is_action_word word _ _ c.as_str.ensures c.eq.ensures ∙ c.if-eq.false in
-    c.if-eq.false ∙ sym (types_given c.args.fragment.now words word
-    ∙ ap (λ b. b && passes_in c.args.fragment.now words (λ n. is_there n.actions)) named)
+    c.if-eq.false ∙ sym (types_given c.args.searched.now.fragment.now words word
+    ∙ ap (λ b. b && passes_in c.args.searched.now.fragment.now words (λ n. is_there n.actions)) named)

@@ -17,7 +17,7 @@ returns-in-Ok c = λ test.
     (λ e. same_name words (namespace_words e.0)) (λ e. namespace_alike c.args.sought e.0) (λ e. test e.1)
     c.as_slice-entries.result.now
     (sorted_seen _ (slice_cmp ids_in_order) namespace_ids (by_words _ refl (λ n. refl) (λ n. refl) (λ n m. refl))
-    c.args.fragment.now.0 c.as_slice-entries.result.now c.as_slice-entries.ensures.entries
+    c.args.searched.now.fragment.now.0 c.as_slice-entries.result.now c.as_slice-entries.ensures.entries
     c.as_slice-entries.ensures.sorted) c.in-Ok.at c.index-entries-at.result c.in-Ok.ensures.bound
     (c.in-Ok.ensures.position (λ e. slice_cmp ids_in_order (namespace_ids e.0) (ids_before c.args.sought))
     (always_returns_same _ _ _ (λ a r f' k. search rules)) c.index-entries-at.result)
@@ -30,7 +30,7 @@ returns-in-Err c = λ test.
     (λ e. same_name words (namespace_words e.0)) (λ e. namespace_alike c.args.sought e.0) (λ e. test e.1)
     c.as_slice-entries.result.now
     (sorted_seen _ (slice_cmp ids_in_order) namespace_ids (by_words _ refl (λ n. refl) (λ n. refl) (λ n m. refl))
-    c.args.fragment.now.0 c.as_slice-entries.result.now c.as_slice-entries.ensures.entries
+    c.args.searched.now.fragment.now.0 c.as_slice-entries.result.now c.as_slice-entries.ensures.entries
     c.as_slice-entries.ensures.sorted) c.in-Err.field-0
     (c.in-Err.ensures.position (λ e. slice_cmp ids_in_order (namespace_ids e.0) (ids_before c.args.sought))
     (always_returns_same _ _ _ (λ a r f' k. search rules)))
