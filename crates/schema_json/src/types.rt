@@ -24,6 +24,7 @@ pub enum Type<N> {
 }
 
 impl<N: Drop> Drop for Type<N> {
+    #[cycle(drop)]
     fn drop(self) {
         match self {
             Type::Variant { ty: _ty, loc: _loc } => {}
@@ -69,6 +70,7 @@ pub enum TypeVariant<N> {
 }
 
 impl<N: Drop> Drop for TypeVariant<N> {
+    #[cycle(drop)]
     fn drop(self) {
         match self {
             TypeVariant::String => {}
@@ -94,6 +96,7 @@ pub struct RecordType<N> {
 }
 
 impl<N: Drop> Drop for RecordType<N> {
+    #[cycle(drop)]
     fn drop(self) {
         let RecordType {
             attributes: _attributes,
@@ -112,6 +115,7 @@ pub struct TypeOfAttribute<N> {
 }
 
 impl<N: Drop> Drop for TypeOfAttribute<N> {
+    #[cycle(drop)]
     fn drop(self) {
         let TypeOfAttribute {
             ty: _ty,

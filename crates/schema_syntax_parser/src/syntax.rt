@@ -40,6 +40,7 @@ pub enum TypeSyntax {
 }
 
 impl Drop for TypeSyntax {
+    #[cycle(drop)]
     fn drop(self) {
         match self {
             TypeSyntax::Path(_value) => {}
@@ -60,6 +61,7 @@ pub struct AttrSyntax {
 }
 
 impl Drop for AttrSyntax {
+    #[cycle(drop)]
     fn drop(self) {
         let AttrSyntax {
             annotations: _annotations,
