@@ -9,9 +9,9 @@ loop-low-init g c = record {
   ordered = omega arith;
   within = omega arith;
   gap = record {
-    in_range = omega (arith, length-map c.args.entries.now g.E.Entry.pair);
+    in_range = omega (arith, length-map c.args.entries.now g.E.Keyed.pair);
     below = λ k d h. absurd (omega arith);
-    above = λ k d h i. absurd (omega (arith, length-map c.args.entries.now g.E.Entry.pair));
+    above = λ k d h i. absurd (omega (arith, length-map c.args.entries.now g.E.Keyed.pair));
   };
   counted = omega arith;
   cost = none_yet c.args.steps.now (length c.args.entries.now);
@@ -23,7 +23,7 @@ loop-low-preserved-in-Less g c =
     record {
       ordered = omega arith;
       within = omega arith;
-      gap = below_paired g.E.Entry.pair g.met.E.Key.Ord.total c.args.key.now c.args.entries.now l.low l.high _
+      gap = below_paired g.E.Keyed.pair g.met.E.Key.Ord.total c.args.key.now c.args.entries.now l.low l.high _
           c.index-entries-middle.result c.requires l.invariant.gap (omega arith) c.index-entries-middle.is
           c.key.result.now c.key.ensures (sym c.cmp.ensures ∙ c.in-Less.is);
       counted = omega arith;
@@ -38,7 +38,7 @@ loop-low-preserved g c =
     record {
       ordered = omega arith;
       within = omega arith;
-      gap = above_paired g.E.Entry.pair g.met.E.Key.Ord.total c.args.key.now c.args.entries.now l.low l.high _
+      gap = above_paired g.E.Keyed.pair g.met.E.Key.Ord.total c.args.key.now c.args.entries.now l.low l.high _
           c.index-entries-middle.result c.requires l.invariant.gap (omega arith) c.index-entries-middle.is
           c.key.result.now c.key.ensures (sym c.cmp.ensures ∙ c.in-Greater.is);
       counted = omega arith;

@@ -7,7 +7,7 @@ abbrev pub invariant-loop-low : goal.invariant-loop-low
 invariant-loop-low g l = record {
   ordered : l.low ≤ l.high;
   within : l.high ≤ length l.entries;
-  gap : IsGap g.E.Key.Ord.cmp l.key (map g.E.Entry.pair l.entries) l.low l.high;
+  gap : IsGap g.E.Key.Ord.cmp l.key (map g.E.Keyed.pair l.entries) l.low l.high;
   counted : l.fn.steps ≤ l.steps;
   cost : IsCost (l.steps - l.fn.steps) (l.high - l.low) (length l.entries);
 }
