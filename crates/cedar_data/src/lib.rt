@@ -3,6 +3,7 @@
 #![tactic(auto)]
 
 pub mod boxed;
+pub mod byte_by_byte;
 pub mod clone_in;
 pub mod label;
 pub mod laws;
@@ -19,6 +20,7 @@ pub mod text;
 pub mod words;
 
 pub use boxed::Boxed;
+pub use byte_by_byte::{compare_bytes, same_bytes};
 pub use clone_in::CloneIn;
 pub use label::Label;
 pub use laws::{lawful, nodes_are_equal_by_value};

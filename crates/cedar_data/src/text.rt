@@ -9,6 +9,7 @@ ghost use Rattle.std.specs.Ordering.{on, as_partial_cmp};
 ghost use Rattle.cedar_data.specs.Text.{text_cmp, IsTextFront};
 ghost use Rattle.std.proofs.Common.{rules};
 
+use crate::byte_by_byte::{compare_bytes, same_bytes};
 use crate::clone_in::CloneIn;
 use arrayvec::ArrayString;
 use std::alloc::{AllocError, Global};
@@ -180,7 +181,7 @@ impl PartialEq for Text {
     ghost laws = { Prim.search (comparing, rules) };
 
     fn eq(&self, other: &Text) -> bool {
-        self.as_str() == other.as_str()
+        same_bytes(self.as_str(), other.as_str())
     }
 }
 
@@ -198,7 +199,7 @@ impl Ord for Text {
     ghost matches_eq = { Prim.search (comparing, rules) };
 
     fn cmp(&self, other: &Text) -> Ordering {
-        self.as_str().cmp(other.as_str())
+        compare_bytes(self.as_str(), other.as_str())
     }
 }
 

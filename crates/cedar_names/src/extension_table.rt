@@ -4,7 +4,7 @@ ghost use Rattle.cedar_names.specs.TableNames.{is_builtin};
 
 use crate::table_error::TableError;
 use crate::table_words::{add, into_set, lawful_name, word};
-use cedar_data::{CloneIn, Set};
+use cedar_data::{CloneIn, Set, compare_bytes};
 use cedar_identifiers::UnreservedId;
 use std::alloc::{AllocError, Global};
 use std::cmp::Ordering;
@@ -80,7 +80,7 @@ impl ExtensionTable {
         let mut high = names.len();
         while low < high {
             let middle = low + (high - low) / 2;
-            match names[middle].as_str().cmp(id) {
+            match compare_bytes(names[middle].as_str(), id) {
                 Ordering::Less => low = middle + 1,
                 Ordering::Greater => high = middle,
                 Ordering::Equal => return true,

@@ -3,6 +3,7 @@ ghost use Rattle.std.specs.List.{prefix_len};
 ghost use Rattle.schema_syntax_tokens.specs.Forms.{word_kind, single_mark};
 ghost use Rattle.cedar_data.specs.Words.{is_word_start, is_word_part};
 
+use cedar_data::same_bytes;
 use schema_syntax_grammar::TokenKind;
 
 /// The kind of the word. Only the words of its own length are compared with it.
@@ -10,40 +11,67 @@ pub(crate) fn word_kind(word: &str) -> TokenKind
     ensures { result ≡ word_kind word.now }
 {
     match word.len() {
-        2 => match word {
-            "in" => TokenKind::KwIn,
-            _ => TokenKind::Identifier,
-        },
-        3 => match word {
-            "Set" => TokenKind::KwSet,
-            _ => TokenKind::Identifier,
-        },
-        4 => match word {
-            "type" => TokenKind::KwType,
-            "tags" => TokenKind::KwTags,
-            "enum" => TokenKind::KwEnum,
-            _ => TokenKind::Identifier,
-        },
-        6 => match word {
-            "entity" => TokenKind::KwEntity,
-            "action" => TokenKind::KwAction,
-            _ => TokenKind::Identifier,
-        },
-        7 => match word {
-            "context" => TokenKind::KwContext,
-            _ => TokenKind::Identifier,
-        },
-        8 => match word {
-            "external" => TokenKind::KwExternal,
-            "resource" => TokenKind::KwResource,
-            _ => TokenKind::Identifier,
-        },
-        9 => match word {
-            "namespace" => TokenKind::KwNamespace,
-            "appliesTo" => TokenKind::KwAppliesTo,
-            "principal" => TokenKind::KwPrincipal,
-            _ => TokenKind::Identifier,
-        },
+        2 => {
+            if same_bytes(word, "in") {
+                TokenKind::KwIn
+            } else {
+                TokenKind::Identifier
+            }
+        }
+        3 => {
+            if same_bytes(word, "Set") {
+                TokenKind::KwSet
+            } else {
+                TokenKind::Identifier
+            }
+        }
+        4 => {
+            if same_bytes(word, "type") {
+                TokenKind::KwType
+            } else if same_bytes(word, "tags") {
+                TokenKind::KwTags
+            } else if same_bytes(word, "enum") {
+                TokenKind::KwEnum
+            } else {
+                TokenKind::Identifier
+            }
+        }
+        6 => {
+            if same_bytes(word, "entity") {
+                TokenKind::KwEntity
+            } else if same_bytes(word, "action") {
+                TokenKind::KwAction
+            } else {
+                TokenKind::Identifier
+            }
+        }
+        7 => {
+            if same_bytes(word, "context") {
+                TokenKind::KwContext
+            } else {
+                TokenKind::Identifier
+            }
+        }
+        8 => {
+            if same_bytes(word, "external") {
+                TokenKind::KwExternal
+            } else if same_bytes(word, "resource") {
+                TokenKind::KwResource
+            } else {
+                TokenKind::Identifier
+            }
+        }
+        9 => {
+            if same_bytes(word, "namespace") {
+                TokenKind::KwNamespace
+            } else if same_bytes(word, "appliesTo") {
+                TokenKind::KwAppliesTo
+            } else if same_bytes(word, "principal") {
+                TokenKind::KwPrincipal
+            } else {
+                TokenKind::Identifier
+            }
+        }
         _ => TokenKind::Identifier,
     }
 }

@@ -9,7 +9,7 @@ ghost use Rattle.schema_syntax_tree.specs.LentWords.{id_utf8};
 ghost use Rattle.std.proofs.Common.{rules};
 
 use crate::word_tests::is_id;
-use cedar_data::{CloneIn, Text};
+use cedar_data::{CloneIn, Text, compare_bytes, same_bytes};
 use cedar_identifiers::Id;
 use std::alloc::{AllocError, Global};
 use std::cmp::Ordering;
@@ -97,7 +97,7 @@ impl<'a> PartialEq for SrcId<'a> {
     ghost laws = { Prim.search (comparing, rules) };
 
     fn eq(&self, other: &SrcId<'a>) -> bool {
-        self.as_str() == other.as_str()
+        same_bytes(self.as_str(), other.as_str())
     }
 }
 
@@ -125,7 +125,7 @@ impl<'a> Ord for SrcId<'a> {
     ghost matches_eq = { Prim.search (comparing, rules) };
 
     fn cmp(&self, other: &SrcId<'a>) -> Ordering {
-        self.as_str().cmp(other.as_str())
+        compare_bytes(self.as_str(), other.as_str())
     }
 }
 

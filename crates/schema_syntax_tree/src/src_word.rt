@@ -8,7 +8,7 @@ ghost use Rattle.cedar_data.specs.Words.{is_word};
 ghost use Rattle.schema_syntax_tree.specs.LentWords.{any_id_utf8};
 ghost use Rattle.std.proofs.Common.{rules};
 
-use cedar_data::{CloneIn, Text, is_word};
+use cedar_data::{CloneIn, Text, compare_bytes, is_word, same_bytes};
 use cedar_identifiers::AnyId;
 use std::alloc::{AllocError, Global};
 use std::cmp::Ordering;
@@ -96,7 +96,7 @@ impl<'a> PartialEq for SrcWord<'a> {
     ghost laws = { Prim.search (comparing, rules) };
 
     fn eq(&self, other: &SrcWord<'a>) -> bool {
-        self.as_str() == other.as_str()
+        same_bytes(self.as_str(), other.as_str())
     }
 }
 
@@ -124,7 +124,7 @@ impl<'a> Ord for SrcWord<'a> {
     ghost matches_eq = { Prim.search (comparing, rules) };
 
     fn cmp(&self, other: &SrcWord<'a>) -> Ordering {
-        self.as_str().cmp(other.as_str())
+        compare_bytes(self.as_str(), other.as_str())
     }
 }
 
