@@ -5,15 +5,16 @@ ghost use Rattle.schema_build_equal.specs.Declared.{entity_kind};
 
 use crate::sets::{same_name, same_names};
 use crate::types::{same_attributes, same_type};
+use cedar_data::Boxed;
 use schema_build_types::{EntityTypeEntry, Type, ValidatorEntityTypeKind};
 
 // Whether both have tags of one type, or neither has tags.
-fn same_tags(a: &Option<Type>, b: &Option<Type>) -> bool
+fn same_tags(a: &Option<Boxed<Type>>, b: &Option<Boxed<Type>>) -> bool
     ensures { result ≡ true ↔ option_map type_content a.now ≡ option_map type_content b.now }
 {
     match a {
         Some(tag) => match b {
-            Some(other) => same_type(tag, other),
+            Some(other) => same_type(tag.get(), other.get()),
             None => false,
         },
         None => b.is_none(),

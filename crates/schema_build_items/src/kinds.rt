@@ -120,13 +120,16 @@ fn expand_tags(
     done: &[Option<BuiltType>],
     ns: &Option<Name>,
     tags: &Option<Boxed<Type<RawName>>>,
-) -> Result<Option<BuiltType>, AllocError>
+) -> Result<Option<Boxed<BuiltType>>, AllocError>
     requires ready { AreTagsReady names.now.fragment names.now.table done.now ns.now tags.now }
     requires done { AreExpanded (fragment_scope names.now.fragment names.now.table) done.now }
     ensures { IfOk result (TagsBuilt (fragment_scope names.now.fragment names.now.table) (name_of ns.now) tags.now) }
 {
     match tags {
-        Some(ty) => Ok(Some(expand_in(alloc, names, done, ns, ty.get())?)),
+        Some(ty) => {
+            let built = expand_in(alloc, names, done, ns, ty.get())?;
+            Ok(Some(Boxed::new(alloc, built)?))
+        }
         None => Ok(None),
     }
 }

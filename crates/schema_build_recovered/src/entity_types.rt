@@ -24,7 +24,7 @@ use std::alloc::{AllocError, Global};
 // The type of the tags, where there are any.
 fn recovered_tags(
     alloc: Global,
-    tags: &Option<BuiltType>,
+    tags: &Option<Boxed<BuiltType>>,
 ) -> Result<Option<Boxed<Type<RawName>>>, RecoveryError>
     ensures recovered { IfOk result (AreRecoveredTags (option_map plain_type (option_map type_content tags.now))) }
     ensures whole { OnOk result (tag_lacks (option_map type_content tags.now) ≡ []) }
@@ -33,7 +33,7 @@ fn recovered_tags(
     match tags {
         None => Ok(None),
         Some(ty) => {
-            let ty = recovered_type(alloc, ty)?;
+            let ty = recovered_type(alloc, ty.get())?;
             Ok(Some(Boxed::new(alloc, ty)?))
         }
     }
@@ -44,7 +44,7 @@ fn recovered_standard(
     alloc: Global,
     ancestors: &[Name],
     attributes: &Map<Text, (BuiltType, bool)>,
-    tags: &Option<BuiltType>,
+    tags: &Option<Boxed<BuiltType>>,
 ) -> Result<StandardEntityType<RawName>, RecoveryError>
     ensures parents { IfOk result (λ s. AllZip IsWritten (names_content ancestors.now) s.member_of_types) }
     ensures shape { IfOk result (λ s. IsRecoveredType (plain.Rec (plain_attributes (attributes_content attributes.now))) s.shape.0) }

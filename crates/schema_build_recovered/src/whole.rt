@@ -4,7 +4,7 @@ ghost use Rattle.schema_build_types.specs.Content.{type_content, attributes_cont
 ghost use Rattle.schema_build_types.specs.Lacks.{type_lacks, attribute_lacks, context_lacks, tag_lacks, entity_lacks, schema_lacks};
 
 use crate::types::only_name;
-use cedar_data::Text;
+use cedar_data::{Boxed, Text};
 use schema_build_types::{
     ActionEntry, EntityTypeEntry, Type, ValidatorActionKind, ValidatorEntityTypeKind,
 };
@@ -41,12 +41,12 @@ fn are_whole(entries: &[(Text, (Type, bool))]) -> bool
 }
 
 // Whether a text says the type of the tags, where there are tags.
-fn tags_are_whole(tags: &Option<Type>) -> bool
+fn tags_are_whole(tags: &Option<Boxed<Type>>) -> bool
     ensures { result ≡ true → tag_lacks (option_map type_content tags.now) ≡ [] }
 {
     match tags {
         None => true,
-        Some(ty) => is_whole(ty),
+        Some(ty) => is_whole(ty.get()),
     }
 }
 

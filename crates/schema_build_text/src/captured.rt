@@ -13,7 +13,7 @@ ghost use Rattle.schema_build_text.specs.Walk.{namespace_of, walk};
 
 use crate::items::{Item, items_in_order, name_of};
 use crate::names::are_together;
-use cedar_data::{CloneIn, List, NonEmpty, Text};
+use cedar_data::{Boxed, CloneIn, List, NonEmpty, Text};
 use cedar_identifiers::{InternalName, Name, UnreservedId};
 use schema_build_errors::{CapturedItem, ReferenceCaptured};
 use schema_build_types::{
@@ -76,12 +76,12 @@ fn some_hold(entries: &[(Text, (Type, bool))]) -> bool
 }
 
 // Whether the tags hold it.
-fn tags_hold(tags: &Option<Type>) -> bool
+fn tags_hold(tags: &Option<Boxed<Type>>) -> bool
     ensures { result ≡ tags_hold (option_map type_content tags.now) }
 {
     match tags {
         None => false,
-        Some(ty) => holds(ty),
+        Some(ty) => holds(ty.get()),
     }
 }
 

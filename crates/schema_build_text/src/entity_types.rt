@@ -12,7 +12,7 @@ use crate::names::push_basename;
 use crate::pushing::{push, push_spaces};
 use crate::rows::{push_choices, push_name_parents};
 use crate::types::{push_record, push_type};
-use cedar_data::{NonEmpty, Text};
+use cedar_data::{Boxed, NonEmpty, Text};
 use cedar_identifiers::{Eid, Name};
 use schema_build_types::{Type, ValidatorEntityType, ValidatorEntityTypeKind};
 use std::alloc::{AllocError, Global};
@@ -35,14 +35,14 @@ fn push_shape(
 }
 
 // Adds ` tags ` and the type of the tags at no indentation, where there are tags.
-fn push_tags(text: &mut Text, alloc: Global, tags: &Option<Type>) -> Result<(), AllocError>
+fn push_tags(text: &mut Text, alloc: Global, tags: &Option<Boxed<Type>>) -> Result<(), AllocError>
     ensures { OnOk result (Adds text.old text.new (tags_text true (option_map plain_type (option_map type_content tags.now)))) }
 {
     match tags {
         None => Ok(()),
         Some(ty) => {
             push(text, " tags ")?;
-            push_type(text, alloc, 0, ty)?;
+            push_type(text, alloc, 0, ty.get())?;
             Ok(())
         }
     }
@@ -56,7 +56,7 @@ fn push_standard(
     name: &Name,
     ancestors: &[Name],
     entries: &[(Text, (Type, bool))],
-    tags: &Option<Type>,
+    tags: &Option<Boxed<Type>>,
 ) -> Result<(), AllocError>
     ensures { OnOk result (Adds text.old text.new (codes "entity " ++ (basename (components_of name.now.name) ++ (parents_text (map name_text (names_content ancestors.now)) ++ (shape_text true base (plain_attributes (attributes_content entries.now)) ++ tags_text true (option_map plain_type (option_map type_content tags.now))))))) }
 {

@@ -1,5 +1,5 @@
 use crate::types::{Type, clone_entries};
-use cedar_data::{CloneIn, List, Map, NonEmpty, Text};
+use cedar_data::{Boxed, CloneIn, List, Map, NonEmpty, Text};
 use cedar_identifiers::{Eid, Name};
 use std::alloc::{AllocError, Global};
 
@@ -26,7 +26,7 @@ pub enum ValidatorEntityTypeKind {
     Standard {
         attributes: Map<Text, (Type, bool)>,
         more: bool,
-        tags: Option<Type>,
+        tags: Option<Boxed<Type>>,
     },
     /// The entities are listed by their ids.
     Enum(NonEmpty<Eid>),

@@ -131,7 +131,7 @@ fn find_entity(wanted: &mut Wanted<'_>, name: &str, of: &EntityType<RawName>) {
             find_type(wanted, &standard.shape.0, LEVELS);
             if let Some(tags) = &standard.tags {
                 wanted.piece(" tags");
-                find_type(wanted, tags, LEVELS);
+                find_type(wanted, tags.get(), LEVELS);
             }
         }
     }

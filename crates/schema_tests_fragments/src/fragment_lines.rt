@@ -98,7 +98,7 @@ fn find_standard(wanted: &mut Wanted<'_>, standard: &StandardEntityType<Internal
     find_type(wanted, &standard.shape.0, LEVELS);
     if let Some(tags) = &standard.tags {
         wanted.piece(" tags");
-        find_type(wanted, tags, LEVELS);
+        find_type(wanted, tags.get(), LEVELS);
     }
 }
 
