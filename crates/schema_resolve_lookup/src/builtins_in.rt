@@ -11,7 +11,7 @@ ghost use Rattle.schema_resolve_lookup.specs.Sought.{name_sought, words_before};
 use crate::declared_in::{declares_common, declares_entity};
 use crate::namespaces::Searched;
 use crate::sought::{Before, Sought};
-use cedar_data::Text;
+use cedar_data::{Text, same_bytes};
 use cedar_identifiers::{Id, UnreservedId, is_cedar};
 use cedar_names::ExtensionTable;
 use std::alloc::{AllocError, Global};
@@ -124,8 +124,5 @@ fn is_builtin_word(table: &ExtensionTable, word: &str) -> bool
 fn is_primitive_word(word: &str) -> bool
     ensures { result ≡ list_any (bytes_eq word.now) (codes "Bool" ∷ codes "Long" ∷ codes "String" ∷ []) }
 {
-    match word {
-        "Bool" | "Long" | "String" => true,
-        _ => false,
-    }
+    same_bytes(word, "Bool") || same_bytes(word, "Long") || same_bytes(word, "String")
 }
