@@ -41,14 +41,16 @@ fn by_keys<'a>(
 {
     let mut tree = BTreeMap::new(alloc);
     for annotation in annotations {
-        let (SrcAnnotation { key, value }, _) = annotation.into_inner();
-        let (key, place) = key.into_inner();
-        let second = Node {
-            node: (),
-            loc: place,
-        };
+        let (annotation, _) = annotation.into_inner();
+        let SrcAnnotation { key, value } = annotation;
+        let place = key.loc;
+        let (key, _) = key.into_inner();
         if let Some(loc) = place_in(&tree, &key) {
             let first = Node { node: (), loc };
+            let second = Node {
+                node: (),
+                loc: place,
+            };
             let key = key.to_any_id(alloc)?;
             return Err(AnnotationError::User(UserError::DuplicateAnnotations(key, first, second)));
         }
