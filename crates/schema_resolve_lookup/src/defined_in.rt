@@ -19,7 +19,8 @@ use schema_json::Fragment;
 pub fn is_common(fragment: &Fragment<RawName>, table: &ExtensionTable, name: &InternalName) -> bool
     ensures { result ≡ (tests_of (defined fragment.now table.now)).is_common (components_of name.now) }
 {
-    is_common_sought(&Searched::new(fragment), table, true, as_written(name))
+    let searched = Searched::new(fragment);
+    is_common_sought(&searched, table, true, as_written(name))
 }
 
 /// Whether a common type with this last word is defined behind the namespace.
@@ -31,8 +32,8 @@ pub fn is_common_behind(
 ) -> bool
     ensures { result ≡ (tests_of (defined fragment.now table.now)).is_common (components_of namespace.now ++ last.now.text ∷ []) }
 {
-    let sought = behind(namespace, last);
-    is_common_sought(&Searched::new(fragment), table, true, sought)
+    let searched = Searched::new(fragment);
+    is_common_sought(&searched, table, true, behind(namespace, last))
 }
 
 // Whether a common type of this name is defined. Where no name of a builtin type may be hidden, that is not looked up.
@@ -52,14 +53,16 @@ pub(crate) fn is_common_sought(
 pub fn is_entity(fragment: &Fragment<RawName>, name: &InternalName) -> bool
     ensures { (table : ExtensionTable) → result ≡ (tests_of (defined fragment.now table)).is_entity (components_of name.now) }
 {
-    is_entity_sought(&Searched::new(fragment), as_written(name))
+    let searched = Searched::new(fragment);
+    is_entity_sought(&searched, as_written(name))
 }
 
 /// Whether an entity type with this last word is defined behind the namespace, whatever the table is.
 pub fn is_entity_behind(fragment: &Fragment<RawName>, namespace: &InternalName, last: &Id) -> bool
     ensures { (table : ExtensionTable) → result ≡ (tests_of (defined fragment.now table)).is_entity (components_of namespace.now ++ last.now.text ∷ []) }
 {
-    is_entity_sought(&Searched::new(fragment), behind(namespace, last))
+    let searched = Searched::new(fragment);
+    is_entity_sought(&searched, behind(namespace, last))
 }
 
 // Whether an entity type of this name is defined.

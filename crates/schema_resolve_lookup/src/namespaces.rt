@@ -59,10 +59,14 @@ fn found_last<'a>(
 {
     let entries = searched.fragment.0.as_slice();
     let at = searched.recent.get();
-    if at < entries.len() && compare(&entries[at].0, sought).is_eq() {
-        return Some(&entries[at].1);
+    if at >= entries.len() {
+        return None;
     }
-    None
+    let entry = &entries[at];
+    match compare(&entry.0, sought) {
+        Ordering::Equal => Some(&entry.1),
+        _ => None,
+    }
 }
 
 // How the namespace stands to the one that is sought.

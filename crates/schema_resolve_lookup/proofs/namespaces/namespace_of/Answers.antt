@@ -9,8 +9,8 @@ use Rattle.schema_resolve_lookup.proofs.Ordered.{namespace_alike, by_words, sort
 use Rattle.schema_resolve_lookup.proofs.Searched.{found_at, found_none}
 use Rattle.schema_resolve_lookup.proofs.namespaces.namespace_of.Goals as goal
 
-pub returns-in-Ok : goal.returns-in-Ok
-returns-in-Ok c = λ test.
+pub returns-after-is_some : goal.returns-after-is_some
+returns-after-is_some c = λ test.
     let words = words_before c.args.sought in
     ap (list_any (λ e. same_name words (namespace_words e.0) && test e.1)) (sym c.as_slice-entries.ensures.entries)
     ∙ found_at ids_total (λ e. namespace_ids e.0) (ids_before c.args.sought)
