@@ -1,4 +1,4 @@
-use Rattle.std.proofs.Common.{◌≡◌, [], sym, ◌∙◌, subst}
+use Rattle.std.proofs.Common.{◌≡◌, [], ap, sym, ◌∙◌, subst}
 use Rattle.schema_syntax_reader.specs.Sites.{annotations}
 use Rattle.schema_syntax_reader.specs.Leaves.{AreNotes}
 use Rattle.schema_syntax_reader.specs.Placed.{NoSiteFault}
@@ -29,8 +29,10 @@ returns-in-Some-clause-fault c =
     c.in-Ok.annotated.annotations.0 c.requires.rise (rw c.in-Some.is at c.in_ok-read.ensures) c.in-Ok.ensures.kept
 
 pub returns-clause-notes : goal.returns-clause-notes
-returns-clause-notes c = are_notes c.args.text.now c.args.list.now c.in_ok-read.read.notes.items
-    c.in-Ok.annotated.annotations.0 (rw c.in-None.is at c.in_ok-read.ensures) c.in-Ok.ensures.kept
+returns-clause-notes c =
+    subst (λ notes. AreNotes c.args.text.now c.args.list.now notes.0) (sym (ap (λ r. r.1) c.into_parts.ensures))
+    (are_notes c.args.text.now c.args.list.now c.in_ok-read.read.notes.items
+    c.in-Ok.annotated.annotations.0 (rw c.in-None.is at c.in_ok-read.ensures) c.in-Ok.ensures.kept)
 
 pub returns-clause-lawful : goal.returns-clause-lawful
 returns-clause-lawful c = none_at c.args.text.now c.args.list.now c.in_ok-read.read.notes.items
