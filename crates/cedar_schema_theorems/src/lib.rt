@@ -22,4 +22,5 @@ pub use runs::{
 pub use texts::{
     a_text_has_one_error, a_text_has_one_syntax_fault, a_text_has_one_translation,
     a_text_has_one_tree, a_tree_or_an_error, texts_of_meanings_say_them,
+    the_grammar_says_what_is_read,
 };

@@ -5,6 +5,14 @@ ghost use Rattle.cedar_identifiers.specs.declared.raw_name.RawName.{RawName};
 ghost use Rattle.cedar_names.specs.Meaning.{SchemaMeaning};
 ghost use Rattle.cedar_names.specs.CanonicalText.{schema_text};
 ghost use Rattle.cedar_names.specs.declared.extension_table.ExtensionTable.{ExtensionTable};
+ghost use Rattle.schema_syntax_grammar.specs.Grammar.{Sentence};
+ghost use Rattle.schema_syntax_tokens.specs.declared.token.Token.{Token};
+ghost use Rattle.schema_syntax_tokens.specs.TokenLists.{kinds_of};
+ghost use Rattle.schema_syntax_parser.specs.declared.syntax.ItemSyntax.{ItemSyntax};
+ghost use Rattle.schema_syntax_parser.specs.Syntax.{IsSyntax};
+ghost use Rattle.schema_syntax_reader.specs.Sites.{sites_of};
+ghost use Rattle.schema_syntax_sites.specs.Readings.{picked, reads};
+ghost use Rattle.schema_syntax_sites.specs.SiteTokens.{tokens_of_sites};
 ghost use Rattle.schema_syntax_tree.specs.declared.annotated.Annotated.{Annotated};
 ghost use Rattle.schema_syntax_tree.specs.declared.namespace.Namespace.{Namespace};
 ghost use Rattle.schema_syntax_errors.specs.declared.parse_error.ParseError.{ParseError};
@@ -24,6 +32,7 @@ use cedar_schema_core::one_translation;
 use schema_says::laws::texts_of_meanings_are_translated;
 use schema_syntax::laws::{one_syntax_fault, tree_or_error};
 use schema_syntax_laws::{one_error, one_tree};
+use schema_syntax_sites::sites_are_names_and_strings;
 
 /// A text has at most one tree.
 pub fn a_text_has_one_tree()
@@ -40,6 +49,16 @@ pub fn a_text_has_one_syntax_fault()
         → fault ≡ other }
 {
     one_syntax_fault();
+}
+
+/// The words and strings of a syntax are exactly the tokens that the grammar reads as such: the kinds of the tokens have a
+/// derivation, and each derivation that they have reads these tokens so, and no others.
+pub fn the_grammar_says_what_is_read()
+    ensures { (tokens : List Token) (items : List ItemSyntax) → IsSyntax tokens items
+        → Sentence (kinds_of tokens)
+        × ((d : Sentence (kinds_of tokens)) → tokens_of_sites (sites_of items) ≡ picked (reads d) tokens) }
+{
+    sites_are_names_and_strings();
 }
 
 /// A text has at most one error: its syntax fault, or the fault of a declaration that ends first.
