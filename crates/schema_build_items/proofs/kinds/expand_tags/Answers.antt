@@ -5,10 +5,12 @@ use Rattle.schema_build_items.specs.Kinds.{TagsBuilt}
 use Rattle.schema_build_items.proofs.Made.{tags_made}
 use Rattle.schema_build_items.proofs.kinds.expand_tags.Goals as goal
 
-pub returns-in_ok-expand_in-in-Some : goal.returns-in_ok-expand_in-in-Some
-returns-in_ok-expand_in-in-Some c =
+pub returns-in_ok-new-in-Some : goal.returns-in_ok-new-in-Some
+returns-in_ok-new-in-Some c =
     let s = fragment_scope c.args.names.now.fragment c.args.names.now.table in
     let ns = name_of c.args.ns.now in
-    let made = c.in_ok-expand_in-in-Some.field-0 in
-    subst (λ o. TagsBuilt s ns o (Some made)) (sym c.in-Some.is)
-    (tags_made s ns c.in-Some.ty made c.in_ok-expand_in-in-Some.ensures)
+    let made = c.in_ok-built-in-Some.built in
+    subst (λ o. TagsBuilt s ns o (Some c.in_ok-new-in-Some.field-0)) (sym c.in-Some.is)
+    (subst (λ m. TagsBuilt s ns (Some c.in-Some.ty) (Some m)) (sym c.in_ok-new-in-Some.ensures)
+    (subst (λ t. TagsBuilt s ns (Some t) (Some made)) c.get.ensures
+    (tags_made s ns c.get.result.now made c.in_ok-built-in-Some.ensures)))
