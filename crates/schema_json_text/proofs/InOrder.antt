@@ -1,0 +1,94 @@
+-- Entries whose keys rise, put among no members: they stand in their order.
+use Rattle.std.proofs.Common.{◌≡◌, ℕ, List, [], ◌∷◌, map, refl, sym, ap, ◌∙◌}
+use Rattle.std.specs.Prelude.{⊤}
+use Rattle.std.specs.List.{AllByRecursion}
+use Rattle.std.specs.List.Sorted.{IsStrictlySortedBy}
+use Rattle.std.specs.Ordering.{match_ordering, nat_cmp, ordering_reverse}
+use Rattle.std.specs.Cmp.Lexicographic.{slice_cmp}
+use Rattle.std.specs.declared.cmp.Ordering.{Ordering}
+use Rattle.std.specs.declared.cmp.Ordering.TheVariants.{Less, Greater}
+use Rattle.std.proofs.lemmas.Cmp.{nat_list_cmp_total}
+use Rattle.serde_json.specs.Data.{Data, Members, no_members, member, put}
+use Rattle.schema_json_values.specs.TypeValues.{put_all}
+use Rattle.schema_json_text.specs.Members.{in_order}
+
+-- the members, with others behind them
+abbrev followed : Members → Members → Members
+followed no_members more = more
+followed (member k d ms) more = member k d (followed ms more)
+
+followed_once : (ms more : Members) (k : List ℕ) (d : Data)
+    → followed (followed ms (member k d no_members)) more ≡ followed ms (member k d more)
+followed_once no_members more k d = refl
+followed_once (member l e ms) more k d = ap (member l e) (followed_once ms more k d)
+
+followed_by_none : (ms : Members) → followed ms no_members ≡ ms
+followed_by_none no_members = refl
+followed_by_none (member k d ms) = ap (member k d) (followed_by_none ms)
+
+-- each key among the members comes before this one
+abbrev Before : Members → List ℕ → Type 0
+Before no_members k = ⊤
+Before (member l e ms) k = (slice_cmp nat_cmp l k ≡ Less) × Before ms k
+
+put_last : (ms : Members) (k : List ℕ) (d : Data) → Before ms k → put k d ms ≡ followed ms (member k d no_members)
+put_last no_members k d b = refl
+put_last (member l e ms) k d b =
+    let greater : slice_cmp nat_cmp k l ≡ Greater = nat_list_cmp_total.antisymm k l ∙ ap ordering_reverse b.0 in
+    ap (λ o. match_ordering o (member k d (member l e ms)) (member l d ms) (member l e (put k d ms))) greater
+    ∙ ap (member l e) (put_last ms k d b.1)
+
+before_more : (ms : Members) (k l : List ℕ) (d : Data) → Before ms k → slice_cmp nat_cmp k l ≡ Less
+    → Before (followed ms (member k d no_members)) l
+before_more no_members k l d b less = (less, tt)
+before_more (member m e ms) k l d b less = (nat_list_cmp_total.trans m k l b.0 less, before_more ms k l d b.1 less)
+
+module _ {X : Type 0} (f : X → List ℕ × Data) where
+  -- each key is below those after it
+  abbrev pub Rises : List X → Type 0
+  Rises [] = ⊤
+  Rises (x ∷ xs) = AllByRecursion (λ y. slice_cmp nat_cmp (f x).0 (f y).0 ≡ Less) xs × Rises xs
+
+  abbrev AllBehind : Members → List X → Type 0
+  AllBehind ms xs = AllByRecursion (λ x. Before ms (f x).0) xs
+
+  behind_more : (ms : Members) (x : X) (xs : List X) → Before ms (f x).0 → AllBehind ms xs
+      → AllByRecursion (λ y. slice_cmp nat_cmp (f x).0 (f y).0 ≡ Less) xs
+      → AllBehind (followed ms (member (f x).0 (f x).1 no_members)) xs
+  behind_more ms x [] b a h = tt
+  behind_more ms x (y ∷ ys) b a h = (
+    before_more ms (f x).0 (f y).0 (f x).1 b h.0,
+    behind_more ms x ys b a.1 h.1,
+  )
+
+  all_last : (xs : List X) (ms : Members) → Rises xs → AllBehind ms xs
+      → put_all (map f xs) ms ≡ followed ms (in_order (map f xs))
+  all_last [] ms r a = sym (followed_by_none ms)
+  all_last (x ∷ xs) ms r a =
+      let more = followed ms (member (f x).0 (f x).1 no_members) in
+      ap (put_all (map f xs)) (put_last ms (f x).0 (f x).1 a.0)
+      ∙ all_last xs more r.1 (behind_more ms x xs a.0 a.1 r.0)
+      ∙ followed_once ms (in_order (map f xs)) (f x).0 (f x).1
+
+  none_behind : (xs : List X) → AllBehind no_members xs
+  none_behind [] = tt
+  none_behind (x ∷ xs) = (tt, none_behind xs)
+
+  -- put one after another they stand in their order
+  pub put_in_order : (xs : List X) → Rises xs → put_all (map f xs) no_members ≡ in_order (map f xs)
+  put_in_order xs r = all_last xs no_members r (none_behind xs)
+
+  all_rise : {K : Type 0} (R : K → K → Ordering) (h : X → K)
+      → ((x y : X) → R (h x) (h y) ≡ Less → slice_cmp nat_cmp (f x).0 (f y).0 ≡ Less) → (x : X) (xs : List X)
+      → AllByRecursion (λ k. R (h x) k ≡ Less) (map h xs)
+      → AllByRecursion (λ y. slice_cmp nat_cmp (f x).0 (f y).0 ≡ Less) xs
+  all_rise R h less x [] a = tt
+  all_rise R h less x (y ∷ ys) a = (less x y a.0, all_rise R h less x ys a.1)
+
+  -- keys that rise by an order that their bytes keep
+  pub rises_from : {K : Type 0} (R : K → K → Ordering) (h : X → K)
+      → ((x y : X) → R (h x) (h y) ≡ Less → slice_cmp nat_cmp (f x).0 (f y).0 ≡ Less) → (xs : List X)
+      → IsStrictlySortedBy R (map h xs) → Rises xs
+  unfolding IsStrictlySortedBy
+  rises_from R h less [] s = tt
+  rises_from R h less (x ∷ xs) s = (all_rise R h less x xs s.0, rises_from R h less xs s.1)

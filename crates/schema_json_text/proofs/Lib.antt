@@ -1,0 +1,12 @@
+mod InOrder
+mod Slots
+mod Loops
+mod TypeSlots
+mod KindSlots
+mod Escaping
+mod Words
+mod Presence
+mod TypeTexts
+mod EntityTexts
+mod ActionTexts
+mod Placing

@@ -1,0 +1,3 @@
+pub mod Escapes
+pub mod Members
+pub mod Places

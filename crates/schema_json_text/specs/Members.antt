@@ -1,0 +1,78 @@
+-- Members that are written one after another, each where it is there. Only contracts inside the crate cite this.
+use Rattle.std.specs.Prelude.{◌≡◌, ℕ, Bool, true, false, ◌||◌, List, [], ◌∷◌, ◌++◌, map, Option, Some, None, is_some}
+use Rattle.std.specs.Prelude.{if◌then◌else◌}
+use Rattle.json.specs.Print.{quoted}
+use Rattle.serde_json.specs.Data.{Data, boolean, Members, no_members, member}
+use Rattle.serde_json.specs.Written.{comma_if, compact_text}
+use Rattle.cedar_identifiers.specs.declared.any_id.AnyId.{AnyId}
+use Rattle.cedar_identifiers.specs.declared.name_text.NameText as named
+use Rattle.schema_json.specs.Shapes.{is_empty_type}
+use Rattle.schema_json.specs.declared.types.Type.{«Type»}
+use Rattle.schema_json.specs.declared.action_type.ActionEntityUID.{ActionEntityUID}
+use Rattle.schema_json.specs.declared.action_type.ApplySpec.{ApplySpec}
+use Rattle.schema_json_values.specs.TypeValues.{object_of, annotation_entry, type_value}
+use Rattle.schema_json_values.specs.FragmentValues.{list_of, attribute_name_entry, applies_to_value, action_id_value}
+
+-- the entries as members, in their order
+abbrev pub in_order : List (List ℕ × Data) → Members
+in_order [] = no_members
+in_order (e ∷ es) = member e.0 e.1 (in_order es)
+
+-- the member, where it is there, with a comma behind it
+abbrev pub ahead : List ℕ → Option Data → List ℕ
+ahead key None = []
+ahead key (Some d) = quoted key ++ 58 ∷ (compact_text d ++ 44 ∷ [])
+
+-- the member, where it is there, behind a comma where something stands before
+abbrev pub behind : Bool → List ℕ → Option Data → List ℕ
+behind later key None = []
+behind later key (Some d) = comma_if later ++ (quoted key ++ 58 ∷ compact_text d)
+
+-- the member is added where it is there, and now tells whether something stands before the next one
+pub record AddsMember (later : Bool) (key : List ℕ) (o : Option Data) (old new : List ℕ) (now : Bool) : Type 0 where
+  pub text : new ≡ old ++ behind later key o
+  pub next : now ≡ (later || is_some o)
+
+-- ---- the values of members, where they are there
+
+-- the flag, where it is asked for
+abbrev pub flag_value : Bool → Bool → Option Data
+flag_value true flag = Some (boolean flag)
+flag_value false flag = None
+
+abbrev pub annotations_value : List (AnyId × Option (List ℕ)) → Option Data
+annotations_value [] = None
+annotations_value (a ∷ as_) = Some (object_of (map annotation_entry (a ∷ as_)))
+
+-- the list, where it has an item
+abbrev pub list_value : List Data → Option Data
+list_value [] = None
+list_value (d ∷ ds) = Some (list_of (d ∷ ds))
+
+-- the object, where it has a member
+abbrev pub object_value : List (List ℕ × Data) → Option Data
+object_value [] = None
+object_value (e ∷ es) = Some (object_of (e ∷ es))
+
+-- the names of the attributes, each beside null, where any were written
+abbrev pub nulls_value : Option (List (List ℕ)) → Option Data
+nulls_value None = None
+nulls_value (Some names) = Some (object_of (map attribute_name_entry names))
+
+module _ {N : Type 0} (components : N → List (List ℕ)) where
+  -- the shape or the context, where it is not the empty record
+  abbrev pub shape_value : «Type» N → Option Data
+  shape_value t = if is_empty_type t then None else Some (type_value components t)
+
+  abbrev pub tags_value : Option («Type» N) → Option Data
+  tags_value None = None
+  tags_value (Some t) = Some (type_value components t)
+
+  abbrev pub applies_value : Option (ApplySpec N) → Option Data
+  applies_value None = None
+  applies_value (Some a) = Some (applies_to_value components a)
+
+  module _ {G : named.Ghosts N} where
+    abbrev pub parents_value : Option (List (ActionEntityUID N G)) → Option Data
+    parents_value None = None
+    parents_value (Some ids) = Some (list_of (map (action_id_value components) ids))

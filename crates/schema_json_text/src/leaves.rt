@@ -1,0 +1,64 @@
+// Commas, keys and lists of names.
+ghost use Rattle.std.specs.Prelude.{◌≡◌, ◌<◌, ◌++◌, [], ◌∷◌, OnOk, string_bytes};
+ghost use Rattle.json.specs.Print.{quoted};
+ghost use Rattle.serde_json.specs.Written.{comma_if, compact_text};
+ghost use Rattle.schema_json_values.specs.TypeValues.{name_bytes};
+ghost use Rattle.schema_json_values.specs.FragmentValues.{names_value};
+
+use crate::pushing::{push, push_char};
+use crate::quotes::push_quoted;
+use cedar_identifiers::NameText;
+use std::alloc::{AllocError, Global};
+
+/// Adds a comma, where something stands before.
+pub fn push_comma(out: &mut String, later: bool) -> Result<(), AllocError>
+    ensures { OnOk result (string_bytes out.new ≡ string_bytes out.old ++ comma_if later) }
+{
+    if later {
+        return push_char(out, ',');
+    }
+    Ok(())
+}
+
+/// Adds this text, behind a comma where something stands before.
+pub fn push_later(out: &mut String, later: bool, text: &str) -> Result<(), AllocError>
+    ensures { OnOk result (string_bytes out.new ≡ string_bytes out.old ++ (comma_if later ++ text.now)) }
+{
+    push_comma(out, later)?;
+    push(out, text)
+}
+
+/// Adds a key and its colon, behind a comma where something stands before.
+pub fn push_key(out: &mut String, later: bool, key: &str) -> Result<(), AllocError>
+    ensures { OnOk result (string_bytes out.new ≡ string_bytes out.old ++ (comma_if later ++ (quoted key.now ++ 58 ∷ []))) }
+{
+    push_comma(out, later)?;
+    push_quoted(out, key)?;
+    push_char(out, ':')
+}
+
+/// Adds the text of a name.
+pub fn push_name<N: NameText>(out: &mut String, alloc: Global, name: &N) -> Result<(), AllocError>
+    ensures { OnOk result (string_bytes out.new ≡ string_bytes out.old ++ quoted (name_bytes N.components name.now)) }
+{
+    let text = name.text(alloc)?;
+    push_quoted(out, text.as_str())
+}
+
+/// Adds a list of names.
+pub fn push_names<N: NameText>(
+    out: &mut String,
+    alloc: Global,
+    names: &[N],
+) -> Result<(), AllocError>
+    ensures { OnOk result (string_bytes out.new ≡ string_bytes out.old ++ compact_text (names_value N.components names.now)) }
+{
+    push_char(out, '[')?;
+    let mut later = false;
+    for name in names {
+        push_comma(out, later)?;
+        push_name(out, alloc, name)?;
+        later = true;
+    }
+    push_char(out, ']')
+}
