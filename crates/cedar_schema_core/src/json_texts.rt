@@ -18,8 +18,8 @@ use schema_build::SchemaError;
 use schema_compat::from_deprecated_json_str;
 use schema_json::Fragment;
 use schema_json_errors::JsonDeserializationError;
-use schema_json_io::{JsonFault, WriteJson, from_json_str};
-use schema_json_laws::values_have_no_float;
+use schema_json_io::{JsonFault, from_json_str};
+use schema_json_text::fragment_text;
 use std::alloc::{AllocError, Global};
 
 /// The forms of JSON that a schema may stand in.
@@ -35,10 +35,7 @@ pub enum JsonForm {
 fn json_of(alloc: Global, fragment: &Fragment<RawName>) -> Result<Text, AllocError>
     ensures { IfOk result (λ json. encode_utf8_all json ≡ compact_text (value_of fragment.now)) }
 {
-    values_have_no_float::<RawName>();
-    let value = fragment.to_json_value(alloc)?;
-    let json = value.to_string(alloc)?;
-    Text::from_str(alloc, json.as_str())
+    fragment_text(alloc, fragment)
 }
 
 /// The compact JSON of the fragment that a schema text is translated to.
