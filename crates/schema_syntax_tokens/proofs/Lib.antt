@@ -5,6 +5,7 @@ mod Digits
 pub mod Ends
 mod Gone
 mod LaidOut
+mod LastPlaces
 mod Lawful
 pub mod Longest
 mod OneString
@@ -17,4 +18,3 @@ mod Standing
 mod Unique
 pub mod Values
 pub mod Whole
-mod WholePlaces

@@ -16,6 +16,6 @@ mod words;
 pub use escapes::{Refusal, unescape};
 pub use ordered::cmp_values;
 pub use quotes::push_quoted;
-pub use scanner::{Scanned, scan};
-pub use token::{Token, string_body, token_text, whole_place};
+pub use scanner::{Scanned, ShortScan, scan, scan_short};
+pub use token::{ShortToken, Token, place_from, string_body, token_text, whole_place};
 pub use walks::{check_escapes, next_piece, same_value};

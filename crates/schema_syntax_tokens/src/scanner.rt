@@ -1,4 +1,4 @@
-ghost use Rattle.std.specs.Prelude.{◌≤◌, ◌↔◌, length, MatchOption, IfOk, IsTrue};
+ghost use Rattle.std.specs.Prelude.{◌≤◌, ◌↔◌, length, MatchOption, IfOk, IsTrue, ◌≡◌};
 ghost use Rattle.std.specs.List.{All};
 ghost use Rattle.std.specs.Str.{IsCharBoundary};
 ghost use Rattle.schema_syntax_tokens.specs.Scans.{NoForm, IsLongest, Scans, IsPlaced};
@@ -6,9 +6,9 @@ ghost use Rattle.schema_syntax_tokens.specs.Steps.{StartsWord, StartsString, Sta
 
 use crate::blanks::past_blanks;
 use crate::strings::body_len;
-use crate::token::Token;
+use crate::token::{ShortToken, Token};
 use crate::words::{single_mark, word_kind};
-use cedar_data::{Loc, is_word_start, word_len};
+use cedar_data::{is_word_start, word_len};
 use schema_syntax_grammar::TokenKind;
 use std::alloc::{AllocError, Global};
 
@@ -16,6 +16,13 @@ use std::alloc::{AllocError, Global};
 #[derive(Drop)]
 pub struct Scanned {
     pub tokens: Vec<Token>,
+    pub at: usize,
+}
+
+/// The tokens of a text in little room, and where they stop.
+#[derive(Drop)]
+pub struct ShortScan {
+    pub tokens: Vec<ShortToken>,
     pub at: usize,
 }
 
@@ -85,6 +92,33 @@ fn token_of(rest: &str) -> Option<(TokenKind, usize)>
     mark_of(bytes)
 }
 
+/// The tokens of the text in little room, as far as there are any: `at` is the end of the text, or the place where neither a blank nor a
+/// token stands. A text of 4 GiB or more wants more memory than there is.
+pub fn scan_short(alloc: Global, text: &str) -> Result<ShortScan, AllocError>
+    ensures scans { IfOk result (λ s. Scans text.now s.tokens.items s.at) }
+    ensures placed { IfOk result (λ s. All (IsPlaced text.now) s.tokens.items) }
+    ensures in_range { IfOk result (λ s. s.at ≤ length text.now) }
+    ensures boundary { IfOk result (λ s. IsCharBoundary text.now s.at) }
+{
+    if text.len() > u32::MAX as usize {
+        return Err(AllocError);
+    }
+    let mut tokens = Vec::new(alloc);
+    let mut rest = text;
+    loop {
+        let here = past_blanks(rest);
+        let start = text.len() - here.len();
+        match token_of(here) {
+            None => return Ok(ShortScan { tokens, at: start }),
+            Some((kind, len)) => {
+                tokens.push(ShortToken::new(kind, start, start + len))?;
+                let (_, after) = here.split_at(len);
+                rest = after;
+            }
+        }
+    }
+}
+
 /// The tokens of the text as far as there are any: `at` is the end of the text, or the place where neither a blank nor a token stands.
 pub fn scan(alloc: Global, text: &str) -> Result<Scanned, AllocError>
     ensures scans { IfOk result (λ s. Scans text.now s.tokens.items s.at) }
@@ -92,21 +126,14 @@ pub fn scan(alloc: Global, text: &str) -> Result<Scanned, AllocError>
     ensures in_range { IfOk result (λ s. s.at ≤ length text.now) }
     ensures boundary { IfOk result (λ s. IsCharBoundary text.now s.at) }
 {
-    let mut tokens = Vec::new(alloc);
-    let mut rest = text;
-    loop {
-        let here = past_blanks(rest);
-        let start = text.len() - here.len();
-        match token_of(here) {
-            None => return Ok(Scanned { tokens, at: start }),
-            Some((kind, len)) => {
-                tokens.push(Token {
-                    kind,
-                    loc: Loc::new(start, start + len),
-                })?;
-                let (_, after) = here.split_at(len);
-                rest = after;
-            }
-        }
-    }
+    let ShortScan { tokens, at } = scan_short(alloc, text)?;
+    let tokens = in_full(alloc, &tokens)?;
+    Ok(Scanned { tokens, at })
+}
+
+// The tokens, each in full.
+fn in_full(alloc: Global, tokens: &[ShortToken]) -> Result<Vec<Token>, AllocError>
+    ensures { IfOk result (λ full. full.items ≡ tokens.now) }
+{
+    tokens.iter().map(|token| token.token()).collect(alloc)
 }

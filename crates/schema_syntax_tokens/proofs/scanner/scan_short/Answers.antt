@@ -1,10 +1,10 @@
-use Rattle.std.proofs.Common.{◌≡◌, ◌≤◌, ◌+◌, ◌-◌, length, drop, sym, ap, ◌∙◌, subst, arith}
+use Rattle.std.proofs.Common.{◌≡◌, ◌≤◌, ◌+◌, ◌-◌, length, drop, ◌++◌, ◌∷◌, [], refl, sym, ap, ◌∙◌, subst, arith}
 use Rattle.std.specs.Str.{IsUtf8}
 use Rattle.std.proofs.lemmas.Str.{IsUtf8-drop}
 use Rattle.schema_syntax_tokens.specs.declared.token.Token.{Token}
 use Rattle.schema_syntax_tokens.proofs.Ends.{boundary_after_token}
 use Rattle.schema_syntax_tokens.proofs.Whole.{HasScanned, HasScanned-more, HasScanned-all, boundary_here, rest_in_range}
-use Rattle.schema_syntax_tokens.proofs.scanner.scan.Goals as goal
+use Rattle.schema_syntax_tokens.proofs.scanner.scan_short.Goals as goal
 
 pub returns-in-None-clause-scans : goal.returns-in-None-clause-scans
 returns-in-None-clause-scans c =
@@ -41,15 +41,15 @@ loop-tokens-preserved c =
     let in_range : length rest ≤ length text = rest_in_range text rest here c.loop-tokens.tokens.items
     c.loop-tokens.invariant.1 in
     let shorter : length here ≤ length rest = c.past_blanks-here.ensures.shorter in
-    let token : Token = record { kind = c.in-Some.kind; loc = c.new.result } in
+    let start = length text - length here in
+    let token : Token = record { kind = c.in-Some.kind; loc = record { start = start; end = start + len } } in
     let follows : IsUtf8 (drop len here) = IsUtf8-drop here len c.past_blanks-here.utf8
     (boundary_after_token here c.in-Some.kind len c.past_blanks-here.utf8 c.in-Some.ensures) in
-    let begins : c.new.result.start ≡ length text - length here = ap (λ s. s.start) c.new.ensures in
-    let ends : c.new.result.end ≡ c.new.result.start + len = ap (λ s. s.end) c.new.ensures
-    ∙ ap (λ n. n + len) (sym begins) in (
+    let items = c.loop-tokens.tokens.items in (
       subst (λ t. IsUtf8 t) (sym c.split_at.ensures.back) follows,
-      subst (λ ts. HasScanned text c.split_at.result.1.now ts) (sym c.in_ok-push-in-Some.ensures.items)
-          (HasScanned-more text rest here c.split_at.result.1.now c.loop-tokens.tokens.items token len
+      subst (λ ts. HasScanned text c.split_at.result.1.now ts) (sym
+          (c.in_ok-push-in-Some.ensures.items ∙ ap (λ t. items ++ t ∷ []) c.new.ensures))
+          (HasScanned-more text rest here c.split_at.result.1.now items token len
           c.loop-tokens.invariant.1 c.past_blanks-here.utf8 c.past_blanks-here.ensures.skips c.in-Some.ensures
-          c.split_at.ensures.back (omega arith) ends),
+          c.split_at.ensures.back (omega arith) refl),
     )
