@@ -41,6 +41,13 @@ impl<'a> Path<'a> {
         }
     }
 
+    /// The path of these ids, the outermost first, at this place.
+    pub fn of_ids(ids: NonEmpty<SrcId<'a>>, loc: Option<Loc>) -> Path<'a>
+        ensures { result ≡ record { ids = ids.entry; loc = loc } }
+    {
+        Path { ids, loc }
+    }
+
     /// The path with this last id, behind a namespace, at this place.
     pub fn new(basename: SrcId<'a>, mut namespace: Vec<SrcId<'a>>, loc: Option<Loc>) -> Path<'a>
         ensures { result ≡ record { ids = namespace.entry.items ++ basename.entry ∷ []; loc = loc } }
