@@ -1,13 +1,16 @@
 -- A list that is read turn by turn.
 use Rattle.std.proofs.Common.{◌≡◌, ℕ, zero, suc, ◌+◌, ◌-◌, ◌<◌, ◌≤◌, List, [], ◌∷◌, ◌++◌, Option, Some, None, refl, sym}
-use Rattle.std.proofs.Common.{ap, ◌∙◌, append_assoc, arith}
+use Rattle.std.proofs.Common.{ap, ◌∙◌, append_assoc, arith, length, Bool, true, false}
+use Rattle.std.specs.Prelude.{if◌then◌else◌}
 use Rattle.std.proofs.lemmas.List.{append-nil}
 use Rattle.schema_syntax_tokens.specs.declared.token.Token.{Token}
 use Rattle.schema_syntax_parser.specs.declared.stop.Stop.{Stop}
 use Rattle.schema_syntax_parser.specs.declared.stop.Stop.TheVariants.{Memory, Mismatch}
 use Rattle.schema_syntax_parser.specs.Reading.{◌>>=◌, Fails, Read, Turn, Done, Last, More, after_turn, many_at}
 use Rattle.schema_syntax_parser.specs.Reading.{with_items, separated_turn, attr_step, whole_type_step, type_at}
-use Rattle.schema_syntax_parser.specs.Reading.{attrs_at}
+use Rattle.schema_syntax_parser.specs.Reading.{attrs_at, all_at, chain_turn, class_at, link_at}
+use Rattle.schema_syntax_grammar.specs.Grammar.{same_kind}
+use Rattle.schema_syntax_grammar.specs.declared.token_kind.TokenKind.{TokenKind}
 use Rattle.schema_syntax_parser.specs.declared.syntax.AttrSyntax.{AttrSyntax}
 use Rattle.schema_syntax_grammar.specs.declared.token_kind.TokenKind.TheVariants.{RBrace}
 
@@ -45,6 +48,53 @@ pub turn_out : {A : Type 0} (turn : List Token → Option (Turn A)) (done : List
     → (x : A) (rest : List Token) → turn ts ≡ Some (More x rest) → total ≡ None
 unfolding many_at
 turn_out turn done left ts total z so_far x rest e = sym so_far ∙ rw (z, e) refl
+
+-- a chain is never at its end before an item
+link_goes_on : (separator : TokenKind) (t : Token) (ts after : List Token) → link_at separator t ts ≡ Done after → ⊥
+link_goes_on separator t [] after e = cc
+link_goes_on separator t (s ∷ ts) after e = either (same_kind separator s.kind) e
+  where
+    either : (b : Bool) → (if b then More t ts else Last t (s ∷ ts)) ≡ Done after → ⊥
+    either true h = cc
+    either false h = cc
+
+pub chain_goes_on : (separator : TokenKind) (is : TokenKind → Bool) (ts after : List Token)
+    → chain_turn separator is ts ≡ Some (Done after) → ⊥
+unfolding chain_turn
+chain_goes_on separator is ts after e = linked (class_at is ts) e
+  where
+    linked : (read : Read Token) → (read >>= λ t. Some (link_at separator t.0 t.1)) ≡ Some (Done after) → ⊥
+    linked None h = cc
+    linked (Some r) h = let same : link_at separator r.0 r.1 ≡ Done after = cc in
+        link_goes_on separator r.0 r.1 after same
+
+-- a list whose first turn has an item
+module _ {A : Type 0} (turn : List Token → Option (Turn A)) (ts : List Token) where
+  pub some_fails : (e : Stop) → Fails e (turn ts) → Fails e (all_at turn ts)
+  some_fails Memory f = tt
+  some_fails Mismatch f = many_more turn (length ts) ts ∙ rw f refl
+
+  pub some_last : (x : A) (rest : List Token) → turn ts ≡ Some (Last x rest) → all_at turn ts ≡ Some (x ∷ [], rest)
+  some_last x rest e = many_more turn (length ts) ts ∙ rw e refl
+
+  module _ (x : A) (rest : List Token) (e : turn ts ≡ Some (More x rest)) where
+    all_is : all_at turn ts ≡ many_at turn (length ts) rest >>= λ r. Some (x ∷ r.0, r.1)
+    all_is = many_more turn (length ts) ts ∙ rw e refl
+
+    pub some_out : length ts ≡ 0 → all_at turn ts ≡ None
+    unfolding many_at
+    some_out z = all_is ∙ rw z refl
+
+    pub some_stop : (left : ℕ) → left + 1 ≡ length ts → (s : Stop) → Fails s (many_at turn (left + 1) rest)
+        → Fails s (all_at turn ts)
+    some_stop left n Memory f = tt
+    some_stop left n Mismatch f =
+        all_is ∙ (ap (λ k. many_at turn k rest >>= λ r. Some (x ∷ r.0, r.1)) (sym n) ∙ rw f refl)
+
+    pub some_more : (left : ℕ) → left + 1 ≡ length ts → (xs : List A) (after : List Token)
+        → many_at turn (left + 1) rest ≡ Some (xs, after) → all_at turn ts ≡ Some (x ∷ xs, after)
+    some_more left n xs after f =
+        all_is ∙ (ap (λ k. many_at turn k rest >>= λ r. Some (x ∷ r.0, r.1)) (sym n) ∙ rw f refl)
 
 -- attributes, of which at most so many may come
 pub attrs_more : (n : ℕ) (ts : List Token) → 0 < n

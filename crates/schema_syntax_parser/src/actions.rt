@@ -10,21 +10,21 @@ use crate::turns::{Turn, Turns, all, closed};
 use crate::types::braces;
 use cedar_data::{List, Loc};
 use schema_syntax_grammar::TokenKind;
-use schema_syntax_tokens::Token;
+use schema_syntax_tokens::ShortToken;
 use std::alloc::Global;
 
 // What `context` is given, in the member that begins at the first tokens.
 #[tactic(auto, unfolding(crate::specs::Reading::context_at))]
 fn context<'a>(
     alloc: Global,
-    whole: &'a [Token],
-    tokens: &'a [Token],
-) -> Result<(AppSyntax, &'a [Token]), Stop>
+    whole: &'a [ShortToken],
+    tokens: &'a [ShortToken],
+) -> Result<(AppSyntax, &'a [ShortToken]), Stop>
     ensures { Gives (λ r. (r.0, r.1.now)) result (context_at whole.now tokens.now) }
 {
     match tokens {
         [] => Err(Stop::Mismatch),
-        [first, ..] if first.kind == TokenKind::LBrace => {
+        [first, ..] if first.kind() == TokenKind::LBrace => {
             let (attrs, loc, rest) = braces(alloc, tokens)?;
             Ok((
                 AppSyntax::ContextRecord(attrs, loc, place(whole, rest)),
@@ -40,16 +40,16 @@ fn context<'a>(
 
 // A member of an `appliesTo` block.
 #[tactic(auto, unfolding(crate::specs::Reading::app_at))]
-fn app(alloc: Global, tokens: &[Token]) -> Result<(AppSyntax, &[Token]), Stop>
+fn app(alloc: Global, tokens: &[ShortToken]) -> Result<(AppSyntax, &[ShortToken]), Stop>
     ensures { Gives (λ r. (r.0, r.1.now)) result (app_at tokens.now) }
 {
     let (word, rest) = any(tokens)?;
     let word = *word;
     let (_, rest) = token(rest, TokenKind::Colon)?;
-    if is_role(word.kind) {
+    if is_role(word.kind()) {
         let (types, rest) = types(alloc, rest)?;
         Ok((AppSyntax::Types(word, types, place(tokens, rest)), rest))
-    } else if word.kind == TokenKind::KwContext {
+    } else if word.kind() == TokenKind::KwContext {
         context(alloc, tokens, rest)
     } else {
         Err(Stop::Mismatch)
@@ -65,9 +65,9 @@ impl Turns for Apps {
     ghost turns = { separated_turn RBrace app_at };
 
     #[tactic(auto, unfolding(crate::specs::Reading::separated_turn))]
-    fn turn(alloc: Global, tokens: &[Token]) -> Result<Turn<'_, AppSyntax>, Stop> {
+    fn turn(alloc: Global, tokens: &[ShortToken]) -> Result<Turn<'_, AppSyntax>, Stop> {
         match tokens {
-            [first, rest @ ..] if first.kind == TokenKind::RBrace => Ok(Turn::Done(rest)),
+            [first, rest @ ..] if first.kind() == TokenKind::RBrace => Ok(Turn::Done(rest)),
             _ => {
                 let (item, rest) = app(alloc, tokens)?;
                 closed(item, TokenKind::RBrace, rest)
@@ -80,12 +80,12 @@ impl Turns for Apps {
 #[tactic(auto, unfolding(crate::specs::Reading::applies_at))]
 pub fn applies(
     alloc: Global,
-    tokens: &[Token],
-) -> Result<(Option<(List<AppSyntax>, Loc)>, &[Token]), Stop>
+    tokens: &[ShortToken],
+) -> Result<(Option<(List<AppSyntax>, Loc)>, &[ShortToken]), Stop>
     ensures { Gives (λ r. (r.0, r.1.now)) result (applies_at tokens.now) }
 {
     match tokens {
-        [first, after @ ..] if first.kind == TokenKind::KwAppliesTo => {
+        [first, after @ ..] if first.kind() == TokenKind::KwAppliesTo => {
             let (_, rest) = token(after, TokenKind::LBrace)?;
             let (apps, rest) = all::<Apps>(alloc, rest)?;
             Ok((Some((apps, place(after, rest))), rest))

@@ -7,18 +7,18 @@ use crate::syntax::AnnotationSyntax;
 use crate::turns::{Turn, Turns, all};
 use cedar_data::List;
 use schema_syntax_grammar::TokenKind;
-use schema_syntax_tokens::Token;
+use schema_syntax_tokens::ShortToken;
 use std::alloc::Global;
 
 // Annotations, one after the other.
 struct AnnotationTurns;
 
 // An annotation, behind its word.
-fn value(key: Token, tokens: &[Token]) -> Result<Turn<'_, AnnotationSyntax>, Stop>
+fn value(key: ShortToken, tokens: &[ShortToken]) -> Result<Turn<'_, AnnotationSyntax>, Stop>
     ensures { Gives turn_of result (value_at key tokens.now) }
 {
     match tokens {
-        [first, rest @ ..] if first.kind == TokenKind::LParen => {
+        [first, rest @ ..] if first.kind() == TokenKind::LParen => {
             let (value, rest) = token(rest, TokenKind::StringLit)?;
             let value = Some(*value);
             let (_, rest) = token(rest, TokenKind::RParen)?;
@@ -34,9 +34,9 @@ impl Turns for AnnotationTurns {
     ghost turns = { annotation_turn };
 
     #[tactic(auto, unfolding(crate::specs::Reading::annotation_turn))]
-    fn turn(_alloc: Global, tokens: &[Token]) -> Result<Turn<'_, AnnotationSyntax>, Stop> {
+    fn turn(_alloc: Global, tokens: &[ShortToken]) -> Result<Turn<'_, AnnotationSyntax>, Stop> {
         match tokens {
-            [first, rest @ ..] if first.kind == TokenKind::At => {
+            [first, rest @ ..] if first.kind() == TokenKind::At => {
                 let (key, rest) = word(rest)?;
                 value(*key, rest)
             }
@@ -49,8 +49,8 @@ impl Turns for AnnotationTurns {
 #[tactic(auto, unfolding(crate::specs::Reading::annotations_at))]
 pub fn annotations(
     alloc: Global,
-    tokens: &[Token],
-) -> Result<(List<AnnotationSyntax>, &[Token]), Stop>
+    tokens: &[ShortToken],
+) -> Result<(List<AnnotationSyntax>, &[ShortToken]), Stop>
     ensures { Gives (λ r. (r.0, r.1.now)) result (annotations_at tokens.now) }
 {
     all::<AnnotationTurns>(alloc, tokens)

@@ -6,10 +6,10 @@ ghost use Rattle.schema_syntax_grammar.specs.Grammar.{is_word_kind, is_ident, is
 use crate::stop::Stop;
 use cedar_data::Loc;
 use schema_syntax_grammar::TokenKind;
-use schema_syntax_tokens::{Token, whole_place};
+use schema_syntax_tokens::{ShortToken, whole_place};
 
 // The token at the front, and the others.
-pub fn any(tokens: &[Token]) -> Result<(&Token, &[Token]), Stop>
+pub fn any(tokens: &[ShortToken]) -> Result<(&ShortToken, &[ShortToken]), Stop>
     ensures { Gives (λ r. (r.0.now, r.1.now)) result (any_at tokens.now) }
 {
     match tokens {
@@ -19,41 +19,41 @@ pub fn any(tokens: &[Token]) -> Result<(&Token, &[Token]), Stop>
 }
 
 // The token at the front, which is of the kind.
-pub fn token(tokens: &[Token], kind: TokenKind) -> Result<(&Token, &[Token]), Stop>
+pub fn token(tokens: &[ShortToken], kind: TokenKind) -> Result<(&ShortToken, &[ShortToken]), Stop>
     ensures { Gives (λ r. (r.0.now, r.1.now)) result (token_at kind tokens.now) }
 {
     match tokens {
-        [first, rest @ ..] if first.kind == kind => Ok((first, rest)),
+        [first, rest @ ..] if first.kind() == kind => Ok((first, rest)),
         _ => Err(Stop::Mismatch),
     }
 }
 
 // The token at the front, which is of the kind of a word.
-pub fn word(tokens: &[Token]) -> Result<(&Token, &[Token]), Stop>
+pub fn word(tokens: &[ShortToken]) -> Result<(&ShortToken, &[ShortToken]), Stop>
     ensures { Gives (λ r. (r.0.now, r.1.now)) result (class_at is_word_kind tokens.now) }
 {
     match tokens {
-        [first, rest @ ..] if first.kind.is_word() => Ok((first, rest)),
+        [first, rest @ ..] if first.kind().is_word() => Ok((first, rest)),
         _ => Err(Stop::Mismatch),
     }
 }
 
 // The token at the front, which is of the kind of a word that can be a name.
-pub fn ident(tokens: &[Token]) -> Result<(&Token, &[Token]), Stop>
+pub fn ident(tokens: &[ShortToken]) -> Result<(&ShortToken, &[ShortToken]), Stop>
     ensures { Gives (λ r. (r.0.now, r.1.now)) result (class_at is_ident tokens.now) }
 {
     match tokens {
-        [first, rest @ ..] if first.kind.is_ident() => Ok((first, rest)),
+        [first, rest @ ..] if first.kind().is_ident() => Ok((first, rest)),
         _ => Err(Stop::Mismatch),
     }
 }
 
 // The token at the front, which is of the kind of a name.
-pub fn name(tokens: &[Token]) -> Result<(&Token, &[Token]), Stop>
+pub fn name(tokens: &[ShortToken]) -> Result<(&ShortToken, &[ShortToken]), Stop>
     ensures { Gives (λ r. (r.0.now, r.1.now)) result (class_at is_name_kind tokens.now) }
 {
     match tokens {
-        [first, rest @ ..] if first.kind.is_name() => Ok((first, rest)),
+        [first, rest @ ..] if first.kind().is_name() => Ok((first, rest)),
         _ => Err(Stop::Mismatch),
     }
 }
@@ -66,7 +66,7 @@ pub fn is_role(kind: TokenKind) -> bool
 }
 
 // The place of the tokens that stand before the rest.
-pub fn place(tokens: &[Token], rest: &[Token]) -> Loc
+pub fn place(tokens: &[ShortToken], rest: &[ShortToken]) -> Loc
     ensures { result ≡ place_before tokens.now rest.now }
 {
     let len = tokens.len().saturating_sub(rest.len());

@@ -10,12 +10,12 @@ use crate::syntax::{AnnotationSyntax, DeclaredSyntax, ItemSyntax};
 use crate::turns::{Turn, Turns, all};
 use cedar_data::List;
 use schema_syntax_grammar::TokenKind;
-use schema_syntax_tokens::Token;
+use schema_syntax_tokens::ShortToken;
 use std::alloc::Global;
 
 // A declaration with its annotations.
 #[tactic(auto, unfolding(crate::specs::Reading::declared_at))]
-fn declared(alloc: Global, tokens: &[Token]) -> Result<(DeclaredSyntax, &[Token]), Stop>
+fn declared(alloc: Global, tokens: &[ShortToken]) -> Result<(DeclaredSyntax, &[ShortToken]), Stop>
     ensures { Gives (λ r. (r.0, r.1.now)) result (declared_at tokens.now) }
 {
     let (annotations, start) = annotations(alloc, tokens)?;
@@ -40,9 +40,9 @@ impl Turns for Decls {
     ghost turns = { decl_turn };
 
     #[tactic(auto, unfolding(crate::specs::Reading::decl_turn))]
-    fn turn(alloc: Global, tokens: &[Token]) -> Result<Turn<'_, DeclaredSyntax>, Stop> {
+    fn turn(alloc: Global, tokens: &[ShortToken]) -> Result<Turn<'_, DeclaredSyntax>, Stop> {
         match tokens {
-            [first, rest @ ..] if first.kind == TokenKind::RBrace => Ok(Turn::Done(rest)),
+            [first, rest @ ..] if first.kind() == TokenKind::RBrace => Ok(Turn::Done(rest)),
             _ => {
                 let (item, rest) = declared(alloc, tokens)?;
                 Ok(Turn::More(item, rest))
@@ -56,9 +56,9 @@ impl Turns for Decls {
 fn namespace<'a>(
     alloc: Global,
     annotations: List<AnnotationSyntax>,
-    whole: &'a [Token],
-    tokens: &'a [Token],
-) -> Result<(ItemSyntax, &'a [Token]), Stop>
+    whole: &'a [ShortToken],
+    tokens: &'a [ShortToken],
+) -> Result<(ItemSyntax, &'a [ShortToken]), Stop>
     ensures { Gives (λ r. (r.0, r.1.now)) result (namespace_at annotations whole.now tokens.now) }
 {
     let (path, rest) = path(alloc, tokens)?;
@@ -73,8 +73,8 @@ fn namespace<'a>(
 fn outside(
     alloc: Global,
     annotations: List<AnnotationSyntax>,
-    tokens: &[Token],
-) -> Result<(ItemSyntax, &[Token]), Stop>
+    tokens: &[ShortToken],
+) -> Result<(ItemSyntax, &[ShortToken]), Stop>
     ensures { Gives (λ r. (r.0, r.1.now)) result (outside_at annotations tokens.now) }
 {
     let (decl, rest) = decl(alloc, tokens)?;
@@ -91,12 +91,12 @@ fn outside(
 fn item_body(
     alloc: Global,
     annotations: List<AnnotationSyntax>,
-    tokens: &[Token],
-) -> Result<(ItemSyntax, &[Token]), Stop>
+    tokens: &[ShortToken],
+) -> Result<(ItemSyntax, &[ShortToken]), Stop>
     ensures { Gives (λ r. (r.0, r.1.now)) result (item_body_at annotations tokens.now) }
 {
     match tokens {
-        [first, rest @ ..] if first.kind == TokenKind::KwNamespace => {
+        [first, rest @ ..] if first.kind() == TokenKind::KwNamespace => {
             namespace(alloc, annotations, tokens, rest)
         }
         _ => outside(alloc, annotations, tokens),
@@ -105,7 +105,7 @@ fn item_body(
 
 // An item.
 #[tactic(auto, unfolding(crate::specs::Reading::item_at))]
-pub fn item(alloc: Global, tokens: &[Token]) -> Result<(ItemSyntax, &[Token]), Stop>
+pub fn item(alloc: Global, tokens: &[ShortToken]) -> Result<(ItemSyntax, &[ShortToken]), Stop>
     ensures { Gives (λ r. (r.0, r.1.now)) result (item_at tokens.now) }
 {
     let (annotations, rest) = annotations(alloc, tokens)?;

@@ -6,22 +6,22 @@ ghost use Rattle.schema_syntax_parser.specs.Reading.{Gives, chain_turn, separate
 use crate::front::{ident, name, place, token};
 use crate::stop::Stop;
 use crate::syntax::PathSyntax;
-use crate::turns::{Turn, Turns, all, closed, link};
+use crate::turns::{Turn, Turns, all, closed, link, some};
 use cedar_data::List;
 use schema_syntax_grammar::TokenKind;
-use schema_syntax_tokens::Token;
+use schema_syntax_tokens::ShortToken;
 use std::alloc::Global;
 
 // Identifiers with a comma between two.
 pub struct Idents;
 
 impl Turns for Idents {
-    type Item = Token;
+    type Item = ShortToken;
 
     ghost turns = { chain_turn Comma is_ident };
 
     #[tactic(auto, unfolding(crate::specs::Reading::chain_turn))]
-    fn turn(_alloc: Global, tokens: &[Token]) -> Result<Turn<'_, Token>, Stop> {
+    fn turn(_alloc: Global, tokens: &[ShortToken]) -> Result<Turn<'_, ShortToken>, Stop> {
         let (item, rest) = ident(tokens)?;
         Ok(link(*item, TokenKind::Comma, rest))
     }
@@ -31,12 +31,12 @@ impl Turns for Idents {
 pub struct Names;
 
 impl Turns for Names {
-    type Item = Token;
+    type Item = ShortToken;
 
     ghost turns = { chain_turn Comma is_name_kind };
 
     #[tactic(auto, unfolding(crate::specs::Reading::chain_turn))]
-    fn turn(_alloc: Global, tokens: &[Token]) -> Result<Turn<'_, Token>, Stop> {
+    fn turn(_alloc: Global, tokens: &[ShortToken]) -> Result<Turn<'_, ShortToken>, Stop> {
         let (item, rest) = name(tokens)?;
         Ok(link(*item, TokenKind::Comma, rest))
     }
@@ -46,12 +46,12 @@ impl Turns for Names {
 struct PathNames;
 
 impl Turns for PathNames {
-    type Item = Token;
+    type Item = ShortToken;
 
     ghost turns = { chain_turn PathSep is_ident };
 
     #[tactic(auto, unfolding(crate::specs::Reading::chain_turn))]
-    fn turn(_alloc: Global, tokens: &[Token]) -> Result<Turn<'_, Token>, Stop> {
+    fn turn(_alloc: Global, tokens: &[ShortToken]) -> Result<Turn<'_, ShortToken>, Stop> {
         let (item, rest) = ident(tokens)?;
         Ok(link(*item, TokenKind::PathSep, rest))
     }
@@ -61,33 +61,33 @@ impl Turns for PathNames {
 struct RefNames;
 
 impl Turns for RefNames {
-    type Item = Token;
+    type Item = ShortToken;
 
     ghost turns = { chain_turn PathSep is_name_kind };
 
     #[tactic(auto, unfolding(crate::specs::Reading::chain_turn))]
-    fn turn(_alloc: Global, tokens: &[Token]) -> Result<Turn<'_, Token>, Stop> {
+    fn turn(_alloc: Global, tokens: &[ShortToken]) -> Result<Turn<'_, ShortToken>, Stop> {
         let (item, rest) = name(tokens)?;
         Ok(link(*item, TokenKind::PathSep, rest))
     }
 }
 
 // A path, and the tokens behind it.
-#[tactic(auto, unfolding(crate::specs::Reading::path_at))]
-pub fn path(alloc: Global, tokens: &[Token]) -> Result<(PathSyntax, &[Token]), Stop>
+#[tactic(auto, using(crate::proofs::Loops::chain_goes_on), unfolding(crate::specs::Reading::path_at))]
+pub fn path(alloc: Global, tokens: &[ShortToken]) -> Result<(PathSyntax, &[ShortToken]), Stop>
     ensures { Gives (λ r. (r.0, r.1.now)) result (path_at tokens.now) }
 {
-    let (names, rest) = all::<PathNames>(alloc, tokens)?;
+    let (names, rest) = some::<PathNames>(alloc, tokens)?;
     let loc = place(tokens, rest);
     Ok((PathSyntax { names, loc }, rest))
 }
 
 // A reference, and the tokens behind it.
-#[tactic(auto, unfolding(crate::specs::Reading::ref_at))]
-fn reference(alloc: Global, tokens: &[Token]) -> Result<(PathSyntax, &[Token]), Stop>
+#[tactic(auto, using(crate::proofs::Loops::chain_goes_on), unfolding(crate::specs::Reading::ref_at))]
+fn reference(alloc: Global, tokens: &[ShortToken]) -> Result<(PathSyntax, &[ShortToken]), Stop>
     ensures { Gives (λ r. (r.0, r.1.now)) result (ref_at tokens.now) }
 {
-    let (names, rest) = all::<RefNames>(alloc, tokens)?;
+    let (names, rest) = some::<RefNames>(alloc, tokens)?;
     let loc = place(tokens, rest);
     Ok((PathSyntax { names, loc }, rest))
 }
@@ -101,9 +101,9 @@ impl Turns for Paths {
     ghost turns = { separated_turn RBracket path_at };
 
     #[tactic(auto, unfolding(crate::specs::Reading::separated_turn))]
-    fn turn(alloc: Global, tokens: &[Token]) -> Result<Turn<'_, PathSyntax>, Stop> {
+    fn turn(alloc: Global, tokens: &[ShortToken]) -> Result<Turn<'_, PathSyntax>, Stop> {
         match tokens {
-            [first, rest @ ..] if first.kind == TokenKind::RBracket => Ok(Turn::Done(rest)),
+            [first, rest @ ..] if first.kind() == TokenKind::RBracket => Ok(Turn::Done(rest)),
             _ => {
                 let (item, rest) = path(alloc, tokens)?;
                 closed(item, TokenKind::RBracket, rest)
@@ -121,9 +121,9 @@ impl Turns for Refs {
     ghost turns = { separated_turn RBracket ref_at };
 
     #[tactic(auto, unfolding(crate::specs::Reading::separated_turn))]
-    fn turn(alloc: Global, tokens: &[Token]) -> Result<Turn<'_, PathSyntax>, Stop> {
+    fn turn(alloc: Global, tokens: &[ShortToken]) -> Result<Turn<'_, PathSyntax>, Stop> {
         match tokens {
-            [first, rest @ ..] if first.kind == TokenKind::RBracket => Ok(Turn::Done(rest)),
+            [first, rest @ ..] if first.kind() == TokenKind::RBracket => Ok(Turn::Done(rest)),
             _ => {
                 let (item, rest) = reference(alloc, tokens)?;
                 closed(item, TokenKind::RBracket, rest)
@@ -136,14 +136,14 @@ impl Turns for Refs {
 pub struct Strings;
 
 impl Turns for Strings {
-    type Item = Token;
+    type Item = ShortToken;
 
     ghost turns = { separated_turn RBracket string_at };
 
     #[tactic(auto, unfolding(crate::specs::Reading::separated_turn))]
-    fn turn(_alloc: Global, tokens: &[Token]) -> Result<Turn<'_, Token>, Stop> {
+    fn turn(_alloc: Global, tokens: &[ShortToken]) -> Result<Turn<'_, ShortToken>, Stop> {
         match tokens {
-            [first, rest @ ..] if first.kind == TokenKind::RBracket => Ok(Turn::Done(rest)),
+            [first, rest @ ..] if first.kind() == TokenKind::RBracket => Ok(Turn::Done(rest)),
             _ => {
                 let (item, rest) = token(tokens, TokenKind::StringLit)?;
                 closed(*item, TokenKind::RBracket, rest)
@@ -163,11 +163,14 @@ fn only(alloc: Global, item: PathSyntax) -> Result<List<PathSyntax>, Stop>
 
 // A path, or paths in brackets.
 #[tactic(auto, unfolding(crate::specs::Reading::types_at))]
-pub fn types(alloc: Global, tokens: &[Token]) -> Result<(List<PathSyntax>, &[Token]), Stop>
+pub fn types(
+    alloc: Global,
+    tokens: &[ShortToken],
+) -> Result<(List<PathSyntax>, &[ShortToken]), Stop>
     ensures { Gives (λ r. (r.0, r.1.now)) result (types_at tokens.now) }
 {
     match tokens {
-        [first, rest @ ..] if first.kind == TokenKind::LBracket => all::<Paths>(alloc, rest),
+        [first, rest @ ..] if first.kind() == TokenKind::LBracket => all::<Paths>(alloc, rest),
         _ => {
             let (item, rest) = path(alloc, tokens)?;
             Ok((only(alloc, item)?, rest))
@@ -177,11 +180,14 @@ pub fn types(alloc: Global, tokens: &[Token]) -> Result<(List<PathSyntax>, &[Tok
 
 // A reference, or references in brackets.
 #[tactic(auto, unfolding(crate::specs::Reading::refs_at))]
-fn references(alloc: Global, tokens: &[Token]) -> Result<(List<PathSyntax>, &[Token]), Stop>
+fn references(
+    alloc: Global,
+    tokens: &[ShortToken],
+) -> Result<(List<PathSyntax>, &[ShortToken]), Stop>
     ensures { Gives (λ r. (r.0, r.1.now)) result (refs_at tokens.now) }
 {
     match tokens {
-        [first, rest @ ..] if first.kind == TokenKind::LBracket => all::<Refs>(alloc, rest),
+        [first, rest @ ..] if first.kind() == TokenKind::LBracket => all::<Refs>(alloc, rest),
         _ => {
             let (item, rest) = reference(alloc, tokens)?;
             Ok((only(alloc, item)?, rest))
@@ -190,21 +196,27 @@ fn references(alloc: Global, tokens: &[Token]) -> Result<(List<PathSyntax>, &[To
 }
 
 // The parents of an entity type, where `in` stands.
-pub fn parents(alloc: Global, tokens: &[Token]) -> Result<(List<PathSyntax>, &[Token]), Stop>
+pub fn parents(
+    alloc: Global,
+    tokens: &[ShortToken],
+) -> Result<(List<PathSyntax>, &[ShortToken]), Stop>
     ensures { Gives (λ r. (r.0, r.1.now)) result (parents_at types_at tokens.now) }
 {
     match tokens {
-        [first, rest @ ..] if first.kind == TokenKind::KwIn => types(alloc, rest),
+        [first, rest @ ..] if first.kind() == TokenKind::KwIn => types(alloc, rest),
         _ => Ok((List::new(alloc), tokens)),
     }
 }
 
 // The parents of an action, where `in` stands.
-pub fn action_parents(alloc: Global, tokens: &[Token]) -> Result<(List<PathSyntax>, &[Token]), Stop>
+pub fn action_parents(
+    alloc: Global,
+    tokens: &[ShortToken],
+) -> Result<(List<PathSyntax>, &[ShortToken]), Stop>
     ensures { Gives (λ r. (r.0, r.1.now)) result (parents_at refs_at tokens.now) }
 {
     match tokens {
-        [first, rest @ ..] if first.kind == TokenKind::KwIn => references(alloc, rest),
+        [first, rest @ ..] if first.kind() == TokenKind::KwIn => references(alloc, rest),
         _ => Ok((List::new(alloc), tokens)),
     }
 }

@@ -1,19 +1,20 @@
-ghost use Rattle.std.specs.Prelude.{◌≡◌, ◌++◌, [], ◌∷◌, List, Option, OnOk, ◌+◌, length};
-ghost use Rattle.schema_syntax_parser.specs.Reading.{Gives, all_at, link_at, closed_at};
+ghost use Rattle.std.specs.Prelude.{◌≡◌, ◌++◌, [], ◌∷◌, List, Option, Some, OnOk, ◌+◌, length};
+ghost use Rattle.schema_syntax_tokens.specs.declared.token.Token.{Token};
+ghost use Rattle.schema_syntax_parser.specs.Reading.{Gives, Done, all_at, many_at, link_at, closed_at};
 ghost use Rattle.schema_syntax_parser.specs.Turns.{turn_of};
 
 use crate::stop::Stop;
-use cedar_data::List;
+use cedar_data::{List, NonEmpty};
 use schema_syntax_grammar::TokenKind;
-use schema_syntax_tokens::Token;
+use schema_syntax_tokens::ShortToken;
 use std::alloc::{AllocError, Global};
 
 /// One turn of a list: nothing more, its last item, or an item that others follow; and the tokens behind it.
 #[derive(Drop)]
 pub enum Turn<'a, T> {
-    Done(&'a [Token]),
-    Last(T, &'a [Token]),
-    More(T, &'a [Token]),
+    Done(&'a [ShortToken]),
+    Last(T, &'a [ShortToken]),
+    More(T, &'a [ShortToken]),
 }
 
 /// A list of items, read turn by turn.
@@ -26,12 +27,12 @@ pub trait Turns {
 
     ghost turns: { List Part → Option (reading.Turn Self.Item) };
 
-    fn turn(alloc: Global, tokens: &[Token]) -> Result<Turn<'_, Self::Item>, Stop>
+    fn turn(alloc: Global, tokens: &[ShortToken]) -> Result<Turn<'_, Self::Item>, Stop>
         ensures { Gives turn_of result (turns tokens.now) };
 }
 
 // Adds an item behind the others. A first one gets room for itself alone, since most lists have one item.
-fn push_item<T: Drop>(items: &mut Vec<T>, item: T) -> Result<(), AllocError>
+pub fn push_item<T: Drop>(items: &mut Vec<T>, item: T) -> Result<(), AllocError>
     ensures { OnOk result (items.new.items ≡ items.old.items ++ item ∷ []) }
 {
     if items.is_empty() {
@@ -41,19 +42,23 @@ fn push_item<T: Drop>(items: &mut Vec<T>, item: T) -> Result<(), AllocError>
     Ok(())
 }
 
-// The items of a list, and the tokens behind it.
-pub fn all<L: Turns>(alloc: Global, tokens: &[Token]) -> Result<(List<L::Item>, &[Token]), Stop>
-    ensures { Gives (λ r. (r.0, r.1.now)) result (all_at L.turns tokens.now) }
+// The items of a list, at most one more than so many, and the tokens behind it.
+fn up_to<L: Turns>(
+    alloc: Global,
+    most: usize,
+    tokens: &[ShortToken],
+) -> Result<(Vec<L::Item>, &[ShortToken]), Stop>
+    ensures { Gives (λ r. (r.0.items, r.1.now)) result (many_at L.turns (most + 1) tokens.now) }
 {
     let mut items = Vec::new(alloc);
     let mut rest = tokens;
-    let mut left = tokens.len();
+    let mut left = most;
     loop {
         match L::turn(alloc, rest)? {
-            Turn::Done(after) => return Ok((List::from_vec(items), after)),
+            Turn::Done(after) => return Ok((items, after)),
             Turn::Last(item, after) => {
                 push_item(&mut items, item)?;
-                return Ok((List::from_vec(items), after));
+                return Ok((items, after));
             }
             Turn::More(item, after) => {
                 if left == 0 {
@@ -67,23 +72,56 @@ pub fn all<L: Turns>(alloc: Global, tokens: &[Token]) -> Result<(List<L::Item>, 
     }
 }
 
+// The items of a list, and the tokens behind it.
+pub fn all<L: Turns>(
+    alloc: Global,
+    tokens: &[ShortToken],
+) -> Result<(List<L::Item>, &[ShortToken]), Stop>
+    ensures { Gives (λ r. (r.0, r.1.now)) result (all_at L.turns tokens.now) }
+{
+    let (items, rest) = up_to::<L>(alloc, tokens.len(), tokens)?;
+    Ok((List::from_vec(items), rest))
+}
+
+// The items of a list that has an item, and the tokens behind it. One item takes no memory.
+pub fn some<L: Turns>(
+    alloc: Global,
+    tokens: &[ShortToken],
+) -> Result<(NonEmpty<L::Item>, &[ShortToken]), Stop>
+    requires { (ts after : List Token) → L.turns ts ≡ Some (Done after) → ⊥ }
+    ensures { Gives (λ r. (r.0, r.1.now)) result (all_at L.turns tokens.now) }
+{
+    match L::turn(alloc, tokens)? {
+        Turn::Done(_) => Err(Stop::Mismatch),
+        Turn::Last(item, after) => Ok((NonEmpty::new(alloc, item), after)),
+        Turn::More(item, after) => {
+            let left = tokens.len();
+            if left == 0 {
+                return Err(Stop::Mismatch);
+            }
+            let (others, rest) = up_to::<L>(alloc, left - 1, after)?;
+            Ok((NonEmpty::from_parts(item, others), rest))
+        }
+    }
+}
+
 // An item, and others where the separator follows.
-pub fn link<T: Drop>(item: T, separator: TokenKind, rest: &[Token]) -> Turn<'_, T>
+pub fn link<T: Drop>(item: T, separator: TokenKind, rest: &[ShortToken]) -> Turn<'_, T>
     ensures { turn_of result ≡ link_at separator item rest.now }
 {
     match rest {
-        [first, after @ ..] if first.kind == separator => Turn::More(item, after),
+        [first, after @ ..] if first.kind() == separator => Turn::More(item, after),
         _ => Turn::Last(item, rest),
     }
 }
 
 // An item before the closing token, or before a comma.
-pub fn closed<T: Drop>(item: T, close: TokenKind, rest: &[Token]) -> Result<Turn<'_, T>, Stop>
+pub fn closed<T: Drop>(item: T, close: TokenKind, rest: &[ShortToken]) -> Result<Turn<'_, T>, Stop>
     ensures { Gives turn_of result (closed_at close item rest.now) }
 {
     match rest {
-        [first, after @ ..] if first.kind == close => Ok(Turn::Last(item, after)),
-        [first, after @ ..] if first.kind == TokenKind::Comma => Ok(Turn::More(item, after)),
+        [first, after @ ..] if first.kind() == close => Ok(Turn::Last(item, after)),
+        [first, after @ ..] if first.kind() == TokenKind::Comma => Ok(Turn::More(item, after)),
         _ => Err(Stop::Mismatch),
     }
 }

@@ -8,19 +8,19 @@ use crate::front::{name, place, token};
 use crate::paths::path;
 use crate::stop::Stop;
 use crate::syntax::{AttrSyntax, TypeSyntax};
-use crate::turns::{Turn, closed};
+use crate::turns::{Turn, closed, push_item};
 use cedar_data::{Boxed, List, Loc};
 use schema_syntax_grammar::TokenKind;
-use schema_syntax_tokens::Token;
+use schema_syntax_tokens::ShortToken;
 use std::alloc::Global;
 
 // Whether no question mark stands here, and what is behind it.
 #[tactic(auto, unfolding(crate::specs::Reading::mark_at))]
-fn mark(tokens: &[Token]) -> (bool, &[Token])
+fn mark(tokens: &[ShortToken]) -> (bool, &[ShortToken])
     ensures { (result.0, result.1.now) ≡ mark_at tokens.now }
 {
     match tokens {
-        [first, rest @ ..] if first.kind == TokenKind::Question => (false, rest),
+        [first, rest @ ..] if first.kind() == TokenKind::Question => (false, rest),
         _ => (true, tokens),
     }
 }
@@ -31,15 +31,15 @@ fn mark(tokens: &[Token]) -> (bool, &[Token])
 fn set<'a>(
     alloc: Global,
     depth: usize,
-    tokens: &'a [Token],
-    first: &Token,
-    rest: &'a [Token],
-) -> Result<(TypeSyntax, &'a [Token]), Stop>
+    tokens: &'a [ShortToken],
+    first: &ShortToken,
+    rest: &'a [ShortToken],
+) -> Result<(TypeSyntax, &'a [ShortToken]), Stop>
     requires { tokens.now ≡ first.now ∷ rest.now }
     ensures { Gives (λ r. (r.0, r.1.now)) result (set_step (type_at depth) first.now rest.now) }
 {
     match rest {
-        [open, after @ ..] if open.kind == TokenKind::Less => {
+        [open, after @ ..] if open.kind() == TokenKind::Less => {
             let (element, after) = ty(alloc, depth, after)?;
             let (_, after) = token(after, TokenKind::Greater)?;
             let element = Boxed::new(alloc, element)?;
@@ -58,17 +58,17 @@ fn set<'a>(
 fn type_of_parts(
     alloc: Global,
     depth: usize,
-    tokens: &[Token],
-) -> Result<(TypeSyntax, &[Token]), Stop>
+    tokens: &[ShortToken],
+) -> Result<(TypeSyntax, &[ShortToken]), Stop>
     ensures { Gives (λ r. (r.0, r.1.now)) result (whole_type_step (type_at depth) (attrs_at depth) tokens.now) }
 {
     match tokens {
         [] => Err(Stop::Mismatch),
-        [first, rest @ ..] if first.kind == TokenKind::LBrace => {
+        [first, rest @ ..] if first.kind() == TokenKind::LBrace => {
             let (attrs, after) = attrs(alloc, depth, rest)?;
             Ok((TypeSyntax::Record(attrs, place(tokens, after)), after))
         }
-        [first, rest @ ..] if first.kind == TokenKind::KwSet => {
+        [first, rest @ ..] if first.kind() == TokenKind::KwSet => {
             set(alloc, depth, tokens, first, rest)
         }
         _ => {
@@ -80,7 +80,11 @@ fn type_of_parts(
 
 // A type, nested at most so deep.
 #[cycle(types)]
-fn ty(alloc: Global, depth: usize, tokens: &[Token]) -> Result<(TypeSyntax, &[Token]), Stop>
+fn ty(
+    alloc: Global,
+    depth: usize,
+    tokens: &[ShortToken],
+) -> Result<(TypeSyntax, &[ShortToken]), Stop>
     ensures { Gives (λ r. (r.0, r.1.now)) result (type_at depth tokens.now) }
 {
     if depth == 0 {
@@ -92,7 +96,11 @@ fn ty(alloc: Global, depth: usize, tokens: &[Token]) -> Result<(TypeSyntax, &[To
 // An attribute.
 #[tactic(auto, unfolding(crate::specs::Reading::attr_step))]
 #[cycle(types)]
-fn attr(alloc: Global, depth: usize, tokens: &[Token]) -> Result<(AttrSyntax, &[Token]), Stop>
+fn attr(
+    alloc: Global,
+    depth: usize,
+    tokens: &[ShortToken],
+) -> Result<(AttrSyntax, &[ShortToken]), Stop>
     ensures { Gives (λ r. (r.0, r.1.now)) result (attr_step (type_at depth) tokens.now) }
 {
     let (annotations, start) = annotations(alloc, tokens)?;
@@ -117,11 +125,15 @@ fn attr(alloc: Global, depth: usize, tokens: &[Token]) -> Result<(AttrSyntax, &[
 // One turn of the attributes: the closing brace, or an attribute before it or before a comma.
 #[tactic(auto, unfolding(crate::specs::Reading::separated_turn))]
 #[cycle(types)]
-fn attr_turn(alloc: Global, depth: usize, tokens: &[Token]) -> Result<Turn<'_, AttrSyntax>, Stop>
+fn attr_turn(
+    alloc: Global,
+    depth: usize,
+    tokens: &[ShortToken],
+) -> Result<Turn<'_, AttrSyntax>, Stop>
     ensures { Gives turn_of result (separated_turn RBrace (attr_step (type_at depth)) tokens.now) }
 {
     match tokens {
-        [first, rest @ ..] if first.kind == TokenKind::RBrace => Ok(Turn::Done(rest)),
+        [first, rest @ ..] if first.kind() == TokenKind::RBrace => Ok(Turn::Done(rest)),
         _ => {
             let (item, rest) = attr(alloc, depth, tokens)?;
             closed(item, TokenKind::RBrace, rest)
@@ -134,20 +146,20 @@ fn attr_turn(alloc: Global, depth: usize, tokens: &[Token]) -> Result<Turn<'_, A
 fn attrs(
     alloc: Global,
     depth: usize,
-    tokens: &[Token],
-) -> Result<(List<AttrSyntax>, &[Token]), Stop>
+    tokens: &[ShortToken],
+) -> Result<(List<AttrSyntax>, &[ShortToken]), Stop>
     ensures { Gives (λ r. (r.0, r.1.now)) result (attrs_at depth tokens.now) }
 {
-    let mut attrs = List::new(alloc);
+    let mut attrs = Vec::new(alloc);
     let mut rest = tokens;
     let mut left = depth;
     while left > 0 {
         left -= 1;
         match attr_turn(alloc, left, rest)? {
-            Turn::Done(after) => return Ok((attrs, after)),
+            Turn::Done(after) => return Ok((List::from_vec(attrs), after)),
             Turn::Last(attr, after) => {
-                attrs.push(attr)?;
-                return Ok((attrs, after));
+                push_item(&mut attrs, attr)?;
+                return Ok((List::from_vec(attrs), after));
             }
             Turn::More(attr, after) => {
                 attrs.push(attr)?;
@@ -159,7 +171,7 @@ fn attrs(
 }
 
 // A type, which other tokens follow.
-pub fn whole_type(alloc: Global, tokens: &[Token]) -> Result<(TypeSyntax, &[Token]), Stop>
+pub fn whole_type(alloc: Global, tokens: &[ShortToken]) -> Result<(TypeSyntax, &[ShortToken]), Stop>
     ensures { Gives (λ r. (r.0, r.1.now)) result (type_at (length tokens.now) tokens.now) }
 {
     ty(alloc, tokens.len(), tokens)
@@ -167,7 +179,10 @@ pub fn whole_type(alloc: Global, tokens: &[Token]) -> Result<(TypeSyntax, &[Toke
 
 // Attributes in braces, and the place of the braces.
 #[tactic(auto, unfolding(crate::specs::Reading::record_at))]
-pub fn braces(alloc: Global, tokens: &[Token]) -> Result<(List<AttrSyntax>, Loc, &[Token]), Stop>
+pub fn braces(
+    alloc: Global,
+    tokens: &[ShortToken],
+) -> Result<(List<AttrSyntax>, Loc, &[ShortToken]), Stop>
     ensures { Gives (λ r. ((r.0, r.1), r.2.now)) result (record_at tokens.now) }
 {
     let (_, rest) = token(tokens, TokenKind::LBrace)?;
@@ -180,16 +195,16 @@ pub fn braces(alloc: Global, tokens: &[Token]) -> Result<(List<AttrSyntax>, Loc,
 #[tactic(auto, unfolding(crate::specs::Reading::shape_at))]
 pub fn shape(
     alloc: Global,
-    tokens: &[Token],
-) -> Result<(Option<(List<AttrSyntax>, Loc)>, &[Token]), Stop>
+    tokens: &[ShortToken],
+) -> Result<(Option<(List<AttrSyntax>, Loc)>, &[ShortToken]), Stop>
     ensures { Gives (λ r. (r.0, r.1.now)) result (shape_at tokens.now) }
 {
     match tokens {
-        [first, after @ ..] if first.kind == TokenKind::Equals => {
+        [first, after @ ..] if first.kind() == TokenKind::Equals => {
             let (attrs, loc, rest) = braces(alloc, after)?;
             Ok((Some((attrs, loc)), rest))
         }
-        [first, ..] if first.kind == TokenKind::LBrace => {
+        [first, ..] if first.kind() == TokenKind::LBrace => {
             let (attrs, loc, rest) = braces(alloc, tokens)?;
             Ok((Some((attrs, loc)), rest))
         }
@@ -199,11 +214,14 @@ pub fn shape(
 
 // The type of the tags, where they are.
 #[tactic(auto, unfolding(crate::specs::Reading::tags_at))]
-pub fn tags(alloc: Global, tokens: &[Token]) -> Result<(Option<TypeSyntax>, &[Token]), Stop>
+pub fn tags(
+    alloc: Global,
+    tokens: &[ShortToken],
+) -> Result<(Option<TypeSyntax>, &[ShortToken]), Stop>
     ensures { Gives (λ r. (r.0, r.1.now)) result (tags_at tokens.now) }
 {
     match tokens {
-        [first, after @ ..] if first.kind == TokenKind::KwTags => {
+        [first, after @ ..] if first.kind() == TokenKind::KwTags => {
             let (ty, rest) = whole_type(alloc, after)?;
             Ok((Some(ty), rest))
         }

@@ -13,12 +13,13 @@ attrs-returns-in_err-after t c =
 
 pub attrs-returns-in-Done : goal.attrs-returns-in-Done
 attrs-returns-in-Done t c =
-    turn_done _ _ _ _ (rw (attrs_more c.loop-left.left c.loop-left.rest.now c.loop-left-test.true) at
-    c.loop-left.invariant.1) _ (rw c.in-Done.is at c.in_ok-after.ensures)
+    rw c.from_vec.ensures (turn_done _ _ _ _
+    (rw (attrs_more c.loop-left.left c.loop-left.rest.now c.loop-left-test.true) at
+    c.loop-left.invariant.1) _ (rw c.in-Done.is at c.in_ok-after.ensures))
 
 pub attrs-returns-in-Last : goal.attrs-returns-in-Last
 attrs-returns-in-Last t c =
-    rw c.in_ok-push-in-Last.ensures.ok
+    rw (c.from_vec-in-Last.ensures, c.in_ok-push_item-in-Last.ensures)
     (turn_last _ _ _ _ (rw (attrs_more c.loop-left.left c.loop-left.rest.now c.loop-left-test.true) at
     c.loop-left.invariant.1) _ _ (rw c.in-Last.is at c.in_ok-after.ensures))
 
@@ -26,7 +27,7 @@ pub attrs-loop-left-preserved : goal.attrs-loop-left-preserved
 attrs-loop-left-preserved t c =
     let step = turn_more _ _ _ _ (rw (attrs_more c.loop-left.left c.loop-left.rest.now c.loop-left-test.true) at
     c.loop-left.invariant.1) _ _ (rw c.in-More.is at c.in_ok-after.ensures) in
-    (omega (arith, c.loop-left.invariant.0), rw c.in_ok-push-in-More.ensures.ok step)
+    (omega (arith, c.loop-left.invariant.0), rw c.in_ok-push-in-More.ensures.items step)
 
 pub attrs-returns : goal.attrs-returns
 attrs-returns t c = attrs_none _ _ _ _ c.loop-left-test.false c.loop-left.invariant.1

@@ -23,7 +23,7 @@ decreases-type_of_parts l = 3 * l.depth + 2
 abbrev pub invariant-attrs-loop-left : goal.invariant-attrs-loop-left
 invariant-attrs-loop-left l =
     (l.left ≤ l.depth) ×
-    (with_items l.attrs (attrs_at l.left l.rest) ≡ attrs_at l.depth l.tokens)
+    (with_items l.attrs.items (attrs_at l.left l.rest) ≡ attrs_at l.depth l.tokens)
 
 abbrev pub decreases-attrs-loop-left : goal.decreases-attrs-loop-left
 decreases-attrs-loop-left l = l.left

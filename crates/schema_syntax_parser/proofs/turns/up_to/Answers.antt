@@ -1,7 +1,7 @@
 use Rattle.std.proofs.Common.{◌≡◌, ◌+◌, ◌-◌, arith}
 use Rattle.std.proofs.lemmas.Result.{err_from_is_err_and}
 use Rattle.schema_syntax_parser.proofs.Loops.{many_more, turn_fails, turn_done, turn_last, turn_more, turn_out}
-use Rattle.schema_syntax_parser.proofs.turns.all.Goals as goal
+use Rattle.schema_syntax_parser.proofs.turns.up_to.Goals as goal
 
 pub returns-in_err-after : goal.returns-in_err-after
 returns-in_err-after g c =
@@ -11,13 +11,12 @@ returns-in_err-after g c =
     c.in_err-after.field-0.0 c.in_err-after.ensures)
 
 pub returns-in-Done : goal.returns-in-Done
-returns-in-Done g c = rw c.from_vec.ensures
-    (turn_done _ _ _ _ (rw (many_more g.L.Turns.turns c.loop-items.left c.loop-items.rest.now) at
+returns-in-Done g c = (turn_done _ _ _ _ (rw (many_more g.L.Turns.turns c.loop-items.left c.loop-items.rest.now) at
     c.loop-items.invariant) _ (rw c.in-Done.is at c.in_ok-after.ensures))
 
 pub returns-in-Last : goal.returns-in-Last
 returns-in-Last g c =
-    rw (c.from_vec-in-Last.ensures, c.in_ok-push_item-in-Last.ensures)
+    rw c.in_ok-push_item-in-Last.ensures
     (turn_last _ _ _ _ (rw (many_more g.L.Turns.turns c.loop-items.left c.loop-items.rest.now) at
     c.loop-items.invariant) _ _ (rw c.in-Last.is at c.in_ok-after.ensures))
 
