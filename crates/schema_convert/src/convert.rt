@@ -19,7 +19,7 @@ use schema_convert_errors::{
 use schema_convert_types::fragment_of;
 use schema_json::Fragment;
 use schema_syntax::{ParseSchemaError, parse_tokens, refused, sentence_of, stopped};
-use schema_syntax_tokens::Token;
+use schema_syntax_tokens::ShortToken;
 use schema_syntax_tree::Schema;
 use std::alloc::Global;
 
@@ -58,7 +58,7 @@ fn syntax_errors(error: ParseSchemaError) -> CedarSchemaParseErrors
 fn through_tree(
     alloc: Global,
     src: &str,
-    tokens: Vec<Token>,
+    tokens: Vec<ShortToken>,
     table: &ExtensionTable,
 ) -> Result<(Fragment<RawName>, Vec<SchemaWarning>), CedarSchemaParseErrors>
     requires scans { Scans src.now tokens.items (length src.now) }

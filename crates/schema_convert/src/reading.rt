@@ -14,7 +14,7 @@ use cedar_names::ExtensionTable;
 use schema_json::Fragment;
 use schema_syntax_parser::next_item;
 use schema_syntax_reader::{Stopped, item};
-use schema_syntax_tokens::Token;
+use schema_syntax_tokens::ShortToken;
 use std::alloc::Global;
 
 /// The fragment that a text of these tokens stands for, where it has neither faults nor warnings and opens no namespace
@@ -22,7 +22,7 @@ use std::alloc::Global;
 pub fn fragment_at_once(
     alloc: Global,
     text: &str,
-    tokens: &[Token],
+    tokens: &[ShortToken],
     table: &ExtensionTable,
 ) -> Result<Option<Fragment<RawName>>, Stopped>
     requires scans { Scans text.now tokens.now (length text.now) }

@@ -12,7 +12,7 @@ ghost use Rattle.schema_syntax.specs.ParseAnswers.{AreTokensOf, IsTreeOfText, Is
 use crate::syntax_fault::{Refused, SyntaxFault, sentence_of};
 use schema_syntax_errors::{ParseError, ParseErrors, ParseSchemaError};
 use schema_syntax_reader::{Stopped, tree_of_tokens};
-use schema_syntax_tokens::Token;
+use schema_syntax_tokens::ShortToken;
 use schema_syntax_tree::Schema;
 use std::alloc::Global;
 
@@ -68,7 +68,7 @@ pub fn stopped(alloc: Global, why: Stopped) -> ParseSchemaError
 pub fn parse_tokens<'a>(
     alloc: Global,
     text: &'a str,
-    tokens: Vec<Token>,
+    tokens: Vec<ShortToken>,
 ) -> Result<Schema<'a>, ParseSchemaError>
     requires scans { Scans text.now tokens.items (length text.now) }
     requires placed { All (IsPlaced text.now) tokens.items }

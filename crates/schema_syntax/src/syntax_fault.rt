@@ -7,7 +7,7 @@ ghost use Rattle.schema_syntax_tokens.specs.TokenLists.{kinds_of};
 
 use cedar_data::Text;
 use schema_syntax_grammar::{Fault, TokenKind, fault_of};
-use schema_syntax_tokens::{Scanned, Token, scan, token_text};
+use schema_syntax_tokens::{ShortScan, ShortToken, scan_short, token_text};
 use std::alloc::{AllocError, Global};
 
 /// Why a text is no schema by its tokens and its grammar. Each place is a byte offset.
@@ -23,17 +23,17 @@ pub enum SyntaxFault {
 }
 
 // The kinds of the tokens.
-fn kinds(alloc: Global, tokens: &[Token]) -> Result<Vec<TokenKind>, AllocError>
+fn kinds(alloc: Global, tokens: &[ShortToken]) -> Result<Vec<TokenKind>, AllocError>
     ensures { IfOk result (λ kinds. kinds.items ≡ kinds_of tokens.now) }
 {
-    tokens.iter().map(|token| token.kind).collect(alloc)
+    tokens.iter().map(|token| token.kind()).collect(alloc)
 }
 
 // The fault that the token at the place is.
 fn unrecognized_token(
     alloc: Global,
     text: &str,
-    tokens: &[Token],
+    tokens: &[ShortToken],
     place: usize,
     expected: Vec<TokenKind>,
 ) -> Result<SyntaxFault, AllocError>
@@ -44,18 +44,18 @@ fn unrecognized_token(
     let token = &tokens[place];
     let part = token_text(token, text).unwrap();
     let part = Text::from_str(alloc, part)?;
-    let loc = token.loc;
+    let loc = token.loc();
     let expected = cedar_data::List::from_vec(expected);
     Ok(SyntaxFault::UnrecognizedToken(loc.start, part, loc.end, expected))
 }
 
 // The fault that the end of the tokens is.
-fn unrecognized_eof(tokens: &[Token], expected: Vec<TokenKind>) -> SyntaxFault
+fn unrecognized_eof(tokens: &[ShortToken], expected: Vec<TokenKind>) -> SyntaxFault
     requires { 0 < length tokens.now }
     ensures { IsEndOf tokens.now expected.items result }
 {
     let last = &tokens[tokens.len() - 1];
-    let loc = last.loc;
+    let loc = last.loc();
     SyntaxFault::UnrecognizedEof(loc.end, cedar_data::List::from_vec(expected))
 }
 
@@ -79,13 +79,13 @@ impl From<AllocError> for Refused {
 }
 
 /// The tokens of the text, where they reach its end and are those of a schema.
-pub fn sentence_of(alloc: Global, text: &str) -> Result<Vec<Token>, Refused>
+pub fn sentence_of(alloc: Global, text: &str) -> Result<Vec<ShortToken>, Refused>
     ensures scans { IfOk result (λ tokens. Scans text.now tokens.items (length text.now)) }
     ensures placed { IfOk result (λ tokens. All (IsPlaced text.now) tokens.items) }
     ensures sentence { IfOk result (λ tokens. Sentence (kinds_of tokens.items)) }
     ensures fault { IfErr result (IsSyntaxRefusal text.now) }
 {
-    let Scanned { tokens, at } = scan(alloc, text)?;
+    let ShortScan { tokens, at } = scan_short(alloc, text)?;
     let kinds = kinds(alloc, &tokens)?;
     match fault_of(alloc, &kinds)? {
         None => {

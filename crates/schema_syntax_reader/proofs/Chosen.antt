@@ -1,7 +1,7 @@
 -- Lists that have to have an item.
-use Rattle.std.proofs.Common.{◌≡◌, ◌<◌, ℕ, List, [], ◌∷◌, length, refl, sym, subst, arith}
+use Rattle.std.proofs.Common.{◌≡◌, ◌<◌, ℕ, List, [], ◌∷◌, length, refl, sym, ap, ◌∙◌, subst, arith}
 use Rattle.std.proofs.Common.{true, false, nat_eq, true≢false, Some, None}
-use Rattle.std.specs.List.{flat_map}
+use Rattle.std.specs.List.{AllZip, flat_map}
 use Rattle.std.proofs.lemmas.Bool.{eqb-true}
 use Rattle.cedar_data.specs.Span.{Span}
 use Rattle.schema_syntax_tokens.specs.declared.token.Token.{Token}
@@ -9,7 +9,9 @@ use Rattle.schema_syntax_parser.specs.declared.syntax.AppSyntax.{AppSyntax}
 use Rattle.schema_syntax_reader.specs.declared.stopped.Stopped.{Stopped}
 use Rattle.schema_syntax_reader.specs.Sites.{empty, names_sites, choices_sites, app_sites, apps_sites}
 use Rattle.schema_syntax_reader.specs.Stops.{IsStopped, IsStoppedAt}
-use Rattle.schema_syntax_reader.specs.Trees.{IsOptional}
+use Rattle.schema_syntax_tree.specs.declared.path.Path.{Path}
+use Rattle.schema_syntax_tokens.specs.TokenLists.{whole_place}
+use Rattle.schema_syntax_reader.specs.Trees.{IsId, IsOptional, IsTypeOfRef}
 use Rattle.schema_syntax_reader.proofs.Readings.{Faultless, stopped_at}
 
 -- whether a list has an item
@@ -31,6 +33,14 @@ pub optional_some : {A B : Type 0} (source : List ℕ) (Is : List A → List B �
     → 0 < length xs → Is xs ys → IsOptional source Is xs (Some ys)
 optional_some source Is [] ys h is = absurd (omega (arith, h))
 optional_some source Is (x ∷ xs) ys h is = is
+
+-- the path of a reference's type
+pub named_type : (source : List ℕ) (names : List Token) (t : Token) (ts : List Token) (path : Path) {loc : Span}
+    → names ≡ t ∷ ts → AllZip (IsId source) names path.ids → path.loc ≡ Some loc → loc ≡ whole_place (t ∷ ts)
+    → IsTypeOfRef source names (Some path)
+named_type source names t ts path parts ids placed at =
+    subst (λ l. IsTypeOfRef source l (Some path)) (sym parts)
+    (subst (λ l. AllZip (IsId source) l path.ids) parts ids, placed ∙ ap (λ l. Some l) at)
 
 module _ (source : List ℕ) where
   pub choices_empty : (choices : List Token) (brackets : Span) (e : Stopped) → choices ≡ []

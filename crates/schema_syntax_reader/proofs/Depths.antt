@@ -1,5 +1,5 @@
 -- How deep types are.
-use Rattle.std.proofs.Common.{◌≡◌, ◌<◌, ◌≤◌, ◌+◌, ℕ, List, [], ◌∷◌, length, map, get_or, sym, ap, ◌∙◌, subst, arith}
+use Rattle.std.proofs.Common.{◌≡◌, ◌<◌, ◌≤◌, ◌+◌, ℕ, List, [], ◌∷◌, ◌++◌, map, sym, ap, ◌∙◌, subst, arith}
 use Rattle.std.proofs.Common.{zero, suc}
 use Rattle.cedar_data.specs.Span.{Span}
 use Rattle.schema_syntax_parser.specs.declared.syntax.TypeSyntax.{TypeSyntax}
@@ -45,12 +45,10 @@ pub attr_deep_as : (a : AttrSyntax) → attr_depth a ≡ type_depth (out-AttrSyn
 attr_deep_as a = fold_out-AttrSyntax ℕ ℕ type_deep attr_deep a
 
 -- an attribute is no deeper than all together
-pub among_attrs : (attrs : List AttrSyntax) (i : ℕ) (a : AttrSyntax) → i < length attrs → a ≡ get_or attrs i a
-    → attr_depth a ≤ attrs_depth attrs
-among_attrs attrs i a lt at = subst (λ x. attr_depth x ≤ attrs_depth attrs) (sym at) (below attrs i lt)
+pub among_attrs : (attrs done : List AttrSyntax) (a : AttrSyntax) (others : List AttrSyntax)
+    → attrs ≡ done ++ a ∷ others → attr_depth a ≤ attrs_depth attrs
+among_attrs attrs done a others split = subst (λ xs. attr_depth a ≤ attrs_depth xs) (sym split) (below done)
   where
-    below : (xs : List AttrSyntax) (k : ℕ) → k < length xs → attr_depth (get_or xs k a) ≤ attrs_depth xs
-    below [] k h = absurd (omega (arith, h))
-    below (x ∷ xs) zero h = omega arith
-    below (x ∷ xs) (suc k) h =
-        let more : attr_depth (get_or xs k a) ≤ attrs_depth xs = below xs k (omega (arith, h)) in omega (arith, more)
+    below : (front : List AttrSyntax) → attr_depth a ≤ attrs_depth (front ++ a ∷ others)
+    below [] = omega arith
+    below (x ∷ front) = let more : attr_depth a ≤ attrs_depth (front ++ a ∷ others) = below front in omega (arith, more)

@@ -1,5 +1,7 @@
 -- Items of tokens that are read one after another.
-use Rattle.std.proofs.Common.{◌≡◌, ℕ, List, [], ◌∷◌, ◌++◌, refl, sym, ap, ◌∙◌, subst, append_assoc, append-nil}
+use Rattle.std.proofs.Common.{◌≡◌, ℕ, ◌+◌, List, [], ◌∷◌, ◌++◌, length, take, drop, refl, sym, ap, ◌∙◌, subst}
+use Rattle.std.proofs.Common.{append_assoc, append-nil, arith}
+use Rattle.std.proofs.lemmas.List.{take-append-drop, length-append, drop_at}
 use Rattle.std.specs.List.{All, AllZip}
 use Rattle.std.proofs.lemmas.List.Elements.{All-nil, All-head, All-append}
 use Rattle.std.proofs.lemmas.Grind.{flat_map-append}
@@ -123,3 +125,14 @@ module _ (source : List ℕ) (tokens : List Token) where
         lawful = all_lawful source so_far.done so_far.lawful;
         tree = subst (AllZip (IsItemOf source) so_far.done) (sym same) so_far.each;
       }
+
+-- what stands behind a first item, among all the tokens that are kept
+pub kept_after : (kept : List Token) (at : ℕ) (rest : List Token) (item : ItemSyntax) (after : List Token)
+    → rest ≡ drop at kept → IsFirstItem rest item after → (behind : ℕ) → behind + length after ≡ length kept
+    → drop behind kept ≡ after
+kept_after kept at rest item after from first behind sum =
+    let whole : kept ≡ (take at kept ++ first.front) ++ after = sym (take-append-drop at kept)
+    ∙ (ap (λ l. take at kept ++ l) (sym from ∙ first.split) ∙ sym (append_assoc (take at kept) first.front after)) in
+    let size = ap length whole ∙ length-append (take at kept ++ first.front) after in
+    ap (λ l. drop behind l) whole
+    ∙ drop_at (take at kept ++ first.front) after behind (omega (arith, sum, size))

@@ -15,6 +15,7 @@ use Rattle.schema_syntax_reader.specs.Sites.{Site}
 use Rattle.schema_syntax_reader.specs.Placed.{NoSiteFault}
 use Rattle.schema_syntax_reader.specs.Stops.{IsStopped, IsStoppedAt}
 use Rattle.schema_syntax_reader.specs.Readings.{Reads}
+use Rattle.schema_syntax_reader.proofs.Rising.{all_both}
 
 module _ (source : List ℕ) where
   abbrev pub Faultless : List Site → Type 0
@@ -81,52 +82,61 @@ module _ (source : List ℕ) where
     pub stops_right : (a b : List Site) → Faultless a → IsStopped source b e → Reads source (a ++ b) Is r
     stops_right a b all h = stops (a ++ b) (stopped_right a b e all h)
 
-  -- a list, of which so many parts are read
+  -- a list, of which these parts are still to be read
   module _ {R A : Type 0} (sites : R → List Site) (Is : R → A → Type 0) (raws : List R) where
-    pub record ReadTo (i : ℕ) (items : List A) : Type 0 where
-      pub each : AllZip Is (take i raws) items
-      pub lawful : Faultless (flat_map sites (take i raws))
+    pub record ReadTo (rest : List R) (items : List A) : Type 0 where
+      pub done : List R
+      pub split : raws ≡ done ++ rest
+      pub each : AllZip Is done items
+      pub lawful : Faultless (flat_map sites done)
 
     flat_joined : (xs ys : List R) → flat_map sites (xs ++ ys) ≡ flat_map sites xs ++ flat_map sites ys
     flat_joined [] ys = refl
     flat_joined (x ∷ xs) ys = ap (λ l. sites x ++ l) (flat_joined xs ys)
         ∙ sym (append_assoc (sites x) (flat_map sites xs) (flat_map sites ys))
 
-    pub none_read : (items : List A) → items ≡ [] → ReadTo 0 items
-    none_read items none = subst (ReadTo 0) (sym none) (record { each = tt; lawful = All-nil (NoSiteFault source) })
+    pub none_read : (rest : List R) (items : List A) → rest ≡ raws → items ≡ [] → ReadTo rest items
+    none_read rest items whole none = record {
+      done = [];
+      split = sym whole;
+      each = subst (AllZip Is []) (sym none) tt;
+      lawful = All-nil (NoSiteFault source);
+    }
 
-    module _ (i : ℕ) (r : R) (lt : i < length raws) (at : r ≡ get_or raws i r) where
-      taken : take (i + 1) raws ≡ take i raws ++ r ∷ []
-      taken = take_more raws i r lt ∙ ap (λ x. take i raws ++ x ∷ []) (sym at)
+    module _ (rest : List R) (r : R) (others : List R) (next : rest ≡ r ∷ others) (items : List A)
+        (so_far : ReadTo rest items) where
+      pub next_part : raws ≡ so_far.done ++ r ∷ others
+      next_part = so_far.split ∙ ap (λ l. so_far.done ++ l) next
 
-      pub one_more_read : (items items' : List A) (x : A) → ReadTo i items → Is r x → Faultless (sites r)
-          → items' ≡ items ++ x ∷ [] → ReadTo (i + 1) items'
-      one_more_read items items' x so_far is all into = record {
-        each = subst (λ l. AllZip Is l items') (sym taken)
-            (subst (AllZip Is (take i raws ++ r ∷ [])) (sym into)
-            (all_zipped_more Is (take i raws) items r x so_far.each is));
-        lawful = subst (λ l. Faultless (flat_map sites l)) (sym taken)
-            (subst Faultless (sym (flat_joined (take i raws) (r ∷ [])))
-            (All-append (NoSiteFault source) (flat_map sites (take i raws)) (sites r ++ []) so_far.lawful
-            (subst Faultless (sym (append-nil (sites r))) all)));
+      pub next_fits : (P : R → Type 0) → All P raws → P r
+      next_fits P all =
+          All-head P r others (all_both P so_far.done (r ∷ others) (subst (All P) next_part all)).1
+
+      pub one_more_read : (items' : List A) (x : A) → Is r x → Faultless (sites r) → items' ≡ items ++ x ∷ []
+          → ReadTo others items'
+      one_more_read items' x is all into = record {
+        done = so_far.done ++ r ∷ [];
+        split = next_part ∙ sym (append_assoc so_far.done (r ∷ []) others);
+        each = subst (AllZip Is (so_far.done ++ r ∷ [])) (sym into)
+            (all_zipped_more Is so_far.done items r x so_far.each is);
+        lawful = subst Faultless (sym (flat_joined so_far.done (r ∷ [])))
+            (All-append (NoSiteFault source) (flat_map sites so_far.done) (sites r ++ []) so_far.lawful
+            (subst Faultless (sym (append-nil (sites r))) all));
       }
 
-      pub stopped_at_part : (items : List A) (e : Stopped) → ReadTo i items → IsStopped source (sites r) e
-          → IsStopped source (flat_map sites raws) e
-      stopped_at_part items e so_far h =
-          let split : raws ≡ take i raws ++ r ∷ drop (i + 1) raws = sym (take-append-drop i raws)
-          ∙ ap (λ l. take i raws ++ l) (drop_more raws i r lt ∙ ap (λ x. x ∷ drop (i + 1) raws) (sym at)) in
+      pub stopped_at_part : (e : Stopped) → IsStopped source (sites r) e → IsStopped source (flat_map sites raws) e
+      stopped_at_part e h =
           subst (λ l. IsStopped source l e)
-          (sym (ap (flat_map sites) split ∙ flat_joined (take i raws) (r ∷ drop (i + 1) raws)))
-          (stopped_right (flat_map sites (take i raws)) (sites r ++ flat_map sites (drop (i + 1) raws)) e so_far.lawful
-          (stopped_left (sites r) (flat_map sites (drop (i + 1) raws)) e h))
+          (sym (ap (flat_map sites) next_part ∙ flat_joined so_far.done (r ∷ others)))
+          (stopped_right (flat_map sites so_far.done) (sites r ++ flat_map sites others) e so_far.lawful
+          (stopped_left (sites r) (flat_map sites others) e h))
 
-    pub all_read : (i : ℕ) (items : List A) → length raws ≤ i → ReadTo i items
+    pub all_read : (rest : List R) (items : List A) → rest ≡ [] → ReadTo rest items
         → AllZip Is raws items × Faultless (flat_map sites raws)
-    all_read i items over so_far =
-        let whole : take i raws ≡ raws = take_all i raws over in (
-          subst (λ l. AllZip Is l items) whole so_far.each,
-          subst (λ l. Faultless (flat_map sites l)) whole so_far.lawful,
+    all_read rest items none so_far =
+        let whole : raws ≡ so_far.done = so_far.split ∙ (ap (λ l. so_far.done ++ l) none ∙ append-nil so_far.done) in (
+          subst (λ l. AllZip Is l items) (sym whole) so_far.each,
+          subst (λ l. Faultless (flat_map sites l)) (sym whole) so_far.lawful,
         )
 
   -- a list with a first part
@@ -154,22 +164,3 @@ pub first_fits : {R : Type 0} (P : R → Type 0) (raws : List R) (r : R) (others
     → All P raws → P r × All P others
 first_fits P raws r others split all =
     let same = subst (All P) split all in (All-head P r others same, All-tail P r others same)
-
--- of a part there is an item
-pub some_items : {R A : Type 0} (Is : R → A → Type 0) (raws : List R) (items : List A) → 0 < length raws
-    → AllZip Is raws items → 0 < length items
-some_items Is [] items some h = absurd (omega (arith, some))
-some_items Is (r ∷ raws) [] some h = absurd h
-some_items Is (r ∷ raws) (x ∷ items) some h = omega arith
-
--- one of items that are all so
-pub one_placed : {R : Type 0} (P : R → Type 0) (raws : List R) (i : ℕ) (r : R) → i < length raws
-    → r ≡ get_or raws i r → All P raws → P r
-one_placed P raws i r lt at all = subst P (sym at) (all i r lt)
-
--- a list of one item
-pub only_one : {R : Type 0} (raws : List R) (r : R) → 1 ≤ length raws → length raws < 2 → r ≡ get_or raws 0 r
-    → raws ≡ r ∷ []
-only_one [] r some few at = absurd (omega (arith, some))
-only_one (x ∷ []) r some few at = ap (λ y. y ∷ []) (sym at)
-only_one (x ∷ y ∷ raws) r some few at = absurd (omega (arith, few))

@@ -11,9 +11,9 @@ use crate::parts::{all, optional, some};
 use crate::paths::{Paths, References};
 use crate::stopped::Stopped;
 use crate::types::{shape, tags, ty};
-use cedar_data::{Boxed, List, Loc};
+use cedar_data::{Boxed, List, Loc, NonEmpty};
 use schema_syntax_parser::{AppSyntax, AttrSyntax, DeclSyntax, PathSyntax, TypeSyntax};
-use schema_syntax_tokens::Token;
+use schema_syntax_tokens::ShortToken;
 use schema_syntax_tree::{
     ActionDecl, Declaration, DefinedActionDecl, EntityDecl, EnumEntityDecl, ExternalActionDecl,
     ExternalEntityDecl, StandardEntityDecl, TypeDecl,
@@ -24,13 +24,13 @@ use std::alloc::Global;
 fn entity<'a>(
     alloc: Global,
     text: &'a str,
-    names: &[Token],
-    parents: &[PathSyntax],
-    shape_raw: &Option<(List<AttrSyntax>, Loc)>,
-    tags_raw: &Option<TypeSyntax>,
+    names: NonEmpty<ShortToken>,
+    parents: List<PathSyntax>,
+    shape_raw: Option<(List<AttrSyntax>, Loc)>,
+    tags_raw: Option<TypeSyntax>,
 ) -> Result<Declaration<'a>, Stopped>
-    requires { IsScanned IsDecl text.now (syntax.Entity names.now parents.now shape_raw.now tags_raw.now) }
-    ensures { let raw = syntax.Entity names.now parents.now shape_raw.now tags_raw.now in Reads text.now (decl_sites raw) (IsDeclOf text.now raw) result }
+    requires { IsScanned IsDecl text.now (syntax.Entity names parents shape_raw tags_raw) }
+    ensures { let raw = syntax.Entity names parents shape_raw tags_raw in Reads text.now (decl_sites raw) (IsDeclOf text.now raw) result }
 {
     let names = some::<Ids>(alloc, text, names)?;
     let parents = all::<Paths>(alloc, text, parents)?;
@@ -48,17 +48,17 @@ fn entity<'a>(
 fn listed<'a>(
     alloc: Global,
     text: &'a str,
-    names: &[Token],
-    choices: &[Token],
-    brackets: &Loc,
+    names: NonEmpty<ShortToken>,
+    choices: List<ShortToken>,
+    brackets: Loc,
 ) -> Result<Declaration<'a>, Stopped>
-    requires { IsScanned IsDecl text.now (syntax.Enum names.now choices.now brackets.now) }
-    ensures { let raw = syntax.Enum names.now choices.now brackets.now in Reads text.now (decl_sites raw) (IsDeclOf text.now raw) result }
+    requires { IsScanned IsDecl text.now (syntax.Enum names choices brackets) }
+    ensures { let raw = syntax.Enum names choices brackets in Reads text.now (decl_sites raw) (IsDeclOf text.now raw) result }
 {
     let names = some::<Ids>(alloc, text, names)?;
-    if choices.is_empty() {
+    let Some(choices) = NonEmpty::from_vec(choices.into_vec()) else {
         return Err(empty_list(brackets));
-    }
+    };
     let choices = some::<Choices>(alloc, text, choices)?;
     Ok(Declaration::Entity(EntityDecl::Enum(EnumEntityDecl { names, choices })))
 }
@@ -67,11 +67,11 @@ fn listed<'a>(
 fn external_entity<'a>(
     alloc: Global,
     text: &'a str,
-    names: &[Token],
-    parents: &[PathSyntax],
+    names: NonEmpty<ShortToken>,
+    parents: List<PathSyntax>,
 ) -> Result<Declaration<'a>, Stopped>
-    requires { IsScanned IsDecl text.now (syntax.ExternalEntity names.now parents.now) }
-    ensures { let raw = syntax.ExternalEntity names.now parents.now in Reads text.now (decl_sites raw) (IsDeclOf text.now raw) result }
+    requires { IsScanned IsDecl text.now (syntax.ExternalEntity names parents) }
+    ensures { let raw = syntax.ExternalEntity names parents in Reads text.now (decl_sites raw) (IsDeclOf text.now raw) result }
 {
     let names = some::<Ids>(alloc, text, names)?;
     let parents = all::<Paths>(alloc, text, parents)?;
@@ -85,12 +85,12 @@ fn external_entity<'a>(
 fn action<'a>(
     alloc: Global,
     text: &'a str,
-    names: &[Token],
-    parents: &[PathSyntax],
-    applies_raw: &Option<(List<AppSyntax>, Loc)>,
+    names: NonEmpty<ShortToken>,
+    parents: List<PathSyntax>,
+    applies_raw: Option<(List<AppSyntax>, Loc)>,
 ) -> Result<Declaration<'a>, Stopped>
-    requires { IsScanned IsDecl text.now (syntax.Action names.now parents.now applies_raw.now) }
-    ensures { let raw = syntax.Action names.now parents.now applies_raw.now in Reads text.now (decl_sites raw) (IsDeclOf text.now raw) result }
+    requires { IsScanned IsDecl text.now (syntax.Action names parents applies_raw) }
+    ensures { let raw = syntax.Action names parents applies_raw in Reads text.now (decl_sites raw) (IsDeclOf text.now raw) result }
 {
     let names = some::<Names>(alloc, text, names)?;
     let parents = optional::<References>(alloc, text, parents)?;
@@ -108,11 +108,11 @@ fn action<'a>(
 fn external_action<'a>(
     alloc: Global,
     text: &'a str,
-    names: &[Token],
-    parents: &[PathSyntax],
+    names: NonEmpty<ShortToken>,
+    parents: List<PathSyntax>,
 ) -> Result<Declaration<'a>, Stopped>
-    requires { IsScanned IsDecl text.now (syntax.ExternalAction names.now parents.now) }
-    ensures { let raw = syntax.ExternalAction names.now parents.now in Reads text.now (decl_sites raw) (IsDeclOf text.now raw) result }
+    requires { IsScanned IsDecl text.now (syntax.ExternalAction names parents) }
+    ensures { let raw = syntax.ExternalAction names parents in Reads text.now (decl_sites raw) (IsDeclOf text.now raw) result }
 {
     let names = some::<Names>(alloc, text, names)?;
     let parents = optional::<References>(alloc, text, parents)?;
@@ -125,21 +125,21 @@ fn external_action<'a>(
 fn common<'a>(
     alloc: Global,
     text: &'a str,
-    name: &Token,
-    raw: &TypeSyntax,
+    name: ShortToken,
+    raw: TypeSyntax,
 ) -> Result<Declaration<'a>, Stopped>
-    requires { IsScanned IsDecl text.now (syntax.Common name.now raw.now) }
-    ensures { Reads text.now (decl_sites (syntax.Common name.now raw.now)) (IsDeclOf text.now (syntax.Common name.now raw.now)) result }
+    requires { IsScanned IsDecl text.now (syntax.Common name raw) }
+    ensures { Reads text.now (decl_sites (syntax.Common name raw)) (IsDeclOf text.now (syntax.Common name raw)) result }
 {
-    let name = id_node(alloc, text, name)?;
+    let name = id_node(alloc, text, &name)?;
     let def = ty(alloc, text, raw)?;
     Ok(Declaration::Common(TypeDecl { name, def }))
 }
 
 // A declaration without its annotations.
-pub fn decl<'a>(alloc: Global, text: &'a str, raw: &DeclSyntax) -> Result<Declaration<'a>, Stopped>
-    requires { IsScanned IsDecl text.now raw.now }
-    ensures { Reads text.now (decl_sites raw.now) (IsDeclOf text.now raw.now) result }
+pub fn decl<'a>(alloc: Global, text: &'a str, raw: DeclSyntax) -> Result<Declaration<'a>, Stopped>
+    requires { IsScanned IsDecl text.now raw }
+    ensures { Reads text.now (decl_sites raw) (IsDeclOf text.now raw) result }
 {
     match raw {
         DeclSyntax::Entity {
@@ -147,29 +147,22 @@ pub fn decl<'a>(alloc: Global, text: &'a str, raw: &DeclSyntax) -> Result<Declar
             parents,
             shape,
             tags,
-        } => entity(
-            alloc,
-            text,
-            names.as_slice(),
-            parents.as_slice(),
-            shape,
-            tags,
-        ),
+        } => entity(alloc, text, names, parents, shape, tags),
         DeclSyntax::Enum {
             names,
             choices,
             brackets,
-        } => listed(alloc, text, names.as_slice(), choices.as_slice(), brackets),
+        } => listed(alloc, text, names, choices, brackets),
         DeclSyntax::ExternalEntity { names, parents } => {
-            external_entity(alloc, text, names.as_slice(), parents.as_slice())
+            external_entity(alloc, text, names, parents)
         }
         DeclSyntax::Action {
             names,
             parents,
             applies,
-        } => action(alloc, text, names.as_slice(), parents.as_slice(), applies),
+        } => action(alloc, text, names, parents, applies),
         DeclSyntax::ExternalAction { names, parents } => {
-            external_action(alloc, text, names.as_slice(), parents.as_slice())
+            external_action(alloc, text, names, parents)
         }
         DeclSyntax::Common { name, ty } => common(alloc, text, name, ty),
     }

@@ -19,16 +19,17 @@ use std::alloc::Global;
 fn declared<'a>(
     alloc: Global,
     text: &'a str,
-    raw: &DeclaredSyntax,
+    raw: DeclaredSyntax,
 ) -> Result<Annotated<'a, Node<Declaration<'a>>>, Stopped>
-    requires { IsScanned IsDeclared text.now raw.now }
-    ensures { Reads text.now (declared_sites raw.now) (IsDeclaredOf text.now raw.now) result }
+    requires { IsScanned IsDeclared text.now raw }
+    ensures { Reads text.now (declared_sites raw) (IsDeclaredOf text.now raw) result }
 {
-    let annotations = notes(alloc, text, raw.annotations.as_slice())?;
-    let node = decl(alloc, text, &raw.decl)?;
+    let (annotations, raw_decl, loc) = raw.into_parts();
+    let annotations = notes(alloc, text, annotations.as_slice())?;
+    let node = decl(alloc, text, raw_decl)?;
     let item = Node {
         node,
-        loc: Some(raw.loc),
+        loc: Some(loc),
     };
     Ok(Annotated { item, annotations })
 }
@@ -50,7 +51,7 @@ impl<'a> Part<'a> for Decls {
     fn read(
         alloc: Global,
         text: &'a str,
-        raw: &DeclaredSyntax,
+        raw: DeclaredSyntax,
     ) -> Result<Annotated<'a, Node<Declaration<'a>>>, Stopped> {
         declared(alloc, text, raw)
     }
@@ -60,21 +61,21 @@ impl<'a> Part<'a> for Decls {
 fn namespace<'a>(
     alloc: Global,
     text: &'a str,
-    list: &[AnnotationSyntax],
-    name: &PathSyntax,
-    decls: &[DeclaredSyntax],
-    loc: &Loc,
+    list: List<AnnotationSyntax>,
+    name: PathSyntax,
+    decls: List<DeclaredSyntax>,
+    loc: Loc,
 ) -> Result<Annotated<'a, Namespace<'a>>, Stopped>
-    requires { IsScanned IsItem text.now (syntax.Namespace list.now name.now decls.now loc.now) }
-    ensures { let raw = syntax.Namespace list.now name.now decls.now loc.now in Reads text.now (item_sites raw) (IsItemOf text.now raw) result }
+    requires { IsScanned IsItem text.now (syntax.Namespace list name decls loc) }
+    ensures { let raw = syntax.Namespace list name decls loc in Reads text.now (item_sites raw) (IsItemOf text.now raw) result }
 {
-    let annotations = notes(alloc, text, list)?;
+    let annotations = notes(alloc, text, list.as_slice())?;
     let name = path(alloc, text, name)?;
     let decls = all::<Decls>(alloc, text, decls)?;
     let item = Namespace {
         name: Some(Boxed::new(alloc, name)?),
         decls: List::from_vec(decls),
-        loc: Some(*loc),
+        loc: Some(loc),
     };
     Ok(Annotated { item, annotations })
 }
@@ -83,10 +84,10 @@ fn namespace<'a>(
 fn outside<'a>(
     alloc: Global,
     text: &'a str,
-    raw: &DeclaredSyntax,
+    raw: DeclaredSyntax,
 ) -> Result<Annotated<'a, Namespace<'a>>, Stopped>
-    requires { IsScanned IsItem text.now (syntax.Decl raw.now) }
-    ensures { Reads text.now (item_sites (syntax.Decl raw.now)) (IsItemOf text.now (syntax.Decl raw.now)) result }
+    requires { IsScanned IsItem text.now (syntax.Decl raw) }
+    ensures { Reads text.now (item_sites (syntax.Decl raw)) (IsItemOf text.now (syntax.Decl raw)) result }
 {
     let decl = declared(alloc, text, raw)?;
     let mut decls = Vec::with_capacity(alloc, 1)?;
@@ -100,24 +101,7 @@ fn outside<'a>(
     Ok(Annotated { item, annotations })
 }
 
-// An item.
-fn read_item<'a>(
-    alloc: Global,
-    text: &'a str,
-    raw: &ItemSyntax,
-) -> Result<Annotated<'a, Namespace<'a>>, Stopped>
-    requires { IsScanned IsItem text.now raw.now }
-    ensures { Reads text.now (item_sites raw.now) (IsItemOf text.now raw.now) result }
-{
-    match raw {
-        ItemSyntax::Namespace(list, name, decls, loc) => {
-            namespace(alloc, text, list.as_slice(), name, decls.as_slice(), loc)
-        }
-        ItemSyntax::Decl(raw) => outside(alloc, text, raw),
-    }
-}
-
-/// What an item stands for, or of its user faults the one that ends first. Its syntax is let go once it is read.
+/// What an item stands for, or of its user faults the one that ends first. Its syntax is let go as it is read.
 pub fn item<'a>(
     alloc: Global,
     text: &'a str,
@@ -126,5 +110,10 @@ pub fn item<'a>(
     requires { IsScanned IsItem text.now raw }
     ensures { Reads text.now (item_sites raw) (IsItemOf text.now raw) result }
 {
-    read_item(alloc, text, &raw)
+    match raw {
+        ItemSyntax::Namespace(list, name, decls, loc) => {
+            namespace(alloc, text, list, name, decls, loc)
+        }
+        ItemSyntax::Decl(raw) => outside(alloc, text, raw),
+    }
 }

@@ -15,7 +15,7 @@ use crate::words::name_word;
 use cedar_data::Node;
 use schema_syntax_grammar::TokenKind;
 use schema_syntax_parser::AnnotationSyntax;
-use schema_syntax_tokens::Token;
+use schema_syntax_tokens::ShortToken;
 use schema_syntax_tree::{SrcAnnotations, SrcId, SrcStr};
 use std::alloc::Global;
 
@@ -32,7 +32,7 @@ pub fn notes<'a>(
 }
 
 // An id.
-pub fn id<'a>(alloc: Global, text: &'a str, token: &Token) -> Result<SrcId<'a>, Stopped>
+pub fn id<'a>(alloc: Global, text: &'a str, token: &ShortToken) -> Result<SrcId<'a>, Stopped>
     requires { IsPlacedSite text.now (word token.now) }
     ensures { Reads text.now (name_sites token.now) (IsId text.now token.now) result }
 {
@@ -40,23 +40,27 @@ pub fn id<'a>(alloc: Global, text: &'a str, token: &Token) -> Result<SrcId<'a>, 
 }
 
 // An id, with its place.
-pub fn id_node<'a>(alloc: Global, text: &'a str, token: &Token) -> Result<Node<SrcId<'a>>, Stopped>
+pub fn id_node<'a>(
+    alloc: Global,
+    text: &'a str,
+    token: &ShortToken,
+) -> Result<Node<SrcId<'a>>, Stopped>
     requires { IsPlacedSite text.now (word token.now) }
     ensures { Reads text.now (name_sites token.now) (IsIdNode text.now token.now) result }
 {
     let node = id(alloc, text, token)?;
     Ok(Node {
         node,
-        loc: Some(token.loc),
+        loc: Some(token.loc()),
     })
 }
 
 // A name: a word, or a string.
-pub fn name<'a>(alloc: Global, text: &'a str, token: &Token) -> Result<SrcStr<'a>, Stopped>
+pub fn name<'a>(alloc: Global, text: &'a str, token: &ShortToken) -> Result<SrcStr<'a>, Stopped>
     requires { IsPlacedName text.now token.now }
     ensures { Reads text.now (name_sites token.now) (IsNameOf text.now token.now.kind token.now) result }
 {
-    if token.kind == TokenKind::StringLit {
+    if token.kind() == TokenKind::StringLit {
         return string_value(alloc, text, token);
     }
     let id = name_word(alloc, text, token)?;
@@ -67,7 +71,7 @@ pub fn name<'a>(alloc: Global, text: &'a str, token: &Token) -> Result<SrcStr<'a
 pub fn name_node<'a>(
     alloc: Global,
     text: &'a str,
-    token: &Token,
+    token: &ShortToken,
 ) -> Result<Node<SrcStr<'a>>, Stopped>
     requires { IsPlacedName text.now token.now }
     ensures { Reads text.now (name_sites token.now) (IsNameNode text.now token.now) result }
@@ -75,19 +79,19 @@ pub fn name_node<'a>(
     let node = name(alloc, text, token)?;
     Ok(Node {
         node,
-        loc: Some(token.loc),
+        loc: Some(token.loc()),
     })
 }
 
 // The id of an entity, with its place.
-fn choice<'a>(alloc: Global, text: &'a str, token: &Token) -> Result<Node<SrcStr<'a>>, Stopped>
+fn choice<'a>(alloc: Global, text: &'a str, token: &ShortToken) -> Result<Node<SrcStr<'a>>, Stopped>
     requires { IsPlacedString text.now token.now }
     ensures { Reads text.now (name_sites token.now) (IsChoice text.now token.now) result }
 {
     let node = string_value(alloc, text, token)?;
     Ok(Node {
         node,
-        loc: Some(token.loc),
+        loc: Some(token.loc()),
     })
 }
 
@@ -95,7 +99,7 @@ fn choice<'a>(alloc: Global, text: &'a str, token: &Token) -> Result<Node<SrcStr
 pub struct BareIds;
 
 impl<'a> Part<'a> for BareIds {
-    type Raw = Token;
+    type Raw = ShortToken;
 
     type Item = SrcId<'a>;
 
@@ -105,8 +109,8 @@ impl<'a> Part<'a> for BareIds {
 
     ghost stands_for = { IsId };
 
-    fn read(alloc: Global, text: &'a str, raw: &Token) -> Result<SrcId<'a>, Stopped> {
-        id(alloc, text, raw)
+    fn read(alloc: Global, text: &'a str, raw: ShortToken) -> Result<SrcId<'a>, Stopped> {
+        id(alloc, text, &raw)
     }
 }
 
@@ -114,7 +118,7 @@ impl<'a> Part<'a> for BareIds {
 pub struct Ids;
 
 impl<'a> Part<'a> for Ids {
-    type Raw = Token;
+    type Raw = ShortToken;
 
     type Item = Node<SrcId<'a>>;
 
@@ -124,8 +128,8 @@ impl<'a> Part<'a> for Ids {
 
     ghost stands_for = { IsIdNode };
 
-    fn read(alloc: Global, text: &'a str, raw: &Token) -> Result<Node<SrcId<'a>>, Stopped> {
-        id_node(alloc, text, raw)
+    fn read(alloc: Global, text: &'a str, raw: ShortToken) -> Result<Node<SrcId<'a>>, Stopped> {
+        id_node(alloc, text, &raw)
     }
 }
 
@@ -133,7 +137,7 @@ impl<'a> Part<'a> for Ids {
 pub struct Names;
 
 impl<'a> Part<'a> for Names {
-    type Raw = Token;
+    type Raw = ShortToken;
 
     type Item = Node<SrcStr<'a>>;
 
@@ -143,8 +147,8 @@ impl<'a> Part<'a> for Names {
 
     ghost stands_for = { IsNameNode };
 
-    fn read(alloc: Global, text: &'a str, raw: &Token) -> Result<Node<SrcStr<'a>>, Stopped> {
-        name_node(alloc, text, raw)
+    fn read(alloc: Global, text: &'a str, raw: ShortToken) -> Result<Node<SrcStr<'a>>, Stopped> {
+        name_node(alloc, text, &raw)
     }
 }
 
@@ -152,7 +156,7 @@ impl<'a> Part<'a> for Names {
 pub struct Choices;
 
 impl<'a> Part<'a> for Choices {
-    type Raw = Token;
+    type Raw = ShortToken;
 
     type Item = Node<SrcStr<'a>>;
 
@@ -162,7 +166,7 @@ impl<'a> Part<'a> for Choices {
 
     ghost stands_for = { IsChoice };
 
-    fn read(alloc: Global, text: &'a str, raw: &Token) -> Result<Node<SrcStr<'a>>, Stopped> {
-        choice(alloc, text, raw)
+    fn read(alloc: Global, text: &'a str, raw: ShortToken) -> Result<Node<SrcStr<'a>>, Stopped> {
+        choice(alloc, text, &raw)
     }
 }

@@ -16,7 +16,7 @@ use crate::words::any_word;
 use cedar_data::{Loc, Node};
 use schema_syntax_errors::{AnnotationError, UserError};
 use schema_syntax_parser::AnnotationSyntax;
-use schema_syntax_tokens::Token;
+use schema_syntax_tokens::ShortToken;
 use schema_syntax_tree::{SrcAnnotation, SrcAnnotations, SrcStr, SrcWord};
 use std::alloc::{AllocError, Global};
 
@@ -31,7 +31,7 @@ struct ReadNotes<'a> {
 fn read_value<'a>(
     alloc: Global,
     text: &'a str,
-    value: &Option<Token>,
+    value: &Option<ShortToken>,
 ) -> Result<(Option<Node<SrcStr<'a>>>, Option<UserError>), AllocError>
     requires { IsPlacedValue text.now value.now }
     ensures { IfOk result (λ r. IsValueOr text.now value.now r.0 r.1) }
@@ -42,7 +42,7 @@ fn read_value<'a>(
             Ok(node) => Ok((
                 Some(Node {
                     node,
-                    loc: Some(token.loc),
+                    loc: Some(token.loc()),
                 }),
                 None,
             )),
@@ -63,26 +63,26 @@ fn read_note<'a>(
 {
     let key = any_word(text, &note.key);
     let (value, fault) = read_value(alloc, text, &note.value)?;
-    Ok((placed(key, value, &note.key.loc), fault))
+    Ok((placed(key, value, note.key.loc()), fault))
 }
 
 // The annotation whose key stands there.
 fn placed<'a>(
     node: SrcWord<'a>,
     value: Option<Node<SrcStr<'a>>>,
-    place: &Loc,
+    place: Loc,
 ) -> Node<SrcAnnotation<'a>>
     ensures key { placed_key result ≡ node.entry }
-    ensures key_place { key_place result ≡ Some place.now }
+    ensures key_place { key_place result ≡ Some place }
     ensures value { value_of result ≡ option_map (λ v. v.node) value.entry }
 {
     let key = Node {
         node,
-        loc: Some(*place),
+        loc: Some(place),
     };
     Node {
         node: SrcAnnotation { key, value },
-        loc: Some(*place),
+        loc: Some(place),
     }
 }
 

@@ -1,10 +1,9 @@
-ghost use Rattle.std.specs.Prelude.{◌<◌, length};
 ghost use Rattle.std.specs.List.{All, AllZip, flat_map};
 ghost use Rattle.schema_syntax_reader.specs.Readings.{Reads};
 ghost use Rattle.schema_syntax_reader.specs.Trees.{IsOptional};
 
 use crate::stopped::Stopped;
-use cedar_data::NonEmpty;
+use cedar_data::{List, NonEmpty};
 use std::alloc::Global;
 
 /// A kind of parts of a syntax: where it is read, its sites, and what it stands for.
@@ -13,7 +12,7 @@ pub trait Part<'a> {
     ghost use Rattle.schema_syntax_reader.specs.Sites.{Site};
     ghost use Rattle.schema_syntax_reader.specs.Readings.{Reads};
 
-    type Raw;
+    type Raw: Drop;
 
     type Item: Drop;
 
@@ -23,20 +22,21 @@ pub trait Part<'a> {
 
     ghost stands_for: { List ℕ → Self.Raw → Self.Item → Type 0 };
 
-    fn read(alloc: Global, text: &'a str, raw: &Self::Raw) -> Result<Self::Item, Stopped>
-        requires { fits text.now raw.now }
-        ensures { Reads text.now (sites raw.now) (stands_for text.now raw.now) result };
+    fn read(alloc: Global, text: &'a str, raw: Self::Raw) -> Result<Self::Item, Stopped>
+        requires { fits text.now raw }
+        ensures { Reads text.now (sites raw) (stands_for text.now raw) result };
 }
 
 // The parts, in order.
 pub fn all<'a, P: Part<'a>>(
     alloc: Global,
     text: &'a str,
-    raws: &[P::Raw],
+    raws: List<P::Raw>,
 ) -> Result<Vec<P::Item>, Stopped>
-    requires { All (P.fits text.now) raws.now }
-    ensures { Reads text.now (flat_map P.sites raws.now) (λ items. AllZip (P.stands_for text.now) raws.now items.items) result }
+    requires { All (P.fits text.now) raws }
+    ensures { Reads text.now (flat_map P.sites raws) (λ items. AllZip (P.stands_for text.now) raws items.items) result }
 {
+    let raws = raws.into_vec();
     let mut items = Vec::with_capacity(alloc, raws.len())?;
     for raw in raws {
         let item = P::read(alloc, text, raw)?;
@@ -49,15 +49,14 @@ pub fn all<'a, P: Part<'a>>(
 pub fn some<'a, P: Part<'a>>(
     alloc: Global,
     text: &'a str,
-    raws: &[P::Raw],
+    raws: NonEmpty<P::Raw>,
 ) -> Result<NonEmpty<P::Item>, Stopped>
-    requires fits { All (P.fits text.now) raws.now }
-    requires some { 0 < length raws.now }
-    ensures { Reads text.now (flat_map P.sites raws.now) (λ items. AllZip (P.stands_for text.now) raws.now items) result }
+    requires { All (P.fits text.now) raws }
+    ensures { Reads text.now (flat_map P.sites raws) (λ items. AllZip (P.stands_for text.now) raws items) result }
 {
-    let (first, others) = raws.split_first().unwrap();
+    let (first, others) = raws.into_parts();
     let head = P::read(alloc, text, first)?;
-    let tail = all::<P>(alloc, text, others)?;
+    let tail = all::<P>(alloc, text, List::from_vec(others))?;
     Ok(NonEmpty::from_parts(head, tail))
 }
 
@@ -65,14 +64,16 @@ pub fn some<'a, P: Part<'a>>(
 pub fn optional<'a, P: Part<'a>>(
     alloc: Global,
     text: &'a str,
-    raws: &[P::Raw],
+    raws: List<P::Raw>,
 ) -> Result<Option<NonEmpty<P::Item>>, Stopped>
-    requires { All (P.fits text.now) raws.now }
-    ensures { Reads text.now (flat_map P.sites raws.now) (λ items. IsOptional text.now (AllZip (P.stands_for text.now)) raws.now items) result }
+    requires { All (P.fits text.now) raws }
+    ensures { Reads text.now (flat_map P.sites raws) (λ items. IsOptional text.now (AllZip (P.stands_for text.now)) raws items) result }
 {
-    if raws.is_empty() {
-        return Ok(None);
+    match NonEmpty::from_vec(raws.into_vec()) {
+        None => Ok(None),
+        Some(raws) => {
+            let items = some::<P>(alloc, text, raws)?;
+            Ok(Some(items))
+        }
     }
-    let items = some::<P>(alloc, text, raws)?;
-    Ok(Some(items))
 }

@@ -1,4 +1,4 @@
-ghost use Rattle.std.specs.Prelude.{◌≡◌, ◌<◌, Some, length};
+ghost use Rattle.std.specs.Prelude.{◌≡◌, ◌++◌, ◌∷◌, [], Some, unwrap_or};
 ghost use Rattle.std.specs.List.{All, AllZip};
 ghost use Rattle.schema_syntax_parser.specs.Syntax.{IsPath, IsRef};
 ghost use Rattle.schema_syntax_reader.specs.Sites.{names_sites, path_sites, word};
@@ -7,11 +7,11 @@ ghost use Rattle.schema_syntax_reader.specs.Readings.{Reads};
 ghost use Rattle.schema_syntax_reader.specs.Trees.{IsId, IsPathOf, IsTypeOfRef, IsRefOf};
 
 use crate::names::{BareIds, id, name};
-use crate::parts::{Part, all};
+use crate::parts::{Part, some};
 use crate::stopped::Stopped;
-use cedar_data::{Loc, Node};
+use cedar_data::{Loc, Node, NonEmpty};
 use schema_syntax_parser::PathSyntax;
-use schema_syntax_tokens::{Token, whole_place};
+use schema_syntax_tokens::{ShortToken, place_from};
 use schema_syntax_tree::{Path, QualName};
 use std::alloc::Global;
 
@@ -19,43 +19,51 @@ use std::alloc::Global;
 fn path_of_names<'a>(
     alloc: Global,
     text: &'a str,
-    names: &[Token],
+    names: NonEmpty<ShortToken>,
     loc: Loc,
 ) -> Result<Path<'a>, Stopped>
-    requires words { All (λ t. IsPlacedSite text.now (word t)) names.now }
-    requires some { 0 < length names.now }
-    ensures { Reads text.now (names_sites names.now) (λ path. AllZip (IsId text.now) names.now path.ids × (path.loc ≡ Some loc)) result }
+    requires { All (λ t. IsPlacedSite text.now (word t)) names }
+    ensures { Reads text.now (names_sites names) (λ path. AllZip (IsId text.now) names path.ids × (path.loc ≡ Some loc)) result }
 {
-    if let [only] = names {
-        let basename = id(alloc, text, only)?;
-        return Ok(Path::single(alloc, basename, Some(loc)));
-    }
-    let mut ids = all::<BareIds>(alloc, text, names)?;
-    let basename = ids.pop().unwrap();
-    Ok(Path::new(basename, ids, Some(loc)))
+    let ids = some::<BareIds>(alloc, text, names)?;
+    Ok(Path::of_ids(ids, Some(loc)))
 }
 
 // A path.
-pub fn path<'a>(alloc: Global, text: &'a str, raw: &PathSyntax) -> Result<Path<'a>, Stopped>
-    requires { IsScanned IsPath text.now raw.now }
-    ensures { Reads text.now (path_sites raw.now) (IsPathOf text.now raw.now) result }
+pub fn path<'a>(alloc: Global, text: &'a str, raw: PathSyntax) -> Result<Path<'a>, Stopped>
+    requires { IsScanned IsPath text.now raw }
+    ensures { Reads text.now (path_sites raw) (IsPathOf text.now raw) result }
 {
-    path_of_names(alloc, text, raw.names.as_slice(), raw.loc)
+    let (names, loc) = raw.into_parts();
+    path_of_names(alloc, text, names, loc)
+}
+
+// The names before the last, where there are some, and the last.
+fn split_last(names: NonEmpty<ShortToken>) -> (Option<NonEmpty<ShortToken>>, ShortToken)
+    ensures { names ≡ unwrap_or result.0 [] ++ result.1 ∷ [] }
+{
+    let (first, mut others) = names.into_parts();
+    match others.pop() {
+        None => (None, first),
+        Some(last) => (Some(NonEmpty::from_parts(first, others)), last),
+    }
 }
 
 // The path of a reference's type, where one stands before the id.
 fn type_of_reference<'a>(
     alloc: Global,
     text: &'a str,
-    names: &[Token],
+    names: Option<NonEmpty<ShortToken>>,
 ) -> Result<Option<Path<'a>>, Stopped>
-    requires { All (λ t. IsPlacedSite text.now (word t)) names.now }
-    ensures { Reads text.now (names_sites names.now) (IsTypeOfRef text.now names.now) result }
+    requires { All (λ t. IsPlacedSite text.now (word t)) (unwrap_or names []) }
+    ensures { Reads text.now (names_sites (unwrap_or names [])) (IsTypeOfRef text.now (unwrap_or names [])) result }
 {
     match names {
-        [] => Ok(None),
-        [_, ..] => {
-            let path = path_of_names(alloc, text, names, whole_place(names))?;
+        None => Ok(None),
+        Some(names) => {
+            let (first, others) = names.parts();
+            let loc = place_from(first, others);
+            let path = path_of_names(alloc, text, names, loc)?;
             Ok(Some(path))
         }
     }
@@ -65,17 +73,18 @@ fn type_of_reference<'a>(
 fn reference<'a>(
     alloc: Global,
     text: &'a str,
-    raw: &PathSyntax,
+    raw: PathSyntax,
 ) -> Result<Node<QualName<'a>>, Stopped>
-    requires { IsScanned IsRef text.now raw.now }
-    ensures { Reads text.now (path_sites raw.now) (IsRefOf text.now raw.now) result }
+    requires { IsScanned IsRef text.now raw }
+    ensures { Reads text.now (path_sites raw) (IsRefOf text.now raw) result }
 {
-    let (last, front) = raw.names.as_slice().split_last().unwrap();
+    let (names, loc) = raw.into_parts();
+    let (front, last) = split_last(names);
     let path = type_of_reference(alloc, text, front)?;
-    let eid = name(alloc, text, last)?;
+    let eid = name(alloc, text, &last)?;
     Ok(Node {
         node: QualName { path, eid },
-        loc: Some(raw.loc),
+        loc: Some(loc),
     })
 }
 
@@ -93,7 +102,7 @@ impl<'a> Part<'a> for Paths {
 
     ghost stands_for = { IsPathOf };
 
-    fn read(alloc: Global, text: &'a str, raw: &PathSyntax) -> Result<Path<'a>, Stopped> {
+    fn read(alloc: Global, text: &'a str, raw: PathSyntax) -> Result<Path<'a>, Stopped> {
         path(alloc, text, raw)
     }
 }
@@ -112,7 +121,7 @@ impl<'a> Part<'a> for References {
 
     ghost stands_for = { IsRefOf };
 
-    fn read(alloc: Global, text: &'a str, raw: &PathSyntax) -> Result<Node<QualName<'a>>, Stopped> {
+    fn read(alloc: Global, text: &'a str, raw: PathSyntax) -> Result<Node<QualName<'a>>, Stopped> {
         reference(alloc, text, raw)
     }
 }

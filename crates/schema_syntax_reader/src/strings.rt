@@ -8,12 +8,16 @@ use crate::stopped::Stopped;
 use cedar_data::{Node, NonEmpty};
 use schema_syntax_errors::{UnescapeError, UserError};
 use schema_syntax_tokens::laws::one_value;
-use schema_syntax_tokens::{Token, string_body};
+use schema_syntax_tokens::{ShortToken, string_body};
 use schema_syntax_tree::SrcStr;
 use std::alloc::Global;
 
 /// What the string at the token's place stands for.
-pub fn string_value<'a>(alloc: Global, text: &'a str, token: &Token) -> Result<SrcStr<'a>, Stopped>
+pub fn string_value<'a>(
+    alloc: Global,
+    text: &'a str,
+    token: &ShortToken,
+) -> Result<SrcStr<'a>, Stopped>
     requires { IsPlacedString text.now token.now }
     ensures value { IfOk result (IsStringAt text.now token.now) }
     ensures lawful { OnOk result (NoBadEscapeAt text.now token.now) }
@@ -24,11 +28,12 @@ pub fn string_value<'a>(alloc: Global, text: &'a str, token: &Token) -> Result<S
     match SrcStr::read(body) {
         Ok(value) => Ok(value),
         Err(place) => {
-            let at = token.loc.start + 1 + place;
+            let loc = token.loc();
+            let at = loc.start + 1 + place;
             let fault = NonEmpty::new(alloc, UnescapeError { at });
             Err(Stopped::User(UserError::StringEscape(Node {
                 node: fault,
-                loc: Some(token.loc),
+                loc: Some(loc),
             })))
         }
     }

@@ -10,12 +10,12 @@ use crate::stopped::Stopped;
 use cedar_data::{Node, Text};
 use cedar_identifiers::is_reserved;
 use schema_syntax_errors::UserError;
-use schema_syntax_tokens::{Token, token_text};
+use schema_syntax_tokens::{ShortToken, token_text};
 use schema_syntax_tree::{SrcId, SrcWord};
 use std::alloc::Global;
 
 /// The word at the token's place.
-pub fn any_word<'a>(text: &'a str, token: &Token) -> SrcWord<'a>
+pub fn any_word<'a>(text: &'a str, token: &ShortToken) -> SrcWord<'a>
     requires { IsPlacedWord text.now token.now }
     ensures { result.text ≡ word_at text.now token.now }
 {
@@ -33,7 +33,7 @@ fn is_reserved_word(word: &str) -> bool
 }
 
 /// The word at the token's place, which is a name unless it is reserved.
-pub fn name_word<'a>(alloc: Global, text: &'a str, token: &Token) -> Result<SrcId<'a>, Stopped>
+pub fn name_word<'a>(alloc: Global, text: &'a str, token: &ShortToken) -> Result<SrcId<'a>, Stopped>
     requires { IsPlacedWord text.now token.now }
     ensures name { IfOk result (λ id. id.text ≡ word_at text.now token.now) }
     ensures free { OnOk result (is_reserved (word_at text.now token.now) ≡ false) }
@@ -44,7 +44,7 @@ pub fn name_word<'a>(alloc: Global, text: &'a str, token: &Token) -> Result<SrcI
         let word = Text::from_str(alloc, part)?;
         return Err(Stopped::User(UserError::ReservedIdentifierUsed(Node {
             node: word,
-            loc: Some(token.loc),
+            loc: Some(token.loc()),
         })));
     }
     Ok(SrcId::of(part))

@@ -2,7 +2,7 @@
 
 use crate::letters::find_kind;
 use crate::token_table::{blank_lines, token_lines};
-use schema_syntax_tokens::{Scanned, scan, string_body, token_text};
+use schema_syntax_tokens::{Scanned, scan, scan_short, string_body, token_text};
 use schema_tests_lines::{Wanted, answer_and_text, with_line_ends};
 use std::alloc::Global;
 
@@ -44,7 +44,7 @@ fn tokens_agree_with_table(rt: HostRuntime) {
 
 // Is this the text of the first token, and this what stands between its quotes, where it has any?
 fn first_is(alloc: Global, text: &str, whole: &str, body: Option<&str>) -> bool {
-    let Ok(scanned) = scan(alloc, text) else {
+    let Ok(scanned) = scan_short(alloc, text) else {
         return false;
     };
     match scanned.tokens.as_slice() {

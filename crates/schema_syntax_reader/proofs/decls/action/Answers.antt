@@ -11,46 +11,46 @@ pub some-requires : goal.some-requires
 some-requires c κs = (
   (refl, tt),
   (decl_parts c.args.text.now
-      (syntax.Action c.args.names.now c.args.parents.now c.args.applies_raw.now) c.requires).0,
+      (syntax.Action c.args.names c.args.parents c.args.applies_raw) c.requires).0.0,
 )
 
 pub optional-requires : goal.optional-requires
 optional-requires c κs = (
   (refl, tt),
   (decl_parts c.args.text.now
-      (syntax.Action c.args.names.now c.args.parents.now c.args.applies_raw.now) c.requires).1,
+      (syntax.Action c.args.names c.args.parents c.args.applies_raw) c.requires).1,
 )
 
 pub returns-in_err-parents : goal.returns-in_err-parents
 returns-in_err-parents c =
-    let names = names_sites c.args.names.now in
-    let parents = paths_sites c.args.parents.now in
-    let applies = applies_sites c.args.applies_raw.now in
+    let names = names_sites c.args.names in
+    let parents = paths_sites c.args.parents in
+    let applies = applies_sites c.args.applies_raw in
     stops_right c.args.text.now _ c.from_residual-in_err-parents.result _ c.from_residual-in_err-parents.ensures.1
     names (parents ++ applies) c.in_ok-names.ensures.1
     (stopped_left c.args.text.now parents applies _ c.in_err-parents.ensures)
 
 pub applies-requires : goal.applies-requires
 applies-requires c =
-    (decl_parts c.args.text.now (syntax.Action c.args.names.now c.args.parents.now c.args.applies_raw.now)
+    (decl_parts c.args.text.now (syntax.Action c.args.names c.args.parents c.args.applies_raw)
     c.requires).2
 
 pub returns-in_err-app_decls : goal.returns-in_err-app_decls
 returns-in_err-app_decls c =
-    let names = names_sites c.args.names.now in
-    let parents = paths_sites c.args.parents.now in
-    let applies = applies_sites c.args.applies_raw.now in
+    let names = names_sites c.args.names in
+    let parents = paths_sites c.args.parents in
+    let applies = applies_sites c.args.applies_raw in
     stops_right c.args.text.now _ c.from_residual-in_err-app_decls.result _
     c.from_residual-in_err-app_decls.ensures.1 names (parents ++ applies) c.in_ok-names.ensures.1
     (stopped_right c.args.text.now parents applies _ c.in_ok-parents.ensures.1 c.in_err-app_decls.ensures)
 
 pub returns : goal.returns
 returns c =
-    let names = names_sites c.args.names.now in
-    let parents = paths_sites c.args.parents.now in
-    let applies = applies_sites c.args.applies_raw.now in (
+    let names = names_sites c.args.names in
+    let parents = paths_sites c.args.parents in
+    let applies = applies_sites c.args.applies_raw in (
       subst (λ d. IsDeclOf c.args.text.now
-          (syntax.Action c.args.names.now c.args.parents.now c.args.applies_raw.now) (declaration.Action d))
+          (syntax.Action c.args.names c.args.parents c.args.applies_raw) (declaration.Action d))
           (sym c.in_ok-decl.ensures) (c.in_ok-names.ensures.0, c.in_ok-parents.ensures.0, c.in_ok-app_decls.ensures.0),
       both_faultless c.args.text.now names (parents ++ applies) c.in_ok-names.ensures.1
           (both_faultless c.args.text.now parents applies c.in_ok-parents.ensures.1 c.in_ok-app_decls.ensures.1),

@@ -11,42 +11,42 @@ pub some-requires : goal.some-requires
 some-requires c κs = (
   (refl, tt),
   (decl_parts c.args.text.now
-      (syntax.Entity c.args.names.now c.args.parents.now c.args.shape_raw.now c.args.tags_raw.now) c.requires).0,
+      (syntax.Entity c.args.names c.args.parents c.args.shape_raw c.args.tags_raw) c.requires).0.0,
 )
 
 pub all-requires : goal.all-requires
 all-requires c κs = (
   (refl, tt),
   (decl_parts c.args.text.now
-      (syntax.Entity c.args.names.now c.args.parents.now c.args.shape_raw.now c.args.tags_raw.now) c.requires).1,
+      (syntax.Entity c.args.names c.args.parents c.args.shape_raw c.args.tags_raw) c.requires).1,
 )
 
 pub shape-requires : goal.shape-requires
 shape-requires c =
     (decl_parts c.args.text.now
-    (syntax.Entity c.args.names.now c.args.parents.now c.args.shape_raw.now c.args.tags_raw.now) c.requires).2
+    (syntax.Entity c.args.names c.args.parents c.args.shape_raw c.args.tags_raw) c.requires).2
 
 pub tags-requires : goal.tags-requires
 tags-requires c =
     (decl_parts c.args.text.now
-    (syntax.Entity c.args.names.now c.args.parents.now c.args.shape_raw.now c.args.tags_raw.now) c.requires).3
+    (syntax.Entity c.args.names c.args.parents c.args.shape_raw c.args.tags_raw) c.requires).3
 
 pub returns-in_err-parents : goal.returns-in_err-parents
 returns-in_err-parents c =
-    let names = names_sites c.args.names.now in
-    let parents = paths_sites c.args.parents.now in
-    let shape = shape_sites c.args.shape_raw.now in
-    let tags = tags_sites c.args.tags_raw.now in
+    let names = names_sites c.args.names in
+    let parents = paths_sites c.args.parents in
+    let shape = shape_sites c.args.shape_raw in
+    let tags = tags_sites c.args.tags_raw in
     stops_right c.args.text.now _ c.from_residual-in_err-parents.result _ c.from_residual-in_err-parents.ensures.1
     names (parents ++ (shape ++ tags)) c.in_ok-names.ensures.1
     (stopped_left c.args.text.now parents (shape ++ tags) _ c.in_err-parents.ensures)
 
 pub returns-in_err-attrs : goal.returns-in_err-attrs
 returns-in_err-attrs c =
-    let names = names_sites c.args.names.now in
-    let parents = paths_sites c.args.parents.now in
-    let shape = shape_sites c.args.shape_raw.now in
-    let tags = tags_sites c.args.tags_raw.now in
+    let names = names_sites c.args.names in
+    let parents = paths_sites c.args.parents in
+    let shape = shape_sites c.args.shape_raw in
+    let tags = tags_sites c.args.tags_raw in
     stops_right c.args.text.now _ c.from_residual-in_err-attrs.result _ c.from_residual-in_err-attrs.ensures.1
     names (parents ++ (shape ++ tags)) c.in_ok-names.ensures.1
     (stopped_right c.args.text.now parents (shape ++ tags) _ c.in_ok-parents.ensures.1
@@ -54,10 +54,10 @@ returns-in_err-attrs c =
 
 pub returns-in_err-tags : goal.returns-in_err-tags
 returns-in_err-tags c =
-    let names = names_sites c.args.names.now in
-    let parents = paths_sites c.args.parents.now in
-    let shape = shape_sites c.args.shape_raw.now in
-    let tags = tags_sites c.args.tags_raw.now in
+    let names = names_sites c.args.names in
+    let parents = paths_sites c.args.parents in
+    let shape = shape_sites c.args.shape_raw in
+    let tags = tags_sites c.args.tags_raw in
     stops_right c.args.text.now _ c.from_residual-in_err-tags.result _ c.from_residual-in_err-tags.ensures.1
     names (parents ++ (shape ++ tags)) c.in_ok-names.ensures.1
     (stopped_right c.args.text.now parents (shape ++ tags) _ c.in_ok-parents.ensures.1
@@ -65,13 +65,13 @@ returns-in_err-tags c =
 
 pub returns : goal.returns
 returns c =
-    let names = names_sites c.args.names.now in
-    let parents = paths_sites c.args.parents.now in
-    let shape = shape_sites c.args.shape_raw.now in
-    let tags = tags_sites c.args.tags_raw.now in (
+    let names = names_sites c.args.names in
+    let parents = paths_sites c.args.parents in
+    let shape = shape_sites c.args.shape_raw in
+    let tags = tags_sites c.args.tags_raw in (
       (
         c.in_ok-names.ensures.0,
-        subst (AllZip (IsPathOf c.args.text.now) c.args.parents.now) (sym c.from_vec.ensures)
+        subst (AllZip (IsPathOf c.args.text.now) c.args.parents) (sym c.from_vec.ensures)
             c.in_ok-parents.ensures.0,
         c.in_ok-attrs.ensures.0,
         c.in_ok-tags.ensures.0,

@@ -10,27 +10,27 @@ use Rattle.schema_syntax_reader.proofs.decls.external_action.Goals as goal
 pub some-requires : goal.some-requires
 some-requires c κs = (
   (refl, tt),
-  (decl_parts c.args.text.now (syntax.ExternalAction c.args.names.now c.args.parents.now)
-      c.requires).0,
+  (decl_parts c.args.text.now (syntax.ExternalAction c.args.names c.args.parents)
+      c.requires).0.0,
 )
 
 pub optional-requires : goal.optional-requires
 optional-requires c κs = (
   (refl, tt),
-  (decl_parts c.args.text.now (syntax.ExternalAction c.args.names.now c.args.parents.now)
+  (decl_parts c.args.text.now (syntax.ExternalAction c.args.names c.args.parents)
       c.requires).1,
 )
 
 pub returns-in_err-parents : goal.returns-in_err-parents
 returns-in_err-parents c =
     stops_right c.args.text.now _ c.from_residual-in_err-parents.result _ c.from_residual-in_err-parents.ensures.1
-    (names_sites c.args.names.now) (paths_sites c.args.parents.now) c.in_ok-names.ensures.1 c.in_err-parents.ensures
+    (names_sites c.args.names) (paths_sites c.args.parents) c.in_ok-names.ensures.1 c.in_err-parents.ensures
 
 pub returns : goal.returns
 returns c = (
   subst
-      (λ d. IsDeclOf c.args.text.now (syntax.ExternalAction c.args.names.now c.args.parents.now) (declaration.Action d))
+      (λ d. IsDeclOf c.args.text.now (syntax.ExternalAction c.args.names c.args.parents) (declaration.Action d))
       (sym c.in_ok-decl.ensures) (c.in_ok-names.ensures.0, c.in_ok-parents.ensures.0),
-  both_faultless c.args.text.now (names_sites c.args.names.now) (paths_sites c.args.parents.now)
+  both_faultless c.args.text.now (names_sites c.args.names) (paths_sites c.args.parents)
       c.in_ok-names.ensures.1 c.in_ok-parents.ensures.1,
 )

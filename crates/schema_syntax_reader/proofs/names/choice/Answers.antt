@@ -1,4 +1,4 @@
-use Rattle.std.proofs.Common.{refl}
+use Rattle.std.proofs.Common.{Some, ap}
 use Rattle.schema_syntax_reader.proofs.NameReads.{string_stops, string_faultless}
 use Rattle.schema_syntax_reader.proofs.Readings.{stops}
 use Rattle.schema_syntax_reader.proofs.names.choice.Goals as goal
@@ -10,7 +10,7 @@ returns-in_err-node c =
 
 pub returns : goal.returns
 returns c = (
-  (c.in_ok-node.ensures.value, refl),
+  (c.in_ok-node.ensures.value, ap (λ l. Some l) c.loc.ensures),
   string_faultless c.args.text.now c.args.token.now c.requires.1
       c.in_ok-node.ensures.lawful,
 )

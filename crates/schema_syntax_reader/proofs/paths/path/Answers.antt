@@ -1,14 +1,17 @@
-use Rattle.schema_syntax_reader.proofs.Scanned.{path_parts}
-use Rattle.std.proofs.Common.{subst, sym, ◌<◌, length}
-use Rattle.std.specs.List.{All}
-use Rattle.schema_syntax_reader.proofs.Scanned.{IsWord}
+use Rattle.std.proofs.Common.{Some, subst, sym, ◌≡◌}
+use Rattle.std.specs.List.{All, AllZip}
+use Rattle.schema_syntax_reader.specs.Sites.{names_sites}
+use Rattle.schema_syntax_reader.specs.Readings.{Reads}
+use Rattle.schema_syntax_reader.specs.Trees.{IsId}
+use Rattle.schema_syntax_reader.proofs.Scanned.{IsWord, path_parts}
 use Rattle.schema_syntax_reader.proofs.paths.path.Goals as goal
 
-pub path_of_names-requires-clause-words : goal.path_of_names-requires-clause-words
-path_of_names-requires-clause-words c =
-    subst (All (IsWord c.args.text.now)) (sym c.as_slice.ensures)
-    (path_parts c.args.text.now c.args.raw.now c.requires).words
+pub path_of_names-requires : goal.path_of_names-requires
+path_of_names-requires c =
+    subst (λ p. All (IsWord c.args.text.now) p.0) (sym c.into_parts.ensures)
+    (path_parts c.args.text.now c.args.raw c.requires).words
 
-pub path_of_names-requires-clause-some : goal.path_of_names-requires-clause-some
-path_of_names-requires-clause-some c =
-    subst (λ l. 0 < length l) (sym c.as_slice.ensures) (path_parts c.args.text.now c.args.raw.now c.requires).some
+pub returns : goal.returns
+returns c =
+    subst (λ p. Reads c.args.text.now (names_sites p.0) (λ path. AllZip (IsId c.args.text.now) p.0 path.ids
+    × (path.loc ≡ Some p.1)) c.path_of_names.result) c.into_parts.ensures c.path_of_names.ensures
