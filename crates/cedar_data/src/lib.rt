@@ -16,6 +16,8 @@ pub mod non_empty;
 pub mod rows;
 pub mod set;
 pub mod severity;
+pub mod shared;
+pub mod shared_map;
 pub mod text;
 pub mod words;
 
@@ -33,5 +35,7 @@ pub use non_empty::{NonEmpty, NonEmptyIntoIter, NonEmptyIter};
 pub use rows::{and_list, by_number, comma_list, separator};
 pub use set::Set;
 pub use severity::Severity;
+pub use shared::Shared;
+pub use shared_map::SharedMap;
 pub use text::Text;
 pub use words::{is_word, is_word_part, is_word_start, word_len};
