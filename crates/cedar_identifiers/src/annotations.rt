@@ -1,12 +1,12 @@
 ghost use Rattle.std.specs.Prelude.{◌≡◌, ◌↔◌, true, []};
 
 use crate::any_id::AnyId;
-use cedar_data::{CloneIn, Map, Text};
+use cedar_data::{CloneIn, SharedMap, Text};
 use std::alloc::{AllocError, Global};
 
-/// What is said beside an item: keys, each with a value or without one.
+/// What is said beside an item: keys, each with a value or without one. Copies share what they say.
 #[derive(PartialEq, Eq, PartialOrd, Ord, Hash)]
-pub struct Annotations(pub Map<AnyId, Option<Text>>);
+pub struct Annotations(pub SharedMap<AnyId, Option<Text>>);
 
 impl Drop for Annotations {
     fn drop(self) {
@@ -19,7 +19,7 @@ impl Annotations {
     pub fn new(alloc: Global) -> Annotations
         ensures { result.0 ≡ [] }
     {
-        Annotations(Map::new(alloc))
+        Annotations(SharedMap::new())
     }
 
     /// Whether there is no annotation.

@@ -10,7 +10,7 @@ use crate::fields::{Members, at};
 use crate::leaves::wrong_type;
 use crate::names::read_any_id;
 use crate::shape_fault::ShapeFault;
-use cedar_data::{Map, Text};
+use cedar_data::{Map, SharedMap, Text};
 use cedar_identifiers::{Annotations, AnyId};
 use serde_json::Value;
 use std::alloc::Global;
@@ -33,7 +33,8 @@ fn read_annotations(alloc: Global, value: &Value) -> Result<Annotations, ShapeFa
     match value.as_object() {
         Some(members) => {
             let entries = read_entries(alloc, members)?;
-            Ok(Annotations(Map::from_entries(alloc, entries)?))
+            let notes = Map::from_entries(alloc, entries)?;
+            Ok(Annotations(SharedMap::from_map(alloc, notes)?))
         }
         None => Err(wrong_type(alloc, "annotations")),
     }

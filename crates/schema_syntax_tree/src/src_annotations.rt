@@ -15,7 +15,7 @@ ghost use Rattle.std.specs.Hash as fed;
 
 use crate::src_str::SrcStr;
 use crate::src_word::SrcWord;
-use cedar_data::{CloneIn, Map, Node, Text};
+use cedar_data::{CloneIn, Map, Node, SharedMap, Text};
 use cedar_identifiers::{Annotations, AnyId};
 use std::alloc::{AllocError, Global};
 use std::cmp::Ordering;
@@ -81,7 +81,8 @@ impl<'a> SrcAnnotations<'a> {
         for entry in self.notes.as_slice() {
             copy.push((entry.0.to_any_id(alloc)?, own_value(&entry.1, alloc)?))?;
         }
-        Ok(Annotations(Map::from_sorted_vec(copy)))
+        let notes = Map::from_sorted_vec(copy);
+        Ok(Annotations(SharedMap::from_map(alloc, notes)?))
     }
 }
 

@@ -1,7 +1,7 @@
 // What the readers of names say of texts, and names made, compared, qualified, copied and written.
 
 use crate::name_table::{alike_lines, apart_lines, word_and_name_lines};
-use cedar_data::{CloneIn, Loc, Map, Severity, Text, lawful};
+use cedar_data::{CloneIn, Loc, Map, Severity, SharedMap, Text, lawful};
 use cedar_identifiers::{
     Annotations, AnyId, ConditionalName, Eid, Id, InternalName, Name, NameFault, NameText, RawName,
     ReferenceType, UnreservedId,
@@ -142,8 +142,11 @@ fn copies_annotations(alloc: Global) -> bool {
     if entries.push((key, Some(Text::new(alloc)))).is_err() {
         return false;
     }
-    match Map::from_entries(alloc, entries) {
-        Ok(map) => copies(alloc, &Annotations(map)),
+    let Ok(map) = Map::from_entries(alloc, entries) else {
+        return false;
+    };
+    match SharedMap::from_map(alloc, map) {
+        Ok(notes) => copies(alloc, &Annotations(notes)),
         Err(_) => false,
     }
 }
