@@ -6,6 +6,7 @@ use cedar_data::Text;
 use cedar_identifiers::{Name, NameText, RawName};
 use cedar_names::ExtensionTable;
 use schema_build::{CedarSchemaError, FromCedarSchema, ValidatorSchema};
+use schema_build_types::Shared;
 use schema_json::Fragment;
 use schema_print::ToCedarSchema;
 use std::alloc::Global;
@@ -39,7 +40,7 @@ fn recovered(alloc: Global, table: &ExtensionTable) -> Option<Text> {
 }
 
 // The types above the one of this name.
-fn types_above<'a>(schema: &'a ValidatorSchema, name: &Name) -> &'a [Name] {
+fn types_above<'a>(schema: &'a ValidatorSchema, name: &Name) -> &'a [Shared<Name>] {
     for entry in schema.entity_types() {
         if entry.name == *name {
             return entry.ty.ancestors.as_slice();
@@ -55,7 +56,7 @@ fn lines_of_types_above_users(alloc: Global, table: &ExtensionTable) -> Option<T
     let mut lines = Text::new(alloc);
     for name in types_above(&schema, &user) {
         lines.push_str("Photos::User is in ").ok()?;
-        lines.push_str(name.text(alloc).ok()?.as_str()).ok()?;
+        lines.push_str(name.get().text(alloc).ok()?.as_str()).ok()?;
         lines.push_str("\n").ok()?;
     }
     Some(lines)

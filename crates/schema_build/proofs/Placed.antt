@@ -1,7 +1,7 @@
 -- Names at rising places of a list that rises.
 use Rattle.std.proofs.Common.{◌≡◌, ℕ, ◌+◌, ◌<◌, List, [], ◌∷◌, ◌++◌, Vec, Ordering, Some, map, length, take, get_or}
 use Rattle.std.proofs.Common.{Contains, refl, sym, ap, ◌∙◌, subst}
-use Rattle.std.specs.Prelude.{slice_get}
+use Rattle.std.specs.Prelude.{Option, IfSome, slice_get}
 use Rattle.std.specs.declared.cmp.Ordering.TheVariants.{Less}
 use Rattle.std.specs.Cmp.{IsTotalOrder}
 use Rattle.std.specs.List.{AllByRecursion}
@@ -11,7 +11,7 @@ use Rattle.std.proofs.lemmas.Cmp.{ranked}
 use Rattle.std.specs.Ordering.{nat_cmp}
 use Rattle.std.proofs.lemmas.Map.Keys.{sorted_from_strictly_increasing}
 use Rattle.std.specs.declared.alloc.Global.{Global}
-use Rattle.std.proofs.lemmas.List.{map-append, take_more}
+use Rattle.std.proofs.lemmas.List.{map-append, take_more, length-map, get_or-map}
 use Rattle.std.proofs.lemmas.Option.{slice_get-map, slice_get_read}
 use Rattle.std.proofs.lemmas.Slice.Zip.{all_zipped_more}
 use Rattle.schema_build_hierarchy.proofs.ParentRanks.{map_at}
@@ -19,7 +19,7 @@ use Rattle.schema_build_hierarchy.specs.Ancestors.{IsAncestorRow}
 use Rattle.schema_build_hierarchy.proofs.Ordered.{contains_map, contains_unmap, map_twice}
 use Rattle.schema_build_hierarchy.proofs.Ranked.{less_at}
 use Rattle.schema_build_items.specs.ActionKinds.{AreJust}
-use Rattle.schema_build.specs.Assembly.{AreAt, AreAllAt}
+use Rattle.schema_build.specs.Assembly.{AreSharedOf, AreAt, AreAllAt}
 
 some_same : {A : Type 0} (x y : A) → Some x ≡ Some y → x ≡ y
 some_same x y e = cc
@@ -45,6 +45,29 @@ one_more name entries places k found grown x e within inside is same more at =
     ap (map Some) more ∙ map-append Some found (x ∷ []) ∙ (λ i. at i ++ stands i ∷ [])
     ∙ sym (map-append (slice_get (map name entries)) (take k places) (r ∷ []))
     ∙ sym (ap (map (slice_get (map name entries))) (take_more places k 0 within))
+
+-- one more of the names, shared or not
+pub one_more_shared : {A B : Type 0} (name : B → A) (entries : List B) (k : ℕ) (shared grown : List (Option A)) (e : B)
+    (o : Option A) → k < length entries → e ≡ get_or entries k e → IfSome o (λ n. n ≡ name e)
+    → grown ≡ shared ++ o ∷ [] → AreSharedOf (take k (map name entries)) shared
+    → AreSharedOf (take (k + 1) (map name entries)) grown
+one_more_shared name entries k shared grown e o within is same more all =
+    let names = map name entries in
+    let item : get_or names k (name e) ≡ name e = get_or-map name entries k e (name e) within ∙ ap name (sym is) in
+    let whole : take (k + 1) names ≡ take k names ++ name e ∷ [] =
+    take_more names k (name e) (omega (arith, within, length-map entries name))
+    ∙ ap (λ z. take k names ++ z ∷ []) item in
+    subst (λ l. AreSharedOf l grown) (sym whole)
+    (subst (AreSharedOf (take k names ++ name e ∷ [])) (sym more)
+    (all_zipped_more (λ n p. IfSome p (λ s. s ≡ n)) (take k names) shared (name e) o same all))
+
+-- the name at a place, as it is shared or not
+pub shared_at : {A : Type 0} (names : List A) (shared : List (Option A)) (k : ℕ) (d : A) (o : Option A)
+    → AreSharedOf names shared → k < length names → IfSome (get_or shared k o) (λ n. n ≡ get_or names k d)
+shared_at [] shared k d o all within = absurd (omega arith)
+shared_at (n ∷ names) [] k d o all within = absurd all
+shared_at (n ∷ names) (s ∷ shared) zero d o all within = all.0
+shared_at (n ∷ names) (s ∷ shared) (suc k) d o all within = shared_at names shared k d o all.1 (omega arith)
 
 -- one more row of places
 pub one_more_row : {A : Type 0} (names : List A) (rows : List (Vec ℕ Global)) (k : ℕ) (row : Vec ℕ Global)

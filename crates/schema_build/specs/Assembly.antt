@@ -1,6 +1,6 @@
 -- How a built schema is put together: entity types and actions from their names, their ancestors and what is built for
 -- each, and a schema from both.
-use Rattle.std.specs.Prelude.{◌≡◌, ℕ, List, [], Vec, map, Some, slice_get}
+use Rattle.std.specs.Prelude.{◌≡◌, ℕ, List, [], Vec, map, Option, Some, IfSome, slice_get}
 use Rattle.std.specs.List.{AllZip}
 use Rattle.std.specs.List.Sorted.{IsStrictlySortedBy}
 use Rattle.std.specs.Map.{keys_of}
@@ -33,6 +33,10 @@ use Rattle.schema_build.specs.Meaning.{EntitiesMean, ActionsMean}
 -- what stands at these places of the list
 abbrev pub AreAt : {A : Type 0} → List A → List ℕ → List A → Type 0
 AreAt names places found = map Some found ≡ map (slice_get names) places
+
+-- the names, each as it is shared or not shared yet
+abbrev pub AreSharedOf : {A : Type 0} → List A → List (Option A) → Type 0
+AreSharedOf = AllZip (λ name shared. IfSome shared (λ n. n ≡ name))
 
 -- for each list of places, what stands there
 abbrev pub AreAllAt : {A : Type 0} → List A → List (Vec ℕ Global) → List (List A) → Type 0

@@ -1,32 +1,99 @@
-ghost use Rattle.std.specs.Prelude.{◌≡◌, ◌<◌, ℕ, Vec, map, length, zip, All, IfOk};
+ghost use Rattle.std.specs.Prelude.{◌≡◌, ◌<◌, ℕ, Vec, map, length, zip, All, IfOk, IfSome};
 ghost use Rattle.std.specs.declared.alloc.Global.{Global as GlobalTold};
 ghost use Rattle.cedar_identifiers.specs.declared.raw_name.RawName.{RawName as Raw};
 ghost use Rattle.cedar_names.specs.declared.extension_table.ExtensionTable.{ExtensionTable as Table};
 ghost use Rattle.schema_json.specs.declared.fragment.Fragment.{Fragment as Fragments};
-ghost use Rattle.schema_build.specs.Assembly.{AreAt, AreAllAt, AreEntitiesBuilt, AreActionsBuilt, HoldEntities, HoldActions, entity_type_of, action_of_parts};
+ghost use Rattle.schema_build.specs.Assembly.{AreSharedOf, AreAt, AreAllAt, AreEntitiesBuilt, AreActionsBuilt, HoldEntities, HoldActions, entity_type_of, action_of_parts};
 
 use cedar_data::{CloneIn, List, Map};
 use cedar_identifiers::{Name, NameText, RawName};
 use cedar_names::EntityUID;
 use schema_build_hierarchy::{ActionEntry as DeclaredAction, EntityEntry as DeclaredEntity, Entry};
 use schema_build_types::{
-    ActionEntry, EntityTypeEntry, ValidatorActionId, ValidatorActionKind, ValidatorEntityType,
-    ValidatorEntityTypeKind,
+    ActionEntry, EntityTypeEntry, Shared, ValidatorActionId, ValidatorActionKind,
+    ValidatorEntityType, ValidatorEntityTypeKind,
 };
 use std::alloc::{AllocError, Global};
+
+// Which places stand in a row.
+fn marks_of(alloc: Global, len: usize, rows: &[Vec<usize>]) -> Result<Vec<bool>, AllocError> {
+    let mut marks = vec![in alloc; false; len]?;
+    for row in rows {
+        mark(&mut marks, row);
+    }
+    Ok(marks)
+}
+
+// Marks the places.
+fn mark(marks: &mut Vec<bool>, places: &[usize]) {
+    for &place in places {
+        if place < marks.len() {
+            marks[place] = true;
+        }
+    }
+}
+
+// The name, to be shared, where it is marked.
+fn shared_where<K: CloneIn>(
+    alloc: Global,
+    name: &K,
+    marked: bool,
+) -> Result<Option<Shared<K>>, AllocError>
+    ensures { IfOk result (λ shared. IfSome shared (λ n. n ≡ name.now)) }
+{
+    if marked {
+        let name = name.clone_in(alloc)?;
+        return Ok(Some(Shared::new(alloc, name)?));
+    }
+    Ok(None)
+}
+
+// The names that stand above another, to be shared, each at its place.
+fn shared_names<K: CloneIn, T>(
+    alloc: Global,
+    entries: &[Entry<'_, K, T>],
+    marks: &[bool],
+) -> Result<Vec<Option<Shared<K>>>, AllocError>
+    ensures { IfOk result (λ shared. AreSharedOf (map (λ e. e.name) entries.now) shared.items) }
+{
+    let mut shared = Vec::with_capacity(alloc, entries.len())?;
+    for at in 0..entries.len() {
+        let marked = at < marks.len() && marks[at];
+        let name = shared_where(alloc, &entries[at].name, marked)?;
+        shared.push(name)?;
+    }
+    Ok(shared)
+}
+
+// The name of the entry, shared.
+fn name_of<K: CloneIn, T>(
+    alloc: Global,
+    entry: &Entry<'_, K, T>,
+    shared: &Option<Shared<K>>,
+) -> Result<Shared<K>, AllocError>
+    requires { IfSome shared.now (λ n. n ≡ entry.now.name) }
+    ensures { IfOk result (λ name. name ≡ entry.now.name) }
+{
+    match shared {
+        Some(name) => name.clone_in(alloc),
+        None => Shared::new(alloc, entry.name.clone_in(alloc)?),
+    }
+}
 
 // The names at the places.
 fn names_at<K: CloneIn, T>(
     alloc: Global,
     entries: &[Entry<'_, K, T>],
+    shared: &[Option<Shared<K>>],
     places: &[usize],
-) -> Result<List<K>, AllocError>
-    requires { All (λ place. place < length entries.now) places.now }
+) -> Result<List<Shared<K>>, AllocError>
+    requires places { All (λ place. place < length entries.now) places.now }
+    requires shared { AreSharedOf (map (λ e. e.name) entries.now) shared.now }
     ensures { IfOk result (AreAt (map (λ e. e.name) entries.now) places.now) }
 {
     let mut found = Vec::with_capacity(alloc, places.len())?;
     for &place in places {
-        found.push(entries[place].name.clone_in(alloc)?)?;
+        found.push(name_of(alloc, &entries[place], &shared[place])?)?;
     }
     Ok(List::from_vec(found))
 }
@@ -36,20 +103,25 @@ fn all_names_at<K: CloneIn, T>(
     alloc: Global,
     entries: &[Entry<'_, K, T>],
     rows: &[Vec<usize>],
-) -> Result<Vec<List<K>>, AllocError>
+) -> Result<Vec<List<Shared<K>>>, AllocError>
     requires { All (λ (row : Vec ℕ GlobalTold). All (λ place. place < length entries.now) row.items) rows.now }
     ensures { IfOk result (λ lists. AreAllAt (map (λ e. e.name) entries.now) rows.now lists.items) }
 {
+    let marks = marks_of(alloc, entries.len(), rows)?;
+    let shared = shared_names(alloc, entries, &marks)?;
     let mut lists = Vec::with_capacity(alloc, rows.len())?;
     for row in rows {
-        lists.push(names_at(alloc, entries, row)?)?;
+        lists.push(names_at(alloc, entries, &shared, row)?)?;
     }
     Ok(lists)
 }
 
 // An entity type from its declaration, its ancestors and what is built for it.
 fn entity_type_of(
-    parts: ((DeclaredEntity<'_>, List<Name>), ValidatorEntityTypeKind),
+    parts: (
+        (DeclaredEntity<'_>, List<Shared<Name>>),
+        ValidatorEntityTypeKind,
+    ),
 ) -> EntityTypeEntry
     ensures { result ≡ entity_type_of parts.entry }
 {
@@ -61,7 +133,12 @@ fn entity_type_of(
 }
 
 // An action from its declaration, its ancestors and what is built for it.
-fn action_of(parts: ((DeclaredAction<'_>, List<EntityUID>), ValidatorActionKind)) -> ActionEntry
+fn action_of(
+    parts: (
+        (DeclaredAction<'_>, List<Shared<EntityUID>>),
+        ValidatorActionKind,
+    ),
+) -> ActionEntry
     ensures { result ≡ action_of_parts parts.entry }
 {
     let ((entry, ancestors), kind) = parts;
@@ -75,7 +152,7 @@ fn action_of(parts: ((DeclaredAction<'_>, List<EntityUID>), ValidatorActionKind)
 fn entity_types_of(
     alloc: Global,
     entries: Vec<DeclaredEntity<'_>>,
-    ancestors: Vec<List<Name>>,
+    ancestors: Vec<List<Shared<Name>>>,
     kinds: Vec<ValidatorEntityTypeKind>,
 ) -> Result<Vec<EntityTypeEntry>, AllocError>
     ensures { IfOk result (λ built. built.items ≡ map entity_type_of (zip (zip entries.entry.items ancestors.items) kinds.items)) }
@@ -92,7 +169,7 @@ fn entity_types_of(
 fn actions_of(
     alloc: Global,
     entries: Vec<DeclaredAction<'_>>,
-    ancestors: Vec<List<EntityUID>>,
+    ancestors: Vec<List<Shared<EntityUID>>>,
     kinds: Vec<ValidatorActionKind>,
 ) -> Result<Vec<ActionEntry>, AllocError>
     ensures { IfOk result (λ built. built.items ≡ map action_of_parts (zip (zip entries.entry.items ancestors.items) kinds.items)) }

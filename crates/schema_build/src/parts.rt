@@ -8,7 +8,7 @@ ghost use Rattle.schema_build.specs.Parts.{IsMisnamed, IsEnumBelow, NoneIs, IsFi
 
 use cedar_identifiers::Name;
 use cedar_names::EntityUID;
-use schema_build_types::{ValidatorActionId, ValidatorEntityType, ValidatorEntityTypeKind};
+use schema_build_types::{Shared, ValidatorActionId, ValidatorEntityType, ValidatorEntityTypeKind};
 use std::cmp::Ordering;
 
 // Whether the name's last component is `Action`.
@@ -34,11 +34,12 @@ pub(crate) fn first_misnamed(actions: &[(EntityUID, ValidatorActionId)]) -> Opti
 }
 
 // The least of the names.
-fn least<'a>(first: &'a Name, others: &'a [Name]) -> &'a Name
+fn least<'a>(first: &'a Name, others: &'a [Shared<Name>]) -> &'a Name
     ensures { IsLeastName (first.now ∷ others.now) result.now }
 {
     let mut least = first;
     for name in others {
+        let name = name.get();
         match name.cmp(least) {
             Ordering::Less => least = name,
             Ordering::Equal | Ordering::Greater => {}
@@ -53,7 +54,7 @@ fn enum_ancestor(ty: &ValidatorEntityType) -> Option<&Name>
 {
     match &ty.kind {
         ValidatorEntityTypeKind::Enum(_) => match ty.ancestors.as_slice().split_first() {
-            Some((first, others)) => Some(least(first, others)),
+            Some((first, others)) => Some(least(first.get(), others)),
             None => None,
         },
         _ => None,

@@ -3,7 +3,7 @@ ghost use Rattle.std.specs.Option.{option_map};
 ghost use Rattle.schema_build_types.specs.Content.{type_content, entity_content};
 ghost use Rattle.schema_build_equal.specs.Declared.{entity_kind};
 
-use crate::sets::{same_name, same_names};
+use crate::sets::{same_ancestors, same_name};
 use crate::types::{same_attributes, same_type};
 use cedar_data::Boxed;
 use schema_build_types::{EntityTypeEntry, Type, ValidatorEntityTypeKind};
@@ -61,7 +61,7 @@ fn same_entity_type(a: &EntityTypeEntry, b: &EntityTypeEntry) -> bool
     if !same_name(&a.name, &b.name) {
         return false;
     }
-    if !same_names(a.ty.ancestors.as_slice(), b.ty.ancestors.as_slice()) {
+    if !same_ancestors(a.ty.ancestors.as_slice(), b.ty.ancestors.as_slice()) {
         return false;
     }
     same_kind(&a.ty.kind, &b.ty.kind)

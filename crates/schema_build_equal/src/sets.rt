@@ -7,6 +7,7 @@ ghost use Rattle.schema_build_equal.specs.Among.{are_among, are_one_set};
 
 use cedar_identifiers::Name;
 use cedar_names::EntityUID;
+use schema_build_types::Shared;
 
 // Each of these items is among the others.
 fn are_among<T: PartialEq>(items: &[T], others: &[T]) -> bool
@@ -48,6 +49,13 @@ pub fn same_names(a: &[Name], b: &[Name]) -> bool
     are_one_set(a, b)
 }
 
+/// Whether the shared names are the same, whatever their order and however often each stands.
+pub fn same_ancestors(a: &[Shared<Name>], b: &[Shared<Name>]) -> bool
+    ensures { result ≡ true ↔ names_content a.now ≡ names_content b.now }
+{
+    are_one_set(a, b)
+}
+
 /// Whether the actions have the same type and the same id.
 pub fn same_uid(a: &EntityUID, b: &EntityUID) -> bool
     ensures { result ≡ true ↔ action_of a.now ≡ action_of b.now }
@@ -56,7 +64,7 @@ pub fn same_uid(a: &EntityUID, b: &EntityUID) -> bool
 }
 
 /// Whether the actions are the same, whatever their order and however often each stands.
-pub fn same_actions(a: &[EntityUID], b: &[EntityUID]) -> bool
+pub fn same_actions(a: &[Shared<EntityUID>], b: &[Shared<EntityUID>]) -> bool
     ensures { result ≡ true ↔ actions_in_order a.now ≡ actions_in_order b.now }
 {
     are_one_set(a, b)

@@ -9,13 +9,13 @@ ghost use Rattle.schema_build_text.specs.Readings.{plain_type, plain_attributes,
 ghost use Rattle.schema_build_recovered.specs.Recovered.{IsWritten, IsRecoveredType, AreRecoveredTags, IsRecoveredKind, IsRecoveredEntity};
 ghost use Rattle.schema_build_recovered.specs.Refusals.{IsFirstLack};
 
-use crate::sets::written_names;
+use crate::sets::written_ancestors;
 use crate::types::{recovered_record, recovered_type};
 use cedar_data::{Boxed, CloneIn, Map, Text};
 use cedar_identifiers::{Annotations, Name, RawName, UnreservedId};
 use schema_build_errors::RecoveryError;
 use schema_build_text::last_word;
-use schema_build_types::{EntityTypeEntry, Type as BuiltType, ValidatorEntityTypeKind};
+use schema_build_types::{EntityTypeEntry, Shared, Type as BuiltType, ValidatorEntityTypeKind};
 use schema_json::{
     AttributesOrContext, EntityType, EntityTypeKind, RecordType, StandardEntityType, Type,
 };
@@ -42,7 +42,7 @@ fn recovered_tags(
 // A standard entity type with these attributes and tags.
 fn recovered_standard(
     alloc: Global,
-    ancestors: &[Name],
+    ancestors: &[Shared<Name>],
     attributes: &Map<Text, (BuiltType, bool)>,
     tags: &Option<Boxed<BuiltType>>,
 ) -> Result<StandardEntityType<RawName>, RecoveryError>
@@ -54,7 +54,7 @@ fn recovered_standard(
 {
     let record = recovered_record(alloc, attributes)?;
     let tags = recovered_tags(alloc, tags)?;
-    let member_of_types = written_names(alloc, ancestors)?;
+    let member_of_types = written_ancestors(alloc, ancestors)?;
     Ok(StandardEntityType {
         member_of_types,
         shape: AttributesOrContext::from_record(record),
@@ -65,13 +65,13 @@ fn recovered_standard(
 // An entity type without attributes and tags.
 fn recovered_external(
     alloc: Global,
-    ancestors: &[Name],
+    ancestors: &[Shared<Name>],
 ) -> Result<StandardEntityType<RawName>, AllocError>
     ensures parents { IfOk result (λ s. AllZip IsWritten (names_content ancestors.now) s.member_of_types) }
     ensures shape { IfOk result (λ s. IsRecoveredType (plain.Rec no_more) s.shape.0) }
     ensures tags { IfOk result (λ s. s.tags ≡ None) }
 {
-    let member_of_types = written_names(alloc, ancestors)?;
+    let member_of_types = written_ancestors(alloc, ancestors)?;
     Ok(StandardEntityType {
         member_of_types,
         shape: AttributesOrContext::from_record(RecordType::default(alloc)),

@@ -10,6 +10,7 @@ use cedar_data::{CloneIn, List};
 use cedar_identifiers::{Name, RawName};
 use cedar_names::EntityUID;
 use schema_build_text::sorted_set;
+use schema_build_types::Shared;
 use schema_json::ActionEntityUID;
 use std::alloc::{AllocError, Global};
 use std::collections::BTreeSet;
@@ -47,6 +48,19 @@ pub fn written_names(alloc: Global, names: &[Name]) -> Result<List<RawName>, All
     Ok(List::from_vec(written))
 }
 
+/// The shared names as they are written, in order, each once.
+pub fn written_ancestors(alloc: Global, names: &[Shared<Name>]) -> Result<List<RawName>, AllocError>
+    ensures { IfOk result (λ written. AllZip IsWritten (names_content names.now) written) }
+{
+    let rising = in_order(alloc, names)?;
+    let mut written = Vec::with_capacity(alloc, rising.len())?;
+    for at in 0..rising.len() {
+        let name = written_name(alloc, rising[at].get())?;
+        written.push(name)?;
+    }
+    Ok(List::from_vec(written))
+}
+
 // The action as a parent.
 fn parent(alloc: Global, action: &EntityUID) -> Result<ActionEntityUID<RawName>, AllocError>
     ensures { IfOk result (IsRecoveredParent (action_of action.now)) }
@@ -59,7 +73,7 @@ fn parent(alloc: Global, action: &EntityUID) -> Result<ActionEntityUID<RawName>,
 /// The actions as parents, in order, each once; absent where there are none.
 pub fn parents(
     alloc: Global,
-    actions: &[EntityUID],
+    actions: &[Shared<EntityUID>],
 ) -> Result<Option<List<ActionEntityUID<RawName>>>, AllocError>
     ensures { IfOk result (AreRecoveredParents (actions_in_order actions.now)) }
 {
@@ -69,7 +83,7 @@ pub fn parents(
     let rising = in_order(alloc, actions)?;
     let mut parents = Vec::with_capacity(alloc, rising.len())?;
     for at in 0..rising.len() {
-        let parent = parent(alloc, rising[at])?;
+        let parent = parent(alloc, rising[at].get())?;
         parents.push(parent)?;
     }
     Ok(Some(List::from_vec(parents)))

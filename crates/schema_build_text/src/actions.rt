@@ -13,7 +13,7 @@ use crate::types::push_record;
 use cedar_data::Text;
 use cedar_identifiers::Name;
 use cedar_names::EntityUID;
-use schema_build_types::{Type, ValidatorActionId, ValidatorActionKind};
+use schema_build_types::{Shared, Type, ValidatorActionId, ValidatorActionKind};
 use std::alloc::{AllocError, Global};
 
 // Adds the record of these attributes, without a space in the braces where there are none.
@@ -101,7 +101,7 @@ fn push_head(
     text: &mut Text,
     alloc: Global,
     uid: &EntityUID,
-    ancestors: &[EntityUID],
+    ancestors: &[Shared<EntityUID>],
 ) -> Result<(), AllocError>
     ensures { OnOk result (Adds text.old text.new (codes "action " ++ (quoted uid.now.eid.0 ++ parents_text (map action_name_text (actions_in_order ancestors.now))))) }
 {

@@ -14,7 +14,7 @@ use crate::rows::{push_choices, push_name_parents};
 use crate::types::{push_record, push_type};
 use cedar_data::{Boxed, NonEmpty, Text};
 use cedar_identifiers::{Eid, Name};
-use schema_build_types::{Type, ValidatorEntityType, ValidatorEntityTypeKind};
+use schema_build_types::{Shared, Type, ValidatorEntityType, ValidatorEntityTypeKind};
 use std::alloc::{AllocError, Global};
 
 // Adds ` = ` and the record of the attributes, where there are any.
@@ -54,7 +54,7 @@ fn push_standard(
     alloc: Global,
     base: usize,
     name: &Name,
-    ancestors: &[Name],
+    ancestors: &[Shared<Name>],
     entries: &[(Text, (Type, bool))],
     tags: &Option<Boxed<Type>>,
 ) -> Result<(), AllocError>
@@ -84,7 +84,7 @@ fn push_external(
     text: &mut Text,
     alloc: Global,
     name: &Name,
-    ancestors: &[Name],
+    ancestors: &[Shared<Name>],
 ) -> Result<(), AllocError>
     ensures { OnOk result (Adds text.old text.new (codes "external entity " ++ (basename (components_of name.now.name) ++ parents_text (map name_text (names_content ancestors.now))))) }
 {

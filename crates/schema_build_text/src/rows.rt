@@ -14,6 +14,7 @@ use crate::pushing::{push, push_between, push_string};
 use cedar_data::{NonEmpty, Text};
 use cedar_identifiers::{Eid, Name};
 use cedar_names::EntityUID;
+use schema_build_types::Shared;
 use std::alloc::{AllocError, Global};
 use std::cmp::Ordering;
 use std::collections::BTreeSet;
@@ -43,6 +44,14 @@ impl Listed for EntityUID {
         push(text, "::")?;
         push_string(text, &self.eid.0)?;
         Ok(())
+    }
+}
+
+impl<T: Listed> Listed for Shared<T> {
+    ghost shown = { T.shown };
+
+    fn push_to(&self, text: &mut Text) -> Result<(), AllocError> {
+        self.get().push_to(text)
     }
 }
 
@@ -143,7 +152,11 @@ pub fn push_names(text: &mut Text, alloc: Global, names: &[Name]) -> Result<(), 
 }
 
 /// Adds ` in ` and the names in brackets, in order, each once; and nothing where there are none.
-pub fn push_name_parents(text: &mut Text, alloc: Global, names: &[Name]) -> Result<(), AllocError>
+pub fn push_name_parents(
+    text: &mut Text,
+    alloc: Global,
+    names: &[Shared<Name>],
+) -> Result<(), AllocError>
     ensures { OnOk result (Adds text.old text.new (parents_text (map name_text (names_content names.now)))) }
 {
     push_parents(text, alloc, names)
@@ -153,7 +166,7 @@ pub fn push_name_parents(text: &mut Text, alloc: Global, names: &[Name]) -> Resu
 pub fn push_action_parents(
     text: &mut Text,
     alloc: Global,
-    actions: &[EntityUID],
+    actions: &[Shared<EntityUID>],
 ) -> Result<(), AllocError>
     ensures { OnOk result (Adds text.old text.new (parents_text (map action_name_text (actions_in_order actions.now)))) }
 {

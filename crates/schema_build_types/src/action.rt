@@ -1,3 +1,4 @@
+use crate::shared::Shared;
 use crate::types::Type;
 use cedar_data::{CloneIn, List};
 use cedar_identifiers::Name;
@@ -7,7 +8,7 @@ use std::alloc::{AllocError, Global};
 /// An action of a built schema.
 pub struct ValidatorActionId {
     /// All actions that it stands below.
-    pub ancestors: List<EntityUID>,
+    pub ancestors: List<Shared<EntityUID>>,
     pub kind: ValidatorActionKind,
 }
 

@@ -1,3 +1,4 @@
+use crate::shared::Shared;
 use crate::types::{Type, clone_entries};
 use cedar_data::{Boxed, CloneIn, List, Map, NonEmpty, Text};
 use cedar_identifiers::{Eid, Name};
@@ -6,7 +7,7 @@ use std::alloc::{AllocError, Global};
 /// An entity type of a built schema.
 pub struct ValidatorEntityType {
     /// All entity types that it stands below.
-    pub ancestors: List<Name>,
+    pub ancestors: List<Shared<Name>>,
     pub kind: ValidatorEntityTypeKind,
 }
 
