@@ -18,7 +18,8 @@ loop-at-preserved c =
     rw c.in_ok-push.ensures.items (zip_more (λ x p. IsRecoveredParent (action_of x.now) p) c.in_ok-rising.rising.items
     c.loop-at.parents.items c.loop-at.at c.index.result.now c.in_ok-parent.parent
     (omega (arith, c.loop-at-test.true, c.len-at-end.ensures))
-    c.index.ensures c.loop-at.invariant c.in_ok-parent.ensures)
+    c.index.ensures c.loop-at.invariant
+    (subst (λ u. IsRecoveredParent (action_of u) c.in_ok-parent.parent) c.get.ensures c.in_ok-parent.ensures))
 
 pub returns : goal.returns
 returns c =

@@ -12,7 +12,8 @@ loop-at-preserved c =
     rw c.in_ok-push.ensures.items (zip_more (λ x w. IsWritten (components_of x.now.name) w) c.in_ok-rising.rising.items
     c.loop-at.written.items c.loop-at.at c.index.result.now c.in_ok-name.name
     (omega (arith, c.loop-at-test.true, c.len-at-end.ensures))
-    c.index.ensures c.loop-at.invariant c.in_ok-name.ensures)
+    c.index.ensures c.loop-at.invariant
+    (subst (λ n. IsWritten (components_of n.name) c.in_ok-name.name) c.get.ensures c.in_ok-name.ensures))
 
 pub returns : goal.returns
 returns c =
