@@ -2,11 +2,10 @@
 //! built schema, the types above a type are asked for, and a text that is no schema is refused.
 #![tactic(auto)]
 
-use cedar_data::Text;
+use cedar_data::{Shared, Text};
 use cedar_identifiers::{Name, NameText, RawName};
 use cedar_names::ExtensionTable;
 use schema_build::{CedarSchemaError, FromCedarSchema, ValidatorSchema};
-use schema_build_types::Shared;
 use schema_json::Fragment;
 use schema_print::ToCedarSchema;
 use std::alloc::Global;

@@ -5,13 +5,13 @@ ghost use Rattle.cedar_names.specs.declared.extension_table.ExtensionTable.{Exte
 ghost use Rattle.schema_json.specs.declared.fragment.Fragment.{Fragment as Fragments};
 ghost use Rattle.schema_build.specs.Assembly.{AreSharedOf, AreAt, AreAllAt, AreEntitiesBuilt, AreActionsBuilt, HoldEntities, HoldActions, entity_type_of, action_of_parts};
 
-use cedar_data::{CloneIn, List, Map};
+use cedar_data::{CloneIn, List, Map, Shared};
 use cedar_identifiers::{Name, NameText, RawName};
 use cedar_names::EntityUID;
 use schema_build_hierarchy::{ActionEntry as DeclaredAction, EntityEntry as DeclaredEntity, Entry};
 use schema_build_types::{
-    ActionEntry, EntityTypeEntry, Shared, ValidatorActionId, ValidatorActionKind,
-    ValidatorEntityType, ValidatorEntityTypeKind,
+    ActionEntry, EntityTypeEntry, ValidatorActionId, ValidatorActionKind, ValidatorEntityType,
+    ValidatorEntityTypeKind,
 };
 use std::alloc::{AllocError, Global};
 

@@ -6,9 +6,10 @@ ghost use Rattle.schema_build_types.specs.declared.action.ValidatorActionId.{Val
 ghost use Rattle.schema_build_types.specs.declared.entity_type.ValidatorEntityType.{ValidatorEntityType as EntityType};
 ghost use Rattle.schema_build.specs.Parts.{IsMisnamed, IsEnumBelow, NoneIs, IsFirstThat, IsLeastName};
 
+use cedar_data::Shared;
 use cedar_identifiers::Name;
 use cedar_names::EntityUID;
-use schema_build_types::{Shared, ValidatorActionId, ValidatorEntityType, ValidatorEntityTypeKind};
+use schema_build_types::{ValidatorActionId, ValidatorEntityType, ValidatorEntityTypeKind};
 use std::cmp::Ordering;
 
 // Whether the name's last component is `Action`.

@@ -5,9 +5,9 @@ ghost use Rattle.cedar_names.specs.Definitions.{action_of};
 ghost use Rattle.schema_build_types.specs.Content.{names_content, actions_in_order};
 ghost use Rattle.schema_build_equal.specs.Among.{are_among, are_one_set};
 
+use cedar_data::Shared;
 use cedar_identifiers::Name;
 use cedar_names::EntityUID;
-use schema_build_types::Shared;
 
 // Each of these items is among the others.
 fn are_among<T: PartialEq>(items: &[T], others: &[T]) -> bool

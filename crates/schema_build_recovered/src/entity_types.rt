@@ -11,11 +11,11 @@ ghost use Rattle.schema_build_recovered.specs.Refusals.{IsFirstLack};
 
 use crate::sets::written_ancestors;
 use crate::types::{recovered_record, recovered_type};
-use cedar_data::{Boxed, CloneIn, Map, Text};
+use cedar_data::{Boxed, CloneIn, Map, Shared, Text};
 use cedar_identifiers::{Annotations, Name, RawName, UnreservedId};
 use schema_build_errors::RecoveryError;
 use schema_build_text::last_word;
-use schema_build_types::{EntityTypeEntry, Shared, Type as BuiltType, ValidatorEntityTypeKind};
+use schema_build_types::{EntityTypeEntry, Type as BuiltType, ValidatorEntityTypeKind};
 use schema_json::{
     AttributesOrContext, EntityType, EntityTypeKind, RecordType, StandardEntityType, Type,
 };

@@ -6,11 +6,10 @@ ghost use Rattle.schema_build_text.specs.Rows.{sorted_once};
 ghost use Rattle.schema_build_recovered.specs.Recovered.{IsWritten, IsRecoveredParent, AreRecoveredParents};
 
 use crate::names::written_name;
-use cedar_data::{CloneIn, List};
+use cedar_data::{CloneIn, List, Shared};
 use cedar_identifiers::{Name, RawName};
 use cedar_names::EntityUID;
 use schema_build_text::sorted_set;
-use schema_build_types::Shared;
 use schema_json::ActionEntityUID;
 use std::alloc::{AllocError, Global};
 use std::collections::BTreeSet;

@@ -10,10 +10,10 @@ ghost use Rattle.schema_build_text.specs.Items.{action_declaration};
 use crate::pushing::{deeper, push, push_spaces, push_string};
 use crate::rows::{push_action_parents, push_names};
 use crate::types::push_record;
-use cedar_data::Text;
+use cedar_data::{Shared, Text};
 use cedar_identifiers::Name;
 use cedar_names::EntityUID;
-use schema_build_types::{Shared, Type, ValidatorActionId, ValidatorActionKind};
+use schema_build_types::{Type, ValidatorActionId, ValidatorActionKind};
 use std::alloc::{AllocError, Global};
 
 // Adds the record of these attributes, without a space in the braces where there are none.

@@ -12,9 +12,9 @@ use crate::names::push_basename;
 use crate::pushing::{push, push_spaces};
 use crate::rows::{push_choices, push_name_parents};
 use crate::types::{push_record, push_type};
-use cedar_data::{Boxed, NonEmpty, Text};
+use cedar_data::{Boxed, NonEmpty, Shared, Text};
 use cedar_identifiers::{Eid, Name};
-use schema_build_types::{Shared, Type, ValidatorEntityType, ValidatorEntityTypeKind};
+use schema_build_types::{Type, ValidatorEntityType, ValidatorEntityTypeKind};
 use std::alloc::{AllocError, Global};
 
 // Adds ` = ` and the record of the attributes, where there are any.

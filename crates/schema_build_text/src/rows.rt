@@ -11,10 +11,9 @@ ghost use Rattle.schema_build_text.specs.Readings.{first_name};
 
 use crate::names::push_name;
 use crate::pushing::{push, push_between, push_string};
-use cedar_data::{NonEmpty, Text};
+use cedar_data::{NonEmpty, Shared, Text};
 use cedar_identifiers::{Eid, Name};
 use cedar_names::EntityUID;
-use schema_build_types::Shared;
 use std::alloc::{AllocError, Global};
 use std::cmp::Ordering;
 use std::collections::BTreeSet;

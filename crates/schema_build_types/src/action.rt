@@ -1,6 +1,5 @@
-use crate::shared::Shared;
 use crate::types::Type;
-use cedar_data::{CloneIn, List};
+use cedar_data::{CloneIn, List, Shared};
 use cedar_identifiers::Name;
 use cedar_names::EntityUID;
 use std::alloc::{AllocError, Global};

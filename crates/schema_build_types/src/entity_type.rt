@@ -1,6 +1,5 @@
-use crate::shared::Shared;
 use crate::types::{Type, clone_entries};
-use cedar_data::{Boxed, CloneIn, List, Map, NonEmpty, Text};
+use cedar_data::{Boxed, CloneIn, List, Map, NonEmpty, Shared, Text};
 use cedar_identifiers::{Eid, Name};
 use std::alloc::{AllocError, Global};
 

@@ -6,12 +6,10 @@ pub mod entity_type;
 pub mod entries;
 pub mod laws;
 pub mod lookups;
-pub mod shared;
 pub mod types;
 
 pub use action::{ValidatorActionId, ValidatorActionKind};
 pub use entity_type::{ValidatorEntityType, ValidatorEntityTypeKind};
 pub use entries::{ActionEntry, EntityTypeEntry, Keyed};
 pub use lookups::get_counted;
-pub use shared::Shared;
 pub use types::Type;
