@@ -1,5 +1,5 @@
 -- The fragment that the data of the deprecated form becomes is in order.
-use Rattle.std.proofs.Common.{◌≡◌, ℕ, List, [], ◌∷◌, Option, Ordering, sym, ◌∙◌, subst, All}
+use Rattle.std.proofs.Common.{ℕ, List, [], ◌∷◌, Option, Ordering, sym, ◌∙◌, subst, All}
 use Rattle.std.specs.Cmp.{IsTotalOrder}
 use Rattle.std.specs.List.{AllZip}
 use Rattle.std.specs.List.Sorted.{IsStrictlySortedBy}

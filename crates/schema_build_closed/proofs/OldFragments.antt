@@ -15,7 +15,6 @@ use Rattle.schema_json.specs.declared.types.TypeVariant.{TypeVariant}
 use Rattle.schema_json.specs.declared.types.TypeOfAttribute.{TypeOfAttribute, out-TypeOfAttribute}
 use Rattle.schema_json.specs.declared.types.TypeOfAttribute.{out-roll-TypeOfAttribute}
 use Rattle.schema_json.specs.declared.entity_type.EntityType.{EntityType}
-use Rattle.schema_json.specs.declared.entity_type.EntityTypeKind.TheVariants.{Standard}
 use Rattle.schema_json.specs.declared.action_type.ActionType.{ActionType}
 use Rattle.schema_json.specs.declared.action_type.ApplySpec.{ApplySpec}
 use Rattle.schema_json.specs.declared.fragment.Fragment.{Fragment}

@@ -6,7 +6,7 @@ use denote.Param.Weighed.{most}
 use Rattle.cedar_identifiers.specs.declared.unreserved_id.UnreservedId.{UnreservedId}
 use Rattle.schema_build_types.specs.declared.types.Type.{«Type», Type-F, fold-roll-Type}
 use Rattle.schema_build_types.specs.declared.types.Type.TheVariants as built
-use Rattle.schema_build_types.specs.Content.{TypeContent, AttributeContents, none, first, attributes_content}
+use Rattle.schema_build_types.specs.Content.{TypeContent, none, first, attributes_content}
 use Rattle.schema_build_types.specs.Content.{layer_content, type_content}
 use Rattle.schema_build_types.specs.Content as said
 use Rattle.schema_build_types.proofs.Contents.{record_content}

@@ -4,7 +4,7 @@ use Rattle.std.specs.Option.{option_map}
 use Rattle.cedar_names.specs.Meaning.{PlainType, Attributes, no_more, attribute, EntityMeaning, ActionMeaning}
 use Rattle.cedar_names.specs.Meaning.{SchemaMeaning}
 use Rattle.cedar_names.specs.Meaning as plain
-use Rattle.schema_build_types.specs.Content.{EntityContent, ActionContent, SchemaContent}
+use Rattle.schema_build_types.specs.Content.{EntityContent, ActionContent}
 use Rattle.schema_build_types.specs.Content as said
 use Rattle.schema_build_types.specs.Standing.{as_built, attributes_as_built, schema_as_built}
 use Rattle.schema_build_text.specs.Readings.{plain_type, plain_attributes, entity_reading, action_reading}

@@ -7,7 +7,7 @@ use Rattle.cedar_identifiers.specs.Names.{components_of}
 use Rattle.cedar_names.specs.CanonicalText.{basename, namespace}
 use Rattle.cedar_names.specs.Definitions.{same_name, among}
 use Rattle.cedar_names.specs.Meaning.{SchemaMeaning}
-use Rattle.schema_build_types.specs.Content.{TypeContent, AttributeContents, none, first, EntityContent, ActionContent}
+use Rattle.schema_build_types.specs.Content.{TypeContent, AttributeContents, none, first}
 use Rattle.schema_build_types.specs.Content.{SchemaContent}
 use Rattle.schema_build_types.specs.Content as said
 use Rattle.schema_build_types.specs.Standing.{schema_as_built}

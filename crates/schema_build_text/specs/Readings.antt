@@ -6,7 +6,7 @@ use Rattle.std.specs.Option.{option_map}
 use Rattle.cedar_names.specs.Meaning.{PlainType, Attributes, no_more, attribute, EntityMeaning, ActionMeaning}
 use Rattle.cedar_names.specs.Meaning.{SchemaMeaning}
 use Rattle.schema_build_types.specs.Content.{TypeContent, AttributeContents, none, first, EntityContent, ActionContent}
-use Rattle.schema_build_types.specs.Content.{SchemaContent, entity_content, action_content}
+use Rattle.schema_build_types.specs.Content.{SchemaContent}
 use Rattle.schema_build_types.specs.Content as said
 
 -- the first of the names

@@ -6,7 +6,7 @@ use Rattle.cedar_names.specs.Meaning.{PlainType, Attributes, no_more, attribute}
 use Rattle.cedar_names.specs.Meaning as plain
 use Rattle.schema_build_types.specs.declared.types.Type.{«Type», Type-F, fold-roll-Type}
 use Rattle.schema_build_types.specs.declared.types.Type.TheVariants as built
-use Rattle.schema_build_types.specs.Content.{TypeContent, AttributeContents, none, first, attribute_contents}
+use Rattle.schema_build_types.specs.Content.{TypeContent, first}
 use Rattle.schema_build_types.specs.Content.{attributes_content, layer_content, type_content, names_content}
 use Rattle.schema_build_types.specs.Content as said
 use Rattle.schema_build_types.specs.Standing.{IsBuilt, AreBuilt, as_built, attributes_as_built}

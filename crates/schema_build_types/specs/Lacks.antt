@@ -7,7 +7,7 @@ use Rattle.cedar_names.specs.Definitions.{same_name}
 use Rattle.cedar_names.specs.declared.entity_uid.EntityUID.{EntityUID}
 use Rattle.schema_build_types.specs.declared.entity_type.ValidatorEntityType.{ValidatorEntityType}
 use Rattle.schema_build_types.specs.declared.action.ValidatorActionId.{ValidatorActionId}
-use Rattle.schema_build_types.specs.Content.{TypeContent, AttributeContents, none, first, EntityContent, ActionContent}
+use Rattle.schema_build_types.specs.Content.{TypeContent, AttributeContents, none, first, EntityContent}
 use Rattle.schema_build_types.specs.Content.{SchemaContent, content}
 use Rattle.schema_build_types.specs.Content as said
 

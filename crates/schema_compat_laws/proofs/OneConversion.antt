@@ -45,7 +45,7 @@ use Rattle.schema_compat_convert.specs.Converted.{attribute_of, record_shape, Ty
 use Rattle.schema_compat_convert.specs.Converted.{ShapeBecomes, of_string, of_long, of_boolean, of_set, of_record}
 use Rattle.schema_compat_convert.specs.Converted.{of_entity, of_extension, AttributesBecome, no_attribute}
 use Rattle.schema_compat_convert.specs.Converted.{next_attribute}
-use Rattle.schema_compat_convert.specs.Converted.{ValuesBecome, MapBecomes, CommonTypeBecomes, EntityTypeBecomes}
+use Rattle.schema_compat_convert.specs.Converted.{MapBecomes, CommonTypeBecomes, EntityTypeBecomes}
 use Rattle.schema_compat_convert.specs.Converted.{ApplyBecomes, OptionBecomes, UidBecomes, ActionBecomes}
 use Rattle.schema_compat_convert.specs.Converted.{NamespaceBecomes}
 use Rattle.schema_compat_convert.specs.Converted.{EntryBecomes, FragmentBecomes}

@@ -31,7 +31,7 @@ use Rattle.std.specs.Cmp.{IsEquivalence}
 use Rattle.std.specs.Cmp.Lexicographic.{pointwise, nat_list_eq_equiv}
 use Rattle.std.specs.Option.{option_eq, option_map}
 use Rattle.std.specs.Str.{encode_utf8_all}
-use Rattle.schema_json.specs.declared.types.Type.{«Type», out-Type, roll-Type}
+use Rattle.schema_json.specs.declared.types.Type.{«Type», roll-Type}
 use Rattle.schema_json.specs.declared.types.Type.TheVariants.{Variant, CommonTypeRef, rolls-Variant}
 use Rattle.schema_json.specs.declared.types.Type.TheVariants.{rolls-CommonTypeRef}
 use Rattle.schema_json.specs.declared.types.TypeVariant.{TypeVariant, out-TypeVariant, roll-TypeVariant}

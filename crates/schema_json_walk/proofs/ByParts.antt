@@ -12,13 +12,12 @@ use Rattle.schema_json.specs.declared.types.TypeVariant.{TypeVariant, roll-TypeV
 use Rattle.schema_json.specs.declared.types.RecordType.{RecordType, roll-RecordType}
 use Rattle.schema_json.specs.declared.types.TypeOfAttribute.{TypeOfAttribute, roll-TypeOfAttribute}
 use Rattle.schema_json.specs.declared.types.Type.TheOpen.{Type-F, TypeVariant-F, RecordType-F, TypeOfAttribute-F}
-use Rattle.schema_json.specs.declared.types.Type.TheFolds.{ind-Type, ind-TypeVariant, ind-RecordType}
-use Rattle.schema_json.specs.declared.types.Type.TheFolds.{ind-TypeOfAttribute, map-Type, map-TypeVariant}
+use Rattle.schema_json.specs.declared.types.Type.TheFolds.{ind-Type, ind-TypeVariant}
+use Rattle.schema_json.specs.declared.types.Type.TheFolds.{map-Type, map-TypeVariant}
 use Rattle.schema_json.specs.declared.types.Type.TheFolds.{map-RecordType, map-TypeOfAttribute, fold-roll-Type}
 use Rattle.schema_json.specs.declared.types.Type.TheFolds.{fold-roll-TypeVariant, fold-roll-RecordType}
 use Rattle.schema_json.specs.declared.types.Type.TheFolds.{fold-roll-TypeOfAttribute}
 use Rattle.schema_json.specs.declared.entity_type.AttributesOrContext.{AttributesOrContext}
-use Rattle.schema_json.specs.declared.entity_type.StandardEntityType.{StandardEntityType}
 use Rattle.schema_json.specs.declared.entity_type.EntityTypeKind.{EntityTypeKind}
 use Rattle.schema_json.specs.declared.entity_type.EntityTypeKind.TheVariants.{Standard, Enum}
 use Rattle.schema_json.specs.declared.entity_type.EntityType.{EntityType}
@@ -29,9 +28,9 @@ use Rattle.schema_json.specs.declared.fragment.NamespaceDefinition.{NamespaceDef
 use Rattle.schema_json.specs.declared.fragment.Fragment.{Fragment}
 use Rattle.schema_json_walk.specs.Parts.{Part, type_reference, context_reference, action_parent, extension_type}
 use Rattle.schema_json_walk.specs.Parts.{open_record, action_attributes, external_not_bare}
-use Rattle.schema_json_walk.specs.Walk.{itself, visit_where, each_value, at_type, at_variant, at_record, at_attribute}
+use Rattle.schema_json_walk.specs.Walk.{itself, visit_where, at_type, at_variant, at_record, at_attribute}
 use Rattle.schema_json_walk.specs.Walk.{at_context, of_type, of_variant, of_record, of_attribute, of_context}
-use Rattle.schema_json_walk.specs.Walk.{of_standard, of_kind, of_entity, of_common, of_apply, of_uid, of_uids}
+use Rattle.schema_json_walk.specs.Walk.{of_kind, of_entity, of_common, of_apply, of_uid, of_uids}
 use Rattle.schema_json_walk.specs.Walk.{of_action, of_namespace, of_entry, of_fragment, fragment_parts}
 
 -- of a list, each item's

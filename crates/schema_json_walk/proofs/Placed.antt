@@ -1,5 +1,5 @@
 -- Parts of one namespace, each told with it.
-use Rattle.std.proofs.Common.{◌≡◌, ◌⊎◌, inl, inr, List, [], ◌∷◌, ◌++◌, sym, subst, Option}
+use Rattle.std.proofs.Common.{inl, inr, List, [], ◌∷◌, sym, subst, Option}
 use Rattle.std.specs.List.{FoldsTo, flat_map}
 use Rattle.cedar_identifiers.specs.declared.name.Name.{Name}
 use Rattle.cedar_identifiers.specs.declared.name_text.NameText as named

@@ -18,8 +18,8 @@ use Rattle.schema_syntax_parser.specs.declared.syntax.AppSyntax.{AppSyntax}
 use Rattle.schema_syntax_parser.specs.declared.syntax.AppSyntax.TheVariants as app_syntax
 use Rattle.schema_syntax_parser.specs.declared.syntax.DeclSyntax.TheVariants as decl_syntax
 use Rattle.schema_syntax_parser.specs.declared.syntax.ItemSyntax.TheVariants as item_syntax
-use Rattle.schema_syntax_parser.specs.Syntax.{IsChain, IsPath, IsRef, IsRecord, IsShape, AreTags, AreParents, AreListed}
-use Rattle.schema_syntax_parser.specs.Syntax.{AreSeparated, AreMany, IsApp, Applies, IsDecl, IsDeclared, IsItem}
+use Rattle.schema_syntax_parser.specs.Syntax.{IsChain, IsPath, IsRef, AreParents}
+use Rattle.schema_syntax_parser.specs.Syntax.{AreSeparated, AreMany, IsApp, IsDeclared, IsItem}
 use Rattle.schema_syntax_parser.specs.Syntax.{is_role}
 use Rattle.schema_syntax_parser.specs.Syntax.{IsStringToken}
 use Rattle.schema_syntax_tokens.specs.TokenLists.{whole_place}

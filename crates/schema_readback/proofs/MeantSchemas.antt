@@ -18,7 +18,7 @@ use Rattle.schema_syntax_grammar.specs.declared.token_kind.TokenKind.TheVariants
 use Rattle.schema_syntax_grammar.specs.declared.token_kind.TokenKind.TheVariants.{RBracket}
 use Rattle.schema_syntax_tree.specs.declared.pr.PR.TheVariants.{Principal, Resource}
 use Rattle.schema_readback.specs.Written.{WrittenMember, types, context_record}
-use Rattle.schema_readback.specs.Printed.{mark, space, path_pieces, type_pieces, string}
+use Rattle.schema_readback.specs.Printed.{mark, space, path_pieces, string}
 use Rattle.schema_readback.specs.Printed as printed
 use Rattle.schema_readback.specs.PrintedDecls.{list_pieces, bracketed, parents_pieces, word_pieces, string_pieces}
 use Rattle.schema_readback.specs.PrintedDecls.{ref_pieces, shape_pieces, tags_pieces, context_pieces, members_pieces}

@@ -30,7 +30,7 @@ use Rattle.schema_readback.specs.Spellings.{SpellsDeclared, declared_of, SpellsD
 use Rattle.schema_readback.specs.Spellings.{external_entity_of, action_of, external_action_of, common_of, SpellsItem}
 use Rattle.schema_readback.specs.Spellings.{namespace_of, outside_of, SpellsSchema}
 use Rattle.schema_readback.specs.Printed.{mark, string, line_break, space, notes_pieces, AreProperNotes, path_pieces}
-use Rattle.schema_readback.specs.Printed.{type_pieces, lines_pieces, IsProperPath, IsProperType, AreProperAttributes}
+use Rattle.schema_readback.specs.Printed.{type_pieces, IsProperPath, AreProperAttributes}
 use Rattle.schema_readback.specs.Printed as printed
 use Rattle.schema_readback.specs.PrintedDecls.{list_pieces, bracketed, parents_pieces, word_pieces, string_pieces}
 use Rattle.schema_readback.specs.PrintedDecls.{ref_pieces, shape_pieces, tags_pieces, context_pieces, member_pieces}

@@ -13,7 +13,7 @@ use Rattle.schema_syntax_parser.specs.declared.syntax.TypeSyntax.{TypeSyntax}
 use Rattle.schema_syntax_parser.specs.declared.syntax.AttrSyntax.{AttrSyntax, roll-AttrSyntax, out-AttrSyntax}
 use Rattle.schema_syntax_parser.specs.declared.syntax.AttrSyntax.{out-roll-AttrSyntax}
 use Rattle.schema_syntax_parser.specs.declared.syntax.TypeSyntax.TheOpen.{AttrSyntax-F}
-use Rattle.schema_syntax_parser.specs.Syntax.{IsChain, IsType, IsRecord, AreAttrs, IsAttr, IsMark}
+use Rattle.schema_syntax_parser.specs.Syntax.{IsRecord, AreAttrs, IsMark}
 use Rattle.schema_syntax_tokens.specs.TokenLists.{whole_place}
 use Rattle.schema_syntax_parser.specs.Syntax as S
 use Rattle.schema_syntax_tree.specs.declared.types.Type.{«Type»}

@@ -28,7 +28,7 @@ use Rattle.schema_syntax_parser.specs.declared.syntax.TypeSyntax.TheVariants as 
 use Rattle.schema_syntax_parser.specs.declared.syntax.TypeSyntax.TheOpen.{TypeSyntax-F, AttrSyntax-F}
 use Rattle.schema_syntax_parser.specs.declared.syntax.AttrSyntax.{AttrSyntax, roll-AttrSyntax, out-AttrSyntax}
 use Rattle.schema_syntax_parser.specs.declared.syntax.AttrSyntax.{out-roll-AttrSyntax}
-use Rattle.schema_syntax_parser.specs.Syntax.{IsChain, IsPath, AreAnnotations, IsMark, IsType, IsRecord, AreAttrs}
+use Rattle.schema_syntax_parser.specs.Syntax.{IsChain, AreAnnotations, IsMark, IsType, IsRecord, AreAttrs}
 use Rattle.schema_syntax_parser.specs.Syntax.{IsAttr}
 use Rattle.schema_syntax_tokens.specs.TokenLists.{whole_place}
 use Rattle.schema_syntax_parser.specs.Syntax as S

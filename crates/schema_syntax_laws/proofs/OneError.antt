@@ -1,6 +1,5 @@
 -- A text has one error at most.
-use Rattle.std.proofs.Common.{◌≡◌, ◌≤◌, ℕ, List, length, refl, sym, ap, subst, arith, IsUtf8}
-use Rattle.schema_syntax_grammar.specs.declared.token_kind.TokenKind.{TokenKind}
+use Rattle.std.proofs.Common.{◌≡◌, ◌≤◌, ℕ, List, length, refl, ap, subst, arith, IsUtf8}
 use Rattle.schema_syntax_tokens.specs.declared.token.Token.{Token}
 use Rattle.schema_syntax_tokens.specs.Escapes.{BadEscape}
 use Rattle.schema_syntax_tokens.specs.Scans.{Scans}
@@ -9,7 +8,6 @@ use Rattle.schema_syntax_parser.specs.declared.syntax.ItemSyntax.{ItemSyntax}
 use Rattle.schema_syntax_errors.specs.declared.parse_error.ParseError.{ParseError}
 use Rattle.schema_syntax_errors.specs.declared.parse_error.ParseError.TheVariants.{User}
 use Rattle.schema_syntax_errors.specs.declared.user_error.UserError.{UserError}
-use Rattle.schema_syntax_reader.specs.LawfulTrees.{IsUserFaultOf}
 use Rattle.schema_syntax_reader.specs.Sites.{sites_of}
 use Rattle.schema_syntax_reader.specs.UserFaults.{HasUserFault, IsFirstUserFault}
 use Rattle.schema_syntax_reader.proofs.Fits.{sites_ends, syntax_fits}

@@ -1,24 +1,22 @@
 -- No two user faults of a text end together, so the one that ends first is one.
-use Rattle.std.proofs.Common.{◌≡◌, ℕ, ◌+◌, ◌<◌, ◌≤◌, List, [], ◌∷◌, ◌++◌, map, Option, Some, None, refl, sym, ap, ◌∙◌}
-use Rattle.std.proofs.Common.{subst, inl, inr, arith, append_assoc, slice_range}
-use Rattle.std.specs.Prelude.{◌⊎◌}
+use Rattle.std.proofs.Common.{◌≡◌, ℕ, ◌+◌, ◌<◌, List, [], ◌∷◌, ◌++◌, Option, Some, refl, sym, ap, ◌∙◌}
+use Rattle.std.proofs.Common.{subst, inl, inr, arith, append_assoc}
 use Rattle.std.specs.List.{All}
 use Rattle.std.specs.Option.{option_to_list}
 use Rattle.std.proofs.lemmas.List.{map-append, append_cancel_right}
-use Rattle.std.proofs.lemmas.List.Elements.{All-nil, All-cons, All-head, All-tail, All-weaker}
+use Rattle.std.proofs.lemmas.List.Elements.{All-nil, All-cons, All-head, All-tail}
 use Rattle.cedar_identifiers.specs.declared.any_id.AnyId.{AnyId}
 use Rattle.cedar_identifiers.proofs.Same.{any_id_same}
 use Rattle.schema_syntax_tokens.specs.declared.token.Token.{Token}
 use Rattle.schema_syntax_tokens.specs.Escapes.{BadEscape}
 use Rattle.schema_syntax_parser.specs.declared.syntax.AnnotationSyntax.{AnnotationSyntax}
 use Rattle.schema_syntax_errors.specs.declared.user_error.UserError.{UserError}
-use Rattle.schema_syntax_errors.specs.declared.user_error.UserError.TheVariants.{EmptyList, StringEscape}
-use Rattle.schema_syntax_errors.specs.declared.user_error.UserError.TheVariants.{ReservedIdentifierUsed}
+use Rattle.schema_syntax_errors.specs.declared.user_error.UserError.TheVariants.{StringEscape}
 use Rattle.schema_syntax_errors.specs.declared.user_error.UserError.TheVariants.{DuplicateAnnotations}
 use Rattle.schema_syntax_reader.specs.Leaves.{word_at, IsBodyAt}
 use Rattle.schema_syntax_reader.specs.Placed.{note_tokens}
 use Rattle.schema_syntax_parser.specs.declared.syntax.ItemSyntax.{ItemSyntax}
-use Rattle.schema_syntax_reader.specs.Sites.{Site, word, text, annotations, empty, sites_of}
+use Rattle.schema_syntax_reader.specs.Sites.{Site, text, annotations, sites_of}
 use Rattle.schema_syntax_reader.specs.UserFaults.{IsBadEscapeAt, IsOtherKey, HasUserFault, FaultAt, empty_list}
 use Rattle.schema_syntax_reader.specs.UserFaults.{reserved, escape, note_escape, duplicate}
 use Rattle.schema_syntax_reader.proofs.Fits.{ends, site_ends, sites_ends, flat_join}

@@ -1,6 +1,6 @@
 -- The tokens of a text stand at places of it, and each ends behind those before it.
-use Rattle.std.proofs.Common.{◌≡◌, ℕ, zero, suc, ◌+◌, ◌-◌, ◌<◌, ◌≤◌, true, ◌&&◌, ◌==◌, cond, List, [], ◌∷◌, ◌++◌}
-use Rattle.std.proofs.Common.{length, take, drop, map, get_or, Option, Some, None, refl, sym, ap, ◌∙◌, subst, inl, inr}
+use Rattle.std.proofs.Common.{◌≡◌, ℕ, ◌+◌, ◌-◌, ◌<◌, true, ◌&&◌, ◌==◌, cond, List, [], ◌∷◌, ◌++◌}
+use Rattle.std.proofs.Common.{length, take, drop, get_or, Option, Some, None, refl, sym, ap, ◌∙◌, subst, inl, inr}
 use Rattle.std.proofs.Common.{arith, slice_range, IsUtf8, if◌then◌else◌}
 use Rattle.std.specs.List.{All, AllPass}
 use Rattle.std.specs.Str.{IsCharBoundary}
@@ -14,7 +14,7 @@ use Rattle.schema_syntax_grammar.specs.declared.token_kind.TokenKind.{TokenKind}
 use Rattle.schema_syntax_grammar.specs.declared.token_kind.TokenKind.TheVariants.{PathSep}
 use Rattle.schema_syntax_tokens.specs.declared.token.Token.{Token}
 use Rattle.schema_syntax_tokens.specs.Forms.{single_mark, mark_kind, IsForm}
-use Rattle.schema_syntax_tokens.specs.Scans.{Skips, IsLongest, IsNext, ScansFrom, Scans, IsPlaced}
+use Rattle.schema_syntax_tokens.specs.Scans.{Skips, IsLongest, ScansFrom, Scans, IsPlaced}
 use Rattle.schema_syntax_tokens.specs.Scans.Skips.{none, more}
 
 -- the bytes begin and end with one below 128

@@ -1,5 +1,5 @@
 -- The first item of tokens whose kinds are those of a schema.
-use Rattle.std.proofs.Common.{◌≡◌, ℕ, ◌<◌, ◌+◌, ◌++◌, List, length, Option, Some, None, refl, sym, ap, ◌∙◌, subst, arith}
+use Rattle.std.proofs.Common.{◌≡◌, ◌<◌, ◌+◌, ◌++◌, List, length, Some, None, refl, sym, ap, ◌∙◌, subst, arith}
 use Rattle.std.proofs.Common.{length-append}
 use Rattle.schema_syntax_grammar.specs.Grammar.{Sentence}
 use Rattle.schema_syntax_tokens.specs.declared.token.Token.{Token}

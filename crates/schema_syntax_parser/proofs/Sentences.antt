@@ -11,7 +11,7 @@ use Rattle.schema_syntax_grammar.specs.declared.token_kind.TokenKind.TheVariants
 use Rattle.schema_syntax_grammar.specs.declared.token_kind.TokenKind.TheVariants.{LParen, RParen, LBrace, RBrace}
 use Rattle.schema_syntax_grammar.specs.declared.token_kind.TokenKind.TheVariants.{LBracket, RBracket, Less, Greater}
 use Rattle.schema_syntax_grammar.specs.declared.token_kind.TokenKind.TheVariants.{Question, Equals}
-use Rattle.schema_syntax_grammar.specs.Grammar.{is_word_kind, is_ident, Kinds, Part, schema, item, decls, decl}
+use Rattle.schema_syntax_grammar.specs.Grammar.{is_ident, Kinds, Part, schema, item, decls, decl}
 use Rattle.schema_syntax_grammar.specs.Grammar.{bare_decl, idents, parents, shape, tags, strings, names, name, in_refs}
 use Rattle.schema_syntax_grammar.specs.Grammar.{applies, apps, app, types, paths, refs, ref_list, ref, ty, rec, attrs}
 use Rattle.schema_syntax_grammar.specs.Grammar.{attr, mark, path, anns, Phrase, is_name_kind}

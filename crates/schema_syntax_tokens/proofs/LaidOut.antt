@@ -11,9 +11,9 @@ use Rattle.schema_syntax_tokens.specs.Forms.{single_mark, mark_kind, IsForm}
 use Rattle.cedar_data.specs.Words.{is_word_part}
 use Rattle.schema_syntax_tokens.specs.Scans.{IsSpace, IsPastBlank, Skips, ScansFrom, Scans}
 use Rattle.schema_syntax_tokens.specs.Scans.Skips.{none, more}
-use Rattle.schema_syntax_tokens.specs.Laid.{Lexeme, Piece, gap, lexeme, piece_text, laid, lexemes_of, tokens_from}
+use Rattle.schema_syntax_tokens.specs.Laid.{Lexeme, Piece, gap, lexeme, laid, lexemes_of, tokens_from}
 use Rattle.schema_syntax_tokens.specs.Laid.{is_plain_blank, AreBlanks, Edge, free, word, colon, edge_of, may_touch}
-use Rattle.schema_syntax_tokens.specs.Laid.{Follow, done, by_gap, by_blanks, by_lexeme, IsSpelled, Spells, IsReadAs}
+use Rattle.schema_syntax_tokens.specs.Laid.{Follow, done, by_gap, by_blanks, by_lexeme, Spells, IsReadAs}
 use Rattle.schema_syntax_tokens.specs.Laid as L
 use Rattle.schema_syntax_tokens.proofs.Blank.{NoBlank-nil}
 use Rattle.schema_syntax_tokens.proofs.Longest.{NoForm-nil, no_form_nil, two_colons}

@@ -3,7 +3,7 @@ use Rattle.std.specs.List.{FoldsTo}
 use Rattle.schema_json.specs.declared.types.TypeOfAttribute.{size-TypeOfAttribute, size_is-TypeOfAttribute}
 use Rattle.schema_json.proofs.Sizes.{most_at}
 use Rattle.schema_json_walk.specs.Visits.{StopsAmong}
-use Rattle.schema_json_walk.specs.Walk.{itself, of_attribute, of_variant, of_record, of_entries}
+use Rattle.schema_json_walk.specs.Walk.{itself, of_attribute}
 use Rattle.schema_json_walk.proofs.Layers.{record_walked, variant_walked, attribute_walked}
 use Rattle.schema_json_walk.proofs.Visiting.{each_taken, each_stops, handed, ok_then, err_behind, err_front}
 use Rattle.schema_json_walk.proofs.walk_types.+walk.Goals as goal

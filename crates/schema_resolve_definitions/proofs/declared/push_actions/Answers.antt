@@ -1,4 +1,3 @@
-use Rattle.std.proofs.Common.{ap}
 use Rattle.cedar_identifiers.specs.Names.{components_of}
 use Rattle.cedar_names.specs.Definitions.{action_of}
 use Rattle.schema_resolve_definitions.specs.Declarations.{action_type}

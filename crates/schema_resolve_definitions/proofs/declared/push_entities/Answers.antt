@@ -1,6 +1,5 @@
 use Rattle.std.proofs.Common.{ap}
 use Rattle.cedar_identifiers.specs.Names.{components_of}
-use Rattle.cedar_names.specs.Definitions.{action_of}
 use Rattle.schema_resolve_definitions.specs.Declarations.{declared_name}
 use Rattle.schema_resolve_definitions.proofs.Sets.{next_pushed, all_pushed}
 use Rattle.schema_resolve_definitions.proofs.declared.push_entities.Goals as goal

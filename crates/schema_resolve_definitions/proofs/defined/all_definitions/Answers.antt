@@ -1,4 +1,4 @@
-use Rattle.std.proofs.Common.{◌≡◌, ◌∙◌, ◌||◌, ◌∷◌, ◌++◌, [], ℕ, List, map, codes, ap, sym}
+use Rattle.std.proofs.Common.{◌≡◌, ◌∙◌, ◌||◌, ℕ, List, map, ap, sym}
 use Rattle.std.proofs.lemmas.List.Folds.{list_any-append}
 use Rattle.cedar_names.specs.Definitions.{Definitions, among, among_actions, same_name, AddsNames, AddsTypes}
 use Rattle.schema_resolve_definitions.specs.Declarations.{declared}

@@ -1,6 +1,5 @@
-use Rattle.std.proofs.Common.{◌∙◌, ◌∷◌, ◌++◌, [], refl, codes, ap, map, append_assoc, append-nil}
+use Rattle.std.proofs.Common.{◌∙◌, refl, codes, ap}
 use Rattle.cedar_identifiers.specs.Words.{is_id}
-use Rattle.cedar_identifiers.specs.Names.{components_of}
 use Rattle.schema_resolve_definitions.specs.Defined.{names_of_builtin}
 use Rattle.schema_resolve_definitions.specs.Tests.{tests_of}
 use Rattle.cedar_data.proofs.Ascii.{chars-from_test}

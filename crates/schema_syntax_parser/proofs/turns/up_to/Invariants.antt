@@ -1,4 +1,4 @@
-use Rattle.std.proofs.Common.{◌≡◌, ◌+◌, length}
+use Rattle.std.proofs.Common.{◌≡◌, ◌+◌}
 use Rattle.schema_syntax_parser.specs.Reading.{many_at, with_items}
 use Rattle.schema_syntax_parser.proofs.turns.up_to.Given as goal
 

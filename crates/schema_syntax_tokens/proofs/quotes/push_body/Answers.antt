@@ -7,7 +7,7 @@ use Rattle.schema_syntax_tokens.specs.Steps.{NoneEscaped, IsNextEscape}
 use Rattle.schema_syntax_tokens.proofs.Quoting.{HasWritten-more, HasWritten-all, HasWritten-same, left_plain}
 use Rattle.schema_syntax_tokens.proofs.Quoting.{left_to_escape, boundary_after_escaped, text_after_escape}
 use Rattle.schema_syntax_tokens.proofs.quotes.push_body.Goals as goal
-use Rattle.schema_syntax_tokens.proofs.quotes.push_body.Goals.{In_ok-push_str, In_ok-push_str-2}
+use Rattle.schema_syntax_tokens.proofs.quotes.push_body.Goals.{In_ok-push_str}
 
 found : (c : In_ok-push_str) → IsNextEscape c.loop-at.rest.now c.in-Some.at c.in-Some.escape.now
 found c = subst (λ t. IsNextEscape t c.in-Some.at c.in-Some.escape.now) c.as_bytes.ensures.value c.in-Some.ensures
