@@ -1,6 +1,6 @@
 // What may still come, as a stack of symbols, the next one last.
 
-ghost use Rattle.std.specs.Prelude.{◌≡◌, ◌++◌, ◌+◌, ◌<◌, ◌≤◌, [], ◌∷◌, None, Some, OnOk, IfOk, MatchBool, MatchOption, is_some, length, reverse, slice_get, take};
+ghost use Rattle.std.specs.Prelude.{◌≡◌, ◌++◌, ◌+◌, ◌<◌, ◌≤◌, [], ◌∷◌, None, Some, OnOk, IfOk, IfSome, MatchBool, MatchOption, is_some, length, reverse, slice_get, take};
 ghost use Rattle.std.specs.Bool.{OnFalse};
 ghost use Rattle.std.specs.List.{filter};
 ghost use Rattle.schema_syntax_grammar.specs.Machine.{all_nullable, may, run, step};
@@ -13,7 +13,8 @@ use std::alloc::{AllocError, Global};
 
 // How many symbols stay below the one that takes a token of the kind, and what comes in its place.
 fn taker(stack: &[Symbol], kind: TokenKind) -> Option<(usize, &'static [Symbol])>
-    ensures { MatchOption result (step (reverse stack.now) kind ≡ None) (λ found. step (reverse stack.now) kind ≡ Some (found.1.now ++ reverse (take found.0 stack.now))) }
+    ensures step { MatchOption result (step (reverse stack.now) kind ≡ None) (λ found. step (reverse stack.now) kind ≡ Some (found.1.now ++ reverse (take found.0 stack.now))) }
+    ensures in_range { IfSome result (λ found. found.0 < length stack.now) }
 {
     let mut left = stack.len();
     while left > 0 {
@@ -41,6 +42,26 @@ fn push_all(stack: &mut Vec<Symbol>, symbols: &[Symbol]) -> Result<(), AllocErro
     Ok(())
 }
 
+// Puts the symbols in place of what stands behind the first so many, the first symbol on top.
+fn put_behind(
+    stack: &mut Vec<Symbol>,
+    left: usize,
+    symbols: &[Symbol],
+) -> Result<(), AllocError>
+    requires { left < length stack.old.items }
+    ensures { OnOk result (reverse stack.new.items ≡ symbols.now ++ reverse (take left stack.old.items)) }
+{
+    if symbols.is_empty() {
+        stack.truncate(left);
+        return Ok(());
+    }
+    let last = symbols.len() - 1;
+    stack[left] = symbols[last];
+    stack.truncate(left + 1);
+    let (above, _) = symbols.split_at(last);
+    push_all(stack, above)
+}
+
 // Takes a token of the kind, where one may come; else the stack stays as it is.
 fn advance(stack: &mut Vec<Symbol>, kind: TokenKind) -> Result<bool, AllocError>
     ensures step { IfOk result (λ taken. MatchBool taken (step (reverse stack.old.items) kind ≡ Some (reverse stack.new.items)) (step (reverse stack.old.items) kind ≡ None)) }
@@ -49,8 +70,7 @@ fn advance(stack: &mut Vec<Symbol>, kind: TokenKind) -> Result<bool, AllocError>
     match taker(stack, kind) {
         None => Ok(false),
         Some((left, next)) => {
-            stack.truncate(left);
-            push_all(stack, next)?;
+            put_behind(stack, left, next)?;
             Ok(true)
         }
     }
@@ -121,7 +141,7 @@ pub fn longest_front(alloc: Global, kinds: &[TokenKind]) -> Result<Front, AllocE
     ensures stops { IfOk result (λ front. (k : TokenKind) → slice_get kinds.now front.read ≡ Some k → step (reverse front.stack.items) k ≡ None) }
 {
     let mut stack = Vec::new(alloc);
-    stack.push(Symbol::Schema)?;
+    push_all(&mut stack, &[Symbol::Schema])?;
     for i in 0..kinds.len() {
         if !advance(&mut stack, kinds[i])? {
             return Ok(Front { read: i, stack });

@@ -5,7 +5,7 @@ use Rattle.std.specs.List.{AllPass, All, prefix_len}
 use Rattle.std.specs.Char.{encode_utf8}
 use Rattle.std.specs.Str.{IsUtf8, IsCharBoundary, chars, encode_utf8_all}
 use Rattle.std.proofs.lemmas.List.{take-append-drop, length-append, length-drop, append_assoc, append-nil, drop_at}
-use Rattle.std.proofs.lemmas.List.{take_at, drop_more}
+use Rattle.std.proofs.lemmas.List.{take_at, drop_more, take_all, drop_all}
 use Rattle.std.proofs.lemmas.List.Elements.{All-drop, All-take}
 use Rattle.std.proofs.lemmas.List.Sums.{prefix_len_stops, prefix_len-le-length}
 use Rattle.std.proofs.lemmas.Bool.{cases_lt, eqb-true, not-false}
@@ -99,6 +99,14 @@ HasUnescaped-all body [] written h u l =
     subst (λ cs. Unescapes body cs) same
     (subst (λ t. Unescapes t h.value) (sym (h.split ∙ append-nil h.front)) h.stands_for)
 HasUnescaped-all body (b ∷ bs) written h u l = absurd (omega arith)
+
+-- a body without a backslash stands for its own characters
+pub without_backslash : (body : List ℕ) → prefix_len is_unescaped body ≡ length body → IsUtf8 body
+    → Unescapes body (chars body)
+without_backslash body e u =
+    HasUnescaped-all body [] ([] ++ body)
+    (HasUnescaped-plain body body body [] [] (length body) (HasUnescaped-none body) (sym e)
+    (sym (take_all (length body) body (omega arith))) (sym (drop_all (length body) body (omega arith))) u) u refl
 
 -- where the bytes up to the next backslash end, the text may be cut, and a backslash stands there or nothing
 stop_byte : (rest : List ℕ) (n : ℕ) → n ≡ prefix_len is_unescaped rest → n < length rest → get_or rest n 0 ≡ 92

@@ -43,6 +43,17 @@ pub fn unescape(alloc: Global, body: &str) -> Result<Text, Refusal>
     ensures value { IfOk result (λ value. Unescapes body.now value) }
     ensures refused { IfErr result (IsRefused body.now) }
 {
+    if plain_len(body.as_bytes()) == body.len() {
+        return Ok(Text::from_str(alloc, body)?);
+    }
+    unescape_pieces(alloc, body)
+}
+
+// The same, piece by piece.
+fn unescape_pieces(alloc: Global, body: &str) -> Result<Text, Refusal>
+    ensures value { IfOk result (λ value. Unescapes body.now value) }
+    ensures refused { IfErr result (IsRefused body.now) }
+{
     let mut value = String::new(alloc);
     let mut rest = body;
     loop {
