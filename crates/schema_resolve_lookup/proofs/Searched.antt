@@ -71,6 +71,24 @@ module _ {K X : Type 0} {R : K → K → Ordering} (o : IsTotalOrder R) (key : X
         ap (λ b. (b && test x) || list_any (λ z. same z && test z) xs) (stands x Less below)
         ∙ found_at test xs up.1 at d (omega arith) e
 
+    all_above : (test : X → Bool) (x : X) (ys : List X) → R q (key x) ≡ Less
+        → AllByRecursion (λ k. R (key x) k ≡ Less) (map key ys) → list_any (λ y. same y && test y) ys ≡ false
+    all_above test x [] below above = refl
+    all_above test x (y ∷ ys) below above =
+        let more : R (key y) q ≡ Greater = o.antisymm (key y) q
+        ∙ ap ordering_reverse (o.trans q (key x) (key y) below above.0) in
+        ap (λ b. (b && test y) || list_any (λ z. same z && test z) ys) (stands y Greater more)
+        ∙ all_above test x ys below above.1
+
+    -- where the first one is above what is sought, none is there
+    pub none_above : (test : X → Bool) (xs : List X) → IsStrictlySortedBy R (map key xs) → (d : X)
+        → R (key (get_or xs 0 d)) q ≡ Greater → list_any (λ y. same y && test y) xs ≡ false
+    unfolding IsStrictlySortedBy
+    none_above test [] up d e = refl
+    none_above test (x ∷ xs) up d e =
+        ap (λ b. (b && test x) || list_any (λ z. same z && test z) xs) (stands x Greater e)
+        ∙ all_above test x xs (o.antisymm q (key x) ∙ ap ordering_reverse e) up.0
+
     none_there : (test : X → Bool) (xs : List X) → ((k : ℕ) (d : X) → k < length xs → same (get_or xs k d) ≡ false)
         → list_any (λ x. same x && test x) xs ≡ false
     none_there test [] h = refl

@@ -1,4 +1,4 @@
-ghost use Rattle.std.specs.Prelude.{◌≡◌, Some, IfSome};
+ghost use Rattle.std.specs.Prelude.{◌≡◌, [], Some, IfSome};
 ghost use Rattle.std.specs.Option.{option_copied};
 ghost use Rattle.std.specs.Cmp.Lexicographic.{slice_cmp};
 ghost use Rattle.cedar_names.specs.Orders.{ids_in_order};
@@ -28,37 +28,68 @@ impl<'f> Searched<'f> {
     }
 }
 
-// The namespace of these words: the one that was found last, or else found by halving.
+// The namespace of these words: the one that was found last or the one behind it, or else found by halving.
 pub(crate) fn namespace_of<'a>(
     searched: &Searched<'a>,
     sought: Option<Before<'_>>,
 ) -> Option<&'a NamespaceDefinition<RawName>>
     ensures { (test : _) → passes_in searched.now.fragment.now (words_before sought.entry) test ≡ passes (option_copied result) test }
 {
-    if let Some(definition) = found_last(searched, sought) {
+    if sought.is_none() {
+        return outer_namespace(searched);
+    }
+    if let Some(definition) = found_near(searched, sought) {
         return Some(definition);
     }
     let entries = searched.fragment.0.as_slice();
     match entries.binary_search_by(|entry| compare(&entry.0, sought)) {
         Ok(at) => {
-            if sought.is_some() {
-                searched.recent.set(at);
-            }
+            searched.recent.set(at);
             Some(&entries[at].1)
         }
         Err(_) => None,
     }
 }
 
-// The namespace that was found last, where it has these words.
-fn found_last<'a>(
+// The namespace without a name, which stands before all others.
+fn outer_namespace<'a>(searched: &Searched<'a>) -> Option<&'a NamespaceDefinition<RawName>>
+    ensures { (test : _) → passes_in searched.now.fragment.now [] test ≡ passes (option_copied result) test }
+{
+    match searched.fragment.0.as_slice() {
+        [] => None,
+        [first, ..] => match first.0 {
+            None => Some(&first.1),
+            Some(_) => None,
+        },
+    }
+}
+
+// The namespace of these words, where it is the one that was found last or the one behind it: most are looked up in order.
+fn found_near<'a>(
     searched: &Searched<'a>,
     sought: Option<Before<'_>>,
 ) -> Option<&'a NamespaceDefinition<RawName>>
     ensures { IfSome result (λ definition. (test : _) → passes_in searched.now.fragment.now (words_before sought.entry) test ≡ test definition.now) }
 {
+    let recent = searched.recent.get();
+    if let Some(definition) = found_at(searched, recent, sought) {
+        return Some(definition);
+    }
+    let next = recent.saturating_add(1);
+    let definition = found_at(searched, next, sought)?;
+    searched.recent.set(next);
+    Some(definition)
+}
+
+// The namespace at the place, where it has these words.
+fn found_at<'a>(
+    searched: &Searched<'a>,
+    at: usize,
+    sought: Option<Before<'_>>,
+) -> Option<&'a NamespaceDefinition<RawName>>
+    ensures { IfSome result (λ definition. (test : _) → passes_in searched.now.fragment.now (words_before sought.entry) test ≡ test definition.now) }
+{
     let entries = searched.fragment.0.as_slice();
-    let at = searched.recent.get();
     if at >= entries.len() {
         return None;
     }

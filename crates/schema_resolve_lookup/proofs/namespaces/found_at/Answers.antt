@@ -6,7 +6,7 @@ use Rattle.cedar_names.specs.Orders.{ids_in_order, ids_total}
 use Rattle.schema_resolve_lookup.specs.Sought.{words_before, namespace_words, ids_before, namespace_ids}
 use Rattle.schema_resolve_lookup.proofs.Ordered.{namespace_alike, by_words, sorted_seen}
 use Rattle.schema_resolve_lookup.proofs.Searched.{found_at}
-use Rattle.schema_resolve_lookup.proofs.namespaces.found_last.Goals as goal
+use Rattle.schema_resolve_lookup.proofs.namespaces.found_at.Goals as goal
 
 pub returns-in-Equal : goal.returns-in-Equal
 returns-in-Equal c = λ test.
@@ -17,7 +17,7 @@ returns-in-Equal c = λ test.
     c.as_slice-entries.result.now
     (sorted_seen _ (slice_cmp ids_in_order) namespace_ids (by_words _ refl (λ n. refl) (λ n. refl) (λ n m. refl))
     c.args.searched.now.fragment.now.0 c.as_slice-entries.result.now c.as_slice-entries.ensures.entries
-    c.as_slice-entries.ensures.sorted) c.get-at.result c.index-entries-at.result c.if-at-entries.false
+    c.as_slice-entries.ensures.sorted) c.args.at c.index-entries-at.result c.if-at-entries.false
     (ap (λ x. slice_cmp ids_in_order (namespace_ids x.0) (ids_before c.args.sought)) (sym c.index-entries-at.is)
     ∙ (sym c.compare.ensures ∙ c.in-Equal.is))
     ∙ ap (λ x. test x.1) (sym c.index-entries-at.is)
