@@ -1,5 +1,5 @@
 -- Blanks: what the first one is, and what follows it.
-use Rattle.std.proofs.Common.{◌≡◌, ℕ, zero, suc, ◌+◌, ◌<◌, ◌≤◌, true, false, List, [], ◌∷◌, ◌++◌, length, take, drop}
+use Rattle.std.proofs.Common.{◌≡◌, ◌≢◌, ℕ, zero, suc, ◌+◌, ◌<◌, ◌≤◌, true, false, List, [], ◌∷◌, ◌++◌, length, take, drop}
 use Rattle.std.proofs.Common.{get_or, refl, sym, ap, ◌∙◌, subst, inl, inr, ◌⊎◌, arith, add-zero}
 use Rattle.std.specs.List.{All}
 use Rattle.std.specs.Char.{is_whitespace, encode_utf8}
@@ -7,11 +7,12 @@ use Rattle.std.specs.Str.{IsUtf8, IsCharBoundary}
 use Rattle.std.proofs.lemmas.List.{take-append-drop, length-append, length-drop, get_or-drop, drop_at}
 use Rattle.std.proofs.lemmas.List.Elements.{All-tail}
 use Rattle.std.proofs.lemmas.Bool.{cases_lt}
-use Rattle.std.proofs.lemmas.Str.{encode_same, length-encode, len_utf8_bounds, IsCharBoundary-end}
+use Rattle.std.proofs.lemmas.Bool.Decides.{nat_tests}
+use Rattle.std.proofs.lemmas.Str.{encode_ascii, encode_same, length-encode, len_utf8_bounds, IsCharBoundary-end}
 use Rattle.std.proofs.lemmas.Str.{IsCharBoundary-before_ascii, IsUtf8-past_char, IsUtf8-drop}
 use Rattle.schema_syntax_tokens.specs.Scans.{IsInLine, EndsLine, IsComment, IsBlank, NoBlank, IsPastBlank, Skips}
 use Rattle.schema_syntax_tokens.specs.Scans.Skips.{none, more}
-use Rattle.schema_syntax_tokens.specs.Steps.{StartsComment}
+use Rattle.schema_syntax_tokens.specs.Steps.{StartsComment, IsPrinted}
 
 -- a character has a byte
 encode_some : (c : ℕ) (after : List ℕ) → [] ≡ encode_utf8 c ++ after → ⊥
@@ -31,6 +32,27 @@ NoBlank-other rest after c e w n b later e' (inl s) =
     let g : false ≡ true = sym w ∙ (ap is_whitespace same ∙ s.1) in cc
 NoBlank-other rest after c e w n b later e' (inr s) =
     n (subst (λ t. StartsComment t) (sym (e' ∙ ap (λ t. t ++ later) s.1)) (refl, refl))
+
+printed_is_no_space : (b : ℕ) → IsPrinted b → is_whitespace b ≡ false
+printed_is_no_space b p = grind (arith, nat_tests, p.0, p.1.0)
+
+-- a space is a blank
+pub past_space : (rest : List ℕ) → 1 ≤ length rest → get_or rest 0 0 ≡ 32 → IsPastBlank rest (drop 1 rest)
+unfolding encode_utf8
+past_space [] some is = absurd (omega (arith, some))
+past_space (b ∷ after) some is = (32 ∷ [], ap (λ c. c ∷ after) is, inl (32, refl, refl))
+
+no_slash : (rest : List ℕ) → get_or rest 0 0 ≢ 47 → StartsComment rest → ⊥
+no_slash [] other s = s
+no_slash (b ∷ []) other s = s
+no_slash (b ∷ c ∷ rest) other s = other s.0
+
+-- no blank begins with a byte that is printed and no slash
+pub NoBlank-printed : (rest : List ℕ) → 1 ≤ length rest → IsPrinted (get_or rest 0 0) → NoBlank rest
+NoBlank-printed [] some p = absurd (omega (arith, some))
+NoBlank-printed (b ∷ after) some p =
+    NoBlank-other (b ∷ after) after b (ap (λ t. t ++ after) (sym (encode_ascii b (omega (arith, p.0, p.1.0)))))
+    (printed_is_no_space b p) (no_slash (b ∷ after) p.1.1)
 
 -- the line of a comment ends behind its two slashes
 cut_line : (rest : List ℕ) (n : ℕ) → StartsComment rest → n ≤ length rest → All IsInLine (take n rest)

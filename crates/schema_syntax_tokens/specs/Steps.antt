@@ -34,6 +34,10 @@ StartsComment [] = ⊥
 StartsComment (b ∷ []) = ⊥
 StartsComment (b ∷ c ∷ bs) = (b ≡ 47) × (c ≡ 47)
 
+-- a byte that is printed, but no slash: no blank begins with it
+abbrev pub IsPrinted : ℕ → Type 0
+IsPrinted b = (32 < b) × ((b < 127) × (b ≢ 47))
+
 -- the bytes are the body between two quotes
 abbrev pub IsBetweenQuotes : List ℕ → List ℕ → Type 0
 IsBetweenQuotes part body = part ≡ 34 ∷ (body ++ 34 ∷ [])

@@ -1,7 +1,7 @@
 ghost use Rattle.std.specs.Prelude.{◌≤◌, ◌<◌, ◌↔◌, IsTrue, take, drop, length, MatchOption, IfSome};
 ghost use Rattle.std.specs.List.{All};
 ghost use Rattle.schema_syntax_tokens.specs.Scans.{IsInLine, EndsLine, NoBlank, IsPastBlank, Skips};
-ghost use Rattle.schema_syntax_tokens.specs.Steps.{StartsComment};
+ghost use Rattle.schema_syntax_tokens.specs.Steps.{StartsComment, IsPrinted};
 
 /// How many bytes stand before the next LF or CR, or before the end.
 fn line_len(rest: &[u8]) -> usize
@@ -32,6 +32,30 @@ fn starts_comment(rest: &[u8]) -> bool
 
 /// What follows the blank that the text begins with, and `None` where it begins with none.
 fn past_blank(rest: &str) -> Option<&str>
+    ensures cases { MatchOption result (NoBlank rest.now) (λ after. IsPastBlank rest.now after.now) }
+    ensures shorter { IfSome result (λ after. length after.now < length rest.now) }
+{
+    if let [first, ..] = rest.as_bytes() {
+        if *first == b' ' {
+            let (_, after) = rest.split_at(1);
+            return Some(after);
+        }
+        if starts_no_blank(*first) {
+            return None;
+        }
+    }
+    past_any_blank(rest)
+}
+
+// Whether no blank begins with the byte: it is printed, and no slash.
+fn starts_no_blank(byte: u8) -> bool
+    ensures { IsTrue result ↔ IsPrinted byte }
+{
+    byte > b' ' && byte < 127 && byte != b'/'
+}
+
+// The same, whatever the text begins with.
+fn past_any_blank(rest: &str) -> Option<&str>
     ensures cases { MatchOption result (NoBlank rest.now) (λ after. IsPastBlank rest.now after.now) }
     ensures shorter { IfSome result (λ after. length after.now < length rest.now) }
 {
