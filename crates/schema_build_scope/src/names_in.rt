@@ -41,12 +41,11 @@ impl<'n, 'f> Meanings<RawName> for NamesIn<'n, 'f> {
         name: &RawName,
     ) -> Result<Target, AllocError> {
         let meant = find_known(self.names.defs(), name_of(self.ns), kind, name);
-        let full = candidate(alloc, self.ns, &name.name, meant.is_own)?;
         if meant.is_common {
-            common_target(alloc, self.names, full)
-        } else {
-            Ok(entity_target(full))
+            return common_meant(alloc, self, &name.name, meant.is_own);
         }
+        let full = candidate(alloc, self.ns, &name.name, meant.is_own)?;
+        Ok(entity_target(full))
     }
 
     fn rank(
@@ -96,18 +95,35 @@ fn rank_of(names: &FragmentNames<'_>, name: &InternalName) -> Option<usize>
     }
 }
 
+// What the candidate of the name stands for, which is a common type. As it is written, the name is not copied.
+fn common_meant(
+    alloc: Global,
+    names_in: &NamesIn<'_, '_>,
+    name: &InternalName,
+    is_own: bool,
+) -> Result<Target, AllocError>
+    requires { (tests_of (defined names_in.now.names.now.fragment names_in.now.names.now.table)).is_common (components_of (candidate (name_of names_in.now.ns.now) name.now is_own)) ≡ true }
+    ensures { IfOk result (IsCommonTarget (fragment_scope names_in.now.names.now.fragment names_in.now.names.now.table) (components_of (candidate (name_of names_in.now.ns.now) name.now is_own))) }
+{
+    if is_own {
+        let full = candidate(alloc, names_in.ns, name, true)?;
+        return common_target(alloc, names_in.names, &full);
+    }
+    common_target(alloc, names_in.names, name)
+}
+
 // What the name of a common type stands for: the declared common type of its rank, or else a builtin type.
 fn common_target(
     alloc: Global,
     names: &FragmentNames<'_>,
-    name: InternalName,
+    name: &InternalName,
 ) -> Result<Target, AllocError>
-    requires { (tests_of (defined names.now.fragment names.now.table)).is_common (components_of name) ≡ true }
-    ensures { IfOk result (IsCommonTarget (fragment_scope names.now.fragment names.now.table) (components_of name)) }
+    requires { (tests_of (defined names.now.fragment names.now.table)).is_common (components_of name.now) ≡ true }
+    ensures { IfOk result (IsCommonTarget (fragment_scope names.now.fragment names.now.table) (components_of name.now)) }
 {
-    match rank_of(names, &name) {
+    match rank_of(names, name) {
         Some(rank) => Ok(Target::Common(rank)),
-        None => Ok(Target::Builtin(builtin_type(alloc, names.table(), &name)?)),
+        None => Ok(Target::Builtin(builtin_type(alloc, names.table(), name)?)),
     }
 }
 

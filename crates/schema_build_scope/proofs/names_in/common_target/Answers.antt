@@ -9,8 +9,8 @@ use Rattle.schema_build_scope.proofs.names_in.common_target.Goals as goal
 
 pub builtin_type-requires : goal.builtin_type-requires
 builtin_type-requires c =
-    subst (λ (t : ExtensionTable). IsSome (builtin (table_scope t) (components_of c.args.name))) (sym c.table.ensures)
-    (undeclared_builtin c.args.names.now.fragment c.args.names.now.table (components_of c.args.name) c.requires
+    subst (λ (t : ExtensionTable). IsSome (builtin (table_scope t) (components_of c.args.name.now))) (sym c.table.ensures)
+    (undeclared_builtin c.args.names.now.fragment c.args.names.now.table (components_of c.args.name.now) c.requires
     c.in-None.ensures)
 
 pub returns : goal.returns
@@ -19,7 +19,7 @@ returns c =
       c.in-None.ensures,
       (
         h.0,
-        ap (λ (t : ExtensionTable). builtin (table_scope t) (components_of c.args.name)) (sym c.table.ensures) ∙ h.1,
+        ap (λ (t : ExtensionTable). builtin (table_scope t) (components_of c.args.name.now)) (sym c.table.ensures) ∙ h.1,
         h.2,
       ),
     )
