@@ -1,5 +1,5 @@
 -- No two user faults of a text end together, so the one that ends first is one.
-use Rattle.std.proofs.Common.{◌≡◌, ℕ, ◌+◌, ◌<◌, List, [], ◌∷◌, ◌++◌, Option, Some, refl, sym, ap, ◌∙◌}
+use Rattle.std.proofs.Common.{◌≡◌, ℕ, ◌+◌, ◌<◌, List, [], ◌∷◌, ◌++◌, Some, refl, sym, ap, ◌∙◌}
 use Rattle.std.proofs.Common.{subst, inl, inr, arith, append_assoc}
 use Rattle.std.specs.List.{All}
 use Rattle.std.specs.Option.{option_to_list}
@@ -16,7 +16,7 @@ use Rattle.schema_syntax_errors.specs.declared.user_error.UserError.TheVariants.
 use Rattle.schema_syntax_reader.specs.Leaves.{word_at, IsBodyAt}
 use Rattle.schema_syntax_reader.specs.Placed.{note_tokens}
 use Rattle.schema_syntax_parser.specs.declared.syntax.ItemSyntax.{ItemSyntax}
-use Rattle.schema_syntax_reader.specs.Sites.{Site, text, annotations, sites_of}
+use Rattle.schema_syntax_reader.specs.Sites.{Site, annotations, sites_of}
 use Rattle.schema_syntax_reader.specs.UserFaults.{IsBadEscapeAt, IsOtherKey, HasUserFault, FaultAt, empty_list}
 use Rattle.schema_syntax_reader.specs.UserFaults.{reserved, escape, note_escape, duplicate}
 use Rattle.schema_syntax_reader.proofs.Fits.{ends, site_ends, sites_ends, flat_join}

@@ -24,8 +24,8 @@ use Rattle.schema_syntax_parser.specs.declared.syntax.DeclSyntax.{DeclSyntax}
 use Rattle.schema_syntax_parser.specs.declared.syntax.DeclaredSyntax.{DeclaredSyntax}
 use Rattle.schema_syntax_parser.specs.declared.syntax.ItemSyntax.{ItemSyntax}
 use Rattle.schema_syntax_parser.specs.Syntax.{IsChain, AreSeparated, AreListed, AreMany, IsPath, IsRef, AreParents}
-use Rattle.schema_syntax_parser.specs.Syntax.{AreAnnotations, IsMark, IsType, IsRecord, AreAttrs, IsAttr, IsShape}
-use Rattle.schema_syntax_parser.specs.Syntax.{AreTags, IsStringToken, is_role, IsApp, Applies, IsDecl, IsDeclared}
+use Rattle.schema_syntax_parser.specs.Syntax.{AreAnnotations, IsType, IsRecord, AreAttrs, IsAttr, IsShape}
+use Rattle.schema_syntax_parser.specs.Syntax.{AreTags, IsStringToken, IsApp, Applies, IsDecl, IsDeclared}
 use Rattle.schema_syntax_parser.specs.Syntax.{IsItem, IsSyntax}
 use Rattle.schema_syntax_parser.proofs.Heads.{ident_name}
 use Rattle.schema_syntax_tokens.specs.TokenLists.{whole_place}

@@ -18,7 +18,7 @@ use Rattle.schema_syntax_tree.specs.declared.annotated.Annotated.{Annotated}
 use Rattle.schema_syntax_tree.specs.declared.namespace.Namespace.{Namespace}
 use Rattle.schema_syntax_reader.specs.declared.stopped.Stopped.{Stopped}
 use Rattle.schema_syntax_reader.specs.Sites.{item_sites, sites_of}
-use Rattle.schema_syntax_reader.specs.Placed.{AreScanned, IsScanned, NoSiteFault}
+use Rattle.schema_syntax_reader.specs.Placed.{IsScanned, NoSiteFault}
 use Rattle.schema_syntax_reader.specs.Stops.{IsStopped}
 use Rattle.schema_syntax_reader.specs.Trees.{IsItemOf}
 use Rattle.schema_syntax_reader.specs.LawfulTrees.{IsLawfulTree, IsStopOf}

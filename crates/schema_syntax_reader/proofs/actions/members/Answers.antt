@@ -1,4 +1,4 @@
-use Rattle.std.proofs.Common.{◌≡◌, [], List, refl, sym, ◌∙◌, subst, Some}
+use Rattle.std.proofs.Common.{◌≡◌, [], refl, sym, ◌∙◌, subst, Some}
 use Rattle.std.specs.List.{All}
 use Rattle.schema_syntax_parser.specs.Syntax.{IsApp}
 use Rattle.schema_syntax_reader.specs.Placed.{IsScanned}

@@ -2,7 +2,7 @@ use Rattle.std.proofs.Common.{refl, sym, subst, ◌++◌}
 use Rattle.schema_syntax_tree.specs.declared.declaration.Declaration.TheVariants as declaration
 use Rattle.schema_syntax_reader.specs.Trees.{IsDeclOf}
 use Rattle.schema_syntax_reader.proofs.Scanned.{decl_parts}
-use Rattle.schema_syntax_reader.proofs.Readings.{stops_right, stopped_left, stopped_right, both_faultless}
+use Rattle.schema_syntax_reader.proofs.Readings.{stops_left, stops_right, stopped_left, stopped_right, both_faultless}
 use Rattle.schema_syntax_reader.specs.Sites.{names_sites, paths_sites, applies_sites}
 use Rattle.schema_syntax_parser.specs.declared.syntax.DeclSyntax.TheVariants as syntax
 use Rattle.schema_syntax_reader.proofs.decls.action.Goals as goal
@@ -13,6 +13,11 @@ some-requires c κs = (
   (decl_parts c.args.text.now
       (syntax.Action c.args.names c.args.parents c.args.applies_raw) c.requires).0.0,
 )
+
+pub returns-in_err-names : goal.returns-in_err-names
+returns-in_err-names c =
+    stops_left c.args.text.now _ c.from_residual.result _ c.from_residual.ensures.1 (names_sites c.args.names)
+    (paths_sites c.args.parents ++ applies_sites c.args.applies_raw) c.in_err-names.ensures
 
 pub optional-requires : goal.optional-requires
 optional-requires c κs = (

@@ -1,4 +1,4 @@
-use Rattle.std.proofs.Common.{◌≡◌, [], List, refl, sym, ◌∙◌, subst}
+use Rattle.std.proofs.Common.{◌≡◌, [], refl, sym, ◌∙◌, subst}
 use Rattle.std.specs.List.{All, AllZip}
 use Rattle.schema_syntax_reader.specs.Placed.{IsPlacedString}
 use Rattle.schema_syntax_reader.specs.Stops.{IsStopped}

@@ -1,4 +1,4 @@
-use Rattle.std.proofs.Common.{◌≡◌, ◌<◌, ◌-◌, [], length, drop, sym, ap, ◌∙◌, subst, arith}
+use Rattle.std.proofs.Common.{◌≡◌, ◌<◌, ◌-◌, length, drop, sym, ap, ◌∙◌, subst, arith}
 use Rattle.std.proofs.lemmas.List.{length-drop}
 use Rattle.schema_syntax_grammar.specs.Grammar.{Sentence}
 use Rattle.schema_syntax_tokens.specs.TokenLists.{kinds_of}
@@ -23,7 +23,7 @@ returns-in-Some-clause-item c =
     let first : IsFirstItem rest c.in-Some.item after = rw c.in-Some.is at c.in_ok-next_item.ensures.item in
     let shorter : length after < length rest = rw c.in-Some.is at c.in_ok-next_item.ensures.shorter in
     let size = ap length c.split_at.ensures.back in
-    let dropped = length-drop tokens c.args.at in
+    let dropped = length-drop c.args.at tokens in
     let same : drop (length tokens - length after) tokens ≡ after =
     kept_after tokens c.args.at rest c.in-Some.item after c.split_at.ensures.back first (length tokens - length after)
     (omega (arith, shorter, size, dropped)) in
@@ -36,5 +36,5 @@ returns-in-Some-clause-behind c =
     let shorter : length c.in-Some.after.now < length c.split_at.result.1.now = rw c.in-Some.is at
     c.in_ok-next_item.ensures.shorter in
     let size = ap length c.split_at.ensures.back in
-    let dropped = length-drop tokens c.args.at in
+    let dropped = length-drop c.args.at tokens in
     (omega (arith, shorter, size, dropped), omega arith)

@@ -4,10 +4,10 @@ use Rattle.schema_syntax_reader.proofs.paths.split_last.Goals as goal
 
 pub returns-in-None : goal.returns-in-None
 returns-in-None c =
-    c.into_parts.ensures ∙ ap (λ l. c.into_parts.result.0 ∷ l)
-    (nil_from_length _ (sym c.into_parts.result.1.ok.0 ∙ c.in-None.ensures.cases.0))
+    c.into_parts-first.ensures ∙ ap (λ l. c.into_parts-first.result.0 ∷ l)
+    (nil_from_length _ (sym c.into_parts-first.result.1.ok.0 ∙ c.in-None.ensures.cases.0))
 
 pub returns-in-Some : goal.returns-in-Some
 returns-in-Some c =
-    c.into_parts.ensures ∙ (ap (λ l. c.into_parts.result.0 ∷ l) c.in-Some.ensures.items
+    c.into_parts-first.ensures ∙ (ap (λ l. c.into_parts-first.result.0 ∷ l) c.in-Some.ensures.items
     ∙ ap (λ l. l ++ c.in-Some.last ∷ []) (sym c.from_parts.ensures))

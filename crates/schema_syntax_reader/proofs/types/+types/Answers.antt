@@ -10,7 +10,7 @@ use Rattle.schema_syntax_reader.specs.Readings.{IsAttrOf}
 use Rattle.schema_syntax_reader.specs.Trees.{IsTypeOf, AreAttrsOf}
 use Rattle.schema_syntax_reader.proofs.Readings.{Faultless, ReadTo, stops, none_read, next_part, next_fits}
 use Rattle.schema_syntax_reader.proofs.Readings.{one_more_read, stopped_at_part, all_read}
-use Rattle.schema_syntax_reader.proofs.Scanned.{attr_parts, set_part, record_part}
+use Rattle.schema_syntax_reader.proofs.Scanned.{attr_parts, path_part, set_part, record_part}
 use Rattle.schema_syntax_reader.proofs.TypeReads.{stops_at_notes, stops_at_name, stops_at_type, attr_faultless}
 use Rattle.schema_syntax_reader.proofs.TypeReads.{attrs_are, path_typed, set_typed}
 use Rattle.schema_syntax_reader.proofs.TypeReads.{record_typed, record_stops}
@@ -71,45 +71,48 @@ attr-returns t c =
       attr_faultless c.args.text.now c.args.raw noted c.in_ok-name.ensures.1 c.in_ok-ty.ensures.1,
     )
 
-pub attrs-loop-left-init : goal.attrs-loop-left-init
-attrs-loop-left-init t c =
+pub attrs-loop-raw-init : goal.attrs-loop-raw-init
+attrs-loop-raw-init t c =
     none_read c.args.text.now sites_of_attr (IsAttrOf c.args.text.now) c.args.raws _ _ (search rules) (search rules)
 
 pub attrs-attr-requires : goal.attrs-attr-requires
 attrs-attr-requires t c =
     let next = c.in-Some.ensures.items in
     let split = next_part c.args.text.now sites_of_attr (IsAttrOf c.args.text.now) c.args.raws
-    c.loop-left.left.items c.in-Some.raw c.pop_front.new.self.items next c.loop-left.items.items
-    c.loop-left.invariant in
+    c.loop-raw.left.items c.in-Some.raw c.pop_front.new.self.items next c.loop-raw.items.items
+    c.loop-raw.invariant in
     let deep : attr_depth c.in-Some.raw ≤ attrs_depth c.args.raws =
-    among_attrs c.args.raws c.loop-left.invariant.done c.in-Some.raw c.pop_front.new.self.items split in (
+    among_attrs c.args.raws c.loop-raw.invariant.done c.in-Some.raw c.pop_front.new.self.items split in (
       omega (arith, deep, c.requires.1.0),
-      next_fits c.args.text.now sites_of_attr (IsAttrOf c.args.text.now) c.args.raws c.loop-left.left.items
-          c.in-Some.raw c.pop_front.new.self.items next c.loop-left.items.items c.loop-left.invariant
+      next_fits c.args.text.now sites_of_attr (IsAttrOf c.args.text.now) c.args.raws c.loop-raw.left.items
+          c.in-Some.raw c.pop_front.new.self.items next c.loop-raw.items.items c.loop-raw.invariant
           (IsScanned IsAttr c.args.text.now) c.requires.1.1,
     )
 
 pub attrs-returns-in_err-item : goal.attrs-returns-in_err-item
 attrs-returns-in_err-item t c =
     stops c.args.text.now _ c.from_residual-in_err-item.result _ c.from_residual-in_err-item.ensures.1 _
-    (stopped_at_part c.args.text.now sites_of_attr (IsAttrOf c.args.text.now) c.args.raws c.loop-left.left.items
-    c.in-Some.raw c.pop_front.new.self.items c.in-Some.ensures.items c.loop-left.items.items c.loop-left.invariant
+    (stopped_at_part c.args.text.now sites_of_attr (IsAttrOf c.args.text.now) c.args.raws c.loop-raw.left.items
+    c.in-Some.raw c.pop_front.new.self.items c.in-Some.ensures.items c.loop-raw.items.items c.loop-raw.invariant
     c.in_err-item.field-0.0 c.in_err-item.ensures)
 
-pub attrs-loop-left-preserved : goal.attrs-loop-left-preserved
-attrs-loop-left-preserved t c =
+pub attrs-loop-raw-preserved : goal.attrs-loop-raw-preserved
+attrs-loop-raw-preserved t c =
     subst (λ l. ReadTo c.args.text.now sites_of_attr (IsAttrOf c.args.text.now) c.args.raws l c.push.new.self.items)
     (sym c.let_room_go.ensures)
-    (one_more_read c.args.text.now sites_of_attr (IsAttrOf c.args.text.now) c.args.raws c.loop-left.left.items
-    c.in-Some.raw c.pop_front.new.self.items c.in-Some.ensures.items c.loop-left.items.items c.loop-left.invariant _
+    (one_more_read c.args.text.now sites_of_attr (IsAttrOf c.args.text.now) c.args.raws c.loop-raw.left.items
+    c.in-Some.raw c.pop_front.new.self.items c.in-Some.ensures.items c.loop-raw.items.items c.loop-raw.invariant _
     c.in_ok-item.item c.in_ok-item.ensures.0 c.in_ok-item.ensures.1 c.in_ok-push.ensures.items)
 
 pub attrs-returns : goal.attrs-returns
 attrs-returns t c =
-    let none = nil_from_length _ (sym c.loop-left.left.ok.0 ∙ (rw c.in_default.is at c.pop_front.ensures.cases).0) in
+    let none = nil_from_length _ (sym c.loop-raw.left.ok.0 ∙ (rw c.in_default.is at c.pop_front.ensures.cases).0) in
     let all = all_read c.args.text.now sites_of_attr (IsAttrOf c.args.text.now) c.args.raws
-    c.loop-left.left.items c.loop-left.items.items none c.loop-left.invariant in
-    (attrs_are c.args.text.now c.args.raws c.loop-left.items.items all.0, all.1)
+    c.loop-raw.left.items c.loop-raw.items.items none c.loop-raw.invariant in
+    (attrs_are c.args.text.now c.args.raws c.loop-raw.items.items all.0, all.1)
+
+pub ty-path-requires : goal.ty-path-requires
+ty-path-requires t c = path_part c.args.text.now c.args.raw c.in-Path.raw c.in-Path.is c.requires.1.1
 
 pub ty-ty-requires : goal.ty-ty-requires
 ty-ty-requires t c =

@@ -14,8 +14,8 @@ decreases-attr l = 3 * attr_depth l.raw + 1
 abbrev pub decreases-attrs : goal.decreases-attrs
 decreases-attrs l = 3 * attrs_depth l.raws + 2
 
-abbrev pub invariant-attrs-loop-left : goal.invariant-attrs-loop-left
-invariant-attrs-loop-left l = ReadTo l.text sites_of_attr (IsAttrOf l.text) l.fn.raws l.left.items l.items.items
+abbrev pub invariant-attrs-loop-raw : goal.invariant-attrs-loop-raw
+invariant-attrs-loop-raw l = ReadTo l.text sites_of_attr (IsAttrOf l.text) l.fn.raws l.left.items l.items.items
 
-abbrev pub decreases-attrs-loop-left : goal.decreases-attrs-loop-left
-decreases-attrs-loop-left l = length l.left.items
+abbrev pub decreases-attrs-loop-raw : goal.decreases-attrs-loop-raw
+decreases-attrs-loop-raw l = length l.left.items
