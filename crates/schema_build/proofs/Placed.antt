@@ -1,6 +1,6 @@
 -- Names at rising places of a list that rises.
 use Rattle.std.proofs.Common.{◌≡◌, ℕ, ◌+◌, ◌<◌, List, [], ◌∷◌, ◌++◌, Vec, Ordering, Some, map, length, take, get_or}
-use Rattle.std.proofs.Common.{Contains, refl, sym, ap, ◌∙◌, subst}
+use Rattle.std.proofs.Common.{zero, suc, arith, Contains, refl, sym, ap, ◌∙◌, subst}
 use Rattle.std.specs.Prelude.{Option, IfSome, slice_get}
 use Rattle.std.specs.declared.cmp.Ordering.TheVariants.{Less}
 use Rattle.std.specs.Cmp.{IsTotalOrder}
@@ -13,7 +13,7 @@ use Rattle.std.proofs.lemmas.Map.Keys.{sorted_from_strictly_increasing}
 use Rattle.std.specs.declared.alloc.Global.{Global}
 use Rattle.std.proofs.lemmas.List.{map-append, take_more, length-map, get_or-map}
 use Rattle.std.proofs.lemmas.Option.{slice_get-map, slice_get_read}
-use Rattle.std.proofs.lemmas.Slice.Zip.{all_zipped_more}
+use Rattle.std.proofs.lemmas.Slice.Zip.{AllZip-long, all_zipped_more}
 use Rattle.schema_build_hierarchy.proofs.ParentRanks.{map_at}
 use Rattle.schema_build_hierarchy.specs.Ancestors.{IsAncestorRow}
 use Rattle.schema_build_hierarchy.proofs.Ordered.{contains_map, contains_unmap, map_twice}
@@ -59,15 +59,26 @@ one_more_shared name entries k shared grown e o within is same more all =
     ∙ ap (λ z. take k names ++ z ∷ []) item in
     subst (λ l. AreSharedOf l grown) (sym whole)
     (subst (AreSharedOf (take k names ++ name e ∷ [])) (sym more)
-    (all_zipped_more (λ n p. IfSome p (λ s. s ≡ n)) (take k names) shared (name e) o same all))
+    (all_zipped_more (λ n p. IfSome p (λ s. s ≡ n)) (take k names) shared (name e) o all same))
+
+-- each place of a name is one of the shared names
+pub shared_within : {A B : Type 0} (name : B → A) (entries : List B) (shared : List (Option A)) (k : ℕ)
+    → AreSharedOf (map name entries) shared → k < length entries → k < length shared
+shared_within name entries shared k all within =
+    let long = AllZip-long (λ n p. IfSome p (λ s. s ≡ n)) (map name entries) shared all in
+    omega (arith, long, length-map entries name)
 
 -- the name at a place, as it is shared or not
-pub shared_at : {A : Type 0} (names : List A) (shared : List (Option A)) (k : ℕ) (d : A) (o : Option A)
-    → AreSharedOf names shared → k < length names → IfSome (get_or shared k o) (λ n. n ≡ get_or names k d)
-shared_at [] shared k d o all within = absurd (omega arith)
-shared_at (n ∷ names) [] k d o all within = absurd all
-shared_at (n ∷ names) (s ∷ shared) zero d o all within = all.0
-shared_at (n ∷ names) (s ∷ shared) (suc k) d o all within = shared_at names shared k d o all.1 (omega arith)
+pub shared_at : {A B : Type 0} (name : B → A) (entries : List B) (shared : List (Option A)) (k : ℕ) (e : B)
+    (o : Option A) → AreSharedOf (map name entries) shared → k < length entries → e ≡ get_or entries k e
+    → o ≡ get_or shared k o → IfSome o (λ n. n ≡ name e)
+shared_at name [] shared k e o all within is so = absurd (omega arith)
+shared_at name (x ∷ entries) [] k e o all within is so = absurd all
+shared_at name (x ∷ entries) (s ∷ shared) zero e o all within is so =
+    subst (λ p. IfSome p (λ n. n ≡ name e)) (sym so)
+    (subst (λ y. IfSome s (λ n. n ≡ name y)) (sym is) all.0)
+shared_at name (x ∷ entries) (s ∷ shared) (suc k) e o all within is so =
+    shared_at name entries shared k e o all.1 (omega arith) is so
 
 -- one more row of places
 pub one_more_row : {A : Type 0} (names : List A) (rows : List (Vec ℕ Global)) (k : ℕ) (row : Vec ℕ Global)

@@ -1,3 +1,4 @@
+pub mod Adds
 pub mod Escapes
 pub mod Members
 pub mod Places

@@ -1,15 +1,16 @@
 // Actions.
-ghost use Rattle.std.specs.Prelude.{◌≡◌, ◌++◌, OnOk, IfOk, map, string_bytes, codes, true};
+ghost use Rattle.std.specs.Prelude.{OnOk, IfOk, map, string_bytes, codes, true};
 ghost use Rattle.std.specs.List.Sorted.{IsStrictlySortedBy};
-ghost use Rattle.serde_json.specs.Written.{compact_text};
 ghost use Rattle.cedar_data.specs.Text.{text_cmp};
 ghost use Rattle.schema_json_values.specs.TypeValues.{object_of};
 ghost use Rattle.schema_json_values.specs.FragmentValues.{attribute_name_entry, applies_to_value, action_id_value, action_value, list_of};
+ghost use Rattle.schema_json_text.specs.Adds.{Adds, AddsValue};
 ghost use Rattle.schema_json_text.specs.Members.{AddsMember, ahead, shape_value, nulls_value, applies_value, parents_value};
 
 use crate::annotations::push_first_annotations;
 use crate::entity_types::push_external;
-use crate::leaves::{push_comma, push_key, push_later, push_name, push_names};
+use crate::leaves::{push_comma, push_later, push_name, push_names};
+use crate::members::{Member, push_object};
 use crate::pushing::{push, push_char};
 use crate::quotes::push_quoted;
 use crate::types::push_type;
@@ -24,7 +25,7 @@ fn push_context<N: NameText>(
     alloc: Global,
     context: &Type<N>,
 ) -> Result<(), AllocError>
-    ensures { OnOk result (string_bytes out.new ≡ string_bytes out.old ++ ahead (codes "context") (shape_value N.components context.now)) }
+    ensures { OnOk result (Adds out.old out.new (ahead (codes "context") (shape_value N.components context.now))) }
 {
     if context.is_empty_record() {
         return Ok(());
@@ -39,7 +40,7 @@ fn push_apply_spec<N: NameText>(
     alloc: Global,
     applies_to: &ApplySpec<N>,
 ) -> Result<(), AllocError>
-    ensures { OnOk result (string_bytes out.new ≡ string_bytes out.old ++ compact_text (applies_to_value N.components applies_to.now)) }
+    ensures { OnOk result (AddsValue out.old out.new (applies_to_value N.components applies_to.now)) }
 {
     push_char(out, '{')?;
     push_context(out, alloc, &applies_to.context.0)?;
@@ -69,24 +70,31 @@ fn push_applies_to<N: NameText>(
     }
 }
 
-// Adds the object of the names, each with null.
-fn push_nulls(out: &mut String, names: &[Text]) -> Result<(), AllocError>
-    requires { IsStrictlySortedBy text_cmp names.now }
-    ensures { OnOk result (string_bytes out.new ≡ string_bytes out.old ++ compact_text (object_of (map attribute_name_entry names.now))) }
-{
-    push_char(out, '{')?;
-    let mut later = false;
-    for name in names {
-        push_key(out, later, name.as_str())?;
-        push(out, "null")?;
-        later = true;
+// A name of an attribute, beside null.
+impl Member for Text {
+    ghost entry = { attribute_name_entry };
+
+    fn key(&self) -> &str {
+        self.as_str()
     }
-    push_char(out, '}')
+
+    fn push_value(&self, out: &mut String, alloc: Global) -> Result<(), AllocError> {
+        push(out, "null")
+    }
+}
+
+// Adds the object of the names, each with null.
+fn push_nulls(out: &mut String, alloc: Global, names: &[Text]) -> Result<(), AllocError>
+    requires { IsStrictlySortedBy text_cmp names.now }
+    ensures { OnOk result (AddsValue out.old out.new (object_of (map attribute_name_entry names.now))) }
+{
+    push_object(out, alloc, names)
 }
 
 // Adds the names of the attributes, where any were written.
 fn push_attribute_names(
     out: &mut String,
+    alloc: Global,
     later: bool,
     attributes: &Option<Set<Text>>,
 ) -> Result<bool, AllocError>
@@ -95,7 +103,7 @@ fn push_attribute_names(
     match attributes {
         Some(names) => {
             push_later(out, later, "\"attributes\":")?;
-            push_nulls(out, names.as_slice())?;
+            push_nulls(out, alloc, names.as_slice())?;
             Ok(true)
         }
         None => Ok(later),
@@ -107,7 +115,7 @@ fn push_action_id<N: NameText>(
     alloc: Global,
     action: &ActionEntityUID<N>,
 ) -> Result<(), AllocError>
-    ensures { OnOk result (string_bytes out.new ≡ string_bytes out.old ++ compact_text (action_id_value N.components action.now)) }
+    ensures { OnOk result (AddsValue out.old out.new (action_id_value N.components action.now)) }
 {
     push(out, "{\"id\":")?;
     push_quoted(out, action.id.as_str())?;
@@ -126,7 +134,7 @@ fn push_action_ids<N: NameText>(
     alloc: Global,
     actions: &[ActionEntityUID<N>],
 ) -> Result<(), AllocError>
-    ensures { OnOk result (string_bytes out.new ≡ string_bytes out.old ++ compact_text (list_of (map (action_id_value N.components) actions.now))) }
+    ensures { OnOk result (AddsValue out.old out.new (list_of (map (action_id_value N.components) actions.now))) }
 {
     push_char(out, '[')?;
     let mut later = false;
@@ -163,12 +171,12 @@ pub fn push_action<N: NameText>(
     alloc: Global,
     action: &ActionType<N>,
 ) -> Result<(), AllocError>
-    ensures { OnOk result (string_bytes out.new ≡ string_bytes out.old ++ compact_text (action_value N.components action.now)) }
+    ensures { OnOk result (AddsValue out.old out.new (action_value N.components action.now)) }
 {
     push_char(out, '{')?;
     let later = push_first_annotations(out, &action.annotations)?;
     let later = push_applies_to(out, alloc, later, &action.applies_to)?;
-    let later = push_attribute_names(out, later, &action.attributes)?;
+    let later = push_attribute_names(out, alloc, later, &action.attributes)?;
     let later = push_external(out, later, action.external)?;
     let _later = push_parents(out, alloc, later, &action.member_of)?;
     push_char(out, '}')

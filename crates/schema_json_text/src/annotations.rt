@@ -1,11 +1,11 @@
 // Annotations.
-ghost use Rattle.std.specs.Prelude.{◌≡◌, ◌++◌, false, OnOk, IfOk, map, string_bytes, codes};
+ghost use Rattle.std.specs.Prelude.{false, OnOk, IfOk, map, string_bytes, codes};
 ghost use Rattle.std.specs.Map.{keys_of};
 ghost use Rattle.std.specs.List.Sorted.{IsStrictlySortedBy};
 ghost use Rattle.cedar_data.specs.Text.{text_cmp};
-ghost use Rattle.serde_json.specs.Written.{compact_text};
 ghost use Rattle.schema_json_values.specs.TypeValues.{object_of, annotation_entry, text_or_null};
-ghost use Rattle.schema_json_text.specs.Members.{ahead, annotations_value, AddsMember};
+ghost use Rattle.schema_json_text.specs.Adds.{Adds, AddsValue};
+ghost use Rattle.schema_json_text.specs.Members.{annotations_ahead, annotations_value, AddsMember};
 
 use crate::leaves::push_key;
 use crate::pushing::{push, push_char};
@@ -16,7 +16,7 @@ use std::alloc::AllocError;
 
 // Adds a text, or null.
 fn push_text_or_null(out: &mut String, text: &Option<Text>) -> Result<(), AllocError>
-    ensures { OnOk result (string_bytes out.new ≡ string_bytes out.old ++ compact_text (text_or_null text.now)) }
+    ensures { OnOk result (AddsValue out.old out.new (text_or_null text.now)) }
 {
     match text {
         Some(text) => push_quoted(out, text.as_str()),
@@ -27,7 +27,7 @@ fn push_text_or_null(out: &mut String, text: &Option<Text>) -> Result<(), AllocE
 // Adds the object of the annotations.
 fn push_entries(out: &mut String, entries: &[(AnyId, Option<Text>)]) -> Result<(), AllocError>
     requires { IsStrictlySortedBy (λ x y. text_cmp x.text y.text) (keys_of entries.now) }
-    ensures { OnOk result (string_bytes out.new ≡ string_bytes out.old ++ compact_text (object_of (map annotation_entry entries.now))) }
+    ensures { OnOk result (AddsValue out.old out.new (object_of (map annotation_entry entries.now))) }
 {
     push_char(out, '{')?;
     let mut later = false;
@@ -57,7 +57,7 @@ pub fn push_first_annotations(
 
 /// Adds the annotations, where there are any, ahead of a further member.
 pub fn push_annotations(out: &mut String, annotations: &Annotations) -> Result<(), AllocError>
-    ensures { OnOk result (string_bytes out.new ≡ string_bytes out.old ++ ahead (codes "annotations") (annotations_value annotations.now.0)) }
+    ensures { OnOk result (Adds out.old out.new (annotations_ahead annotations.now.0)) }
 {
     let there = push_first_annotations(out, annotations)?;
     if there {

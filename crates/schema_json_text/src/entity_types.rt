@@ -1,10 +1,9 @@
 // Common types and entity types.
-ghost use Rattle.std.specs.Prelude.{◌≡◌, ◌++◌, OnOk, IfOk, map, string_bytes, codes, true};
+ghost use Rattle.std.specs.Prelude.{OnOk, IfOk, map, string_bytes, codes, true};
 ghost use Rattle.serde_json.specs.Data.{no_members, put};
-ghost use Rattle.serde_json.specs.Written.{compact_text, members_text};
-ghost use Rattle.schema_json_values.specs.TypeValues.{with_flag};
 ghost use Rattle.schema_json_values.specs.FragmentValues.{common_type_value, entity_type_value, kind_members, list_of, name_value, choice_value};
-ghost use Rattle.schema_json_text.specs.Members.{AddsMember, flag_value, list_value, shape_value, tags_value};
+ghost use Rattle.schema_json_text.specs.Adds.{Adds, AddsValue};
+ghost use Rattle.schema_json_text.specs.Members.{AddsMember, entity_end, flag_value, named_list, shape_value, tags_value};
 
 use crate::annotations::push_first_annotations;
 use crate::leaves::{push_comma, push_later, push_names};
@@ -22,7 +21,7 @@ pub fn push_common_type<N: NameText>(
     alloc: Global,
     common: &CommonType<N>,
 ) -> Result<(), AllocError>
-    ensures { OnOk result (string_bytes out.new ≡ string_bytes out.old ++ compact_text (common_type_value N.components common.now)) }
+    ensures { OnOk result (AddsValue out.old out.new (common_type_value N.components common.now)) }
 {
     push_annotated(out, alloc, &common.ty, &common.annotations, true)
 }
@@ -45,7 +44,7 @@ fn push_parents<N: NameText>(
     later: bool,
     parents: &[N],
 ) -> Result<bool, AllocError>
-    ensures { IfOk result (AddsMember later (codes "memberOfTypes") (list_value (map (name_value N.components) parents.now)) (string_bytes out.old) (string_bytes out.new)) }
+    ensures { IfOk result (AddsMember later (codes "memberOfTypes") (named_list N.components parents.now) (string_bytes out.old) (string_bytes out.new)) }
 {
     if parents.len() == 0 {
         return Ok(later);
@@ -93,7 +92,7 @@ fn push_tags<N: NameText>(
 
 // Adds the choices of an enum.
 fn push_choices(out: &mut String, choices: &NonEmpty<Eid>) -> Result<(), AllocError>
-    ensures { OnOk result (string_bytes out.new ≡ string_bytes out.old ++ compact_text (list_of (map choice_value choices.now))) }
+    ensures { OnOk result (AddsValue out.old out.new (list_of (map choice_value choices.now))) }
 {
     push_char(out, '[')?;
     let mut later = false;
@@ -113,7 +112,7 @@ fn push_standard<N: NameText>(
     external: bool,
     standard: &StandardEntityType<N>,
 ) -> Result<(), AllocError>
-    ensures { OnOk result (string_bytes out.new ≡ string_bytes out.old ++ members_text later (with_flag external (codes "external") true (kind_members N.components (EntityTypeKind.Standard standard.now)))) }
+    ensures { OnOk result (Adds out.old out.new (entity_end later external (kind_members N.components (EntityTypeKind.Standard standard.now)))) }
 {
     let later = push_external(out, later, external)?;
     let later = push_parents(out, alloc, later, standard.member_of_types.as_slice())?;
@@ -129,7 +128,7 @@ fn push_enum(
     external: bool,
     choices: &NonEmpty<Eid>,
 ) -> Result<(), AllocError>
-    ensures { OnOk result (string_bytes out.new ≡ string_bytes out.old ++ members_text later (with_flag external (codes "external") true (put (codes "enum") (list_of (map choice_value choices.now)) no_members))) }
+    ensures { OnOk result (Adds out.old out.new (entity_end later external (put (codes "enum") (list_of (map choice_value choices.now)) no_members))) }
 {
     push_later(out, later, "\"enum\":")?;
     push_choices(out, choices)?;
@@ -143,7 +142,7 @@ pub fn push_entity_type<N: NameText>(
     alloc: Global,
     entity: &EntityType<N>,
 ) -> Result<(), AllocError>
-    ensures { OnOk result (string_bytes out.new ≡ string_bytes out.old ++ compact_text (entity_type_value N.components entity.now)) }
+    ensures { OnOk result (AddsValue out.old out.new (entity_type_value N.components entity.now)) }
 {
     push_char(out, '{')?;
     let later = push_first_annotations(out, &entity.annotations)?;

@@ -1,21 +1,21 @@
 // Namespaces and fragments.
-ghost use Rattle.std.specs.Prelude.{◌≡◌, ◌++◌, ◌<◌, OnOk, IfOk, map, length, string_bytes, codes};
+ghost use Rattle.std.specs.Prelude.{◌≡◌, OnOk, IfOk, map, codes};
 ghost use Rattle.std.specs.Str.{encode_utf8_all};
 ghost use Rattle.std.specs.Map.{keys_of};
-ghost use Rattle.std.specs.List.{All};
 ghost use Rattle.std.specs.List.Sorted.{IsStrictlySortedBy};
-ghost use Rattle.serde_json.specs.Data.{object, no_members};
 ghost use Rattle.serde_json.specs.Written.{compact_text};
 ghost use Rattle.cedar_data.specs.Text.{text_cmp};
-ghost use Rattle.schema_json_values.specs.TypeValues.{object_of, put_all};
-ghost use Rattle.schema_json_values.specs.FragmentValues.{common_entry, entity_entry, action_entry, namespace_value, namespace_entry, namespace_bytes, json_value};
-ghost use Rattle.schema_json_text.specs.Members.{ahead, in_order, object_value};
+ghost use Rattle.schema_json_values.specs.TypeValues.{object_of};
+ghost use Rattle.schema_json_values.specs.FragmentValues.{common_entry, entity_entry, action_entry};
+ghost use Rattle.schema_json_values.specs.FragmentValues.{namespace_value, namespace_entry, namespace_bytes, json_value};
+ghost use Rattle.schema_json_text.specs.Adds.{Adds, AddsValue};
+ghost use Rattle.schema_json_text.specs.Members.{ahead, object_value, ArePut};
 ghost use Rattle.schema_json_text.specs.Places.{placed_entry};
 
 use crate::actions::push_action;
 use crate::annotations::push_annotations;
 use crate::entity_types::{push_common_type, push_entity_type};
-use crate::leaves::push_key;
+use crate::members::{Member, push_object};
 use crate::pushing::{push, push_char};
 use cedar_data::{Map, Text};
 use cedar_identifiers::{Name, NameText, UnreservedId};
@@ -24,6 +24,42 @@ use schema_json::{
 };
 use std::alloc::{AllocError, Global};
 
+impl<N: NameText> Member for (Text, ActionType<N>) {
+    ghost entry = { action_entry N.components };
+
+    fn key(&self) -> &str {
+        self.0.as_str()
+    }
+
+    fn push_value(&self, out: &mut String, alloc: Global) -> Result<(), AllocError> {
+        push_action(out, alloc, &self.1)
+    }
+}
+
+impl<N: NameText> Member for (CommonTypeId, CommonType<N>) {
+    ghost entry = { common_entry N.components };
+
+    fn key(&self) -> &str {
+        self.0.id.as_str()
+    }
+
+    fn push_value(&self, out: &mut String, alloc: Global) -> Result<(), AllocError> {
+        push_common_type(out, alloc, &self.1)
+    }
+}
+
+impl<N: NameText> Member for (UnreservedId, EntityType<N>) {
+    ghost entry = { entity_entry N.components };
+
+    fn key(&self) -> &str {
+        self.0.as_str()
+    }
+
+    fn push_value(&self, out: &mut String, alloc: Global) -> Result<(), AllocError> {
+        push_entity_type(out, alloc, &self.1)
+    }
+}
+
 // Adds the object of the actions.
 fn push_actions<N: NameText>(
     out: &mut String,
@@ -31,16 +67,9 @@ fn push_actions<N: NameText>(
     entries: &[(Text, ActionType<N>)],
 ) -> Result<(), AllocError>
     requires { IsStrictlySortedBy text_cmp (keys_of entries.now) }
-    ensures { OnOk result (string_bytes out.new ≡ string_bytes out.old ++ compact_text (object_of (map (action_entry N.components) entries.now))) }
+    ensures { OnOk result (AddsValue out.old out.new (object_of (map (action_entry N.components) entries.now))) }
 {
-    push_char(out, '{')?;
-    let mut later = false;
-    for (id, action) in entries {
-        push_key(out, later, id.as_str())?;
-        push_action(out, alloc, action)?;
-        later = true;
-    }
-    push_char(out, '}')
+    push_object(out, alloc, entries)
 }
 
 // Adds the object of the common types.
@@ -50,16 +79,9 @@ fn push_common_types<N: NameText>(
     entries: &[(CommonTypeId, CommonType<N>)],
 ) -> Result<(), AllocError>
     requires { IsStrictlySortedBy (λ x y. text_cmp x.id.id.text y.id.id.text) (keys_of entries.now) }
-    ensures { OnOk result (string_bytes out.new ≡ string_bytes out.old ++ compact_text (object_of (map (common_entry N.components) entries.now))) }
+    ensures { OnOk result (AddsValue out.old out.new (object_of (map (common_entry N.components) entries.now))) }
 {
-    push_char(out, '{')?;
-    let mut later = false;
-    for (id, common) in entries {
-        push_key(out, later, id.id.as_str())?;
-        push_common_type(out, alloc, common)?;
-        later = true;
-    }
-    push_char(out, '}')
+    push_object(out, alloc, entries)
 }
 
 // Adds the object of the entity types.
@@ -69,16 +91,9 @@ fn push_entity_types<N: NameText>(
     entries: &[(UnreservedId, EntityType<N>)],
 ) -> Result<(), AllocError>
     requires { IsStrictlySortedBy (λ x y. text_cmp x.id.text y.id.text) (keys_of entries.now) }
-    ensures { OnOk result (string_bytes out.new ≡ string_bytes out.old ++ compact_text (object_of (map (entity_entry N.components) entries.now))) }
+    ensures { OnOk result (AddsValue out.old out.new (object_of (map (entity_entry N.components) entries.now))) }
 {
-    push_char(out, '{')?;
-    let mut later = false;
-    for (id, entity) in entries {
-        push_key(out, later, id.as_str())?;
-        push_entity_type(out, alloc, entity)?;
-        later = true;
-    }
-    push_char(out, '}')
+    push_object(out, alloc, entries)
 }
 
 // Adds the common types, where there are any, ahead of a further member.
@@ -88,7 +103,7 @@ fn push_commons<N: NameText>(
     entries: &[(CommonTypeId, CommonType<N>)],
 ) -> Result<(), AllocError>
     requires { IsStrictlySortedBy (λ x y. text_cmp x.id.id.text y.id.id.text) (keys_of entries.now) }
-    ensures { OnOk result (string_bytes out.new ≡ string_bytes out.old ++ ahead (codes "commonTypes") (object_value (map (common_entry N.components) entries.now))) }
+    ensures { OnOk result (Adds out.old out.new (ahead (codes "commonTypes") (object_value (map (common_entry N.components) entries.now)))) }
 {
     if entries.len() == 0 {
         return Ok(());
@@ -104,7 +119,7 @@ fn push_namespace<N: NameText>(
     alloc: Global,
     namespace: &NamespaceDefinition<N>,
 ) -> Result<(), AllocError>
-    ensures { OnOk result (string_bytes out.new ≡ string_bytes out.old ++ compact_text (namespace_value N.components namespace.now)) }
+    ensures { OnOk result (AddsValue out.old out.new (namespace_value N.components namespace.now)) }
 {
     push(out, "{\"actions\":")?;
     push_actions(out, alloc, namespace.actions.as_slice())?;
@@ -126,52 +141,43 @@ fn namespace_text(alloc: Global, name: &Option<Name>) -> Result<Text, AllocError
     }
 }
 
-// The places of the namespaces by the texts of their names, which need not rise with the names.
-fn places<N: NameText>(
-    alloc: Global,
-    entries: &[(Option<Name>, NamespaceDefinition<N>)],
-) -> Result<Map<Text, usize>, AllocError>
-    ensures order { IfOk result (λ places. put_all (map (namespace_entry N.components) entries.now) no_members ≡ in_order (map (placed_entry N.components entries.now) places)) }
-    ensures within { IfOk result (λ places. All (λ p. p.1 < length entries.now) places) }
-{
-    let mut texts = Vec::new(alloc);
-    for at in 0..entries.len() {
-        let text = namespace_text(alloc, &entries[at].0)?;
-        texts.push((text, at))?;
+impl<N: NameText> Member for (Text, &NamespaceDefinition<N>) {
+    ghost entry = { λ p. placed_entry N.components p.0 p.1.now };
+
+    fn key(&self) -> &str {
+        self.0.as_str()
     }
-    Map::from_entries(alloc, texts)
+
+    fn push_value(&self, out: &mut String, alloc: Global) -> Result<(), AllocError> {
+        push_namespace(out, alloc, self.1)
+    }
+}
+
+// The namespaces by the texts of their names, which need not rise with the names.
+fn by_text<'a, N: NameText>(
+    alloc: Global,
+    entries: &'a [(Option<Name>, NamespaceDefinition<N>)],
+) -> Result<Map<Text, &'a NamespaceDefinition<N>>, AllocError>
+    ensures { IfOk result (λ placed. ArePut (map (namespace_entry N.components) entries.now) (map (λ p. placed_entry N.components p.0 p.1.now) placed)) }
+{
+    let mut placed = Vec::with_capacity(alloc, entries.len())?;
+    for (name, namespace) in entries {
+        let text = namespace_text(alloc, name)?;
+        placed.push((text, namespace))?;
+    }
+    Map::from_entries(alloc, placed)
 }
 
 // Adds the object of the namespaces, in the order of the texts.
-fn push_placed<N: NameText>(
-    out: &mut String,
-    alloc: Global,
-    entries: &[(Option<Name>, NamespaceDefinition<N>)],
-    places: &[(Text, usize)],
-) -> Result<(), AllocError>
-    requires { All (λ p. p.1 < length entries.now) places.now }
-    ensures { OnOk result (string_bytes out.new ≡ string_bytes out.old ++ compact_text (object (in_order (map (placed_entry N.components entries.now) places.now)))) }
-{
-    push_char(out, '{')?;
-    let mut later = false;
-    for (text, at) in places {
-        push_key(out, later, text.as_str())?;
-        push_namespace(out, alloc, &entries[*at].1)?;
-        later = true;
-    }
-    push_char(out, '}')
-}
-
-// Adds the object of the namespaces.
 fn push_namespaces<N: NameText>(
     out: &mut String,
     alloc: Global,
     entries: &[(Option<Name>, NamespaceDefinition<N>)],
 ) -> Result<(), AllocError>
-    ensures { OnOk result (string_bytes out.new ≡ string_bytes out.old ++ compact_text (object_of (map (namespace_entry N.components) entries.now))) }
+    ensures { OnOk result (AddsValue out.old out.new (object_of (map (namespace_entry N.components) entries.now))) }
 {
-    let by_text = places(alloc, entries)?;
-    push_placed(out, alloc, entries, by_text.as_slice())
+    let placed = by_text(alloc, entries)?;
+    push_object(out, alloc, placed.as_slice())
 }
 
 /// The compact JSON text of a fragment.

@@ -1,7 +1,8 @@
 // Commas, keys and lists of names.
-ghost use Rattle.std.specs.Prelude.{◌≡◌, ◌<◌, ◌++◌, [], ◌∷◌, OnOk, string_bytes};
+ghost use Rattle.std.specs.Prelude.{◌<◌, ◌++◌, [], ◌∷◌, OnOk};
 ghost use Rattle.json.specs.Print.{quoted};
-ghost use Rattle.serde_json.specs.Written.{comma_if, compact_text};
+ghost use Rattle.serde_json.specs.Written.{comma_if};
+ghost use Rattle.schema_json_text.specs.Adds.{Adds, AddsValue};
 ghost use Rattle.schema_json_values.specs.TypeValues.{name_bytes};
 ghost use Rattle.schema_json_values.specs.FragmentValues.{names_value};
 
@@ -12,7 +13,7 @@ use std::alloc::{AllocError, Global};
 
 /// Adds a comma, where something stands before.
 pub fn push_comma(out: &mut String, later: bool) -> Result<(), AllocError>
-    ensures { OnOk result (string_bytes out.new ≡ string_bytes out.old ++ comma_if later) }
+    ensures { OnOk result (Adds out.old out.new (comma_if later)) }
 {
     if later {
         return push_char(out, ',');
@@ -22,7 +23,7 @@ pub fn push_comma(out: &mut String, later: bool) -> Result<(), AllocError>
 
 /// Adds this text, behind a comma where something stands before.
 pub fn push_later(out: &mut String, later: bool, text: &str) -> Result<(), AllocError>
-    ensures { OnOk result (string_bytes out.new ≡ string_bytes out.old ++ (comma_if later ++ text.now)) }
+    ensures { OnOk result (Adds out.old out.new (comma_if later ++ text.now)) }
 {
     push_comma(out, later)?;
     push(out, text)
@@ -30,7 +31,7 @@ pub fn push_later(out: &mut String, later: bool, text: &str) -> Result<(), Alloc
 
 /// Adds a key and its colon, behind a comma where something stands before.
 pub fn push_key(out: &mut String, later: bool, key: &str) -> Result<(), AllocError>
-    ensures { OnOk result (string_bytes out.new ≡ string_bytes out.old ++ (comma_if later ++ (quoted key.now ++ 58 ∷ []))) }
+    ensures { OnOk result (Adds out.old out.new (comma_if later ++ (quoted key.now ++ 58 ∷ []))) }
 {
     push_comma(out, later)?;
     push_quoted(out, key)?;
@@ -39,7 +40,7 @@ pub fn push_key(out: &mut String, later: bool, key: &str) -> Result<(), AllocErr
 
 /// Adds the text of a name.
 pub fn push_name<N: NameText>(out: &mut String, alloc: Global, name: &N) -> Result<(), AllocError>
-    ensures { OnOk result (string_bytes out.new ≡ string_bytes out.old ++ quoted (name_bytes N.components name.now)) }
+    ensures { OnOk result (Adds out.old out.new (quoted (name_bytes N.components name.now))) }
 {
     let text = name.text(alloc)?;
     push_quoted(out, text.as_str())
@@ -51,7 +52,7 @@ pub fn push_names<N: NameText>(
     alloc: Global,
     names: &[N],
 ) -> Result<(), AllocError>
-    ensures { OnOk result (string_bytes out.new ≡ string_bytes out.old ++ compact_text (names_value N.components names.now)) }
+    ensures { OnOk result (AddsValue out.old out.new (names_value N.components names.now)) }
 {
     push_char(out, '[')?;
     let mut later = false;

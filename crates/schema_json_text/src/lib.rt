@@ -6,6 +6,7 @@ pub mod annotations;
 pub mod entity_types;
 pub mod fragments;
 pub mod leaves;
+pub mod members;
 pub mod pushing;
 pub mod quotes;
 pub mod types;

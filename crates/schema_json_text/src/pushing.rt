@@ -1,11 +1,12 @@
 // Adding to a text.
-ghost use Rattle.std.specs.Prelude.{◌≡◌, ◌<◌, ◌++◌, [], ◌∷◌, OnOk, string_bytes};
+ghost use Rattle.std.specs.Prelude.{◌<◌, [], ◌∷◌, OnOk};
+ghost use Rattle.schema_json_text.specs.Adds.{Adds};
 
 use std::alloc::AllocError;
 
 /// Adds the text.
 pub fn push(out: &mut String, text: &str) -> Result<(), AllocError>
-    ensures { OnOk result (string_bytes out.new ≡ string_bytes out.old ++ text.now) }
+    ensures { OnOk result (Adds out.old out.new text.now) }
 {
     out.push_str(text)
 }
@@ -13,7 +14,7 @@ pub fn push(out: &mut String, text: &str) -> Result<(), AllocError>
 /// Adds a character of ASCII.
 pub fn push_char(out: &mut String, mark: char) -> Result<(), AllocError>
     requires { mark < 128 }
-    ensures { OnOk result (string_bytes out.new ≡ string_bytes out.old ++ mark ∷ []) }
+    ensures { OnOk result (Adds out.old out.new (mark ∷ [])) }
 {
     out.push(mark)
 }

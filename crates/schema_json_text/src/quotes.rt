@@ -1,7 +1,8 @@
 // Texts as JSON strings.
-ghost use Rattle.std.specs.Prelude.{◌≡◌, ◌++◌, true, false, OnOk, MatchOption, string_bytes};
+ghost use Rattle.std.specs.Prelude.{◌≡◌, true, false, OnOk, MatchOption};
 ghost use Rattle.json.specs.Run.{is_stop};
 ghost use Rattle.json.specs.Print.{escape, escape_byte, quoted};
+ghost use Rattle.schema_json_text.specs.Adds.{Adds};
 ghost use Rattle.schema_json_text.specs.Escapes.{NoneEscaped, IsNextEscape};
 
 use crate::pushing::{push, push_char};
@@ -65,7 +66,7 @@ fn next_escape(rest: &[u8]) -> Option<(usize, &'static str)>
 
 /// Adds the text as it stands between the quotes of a JSON string.
 pub fn push_escaped(out: &mut String, text: &str) -> Result<(), AllocError>
-    ensures { OnOk result (string_bytes out.new ≡ string_bytes out.old ++ escape text.now) }
+    ensures { OnOk result (Adds out.old out.new (escape text.now)) }
 {
     let mut rest = text;
     while let Some((at, escape)) = next_escape(rest.as_bytes()) {
@@ -80,7 +81,7 @@ pub fn push_escaped(out: &mut String, text: &str) -> Result<(), AllocError>
 
 /// Adds the text as a JSON string.
 pub fn push_quoted(out: &mut String, text: &str) -> Result<(), AllocError>
-    ensures { OnOk result (string_bytes out.new ≡ string_bytes out.old ++ quoted text.now) }
+    ensures { OnOk result (Adds out.old out.new (quoted text.now)) }
 {
     push_char(out, '"')?;
     push_escaped(out, text)?;

@@ -1,12 +1,11 @@
 // Types.
-ghost use Rattle.std.specs.Prelude.{◌≡◌, ◌∷◌, ◌++◌, ℕ, List, OnOk, map, string_bytes, not, true, false, codes};
+ghost use Rattle.std.specs.Prelude.{◌≡◌, ◌∷◌, ◌++◌, ℕ, List, OnOk, map, not, true, false, codes};
 ghost use Rattle.std.specs.Map.{keys_of};
 ghost use Rattle.std.specs.List.Sorted.{IsStrictlySortedBy};
-ghost use Rattle.serde_json.specs.Data.{object, string, put};
-ghost use Rattle.serde_json.specs.Written.{compact_text, members_text};
 ghost use Rattle.cedar_data.specs.Text.{text_cmp};
-ghost use Rattle.schema_json_values.specs.TypeValues.{object_of, type_members, variant_members, record_members, attribute_entry, type_value, with_annotations, with_flag, with_word};
-ghost use Rattle.schema_json_text.specs.Members.{ahead, behind, annotations_value, flag_value};
+ghost use Rattle.schema_json_values.specs.TypeValues.{object_of, type_members, variant_members, attribute_entry, type_value, with_word};
+ghost use Rattle.schema_json_text.specs.Adds.{Adds, AddsValue};
+ghost use Rattle.schema_json_text.specs.Members.{ahead, annotations_ahead, behind, described, flag_value, named_type, record_start, word_end};
 
 use crate::annotations::push_annotations;
 use crate::leaves::push_key;
@@ -25,7 +24,7 @@ fn push_open(
     field: &str,
 ) -> Result<(), AllocError>
     requires { start.now ≡ 123 ∷ field.now }
-    ensures { OnOk result (string_bytes out.new ≡ string_bytes out.old ++ 123 ∷ (ahead (codes "annotations") (annotations_value annotations.now.0) ++ field.now)) }
+    ensures { OnOk result (Adds out.old out.new (123 ∷ (annotations_ahead annotations.now.0 ++ field.now))) }
 {
     if annotations.is_empty() {
         return push(out, start);
@@ -41,7 +40,7 @@ fn push_record_open(
     is_open: bool,
     annotations: &Annotations,
 ) -> Result<(), AllocError>
-    ensures { OnOk result (string_bytes out.new ≡ string_bytes out.old ++ 123 ∷ (ahead (codes "additionalAttributes") (flag_value is_open true) ++ (ahead (codes "annotations") (annotations_value annotations.now.0) ++ codes "\"attributes\":"))) }
+    ensures { OnOk result (Adds out.old out.new (record_start is_open annotations.now.0)) }
 {
     if is_open {
         push(out, "{\"additionalAttributes\":true,")?;
@@ -53,7 +52,7 @@ fn push_record_open(
 
 // Adds that the attribute is not required, where it is not, ahead of a further member.
 fn push_optional_ahead(out: &mut String, required: bool) -> Result<(), AllocError>
-    ensures { OnOk result (string_bytes out.new ≡ string_bytes out.old ++ ahead (codes "required") (flag_value (not required) false)) }
+    ensures { OnOk result (Adds out.old out.new (ahead (codes "required") (flag_value (not required) false))) }
 {
     if required {
         return Ok(());
@@ -63,7 +62,7 @@ fn push_optional_ahead(out: &mut String, required: bool) -> Result<(), AllocErro
 
 // Adds that the attribute is not required, where it is not, behind another member.
 fn push_optional_behind(out: &mut String, required: bool) -> Result<(), AllocError>
-    ensures { OnOk result (string_bytes out.new ≡ string_bytes out.old ++ behind true (codes "required") (flag_value (not required) false)) }
+    ensures { OnOk result (Adds out.old out.new (behind true (codes "required") (flag_value (not required) false))) }
 {
     if required {
         return Ok(());
@@ -73,7 +72,7 @@ fn push_optional_behind(out: &mut String, required: bool) -> Result<(), AllocErr
 
 // Ends the object of a type behind its field: whether it is required, and its word.
 fn push_end(out: &mut String, required: bool, end: &str) -> Result<(), AllocError>
-    ensures { OnOk result (string_bytes out.new ≡ string_bytes out.old ++ (behind true (codes "required") (flag_value (not required) false) ++ end.now)) }
+    ensures { OnOk result (Adds out.old out.new (behind true (codes "required") (flag_value (not required) false) ++ end.now)) }
 {
     push_optional_behind(out, required)?;
     push(out, end)
@@ -86,7 +85,7 @@ fn push_word(
     required: bool,
     word: &str,
 ) -> Result<(), AllocError>
-    ensures { OnOk result (string_bytes out.new ≡ string_bytes out.old ++ compact_text (object (with_flag (not required) (codes "required") false (with_annotations annotations.now.0 (with_word word.now))))) }
+    ensures { OnOk result (AddsValue out.old out.new (described annotations.now.0 required (with_word word.now))) }
 {
     push_char(out, '{')?;
     push_annotations(out, annotations)?;
@@ -104,7 +103,7 @@ fn push_named(
     name: &str,
     end: &str,
 ) -> Result<(), AllocError>
-    ensures { OnOk result ((word : List ℕ) → end.now ≡ members_text true (with_word word) → string_bytes out.new ≡ string_bytes out.old ++ compact_text (object (with_flag (not required) (codes "required") false (with_annotations annotations.now.0 (put (codes "name") (string name.now) (with_word word)))))) }
+    ensures { OnOk result ((word : List ℕ) → end.now ≡ word_end word → AddsValue out.old out.new (named_type annotations.now.0 required name.now word)) }
 {
     push_open(out, annotations, "{\"name\":\"", "\"name\":\"")?;
     push_escaped(out, name)?;
@@ -121,7 +120,7 @@ pub fn push_annotated<N: NameText>(
     annotations: &Annotations,
     required: bool,
 ) -> Result<(), AllocError>
-    ensures { OnOk result (string_bytes out.new ≡ string_bytes out.old ++ compact_text (object (with_flag (not required) (codes "required") false (with_annotations annotations.now.0 (type_members N.components ty.now))))) }
+    ensures { OnOk result (AddsValue out.old out.new (described annotations.now.0 required (type_members N.components ty.now))) }
 {
     match ty {
         Type::Variant { ty, .. } => push_variant(out, alloc, ty, annotations, required),
@@ -140,7 +139,7 @@ fn push_variant<N: NameText>(
     annotations: &Annotations,
     required: bool,
 ) -> Result<(), AllocError>
-    ensures { OnOk result (string_bytes out.new ≡ string_bytes out.old ++ compact_text (object (with_flag (not required) (codes "required") false (with_annotations annotations.now.0 (variant_members N.components ty.now))))) }
+    ensures { OnOk result (AddsValue out.old out.new (described annotations.now.0 required (variant_members N.components ty.now))) }
 {
     match ty {
         TypeVariant::String => push_word(out, annotations, required, "String"),
@@ -197,7 +196,7 @@ fn push_attributes<N: NameText>(
     entries: &[(Text, TypeOfAttribute<N>)],
 ) -> Result<(), AllocError>
     requires { IsStrictlySortedBy text_cmp (keys_of entries.now) }
-    ensures { OnOk result (string_bytes out.new ≡ string_bytes out.old ++ compact_text (object_of (map (attribute_entry N.components) entries.now))) }
+    ensures { OnOk result (AddsValue out.old out.new (object_of (map (attribute_entry N.components) entries.now))) }
 {
     push_char(out, '{')?;
     let mut later = false;
@@ -221,7 +220,7 @@ pub fn push_type<N: NameText>(
     alloc: Global,
     ty: &Type<N>,
 ) -> Result<(), AllocError>
-    ensures { OnOk result (string_bytes out.new ≡ string_bytes out.old ++ compact_text (type_value N.components ty.now)) }
+    ensures { OnOk result (AddsValue out.old out.new (type_value N.components ty.now)) }
 {
     let none = Annotations::new(alloc);
     push_annotated(out, alloc, ty, &none, true)

@@ -8,6 +8,6 @@ loop-row-preserved g c =
     one_more_row (map (λ e. e.name) c.args.entries.now) c.args.rows.now c.loop-row.row-index c.row-item.result
     c.loop-row.lists.items
     c.push.new.self.items c.in_ok-names_at.field-0 c.loop-row-test.true c.row-item.is c.in_ok-push.ensures.items
-    (subst (λ l. AreAt (map (λ e. e.name) c.args.entries.now) l c.in_ok-names_at.field-0) c.deref.ensures.value
-    c.in_ok-names_at.ensures)
+    (subst (λ l. AreAt (map (λ e. e.name) c.args.entries.now) l c.in_ok-names_at.field-0)
+    c.deref-in-loop-row-2.ensures.value c.in_ok-names_at.ensures)
     c.loop-row.invariant

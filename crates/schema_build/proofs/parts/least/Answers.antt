@@ -1,4 +1,5 @@
-use Rattle.std.proofs.Common.{◌+◌, sym, subst, ◌∙◌}
+use Rattle.std.proofs.Common.{◌+◌, ◌≡◌, sym, subst, ◌∙◌}
+use Rattle.std.specs.declared.cmp.Ordering.TheVariants.{Less}
 use Rattle.cedar_names.specs.Orders.{names_in_order}
 use Rattle.schema_build.proofs.Least.{IsLeastSoFar, least_at_first, least_taken, least_kept, not_less}
 use Rattle.schema_build.proofs.parts.least.Goals.{in-Less, in-Equal}
@@ -12,12 +13,16 @@ loop-name-preserved c =
     let first = c.args.first.now in
     let others = c.args.others.now in
     let i = c.loop-name.name-index in
+    let least = c.loop-name.least.now in
+    let got = c.get-name.ensures in
+    let seen = subst (λ n. c.cmp.result ≡ names_in_order n.name least.name) got c.cmp.ensures in
     elim c.match-cmp.branch [
       | in-Less w ↦ subst (λ b. IsLeastSoFar first others (i + 1) b.now) (sym w.least-is)
-          (least_taken first others i c.loop-name.least.now c.name-item.result c.loop-name-test.true c.name-item.is
-          (sym c.cmp.ensures ∙ w.in-Less.is) c.loop-name.invariant)
+          (subst (IsLeastSoFar first others (i + 1)) (sym got)
+          (least_taken first others i least c.name-item.result c.loop-name-test.true c.name-item.is
+          (sym seen ∙ w.in-Less.is) c.loop-name.invariant))
       | in-Equal w ↦ subst (λ b. IsLeastSoFar first others (i + 1) b.now) (sym w.least-is)
-          (least_kept first others i c.loop-name.least.now c.name-item.result c.loop-name-test.true c.name-item.is
-          (not_less (names_in_order c.name-item.result.name c.loop-name.least.now.name) c.cmp.result c.cmp.ensures
-          w.in-Equal.is) c.loop-name.invariant)
+          (least_kept first others i least c.name-item.result c.loop-name-test.true c.name-item.is
+          (not_less (names_in_order c.name-item.result.name least.name) c.cmp.result seen w.in-Equal.is)
+          c.loop-name.invariant)
     ]

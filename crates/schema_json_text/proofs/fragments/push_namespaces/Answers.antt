@@ -8,9 +8,11 @@ use Rattle.schema_json_text.proofs.fragments.push_namespaces.Goals as goal
 
 pub returns : goal.returns
 returns g c =
-    let f = placed_entry g.N.NameText.components c.args.entries.now in
+    let names = g.N.NameText.components in
     let old = string_bytes c.args.out.now in
-    on_ok_weaker c.push_placed.result
-    (λ e. e ∙ ap (λ ps. old ++ compact_text (object (in_order (map f ps)))) c.as_slice.ensures.entries
-    ∙ ap (λ ms. old ++ compact_text (object ms)) (sym c.in_ok-by_text.ensures.order))
-    c.push_placed.ensures
+    on_ok_weaker c.push_object.result
+    (λ e. e
+    ∙ ap (λ ps. old ++ compact_text (object (in_order (map (λ p. placed_entry names p.0 p.1.now) ps))))
+    c.as_slice.ensures.entries
+    ∙ ap (λ ms. old ++ compact_text (object ms)) (sym c.in_ok-placed.ensures))
+    c.push_object.ensures
