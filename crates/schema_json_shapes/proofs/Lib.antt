@@ -5,6 +5,7 @@ pub mod Ahead
 pub mod NamespaceOrder
 pub mod KeyTexts
 pub mod EntityKinds
+mod FewMembers
 pub mod Wholes
 pub mod Made
 pub mod Saying

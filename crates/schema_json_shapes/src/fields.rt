@@ -10,18 +10,36 @@ ghost use Rattle.schema_json_shapes.specs.Reads.{Reads, Any};
 
 use crate::shape_fault::ShapeFault;
 use crate::tables::Field;
-use cedar_data::Text;
+use cedar_data::{Text, same_bytes};
 use serde_json::{Map, Value};
 use std::alloc::Global;
 
 /// The members of a JSON object.
 pub type Members = Map<String, Value>;
 
+// How many members are looked through one by one, which takes less than halving.
+const FEW: usize = 8;
+
 /// The member of this name.
 pub fn at<'v>(members: &'v Members, name: &str) -> Option<&'v Value>
     ensures { option_map (λ v. view v.now) result ≡ get_member name.now (members_view members.now.entries) }
 {
+    if members.len() <= FEW {
+        return at_few(members, name);
+    }
     members.get(name)
+}
+
+// The same, one by one.
+fn at_few<'v>(members: &'v Members, name: &str) -> Option<&'v Value>
+    ensures { option_map (λ v. view v.now) result ≡ get_member name.now (members_view members.now.entries) }
+{
+    for (key, value) in members {
+        if same_bytes(name, key.as_str()) {
+            return Some(value);
+        }
+    }
+    None
 }
 
 /// The member of this name, which is there.
@@ -49,7 +67,7 @@ fn is_field(fields: &[Field], key: &str) -> bool
     ensures { result ≡ is_field (table fields.now) key.now }
 {
     for field in fields {
-        if field.name == key {
+        if same_bytes(field.name, key) {
             return true;
         }
     }
