@@ -42,7 +42,7 @@ impl<'n, 'f> Meanings<RawName> for NamesIn<'n, 'f> {
     ) -> Result<Target, AllocError> {
         let meant = find_known(self.names.defs(), name_of(self.ns), kind, name);
         if meant.is_common {
-            return common_meant(alloc, self, &name.name, meant.is_own);
+            return common_meant(alloc, self.names, self.ns, &name.name, meant.is_own);
         }
         let full = candidate(alloc, self.ns, &name.name, meant.is_own)?;
         Ok(entity_target(full))
@@ -57,8 +57,7 @@ impl<'n, 'f> Meanings<RawName> for NamesIn<'n, 'f> {
         match find_meant(self.names.defs(), name_of(self.ns), kind, name) {
             Some(meant) => {
                 if meant.is_common {
-                    let full = candidate(alloc, self.ns, &name.name, meant.is_own)?;
-                    Ok(rank_of(self.names, &full))
+                    rank_meant(alloc, self.names, self.ns, &name.name, meant.is_own)
                 } else {
                     Ok(None)
                 }
@@ -95,21 +94,40 @@ fn rank_of(names: &FragmentNames<'_>, name: &InternalName) -> Option<usize>
     }
 }
 
+// The rank of the declared common type that the candidate of the name is, if there is one. As it is written, the name is
+// not copied.
+fn rank_meant(
+    alloc: Global,
+    names: &FragmentNames<'_>,
+    ns: &Option<Name>,
+    name: &InternalName,
+    is_own: bool,
+) -> Result<Option<usize>, AllocError>
+    ensures { IfOk result (IsRankOfName (fragment_scope names.now.fragment names.now.table) (components_of (candidate (name_of ns.now) name.now is_own))) }
+{
+    if !is_own {
+        return Ok(rank_of(names, name));
+    }
+    let full = candidate(alloc, ns, name, true)?;
+    Ok(rank_of(names, &full))
+}
+
 // What the candidate of the name stands for, which is a common type. As it is written, the name is not copied.
 fn common_meant(
     alloc: Global,
-    names_in: &NamesIn<'_, '_>,
+    names: &FragmentNames<'_>,
+    ns: &Option<Name>,
     name: &InternalName,
     is_own: bool,
 ) -> Result<Target, AllocError>
-    requires { (tests_of (defined names_in.now.names.now.fragment names_in.now.names.now.table)).is_common (components_of (candidate (name_of names_in.now.ns.now) name.now is_own)) ≡ true }
-    ensures { IfOk result (IsCommonTarget (fragment_scope names_in.now.names.now.fragment names_in.now.names.now.table) (components_of (candidate (name_of names_in.now.ns.now) name.now is_own))) }
+    requires { (tests_of (defined names.now.fragment names.now.table)).is_common (components_of (candidate (name_of ns.now) name.now is_own)) ≡ true }
+    ensures { IfOk result (IsCommonTarget (fragment_scope names.now.fragment names.now.table) (components_of (candidate (name_of ns.now) name.now is_own))) }
 {
-    if is_own {
-        let full = candidate(alloc, names_in.ns, name, true)?;
-        return common_target(alloc, names_in.names, &full);
+    if !is_own {
+        return common_target(alloc, names, name);
     }
-    common_target(alloc, names_in.names, name)
+    let full = candidate(alloc, ns, name, true)?;
+    common_target(alloc, names, &full)
 }
 
 // What the name of a common type stands for: the declared common type of its rank, or else a builtin type.

@@ -43,11 +43,7 @@ fn push_all(stack: &mut Vec<Symbol>, symbols: &[Symbol]) -> Result<(), AllocErro
 }
 
 // Puts the symbols in place of what stands behind the first so many, the first symbol on top.
-fn put_behind(
-    stack: &mut Vec<Symbol>,
-    left: usize,
-    symbols: &[Symbol],
-) -> Result<(), AllocError>
+fn put_behind(stack: &mut Vec<Symbol>, left: usize, symbols: &[Symbol]) -> Result<(), AllocError>
     requires { left < length stack.old.items }
     ensures { OnOk result (reverse stack.new.items ≡ symbols.now ++ reverse (take left stack.old.items)) }
 {
