@@ -2,23 +2,28 @@
 use Rattle.std.proofs.Common.{◌≡◌, ℕ, Bool, ◌+◌, ◌<◌, List, [], ◌∷◌, ◌++◌, length, get_or, take, drop, refl, sym, ap}
 use Rattle.std.proofs.Common.{◌∙◌}
 use Rattle.std.proofs.Common.{subst, map, zero, suc, ◌≤◌, arith}
-use denote.Ref.{Bor}
 use denote.Param.Weighed.{most}
 use Rattle.std.specs.List.{AllZip}
 use Rattle.std.specs.Map.{keys_of, values_of}
 use Rattle.std.proofs.lemmas.List.{take_more, drop_all}
 use Rattle.std.proofs.lemmas.Slice.Zip.{all_zipped_more}
+use Rattle.std.specs.Cmp.Lexicographic.{slice_cmp}
+use Rattle.std.specs.declared.cmp.Ordering.{Ordering}
+use Rattle.cedar_data.specs.Text.{text_cmp}
+use Rattle.cedar_identifiers.specs.Names.{components_of}
+use Rattle.cedar_identifiers.specs.declared.name.Name.{Name}
 use Rattle.cedar_identifiers.specs.declared.raw_name.RawName.{RawName}
 use Rattle.schema_json.specs.declared.types.TypeOfAttribute.{TypeOfAttribute, out-TypeOfAttribute}
 use Rattle.schema_build_errors.specs.declared.recovery_error.RecoveryError.{RecoveryError}
 use Rattle.schema_build_types.specs.declared.types.Type.{«Type»}
-use Rattle.schema_build_types.specs.Content.{type_content, attributes_content}
+use Rattle.schema_build_types.specs.Content.{type_content, attributes_content, names_content}
 use Rattle.schema_build_types.specs.Lacks.{type_lacks, attribute_lacks}
 use Rattle.schema_build_text.specs.Readings.{plain_type, plain_attributes}
-use Rattle.schema_build_recovered.specs.Recovered.{IsRecoveredType, AreRecoveredAttributes}
+use Rattle.schema_build_recovered.specs.Recovered.{IsWritten, IsRecoveredType, AreRecoveredAttributes}
 use Rattle.schema_build_recovered.specs.Refusals.{IsFirstLack}
 use Rattle.schema_build_recovered.proofs.Lacking.{first_before}
-use Rattle.schema_build_text.proofs.Rowed.{dropped}
+use Rattle.schema_build_text.specs.Rows.{sorted_once}
+use Rattle.schema_build_text.proofs.Rowed.{dropped, names_sorted}
 
 -- one more of each
 pub zip_more : {A B : Type 0} (R : A → B → Type 0) (xs : List A) (ys : List B) (i : ℕ) (x : A) (y : B)
@@ -27,13 +32,22 @@ zip_more R xs ys i x y lt at h r =
     let same : take (i + 1) xs ≡ take i xs ++ x ∷ [] = take_more xs i x lt ∙ ap (λ z. take i xs ++ z ∷ []) (sym at) in
     subst (λ front. AllZip R front (ys ++ y ∷ [])) (sym same) (all_zipped_more R (take i xs) ys x y h r)
 
--- rows of items that are lent
-pub zip_lent : {X A B : Type 0} (R : A → B → Type 0) (f : X → A) (xs : List (Bor X)) (ys : List B)
-    → AllZip (λ x y. R (f x.now) y) xs ys → AllZip R (map f (map (λ x. x.now) xs)) ys
-zip_lent R f [] [] h = tt
-zip_lent R f [] (y ∷ ys) h = h
-zip_lent R f (x ∷ xs) [] h = h
-zip_lent R f (x ∷ xs) (y ∷ ys) h = (h.0, zip_lent R f xs ys h.1)
+-- rows of what is seen of the items
+pub zip_seen : {X A B : Type 0} (R : A → B → Type 0) (f : X → A) (xs : List X) (ys : List B)
+    → AllZip (λ x y. R (f x) y) xs ys → AllZip R (map f xs) ys
+zip_seen R f [] [] h = tt
+zip_seen R f [] (y ∷ ys) h = h
+zip_seen R f (x ∷ xs) [] h = h
+zip_seen R f (x ∷ xs) (y ∷ ys) h = (h.0, zip_seen R f xs ys h.1)
+
+-- the names of a row that is sorted, as they are written
+pub names_written : (C : Name → Name → Ordering)
+    → ((x y : Name) → C x y ≡ slice_cmp text_cmp (components_of x.name) (components_of y.name)) → (names : List Name)
+    → (written : List RawName) → AllZip (λ n. IsWritten (components_of n.name)) (sorted_once C names) written
+    → AllZip IsWritten (names_content names) written
+names_written C same names written all =
+    subst (λ ns. AllZip IsWritten ns written) (names_sorted C same names)
+    (zip_seen IsWritten (λ n. components_of n.name) (sorted_once C names) written all)
 
 -- an attribute, with its name and its required mark
 abbrev pub IsRow : List ℕ × («Type» × Bool) → List ℕ × TypeOfAttribute RawName → Type 0

@@ -1,5 +1,6 @@
 ghost use Rattle.std.specs.Prelude.{◌≡◌, IfOk, map};
 ghost use Rattle.std.specs.List.{AllZip};
+ghost use Rattle.cedar_identifiers.specs.Names.{components_of};
 ghost use Rattle.cedar_names.specs.Definitions.{action_of};
 ghost use Rattle.schema_build_types.specs.Content.{names_content, actions_in_order};
 ghost use Rattle.schema_build_text.specs.Rows.{sorted_once};
@@ -34,39 +35,73 @@ pub fn in_order<'a, T: Ord>(alloc: Global, items: &'a [T]) -> Result<Vec<&'a T>,
     listed(alloc, set)
 }
 
+// What is recovered by itself, as a name or an action that another item stands below.
+trait Recover: Ord {
+    type Out: Drop;
+
+    // What it is recovered as.
+    ghost is_recovered: { Self → Self.Out → Type 0 };
+
+    fn recovered(&self, alloc: Global) -> Result<Self::Out, AllocError>
+        ensures { IfOk result (is_recovered self.now) };
+}
+
+impl Recover for Name {
+    type Out = RawName;
+
+    ghost is_recovered = { λ n. IsWritten (components_of n.name) };
+
+    fn recovered(&self, alloc: Global) -> Result<RawName, AllocError> {
+        written_name(alloc, self)
+    }
+}
+
+impl Recover for EntityUID {
+    type Out = ActionEntityUID<RawName>;
+
+    ghost is_recovered = { λ a. IsRecoveredParent (action_of a) };
+
+    fn recovered(&self, alloc: Global) -> Result<ActionEntityUID<RawName>, AllocError> {
+        let ty = written_name(alloc, &self.ty)?;
+        let id = self.eid.0.clone_in(alloc)?;
+        Ok(ActionEntityUID::with_type(ty, id))
+    }
+}
+
+impl<T: Recover> Recover for Shared<T> {
+    type Out = T::Out;
+
+    ghost is_recovered = { T.is_recovered };
+
+    fn recovered(&self, alloc: Global) -> Result<T::Out, AllocError> {
+        self.get().recovered(alloc)
+    }
+}
+
+// What the items are recovered as, in order, each once.
+fn recovered_in_order<T: Recover>(alloc: Global, items: &[T]) -> Result<List<T::Out>, AllocError>
+    ensures { IfOk result (AllZip T.is_recovered (sorted_once T.cmp items.now)) }
+{
+    let rising = in_order(alloc, items)?;
+    let mut recovered = Vec::with_capacity(alloc, rising.len())?;
+    for item in &rising {
+        recovered.push(item.recovered(alloc)?)?;
+    }
+    Ok(List::from_vec(recovered))
+}
+
 /// The names as they are written, in order, each once.
 pub fn written_names(alloc: Global, names: &[Name]) -> Result<List<RawName>, AllocError>
     ensures { IfOk result (λ written. AllZip IsWritten (names_content names.now) written) }
 {
-    let rising = in_order(alloc, names)?;
-    let mut written = Vec::with_capacity(alloc, rising.len())?;
-    for at in 0..rising.len() {
-        let name = written_name(alloc, rising[at])?;
-        written.push(name)?;
-    }
-    Ok(List::from_vec(written))
+    recovered_in_order(alloc, names)
 }
 
 /// The shared names as they are written, in order, each once.
 pub fn written_ancestors(alloc: Global, names: &[Shared<Name>]) -> Result<List<RawName>, AllocError>
     ensures { IfOk result (λ written. AllZip IsWritten (names_content names.now) written) }
 {
-    let rising = in_order(alloc, names)?;
-    let mut written = Vec::with_capacity(alloc, rising.len())?;
-    for at in 0..rising.len() {
-        let name = written_name(alloc, rising[at].get())?;
-        written.push(name)?;
-    }
-    Ok(List::from_vec(written))
-}
-
-// The action as a parent.
-fn parent(alloc: Global, action: &EntityUID) -> Result<ActionEntityUID<RawName>, AllocError>
-    ensures { IfOk result (IsRecoveredParent (action_of action.now)) }
-{
-    let ty = written_name(alloc, &action.ty)?;
-    let id = action.eid.0.clone_in(alloc)?;
-    Ok(ActionEntityUID::with_type(ty, id))
+    recovered_in_order(alloc, names)
 }
 
 /// The actions as parents, in order, each once; absent where there are none.
@@ -79,11 +114,5 @@ pub fn parents(
     if actions.is_empty() {
         return Ok(None);
     }
-    let rising = in_order(alloc, actions)?;
-    let mut parents = Vec::with_capacity(alloc, rising.len())?;
-    for at in 0..rising.len() {
-        let parent = parent(alloc, rising[at].get())?;
-        parents.push(parent)?;
-    }
-    Ok(Some(List::from_vec(parents)))
+    Ok(Some(recovered_in_order(alloc, actions)?))
 }

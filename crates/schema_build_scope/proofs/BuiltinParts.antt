@@ -81,10 +81,6 @@ table_word_free (n ∷ ids) w h = go (table_word_free ids w) (bytes_eq w n.id.te
     go more true is h = ap is_cedar ((bytes_eq-Decides w n.id.text).0 is) ∙ n.unreserved
     go more false is h = more h
 
--- a text that is not this one
-pub not_text : (v w lit : List ℕ) → v ≡ w → (v ≡ lit → ⊥) → bytes_eq w lit ≡ false
-not_text v w lit same other = go (bytes_eq w lit) refl
-  where
-    go : (b : Bool) → bytes_eq w lit ≡ b → bytes_eq w lit ≡ false
-    go true e = absurd (other (same ∙ (bytes_eq-Decides w lit).0 e))
-    go false e = e
+-- a text that is not this one, as a comparison of the same text tells
+pub not_text : (v w lit : List ℕ) (same : Bool) → v ≡ w → same ≡ bytes_eq v lit → same ≡ false → bytes_eq w lit ≡ false
+not_text v w lit same is told other = ap (λ t. bytes_eq t lit) (sym is) ∙ sym told ∙ other

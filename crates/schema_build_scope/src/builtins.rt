@@ -5,7 +5,7 @@ ghost use Rattle.schema_build_expand.specs.Scope.{builtin};
 ghost use Rattle.schema_build_types.specs.Standing.{IsBuilt};
 ghost use Rattle.schema_build_scope.specs.FragmentScope.{table_scope};
 
-use cedar_data::CloneIn;
+use cedar_data::{CloneIn, same_bytes};
 use cedar_identifiers::{Id, InternalName, UnreservedId};
 use cedar_names::ExtensionTable;
 use schema_build_types::Type as BuiltType;
@@ -31,13 +31,18 @@ fn word_type(alloc: Global, _table: &ExtensionTable, word: &Id) -> Result<BuiltT
     requires { IsSome (builtin (table_scope _table.now) (word.now.text ∷ [])) }
     ensures { IfOk result (λ ty. (p : PlainType) × (builtin (table_scope _table.now) (word.now.text ∷ []) ≡ Some p) × IsBuilt p ty) }
 {
-    match word.as_str() {
-        "Bool" => Ok(BuiltType::AnyBool),
-        "Long" => Ok(BuiltType::Long),
-        "String" => Ok(BuiltType::String),
-        _ => match UnreservedId::from_id(word.clone_in(alloc)?) {
-            Some(name) => Ok(BuiltType::Extension { name }),
-            None => unreachable!(),
-        },
+    let text = word.as_str();
+    if same_bytes(text, "Bool") {
+        return Ok(BuiltType::AnyBool);
+    }
+    if same_bytes(text, "Long") {
+        return Ok(BuiltType::Long);
+    }
+    if same_bytes(text, "String") {
+        return Ok(BuiltType::String);
+    }
+    match UnreservedId::from_id(word.clone_in(alloc)?) {
+        Some(name) => Ok(BuiltType::Extension { name }),
+        None => unreachable!(),
     }
 }

@@ -1,5 +1,5 @@
 use Rattle.std.proofs.Common.{◌∙◌}
-use Rattle.schema_build_recovered.proofs.sets.parent.Goals as goal
+use Rattle.schema_build_recovered.proofs.sets.EntityUIDRecover.recovered.Goals as goal
 
 pub returns : goal.returns
 returns c = record {
