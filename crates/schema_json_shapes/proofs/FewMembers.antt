@@ -1,5 +1,5 @@
 -- A member that is looked for one by one.
-use Rattle.std.proofs.Common.{◌≡◌, ℕ, true, false, List, Option, Ordering, Less, Equal, Greater, Some, refl, sym, ap, ◌∙◌}
+use Rattle.std.proofs.Common.{◌≡◌, ℕ, true, false, List, Ordering, Less, Equal, Greater, Some, refl, ◌∙◌}
 use Rattle.std.specs.Ordering.{nat_cmp, is_eq, match_ordering}
 use Rattle.std.specs.Str.{bytes_eq}
 use Rattle.std.specs.Cmp.Lexicographic.{slice_cmp}
