@@ -2,7 +2,7 @@
 use Rattle.std.proofs.Common.{◌≡◌, ℕ, suc, ◌≤◌, max, false, List, [], ◌∷◌, ◌++◌, Some, refl}
 use Rattle.std.proofs.Common.{sym, ap, ap₂, ◌∙◌, subst, arith, append-nil, option_map, option_and_then}
 use Rattle.std.specs.Prelude.{◌||◌, All, ⊤}
-use Rattle.std.specs.Ordering.{match_ordering, nat_cmp, ordering_reverse}
+use Rattle.std.specs.Ordering.{nat_cmp}
 use Rattle.std.specs.Cmp.Lexicographic.{slice_cmp}
 use Rattle.std.specs.declared.cmp.Ordering.{Ordering}
 use Rattle.std.specs.declared.cmp.Ordering.TheVariants.{Less, Equal, Greater}
@@ -19,6 +19,7 @@ use Rattle.serde_json.specs.Data.{Members, no_members, member, put, depth, items
 use Rattle.serde_json.specs.Read.{read, of_json, of_items, of_members, max_depth}
 use Rattle.serde_json.specs.Written.{outline, items_outline, members_outline, compact_text}
 use Rattle.serde_json.proofs.Texts.{print-outline}
+use Rattle.schema_json_values.proofs.Followed.{followed, followed_once, followed_by_none, Before, put_last, before_more}
 use Rattle.schema_json_keys.specs.Keys.{Key, keys_of, items_keys, members_keys, ComesAgain, FirstAgain, RepeatedKey}
 use Rattle.schema_json_laws.proofs.Tidied.{untidy, items_untidy, members_untidy, not_above, is_not_less, first_of}
 use Rattle.schema_json_laws.proofs.Tidied.{second_of}
@@ -85,41 +86,9 @@ mutual
 
 -- ---- the outline is read as the value
 
--- the members, with others behind them
-abbrev followed : Members → Members → Members
-followed no_members more = more
-followed (member k d ms) more = member k d (followed ms more)
-
-followed_once : (ms more : Members) (k : List ℕ) (d : Data)
-    → followed (followed ms (member k d no_members)) more ≡ followed ms (member k d more)
-followed_once no_members more k d = refl
-followed_once (member l e ms) more k d = ap (member l e) (followed_once ms more k d)
-
-followed_by_none : (ms : Members) → followed ms no_members ≡ ms
-followed_by_none no_members = refl
-followed_by_none (member k d ms) = ap (member k d) (followed_by_none ms)
-
--- each key among the members comes before this one
-abbrev Before : Members → List ℕ → Type 0
-Before no_members k = ⊤
-Before (member l e ms) k = (slice_cmp nat_cmp l k ≡ Less) × Before ms k
-
 abbrev BeforeFirst : Members → Members → Type 0
 BeforeFirst found no_members = ⊤
 BeforeFirst found (member k d ms) = Before found k
-
-put_last : (found : Members) (k : List ℕ) (d : Data) → Before found k → put k d found ≡ followed found
-    (member k d no_members)
-put_last no_members k d b = refl
-put_last (member l e ms) k d b =
-    let greater : slice_cmp nat_cmp k l ≡ Greater = nat_list_cmp_total.antisymm k l ∙ ap ordering_reverse b.0 in
-    ap (λ o. match_ordering o (member k d (member l e ms)) (member l d ms) (member l e (put k d ms))) greater
-    ∙ ap (member l e) (put_last ms k d b.1)
-
-before_more : (found : Members) (k l : List ℕ) (d : Data) → Before found k → slice_cmp nat_cmp k l ≡ Less
-    → Before (followed found (member k d no_members)) l
-before_more no_members k l d b less = (less, tt)
-before_more (member m e ms) k l d b less = (nat_list_cmp_total.trans m k l b.0 less, before_more ms k l d b.1 less)
 
 first_before : (found : Members) (k : List ℕ) (d : Data) (ms : Members) → Before found k → not_above k ms ≡ false
     → BeforeFirst (followed found (member k d no_members)) ms

@@ -1,5 +1,4 @@
 use Rattle.std.proofs.Common.{◌+◌, ◌≡◌, sym, subst, ◌∙◌}
-use Rattle.std.specs.declared.cmp.Ordering.TheVariants.{Less}
 use Rattle.cedar_names.specs.Orders.{names_in_order}
 use Rattle.schema_build.proofs.Least.{IsLeastSoFar, least_at_first, least_taken, least_kept, not_less}
 use Rattle.schema_build.proofs.parts.least.Goals.{in-Less, in-Equal}

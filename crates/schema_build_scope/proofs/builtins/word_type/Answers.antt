@@ -18,7 +18,8 @@ unreachable-requires c =
     (not_text v w (codes "String") c.same_bytes-3.result is c.same_bytes-3.ensures c.if-same_bytes-3.false)
     c.requires in
     let free : is_cedar w ≡ false = table_word_free c.args._table.now.names w there in
-    let same : is_cedar w ≡ true = ap (λ (i : Id). is_cedar i.text) (sym c.in_ok-clone_in.ensures) ∙ c.in-None.ensures in
+    let same : is_cedar w ≡ true = ap (λ (i : Id). is_cedar i.text) (sym c.in_ok-clone_in.ensures)
+    ∙ c.in-None.ensures in
     let h : true ≡ false = sym same ∙ free in cc
 
 pub returns : goal.returns
