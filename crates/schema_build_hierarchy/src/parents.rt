@@ -51,7 +51,8 @@ pub(crate) fn entity_parents<'f>(
 {
     match &entry.ty.kind {
         EntityTypeKind::Standard(standard) => {
-            targets_of(alloc, defs, entry.ns, standard.member_of_types.as_slice())
+            let parents = standard.get().member_of_types.as_slice();
+            targets_of(alloc, defs, entry.ns, parents)
         }
         EntityTypeKind::Enum { .. } => Ok(Vec::new(alloc)),
     }

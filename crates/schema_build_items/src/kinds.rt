@@ -78,7 +78,7 @@ fn entity_kind(
     }
     match &entry.ty.kind {
         EntityTypeKind::Standard(standard) => {
-            standard_kind(alloc, names, done, entry.ns, standard)
+            standard_kind(alloc, names, done, entry.ns, standard.get())
         }
         EntityTypeKind::Enum { choices } => Ok(Some(ValidatorEntityTypeKind::Enum(choices.clone_in(
             alloc,

@@ -99,13 +99,14 @@ fn recovered_kind(
                 return Err(RecoveryError::Unsupported);
             }
             let standard = recovered_standard(alloc, ancestors, attributes, tags)?;
-            Ok(EntityTypeKind::Standard(standard))
+            Ok(EntityTypeKind::Standard(Boxed::new(alloc, standard)?))
         }
         ValidatorEntityTypeKind::Enum(choices) => Ok(EntityTypeKind::Enum {
             choices: choices.clone_in(alloc)?,
         }),
         ValidatorEntityTypeKind::External => {
-            Ok(EntityTypeKind::Standard(recovered_external(alloc, ancestors)?))
+            let standard = recovered_external(alloc, ancestors)?;
+            Ok(EntityTypeKind::Standard(Boxed::new(alloc, standard)?))
         }
     }
 }

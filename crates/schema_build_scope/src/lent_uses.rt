@@ -48,6 +48,7 @@ fn push_kind<'f>(
 {
     match kind {
         EntityTypeKind::Standard(standard) => {
+            let standard = standard.get();
             let ty = &standard.shape.0;
             uses.push(LentType { ns, ty })?;
             push_tags(uses, ns, &standard.tags)

@@ -8,7 +8,7 @@ ghost use Rattle.schema_compat_convert.specs.Converted.{CommonTypeBecomes, Entit
 
 use crate::convert::Convert;
 use crate::types::convert_type;
-use cedar_data::{List, Set, Text};
+use cedar_data::{Boxed, List, Set, Text};
 use cedar_identifiers::{Annotations, RawName};
 use schema_compat_types::{
     ActionEntityUID as OldUid, ActionType as OldAction, ApplySpec as OldApply,
@@ -51,12 +51,13 @@ impl Convert for OldEntityType {
         } = self;
         let OldContext(shape) = shape;
         let shape = AttributesOrContext(convert_type(alloc, shape)?);
+        let standard = StandardEntityType {
+            member_of_types,
+            shape,
+            tags: None,
+        };
         Ok(EntityType {
-            kind: EntityTypeKind::Standard(StandardEntityType {
-                member_of_types,
-                shape,
-                tags: None,
-            }),
+            kind: EntityTypeKind::Standard(Boxed::new(alloc, standard)?),
             external: false,
             annotations: Annotations::new(alloc),
             loc: None,

@@ -102,11 +102,12 @@ fn standard(
     let member_of_types = raw_names(alloc, member_of_types)?;
     let shape = AttributesOrContext(record_type(alloc, attrs)?);
     let tags = tags_of(alloc, tags)?;
-    Ok(EntityTypeKind::Standard(StandardEntityType {
+    let standard = StandardEntityType {
         member_of_types,
         shape,
         tags,
-    }))
+    };
+    Ok(EntityTypeKind::Standard(Boxed::new(alloc, standard)?))
 }
 
 // What an entity type is declared as whose entities are listed.
@@ -133,11 +134,12 @@ fn external(
         member_of_types,
     } = decl;
     let member_of_types = raw_names(alloc, member_of_types)?;
-    Ok(EntityTypeKind::Standard(StandardEntityType {
+    let standard = StandardEntityType {
         member_of_types,
         shape: nothing(alloc),
         tags: None,
-    }))
+    };
+    Ok(EntityTypeKind::Standard(Boxed::new(alloc, standard)?))
 }
 
 // What the entity types of the declaration are.

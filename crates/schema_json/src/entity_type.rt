@@ -28,7 +28,7 @@ impl<N: Drop> Drop for EntityType<N> {
 /// What is declared of an entity type.
 #[derive_where(PartialEq, Eq, PartialOrd, Ord, Hash; N)]
 pub enum EntityTypeKind<N> {
-    Standard(StandardEntityType<N>),
+    Standard(Boxed<StandardEntityType<N>>),
     /// The entities are listed by their ids.
     Enum { choices: NonEmpty<Eid> },
 }

@@ -1,5 +1,5 @@
 // Entity types.
-ghost use Rattle.std.specs.Prelude.{◌≡◌, [], None, false, codes};
+ghost use Rattle.std.specs.Prelude.{◌≡◌, [], None, false, codes, IfOk};
 ghost use Rattle.serde_json.specs.Data.{object};
 ghost use Rattle.serde_json.specs.View.{view, items_view, members_view};
 ghost use Rattle.serde_json.specs.Find.{get_member};
@@ -22,7 +22,7 @@ use cedar_data::{Boxed, List, NonEmpty};
 use cedar_identifiers::{Eid, RawName};
 use schema_json::{AttributesOrContext, EntityType, EntityTypeKind, StandardEntityType, Type};
 use serde_json::Value;
-use std::alloc::Global;
+use std::alloc::{AllocError, Global};
 
 /// An entity type.
 pub fn read_entity_type(
@@ -50,7 +50,7 @@ fn read_members(alloc: Global, members: &Members) -> Result<EntityType<RawName>,
     let member_of_types = parents_at(alloc, members)?;
     let shape = shape_at(alloc, members, "shape")?;
     let tags = boxed_type_at(alloc, members, "tags")?;
-    let kind = kind_of(choices, member_of_types, shape, tags);
+    let kind = kind_of(alloc, choices, member_of_types, shape, tags)?;
     Ok(EntityType {
         kind,
         external,
@@ -70,20 +70,24 @@ fn check_members(alloc: Global, members: &Members) -> Result<(), ShapeFault>
 }
 
 fn kind_of(
+    alloc: Global,
     choices: Option<NonEmpty<Eid>>,
     member_of_types: List<RawName>,
     shape: Type<RawName>,
     tags: Option<Boxed<Type<RawName>>>,
-) -> EntityTypeKind<RawName>
-    ensures { result ≡ kind_from choices member_of_types shape tags }
+) -> Result<EntityTypeKind<RawName>, AllocError>
+    ensures { IfOk result (λ kind. kind ≡ kind_from choices member_of_types shape tags) }
 {
     match choices {
-        Some(choices) => EntityTypeKind::Enum { choices },
-        None => EntityTypeKind::Standard(StandardEntityType {
-            member_of_types,
-            shape: AttributesOrContext(shape),
-            tags,
-        }),
+        Some(choices) => Ok(EntityTypeKind::Enum { choices }),
+        None => {
+            let standard = StandardEntityType {
+                member_of_types,
+                shape: AttributesOrContext(shape),
+                tags,
+            };
+            Ok(EntityTypeKind::Standard(Boxed::new(alloc, standard)?))
+        }
     }
 }
 

@@ -148,7 +148,7 @@ pub fn push_entity_type<N: NameText>(
     let later = push_first_annotations(out, &entity.annotations)?;
     match &entity.kind {
         EntityTypeKind::Standard(standard) => {
-            push_standard(out, alloc, later, entity.external, standard)
+            push_standard(out, alloc, later, entity.external, standard.get())
         }
         EntityTypeKind::Enum { choices } => push_enum(out, later, entity.external, choices),
     }

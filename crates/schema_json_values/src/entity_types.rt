@@ -98,7 +98,7 @@ fn kind_members<N: NameText>(alloc: Global, kind: &EntityTypeKind<N>) -> Result<
     ensures { IfOk result (λ m. members_view m.entries ≡ kind_members N.components kind.now) }
 {
     match kind {
-        EntityTypeKind::Standard(standard) => standard_members(alloc, standard),
+        EntityTypeKind::Standard(standard) => standard_members(alloc, standard.get()),
         EntityTypeKind::Enum { choices } => {
             let mut members = Map::new(alloc);
             let value = choices_value(alloc, choices)?;

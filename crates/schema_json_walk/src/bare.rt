@@ -10,6 +10,7 @@ pub fn is_bare_entity<N>(entity: &EntityType<N>) -> bool
 {
     match &entity.kind {
         EntityTypeKind::Standard(standard) => {
+            let standard = standard.get();
             standard.shape.is_empty_record() && standard.tags.is_none()
         }
         EntityTypeKind::Enum { .. } => false,

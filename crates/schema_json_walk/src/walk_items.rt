@@ -130,7 +130,7 @@ fn walk_kind<'a, N, V: Visitor<N>>(
     ensures refused { IfErr result (StopsAmong (V.takes ns.now) (V.refuses ns.now) visitor.old (of_kind itself kind.now)) }
 {
     match kind {
-        EntityTypeKind::Standard(standard) => walk_standard(visitor, ns, standard),
+        EntityTypeKind::Standard(standard) => walk_standard(visitor, ns, standard.get()),
         EntityTypeKind::Enum { .. } => Ok(()),
     }
 }

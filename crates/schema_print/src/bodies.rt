@@ -91,6 +91,7 @@ pub fn push_entity_body<N: NameText>(
 {
     match &entity_type.kind {
         EntityTypeKind::Standard(standard) => {
+            let standard = standard.get();
             if entity_type.external {
                 push_parents(text, alloc, standard.member_of_types.as_slice())
             } else {

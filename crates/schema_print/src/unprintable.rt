@@ -152,7 +152,7 @@ pub(crate) fn is_shapeless<N>(entity_type: &EntityType<N>) -> bool
 {
     match &entity_type.kind {
         EntityTypeKind::Standard(standard) => !entity_type.external
-            && !is_record(&standard.shape.0),
+            && !is_record(&standard.get().shape.0),
         EntityTypeKind::Enum { .. } => false,
     }
 }

@@ -13,6 +13,7 @@ fn kind_is_orderly(kind: &EntityTypeKind<RawName>)
 {
     match kind {
         EntityTypeKind::Standard(standard) => {
+            let standard = standard.get();
             type_is_orderly(&standard.shape.0);
             tags_are_orderly(&standard.tags);
         }

@@ -115,9 +115,10 @@ fn rename_kind<N: NameText, M: NameText + Drop, R: Renamer<N, M>>(
     ensures err { IfErr result (NamesFirst (of_kind (by_reference (R.untargeted renamer.now)) kind.now)) }
 {
     match kind {
-        EntityTypeKind::Standard(standard) => Ok(EntityTypeKind::Standard(rename_standard(
-            alloc, renamer, standard,
-        )?)),
+        EntityTypeKind::Standard(standard) => {
+            let standard = rename_standard(alloc, renamer, standard.get())?;
+            Ok(EntityTypeKind::Standard(Boxed::new(alloc, standard)?))
+        }
         EntityTypeKind::Enum { choices } => Ok(EntityTypeKind::Enum {
             choices: choices.clone_in(alloc)?,
         }),

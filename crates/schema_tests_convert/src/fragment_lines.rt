@@ -127,6 +127,7 @@ fn find_entity(wanted: &mut Wanted<'_>, name: &str, of: &EntityType<RawName>) {
             }
         }
         EntityTypeKind::Standard(standard) => {
+            let standard = standard.get();
             find_names(wanted, standard.member_of_types.as_slice());
             find_type(wanted, &standard.shape.0, LEVELS);
             if let Some(tags) = &standard.tags {

@@ -111,7 +111,7 @@ fn find_entity(wanted: &mut Wanted<'_>, of: &EntityType<InternalName>) {
                 wanted.piece(choice.0.as_str());
             }
         }
-        EntityTypeKind::Standard(standard) => find_standard(wanted, standard),
+        EntityTypeKind::Standard(standard) => find_standard(wanted, standard.get()),
     }
 }
 

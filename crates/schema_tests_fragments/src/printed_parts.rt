@@ -49,6 +49,7 @@ fn record_is_printed(alloc: Global, common: &CommonType<RawName>) -> bool {
 fn standard_is_printed(alloc: Global, entity: &EntityType<RawName>) -> bool {
     match &entity.kind {
         EntityTypeKind::Standard(standard) => {
+            let standard = standard.get();
             prints(alloc, &standard.shape, 0, "{\n  x: Long,\n}")
                 && prints(alloc, standard, 0, " in [B] = {\n  x: Long,\n} tags Set<B>")
         }

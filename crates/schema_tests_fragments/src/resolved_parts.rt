@@ -130,8 +130,8 @@ fn entity_agrees(
     }
     match (&written.kind, &full.kind) {
         (EntityTypeKind::Standard(one), EntityTypeKind::Standard(other)) => {
-            means(within, &one.shape, &other.shape)
-                && type_agrees(within, &one.shape.0, &other.shape.0)
+            let (one, other) = (&one.get().shape, &other.get().shape);
+            means(within, one, other) && type_agrees(within, &one.0, &other.0)
         }
         _ => true,
     }

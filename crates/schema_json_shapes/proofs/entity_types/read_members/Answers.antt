@@ -184,7 +184,7 @@ returns c =
           (both_met d4 (d5 ++ []) c.in_ok-shape.ensures.0 (both_met d5 [] c.in_ok-tags.ensures.0 tt))))))),
       record {
         is_kind = kind_says ms c.in_ok-choices.choices c.in_ok-member_of_types.member_of_types c.in_ok-shape.shape
-            c.in_ok-tags.tags c.kind_of-kind.result c.kind_of-kind.ensures c.in_ok-choices.ensures.1
+            c.in_ok-tags.tags c.in_ok-kind.kind c.in_ok-kind.ensures c.in_ok-choices.ensures.1
             c.in_ok-member_of_types.ensures.1 c.in_ok-shape.ensures.1 c.in_ok-tags.ensures.1;
         marked = c.in_ok-external.ensures.1;
         annotated = c.in_ok-annotations.ensures.1;
