@@ -13,8 +13,8 @@ builtin_type-requires c =
     (undeclared_builtin c.args.names.now.fragment c.args.names.now.table (components_of c.args.name.now) c.requires
     c.in-None.ensures)
 
-pub returns : goal.returns
-returns c =
+pub returns-in_ok-builtin_type-in-None : goal.returns-in_ok-builtin_type-in-None
+returns-in_ok-builtin_type-in-None c =
     let h = c.in_ok-builtin_type-in-None.ensures in (
       c.in-None.ensures,
       (

@@ -8,8 +8,8 @@ use Rattle.schema_resolve.specs.Tried.{candidate}
 use Rattle.schema_build_scope.proofs.Targets.{means_found, rank_common}
 use Rattle.schema_build_scope.proofs.names_in.NamesInMeaningsRawName.rank.Goals as goal
 
-pub returns-in-Some-then-meant : goal.returns-in-Some-then-meant
-returns-in-Some-then-meant c =
+pub returns-then-meant : goal.returns-then-meant
+returns-then-meant c =
     let f = c.args.self.now.names.now.fragment in
     let table = c.args.self.now.names.now.table in
     let ns = name_of c.args.self.now.ns.now in
