@@ -1,11 +1,17 @@
-ghost use Rattle.std.specs.Prelude.{◌≡◌, List, ℕ, [], IfOk, MatchOption, option_map, string_bytes};
+ghost use Rattle.std.specs.Prelude.{◌≡◌, List, ℕ, [], IfOk, MatchOption, map, option_map, string_bytes};
+ghost use Rattle.std.specs.List.{list_any};
+ghost use Rattle.std.specs.Str.{bytes_eq};
 ghost use Rattle.json.specs.Value.{value_view, items_view, members_view};
 ghost use Rattle.schema_json_keys.specs.Keys.{RepeatedKey, keys_of, items_keys, members_keys};
 ghost use Rattle.schema_json_keys.specs.Computed.{first_again};
 
+use cedar_data::same_bytes;
 use json::{Error, Scratch, Value};
 use std::alloc::{AllocError, Global};
 use std::collections::BTreeSet;
+
+// In how many members a key is looked for one by one, which takes less than a set.
+const FEW: usize = 8;
 
 /// The first key of the text, by its escapes read, that its object has had before. A text that is no JSON has none.
 pub fn first_repeated_key(alloc: Global, text: &str) -> Result<Option<String>, AllocError>
@@ -31,7 +37,13 @@ fn first_in_value<'a>(alloc: Global, value: &Value<'a>) -> Result<Option<&'a str
 {
     match value {
         Value::Array(items) => first_in_items(alloc, items),
-        Value::Object(members) => first_in_members(alloc, members),
+        Value::Object(members) => {
+            if members.len() <= FEW {
+                first_in_few(alloc, members)
+            } else {
+                first_in_members(alloc, members)
+            }
+        }
         _ => Ok(None),
     }
 }
@@ -67,4 +79,38 @@ fn first_in_members<'a>(
         }
     }
     Ok(None)
+}
+
+#[cycle(first)]
+fn first_in_few<'a>(
+    alloc: Global,
+    members: &Vec<(&'a str, Value<'a>)>,
+) -> Result<Option<&'a str>, AllocError>
+    ensures { IfOk result (λ name. option_map (λ s. s.now) name
+        ≡ first_again (members_keys [] (members_view members.now.items))) }
+{
+    for at in 0..members.len() {
+        let member = &members[at];
+        let key = member.0;
+        let (earlier, _) = members.as_slice().split_at(at);
+        if is_among(earlier, key) {
+            return Ok(Some(key));
+        }
+        if let Some(name) = first_in_value(alloc, &member.1)? {
+            return Ok(Some(name));
+        }
+    }
+    Ok(None)
+}
+
+// Whether one of the members has the key.
+fn is_among(members: &[(&str, Value<'_>)], key: &str) -> bool
+    ensures { result ≡ list_any (bytes_eq key.now) (map (λ m. m.0.now) members.now) }
+{
+    for member in members {
+        if same_bytes(key, member.0) {
+            return true;
+        }
+    }
+    false
 }

@@ -105,3 +105,40 @@ first_in_members-loop-member-preserved t c =
           ∙ sym (ap (list_any (bytes_eq q)) (one_more_name xs l.member-index m (omega arith) c.member-item.is)
           ∙ list_any-append (bytes_eq q) (names (take l.member-index xs)) (m.0.now ∷ []));
     }
+
+pub first_in_few-first_in_value-requires : goal.first_in_few-first_in_value-requires
+first_in_few-first_in_value-requires t c =
+    let xs = c.args.members.now.items in
+    let x = c.index-member.result.now in
+    let smaller : length (json_tokens (value_view x.1)) < length (members_tokens (members_view xs)) =
+    subst (λ y. length (json_tokens (value_view y.1)) < length (members_tokens (members_view xs)))
+    (sym c.index-member.ensures)
+    (member_smaller xs c.loop-at.at x (omega (arith, c.loop-at-test.true, c.len-at-end.ensures))) in
+    search rules
+
+pub first_in_few-returns-in-Some : goal.first_in_few-returns-in-Some
+first_in_few-returns-in-Some t c =
+    let at = c.loop-at.at in
+    let xs = c.args.members.now.items in
+    let m = c.index-member.result.now in
+    let among : list_any (bytes_eq m.0.now) (names (take at xs)) ≡ false = search rules in
+    let here : Some c.in-Some.name.now
+    ≡ first_again (keys_of (value_view m.1)) = sym (ap (option_map (λ (s : Name). s.now)) c.in-Some.is)
+    ∙ c.in_ok-name.ensures in
+    ap (λ o. or_next o (first_again (members_keys (names (take (at + 1) xs)) (members_view (drop (at + 1) xs))))) here
+    ∙ sym (comes_again-false (record { name = m.0.now; earlier = names (take at xs) }) _ among)
+    ∙ sym (member_step xs at m (omega (arith, c.loop-at-test.true, c.len-at-end.ensures)) c.index-member.ensures)
+    ∙ c.loop-at.invariant
+
+pub first_in_few-loop-at-preserved : goal.first_in_few-loop-at-preserved
+first_in_few-loop-at-preserved t c =
+    let at = c.loop-at.at in
+    let xs = c.args.members.now.items in
+    let m = c.index-member.result.now in
+    let among : list_any (bytes_eq m.0.now) (names (take at xs)) ≡ false = search rules in
+    let here : None ≡ first_again (keys_of (value_view m.1)) = sym
+    (ap (option_map (λ (s : Name). s.now)) c.in_default.is) ∙ c.in_ok-name.ensures in
+    ap (λ o. or_next o (first_again (members_keys (names (take (at + 1) xs)) (members_view (drop (at + 1) xs))))) here
+    ∙ sym (comes_again-false (record { name = m.0.now; earlier = names (take at xs) }) _ among)
+    ∙ sym (member_step xs at m (omega (arith, c.loop-at-test.true, c.len-at-end.ensures)) c.index-member.ensures)
+    ∙ c.loop-at.invariant

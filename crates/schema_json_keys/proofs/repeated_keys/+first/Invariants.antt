@@ -33,3 +33,11 @@ invariant-first_in_members-loop-member l = record {
       → contains_by (λ k. slice_cmp nat_cmp q k.now) l.seen
       ≡ list_any (bytes_eq q) (map (λ m. m.0.now) (take l.member-index l.member-items));
 }
+
+abbrev pub decreases-first_in_few : goal.decreases-first_in_few
+decreases-first_in_few l = length (members_tokens (members_view l.members.now.items))
+
+abbrev pub invariant-first_in_few-loop-at : goal.invariant-first_in_few-loop-at
+invariant-first_in_few-loop-at l =
+    first_again (members_keys (map (λ m. m.0.now) (take l.at l.members.items)) (members_view (drop l.at l.members.items)))
+    ≡ first_again (members_keys [] (members_view l.members.items))
