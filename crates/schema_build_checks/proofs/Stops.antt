@@ -13,6 +13,12 @@ pub nothing_first : {U : Type 0} (about : U → SchemaError → Type 0) (us : Li
     → IsAboutFirst about us e → ⊥
 nothing_first about us none e h = subst (λ l. IsAboutFirst about l e) none h
 
+-- what holds of each step wherever another relation does
+pub steps_weaker : {S P : Type 0} (R Q : S → P → S → Type 0) → ((s : S) (p : P) (t : S) → R s p t → Q s p t)
+    → (s t : S) (ps : List P) → FoldsTo R s ps t → FoldsTo Q s ps t
+steps_weaker R Q weaker s t [] h = h
+steps_weaker R Q weaker s t (p ∷ ps) (j, here, more) = (j, weaker s p j here, steps_weaker R Q weaker j t ps more)
+
 module _ {S P U : Type 0} (gives : S → P → List U) where
   pub none_given : (s t : S) (ps : List P) → FoldsTo (GivenNothing gives) s ps t → flat_map (gives s) ps ≡ []
   none_given s t [] h = refl

@@ -13,4 +13,4 @@ pub mod walk_faults;
 pub use called_action::check_action_types;
 pub use hiding_actions::check_action_shadowing;
 pub use hiding_types::check_type_shadowing;
-pub use walk_faults::{check_extension_types, check_features};
+pub use walk_faults::{check_extension_types, check_features, has_fitting_parts};

@@ -81,3 +81,36 @@ impl Visitor<RawName> for Features {
         }
     }
 }
+
+// Refuses each part that one of the two above refuses, and does not tell which.
+#[derive(Drop)]
+pub(crate) struct Fitting<'a> {
+    pub(crate) table: &'a ExtensionTable,
+}
+
+impl<'a> Visitor<RawName> for Fitting<'a> {
+    type Refusal = ();
+
+    ghost takes = { λ ns before part after. GivenNothing (λ v p. unknown_extension v.table.now p) before part after × (unsupported part ≡ []) };
+
+    ghost refuses = { λ ns before part refusal. Unit {0} };
+
+    fn visit(&mut self, _ns: &Option<Name>, part: LentPart<'_, RawName>) -> Result<(), ()>
+        ensures taken { OnOk result (GivenNothing (λ v p. unknown_extension v.table.now p) self.old (part_of part.entry) self.new × (unsupported (part_of part.entry) ≡ [])) }
+        ensures refused { IfErr result (λ refusal. Unit {0}) }
+    {
+        match part {
+            LentPart::ExtensionType { name } => {
+                if self.table.has(name.id.as_str()) {
+                    Ok(())
+                } else {
+                    Err(())
+                }
+            }
+            LentPart::OpenRecord => Err(()),
+            LentPart::ActionAttributes { .. } => Err(()),
+            LentPart::ExternalNotBare => Err(()),
+            _ => Ok(()),
+        }
+    }
+}

@@ -1,9 +1,9 @@
-ghost use Rattle.std.specs.Prelude.{OnOk, IfErr};
+ghost use Rattle.std.specs.Prelude.{◌≡◌, true, OnOk, IfErr};
 ghost use Rattle.schema_build_checks.specs.Rows.{Never, OrMemory};
 ghost use Rattle.schema_build_checks.specs.WalkFaults.{HasUnknownExtension, HasUnsupported, NamesExtension};
 
 use crate::refused::Refused;
-use crate::visitors::{Extensions, Features};
+use crate::visitors::{Extensions, Features, Fitting};
 use cedar_identifiers::{Name, RawName, UnreservedId};
 use cedar_names::ExtensionTable;
 use schema_build_errors::{
@@ -14,6 +14,20 @@ use schema_json_walk::laws::fragment_gives_what_its_parts_give;
 use schema_json_walk::walk_fragment;
 use schema_resolve_definitions::declared::alone;
 use std::alloc::Global;
+
+/// Whether the fragment has neither an extension type that is not in the table nor what no schema has. One walk tells it
+/// of most fragments, which then need not be walked for each of the two.
+pub fn has_fitting_parts(fragment: &Fragment<RawName>, table: &ExtensionTable) -> bool
+    ensures extensions { result ≡ true → Never (HasUnknownExtension table.now fragment.now) }
+    ensures features { result ≡ true → Never (HasUnsupported fragment.now) }
+{
+    fragment_gives_what_its_parts_give::<RawName, UnreservedId>(fragment);
+    fragment_gives_what_its_parts_give::<RawName, UnsupportedFeature>(fragment);
+    match walk_fragment(&mut Fitting { table }, fragment) {
+        Ok(()) => true,
+        Err(()) => false,
+    }
+}
 
 /// Refuses a fragment with an extension type that is not in the table, and names the first in the order of the walk.
 pub fn check_extension_types(

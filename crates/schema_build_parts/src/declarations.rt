@@ -6,7 +6,7 @@ use cedar_identifiers::RawName;
 use cedar_names::ExtensionTable;
 use schema_build_checks::{
     check_action_shadowing, check_action_types, check_extension_types, check_features,
-    check_type_shadowing,
+    check_type_shadowing, has_fitting_parts,
 };
 use schema_build_errors::SchemaError;
 use schema_json::Fragment;
@@ -28,6 +28,9 @@ pub fn check_declarations(
     let declared = DeclaredDefs::new(fragment);
     check_type_shadowing(alloc, fragment, &declared)?;
     check_action_shadowing(alloc, fragment, &declared)?;
+    if has_fitting_parts(fragment, table) {
+        return Ok(());
+    }
     check_extension_types(alloc, fragment, table)?;
     check_features(alloc, fragment)
 }
