@@ -101,11 +101,8 @@ impl<'a> Visitor<RawName> for Fitting<'a> {
     {
         match part {
             LentPart::ExtensionType { name } => {
-                if self.table.has(name.id.as_str()) {
-                    Ok(())
-                } else {
-                    Err(())
-                }
+                let known = self.table.has(name.id.as_str());
+                if known { Ok(()) } else { Err(()) }
             }
             LentPart::OpenRecord => Err(()),
             LentPart::ActionAttributes { .. } => Err(()),
