@@ -82,7 +82,7 @@ pub enum DeclSyntax {
         names: NonEmpty<ShortToken>,
         parents: List<PathSyntax>,
         shape: Option<(List<AttrSyntax>, Loc)>,
-        tags: Option<TypeSyntax>,
+        tags: Option<Boxed<TypeSyntax>>,
     },
     /// An entity type of listed ids: its names, the strings, and the place of the brackets around them.
     Enum {

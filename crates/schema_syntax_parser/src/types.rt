@@ -217,12 +217,13 @@ pub fn shape(
 pub fn tags(
     alloc: Global,
     tokens: &[ShortToken],
-) -> Result<(Option<TypeSyntax>, &[ShortToken]), Stop>
+) -> Result<(Option<Boxed<TypeSyntax>>, &[ShortToken]), Stop>
     ensures { Gives (λ r. (r.0, r.1.now)) result (tags_at tokens.now) }
 {
     match tokens {
         [first, after @ ..] if first.kind() == TokenKind::KwTags => {
             let (ty, rest) = whole_type(alloc, after)?;
+            let ty = Boxed::new(alloc, ty)?;
             Ok((Some(ty), rest))
         }
         _ => Ok((None, tokens)),

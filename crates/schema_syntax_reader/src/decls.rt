@@ -27,7 +27,7 @@ fn entity<'a>(
     names: NonEmpty<ShortToken>,
     parents: List<PathSyntax>,
     shape_raw: Option<(List<AttrSyntax>, Loc)>,
-    tags_raw: Option<TypeSyntax>,
+    tags_raw: Option<Boxed<TypeSyntax>>,
 ) -> Result<Declaration<'a>, Stopped>
     requires { IsScanned IsDecl text.now (syntax.Entity names parents shape_raw tags_raw) }
     ensures { let raw = syntax.Entity names parents shape_raw tags_raw in Reads text.now (decl_sites raw) (IsDeclOf text.now raw) result }

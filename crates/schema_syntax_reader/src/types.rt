@@ -135,7 +135,7 @@ pub fn shape<'a>(
 pub fn tags<'a>(
     alloc: Global,
     text: &'a str,
-    raw: Option<TypeSyntax>,
+    raw: Option<Boxed<TypeSyntax>>,
 ) -> Result<Option<Boxed<Node<Type<'a>>>>, Stopped>
     requires { IsScanned AreTags text.now raw }
     ensures { Reads text.now (tags_sites raw) (AreTagsOf text.now raw) result }
@@ -143,7 +143,7 @@ pub fn tags<'a>(
     match raw {
         None => Ok(None),
         Some(raw) => {
-            let ty = ty(alloc, text, raw)?;
+            let ty = ty(alloc, text, raw.into_inner())?;
             Ok(Some(Boxed::new(alloc, ty)?))
         }
     }
