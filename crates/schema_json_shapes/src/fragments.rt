@@ -39,7 +39,7 @@ fn namespace_entries(
         Reads result (member_demands (key_demands fragment) (λ k. namespace) ms)
         (λ entries. AreEntries IsNamespaceKey IsNamespace ms entries.items) }
 {
-    let mut entries = Vec::new(alloc);
+    let mut entries = Vec::with_capacity(alloc, members.len())?;
     for (key, value) in members {
         let entry = namespace_entry(alloc, key.as_str(), value)?;
         entries.push(entry)?;

@@ -94,7 +94,7 @@ fn action_entries(
         Reads result (member_demands (key_demands actions_role) (λ k. action) ms)
         (λ entries. AreEntries IsText IsAction ms entries.items) }
 {
-    let mut entries = Vec::new(alloc);
+    let mut entries = Vec::with_capacity(alloc, members.len())?;
     for (key, value) in members {
         let entry = action_entry(alloc, key.as_str(), value)?;
         entries.push(entry)?;
@@ -152,7 +152,7 @@ fn common_entries(
         Reads result (member_demands (key_demands common_types) (λ k. typed TypeSite.Common) ms)
         (λ entries. AreEntries IsCommonId IsCommonType ms entries.items) }
 {
-    let mut entries = Vec::new(alloc);
+    let mut entries = Vec::with_capacity(alloc, members.len())?;
     for (key, value) in members {
         let entry = common_entry(alloc, key.as_str(), value)?;
         entries.push(entry)?;
@@ -223,7 +223,7 @@ fn entity_entries(
         Reads result (member_demands (key_demands entity_types) (λ k. entity_type) ms)
         (λ entries. AreEntries IsId IsEntityType ms entries.items) }
 {
-    let mut entries = Vec::new(alloc);
+    let mut entries = Vec::with_capacity(alloc, members.len())?;
     for (key, value) in members {
         let entry = entity_entry(alloc, key.as_str(), value)?;
         entries.push(entry)?;

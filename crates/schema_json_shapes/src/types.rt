@@ -189,7 +189,7 @@ fn read_attribute_entries(
         Reads result (member_demands (key_demands attributes_role) (λ k. typed TypeSite.Attribute) ms)
         (λ entries. AreAttributes ms entries.items) }
 {
-    let mut entries = Vec::new(alloc);
+    let mut entries = Vec::with_capacity(alloc, members.len())?;
     for (key, value) in members {
         let typed = read_typed(alloc, value, key.as_str(), TypeSite::Attribute)?;
         let name = Text::from_str(alloc, key.as_str())?;

@@ -41,7 +41,7 @@ pub(crate) fn rename_fragment<N: NameText, M: NameText + Drop, R: FragmentRename
     ensures defined { OnOk result (of_fragment (λ ns. by_reference (R.untargeted_in renamer.now ns)) fragment.now ≡ []) }
     ensures err { IfErr result (NamesFirst (of_fragment (λ ns. by_reference (R.untargeted_in renamer.now ns)) fragment.now)) }
 {
-    let mut out = Vec::new(alloc);
+    let mut out = Vec::with_capacity(alloc, fragment.0.as_slice().len())?;
     for (ns, definition) in fragment.0.as_slice() {
         let definition = renamer.rename_in(alloc, ns, definition)?;
         out.push((ns.clone_in(alloc)?, definition))?;

@@ -27,7 +27,7 @@ fn rename_names<N: NameText, M: NameText + Drop, R: Renamer<N, M>>(
     ensures defined { OnOk result (flat_map ((R.untargeted renamer.now).types ReferenceType.Entity) names.now ≡ []) }
     ensures err { IfErr result (NamesFirst (flat_map ((R.untargeted renamer.now).types ReferenceType.Entity) names.now)) }
 {
-    let mut out = Vec::new(alloc);
+    let mut out = Vec::with_capacity(alloc, names.len())?;
     for name in names {
         let name = renamer.rename(alloc, ReferenceType::Entity, name)?;
         out.push(name)?;
@@ -189,7 +189,7 @@ fn rename_uids<N: NameText, M: NameText + Drop, R: Renamer<N, M>>(
     ensures defined { OnOk result (flat_map (of_uid (by_reference (R.untargeted renamer.now))) uids.now ≡ []) }
     ensures err { IfErr result (NamesFirst (flat_map (of_uid (by_reference (R.untargeted renamer.now))) uids.now)) }
 {
-    let mut out = Vec::new(alloc);
+    let mut out = Vec::with_capacity(alloc, uids.len())?;
     for uid in uids {
         let uid = rename_uid(alloc, renamer, uid)?;
         out.push(uid)?;

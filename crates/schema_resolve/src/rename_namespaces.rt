@@ -25,7 +25,7 @@ fn rename_entries<
     ensures defined { OnOk result (each_value (T.undefined (R.untargeted renamer.now)) entries.now ≡ []) }
     ensures err { IfErr result (NamesFirst (each_value (T.undefined (R.untargeted renamer.now)) entries.now)) }
 {
-    let mut out = Vec::new(alloc);
+    let mut out = Vec::with_capacity(alloc, entries.as_slice().len())?;
     for (id, item) in entries.as_slice() {
         let id = id.clone_in(alloc)?;
         let item = item.renamed(alloc, renamer)?;

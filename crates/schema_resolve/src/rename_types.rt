@@ -161,7 +161,7 @@ fn rename_entries<N: NameText, M: NameText + Drop, R: Renamer<N, M>>(
     ensures defined { OnOk result (of_entries (by_reference (R.untargeted renamer.now)) entries.now ≡ []) }
     ensures err { IfErr result (NamesFirst (of_entries (by_reference (R.untargeted renamer.now)) entries.now)) }
 {
-    let mut out = Vec::new(alloc);
+    let mut out = Vec::with_capacity(alloc, entries.len())?;
     for (name, attribute) in entries {
         let name = name.clone_in(alloc)?;
         let attribute = rename_attribute(alloc, renamer, attribute)?;

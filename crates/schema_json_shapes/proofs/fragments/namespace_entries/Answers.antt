@@ -15,7 +15,7 @@ loop-key-init c =
     let same = c.into_iter-key-iterator.ensures in
     record {
       left = all_left (key_demands fragment) (λ k. namespace) start all (search rules);
-      found = none_found IsNamespaceKey IsNamespace start all c.new-entries.result.items (search rules) (search rules);
+      found = none_found IsNamespaceKey IsNamespace start all _ (search rules) (search rules);
     }
 
 pub loop-key-preserved : goal.loop-key-preserved
@@ -48,7 +48,7 @@ returns-in_err-entry c =
     let e = c.in_err-entry.field-0.0 in
     let fault = subst (λ n. IsFault (key_demands fragment n ++ demands namespace n d) e) c.as_str.ensures.value
     c.in_err-entry.ensures in
-    refused c.from_residual.result e _ _ c.from_residual.ensures.1
+    refused c.from_residual-in_err-entry.result e _ _ c.from_residual-in_err-entry.ensures.1
     (first_fails (key_demands fragment) (λ k. namespace) key d (members_view left) all e
     (subst (λ es. Left (key_demands fragment) (λ k. namespace) (members_view es) all) c.in-Some.ensures.steps
     l.invariant.left) fault)

@@ -16,7 +16,7 @@ loop-key-init c =
     let same = c.into_iter-key-iterator.ensures in
     record {
       left = all_left (key_demands entity_types) (λ k. entity_type) start all (search rules);
-      found = none_found IsId IsEntityType start all c.new-entries.result.items (search rules) (search rules);
+      found = none_found IsId IsEntityType start all _ (search rules) (search rules);
     }
 
 pub loop-key-preserved : goal.loop-key-preserved
@@ -49,7 +49,7 @@ returns-in_err-entry c =
     let e = c.in_err-entry.field-0.0 in
     let fault = subst (λ n. IsFault (key_demands entity_types n ++ demands entity_type n d) e) c.as_str.ensures.value
     c.in_err-entry.ensures in
-    refused c.from_residual.result e _ _ c.from_residual.ensures.1
+    refused c.from_residual-in_err-entry.result e _ _ c.from_residual-in_err-entry.ensures.1
     (first_fails (key_demands entity_types) (λ k. entity_type) key d (members_view left) all e
     (subst (λ es. Left (key_demands entity_types) (λ k. entity_type) (members_view es) all) c.in-Some.ensures.steps
     l.invariant.left) fault)

@@ -232,7 +232,7 @@ read_attribute_entries-loop-key-init t c =
     record {
       done = ([], search rules);
       left = all_left (key_demands attributes) (λ k. typed site.Attribute) start all (search rules);
-      found = no_attribute_found start all c.new-entries.result.items (search rules) (search rules);
+      found = no_attribute_found start all _ (search rules) (search rules);
     }
 
 pub read_attribute_entries-read_typed-requires : goal.read_attribute_entries-read_typed-requires
@@ -257,7 +257,7 @@ read_attribute_entries-returns-in_err-typed t c =
     let e = c.in_err-typed.field-0.0 in
     let fault = subst (λ n. IsFault (demands (typed site.Attribute) n d) e) c.as_str.ensures.value
     c.in_err-typed.ensures in
-    refused c.from_residual.result e _ _ c.from_residual.ensures.1
+    refused c.from_residual-in_err-typed.result e _ _ c.from_residual-in_err-typed.ensures.1
     (first_fails (key_demands attributes) (λ k. typed site.Attribute) key d (members_view left) all e
     (subst (λ es. Left (key_demands attributes) (λ k. typed site.Attribute) (members_view es) all)
     c.in-Some.ensures.steps l.invariant.left) fault)

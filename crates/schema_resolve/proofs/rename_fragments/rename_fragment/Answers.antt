@@ -27,7 +27,8 @@ returns-in_err-definition-clause-err g c =
     let u = of_entry (λ ns. by_reference (g.R.FragmentRenamer.untargeted_in c.args.renamer.now ns)) in
     let es = c.as_slice-ns-items.result.now in
     let e = c.in_err-definition.field-0.0 in
-    refused c.from_residual.result e (flat_map u c.args.fragment.now.0) c.from_residual.ensures.1
+    refused c.from_residual-in_err-definition.result e (flat_map u c.args.fragment.now.0)
+    c.from_residual-in_err-definition.ensures.1
     (rw (← c.as_slice-ns-items.ensures.entries)
     (each_first u es c.loop-ns.ns-index c.loop-ns-item.result e c.loop-ns-test.true c.loop-ns-item.is
     c.loop-ns.invariant.defined c.in_err-definition.ensures.err))

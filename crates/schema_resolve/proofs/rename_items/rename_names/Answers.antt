@@ -8,7 +8,7 @@ pub returns-in_err-name-clause-err : goal.returns-in_err-name-clause-err
 returns-in_err-name-clause-err g c =
     let u = (g.R.Renamer.untargeted c.args.renamer.now).types Entity in
     let xs = c.args.names.now in
-    refused _ c.in_err-name.field-0.0 (flat_map u xs) c.from_residual.ensures.1
+    refused _ c.in_err-name.field-0.0 (flat_map u xs) c.from_residual-in_err-name.ensures.1
     (each_first u xs c.loop-name.name-index c.name-item.result c.in_err-name.field-0.0 c.loop-name-test.true
     c.name-item.is c.loop-name.invariant.defined c.in_err-name.ensures.err)
 

@@ -10,7 +10,7 @@ pub returns-in_err-uid-clause-err : goal.returns-in_err-uid-clause-err
 returns-in_err-uid-clause-err g c =
     let u = of_uid (by_reference (g.R.Renamer.untargeted c.args.renamer.now)) in
     let xs = c.args.uids.now in
-    refused _ c.in_err-uid.field-0.0 (flat_map u xs) c.from_residual.ensures.1
+    refused _ c.in_err-uid.field-0.0 (flat_map u xs) c.from_residual-in_err-uid.ensures.1
     (each_first u xs c.loop-uid.uid-index c.uid-item.result c.in_err-uid.field-0.0 c.loop-uid-test.true c.uid-item.is
     c.loop-uid.invariant.defined c.in_err-uid.ensures.err)
 
