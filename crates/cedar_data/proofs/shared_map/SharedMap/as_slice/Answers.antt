@@ -1,4 +1,4 @@
-use Rattle.std.proofs.Common.{rules, [], sym, ap, ◌∙◌, subst}
+use Rattle.std.proofs.Common.{rules, sym, ap, ◌∙◌, subst}
 use Rattle.std.specs.List.Sorted.{IsStrictlySortedBy}
 use Rattle.std.specs.Map.{keys_of}
 use Rattle.cedar_data.specs.Maps.{entries_or_none}
