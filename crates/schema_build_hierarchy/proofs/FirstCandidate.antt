@@ -36,14 +36,6 @@ module _ (passes : InternalName → Bool) where
         ap (λ n. if passes n then Some n else None) e
         ∙ sym (shown ∙ ap (λ b. if b then Some own else (if passes name then Some name else None)) h)
 
-    pub plain_found : passes own ≡ false → (plain : InternalName) → plain ≡ name → passes name ≡ true
-        → Some plain ≡ find passes (candidates ns name)
-    plain_found h plain e hit = sym (ap (λ b. if b then Some plain else None) (ap passes e ∙ hit))
-        ∙ plain_tried h plain e
-
-    pub none_found : passes own ≡ false → passes name ≡ false → None ≡ find passes (candidates ns name)
-    none_found h miss = sym (ap (λ b. if b then Some name else None) miss) ∙ plain_tried h name refl
-
     -- what was found is the own one, or nothing was found and it does not pass
     pub own_told : (r : InternalName) → Some r ≡ (if passes own then Some own else None)
         → Some r ≡ find passes (candidates ns name)

@@ -5,6 +5,7 @@ pub mod Once
 pub mod Above
 pub mod Ordered
 mod FirstCandidate
+mod EntityTargets
 mod Unreserved
 mod Gathering
 pub mod Exact

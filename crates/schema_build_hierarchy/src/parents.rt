@@ -1,5 +1,5 @@
 ghost use Rattle.std.specs.Prelude.{◌≡◌, map, IfOk, Some, None, if◌then◌else◌};
-ghost use Rattle.std.specs.Option.{option_map, option_to_list};
+ghost use Rattle.std.specs.Option.{option_copied, option_map, option_to_list, is_some};
 ghost use Rattle.cedar_identifiers.specs.Names.{components_of};
 ghost use Rattle.cedar_identifiers.specs.declared.reference_type.ReferenceType.TheVariants.{Entity};
 ghost use Rattle.cedar_names.specs.Definitions.{action_of};
@@ -8,6 +8,7 @@ ghost use Rattle.schema_resolve_definitions.specs.Declarations.{name_of};
 ghost use Rattle.schema_resolve_definitions.specs.Tests.{tests_of};
 ghost use Rattle.schema_resolve.specs.Qualified.{in_namespace, type_in_namespace};
 ghost use Rattle.schema_resolve.specs.Targets.{target, is_action, action_target};
+ghost use Rattle.schema_resolve.specs.Tried.{own_kind};
 ghost use Rattle.schema_build_hierarchy.specs.Entries.{entity_of, action_of_entry};
 ghost use Rattle.schema_build_hierarchy.specs.Parents.{entity_parents, action_parents, parents_in, action_parents_in, target_in};
 ghost use Rattle.schema_build_hierarchy.specs.Unreserved.{unreserved_names};
@@ -31,14 +32,27 @@ pub(crate) fn entity_target(
 ) -> Result<Option<InternalName>, AllocError>
     ensures { IfOk result (λ found. found ≡ target (tests_of defs.now) (in_namespace (name_of ns.now) Entity name.now)) }
 {
-    let own = name.name.clone_in(alloc)?.qualify_with(alloc, name_of(ns))?;
-    if defs.is_defined_as_entity(&own) {
-        return Ok(Some(own));
+    let ns = name_of(ns);
+    if is_own_entity(defs, ns, &name.name) {
+        let own = name.name.clone_in(alloc)?;
+        return Ok(Some(own.qualify_with(alloc, ns)?));
     }
     if defs.is_defined_as_entity(&name.name) {
         return Ok(Some(name.name.clone_in(alloc)?));
     }
     Ok(None)
+}
+
+// Whether an unqualified name is an entity type behind its namespace. No name is built.
+fn is_own_entity(defs: &FragmentDefs<'_>, ns: Option<&InternalName>, name: &InternalName) -> bool
+    ensures { result ≡ is_some (own_kind (tests_of defs.now) (option_copied ns.entry) Entity name.now) }
+{
+    match ns {
+        Some(ns) => {
+            name.others.as_slice().is_empty() && defs.is_defined_as_entity_behind(ns, &name.first)
+        }
+        None => false,
+    }
 }
 
 // What the parents of the entity type mean, but for names with the component `__cedar`.
