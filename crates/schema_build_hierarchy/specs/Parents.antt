@@ -1,5 +1,5 @@
 -- The parents of declared entity types and actions, by the targets of their references.
-use Rattle.std.specs.Prelude.{ℕ, List, [], Option, Some}
+use Rattle.std.specs.Prelude.{ℕ, List, [], All, Option, Some, IsSome}
 use Rattle.std.specs.List.{flat_map}
 use Rattle.std.specs.Option.{option_map, option_map_or, option_to_list}
 use Rattle.cedar_identifiers.specs.Names.{components_of}
@@ -41,6 +41,14 @@ parents_in t ns names = flat_map (λ p. option_to_list (target_in t ns Entity p)
 -- the parents of a declared entity type, as written: what they mean
 abbrev pub entity_parents : Tests → DeclaredEntity → List (List (List ℕ))
 entity_parents t d = parents_in t d.ns (written_parents d.ty.kind)
+
+-- each of these names in a namespace means an entity type
+abbrev pub AreMeantIn : Tests → Option Name → List RawName → Type 0
+AreMeantIn t ns names = All (λ p. IsSome (target t (in_namespace (name_of ns) Entity p))) names
+
+-- each parent of a declared entity type, as written, means an entity type
+abbrev pub AreParentsMeant : Tests → DeclaredEntity → Type 0
+AreParentsMeant t d = AreMeantIn t d.ns (written_parents d.ty.kind)
 
 -- b is a parent of the entity type a
 abbrev pub IsParent : Tests → List DeclaredEntity → List (List ℕ) → List (List ℕ) → Type 0

@@ -1,11 +1,11 @@
-ghost use Rattle.std.specs.Prelude.{map, List, IfOk, OnOk, IfErr};
+ghost use Rattle.std.specs.Prelude.{map, All, List, IfOk, OnOk, IfErr};
 ghost use Rattle.schema_resolve_definitions.specs.Tests.{Tests, tests_of};
 ghost use Rattle.schema_build_checks.specs.DeclaredAt.{ActionAt, at_of};
 ghost use Rattle.schema_build_checks.specs.Rows.{Never, OrMemory};
 ghost use Rattle.schema_build_hierarchy.specs.Declarations.{Declared, DeclaredEntity, entity_name, action_key};
 ghost use Rattle.schema_build_hierarchy.specs.Ancestors.{AreParentRows, AreParentsDeclared, AreAncestorRows};
 ghost use Rattle.schema_build_hierarchy.specs.Entries.{AreEntities, AreActions, entity_of, action_of_entry};
-ghost use Rattle.schema_build_hierarchy.specs.Parents.{entity_parents, action_parents, IsAncestor, IsActionAncestor};
+ghost use Rattle.schema_build_hierarchy.specs.Parents.{entity_parents, action_parents, AreParentsMeant, IsAncestor, IsActionAncestor};
 ghost use Rattle.schema_build_hierarchy.specs.Rows.{HasActionCycle, IsCycleOf};
 ghost use Rattle.schema_json.specs.declared.action_type.ActionType.{ActionType as ActionTold};
 ghost use Rattle.cedar_identifiers.specs.declared.raw_name.RawName.{RawName as Raw};
@@ -21,7 +21,7 @@ use schema_build_graph::{closure, least_cyclic};
 use schema_resolve_lookup::FragmentDefs;
 use std::alloc::{AllocError, Global};
 
-/// For each declared entity type the ranks of its ancestors, rising. Each parent is declared.
+/// For each declared entity type the ranks of its ancestors, rising. Each parent means an entity type, and is declared.
 pub fn entity_ancestors<'f>(
     alloc: Global,
     entries: &[EntityEntry<'f>],
@@ -30,6 +30,7 @@ pub fn entity_ancestors<'f>(
     ghost ds: { List DeclaredEntity }
     requires entries { AreEntities ds entries.now }
     requires declared { AreParentsDeclared entity_name (entity_parents (tests_of defs.now)) ds }
+    requires meant { All (AreParentsMeant (tests_of defs.now)) ds }
     ensures { IfOk result (λ rows. AreAncestorRows (IsAncestor (tests_of defs.now) ds) (map (λ e. entity_name (entity_of e)) entries.now) rows.items) }
 {
     let rows = entity_parent_rows(alloc, entries, defs)?;
@@ -43,7 +44,8 @@ fn entity_parent_rows<'f>(
     defs: &FragmentDefs<'_>,
 ) -> Result<Vec<Vec<usize>>, AllocError>
     ghost ds: { List DeclaredEntity }
-    requires { AreEntities ds entries.now }
+    requires entries { AreEntities ds entries.now }
+    requires meant { All (AreParentsMeant (tests_of defs.now)) ds }
     ensures { IfOk result (λ rows. AreParentRows entity_name (entity_parents (tests_of defs.now)) (map entity_of entries.now) rows.items) }
 {
     let mut rows = Vec::with_capacity(alloc, entries.len())?;

@@ -1,4 +1,4 @@
-ghost use Rattle.std.specs.Prelude.{◌≡◌, map, IfOk, Some, None, if◌then◌else◌};
+ghost use Rattle.std.specs.Prelude.{◌≡◌, map, IfOk, IsSome, Some, None, if◌then◌else◌};
 ghost use Rattle.std.specs.Option.{option_copied, option_map, option_to_list, is_some};
 ghost use Rattle.cedar_identifiers.specs.Names.{components_of};
 ghost use Rattle.cedar_identifiers.specs.declared.reference_type.ReferenceType.TheVariants.{Entity};
@@ -10,7 +10,7 @@ ghost use Rattle.schema_resolve.specs.Qualified.{in_namespace, type_in_namespace
 ghost use Rattle.schema_resolve.specs.Targets.{target, is_action, action_target};
 ghost use Rattle.schema_resolve.specs.Tried.{own_kind};
 ghost use Rattle.schema_build_hierarchy.specs.Entries.{entity_of, action_of_entry};
-ghost use Rattle.schema_build_hierarchy.specs.Parents.{entity_parents, action_parents, parents_in, action_parents_in, target_in};
+ghost use Rattle.schema_build_hierarchy.specs.Parents.{entity_parents, action_parents, parents_in, action_parents_in, target_in, AreMeantIn, AreParentsMeant};
 ghost use Rattle.schema_build_hierarchy.specs.Unreserved.{unreserved_names};
 
 use crate::entries::{ActionEntry, EntityEntry};
@@ -55,12 +55,33 @@ fn is_own_entity(defs: &FragmentDefs<'_>, ns: Option<&InternalName>, name: &Inte
     }
 }
 
+// What the name means that means an entity type. Where it is none behind its namespace it means itself, which is not
+// looked up.
+fn known_target(
+    alloc: Global,
+    defs: &FragmentDefs<'_>,
+    ns: &Option<Name>,
+    name: &RawName,
+) -> Result<InternalName, AllocError>
+    requires { IsSome (target (tests_of defs.now) (in_namespace (name_of ns.now) Entity name.now)) }
+    ensures { IfOk result (λ found. Some found ≡ target (tests_of defs.now) (in_namespace (name_of ns.now) Entity name.now)) }
+{
+    let known = name.name.clone_in(alloc)?;
+    let ns = name_of(ns);
+    if is_own_entity(defs, ns, &name.name) {
+        known.qualify_with(alloc, ns)
+    } else {
+        Ok(known)
+    }
+}
+
 // What the parents of the entity type mean, but for names with the component `__cedar`.
 pub(crate) fn entity_parents<'f>(
     alloc: Global,
     defs: &FragmentDefs<'_>,
     entry: &EntityEntry<'f>,
 ) -> Result<Vec<Name>, AllocError>
+    requires { AreParentsMeant (tests_of defs.now) (entity_of entry.now) }
     ensures { IfOk result (λ names. map (λ n. components_of n.name) names.items ≡ unreserved_names (entity_parents (tests_of defs.now) (entity_of entry.now))) }
 {
     match &entry.ty.kind {
@@ -79,6 +100,7 @@ fn targets_of(
     ns: &Option<Name>,
     names: &[RawName],
 ) -> Result<Vec<Name>, AllocError>
+    requires { AreMeantIn (tests_of defs.now) ns.now names.now }
     ensures { IfOk result (λ found. map (λ n. components_of n.name) found.items ≡ unreserved_names (parents_in (tests_of defs.now) ns.now names.now)) }
 {
     let mut found = Vec::with_capacity(alloc, names.len())?;
@@ -90,19 +112,17 @@ fn targets_of(
     Ok(found)
 }
 
-// What the name means as an entity type, where that has no component `__cedar`.
+// What the name means that means an entity type, where that has no component `__cedar`.
 fn unreserved_target(
     alloc: Global,
     defs: &FragmentDefs<'_>,
     ns: &Option<Name>,
     name: &RawName,
 ) -> Result<Option<Name>, AllocError>
+    requires { IsSome (target (tests_of defs.now) (in_namespace (name_of ns.now) Entity name.now)) }
     ensures { IfOk result (λ found. option_to_list (option_map (λ n. components_of n.name) found) ≡ unreserved_names (option_to_list (target_in (tests_of defs.now) ns.now Entity name.now))) }
 {
-    match entity_target(alloc, defs, ns, name)? {
-        Some(target) => Ok(Name::from_internal(target)),
-        None => Ok(None),
-    }
+    Ok(Name::from_internal(known_target(alloc, defs, ns, name)?))
 }
 
 // What the parents of the action mean.

@@ -1,4 +1,5 @@
 mod Known
+mod KnownParents
 mod Moved
 mod NoRecords
 mod Rows

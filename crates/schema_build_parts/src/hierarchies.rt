@@ -1,4 +1,4 @@
-ghost use Rattle.std.specs.Prelude.{◌≡◌, List, map, IfOk, OnOk, IfErr};
+ghost use Rattle.std.specs.Prelude.{◌≡◌, List, map, All, IfOk, OnOk, IfErr};
 ghost use Rattle.cedar_identifiers.specs.declared.raw_name.RawName.{RawName as Raw};
 ghost use Rattle.schema_json.specs.declared.action_type.ActionType.{ActionType as ActionTold};
 ghost use Rattle.schema_resolve_definitions.specs.Tests.{Tests, tests_of};
@@ -7,7 +7,7 @@ ghost use Rattle.schema_build_checks.specs.Rows.{Never, OrMemory};
 ghost use Rattle.schema_build_hierarchy.specs.Ancestors.{AreParentsDeclared, AreAncestorRows};
 ghost use Rattle.schema_build_hierarchy.specs.Declarations.{Declared, DeclaredEntity, entity_name, action_key};
 ghost use Rattle.schema_build_hierarchy.specs.Entries.{AreEntities, AreActions, entity_of, action_of_entry};
-ghost use Rattle.schema_build_hierarchy.specs.Parents.{entity_parents, action_parents, IsAncestor, IsActionAncestor};
+ghost use Rattle.schema_build_hierarchy.specs.Parents.{entity_parents, action_parents, AreParentsMeant, IsAncestor, IsActionAncestor};
 ghost use Rattle.schema_build_parts.specs.BuildFaults.{HierarchyFault};
 
 use cedar_identifiers::{NameText, RawName};
@@ -33,6 +33,7 @@ pub(crate) fn build_hierarchies(
     requires actions { AreActions g.1.1 actions.now }
     requires parents { AreParentsDeclared entity_name (entity_parents (tests_of defs.now)) g.1.0 }
     requires uids { AreParentsDeclared action_key (action_parents (tests_of defs.now)) g.1.1 }
+    requires meant { All (AreParentsMeant (tests_of defs.now)) g.1.0 }
     ensures above { IfOk result (λ rows. AreAncestorRows (IsAncestor g.0 g.1.0) (map (λ e. entity_name (entity_of e)) entities.now) rows.0.items) }
     ensures above_actions { IfOk result (λ rows. AreAncestorRows (IsActionAncestor g.0 g.1.1) (map (λ e. action_key (action_of_entry e)) actions.now) rows.1.items) }
     ensures ok { OnOk result (Never (HierarchyFault g.0 g.1.0 g.1.1)) }

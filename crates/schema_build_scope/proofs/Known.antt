@@ -13,9 +13,13 @@ use Rattle.cedar_identifiers.specs.declared.name_text.NameText as named
 use Rattle.cedar_identifiers.specs.declared.raw_name.RawName.{RawName}
 use Rattle.cedar_identifiers.specs.declared.conditional_name.ConditionalName.{ConditionalName}
 use Rattle.cedar_identifiers.specs.declared.reference_type.ReferenceType.{ReferenceType}
+use Rattle.cedar_identifiers.specs.declared.reference_type.ReferenceType.TheVariants.{Entity}
 use Rattle.cedar_identifiers.specs.declared.unreserved_id.UnreservedId.{UnreservedId}
 use Rattle.cedar_names.specs.Tables.{table_has, table_names}
 use Rattle.cedar_names.specs.declared.extension_table.ExtensionTable.{ExtensionTable}
+use Rattle.schema_json.specs.declared.entity_type.EntityType.{EntityType}
+use Rattle.schema_json.specs.declared.entity_type.EntityTypeKind.TheVariants.{Standard}
+use Rattle.schema_json.specs.declared.entity_type.StandardEntityType.{StandardEntityType}
 use Rattle.schema_json.specs.declared.fragment.Fragment.{Fragment}
 use Rattle.schema_json.specs.declared.fragment.NamespaceDefinition.{NamespaceDefinition}
 use Rattle.schema_json.specs.declared.types.Type.{«Type»}
@@ -45,10 +49,10 @@ use Rattle.schema_build_scope.specs.FragmentScope.{fragment_scope, meant_in, by_
 use Rattle.schema_build_scope.specs.Parts.{IsTypeMeant, IsAllKnown, AreTypesMeant}
 use Rattle.schema_build_scope.specs.UndefinedRows.{NamesTypes, undefined_alone}
 use Rattle.schema_build_scope.proofs.Quiet.{IsOfParts, empty_parted, quiet_in, quiet_namespace, quiet_common}
-use Rattle.schema_build_scope.proofs.Quiet.{quiet_shape, quiet_tags, quiet_context}
+use Rattle.schema_build_scope.proofs.Quiet.{quiet_shape, quiet_tags, quiet_context, quiet_parent}
 use Rattle.schema_build_scope.proofs.TypeParts.{only_within, parts_within}
 
-all_of : {A : Type 0} (P : A → Type 0) (xs : List A) → ((x : A) → Contains xs x → P x) → All P xs
+pub all_of : {A : Type 0} (P : A → Type 0) (xs : List A) → ((x : A) → Contains xs x → P x) → All P xs
 all_of P xs h k d lt = h (get_or xs k d) (k, lt, sym (get_or_default xs k d (get_or xs k d) lt))
 
 all_flat : {A B : Type 0} (P : B → Type 0) (f : A → List B) (xs : List A)
@@ -224,3 +228,16 @@ module _ {G : named.Ghosts RawName} (f : Fragment RawName G) (table : ExtensionT
           (quiet_context (λ us. us ≡ []) empty_parted unsupported (λ name. refl) n (features_in ns n in_f) e a in_n is)
           (quiet_context NoTypes types_parted (find_types ns) (λ name. refl) n (types_in ns n in_f) e a in_n is);
     }
+
+    -- each parent of an entity type, as written, means an entity type
+    pub parents_meant : (ns : Option Name) (n : NamespaceDefinition RawName G) (e : UnreservedId × EntityType RawName)
+        (s : StandardEntityType RawName) → Contains f.0 (ns, n) → Contains n.entity_types e → e.1.kind ≡ Standard s
+        → All (λ p. IsSome (target (tests_of (defined f table)) (in_namespace (name_of ns) Entity p))) s.member_of_types
+    parents_meant ns n e s in_f in_n is =
+        all_of (λ p. IsSome (target (tests_of (defined f table)) (in_namespace (name_of ns) Entity p)))
+        s.member_of_types
+        (λ p there.
+        let c = in_namespace (name_of ns) Entity p in
+        targeted (target (tests_of (defined f table)) c) c
+        (quiet_parent NoTypes types_parted (find_types ns) (λ name. refl) n (types_in ns n in_f) e s p in_n is
+        there))

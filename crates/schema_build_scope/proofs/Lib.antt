@@ -8,7 +8,7 @@ mod BuiltinNames
 mod Found
 mod Quiet
 mod TypeParts
-mod Known
+pub mod Known
 mod Meanings
 mod Targets
 mod UndefinedNames

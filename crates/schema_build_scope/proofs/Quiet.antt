@@ -22,11 +22,11 @@ use Rattle.schema_json.specs.declared.types.Type.TheFolds.{map-Type}
 use Rattle.schema_json.specs.declared.types.TypeVariant.{TypeVariant}
 use Rattle.schema_json.specs.declared.types.RecordType.{RecordType}
 use Rattle.schema_json.specs.declared.types.TypeOfAttribute.{TypeOfAttribute}
-use Rattle.schema_json_walk.specs.Parts.{Part, type_reference, context_reference}
+use Rattle.schema_json_walk.specs.Parts.{Part, type_reference, context_reference, parent}
 use Rattle.schema_json_walk.specs.Walk.{at_type, at_variant, at_record, at_attribute, at_context, of_type, of_variant}
 use Rattle.schema_json_walk.specs.Walk.{of_record, of_attribute, of_context, of_common, of_kind, of_entity, of_apply}
 use Rattle.schema_json_walk.specs.Walk.{of_items, of_action, of_action_parts, of_relations, of_namespace, of_entry}
-use Rattle.schema_json_walk.specs.Walk.{of_fragment}
+use Rattle.schema_json_walk.specs.Walk.{of_fragment, of_parents}
 
 -- what is said of a list, and then of each of its parts
 pub record IsOfParts {U : Type 0} (Quiet : List U → Type 0) : Type 0 where
@@ -89,6 +89,13 @@ module _ {U : Type 0} (Quiet : List U → Type 0) (parted : IsOfParts Quiet) whe
       quiet_tags e s ty among is there =
           quiet_some (of_type visit) s.tags ty there
           (parted.right (of_type visit s.shape.0) _ (quiet_standard e s among is))
+
+      pub quiet_parent : (e : UnreservedId × EntityType N) (s : StandardEntityType N) (p : N)
+          → Contains n.entity_types e → e.1.kind ≡ Standard s → Contains s.member_of_types p → Quiet (visit (parent p))
+      quiet_parent e s p among is there =
+          quiet_in (λ name. visit (parent name)) s.member_of_types p there
+          (parted.left (of_parents visit s.member_of_types) _
+          (subst (λ k. Quiet (of_kind visit k)) is (quiet_kind e among)))
 
       quiet_action : (e : List ℕ × ActionType N G) → Contains n.actions e → Quiet (of_relations visit e.1)
       quiet_action e among =

@@ -41,4 +41,4 @@ returns g c =
     (λ i j a b p q e. one_place (on_total (λ (d : Declared _ _). d.name) names_total) es held.rising i j a b p q
     (names_tied a.name b.name e))
     (declared_moved entity_name (entity_parents t) g.ds es (λ d h. (held.same d).0 h) (λ d h. (held.same d).1 h)
-    c.requires.1) rows.items all))) c.closure.ensures
+    c.requires.1.0) rows.items all))) c.closure.ensures

@@ -1,5 +1,6 @@
 use Rattle.std.proofs.Common.{◌≡◌, ◌+◌, not, List, [], ◌∷◌, ◌++◌, map, take, arith, refl, sym, ap, ◌∙◌, subst, Contains}
 use Rattle.std.proofs.Common.{ℕ}
+use Rattle.std.proofs.lemmas.List.Elements.{All-contains}
 use Rattle.std.proofs.lemmas.List.{take_more, get_or-map, length-map}
 use Rattle.cedar_identifiers.specs.Names.{components_of, has_cedar}
 use Rattle.cedar_identifiers.specs.declared.name.Name.{Name}
@@ -8,17 +9,26 @@ use Rattle.schema_resolve_definitions.specs.Tests.{tests_of}
 use Rattle.schema_build_hierarchy.specs.Ancestors.{AreRowsFor}
 use Rattle.schema_build_hierarchy.specs.Declarations.{entity_name}
 use Rattle.schema_build_hierarchy.specs.Entries.{entity_of}
-use Rattle.schema_build_hierarchy.specs.Parents.{entity_parents}
+use Rattle.schema_build_hierarchy.specs.Parents.{entity_parents, AreParentsMeant}
 use Rattle.schema_build_hierarchy.specs.Ranks.{AreRanksOf}
 use Rattle.schema_build_hierarchy.proofs.Exact.{names_exact, names_tied}
-use Rattle.schema_build_hierarchy.proofs.Ordered.{sorted_seen, sorted_back}
+use Rattle.schema_build_hierarchy.proofs.Ordered.{sorted_seen, sorted_back, contains_map}
 use Rattle.schema_build_hierarchy.proofs.ParentRanks.{row_for, rows_more, filter_kept, filter_keeps}
 use Rattle.schema_build_hierarchy.proofs.ancestors.entity_parent_rows.Goals as goal
 
 pub ranks_of-requires : goal.ranks_of-requires
 ranks_of-requires g c =
     sorted_seen (λ e. e.name) _ c.args.entries.now
-    (sorted_back entity_of (λ a b. names_in_order a.name b.name) c.args.entries.now c.requires.rising)
+    (sorted_back entity_of (λ a b. names_in_order a.name b.name) c.args.entries.now c.requires.0.rising)
+
+pub entity_parents-requires : goal.entity_parents-requires
+entity_parents-requires g c =
+    let entries = c.args.entries.now in
+    let i = c.loop-entry.entry-index in
+    let e = c.entry-item.result in
+    let there : Contains entries e = (i, c.loop-entry-test.true, sym c.entry-item.is) in
+    All-contains (AreParentsMeant (tests_of c.args.defs.now)) g.ds (entity_of e) c.requires.1
+    ((c.requires.0.same (entity_of e)).1 (contains_map entity_of entries e there))
 
 pub loop-entry-preserved : goal.loop-entry-preserved
 loop-entry-preserved g c =

@@ -1,4 +1,4 @@
-use Rattle.std.proofs.Common.{◌≡◌, ◌∙◌, map, sym, ap, subst}
+use Rattle.std.proofs.Common.{◌≡◌, ◌∙◌, map, All, sym, ap, subst}
 use Rattle.std.specs.List.{AllZip}
 use Rattle.schema_resolve_definitions.specs.Tests.{tests_of}
 use Rattle.schema_build_checks.specs.Rows.{Never, OrMemory}
@@ -7,11 +7,13 @@ use Rattle.schema_build_scope.specs.Rows.{OrElse}
 use Rattle.schema_build_hierarchy.specs.Ancestors.{AreParentsDeclared, AreAncestorRows}
 use Rattle.schema_build_hierarchy.specs.Declarations.{declared_entities, declared_actions, entity_name, action_key}
 use Rattle.schema_build_hierarchy.specs.Entries.{AreEntities, AreActions, entity_of, action_of_entry}
-use Rattle.schema_build_hierarchy.specs.Parents.{entity_parents, action_parents, IsAncestor, IsActionAncestor}
+use Rattle.schema_build_hierarchy.specs.Parents.{entity_parents, action_parents, AreParentsMeant, IsAncestor}
+use Rattle.schema_build_hierarchy.specs.Parents.{IsActionAncestor}
 use Rattle.schema_build_hierarchy.specs.Rows.{HasUndeclaredEntityTypes}
 use Rattle.schema_build_items.specs.ActionKinds.{IsActionKindBuilt, tests_alone}
 use Rattle.schema_build_items.specs.Kinds.{IsKindBuilt}
 use Rattle.schema_build_parts.specs.BuildFaults.{TypeFault, HierarchyFault, MeaningFault}
+use Rattle.schema_build_parts.proofs.KnownParents.{all_parents_meant}
 use Rattle.schema_build_parts.proofs.Moved.{moved, moved_thrice}
 use Rattle.schema_build_parts.proofs.Rows.{never_else, or_first, or_behind, refused}
 use Rattle.schema_build_parts.proofs.meanings.build_meanings.Goals as goal
@@ -44,7 +46,10 @@ returns-in_err-kinds-clause-err g c =
 
 pub build_hierarchies-requires : goal.build_hierarchies-requires
 build_hierarchies-requires g c =
+    let f = c.args.names.now.fragment in
+    let table = c.args.names.now.table in
     let own = tests_of c.defs-defs.result.now in
+    let known = c.requires.1.1.1.1.1 in
     let entities : declared_entities c.args.fragment.now ≡ g.g.1.1.0 = ap declared_entities c.requires.0
     ∙ sym c.requires.1.1.1.0 in
     let actions : declared_actions c.args.fragment.now ≡ g.g.1.1.1 = ap declared_actions c.requires.0
@@ -57,7 +62,12 @@ build_hierarchies-requires g c =
           (
             subst (AreParentsDeclared entity_name (entity_parents own)) entities
                 c.in_ok-check_declared_types.ensures.declared,
-            subst (AreParentsDeclared action_key (action_parents own)) actions c.action_parents_are_declared.ensures,
+            (
+              subst (AreParentsDeclared action_key (action_parents own)) actions c.action_parents_are_declared.ensures,
+              subst (λ t. All (AreParentsMeant t) g.g.1.1.0) (sym c.defs-defs.ensures)
+                  (subst (All (AreParentsMeant (tests_alone f table))) (sym c.requires.1.1.1.0)
+                  (all_parents_meant f table known)),
+            ),
           ),
         ),
       ),
