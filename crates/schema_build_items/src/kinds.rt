@@ -80,9 +80,10 @@ fn entity_kind(
         EntityTypeKind::Standard(standard) => {
             standard_kind(alloc, names, done, entry.ns, standard.get())
         }
-        EntityTypeKind::Enum { choices } => Ok(Some(ValidatorEntityTypeKind::Enum(choices.clone_in(
-            alloc,
-        )?))),
+        EntityTypeKind::Enum { choices } => {
+            let choices = choices.get().clone_in(alloc)?;
+            Ok(Some(ValidatorEntityTypeKind::Enum(choices)))
+        }
     }
 }
 

@@ -101,9 +101,12 @@ fn recovered_kind(
             let standard = recovered_standard(alloc, ancestors, attributes, tags)?;
             Ok(EntityTypeKind::Standard(Boxed::new(alloc, standard)?))
         }
-        ValidatorEntityTypeKind::Enum(choices) => Ok(EntityTypeKind::Enum {
-            choices: choices.clone_in(alloc)?,
-        }),
+        ValidatorEntityTypeKind::Enum(choices) => {
+            let choices = choices.clone_in(alloc)?;
+            Ok(EntityTypeKind::Enum {
+                choices: Boxed::new(alloc, choices)?,
+            })
+        }
         ValidatorEntityTypeKind::External => {
             let standard = recovered_external(alloc, ancestors)?;
             Ok(EntityTypeKind::Standard(Boxed::new(alloc, standard)?))

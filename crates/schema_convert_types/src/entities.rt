@@ -119,6 +119,7 @@ fn listed(alloc: Global, decl: EnumEntityDecl<'_>) -> Result<EntityTypeKind<RawN
         choices,
     } = decl;
     let choices = choices_of(alloc, choices)?;
+    let choices = Boxed::new(alloc, choices)?;
     Ok(EntityTypeKind::Enum { choices })
 }
 

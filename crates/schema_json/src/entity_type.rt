@@ -30,7 +30,7 @@ impl<N: Drop> Drop for EntityType<N> {
 pub enum EntityTypeKind<N> {
     Standard(Boxed<StandardEntityType<N>>),
     /// The entities are listed by their ids.
-    Enum { choices: NonEmpty<Eid> },
+    Enum { choices: Boxed<NonEmpty<Eid>> },
 }
 
 impl<N: Drop> Drop for EntityTypeKind<N> {

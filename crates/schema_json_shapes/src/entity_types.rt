@@ -79,7 +79,9 @@ fn kind_of(
     ensures { IfOk result (λ kind. kind ≡ kind_from choices member_of_types shape tags) }
 {
     match choices {
-        Some(choices) => Ok(EntityTypeKind::Enum { choices }),
+        Some(choices) => Ok(EntityTypeKind::Enum {
+            choices: Boxed::new(alloc, choices)?,
+        }),
         None => {
             let standard = StandardEntityType {
                 member_of_types,

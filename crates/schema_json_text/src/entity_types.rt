@@ -150,6 +150,6 @@ pub fn push_entity_type<N: NameText>(
         EntityTypeKind::Standard(standard) => {
             push_standard(out, alloc, later, entity.external, standard.get())
         }
-        EntityTypeKind::Enum { choices } => push_enum(out, later, entity.external, choices),
+        EntityTypeKind::Enum { choices } => push_enum(out, later, entity.external, choices.get()),
     }
 }

@@ -101,7 +101,7 @@ fn kind_members<N: NameText>(alloc: Global, kind: &EntityTypeKind<N>) -> Result<
         EntityTypeKind::Standard(standard) => standard_members(alloc, standard.get()),
         EntityTypeKind::Enum { choices } => {
             let mut members = Map::new(alloc);
-            let value = choices_value(alloc, choices)?;
+            let value = choices_value(alloc, choices.get())?;
             put(&mut members, alloc, "enum", value)?;
             Ok(members)
         }

@@ -103,7 +103,7 @@ pub fn push_entity_body<N: NameText>(
                 return Ok(());
             }
             push(text, " enum ")?;
-            push_choices(text, choices)?;
+            push_choices(text, choices.get())?;
             Ok(())
         }
     }

@@ -18,7 +18,7 @@ fn kind_is_orderly(kind: &EntityTypeKind<RawName>)
             tags_are_orderly(&standard.tags);
         }
         EntityTypeKind::Enum { choices } => {
-            let _ = choices.first();
+            let _ = choices.get().first();
         }
     }
 }

@@ -106,7 +106,7 @@ fn find_entity(wanted: &mut Wanted<'_>, of: &EntityType<InternalName>) {
     match &of.kind {
         EntityTypeKind::Enum { choices } => {
             wanted.piece(" enum");
-            for choice in choices.iter() {
+            for choice in choices.get().iter() {
                 wanted.piece(" ");
                 wanted.piece(choice.0.as_str());
             }
