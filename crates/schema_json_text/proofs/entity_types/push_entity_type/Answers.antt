@@ -1,7 +1,7 @@
 use Rattle.std.proofs.Common.{◌++◌, ap, sym, ◌∙◌, true, codes, string_bytes}
 use Rattle.std.proofs.lemmas.Result.{on_ok_weaker}
 use Rattle.serde_json.specs.Written.{members_text}
-use Rattle.schema_json.specs.declared.entity_type.EntityTypeKind.TheVariants.{Standard}
+use Rattle.schema_json.specs.declared.entity_type.EntityTypeKind.TheVariants.{Standard, Enum}
 use Rattle.schema_json_values.specs.TypeValues.{with_flag}
 use Rattle.schema_json_values.specs.FragmentValues.{kind_members}
 use Rattle.schema_json_text.proofs.EntityTexts.{entity_written}
@@ -34,5 +34,5 @@ returns-in-Enum g c =
     (string_bytes c.push_enum.new.out) names e.annotations.0 e.external e.kind c.in_ok-push_char.ensures
     c.in_ok-later.ensures
     (h ∙ ap (λ k. n2 ++ members_text later (with_flag e.external (codes "external") true (kind_members names k)))
-    (sym c.in-Enum.is)))
+    (ap Enum c.get-in-Enum.ensures ∙ sym c.in-Enum.is)))
     c.push_enum.ensures
