@@ -3,7 +3,8 @@ ghost use Rattle.std.specs.declared.alloc.Global.{Global as GlobalTold};
 ghost use Rattle.cedar_identifiers.specs.declared.raw_name.RawName.{RawName as Raw};
 ghost use Rattle.cedar_names.specs.declared.extension_table.ExtensionTable.{ExtensionTable as Table};
 ghost use Rattle.schema_json.specs.declared.fragment.Fragment.{Fragment as Fragments};
-ghost use Rattle.schema_build.specs.Assembly.{AreSharedOf, AreAt, AreAllAt, AreEntitiesBuilt, AreActionsBuilt, HoldEntities, HoldActions, entity_type_of, action_of_parts};
+ghost use Rattle.schema_build.specs.Assembly.{AreSharedOf, AreAt, AreAllAt, AreEntitiesBuilt, AreActionsBuilt};
+ghost use Rattle.schema_build.specs.Assembly.{HoldEntities, HoldActions, entity_type_of, action_of_parts};
 
 use cedar_data::{CloneIn, List, Map, Shared};
 use cedar_identifiers::{Name, NameText, RawName};

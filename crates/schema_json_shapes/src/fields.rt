@@ -30,7 +30,7 @@ pub fn at<'v>(members: &'v Members, name: &str) -> Option<&'v Value>
     members.get(name)
 }
 
-// The same, one by one.
+// The member of this name among few, which are looked through one by one.
 fn at_few<'v>(members: &'v Members, name: &str) -> Option<&'v Value>
     ensures { option_map (λ v. view v.now) result ≡ get_member name.now (members_view members.now.entries) }
 {

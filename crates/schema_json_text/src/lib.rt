@@ -7,7 +7,7 @@ pub mod entity_types;
 pub mod fragments;
 pub mod leaves;
 pub mod members;
-pub mod pushing;
+mod pushing;
 pub mod quotes;
 pub mod types;
 

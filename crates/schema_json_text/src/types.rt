@@ -103,7 +103,8 @@ fn push_named(
     name: &str,
     end: &str,
 ) -> Result<(), AllocError>
-    ensures { OnOk result ((word : List ℕ) → end.now ≡ word_end word → AddsValue out.old out.new (named_type annotations.now.0 required name.now word)) }
+    ensures { OnOk result ((word : List ℕ) → end.now ≡ word_end word
+        → AddsValue out.old out.new (named_type annotations.now.0 required name.now word)) }
 {
     push_open(out, annotations, "{\"name\":\"", "\"name\":\"")?;
     push_escaped(out, name)?;

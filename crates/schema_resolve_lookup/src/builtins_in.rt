@@ -50,7 +50,8 @@ pub(crate) fn hides_builtin(
 
 // Whether the empty namespace declares the name of a primitive type.
 fn hides_primitive(alloc: Global, searched: &Searched<'_>) -> Result<bool, AllocError>
-    ensures { IfOk result (λ hides. hides ≡ list_any (is_hidden (tests_of (declared searched.now.fragment.now))) (codes "Bool" ∷ codes "Long" ∷ codes "String" ∷ [])) }
+    ensures { IfOk result (λ hides. hides
+        ≡ list_any (is_hidden (tests_of (declared searched.now.fragment.now))) (codes "Bool" ∷ codes "Long" ∷ codes "String" ∷ [])) }
 {
     let bool = Text::from_str(alloc, "Bool")?;
     let long = Text::from_str(alloc, "Long")?;
@@ -108,7 +109,8 @@ fn is_under_cedar(before: Before<'_>) -> bool
 
 // Whether a type of this name is declared.
 fn is_declared(searched: &Searched<'_>, sought: Sought<'_>) -> bool
-    ensures { result ≡ (among (declared searched.now.fragment.now).commons (name_sought sought.entry) || among (declared searched.now.fragment.now).entities (name_sought sought.entry)) }
+    ensures { result ≡ (among (declared searched.now.fragment.now).commons (name_sought sought.entry)
+        || among (declared searched.now.fragment.now).entities (name_sought sought.entry)) }
 {
     declares_common(searched, sought) || declares_entity(searched, sought)
 }

@@ -1,6 +1,7 @@
 // What may still come, as a stack of symbols, the next one last.
 
-ghost use Rattle.std.specs.Prelude.{◌≡◌, ◌++◌, ◌+◌, ◌<◌, ◌≤◌, [], ◌∷◌, None, Some, OnOk, IfOk, IfSome, MatchBool, MatchOption, is_some, length, reverse, slice_get, take};
+ghost use Rattle.std.specs.Prelude.{◌≡◌, ◌++◌, ◌+◌, ◌<◌, ◌≤◌, [], ◌∷◌, None, Some, is_some};
+ghost use Rattle.std.specs.Prelude.{OnOk, IfOk, IfSome, MatchBool, MatchOption, length, reverse, slice_get, take};
 ghost use Rattle.std.specs.Bool.{OnFalse};
 ghost use Rattle.std.specs.List.{filter};
 ghost use Rattle.schema_syntax_grammar.specs.Machine.{all_nullable, may, run, step};
@@ -13,7 +14,8 @@ use std::alloc::{AllocError, Global};
 
 // How many symbols stay below the one that takes a token of the kind, and what comes in its place.
 fn taker(stack: &[Symbol], kind: TokenKind) -> Option<(usize, &'static [Symbol])>
-    ensures step { MatchOption result (step (reverse stack.now) kind ≡ None) (λ found. step (reverse stack.now) kind ≡ Some (found.1.now ++ reverse (take found.0 stack.now))) }
+    ensures step { MatchOption result (step (reverse stack.now) kind ≡ None)
+        (λ found. step (reverse stack.now) kind ≡ Some (found.1.now ++ reverse (take found.0 stack.now))) }
     ensures in_range { IfSome result (λ found. found.0 < length stack.now) }
 {
     let mut left = stack.len();

@@ -54,7 +54,7 @@ fn starts_no_blank(byte: u8) -> bool
     byte > b' ' && byte < 127 && byte != b'/'
 }
 
-// The same, whatever the text begins with.
+// What follows the first blank of the text, whatever byte that begins with.
 fn past_any_blank(rest: &str) -> Option<&str>
     ensures cases { MatchOption result (NoBlank rest.now) (λ after. IsPastBlank rest.now after.now) }
     ensures shorter { IfSome result (λ after. length after.now < length rest.now) }

@@ -49,7 +49,7 @@ pub fn unescape(alloc: Global, body: &str) -> Result<Text, Refusal>
     unescape_pieces(alloc, body)
 }
 
-// The same, piece by piece.
+// What a body with escapes stands for, piece by piece.
 fn unescape_pieces(alloc: Global, body: &str) -> Result<Text, Refusal>
     ensures value { IfOk result (λ value. Unescapes body.now value) }
     ensures refused { IfErr result (IsRefused body.now) }
