@@ -1,14 +1,20 @@
 -- The first name that comes again, piece by piece, and that it is the one that the definition names.
 use Rattle.std.proofs.Common.{◌≡◌, ℕ, ◌+◌, ◌<◌, Bool, true, false, cond, List, [], ◌∷◌, ◌++◌, Option, Some, None}
 use Rattle.std.proofs.Common.{length, get_or, take, drop, map, All, Contains, Bor, refl, sym, ap, ◌∙◌, subst, arith}
-use Rattle.std.specs.List.{list_any}
+use Rattle.std.proofs.Common.{Ordering, Less, suc, zero}
+use Rattle.std.specs.Prelude.{◌||◌}
+use Rattle.std.specs.List.{list_any, AllByRecursion}
+use Rattle.std.specs.List.Sorted.{IsStrictlySortedBy}
+use Rattle.std.specs.Ordering.{nat_cmp, is_eq, ordering_reverse}
 use Rattle.std.specs.Str.{bytes_eq}
-use Rattle.std.proofs.lemmas.List.{drop_more, take_more, map-append}
+use Rattle.std.proofs.lemmas.List.{drop_more, take_more, map-append, get_or-map, length-map}
+use Rattle.std.proofs.lemmas.Map.Keys.{sorted_from_all_adjacent}
 use Rattle.std.proofs.lemmas.List.Elements.{All-nil, All-cons, All-contains, Contains-append_right}
 use Rattle.std.proofs.lemmas.List.Folds.{Any-from_list_any}
 use Rattle.std.proofs.lemmas.Map.Views.{list_any-from_Contains}
 use Rattle.std.proofs.lemmas.Slice.Eq.{bytes_eq-Decides}
-use Rattle.std.specs.Cmp.Lexicographic.{nat_list_eq_equiv}
+use Rattle.std.proofs.lemmas.Map.Text.{is_eq-slice_cmp}
+use Rattle.std.specs.Cmp.Lexicographic.{slice_cmp, nat_list_cmp_total, nat_list_eq_equiv}
 use Rattle.json.specs.Value.{value_view, items_view, members_view}
 use Rattle.json.specs.declared.value.Value.{Value}
 use Rattle.schema_json_keys.specs.Keys.{Key, keys_of, items_keys, members_keys, ComesAgain, FirstAgain}
@@ -126,3 +132,49 @@ FirstAgain-none ks e n f =
     let there : Contains ks f.again = subst (λ l. Contains l f.again) (sym f.stands)
     (Contains-append_right f.before (f.again ∷ f.after) f.again (0, omega arith, refl)) in
     All-contains (λ k. ¬ ComesAgain k) ks f.again all there f.comes_again
+
+-- ---- keys that rise
+
+abbrev pub order : List ℕ → List ℕ → Ordering
+order = slice_cmp nat_cmp
+
+-- what holds of each key holds of the one at a place
+at_place : {A : Type 0} (P : List ℕ → Type 0) (xs : List (Bor (List ℕ) × Value A)) (i : ℕ)
+    (m : Bor (List ℕ) × Value A) → AllByRecursion P (names xs) → i < length xs → m ≡ get_or xs i m → P m.0.now
+at_place P [] i m all h is = let no : ⊥ = omega arith in absurd no
+at_place P (x ∷ xs) zero m all h is = subst (λ n. P n.0.now) (sym is) all.0
+at_place P (x ∷ xs) (suc i) m all h is = at_place P xs i m all.1 (omega arith) is
+
+above : (a b : List ℕ) → order b a ≡ Less → bytes_eq a b ≡ false
+above a b less = sym (is_eq-slice_cmp a b) ∙ ap is_eq (nat_list_cmp_total.antisymm a b ∙ ap ordering_reverse less)
+
+-- none of them is among those before it
+pub none_before : {A : Type 0} (xs : List (Bor (List ℕ) × Value A)) (i : ℕ) (m : Bor (List ℕ) × Value A)
+    → IsStrictlySortedBy order (names xs) → i < length xs → m ≡ get_or xs i m
+    → list_any (bytes_eq m.0.now) (names (take i xs)) ≡ false
+unfolding IsStrictlySortedBy
+none_before [] i m up h is = let no : ⊥ = omega arith in absurd no
+none_before (x ∷ xs) zero m up h is = refl
+none_before (x ∷ xs) (suc i) m up h is =
+    ap (λ b. b || list_any (bytes_eq m.0.now) (names (take i xs)))
+    (above m.0.now x.0.now (at_place (λ k. order x.0.now k ≡ Less) xs i m up.0 (omega arith) is))
+    ∙ none_before xs i m up.1 (omega arith) is
+
+-- each of which is less than the next
+pub rising : {A : Type 0} (xs : List (Bor (List ℕ) × Value A))
+    → ((k : ℕ) (d : Bor (List ℕ) × Value A) → k + 1 < length xs
+    → order (get_or xs k d).0.now (get_or xs (k + 1) d).0.now ≡ Less)
+    → IsStrictlySortedBy order (names xs)
+unfolding IsStrictlySortedBy
+rising [] h = tt
+rising {A} (x ∷ xs) h = sorted_from_all_adjacent nat_list_cmp_total (names (x ∷ xs)) x.0.now (λ k lt. at k lt)
+  where
+    at : (k : ℕ) → k + 1 < length (names (x ∷ xs))
+        → order (get_or (names (x ∷ xs)) k x.0.now) (get_or (names (x ∷ xs)) (k + 1) x.0.now) ≡ Less
+    at k lt =
+        let key : Bor (List ℕ) × Value A → List ℕ = λ m. m.0.now in
+        let within : k + 1 < length (x ∷ xs) = omega (arith, lt, length-map (x ∷ xs) key) in
+        subst (λ n. order n (get_or (names (x ∷ xs)) (k + 1) x.0.now) ≡ Less)
+        (sym (get_or-map key (x ∷ xs) k x x.0.now (omega (arith, within))))
+        (subst (λ n. order (get_or (x ∷ xs) k x).0.now n ≡ Less)
+        (sym (get_or-map key (x ∷ xs) (k + 1) x x.0.now within)) (h k x within))

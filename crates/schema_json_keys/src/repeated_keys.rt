@@ -1,13 +1,17 @@
-ghost use Rattle.std.specs.Prelude.{◌≡◌, List, ℕ, [], IfOk, MatchOption, map, option_map, string_bytes};
+ghost use Rattle.std.specs.Prelude.{◌≡◌, List, ℕ, true, [], IfOk, MatchOption, map, option_map, string_bytes};
 ghost use Rattle.std.specs.List.{list_any};
+ghost use Rattle.std.specs.List.Sorted.{IsStrictlySortedBy};
 ghost use Rattle.std.specs.Str.{bytes_eq};
+ghost use Rattle.std.specs.Ordering.{nat_cmp};
+ghost use Rattle.std.specs.Cmp.Lexicographic.{slice_cmp};
 ghost use Rattle.json.specs.Value.{value_view, items_view, members_view};
 ghost use Rattle.schema_json_keys.specs.Keys.{RepeatedKey, keys_of, items_keys, members_keys};
 ghost use Rattle.schema_json_keys.specs.Computed.{first_again};
 
-use cedar_data::same_bytes;
+use cedar_data::{compare_bytes, same_bytes};
 use json::{Error, Scratch, Value};
 use std::alloc::{AllocError, Global};
+use std::cmp::Ordering;
 use std::collections::BTreeSet;
 
 // In how many members a key is looked for one by one, which takes less than a set.
@@ -38,7 +42,9 @@ fn first_in_value<'a>(alloc: Global, value: &Value<'a>) -> Result<Option<&'a str
     match value {
         Value::Array(items) => first_in_items(alloc, items),
         Value::Object(members) => {
-            if members.len() <= FEW {
+            if keys_rise(members) {
+                first_in_rising(alloc, members)
+            } else if members.len() <= FEW {
                 first_in_few(alloc, members)
             } else {
                 first_in_members(alloc, members)
@@ -55,6 +61,24 @@ fn first_in_items<'a>(alloc: Global, items: &Vec<Value<'a>>) -> Result<Option<&'
 {
     for item in items {
         if let Some(name) = first_in_value(alloc, item)? {
+            return Ok(Some(name));
+        }
+    }
+    Ok(None)
+}
+
+// In members with rising keys, none of which comes again.
+#[cycle(first)]
+fn first_in_rising<'a>(
+    alloc: Global,
+    members: &Vec<(&'a str, Value<'a>)>,
+) -> Result<Option<&'a str>, AllocError>
+    requires { IsStrictlySortedBy (slice_cmp nat_cmp) (map (λ m. m.0.now) members.now.items) }
+    ensures { IfOk result (λ name. option_map (λ s. s.now) name
+        ≡ first_again (members_keys [] (members_view members.now.items))) }
+{
+    for member in members {
+        if let Some(name) = first_in_value(alloc, &member.1)? {
             return Ok(Some(name));
         }
     }
@@ -101,6 +125,19 @@ fn first_in_few<'a>(
         }
     }
     Ok(None)
+}
+
+// Whether each key is less than the next, as in a text that was written in order.
+fn keys_rise(members: &Vec<(&str, Value<'_>)>) -> bool
+    ensures { result ≡ true → IsStrictlySortedBy (slice_cmp nat_cmp) (map (λ m. m.0.now) members.now.items) }
+{
+    for next in 1..members.len() {
+        match compare_bytes(members[next - 1].0, members[next].0) {
+            Ordering::Less => {}
+            _ => return false,
+        }
+    }
+    true
 }
 
 // Whether one of the members has the key.

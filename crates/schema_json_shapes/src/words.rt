@@ -1,6 +1,8 @@
 ghost use Rattle.std.specs.Prelude.{◌≡◌};
 ghost use Rattle.schema_json_shapes.specs.Tables.{word_of};
 
+use cedar_data::same_bytes;
+
 /// What the member `type` of a type says.
 #[derive(Clone, Copy, Drop, PartialEq, Eq)]
 pub enum TypeWord {
@@ -24,19 +26,57 @@ pub enum TypeSite {
     Common,
 }
 
-/// The word that a text is.
+/// The word that a text is. Only the words of its own length are compared with it.
 pub fn word_of(text: &str) -> TypeWord
     ensures { result ≡ word_of text.now }
 {
-    match text {
-        "String" => TypeWord::String,
-        "Long" => TypeWord::Long,
-        "Boolean" => TypeWord::Boolean,
-        "Set" => TypeWord::Set,
-        "Record" => TypeWord::Record,
-        "Entity" => TypeWord::Entity,
-        "EntityOrCommon" => TypeWord::EntityOrCommon,
-        "Extension" => TypeWord::Extension,
+    match text.len() {
+        3 => {
+            if same_bytes(text, "Set") {
+                TypeWord::Set
+            } else {
+                TypeWord::Reference
+            }
+        }
+        4 => {
+            if same_bytes(text, "Long") {
+                TypeWord::Long
+            } else {
+                TypeWord::Reference
+            }
+        }
+        6 => {
+            if same_bytes(text, "String") {
+                TypeWord::String
+            } else if same_bytes(text, "Record") {
+                TypeWord::Record
+            } else if same_bytes(text, "Entity") {
+                TypeWord::Entity
+            } else {
+                TypeWord::Reference
+            }
+        }
+        7 => {
+            if same_bytes(text, "Boolean") {
+                TypeWord::Boolean
+            } else {
+                TypeWord::Reference
+            }
+        }
+        9 => {
+            if same_bytes(text, "Extension") {
+                TypeWord::Extension
+            } else {
+                TypeWord::Reference
+            }
+        }
+        14 => {
+            if same_bytes(text, "EntityOrCommon") {
+                TypeWord::EntityOrCommon
+            } else {
+                TypeWord::Reference
+            }
+        }
         _ => TypeWord::Reference,
     }
 }

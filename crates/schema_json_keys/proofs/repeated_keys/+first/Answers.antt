@@ -2,6 +2,7 @@ use Rattle.std.proofs.Common.{◌≡◌, ◌+◌, ◌<◌, true, false, [], ◌�
 use Rattle.std.proofs.Common.{arith, rules}
 use Rattle.std.specs.Prelude.{◌||◌, option_map}
 use Rattle.std.specs.List.{list_any}
+use Rattle.std.specs.List.Sorted.{IsStrictlySortedBy}
 use Rattle.std.specs.Str.{bytes_eq}
 use Rattle.std.proofs.lemmas.List.Folds.{list_any-append}
 use Rattle.json.specs.Tree.{json_tokens, items_tokens, members_tokens}
@@ -11,7 +12,7 @@ use Rattle.schema_json_keys.specs.Keys.{keys_of, items_keys, members_keys}
 use Rattle.schema_json_keys.specs.Computed.{first_again}
 use Rattle.schema_json_keys.proofs.Seen.{Name, has, had, had_not, at_end, has-inserted}
 use Rattle.schema_json_keys.proofs.Firsts.{or_next, names, item_step, member_step, one_more_name, comes_again-true}
-use Rattle.schema_json_keys.proofs.Firsts.{comes_again-false}
+use Rattle.schema_json_keys.proofs.Firsts.{comes_again-false, none_before, order}
 use Rattle.schema_json_keys.proofs.repeated_keys.+first.Goals as goal
 
 pub first_in_items-first_in_value-requires : goal.first_in_items-first_in_value-requires
@@ -142,3 +143,47 @@ first_in_few-loop-at-preserved t c =
     ∙ sym (comes_again-false (record { name = m.0.now; earlier = names (take at xs) }) _ among)
     ∙ sym (member_step xs at m (omega (arith, c.loop-at-test.true, c.len-at-end.ensures)) c.index-member.ensures)
     ∙ c.loop-at.invariant
+
+pub first_in_rising-first_in_value-requires : goal.first_in_rising-first_in_value-requires
+first_in_rising-first_in_value-requires t c =
+    let xs = c.deref-member-items.result.now in
+    let x = c.member-item.result in
+    let smaller : length (json_tokens (value_view x.1)) < length
+    (members_tokens (members_view c.args.members.now.items)) =
+    subst (λ ys. length (json_tokens (value_view x.1)) < length (members_tokens (members_view ys)))
+    c.deref-member-items.ensures.value
+    (subst (λ y. length (json_tokens (value_view y.1)) < length (members_tokens (members_view xs)))
+    (sym c.member-item.is) (member_smaller xs c.loop-member.member-index x (omega arith))) in
+    search rules
+
+pub first_in_rising-returns-in-Some : goal.first_in_rising-returns-in-Some
+first_in_rising-returns-in-Some t c =
+    let l = c.loop-member in
+    let xs = c.deref-member-items.result.now in
+    let m = c.member-item.result in
+    let among : list_any (bytes_eq m.0.now) (names (take l.member-index xs)) ≡ false = none_before xs l.member-index m
+    (subst (λ ys. IsStrictlySortedBy order (names ys)) (sym c.deref-member-items.ensures.value) c.requires) (omega arith)
+    c.member-item.is in
+    let here : Some c.in-Some.name.now
+    ≡ first_again (keys_of (value_view m.1)) = sym (ap (option_map (λ (s : Name). s.now)) c.in-Some.is)
+    ∙ c.in_ok-name.ensures in
+    ap (λ o. or_next o (first_again
+    (members_keys (names (take (l.member-index + 1) xs)) (members_view (drop (l.member-index + 1) xs))))) here
+    ∙ sym (comes_again-false (record { name = m.0.now; earlier = names (take l.member-index xs) }) _ among)
+    ∙ sym (member_step xs l.member-index m (omega arith) c.member-item.is) ∙ l.invariant
+    ∙ ap (λ ys. first_again (members_keys [] (members_view ys))) c.deref-member-items.ensures.value
+
+pub first_in_rising-loop-member-preserved : goal.first_in_rising-loop-member-preserved
+first_in_rising-loop-member-preserved t c =
+    let l = c.loop-member in
+    let xs = c.deref-member-items.result.now in
+    let m = c.member-item.result in
+    let among : list_any (bytes_eq m.0.now) (names (take l.member-index xs)) ≡ false = none_before xs l.member-index m
+    (subst (λ ys. IsStrictlySortedBy order (names ys)) (sym c.deref-member-items.ensures.value) c.requires) (omega arith)
+    c.member-item.is in
+    let here : None ≡ first_again (keys_of (value_view m.1)) = sym
+    (ap (option_map (λ (s : Name). s.now)) c.in_default.is) ∙ c.in_ok-name.ensures in
+    ap (λ o. or_next o (first_again
+    (members_keys (names (take (l.member-index + 1) xs)) (members_view (drop (l.member-index + 1) xs))))) here
+    ∙ sym (comes_again-false (record { name = m.0.now; earlier = names (take l.member-index xs) }) _ among)
+    ∙ sym (member_step xs l.member-index m (omega arith) c.member-item.is) ∙ l.invariant
