@@ -43,7 +43,7 @@ fn push_empty<'a>(
     };
     namespaces.push(Annotated {
         item,
-        annotations: SrcAnnotations::new(alloc),
+        annotations: SrcAnnotations::new(),
     })?;
     Ok(())
 }

@@ -55,12 +55,16 @@ pub fn push_all<'a>(
 
 // Adds the entries.
 fn push_entries<'a>(
+    alloc: Global,
     entries: &mut Vec<(SrcWord<'a>, Option<SrcStr<'a>>)>,
-    more: SrcAnnotations<'a>,
+    more: &SrcAnnotations<'a>,
 ) -> Result<(), AllocError>
-    ensures { OnOk result (entries.new.items ≡ entries.old.items ++ more.entry.0) }
+    ensures { OnOk result (entries.new.items ≡ entries.old.items ++ more.now.0) }
 {
-    entries.append(&mut more.into_map().into_vec())
+    for entry in more.as_slice() {
+        entries.push((entry.0.clone_in(alloc)?, entry.1.clone_in(alloc)?))?;
+    }
+    Ok(())
 }
 
 // The annotations of these entries: each key with its first value.
@@ -71,7 +75,7 @@ fn first_values<'a>(
     ensures { IfOk result (λ annotations. annotations.0 ≡ map_of annotation_key_cmp (reverse entries.entry.items)) }
 {
     entries.reverse();
-    Ok(SrcAnnotations::from_map(Map::from_entries(alloc, entries)?))
+    SrcAnnotations::from_map(alloc, Map::from_entries(alloc, entries)?)
 }
 
 // These declarations and annotations with those of other openings behind them: of each key the first value.
@@ -91,12 +95,13 @@ fn with_others<'a>(
     ensures annotations { IfOk result (λ out. out.1.0 ≡ map_of annotation_key_cmp (reverse (annotations.entry.0 ++ flat_map (λ n. n.annotations.0) others.entry.items))) }
 {
     let mut decls = decls.into_vec();
-    let mut entries = annotations.into_map().into_vec();
+    let mut entries = Vec::new(alloc);
+    push_entries(alloc, &mut entries, &annotations)?;
     for opening in others {
         let (item, annotations) = opening.into_parts();
         let (_, others, _) = item.into_parts();
         push_all(&mut decls, others)?;
-        push_entries(&mut entries, annotations)?;
+        push_entries(alloc, &mut entries, &annotations)?;
     }
     let annotations = first_values(alloc, entries)?;
     Ok((List::from_vec(decls), annotations))

@@ -100,6 +100,6 @@ pub fn deduplicate_annotations<'a, T: Drop>(
     ensures twice { IfErr result (AreRefused annotations.entry.items) }
 {
     let tree = by_keys(alloc, annotations)?;
-    let annotations = SrcAnnotations::from_map(without_places(alloc, tree)?);
+    let annotations = SrcAnnotations::from_map(alloc, without_places(alloc, tree)?)?;
     Ok(Annotated { item, annotations })
 }

@@ -97,7 +97,7 @@ fn outside<'a>(
         decls: List::from_vec(decls),
         loc: None,
     };
-    let annotations = SrcAnnotations::new(alloc);
+    let annotations = SrcAnnotations::new();
     Ok(Annotated { item, annotations })
 }
 

@@ -122,7 +122,7 @@ pub fn notes_of<'a>(
     ensures fault { IfErr result (IsStoppedAt text.now (annotations list.now)) }
 {
     if list.is_empty() {
-        return Ok(SrcAnnotations::new(alloc));
+        return Ok(SrcAnnotations::new());
     }
     let read = read_notes(alloc, text, list)?;
     let fault = read.fault;

@@ -31,7 +31,7 @@ pub struct SrcAnnotation<'a> {
 
 /// What is said beside an item, in slices of the source. Contracts see the `Annotations`.
 pub struct SrcAnnotations<'a> {
-    notes: Map<SrcWord<'a>, Option<SrcStr<'a>>>,
+    notes: SharedMap<SrcWord<'a>, Option<SrcStr<'a>>>,
 }
 
 impl<'a> Drop for SrcAnnotations<'a> {
@@ -50,26 +50,30 @@ impl<'a> Model for SrcAnnotations<'a> {
 
 impl<'a> SrcAnnotations<'a> {
     /// The annotations with these entries.
-    pub fn from_map(notes: Map<SrcWord<'a>, Option<SrcStr<'a>>>) -> SrcAnnotations<'a>
-        ensures { result.0 ≡ notes.entry }
+    pub fn from_map(
+        alloc: Global,
+        notes: Map<SrcWord<'a>, Option<SrcStr<'a>>>,
+    ) -> Result<SrcAnnotations<'a>, AllocError>
+        ensures { IfOk result (λ annotations. annotations.0 ≡ notes.entry) }
     {
-        SrcAnnotations { notes }
+        Ok(SrcAnnotations {
+            notes: SharedMap::from_map(alloc, notes)?,
+        })
     }
 
-    /// The entries, as a map.
-    pub fn into_map(self) -> Map<SrcWord<'a>, Option<SrcStr<'a>>>
-        ensures { result ≡ self.entry.0 }
+    /// The entries, in the order of their keys.
+    pub fn as_slice(&self) -> &[(SrcWord<'a>, Option<SrcStr<'a>>)]
+        ensures { result.now ≡ self.now.0 }
     {
-        let SrcAnnotations { notes } = self;
-        notes
+        self.notes.as_slice()
     }
 
     /// No annotation, which takes no memory.
-    pub fn new(alloc: Global) -> SrcAnnotations<'a>
+    pub fn new() -> SrcAnnotations<'a>
         ensures { result ≡ record { 0 = [] } }
     {
         SrcAnnotations {
-            notes: Map::new(alloc),
+            notes: SharedMap::new(),
         }
     }
 

@@ -193,8 +193,7 @@ fn are_kept(alloc: Global, keys: &str, sorted: &str) -> bool {
     };
     let (item, annotations) = annotated.into_parts();
     let mut wanted = Wanted::new(sorted);
-    let notes = annotations.into_map();
-    for (key, _) in notes.as_slice() {
+    for (key, _) in annotations.as_slice() {
         wanted.piece(key.as_str());
         wanted.piece(" ");
     }

@@ -5,6 +5,6 @@ use Rattle.schema_syntax_reader.proofs.annotations.deduplicate_annotations.Goals
 
 pub returns-clause-kept : goal.returns-clause-kept
 returns-clause-kept g c =
-    subst (AreKept c.args.annotations.items) (sym c.from_map-annotations.ensures)
+    subst (AreKept c.args.annotations.items) (sym c.in_ok-annotations.ensures)
     (kept c.args.annotations.items c.in_ok-tree.tree.entries c.in_ok-without_places.field-0 c.in_ok-tree.ensures.tree
     c.in_ok-without_places.ensures.notes c.in_ok-without_places.ensures.rising)
