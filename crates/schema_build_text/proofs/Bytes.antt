@@ -5,9 +5,11 @@ use Rattle.std.specs.List.{list_all}
 use Rattle.std.specs.Cmp.{first_so, second_so}
 use Rattle.std.proofs.lemmas.Bool.{cases_Bool}
 use Rattle.std.proofs.lemmas.Bool.Decides.{nat_tests}
-use Rattle.std.proofs.lemmas.Str.{encodes-append, encodes-chars, chars-encodes, encodes-IsAscii, chars-IsAscii}
+use Rattle.std.proofs.lemmas.Str.{encodes-chars, chars-encodes, encodes-IsAscii, chars-IsAscii}
 use Rattle.std.proofs.lemmas.Str.Ascii.{IsAscii-nil, IsAscii-cons}
-use Rattle.std.proofs.Common.{ℕ, ◌+◌, ◌<◌, Bool, if◌then◌else◌, arith, add-one}
+use Rattle.std.proofs.Common.{ℕ, ◌+◌, ◌<◌, Bool, if◌then◌else◌, arith, add-one, String, string_bytes, Result, Ok, Err}
+use Rattle.std.proofs.Common.{is_ok}
+use Rattle.std.specs.Result.{OnOk}
 use Rattle.cedar_names.specs.CanonicalText.{spaces, attribute_name}
 use Rattle.schema_syntax_tokens.specs.Quotes.{quoted}
 use Rattle.cedar_data.specs.Words.{is_word_start, is_word_part, is_word}
@@ -17,11 +19,10 @@ use Rattle.schema_build_text.specs.Growing.{so}
 use Rattle.schema_syntax_tokens.proofs.Quoted.{quoted_utf8}
 
 -- a text that is pushed adds its bytes
-pub adds_chars : (old new more : List ℕ) → IsUtf8 more → new ≡ old ++ chars more → Adds old new more
-adds_chars old new more u e = record {
-  grown = ap encode_utf8_all e ∙ encodes-append old (chars more)
-      ∙ ap (λ t. encode_utf8_all old ++ t) (encodes-chars more u);
-}
+pub pushed : {Z T E : Type 0} (r : Result T E) (old new : String Z) (more : List ℕ)
+    → string_bytes new ≡ (if is_ok r then string_bytes old ++ more else string_bytes old) → OnOk r (Adds old new more)
+pushed (Ok x) old new more e = record { grown = e }
+pushed (Err e) old new more h = tt
 
 part_ascii : (b : ℕ) → is_word_part b ≡ true → b < 128
 part_ascii b h = grind (arith, nat_tests)
@@ -64,20 +65,23 @@ id_by_bytes w s =
     ]
 
 -- a value that is pushed as a string
-pub string_added : (old new value s : List ℕ) → s ≡ encode_utf8_all value → all_scalars value ≡ true
-    → new ≡ old ++ chars (quoted (chars s)) → Adds old new (quoted value)
-string_added old new value s b sc e =
+pub string_added : {Z : Type 0} {old new : String Z} (value s front written shown : List ℕ)
+    → s ≡ encode_utf8_all value → all_scalars value ≡ true → front ≡ []
+    → written ≡ front ++ chars (quoted (chars s)) → shown ≡ encode_utf8_all written
+    → Adds old new shown → Adds old new (quoted value)
+string_added value s front written shown b sc f w v e =
     let same : chars s ≡ value = ap chars b ∙ chars-encodes value sc in
-    adds_chars old new (quoted value) (quoted_utf8 value sc) (e ∙ ap (λ t. old ++ chars (quoted t)) same)
+    so e (v ∙ ap encode_utf8_all (w ∙ ap (λ t. t ++ chars (quoted (chars s))) f ∙ ap (λ t. chars (quoted t)) same)
+    ∙ encodes-chars (quoted value) (quoted_utf8 value sc))
 
 -- a bare name of an attribute that is pushed
-pub bare_added : {old new s : List ℕ} (name : List ℕ) → Adds old new s → s ≡ encode_utf8_all name → is_id name ≡ true
+pub bare_added : {Z : Type 0} {old new : String Z} {s : List ℕ} (name : List ℕ) → Adds old new s → s ≡ encode_utf8_all name → is_id name ≡ true
     → Adds old new (attribute_name name)
 bare_added name e b h =
     so e (b ∙ id_bytes name h ∙ sym (ap (λ (t : Bool). if t then name else quoted name) h))
 
 -- another, as a string
-pub quoted_added : {old new : List ℕ} (name : List ℕ) → Adds old new (quoted name) → is_id name ≡ false
+pub quoted_added : {Z : Type 0} {old new : String Z} (name : List ℕ) → Adds old new (quoted name) → is_id name ≡ false
     → Adds old new (attribute_name name)
 quoted_added name e h = so e (sym (ap (λ (t : Bool). if t then name else quoted name) h))
 

@@ -18,7 +18,7 @@ use Rattle.cedar_names.specs.CanonicalText.{in_order, list_text, parents_text, a
 use Rattle.cedar_names.specs.Definitions.{action_of}
 use Rattle.cedar_names.specs.declared.entity_uid.EntityUID.{EntityUID}
 use Rattle.schema_build_types.specs.Content.{names_content, actions_in_order, actions_cmp}
-use Rattle.std.specs.Str.{encode_utf8_all}
+use Rattle.std.proofs.Common.{String, string_bytes}
 use Rattle.schema_build_text.specs.Growing.{Leaves}
 use denote.Ref.{Bor}
 use Rattle.schema_build_text.specs.Readings.{first_name}
@@ -29,8 +29,8 @@ dropped_all [] = refl
 dropped_all (x ∷ xs) = dropped_all xs
 
 -- what is left is what is to be written
-pub begun_as : (a left all : List ℕ) → left ≡ all → Leaves a a left all
-begun_as a left all e = record { meets = ap (λ t. encode_utf8_all a ++ t) e }
+pub begun_as : {Z : Type 0} (a : String Z) (left all : List ℕ) → left ≡ all → Leaves a a left all
+begun_as a left all e = record { meets = ap (λ t. string_bytes a ++ t) e }
 
 -- the item at a place, and those behind it
 pub dropped : {A : Type 0} (xs : List A) (i : ℕ) (d : A) → i < length xs → d ≡ get_or xs i d

@@ -18,7 +18,7 @@ use std::alloc::{AllocError, Global};
 
 // Adds the record of these attributes, without a space in the braces where there are none.
 fn push_attributes(
-    text: &mut Text,
+    text: &mut String,
     alloc: Global,
     base: usize,
     entries: &[(Text, (Type, bool))],
@@ -34,7 +34,7 @@ fn push_attributes(
 
 // Adds the context.
 fn push_context(
-    text: &mut Text,
+    text: &mut String,
     alloc: Global,
     base: usize,
     context: &Type,
@@ -51,7 +51,7 @@ fn push_context(
 
 // Adds a line that begins so, with the names in brackets and a comma.
 fn push_names_line(
-    text: &mut Text,
+    text: &mut String,
     alloc: Global,
     base: usize,
     head: &str,
@@ -68,7 +68,7 @@ fn push_names_line(
 
 // Adds what an action applies to, where it has both principals and resources.
 fn push_applies(
-    text: &mut Text,
+    text: &mut String,
     alloc: Global,
     base: usize,
     principals: &[Name],
@@ -98,7 +98,7 @@ fn push_applies(
 
 // Adds the name and the ancestors of an action.
 fn push_head(
-    text: &mut Text,
+    text: &mut String,
     alloc: Global,
     uid: &EntityUID,
     ancestors: &[Shared<EntityUID>],
@@ -113,7 +113,7 @@ fn push_head(
 
 // Adds what stands before the semicolon.
 fn push_declaration(
-    text: &mut Text,
+    text: &mut String,
     alloc: Global,
     base: usize,
     uid: &EntityUID,
@@ -143,7 +143,7 @@ fn push_declaration(
 
 /// Adds the action on lines of its own.
 pub fn push_action(
-    text: &mut Text,
+    text: &mut String,
     alloc: Global,
     base: usize,
     uid: &EntityUID,

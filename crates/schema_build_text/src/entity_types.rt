@@ -19,7 +19,7 @@ use std::alloc::{AllocError, Global};
 
 // Adds ` = ` and the record of the attributes, where there are any.
 fn push_shape(
-    text: &mut Text,
+    text: &mut String,
     alloc: Global,
     base: usize,
     entries: &[(Text, (Type, bool))],
@@ -35,7 +35,7 @@ fn push_shape(
 }
 
 // Adds ` tags ` and the type of the tags at no indentation, where there are tags.
-fn push_tags(text: &mut Text, alloc: Global, tags: &Option<Boxed<Type>>) -> Result<(), AllocError>
+fn push_tags(text: &mut String, alloc: Global, tags: &Option<Boxed<Type>>) -> Result<(), AllocError>
     ensures { OnOk result (Adds text.old text.new (tags_text true (option_map plain_type (option_map type_content tags.now)))) }
 {
     match tags {
@@ -50,7 +50,7 @@ fn push_tags(text: &mut Text, alloc: Global, tags: &Option<Boxed<Type>>) -> Resu
 
 // Adds a standard entity type up to its semicolon: its name, its ancestors, its attributes and its tags.
 fn push_standard(
-    text: &mut Text,
+    text: &mut String,
     alloc: Global,
     base: usize,
     name: &Name,
@@ -69,7 +69,7 @@ fn push_standard(
 }
 
 // Adds an enum up to its semicolon: its name and its choices.
-fn push_enum(text: &mut Text, name: &Name, choices: &NonEmpty<Eid>) -> Result<(), AllocError>
+fn push_enum(text: &mut String, name: &Name, choices: &NonEmpty<Eid>) -> Result<(), AllocError>
     ensures { OnOk result (Adds text.old text.new (codes "entity " ++ (basename (components_of name.now.name) ++ (codes " enum " ++ list_text (map quoted (map (λ c. c.0) choices.now)))))) }
 {
     push(text, "entity ")?;
@@ -81,7 +81,7 @@ fn push_enum(text: &mut Text, name: &Name, choices: &NonEmpty<Eid>) -> Result<()
 
 // Adds an external entity type up to its semicolon: its name and its ancestors.
 fn push_external(
-    text: &mut Text,
+    text: &mut String,
     alloc: Global,
     name: &Name,
     ancestors: &[Shared<Name>],
@@ -96,7 +96,7 @@ fn push_external(
 
 // Adds what stands before the semicolon.
 fn push_declaration(
-    text: &mut Text,
+    text: &mut String,
     alloc: Global,
     base: usize,
     name: &Name,
@@ -126,7 +126,7 @@ fn push_declaration(
 
 /// Adds the entity type on lines of its own.
 pub fn push_entity_type(
-    text: &mut Text,
+    text: &mut String,
     alloc: Global,
     base: usize,
     name: &Name,

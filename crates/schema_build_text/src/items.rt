@@ -9,7 +9,6 @@ ghost use Rattle.schema_build_text.specs.Walk.{namespace_of, items_of, walk};
 use crate::actions::push_action;
 use crate::entity_types::push_entity_type;
 use crate::names::compare_namespaces;
-use cedar_data::Text;
 use cedar_identifiers::{InternalName, Name};
 use cedar_names::EntityUID;
 use schema_build_types::{ActionEntry, EntityTypeEntry, ValidatorActionId, ValidatorEntityType};
@@ -65,7 +64,7 @@ pub fn items_in_order<'a>(
 
 /// Adds the item on lines of its own.
 pub fn push_item(
-    text: &mut Text,
+    text: &mut String,
     alloc: Global,
     base: usize,
     item: &Item<'_>,

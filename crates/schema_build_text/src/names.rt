@@ -8,13 +8,12 @@ ghost use Rattle.schema_build_text.specs.Adds.{Adds};
 ghost use Rattle.schema_build_text.specs.Items.{base_in, opening, closing, break_between};
 
 use crate::pushing::push;
-use cedar_data::Text;
 use cedar_identifiers::{Id, InternalName};
 use std::alloc::AllocError;
 use std::cmp::Ordering;
 
 // Adds the words with `::` between two.
-fn push_path(text: &mut Text, first: &Id, others: &[Id]) -> Result<(), AllocError>
+fn push_path(text: &mut String, first: &Id, others: &[Id]) -> Result<(), AllocError>
     ensures { OnOk result (Adds text.old text.new (name_text (texts_of (first.now ∷ others.now)))) }
 {
     push(text, first.as_str())?;
@@ -26,14 +25,14 @@ fn push_path(text: &mut Text, first: &Id, others: &[Id]) -> Result<(), AllocErro
 }
 
 /// Adds the name: its components with `::` between two.
-pub fn push_name(text: &mut Text, name: &InternalName) -> Result<(), AllocError>
+pub fn push_name(text: &mut String, name: &InternalName) -> Result<(), AllocError>
     ensures { OnOk result (Adds text.old text.new (name_text (components_of name.now))) }
 {
     push_path(text, &name.first, name.others.as_slice())
 }
 
 /// Adds the last component of the name.
-pub fn push_basename(text: &mut Text, name: &InternalName) -> Result<(), AllocError>
+pub fn push_basename(text: &mut String, name: &InternalName) -> Result<(), AllocError>
     ensures { OnOk result (Adds text.old text.new (basename (components_of name.now))) }
 {
     match name.others.as_slice().split_last() {
@@ -54,7 +53,7 @@ pub fn base_of(name: &InternalName) -> usize
 }
 
 /// Adds the head of the name's namespace, where that has a name.
-pub fn push_opening(text: &mut Text, name: &InternalName) -> Result<(), AllocError>
+pub fn push_opening(text: &mut String, name: &InternalName) -> Result<(), AllocError>
     ensures { OnOk result (Adds text.old text.new (opening (namespace (components_of name.now)))) }
 {
     match name.others.as_slice().split_last() {
@@ -69,7 +68,7 @@ pub fn push_opening(text: &mut Text, name: &InternalName) -> Result<(), AllocErr
 }
 
 /// Adds the end of the name's namespace, where that has a name.
-pub fn push_closing(text: &mut Text, name: &InternalName) -> Result<(), AllocError>
+pub fn push_closing(text: &mut String, name: &InternalName) -> Result<(), AllocError>
     ensures { OnOk result (Adds text.old text.new (closing (namespace (components_of name.now)))) }
 {
     if name.others.as_slice().is_empty() {
@@ -82,7 +81,7 @@ pub fn push_closing(text: &mut Text, name: &InternalName) -> Result<(), AllocErr
 /// Adds what stands between an item whose namespace is that of the one name and an item whose namespace is that of the
 /// other.
 pub fn push_break(
-    text: &mut Text,
+    text: &mut String,
     before: &InternalName,
     behind: &InternalName,
 ) -> Result<(), AllocError>

@@ -20,7 +20,7 @@ use std::alloc::{AllocError, Global};
 
 // Adds what stands before the item.
 fn push_before(
-    text: &mut Text,
+    text: &mut String,
     before: Option<&InternalName>,
     name: &InternalName,
 ) -> Result<(), AllocError>
@@ -33,7 +33,7 @@ fn push_before(
 }
 
 // Adds what stands behind the last item.
-fn push_after(text: &mut Text, last: Option<&InternalName>) -> Result<(), AllocError>
+fn push_after(text: &mut String, last: Option<&InternalName>) -> Result<(), AllocError>
     ensures { OnOk result (Adds text.old text.new (after_text (namespace_behind (option_copied last.entry)))) }
 {
     match last {
@@ -46,7 +46,7 @@ fn push_after(text: &mut Text, last: Option<&InternalName>) -> Result<(), AllocE
 pub fn print_items(alloc: Global, items: &[Item<'_>]) -> Result<Text, AllocError>
     ensures { IfOk result (λ text. (c : SchemaContent) → map item_content items.now ≡ walk c → encode_utf8_all text ≡ canonical_text (schema_reading c)) }
 {
-    let mut text = Text::new(alloc);
+    let mut text = String::new(alloc);
     let mut before = None;
     for item in items {
         let name = name_of(item);
@@ -55,7 +55,7 @@ pub fn print_items(alloc: Global, items: &[Item<'_>]) -> Result<Text, AllocError
         before = Some(name);
     }
     push_after(&mut text, before)?;
-    Ok(text)
+    Ok(Text::from_string(text))
 }
 
 /// The canonical text of a built schema: of the meaning for which its entity types and actions stand.

@@ -11,14 +11,14 @@ use schema_syntax_tokens::push_quoted;
 use std::alloc::AllocError;
 
 /// Adds these characters.
-pub fn push(text: &mut Text, more: &str) -> Result<(), AllocError>
+pub fn push(text: &mut String, more: &str) -> Result<(), AllocError>
     ensures { OnOk result (Adds text.old text.new more.now) }
 {
     text.push_str(more)
 }
 
 /// Adds the separator, where something stands before.
-pub fn push_between(text: &mut Text, behind: bool, separator: &str) -> Result<(), AllocError>
+pub fn push_between(text: &mut String, behind: bool, separator: &str) -> Result<(), AllocError>
     ensures { OnOk result (Adds text.old text.new (between separator.now behind)) }
 {
     if behind {
@@ -29,14 +29,16 @@ pub fn push_between(text: &mut Text, behind: bool, separator: &str) -> Result<()
 }
 
 /// Adds the value as a string.
-pub fn push_string(text: &mut Text, value: &Text) -> Result<(), AllocError>
+pub fn push_string(text: &mut String, value: &Text) -> Result<(), AllocError>
     ensures { OnOk result (Adds text.old text.new (quoted value.now)) }
 {
-    push_quoted(text, value.as_str())
+    let mut quoted = Text::new(*text.allocator());
+    push_quoted(&mut quoted, value.as_str())?;
+    push(text, quoted.as_str())
 }
 
 /// Adds so many spaces.
-pub fn push_spaces(text: &mut Text, count: usize) -> Result<(), AllocError>
+pub fn push_spaces(text: &mut String, count: usize) -> Result<(), AllocError>
     ensures { OnOk result (Adds text.old text.new (spaces count)) }
 {
     let mut left = count;
@@ -59,7 +61,7 @@ pub fn deeper(base: usize) -> Result<usize, AllocError>
 }
 
 /// Adds the name of an attribute: bare where it may be, and else as a string.
-pub fn push_attribute_name(text: &mut Text, name: &Text) -> Result<(), AllocError>
+pub fn push_attribute_name(text: &mut String, name: &Text) -> Result<(), AllocError>
     ensures { OnOk result (Adds text.old text.new (attribute_name name.now)) }
 {
     if is_bare(name) {
@@ -70,7 +72,7 @@ pub fn push_attribute_name(text: &mut Text, name: &Text) -> Result<(), AllocErro
 }
 
 /// Adds what stands between the name of an attribute and its type: `: `, or `?: ` where it is not required.
-pub fn push_colon(text: &mut Text, required: bool) -> Result<(), AllocError>
+pub fn push_colon(text: &mut String, required: bool) -> Result<(), AllocError>
     ensures { OnOk result (Adds text.old text.new ((if required then [] else codes "?") ++ codes ": ")) }
 {
     if required {

@@ -11,7 +11,7 @@ ghost use Rattle.schema_build_text.specs.Readings.{first_name};
 
 use crate::names::push_name;
 use crate::pushing::{push, push_between, push_string};
-use cedar_data::{NonEmpty, Shared, Text};
+use cedar_data::{NonEmpty, Shared};
 use cedar_identifiers::{Eid, Name};
 use cedar_names::EntityUID;
 use std::alloc::{AllocError, Global};
@@ -23,14 +23,14 @@ pub trait Listed: Ord {
     /// The bytes of its text.
     ghost shown: { Self → List ℕ };
 
-    fn push_to(&self, text: &mut Text) -> Result<(), AllocError>
+    fn push_to(&self, text: &mut String) -> Result<(), AllocError>
         ensures { OnOk result (Adds text.old text.new (shown self.now)) };
 }
 
 impl Listed for Name {
     ghost shown = { λ n. name_text (components_of n.name) };
 
-    fn push_to(&self, text: &mut Text) -> Result<(), AllocError> {
+    fn push_to(&self, text: &mut String) -> Result<(), AllocError> {
         push_name(text, &self.name)
     }
 }
@@ -38,7 +38,7 @@ impl Listed for Name {
 impl Listed for EntityUID {
     ghost shown = { λ a. action_name_text (action_of a) };
 
-    fn push_to(&self, text: &mut Text) -> Result<(), AllocError> {
+    fn push_to(&self, text: &mut String) -> Result<(), AllocError> {
         push_name(text, &self.ty.name)?;
         push(text, "::")?;
         push_string(text, &self.eid.0)?;
@@ -49,7 +49,7 @@ impl Listed for EntityUID {
 impl<T: Listed> Listed for Shared<T> {
     ghost shown = { T.shown };
 
-    fn push_to(&self, text: &mut Text) -> Result<(), AllocError> {
+    fn push_to(&self, text: &mut String) -> Result<(), AllocError> {
         self.get().push_to(text)
     }
 }
@@ -83,7 +83,7 @@ pub fn sorted_set<'a, T: Ord>(alloc: Global, items: &'a [T]) -> Result<BTreeSet<
 }
 
 // Adds the items, with `, ` between two.
-fn push_row<T: Listed>(text: &mut Text, items: &[T]) -> Result<(), AllocError>
+fn push_row<T: Listed>(text: &mut String, items: &[T]) -> Result<(), AllocError>
     ensures { OnOk result (Adds text.old text.new (joined_by (codes ", ") (map T.shown items.now))) }
 {
     let mut behind = false;
@@ -96,7 +96,7 @@ fn push_row<T: Listed>(text: &mut Text, items: &[T]) -> Result<(), AllocError>
 }
 
 // Adds the items of the set, with `, ` between two.
-fn push_set<T: Listed>(text: &mut Text, set: BTreeSet<&T>) -> Result<(), AllocError>
+fn push_set<T: Listed>(text: &mut String, set: BTreeSet<&T>) -> Result<(), AllocError>
     ensures { OnOk result (Adds text.old text.new (joined_by (codes ", ") (map (λ x. T.shown x.now) set.entry.keys))) }
 {
     let mut set = set;
@@ -110,7 +110,7 @@ fn push_set<T: Listed>(text: &mut Text, set: BTreeSet<&T>) -> Result<(), AllocEr
 }
 
 // Adds the items in order, each once, with `, ` between two. They mostly stand so, and nothing is taken then.
-fn push_in_order<T: Listed>(text: &mut Text, alloc: Global, items: &[T]) -> Result<(), AllocError>
+fn push_in_order<T: Listed>(text: &mut String, alloc: Global, items: &[T]) -> Result<(), AllocError>
     ensures { OnOk result (Adds text.old text.new (joined_by (codes ", ") (map T.shown (sorted_once T.cmp items.now)))) }
 {
     if is_rising(items) {
@@ -122,7 +122,7 @@ fn push_in_order<T: Listed>(text: &mut Text, alloc: Global, items: &[T]) -> Resu
 }
 
 // Adds the items in brackets, in order, each once.
-fn push_list<T: Listed>(text: &mut Text, alloc: Global, items: &[T]) -> Result<(), AllocError>
+fn push_list<T: Listed>(text: &mut String, alloc: Global, items: &[T]) -> Result<(), AllocError>
     ensures { OnOk result (Adds text.old text.new (list_text (map T.shown (sorted_once T.cmp items.now)))) }
 {
     push(text, "[")?;
@@ -132,7 +132,7 @@ fn push_list<T: Listed>(text: &mut Text, alloc: Global, items: &[T]) -> Result<(
 }
 
 // Adds ` in ` and the items in brackets, in order, each once; and nothing where there are none.
-fn push_parents<T: Listed>(text: &mut Text, alloc: Global, items: &[T]) -> Result<(), AllocError>
+fn push_parents<T: Listed>(text: &mut String, alloc: Global, items: &[T]) -> Result<(), AllocError>
     ensures { OnOk result (Adds text.old text.new (parents_text (map T.shown (sorted_once T.cmp items.now)))) }
 {
     if items.is_empty() {
@@ -144,7 +144,7 @@ fn push_parents<T: Listed>(text: &mut Text, alloc: Global, items: &[T]) -> Resul
 }
 
 /// Adds the names in brackets, in order, each once.
-pub fn push_names(text: &mut Text, alloc: Global, names: &[Name]) -> Result<(), AllocError>
+pub fn push_names(text: &mut String, alloc: Global, names: &[Name]) -> Result<(), AllocError>
     ensures { OnOk result (Adds text.old text.new (list_text (map name_text (names_content names.now)))) }
 {
     push_list(text, alloc, names)
@@ -152,7 +152,7 @@ pub fn push_names(text: &mut Text, alloc: Global, names: &[Name]) -> Result<(), 
 
 /// Adds ` in ` and the names in brackets, in order, each once; and nothing where there are none.
 pub fn push_name_parents(
-    text: &mut Text,
+    text: &mut String,
     alloc: Global,
     names: &[Shared<Name>],
 ) -> Result<(), AllocError>
@@ -163,7 +163,7 @@ pub fn push_name_parents(
 
 /// Adds ` in ` and the actions in brackets, in order, each once; and nothing where there are none.
 pub fn push_action_parents(
-    text: &mut Text,
+    text: &mut String,
     alloc: Global,
     actions: &[Shared<EntityUID>],
 ) -> Result<(), AllocError>
@@ -173,7 +173,7 @@ pub fn push_action_parents(
 }
 
 /// Adds the ids in brackets, each as a string, as they stand.
-pub fn push_choices(text: &mut Text, choices: &NonEmpty<Eid>) -> Result<(), AllocError>
+pub fn push_choices(text: &mut String, choices: &NonEmpty<Eid>) -> Result<(), AllocError>
     ensures { OnOk result (Adds text.old text.new (list_text (map quoted (map (λ c. c.0) choices.now)))) }
 {
     push(text, "[")?;
@@ -213,7 +213,7 @@ fn lend(alloc: Global, names: &NonEmpty<Name>) -> Result<Vec<&Name>, AllocError>
 }
 
 // Adds the least of several names.
-fn push_least(text: &mut Text, alloc: Global, names: &NonEmpty<Name>) -> Result<(), AllocError>
+fn push_least(text: &mut String, alloc: Global, names: &NonEmpty<Name>) -> Result<(), AllocError>
     ensures { OnOk result (Adds text.old text.new (name_text (first_name (names_content names.now)))) }
 {
     let lent = lend(alloc, names)?;
@@ -226,7 +226,7 @@ fn push_least(text: &mut Text, alloc: Global, names: &NonEmpty<Name>) -> Result<
 
 /// Adds the name of the entities' type; the least where there are several.
 pub fn push_entity_name(
-    text: &mut Text,
+    text: &mut String,
     alloc: Global,
     names: &NonEmpty<Name>,
 ) -> Result<(), AllocError>

@@ -12,7 +12,7 @@ use std::alloc::{AllocError, Global};
 
 /// Adds the type at this indentation.
 #[cycle(push_type)]
-pub fn push_type(text: &mut Text, alloc: Global, base: usize, ty: &Type) -> Result<(), AllocError>
+pub fn push_type(text: &mut String, alloc: Global, base: usize, ty: &Type) -> Result<(), AllocError>
     ensures { OnOk result (Adds text.old text.new (type_text true base (plain_type (type_content ty.now)))) }
 {
     match ty {
@@ -52,7 +52,7 @@ pub fn push_type(text: &mut Text, alloc: Global, base: usize, ty: &Type) -> Resu
 /// Adds the record of these attributes at this indentation: each attribute on a line of its own, two deeper.
 #[cycle(push_type)]
 pub fn push_record(
-    text: &mut Text,
+    text: &mut String,
     alloc: Global,
     base: usize,
     entries: &[(Text, (Type, bool))],
@@ -75,7 +75,7 @@ pub fn push_record(
 // Adds the lines of the attributes of a record that stands at this indentation.
 #[cycle(push_type)]
 fn push_entries(
-    text: &mut Text,
+    text: &mut String,
     alloc: Global,
     base: usize,
     entries: &[(Text, (Type, bool))],

@@ -1,7 +1,8 @@
-use Rattle.std.proofs.Common.{◌++◌, map, refl, ap, sym, ◌∙◌, None}
+use Rattle.std.proofs.Common.{◌++◌, map, refl, ap, sym, ◌∙◌, None, string_bytes}
 use Rattle.std.specs.Option.{option_copied}
 use Rattle.std.specs.Str.{encode_utf8_all}
 use Rattle.std.proofs.lemmas.List.{at_drop_all, append-nil}
+use Rattle.std.proofs.lemmas.Str.{encodes-chars, IsUtf8-string_bytes}
 use Rattle.schema_build_text.specs.Growing.{round, adds_all}
 use Rattle.schema_build_text.specs.Items.{item_content, namespace_behind, after_text}
 use Rattle.schema_build_text.proofs.Walked.{text_behind, printed}
@@ -14,5 +15,7 @@ returns c =
     let left = at_drop_all (λ xs. text_behind behind (map item_content xs)) items c.loop-item.item-index
     c.loop-item-test.false ∙ sym (append-nil (after_text behind)) in
     let e = adds_all (round c.in_ok-push_after.ensures c.loop-item.invariant left) refl in
-    λ s same. e.grown ∙ (ap (λ t. encode_utf8_all t ++ text_behind None (map item_content items)) c.new-text.ensures
-    ∙ (ap (text_behind None) same ∙ printed s))
+    let text = c.push_after.new.text in
+    λ s same. ap encode_utf8_all c.from_string.ensures ∙ encodes-chars (string_bytes text) (IsUtf8-string_bytes text)
+    ∙ (e.grown ∙ (ap (λ t. t ++ text_behind None (map item_content items)) c.new-text.ensures.bytes
+    ∙ (ap (text_behind None) same ∙ printed s)))
