@@ -64,16 +64,6 @@ id_by_bytes w s =
           ]
     ]
 
--- a value that is pushed as a string
-pub string_added : {Z : Type 0} {old new : String Z} (value s front written shown : List ℕ)
-    → s ≡ encode_utf8_all value → all_scalars value ≡ true → front ≡ []
-    → written ≡ front ++ chars (quoted (chars s)) → shown ≡ encode_utf8_all written
-    → Adds old new shown → Adds old new (quoted value)
-string_added value s front written shown b sc f w v e =
-    let same : chars s ≡ value = ap chars b ∙ chars-encodes value sc in
-    so e (v ∙ ap encode_utf8_all (w ∙ ap (λ t. t ++ chars (quoted (chars s))) f ∙ ap (λ t. chars (quoted t)) same)
-    ∙ encodes-chars (quoted value) (quoted_utf8 value sc))
-
 -- a bare name of an attribute that is pushed
 pub bare_added : {Z : Type 0} {old new : String Z} {s : List ℕ} (name : List ℕ) → Adds old new s → s ≡ encode_utf8_all name → is_id name ≡ true
     → Adds old new (attribute_name name)
@@ -85,6 +75,12 @@ pub quoted_added : {Z : Type 0} {old new : String Z} (name : List ℕ) → Adds 
     → Adds old new (attribute_name name)
 quoted_added name e h = so e (sym (ap (λ (t : Bool). if t then name else quoted name) h))
 
--- one space, and those after it
-pub spaces_step : (n m : ℕ) → n ≡ m + 1 → spaces n ≡ codes " " ++ spaces m
-spaces_step n m e = rw (e, add-one) refl
+space_step : (n m : ℕ) → n ≡ m + 1 → spaces n ≡ codes " " ++ spaces m
+space_step n m e = rw (e, add-one) refl
+
+-- four spaces, and those after them
+pub spaces_step : (n m : ℕ) → n ≡ m + 4 → spaces n ≡ codes "    " ++ spaces m
+spaces_step n m e =
+    space_step n (m + 3) (omega (arith, e)) ∙ ap (λ t. codes " " ++ t)
+    (space_step (m + 3) (m + 2) (omega arith) ∙ ap (λ t. codes " " ++ t)
+    (space_step (m + 2) (m + 1) (omega arith) ∙ ap (λ t. codes " " ++ t) (space_step (m + 1) m refl)))

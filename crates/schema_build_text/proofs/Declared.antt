@@ -3,11 +3,12 @@ use Rattle.std.proofs.Common.{◌≡◌, ℕ, ◌+◌, suc, ◌==◌, Bool, true
 use Rattle.std.proofs.Common.{refl, ap, sym, ◌∙◌, append_assoc, arith}
 use Rattle.std.proofs.lemmas.Bool.{eqb-true, ne_eqb}
 use Rattle.std.specs.Cmp.Lexicographic.{slice_cmp}
+use Rattle.cedar_data.specs.Rows.{joined_by}
 use Rattle.cedar_data.specs.Text.{text_cmp}
 use Rattle.cedar_identifiers.specs.Names.{components_of, name_text}
 use Rattle.cedar_identifiers.specs.declared.name.Name.{Name}
 use Rattle.cedar_names.specs.declared.entity_uid.EntityUID.{EntityUID}
-use Rattle.cedar_names.specs.CanonicalText.{applies_text, context_text, shape_text, record_text, list_text, spaces}
+use Rattle.cedar_names.specs.CanonicalText.{applies_text, context_text, shape_text, record_text, lines_text, list_text, spaces}
 use Rattle.cedar_names.specs.Meaning.{Attributes}
 use Rattle.schema_build_types.specs.Content.{entity_content, action_content, names_content, attributes_content}
 use Rattle.schema_build_types.specs.declared.types.Type.{«Type»}
@@ -41,8 +42,8 @@ no_shape base [] h = refl
 no_shape base (e ∷ es) h = absurd (omega (arith, eqb-true (length (e ∷ es)) 0 h))
 
 pub some_shape : (base : ℕ) (entries : List (List ℕ × («Type» × Bool))) → (length entries == 0) ≡ false
-    → codes " = " ++ record_text true base (plain_attributes (attributes_content entries))
-    ≡ shape_text true base (plain_attributes (attributes_content entries))
+    → codes " = {\n" ++ (lines_text true base (plain_attributes (attributes_content entries))
+    ++ (spaces base ++ codes "}")) ≡ shape_text true base (plain_attributes (attributes_content entries))
 some_shape base [] h = absurd (cc)
 some_shape base (e ∷ es) h = refl
 
@@ -93,6 +94,15 @@ block_text base inner ps rs context =
     ++ ((spaces inner ++ (codes "resource: " ++ (list_text (map name_text rs) ++ codes ",\n")))
     ++ (spaces inner ++ (codes "context: "
     ++ (context_text true inner context ++ (codes ",\n" ++ (spaces base ++ codes "}")))))))
+
+-- a line of names
+pub names_line : (a h : List ℕ) (names : List (List ℕ))
+    → a ++ ((h ++ codes "[") ++ (joined_by (codes ", ") names ++ codes "],\n"))
+    ≡ a ++ (h ++ (list_text names ++ codes ",\n"))
+names_line a h names =
+    let row = joined_by (codes ", ") names in
+    ap (λ t. a ++ t) (append_assoc h (codes "[") (row ++ codes "],\n")
+    ∙ ap (λ t. h ++ (codes "[" ++ t)) (sym (append_assoc row (codes "]") (codes ",\n"))))
 
 line_assoc : (a h l b : List ℕ) → (a ++ (h ++ (l ++ codes ",\n"))) ++ b ≡ a ++ (h ++ (l ++ (codes ",\n" ++ b)))
 line_assoc a h l b =

@@ -83,22 +83,33 @@ pub record_filled : (base : ℕ) (entries : List (List ℕ × («Type» × Bool)
 record_filled base [] h = absurd (cc)
 record_filled base (e ∷ es) h = refl
 
--- what stands between the name of an attribute and its type
-abbrev pub colon : Bool → List ℕ
-colon required = (if required then [] else codes "?") ++ codes ": "
+-- a set in the line of an attribute
+pub set_laid : (base : ℕ) (t u v : «Type») → t ≡ built.Set (Some v) → u ≡ v
+    → codes ": Set<" ++ (type_text true base (plain_type (type_content u)) ++ codes ">,\n")
+    ≡ codes ": " ++ (type_text true base (plain_type (type_content t)) ++ codes ",\n")
+set_laid base t u v e f =
+    let element = type_text true base (plain_type (type_content v)) in
+    ap (λ x. codes ": Set<" ++ (type_text true base (plain_type (type_content x)) ++ codes ">,\n")) f
+    ∙ (ap (λ x. codes ": Set<" ++ x) (sym (append_assoc element (codes ">") (codes ",\n")))
+    ∙ ap (λ x. codes ": " ++ (x ++ codes ",\n"))
+    (shown base t (built.Set (Some v)) (said.Set (type_content v)) (codes "Set<" ++ (element ++ codes ">")) e
+    (set_says v) refl))
+
+-- what stands behind the name of an attribute
+abbrev pub behind_name : ℕ → Bool → PlainType → List ℕ
+behind_name base required t =
+    (if required then [] else codes "?") ++ (codes ": " ++ (type_text true base t ++ codes ",\n"))
 
 line_laid : (base : ℕ) (n : List ℕ) (r : Bool) (t : PlainType) (xs : Attributes)
     → lines_text true base (attribute n r t xs)
-    ≡ (spaces (base + 2) ++ (attribute_name n ++ (colon r ++ (type_text true (base + 2) t ++ codes ",\n"))))
-    ++ lines_text true base xs
+    ≡ (spaces (base + 2) ++ (attribute_name n ++ behind_name (base + 2) r t)) ++ lines_text true base xs
 line_laid base n r t xs = simp append_assoc
 
 -- one attribute, and those after it
 pub entry_step : (base inner : ℕ) (entries : List (List ℕ × («Type» × Bool))) (i : ℕ) (d : List ℕ × («Type» × Bool))
     → inner ≡ base + 2 → i < length entries → d ≡ get_or entries i d
     → lines_text true base (plain_attributes (attributes_content (drop i entries)))
-    ≡ (spaces inner ++ (attribute_name d.0
-    ++ (colon d.1.1 ++ (type_text true inner (plain_type (type_content d.1.0)) ++ codes ",\n"))))
+    ≡ (spaces inner ++ (attribute_name d.0 ++ behind_name inner d.1.1 (plain_type (type_content d.1.0))))
     ++ lines_text true base (plain_attributes (attributes_content (drop (i + 1) entries)))
 entry_step base inner entries i d k h e =
     rw k (ap (λ es. lines_text true base (plain_attributes (attributes_content es))) (dropped entries i d h e)

@@ -11,5 +11,6 @@ pub mod Parts
 mod Plain
 pub mod Rowed
 mod Sizes
+mod Strings
 mod Uncaptured
 mod Walked

@@ -5,4 +5,5 @@ pub mod Growing
 pub mod Items
 pub mod Readings
 pub mod Rows
+pub mod Strings
 pub mod Walk

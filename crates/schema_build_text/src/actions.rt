@@ -1,6 +1,7 @@
 ghost use Rattle.std.specs.Prelude.{◌≡◌, ◌++◌, OnOk, true, codes, map};
+ghost use Rattle.cedar_data.specs.Rows.{joined_by};
 ghost use Rattle.cedar_identifiers.specs.Names.{name_text};
-ghost use Rattle.cedar_names.specs.CanonicalText.{spaces, parents_text, list_text, context_text, applies_text, action_name_text, action_text};
+ghost use Rattle.cedar_names.specs.CanonicalText.{spaces, parents_text, context_text, applies_text, action_name_text, action_text};
 ghost use Rattle.schema_build_types.specs.Content.{type_content, attributes_content, names_content, actions_in_order, action_content};
 ghost use Rattle.schema_syntax_tokens.specs.Quotes.{quoted};
 ghost use Rattle.schema_build_text.specs.Adds.{Adds};
@@ -49,7 +50,7 @@ fn push_context(
     }
 }
 
-// Adds a line that begins so, with the names in brackets and a comma.
+// Adds a line that begins so, with the names, a bracket and a comma.
 fn push_names_line(
     text: &mut String,
     alloc: Global,
@@ -57,12 +58,12 @@ fn push_names_line(
     head: &str,
     names: &[Name],
 ) -> Result<(), AllocError>
-    ensures { OnOk result (Adds text.old text.new (spaces base ++ (head.now ++ (list_text (map name_text (names_content names.now)) ++ codes ",\n")))) }
+    ensures { OnOk result (Adds text.old text.new (spaces base ++ (head.now ++ (joined_by (codes ", ") (map name_text (names_content names.now)) ++ codes "],\n")))) }
 {
     push_spaces(text, base)?;
     push(text, head)?;
     push_names(text, alloc, names)?;
-    push(text, ",\n")?;
+    push(text, "],\n")?;
     Ok(())
 }
 
@@ -85,8 +86,8 @@ fn push_applies(
     }
     let inner = deeper(base)?;
     push(text, " appliesTo {\n")?;
-    push_names_line(text, alloc, inner, "principal: ", principals)?;
-    push_names_line(text, alloc, inner, "resource: ", resources)?;
+    push_names_line(text, alloc, inner, "principal: [", principals)?;
+    push_names_line(text, alloc, inner, "resource: [", resources)?;
     push_spaces(text, inner)?;
     push(text, "context: ")?;
     push_context(text, alloc, inner, context)?;

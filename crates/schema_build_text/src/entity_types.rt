@@ -11,7 +11,7 @@ ghost use Rattle.schema_build_text.specs.Items.{entity_declaration};
 use crate::names::push_basename;
 use crate::pushing::{push, push_spaces};
 use crate::rows::{push_choices, push_name_parents};
-use crate::types::{push_record, push_type};
+use crate::types::{push_members, push_type};
 use cedar_data::{Boxed, NonEmpty, Shared, Text};
 use cedar_identifiers::{Eid, Name};
 use schema_build_types::{Type, ValidatorEntityType, ValidatorEntityTypeKind};
@@ -29,8 +29,8 @@ fn push_shape(
     if entries.is_empty() {
         return Ok(());
     }
-    push(text, " = ")?;
-    push_record(text, alloc, base, entries)?;
+    push(text, " = {\n")?;
+    push_members(text, alloc, base, entries)?;
     Ok(())
 }
 

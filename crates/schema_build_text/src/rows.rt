@@ -121,16 +121,6 @@ fn push_in_order<T: Listed>(text: &mut String, alloc: Global, items: &[T]) -> Re
     }
 }
 
-// Adds the items in brackets, in order, each once.
-fn push_list<T: Listed>(text: &mut String, alloc: Global, items: &[T]) -> Result<(), AllocError>
-    ensures { OnOk result (Adds text.old text.new (list_text (map T.shown (sorted_once T.cmp items.now)))) }
-{
-    push(text, "[")?;
-    push_in_order(text, alloc, items)?;
-    push(text, "]")?;
-    Ok(())
-}
-
 // Adds ` in ` and the items in brackets, in order, each once; and nothing where there are none.
 fn push_parents<T: Listed>(text: &mut String, alloc: Global, items: &[T]) -> Result<(), AllocError>
     ensures { OnOk result (Adds text.old text.new (parents_text (map T.shown (sorted_once T.cmp items.now)))) }
@@ -138,16 +128,17 @@ fn push_parents<T: Listed>(text: &mut String, alloc: Global, items: &[T]) -> Res
     if items.is_empty() {
         return Ok(());
     }
-    push(text, " in ")?;
-    push_list(text, alloc, items)?;
+    push(text, " in [")?;
+    push_in_order(text, alloc, items)?;
+    push(text, "]")?;
     Ok(())
 }
 
-/// Adds the names in brackets, in order, each once.
+/// Adds the names in order, each once, with `, ` between two.
 pub fn push_names(text: &mut String, alloc: Global, names: &[Name]) -> Result<(), AllocError>
-    ensures { OnOk result (Adds text.old text.new (list_text (map name_text (names_content names.now)))) }
+    ensures { OnOk result (Adds text.old text.new (joined_by (codes ", ") (map name_text (names_content names.now)))) }
 {
-    push_list(text, alloc, names)
+    push_in_order(text, alloc, names)
 }
 
 /// Adds ` in ` and the names in brackets, in order, each once; and nothing where there are none.

@@ -1,10 +1,10 @@
-ghost use Rattle.std.specs.Prelude.{◌≡◌, OnOk, true};
-ghost use Rattle.cedar_names.specs.CanonicalText.{type_text, lines_text, record_text};
+ghost use Rattle.std.specs.Prelude.{◌≡◌, ◌++◌, ℕ, OnOk, IfSome, true, codes};
+ghost use Rattle.cedar_names.specs.CanonicalText.{type_text, lines_text, record_text, spaces};
 ghost use Rattle.schema_build_types.specs.Content.{type_content, attributes_content};
 ghost use Rattle.schema_build_text.specs.Adds.{Adds};
 ghost use Rattle.schema_build_text.specs.Readings.{plain_type, plain_attributes};
 
-use crate::pushing::{deeper, push, push_attribute_name, push_colon, push_spaces};
+use crate::pushing::{deeper, push, push_attribute_name, push_mark, push_spaces};
 use crate::rows::push_entity_name;
 use cedar_data::Text;
 use schema_build_types::Type;
@@ -49,6 +49,52 @@ pub fn push_type(text: &mut String, alloc: Global, base: usize, ty: &Type) -> Re
     }
 }
 
+// What stands behind the name of a required attribute that is a set of a built-in type, to the end of its line.
+fn set_line(element: &Type) -> Option<&'static str>
+    ensures { IfSome result (λ line. (base : ℕ) → line.now ≡ codes ": Set<" ++ (type_text true base (plain_type (type_content element.now)) ++ codes ">,\n")) }
+{
+    match element {
+        Type::Never | Type::AnyBool | Type::True | Type::False => Some(": Set<__cedar::Bool>,\n"),
+        Type::Long => Some(": Set<__cedar::Long>,\n"),
+        Type::String => Some(": Set<__cedar::String>,\n"),
+        Type::Set { .. } | Type::Record { .. } | Type::Entity { .. } => None,
+        Type::AnyEntity | Type::Extension { .. } => None,
+    }
+}
+
+// What stands behind the name of a required attribute of a built-in type, to the end of its line.
+fn short_line(ty: &Type) -> Option<&'static str>
+    ensures { IfSome result (λ line. (base : ℕ) → line.now ≡ codes ": " ++ (type_text true base (plain_type (type_content ty.now)) ++ codes ",\n")) }
+{
+    match ty {
+        Type::Never | Type::AnyBool | Type::True | Type::False => Some(": __cedar::Bool,\n"),
+        Type::Long => Some(": __cedar::Long,\n"),
+        Type::String => Some(": __cedar::String,\n"),
+        Type::Set { element } => match element {
+            Some(element) => set_line(element.get()),
+            None => None,
+        },
+        Type::Record { .. } | Type::Entity { .. } => None,
+        Type::AnyEntity | Type::Extension { .. } => None,
+    }
+}
+
+// Adds what stands behind the name of a required attribute, to the end of its line.
+#[cycle(push_type)]
+fn push_line(text: &mut String, alloc: Global, base: usize, ty: &Type) -> Result<(), AllocError>
+    ensures { OnOk result (Adds text.old text.new (codes ": " ++ (type_text true base (plain_type (type_content ty.now)) ++ codes ",\n"))) }
+{
+    match short_line(ty) {
+        Some(line) => push(text, line),
+        None => {
+            push(text, ": ")?;
+            push_type(text, alloc, base, ty)?;
+            push(text, ",\n")?;
+            Ok(())
+        }
+    }
+}
+
 /// Adds the record of these attributes at this indentation: each attribute on a line of its own, two deeper.
 #[cycle(push_type)]
 pub fn push_record(
@@ -66,6 +112,20 @@ pub fn push_record(
         return Ok(());
     }
     push(text, "{\n")?;
+    push_members(text, alloc, base, entries)?;
+    Ok(())
+}
+
+/// Adds what stands behind the first line of the record of these attributes at this indentation.
+#[cycle(push_type)]
+pub fn push_members(
+    text: &mut String,
+    alloc: Global,
+    base: usize,
+    entries: &[(Text, (Type, bool))],
+) -> Result<(), AllocError>
+    ensures { OnOk result (Adds text.old text.new (lines_text true base (plain_attributes (attributes_content entries.now)) ++ (spaces base ++ codes "}"))) }
+{
     push_entries(text, alloc, base, entries)?;
     push_spaces(text, base)?;
     push(text, "}")?;
@@ -86,9 +146,8 @@ fn push_entries(
     for (name, (ty, required)) in entries {
         push_spaces(text, inner)?;
         push_attribute_name(text, name)?;
-        push_colon(text, *required)?;
-        push_type(text, alloc, inner, ty)?;
-        push(text, ",\n")?;
+        push_mark(text, *required)?;
+        push_line(text, alloc, inner, ty)?;
     }
     Ok(())
 }

@@ -1,8 +1,10 @@
-use Rattle.std.proofs.Common.{sym, ◌∙◌}
-use Rattle.schema_build_types.specs.Content.{type_content}
+use Rattle.std.proofs.Common.{codes, map, sym, ◌∙◌}
+use Rattle.cedar_identifiers.specs.Names.{name_text}
+use Rattle.cedar_names.specs.CanonicalText.{spaces}
+use Rattle.schema_build_types.specs.Content.{type_content, names_content}
 use Rattle.schema_build_text.specs.Growing.{adds_nothing, then, so}
 use Rattle.schema_build_text.specs.Readings.{context_attributes}
-use Rattle.schema_build_text.proofs.Declared.{no_principals, no_resources, both_targets}
+use Rattle.schema_build_text.proofs.Declared.{no_principals, no_resources, both_targets, names_line}
 use Rattle.schema_build_text.proofs.actions.push_applies.Goals as goal
 
 pub returns-then-is_empty : goal.returns-then-is_empty
@@ -20,8 +22,11 @@ returns-then-is_empty-2 c =
 pub returns : goal.returns
 returns c =
     so
-    (then c.in_ok-push.ensures (then c.in_ok-push_names_line.ensures
-    (then c.in_ok-push_names_line-2.ensures
+    (then c.in_ok-push.ensures
+    (then (so c.in_ok-push_names_line.ensures (names_line (spaces c.in_ok-inner.inner) (codes "principal: ")
+    (map name_text (names_content c.args.principals.now))))
+    (then (so c.in_ok-push_names_line-2.ensures (names_line (spaces c.in_ok-inner.inner) (codes "resource: ")
+    (map name_text (names_content c.args.resources.now))))
     (then c.in_ok-push_spaces.ensures
     (then c.in_ok-push-2.ensures (then c.in_ok-push_context.ensures
     (then c.in_ok-push-3.ensures (then c.in_ok-push_spaces-2.ensures c.in_ok-push-4.ensures))))))))

@@ -8,5 +8,5 @@ returns-then-is_empty c = so (adds_nothing c.args.text.now)
     (no_shape c.args.base c.args.entries.now (sym c.is_empty.ensures ∙ c.if-is_empty.true))
 
 pub returns : goal.returns
-returns c = so (then c.in_ok-push.ensures c.in_ok-push_record.ensures)
+returns c = so (then c.in_ok-push.ensures c.in_ok-push_members.ensures)
     (some_shape c.args.base c.args.entries.now (sym c.is_empty.ensures ∙ c.if-is_empty.false))

@@ -1,6 +1,6 @@
-use Rattle.std.proofs.Common.{◌≡◌, ◌-◌, ap, arith}
+use Rattle.std.proofs.Common.{◌-◌, arith}
 use Rattle.cedar_names.specs.CanonicalText.{spaces}
-use Rattle.schema_build_text.specs.Growing.{begun, round, adds_all}
+use Rattle.schema_build_text.specs.Growing.{begun, round}
 use Rattle.schema_build_text.proofs.Bytes.{spaces_step}
 use Rattle.schema_build_text.proofs.pushing.push_spaces.Goals as goal
 
@@ -9,7 +9,4 @@ loop-left-init c = begun c.args.text.now (spaces c.args.count)
 
 pub loop-left-preserved : goal.loop-left-preserved
 loop-left-preserved c = round c.in_ok-push.ensures c.loop-left.invariant
-    (spaces_step c.loop-left.left (c.loop-left.left - 1) (omega arith))
-
-pub returns : goal.returns
-returns c = let none : c.loop-left.left ≡ 0 = omega arith in adds_all c.loop-left.invariant (ap spaces none)
+    (spaces_step c.loop-left.left (c.loop-left.left - 4) (omega arith))

@@ -10,5 +10,5 @@ returns-then-is_empty g c =
 
 pub returns : goal.returns
 returns g c =
-    so (then c.in_ok-push.ensures c.in_ok-push_list.ensures)
+    so (then c.in_ok-push.ensures (then c.in_ok-push_in_order.ensures c.in_ok-push-2.ensures))
     (some_parents g.T.Listed.shown g.T.Ord.cmp c.args.items.now (sym c.is_empty.ensures ∙ c.if-is_empty.false))

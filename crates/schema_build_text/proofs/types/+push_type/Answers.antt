@@ -86,9 +86,11 @@ push_type-returns-in-Entity t c =
 
 pub push_record-returns : goal.push_record-returns
 push_record-returns t c =
-    so (then c.in_ok-push-3.ensures
-    (then c.in_ok-push_entries.ensures (then c.in_ok-push_spaces-2.ensures c.in_ok-push-4.ensures)))
+    so (then c.in_ok-push-3.ensures c.in_ok-push_members.ensures)
     (record_filled c.args.base c.args.entries.now (sym c.is_empty.ensures ∙ c.if-is_empty.false))
+
+pub push_line-returns-in-Some : goal.push_line-returns-in-Some
+push_line-returns-in-Some t c = on_ok_weaker c.push.result (λ e. so e (c.in-Some.ensures c.args.base)) c.push.ensures
 
 pub push_entries-loop-name-init : goal.push_entries-loop-name-init
 push_entries-loop-name-init t c = begun c.args.text.now _
@@ -98,7 +100,7 @@ push_entries-loop-name-preserved t c =
     round
     (then c.in_ok-push_spaces.ensures
     (then c.in_ok-push_attribute_name.ensures
-    (then c.in_ok-push_colon.ensures (then c.in_ok-push_type.ensures c.in_ok-push.ensures))))
+    (then c.in_ok-push_mark.ensures c.in_ok-push_line.ensures)))
     c.loop-name.invariant
     (entry_step c.args.base c.in_ok-inner.inner c.args.entries.now c.loop-name.name-index c.loop-name-item.result
     c.in_ok-inner.ensures c.loop-name-test.true c.loop-name-item.is)
@@ -109,8 +111,8 @@ push_entries-returns t c =
     (at_drop_all (λ es. lines_text true c.args.base (plain_attributes (attributes_content es))) c.args.entries.now
     c.loop-name.name-index c.loop-name-test.false)
 
-pub push_entries-push_type-requires : goal.push_entries-push_type-requires
-push_entries-push_type-requires t c =
+pub push_entries-push_line-requires : goal.push_entries-push_line-requires
+push_entries-push_line-requires t c =
     let it = c.loop-name-item.result in
     let le = most_at (λ p. size-Type p.0) c.args.entries.now c.loop-name.name-index it c.loop-name-test.true in
     let same : size-Type it.1.0 ≡ size-Type (get_or c.args.entries.now c.loop-name.name-index it).1.0 = ap

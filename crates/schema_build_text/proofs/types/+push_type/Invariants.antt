@@ -9,13 +9,19 @@ use Rattle.schema_build_text.specs.Readings.{plain_attributes}
 use Rattle.schema_build_text.proofs.types.+push_type.Given as goal
 
 abbrev pub decreases-push_type : goal.decreases-push_type
-decreases-push_type l = 3 * goal.size-push_type l
+decreases-push_type l = 5 * goal.size-push_type l
+
+abbrev pub decreases-push_line : goal.decreases-push_line
+decreases-push_line l = 5 * size-Type l.ty.now + 1
 
 abbrev pub decreases-push_record : goal.decreases-push_record
-decreases-push_record l = 3 * most (λ p. size-Type p.0) (values_of l.entries.now) + 2
+decreases-push_record l = 5 * most (λ p. size-Type p.0) (values_of l.entries.now) + 4
+
+abbrev pub decreases-push_members : goal.decreases-push_members
+decreases-push_members l = 5 * most (λ p. size-Type p.0) (values_of l.entries.now) + 3
 
 abbrev pub decreases-push_entries : goal.decreases-push_entries
-decreases-push_entries l = 3 * most (λ p. size-Type p.0) (values_of l.entries.now) + 1
+decreases-push_entries l = 5 * most (λ p. size-Type p.0) (values_of l.entries.now) + 2
 
 abbrev pub invariant-push_entries-loop-name : goal.invariant-push_entries-loop-name
 invariant-push_entries-loop-name l =

@@ -1,0 +1,18 @@
+use Rattle.std.proofs.Common.{◌++◌, ap, codes, refl}
+use Rattle.schema_build_types.specs.declared.types.Type.TheVariants as built
+use Rattle.schema_build_types.specs.Content as said
+use Rattle.schema_build_text.proofs.Layers.{shown, bool_shown, long_says, string_says}
+use Rattle.schema_build_text.proofs.types.set_line.Goals as goal
+
+pub returns-in-Never : goal.returns-in-Never
+returns-in-Never c base = ap (λ t. codes ": Set<" ++ (t ++ codes ">,\n")) (bool_shown base c.args.element.now c.in-Never.is)
+
+pub returns-in-Long : goal.returns-in-Long
+returns-in-Long c base =
+    ap (λ t. codes ": Set<" ++ (t ++ codes ">,\n"))
+    (shown base c.args.element.now built.Long said.Long (codes "__cedar::Long") c.in-Long.is long_says refl)
+
+pub returns-in-String : goal.returns-in-String
+returns-in-String c base =
+    ap (λ t. codes ": Set<" ++ (t ++ codes ">,\n"))
+    (shown base c.args.element.now built.String said.String (codes "__cedar::String") c.in-String.is string_says refl)
