@@ -7,6 +7,7 @@ pub mod InOrder
 pub mod Layers
 mod Meant
 pub mod Named
+mod Opened
 pub mod Parts
 mod Plain
 pub mod Rowed

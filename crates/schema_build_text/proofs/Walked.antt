@@ -29,7 +29,7 @@ use Rattle.schema_build_text.proofs.Grouped.{Rises, rises_sorted}
 use Rattle.schema_build_text.proofs.Named.{same_list}
 use Rattle.schema_build_text.proofs.Rowed.{map_both, in_order_is}
 
-abbrev Name : Type 0
+abbrev pub Name : Type 0
 Name = List (List ℕ)
 
 pub names_total : IsTotalOrder (slice_cmp text_cmp)

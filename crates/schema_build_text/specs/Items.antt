@@ -2,7 +2,7 @@
 use Rattle.std.specs.Prelude.{ℕ, true, Option, Some, None, List, [], ◌∷◌, ◌++◌, codes, if◌then◌else◌}
 use Rattle.cedar_identifiers.specs.Names.{components_of, name_text}
 use Rattle.cedar_identifiers.specs.declared.internal_name.InternalName.{InternalName}
-use Rattle.cedar_names.specs.CanonicalText.{namespace, line_end, external_head, own_head, entity_type_text, action_head}
+use Rattle.cedar_names.specs.CanonicalText.{namespace, line_end, spaces, external_head, own_head, entity_type_text, action_head}
 use Rattle.cedar_names.specs.CanonicalText.{applies_text, action_text}
 use Rattle.cedar_names.specs.Meaning.{EntityMeaning, ActionMeaning}
 use Rattle.cedar_names.specs.Definitions.{same_name}
@@ -32,6 +32,15 @@ abbrev pub item_text : ℕ → ItemContent → List ℕ
 item_text base (entity_type e) = entity_type_text true base (entity_reading e)
 item_text base (action a) = action_text true base (action_reading a)
 
+-- the same up to the semicolon
+abbrev pub item_front : ℕ → ItemContent → List ℕ
+item_front base (entity_type e) = spaces base ++ entity_declaration base (entity_reading e)
+item_front base (action a) = spaces base ++ action_declaration base (action_reading a)
+
+-- the end of an item
+abbrev pub item_end : List ℕ
+item_end = codes ";\n"
+
 -- the items of the empty namespace stand at no indentation
 abbrev pub base_in : List (List ℕ) → ℕ
 base_in [] = 0
@@ -60,6 +69,15 @@ before_text (Some m) n = break_between m n
 abbrev pub after_text : Option (List (List ℕ)) → List ℕ
 after_text None = []
 after_text (Some m) = closing m
+
+-- the same, behind the end of the item before where there is one
+abbrev pub break_text : Option (List (List ℕ)) → List (List ℕ) → List ℕ
+break_text None n = opening n
+break_text (Some m) n = item_end ++ break_between m n
+
+abbrev pub end_text : Option (List (List ℕ)) → List ℕ
+end_text None = []
+end_text (Some m) = item_end ++ closing m
 
 -- the namespace of a name, where there is one
 abbrev pub namespace_behind : Option InternalName → Option (List (List ℕ))

@@ -1,7 +1,7 @@
 ghost use Rattle.std.specs.Prelude.{◌≡◌, ◌++◌, OnOk, true, codes, map};
 ghost use Rattle.cedar_data.specs.Rows.{joined_by};
 ghost use Rattle.cedar_identifiers.specs.Names.{name_text};
-ghost use Rattle.cedar_names.specs.CanonicalText.{spaces, parents_text, context_text, applies_text, action_name_text, action_text};
+ghost use Rattle.cedar_names.specs.CanonicalText.{spaces, parents_text, context_text, applies_text, action_name_text};
 ghost use Rattle.schema_build_types.specs.Content.{type_content, attributes_content, names_content, actions_in_order, action_content};
 ghost use Rattle.schema_syntax_tokens.specs.Quotes.{quoted};
 ghost use Rattle.schema_build_text.specs.Adds.{Adds};
@@ -142,7 +142,7 @@ fn push_declaration(
     }
 }
 
-/// Adds the action on lines of its own.
+/// Adds the action on lines of its own, up to its semicolon.
 pub fn push_action(
     text: &mut String,
     alloc: Global,
@@ -150,10 +150,9 @@ pub fn push_action(
     uid: &EntityUID,
     action: &ValidatorActionId,
 ) -> Result<(), AllocError>
-    ensures { OnOk result (Adds text.old text.new (action_text true base (action_reading (action_content (uid.now, action.now))))) }
+    ensures { OnOk result (Adds text.old text.new (spaces base ++ action_declaration base (action_reading (action_content (uid.now, action.now))))) }
 {
     push_spaces(text, base)?;
     push_declaration(text, alloc, base, uid, action)?;
-    push(text, ";\n")?;
     Ok(())
 }

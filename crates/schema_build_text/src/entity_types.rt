@@ -1,7 +1,7 @@
 ghost use Rattle.std.specs.Prelude.{◌≡◌, ◌++◌, OnOk, true, codes, map};
 ghost use Rattle.std.specs.Option.{option_map};
 ghost use Rattle.cedar_identifiers.specs.Names.{components_of, name_text};
-ghost use Rattle.cedar_names.specs.CanonicalText.{basename, parents_text, list_text, shape_text, tags_text, entity_type_text};
+ghost use Rattle.cedar_names.specs.CanonicalText.{basename, parents_text, list_text, shape_text, tags_text, spaces};
 ghost use Rattle.schema_build_types.specs.Content.{type_content, attributes_content, names_content, entity_content};
 ghost use Rattle.schema_syntax_tokens.specs.Quotes.{quoted};
 ghost use Rattle.schema_build_text.specs.Adds.{Adds};
@@ -124,7 +124,7 @@ fn push_declaration(
     }
 }
 
-/// Adds the entity type on lines of its own.
+/// Adds the entity type on lines of its own, up to its semicolon.
 pub fn push_entity_type(
     text: &mut String,
     alloc: Global,
@@ -132,10 +132,9 @@ pub fn push_entity_type(
     name: &Name,
     entity: &ValidatorEntityType,
 ) -> Result<(), AllocError>
-    ensures { OnOk result (Adds text.old text.new (entity_type_text true base (entity_reading (entity_content (name.now, entity.now))))) }
+    ensures { OnOk result (Adds text.old text.new (spaces base ++ entity_declaration base (entity_reading (entity_content (name.now, entity.now))))) }
 {
     push_spaces(text, base)?;
     push_declaration(text, alloc, base, name, entity)?;
-    push(text, ";\n")?;
     Ok(())
 }

@@ -3,7 +3,7 @@ ghost use Rattle.cedar_identifiers.specs.Names.{components_of};
 ghost use Rattle.cedar_names.specs.CanonicalText.{namespace};
 ghost use Rattle.schema_build_types.specs.Content.{content};
 ghost use Rattle.schema_build_text.specs.Adds.{Adds};
-ghost use Rattle.schema_build_text.specs.Items.{item_content, item_text};
+ghost use Rattle.schema_build_text.specs.Items.{item_content, item_front};
 ghost use Rattle.schema_build_text.specs.Walk.{namespace_of, items_of, walk};
 
 use crate::actions::push_action;
@@ -62,14 +62,14 @@ pub fn items_in_order<'a>(
     Ok(items)
 }
 
-/// Adds the item on lines of its own.
+/// Adds the item on lines of its own, up to its semicolon.
 pub fn push_item(
     text: &mut String,
     alloc: Global,
     base: usize,
     item: &Item<'_>,
 ) -> Result<(), AllocError>
-    ensures { OnOk result (Adds text.old text.new (item_text base (item_content item.now))) }
+    ensures { OnOk result (Adds text.old text.new (item_front base (item_content item.now))) }
 {
     match item {
         Item::EntityType(name, ty) => push_entity_type(text, alloc, base, name, ty),

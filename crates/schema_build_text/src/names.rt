@@ -5,7 +5,7 @@ ghost use Rattle.cedar_identifiers.specs.Names.{components_of, name_text, texts_
 ghost use Rattle.cedar_names.specs.CanonicalText.{basename, namespace};
 ghost use Rattle.cedar_names.specs.Definitions.{same_name};
 ghost use Rattle.schema_build_text.specs.Adds.{Adds};
-ghost use Rattle.schema_build_text.specs.Items.{base_in, opening, closing, break_between};
+ghost use Rattle.schema_build_text.specs.Items.{base_in, item_end, opening, closing, break_between};
 
 use crate::pushing::push;
 use cedar_identifiers::{Id, InternalName};
@@ -67,28 +67,28 @@ pub fn push_opening(text: &mut String, name: &InternalName) -> Result<(), AllocE
     }
 }
 
-/// Adds the end of the name's namespace, where that has a name.
+/// Adds the end of an item, and behind it the end of the name's namespace, where that has a name.
 pub fn push_closing(text: &mut String, name: &InternalName) -> Result<(), AllocError>
-    ensures { OnOk result (Adds text.old text.new (closing (namespace (components_of name.now)))) }
+    ensures { OnOk result (Adds text.old text.new (item_end ++ closing (namespace (components_of name.now)))) }
 {
     if name.others.as_slice().is_empty() {
-        Ok(())
+        push(text, ";\n")
     } else {
-        push(text, "}\n")
+        push(text, ";\n}\n")
     }
 }
 
-/// Adds what stands between an item whose namespace is that of the one name and an item whose namespace is that of the
-/// other.
+/// Adds the end of an item whose namespace is that of the one name, and what stands between it and an item whose namespace
+/// is that of the other.
 pub fn push_break(
     text: &mut String,
     before: &InternalName,
     behind: &InternalName,
 ) -> Result<(), AllocError>
-    ensures { OnOk result (Adds text.old text.new (break_between (namespace (components_of before.now)) (namespace (components_of behind.now)))) }
+    ensures { OnOk result (Adds text.old text.new (item_end ++ break_between (namespace (components_of before.now)) (namespace (components_of behind.now)))) }
 {
     if are_together(before, behind) {
-        return push(text, "\n");
+        return push(text, ";\n\n");
     }
     push_closing(text, before)?;
     push(text, "\n")?;

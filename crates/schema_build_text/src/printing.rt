@@ -7,7 +7,7 @@ ghost use Rattle.cedar_names.specs.CanonicalText.{canonical_text, namespace};
 ghost use Rattle.schema_build_types.specs.Content.{SchemaContent};
 ghost use Rattle.schema_build_types.specs.Standing.{SchemaStandsFor};
 ghost use Rattle.schema_build_text.specs.Adds.{Adds};
-ghost use Rattle.schema_build_text.specs.Items.{item_content, before_text, after_text, namespace_behind};
+ghost use Rattle.schema_build_text.specs.Items.{item_content, break_text, end_text, namespace_behind};
 ghost use Rattle.schema_build_text.specs.Readings.{schema_reading};
 ghost use Rattle.schema_build_text.specs.Walk.{walk};
 
@@ -18,13 +18,13 @@ use cedar_identifiers::InternalName;
 use schema_build_types::{ActionEntry, EntityTypeEntry};
 use std::alloc::{AllocError, Global};
 
-// Adds what stands before the item.
+// Adds the end of the item before, where there is one, and what stands before the item.
 fn push_before(
     text: &mut String,
     before: Option<&InternalName>,
     name: &InternalName,
 ) -> Result<(), AllocError>
-    ensures { OnOk result (Adds text.old text.new (before_text (namespace_behind (option_copied before.entry)) (namespace (components_of name.now)))) }
+    ensures { OnOk result (Adds text.old text.new (break_text (namespace_behind (option_copied before.entry)) (namespace (components_of name.now)))) }
 {
     match before {
         None => push_opening(text, name),
@@ -32,9 +32,9 @@ fn push_before(
     }
 }
 
-// Adds what stands behind the last item.
+// Adds the end of the last item and what stands behind it, where there is one.
 fn push_after(text: &mut String, last: Option<&InternalName>) -> Result<(), AllocError>
-    ensures { OnOk result (Adds text.old text.new (after_text (namespace_behind (option_copied last.entry)))) }
+    ensures { OnOk result (Adds text.old text.new (end_text (namespace_behind (option_copied last.entry)))) }
 {
     match last {
         None => Ok(()),
