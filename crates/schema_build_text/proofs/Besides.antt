@@ -286,6 +286,10 @@ beside_named name m = by name.others
     by [] h = absurd (cc)
     by (o ∷ os) h = refl
 
+pub and_true : (b : Bool) → (b && true) ≡ b
+and_true true = refl
+and_true false = refl
+
 pub told_beside : (x : ItemContent) (name : InternalName) (m : Name) (b : Bool)
     → namespace_of x ≡ namespace (components_of name) → (length name.others == 0) ≡ false
     → b ≡ same_name (namespace (components_of name)) m → is_captured_by (Some m) x ≡ (b && item_holds x)

@@ -125,7 +125,7 @@ fn is_captured(item: &Item<'_>, action: Option<&InternalName>) -> bool
     }
     match action {
         None => false,
-        Some(action) => are_together(name, action) && item_holds(item),
+        Some(action) => item_holds(item) && are_together(name, action),
     }
 }
 
