@@ -1,11 +1,11 @@
 -- Characters that are pushed, as bytes.
 use Rattle.std.proofs.Common.{◌≡◌, true, false, not, List, [], ◌∷◌, ◌++◌, codes, refl, ap, sym, ◌∙◌, inl, inr}
-use Rattle.std.specs.Str.{IsUtf8, IsAscii, chars, encode_utf8_all, all_scalars}
+use Rattle.std.specs.Str.{IsAscii, encode_utf8_all, all_scalars}
 use Rattle.std.specs.List.{list_all}
 use Rattle.std.specs.Cmp.{first_so, second_so}
 use Rattle.std.proofs.lemmas.Bool.{cases_Bool}
 use Rattle.std.proofs.lemmas.Bool.Decides.{nat_tests}
-use Rattle.std.proofs.lemmas.Str.{encodes-chars, chars-encodes, encodes-IsAscii, chars-IsAscii}
+use Rattle.std.proofs.lemmas.Str.{chars-encodes, encodes-IsAscii, chars-IsAscii}
 use Rattle.std.proofs.lemmas.Str.Ascii.{IsAscii-nil, IsAscii-cons}
 use Rattle.std.proofs.Common.{ℕ, ◌+◌, ◌<◌, Bool, if◌then◌else◌, arith, add-one, String, string_bytes, Result, Ok, Err}
 use Rattle.std.proofs.Common.{is_ok}
@@ -16,7 +16,6 @@ use Rattle.cedar_data.specs.Words.{is_word_start, is_word_part, is_word}
 use Rattle.cedar_identifiers.specs.Words.{is_id, is_reserved}
 use Rattle.schema_build_text.specs.Adds.{Adds}
 use Rattle.schema_build_text.specs.Growing.{so}
-use Rattle.schema_syntax_tokens.proofs.Quoted.{quoted_utf8}
 
 -- a text that is pushed adds its bytes
 pub pushed : {Z T E : Type 0} (r : Result T E) (old new : String Z) (more : List ℕ)
@@ -65,7 +64,8 @@ id_by_bytes w s =
     ]
 
 -- a bare name of an attribute that is pushed
-pub bare_added : {Z : Type 0} {old new : String Z} {s : List ℕ} (name : List ℕ) → Adds old new s → s ≡ encode_utf8_all name → is_id name ≡ true
+pub bare_added : {Z : Type 0} {old new : String Z} {s : List ℕ} (name : List ℕ) → Adds old new s
+    → s ≡ encode_utf8_all name → is_id name ≡ true
     → Adds old new (attribute_name name)
 bare_added name e b h =
     so e (b ∙ id_bytes name h ∙ sym (ap (λ (t : Bool). if t then name else quoted name) h))

@@ -8,7 +8,8 @@ use Rattle.cedar_data.specs.Text.{text_cmp}
 use Rattle.cedar_identifiers.specs.Names.{components_of, name_text}
 use Rattle.cedar_identifiers.specs.declared.name.Name.{Name}
 use Rattle.cedar_names.specs.declared.entity_uid.EntityUID.{EntityUID}
-use Rattle.cedar_names.specs.CanonicalText.{applies_text, context_text, shape_text, record_text, lines_text, list_text, spaces}
+use Rattle.cedar_names.specs.CanonicalText.{applies_text, context_text, shape_text, record_text, lines_text, list_text}
+use Rattle.cedar_names.specs.CanonicalText.{spaces}
 use Rattle.cedar_names.specs.Meaning.{Attributes}
 use Rattle.schema_build_types.specs.Content.{entity_content, action_content, names_content, attributes_content}
 use Rattle.schema_build_types.specs.declared.types.Type.{«Type»}

@@ -2,7 +2,8 @@
 use Rattle.std.specs.Prelude.{ℕ, true, Option, Some, None, List, [], ◌∷◌, ◌++◌, codes, if◌then◌else◌}
 use Rattle.cedar_identifiers.specs.Names.{components_of, name_text}
 use Rattle.cedar_identifiers.specs.declared.internal_name.InternalName.{InternalName}
-use Rattle.cedar_names.specs.CanonicalText.{namespace, line_end, spaces, external_head, own_head, entity_type_text, action_head}
+use Rattle.cedar_names.specs.CanonicalText.{namespace, line_end, spaces, external_head, own_head, entity_type_text}
+use Rattle.cedar_names.specs.CanonicalText.{action_head}
 use Rattle.cedar_names.specs.CanonicalText.{applies_text, action_text}
 use Rattle.cedar_names.specs.Meaning.{EntityMeaning, ActionMeaning}
 use Rattle.cedar_names.specs.Definitions.{same_name}

@@ -78,8 +78,8 @@ pub fn push_closing(text: &mut String, name: &InternalName) -> Result<(), AllocE
     }
 }
 
-/// Adds the end of an item whose namespace is that of the one name, and what stands between it and an item whose namespace
-/// is that of the other.
+/// Adds the end of an item whose namespace is that of the one name, and what stands between it and an item whose
+/// namespace is that of the other.
 pub fn push_break(
     text: &mut String,
     before: &InternalName,

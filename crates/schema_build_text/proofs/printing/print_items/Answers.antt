@@ -17,5 +17,5 @@ returns c =
     let e = adds_all (round c.in_ok-push_after.ensures c.loop-item.invariant left) refl in
     let text = c.push_after.new.text in
     λ s same. ap encode_utf8_all c.from_string.ensures ∙ encodes-chars (string_bytes text) (IsUtf8-string_bytes text)
-    ∙ (e.grown ∙ (ap (λ t. t ++ open_behind None (map item_content items)) c.new-text.ensures.bytes
+    ∙ (e.grown ∙ (ap (λ t. t ++ open_behind None (map item_content items)) c.in_ok-text.ensures.bytes
     ∙ (ap (open_behind None) same ∙ opened s)))

@@ -5,7 +5,8 @@ use Rattle.schema_build_text.proofs.Layers.{shown, bool_shown, long_says, string
 use Rattle.schema_build_text.proofs.types.set_line.Goals as goal
 
 pub returns-in-Never : goal.returns-in-Never
-returns-in-Never c base = ap (λ t. codes ": Set<" ++ (t ++ codes ">,\n")) (bool_shown base c.args.element.now c.in-Never.is)
+returns-in-Never c base = ap (λ t. codes ": Set<" ++ (t ++ codes ">,\n"))
+    (bool_shown base c.args.element.now c.in-Never.is)
 
 pub returns-in-Long : goal.returns-in-Long
 returns-in-Long c base =

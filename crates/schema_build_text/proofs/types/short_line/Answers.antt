@@ -1,4 +1,4 @@
-use Rattle.std.proofs.Common.{◌++◌, ap, codes, refl, Some, ◌∙◌}
+use Rattle.std.proofs.Common.{◌++◌, ap, codes, refl, ◌∙◌}
 use Rattle.schema_build_types.specs.declared.types.Type.TheVariants as built
 use Rattle.schema_build_types.specs.Content as said
 use Rattle.std.proofs.lemmas.Option.{IfSome_then}
@@ -21,5 +21,6 @@ returns-in-String c base =
 pub returns-in-Some : goal.returns-in-Some
 returns-in-Some c =
     IfSome_then c.set_line.result c.set_line.ensures
-    (λ line told base. told base ∙ set_laid base c.args.ty.now _ c.in-Some.element (c.in-Set.is ∙ ap built.Set c.in-Some.is)
+    (λ line told base. told base ∙ set_laid base c.args.ty.now _ c.in-Some.element
+    (c.in-Set.is ∙ ap built.Set c.in-Some.is)
     c.get.ensures)
