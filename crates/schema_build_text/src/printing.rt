@@ -15,8 +15,11 @@ use crate::items::{Item, items_in_order, name_of, push_item};
 use crate::names::{base_of, push_break, push_closing, push_opening};
 use cedar_data::Text;
 use cedar_identifiers::InternalName;
-use schema_build_types::{ActionEntry, EntityTypeEntry, ValidatorEntityTypeKind};
+use schema_build_types::{ActionEntry, EntityTypeEntry};
 use std::alloc::{AllocError, Global};
+
+// The room that is made for each item before the text is written.
+const BYTES_OF_AN_ITEM: usize = 64;
 
 // Adds the end of the item before, where there is one, and what stands before the item.
 fn push_before(
@@ -42,37 +45,11 @@ fn push_after(text: &mut String, last: Option<&InternalName>) -> Result<(), Allo
     }
 }
 
-// About how many bytes the text of the item takes: a line for each attribute of an entity type, a block for an action.
-fn room_of(item: &Item<'_>) -> usize {
-    match item {
-        Item::EntityType(_, ty) => match &ty.kind {
-            ValidatorEntityTypeKind::Standard { attributes, .. } => {
-                attributes
-                    .as_slice()
-                    .len()
-                    .saturating_mul(32)
-                    .saturating_add(16)
-            }
-            ValidatorEntityTypeKind::Enum(_) | ValidatorEntityTypeKind::External => 64,
-        },
-        Item::Action(..) => 128,
-    }
-}
-
-// About how many bytes the text of the items takes.
-fn room_for(items: &[Item<'_>]) -> usize {
-    let mut room: usize = 0;
-    for item in items {
-        room = room.saturating_add(room_of(item));
-    }
-    room
-}
-
 /// The text of items that stand in the order of the walk.
 pub fn print_items(alloc: Global, items: &[Item<'_>]) -> Result<Text, AllocError>
     ensures { IfOk result (λ text. (c : SchemaContent) → map item_content items.now ≡ walk c → encode_utf8_all text ≡ canonical_text (schema_reading c)) }
 {
-    let mut text = String::with_capacity(alloc, room_for(items))?;
+    let mut text = String::with_capacity(alloc, items.len().saturating_mul(BYTES_OF_AN_ITEM))?;
     let mut before = None;
     for item in items {
         let name = name_of(item);
