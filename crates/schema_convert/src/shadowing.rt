@@ -7,7 +7,7 @@ ghost use Rattle.schema_convert.specs.NamesIn.{entities_of, entity_names_in};
 ghost use Rattle.schema_convert.specs.Shadowings.{by_id, is_primitive_name, is_taken, builtin_shadowed, entity_shadowed, common_warnings, warnings_in, declared_warnings, by_name, warnings_of};
 
 use crate::names_in::{common_names_in, entity_names_in};
-use cedar_data::{Boxed, Map, Node, Text};
+use cedar_data::{Boxed, Map, Node, Text, same_bytes};
 use cedar_names::ExtensionTable;
 use schema_convert_errors::{SchemaWarning, ShadowsBuiltinWarning, ShadowsEntityWarning};
 use schema_convert_types::map_of;
@@ -34,8 +34,8 @@ fn is_primitive_name(word: &str) -> bool
     ensures { result ≡ is_primitive_name word.now }
 {
     match word.len() {
-        4 => word == "Long" || word == "Bool",
-        6 => word == "String",
+        4 => same_bytes(word, "Long") || same_bytes(word, "Bool"),
+        6 => same_bytes(word, "String"),
         _ => false,
     }
 }
