@@ -14,16 +14,27 @@ use schema_syntax_tree::{
 };
 use std::alloc::{AllocError, Global};
 
-// The names of paths, in order.
-fn raw_names(alloc: Global, paths: List<Path<'_>>) -> Result<List<RawName>, AllocError>
-    ensures { IfOk result (λ names. names ≡ raw_names paths.entry) }
+// The names of paths, in order, of which there are some. Mostly there are none, and no room is needed for these.
+#[inline(never)]
+fn each_raw_name(alloc: Global, paths: Vec<Path<'_>>) -> Result<List<RawName>, AllocError>
+    ensures { IfOk result (λ names. names ≡ raw_names paths.entry.items) }
 {
-    let paths = paths.into_vec();
     let mut names = Vec::with_capacity(alloc, paths.len())?;
     for path in paths {
         names.push(raw_name(alloc, &path)?)?;
     }
     Ok(List::from_vec(names))
+}
+
+// The names of paths, in order.
+fn raw_names(alloc: Global, paths: List<Path<'_>>) -> Result<List<RawName>, AllocError>
+    ensures { IfOk result (λ names. names ≡ raw_names paths.entry) }
+{
+    let paths = paths.into_vec();
+    if paths.is_empty() {
+        return Ok(List::new(alloc));
+    }
+    each_raw_name(alloc, paths)
 }
 
 /// The type of no attributes, which has no place.
@@ -111,6 +122,7 @@ fn standard(
 }
 
 // What an entity type is declared as whose entities are listed.
+#[inline(never)]
 fn listed(alloc: Global, decl: EnumEntityDecl<'_>) -> Result<EntityTypeKind<RawName>, AllocError>
     ensures { IfOk result (λ out. out ≡ entity_kind_of (EntityDecl.Enum decl.entry)) }
 {
@@ -124,6 +136,7 @@ fn listed(alloc: Global, decl: EnumEntityDecl<'_>) -> Result<EntityTypeKind<RawN
 }
 
 // What an entity type is declared as that another schema declares.
+#[inline(never)]
 fn external(
     alloc: Global,
     decl: ExternalEntityDecl<'_>,
@@ -143,7 +156,8 @@ fn external(
     Ok(EntityTypeKind::Standard(Boxed::new(alloc, standard)?))
 }
 
-// What the entity types of the declaration are.
+// What the entity types of the declaration are. Most are standard ones, and the others stand by themselves, so that these
+// need no room for them.
 fn kind(alloc: Global, decl: EntityDecl<'_>) -> Result<EntityTypeKind<RawName>, AllocError>
     ensures { IfOk result (λ out. out ≡ entity_kind_of decl.entry) }
 {

@@ -1,9 +1,10 @@
-ghost use Rattle.std.specs.Prelude.{◌≡◌, [], ◌++◌, IfOk, OnOk};
+ghost use Rattle.std.specs.Prelude.{◌≡◌, [], ◌∷◌, ◌++◌, IfOk, IfSome, OnOk};
 ghost use Rattle.cedar_data.specs.Maps.{map_of};
 ghost use Rattle.cedar_data.specs.NonEmpty.{items_left};
 ghost use Rattle.cedar_data.specs.Text.{text_cmp};
 ghost use Rattle.std.specs.Option.{option_to_list};
-ghost use Rattle.schema_convert_types.specs.Declarations.{declarable, unreserved};
+ghost use Rattle.schema_convert_types.specs.Declarations.{declarable, unreserved, each_with, entity_type_of};
+ghost use Rattle.schema_syntax_tree.specs.DeclaredNames.{entity_names};
 ghost use Rattle.schema_convert_types.specs.Fragments.{entity_entries_of, action_entries_of, common_entries_of, entity_entries, action_entries, common_entries, unreserved_cmp, common_cmp, definition_of, namespace_key, declarable_name, namespace_entry, namespace_cmp, fragment_of};
 
 use crate::actions::{action_ids, action_type};
@@ -87,8 +88,39 @@ fn declarable<'a, 'b>(
     Ok(ids)
 }
 
-// Adds the entity types that the declaration declares.
-fn push_entities(
+// The name of the entity type, where the declaration has no other.
+fn only_name<'a, 'b>(decl: &'b EntityDecl<'a>) -> Option<&'b Node<SrcId<'a>>>
+    ensures { IfSome result (λ name. entity_names decl.now ≡ name.now ∷ []) }
+{
+    let (first, others) = match decl {
+        EntityDecl::Standard(decl) => decl.names.parts(),
+        EntityDecl::Enum(decl) => decl.names.parts(),
+        EntityDecl::External(decl) => decl.names.parts(),
+    };
+    if others.is_empty() { Some(first) } else { None }
+}
+
+// Adds the entity type of this name, where it may be declared.
+fn push_entity(
+    alloc: Global,
+    entries: &mut Vec<(UnreservedId, EntityType<RawName>)>,
+    name: Option<UnreservedId>,
+    decl: EntityDecl<'_>,
+    annotations: Annotations,
+    loc: Option<Loc>,
+) -> Result<(), AllocError>
+    ensures { OnOk result (entries.new.items ≡ entries.old.items ++ each_with (entity_type_of decl.entry annotations loc) (option_to_list name)) }
+{
+    let of = entity_type(alloc, decl, annotations, loc)?;
+    if let Some(name) = name {
+        entries.push((name, of))?;
+    }
+    Ok(())
+}
+
+// Adds the entity types of all its names.
+#[inline(never)]
+fn push_each_entity(
     alloc: Global,
     entries: &mut Vec<(UnreservedId, EntityType<RawName>)>,
     decl: EntityDecl<'_>,
@@ -102,7 +134,27 @@ fn push_entities(
     push_each(alloc, entries, names, of)
 }
 
+// Adds the entity types that the declaration declares. Most have one name, of which no list is made.
+fn push_entities(
+    alloc: Global,
+    entries: &mut Vec<(UnreservedId, EntityType<RawName>)>,
+    decl: EntityDecl<'_>,
+    annotations: Annotations,
+    loc: Option<Loc>,
+) -> Result<(), AllocError>
+    ensures { OnOk result (entries.new.items ≡ entries.old.items ++ entity_entries_of (Declaration.Entity decl.entry) annotations loc) }
+{
+    match only_name(&decl) {
+        None => push_each_entity(alloc, entries, decl, annotations, loc),
+        Some(name) => {
+            let name = unreserved_copy(alloc, &name.node)?;
+            push_entity(alloc, entries, name, decl, annotations, loc)
+        }
+    }
+}
+
 // Adds the actions.
+#[inline(never)]
 fn push_actions(
     alloc: Global,
     entries: &mut Vec<(Text, ActionType<RawName>)>,
@@ -118,6 +170,7 @@ fn push_actions(
 }
 
 // Adds the common type.
+#[inline(never)]
 fn push_common(
     alloc: Global,
     entries: &mut Vec<(CommonTypeId, CommonType<RawName>)>,
@@ -140,7 +193,7 @@ fn push_common(
     Ok(())
 }
 
-/// Adds what the declaration declares.
+/// Adds what the declaration declares. Each kind of declarations stands by itself, so that none needs room for another.
 pub fn push_declared<'a>(
     alloc: Global,
     entries: &mut Entries,

@@ -61,6 +61,12 @@ fn record_of<'a>(
 ) -> Result<RecordType<RawName>, AllocError>
     ensures { IfOk result (λ shape. shape ≡ record_of (map attribute_of attributes.now)) }
 {
+    if attributes.is_empty() {
+        return Ok(RecordType {
+            attributes: Map::new(alloc),
+            additional_attributes: false,
+        });
+    }
     let mut entries = Vec::with_capacity(alloc, attributes.len())?;
     for attribute in attributes {
         let ty = &attribute.node.item.ty;
