@@ -45,6 +45,7 @@ fn entity<'a>(
 }
 
 // Entity types of listed ids.
+#[inline(never)]
 fn listed<'a>(
     alloc: Global,
     text: &'a str,
@@ -64,6 +65,7 @@ fn listed<'a>(
 }
 
 // Entity types of another schema.
+#[inline(never)]
 fn external_entity<'a>(
     alloc: Global,
     text: &'a str,
@@ -82,6 +84,7 @@ fn external_entity<'a>(
 }
 
 // Actions.
+#[inline(never)]
 fn action<'a>(
     alloc: Global,
     text: &'a str,
@@ -105,6 +108,7 @@ fn action<'a>(
 }
 
 // Actions of another schema.
+#[inline(never)]
 fn external_action<'a>(
     alloc: Global,
     text: &'a str,
@@ -122,6 +126,7 @@ fn external_action<'a>(
 }
 
 // A common type.
+#[inline(never)]
 fn common<'a>(
     alloc: Global,
     text: &'a str,
@@ -136,7 +141,8 @@ fn common<'a>(
     Ok(Declaration::Common(TypeDecl { name, def }))
 }
 
-// A declaration without its annotations.
+// A declaration without its annotations. Each kind but the most frequent stands by itself, so that no other needs room for
+// it.
 pub fn decl<'a>(alloc: Global, text: &'a str, raw: DeclSyntax) -> Result<Declaration<'a>, Stopped>
     requires { IsScanned IsDecl text.now raw }
     ensures { Reads text.now (decl_sites raw) (IsDeclOf text.now raw) result }

@@ -109,6 +109,31 @@ fn read_notes<'a>(
     Ok(ReadNotes { notes, fault: None })
 }
 
+// What the annotations stand for, of which there are some. Most items have none, and need no room for these.
+#[inline(never)]
+fn some_notes<'a>(
+    alloc: Global,
+    text: &'a str,
+    list: &[AnnotationSyntax],
+) -> Result<SrcAnnotations<'a>, Stopped>
+    requires placed { All (IsPlacedNote text.now) list.now }
+    requires rise { Rise (note_tokens list.now) }
+    ensures notes { IfOk result (λ notes. AreNotes text.now list.now notes.0) }
+    ensures lawful { OnOk result (NoSiteFault text.now (annotations list.now)) }
+    ensures fault { IfErr result (IsStoppedAt text.now (annotations list.now)) }
+{
+    let read = read_notes(alloc, text, list)?;
+    let fault = read.fault;
+    match deduplicate_annotations(alloc, (), read.notes) {
+        Err(AnnotationError::User(fault)) => Err(Stopped::User(fault)),
+        Err(AnnotationError::Memory) => Err(Stopped::Memory),
+        Ok(annotated) => match fault {
+            Some(fault) => Err(Stopped::User(fault)),
+            None => Ok(annotated.into_parts().1),
+        },
+    }
+}
+
 /// What the annotations stand for, or the first of their faults.
 pub fn notes_of<'a>(
     alloc: Global,
@@ -124,14 +149,5 @@ pub fn notes_of<'a>(
     if list.is_empty() {
         return Ok(SrcAnnotations::new());
     }
-    let read = read_notes(alloc, text, list)?;
-    let fault = read.fault;
-    match deduplicate_annotations(alloc, (), read.notes) {
-        Err(AnnotationError::User(fault)) => Err(Stopped::User(fault)),
-        Err(AnnotationError::Memory) => Err(Stopped::Memory),
-        Ok(annotated) => match fault {
-            Some(fault) => Err(Stopped::User(fault)),
-            None => Ok(annotated.into_parts().1),
-        },
-    }
+    some_notes(alloc, text, list)
 }

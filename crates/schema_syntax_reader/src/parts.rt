@@ -27,6 +27,24 @@ pub trait Part<'a> {
         ensures { Reads text.now (sites raw) (stands_for text.now raw) result };
 }
 
+// The parts, in order, of which there are some. Mostly there are none, and no room is needed for these.
+#[inline(never)]
+fn each<'a, P: Part<'a>>(
+    alloc: Global,
+    text: &'a str,
+    raws: Vec<P::Raw>,
+) -> Result<Vec<P::Item>, Stopped>
+    requires { All (P.fits text.now) raws.items }
+    ensures { Reads text.now (flat_map P.sites raws.items) (λ items. AllZip (P.stands_for text.now) raws.items items.items) result }
+{
+    let mut items = Vec::with_capacity(alloc, raws.len())?;
+    for raw in raws {
+        let item = P::read(alloc, text, raw)?;
+        items.push(item)?;
+    }
+    Ok(items)
+}
+
 // The parts, in order.
 pub fn all<'a, P: Part<'a>>(
     alloc: Global,
@@ -36,13 +54,10 @@ pub fn all<'a, P: Part<'a>>(
     requires { All (P.fits text.now) raws }
     ensures { Reads text.now (flat_map P.sites raws) (λ items. AllZip (P.stands_for text.now) raws items.items) result }
 {
-    let raws = raws.into_vec();
-    let mut items = Vec::with_capacity(alloc, raws.len())?;
-    for raw in raws {
-        let item = P::read(alloc, text, raw)?;
-        items.push(item)?;
+    if raws.as_slice().is_empty() {
+        return Ok(Vec::new(alloc));
     }
-    Ok(items)
+    each::<P>(alloc, text, raws.into_vec())
 }
 
 // The parts, of which there is one at least.

@@ -1,7 +1,0 @@
-use Rattle.std.specs.Vec.Iter.{into_iter_items}
-use Rattle.schema_syntax_reader.proofs.Readings.{ReadTo}
-use Rattle.schema_syntax_reader.proofs.parts.all.Given as goal
-
-abbrev pub invariant-loop-raw : goal.invariant-loop-raw
-invariant-loop-raw g l =
-    ReadTo l.text g.P.Part.sites (g.P.Part.stands_for l.text) l.fn.raws (into_iter_items l.raw-iterator) l.items.items
