@@ -4,6 +4,7 @@ pub mod Ranked
 pub mod Once
 pub mod Above
 pub mod Ordered
+mod Rising
 mod FirstCandidate
 mod EntityTargets
 mod Unreserved

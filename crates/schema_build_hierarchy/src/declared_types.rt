@@ -16,7 +16,7 @@ ghost use Rattle.schema_build_hierarchy.specs.Rows.{HasUndeclaredEntityTypes, un
 use crate::firsts::{first_uses, unreserved};
 use crate::parents::entity_target;
 use crate::use_finder::UseFinder;
-use cedar_data::NonEmpty;
+use cedar_data::{NonEmpty, same_bytes};
 use cedar_identifiers::{InternalName, Name, RawName};
 use schema_build_errors::{SchemaError, UndeclaredEntityTypesError};
 use schema_json::Fragment;
@@ -76,8 +76,8 @@ fn is_named_action(name: &InternalName) -> bool
     ensures { result ≡ bytes_eq (basename (components_of name.now)) (codes "Action") }
 {
     match name.others.as_slice().split_last() {
-        Some((last, _)) => last.as_str() == "Action",
-        None => name.first.as_str() == "Action",
+        Some((last, _)) => same_bytes(last.as_str(), "Action"),
+        None => same_bytes(name.first.as_str(), "Action"),
     }
 }
 

@@ -1,4 +1,4 @@
-ghost use Rattle.std.specs.Prelude.{◌≡◌, ◌++◌, map, All, Contains, IfOk, OnOk};
+ghost use Rattle.std.specs.Prelude.{◌≡◌, ◌++◌, true, map, All, Contains, IfOk, OnOk};
 ghost use Rattle.std.specs.List.Sorted.{IsStrictlySortedBy};
 ghost use Rattle.schema_build_checks.specs.DeclaredAt.{declared_at};
 ghost use Rattle.schema_build_hierarchy.specs.Declarations.{entity_in, action_in, declared_entities, declared_actions};
@@ -11,6 +11,7 @@ use cedar_names::EntityUID;
 use schema_json::{ActionType, EntityType, Fragment};
 use schema_resolve_definitions::declared::{action_type, name_of};
 use std::alloc::{AllocError, Global};
+use std::cmp::Ordering;
 
 /// A declaration of a fragment, with a name that is made. It is ordered by that name.
 #[derive(Drop)]
@@ -123,7 +124,23 @@ fn in_order<'f, K: Ord + Drop, T>(mut entries: Vec<Entry<'f, K, T>>) -> Vec<Entr
     ensures kept { All (Contains entries.entry.items) result.items }
     ensures whole { All (λ e. HasAlike K.cmp (map (λ e. e.name) result.items) e.name) entries.entry.items }
 {
+    if names_rise(&entries) {
+        return entries;
+    }
     entries.sort_unstable();
     entries.dedup();
     entries
+}
+
+// Whether each name is less than the next.
+fn names_rise<'f, K: Ord, T>(entries: &Vec<Entry<'f, K, T>>) -> bool
+    ensures { result ≡ true → IsStrictlySortedBy K.cmp (map (λ e. e.name) entries.now.items) }
+{
+    for next in 1..entries.len() {
+        match entries[next - 1].name.cmp(&entries[next].name) {
+            Ordering::Less => {}
+            _ => return false,
+        }
+    }
+    true
 }

@@ -1,13 +1,24 @@
 use Rattle.std.proofs.Common.{sym, subst, All, Contains, map, Bool}
 use Rattle.std.specs.List.Sorted.{IsStrictlySortedBy}
 use Rattle.std.proofs.lemmas.Cmp.{on_total}
+use Rattle.std.proofs.lemmas.List.Elements.{All-contains_itself}
 use Rattle.std.proofs.lemmas.List.Filters.{dedup_is}
 use Rattle.std.proofs.lemmas.List.Kept.{IsStrictlySortedBy-dedup}
 use Rattle.schema_build_hierarchy.specs.FirstUses.{HasAlike}
 use Rattle.schema_build_hierarchy.specs.declared.entries.Entry.{Entry}
 use Rattle.schema_build_hierarchy.proofs.Once.{once_kept, once_whole, alike_named}
 use Rattle.schema_build_hierarchy.proofs.Ordered.{sorted_seen}
+use Rattle.schema_build_hierarchy.proofs.Rising.{alike_itself}
 use Rattle.schema_build_hierarchy.proofs.entries.in_order.Goals as goal
+
+pub returns-then-names_rise : goal.returns-then-names_rise
+returns-then-names_rise g c =
+    let entries = c.args.entries.items in
+    record {
+      sorted = c.names_rise.ensures c.if-names_rise.true;
+      kept = All-contains_itself entries;
+      whole = alike_itself (λ (e : Entry _ _). e.name) g.met.K.Ord.total entries;
+    }
 
 pub returns : goal.returns
 returns g c =
