@@ -2,7 +2,7 @@ ghost use Rattle.std.specs.Prelude.{◌≡◌, codes, IfOk};
 ghost use Rattle.std.specs.Str.{bytes_eq};
 ghost use Rattle.schema_build_checks.specs.DeclaredAt.{declared_at};
 
-use cedar_data::{CloneIn, List, Loc};
+use cedar_data::{CloneIn, List, Loc, same_bytes};
 use cedar_identifiers::{Id, InternalName, Name};
 use schema_resolve_definitions::declared::name_of;
 use std::alloc::{AllocError, Global};
@@ -28,5 +28,5 @@ pub(crate) fn declared_at(
 pub(crate) fn is_action_word(word: &str) -> bool
     ensures { result ≡ bytes_eq word.now (codes "Action") }
 {
-    word == "Action"
+    same_bytes(word, "Action")
 }
