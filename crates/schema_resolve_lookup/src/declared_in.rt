@@ -1,5 +1,6 @@
-ghost use Rattle.std.specs.Prelude.{◌≡◌, map};
+ghost use Rattle.std.specs.Prelude.{◌≡◌, true, map};
 ghost use Rattle.std.specs.List.{list_any};
+ghost use Rattle.std.specs.Result.{is_ok};
 ghost use Rattle.std.specs.Str.{bytes_eq, encode_utf8_all};
 ghost use Rattle.cedar_names.specs.Definitions.{among, among_actions};
 ghost use Rattle.schema_resolve_definitions.specs.Declarations.{declared};
@@ -7,28 +8,88 @@ ghost use Rattle.schema_resolve_lookup.specs.Sought.{name_sought, is_there};
 
 use crate::namespaces::{Searched, namespace_of};
 use crate::sought::Sought;
-use cedar_data::{Map, Text};
+use cedar_data::{Map, Text, same_bytes};
 use cedar_identifiers::{Id, RawName, UnreservedId};
 use schema_json::{ActionType, CommonType, CommonTypeId, EntityType, NamespaceDefinition};
+use std::cell::Cell;
 
 // Whether the fragment declares a common type of this name.
 pub(crate) fn declares_common(searched: &Searched<'_>, sought: Sought<'_>) -> bool
     ensures { result ≡ among (declared searched.now.fragment.now).commons (name_sought sought.entry) }
 {
     match namespace_of(searched, sought.namespace) {
-        Some(definition) => has_common(&definition.common_types, sought.last),
+        Some(definition) => {
+            has_common(
+                &definition.common_types,
+                sought.last,
+                &searched.recent_common,
+            )
+        },
         None => false,
     }
 }
 
-// Whether a common type has this word as its name, found by halving.
-fn has_common(commons: &Map<CommonTypeId, CommonType<RawName>>, word: &Id) -> bool
+// Whether a common type has this word as its name: the one that was found last or the one behind it, or else found by
+// halving.
+fn has_common(
+    commons: &Map<CommonTypeId, CommonType<RawName>>,
+    word: &Id,
+    recent: &Cell<usize>,
+) -> bool
     ensures { result ≡ list_any (λ e. bytes_eq word.now.text e.0.id.id.text) commons.now }
 {
     let entries = commons.as_slice();
-    entries
-        .binary_search_by(|entry| entry.0.id.id.cmp(word))
-        .is_ok()
+    if has_common_near(entries, word, recent) {
+        return true;
+    }
+    let found = entries.binary_search_by(|entry| entry.0.id.id.cmp(word));
+    is_found(found, recent)
+}
+
+// Whether something was found, of which the place is kept.
+fn is_found(found: Result<usize, usize>, recent: &Cell<usize>) -> bool
+    ensures { result ≡ is_ok found }
+{
+    match found {
+        Ok(at) => {
+            recent.set(at);
+            true
+        }
+        Err(_) => false,
+    }
+}
+
+// Whether the common type that was found last or the one behind it has this word as its name.
+fn has_common_near(
+    entries: &[(CommonTypeId, CommonType<RawName>)],
+    word: &Id,
+    recent: &Cell<usize>,
+) -> bool
+    ensures { result ≡ true → list_any (λ e. bytes_eq word.now.text e.0.id.id.text) entries.now ≡ true }
+{
+    let at = recent.get();
+    if at >= entries.len() {
+        return false;
+    }
+    if is_common_at(entries, at, word) {
+        return true;
+    }
+    let next = at.saturating_add(1);
+    if is_common_at(entries, next, word) {
+        recent.set(next);
+        return true;
+    }
+    false
+}
+
+// Whether the common type at the place has this word as its name.
+fn is_common_at(entries: &[(CommonTypeId, CommonType<RawName>)], at: usize, word: &Id) -> bool
+    ensures { result ≡ true → list_any (λ e. bytes_eq word.now.text e.0.id.id.text) entries.now ≡ true }
+{
+    if at >= entries.len() {
+        return false;
+    }
+    same_bytes(word.as_str(), entries[at].0.id.id.as_str())
 }
 
 // Whether the fragment declares an entity type of this name.
@@ -55,7 +116,7 @@ fn has_entity(entities: &Map<UnreservedId, EntityType<RawName>>, word: &Id) -> b
 pub(crate) fn is_type_of_action(searched: &Searched<'_>, sought: Sought<'_>) -> bool
     ensures { result ≡ among (map (λ a. a.0) (declared searched.now.fragment.now).actions) (name_sought sought.entry) }
 {
-    sought.last.as_str() == "Action"
+    same_bytes(sought.last.as_str(), "Action")
         && match namespace_of(searched, sought.namespace) {
             Some(definition) => has_actions(definition),
             None => false,
@@ -66,7 +127,7 @@ pub(crate) fn is_type_of_action(searched: &Searched<'_>, sought: Sought<'_>) -> 
 pub(crate) fn declares_action(searched: &Searched<'_>, sought: Sought<'_>, id: &Text) -> bool
     ensures { result ≡ among_actions (declared searched.now.fragment.now).actions (name_sought sought.entry, id.now) }
 {
-    sought.last.as_str() == "Action"
+    same_bytes(sought.last.as_str(), "Action")
         && match namespace_of(searched, sought.namespace) {
             Some(definition) => has_action(&definition.actions, id),
             None => false,

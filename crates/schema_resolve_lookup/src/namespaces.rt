@@ -10,11 +10,13 @@ use schema_json::{Fragment, NamespaceDefinition};
 use std::cell::Cell;
 use std::cmp::Ordering;
 
-// A fragment whose namespaces are looked up, and where the named one stands that was found last.
+// A fragment whose namespaces are looked up, where the named one stands that was found last, and where the common type
+// that was found last stands in its namespace.
 #[derive(Drop)]
 pub(crate) struct Searched<'f> {
     pub(crate) fragment: &'f Fragment<RawName>,
     recent: Cell<usize>,
+    pub(crate) recent_common: Cell<usize>,
 }
 
 impl<'f> Searched<'f> {
@@ -24,6 +26,7 @@ impl<'f> Searched<'f> {
         Searched {
             fragment,
             recent: Cell::new(0),
+            recent_common: Cell::new(0),
         }
     }
 }

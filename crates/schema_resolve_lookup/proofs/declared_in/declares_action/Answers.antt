@@ -11,7 +11,7 @@ returns-in-Some c =
     let words = words_before c.args.sought.namespace in
     let word = c.args.sought.last.now.text in
     let id = c.args.id.now in
-    let named = is_action_word word _ _ c.as_str.ensures c.eq.ensures ∙ c.if-eq.true in
+    let named = is_action_word word _ _ c.as_str.ensures c.same_bytes.ensures ∙ c.if-same_bytes.true in
     let found = c.namespace_of.ensures _
     ∙ ap (λ n. passes (option_copied n) (λ n. list_any (λ e. bytes_eq (encode_utf8_all id) (encode_utf8_all e.0))
     n.actions)) c.in-Some.is in
@@ -22,18 +22,18 @@ returns-in-None c =
     let words = words_before c.args.sought.namespace in
     let word = c.args.sought.last.now.text in
     let id = c.args.id.now in
-    let named = is_action_word word _ _ c.as_str.ensures c.eq.ensures ∙ c.if-eq.true in
+    let named = is_action_word word _ _ c.as_str.ensures c.same_bytes.ensures ∙ c.if-same_bytes.true in
     let found = c.namespace_of.ensures _
     ∙ ap (λ n. passes (option_copied n) (λ n. list_any (λ e. bytes_eq (encode_utf8_all id) (encode_utf8_all e.0))
     n.actions)) c.in-None.is in
     sym (actions_given c.args.searched.now.fragment.now words word id ∙ (λ i. named i && found i))
 
-pub returns-else-eq : goal.returns-else-eq
-returns-else-eq c =
+pub returns-else-same_bytes : goal.returns-else-same_bytes
+returns-else-same_bytes c =
     let words = words_before c.args.sought.namespace in
     let word = c.args.sought.last.now.text in
     let id = c.args.id.now in
-    let named = is_action_word word _ _ c.as_str.ensures c.eq.ensures ∙ c.if-eq.false in
-    c.if-eq.false ∙ sym (actions_given c.args.searched.now.fragment.now words word id
+    let named = is_action_word word _ _ c.as_str.ensures c.same_bytes.ensures ∙ c.if-same_bytes.false in
+    c.if-same_bytes.false ∙ sym (actions_given c.args.searched.now.fragment.now words word id
     ∙ ap (λ b. b && passes_in c.args.searched.now.fragment.now words
     (λ n. list_any (λ e. bytes_eq (encode_utf8_all id) (encode_utf8_all e.0)) n.actions)) named)
