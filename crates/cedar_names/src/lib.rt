@@ -8,7 +8,7 @@ pub mod extension_table;
 mod halving;
 pub mod meaning_laws;
 mod rising;
-mod sought;
+pub mod sought;
 pub mod steps;
 pub mod table_error;
 mod table_words;
@@ -25,5 +25,6 @@ pub use cedar_identifiers::{
 pub use cedar_io::{Failed, MemorySink, MemorySource, NullSink, Sink, Source, SteadySource};
 pub use entity_uid::EntityUID;
 pub use extension_table::{ExtensionTable, Extensions};
+pub use sought::compare_behind;
 pub use steps::Steps;
 pub use table_error::TableError;

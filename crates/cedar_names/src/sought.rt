@@ -100,8 +100,8 @@ impl<'a> Sought<EntityUID> for ActionBehind<'a> {
     }
 }
 
-// How the name stands to the one with this last word behind a namespace, which is not built.
-fn compare_behind(name: &InternalName, namespace: &InternalName, last: &Id) -> Ordering
+/// How the name stands to the one with this last word behind a namespace, which is not built.
+pub fn compare_behind(name: &InternalName, namespace: &InternalName, last: &Id) -> Ordering
     ensures { result ≡ slice_cmp ids_in_order (ids_of name.now) (ids_behind namespace.now last.now) }
 {
     match name.first.cmp(&namespace.first) {

@@ -9,6 +9,7 @@ ghost use Rattle.schema_build_scope.specs.LentCommons.{lent_commons};
 
 use crate::lent_commons::{LentType, declared_commons};
 use crate::names_in::NamesIn;
+use crate::ranks::Recent;
 use cedar_data::Map;
 use cedar_identifiers::{InternalName, Name, NameText, RawName};
 use cedar_names::ExtensionTable;
@@ -24,6 +25,8 @@ pub struct FragmentNames<'f> {
     table: &'f ExtensionTable,
     defs: FragmentDefs<'f>,
     commons: Map<InternalName, LentType<'f>>,
+    // Where common types were looked up last.
+    recent: Recent,
 }
 
 impl<'f> Model for FragmentNames<'f> {
@@ -64,6 +67,7 @@ impl<'f> FragmentNames<'f> {
             table,
             defs,
             commons,
+            recent: Recent::new(),
         })
     }
 
@@ -94,6 +98,11 @@ impl<'f> FragmentNames<'f> {
         ensures sorted { IsStrictlySortedBy names_in_order (keys_of result.now) }
     {
         self.commons.as_slice()
+    }
+
+    // Where common types were looked up last.
+    pub(crate) fn recent(&self) -> &Recent {
+        &self.recent
     }
 
     /// What the references mean that are written in this namespace.

@@ -146,7 +146,7 @@ fn own_kind(
 }
 
 // Whether the name has no namespace.
-fn is_unqualified(name: &InternalName) -> bool
+pub(crate) fn is_unqualified(name: &InternalName) -> bool
     ensures { result ≡ is_unqualified name.now }
 {
     name.others.as_slice().is_empty()

@@ -1,13 +1,17 @@
-ghost use Rattle.std.specs.Prelude.{◌≡◌, true, false, IfOk};
+ghost use Rattle.std.specs.Prelude.{◌≡◌, true, false, Some, IsSome, IfOk};
+ghost use Rattle.std.specs.Option.{option_copied};
+ghost use Rattle.cedar_identifiers.specs.Candidates.{qualified};
 ghost use Rattle.cedar_identifiers.specs.Names.{components_of, has_cedar};
 ghost use Rattle.schema_resolve_definitions.specs.Declarations.{name_of};
 ghost use Rattle.schema_resolve_definitions.specs.Defined.{defined};
 ghost use Rattle.schema_resolve_definitions.specs.Tests.{tests_of};
 ghost use Rattle.schema_resolve.specs.Tried.{candidate};
-ghost use Rattle.schema_build_expand.specs.Scope.{Scope};
+ghost use Rattle.cedar_names.specs.Meaning.{PlainType};
+ghost use Rattle.schema_build_types.specs.Standing.{IsBuilt};
+ghost use Rattle.schema_build_expand.specs.Scope.{Scope, builtin};
 ghost use Rattle.schema_build_expand.specs.Targets.{IsMeantTarget};
 ghost use Rattle.schema_build_expand.specs.Ranks.{IsRankOf};
-ghost use Rattle.schema_build_scope.specs.FragmentScope.{fragment_scope};
+ghost use Rattle.schema_build_scope.specs.FragmentScope.{fragment_scope, table_scope};
 ghost use Rattle.schema_build_scope.specs.NamedTargets.{IsRankOfName, IsCommonTarget, IsEntityTarget};
 
 use crate::builtins::builtin_type;
@@ -16,7 +20,9 @@ use crate::meant::{find_known, find_meant};
 use crate::ranks::search;
 use cedar_data::CloneIn;
 use cedar_identifiers::{InternalName, Name, RawName, ReferenceType};
+use cedar_names::ExtensionTable;
 use schema_build_expand::{Meanings, Target};
+use schema_build_types::Type as BuiltType;
 use schema_resolve_definitions::declared::name_of;
 use std::alloc::{AllocError, Global};
 
@@ -50,14 +56,14 @@ impl<'n, 'f> Meanings<RawName> for NamesIn<'n, 'f> {
 
     fn rank(
         &self,
-        alloc: Global,
+        _alloc: Global,
         kind: ReferenceType,
         name: &RawName,
     ) -> Result<Option<usize>, AllocError> {
         match find_meant(self.names.defs(), name_of(self.ns), kind, name) {
             Some(meant) => {
                 if meant.is_common {
-                    rank_meant(alloc, self.names, self.ns, &name.name, meant.is_own)
+                    Ok(rank_meant(self.names, self.ns, &name.name, meant.is_own))
                 } else {
                     Ok(None)
                 }
@@ -84,35 +90,30 @@ fn candidate(
     }
 }
 
-// The rank of the declared common type of this name, if there is one.
-fn rank_of(names: &FragmentNames<'_>, name: &InternalName) -> Option<usize>
-    ensures { IsRankOfName (fragment_scope names.now.fragment names.now.table) (components_of name.now) result }
+// The namespace that the candidate of a name stands behind, if it does.
+fn before<'a>(ns: &'a Option<Name>, is_own: bool) -> Option<&'a InternalName>
+    ensures { (name : _) → qualified (option_copied result) name ≡ candidate (name_of ns.now) name is_own }
 {
-    match search(names.commons(), name) {
+    if is_own { name_of(ns) } else { None }
+}
+
+// The rank of the declared common type that the candidate of the name is, if there is one. The candidate is not made.
+fn rank_meant(
+    names: &FragmentNames<'_>,
+    ns: &Option<Name>,
+    name: &InternalName,
+    is_own: bool,
+) -> Option<usize>
+    ensures { IsRankOfName (fragment_scope names.now.fragment names.now.table) (components_of (candidate (name_of ns.now) name.now is_own)) result }
+{
+    match search(names.commons(), names.recent(), before(ns, is_own), name) {
         Ok(rank) => Some(rank),
         Err(_) => None,
     }
 }
 
-// The rank of the declared common type that the candidate of the name is, if there is one. As it is written, the name is
-// not copied.
-fn rank_meant(
-    alloc: Global,
-    names: &FragmentNames<'_>,
-    ns: &Option<Name>,
-    name: &InternalName,
-    is_own: bool,
-) -> Result<Option<usize>, AllocError>
-    ensures { IfOk result (IsRankOfName (fragment_scope names.now.fragment names.now.table) (components_of (candidate (name_of ns.now) name.now is_own))) }
-{
-    if !is_own {
-        return Ok(rank_of(names, name));
-    }
-    let full = candidate(alloc, ns, name, true)?;
-    Ok(rank_of(names, &full))
-}
-
-// What the candidate of the name stands for, which is a common type. As it is written, the name is not copied.
+// What the candidate of the name stands for, which is a common type: the declared common type of its rank, or else a
+// builtin type.
 fn common_meant(
     alloc: Global,
     names: &FragmentNames<'_>,
@@ -123,26 +124,31 @@ fn common_meant(
     requires { (tests_of (defined names.now.fragment names.now.table)).is_common (components_of (candidate (name_of ns.now) name.now is_own)) ≡ true }
     ensures { IfOk result (IsCommonTarget (fragment_scope names.now.fragment names.now.table) (components_of (candidate (name_of ns.now) name.now is_own))) }
 {
-    if !is_own {
-        return common_target(alloc, names, name);
+    match rank_meant(names, ns, name, is_own) {
+        Some(rank) => Ok(Target::Common(rank)),
+        None => {
+            let built = builtin_meant(alloc, names.table(), ns, name, is_own)?;
+            Ok(Target::Builtin(built))
+        }
     }
-    let full = candidate(alloc, ns, name, true)?;
-    common_target(alloc, names, &full)
 }
 
-// What the name of a common type stands for: the declared common type of its rank, or else a builtin type.
-fn common_target(
+// What the candidate of the name stands for, which is builtin. As it is written, the name is not copied.
+fn builtin_meant(
     alloc: Global,
-    names: &FragmentNames<'_>,
+    table: &ExtensionTable,
+    ns: &Option<Name>,
     name: &InternalName,
-) -> Result<Target, AllocError>
-    requires { (tests_of (defined names.now.fragment names.now.table)).is_common (components_of name.now) ≡ true }
-    ensures { IfOk result (IsCommonTarget (fragment_scope names.now.fragment names.now.table) (components_of name.now)) }
+    is_own: bool,
+) -> Result<BuiltType, AllocError>
+    requires { IsSome (builtin (table_scope table.now) (components_of (candidate (name_of ns.now) name.now is_own))) }
+    ensures { IfOk result (λ ty. (p : PlainType) × (builtin (table_scope table.now) (components_of (candidate (name_of ns.now) name.now is_own)) ≡ Some p) × IsBuilt p ty) }
 {
-    match rank_of(names, name) {
-        Some(rank) => Ok(Target::Common(rank)),
-        None => Ok(Target::Builtin(builtin_type(alloc, names.table(), name)?)),
+    if !is_own {
+        return builtin_type(alloc, table, name);
     }
+    let full = candidate(alloc, ns, name, true)?;
+    builtin_type(alloc, table, &full)
 }
 
 // The entity type of this name.

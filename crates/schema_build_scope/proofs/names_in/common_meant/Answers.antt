@@ -1,23 +1,28 @@
-use Rattle.std.proofs.Common.{IfOk, sym, subst}
+use Rattle.std.proofs.Common.{sym, ap, ◌∙◌, subst}
+use Rattle.std.specs.Prelude.{IsSome}
 use Rattle.cedar_identifiers.specs.Names.{components_of}
+use Rattle.cedar_names.specs.declared.extension_table.ExtensionTable.{ExtensionTable}
 use Rattle.schema_resolve_definitions.specs.Declarations.{name_of}
 use Rattle.schema_resolve.specs.Tried.{candidate}
-use Rattle.schema_build_scope.specs.FragmentScope.{fragment_scope}
-use Rattle.schema_build_scope.specs.NamedTargets.{IsCommonTarget}
+use Rattle.schema_build_expand.specs.Scope.{builtin}
+use Rattle.schema_build_scope.specs.FragmentScope.{table_scope}
+use Rattle.schema_build_scope.proofs.BuiltinNames.{undeclared_builtin}
 use Rattle.schema_build_scope.proofs.names_in.common_meant.Goals as goal
 
-pub returns-then-not-is_own : goal.returns-then-not-is_own
-returns-then-not-is_own c =
-    let scope = fragment_scope c.args.names.now.fragment c.args.names.now.table in
-    subst (λ own. IfOk c.common_target.result
-    (IsCommonTarget scope (components_of (candidate (name_of c.args.ns.now) c.args.name.now own))))
-    (sym c.if-not-is_own.true) c.common_target.ensures
+pub builtin_meant-requires : goal.builtin_meant-requires
+builtin_meant-requires c =
+    let full = components_of (candidate (name_of c.args.ns.now) c.args.name.now c.args.is_own) in
+    subst (λ (t : ExtensionTable). IsSome (builtin (table_scope t) full)) (sym c.table.ensures)
+    (undeclared_builtin c.args.names.now.fragment c.args.names.now.table full c.requires c.in-None.ensures)
 
-pub returns : goal.returns
-returns c =
-    let scope = fragment_scope c.args.names.now.fragment c.args.names.now.table in
-    subst (λ own. IfOk c.common_target-2.result
-    (IsCommonTarget scope (components_of (candidate (name_of c.args.ns.now) c.args.name.now own))))
-    (sym c.if-not-is_own.false)
-    (subst (λ n. IfOk c.common_target-2.result (IsCommonTarget scope (components_of n))) c.in_ok-full.ensures
-    c.common_target-2.ensures)
+pub returns-in_ok-built-in-None : goal.returns-in_ok-built-in-None
+returns-in_ok-built-in-None c =
+    let full = components_of (candidate (name_of c.args.ns.now) c.args.name.now c.args.is_own) in
+    let h = c.in_ok-built-in-None.ensures in (
+      c.in-None.ensures,
+      (
+        h.0,
+        ap (λ (t : ExtensionTable). builtin (table_scope t) full) (sym c.table.ensures) ∙ h.1,
+        h.2,
+      ),
+    )

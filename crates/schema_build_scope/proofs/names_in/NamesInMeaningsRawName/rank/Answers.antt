@@ -1,6 +1,5 @@
 use Rattle.std.proofs.Common.{true, refl}
 use Rattle.std.specs.Option.{option_copied}
-use Rattle.std.proofs.lemmas.Result.{IfOk-weaker}
 use Rattle.schema_resolve_definitions.specs.Declarations.{name_of}
 use Rattle.schema_resolve_definitions.specs.Defined.{defined}
 use Rattle.schema_resolve_definitions.specs.Tests.{tests_of}
@@ -18,5 +17,4 @@ returns-then-meant c =
     means_found (tests_of c.defs.result.now) (tests_of (defined f table)) c.defs.ensures
     (option_copied c.name_of.result) ns c.name_of.ensures c.args.kind c.args.name.now c.find_meant.result
     c.in-Some.meant true full c.find_meant.ensures c.in-Some.is c.if-meant.true refl in
-    IfOk-weaker c.rank_meant.result _ _ (rank_common f table ns c.args.kind c.args.name.now full meant)
-    c.rank_meant.ensures
+    rank_common f table ns c.args.kind c.args.name.now full meant c.rank_meant.result c.rank_meant.ensures
