@@ -6,7 +6,7 @@ ghost use Rattle.schema_build_types.specs.declared.action.ValidatorActionId.{Val
 ghost use Rattle.schema_build_types.specs.declared.entity_type.ValidatorEntityType.{ValidatorEntityType as EntityType};
 ghost use Rattle.schema_build.specs.Parts.{IsMisnamed, IsEnumBelow, NoneIs, IsFirstThat, IsLeastName};
 
-use cedar_data::Shared;
+use cedar_data::{Shared, same_bytes};
 use cedar_identifiers::Name;
 use cedar_names::EntityUID;
 use schema_build_types::{ValidatorActionId, ValidatorEntityType, ValidatorEntityTypeKind};
@@ -17,8 +17,8 @@ fn is_action_type(name: &Name) -> bool
     ensures { result ≡ bytes_eq (basename (components_of name.now.name)) (codes "Action") }
 {
     match name.name.others.as_slice().split_last() {
-        Some((last, _)) => last.as_str() == "Action",
-        None => name.name.first.as_str() == "Action",
+        Some((last, _)) => same_bytes(last.as_str(), "Action"),
+        None => same_bytes(name.name.first.as_str(), "Action"),
     }
 }
 

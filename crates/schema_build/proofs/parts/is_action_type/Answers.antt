@@ -7,4 +7,4 @@ pub returns-in-Some : goal.returns-in-Some
 returns-in-Some c =
     let last = last_of c.args.name.now.name c.in-Some.field-0-1.now c.in-Some.last.now
     (sym c.as_slice.ensures ∙ c.in-Some.ensures.cases.0) in
-    c.eq.ensures ∙ ap (λ t. bytes_eq t (codes "Action")) (c.as_str.ensures ∙ last)
+    c.same_bytes.ensures ∙ ap (λ t. bytes_eq t (codes "Action")) (c.as_str.ensures ∙ last)
