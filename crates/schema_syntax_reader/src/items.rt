@@ -15,8 +15,8 @@ use schema_syntax_parser::{AnnotationSyntax, DeclaredSyntax, ItemSyntax, PathSyn
 use schema_syntax_tree::{Annotated, Declaration, Namespace, SrcAnnotations};
 use std::alloc::Global;
 
-// A declaration with its annotations.
-fn declared<'a>(
+/// A declaration with its annotations, or of its user faults the one that ends first.
+pub fn declared<'a>(
     alloc: Global,
     text: &'a str,
     raw: DeclaredSyntax,
@@ -57,8 +57,9 @@ impl<'a> Part<'a> for Decls {
     }
 }
 
-// A namespace, from its annotations, its path, its declarations and its place.
-fn namespace<'a>(
+/// A namespace, from its annotations, its path, its declarations and its place, or of its user faults the one that ends
+/// first.
+pub fn namespace<'a>(
     alloc: Global,
     text: &'a str,
     list: List<AnnotationSyntax>,

@@ -16,6 +16,6 @@ mod types;
 mod words;
 
 pub use annotations::deduplicate_annotations;
-pub use items::item;
+pub use items::{declared, item, namespace};
 pub use lawful_tree::tree_of_tokens;
 pub use stopped::Stopped;
