@@ -4,7 +4,8 @@ use Rattle.schema_syntax_reader.specs.Placed.{IsPlacedString}
 use Rattle.schema_syntax_reader.specs.Stops.{IsStopped}
 use Rattle.schema_syntax_reader.specs.Trees.{IsChoice}
 use Rattle.schema_syntax_reader.proofs.Scanned.{decl_parts}
-use Rattle.schema_syntax_reader.proofs.Readings.{Faultless, stops_right, stopped_right, both_faultless}
+use Rattle.schema_syntax_reader.proofs.Readings.{Faultless, stops_left, stops_right, stopped_right}
+use Rattle.schema_syntax_reader.proofs.Readings.{both_faultless}
 use Rattle.schema_syntax_reader.specs.Sites.{names_sites, choices_sites}
 use Rattle.schema_syntax_parser.specs.declared.syntax.DeclSyntax.TheVariants as syntax
 use Rattle.schema_syntax_reader.proofs.Chosen.{choices_some, choices_empty, choices_faultless}
@@ -15,6 +16,11 @@ some-requires c κs = (
   (refl, tt),
   (decl_parts c.args.text.now (syntax.Enum c.args.names c.args.choices c.args.brackets) c.requires).0.0,
 )
+
+pub returns-in_err-names : goal.returns-in_err-names
+returns-in_err-names c =
+    stops_left c.args.text.now _ c.from_residual.result _ c.from_residual.ensures.1 (names_sites c.args.names)
+    (choices_sites c.args.choices c.args.brackets) c.in_err-names.ensures
 
 pub returns-in_default : goal.returns-in_default
 returns-in_default c =
