@@ -1,10 +1,9 @@
 -- What is gathered of one item more, and the fragment of what was gathered.
-use Rattle.std.proofs.Common.{◌≡◌, ◌≤◌, Bool, true, false, List, [], ◌∷◌, ◌++◌, length, Option, Some, None, refl}
+use Rattle.std.proofs.Common.{◌≡◌, ◌≤◌, ℕ, Bool, true, false, List, [], ◌∷◌, ◌++◌, length, Option, Some, None, refl}
 use Rattle.std.proofs.Common.{sym, ap}
-use Rattle.std.proofs.Common.{◌∙◌, subst, true≢false, is_some, append-nil, filter_map, option_to_list, arith}
-use Rattle.std.specs.List.{AllByRecursion, cons_option}
+use Rattle.std.proofs.Common.{◌∙◌, subst, true≢false, append-nil, filter_map, option_to_list, arith}
+use Rattle.std.specs.List.{All, AllByRecursion, cons_option}
 use Rattle.std.specs.Option.{option_map}
-use Rattle.std.specs.Prelude.{Result, Ok, Err, IfOk}
 use Rattle.std.proofs.lemmas.Grind.{flat_map-append}
 use Rattle.std.proofs.lemmas.List.Elements.{filter_map-append}
 use Rattle.cedar_data.specs.Maps.{map_of}
@@ -14,6 +13,15 @@ use Rattle.cedar_identifiers.specs.declared.annotations.Annotations.{Annotations
 use Rattle.cedar_identifiers.specs.declared.name.Name.{Name}
 use Rattle.cedar_identifiers.specs.declared.raw_name.RawName.{RawName}
 use Rattle.cedar_names.specs.declared.extension_table.ExtensionTable.{ExtensionTable}
+use Rattle.cedar_data.specs.Span.{Span}
+use Rattle.schema_syntax_parser.specs.declared.syntax.AnnotationSyntax.{AnnotationSyntax}
+use Rattle.schema_syntax_parser.specs.declared.syntax.DeclaredSyntax.{DeclaredSyntax}
+use Rattle.schema_syntax_parser.specs.declared.syntax.ItemSyntax.{ItemSyntax}
+use Rattle.schema_syntax_parser.specs.declared.syntax.ItemSyntax.TheVariants as item
+use Rattle.schema_syntax_parser.specs.declared.syntax.PathSyntax.{PathSyntax}
+use Rattle.schema_syntax_reader.specs.Placed.{NoSiteFault}
+use Rattle.schema_syntax_reader.specs.Sites.{declared_sites, item_sites}
+use Rattle.schema_syntax_reader.specs.Trees.{IsDeclaredOf, IsItemOf}
 use Rattle.schema_syntax_tree.specs.declared.annotated.Annotated.{Annotated}
 use Rattle.schema_syntax_tree.specs.declared.declaration.Declaration.{Declaration}
 use Rattle.schema_syntax_tree.specs.declared.namespace.Namespace.{Namespace}
@@ -26,8 +34,8 @@ use Rattle.schema_convert_types.specs.Fragments.{entity_entries, action_entries,
 use Rattle.schema_convert_types.specs.Fragments.{action_entries_of, namespace_entry, namespace_key, definition_of}
 use Rattle.schema_convert_types.specs.Fragments.{fragment_of}
 use Rattle.schema_convert_types.specs.declared.namespaces.Entries.{Entries}
-use Rattle.schema_convert.specs.Gathered.{EachPlain, IsOwn, IsGatheredOf, AddsOutside, AddsNamed}
-use Rattle.schema_convert.specs.Gathered.{AddsOwn}
+use Rattle.schema_convert.specs.Gathered.{EachPlain, IsOwn, IsGatheredOf, AddsOutside, AddsNamed, AddsNamespace}
+use Rattle.schema_convert.specs.Gathered.{AddsOwn, AddsItem}
 use Rattle.schema_convert.specs.Joined.{named, named_so, outside, unnamed_so, empty_namespace}
 use Rattle.schema_convert.specs.Plain.{IsPlain, AreOnce, AreUnlike, ArePlain, HasRisingNotes, IsPlainNamespace}
 use Rattle.schema_convert.specs.Plain.{apart}
@@ -103,32 +111,15 @@ module _ (table : ExtensionTable) (tree : List (Annotated Namespace)) (n : Annot
         some = λ h e. so_far.some (sym flag ∙ h) (sym out ∙ e);
       }
 
-  none_by : (before after : Gathered) (decls : List (Annotated (Node Declaration))) → IsGatheredOf table tree before
-      → AddsOutside table before after decls → after.has_outside ≡ false → outside tree ++ decls ≡ []
-  none_by before after [] so_far adds h = append-nil (outside tree) ∙ so_far.none (sym (adds.some refl) ∙ h)
-  none_by before after (d ∷ decls) so_far adds h =
-      absurd (true≢false (sym (adds.now (λ e. cons_not d decls e)) ∙ h))
-    where
-      cons_not : (x : Annotated (Node Declaration)) (xs : List (Annotated (Node Declaration))) → x ∷ xs ≡ [] → ⊥
-      cons_not x xs e = cc
-
-  some_by : (before after : Gathered) (decls : List (Annotated (Node Declaration))) → IsGatheredOf table tree before
-      → AddsOutside table before after decls → after.has_outside ≡ true → outside tree ++ decls ≡ [] → ⊥
-  some_by before after [] so_far adds h e =
-      so_far.some (sym (adds.some refl) ∙ h) (sym (append-nil (outside tree)) ∙ e)
-  some_by before after (d ∷ decls) so_far adds h e =
-      no_append (outside tree) (d ∷ decls) (λ g. cons_not d decls g) e
-    where
-      cons_not : (x : Annotated (Node Declaration)) (xs : List (Annotated (Node Declaration))) → x ∷ xs ≡ [] → ⊥
-      cons_not x xs g = cc
-
-  -- declarations outside of every namespace
-  pub more_outside : (before after : Gathered) → n.item.name ≡ None → IsGatheredOf table tree before
-      → AddsOutside table before after n.item.decls → IsGatheredOf table (tree ++ n ∷ []) after
-  more_outside before after is so_far adds =
-      let decls = n.item.decls in
+  -- a declaration outside of every namespace
+  pub more_outside : (before after : Gathered) (decl : Annotated (Node Declaration)) → n.item.name ≡ None
+      → n.item.decls ≡ decl ∷ [] → IsGatheredOf table tree before → AddsOutside table before after decl
+      → IsGatheredOf table (tree ++ n ∷ []) after
+  more_outside before after decl is alone so_far adds =
+      let decls = decl ∷ [] in
       let names : named (tree ++ n ∷ []) ≡ named tree = named_more None is ∙ append-nil (named tree) in
-      let out : outside (tree ++ n ∷ []) ≡ outside tree ++ decls = outside_more None is in
+      let out : outside (tree ++ n ∷ []) ≡ outside tree ++ decls = outside_more None is
+      ∙ ap (λ l. outside tree ++ l) alone in
       record {
         namespaces = adds.others ∙ (so_far.namespaces ∙ ap (filter_map namespace_entry) (sym names));
         each = subst (AllByRecursion (IsPlainNamespace table)) (sym names) so_far.each;
@@ -148,40 +139,42 @@ module _ (table : ExtensionTable) (tree : List (Annotated Namespace)) (n : Annot
             (all_append (λ (d : Annotated (Node Declaration)). IsPlain table d.item.node) (outside tree)
             decls so_far.plain
             adds.entries.plain);
-        none = λ h. out ∙ none_by before after decls so_far adds h;
-        some = λ h e. some_by before after decls so_far adds h (sym out ∙ e);
+        none = λ h. absurd (true≢false (sym adds.some ∙ h));
+        some = λ h e. no_append (outside tree) decls (λ g. not_empty g) (sym out ∙ e);
       }
+    where
+      not_empty : decl ∷ [] ≡ [] → ⊥
+      not_empty g = cc
 
-name_some : {X : Type 0} (o : Option X) → is_some o ≡ true → (x : X) × (o ≡ Some x)
-name_some None h = absurd (true≢false (sym h))
-name_some (Some x) h = (x, refl)
+module _ (source : List ℕ) (table : ExtensionTable) (before after : Gathered) (raw : ItemSyntax) where
+  -- a namespace that was read
+  pub namespace_added : (list : List AnnotationSyntax) (name : PathSyntax) (decls : List DeclaredSyntax) (loc : Span)
+      → raw ≡ item.Namespace list name decls loc → (n : Annotated Namespace)
+      → IsItemOf source (item.Namespace list name decls loc) n
+      → All (NoSiteFault source) (item_sites (item.Namespace list name decls loc))
+      → AddsNamespace table before after n → AddsItem source table raw before after
+  namespace_added list name decls loc is n reads lawful adds =
+      subst (λ i. AddsItem source table i before after) (sym is) (record {
+        namespace = n;
+        is = reads;
+        lawful = lawful;
+        grown = λ tree so_far. more_named table tree n before after reads.0 (ap (λ i. i.name) reads.2) so_far
+            adds.entries adds.outside adds.same;
+      })
 
-name_none : {X : Type 0} (o : Option X) → is_some o ≡ false → o ≡ None
-name_none None h = refl
-name_none (Some x) h = absurd (true≢false h)
-
-module _ (table : ExtensionTable) (n : Annotated Namespace) (before after : Gathered) where
-  -- what one item more leaves
-  abbrev pub Grows : Bool → Type 0
-  Grows plain = plain ≡ true → (tree : List (Annotated Namespace)) → IsGatheredOf table tree before
-      → IsGatheredOf table (tree ++ n ∷ []) after
-
-  pub named_item : {E : Type 0} → is_some n.item.name ≡ true → after.outside ≡ before.outside
-      → after.has_outside ≡ before.has_outside
-      → (r : Result Bool E)
-      → IfOk r (λ plain. plain ≡ true → AddsNamed table before.namespaces.items after.namespaces.items n)
-      → IfOk r Grows
-  named_item has same flag (Err e) h = tt
-  named_item has same flag (Ok b) h = λ plain tree so_far.
-      let path = name_some n.item.name has in
-      more_named table tree n before after path.0 path.1 so_far (h plain) same flag
-
-  pub outside_item : {E : Type 0} → is_some n.item.name ≡ false → (r : Result Bool E)
-      → IfOk r (λ plain. plain ≡ true → AddsOutside table before after n.item.decls)
-      → IfOk r Grows
-  outside_item has (Err e) h = tt
-  outside_item has (Ok b) h = λ plain tree so_far.
-      more_outside table tree n before after (name_none n.item.name has) so_far (h plain)
+  -- a declaration that was read
+  pub outside_added : (x : DeclaredSyntax) → raw ≡ item.Decl x → (d : Annotated (Node Declaration))
+      → IsDeclaredOf source x d → All (NoSiteFault source) (declared_sites x) → AddsOutside table before after d
+      → AddsItem source table raw before after
+  outside_added x is d reads lawful adds =
+      let n : Annotated Namespace =
+      record { item = record { name = None; decls = d ∷ []; loc = None }; annotations = record { 0 = [] } } in
+      subst (λ i. AddsItem source table i before after) (sym is) (record {
+        namespace = n;
+        is = (d, refl, reads);
+        lawful = lawful;
+        grown = λ tree so_far. more_outside table tree n before after d refl refl so_far adds;
+      })
 
 -- entries that are those of plain declarations, and what they define
 pub own_plain : (table : ExtensionTable) (decls : List (Annotated (Node Declaration))) (entries : Entries)

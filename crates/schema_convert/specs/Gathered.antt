@@ -1,6 +1,6 @@
 -- What is gathered of a tree, item by item. Only contracts inside the crate cite this.
-use Rattle.std.specs.Prelude.{◌≡◌, Bool, true, false, List, [], ◌∷◌, ◌++◌, Option, None}
-use Rattle.std.specs.List.{AllByRecursion, filter_map}
+use Rattle.std.specs.Prelude.{◌≡◌, ℕ, Bool, true, false, List, [], ◌∷◌, ◌++◌, Option, None}
+use Rattle.std.specs.List.{All, AllByRecursion, filter_map}
 use Rattle.std.specs.Option.{option_to_list}
 use Rattle.cedar_identifiers.specs.declared.name.Name.{Name}
 use Rattle.cedar_data.specs.Maps.{map_of}
@@ -9,6 +9,10 @@ use Rattle.cedar_data.specs.declared.node.Node.{Node}
 use Rattle.cedar_identifiers.specs.declared.annotations.Annotations.{Annotations}
 use Rattle.cedar_identifiers.specs.declared.raw_name.RawName.{RawName}
 use Rattle.cedar_names.specs.declared.extension_table.ExtensionTable.{ExtensionTable}
+use Rattle.schema_syntax_parser.specs.declared.syntax.ItemSyntax.{ItemSyntax}
+use Rattle.schema_syntax_reader.specs.Placed.{NoSiteFault}
+use Rattle.schema_syntax_reader.specs.Sites.{item_sites}
+use Rattle.schema_syntax_reader.specs.Trees.{IsItemOf}
 use Rattle.schema_syntax_tree.specs.declared.annotated.Annotated.{Annotated}
 use Rattle.schema_syntax_tree.specs.declared.declaration.Declaration.{Declaration}
 use Rattle.schema_syntax_tree.specs.declared.namespace.Namespace.{Namespace}
@@ -57,13 +61,12 @@ pub record IsGatheredOf (table : ExtensionTable) (tree : List (Annotated Namespa
   pub none : g.has_outside ≡ false → outside tree ≡ []
   pub some : g.has_outside ≡ true → outside tree ≡ [] → ⊥
 
--- declarations outside of every namespace are gathered too
-pub record AddsOutside (table : ExtensionTable) (before after : Gathered) (decls : List (Annotated (Node Declaration)))
+-- a declaration outside of every namespace is gathered too
+pub record AddsOutside (table : ExtensionTable) (before after : Gathered) (decl : Annotated (Node Declaration))
     : Type 0 where
-  pub entries : Adds table before.outside after.outside decls
+  pub entries : Adds table before.outside after.outside (decl ∷ [])
   pub others : after.namespaces.items ≡ before.namespaces.items
-  pub some : decls ≡ [] → after.has_outside ≡ before.has_outside
-  pub now : (decls ≡ [] → ⊥) → after.has_outside ≡ true
+  pub some : after.has_outside ≡ true
 
 -- the entry of a namespace that has a name is there too, and nothing is to be said of it
 pub record AddsNamed (table : ExtensionTable)
@@ -71,6 +74,21 @@ pub record AddsNamed (table : ExtensionTable)
     (n : Annotated Namespace) : Type 0 where
   pub entry : after ≡ before ++ option_to_list (namespace_entry n)
   pub plain : IsPlainNamespace table n
+
+-- a namespace that has a name is gathered too
+pub record AddsNamespace (table : ExtensionTable) (before after : Gathered) (n : Annotated Namespace) : Type 0 where
+  pub entries : AddsNamed table before.namespaces.items after.namespaces.items n
+  pub outside : after.outside ≡ before.outside
+  pub same : after.has_outside ≡ before.has_outside
+
+-- what the item stands for is gathered too, and none of its words and strings is at fault
+pub record AddsItem (source : List ℕ) (table : ExtensionTable) (item : ItemSyntax) (before after : Gathered)
+    : Type 0 where
+  pub namespace : Annotated Namespace
+  pub is : IsItemOf source item namespace
+  pub lawful : All (NoSiteFault source) (item_sites item)
+  pub grown : (tree : List (Annotated Namespace)) → IsGatheredOf table tree before
+      → IsGatheredOf table (tree ++ namespace ∷ []) after
 
 -- the entries of the namespaces, and where declarations stand outside of these, the entry of what they define
 abbrev pub AddsOwn : Bool → Entries → List (Option Name × NamespaceDefinition RawName as_written)

@@ -3,7 +3,7 @@ ghost use Rattle.cedar_names.specs.declared.extension_table.ExtensionTable.{Exte
 ghost use Rattle.schema_convert_types.specs.Fragments.{definition_of};
 ghost use Rattle.schema_syntax_tree.specs.declared.annotated.Annotated.{Annotated};
 ghost use Rattle.schema_syntax_tree.specs.declared.namespace.Namespace.{Namespace};
-ghost use Rattle.schema_convert.specs.Gathered.{Adds, AddsOutside, AddsNamed, AddsOwn, IsOwn, IsGatheredOf};
+ghost use Rattle.schema_convert.specs.Gathered.{Adds, AddsOutside, AddsNamed, AddsNamespace, AddsOwn, IsOwn, IsGatheredOf};
 ghost use Rattle.schema_convert.specs.Plain.{AreUnlike, ArePlain, HasRisingNotes};
 ghost use Rattle.schema_convert.specs.Translatable.{IsFreeName};
 ghost use Rattle.schema_convert.specs.Joined.{named};
@@ -94,19 +94,21 @@ fn own_definition(
     Ok(Some(definition))
 }
 
-// Adds what declarations define that stand outside of every namespace.
-fn push_outside<'a>(
+/// Adds what a declaration defines that stands outside of every namespace, where nothing is to be said of it.
+pub fn push_outside<'a>(
     alloc: Global,
     table: &ExtensionTable,
     gathered: &mut Gathered,
-    decls: List<Annotated<'a, Node<Declaration<'a>>>>,
+    decl: Annotated<'a, Node<Declaration<'a>>>,
 ) -> Result<bool, AllocError>
-    ensures { IfOk result (λ plain. plain ≡ true → AddsOutside table.now gathered.old gathered.new decls.entry) }
+    ensures { IfOk result (λ plain. plain ≡ true → AddsOutside table.now gathered.old gathered.new decl.entry) }
 {
-    if !decls.as_slice().is_empty() {
-        gathered.has_outside = true;
+    if !is_plain(alloc, table, &decl.item.node)? {
+        return Ok(false);
     }
-    push_plain(alloc, table, &mut gathered.outside, decls)
+    gathered.has_outside = true;
+    push_declared(alloc, &mut gathered.outside, decl)?;
+    Ok(true)
 }
 
 // What a named namespace of these declarations and annotations defines, where nothing is to be said of it.
@@ -160,21 +162,16 @@ fn push_named<'a>(
     Ok(true)
 }
 
-/// Adds what the namespace defines, where nothing is to be said of it.
-pub fn push_item<'a>(
+/// Adds what a namespace that has a name defines, where nothing is to be said of it.
+pub fn push_namespace<'a>(
     alloc: Global,
     table: &ExtensionTable,
     gathered: &mut Gathered,
     namespace: Annotated<'a, Namespace<'a>>,
 ) -> Result<bool, AllocError>
-    ensures { IfOk result (λ plain. plain ≡ true → (tree : List (Annotated Namespace)) → IsGatheredOf table.now tree gathered.old → IsGatheredOf table.now (tree ++ namespace.entry ∷ []) gathered.new) }
+    ensures { IfOk result (λ plain. plain ≡ true → AddsNamespace table.now gathered.old gathered.new namespace.entry) }
 {
-    if namespace.item.name.is_some() {
-        return push_named(alloc, table, &mut gathered.namespaces, namespace);
-    }
-    let (item, _) = namespace.into_parts();
-    let (_, decls, _) = item.into_parts();
-    push_outside(alloc, table, gathered, decls)
+    push_named(alloc, table, &mut gathered.namespaces, namespace)
 }
 
 // The entries of the namespaces, and of what stands outside of these, where something does and no name stands twice there.

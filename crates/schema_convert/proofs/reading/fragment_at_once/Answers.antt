@@ -17,8 +17,8 @@ loop-gathered-init c = record {
 pub next_item-requires : goal.next_item-requires
 next_item-requires c = record { sentence = sentence_of c.loop-gathered.invariant.read.left }
 
-pub item-requires : goal.item-requires
-item-requires c =
+pub push_item-requires : goal.push_item-requires
+push_item-requires c =
     let first : IsFirstItem c.loop-gathered.rest.now c.in-Some.raw c.in-Some.after.now = rw c.in-Some.is at
     c.in_ok-raw.ensures.item in
     one_scanned c.args.text.now c.args.tokens.now c.in-Some.raw c.in-Some.after.now c.loop-gathered.invariant.tree
@@ -26,18 +26,18 @@ item-requires c =
     c.loop-gathered.invariant.tree c.loop-gathered.invariant.read first)
     (length c.args.text.now) c.requires.scans c.requires.placed
 
-pub returns-in_err-namespace-clause-fault : goal.returns-in_err-namespace-clause-fault
-returns-in_err-namespace-clause-fault c =
+pub returns-in_err-push_item-clause-fault : goal.returns-in_err-push_item-clause-fault
+returns-in_err-push_item-clause-fault c =
     let first : IsFirstItem c.loop-gathered.rest.now c.in-Some.raw c.in-Some.after.now = rw c.in-Some.is at
     c.in_ok-raw.ensures.item in
-    let p = err_from_is_err_and c.from_residual-in_err-namespace.result
-    c.from_residual-in_err-namespace.ensures.1 in
+    let p = err_from_is_err_and c.from_residual-in_err-push_item.result
+    c.from_residual-in_err-push_item.ensures.1 in
     rw (p.1, p.2) (stopped_at_item c.args.text.now c.args.tokens.now c.in-Some.raw c.in-Some.after.now
     c.loop-gathered.invariant.tree
     (next_is c.args.text.now c.args.tokens.now c.loop-gathered.rest.now c.in-Some.raw c.in-Some.after.now
     c.loop-gathered.invariant.tree c.loop-gathered.invariant.read first)
-    (length c.args.text.now) c.in_err-namespace.field-0.0 c.requires.scans c.requires.placed
-    c.in_err-namespace.ensures)
+    (length c.args.text.now) c.in_err-push_item.field-0.0 c.requires.scans c.requires.placed
+    c.in_err-push_item.ensures.fault)
 
 pub loop-gathered-preserved : goal.loop-gathered-preserved
 loop-gathered-preserved c =
@@ -45,14 +45,14 @@ loop-gathered-preserved c =
     c.in_ok-raw.ensures.item in
     let yes : c.in_ok-push_item.field-0 ≡ true = search rules in
     let tree = c.loop-gathered.invariant.tree in
+    let added = c.in_ok-push_item.ensures.added yes in
     record {
-      tree = tree ++ c.in_ok-namespace.namespace ∷ [];
+      tree = tree ++ added.namespace ∷ [];
       read = one_more_item c.args.text.now c.args.tokens.now c.in-Some.raw c.in-Some.after.now tree
           (next_is c.args.text.now c.args.tokens.now c.loop-gathered.rest.now c.in-Some.raw c.in-Some.after.now tree
           c.loop-gathered.invariant.read first)
-          c.in_ok-namespace.namespace (tree ++ c.in_ok-namespace.namespace ∷ []) c.in_ok-namespace.ensures.0
-          c.in_ok-namespace.ensures.1 refl;
-      is = c.in_ok-push_item.ensures yes tree c.loop-gathered.invariant.is;
+          added.namespace (tree ++ added.namespace ∷ []) added.is added.lawful refl;
+      is = added.grown tree c.loop-gathered.invariant.is;
     }
 
 pub returns-clause-found : goal.returns-clause-found
