@@ -20,11 +20,23 @@ use schema_json_io::advice::advice_on;
 use schema_json_io::floats::has_float;
 use schema_json_io::read::with_advice;
 use schema_json_io::shape_faults::of_shape;
-use schema_json_keys::first_repeated_key;
+use schema_json_keys::look_through;
 use serde_json::Value;
 use std::alloc::Global;
 
 // The data that a value without a float is read as, or its fault.
+fn read_whole(alloc: Global, value: &Value) -> Result<SchemaFragment, JsonFault>
+    requires { has_float (view value.now) ≡ false }
+    ensures { MatchResult result (λ s. (has_float (view value.now) ≡ false) × IsOldRead (view value.now) s)
+        (IsValueCauseBy IsReadFault (view value.now)) }
+{
+    match read_fragment(alloc, value) {
+        Ok(old) => Ok(old),
+        Err(fault) => Err(of_shape(fault)),
+    }
+}
+
+// The data that a value is read as, or its fault.
 fn read_value(alloc: Global, value: &Value) -> Result<SchemaFragment, JsonFault>
     ensures { MatchResult result (λ s. (has_float (view value.now) ≡ false) × IsOldRead (view value.now) s)
         (IsValueCauseBy IsReadFault (view value.now)) }
@@ -32,22 +44,23 @@ fn read_value(alloc: Global, value: &Value) -> Result<SchemaFragment, JsonFault>
     if has_float(value) {
         return Err(JsonFault::Float);
     }
-    match read_fragment(alloc, value) {
-        Ok(old) => Ok(old),
-        Err(fault) => Err(of_shape(fault)),
-    }
+    read_whole(alloc, value)
 }
 
-// The data that the value of a text is read as, or the fault.
+// The data that the value of a text is read as, or the fault. Mostly the text has no number, and floats are not looked for.
 fn read_text(alloc: Global, text: &str, value: &Value) -> Result<SchemaFragment, JsonFault>
     requires { read text.now ≡ Some (view value.now) }
     ensures { MatchResult result (λ s. (d : Data) × Holds text.now d × IsOldRead d s)
         (IsTextCauseBy IsReadFault text.now) }
 {
-    if let Some(key) = first_repeated_key(alloc, text)? {
+    let found = look_through(alloc, text)?;
+    if let Some(key) = found.repeated {
         return Err(JsonFault::RepeatedKey(Text::from_string(key)));
     }
-    read_value(alloc, value)
+    if found.has_number && has_float(value) {
+        return Err(JsonFault::Float);
+    }
+    read_whole(alloc, value)
 }
 
 // The fragment that the data becomes, or its fault, beside which nothing is advised.

@@ -1,7 +1,8 @@
-ghost use Rattle.std.specs.Prelude.{◌≡◌, Some, MatchResult, ℕ, List};
+ghost use Rattle.std.specs.Prelude.{◌≡◌, false, Some, MatchResult, ℕ, List};
 ghost use Rattle.serde_json.specs.Data.{Data};
 ghost use Rattle.serde_json.specs.Read.{read};
 ghost use Rattle.serde_json.specs.View.{view};
+ghost use Rattle.serde_json.specs.Written.{has_float};
 ghost use Rattle.schema_json_io.specs.Advice.{beside};
 ghost use Rattle.schema_json_io.specs.Texts.{TextShape, ValueShape};
 ghost use Rattle.schema_json_io.specs.Causes.{IsTextCause, IsValueCause, IsTextError, IsValueError};
@@ -13,33 +14,45 @@ use cedar_data::Text;
 use cedar_identifiers::RawName;
 use schema_json::Fragment;
 use schema_json_errors::{JsonAdvice, JsonDeserializationError, JsonFault};
-use schema_json_keys::first_repeated_key;
+use schema_json_keys::look_through;
 use schema_json_shapes::read_fragment;
 use serde_json::Value;
 use std::alloc::Global;
 
 // The fragment of a value without a float, or its fault.
-fn read_value(alloc: Global, value: &Value) -> Result<Fragment<RawName>, JsonFault>
+fn read_whole(alloc: Global, value: &Value) -> Result<Fragment<RawName>, JsonFault>
+    requires { has_float (view value.now) ≡ false }
     ensures { MatchResult result (ValueShape (view value.now)) (IsValueCause (view value.now)) }
 {
-    if has_float(value) {
-        return Err(JsonFault::Float);
-    }
     match read_fragment(alloc, value) {
         Ok(fragment) => Ok(fragment),
         Err(fault) => Err(of_shape(fault)),
     }
 }
 
-// The fragment of a value that a text reads as, or the fault.
+// The fragment of a value, or its fault.
+fn read_value(alloc: Global, value: &Value) -> Result<Fragment<RawName>, JsonFault>
+    ensures { MatchResult result (ValueShape (view value.now)) (IsValueCause (view value.now)) }
+{
+    if has_float(value) {
+        return Err(JsonFault::Float);
+    }
+    read_whole(alloc, value)
+}
+
+// The fragment of a value that a text reads as, or the fault. Mostly the text has no number, and floats are not looked for.
 fn read_text(alloc: Global, text: &str, value: &Value) -> Result<Fragment<RawName>, JsonFault>
     requires { read text.now ≡ Some (view value.now) }
     ensures { MatchResult result (TextShape text.now) (IsTextCause text.now) }
 {
-    if let Some(key) = first_repeated_key(alloc, text)? {
+    let found = look_through(alloc, text)?;
+    if let Some(key) = found.repeated {
         return Err(JsonFault::RepeatedKey(Text::from_string(key)));
     }
-    read_value(alloc, value)
+    if found.has_number && has_float(value) {
+        return Err(JsonFault::Float);
+    }
+    read_whole(alloc, value)
 }
 
 /// The error of this fault, with this advice where it may stand beside it.

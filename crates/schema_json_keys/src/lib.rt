@@ -1,6 +1,8 @@
-//! Keys that stand twice in an object of a JSON text.
+//! What is looked for in a JSON text beside what it says: keys that stand twice in an object, and numbers.
 #![tactic(auto)]
 
+pub mod looking;
+pub mod numbers;
 pub mod repeated_keys;
 
-pub use repeated_keys::first_repeated_key;
+pub use looking::{Findings, look_through};

@@ -1,15 +1,15 @@
-ghost use Rattle.std.specs.Prelude.{◌≡◌, List, ℕ, true, [], IfOk, MatchOption, map, option_map, string_bytes};
+ghost use Rattle.std.specs.Prelude.{◌≡◌, true, [], IfOk, map, option_map};
 ghost use Rattle.std.specs.List.{list_any};
 ghost use Rattle.std.specs.List.Sorted.{IsStrictlySortedBy};
 ghost use Rattle.std.specs.Str.{bytes_eq};
 ghost use Rattle.std.specs.Ordering.{nat_cmp};
 ghost use Rattle.std.specs.Cmp.Lexicographic.{slice_cmp};
 ghost use Rattle.json.specs.Value.{value_view, items_view, members_view};
-ghost use Rattle.schema_json_keys.specs.Keys.{RepeatedKey, keys_of, items_keys, members_keys};
+ghost use Rattle.schema_json_keys.specs.Keys.{keys_of, items_keys, members_keys};
 ghost use Rattle.schema_json_keys.specs.Computed.{first_again};
 
 use cedar_data::{compare_bytes, same_bytes};
-use json::{Error, Scratch, Value};
+use json::Value;
 use std::alloc::{AllocError, Global};
 use std::cmp::Ordering;
 use std::collections::BTreeSet;
@@ -17,25 +17,9 @@ use std::collections::BTreeSet;
 // In how many members a key is looked for one by one, which takes less than a set.
 const FEW: usize = 8;
 
-/// The first key of the text, by its escapes read, that its object has had before. A text that is no JSON has none.
-pub fn first_repeated_key(alloc: Global, text: &str) -> Result<Option<String>, AllocError>
-    ensures { IfOk result (λ found. MatchOption found ((name : List ℕ) → ¬ RepeatedKey text.now name)
-        (λ name. RepeatedKey text.now (string_bytes name))) }
-{
-    let mut scratch = Scratch::new(alloc);
-    let value = match Value::parse(alloc, text, &mut scratch) {
-        Ok(value) => value,
-        Err(Error::OutOfMemory) => return Err(AllocError),
-        Err(_) => return Ok(None),
-    };
-    match first_in_value(alloc, &value)? {
-        Some(name) => Ok(Some(String::from_str(alloc, name)?)),
-        None => Ok(None),
-    }
-}
-
+/// The first key in the value that its object has had before.
 #[cycle(first)]
-fn first_in_value<'a>(alloc: Global, value: &Value<'a>) -> Result<Option<&'a str>, AllocError>
+pub fn first_in_value<'a>(alloc: Global, value: &Value<'a>) -> Result<Option<&'a str>, AllocError>
     ensures { IfOk result (λ name. option_map (λ s. s.now) name
         ≡ first_again (keys_of (value_view value.now))) }
 {

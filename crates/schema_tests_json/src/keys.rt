@@ -1,4 +1,4 @@
-use schema_json_keys::first_repeated_key;
+use schema_json_keys::look_through;
 use std::alloc::Global;
 
 // A key, or nothing, and behind `|` a text whose first repeated key it is. Worked by hand: a key comes again where its object has
@@ -15,9 +15,11 @@ c|[1, {"x": [{"c": null, "d": 1, "c": 2}]}]
 // Is the first repeated key of the line's text the one that the line says?
 fn agrees(alloc: Global, line: &str) -> bool {
     let (key, text) = line.split_once('|').unwrap_or(("", ""));
-    match first_repeated_key(alloc, text) {
-        Ok(Some(found)) => !key.is_empty() && found.as_str() == key,
-        Ok(None) => key.is_empty(),
+    match look_through(alloc, text) {
+        Ok(found) => match found.repeated {
+            Some(found) => !key.is_empty() && found.as_str() == key,
+            None => key.is_empty(),
+        },
         Err(_) => false,
     }
 }
