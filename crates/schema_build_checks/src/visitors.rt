@@ -96,7 +96,8 @@ impl<'a> Visitor<RawName> for Fitting<'a> {
     ghost refuses = { λ ns before part refusal. Unit {0} };
 
     fn visit(&mut self, _ns: &Option<Name>, part: LentPart<'_, RawName>) -> Result<(), ()>
-        ensures taken { OnOk result (GivenNothing (λ v p. unknown_extension v.table.now p) self.old (part_of part.entry) self.new × (unsupported (part_of part.entry) ≡ [])) }
+        ensures taken { OnOk result (GivenNothing (λ v p. unknown_extension v.table.now p) self.old (part_of
+            part.entry) self.new × (unsupported (part_of part.entry) ≡ [])) }
         ensures refused { IfErr result (λ refusal. Unit {0}) }
     {
         match part {

@@ -142,7 +142,8 @@ fn builtin_meant(
     is_own: bool,
 ) -> Result<BuiltType, AllocError>
     requires { IsSome (builtin (table_scope table.now) (components_of (candidate (name_of ns.now) name.now is_own))) }
-    ensures { IfOk result (λ ty. (p : PlainType) × (builtin (table_scope table.now) (components_of (candidate (name_of ns.now) name.now is_own)) ≡ Some p) × IsBuilt p ty) }
+    ensures { IfOk result (λ ty. (p : PlainType) × (builtin (table_scope table.now) (components_of (candidate
+        (name_of ns.now) name.now is_own)) ≡ Some p) × IsBuilt p ty) }
 {
     if !is_own {
         return builtin_type(alloc, table, name);

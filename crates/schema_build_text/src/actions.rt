@@ -58,7 +58,8 @@ fn push_names_line(
     head: &str,
     names: &[Name],
 ) -> Result<(), AllocError>
-    ensures { OnOk result (Adds text.old text.new (spaces base ++ (head.now ++ (joined_by (codes ", ") (map name_text (names_content names.now)) ++ codes "],\n")))) }
+    ensures { OnOk result (Adds text.old text.new (spaces base ++ (head.now ++ (joined_by (codes ", ") (map
+        name_text (names_content names.now)) ++ codes "],\n")))) }
 {
     push_spaces(text, base)?;
     push(text, head)?;

@@ -51,7 +51,8 @@ pub fn push_type(text: &mut String, alloc: Global, base: usize, ty: &Type) -> Re
 
 // What stands behind the name of a required attribute that is a set of a built-in type, to the end of its line.
 fn set_line(element: &Type) -> Option<&'static str>
-    ensures { IfSome result (λ line. (base : ℕ) → line.now ≡ codes ": Set<" ++ (type_text true base (plain_type (type_content element.now)) ++ codes ">,\n")) }
+    ensures { IfSome result (λ line. (base : ℕ) → line.now ≡ codes ": Set<" ++ (type_text true base (plain_type
+        (type_content element.now)) ++ codes ">,\n")) }
 {
     match element {
         Type::Never | Type::AnyBool | Type::True | Type::False => Some(": Set<__cedar::Bool>,\n"),
@@ -64,7 +65,8 @@ fn set_line(element: &Type) -> Option<&'static str>
 
 // What stands behind the name of a required attribute of a built-in type, to the end of its line.
 fn short_line(ty: &Type) -> Option<&'static str>
-    ensures { IfSome result (λ line. (base : ℕ) → line.now ≡ codes ": " ++ (type_text true base (plain_type (type_content ty.now)) ++ codes ",\n")) }
+    ensures { IfSome result (λ line. (base : ℕ) → line.now ≡ codes ": " ++ (type_text true base (plain_type
+        (type_content ty.now)) ++ codes ",\n")) }
 {
     match ty {
         Type::Never | Type::AnyBool | Type::True | Type::False => Some(": __cedar::Bool,\n"),
