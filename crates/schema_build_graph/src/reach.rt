@@ -27,6 +27,34 @@ fn add_new(
     Ok(())
 }
 
+// Leaves the vertices that some path with at least one step leads to, in rising order. A vertex is marked in this round where
+// its mark is the stamp, which is larger than all marks before.
+fn reach(
+    found: &mut Vec<usize>,
+    graph: &[Vec<usize>],
+    start: usize,
+    marks: &mut [usize],
+    stamp: usize,
+) -> Result<(), AllocError>
+    requires graph { InRange (length graph.now) graph.now }
+    requires start { start < length graph.now }
+    requires marks { length marks.old ≡ length graph.now }
+    requires stamp { All (λ m. m < stamp) marks.old }
+    ensures reached { OnOk result (AreReached graph.now start found.new.items) }
+    ensures marks { OnOk result (All (λ m. m ≤ stamp) marks.new) }
+{
+    found.clear();
+    add_new(found, marks, stamp, &graph[start])?;
+    let mut at = 0;
+    while at < found.len() {
+        let next = found[at];
+        add_new(found, marks, stamp, &graph[next])?;
+        at += 1;
+    }
+    found.sort_unstable();
+    Ok(())
+}
+
 /// The vertices that some path with at least one step leads to, in rising order.
 /// A vertex is marked in this round where its mark is the stamp, which is larger than all marks before.
 pub fn reachable(
@@ -44,26 +72,21 @@ pub fn reachable(
     ensures marks { OnOk result (All (λ m. m ≤ stamp) marks.new) }
 {
     let mut found = Vec::new(alloc);
-    add_new(&mut found, marks, stamp, &graph[start])?;
-    let mut at = 0;
-    while at < found.len() {
-        let next = found[at];
-        add_new(&mut found, marks, stamp, &graph[next])?;
-        at += 1;
-    }
-    found.sort_unstable();
+    reach(&mut found, graph, start, marks, stamp)?;
     Ok(found)
 }
 
-/// For each vertex what it reaches.
+/// For each vertex what it reaches, each row with just its room.
 pub fn closure(alloc: Global, graph: &[Vec<usize>]) -> Result<Vec<Vec<usize>>, AllocError>
     requires { InRange (length graph.now) graph.now }
     ensures { IfOk result (λ rows. AllReached graph.now rows.items) }
 {
     let mut marks = vec![in alloc; 0; graph.len()]?;
-    let mut rows = Vec::new(alloc);
+    let mut found = Vec::new(alloc);
+    let mut rows = Vec::with_capacity(alloc, graph.len())?;
     for start in 0..graph.len() {
-        rows.push(reachable(alloc, graph, start, &mut marks, start + 1)?)?;
+        reach(&mut found, graph, start, &mut marks, start + 1)?;
+        rows.push(Vec::from_slice(alloc, &found)?)?;
     }
     Ok(rows)
 }

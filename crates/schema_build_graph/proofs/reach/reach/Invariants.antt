@@ -2,7 +2,7 @@ use Rattle.std.proofs.Common.{◌≤◌, ◌-◌, length, All, Contains, take}
 use Rattle.schema_build_graph.specs.Marks.{IsMarked}
 use Rattle.schema_build_graph.specs.Graph.{targets_of, HasEdge}
 use Rattle.schema_build_graph.specs.Paths.{Reaches}
-use Rattle.schema_build_graph.proofs.reach.reachable.Given as goal
+use Rattle.schema_build_graph.proofs.reach.reach.Given as goal
 
 abbrev pub invariant-loop-at : goal.invariant-loop-at
 invariant-loop-at l = record {

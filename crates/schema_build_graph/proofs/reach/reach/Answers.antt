@@ -5,16 +5,16 @@ use Rattle.schema_build_graph.specs.Graph.{targets_of}
 use Rattle.schema_build_graph.proofs.Marked.{marked_none}
 use Rattle.schema_build_graph.proofs.Found.{targets_at, sound_first, sound_next, reached, still_covered, next_covered}
 use Rattle.schema_build_graph.proofs.Found.{longer}
-use Rattle.schema_build_graph.proofs.reach.reachable.Goals as goal
+use Rattle.schema_build_graph.proofs.reach.reach.Goals as goal
 
 pub add_new-requires-clause-marked : goal.add_new-requires-clause-marked
 add_new-requires-clause-marked c = subst (λ f. IsMarked c.args.stamp f c.args.marks.now)
-    (sym c.new-found.ensures.items) (marked_none c.args.stamp c.args.marks.now c.requires.stamp)
+    (sym c.clear.ensures.items) (marked_none c.args.stamp c.args.marks.now c.requires.stamp)
 
 pub loop-at-init : goal.loop-at-init
 loop-at-init c =
     let added : AddsFrom c.deref.result.now [] c.add_new.new.found.items = subst
-    (λ f. AddsFrom c.deref.result.now f c.add_new.new.found.items) c.new-found.ensures.items
+    (λ f. AddsFrom c.deref.result.now f c.add_new.new.found.items) c.clear.ensures.items
     c.in_ok-add_new.ensures.added in
     let row : targets_of c.args.graph.now c.args.start
     ≡ c.deref.result.now = targets_at c.args.graph.now c.args.start c.index-graph-start.result c.requires.start
