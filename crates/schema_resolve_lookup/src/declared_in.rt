@@ -7,11 +7,13 @@ ghost use Rattle.schema_resolve_definitions.specs.Declarations.{declared};
 ghost use Rattle.schema_resolve_lookup.specs.Sought.{name_sought, is_there};
 
 use crate::namespaces::{Searched, namespace_of};
+use crate::near::Recent;
 use crate::sought::Sought;
 use cedar_data::{Map, Text, same_bytes};
 use cedar_identifiers::{Id, RawName, UnreservedId};
 use schema_json::{ActionType, CommonType, CommonTypeId, EntityType, NamespaceDefinition};
 use std::cell::Cell;
+use std::cmp::Ordering;
 
 // Whether the fragment declares a common type of this name.
 pub(crate) fn declares_common(searched: &Searched<'_>, sought: Sought<'_>) -> bool
@@ -97,19 +99,53 @@ pub(crate) fn declares_entity(searched: &Searched<'_>, sought: Sought<'_>) -> bo
     ensures { result ≡ among (declared searched.now.fragment.now).entities (name_sought sought.entry) }
 {
     match namespace_of(searched, sought.namespace) {
-        Some(definition) => has_entity(&definition.entity_types, sought.last),
+        Some(definition) => has_entity(
+            &definition.entity_types,
+            sought.last,
+            &searched.recent_entities,
+        ),
         None => false,
     }
 }
 
-// Whether an entity type has this word as its name, found by halving.
-fn has_entity(entities: &Map<UnreservedId, EntityType<RawName>>, word: &Id) -> bool
+// Whether an entity type has this word as its name, found by halving: near a recent place first.
+fn has_entity(entities: &Map<UnreservedId, EntityType<RawName>>, word: &Id, recent: &Recent) -> bool
     ensures { result ≡ list_any (λ e. bytes_eq word.now.text e.0.id.text) entities.now }
 {
     let entries = entities.as_slice();
-    entries
-        .binary_search_by(|entry| entry.0.id.cmp(word))
-        .is_ok()
+    if has_entity_near(entries, word, recent) {
+        return true;
+    }
+    match entries.binary_search_by(|entry| entry.0.id.cmp(word)) {
+        Ok(at) => {
+            recent.found(at);
+            true
+        }
+        Err(_) => false,
+    }
+}
+
+// Whether an entity type near the recent place has this word as its name.
+fn has_entity_near(
+    entries: &[(UnreservedId, EntityType<RawName>)],
+    word: &Id,
+    recent: &Recent,
+) -> bool
+    ensures { result ≡ true → list_any (λ e. bytes_eq word.now.text e.0.id.text) entries.now ≡ true }
+{
+    let (mut low, mut high) = recent.around(entries.len());
+    while low < high {
+        let middle = low + (high - low) / 2;
+        match entries[middle].0.id.cmp(word) {
+            Ordering::Less => low = middle + 1,
+            Ordering::Greater => high = middle,
+            Ordering::Equal => {
+                recent.found(middle);
+                return true;
+            }
+        }
+    }
+    false
 }
 
 // Whether the name is that of the type of an action that the fragment declares.

@@ -4,6 +4,7 @@ ghost use Rattle.std.specs.Cmp.Lexicographic.{slice_cmp};
 ghost use Rattle.cedar_names.specs.Orders.{ids_in_order};
 ghost use Rattle.schema_resolve_lookup.specs.Sought.{ids_before, namespace_ids, words_before, passes_in, passes};
 
+use crate::near::Recent;
 use crate::sought::Before;
 use cedar_identifiers::{Name, RawName};
 use schema_json::{Fragment, NamespaceDefinition};
@@ -11,12 +12,13 @@ use std::cell::Cell;
 use std::cmp::Ordering;
 
 // A fragment whose namespaces are looked up, where the named one stands that was found last, and where the common type
-// that was found last stands in its namespace.
+// and the entity types that were found last stand in their namespaces.
 #[derive(Drop)]
 pub(crate) struct Searched<'f> {
     pub(crate) fragment: &'f Fragment<RawName>,
     recent: Cell<usize>,
     pub(crate) recent_common: Cell<usize>,
+    pub(crate) recent_entities: Recent,
 }
 
 impl<'f> Searched<'f> {
@@ -27,6 +29,7 @@ impl<'f> Searched<'f> {
             fragment,
             recent: Cell::new(0),
             recent_common: Cell::new(0),
+            recent_entities: Recent::new(),
         }
     }
 }
