@@ -1,5 +1,6 @@
 -- Ranks among names that rise.
-use Rattle.std.proofs.Common.{◌≡◌, ℕ, ◌+◌, ◌<◌, List, [], ◌∷◌, ◌++◌, length, get_or, map, sym, ap, ◌∙◌, subst, arith}
+use Rattle.std.proofs.Common.{◌≡◌, ℕ, ◌+◌, ◌<◌, List, [], ◌∷◌, ◌++◌, length, get_or, map, sym, ap, ◌∙◌, subst}
+use Rattle.std.proofs.Common.{arith}
 use Rattle.std.proofs.Common.{inl, inr, Contains, Option, Some, Result, Ok, Err, Ordering}
 use Rattle.std.specs.Prelude.{slice_get}
 use Rattle.std.specs.declared.cmp.Ordering.TheVariants.{Less, Equal, Greater}
@@ -15,6 +16,7 @@ use Rattle.std.proofs.lemmas.List.Elements.{Contains-push, Contains-push_cases, 
 use Rattle.std.proofs.lemmas.List.Sorted.{searchable_from_sorted}
 use Rattle.std.proofs.lemmas.Map.Keys.{Less-from_sorted}
 use Rattle.std.proofs.lemmas.Option.{slice_get_within, get_or_from_slice_get, slice_get_cases, slice_get-map}
+use Rattle.std.proofs.lemmas.Option.{slice_get-get_or}
 use Rattle.schema_build_hierarchy.specs.Ranks.{HasRank, IsRankOf, IsNamed, AreRanksOf}
 
 module _ {K : Type 0} {R : K → K → Ordering} (o : IsTotalOrder R) where
@@ -118,3 +120,13 @@ module _ {K : Type 0} {R : K → K → Ordering} (o : IsTotalOrder R) where
           | inr past ↦ absurd (let lt : r < length (map name entries) = slice_get_within (map name entries) r h.0 h.1 in
               omega (arith, past.0, length-map entries name))
         ])
+
+module _ {K E : Type 0} (R : K → K → Ordering) (name : E → K) (entries : List E) (k : K) where
+  -- the entry at the place has the name, whatever stands beside it
+  pub rank_at : (r : ℕ) (d : E) → r < length entries → R (name (get_or entries r d)) k ≡ Equal
+      → HasRank R (map name entries) k r
+  rank_at r d within equal = (
+    name (get_or entries r d),
+    slice_get-map name entries r ∙ ap (option_map name) (slice_get-get_or entries r d within),
+    equal,
+  )

@@ -18,7 +18,7 @@ use cedar_identifiers::{NameText, RawName};
 use cedar_names::EntityUID;
 use schema_build_errors::{CycleInActionHierarchyError, SchemaError};
 use schema_build_graph::{closure, least_cyclic};
-use schema_resolve_lookup::FragmentDefs;
+use schema_resolve_lookup::{FragmentDefs, Recent};
 use std::alloc::{AllocError, Global};
 
 /// For each declared entity type the ranks of its ancestors, rising. Each parent means an entity type, and is declared.
@@ -48,10 +48,11 @@ fn entity_parent_rows<'f>(
     requires meant { All (AreParentsMeant (tests_of defs.now)) ds }
     ensures { IfOk result (λ rows. AreParentRows entity_name (entity_parents (tests_of defs.now)) (map entity_of entries.now) rows.items) }
 {
+    let recent = Recent::new();
     let mut rows = Vec::with_capacity(alloc, entries.len())?;
     for entry in entries {
         let names = entity_parents(alloc, defs, entry)?;
-        rows.push(ranks_of(alloc, entries, &names)?)?;
+        rows.push(ranks_of(alloc, entries, &recent, &names)?)?;
     }
     Ok(rows)
 }
@@ -81,10 +82,11 @@ fn action_parent_rows<'f>(
     requires { AreActions ds entries.now }
     ensures { IfOk result (λ rows. AreParentRows action_key (action_parents (tests_of defs.now)) (map action_of_entry entries.now) rows.items) }
 {
+    let recent = Recent::new();
     let mut rows = Vec::with_capacity(alloc, entries.len())?;
     for entry in entries {
         let names = action_parents(alloc, defs, entry)?;
-        rows.push(ranks_of(alloc, entries, &names)?)?;
+        rows.push(ranks_of(alloc, entries, &recent, &names)?)?;
     }
     Ok(rows)
 }
