@@ -3,7 +3,7 @@ ghost use Rattle.std.specs.Prelude.{◌≤◌};
 use std::cell::Cell;
 
 // How far it is looked from a recent place to each side.
-const NEAR: usize = 16;
+const NEAR: usize = 32;
 
 /// Where the last two were found of those that were looked up in a list. Most references come in turns, as the parent of an
 /// entity type and then an attribute of it, and the next of a kind is near the one before: so it is the one before the last
