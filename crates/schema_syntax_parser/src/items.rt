@@ -1,4 +1,4 @@
-ghost use Rattle.std.specs.Prelude.{◌≡◌};
+ghost use Rattle.std.specs.Prelude.{◌≡◌, ◌≤◌, length};
 ghost use Rattle.schema_syntax_parser.specs.Reading.{Gives, declared_at, decl_turn, namespace_at, outside_at, item_body_at, item_at, item_turn, items_at};
 
 use crate::annotations::annotations;
@@ -7,7 +7,7 @@ use crate::front::{place, token};
 use crate::paths::path;
 use crate::stop::Stop;
 use crate::syntax::{AnnotationSyntax, DeclaredSyntax, ItemSyntax};
-use crate::turns::{Turn, Turns, all};
+use crate::turns::{Turn, Turns, all_in};
 use cedar_data::List;
 use schema_syntax_grammar::TokenKind;
 use schema_syntax_tokens::ShortToken;
@@ -51,6 +51,28 @@ impl Turns for Decls {
     }
 }
 
+// How many declarations end before the brace that closes their namespace.
+fn count_decls(tokens: &[ShortToken]) -> usize
+    ensures { result ≤ length tokens.now }
+{
+    let mut count = 0usize;
+    let mut depth = 0usize;
+    for token in tokens {
+        match token.kind() {
+            TokenKind::Semi => count = count.saturating_add(1),
+            TokenKind::LBrace => depth = depth.saturating_add(1),
+            TokenKind::RBrace => {
+                if depth == 0 {
+                    return count;
+                }
+                depth -= 1;
+            }
+            _ => {}
+        }
+    }
+    count
+}
+
 // A namespace, behind its annotations and its first word, which begins the first tokens.
 #[tactic(auto, unfolding(crate::specs::Reading::namespace_at))]
 fn namespace<'a>(
@@ -63,7 +85,7 @@ fn namespace<'a>(
 {
     let (path, rest) = path(alloc, tokens)?;
     let (_, rest) = token(rest, TokenKind::LBrace)?;
-    let (decls, rest) = all::<Decls>(alloc, rest)?;
+    let (decls, rest) = all_in::<Decls>(alloc, count_decls(rest), rest)?;
     let loc = place(whole, rest);
     Ok((ItemSyntax::Namespace(annotations, path, decls, loc), rest))
 }

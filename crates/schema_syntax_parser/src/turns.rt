@@ -42,15 +42,16 @@ pub fn push_item<T: Drop>(items: &mut Vec<T>, item: T) -> Result<(), AllocError>
     Ok(())
 }
 
-// The items of a list, at most one more than so many, and the tokens behind it.
+// The items of a list, at most one more than so many, and the tokens behind it. Room is made at once for so many.
 fn up_to<L: Turns>(
     alloc: Global,
+    room: usize,
     most: usize,
     tokens: &[ShortToken],
 ) -> Result<(Vec<L::Item>, &[ShortToken]), Stop>
     ensures { Gives (λ r. (r.0.items, r.1.now)) result (many_at L.turns (most + 1) tokens.now) }
 {
-    let mut items = Vec::new(alloc);
+    let mut items = Vec::with_capacity(alloc, room)?;
     let mut rest = tokens;
     let mut left = most;
     loop {
@@ -79,7 +80,18 @@ pub fn all<L: Turns>(
 ) -> Result<(List<L::Item>, &[ShortToken]), Stop>
     ensures { Gives (λ r. (r.0, r.1.now)) result (all_at L.turns tokens.now) }
 {
-    let (items, rest) = up_to::<L>(alloc, tokens.len(), tokens)?;
+    all_in::<L>(alloc, 0, tokens)
+}
+
+// The items of a list that has room for so many from the first on, and the tokens behind it.
+pub fn all_in<L: Turns>(
+    alloc: Global,
+    room: usize,
+    tokens: &[ShortToken],
+) -> Result<(List<L::Item>, &[ShortToken]), Stop>
+    ensures { Gives (λ r. (r.0, r.1.now)) result (all_at L.turns tokens.now) }
+{
+    let (items, rest) = up_to::<L>(alloc, room, tokens.len(), tokens)?;
     Ok((List::from_vec(items), rest))
 }
 
@@ -99,7 +111,7 @@ pub fn some<L: Turns>(
             if left == 0 {
                 return Err(Stop::Mismatch);
             }
-            let (others, rest) = up_to::<L>(alloc, left - 1, after)?;
+            let (others, rest) = up_to::<L>(alloc, 0, left - 1, after)?;
             Ok((NonEmpty::from_parts(item, others), rest))
         }
     }

@@ -5,7 +5,7 @@ use Rattle.schema_syntax_parser.proofs.turns.up_to.Goals as goal
 
 pub returns-in_err-after : goal.returns-in_err-after
 returns-in_err-after g c =
-    let p = err_from_is_err_and c.from_residual.result c.from_residual.ensures.1 in
+    let p = err_from_is_err_and c.from_residual-in_err-after.result c.from_residual-in_err-after.ensures.1 in
     rw (p.1, p.2) (turn_fails _ _ _ _
     (rw (many_more g.L.Turns.turns c.loop-items.left c.loop-items.rest.now) at c.loop-items.invariant)
     c.in_err-after.field-0.0 c.in_err-after.ensures)
