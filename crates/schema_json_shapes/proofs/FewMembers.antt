@@ -1,11 +1,15 @@
--- A member that is looked for one by one.
-use Rattle.std.proofs.Common.{◌≡◌, ℕ, true, false, List, Ordering, Less, Equal, Greater, Some, refl, ◌∙◌}
+-- A member that is looked for one by one, and one of two.
+use Rattle.std.proofs.Common.{◌≡◌, ℕ, ◌-◌, ◌≤◌, true, false, List, [], ◌∷◌, Ordering, Less, Equal, Greater, Some}
+use Rattle.std.proofs.Common.{None, length, string_bytes, refl, sym, ap, ◌∙◌, subst, arith}
+use Rattle.std.specs.Prelude.{slice_get}
 use Rattle.std.specs.Ordering.{nat_cmp, is_eq, match_ordering}
 use Rattle.std.specs.Str.{bytes_eq}
 use Rattle.std.specs.Cmp.Lexicographic.{slice_cmp}
 use Rattle.std.proofs.lemmas.Map.Text.{is_eq-slice_cmp}
 use Rattle.serde_json.specs.Data.{Data, Members, member}
 use Rattle.serde_json.specs.Find.{get_member}
+use Rattle.serde_json.specs.View.{view, members_view}
+use Rattle.serde_json.proofs.Views.{Entry}
 
 taken : {X : Type 0} (o : Ordering) (a b : X) → is_eq o ≡ true → match_ordering o a b a ≡ b
 taken Less a b e = cc
@@ -26,3 +30,48 @@ pub found_later : (name key : List ℕ) (value : Data) (others : Members) → by
     → get_member name (member key value others) ≡ get_member name others
 found_later name key value others apart =
     passed (slice_cmp nat_cmp name key) (get_member name others) (Some value) (is_eq-slice_cmp name key ∙ apart)
+
+-- ---- among two members at most
+
+one : (x e : Entry) → Some x ≡ Some e → x ≡ e
+one x e same = cc
+
+pub found_first : (name : List ℕ) (es : List Entry) (e : Entry) → slice_get es 0 ≡ Some e
+    → bytes_eq name (string_bytes e.0) ≡ true → Some (view e.1) ≡ get_member name (members_view es)
+found_first name [] e first same = cc
+found_first name (x ∷ es) e first same =
+    let is : x ≡ e = one x e first in
+    sym (subst (λ (y : Entry). get_member name (members_view (y ∷ es)) ≡ Some (view e.1)) (sym is)
+    (found_here name (string_bytes e.0) (view e.1) (members_view es) same))
+
+pub found_last : (name : List ℕ) (es : List Entry) (e l : Entry) → length es ≤ 2 → slice_get es 0 ≡ Some e
+    → slice_get es (length es - 1) ≡ Some l → bytes_eq name (string_bytes e.0) ≡ false
+    → bytes_eq name (string_bytes l.0) ≡ true → Some (view l.1) ≡ get_member name (members_view es)
+found_last name [] e l two first last apart same = cc
+found_last name (x ∷ []) e l two first last apart same =
+    let is : l ≡ e = sym (one x l last) ∙ one x e first in
+    let no : true ≡ false = sym same ∙ ap (λ (y : Entry). bytes_eq name (string_bytes y.0)) is ∙ apart in
+    cc
+found_last name (x ∷ y ∷ []) e l two first last apart same =
+    let not_first : bytes_eq name (string_bytes x.0) ≡ false =
+    ap (λ (z : Entry). bytes_eq name (string_bytes z.0)) (one x e first) ∙ apart in
+    found_first name (y ∷ []) l last same
+    ∙ sym (found_later name (string_bytes x.0) (view x.1) (members_view (y ∷ [])) not_first)
+found_last name (x ∷ y ∷ z ∷ es) e l two first last apart same = let no : ⊥ = omega arith in absurd no
+
+pub none_of_two : (name : List ℕ) (es : List Entry) (e l : Entry) → length es ≤ 2 → slice_get es 0 ≡ Some e
+    → slice_get es (length es - 1) ≡ Some l → bytes_eq name (string_bytes e.0) ≡ false
+    → bytes_eq name (string_bytes l.0) ≡ false → None ≡ get_member name (members_view es)
+none_of_two name [] e l two first last apart other = cc
+none_of_two name (x ∷ []) e l two first last apart other =
+    let not_first : bytes_eq name (string_bytes x.0) ≡ false =
+    ap (λ (z : Entry). bytes_eq name (string_bytes z.0)) (one x e first) ∙ apart in
+    sym (found_later name (string_bytes x.0) (view x.1) (members_view []) not_first)
+none_of_two name (x ∷ y ∷ []) e l two first last apart other =
+    let not_first : bytes_eq name (string_bytes x.0) ≡ false =
+    ap (λ (z : Entry). bytes_eq name (string_bytes z.0)) (one x e first) ∙ apart in
+    let not_last : bytes_eq name (string_bytes y.0) ≡ false =
+    ap (λ (z : Entry). bytes_eq name (string_bytes z.0)) (one y l last) ∙ other in
+    sym (found_later name (string_bytes x.0) (view x.1) (members_view (y ∷ [])) not_first
+    ∙ found_later name (string_bytes y.0) (view y.1) (members_view []) not_last)
+none_of_two name (x ∷ y ∷ z ∷ es) e l two first last apart other = let no : ⊥ = omega arith in absurd no

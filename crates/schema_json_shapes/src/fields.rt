@@ -1,5 +1,5 @@
 // The fields of an object, looked up and checked against its table.
-ghost use Rattle.std.specs.Prelude.{◌≡◌, true, Some, option_map};
+ghost use Rattle.std.specs.Prelude.{◌≡◌, ◌≤◌, length, true, Some, option_map};
 ghost use Rattle.serde_json.specs.View.{view, members_view};
 ghost use Rattle.serde_json.specs.Find.{get_member};
 ghost use Rattle.schema_json_shapes.specs.Tables.{is_field, first_unknown, first_missing};
@@ -17,6 +17,9 @@ use std::alloc::Global;
 /// The members of a JSON object.
 pub type Members = Map<String, Value>;
 
+// How many members are looked at from both ends, which takes less than a walk.
+const TWO: usize = 2;
+
 // How many members are looked through one by one, which takes less than halving.
 const FEW: usize = 8;
 
@@ -24,10 +27,33 @@ const FEW: usize = 8;
 pub fn at<'v>(members: &'v Members, name: &str) -> Option<&'v Value>
     ensures { option_map (λ v. view v.now) result ≡ get_member name.now (members_view members.now.entries) }
 {
+    if members.len() <= TWO {
+        return at_end(members, name);
+    }
     if members.len() <= FEW {
         return at_few(members, name);
     }
     members.get(name)
+}
+
+// The member of this name among two at most, each of which is the first or the last.
+fn at_end<'v>(members: &'v Members, name: &str) -> Option<&'v Value>
+    requires { length members.now.entries ≤ TWO }
+    ensures { option_map (λ v. view v.now) result ≡ get_member name.now (members_view members.now.entries) }
+{
+    let Some((first, value)) = members.first_key_value() else {
+        return None;
+    };
+    if same_bytes(name, first.as_str()) {
+        return Some(value);
+    }
+    let Some((last, value)) = members.last_key_value() else {
+        return None;
+    };
+    if same_bytes(name, last.as_str()) {
+        return Some(value);
+    }
+    None
 }
 
 // The member of this name among few, which are looked through one by one.
