@@ -1,3 +1,4 @@
 pub mod Keys
 pub mod Computed
 pub mod Numbers
+pub mod Plain

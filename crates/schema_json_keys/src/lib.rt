@@ -3,6 +3,8 @@
 
 pub mod looking;
 pub mod numbers;
+pub mod plain;
 pub mod repeated_keys;
 
 pub use looking::{Findings, look_through};
+pub use plain::plain_value;

@@ -1,6 +1,6 @@
 use Rattle.std.proofs.Common.{sym, ◌∙◌}
 use Rattle.serde_json.specs.View.{view}
-use Rattle.schema_json_io.proofs.Numberless.{no_float}
+use Rattle.schema_json_keys.proofs.Numberless.{no_float}
 use Rattle.schema_compat.proofs.read.read_text.Goals as goal
 use Rattle.schema_compat.proofs.read.read_text.Goals.{else-found-via-then-found+else-has_float, else-found-via-else-found}
 

@@ -54,7 +54,7 @@ put_float k d (member l x ms) e f =
 
 -- a value without a number is read as one without a float
 mutual
-  of_json_float : (j : json.Json) (d : Data) → of_json j ≡ Some d → has_number j ≡ false → has_float d ≡ false
+  pub of_json_float : (j : json.Json) (d : Data) → of_json j ≡ Some d → has_number j ≡ false → has_float d ≡ false
   of_json_float json.null d e n = sym (ap has_float (Some_inj null d e))
   of_json_float (json.boolean b) d e n = sym (ap has_float (Some_inj (boolean b) d e))
   of_json_float (json.number s) d e n = cc
@@ -86,7 +86,8 @@ mutual
       (put_float k p.0 found (of_json_float j p.0 p.1 (neither_left (has_number j) (members_have_number ms) n)) f)
 
 -- what stands alone in a text
-alone : (o : Option (json.Json × List Token)) (j : json.Json) → option_and_then (λ p. json.if_last p.0 p.1) o ≡ Some j
+pub alone : (o : Option (json.Json × List Token)) (j : json.Json)
+    → option_and_then (λ p. json.if_last p.0 p.1) o ≡ Some j
     → o ≡ Some (j, [])
 alone None j e = cc
 alone (Some (i, [])) j e = ap (λ x. Some (x, [])) (Some_inj i j e)
