@@ -33,14 +33,14 @@ fn next_from(
     }
 }
 
-// The tokens from a place on, and where they begin among those that are kept: once they are less than half of these,
-// the others are let go.
+// The tokens from a place on, and where they begin among those that are kept: once they are less than a quarter of these,
+// the others are let go. So moving them takes a third of the room of all, and not as much again.
 fn kept_from(mut tokens: Vec<ShortToken>, at: usize) -> Result<(Vec<ShortToken>, usize), AllocError>
     requires { at ≤ length tokens.items }
     ensures same { IfOk result (λ r. drop r.1 r.0.items ≡ drop at tokens.items) }
     ensures in_range { IfOk result (λ r. r.1 ≤ length r.0.items) }
 {
-    if at <= tokens.len() / 2 {
+    if at <= tokens.len() / 4 * 3 {
         return Ok((tokens, at));
     }
     let rest = tokens.split_off(at)?;
