@@ -14,6 +14,6 @@ pub use entries::map_of;
 pub use into_variant::IntoVariant;
 pub use names::{path_to_internal_name, path_to_raw_name};
 pub use namespaces::{
-    Entries, definition_from, fragment_from, fragment_of, namespace_key, push_declared,
+    Entries, declared_key, definition_from, fragment_from, fragment_of, push_declared,
 };
 pub use types::cedar_type_to_json_type;

@@ -5,6 +5,7 @@ ghost use Rattle.cedar_data.specs.Text.{text_cmp};
 ghost use Rattle.std.specs.Option.{option_to_list};
 ghost use Rattle.schema_convert_types.specs.Declarations.{declarable, unreserved, each_with, entity_type_of};
 ghost use Rattle.schema_syntax_tree.specs.DeclaredNames.{entity_names};
+ghost use Rattle.schema_convert_types.specs.Names.{internal_name_of};
 ghost use Rattle.schema_convert_types.specs.Fragments.{entity_entries_of, action_entries_of, common_entries_of, entity_entries, action_entries, common_entries, unreserved_cmp, common_cmp, definition_of, namespace_key, declarable_name, namespace_entry, namespace_cmp, fragment_of};
 
 use crate::actions::{action_ids, action_type};
@@ -290,8 +291,15 @@ fn declarable_name(name: InternalName) -> Option<Name>
     Name::from_internal(name)
 }
 
-/// The name of a namespace that may be declared.
-pub fn namespace_key(
+/// The name of a namespace that has one, where it may be declared.
+pub fn declared_key(alloc: Global, path: &Path<'_>) -> Result<Option<Name>, AllocError>
+    ensures { IfOk result (λ key. key ≡ declarable_name (internal_name_of path.now)) }
+{
+    Ok(declarable_name(internal_name(alloc, path)?))
+}
+
+// The name of a namespace that may be declared.
+fn namespace_key(
     alloc: Global,
     name: Option<Boxed<Path<'_>>>,
 ) -> Result<Option<Option<Name>>, AllocError>
@@ -299,7 +307,7 @@ pub fn namespace_key(
 {
     match name {
         None => Ok(Some(None)),
-        Some(path) => match declarable_name(internal_name(alloc, path.get())?) {
+        Some(path) => match declared_key(alloc, path.get())? {
             None => Ok(None),
             Some(name) => Ok(Some(Some(name))),
         },

@@ -6,6 +6,6 @@ use Rattle.schema_convert_types.proofs.namespaces.namespace_key.Goals as goal
 
 pub returns : goal.returns
 returns c = ap (option_map Some)
-    (c.in-Some-declarable_name.ensures
-    ∙ ap declarable_name (c.in_ok-internal_name-in-Some.ensures ∙ ap internal_name_of c.get.ensures))
+    (sym c.in-Some-2.is
+    ∙ (c.in_ok-declared_key-in-Some.ensures ∙ ap (λ p. declarable_name (internal_name_of p)) c.get.ensures))
     ∙ ap namespace_key (sym c.in-Some.is)
