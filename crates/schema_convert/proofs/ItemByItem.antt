@@ -1,8 +1,8 @@
 -- What is gathered of one item more, and the fragment of what was gathered.
 use Rattle.std.proofs.Common.{◌≡◌, ◌≤◌, ℕ, Bool, true, false, List, [], ◌∷◌, ◌++◌, length, Option, Some, None, refl}
 use Rattle.std.proofs.Common.{sym, ap}
-use Rattle.std.proofs.Common.{◌∙◌, subst, true≢false, append-nil, filter_map, option_to_list, arith}
-use Rattle.std.specs.List.{All, AllByRecursion, cons_option}
+use Rattle.std.proofs.Common.{◌∙◌, subst, true≢false, append-nil, append_assoc, filter_map, option_to_list, arith}
+use Rattle.std.specs.List.{All, AllByRecursion, cons_option, flat_map}
 use Rattle.std.specs.Option.{option_map}
 use Rattle.std.proofs.lemmas.Grind.{flat_map-append}
 use Rattle.std.proofs.lemmas.List.Elements.{filter_map-append}
@@ -20,8 +20,9 @@ use Rattle.schema_syntax_parser.specs.declared.syntax.ItemSyntax.{ItemSyntax}
 use Rattle.schema_syntax_parser.specs.declared.syntax.ItemSyntax.TheVariants as item
 use Rattle.schema_syntax_parser.specs.declared.syntax.PathSyntax.{PathSyntax}
 use Rattle.schema_syntax_reader.specs.Placed.{NoSiteFault}
-use Rattle.schema_syntax_reader.specs.Sites.{declared_sites, item_sites}
-use Rattle.schema_syntax_reader.specs.Trees.{IsDeclaredOf, IsItemOf}
+use Rattle.schema_syntax_reader.specs.Sites.{annotations, path_sites, declared_sites}
+use Rattle.schema_syntax_reader.specs.Trees.{IsDeclaredOf}
+use Rattle.schema_syntax_reader.proofs.Readings.{ReadTo, none_read, one_more_read, all_read, both_faultless}
 use Rattle.schema_syntax_tree.specs.declared.annotated.Annotated.{Annotated}
 use Rattle.schema_syntax_tree.specs.declared.declaration.Declaration.{Declaration}
 use Rattle.schema_syntax_tree.specs.declared.namespace.Namespace.{Namespace}
@@ -34,8 +35,8 @@ use Rattle.schema_convert_types.specs.Fragments.{entity_entries, action_entries,
 use Rattle.schema_convert_types.specs.Fragments.{action_entries_of, namespace_entry, namespace_key, definition_of}
 use Rattle.schema_convert_types.specs.Fragments.{fragment_of}
 use Rattle.schema_convert_types.specs.declared.namespaces.Entries.{Entries}
-use Rattle.schema_convert.specs.Gathered.{EachPlain, IsOwn, IsGatheredOf, AddsOutside, AddsNamed, AddsNamespace}
-use Rattle.schema_convert.specs.Gathered.{AddsOwn, AddsItem}
+use Rattle.schema_convert.specs.Gathered.{EachPlain, Adds, AddsRead, IsReadAs, IsOwn, IsGatheredOf, AddsOutside}
+use Rattle.schema_convert.specs.Gathered.{AddsNamespace, AddsOwn, AddsItem}
 use Rattle.schema_convert.specs.Joined.{named, named_so, outside, unnamed_so, empty_namespace}
 use Rattle.schema_convert.specs.Plain.{IsPlain, AreOnce, AreUnlike, ArePlain, HasRisingNotes, IsPlainNamespace}
 use Rattle.schema_convert.specs.Plain.{apart}
@@ -88,21 +89,23 @@ module _ (table : ExtensionTable) (tree : List (Annotated Namespace)) (n : Annot
       (append-nil (unnamed_so n.item.name n.item.decls) ∙ ap (λ p. unnamed_so p n.item.decls) is)
 
   -- a namespace that has a name
-  pub more_named : (before after : Gathered) (path : Path) → n.item.name ≡ Some path
-      → IsGatheredOf table tree before → AddsNamed table before.namespaces.items after.namespaces.items n
+  more_named : (before after : Gathered) (path : Path) → n.item.name ≡ Some path
+      → IsGatheredOf table tree before
+      → after.namespaces.items ≡ before.namespaces.items ++ option_to_list (namespace_entry n)
+      → IsPlainNamespace table n
       → after.outside ≡ before.outside → after.has_outside ≡ before.has_outside
       → IsGatheredOf table (tree ++ n ∷ []) after
-  more_named before after path is so_far adds same flag =
+  more_named before after path is so_far entry plain same flag =
       let names = named_more (Some path) is in
       let out : outside (tree ++ n ∷ []) ≡ outside tree = outside_more (Some path) is ∙ append-nil (outside tree) in
       record {
-        namespaces = adds.entry
+        namespaces = entry
             ∙ (ap (λ l. l ++ option_to_list (namespace_entry n)) so_far.namespaces
             ∙ (ap (λ l. filter_map namespace_entry (named tree) ++ l) (sym (one_option (namespace_entry n)))
             ∙ (sym (filter_map-append namespace_entry (named tree) (n ∷ []))
             ∙ ap (filter_map namespace_entry) (sym names))));
         each = subst (AllByRecursion (IsPlainNamespace table)) (sym names)
-            (all_append (IsPlainNamespace table) (named tree) (n ∷ []) so_far.each (adds.plain, tt));
+            (all_append (IsPlainNamespace table) (named tree) (n ∷ []) so_far.each (plain, tt));
         commons = ap (λ (e : Entries). e.commons.items) same ∙ (so_far.commons ∙ ap common_entries (sym out));
         entities = ap (λ (e : Entries). e.entities.items) same ∙ (so_far.entities ∙ ap entity_entries (sym out));
         actions = ap (λ (e : Entries). e.actions.items) same ∙ (so_far.actions ∙ ap action_entries (sym out));
@@ -148,18 +151,26 @@ module _ (table : ExtensionTable) (tree : List (Annotated Namespace)) (n : Annot
 
 module _ (source : List ℕ) (table : ExtensionTable) (before after : Gathered) (raw : ItemSyntax) where
   -- a namespace that was read
-  pub namespace_added : (list : List AnnotationSyntax) (name : PathSyntax) (decls : List DeclaredSyntax) (loc : Span)
-      → raw ≡ item.Namespace list name decls loc → (n : Annotated Namespace)
-      → IsItemOf source (item.Namespace list name decls loc) n
-      → All (NoSiteFault source) (item_sites (item.Namespace list name decls loc))
-      → AddsNamespace table before after n → AddsItem source table raw before after
-  namespace_added list name decls loc is n reads lawful adds =
+  pub namespace_added : (list : List AnnotationSyntax) (name : PathSyntax) (raws : List DeclaredSyntax) (loc : Span)
+      → raw ≡ item.Namespace list name raws loc → AddsNamespace source table list name raws before after
+      → AddsItem source table raw before after
+  namespace_added list name raws loc is adds =
+      let own = adds.entries in
+      let n : Annotated Namespace = record {
+        item = record { name = Some own.path; decls = own.read.decls; loc = Some loc };
+        annotations = own.notes;
+      } in
+      let entry : namespace_entry n ≡ Some (Some own.key, own.definition) =
+      ap (λ o. option_map (λ key. (key, definition_of own.read.decls own.notes)) (option_map Some o)) own.keyed
+      ∙ ap (λ d. Some (Some own.key, d)) (sym own.read.is) in
       subst (λ i. AddsItem source table i before after) (sym is) (record {
         namespace = n;
-        is = reads;
-        lawful = lawful;
-        grown = λ tree so_far. more_named table tree n before after reads.0 (ap (λ i. i.name) reads.2) so_far
-            adds.entries adds.outside adds.same;
+        is = (own.path, own.read.decls, refl, own.names, own.read.are, own.noted);
+        lawful = both_faultless source (annotations list ∷ path_sites name) (flat_map declared_sites raws) own.lawful
+            own.read.lawful;
+        grown = λ tree so_far. more_named table tree n before after own.path refl so_far
+            (own.entry ∙ ap (λ o. before.namespaces.items ++ option_to_list o) (sym entry))
+            (record { free = own.free; decls = own.read.plain }) adds.outside adds.same;
       })
 
   -- a declaration that was read
@@ -199,6 +210,84 @@ own_plain table decls entries notes d own commons entities actions plain =
             own.unlike;
       },
     )
+
+grown : {A B : Type 0} (f : A → List B) (before mid after : List B) (xs : List A) (x : A)
+    → mid ≡ before ++ flat_map f xs → after ≡ mid ++ f x → after ≡ before ++ flat_map f (xs ++ x ∷ [])
+grown f before mid after xs x so_far more =
+    more ∙ (ap (λ l. l ++ f x) so_far ∙ (append_assoc before (flat_map f xs) (f x)
+    ∙ ap (λ l. before ++ l)
+    (sym (flat_map-append f xs (x ∷ []) ∙ ap (λ l. flat_map f xs ++ l) (append-nil (f x))))))
+
+-- one plain declaration more
+more_declared : (table : ExtensionTable) (before mid after : Entries) (decls : List (Annotated (Node Declaration)))
+    (d : Annotated (Node Declaration)) → Adds table before mid decls
+    → after.commons.items ≡ mid.commons.items ++ common_entries_of d.item.node d.annotations d.item.loc
+    → after.entities.items ≡ mid.entities.items ++ entity_entries_of d.item.node d.annotations d.item.loc
+    → after.actions.items ≡ mid.actions.items ++ action_entries_of d.item.node d.annotations d.item.loc
+    → IsPlain table d.item.node → Adds table before after (decls ++ d ∷ [])
+more_declared table before mid after decls d so_far commons entities actions plain = record {
+  commons = grown (λ (d : Annotated (Node Declaration)). common_entries_of d.item.node d.annotations d.item.loc)
+      before.commons.items mid.commons.items after.commons.items decls d so_far.commons commons;
+  entities = grown (λ (d : Annotated (Node Declaration)). entity_entries_of d.item.node d.annotations d.item.loc)
+      before.entities.items mid.entities.items after.entities.items decls d so_far.entities entities;
+  actions = grown (λ (d : Annotated (Node Declaration)). action_entries_of d.item.node d.annotations d.item.loc)
+      before.actions.items mid.actions.items after.actions.items decls d so_far.actions actions;
+  plain = all_append (λ (d : Annotated (Node Declaration)). IsPlain table d.item.node) decls (d ∷ []) so_far.plain
+      (plain, tt);
+}
+
+module _ (source : List ℕ) (table : ExtensionTable) (raws : List DeclaredSyntax) where
+  abbrev pub IsReadTo : List DeclaredSyntax → List (Annotated (Node Declaration)) → Type 0
+  IsReadTo rest decls = ReadTo source declared_sites (IsDeclaredOf source) raws rest decls
+
+  -- those before the rest of the declarations were read, and what they declare is there too
+  pub record AddedTo (rest : List DeclaredSyntax) (before after : Entries) : Type 0 where
+    pub decls : List (Annotated (Node Declaration))
+    pub read : IsReadTo rest decls
+    pub adds : Adds table before after decls
+
+  pub none_added : (rest : List DeclaredSyntax) (entries : Entries) → rest ≡ raws → AddedTo rest entries entries
+  none_added rest entries whole = record {
+    decls = [];
+    read = none_read source declared_sites (IsDeclaredOf source) raws rest [] whole refl;
+    adds = record {
+      commons = sym (append-nil entries.commons.items);
+      entities = sym (append-nil entries.entities.items);
+      actions = sym (append-nil entries.actions.items);
+      plain = tt;
+    };
+  }
+
+  pub one_more_added : (rest : List DeclaredSyntax) (r : DeclaredSyntax) (others : List DeclaredSyntax)
+      → rest ≡ r ∷ others → (before mid after : Entries) (d : Annotated (Node Declaration)) → AddedTo rest before mid
+      → IsDeclaredOf source r d → All (NoSiteFault source) (declared_sites r)
+      → after.commons.items ≡ mid.commons.items ++ common_entries_of d.item.node d.annotations d.item.loc
+      → after.entities.items ≡ mid.entities.items ++ entity_entries_of d.item.node d.annotations d.item.loc
+      → after.actions.items ≡ mid.actions.items ++ action_entries_of d.item.node d.annotations d.item.loc
+      → IsPlain table d.item.node → AddedTo others before after
+  one_more_added rest r others next before mid after d so_far is lawful commons entities actions plain = record {
+    decls = so_far.decls ++ d ∷ [];
+    read = one_more_read source declared_sites (IsDeclaredOf source) raws rest r others next so_far.decls so_far.read
+        (so_far.decls ++ d ∷ []) d is lawful refl;
+    adds = more_declared table before mid after so_far.decls d so_far.adds commons entities actions plain;
+  }
+
+  pub all_added : (rest : List DeclaredSyntax) (before after : Entries) → rest ≡ [] → AddedTo rest before after
+      → AddsRead source table raws before after
+  all_added rest before after none so_far =
+      let all = all_read source declared_sites (IsDeclaredOf source) raws rest so_far.decls none so_far.read in
+      record { decls = so_far.decls; are = all.0; lawful = all.1; adds = so_far.adds }
+
+  -- what entries define that are those of these declarations
+  pub read_as : (before after : Entries) (notes : Annotations) (d : NamespaceDefinition RawName as_written)
+      → before.commons.items ≡ [] → before.entities.items ≡ [] → before.actions.items ≡ []
+      → AddsRead source table raws before after → IsOwn after notes d → IsReadAs source table raws notes d
+  read_as before after notes d commons entities actions reads own =
+      let is = own_plain table reads.decls after notes d own
+      (reads.adds.commons ∙ ap (λ l. l ++ common_entries reads.decls) commons)
+      (reads.adds.entities ∙ ap (λ l. l ++ entity_entries reads.decls) entities)
+      (reads.adds.actions ∙ ap (λ l. l ++ action_entries reads.decls) actions) reads.adds.plain in
+      record { decls = reads.decls; are = reads.are; lawful = reads.lawful; is = is.0; plain = is.1 }
 
 module _ (table : ExtensionTable) (tree : List (Annotated Namespace))
     (rising : AllByRecursion HasRisingNotes (named tree)) where

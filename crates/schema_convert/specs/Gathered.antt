@@ -1,7 +1,6 @@
 -- What is gathered of a tree, item by item. Only contracts inside the crate cite this.
-use Rattle.std.specs.Prelude.{◌≡◌, ℕ, Bool, true, false, List, [], ◌∷◌, ◌++◌, Option, None}
-use Rattle.std.specs.List.{All, AllByRecursion, filter_map}
-use Rattle.std.specs.Option.{option_to_list}
+use Rattle.std.specs.Prelude.{◌≡◌, ℕ, Bool, true, false, List, [], ◌∷◌, ◌++◌, Option, None, Some}
+use Rattle.std.specs.List.{All, AllByRecursion, AllZip, filter_map, flat_map}
 use Rattle.cedar_identifiers.specs.declared.name.Name.{Name}
 use Rattle.cedar_data.specs.Maps.{map_of}
 use Rattle.cedar_data.specs.Text.{text_cmp}
@@ -9,20 +8,27 @@ use Rattle.cedar_data.specs.declared.node.Node.{Node}
 use Rattle.cedar_identifiers.specs.declared.annotations.Annotations.{Annotations}
 use Rattle.cedar_identifiers.specs.declared.raw_name.RawName.{RawName}
 use Rattle.cedar_names.specs.declared.extension_table.ExtensionTable.{ExtensionTable}
+use Rattle.schema_syntax_parser.specs.declared.syntax.AnnotationSyntax.{AnnotationSyntax}
+use Rattle.schema_syntax_parser.specs.declared.syntax.DeclaredSyntax.{DeclaredSyntax}
 use Rattle.schema_syntax_parser.specs.declared.syntax.ItemSyntax.{ItemSyntax}
+use Rattle.schema_syntax_parser.specs.declared.syntax.PathSyntax.{PathSyntax}
+use Rattle.schema_syntax_reader.specs.Leaves.{AreNotes}
 use Rattle.schema_syntax_reader.specs.Placed.{NoSiteFault}
-use Rattle.schema_syntax_reader.specs.Sites.{item_sites}
-use Rattle.schema_syntax_reader.specs.Trees.{IsItemOf}
+use Rattle.schema_syntax_reader.specs.Sites.{Site, annotations, path_sites, declared_sites, item_sites}
+use Rattle.schema_syntax_reader.specs.Trees.{IsDeclaredOf, IsItemOf, IsPathOf}
 use Rattle.schema_syntax_tree.specs.declared.annotated.Annotated.{Annotated}
 use Rattle.schema_syntax_tree.specs.declared.declaration.Declaration.{Declaration}
 use Rattle.schema_syntax_tree.specs.declared.namespace.Namespace.{Namespace}
+use Rattle.schema_syntax_tree.specs.declared.path.Path.{Path}
 use Rattle.schema_json.specs.declared.fragment.NamespaceDefinition.{NamespaceDefinition}
 use Rattle.schema_convert_types.specs.Declarations.{as_written}
 use Rattle.schema_convert_types.specs.Fragments.{common_cmp, unreserved_cmp, common_entries, entity_entries}
-use Rattle.schema_convert_types.specs.Fragments.{action_entries, namespace_entry}
+use Rattle.schema_convert_types.specs.Fragments.{action_entries, declarable_name, definition_of, namespace_entry}
+use Rattle.schema_convert_types.specs.Names.{internal_name_of}
 use Rattle.schema_convert_types.specs.declared.namespaces.Entries.{Entries}
 use Rattle.schema_convert.specs.Joined.{named, outside}
-use Rattle.schema_convert.specs.Plain.{IsPlain, AreOnce, AreUnlike, IsPlainNamespace}
+use Rattle.schema_convert.specs.Faults.{is_reserved_path}
+use Rattle.schema_convert.specs.Plain.{IsPlain, AreOnce, AreUnlike, ArePlain, IsPlainNamespace}
 use Rattle.schema_convert.specs.declared.gathering.Gathered.{Gathered}
 
 -- each of the declarations is plain by itself
@@ -68,16 +74,47 @@ pub record AddsOutside (table : ExtensionTable) (before after : Gathered) (decl 
   pub others : after.namespaces.items ≡ before.namespaces.items
   pub some : after.has_outside ≡ true
 
--- the entry of a namespace that has a name is there too, and nothing is to be said of it
-pub record AddsNamed (table : ExtensionTable)
-    (before after : List (Option Name × NamespaceDefinition RawName as_written))
-    (n : Annotated Namespace) : Type 0 where
-  pub entry : after ≡ before ++ option_to_list (namespace_entry n)
-  pub plain : IsPlainNamespace table n
+-- the declarations were read, none of their words and strings is at fault, and what they declare is there too
+pub record AddsRead (source : List ℕ) (table : ExtensionTable) (raws : List DeclaredSyntax) (before after : Entries)
+    : Type 0 where
+  pub decls : List (Annotated (Node Declaration))
+  pub are : AllZip (IsDeclaredOf source) raws decls
+  pub lawful : All (NoSiteFault source) (flat_map declared_sites raws)
+  pub adds : Adds table before after decls
+
+-- the declarations were read, and this is what they define together
+pub record IsReadAs (source : List ℕ) (table : ExtensionTable) (raws : List DeclaredSyntax) (notes : Annotations)
+    (d : NamespaceDefinition RawName as_written) : Type 0 where
+  pub decls : List (Annotated (Node Declaration))
+  pub are : AllZip (IsDeclaredOf source) raws decls
+  pub lawful : All (NoSiteFault source) (flat_map declared_sites raws)
+  pub is : d ≡ definition_of decls notes
+  pub plain : ArePlain table decls
+
+-- the sites of a namespace that has a name
+abbrev pub named_sites : List AnnotationSyntax → PathSyntax → List DeclaredSyntax → List Site
+named_sites list name raws = annotations list ∷ (path_sites name ++ flat_map declared_sites raws)
+
+-- the namespace was read, its entry is there too, and nothing is to be said of it
+pub record AddsNamed (source : List ℕ) (table : ExtensionTable) (list : List AnnotationSyntax) (name : PathSyntax)
+    (raws : List DeclaredSyntax) (before after : List (Option Name × NamespaceDefinition RawName as_written))
+    : Type 0 where
+  pub path : Path
+  pub notes : Annotations
+  pub key : Name
+  pub definition : NamespaceDefinition RawName as_written
+  pub names : IsPathOf source name path
+  pub noted : AreNotes source list notes.0
+  pub lawful : All (NoSiteFault source) (annotations list ∷ path_sites name)
+  pub free : is_reserved_path path ≡ false
+  pub keyed : declarable_name (internal_name_of path) ≡ Some key
+  pub read : IsReadAs source table raws notes definition
+  pub entry : after ≡ before ++ (Some key, definition) ∷ []
 
 -- a namespace that has a name is gathered too
-pub record AddsNamespace (table : ExtensionTable) (before after : Gathered) (n : Annotated Namespace) : Type 0 where
-  pub entries : AddsNamed table before.namespaces.items after.namespaces.items n
+pub record AddsNamespace (source : List ℕ) (table : ExtensionTable) (list : List AnnotationSyntax) (name : PathSyntax)
+    (raws : List DeclaredSyntax) (before after : Gathered) : Type 0 where
+  pub entries : AddsNamed source table list name raws before.namespaces.items after.namespaces.items
   pub outside : after.outside ≡ before.outside
   pub same : after.has_outside ≡ before.has_outside
 

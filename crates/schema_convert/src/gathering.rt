@@ -1,23 +1,29 @@
-ghost use Rattle.std.specs.Prelude.{◌≡◌, true, [], ◌++◌, ◌∷◌, List, length, IfOk, IfSome};
+ghost use Rattle.std.specs.Prelude.{◌≡◌, true, [], ◌++◌, ◌∷◌, List, length, IfOk, IfErr, IfSome};
 ghost use Rattle.cedar_names.specs.declared.extension_table.ExtensionTable.{ExtensionTable};
-ghost use Rattle.schema_convert_types.specs.Fragments.{definition_of};
+ghost use Rattle.schema_syntax_parser.specs.Syntax.{AreAnnotations, IsPath, IsDeclared};
+ghost use Rattle.schema_syntax_reader.specs.Placed.{IsScanned};
+ghost use Rattle.schema_syntax_reader.specs.Sites.{declared_sites};
+ghost use Rattle.schema_syntax_reader.specs.Stops.{IsStopped};
 ghost use Rattle.schema_syntax_tree.specs.declared.annotated.Annotated.{Annotated};
 ghost use Rattle.schema_syntax_tree.specs.declared.namespace.Namespace.{Namespace};
-ghost use Rattle.schema_convert.specs.Gathered.{Adds, AddsOutside, AddsNamed, AddsNamespace, AddsOwn, IsOwn, IsGatheredOf};
-ghost use Rattle.schema_convert.specs.Plain.{AreUnlike, ArePlain, HasRisingNotes};
-ghost use Rattle.schema_convert.specs.Translatable.{IsFreeName};
+ghost use Rattle.schema_convert.specs.Gathered.{AddsRead, IsReadAs, AddsOutside, AddsNamed, AddsNamespace, AddsOwn, IsOwn, IsGatheredOf, named_sites};
+ghost use Rattle.schema_convert.specs.Plain.{AreUnlike, HasRisingNotes};
 ghost use Rattle.schema_convert.specs.Joined.{named};
 ghost use Rattle.schema_convert.specs.Translated.{IsTranslation};
-ghost use Rattle.std.specs.List.{AllByRecursion};
+ghost use Rattle.std.specs.List.{All, AllByRecursion, flat_map};
 
 use crate::faults::is_reserved_path;
 use crate::plain::is_plain;
-use cedar_data::{Boxed, List, Node};
+use cedar_data::{List, Node};
 use cedar_identifiers::{Annotations, Name, RawName};
 use cedar_names::ExtensionTable;
-use schema_convert_types::{Entries, definition_from, fragment_from, namespace_key, push_declared};
+use schema_convert_types::{Entries, declared_key, definition_from, fragment_from, push_declared};
 use schema_json::{Fragment, NamespaceDefinition};
-use schema_syntax_tree::{Annotated, Declaration, Namespace, Path};
+use schema_syntax_parser::{AnnotationSyntax, DeclSyntax, DeclaredSyntax, PathSyntax};
+use schema_syntax_reader::names::notes;
+use schema_syntax_reader::paths::path;
+use schema_syntax_reader::{Stopped, declared};
+use schema_syntax_tree::{Annotated, Declaration};
 use std::alloc::{AllocError, Global};
 
 /// What the items of a text define, as they are read: the namespaces, and what stands outside of these.
@@ -41,16 +47,47 @@ impl Gathered {
     }
 }
 
-// Adds what the declarations declare, where each of them is plain.
-fn push_plain<'a>(
+// Nothing, with room for one entry of each declaration.
+fn entries_for(alloc: Global, raws: &[DeclaredSyntax]) -> Result<Entries, AllocError>
+    ensures commons { IfOk result (λ entries. entries.commons.items ≡ []) }
+    ensures entities { IfOk result (λ entries. entries.entities.items ≡ []) }
+    ensures actions { IfOk result (λ entries. entries.actions.items ≡ []) }
+{
+    let mut commons = 0usize;
+    let mut entities = 0usize;
+    let mut actions = 0usize;
+    for raw in raws {
+        match raw.decl {
+            DeclSyntax::Entity { .. }
+            | DeclSyntax::Enum { .. }
+            | DeclSyntax::ExternalEntity { .. } => entities = entities.saturating_add(1),
+            DeclSyntax::Action { .. } | DeclSyntax::ExternalAction { .. } => {
+                actions = actions.saturating_add(1)
+            }
+            DeclSyntax::Common { .. } => commons = commons.saturating_add(1),
+        }
+    }
+    Ok(Entries {
+        commons: Vec::with_capacity(alloc, commons)?,
+        entities: Vec::with_capacity(alloc, entities)?,
+        actions: Vec::with_capacity(alloc, actions)?,
+    })
+}
+
+// Adds what the declarations declare, each once it is read, where each of them is plain.
+fn push_read(
     alloc: Global,
+    text: &str,
     table: &ExtensionTable,
     entries: &mut Entries,
-    decls: List<Annotated<'a, Node<Declaration<'a>>>>,
-) -> Result<bool, AllocError>
-    ensures { IfOk result (λ plain. plain ≡ true → Adds table.now entries.old entries.new decls.entry) }
+    raws: List<DeclaredSyntax>,
+) -> Result<bool, Stopped>
+    requires { All (IsScanned IsDeclared text.now) raws }
+    ensures added { IfOk result (λ plain. plain ≡ true → AddsRead text.now table.now raws entries.old entries.new) }
+    ensures fault { IfErr result (IsStopped text.now (flat_map declared_sites raws)) }
 {
-    for decl in decls.into_vec() {
+    for raw in raws.into_vec() {
+        let decl = declared(alloc, text, raw)?;
         if !is_plain(alloc, table, &decl.item.node)? {
             return Ok(false);
         }
@@ -112,66 +149,83 @@ pub fn push_outside<'a>(
 }
 
 // What a named namespace of these declarations and annotations defines, where nothing is to be said of it.
-fn plain_definition<'a>(
+fn read_definition(
     alloc: Global,
+    text: &str,
     table: &ExtensionTable,
-    decls: List<Annotated<'a, Node<Declaration<'a>>>>,
+    raws: List<DeclaredSyntax>,
     annotations: Annotations,
-) -> Result<Option<NamespaceDefinition<RawName>>, AllocError>
-    ensures { IfOk result (λ found. IfSome found (λ d. (d ≡ definition_of decls.entry annotations) × ArePlain table.now decls.entry)) }
+) -> Result<Option<NamespaceDefinition<RawName>>, Stopped>
+    requires { All (IsScanned IsDeclared text.now) raws }
+    ensures found { IfOk result (λ found. IfSome found (IsReadAs text.now table.now raws annotations)) }
+    ensures fault { IfErr result (IsStopped text.now (flat_map declared_sites raws)) }
 {
-    let mut entries = Entries::new(alloc);
-    if !push_plain(alloc, table, &mut entries, decls)? {
+    let mut entries = entries_for(alloc, raws.as_slice())?;
+    if !push_read(alloc, text, table, &mut entries, raws)? {
         return Ok(None);
     }
-    own_definition(alloc, entries, annotations)
-}
-
-// Whether the name is not reserved.
-fn is_free_name(name: &Option<Boxed<Path<'_>>>) -> bool
-    ensures { result ≡ true → IsFreeName name.now }
-{
-    match name {
-        None => true,
-        Some(path) => !is_reserved_path(path.get()),
-    }
+    let definition = own_definition(alloc, entries, annotations)?;
+    Ok(definition)
 }
 
 // Adds the named namespace, where nothing is to be said of it.
-fn push_named<'a>(
+fn push_named(
     alloc: Global,
+    text: &str,
     table: &ExtensionTable,
     namespaces: &mut Vec<(Option<Name>, NamespaceDefinition<RawName>)>,
-    namespace: Annotated<'a, Namespace<'a>>,
-) -> Result<bool, AllocError>
-    ensures { IfOk result (λ plain. plain ≡ true → AddsNamed table.now namespaces.old.items namespaces.new.items namespace.entry) }
+    list: List<AnnotationSyntax>,
+    name: PathSyntax,
+    raws: List<DeclaredSyntax>,
+) -> Result<bool, Stopped>
+    requires list { IsScanned AreAnnotations text.now list }
+    requires name { IsScanned IsPath text.now name }
+    requires raws { All (IsScanned IsDeclared text.now) raws }
+    ensures added { IfOk result (λ plain. plain ≡ true → AddsNamed text.now table.now list name raws namespaces.old.items namespaces.new.items) }
+    ensures fault { IfErr result (IsStopped text.now (named_sites list name raws)) }
 {
-    let (item, annotations) = namespace.into_parts();
-    let (name, decls, _) = item.into_parts();
-    if !is_free_name(&name) {
+    let annotations = notes(alloc, text, list.as_slice())?;
+    let path = path(alloc, text, name)?;
+    if is_reserved_path(&path) {
         return Ok(false);
     }
     let annotations = annotations.to_annotations(alloc)?;
-    let Some(definition) = plain_definition(alloc, table, decls, annotations)? else {
+    let Some(definition) = read_definition(alloc, text, table, raws, annotations)? else {
         return Ok(false);
     };
-    let Some(key) = namespace_key(alloc, name)? else {
+    let Some(key) = declared_key(alloc, &path)? else {
         return Ok(false);
     };
-    namespaces.push((key, definition))?;
+    namespaces.push((Some(key), definition))?;
     Ok(true)
 }
 
-/// Adds what a namespace that has a name defines, where nothing is to be said of it.
-pub fn push_namespace<'a>(
+/// Adds what a namespace that has a name defines, where nothing is to be said of it: from its annotations, its path and its
+/// declarations. Or of its user faults the one that ends first.
+pub fn push_namespace(
     alloc: Global,
+    text: &str,
     table: &ExtensionTable,
     gathered: &mut Gathered,
-    namespace: Annotated<'a, Namespace<'a>>,
-) -> Result<bool, AllocError>
-    ensures { IfOk result (λ plain. plain ≡ true → AddsNamespace table.now gathered.old gathered.new namespace.entry) }
+    list: List<AnnotationSyntax>,
+    name: PathSyntax,
+    raws: List<DeclaredSyntax>,
+) -> Result<bool, Stopped>
+    requires list { IsScanned AreAnnotations text.now list }
+    requires name { IsScanned IsPath text.now name }
+    requires raws { All (IsScanned IsDeclared text.now) raws }
+    ensures added { IfOk result (λ plain. plain ≡ true → AddsNamespace text.now table.now list name raws gathered.old gathered.new) }
+    ensures fault { IfErr result (IsStopped text.now (named_sites list name raws)) }
 {
-    push_named(alloc, table, &mut gathered.namespaces, namespace)
+    push_named(
+        alloc,
+        text,
+        table,
+        &mut gathered.namespaces,
+        list,
+        name,
+        raws,
+    )
 }
 
 // The entries of the namespaces, and of what stands outside of these, where something does and no name stands twice there.

@@ -18,7 +18,7 @@ use cedar_identifiers::RawName;
 use cedar_names::ExtensionTable;
 use schema_json::Fragment;
 use schema_syntax_parser::{ItemSyntax, next_item};
-use schema_syntax_reader::{Stopped, declared, namespace};
+use schema_syntax_reader::{Stopped, declared};
 use schema_syntax_tokens::ShortToken;
 use std::alloc::Global;
 
@@ -36,10 +36,8 @@ fn push_item(
     ensures fault { IfErr result (IsStopped text.now (item_sites raw)) }
 {
     match raw {
-        ItemSyntax::Namespace(list, name, decls, loc) => {
-            let namespace = namespace(alloc, text, list, name, decls, loc)?;
-            let plain = push_namespace(alloc, table, gathered, namespace)?;
-            Ok(plain)
+        ItemSyntax::Namespace(list, name, raws, _) => {
+            push_namespace(alloc, text, table, gathered, list, name, raws)
         }
         ItemSyntax::Decl(raw) => {
             let decl = declared(alloc, text, raw)?;

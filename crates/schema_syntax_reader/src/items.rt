@@ -57,9 +57,8 @@ impl<'a> Part<'a> for Decls {
     }
 }
 
-/// A namespace, from its annotations, its path, its declarations and its place, or of its user faults the one that ends
-/// first.
-pub fn namespace<'a>(
+// A namespace, from its annotations, its path, its declarations and its place.
+fn namespace<'a>(
     alloc: Global,
     text: &'a str,
     list: List<AnnotationSyntax>,

@@ -1,3 +1,4 @@
+//! What names and annotations stand for, or of their user faults the one that ends first.
 ghost use Rattle.std.specs.Prelude.{◌≡◌, ◌∷◌, [], true};
 ghost use Rattle.schema_syntax_tokens.specs.Scans.{IsPlaced};
 ghost use Rattle.schema_syntax_parser.specs.Syntax.{AreAnnotations};
@@ -19,7 +20,7 @@ use schema_syntax_tokens::ShortToken;
 use schema_syntax_tree::{SrcAnnotations, SrcId, SrcStr};
 use std::alloc::Global;
 
-// The annotations of an item.
+/// The annotations of an item.
 pub fn notes<'a>(
     alloc: Global,
     text: &'a str,

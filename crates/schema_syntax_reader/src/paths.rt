@@ -1,3 +1,4 @@
+//! What paths and references stand for, or of their user faults the one that ends first.
 ghost use Rattle.std.specs.Prelude.{◌≡◌, ◌++◌, ◌∷◌, [], Some, unwrap_or};
 ghost use Rattle.std.specs.List.{All, AllZip};
 ghost use Rattle.schema_syntax_parser.specs.Syntax.{IsPath, IsRef};
@@ -29,7 +30,7 @@ fn path_of_names<'a>(
     Ok(Path::of_ids(ids, Some(loc)))
 }
 
-// A path.
+/// A path.
 pub fn path<'a>(alloc: Global, text: &'a str, raw: PathSyntax) -> Result<Path<'a>, Stopped>
     requires { IsScanned IsPath text.now raw }
     ensures { Reads text.now (path_sites raw) (IsPathOf text.now raw) result }
