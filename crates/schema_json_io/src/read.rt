@@ -3,6 +3,7 @@ ghost use Rattle.serde_json.specs.Data.{Data};
 ghost use Rattle.serde_json.specs.Read.{read};
 ghost use Rattle.serde_json.specs.View.{view};
 ghost use Rattle.serde_json.specs.Written.{has_float};
+ghost use Rattle.schema_json_keys.specs.Plain.{IsPlainText};
 ghost use Rattle.schema_json_io.specs.Advice.{beside};
 ghost use Rattle.schema_json_io.specs.Texts.{TextShape, ValueShape};
 ghost use Rattle.schema_json_io.specs.Causes.{IsTextCause, IsValueCause, IsTextError, IsValueError};
@@ -14,7 +15,7 @@ use cedar_data::Text;
 use cedar_identifiers::RawName;
 use schema_json::Fragment;
 use schema_json_errors::{JsonAdvice, JsonDeserializationError, JsonFault};
-use schema_json_keys::look_through;
+use schema_json_keys::{look_through, plain_value};
 use schema_json_shapes::read_fragment;
 use serde_json::Value;
 use std::alloc::Global;
@@ -67,12 +68,23 @@ pub fn with_advice(fault: JsonFault, advice: Option<JsonAdvice>) -> JsonDeserial
     JsonDeserializationError { fault, advice }
 }
 
-/// The fragment that a JSON text says. Refused are, in this order: a text that is no JSON, a key that an object has
-/// twice, a number that is no whole number of 64 bits, and the first fault of the value.
-pub fn from_json_str(
+// The fragment of the value that a text without a repeated key and a number is, or the error.
+fn read_plain(
     alloc: Global,
-    json: &str,
+    text: &str,
+    value: &Value,
 ) -> Result<Fragment<RawName>, JsonDeserializationError>
+    requires { IsPlainText text.now (view value.now) }
+    ensures { MatchResult result (TextShape text.now) (IsTextError text.now) }
+{
+    match read_whole(alloc, value) {
+        Ok(fragment) => Ok(fragment),
+        Err(fault) => Err(with_advice(fault, advice_on(text, Some(value)))),
+    }
+}
+
+// The fragment of any text, or the error.
+fn read_any(alloc: Global, json: &str) -> Result<Fragment<RawName>, JsonDeserializationError>
     ensures { MatchResult result (TextShape json.now) (IsTextError json.now) }
 {
     match Value::from_str(alloc, json) {
@@ -86,6 +98,22 @@ pub fn from_json_str(
             }
             Err(with_advice(JsonFault::NotJson, advice_on(json, None)))
         }
+    }
+}
+
+/// The fragment that a JSON text says. Refused are, in this order: a text that is no JSON, a key that an object has
+/// twice, a number that is no whole number of 64 bits, and the first fault of the value. Mostly the text has neither a
+/// repeated key nor a number, and is read in one pass.
+pub fn from_json_str(
+    alloc: Global,
+    json: &str,
+) -> Result<Fragment<RawName>, JsonDeserializationError>
+    ensures { MatchResult result (TextShape json.now) (IsTextError json.now) }
+{
+    match plain_value(alloc, json) {
+        Ok(Some(value)) => read_plain(alloc, json, &value),
+        Ok(None) => read_any(alloc, json),
+        Err(_) => Err(with_advice(JsonFault::Memory, None)),
     }
 }
 
