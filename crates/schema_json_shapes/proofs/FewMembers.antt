@@ -1,7 +1,8 @@
 -- A member that is looked for one by one, and one of two.
-use Rattle.std.proofs.Common.{◌≡◌, ℕ, ◌-◌, ◌≤◌, true, false, List, [], ◌∷◌, Ordering, Less, Equal, Greater, Some}
+use Rattle.std.proofs.Common.{◌≡◌, ℕ, ◌-◌, ◌≤◌, Bool, true, false, List, [], ◌∷◌, Ordering, Less, Equal, Greater, Some}
+use Rattle.std.proofs.Common.{Option}
 use Rattle.std.proofs.Common.{None, length, string_bytes, refl, sym, ap, ◌∙◌, subst, arith}
-use Rattle.std.specs.Prelude.{slice_get}
+use Rattle.std.specs.Prelude.{slice_get, if◌then◌else◌}
 use Rattle.std.specs.Ordering.{nat_cmp, is_eq, match_ordering}
 use Rattle.std.specs.Str.{bytes_eq}
 use Rattle.std.specs.Cmp.Lexicographic.{slice_cmp}
@@ -10,6 +11,7 @@ use Rattle.serde_json.specs.Data.{Data, Members, member}
 use Rattle.serde_json.specs.Find.{get_member}
 use Rattle.serde_json.specs.View.{view, members_view}
 use Rattle.serde_json.proofs.Views.{Entry}
+use Rattle.schema_json_shapes.specs.Tables.{Field, is_field, first_unknown}
 
 taken : {X : Type 0} (o : Ordering) (a b : X) → is_eq o ≡ true → match_ordering o a b a ≡ b
 taken Less a b e = cc
@@ -75,3 +77,47 @@ none_of_two name (x ∷ y ∷ []) e l two first last apart other =
     sym (found_later name (string_bytes x.0) (view x.1) (members_view (y ∷ [])) not_first
     ∙ found_later name (string_bytes y.0) (view y.1) (members_view []) not_last)
 none_of_two name (x ∷ y ∷ z ∷ es) e l two first last apart other = let no : ⊥ = omega arith in absurd no
+
+-- ---- the least of two keys at most that is no field
+
+stops : (b : Bool) (k : List ℕ) (rest : Option (List ℕ)) → b ≡ false → Some k ≡ (if b then rest else Some k)
+stops true k rest e = cc
+stops false k rest e = refl
+
+passes : (b : Bool) (k : List ℕ) (rest : Option (List ℕ)) → b ≡ true → rest ≡ (if b then rest else Some k)
+passes true k rest e = refl
+passes false k rest e = cc
+
+pub unknown_first : (fs : List Field) (es : List Entry) (e : Entry) → slice_get es 0 ≡ Some e
+    → is_field fs (string_bytes e.0) ≡ false → Some (string_bytes e.0) ≡ first_unknown fs (members_view es)
+unknown_first fs [] e first no_field = cc
+unknown_first fs (x ∷ es) e first no_field =
+    subst (λ (y : Entry). Some (string_bytes e.0) ≡ first_unknown fs (members_view (y ∷ es))) (sym (one x e first))
+    (stops (is_field fs (string_bytes e.0)) (string_bytes e.0) (first_unknown fs (members_view es)) no_field)
+
+unknown_later : (fs : List Field) (x e : Entry) (es : List Entry) → x ≡ e → is_field fs (string_bytes e.0) ≡ true
+    → first_unknown fs (members_view es) ≡ first_unknown fs (members_view (x ∷ es))
+unknown_later fs x e es is field =
+    passes (is_field fs (string_bytes x.0)) (string_bytes x.0) (first_unknown fs (members_view es))
+    (ap (λ (y : Entry). is_field fs (string_bytes y.0)) is ∙ field)
+
+pub unknown_last : (fs : List Field) (es : List Entry) (e l : Entry) → length es ≤ 2 → slice_get es 0 ≡ Some e
+    → slice_get es (length es - 1) ≡ Some l → is_field fs (string_bytes e.0) ≡ true
+    → is_field fs (string_bytes l.0) ≡ false → Some (string_bytes l.0) ≡ first_unknown fs (members_view es)
+unknown_last fs [] e l two first last field no_field = cc
+unknown_last fs (x ∷ []) e l two first last field no_field =
+    let is : l ≡ e = sym (one x l last) ∙ one x e first in
+    let no : false ≡ true = sym no_field ∙ ap (λ (y : Entry). is_field fs (string_bytes y.0)) is ∙ field in
+    cc
+unknown_last fs (x ∷ y ∷ []) e l two first last field no_field =
+    unknown_first fs (y ∷ []) l last no_field ∙ unknown_later fs x e (y ∷ []) (one x e first) field
+unknown_last fs (x ∷ y ∷ z ∷ es) e l two first last field no_field = let no : ⊥ = omega arith in absurd no
+
+pub all_known : (fs : List Field) (es : List Entry) (e l : Entry) → length es ≤ 2 → slice_get es 0 ≡ Some e
+    → slice_get es (length es - 1) ≡ Some l → is_field fs (string_bytes e.0) ≡ true
+    → is_field fs (string_bytes l.0) ≡ true → None ≡ first_unknown fs (members_view es)
+all_known fs [] e l two first last field other = cc
+all_known fs (x ∷ []) e l two first last field other = unknown_later fs x e [] (one x e first) field
+all_known fs (x ∷ y ∷ []) e l two first last field other =
+    unknown_later fs y l [] (one y l last) other ∙ unknown_later fs x e (y ∷ []) (one x e first) field
+all_known fs (x ∷ y ∷ z ∷ es) e l two first last field other = let no : ⊥ = omega arith in absurd no

@@ -104,10 +104,35 @@ fn is_field(fields: &[Field], key: &str) -> bool
 pub fn first_unknown<'v>(fields: &[Field], members: &'v Members) -> Option<&'v str>
     ensures { option_map (λ k. k.now) result ≡ first_unknown (table fields.now) (members_view members.now.entries) }
 {
+    if members.len() <= TWO {
+        return unknown_at_end(fields, members);
+    }
     for (key, _) in members {
         if !is_field(fields, key.as_str()) {
             return Some(key.as_str());
         }
+    }
+    None
+}
+
+// The least of two keys at most that is none of these fields.
+fn unknown_at_end<'v>(fields: &[Field], members: &'v Members) -> Option<&'v str>
+    requires { length members.now.entries ≤ TWO }
+    ensures { option_map (λ k. k.now) result ≡ first_unknown (table fields.now) (members_view members.now.entries) }
+{
+    let Some((first, _)) = members.first_key_value() else {
+        return None;
+    };
+    let least = first.as_str();
+    if !is_field(fields, least) {
+        return Some(least);
+    }
+    let Some((last, _)) = members.last_key_value() else {
+        return None;
+    };
+    let greatest = last.as_str();
+    if !is_field(fields, greatest) {
+        return Some(greatest);
     }
     None
 }
