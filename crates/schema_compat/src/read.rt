@@ -3,6 +3,7 @@ ghost use Rattle.serde_json.specs.Data.{Data};
 ghost use Rattle.serde_json.specs.Read.{read};
 ghost use Rattle.serde_json.specs.View.{view};
 ghost use Rattle.serde_json.specs.Written.{has_float};
+ghost use Rattle.schema_json_keys.specs.Plain.{IsPlainText};
 ghost use Rattle.schema_json_io.specs.Causes.{IsValueCauseBy, IsTextCauseBy};
 ghost use Rattle.schema_json_io.specs.Texts.{Holds};
 ghost use Rattle.schema_compat_shapes.specs.OldParts.{IsOldRead};
@@ -20,7 +21,7 @@ use schema_json_io::advice::advice_on;
 use schema_json_io::floats::has_float;
 use schema_json_io::read::with_advice;
 use schema_json_io::shape_faults::of_shape;
-use schema_json_keys::look_through;
+use schema_json_keys::{look_through, plain_value};
 use serde_json::Value;
 use std::alloc::Global;
 
@@ -76,13 +77,23 @@ fn converted(
     }
 }
 
-/// The fragment that a JSON text says in the deprecated form. Refused are, in this order: a text that is no JSON, a key that
-/// an object has twice, a number that is no whole number of 64 bits, the first fault of reading the value, and the first fault
-/// of the data that is read.
-pub fn from_deprecated_json_str(
+// The fragment of the value that a text without a repeated key and a number is, or the error.
+fn read_plain(
     alloc: Global,
-    json: &str,
+    text: &str,
+    value: &Value,
 ) -> Result<Fragment<RawName>, JsonDeserializationError>
+    requires { IsPlainText text.now (view value.now) }
+    ensures { MatchResult result (OldText text.now) (IsOldTextError text.now) }
+{
+    match read_whole(alloc, value) {
+        Ok(old) => converted(alloc, old),
+        Err(fault) => Err(with_advice(fault, advice_on(text, Some(value)))),
+    }
+}
+
+// The fragment of any text, or the error.
+fn read_any(alloc: Global, json: &str) -> Result<Fragment<RawName>, JsonDeserializationError>
     ensures { MatchResult result (OldText json.now) (IsOldTextError json.now) }
 {
     match Value::from_str(alloc, json) {
@@ -96,6 +107,22 @@ pub fn from_deprecated_json_str(
             }
             Err(with_advice(JsonFault::NotJson, advice_on(json, None)))
         }
+    }
+}
+
+/// The fragment that a JSON text says in the deprecated form. Refused are, in this order: a text that is no JSON, a key that
+/// an object has twice, a number that is no whole number of 64 bits, the first fault of reading the value, and the first fault
+/// of the data that is read. Mostly the text has neither a repeated key nor a number, and is read in one pass.
+pub fn from_deprecated_json_str(
+    alloc: Global,
+    json: &str,
+) -> Result<Fragment<RawName>, JsonDeserializationError>
+    ensures { MatchResult result (OldText json.now) (IsOldTextError json.now) }
+{
+    match plain_value(alloc, json) {
+        Ok(Some(value)) => read_plain(alloc, json, &value),
+        Ok(None) => read_any(alloc, json),
+        Err(_) => Err(with_advice(JsonFault::Memory, None)),
     }
 }
 
