@@ -184,12 +184,12 @@ fn push_named(
     ensures added { IfOk result (λ plain. plain ≡ true → AddsNamed text.now table.now list name raws namespaces.old.items namespaces.new.items) }
     ensures fault { IfErr result (IsStopped text.now (named_sites list name raws)) }
 {
-    let annotations = notes(alloc, text, list.as_slice())?;
+    let noted = notes(alloc, text, list.as_slice())?;
     let path = path(alloc, text, name)?;
     if is_reserved_path(&path) {
         return Ok(false);
     }
-    let annotations = annotations.to_annotations(alloc)?;
+    let annotations = noted.to_annotations(alloc)?;
     let Some(definition) = read_definition(alloc, text, table, raws, annotations)? else {
         return Ok(false);
     };

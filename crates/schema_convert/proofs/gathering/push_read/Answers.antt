@@ -23,7 +23,7 @@ declared-requires c =
 
 pub returns-in_err-decl-clause-fault : goal.returns-in_err-decl-clause-fault
 returns-in_err-decl-clause-fault c =
-    let p = err_from_is_err_and c.from_residual-in_err-decl.result c.from_residual-in_err-decl.ensures.1 in
+    let p = err_from_is_err_and c.from_residual.result c.from_residual.ensures.1 in
     rw (p.1, p.2) (stopped_at_part c.args.text.now declared_sites (IsDeclaredOf c.args.text.now) c.args.raws
     (into_iter_items c.loop-raw.raw-iterator) c.in-Some.raw (into_iter_items c.next.new.self)
     c.in-Some.ensures.steps.0 c.loop-raw.invariant.decls c.loop-raw.invariant.read c.in_err-decl.field-0.0
