@@ -12,6 +12,7 @@ use crate::designator::Designator;
 use crate::rename_fragments::{FragmentRenamer, rename_fragment};
 use crate::rename_namespaces::rename_namespace;
 use crate::rename_types::rename_type;
+use crate::stop::{Stop, or_error};
 use cedar_identifiers::{InternalName, Name};
 use cedar_names::AllDefs;
 use schema_json::{Fragment, NamespaceDefinition, Type};
@@ -48,7 +49,7 @@ impl Designate for Type<InternalName> {
         alloc: Global,
         all_defs: &AllDefs,
     ) -> Result<Self, ResolveError> {
-        rename_type(alloc, &Designator { defs: all_defs }, &self)
+        or_error(rename_type(alloc, &Designator { defs: all_defs }, &self))
     }
 }
 
@@ -62,7 +63,7 @@ impl Designate for NamespaceDefinition<InternalName> {
         alloc: Global,
         all_defs: &AllDefs,
     ) -> Result<Self, ResolveError> {
-        rename_namespace(alloc, &Designator { defs: all_defs }, &self)
+        or_error(rename_namespace(alloc, &Designator { defs: all_defs }, &self))
     }
 }
 
@@ -78,7 +79,7 @@ impl<'a> FragmentRenamer<InternalName, InternalName> for Designator<'a> {
         alloc: Global,
         _ns: &Option<Name>,
         definition: &NamespaceDefinition<InternalName>,
-    ) -> Result<NamespaceDefinition<InternalName>, ResolveError> {
+    ) -> Result<NamespaceDefinition<InternalName>, Stop> {
         rename_namespace(alloc, self, definition)
     }
 }
@@ -93,6 +94,6 @@ impl Designate for Fragment<InternalName> {
         alloc: Global,
         all_defs: &AllDefs,
     ) -> Result<Self, ResolveError> {
-        rename_fragment(alloc, &Designator { defs: all_defs }, &self)
+        or_error(rename_fragment(alloc, &Designator { defs: all_defs }, &self))
     }
 }

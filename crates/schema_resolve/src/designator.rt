@@ -8,6 +8,7 @@ ghost use Rattle.schema_resolve.specs.Qualified.{in_namespace};
 ghost use Rattle.schema_resolve.specs.References.{reference_to};
 
 use crate::renamer::Renamer;
+use crate::stop::Stop;
 use crate::tried::told;
 use cedar_data::{CloneIn, Loc, NonEmpty};
 use cedar_identifiers::{InternalName, RawName, ReferenceType};
@@ -34,7 +35,7 @@ impl<'a> Renamer<InternalName, InternalName> for Designator<'a> {
         alloc: Global,
         role: ReferenceType,
         name: &InternalName,
-    ) -> Result<InternalName, ResolveError> {
+    ) -> Result<InternalName, Stop> {
         match role {
             ReferenceType::Common | ReferenceType::Entity => Ok(name.clone_in(alloc)?),
             ReferenceType::CommonOrEntity => {
@@ -49,7 +50,7 @@ impl<'a> Renamer<InternalName, InternalName> for Designator<'a> {
         alloc: Global,
         name: &InternalName,
         loc: Option<Loc>,
-    ) -> Result<Type<InternalName>, ResolveError> {
+    ) -> Result<Type<InternalName>, Stop> {
         let is_common = look_up(alloc, self.defs, name)?;
         let copy = name.clone_in(alloc)?;
         Ok(reference_to(is_common, copy, loc))
@@ -59,20 +60,23 @@ impl<'a> Renamer<InternalName, InternalName> for Designator<'a> {
         &self,
         alloc: Global,
         uid: &ActionEntityUID<InternalName>,
-    ) -> Result<InternalName, ResolveError> {
+    ) -> Result<InternalName, Stop> {
         Ok(uid.ty().clone_in(alloc)?)
     }
 }
 
 // Whether the name is a common type, where it is one or an entity type.
-fn look_up(alloc: Global, defs: &AllDefs, name: &InternalName) -> Result<bool, ResolveError>
+fn look_up(alloc: Global, defs: &AllDefs, name: &InternalName) -> Result<bool, Stop>
     ensures found { IfOk result (λ is_common. is_common ≡ (tests_of defs.now).is_common (components_of name.now)) }
     ensures defined { OnOk result (undesignated_type (tests_of defs.now) ReferenceType.CommonOrEntity name.now ≡ []) }
     ensures err { IfErr result (NamesFirst (undesignated_type (tests_of defs.now) ReferenceType.CommonOrEntity name.now)) }
 {
     match kind_of(defs, name) {
         Some(is_common) => Ok(is_common),
-        None => Err(ResolveError::TypeNotDefined(neither(alloc, name)?)),
+        None => {
+            let error = neither(alloc, name)?;
+            Err(Stop::new(alloc, ResolveError::TypeNotDefined(error))?)
+        }
     }
 }
 

@@ -11,6 +11,7 @@ ghost use Rattle.schema_json_walk.specs.Walk.{of_type, of_variant, of_record, of
 use crate::rename_items::{rename_action, rename_apply, rename_context, rename_entity, rename_uid};
 use crate::rename_namespaces::rename_namespace;
 use crate::rename_types::{rename_attribute, rename_record, rename_type, rename_variant};
+use crate::stop::or_error;
 use cedar_identifiers::{ConditionalName, InternalName};
 use cedar_names::AllDefs;
 use schema_json::{
@@ -53,7 +54,7 @@ impl FullyQualify for Type<ConditionalName> {
         alloc: Global,
         all_defs: &AllDefs,
     ) -> Result<Self::Out, ResolveError> {
-        rename_type(alloc, all_defs, &self)
+        or_error(rename_type(alloc, all_defs, &self))
     }
 }
 
@@ -69,7 +70,7 @@ impl FullyQualify for TypeVariant<ConditionalName> {
         alloc: Global,
         all_defs: &AllDefs,
     ) -> Result<Self::Out, ResolveError> {
-        rename_variant(alloc, all_defs, &self)
+        or_error(rename_variant(alloc, all_defs, &self))
     }
 }
 
@@ -85,7 +86,7 @@ impl FullyQualify for RecordType<ConditionalName> {
         alloc: Global,
         all_defs: &AllDefs,
     ) -> Result<Self::Out, ResolveError> {
-        rename_record(alloc, all_defs, &self)
+        or_error(rename_record(alloc, all_defs, &self))
     }
 }
 
@@ -101,7 +102,7 @@ impl FullyQualify for TypeOfAttribute<ConditionalName> {
         alloc: Global,
         all_defs: &AllDefs,
     ) -> Result<Self::Out, ResolveError> {
-        rename_attribute(alloc, all_defs, &self)
+        or_error(rename_attribute(alloc, all_defs, &self))
     }
 }
 
@@ -117,7 +118,7 @@ impl FullyQualify for AttributesOrContext<ConditionalName> {
         alloc: Global,
         all_defs: &AllDefs,
     ) -> Result<Self::Out, ResolveError> {
-        rename_context(alloc, all_defs, &self)
+        or_error(rename_context(alloc, all_defs, &self))
     }
 }
 
@@ -133,7 +134,7 @@ impl FullyQualify for EntityType<ConditionalName> {
         alloc: Global,
         all_defs: &AllDefs,
     ) -> Result<Self::Out, ResolveError> {
-        rename_entity(alloc, all_defs, &self)
+        or_error(rename_entity(alloc, all_defs, &self))
     }
 }
 
@@ -149,7 +150,7 @@ impl FullyQualify for ApplySpec<ConditionalName> {
         alloc: Global,
         all_defs: &AllDefs,
     ) -> Result<Self::Out, ResolveError> {
-        rename_apply(alloc, all_defs, &self)
+        or_error(rename_apply(alloc, all_defs, &self))
     }
 }
 
@@ -165,7 +166,7 @@ impl FullyQualify for ActionEntityUID<ConditionalName> {
         alloc: Global,
         all_defs: &AllDefs,
     ) -> Result<Self::Out, ResolveError> {
-        rename_uid(alloc, all_defs, &self)
+        or_error(rename_uid(alloc, all_defs, &self))
     }
 }
 
@@ -181,7 +182,7 @@ impl FullyQualify for ActionType<ConditionalName> {
         alloc: Global,
         all_defs: &AllDefs,
     ) -> Result<Self::Out, ResolveError> {
-        rename_action(alloc, all_defs, &self)
+        or_error(rename_action(alloc, all_defs, &self))
     }
 }
 
@@ -197,6 +198,6 @@ impl FullyQualify for NamespaceDefinition<ConditionalName> {
         alloc: Global,
         all_defs: &AllDefs,
     ) -> Result<Self::Out, ResolveError> {
-        rename_namespace(alloc, all_defs, &self)
+        or_error(rename_namespace(alloc, all_defs, &self))
     }
 }

@@ -16,6 +16,7 @@ mod renamer;
 pub mod resolve_fragment;
 mod resolver;
 mod scope;
+mod stop;
 mod targets;
 mod tried;
 

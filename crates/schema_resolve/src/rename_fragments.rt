@@ -6,10 +6,10 @@ ghost use Rattle.schema_resolve.specs.Undefined.{Undefined};
 ghost use Rattle.schema_json_walk.specs.Walk.{of_namespace, of_fragment};
 ghost use Rattle.schema_resolve.specs.ReferenceParts.{GivenBy, by_reference};
 
+use crate::stop::Stop;
 use cedar_data::{CloneIn, Map};
 use cedar_identifiers::{Name, NameText};
 use schema_json::{Fragment, NamespaceDefinition};
-use schema_resolve_errors::ResolveError;
 use std::alloc::Global;
 
 // What each name in each namespace becomes.
@@ -25,7 +25,7 @@ pub(crate) trait FragmentRenamer<N: NameText, M: NameText> {
         alloc: Global,
         ns: &Option<Name>,
         definition: &NamespaceDefinition<N>,
-    ) -> Result<NamespaceDefinition<M>, ResolveError>
+    ) -> Result<NamespaceDefinition<M>, Stop>
         ensures out { IfOk result (λ out. out ≡ renamed_namespace (becomes_in self.now ns.now) (action_becomes_in self.now ns.now) definition.now) }
         ensures defined { OnOk result (of_namespace (by_reference (untargeted_in self.now ns.now)) definition.now ≡ []) }
         ensures err { IfErr result (NamesFirst (of_namespace (by_reference (untargeted_in self.now ns.now)) definition.now)) };
@@ -36,7 +36,7 @@ pub(crate) fn rename_fragment<N: NameText, M: NameText + Drop, R: FragmentRename
     alloc: Global,
     renamer: &R,
     fragment: &Fragment<N>,
-) -> Result<Fragment<M>, ResolveError>
+) -> Result<Fragment<M>, Stop>
     ensures out { IfOk result (λ out. out ≡ renamed_fragment (R.becomes_in renamer.now) (R.action_becomes_in renamer.now) fragment.now) }
     ensures defined { OnOk result (of_fragment (λ ns. by_reference (R.untargeted_in renamer.now ns)) fragment.now ≡ []) }
     ensures err { IfErr result (NamesFirst (of_fragment (λ ns. by_reference (R.untargeted_in renamer.now ns)) fragment.now)) }

@@ -8,13 +8,13 @@ ghost use Rattle.schema_resolve.specs.ReferenceParts.{by_reference};
 
 use crate::rename_types::rename_type;
 use crate::renamer::Renamer;
+use crate::stop::Stop;
 use cedar_data::{Boxed, CloneIn, List};
 use cedar_identifiers::{NameText, ReferenceType};
 use schema_json::{
     ActionEntityUID, ActionType, ApplySpec, AttributesOrContext, CommonType, EntityType,
     EntityTypeKind, StandardEntityType, Type,
 };
-use schema_resolve_errors::ResolveError;
 use std::alloc::Global;
 
 // The entity types that are named, each replaced.
@@ -22,7 +22,7 @@ fn rename_names<N: NameText, M: NameText + Drop, R: Renamer<N, M>>(
     alloc: Global,
     renamer: &R,
     names: &[N],
-) -> Result<List<M>, ResolveError>
+) -> Result<List<M>, Stop>
     ensures out { IfOk result (λ out. out ≡ map ((R.becomes renamer.now).name ReferenceType.Entity) names.now) }
     ensures defined { OnOk result (flat_map ((R.untargeted renamer.now).types ReferenceType.Entity) names.now ≡ []) }
     ensures err { IfErr result (NamesFirst (flat_map ((R.untargeted renamer.now).types ReferenceType.Entity) names.now)) }
@@ -40,7 +40,7 @@ pub(crate) fn rename_common<N: NameText, M: NameText + Drop, R: Renamer<N, M>>(
     alloc: Global,
     renamer: &R,
     common: &CommonType<N>,
-) -> Result<CommonType<M>, ResolveError>
+) -> Result<CommonType<M>, Stop>
     ensures out { IfOk result (λ out. out ≡ renamed_common (R.becomes renamer.now) common.now) }
     ensures defined { OnOk result (of_common (by_reference (R.untargeted renamer.now)) common.now ≡ []) }
     ensures err { IfErr result (NamesFirst (of_common (by_reference (R.untargeted renamer.now)) common.now)) }
@@ -57,7 +57,7 @@ pub(crate) fn rename_context<N: NameText, M: NameText + Drop, R: Renamer<N, M>>(
     alloc: Global,
     renamer: &R,
     context: &AttributesOrContext<N>,
-) -> Result<AttributesOrContext<M>, ResolveError>
+) -> Result<AttributesOrContext<M>, Stop>
     ensures out { IfOk result (λ out. out ≡ renamed_context (R.becomes renamer.now) context.now) }
     ensures defined { OnOk result (of_type (by_reference (R.untargeted renamer.now)) context.now.0 ≡ []) }
     ensures err { IfErr result (NamesFirst (of_type (by_reference (R.untargeted renamer.now)) context.now.0)) }
@@ -70,7 +70,7 @@ fn rename_tags<N: NameText, M: NameText + Drop, R: Renamer<N, M>>(
     alloc: Global,
     renamer: &R,
     tags: &Option<Boxed<Type<N>>>,
-) -> Result<Option<Boxed<Type<M>>>, ResolveError>
+) -> Result<Option<Boxed<Type<M>>>, Stop>
     ensures out { IfOk result (λ out. out ≡ option_map (renamed (R.becomes renamer.now)) tags.now) }
     ensures defined { OnOk result (option_map_or (of_type (by_reference (R.untargeted renamer.now))) tags.now [] ≡ []) }
     ensures err { IfErr result (NamesFirst (option_map_or (of_type (by_reference (R.untargeted renamer.now))) tags.now [])) }
@@ -89,7 +89,7 @@ fn rename_standard<N: NameText, M: NameText + Drop, R: Renamer<N, M>>(
     alloc: Global,
     renamer: &R,
     standard: &StandardEntityType<N>,
-) -> Result<StandardEntityType<M>, ResolveError>
+) -> Result<StandardEntityType<M>, Stop>
     ensures out { IfOk result (λ out. out ≡ renamed_standard (R.becomes renamer.now) standard.now) }
     ensures defined { OnOk result (of_standard (by_reference (R.untargeted renamer.now)) standard.now ≡ []) }
     ensures err { IfErr result (NamesFirst (of_standard (by_reference (R.untargeted renamer.now)) standard.now)) }
@@ -109,7 +109,7 @@ fn rename_kind<N: NameText, M: NameText + Drop, R: Renamer<N, M>>(
     alloc: Global,
     renamer: &R,
     kind: &EntityTypeKind<N>,
-) -> Result<EntityTypeKind<M>, ResolveError>
+) -> Result<EntityTypeKind<M>, Stop>
     ensures out { IfOk result (λ out. out ≡ renamed_kind (R.becomes renamer.now) kind.now) }
     ensures defined { OnOk result (of_kind (by_reference (R.untargeted renamer.now)) kind.now ≡ []) }
     ensures err { IfErr result (NamesFirst (of_kind (by_reference (R.untargeted renamer.now)) kind.now)) }
@@ -131,7 +131,7 @@ pub(crate) fn rename_entity<N: NameText, M: NameText + Drop, R: Renamer<N, M>>(
     alloc: Global,
     renamer: &R,
     entity: &EntityType<N>,
-) -> Result<EntityType<M>, ResolveError>
+) -> Result<EntityType<M>, Stop>
     ensures out { IfOk result (λ out. out ≡ renamed_entity (R.becomes renamer.now) entity.now) }
     ensures defined { OnOk result (of_entity (by_reference (R.untargeted renamer.now)) entity.now ≡ []) }
     ensures err { IfErr result (NamesFirst (of_entity (by_reference (R.untargeted renamer.now)) entity.now)) }
@@ -150,7 +150,7 @@ pub(crate) fn rename_apply<N: NameText, M: NameText + Drop, R: Renamer<N, M>>(
     alloc: Global,
     renamer: &R,
     spec: &ApplySpec<N>,
-) -> Result<ApplySpec<M>, ResolveError>
+) -> Result<ApplySpec<M>, Stop>
     ensures out { IfOk result (λ out. out ≡ renamed_apply (R.becomes renamer.now) spec.now) }
     ensures defined { OnOk result (of_apply (by_reference (R.untargeted renamer.now)) spec.now ≡ []) }
     ensures err { IfErr result (NamesFirst (of_apply (by_reference (R.untargeted renamer.now)) spec.now)) }
@@ -170,7 +170,7 @@ pub(crate) fn rename_uid<N: NameText, M: NameText + Drop, R: Renamer<N, M>>(
     alloc: Global,
     renamer: &R,
     uid: &ActionEntityUID<N>,
-) -> Result<ActionEntityUID<M>, ResolveError>
+) -> Result<ActionEntityUID<M>, Stop>
     ensures out { IfOk result (λ out. out ≡ renamed_uid (R.becomes renamer.now) (R.action_becomes renamer.now) uid.now) }
     ensures defined { OnOk result (of_uid (by_reference (R.untargeted renamer.now)) uid.now ≡ []) }
     ensures err { IfErr result (NamesFirst (of_uid (by_reference (R.untargeted renamer.now)) uid.now)) }
@@ -184,7 +184,7 @@ fn rename_uids<N: NameText, M: NameText + Drop, R: Renamer<N, M>>(
     alloc: Global,
     renamer: &R,
     uids: &[ActionEntityUID<N>],
-) -> Result<List<ActionEntityUID<M>>, ResolveError>
+) -> Result<List<ActionEntityUID<M>>, Stop>
     ensures out { IfOk result (λ out. out ≡ map (renamed_uid (R.becomes renamer.now) (R.action_becomes renamer.now)) uids.now) }
     ensures defined { OnOk result (flat_map (of_uid (by_reference (R.untargeted renamer.now))) uids.now ≡ []) }
     ensures err { IfErr result (NamesFirst (flat_map (of_uid (by_reference (R.untargeted renamer.now))) uids.now)) }
@@ -202,7 +202,7 @@ fn rename_parents<N: NameText, M: NameText + Drop, R: Renamer<N, M>>(
     alloc: Global,
     renamer: &R,
     parents: &Option<List<ActionEntityUID<N>>>,
-) -> Result<Option<List<ActionEntityUID<M>>>, ResolveError>
+) -> Result<Option<List<ActionEntityUID<M>>>, Stop>
     ensures out { IfOk result (λ out. out ≡ option_map (map (renamed_uid (R.becomes renamer.now) (R.action_becomes renamer.now))) parents.now) }
     ensures defined { OnOk result (option_map_or (flat_map (of_uid (by_reference (R.untargeted renamer.now)))) parents.now [] ≡ []) }
     ensures err { IfErr result (NamesFirst (option_map_or (flat_map (of_uid (by_reference (R.untargeted renamer.now)))) parents.now [])) }
@@ -218,7 +218,7 @@ fn rename_application<N: NameText, M: NameText + Drop, R: Renamer<N, M>>(
     alloc: Global,
     renamer: &R,
     spec: &Option<ApplySpec<N>>,
-) -> Result<Option<ApplySpec<M>>, ResolveError>
+) -> Result<Option<ApplySpec<M>>, Stop>
     ensures out { IfOk result (λ out. out ≡ option_map (renamed_apply (R.becomes renamer.now)) spec.now) }
     ensures defined { OnOk result (option_map_or (of_apply (by_reference (R.untargeted renamer.now))) spec.now [] ≡ []) }
     ensures err { IfErr result (NamesFirst (option_map_or (of_apply (by_reference (R.untargeted renamer.now))) spec.now [])) }
@@ -235,7 +235,7 @@ pub(crate) fn rename_action<N: NameText, M: NameText + Drop, R: Renamer<N, M>>(
     alloc: Global,
     renamer: &R,
     action: &ActionType<N>,
-) -> Result<ActionType<M>, ResolveError>
+) -> Result<ActionType<M>, Stop>
     ensures out { IfOk result (λ out. out ≡ renamed_action (R.becomes renamer.now) (R.action_becomes renamer.now) action.now) }
     ensures defined { OnOk result (of_action (by_reference (R.untargeted renamer.now)) action.now ≡ []) }
     ensures err { IfErr result (NamesFirst (of_action (by_reference (R.untargeted renamer.now)) action.now)) }

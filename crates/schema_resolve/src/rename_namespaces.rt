@@ -7,10 +7,10 @@ ghost use Rattle.schema_resolve.specs.ReferenceParts.{by_reference};
 
 use crate::renamed::Renamed;
 use crate::renamer::Renamer;
+use crate::stop::Stop;
 use cedar_data::{CloneIn, Map};
 use cedar_identifiers::NameText;
 use schema_json::NamespaceDefinition;
-use schema_resolve_errors::ResolveError;
 use std::alloc::Global;
 
 // Declared items by name, with each name that they use replaced.
@@ -20,7 +20,7 @@ fn rename_entries<
     M: NameText,
     T: Renamed<N, M>,
     R: Renamer<N, M>,
->(alloc: Global, renamer: &R, entries: &Map<K, T>) -> Result<Map<K, T::Output>, ResolveError>
+>(alloc: Global, renamer: &R, entries: &Map<K, T>) -> Result<Map<K, T::Output>, Stop>
     ensures out { IfOk result (λ out. out ≡ map (on_value (T.output (R.becomes renamer.now) (R.action_becomes renamer.now))) entries.now) }
     ensures defined { OnOk result (each_value (T.undefined (R.untargeted renamer.now)) entries.now ≡ []) }
     ensures err { IfErr result (NamesFirst (each_value (T.undefined (R.untargeted renamer.now)) entries.now)) }
@@ -39,7 +39,7 @@ pub(crate) fn rename_namespace<N: NameText, M: NameText + Drop, R: Renamer<N, M>
     alloc: Global,
     renamer: &R,
     definition: &NamespaceDefinition<N>,
-) -> Result<NamespaceDefinition<M>, ResolveError>
+) -> Result<NamespaceDefinition<M>, Stop>
     ensures out { IfOk result (λ out. out ≡ renamed_namespace (R.becomes renamer.now) (R.action_becomes renamer.now) definition.now) }
     ensures defined { OnOk result (of_namespace (by_reference (R.untargeted renamer.now)) definition.now ≡ []) }
     ensures err { IfErr result (NamesFirst (of_namespace (by_reference (R.untargeted renamer.now)) definition.now)) }

@@ -6,10 +6,10 @@ ghost use Rattle.schema_json_walk.specs.Walk.{of_type, of_variant, of_record, of
 ghost use Rattle.schema_resolve.specs.ReferenceParts.{by_reference};
 
 use crate::renamer::Renamer;
+use crate::stop::Stop;
 use cedar_data::{Boxed, CloneIn, Loc, Map, Text};
 use cedar_identifiers::{NameText, ReferenceType};
 use schema_json::{RecordType, Type, TypeOfAttribute, TypeVariant};
-use schema_resolve_errors::ResolveError;
 use std::alloc::Global;
 
 // The type with each name replaced, or its first reference that means nothing.
@@ -18,7 +18,7 @@ pub(crate) fn rename_type<N: NameText, M: NameText + Drop, R: Renamer<N, M>>(
     alloc: Global,
     renamer: &R,
     ty: &Type<N>,
-) -> Result<Type<M>, ResolveError>
+) -> Result<Type<M>, Stop>
     ensures out { IfOk result (λ out. out ≡ renamed (R.becomes renamer.now) ty.now) }
     ensures defined { OnOk result (of_type (by_reference (R.untargeted renamer.now)) ty.now ≡ []) }
     ensures err { IfErr result (NamesFirst (of_type (by_reference (R.untargeted renamer.now)) ty.now)) }
@@ -39,7 +39,7 @@ fn rename_at<N: NameText, M: NameText + Drop, R: Renamer<N, M>>(
     renamer: &R,
     shape: &TypeVariant<N>,
     loc: Option<Loc>,
-) -> Result<Type<M>, ResolveError>
+) -> Result<Type<M>, Stop>
     ensures out { IfOk result (λ out. out ≡ renamed_at (R.becomes renamer.now) shape.now loc) }
     ensures defined { OnOk result (of_variant (by_reference (R.untargeted renamer.now)) shape.now ≡ []) }
     ensures err { IfErr result (NamesFirst (of_variant (by_reference (R.untargeted renamer.now)) shape.now)) }
@@ -81,7 +81,7 @@ pub(crate) fn rename_variant<N: NameText, M: NameText + Drop, R: Renamer<N, M>>(
     alloc: Global,
     renamer: &R,
     shape: &TypeVariant<N>,
-) -> Result<TypeVariant<M>, ResolveError>
+) -> Result<TypeVariant<M>, Stop>
     ensures out { IfOk result (λ out. out ≡ renamed_variant (R.becomes renamer.now) shape.now) }
     ensures defined { OnOk result (of_variant (by_reference (R.untargeted renamer.now)) shape.now ≡ []) }
     ensures err { IfErr result (NamesFirst (of_variant (by_reference (R.untargeted renamer.now)) shape.now)) }
@@ -117,7 +117,7 @@ pub(crate) fn rename_record<N: NameText, M: NameText + Drop, R: Renamer<N, M>>(
     alloc: Global,
     renamer: &R,
     fields: &RecordType<N>,
-) -> Result<RecordType<M>, ResolveError>
+) -> Result<RecordType<M>, Stop>
     ensures out { IfOk result (λ out. out ≡ renamed_record (R.becomes renamer.now) fields.now) }
     ensures defined { OnOk result (of_record (by_reference (R.untargeted renamer.now)) fields.now ≡ []) }
     ensures err { IfErr result (NamesFirst (of_record (by_reference (R.untargeted renamer.now)) fields.now)) }
@@ -138,7 +138,7 @@ pub(crate) fn rename_attribute<N: NameText, M: NameText + Drop, R: Renamer<N, M>
     alloc: Global,
     renamer: &R,
     attribute: &TypeOfAttribute<N>,
-) -> Result<TypeOfAttribute<M>, ResolveError>
+) -> Result<TypeOfAttribute<M>, Stop>
     ensures out { IfOk result (λ out. out ≡ renamed_attribute (R.becomes renamer.now) attribute.now) }
     ensures defined { OnOk result (of_attribute (by_reference (R.untargeted renamer.now)) attribute.now ≡ []) }
     ensures err { IfErr result (NamesFirst (of_attribute (by_reference (R.untargeted renamer.now)) attribute.now)) }
@@ -156,7 +156,7 @@ fn rename_entries<N: NameText, M: NameText + Drop, R: Renamer<N, M>>(
     alloc: Global,
     renamer: &R,
     entries: &[(Text, TypeOfAttribute<N>)],
-) -> Result<Vec<(Text, TypeOfAttribute<M>)>, ResolveError>
+) -> Result<Vec<(Text, TypeOfAttribute<M>)>, Stop>
     ensures out { IfOk result (λ out. out.items ≡ renamed_entries (R.becomes renamer.now) entries.now) }
     ensures defined { OnOk result (of_entries (by_reference (R.untargeted renamer.now)) entries.now ≡ []) }
     ensures err { IfErr result (NamesFirst (of_entries (by_reference (R.untargeted renamer.now)) entries.now)) }

@@ -7,9 +7,9 @@ ghost use Rattle.schema_json_walk.specs.Walk.{of_common, of_entity, of_action};
 
 use crate::rename_items::{rename_action, rename_common, rename_entity};
 use crate::renamer::Renamer;
+use crate::stop::Stop;
 use cedar_identifiers::NameText;
 use schema_json::{ActionType, CommonType, EntityType};
-use schema_resolve_errors::ResolveError;
 use std::alloc::Global;
 
 // What is declared by a name, with each name that it uses replaced.
@@ -21,11 +21,7 @@ pub(crate) trait Renamed<N: NameText, M: NameText> {
     // the references that mean nothing
     ghost undefined: { GivenBy N Undefined → Self → List Undefined };
 
-    fn renamed<R: Renamer<N, M>>(
-        &self,
-        alloc: Global,
-        renamer: &R,
-    ) -> Result<Self::Output, ResolveError>
+    fn renamed<R: Renamer<N, M>>(&self, alloc: Global, renamer: &R) -> Result<Self::Output, Stop>
         ensures out { IfOk result (λ out. out ≡ output (R.becomes renamer.now) (R.action_becomes renamer.now) self.now) }
         ensures defined { OnOk result (undefined (R.untargeted renamer.now) self.now ≡ []) }
         ensures err { IfErr result (NamesFirst (undefined (R.untargeted renamer.now) self.now)) };
@@ -38,11 +34,7 @@ impl<N: NameText, M: NameText + Drop> Renamed<N, M> for CommonType<N> {
 
     ghost undefined = { λ untargeted. of_common (by_reference untargeted) };
 
-    fn renamed<R: Renamer<N, M>>(
-        &self,
-        alloc: Global,
-        renamer: &R,
-    ) -> Result<CommonType<M>, ResolveError> {
+    fn renamed<R: Renamer<N, M>>(&self, alloc: Global, renamer: &R) -> Result<CommonType<M>, Stop> {
         rename_common(alloc, renamer, self)
     }
 }
@@ -54,11 +46,7 @@ impl<N: NameText, M: NameText + Drop> Renamed<N, M> for EntityType<N> {
 
     ghost undefined = { λ untargeted. of_entity (by_reference untargeted) };
 
-    fn renamed<R: Renamer<N, M>>(
-        &self,
-        alloc: Global,
-        renamer: &R,
-    ) -> Result<EntityType<M>, ResolveError> {
+    fn renamed<R: Renamer<N, M>>(&self, alloc: Global, renamer: &R) -> Result<EntityType<M>, Stop> {
         rename_entity(alloc, renamer, self)
     }
 }
@@ -70,11 +58,7 @@ impl<N: NameText, M: NameText + Drop> Renamed<N, M> for ActionType<N> {
 
     ghost undefined = { λ untargeted. of_action (by_reference untargeted) };
 
-    fn renamed<R: Renamer<N, M>>(
-        &self,
-        alloc: Global,
-        renamer: &R,
-    ) -> Result<ActionType<M>, ResolveError> {
+    fn renamed<R: Renamer<N, M>>(&self, alloc: Global, renamer: &R) -> Result<ActionType<M>, Stop> {
         rename_action(alloc, renamer, self)
     }
 }

@@ -12,6 +12,7 @@ use crate::rename_fragments::{FragmentRenamer, rename_fragment};
 use crate::rename_namespaces::rename_namespace;
 use crate::resolver::Resolver;
 use crate::scope::Scope;
+use crate::stop::{Stop, or_error};
 use cedar_identifiers::{InternalName, Name, RawName};
 use cedar_names::ExtensionTable;
 use schema_json::{Fragment, NamespaceDefinition};
@@ -55,7 +56,7 @@ impl<'f> FragmentRenamer<RawName, InternalName> for FragmentDefs<'f> {
         alloc: Global,
         ns: &Option<Name>,
         definition: &NamespaceDefinition<RawName>,
-    ) -> Result<NamespaceDefinition<InternalName>, ResolveError> {
+    ) -> Result<NamespaceDefinition<InternalName>, Stop> {
         let scope = Scope { ns: name_of(ns) };
         rename_namespace(alloc, &Resolver { defs: self, scope }, definition)
     }
@@ -74,6 +75,6 @@ impl ResolveFragment for Fragment<RawName> {
         table: &ExtensionTable,
     ) -> Result<Fragment<InternalName>, ResolveError> {
         let defs = FragmentDefs::new(alloc, self, table)?;
-        rename_fragment(alloc, &defs, self)
+        or_error(rename_fragment(alloc, &defs, self))
     }
 }

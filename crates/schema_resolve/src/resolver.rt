@@ -11,6 +11,7 @@ ghost use Rattle.schema_resolve.specs.Undefined.{action_reference};
 use crate::designator::reference_to;
 use crate::renamer::Renamer;
 use crate::scope::{Scope, written};
+use crate::stop::Stop;
 use crate::tried::{find_action, find_type};
 use cedar_data::{CloneIn, Loc, NonEmpty};
 use cedar_identifiers::{InternalName, RawName, ReferenceType};
@@ -83,14 +84,17 @@ impl<'a, 'f> Renamer<RawName, InternalName> for Resolver<'a, 'f> {
         alloc: Global,
         role: ReferenceType,
         name: &RawName,
-    ) -> Result<InternalName, ResolveError> {
+    ) -> Result<InternalName, Stop> {
         let ns = self.scope.ns;
         match find_type(self.defs, ns, role, &name.name) {
             Some(found) => {
                 let copy = name.name.clone_in(alloc)?;
                 Ok(candidate(alloc, ns, copy, found.is_own)?)
             }
-            None => Err(ResolveError::TypeNotDefined(no_type(alloc, ns, role, name)?)),
+            None => {
+                let error = no_type(alloc, ns, role, name)?;
+                Err(Stop::new(alloc, ResolveError::TypeNotDefined(error))?)
+            }
         }
     }
 
@@ -99,7 +103,7 @@ impl<'a, 'f> Renamer<RawName, InternalName> for Resolver<'a, 'f> {
         alloc: Global,
         name: &RawName,
         loc: Option<Loc>,
-    ) -> Result<Type<InternalName>, ResolveError> {
+    ) -> Result<Type<InternalName>, Stop> {
         let ns = self.scope.ns;
         let kind = ReferenceType::CommonOrEntity;
         match find_type(self.defs, ns, kind, &name.name) {
@@ -108,7 +112,10 @@ impl<'a, 'f> Renamer<RawName, InternalName> for Resolver<'a, 'f> {
                 let meant = candidate(alloc, ns, copy, found.is_own)?;
                 Ok(reference_to(found.is_common, meant, loc))
             }
-            None => Err(ResolveError::TypeNotDefined(no_type(alloc, ns, kind, name)?)),
+            None => {
+                let error = no_type(alloc, ns, kind, name)?;
+                Err(Stop::new(alloc, ResolveError::TypeNotDefined(error))?)
+            }
         }
     }
 
@@ -116,12 +123,15 @@ impl<'a, 'f> Renamer<RawName, InternalName> for Resolver<'a, 'f> {
         &self,
         alloc: Global,
         uid: &ActionEntityUID<RawName>,
-    ) -> Result<InternalName, ResolveError> {
+    ) -> Result<InternalName, Stop> {
         let ns = self.scope.ns;
         let ty = written(alloc, &uid.ty)?.into_internal();
         match find_action(self.defs, ns, &uid.id, &ty) {
             Some(is_own) => Ok(candidate(alloc, ns, ty, is_own)?),
-            None => Err(ResolveError::ActionNotDefined(no_action(alloc, ns, uid)?)),
+            None => {
+                let error = no_action(alloc, ns, uid)?;
+                Err(Stop::new(alloc, ResolveError::ActionNotDefined(error))?)
+            }
         }
     }
 }

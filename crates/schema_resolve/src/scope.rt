@@ -4,11 +4,11 @@ ghost use Rattle.schema_json.specs.Actions.{written_type};
 ghost use Rattle.schema_resolve.specs.Qualified.{qualifying, type_in_namespace};
 
 use crate::renamer::Renamer;
+use crate::stop::Stop;
 use cedar_data::{CloneIn, Loc};
 use cedar_identifiers::{ConditionalName, InternalName, RawName, ReferenceType};
 use schema_json::action_uid::action_name;
 use schema_json::{ActionEntityUID, Type, TypeVariant};
-use schema_resolve_errors::ResolveError;
 use std::alloc::{AllocError, Global};
 
 // The namespace that names stand in.
@@ -29,7 +29,7 @@ impl<'a> Renamer<RawName, ConditionalName> for Scope<'a> {
         alloc: Global,
         role: ReferenceType,
         name: &RawName,
-    ) -> Result<ConditionalName, ResolveError> {
+    ) -> Result<ConditionalName, Stop> {
         let copy = name.clone_in(alloc)?;
         Ok(copy.conditionally_qualify_with(alloc, self.ns, role)?)
     }
@@ -39,7 +39,7 @@ impl<'a> Renamer<RawName, ConditionalName> for Scope<'a> {
         alloc: Global,
         name: &RawName,
         loc: Option<Loc>,
-    ) -> Result<Type<ConditionalName>, ResolveError> {
+    ) -> Result<Type<ConditionalName>, Stop> {
         let type_name = self.rename(alloc, ReferenceType::CommonOrEntity, name)?;
         Ok(Type::Variant {
             ty: TypeVariant::EntityOrCommon { type_name },
@@ -51,7 +51,7 @@ impl<'a> Renamer<RawName, ConditionalName> for Scope<'a> {
         &self,
         alloc: Global,
         uid: &ActionEntityUID<RawName>,
-    ) -> Result<ConditionalName, ResolveError> {
+    ) -> Result<ConditionalName, Stop> {
         let ty = written(alloc, &uid.ty)?;
         Ok(ty.conditionally_qualify_with(alloc, self.ns, ReferenceType::Entity)?)
     }
@@ -68,7 +68,7 @@ pub(crate) fn written(alloc: Global, ty: &Option<RawName>) -> Result<RawName, Al
 }
 
 // The answer, or want of memory.
-pub(crate) fn or_memory<T>(answer: Result<T, ResolveError>) -> Result<T, AllocError>
+pub(crate) fn or_memory<T>(answer: Result<T, Stop>) -> Result<T, AllocError>
     ensures { IfOk result (λ out. answer ≡ Ok out) }
 {
     match answer {

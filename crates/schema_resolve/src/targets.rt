@@ -5,6 +5,7 @@ ghost use Rattle.schema_resolve_definitions.specs.Tests.{tests_of};
 ghost use Rattle.schema_resolve.specs.Targets.{is_defined, is_action, resolving, action_target_name, untargeted};
 
 use crate::renamer::Renamer;
+use crate::stop::Stop;
 use cedar_data::{CloneIn, Loc, NonEmpty, Text};
 use cedar_identifiers::{ConditionalName, InternalName, ReferenceType};
 use cedar_names::AllDefs;
@@ -76,12 +77,14 @@ impl Renamer<ConditionalName, InternalName> for AllDefs {
         alloc: Global,
         _role: ReferenceType,
         name: &ConditionalName,
-    ) -> Result<InternalName, ResolveError> {
+    ) -> Result<InternalName, Stop> {
         match first_defined(self, name.reference_type, &name.possibilities) {
             Some(target) => Ok(target.clone_in(alloc)?),
-            None => Err(ResolveError::TypeNotDefined(TypeNotDefinedError {
-                undefined_types: NonEmpty::new(alloc, name.clone_in(alloc)?),
-            })),
+            None => {
+                let undefined_types = NonEmpty::new(alloc, name.clone_in(alloc)?);
+                let error = TypeNotDefinedError { undefined_types };
+                Err(Stop::new(alloc, ResolveError::TypeNotDefined(error))?)
+            }
         }
     }
 
@@ -90,7 +93,7 @@ impl Renamer<ConditionalName, InternalName> for AllDefs {
         alloc: Global,
         name: &ConditionalName,
         loc: Option<Loc>,
-    ) -> Result<Type<InternalName>, ResolveError> {
+    ) -> Result<Type<InternalName>, Stop> {
         let type_name = self.rename(alloc, ReferenceType::CommonOrEntity, name)?;
         Ok(Type::Variant {
             ty: TypeVariant::EntityOrCommon { type_name },
@@ -102,13 +105,13 @@ impl Renamer<ConditionalName, InternalName> for AllDefs {
         &self,
         alloc: Global,
         uid: &ActionEntityUID<ConditionalName>,
-    ) -> Result<InternalName, ResolveError> {
+    ) -> Result<InternalName, Stop> {
         match first_action(self, &uid.id, &uid.ty().possibilities) {
             Some(target) => Ok(target.clone_in(alloc)?),
-            None => Err(ResolveError::ActionNotDefined(ActionNotDefinedError(NonEmpty::new(
-                alloc,
-                uid.clone_in(alloc)?,
-            )))),
+            None => {
+                let error = ActionNotDefinedError(NonEmpty::new(alloc, uid.clone_in(alloc)?));
+                Err(Stop::new(alloc, ResolveError::ActionNotDefined(error))?)
+            }
         }
     }
 }
