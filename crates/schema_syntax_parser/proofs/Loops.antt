@@ -19,6 +19,11 @@ pub many_more : {A : Type 0} (turn : List Token → Option (Turn A)) (n : ℕ) (
 unfolding many_at
 many_more turn n ts = let e : n + 1 ≡ suc n = omega arith in rw e refl
 
+-- a list that ends with its first turn has no item
+pub done_at_once : {A : Type 0} (turn : List Token → Option (Turn A)) (ts rest : List Token)
+    → turn ts ≡ Some (Done rest) → all_at turn ts ≡ Some ([], rest)
+done_at_once turn ts rest e = many_more turn (length ts) ts ∙ rw e refl
+
 with_with : {A : Type 0} (done : List A) (x : A) (read : Read (List A))
     → with_items (done ++ x ∷ []) read ≡ with_items done (read >>= λ r. Some (x ∷ r.0, r.1))
 with_with done x None = refl

@@ -1,4 +1,5 @@
-ghost use Rattle.schema_syntax_parser.specs.Reading.{Gives, annotation_turn, annotations_at, value_at};
+ghost use Rattle.std.specs.Prelude.{◌≡◌, true, Some};
+ghost use Rattle.schema_syntax_parser.specs.Reading.{Gives, Done, annotation_turn, annotations_at, value_at};
 ghost use Rattle.schema_syntax_parser.specs.Turns.{turn_of};
 
 use crate::front::{token, word};
@@ -45,13 +46,28 @@ impl Turns for AnnotationTurns {
     }
 }
 
-// The annotations of an item.
-#[tactic(auto, unfolding(crate::specs::Reading::annotations_at))]
+// Whether no annotation begins here.
+#[tactic(auto, unfolding(crate::specs::Reading::annotation_turn))]
+fn has_none(tokens: &[ShortToken]) -> bool
+    ensures { result ≡ true → annotation_turn tokens.now ≡ Some (Done tokens.now) }
+{
+    match tokens {
+        [first, ..] if first.kind() == TokenKind::At => false,
+        _ => true,
+    }
+}
+
+// The annotations of an item. Most have none, and no list is begun for these.
+#[tactic(auto, using(crate::proofs::Loops::done_at_once), unfolding(crate::specs::Reading::annotations_at))]
+#[inline]
 pub fn annotations(
     alloc: Global,
     tokens: &[ShortToken],
 ) -> Result<(List<AnnotationSyntax>, &[ShortToken]), Stop>
     ensures { Gives (λ r. (r.0, r.1.now)) result (annotations_at tokens.now) }
 {
+    if has_none(tokens) {
+        return Ok((List::new(alloc), tokens));
+    }
     all::<AnnotationTurns>(alloc, tokens)
 }
