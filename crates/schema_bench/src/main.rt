@@ -64,20 +64,30 @@ fn builds(alloc: Global, text: &str) -> Result<bool, AllocError> {
 }
 
 // The first word after the program's name, and the whole of standard input.
-fn given(rt: &HostRuntime) -> io::Result<(String, String)> {
+fn given(rt: &HostRuntime) -> io::Result<(String, Vec<u8>)> {
     let word = match env::args(rt)?.nth(1) {
         Some(word) => word,
         None => String::new(rt.alloc()),
     };
-    let text = io::read_to_string(rt.alloc(), rt.stdin())?;
-    Ok((word, text))
+    let mut bytes = Vec::new(rt.alloc());
+    io::copy(&mut rt.stdin(), &mut bytes)?;
+    Ok((word, bytes))
+}
+
+// Whether the part that the word names takes the text of these bytes; none where they are no text.
+fn takes_bytes(alloc: Global, word: &str, bytes: &[u8]) -> Option<bool> {
+    match str::from_utf8(bytes) {
+        Ok(text) => Some(matches!(takes(alloc, word, text), Ok(true))),
+        Err(_) => None,
+    }
 }
 
 fn main(rt: HostRuntime) -> ExitCode {
     match given(&rt) {
-        Ok((word, text)) => match takes(rt.alloc(), &word, &text) {
-            Ok(true) => ExitCode::SUCCESS,
-            _ => ExitCode::from(1),
+        Ok((word, bytes)) => match takes_bytes(rt.alloc(), &word, &bytes) {
+            Some(true) => ExitCode::SUCCESS,
+            Some(false) => ExitCode::from(1),
+            None => ExitCode::from(2),
         },
         Err(_) => ExitCode::from(2),
     }
