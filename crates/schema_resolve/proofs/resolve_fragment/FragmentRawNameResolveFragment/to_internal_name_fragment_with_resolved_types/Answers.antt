@@ -6,7 +6,8 @@ use Rattle.schema_resolve.proofs.resolve_fragment.FragmentRawNameResolveFragment
 pub returns-clause-out : goal.returns-clause-out
 returns-clause-out c =
     rw c.or_error.ensures (subst (λ t. IfOk c.rename_fragment.result
-    (λ out. out ≡ resolved {H = Rattle.cedar_identifiers.specs.contracts.name_text.InternalNameNameText.TheImpl.ghosts} t c.args.self.now)) (ap tests_of c.in_ok-defs.ensures) c.rename_fragment.ensures.out)
+    (λ out. out ≡ resolved {H = Rattle.cedar_identifiers.specs.contracts.name_text.InternalNameNameText.TheImpl.ghosts} t
+    c.args.self.now)) (ap tests_of c.in_ok-defs.ensures) c.rename_fragment.ensures.out)
 
 pub returns-clause-defined : goal.returns-clause-defined
 returns-clause-defined c = rw (c.or_error.ensures, ← (ap tests_of c.in_ok-defs.ensures)) c.rename_fragment.ensures.defined
