@@ -22,13 +22,6 @@ pub enum SyntaxFault {
     UnrecognizedEof(usize, cedar_data::List<TokenKind>),
 }
 
-// The kinds of the tokens.
-fn kinds(alloc: Global, tokens: &[ShortToken]) -> Result<Vec<TokenKind>, AllocError>
-    ensures { IfOk result (λ kinds. kinds.items ≡ kinds_of tokens.now) }
-{
-    tokens.iter().map(|token| token.kind()).collect(alloc)
-}
-
 // The fault that the token at the place is.
 fn unrecognized_token(
     alloc: Global,
@@ -86,8 +79,7 @@ pub fn sentence_of(alloc: Global, text: &str) -> Result<Vec<ShortToken>, Refused
     ensures fault { IfErr result (IsSyntaxRefusal text.now) }
 {
     let ShortScan { tokens, at } = scan_short(alloc, text)?;
-    let kinds = kinds(alloc, &tokens)?;
-    match fault_of(alloc, &kinds)? {
+    match fault_of(alloc, &tokens)? {
         None => {
             if at < text.len() {
                 Err(Refused::Fault(SyntaxFault::InvalidToken(at)))

@@ -1,11 +1,11 @@
 -- Where the kinds stop being the beginning of a sentence.
-use Rattle.std.proofs.Common.{◌≡◌, ℕ, ◌+◌, ◌<◌, ◌≤◌, List, [], ◌∷◌, ◌++◌, length, take, drop, get_or, true, false}
-use Rattle.std.proofs.Common.{Option, Some, None, sym, ap, ◌∙◌, subst, arith, add-one, append_assoc, inl, inr, IsTrue}
+use Rattle.std.proofs.Common.{◌≡◌, ℕ, ◌+◌, ◌<◌, ◌≤◌, List, [], ◌∷◌, ◌++◌, length, map, take, drop, get_or}
+use Rattle.std.proofs.Common.{true, false, Option, Some, None, sym, ap, ◌∙◌, subst, arith, add-one, append_assoc, inl, inr, IsTrue}
 use Rattle.std.proofs.Common.{◌↔◌}
 use Rattle.std.specs.Prelude.{slice_get}
 use Rattle.std.proofs.Math.Seq.{take-suc, take-length}
 use Rattle.std.proofs.lemmas.Option.{slice_get-get_or, slice_get_past}
-use Rattle.std.proofs.lemmas.List.{take-append-drop}
+use Rattle.std.proofs.lemmas.List.{take-append-drop, get_or-map, length-map}
 use Rattle.std.proofs.lemmas.Bool.{cases_lt}
 use Rattle.std.specs.List.{filter}
 use Rattle.schema_syntax_grammar.specs.declared.token_kind.TokenKind.{TokenKind}
@@ -50,9 +50,21 @@ module _ (kinds : List TokenKind) (i : ℕ) (old : List Symbol) (lt : i < length
   pub cut_iff : ((k : TokenKind) → slice_get kinds i ≡ Some k → step old k ≡ None) → IsTrue false ↔ Sentence kinds
   cut_iff stops = ((λ t. cc), (λ s. absurd (cut_short stops (sentence_viable kinds s))))
 
+-- the stack after one token more, whose kind it takes
+pub further_of : {T : Type 0} (f : T → TokenKind) (tokens : List T) (i : ℕ) (old new : List Symbol) (token : T)
+    → i < length tokens → token ≡ get_or tokens i token → run (Schema ∷ []) (take i (map f tokens)) ≡ Some old
+    → step old (f token) ≡ Some new → run (Schema ∷ []) (take (i + 1) (map f tokens)) ≡ Some new
+further_of f tokens i old new token lt here e s =
+    let same : get_or (map f tokens) i KwNamespace ≡ f token =
+    get_or-map f tokens i token KwNamespace lt ∙ ap f (sym here) in
+    further (map f tokens) i old (rw length-map lt) e new (rw same s)
+
 -- no kind stands past the end
-pub none_past : (kinds : List TokenKind) (k : TokenKind) (P : Type 0) → slice_get kinds (length kinds) ≡ Some k → P
-none_past kinds k P e = let n = slice_get_past kinds (length kinds) (omega arith) in cc
+pub none_past : {T : Type 0} (f : T → TokenKind) (tokens : List T) (k : TokenKind) (P : Type 0)
+    → slice_get (map f tokens) (length tokens) ≡ Some k → P
+none_past f tokens k P e =
+    let past : length (map f tokens) ≤ length tokens = rw length-map (omega arith) in
+    let n = slice_get_past (map f tokens) (length tokens) past in cc
 
 -- the stack after all the kinds
 pub whole : (kinds : List TokenKind) (i : ℕ) (s : List Symbol) → i ≤ length kinds → length kinds ≤ i

@@ -1,12 +1,12 @@
 // What is a sentence, what may come next, and where kinds stop being the beginning of a sentence.
 
-ghost use Rattle.std.specs.Prelude.{◌↔◌, ◌+◌, ◌<◌, ◌≤◌, IfOk, IsTrue, MatchOption, length, take};
+ghost use Rattle.std.specs.Prelude.{◌↔◌, ◌+◌, ◌<◌, ◌≤◌, IfOk, IsTrue, MatchOption, length, map, take};
 ghost use Rattle.schema_syntax_grammar.specs.Fault.{IsFault};
 ghost use Rattle.schema_syntax_grammar.specs.Grammar.{IsExpected, Sentence, Viable};
 ghost use Rattle.schema_syntax_grammar.specs.declared.token_kind.TheConstants.{ALL_KINDS};
 
-use crate::stack::longest_front;
-use crate::token_kind::TokenKind;
+use crate::stack::{front_of_kinds, longest_front};
+use crate::token_kind::{HasKind, TokenKind};
 use std::alloc::{AllocError, Global};
 
 /// Where kinds stop being the beginning of a sentence, or that they are no whole one, and what may come there.
@@ -22,7 +22,7 @@ pub struct Fault {
 pub fn is_sentence(alloc: Global, kinds: &[TokenKind]) -> Result<bool, AllocError>
     ensures { IfOk result (λ yes. IsTrue yes ↔ Sentence kinds.now) }
 {
-    let front = longest_front(alloc, kinds)?;
+    let front = front_of_kinds(alloc, kinds)?;
     if front.read < kinds.len() {
         return Ok(false);
     }
@@ -35,7 +35,7 @@ pub fn longest_viable(alloc: Global, kinds: &[TokenKind]) -> Result<usize, Alloc
     ensures viable { IfOk result (λ place. Viable (take place kinds.now)) }
     ensures stops { IfOk result (λ place. place < length kinds.now → Viable (take (place + 1) kinds.now) → ⊥) }
 {
-    let front = longest_front(alloc, kinds)?;
+    let front = front_of_kinds(alloc, kinds)?;
     Ok(front.read)
 }
 
@@ -47,20 +47,20 @@ pub fn expected_after(
 ) -> Result<Option<Vec<TokenKind>>, AllocError>
     ensures { IfOk result (λ found. MatchOption found (Viable kinds.now → ⊥) (λ list. Viable kinds.now × IsExpected ALL_KINDS kinds.now list.items)) }
 {
-    let front = longest_front(alloc, kinds)?;
+    let front = front_of_kinds(alloc, kinds)?;
     if front.read < kinds.len() {
         return Ok(None);
     }
     Ok(Some(front.allowed(alloc)?))
 }
 
-/// Where the kinds stop being the beginning of a sentence, or that they are no whole one, with what may come there; `None` exactly where
-/// they are a sentence.
-pub fn fault_of(alloc: Global, kinds: &[TokenKind]) -> Result<Option<Fault>, AllocError>
-    ensures { IfOk result (λ found. MatchOption found (Sentence kinds.now) (λ fault. IsFault ALL_KINDS kinds.now fault.place fault.expected.items)) }
+/// Where the kinds of the tokens stop being the beginning of a sentence, or that they are no whole one, with what may come there; `None`
+/// exactly where they are a sentence.
+pub fn fault_of<T: HasKind>(alloc: Global, tokens: &[T]) -> Result<Option<Fault>, AllocError>
+    ensures { IfOk result (λ found. let kinds = map T.kind_of tokens.now in MatchOption found (Sentence kinds) (λ fault. IsFault ALL_KINDS kinds fault.place fault.expected.items)) }
 {
-    let front = longest_front(alloc, kinds)?;
-    if front.read == kinds.len() && front.may_end() {
+    let front = longest_front(alloc, tokens)?;
+    if front.read == tokens.len() && front.may_end() {
         return Ok(None);
     }
     let expected = front.allowed(alloc)?;

@@ -8,4 +8,4 @@ mod symbol;
 pub mod token_kind;
 
 pub use expected::{Fault, expected_after, fault_of, is_sentence, longest_viable};
-pub use token_kind::{ALL_KINDS, TokenKind};
+pub use token_kind::{ALL_KINDS, HasKind, TokenKind};

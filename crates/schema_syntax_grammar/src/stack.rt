@@ -1,7 +1,7 @@
 // What may still come, as a stack of symbols, the next one last.
 
 ghost use Rattle.std.specs.Prelude.{◌≡◌, ◌++◌, ◌+◌, ◌<◌, ◌≤◌, [], ◌∷◌, None, Some, is_some};
-ghost use Rattle.std.specs.Prelude.{OnOk, IfOk, IfSome, MatchBool, MatchOption, length, reverse, slice_get, take};
+ghost use Rattle.std.specs.Prelude.{OnOk, IfOk, IfSome, MatchBool, MatchOption, length, map, reverse, slice_get, take};
 ghost use Rattle.std.specs.Bool.{OnFalse};
 ghost use Rattle.std.specs.List.{filter};
 ghost use Rattle.schema_syntax_grammar.specs.Machine.{all_nullable, may, run, step};
@@ -9,7 +9,7 @@ ghost use Rattle.schema_syntax_grammar.specs.declared.token_kind.TheConstants.{A
 ghost use Rattle.schema_syntax_grammar.specs.declared.token_kind.TokenKind.{TokenKind};
 
 use crate::symbol::Symbol;
-use crate::token_kind::{ALL_KINDS, TokenKind};
+use crate::token_kind::{ALL_KINDS, HasKind, TokenKind};
 use std::alloc::{AllocError, Global};
 
 // How many symbols stay below the one that takes a token of the kind, and what comes in its place.
@@ -60,18 +60,25 @@ fn put_behind(stack: &mut Vec<Symbol>, left: usize, symbols: &[Symbol]) -> Resul
     push_all(stack, above)
 }
 
-// Takes a token of the kind, where one may come; else the stack stays as it is.
+// Takes a token of the kind, where one may come; else the stack stays as it is. It goes down the stack as `taker` does, by itself,
+// since it is asked for each token.
 fn advance(stack: &mut Vec<Symbol>, kind: TokenKind) -> Result<bool, AllocError>
     ensures step { IfOk result (λ taken. MatchBool taken (step (reverse stack.old.items) kind ≡ Some (reverse stack.new.items)) (step (reverse stack.old.items) kind ≡ None)) }
     ensures kept { IfOk result (λ taken. OnFalse taken (stack.new.items ≡ stack.old.items)) }
 {
-    match taker(stack, kind) {
-        None => Ok(false),
-        Some((left, next)) => {
+    let mut left = stack.len();
+    while left > 0 {
+        left -= 1;
+        let symbol = stack[left];
+        if let Some(next) = symbol.after_front(kind) {
             put_behind(stack, left, next)?;
-            Ok(true)
+            return Ok(true);
+        }
+        if !symbol.is_nullable() {
+            return Ok(false);
         }
     }
+    Ok(false)
 }
 
 // May the end come?
@@ -132,21 +139,30 @@ impl Front {
     }
 }
 
-// The longest front of the kinds that begins a sentence.
-pub fn longest_front(alloc: Global, kinds: &[TokenKind]) -> Result<Front, AllocError>
-    ensures within { IfOk result (λ front. front.read ≤ length kinds.now) }
-    ensures stack { IfOk result (λ front. run (Symbol.Schema ∷ []) (take front.read kinds.now) ≡ Some (reverse front.stack.items)) }
-    ensures stops { IfOk result (λ front. (k : TokenKind) → slice_get kinds.now front.read ≡ Some k → step (reverse front.stack.items) k ≡ None) }
+// The longest front of the tokens that begins a sentence.
+pub fn longest_front<T: HasKind>(alloc: Global, tokens: &[T]) -> Result<Front, AllocError>
+    ensures within { IfOk result (λ front. front.read ≤ length (map T.kind_of tokens.now)) }
+    ensures stack { IfOk result (λ front. run (Symbol.Schema ∷ []) (take front.read (map T.kind_of tokens.now)) ≡ Some (reverse front.stack.items)) }
+    ensures stops { IfOk result (λ front. (k : TokenKind) → slice_get (map T.kind_of tokens.now) front.read ≡ Some k → step (reverse front.stack.items) k ≡ None) }
 {
     let mut stack = Vec::new(alloc);
     push_all(&mut stack, &[Symbol::Schema])?;
-    for i in 0..kinds.len() {
-        if !advance(&mut stack, kinds[i])? {
+    for i in 0..tokens.len() {
+        if !advance(&mut stack, tokens[i].kind())? {
             return Ok(Front { read: i, stack });
         }
     }
     Ok(Front {
-        read: kinds.len(),
+        read: tokens.len(),
         stack,
     })
+}
+
+// The longest front of the kinds that begins a sentence.
+pub fn front_of_kinds(alloc: Global, kinds: &[TokenKind]) -> Result<Front, AllocError>
+    ensures within { IfOk result (λ front. front.read ≤ length kinds.now) }
+    ensures stack { IfOk result (λ front. run (Symbol.Schema ∷ []) (take front.read kinds.now) ≡ Some (reverse front.stack.items)) }
+    ensures stops { IfOk result (λ front. (k : TokenKind) → slice_get kinds.now front.read ≡ Some k → step (reverse front.stack.items) k ≡ None) }
+{
+    longest_front(alloc, kinds)
 }

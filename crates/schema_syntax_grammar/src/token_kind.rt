@@ -1,6 +1,17 @@
 ghost use Rattle.std.specs.Prelude.{◌≡◌};
 ghost use Rattle.schema_syntax_grammar.specs.Grammar.{is_word_kind, is_ident, is_name_kind};
 
+/// What has a kind of token, such as a token.
+pub trait HasKind {
+    ghost use Rattle.std.specs.Prelude.{◌≡◌};
+    ghost use Rattle.schema_syntax_grammar.specs.declared.token_kind.TokenKind.{TokenKind};
+
+    ghost kind_of: { Self → TokenKind };
+
+    fn kind(&self) -> TokenKind
+        ensures { result ≡ kind_of self.now };
+}
+
 /// What kind of token it is. Thirteen words have kinds of their own; every other word is an identifier. `End` is no token, but the
 /// end of the input.
 #[derive(Clone, Copy, PartialEq, Eq, Debug)]
@@ -103,6 +114,14 @@ pub const ALL_KINDS: [TokenKind; 31] = [
     TokenKind::Equals,
     TokenKind::End,
 ];
+
+impl HasKind for TokenKind {
+    ghost kind_of = { λ kind. kind };
+
+    fn kind(&self) -> TokenKind {
+        *self
+    }
+}
 
 impl TokenKind {
     /// Whether it is the kind of a word.

@@ -5,7 +5,7 @@ ghost use Rattle.schema_syntax_tokens.specs.Steps.{IsBetweenQuotes, NotBetweenQu
 ghost use Rattle.schema_syntax_tokens.specs.TokenLists.{end_of, whole_place};
 
 use cedar_data::Loc;
-use schema_syntax_grammar::TokenKind;
+use schema_syntax_grammar::{HasKind, TokenKind};
 use std::marker::Model;
 
 /// A token: its kind and its place.
@@ -72,6 +72,14 @@ impl ShortToken {
             kind: self.kind,
             loc: self.loc(),
         }
+    }
+}
+
+impl HasKind for ShortToken {
+    ghost kind_of = { λ token. token.kind };
+
+    fn kind(&self) -> TokenKind {
+        self.kind
     }
 }
 

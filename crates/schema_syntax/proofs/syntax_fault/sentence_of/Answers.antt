@@ -10,22 +10,20 @@ use Rattle.schema_syntax.proofs.syntax_fault.sentence_of.Goals as goal
 pub returns-then-at-text : goal.returns-then-at-text
 returns-then-at-text c =
     let tokens = c.in_ok-tokens.field-0.tokens.items in
-    let same : c.deref-2.result.now ≡ kinds_of tokens = c.deref-2.ensures.value ∙ c.in_ok-kinds.ensures
-    ∙ ap kinds_of c.deref.ensures.value in
-    let sentence : Sentence c.deref-2.result.now = rw c.in-None.is at c.in_ok-fault_of.ensures in
+    let same : kinds_of c.deref.result.now ≡ kinds_of tokens = ap kinds_of c.deref.ensures.value in
+    let sentence : Sentence (kinds_of c.deref.result.now) = rw c.in-None.is at c.in_ok-fault_of.ensures in
     record {
       scans = tt;
       placed = tt;
       sentence = tt;
       fault = invalid_token tokens c.in_ok-tokens.field-0.at c.in_ok-tokens.ensures.scans (omega arith)
-          (subst Viable same (sentence_viable c.deref-2.result.now sentence));
+          (subst Viable same (sentence_viable (kinds_of c.deref.result.now) sentence));
     }
 
 pub returns-then-place-len : goal.returns-then-place-len
 returns-then-place-len c =
     let tokens = c.in_ok-tokens.field-0.tokens.items in
-    let same : c.deref-2.result.now ≡ kinds_of tokens = c.deref-2.ensures.value ∙ c.in_ok-kinds.ensures
-    ∙ ap kinds_of c.deref.ensures.value in
+    let same : kinds_of c.deref.result.now ≡ kinds_of tokens = ap kinds_of c.deref.ensures.value in
     let fault : IsFault ALL_KINDS (kinds_of tokens) c.in-Some.field-0.place c.in-Some.field-0.expected.items = subst
     (λ k. IsFault ALL_KINDS k c.in-Some.field-0.place c.in-Some.field-0.expected.items) same
     (rw c.in-Some.is at c.in_ok-fault_of.ensures) in
@@ -42,8 +40,7 @@ returns-then-place-len c =
 pub returns-then-at-text-2 : goal.returns-then-at-text-2
 returns-then-at-text-2 c =
     let tokens = c.in_ok-tokens.field-0.tokens.items in
-    let same : c.deref-2.result.now ≡ kinds_of tokens = c.deref-2.ensures.value ∙ c.in_ok-kinds.ensures
-    ∙ ap kinds_of c.deref.ensures.value in
+    let same : kinds_of c.deref.result.now ≡ kinds_of tokens = ap kinds_of c.deref.ensures.value in
     let fault : IsFault ALL_KINDS (kinds_of tokens) c.in-Some.field-0.place c.in-Some.field-0.expected.items = subst
     (λ k. IsFault ALL_KINDS k c.in-Some.field-0.place c.in-Some.field-0.expected.items) same
     (rw c.in-Some.is at c.in_ok-fault_of.ensures) in
@@ -60,8 +57,7 @@ returns-then-at-text-2 c =
 pub unrecognized_eof-requires : goal.unrecognized_eof-requires
 unrecognized_eof-requires c =
     let tokens = c.in_ok-tokens.field-0.tokens.items in
-    let same : c.deref-2.result.now ≡ kinds_of tokens = c.deref-2.ensures.value ∙ c.in_ok-kinds.ensures
-    ∙ ap kinds_of c.deref.ensures.value in
+    let same : kinds_of c.deref.result.now ≡ kinds_of tokens = ap kinds_of c.deref.ensures.value in
     let fault : IsFault ALL_KINDS (kinds_of tokens) c.in-Some.field-0.place c.in-Some.field-0.expected.items = subst
     (λ k. IsFault ALL_KINDS k c.in-Some.field-0.place c.in-Some.field-0.expected.items) same
     (rw c.in-Some.is at c.in_ok-fault_of.ensures) in
@@ -72,8 +68,7 @@ unrecognized_eof-requires c =
 pub returns : goal.returns
 returns c =
     let tokens = c.in_ok-tokens.field-0.tokens.items in
-    let same : c.deref-2.result.now ≡ kinds_of tokens = c.deref-2.ensures.value ∙ c.in_ok-kinds.ensures
-    ∙ ap kinds_of c.deref.ensures.value in
+    let same : kinds_of c.deref.result.now ≡ kinds_of tokens = ap kinds_of c.deref.ensures.value in
     let fault : IsFault ALL_KINDS (kinds_of tokens) c.in-Some.field-0.place c.in-Some.field-0.expected.items = subst
     (λ k. IsFault ALL_KINDS k c.in-Some.field-0.place c.in-Some.field-0.expected.items) same
     (rw c.in-Some.is at c.in_ok-fault_of.ensures) in

@@ -1,9 +1,9 @@
-use Rattle.schema_syntax_grammar.proofs.Faults.{further, none_past}
+use Rattle.schema_syntax_grammar.proofs.Faults.{further_of, none_past}
 use Rattle.schema_syntax_grammar.proofs.stack.longest_front.Goals as goal
 
 pub loop-i-preserved : goal.loop-i-preserved
-loop-i-preserved c = further _ _ _ c.loop-i-test.true c.loop-i.invariant _
-    (rw c.if-not-branch.false at c.in_ok-advance.ensures.step)
+loop-i-preserved g c = further_of g.T.HasKind.kind_of _ _ _ _ _ c.loop-i-test.true c.index-tokens-i.is c.loop-i.invariant
+    (rw c.kind.ensures at (rw c.if-not-branch.false at c.in_ok-advance.ensures.step))
 
 pub returns-clause-stops : goal.returns-clause-stops
-returns-clause-stops c = λ k e. none_past c.args.kinds.now k _ e
+returns-clause-stops g c = λ k e. none_past g.T.HasKind.kind_of c.args.tokens.now k _ e
