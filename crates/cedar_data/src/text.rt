@@ -224,7 +224,14 @@ impl Hash for Text {
 }
 
 impl CloneIn for Text {
+    // A short text is copied as the cells that it stands in, not byte by byte.
     fn clone_in(&self, alloc: Global) -> Result<Self, AllocError> {
-        Text::from_str(alloc, self.as_str())
+        match self.held {
+            Held::Short(text) => Ok(Text {
+                held: Held::Short(text),
+                alloc,
+            }),
+            Held::Long(_) => Text::from_str(alloc, self.as_str()),
+        }
     }
 }
