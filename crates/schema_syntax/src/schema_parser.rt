@@ -59,7 +59,7 @@ pub fn stopped(alloc: Global, why: Stopped) -> ParseSchemaError
 {
     match why {
         Stopped::Memory => ParseSchemaError::Memory,
-        Stopped::User(fault) => only(alloc, ParseError::User(fault)),
+        Stopped::User(fault) => only(alloc, ParseError::User(fault.into_inner())),
     }
 }
 

@@ -11,7 +11,7 @@ use crate::parts::{Part, optional, some};
 use crate::paths::{Paths, path};
 use crate::stopped::Stopped;
 use crate::types::attrs;
-use cedar_data::{List, Loc, Node, NonEmpty};
+use cedar_data::{Boxed, List, Loc, Node, NonEmpty};
 use schema_syntax_errors::UserError;
 use schema_syntax_grammar::TokenKind;
 use schema_syntax_parser::AppSyntax;
@@ -30,13 +30,17 @@ fn role_of(kind: TokenKind) -> PR
 }
 
 /// The fault of a list without items where one has to stand, with its brackets.
-pub fn empty_list(brackets: Loc) -> Stopped
+pub fn empty_list(alloc: Global, brackets: Loc) -> Stopped
     ensures { (source : _) → IsStoppedAt source (empty brackets) result }
 {
-    Stopped::User(UserError::EmptyList(Node {
+    let fault = UserError::EmptyList(Node {
         node: (),
         loc: Some(brackets),
-    }))
+    });
+    match Boxed::new(alloc, fault) {
+        Ok(fault) => Stopped::User(fault),
+        Err(error) => Stopped::from(error),
+    }
 }
 
 // A member of an `appliesTo` block.
@@ -107,7 +111,7 @@ fn members<'a>(
     ensures { Reads text.now (apps_sites raws braces) (AppliesOf text.now (Some (raws, braces))) result }
 {
     let Some(raws) = NonEmpty::from_vec(raws.into_vec()) else {
-        return Err(empty_list(braces));
+        return Err(empty_list(alloc, braces));
     };
     let node = some::<Apps>(alloc, text, raws)?;
     Ok(Some(Node {

@@ -58,7 +58,7 @@ fn listed<'a>(
 {
     let names = some::<Ids>(alloc, text, names)?;
     let Some(choices) = NonEmpty::from_vec(choices.into_vec()) else {
-        return Err(empty_list(brackets));
+        return Err(empty_list(alloc, brackets));
     };
     let choices = some::<Choices>(alloc, text, choices)?;
     Ok(Declaration::Entity(EntityDecl::Enum(EnumEntityDecl { names, choices })))

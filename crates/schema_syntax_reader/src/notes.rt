@@ -13,7 +13,7 @@ use crate::annotations::deduplicate_annotations;
 use crate::stopped::Stopped;
 use crate::strings::string_value;
 use crate::words::any_word;
-use cedar_data::{Loc, Node};
+use cedar_data::{Boxed, Loc, Node};
 use schema_syntax_errors::{AnnotationError, UserError};
 use schema_syntax_parser::AnnotationSyntax;
 use schema_syntax_tokens::ShortToken;
@@ -24,7 +24,7 @@ use std::alloc::{AllocError, Global};
 #[derive(Drop)]
 struct ReadNotes<'a> {
     notes: Vec<Node<SrcAnnotation<'a>>>,
-    fault: Option<UserError>,
+    fault: Option<Boxed<UserError>>,
 }
 
 // What the value stands for, where there is one and it has no fault, and its fault.
@@ -32,7 +32,7 @@ fn read_value<'a>(
     alloc: Global,
     text: &'a str,
     value: &Option<ShortToken>,
-) -> Result<(Option<Node<SrcStr<'a>>>, Option<UserError>), AllocError>
+) -> Result<(Option<Node<SrcStr<'a>>>, Option<Boxed<UserError>>), AllocError>
     requires { IsPlacedValue text.now value.now }
     ensures { IfOk result (λ r. IsValueOr text.now value.now r.0 r.1) }
 {
@@ -57,7 +57,7 @@ fn read_note<'a>(
     alloc: Global,
     text: &'a str,
     note: &AnnotationSyntax,
-) -> Result<(Node<SrcAnnotation<'a>>, Option<UserError>), AllocError>
+) -> Result<(Node<SrcAnnotation<'a>>, Option<Boxed<UserError>>), AllocError>
     requires { IsPlacedNote text.now note.now }
     ensures { IfOk result (λ r. IsReadOr text.now note.now r.0 r.1) }
 {
@@ -125,7 +125,7 @@ fn some_notes<'a>(
     let read = read_notes(alloc, text, list)?;
     let fault = read.fault;
     match deduplicate_annotations(alloc, (), read.notes) {
-        Err(AnnotationError::User(fault)) => Err(Stopped::User(fault)),
+        Err(AnnotationError::User(fault)) => Err(Stopped::User(Boxed::new(alloc, fault)?)),
         Err(AnnotationError::Memory) => Err(Stopped::Memory),
         Ok(annotated) => match fault {
             Some(fault) => Err(Stopped::User(fault)),

@@ -1,13 +1,14 @@
 ghost use Rattle.std.specs.Prelude.{◌≡◌};
 
+use cedar_data::Boxed;
 use schema_syntax_errors::UserError;
 use std::alloc::{AllocError, AllocFailed};
 
-/// Why sites were not read: memory ran out, or a site has a fault.
+/// Why sites were not read: memory ran out, or a site has a fault, which stands in a box, since each level hands it up.
 #[derive(Drop)]
 pub enum Stopped {
     Memory,
-    User(UserError),
+    User(Boxed<UserError>),
 }
 
 impl From<AllocError> for Stopped {

@@ -5,7 +5,7 @@ ghost use Rattle.schema_syntax_reader.specs.Placed.{IsPlacedString};
 ghost use Rattle.schema_syntax_reader.specs.Stops.{NoBadEscapeAt, IsEscapeStop};
 
 use crate::stopped::Stopped;
-use cedar_data::{Node, NonEmpty};
+use cedar_data::{Boxed, Node, NonEmpty};
 use schema_syntax_errors::{UnescapeError, UserError};
 use schema_syntax_tokens::laws::one_value;
 use schema_syntax_tokens::{ShortToken, string_body};
@@ -31,10 +31,11 @@ pub fn string_value<'a>(
             let loc = token.loc();
             let at = loc.start + 1 + place;
             let fault = NonEmpty::new(alloc, UnescapeError { at });
-            Err(Stopped::User(UserError::StringEscape(Node {
+            let fault = UserError::StringEscape(Node {
                 node: fault,
                 loc: Some(loc),
-            })))
+            });
+            Err(Stopped::User(Boxed::new(alloc, fault)?))
         }
     }
 }

@@ -7,7 +7,7 @@ ghost use Rattle.schema_syntax_reader.specs.Leaves.{word_at};
 ghost use Rattle.schema_syntax_reader.specs.Stops.{IsPlacedWord, IsReservedStop};
 
 use crate::stopped::Stopped;
-use cedar_data::{Node, Text};
+use cedar_data::{Boxed, Node, Text};
 use cedar_identifiers::is_reserved;
 use schema_syntax_errors::UserError;
 use schema_syntax_tokens::{ShortToken, token_text};
@@ -42,10 +42,11 @@ pub fn name_word<'a>(alloc: Global, text: &'a str, token: &ShortToken) -> Result
     let part = token_text(token, text).unwrap();
     if is_reserved_word(part) {
         let word = Text::from_str(alloc, part)?;
-        return Err(Stopped::User(UserError::ReservedIdentifierUsed(Node {
+        let fault = UserError::ReservedIdentifierUsed(Node {
             node: word,
             loc: Some(token.loc()),
-        })));
+        });
+        return Err(Stopped::User(Boxed::new(alloc, fault)?));
     }
     Ok(SrcId::of(part))
 }

@@ -7,4 +7,4 @@ use Rattle.schema_syntax.proofs.schema_parser.stopped.Goals as goal
 pub returns-in-User : goal.returns-in-User
 returns-in-User c text tokens are h =
     let u : IsUserFaultOf text tokens c.in-User.fault = rw c.in-User.is at h in
-    rw c.only.ensures (User c.in-User.fault, refl, user tokens c.in-User.fault are u)
+    rw (c.only.ensures, c.into_inner.ensures) (User c.in-User.fault, refl, user tokens c.in-User.fault are u)

@@ -15,7 +15,7 @@ returns-then-is_reserved_word-clause-reserved c =
     let word : c.in_ok-word.word ≡ word_at source t = c.in_ok-word.ensures ∙ ap chars part in (
       ap is_reserved (word_is_bytes source t c.requires ∙ sym part)
           ∙ (sym c.is_reserved_word.ensures ∙ c.if-is_reserved_word.true),
-      λ i. ReservedIdentifierUsed (record { node = word i; loc = Some (c.loc.ensures i) }),
+      c.in_ok-new.ensures ∙ (λ i. ReservedIdentifierUsed (record { node = word i; loc = Some (c.loc.ensures i) })),
     )
 
 pub of-requires : goal.of-requires
