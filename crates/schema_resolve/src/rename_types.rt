@@ -132,7 +132,42 @@ pub(crate) fn rename_record<N: NameText, M: NameText + Drop, R: Renamer<N, M>>(
     })
 }
 
-// An attribute's type, with each name replaced.
+// The type of an attribute, with each name replaced.
+#[cycle(rename)]
+fn attribute_type<N: NameText, M: NameText + Drop, R: Renamer<N, M>>(
+    alloc: Global,
+    renamer: &R,
+    ty: &Type<N>,
+) -> Result<Type<M>, Stop>
+    ensures out { IfOk result (λ out. out ≡ renamed (R.becomes renamer.now) ty.now) }
+    ensures defined { OnOk result (of_type (by_reference (R.untargeted renamer.now)) ty.now ≡ []) }
+    ensures err { IfErr result (NamesFirst (of_type (by_reference (R.untargeted renamer.now)) ty.now)) }
+{
+    match ty {
+        Type::Variant { ty, loc } => reference_or_at(alloc, renamer, ty, *loc),
+        Type::CommonTypeRef { .. } => rename_type(alloc, renamer, ty),
+    }
+}
+
+// The type of a shape at a place. Most are references, which need no room for types of other shapes.
+#[cycle(rename)]
+fn reference_or_at<N: NameText, M: NameText + Drop, R: Renamer<N, M>>(
+    alloc: Global,
+    renamer: &R,
+    shape: &TypeVariant<N>,
+    loc: Option<Loc>,
+) -> Result<Type<M>, Stop>
+    ensures out { IfOk result (λ out. out ≡ renamed_at (R.becomes renamer.now) shape.now loc) }
+    ensures defined { OnOk result (of_variant (by_reference (R.untargeted renamer.now)) shape.now ≡ []) }
+    ensures err { IfErr result (NamesFirst (of_variant (by_reference (R.untargeted renamer.now)) shape.now)) }
+{
+    match shape {
+        TypeVariant::EntityOrCommon { type_name } => renamer.rename_either(alloc, type_name, loc),
+        _ => rename_at(alloc, renamer, shape, loc),
+    }
+}
+
+// An attribute, with each name of its type replaced.
 #[cycle(rename)]
 pub(crate) fn rename_attribute<N: NameText, M: NameText + Drop, R: Renamer<N, M>>(
     alloc: Global,
@@ -144,7 +179,7 @@ pub(crate) fn rename_attribute<N: NameText, M: NameText + Drop, R: Renamer<N, M>
     ensures err { IfErr result (NamesFirst (of_attribute (by_reference (R.untargeted renamer.now)) attribute.now)) }
 {
     Ok(TypeOfAttribute {
-        ty: rename_type(alloc, renamer, &attribute.ty)?,
+        ty: attribute_type(alloc, renamer, &attribute.ty)?,
         annotations: attribute.annotations.clone_in(alloc)?,
         required: attribute.required,
     })

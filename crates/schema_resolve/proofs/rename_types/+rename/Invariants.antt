@@ -16,6 +16,12 @@ decreases-rename_type g l = 2 * goal.size-rename_type g l
 abbrev pub decreases-rename_attribute : goal.decreases-rename_attribute
 decreases-rename_attribute g l = 2 * goal.size-rename_attribute g l
 
+abbrev pub decreases-attribute_type : goal.decreases-attribute_type
+decreases-attribute_type g l = 2 * goal.size-attribute_type g l + 1
+
+abbrev pub decreases-reference_or_at : goal.decreases-reference_or_at
+decreases-reference_or_at g l = 2 * goal.size-reference_or_at g l + 1
+
 abbrev pub decreases-rename_at : goal.decreases-rename_at
 decreases-rename_at g l = 2 * goal.size-rename_at g l
 
