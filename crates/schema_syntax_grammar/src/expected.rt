@@ -45,7 +45,8 @@ pub fn expected_after(
     alloc: Global,
     kinds: &[TokenKind],
 ) -> Result<Option<Vec<TokenKind>>, AllocError>
-    ensures { IfOk result (λ found. MatchOption found (Viable kinds.now → ⊥) (λ list. Viable kinds.now × IsExpected ALL_KINDS kinds.now list.items)) }
+    ensures { IfOk result (λ found. MatchOption found (Viable kinds.now → ⊥)
+        (λ list. Viable kinds.now × IsExpected ALL_KINDS kinds.now list.items)) }
 {
     let front = front_of_kinds(alloc, kinds)?;
     if front.read < kinds.len() {
@@ -57,7 +58,8 @@ pub fn expected_after(
 /// Where the kinds of the tokens stop being the beginning of a sentence, or that they are no whole one, with what may come there; `None`
 /// exactly where they are a sentence.
 pub fn fault_of<T: HasKind>(alloc: Global, tokens: &[T]) -> Result<Option<Fault>, AllocError>
-    ensures { IfOk result (λ found. let kinds = map T.kind_of tokens.now in MatchOption found (Sentence kinds) (λ fault. IsFault ALL_KINDS kinds fault.place fault.expected.items)) }
+    ensures { IfOk result (λ found. let kinds = map T.kind_of tokens.now in MatchOption found (Sentence kinds)
+        (λ fault. IsFault ALL_KINDS kinds fault.place fault.expected.items)) }
 {
     let front = longest_front(alloc, tokens)?;
     if front.read == tokens.len() && front.may_end() {

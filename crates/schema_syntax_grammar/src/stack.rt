@@ -63,7 +63,8 @@ fn put_behind(stack: &mut Vec<Symbol>, left: usize, symbols: &[Symbol]) -> Resul
 // Takes a token of the kind, where one may come; else the stack stays as it is. It goes down the stack as `taker` does, by itself,
 // since it is asked for each token.
 fn advance(stack: &mut Vec<Symbol>, kind: TokenKind) -> Result<bool, AllocError>
-    ensures step { IfOk result (λ taken. MatchBool taken (step (reverse stack.old.items) kind ≡ Some (reverse stack.new.items)) (step (reverse stack.old.items) kind ≡ None)) }
+    ensures step { IfOk result (λ taken. MatchBool taken (step (reverse stack.old.items) kind ≡ Some (reverse stack.new.items))
+        (step (reverse stack.old.items) kind ≡ None)) }
     ensures kept { IfOk result (λ taken. OnFalse taken (stack.new.items ≡ stack.old.items)) }
 {
     let mut left = stack.len();
@@ -142,8 +143,10 @@ impl Front {
 // The longest front of the tokens that begins a sentence.
 pub fn longest_front<T: HasKind>(alloc: Global, tokens: &[T]) -> Result<Front, AllocError>
     ensures within { IfOk result (λ front. front.read ≤ length (map T.kind_of tokens.now)) }
-    ensures stack { IfOk result (λ front. run (Symbol.Schema ∷ []) (take front.read (map T.kind_of tokens.now)) ≡ Some (reverse front.stack.items)) }
-    ensures stops { IfOk result (λ front. (k : TokenKind) → slice_get (map T.kind_of tokens.now) front.read ≡ Some k → step (reverse front.stack.items) k ≡ None) }
+    ensures stack { IfOk result (λ front. run (Symbol.Schema ∷ []) (take front.read (map T.kind_of tokens.now))
+        ≡ Some (reverse front.stack.items)) }
+    ensures stops { IfOk result (λ front. (k : TokenKind) → slice_get (map T.kind_of tokens.now) front.read ≡ Some k
+        → step (reverse front.stack.items) k ≡ None) }
 {
     let mut stack = Vec::new(alloc);
     push_all(&mut stack, &[Symbol::Schema])?;

@@ -8,6 +8,7 @@ pub trait HasKind {
 
     ghost kind_of: { Self → TokenKind };
 
+    /// Its kind.
     fn kind(&self) -> TokenKind
         ensures { result ≡ kind_of self.now };
 }
