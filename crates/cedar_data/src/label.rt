@@ -4,7 +4,6 @@ use crate::text::Text;
 use std::alloc::{AllocError, Global};
 
 /// A place that a report points to, and what it says there.
-#[derive(Debug)]
 pub struct Label {
     pub span: Loc,
     pub text: Option<Text>,

@@ -5,7 +5,7 @@ ghost use Rattle.std.specs.Str.{IsCharBoundary};
 use std::marker::Model;
 
 /// A place in a text: from the byte `start` up to, and not including, the byte `end`.
-#[derive(Clone, Copy, PartialEq, Eq, Debug)]
+#[derive(Clone, Copy, PartialEq, Eq)]
 pub struct Loc {
     pub start: usize,
     pub end: usize,

@@ -12,7 +12,6 @@ use std::marker::Model;
 use std::vec::IntoIter;
 
 /// A list with at least one item. Contracts see it as the list.
-#[derive(Debug)]
 pub struct NonEmpty<T> {
     head: T,
     tail: Vec<T>,

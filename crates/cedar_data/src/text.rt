@@ -19,14 +19,13 @@ use std::marker::Model;
 
 /// An owned text, which contracts see as its list of characters. It is ordered by its bytes in UTF-8. A text of at most 16
 /// bytes stands in the value itself and takes no memory.
-#[derive(Debug)]
 pub struct Text {
     held: Held,
     alloc: Global,
 }
 
 // Where the characters stand: in the value itself, or in a string.
-#[derive(Debug, Drop)]
+#[derive(Drop)]
 enum Held {
     Short(ArrayString<16>),
     Long(String),

@@ -8,7 +8,7 @@ use cedar_data::{CloneIn, Text};
 use std::alloc::{AllocError, Global};
 
 /// Any word: a letter or `_`, then letters, digits and `_`.
-#[derive(PartialEq, Eq, PartialOrd, Ord, Hash, Debug, Drop)]
+#[derive(PartialEq, Eq, PartialOrd, Ord, Hash, Drop)]
 pub struct AnyId {
     pub text: Text,
     pub ghost word: { is_word text ≡ true },

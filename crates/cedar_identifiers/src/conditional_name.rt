@@ -7,7 +7,7 @@ use cedar_data::{CloneIn, NonEmpty};
 use std::alloc::{AllocError, Global};
 
 /// A reference: the names that it may stand for, the first that is defined before the others.
-#[derive(PartialEq, Eq, PartialOrd, Ord, Hash, Debug)]
+#[derive(PartialEq, Eq, PartialOrd, Ord, Hash)]
 pub struct ConditionalName {
     pub possibilities: NonEmpty<InternalName>,
     pub raw: RawName,

@@ -2,7 +2,7 @@ use cedar_data::{CloneIn, Text};
 use std::alloc::{AllocError, Global};
 
 /// What tells an entity from the others of its type: any text.
-#[derive(PartialEq, Eq, PartialOrd, Ord, Hash, Debug, Drop)]
+#[derive(PartialEq, Eq, PartialOrd, Ord, Hash, Drop)]
 pub struct Eid(pub Text);
 
 impl CloneIn for Eid {

@@ -8,7 +8,7 @@ use cedar_data::{CloneIn, Text};
 use std::alloc::{AllocError, Global};
 
 /// A word that may stand in a name: none of `in`, `true`, `false`, `if`, `then`, `else`, `is`, `like` and `has`.
-#[derive(PartialEq, Eq, PartialOrd, Ord, Hash, Debug)]
+#[derive(PartialEq, Eq, PartialOrd, Ord, Hash)]
 pub struct Id {
     pub text: Text,
     pub ghost word: { is_id text ≡ true },

@@ -16,7 +16,6 @@ use std::alloc::{AllocError, Global};
 use std::mem;
 
 /// A name: its components, the outermost first, with a place that no comparison sees.
-#[derive(Debug)]
 #[derive_where(PartialEq, Eq, PartialOrd, Ord, Hash)]
 pub struct InternalName {
     pub first: Id,

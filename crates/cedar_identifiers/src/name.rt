@@ -9,7 +9,7 @@ use cedar_data::{CloneIn, Loc};
 use std::alloc::{AllocError, Global};
 
 /// A name without the component `__cedar`.
-#[derive(PartialEq, Eq, PartialOrd, Ord, Hash, Debug)]
+#[derive(PartialEq, Eq, PartialOrd, Ord, Hash)]
 pub struct Name {
     pub name: InternalName,
     pub ghost unreserved: { has_cedar (components_of name) ≡ false },

@@ -8,7 +8,7 @@ use std::alloc::{AllocError, AllocFailed, Global};
 
 /// Why a text is no name: it ends where a word is due, a piece cannot stand where it does, no piece stands there, it has
 /// blanks, or a component is a reserved word.
-#[derive(Debug, Drop)]
+#[derive(Drop)]
 pub enum NameFault {
     End,
     Token(Text),

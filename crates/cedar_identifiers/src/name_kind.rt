@@ -7,7 +7,7 @@ ghost use Rattle.cedar_identifiers.specs.NameReading.{is_single, refuses};
 use crate::reserved::{is_cedar, is_reserved};
 
 /// What a text is read as.
-#[derive(Clone, Copy, PartialEq, Eq, Debug)]
+#[derive(Clone, Copy, PartialEq, Eq)]
 pub enum NameKind {
     AnyId,
     Id,

@@ -14,7 +14,7 @@ use cedar_data::{CloneIn, Loc, NonEmpty};
 use std::alloc::{AllocError, Global};
 
 /// A name as it was written, which a namespace may still qualify.
-#[derive(PartialEq, Eq, PartialOrd, Ord, Hash, Debug)]
+#[derive(PartialEq, Eq, PartialOrd, Ord, Hash)]
 pub struct RawName {
     pub name: InternalName,
 }

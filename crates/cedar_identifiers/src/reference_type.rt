@@ -2,7 +2,7 @@ use cedar_data::CloneIn;
 use std::alloc::{AllocError, Global};
 
 /// What a reference asks for: a common type, an entity type, or either.
-#[derive(Clone, Copy, PartialEq, Eq, PartialOrd, Ord, Hash, Debug)]
+#[derive(Clone, Copy, PartialEq, Eq, PartialOrd, Ord, Hash)]
 pub enum ReferenceType {
     Common,
     Entity,

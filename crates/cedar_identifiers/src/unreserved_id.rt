@@ -10,7 +10,7 @@ use cedar_data::CloneIn;
 use std::alloc::{AllocError, Global};
 
 /// A word that may stand in a declared name: any `Id` but `__cedar`.
-#[derive(PartialEq, Eq, PartialOrd, Ord, Hash, Debug)]
+#[derive(PartialEq, Eq, PartialOrd, Ord, Hash)]
 pub struct UnreservedId {
     pub id: Id,
     pub ghost unreserved: { is_cedar id.text ≡ false },

@@ -12,7 +12,7 @@ pub const MAX_INPUT: usize = 16_777_216;
 const PIECE: usize = 4096;
 
 /// Why an input was not read to its end.
-#[derive(Clone, Copy, Debug, PartialEq, Eq)]
+#[derive(Clone, Copy, PartialEq, Eq)]
 pub enum ReadEnd {
     /// A read failed.
     Failed,

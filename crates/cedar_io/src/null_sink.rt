@@ -5,7 +5,7 @@ use crate::failed::Failed;
 use crate::sink::Sink;
 
 /// Takes everything, and tells nothing of it.
-#[derive(Clone, Copy, Debug)]
+#[derive(Clone, Copy)]
 pub struct NullSink;
 
 impl Sink for NullSink {

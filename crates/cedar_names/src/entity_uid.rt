@@ -12,7 +12,6 @@ use schema_syntax_tokens::push_quoted;
 use std::alloc::{AllocError, Global};
 
 /// An entity: its type and its id, with a place that no comparison sees. It is ordered by type, then by the bytes of its id.
-#[derive(Debug)]
 #[derive_where(PartialEq, Eq, PartialOrd, Ord, Hash)]
 pub struct EntityUID {
     pub ty: Name,

@@ -23,7 +23,7 @@ use schema_json_text::fragment_text;
 use std::alloc::{AllocError, Global};
 
 /// The forms of JSON that a schema may stand in.
-#[derive(Clone, Copy, Debug, Drop, PartialEq, Eq)]
+#[derive(Clone, Copy, Drop, PartialEq, Eq)]
 pub enum JsonForm {
     /// The form of today, in which each part has its place and nothing else stands.
     Current,

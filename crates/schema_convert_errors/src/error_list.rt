@@ -13,7 +13,7 @@ use schema_syntax_errors::ParseErrors;
 use std::alloc::{AllocError, Global};
 
 /// What keeps a tree from being a fragment: at least one fault, in order.
-#[derive(PartialEq, Eq, Debug)]
+#[derive(PartialEq, Eq)]
 pub struct ToJsonSchemaErrors {
     pub errors: NonEmpty<ToJsonSchemaError>,
 }
@@ -94,7 +94,7 @@ impl CloneIn for ToJsonSchemaErrors {
 }
 
 /// Why a tree was not made a fragment.
-#[derive(PartialEq, Eq, Debug, Drop)]
+#[derive(PartialEq, Eq, Drop)]
 pub enum ToJsonSchemaFailure {
     Errors(ToJsonSchemaErrors),
     Memory,
@@ -151,7 +151,7 @@ impl CloneIn for ToJsonSchemaFailure {
 }
 
 /// Why a text was not made a fragment: it has no tree, or its tree is none.
-#[derive(PartialEq, Eq, Debug, Drop)]
+#[derive(PartialEq, Eq, Drop)]
 pub enum CedarSchemaParseErrors {
     SyntaxError(ParseErrors),
     JsonError(ToJsonSchemaErrors),

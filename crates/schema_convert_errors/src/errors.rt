@@ -3,7 +3,7 @@ use schema_syntax_tree::PR;
 use std::alloc::{AllocError, Global};
 
 /// A name that is declared twice in a namespace, with the place of its first declaration and that of the second.
-#[derive(PartialEq, Eq, Debug)]
+#[derive(PartialEq, Eq)]
 pub struct DuplicateDeclarations {
     pub decl: Text,
     pub loc1: Option<Loc>,
@@ -21,7 +21,7 @@ impl Drop for DuplicateDeclarations {
 }
 
 /// A second context of an action, with the places of the first and the second.
-#[derive(PartialEq, Eq, Debug)]
+#[derive(PartialEq, Eq)]
 pub struct DuplicateContext {
     pub name: Text,
     pub loc1: Option<Loc>,
@@ -39,7 +39,7 @@ impl Drop for DuplicateContext {
 }
 
 /// A second list of an action's principals or resources, with the places of the first and the second.
-#[derive(PartialEq, Eq, Debug)]
+#[derive(PartialEq, Eq)]
 pub struct DuplicatePrincipalOrResource {
     pub name: Text,
     pub kind: PR,
@@ -59,7 +59,7 @@ impl Drop for DuplicatePrincipalOrResource {
 }
 
 /// Why an action has no principals or resources: the list is not there, or it is `[]`.
-#[derive(PartialEq, Eq, Debug)]
+#[derive(PartialEq, Eq)]
 pub enum MissingOrEmpty {
     Missing,
     Empty { loc: Option<Loc> },
@@ -75,7 +75,7 @@ impl Drop for MissingOrEmpty {
 }
 
 /// An action without principals or resources.
-#[derive(PartialEq, Eq, Debug)]
+#[derive(PartialEq, Eq)]
 pub struct NoPrincipalOrResource {
     pub kind: PR,
     pub name: Text,
@@ -95,7 +95,7 @@ impl Drop for NoPrincipalOrResource {
 }
 
 /// A namespace that stood before, with its place and the earlier one's.
-#[derive(PartialEq, Eq, Debug)]
+#[derive(PartialEq, Eq)]
 pub struct DuplicateNamespace {
     pub namespace_id: Text,
     pub loc1: Option<Loc>,
@@ -113,7 +113,7 @@ impl Drop for DuplicateNamespace {
 }
 
 /// A type's name that means nothing. No call here gives it.
-#[derive(PartialEq, Eq, Debug)]
+#[derive(PartialEq, Eq)]
 pub struct UnknownTypeName {
     pub name: Text,
     pub loc: Option<Loc>,
@@ -129,7 +129,7 @@ impl Drop for UnknownTypeName {
 }
 
 /// A declared name with `__cedar` in it.
-#[derive(PartialEq, Eq, Debug)]
+#[derive(PartialEq, Eq)]
 pub struct ReservedName {
     pub name: Text,
     pub loc: Option<Loc>,
@@ -145,7 +145,7 @@ impl Drop for ReservedName {
 }
 
 /// A common type that is named like one of the types that every schema has.
-#[derive(PartialEq, Eq, Debug)]
+#[derive(PartialEq, Eq)]
 pub struct ReservedSchemaKeyword {
     pub keyword: Text,
     pub loc: Option<Loc>,
@@ -161,7 +161,7 @@ impl Drop for ReservedSchemaKeyword {
 }
 
 /// What keeps a tree from being a fragment.
-#[derive(PartialEq, Eq, Debug)]
+#[derive(PartialEq, Eq)]
 pub enum ToJsonSchemaError {
     DuplicateDeclarations(DuplicateDeclarations),
     DuplicateContext(DuplicateContext),

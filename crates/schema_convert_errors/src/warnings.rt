@@ -6,7 +6,7 @@ use cedar_data::{CloneIn, Label, Loc, Severity, Text, message, push_both};
 use std::alloc::{AllocError, Global};
 
 /// A declared type that is named like a builtin one, with the place of its name.
-#[derive(PartialEq, Eq, Debug)]
+#[derive(PartialEq, Eq)]
 pub struct ShadowsBuiltinWarning {
     pub name: Text,
     pub loc: Option<Loc>,
@@ -22,7 +22,7 @@ impl Drop for ShadowsBuiltinWarning {
 }
 
 /// A common type that is named like an entity type of its namespace, with the places of both names.
-#[derive(PartialEq, Eq, Debug)]
+#[derive(PartialEq, Eq)]
 pub struct ShadowsEntityWarning {
     pub name: Text,
     pub entity_loc: Option<Loc>,
@@ -40,7 +40,7 @@ impl Drop for ShadowsEntityWarning {
 }
 
 /// What a schema may do but should not.
-#[derive(PartialEq, Eq, Debug)]
+#[derive(PartialEq, Eq)]
 pub enum SchemaWarning {
     ShadowsBuiltin(ShadowsBuiltinWarning),
     ShadowsEntity(ShadowsEntityWarning),

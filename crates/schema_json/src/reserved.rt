@@ -6,7 +6,7 @@ use cedar_identifiers::{InternalName, UnreservedId};
 use std::alloc::{AllocError, Global};
 
 /// The name of a common type is one that names a type or a kind of types already.
-#[derive(PartialEq, Eq, Debug, Drop)]
+#[derive(PartialEq, Eq, Drop)]
 pub struct ReservedCommonTypeBasenameError {
     pub id: UnreservedId,
 }
@@ -55,7 +55,7 @@ impl CloneIn for ReservedCommonTypeBasenameError {
 }
 
 /// A component of the name is `__cedar`, which no entity's type may have.
-#[derive(Debug, Drop)]
+#[derive(Drop)]
 pub struct ReservedNameError {
     pub name: InternalName,
 }

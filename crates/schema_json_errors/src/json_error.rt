@@ -6,7 +6,7 @@ use cedar_data::{CloneIn, Label, Severity, Text, message};
 use std::alloc::{AllocError, Global};
 
 /// What may help where no fragment was read.
-#[derive(Clone, Copy, Debug, Drop, PartialEq, Eq)]
+#[derive(Clone, Copy, Drop, PartialEq, Eq)]
 pub enum JsonAdvice {
     /// The text may be a schema in the Cedar format.
     CedarFormat,
@@ -15,7 +15,6 @@ pub enum JsonAdvice {
 }
 
 /// Why no fragment was read, with advice.
-#[derive(Debug)]
 pub struct JsonDeserializationError {
     pub fault: JsonFault,
     pub advice: Option<JsonAdvice>,

@@ -3,7 +3,7 @@ use cedar_identifiers::{NameFault, UnreservedId};
 use std::alloc::{AllocError, AllocFailed, Global};
 
 /// Why a JSON text or value is no fragment.
-#[derive(Debug, Drop)]
+#[derive(Drop)]
 pub enum JsonFault {
     /// The text is no JSON.
     NotJson,

@@ -3,7 +3,7 @@ use cedar_identifiers::{NameFault, UnreservedId};
 use std::alloc::{AllocError, AllocFailed};
 
 /// Why a JSON value is no fragment.
-#[derive(Debug, Drop)]
+#[derive(Drop)]
 pub enum ShapeFault {
     UnknownField(Text),
     MissingField(Text),

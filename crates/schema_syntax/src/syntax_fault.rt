@@ -11,7 +11,7 @@ use schema_syntax_tokens::{ShortScan, ShortToken, scan_short, token_text};
 use std::alloc::{AllocError, Global};
 
 /// Why a text is no schema by its tokens and its grammar. Each place is a byte offset.
-#[derive(Debug, Drop)]
+#[derive(Drop)]
 pub enum SyntaxFault {
     /// No token stands at this place, behind tokens with which some schema begins.
     InvalidToken(usize),

@@ -7,7 +7,7 @@ use cedar_data::{CloneIn, Label, Severity, Text, message};
 use std::alloc::{AllocError, AllocFailed, Global};
 
 /// Why annotations were not put on an item: a key stands twice, or memory ran out.
-#[derive(PartialEq, Eq, Debug, Drop)]
+#[derive(PartialEq, Eq, Drop)]
 pub enum AnnotationError {
     User(UserError),
     Memory,

@@ -12,7 +12,7 @@ use schema_syntax_grammar::TokenKind;
 use std::alloc::{AllocError, Global};
 
 /// Why a text is no schema. The places are byte offsets.
-#[derive(PartialEq, Eq, Debug)]
+#[derive(PartialEq, Eq)]
 pub enum ParseError {
     /// No token stands at this place.
     InvalidToken {

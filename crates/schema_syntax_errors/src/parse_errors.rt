@@ -10,7 +10,7 @@ use cedar_data::{CloneIn, Label, Loc, NonEmpty, NonEmptyIntoIter, NonEmptyIter, 
 use std::alloc::{AllocError, Global};
 
 /// The faults of a text, at least one. They speak by the first.
-#[derive(PartialEq, Eq, Debug)]
+#[derive(PartialEq, Eq)]
 pub struct ParseErrors {
     pub errors: NonEmpty<ParseError>,
 }

@@ -8,7 +8,7 @@ use cedar_data::{CloneIn, Label, Severity, Text, message};
 use std::alloc::{AllocError, AllocFailed, Global};
 
 /// Why a text was not read as a schema: its faults, or that memory ran out.
-#[derive(PartialEq, Eq, Debug, Drop)]
+#[derive(PartialEq, Eq, Drop)]
 pub enum ParseSchemaError {
     Errors(ParseErrors),
     Memory,

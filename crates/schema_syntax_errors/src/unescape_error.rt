@@ -2,7 +2,7 @@ use cedar_data::CloneIn;
 use std::alloc::{AllocError, Global};
 
 /// A backslash that begins no escape, by its byte offset in the text.
-#[derive(Clone, Copy, PartialEq, Eq, Debug)]
+#[derive(Clone, Copy, PartialEq, Eq)]
 pub struct UnescapeError {
     pub at: usize,
 }

@@ -10,7 +10,6 @@ use cedar_identifiers::AnyId;
 use std::alloc::{AllocError, Global};
 
 /// What a text that follows the grammar still may not have.
-#[derive(Debug)]
 pub enum UserError {
     /// A list without an item where one has to stand, from bracket to bracket.
     EmptyList(Node<()>),

@@ -10,7 +10,7 @@ use crate::token_kind::{HasKind, TokenKind};
 use std::alloc::{AllocError, Global};
 
 /// Where kinds stop being the beginning of a sentence, or that they are no whole one, and what may come there.
-#[derive(Drop, Debug)]
+#[derive(Drop)]
 pub struct Fault {
     /// How many of the kinds begin a sentence: as many as possible.
     pub place: usize,

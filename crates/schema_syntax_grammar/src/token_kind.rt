@@ -15,7 +15,7 @@ pub trait HasKind {
 
 /// What kind of token it is. Thirteen words have kinds of their own; every other word is an identifier. `End` is no token, but the
 /// end of the input.
-#[derive(Clone, Copy, PartialEq, Eq, Debug)]
+#[derive(Clone, Copy, PartialEq, Eq)]
 pub enum TokenKind {
     /// `namespace`
     KwNamespace,

@@ -8,7 +8,7 @@ use cedar_data::Text;
 use std::alloc::{AllocError, Global};
 
 /// Why the body of a string stands for nothing.
-#[derive(Clone, Copy, PartialEq, Eq, Debug)]
+#[derive(Clone, Copy, PartialEq, Eq)]
 pub enum Refusal {
     /// No lawful escape starts at this byte of the body, where a backslash stands.
     Escape(usize),

@@ -9,14 +9,14 @@ use schema_syntax_grammar::{HasKind, TokenKind};
 use std::marker::Model;
 
 /// A token: its kind and its place.
-#[derive(Clone, Copy, PartialEq, Eq, Debug)]
+#[derive(Clone, Copy, PartialEq, Eq)]
 pub struct Token {
     pub kind: TokenKind,
     pub loc: Loc,
 }
 
 /// A token of a text below 4 GiB, in half the room. Contracts see it as the token.
-#[derive(Clone, Copy, Debug)]
+#[derive(Clone, Copy)]
 pub struct ShortToken {
     kind: TokenKind,
     start: u32,

@@ -5,7 +5,7 @@ use cedar_data::CloneIn;
 use std::alloc::{AllocError, Global};
 
 /// What an action may be applied to: the one who acts, or what it is done to.
-#[derive(Clone, Copy, PartialEq, Eq, Debug)]
+#[derive(Clone, Copy, PartialEq, Eq)]
 pub enum PR {
     Principal,
     Resource,
