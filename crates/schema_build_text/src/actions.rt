@@ -64,8 +64,7 @@ fn push_names_line(
     push_spaces(text, base)?;
     push(text, head)?;
     push_names(text, alloc, names)?;
-    push(text, "],\n")?;
-    Ok(())
+    push(text, "],\n")
 }
 
 // Adds what an action applies to, where it has both principals and resources.
@@ -94,8 +93,7 @@ fn push_applies(
     push_context(text, alloc, inner, context)?;
     push(text, ",\n")?;
     push_spaces(text, base)?;
-    push(text, "}")?;
-    Ok(())
+    push(text, "}")
 }
 
 // Adds the name and the ancestors of an action.
@@ -109,8 +107,7 @@ fn push_head(
 {
     push(text, "action ")?;
     push_string(text, &uid.eid.0)?;
-    push_action_parents(text, alloc, ancestors)?;
-    Ok(())
+    push_action_parents(text, alloc, ancestors)
 }
 
 // Adds what stands before the semicolon.
@@ -137,8 +134,7 @@ fn push_declaration(
         } => {
             push_head(text, alloc, uid, ancestors)?;
             let principals = principals.as_slice();
-            push_applies(text, alloc, base, principals, resources.as_slice(), context)?;
-            Ok(())
+            push_applies(text, alloc, base, principals, resources.as_slice(), context)
         }
     }
 }
@@ -154,6 +150,5 @@ pub fn push_action(
     ensures { OnOk result (Adds text.old text.new (spaces base ++ action_declaration base (action_reading (action_content (uid.now, action.now))))) }
 {
     push_spaces(text, base)?;
-    push_declaration(text, alloc, base, uid, action)?;
-    Ok(())
+    push_declaration(text, alloc, base, uid, action)
 }

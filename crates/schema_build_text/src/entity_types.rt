@@ -30,8 +30,7 @@ fn push_shape(
         return Ok(());
     }
     push(text, " = {\n")?;
-    push_members(text, alloc, base, entries)?;
-    Ok(())
+    push_members(text, alloc, base, entries)
 }
 
 // Adds ` tags ` and the type of the tags at no indentation, where there are tags.
@@ -42,8 +41,7 @@ fn push_tags(text: &mut String, alloc: Global, tags: &Option<Boxed<Type>>) -> Re
         None => Ok(()),
         Some(ty) => {
             push(text, " tags ")?;
-            push_type(text, alloc, 0, ty.get())?;
-            Ok(())
+            push_type(text, alloc, 0, ty.get())
         }
     }
 }
@@ -64,8 +62,7 @@ fn push_standard(
     push_basename(text, &name.name)?;
     push_name_parents(text, alloc, ancestors)?;
     push_shape(text, alloc, base, entries)?;
-    push_tags(text, alloc, tags)?;
-    Ok(())
+    push_tags(text, alloc, tags)
 }
 
 // Adds an enum up to its semicolon: its name and its choices.
@@ -75,8 +72,7 @@ fn push_enum(text: &mut String, name: &Name, choices: &NonEmpty<Eid>) -> Result<
     push(text, "entity ")?;
     push_basename(text, &name.name)?;
     push(text, " enum ")?;
-    push_choices(text, choices)?;
-    Ok(())
+    push_choices(text, choices)
 }
 
 // Adds an external entity type up to its semicolon: its name and its ancestors.
@@ -90,8 +86,7 @@ fn push_external(
 {
     push(text, "external entity ")?;
     push_basename(text, &name.name)?;
-    push_name_parents(text, alloc, ancestors)?;
-    Ok(())
+    push_name_parents(text, alloc, ancestors)
 }
 
 // Adds what stands before the semicolon.
@@ -135,6 +130,5 @@ pub fn push_entity_type(
     ensures { OnOk result (Adds text.old text.new (spaces base ++ entity_declaration base (entity_reading (entity_content (name.now, entity.now))))) }
 {
     push_spaces(text, base)?;
-    push_declaration(text, alloc, base, name, entity)?;
-    Ok(())
+    push_declaration(text, alloc, base, name, entity)
 }

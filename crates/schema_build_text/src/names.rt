@@ -60,8 +60,7 @@ pub fn push_opening(text: &mut String, name: &InternalName) -> Result<(), AllocE
         Some((_, front)) => {
             push(text, "namespace ")?;
             push_path(text, &name.first, front)?;
-            push(text, " {\n")?;
-            Ok(())
+            push(text, " {\n")
         }
         None => Ok(()),
     }
@@ -92,8 +91,7 @@ pub fn push_break(
     }
     push_closing(text, before)?;
     push(text, "\n")?;
-    push_opening(text, behind)?;
-    Ok(())
+    push_opening(text, behind)
 }
 
 /// Whether the names have the same namespace.

@@ -58,8 +58,7 @@ fn push_between_quotes(text: &mut String, value: &str) -> Result<(), AllocError>
 {
     push(text, "\"")?;
     push(text, value)?;
-    push(text, "\"")?;
-    Ok(())
+    push(text, "\"")
 }
 
 // Adds the characters as a string of which some are escaped.

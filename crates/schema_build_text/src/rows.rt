@@ -41,8 +41,7 @@ impl Listed for EntityUID {
     fn push_to(&self, text: &mut String) -> Result<(), AllocError> {
         push_name(text, &self.ty.name)?;
         push(text, "::")?;
-        push_string(text, &self.eid.0)?;
-        Ok(())
+        push_string(text, &self.eid.0)
     }
 }
 
@@ -130,8 +129,7 @@ fn push_parents<T: Listed>(text: &mut String, alloc: Global, items: &[T]) -> Res
     }
     push(text, " in [")?;
     push_in_order(text, alloc, items)?;
-    push(text, "]")?;
-    Ok(())
+    push(text, "]")
 }
 
 /// Adds the names in order, each once, with `, ` between two.
@@ -174,8 +172,7 @@ pub fn push_choices(text: &mut String, choices: &NonEmpty<Eid>) -> Result<(), Al
         push_string(text, &choice.0)?;
         behind = true;
     }
-    push(text, "]")?;
-    Ok(())
+    push(text, "]")
 }
 
 // The name, where it is the only one.

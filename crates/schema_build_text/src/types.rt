@@ -23,14 +23,12 @@ pub fn push_type(text: &mut String, alloc: Global, base: usize, ty: &Type) -> Re
             Some(element) => {
                 push(text, "Set<")?;
                 push_type(text, alloc, base, element.get())?;
-                push(text, ">")?;
-                Ok(())
+                push(text, ">")
             }
             None => {
                 push(text, "Set<{")?;
                 push_spaces(text, base)?;
-                push(text, "}>")?;
-                Ok(())
+                push(text, "}>")
             }
         },
         Type::Record { attrs, .. } => push_record(text, alloc, base, attrs.as_slice()),
@@ -38,13 +36,11 @@ pub fn push_type(text: &mut String, alloc: Global, base: usize, ty: &Type) -> Re
         Type::AnyEntity => {
             push(text, "{")?;
             push_spaces(text, base)?;
-            push(text, "}")?;
-            Ok(())
+            push(text, "}")
         }
         Type::Extension { name } => {
             push(text, "__cedar::")?;
-            push(text, name.as_str())?;
-            Ok(())
+            push(text, name.as_str())
         }
     }
 }
@@ -91,8 +87,7 @@ fn push_line(text: &mut String, alloc: Global, base: usize, ty: &Type) -> Result
         None => {
             push(text, ": ")?;
             push_type(text, alloc, base, ty)?;
-            push(text, ",\n")?;
-            Ok(())
+            push(text, ",\n")
         }
     }
 }
@@ -114,8 +109,7 @@ pub fn push_record(
         return Ok(());
     }
     push(text, "{\n")?;
-    push_members(text, alloc, base, entries)?;
-    Ok(())
+    push_members(text, alloc, base, entries)
 }
 
 /// Adds what stands behind the first line of the record of these attributes at this indentation.
@@ -130,8 +124,7 @@ pub fn push_members(
 {
     push_entries(text, alloc, base, entries)?;
     push_spaces(text, base)?;
-    push(text, "}")?;
-    Ok(())
+    push(text, "}")
 }
 
 // Adds the lines of the attributes of a record that stands at this indentation.

@@ -1,4 +1,4 @@
-ghost use Rattle.std.specs.Prelude.{◌≡◌, map, find, IfOk};
+ghost use Rattle.std.specs.Prelude.{◌≡◌, Some, map, find, IfOk};
 ghost use Rattle.std.specs.List.{list_any};
 ghost use Rattle.std.specs.Option.{option_copied};
 ghost use Rattle.schema_convert.specs.Members.{says_role, says_same, said_twice, empty_role, missing_role, said_empty, member_fault, missing, block_fault};
@@ -42,8 +42,8 @@ fn said_twice(
     member: &AppDecl<'_>,
     loc1: Option<Loc>,
     loc2: Option<Loc>,
-) -> Result<ToJsonSchemaError, AllocError>
-    ensures { IfOk result (λ fault. fault ≡ said_twice name.now member.now loc1 loc2) }
+) -> Result<Option<ToJsonSchemaError>, AllocError>
+    ensures { IfOk result (λ fault. fault ≡ Some (said_twice name.now member.now loc1 loc2)) }
 {
     let name = name.node.to_text(alloc)?;
     match member {
@@ -54,11 +54,11 @@ fn said_twice(
                 loc1,
                 loc2,
             };
-            Ok(ToJsonSchemaError::DuplicatePrincipalOrResource(fault))
+            Ok(Some(ToJsonSchemaError::DuplicatePrincipalOrResource(fault)))
         }
         AppDecl::Context(_) => {
             let fault = DuplicateContext { name, loc1, loc2 };
-            Ok(ToJsonSchemaError::DuplicateContext(fault))
+            Ok(Some(ToJsonSchemaError::DuplicateContext(fault)))
         }
     }
 }
@@ -68,8 +68,8 @@ fn empty_role(
     name: &Node<SrcStr<'_>>,
     kind: PR,
     loc: Option<Loc>,
-) -> Result<ToJsonSchemaError, AllocError>
-    ensures { IfOk result (λ fault. fault ≡ empty_role name.now kind loc) }
+) -> Result<Option<ToJsonSchemaError>, AllocError>
+    ensures { IfOk result (λ fault. fault ≡ Some (empty_role name.now kind loc)) }
 {
     let fault = NoPrincipalOrResource {
         kind,
@@ -77,15 +77,15 @@ fn empty_role(
         missing_or_empty: MissingOrEmpty::Empty { loc },
         name_loc: name.loc,
     };
-    Ok(ToJsonSchemaError::NoPrincipalOrResource(fault))
+    Ok(Some(ToJsonSchemaError::NoPrincipalOrResource(fault)))
 }
 
 fn missing_role(
     alloc: Global,
     name: &Node<SrcStr<'_>>,
     kind: PR,
-) -> Result<ToJsonSchemaError, AllocError>
-    ensures { IfOk result (λ fault. fault ≡ missing_role name.now kind) }
+) -> Result<Option<ToJsonSchemaError>, AllocError>
+    ensures { IfOk result (λ fault. fault ≡ Some (missing_role name.now kind)) }
 {
     let fault = NoPrincipalOrResource {
         kind,
@@ -93,7 +93,7 @@ fn missing_role(
         missing_or_empty: MissingOrEmpty::Missing,
         name_loc: name.loc,
     };
-    Ok(ToJsonSchemaError::NoPrincipalOrResource(fault))
+    Ok(Some(ToJsonSchemaError::NoPrincipalOrResource(fault)))
 }
 
 // The fault of `[]` in place of principals or resources.
@@ -108,7 +108,7 @@ fn said_empty(
     match member {
         AppDecl::PR(list) => {
             if list.entity_tys.is_none() {
-                return Ok(Some(empty_role(alloc, name, list.kind.node, loc)?));
+                return empty_role(alloc, name, list.kind.node, loc);
             }
             Ok(None)
         }
@@ -142,10 +142,7 @@ fn member_fault<'s>(
     ensures { IfOk result (λ fault. fault ≡ member_fault name.now (map (λ x. x.now) before.now.items) member.now) }
 {
     match first_same(before, &member.node) {
-        Some(first) => {
-            let fault = said_twice(alloc, name, &member.node, first.loc, member.loc)?;
-            Ok(Some(fault))
-        }
+        Some(first) => said_twice(alloc, name, &member.node, first.loc, member.loc),
         None => said_empty(alloc, name, &member.node, member.loc),
     }
 }
@@ -171,10 +168,10 @@ fn missing(
     ensures { IfOk result (λ out. out ≡ missing name.now (map (λ x. x.now) members.now.items)) }
 {
     if !has_role(PR::Resource, members) {
-        return Ok(Some(missing_role(alloc, name, PR::Resource)?));
+        return missing_role(alloc, name, PR::Resource);
     }
     if !has_role(PR::Principal, members) {
-        return Ok(Some(missing_role(alloc, name, PR::Principal)?));
+        return missing_role(alloc, name, PR::Principal);
     }
     Ok(None)
 }

@@ -27,8 +27,7 @@ fn push_shape<N: NameText>(
         return Ok(());
     }
     push(text, " = ")?;
-    push_type(text, alloc, base, shape)?;
-    Ok(())
+    push_type(text, alloc, base, shape)
 }
 
 // Adds the type of a context, without a space in the braces of a record without attributes.
@@ -59,8 +58,7 @@ fn push_tags<N: NameText>(
         None => Ok(()),
         Some(ty) => {
             push(text, " tags ")?;
-            push_type(text, alloc, 0, ty.get())?;
-            Ok(())
+            push_type(text, alloc, 0, ty.get())
         }
     }
 }
@@ -76,8 +74,7 @@ pub fn push_standard<N: NameText>(
 {
     push_parents(text, alloc, standard.member_of_types.as_slice())?;
     push_shape(text, alloc, base, &standard.shape.0)?;
-    push_tags(text, alloc, &standard.tags)?;
-    Ok(())
+    push_tags(text, alloc, &standard.tags)
 }
 
 /// Adds what stands between the name of an entity type and the semicolon. Of an external one these are the parents.
@@ -103,8 +100,7 @@ pub fn push_entity_body<N: NameText>(
                 return Ok(());
             }
             push(text, " enum ")?;
-            push_choices(text, choices.get())?;
-            Ok(())
+            push_choices(text, choices.get())
         }
     }
 }
@@ -122,8 +118,7 @@ fn push_names_line<N: NameText>(
     push_spaces(text, base)?;
     push(text, head)?;
     push_names(text, alloc, names)?;
-    push(text, ",\n")?;
-    Ok(())
+    push(text, ",\n")
 }
 
 // Adds what an action applies to, where it has both principals and resources.
@@ -152,8 +147,7 @@ fn push_targets<N: NameText>(
     push_context(text, alloc, inner, &spec.context.0)?;
     push(text, ",\n")?;
     push_spaces(text, base)?;
-    push(text, "}")?;
-    Ok(())
+    push(text, "}")
 }
 
 /// Adds what stands between the name of an action and the semicolon. Of an external one these are the parents.

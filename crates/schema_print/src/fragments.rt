@@ -29,8 +29,7 @@ fn push_namespace<N: NameText>(
             push_name(text, alloc, name)?;
             push(text, " {\n")?;
             push_items(text, alloc, 2, namespace)?;
-            push(text, "}\n")?;
-            Ok(())
+            push(text, "}\n")
         }
     }
 }

@@ -25,8 +25,7 @@ fn push_head(
     push_notes(text, base, annotations)?;
     push_spaces(text, base)?;
     push_between(text, external, "external ")?;
-    push(text, keyword)?;
-    Ok(())
+    push(text, keyword)
 }
 
 // Adds the common types, each behind an empty line, the first too where something stands before it.
@@ -118,6 +117,5 @@ pub fn push_items<N: NameText>(
     let filled = begun | !entity_types.is_empty();
     push_commons(text, alloc, base, false, commons)?;
     push_entity_types(text, alloc, base, begun, entity_types)?;
-    push_actions(text, alloc, base, filled, namespace.actions.as_slice())?;
-    Ok(())
+    push_actions(text, alloc, base, filled, namespace.actions.as_slice())
 }

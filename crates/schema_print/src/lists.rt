@@ -38,8 +38,7 @@ pub fn push_names<N: NameText>(
         push_name(text, alloc, name)?;
         behind = true;
     }
-    push(text, "]")?;
-    Ok(())
+    push(text, "]")
 }
 
 /// Adds ` in ` and the names in brackets, where there are any.
@@ -54,8 +53,7 @@ pub fn push_parents<N: NameText>(
         return Ok(());
     }
     push(text, " in ")?;
-    push_names(text, alloc, names)?;
-    Ok(())
+    push_names(text, alloc, names)
 }
 
 /// Adds the ids in brackets, each as a string, with `, ` between two.
@@ -69,8 +67,7 @@ pub fn push_choices(text: &mut Text, choices: &NonEmpty<Eid>) -> Result<(), Allo
         push_string(text, &choice.0)?;
         behind = true;
     }
-    push(text, "]")?;
-    Ok(())
+    push(text, "]")
 }
 
 // Adds the name of an action's type, or `Action` where none is written.
@@ -97,8 +94,7 @@ fn push_action<N: NameText>(
 {
     push_action_type(text, alloc, &action.ty)?;
     push(text, "::")?;
-    push_string(text, &action.id)?;
-    Ok(())
+    push_string(text, &action.id)
 }
 
 /// Adds ` in ` and the actions in brackets, where there are any.
@@ -133,6 +129,5 @@ fn push_actions<N: NameText>(
         push_action(text, alloc, action)?;
         behind = true;
     }
-    push(text, "]")?;
-    Ok(())
+    push(text, "]")
 }

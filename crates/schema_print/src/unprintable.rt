@@ -22,10 +22,7 @@ fn declared_in(
     };
     match namespace {
         None => Ok(name),
-        Some(namespace) => {
-            let full = name.qualify_with(alloc, Some(&namespace.name))?;
-            Ok(full)
-        }
+        Some(namespace) => { name.qualify_with(alloc, Some(&namespace.name)) }
     }
 }
 

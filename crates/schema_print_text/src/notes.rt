@@ -33,8 +33,7 @@ fn push_value(text: &mut Text, value: &Option<Text>) -> Result<(), AllocError>
         Some(value) => {
             push(text, "(")?;
             push_string(text, value)?;
-            push(text, ")")?;
-            Ok(())
+            push(text, ")")
         }
     }
 }

@@ -33,8 +33,7 @@ pub fn push_name<N: NameText>(text: &mut Text, alloc: Global, name: &N) -> Resul
     ensures { OnOk result (Adds text.old text.new (laid (path_pieces (printed_name (N.components name.now))))) }
 {
     let name = name.text(alloc)?;
-    push(text, name.as_str())?;
-    Ok(())
+    push(text, name.as_str())
 }
 
 /// Adds so many spaces.

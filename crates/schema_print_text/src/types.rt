@@ -45,16 +45,14 @@ fn push_variant<N: NameText>(
         TypeVariant::Set { element } => {
             push(text, "Set<")?;
             push_type(text, alloc, base, element.get())?;
-            push(text, ">")?;
-            Ok(())
+            push(text, ">")
         }
         TypeVariant::Record(record) => push_record(text, alloc, base, record.attributes.as_slice()),
         TypeVariant::Entity { name } => push_name(text, alloc, name),
         TypeVariant::EntityOrCommon { type_name } => push_name(text, alloc, type_name),
         TypeVariant::Extension { name } => {
             push(text, "__cedar::")?;
-            push(text, name.as_str())?;
-            Ok(())
+            push(text, name.as_str())
         }
     }
 }
@@ -78,8 +76,7 @@ pub fn push_record<N: NameText>(
     push(text, "{\n")?;
     push_entries(text, alloc, base, entries)?;
     push_spaces(text, base)?;
-    push(text, "}")?;
-    Ok(())
+    push(text, "}")
 }
 
 // Adds the lines of the attributes of a record that stands at this indentation.

@@ -66,8 +66,7 @@ fn push_namespace(
         ns,
         definition.entity_types.as_slice(),
     )?;
-    push_actions(alloc, &mut names.actions, ns, definition.actions.as_slice())?;
-    Ok(())
+    push_actions(alloc, &mut names.actions, ns, definition.actions.as_slice())
 }
 
 // Adds the common types.

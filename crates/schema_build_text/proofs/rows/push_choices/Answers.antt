@@ -1,4 +1,5 @@
 use Rattle.std.proofs.Common.{List, codes, map, false, ap, sym, ◌∙◌, ◌++◌}
+use Rattle.std.proofs.lemmas.Result.{on_ok_weaker}
 use Rattle.cedar_data.specs.Rows.{joined_by}
 use Rattle.cedar_data.specs.NonEmpty.{items_left}
 use Rattle.cedar_identifiers.specs.declared.eid.Eid.{Eid}
@@ -22,9 +23,10 @@ loop-choice-preserved c =
 
 pub returns : goal.returns
 returns c =
+    on_ok_weaker c.push-2.result (λ e.
     let row = λ (l : List Eid). row_behind (codes ", ") c.loop-choice.behind (map (λ x. quoted x.0) l) in
     so (then c.in_ok-push.ensures (then (adds_all c.loop-choice.invariant (ap row c.in-None.ensures.steps.0))
-    c.in_ok-push-2.ensures))
+    e))
     (ap (λ t. codes "[" ++ (t ++ codes "]"))
     (joined_row (codes ", ") (map (λ x. quoted x.0) c.args.choices.now)
-    ∙ ap (joined_by (codes ", ")) (sym (map_both quoted (λ (x : Eid). x.0) c.args.choices.now))))
+    ∙ ap (joined_by (codes ", ")) (sym (map_both quoted (λ (x : Eid). x.0) c.args.choices.now))))) c.push-2.ensures

@@ -1,4 +1,5 @@
 use Rattle.std.proofs.Common.{sym, ◌∙◌}
+use Rattle.std.proofs.lemmas.Result.{on_ok_weaker}
 use Rattle.schema_build_text.specs.Growing.{adds_nothing, then, so}
 use Rattle.schema_build_text.proofs.Rowed.{no_parents, some_parents}
 use Rattle.schema_build_text.proofs.rows.push_parents.Goals as goal
@@ -10,5 +11,6 @@ returns-then-is_empty g c =
 
 pub returns : goal.returns
 returns g c =
-    so (then c.in_ok-push.ensures (then c.in_ok-push_in_order.ensures c.in_ok-push-2.ensures))
-    (some_parents g.T.Listed.shown g.T.Ord.cmp c.args.items.now (sym c.is_empty.ensures ∙ c.if-is_empty.false))
+    on_ok_weaker c.push-2.result (λ e.
+    so (then c.in_ok-push.ensures (then c.in_ok-push_in_order.ensures e))
+    (some_parents g.T.Listed.shown g.T.Ord.cmp c.args.items.now (sym c.is_empty.ensures ∙ c.if-is_empty.false))) c.push-2.ensures

@@ -26,36 +26,40 @@ push_type-returns-in-String t c =
     (λ e. so e (shown c.args.base c.args.ty.now built.String said.String (codes "__cedar::String") c.in-String.is
     string_says refl)) c.push-in-String.ensures
 
-pub push_type-returns-in_ok-push-in-Some-2 : goal.push_type-returns-in_ok-push-in-Some-2
-push_type-returns-in_ok-push-in-Some-2 t c =
+pub push_type-returns-in_ok-push_type-in-Some : goal.push_type-returns-in_ok-push_type-in-Some
+push_type-returns-in_ok-push_type-in-Some t c =
+    on_ok_weaker c.push-in-Some-2.result (λ e.
     let element = c.in-Some.element in
     so
     (then c.in_ok-push-in-Some.ensures
     (then (so c.in_ok-push_type-in-Some.ensures
     (ap (λ it. type_text true c.args.base (plain_type (type_content it))) c.get.ensures))
-    c.in_ok-push-in-Some-2.ensures))
+    e))
     (shown c.args.base c.args.ty.now (built.Set (Some element)) (said.Set (type_content element)) _
-    (c.in-Set.is ∙ ap built.Set c.in-Some.is) (set_says element) refl)
+    (c.in-Set.is ∙ ap built.Set c.in-Some.is) (set_says element) refl)) c.push-in-Some-2.ensures
 
-pub push_type-returns-in_ok-push-in-None-2 : goal.push_type-returns-in_ok-push-in-None-2
-push_type-returns-in_ok-push-in-None-2 t c =
-    so (then c.in_ok-push-in-None.ensures (then c.in_ok-push_spaces-in-None.ensures c.in_ok-push-in-None-2.ensures))
+pub push_type-returns-in_ok-push_spaces-in-None : goal.push_type-returns-in_ok-push_spaces-in-None
+push_type-returns-in_ok-push_spaces-in-None t c =
+    on_ok_weaker c.push-in-None-2.result (λ e.
+    so (then c.in_ok-push-in-None.ensures (then c.in_ok-push_spaces-in-None.ensures e))
     (shown c.args.base c.args.ty.now (built.Set None) said.SetOfUnknown _
     (c.in-Set.is ∙ ap built.Set c.in-None.is) unknown_says
-    (ap (λ t. codes "Set<{" ++ t) (sym (append_assoc (spaces c.args.base) (codes "}") (codes ">")))))
+    (ap (λ t. codes "Set<{" ++ t) (sym (append_assoc (spaces c.args.base) (codes "}") (codes ">")))))) c.push-in-None-2.ensures
 
-pub push_type-returns-in_ok-push-in-AnyEntity-2 : goal.push_type-returns-in_ok-push-in-AnyEntity-2
-push_type-returns-in_ok-push-in-AnyEntity-2 t c =
+pub push_type-returns-in_ok-push_spaces-in-AnyEntity : goal.push_type-returns-in_ok-push_spaces-in-AnyEntity
+push_type-returns-in_ok-push_spaces-in-AnyEntity t c =
+    on_ok_weaker c.push-in-AnyEntity-2.result (λ e.
     so (then c.in_ok-push-in-AnyEntity.ensures
-    (then c.in_ok-push_spaces-in-AnyEntity.ensures c.in_ok-push-in-AnyEntity-2.ensures))
-    (shown c.args.base c.args.ty.now built.AnyEntity said.AnyEntity _ c.in-AnyEntity.is any_entity_says refl)
+    (then c.in_ok-push_spaces-in-AnyEntity.ensures e))
+    (shown c.args.base c.args.ty.now built.AnyEntity said.AnyEntity _ c.in-AnyEntity.is any_entity_says refl)) c.push-in-AnyEntity-2.ensures
 
-pub push_type-returns-in_ok-push-in-Extension-2 : goal.push_type-returns-in_ok-push-in-Extension-2
-push_type-returns-in_ok-push-in-Extension-2 t c =
+pub push_type-returns-in_ok-push-in-Extension : goal.push_type-returns-in_ok-push-in-Extension
+push_type-returns-in_ok-push-in-Extension t c =
+    on_ok_weaker c.push-in-Extension-2.result (λ e.
     let name = c.in-Extension.name in
-    so (then c.in_ok-push-in-Extension.ensures (so c.in_ok-push-in-Extension-2.ensures c.as_str.ensures))
+    so (then c.in_ok-push-in-Extension.ensures (so e c.as_str.ensures))
     (shown c.args.base c.args.ty.now (built.Extension name) (said.Ext name.id.text) _ c.in-Extension.is
-    (extension_says name) refl)
+    (extension_says name) refl)) c.push-in-Extension-2.ensures
 
 pub push_type-returns-in-Long : goal.push_type-returns-in-Long
 push_type-returns-in-Long t c =
@@ -86,8 +90,9 @@ push_type-returns-in-Entity t c =
 
 pub push_record-returns : goal.push_record-returns
 push_record-returns t c =
-    so (then c.in_ok-push-3.ensures c.in_ok-push_members.ensures)
-    (record_filled c.args.base c.args.entries.now (sym c.is_empty.ensures ∙ c.if-is_empty.false))
+    on_ok_weaker c.push_members.result (λ e.
+    so (then c.in_ok-push-3.ensures e)
+    (record_filled c.args.base c.args.entries.now (sym c.is_empty.ensures ∙ c.if-is_empty.false))) c.push_members.ensures
 
 pub push_line-returns-in-Some : goal.push_line-returns-in-Some
 push_line-returns-in-Some t c = on_ok_weaker c.push.result (λ e. so e (c.in-Some.ensures c.args.base)) c.push.ensures

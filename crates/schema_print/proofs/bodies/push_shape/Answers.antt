@@ -1,4 +1,5 @@
 use Rattle.std.proofs.Common.{sym, ◌∙◌}
+use Rattle.std.proofs.lemmas.Result.{on_ok_weaker}
 use Rattle.schema_print_text.specs.Growing.{adds_nothing, then, so}
 use Rattle.schema_print_text.specs.PrintedTypes.{printed_type}
 use Rattle.schema_print.proofs.Spelled.{shape_none, shape_some}
@@ -12,6 +13,7 @@ returns-then-has_no_attributes g c =
 
 pub returns : goal.returns
 returns g c =
-    so (then c.in_ok-push.ensures c.in_ok-push_type.ensures)
+    on_ok_weaker c.push_type.result (λ e.
+    so (then c.in_ok-push.ensures e)
     (shape_some c.args.base (printed_type g.N.NameText.components c.args.shape.now)
-    (sym c.has_no_attributes.ensures ∙ c.if-has_no_attributes.false))
+    (sym c.has_no_attributes.ensures ∙ c.if-has_no_attributes.false))) c.push_type.ensures

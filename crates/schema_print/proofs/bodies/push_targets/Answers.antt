@@ -1,4 +1,5 @@
 use Rattle.std.proofs.Common.{codes, ap}
+use Rattle.std.proofs.lemmas.Result.{on_ok_weaker}
 use Rattle.schema_print_text.specs.Growing.{adds_nothing, then, so}
 use Rattle.schema_print_text.specs.PrintedTypes.{printed_name, printed_type}
 use Rattle.schema_print.specs.PrintedFragments.{paths_of_names}
@@ -27,6 +28,7 @@ returns-then-is_empty-2 g c =
 
 pub returns : goal.returns
 returns g c =
+    on_ok_weaker c.push-4.result (λ e.
     let names = g.N.NameText.components in
     let s = c.args.spec.now in
     so
@@ -39,10 +41,10 @@ returns g c =
     c.as_slice-resources.ensures)) (then
     c.in_ok-push_spaces.ensures (then c.in_ok-push-2.ensures
     (then c.in_ok-push_context.ensures
-    (then c.in_ok-push-3.ensures (then c.in_ok-push_spaces-2.ensures c.in_ok-push-4.ensures))))))))
+    (then c.in_ok-push-3.ensures (then c.in_ok-push_spaces-2.ensures e))))))))
     (both_targets (λ n. printed_name (names n)) c.args.base c.in_ok-inner.inner s.principal_types s.resource_types
     (printed_type names s.context.0) c.in_ok-inner.ensures
     (empty_so c.as_slice-principals.result.now s.principal_types c.is_empty.result _ c.as_slice-principals.ensures
     c.is_empty.ensures c.if-is_empty.false)
     (empty_so c.as_slice-resources.result.now s.resource_types c.is_empty-2.result _ c.as_slice-resources.ensures
-    c.is_empty-2.ensures c.if-is_empty-2.false))
+    c.is_empty-2.ensures c.if-is_empty-2.false))) c.push-4.ensures

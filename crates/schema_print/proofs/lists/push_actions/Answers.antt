@@ -1,5 +1,6 @@
 use Rattle.std.proofs.Common.{codes, map, sym, ◌∙◌, ap, ◌++◌}
 use Rattle.std.proofs.lemmas.List.{at_drop_all}
+use Rattle.std.proofs.lemmas.Result.{on_ok_weaker}
 use Rattle.schema_syntax_tokens.specs.Laid.{laid}
 use Rattle.schema_readback.specs.PrintedDecls.{ref_pieces}
 use Rattle.schema_print_text.specs.Growing.{adds_nothing, then, so, begun, round, adds_all}
@@ -25,10 +26,11 @@ loop-action-preserved g c =
 
 pub returns : goal.returns
 returns g c =
+    on_ok_weaker c.push-2.result (λ e.
     let one = printed_parent g.N.NameText.components in
     let row = adds_all c.loop-action.invariant
     (at_drop_all (λ xs. row_behind (codes ", ") c.loop-action.behind (map (λ a. laid (ref_pieces (one a))) xs))
     c.args.actions.now c.loop-action.action-index c.loop-action-test.false) in
-    so (then c.in_ok-push.ensures (then row c.in_ok-push-2.ensures))
+    so (then c.in_ok-push.ensures (then row e))
     (ap (λ t. codes " in " ++ t) (brackets_made ref_pieces one c.args.actions.now)
-    ∙ parents_some ref_pieces one c.args.actions.now (sym c.is_empty.ensures ∙ c.if-is_empty.false))
+    ∙ parents_some ref_pieces one c.args.actions.now (sym c.is_empty.ensures ∙ c.if-is_empty.false))) c.push-2.ensures

@@ -1,5 +1,6 @@
 use Rattle.std.proofs.Common.{List, codes, map, false, true, ap, sym, ◌∙◌, append_assoc}
 use Rattle.std.proofs.lemmas.List.{append-nil}
+use Rattle.std.proofs.lemmas.Result.{on_ok_weaker}
 use Rattle.cedar_data.specs.NonEmpty.{items_left}
 use Rattle.cedar_identifiers.specs.declared.eid.Eid.{Eid}
 use Rattle.schema_syntax_tokens.specs.Laid.{laid}
@@ -28,6 +29,7 @@ loop-choice-preserved c =
 
 pub returns : goal.returns
 returns c =
+    on_ok_weaker c.push-2.result (λ e.
     let row = λ (l : List Eid). row_behind (codes ", ") c.loop-choice.behind (map (λ x. laid (string_pieces x.0)) l) in
     so (then c.in_ok-push.ensures (then (adds_all c.loop-choice.invariant (ap row c.in-None.ensures.steps.0))
-    c.in_ok-push-2.ensures)) (brackets_made string_pieces (λ x. x.0) c.args.choices.now)
+    e)) (brackets_made string_pieces (λ x. x.0) c.args.choices.now)) c.push-2.ensures

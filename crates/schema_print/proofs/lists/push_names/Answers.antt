@@ -1,5 +1,6 @@
 use Rattle.std.proofs.Common.{codes, map}
 use Rattle.std.proofs.lemmas.List.{at_drop_all}
+use Rattle.std.proofs.lemmas.Result.{on_ok_weaker}
 use Rattle.schema_syntax_tokens.specs.Laid.{laid}
 use Rattle.schema_readback.specs.Printed.{path_pieces}
 use Rattle.schema_print_text.specs.Growing.{then, so, begun, round, adds_all}
@@ -19,9 +20,10 @@ loop-name-preserved g c =
 
 pub returns : goal.returns
 returns g c =
+    on_ok_weaker c.push-2.result (λ e.
     let row = adds_all c.loop-name.invariant
     (at_drop_all (λ ns. row_behind (codes ", ") c.loop-name.behind
     (map (λ n. laid (path_pieces (printed_name (g.N.NameText.components n)))) ns)) c.args.names.now
     c.loop-name.name-index c.loop-name-test.false) in
-    so (then c.in_ok-push.ensures (then row c.in_ok-push-2.ensures))
-    (brackets_made path_pieces (λ n. printed_name (g.N.NameText.components n)) c.args.names.now)
+    so (then c.in_ok-push.ensures (then row e))
+    (brackets_made path_pieces (λ n. printed_name (g.N.NameText.components n)) c.args.names.now)) c.push-2.ensures

@@ -1,4 +1,5 @@
 use Rattle.std.proofs.Common.{sym, ◌∙◌}
+use Rattle.std.proofs.lemmas.Result.{on_ok_weaker}
 use Rattle.schema_readback.specs.Printed.{path_pieces}
 use Rattle.schema_print_text.specs.Growing.{adds_nothing, then, so}
 use Rattle.schema_print_text.specs.PrintedTypes.{printed_name}
@@ -13,6 +14,7 @@ returns-then-is_empty g c =
 
 pub returns : goal.returns
 returns g c =
-    so (then c.in_ok-push.ensures c.in_ok-push_names.ensures)
+    on_ok_weaker c.push_names.result (λ e.
+    so (then c.in_ok-push.ensures e)
     (parents_some path_pieces (λ n. printed_name (g.N.NameText.components n)) c.args.names.now
-    (sym c.is_empty.ensures ∙ c.if-is_empty.false))
+    (sym c.is_empty.ensures ∙ c.if-is_empty.false))) c.push_names.ensures

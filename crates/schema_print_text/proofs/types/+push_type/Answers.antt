@@ -49,16 +49,17 @@ push_variant-returns-in-Boolean g t c =
     (codes "__cedar::Bool") c.in-Boolean.is (variant_boolean g.row.N.Denot g.N.NameText.components) refl))
     c.push-in-Boolean.ensures
 
-pub push_variant-returns-in_ok-push-in-Set-2 : goal.push_variant-returns-in_ok-push-in-Set-2
-push_variant-returns-in_ok-push-in-Set-2 g t c =
+pub push_variant-returns-in_ok-push_type-in-Set : goal.push_variant-returns-in_ok-push_type-in-Set
+push_variant-returns-in_ok-push_type-in-Set g t c =
+    on_ok_weaker c.push-in-Set-2.result (λ e.
     let names = g.N.NameText.components in
     let element = c.in-Set.element in
     so
     (then c.in_ok-push-in-Set.ensures
     (then (so c.in_ok-push_type-in-Set.ensures (ap (λ it. printed_type_text names c.args.base it) c.get.ensures))
-    c.in_ok-push-in-Set-2.ensures))
+    e))
     (shown g.row.N.Denot names c.args.base c.args.ty.now (Set element) (set (printed_type names element)) _
-    c.in-Set.is (variant_set g.row.N.Denot names element) (sym (set_laid c.args.base (printed_type names element))))
+    c.in-Set.is (variant_set g.row.N.Denot names element) (sym (set_laid c.args.base (printed_type names element))))) c.push-in-Set-2.ensures
 
 pub push_variant-returns-in-Record : goal.push_variant-returns-in-Record
 push_variant-returns-in-Record g t c =
@@ -90,20 +91,22 @@ push_variant-returns-in-EntityOrCommon g t c =
     _ c.in-EntityOrCommon.is (variant_either g.row.N.Denot names n) refl))
     c.push_name-in-EntityOrCommon.ensures
 
-pub push_variant-returns-in_ok-push-in-Extension-2 : goal.push_variant-returns-in_ok-push-in-Extension-2
-push_variant-returns-in_ok-push-in-Extension-2 g t c =
+pub push_variant-returns-in_ok-push-in-Extension : goal.push_variant-returns-in_ok-push-in-Extension
+push_variant-returns-in_ok-push-in-Extension g t c =
+    on_ok_weaker c.push-in-Extension-2.result (λ e.
     let names = g.N.NameText.components in
     let n = c.in-Extension.name in
-    so (then c.in_ok-push-in-Extension.ensures (so c.in_ok-push-in-Extension-2.ensures c.as_str.ensures))
+    so (then c.in_ok-push-in-Extension.ensures (so e c.as_str.ensures))
     (shown g.row.N.Denot names c.args.base c.args.ty.now (Extension n) (under_cedar n.id.text) _ c.in-Extension.is
-    (variant_extension g.row.N.Denot names n) (extension_laid c.args.base n.id.text))
+    (variant_extension g.row.N.Denot names n) (extension_laid c.args.base n.id.text))) c.push-in-Extension-2.ensures
 
 pub push_record-returns : goal.push_record-returns
 push_record-returns g t c =
+    on_ok_weaker c.push-3.result (λ e.
     so (then c.in_ok-push-3.ensures
-    (then c.in_ok-push_entries.ensures (then c.in_ok-push_spaces-2.ensures c.in_ok-push-4.ensures)))
+    (then c.in_ok-push_entries.ensures (then c.in_ok-push_spaces-2.ensures e)))
     (sym (record_filled g.row.N.Denot g.N.NameText.components c.args.base c.args.entries.now
-    (sym c.is_empty.ensures ∙ c.if-is_empty.false)))
+    (sym c.is_empty.ensures ∙ c.if-is_empty.false)))) c.push-3.ensures
 
 pub push_entries-push_type-requires : goal.push_entries-push_type-requires
 push_entries-push_type-requires g t c κs within =
