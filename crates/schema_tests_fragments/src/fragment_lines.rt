@@ -1,18 +1,55 @@
-// A resolved fragment, found in a line piece by piece.
+// A fragment, translated or resolved, found in a line piece by piece.
 
-use cedar_data::Text;
-use cedar_identifiers::InternalName;
+use cedar_data::{Loc, Text};
+use cedar_identifiers::{Annotations, InternalName, NameText, RawName};
 use schema_json::{
-    ActionEntityUID, ActionType, ApplySpec, EntityType, EntityTypeKind, Fragment,
+    ActionEntityUID, ActionType, ApplySpec, CommonType, EntityType, EntityTypeKind, Fragment,
     NamespaceDefinition, StandardEntityType, Type, TypeOfAttribute, TypeVariant,
 };
 use schema_tests_lines::Wanted;
 
-// How many levels of types are looked at, which is more than any text of the table has.
+// How many levels of types are looked at, which is more than any text of the tables has.
 const LEVELS: usize = 100;
 
+/// The names of a fragment.
+pub trait Listed: NameText {
+    /// Whether lines have places, annotations and what is external, which a resolved fragment has from the one that it is made of.
+    const WHOLE: bool;
+
+    /// The name's components and its place.
+    fn name(&self) -> &InternalName;
+}
+
+impl Listed for RawName {
+    const WHOLE: bool = true;
+
+    fn name(&self) -> &InternalName {
+        &self.name
+    }
+}
+
+impl Listed for InternalName {
+    const WHOLE: bool = false;
+
+    fn name(&self) -> &InternalName {
+        self
+    }
+}
+
+fn find_place<N: Listed>(wanted: &mut Wanted<'_>, place: Option<Loc>) {
+    if N::WHOLE {
+        wanted.place(place);
+    }
+}
+
+fn find_mark<N: Listed>(wanted: &mut Wanted<'_>, mark: &str, holds: bool) {
+    if N::WHOLE && holds {
+        wanted.piece(mark);
+    }
+}
+
 // The components with `::` between two.
-fn find_name(wanted: &mut Wanted<'_>, name: &InternalName) {
+fn find_components(wanted: &mut Wanted<'_>, name: &InternalName) {
     wanted.piece(name.first.as_str());
     for id in name.others.as_slice() {
         wanted.piece("::");
@@ -20,44 +57,54 @@ fn find_name(wanted: &mut Wanted<'_>, name: &InternalName) {
     }
 }
 
-fn find_names(wanted: &mut Wanted<'_>, names: &[InternalName]) {
+// The name behind the mark of its kind, and its place.
+fn find_name<N: Listed>(wanted: &mut Wanted<'_>, mark: &str, name: &N) {
+    let name = name.name();
+    wanted.piece(mark);
+    find_components(wanted, name);
+    find_place::<N>(wanted, name.loc);
+}
+
+fn find_names<N: Listed>(wanted: &mut Wanted<'_>, names: &[N]) {
     for name in names {
-        wanted.piece(" ");
-        find_name(wanted, name);
+        find_name(wanted, " ", name);
     }
 }
 
-// A reference behind the word of its kind.
-fn find_reference(wanted: &mut Wanted<'_>, kind: &str, name: &InternalName) {
-    wanted.piece(kind);
-    find_name(wanted, name)
-}
-
-// An attribute's name, and whether each record has it.
-fn find_attribute(wanted: &mut Wanted<'_>, name: &str, required: bool) {
-    wanted.piece(" ");
-    wanted.piece(name);
-    if !required {
-        wanted.piece("?");
+fn find_notes<N: Listed>(wanted: &mut Wanted<'_>, notes: &Annotations) {
+    if N::WHOLE {
+        for (key, value) in notes.0.as_slice() {
+            wanted.piece(" #");
+            wanted.piece(key.as_str());
+            if let Some(value) = value {
+                wanted.piece("=");
+                wanted.piece(value.as_str());
+            }
+        }
     }
-    wanted.piece(":");
 }
 
-// A type.
-#[cycle(resolved)]
-fn find_type(wanted: &mut Wanted<'_>, ty: &Type<InternalName>, levels: usize) {
+// A type, down to so many levels.
+#[cycle(fragment)]
+fn find_type<N: Listed>(wanted: &mut Wanted<'_>, ty: &Type<N>, levels: usize) {
     if levels == 0 {
         return;
     }
     match ty {
-        Type::CommonTypeRef { type_name, .. } => find_reference(wanted, " c", type_name),
-        Type::Variant { ty, .. } => find_variant(wanted, ty, levels - 1),
+        Type::CommonTypeRef { type_name, loc } => {
+            find_name(wanted, " c", type_name);
+            find_place::<N>(wanted, *loc);
+        }
+        Type::Variant { ty, loc } => {
+            find_variant(wanted, ty, levels - 1);
+            find_place::<N>(wanted, *loc);
+        }
     }
 }
 
 // What a type is.
-#[cycle(resolved)]
-fn find_variant(wanted: &mut Wanted<'_>, ty: &TypeVariant<InternalName>, levels: usize) {
+#[cycle(fragment)]
+fn find_variant<N: Listed>(wanted: &mut Wanted<'_>, ty: &TypeVariant<N>, levels: usize) {
     if levels == 0 {
         return;
     }
@@ -70,16 +117,17 @@ fn find_variant(wanted: &mut Wanted<'_>, ty: &TypeVariant<InternalName>, levels:
         TypeVariant::Record(fields) => {
             find_fields(wanted, fields.attributes.as_slice(), levels - 1);
         }
-        TypeVariant::Entity { name } => find_reference(wanted, " e", name),
+        TypeVariant::EntityOrCommon { type_name } => find_name(wanted, " ", type_name),
+        TypeVariant::Entity { name } => find_name(wanted, " e", name),
         _ => wanted.piece(" other"),
     }
 }
 
 // The attributes of a record.
-#[cycle(resolved)]
-fn find_fields(
+#[cycle(fragment)]
+fn find_fields<N: Listed>(
     wanted: &mut Wanted<'_>,
-    fields: &[(Text, TypeOfAttribute<InternalName>)],
+    fields: &[(Text, TypeOfAttribute<N>)],
     levels: usize,
 ) {
     if levels == 0 {
@@ -87,13 +135,30 @@ fn find_fields(
     }
     wanted.piece(" {");
     for (name, attribute) in fields {
-        find_attribute(wanted, name.as_str(), attribute.required);
+        find_notes::<N>(wanted, &attribute.annotations);
+        wanted.piece(" ");
+        wanted.piece(name.as_str());
+        wanted.piece(if attribute.required { ":" } else { "?:" });
         find_type(wanted, &attribute.ty, levels - 1);
     }
     wanted.piece("}");
 }
 
-fn find_standard(wanted: &mut Wanted<'_>, standard: &StandardEntityType<InternalName>) {
+// A declared name behind its word, with what every declaration has.
+fn find_declared<N: Listed>(
+    wanted: &mut Wanted<'_>,
+    word: &str,
+    name: &str,
+    notes: &Annotations,
+    place: Option<Loc>,
+) {
+    find_notes::<N>(wanted, notes);
+    wanted.piece(word);
+    wanted.piece(name);
+    find_place::<N>(wanted, place);
+}
+
+fn find_standard<N: Listed>(wanted: &mut Wanted<'_>, standard: &StandardEntityType<N>) {
     find_names(wanted, standard.member_of_types.as_slice());
     find_type(wanted, &standard.shape.0, LEVELS);
     if let Some(tags) = &standard.tags {
@@ -102,7 +167,9 @@ fn find_standard(wanted: &mut Wanted<'_>, standard: &StandardEntityType<Internal
     }
 }
 
-fn find_entity(wanted: &mut Wanted<'_>, of: &EntityType<InternalName>) {
+fn find_entity<N: Listed>(wanted: &mut Wanted<'_>, name: &str, of: &EntityType<N>) {
+    find_mark::<N>(wanted, " external", of.external);
+    find_declared::<N>(wanted, " entity ", name, &of.annotations, of.loc);
     match &of.kind {
         EntityTypeKind::Enum { choices } => {
             wanted.piece(" enum");
@@ -115,14 +182,24 @@ fn find_entity(wanted: &mut Wanted<'_>, of: &EntityType<InternalName>) {
     }
 }
 
-// A parent: its type and its id.
-fn find_parent(wanted: &mut Wanted<'_>, parent: &ActionEntityUID<InternalName>) {
-    find_reference(wanted, " in ", parent.ty());
-    wanted.piece("=");
+// A parent: its type, where it has one, and its id.
+fn find_parent<N: Listed>(wanted: &mut Wanted<'_>, parent: &ActionEntityUID<N>) {
+    wanted.piece(" in ");
+    if let Some(ty) = &parent.ty {
+        find_name(wanted, "", ty);
+        wanted.piece("=");
+    }
     wanted.piece(parent.id.as_str());
 }
 
-fn find_applies(wanted: &mut Wanted<'_>, spec: &ApplySpec<InternalName>) {
+fn find_parents<N: Listed>(wanted: &mut Wanted<'_>, parents: &[ActionEntityUID<N>]) {
+    find_mark::<N>(wanted, " members", true);
+    for parent in parents {
+        find_parent(wanted, parent);
+    }
+}
+
+fn find_applies<N: Listed>(wanted: &mut Wanted<'_>, spec: &ApplySpec<N>) {
     wanted.piece(" principal");
     find_names(wanted, spec.principal_types.as_slice());
     wanted.piece(" resource");
@@ -131,47 +208,59 @@ fn find_applies(wanted: &mut Wanted<'_>, spec: &ApplySpec<InternalName>) {
     find_type(wanted, &spec.context.0, LEVELS)
 }
 
-fn find_action(wanted: &mut Wanted<'_>, of: &ActionType<InternalName>) {
+fn find_action<N: Listed>(wanted: &mut Wanted<'_>, name: &str, of: &ActionType<N>) {
+    find_mark::<N>(wanted, " external", of.external);
+    find_mark::<N>(wanted, " attributes", of.attributes.is_some());
+    find_declared::<N>(wanted, " action ", name, &of.annotations, of.loc);
     if let Some(parents) = &of.member_of {
-        for parent in parents.as_slice() {
-            find_parent(wanted, parent);
-        }
+        find_parents(wanted, parents.as_slice());
     }
-    match &of.applies_to {
-        Some(spec) => find_applies(wanted, spec),
-        None => {}
+    if let Some(spec) = &of.applies_to {
+        find_applies(wanted, spec);
     }
 }
 
-// A word and a declared name.
-fn find_declared(wanted: &mut Wanted<'_>, word: &str, name: &str) {
-    wanted.piece(word);
-    wanted.piece(name);
+fn find_common<N: Listed>(wanted: &mut Wanted<'_>, name: &str, of: &CommonType<N>) {
+    find_declared::<N>(wanted, " type ", name, &of.annotations, of.loc);
+    find_type(wanted, &of.ty, LEVELS)
 }
 
-fn find_definition(wanted: &mut Wanted<'_>, definition: &NamespaceDefinition<InternalName>) {
+fn find_definition<N: Listed>(wanted: &mut Wanted<'_>, definition: &NamespaceDefinition<N>) {
+    find_notes::<N>(wanted, &definition.annotations);
     for (name, of) in definition.common_types.as_slice() {
-        find_declared(wanted, " type ", name.id.as_str());
-        find_type(wanted, &of.ty, LEVELS);
+        find_common(wanted, name.id.as_str(), of);
     }
     for (name, of) in definition.entity_types.as_slice() {
-        find_declared(wanted, " entity ", name.as_str());
-        find_entity(wanted, of);
+        find_entity(wanted, name.as_str(), of);
     }
     for (name, of) in definition.actions.as_slice() {
-        find_declared(wanted, " action ", name.as_str());
-        find_action(wanted, of);
+        find_action(wanted, name.as_str(), of);
     }
 }
 
-/// The fragment is found next.
-pub fn find_fragment(wanted: &mut Wanted<'_>, fragment: &Fragment<InternalName>) {
-    for (name, definition) in fragment.0.as_slice() {
-        wanted.piece("[");
-        if let Some(name) = name {
-            find_name(wanted, &name.name);
-        }
-        find_definition(wanted, definition);
-        wanted.piece("]");
+// A namespace in brackets.
+fn find_namespace<N: Listed>(
+    wanted: &mut Wanted<'_>,
+    name: Option<&InternalName>,
+    definition: &NamespaceDefinition<N>,
+) {
+    wanted.piece("[");
+    if let Some(name) = name {
+        find_components(wanted, name);
+        find_place::<N>(wanted, name.loc);
     }
+    find_definition(wanted, definition);
+    wanted.piece("]");
+}
+
+/// Whether the answer says this fragment.
+pub fn says_fragment<N: Listed>(answer: &str, fragment: &Fragment<N>) -> bool {
+    let mut wanted = Wanted::new(answer);
+    for (name, definition) in fragment.0.as_slice() {
+        match name {
+            Some(name) => find_namespace(&mut wanted, Some(&name.name), definition),
+            None => find_namespace(&mut wanted, None, definition),
+        }
+    }
+    wanted.is_met()
 }

@@ -1,5 +1,5 @@
-//! What no contract says of fragments: what texts resolve to and how they are printed, compared with what a second program says, what names
-//! are declared and defined, what errors tell, and that calls succeed where memory is there.
+//! What no contract says of fragments: what texts are translated to, what they resolve to and how they are printed, compared with what a
+//! second program says, what names are declared and defined, what errors tell, and that calls succeed where memory is there.
 #![tactic(auto)]
 
 #[cfg(test)]
@@ -24,3 +24,7 @@ mod resolved_parts;
 mod resolved_table;
 #[cfg(test)]
 mod resolved_texts;
+#[cfg(test)]
+mod translated_table;
+#[cfg(test)]
+mod translated_texts;

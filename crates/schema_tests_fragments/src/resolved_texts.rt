@@ -1,6 +1,6 @@
 // What texts resolve to, or the first reference that means nothing, against tables.
 
-use crate::fragment_lines::find_fragment;
+use crate::fragment_lines::says_fragment;
 use crate::resolved_table::{refused_lines, resolved_lines};
 use cedar_data::CloneIn;
 use cedar_identifiers::{InternalName, NameText, RawName};
@@ -8,7 +8,7 @@ use cedar_names::ExtensionTable;
 use schema_convert::parse_cedar_schema_fragment;
 use schema_json::{ActionEntityUID, Fragment};
 use schema_resolve::{ResolveError, ResolveFragment};
-use schema_tests_lines::{Wanted, answer_and_text};
+use schema_tests_lines::answer_and_text;
 use std::alloc::{AllocError, Global};
 
 // Is the answer this text behind a mark?
@@ -38,13 +38,6 @@ fn says_copied_error(alloc: Global, answer: &str, error: &ResolveError) -> bool 
         Ok(copy) => says_error(alloc, answer, &copy),
         Err(_) => false,
     }
-}
-
-// Does the answer say the fragment?
-fn says_fragment(answer: &str, fragment: &Fragment<InternalName>) -> bool {
-    let mut wanted = Wanted::new(answer);
-    find_fragment(&mut wanted, fragment);
-    wanted.is_met()
 }
 
 // Does the answer say a copy of the fragment?

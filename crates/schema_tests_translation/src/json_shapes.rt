@@ -1,4 +1,4 @@
-use crate::shape_table::TEXTS;
+use crate::json_shape_table::TEXTS;
 use cedar_data::{NonEmpty, Text};
 use cedar_identifiers::RawName;
 use schema_json::Fragment;

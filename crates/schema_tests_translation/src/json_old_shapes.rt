@@ -1,5 +1,5 @@
-use crate::old_table::OLD_TEXTS;
-use crate::shapes::error_line;
+use crate::json_old_table::OLD_TEXTS;
+use crate::json_shapes::error_line;
 use cedar_identifiers::RawName;
 use schema_compat::FragmentDeprecated;
 use schema_json::Fragment;

@@ -1,4 +1,4 @@
-use crate::told_table::TOLD;
+use crate::json_told_table::TOLD;
 use cedar_data::Text;
 use cedar_identifiers::RawName;
 use schema_json::Fragment;

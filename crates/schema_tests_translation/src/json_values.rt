@@ -1,4 +1,4 @@
-use crate::value_table::VALUES;
+use crate::json_value_table::VALUES;
 use cedar_identifiers::RawName;
 use schema_json::Fragment;
 use schema_json_io::{FragmentJson, JsonDeserializationError, WriteJson};

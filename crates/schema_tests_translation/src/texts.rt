@@ -1,16 +1,13 @@
-// The faults, the warnings and the fragments of texts, and of their copies, against tables.
+// The faults and the warnings of texts, and of their copies, against tables.
 
 use crate::fault_lines::{find_faults, find_warnings};
-use crate::fragment_lines::find_fragment;
-use crate::table::{fault_lines, fragment_lines, warning_lines};
+use crate::table::{fault_lines, warning_lines};
 use cedar_data::CloneIn;
-use cedar_identifiers::RawName;
 use cedar_names::ExtensionTable;
 use schema_convert::{
     CedarSchemaParseErrors, SchemaWarning, ToJsonSchemaErrors, ToJsonSchemaFailure,
     cedar_schema_to_json_schema, parse_cedar_schema_fragment,
 };
-use schema_json::Fragment;
 use schema_syntax::parse_schema;
 use schema_tests_lines::{Wanted, answer_and_text, with_line_ends};
 use std::alloc::Global;
@@ -94,40 +91,6 @@ fn faults_and_warnings_agree_with_table(rt: HostRuntime) {
     assert!(rt; wrong.is_empty(), "{wrong}");
     let wrong = first_wrong(rt.alloc(), warning_lines());
     assert!(rt; wrong.is_empty(), "{wrong}");
-}
-
-// Does the answer say this fragment?
-fn says_fragment(answer: &str, fragment: &Fragment<RawName>) -> bool {
-    let mut wanted = Wanted::new(answer);
-    find_fragment(&mut wanted, fragment);
-    wanted.is_met()
-}
-
-// Does the answer say this fragment and its copy?
-fn says_both(alloc: Global, answer: &str, fragment: Fragment<RawName>) -> bool {
-    let copy = fragment.clone_in(alloc);
-    let said = says_fragment(answer, &fragment);
-    drop(fragment);
-    match copy {
-        Ok(copy) => said && says_fragment(answer, &copy),
-        Err(_) => false,
-    }
-}
-
-// Is the line's answer the fragment of its text?
-fn is_fragment(alloc: Global, line: &str) -> bool {
-    let (answer, text) = answer_and_text(line);
-    match parse_cedar_schema_fragment(alloc, text, &ExtensionTable::none(alloc)) {
-        Ok((fragment, _)) => says_both(alloc, answer, fragment),
-        Err(_) => false,
-    }
-}
-
-#[test]
-fn fragments_agree_with_table(rt: HostRuntime) {
-    for line in fragment_lines().lines() {
-        assert!(rt; is_fragment(rt.alloc(), line), "{line}");
-    }
 }
 
 // Is the one text's fragment like the other's, whatever its places?
