@@ -1,3 +1,2 @@
-pub mod EntriesAhead
 pub mod OldObjects
 pub mod OldWords

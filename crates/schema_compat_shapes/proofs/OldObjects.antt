@@ -6,8 +6,9 @@ use Rattle.schema_json_shapes.specs.declared.shape_fault.ShapeFault.{ShapeFault}
 use Rattle.schema_json_shapes.specs.Walk.{Demand, AllMet, wrong_type}
 use Rattle.schema_json_shapes.specs.Said.{IsOptional}
 use Rattle.schema_json_shapes.specs.Reads.{IsFault, Reads}
+use Rattle.schema_json_shapes.specs.Entries.{of_object}
 use Rattle.schema_json_shapes.proofs.Objects.{an_object}
-use Rattle.schema_compat_shapes.specs.OldWalk.{of_object, at_field}
+use Rattle.schema_compat_shapes.specs.OldWalk.{at_field}
 use Rattle.schema_compat_shapes.specs.OldParts.{InObject}
 
 pub not_an_object : (own : Members → List Demand) (n : List ℕ) (d : Data) (e : ShapeFault) → None ≡ as_object d

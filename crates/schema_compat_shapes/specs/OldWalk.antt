@@ -4,15 +4,16 @@
 -- inside a type are no parts of the walk.
 use Rattle.std.specs.Prelude.{ℕ, List, [], ◌∷◌, ◌++◌, codes, Option, Some, None}
 use Rattle.std.specs.Str.{chars}
-use Rattle.serde_json.specs.Data.{Data, string, object, Members, no_members, member}
+use Rattle.serde_json.specs.Data.{Data, string, Members}
 use Rattle.serde_json.specs.Find.{get_member}
 use Rattle.schema_json_shapes.specs.declared.shape_fault.ShapeFault.TheVariants.{MissingField, WrongType}
 use Rattle.schema_json_shapes.specs.Tables.{Field, needs, may_have}
-use Rattle.schema_json_shapes.specs.Walk.{Demand, unless, wrong_type, fits_table, key_demands, common_types}
+use Rattle.schema_json_shapes.specs.Walk.{Demand, unless, fits_table, key_demands, common_types}
 use Rattle.schema_json_shapes.specs.Walk.{entity_types}
 use Rattle.schema_json_shapes.specs.Walk.{names, keys, action_ids, or_null}
 use Rattle.schema_json_shapes.specs.Said.{not_null}
 use Rattle.schema_json_shapes.specs.Reads.{field_demands}
+use Rattle.schema_json_shapes.specs.Entries.{of_object, each_entry}
 
 -- ---- the fields of each object
 
@@ -34,22 +35,12 @@ abbrev pub old_applies_to_fields : List Field
 old_applies_to_fields =
     may_have (codes "resourceTypes") ∷ may_have (codes "principalTypes") ∷ may_have (codes "context") ∷ []
 
--- ---- objects
-
--- an object that keeps this
-abbrev pub of_object : (Members → List Demand) → List ℕ → Data → List Demand
-of_object own n (object ms) = own ms
-of_object own n _ = wrong_type n
+-- ---- fields
 
 -- what a field must keep, where it is there
 abbrev pub at_field : (List ℕ → Data → List Demand) → List ℕ → Option Data → List Demand
 at_field part n None = []
 at_field part n (Some d) = part n d
-
--- the entries of an object one by one
-abbrev pub each_entry : (List ℕ → Data → List Demand) → Members → List Demand
-each_entry part no_members = []
-each_entry part (member k d ms) = part k d ++ each_entry part ms
 
 -- ---- the walk
 

@@ -2,7 +2,8 @@
 ghost use Rattle.std.specs.Prelude.{◌≡◌};
 ghost use Rattle.serde_json.specs.View.{view, members_view};
 ghost use Rattle.schema_json_shapes.specs.Reads.{Reads};
-ghost use Rattle.schema_compat_shapes.specs.OldWalk.{of_object, old_entity_type_members};
+ghost use Rattle.schema_json_shapes.specs.Entries.{of_object};
+ghost use Rattle.schema_compat_shapes.specs.OldWalk.{old_entity_type_members};
 ghost use Rattle.schema_compat_shapes.specs.OldParts.{IsOldEntityType, IsOldEntityTypeIn};
 
 use crate::shapes::shape_at;

@@ -1,18 +1,16 @@
 // Fragments.
 ghost use Rattle.std.specs.Prelude.{◌≡◌, ◌⊎◌, MatchResult};
-ghost use Rattle.serde_json.specs.View.{view, members_view};
+ghost use Rattle.serde_json.specs.View.{view};
 ghost use Rattle.schema_json_shapes.specs.declared.shape_fault.ShapeFault.TheVariants.{Memory};
-ghost use Rattle.schema_json_shapes.specs.Said.{IsText, AreEntries};
-ghost use Rattle.schema_json_shapes.specs.Reads.{Reads};
-ghost use Rattle.schema_compat_shapes.specs.OldWalk.{each_entry, old_namespace_demands};
+ghost use Rattle.schema_json_shapes.specs.Said.{IsText};
+ghost use Rattle.schema_compat_shapes.specs.OldWalk.{old_namespace_demands};
 ghost use Rattle.schema_compat_shapes.specs.OldParts.{IsOldNamespace, IsOldRead, IsFirstOldFault};
 
 use crate::namespaces::read_namespace;
-use cedar_data::{Map, Text};
+use cedar_data::Text;
 use schema_compat_types::{NamespaceDefinition, SchemaFragment};
 use schema_json_shapes::ShapeFault;
-use schema_json_shapes::fields::Members;
-use schema_json_shapes::leaves::wrong_type;
+use schema_json_shapes::entries::{Entry, read_map};
 use serde_json::Value;
 use std::alloc::Global;
 
@@ -21,40 +19,30 @@ use std::alloc::Global;
 pub fn read_fragment(alloc: Global, value: &Value) -> Result<SchemaFragment, ShapeFault>
     ensures { MatchResult result (IsOldRead (view value.now)) (λ e. (e ≡ Memory) ⊎ IsFirstOldFault (view value.now) e) }
 {
-    match value.as_object() {
-        Some(members) => {
-            let entries = namespace_entries(alloc, members)?;
-            let namespaces = Map::from_entries(alloc, entries)?;
-            Ok(SchemaFragment(namespaces))
-        }
-        None => Err(wrong_type(alloc, "")),
-    }
+    let namespaces = read_map::<Namespaces>(alloc, value, "")?;
+    Ok(SchemaFragment(namespaces))
 }
 
-fn namespace_entries(
-    alloc: Global,
-    members: &Members,
-) -> Result<Vec<(Text, NamespaceDefinition)>, ShapeFault>
-    ensures { let ms = members_view members.now.entries in
-        Reads result (each_entry old_namespace_demands ms)
-        (λ entries. AreEntries IsText IsOldNamespace ms entries.items) }
-{
-    let mut entries = Vec::new(alloc);
-    for (key, value) in members {
-        let entry = namespace_entry(alloc, key.as_str(), value)?;
-        entries.push(entry)?;
-    }
-    Ok(entries)
-}
+// The entries of a fragment.
+struct Namespaces;
 
-fn namespace_entry(
-    alloc: Global,
-    key: &str,
-    value: &Value,
-) -> Result<(Text, NamespaceDefinition), ShapeFault>
-    ensures { Reads result (old_namespace_demands key.now (view value.now))
-        (λ entry. IsText key.now entry.0 × IsOldNamespace (view value.now) entry.1) }
-{
-    let definition = read_namespace(alloc, value, key)?;
-    Ok((Text::from_str(alloc, key)?, definition))
+impl Entry for Namespaces {
+    type Key = Text;
+
+    type Item = NamespaceDefinition;
+
+    ghost asks = { old_namespace_demands };
+
+    ghost is_key = { IsText };
+
+    ghost is_item = { IsOldNamespace };
+
+    fn read(
+        alloc: Global,
+        key: &str,
+        value: &Value,
+    ) -> Result<(Text, NamespaceDefinition), ShapeFault> {
+        let definition = read_namespace(alloc, value, key)?;
+        Ok((Text::from_str(alloc, key)?, definition))
+    }
 }

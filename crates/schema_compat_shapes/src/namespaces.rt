@@ -3,10 +3,11 @@ ghost use Rattle.std.specs.Prelude.{◌≡◌, codes};
 ghost use Rattle.serde_json.specs.View.{view, members_view};
 ghost use Rattle.serde_json.specs.Find.{get_member};
 ghost use Rattle.cedar_data.specs.Text.{text_cmp};
-ghost use Rattle.schema_json_shapes.specs.Said.{IsId, IsText, IsMap, IsMapOrNone, AreEntries};
+ghost use Rattle.schema_json_shapes.specs.Said.{IsId, IsText, IsMap, IsMapOrNone};
 ghost use Rattle.schema_json_shapes.specs.Shapes.{IsCommonId, id_order, common_id_order};
 ghost use Rattle.schema_json_shapes.specs.Reads.{Reads};
-ghost use Rattle.schema_compat_shapes.specs.OldWalk.{of_object, at_field, each_entry, old_action_demands, old_common_type_demands, old_entity_type_demands, old_namespace_demands, old_namespace_members};
+ghost use Rattle.schema_json_shapes.specs.Entries.{each_entry, of_object};
+ghost use Rattle.schema_compat_shapes.specs.OldWalk.{at_field, old_action_demands, old_common_type_demands, old_entity_type_demands, old_namespace_demands, old_namespace_members};
 ghost use Rattle.schema_compat_shapes.specs.OldParts.{IsOldType, IsOldEntityType, IsOldAction, IsOldNamespace, IsOldNamespaceIn};
 
 use crate::actions::read_action;
@@ -17,6 +18,7 @@ use cedar_data::{Map, Text};
 use cedar_identifiers::UnreservedId;
 use schema_compat_types::{ActionType, EntityType, NamespaceDefinition, SchemaType};
 use schema_json::CommonTypeId;
+use schema_json_shapes::entries::{Entry, read_map};
 use schema_json_shapes::fields::{Members, at, check_fields, needed};
 use schema_json_shapes::leaves::wrong_type;
 use schema_json_shapes::names::read_id;
@@ -60,33 +62,27 @@ fn read_actions(alloc: Global, value: &Value) -> Result<Map<Text, ActionType>, S
     ensures { Reads result (of_object (each_entry old_action_demands) (codes "actions") (view value.now))
         (IsMap text_cmp IsText IsOldAction (view value.now)) }
 {
-    match value.as_object() {
-        Some(members) => {
-            let entries = action_entries(alloc, members)?;
-            Ok(Map::from_entries(alloc, entries)?)
-        }
-        None => Err(wrong_type(alloc, "actions")),
-    }
+    read_map::<Actions>(alloc, value, "actions")
 }
 
-fn action_entries(alloc: Global, members: &Members) -> Result<Vec<(Text, ActionType)>, ShapeFault>
-    ensures { let ms = members_view members.now.entries in
-        Reads result (each_entry old_action_demands ms) (λ entries. AreEntries IsText IsOldAction ms entries.items) }
-{
-    let mut entries = Vec::new(alloc);
-    for (key, value) in members {
-        let entry = action_entry(alloc, key.as_str(), value)?;
-        entries.push(entry)?;
-    }
-    Ok(entries)
-}
+// The entries of `actions`.
+struct Actions;
 
-fn action_entry(alloc: Global, key: &str, value: &Value) -> Result<(Text, ActionType), ShapeFault>
-    ensures { Reads result (old_action_demands key.now (view value.now))
-        (λ entry. IsText key.now entry.0 × IsOldAction (view value.now) entry.1) }
-{
-    let action = read_action(alloc, value, key)?;
-    Ok((Text::from_str(alloc, key)?, action))
+impl Entry for Actions {
+    type Key = Text;
+
+    type Item = ActionType;
+
+    ghost asks = { old_action_demands };
+
+    ghost is_key = { IsText };
+
+    ghost is_item = { IsOldAction };
+
+    fn read(alloc: Global, key: &str, value: &Value) -> Result<(Text, ActionType), ShapeFault> {
+        let action = read_action(alloc, value, key)?;
+        Ok((Text::from_str(alloc, key)?, action))
+    }
 }
 
 fn common_types_at(
@@ -110,42 +106,32 @@ fn read_common_types(
     ensures { Reads result (of_object (each_entry old_common_type_demands) (codes "commonTypes") (view value.now))
         (IsMap common_id_order IsCommonId IsOldType (view value.now)) }
 {
-    match value.as_object() {
-        Some(members) => {
-            let entries = common_entries(alloc, members)?;
-            Ok(Map::from_entries(alloc, entries)?)
-        }
-        None => Err(wrong_type(alloc, "commonTypes")),
-    }
+    read_map::<CommonTypes>(alloc, value, "commonTypes")
 }
 
-fn common_entries(
-    alloc: Global,
-    members: &Members,
-) -> Result<Vec<(CommonTypeId, SchemaType)>, ShapeFault>
-    ensures { let ms = members_view members.now.entries in
-        Reads result (each_entry old_common_type_demands ms)
-        (λ entries. AreEntries IsCommonId IsOldType ms entries.items) }
-{
-    let mut entries = Vec::new(alloc);
-    for (key, value) in members {
-        let entry = common_entry(alloc, key.as_str(), value)?;
-        entries.push(entry)?;
-    }
-    Ok(entries)
-}
+// The entries of `commonTypes`.
+struct CommonTypes;
 
-fn common_entry(
-    alloc: Global,
-    key: &str,
-    value: &Value,
-) -> Result<(CommonTypeId, SchemaType), ShapeFault>
-    ensures { Reads result (old_common_type_demands key.now (view value.now))
-        (λ entry. IsCommonId key.now entry.0 × IsOldType (view value.now) entry.1) }
-{
-    let id = read_common_id(alloc, key)?;
-    let ty = read_type_value(alloc, value, key)?;
-    Ok((id, ty))
+impl Entry for CommonTypes {
+    type Key = CommonTypeId;
+
+    type Item = SchemaType;
+
+    ghost asks = { old_common_type_demands };
+
+    ghost is_key = { IsCommonId };
+
+    ghost is_item = { IsOldType };
+
+    fn read(
+        alloc: Global,
+        key: &str,
+        value: &Value,
+    ) -> Result<(CommonTypeId, SchemaType), ShapeFault> {
+        let id = read_common_id(alloc, key)?;
+        let ty = read_type_value(alloc, value, key)?;
+        Ok((id, ty))
+    }
 }
 
 fn read_entity_types(
@@ -155,40 +141,30 @@ fn read_entity_types(
     ensures { Reads result (of_object (each_entry old_entity_type_demands) (codes "entityTypes") (view value.now))
         (IsMap id_order IsId IsOldEntityType (view value.now)) }
 {
-    match value.as_object() {
-        Some(members) => {
-            let entries = entity_entries(alloc, members)?;
-            Ok(Map::from_entries(alloc, entries)?)
-        }
-        None => Err(wrong_type(alloc, "entityTypes")),
-    }
+    read_map::<EntityTypes>(alloc, value, "entityTypes")
 }
 
-fn entity_entries(
-    alloc: Global,
-    members: &Members,
-) -> Result<Vec<(UnreservedId, EntityType)>, ShapeFault>
-    ensures { let ms = members_view members.now.entries in
-        Reads result (each_entry old_entity_type_demands ms)
-        (λ entries. AreEntries IsId IsOldEntityType ms entries.items) }
-{
-    let mut entries = Vec::new(alloc);
-    for (key, value) in members {
-        let entry = entity_entry(alloc, key.as_str(), value)?;
-        entries.push(entry)?;
-    }
-    Ok(entries)
-}
+// The entries of `entityTypes`.
+struct EntityTypes;
 
-fn entity_entry(
-    alloc: Global,
-    key: &str,
-    value: &Value,
-) -> Result<(UnreservedId, EntityType), ShapeFault>
-    ensures { Reads result (old_entity_type_demands key.now (view value.now))
-        (λ entry. IsId key.now entry.0 × IsOldEntityType (view value.now) entry.1) }
-{
-    let id = read_id(alloc, NameRole::Id, key)?;
-    let entity = read_entity_type(alloc, value, key)?;
-    Ok((id, entity))
+impl Entry for EntityTypes {
+    type Key = UnreservedId;
+
+    type Item = EntityType;
+
+    ghost asks = { old_entity_type_demands };
+
+    ghost is_key = { IsId };
+
+    ghost is_item = { IsOldEntityType };
+
+    fn read(
+        alloc: Global,
+        key: &str,
+        value: &Value,
+    ) -> Result<(UnreservedId, EntityType), ShapeFault> {
+        let id = read_id(alloc, NameRole::Id, key)?;
+        let entity = read_entity_type(alloc, value, key)?;
+        Ok((id, entity))
+    }
 }

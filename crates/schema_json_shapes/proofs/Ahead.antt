@@ -8,7 +8,7 @@ use Rattle.serde_json.proofs.Views.{Entry}
 use Rattle.serde_json.specs.declared.value.Value.{Value}
 use Rattle.schema_json_shapes.specs.declared.shape_fault.ShapeFault.{ShapeFault}
 use Rattle.schema_json_shapes.specs.Walk.{Role, Demand, AllMet, demands, member_demands, item_demands}
-use Rattle.schema_json_shapes.specs.Said.{AreEntries, no_entry, next_entry, AreItems, no_item, next_item}
+use Rattle.schema_json_shapes.specs.Said.{AreItems, no_item, next_item}
 use Rattle.schema_json_shapes.specs.Reads.{IsFault}
 use Rattle.schema_json_shapes.proofs.Demands.{both_met, fails, passes}
 
@@ -45,28 +45,6 @@ module _ (key : List ℕ → List Demand) (role : List ℕ → Role) where
 
   pub none_left : (all : Members) → Left no_members all → AllMet (member_demands key role all)
   none_left all l = l.met tt
-
--- ---- entries of a map
-
-module _ {K V : Type 0} (Key : List ℕ → K → Type 0) (Value : Data → V → Type 0) where
-  -- what was found so far, before what is said by what is left
-  abbrev pub Found : Members → Members → List (K × V) → Type 0
-  Found left all found = (es : List (K × V)) → AreEntries Key Value left es → AreEntries Key Value all (found ++ es)
-
-  pub none_found : (ls fs : List Entry) (found : List (K × V)) → ls ≡ fs → found ≡ []
-      → Found (members_view ls) (members_view fs) found
-  none_found ls fs found same e =
-      λ es h. subst (λ ys. AreEntries Key Value (members_view fs) (ys ++ es)) (sym e)
-      (subst (λ xs. AreEntries Key Value (members_view xs) es) same h)
-
-  pub one_found : (k : List ℕ) (d : Data) (left all : Members) (found more : List (K × V)) (x : K × V)
-      → Found (member k d left) all found → Key k x.0 × Value d x.1 → more ≡ found ++ x ∷ [] → Found left all more
-  one_found k d left all found more x f h e = λ es g.
-      subst (AreEntries Key Value all) (sym (append_assoc found (x ∷ []) es) ∙ ap (λ ys. ys ++ es) (sym e))
-      (f (x ∷ es) (next_entry k d left x.0 x.1 es h.0 h.1 g))
-
-  pub all_found : (all : Members) (found : List (K × V)) → Found no_members all found → AreEntries Key Value all found
-  all_found all found f = subst (AreEntries Key Value all) (append-nil found) (f [] no_entry)
 
 -- ---- items of a list
 

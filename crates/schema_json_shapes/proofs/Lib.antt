@@ -2,6 +2,7 @@ pub mod Demands
 pub mod Order
 pub mod Tabled
 pub mod Ahead
+pub mod EntriesAhead
 pub mod NamespaceOrder
 pub mod KeyTexts
 pub mod EntityKinds

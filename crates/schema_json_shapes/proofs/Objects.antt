@@ -1,5 +1,6 @@
 -- Values that are objects or lists, and those that are not.
 use Rattle.std.proofs.Common.{◌≡◌, ℕ, List, [], ◌++◌, Option, Some, None, Result, refl, sym, ap, ◌∙◌, subst}
+use Rattle.std.proofs.Common.{append_assoc, append-nil}
 use Rattle.serde_json.specs.Data.{Data, null, boolean, number, string, array, object, Items, no_items, item, Members}
 use Rattle.serde_json.specs.Data.{no_members, member}
 use Rattle.serde_json.specs.Find.{as_object, as_array}
@@ -9,6 +10,7 @@ use Rattle.schema_json_shapes.specs.Walk.{number_demands, string_demands, array_
 use Rattle.schema_json_shapes.specs.Walk.{wrong_type, item_demands, item_role, member_demands, key_demands, member_role}
 use Rattle.schema_json_shapes.specs.Said.{not_null, IsOptional}
 use Rattle.schema_json_shapes.specs.Reads.{IsFault, Reads, field_demands}
+use Rattle.schema_json_shapes.specs.Entries.{of_object, each_entry, entry_demands}
 use Rattle.schema_json_shapes.proofs.Demands.{fails}
 
 -- a role of objects alone
@@ -125,3 +127,35 @@ mutual
   no_members_asked no_members = refl
   no_members_asked (member k d ms) = ap (λ x. x ++ member_demands (λ l. []) (λ l. ignored) ms) (nothing_asked k d)
       ∙ no_members_asked ms
+
+-- ---- objects whose members are read alike
+
+-- what is asked of the members is asked of them one by one
+pub each_asked : (key : List ℕ → List Demand) (role : Role) (ms : Members)
+    → each_entry (λ k d. key k ++ demands role k d) ms ≡ member_demands key (λ k. role) ms
+each_asked key role no_members = refl
+each_asked key role (member k d ms) =
+    append_assoc (key k) (demands role k d) (each_entry (λ l e. key l ++ demands role l e) ms)
+    ∙ ap (λ x. key k ++ (demands role k d ++ x)) (each_asked key role ms)
+
+-- a role of objects of such entries
+pub record OfEntries (r : Role) (n : List ℕ) : Type 0 where
+  pub only : OnlyObjects r n
+  pub items : item_role (bare r) ≡ ignored
+  pub own : (ms : Members) → each_entry (entry_demands r) ms ≡ demands r n (object ms)
+
+pub entries_asked : (r : Role) (n : List ℕ) → OfEntries r n → (d : Data)
+    → of_object (each_entry (entry_demands r)) n d ≡ demands r n d
+entries_asked r n o null = sym o.only.on_null
+entries_asked r n o (boolean b) = sym o.only.on_flag
+entries_asked r n o (number x) = sym o.only.on_number
+entries_asked r n o (string s) = sym (o.only.on_string s)
+entries_asked r n o (array ds) = sym (ap (λ x. array_demands (bare r) n ++ item_demands x n ds) o.items
+    ∙ (ap (λ x. array_demands (bare r) n ++ x) (no_items_asked n ds)
+    ∙ (append-nil (array_demands (bare r) n) ∙ o.only.on_array)))
+entries_asked r n o (object ms) = o.own ms
+
+-- what is read of the entries is read of the value
+pub reads_entries : {A : Type 0} (result : Result A ShapeFault) (r : Role) (n : List ℕ) (d : Data) (P : A → Type 0)
+    → OfEntries r n → Reads result (of_object (each_entry (entry_demands r)) n d) P → Reads result (demands r n d) P
+reads_entries result r n d P o h = subst (λ ds. Reads result ds P) (entries_asked r n o d) h

@@ -5,4 +5,5 @@ pub mod Inner
 pub mod EntityKinds
 pub mod Shapes
 pub mod Reads
+pub mod Entries
 pub mod Seen

@@ -5,6 +5,7 @@ pub mod actions;
 pub mod annotations;
 pub mod conflicts;
 pub mod entity_types;
+pub mod entries;
 pub mod fields;
 pub mod fragments;
 pub mod laws;

@@ -1,18 +1,20 @@
 // Namespaces and what they declare.
-ghost use Rattle.std.specs.Prelude.{◌≡◌, ◌++◌, codes, IfOk};
+ghost use Rattle.std.specs.Prelude.{◌≡◌, codes};
 ghost use Rattle.serde_json.specs.Data.{object};
 ghost use Rattle.serde_json.specs.View.{view, members_view};
 ghost use Rattle.serde_json.specs.Find.{get_member};
 ghost use Rattle.cedar_data.specs.Text.{text_cmp};
-ghost use Rattle.schema_json_shapes.specs.Walk.{namespace, common_types, entity_types, entity_type, actions as actions_role, action, typed, demands, key_demands, member_demands, object_demands};
-ghost use Rattle.schema_json_shapes.specs.Said.{IsId, IsText, IsMap, IsMapOrNone, AreEntries};
+ghost use Rattle.schema_json_shapes.specs.Walk.{namespace, common_types, entity_types, actions as actions_role, demands, key_demands, object_demands};
+ghost use Rattle.schema_json_shapes.specs.Said.{IsId, IsText, IsMap, IsMapOrNone};
 ghost use Rattle.schema_json_shapes.specs.Shapes.{IsCommonId, IsCommonType, IsEntityType, IsAction, IsNamespace, IsNamespaceIn, id_order, common_id_order};
 ghost use Rattle.schema_json_shapes.specs.Reads.{Reads, Any, field_demands};
+ghost use Rattle.schema_json_shapes.specs.Entries.{entry_demands};
 
 use crate::actions::read_action;
 use crate::annotations::annotations_at;
 use crate::conflicts::check_annotated;
 use crate::entity_types::read_entity_type;
+use crate::entries::{Entry, read_map};
 use crate::fields::{Members, at, check_fields, needed};
 use crate::leaves::wrong_type;
 use crate::name_role::NameRole;
@@ -77,41 +79,31 @@ fn read_actions(alloc: Global, value: &Value) -> Result<Map<Text, ActionType<Raw
     ensures { Reads result (demands actions_role (codes "actions") (view value.now))
         (IsMap text_cmp IsText IsAction (view value.now)) }
 {
-    match value.as_object() {
-        Some(members) => {
-            let entries = action_entries(alloc, members)?;
-            Ok(Map::from_entries(alloc, entries)?)
-        }
-        None => Err(wrong_type(alloc, "actions")),
-    }
+    read_map::<Actions>(alloc, value, "actions")
 }
 
-fn action_entries(
-    alloc: Global,
-    members: &Members,
-) -> Result<Vec<(Text, ActionType<RawName>)>, ShapeFault>
-    ensures { let ms = members_view members.now.entries in
-        Reads result (member_demands (key_demands actions_role) (λ k. action) ms)
-        (λ entries. AreEntries IsText IsAction ms entries.items) }
-{
-    let mut entries = Vec::with_capacity(alloc, members.len())?;
-    for (key, value) in members {
-        let entry = action_entry(alloc, key.as_str(), value)?;
-        entries.push(entry)?;
-    }
-    Ok(entries)
-}
+// The entries of `actions`.
+struct Actions;
 
-fn action_entry(
-    alloc: Global,
-    key: &str,
-    value: &Value,
-) -> Result<(Text, ActionType<RawName>), ShapeFault>
-    ensures { Reads result (key_demands actions_role key.now ++ demands action key.now (view value.now))
-        (λ entry. IsText key.now entry.0 × IsAction (view value.now) entry.1) }
-{
-    let action = read_action(alloc, value, key)?;
-    Ok((Text::from_str(alloc, key)?, action))
+impl Entry for Actions {
+    type Key = Text;
+
+    type Item = ActionType<RawName>;
+
+    ghost asks = { entry_demands actions_role };
+
+    ghost is_key = { IsText };
+
+    ghost is_item = { IsAction };
+
+    fn read(
+        alloc: Global,
+        key: &str,
+        value: &Value,
+    ) -> Result<(Text, ActionType<RawName>), ShapeFault> {
+        let action = read_action(alloc, value, key)?;
+        Ok((Text::from_str(alloc, key)?, action))
+    }
 }
 
 fn common_types_at(
@@ -135,42 +127,32 @@ fn read_common_types(
     ensures { Reads result (demands common_types (codes "commonTypes") (view value.now))
         (IsMap common_id_order IsCommonId IsCommonType (view value.now)) }
 {
-    match value.as_object() {
-        Some(members) => {
-            let entries = common_entries(alloc, members)?;
-            Ok(Map::from_entries(alloc, entries)?)
-        }
-        None => Err(wrong_type(alloc, "commonTypes")),
-    }
+    read_map::<CommonTypes>(alloc, value, "commonTypes")
 }
 
-fn common_entries(
-    alloc: Global,
-    members: &Members,
-) -> Result<Vec<(CommonTypeId, CommonType<RawName>)>, ShapeFault>
-    ensures { let ms = members_view members.now.entries in
-        Reads result (member_demands (key_demands common_types) (λ k. typed TypeSite.Common) ms)
-        (λ entries. AreEntries IsCommonId IsCommonType ms entries.items) }
-{
-    let mut entries = Vec::with_capacity(alloc, members.len())?;
-    for (key, value) in members {
-        let entry = common_entry(alloc, key.as_str(), value)?;
-        entries.push(entry)?;
-    }
-    Ok(entries)
-}
+// The entries of `commonTypes`.
+struct CommonTypes;
 
-fn common_entry(
-    alloc: Global,
-    key: &str,
-    value: &Value,
-) -> Result<(CommonTypeId, CommonType<RawName>), ShapeFault>
-    ensures { Reads result (key_demands common_types key.now ++ demands (typed TypeSite.Common) key.now (view value.now))
-        (λ entry. IsCommonId key.now entry.0 × IsCommonType (view value.now) entry.1) }
-{
-    let id = read_common_id(alloc, key)?;
-    let common = common_type(read_typed(alloc, value, key, TypeSite::Common)?);
-    Ok((id, common))
+impl Entry for CommonTypes {
+    type Key = CommonTypeId;
+
+    type Item = CommonType<RawName>;
+
+    ghost asks = { entry_demands common_types };
+
+    ghost is_key = { IsCommonId };
+
+    ghost is_item = { IsCommonType };
+
+    fn read(
+        alloc: Global,
+        key: &str,
+        value: &Value,
+    ) -> Result<(CommonTypeId, CommonType<RawName>), ShapeFault> {
+        let id = read_common_id(alloc, key)?;
+        let common = common_type(read_typed(alloc, value, key, TypeSite::Common)?);
+        Ok((id, common))
+    }
 }
 
 fn common_type(typed: Typed) -> CommonType<RawName>
@@ -206,40 +188,30 @@ fn read_entity_types(
     ensures { Reads result (demands entity_types (codes "entityTypes") (view value.now))
         (IsMap id_order IsId IsEntityType (view value.now)) }
 {
-    match value.as_object() {
-        Some(members) => {
-            let entries = entity_entries(alloc, members)?;
-            Ok(Map::from_entries(alloc, entries)?)
-        }
-        None => Err(wrong_type(alloc, "entityTypes")),
-    }
+    read_map::<EntityTypes>(alloc, value, "entityTypes")
 }
 
-fn entity_entries(
-    alloc: Global,
-    members: &Members,
-) -> Result<Vec<(UnreservedId, EntityType<RawName>)>, ShapeFault>
-    ensures { let ms = members_view members.now.entries in
-        Reads result (member_demands (key_demands entity_types) (λ k. entity_type) ms)
-        (λ entries. AreEntries IsId IsEntityType ms entries.items) }
-{
-    let mut entries = Vec::with_capacity(alloc, members.len())?;
-    for (key, value) in members {
-        let entry = entity_entry(alloc, key.as_str(), value)?;
-        entries.push(entry)?;
-    }
-    Ok(entries)
-}
+// The entries of `entityTypes`.
+struct EntityTypes;
 
-fn entity_entry(
-    alloc: Global,
-    key: &str,
-    value: &Value,
-) -> Result<(UnreservedId, EntityType<RawName>), ShapeFault>
-    ensures { Reads result (key_demands entity_types key.now ++ demands entity_type key.now (view value.now))
-        (λ entry. IsId key.now entry.0 × IsEntityType (view value.now) entry.1) }
-{
-    let id = read_id(alloc, NameRole::Id, key)?;
-    let entity = read_entity_type(alloc, value, key)?;
-    Ok((id, entity))
+impl Entry for EntityTypes {
+    type Key = UnreservedId;
+
+    type Item = EntityType<RawName>;
+
+    ghost asks = { entry_demands entity_types };
+
+    ghost is_key = { IsId };
+
+    ghost is_item = { IsEntityType };
+
+    fn read(
+        alloc: Global,
+        key: &str,
+        value: &Value,
+    ) -> Result<(UnreservedId, EntityType<RawName>), ShapeFault> {
+        let id = read_id(alloc, NameRole::Id, key)?;
+        let entity = read_entity_type(alloc, value, key)?;
+        Ok((id, entity))
+    }
 }

@@ -4,13 +4,14 @@ use Rattle.serde_json.specs.Find.{get_member}
 use Rattle.serde_json.specs.View.{members_view}
 use Rattle.schema_json_shapes.specs.Walk.{AllMet, fits_table}
 use Rattle.schema_json_shapes.specs.Reads.{IsFault}
+use Rattle.schema_json_shapes.specs.Entries.{of_object, each_entry}
 use Rattle.schema_json_shapes.proofs.Demands.{both_met, fails, passes, refused}
 use Rattle.std.proofs.Common.{inl, inr, refl}
 use Rattle.cedar_data.specs.Text.{text_cmp}
 use Rattle.schema_json_shapes.specs.Said.{IsMapOrNone, IsId, IsText}
 use Rattle.schema_json_shapes.specs.Shapes.{id_order}
 use Rattle.schema_json_shapes.proofs.Tabled.{none_missing, needed_there}
-use Rattle.schema_compat_shapes.specs.OldWalk.{at_field, of_object, each_entry, old_action_demands}
+use Rattle.schema_compat_shapes.specs.OldWalk.{at_field, old_action_demands}
 use Rattle.schema_compat_shapes.specs.OldWalk.{old_common_type_demands, old_entity_type_demands, old_namespace_fields}
 use Rattle.schema_compat_shapes.specs.OldWalk.{old_namespace_members}
 use Rattle.schema_compat_shapes.specs.OldParts.{IsOldEntityType, IsOldAction, IsOldNamespaceIn}

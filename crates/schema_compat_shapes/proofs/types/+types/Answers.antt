@@ -10,7 +10,7 @@ use Rattle.schema_json_shapes.proofs.Typed.{below, entry_below}
 use Rattle.schema_compat_shapes.specs.OldTypes.{are_all_attributes, reads_as_shape, SaysOldType, SaysOldVariant}
 use Rattle.schema_compat_shapes.specs.OldTypes.{old_string, old_long, old_boolean, old_set, old_variant, old_reference}
 use Rattle.schema_compat_shapes.specs.OldParts.{IsOldAttribute}
-use Rattle.schema_compat_shapes.proofs.EntriesAhead.{none_yet, one_more, all_read}
+use Rattle.schema_json_shapes.proofs.EntriesAhead.{none_yet, one_more, all_read}
 use Rattle.schema_compat_shapes.proofs.OldWords.{next_attribute, attributes_said, record_said}
 use Rattle.schema_compat_shapes.proofs.types.+types.Goals as goal
 

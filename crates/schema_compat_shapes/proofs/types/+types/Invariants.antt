@@ -5,7 +5,7 @@ use Rattle.serde_json.proofs.Views.{Entry}
 use Rattle.schema_json_shapes.specs.Said.{IsText}
 use Rattle.schema_compat_shapes.specs.OldTypes.{are_all_attributes}
 use Rattle.schema_compat_shapes.specs.OldParts.{IsOldAttribute}
-use Rattle.schema_compat_shapes.proofs.EntriesAhead.{EntriesAhead}
+use Rattle.schema_json_shapes.proofs.EntriesAhead.{EntriesAhead}
 use Rattle.schema_compat_shapes.proofs.types.+types.Given as goal
 
 abbrev pub decreases-read_type : goal.decreases-read_type

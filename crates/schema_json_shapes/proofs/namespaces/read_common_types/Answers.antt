@@ -1,11 +1,15 @@
 use Rattle.std.proofs.Common.{refl}
 use Rattle.std.specs.Prelude.{codes}
 use Rattle.serde_json.specs.View.{view}
-use Rattle.schema_json_shapes.specs.Walk.{common_types}
-use Rattle.schema_json_shapes.proofs.Objects.{no_object}
+use Rattle.schema_json_shapes.specs.declared.words.TypeSite.TheVariants as site
+use Rattle.schema_json_shapes.specs.Walk.{common_types, typed, key_demands}
+use Rattle.schema_json_shapes.proofs.Objects.{each_asked, reads_entries}
 use Rattle.schema_json_shapes.proofs.namespaces.read_common_types.Goals as goal
 
-pub returns-in-None : goal.returns-in-None
-returns-in-None c = no_object common_types (codes "commonTypes")
-    (record { on_null = refl; on_flag = refl; on_number = refl; on_string = λ s. refl; on_array = refl })
-    (view c.args.value.now) c.wrong_type.result c.in-None.ensures c.wrong_type.ensures
+pub returns : goal.returns
+returns c = reads_entries c.read_map.result common_types (codes "commonTypes") (view c.args.value.now) _
+    (record {
+      only = record { on_null = refl; on_flag = refl; on_number = refl; on_string = λ s. refl; on_array = refl };
+      items = refl;
+      own = each_asked (key_demands common_types) (typed site.Common);
+    }) c.read_map.ensures

@@ -10,7 +10,7 @@ use Rattle.schema_json_shapes.specs.Walk.{Demand, AllMet}
 use Rattle.schema_json_shapes.specs.Said.{AreEntries, no_entry, next_entry}
 use Rattle.schema_json_shapes.specs.Reads.{IsFault}
 use Rattle.schema_json_shapes.proofs.Demands.{both_met, fails, passes}
-use Rattle.schema_compat_shapes.specs.OldWalk.{each_entry}
+use Rattle.schema_json_shapes.specs.Entries.{each_entry}
 
 module _ {K V : Type 0} (part : List ℕ → Data → List Demand) (Key : List ℕ → K → Type 0)
     (Says : Data → V → Type 0) where

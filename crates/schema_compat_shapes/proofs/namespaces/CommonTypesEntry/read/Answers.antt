@@ -2,7 +2,7 @@ use Rattle.serde_json.specs.View.{view}
 use Rattle.schema_json_shapes.specs.Walk.{common_types, key_demands}
 use Rattle.schema_json_shapes.proofs.Demands.{fails, refused}
 use Rattle.schema_compat_shapes.specs.OldWalk.{old_type_demands, old_common_type_demands}
-use Rattle.schema_compat_shapes.proofs.namespaces.common_entry.Goals as goal
+use Rattle.schema_compat_shapes.proofs.namespaces.CommonTypesEntry.read.Goals as goal
 
 pub returns-in_err-id : goal.returns-in_err-id
 returns-in_err-id c =
