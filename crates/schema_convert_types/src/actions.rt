@@ -1,10 +1,11 @@
 ghost use Rattle.std.specs.Prelude.{◌≡◌, option_map, map, IfOk};
 ghost use Rattle.schema_convert_types.specs.Names.{raw_name_of};
 ghost use Rattle.schema_syntax_tree.specs.DeclaredNames.{action_names};
-ghost use Rattle.schema_convert_types.specs.Declarations.{reference_of, references_of, raw_names, member_types, context_of, with_types, with_member, with_members, applied_to_nothing, apply_spec_of, action_type_of};
+ghost use Rattle.schema_convert_types.specs.Declarations.{reference_of, references_of, member_types, context_of, with_types, with_member, with_members, applied_to_nothing, apply_spec_of, action_type_of};
 
 use crate::entities::nothing;
-use crate::names::raw_name;
+use crate::items::{Item, some};
+use crate::names::{Paths, raw_name};
 use crate::types::record_type;
 use cedar_data::{List, Loc, Node, NonEmpty, Text};
 use cedar_identifiers::{Annotations, RawName};
@@ -15,41 +16,35 @@ use schema_syntax_tree::{
 };
 use std::alloc::{AllocError, Global};
 
-// A parent of an action: its id, and its type where one was written.
-fn reference(
-    alloc: Global,
-    parent: Node<QualName<'_>>,
-) -> Result<ActionEntityUID<RawName>, AllocError>
-    ensures { IfOk result (λ out. out ≡ reference_of parent.entry) }
-{
-    let (QualName { path, eid }, _) = parent.into_inner();
-    let id = eid.to_text(alloc)?;
-    let ty = type_name(alloc, path)?;
-    Ok(ActionEntityUID { id, ty })
-}
-
 // The name of a type, where one was written.
-fn type_name(alloc: Global, path: Option<Path<'_>>) -> Result<Option<RawName>, AllocError>
-    ensures { IfOk result (λ name. name ≡ option_map raw_name_of path.entry) }
+fn type_name(alloc: Global, path: &Option<Path<'_>>) -> Result<Option<RawName>, AllocError>
+    ensures { IfOk result (λ name. name ≡ option_map raw_name_of path.now) }
 {
     match path {
         None => Ok(None),
-        Some(path) => Ok(Some(raw_name(alloc, &path)?)),
+        Some(path) => Ok(Some(raw_name(alloc, path)?)),
     }
 }
 
-// The parents.
-fn all_references(
-    alloc: Global,
-    parents: NonEmpty<Node<QualName<'_>>>,
-) -> Result<List<ActionEntityUID<RawName>>, AllocError>
-    ensures { IfOk result (λ out. out ≡ map reference_of parents.entry) }
-{
-    let mut references = Vec::with_capacity(alloc, 1)?;
-    for parent in parents {
-        references.push(reference(alloc, parent)?)?;
+// The parents of an action: of each its id, and its type where one was written.
+struct Parents;
+
+impl<'a> Item<'a> for Parents {
+    type Tree = Node<QualName<'a>>;
+
+    type Out = ActionEntityUID<RawName>;
+
+    ghost translation = { reference_of };
+
+    fn translate(
+        alloc: Global,
+        item: &Node<QualName<'a>>,
+    ) -> Result<ActionEntityUID<RawName>, AllocError> {
+        let QualName { path, eid } = &item.node;
+        let id = eid.to_text(alloc)?;
+        let ty = type_name(alloc, path)?;
+        Ok(ActionEntityUID { id, ty })
     }
-    Ok(List::from_vec(references))
 }
 
 // The parents, where some were written.
@@ -61,7 +56,7 @@ fn references(
 {
     match parents {
         None => Ok(None),
-        Some(parents) => Ok(Some(all_references(alloc, parents)?)),
+        Some(parents) => Ok(Some(List::from_vec(some::<Parents>(alloc, &parents)?))),
     }
 }
 
@@ -74,19 +69,8 @@ fn member_types(
 {
     match types {
         None => Ok(List::new(alloc)),
-        Some(paths) => some_types(alloc, paths),
+        Some(paths) => Ok(List::from_vec(some::<Paths>(alloc, &paths)?)),
     }
-}
-
-// The names of one or more types.
-fn some_types(alloc: Global, paths: NonEmpty<Path<'_>>) -> Result<List<RawName>, AllocError>
-    ensures { IfOk result (λ out. out ≡ raw_names paths.entry) }
-{
-    let mut names = Vec::with_capacity(alloc, 1)?;
-    for path in paths {
-        names.push(raw_name(alloc, &path)?)?;
-    }
-    Ok(List::from_vec(names))
 }
 
 // A context: a reference that must mean a common type, or a record.
@@ -232,15 +216,19 @@ pub fn action_type(
     }
 }
 
-// Texts of the names.
-fn texts_of(alloc: Global, names: &NonEmpty<Node<SrcStr<'_>>>) -> Result<Vec<Text>, AllocError>
-    ensures { IfOk result (λ texts. texts.items ≡ map (λ n. n.node) names.now) }
-{
-    let mut texts = Vec::with_capacity(alloc, 1)?;
-    for name in names.iter() {
-        texts.push(name.node.to_text(alloc)?)?;
+// The names of a declaration.
+struct Names;
+
+impl<'a> Item<'a> for Names {
+    type Tree = Node<SrcStr<'a>>;
+
+    type Out = Text;
+
+    ghost translation = { λ name. name.node };
+
+    fn translate(alloc: Global, item: &Node<SrcStr<'a>>) -> Result<Text, AllocError> {
+        item.node.to_text(alloc)
     }
-    Ok(texts)
 }
 
 /// The ids of the actions that the declaration declares, in order.
@@ -248,7 +236,7 @@ pub fn action_ids(alloc: Global, decl: &ActionDecl<'_>) -> Result<Vec<Text>, All
     ensures { IfOk result (λ ids. ids.items ≡ map (λ n. n.node) (action_names decl.now)) }
 {
     match decl {
-        ActionDecl::Defined(decl) => texts_of(alloc, &decl.names),
-        ActionDecl::External(decl) => texts_of(alloc, &decl.names),
+        ActionDecl::Defined(decl) => some::<Names>(alloc, &decl.names),
+        ActionDecl::External(decl) => some::<Names>(alloc, &decl.names),
     }
 }

@@ -1,7 +1,8 @@
 ghost use Rattle.std.specs.Prelude.{◌≡◌, IfOk};
 ghost use Rattle.schema_convert_types.specs.Declarations.{raw_names, nothing, entity_kind_of, entity_type_of, choices_of, is_external, tags_of};
 
-use crate::names::raw_name;
+use crate::items::{Item, all};
+use crate::names::Paths;
 use crate::types::{cedar_type_to_json_type, record_type};
 use cedar_data::{Boxed, List, Loc, Map, Node, NonEmpty};
 use cedar_identifiers::{Annotations, Eid, RawName};
@@ -14,27 +15,14 @@ use schema_syntax_tree::{
 };
 use std::alloc::{AllocError, Global};
 
-// The names of paths, in order, of which there are some. Mostly there are none, and no room is needed for these.
-#[inline(never)]
-fn each_raw_name(alloc: Global, paths: Vec<Path<'_>>) -> Result<List<RawName>, AllocError>
-    ensures { IfOk result (λ names. names ≡ raw_names paths.entry.items) }
-{
-    let mut names = Vec::with_capacity(alloc, paths.len())?;
-    for path in paths {
-        names.push(raw_name(alloc, &path)?)?;
-    }
-    Ok(List::from_vec(names))
-}
-
-// The names of paths, in order.
+// The names of paths, in order. Mostly there are none, and no room is needed for these.
 fn raw_names(alloc: Global, paths: List<Path<'_>>) -> Result<List<RawName>, AllocError>
     ensures { IfOk result (λ names. names ≡ raw_names paths.entry) }
 {
-    let paths = paths.into_vec();
-    if paths.is_empty() {
+    if paths.as_slice().is_empty() {
         return Ok(List::new(alloc));
     }
-    each_raw_name(alloc, paths)
+    Ok(List::from_vec(all::<Paths>(alloc, paths.as_slice())?))
 }
 
 /// The type of no attributes, which has no place.
@@ -66,22 +54,19 @@ fn tags_of(
     }
 }
 
-// An id of its own.
-fn eid_of(alloc: Global, choice: &Node<SrcStr<'_>>) -> Result<Eid, AllocError>
-    ensures { IfOk result (λ eid. eid.0 ≡ choice.now.node) }
-{
-    Ok(Eid(choice.node.to_text(alloc)?))
-}
+// The ids of an enumeration.
+struct Choices;
 
-// Ids of their own.
-fn eids_of(alloc: Global, choices: &[Node<SrcStr<'_>>]) -> Result<Vec<Eid>, AllocError>
-    ensures { IfOk result (λ eids. eids.items ≡ choices_of choices.now) }
-{
-    let mut eids = Vec::with_capacity(alloc, choices.len())?;
-    for choice in choices {
-        eids.push(eid_of(alloc, choice)?)?;
+impl<'a> Item<'a> for Choices {
+    type Tree = Node<SrcStr<'a>>;
+
+    type Out = Eid;
+
+    ghost translation = { λ choice. record { 0 = choice.node } };
+
+    fn translate(alloc: Global, item: &Node<SrcStr<'a>>) -> Result<Eid, AllocError> {
+        Ok(Eid(item.node.to_text(alloc)?))
     }
-    Ok(eids)
 }
 
 // The ids without their places.
@@ -91,9 +76,9 @@ fn choices_of(
 ) -> Result<NonEmpty<Eid>, AllocError>
     ensures { IfOk result (λ out. out ≡ choices_of choices.entry) }
 {
-    let (first, others) = choices.into_parts();
-    let first = eid_of(alloc, &first)?;
-    let others = eids_of(alloc, others.as_slice())?;
+    let (first, others) = choices.parts();
+    let first = Choices::translate(alloc, first)?;
+    let others = all::<Choices>(alloc, others)?;
     Ok(NonEmpty::from_parts(first, others))
 }
 

@@ -5,6 +5,7 @@ mod actions;
 mod entities;
 pub mod entries;
 pub mod into_variant;
+mod items;
 pub mod names;
 pub mod namespaces;
 mod room;

@@ -1,6 +1,7 @@
 ghost use Rattle.std.specs.Prelude.{◌≡◌, IfOk};
 ghost use Rattle.schema_convert_types.specs.Names.{internal_name_of, raw_name_of};
 
+use crate::items::{Item, all};
 use cedar_data::List;
 use cedar_identifiers::{Id, InternalName, RawName};
 use schema_syntax_tree::{Path, SrcId};
@@ -20,15 +21,19 @@ pub fn path_to_raw_name(alloc: Global, path: Path<'_>) -> Result<RawName, AllocE
     raw_name(alloc, &path)
 }
 
-// Ids of their own.
-fn own_ids(alloc: Global, ids: &[SrcId<'_>]) -> Result<Vec<Id>, AllocError>
-    ensures { IfOk result (λ copy. copy.items ≡ ids.now) }
-{
-    let mut copy = Vec::with_capacity(alloc, ids.len())?;
-    for id in ids {
-        copy.push(id.to_id(alloc)?)?;
+// The ids of a path.
+struct Ids;
+
+impl<'a> Item<'a> for Ids {
+    type Tree = SrcId<'a>;
+
+    type Out = Id;
+
+    ghost translation = { λ id. id };
+
+    fn translate(alloc: Global, item: &SrcId<'a>) -> Result<Id, AllocError> {
+        item.to_id(alloc)
     }
-    Ok(copy)
 }
 
 // The name of the path's ids, at its place.
@@ -38,7 +43,7 @@ pub(crate) fn internal_name(alloc: Global, path: &Path<'_>) -> Result<InternalNa
     let (first, others) = path.parts();
     Ok(InternalName {
         first: first.to_id(alloc)?,
-        others: List::from_vec(own_ids(alloc, others)?),
+        others: List::from_vec(all::<Ids>(alloc, others)?),
         loc: path.loc().copied(),
     })
 }
@@ -48,4 +53,19 @@ pub(crate) fn raw_name(alloc: Global, path: &Path<'_>) -> Result<RawName, AllocE
     ensures { IfOk result (λ name. name ≡ raw_name_of path.now) }
 {
     Ok(RawName::from_internal(internal_name(alloc, path)?))
+}
+
+/// Paths, as names that namespaces may still qualify.
+pub(crate) struct Paths;
+
+impl<'a> Item<'a> for Paths {
+    type Tree = Path<'a>;
+
+    type Out = RawName;
+
+    ghost translation = { raw_name_of };
+
+    fn translate(alloc: Global, item: &Path<'a>) -> Result<RawName, AllocError> {
+        raw_name(alloc, item)
+    }
 }
