@@ -7,12 +7,12 @@ ghost use Rattle.schema_build_checks.specs.Rows.{Never, OrMemory};
 use crate::declared_at::{declared_at, is_action_word};
 use crate::least::least;
 use cedar_identifiers::{InternalName, Name, RawName, UnreservedId};
-use schema_build_errors::{ActionEntityTypeDeclaredError, SchemaError};
+use schema_build_errors::{ActionEntityTypeDeclaredError, Refusal, SchemaError};
 use schema_json::{EntityType, Fragment};
 use std::alloc::{AllocError, Global};
 
 /// Refuses a fragment that declares an entity type with the name `Action`, at the place of the least of them.
-pub fn check_action_types(alloc: Global, fragment: &Fragment<RawName>) -> Result<(), SchemaError>
+pub fn check_action_types(alloc: Global, fragment: &Fragment<RawName>) -> Result<(), Refusal>
     ensures ok { OnOk result (Never (ActionTypeDeclared fragment.now)) }
     ensures err { IfErr result (OrMemory (ActionTypeDeclared fragment.now)) }
 {
@@ -21,9 +21,10 @@ pub fn check_action_types(alloc: Global, fragment: &Fragment<RawName>) -> Result
         push_called_actions(alloc, &mut found, ns, definition.entity_types.as_slice())?;
     }
     match least(found) {
-        Some(name) => Err(SchemaError::ActionEntityTypeDeclared(ActionEntityTypeDeclaredError {
-            loc: name.loc,
-        })),
+        Some(name) => {
+            let error = ActionEntityTypeDeclaredError { loc: name.loc };
+            Err(Refusal::new(alloc, SchemaError::ActionEntityTypeDeclared(error))?)
+        }
         None => Ok(()),
     }
 }

@@ -10,7 +10,7 @@ use crate::least::least;
 use cedar_data::{CloneIn, Text};
 use cedar_identifiers::{Eid, Name, RawName};
 use cedar_names::EntityUID;
-use schema_build_errors::{ActionShadowingError, SchemaError};
+use schema_build_errors::{ActionShadowingError, Refusal, SchemaError};
 use schema_json::action_uid::action_name;
 use schema_json::{ActionType, Fragment, NamespaceDefinition};
 use schema_resolve_definitions::declared::action_type;
@@ -23,7 +23,7 @@ pub fn check_action_shadowing(
     alloc: Global,
     fragment: &Fragment<RawName>,
     defs: &DeclaredDefs<'_>,
-) -> Result<(), SchemaError>
+) -> Result<(), Refusal>
     requires { tests_of defs.now ≡ tests_of (declared fragment.now) }
     ensures ok { OnOk result (Never (ActionHides fragment.now)) }
     ensures err { IfErr result (OrMemory (ActionHides fragment.now)) }
@@ -35,10 +35,11 @@ pub fn check_action_shadowing(
     match least(found) {
         Some(shadowing_def) => {
             let shadowed_def = plain_action(alloc, &shadowing_def.eid.0)?;
-            Err(SchemaError::ActionShadowing(ActionShadowingError {
+            let error = ActionShadowingError {
                 shadowed_def,
                 shadowing_def,
-            }))
+            };
+            Err(Refusal::new(alloc, SchemaError::ActionShadowing(error))?)
         }
         None => Ok(()),
     }

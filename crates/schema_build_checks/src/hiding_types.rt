@@ -11,7 +11,7 @@ use crate::declared_at::declared_at;
 use crate::least::least;
 use cedar_data::CloneIn;
 use cedar_identifiers::{Id, InternalName, Name, RawName, UnreservedId};
-use schema_build_errors::{SchemaError, TypeShadowingError};
+use schema_build_errors::{Refusal, SchemaError, TypeShadowingError};
 use schema_json::{CommonType, CommonTypeId, EntityType, Fragment, NamespaceDefinition};
 use schema_resolve_definitions::declared::alone;
 use schema_resolve_lookup::DeclaredDefs;
@@ -23,7 +23,7 @@ pub fn check_type_shadowing(
     alloc: Global,
     fragment: &Fragment<RawName>,
     defs: &DeclaredDefs<'_>,
-) -> Result<(), SchemaError>
+) -> Result<(), Refusal>
     requires { tests_of defs.now ≡ tests_of (declared fragment.now) }
     ensures ok { OnOk result (Never (TypeHides fragment.now)) }
     ensures err { IfErr result (OrMemory (TypeHides fragment.now)) }
@@ -35,10 +35,11 @@ pub fn check_type_shadowing(
     match least(found) {
         Some(shadowing_def) => {
             let shadowed_def = basename(alloc, &shadowing_def)?;
-            Err(SchemaError::TypeShadowing(TypeShadowingError {
+            let error = TypeShadowingError {
                 shadowed_def,
                 shadowing_def,
-            }))
+            };
+            Err(Refusal::new(alloc, SchemaError::TypeShadowing(error))?)
         }
         None => Ok(()),
     }

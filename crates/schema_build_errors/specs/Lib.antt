@@ -6,4 +6,5 @@ pub mod HierarchyTexts
 pub mod Joined
 pub mod CapturedTexts
 pub mod SchemaErrorTexts
+pub mod Refusals
 pub mod RecoveryTexts

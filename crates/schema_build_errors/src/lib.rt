@@ -8,6 +8,7 @@ pub mod hierarchy_errors;
 mod joining;
 mod places;
 pub mod recovery_error;
+pub mod refusal;
 pub mod schema_error;
 pub mod shape_errors;
 pub mod use_errors;
@@ -21,6 +22,7 @@ pub use hierarchy_errors::{
     EnumEntityInHierarchyError, ExternalWithEnumAncestorError, InvalidActionTypeError,
 };
 pub use recovery_error::{RecoveryError, ToTextError};
+pub use refusal::Refusal;
 pub use schema_error::SchemaError;
 pub use schema_json_errors::{JsonAdvice, JsonDeserializationError, JsonFault};
 pub use schema_resolve_errors::{ActionNotDefinedError, TypeNotDefinedError};

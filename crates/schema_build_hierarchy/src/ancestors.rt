@@ -16,7 +16,7 @@ use crate::ranks::ranks_of;
 use cedar_data::CloneIn;
 use cedar_identifiers::{NameText, RawName};
 use cedar_names::EntityUID;
-use schema_build_errors::{CycleInActionHierarchyError, SchemaError};
+use schema_build_errors::{CycleInActionHierarchyError, Refusal, SchemaError};
 use schema_build_graph::{closure, least_cyclic};
 use schema_resolve_lookup::{FragmentDefs, Recent};
 use std::alloc::{AllocError, Global};
@@ -96,7 +96,7 @@ pub fn check_action_cycle<'f>(
     alloc: Global,
     entries: &[ActionEntry<'f>],
     ancestors: &[Vec<usize>],
-) -> Result<(), SchemaError>
+) -> Result<(), Refusal>
     ghost g: { Tests × List (Declared ActionAt (ActionTold Raw ⟦<RawName as NameText>⟧)) }
     requires entries { AreActions g.1 entries.now }
     requires ancestors { AreAncestorRows (IsActionAncestor g.0 g.1) (map (λ e. action_key (action_of_entry e)) entries.now) ancestors.now }
@@ -110,9 +110,10 @@ pub fn check_action_cycle<'f>(
 }
 
 // The error that names this action.
-fn cycle_at(alloc: Global, uid: &EntityUID) -> Result<SchemaError, AllocError>
+fn cycle_at(alloc: Global, uid: &EntityUID) -> Result<Refusal, AllocError>
     ensures { IfOk result (IsCycleOf (at_of uid.now)) }
 {
     let uid = uid.clone_in(alloc)?;
-    Ok(SchemaError::CycleInActionHierarchy(CycleInActionHierarchyError { uid }))
+    let error = CycleInActionHierarchyError { uid };
+    Refusal::new(alloc, SchemaError::CycleInActionHierarchy(error))
 }

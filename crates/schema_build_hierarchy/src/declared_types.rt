@@ -18,7 +18,7 @@ use crate::parents::entity_target;
 use crate::use_finder::UseFinder;
 use cedar_data::{NonEmpty, same_bytes};
 use cedar_identifiers::{InternalName, Name, RawName};
-use schema_build_errors::{SchemaError, UndeclaredEntityTypesError};
+use schema_build_errors::{Refusal, SchemaError, UndeclaredEntityTypesError};
 use schema_json::Fragment;
 use schema_json_walk::laws::fragment_gives_what_its_parts_give;
 use schema_json_walk::{LentPart, Visitor, walk_fragment};
@@ -32,7 +32,7 @@ pub fn check_declared_types(
     alloc: Global,
     fragment: &Fragment<RawName>,
     defs: &FragmentDefs<'_>,
-) -> Result<(), SchemaError>
+) -> Result<(), Refusal>
     ghost table: { TableTold }
     requires { tests_of defs.now ≡ tests_of (defined fragment.now table) }
     ensures ok { OnOk result (Never (HasUndeclaredEntityTypes (tests_of defs.now) fragment.now)) }
@@ -42,9 +42,10 @@ pub fn check_declared_types(
     let uses = undeclared_uses(alloc, fragment, defs)?;
     let firsts = unreserved(alloc, first_uses(uses)?)?;
     match NonEmpty::from_vec(firsts) {
-        Some(types) => Err(SchemaError::UndeclaredEntityTypes(UndeclaredEntityTypesError {
-            types,
-        })),
+        Some(types) => {
+            let error = UndeclaredEntityTypesError { types };
+            Err(Refusal::new(alloc, SchemaError::UndeclaredEntityTypes(error))?)
+        }
         None => Ok(()),
     }
 }

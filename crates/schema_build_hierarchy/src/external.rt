@@ -11,7 +11,7 @@ ghost use Rattle.schema_build_hierarchy.specs.Rows.{HasExternalUnderEnum, IsUnde
 use crate::entries::EntityEntry;
 use cedar_data::CloneIn;
 use cedar_identifiers::{InternalName, Name, RawName};
-use schema_build_errors::{ExternalWithEnumAncestorError, SchemaError};
+use schema_build_errors::{ExternalWithEnumAncestorError, Refusal, SchemaError};
 use schema_build_graph::least_marked;
 use schema_json::{EntityType, EntityTypeKind};
 use std::alloc::{AllocError, Global};
@@ -22,7 +22,7 @@ pub fn check_external_types<'f>(
     alloc: Global,
     entries: &[EntityEntry<'f>],
     ancestors: &[Vec<usize>],
-) -> Result<(), SchemaError>
+) -> Result<(), Refusal>
     ghost g: { Tests × List DeclaredEntity }
     requires entries { AreEntities g.1 entries.now }
     requires ancestors { AreAncestorRows (IsAncestor g.0 g.1) (map (λ e. entity_name (entity_of e)) entries.now) ancestors.now }
@@ -62,7 +62,7 @@ fn is_enum(ty: &EntityType<RawName>) -> bool
 }
 
 // The error that names the external type, and the enumerated one without a place.
-fn external_under(alloc: Global, external: &Name, above: &Name) -> Result<SchemaError, AllocError>
+fn external_under(alloc: Global, external: &Name, above: &Name) -> Result<Refusal, AllocError>
     ensures { IfOk result (IsUnderEnum external.now.name (components_of above.now.name)) }
 {
     let external_type = external.clone_in(alloc)?;
@@ -72,8 +72,9 @@ fn external_under(alloc: Global, external: &Name, above: &Name) -> Result<Schema
         loc: None,
     };
     let enum_type = Name { name };
-    Ok(SchemaError::ExternalWithEnumAncestor(ExternalWithEnumAncestorError {
+    let error = ExternalWithEnumAncestorError {
         external_type,
         enum_type,
-    }))
+    };
+    Refusal::new(alloc, SchemaError::ExternalWithEnumAncestor(error))
 }

@@ -15,7 +15,7 @@ use crate::meant::entities_meant;
 use cedar_data::{CloneIn, List, Map};
 use cedar_identifiers::{Name, RawName};
 use cedar_names::EntityUID;
-use schema_build_errors::{ContextOrShape, ContextOrShapeNotRecordError, SchemaError};
+use schema_build_errors::{ContextOrShape, ContextOrShapeNotRecordError, Refusal, SchemaError};
 use schema_build_expand::laws::types_stand_for_one;
 use schema_build_hierarchy::ActionEntry;
 use schema_build_scope::laws::common_types_are_declared_once;
@@ -31,7 +31,7 @@ pub fn action_kinds(
     names: &FragmentNames<'_>,
     done: &[Option<BuiltType>],
     entries: &[ActionEntry<'_>],
-) -> Result<Vec<ValidatorActionKind>, SchemaError>
+) -> Result<Vec<ValidatorActionKind>, Refusal>
     requires known { IsAllKnown names.now.fragment names.now.table }
     requires entries { AreActions (declared_actions names.now.fragment) entries.now }
     requires done { AreExpanded (fragment_scope names.now.fragment names.now.table) done.now }
@@ -53,12 +53,12 @@ pub fn action_kinds(
 }
 
 // The error that names this action.
-fn no_context(alloc: Global, uid: &EntityUID) -> Result<SchemaError, AllocError>
+fn no_context(alloc: Global, uid: &EntityUID) -> Result<Refusal, AllocError>
     ensures { IfOk result (IsContextError uid.now) }
 {
     let ctx_or_shape = ContextOrShape::ActionContext(uid.clone_in(alloc)?);
     let error = ContextOrShapeNotRecordError { ctx_or_shape };
-    Ok(SchemaError::ContextOrShapeNotRecord(error))
+    Refusal::new(alloc, SchemaError::ContextOrShapeNotRecord(error))
 }
 
 // What is built for a declared action, unless its context is no record.

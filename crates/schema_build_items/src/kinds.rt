@@ -14,7 +14,7 @@ ghost use Rattle.schema_build_items.specs.NoRecord.{LacksShape, AreShapesRecords
 
 use cedar_data::{Boxed, CloneIn};
 use cedar_identifiers::{Name, RawName};
-use schema_build_errors::{ContextOrShape, ContextOrShapeNotRecordError, SchemaError};
+use schema_build_errors::{ContextOrShape, ContextOrShapeNotRecordError, Refusal, SchemaError};
 use schema_build_expand::laws::types_stand_for_one;
 use schema_build_hierarchy::EntityEntry;
 use schema_build_scope::laws::common_types_are_declared_once;
@@ -30,7 +30,7 @@ pub fn entity_kinds(
     names: &FragmentNames<'_>,
     done: &[Option<BuiltType>],
     entries: &[EntityEntry<'_>],
-) -> Result<Vec<ValidatorEntityTypeKind>, SchemaError>
+) -> Result<Vec<ValidatorEntityTypeKind>, Refusal>
     requires known { IsAllKnown names.now.fragment names.now.table }
     requires entries { AreEntities (declared_entities names.now.fragment) entries.now }
     requires done { AreExpanded (fragment_scope names.now.fragment names.now.table) done.now }
@@ -52,12 +52,12 @@ pub fn entity_kinds(
 }
 
 // The error that names this entity type.
-fn no_shape(alloc: Global, name: &Name) -> Result<SchemaError, AllocError>
+fn no_shape(alloc: Global, name: &Name) -> Result<Refusal, AllocError>
     ensures { IfOk result (IsShapeError name.now) }
 {
     let ctx_or_shape = ContextOrShape::EntityTypeShape(name.clone_in(alloc)?);
     let error = ContextOrShapeNotRecordError { ctx_or_shape };
-    Ok(SchemaError::ContextOrShapeNotRecord(error))
+    Refusal::new(alloc, SchemaError::ContextOrShapeNotRecord(error))
 }
 
 // What is built for a declared entity type, unless its shape is no record.

@@ -8,7 +8,7 @@ use schema_build_checks::{
     check_action_shadowing, check_action_types, check_extension_types, check_features,
     check_type_shadowing, has_fitting_parts,
 };
-use schema_build_errors::SchemaError;
+use schema_build_errors::Refusal;
 use schema_json::Fragment;
 use schema_resolve_lookup::DeclaredDefs;
 use std::alloc::Global;
@@ -20,7 +20,7 @@ pub fn check_declarations(
     alloc: Global,
     fragment: &Fragment<RawName>,
     table: &ExtensionTable,
-) -> Result<(), SchemaError>
+) -> Result<(), Refusal>
     ensures ok { OnOk result (Never (DeclarationFault fragment.now table.now)) }
     ensures err { IfErr result (OrMemory (DeclarationFault fragment.now table.now)) }
 {

@@ -11,7 +11,7 @@ ghost use Rattle.schema_build_hierarchy.specs.Parents.{entity_parents, action_pa
 ghost use Rattle.schema_build_parts.specs.BuildFaults.{HierarchyFault};
 
 use cedar_identifiers::{NameText, RawName};
-use schema_build_errors::SchemaError;
+use schema_build_errors::Refusal;
 use schema_build_hierarchy::{
     ActionEntry, EntityEntry, action_ancestors, check_action_cycle, check_external_types,
     entity_ancestors,
@@ -26,7 +26,7 @@ pub(crate) fn build_hierarchies(
     entities: &[EntityEntry<'_>],
     actions: &[ActionEntry<'_>],
     defs: &FragmentDefs<'_>,
-) -> Result<(Vec<Vec<usize>>, Vec<Vec<usize>>), SchemaError>
+) -> Result<(Vec<Vec<usize>>, Vec<Vec<usize>>), Refusal>
     ghost g: { Tests × (List DeclaredEntity × List (Declared ActionAt (ActionTold Raw ⟦<RawName as NameText>⟧))) }
     requires tests { g.0 ≡ tests_of defs.now }
     requires entities { AreEntities g.1.0 entities.now }

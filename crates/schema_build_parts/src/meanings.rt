@@ -15,7 +15,7 @@ use crate::hierarchies::build_hierarchies;
 use crate::parts::FragmentParts;
 use crate::types::build_types;
 use cedar_identifiers::{NameText, RawName};
-use schema_build_errors::SchemaError;
+use schema_build_errors::Refusal;
 use schema_build_hierarchy::laws::action_parents_are_declared;
 use schema_build_hierarchy::{actions_in_order, check_declared_types, entities_in_order};
 use schema_build_scope::FragmentNames;
@@ -28,7 +28,7 @@ pub(crate) fn build_meanings<'f>(
     alloc: Global,
     fragment: &'f Fragment<RawName>,
     names: &FragmentNames<'_>,
-) -> Result<FragmentParts<'f>, SchemaError>
+) -> Result<FragmentParts<'f>, Refusal>
     ghost g: { TableTold × (Tests × (List DeclaredEntity × List (Declared ActionAt (ActionTold Raw ⟦<RawName as NameText>⟧)))) }
     requires same { fragment.now ≡ names.now.fragment }
     requires table { g.0 ≡ names.now.table }

@@ -7,7 +7,7 @@ use crate::declarations::check_declarations;
 use crate::meanings::build_meanings;
 use cedar_identifiers::RawName;
 use cedar_names::ExtensionTable;
-use schema_build_errors::SchemaError;
+use schema_build_errors::Refusal;
 use schema_build_hierarchy::{ActionEntry, EntityEntry};
 use schema_build_scope::{FragmentNames, check_references};
 use schema_build_types::{ValidatorActionKind, ValidatorEntityTypeKind};
@@ -39,7 +39,7 @@ pub fn fragment_parts<'f>(
     alloc: Global,
     fragment: &'f Fragment<RawName>,
     table: &ExtensionTable,
-) -> Result<FragmentParts<'f>, SchemaError>
+) -> Result<FragmentParts<'f>, Refusal>
     ensures ok { OnOk result (Never (BuildFault fragment.now table.now)) }
     ensures parts { IfOk result (ArePartsOf fragment.now table.now) }
     ensures err { IfErr result (OrMemory (BuildFault fragment.now table.now)) }

@@ -9,7 +9,7 @@ ghost use Rattle.schema_build_items.specs.ActionKinds.{IsActionKindBuilt, tests_
 ghost use Rattle.schema_build_items.specs.Kinds.{IsKindBuilt};
 ghost use Rattle.schema_build_parts.specs.BuildFaults.{TypeFault};
 
-use schema_build_errors::SchemaError;
+use schema_build_errors::Refusal;
 use schema_build_hierarchy::{ActionEntry, EntityEntry};
 use schema_build_items::{action_kinds, entity_kinds};
 use schema_build_scope::{FragmentNames, expand_used_commons};
@@ -23,7 +23,7 @@ pub(crate) fn build_types(
     names: &FragmentNames<'_>,
     entities: &[EntityEntry<'_>],
     actions: &[ActionEntry<'_>],
-) -> Result<(Vec<ValidatorEntityTypeKind>, Vec<ValidatorActionKind>), SchemaError>
+) -> Result<(Vec<ValidatorEntityTypeKind>, Vec<ValidatorActionKind>), Refusal>
     requires known { IsAllKnown names.now.fragment names.now.table }
     requires entities { AreEntities (declared_entities names.now.fragment) entities.now }
     requires actions { AreActions (declared_actions names.now.fragment) actions.now }

@@ -17,7 +17,7 @@ use crate::lent_uses::used_types;
 use crate::names_in::NamesIn;
 use cedar_data::CloneIn;
 use cedar_identifiers::{InternalName, Name, RawName};
-use schema_build_errors::{CycleInCommonTypeReferencesError, SchemaError};
+use schema_build_errors::{CycleInCommonTypeReferencesError, Refusal, SchemaError};
 use schema_build_expand::{expand_type, expansions};
 use schema_build_graph::OrderFault;
 use schema_build_types::Type as BuiltType;
@@ -29,7 +29,7 @@ use std::alloc::{AllocError, Global};
 pub fn expand_used_commons(
     alloc: Global,
     names: &FragmentNames<'_>,
-) -> Result<Vec<Option<BuiltType>>, SchemaError>
+) -> Result<Vec<Option<BuiltType>>, Refusal>
     requires known { IsAllKnown names.now.fragment names.now.table }
     ensures expanded { IfOk result (λ done. AreExpanded (fragment_scope names.now.fragment names.now.table) done.items) }
     ensures ready { IfOk result (λ done. AreTypesReady names.now.fragment names.now.table done.items) }
@@ -40,7 +40,7 @@ pub fn expand_used_commons(
     match expand_lent(alloc, names, entries) {
         Ok(done) => Ok(done),
         Err(OrderFault::Cycle(rank)) => Err(common_cycle(alloc, entries, rank)?),
-        Err(OrderFault::Memory) => Err(SchemaError::Memory),
+        Err(OrderFault::Memory) => Err(Refusal::memory()),
     }
 }
 
@@ -103,13 +103,13 @@ fn common_cycle(
     alloc: Global,
     entries: &[(InternalName, LentType<'_>)],
     rank: usize,
-) -> Result<SchemaError, AllocError>
+) -> Result<Refusal, AllocError>
     requires { rank < length entries.now }
     ensures { IfOk result (NamesCycleAt entries.now rank) }
 {
     let ty = entries[rank].0.clone_in(alloc)?;
     let error = CycleInCommonTypeReferencesError { ty };
-    Ok(SchemaError::CycleInCommonTypeReferences(error))
+    Refusal::new(alloc, SchemaError::CycleInCommonTypeReferences(error))
 }
 
 /// What a type stands for that is written in this namespace, where each of its parts can be expanded. It errs where

@@ -5,7 +5,7 @@ ghost use Rattle.schema_build_scope.specs.UndefinedRows.{HasUndefinedTypes, HasU
 
 use crate::fragment_names::FragmentNames;
 use cedar_data::NonEmpty;
-use schema_build_errors::SchemaError;
+use schema_build_errors::{Refusal, SchemaError};
 use schema_resolve::{
     ActionNotDefinedError, TypeNotDefinedError, UndefinedReferences, gather_undefined,
 };
@@ -13,7 +13,7 @@ use std::alloc::Global;
 
 /// Refuses a fragment with references to types that mean nothing, and names them all in the order of the walk; else one
 /// with references to actions that mean nothing, and names all of those.
-pub fn check_references(alloc: Global, names: &FragmentNames<'_>) -> Result<(), SchemaError>
+pub fn check_references(alloc: Global, names: &FragmentNames<'_>) -> Result<(), Refusal>
     ensures types { OnOk result (Never (HasUndefinedTypes names.now.fragment names.now.table)) }
     ensures actions { OnOk result (Never (HasUndefinedActions names.now.fragment names.now.table)) }
     ensures err { IfErr result (OrMemory (OrElse (HasUndefinedTypes names.now.fragment names.now.table) (HasUndefinedActions names.now.fragment names.now.table))) }
@@ -22,10 +22,13 @@ pub fn check_references(alloc: Global, names: &FragmentNames<'_>) -> Result<(), 
     let UndefinedReferences { types, actions } = found;
     if let Some(undefined_types) = NonEmpty::from_vec(types) {
         let error = TypeNotDefinedError { undefined_types };
-        return Err(SchemaError::TypeNotDefined(error));
+        return Err(Refusal::new(alloc, SchemaError::TypeNotDefined(error))?);
     }
     match NonEmpty::from_vec(actions) {
-        Some(uids) => Err(SchemaError::ActionNotDefined(ActionNotDefinedError(uids))),
+        Some(uids) => {
+            let error = ActionNotDefinedError(uids);
+            Err(Refusal::new(alloc, SchemaError::ActionNotDefined(error))?)
+        }
         None => Ok(()),
     }
 }

@@ -13,11 +13,12 @@ returns-in-Ok-clause-ok c = λ e h.
     c.in-Ok.ensures.taken)
     e h
 
-pub returns-in-Err-First-clause-err : goal.returns-in-Err-First-clause-err
-returns-in-Err-First-clause-err c =
+pub returns-in_ok-unknown-in-Err-First-clause-err : goal.returns-in_ok-unknown-in-Err-First-clause-err
+returns-in_ok-unknown-in-Err-First-clause-err c =
     let parts = fragment_parts c.args.fragment.now in
     let first = first_at (λ v e. unknown_extension v.table.now e.1) _ parts c.in-Err-First.field-0 c.in-Err-First.id
     c.in-Err-First.field-0-is c.in-Err-First.ensures.refused in
-    inr (subst (λ l. IsAboutFirst NamesExtension l c.unknown.result)
+    let told = c.in_ok-unknown-in-Err-First.field-0 in
+    inr (subst (λ l. IsAboutFirst NamesExtension l told)
     (sym (c.fragment_gives_what_its_parts_give.ensures (λ ns part. unknown_extension c.args.table.now part)))
-    (about_first NamesExtension _ c.in-Err-First.id c.unknown.result first c.unknown.ensures))
+    (about_first NamesExtension _ c.in-Err-First.id told first c.in_ok-unknown-in-Err-First.ensures))

@@ -1,4 +1,4 @@
-use Rattle.std.proofs.Common.{◌≡◌, [], map, refl, sym, ap, ◌∙◌, subst, inr}
+use Rattle.std.proofs.Common.{◌≡◌, [], map, sym, ap, ◌∙◌, subst, inr}
 use Rattle.std.proofs.lemmas.List.Elements.{All-weaker, All-contains}
 use Rattle.cedar_names.specs.Orders.{names_in_order}
 use Rattle.cedar_identifiers.specs.declared.name.Name.{Name}
@@ -19,15 +19,15 @@ unreserved-requires g c =
     All-weaker (IsFirstUse names_in_order uses) Free
     (λ x h. All-contains Free uses x free (first_contained names_in_order uses x h)) made firsts.first
 
-pub returns-in-Some-clause-err : goal.returns-in-Some-clause-err
-returns-in-Some-clause-err g c =
+pub returns-in_ok-new-in-Some-clause-err : goal.returns-in_ok-new-in-Some-clause-err
+returns-in_ok-new-in-Some-clause-err g c =
     let uses = undeclared_uses (tests_of c.args.defs.now) c.args.fragment.now in
     let made = c.in_ok-first_uses.field-0.items in
     let firsts : AreFirstUses names_in_order uses made =
     subst (λ l. AreFirstUses names_in_order l made) c.in_ok-uses.ensures c.in_ok-first_uses.ensures in
     let same = ap (map (λ (n : Name). n.name)) c.in-Some.ensures.some.0 ∙ c.in_ok-firsts.ensures in
     let held = subst (AreFirstUses names_in_order uses) (sym same) firsts in
-    inr (record { types = c.in-Some.types }, refl, held, c.in-Some.ensures.some.1)
+    inr (record { types = c.in-Some.types }, c.in_ok-new-in-Some.ensures, held, c.in-Some.ensures.some.1)
 
 pub returns-in-None-clause-ok : goal.returns-in-None-clause-ok
 returns-in-None-clause-ok g c = λ e h.
