@@ -36,12 +36,13 @@ fn entity<'a>(
     let parents = all::<Paths>(alloc, text, parents)?;
     let attrs = shape(alloc, text, shape_raw)?;
     let tags = tags(alloc, text, tags_raw)?;
-    Ok(Declaration::Entity(EntityDecl::Standard(StandardEntityDecl {
+    let decl = EntityDecl::Standard(StandardEntityDecl {
         names,
         member_of_types: List::from_vec(parents),
         attrs,
         tags,
-    })))
+    });
+    Ok(Declaration::Entity(Boxed::new(alloc, decl)?))
 }
 
 // Entity types of listed ids.
@@ -61,7 +62,8 @@ fn listed<'a>(
         return Err(empty_list(alloc, brackets));
     };
     let choices = some::<Choices>(alloc, text, choices)?;
-    Ok(Declaration::Entity(EntityDecl::Enum(EnumEntityDecl { names, choices })))
+    let decl = EntityDecl::Enum(EnumEntityDecl { names, choices });
+    Ok(Declaration::Entity(Boxed::new(alloc, decl)?))
 }
 
 // Entity types of another schema.
@@ -77,10 +79,11 @@ fn external_entity<'a>(
 {
     let names = some::<Ids>(alloc, text, names)?;
     let parents = all::<Paths>(alloc, text, parents)?;
-    Ok(Declaration::Entity(EntityDecl::External(ExternalEntityDecl {
+    let decl = EntityDecl::External(ExternalEntityDecl {
         names,
         member_of_types: List::from_vec(parents),
-    })))
+    });
+    Ok(Declaration::Entity(Boxed::new(alloc, decl)?))
 }
 
 // Actions.
@@ -138,7 +141,8 @@ fn common<'a>(
 {
     let name = id_node(alloc, text, &name)?;
     let def = ty(alloc, text, raw)?;
-    Ok(Declaration::Common(TypeDecl { name, def }))
+    let decl = TypeDecl { name, def };
+    Ok(Declaration::Common(Boxed::new(alloc, decl)?))
 }
 
 // A declaration without its annotations. Each kind but the most frequent stands by itself, so that no other needs room for

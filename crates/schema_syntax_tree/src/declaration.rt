@@ -7,9 +7,9 @@ use std::alloc::{AllocError, Global};
 /// A declaration: of entity types, of actions or of a common type.
 #[derive(Drop)]
 pub enum Declaration<'a> {
-    Entity(EntityDecl<'a>),
+    Entity(Boxed<EntityDecl<'a>>),
     Action(Boxed<ActionDecl<'a>>),
-    Common(TypeDecl<'a>),
+    Common(Boxed<TypeDecl<'a>>),
 }
 
 impl<'a> CloneIn for Declaration<'a> {
