@@ -1,6 +1,11 @@
-//! What no contract says of schema texts: their tokens, trees, faults and messages, compared with what a second program says.
+//! What no contract says of plain data, of devices, of names and of tables of extensions; and of schema texts, their tokens, trees, faults and
+//! messages, compared with what a second program says.
 #![tactic(auto)]
 
+#[cfg(test)]
+mod data;
+#[cfg(test)]
+mod devices;
 #[cfg(test)]
 mod error_lines;
 #[cfg(test)]
@@ -10,6 +15,8 @@ mod fault_table;
 #[cfg(test)]
 mod grammar;
 #[cfg(test)]
+mod identifiers;
+#[cfg(test)]
 mod lent;
 #[cfg(test)]
 mod letters;
@@ -17,6 +24,10 @@ mod letters;
 mod message_table;
 #[cfg(test)]
 mod messages;
+#[cfg(test)]
+mod name_table;
+#[cfg(test)]
+mod names;
 #[cfg(test)]
 mod sentence_table;
 #[cfg(test)]

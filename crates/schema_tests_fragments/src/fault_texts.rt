@@ -1,7 +1,7 @@
 // The faults and the warnings of texts, and of their copies, against tables.
 
 use crate::fault_lines::{find_faults, find_warnings};
-use crate::table::{fault_lines, warning_lines};
+use crate::fault_table::{fault_lines, warning_lines};
 use cedar_data::CloneIn;
 use cedar_names::ExtensionTable;
 use schema_convert::{
