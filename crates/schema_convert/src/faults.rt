@@ -243,7 +243,7 @@ fn push_reserved(
     let Declaration::Entity(decl) = decl else {
         return Ok(());
     };
-    for name in decl.get().names() {
+    for name in decl.names() {
         let fault = reserved_id(alloc, name)?;
         push_fault(faults, fault)?;
     }

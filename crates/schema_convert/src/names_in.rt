@@ -24,7 +24,7 @@ fn push_entities<'a, 's>(
     ensures { OnOk result (map (λ x. x.now) names.new.items ≡ map (λ x. x.now) names.old.items ++ entities_of decl.now) }
 {
     match decl {
-        Declaration::Entity(decl) => push_all(names, decl.get().names()),
+        Declaration::Entity(decl) => push_all(names, decl.names()),
         _ => Ok(()),
     }
 }
@@ -53,7 +53,7 @@ fn push_common<'a, 's>(
     ensures { OnOk result (map (λ x. x.now) names.new.items ≡ map (λ x. x.now) names.old.items ++ commons_of decl.now) }
 {
     if let Declaration::Common(decl) = decl {
-        names.push(&decl.get().name)?;
+        names.push(&decl.name)?;
     }
     Ok(())
 }

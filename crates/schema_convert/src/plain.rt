@@ -42,11 +42,10 @@ pub fn is_plain(
     ensures { IfOk result (λ plain. plain ≡ true → IsPlain table.now decl.now) }
 {
     match decl {
-        Declaration::Entity(decl) => Ok(are_free(table, decl.get().names())),
+        Declaration::Entity(decl) => Ok(are_free(table, decl.names())),
         Declaration::Action(_) => Ok(action_fault(alloc, decl)?.is_none()),
         Declaration::Common(decl) => {
-            let name = &decl.get().name;
-            Ok(is_free(table, name) && !is_keyword_name(name.node.as_str()))
+            Ok(is_free(table, &decl.name) && !is_keyword_name(decl.name.node.as_str()))
         }
     }
 }

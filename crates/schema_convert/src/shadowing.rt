@@ -170,7 +170,7 @@ fn push_taken_of<'a, 's>(
     let Declaration::Entity(decl) = decl else {
         return Ok(());
     };
-    for name in decl.get().names() {
+    for name in decl.names() {
         if is_taken(table, name.node.as_str()) {
             taken.push(name)?;
         }

@@ -106,13 +106,13 @@ fn push_entity(
     alloc: Global,
     entries: &mut Vec<(UnreservedId, EntityType<RawName>)>,
     name: Option<UnreservedId>,
-    decl: Boxed<EntityDecl<'_>>,
+    decl: EntityDecl<'_>,
     annotations: Annotations,
     loc: Option<Loc>,
 ) -> Result<(), AllocError>
     ensures { OnOk result (entries.new.items ≡ entries.old.items ++ each_with (entity_type_of decl.entry annotations loc) (option_to_list name)) }
 {
-    let of = entity_type(alloc, decl.into_inner(), annotations, loc)?;
+    let of = entity_type(alloc, decl, annotations, loc)?;
     if let Some(name) = name {
         entries.push((name, of))?;
     }
@@ -124,14 +124,14 @@ fn push_entity(
 fn push_each_entity(
     alloc: Global,
     entries: &mut Vec<(UnreservedId, EntityType<RawName>)>,
-    decl: Boxed<EntityDecl<'_>>,
+    decl: EntityDecl<'_>,
     annotations: Annotations,
     loc: Option<Loc>,
 ) -> Result<(), AllocError>
     ensures { OnOk result (entries.new.items ≡ entries.old.items ++ entity_entries_of (Declaration.Entity decl.entry) annotations loc) }
 {
-    let names = declarable(alloc, decl.get().names())?;
-    let of = entity_type(alloc, decl.into_inner(), annotations, loc)?;
+    let names = declarable(alloc, decl.names())?;
+    let of = entity_type(alloc, decl, annotations, loc)?;
     push_each(alloc, entries, names, of)
 }
 
@@ -139,13 +139,13 @@ fn push_each_entity(
 fn push_entities(
     alloc: Global,
     entries: &mut Vec<(UnreservedId, EntityType<RawName>)>,
-    decl: Boxed<EntityDecl<'_>>,
+    decl: EntityDecl<'_>,
     annotations: Annotations,
     loc: Option<Loc>,
 ) -> Result<(), AllocError>
     ensures { OnOk result (entries.new.items ≡ entries.old.items ++ entity_entries_of (Declaration.Entity decl.entry) annotations loc) }
 {
-    match only_name(decl.get()) {
+    match only_name(&decl) {
         None => push_each_entity(alloc, entries, decl, annotations, loc),
         Some(name) => {
             let name = unreserved_copy(alloc, &name.node)?;
@@ -159,14 +159,14 @@ fn push_entities(
 fn push_actions(
     alloc: Global,
     entries: &mut Vec<(Text, ActionType<RawName>)>,
-    decl: Boxed<ActionDecl<'_>>,
+    decl: ActionDecl<'_>,
     annotations: Annotations,
     loc: Option<Loc>,
 ) -> Result<(), AllocError>
     ensures { OnOk result (entries.new.items ≡ entries.old.items ++ action_entries_of (Declaration.Action decl.entry) annotations loc) }
 {
-    let names = action_ids(alloc, decl.get())?;
-    let of = action_type(alloc, decl.into_inner(), annotations, loc)?;
+    let names = action_ids(alloc, &decl)?;
+    let of = action_type(alloc, decl, annotations, loc)?;
     push_each(alloc, entries, names, of)
 }
 
@@ -212,16 +212,16 @@ pub fn push_declared<'a>(
             push_entities(alloc, &mut entries.entities, decl, annotations, loc)
         }
         Declaration::Action(decl) => {
-            push_actions(alloc, &mut entries.actions, decl, annotations, loc)
-        }
-        Declaration::Common(decl) => {
-            push_common(
+            push_actions(
                 alloc,
-                &mut entries.commons,
+                &mut entries.actions,
                 decl.into_inner(),
                 annotations,
                 loc,
             )
+        }
+        Declaration::Common(decl) => {
+            push_common(alloc, &mut entries.commons, decl, annotations, loc)
         }
     }
 }

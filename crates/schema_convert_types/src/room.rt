@@ -43,7 +43,7 @@ fn with_declared(room: Room, decl: &Declaration<'_>) -> Room
 {
     match decl {
         Declaration::Entity(decl) => Room {
-            entities: with_names(room.entities, decl.get().names()),
+            entities: with_names(room.entities, decl.names()),
             ..room
         },
         Declaration::Action(decl) => Room {

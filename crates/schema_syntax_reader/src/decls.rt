@@ -36,13 +36,12 @@ fn entity<'a>(
     let parents = all::<Paths>(alloc, text, parents)?;
     let attrs = shape(alloc, text, shape_raw)?;
     let tags = tags(alloc, text, tags_raw)?;
-    let decl = EntityDecl::Standard(StandardEntityDecl {
+    Ok(Declaration::Entity(EntityDecl::Standard(StandardEntityDecl {
         names,
         member_of_types: List::from_vec(parents),
         attrs,
         tags,
-    });
-    Ok(Declaration::Entity(Boxed::new(alloc, decl)?))
+    })))
 }
 
 // Entity types of listed ids.
@@ -62,8 +61,7 @@ fn listed<'a>(
         return Err(empty_list(alloc, brackets));
     };
     let choices = some::<Choices>(alloc, text, choices)?;
-    let decl = EntityDecl::Enum(EnumEntityDecl { names, choices });
-    Ok(Declaration::Entity(Boxed::new(alloc, decl)?))
+    Ok(Declaration::Entity(EntityDecl::Enum(EnumEntityDecl { names, choices })))
 }
 
 // Entity types of another schema.
@@ -79,11 +77,10 @@ fn external_entity<'a>(
 {
     let names = some::<Ids>(alloc, text, names)?;
     let parents = all::<Paths>(alloc, text, parents)?;
-    let decl = EntityDecl::External(ExternalEntityDecl {
+    Ok(Declaration::Entity(EntityDecl::External(ExternalEntityDecl {
         names,
         member_of_types: List::from_vec(parents),
-    });
-    Ok(Declaration::Entity(Boxed::new(alloc, decl)?))
+    })))
 }
 
 // Actions.
@@ -141,8 +138,7 @@ fn common<'a>(
 {
     let name = id_node(alloc, text, &name)?;
     let def = ty(alloc, text, raw)?;
-    let decl = TypeDecl { name, def };
-    Ok(Declaration::Common(Boxed::new(alloc, decl)?))
+    Ok(Declaration::Common(TypeDecl { name, def }))
 }
 
 // A declaration without its annotations. Each kind but the most frequent stands by itself, so that no other needs room for

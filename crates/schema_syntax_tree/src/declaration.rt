@@ -7,9 +7,9 @@ use std::alloc::{AllocError, Global};
 /// A declaration: of entity types, of actions or of a common type.
 #[derive(Drop)]
 pub enum Declaration<'a> {
-    Entity(Boxed<EntityDecl<'a>>),
+    Entity(EntityDecl<'a>),
     Action(Boxed<ActionDecl<'a>>),
-    Common(Boxed<TypeDecl<'a>>),
+    Common(TypeDecl<'a>),
 }
 
 impl<'a> CloneIn for Declaration<'a> {

@@ -134,18 +134,16 @@ fn are_names(names: Result<Vec<Node<Text>>, AllocError>, wanted: &str) -> bool {
 // Are these the names of the declaration, or of the first parent of its entity types?
 fn is_named(alloc: Global, declaration: &Declaration<'_>, wanted: &str) -> bool {
     match declaration {
-        Declaration::Entity(entity) => match entity.get() {
-            EntityDecl::Standard(entity) => {
-                entity
-                    .member_of_types
-                    .as_slice()
-                    .iter()
-                    .all(|path| is_path(alloc, path, wanted))
-            }
-            _ => false,
-        },
+        Declaration::Entity(EntityDecl::Standard(entity)) => {
+            entity
+                .member_of_types
+                .as_slice()
+                .iter()
+                .all(|path| is_path(alloc, path, wanted))
+        }
+        Declaration::Entity(_) => false,
         Declaration::Action(action) => are_names(action.get().names(alloc), wanted),
-        Declaration::Common(common) => are_names(common.get().names(alloc), wanted),
+        Declaration::Common(common) => are_names(common.names(alloc), wanted),
     }
 }
 

@@ -236,9 +236,9 @@ fn find_common(alloc: Global, wanted: &mut Wanted<'_>, common: &TypeDecl<'_>) {
 
 fn find_declaration(alloc: Global, wanted: &mut Wanted<'_>, declaration: &Declaration<'_>) {
     match declaration {
-        Declaration::Entity(entity) => find_entity(alloc, wanted, entity.get()),
+        Declaration::Entity(entity) => find_entity(alloc, wanted, entity),
         Declaration::Action(action) => find_action(alloc, wanted, action.get()),
-        Declaration::Common(common) => find_common(alloc, wanted, common.get()),
+        Declaration::Common(common) => find_common(alloc, wanted, common),
     }
 }
 

@@ -5,7 +5,6 @@ use Rattle.cedar_identifiers.specs.declared.unreserved_id.UnreservedId.{Unreserv
 use Rattle.schema_json.specs.declared.entity_type.EntityType.{EntityType}
 use Rattle.schema_json.specs.declared.common_type.CommonType.{CommonType}
 use Rattle.schema_json.specs.declared.common_type.CommonTypeId.{CommonTypeId}
-use Rattle.schema_syntax_tree.specs.declared.declaration.Declaration.TheVariants as declaration
 use Rattle.schema_convert_types.specs.Fragments.{common_entries_of, entity_entries_of}
 use Rattle.schema_convert_types.proofs.namespaces.push_declared.Goals as goal
 
@@ -27,11 +26,10 @@ returns-clause-commons c =
     let node = c.into_inner-decl.result.0 in
     let loc = c.into_inner-decl.result.1 in
     let notes = c.in_ok-annotations.annotations in
-    let opened = ap (λ d. common_entries_of (declaration.Common d) notes loc) c.into_inner.ensures in
     let kind = ap (λ d. common_entries_of d notes loc) (sym c.in-Common.is) in
     let noted = ap (λ ns. common_entries_of node ns loc) c.in_ok-annotations.ensures in
     let placed = ap (λ r. common_entries_of r.0 c.into_parts-item.result.1 r.1) c.into_inner-decl.ensures in
     let taken = ap (λ r. common_entries_of r.0.node r.1 r.0.loc) c.into_parts-item.ensures in
     on_ok_weaker c.push_common.result
     (λ h. h ∙ ap (λ (l : List (CommonTypeId × CommonType RawName)). c.args.entries.now.commons.items ++ l)
-    (opened ∙ (kind ∙ (noted ∙ (placed ∙ taken))))) c.push_common.ensures
+    (kind ∙ (noted ∙ (placed ∙ taken)))) c.push_common.ensures

@@ -1,11 +1,8 @@
-use Rattle.std.proofs.Common.{sym, subst}
 use Rattle.schema_syntax_reader.proofs.Scanned.{decl_parts}
 use Rattle.schema_syntax_reader.proofs.Readings.{stops_left, stops_right, both_faultless}
 use Rattle.schema_syntax_reader.specs.Sites.{sites_of_type}
 use Rattle.schema_syntax_parser.specs.declared.syntax.DeclSyntax.TheVariants as syntax
 use Rattle.schema_syntax_reader.specs.Sites.{name_sites}
-use Rattle.schema_syntax_tree.specs.declared.declaration.Declaration.TheVariants as declaration
-use Rattle.schema_syntax_reader.specs.Trees.{IsDeclOf}
 use Rattle.schema_syntax_reader.proofs.decls.common.Goals as goal
 
 pub id_node-requires : goal.id_node-requires
@@ -21,8 +18,7 @@ returns-in_err-def c =
 
 pub returns : goal.returns
 returns c = (
-  subst (λ d. IsDeclOf c.args.text.now (syntax.Common c.args.name c.args.raw) (declaration.Common d))
-      (sym c.in_ok-new.ensures) (c.in_ok-name.ensures.0, c.in_ok-def.ensures.0),
+  (c.in_ok-name.ensures.0, c.in_ok-def.ensures.0),
   both_faultless c.args.text.now (name_sites c.args.name) (sites_of_type c.args.raw)
       c.in_ok-name.ensures.1 c.in_ok-def.ensures.1,
 )

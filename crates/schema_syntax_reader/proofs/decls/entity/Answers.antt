@@ -4,8 +4,7 @@ use Rattle.schema_syntax_reader.proofs.Readings.{stops_right, stopped_left, stop
 use Rattle.schema_syntax_reader.specs.Sites.{names_sites, paths_sites, shape_sites, tags_sites}
 use Rattle.schema_syntax_parser.specs.declared.syntax.DeclSyntax.TheVariants as syntax
 use Rattle.std.specs.List.{AllZip}
-use Rattle.schema_syntax_tree.specs.declared.declaration.Declaration.TheVariants as declaration
-use Rattle.schema_syntax_reader.specs.Trees.{IsDeclOf, IsPathOf}
+use Rattle.schema_syntax_reader.specs.Trees.{IsPathOf}
 use Rattle.schema_syntax_reader.proofs.decls.entity.Goals as goal
 
 pub some-requires : goal.some-requires
@@ -70,15 +69,13 @@ returns c =
     let parents = paths_sites c.args.parents in
     let shape = shape_sites c.args.shape_raw in
     let tags = tags_sites c.args.tags_raw in (
-      subst (λ d. IsDeclOf c.args.text.now
-          (syntax.Entity c.args.names c.args.parents c.args.shape_raw c.args.tags_raw) (declaration.Entity d))
-          (sym c.in_ok-new.ensures) (
-            c.in_ok-names.ensures.0,
-            subst (AllZip (IsPathOf c.args.text.now) c.args.parents) (sym c.from_vec.ensures)
-                c.in_ok-parents.ensures.0,
-            c.in_ok-attrs.ensures.0,
-            c.in_ok-tags.ensures.0,
-          ),
+      (
+        c.in_ok-names.ensures.0,
+        subst (AllZip (IsPathOf c.args.text.now) c.args.parents) (sym c.from_vec.ensures)
+            c.in_ok-parents.ensures.0,
+        c.in_ok-attrs.ensures.0,
+        c.in_ok-tags.ensures.0,
+      ),
       both_faultless c.args.text.now names (parents ++ (shape ++ tags)) c.in_ok-names.ensures.1
           (both_faultless c.args.text.now parents (shape ++ tags) c.in_ok-parents.ensures.1
           (both_faultless c.args.text.now shape tags c.in_ok-attrs.ensures.1 c.in_ok-tags.ensures.1)),

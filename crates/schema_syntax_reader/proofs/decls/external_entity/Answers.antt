@@ -4,8 +4,7 @@ use Rattle.schema_syntax_reader.proofs.Readings.{stops_right, both_faultless}
 use Rattle.schema_syntax_reader.specs.Sites.{names_sites, paths_sites}
 use Rattle.schema_syntax_parser.specs.declared.syntax.DeclSyntax.TheVariants as syntax
 use Rattle.std.specs.List.{AllZip}
-use Rattle.schema_syntax_tree.specs.declared.declaration.Declaration.TheVariants as declaration
-use Rattle.schema_syntax_reader.specs.Trees.{IsDeclOf, IsPathOf}
+use Rattle.schema_syntax_reader.specs.Trees.{IsPathOf}
 use Rattle.schema_syntax_reader.proofs.decls.external_entity.Goals as goal
 
 pub some-requires : goal.some-requires
@@ -29,12 +28,11 @@ returns-in_err-parents c =
 
 pub returns : goal.returns
 returns c = (
-  subst (λ d. IsDeclOf c.args.text.now (syntax.ExternalEntity c.args.names c.args.parents) (declaration.Entity d))
-      (sym c.in_ok-new.ensures) (
-        c.in_ok-names.ensures.0,
-        subst (AllZip (IsPathOf c.args.text.now) c.args.parents) (sym c.from_vec.ensures)
-            c.in_ok-parents.ensures.0,
-      ),
+  (
+    c.in_ok-names.ensures.0,
+    subst (AllZip (IsPathOf c.args.text.now) c.args.parents) (sym c.from_vec.ensures)
+        c.in_ok-parents.ensures.0,
+  ),
   both_faultless c.args.text.now (names_sites c.args.names) (paths_sites c.args.parents)
       c.in_ok-names.ensures.1 c.in_ok-parents.ensures.1,
 )

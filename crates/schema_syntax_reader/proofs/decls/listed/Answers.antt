@@ -2,8 +2,7 @@ use Rattle.std.proofs.Common.{◌≡◌, [], refl, sym, ◌∙◌, subst}
 use Rattle.std.specs.List.{All, AllZip}
 use Rattle.schema_syntax_reader.specs.Placed.{IsPlacedString}
 use Rattle.schema_syntax_reader.specs.Stops.{IsStopped}
-use Rattle.schema_syntax_tree.specs.declared.declaration.Declaration.TheVariants as declaration
-use Rattle.schema_syntax_reader.specs.Trees.{IsChoice, IsDeclOf}
+use Rattle.schema_syntax_reader.specs.Trees.{IsChoice}
 use Rattle.schema_syntax_reader.proofs.Scanned.{decl_parts}
 use Rattle.schema_syntax_reader.proofs.Readings.{Faultless, stops_left, stops_right, stopped_right}
 use Rattle.schema_syntax_reader.proofs.Readings.{both_faultless}
@@ -54,11 +53,10 @@ pub returns : goal.returns
 returns c =
     let some = rw c.in-Some.is at c.from_vec.ensures.some in
     let same : c.in-Some.choices ≡ c.args.choices = some.0 ∙ c.into_vec.ensures in (
-      subst (λ d. IsDeclOf c.args.text.now
-          (syntax.Enum c.args.names c.args.choices c.args.brackets) (declaration.Entity d)) (sym c.in_ok-new.ensures) (
-            c.in_ok-names.ensures.0,
-            subst (λ l. AllZip (IsChoice c.args.text.now) l c.in_ok-choices.choices) same c.in_ok-choices.ensures.0,
-          ),
+      (
+        c.in_ok-names.ensures.0,
+        subst (λ l. AllZip (IsChoice c.args.text.now) l c.in_ok-choices.choices) same c.in_ok-choices.ensures.0,
+      ),
       both_faultless c.args.text.now (names_sites c.args.names)
           (choices_sites c.args.choices c.args.brackets) c.in_ok-names.ensures.1
           (subst (λ l. Faultless c.args.text.now (choices_sites l c.args.brackets)) same
