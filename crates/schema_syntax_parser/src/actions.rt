@@ -2,7 +2,7 @@ ghost use Rattle.std.specs.Prelude.{◌≡◌};
 ghost use Rattle.schema_syntax_grammar.specs.declared.token_kind.TokenKind.TheVariants.{RBrace};
 ghost use Rattle.schema_syntax_parser.specs.Reading.{Gives, separated_turn, context_at, app_at, applies_at};
 
-use crate::front::{any, is_role, place, token};
+use crate::front::{any, is_of, is_role, place, token};
 use crate::paths::{path, types};
 use crate::stop::Stop;
 use crate::syntax::AppSyntax;
@@ -24,7 +24,7 @@ fn context<'a>(
 {
     match tokens {
         [] => Err(Stop::Mismatch),
-        [first, ..] if first.kind() == TokenKind::LBrace => {
+        [first, ..] if is_of(first, TokenKind::LBrace) => {
             let (attrs, loc, rest) = braces(alloc, tokens)?;
             Ok((
                 AppSyntax::ContextRecord(attrs, loc, place(whole, rest)),
@@ -49,7 +49,7 @@ fn app(alloc: Global, tokens: &[ShortToken]) -> Result<(AppSyntax, &[ShortToken]
     if is_role(word.kind()) {
         let (types, rest) = types(alloc, rest)?;
         Ok((AppSyntax::Types(word, types, place(tokens, rest)), rest))
-    } else if word.kind() == TokenKind::KwContext {
+    } else if is_of(&word, TokenKind::KwContext) {
         context(alloc, tokens, rest)
     } else {
         Err(Stop::Mismatch)
@@ -67,7 +67,7 @@ impl Turns for Apps {
     #[tactic(auto, unfolding(crate::specs::Reading::separated_turn))]
     fn turn(alloc: Global, tokens: &[ShortToken]) -> Result<Turn<'_, AppSyntax>, Stop> {
         match tokens {
-            [first, rest @ ..] if first.kind() == TokenKind::RBrace => Ok(Turn::Done(rest)),
+            [first, rest @ ..] if is_of(first, TokenKind::RBrace) => Ok(Turn::Done(rest)),
             _ => {
                 let (item, rest) = app(alloc, tokens)?;
                 closed(item, TokenKind::RBrace, rest)
@@ -85,7 +85,7 @@ pub fn applies(
     ensures { Gives (λ r. (r.0, r.1.now)) result (applies_at tokens.now) }
 {
     match tokens {
-        [first, after @ ..] if first.kind() == TokenKind::KwAppliesTo => {
+        [first, after @ ..] if is_of(first, TokenKind::KwAppliesTo) => {
             let (_, rest) = token(after, TokenKind::LBrace)?;
             let (apps, rest) = all::<Apps>(alloc, rest)?;
             Ok((Some((apps, place(after, rest))), rest))

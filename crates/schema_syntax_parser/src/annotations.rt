@@ -2,7 +2,7 @@ ghost use Rattle.std.specs.Prelude.{◌≡◌, true, Some};
 ghost use Rattle.schema_syntax_parser.specs.Reading.{Gives, Done, annotation_turn, annotations_at, value_at};
 ghost use Rattle.schema_syntax_parser.specs.Turns.{turn_of};
 
-use crate::front::{token, word};
+use crate::front::{is_of, token, word};
 use crate::stop::Stop;
 use crate::syntax::AnnotationSyntax;
 use crate::turns::{Turn, Turns, all};
@@ -19,7 +19,7 @@ fn value(key: ShortToken, tokens: &[ShortToken]) -> Result<Turn<'_, AnnotationSy
     ensures { Gives turn_of result (value_at key tokens.now) }
 {
     match tokens {
-        [first, rest @ ..] if first.kind() == TokenKind::LParen => {
+        [first, rest @ ..] if is_of(first, TokenKind::LParen) => {
             let (value, rest) = token(rest, TokenKind::StringLit)?;
             let value = Some(*value);
             let (_, rest) = token(rest, TokenKind::RParen)?;
@@ -37,7 +37,7 @@ impl Turns for AnnotationTurns {
     #[tactic(auto, unfolding(crate::specs::Reading::annotation_turn))]
     fn turn(_alloc: Global, tokens: &[ShortToken]) -> Result<Turn<'_, AnnotationSyntax>, Stop> {
         match tokens {
-            [first, rest @ ..] if first.kind() == TokenKind::At => {
+            [first, rest @ ..] if is_of(first, TokenKind::At) => {
                 let (key, rest) = word(rest)?;
                 value(*key, rest)
             }
@@ -52,7 +52,7 @@ fn has_none(tokens: &[ShortToken]) -> bool
     ensures { result ≡ true → annotation_turn tokens.now ≡ Some (Done tokens.now) }
 {
     match tokens {
-        [first, ..] if first.kind() == TokenKind::At => false,
+        [first, ..] if is_of(first, TokenKind::At) => false,
         _ => true,
     }
 }

@@ -2,7 +2,7 @@ ghost use Rattle.std.specs.Prelude.{◌≡◌};
 ghost use Rattle.schema_syntax_parser.specs.Reading.{Gives, enum_at, standard_at, entity_body_at, entity_at, external_entity_at, external_action_at, action_at, common_at, external_at, decl_at};
 
 use crate::actions::applies;
-use crate::front::{any, ident, place, token};
+use crate::front::{any, ident, is_of, place, token};
 use crate::paths::{Idents, Names, Strings, action_parents, parents};
 use crate::stop::Stop;
 use crate::syntax::DeclSyntax;
@@ -69,7 +69,7 @@ fn entity_body(
     ensures { Gives (λ r. (r.0, r.1.now)) result (entity_body_at names tokens.now) }
 {
     match tokens {
-        [first, rest @ ..] if first.kind() == TokenKind::KwEnum => choices(alloc, names, rest),
+        [first, rest @ ..] if is_of(first, TokenKind::KwEnum) => choices(alloc, names, rest),
         _ => standard(alloc, names, tokens),
     }
 }

@@ -1,12 +1,19 @@
 ghost use Rattle.std.specs.Prelude.{◌≡◌};
 ghost use Rattle.schema_syntax_parser.specs.Syntax.{is_role};
 ghost use Rattle.schema_syntax_parser.specs.Reading.{Gives, any_at, token_at, class_at, place_before};
-ghost use Rattle.schema_syntax_grammar.specs.Grammar.{is_word_kind, is_ident, is_name_kind};
+ghost use Rattle.schema_syntax_grammar.specs.Grammar.{is_word_kind, is_ident, is_name_kind, same_kind};
 
 use crate::stop::Stop;
 use cedar_data::Loc;
 use schema_syntax_grammar::TokenKind;
 use schema_syntax_tokens::{ShortToken, whole_place};
+
+// Whether the token is of the kind.
+pub fn is_of(token: &ShortToken, kind: TokenKind) -> bool
+    ensures { result ≡ same_kind kind token.now.kind }
+{
+    token.kind() == kind
+}
 
 // The token at the front, and the others.
 pub fn any(tokens: &[ShortToken]) -> Result<(&ShortToken, &[ShortToken]), Stop>
@@ -23,7 +30,7 @@ pub fn token(tokens: &[ShortToken], kind: TokenKind) -> Result<(&ShortToken, &[S
     ensures { Gives (λ r. (r.0.now, r.1.now)) result (token_at kind tokens.now) }
 {
     match tokens {
-        [first, rest @ ..] if first.kind() == kind => Ok((first, rest)),
+        [first, rest @ ..] if is_of(first, kind) => Ok((first, rest)),
         _ => Err(Stop::Mismatch),
     }
 }

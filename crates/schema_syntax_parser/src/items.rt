@@ -3,7 +3,7 @@ ghost use Rattle.schema_syntax_parser.specs.Reading.{Gives, declared_at, decl_tu
 
 use crate::annotations::annotations;
 use crate::decls::decl;
-use crate::front::{place, token};
+use crate::front::{is_of, place, token};
 use crate::paths::path;
 use crate::stop::Stop;
 use crate::syntax::{AnnotationSyntax, DeclaredSyntax, ItemSyntax};
@@ -42,7 +42,7 @@ impl Turns for Decls {
     #[tactic(auto, unfolding(crate::specs::Reading::decl_turn))]
     fn turn(alloc: Global, tokens: &[ShortToken]) -> Result<Turn<'_, DeclaredSyntax>, Stop> {
         match tokens {
-            [first, rest @ ..] if first.kind() == TokenKind::RBrace => Ok(Turn::Done(rest)),
+            [first, rest @ ..] if is_of(first, TokenKind::RBrace) => Ok(Turn::Done(rest)),
             _ => {
                 let (item, rest) = declared(alloc, tokens)?;
                 Ok(Turn::More(item, rest))
@@ -118,7 +118,7 @@ fn item_body(
     ensures { Gives (λ r. (r.0, r.1.now)) result (item_body_at annotations tokens.now) }
 {
     match tokens {
-        [first, rest @ ..] if first.kind() == TokenKind::KwNamespace => {
+        [first, rest @ ..] if is_of(first, TokenKind::KwNamespace) => {
             namespace(alloc, annotations, tokens, rest)
         }
         _ => outside(alloc, annotations, tokens),

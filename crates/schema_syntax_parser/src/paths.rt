@@ -3,7 +3,7 @@ ghost use Rattle.schema_syntax_grammar.specs.Grammar.{is_ident, is_name_kind};
 ghost use Rattle.schema_syntax_grammar.specs.declared.token_kind.TokenKind.TheVariants.{Comma, PathSep, RBracket};
 ghost use Rattle.schema_syntax_parser.specs.Reading.{Gives, chain_turn, separated_turn, path_at, ref_at, types_at, refs_at, parents_at, string_at};
 
-use crate::front::{ident, name, place, token};
+use crate::front::{ident, is_of, name, place, token};
 use crate::stop::Stop;
 use crate::syntax::PathSyntax;
 use crate::turns::{Turn, Turns, all, closed, link, some};
@@ -103,7 +103,7 @@ impl Turns for Paths {
     #[tactic(auto, unfolding(crate::specs::Reading::separated_turn))]
     fn turn(alloc: Global, tokens: &[ShortToken]) -> Result<Turn<'_, PathSyntax>, Stop> {
         match tokens {
-            [first, rest @ ..] if first.kind() == TokenKind::RBracket => Ok(Turn::Done(rest)),
+            [first, rest @ ..] if is_of(first, TokenKind::RBracket) => Ok(Turn::Done(rest)),
             _ => {
                 let (item, rest) = path(alloc, tokens)?;
                 closed(item, TokenKind::RBracket, rest)
@@ -123,7 +123,7 @@ impl Turns for Refs {
     #[tactic(auto, unfolding(crate::specs::Reading::separated_turn))]
     fn turn(alloc: Global, tokens: &[ShortToken]) -> Result<Turn<'_, PathSyntax>, Stop> {
         match tokens {
-            [first, rest @ ..] if first.kind() == TokenKind::RBracket => Ok(Turn::Done(rest)),
+            [first, rest @ ..] if is_of(first, TokenKind::RBracket) => Ok(Turn::Done(rest)),
             _ => {
                 let (item, rest) = reference(alloc, tokens)?;
                 closed(item, TokenKind::RBracket, rest)
@@ -143,7 +143,7 @@ impl Turns for Strings {
     #[tactic(auto, unfolding(crate::specs::Reading::separated_turn))]
     fn turn(_alloc: Global, tokens: &[ShortToken]) -> Result<Turn<'_, ShortToken>, Stop> {
         match tokens {
-            [first, rest @ ..] if first.kind() == TokenKind::RBracket => Ok(Turn::Done(rest)),
+            [first, rest @ ..] if is_of(first, TokenKind::RBracket) => Ok(Turn::Done(rest)),
             _ => {
                 let (item, rest) = token(tokens, TokenKind::StringLit)?;
                 closed(*item, TokenKind::RBracket, rest)
@@ -170,7 +170,7 @@ pub fn types(
     ensures { Gives (λ r. (r.0, r.1.now)) result (types_at tokens.now) }
 {
     match tokens {
-        [first, rest @ ..] if first.kind() == TokenKind::LBracket => all::<Paths>(alloc, rest),
+        [first, rest @ ..] if is_of(first, TokenKind::LBracket) => all::<Paths>(alloc, rest),
         _ => {
             let (item, rest) = path(alloc, tokens)?;
             Ok((only(alloc, item)?, rest))
@@ -187,7 +187,7 @@ fn references(
     ensures { Gives (λ r. (r.0, r.1.now)) result (refs_at tokens.now) }
 {
     match tokens {
-        [first, rest @ ..] if first.kind() == TokenKind::LBracket => all::<Refs>(alloc, rest),
+        [first, rest @ ..] if is_of(first, TokenKind::LBracket) => all::<Refs>(alloc, rest),
         _ => {
             let (item, rest) = reference(alloc, tokens)?;
             Ok((only(alloc, item)?, rest))
@@ -203,7 +203,7 @@ pub fn parents(
     ensures { Gives (λ r. (r.0, r.1.now)) result (parents_at types_at tokens.now) }
 {
     match tokens {
-        [first, rest @ ..] if first.kind() == TokenKind::KwIn => types(alloc, rest),
+        [first, rest @ ..] if is_of(first, TokenKind::KwIn) => types(alloc, rest),
         _ => Ok((List::new(alloc), tokens)),
     }
 }
@@ -216,7 +216,7 @@ pub fn action_parents(
     ensures { Gives (λ r. (r.0, r.1.now)) result (parents_at refs_at tokens.now) }
 {
     match tokens {
-        [first, rest @ ..] if first.kind() == TokenKind::KwIn => references(alloc, rest),
+        [first, rest @ ..] if is_of(first, TokenKind::KwIn) => references(alloc, rest),
         _ => Ok((List::new(alloc), tokens)),
     }
 }

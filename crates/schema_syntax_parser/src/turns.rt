@@ -3,6 +3,7 @@ ghost use Rattle.schema_syntax_tokens.specs.declared.token.Token.{Token};
 ghost use Rattle.schema_syntax_parser.specs.Reading.{Gives, Done, all_at, many_at, link_at, closed_at};
 ghost use Rattle.schema_syntax_parser.specs.Turns.{turn_of};
 
+use crate::front::is_of;
 use crate::stop::Stop;
 use cedar_data::{List, NonEmpty};
 use schema_syntax_grammar::TokenKind;
@@ -122,7 +123,7 @@ pub fn link<T: Drop>(item: T, separator: TokenKind, rest: &[ShortToken]) -> Turn
     ensures { turn_of result ≡ link_at separator item rest.now }
 {
     match rest {
-        [first, after @ ..] if first.kind() == separator => Turn::More(item, after),
+        [first, after @ ..] if is_of(first, separator) => Turn::More(item, after),
         _ => Turn::Last(item, rest),
     }
 }
@@ -132,8 +133,8 @@ pub fn closed<T: Drop>(item: T, close: TokenKind, rest: &[ShortToken]) -> Result
     ensures { Gives turn_of result (closed_at close item rest.now) }
 {
     match rest {
-        [first, after @ ..] if first.kind() == close => Ok(Turn::Last(item, after)),
-        [first, after @ ..] if first.kind() == TokenKind::Comma => Ok(Turn::More(item, after)),
+        [first, after @ ..] if is_of(first, close) => Ok(Turn::Last(item, after)),
+        [first, after @ ..] if is_of(first, TokenKind::Comma) => Ok(Turn::More(item, after)),
         _ => Err(Stop::Mismatch),
     }
 }

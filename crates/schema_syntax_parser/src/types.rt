@@ -4,7 +4,7 @@ ghost use Rattle.schema_syntax_parser.specs.Turns.{turn_of};
 ghost use Rattle.schema_syntax_grammar.specs.declared.token_kind.TokenKind.TheVariants.{RBrace};
 
 use crate::annotations::annotations;
-use crate::front::{name, place, token};
+use crate::front::{is_of, name, place, token};
 use crate::paths::path;
 use crate::stop::Stop;
 use crate::syntax::{AttrSyntax, TypeSyntax};
@@ -20,7 +20,7 @@ fn mark(tokens: &[ShortToken]) -> (bool, &[ShortToken])
     ensures { (result.0, result.1.now) ≡ mark_at tokens.now }
 {
     match tokens {
-        [first, rest @ ..] if first.kind() == TokenKind::Question => (false, rest),
+        [first, rest @ ..] if is_of(first, TokenKind::Question) => (false, rest),
         _ => (true, tokens),
     }
 }
@@ -39,7 +39,7 @@ fn set<'a>(
     ensures { Gives (λ r. (r.0, r.1.now)) result (set_step (type_at depth) first.now rest.now) }
 {
     match rest {
-        [open, after @ ..] if open.kind() == TokenKind::Less => {
+        [open, after @ ..] if is_of(open, TokenKind::Less) => {
             let (element, after) = ty(alloc, depth, after)?;
             let (_, after) = token(after, TokenKind::Greater)?;
             let element = Boxed::new(alloc, element)?;
@@ -64,11 +64,11 @@ fn type_of_parts(
 {
     match tokens {
         [] => Err(Stop::Mismatch),
-        [first, rest @ ..] if first.kind() == TokenKind::LBrace => {
+        [first, rest @ ..] if is_of(first, TokenKind::LBrace) => {
             let (attrs, after) = attrs(alloc, depth, rest)?;
             Ok((TypeSyntax::Record(attrs, place(tokens, after)), after))
         }
-        [first, rest @ ..] if first.kind() == TokenKind::KwSet => {
+        [first, rest @ ..] if is_of(first, TokenKind::KwSet) => {
             set(alloc, depth, tokens, first, rest)
         }
         _ => {
@@ -133,7 +133,7 @@ fn attr_turn(
     ensures { Gives turn_of result (separated_turn RBrace (attr_step (type_at depth)) tokens.now) }
 {
     match tokens {
-        [first, rest @ ..] if first.kind() == TokenKind::RBrace => Ok(Turn::Done(rest)),
+        [first, rest @ ..] if is_of(first, TokenKind::RBrace) => Ok(Turn::Done(rest)),
         _ => {
             let (item, rest) = attr(alloc, depth, tokens)?;
             closed(item, TokenKind::RBrace, rest)
@@ -200,11 +200,11 @@ pub fn shape(
     ensures { Gives (λ r. (r.0, r.1.now)) result (shape_at tokens.now) }
 {
     match tokens {
-        [first, after @ ..] if first.kind() == TokenKind::Equals => {
+        [first, after @ ..] if is_of(first, TokenKind::Equals) => {
             let (attrs, loc, rest) = braces(alloc, after)?;
             Ok((Some((attrs, loc)), rest))
         }
-        [first, ..] if first.kind() == TokenKind::LBrace => {
+        [first, ..] if is_of(first, TokenKind::LBrace) => {
             let (attrs, loc, rest) = braces(alloc, tokens)?;
             Ok((Some((attrs, loc)), rest))
         }
@@ -221,7 +221,7 @@ pub fn tags(
     ensures { Gives (λ r. (r.0, r.1.now)) result (tags_at tokens.now) }
 {
     match tokens {
-        [first, after @ ..] if first.kind() == TokenKind::KwTags => {
+        [first, after @ ..] if is_of(first, TokenKind::KwTags) => {
             let (ty, rest) = whole_type(alloc, after)?;
             let ty = Boxed::new(alloc, ty)?;
             Ok((Some(ty), rest))
