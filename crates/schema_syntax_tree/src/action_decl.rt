@@ -9,25 +9,50 @@ use cedar_data::{CloneIn, Node, NonEmpty, Text};
 use std::alloc::{AllocError, Global};
 
 /// The declaration of one or more actions that are alike but for their names.
-#[derive(Drop)]
 pub enum ActionDecl<'a> {
     Defined(DefinedActionDecl<'a>),
     External(ExternalActionDecl<'a>),
 }
 
+impl<'a> Drop for ActionDecl<'a> {
+    fn drop(self) {
+        match self {
+            ActionDecl::Defined(_defined) => {}
+            ActionDecl::External(_external) => {}
+        }
+    }
+}
+
 /// Actions with their parents and what they are applied to, where these were written.
-#[derive(Drop)]
 pub struct DefinedActionDecl<'a> {
     pub names: NonEmpty<Node<SrcStr<'a>>>,
     pub parents: Option<NonEmpty<Node<QualName<'a>>>>,
     pub app_decls: Option<Node<NonEmpty<Node<AppDecl<'a>>>>>,
 }
 
+impl<'a> Drop for DefinedActionDecl<'a> {
+    fn drop(self) {
+        let DefinedActionDecl {
+            names: _names,
+            parents: _parents,
+            app_decls: _app_decls,
+        } = self;
+    }
+}
+
 /// Actions that another schema declares, with the ancestors that are known.
-#[derive(Drop)]
 pub struct ExternalActionDecl<'a> {
     pub names: NonEmpty<Node<SrcStr<'a>>>,
     pub parents: Option<NonEmpty<Node<QualName<'a>>>>,
+}
+
+impl<'a> Drop for ExternalActionDecl<'a> {
+    fn drop(self) {
+        let ExternalActionDecl {
+            names: _names,
+            parents: _parents,
+        } = self;
+    }
 }
 
 impl<'a> Decl for ActionDecl<'a> {

@@ -5,11 +5,20 @@ use cedar_data::{Boxed, CloneIn};
 use std::alloc::{AllocError, Global};
 
 /// A declaration: of entity types, of actions or of a common type.
-#[derive(Drop)]
 pub enum Declaration<'a> {
     Entity(EntityDecl<'a>),
     Action(Boxed<ActionDecl<'a>>),
     Common(TypeDecl<'a>),
+}
+
+impl<'a> Drop for Declaration<'a> {
+    fn drop(self) {
+        match self {
+            Declaration::Entity(_entity) => {}
+            Declaration::Action(_action) => {}
+            Declaration::Common(_common) => {}
+        }
+    }
 }
 
 impl<'a> CloneIn for Declaration<'a> {

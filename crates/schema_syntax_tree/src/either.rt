@@ -2,10 +2,18 @@ use cedar_data::CloneIn;
 use std::alloc::{AllocError, Global};
 
 /// One of two.
-#[derive(Drop)]
 pub enum Either<A, B> {
     Left(A),
     Right(B),
+}
+
+impl<A: Drop, B: Drop> Drop for Either<A, B> {
+    fn drop(self) {
+        match self {
+            Either::Left(_left) => {}
+            Either::Right(_right) => {}
+        }
+    }
 }
 
 impl<A: CloneIn, B: CloneIn> CloneIn for Either<A, B> {

@@ -11,15 +11,23 @@ use cedar_data::{Boxed, CloneIn, List, Node, NonEmpty, NonEmptyIter};
 use std::alloc::{AllocError, Global};
 
 /// The declaration of one or more entity types that are alike but for their names.
-#[derive(Drop)]
 pub enum EntityDecl<'a> {
     Standard(StandardEntityDecl<'a>),
     Enum(EnumEntityDecl<'a>),
     External(ExternalEntityDecl<'a>),
 }
 
+impl<'a> Drop for EntityDecl<'a> {
+    fn drop(self) {
+        match self {
+            EntityDecl::Standard(_standard) => {}
+            EntityDecl::Enum(_enum) => {}
+            EntityDecl::External(_external) => {}
+        }
+    }
+}
+
 /// Entity types with their parents, their attributes and the type of their tags, where they have tags.
-#[derive(Drop)]
 pub struct StandardEntityDecl<'a> {
     pub names: NonEmpty<Node<SrcId<'a>>>,
     pub member_of_types: List<Path<'a>>,
@@ -27,18 +35,45 @@ pub struct StandardEntityDecl<'a> {
     pub tags: Option<Boxed<Node<Type<'a>>>>,
 }
 
+impl<'a> Drop for StandardEntityDecl<'a> {
+    fn drop(self) {
+        let StandardEntityDecl {
+            names: _names,
+            member_of_types: _member_of_types,
+            attrs: _attrs,
+            tags: _tags,
+        } = self;
+    }
+}
+
 /// Entity types that another schema declares, with the ancestors that are known.
-#[derive(Drop)]
 pub struct ExternalEntityDecl<'a> {
     pub names: NonEmpty<Node<SrcId<'a>>>,
     pub member_of_types: List<Path<'a>>,
 }
 
+impl<'a> Drop for ExternalEntityDecl<'a> {
+    fn drop(self) {
+        let ExternalEntityDecl {
+            names: _names,
+            member_of_types: _member_of_types,
+        } = self;
+    }
+}
+
 /// Entity types whose entities are listed by their ids.
-#[derive(Drop)]
 pub struct EnumEntityDecl<'a> {
     pub names: NonEmpty<Node<SrcId<'a>>>,
     pub choices: NonEmpty<Node<SrcStr<'a>>>,
+}
+
+impl<'a> Drop for EnumEntityDecl<'a> {
+    fn drop(self) {
+        let EnumEntityDecl {
+            names: _names,
+            choices: _choices,
+        } = self;
+    }
 }
 
 impl<'a> EntityDecl<'a> {

@@ -6,10 +6,18 @@ use cedar_data::CloneIn;
 use std::alloc::{AllocError, Global};
 
 /// The name of an action: its id, behind the path of its type where one was written.
-#[derive(Drop)]
 pub struct QualName<'a> {
     pub path: Option<Path<'a>>,
     pub eid: SrcStr<'a>,
+}
+
+impl<'a> Drop for QualName<'a> {
+    fn drop(self) {
+        let QualName {
+            path: _path,
+            eid: _eid,
+        } = self;
+    }
 }
 
 impl<'a> QualName<'a> {

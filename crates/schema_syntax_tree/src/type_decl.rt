@@ -7,10 +7,18 @@ use cedar_data::{CloneIn, Node, Text};
 use std::alloc::{AllocError, Global};
 
 /// The declaration of a common type: its name, and the type that it stands for.
-#[derive(Drop)]
 pub struct TypeDecl<'a> {
     pub name: Node<SrcId<'a>>,
     pub def: Node<Type<'a>>,
+}
+
+impl<'a> Drop for TypeDecl<'a> {
+    fn drop(self) {
+        let TypeDecl {
+            name: _name,
+            def: _def,
+        } = self;
+    }
 }
 
 impl<'a> Decl for TypeDecl<'a> {

@@ -8,7 +8,6 @@ use std::alloc::{AllocError, Global};
 
 /// A type: a set, a name, or a record with its attributes in the order of the text.
 #[cycle(types)]
-#[derive(Drop)]
 pub enum Type<'a> {
     /// The sets of a type.
     Set(Boxed<Node<Type<'a>>>),
@@ -18,13 +17,34 @@ pub enum Type<'a> {
     Record(List<Node<Annotated<'a, AttrDecl<'a>>>>),
 }
 
+impl<'a> Drop for Type<'a> {
+    #[cycle(drops)]
+    fn drop(self) {
+        match self {
+            Type::Set(_set) => {}
+            Type::Ident(_ident) => {}
+            Type::Record(_record) => {}
+        }
+    }
+}
+
 /// An attribute, whether each record has it, and its type.
 #[cycle(types)]
-#[derive(Drop)]
 pub struct AttrDecl<'a> {
     pub name: Node<SrcStr<'a>>,
     pub required: bool,
     pub ty: Node<Type<'a>>,
+}
+
+impl<'a> Drop for AttrDecl<'a> {
+    #[cycle(drops)]
+    fn drop(self) {
+        let AttrDecl {
+            name: _name,
+            required: _required,
+            ty: _ty,
+        } = self;
+    }
 }
 
 impl<'a> CloneIn for Type<'a> {
