@@ -34,58 +34,55 @@ fn place_in<'a>(tree: &BTreeMap<SrcWord<'a>, Kept<'a>>, key: &SrcWord<'a>) -> Op
 // The annotations by their keys, unless one stands twice.
 fn by_keys<'a>(
     alloc: Global,
-    annotations: Vec<Node<SrcAnnotation<'a>>>,
+    annotations: &[Node<SrcAnnotation<'a>>],
 ) -> Result<BTreeMap<SrcWord<'a>, Kept<'a>>, AnnotationError>
-    ensures tree { IfOk result (λ tree. HasRead annotations.entry.items [] tree.entries) }
-    ensures twice { IfErr result (AreRefused annotations.entry.items) }
+    ensures tree { IfOk result (λ tree. HasRead annotations.now [] tree.entries) }
+    ensures twice { IfErr result (AreRefused annotations.now) }
 {
     let mut tree = BTreeMap::new(alloc);
     for annotation in annotations {
-        let (annotation, _) = annotation.into_inner();
-        let SrcAnnotation { key, value } = annotation;
-        let place = key.loc;
-        let (key, _) = key.into_inner();
-        if let Some(loc) = place_in(&tree, &key) {
+        let key = &annotation.node.key;
+        if let Some(loc) = place_in(&tree, &key.node) {
+            let id = key.node.to_any_id(alloc)?;
             let first = Node { node: (), loc };
             let second = Node {
                 node: (),
-                loc: place,
+                loc: key.loc,
             };
-            let key = key.to_any_id(alloc)?;
-            return Err(AnnotationError::User(UserError::DuplicateAnnotations(key, first, second)));
+            return Err(AnnotationError::User(UserError::DuplicateAnnotations(id, first, second)));
         }
         let kept = Kept {
-            value: without_place(value),
-            place,
+            value: without_place(&annotation.node.value),
+            place: key.loc,
         };
-        tree.insert(key, kept)?;
+        tree.insert(key.node.again(), kept)?;
     }
     Ok(tree)
 }
 
 // The text alone.
-fn without_place<'a>(value: Option<Node<SrcStr<'a>>>) -> Option<SrcStr<'a>>
-    ensures { result ≡ option_map (λ v. v.node) value.entry }
+fn without_place<'a>(value: &Option<Node<SrcStr<'a>>>) -> Option<SrcStr<'a>>
+    ensures { result ≡ option_map (λ v. v.node) value.now }
 {
     match value {
         None => None,
-        Some(value) => Some(value.into_inner().0),
+        Some(value) => Some(value.node.again()),
     }
 }
 
-// The keys and the values, without the places.
+// The annotations with these keys and values, without the places.
 fn without_places<'a>(
     alloc: Global,
     tree: BTreeMap<SrcWord<'a>, Kept<'a>>,
-) -> Result<Map<SrcWord<'a>, Option<SrcStr<'a>>>, AllocError>
-    ensures notes { IfOk result (λ notes. notes ≡ map note_of_entry tree.entry.entries) }
-    ensures rising { IfOk result (λ notes. IsStrictlySortedBy text_cmp (map (λ note. note.0.text) notes)) }
+) -> Result<SrcAnnotations<'a>, AllocError>
+    ensures notes { IfOk result (λ notes. notes.0 ≡ map note_of_entry tree.entry.entries) }
+    ensures rising { IfOk result (λ notes. IsStrictlySortedBy text_cmp (map (λ note. note.0.text) notes.0)) }
 {
     let mut notes = Vec::with_capacity(alloc, tree.len())?;
     for (key, kept) in tree {
-        notes.push((key, kept.value))?;
+        notes.push_reserved((key, kept.value));
     }
-    Ok(Map::from_sorted_vec(notes))
+    SrcAnnotations::from_map(alloc, Map::from_sorted_vec(notes))
 }
 
 /// The item with these annotations, unless a key stands twice: then the place of its first annotation is named, and that of the first one
@@ -99,7 +96,8 @@ pub fn deduplicate_annotations<'a, T: Drop>(
     ensures kept { IfOk result (λ annotated. AreKept annotations.entry.items annotated.annotations.0) }
     ensures twice { IfErr result (AreRefused annotations.entry.items) }
 {
-    let tree = by_keys(alloc, annotations)?;
-    let annotations = SrcAnnotations::from_map(alloc, without_places(alloc, tree)?)?;
+    let tree = by_keys(alloc, annotations.as_slice())?;
+    drop(annotations);
+    let annotations = without_places(alloc, tree)?;
     Ok(Annotated { item, annotations })
 }

@@ -91,7 +91,7 @@ fn outside<'a>(
 {
     let decl = declared(alloc, text, raw)?;
     let mut decls = Vec::with_capacity(alloc, 1)?;
-    decls.push(decl)?;
+    decls.push_reserved(decl);
     let item = Namespace {
         name: None,
         decls: List::from_vec(decls),

@@ -8,7 +8,7 @@ ghost use Rattle.schema_syntax_reader.specs.Placed.{IsScanned, IsPlacedSite, IsP
 ghost use Rattle.schema_syntax_reader.specs.Readings.{Reads};
 ghost use Rattle.schema_syntax_reader.specs.Trees.{IsId, IsIdNode, IsNameOf, IsNameNode, IsChoice};
 
-use crate::notes::notes_of;
+use crate::notes::some_notes;
 use crate::parts::Part;
 use crate::stopped::Stopped;
 use crate::strings::string_value;
@@ -29,7 +29,10 @@ pub fn notes<'a>(
     requires { IsScanned AreAnnotations text.now list.now }
     ensures { Reads text.now (annotations list.now ∷ []) (λ notes. AreNotes text.now list.now notes.0) result }
 {
-    notes_of(alloc, text, list)
+    if list.is_empty() {
+        return Ok(SrcAnnotations::new());
+    }
+    some_notes(alloc, text, list)
 }
 
 // An id.
@@ -78,18 +81,6 @@ pub fn name_node<'a>(
     ensures { Reads text.now (name_sites token.now) (IsNameNode text.now token.now) result }
 {
     let node = name(alloc, text, token)?;
-    Ok(Node {
-        node,
-        loc: Some(token.loc()),
-    })
-}
-
-// The id of an entity, with its place.
-fn choice<'a>(alloc: Global, text: &'a str, token: &ShortToken) -> Result<Node<SrcStr<'a>>, Stopped>
-    requires { IsPlacedString text.now token.now }
-    ensures { Reads text.now (name_sites token.now) (IsChoice text.now token.now) result }
-{
-    let node = string_value(alloc, text, token)?;
     Ok(Node {
         node,
         loc: Some(token.loc()),
@@ -168,6 +159,10 @@ impl<'a> Part<'a> for Choices {
     ghost stands_for = { IsChoice };
 
     fn read(alloc: Global, text: &'a str, raw: ShortToken) -> Result<Node<SrcStr<'a>>, Stopped> {
-        choice(alloc, text, &raw)
+        let node = string_value(alloc, text, &raw)?;
+        Ok(Node {
+            node,
+            loc: Some(raw.loc()),
+        })
     }
 }

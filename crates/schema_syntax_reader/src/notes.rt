@@ -98,7 +98,7 @@ fn read_notes<'a>(
     let mut notes = Vec::with_capacity(alloc, list.len())?;
     for note in list {
         let (read, fault) = read_note(alloc, text, note)?;
-        notes.push(read)?;
+        notes.push_reserved(read);
         if let Some(fault) = fault {
             return Ok(ReadNotes {
                 notes,
@@ -109,9 +109,10 @@ fn read_notes<'a>(
     Ok(ReadNotes { notes, fault: None })
 }
 
-// What the annotations stand for, of which there are some. Most items have none, and need no room for these.
+/// What the annotations stand for, of which there are some, or the first of their faults. Most items have none, and need no
+/// room for these.
 #[inline(never)]
-fn some_notes<'a>(
+pub fn some_notes<'a>(
     alloc: Global,
     text: &'a str,
     list: &[AnnotationSyntax],
@@ -132,22 +133,4 @@ fn some_notes<'a>(
             None => Ok(annotated.into_parts().1),
         },
     }
-}
-
-/// What the annotations stand for, or the first of their faults.
-pub fn notes_of<'a>(
-    alloc: Global,
-    text: &'a str,
-    list: &[AnnotationSyntax],
-) -> Result<SrcAnnotations<'a>, Stopped>
-    requires placed { All (IsPlacedNote text.now) list.now }
-    requires rise { Rise (note_tokens list.now) }
-    ensures notes { IfOk result (λ notes. AreNotes text.now list.now notes.0) }
-    ensures lawful { OnOk result (NoSiteFault text.now (annotations list.now)) }
-    ensures fault { IfErr result (IsStoppedAt text.now (annotations list.now)) }
-{
-    if list.is_empty() {
-        return Ok(SrcAnnotations::new());
-    }
-    some_notes(alloc, text, list)
 }

@@ -40,7 +40,7 @@ fn each<'a, P: Part<'a>>(
     let mut items = Vec::with_capacity(alloc, raws.len())?;
     for raw in raws {
         let item = P::read(alloc, text, raw)?;
-        items.push(item)?;
+        items.push_reserved(item);
     }
     Ok(items)
 }

@@ -70,25 +70,6 @@ fn type_of_reference<'a>(
     }
 }
 
-// A reference to an action.
-fn reference<'a>(
-    alloc: Global,
-    text: &'a str,
-    raw: PathSyntax,
-) -> Result<Node<QualName<'a>>, Stopped>
-    requires { IsScanned IsRef text.now raw }
-    ensures { Reads text.now (path_sites raw) (IsRefOf text.now raw) result }
-{
-    let (names, loc) = raw.into_parts();
-    let (front, last) = split_last(names);
-    let path = type_of_reference(alloc, text, front)?;
-    let eid = name(alloc, text, &last)?;
-    Ok(Node {
-        node: QualName { path, eid },
-        loc: Some(loc),
-    })
-}
-
 // Paths.
 pub struct Paths;
 
@@ -123,6 +104,13 @@ impl<'a> Part<'a> for References {
     ghost stands_for = { IsRefOf };
 
     fn read(alloc: Global, text: &'a str, raw: PathSyntax) -> Result<Node<QualName<'a>>, Stopped> {
-        reference(alloc, text, raw)
+        let (names, loc) = raw.into_parts();
+        let (front, last) = split_last(names);
+        let path = type_of_reference(alloc, text, front)?;
+        let eid = name(alloc, text, &last)?;
+        Ok(Node {
+            node: QualName { path, eid },
+            loc: Some(loc),
+        })
     }
 }

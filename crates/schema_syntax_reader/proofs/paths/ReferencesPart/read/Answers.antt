@@ -5,7 +5,7 @@ use Rattle.schema_syntax_reader.specs.Stops.{IsStopped}
 use Rattle.schema_syntax_reader.proofs.Fits.{names_append}
 use Rattle.schema_syntax_reader.proofs.Readings.{Faultless, stops, stopped_left, stopped_right, both_faultless}
 use Rattle.schema_syntax_reader.proofs.Scanned.{ref_parts}
-use Rattle.schema_syntax_reader.proofs.paths.reference.Goals as goal
+use Rattle.schema_syntax_reader.proofs.paths.ReferencesPart.read.Goals as goal
 
 pub type_of_reference-requires : goal.type_of_reference-requires
 type_of_reference-requires c =
