@@ -91,7 +91,7 @@ fn push_read(
         if !is_plain(alloc, table, &decl.item.node)? {
             return Ok(false);
         }
-        push_declared(alloc, entries, decl)?;
+        push_declared(alloc, entries, &decl)?;
     }
     Ok(true)
 }
@@ -136,9 +136,9 @@ pub fn push_outside<'a>(
     alloc: Global,
     table: &ExtensionTable,
     gathered: &mut Gathered,
-    decl: Annotated<'a, Node<Declaration<'a>>>,
+    decl: &Annotated<'a, Node<Declaration<'a>>>,
 ) -> Result<bool, AllocError>
-    ensures { IfOk result (λ plain. plain ≡ true → AddsOutside table.now gathered.old gathered.new decl.entry) }
+    ensures { IfOk result (λ plain. plain ≡ true → AddsOutside table.now gathered.old gathered.new decl.now) }
 {
     if !is_plain(alloc, table, &decl.item.node)? {
         return Ok(false);

@@ -41,7 +41,7 @@ fn push_item(
         }
         ItemSyntax::Decl(raw) => {
             let decl = declared(alloc, text, raw)?;
-            let plain = push_outside(alloc, table, gathered, decl)?;
+            let plain = push_outside(alloc, table, gathered, &decl)?;
             Ok(plain)
         }
     }

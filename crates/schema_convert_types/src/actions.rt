@@ -1,4 +1,4 @@
-ghost use Rattle.std.specs.Prelude.{◌≡◌, option_map, map, IfOk};
+ghost use Rattle.std.specs.Prelude.{◌≡◌, option_map, map, IfOk, OnOk};
 ghost use Rattle.schema_convert_types.specs.Names.{raw_name_of};
 ghost use Rattle.schema_syntax_tree.specs.DeclaredNames.{action_names};
 ghost use Rattle.schema_convert_types.specs.Declarations.{reference_of, references_of, member_types, context_of, with_types, with_member, with_members, applied_to_nothing, apply_spec_of, action_type_of};
@@ -50,41 +50,41 @@ impl<'a> Item<'a> for Parents {
 // The parents, where some were written.
 fn references(
     alloc: Global,
-    parents: Option<NonEmpty<Node<QualName<'_>>>>,
+    parents: &Option<NonEmpty<Node<QualName<'_>>>>,
 ) -> Result<Option<List<ActionEntityUID<RawName>>>, AllocError>
-    ensures { IfOk result (λ out. out ≡ references_of parents.entry) }
+    ensures { IfOk result (λ out. out ≡ references_of parents.now) }
 {
     match parents {
         None => Ok(None),
-        Some(parents) => Ok(Some(List::from_vec(some::<Parents>(alloc, &parents)?))),
+        Some(parents) => Ok(Some(List::from_vec(some::<Parents>(alloc, parents)?))),
     }
 }
 
 // The types of a member, and none for `[]`.
 fn member_types(
     alloc: Global,
-    types: Option<NonEmpty<Path<'_>>>,
+    types: &Option<NonEmpty<Path<'_>>>,
 ) -> Result<List<RawName>, AllocError>
-    ensures { IfOk result (λ out. out ≡ member_types types.entry) }
+    ensures { IfOk result (λ out. out ≡ member_types types.now) }
 {
     match types {
         None => Ok(List::new(alloc)),
-        Some(paths) => Ok(List::from_vec(some::<Paths>(alloc, &paths)?)),
+        Some(paths) => Ok(List::from_vec(some::<Paths>(alloc, paths)?)),
     }
 }
 
 // A context: a reference that must mean a common type, or a record.
 fn context<'a>(
     alloc: Global,
-    context: Either<Path<'a>, Node<List<Node<Annotated<'a, AttrDecl<'a>>>>>>,
+    context: &Either<Path<'a>, Node<List<Node<Annotated<'a, AttrDecl<'a>>>>>>,
 ) -> Result<AttributesOrContext<RawName>, AllocError>
-    ensures { IfOk result (λ out. out ≡ context_of context.entry) }
+    ensures { IfOk result (λ out. out ≡ context_of context.now) }
 {
     match context {
         Either::Left(path) => {
             let loc = path.loc().copied();
             Ok(AttributesOrContext(Type::CommonTypeRef {
-                type_name: raw_name(alloc, &path)?,
+                type_name: raw_name(alloc, path)?,
                 loc,
             }))
         }
@@ -92,48 +92,40 @@ fn context<'a>(
     }
 }
 
-// What an action is applied to, with these principals or resources.
-fn with_types(kind: PR, types: List<RawName>, spec: ApplySpec<RawName>) -> ApplySpec<RawName>
-    ensures { result ≡ with_types kind types spec }
+// Puts these principals or resources to what an action is applied to.
+fn set_types(kind: PR, types: List<RawName>, spec: &mut ApplySpec<RawName>)
+    ensures { spec.new ≡ with_types kind types spec.old }
 {
     match kind {
-        PR::Principal => ApplySpec {
-            principal_types: types,
-            ..spec
-        },
-        PR::Resource => ApplySpec {
-            resource_types: types,
-            ..spec
-        },
+        PR::Principal => spec.principal_types = types,
+        PR::Resource => spec.resource_types = types,
     }
 }
 
-// What an action is applied to, with this member too.
-fn with_member(
+// Puts this member to what an action is applied to.
+fn set_member(
     alloc: Global,
-    member: AppDecl<'_>,
-    spec: ApplySpec<RawName>,
-) -> Result<ApplySpec<RawName>, AllocError>
-    ensures { IfOk result (λ out. out ≡ with_member member.entry spec) }
+    member: &AppDecl<'_>,
+    spec: &mut ApplySpec<RawName>,
+) -> Result<(), AllocError>
+    ensures { OnOk result (spec.new ≡ with_member member.now spec.old) }
 {
     match member {
         AppDecl::PR(PRAppDecl { kind, entity_tys }) => {
             let types = member_types(alloc, entity_tys)?;
-            Ok(with_types(kind.node, types, spec))
+            set_types(kind.node, types, spec);
         }
-        AppDecl::Context(written) => Ok(ApplySpec {
-            context: context(alloc, written)?,
-            ..spec
-        }),
+        AppDecl::Context(written) => spec.context = context(alloc, written)?,
     }
+    Ok(())
 }
 
 // What an action is applied to: nothing, in the empty context, where nothing was written.
 fn apply_spec(
     alloc: Global,
-    block: Option<Node<NonEmpty<Node<AppDecl<'_>>>>>,
+    block: &Option<Node<NonEmpty<Node<AppDecl<'_>>>>>,
 ) -> Result<ApplySpec<RawName>, AllocError>
-    ensures { IfOk result (λ out. out ≡ apply_spec_of block.entry) }
+    ensures { IfOk result (λ out. out ≡ apply_spec_of block.now) }
 {
     let mut spec = ApplySpec {
         resource_types: List::new(alloc),
@@ -143,10 +135,8 @@ fn apply_spec(
     let Some(block) = block else {
         return Ok(spec);
     };
-    let (members, _) = block.into_inner();
-    for member in members {
-        let (member, _) = member.into_inner();
-        spec = with_member(alloc, member, spec)?;
+    for member in block.node.iter() {
+        set_member(alloc, &member.node, &mut spec)?;
     }
     Ok(spec)
 }
@@ -154,19 +144,14 @@ fn apply_spec(
 // What an action is declared as.
 fn defined(
     alloc: Global,
-    decl: DefinedActionDecl<'_>,
+    decl: &DefinedActionDecl<'_>,
     annotations: Annotations,
     loc: Option<Loc>,
 ) -> Result<ActionType<RawName>, AllocError>
-    ensures { IfOk result (λ out. out ≡ action_type_of (ActionDecl.Defined decl.entry) annotations loc) }
+    ensures { IfOk result (λ out. out ≡ action_type_of (ActionDecl.Defined decl.now) annotations loc) }
 {
-    let DefinedActionDecl {
-        names: _names,
-        parents,
-        app_decls,
-    } = decl;
-    let member_of = references(alloc, parents)?;
-    let applies_to = apply_spec(alloc, app_decls)?;
+    let member_of = references(alloc, &decl.parents)?;
+    let applies_to = apply_spec(alloc, &decl.app_decls)?;
     Ok(ActionType {
         attributes: None,
         applies_to: Some(applies_to),
@@ -180,17 +165,13 @@ fn defined(
 // What an action is declared as that another schema declares.
 fn external(
     alloc: Global,
-    decl: ExternalActionDecl<'_>,
+    decl: &ExternalActionDecl<'_>,
     annotations: Annotations,
     loc: Option<Loc>,
 ) -> Result<ActionType<RawName>, AllocError>
-    ensures { IfOk result (λ out. out ≡ action_type_of (ActionDecl.External decl.entry) annotations loc) }
+    ensures { IfOk result (λ out. out ≡ action_type_of (ActionDecl.External decl.now) annotations loc) }
 {
-    let ExternalActionDecl {
-        names: _names,
-        parents,
-    } = decl;
-    let member_of = references(alloc, parents)?;
+    let member_of = references(alloc, &decl.parents)?;
     Ok(ActionType {
         attributes: None,
         applies_to: None,
@@ -204,11 +185,11 @@ fn external(
 /// What each action of the declaration is declared as, with these annotations and this place.
 pub fn action_type(
     alloc: Global,
-    decl: ActionDecl<'_>,
+    decl: &ActionDecl<'_>,
     annotations: Annotations,
     loc: Option<Loc>,
 ) -> Result<ActionType<RawName>, AllocError>
-    ensures { IfOk result (λ out. out ≡ action_type_of decl.entry annotations loc) }
+    ensures { IfOk result (λ out. out ≡ action_type_of decl.now annotations loc) }
 {
     match decl {
         ActionDecl::Defined(decl) => defined(alloc, decl, annotations, loc),

@@ -3,7 +3,7 @@ ghost use Rattle.schema_convert_types.specs.Declarations.{raw_names, nothing, en
 
 use crate::items::{Item, all};
 use crate::names::Paths;
-use crate::types::{cedar_type_to_json_type, record_type};
+use crate::types::{node_type, record_type};
 use cedar_data::{Boxed, List, Loc, Map, Node, NonEmpty};
 use cedar_identifiers::{Annotations, Eid, RawName};
 use schema_json::{
@@ -16,8 +16,8 @@ use schema_syntax_tree::{
 use std::alloc::{AllocError, Global};
 
 // The names of paths, in order. Mostly there are none, and no room is needed for these.
-fn raw_names(alloc: Global, paths: List<Path<'_>>) -> Result<List<RawName>, AllocError>
-    ensures { IfOk result (λ names. names ≡ raw_names paths.entry) }
+fn raw_names(alloc: Global, paths: &List<Path<'_>>) -> Result<List<RawName>, AllocError>
+    ensures { IfOk result (λ names. names ≡ raw_names paths.now) }
 {
     if paths.as_slice().is_empty() {
         return Ok(List::new(alloc));
@@ -41,14 +41,14 @@ pub fn nothing(alloc: Global) -> AttributesOrContext<RawName>
 // The type of the tags, where there are tags.
 fn tags_of(
     alloc: Global,
-    tags: Option<Boxed<Node<schema_syntax_tree::Type<'_>>>>,
+    tags: &Option<Boxed<Node<schema_syntax_tree::Type<'_>>>>,
 ) -> Result<Option<Boxed<Type<RawName>>>, AllocError>
-    ensures { IfOk result (λ out. out ≡ tags_of tags.entry) }
+    ensures { IfOk result (λ out. out ≡ tags_of tags.now) }
 {
     match tags {
         None => Ok(None),
         Some(ty) => {
-            let ty = cedar_type_to_json_type(alloc, ty.into_inner())?;
+            let ty = node_type(alloc, ty.get())?;
             Ok(Some(Boxed::new(alloc, ty)?))
         }
     }
@@ -72,9 +72,9 @@ impl<'a> Item<'a> for Choices {
 // The ids without their places.
 fn choices_of(
     alloc: Global,
-    choices: NonEmpty<Node<SrcStr<'_>>>,
+    choices: &NonEmpty<Node<SrcStr<'_>>>,
 ) -> Result<NonEmpty<Eid>, AllocError>
-    ensures { IfOk result (λ out. out ≡ choices_of choices.entry) }
+    ensures { IfOk result (λ out. out ≡ choices_of choices.now) }
 {
     let (first, others) = choices.parts();
     let first = Choices::translate(alloc, first)?;
@@ -85,19 +85,13 @@ fn choices_of(
 // What entity types with attributes are.
 fn standard(
     alloc: Global,
-    decl: StandardEntityDecl<'_>,
+    decl: &StandardEntityDecl<'_>,
 ) -> Result<EntityTypeKind<RawName>, AllocError>
-    ensures { IfOk result (λ out. out ≡ entity_kind_of (EntityDecl.Standard decl.entry)) }
+    ensures { IfOk result (λ out. out ≡ entity_kind_of (EntityDecl.Standard decl.now)) }
 {
-    let StandardEntityDecl {
-        names: _names,
-        member_of_types,
-        attrs,
-        tags,
-    } = decl;
-    let member_of_types = raw_names(alloc, member_of_types)?;
-    let shape = AttributesOrContext(record_type(alloc, attrs)?);
-    let tags = tags_of(alloc, tags)?;
+    let member_of_types = raw_names(alloc, &decl.member_of_types)?;
+    let shape = AttributesOrContext(record_type(alloc, &decl.attrs)?);
+    let tags = tags_of(alloc, &decl.tags)?;
     let standard = StandardEntityType {
         member_of_types,
         shape,
@@ -108,14 +102,10 @@ fn standard(
 
 // What an entity type is declared as whose entities are listed.
 #[inline(never)]
-fn listed(alloc: Global, decl: EnumEntityDecl<'_>) -> Result<EntityTypeKind<RawName>, AllocError>
-    ensures { IfOk result (λ out. out ≡ entity_kind_of (EntityDecl.Enum decl.entry)) }
+fn listed(alloc: Global, decl: &EnumEntityDecl<'_>) -> Result<EntityTypeKind<RawName>, AllocError>
+    ensures { IfOk result (λ out. out ≡ entity_kind_of (EntityDecl.Enum decl.now)) }
 {
-    let EnumEntityDecl {
-        names: _names,
-        choices,
-    } = decl;
-    let choices = choices_of(alloc, choices)?;
+    let choices = choices_of(alloc, &decl.choices)?;
     let choices = Boxed::new(alloc, choices)?;
     Ok(EntityTypeKind::Enum { choices })
 }
@@ -124,15 +114,11 @@ fn listed(alloc: Global, decl: EnumEntityDecl<'_>) -> Result<EntityTypeKind<RawN
 #[inline(never)]
 fn external(
     alloc: Global,
-    decl: ExternalEntityDecl<'_>,
+    decl: &ExternalEntityDecl<'_>,
 ) -> Result<EntityTypeKind<RawName>, AllocError>
-    ensures { IfOk result (λ out. out ≡ entity_kind_of (EntityDecl.External decl.entry)) }
+    ensures { IfOk result (λ out. out ≡ entity_kind_of (EntityDecl.External decl.now)) }
 {
-    let ExternalEntityDecl {
-        names: _names,
-        member_of_types,
-    } = decl;
-    let member_of_types = raw_names(alloc, member_of_types)?;
+    let member_of_types = raw_names(alloc, &decl.member_of_types)?;
     let standard = StandardEntityType {
         member_of_types,
         shape: nothing(alloc),
@@ -143,8 +129,8 @@ fn external(
 
 // What the entity types of the declaration are. Most are standard ones, and the others stand by themselves, so that these
 // need no room for them.
-fn kind(alloc: Global, decl: EntityDecl<'_>) -> Result<EntityTypeKind<RawName>, AllocError>
-    ensures { IfOk result (λ out. out ≡ entity_kind_of decl.entry) }
+fn kind(alloc: Global, decl: &EntityDecl<'_>) -> Result<EntityTypeKind<RawName>, AllocError>
+    ensures { IfOk result (λ out. out ≡ entity_kind_of decl.now) }
 {
     match decl {
         EntityDecl::Standard(decl) => standard(alloc, decl),
@@ -166,13 +152,13 @@ fn is_external(decl: &EntityDecl<'_>) -> bool
 /// What each entity type of the declaration is declared as, with these annotations and this place.
 pub fn entity_type(
     alloc: Global,
-    decl: EntityDecl<'_>,
+    decl: &EntityDecl<'_>,
     annotations: Annotations,
     loc: Option<Loc>,
 ) -> Result<EntityType<RawName>, AllocError>
-    ensures { IfOk result (λ out. out ≡ entity_type_of decl.entry annotations loc) }
+    ensures { IfOk result (λ out. out ≡ entity_type_of decl.now annotations loc) }
 {
-    let external = is_external(&decl);
+    let external = is_external(decl);
     let kind = kind(alloc, decl)?;
     Ok(EntityType {
         kind,

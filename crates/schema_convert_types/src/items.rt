@@ -1,4 +1,4 @@
-ghost use Rattle.std.specs.Prelude.{◌≡◌, map, IfOk};
+ghost use Rattle.std.specs.Prelude.{◌≡◌, ◌++◌, map, IfOk, OnOk};
 
 use cedar_data::NonEmpty;
 use std::alloc::{AllocError, Global};
@@ -17,8 +17,22 @@ pub(crate) trait Item<'a> {
         ensures { IfOk result (λ out. out ≡ translation item.now) };
 }
 
-/// What the items are translated to, in order. It stands by itself, so that what calls it needs no room for an item.
+// Adds what the items are translated to, in order. It stands by itself, so that what calls it needs no room for an item.
 #[inline(never)]
+fn add<'a, I: Item<'a>>(
+    alloc: Global,
+    translated: &mut Vec<I::Out>,
+    items: &[I::Tree],
+) -> Result<(), AllocError>
+    ensures { OnOk result (translated.new.items ≡ translated.old.items ++ map I.translation items.now) }
+{
+    for item in items {
+        translated.push(I::translate(alloc, item)?)?;
+    }
+    Ok(())
+}
+
+/// What the items are translated to, in order.
 pub(crate) fn all<'a, I: Item<'a>>(
     alloc: Global,
     items: &[I::Tree],
@@ -26,9 +40,7 @@ pub(crate) fn all<'a, I: Item<'a>>(
     ensures { IfOk result (λ out. out.items ≡ map I.translation items.now) }
 {
     let mut translated = Vec::with_capacity(alloc, items.len())?;
-    for item in items {
-        translated.push(I::translate(alloc, item)?)?;
-    }
+    add::<I>(alloc, &mut translated, items)?;
     Ok(translated)
 }
 
@@ -39,9 +51,9 @@ pub(crate) fn some<'a, I: Item<'a>>(
 ) -> Result<Vec<I::Out>, AllocError>
     ensures { IfOk result (λ out. out.items ≡ map I.translation items.now) }
 {
-    let mut translated = Vec::with_capacity(alloc, 1)?;
-    for item in items.iter() {
-        translated.push(I::translate(alloc, item)?)?;
-    }
+    let (first, others) = items.parts();
+    let mut translated = Vec::with_capacity(alloc, others.len().saturating_add(1))?;
+    translated.push(I::translate(alloc, first)?)?;
+    add::<I>(alloc, &mut translated, others)?;
     Ok(translated)
 }

@@ -13,7 +13,7 @@ use crate::entities::entity_type;
 use crate::entries::{map_by_places, push_each};
 use crate::names::internal_name;
 use crate::room::room_for;
-use crate::types::cedar_type_to_json_type;
+use crate::types::node_type;
 use cedar_data::{Boxed, List, Loc, Node, NonEmptyIter, Text};
 use cedar_identifiers::{Annotations, Id, InternalName, Name, RawName, UnreservedId};
 use schema_json::{
@@ -106,11 +106,11 @@ fn push_entity(
     alloc: Global,
     entries: &mut Vec<(UnreservedId, EntityType<RawName>)>,
     name: Option<UnreservedId>,
-    decl: EntityDecl<'_>,
+    decl: &EntityDecl<'_>,
     annotations: Annotations,
     loc: Option<Loc>,
 ) -> Result<(), AllocError>
-    ensures { OnOk result (entries.new.items ≡ entries.old.items ++ each_with (entity_type_of decl.entry annotations loc) (option_to_list name)) }
+    ensures { OnOk result (entries.new.items ≡ entries.old.items ++ each_with (entity_type_of decl.now annotations loc) (option_to_list name)) }
 {
     let of = entity_type(alloc, decl, annotations, loc)?;
     if let Some(name) = name {
@@ -124,11 +124,11 @@ fn push_entity(
 fn push_each_entity(
     alloc: Global,
     entries: &mut Vec<(UnreservedId, EntityType<RawName>)>,
-    decl: EntityDecl<'_>,
+    decl: &EntityDecl<'_>,
     annotations: Annotations,
     loc: Option<Loc>,
 ) -> Result<(), AllocError>
-    ensures { OnOk result (entries.new.items ≡ entries.old.items ++ entity_entries_of (Declaration.Entity decl.entry) annotations loc) }
+    ensures { OnOk result (entries.new.items ≡ entries.old.items ++ entity_entries_of (Declaration.Entity decl.now) annotations loc) }
 {
     let names = declarable(alloc, decl.names())?;
     let of = entity_type(alloc, decl, annotations, loc)?;
@@ -139,13 +139,13 @@ fn push_each_entity(
 fn push_entities(
     alloc: Global,
     entries: &mut Vec<(UnreservedId, EntityType<RawName>)>,
-    decl: EntityDecl<'_>,
+    decl: &EntityDecl<'_>,
     annotations: Annotations,
     loc: Option<Loc>,
 ) -> Result<(), AllocError>
-    ensures { OnOk result (entries.new.items ≡ entries.old.items ++ entity_entries_of (Declaration.Entity decl.entry) annotations loc) }
+    ensures { OnOk result (entries.new.items ≡ entries.old.items ++ entity_entries_of (Declaration.Entity decl.now) annotations loc) }
 {
-    match only_name(&decl) {
+    match only_name(decl) {
         None => push_each_entity(alloc, entries, decl, annotations, loc),
         Some(name) => {
             let name = unreserved_copy(alloc, &name.node)?;
@@ -159,13 +159,13 @@ fn push_entities(
 fn push_actions(
     alloc: Global,
     entries: &mut Vec<(Text, ActionType<RawName>)>,
-    decl: ActionDecl<'_>,
+    decl: &ActionDecl<'_>,
     annotations: Annotations,
     loc: Option<Loc>,
 ) -> Result<(), AllocError>
-    ensures { OnOk result (entries.new.items ≡ entries.old.items ++ action_entries_of (Declaration.Action decl.entry) annotations loc) }
+    ensures { OnOk result (entries.new.items ≡ entries.old.items ++ action_entries_of (Declaration.Action decl.now) annotations loc) }
 {
-    let names = action_ids(alloc, &decl)?;
+    let names = action_ids(alloc, decl)?;
     let of = action_type(alloc, decl, annotations, loc)?;
     push_each(alloc, entries, names, of)
 }
@@ -175,20 +175,19 @@ fn push_actions(
 fn push_common(
     alloc: Global,
     entries: &mut Vec<(CommonTypeId, CommonType<RawName>)>,
-    decl: TypeDecl<'_>,
+    decl: &TypeDecl<'_>,
     annotations: Annotations,
     loc: Option<Loc>,
 ) -> Result<(), AllocError>
-    ensures { OnOk result (entries.new.items ≡ entries.old.items ++ common_entries_of (Declaration.Common decl.entry) annotations loc) }
+    ensures { OnOk result (entries.new.items ≡ entries.old.items ++ common_entries_of (Declaration.Common decl.now) annotations loc) }
 {
-    let TypeDecl { name, def } = decl;
-    let ty = cedar_type_to_json_type(alloc, def)?;
+    let ty = node_type(alloc, &decl.def)?;
     let of = CommonType {
         ty,
         annotations,
         loc,
     };
-    if let Some(id) = unreserved_copy(alloc, &name.node)? {
+    if let Some(id) = unreserved_copy(alloc, &decl.name.node)? {
         entries.push((CommonTypeId { id }, of))?;
     }
     Ok(())
@@ -198,27 +197,20 @@ fn push_common(
 pub fn push_declared<'a>(
     alloc: Global,
     entries: &mut Entries,
-    decl: Annotated<'a, Node<Declaration<'a>>>,
+    decl: &Annotated<'a, Node<Declaration<'a>>>,
 ) -> Result<(), AllocError>
-    ensures commons { OnOk result (entries.new.commons.items ≡ entries.old.commons.items ++ common_entries_of decl.entry.item.node decl.entry.annotations decl.entry.item.loc) }
-    ensures entities { OnOk result (entries.new.entities.items ≡ entries.old.entities.items ++ entity_entries_of decl.entry.item.node decl.entry.annotations decl.entry.item.loc) }
-    ensures actions { OnOk result (entries.new.actions.items ≡ entries.old.actions.items ++ action_entries_of decl.entry.item.node decl.entry.annotations decl.entry.item.loc) }
+    ensures commons { OnOk result (entries.new.commons.items ≡ entries.old.commons.items ++ common_entries_of decl.now.item.node decl.now.annotations decl.now.item.loc) }
+    ensures entities { OnOk result (entries.new.entities.items ≡ entries.old.entities.items ++ entity_entries_of decl.now.item.node decl.now.annotations decl.now.item.loc) }
+    ensures actions { OnOk result (entries.new.actions.items ≡ entries.old.actions.items ++ action_entries_of decl.now.item.node decl.now.annotations decl.now.item.loc) }
 {
-    let (item, annotations) = decl.into_parts();
-    let (decl, loc) = item.into_inner();
-    let annotations = annotations.to_annotations(alloc)?;
-    match decl {
+    let annotations = decl.annotations.to_annotations(alloc)?;
+    let loc = decl.item.loc;
+    match &decl.item.node {
         Declaration::Entity(decl) => {
             push_entities(alloc, &mut entries.entities, decl, annotations, loc)
         }
         Declaration::Action(decl) => {
-            push_actions(
-                alloc,
-                &mut entries.actions,
-                decl.into_inner(),
-                annotations,
-                loc,
-            )
+            push_actions(alloc, &mut entries.actions, decl.get(), annotations, loc)
         }
         Declaration::Common(decl) => {
             push_common(alloc, &mut entries.commons, decl, annotations, loc)
@@ -226,7 +218,7 @@ pub fn push_declared<'a>(
     }
 }
 
-// What the declarations declare.
+// What the declarations declare, each of which is let go once it is translated.
 fn entries_of<'a>(
     alloc: Global,
     decls: List<Annotated<'a, Node<Declaration<'a>>>>,
@@ -243,7 +235,7 @@ fn entries_of<'a>(
         actions: Vec::with_capacity(alloc, room.actions)?,
     };
     for decl in decls {
-        push_declared(alloc, &mut entries, decl)?;
+        push_declared(alloc, &mut entries, &decl)?;
     }
     Ok(entries)
 }
@@ -301,9 +293,9 @@ pub fn declared_key(alloc: Global, path: &Path<'_>) -> Result<Option<Name>, Allo
 // The name of a namespace that may be declared.
 fn namespace_key(
     alloc: Global,
-    name: Option<Boxed<Path<'_>>>,
+    name: &Option<Boxed<Path<'_>>>,
 ) -> Result<Option<Option<Name>>, AllocError>
-    ensures { IfOk result (λ key. key ≡ namespace_key name.entry) }
+    ensures { IfOk result (λ key. key ≡ namespace_key name.now) }
 {
     match name {
         None => Ok(Some(None)),
@@ -324,7 +316,7 @@ fn push_namespace<'a>(
 {
     let (item, annotations) = namespace.into_parts();
     let (name, decls, _) = item.into_parts();
-    let Some(key) = namespace_key(alloc, name)? else {
+    let Some(key) = namespace_key(alloc, &name)? else {
         return Ok(());
     };
     let annotations = annotations.to_annotations(alloc)?;

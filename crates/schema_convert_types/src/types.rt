@@ -17,6 +17,16 @@ pub fn cedar_type_to_json_type(
 ) -> Result<Type<RawName>, AllocError>
     ensures { IfOk result (λ shape. shape ≡ type_of ty.entry) }
 {
+    node_type(alloc, &ty)
+}
+
+/// What a type of the tree becomes, at its place.
+pub(crate) fn node_type(
+    alloc: Global,
+    ty: &Node<schema_syntax_tree::Type<'_>>,
+) -> Result<Type<RawName>, AllocError>
+    ensures { IfOk result (λ shape. shape ≡ type_of ty.now) }
+{
     type_at(alloc, &ty.node, ty.loc)
 }
 
@@ -115,9 +125,9 @@ fn attribute_with<'a>(
 /// What the attributes of an entity type or of a context become.
 pub(crate) fn record_type<'a>(
     alloc: Global,
-    attributes: Node<List<Node<Annotated<'a, AttrDecl<'a>>>>>,
+    attributes: &Node<List<Node<Annotated<'a, AttrDecl<'a>>>>>,
 ) -> Result<Type<RawName>, AllocError>
-    ensures { IfOk result (λ shape. shape ≡ record_of_attributes attributes.entry) }
+    ensures { IfOk result (λ shape. shape ≡ record_of_attributes attributes.now) }
 {
     Ok(Type::Variant {
         ty: TypeVariant::Record(record_of(alloc, attributes.node.as_slice())?),
