@@ -2,6 +2,8 @@
 #![tactic(auto)]
 
 #[cfg(test)]
+mod as_library;
+#[cfg(test)]
 mod hostile;
 #[cfg(test)]
 mod json_table;

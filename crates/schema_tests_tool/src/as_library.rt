@@ -1,6 +1,5 @@
-//! The front end used as a library. A schema is read, its fragment is printed, so is the fragment that is recovered of the
-//! built schema, the types above a type are asked for, and a text that is no schema is refused.
-#![tactic(auto)]
+// The front end used as a library. A schema is read, its fragment is printed, so is the fragment that is recovered of the
+// built schema, the types above a type are asked for, and a text that is no schema is refused.
 
 use cedar_data::{Shared, Text};
 use cedar_identifiers::{Name, NameText, RawName};
@@ -9,8 +8,6 @@ use schema_build::{CedarSchemaError, FromCedarSchema, ValidatorSchema};
 use schema_json::Fragment;
 use schema_print::ToCedarSchema;
 use std::alloc::Global;
-use std::io::Write;
-use std::process::ExitCode;
 
 const SCHEMA: &str = "\
 namespace Photos {
@@ -20,6 +17,53 @@ namespace Photos {
   entity Photo = { owner: User, size?: Size };
   action view appliesTo { principal: User, resource: Photo };
 }
+";
+
+// What is shown. The two texts and the refusal are what a second program says of the same schemas, and the line between
+// them is the parent that the schema writes.
+const SHOWN: &str = "\
+namespace Photos {
+  type Size = {
+    height: Long,
+    width: Long,
+  };
+
+  entity Group in [Group];
+
+  entity Photo = {
+    owner: User,
+    size?: Size,
+  };
+
+  entity User in [Group];
+
+  action \"view\" appliesTo {
+    principal: [User],
+    resource: [Photo],
+    context: {},
+  };
+}
+namespace Photos {
+  entity Group in [Photos::Group];
+
+  entity Photo = {
+    owner: Photos::User,
+    size?: {
+      height: __cedar::Long,
+      width: __cedar::Long,
+    },
+  };
+
+  entity User in [Photos::Group];
+
+  action \"view\" appliesTo {
+    principal: [Photos::User],
+    resource: [Photos::Photo],
+    context: {},
+  };
+}
+Photos::User is in Photos::Group
+failed to resolve type: Gruop
 ";
 
 const NO_SCHEMA: &str = "entity User in Gruop; entity Group;";
@@ -82,12 +126,11 @@ fn shown(alloc: Global) -> Option<Text> {
     Some(text)
 }
 
-fn main(rt: HostRuntime) -> ExitCode {
-    match shown(rt.alloc()) {
-        Some(text) => match rt.stdout().write_all(text.as_str().as_bytes()) {
-            Ok(()) => ExitCode::SUCCESS,
-            Err(_) => ExitCode::from(1),
-        },
-        None => ExitCode::from(1),
-    }
+#[test]
+fn all_four_are_shown(rt: HostRuntime) {
+    let is_shown = match shown(rt.alloc()) {
+        Some(text) => text.as_str() == SHOWN,
+        None => false,
+    };
+    assert!(rt; is_shown);
 }
