@@ -1,3 +1,4 @@
+pub mod Depths
 mod Erased
 pub mod Same
 pub mod Sizes

@@ -1,5 +1,9 @@
-use Rattle.std.proofs.Common.{rules, arith, ◌≡◌, ap, sym, ◌∙◌, get_or, Some, None}
-use Rattle.schema_json.specs.declared.types.TypeOfAttribute.{size-TypeOfAttribute, size_is-TypeOfAttribute}
+use Rattle.std.proofs.Common.{rules, arith, List, ℕ, ◌≡◌, ap, sym, ◌∙◌, get_or, Some, None}
+use Rattle.schema_json.specs.declared.types.TypeOfAttribute.{TypeOfAttribute, size-TypeOfAttribute, size_is-TypeOfAttribute}
+use Rattle.schema_json.proofs.Depths.{variant_below, element_below, entries_in_variant}
+use Rattle.schema_json.specs.declared.types.Type.{size-Type}
+use Rattle.std.specs.Map.{values_of}
+use denote.Param.Weighed.{most}
 use Rattle.schema_json.proofs.Sizes.{most_at}
 use Rattle.schema_json.proofs.Walks.{answers_step, variant_answered, either_more, one_answer}
 use Rattle.schema_json.proofs.+extension.Goals as goal
@@ -36,3 +40,21 @@ pub types::TypeVariant::is_extension-returns-in-Record : goal.types::TypeVariant
 types::TypeVariant::is_extension-returns-in-Record g t c =
     rw (c.in-Record.is, variant_answered g.row.N.Denot c.in-Record.record, ← c.as_slice.ensures.entries)
     c.is_extension_among.ensures
+
+pub types::Type::is_extension-is_extension-requires : goal.types::Type::is_extension-is_extension-requires
+types::Type::is_extension-is_extension-requires g t c κs within =
+    (omega (arith, variant_below g.row.N.Denot c.in-Variant.ty c.in-Variant.loc c.args.self.now c.in-Variant.is, c.decreases), search rules)
+
+pub types::TypeVariant::is_extension-is_extension-requires : goal.types::TypeVariant::is_extension-is_extension-requires
+types::TypeVariant::is_extension-is_extension-requires g t c κs within =
+    let size = size-Type g.row.N.Denot in
+    let below = element_below g.row.N.Denot c.in-Set.element c.args.self.now c.in-Set.is in
+    let same : size c.get.result.now ≡ size c.in-Set.element = ap size c.get.ensures in
+    (omega (arith, below, same, c.decreases), search rules)
+
+pub types::TypeVariant::is_extension-is_extension_among-requires : goal.types::TypeVariant::is_extension-is_extension_among-requires
+types::TypeVariant::is_extension-is_extension_among-requires g t c κs within =
+    let below = entries_in_variant g.row.N.Denot c.in-Record.record c.args.self.now c.in-Record.is in
+    let same = ap (λ (es : List (List ℕ × TypeOfAttribute g.row.N.Denot)). most (size-TypeOfAttribute g.row.N.Denot)
+    (values_of es)) c.as_slice.ensures.entries in
+    (omega (arith, below, same, c.decreases), search rules)

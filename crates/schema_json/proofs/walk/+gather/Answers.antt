@@ -1,7 +1,11 @@
-use Rattle.std.proofs.Common.{rules, arith, ◌≡◌, ap, get_or, append_assoc}
+use Rattle.std.proofs.Common.{rules, arith, List, ℕ, ◌≡◌, ap, get_or, append_assoc}
 use Rattle.std.proofs.lemmas.List.{map-append}
-use Rattle.schema_json.specs.declared.types.TypeOfAttribute.{size-TypeOfAttribute, size_is-TypeOfAttribute}
+use Rattle.std.specs.Map.{values_of}
+use denote.Param.Weighed.{most}
+use Rattle.schema_json.specs.declared.types.Type.{size-Type}
+use Rattle.schema_json.specs.declared.types.TypeOfAttribute.{TypeOfAttribute, size-TypeOfAttribute, size_is-TypeOfAttribute}
 use Rattle.schema_json.proofs.Sizes.{most_at}
+use Rattle.schema_json.proofs.Depths.{variant_below, element_below, entries_in_variant}
 use Rattle.schema_json.proofs.Walks.{entries_step, variant_record, variant_common}
 use Rattle.schema_json.proofs.walk.+gather.Goals as goal
 
@@ -14,6 +18,24 @@ gather_entries-gather-requires g t c κs within =
     c.loop-attribute-item.is in
     let below = size_is-TypeOfAttribute g.row.N.Denot it.1 in
     (omega (arith, le, same, c.decreases, below), search rules)
+
+pub gather-gather_variant-requires : goal.gather-gather_variant-requires
+gather-gather_variant-requires g t c κs within =
+    let below = variant_below g.row.N.Denot c.in-Variant.ty c.in-Variant.loc c.args.ty.now c.in-Variant.is in
+    (omega (arith, below, c.decreases), search rules)
+
+pub gather_variant-gather-requires : goal.gather_variant-gather-requires
+gather_variant-gather-requires g t c κs within =
+    let below = element_below g.row.N.Denot c.in-Set.element c.args.ty.now c.in-Set.is in
+    let same = ap (size-Type g.row.N.Denot) c.get.ensures in
+    (omega (arith, below, same, c.decreases), search rules)
+
+pub gather_variant-gather_entries-requires : goal.gather_variant-gather_entries-requires
+gather_variant-gather_entries-requires g t c κs within =
+    let below = entries_in_variant g.row.N.Denot c.in-Record.record c.args.ty.now c.in-Record.is in
+    let same = ap (λ (es : List (List ℕ × TypeOfAttribute g.row.N.Denot)). most (size-TypeOfAttribute g.row.N.Denot)
+    (values_of es)) c.as_slice.ensures.entries in
+    (omega (arith, below, same, c.decreases), search rules)
 
 pub gather_entries-loop-attribute-preserved : goal.gather_entries-loop-attribute-preserved
 gather_entries-loop-attribute-preserved g t c =

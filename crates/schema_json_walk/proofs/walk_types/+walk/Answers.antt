@@ -1,7 +1,11 @@
-use Rattle.std.proofs.Common.{rules, arith, ◌≡◌, ap, get_or, sym, subst}
+use Rattle.std.proofs.Common.{rules, arith, List, ℕ, ◌≡◌, ap, get_or, sym, subst}
 use Rattle.std.specs.List.{FoldsTo}
-use Rattle.schema_json.specs.declared.types.TypeOfAttribute.{size-TypeOfAttribute, size_is-TypeOfAttribute}
+use Rattle.std.specs.Map.{values_of}
+use denote.Param.Weighed.{most}
+use Rattle.schema_json.specs.declared.types.Type.{size-Type}
+use Rattle.schema_json.specs.declared.types.TypeOfAttribute.{TypeOfAttribute, size-TypeOfAttribute, size_is-TypeOfAttribute}
 use Rattle.schema_json.proofs.Sizes.{most_at}
+use Rattle.schema_json.proofs.Depths.{variant_below, element_below, record_below, entries_below}
 use Rattle.schema_json_walk.specs.Visits.{StopsAmong}
 use Rattle.schema_json_walk.specs.Walk.{itself, of_attribute}
 use Rattle.schema_json_walk.proofs.Layers.{record_walked, variant_walked, attribute_walked}
@@ -17,6 +21,29 @@ walk_entries-walk_type-requires g t c κs within =
     c.loop-attribute-item.is in
     let below = size_is-TypeOfAttribute g.row.N.Denot it.1 in
     (omega (arith, le, same, c.decreases, below), search rules)
+
+pub walk_type-walk_variant-requires : goal.walk_type-walk_variant-requires
+walk_type-walk_variant-requires g t c κs within =
+    let below = variant_below g.row.N.Denot c.in-Variant.ty c.in-Variant.loc c.args.ty.now c.in-Variant.is in
+    (omega (arith, below, c.decreases), search rules)
+
+pub walk_variant-walk_type-requires : goal.walk_variant-walk_type-requires
+walk_variant-walk_type-requires g t c κs within =
+    let below = element_below g.row.N.Denot c.in-Set.element c.args.shape.now c.in-Set.is in
+    let same = ap (size-Type g.row.N.Denot) c.get.ensures in
+    (omega (arith, below, same, c.decreases), search rules)
+
+pub walk_variant-walk_record-requires : goal.walk_variant-walk_record-requires
+walk_variant-walk_record-requires g t c κs within =
+    let below = record_below g.row.N.Denot c.in-Record.fields c.args.shape.now c.in-Record.is in
+    (omega (arith, below, c.decreases), search rules)
+
+pub walk_record-walk_entries-requires : goal.walk_record-walk_entries-requires
+walk_record-walk_entries-requires g t c κs within =
+    let below = entries_below g.row.N.Denot c.args.fields.now in
+    let same = ap (λ (es : List (List ℕ × TypeOfAttribute g.row.N.Denot)). most (size-TypeOfAttribute g.row.N.Denot)
+    (values_of es)) c.as_slice.ensures.entries in
+    (omega (arith, below, same, c.decreases), search rules)
 
 pub walk_entries-loop-attribute-preserved : goal.walk_entries-loop-attribute-preserved
 walk_entries-loop-attribute-preserved g t c =

@@ -1,7 +1,12 @@
-use Rattle.std.proofs.Common.{◌≡◌, ◌∷◌, ◌++◌, [], ap, sym, ◌∙◌, get_or, rules, arith}
+use Rattle.std.proofs.Common.{◌≡◌, ◌∷◌, List, ℕ, ◌++◌, [], ap, sym, ◌∙◌, get_or, rules, arith}
 use Rattle.cedar_data.specs.Entries.{on_value, keys_on_values}
 use Rattle.schema_json.specs.declared.types.TypeOfAttribute.{size-TypeOfAttribute}
 use Rattle.schema_json.proofs.Sizes.{most_at}
+use Rattle.schema_json.proofs.Depths.{variant_below, element_below, record_below, entries_below, type_below}
+use Rattle.schema_json.specs.declared.types.Type.{size-Type}
+use Rattle.schema_json.specs.declared.types.TypeOfAttribute.{TypeOfAttribute}
+use Rattle.std.specs.Map.{values_of}
+use denote.Param.Weighed.{most}
 use Rattle.schema_json.specs.declared.types.Type.TheVariants.{Variant}
 use Rattle.schema_json.specs.declared.types.TypeVariant.TheVariants.{Record}
 use Rattle.schema_resolve.specs.ReferenceParts.{by_reference}
@@ -90,3 +95,42 @@ pub rename_at-returns-in_ok-fields-in-Record-clause-defined :
 rename_at-returns-in_ok-fields-in-Record-clause-defined g t c =
     rw (c.in-Record.is, variant_walked (by_reference (g.R.Renamer.untargeted c.args.renamer.now)) c.in-Record.fields)
     c.in_ok-fields-in-Record.ensures.defined
+
+pub attribute_type-reference_or_at-requires : goal.attribute_type-reference_or_at-requires
+attribute_type-reference_or_at-requires g t c κs within =
+    let below = variant_below g.row.N.Denot c.in-Variant.ty c.in-Variant.loc c.args.ty.now c.in-Variant.is in
+    (omega (arith, below, c.decreases), search rules)
+
+pub attribute_type-rename_type-requires : goal.attribute_type-rename_type-requires
+attribute_type-rename_type-requires g t c κs within = (omega (arith, c.decreases), search rules)
+
+pub reference_or_at-rename_at-requires : goal.reference_or_at-rename_at-requires
+reference_or_at-rename_at-requires g t c κs within = (omega (arith, c.decreases), search rules)
+
+pub rename_at-rename_type-requires : goal.rename_at-rename_type-requires
+rename_at-rename_type-requires g t c κs within =
+    let below = element_below g.row.N.Denot c.in-Set.element c.args.shape.now c.in-Set.is in
+    let same = ap (size-Type g.row.N.Denot) c.get.ensures in
+    (omega (arith, below, same, c.decreases), search rules)
+
+pub rename_at-rename_record-requires : goal.rename_at-rename_record-requires
+rename_at-rename_record-requires g t c κs within =
+    let below = record_below g.row.N.Denot c.in-Record.fields c.args.shape.now c.in-Record.is in
+    (omega (arith, below, c.decreases), search rules)
+
+pub rename_attribute-attribute_type-requires : goal.rename_attribute-attribute_type-requires
+rename_attribute-attribute_type-requires g t c κs within =
+    let below = type_below g.row.N.Denot c.args.attribute.now in
+    (omega (arith, below, c.decreases), search rules)
+
+pub rename_record-rename_entries-requires : goal.rename_record-rename_entries-requires
+rename_record-rename_entries-requires g t c κs within =
+    let below = entries_below g.row.N.Denot c.args.fields.now in
+    let same = ap (λ (es : List (List ℕ × TypeOfAttribute g.row.N.Denot)). most (size-TypeOfAttribute g.row.N.Denot)
+    (values_of es)) c.as_slice.ensures.entries in
+    (omega (arith, below, same, c.decreases), search rules)
+
+pub rename_type-rename_at-requires : goal.rename_type-rename_at-requires
+rename_type-rename_at-requires g t c κs within =
+    let below = variant_below g.row.N.Denot c.in-Variant.ty c.in-Variant.loc c.args.ty.now c.in-Variant.is in
+    (omega (arith, below, c.decreases), search rules)
