@@ -1,12 +1,17 @@
-use Rattle.std.proofs.Common.{arith, rules, ◌≡◌, ap, sym, ◌∙◌, get_or, map, not, codes, true, false}
+use Rattle.std.proofs.Common.{arith, rules, List, ℕ, ◌≡◌, ap, sym, ◌∙◌, get_or, map, not, codes, true, false}
 use Rattle.std.specs.Str.{encode_utf8_all}
 use Rattle.std.proofs.lemmas.Result.{IfOk-weaker}
 use Rattle.serde_json.specs.Data.{object, no_members, put}
 use Rattle.serde_json.specs.View.{members_view}
 use Rattle.serde_json.proofs.Views.{view-Object}
+use Rattle.std.specs.Map.{values_of}
+use denote.Param.Weighed.{most}
+use Rattle.schema_json.specs.declared.types.Type.{size-Type}
+use Rattle.schema_json.specs.declared.types.TypeOfAttribute.{TypeOfAttribute}
 use Rattle.schema_json.specs.declared.types.TypeOfAttribute.{out-TypeOfAttribute, size-TypeOfAttribute}
 use Rattle.schema_json.specs.declared.types.TypeOfAttribute.{size_is-TypeOfAttribute}
 use Rattle.schema_json.specs.declared.types.RecordType.{out-RecordType}
+use Rattle.schema_json.proofs.Depths.{variant_below, element_below, entries_in_variant}
 use Rattle.schema_json_values.specs.TypeValues.{put_all, attribute_entry, type_members, variant_members, with_word}
 use Rattle.schema_json_values.specs.TypeValues.{with_flag, with_annotations}
 use Rattle.schema_json_values.proofs.Layers.{most_at, put_step, attribute_out, type_variant, type_common}
@@ -75,6 +80,24 @@ attribute_entries-type_members-requires g t c κs within =
     c.loop-name-item.is in
     let below = size_is-TypeOfAttribute g.row.N.Denot it.1 in
     (omega (arith, le, same, c.decreases, below), search rules)
+
+pub type_members-variant_members-requires : goal.type_members-variant_members-requires
+type_members-variant_members-requires g t c κs within =
+    let below = variant_below g.row.N.Denot c.in-Variant.ty c.in-Variant.loc c.args.ty.now c.in-Variant.is in
+    (omega (arith, below, c.decreases), search rules)
+
+pub variant_members-type_members-requires : goal.variant_members-type_members-requires
+variant_members-type_members-requires g t c κs within =
+    let below = element_below g.row.N.Denot c.in-Set.element c.args.ty.now c.in-Set.is in
+    let same = ap (size-Type g.row.N.Denot) c.get.ensures in
+    (omega (arith, below, same, c.decreases), search rules)
+
+pub variant_members-attribute_entries-requires : goal.variant_members-attribute_entries-requires
+variant_members-attribute_entries-requires g t c κs within =
+    let below = entries_in_variant g.row.N.Denot c.in-Record.record c.args.ty.now c.in-Record.is in
+    let same = ap (λ (es : List (List ℕ × TypeOfAttribute g.row.N.Denot)). most (size-TypeOfAttribute g.row.N.Denot)
+    (values_of es)) c.as_slice.ensures.entries in
+    (omega (arith, below, same, c.decreases), search rules)
 
 pub attribute_entries-loop-name-preserved : goal.attribute_entries-loop-name-preserved
 attribute_entries-loop-name-preserved g t c =
