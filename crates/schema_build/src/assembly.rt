@@ -117,70 +117,70 @@ fn all_names_at<K: CloneIn, T>(
     Ok(lists)
 }
 
-// An entity type from its declaration, its ancestors and what is built for it.
-fn entity_type_of(
-    parts: (
-        (DeclaredEntity<'_>, List<Shared<Name>>),
-        ValidatorEntityTypeKind,
-    ),
-) -> EntityTypeEntry
-    ensures { result ≡ entity_type_of parts.entry }
-{
-    let ((entry, ancestors), kind) = parts;
-    EntityTypeEntry {
-        name: entry.name,
-        ty: ValidatorEntityType { ancestors, kind },
+// What is put together of a declaration, its ancestors and what is built for it.
+trait Assembled<D: Drop, A: Drop, K: Drop>: Drop {
+    ghost use Rattle.std.specs.Prelude.{◌≡◌};
+
+    ghost assembly: { (D × A) × K → Self };
+
+    fn of(parts: ((D, A), K)) -> Self
+        ensures { result ≡ assembly parts };
+}
+
+impl<'f> Assembled<DeclaredEntity<'f>, List<Shared<Name>>, ValidatorEntityTypeKind>
+    for EntityTypeEntry {
+    ghost assembly = { entity_type_of };
+
+    fn of(
+        parts: (
+            (DeclaredEntity<'f>, List<Shared<Name>>),
+            ValidatorEntityTypeKind,
+        ),
+    ) -> EntityTypeEntry
+        ensures { result ≡ entity_type_of parts.entry }
+    {
+        let ((entry, ancestors), kind) = parts;
+        EntityTypeEntry {
+            name: entry.name,
+            ty: ValidatorEntityType { ancestors, kind },
+        }
     }
 }
 
-// An action from its declaration, its ancestors and what is built for it.
-fn action_of(
-    parts: (
-        (DeclaredAction<'_>, List<Shared<EntityUID>>),
-        ValidatorActionKind,
-    ),
-) -> ActionEntry
-    ensures { result ≡ action_of_parts parts.entry }
-{
-    let ((entry, ancestors), kind) = parts;
-    ActionEntry {
-        uid: entry.name,
-        action: ValidatorActionId { ancestors, kind },
+impl<'f> Assembled<DeclaredAction<'f>, List<Shared<EntityUID>>, ValidatorActionKind>
+    for ActionEntry {
+    ghost assembly = { action_of_parts };
+
+    fn of(
+        parts: (
+            (DeclaredAction<'f>, List<Shared<EntityUID>>),
+            ValidatorActionKind,
+        ),
+    ) -> ActionEntry
+        ensures { result ≡ action_of_parts parts.entry }
+    {
+        let ((entry, ancestors), kind) = parts;
+        ActionEntry {
+            uid: entry.name,
+            action: ValidatorActionId { ancestors, kind },
+        }
     }
 }
 
-// The entity types, put together.
-fn entity_types_of(
+// The declarations, each put together with its ancestors and what is built for it.
+fn put_together<D: Drop, A: Drop, K: Drop, B: Assembled<D, A, K>>(
     alloc: Global,
-    entries: Vec<DeclaredEntity<'_>>,
-    ancestors: Vec<List<Shared<Name>>>,
-    kinds: Vec<ValidatorEntityTypeKind>,
-) -> Result<Vec<EntityTypeEntry>, AllocError>
-    ensures { IfOk result (λ built. built.items ≡ map entity_type_of (zip (zip entries.entry.items ancestors.items) kinds.items)) }
+    entries: Vec<D>,
+    ancestors: Vec<A>,
+    kinds: Vec<K>,
+) -> Result<Vec<B>, AllocError>
+    ensures { IfOk result (λ built. built.items ≡ map B.assembly (zip (zip entries.items ancestors.items) kinds.items)) }
 {
-    entries
-        .into_iter()
-        .zip(ancestors)
-        .zip(kinds)
-        .map(entity_type_of)
-        .collect(alloc)
-}
-
-// The actions, put together.
-fn actions_of(
-    alloc: Global,
-    entries: Vec<DeclaredAction<'_>>,
-    ancestors: Vec<List<Shared<EntityUID>>>,
-    kinds: Vec<ValidatorActionKind>,
-) -> Result<Vec<ActionEntry>, AllocError>
-    ensures { IfOk result (λ built. built.items ≡ map action_of_parts (zip (zip entries.entry.items ancestors.items) kinds.items)) }
-{
-    entries
-        .into_iter()
-        .zip(ancestors)
-        .zip(kinds)
-        .map(action_of)
-        .collect(alloc)
+    let mut built = Vec::with_capacity(alloc, entries.len())?;
+    for parts in entries.into_iter().zip(ancestors).zip(kinds) {
+        built.push(B::of(parts))?;
+    }
+    Ok(built)
 }
 
 // The entity types of a fragment, from their declarations, the places of their ancestors and what is built for each.
@@ -194,7 +194,7 @@ pub(crate) fn entity_types(
     ensures { (f : Fragments Raw ⟦<RawName as NameText>⟧) (table : Table) → HoldEntities f table entries.entry.items above.now kinds.items → IfOk result (λ built. AreEntitiesBuilt f table built.items) }
 {
     let ancestors = all_names_at(alloc, &entries, above)?;
-    entity_types_of(alloc, entries, ancestors, kinds)
+    put_together(alloc, entries, ancestors, kinds)
 }
 
 // The actions of a fragment, from their declarations, the places of their ancestors and what is built for each.
@@ -208,7 +208,7 @@ pub(crate) fn actions(
     ensures { (f : Fragments Raw ⟦<RawName as NameText>⟧) (table : Table) → HoldActions f table entries.entry.items above.now kinds.items → IfOk result (λ built. AreActionsBuilt f table built.items) }
 {
     let ancestors = all_names_at(alloc, &entries, above)?;
-    actions_of(alloc, entries, ancestors, kinds)
+    put_together(alloc, entries, ancestors, kinds)
 }
 
 // The entries of a map of entity types.

@@ -10,5 +10,5 @@ returns c f table hold =
     c.deref.ensures.value c.in_ok-ancestors.ensures in
     let built = actions_built f table c.args.entries.items c.args.above.now c.in_ok-ancestors.ancestors.items
     c.args.kinds.items hold at in
-    IfOk-weaker c.actions_of.result _ (λ out. AreActionsBuilt f table out.items)
-    (λ out is. subst (AreActionsBuilt f table) (sym is) built) c.actions_of.ensures
+    IfOk-weaker c.put_together.result _ (λ out. AreActionsBuilt f table out.items)
+    (λ out is. subst (AreActionsBuilt f table) (sym is) built) c.put_together.ensures

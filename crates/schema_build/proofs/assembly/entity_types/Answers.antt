@@ -10,5 +10,5 @@ returns c f table hold =
     c.deref.ensures.value c.in_ok-ancestors.ensures in
     let built = entities_built f table c.args.entries.items c.args.above.now c.in_ok-ancestors.ancestors.items
     c.args.kinds.items hold at in
-    IfOk-weaker c.entity_types_of.result _ (λ out. AreEntitiesBuilt f table out.items)
-    (λ out is. subst (AreEntitiesBuilt f table) (sym is) built) c.entity_types_of.ensures
+    IfOk-weaker c.put_together.result _ (λ out. AreEntitiesBuilt f table out.items)
+    (λ out is. subst (AreEntitiesBuilt f table) (sym is) built) c.put_together.ensures
