@@ -1,6 +1,6 @@
 -- The values of texts without a number and without a key twice in an object, a turn at a time.
 use Rattle.std.proofs.Common.{◌≡◌, ℕ, ◌-◌, ◌<◌, ◌≤◌, Bool, true, false, List, [], ◌∷◌, ◌++◌, Option, Some, None, length}
-use Rattle.std.proofs.Common.{String, BTreeMap, Global, refl, sym, ap, ◌∙◌, subst, string_bytes, string_cmp, true≢false}
+use Rattle.std.proofs.Common.{String, Global, refl, sym, ap, ◌∙◌, subst, string_bytes, string_cmp, true≢false}
 use Rattle.std.specs.Prelude.{◌||◌, is_some, option_map, option_and_then}
 use Rattle.std.specs.List.{list_any}
 use Rattle.std.specs.Str.{bytes_eq}

@@ -1,7 +1,7 @@
 -- The walk of a type, layer by layer.
 use Rattle.std.proofs.Common.{◌≡◌, List, ◌++◌, ap, sym, ◌∙◌}
 use Rattle.schema_json.proofs.Walks.{values_walked}
-use Rattle.schema_json.specs.declared.types.TypeVariant.{TypeVariant, TypeVariant-F, fold-roll-TypeVariant}
+use Rattle.schema_json.specs.declared.types.TypeVariant.{TypeVariant-F, fold-roll-TypeVariant}
 use Rattle.schema_json.specs.declared.types.TypeVariant.TheVariants.{Record, rolls-Record}
 use Rattle.schema_json.specs.declared.types.RecordType.{RecordType, out-RecordType, fold_out-RecordType}
 use Rattle.schema_json.specs.declared.types.TypeOfAttribute.{TypeOfAttribute, out-TypeOfAttribute}

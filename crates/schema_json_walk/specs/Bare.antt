@@ -1,6 +1,6 @@
 -- What is bare: an entity type without attributes and tags that is no enum, and an action of which neither attributes
 -- are written nor what it applies to.
-use Rattle.std.specs.Prelude.{Bool, false, not, ◌&&◌, is_none}
+use Rattle.std.specs.Prelude.{Bool, false, ◌&&◌, is_none}
 use Rattle.cedar_identifiers.specs.declared.name_text.NameText as named
 use Rattle.schema_json.specs.Shapes.{is_empty_type}
 use Rattle.schema_json.specs.declared.entity_type.EntityType.{EntityType}

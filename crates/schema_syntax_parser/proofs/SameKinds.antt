@@ -1,5 +1,5 @@
 -- Two kinds of tokens are the same where their numbers are.
-use Rattle.std.proofs.Common.{◌≡◌, Bool, true, false, refl, sym, subst}
+use Rattle.std.proofs.Common.{◌≡◌, Bool, true, false, refl, sym}
 use Rattle.std.proofs.lemmas.Bool.{eq-eqb}
 use denote.Enum.Bare.{sameb, same_true, true_same}
 use Rattle.schema_syntax_grammar.specs.Grammar.{kind_number, same_kind}
