@@ -1,6 +1,6 @@
 -- No name is declared twice, so each declaration has its entry.
 use Rattle.std.proofs.Common.{◌≡◌, ℕ, suc, List, [], ◌∷◌, ◌++◌, map, take, length, ◌≤◌, refl, sym, ap, ◌∙◌, subst}
-use Rattle.std.proofs.Common.{arith, inl, inr, All, Contains, Option, Some, None, Ordering}
+use Rattle.std.proofs.Common.{◌+◌, ◌<◌, get_or, arith, inl, inr, All, Contains, Option, Some, None, Ordering}
 use Rattle.std.specs.Prelude.{slice_get, codes}
 use Rattle.std.specs.declared.cmp.Ordering.TheVariants.{Equal}
 use Rattle.std.specs.Cmp.{IsTotalOrder, on_total}
@@ -9,7 +9,7 @@ use Rattle.std.specs.List.Sorted.{IsStrictlySortedBy}
 use Rattle.std.specs.Map.{keys_of}
 use Rattle.std.specs.Option.{option_cmp}
 use Rattle.std.proofs.lemmas.Cmp.{tied_itself}
-use Rattle.std.proofs.lemmas.List.{map-append, take_all}
+use Rattle.std.proofs.lemmas.List.{flat_map_more, map-append, take_all, take_more}
 use Rattle.std.proofs.lemmas.List.Elements.{All-contains, Contains-append_cases}
 use Rattle.cedar_data.specs.Text.{text_cmp}
 use Rattle.cedar_identifiers.specs.Names.{components_of}
@@ -168,3 +168,13 @@ module _ {G : named.Ghosts RawName} (f : List (Option Name × NamespaceDefinitio
 pub whole_given : {A B : Type 0} (f : A → List B) (xs ys : List A) (i : ℕ) → length xs ≤ i → xs ≡ ys
     → flat_map f (take i xs) ≡ flat_map f ys
 whole_given f xs ys i l e = ap (flat_map f) (take_all i xs l ∙ e)
+
+-- what is gathered of one more item
+pub more_given : {A B E : Type 0} (seen : E → B) (f : A → List B) (xs : List A) (i : ℕ) (x : A) → i < length xs
+    → x ≡ get_or xs i x → (entries all : List E) (more : List B) → map seen entries ≡ flat_map f (take i xs)
+    → map seen all ≡ map seen entries ++ more → more ≡ f x → map seen all ≡ flat_map f (take (i + 1) xs)
+more_given seen f xs i x within is entries all more before step own =
+    let front : take (i + 1) xs ≡ take i xs ++ x ∷ [] = take_more xs i x within
+    ∙ ap (λ z. take i xs ++ z ∷ []) (sym is) in
+    step ∙ ap (λ l. l ++ more) before ∙ ap (λ l. flat_map f (take i xs) ++ l) own
+    ∙ flat_map_more f [] (take i xs) x ∙ ap (flat_map f) (sym front)

@@ -1,4 +1,4 @@
-use Rattle.std.proofs.Common.{◌≡◌, map, ◌∙◌, subst, All}
+use Rattle.std.proofs.Common.{◌≡◌, map, ap, ◌∙◌, subst, All}
 use Rattle.std.specs.Map.{keys_of}
 use Rattle.std.specs.List.Sorted.{IsStrictlySortedBy}
 use Rattle.cedar_data.specs.Text.{text_cmp}
@@ -6,12 +6,13 @@ use Rattle.std.specs.Cmp.{on_total}
 use Rattle.std.specs.Cmp.Lexicographic.{options_total}
 use Rattle.std.specs.List.{flat_map}
 use Rattle.std.proofs.lemmas.List.{take_all}
+use Rattle.std.proofs.lemmas.List.Elements.{All-more}
 use Rattle.cedar_identifiers.specs.declared.name.Name.{Name}
 use Rattle.cedar_names.specs.Orders.{names_total, uids_in_order}
 use Rattle.schema_build_checks.specs.DeclaredAt.{actions_at_in_order}
-use Rattle.schema_build_hierarchy.specs.Declarations.{actions_of}
+use Rattle.schema_build_hierarchy.specs.Declarations.{actions_of, action_in}
 use Rattle.schema_build_hierarchy.specs.Entries.{action_of_entry}
-use Rattle.schema_build_hierarchy.proofs.Gathered.{same_members, actions_once, whole_given}
+use Rattle.schema_build_hierarchy.proofs.Gathered.{same_members, actions_once, more_given, whole_given}
 use Rattle.schema_build_hierarchy.proofs.Ordered.{sorted_seen, sorted_back}
 use Rattle.schema_build_hierarchy.proofs.entries.actions_in_order.Goals as goal
 
@@ -33,4 +34,18 @@ returns c =
           (λ a b h. h) entries items (flat_map actions_of f) is
           (actions_once f (options_total (on_total (λ (n : Name). n.name) names_total))
           c.as_slice-ns-items.ensures.sorted rising) c.in_order.ensures.kept c.in_order.ensures.whole;
+    }
+
+pub loop-ns-preserved : goal.loop-ns-preserved
+loop-ns-preserved c =
+    let l = c.loop-ns in
+    let xs = c.as_slice-ns-items.result.now in
+    let x = c.loop-ns-item.result in
+    record {
+      gathered = more_given action_of_entry actions_of xs l.ns-index x c.loop-ns-test.true c.loop-ns-item.is l.entries.items
+          c.push_actions.new.entries.items _ l.invariant.gathered c.in_ok-push_actions.ensures
+          (ap (map (action_in x.0)) c.as_slice.ensures.entries);
+      rising = All-more (λ e. IsStrictlySortedBy text_cmp (keys_of e.1.actions)) xs l.ns-index x c.loop-ns-test.true
+          l.invariant.rising
+          (subst (λ e. IsStrictlySortedBy text_cmp (keys_of e.1.actions)) c.loop-ns-item.is c.as_slice.ensures.sorted);
     }

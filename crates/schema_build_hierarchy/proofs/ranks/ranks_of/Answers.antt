@@ -1,5 +1,5 @@
 use Rattle.std.proofs.Common.{◌≡◌, ◌+◌, ◌++◌, ◌∷◌, [], map, take, sym, ap, ◌∙◌, subst}
-use Rattle.std.proofs.lemmas.List.{take_more}
+use Rattle.std.proofs.lemmas.List.{take_all, take_more}
 use Rattle.schema_build_hierarchy.specs.Ranks.{AreRanksOf, IsRankOf}
 use Rattle.schema_build_hierarchy.proofs.Ranked.{ranks_push, ranks_skip}
 use Rattle.schema_build_hierarchy.proofs.ranks.ranks_of.Goals as goal
@@ -27,3 +27,10 @@ loop-name-preserved g c =
           (ranks_skip o own c.requires (take i names) c.loop-name.row.items x c.loop-name.invariant
           (subst (IsRankOf g.K.Ord.cmp own x) w.in-None.is c.rank_of.ensures)))
     ]
+
+pub returns : goal.returns
+returns g c =
+    let l = c.loop-name in
+    let own = map (λ e. e.name) c.args.entries.now in
+    subst (λ names. AreRanksOf g.K.Ord.cmp own names l.row.items) (take_all l.name-index c.args.names.now c.loop-name-test.false)
+    l.invariant
