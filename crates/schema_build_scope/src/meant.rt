@@ -1,13 +1,13 @@
-ghost use Rattle.std.specs.Prelude.{◌≡◌, ◌∷◌, ◌++◌, [], Bool, Some, IsSome};
+ghost use Rattle.std.specs.Prelude.{◌≡◌, Bool, Some, IsSome};
 ghost use Rattle.std.specs.Option.{option_copied, option_map};
-ghost use Rattle.cedar_identifiers.specs.Candidates.{is_unqualified};
 ghost use Rattle.cedar_identifiers.specs.Names.{components_of};
 ghost use Rattle.schema_resolve_definitions.specs.Tests.{tests_of};
 ghost use Rattle.schema_resolve.specs.Meanings.{means};
-ghost use Rattle.schema_resolve.specs.Tried.{kind_told, kind_found, own_kind};
+ghost use Rattle.schema_resolve.specs.Tried.{kind_found};
 ghost use Rattle.schema_build_scope.specs.Meant.{meant_candidate};
 
-use cedar_identifiers::{Id, InternalName, RawName, ReferenceType};
+use cedar_identifiers::{InternalName, RawName, ReferenceType};
+use schema_resolve::tried::{kind_of, own_kind};
 use schema_resolve_lookup::FragmentDefs;
 
 // Which candidate a reference means: the one behind its namespace or the name as it is written, and whether that is a
@@ -73,81 +73,4 @@ fn is_known_common(defs: &FragmentDefs<'_>, kind: ReferenceType, name: &Internal
         ReferenceType::Entity => false,
         ReferenceType::CommonOrEntity => defs.is_defined_as_common(name),
     }
-}
-
-// What the name is, where it is defined in the kind that is asked for, and whether it is a common type.
-fn kind_of(defs: &FragmentDefs<'_>, kind: ReferenceType, name: &InternalName) -> Option<bool>
-    ensures { result ≡ kind_found (tests_of defs.now) kind (components_of name.now) }
-{
-    match kind {
-        ReferenceType::Common => told(defs.is_defined_as_common(name), false),
-        ReferenceType::Entity => told(false, defs.is_defined_as_entity(name)),
-        ReferenceType::CommonOrEntity => {
-            let is_common = defs.is_defined_as_common(name);
-            told(is_common, !is_common && defs.is_defined_as_entity(name))
-        }
-    }
-}
-
-// A common type, or else an entity type, or nothing.
-fn told(is_common: bool, is_entity: bool) -> Option<bool>
-    ensures { result ≡ kind_told is_common is_entity }
-{
-    if is_common {
-        Some(true)
-    } else if is_entity {
-        Some(false)
-    } else {
-        None
-    }
-}
-
-// What the name with this last word behind a namespace is, which is not made.
-fn kind_behind(
-    defs: &FragmentDefs<'_>,
-    kind: ReferenceType,
-    ns: &InternalName,
-    last: &Id,
-) -> Option<bool>
-    ensures { result ≡ kind_found (tests_of defs.now) kind (components_of ns.now ++ last.now.text ∷ []) }
-{
-    match kind {
-        ReferenceType::Common => told(defs.is_defined_as_common_behind(ns, last), false),
-        ReferenceType::Entity => told(false, defs.is_defined_as_entity_behind(ns, last)),
-        ReferenceType::CommonOrEntity => {
-            let is_common = defs.is_defined_as_common_behind(ns, last);
-            told(
-                is_common,
-                !is_common && defs.is_defined_as_entity_behind(ns, last),
-            )
-        }
-    }
-}
-
-// What an unqualified name is behind its namespace.
-fn own_kind(
-    defs: &FragmentDefs<'_>,
-    ns: Option<&InternalName>,
-    kind: ReferenceType,
-    name: &InternalName,
-) -> Option<bool>
-    ensures { result ≡ own_kind (tests_of defs.now) (option_copied ns.entry) kind name.now }
-{
-    match ns {
-        Some(ns) => {
-            if is_unqualified(name) {
-                kind_behind(defs, kind, ns, &name.first)
-            } else {
-                None
-            }
-        }
-        None => None,
-    }
-}
-
-// Whether the name has no namespace.
-pub(crate) fn is_unqualified(name: &InternalName) -> bool
-    ensures { result ≡ is_unqualified name.now }
-{
-    name.others.as_slice().is_empty()
 }

@@ -6,9 +6,9 @@ ghost use Rattle.cedar_data.specs.Halving.{IsHit, IsGap};
 ghost use Rattle.cedar_identifiers.specs.Candidates.{qualified};
 ghost use Rattle.cedar_names.specs.Orders.{names_in_order};
 
-use crate::meant::is_unqualified;
 use cedar_identifiers::InternalName;
 use cedar_names::compare_behind;
+use schema_resolve::tried::is_unqualified;
 use std::cell::Cell;
 use std::cmp::Ordering;
 

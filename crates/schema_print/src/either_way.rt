@@ -1,5 +1,4 @@
 ghost use Rattle.std.specs.Prelude.{◌≡◌};
-ghost use Rattle.cedar_identifiers.specs.Candidates.{is_unqualified};
 ghost use Rattle.schema_resolve_definitions.specs.Declarations.{name_of};
 ghost use Rattle.schema_resolve_definitions.specs.Defined.{defined};
 ghost use Rattle.schema_resolve_definitions.specs.Tests.{tests_of};
@@ -8,6 +7,7 @@ ghost use Rattle.schema_print.specs.PrintableTests.{agrees, agrees_in, passes_be
 use cedar_identifiers::{InternalName, Name, RawName, ReferenceType};
 use cedar_names::ExtensionTable;
 use schema_json::Fragment;
+use schema_resolve::tried::is_unqualified;
 use schema_resolve_lookup::{is_common, is_common_behind, is_entity, is_entity_behind};
 
 // Whether a reference in the namespace means what its name means where it may be either kind of type.
@@ -74,11 +74,4 @@ fn is_own_entity(
         Some(ns) => is_unqualified(name) && is_entity_behind(fragment, &ns.name, &name.first),
         None => false,
     }
-}
-
-// Whether the name has no namespace.
-fn is_unqualified(name: &InternalName) -> bool
-    ensures { result ≡ is_unqualified name.now }
-{
-    name.others.as_slice().is_empty()
 }

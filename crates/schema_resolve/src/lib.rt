@@ -18,7 +18,7 @@ mod resolver;
 mod scope;
 mod stop;
 mod targets;
-mod tried;
+pub mod tried;
 
 pub use designate::Designate;
 pub use fully_qualify::FullyQualify;

@@ -42,8 +42,8 @@ pub(crate) fn find_type(
     }
 }
 
-// What the name is, where it is defined in the kind that is asked for, and whether it is a common type.
-fn kind_of(defs: &FragmentDefs<'_>, kind: ReferenceType, name: &InternalName) -> Option<bool>
+/// What the name is, where it is defined in the kind that is asked for: whether it is a common type.
+pub fn kind_of(defs: &FragmentDefs<'_>, kind: ReferenceType, name: &InternalName) -> Option<bool>
     ensures { result ≡ kind_found (tests_of defs.now) kind (components_of name.now) }
 {
     match kind {
@@ -91,8 +91,9 @@ fn kind_behind(
     }
 }
 
-// What an unqualified name is behind its namespace.
-fn own_kind(
+/// What an unqualified name is behind its namespace, where it is defined there in the kind that is asked for: whether it is
+/// a common type. No name is built.
+pub fn own_kind(
     defs: &FragmentDefs<'_>,
     ns: Option<&InternalName>,
     kind: ReferenceType,
@@ -112,8 +113,8 @@ fn own_kind(
     }
 }
 
-// Whether the name has no namespace.
-fn is_unqualified(name: &InternalName) -> bool
+/// Whether the name has no namespace.
+pub fn is_unqualified(name: &InternalName) -> bool
     ensures { result ≡ is_unqualified name.now }
 {
     name.others.as_slice().is_empty()
