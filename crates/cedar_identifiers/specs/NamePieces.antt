@@ -11,7 +11,7 @@ abbrev pub space_len : List ℕ → ℕ
 space_len [] = 0
 space_len (c ∷ cs) = if is_whitespace c then length (encode_utf8 c) else 0
 
--- the same byte twice at the front
+-- this byte stands twice at the front
 abbrev pub starts_twice : ℕ → List ℕ → Bool
 starts_twice b [] = false
 starts_twice b (c ∷ []) = false

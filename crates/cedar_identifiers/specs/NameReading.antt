@@ -34,7 +34,7 @@ abbrev pub due_next : Bool → Bool → List ℕ → Option Bool
 due_next single true p = if is_word p then Some false else None
 due_next single false p = if single then None else (if bytes_eq p (codes "::") then Some true else None)
 
--- the same of pieces in turn
+-- whether a word is due behind these pieces, from whether one is due before them; none where one of them cannot stand
 abbrev pub due_behind : Bool → Bool → List (List ℕ) → Option Bool
 due_behind single due [] = Some due
 due_behind single due (p ∷ ps) = option_and_then (λ d. due_behind single d ps) (due_next single due p)
@@ -58,7 +58,7 @@ pub record ReadsAs (kind : NameKind) (text : List ℕ) (words : List (List ℕ))
 
 -- What keeps a text from being a name. `Invalid` and `Token` are at the first place where no piece stands, or one that
 -- cannot stand behind the pieces before it; `End` is a word missing at the end. Then come the first word that the
--- components may not be, and blanks. Want of memory may keep any text from being read.
+-- components may not be, and blanks. Memory may be out, whatever the text is.
 abbrev pub NameFaultOf : NameKind → List ℕ → NameFault → Type 0
 NameFaultOf kind text Invalid =
     (pieces : List (List ℕ)) × (due : Bool) × (rest : List ℕ) × BeginsWith text pieces rest

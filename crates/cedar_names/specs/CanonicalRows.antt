@@ -27,7 +27,7 @@ nested_records = record {
   actions = [];
 }
 
--- its canonical text
+-- the canonical text of `nested_records`
 abbrev pub nested_records_text : List ℕ
 nested_records_text = codes "namespace N {\n  entity Album in [N::Album, User] = {\n    owner: User,\n    x: {    },\n    \"zip code\"?: Set<__cedar::String>,\n  };\n}\n"
 
@@ -39,7 +39,7 @@ record_tags = record {
   actions = [];
 }
 
--- its canonical text
+-- the canonical text of `record_tags`
 abbrev pub record_tags_text : List ℕ
 record_tags_text = codes "namespace N {\n  entity A tags {\n  k: __cedar::Long,\n};\n}\n"
 
@@ -77,12 +77,12 @@ actions_last = record {
       } ∷ [];
 }
 
--- its canonical text
+-- the canonical text of `actions_last`
 abbrev pub actions_last_text : List ℕ
 actions_last_text = codes
     "entity E enum [\"a\\'\", \"\\u{7f}\"];\n\nexternal entity User;\n\naction \"v\" in [Action::\"w\"] appliesTo {\n  principal: [User],\n  resource: [User],\n  context: {\n    \"in\": __cedar::ipaddr,\n  },\n};\n\nexternal action \"w\";\n\naction \"x\" appliesTo {\n  principal: [User],\n  resource: [User],\n  context: {},\n};\n"
 
--- the same meaning with commas between members alone
+-- the text of `actions_last` with commas between members alone
 abbrev pub actions_last_first_layout : List ℕ
 actions_last_first_layout = codes
     "entity E enum [\"a\\'\", \"\\u{7f}\"];\n\nexternal entity User;\n\naction \"v\" in [Action::\"w\"] appliesTo {\n  principal: [User],\n  resource: [User],\n  context: {\n    \"in\": __cedar::ipaddr\n  }\n};\n\nexternal action \"w\";\n\naction \"x\" appliesTo {\n  principal: [User],\n  resource: [User],\n  context: {}\n};\n"
@@ -101,7 +101,7 @@ external_with_more = record {
   actions = [];
 }
 
--- its canonical text
+-- the canonical text of `external_with_more`
 abbrev pub external_with_more_text : List ℕ
 external_with_more_text = codes "external entity A in [User];\n"
 
@@ -118,7 +118,7 @@ enum_with_more = record {
   actions = [];
 }
 
--- its canonical text
+-- the canonical text of `enum_with_more`
 abbrev pub enum_with_more_text : List ℕ
 enum_with_more_text = codes "entity A enum [\"a\"];\n"
 
@@ -131,6 +131,6 @@ three_namespaces = record {
   actions = [];
 }
 
--- its canonical text
+-- the canonical text of `three_namespaces`
 abbrev pub three_namespaces_text : List ℕ
 three_namespaces_text = codes "entity Z;\n\nnamespace B {\n  entity Y;\n}\n\nnamespace B::A {\n  entity X;\n}\n"

@@ -150,11 +150,12 @@ action_text closing base action =
     else action_head action ++ applies_text closing base action.principals action.resources action.context)
     ++ (codes ";" ++ line_end))
 
--- the namespaces that have an item, in order, the empty one first
+-- the names in order, each once; the empty namespace comes first
 abbrev pub in_order : List (List (List ℕ)) → List (List (List ℕ))
 in_order [] = []
 in_order (n ∷ ns) = insert_key (slice_cmp text_cmp) (in_order ns) n
 
+-- the namespaces in which the meaning has an entity type or an action, in order, each once
 abbrev pub namespaces : SchemaMeaning → List (List (List ℕ))
 namespaces m = in_order (map (λ e. namespace e.name) m.entities ++ map (λ a. namespace a.ty) m.actions)
 

@@ -12,7 +12,7 @@ pub record Definitions : Type 0 where
   pub entities : List (List (List ℕ))
   pub actions : List (List (List ℕ) × List ℕ)
 
--- the same components in turn
+-- the names have equal components in turn
 abbrev pub same_name : List (List ℕ) → List (List ℕ) → Bool
 same_name = pointwise bytes_eq
 
@@ -24,7 +24,7 @@ among names name = list_any (same_name name) names
 abbrev pub action_of : EntityUID → List (List ℕ) × List ℕ
 action_of uid = (components_of uid.ty.name, uid.eid.0)
 
--- the same type, and the same bytes in the id
+-- the actions have equal types, and ids of equal bytes
 abbrev pub same_action : List (List ℕ) × List ℕ → List (List ℕ) × List ℕ → Bool
 same_action a b = same_name a.0 b.0 && bytes_eq (encode_utf8_all a.1) (encode_utf8_all b.1)
 

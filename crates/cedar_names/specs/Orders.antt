@@ -13,10 +13,11 @@ use Rattle.cedar_identifiers.specs.declared.id.Id.{Id}
 use Rattle.cedar_identifiers.specs.declared.internal_name.InternalName.{InternalName}
 use Rattle.cedar_names.specs.declared.entity_uid.EntityUID.{EntityUID}
 
--- words by their texts, and names by their words in turn
+-- the order of words: by the bytes of their texts
 abbrev pub ids_in_order : Id → Id → Ordering
 ids_in_order i j = text_cmp i.text j.text
 
+-- the words of a name, the outermost first
 abbrev pub ids_of : InternalName → List Id
 ids_of name = name.first ∷ name.others
 
@@ -28,13 +29,15 @@ names_in_order x y = slice_cmp ids_in_order (ids_of x) (ids_of y)
 abbrev pub ids_behind : InternalName → Id → List Id
 ids_behind namespace last = namespace.first ∷ (namespace.others ++ last ∷ [])
 
--- actions by their types, then by their ids
+-- what actions are ordered by: the words of the type, and the id
 abbrev pub ActionKey : Type 0
 ActionKey = List Id × List ℕ
 
+-- the order of the keys of actions: by the words of the types in turn, then by the bytes of the ids
 abbrev pub keys_in_order : ActionKey → ActionKey → Ordering
 keys_in_order a b = ordering_then (slice_cmp ids_in_order a.0 b.0) (text_cmp a.1 b.1)
 
+-- the key of an action: the words of its type, and its id
 abbrev pub action_key : EntityUID → ActionKey
 action_key uid = (ids_of uid.ty.name, uid.eid.0)
 
@@ -42,16 +45,20 @@ action_key uid = (ids_of uid.ty.name, uid.eid.0)
 abbrev pub uids_in_order : EntityUID → EntityUID → Ordering
 uids_in_order x y = keys_in_order (action_key x) (action_key y)
 
+-- the order of lists of words, by their words in turn, is total
 pub ids_total : IsTotalOrder (slice_cmp ids_in_order)
 ids_total = lists_total (on_total (λ (i : Id). encode_utf8_all i.text) nat_list_cmp_total)
 
+-- the order of the keys of actions is total
 pub keys_total : IsTotalOrder keys_in_order
 keys_total = then_total (on_total (λ (a : ActionKey). a.0) ids_total)
     (on_total (λ (a : ActionKey). encode_utf8_all a.1) nat_list_cmp_total)
 
+-- the order of names is total
 pub names_total : IsTotalOrder names_in_order
 names_total = on_total ids_of ids_total
 
+-- the order of actions is total
 pub uids_total : IsTotalOrder uids_in_order
 uids_total = on_total action_key keys_total
 

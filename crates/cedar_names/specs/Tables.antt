@@ -24,13 +24,13 @@ pub record IsTableOf (names : List (List ℕ)) (table : ExtensionTable) : Type 0
   pub lawful : (k : ℕ) → k < length names → fault_at names k ≡ None
   pub same : (text : List ℕ) → table_has table text ≡ repeats names text
 
--- the fault of the first name that is unlawful, or want of memory
+-- the fault of the first name that is unlawful
 pub record IsFirstFault (names : List (List ℕ)) (fault : TableError) : Type 0 where
   pub at : ℕ
   pub in_range : at < length names
   pub lawful_before : (k : ℕ) → k < at → fault_at names k ≡ None
   pub here : fault_at names at ≡ Some fault
 
--- the fault is that of the first name that is unlawful, or memory was wanted
+-- the fault is that of the first name that is unlawful, or memory was out
 abbrev pub IsTableFault : List (List ℕ) → TableError → Type 0
 IsTableFault names fault = fault ≢ Memory → IsFirstFault names fault

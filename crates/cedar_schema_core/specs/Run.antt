@@ -61,7 +61,7 @@ pub data IsDelivered (out err : Device) (report : Report) : Status → Type 0 wh
   out_failed : FailedWithin out report.out → err.Same → IsDelivered out err report WriteFault
   err_failed : TookWhole out report.out → FailedWithin err report.err → IsDelivered out err report WriteFault
 
--- the run, by its cause: a report was delivered, or memory was wanted before the first write
+-- the run, by its cause: a report was delivered, or memory was out before the first write
 pub data IsRun (words : List (List ℕ)) (source out err : Device) : Status → Type 0 where
   delivered : (report : Report) → {status : Status} → IsReported words source report
       → IsDelivered out err report status → IsRun words source out err status

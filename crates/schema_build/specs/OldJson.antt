@@ -28,7 +28,7 @@ abbrev pub IsUnsaid : (JsonDeserializationError → Type 0) → SchemaError → 
 IsUnsaid IsError (JsonDeserialization e) = (e.fault ≢ cause.Memory) × IsError e
 IsUnsaid IsError _ = ⊥
 
--- the refusal of JSON as one of a schema: want of memory is the schema's own
+-- the refusal of JSON as one of a schema: where memory is out, that is the schema's own
 abbrev pub told : JsonFault → JsonDeserializationError → SchemaError
 told cause.Memory e = Memory
 told _ e = JsonDeserialization e
@@ -42,18 +42,18 @@ abbrev pub IsSaidFault : (Fragment RawName as_written → Type 0) → (JsonDeser
 IsSaidFault Says IsError table e =
     IsUnsaid IsError e ⊎ ((f : Fragment RawName as_written) × Says f × BuildFault f table e)
 
--- the text says a fragment, whose meaning the schema stands for
+-- the text says a fragment without a fault, whose meaning the schema stands for
 abbrev pub IsSchemaOfOldText : List ℕ → ExtensionTable → SchemaLists → Type 0
 IsSchemaOfOldText text table s = IsSchemaSaid (OldText text) table s
 
--- why a text makes no schema
+-- why a text in the deprecated form makes no schema
 abbrev pub IsOldTextFault : List ℕ → ExtensionTable → SchemaError → Type 0
 IsOldTextFault text table e = OrMemory (IsSaidFault (OldText text) (IsOldTextError text) table) e
 
--- the same of a value
+-- the value says a fragment without a fault, whose meaning the schema stands for
 abbrev pub IsSchemaOfOldValue : Data → ExtensionTable → SchemaLists → Type 0
 IsSchemaOfOldValue d table s = IsSchemaSaid (OldValue d) table s
 
--- why a value makes no schema
+-- why a value in the deprecated form makes no schema
 abbrev pub IsOldValueFault : Data → ExtensionTable → SchemaError → Type 0
 IsOldValueFault d table e = OrMemory (IsSaidFault (OldValue d) (IsOldValueError d) table) e

@@ -19,25 +19,27 @@ with_json_help false help = help
 with_json_help true None = Some json_help
 with_json_help true (Some help) = Some (help ++ (codes "\n" ++ json_help))
 
+-- what is said where a schema text is not read as a fragment
 abbrev pub parse_error_text : CedarSchemaParseError → List ℕ
 parse_error_text e = codes "error parsing schema: " ++ text_failure_text e.errs
 
+-- the advice where a schema text is not read as a fragment, if there is any
 abbrev pub parse_error_help : CedarSchemaParseError → List ℕ → Option (List ℕ)
 parse_error_help e source = with_json_help e.suspect_json (text_failure_help e.errs source)
 
--- what it says
+-- what the refusal of a schema text says
 abbrev pub text_error_text : CedarSchemaError → List ℕ
 text_error_text (Schema e) = schema_error_text e
 text_error_text (Parsing e) = parse_error_text e
 text_error_text Memory = codes "out of memory"
 
--- what it advises, if anything
+-- what the refusal of a schema text advises, if anything
 abbrev pub text_error_help : CedarSchemaError → List ℕ → Option (List ℕ)
 text_error_help (Schema e) source = schema_error_help e
 text_error_help (Parsing e) source = parse_error_help e source
 text_error_help Memory source = None
 
--- the places that it points to
+-- the places that the refusal of a schema text points to
 abbrev pub text_error_labels : CedarSchemaError → List Label
 text_error_labels (Schema e) = schema_error_labels e
 text_error_labels (Parsing e) = text_failure_labels e.errs

@@ -1,4 +1,4 @@
--- What a visitor refuses. Only private clauses cite this.
+-- What a visitor refuses.
 use Rattle.std.specs.Prelude.{◌≡◌, List, [], ◌∷◌}
 use Rattle.schema_build_checks.specs.declared.refused.Refused.{Refused}
 use Rattle.schema_build_checks.specs.declared.refused.Refused.TheVariants.{First, Memory}

@@ -13,6 +13,7 @@ ContextRises None = Unit {0}
 ContextRises (Some d) = Rises RawName d.context.0
 
 module _ {G : named.Ghosts RawName} where
+  -- the attributes of each record that is written in the fragment rise, and each enum has a choice
   pub record IsFormed (f : Fragment RawName G) : Type 0 where
     pub commons : All (λ e. All (λ c. Rises RawName c.1.ty) e.1.common_types) f.0
     pub entities : All (λ e. All (λ d. IsKindFormed d.1.kind) e.1.entity_types) f.0

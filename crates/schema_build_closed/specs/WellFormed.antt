@@ -61,6 +61,8 @@ IsSpecFormed None = Unit {0}
 IsSpecFormed (Some d) = AreRolesFormed d.principal_types d.resource_types d.context.0 × Rises RawName d.context.0
 
 module _ {G : named.Ghosts RawName} where
+  -- attributes rise, each enum has a choice, and what an action applies to is principals and resources, or neither and
+  -- an empty context
   pub record IsWellFormed (f : Fragment RawName G) : Type 0 where
     pub commons : All (λ e. All (λ c. Rises RawName c.1.ty) e.1.common_types) f.0
     pub entities : All (λ e. All (λ d. IsKindFormed d.1.kind) e.1.entity_types) f.0

@@ -19,5 +19,6 @@ captured_message namespace user =
     ++ (user ++ codes ", where it would be read as `"))
     ++ (namespace ++ codes "::Action`")
 
+-- what is said of an entity type or action whose use of the type `Action` would be read as that of another type
 abbrev pub captured_text : ReferenceCaptured → List ℕ
 captured_text e = captured_message (name_text (components_of e.namespace.name)) (user_text e.item)

@@ -21,9 +21,11 @@ shape_subject (EntityTypeShape name) = codes "Shape for entity type " ++ name_te
 abbrev pub type_message : List ℕ → List ℕ
 type_message subject = subject ++ codes " is declared with a type other than `Record`"
 
+-- what is said of a context or a shape that is no record
 abbrev pub no_record_text : ContextOrShapeNotRecordError → List ℕ
 no_record_text e = type_message (shape_subject e.ctx_or_shape)
 
+-- the advice where a context or a shape is no record
 abbrev pub no_record_help : ContextOrShape → List ℕ
 no_record_help (ActionContext uid) = codes "action contexts must have type `Record`"
 no_record_help (EntityTypeShape name) = codes "entity type shapes must have type `Record`"

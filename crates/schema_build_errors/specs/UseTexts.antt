@@ -10,9 +10,11 @@ use Rattle.schema_build_errors.specs.declared.use_errors.UnknownExtensionTypeErr
 use Rattle.schema_build_errors.specs.declared.use_errors.UnsupportedFeatureError.{UnsupportedFeatureError}
 use Rattle.schema_build_errors.specs.declared.use_errors.UndeclaredEntityTypesError.{UndeclaredEntityTypesError}
 
+-- what is said of an extension type that is not in the table
 abbrev pub unknown_extension_text : UnknownExtensionTypeError → List ℕ
 unknown_extension_text e = codes "unknown extension type `" ++ (name_text (components_of e.actual.name) ++ codes "`")
 
+-- what is said of a fragment that has what no schema has
 abbrev pub unsupported_text : UnsupportedFeatureError → List ℕ
 unsupported_text e = codes "unsupported feature used in schema"
 
@@ -20,11 +22,13 @@ unsupported_text e = codes "unsupported feature used in schema"
 abbrev pub declared_texts : List Name → List (List ℕ)
 declared_texts names = map (λ n. name_text (components_of n.name)) names
 
+-- what is said of entity types that are not declared, all of which are named
 abbrev pub undeclared_types_text : UndeclaredEntityTypesError → List ℕ
 undeclared_types_text e =
     by_number (codes "undeclared entity type: ") (codes "undeclared entity types: ") (declared_texts e.types)
     ++ and_list (declared_texts e.types)
 
+-- the advice where entity types are not declared
 abbrev pub undeclared_types_help : List ℕ
 undeclared_types_help = codes "any entity types appearing anywhere in a schema need to be declared in `entityTypes`"
 

@@ -14,6 +14,7 @@ pub record Declared (N : Type 0) : Type 0 where
   pub place : Option InternalName
   pub ty : «Type» N
 
+-- what references mean in each namespace, the declared common types by their ranks, and the extension table
 pub record Scope (N : Type 0) : Type 0 where
   -- the full name that a reference means in a namespace, and whether it is a common type or an entity type there
   pub means : Option InternalName → ReferenceType → N → Option (List (List ℕ) × ReferenceType)

@@ -89,7 +89,7 @@ fresh (row ∷ rows) (s ∷ states) = cost_of row s + fresh rows states
 abbrev pub weight : List (Vec ℕ Global) → List State → List ℕ → List Group → ℕ
 weight graph states targets groups = fresh graph states + length targets + length groups
 
--- the same of the search as the code has it
+-- the search, as the code holds it, stands as it must, and this vertex may be the next to look at
 abbrev pub Keeps : List (Vec ℕ Global) → Search → Option ℕ → Type 0
 Keeps graph s next = IsSearched graph s.states.items s.standing.items s.targets.items s.groups.items s.done.items next
 

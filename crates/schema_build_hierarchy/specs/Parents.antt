@@ -35,6 +35,7 @@ abbrev pub written_parents : EntityTypeKind RawName → List RawName
 written_parents (Standard s) = s.member_of_types
 written_parents (Enum choices) = []
 
+-- the entity types that these names in a namespace mean; a name that means none gives none
 abbrev pub parents_in : Tests → Option Name → List RawName → List (List (List ℕ))
 parents_in t ns names = flat_map (λ p. option_to_list (target_in t ns Entity p)) names
 
@@ -54,11 +55,12 @@ AreParentsMeant t d = AreMeantIn t d.ns (written_parents d.ty.kind)
 abbrev pub IsParent : Tests → List DeclaredEntity → List (List ℕ) → List (List ℕ) → Type 0
 IsParent t = IsParentAmong entity_name (entity_parents t)
 
--- some non-empty chain of parents leads from the entity type a to b
+-- b is reached from the entity type a by parents, in one step or more
 abbrev pub IsAncestor : Tests → List DeclaredEntity → List (List ℕ) → List (List ℕ) → Type 0
 IsAncestor t = IsAncestorAmong entity_name (entity_parents t)
 
 module _ {G : named.Ghosts RawName} where
+  -- the actions that these references in a namespace mean; one that means none gives none
   abbrev pub action_parents_in : Tests → Option Name → List (ActionEntityUID RawName G) → List (List (List ℕ) × List ℕ)
   action_parents_in t ns uids = flat_map (λ u. option_to_list (action_target_in t ns u.id u.ty)) uids
 
@@ -71,7 +73,7 @@ module _ {G : named.Ghosts RawName} where
       → List (List ℕ) × List ℕ → List (List ℕ) × List ℕ → Type 0
   IsActionParent t = IsParentAmong action_key (action_parents t)
 
-  -- some non-empty chain of parents leads from the action a to b
+  -- b is reached from the action a by parents, in one step or more
   abbrev pub IsActionAncestor : Tests → List (Declared ActionAt (ActionType RawName G))
       → List (List ℕ) × List ℕ → List (List ℕ) × List ℕ → Type 0
   IsActionAncestor t = IsAncestorAmong action_key (action_parents t)

@@ -4,7 +4,7 @@ use Rattle.schema_syntax_reader.specs.Leaves.{Notes}
 use Rattle.schema_readback.specs.Written.{WrittenDeclared, WrittenItem, namespace}
 use Rattle.schema_says.specs.FragmentsSay.{NamespaceName, WrittenNamespace, written_in}
 
--- the same in another order: items that stand side by side are swapped, as often as it takes
+-- the items stand in another order: two that stand side by side are swapped, as often as it takes
 pub data IsReordered {A : Type 0} : List A → List A → Type 0 where
   nothing : IsReordered [] []
   behind : {xs ys : List A} (x : A) → IsReordered xs ys → IsReordered (x ∷ xs) (x ∷ ys)

@@ -34,7 +34,7 @@ use Rattle.schema_json.specs.declared.fragment.NamespaceDefinition.{NamespaceDef
 abbrev pub IsName : List (List ℕ) → InternalName → Type 0
 IsName n name = (components_of name ≡ n) × (name.loc ≡ None)
 
--- the same as it is written: a full name
+-- the full name of these components, as it is written, without a place
 abbrev pub IsWritten : List (List ℕ) → RawName → Type 0
 IsWritten n written = IsName n written.name
 

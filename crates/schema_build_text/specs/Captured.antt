@@ -95,7 +95,7 @@ IsFirstOf (x ∷ others) captured = IsAbout x captured
 abbrev pub IsFirstCaptured : SchemaMeaning → ReferenceCaptured → Type 0
 IsFirstCaptured m captured = IsFirstOf (captured_items (schema_as_built m)) captured
 
--- why a schema that stands for the meaning has no text: something is captured, or memory is wanted
+-- why a schema that stands for the meaning has no text: something is captured, or memory is out
 abbrev pub IsTextRefusal : SchemaMeaning → ToTextError → Type 0
 IsTextRefusal m (refusal.Recovery e) = ⊥
 IsTextRefusal m (refusal.Captured captured) = IsFirstCaptured m captured

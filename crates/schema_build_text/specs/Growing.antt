@@ -13,7 +13,7 @@ module _ {Z : Type 0} where
   then {a} {b} {c} {x} {y} e f =
       record { grown = f.grown ∙ ap (λ t. t ++ y) e.grown ∙ append_assoc (string_bytes a) x y }
 
-  -- the same bytes, said otherwise
+  -- equal bytes are added
   pub so : {a b : String Z} {x y : List ℕ} → Adds a b x → x ≡ y → Adds a b y
   so {a} {b} {x} {y} e f = record { grown = e.grown ∙ ap (λ t. string_bytes a ++ t) f }
 

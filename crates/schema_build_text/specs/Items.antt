@@ -33,7 +33,7 @@ abbrev pub item_text : ℕ → ItemContent → List ℕ
 item_text base (entity_type e) = entity_type_text true base (entity_reading e)
 item_text base (action a) = action_text true base (action_reading a)
 
--- the same up to the semicolon
+-- the text of an item at an indentation, up to its semicolon
 abbrev pub item_front : ℕ → ItemContent → List ℕ
 item_front base (entity_type e) = spaces base ++ entity_declaration base (entity_reading e)
 item_front base (action a) = spaces base ++ action_declaration base (action_reading a)
@@ -52,7 +52,7 @@ abbrev pub opening : List (List ℕ) → List ℕ
 opening [] = []
 opening (c ∷ cs) = codes "namespace " ++ (name_text (c ∷ cs) ++ codes " {\n")
 
--- and its end
+-- the end of a namespace, where it has a name
 abbrev pub closing : List (List ℕ) → List ℕ
 closing [] = []
 closing (c ∷ cs) = codes "}\n"
@@ -71,11 +71,12 @@ abbrev pub after_text : Option (List (List ℕ)) → List ℕ
 after_text None = []
 after_text (Some m) = closing m
 
--- the same, behind the end of the item before where there is one
+-- before an item of this namespace, the end of the item before it included where there is one
 abbrev pub break_text : Option (List (List ℕ)) → List (List ℕ) → List ℕ
 break_text None n = opening n
 break_text (Some m) n = item_end ++ break_between m n
 
+-- behind the last item, which is of this namespace where there is one, its own end included
 abbrev pub end_text : Option (List (List ℕ)) → List ℕ
 end_text None = []
 end_text (Some m) = item_end ++ closing m

@@ -59,14 +59,14 @@ record_shape attributes is_open =
     variant.Record (roll-RecordType RawName (record { attributes = attributes; additional_attributes = is_open }))
 
 mutual
-  -- the type becomes the type
+  -- a type of the deprecated form becomes a type, which has no place
   pub data TypeBecomes : SchemaType → «Type» RawName → Type 0 where
     of_shape : (v : SchemaTypeVariant) (w : TypeVariant RawName) → ShapeBecomes v w
         → TypeBecomes (written.Variant v) (plain w)
     of_reference : (text : List ℕ) (n : RawName) → IsRawName (encode_utf8_all text) n
         → TypeBecomes (written.TypeDef text) (CommonTypeRef n None)
 
-  -- the shape becomes the shape
+  -- the shape of a type of the deprecated form becomes the shape of a type
   pub data ShapeBecomes : SchemaTypeVariant → TypeVariant RawName → Type 0 where
     of_string : ShapeBecomes shape.String variant.String
     of_long : ShapeBecomes shape.Long variant.Long
@@ -81,7 +81,7 @@ mutual
     of_extension : (text : List ℕ) (id : UnreservedId) → IsId (encode_utf8_all text) id
         → ShapeBecomes (shape.Extension text) (variant.Extension id)
 
-  -- the attributes become the attributes, one by one
+  -- the attributes of the deprecated form become attributes, one by one, without annotations
   pub data AttributesBecome : List (List ℕ × OldAttribute) → List (List ℕ × TypeOfAttribute RawName) → Type 0 where
     no_attribute : AttributesBecome [] []
     next_attribute : (k : List ℕ) (a : OldAttribute) (t : «Type» RawName) (es : List (List ℕ × OldAttribute))
@@ -91,21 +91,21 @@ mutual
 
 -- ---- what is declared
 
--- each value under its key
+-- each value becomes the one at its place, under an equal key
 abbrev pub ValuesBecome : {K V W : Type 0} → (V → W → Type 0) → List (K × V) → List (K × W) → Type 0
 ValuesBecome Becomes es fs = AllZip (λ e f. (f.0 ≡ e.0) × Becomes e.1 f.1) es fs
 
--- the same of a map, in the order of its keys
+-- the keys of a map rise, and each value becomes the one at its place, under an equal key
 abbrev pub MapBecomes : {K V W : Type 0} → (K → K → Ordering) → (V → W → Type 0) → List (K × V) → List (K × W) → Type 0
 MapBecomes order Becomes es fs = IsStrictlySortedBy order (keys_of es) × ValuesBecome Becomes es fs
 
--- a common type
+-- the type becomes that of a common type, which has neither annotations nor a place
 pub record CommonTypeBecomes (s : SchemaType) (c : CommonType RawName) : Type 0 where
   pub ty : TypeBecomes s c.ty
   pub bare : c.annotations ≡ no_annotations
   pub placeless : c.loc ≡ None
 
--- an entity type without tags that no other schema declares
+-- the entity type becomes a standard one that is not external, without tags, annotations and a place
 pub record EntityTypeBecomes (e : OldEntityType) (f : EntityType RawName) : Type 0 where
   pub ty : «Type» RawName
   pub kind : f.kind
@@ -115,13 +115,13 @@ pub record EntityTypeBecomes (e : OldEntityType) (f : EntityType RawName) : Type
   pub bare : f.annotations ≡ no_annotations
   pub placeless : f.loc ≡ None
 
--- both lists are there
+-- what an action applies to keeps both lists, which are there, and its context becomes the context
 pub record ApplyBecomes (a : OldApply) (b : ApplySpec RawName) : Type 0 where
   pub resources : a.resource_types ≡ Some b.resource_types
   pub principals : a.principal_types ≡ Some b.principal_types
   pub in_context : TypeBecomes a.context.0 b.context.0
 
--- what may be absent, and stays so
+-- a part that may be absent stays so
 abbrev pub OptionBecomes : {A B : Type 0} → (A → B → Type 0) → Option A → Option B → Type 0
 OptionBecomes Becomes None None = Unit {0}
 OptionBecomes Becomes (Some a) (Some b) = Becomes a b
@@ -132,11 +132,12 @@ abbrev pub no_names : Option (List (List ℕ)) → Option (List (List ℕ))
 no_names attributes = option_map (λ names. []) attributes
 
 module _ {G : ghosts.Ghosts RawName} where
-  -- the same id and type
+  -- the reference to an action keeps its id and its type
   abbrev pub UidBecomes : OldUid → ActionEntityUID RawName G → Type 0
   UidBecomes u v = (v.id ≡ u.id) × (v.ty ≡ u.ty)
 
-  -- an action that no other schema declares
+  -- the action becomes one that is not external, without annotations and a place; the list of its attributes, where one
+  -- is written, becomes empty
   pub record ActionBecomes (a : OldAction) (b : ActionType RawName G) : Type 0 where
     pub attributed : b.attributes ≡ no_names a.attributes
     pub applied : OptionBecomes ApplyBecomes a.applies_to b.applies_to
@@ -147,7 +148,7 @@ module _ {G : ghosts.Ghosts RawName} where
 
   -- ---- namespaces and fragments
 
-  -- a namespace, and what it declares
+  -- what the namespace declares becomes what is declared, map by map, without annotations
   pub record NamespaceBecomes (n : OldNamespace) (m : NamespaceDefinition RawName G) : Type 0 where
     pub commons : MapBecomes common_id_order CommonTypeBecomes n.common_types m.common_types
     pub entities : MapBecomes id_order EntityTypeBecomes n.entity_types m.entity_types
@@ -158,7 +159,7 @@ module _ {G : ghosts.Ghosts RawName} where
   abbrev pub EntryBecomes : List ℕ × OldNamespace → Option Name × NamespaceDefinition RawName G → Type 0
   EntryBecomes e f = IsNamespaceKey (encode_utf8_all e.0) f.0 × NamespaceBecomes e.1 f.1
 
-  -- the namespaces by name
+  -- each namespace becomes one under the name that its text is, and the fragment is the map of these
   abbrev pub FragmentBecomes : SchemaFragment → Fragment RawName G → Type 0
   FragmentBecomes s f =
       (entries : List (Option Name × NamespaceDefinition RawName G)) × AllZip EntryBecomes s.0 entries

@@ -46,14 +46,15 @@ attribute_layer a = a.ty
 abbrev pub asks_type : SchemaType → Asked
 asks_type = fold-SchemaType Asked Asked Asked type_layer shape_layer attribute_layer
 
--- the same of a shape
+-- what the shape of a type must keep
 abbrev pub asks_shape : SchemaTypeVariant → Asked
 asks_shape = fold-SchemaTypeVariant Asked Asked Asked type_layer shape_layer attribute_layer
 
--- and of an attribute
+-- what the type of an attribute must keep
 abbrev pub asks_attribute : TypeOfAttribute → Asked
 asks_attribute = fold-TypeOfAttribute Asked Asked Asked type_layer shape_layer attribute_layer
 
+-- what attributes must keep, in turn
 abbrev pub asks_attributes : List (List ℕ × TypeOfAttribute) → Asked
 asks_attributes es = flat_map (λ e. asks_attribute e.1) es
 
@@ -70,15 +71,15 @@ asks_apply a =
     asks_field (codes "resourceTypes") a.resource_types ∷ asks_field (codes "principalTypes") a.principal_types
     ∷ asks_type a.context.0
 
--- what an action must keep
+-- what an action must keep: what it applies to, where that is written
 abbrev pub asks_action : ActionType → Asked
 asks_action a = option_map_or asks_apply a.applies_to []
 
--- what an entity type must keep
+-- what an entity type must keep: its shape
 abbrev pub asks_entity : EntityType → Asked
 asks_entity e = asks_type e.shape.0
 
--- what each value of a map must keep
+-- what each value of a map must keep, in turn
 abbrev pub asks_values : {K V : Type 0} → (V → Asked) → List (K × V) → Asked
 asks_values asks es = flat_map (λ e. asks e.1) es
 

@@ -34,11 +34,11 @@ pub record IsOldAttributeIn (ms : Members) (a : TypeOfAttribute) : Type 0 where
   pub says : SaysOldType true ms (out-TypeOfAttribute a).ty
   pub marked : (out-TypeOfAttribute a).required ≡ flag_or true (get_member (codes "required") ms)
 
--- an attribute
+-- the value is an object that says the attribute
 abbrev pub IsOldAttribute : Data → TypeOfAttribute → Type 0
 IsOldAttribute d a = InObject IsOldAttributeIn d a
 
--- a type that is no attribute
+-- the value is an object that says the type, other than that of an attribute
 abbrev pub IsOldType : Data → SchemaType → Type 0
 IsOldType d t = InObject (SaysOldType false) d t
 
@@ -55,7 +55,7 @@ pub record IsOldEntityTypeIn (ms : Members) (e : EntityType) : Type 0 where
   pub parents : IsListOrNone IsNamed (get_member (codes "memberOfTypes") ms) e.member_of_types
   pub shaped : IsOldShape (get_member (codes "shape") ms) e.shape
 
--- an entity type
+-- the value is an object that says the entity type: its parents and its shape
 abbrev pub IsOldEntityType : Data → EntityType → Type 0
 IsOldEntityType d e = InObject IsOldEntityTypeIn d e
 
@@ -65,7 +65,7 @@ pub record IsOldActionIdIn (ms : Members) (u : ActionEntityUID) : Type 0 where
   pub named : IsTextIn (get_member (codes "id") ms) u.id
   pub typed : IsOptional IsNamed (not_null (get_member (codes "type") ms)) u.ty
 
--- a reference to an action
+-- the value is an object that says the reference to an action
 abbrev pub IsOldActionId : Data → ActionEntityUID → Type 0
 IsOldActionId d u = InObject IsOldActionIdIn d u
 
@@ -74,7 +74,7 @@ pub record IsOldAppliesToIn (ms : Members) (a : ApplySpec) : Type 0 where
   pub principals : IsOptional (IsList IsNamed) (not_null (get_member (codes "principalTypes") ms)) a.principal_types
   pub in_context : IsOldShape (get_member (codes "context") ms) a.context
 
--- what an action applies to
+-- the value is an object that says what an action applies to
 abbrev pub IsOldAppliesTo : Data → ApplySpec → Type 0
 IsOldAppliesTo d a = InObject IsOldAppliesToIn d a
 
@@ -83,7 +83,7 @@ pub record IsOldActionIn (ms : Members) (a : ActionType) : Type 0 where
   pub applied : IsOptional IsOldAppliesTo (not_null (get_member (codes "appliesTo") ms)) a.applies_to
   pub parents : IsOptional (IsList IsOldActionId) (not_null (get_member (codes "memberOf") ms)) a.member_of
 
--- an action
+-- the value is an object that says the action: its attributes, what it applies to, and its parents
 abbrev pub IsOldAction : Data → ActionType → Type 0
 IsOldAction d a = InObject IsOldActionIn d a
 
@@ -94,11 +94,11 @@ pub record IsOldNamespaceIn (ms : Members) (n : NamespaceDefinition) : Type 0 wh
   pub entities : IsMapOrNone id_order IsId IsOldEntityType (get_member (codes "entityTypes") ms) n.entity_types
   pub actions : IsMapOrNone text_cmp IsText IsOldAction (get_member (codes "actions") ms) n.actions
 
--- a namespace
+-- the value is an object that says the namespace: its common types, entity types and actions
 abbrev pub IsOldNamespace : Data → NamespaceDefinition → Type 0
 IsOldNamespace d n = InObject IsOldNamespaceIn d n
 
--- the value says the fragment
+-- the value is an object that says the fragment, namespace by namespace, under any texts
 abbrev pub IsOldFragment : Data → SchemaFragment → Type 0
 IsOldFragment d s = IsMap text_cmp IsText IsOldNamespace d s.0
 
@@ -106,6 +106,6 @@ IsOldFragment d s = IsMap text_cmp IsText IsOldNamespace d s.0
 abbrev pub IsOldRead : Data → SchemaFragment → Type 0
 IsOldRead d s = AllMet (old_demands d) × IsOldFragment d s
 
--- the first fault of reading
+-- the first fault of reading the value in the deprecated form
 abbrev pub IsFirstOldFault : Data → ShapeFault → Type 0
 IsFirstOldFault d e = FirstUnmet (old_demands d) e

@@ -43,13 +43,13 @@ abbrev pub is_old_type : Option Members → Bool
 is_old_type None = false
 is_old_type (Some ms) = is_text (get_member (codes "type") ms)
 
--- such an object, with a boolean as its member `required`, where that is there
+-- an object with a text as its member `type`, and with a boolean as its member `required`, where that is there
 abbrev pub is_old_attribute : Option Members → Bool
 is_old_attribute None = false
 is_old_attribute (Some ms) =
     is_text (get_member (codes "type") ms) && is_flag_or_none (get_member (codes "required") ms)
 
--- each member is one
+-- each member is an attribute
 abbrev pub are_all_attributes : Members → Bool
 are_all_attributes no_members = true
 are_all_attributes (member k d ms) = is_old_attribute (as_object d) && are_all_attributes ms

@@ -1,7 +1,5 @@
--- What a value must keep to be read in the deprecated form, in the order of the walk: a part before the parts inside
--- it,
--- the fields of an object by the bytes of their names, the entries of an object by the bytes of their keys. The objects
--- inside a type are no parts of the walk.
+-- What a value must keep to be read in the deprecated form. The demands on a value itself come before those on what it
+-- holds, where fields and entries go by the bytes of their names. Nothing is asked of the objects inside a type.
 use Rattle.std.specs.Prelude.{ℕ, List, [], ◌∷◌, ◌++◌, codes, Option, Some, None}
 use Rattle.std.specs.Str.{chars}
 use Rattle.serde_json.specs.Data.{Data, string, Members}

@@ -1,4 +1,4 @@
--- What is gathered of a tree, item by item. Only contracts inside the crate cite this.
+-- What is gathered of a tree, item by item.
 use Rattle.std.specs.Prelude.{◌≡◌, ℕ, Bool, true, false, List, [], ◌∷◌, ◌++◌, Option, None, Some}
 use Rattle.std.specs.List.{All, AllByRecursion, AllZip, filter_map, flat_map}
 use Rattle.cedar_identifiers.specs.declared.name.Name.{Name}

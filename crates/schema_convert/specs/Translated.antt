@@ -36,7 +36,7 @@ pub record AreItsFaults (tree : List (Annotated Namespace)) (errors : ToJsonSche
   pub all : errors.errors ≡ translation_faults tree
   pub some : translation_faults tree ≢ []
 
--- what a failure of a tree is: these are its faults, or memory was wanted
+-- what a failure of a tree is: these are its faults, or memory was out
 abbrev pub IsFailureOf : List (Annotated Namespace) → ToJsonSchemaFailure → Type 0
 IsFailureOf tree (failure.Errors errors) = AreItsFaults tree errors
 IsFailureOf tree failure.Memory = Unit {0}

@@ -94,6 +94,7 @@ abbrev pub failure_help : ToJsonSchemaFailure → Option (List ℕ)
 failure_help (failure.Errors e) = first_fault_help e.errors
 failure_help failure.Memory = None
 
+-- the places that are pointed to where a tree is no fragment
 abbrev pub failure_labels : ToJsonSchemaFailure → List Label
 failure_labels (failure.Errors e) = first_fault_labels e.errors
 failure_labels failure.Memory = []
@@ -104,6 +105,7 @@ text_failure_help (SyntaxError e) source = first_error_help e.errors source
 text_failure_help (JsonError e) source = first_fault_help e.errors
 text_failure_help Memory source = None
 
+-- the places that are pointed to where a text is no fragment
 abbrev pub text_failure_labels : CedarSchemaParseErrors → List Label
 text_failure_labels (SyntaxError e) = first_error_labels e.errors
 text_failure_labels (JsonError e) = first_fault_labels e.errors

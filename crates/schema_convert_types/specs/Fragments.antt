@@ -31,44 +31,51 @@ use Rattle.schema_convert_types.specs.Types.{type_of}
 use Rattle.schema_convert_types.specs.Declarations.{as_written, entity_type_of, action_type_of, declarable, unreserved}
 use Rattle.schema_convert_types.specs.Declarations.{each_with}
 
--- the entity types, the actions and the common type that a declaration declares, with its annotations and place
+-- the entity types that a declaration declares, with its annotations and its place
 abbrev pub entity_entries_of : Declaration → Annotations → Option Span → List (UnreservedId × EntityType RawName)
 entity_entries_of (Entity d) notes loc = each_with (entity_type_of d notes loc) (declarable (entity_names d))
 entity_entries_of (Action d) notes loc = []
 entity_entries_of (Common d) notes loc = []
 
+-- the actions that a declaration declares, with its annotations and its place
 abbrev pub action_entries_of : Declaration → Annotations → Option Span → List (List ℕ × ActionType RawName as_written)
 action_entries_of (Entity d) notes loc = []
 action_entries_of (Action d) notes loc = each_with (action_type_of d notes loc) (map (λ n. n.node) (action_names d))
 action_entries_of (Common d) notes loc = []
 
+-- the common type under its name, where that may be declared
 abbrev pub common_entry : Option UnreservedId → CommonType RawName → List (CommonTypeId × CommonType RawName)
 common_entry None of = []
 common_entry (Some id) of = (record { id = id }, of) ∷ []
 
+-- the common type that a declaration declares, if it declares one, with its annotations and its place
 abbrev pub common_entries_of : Declaration → Annotations → Option Span → List (CommonTypeId × CommonType RawName)
 common_entries_of (Entity d) notes loc = []
 common_entries_of (Action d) notes loc = []
 common_entries_of (Common d) notes loc =
     common_entry (unreserved d.name.node) (record { ty = type_of d.def; annotations = notes; loc = loc })
 
--- what declarations declare, in turn
+-- the entity types that declarations declare, in turn
 abbrev pub entity_entries : List (Annotated (Node Declaration)) → List (UnreservedId × EntityType RawName)
 entity_entries decls = flat_map (λ d. entity_entries_of d.item.node d.annotations d.item.loc) decls
 
+-- the actions that declarations declare, in turn
 abbrev pub action_entries : List (Annotated (Node Declaration)) → List (List ℕ × ActionType RawName as_written)
 action_entries decls = flat_map (λ d. action_entries_of d.item.node d.annotations d.item.loc) decls
 
+-- the common types that declarations declare, in turn
 abbrev pub common_entries : List (Annotated (Node Declaration)) → List (CommonTypeId × CommonType RawName)
 common_entries decls = flat_map (λ d. common_entries_of d.item.node d.annotations d.item.loc) decls
 
--- words go by their texts, and namespaces by the texts of their components; the empty namespace is the least
+-- the order of words: by the bytes of their texts
 abbrev pub unreserved_cmp : UnreservedId → UnreservedId → Ordering
 unreserved_cmp a b = text_cmp a.id.text b.id.text
 
+-- the order of the names of common types: by the bytes of their texts
 abbrev pub common_cmp : CommonTypeId → CommonTypeId → Ordering
 common_cmp a b = unreserved_cmp a.id b.id
 
+-- the order of namespaces: the empty one first, the others by the texts of their components
 abbrev pub namespace_cmp : Option Name → Option Name → Ordering
 namespace_cmp None None = Equal
 namespace_cmp None (Some b) = Less
@@ -90,6 +97,7 @@ abbrev pub declarable_name_so : (name : InternalName) (b : Bool) → has_cedar (
 declarable_name_so name true e = None
 declarable_name_so name false e = Some (record { name = name; unreserved = e })
 
+-- the name as one that may be declared, where none of its components is `__cedar`
 abbrev pub declarable_name : InternalName → Option Name
 declarable_name name = declarable_name_so name (has_cedar (components_of name)) refl
 

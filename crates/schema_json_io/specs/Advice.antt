@@ -26,14 +26,16 @@ is_bare_namespace (object ms) =
     (get_member (codes "commonTypes") ms)
 is_bare_namespace _ = false
 
+-- the advice on the value that is read: `MissingNamespace` where it has a field that a namespace has
 abbrev pub on_value : Option Data → Option JsonAdvice
 on_value None = None
 on_value (Some d) = if is_bare_namespace d then Some MissingNamespace else None
 
+-- the advice on a text: `CedarFormat` where it begins, and not with `{`, and else that on the value that is read
 abbrev pub advice_on : List ℕ → Option JsonAdvice
 advice_on text = if is_no_object_text text then Some CedarFormat else on_value (read text)
 
--- no advice stands beside want of memory
+-- the advice beside the fault; there is none where memory is out
 abbrev pub beside : JsonFault → Option JsonAdvice → Option JsonAdvice
 beside Memory advice = None
 beside _ advice = advice

@@ -26,7 +26,7 @@ IsValueCauseBy IsFirst d cause.Float = has_float d ≡ true
 IsValueCauseBy IsFirst d cause.Memory = ⊤
 IsValueCauseBy IsFirst d e = (has_float d ≡ false) × IsFirst d e
 
--- the same of a text
+-- why a text is refused, where this tells the first fault of a value without a float
 abbrev pub IsTextCauseBy : (Data → JsonFault → Type 0) → List ℕ → JsonFault → Type 0
 IsTextCauseBy IsFirst text cause.NotJson = read text ≡ None
 IsTextCauseBy IsFirst text (cause.RepeatedKey name) =
@@ -35,15 +35,18 @@ IsTextCauseBy IsFirst text cause.Float = (d : Data) × (read text ≡ Some d) ×
 IsTextCauseBy IsFirst text cause.Memory = ⊤
 IsTextCauseBy IsFirst text e = (d : Data) × Holds text d × IsFirst d e
 
+-- why a value is refused
 abbrev pub IsValueCause : Data → JsonFault → Type 0
 IsValueCause d e = IsValueCauseBy IsFirstFault d e
 
+-- why a text is refused
 abbrev pub IsTextCause : List ℕ → JsonFault → Type 0
 IsTextCause text e = IsTextCauseBy IsFirstFault text e
 
--- the cause, with the advice beside it
+-- why a text is refused, with the advice beside the cause
 abbrev pub IsTextError : List ℕ → JsonDeserializationError → Type 0
 IsTextError text e = IsTextCause text e.fault × (e.advice ≡ beside e.fault (advice_on text))
 
+-- why a value is refused; nothing is advised
 abbrev pub IsValueError : Data → JsonDeserializationError → Type 0
 IsValueError d e = IsValueCause d e.fault × (e.advice ≡ None)

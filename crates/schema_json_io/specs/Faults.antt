@@ -7,6 +7,7 @@ use Rattle.schema_json_errors.specs.declared.json_fault.JsonFault.TheVariants.{B
 use Rattle.schema_json_errors.specs.declared.json_fault.JsonFault.TheVariants.{ExternalConflict, EnumConflict}
 use Rattle.schema_json_errors.specs.declared.json_fault.JsonFault.TheVariants.{AnnotationsOnEmptyNamespace, Memory}
 
+-- the fault of reading JSON that stands for the fault of a value
 abbrev pub of_shape : ShapeFault → JsonFault
 of_shape (shape.UnknownField name) = UnknownField name
 of_shape (shape.MissingField name) = MissingField name

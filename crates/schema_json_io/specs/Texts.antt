@@ -20,8 +20,10 @@ pub record Holds (text : List ℕ) (d : Data) : Type 0 where
   pub whole : has_float d ≡ false
 
 module _ {G : ghosts.Ghosts RawName} where
+  -- the value has no float, is lawful, and says the fragment
   abbrev pub ValueShape : Data → Fragment RawName G → Type 0
   ValueShape d f = (has_float d ≡ false) × JsonShape d f
 
+  -- the text is JSON without a repeated key and without a float, and its value is lawful and says the fragment
   abbrev pub TextShape : List ℕ → Fragment RawName G → Type 0
   TextShape text f = (d : Data) × Holds text d × JsonShape d f

@@ -17,7 +17,7 @@ pub record IsPlain (found : Option (json.Json × List Token)) (d : Data) (rest :
   pub once : first_again (keys_of value) ≡ None
   pub numberless : has_number value ≡ false
 
--- the same of the items of an array
+-- the items of an array are what was read, these data, and these tokens follow
 pub record ArePlainItems (found : Option (json.Items × List Token)) (ds : Items) (rest : List Token) : Type 0 where
   pub items : json.Items
   pub stands : found ≡ Some (items, rest)
@@ -25,7 +25,8 @@ pub record ArePlainItems (found : Option (json.Items × List Token)) (ds : Items
   pub once : first_again (items_keys items) ≡ None
   pub numberless : items_have_number items ≡ false
 
--- the same of the members of an object that stand behind earlier ones with these keys, which make these members
+-- the members of an object, behind earlier ones with these keys, are what was read; put among the old members they make
+-- all of these, and these tokens follow
 pub record ArePlainMembers (earlier : List (List ℕ)) (old : Members) (found : Option (json.Members × List Token))
     (all : Members) (rest : List Token) : Type 0 where
   pub members : json.Members

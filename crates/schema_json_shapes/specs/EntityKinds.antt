@@ -1,4 +1,4 @@
--- What kind of entity type the members say. Only private clauses cite it.
+-- What kind of entity type the members say.
 use Rattle.std.specs.Prelude.{List, Option, Some, None}
 use Rattle.cedar_identifiers.specs.declared.eid.Eid.{Eid}
 use Rattle.cedar_identifiers.specs.declared.raw_name.RawName.{RawName}

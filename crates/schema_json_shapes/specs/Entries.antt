@@ -3,12 +3,12 @@ use Rattle.std.specs.Prelude.{ℕ, List, [], ◌++◌}
 use Rattle.serde_json.specs.Data.{Data, object, Members, no_members, member}
 use Rattle.schema_json_shapes.specs.Walk.{Role, Demand, demands, key_demands, member_role, wrong_type}
 
--- an object that keeps this
+-- what a value must keep: it is an object, and its members keep this
 abbrev pub of_object : (Members → List Demand) → List ℕ → Data → List Demand
 of_object own n (object ms) = own ms
 of_object own n _ = wrong_type n
 
--- the entries of an object one by one
+-- what the entries of an object must keep, one by one
 abbrev pub each_entry : (List ℕ → Data → List Demand) → Members → List Demand
 each_entry part no_members = []
 each_entry part (member k d ms) = part k d ++ each_entry part ms

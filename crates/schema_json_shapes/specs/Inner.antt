@@ -1,4 +1,4 @@
--- The field that goes with the word of a type. Only private clauses cite it.
+-- The field that goes with the word of a type.
 use Rattle.std.specs.Prelude.{◌≡◌, ℕ, true, List, [], ◌∷◌, codes, Option, Some, None, ⊤}
 use Rattle.serde_json.specs.Data.{object, Members}
 use Rattle.serde_json.specs.Find.{get_member}

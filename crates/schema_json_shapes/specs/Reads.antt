@@ -5,7 +5,7 @@ use Rattle.schema_json_shapes.specs.declared.shape_fault.ShapeFault.{ShapeFault}
 use Rattle.schema_json_shapes.specs.declared.shape_fault.ShapeFault.TheVariants.{Memory}
 use Rattle.schema_json_shapes.specs.Walk.{Role, Demand, demands, AllMet, FirstUnmet}
 
--- memory was wanting, or this is the fault of the first demand that is not met
+-- memory was out, or this is the fault of the first demand that is not met
 abbrev pub IsFault : List Demand → ShapeFault → Type 0
 IsFault ds e = (e ≡ Memory) ⊎ FirstUnmet ds e
 

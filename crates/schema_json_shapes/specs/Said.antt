@@ -35,6 +35,7 @@ IsRawName s n = ReadsAs kind.InternalName s (components_of n.name) × (n.name.lo
 abbrev pub IsId : List ℕ → UnreservedId → Type 0
 IsId s id = ReadsAs kind.UnreservedId s (id.id.text ∷ [])
 
+-- the text is this word, be it reserved or not
 abbrev pub IsAnyId : List ℕ → AnyId → Type 0
 IsAnyId s id = ReadsAs kind.AnyId s (id.text ∷ [])
 
@@ -56,12 +57,12 @@ pub data AreItems {X : Type 0} (P : Data → X → Type 0) : Items → List X �
   no_item : AreItems P no_items []
   next_item : (d : Data) (ds : Items) (x : X) (xs : List X) → P d x → AreItems P ds xs → AreItems P (item d ds) (x ∷ xs)
 
--- a list
+-- the value is an array, whose items say these in turn
 abbrev pub IsList : {X : Type 0} → (Data → X → Type 0) → Data → List X → Type 0
 IsList P (array ds) xs = AreItems P ds xs
 IsList P _ xs = ⊥
 
--- a list that may be absent
+-- an array that may be absent, which says these in turn; absent, it says none
 abbrev pub IsListOrNone : {X : Type 0} → (Data → X → Type 0) → Option Data → List X → Type 0
 IsListOrNone P None xs = xs ≡ []
 IsListOrNone P (Some d) xs = IsList P d xs
@@ -74,45 +75,51 @@ pub data AreEntries {K V : Type 0} (Key : List ℕ → K → Type 0) (Value : Da
       → Value d value
       → AreEntries Key Value ms es → AreEntries Key Value (member k d ms) ((key, value) ∷ es)
 
--- the map of the members of an object
+-- the value is an object, and the map is that of its members
 abbrev pub IsMap : {K V : Type 0} → (K → K → Ordering) → (List ℕ → K → Type 0) → (Data → V → Type 0) → Data
     → List (K × V) → Type 0
 IsMap {K} {V} order Key Value (object ms) es =
     (entries : List (K × V)) × AreEntries Key Value ms entries × (es ≡ map_of order entries)
 IsMap order Key Value _ es = ⊥
 
--- such a map, which may be absent
+-- the map of the members of an object, or the empty one where that is absent
 abbrev pub IsMapOrNone : {K V : Type 0} → (K → K → Ordering) → (List ℕ → K → Type 0) → (Data → V → Type 0)
     → Option Data → List (K × V) → Type 0
 IsMapOrNone order Key Value None es = es ≡ []
 IsMapOrNone order Key Value (Some d) es = IsMap order Key Value d es
 
--- a text as it is
+-- these are the characters of the text
 abbrev pub IsText : List ℕ → List ℕ → Type 0
 IsText s t = t ≡ chars s
 
+-- the value is a text that is this name
 abbrev pub IsNamed : Data → RawName → Type 0
 IsNamed (string s) n = IsRawName s n
 IsNamed _ n = ⊥
 
+-- the value is a text that is this word
 abbrev pub IsWordNamed : Data → UnreservedId → Type 0
 IsWordNamed (string s) id = IsId s id
 IsWordNamed _ id = ⊥
 
+-- the value is a text, and the choice has its characters
 abbrev pub IsChoice : Data → Eid → Type 0
 IsChoice (string s) e = e.0 ≡ chars s
 IsChoice _ e = ⊥
 
 -- ---- annotations
 
+-- the order of annotation keys: by the bytes of their texts
 abbrev pub annotation_order : AnyId → AnyId → Ordering
 annotation_order a b = text_cmp a.text b.text
 
+-- what the value of an annotation says: a text, or none where it is null
 abbrev pub IsAnnotation : Data → Option (List ℕ) → Type 0
 IsAnnotation null o = o ≡ None
 IsAnnotation (string s) o = o ≡ Some (chars s)
 IsAnnotation _ o = ⊥
 
+-- the annotations are the map of the object's members, of which there are none where it is absent
 abbrev pub AreAnnotations : Option Data → Annotations → Type 0
 AreAnnotations o a = IsMapOrNone annotation_order IsAnyId IsAnnotation o a.0
 
@@ -167,13 +174,13 @@ mutual
         → (out-TypeOfAttribute RawName a).required ≡ flag_or true (get_member (codes "required") beside)
         → AreAttributes ms es → AreAttributes (member k (object beside) ms) ((chars k, a) ∷ es)
 
--- the type with its annotations, and whether it is required
+-- the object says the type, its annotations, and whether it is required
 pub record IsTyped (ms : Members) (ty : «Type» RawName) (annotations : Annotations) (required : Bool) : Type 0 where
   pub says : IsType (object ms) ty
   pub annotated : AreAnnotations (get_member (codes "annotations") ms) annotations
   pub marked : required ≡ flag_or true (get_member (codes "required") ms)
 
--- such a type, in a value
+-- the value is an object that says the type, its annotations, and whether it is required
 abbrev pub SaysTyped : Data → «Type» RawName → Annotations → Bool → Type 0
 SaysTyped (object ms) ty annotations required = IsTyped ms ty annotations required
 SaysTyped _ ty annotations required = ⊥

@@ -44,6 +44,7 @@ pub record IsCommonTypeIn (ms : Members) (c : CommonType RawName) : Type 0 where
   pub annotated : AreAnnotations (get_member (codes "annotations") ms) c.annotations
   pub placeless : c.loc ≡ None
 
+-- the value is an object that says the common type: its type and its annotations, without a place
 abbrev pub IsCommonType : Data → CommonType RawName → Type 0
 IsCommonType (object ms) c = IsCommonTypeIn ms c
 IsCommonType _ c = ⊥
@@ -54,6 +55,7 @@ pub record IsStandard (ms : Members) (s : StandardEntityType RawName) : Type 0 w
   pub shaped : IsShape (get_member (codes "shape") ms) s.shape.0
   pub tagged : IsOptional IsType (get_member (codes "tags") ms) s.tags
 
+-- the members say the kind: an enum where `enum` is there, and else a standard entity type
 abbrev pub IsKind : Members → EntityTypeKind RawName → Type 0
 IsKind ms (Standard s) = IsStandard ms s
 IsKind ms (Enum choices) = (d : Data) × (get_member (codes "enum") ms ≡ Some d) × IsList IsChoice d choices
@@ -64,17 +66,19 @@ pub record IsEntityTypeIn (ms : Members) (e : EntityType RawName) : Type 0 where
   pub annotated : AreAnnotations (get_member (codes "annotations") ms) e.annotations
   pub placeless : e.loc ≡ None
 
+-- the value is an object that says the entity type: its kind, whether it is external, its annotations, and no place
 abbrev pub IsEntityType : Data → EntityType RawName → Type 0
 IsEntityType (object ms) e = IsEntityTypeIn ms e
 IsEntityType _ e = ⊥
 
 -- ---- actions
 
+-- the characters of the keys, in turn
 abbrev pub key_texts : Members → List (List ℕ)
 key_texts no_members = []
 key_texts (member k d ms) = chars k ∷ key_texts ms
 
--- the keys of an object
+-- the value is an object, and these are its keys
 abbrev pub AreKeys : Data → List (List ℕ) → Type 0
 AreKeys (object ms) ks = ks ≡ key_texts ms
 AreKeys _ ks = ⊥
@@ -84,32 +88,38 @@ pub record IsAppliesToIn (ms : Members) (a : ApplySpec RawName) : Type 0 where
   pub principals : (d : Data) × (get_member (codes "principalTypes") ms ≡ Some d) × IsList IsNamed d a.principal_types
   pub in_context : IsShape (get_member (codes "context") ms) a.context.0
 
+-- the value is an object that says what an action applies to: resources, principals and the context
 abbrev pub IsAppliesTo : Data → ApplySpec RawName → Type 0
 IsAppliesTo (object ms) a = IsAppliesToIn ms a
 IsAppliesTo _ a = ⊥
 
+-- the value is there, and is a text of these characters
 abbrev pub IsTextIn : Option Data → List ℕ → Type 0
 IsTextIn (Some (string s)) t = t ≡ chars s
 IsTextIn _ t = ⊥
 
--- the words name namespaces, and the empty text names the empty one
+-- the text is the name of a namespace, which has no place
 abbrev pub IsNamespaceName : List ℕ → Name → Type 0
 IsNamespaceName s n = ReadsAs kind.Name s (components_of n.name) × (n.name.loc ≡ None)
 
+-- the key of a namespace: the empty text is that of the empty one, and any other text is the name
 abbrev pub IsNamespaceKey : List ℕ → Option Name → Type 0
 IsNamespaceKey [] key = key ≡ None
 IsNamespaceKey (c ∷ s) key = (n : Name) × (key ≡ Some n) × IsNamespaceName (c ∷ s) n
 
+-- the text is the name of a common type, which is a word
 abbrev pub IsCommonId : List ℕ → CommonTypeId → Type 0
 IsCommonId s id = IsId s id.id
 
--- words go by their texts, and namespaces by the texts of their components; the empty namespace is the least
+-- the order of words: by the bytes of their texts
 abbrev pub id_order : UnreservedId → UnreservedId → Ordering
 id_order a b = text_cmp a.id.text b.id.text
 
+-- the order of the names of common types: by the bytes of their texts
 abbrev pub common_id_order : CommonTypeId → CommonTypeId → Ordering
 common_id_order a b = id_order a.id b.id
 
+-- the order of namespaces: the empty one first, the others by the texts of their components
 abbrev pub namespace_order : Option Name → Option Name → Ordering
 namespace_order None None = Equal
 namespace_order None (Some b) = Less
@@ -121,6 +131,7 @@ module _ {G : ghosts.Ghosts RawName} where
     pub named : IsTextIn (get_member (codes "id") ms) u.id
     pub typed : IsOptional IsNamed (not_null (get_member (codes "type") ms)) u.ty
 
+  -- the value is an object that says the reference to an action: its id, and its type where one is written
   abbrev pub IsActionId : Data → ActionEntityUID RawName G → Type 0
   IsActionId (object ms) u = IsActionIdIn ms u
   IsActionId _ u = ⊥
@@ -133,6 +144,7 @@ module _ {G : ghosts.Ghosts RawName} where
     pub annotated : AreAnnotations (get_member (codes "annotations") ms) a.annotations
     pub placeless : a.loc ≡ None
 
+  -- the value is an object that says the action: its parts, whether it is external, its annotations, and no place
   abbrev pub IsAction : Data → ActionType RawName G → Type 0
   IsAction (object ms) a = IsActionIn ms a
   IsAction _ a = ⊥
@@ -146,6 +158,7 @@ module _ {G : ghosts.Ghosts RawName} where
     pub actions : IsMapOrNone text_cmp IsText IsAction (get_member (codes "actions") ms) n.actions
     pub annotated : AreAnnotations (get_member (codes "annotations") ms) n.annotations
 
+  -- the value is an object that says the namespace: its common types, entity types and actions, and its annotations
   abbrev pub IsNamespace : Data → NamespaceDefinition RawName G → Type 0
   IsNamespace (object ms) n = IsNamespaceIn ms n
   IsNamespace _ n = ⊥

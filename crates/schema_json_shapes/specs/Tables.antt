@@ -52,26 +52,32 @@ site_fields Plain = []
 site_fields Attribute = may_have (codes "required") ∷ may_have (codes "annotations") ∷ []
 site_fields Common = may_have (codes "annotations") ∷ []
 
+-- the fields of a type: `type`, those of its word, and those of where it stands
 abbrev pub type_fields : TypeSite → TypeWord → List Field
 type_fields site w = needs (codes "type") ∷ (word_fields w ++ site_fields site)
 
+-- the fields of a namespace, which needs `entityTypes` and `actions`
 abbrev pub namespace_fields : List Field
 namespace_fields = may_have (codes "commonTypes") ∷ needs (codes "entityTypes") ∷ needs (codes "actions") ∷ may_have
     (codes "annotations") ∷ []
 
+-- the fields of an entity type, of which none is needed
 abbrev pub entity_type_fields : List Field
 entity_type_fields =
     may_have (codes "memberOfTypes") ∷ may_have (codes "shape") ∷ may_have (codes "tags") ∷ may_have (codes "enum")
     ∷ may_have (codes "external") ∷ may_have (codes "annotations") ∷ []
 
+-- the fields of an action, of which none is needed
 abbrev pub action_fields : List Field
 action_fields =
     may_have (codes "attributes") ∷ may_have (codes "appliesTo") ∷ may_have (codes "memberOf")
     ∷ may_have (codes "external") ∷ may_have (codes "annotations") ∷ []
 
+-- the fields of what an action applies to, which needs both lists
 abbrev pub applies_to_fields : List Field
 applies_to_fields = needs (codes "resourceTypes") ∷ needs (codes "principalTypes") ∷ may_have (codes "context") ∷ []
 
+-- the fields of a reference to an action, which needs `id`
 abbrev pub action_id_fields : List Field
 action_id_fields = needs (codes "id") ∷ may_have (codes "type") ∷ []
 
@@ -80,7 +86,7 @@ action_id_fields = needs (codes "id") ∷ may_have (codes "type") ∷ []
 abbrev pub is_field : List Field → List ℕ → Bool
 is_field fs k = list_any (λ f. bytes_eq f.name k) fs
 
--- the members stand by the bytes of their keys, so this is the least one
+-- the least key that is no field, if there is one: the members stand by the bytes of their keys
 abbrev pub first_unknown : List Field → Members → Option (List ℕ)
 first_unknown fs no_members = None
 first_unknown fs (member k d ms) = if is_field fs k then first_unknown fs ms else Some k
@@ -88,7 +94,7 @@ first_unknown fs (member k d ms) = if is_field fs k then first_unknown fs ms els
 abbrev pub is_missing : Field → Members → Bool
 is_missing f ms = f.needed && not (is_some (get_member f.name ms))
 
--- the first in the order of the table
+-- the first field in the order of the table that is needed and absent, if there is one
 abbrev pub first_missing : List Field → Members → Option (List ℕ)
 first_missing [] ms = None
 first_missing (f ∷ fs) ms = if is_missing f ms then Some f.name else first_missing fs ms

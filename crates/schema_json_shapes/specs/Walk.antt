@@ -1,5 +1,5 @@
--- What a value must keep to be read, in the order of the walk: a part before the parts inside it, the members of an
--- object by the bytes of their keys, the items of a list in order.
+-- What a value must keep to be read. The demands on a value itself come before those on what it holds: on the items of
+-- an array in turn, or on the members of an object as they stand, which is by the bytes of their keys.
 use Rattle.std.specs.Prelude.{◌≡◌, ◌⊎◌, ◌≢◌, ℕ, Bool, true, false, List, [], ◌∷◌, ◌++◌, if◌then◌else◌, codes, Option}
 use Rattle.std.specs.Prelude.{Some, None, option_map, map, ⊤}
 use Rattle.std.specs.Str.{bytes_eq, chars}
@@ -39,7 +39,7 @@ pub data Demand : Type 0 where
   -- the key of a common type is none of the names that no common type may have
   no_keyword : List ℕ → Demand
 
--- how names in a role are read, and what faults call it
+-- which kind of name is read in a role
 abbrev pub kind_of : NameRole → NameKind
 kind_of role.Namespace = kind.Name
 kind_of role.Id = kind.UnreservedId
@@ -50,6 +50,7 @@ kind_of role.EntityOrCommonType = kind.InternalName
 kind_of role.CommonType = kind.InternalName
 kind_of role.Annotation = kind.AnyId
 
+-- what faults call the role
 abbrev pub role_text : NameRole → List ℕ
 role_text role.Namespace = codes "namespace"
 role_text role.Id = codes "id"
@@ -64,6 +65,7 @@ role_text role.Annotation = codes "annotation"
 abbrev pub IsNameIn : NameRole → List ℕ → Type 0
 IsNameIn r s = (words : List (List ℕ)) × ReadsAs (kind_of r) s words
 
+-- the demand is met
 abbrev pub IsMet : Demand → Type 0
 IsMet (unless o) = o ≡ None
 IsMet (is_name r s) = IsNameIn r s
@@ -84,6 +86,7 @@ IsUnmet (is_name r s) e = IsBadName r s e
 IsUnmet (no_keyword s) e = (is_keyword_name s ≡ true) × (id : UnreservedId) × (id.id.text ≡ s)
     × (e ≡ ReservedCommonType id)
 
+-- each of the demands is met
 abbrev pub AllMet : List Demand → Type 0
 AllMet [] = ⊤
 AllMet (d ∷ ds) = IsMet d × AllMet ds
@@ -210,7 +213,7 @@ item_role texts = text
 item_role action_ids = action_id
 item_role _ = ignored
 
--- the empty text names the empty namespace
+-- what the key of a namespace must keep: it is a name, or the empty text of the empty namespace
 abbrev pub namespace_key : List ℕ → List Demand
 namespace_key [] = []
 namespace_key (c ∷ s) = is_name role.Namespace (c ∷ s) ∷ []
@@ -245,11 +248,12 @@ abbrev pub reference_fits : TypeWord → List ℕ → List Demand
 reference_fits Reference s = is_name role.CommonType s ∷ []
 reference_fits _ s = []
 
+-- the value is there
 abbrev pub is_there : Option Data → Bool
 is_there None = false
 is_there (Some d) = true
 
--- there, and not null
+-- the value is there, and is not null
 abbrev pub is_given : Option Data → Bool
 is_given None = false
 is_given (Some null) = false
@@ -260,29 +264,34 @@ abbrev pub present : (Option Data → Bool) → List (List ℕ) → Members → 
 present test [] ms = []
 present test (n ∷ ns) ms = if test (get_member n ms) then n ∷ present test ns ms else present test ns ms
 
+-- the fault that names these fields, where there are any
 abbrev pub conflict : (List (List ℕ) → ShapeFault) → List (List ℕ) → Option ShapeFault
 conflict fault [] = None
 conflict fault (n ∷ ns) = Some (fault (map chars (n ∷ ns)))
 
+-- the truth value that is there, and else this one
 abbrev pub flag_or : Bool → Option Data → Bool
 flag_or otherwise (Some (boolean b)) = b
 flag_or otherwise _ = otherwise
 
--- what may not stand beside `external: true`
+-- the fault of members with `external: true`, where some of these fields pass the test: it names all that do
 abbrev pub external_conflict : (Option Data → Bool) → List (List ℕ) → Members → Option Data → Option ShapeFault
 external_conflict test beside ms external =
     if flag_or false external then conflict ExternalConflict (present test beside ms) else None
 
+-- the fields that may not stand beside the `external: true` of an entity type
 abbrev pub not_external_type : List (List ℕ)
 not_external_type = codes "shape" ∷ codes "tags" ∷ codes "enum" ∷ []
 
+-- the fields that may not stand beside the `external: true` of an action
 abbrev pub not_external_action : List (List ℕ)
 not_external_action = codes "attributes" ∷ codes "appliesTo" ∷ []
 
--- what may not stand beside `enum`
+-- the fields that may not stand beside `enum`
 abbrev pub not_enum : List (List ℕ)
 not_enum = codes "memberOfTypes" ∷ codes "shape" ∷ codes "tags" ∷ []
 
+-- the fault of members with `enum`, where some fields are there that may not stand beside it: it names all of them
 abbrev pub enum_conflict : Members → Option Data → Option ShapeFault
 enum_conflict ms choices = if is_there choices then conflict EnumConflict (present is_there not_enum ms) else None
 
@@ -290,6 +299,7 @@ abbrev pub is_empty_list : Data → Bool
 is_empty_list (array no_items) = true
 is_empty_list _ = false
 
+-- the fault of the choices, where they are there and are an empty list
 abbrev pub empty_enum : Option Data → Option ShapeFault
 empty_enum None = None
 empty_enum (Some d) = if is_empty_list d then Some EmptyEnum else None
@@ -298,15 +308,17 @@ abbrev pub has_members : Data → Bool
 has_members (object (member k d ms)) = true
 has_members _ = false
 
--- annotations of the empty namespace
+-- the fault of annotations of the empty namespace, where they have a member
 abbrev pub annotated : Option Data → Option ShapeFault
 annotated None = None
 annotated (Some d) = if has_members d then Some AnnotationsOnEmptyNamespace else None
 
+-- the fault of the empty namespace, where its `annotations` have a member; another namespace has none
 abbrev pub empty_annotated : List ℕ → Members → Option ShapeFault
 empty_annotated [] ms = annotated (get_member (codes "annotations") ms)
 empty_annotated (c ∷ n) ms = None
 
+-- the demand on a value of a wrong type, under this name, which is never met
 abbrev pub wrong_type : List ℕ → List Demand
 wrong_type n = unless (Some (WrongType (chars n))) ∷ []
 

@@ -1,4 +1,4 @@
--- How a text grows as it is written. Only contracts inside the crate cite this.
+-- How a text grows as it is written.
 use Rattle.std.specs.Prelude.{◌≡◌, ℕ, List, ◌++◌, String, string_bytes}
 use Rattle.serde_json.specs.Data.{Data}
 use Rattle.serde_json.specs.Written.{compact_text}

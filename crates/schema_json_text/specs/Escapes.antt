@@ -1,4 +1,4 @@
--- The first byte of a text that must be escaped. Only contracts inside the crate cite this.
+-- The first byte of a text that must be escaped.
 use Rattle.std.specs.Prelude.{◌≡◌, ℕ, ◌<◌, true, false, List, length, take, slice_index}
 use Rattle.std.specs.List.{All}
 use Rattle.json.specs.Run.{is_stop}

@@ -1,4 +1,4 @@
--- Members that are written one after another, each where it is there. Only contracts inside the crate cite this.
+-- Members that are written one after another, each where it is there.
 use Rattle.std.specs.Prelude.{◌≡◌, ℕ, Bool, true, false, ◌||◌, List, [], ◌∷◌, ◌++◌, map, Option, Some, None, is_some}
 use Rattle.std.specs.Prelude.{if◌then◌else◌, not, codes}
 use Rattle.json.specs.Print.{quoted}
@@ -64,6 +64,7 @@ abbrev pub flag_value : Bool → Bool → Option Data
 flag_value true flag = Some (boolean flag)
 flag_value false flag = None
 
+-- the object of the annotations, where there are any
 abbrev pub annotations_value : List (AnyId × Option (List ℕ)) → Option Data
 annotations_value [] = None
 annotations_value (a ∷ as_) = Some (object_of (map annotation_entry (a ∷ as_)))
@@ -101,15 +102,18 @@ module _ {N : Type 0} (components : N → List (List ℕ)) where
   abbrev pub named_list : List N → Option Data
   named_list names = list_value (map (name_value components) names)
 
+  -- the value of the type of tags, where there is one
   abbrev pub tags_value : Option («Type» N) → Option Data
   tags_value None = None
   tags_value (Some t) = Some (type_value components t)
 
+  -- the value of what an action applies to, where that is written
   abbrev pub applies_value : Option (ApplySpec N) → Option Data
   applies_value None = None
   applies_value (Some a) = Some (applies_to_value components a)
 
   module _ {G : named.Ghosts N} where
+    -- the array of an action's parents, where that is written
     abbrev pub parents_value : Option (List (ActionEntityUID N G)) → Option Data
     parents_value None = None
     parents_value (Some ids) = Some (list_of (map (action_id_value components) ids))

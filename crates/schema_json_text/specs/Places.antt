@@ -1,4 +1,4 @@
--- Namespaces by the texts of their names. Only contracts inside the crate cite this.
+-- Namespaces by the texts of their names.
 use Rattle.std.specs.Prelude.{ℕ, List}
 use Rattle.std.specs.Str.{encode_utf8_all}
 use Rattle.serde_json.specs.Data.{Data}

@@ -26,6 +26,7 @@ use Rattle.schema_json_values.specs.TypeValues.{type_value}
 
 -- ---- lists
 
+-- the array of these values
 abbrev pub list_of : List Data → Data
 list_of ds = array (items_of ds)
 
@@ -44,9 +45,11 @@ abbrev pub with_object : List ℕ → List (List ℕ × Data) → Members → Me
 with_object key [] ms = ms
 with_object key (e ∷ es) ms = put key (object_of (e ∷ es)) ms
 
+-- a choice as a string
 abbrev pub choice_value : Eid → Data
 choice_value e = string (encode_utf8_all e.0)
 
+-- the name of an attribute, with null as its value
 abbrev pub attribute_name_entry : List ℕ → List ℕ × Data
 attribute_name_entry t = (encode_utf8_all t, null)
 
@@ -61,18 +64,21 @@ namespace_bytes None = []
 namespace_bytes (Some n) = name_bytes (λ (m : Name). components_of m.name) n
 
 module _ {N : Type 0} (components : N → List (List ℕ)) where
+  -- a name as a string: its components with `::` between two
   abbrev pub name_value : N → Data
   name_value n = string (name_bytes components n)
 
+  -- the array of these names, each as a string
   abbrev pub names_value : List N → Data
   names_value ns = list_of (map name_value ns)
 
   -- ---- common types and entity types
 
+  -- the object of a common type: the members of its type, and its annotations where there are any
   abbrev pub common_type_value : CommonType N → Data
   common_type_value c = object (with_annotations c.annotations.0 (type_members components c.ty))
 
-  -- with the shape or the context, where it is not the empty record
+  -- the members with the shape or the context among them, where that is not the empty record
   abbrev pub with_shape : List ℕ → «Type» N → Members → Members
   with_shape key t ms = if is_empty_type t then ms else put key (type_value components t) ms
 
@@ -86,12 +92,14 @@ module _ {N : Type 0} (components : N → List (List ℕ)) where
       (with_list (codes "memberOfTypes") (map name_value s.member_of_types) no_members))
   kind_members (Enum choices) = put (codes "enum") (list_of (map choice_value choices)) no_members
 
+  -- the object of an entity type: the members of its kind, `external` where that is true, and its annotations if any
   abbrev pub entity_type_value : EntityType N → Data
   entity_type_value e = object (with_annotations e.annotations.0
       (with_flag e.external (codes "external") true (kind_members e.kind)))
 
   -- ---- actions
 
+  -- the object of what an action applies to: both lists, and the context where it is not the empty record
   abbrev pub applies_to_value : ApplySpec N → Data
   applies_to_value a =
       object (with_shape (codes "context") a.context.0
@@ -106,13 +114,16 @@ module _ {N : Type 0} (components : N → List (List ℕ)) where
   with_type None ms = ms
   with_type (Some n) ms = put (codes "type") (name_value n) ms
 
+  -- the object of a common type under its name
   abbrev pub common_entry : CommonTypeId × CommonType N → List ℕ × Data
   common_entry p = (p.0.id.id.text, common_type_value p.1)
 
+  -- the object of an entity type under its name
   abbrev pub entity_entry : UnreservedId × EntityType N → List ℕ × Data
   entity_entry p = (p.0.id.text, entity_type_value p.1)
 
   module _ {G : named.Ghosts N} where
+    -- the object of a reference to an action: its id, and its type where one is written
     abbrev pub action_id_value : ActionEntityUID N G → Data
     action_id_value u = object (with_type u.ty (put (codes "id") (string (encode_utf8_all u.id)) no_members))
 
@@ -120,17 +131,20 @@ module _ {N : Type 0} (components : N → List (List ℕ)) where
     with_parents None ms = ms
     with_parents (Some ids) ms = put (codes "memberOf") (list_of (map action_id_value ids)) ms
 
+    -- the object of an action: its parts that are written, `external` where that is true, and its annotations if any
     abbrev pub action_value : ActionType N G → Data
     action_value a =
         object (with_annotations a.annotations.0
         (with_flag a.external (codes "external") true
         (with_parents a.member_of (with_applies_to a.applies_to (with_attributes a.attributes no_members)))))
 
+    -- the object of an action under its id
     abbrev pub action_entry : List ℕ × ActionType N G → List ℕ × Data
     action_entry p = (encode_utf8_all p.0, action_value p.1)
 
     -- ---- namespaces and fragments
 
+    -- the object of a namespace: `actions` and `entityTypes`, and its common types and annotations where there are any
     abbrev pub namespace_value : NamespaceDefinition N G → Data
     namespace_value n =
         object (with_annotations n.annotations.0
@@ -138,6 +152,7 @@ module _ {N : Type 0} (components : N → List (List ℕ)) where
         (put (codes "actions") (object_of (map action_entry n.actions))
         (put (codes "entityTypes") (object_of (map entity_entry n.entity_types)) no_members))))
 
+    -- the object of a namespace under its name
     abbrev pub namespace_entry : Option Name × NamespaceDefinition N G → List ℕ × Data
     namespace_entry p = (namespace_bytes p.0, namespace_value p.1)
 

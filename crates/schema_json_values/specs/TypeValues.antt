@@ -21,7 +21,7 @@ put_all (e ∷ es) ms = put_all es (put e.0 e.1 ms)
 abbrev pub object_of : List (List ℕ × Data) → Data
 object_of es = object (put_all es no_members)
 
--- with the flag, where it is this
+-- the members with this flag among them, where it is asked for
 abbrev pub with_flag : Bool → List ℕ → Bool → Members → Members
 with_flag true key flag ms = put key (boolean flag) ms
 with_flag false key flag ms = ms
@@ -31,17 +31,18 @@ abbrev pub text_or_null : Option (List ℕ) → Data
 text_or_null None = null
 text_or_null (Some t) = string (encode_utf8_all t)
 
+-- the value of an annotation under its key
 abbrev pub annotation_entry : AnyId × Option (List ℕ) → List ℕ × Data
 annotation_entry p = (p.0.text, text_or_null p.1)
 
--- with the annotations, where there are any
+-- the members with the annotations among them, where there are any
 abbrev pub with_annotations : List (AnyId × Option (List ℕ)) → Members → Members
 with_annotations [] ms = ms
 with_annotations (a ∷ as_) ms = put (codes "annotations") (object_of (map annotation_entry (a ∷ as_))) ms
 
 -- ---- types
 
--- the object of a type of this word
+-- the member `type` with this word, and no other
 abbrev pub with_word : List ℕ → Members
 with_word w = member (codes "type") (string w) no_members
 
@@ -54,6 +55,7 @@ with_attributes es is_open = with_flag is_open (codes "additionalAttributes") tr
     (put (codes "attributes") (object_of es) (with_word (codes "Record")))
 
 module _ {N : Type 0} (components : N → List (List ℕ)) where
+  -- the bytes of a name: its components with `::` between two
   abbrev pub name_bytes : N → List ℕ
   name_bytes n = encode_utf8_all (name_text (components n))
 

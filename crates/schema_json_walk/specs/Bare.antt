@@ -14,9 +14,10 @@ module _ {N : Type 0} where
   is_bare_kind (Standard s) = is_empty_type s.shape.0 && is_none s.tags
   is_bare_kind (Enum choices) = false
 
+  -- the entity type is no enum, its shape is empty and closed, and it has no tags
   abbrev pub is_bare_entity : EntityType N → Bool
   is_bare_entity e = is_bare_kind e.kind
 
-  -- attributes that are written and empty are written
+  -- neither the action's attributes are written, be there any or not, nor what it applies to
   abbrev pub is_bare_action : {G : named.Ghosts N} → ActionType N G → Bool
   is_bare_action a = is_none a.attributes && is_none a.applies_to

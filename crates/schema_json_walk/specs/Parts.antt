@@ -3,6 +3,7 @@ use Rattle.std.specs.Prelude.{ℕ, List, Option}
 use Rattle.cedar_identifiers.specs.declared.reference_type.ReferenceType.{ReferenceType}
 use Rattle.cedar_identifiers.specs.declared.unreserved_id.UnreservedId.{UnreservedId}
 
+-- a part of a fragment that the walk meets, one case for each kind of it
 pub data Part (N : Type 0) : Type 0 where
   -- within a type: what must be a common type, what must be an entity type, or what may be either
   type_reference : ReferenceType → N → Part N

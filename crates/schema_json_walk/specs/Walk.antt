@@ -1,8 +1,5 @@
--- The walk of a fragment: what `visit` gives of each part, in order. The namespaces by name, the empty one first; in
--- each the common types, entity types and actions by name; of an entity type its parents as written, its shape and its
--- tags; of an action its attributes, parents, principals, resources and context. In a type outer parts stand before
--- inner ones, and the attributes of a record by their names. An open record stands before its attributes, and an
--- external item that is not bare before its parts.
+-- The walk of a fragment: what `visit` gives of each part, in order. It goes through the maps of the fragment as they
+-- stand, which is by their keys. What is met of a record or an item as a whole comes before the parts inside it.
 use Rattle.std.specs.Prelude.{ℕ, Bool, not, ◌&&◌, List, [], ◌∷◌, ◌++◌, Option, if◌then◌else◌}
 use Rattle.std.specs.List.{flat_map}
 use Rattle.std.specs.Option.{option_map_or}
@@ -34,6 +31,7 @@ abbrev pub each_value : {K A U : Type 0} → (A → List U) → List (K × A) �
 each_value give entries = flat_map (λ e. give e.1) entries
 
 module _ {N U : Type 0} (visit : Part N → List U) where
+  -- what `visit` gives of the part where this is true, and else nothing
   abbrev pub visit_where : Bool → Part N → List U
   visit_where there part = if there then visit part else []
 
@@ -55,23 +53,23 @@ module _ {N U : Type 0} (visit : Part N → List U) where
   abbrev pub at_attribute : TypeOfAttribute-F N (List U) (List U) (List U) (List U) → List U
   at_attribute a = a.ty
 
-  -- a type
+  -- what the parts of a type give, in turn
   abbrev pub of_type : «Type» N → List U
   of_type = fold-Type N (List U) (List U) (List U) (List U) at_type at_variant at_record at_attribute
 
-  -- the shape of a type
+  -- what the parts of a type's shape give, in turn
   abbrev pub of_variant : TypeVariant N → List U
   of_variant = fold-TypeVariant N (List U) (List U) (List U) (List U) at_type at_variant at_record at_attribute
 
-  -- a record
+  -- what the parts of a record give, the record itself first where it is open
   abbrev pub of_record : RecordType N → List U
   of_record = fold-RecordType N (List U) (List U) (List U) (List U) at_type at_variant at_record at_attribute
 
-  -- the type of an attribute
+  -- what the parts of an attribute's type give, in turn
   abbrev pub of_attribute : TypeOfAttribute N → List U
   of_attribute = fold-TypeOfAttribute N (List U) (List U) (List U) (List U) at_type at_variant at_record at_attribute
 
-  -- the attributes of a record
+  -- what the parts of a record's attributes give, by their names
   abbrev pub of_entries : List (List ℕ × TypeOfAttribute N) → List U
   of_entries entries = each_value of_attribute entries
 
@@ -79,11 +77,11 @@ module _ {N U : Type 0} (visit : Part N → List U) where
   at_context (Type-F.Variant ty loc) = of_variant ty
   at_context (Type-F.CommonTypeRef name loc) = visit (context_reference name)
 
-  -- a context
+  -- what the parts of a context give; where it is a reference, that is met as one of a context
   abbrev pub of_context : AttributesOrContext N → List U
   of_context c = at_context (out-Type N c.0)
 
-  -- a declared common type
+  -- what the parts of a common type give, in turn
   abbrev pub of_common : CommonType N → List U
   of_common c = of_type c.ty
 
@@ -96,7 +94,7 @@ module _ {N U : Type 0} (visit : Part N → List U) where
   abbrev pub of_resources : List N → List U
   of_resources names = flat_map (λ name. visit (resource name)) names
 
-  -- what is declared of entities that are not listed: parents, shape and tags
+  -- what the parents of a standard entity type give, as they are written, then its shape, then its tags
   abbrev pub of_standard : StandardEntityType N → List U
   of_standard s = of_parents s.member_of_types ++ (of_type s.shape.0 ++ option_map_or of_type s.tags [])
 
@@ -104,38 +102,39 @@ module _ {N U : Type 0} (visit : Part N → List U) where
   of_kind (Standard s) = of_standard s
   of_kind (Enum choices) = []
 
-  -- an entity type
+  -- what the parts of an entity type give, itself first where it is external and not bare
   abbrev pub of_entity : EntityType N → List U
   of_entity e = visit_where (e.external && not (is_bare_entity e)) external_not_bare ++ of_kind e.kind
 
-  -- what an action applies to: principals, resources and context
+  -- what the principals give, then the resources, then the context
   abbrev pub of_apply : ApplySpec N → List U
   of_apply s = of_principals s.principal_types ++ (of_resources s.resource_types ++ of_context s.context)
 
   module _ {G : named.Ghosts N} where
-    -- a parent of an action
+    -- what a parent of an action gives
     abbrev pub of_uid : ActionEntityUID N G → List U
     of_uid uid = visit (action_parent uid.id uid.ty)
 
     abbrev pub of_uids : List (ActionEntityUID N G) → List U
     of_uids uids = flat_map of_uid uids
 
-    -- the parents of an action, and then what it applies to
+    -- what the parents of an action give, and then what it applies to
     abbrev pub of_relations : ActionType N G → List U
     of_relations a = option_map_or of_uids a.member_of [] ++ option_map_or of_apply a.applies_to []
 
-    -- what an action is made of
+    -- what the attributes of an action give, then its parents, and then what it applies to
     abbrev pub of_action_parts : ActionType N G → List U
     of_action_parts a = option_map_or (λ names. visit (action_attributes names)) a.attributes [] ++ of_relations a
 
-    -- an action
+    -- what the parts of an action give, itself first where it is external and not bare
     abbrev pub of_action : ActionType N G → List U
     of_action a = visit_where (a.external && not (is_bare_action a)) external_not_bare ++ of_action_parts a
 
+    -- what the entity types of a namespace give, and then its actions
     abbrev pub of_items : NamespaceDefinition N G → List U
     of_items n = each_value of_entity n.entity_types ++ each_value of_action n.actions
 
-    -- a namespace
+    -- what the common types of a namespace give, then its entity types, then its actions, each by name
     abbrev pub of_namespace : NamespaceDefinition N G → List U
     of_namespace n = each_value of_common n.common_types ++ of_items n
 
@@ -144,6 +143,7 @@ module _ {N U : Type 0} (visit : Option Name → Part N → List U) where
   abbrev pub of_entry : {G : named.Ghosts N} → Option Name × NamespaceDefinition N G → List U
   of_entry e = of_namespace (visit e.0) e.1
 
+  -- what the parts of a fragment give, namespace by namespace; `visit` is told in which a part stands
   abbrev pub of_fragment : {G : named.Ghosts N} → Fragment N G → List U
   of_fragment f = flat_map of_entry f.0
 

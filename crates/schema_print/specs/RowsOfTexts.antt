@@ -1,4 +1,4 @@
--- Texts in a row as the code adds them: a helper's view, which no contract of a public call speaks of.
+-- Texts in a row, as the code adds them.
 use Rattle.std.specs.Prelude.{ℕ, Bool, true, false, List, [], ◌∷◌, ◌++◌, codes}
 use Rattle.cedar_names.specs.CanonicalText.{spaces}
 use Rattle.schema_syntax_reader.specs.Leaves.{Notes}

@@ -15,24 +15,28 @@ texts_of_names names = map (λ n. name_text (components_of n)) names
 abbrev pub names_list : List InternalName → List ℕ
 names_list names = joined_by (codes ", ") (texts_of_names names)
 
+-- what is said of names that collide
 abbrev pub collisions_text : List InternalName → List ℕ
 collisions_text names = codes "There are name collisions: [" ++ (names_list names ++ codes "]")
 
+-- what is said of entity types with shapes that cannot be printed
 abbrev pub shapes_text : List InternalName → List ℕ
 shapes_text names =
     codes "The following entities have shapes that cannot be converted to Cedar schema syntax: ["
     ++ (names_list names ++ codes "]")
 
+-- the advice where shapes cannot be printed
 abbrev pub shapes_help : List ℕ
 shapes_help =
     codes "Entity shapes may only be record types. In the Cedar schema syntax, they additionally may not reference common type definitions."
 
+-- what is said of a fragment that cannot be printed
 abbrev pub syntax_error_text : ToCedarSchemaSyntaxError → List ℕ
 syntax_error_text (NameCollisions e) = collisions_text e.names
 syntax_error_text (UnconvertibleEntityTypeShape e) = shapes_text e.names
 syntax_error_text Memory = codes "out of memory"
 
--- only shapes have advice
+-- the advice where a fragment cannot be printed, which it gives on shapes alone
 abbrev pub syntax_error_help : ToCedarSchemaSyntaxError → Option (List ℕ)
 syntax_error_help (UnconvertibleEntityTypeShape e) = Some shapes_help
 syntax_error_help _ = None

@@ -1,6 +1,6 @@
 -- Resolved fragments that say the same. What every schema has may be written out or be referred to as the common type
--- of its name in `__cedar`; an absent list of an action's parents is read as the empty one, and an action of the schema
--- itself that does not say what it applies to as one that applies to nothing.
+-- of its name in `__cedar`. An action without a list of parents counts as one with none in its list, and one of the
+-- schema itself that does not say what it applies to as one that applies to nothing.
 use Rattle.std.specs.Prelude.{◌≡◌, Bool, true, false, ◌||◌, List, [], map, Option, Some, None, if◌then◌else◌}
 use Rattle.std.specs.List.{filter_map}
 use Rattle.std.specs.Option.{option_map}
@@ -155,7 +155,8 @@ module _ {H : named.Ghosts InternalName} where
   referred_block (None, n) = if declares_some n then Some (None, referred_namespace n) else None
   referred_block (Some name, n) = Some (Some name, referred_namespace n)
 
-  -- Two resolved fragments declare the same under the same names: entity types with equal parents, actions with equal
-  -- parents, principals and resources, and every type of the one is alike the type at its place in the other.
+  -- Both resolved fragments are equal once in each what every schema has is referred to by its name in `__cedar`; what
+  -- an action leaves out, its parents or (unless it is external) what it applies to, is empty; and the empty namespace
+  -- is gone where it declares nothing.
   abbrev pub AreAlike : Fragment InternalName H → Fragment InternalName H → Type 0
   AreAlike f g = filter_map referred_block f.0 ≡ filter_map referred_block g.0

@@ -65,7 +65,7 @@ cedar_variant_layer (TypeVariant-F.Entity name) = either_way name
 cedar_variant_layer (TypeVariant-F.EntityOrCommon name) = either_way name
 cedar_variant_layer (TypeVariant-F.Extension name) = either_way (builtin_name name.id)
 
--- a type in this form, and its parts
+-- a type in the form that its text has, and so each type in it
 abbrev pub cedar_type : «Type» RawName → «Type» RawName
 cedar_type =
     fold-Type RawName («Type» RawName) (TypeVariant RawName) (RecordType RawName) (TypeOfAttribute RawName) cedar_layer
@@ -188,6 +188,6 @@ abbrev pub cedar_block : Block → Option Block
 cedar_block (None, n) = if declares n then Some (None, cedar_namespace n) else None
 cedar_block (Some name, n) = Some (Some name, cedar_namespace n)
 
--- A fragment in this form. The empty namespace is gone where it declares nothing.
+-- A fragment in the form that its text has. The empty namespace is gone where it declares nothing.
 abbrev pub cedar_form : Fragment RawName as_written → Fragment RawName as_written
 cedar_form f = record { 0 = filter_map cedar_block f.0 }

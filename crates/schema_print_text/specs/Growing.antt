@@ -14,7 +14,7 @@ pub then : {a b c x y : List ℕ} → Adds a b x → Adds b c y → Adds a c (x 
 then {a} {b} {c} {x} {y} e f =
     record { grown = f.grown ∙ ap (λ t. t ++ y) e.grown ∙ append_assoc (encode_utf8_all a) x y }
 
--- the same bytes, said otherwise
+-- equal bytes are added
 pub so : {a b x y : List ℕ} → Adds a b x → x ≡ y → Adds a b y
 so {a} {b} {x} {y} e f = record { grown = e.grown ∙ ap (λ t. encode_utf8_all a ++ t) f }
 

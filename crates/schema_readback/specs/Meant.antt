@@ -32,6 +32,7 @@ abbrev pub tags_of_meaning : Option PlainType → Option WrittenType
 tags_of_meaning None = None
 tags_of_meaning (Some t) = Some (type_of_meaning t)
 
+-- the declaration of an entity type: external where that is told, else an enum where it has choices, else standard
 abbrev pub entity_as : Bool → Option (List (List ℕ)) → EntityMeaning → WrittenDecl
 entity_as true choices e = external_entity (basename e.name ∷ []) e.ancestors
 entity_as false (Some choices) e = enum (basename e.name ∷ []) choices
@@ -47,6 +48,7 @@ members_of_meaning (p ∷ ps) [] context = None
 members_of_meaning (p ∷ ps) (r ∷ rs) context =
     Some (types Principal (p ∷ ps) ∷ types Resource (r ∷ rs) ∷ context_record (attributes_of_meaning context) ∷ [])
 
+-- the declaration of an action, which is an external one where that is told
 abbrev pub action_as : Bool → ActionMeaning → WrittenDecl
 action_as true a = external_action (a.id ∷ []) (map ref_of_meaning a.ancestors)
 action_as false a = action (a.id ∷ []) (map ref_of_meaning a.ancestors)
@@ -58,11 +60,12 @@ entity_of_meaning e = record { notes = []; decl = entity_as e.is_external e.choi
 abbrev pub action_of_meaning : ActionMeaning → WrittenDeclared
 action_of_meaning a = record { notes = []; decl = action_as a.is_external a }
 
--- the items of a namespace, the entity types first
+-- what is declared in a namespace: its entity types, and then its actions
 abbrev pub items_of_meaning : SchemaMeaning → List (List ℕ) → List WrittenDeclared
 items_of_meaning m n = map entity_of_meaning (filter (λ e. same_name n (namespace e.name)) m.entities)
     ++ map action_of_meaning (filter (λ a. same_name n (namespace a.ty)) m.actions)
 
+-- the name of a namespace, which the empty one does not have
 abbrev pub name_or_none : List (List ℕ) → Option (List (List ℕ))
 name_or_none [] = None
 name_or_none (c ∷ cs) = Some (c ∷ cs)

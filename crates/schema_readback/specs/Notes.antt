@@ -25,6 +25,7 @@ pub data AreNotesOf : List Lexeme → List Note → Type 0 where
       → v.text ≡ 34 ∷ (body ++ 34 ∷ []) → Unescapes body value → c.kind ≡ RParen → AreNotesOf u notes
       → AreNotesOf (a ∷ k ∷ o ∷ v ∷ c ∷ u) ((k.text, Some value) ∷ notes)
 
+-- none of these notes has the key of this one
 abbrev pub HaveOtherNotes : Note → List Note → Type 0
 HaveOtherNotes n notes = AllByRecursion (λ (m : Note). n.0 ≢ m.0) notes
 
@@ -33,7 +34,7 @@ abbrev pub AreApart : List Note → Type 0
 AreApart [] = Unit {0}
 AreApart (n ∷ notes) = HaveOtherNotes n notes × AreApart notes
 
--- the same by rising keys
+-- the notes are those that are written, by rising keys, and no key is written twice
 pub record AreArranged (written : List Note) (notes : Notes) : Type 0 where
   pub sorted : IsStrictlySortedBy text_cmp (map (λ n. n.0.text) notes)
   pub as_many : length notes ≡ length written

@@ -35,6 +35,7 @@ abbrev pub name_lexeme : List ℕ → Lexeme
 name_lexeme n = if is_id n then record { kind = word_kind n; text = n } else record
     { kind = StringLit; text = quoted n }
 
+-- a name as a piece: a word where it may be one, and else a string
 abbrev pub name_piece : List ℕ → Piece
 name_piece n = lexeme (name_lexeme n)
 
@@ -49,6 +50,7 @@ notes_pieces base [] = []
 notes_pieces base (n ∷ ns) = gap (spaces base) ∷ mark At (codes "@") ∷ word n.0.text
     ∷ (value_pieces n.1 ++ line_break ∷ notes_pieces base ns)
 
+-- the words of a path, with `::` between two
 abbrev pub path_pieces : List (List ℕ) → List Piece
 path_pieces [] = []
 path_pieces (c ∷ []) = word c ∷ []

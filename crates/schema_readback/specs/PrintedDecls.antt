@@ -150,7 +150,7 @@ namespace_items notes (Some p) ds = namespace notes p ds ∷ []
 abbrev pub group_items : Group → List WrittenItem
 group_items g = namespace_items g.notes g.name g.decls
 
--- what may be printed
+-- the list has an item
 abbrev pub IsSome : {A : Type 0} → List A → Type 0
 IsSome [] = ⊥
 IsSome (x ∷ xs) = Unit {0}

@@ -26,12 +26,14 @@ use Rattle.schema_readback.specs.Written.{WrittenDeclared, WrittenItem, namespac
 use Rattle.schema_syntax_reader.specs.Leaves.{Notes}
 
 mutual
+  -- a type of a tree says what is written of it, whatever its places are
   pub data ShowsType : «Type» → WrittenType → Type 0 where
     shows_path : (p : Path) → ShowsType (Ident p) (path (texts_of p.ids))
     shows_set : (n : Node «Type») {t : WrittenType} → ShowsType n.node t → ShowsType (Set n) (set t)
     shows_record : (ys : List (Node (Annotated AttrDecl))) {xs : WrittenAttributes} → ShowsAttributes ys xs
         → ShowsType (Record ys) (rec xs)
 
+  -- the attributes of a tree say what is written of them, one by one
   pub data ShowsAttributes : List (Node (Annotated AttrDecl)) → WrittenAttributes → Type 0 where
     shows_none : ShowsAttributes [] no_more
     shows_more : (y : Node (Annotated AttrDecl)) {ys : List (Node (Annotated AttrDecl))} {ns : Notes} {n : List ℕ}

@@ -20,7 +20,7 @@ use Rattle.schema_resolve.specs.Undefined.{Undefined, type_reference}
 abbrev pub designated_reference : Tests → InternalName → Option Loc → «Type» InternalName
 designated_reference t name loc = reference_to (t.is_common (components_of name)) name loc
 
--- names stay
+-- names stay, and what may mean either kind becomes a reference to what it means
 abbrev pub designating : Tests → Renaming InternalName InternalName
 designating t = record { name = λ kind name. name; either = designated_reference t }
 
@@ -39,6 +39,6 @@ undesignated_type t Entity name = []
 undesignated_type t CommonOrEntity name =
     if is_defined t CommonOrEntity (components_of name) then [] else either_kind name ∷ []
 
--- no action is asked for
+-- the references that may mean either kind of type and mean none; those to actions are not looked at
 abbrev pub undesignated : Tests → GivenBy InternalName Undefined
 undesignated t = record { types = undesignated_type t; actions = λ id ty. [] }

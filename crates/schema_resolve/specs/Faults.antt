@@ -5,7 +5,7 @@ use Rattle.schema_resolve_errors.specs.declared.resolve_error.ResolveError.{Reso
 use Rattle.schema_resolve_errors.specs.declared.resolve_error.ResolveError.TheVariants.{TypeNotDefined}
 use Rattle.schema_resolve_errors.specs.declared.resolve_error.ResolveError.TheVariants.{ActionNotDefined, Memory}
 
--- the error names this reference and no other; want of memory may come at any
+-- the error names this reference and no other; memory may be out at any time
 abbrev pub Names : Undefined → ResolveError → Type 0
 Names u Memory = ⊤
 Names (type_reference c) (TypeNotDefined e) = e.undefined_types ≡ c ∷ []
@@ -13,7 +13,7 @@ Names (type_reference c) (ActionNotDefined e) = ⊥
 Names (action_reference id ty) (TypeNotDefined e) = ⊥
 Names (action_reference id ty) (ActionNotDefined e) = (only : _) × (e.0 ≡ only ∷ []) × (only.id ≡ id) × (only.ty ≡ ty)
 
--- the error names the first of these
+-- the error names the first of these references; memory may be out at any time
 abbrev pub NamesFirst : List Undefined → ResolveError → Type 0
 NamesFirst us Memory = ⊤
 NamesFirst [] (TypeNotDefined e) = ⊥

@@ -7,13 +7,13 @@ pub data Undefined : Type 0 where
   type_reference : ConditionalName → Undefined
   action_reference : List ℕ → Option ConditionalName → Undefined
 
--- those to types
+-- the references to types, in turn
 abbrev pub types_among : List Undefined → List ConditionalName
 types_among [] = []
 types_among (type_reference c ∷ us) = c ∷ types_among us
 types_among (action_reference id ty ∷ us) = types_among us
 
--- those to actions, by their ids and types
+-- the references to actions, by their ids and types, in turn
 abbrev pub actions_among : List Undefined → List (List ℕ × Option ConditionalName)
 actions_among [] = []
 actions_among (type_reference c ∷ us) = actions_among us

@@ -2,6 +2,7 @@
 use Rattle.std.specs.Prelude.{ℕ, Bool, List}
 use Rattle.cedar_names.specs.Definitions.{Definitions, among, among_actions}
 
+-- what is defined, as three tests: which names are common types, which are entity types, and what is an action
 pub record Tests : Type 0 where
   pub is_common : List (List ℕ) → Bool
   pub is_entity : List (List ℕ) → Bool

@@ -46,6 +46,7 @@ abbrev pub resolve_error_help : ResolveError → Option (List ℕ)
 resolve_error_help (ActionNotDefined e) = Some undeclared_actions_help
 resolve_error_help _ = None
 
+-- the label of a place, which says nothing
 abbrev pub label_at : Loc → List Label
 label_at span = record { span = span; text = None } ∷ []
 

@@ -74,5 +74,6 @@ bare_namespace n = record {
   annotations = n.annotations;
 }
 
+-- a fragment with every place erased, those of its names too
 abbrev pub bare_fragment : Fragment RawName as_written → Fragment RawName as_written
 bare_fragment f = record { 0 = bare_entries {K = Option Name} (option_map bare_declared) bare_namespace f.0 }

@@ -95,6 +95,7 @@ opened [] = None
 opened (item ∷ items) =
     Some (record { notes = flat_map notes_of_item (item ∷ items); decls = flat_map decls_of_item (item ∷ items) })
 
+-- what is written in the namespace of this name by all items that open it or stand in it, if there is one
 abbrev pub written_in : List WrittenItem → NamespaceName → Option WrittenNamespace
 written_in items name = opened (items_of_namespace name items)
 

@@ -8,11 +8,13 @@ use Rattle.schema_readback.specs.Written.{WrittenDeclared, WrittenItem, namespac
 use Rattle.schema_readback.specs.PrintedDecls.{IsSome}
 
 abbrev mutual
+  -- each name in the written type has a component
   pub IsNamedType : WrittenType → Type 0
   IsNamedType (path p) = IsSome p
   IsNamedType (set t) = IsNamedType t
   IsNamedType (rec xs) = AreNamedAttributes xs
 
+  -- each name in the types of the attributes has a component
   pub AreNamedAttributes : WrittenAttributes → Type 0
   AreNamedAttributes no_more = Unit {0}
   AreNamedAttributes (attribute ns n r t xs) = IsNamedType t × AreNamedAttributes xs
@@ -48,7 +50,7 @@ IsNamedDecl (common name t) = IsNamedType t
 abbrev pub IsNamedDeclared : WrittenDeclared → Type 0
 IsNamedDeclared d = IsNamedDecl d.decl
 
--- Each name in it has a component, and each declaration of actions has a name.
+-- each name in the item has a component, and each declaration of actions has a name
 abbrev pub IsWellNamed : WrittenItem → Type 0
 IsWellNamed (namespace notes name decls) = IsSome name × AllByRecursion IsNamedDeclared decls
 IsWellNamed (outside d) = IsNamedDeclared d

@@ -1,5 +1,4 @@
--- Reading from left to right with one token of look-ahead, as functions on lists. Only contracts inside the crate cite
--- this.
+-- Reading from left to right with one token of look-ahead, as functions on lists.
 use Rattle.std.specs.Prelude.{◌≡◌, ℕ, zero, suc, ◌+◌, ◌-◌, length, take, List, [], ◌∷◌, ◌++◌, Bool, true, false, Option}
 use Rattle.std.specs.Prelude.{Some, None, Result, Ok, Err, if◌then◌else◌}
 use Rattle.cedar_data.specs.Span.{Span}

@@ -1,4 +1,4 @@
--- Annotations on the way into a tree. Only contracts inside the crate cite this.
+-- Annotations on the way into a tree.
 use Rattle.std.specs.Prelude.{◌≡◌, ℕ, List, ◌++◌, Option, map}
 use Rattle.std.specs.List.{AllPairs}
 use Rattle.std.specs.List.Sorted.{IsPermutation}

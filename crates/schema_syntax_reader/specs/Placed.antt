@@ -1,5 +1,4 @@
--- What the scanner and the grammar say of the sites of a text, and which sites have no fault. Only contracts of readers
--- cite this.
+-- What the scanner and the grammar say of the sites of a text, and which sites have no fault.
 use Rattle.std.specs.Prelude.{◌≡◌, ◌≤◌, ℕ, true, List, [], ◌∷◌, ◌++◌, Option, None, Some}
 use Rattle.std.specs.List.{All, flat_map}
 use Rattle.std.specs.Option.{option_to_list}
@@ -26,7 +25,7 @@ pub record AreScanned (source : List ℕ) (tokens : List Token) : Type 0 where
   pub placed : All (IsPlaced source) tokens
   pub rise : Rise tokens
 
--- a part of a syntax whose tokens are such
+-- tokens of this part of a syntax, as the scanner leaves them
 abbrev pub IsScanned : {A : Type 0} → (List Token → A → Type 0) → List ℕ → A → Type 0
 IsScanned P source part = (tokens : List Token) × P tokens part × AreScanned source tokens
 
@@ -38,19 +37,23 @@ IsPlacedName source t = IsPlaced source t × (is_name_kind t.kind ≡ true)
 abbrev pub IsPlacedString : List ℕ → Token → Type 0
 IsPlacedString source t = IsPlaced source t × (t.kind ≡ StringLit)
 
+-- the value of an annotation, where it has one, is a string that stands at its place
 abbrev pub IsPlacedValue : List ℕ → Option Token → Type 0
 IsPlacedValue source None = Unit {0}
 IsPlacedValue source (Some t) = IsPlacedString source t
 
+-- the key and the value of an annotation stand at their places
 abbrev pub IsPlacedNote : List ℕ → AnnotationSyntax → Type 0
 IsPlacedNote source a = IsPlaced source a.key × (is_word_kind a.key.kind ≡ true) × IsPlacedValue source a.value
 
+-- the tokens of the site stand at their places, of the kinds that it asks for; those of annotations are in order
 abbrev pub IsPlacedSite : List ℕ → Site → Type 0
 IsPlacedSite source (word t) = IsPlaced source t × (is_ident t.kind ≡ true)
 IsPlacedSite source (text t) = IsPlacedString source t
 IsPlacedSite source (annotations list) = All (IsPlacedNote source) list × Rise (note_tokens list)
 IsPlacedSite source (empty brackets) = Unit {0}
 
+-- the site has no fault
 abbrev pub NoSiteFault : List ℕ → Site → Type 0
 NoSiteFault source site = (fault : UserError) (end : ℕ) → FaultAt source site fault end → ⊥
 

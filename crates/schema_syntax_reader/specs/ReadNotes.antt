@@ -1,4 +1,4 @@
--- Annotations read from a text. Only contracts inside the crate cite this.
+-- Annotations read from a text.
 use Rattle.std.specs.Prelude.{◌≡◌, ℕ, List, [], ◌∷◌, ◌++◌, Option, None, Some}
 use Rattle.std.specs.List.{AllZip}
 use Rattle.std.specs.Option.{option_map}

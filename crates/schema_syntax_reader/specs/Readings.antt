@@ -1,4 +1,4 @@
--- What a part of a syntax is read as. Only contracts of readers cite this.
+-- What a part of a syntax is read as.
 use Rattle.std.specs.Prelude.{◌≡◌, ℕ, List, Result, Ok, Err, Some}
 use Rattle.std.specs.List.{All}
 use Rattle.cedar_data.specs.declared.node.Node.{Node}

@@ -32,16 +32,19 @@ abbrev pub site_of_kind : TokenKind → Token → Site
 site_of_kind StringLit t = text t
 site_of_kind _ t = word t
 
+-- the site of a name: a text where it is a string, and else a word
 abbrev pub name_sites : Token → List Site
 name_sites t = site_of_kind t.kind t ∷ []
 
+-- the sites of names, in turn
 abbrev pub names_sites : List Token → List Site
 names_sites names = flat_map name_sites names
 
--- of a path or a reference
+-- the sites of a path or of a reference: those of its names
 abbrev pub path_sites : PathSyntax → List Site
 path_sites p = names_sites p.names
 
+-- the sites of paths, in turn
 abbrev pub paths_sites : List PathSyntax → List Site
 paths_sites paths = flat_map path_sites paths
 
@@ -53,13 +56,15 @@ type_sites (TypeSyntax-F.Record attrs loc) = flat_map (λ s. s) attrs
 abbrev pub attr_sites : AttrSyntax-F (List Site) (List Site) → List Site
 attr_sites a = annotations a.annotations ∷ (name_sites a.name ++ a.ty)
 
--- of a type, and of an attribute
+-- the sites of a type, in the order of the text
 abbrev pub sites_of_type : TypeSyntax → List Site
 sites_of_type = fold-TypeSyntax (List Site) (List Site) type_sites attr_sites
 
+-- the sites of an attribute: its annotations, its name and its type
 abbrev pub sites_of_attr : AttrSyntax → List Site
 sites_of_attr = fold-AttrSyntax (List Site) (List Site) type_sites attr_sites
 
+-- the sites of attributes, in turn
 abbrev pub sites_of_attrs : List AttrSyntax → List Site
 sites_of_attrs attrs = flat_map sites_of_attr attrs
 
@@ -90,6 +95,7 @@ abbrev pub applies_sites : Option (List AppSyntax × Span) → List Site
 applies_sites None = []
 applies_sites (Some r) = apps_sites r.0 r.1
 
+-- the sites of what is declared, in the order of the text
 abbrev pub decl_sites : DeclSyntax → List Site
 decl_sites (Entity names parents shape tags) =
     names_sites names ++ (paths_sites parents ++ (shape_sites shape ++ tags_sites tags))
@@ -99,12 +105,15 @@ decl_sites (Action names parents applies) = names_sites names ++ (paths_sites pa
 decl_sites (ExternalAction names parents) = names_sites names ++ paths_sites parents
 decl_sites (Common name ty) = name_sites name ++ sites_of_type ty
 
+-- the sites of a declaration: its annotations, and then those of what it declares
 abbrev pub declared_sites : DeclaredSyntax → List Site
 declared_sites d = annotations d.annotations ∷ decl_sites d.decl
 
+-- the sites of an item: of a namespace its annotations, its path and its declarations, or those of a declaration
 abbrev pub item_sites : ItemSyntax → List Site
 item_sites (Namespace notes p decls loc) = annotations notes ∷ (path_sites p ++ flat_map declared_sites decls)
 item_sites (Decl d) = declared_sites d
 
+-- the sites of all items of a syntax, in turn
 abbrev pub sites_of : List ItemSyntax → List Site
 sites_of items = flat_map item_sites items

@@ -1,4 +1,4 @@
--- Why the sites of a text were not read. Only contracts of readers cite this.
+-- Why the sites of a text were not read.
 use Rattle.std.specs.Prelude.{◌≡◌, ◌≤◌, ℕ, true, List, [], ◌∷◌, Some}
 use Rattle.schema_syntax_grammar.specs.Grammar.{is_word_kind}
 use Rattle.cedar_identifiers.specs.Words.{is_reserved}

@@ -48,6 +48,7 @@ module _ (text : List ℕ) where
   abbrev pub IsId : Token → Id → Type 0
   IsId t id = id.text ≡ word_at text t
 
+  -- the node holds the word at the token's place, as an id, and that place
   abbrev pub IsIdNode : Token → Node Id → Type 0
   IsIdNode t n = IsId t n.node × (n.loc ≡ Some t.loc)
 
@@ -56,12 +57,15 @@ module _ (text : List ℕ) where
   IsNameOf StringLit t value = IsStringAt text t value
   IsNameOf _ t value = value ≡ word_at text t
 
+  -- the node holds what the name stands for, and the token's place
   abbrev pub IsNameNode : Token → Node (List ℕ) → Type 0
   IsNameNode t n = IsNameOf t.kind t n.node × (n.loc ≡ Some t.loc)
 
+  -- the node holds what the string of a choice stands for, and the token's place
   abbrev pub IsChoice : Token → Node (List ℕ) → Type 0
   IsChoice t n = IsStringAt text t n.node × (n.loc ≡ Some t.loc)
 
+  -- the ids of the path are the words of its syntax in turn, and its place is that of the syntax
   abbrev pub IsPathOf : PathSyntax → Path → Type 0
   IsPathOf p path = AllZip IsId p.names path.ids × (path.loc ≡ Some p.loc)
 
@@ -83,6 +87,7 @@ module _ (text : List ℕ) where
       × IsNameOf last.kind last n.node.eid × IsTypeOfRef front n.node.path × (n.loc ≡ Some p.loc)
 
   mutual
+    -- the node is the type of the syntax, with the places of its parts
     pub data IsTypeOf : TypeSyntax → Node «Type» → Type 0 where
       path : {p : PathSyntax} {q : Path} → IsPathOf p q
           → IsTypeOf (written.Path p) (record { node = Ident q; loc = Some p.loc })
@@ -91,6 +96,7 @@ module _ (text : List ℕ) where
       attributes : {xs : List AttrSyntax} {ys : List (Node (Annotated AttrDecl))} (loc : Span) → AreAttrsOf xs ys
           → IsTypeOf (written.Record xs loc) (record { node = Record ys; loc = Some loc })
 
+    -- the nodes are the attributes of the syntax, in turn
     pub data AreAttrsOf : List AttrSyntax → List (Node (Annotated AttrDecl)) → Type 0 where
       none : AreAttrsOf [] []
       more : {x : AttrSyntax} {xs : List AttrSyntax} {ys : List (Node (Annotated AttrDecl))} (name : Node (List ℕ))
@@ -137,6 +143,7 @@ module _ (text : List ℕ) where
   AppliesOf (Some r) None = ⊥
   AppliesOf (Some r) (Some n) = AllZip IsAppOf r.0 n.node × (n.loc ≡ Some r.1)
 
+  -- the declaration is that of the syntax: its names, and what is declared of them
   abbrev pub IsDeclOf : DeclSyntax → Declaration → Type 0
   IsDeclOf (decl.Entity names parents shape tags) (declaration.Entity (entity.Standard d)) =
       AllZip IsIdNode names d.names × AllZip IsPathOf parents d.member_of_types × IsShapeOf shape d.attrs
@@ -152,6 +159,7 @@ module _ (text : List ℕ) where
   IsDeclOf (decl.Common name ty) (declaration.Common d) = IsIdNode name d.name × IsTypeOf ty d.def
   IsDeclOf _ _ = ⊥
 
+  -- the node holds the declaration and its place, and the annotations are those of the syntax
   abbrev pub IsDeclaredOf : DeclaredSyntax → Annotated (Node Declaration) → Type 0
   IsDeclaredOf x a = IsDeclOf x.decl a.item.node × (a.item.loc ≡ Some x.loc)
       × AreNotes text x.annotations a.annotations.0
@@ -166,5 +174,6 @@ module _ (text : List ℕ) where
       × (a ≡ record { item = record { name = None; decls = d ∷ []; loc = None }; annotations = record { 0 = [] } })
       × IsDeclaredOf x d
 
+  -- the tree is that of the syntax: a namespace for each item, in turn
   abbrev pub IsTreeOf : List ItemSyntax → List (Annotated Namespace) → Type 0
   IsTreeOf items schema = AllZip IsItemOf items schema

@@ -41,7 +41,7 @@ pub data FaultAt (source : List ℕ) : Site → UserError → ℕ → Type 0 whe
       → list ≡ front ++ record { key = key; value = Some t } ∷ back → IsBadEscapeAt source t at
       → FaultAt source (annotations list)
       (StringEscape (record { node = record { at = at } ∷ []; loc = Some t.loc })) t.loc.end
-  -- an annotation key for the second time on one item
+  -- a key that an annotation before it has already
   duplicate : {list : List AnnotationSyntax} (front middle back : List AnnotationSyntax)
       (first second : AnnotationSyntax) (key : AnyId)
       → list ≡ front ++ first ∷ (middle ++ second ∷ back) → word_at source first.key ≡ key.text

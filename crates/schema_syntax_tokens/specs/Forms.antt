@@ -19,7 +19,7 @@ abbrev pub IsWord : List ℕ → Type 0
 IsWord [] = ⊥
 IsWord (b ∷ bs) = (is_word_start b ≡ true) × AllPass is_word_part bs
 
--- thirteen words have kinds of their own
+-- the kind of a word: a keyword has its own, and any other is an identifier
 abbrev pub word_kind : List ℕ → TokenKind
 word_kind w =
     if bytes_eq w (codes "namespace") then KwNamespace

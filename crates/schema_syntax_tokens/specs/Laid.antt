@@ -19,6 +19,7 @@ pub data Piece : Type 0 where
   gap : List ℕ → Piece
   lexeme : Lexeme → Piece
 
+-- the bytes of a piece: those of the gap, or the lexeme as it is spelled
 abbrev pub piece_text : Piece → List ℕ
 piece_text (gap bytes) = bytes
 piece_text (lexeme x) = x.text

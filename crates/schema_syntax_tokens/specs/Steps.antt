@@ -1,4 +1,4 @@
--- What the steps of the scanner, of the escapes and of quoting find. Only contracts inside the crate cite this.
+-- What the steps of the scanner, of the escapes and of quoting find.
 use Rattle.std.specs.Prelude.{◌≡◌, ◌≢◌, ℕ, ◌<◌, ◌≤◌, Bool, true, false, not, ◌==◌, List, [], ◌∷◌, ◌++◌, length, take}
 use Rattle.std.specs.Prelude.{slice_index}
 use Rattle.std.specs.List.{All}

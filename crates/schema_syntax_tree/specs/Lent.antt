@@ -14,7 +14,7 @@ use Rattle.std.proofs.Math.Logic.{∥∥₁_elim, ∥∥₁_prop}
 use Rattle.schema_syntax_tokens.specs.Escapes.{Unescapes}
 use Rattle.schema_syntax_tokens.proofs.Values.{one_value}
 
--- the body stands for the value
+-- what the body of a string stands for, where it stands for something
 abbrev pub IsLent : List ℕ → Type 0
 IsLent body = (value : List ℕ) × ∥ Unescapes body value ∥₁
 
@@ -22,6 +22,7 @@ IsLent body = (value : List ℕ) × ∥ Unescapes body value ∥₁
 abbrev pub StandsForNothing : List ℕ → Type 0
 StandsForNothing body = (value : List ℕ) → Unescapes body value → ⊥
 
+-- a body stands for one value at most
 pub same_value : (body x y : List ℕ) → ∥ Unescapes body x ∥₁ → ∥ Unescapes body y ∥₁ → x ≡ y
 same_value body x y p q =
     ∥∥₁_elim p (Coded-set (coded_list coded_ℕ) x y)
@@ -34,6 +35,7 @@ lent_from body x y e p q =
     → (let a : IsLent body = (x, p) in a) ≡ (let b : IsLent body = (z, r) in b) in
     subst P e (λ r i. (x, ∥∥₁_prop p r i)) q
 
+-- a body stands for one value at most, and does so in one way
 pub IsLent-prop : (body : List ℕ) → IsProp (IsLent body)
 IsLent-prop body a b = lent_from body a.0 b.0 (same_value body a.0 b.0 a.1 b.1) a.1 b.1
 

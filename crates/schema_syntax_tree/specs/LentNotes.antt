@@ -16,7 +16,7 @@ use Rattle.cedar_identifiers.specs.declared.annotations.Annotations.{Annotations
 use Rattle.schema_syntax_tree.specs.LentWords.{LentNote, note_key, note_value, any_id_utf8, note_eq, note_cmp}
 use Rattle.schema_syntax_tree.specs.Lent.{fed_alike}
 
--- the entries
+-- the entries of annotations
 abbrev pub notes_of : Annotations → List LentNote
 notes_of annotations = annotations.0
 
@@ -32,6 +32,7 @@ note_tie p q =
     both_tied _ _ (on any_id_utf8 (slice_cmp nat_cmp) p.0 q.0) (option_cmp text_cmp p.1 q.1)
     (texts_ties (any_id_utf8 p.0) (any_id_utf8 q.0)) (value_tie p.1 q.1)
 
+-- two lists of annotations are equal exactly where their order puts neither before the other
 pub ties_of_notes : (xs ys : List LentNote) → pointwise note_eq xs ys ≡ eq_by_cmp (slice_cmp note_cmp) xs ys
 ties_of_notes = lists_ties note_cmp note_tie
 
@@ -53,6 +54,7 @@ values_fed None (Some y) same = absurd (true≢false (sym same))
 values_fed (Some x) None same = absurd (true≢false (sym same))
 values_fed (Some x) (Some y) same = ap (λ writes. fed.option (λ w. w) (Some writes)) (fed_alike x y same)
 
+-- lists of annotations that are equal feed a hasher alike
 pub notes_fed_alike : (xs ys : List LentNote) → pointwise note_eq xs ys ≡ true
     → fed.slice note_fed xs ≡ fed.slice note_fed ys
 notes_fed_alike = (items_Alike

@@ -3,7 +3,7 @@ use Rattle.std.specs.Prelude.{ℕ, List, codes}
 use Rattle.schema_syntax_tree.specs.declared.pr.PR.{PR}
 use Rattle.schema_syntax_tree.specs.declared.pr.PR.TheVariants.{Principal, Resource}
 
--- the word for it in a schema text
+-- the word of a schema text for principals, or for resources
 abbrev pub pr_text : PR → List ℕ
 pr_text Principal = codes "principal"
 pr_text Resource = codes "resource"
