@@ -15,7 +15,7 @@ listed between before_last (text ∷ last ∷ []) = text ++ (before_last ++ last
 listed between before_last (text ∷ next ∷ more ∷ texts) =
     text ++ (between ++ listed between before_last (next ∷ more ∷ texts))
 
--- what stands in such a row before the items that are left
+-- what stands before the items that are left: `before_last` where there is one, and `between` where there are more
 abbrev pub separator : {A : Type 0} → List ℕ → List ℕ → List A → List ℕ
 separator between before_last [] = []
 separator between before_last (last ∷ []) = before_last

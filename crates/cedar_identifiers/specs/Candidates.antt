@@ -20,8 +20,8 @@ abbrev pub qualified : Option InternalName → InternalName → InternalName
 qualified None name = name
 qualified (Some ns) name = if is_unqualified name then behind ns name else name
 
--- An unqualified `x` in the namespace `N` is `N::x`, then `x`, and in the empty one only `x`. A qualified name is
--- itself.
+-- what a name may stand for, in the order in which that is tried: itself behind the namespace, where the name has none
+-- and one is given; and itself as it is
 abbrev pub candidates : Option InternalName → InternalName → List InternalName
 candidates None name = name ∷ []
 candidates (Some ns) name = if is_unqualified name then behind ns name ∷ name ∷ [] else name ∷ []

@@ -12,7 +12,7 @@ use Rattle.schema_json.specs.declared.fragment.Fragment.{Fragment}
 use Rattle.schema_build_errors.specs.SchemaErrorTexts.{schema_error_text, schema_error_help, schema_error_labels}
 use Rattle.schema_build_errors.specs.declared.schema_error.SchemaError.{SchemaError}
 
--- of both errors the same is told
+-- both errors are told alike: what they say, what they advise, and where they point to
 pub record AreToldAlike (e other : SchemaError) : Type 0 where
   pub text : schema_error_text e ≡ schema_error_text other
   pub help : schema_error_help e ≡ schema_error_help other

@@ -22,7 +22,7 @@ abbrev pub unknown_extension : ExtensionTable → Part RawName → List Unreserv
 unknown_extension table (extension_type id) = if table_has table id.id.text then [] else id ∷ []
 unknown_extension table _ = []
 
--- an open record, attributes of an action, or an external item that is not bare
+-- what the part has that no schema has, if anything
 abbrev pub unsupported : Part RawName → List UnsupportedFeature
 unsupported open_record = OpenRecordsAndEntities ∷ []
 unsupported (action_attributes names) = ActionAttributes names ∷ []

@@ -21,6 +21,6 @@ abbrev pub MarksLedTo : List (Vec ℕ Global) → List Bool → List Bool → Ty
 MarksLedTo graph before after = (v : ℕ) → is_marked after v ≡ true
     → (is_marked before v ≡ true) ⊎ ((u : ℕ) × (is_marked before u ≡ true) × Reaches (HasEdge graph) u v)
 
--- a root, or led to from a root
+-- the vertex is a root, or is reached from one
 abbrev pub IsWanted : List (Vec ℕ Global) → List ℕ → ℕ → Type 0
 IsWanted graph roots v = Contains roots v ⊎ ((r : ℕ) × Contains roots r × Reaches (HasEdge graph) r v)

@@ -35,7 +35,7 @@ abbrev pub builtin_shadowed : ExtensionTable → Node Id → List SchemaWarning
 builtin_shadowed table name = if is_taken table name.node.text then ShadowsBuiltin
     (record { name = name.node.text; loc = name.loc }) ∷ [] else []
 
--- a common type with the name of an entity type of its namespace
+-- the warning that a common type hides this entity type, where there is one
 abbrev pub entity_shadowed : Option (Node Id) → Node Id → List SchemaWarning
 entity_shadowed None common = []
 entity_shadowed (Some entity) common =
@@ -45,8 +45,8 @@ abbrev pub common_warnings : ExtensionTable → List (Id × Node Id) → Node Id
 common_warnings table entities common =
     entity_shadowed (lookup (is_at (id_text_cmp common.node)) entities) common ++ builtin_shadowed table common
 
--- The warnings of a namespace: the common types by name, each first as it hides an entity type, and then the entity
--- types by name.
+-- the warnings of a namespace: those of each common type in turn, that it hides an entity type first, and then those of
+-- each entity type
 abbrev pub warnings_in : ExtensionTable → List (Id × Node Id) → List (Id × Node Id) → List SchemaWarning
 warnings_in table commons entities =
     flat_map (λ c. common_warnings table entities c.1) commons ++ flat_map (λ e. builtin_shadowed table e.1) entities

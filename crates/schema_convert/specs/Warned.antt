@@ -18,17 +18,17 @@ abbrev pub IsAmong : {A : Type 0} → A → List A → Type 0
 IsAmong x [] = ⊥
 IsAmong x (y ∷ ys) = (x ≡ y) ⊎ IsAmong x ys
 
--- it says that this declared type has the name of a builtin one
+-- the warning says that this declared type has the name of a builtin one
 abbrev pub SaysBuiltin : ExtensionTable → Node Id → SchemaWarning → Type 0
 SaysBuiltin table d w = (is_taken table d.node.text ≡ true)
     × (w ≡ ShadowsBuiltin (record { name = d.node.text; loc = d.loc }))
 
--- it says that this common type has the name of this entity type
+-- the warning says that this common type has the name of this entity type
 abbrev pub SaysEntity : Node Id → Node Id → SchemaWarning → Type 0
 SaysEntity c e w = (id_cmp c e ≡ Equal)
     × (w ≡ ShadowsEntity (record { name = c.node.text; entity_loc = e.loc; common_loc = c.loc }))
 
--- it is of types that these declarations declare: a common type or an entity type, or one of each
+-- the warning is of types that these declarations declare: a common type or an entity type, or one of each
 abbrev pub IsOfDeclared : ExtensionTable → List (Annotated (Node Declaration)) → SchemaWarning → Type 0
 IsOfDeclared table decls w =
     ((c : Node Id) × IsAmong c (common_names_in decls) × SaysBuiltin table c w)
@@ -36,6 +36,6 @@ IsOfDeclared table decls w =
     ⊎ ((c : Node Id) × IsAmong c (common_names_in decls)
     × ((e : Node Id) × IsAmong e (entity_names_in decls) × SaysEntity c e w))
 
--- it is of types that one of the joined namespaces declares
+-- the warning is of types that one of the joined namespaces declares
 abbrev pub IsWarnedOf : List (Annotated Namespace) → ExtensionTable → SchemaWarning → Type 0
 IsWarnedOf tree table w = (n : Annotated Namespace) × IsAmong n (joined tree) × IsOfDeclared table n.item.decls w

@@ -27,7 +27,7 @@ external_lead (first ∷ fields) = if is_of_action (encode_utf8_all first)
     then codes "unexpected field on an external action: "
     else codes "unexpected field on an external entity type: "
 
--- what is said of a text that is no name of its role
+-- what is said where a text cannot be a name in the role
 abbrev pub bad_name_text : List ℕ → List ℕ → NameFault → List ℕ
 bad_name_text role text fault =
     ((codes "invalid " ++ (role ++ codes " `")) ++ (text ++ codes "`: ")) ++ name_fault_text fault

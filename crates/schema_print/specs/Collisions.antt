@@ -96,11 +96,12 @@ module _ {N : Type 0} where
     abbrev pub block_shapeless : Option Name × NamespaceDefinition N G → List (List (List ℕ))
     block_shapeless p = shapeless_in p.0 p.1.entity_types
 
-    -- the names of the entity types whose shapes are no records
+    -- the names of the entity types that are not external and whose shapes are no records
     abbrev pub shapeless : Fragment N G → List (List (List ℕ))
     shapeless f = flat_map block_shapeless f.0
 
-    -- it can be printed: there is neither a collision nor such a shape
+    -- the fragment can be printed: no names collide, and no entity type that is not external has a shape that is no
+    -- record
     abbrev pub HasText : Fragment N G → Type 0
     HasText f = (collisions f ≡ []) × (shapeless f ≡ [])
 

@@ -16,7 +16,7 @@ use Rattle.schema_readback.specs.Printed.{mark, space, mark_pieces, type_pieces}
 abbrev pub printed_name : List (List ℕ) → List (List ℕ)
 printed_name components = map encode_utf8_all components
 
--- between the name of an attribute and its type, with what stands behind
+-- what stands behind the name of an attribute: `?` where it is not required, `: `, and these pieces
 abbrev pub colon_pieces : Bool → List Piece → List Piece
 colon_pieces required pieces = mark_pieces required ++ mark Colon (codes ":") ∷ space ∷ pieces
 

@@ -98,7 +98,7 @@ abbrev pub AreProperNotes : Notes → Type 0
 AreProperNotes notes = IsStrictlySortedBy text_cmp (map (λ n. n.0.text) notes)
 
 abbrev mutual
-  -- its names are names, and its annotations rise
+  -- each name in the type is one, and the annotations of its attributes rise by their keys
   pub IsProperType : WrittenType → Type 0
   IsProperType (path p) = IsProperPath p
   IsProperType (set t) = IsProperType t

@@ -192,6 +192,6 @@ IsProperDecl (common n t) = IsProperWord n × IsProperType t
 abbrev pub IsProperDeclared : WrittenDeclared → Type 0
 IsProperDeclared d = AreProperNotes d.notes × IsProperDecl d.decl
 
--- its names are names, its lists that must have an item have one, and its annotations rise
+-- the names in the group are names, its lists that must have an item have one, and its annotations rise
 abbrev pub IsProperGroup : Group → Type 0
 IsProperGroup g = AreProperNotes g.notes × IsProperOptional g.name × AllByRecursion IsProperDeclared g.decls

@@ -10,7 +10,7 @@ use Rattle.schema_says.specs.FragmentsSay.{NamespaceName, WrittenNamespace}
 abbrev pub meant_in_namespace : SchemaMeaning → List (List ℕ) → WrittenNamespace
 meant_in_namespace m name = record { notes = []; decls = items_of_meaning m name }
 
--- it is what is written of one of the meaning's namespaces, which has this name
+-- what is written is that of one of the meaning's namespaces, which has this name
 pub record IsOfMeaning (m : SchemaMeaning) (q : NamespaceName) (w : WrittenNamespace) : Type 0 where
   pub name : List (List ℕ)
   pub among : Contains (namespaces m) name

@@ -40,7 +40,7 @@ pub data IsErrorOf (text : List ℕ) : ParseError → Type 0 where
   user : (tokens : List Token) (f : UserError) → AreTokensOf text tokens → IsUserFaultOf text tokens f
       → IsErrorOf text (User f)
 
--- what a refusal says of the text
+-- why a text has no tree: this is its one error, or memory is out
 abbrev pub IsRefusalOf : List ℕ → ParseSchemaError → Type 0
 IsRefusalOf text Memory = Unit {0}
 IsRefusalOf text (Errors errors) = (error : ParseError) × (errors.errors ≡ error ∷ []) × IsErrorOf text error

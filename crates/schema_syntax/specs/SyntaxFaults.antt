@@ -35,7 +35,7 @@ pub record IsSentence (text : List ℕ) : Type 0 where
   pub scans : Scans text tokens (length text)
   pub sentence : Sentence (kinds_of tokens)
 
--- what a refusal says of the text
+-- why a text is no schema: this is its syntax fault, or memory is out
 abbrev pub IsSyntaxRefusal : List ℕ → Refused → Type 0
 IsSyntaxRefusal text (Fault fault) = IsSyntaxFault text fault
 IsSyntaxRefusal text Memory = Unit {0}

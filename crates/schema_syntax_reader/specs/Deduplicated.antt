@@ -53,7 +53,7 @@ pub record IsTwice (annotations : List Placed) (fault : UserError) : Type 0 wher
   pub told : fault ≡ DuplicateAnnotations (placed_key new) (record { node = tt; loc = key_place old })
       (record { node = tt; loc = key_place new })
 
--- why annotations are refused
+-- why annotations are refused: a key stands twice, or memory is out
 abbrev pub AreRefused : List Placed → AnnotationError → Type 0
 AreRefused annotations Memory = Unit {0}
 AreRefused annotations (User fault) = IsTwice annotations fault

@@ -24,7 +24,7 @@ pub record IsUserFaultOf (source : List ℕ) (tokens : List Token) (fault : User
   pub syntax : IsSyntax tokens items
   pub first : IsFirstUserFault source items fault
 
--- what a stop says of the tokens
+-- why the tokens have no lawful tree: of their user faults this one ends first, or memory is out
 abbrev pub IsStopOf : List ℕ → List Token → Stopped → Type 0
 IsStopOf source tokens Memory = Unit {0}
 IsStopOf source tokens (User fault) = IsUserFaultOf source tokens fault

@@ -84,7 +84,7 @@ pub record BadEscape (body : List ℕ) (at : ℕ) : Type 0 where
   pub unescapes : Unescapes front value
   pub unlawful : NoEscape (92 ∷ rest)
 
--- what a refusal says of the body
+-- why a body stands for nothing: an unlawful escape is at this byte, the first; or memory is out
 abbrev pub IsRefused : List ℕ → Refusal → Type 0
 IsRefused body Memory = Unit {0}
 IsRefused body (Escape at) = BadEscape body at

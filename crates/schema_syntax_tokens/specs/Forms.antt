@@ -87,6 +87,6 @@ pub record IsBodyEnd (rest : List ℕ) (n : ℕ) : Type 0 where
 abbrev pub IsString : List ℕ → Type 0
 IsString w = (body : List ℕ) × IsBody body × (w ≡ 34 ∷ (body ++ 34 ∷ []))
 
--- w is a token of this kind
+-- the text is a token of this kind: a word, a mark or a string
 abbrev pub IsForm : List ℕ → TokenKind → Type 0
 IsForm w k = (IsWord w × (k ≡ word_kind w)) ⊎ ((mark_kind w ≡ Some k) ⊎ (IsString w × (k ≡ StringLit)))
