@@ -10,4 +10,4 @@ mod search;
 pub use cycles::{least_cyclic, least_marked, order_or_least};
 pub use kept::needed;
 pub use order_fault::OrderFault;
-pub use reach::{closure, reachable};
+pub use reach::closure;

@@ -1,6 +1,5 @@
-ghost use Rattle.std.specs.Prelude.{◌≡◌, ◌<◌, ◌≤◌, ◌+◌, ◌++◌, ℕ, All, Contains, IfOk, OnOk, length, slice_index_or};
-ghost use Rattle.schema_build_graph.specs.Paths.{Reaches};
-ghost use Rattle.schema_build_graph.specs.Graph.{HasEdge, InRange, targets_of, AreReached, AllReached};
+ghost use Rattle.std.specs.Prelude.{◌≡◌, ◌<◌, ◌≤◌, ◌+◌, All, Contains, IfOk, OnOk, length};
+ghost use Rattle.schema_build_graph.specs.Graph.{InRange, AreReached, AllReached};
 ghost use Rattle.schema_build_graph.specs.Marks.{IsMarked, AddsFrom};
 
 use std::alloc::{AllocError, Global};
@@ -53,27 +52,6 @@ fn reach(
     }
     found.sort_unstable();
     Ok(())
-}
-
-/// The vertices that some path with at least one step leads to, in rising order.
-/// A vertex is marked in this round where its mark is the stamp, which is larger than all marks before.
-pub fn reachable(
-    alloc: Global,
-    graph: &[Vec<usize>],
-    start: usize,
-    marks: &mut [usize],
-    stamp: usize,
-) -> Result<Vec<usize>, AllocError>
-    requires graph { InRange (length graph.now) graph.now }
-    requires start { start < length graph.now }
-    requires marks { length marks.old ≡ length graph.now }
-    requires stamp { All (λ m. m < stamp) marks.old }
-    ensures reached { IfOk result (λ found. AreReached graph.now start found.items) }
-    ensures marks { OnOk result (All (λ m. m ≤ stamp) marks.new) }
-{
-    let mut found = Vec::new(alloc);
-    reach(&mut found, graph, start, marks, stamp)?;
-    Ok(found)
 }
 
 /// For each vertex what it reaches, each row with just its room.

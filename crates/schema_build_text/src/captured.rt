@@ -3,22 +3,18 @@ ghost use Rattle.std.specs.Option.{option_copied, option_map};
 ghost use Rattle.cedar_identifiers.specs.Names.{components_of};
 ghost use Rattle.cedar_names.specs.CanonicalText.{basename, namespace};
 ghost use Rattle.cedar_names.specs.Definitions.{among, same_name};
-ghost use Rattle.cedar_names.specs.Meaning.{SchemaMeaning};
-ghost use Rattle.schema_build_types.specs.Content.{SchemaContent, type_content, attributes_content, names_content, content};
-ghost use Rattle.schema_build_types.specs.Standing.{SchemaStandsFor};
+ghost use Rattle.schema_build_types.specs.Content.{SchemaContent, type_content, attributes_content, names_content};
 ghost use Rattle.schema_build_text.specs.Beside.{action_at, is_captured_by};
-ghost use Rattle.schema_build_text.specs.Captured.{plain_action, holds_plain_action, some_hold, tags_hold, item_holds, captured_items, first_item, IsAbout, IsItem, IsFirstOf, IsUncaptured, IsFirstCaptured};
+ghost use Rattle.schema_build_text.specs.Captured.{plain_action, holds_plain_action, some_hold, tags_hold, item_holds, captured_items, first_item, IsAbout, IsItem, IsFirstOf};
 ghost use Rattle.schema_build_text.specs.Items.{item_content, namespace_behind};
 ghost use Rattle.schema_build_text.specs.Walk.{namespace_of, walk};
 
-use crate::items::{Item, items_in_order, name_of};
+use crate::items::{Item, name_of};
 use crate::names::are_together;
 use cedar_data::{Boxed, CloneIn, List, NonEmpty, Text};
 use cedar_identifiers::{InternalName, Name, UnreservedId};
 use schema_build_errors::{CapturedItem, ReferenceCaptured};
-use schema_build_types::{
-    ActionEntry, EntityTypeEntry, Type, ValidatorActionKind, ValidatorEntityTypeKind,
-};
+use schema_build_types::{Type, ValidatorActionKind, ValidatorEntityTypeKind};
 use std::alloc::{AllocError, Global};
 
 // Whether the name is that of the empty namespace's `Action`.
@@ -225,17 +221,4 @@ pub fn first_captured_of(
         None => Ok(None),
         Some(item) => capture(alloc, item),
     }
-}
-
-/// The first captured item of a built schema, in the order of the walk; none exactly where nothing is captured.
-pub fn first_captured(
-    alloc: Global,
-    entities: &[EntityTypeEntry],
-    actions: &[ActionEntry],
-) -> Result<Option<ReferenceCaptured>, AllocError>
-    ensures first { IfOk result (λ found. MatchOption found (captured_items (content entities.now actions.now) ≡ []) (IsFirstOf (captured_items (content entities.now actions.now)))) }
-    ensures meant { IfOk result (λ found. (m : SchemaMeaning) → SchemaStandsFor entities.now actions.now m → MatchOption found (IsUncaptured m) (IsFirstCaptured m)) }
-{
-    let items = items_in_order(alloc, entities, actions)?;
-    first_captured_of(alloc, &items)
 }

@@ -13,7 +13,6 @@ mod rows;
 pub mod to_text;
 mod types;
 
-pub use captured::{first_captured, last_word};
-pub use printing::canonical_schema_text;
+pub use captured::last_word;
 pub use rows::sorted_set;
 pub use to_text::uncaptured_schema_text;

@@ -2,20 +2,17 @@ ghost use Rattle.std.specs.Prelude.{◌≡◌, OnOk, IfOk, map};
 ghost use Rattle.std.specs.Option.{option_copied};
 ghost use Rattle.std.specs.Str.{encode_utf8_all};
 ghost use Rattle.cedar_identifiers.specs.Names.{components_of};
-ghost use Rattle.cedar_names.specs.Meaning.{SchemaMeaning};
 ghost use Rattle.cedar_names.specs.CanonicalText.{canonical_text, namespace};
 ghost use Rattle.schema_build_types.specs.Content.{SchemaContent};
-ghost use Rattle.schema_build_types.specs.Standing.{SchemaStandsFor};
 ghost use Rattle.schema_build_text.specs.Adds.{Adds};
 ghost use Rattle.schema_build_text.specs.Items.{item_content, break_text, end_text, namespace_behind};
 ghost use Rattle.schema_build_text.specs.Readings.{schema_reading};
 ghost use Rattle.schema_build_text.specs.Walk.{walk};
 
-use crate::items::{Item, items_in_order, name_of, push_item};
+use crate::items::{Item, name_of, push_item};
 use crate::names::{base_of, push_break, push_closing, push_opening};
 use cedar_data::Text;
 use cedar_identifiers::InternalName;
-use schema_build_types::{ActionEntry, EntityTypeEntry};
 use std::alloc::{AllocError, Global};
 
 // The room that is made for each item before the text is written.
@@ -59,16 +56,4 @@ pub fn print_items(alloc: Global, items: &[Item<'_>]) -> Result<Text, AllocError
     }
     push_after(&mut text, before)?;
     Ok(Text::from_string(text))
-}
-
-/// The canonical text of a built schema: of the meaning for which its entity types and actions stand.
-pub fn canonical_schema_text(
-    alloc: Global,
-    entities: &[EntityTypeEntry],
-    actions: &[ActionEntry],
-) -> Result<Text, AllocError>
-    ensures { IfOk result (λ text. (m : SchemaMeaning) → SchemaStandsFor entities.now actions.now m → encode_utf8_all text ≡ canonical_text m) }
-{
-    let items = items_in_order(alloc, entities, actions)?;
-    print_items(alloc, &items)
 }
