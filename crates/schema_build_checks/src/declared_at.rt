@@ -7,8 +7,8 @@ use cedar_identifiers::{Id, InternalName, Name};
 use schema_resolve_definitions::declared::name_of;
 use std::alloc::{AllocError, Global};
 
-// A name that is declared in a namespace, at the place of its declaration.
-pub(crate) fn declared_at(
+/// A name that is declared in a namespace, at the place of its declaration.
+pub fn declared_at(
     alloc: Global,
     ns: &Option<Name>,
     id: &Id,

@@ -2,7 +2,7 @@
 #![tactic(auto)]
 
 pub mod called_action;
-mod declared_at;
+pub mod declared_at;
 pub mod hiding_actions;
 pub mod hiding_types;
 mod least;

@@ -1,12 +1,10 @@
 ghost use Rattle.std.specs.Prelude.{◌≡◌, ◌++◌, map, IfOk, OnOk};
-ghost use Rattle.schema_build_checks.specs.DeclaredAt.{declared_at};
 ghost use Rattle.schema_build_scope.specs.Commons.{common_entry, declared_commons};
 ghost use Rattle.schema_build_scope.specs.LentCommons.{lent_commons};
 
-use cedar_data::{CloneIn, List, Loc};
-use cedar_identifiers::{Id, InternalName, Name, RawName};
+use cedar_identifiers::{InternalName, Name, RawName};
+use schema_build_checks::declared_at::declared_at;
 use schema_json::{CommonType, CommonTypeId, Fragment, Type};
-use schema_resolve_definitions::declared::name_of;
 use std::alloc::{AllocError, Global};
 
 /// A type that is lent from its fragment.
@@ -48,21 +46,4 @@ fn push_commons<'f>(
         found.push((name, LentType { ns, ty }))?;
     }
     Ok(())
-}
-
-// A name that is declared in a namespace, at the place of its declaration.
-fn declared_at(
-    alloc: Global,
-    ns: &Option<Name>,
-    id: &Id,
-    loc: Option<Loc>,
-) -> Result<InternalName, AllocError>
-    ensures { IfOk result (λ name. name ≡ declared_at ns.now id.now loc) }
-{
-    let word = InternalName {
-        first: id.clone_in(alloc)?,
-        others: List::new(alloc),
-        loc,
-    };
-    word.qualify_with(alloc, name_of(ns))
 }

@@ -14,8 +14,9 @@ use crate::errors::{
     MissingOrEmpty, NoPrincipalOrResource, ReservedName, ReservedSchemaKeyword, ToJsonSchemaError,
     UnknownTypeName,
 };
-use crate::labels::{bare_label, bare_labels, push_saying};
+use crate::labels::push_saying;
 use cedar_data::{Label, Loc, Severity, Text, around, message};
+use schema_syntax_errors::labels::{bare_label, bare_labels};
 use schema_syntax_tree::PR;
 use std::alloc::{AllocError, Global};
 

@@ -1,8 +1,8 @@
 ghost use Rattle.std.specs.Prelude.{◌≡◌, Ok, None, IfOk};
 ghost use Rattle.schema_convert_errors.specs.WarningTexts.{shadows_builtin_text, shadows_entity_text, warning_text, builtin_labels, entity_labels, warning_labels};
 
-use crate::labels::{bare_label, bare_labels};
 use cedar_data::{CloneIn, Label, Loc, Severity, Text, message, push_both};
+use schema_syntax_errors::labels::{bare_label, bare_labels};
 use std::alloc::{AllocError, Global};
 
 /// A declared type that is named like a builtin one, with the place of its name.

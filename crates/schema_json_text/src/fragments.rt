@@ -7,7 +7,7 @@ ghost use Rattle.serde_json.specs.Written.{compact_text};
 ghost use Rattle.cedar_data.specs.Text.{text_cmp};
 ghost use Rattle.schema_json_values.specs.TypeValues.{object_of};
 ghost use Rattle.schema_json_values.specs.FragmentValues.{common_entry, entity_entry, action_entry};
-ghost use Rattle.schema_json_values.specs.FragmentValues.{namespace_value, namespace_entry, namespace_bytes, json_value};
+ghost use Rattle.schema_json_values.specs.FragmentValues.{namespace_value, namespace_entry, json_value};
 ghost use Rattle.schema_json_text.specs.Adds.{Adds, AddsValue};
 ghost use Rattle.schema_json_text.specs.Members.{ahead, object_value, ArePut};
 ghost use Rattle.schema_json_text.specs.Places.{placed_entry};
@@ -22,6 +22,7 @@ use cedar_identifiers::{Name, NameText, UnreservedId};
 use schema_json::{
     ActionType, CommonType, CommonTypeId, EntityType, Fragment, NamespaceDefinition,
 };
+use schema_json_values::fragments::namespace_text;
 use std::alloc::{AllocError, Global};
 
 impl<N: NameText> Member for (Text, ActionType<N>) {
@@ -129,16 +130,6 @@ fn push_namespace<N: NameText>(
     push(out, "\"entityTypes\":")?;
     push_entity_types(out, alloc, namespace.entity_types.as_slice())?;
     push_char(out, '}')
-}
-
-// The text of the name of a namespace, and the empty text for the empty one.
-fn namespace_text(alloc: Global, name: &Option<Name>) -> Result<Text, AllocError>
-    ensures { IfOk result (λ t. encode_utf8_all t ≡ namespace_bytes name.now) }
-{
-    match name {
-        Some(name) => name.text(alloc),
-        None => Ok(Text::new(alloc)),
-    }
 }
 
 impl<N: NameText> Member for (Text, &NamespaceDefinition<N>) {

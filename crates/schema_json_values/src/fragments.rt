@@ -91,8 +91,8 @@ fn namespace_value<N: NameText>(
     Ok(Value::Object(members))
 }
 
-// The text of the name of a namespace, and the empty text for the empty one.
-fn namespace_text(alloc: Global, name: &Option<Name>) -> Result<Text, AllocError>
+/// The text of the name of a namespace, and the empty text for the empty one.
+pub fn namespace_text(alloc: Global, name: &Option<Name>) -> Result<Text, AllocError>
     ensures { IfOk result (λ t. encode_utf8_all t ≡ namespace_bytes name.now) }
 {
     match name {

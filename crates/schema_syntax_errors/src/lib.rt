@@ -4,7 +4,7 @@
 pub mod annotation_error;
 pub mod expected;
 mod help;
-mod labels;
+pub mod labels;
 pub mod laws;
 pub mod parse_error;
 pub mod parse_errors;
