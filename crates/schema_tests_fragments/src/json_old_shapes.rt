@@ -6,8 +6,8 @@ use schema_json::Fragment;
 use schema_json_io::{JsonDeserializationError, WriteJson};
 use std::alloc::Global;
 
-// Is the fragment written so?
-fn is_written(alloc: Global, fragment: &Fragment<RawName>, wanted: &str) -> bool {
+/// Is the fragment written so?
+pub fn is_written(alloc: Global, fragment: &Fragment<RawName>, wanted: &str) -> bool {
     let Ok(value) = fragment.to_json_value(alloc) else {
         return false;
     };
@@ -36,4 +36,28 @@ fn old_texts_are_read_or_refused(rt: HostRuntime) {
     for line in OLD_TEXTS.lines() {
         assert!(rt; agrees(rt.alloc(), line), "{line}");
     }
+}
+
+// Is the value of the text's fragment, which has the same form as the text, read as this fragment?
+fn is_read_of_its_value(alloc: Global, text: &str) -> bool {
+    let answer: Result<Fragment<RawName>, JsonDeserializationError> =
+        FragmentDeprecated::from_deprecated_json_str(alloc, text);
+    let Ok(fragment) = answer else {
+        return false;
+    };
+    let Ok(value) = fragment.to_json_value(alloc) else {
+        return false;
+    };
+    let again: Result<Fragment<RawName>, JsonDeserializationError> =
+        FragmentDeprecated::from_deprecated_json_value(alloc, value);
+    match again {
+        Ok(again) => again == fragment,
+        Err(_) => false,
+    }
+}
+
+#[test]
+fn old_values_are_read(rt: HostRuntime) {
+    let text = "{\"N\":{\"entityTypes\":{\"A\":{},\"B\":{\"memberOfTypes\":[\"A\"]}},\"actions\":{}}}";
+    assert!(rt; is_read_of_its_value(rt.alloc(), text));
 }

@@ -1,21 +1,28 @@
 // How fragments of texts are printed, against a table.
 
 use crate::printed_table::printed_lines;
+use cedar_data::CloneIn;
 use cedar_identifiers::RawName;
 use cedar_names::ExtensionTable;
 use schema_convert::parse_cedar_schema_fragment;
 use schema_json::Fragment;
+use schema_json_io::{FragmentJson, JsonDeserializationError};
 use schema_print::ToCedarSchema;
 use schema_print_errors::ToCedarSchemaSyntaxError;
-use schema_tests_lines::{answer_and_text, with_line_ends};
+use schema_tests_lines::{Wanted, answer_and_text, with_line_ends};
 use std::alloc::Global;
 
-// Does the answer say the error?
+// Does the answer say what a copy of the error tells?
 fn says_error(alloc: Global, answer: &str, error: &ToCedarSchemaSyntaxError) -> bool {
-    match error.text(alloc) {
-        Ok(text) => answer.strip_prefix('!') == Some(text.as_str()),
-        Err(_) => false,
-    }
+    let Ok(copy) = error.clone_in(alloc) else {
+        return false;
+    };
+    let mut wanted = Wanted::new(answer);
+    wanted.piece("!");
+    wanted.text(copy.text(alloc));
+    wanted.labels(copy.labels(alloc));
+    wanted.advice(copy.help(alloc, ""));
+    wanted.is_met()
 }
 
 // Is the fragment printed as the answer says?
@@ -55,6 +62,29 @@ fn first_wrong(alloc: Global, lines: &str) -> &str {
 fn printed_texts_agree_with_table(rt: HostRuntime) {
     let wrong = first_wrong(rt.alloc(), printed_lines());
     assert!(rt; wrong.is_empty(), "{wrong}");
+}
+
+// A JSON text whose fragment has an entity type with a shape that is no record, and what is told of it.
+const NO_RECORD: [&str; 2] = [
+    "{\"\":{\"commonTypes\":{\"Task\":{\"type\":\"Record\",\"attributes\":{}}},\"entityTypes\":{\"User\":{\"shape\":{\"type\":\"Task\"}}},\"actions\":{}}}",
+    "!The following entities have shapes that cannot be converted to Cedar schema syntax: [User] help: Entity shapes may only be record types. In the Cedar schema syntax, they additionally may not reference common type definitions.",
+];
+
+// Is the fragment of the JSON text printed as the answer says?
+fn is_printed_of_json(alloc: Global, json: &str, answer: &str) -> bool {
+    let fragment: Result<Fragment<RawName>, JsonDeserializationError> = FragmentJson::from_json_str(
+        alloc, json,
+    );
+    match fragment {
+        Ok(fragment) => is_printed(alloc, answer, &fragment),
+        Err(_) => false,
+    }
+}
+
+#[test]
+fn shapes_that_are_no_records_are_refused(rt: HostRuntime) {
+    let [json, answer] = NO_RECORD;
+    assert!(rt; is_printed_of_json(rt.alloc(), json, answer));
 }
 
 // Texts whose fragments are those of their printed texts.

@@ -7,8 +7,10 @@ use cedar_identifiers::{InternalName, NameText, RawName};
 use cedar_names::ExtensionTable;
 use schema_convert::parse_cedar_schema_fragment;
 use schema_json::{ActionEntityUID, Fragment};
-use schema_resolve::{ResolveError, ResolveFragment};
-use schema_tests_lines::answer_and_text;
+use schema_resolve::{
+    ResolveError, ResolveFragment, UndefinedReferences, gather_undefined_alone,
+};
+use schema_tests_lines::{Wanted, answer_and_text};
 use std::alloc::{AllocError, Global};
 
 // Is the answer this text behind a mark?
@@ -93,4 +95,47 @@ fn resolved_texts_agree_with_table(rt: HostRuntime) {
 fn refused_texts_agree_with_table(rt: HostRuntime) {
     let wrong = first_wrong(rt.alloc(), refused_lines());
     assert!(rt; wrong.is_empty(), "{wrong}");
+}
+
+// Are these the references that mean nothing, types before actions?
+fn are_undefined(alloc: Global, answer: &str, found: &UndefinedReferences) -> bool {
+    let mut wanted = Wanted::new(answer);
+    for name in &found.types {
+        wanted.text(name.text(alloc));
+        wanted.piece(" ");
+    }
+    for action in &found.actions {
+        wanted.text(action.text(alloc));
+        wanted.piece(" ");
+    }
+    wanted.is_met()
+}
+
+// Are these the references of the text that mean nothing?
+fn has_undefined(alloc: Global, line: &str) -> bool {
+    let (answer, text) = answer_and_text(line);
+    let table = ExtensionTable::none(alloc);
+    let Ok((fragment, _)) = parse_cedar_schema_fragment(alloc, text, &table) else {
+        return false;
+    };
+    match gather_undefined_alone(alloc, &fragment, &table) {
+        Ok(found) => are_undefined(alloc, answer, &found),
+        Err(_) => false,
+    }
+}
+
+// The references that mean nothing, in the order of the walk, each with a blank behind it, and behind `|` the text. The lines were
+// worked out by hand, from the definition of candidates.
+const UNDEFINED: &str = "\
+|entity A in A;
+Y X |entity A in Y { b: Set<X>, c: A };
+X Action::\"b\" |action c in b; entity A { b: X };
+X N::Action::\"b\" |namespace N { action c in N::Action::\"b\" appliesTo { principal: X, resource: A }; entity A; }
+";
+
+#[test]
+fn undefined_references_are_gathered(rt: HostRuntime) {
+    for line in UNDEFINED.lines() {
+        assert!(rt; has_undefined(rt.alloc(), line), "{line}");
+    }
 }

@@ -1,4 +1,5 @@
-use cedar_data::Loc;
+use cedar_data::{Label, Loc, Text};
+use std::alloc::AllocError;
 
 /// What is left of an answer, of which the pieces that are found are taken from the front.
 #[derive(Drop)]
@@ -53,6 +54,51 @@ impl<'a> Wanted<'a> {
                 self.piece("-");
                 self.number(loc.end);
             }
+        }
+    }
+
+    /// The text is found next.
+    pub fn text(&mut self, text: Result<Text, AllocError>) {
+        match text {
+            Ok(text) => self.piece(text.as_str()),
+            Err(_) => self.met = false,
+        }
+    }
+
+    /// A place that is pointed to is found next, in brackets, with what is said there.
+    pub fn label(&mut self, label: &Label) {
+        self.piece(" [");
+        self.number(label.span.start);
+        self.piece("..");
+        self.number(label.span.end);
+        if let Some(text) = &label.text {
+            self.piece(" ");
+            self.piece(text.as_str());
+        }
+        self.piece("]");
+    }
+
+    /// The places that are pointed to are found next.
+    pub fn labels(&mut self, labels: Result<Vec<Label>, AllocError>) {
+        match labels {
+            Ok(labels) => {
+                for label in &labels {
+                    self.label(label);
+                }
+            }
+            Err(_) => self.met = false,
+        }
+    }
+
+    /// The advice is found next, where there is any.
+    pub fn advice(&mut self, help: Result<Option<Text>, AllocError>) {
+        match help {
+            Ok(Some(help)) => {
+                self.piece(" help: ");
+                self.piece(help.as_str());
+            }
+            Ok(None) => {}
+            Err(_) => self.met = false,
         }
     }
 

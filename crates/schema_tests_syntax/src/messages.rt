@@ -2,7 +2,7 @@
 
 use crate::error_lines::find_user_error;
 use crate::message_table::message_lines;
-use cedar_data::{CloneIn, Label, Loc, Node, Text};
+use cedar_data::{CloneIn, Loc, Node};
 use schema_syntax::{deduplicate_annotations, parse_schema};
 use schema_syntax_errors::{
     AnnotationError, ParseError, ParseErrors, ParseSchemaError, UserError, expected_text,
@@ -11,39 +11,6 @@ use schema_syntax_grammar::TokenKind;
 use schema_syntax_tree::{Annotated, SrcAnnotation, SrcWord};
 use schema_tests_lines::{Wanted, answer_and_text, with_line_ends};
 use std::alloc::{AllocError, Global};
-
-// A label is found next, in brackets.
-fn find_label(wanted: &mut Wanted<'_>, label: &Label) {
-    wanted.piece(" [");
-    wanted.number(label.span.start);
-    wanted.piece("..");
-    wanted.number(label.span.end);
-    if let Some(text) = &label.text {
-        wanted.piece(" ");
-        wanted.piece(text.as_str());
-    }
-    wanted.piece("]");
-}
-
-// The text is found next.
-fn find_text(wanted: &mut Wanted<'_>, text: Result<Text, AllocError>) {
-    match text {
-        Ok(text) => wanted.piece(text.as_str()),
-        Err(_) => wanted.piece("out of memory?"),
-    }
-}
-
-// The labels are found next.
-fn find_labels(wanted: &mut Wanted<'_>, labels: Result<Vec<Label>, AllocError>) {
-    match labels {
-        Ok(labels) => {
-            for label in &labels {
-                find_label(wanted, label);
-            }
-        }
-        Err(_) => wanted.piece("out of memory?"),
-    }
-}
 
 // The advice is found next.
 fn find_help(wanted: &mut Wanted<'_>, help: Option<&str>) {
@@ -56,16 +23,16 @@ fn find_help(wanted: &mut Wanted<'_>, help: Option<&str>) {
 // Does the answer say what the fault of what follows the grammar tells?
 fn user_error_tells(alloc: Global, answer: &str, fault: &UserError) -> bool {
     let mut wanted = Wanted::new(answer);
-    find_text(&mut wanted, fault.text(alloc));
-    find_labels(&mut wanted, fault.labels(alloc));
+    wanted.text(fault.text(alloc));
+    wanted.labels(fault.labels(alloc));
     wanted.is_met() && matches!(fault.help(alloc, ""), Ok(None))
 }
 
 // Does the answer say what the first fault tells?
 fn error_tells(alloc: Global, answer: &str, error: &ParseError, source: &str) -> bool {
     let mut wanted = Wanted::new(answer);
-    find_text(&mut wanted, error.text(alloc));
-    find_labels(&mut wanted, error.labels(alloc));
+    wanted.text(error.text(alloc));
+    wanted.labels(error.labels(alloc));
     find_help(&mut wanted, error.help(source));
     match error {
         ParseError::User(fault) => wanted.is_met() && user_error_tells(alloc, answer, fault),
@@ -76,8 +43,8 @@ fn error_tells(alloc: Global, answer: &str, error: &ParseError, source: &str) ->
 // Does the answer say what the list of faults tells?
 fn errors_tell(alloc: Global, answer: &str, errors: &ParseErrors, source: &str) -> bool {
     let mut wanted = Wanted::new(answer);
-    find_text(&mut wanted, errors.text(alloc));
-    find_labels(&mut wanted, errors.labels(alloc));
+    wanted.text(errors.text(alloc));
+    wanted.labels(errors.labels(alloc));
     find_help(&mut wanted, errors.help(source));
     wanted.is_met()
         && errors
@@ -88,13 +55,9 @@ fn errors_tell(alloc: Global, answer: &str, errors: &ParseErrors, source: &str) 
 // Does the answer say what the error tells?
 fn schema_error_tells(alloc: Global, answer: &str, error: &ParseSchemaError, source: &str) -> bool {
     let mut wanted = Wanted::new(answer);
-    find_text(&mut wanted, error.text(alloc));
-    find_labels(&mut wanted, error.labels(alloc));
-    match error.help(alloc, source) {
-        Ok(Some(help)) => find_help(&mut wanted, Some(help.as_str())),
-        Ok(None) => {}
-        Err(_) => return false,
-    }
+    wanted.text(error.text(alloc));
+    wanted.labels(error.labels(alloc));
+    wanted.advice(error.help(alloc, source));
     wanted.is_met()
 }
 
@@ -159,8 +122,8 @@ fn annotation_error_tells(
     error: &AnnotationError,
 ) -> bool {
     let mut wanted = Wanted::new(told);
-    find_text(&mut wanted, error.text(alloc));
-    find_labels(&mut wanted, error.labels(alloc));
+    wanted.text(error.text(alloc));
+    wanted.labels(error.labels(alloc));
     let mut fault_wanted = Wanted::new(answer);
     match error {
         AnnotationError::User(fault) => find_user_error(&mut fault_wanted, fault),

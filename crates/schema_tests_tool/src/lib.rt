@@ -1,8 +1,13 @@
-//! What no contract says of the program's calls: what it answers to whole inputs, and that the standard streams pass bytes on.
+//! What no contract says of the program's calls and of those of the builder: what they answer to whole inputs, and that the standard
+//! streams pass bytes on.
 #![tactic(auto)]
 
 #[cfg(test)]
 mod as_library;
+#[cfg(test)]
+mod builder;
+#[cfg(test)]
+mod fault_table;
 #[cfg(test)]
 mod hostile;
 #[cfg(test)]
