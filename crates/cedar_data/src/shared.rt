@@ -27,6 +27,7 @@ impl<T> Model for Shared<T> {
 }
 
 impl<T> Shared<T> {
+    /// The value, lent.
     pub fn get(&self) -> &T
         ensures { result.now ≡ self.now }
     {
@@ -35,6 +36,7 @@ impl<T> Shared<T> {
 }
 
 impl<T: Drop> Shared<T> {
+    /// The value, to be shared by its copies, or an error when out of memory.
     pub fn new(alloc: Global, value: T) -> Result<Shared<T>, AllocError>
         ensures { IfOk result (λ b. b ≡ value) }
     {

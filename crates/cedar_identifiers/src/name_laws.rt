@@ -11,7 +11,7 @@ use crate::name::Name;
 use crate::raw_name::RawName;
 use crate::unreserved_id::UnreservedId;
 
-/// A text reads as one name, or has one fault: besides want of memory, which may come at any text, no other answer is
+/// A text reads as one name, or has one fault: besides being out of memory, which may come at any text, no other answer is
 /// right.
 pub fn one_reading(text: &str)
     ensures one_name { OneName text.now }

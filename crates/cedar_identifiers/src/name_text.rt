@@ -20,6 +20,7 @@ pub trait NameText {
     /// The texts of the components, the outermost first.
     ghost components: { Self → List (List ℕ) };
 
+    /// The text of the name, or an error when out of memory.
     fn text(&self, alloc: Global) -> Result<Text, AllocError>
         ensures text { IfOk result (λ text. text ≡ joined_by (codes "::") (components self.now)) };
 

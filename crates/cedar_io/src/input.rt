@@ -18,7 +18,7 @@ pub enum ReadEnd {
     Failed,
     /// The input is longer than an input may be.
     TooLong,
-    /// Memory was wanted.
+    /// Out of memory.
     Memory,
 }
 

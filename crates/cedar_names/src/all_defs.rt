@@ -198,7 +198,7 @@ impl AllDefs {
         is_there(self.action_defs.as_slice(), &sought, &mut Uncounted {})
     }
 
-    /// Defines a common type of this name, and changes nothing where memory is wanted.
+    /// Defines a common type of this name, and changes nothing when out of memory.
     pub fn mark_as_defined_as_common_type(&mut self, name: InternalName) -> Result<(), AllocError>
         ensures commons { OnOk result (AddsName self.old.commons self.new.commons (components_of name)) }
         ensures entities { OnOk result (self.new.entities ≡ self.old.entities) }
@@ -208,7 +208,7 @@ impl AllDefs {
         add_name(&mut self.common_defs, name)
     }
 
-    /// Defines common types of these names, and changes nothing where memory is wanted.
+    /// Defines common types of these names, and changes nothing when out of memory.
     pub fn mark_all_as_common_types(&mut self, names: Vec<InternalName>) -> Result<(), AllocError>
         ensures commons { OnOk result (AddsNames self.old.commons self.new.commons (map components_of names.items)) }
         ensures entities { OnOk result (self.new.entities ≡ self.old.entities) }
@@ -218,7 +218,7 @@ impl AllDefs {
         add_names(&mut self.common_defs, names)
     }
 
-    /// Defines an entity type of this name, and changes nothing where memory is wanted.
+    /// Defines an entity type of this name, and changes nothing when out of memory.
     pub fn mark_as_defined_as_entity_type(&mut self, name: InternalName) -> Result<(), AllocError>
         ensures commons { OnOk result (self.new.commons ≡ self.old.commons) }
         ensures entities { OnOk result (AddsName self.old.entities self.new.entities (components_of name)) }
@@ -228,7 +228,7 @@ impl AllDefs {
         add_name(&mut self.entity_defs, name)
     }
 
-    /// Defines the action, and changes nothing where memory is wanted.
+    /// Defines the action, and changes nothing when out of memory.
     pub fn mark_as_defined_as_action(&mut self, uid: EntityUID) -> Result<(), AllocError>
         ensures commons { OnOk result (self.new.commons ≡ self.old.commons) }
         ensures entities { OnOk result (self.new.entities ≡ self.old.entities) }
@@ -238,7 +238,7 @@ impl AllDefs {
         add_action(&mut self.action_defs, uid)
     }
 
-    /// Defines the type of each action as an entity type, and changes nothing where memory is wanted.
+    /// Defines the type of each action as an entity type, and changes nothing when out of memory.
     pub fn add_action_entity_types(&mut self) -> Result<(), AllocError>
         ensures commons { OnOk result (self.new.commons ≡ self.old.commons) }
         ensures entities { OnOk result (AddsTypes self.old.entities self.new.entities self.old.actions) }

@@ -31,7 +31,7 @@ module _ (one : (words : List (List ℕ)) (bytes : List ℕ) (report other : Rep
       (subst (λ b. IsPlan words b report) (sym (told source.before bytes all left had)) p) is)
   same_report report (read_fault c i w r) = inr refl
 
-  -- with no fault, the status is that of the plan, or memory was wanted
+  -- with no fault, the status is that of the plan, or out of memory
   pub completes : (out err : Device) (status : Status) → IsRun words source out err status
       → NoneCounted source out err → (status ≡ plan.status) ⊎ (status ≡ Memory)
   completes out err status (delivered report (planned all had p l) (whole o e)) n =

@@ -1,4 +1,4 @@
--- A fault that is no want of memory is a fault of building.
+-- A fault is one of building, unless it is that of being out of memory.
 use Rattle.std.proofs.Common.{◌≡◌, inl, inr}
 use Rattle.schema_build_errors.specs.declared.schema_error.SchemaError.{SchemaError}
 use Rattle.schema_build_errors.specs.declared.schema_error.SchemaError.TheVariants.{Memory}

@@ -50,7 +50,7 @@ pub fn to_json_text(alloc: Global, text: &str, table: &ExtensionTable) -> Result
     }
 }
 
-// Whether memory was wanted.
+// Whether the fault is that of being out of memory.
 fn is_memory(fault: &JsonFault) -> bool
     ensures { result ≡ true ↔ fault.now ≡ JsonFault.Memory }
 {

@@ -37,7 +37,7 @@ use schema_syntax::laws::tree_or_error;
 use schema_syntax_laws::{one_error, one_tree};
 use schema_syntax_parser::syntax_is_sentence;
 
-/// A text is translated to at most one fragment, with one list of warnings.
+/// Under a table a text is translated to at most one fragment, with one list of warnings.
 pub fn one_translation()
     ensures { (text : List ℕ) (table : ExtensionTable) (f g : Fragment Raw as_written) (v w : List SchemaWarning) → IsTranslationOfText text table f v → IsTranslationOfText text table g w → (f ≡ g) × (v ≡ w) }
 {
@@ -60,7 +60,7 @@ pub fn one_text_meaning()
     one_fragment_meaning();
 }
 
-/// A text that is refused is not valid.
+/// A text that is refused is not valid. Being out of memory is no refusal.
 pub fn refused_or_valid()
     ensures { (text : List ℕ) (table : ExtensionTable) (e : RecoverError) → IsRefusal text table e → e ≢ RecoverError.Memory → IsValid text table → ⊥ }
 {
@@ -69,7 +69,8 @@ pub fn refused_or_valid()
     one_fragment_meaning();
 }
 
-/// What is told of the refusals of a text is one: a text is refused for one reason, at one place.
+/// What is told of the refusals of a text in UTF-8 is one: it is refused for one reason, at one place. Being out of memory is no
+/// refusal.
 pub fn one_refusal()
     ensures { (text : List ℕ) (table : ExtensionTable) (e other : RecoverError) → IsUtf8 text → e ≢ RecoverError.Memory
         → other ≢ RecoverError.Memory → IsRefusal text table e → IsRefusal text table other
@@ -85,7 +86,7 @@ pub fn one_refusal()
 }
 
 /// A JSON text in either form has at most one meaning under a table, what is told of its refusals is one, and a text that
-/// is refused means nothing.
+/// is refused is not valid. Being out of memory is no refusal.
 pub fn one_json_reading()
     ensures meaning { (form : JsonForm) (text : List ℕ) (table : ExtensionTable) (m n : SchemaMeaning)
         → JsonMeaning form text table m → JsonMeaning form text table n → m ≡ n }
@@ -141,7 +142,7 @@ pub fn texts_of_json_mean_the_same()
     texts_of_closed_meanings_mean_them();
 }
 
-/// Two texts have one canonical text exactly where they mean the same.
+/// Two valid texts have one canonical text exactly where they mean the same.
 pub fn canonical_texts_tell_meanings_apart()
     ensures { (text other : List ℕ) (table : ExtensionTable) (m n : SchemaMeaning) → TextMeaning text table m
         → TextMeaning other table n → canonical_text m ≡ canonical_text n ↔ m ≡ n }
@@ -150,7 +151,8 @@ pub fn canonical_texts_tell_meanings_apart()
     one_text_meaning();
 }
 
-/// What is recovered of a recovered text is that text, with as many entity types and actions; and it is valid.
+/// What is recovered of a recovered text, under the same table, is that text, with as many entity types and actions; and a
+/// recovered text is valid.
 pub fn recovered_texts_recover_themselves()
     ensures text { (text : List ℕ) (table : ExtensionTable) (first second : Recovered) → IsRecovered text table first
         → IsRecovered (encode_utf8_all first.text) table second → second.text ≡ first.text }
@@ -168,7 +170,7 @@ pub fn recovered_texts_recover_themselves()
 }
 
 /// What is recovered of a text that was recovered from JSON is that text, with as many entity types and actions, where
-/// the meaning is not half filled; and it has that meaning.
+/// the meaning of the JSON is not half filled; and then the recovered text has that meaning.
 pub fn recovered_json_recovers_itself()
     ensures text { (form : JsonForm) (text : List ℕ) (table : ExtensionTable)
         (first second : Recovered) (is : IsRecoveredJson form text table first) → ¬ IsHalfFilled is.meaning
@@ -187,7 +189,7 @@ pub fn recovered_json_recovers_itself()
     one_text_meaning();
 }
 
-/// A generated text is valid, under every table.
+/// A generated text of a size from 1 to 4,096 is valid, under every table.
 pub fn generated_texts_are_valid()
     ensures { (n : ℕ) (table : ExtensionTable) → 1 ≤ n → n ≤ max_size → IsValid (generated n) table }
 {

@@ -3,13 +3,21 @@ ghost use Rattle.std.specs.Prelude.{◌≡◌};
 /// How a run ended.
 #[derive(Clone, Copy, PartialEq, Eq)]
 pub enum Status {
+    /// What the words ask for was written.
     Done,
+    /// The input is refused.
     Refused,
+    /// The words ask for no command.
     Usage,
+    /// A read failed.
     ReadFault,
+    /// A write failed.
     WriteFault,
+    /// The input is not UTF-8.
     NotText,
+    /// The input is longer than 16,777,216 bytes.
     TooLong,
+    /// Out of memory, with nothing written.
     Memory,
 }
 

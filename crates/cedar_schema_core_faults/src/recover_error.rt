@@ -10,6 +10,6 @@ pub enum RecoverError {
     Schema(SchemaError),
     /// Its canonical text would be read otherwise: the first declaration that uses a type which would be captured.
     Captured(ReferenceCaptured),
-    /// Memory was wanted.
+    /// Out of memory.
     Memory,
 }

@@ -176,7 +176,7 @@ fn push_captured(
     push_told(alloc, lines, &text, &[], None)
 }
 
-// Adds the line for want of memory.
+// Adds the line of a run that is out of memory.
 fn push_memory(alloc: Global, lines: &mut Text) -> Result<(), AllocError>
     ensures { OnOk result (lines.new ≡ lines.old ++ flat_map told_lines (told_memory ∷ [])) }
 {
@@ -186,7 +186,7 @@ fn push_memory(alloc: Global, lines: &mut Text) -> Result<(), AllocError>
 
 /// The lines that a refusal of the source is told in: for each fault, in order, `error: ` and what it says, a line
 /// `  at S..E` for each place that it points to, in bytes, with what is said there, and a line `  help: ` with advice.
-/// It errs where memory is out.
+/// It errs when out of memory.
 pub fn fault_text(alloc: Global, source: &str, fault: &RecoverError) -> Result<Text, AllocError>
     ensures { IfOk result (λ text. text ≡ fault_text source.now fault.now) }
 {

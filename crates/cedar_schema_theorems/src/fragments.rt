@@ -46,7 +46,8 @@ pub fn a_tree_is_translated_where_it_can_be()
     lawful_trees();
 }
 
-/// Of two trees that say the same, the other has no fault where one has none, and their fragments are the same, places aside.
+/// Of two trees that say the same, with a component in each name and a name in each declaration of actions, the other has no
+/// fault where one has none, and then their fragments are the same, places aside.
 pub fn what_is_said_decides()
     ensures { (tree other : List (Annotated Namespace)) (w : List WrittenItem) → AllZip SaysItem tree w
         → AllZip SaysItem other w → AllByRecursion IsWellNamed w → translation_faults tree ≡ []

@@ -10,7 +10,7 @@ use cedar_schema_core_orders::laws::{
     blanks_do_not_matter, divisions_do_not_matter, order_does_not_matter,
 };
 
-/// Texts with tokens of the same kinds and texts mean the same, whatever blanks and comments stand between these.
+/// Texts whose tokens have the same kinds and the same bytes mean the same, whatever blanks and comments stand between these.
 pub fn blanks_change_no_meaning()
     ensures { (text other : List ℕ) (table : ExtensionTable) → HaveTheSameTokens text other
         → MeanTheSame text other table }
@@ -18,7 +18,7 @@ pub fn blanks_change_no_meaning()
     blanks_do_not_matter();
 }
 
-/// Texts mean the same where whole items, or whole declarations of a namespace, stand in another order.
+/// Texts mean the same where whole items, or whole declarations of one opening of a namespace, stand in another order.
 pub fn order_changes_no_meaning()
     ensures items { (text other : List ℕ) (table : ExtensionTable) (w v : List WrittenItem) → IsWrittenAs text w
         → IsWrittenAs other v → IsReordered w v → MeanTheSame text other table }
@@ -28,7 +28,8 @@ pub fn order_changes_no_meaning()
     order_does_not_matter();
 }
 
-/// Texts mean the same where the declarations of a namespace are divided, in order, over two openings.
+/// Texts mean the same where the declarations of one opening of a namespace are divided, in order, over two,
+/// whatever annotations the openings have.
 pub fn divisions_change_no_meaning()
     ensures { (text other : List ℕ) (table : ExtensionTable) (w v : List WrittenItem) → IsWrittenAs text w
         → IsWrittenAs other v → IsDivided w v → MeanTheSame text other table }

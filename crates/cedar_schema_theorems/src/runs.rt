@@ -45,7 +45,7 @@ pub fn what_is_recovered_from_json_means_the_same()
     texts_of_json_mean_the_same();
 }
 
-/// Two valid texts have one canonical text exactly where they mean the same.
+/// Two texts that are valid under a table have one canonical text exactly where they mean the same.
 pub fn canonical_texts_stand_for_meanings()
     ensures { (text other : List ℕ) (table : ExtensionTable) (m n : SchemaMeaning) → TextMeaning text table m
         → TextMeaning other table n → canonical_text m ≡ canonical_text n ↔ m ≡ n }
@@ -53,7 +53,7 @@ pub fn canonical_texts_stand_for_meanings()
     canonical_texts_tell_meanings_apart();
 }
 
-/// Recovering what was recovered changes nothing.
+/// Recovering what was recovered from a text changes nothing, under the same table.
 pub fn recovering_again_changes_nothing()
     ensures { (text : List ℕ) (table : ExtensionTable) (first second : Recovered) → IsRecovered text table first
         → IsRecovered (encode_utf8_all first.text) table second → second.text ≡ first.text }
@@ -61,7 +61,7 @@ pub fn recovering_again_changes_nothing()
     recovered_texts_recover_themselves();
 }
 
-/// No text is both refused and valid. Want of memory is no refusal.
+/// Under a table no text is both refused and valid. Being out of memory is no refusal.
 pub fn refused_is_not_valid()
     ensures { (text : List ℕ) (table : ExtensionTable) (e : RecoverError) → IsRefusal text table e
         → e ≢ RecoverError.Memory → IsValid text table → ⊥ }
@@ -69,7 +69,8 @@ pub fn refused_is_not_valid()
     refused_or_valid();
 }
 
-/// A text is refused for one reason, at one place: what is told of its refusals is one text.
+/// A text in UTF-8 is refused for one reason, at one place: what is told of its refusals under a table is one text. Being out of
+/// memory is no refusal.
 pub fn a_text_has_one_refusal()
     ensures { (text : List ℕ) (table : ExtensionTable) (e other : RecoverError) → IsUtf8 text
         → e ≢ RecoverError.Memory → other ≢ RecoverError.Memory → IsRefusal text table e → IsRefusal text table other
@@ -86,7 +87,7 @@ pub fn a_run_has_one_plan()
     one_plan();
 }
 
-/// A text that the program makes is valid, for every size and under every table.
+/// A text that the program makes is valid, for every size from 1 to 4,096 and under every table.
 pub fn a_made_text_is_valid()
     ensures { (size : ℕ) (table : ExtensionTable) → 1 ≤ size → size ≤ max_size → IsValid (generated size) table }
 {

@@ -61,7 +61,7 @@ pub fn the_grammar_says_what_is_read()
     sites_are_names_and_strings();
 }
 
-/// A text has at most one error: its syntax fault, or the fault of a declaration that ends first.
+/// A text in UTF-8 has at most one error: its syntax fault, or, of its user faults, the one that ends first.
 pub fn a_text_has_one_error()
     ensures { (text : List ℕ) → IsUtf8 text → (error other : ParseError) → IsErrorOf text error → IsErrorOf text other
         → error ≡ other }
@@ -77,7 +77,7 @@ pub fn a_tree_or_an_error()
     tree_or_error();
 }
 
-/// A text is translated to at most one fragment, with one list of warnings.
+/// Under a table a text is translated to at most one fragment, with one list of warnings.
 pub fn a_text_has_one_translation()
     ensures { (text : List ℕ) (table : ExtensionTable) (f g : Fragment RawName as_written) (v w : List SchemaWarning)
         → IsTranslationOfText text table f v → IsTranslationOfText text table g w → (f ≡ g) × (v ≡ w) }
@@ -86,7 +86,9 @@ pub fn a_text_has_one_translation()
 }
 
 /// The text of a meaning, with a comma behind every member or between members, has a tree and no fault, and its fragment says
-/// what is written of the meaning. The names in the meaning are to be made of words, and none may be reserved.
+/// what is written of the meaning. Each name in the meaning is to be made of words, and each enum to have a choice; the entity
+/// types and the actions are to be in the order of their names, no name may be reserved, and the type of each action is to be
+/// the `Action` of a namespace.
 pub fn texts_of_meanings_say_them()
     ensures { (closing : Bool) (m : SchemaMeaning) → IsOfWords m → HasOpenNames m
         → IsTranslatedAs (schema_text closing m) (flat_map group_items (groups_of_meaning m)) }

@@ -12,14 +12,15 @@ ghost use Rattle.schema_build.specs.Meaning.{FragmentMeaning};
 use cedar_identifiers::{NameText, RawName};
 use schema_build_expand::laws::types_stand_for_one;
 
-/// A fragment has at most one meaning.
+/// A fragment has at most one meaning under a table.
 pub fn one_fragment_meaning()
     ensures { (f : Fragments Raw ⟦<RawName as NameText>⟧) (table : Table) (m n : SchemaMeaning) → FragmentMeaning f table m → FragmentMeaning f table n → m ≡ n }
 {
     types_stand_for_one::<RawName>();
 }
 
-/// What is told of the fault of a fragment in order is one: its text, its advice and its places.
+/// What is told of the fault of a fragment under a table is one: its text, its advice and its places. The entries of the fragment
+/// are to be in the order of their names.
 pub fn one_build_fault()
     ensures { (f : Fragments Raw ⟦<RawName as NameText>⟧) (table : Table) (error other : Error) → IsInOrder f
         → BuildFault f table error → BuildFault f table other → AreToldAlike error other }

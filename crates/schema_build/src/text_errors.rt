@@ -87,8 +87,8 @@ fn with_json_help(alloc: Global, help: Option<Text>) -> Result<Option<Text>, All
     }
 }
 
-/// Why a text in the Cedar schema format is no schema: it has no fragment, or its fragment has a fault; or memory is
-/// wanted.
+/// Why a text in the Cedar schema format is no schema: it has no fragment, or its fragment has a fault; or out of
+/// memory.
 #[derive(Drop)]
 pub enum CedarSchemaError {
     Schema(SchemaError),

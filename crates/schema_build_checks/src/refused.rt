@@ -1,6 +1,6 @@
 use std::alloc::{AllocError, AllocFailed};
 
-/// Why a walk stopped: the first that it was to refuse, or memory was wanted. It is small, since each level of the walk hands it
+/// Why a walk stopped: the first that it was to refuse, or out of memory. It is small, since each level of the walk hands it
 /// up.
 #[derive(Drop)]
 pub(crate) enum Refused<T> {

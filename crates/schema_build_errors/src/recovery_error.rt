@@ -5,7 +5,7 @@ use crate::captured::ReferenceCaptured;
 use cedar_data::{CloneIn, Label, Severity, Text, message};
 use std::alloc::{AllocError, AllocFailed, Global};
 
-/// Why no fragment stands for a schema: the first type of the walk that is none of a fragment; or memory is wanted.
+/// Why no fragment stands for a schema: the first type of the walk that is none of a fragment; or out of memory.
 #[derive(Drop)]
 pub enum RecoveryError {
     /// A set of an unknown element.
@@ -14,7 +14,7 @@ pub enum RecoveryError {
     JoinedEntities,
     /// A type, a shape or a context that no fragment has.
     Unsupported,
-    /// There is not enough memory.
+    /// Out of memory.
     Memory,
 }
 
@@ -54,14 +54,14 @@ impl RecoveryError {
     }
 }
 
-/// Why a schema has no text: no fragment stands for it, or its text would mean another; or memory is wanted.
+/// Why a schema has no text: no fragment stands for it, or its text would mean another; or out of memory.
 #[derive(Drop)]
 pub enum ToTextError {
     /// No fragment stands for the schema. It is never `RecoveryError::Memory`.
     Recovery(RecoveryError),
     /// A type would be read as another.
     Captured(ReferenceCaptured),
-    /// There is not enough memory.
+    /// Out of memory.
     Memory,
 }
 

@@ -17,8 +17,8 @@ use schema_json_errors::JsonDeserializationError;
 use schema_resolve_errors::{ActionNotDefinedError, TypeNotDefinedError};
 use std::alloc::{AllocError, AllocFailed, Global};
 
-/// Why a JSON text or a fragment is no schema: the first fault that it has, in the order of the variants; or memory is
-/// wanted.
+/// Why a JSON text or a fragment is no schema: the first fault that it has, in the order of the variants; or out of
+/// memory.
 #[derive(Drop)]
 pub enum SchemaError {
     /// A JSON text or value is no fragment.

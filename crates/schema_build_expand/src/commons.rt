@@ -22,7 +22,7 @@ fn none_of(alloc: Global, count: usize) -> Result<Vec<Option<BuiltType>>, AllocE
 }
 
 /// What the declared common types of these ranks stand for, each expanded once. The order has each behind those that
-/// its type refers to, and beside each type stands what names mean where it is declared. It errs where memory is out.
+/// its type refers to, and beside each type stands what names mean where it is declared. It errs when out of memory.
 pub fn expand_commons<N, R: Meanings<N>>(
     alloc: Global,
     commons: &[(R, &Type<N>)],

@@ -10,7 +10,7 @@ use schema_json::{Type, TypeOfAttribute, TypeVariant};
 use std::alloc::{AllocError, Global};
 
 /// What a type stands for that is written where these names are meant: every common type is replaced. What its
-/// references mean is expanded before, and stands in `done` by its rank. It errs where memory is out.
+/// references mean is expanded before, and stands in `done` by its rank. It errs when out of memory.
 #[cycle(expand)]
 pub fn expand_type<N, R: Meanings<N>>(
     alloc: Global,

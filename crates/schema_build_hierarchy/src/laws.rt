@@ -31,14 +31,14 @@ pub fn rising_lists_are_known_by_members<T>()
     ensures { (order : T → T → Ordering) → IsTotalOrder order → (xs ys : List T) → IsStrictlySortedBy order xs → IsStrictlySortedBy order ys → SameMembers xs ys → xs ≡ ys }
 {}
 
-/// The ancestors of an entity type have one row.
+/// The ancestors of an entity type have at most one row.
 pub fn entity_rows_are_one<'f>(entries: &[EntityEntry<'f>])
     ghost g: { Tests × List DeclaredEntity }
     requires { AreEntities g.1 entries.now }
     ensures { (a : List (List ℕ)) (row other : List ℕ) → IsAncestorRow (IsAncestor g.0 g.1) (map (λ e. entity_name (entity_of e)) entries.now) a row → IsAncestorRow (IsAncestor g.0 g.1) (map (λ e. entity_name (entity_of e)) entries.now) a other → row ≡ other }
 {}
 
-/// The ancestors of an action have one row.
+/// The ancestors of an action have at most one row.
 pub fn action_rows_are_one<'f>(entries: &[ActionEntry<'f>])
     ghost g: { Tests × List (Declared ActionAt (ActionTold Raw ⟦<RawName as NameText>⟧)) }
     requires { AreActions g.1 entries.now }

@@ -18,7 +18,7 @@ first_before xs ys error.Memory h = tt
 pub first_behind : (xs ys : List Lack) (e : RecoveryError) → xs ≡ [] → IsFirstLack ys e → IsFirstLack (xs ++ ys) e
 first_behind xs ys e none h = subst (λ l. IsFirstLack (l ++ ys) e) (sym none) h
 
--- memory may be wanted whatever is lacking
+-- out of memory may be the answer whatever is lacking
 pub memory_first : (xs : List Lack) (e : RecoveryError) → e ≡ error.Memory → IsFirstLack xs e
 memory_first xs e h = subst (IsFirstLack xs) (sym h) tt
 

@@ -112,8 +112,8 @@ fn common_cycle(
     Refusal::new(alloc, SchemaError::CycleInCommonTypeReferences(error))
 }
 
-/// What a type stands for that is written in this namespace, where each of its parts can be expanded. It errs where
-/// memory is out.
+/// What a type stands for that is written in this namespace, where each of its parts can be expanded. It errs when
+/// out of memory.
 pub fn expand_in(
     alloc: Global,
     names: &FragmentNames<'_>,

@@ -11,7 +11,8 @@ pub fn meanings_are_read_back()
     ensures { (m : SchemaMeaning) → schema_reading (schema_as_built m) ≡ m }
 {}
 
-/// Nothing of the empty namespace is captured, nor of one without actions.
+/// Nothing of the empty namespace is captured, nor of one without actions; and nothing of a meaning without actions in named
+/// namespaces.
 pub fn captured_items_are_beside_named_actions()
     ensures empty { (c : SchemaContent) → captured_in c [] ≡ [] }
     ensures alone { (c : SchemaContent) (n : List (List ℕ)) → has_action c n ≡ false → captured_in c n ≡ [] }

@@ -23,6 +23,7 @@ pub trait Listed: Ord {
     /// The bytes of its text.
     ghost shown: { Self → List ℕ };
 
+    /// Adds its text at the end.
     fn push_to(&self, text: &mut String) -> Result<(), AllocError>
         ensures { OnOk result (Adds text.old text.new (shown self.now)) };
 }

@@ -8,16 +8,20 @@ use std::marker::Model;
 
 /// A value under its key, as it stands among entries.
 pub trait Keyed {
+    /// What the entries are ordered by.
     type Key: Ord;
 
+    /// What stands under the key.
     type Value;
 
     /// The key and the value.
     ghost pair: { Self → Self.Key × Self.Value };
 
+    /// The key, lent.
     fn key(&self) -> &Self::Key
         ensures { result.now ≡ (pair self.now).0 };
 
+    /// The value, lent.
     fn value(&self) -> &Self::Value
         ensures { result.now ≡ (pair self.now).1 };
 }

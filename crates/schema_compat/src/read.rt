@@ -148,9 +148,12 @@ pub trait FragmentDeprecated: Drop {
     /// The value says it.
     ghost SaidByOldValue: { Data → Self → Type 0 };
 
+    /// What the JSON text says in the deprecated form, or its first fault as `from_deprecated_json_str` orders them; or out
+    /// of memory.
     fn from_deprecated_json_str(alloc: Global, json: &str) -> Result<Self, JsonDeserializationError>
         ensures { MatchResult result (SaidByOldText json.now) (IsOldTextError json.now) };
 
+    /// What the JSON value says in the deprecated form, or its first fault; or out of memory.
     fn from_deprecated_json_value(
         alloc: Global,
         json: Value,

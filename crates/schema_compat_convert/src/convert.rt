@@ -11,6 +11,7 @@ use std::alloc::Global;
 
 /// What is declared under a name in the deprecated form.
 pub trait Convert: Drop {
+    /// What stands for it in a fragment.
     type Out: Drop;
 
     /// What it must keep, in the order of the walk.

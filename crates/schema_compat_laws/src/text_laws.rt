@@ -8,8 +8,8 @@ ghost use Rattle.schema_compat.specs.Causes.{OldText, IsOldTextError};
 
 use cedar_identifiers::{NameText, RawName};
 
-/// A JSON text says one fragment at most in the deprecated form, or it is refused for one cause; memory may be out at any
-/// text.
+/// A JSON text says one fragment at most in the deprecated form, or it is refused for one cause, besides out of memory,
+/// which may come at any text.
 pub fn one_old_fragment_or_error()
     ensures fragment { (text : List ℕ) (f g : Fragment Raw ⟦<RawName as NameText>⟧) → OldText text f → OldText text g
         → f ≡ g }

@@ -19,7 +19,7 @@ pub fn names_are_own()
     ensures { (tree : List (Annotated Namespace)) → HaveOwnNames (joined tree) }
 {}
 
-/// Each annotation key of a joined namespace has the value of the first opening that has the key, be it no value.
+/// Where several openings of a namespace have one annotation key, the earliest of them gives its value, or gives it none.
 pub fn first_openings_have_values()
     ensures { (key : AnyId) (openings : List (Annotated Namespace)) → value_of key (first_values openings) ≡ first_some (λ n. value_of key n.annotations) openings }
 {}

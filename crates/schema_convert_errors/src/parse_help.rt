@@ -6,7 +6,7 @@ use cedar_data::Text;
 use schema_syntax_errors::ParseError;
 use std::alloc::{AllocError, Global};
 
-/// The advice that a fault of parsing gives for the source, if it gives any. It errs where memory is out.
+/// The advice that a fault of parsing gives for the source, if it gives any. It errs when out of memory.
 pub fn parse_error_help(
     alloc: Global,
     source: &str,

@@ -15,15 +15,15 @@ use cedar_identifiers::NameText;
 use cedar_identifiers::name_laws::unreserved_ids_go_by_text;
 use std::hash::Hash;
 
-// Equality is an equivalence, and the order is total and agrees with it.
+// `eq` is reflexive, symmetric and transitive, and `cmp` is a total order, by which values are level just where they are equal.
 pub(crate) fn ordered<T: Ord>()
     ensures equivalence { IsEquivalence T.eq }
     ensures order { IsTotalOrder T.cmp }
     ensures agrees { (a b : T) → T.eq a b ≡ eq_by_cmp T.cmp a b }
 {}
 
-/// Comparisons of types are lawful for every lawful type of names: equality is an equivalence, and the order is total and
-/// agrees with it.
+/// Comparisons of types are lawful for every lawful type of names: `eq` is reflexive, symmetric and transitive, and `cmp` is a
+/// total order, by which two types are level exactly where they are equal.
 pub fn types_are_lawful<N: Ord>()
     ensures types { IsLawfulComparison ⟦<Type<N> as PartialEq>⟧.eq ⟦<Type<N> as Ord>⟧.cmp }
     ensures shapes { IsLawfulComparison ⟦<TypeVariant<N> as PartialEq>⟧.eq ⟦<TypeVariant<N> as Ord>⟧.cmp }
@@ -36,7 +36,7 @@ pub fn types_are_lawful<N: Ord>()
     ordered::<TypeOfAttribute<N>>();
 }
 
-/// Comparisons of common types and entity types are lawful.
+/// Comparisons of common types and entity types are lawful for every lawful type of names.
 pub fn declared_types_are_lawful<N: Ord>()
     ensures common_ids { IsLawfulComparison ⟦<CommonTypeId as PartialEq>⟧.eq ⟦<CommonTypeId as Ord>⟧.cmp }
     ensures common_types { IsLawfulComparison ⟦<CommonType<N> as PartialEq>⟧.eq ⟦<CommonType<N> as Ord>⟧.cmp }
@@ -53,7 +53,7 @@ pub fn declared_types_are_lawful<N: Ord>()
     ordered::<AttributesOrContext<N>>();
 }
 
-/// Comparisons of actions, namespaces and fragments are lawful.
+/// Comparisons of actions, namespaces and fragments are lawful for every lawful type of names.
 pub fn fragments_are_lawful<N: NameText + Ord>()
     ensures action_types { IsLawfulComparison ⟦<ActionType<N> as PartialEq>⟧.eq ⟦<ActionType<N> as Ord>⟧.cmp }
     ensures applies_to { IsLawfulComparison ⟦<ApplySpec<N> as PartialEq>⟧.eq ⟦<ApplySpec<N> as Ord>⟧.cmp }
@@ -68,7 +68,7 @@ pub fn fragments_are_lawful<N: NameText + Ord>()
     ordered::<Fragment<N>>();
 }
 
-/// Equal types hash alike.
+/// Equal types hash alike, for every lawful type of names.
 pub fn types_hash_alike<N: Ord + Hash>()
     ensures types { HashesAlike ⟦<Type<N> as PartialEq>⟧.eq ⟦<Type<N> as Hash>⟧.hash_input }
     ensures shapes { HashesAlike ⟦<TypeVariant<N> as PartialEq>⟧.eq ⟦<TypeVariant<N> as Hash>⟧.hash_input }
@@ -81,7 +81,7 @@ pub fn types_hash_alike<N: Ord + Hash>()
     lawful::<TypeOfAttribute<N>>();
 }
 
-/// Equal common types and entity types hash alike.
+/// Equal common types and entity types hash alike, for every lawful type of names.
 pub fn declared_types_hash_alike<N: Ord + Hash>()
     ensures common_ids { HashesAlike ⟦<CommonTypeId as PartialEq>⟧.eq ⟦<CommonTypeId as Hash>⟧.hash_input }
     ensures common_types { HashesAlike ⟦<CommonType<N> as PartialEq>⟧.eq ⟦<CommonType<N> as Hash>⟧.hash_input }
@@ -98,7 +98,7 @@ pub fn declared_types_hash_alike<N: Ord + Hash>()
     lawful::<AttributesOrContext<N>>();
 }
 
-/// Equal actions, namespaces and fragments hash alike.
+/// Equal actions, namespaces and fragments hash alike, for every lawful type of names.
 pub fn fragments_hash_alike<N: NameText + Ord + Hash>()
     ensures action_types { HashesAlike ⟦<ActionType<N> as PartialEq>⟧.eq ⟦<ActionType<N> as Hash>⟧.hash_input }
     ensures applies_to { HashesAlike ⟦<ApplySpec<N> as PartialEq>⟧.eq ⟦<ApplySpec<N> as Hash>⟧.hash_input }

@@ -23,7 +23,7 @@ pub fn sayable_fragments_read_back()
 {}
 
 /// Reading the JSON value of a sayable fragment gives the fragment, places aside, and nothing else; it is refused only
-/// where memory is out.
+/// when out of memory.
 pub fn sayable_values_are_read()
     ensures said { (f : Fragment Raw ⟦<RawName as NameText>⟧) → IsSayableFragment f
         → ValueShape (json_value ⟦<RawName as NameText>⟧.components f) (bare_fragment f) }
@@ -34,7 +34,7 @@ pub fn sayable_values_are_read()
 {}
 
 /// Reading a text that holds the JSON value of a sayable fragment gives the fragment, places aside, and nothing else; it
-/// is refused only where memory is out.
+/// is refused only when out of memory.
 pub fn sayable_texts_are_read()
     ensures said { (text : List ℕ) (f : Fragment Raw ⟦<RawName as NameText>⟧) → IsSayableFragment f
         → Holds text (json_value ⟦<RawName as NameText>⟧.components f) → TextShape text (bare_fragment f) }
@@ -45,7 +45,7 @@ pub fn sayable_texts_are_read()
 {}
 
 /// Reading the compact text of the JSON value of a sayable fragment gives the fragment, places aside, and nothing else,
-/// where the value is nested no deeper than JSON that is read may be; it is refused only where memory is out.
+/// where the value is nested no deeper than JSON that is read may be; it is refused only when out of memory.
 pub fn written_texts_are_read()
     ensures said { (f : Fragment Raw ⟦<RawName as NameText>⟧) → IsSayableFragment f
         → depth (json_value ⟦<RawName as NameText>⟧.components f) ≤ max_depth

@@ -139,9 +139,11 @@ pub trait FragmentJson: Drop {
     /// The value says it.
     ghost SaidByValue: { Data → Self → Type 0 };
 
+    /// What the JSON text says, or its first fault as `from_json_str` orders them; or out of memory.
     fn from_json_str(alloc: Global, json: &str) -> Result<Self, JsonDeserializationError>
         ensures { MatchResult result (SaidByText json.now) (IsTextError json.now) };
 
+    /// What the JSON value says, or its first fault; or out of memory.
     fn from_json_value(alloc: Global, json: Value) -> Result<Self, JsonDeserializationError>
         ensures { MatchResult result (SaidByValue (view json)) (IsValueError (view json)) };
 }

@@ -61,7 +61,7 @@ one_repeated text x y (j, is, f) (i, too, g) =
 
 -- ---- causes
 
--- the cause of a refusal that is no want of memory, where this tells the first fault of a value
+-- the cause of a refusal, other than being out of memory, where this tells the first fault of a value
 pub data CauseOf (IsFirst : Data → JsonFault → Type 0) (text : List ℕ) (e : JsonFault) : Type 0 where
   no_json : e ≡ cause.NotJson → read text ≡ None → CauseOf IsFirst text e
   repeats : (d : Data) (key : List ℕ) → read text ≡ Some d → RepeatedKey text key → e ≡ cause.RepeatedKey (chars key)

@@ -31,7 +31,8 @@ pub fn one_fragment_or_fault()
         → ¬ IsShapeFault d e }
 {}
 
-/// A JSON text says one fragment at most, or it is refused for one cause; memory may be out at any text.
+/// A JSON text says one fragment at most, or it is refused for one cause, besides out of memory, which may come at
+/// any text.
 pub fn one_fragment_or_error()
     ensures fragment { (text : List ℕ) (f g : Fragment Raw ⟦<RawName as NameText>⟧) → TextShape text f
         → TextShape text g → f ≡ g }

@@ -19,8 +19,10 @@ pub trait Entry {
     ghost use Rattle.schema_json_shapes.specs.Walk.{Demand};
     ghost use Rattle.schema_json_shapes.specs.Reads.{Reads};
 
+    /// What a key says.
     type Key: Ord + Drop;
 
+    /// What a value says.
     type Item: Drop;
 
     ghost asks: { List ℕ → Data → List Demand };
@@ -29,6 +31,7 @@ pub trait Entry {
 
     ghost is_item: { Data → Self.Item → Type 0 };
 
+    /// What the key and the value say, or their first fault; or out of memory.
     fn read(alloc: Global, key: &str, value: &Value) -> Result<(Self::Key, Self::Item), ShapeFault>
         ensures { Reads result (asks key.now (view value.now))
             (λ entry. is_key key.now entry.0 × is_item (view value.now) entry.1) };

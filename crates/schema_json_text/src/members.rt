@@ -13,9 +13,11 @@ pub trait Member {
     /// The bytes of its key, and its value.
     ghost entry: { Self → List ℕ × Data };
 
+    /// The key, lent.
     fn key(&self) -> &str
         ensures { result.now ≡ (entry self.now).0 };
 
+    /// Adds the text of the value at the end.
     fn push_value(&self, out: &mut String, alloc: Global) -> Result<(), AllocError>
         ensures { OnOk result (AddsValue out.old out.new (entry self.now).1) };
 }

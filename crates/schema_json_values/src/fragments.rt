@@ -131,6 +131,7 @@ pub trait WriteJson {
     /// Its JSON value.
     ghost json_value: { Self → Data };
 
+    /// Its JSON value, or an error when out of memory.
     fn to_json_value(&self, alloc: Global) -> Result<Value, AllocError>
         ensures { IfOk result (λ v. view v ≡ json_value self.now) };
 }

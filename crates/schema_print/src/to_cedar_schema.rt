@@ -48,6 +48,7 @@ pub trait ToCedarSchema {
     /// Why it has none.
     ghost CannotPrint: { Self → Refusal → Type 0 };
 
+    /// Its text, or why it has none; or out of memory.
     fn to_cedarschema(&self, alloc: Global) -> Result<Text, ToCedarSchemaSyntaxError>
         ensures text { IfOk result (λ text. encode_utf8_all text ≡ schema_text self.now) }
         ensures printable { IfOk result (λ text. CanPrint self.now) }

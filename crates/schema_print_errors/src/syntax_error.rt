@@ -27,7 +27,7 @@ impl Drop for UnconvertibleEntityTypeShapeError {
     }
 }
 
-/// Why a fragment cannot be printed: names collide, a shape is no record, or memory is wanted.
+/// Why a fragment cannot be printed: names collide, a shape is no record, or out of memory.
 #[derive(Drop)]
 pub enum ToCedarSchemaSyntaxError {
     NameCollisions(NameCollisionsError),

@@ -39,7 +39,7 @@ pub fn spelled_types_are_read()
     one_value();
 }
 
-/// A type that is laid out has lexemes that spell it, and is read as them.
+/// A proper type that is laid out has lexemes that spell it, and is read as them; the type of a meaning, laid out, is its text.
 pub fn laid_types_are_spelled()
     ensures spelled { (closing : Bool) (base : ℕ) (t : WrittenType) → IsProperType t → SpellsType (lexemes_of (type_pieces closing base t)) t }
     ensures read { (closing : Bool) (base : ℕ) (t : WrittenType) → IsProperType t → IsReadAs (laid (type_pieces closing base t)) (lexemes_of (type_pieces closing base t)) }
@@ -56,7 +56,7 @@ pub fn spelled_schemas_are_read()
     one_value();
 }
 
-/// A schema that is laid out has lexemes that spell it, and is read as them.
+/// A schema of proper groups that is laid out has lexemes that spell it, and is read as them.
 pub fn laid_schemas_are_spelled()
     ensures spelled { (closing : Bool) (groups : List Group) → AllByRecursion IsProperGroup groups → SpellsSchema (lexemes_of (schema_pieces closing groups)) (flat_map group_items groups) }
     ensures read { (closing : Bool) (groups : List Group) → AllByRecursion IsProperGroup groups → IsReadAs (laid (schema_pieces closing groups)) (lexemes_of (schema_pieces closing groups)) }
@@ -70,7 +70,7 @@ pub fn type_trees_by_form()
     ensures { (source : List ℕ) (t : TypeSyntax) (n : Node «Type») → IsTreeOfType source t n → ViewOfType source (out-TypeSyntax t) n }
 {}
 
-/// Tokens that spell annotations are read as the notes that they make.
+/// Tokens that spell annotations with distinct keys are read as the notes that they make.
 pub fn spelled_notes_are_read()
     ensures { (source : List ℕ) (u : List Lexeme) (written : List Note) (notes : Notes) → AreNotesOf u written → AreArranged written notes → (ts : List Token) → Spells source ts u → ReadsNotes source ts notes }
 {
@@ -82,7 +82,7 @@ pub fn texts_of_meanings_are_laid_out()
     ensures { (closing : Bool) (m : SchemaMeaning) → laid (schema_pieces closing (groups_of_meaning m)) ≡ schema_text closing m }
 {}
 
-/// A schema that is laid out, with or without a comma behind each last member, reads back.
+/// A schema of proper groups that is laid out, with or without a comma behind each last member, reads back.
 pub fn laid_schemas_read_back()
     ensures { (closing : Bool) (groups : List Group) → AllByRecursion IsProperGroup groups → ReadsBack (laid (schema_pieces closing groups)) (flat_map group_items groups) }
 {
@@ -90,7 +90,7 @@ pub fn laid_schemas_read_back()
     laid_schemas_are_spelled();
 }
 
-/// The text of a meaning reads back in either layout.
+/// The text of a meaning reads back in either layout, where what is written of the meaning is proper groups.
 pub fn texts_of_meanings_read_back()
     ensures { (closing : Bool) (m : SchemaMeaning) → AllByRecursion IsProperGroup (groups_of_meaning m) → ReadsBack (schema_text closing m) (flat_map group_items (groups_of_meaning m)) }
 {
@@ -98,7 +98,7 @@ pub fn texts_of_meanings_read_back()
     texts_of_meanings_are_laid_out();
 }
 
-/// What the tree of a type says, its lexemes spell.
+/// What the tree of a type without a user fault says, its lexemes spell.
 pub fn type_trees_are_spelled()
     ensures { (source : List ℕ) (ts : List Token) (t : TypeSyntax) (n : Node «Type») (u : List Lexeme) → IsType ts t → IsTreeOfType source t n → All (IsFaultless source) (sites_of_type t) → Spells source ts u → SaidType n.node u }
 {}
@@ -109,6 +109,7 @@ pub fn trees_are_spelled()
 {}
 
 /// Where two texts have the same lexemes, and the first is lawful, the second has a lawful syntax and a tree that says the same.
+/// Tokens that stand at places of a text spell the lexemes there.
 pub fn lexemes_decide_what_is_said()
     ensures same { (source other : List ℕ) (ts us : List Token) (u : List Lexeme) (items : List ItemSyntax) (tree : List (Annotated Namespace)) → Spells source ts u → Spells other us u → IsSyntax ts items → IsLawful source items
         → IsTreeOf source items tree → (w : List WrittenItem) × AllZip SaysItem tree w × ReadsSchema other us w }

@@ -23,6 +23,7 @@ use std::alloc::Global;
 
 /// What references mean, where it is known what is defined.
 pub trait FullyQualify {
+    /// What is given, with names in place of references.
     type Out;
 
     ghost resolved: { Definitions → Self → Self.Out };

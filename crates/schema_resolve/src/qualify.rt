@@ -17,6 +17,7 @@ use std::alloc::{AllocError, Global};
 
 /// What names refer to in a namespace.
 pub trait Qualify {
+    /// What is given, with references in place of names.
     type Out;
 
     ghost qualified: { Option InternalName → Self → Self.Out };

@@ -67,7 +67,7 @@ pub(crate) fn written(alloc: Global, ty: &Option<RawName>) -> Result<RawName, Al
     }
 }
 
-// The answer, or want of memory.
+// The answer, or an error when out of memory.
 pub(crate) fn or_memory<T>(answer: Result<T, Stop>) -> Result<T, AllocError>
     ensures { IfOk result (λ out. answer ≡ Ok out) }
 {

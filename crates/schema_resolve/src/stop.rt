@@ -7,8 +7,8 @@ use schema_resolve_errors::ResolveError;
 use std::alloc::{AllocError, AllocFailed, Global};
 use std::marker::Model;
 
-// Why names are not replaced, which contracts see as the error: the error stands in a box, and is none where memory is
-// wanted. It is small, since each level hands it up.
+// Why names are not replaced, which contracts see as the error: the error stands in a box, and is none when out of
+// memory. It is small, since each level hands it up.
 #[derive(Drop)]
 pub(crate) struct Stop {
     error: Option<Boxed<ResolveError>>,

@@ -13,7 +13,7 @@ pub struct TypeNotDefinedError {
 #[derive(Drop)]
 pub struct ActionNotDefinedError(pub NonEmpty<ActionEntityUID<ConditionalName>>);
 
-/// Why a fragment cannot be resolved: a reference means nothing, or memory is wanted.
+/// Why a fragment cannot be resolved: a reference means nothing, or out of memory.
 #[derive(Drop)]
 pub enum ResolveError {
     TypeNotDefined(TypeNotDefinedError),

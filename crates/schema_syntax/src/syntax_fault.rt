@@ -57,7 +57,7 @@ fn unrecognized_eof(tokens: &[ShortToken], expected: Vec<TokenKind>) -> SyntaxFa
 pub enum Refused {
     /// The text has this syntax fault.
     Fault(SyntaxFault),
-    /// Memory ran out.
+    /// Out of memory.
     Memory,
 }
 

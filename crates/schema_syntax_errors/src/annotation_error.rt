@@ -6,7 +6,7 @@ use crate::user_error::UserError;
 use cedar_data::{CloneIn, Label, Severity, Text, message};
 use std::alloc::{AllocError, AllocFailed, Global};
 
-/// Why annotations were not put on an item: a key stands twice, or memory ran out.
+/// Why annotations were not put on an item: a key stands twice, or out of memory.
 #[derive(PartialEq, Eq, Drop)]
 pub enum AnnotationError {
     User(UserError),

@@ -7,7 +7,7 @@ use crate::parse_errors::ParseErrors;
 use cedar_data::{CloneIn, Label, Severity, Text, message};
 use std::alloc::{AllocError, AllocFailed, Global};
 
-/// Why a text was not read as a schema: its faults, or that memory ran out.
+/// Why a text was not read as a schema: its faults, or out of memory.
 #[derive(PartialEq, Eq, Drop)]
 pub enum ParseSchemaError {
     Errors(ParseErrors),

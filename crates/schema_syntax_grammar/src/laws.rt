@@ -11,7 +11,7 @@ pub fn one_expected()
     ensures { (kinds first second : List TokenKind) → IsExpected ALL_KINDS kinds first → IsExpected ALL_KINDS kinds second → first ≡ second }
 {}
 
-/// Where something may come next, the list of it is not empty.
+/// Where kinds begin a sentence, the list of what may come next is not empty.
 pub fn expected_is_not_empty()
     ensures { (kinds list : List TokenKind) → Viable kinds → IsExpected ALL_KINDS kinds list → list ≢ [] }
 {}

@@ -24,7 +24,7 @@ pub fn one_tree()
     one_value();
 }
 
-/// No two user faults of a text end together.
+/// No two user faults of a text in UTF-8 end together.
 pub fn no_two_user_faults_end_together()
     ensures { (text : List ℕ) (tokens : List Token) (items : List ItemSyntax) (f g : UserError) (end : ℕ) → IsUtf8 text
         → Scans text tokens (length text) → IsSyntax tokens items → HasUserFault text items f end
@@ -33,7 +33,7 @@ pub fn no_two_user_faults_end_together()
     one_value();
 }
 
-/// A text has at most one error: one syntax fault, or one user fault that ends first.
+/// A text in UTF-8 has at most one error: one syntax fault, or one user fault that ends first.
 pub fn one_error()
     ensures { (text : List ℕ) → IsUtf8 text → (error other : ParseError) → IsErrorOf text error → IsErrorOf text other
         → error ≡ other }

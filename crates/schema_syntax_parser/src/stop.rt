@@ -2,7 +2,7 @@ ghost use Rattle.std.specs.Prelude.{◌≡◌};
 
 use std::alloc::{AllocError, AllocFailed};
 
-/// Why nothing was read or built: memory ran out, or the tokens, or what stands for them, are not those of a schema.
+/// Why nothing was read or built: out of memory, or the tokens, or what stands for them, are not those of a schema.
 #[derive(Drop)]
 pub enum Stop {
     Memory,

@@ -24,10 +24,12 @@ pub trait Turns {
     ghost use Rattle.schema_syntax_tokens.specs.declared.token.Token.{Token as Part};
     ghost use Rattle.schema_syntax_parser.specs.Reading as reading;
 
+    /// An item of the list.
     type Item: Drop;
 
     ghost turns: { List Part → Option (reading.Turn Self.Item) };
 
+    /// The next turn of the list, at the front of the tokens.
     fn turn(alloc: Global, tokens: &[ShortToken]) -> Result<Turn<'_, Self::Item>, Stop>
         ensures { Gives turn_of result (turns tokens.now) };
 }

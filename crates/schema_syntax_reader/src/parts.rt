@@ -12,8 +12,10 @@ pub trait Part<'a> {
     ghost use Rattle.schema_syntax_reader.specs.Sites.{Site};
     ghost use Rattle.schema_syntax_reader.specs.Readings.{Reads};
 
+    /// The syntax of a part.
     type Raw: Drop;
 
+    /// What a part stands for.
     type Item: Drop;
 
     ghost fits: { List ℕ → Self.Raw → Type 0 };
@@ -22,6 +24,7 @@ pub trait Part<'a> {
 
     ghost stands_for: { List ℕ → Self.Raw → Self.Item → Type 0 };
 
+    /// What the part stands for, or the fault of a site of it; or out of memory.
     fn read(alloc: Global, text: &'a str, raw: Self::Raw) -> Result<Self::Item, Stopped>
         requires { fits text.now raw }
         ensures { Reads text.now (sites raw) (stands_for text.now raw) result };

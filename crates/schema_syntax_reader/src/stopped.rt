@@ -4,7 +4,7 @@ use cedar_data::Boxed;
 use schema_syntax_errors::UserError;
 use std::alloc::{AllocError, AllocFailed};
 
-/// Why sites were not read: memory ran out, or a site has a fault, which stands in a box, since each level hands it up.
+/// Why sites were not read: out of memory, or a site has a fault, which stands in a box, since each level hands it up.
 #[derive(Drop)]
 pub enum Stopped {
     Memory,

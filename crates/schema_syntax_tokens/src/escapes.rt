@@ -12,7 +12,7 @@ use std::alloc::{AllocError, Global};
 pub enum Refusal {
     /// No lawful escape starts at this byte of the body, where a backslash stands.
     Escape(usize),
-    /// Memory ran out.
+    /// Out of memory.
     Memory,
 }
 

@@ -27,7 +27,7 @@ pub fn quoted_is_one_string()
     ensures value { (cs : List ℕ) → Unescapes (quoted_body cs) cs }
 {}
 
-/// The pieces of a string, read as bytes, are its pieces, read as characters.
+/// A text is the body of a string by its bytes exactly where it is one by its characters.
 pub fn pieces_by_characters()
     ensures { (cs : List ℕ) → (IsBody (encode_utf8_all cs) ↔ IsBody cs) }
 {}

@@ -79,7 +79,7 @@ fn push_body(text: &mut Text, value: &str) -> Result<(), AllocError>
     text.push_str(rest)
 }
 
-/// Writes the text as a string, or, where memory is out, a front of it.
+/// Writes the text as a string, or, when out of memory, a front of it.
 fn push_whole(text: &mut Text, value: &str) -> Result<(), AllocError>
     ensures ok { OnOk result (text.new ≡ text.old ++ chars (quoted (chars value.now))) }
     ensures err { OnErr result (WritesFront text.old text.new (chars (quoted (chars value.now)))) }
@@ -89,7 +89,7 @@ fn push_whole(text: &mut Text, value: &str) -> Result<(), AllocError>
     text.push_str("\"")
 }
 
-/// Writes the text as a string: `"`, each character, escaped where it must be, and `"`. Where memory is out, nothing is written.
+/// Writes the text as a string: `"`, each character, escaped where it must be, and `"`. When out of memory, nothing is written.
 pub fn push_quoted(text: &mut Text, value: &str) -> Result<(), AllocError>
     ensures ok { OnOk result (text.new ≡ text.old ++ chars (quoted (chars value.now))) }
     ensures err { OnErr result (text.new ≡ text.old) }

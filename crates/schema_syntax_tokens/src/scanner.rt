@@ -93,7 +93,7 @@ fn token_of(rest: &str) -> Option<(TokenKind, usize)>
 }
 
 /// The tokens of the text in little room, as far as there are any: `at` is the end of the text, or the place where neither a blank nor a
-/// token stands. A text of 4 GiB or more wants more memory than there is.
+/// token stands. A text of 4 GiB or more is answered by out of memory.
 pub fn scan_short(alloc: Global, text: &str) -> Result<ShortScan, AllocError>
     ensures scans { IfOk result (λ s. Scans text.now s.tokens.items s.at) }
     ensures placed { IfOk result (λ s. All (IsPlaced text.now) s.tokens.items) }
