@@ -5,7 +5,9 @@ use std::alloc::{AllocError, Global};
 
 /// A place that a report points to, and what it says there.
 pub struct Label {
+    /// The place.
     pub span: Loc,
+    /// What is said there, where anything is.
     pub text: Option<Text>,
 }
 

@@ -148,7 +148,7 @@ impl Text {
         self.held.as_str()
     }
 
-    /// Adds the characters at the end.
+    /// Adds the characters at the end. When out of memory, the text stays as it was.
     pub fn push_str(&mut self, more: &str) -> Result<(), AllocError>
         ensures ok { OnOk result (self.new ≡ self.old ++ chars more.now) }
         ensures err { OnErr result (self.new ≡ self.old) }
@@ -156,7 +156,7 @@ impl Text {
         self.held.push_str(self.alloc, more)
     }
 
-    /// Adds the text at the end.
+    /// Adds the other text at the end. When out of memory, this one stays as it was.
     pub fn push_text(&mut self, more: &Text) -> Result<(), AllocError>
         ensures ok { OnOk result (self.new ≡ self.old ++ more.now) }
         ensures err { OnErr result (self.new ≡ self.old) }

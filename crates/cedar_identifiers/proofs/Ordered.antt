@@ -14,7 +14,7 @@ use Rattle.cedar_identifiers.specs.declared.id.Id.{Id}
 use Rattle.cedar_identifiers.proofs.Ids.{id_is_word}
 use Rattle.cedar_data.proofs.Ascii.{word_bytes}
 
--- the same bytes
+-- whether two texts have the same bytes
 abbrev pub same : List ℕ → List ℕ → Bool
 same v w = bytes_eq (encode_utf8_all v) (encode_utf8_all w)
 

@@ -9,8 +9,11 @@ use std::alloc::{AllocError, Global};
 /// A reference: the names that it may stand for, the first that is defined before the others.
 #[derive(PartialEq, Eq, PartialOrd, Ord, Hash)]
 pub struct ConditionalName {
+    /// The names that it may stand for, in the order in which they are tried.
     pub possibilities: NonEmpty<InternalName>,
+    /// The name as it was written.
     pub raw: RawName,
+    /// What it may mean.
     pub reference_type: ReferenceType,
 }
 

@@ -24,7 +24,7 @@ impl Id {
     ghost use Rattle.std.specs.Prelude.{[], ◌∷◌, IfOk, IfErr};
     ghost use Rattle.cedar_identifiers.specs.NameReading.{ReadsAs, NameFaultOf};
 
-    /// Reads a word that stands alone, with nothing around it.
+    /// Reads a word that stands alone, with nothing around it, or tells the fault that keeps the text from being one.
     pub fn from_normalized_str(alloc: Global, s: &str) -> Result<Id, NameFault>
         ensures ok { IfOk result (λ id. ReadsAs NameKind.Id s.now (id.text ∷ [])) }
         ensures err { IfErr result (NameFaultOf NameKind.Id s.now) }

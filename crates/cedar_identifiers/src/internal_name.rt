@@ -18,7 +18,9 @@ use std::mem;
 /// A name: its components, the outermost first, with a place that no comparison sees.
 #[derive_where(PartialEq, Eq, PartialOrd, Ord, Hash)]
 pub struct InternalName {
+    /// The outermost component.
     pub first: Id,
+    /// The components behind it, the outermost first.
     pub others: List<Id>,
     #[derive_where(skip(EqHashOrd))]
     pub loc: Option<Loc>,
@@ -56,7 +58,7 @@ impl InternalName {
         }
     }
 
-    /// Reads a name without blanks in it. It has no place.
+    /// Reads a name without blanks in it, which has no place, or tells the fault that keeps the text from being one.
     pub fn from_normalized_str(alloc: Global, s: &str) -> Result<InternalName, NameFault>
         ensures ok { IfOk result (λ name. ReadsAs NameKind.InternalName s.now (components_of name)) }
         ensures placeless { IfOk result (λ name. name.loc ≡ None) }

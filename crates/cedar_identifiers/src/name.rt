@@ -26,7 +26,7 @@ impl Name {
     ghost use Rattle.std.specs.Option.{option_copied};
     ghost use Rattle.cedar_identifiers.specs.NameReading.{ReadsAs, NameFaultOf};
 
-    /// Reads a name without blanks in it. It has no place.
+    /// Reads a name without blanks in it, which has no place, or tells the fault that keeps the text from being one.
     pub fn from_normalized_str(alloc: Global, s: &str) -> Result<Name, NameFault>
         ensures ok { IfOk result (λ name. ReadsAs NameKind.Name s.now (components_of name.name)) }
         ensures placeless { IfOk result (λ name. name.name.loc ≡ None) }

@@ -10,11 +10,17 @@ use std::alloc::{AllocError, AllocFailed, Global};
 /// blanks, or a component is a reserved word.
 #[derive(Drop)]
 pub enum NameFault {
+    /// A word is due at the end of the text.
     End,
+    /// This piece cannot stand behind the pieces before it.
     Token(Text),
+    /// No piece stands at some place.
     Invalid,
+    /// The text has blanks.
     NotNormalized,
+    /// No component may be this word.
     Reserved(Text),
+    /// Out of memory.
     Memory,
 }
 
@@ -47,7 +53,7 @@ impl NameFault {
         Ok(Vec::new(alloc))
     }
 
-    /// How grave it is.
+    /// How grave it is: an error.
     pub fn severity(&self) -> Severity
         ensures error { result ≡ Severity.Error }
     {

@@ -9,10 +9,15 @@ use crate::reserved::{is_cedar, is_reserved};
 /// What a text is read as.
 #[derive(Clone, Copy, PartialEq, Eq)]
 pub enum NameKind {
+    /// Any word.
     AnyId,
+    /// A word that is not reserved.
     Id,
+    /// A word that is neither reserved nor `__cedar`.
     UnreservedId,
+    /// Words with `::` between two, none of them reserved.
     InternalName,
+    /// Words with `::` between two, none of them reserved or `__cedar`.
     Name,
 }
 

@@ -26,7 +26,7 @@ impl Drop for RawName {
 }
 
 impl RawName {
-    /// Reads a name without blanks in it. It has no place.
+    /// Reads a name without blanks in it, which has no place, or tells the fault that keeps the text from being one.
     pub fn from_normalized_str(alloc: Global, s: &str) -> Result<RawName, NameFault>
         ensures ok { IfOk result (λ name. ReadsAs NameKind.InternalName s.now (components_of name.name)) }
         ensures placeless { IfOk result (λ name. name.name.loc ≡ None) }

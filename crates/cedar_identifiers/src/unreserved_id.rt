@@ -26,7 +26,7 @@ impl UnreservedId {
     ghost use Rattle.std.specs.Prelude.{true, [], ◌∷◌, IfOk, IfErr, MatchOption};
     ghost use Rattle.cedar_identifiers.specs.NameReading.{ReadsAs, NameFaultOf};
 
-    /// Reads a word that stands alone, with nothing around it.
+    /// Reads a word that stands alone, with nothing around it, or tells the fault that keeps the text from being one.
     pub fn from_normalized_str(alloc: Global, s: &str) -> Result<UnreservedId, NameFault>
         ensures ok { IfOk result (λ id. ReadsAs NameKind.UnreservedId s.now (id.id.text ∷ [])) }
         ensures err { IfErr result (NameFaultOf NameKind.UnreservedId s.now) }

@@ -7,8 +7,11 @@ use std::alloc::{AllocError, Global};
 /// The calls of a device in memory, with the numbers of those that fail.
 #[derive(Drop)]
 pub struct Calls {
+    /// How many calls were made.
     pub made: u64,
+    /// The numbers of the calls that fail; the first call is number 1.
     pub failing: Vec<u64>,
+    /// How many faults were counted.
     pub faults: u64,
 }
 

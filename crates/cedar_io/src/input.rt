@@ -22,7 +22,8 @@ pub enum ReadEnd {
     Memory,
 }
 
-/// The whole input, read by pieces of at most 4,096 bytes. At most one byte more than an input may have is taken.
+/// The whole input, or why it was not read to its end. Each piece that is asked for has 4,096 bytes at most, and at most one byte
+/// more than an input may have is taken.
 pub fn read_input<S: Source>(alloc: Global, source: &mut S) -> Result<Vec<u8>, ReadEnd>
     ensures whole { IfOk result (λ bytes. HadLeft (S.left source.old) bytes.items) }
     ensures end { OnOk result (IsEnd (S.left source.new)) }

@@ -4,7 +4,7 @@ ghost use Rattle.cedar_io.specs.Outside.{Rose, Appends, AppendsPart};
 use crate::failed::Failed;
 use crate::sink::Sink;
 
-/// Writes the text whole, unless the sink fails.
+/// Writes the text whole. Where the sink fails, it took a front of the text, and not all of it, and counted a fault.
 pub fn write_text<O: Sink>(sink: &mut O, text: &str) -> Result<(), Failed>
     ensures whole { OnOk result (Appends (O.taken sink.old) text.now (O.taken sink.new)) }
     ensures nothing { text.now ≡ [] → sink.new ≡ sink.old }

@@ -28,7 +28,7 @@ impl<L: Ledger> Model for Steps<L> {
 }
 
 impl<L: Ledger> Steps<L> {
-    /// The steps that this book counts.
+    /// The steps that this book counts, with a share that has a part.
     pub fn new(book: Book<L>, share: Share<L>) -> Steps<L>
         requires { 0 < share.parts }
         ensures { result ≡ book.total }
@@ -36,7 +36,7 @@ impl<L: Ledger> Steps<L> {
         Steps { book, share }
     }
 
-    /// One step more.
+    /// Counts one step more.
     pub fn tick(&mut self)
         ensures { self.new ≡ self.old + 1 }
     {

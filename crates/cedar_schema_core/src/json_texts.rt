@@ -38,7 +38,7 @@ fn json_of(alloc: Global, fragment: &Fragment<RawName>) -> Result<Text, AllocErr
     fragment_text(alloc, fragment)
 }
 
-/// The compact JSON of the fragment that a schema text is translated to.
+/// The compact JSON of the fragment that a schema text is translated to. Refused is a text that has no fragment.
 pub fn to_json_text(alloc: Global, text: &str, table: &ExtensionTable) -> Result<Text, RecoverError>
     ensures written { IfOk result (IsJsonOfText text.now table.now) }
     ensures refused { IfErr result (IsUnparsed text.now) }
@@ -87,8 +87,9 @@ fn read(alloc: Global, text: &str, form: JsonForm) -> Result<Fragment<RawName>, 
     }
 }
 
-/// The canonical text of what a JSON text means under a table of extension types, with its counts. It has no warnings, and means
-/// the same exactly where that is not half filled.
+/// The canonical text of what a JSON text means under a table of extension types, with its counts. It has no warnings.
+/// It means what the JSON text means exactly where no action of this meaning is half filled. Refused are a text that says no
+/// fragment, one whose fragment has a build fault, and one whose canonical text would be read otherwise.
 pub fn recover_json(
     alloc: Global,
     text: &str,

@@ -81,7 +81,8 @@ pub(crate) fn print(alloc: Global, schema: &ValidatorSchema) -> Result<Text, Rec
     }
 }
 
-/// The canonical text of what a schema text means under a table of extension types, with its warnings and counts.
+/// The canonical text of what a schema text means under a table of extension types, with its warnings and counts. Refused are a
+/// text that has no fragment, one whose fragment has a build fault, and one whose canonical text would be read otherwise.
 pub fn recover_schema(
     alloc: Global,
     text: &str,

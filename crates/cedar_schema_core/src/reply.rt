@@ -11,7 +11,9 @@ use std::alloc::{AllocError, Global};
 #[derive(Drop)]
 pub struct Reply {
     pub status: Status,
+    /// What goes to the output.
     pub out: Text,
+    /// What goes to the error output.
     pub err: Text,
 }
 

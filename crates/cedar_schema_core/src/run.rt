@@ -154,14 +154,15 @@ pub fn run_tool<S: Source, O: Sink, E: Sink>(
     // its meaning was written, and nothing else.
     ensures completed { result ≡ Status.Done → (c : Command) × Asks (map string_bytes words.now) c × Completed c (device S.left S.faults source.old source.new) (device O.taken O.faults out.old out.new) (device E.taken E.faults err.old err.new) }
 
-    // Done by a recovery: the text that was written is valid under the same table, and means what the input means; of JSON, in the
-    // form that the command names, exactly where that is not half filled.
+    // Done by a recovery: the text that was written is valid under the same table, and means what the input means; of JSON, in
+    // the form that the command names, exactly where that is not half filled.
     ensures recovers { result ≡ Status.Done → (c : Command) × Asks (map string_bytes words.now) c × KeepsMeaning c (device S.left S.faults source.old source.new) (device O.taken O.faults out.old out.new) }
 
     // With no fault counted, the status is the one planned for the words and the input, or out of memory.
     ensures completes { (bytes : List ℕ) (plan : Report) → S.left source.old ≡ Some bytes → IsPlan (map string_bytes words.now) bytes plan → NoneCounted (device S.left S.faults source.old source.new) (device O.taken O.faults out.old out.new) (device E.taken E.faults err.old err.new) → (result ≡ plan.status) ⊎ (result ≡ Status.Memory) }
 
-    // A sink that surely takes what is planned for it counts no fault; of the error output this asks for room for a read fault's line where a read failed.
+    // A sink that surely takes what is planned for it counts no fault; of the error output this asks for room for a read fault's
+    // line where a read failed.
     ensures out_sure { (bytes : List ℕ) (plan : Report) → S.left source.old ≡ Some bytes → IsPlan (map string_bytes words.now) bytes plan → length plan.out ≤ O.sure out.old → O.faults out.new ≡ O.faults out.old }
     ensures err_sure { (bytes : List ℕ) (plan : Report) → S.left source.old ≡ Some bytes → IsPlan (map string_bytes words.now) bytes plan → length plan.err ≤ E.sure err.old → (Rose (S.faults source.old) (S.faults source.new) → length read_fault_report.err ≤ E.sure err.old) → E.faults err.new ≡ E.faults err.old }
 

@@ -35,6 +35,6 @@ module _ (means : (f g : Frag) (table : ExtensionTable) (m : SchemaMeaning) → 
         uncaptured = t.uncaptured;
       }
 
--- the same tokens, the other way round
+-- where one text has the tokens of another, the other has those of the one
 pub tokens_back : (text other : List ℕ) → HaveTheSameTokens text other → HaveTheSameTokens other text
 tokens_back text other h = record { lexemes = h.lexemes; first = h.second; second = h.first }

@@ -36,8 +36,9 @@ pub fn what_is_recovered_means_the_same()
     canonical_texts_mean_the_same();
 }
 
-/// What is recovered from JSON means the same: the text of what a JSON text means in its form, the one of today or the deprecated one,
-/// is valid under the same table, and means the same, exactly where no action has principals alone, resources alone or a context alone.
+/// What is recovered from JSON means the same: the text of what a JSON text means in its form, the one of today or the deprecated
+/// one, is valid under the same table, and means the same, exactly where no action has principals alone, resources alone or a
+/// context alone.
 pub fn what_is_recovered_from_json_means_the_same()
     ensures { (closing : Bool) (form : JsonForm) (text : List ℕ) (table : ExtensionTable) (m : SchemaMeaning)
         → JsonMeaning form text table m → TextMeaning (schema_text closing m) table m ↔ (¬ IsHalfFilled m) }

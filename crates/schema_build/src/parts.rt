@@ -62,7 +62,7 @@ fn enum_ancestor(ty: &ValidatorEntityType) -> Option<&Name>
     }
 }
 
-// The first enumerated entity type that lists an ancestor, with the least of these.
+// The first enumerated entity type with ancestors, and the least ancestor of it.
 pub(crate) fn first_enum_below(entities: &[(Name, ValidatorEntityType)]) -> Option<(&Name, &Name)>
     ensures { MatchOption result (NoneIs (λ e. IsEnumBelow e.1) entities.now) (λ found. (ty : EntityType) × IsFirstThat (λ e. IsEnumBelow e.1) entities.now (found.0.now, ty) × IsLeastName ty.ancestors found.1.now) }
 {

@@ -110,8 +110,8 @@ impl ValidatorSchema {
     }
 
     /// The schema of these entity types and actions, as they stand. Refused are an action whose type has another basename than
-    /// `Action`, the least of them as `InvalidActionType`, and else an enumerated entity type that lists an ancestor, the least
-    /// of them with the least of its ancestors as `EnumEntityInHierarchy`.
+    /// `Action`, the least of them as `InvalidActionType`, and else an enumerated entity type with ancestors, the least of
+    /// them and its least ancestor as `EnumEntityInHierarchy`.
     pub fn from_parts(
         alloc: Global,
         entity_types: Map<Name, ValidatorEntityType>,

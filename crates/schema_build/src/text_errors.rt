@@ -60,7 +60,7 @@ impl CedarSchemaParseError {
         self.errs.labels(alloc)
     }
 
-    /// How grave it is.
+    /// How grave it is: an error.
     pub fn severity(&self) -> Severity
         ensures error { result ≡ Severity.Error }
     {
@@ -91,8 +91,11 @@ fn with_json_help(alloc: Global, help: Option<Text>) -> Result<Option<Text>, All
 /// memory.
 #[derive(Drop)]
 pub enum CedarSchemaError {
+    /// Its fragment has this fault.
     Schema(SchemaError),
+    /// It has no fragment.
     Parsing(CedarSchemaParseError),
+    /// Out of memory.
     Memory,
 }
 
@@ -130,7 +133,7 @@ impl CedarSchemaError {
         }
     }
 
-    /// How grave it is.
+    /// How grave it is: an error.
     pub fn severity(&self) -> Severity
         ensures error { result ≡ Severity.Error }
     {

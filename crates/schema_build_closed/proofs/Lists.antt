@@ -32,7 +32,7 @@ each_has P xs x h c = All-contains P xs x (All-from_recursion P xs h) c
 pub all_have : {A : Type 0} (P : A → Type 0) (xs : List A) → ((x : A) → Contains xs x → P x) → AllByRecursion P xs
 all_have P xs each = recursion_from_All P xs (All-weaker (Contains xs) P (λ x c. each x c) xs (All-contains_itself xs))
 
--- the same, by index
+-- what holds of each member holds of all, by index
 pub all_of : {A : Type 0} (P : A → Type 0) (xs : List A) → ((x : A) → Contains xs x → P x) → All P xs
 all_of P xs each = All-weaker (Contains xs) P (λ x c. each x c) xs (All-contains_itself xs)
 

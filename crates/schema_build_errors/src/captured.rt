@@ -46,7 +46,8 @@ impl CloneIn for CapturedItem {
     }
 }
 
-/// A schema that cannot be printed, since a type of a named namespace with actions holds the type `Action` of the empty namespace, and would be read there as the type of the namespace's own actions.
+/// A schema that cannot be printed: something in a named namespace that has actions speaks of the type `Action` of the empty
+/// namespace, which would be read there as the type of the namespace's own actions.
 pub struct ReferenceCaptured {
     /// The namespace.
     pub namespace: Name,
@@ -87,7 +88,7 @@ impl ReferenceCaptured {
         Ok(Vec::new(alloc))
     }
 
-    /// How grave it is.
+    /// How grave it is: an error.
     pub fn severity(&self) -> Severity
         ensures error { result ≡ Severity.Error }
     {

@@ -49,7 +49,7 @@ impl CycleInCommonTypeReferencesError {
         place_labels(alloc, self.ty.loc)
     }
 
-    /// How grave it is.
+    /// How grave it is: an error.
     pub fn severity(&self) -> Severity
         ensures error { result ≡ Severity.Error }
     {
@@ -105,7 +105,7 @@ impl CycleInActionHierarchyError {
         place_labels(alloc, self.uid.loc)
     }
 
-    /// How grave it is.
+    /// How grave it is: an error.
     pub fn severity(&self) -> Severity
         ensures error { result ≡ Severity.Error }
     {

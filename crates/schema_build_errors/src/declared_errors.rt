@@ -43,7 +43,7 @@ impl ActionEntityTypeDeclaredError {
         place_labels(alloc, self.loc)
     }
 
-    /// How grave it is.
+    /// How grave it is: an error.
     pub fn severity(&self) -> Severity
         ensures error { result ≡ Severity.Error }
     {
@@ -84,7 +84,7 @@ impl TypeShadowingError {
         shadowing_text(alloc, &shadowing, &shadowed)
     }
 
-    /// Advice.
+    /// Advice, which it always has.
     pub fn help(&self, alloc: Global, _source: &str) -> Result<Option<Text>, AllocError>
         ensures help { IfOk result (λ help. IsSomeAnd help (λ text. text ≡ type_shadowing_help self.now)) }
     {
@@ -100,7 +100,7 @@ impl TypeShadowingError {
         place_labels(alloc, self.shadowing_def.loc)
     }
 
-    /// How grave it is.
+    /// How grave it is: an error.
     pub fn severity(&self) -> Severity
         ensures error { result ≡ Severity.Error }
     {
@@ -144,7 +144,7 @@ impl ActionShadowingError {
         shadowing_text(alloc, &shadowing, &shadowed)
     }
 
-    /// Advice.
+    /// Advice, which it always has.
     pub fn help(&self, alloc: Global, _source: &str) -> Result<Option<Text>, AllocError>
         ensures help { IfOk result (λ help. IsSomeAnd help (λ text. text ≡ action_shadowing_help self.now)) }
     {
@@ -160,7 +160,7 @@ impl ActionShadowingError {
         place_labels(alloc, self.shadowing_def.loc)
     }
 
-    /// How grave it is.
+    /// How grave it is: an error.
     pub fn severity(&self) -> Severity
         ensures error { result ≡ Severity.Error }
     {

@@ -36,7 +36,7 @@ impl ExternalWithEnumAncestorError {
         ancestor_message(alloc, &external, &ancestor)
     }
 
-    /// Advice.
+    /// Advice, which it always has.
     pub fn help(&self, alloc: Global, _source: &str) -> Result<Option<Text>, AllocError>
         ensures help { IfOk result (λ help. IsSomeAnd help (λ text. text ≡ enum_ancestor_help)) }
     {
@@ -54,7 +54,7 @@ impl ExternalWithEnumAncestorError {
         place_labels(alloc, self.external_type.name.loc)
     }
 
-    /// How grave it is.
+    /// How grave it is: an error.
     pub fn severity(&self) -> Severity
         ensures error { result ≡ Severity.Error }
     {
@@ -106,7 +106,7 @@ impl InvalidActionTypeError {
         Ok(Vec::new(alloc))
     }
 
-    /// How grave it is.
+    /// How grave it is: an error.
     pub fn severity(&self) -> Severity
         ensures error { result ≡ Severity.Error }
     {
@@ -152,7 +152,7 @@ impl EnumEntityInHierarchyError {
         Ok(text)
     }
 
-    /// Advice.
+    /// Advice, which it always has.
     pub fn help(&self, alloc: Global, _source: &str) -> Result<Option<Text>, AllocError>
         ensures help { IfOk result (λ help. IsSomeAnd help (λ text. text ≡ enum_parent_help)) }
     {
@@ -170,7 +170,7 @@ impl EnumEntityInHierarchyError {
         Ok(Vec::new(alloc))
     }
 
-    /// How grave it is.
+    /// How grave it is: an error.
     pub fn severity(&self) -> Severity
         ensures error { result ≡ Severity.Error }
     {

@@ -30,7 +30,7 @@ impl Refusal {
         Refusal { fault: None }
     }
 
-    /// The error, which takes memory for itself.
+    /// The refusal by this error, or an error when out of memory.
     pub fn new(alloc: Global, error: SchemaError) -> Result<Refusal, AllocError>
         ensures { IfOk result (λ refusal. refusal ≡ error) }
     {
@@ -38,7 +38,7 @@ impl Refusal {
         Ok(Refusal { fault: Some(fault) })
     }
 
-    /// The error.
+    /// The error, taken out of its box.
     pub fn into_error(self) -> SchemaError
         ensures { result ≡ self }
     {

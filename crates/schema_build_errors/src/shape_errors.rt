@@ -94,7 +94,7 @@ impl ContextOrShapeNotRecordError {
         type_message(alloc, &subject)
     }
 
-    /// Advice.
+    /// Advice, which it always has.
     pub fn help(&self, alloc: Global, _source: &str) -> Result<Option<Text>, AllocError>
         ensures help { IfOk result (λ help. IsSomeAnd help (λ text. text ≡ no_record_help self.now.ctx_or_shape)) }
     {
@@ -112,7 +112,7 @@ impl ContextOrShapeNotRecordError {
         place_labels(alloc, self.ctx_or_shape.loc().copied())
     }
 
-    /// How grave it is.
+    /// How grave it is: an error.
     pub fn severity(&self) -> Severity
         ensures error { result ≡ Severity.Error }
     {

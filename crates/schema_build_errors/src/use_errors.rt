@@ -46,7 +46,7 @@ impl UnknownExtensionTypeError {
         Ok(Vec::new(alloc))
     }
 
-    /// How grave it is.
+    /// How grave it is: an error.
     pub fn severity(&self) -> Severity
         ensures error { result ≡ Severity.Error }
     {
@@ -127,7 +127,7 @@ impl UnsupportedFeatureError {
         Ok(Vec::new(alloc))
     }
 
-    /// How grave it is.
+    /// How grave it is: an error.
     pub fn severity(&self) -> Severity
         ensures error { result ≡ Severity.Error }
     {
@@ -166,7 +166,7 @@ impl UndeclaredEntityTypesError {
         Ok(text)
     }
 
-    /// Advice.
+    /// Advice, which it always has.
     pub fn help(&self, alloc: Global, _source: &str) -> Result<Option<Text>, AllocError>
         ensures help { IfOk result (λ help. IsSomeAnd help (λ text. text ≡ undeclared_types_help)) }
     {
@@ -188,7 +188,7 @@ impl UndeclaredEntityTypesError {
         Ok(labels)
     }
 
-    /// How grave it is.
+    /// How grave it is: an error.
     pub fn severity(&self) -> Severity
         ensures error { result ≡ Severity.Error }
     {

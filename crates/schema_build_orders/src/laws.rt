@@ -37,7 +37,8 @@ pub fn what_declares_the_same_means_the_same()
 {}
 
 /// What is written again with whole items in another order, with the declarations of an opening in another order, or with the
-/// declarations of an opening divided over two, declares the same in each namespace. This holds both ways, and of one alone.
+/// declarations of an opening divided over two, declares the same in each namespace. Declaring the same goes both ways, and what
+/// is written declares the same as itself.
 pub fn reordered_texts_are_rearranged()
     ensures items { (w v : List WrittenItem) → IsReordered w v → AreRearranged w v }
     ensures declarations { (w v : List WrittenItem) → IsReorderedWithin w v → AreRearranged w v }

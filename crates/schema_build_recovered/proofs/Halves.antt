@@ -104,7 +104,7 @@ home_lacks n entities actions =
     (filter (λ a. same_name n (action_key a)) actions) in
     λ i. left i ++ right i
 
--- the same items, and the same lack
+-- a namespace on one side of the pivot has its items on this side, and lacks there what it lacks
 module _ (below : Bool) (pivot n : List (List ℕ)) (on : on_side below pivot n ≡ true) where
   entity_on : (e : Name × ValidatorEntityType) → same_name n (namespace (entity_content e).name) ≡ true
       → on_side below pivot (entity_key e) ≡ true

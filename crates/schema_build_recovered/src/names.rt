@@ -15,7 +15,9 @@ use std::cmp::Ordering;
 /// The words of a namespace, lent: the empty one has none. It is ordered by its words.
 #[derive(Clone, Copy, PartialEq, Eq, PartialOrd, Ord)]
 pub enum Words<'a> {
+    /// The empty namespace.
     Empty,
+    /// The outermost word, and those behind it.
     Some(&'a Id, &'a [Id]),
 }
 

@@ -107,7 +107,7 @@ namespaces_tie a b =
     (λ k. same_name (p k) (q k)) ∙ same_lists (front_ids (a.first ∷ a.others)) (front_ids (b.first ∷ b.others))
     ∙ sym (λ k. is_eq (slice_cmp text_cmp (p k) (q k)))
 
--- the same words
+-- names whose namespaces are found the same have the same words there
 pub one_namespace : (a b : InternalName) → same_name (namespace (components_of a)) (namespace (components_of b)) ≡ true
     → namespace (components_of a) ≡ namespace (components_of b)
 one_namespace a b h = same_list (namespace (components_of a)) (namespace (components_of b)) h

@@ -8,6 +8,7 @@ use std::alloc::{AllocError, Global};
 pub struct ValidatorActionId {
     /// All actions that it stands below.
     pub ancestors: List<Shared<EntityUID>>,
+    /// What is declared of it.
     pub kind: ValidatorActionKind,
 }
 

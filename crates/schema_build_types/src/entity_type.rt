@@ -7,6 +7,7 @@ use std::alloc::{AllocError, Global};
 pub struct ValidatorEntityType {
     /// All entity types that it stands below.
     pub ancestors: List<Shared<Name>>,
+    /// What is declared of it.
     pub kind: ValidatorEntityTypeKind,
 }
 

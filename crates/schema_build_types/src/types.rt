@@ -12,7 +12,9 @@ pub enum Type {
     Never,
     /// Both truth values.
     AnyBool,
+    /// The truth value `true` alone.
     True,
+    /// The truth value `false` alone.
     False,
     Long,
     String,

@@ -22,7 +22,7 @@ use schema_json_shapes::names::read_names;
 use serde_json::Value;
 use std::alloc::Global;
 
-// An action.
+// The action that a value says in the deprecated form, or its first fault, under the name `label`.
 pub(crate) fn read_action(
     alloc: Global,
     value: &Value,

@@ -16,7 +16,7 @@ use schema_json_shapes::leaves::wrong_type;
 use serde_json::Value;
 use std::alloc::Global;
 
-// An entity type.
+// The entity type that a value says in the deprecated form, or its first fault, under the name `label`.
 pub(crate) fn read_entity_type(
     alloc: Global,
     value: &Value,

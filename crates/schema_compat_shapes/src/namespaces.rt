@@ -27,7 +27,7 @@ use schema_json_shapes::{NameRole, ShapeFault};
 use serde_json::Value;
 use std::alloc::Global;
 
-// A namespace, by its key.
+// The namespace that the value under the key says in the deprecated form, or its first fault.
 pub(crate) fn read_namespace(
     alloc: Global,
     value: &Value,

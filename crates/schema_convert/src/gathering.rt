@@ -35,7 +35,7 @@ pub struct Gathered {
 }
 
 impl Gathered {
-    /// Nothing.
+    /// What no item defines.
     pub fn new(alloc: Global) -> Gathered
         ensures { (table : ExtensionTable) → IsGatheredOf table [] result }
     {

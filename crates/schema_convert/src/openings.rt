@@ -43,7 +43,7 @@ fn openings_by_name<'a>(
     Ok(groups)
 }
 
-/// Adds the declarations.
+/// Adds the declarations at the end, in order.
 pub fn push_all<'a>(
     decls: &mut Vec<Annotated<'a, Node<Declaration<'a>>>>,
     more: List<Annotated<'a, Node<Declaration<'a>>>>,

@@ -15,6 +15,7 @@ use std::alloc::{AllocError, Global};
 /// What keeps a tree from being a fragment: at least one fault, in order.
 #[derive(PartialEq, Eq)]
 pub struct ToJsonSchemaErrors {
+    /// The faults, in order.
     pub errors: NonEmpty<ToJsonSchemaError>,
 }
 
@@ -96,7 +97,9 @@ impl CloneIn for ToJsonSchemaErrors {
 /// Why a tree was not made a fragment.
 #[derive(PartialEq, Eq, Drop)]
 pub enum ToJsonSchemaFailure {
+    /// The tree has these faults.
     Errors(ToJsonSchemaErrors),
+    /// Out of memory.
     Memory,
 }
 
@@ -131,7 +134,7 @@ impl ToJsonSchemaFailure {
         }
     }
 
-    /// How grave it is.
+    /// How grave it is: an error.
     pub fn severity(&self) -> Severity
         ensures error { result ≡ Severity.Error }
     {
@@ -153,8 +156,11 @@ impl CloneIn for ToJsonSchemaFailure {
 /// Why a text was not made a fragment: it has no tree, or its tree is none.
 #[derive(PartialEq, Eq, Drop)]
 pub enum CedarSchemaParseErrors {
+    /// The text has no tree.
     SyntaxError(ParseErrors),
+    /// The tree is no fragment.
     JsonError(ToJsonSchemaErrors),
+    /// Out of memory.
     Memory,
 }
 
@@ -194,7 +200,7 @@ impl CedarSchemaParseErrors {
         }
     }
 
-    /// How grave it is.
+    /// How grave it is: an error.
     pub fn severity(&self) -> Severity
         ensures error { result ≡ Severity.Error }
     {

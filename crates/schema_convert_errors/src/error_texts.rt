@@ -61,7 +61,7 @@ impl DuplicateDeclarations {
         bare_labels(alloc, self.loc1, self.loc2)
     }
 
-    /// How grave it is.
+    /// How grave it is: an error.
     pub fn severity(&self) -> Severity
         ensures error { result ≡ Severity.Error }
     {
@@ -96,7 +96,7 @@ impl DuplicateContext {
         bare_labels(alloc, self.loc1, self.loc2)
     }
 
-    /// How grave it is.
+    /// How grave it is: an error.
     pub fn severity(&self) -> Severity
         ensures error { result ≡ Severity.Error }
     {
@@ -129,7 +129,7 @@ impl DuplicatePrincipalOrResource {
         bare_labels(alloc, self.loc1, self.loc2)
     }
 
-    /// How grave it is.
+    /// How grave it is: an error.
     pub fn severity(&self) -> Severity
         ensures error { result ≡ Severity.Error }
     {
@@ -165,7 +165,7 @@ impl NoPrincipalOrResource {
         }
     }
 
-    /// How grave it is.
+    /// How grave it is: an error.
     pub fn severity(&self) -> Severity
         ensures error { result ≡ Severity.Error }
     {
@@ -195,7 +195,7 @@ impl DuplicateNamespace {
         bare_labels(alloc, self.loc1, self.loc2)
     }
 
-    /// How grave it is.
+    /// How grave it is: an error.
     pub fn severity(&self) -> Severity
         ensures error { result ≡ Severity.Error }
     {
@@ -227,7 +227,7 @@ impl UnknownTypeName {
         bare_label(alloc, self.loc)
     }
 
-    /// How grave it is.
+    /// How grave it is: an error.
     pub fn severity(&self) -> Severity
         ensures error { result ≡ Severity.Error }
     {
@@ -257,7 +257,7 @@ impl ReservedName {
         bare_label(alloc, self.loc)
     }
 
-    /// How grave it is.
+    /// How grave it is: an error.
     pub fn severity(&self) -> Severity
         ensures error { result ≡ Severity.Error }
     {
@@ -292,7 +292,7 @@ impl ReservedSchemaKeyword {
         bare_label(alloc, self.loc)
     }
 
-    /// How grave it is.
+    /// How grave it is: an error.
     pub fn severity(&self) -> Severity
         ensures error { result ≡ Severity.Error }
     {
@@ -413,7 +413,7 @@ impl ToJsonSchemaError {
         }
     }
 
-    /// How grave it is.
+    /// How grave it is: an error.
     pub fn severity(&self) -> Severity
         ensures error { result ≡ Severity.Error }
     {

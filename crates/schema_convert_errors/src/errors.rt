@@ -5,8 +5,11 @@ use std::alloc::{AllocError, Global};
 /// A name that is declared twice in a namespace, with the place of its first declaration and that of the second.
 #[derive(PartialEq, Eq)]
 pub struct DuplicateDeclarations {
+    /// The name.
     pub decl: Text,
+    /// The place of the first declaration.
     pub loc1: Option<Loc>,
+    /// The place of the second.
     pub loc2: Option<Loc>,
 }
 
@@ -23,8 +26,11 @@ impl Drop for DuplicateDeclarations {
 /// A second context of an action, with the places of the first and the second.
 #[derive(PartialEq, Eq)]
 pub struct DuplicateContext {
+    /// The action's name.
     pub name: Text,
+    /// The place of the first context.
     pub loc1: Option<Loc>,
+    /// The place of the second.
     pub loc2: Option<Loc>,
 }
 
@@ -41,9 +47,13 @@ impl Drop for DuplicateContext {
 /// A second list of an action's principals or resources, with the places of the first and the second.
 #[derive(PartialEq, Eq)]
 pub struct DuplicatePrincipalOrResource {
+    /// The action's name.
     pub name: Text,
+    /// Which of the two the lists are of.
     pub kind: PR,
+    /// The place of the first list.
     pub loc1: Option<Loc>,
+    /// The place of the second.
     pub loc2: Option<Loc>,
 }
 
@@ -61,7 +71,9 @@ impl Drop for DuplicatePrincipalOrResource {
 /// Why an action has no principals or resources: the list is not there, or it is `[]`.
 #[derive(PartialEq, Eq)]
 pub enum MissingOrEmpty {
+    /// The list is not there.
     Missing,
+    /// The list is `[]`, and stands at this place.
     Empty { loc: Option<Loc> },
 }
 
@@ -77,9 +89,13 @@ impl Drop for MissingOrEmpty {
 /// An action without principals or resources.
 #[derive(PartialEq, Eq)]
 pub struct NoPrincipalOrResource {
+    /// Which of the two it lacks.
     pub kind: PR,
+    /// The action's name.
     pub name: Text,
+    /// Why it lacks them.
     pub missing_or_empty: MissingOrEmpty,
+    /// The place of the action's name.
     pub name_loc: Option<Loc>,
 }
 
@@ -94,7 +110,7 @@ impl Drop for NoPrincipalOrResource {
     }
 }
 
-/// A namespace that stood before, with its place and the earlier one's.
+/// A namespace that stood before, with its place and the earlier one's. No call here gives it.
 #[derive(PartialEq, Eq)]
 pub struct DuplicateNamespace {
     pub namespace_id: Text,
@@ -131,7 +147,9 @@ impl Drop for UnknownTypeName {
 /// A declared name with `__cedar` in it.
 #[derive(PartialEq, Eq)]
 pub struct ReservedName {
+    /// The name.
     pub name: Text,
+    /// Its place.
     pub loc: Option<Loc>,
 }
 
@@ -147,7 +165,9 @@ impl Drop for ReservedName {
 /// A common type that is named like one of the types that every schema has.
 #[derive(PartialEq, Eq)]
 pub struct ReservedSchemaKeyword {
+    /// The name.
     pub keyword: Text,
+    /// Its place.
     pub loc: Option<Loc>,
 }
 

@@ -9,6 +9,7 @@ use std::alloc::{AllocError, Global};
 #[derive(PartialEq, Eq)]
 pub struct ShadowsBuiltinWarning {
     pub name: Text,
+    /// The place of the name.
     pub loc: Option<Loc>,
 }
 
@@ -25,7 +26,9 @@ impl Drop for ShadowsBuiltinWarning {
 #[derive(PartialEq, Eq)]
 pub struct ShadowsEntityWarning {
     pub name: Text,
+    /// The place of the entity type's name.
     pub entity_loc: Option<Loc>,
+    /// The place of the common type's name.
     pub common_loc: Option<Loc>,
 }
 
@@ -42,7 +45,9 @@ impl Drop for ShadowsEntityWarning {
 /// What a schema may do but should not.
 #[derive(PartialEq, Eq)]
 pub enum SchemaWarning {
+    /// A declared type is named like a builtin one.
     ShadowsBuiltin(ShadowsBuiltinWarning),
+    /// A common type is named like an entity type of its namespace.
     ShadowsEntity(ShadowsEntityWarning),
 }
 
@@ -82,7 +87,7 @@ impl ShadowsBuiltinWarning {
         bare_label(alloc, self.loc)
     }
 
-    /// How grave it is.
+    /// How grave it is: a warning.
     pub fn severity(&self) -> Severity
         ensures { result ≡ Severity.Warning }
     {
@@ -114,7 +119,7 @@ impl ShadowsEntityWarning {
         bare_labels(alloc, self.entity_loc, self.common_loc)
     }
 
-    /// How grave it is.
+    /// How grave it is: a warning.
     pub fn severity(&self) -> Severity
         ensures { result ≡ Severity.Warning }
     {
@@ -150,7 +155,7 @@ impl SchemaWarning {
         }
     }
 
-    /// How grave it is.
+    /// How grave it is: a warning.
     pub fn severity(&self) -> Severity
         ensures { result ≡ Severity.Warning }
     {

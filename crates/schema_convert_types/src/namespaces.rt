@@ -33,7 +33,7 @@ pub struct Entries {
 }
 
 impl Entries {
-    /// Nothing.
+    /// No entries, which takes no memory.
     pub fn new(alloc: Global) -> Entries
         ensures commons { result.commons.items ≡ [] }
         ensures entities { result.entities.items ≡ [] }

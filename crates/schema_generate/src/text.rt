@@ -69,7 +69,7 @@ fn push_action(text: &mut Text, n: u32, i: u32) -> Result<(), AllocError>
     push_words(text, " };\n")
 }
 
-/// The text with so many entity types and as many actions.
+/// The text with so many entity types and as many actions: from 1 to 4,096 of each.
 pub fn generate_text(alloc: Global, n: u32) -> Result<Text, AllocError>
     requires some { 1 ≤ n }
     requires size { n ≤ max_size }

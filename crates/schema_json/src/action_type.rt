@@ -11,7 +11,9 @@ use std::alloc::{AllocError, Global};
 pub struct ActionType<N: NameText> {
     /// The names of its attributes, where any were written.
     pub attributes: Option<Set<Text>>,
+    /// What it may be applied to, where this was written.
     pub applies_to: Option<ApplySpec<N>>,
+    /// Its parents, where any were written.
     pub member_of: Option<List<ActionEntityUID<N>>>,
     /// Whether another schema declares it.
     pub external: bool,
@@ -37,8 +39,11 @@ impl<N: NameText + Drop> Drop for ActionType<N> {
 #[derive(Drop)]
 #[derive_where(PartialEq, Eq, PartialOrd, Ord, Hash; N)]
 pub struct ApplySpec<N> {
+    /// The types of the resources.
     pub resource_types: List<N>,
+    /// The types of the principals.
     pub principal_types: List<N>,
+    /// The type of the context.
     pub context: AttributesOrContext<N>,
 }
 

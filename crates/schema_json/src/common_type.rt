@@ -61,14 +61,14 @@ impl CommonTypeId {
         CommonTypeId { id }
     }
 
-    /// The word.
+    /// The word, lent.
     pub fn as_unreserved(&self) -> &UnreservedId
         ensures { result.now ≡ self.now.id }
     {
         &self.id
     }
 
-    /// The word.
+    /// The word itself.
     pub fn into_unreserved(self) -> UnreservedId
         ensures { result ≡ self.id }
     {

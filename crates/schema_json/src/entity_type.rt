@@ -6,6 +6,7 @@ use std::alloc::{AllocError, Global};
 /// A declared entity type, with a place that no comparison sees.
 #[derive_where(PartialEq, Eq, PartialOrd, Ord, Hash; N)]
 pub struct EntityType<N> {
+    /// What is declared of it.
     pub kind: EntityTypeKind<N>,
     /// Whether another schema declares it.
     pub external: bool,
@@ -28,6 +29,7 @@ impl<N: Drop> Drop for EntityType<N> {
 /// What is declared of an entity type.
 #[derive_where(PartialEq, Eq, PartialOrd, Ord, Hash; N)]
 pub enum EntityTypeKind<N> {
+    /// Its parents, its attributes and its tags.
     Standard(Boxed<StandardEntityType<N>>),
     /// The entities are listed by their ids.
     Enum { choices: Boxed<NonEmpty<Eid>> },
@@ -45,8 +47,11 @@ impl<N: Drop> Drop for EntityTypeKind<N> {
 /// The parents of an entity type, the type of its attributes, and the type of its tags where it has tags.
 #[derive_where(PartialEq, Eq, PartialOrd, Ord, Hash; N)]
 pub struct StandardEntityType<N> {
+    /// Its parents.
     pub member_of_types: List<N>,
+    /// The type of its attributes.
     pub shape: AttributesOrContext<N>,
+    /// The type of its tags.
     pub tags: Option<Boxed<Type<N>>>,
 }
 

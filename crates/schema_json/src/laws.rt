@@ -1,4 +1,4 @@
-//! Laws of the comparisons of fragments. Each law is what its function ensures; the functions do nothing.
+//! Laws of the comparisons of fragments. Each law is what its function ensures; the functions do nothing but cite laws.
 ghost use Rattle.std.specs.Prelude.{◌≡◌, ◌↔◌, true};
 ghost use Rattle.std.specs.Cmp.{IsEquivalence, IsTotalOrder};
 ghost use Rattle.std.specs.Ordering.{eq_by_cmp};

@@ -38,7 +38,7 @@ impl ReservedCommonTypeBasenameError {
         Ok(Vec::new(alloc))
     }
 
-    /// How grave it is.
+    /// How grave it is: an error.
     pub fn severity(&self) -> Severity
         ensures error { result ≡ Severity.Error }
     {

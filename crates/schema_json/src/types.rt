@@ -60,6 +60,7 @@ pub enum TypeVariant<N> {
     Boolean,
     /// The sets of a type.
     Set { element: Boxed<Type<N>> },
+    /// The records with these attributes.
     Record(RecordType<N>),
     /// A reference that must mean an entity type.
     Entity { name: N },
@@ -92,6 +93,7 @@ impl<N: Drop> Drop for TypeVariant<N> {
 #[derive_where(PartialEq, Eq, PartialOrd, Ord, Hash; N)]
 pub struct RecordType<N> {
     pub attributes: Map<Text, TypeOfAttribute<N>>,
+    /// Whether it is open: whether its records may have other attributes.
     pub additional_attributes: bool,
 }
 
@@ -111,6 +113,7 @@ impl<N: Drop> Drop for RecordType<N> {
 pub struct TypeOfAttribute<N> {
     pub ty: Type<N>,
     pub annotations: Annotations,
+    /// Whether each record has the attribute.
     pub required: bool,
 }
 

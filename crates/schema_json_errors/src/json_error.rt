@@ -16,7 +16,9 @@ pub enum JsonAdvice {
 
 /// Why no fragment was read, with advice.
 pub struct JsonDeserializationError {
+    /// Why.
     pub fault: JsonFault,
+    /// The advice, where there is any.
     pub advice: Option<JsonAdvice>,
 }
 
@@ -71,7 +73,7 @@ impl JsonDeserializationError {
         Ok(Vec::new(alloc))
     }
 
-    /// How grave it is.
+    /// How grave it is: an error.
     pub fn severity(&self) -> Severity
         ensures error { result ≡ Severity.Error }
     {

@@ -11,7 +11,9 @@ pub enum JsonFault {
     RepeatedKey(Text),
     /// A number is no whole number of 64 bits.
     Float,
+    /// An object has this field, which it may not have.
     UnknownField(Text),
+    /// An object lacks this field.
     MissingField(Text),
     /// The value of this field is of another kind.
     WrongType(Text),
@@ -29,7 +31,9 @@ pub enum JsonFault {
     ExternalConflict(NonEmpty<Text>),
     /// These fields stand beside `enum`.
     EnumConflict(NonEmpty<Text>),
+    /// The empty namespace has annotations.
     AnnotationsOnEmptyNamespace,
+    /// Out of memory.
     Memory,
 }
 

@@ -23,7 +23,7 @@ use schema_json::{ActionEntityUID, ActionType, ApplySpec, AttributesOrContext};
 use serde_json::Value;
 use std::alloc::{AllocError, Global};
 
-/// An action.
+/// The action that a value says, or its first fault, under the name `label`.
 pub fn read_action(
     alloc: Global,
     value: &Value,

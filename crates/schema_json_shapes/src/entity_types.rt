@@ -24,7 +24,7 @@ use schema_json::{AttributesOrContext, EntityType, EntityTypeKind, StandardEntit
 use serde_json::Value;
 use std::alloc::{AllocError, Global};
 
-/// An entity type.
+/// The entity type that a value says, or its first fault, under the name `label`.
 pub fn read_entity_type(
     alloc: Global,
     value: &Value,

@@ -39,7 +39,7 @@ pub fn flag_at(
     }
 }
 
-/// The text that a value is.
+/// The text that a value is, or that it is none, under the name `label`.
 pub fn read_text(alloc: Global, value: &Value, label: &str) -> Result<Text, ShapeFault>
     ensures { Reads result (demands text label.now (view value.now)) (IsTextIn (Some (view value.now))) }
 {

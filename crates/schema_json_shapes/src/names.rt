@@ -63,7 +63,7 @@ pub fn read_id(alloc: Global, role: NameRole, text: &str) -> Result<UnreservedId
     }
 }
 
-/// The key of an annotation.
+/// The key of an annotation that the text is, or why it is none.
 pub fn read_any_id(alloc: Global, text: &str) -> Result<AnyId, ShapeFault>
     ensures { Reads result (is_name NameRole.Annotation text.now ∷ []) (IsAnyId text.now) }
 {
@@ -73,7 +73,7 @@ pub fn read_any_id(alloc: Global, text: &str) -> Result<AnyId, ShapeFault>
     }
 }
 
-/// The name of a namespace.
+/// The name of a namespace that the text is, or why it is none.
 pub fn read_namespace_name(alloc: Global, text: &str) -> Result<Name, ShapeFault>
     ensures { Reads result (is_name NameRole.Namespace text.now ∷ []) (IsNamespaceName text.now) }
 {
@@ -115,7 +115,7 @@ pub(crate) fn read_word(
     }
 }
 
-/// A list of names.
+/// The names that a list says, or its first fault, under the name `label`.
 pub fn read_names(alloc: Global, value: &Value, label: &str) -> Result<List<RawName>, ShapeFault>
     ensures { Reads result (demands names label.now (view value.now)) (IsList IsNamed (view value.now)) }
 {

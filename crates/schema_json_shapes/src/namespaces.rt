@@ -29,7 +29,7 @@ use schema_json::{ActionType, CommonType, CommonTypeId, EntityType, NamespaceDef
 use serde_json::Value;
 use std::alloc::Global;
 
-/// A namespace, by its key.
+/// The namespace that the value under the key says, or its first fault.
 pub fn read_namespace(
     alloc: Global,
     value: &Value,
@@ -170,7 +170,7 @@ fn common_type(typed: Typed) -> CommonType<RawName>
     }
 }
 
-/// The name of a common type.
+/// The name of a common type that the key is, or why it is none.
 pub fn read_common_id(alloc: Global, key: &str) -> Result<CommonTypeId, ShapeFault>
     ensures { Reads result (key_demands common_types key.now) (IsCommonId key.now) }
 {

@@ -5,7 +5,9 @@ use std::alloc::{AllocError, AllocFailed};
 /// Why a JSON value is no fragment.
 #[derive(Drop)]
 pub enum ShapeFault {
+    /// An object has this field, which it may not have.
     UnknownField(Text),
+    /// An object lacks this field.
     MissingField(Text),
     /// The value of this field is of another kind.
     WrongType(Text),
@@ -23,7 +25,9 @@ pub enum ShapeFault {
     ExternalConflict(NonEmpty<Text>),
     /// These fields stand beside `enum`.
     EnumConflict(NonEmpty<Text>),
+    /// The empty namespace has annotations.
     AnnotationsOnEmptyNamespace,
+    /// Out of memory.
     Memory,
 }
 

@@ -9,6 +9,7 @@ use crate::words::{TypeSite, TypeWord};
 #[derive(Clone, Copy, Drop)]
 pub struct Field {
     pub name: &'static str,
+    /// Whether each such object has the field.
     pub needed: bool,
 }
 

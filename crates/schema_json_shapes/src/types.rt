@@ -29,6 +29,7 @@ use std::alloc::Global;
 pub struct Typed {
     pub ty: Type<RawName>,
     pub annotations: Annotations,
+    /// Whether each record has the attribute that the type is of.
     pub required: bool,
 }
 

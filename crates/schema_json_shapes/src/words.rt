@@ -21,8 +21,11 @@ pub enum TypeWord {
 /// Where a type stands, which says what may stand beside it.
 #[derive(Clone, Copy, Drop, PartialEq, Eq)]
 pub enum TypeSite {
+    /// As neither of the others: nothing may stand beside it.
     Plain,
+    /// As the type of an attribute: `required` and `annotations` may stand beside it.
     Attribute,
+    /// As what a common type stands for: `annotations` may stand beside it.
     Common,
 }
 

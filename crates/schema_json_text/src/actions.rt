@@ -165,7 +165,7 @@ fn push_parents<N: NameText>(
     }
 }
 
-/// Adds an action.
+/// Adds the JSON text of an action.
 pub fn push_action<N: NameText>(
     out: &mut String,
     alloc: Global,

@@ -15,7 +15,7 @@ use cedar_identifiers::{Eid, NameText};
 use schema_json::{CommonType, EntityType, EntityTypeKind, StandardEntityType, Type};
 use std::alloc::{AllocError, Global};
 
-/// Adds a common type.
+/// Adds the JSON text of a common type.
 pub fn push_common_type<N: NameText>(
     out: &mut String,
     alloc: Global,
@@ -136,7 +136,7 @@ fn push_enum(
     push_char(out, '}')
 }
 
-/// Adds an entity type.
+/// Adds the JSON text of an entity type.
 pub fn push_entity_type<N: NameText>(
     out: &mut String,
     alloc: Global,

@@ -38,7 +38,7 @@ pub fn push_key(out: &mut String, later: bool, key: &str) -> Result<(), AllocErr
     push_char(out, ':')
 }
 
-/// Adds the text of a name.
+/// Adds the JSON text of a name, which is a string.
 pub fn push_name<N: NameText>(out: &mut String, alloc: Global, name: &N) -> Result<(), AllocError>
     ensures { OnOk result (Adds out.old out.new (quoted (name_bytes N.components name.now))) }
 {
@@ -46,7 +46,7 @@ pub fn push_name<N: NameText>(out: &mut String, alloc: Global, name: &N) -> Resu
     push_quoted(out, text.as_str())
 }
 
-/// Adds a list of names.
+/// Adds the JSON text of names: the list of their texts.
 pub fn push_names<N: NameText>(
     out: &mut String,
     alloc: Global,

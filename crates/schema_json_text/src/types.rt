@@ -215,7 +215,7 @@ fn push_attributes<N: NameText>(
     push_char(out, '}')
 }
 
-/// Adds a type.
+/// Adds the JSON text of a type.
 pub fn push_type<N: NameText>(
     out: &mut String,
     alloc: Global,

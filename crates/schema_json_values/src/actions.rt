@@ -131,7 +131,7 @@ fn put_parents<N: NameText>(
     }
 }
 
-/// An action.
+/// The JSON value of an action.
 pub fn action_value<N: NameText>(alloc: Global, action: &ActionType<N>) -> Result<Value, AllocError>
     ensures { IfOk result (λ v. view v ≡ action_value N.components action.now) }
 {

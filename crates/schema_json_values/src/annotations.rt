@@ -40,7 +40,7 @@ fn annotation_members(
     Ok(members)
 }
 
-// A text, or null.
+// The JSON value of a text, or null where there is none.
 fn text_or_null(alloc: Global, text: &Option<Text>) -> Result<Value, AllocError>
     ensures { IfOk result (λ v. view v ≡ text_or_null text.now) }
 {

@@ -12,7 +12,7 @@ use schema_json::{CommonType, EntityType, EntityTypeKind, StandardEntityType, Ty
 use serde_json::{Map, Value, put};
 use std::alloc::{AllocError, Global};
 
-/// A common type.
+/// The JSON value of a common type.
 pub fn common_type_value<N: NameText>(
     alloc: Global,
     common: &CommonType<N>,
@@ -108,7 +108,7 @@ fn kind_members<N: NameText>(alloc: Global, kind: &EntityTypeKind<N>) -> Result<
     }
 }
 
-/// An entity type.
+/// The JSON value of an entity type.
 pub fn entity_type_value<N: NameText>(
     alloc: Global,
     entity: &EntityType<N>,

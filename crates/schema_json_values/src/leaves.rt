@@ -12,14 +12,14 @@ use std::alloc::{AllocError, Global};
 /// The members of a JSON object.
 pub type Members = Map<String, Value>;
 
-/// A text.
+/// The JSON value of a text.
 pub fn text_value(alloc: Global, text: &str) -> Result<Value, AllocError>
     ensures { IfOk result (λ v. view v ≡ string text.now) }
 {
     Ok(Value::String(String::from_str(alloc, text)?))
 }
 
-/// The text of a name.
+/// The JSON value of a name, which is its text.
 pub fn name_value<N: NameText>(alloc: Global, name: &N) -> Result<Value, AllocError>
     ensures { IfOk result (λ v. view v ≡ string (name_bytes N.components name.now)) }
 {
@@ -53,7 +53,7 @@ pub fn put_flag(
     Ok(())
 }
 
-/// A list of names.
+/// The JSON value of names: the list of their texts.
 pub fn names_value<N: NameText>(alloc: Global, names: &[N]) -> Result<Value, AllocError>
     ensures { IfOk result (λ v. view v ≡ names_value N.components names.now) }
 {

@@ -27,7 +27,7 @@ pub(crate) fn are_printable_namespaces(
     true
 }
 
-// Whether the namespace is.
+// Whether the namespace is printable.
 fn is_printable_namespace(name: &Option<Name>, namespace: &NamespaceDefinition<RawName>) -> bool
     ensures { result ≡ passes_block name.now namespace.now }
 {

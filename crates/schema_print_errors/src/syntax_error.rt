@@ -30,8 +30,11 @@ impl Drop for UnconvertibleEntityTypeShapeError {
 /// Why a fragment cannot be printed: names collide, a shape is no record, or out of memory.
 #[derive(Drop)]
 pub enum ToCedarSchemaSyntaxError {
+    /// A namespace has entity types and common types of the same names.
     NameCollisions(NameCollisionsError),
+    /// Entity types have shapes that are no records.
     UnconvertibleEntityTypeShape(UnconvertibleEntityTypeShapeError),
+    /// Out of memory.
     Memory,
 }
 

@@ -32,7 +32,7 @@ impl NameCollisionsError {
         Ok(Vec::new(alloc))
     }
 
-    /// How grave it is.
+    /// How grave it is: an error.
     pub fn severity(&self) -> Severity
         ensures error { result ≡ Severity.Error }
     {
@@ -52,7 +52,7 @@ impl UnconvertibleEntityTypeShapeError {
         around(alloc, before, &list, "]")
     }
 
-    /// Advice.
+    /// Advice, which it always has.
     pub fn help(&self, alloc: Global, _source: &str) -> Result<Option<Text>, AllocError>
         ensures help { IfOk result (λ help. IsSomeAnd help (λ text. text ≡ shapes_help)) }
     {
@@ -70,7 +70,7 @@ impl UnconvertibleEntityTypeShapeError {
         Ok(Vec::new(alloc))
     }
 
-    /// How grave it is.
+    /// How grave it is: an error.
     pub fn severity(&self) -> Severity
         ensures error { result ≡ Severity.Error }
     {
@@ -110,7 +110,7 @@ impl ToCedarSchemaSyntaxError {
         Ok(Vec::new(alloc))
     }
 
-    /// How grave it is.
+    /// How grave it is: an error.
     pub fn severity(&self) -> Severity
         ensures error { result ≡ Severity.Error }
     {

@@ -5,7 +5,7 @@ use crate::orderly_types::annotations_rise;
 use cedar_identifiers::RawName;
 use schema_json::{Fragment, NamespaceDefinition};
 
-// A namespace is orderly.
+// Each namespace in memory is orderly.
 fn namespace_is_orderly(namespace: &NamespaceDefinition<RawName>)
     ensures { IsOrderlyNamespace namespace.now }
 {

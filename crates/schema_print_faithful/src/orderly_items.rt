@@ -33,7 +33,7 @@ fn context_is_orderly(applies_to: &Option<ApplySpec<RawName>>)
     }
 }
 
-// Common types are orderly.
+// The common types of each namespace in memory are orderly.
 pub fn commons_are_orderly(entries: &[(CommonTypeId, CommonType<RawName>)])
     ensures { AllByRecursion (λ e. AreProperNotes e.1.annotations.0 × IsOrderlyType e.1.ty) entries.now }
 {
@@ -43,7 +43,7 @@ pub fn commons_are_orderly(entries: &[(CommonTypeId, CommonType<RawName>)])
     }
 }
 
-// Entity types are orderly.
+// The entity types of each namespace in memory are orderly.
 pub fn entities_are_orderly(entries: &[(UnreservedId, EntityType<RawName>)])
     ensures { AllByRecursion (λ e. AreProperNotes e.1.annotations.0 × IsOrderlyKind e.1.kind) entries.now }
 {
@@ -53,7 +53,7 @@ pub fn entities_are_orderly(entries: &[(UnreservedId, EntityType<RawName>)])
     }
 }
 
-// Actions are orderly.
+// The actions of each namespace in memory are orderly.
 pub fn actions_are_orderly(entries: &[(Text, ActionType<RawName>)])
     ensures { AllByRecursion (λ e. AreProperNotes e.1.annotations.0 × HasOrderlyContext e.1.applies_to) entries.now }
 {

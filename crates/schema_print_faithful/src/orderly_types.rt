@@ -16,7 +16,7 @@ pub fn annotations_rise(annotations: &Annotations)
     let _ = annotations.0.as_slice();
 }
 
-// A type is orderly.
+// Each type in memory is orderly.
 #[cycle(orderly)]
 pub fn type_is_orderly(ty: &Type<RawName>)
     ensures { IsOrderlyType ty.now }

@@ -1,4 +1,5 @@
-//! Laws of what the texts of printable fragments say. Each law is what its function ensures; the functions do nothing.
+//! Laws of what the texts of printable fragments say. Each law is what its function ensures; the functions do
+//! nothing but cite laws.
 ghost use Rattle.std.specs.Prelude.{◌≡◌, Bool, List};
 ghost use Rattle.cedar_identifiers.specs.declared.raw_name.RawName.{RawName as Raw};
 ghost use Rattle.cedar_names.specs.declared.extension_table.ExtensionTable.{ExtensionTable};

@@ -1,4 +1,4 @@
-//! Laws of what printed fragments say. Each law is what its function ensures; the functions do nothing.
+//! Laws of what printed fragments say. Each law is what its function ensures; the functions do nothing but cite laws.
 ghost use Rattle.std.specs.Prelude.{◌≡◌, Bool, List};
 ghost use Rattle.std.specs.List.{AllByRecursion, flat_map};
 ghost use Rattle.cedar_identifiers.specs.declared.raw_name.RawName.{RawName};

@@ -59,7 +59,7 @@ types_within (x ∷ xs) ys within n h =
         ∙ type_there ys x (within x (or_left (same_action x x) (among_actions xs x) (action_itself x)))
     go more (inr later) = more later
 
--- the same actions have the same types
+-- lists that hold the same actions hold the same types of actions
 pub types_alike : (xs ys : List Action) → ((a : Action) → among_actions xs a ≡ among_actions ys a)
     → (n : List (List ℕ))
     → among (map (λ (a : List (List ℕ) × List ℕ). a.0) xs) n ≡ among (map (λ (a : List (List ℕ) × List ℕ). a.0) ys) n

@@ -133,7 +133,7 @@ pub fn name_of(ns: &Option<Name>) -> Option<&InternalName>
     }
 }
 
-// A declared name.
+// The word as a name, behind the namespace where there is one.
 fn declared_name(alloc: Global, ns: &Option<Name>, id: &Id) -> Result<InternalName, AllocError>
     ensures { IfOk result (λ name. name ≡ declared_name ns.now id.now) }
 {

@@ -39,7 +39,7 @@ impl TypeNotDefinedError {
         Ok(labels)
     }
 
-    /// How grave it is.
+    /// How grave it is: an error.
     pub fn severity(&self) -> Severity
         ensures error { result ≡ Severity.Error }
     {
@@ -60,7 +60,7 @@ impl ActionNotDefinedError {
         Ok(text)
     }
 
-    /// Advice.
+    /// Advice, which it always has.
     pub fn help(&self, alloc: Global, _source: &str) -> Result<Option<Text>, AllocError>
         ensures help { IfOk result (λ help. IsSomeAnd help (λ text. text ≡ undeclared_actions_help)) }
     {
@@ -82,7 +82,7 @@ impl ActionNotDefinedError {
         Ok(labels)
     }
 
-    /// How grave it is.
+    /// How grave it is: an error.
     pub fn severity(&self) -> Severity
         ensures error { result ≡ Severity.Error }
     {
@@ -124,7 +124,7 @@ impl ResolveError {
         }
     }
 
-    /// How grave it is.
+    /// How grave it is: an error.
     pub fn severity(&self) -> Severity
         ensures error { result ≡ Severity.Error }
     {

@@ -16,8 +16,11 @@ pub struct ActionNotDefinedError(pub NonEmpty<ActionEntityUID<ConditionalName>>)
 /// Why a fragment cannot be resolved: a reference means nothing, or out of memory.
 #[derive(Drop)]
 pub enum ResolveError {
+    /// References to types mean nothing.
     TypeNotDefined(TypeNotDefinedError),
+    /// References to actions mean nothing.
     ActionNotDefined(ActionNotDefinedError),
+    /// Out of memory.
     Memory,
 }
 

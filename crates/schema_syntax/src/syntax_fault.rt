@@ -71,7 +71,7 @@ impl From<AllocError> for Refused {
     }
 }
 
-/// The tokens of the text, where they reach its end and are those of a schema.
+/// The tokens of the text, where they reach its end and are those of a schema; else its syntax fault.
 pub fn sentence_of(alloc: Global, text: &str) -> Result<Vec<ShortToken>, Refused>
     ensures scans { IfOk result (λ tokens. Scans text.now tokens.items (length text.now)) }
     ensures placed { IfOk result (λ tokens. All (IsPlaced text.now) tokens.items) }

@@ -9,7 +9,9 @@ use std::alloc::{AllocError, AllocFailed, Global};
 /// Why annotations were not put on an item: a key stands twice, or out of memory.
 #[derive(PartialEq, Eq, Drop)]
 pub enum AnnotationError {
+    /// A key stands twice.
     User(UserError),
+    /// Out of memory.
     Memory,
 }
 
@@ -41,7 +43,7 @@ impl AnnotationError {
         }
     }
 
-    /// How grave it is.
+    /// How grave it is: an error.
     pub fn severity(&self) -> Severity
         ensures error { result ≡ Severity.Error }
     {

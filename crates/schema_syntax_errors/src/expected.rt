@@ -6,8 +6,8 @@ use cedar_data::{Text, message, separator};
 use schema_syntax_grammar::TokenKind;
 use std::alloc::{AllocError, Global};
 
-/// What was expected: `expected` and the names of the kinds, with `, ` between two and ` or ` before the last. Where any identifier may
-/// stand, the keywords that may stand as one are not named.
+/// What was expected: `expected` and the names of the kinds, with `, ` between two and ` or ` before the last. Where any
+/// identifier may stand, the keywords that may stand as one are not named.
 pub fn expected_text(alloc: Global, expected: &[TokenKind]) -> Result<Text, AllocError>
     ensures text { IfOk result (λ text. text ≡ expected_text_of expected.now) }
 {

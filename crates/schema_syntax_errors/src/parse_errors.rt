@@ -12,6 +12,7 @@ use std::alloc::{AllocError, Global};
 /// The faults of a text, at least one. They speak by the first.
 #[derive(PartialEq, Eq)]
 pub struct ParseErrors {
+    /// The faults, in order.
     pub errors: NonEmpty<ParseError>,
 }
 

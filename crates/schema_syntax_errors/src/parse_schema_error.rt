@@ -10,7 +10,9 @@ use std::alloc::{AllocError, AllocFailed, Global};
 /// Why a text was not read as a schema: its faults, or out of memory.
 #[derive(PartialEq, Eq, Drop)]
 pub enum ParseSchemaError {
+    /// The text has these faults.
     Errors(ParseErrors),
+    /// Out of memory.
     Memory,
 }
 
@@ -48,7 +50,7 @@ impl ParseSchemaError {
         }
     }
 
-    /// How grave it is.
+    /// How grave it is: an error.
     pub fn severity(&self) -> Severity
         ensures error { result ≡ Severity.Error }
     {

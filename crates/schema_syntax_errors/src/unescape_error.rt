@@ -4,6 +4,7 @@ use std::alloc::{AllocError, Global};
 /// A backslash that begins no escape, by its byte offset in the text.
 #[derive(Clone, Copy, PartialEq, Eq)]
 pub struct UnescapeError {
+    /// The byte offset of the backslash.
     pub at: usize,
 }
 

@@ -5,7 +5,9 @@ use std::alloc::{AllocError, AllocFailed};
 /// Why nothing was read or built: out of memory, or the tokens, or what stands for them, are not those of a schema.
 #[derive(Drop)]
 pub enum Stop {
+    /// Out of memory.
     Memory,
+    /// The tokens, or what stands for them, are not those of a schema.
     Mismatch,
 }
 

@@ -47,8 +47,11 @@ impl Drop for AnnotationSyntax {
 #[cycle(syntax)]
 #[derive(Drop)]
 pub enum TypeSyntax {
+    /// A type's name.
     Path(PathSyntax),
+    /// The sets of a type.
     Set(Boxed<TypeSyntax>, Loc),
+    /// The records with these attributes.
     Record(List<AttrSyntax>, Loc),
 }
 
@@ -58,6 +61,7 @@ pub enum TypeSyntax {
 pub struct AttrSyntax {
     pub annotations: List<AnnotationSyntax>,
     pub name: ShortToken,
+    /// Whether no `?` stands behind the name.
     pub required: bool,
     pub ty: TypeSyntax,
     pub loc: Loc,
@@ -149,5 +153,6 @@ impl DeclaredSyntax {
 pub enum ItemSyntax {
     /// The annotations of a namespace, its path, its declarations, and the place from `namespace` through `}`.
     Namespace(List<AnnotationSyntax>, PathSyntax, List<DeclaredSyntax>, Loc),
+    /// A declaration.
     Decl(DeclaredSyntax),
 }

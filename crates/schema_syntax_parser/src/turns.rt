@@ -13,8 +13,11 @@ use std::alloc::{AllocError, Global};
 /// One turn of a list: nothing more, its last item, or an item that others follow; and the tokens behind it.
 #[derive(Drop)]
 pub enum Turn<'a, T> {
+    /// Nothing more.
     Done(&'a [ShortToken]),
+    /// The last item.
     Last(T, &'a [ShortToken]),
+    /// An item that others follow.
     More(T, &'a [ShortToken]),
 }
 

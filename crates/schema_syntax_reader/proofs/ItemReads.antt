@@ -37,7 +37,7 @@ module _ (source : List ℕ) (tokens : List Token) where
     pub each : AllZip (IsItemOf source) done namespaces
     pub lawful : Faultless source (sites_of done)
 
-  -- the same, where this item is the next
+  -- the namespaces are those of the items before this one, which is the next
   pub record NextItem (item : ItemSyntax) (after : List Token) (namespaces : List (Annotated Namespace))
       : Type 0 where
     pub done : List ItemSyntax

@@ -20,7 +20,7 @@ use schema_syntax_tokens::ShortToken;
 use schema_syntax_tree::{SrcAnnotations, SrcId, SrcStr};
 use std::alloc::Global;
 
-/// The annotations of an item.
+/// The annotations of an item, which were scanned from the text, or the fault of the first of their sites that has one.
 pub fn notes<'a>(
     alloc: Global,
     text: &'a str,
@@ -35,7 +35,7 @@ pub fn notes<'a>(
     some_notes(alloc, text, list)
 }
 
-// An id.
+/// The id that a word of the text is, or the fault of its site.
 pub fn id<'a>(alloc: Global, text: &'a str, token: &ShortToken) -> Result<SrcId<'a>, Stopped>
     requires { IsPlacedSite text.now (word token.now) }
     ensures { Reads text.now (name_sites token.now) (IsId text.now token.now) result }
@@ -43,7 +43,7 @@ pub fn id<'a>(alloc: Global, text: &'a str, token: &ShortToken) -> Result<SrcId<
     name_word(alloc, text, token)
 }
 
-// An id, with its place.
+/// The id that a word of the text is, with its place, or the fault of its site.
 pub fn id_node<'a>(
     alloc: Global,
     text: &'a str,
@@ -59,7 +59,7 @@ pub fn id_node<'a>(
     })
 }
 
-// A name: a word, or a string.
+/// The name that a word or a string of the text is, or the fault of its site.
 pub fn name<'a>(alloc: Global, text: &'a str, token: &ShortToken) -> Result<SrcStr<'a>, Stopped>
     requires { IsPlacedName text.now token.now }
     ensures { Reads text.now (name_sites token.now) (IsNameOf text.now token.now.kind token.now) result }
@@ -71,7 +71,7 @@ pub fn name<'a>(alloc: Global, text: &'a str, token: &ShortToken) -> Result<SrcS
     Ok(SrcStr::from_id(&id))
 }
 
-// A name, with its place.
+/// The name that a word or a string of the text is, with its place, or the fault of its site.
 pub fn name_node<'a>(
     alloc: Global,
     text: &'a str,
@@ -87,7 +87,7 @@ pub fn name_node<'a>(
     })
 }
 
-// The ids of a path.
+/// The ids of a path, read from its words.
 pub struct BareIds;
 
 impl<'a> Part<'a> for BareIds {
@@ -106,7 +106,7 @@ impl<'a> Part<'a> for BareIds {
     }
 }
 
-// Ids, each with its place.
+/// Ids, each with its place, read from words.
 pub struct Ids;
 
 impl<'a> Part<'a> for Ids {
@@ -125,7 +125,7 @@ impl<'a> Part<'a> for Ids {
     }
 }
 
-// Names, each with its place.
+/// Names, each with its place, read from words and strings.
 pub struct Names;
 
 impl<'a> Part<'a> for Names {
@@ -144,7 +144,7 @@ impl<'a> Part<'a> for Names {
     }
 }
 
-// The ids of entities, each with its place.
+/// The ids of entities, each with its place, read from strings.
 pub struct Choices;
 
 impl<'a> Part<'a> for Choices {

@@ -30,7 +30,7 @@ fn path_of_names<'a>(
     Ok(Path::of_ids(ids, Some(loc)))
 }
 
-/// A path.
+/// The path that a syntax of it stands for, which was scanned from the text, or the fault of the first of its sites that has one.
 pub fn path<'a>(alloc: Global, text: &'a str, raw: PathSyntax) -> Result<Path<'a>, Stopped>
     requires { IsScanned IsPath text.now raw }
     ensures { Reads text.now (path_sites raw) (IsPathOf text.now raw) result }
@@ -70,7 +70,7 @@ fn type_of_reference<'a>(
     }
 }
 
-// Paths.
+/// Paths, each read from its syntax.
 pub struct Paths;
 
 impl<'a> Part<'a> for Paths {
@@ -89,7 +89,7 @@ impl<'a> Part<'a> for Paths {
     }
 }
 
-// References to actions.
+/// References to actions, each read from its syntax.
 pub struct References;
 
 impl<'a> Part<'a> for References {

@@ -7,7 +7,9 @@ use std::alloc::{AllocError, AllocFailed};
 /// Why sites were not read: out of memory, or a site has a fault, which stands in a box, since each level hands it up.
 #[derive(Drop)]
 pub enum Stopped {
+    /// Out of memory.
     Memory,
+    /// A site has this fault.
     User(Boxed<UserError>),
 }
 

@@ -32,7 +32,8 @@ pub fn pieces_by_characters()
     ensures { (cs : List ℕ) → (IsBody (encode_utf8_all cs) ↔ IsBody cs) }
 {}
 
-/// A text that is laid out from lexemes, none of which merges with the next, is read as these lexemes. A text written as a string is such a lexeme.
+/// A text that is laid out from lexemes, none of which merges with the next, is read as these lexemes. A text written as a string
+/// is such a lexeme.
 pub fn laid_text_is_read()
     ensures read { (ps : List Piece) → Follow free ps → IsReadAs (laid ps) (lexemes_of ps) }
     ensures string { (cs : List ℕ) → IsForm (quoted cs) StringLit }

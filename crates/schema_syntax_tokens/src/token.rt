@@ -37,7 +37,7 @@ impl Model for ShortToken {
 }
 
 impl ShortToken {
-    /// The token of this kind from `start` to `end`, which is not before it.
+    /// The token of this kind from `start` to `end`, which is not before it, and below 4 GiB.
     pub fn new(kind: TokenKind, start: usize, end: usize) -> ShortToken
         requires in_order { start ≤ end }
         requires short { end < 2 ^ 32 }

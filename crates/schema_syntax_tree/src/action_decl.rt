@@ -10,7 +10,9 @@ use std::alloc::{AllocError, Global};
 
 /// The declaration of one or more actions that are alike but for their names.
 pub enum ActionDecl<'a> {
+    /// Actions of this schema.
     Defined(DefinedActionDecl<'a>),
+    /// Actions of another schema.
     External(ExternalActionDecl<'a>),
 }
 
@@ -43,6 +45,7 @@ impl<'a> Drop for DefinedActionDecl<'a> {
 /// Actions that another schema declares, with the ancestors that are known.
 pub struct ExternalActionDecl<'a> {
     pub names: NonEmpty<Node<SrcStr<'a>>>,
+    /// Their ancestors that are known.
     pub parents: Option<NonEmpty<Node<QualName<'a>>>>,
 }
 

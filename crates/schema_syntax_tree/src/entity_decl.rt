@@ -12,8 +12,11 @@ use std::alloc::{AllocError, Global};
 
 /// The declaration of one or more entity types that are alike but for their names.
 pub enum EntityDecl<'a> {
+    /// Entity types with parents, attributes and tags.
     Standard(StandardEntityDecl<'a>),
+    /// Entity types whose entities are listed.
     Enum(EnumEntityDecl<'a>),
+    /// Entity types of another schema.
     External(ExternalEntityDecl<'a>),
 }
 
@@ -30,6 +33,7 @@ impl<'a> Drop for EntityDecl<'a> {
 /// Entity types with their parents, their attributes and the type of their tags, where they have tags.
 pub struct StandardEntityDecl<'a> {
     pub names: NonEmpty<Node<SrcId<'a>>>,
+    /// Their parents.
     pub member_of_types: List<Path<'a>>,
     pub attrs: Node<List<Node<Annotated<'a, AttrDecl<'a>>>>>,
     pub tags: Option<Boxed<Node<Type<'a>>>>,
@@ -49,6 +53,7 @@ impl<'a> Drop for StandardEntityDecl<'a> {
 /// Entity types that another schema declares, with the ancestors that are known.
 pub struct ExternalEntityDecl<'a> {
     pub names: NonEmpty<Node<SrcId<'a>>>,
+    /// Their ancestors that are known.
     pub member_of_types: List<Path<'a>>,
 }
 
@@ -64,6 +69,7 @@ impl<'a> Drop for ExternalEntityDecl<'a> {
 /// Entity types whose entities are listed by their ids.
 pub struct EnumEntityDecl<'a> {
     pub names: NonEmpty<Node<SrcId<'a>>>,
+    /// The ids of their entities.
     pub choices: NonEmpty<Node<SrcStr<'a>>>,
 }
 

@@ -12,8 +12,10 @@ pub type Schema<'a> = List<Annotated<'a, Namespace<'a>>>;
 /// A namespace with its declarations, in the order of the text. The one without a name holds what stands outside of
 /// every other.
 pub struct Namespace<'a> {
+    /// Its name, where it has one.
     pub name: Option<Boxed<Path<'a>>>,
     pub decls: List<Annotated<'a, Node<Declaration<'a>>>>,
+    /// Its place, where it has one.
     pub loc: Option<Loc>,
 }
 

@@ -7,7 +7,9 @@ use std::alloc::{AllocError, Global};
 /// What an action may be applied to: the one who acts, or what it is done to.
 #[derive(Clone, Copy, PartialEq, Eq)]
 pub enum PR {
+    /// The one who acts.
     Principal,
+    /// What it is done to.
     Resource,
 }
 

@@ -7,7 +7,9 @@ use std::alloc::{AllocError, Global};
 
 /// The name of an action: its id, behind the path of its type where one was written.
 pub struct QualName<'a> {
+    /// The path of its type.
     pub path: Option<Path<'a>>,
+    /// Its id.
     pub eid: SrcStr<'a>,
 }
 

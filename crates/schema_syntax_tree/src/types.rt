@@ -32,6 +32,7 @@ impl<'a> Drop for Type<'a> {
 #[cycle(types)]
 pub struct AttrDecl<'a> {
     pub name: Node<SrcStr<'a>>,
+    /// Whether each record has the attribute.
     pub required: bool,
     pub ty: Node<Type<'a>>,
 }
