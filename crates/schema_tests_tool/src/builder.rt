@@ -284,14 +284,17 @@ fn unknown_element_is_told(alloc: Global) -> bool {
     }
 }
 
-const CAPTURED: &str =
-    "the type `Action` of the empty namespace is used in namespace `N` by entity type `E`, where it would be read as `N::Action`";
+// Schemas in which a type would be captured. The lines of the table were made by the second program.
+const CAPTURED: &str = "\
+the type `Action` of the empty namespace is used in namespace `N` by entity type `E`, where it would be read as `N::Action`|action z; type T = Action; namespace N { action a; entity E { x: T }; }
+the type `Action` of the empty namespace is used in namespace `N` by action `\"y\"`, where it would be read as `N::Action`|action z; type T = Action; namespace N { action a; action y appliesTo { principal: E, resource: E, context: { x: T } }; entity E; }
+";
 
-// Is the entity type told of whose type would be captured?
-fn captured_type_is_told(alloc: Global) -> bool {
-    let text = "action z; type T = Action; namespace N { action a; entity E { x: T }; }";
+// Is what the line says told of the schema of its text?
+fn is_captured(alloc: Global, line: &str) -> bool {
+    let (wanted, text) = answer_and_text(line);
     match schema_of(alloc, text) {
-        Some(schema) => no_text(alloc, &schema, CAPTURED),
+        Some(schema) => no_text(alloc, &schema, wanted),
         None => false,
     }
 }
@@ -299,7 +302,9 @@ fn captured_type_is_told(alloc: Global) -> bool {
 #[test]
 fn schemas_without_a_text_are_told(rt: HostRuntime) {
     assert!(rt; unknown_element_is_told(rt.alloc()));
-    assert!(rt; captured_type_is_told(rt.alloc()));
+    for line in CAPTURED.lines() {
+        assert!(rt; is_captured(rt.alloc(), line), "{line}");
+    }
 }
 
 // The name `A` and an enumerated entity type below `B`.
