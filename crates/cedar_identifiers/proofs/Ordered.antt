@@ -18,9 +18,6 @@ use Rattle.cedar_data.proofs.Ascii.{word_bytes}
 abbrev pub same : List ℕ → List ℕ → Bool
 same v w = bytes_eq (encode_utf8_all v) (encode_utf8_all w)
 
-pub same_bytes : (v w : List ℕ) → (same v w ≡ true) ↔ (encode_utf8_all v ≡ encode_utf8_all w)
-same_bytes v w = bytes_eq-Decides (encode_utf8_all v) (encode_utf8_all w)
-
 -- words with the same bytes are the same
 pub same_words : (v w : List ℕ) → is_word v ≡ true → is_word w ≡ true → (same v w ≡ true) ↔ (v ≡ w)
 same_words v w h k = (
@@ -67,7 +64,3 @@ ids_equal E e f g xs ys = (
       and_from (same f.text g.text) (pointwise E xs ys) (sym (e f g) ∙ first_so (E f g) (pointwise E xs ys) all)
       (second_so (E f g) (pointwise E xs ys) all),
 )
-
--- two tests at once
-pub both_equal : (a b : Bool) {P Q : Type 0} → (a ≡ true) ↔ P → (b ≡ true) ↔ Q → ((a && b) ≡ true) ↔ (P × Q)
-both_equal a b p q = (λ h. (p.0 (first_so a b h), q.0 (second_so a b h)), λ (h, k). and_from a b (p.1 h) (q.1 k))

@@ -89,11 +89,6 @@ pub record IsRead (kind : NameKind) (text : List ℕ) (words : List (List ℕ)) 
   pub begins : BeginsWith text (separated words) rest
   pub whole : due_behind (is_single kind) true (separated words) ≡ Some false
 
--- the first word
-pub read_first : (kind : NameKind) (text w rest : List ℕ) → BeginsWith text (w ∷ []) rest → is_word w ≡ true
-    → IsRead kind text (w ∷ []) rest
-read_first kind text w rest b h = record { begins = b; whole = rw h refl }
-
 -- another
 pub read_more : (kind : NameKind) (text : List ℕ) (w : List ℕ) (ws : List (List ℕ)) (v rest after next : List ℕ)
     → IsRead kind text (w ∷ ws) rest

@@ -27,14 +27,6 @@ whole names at w b e r = ap (λ x. option_or x
     (if repeats (take at names) (get_or names at []) then Some (Repeated at) else None)) e
     ∙ ap (λ x. option_or w (if x then Some (Repeated at) else None)) r
 
-pub own_fault : (names : List (List ℕ)) (at : ℕ) (f : TableError) → word_fault at (get_or names at []) ≡ Some f
-    → fault_at names at ≡ Some f
-own_fault names at f e = whole names at (Some f) (repeats (take at names) (get_or names at [])) e refl
-
-pub repeated_fault : (names : List (List ℕ)) (at : ℕ) → word_fault at (get_or names at []) ≡ None
-    → repeats (take at names) (get_or names at []) ≡ true → fault_at names at ≡ Some (Repeated at)
-repeated_fault names at e r = whole names at None true e r
-
 pub no_fault : (names : List (List ℕ)) (at : ℕ) → word_fault at (get_or names at []) ≡ None
     → repeats (take at names) (get_or names at []) ≡ false → fault_at names at ≡ None
 no_fault names at e r = whole names at None false e r

@@ -1,5 +1,5 @@
 -- Sets of keys, by what the order sees of them.
-use Rattle.std.proofs.Common.{◌≡◌, Bool, true, false, ◌||◌, List, [], ◌∷◌, map, refl, sym, ap, ◌∙◌}
+use Rattle.std.proofs.Common.{◌≡◌, Bool, true, false, ◌||◌, List, [], ◌∷◌, refl, sym, ap, ◌∙◌}
 use Rattle.std.specs.declared.cmp.Ordering.{Ordering}
 use Rattle.std.specs.declared.cmp.Ordering.TheVariants.{Less, Equal, Greater}
 use Rattle.std.specs.Ordering.{is_eq, match_ordering}
@@ -27,11 +27,6 @@ or_there false false = refl
 pub or_right : (b c a : Bool) → (b || (c || a)) ≡ ((b || c) || a)
 or_right true c a = refl
 or_right false c a = refl
-
-pub any_map : {K N : Type 0} (h : K → N) (f : N → Bool) (ks : List K)
-    → list_any f (map h ks) ≡ list_any (λ k. f (h k)) ks
-any_map h f [] = refl
-any_map h f (k ∷ ks) = ap (λ b. f (h k) || b) (any_map h f ks)
 
 -- S is whether the order sees no difference, by what h sees of the keys
 module _ {K N : Type 0} (R : K → K → Ordering) (h : K → N) (S : N → N → Bool)

@@ -9,7 +9,6 @@ use Rattle.schema_convert_errors.specs.declared.error_list.CedarSchemaParseError
 use Rattle.schema_convert_errors.specs.declared.warnings.SchemaWarning.{SchemaWarning}
 use Rattle.schema_convert.specs.Translated.{IsTranslationOfText}
 use Rattle.schema_build_errors.specs.declared.captured.ReferenceCaptured.{ReferenceCaptured}
-use Rattle.schema_build_checks.specs.Rows.{Never}
 use Rattle.schema_build_parts.specs.BuildFaults.{BuildFault}
 use Rattle.schema_build_text.specs.Captured.{IsUncaptured, IsFirstOf, IsFirstCaptured}
 use Rattle.schema_build.specs.Meaning.{FragmentMeaning}
@@ -31,29 +30,6 @@ module _ (text : List ℕ) (table : ExtensionTable) where
   unparsed (Schema error) h = absurd h
   unparsed (Captured captured) h = absurd h
   unparsed Memory h = tt
-
-  module _ (f : Fragment RawName as_written) (w : List SchemaWarning)
-      (translated : IsTranslationOfText text table f w) where
-    pub unbuilt : (e : RecoverError) → IsUnbuilt f table e → IsRefusal text table e
-    unbuilt (Parse errors) h = absurd h
-    unbuilt (Schema error) h = (f, (w, translated), h)
-    unbuilt (Captured captured) h = absurd h
-    unbuilt Memory h = tt
-
-    pub unprinted : Never (BuildFault f table) → (m : SchemaMeaning) → FragmentMeaning f table m → (e : RecoverError)
-        → IsUnprinted m e → IsRefusal text table e
-    unprinted faultless m means (Parse errors) h = absurd h
-    unprinted faultless m means (Schema error) h = absurd h
-    unprinted faultless m means (Captured captured) h =
-        record {
-          fragment = f;
-          translated = (w, translated);
-          faultless = faultless;
-          meaning = m;
-          means = means;
-          first = h;
-        }
-    unprinted faultless m means Memory h = tt
 
 -- a text that is refused means nothing
 module _

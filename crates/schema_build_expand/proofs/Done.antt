@@ -1,6 +1,6 @@
 -- What is done, as one more is.
 use Rattle.std.proofs.Common.{◌≡◌, ◌≢◌, ℕ, ◌+◌, ◌<◌, List, length, get_or, take, refl, sym, ◌∙◌, subst, arith, All}
-use Rattle.std.proofs.Common.{Option, Some, None, inl, inr}
+use Rattle.std.proofs.Common.{Option, Some, inl, inr}
 use Rattle.std.specs.Prelude.{slice_get}
 use Rattle.std.proofs.Math.ListN.{set}
 use Rattle.std.proofs.lemmas.List.{length-set, get_or-set_same, get_or-set_other}
@@ -95,9 +95,3 @@ module _ {N : Type 0} (s : Scope N) where
       → All (IsDone done) before → All (IsBehind s before ns) ps → All (IsReady s done ns) ps
   ready done before ns ps all behind =
       All-weaker (IsBehind s before ns) (IsReady s done ns) (ready_part done before ns all) ps behind
-
-  pub none_expanded : (done : List (Option built.«Type»)) → All (λ d. d ≡ None) done → AreExpanded s done
-  none_expanded done none k t at =
-      absurd (let here : get_or done k (Some t) ≡ None = none k (Some t)
-      (slice_get_within done k (Some t) at) in let is : get_or done k
-      (Some t) ≡ Some t = get_or_from_slice_get done k (Some t) (Some t) at in cc)

@@ -22,28 +22,6 @@ use Rattle.schema_build_graph.proofs.Groups.{targets_below}
 use Rattle.schema_build_graph.proofs.States.{other_state}
 use Rattle.schema_build_graph.proofs.Rows.{edge_in_range}
 
--- a search that has not begun
-pub none_searched : (graph : List (Vec ℕ Global)) (states : List State) → length states ≡ length graph
-    → All (λ s. s ≡ New) states → IsSearched graph states [] [] [] [] None
-none_searched graph states same new = record {
-  same = same;
-  is_open = λ k h. absurd (omega arith);
-  was_open = λ v k h e. absurd (let now : state_at states v ≡ New = new v New (omega arith) in cc);
-  is_done = λ v c. absurd (let lt : c.0 < 0 = c.1 in omega arith);
-  was_done = λ v b h e. absurd (let now : state_at states v ≡ New = new v New (omega arith) in cc);
-  closed = λ x y c e. absurd (let lt : c.0 < 0 = c.1 in omega arith);
-  behind = λ k h. absurd (omega arith);
-  on = λ k l h lt. absurd (omega arith);
-  back = λ k l h lt n. absurd (omega arith);
-  looked = λ k t h e. absurd (omega arith);
-  from = λ j h. absurd (omega arith);
-  stacked = ((λ i j d le lt. absurd (omega arith)), (λ i j d le lt. absurd (omega arith)));
-  within = λ k d h. absurd (omega arith);
-  based = λ k h all. omega arith;
-  leads = λ k v h e. absurd (omega arith);
-  range = λ v e. absurd (cc);
-}
-
 module _ (graph : List (Vec ℕ Global)) (states : List State) (standing targets : List ℕ) (groups : List Group)
     (done : List ℕ) where
   -- a root is the next to look at, where nothing stands

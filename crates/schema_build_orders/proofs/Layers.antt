@@ -118,9 +118,6 @@ type_in a = (out-TypeOfAttribute RawName a).ty
 abbrev pub is_required : TypeOfAttribute RawName → Bool
 is_required a = (out-TypeOfAttribute RawName a).required
 
-abbrev attribute_from : Attribute → TypeOfAttribute RawName
-attribute_from x = roll-TypeOfAttribute RawName x
-
 attribute_made : (a : TypeOfAttribute RawName)
     → out-TypeOfAttribute RawName (bare_of_attribute a)
     ≡ record {

@@ -1,7 +1,6 @@
 -- Lists that are the same as they are seen.
-use Rattle.std.proofs.Common.{◌≡◌, List, [], ◌∷◌, ◌++◌, map, Contains, Option, Some, None, refl, sym, ap, ◌∙◌, subst}
+use Rattle.std.proofs.Common.{◌≡◌, List, [], ◌∷◌, ◌++◌, map, Contains, Some, refl, sym, ap, ◌∙◌, subst}
 use Rattle.std.specs.List.{flat_map}
-use Rattle.std.specs.Option.{option_map}
 use Rattle.std.proofs.lemmas.List.{map-append}
 use Rattle.schema_build_hierarchy.proofs.Ordered.{contains_map, contains_unmap}
 
@@ -43,11 +42,6 @@ flat_mapped k p (x ∷ xs) = ap (λ l. map k (p x) ++ l) (flat_mapped k p xs) �
 pub none_seen : {A B : Type 0} (seen : A → B) (xs : List A) → map seen xs ≡ [] → xs ≡ []
 none_seen seen [] e = refl
 none_seen seen (x ∷ xs) e = cc
-
-pub option_seen : {A B C : Type 0} (seen : A → B) (g : B → C) (o : Option A)
-    → option_map g (option_map seen o) ≡ option_map (λ a. g (seen a)) o
-option_seen seen g None = refl
-option_seen seen g (Some a) = refl
 
 pub some_is : {A : Type 0} (a b : A) → Some a ≡ Some b → a ≡ b
 some_is a b e = cc

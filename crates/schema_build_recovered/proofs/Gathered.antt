@@ -59,9 +59,6 @@ module _ {X A B : Type 0} (test : X → Bool) (f : X → A) (R : A → B → Typ
     pub made : (rest : List B) → AllZip R (told (drop i xs)) rest → AllZip R (told xs) (rows ++ rest)
     pub whole : lacked xs ≡ lacked (drop i xs)
 
-  pub begun : (xs : List X) → IsGathered xs 0 []
-  begun xs = record { made = λ rest h. h; whole = refl }
-
   here : (xs : List X) (i : ℕ) (x : X) (b : Bool) → i < length xs → x ≡ get_or xs i x → test x ≡ b
       → filter test (drop i xs) ≡ cond b (x ∷ filter test (drop (i + 1) xs)) (filter test (drop (i + 1) xs))
   here xs i x b h e t =
@@ -96,6 +93,3 @@ module _ {X A B : Type 0} (test : X → Bool) (f : X → A) (R : A → B → Typ
   all_made xs i rows h s =
       subst (AllZip R (told xs)) (append-nil rows)
       (s.made [] (subst (λ ys. AllZip R (told ys) []) (sym (drop_all i xs h)) tt))
-
-  pub all_whole : (xs : List X) (i : ℕ) (rows : List B) → length xs ≤ i → IsGathered xs i rows → lacked xs ≡ []
-  all_whole xs i rows h s = s.whole ∙ ap lacked (drop_all i xs h)

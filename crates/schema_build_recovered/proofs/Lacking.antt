@@ -18,10 +18,6 @@ first_before xs ys error.Memory h = tt
 pub first_behind : (xs ys : List Lack) (e : RecoveryError) → xs ≡ [] → IsFirstLack ys e → IsFirstLack (xs ++ ys) e
 first_behind xs ys e none h = subst (λ l. IsFirstLack (l ++ ys) e) (sym none) h
 
--- out of memory may be the answer whatever is lacking
-pub memory_first : (xs : List Lack) (e : RecoveryError) → e ≡ error.Memory → IsFirstLack xs e
-memory_first xs e h = subst (IsFirstLack xs) (sym h) tt
-
 -- what `?` hands on
 pub refused : {T : Type 0} (xs : List Lack) (r : Result T RecoveryError) (e : RecoveryError)
     → IsErrAnd r (λ y. y ≡ e) → IsFirstLack xs e → IfErr r (IsFirstLack xs)

@@ -1,5 +1,4 @@
 mod Contexts
-mod Declared
 mod Entities
 mod Fragments
 mod Gathered

@@ -1,15 +1,11 @@
 -- What is recovered of a type, and what it lacks, by its outermost layer.
-use Rattle.std.proofs.Common.{◌≡◌, ℕ, Bool, true, false, List, [], refl, sym, ap, ◌∙◌, subst, None, Some, inl, inr}
-use Rattle.std.specs.Prelude.{◌⊎◌}
+use Rattle.std.proofs.Common.{◌≡◌, ℕ, Bool, true, List, [], refl, sym, ap, ◌∙◌, subst, None, Some}
 use Rattle.cedar_identifiers.specs.declared.name.Name.{Name}
 use Rattle.cedar_identifiers.specs.declared.raw_name.RawName.{RawName}
 use Rattle.cedar_identifiers.specs.declared.unreserved_id.UnreservedId.{UnreservedId}
-use Rattle.cedar_names.specs.Meaning as plain
-use Rattle.schema_json.specs.Shapes.{record_type}
 use Rattle.schema_json.specs.declared.types.Type as written
 use Rattle.schema_json.specs.declared.types.TypeVariant.{TypeVariant}
 use Rattle.schema_json.specs.declared.types.TypeVariant.TheVariants as shape
-use Rattle.schema_json.specs.declared.types.RecordType.{RecordType}
 use Rattle.schema_build_errors.specs.declared.recovery_error.RecoveryError.{RecoveryError}
 use Rattle.schema_build_errors.specs.declared.recovery_error.RecoveryError.TheVariants as error
 use Rattle.schema_build_types.specs.declared.types.Type.{«Type»}
@@ -17,11 +13,11 @@ use Rattle.schema_build_types.specs.declared.types.Type.TheVariants as built
 use Rattle.schema_build_types.specs.Content.{TypeContent, type_content, attributes_content, names_content}
 use Rattle.schema_build_types.specs.Content as said
 use Rattle.schema_build_types.specs.Lacks.{type_lacks, attribute_lacks}
-use Rattle.schema_build_text.specs.Readings.{plain_type, plain_attributes}
+use Rattle.schema_build_text.specs.Readings.{plain_type}
 use Rattle.schema_build_recovered.specs.Recovered.{IsRecoveredType}
 use Rattle.schema_build_recovered.specs.Refusals.{IsFirstLack}
-use Rattle.schema_build_text.proofs.Layers.{never_says, any_bool_says, true_says, false_says, long_says, string_says}
-use Rattle.schema_build_text.proofs.Layers.{any_entity_says, unknown_says, set_says, record_says, entity_says}
+use Rattle.schema_build_text.proofs.Layers.{any_bool_says, long_says, string_says}
+use Rattle.schema_build_text.proofs.Layers.{unknown_says, set_says, record_says, entity_says}
 use Rattle.schema_build_text.proofs.Layers.{extension_says}
 
 -- what holds of what a type says
@@ -69,38 +65,10 @@ pub set_whole : (t v : «Type») → t ≡ built.Set (Some v) → IsWhole v → 
 set_whole t v e h =
     says_so (λ s. type_lacks s ≡ []) t (built.Set (Some v)) (said.Set (type_content v)) e (set_says v) h
 
-pub set_lacking : (t v : «Type») (r : RecoveryError) → t ≡ built.Set (Some v) → IsLacking v r → IsLacking t r
-set_lacking t v r e h =
-    says_so (λ s. IsFirstLack (type_lacks s) r) t (built.Set (Some v)) (said.Set (type_content v)) e (set_says v) h
-
 pub unknown_lacking : (t : «Type») → t ≡ built.Set None → IsLacking t error.UnknownElement
 unknown_lacking t e =
     says_so (λ s. IsFirstLack (type_lacks s) error.UnknownElement) t (built.Set None) said.SetOfUnknown e unknown_says
     ([], refl)
-
--- records
-pub record_is : (t : «Type») (attrs : List (List ℕ × («Type» × Bool))) (more : Bool) (r : RecordType RawName)
-    → t ≡ built.Record attrs more
-    → IsRecoveredType (plain.Rec (plain_attributes (attributes_content attrs))) (record_type r)
-    → Is t (shape.Record r)
-record_is t attrs more r e h =
-    says_so (Plain (shape.Record r)) t (built.Record attrs more) (said.Rec (attributes_content attrs) more) e
-    (record_says attrs more) h
-
-pub record_whole : (t : «Type») (attrs : List (List ℕ × («Type» × Bool))) (more : Bool) → t ≡ built.Record attrs more
-    → more ≡ false → attribute_lacks (attributes_content attrs) ≡ [] → IsWhole t
-record_whole t attrs more e closed h =
-    says_so (λ s. type_lacks s ≡ []) t (built.Record attrs more) (said.Rec (attributes_content attrs) more) e
-    (record_says attrs more)
-    (subst (λ m. type_lacks (said.Rec (attributes_content attrs) m) ≡ []) (sym closed) h)
-
-pub record_lacking : (t : «Type») (attrs : List (List ℕ × («Type» × Bool))) (more : Bool) (r : RecoveryError)
-    → t ≡ built.Record attrs more → more ≡ false → IsFirstLack (attribute_lacks (attributes_content attrs)) r
-    → IsLacking t r
-record_lacking t attrs more r e closed h =
-    says_so (λ s. IsFirstLack (type_lacks s) r) t (built.Record attrs more) (said.Rec (attributes_content attrs) more) e
-    (record_says attrs more)
-    (subst (λ m. IsFirstLack (type_lacks (said.Rec (attributes_content attrs) m)) r) (sym closed) h)
 
 pub open_lacking : (t : «Type») (attrs : List (List ℕ × («Type» × Bool))) (more : Bool) → t ≡ built.Record attrs more
     → more ≡ true → IsLacking t error.Unsupported
@@ -126,21 +94,3 @@ pub extension_is : (t : «Type») (name copy : UnreservedId) → t ≡ built.Ext
 extension_is t name copy e same =
     says_so (Plain (shape.Extension copy)) t (built.Extension name) (said.Ext name.id.text) e (extension_says name)
     (copy, refl, ap (λ n. n.id.text) same)
-
-pub extension_whole : (t : «Type») (name : UnreservedId) → t ≡ built.Extension name → IsWhole t
-extension_whole t name e =
-    says_so (λ s. type_lacks s ≡ []) t (built.Extension name) (said.Ext name.id.text) e (extension_says name) refl
-
--- the types that no text says
-pub unsupported_lacking : (t : «Type»)
-    → (t ≡ built.Never) ⊎ ((t ≡ built.True) ⊎ ((t ≡ built.False) ⊎ (t ≡ built.AnyEntity)))
-    → IsLacking t error.Unsupported
-unsupported_lacking t (inl e) =
-    says_so (λ s. IsFirstLack (type_lacks s) error.Unsupported) t built.Never said.Never e never_says ([], refl)
-unsupported_lacking t (inr (inl e)) =
-    says_so (λ s. IsFirstLack (type_lacks s) error.Unsupported) t built.True said.True e true_says ([], refl)
-unsupported_lacking t (inr (inr (inl e))) =
-    says_so (λ s. IsFirstLack (type_lacks s) error.Unsupported) t built.False said.False e false_says ([], refl)
-unsupported_lacking t (inr (inr (inr e))) =
-    says_so (λ s. IsFirstLack (type_lacks s) error.Unsupported) t built.AnyEntity said.AnyEntity e any_entity_says
-    ([], refl)

@@ -25,7 +25,7 @@ use Rattle.schema_build_scope.specs.FragmentScope.{by_components, fragment_scope
 use Rattle.schema_resolve.specs.Tried.{candidate}
 use Rattle.schema_build_scope.specs.Meant.{kind_if, meant_candidate}
 use Rattle.schema_build_scope.specs.declared.meant.Meant.{Meant}
-use Rattle.schema_build_scope.specs.NamedTargets.{IsRankOfName, IsCommonTarget, IsEntityTarget}
+use Rattle.schema_build_scope.specs.NamedTargets.{IsRankOfName, IsCommonTarget}
 use Rattle.schema_build_scope.proofs.Apart.{mapped_some, some_is}
 use Rattle.schema_build_scope.proofs.Found.{fragment_apart}
 
@@ -78,11 +78,6 @@ module _ (t : Tests) (ns : Option InternalName) (kind : ReferenceType) (name : R
   pub meant_entity : means t ns kind name ≡ Some (n, Entity) → t.is_entity (components_of n) ≡ true
   meant_entity e = let d = defined_kind Entity e in kind_entity t kind n d.0 d.1
 
-entity_not_common : (x y : List (List ℕ)) → (let a : List (List ℕ) × ReferenceType = (x, Entity) in
-    let b : List (List ℕ) × ReferenceType = (y, Common) in Some a ≡ Some b → ⊥)
-entity_not_common x y e =
-    let k : Entity ≡ Common = ap (λ (z : List (List ℕ) × ReferenceType). z.1) (some_is (x, Entity) (y, Common) e) in cc
-
 module _ {G : named.Ghosts RawName} (f : Fragment RawName G) (table : ExtensionTable) (ns : Option InternalName)
     (kind : ReferenceType) (name : RawName) where
   abbrev Means : Option (InternalName × ReferenceType) → Type 0
@@ -100,14 +95,6 @@ module _ {G : named.Ghosts RawName} (f : Fragment RawName G) (table : ExtensionT
   common_meant n e (told.Builtin ty) (none, (p, is, built)) =
       (components_of n, p, by_names (Some (n, Common)) e, none, is, built)
 
-  pub entity_meant : (n : InternalName) → Means (Some (n, Entity)) → (r : Target) → IsEntityTarget n r
-      → IsMeantTarget (fragment_scope f table) ns kind name r
-  entity_meant n e r (m, is, same) =
-      subst (IsMeantTarget (fragment_scope f table) ns kind name) (sym is)
-      (by_names (Some (n, Entity)) e
-      ∙ ap (λ (x : InternalName). let y : List (List ℕ) × ReferenceType = (components_of x, Entity) in Some y)
-      (sym same))
-
   same_full : (n : InternalName) → Means (Some (n, Common)) → (full : List (List ℕ)) (k : ReferenceType)
       → (fragment_scope f table).means ns kind name ≡ Some (full, k) → components_of n ≡ full
   same_full n e full k m =
@@ -124,15 +111,6 @@ module _ {G : named.Ghosts RawName} (f : Fragment RawName G) (table : ExtensionT
     λ j (full, m, other). fragment_apart f table (components_of n) j k
         (subst (λ x. IsRanked (fragment_scope f table) x j) (sym (same_full n e full Common m)) other) ranked,
   )
-
-  pub rank_entity : (n : InternalName) → Means (Some (n, Entity)) → IsRankOf (fragment_scope f table) ns kind name None
-  rank_entity n e k (full, m, ranked) =
-      entity_not_common (components_of n) full (sym (by_names (Some (n, Entity)) e) ∙ m)
-
-  pub rank_nothing : Means None → IsRankOf (fragment_scope f table) ns kind name None
-  rank_nothing e k (full, m, ranked) =
-      let b : List (List ℕ) × ReferenceType = (full, Common) in
-      let h : None ≡ Some b = sym (by_names None e) ∙ m in cc
 
 -- what is found of a reference says what it means
 pub means_found : (u t : Tests) → u ≡ t → (here ns : Option InternalName) → here ≡ ns → (kind : ReferenceType)

@@ -1,6 +1,6 @@
 -- What stands beside the first action at or behind it in the walk, and holds the type, is what is captured.
-use Rattle.std.proofs.Common.{◌≡◌, ℕ, ◌+◌, ◌<◌, Bool, true, false, ◌&&◌, ◌||◌, ◌==◌, length, List, [], ◌∷◌, ◌++◌, map}
-use Rattle.std.proofs.Common.{cond, drop, get_or, refl, ap, sym, ◌∙◌, subst, append_assoc, Option, Some, None}
+use Rattle.std.proofs.Common.{◌≡◌, ℕ, ◌+◌, Bool, true, false, ◌&&◌, ◌||◌, ◌==◌, length, List, [], ◌∷◌, ◌++◌, map}
+use Rattle.std.proofs.Common.{cond, refl, ap, sym, ◌∙◌, subst, append_assoc, Option, Some, None}
 use Rattle.std.proofs.Common.{if◌then◌else◌}
 use Rattle.std.specs.Prelude.{MatchOption}
 use Rattle.std.specs.Cmp.{first_so}
@@ -14,16 +14,14 @@ use Rattle.cedar_names.specs.CanonicalText.{namespace}
 use Rattle.cedar_names.specs.Definitions.{same_name}
 use Rattle.schema_build_errors.specs.declared.captured.ReferenceCaptured.{ReferenceCaptured}
 use Rattle.schema_build_types.specs.Content.{EntityContent, ActionContent, SchemaContent}
-use Rattle.schema_build_text.specs.Beside.{action_at, first_action, is_beside, is_captured_by, captured_before}
+use Rattle.schema_build_text.specs.Beside.{first_action, is_beside, is_captured_by, captured_before}
 use Rattle.schema_build_text.specs.Captured.{item_holds, has_action, captured_in, captured_items, first_item, IsAbout}
 use Rattle.schema_build_text.specs.Captured.{IsFirstOf}
-use Rattle.schema_build_text.specs.Items.{item_content}
 use Rattle.schema_build_text.specs.Rows.{sorted_once}
 use Rattle.schema_build_text.specs.Walk.{ItemContent, entity_type, action, namespace_of, items_of, items_in, walk}
-use Rattle.schema_build_text.specs.declared.items.Item.{Item}
 use Rattle.schema_build_text.proofs.Grouped.{Below, Rises, rises_sorted}
 use Rattle.schema_build_text.proofs.Named.{same_list}
-use Rattle.schema_build_text.proofs.Rowed.{in_order_is, dropped}
+use Rattle.schema_build_text.proofs.Rowed.{in_order_is}
 use Rattle.schema_build_text.proofs.Walked.{AreIn, apart, filter_append, names_total, same_self, within}
 
 abbrev Name : Type 0
@@ -234,46 +232,12 @@ pub captured_named : (c : SchemaContent) (x : ItemContent) → Some x ≡ first_
     → namespace_of x ≡ [] → ⊥
 captured_named c x e h = first_named (walk c) x (ap first_item (walk_captured c) ∙ sym e) h
 
-pub none_first : (zs : List ItemContent) → None ≡ first_item zs → zs ≡ []
-none_first [] e = refl
-none_first (z ∷ zs) e = absurd (cc)
-
 pub about_first : (found : Option ReferenceCaptured) (x : ItemContent) (zs : List ItemContent) → Some x ≡ first_item zs
     → (namespace_of x ≡ [] → ⊥) → MatchOption found (namespace_of x ≡ []) (IsAbout x)
     → MatchOption found (zs ≡ []) (IsFirstOf zs)
 about_first None x zs e never h = absurd (never h)
 about_first (Some captured) x [] e never h = absurd (cc)
 about_first (Some captured) x (z ∷ zs) e never h = let same : x ≡ z = cc in subst (λ y. IsAbout y captured) same h
-
--- one round of the search
-left_step : (items : List Item) (i j : ℕ) (x : Item) → j ≡ i + 1 → i < length items → x ≡ get_or items i x
-    → map item_content (drop i items) ≡ item_content x ∷ map item_content (drop j items)
-left_step items i j x n h e =
-    ap (map item_content) (dropped items i x h e) ∙ ap (λ k. item_content x ∷ map item_content (drop k items)) (sym n)
-
-pub action_step : (items : List Item) (i j : ℕ) (x : Item) (behind at : Option Name) → j ≡ i + 1 → i < length items
-    → x ≡ get_or items i x → at ≡ action_at (item_content x) behind
-    → behind ≡ first_action (map item_content (drop j items)) → at ≡ first_action (map item_content (drop i items))
-action_step items i j x behind at n h e f g =
-    f ∙ (ap (action_at (item_content x)) g ∙ sym (ap first_action (left_step items i j x n h e)))
-
-first_chosen : (b : Bool) (y : ItemContent) (ys : List ItemContent)
-    → (if b then Some y else first_item ys) ≡ first_item (if b then y ∷ ys else ys)
-first_chosen true y ys = refl
-first_chosen false y ys = refl
-
-pub found_step : (items : List Item) (i j : ℕ) (x : Item) (at : Option Name) (b : Bool) (found : Option ItemContent)
-    → j ≡ i + 1 → i < length items → x ≡ get_or items i x → b ≡ is_captured_by at (item_content x)
-    → at ≡ first_action (map item_content (drop i items))
-    → found ≡ first_item (captured_before (map item_content (drop j items)))
-    → (if b then Some (item_content x) else found) ≡ first_item (captured_before (map item_content (drop i items)))
-found_step items i j x at b found n h e f g k =
-    let y = item_content x in
-    let ys = map item_content (drop j items) in
-    let left = left_step items i j x n h e in
-    (λ t. if (f ∙ ap (λ m. is_captured_by m y) (g ∙ ap first_action left)) t then Some y else k t)
-    ∙ (first_chosen (is_captured_by (first_action (y ∷ ys)) y) y (captured_before ys)
-    ∙ sym (ap (λ l. first_item (captured_before l)) left))
 
 -- an item whose namespace has a name
 beside_named : (name : InternalName) (m : Name) → (length name.others == 0) ≡ false

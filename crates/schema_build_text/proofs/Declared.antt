@@ -7,34 +7,13 @@ use Rattle.cedar_data.specs.Rows.{joined_by}
 use Rattle.cedar_data.specs.Text.{text_cmp}
 use Rattle.cedar_identifiers.specs.Names.{components_of, name_text}
 use Rattle.cedar_identifiers.specs.declared.name.Name.{Name}
-use Rattle.cedar_names.specs.declared.entity_uid.EntityUID.{EntityUID}
 use Rattle.cedar_names.specs.CanonicalText.{applies_text, context_text, shape_text, record_text, lines_text, list_text}
 use Rattle.cedar_names.specs.CanonicalText.{spaces}
 use Rattle.cedar_names.specs.Meaning.{Attributes}
-use Rattle.schema_build_types.specs.Content.{entity_content, action_content, names_content, attributes_content}
+use Rattle.schema_build_types.specs.Content.{names_content, attributes_content}
 use Rattle.schema_build_types.specs.declared.types.Type.{«Type»}
-use Rattle.schema_build_types.specs.declared.entity_type.ValidatorEntityType.{ValidatorEntityType}
-use Rattle.schema_build_types.specs.declared.entity_type.ValidatorEntityTypeKind.{ValidatorEntityTypeKind}
-use Rattle.schema_build_types.specs.declared.action.ValidatorActionId.{ValidatorActionId}
-use Rattle.schema_build_types.specs.declared.action.ValidatorActionKind.{ValidatorActionKind}
-use Rattle.schema_build_text.specs.Items.{entity_declaration, action_declaration}
-use Rattle.schema_build_text.specs.Readings.{entity_reading, action_reading, plain_attributes}
+use Rattle.schema_build_text.specs.Readings.{plain_attributes}
 use Rattle.schema_build_text.proofs.Rowed.{some_sorted, in_order_is, no_items}
-
--- what is declared of this kind
-pub entity_declared : (base : ℕ) (n : Name) (t : ValidatorEntityType) (k : ValidatorEntityTypeKind) → t.kind ≡ k
-    → entity_declaration base (entity_reading (entity_content (n, record { ancestors = t.ancestors; kind = k })))
-    ≡ entity_declaration base (entity_reading (entity_content (n, t)))
-entity_declared base n t k e =
-    ap (λ k. entity_declaration base
-    (entity_reading (entity_content (n, record { ancestors = t.ancestors; kind = k })))) (sym e)
-
-pub action_declared : (base : ℕ) (u : EntityUID) (t : ValidatorActionId) (k : ValidatorActionKind) → t.kind ≡ k
-    → action_declaration base (action_reading (action_content (u, record { ancestors = t.ancestors; kind = k })))
-    ≡ action_declaration base (action_reading (action_content (u, t)))
-action_declared base u t k e =
-    ap (λ k. action_declaration base
-    (action_reading (action_content (u, record { ancestors = t.ancestors; kind = k })))) (sym e)
 
 -- attributes, where there are none and where there are some
 pub no_shape : (base : ℕ) (entries : List (List ℕ × («Type» × Bool))) → (length entries == 0) ≡ true

@@ -1,8 +1,7 @@
 -- What is printed of each kind of type, one equation a layer.
 use Rattle.std.proofs.Common.{◌≡◌, ℕ, ◌+◌, ◌<◌, ◌==◌, Bool, true, false, length, List, [], ◌∷◌, ◌++◌, drop, get_or}
-use Rattle.std.proofs.Common.{codes, refl, ap, sym, ◌∙◌, inl, inr, append_assoc, Some, None, if◌then◌else◌, arith}
+use Rattle.std.proofs.Common.{codes, refl, ap, sym, ◌∙◌, inl, inr, append_assoc, Some, None, if◌then◌else◌}
 use Rattle.std.specs.Prelude.{◌⊎◌}
-use Rattle.std.proofs.lemmas.Bool.{eqb-true}
 use Rattle.cedar_identifiers.specs.declared.name.Name.{Name}
 use Rattle.cedar_identifiers.specs.declared.unreserved_id.UnreservedId.{UnreservedId}
 use Rattle.cedar_names.specs.Meaning.{PlainType, Attributes, attribute}
@@ -70,12 +69,6 @@ bool_shown base t (inl e) = shown base t built.Never said.Never (codes "__cedar:
 bool_shown base t (inr (inl e)) = shown base t built.AnyBool said.AnyBool (codes "__cedar::Bool") e any_bool_says refl
 bool_shown base t (inr (inr (inl e))) = shown base t built.True said.True (codes "__cedar::Bool") e true_says refl
 bool_shown base t (inr (inr (inr e))) = shown base t built.False said.False (codes "__cedar::Bool") e false_says refl
-
--- a record without attributes, and one with some
-pub record_empty : (base : ℕ) (entries : List (List ℕ × («Type» × Bool))) → (length entries == 0) ≡ true
-    → codes "{" ++ (spaces base ++ codes "}") ≡ record_text true base (plain_attributes (attributes_content entries))
-record_empty base [] h = refl
-record_empty base (e ∷ es) h = absurd (omega (arith, eqb-true (length (e ∷ es)) 0 h))
 
 pub record_filled : (base : ℕ) (entries : List (List ℕ × («Type» × Bool))) → (length entries == 0) ≡ false
     → codes "{\n" ++ (lines_text true base (plain_attributes (attributes_content entries))

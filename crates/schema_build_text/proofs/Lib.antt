@@ -2,7 +2,6 @@ mod Besides
 mod Bytes
 pub mod Declared
 pub mod Grouped
-mod Holding
 pub mod InOrder
 pub mod Layers
 mod Meant

@@ -52,14 +52,6 @@ pub front_of : (name : InternalName) (front : List Id) (x : Id) → name.others 
     → namespace (components_of name) ≡ texts_of (name.first ∷ front)
 front_of name front x e = ap (λ os. namespace (name.first.text ∷ texts_of os)) e ∙ front_named name.first.text front x
 
--- and one without
-pub last_alone : (name : InternalName) → length name.others ≡ 0 → name.first.text ≡ basename (components_of name)
-last_alone name e = by name.others e
-  where
-    by : (os : List Id) → length os ≡ 0 → name.first.text ≡ basename (name.first.text ∷ texts_of os)
-    by [] h = refl
-    by (o ∷ os) h = absurd (omega arith)
-
 pub front_alone : (name : InternalName) → length name.others ≡ 0 → namespace (components_of name) ≡ []
 front_alone name e = by name.others e
   where
@@ -106,11 +98,6 @@ namespaces_tie a b =
     let q = fronts (b.first ∷ b.others) in
     (λ k. same_name (p k) (q k)) ∙ same_lists (front_ids (a.first ∷ a.others)) (front_ids (b.first ∷ b.others))
     ∙ sym (λ k. is_eq (slice_cmp text_cmp (p k) (q k)))
-
--- names whose namespaces are found the same have the same words there
-pub one_namespace : (a b : InternalName) → same_name (namespace (components_of a)) (namespace (components_of b)) ≡ true
-    → namespace (components_of a) ≡ namespace (components_of b)
-one_namespace a b h = same_list (namespace (components_of a)) (namespace (components_of b)) h
 
 -- namespaces of names, compared by their words
 module _ (C : Id → Id → Ordering) (same : (x y : Id) → C x y ≡ text_cmp x.text y.text) (a b : InternalName) where

@@ -1,7 +1,6 @@
 -- Names among which the empty namespace's `Action` is.
 use Rattle.std.proofs.Common.{◌≡◌, ℕ, Bool, true, false, ◌&&◌, ◌||◌, ◌==◌, length, List, [], ◌∷◌, codes, map, refl, ap}
-use Rattle.std.proofs.Common.{sym, ◌∙◌, arith}
-use Rattle.std.proofs.lemmas.Bool.{eqb-true}
+use Rattle.std.proofs.Common.{sym, ◌∙◌}
 use Rattle.std.specs.declared.cmp.Ordering.{Ordering}
 use Rattle.std.specs.declared.cmp.Ordering.TheVariants.{Less, Equal, Greater}
 use Rattle.std.specs.Ordering.{is_eq, match_ordering}
@@ -25,20 +24,11 @@ and_false : (b : Bool) → false ≡ (b && false)
 and_false true = refl
 and_false false = refl
 
-and_true : (b : Bool) → b ≡ (b && true)
-and_true true = refl
-and_true false = refl
-
 -- a name of several words, and of one
 pub several_words : (t : List ℕ) (os : List Id) → (length os == 0) ≡ false
     → false ≡ same_name plain_action (t ∷ texts_of os)
 several_words t [] h = absurd (cc)
 several_words t (o ∷ os) h = and_false (bytes_eq (codes "Action") t)
-
-pub one_word : (t : List ℕ) (os : List Id) → (length os == 0) ≡ true
-    → bytes_eq (codes "Action") t ≡ same_name plain_action (t ∷ texts_of os)
-one_word t [] h = and_true (bytes_eq (codes "Action") t)
-one_word t (o ∷ os) h = absurd (omega (arith, eqb-true (length (o ∷ os)) 0 h))
 
 abbrev pub is_plain : Name → Bool
 is_plain n = same_name plain_action (components_of n.name)
@@ -87,11 +77,6 @@ pub is_found : (names left rest : List Name) (n : Name) → list_any is_plain na
     → left ≡ n ∷ rest → true ≡ is_plain n → true ≡ among (names_content names) plain_action
 is_found names left rest n e f h =
     ap (λ b. b || list_any is_plain rest) h ∙ sym (any_named names ∙ (e ∙ ap (list_any is_plain) f))
-
-pub is_passed : (names left rest : List Name) (n : Name) → list_any is_plain names ≡ list_any is_plain left
-    → left ≡ n ∷ rest → false ≡ is_plain n → list_any is_plain names ≡ list_any is_plain rest
-is_passed names left rest n e f h =
-    e ∙ (ap (list_any is_plain) f ∙ ap (λ b. b || list_any is_plain rest) (sym h))
 
 pub is_nowhere : (names left : List Name) → list_any is_plain names ≡ list_any is_plain left → left ≡ []
     → false ≡ among (names_content names) plain_action

@@ -172,17 +172,6 @@ none_left (x ∷ xs) f = absurd (let no = f (omega arith) in cc)
 
 -- items that rise are sorted, each once
 module _ {A : Type 0} (C : A → A → Ordering) where
-  front_less : (x y : A) (ys : List A) → C x y ≡ Less → insert_key C (y ∷ ys) x ≡ x ∷ y ∷ ys
-  front_less x y ys e = ap (λ o. match_ordering o (x ∷ y ∷ ys) (y ∷ ys) (y ∷ insert_key C ys x)) e
-
-  pub rising_more : (xs : List A) (i : ℕ) (x y : A) → i + 1 < length xs → x ≡ get_or xs i x → y ≡ get_or xs (i + 1) y
-      → C x y ≡ Less → sorted_once C (drop (i + 1) xs) ≡ drop (i + 1) xs → sorted_once C (drop i xs) ≡ drop i xs
-  rising_more xs i x y h ex ey less up =
-      let front = dropped xs i x (omega arith) ex in
-      let next = dropped xs (i + 1) y h ey in
-      ap (sorted_once C) front ∙ ap (λ l. insert_key C l x) (up ∙ next) ∙ front_less x y (drop ((i + 1) + 1) xs) less
-      ∙ sym (ap (λ l. x ∷ l) next) ∙ sym front
-
   pub last_rises : (xs : List A) → sorted_once C (drop (length xs - 1) xs) ≡ drop (length xs - 1) xs
   last_rises [] = refl
   last_rises (x ∷ []) = refl

@@ -1,14 +1,10 @@
 -- What a built schema may hold that no text says, in the order of the walk: an outer type before the types inside it.
-use Rattle.std.specs.Prelude.{◌≡◌, ℕ, Bool, true, false, List, [], ◌∷◌, ◌++◌, map, filter, Option, None, Some}
+use Rattle.std.specs.Prelude.{ℕ, Bool, true, false, List, [], ◌∷◌, ◌++◌, map, filter, Option, None, Some}
 use Rattle.std.specs.List.{flat_map}
-use Rattle.cedar_identifiers.specs.declared.name.Name.{Name}
 use Rattle.cedar_names.specs.CanonicalText.{namespace, in_order}
 use Rattle.cedar_names.specs.Definitions.{same_name}
-use Rattle.cedar_names.specs.declared.entity_uid.EntityUID.{EntityUID}
-use Rattle.schema_build_types.specs.declared.entity_type.ValidatorEntityType.{ValidatorEntityType}
-use Rattle.schema_build_types.specs.declared.action.ValidatorActionId.{ValidatorActionId}
 use Rattle.schema_build_types.specs.Content.{TypeContent, AttributeContents, none, first, EntityContent}
-use Rattle.schema_build_types.specs.Content.{SchemaContent, content}
+use Rattle.schema_build_types.specs.Content.{SchemaContent}
 use Rattle.schema_build_types.specs.Content as said
 
 -- why no text says a type
@@ -74,7 +70,3 @@ namespaces_of c = in_order (map (λ e. namespace e.name) c.entities ++ map (λ a
 -- what a schema lacks, in order
 abbrev pub schema_lacks : SchemaContent → List Lack
 schema_lacks c = flat_map (namespace_lacks c) (namespaces_of c)
-
--- the first that a schema of these entity types and actions lacks
-abbrev pub Lacks : List (Name × ValidatorEntityType) → List (EntityUID × ValidatorActionId) → Lack → Type 0
-Lacks entities actions lack = (more : List Lack) × (schema_lacks (content entities actions) ≡ lack ∷ more)

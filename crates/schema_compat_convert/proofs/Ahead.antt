@@ -14,13 +14,6 @@ module _ {A B : Type 0} (asks : A → List Demand) (Become : List A → List B �
     pub unmet : (e : ShapeFault) → IsFault (flat_map asks left) e → IsFault (flat_map asks all) e
     pub becomes : (more : List B) → Become left more → Become all (made ++ more)
 
-  pub all_ahead : (left all : List A) (made : List B) → left ≡ all → made ≡ [] → Ahead left all made
-  all_ahead left all made same none = record {
-    met = subst (λ l. AllMet (flat_map asks left) → AllMet (flat_map asks l)) same (λ h. h);
-    unmet = λ e. subst (λ l. IsFault (flat_map asks left) e → IsFault (flat_map asks l) e) same (λ h. h);
-    becomes = λ more h. subst (λ l. Become all (l ++ more)) (sym none) (subst (λ l. Become l more) same h);
-  }
-
   -- the first of what is left has a fault
   pub first_fails : (x : A) (left rest all : List A) (made : List B) (e : ShapeFault) → Ahead left all made
       → left ≡ x ∷ rest → IsFault (asks x) e → IsFault (flat_map asks all) e

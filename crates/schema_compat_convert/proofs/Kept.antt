@@ -1,5 +1,5 @@
 -- Each value stands under its key, as before; and no attribute is greater than the greatest.
-use Rattle.std.proofs.Common.{◌≡◌, ℕ, ◌≤◌, List, [], ◌∷◌, refl, sym, ap, subst, arith}
+use Rattle.std.proofs.Common.{◌≡◌, ℕ, ◌≤◌, List, [], ◌∷◌, refl, sym, subst, arith}
 use Rattle.std.specs.Map.{keys_of, values_of}
 use denote.Param.Weighed.{most}
 use Rattle.cedar_identifiers.specs.declared.raw_name.RawName.{RawName}
@@ -31,14 +31,6 @@ pub attribute_next : (k : List ℕ) (a : OldAttribute) (t : «Type» RawName) (b
     → AttributesBecome ((k, a) ∷ es) ((k, b) ∷ fs)
 attribute_next k a t b es fs says is h =
     subst (λ x. AttributesBecome ((k, a) ∷ es) ((k, x) ∷ fs)) (sym is) (next_attribute k a t es fs says h)
-
--- the first of the values is no greater than the greatest
-pub first_most : {K A : Type 0} (f : A → ℕ) (left rest : List (K × A)) (x : K × A) → left ≡ x ∷ rest
-    → f x.1 ≤ most f (values_of left)
-first_most f [] rest x is = absurd cc
-first_most f (e ∷ es) rest x is =
-    let same : e ≡ x = cc in
-    omega (arith, ap (λ p. f p.1) same)
 
 -- nor are those behind it
 pub rest_most : {K A : Type 0} (f : A → ℕ) (left rest : List (K × A)) (x : K × A) (n : ℕ) → left ≡ x ∷ rest

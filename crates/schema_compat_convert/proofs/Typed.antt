@@ -11,7 +11,6 @@ use Rattle.schema_json.specs.declared.types.Type.TheVariants.{CommonTypeRef}
 use Rattle.schema_json.specs.declared.types.TypeVariant.{TypeVariant}
 use Rattle.schema_json.specs.declared.types.TypeVariant.TheVariants as variant
 use Rattle.schema_json.specs.declared.types.TypeOfAttribute.{TypeOfAttribute}
-use Rattle.schema_json_shapes.specs.declared.name_role.NameRole.{NameRole}
 use Rattle.schema_json_shapes.specs.declared.name_role.NameRole.TheVariants as role
 use Rattle.schema_json_shapes.specs.declared.shape_fault.ShapeFault.{ShapeFault}
 use Rattle.schema_json_shapes.specs.Walk.{is_name, AllMet}
@@ -22,7 +21,7 @@ use Rattle.schema_compat_types.specs.declared.types.SchemaType.TheVariants as wr
 use Rattle.schema_compat_types.specs.declared.types.SchemaTypeVariant.{SchemaTypeVariant}
 use Rattle.schema_compat_types.specs.declared.types.SchemaTypeVariant.TheVariants as shape
 use Rattle.schema_compat_types.specs.declared.types.TypeOfAttribute.{TypeOfAttribute as OldAttribute}
-use Rattle.schema_compat_convert.specs.Demands.{asks_name, asks_type, asks_shape, asks_attributes}
+use Rattle.schema_compat_convert.specs.Demands.{asks_type, asks_shape, asks_attributes}
 use Rattle.schema_compat_convert.specs.Converted.{record_shape, TypeBecomes, of_shape, of_reference, ShapeBecomes}
 use Rattle.schema_compat_convert.specs.Converted.{of_set}
 use Rattle.schema_compat_convert.specs.Converted.{of_string, of_long, of_boolean}
@@ -37,11 +36,6 @@ pub shape_made : (ty : SchemaType) (v : SchemaTypeVariant) (w : TypeVariant RawN
 shape_made ty v w is (met, h) = subst (λ s. AllMet (asks_type s) × TypeBecomes s (plain w)) (sym is)
     (subst AllMet (sym (shape_asked v)) met, of_shape v w h)
 
-pub shape_fails : (ty : SchemaType) (v : SchemaTypeVariant) (e : ShapeFault) → ty ≡ written.Variant v
-    → IsFault (asks_shape v) e → IsFault (asks_type ty) e
-shape_fails ty v e is h = subst (λ s. IsFault (asks_type s) e) (sym is)
-    (subst (λ ds. IsFault ds e) (sym (shape_asked v)) h)
-
 pub reference_made : (ty : SchemaType) (text bytes : List ℕ) (n : RawName) → ty ≡ written.TypeDef text
     → bytes ≡ encode_utf8_all text → AllMet (is_name role.CommonType bytes ∷ []) × IsRawName bytes n
     → AllMet (asks_type ty) × TypeBecomes ty (CommonTypeRef n None)
@@ -49,16 +43,6 @@ reference_made ty text bytes n is same h =
     let (met, names) = subst (λ b. AllMet (is_name role.CommonType b ∷ []) × IsRawName b n) same h in
     subst (λ s. AllMet (asks_type s) × TypeBecomes s (CommonTypeRef n None)) (sym is)
     (subst AllMet (sym (reference_asked text)) met, of_reference text n names)
-
--- a text that is no name in its role
-named : (r : NameRole) (text bytes : List ℕ) (e : ShapeFault) → bytes ≡ encode_utf8_all text
-    → IsFault (is_name r bytes ∷ []) e → IsFault (asks_name r text) e
-named r text bytes e same h = subst (λ b. IsFault (is_name r b ∷ []) e) same h
-
-pub reference_fails : (ty : SchemaType) (text bytes : List ℕ) (e : ShapeFault) → ty ≡ written.TypeDef text
-    → bytes ≡ encode_utf8_all text → IsFault (is_name role.CommonType bytes ∷ []) e → IsFault (asks_type ty) e
-reference_fails ty text bytes e is same h = subst (λ s. IsFault (asks_type s) e) (sym is)
-    (subst (λ ds. IsFault ds e) (sym (reference_asked text)) (named role.CommonType text bytes e same h))
 
 -- ---- shapes
 
@@ -79,11 +63,6 @@ pub set_made : (v : SchemaTypeVariant) (s : SchemaType) (t : «Type» RawName) �
     → AllMet (asks_type s) × TypeBecomes s t → AllMet (asks_shape v) × ShapeBecomes v (variant.Set t)
 set_made v s t is (met, h) = subst (λ x. AllMet (asks_shape x) × ShapeBecomes x (variant.Set t)) (sym is)
     (subst AllMet (sym (set_asked s)) met, of_set s t h)
-
-pub set_fails : (v : SchemaTypeVariant) (s : SchemaType) (e : ShapeFault) → v ≡ shape.Set s → IsFault (asks_type s) e
-    → IsFault (asks_shape v) e
-set_fails v s e is h = subst (λ x. IsFault (asks_shape x) e) (sym is)
-    (subst (λ ds. IsFault ds e) (sym (set_asked s)) h)
 
 pub record_made : (v : SchemaTypeVariant) (es : List (List ℕ × OldAttribute)) (is_open : Bool)
     (fs : List (List ℕ × TypeOfAttribute RawName)) → v ≡ shape.Record es is_open
@@ -106,11 +85,6 @@ entity_made v text bytes n is same h =
     subst (λ x. AllMet (asks_shape x) × ShapeBecomes x (variant.Entity n)) (sym is)
     (subst AllMet (sym (entity_asked text)) met, of_entity text n names)
 
-pub entity_fails : (v : SchemaTypeVariant) (text bytes : List ℕ) (e : ShapeFault) → v ≡ shape.Entity text
-    → bytes ≡ encode_utf8_all text → IsFault (is_name role.EntityType bytes ∷ []) e → IsFault (asks_shape v) e
-entity_fails v text bytes e is same h = subst (λ x. IsFault (asks_shape x) e) (sym is)
-    (subst (λ ds. IsFault ds e) (sym (entity_asked text)) (named role.EntityType text bytes e same h))
-
 pub extension_made : (v : SchemaTypeVariant) (text bytes : List ℕ) (id : UnreservedId) → v ≡ shape.Extension text
     → bytes ≡ encode_utf8_all text → AllMet (is_name role.ExtensionType bytes ∷ []) × IsId bytes id
     → AllMet (asks_shape v) × ShapeBecomes v (variant.Extension id)
@@ -118,8 +92,3 @@ extension_made v text bytes id is same h =
     let (met, names) = subst (λ b. AllMet (is_name role.ExtensionType b ∷ []) × IsId b id) same h in
     subst (λ x. AllMet (asks_shape x) × ShapeBecomes x (variant.Extension id)) (sym is)
     (subst AllMet (sym (extension_asked text)) met, of_extension text id names)
-
-pub extension_fails : (v : SchemaTypeVariant) (text bytes : List ℕ) (e : ShapeFault) → v ≡ shape.Extension text
-    → bytes ≡ encode_utf8_all text → IsFault (is_name role.ExtensionType bytes ∷ []) e → IsFault (asks_shape v) e
-extension_fails v text bytes e is same h = subst (λ x. IsFault (asks_shape x) e) (sym is)
-    (subst (λ ds. IsFault ds e) (sym (extension_asked text)) (named role.ExtensionType text bytes e same h))

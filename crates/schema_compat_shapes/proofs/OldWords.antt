@@ -12,23 +12,18 @@ use Rattle.cedar_data.specs.Maps.{map_of}
 use Rattle.cedar_data.specs.Text.{text_cmp}
 use Rattle.schema_compat_types.specs.declared.types.SchemaTypeVariant.TheVariants as variant
 use Rattle.schema_compat_types.specs.declared.types.TypeOfAttribute.{TypeOfAttribute}
-use Rattle.schema_json_shapes.specs.declared.words.TypeWord.{TypeWord}
 use Rattle.schema_json_shapes.specs.declared.words.TypeWord.TheVariants as word
 use Rattle.schema_json_shapes.specs.Walk.{flag_or}
 use Rattle.schema_json_shapes.specs.Said.{IsText, HasWord, AreEntries, no_entry, next_entry}
 use Rattle.schema_json_shapes.proofs.Objects.{an_object}
-use Rattle.schema_compat_shapes.specs.OldTypes.{object_of, is_old_attribute, are_all_attributes, inner_reads}
-use Rattle.schema_compat_shapes.specs.OldTypes.{reads_as_shape, SaysOldVariant, SayOldAttributes}
+use Rattle.schema_compat_shapes.specs.OldTypes.{object_of, is_old_attribute, are_all_attributes}
+use Rattle.schema_compat_shapes.specs.OldTypes.{SaysOldVariant, SayOldAttributes}
 use Rattle.schema_compat_shapes.specs.OldTypes.{old_record, no_old_attribute, next_old_attribute}
 use Rattle.schema_compat_shapes.specs.OldParts.{IsOldAttribute}
 
 both : (a b : Bool) → (a && b) ≡ true → (a ≡ true) × (b ≡ true)
 both true b e = (refl, e)
 both false b e = absurd (cc)
-
-pub inner_of : (as_attribute : Bool) (w : TypeWord) (ms : Members) → reads_as_shape as_attribute w ms ≡ true
-    → inner_reads w ms ≡ true
-inner_of as_attribute w ms e = (both (inner_reads w ms) _ e).0
 
 -- ---- objects that are there
 

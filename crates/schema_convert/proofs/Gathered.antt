@@ -1,7 +1,6 @@
 -- What is gathered of a list's items, one after the other.
 use Rattle.std.proofs.Common.{◌≡◌, ℕ, suc, ◌+◌, ◌<◌, ◌≤◌, List, [], ◌∷◌, ◌++◌, length, get_or, drop, Option, Some, None}
 use Rattle.std.proofs.Common.{refl, sym, ap, ◌∙◌, append_assoc, append-nil, drop-cons, add-one, arith}
-use Rattle.std.proofs.lemmas.List.{length-append}
 use Rattle.std.specs.List.{cons_option}
 use Rattle.std.specs.Option.{option_to_list}
 use Rattle.std.proofs.lemmas.List.{drop_all}
@@ -27,16 +26,6 @@ module _ {A B : Type 0} (g : List A → List B) (f : A → List B) (nil : g [] �
   more_at done done' xs i x all h lt e p =
       more done done' (drop i xs) (drop (i + 1) xs) x all h
       (drop-cons xs i x lt ∙ (ap (λ y. y ∷ drop (suc i) xs) (sym e) ∙ ap (λ j. x ∷ drop j xs) (sym (add-one i)))) p
-
-  -- a count of what is gathered, that may fall short
-  pub count_at : (count count' : ℕ) (xs : List A) (i : ℕ) (x : A) (all : ℕ) → count + length (g (drop i xs)) ≤ all
-      → i < length xs → x ≡ get_or xs i x → count' ≤ count + length (f x) → count' + length (g (drop (i + 1) xs)) ≤ all
-  count_at count count' xs i x all h lt e p =
-      let here : drop i xs ≡ x ∷ drop (i + 1) xs =
-      drop-cons xs i x lt ∙ (ap (λ y. y ∷ drop (suc i) xs) (sym e) ∙ ap (λ j. x ∷ drop j xs) (sym (add-one i))) in
-      let both : length (g (drop i xs)) ≡ length (f x) + length (g (drop (i + 1) xs)) =
-      ap (λ l. length (g l)) here ∙ ap length (cons x (drop (i + 1) xs)) ∙ length-append (f x) (g (drop (i + 1) xs)) in
-      omega (arith, h, p, both)
 
   pub over_at : (done : List B) (xs : List A) (i : ℕ) (all : List B) → done ++ g (drop i xs) ≡ all → length xs ≤ i
       → done ≡ all

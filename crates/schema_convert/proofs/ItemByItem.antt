@@ -59,22 +59,6 @@ no_append : {A : Type 0} (xs ys : List A) → (ys ≡ [] → ⊥) → xs ++ ys �
 no_append [] ys some h = some h
 no_append (x ∷ xs) ys some h = cc
 
--- nothing was gathered of no item
-pub nothing_gathered : (table : ExtensionTable) (g : Gathered) → g.namespaces.items ≡ []
-    → g.outside.commons.items ≡ [] → g.outside.entities.items ≡ [] → g.outside.actions.items ≡ []
-    → g.has_outside ≡ false → IsGatheredOf table [] g
-nothing_gathered table g namespaces commons entities actions without =
-    record {
-      namespaces = namespaces;
-      each = tt;
-      commons = commons;
-      entities = entities;
-      actions = actions;
-      plain = tt;
-      none = λ h. refl;
-      some = λ h e. true≢false (sym h ∙ without);
-    }
-
 module _ (table : ExtensionTable) (tree : List (Annotated Namespace)) (n : Annotated Namespace) where
   named_more : (o : Option Path) → n.item.name ≡ o → named (tree ++ n ∷ []) ≡ named tree ++ named_so o n
   named_more o is =

@@ -218,9 +218,6 @@ module _ {N P : Type 0} (name : N → P) (R : P → P → Ordering) where
         → lookup (is_at (R q)) entries ≡ place_of (λ n. is_eq (R q (name n))) (first_of_each are_same done)
     pub grouped : groups ≡ map (with_all done) (first_of_each are_same done)
 
-  pub begun : (all : List N) → Grouped all all [] []
-  begun all = record { done = []; split = refl; placed = λ q. refl; grouped = refl }
-
   pub over : (all left : List N) (entries : List (P × ℕ)) (groups : List (N × List N))
       → Grouped all left entries groups
       → length left ≡ 0 → groups ≡ map (with_all all) (first_of_each are_same all)

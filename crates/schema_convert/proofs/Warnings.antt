@@ -116,9 +116,6 @@ module _ (table : ExtensionTable) (decls : List (Annotated (Node Declaration))) 
         λ h. split.1 (elim h [ inl e ↦ inl ((entity_of c).1 e) | inr b ↦ inr ((builtin_said table c w).1 b) ]),
       )
 
-  abbrev of_commons : Type 0
-  of_commons = IsAmong w (flat_map (λ (c : Id × Node Id). common_warnings table (by_id entities) c.1) (by_id commons))
-
   of_declared : IsAmong w (declared_warnings table decls) ↔ IsOfDeclared table decls w
   of_declared =
       let split = among_append w (flat_map (λ (c : Id × Node Id). common_warnings table (by_id entities) c.1)

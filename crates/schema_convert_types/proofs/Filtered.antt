@@ -57,9 +57,6 @@ module _ {K X : Type 0} {R : K → K → Ordering} (o : IsTotalOrder R) where
   map_rises es = with_rises [] es tt
 
   module _ (p : K → Bool) (same : (a b : K) → R a b ≡ Equal → p a ≡ p b) where
-    passed : List (K × X) → List (K × X)
-    passed es = filter (λ e. p e.0) es
-
     below_filter : (k : K) (es : List (K × X)) → Below k es → Below k (filter (λ e. p e.0) es)
     below_filter k [] b = tt
     below_filter k (e ∷ es) b = by (below_filter k es b.1) (p e.0)

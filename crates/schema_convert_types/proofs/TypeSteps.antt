@@ -1,8 +1,6 @@
 -- The equations of what types and attributes become.
-use Rattle.std.proofs.Common.{◌≡◌, ℕ, false, List, [], ◌∷◌, Option, map, refl, sym, ap, ◌∙◌}
-use Rattle.cedar_data.specs.Maps.{map_of}
+use Rattle.std.proofs.Common.{◌≡◌, ℕ, List, [], ◌∷◌, Option, map, refl, sym, ap, ◌∙◌}
 use Rattle.cedar_data.specs.Span.{Span}
-use Rattle.cedar_data.specs.Text.{text_cmp}
 use Rattle.cedar_data.specs.declared.node.Node.{Node}
 use Rattle.cedar_identifiers.specs.declared.annotations.Annotations.{Annotations}
 use Rattle.cedar_identifiers.specs.declared.raw_name.RawName.{RawName}
@@ -17,10 +15,9 @@ use Rattle.schema_syntax_tree.specs.declared.types.Type.TheFolds.{fold-roll-Type
 use Rattle.schema_json.specs.declared.types.Type.{«Type» as Shape}
 use Rattle.schema_json.specs.declared.types.Type.TheVariants as shape
 use Rattle.schema_json.specs.declared.types.TypeVariant.TheVariants as variant
-use Rattle.schema_json.specs.declared.types.RecordType.{roll-RecordType}
 use Rattle.schema_json.specs.declared.types.TypeOfAttribute.{roll-TypeOfAttribute}
 use Rattle.schema_convert_types.specs.Names.{raw_name_of}
-use Rattle.schema_convert_types.specs.Types.{AttributeEntry, record_of, record_type, translated_type}
+use Rattle.schema_convert_types.specs.Types.{AttributeEntry, record_type, translated_type}
 use Rattle.schema_convert_types.specs.Types.{translated_attribute, type_at, attribute_beside, attribute_of}
 
 map_both : {A B C : Type 0} (f : B → C) (g : A → B) (xs : List A) → map f (map g xs) ≡ map (λ x. f (g x)) xs
@@ -81,10 +78,3 @@ attribute_made n ty notes name e f g =
     let required = (out-AttrDecl n.node.item).required in
     (λ i. (g i, roll-TypeOfAttribute RawName (record { ty = e i; annotations = f i; required = required })))
     ∙ sym (attribute_is n.node.item n.node.annotations)
-
--- a record whose attributes were made
-pub record_made : (entries map all : List AttributeEntry) → map ≡ map_of text_cmp entries → entries ≡ all
-    → roll-RecordType RawName (record { attributes = map; additional_attributes = false }) ≡ record_of all
-record_made entries map all h e =
-    ap {A = List AttributeEntry} (λ es. roll-RecordType RawName
-    (record { attributes = es; additional_attributes = false })) (h ∙ ap (map_of text_cmp) e)

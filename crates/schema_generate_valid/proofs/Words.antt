@@ -81,9 +81,6 @@ entity_id i h = and_from (is_word (entity_word i)) true (letter_word 69 (decimal
 pub action_id : (i : ℕ) → i < 2 ^ 64 → is_id (action_word i) ≡ true
 action_id i h = and_from (is_word (action_word i)) true (letter_word 97 (decimal i) refl (digits i h)) refl
 
-entity_kind : (ds : List ℕ) → word_kind (69 ∷ ds) ≡ Identifier
-entity_kind ds = refl
-
 -- behind an `a` stands no word of the grammar
 action_kind : (d : ℕ) (ds : List ℕ) → d < 58 → word_kind (97 ∷ d ∷ ds) ≡ Identifier
 action_kind d ds low =

@@ -27,11 +27,6 @@ pub values_walked : {A U : Type 0} (f : A → List U) (entries : List (List ℕ 
 values_walked f [] = refl
 values_walked f (p ∷ ps) = ap (λ made. f p.1 ++ made) (values_walked f ps)
 
--- the answer for none so far
-pub either_nothing : (answer : Option Bool) → either (Some false) answer ≡ answer
-either_nothing None = refl
-either_nothing (Some b) = refl
-
 or_later : (a b c : Bool) → (a || (b || c)) ≡ ((a || b) || c)
 or_later true b c = refl
 or_later false b c = refl
@@ -46,13 +41,6 @@ pub one_answer : (a : Bool) (answer known rest all : Option Bool) → answer ≡
     → either (Some a) (either answer rest) ≡ either (Some a) all
 one_answer a answer known rest all same step = ap (λ x. either (Some a) (either x rest)) same
     ∙ ap (either (Some a)) (sym step)
-
-or_false : (a : Bool) → (a || false) ≡ a
-or_false true = refl
-or_false false = refl
-
-pub either_last : (a : Bool) → either (Some a) (any_extension []) ≡ Some a
-either_last a = ap Some (or_false a)
 
 module _ (N : Type 0) where
   record_out : (r : RecordType N) → record_references r ≡ entry_references (out-RecordType N r).attributes

@@ -1,7 +1,6 @@
 -- The cause of a fault of a value, and of a text.
-use Rattle.std.proofs.Common.{◌≡◌, ◌⊎◌, ℕ, List, false, Some, inl, inr, refl}
+use Rattle.std.proofs.Common.{◌≡◌, ◌⊎◌, false, inl, inr, refl}
 use Rattle.serde_json.specs.Data.{Data}
-use Rattle.serde_json.specs.Read.{read}
 use Rattle.serde_json.specs.Written.{has_float}
 use Rattle.schema_json_shapes.specs.declared.shape_fault.ShapeFault.{ShapeFault}
 use Rattle.schema_json_shapes.specs.declared.shape_fault.ShapeFault.TheVariants as shape
@@ -9,10 +8,8 @@ use Rattle.std.specs.Prelude.{[]}
 use Rattle.schema_json_shapes.specs.Walk.{fragment, demands}
 use Rattle.schema_json_shapes.specs.Reads.{IsFault}
 use Rattle.schema_json_errors.specs.declared.json_fault.JsonFault.{JsonFault}
-use Rattle.schema_json_errors.specs.declared.json_fault.JsonFault.TheVariants as cause
-use Rattle.schema_json_io.specs.Causes.{IsFirstFault, IsValueCause, IsTextCause, IsValueCauseBy, IsTextCauseBy}
+use Rattle.schema_json_io.specs.Causes.{IsFirstFault, IsValueCause, IsValueCauseBy}
 use Rattle.schema_json_io.specs.Faults.{of_shape}
-use Rattle.schema_json_io.specs.Texts.{HasNoRepeat}
 
 pub value_cause_by : (IsFirst : Data → JsonFault → Type 0) (d : Data) (fault : ShapeFault) → has_float d ≡ false
     → (fault ≡ shape.Memory) ⊎ IsFirst d (of_shape fault) → IsValueCauseBy IsFirst d (of_shape fault)
@@ -40,26 +37,3 @@ pub value_cause : (d : Data) (fault : ShapeFault) → has_float d ≡ false → 
     → IsValueCause d (of_shape fault)
 value_cause d fault w (inl m) = value_cause_by IsFirstFault d fault w (inl m)
 value_cause d fault w (inr h) = value_cause_by IsFirstFault d fault w (inr (fault, h, refl))
-
-pub text_cause_by : (IsFirst : Data → JsonFault → Type 0) (text : List ℕ) (d : Data) (e : JsonFault)
-    → read text ≡ Some d → HasNoRepeat text → IsValueCauseBy IsFirst d e → IsTextCauseBy IsFirst text e
-text_cause_by IsFirst text d cause.NotJson r o h = absurd h
-text_cause_by IsFirst text d (cause.RepeatedKey name) r o h = absurd h
-text_cause_by IsFirst text d cause.Float r o h = (d, r, o, h)
-text_cause_by IsFirst text d (cause.UnknownField name) r o h = (d, record { reads = r; once = o; whole = h.0 }, h.1)
-text_cause_by IsFirst text d (cause.MissingField name) r o h = (d, record { reads = r; once = o; whole = h.0 }, h.1)
-text_cause_by IsFirst text d (cause.WrongType name) r o h = (d, record { reads = r; once = o; whole = h.0 }, h.1)
-text_cause_by IsFirst text d (cause.BadName role named fault) r o h =
-    (d, record { reads = r; once = o; whole = h.0 }, h.1)
-text_cause_by IsFirst text d (cause.ReservedCommonType id) r o h = (d, record { reads = r; once = o; whole = h.0 }, h.1)
-text_cause_by IsFirst text d cause.EmptyEnum r o h = (d, record { reads = r; once = o; whole = h.0 }, h.1)
-text_cause_by IsFirst text d (cause.ExternalConflict fields) r o h =
-    (d, record { reads = r; once = o; whole = h.0 }, h.1)
-text_cause_by IsFirst text d (cause.EnumConflict fields) r o h = (d, record { reads = r; once = o; whole = h.0 }, h.1)
-text_cause_by IsFirst text d cause.AnnotationsOnEmptyNamespace r o h =
-    (d, record { reads = r; once = o; whole = h.0 }, h.1)
-text_cause_by IsFirst text d cause.Memory r o h = tt
-
-pub text_cause : (text : List ℕ) (d : Data) (e : JsonFault) → read text ≡ Some d → HasNoRepeat text → IsValueCause d e
-    → IsTextCause text e
-text_cause text d e r o h = text_cause_by IsFirstFault text d e r o h

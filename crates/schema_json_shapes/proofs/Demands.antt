@@ -1,5 +1,5 @@
 -- Demands in a row.
-use Rattle.std.proofs.Common.{◌≡◌, List, [], ◌∷◌, ◌++◌, Result, Ok, Err, inl, inr, sym, subst, ◌∙◌, Option, Some, None}
+use Rattle.std.proofs.Common.{◌≡◌, List, [], ◌∷◌, ◌++◌, Result, inl, inr, sym, subst, ◌∙◌, Option, Some, None}
 use Rattle.std.proofs.Common.{true, false}
 use Rattle.std.specs.Result.{IsErrAnd}
 use Rattle.std.proofs.lemmas.Result.{err_from_is_err_and}
@@ -37,12 +37,6 @@ fails ds es e (inr h) = inr (first_unmet ds es e h)
 pub passes : (ds es : List Demand) (e : ShapeFault) → AllMet ds → IsFault es e → IsFault (ds ++ es) e
 passes ds es e p (inl m) = inl m
 passes ds es e p (inr h) = inr (later_unmet ds es e p h)
-
--- what is read under the same demands, and says more
-pub reads_as : {A : Type 0} (r : Result A ShapeFault) (ds es : List Demand) (P Q : A → Type 0) → ds ≡ es
-    → ((x : A) → P x → Q x) → Reads r ds P → Reads r es Q
-reads_as (Ok x) ds es P Q e f h = (subst AllMet e h.0, f x h.1)
-reads_as (Err x) ds es P Q e f h = subst (λ s. IsFault s x) e h
 
 -- what the exit of a `?` returns
 pub refused : {A : Type 0} (r : Result A ShapeFault) (e : ShapeFault) (ds : List Demand) (P : A → Type 0)

@@ -1,7 +1,7 @@
 -- Kinds of entity types, shapes and choices.
-use Rattle.std.proofs.Common.{◌≡◌, ℕ, Bool, true, false, cond, List, [], Option, Some, None, refl, sym, ap, ◌∙◌, subst}
+use Rattle.std.proofs.Common.{◌≡◌, ℕ, Bool, true, false, cond, List, Option, Some, None, refl, sym, ap, ◌∙◌, subst}
 use Rattle.std.specs.Prelude.{codes}
-use Rattle.serde_json.specs.Data.{Data, null, boolean, number, string, array, object, Items, Members}
+use Rattle.serde_json.specs.Data.{Data, null, boolean, number, string, array, object, Members}
 use Rattle.serde_json.specs.Find.{get_member}
 use Rattle.cedar_identifiers.specs.declared.eid.Eid.{Eid}
 use Rattle.cedar_identifiers.specs.declared.raw_name.RawName.{RawName}
@@ -11,8 +11,7 @@ use Rattle.schema_json.specs.declared.entity_type.EntityTypeKind.{EntityTypeKind
 use Rattle.schema_json_shapes.specs.declared.shape_fault.ShapeFault.{ShapeFault}
 use Rattle.schema_json_shapes.specs.declared.shape_fault.ShapeFault.TheVariants.{EmptyEnum}
 use Rattle.schema_json_shapes.specs.Walk.{is_empty_list, empty_enum}
-use Rattle.schema_json_shapes.specs.Said.{IsNamed, IsChoice, IsList, IsListOrNone, IsOptional, IsType, AreItems}
-use Rattle.schema_json_shapes.specs.Said.{no_item, next_item}
+use Rattle.schema_json_shapes.specs.Said.{IsNamed, IsChoice, IsList, IsListOrNone, IsOptional, IsType}
 use Rattle.schema_json_shapes.specs.Shapes.{IsShape, IsKind, IsTextIn}
 use Rattle.schema_json_shapes.specs.EntityKinds.{kind_from}
 
@@ -74,8 +73,3 @@ not_empty_at false e h = refl
 
 pub not_empty : (o : Option Data) (d : Data) → Some d ≡ o → empty_enum o ≡ None → is_empty_list d ≡ false
 not_empty o d e h = not_empty_at (is_empty_list d) EmptyEnum (ap empty_enum e ∙ h)
-
-pub no_choice : {X : Type 0} (P : Data → X → Type 0) (ds : Items) (xs : List X) → AreItems P ds xs → xs ≡ []
-    → is_empty_list (array ds) ≡ true
-no_choice P ds xs no_item e = refl
-no_choice P ds xs (next_item d es y ys p h) e = absurd (cc)

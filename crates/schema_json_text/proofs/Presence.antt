@@ -79,37 +79,13 @@ pub key_context : bare_key (codes "context") ≡ quoted (codes "context") ++ 58 
 unfolding escape_byte
 key_context = refl
 
-pub key_principals : bare_key (codes "principalTypes") ≡ quoted (codes "principalTypes") ++ 58 ∷ []
-unfolding escape_byte
-key_principals = refl
-
-pub key_resources : bare_key (codes "resourceTypes") ≡ quoted (codes "resourceTypes") ++ 58 ∷ []
-unfolding escape_byte
-key_resources = refl
-
-pub key_id : bare_key (codes "id") ≡ quoted (codes "id") ++ 58 ∷ []
-unfolding escape_byte
-key_id = refl
-
 pub key_type : bare_key (codes "type") ≡ quoted (codes "type") ++ 58 ∷ []
 unfolding escape_byte
 key_type = refl
 
-pub key_actions : bare_key (codes "actions") ≡ quoted (codes "actions") ++ 58 ∷ []
-unfolding escape_byte
-key_actions = refl
-
 pub key_commons : bare_key (codes "commonTypes") ≡ quoted (codes "commonTypes") ++ 58 ∷ []
 unfolding escape_byte
 key_commons = refl
-
-pub key_entities : bare_key (codes "entityTypes") ≡ quoted (codes "entityTypes") ++ 58 ∷ []
-unfolding escape_byte
-key_entities = refl
-
-pub key_element : bare_key (codes "element") ≡ quoted (codes "element") ++ 58 ∷ []
-unfolding escape_byte
-key_element = refl
 
 pub external_whole : bare_key (codes "external") ++ codes "true"
     ≡ quoted (codes "external") ++ 58 ∷ compact_text (boolean true)

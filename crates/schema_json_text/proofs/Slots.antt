@@ -67,9 +67,6 @@ adds_step false key (Some d) old new now ms a =
 abbrev pub IsFilled : Members → Type 0
 IsFilled ms = members_text true ms ≡ 44 ∷ members_text false ms
 
-pub filled : (k : List ℕ) (d : Data) (ms : Members) → IsFilled (member k d ms)
-filled k d ms = refl
-
 pub filled_opt : (k : List ℕ) (o : Option Data) (ms : Members) → IsFilled ms → IsFilled (opt k o ms)
 filled_opt k None ms f = f
 filled_opt k (Some d) ms f = refl

@@ -2,7 +2,7 @@
 use Rattle.std.proofs.Common.{◌≡◌, ℕ, ◌<◌, ◌≤◌, zero, suc, not, false, arith, List, [], ◌∷◌, ◌+◌, length, get_or, drop}
 use Rattle.std.proofs.Common.{map, codes, refl, ap, sym, ◌∙◌, Option}
 use Rattle.std.specs.Map.{values_of}
-use Rattle.std.proofs.lemmas.List.{drop_more, drop_all}
+use Rattle.std.proofs.lemmas.List.{drop_more}
 use denote.Param.Weighed.{most}
 use Rattle.serde_json.specs.Data.{Data, Members, object, string, put}
 use Rattle.cedar_data.specs.declared.loc.Loc.{Loc}
@@ -38,11 +38,6 @@ pub put_step : {X : Type 0} (f : X → List ℕ × Data) (es : List X) (i : ℕ)
 put_step f es i x ms new h is e =
     let here : drop i es ≡ x ∷ drop (i + 1) es = drop_more es i x h ∙ ap (λ y. y ∷ drop (i + 1) es) (sym is) in
     ap (put_all (map f (drop (i + 1) es))) e ∙ sym (ap (λ d. put_all (map f d) ms) here)
-
--- all members
-pub put_end : {X : Type 0} (f : X → List ℕ × Data) (es : List X) (i : ℕ) (ms all : Members) → length es ≤ i
-    → put_all (map f (drop i es)) ms ≡ all → ms ≡ all
-put_end f es i ms all h e = sym (ap (λ d. put_all (map f d) ms) (drop_all i es h)) ∙ e
 
 module _ (N : Type 0) (names : N → List (List ℕ)) where
   entries_made : (es : List (List ℕ × TypeOfAttribute N))

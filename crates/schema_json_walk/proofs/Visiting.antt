@@ -1,18 +1,14 @@
 -- Parts taken one after another, and where a visitor stops among them.
-use Rattle.std.proofs.Common.{◌≡◌, inl, inr, ℕ, ◌+◌, ◌<◌, ◌≤◌, List, [], ◌∷◌, ◌++◌, length, get_or, take, drop}
-use Rattle.std.proofs.Common.{suc, zero, refl, sym, ap, ◌∙◌, subst, append_assoc, append-nil, add-one, arith}
+use Rattle.std.proofs.Common.{◌≡◌, inl, inr, ℕ, ◌+◌, ◌<◌, List, [], ◌∷◌, ◌++◌, length, get_or, take, drop}
+use Rattle.std.proofs.Common.{suc, zero, sym, ap, ◌∙◌, subst, append_assoc, append-nil, add-one, arith}
 use Rattle.std.proofs.Common.{Result, Ok, Err}
 use Rattle.std.proofs.Math.Seq.{take-suc}
-use Rattle.std.proofs.lemmas.List.{take_all}
 use Rattle.std.proofs.lemmas.Grind.{flat_map-append}
 use Rattle.std.specs.List.{FoldsTo, flat_map}
 use Rattle.std.specs.Result.{IsErrAnd, IfErr, OnOk}
 use Rattle.schema_json_walk.specs.Visits.{StopsAmong}
 
 module _ {S P : Type 0} (R : S → P → S → Type 0) where
-  pub one_taken : (s : S) (p : P) (t : S) → R s p t → FoldsTo R s (p ∷ []) t
-  one_taken s p t h = (t, h, refl)
-
   pub folds_then : (a b : List P) (s j t : S) → FoldsTo R s a j → FoldsTo R j b t → FoldsTo R s (a ++ b) t
   folds_then [] b s j t h k = subst (λ x. FoldsTo R x b t) (sym h) k
   folds_then (p ∷ ps) b s j t h k = (h.0, h.1, folds_then ps b h.0 j t h.2 k)
@@ -26,14 +22,7 @@ module _ {S P : Type 0} (R : S → P → S → Type 0) where
         (folds_then (flat_map f (take i xs)) (f (get_or xs i d) ++ []) s j t h
         (subst (λ x. FoldsTo R j x t) (sym same) k))
 
-    pub all_taken : (xs : List A) (i : ℕ) (s t : S) → length xs ≤ i → FoldsTo R s (flat_map f (take i xs)) t
-        → FoldsTo R s (flat_map f xs) t
-    all_taken xs i s t l h = subst (λ x. FoldsTo R s (flat_map f x) t) (take_all i xs l) h
-
   module _ {E : Type 0} (Q : S → P → E → Type 0) where
-    pub one_refused : (s : S) (p : P) (e : E) → Q s p e → StopsAmong R Q s (p ∷ []) e
-    one_refused s p e h = inl h
-
     pub stops_front : (a b : List P) (s : S) (e : E) → StopsAmong R Q s a e → StopsAmong R Q s (a ++ b) e
     stops_front [] b s e h = absurd h
     stops_front (p ∷ ps) b s e (inl h) = inl h

@@ -3,7 +3,6 @@ use Rattle.std.proofs.Common.{◌≡◌, ℕ, ◌+◌, Bool, true, false, List, 
 use Rattle.std.proofs.Common.{◌∙◌, append_assoc, ◌==◌, arith, Option, Some}
 use Rattle.std.proofs.lemmas.Bool.{eqb-true}
 use Rattle.cedar_names.specs.CanonicalText.{spaces}
-use Rattle.schema_json.specs.declared.entity_type.EntityTypeKind.{EntityTypeKind}
 use Rattle.schema_syntax_reader.specs.Leaves.{Notes}
 use Rattle.schema_syntax_tokens.specs.Laid.{Piece, laid}
 use Rattle.schema_syntax_tokens.specs.Quotes.{quoted}
@@ -13,7 +12,7 @@ use Rattle.schema_print_text.specs.Growing.{laid_append}
 use Rattle.schema_print_text.specs.PrintedTypes.{is_bare_record}
 use Rattle.schema_print.specs.RowsOfTexts.{names_line_text, head_text}
 use Rattle.schema_print.specs.PrintedFragments.{shape_type_pieces, context_type_pieces, targets_pieces, common_pieces}
-use Rattle.schema_print.specs.PrintedFragments.{item_pieces, kind_pieces, spec_pieces, applied_pieces}
+use Rattle.schema_print.specs.PrintedFragments.{item_pieces, spec_pieces, applied_pieces}
 use Rattle.schema_json.specs.declared.action_type.ApplySpec.{ApplySpec}
 use Rattle.schema_syntax_grammar.specs.declared.token_kind.TokenKind.TheVariants.{LBrace, RBrace}
 
@@ -104,11 +103,6 @@ pub block_laid : (notes : Notes) (p : List (List ℕ)) (items : List Piece)
 block_laid notes p items = simp (laid_append, append_assoc)
 
 module _ {N : Type 0} (names : N → List (List ℕ)) where
-  pub kind_shown : (base : ℕ) (e f : Bool) (k l : EntityTypeKind N) → e ≡ f → k ≡ l
-      → laid (kind_pieces names true base f l) ≡ laid (kind_pieces names true base e k)
-  kind_shown base e f k l p q = sym
-      (ap (λ t. laid (kind_pieces names true base t k)) p ∙ ap (λ t. laid (kind_pieces names true base f t)) q)
-
   -- what an action that is not external applies to, behind its parents
   pub applied_shown : (base : ℕ) (e : Bool) (o : Option (ApplySpec N)) (spec : ApplySpec N) (parents : List Piece)
       → e ≡ false → o ≡ Some spec

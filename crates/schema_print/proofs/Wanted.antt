@@ -1,14 +1,10 @@
 -- Names that are gathered, item by item.
 use Rattle.std.proofs.Common.{◌≡◌, ℕ, ◌+◌, suc, ◌<◌, Bool, true, false, List, [], ◌∷◌, ◌++◌, map, length, drop}
-use Rattle.std.proofs.Common.{drop-cons, get_or, add-one, refl, ap, sym, ◌∙◌, append_assoc, Option, Some, subst}
+use Rattle.std.proofs.Common.{drop-cons, get_or, add-one, refl, ap, sym, ◌∙◌, append_assoc, subst}
 use Rattle.std.specs.Prelude.{filter}
 use Rattle.std.specs.List.{flat_map}
 use Rattle.std.proofs.lemmas.List.{append-nil}
-use Rattle.std.proofs.lemmas.List.{map-append}
-use Rattle.cedar_data.specs.declared.loc.Loc.{Loc}
-use Rattle.cedar_identifiers.specs.Candidates.{qualified}
 use Rattle.cedar_identifiers.specs.Names.{components_of}
-use Rattle.cedar_identifiers.specs.declared.id.Id.{Id}
 use Rattle.cedar_identifiers.specs.declared.internal_name.InternalName.{InternalName}
 use Rattle.std.specs.List.Sorted.{IsSorted, IsPermutation}
 use Rattle.std.specs.declared.cmp.Ordering.{Ordering}
@@ -50,13 +46,6 @@ pub given_step : {A : Type 0} (f : A → List (List (List ℕ))) (xs : List A) (
     → d ≡ get_or xs i d
     → flat_map f (drop i xs) ≡ f d ++ flat_map f (drop (i + 1) xs)
 given_step f xs i d h e = rw (add-one, drop-cons xs i d) (ap (λ x. f x ++ flat_map f (drop (suc i) xs)) (sym e))
-
--- a name behind that of its namespace
-pub behind_text : (ns : InternalName) (i : Id) (rest : List Id) (l : Option Loc) → rest ≡ []
-    → components_of (qualified (Some ns) (record { first = i; others = rest; loc = l })) ≡ components_of ns
-    ++ i.text ∷ []
-behind_text ns i [] l e = ap (λ t. ns.first.text ∷ t) (map-append (λ x. x.text) ns.others (i ∷ []))
-behind_text ns i (r ∷ rest) l e = absurd (cc)
 
 -- names that were sorted
 pub sorted_by : (cmp : InternalName → InternalName → Ordering) (xs ys found : List InternalName) → IsSorted cmp ys

@@ -30,12 +30,6 @@ pub all_as : {A : Type 0} (P Q : A → Type 0) → ((x : A) → P x → Q x) →
 all_as P Q f [] h = tt
 all_as P Q f (x ∷ xs) (h, hs) = (f x h, all_as P Q f xs hs)
 
--- what holds of items in two ways
-pub all_both : {A : Type 0} (P Q : A → Type 0) (xs : List A) → AllByRecursion P xs → AllByRecursion Q xs
-    → AllByRecursion (λ x. P x × Q x) xs
-all_both P Q [] h k = tt
-all_both P Q (x ∷ xs) (h, hs) (k, ks) = ((h, k), all_both P Q xs hs ks)
-
 module _ (P : Option Name → Part RawName → Type 0) where
   abbrev Placed : Option Name × Part RawName → Type 0
   Placed e = P e.0 e.1

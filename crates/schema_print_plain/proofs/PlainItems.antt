@@ -113,10 +113,6 @@ abbrev pub record_or_common : «Type» N → Outer → Bool
 record_or_common context (Type-F.Variant ty loc) = is_record_type context
 record_or_common context (Type-F.CommonTypeRef name loc) = true
 
-pub record_or_common_is : (context : «Type» N)
-    → is_record_or_common context ≡ record_or_common context (out-Type N context)
-record_or_common_is context = refl
-
 context_plain : (s : «Type» N) (o : Outer) → out-Type N s ≡ o → AreClosed (at_context itself o)
     → record_or_common s o ≡ true → IsOrderlyType s → IsPlainOutside o s
 context_plain s (Type-F.Variant v loc) e closed test up =

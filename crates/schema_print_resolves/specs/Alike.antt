@@ -76,10 +76,6 @@ referred =
     fold-Type InternalName («Type» InternalName) Shaped (RecordType InternalName) (TypeOfAttribute InternalName)
     referred_layer referred_shape referred_fields referred_field
 
--- two types that are the same, but for how they write what every schema has
-abbrev pub IsAlike : «Type» InternalName → «Type» InternalName → Type 0
-IsAlike s t = referred s ≡ referred t
-
 abbrev pub referred_common : CommonType InternalName → CommonType InternalName
 referred_common c = record { ty = referred c.ty; annotations = c.annotations; loc = c.loc }
 

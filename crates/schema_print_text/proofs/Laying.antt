@@ -1,7 +1,6 @@
 -- The pieces of notes and types, laid out.
 use Rattle.std.proofs.Common.{◌≡◌, ℕ, ◌+◌, suc, ◌<◌, Bool, true, false, List, [], ◌∷◌, ◌++◌, codes, length, drop}
-use Rattle.std.proofs.Common.{drop-cons, get_or, add-one, refl, ap, sym, ◌∙◌, append_assoc, Option, Some, arith, ◌==◌}
-use Rattle.std.proofs.lemmas.Bool.{eqb-true}
+use Rattle.std.proofs.Common.{drop-cons, get_or, add-one, refl, ap, sym, ◌∙◌, append_assoc, Option, ◌==◌}
 use Rattle.std.proofs.lemmas.List.{append-nil}
 use Rattle.cedar_identifiers.specs.declared.any_id.AnyId.{AnyId}
 use Rattle.cedar_names.specs.CanonicalText.{spaces}
@@ -9,7 +8,6 @@ use Rattle.schema_json.specs.declared.types.TypeOfAttribute.{TypeOfAttribute, ou
 use Rattle.schema_syntax_grammar.specs.declared.token_kind.TokenKind.TheVariants.{Greater, RBrace}
 use Rattle.schema_syntax_reader.specs.Leaves.{Notes}
 use Rattle.schema_syntax_tokens.specs.Laid.{Piece, gap, piece_text, laid}
-use Rattle.schema_syntax_tokens.specs.Quotes.{quoted}
 use Rattle.schema_readback.specs.Meant.{under_cedar}
 use Rattle.schema_readback.specs.Written.{WrittenType, WrittenAttributes, set, rec, no_more, attribute}
 use Rattle.schema_readback.specs.Printed.{mark, line_break, name_piece, value_pieces, notes_pieces, type_pieces}
@@ -28,9 +26,6 @@ pub note_step : (base : ℕ) (notes : Notes) (i : ℕ) (d : AnyId × Option (Lis
 note_step base notes i d h e =
     rw (add-one, drop-cons notes i d) (ap (λ x. laid (notes_pieces base (x ∷ drop (suc i) notes))) (sym e)
     ∙ simp (laid_append, append_assoc))
-
-pub value_laid : (value : List ℕ) → laid (value_pieces (Some value)) ≡ codes "(" ++ (quoted value ++ codes ")")
-value_laid value = refl
 
 pub set_laid : (base : ℕ) (t : WrittenType)
     → laid (type_pieces true base (set t)) ≡ codes "Set<" ++ (laid (type_pieces true base t) ++ codes ">")
@@ -67,12 +62,6 @@ line_laid base ns n r t xs =
     ∙ simp append_assoc
 
 module _ (N : Type 0) (names : N → List (List ℕ)) where
-  -- a record without attributes
-  pub record_empty : (base : ℕ) (entries : List (List ℕ × TypeOfAttribute N)) → (length entries == 0) ≡ true
-      → laid (type_pieces true base (rec (printed_entries names entries))) ≡ codes "{" ++ (spaces base ++ codes "}")
-  record_empty base [] h = refl
-  record_empty base (e ∷ es) h = absurd (omega (arith, eqb-true (length (e ∷ es)) 0 h))
-
   -- and one with attributes
   pub record_filled : (base : ℕ) (entries : List (List ℕ × TypeOfAttribute N)) → (length entries == 0) ≡ false
       → laid (type_pieces true base (rec (printed_entries names entries))) ≡ codes "{\n"

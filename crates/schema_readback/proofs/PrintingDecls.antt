@@ -114,9 +114,6 @@ member_ended false base [] u m h k =
     subst (λ l. AreSeparatedOf IsMemberOf l (m ∷ [])) (sym (append-nil u)) (last_item h)
 member_ended closing base (n ∷ ms) u m h k = more_items (record { kind = Comma; text = codes "," }) h refl k
 
-line_ended : (ps : List Piece) → Follow free ps → Follow word (line_break ∷ ps)
-line_ended ps s = by_gap one_line_end s
-
 member_follows : {A : Type 0} (closing : Bool) (ms : List A) (ps : List Piece) → Follow free ps
     → Follow word (comma_behind_member closing ms ++ line_break ∷ ps)
 member_follows true [] ps s = by_lexeme (inr (inl refl)) refl (by_gap one_line_end s)

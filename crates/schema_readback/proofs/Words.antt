@@ -1,5 +1,5 @@
 -- Lawful words and strings: what stands there, and that it has no fault.
-use Rattle.std.proofs.Common.{◌≡◌, ℕ, ◌<◌, Bool, true, false, not, List, [], ◌∷◌, ◌++◌, Some, slice_range, refl, sym}
+use Rattle.std.proofs.Common.{◌≡◌, ℕ, ◌<◌, Bool, true, false, not, List, [], ◌∷◌, ◌++◌, slice_range, refl, sym}
 use Rattle.std.proofs.Common.{ap, ◌∙◌, subst, arith}
 use Rattle.std.specs.List.{list_all, All}
 use Rattle.std.specs.Str.{IsAscii, chars}
@@ -22,10 +22,9 @@ use Rattle.schema_syntax_grammar.specs.Grammar.{is_name_kind}
 use Rattle.schema_syntax_tokens.specs.declared.token.Token.{Token}
 use Rattle.schema_syntax_tokens.specs.Escapes.{Unescapes, BadEscape}
 use Rattle.schema_syntax_tokens.specs.Laid.{Lexeme, IsSpelled}
-use Rattle.schema_syntax_parser.specs.declared.syntax.AnnotationSyntax.{AnnotationSyntax}
 use Rattle.schema_syntax_reader.specs.Leaves.{word_at}
-use Rattle.schema_syntax_reader.specs.Sites.{word, text, annotations, site_of_kind, name_sites}
-use Rattle.schema_syntax_reader.specs.UserFaults.{reserved, escape, note_escape, duplicate}
+use Rattle.schema_syntax_reader.specs.Sites.{word, text, site_of_kind, name_sites}
+use Rattle.schema_syntax_reader.specs.UserFaults.{reserved, escape}
 use Rattle.schema_syntax_reader.specs.Trees.{IsNameOf}
 use Rattle.schema_readback.specs.Reads.{IsFaultless}
 use Rattle.schema_readback.specs.Spellings as spelled
@@ -74,10 +73,6 @@ site_word : (k : TokenKind) → is_ident k ≡ true → (t : Token) → site_of_
 site_word StringLit h t = cc
 site_word _ h t = refl
 
-nothing_in : (x : AnnotationSyntax) (back front : List AnnotationSyntax) → [] ≡ front ++ x ∷ back → ⊥
-nothing_in x back [] e = cc
-nothing_in x back (y ∷ front) e = cc
-
 module _ (source : List ℕ) where
   -- the bytes of a word are its characters
   pub word_here : (t : Token) (x : Lexeme) → IsSpelled source t x → is_id x.text ≡ true → x.text ≡ word_at source t
@@ -97,12 +92,6 @@ module _ (source : List ℕ) where
       (All-cons (IsFaultless source) (word t) []
       (no_word_fault t (ap is_reserved (sym (word_here t x s i.id)) ∙ not_reserved x.text i.id))
       (All-nil (IsFaultless source)))
-
-  pub no_notes_fault : IsFaultless source (annotations [])
-  no_notes_fault fault end (note_escape front back key t at e h) =
-      nothing_in (record { key = key; value = Some t }) back front e
-  no_notes_fault fault end (duplicate front middle back first second key e h g o p) =
-      nothing_in first (middle ++ second ∷ back) front e
 
   as_word : (k : TokenKind) (t : Token) (n : List ℕ) → is_ident k ≡ true → n ≡ word_at source t
       → IsNameOf source k t n

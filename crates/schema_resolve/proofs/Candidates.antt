@@ -12,8 +12,8 @@ use Rattle.cedar_identifiers.specs.declared.internal_name.InternalName.{Internal
 use Rattle.cedar_identifiers.specs.declared.reference_type.ReferenceType.{ReferenceType}
 use Rattle.cedar_identifiers.specs.declared.reference_type.ReferenceType.TheVariants.{Common, Entity, CommonOrEntity}
 use Rattle.schema_resolve_definitions.specs.Tests.{Tests}
-use Rattle.schema_resolve.specs.Targets.{is_defined, is_action}
-use Rattle.schema_resolve.specs.Tried.{kind_found, own_kind, is_action_there, is_own_action, candidate}
+use Rattle.schema_resolve.specs.Targets.{is_defined}
+use Rattle.schema_resolve.specs.Tried.{kind_found, own_kind, candidate}
 
 -- what is found is defined, and what is not found is not
 pub found_defined : (t : Tests) (kind : ReferenceType) (n : List (List ℕ)) (b : Bool) → kind_found t kind n ≡ Some b
@@ -126,18 +126,6 @@ own_missed t (Some ns) kind name h = go (is_unqualified name) h
     go true e = none_defined t kind (components_of ns ++ name.first.text ∷ []) e
     go false e = refl
 
-own_either_at : (t : Tests) (ns : InternalName) (first : Id) (loc : Option Loc) (others : List Id) (b : Bool)
-    → (let name : InternalName = record { first = first; others = others; loc = loc } in
-    own_kind t (Some ns) CommonOrEntity name ≡ Some b → b ≡ t.is_common (components_of (qualified (Some ns) name)))
-own_either_at t ns first loc [] b h = either_told t (components_of ns ++ first.text ∷ []) b h
-    ∙ ap t.is_common (sym (behind_parts ns first loc))
-own_either_at t ns first loc (i ∷ is) b h = cc
-
-own_either : (t : Tests) (ns : Option InternalName) (name : InternalName) (b : Bool)
-    → own_kind t ns CommonOrEntity name ≡ Some b → b ≡ t.is_common (components_of (qualified ns name))
-own_either t None name b h = cc
-own_either t (Some ns) name b h = own_either_at t ns name.first name.loc name.others b h
-
 module _ (t : Tests) (ns : Option InternalName) (kind : ReferenceType) (name : InternalName) where
   abbrev is_meant : InternalName → Bool
   is_meant n = is_defined t kind (components_of n)
@@ -147,10 +135,6 @@ module _ (t : Tests) (ns : Option InternalName) (kind : ReferenceType) (name : I
       → Some (candidate ns name true) ≡ find is_meant (candidates ns name)
   own_found b h = sym (own_first (is_defined t kind) ns name (own_told t ns kind name b h))
 
-  pub own_found_kind : (b : Bool) → own_kind t ns kind name ≡ Some b → kind ≡ CommonOrEntity
-      → b ≡ t.is_common (components_of (candidate ns name true))
-  own_found_kind b h either = own_either t ns name b (ap (λ k. own_kind t ns k name) (sym either) ∙ h)
-
   -- else it means itself where that is defined, and else nothing
   pub plain_found : (b : Bool) → own_kind t ns kind name ≡ None → kind_found t kind (components_of name) ≡ Some b
       → Some (candidate ns name false) ≡ find is_meant (candidates ns name)
@@ -158,36 +142,8 @@ module _ (t : Tests) (ns : Option InternalName) (kind : ReferenceType) (name : I
       sym (plain_next (is_defined t kind) ns name (own_missed t ns kind name none)
       ∙ ap (λ d. cond d (Some name) None) (found_defined t kind (components_of name) b h))
 
-  pub plain_found_kind : (b : Bool) → kind_found t kind (components_of name) ≡ Some b → kind ≡ CommonOrEntity
-      → b ≡ t.is_common (components_of (candidate ns name false))
-  plain_found_kind b h either = either_told t (components_of name) b
-      (ap (λ k. kind_found t k (components_of name)) (sym either) ∙ h)
-
   pub none_found : own_kind t ns kind name ≡ None → kind_found t kind (components_of name) ≡ None
       → None ≡ find is_meant (candidates ns name)
   none_found none h =
       sym (plain_next (is_defined t kind) ns name (own_missed t ns kind name none)
       ∙ ap (λ d. cond d (Some name) None) (none_defined t kind (components_of name) h))
-
--- the actions with an id, as tests of the types
-own_action_is : (t : Tests) (id : List ℕ) (ns : Option InternalName) (ty : InternalName)
-    → is_own_action t id ns ty ≡ own (is_action_there t id) ns ty
-own_action_is t id None ty = refl
-own_action_is t id (Some ns) ty = refl
-
-module _ (t : Tests) (id : List ℕ) (ns : Option InternalName) (ty : InternalName) where
-  pub own_action_found : is_own_action t id ns ty ≡ true
-      → Some (candidate ns ty true) ≡ find (is_action t id) (candidates ns ty)
-  own_action_found h = sym (own_first (is_action_there t id) ns ty (sym (own_action_is t id ns ty) ∙ h))
-
-  pub plain_action_found : is_own_action t id ns ty ≡ false → is_action t id ty ≡ true
-      → Some (candidate ns ty false) ≡ find (is_action t id) (candidates ns ty)
-  plain_action_found none h =
-      sym (plain_next (is_action_there t id) ns ty (sym (own_action_is t id ns ty) ∙ none)
-      ∙ ap (λ d. cond d (Some ty) None) h)
-
-  pub no_action_found : is_own_action t id ns ty ≡ false → is_action t id ty ≡ false
-      → None ≡ find (is_action t id) (candidates ns ty)
-  no_action_found none h =
-      sym (plain_next (is_action_there t id) ns ty (sym (own_action_is t id ns ty) ∙ none)
-      ∙ ap (λ d. cond d (Some ty) None) h)

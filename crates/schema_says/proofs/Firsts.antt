@@ -24,10 +24,6 @@ module _ {A : Type 0} (test : A → Bool) where
   last_append (x ∷ xs) ys = ap (λ o. option_or o (if test x then Some x else None)) (last_append xs ys)
       ∙ sym (or_assoc (last_of ys) (last_of xs) (if test x then Some x else None))
 
-  passing : (b : Bool) (x : A) (y : A) → (if b then Some x else None) ≡ Some y → b ≡ true
-  passing true x y h = refl
-  passing false x y h = cc
-
   -- what holds of each item holds of the last that passes
   pub last_has : (P : A → Type 0) (xs : List A) (y : A) → AllByRecursion P xs → last_of xs ≡ Some y → P y
   last_has P [] y h e = cc

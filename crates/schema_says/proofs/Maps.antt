@@ -23,9 +23,6 @@ is_equal Greater h = absurd (true≢false (sym h))
 greater_not : {X : Type 0} → Greater ≡ Equal → X
 greater_not h = absurd (true≢false (sym (ap is_eq h)))
 
-less_not : {X : Type 0} → Less ≡ Equal → X
-less_not h = absurd (true≢false (sym (ap is_eq h)))
-
 -- of two tests that do not both pass, either may come first
 cond_swap : {X : Type 0} (s t : Bool) (a b c : X) → (s ≡ true → t ≡ true → ⊥)
     → cond s a (cond t b c) ≡ cond t b (cond s a c)

@@ -1,7 +1,7 @@
 -- The fault that is found, from the tokens and the fault of their kinds.
-use Rattle.std.proofs.Common.{◌≡◌, ◌+◌, ◌<◌, ◌≤◌, ◌-◌, ℕ, List, [], ◌∷◌, ◌++◌, length, take, get_or, refl, sym, ap, ◌∙◌}
+use Rattle.std.proofs.Common.{◌≡◌, ◌+◌, ◌<◌, ◌≤◌, ◌-◌, ℕ, List, [], ◌∷◌, ◌++◌, length, refl, sym}
 use Rattle.std.proofs.Common.{subst, arith, append-nil}
-use Rattle.std.proofs.lemmas.List.{take_all, take_more}
+use Rattle.std.proofs.lemmas.List.{take_all}
 use Rattle.schema_syntax_grammar.specs.declared.token_kind.TokenKind.{TokenKind}
 use Rattle.schema_syntax_grammar.specs.declared.token_kind.TheConstants.{ALL_KINDS}
 use Rattle.schema_syntax_grammar.specs.Grammar.{Sentence, Viable, no_item}
@@ -50,14 +50,6 @@ module _ (text : List ℕ) (tokens : List Token) (at place : ℕ) (expected : Li
       subst (λ ts. IsFault ALL_KINDS (kinds_of ts) (length ts) expected) f.2
       (subst (λ p. IsFault ALL_KINDS (kinds_of tokens) p expected) same is) in
       subst (IsSyntaxFault text) (sym f.3) (unrecognized_eof f.0 f.1 here fault_here)
-
--- the last item of some
-pub last_apart : (tokens : List Token) (last : Token) → 0 < length tokens
-    → last ≡ get_or tokens (length tokens - 1) last → tokens ≡ take (length tokens - 1) tokens ++ last ∷ []
-last_apart tokens last h e =
-    let n = length tokens - 1 in
-    let all : take (n + 1) tokens ≡ tokens = take_all (n + 1) tokens (omega arith) in
-    sym all ∙ take_more tokens n last (omega arith) ∙ ap (λ t. take n tokens ++ t ∷ []) (sym e)
 
 -- a sentence is the beginning of one
 pub sentence_viable : (kinds : List TokenKind) → Sentence kinds → Viable kinds

@@ -36,13 +36,6 @@ cut (x ∷ a) b w (take {k = k} {u = u} {v = v} g f h) =
       second = c.second;
     }
 
--- forests of two stacks are one of both
-pub join : {a b : List Symbol} {u v : List TokenKind} → Forest a u → Forest b v → Forest (a ++ b) (u ++ v)
-join nothing g = g
-join (skip n f) g = skip n (join f g)
-join {b = b} {v = v} (take {x = x} {k = k} {next = next} {s = s} {u = p} {v = q} e f h) g =
-    subst (λ w. Forest (x ∷ (s ++ b)) (k ∷ w)) (sym (append_assoc p q v)) (take e f (join h g))
-
 -- a token, and then a forest of what comes after it and of the rest
 pub takes : {x : Symbol} {k : TokenKind} {next s : List Symbol} {w : List TokenKind} → after_front x k ≡ Some next
     → Forest (next ++ s) w → Forest (x ∷ s) (k ∷ w)

@@ -312,9 +312,6 @@ type_turn : (m : ℕ) (ts : List Token) → type_at (suc m) ts ≡ whole_type_st
 unfolding attrs_at type_at
 type_turn m ts = refl
 
-ap_back : {A B : Type 0} (f : A → Option B) (x y : A) (z : Option B) → x ≡ y → f y ≡ z → f x ≡ z
-ap_back f x y z e g = ap f e ∙ g
-
 mutual
   unfolding whole_type_step set_step attr_step separated_turn
 

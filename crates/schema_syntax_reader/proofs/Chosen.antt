@@ -1,6 +1,6 @@
 -- Lists that have to have an item.
 use Rattle.std.proofs.Common.{◌≡◌, ◌<◌, ℕ, List, [], ◌∷◌, length, refl, sym, ap, ◌∙◌, subst, arith}
-use Rattle.std.proofs.Common.{true, false, nat_eq, true≢false, Some, None}
+use Rattle.std.proofs.Common.{true, nat_eq, Some, None}
 use Rattle.std.specs.List.{AllZip, flat_map}
 use Rattle.std.proofs.lemmas.Bool.{eqb-true}
 use Rattle.cedar_data.specs.Span.{Span}
@@ -18,10 +18,6 @@ use Rattle.schema_syntax_reader.proofs.Readings.{Faultless, stopped_at}
 pub is_nothing : {A : Type 0} (xs : List A) → nat_eq (length xs) 0 ≡ true → xs ≡ []
 is_nothing [] h = refl
 is_nothing (x ∷ xs) h = let none : length (x ∷ xs) ≡ 0 = eqb-true (length (x ∷ xs)) 0 h in absurd (omega (arith, none))
-
-pub is_something : {A : Type 0} (xs : List A) → nat_eq (length xs) 0 ≡ false → 0 < length xs
-is_something [] h = absurd (true≢false h)
-is_something (x ∷ xs) h = omega arith
 
 -- a list that may be absent is there where it has an item
 pub optional_none : {A B : Type 0} (source : List ℕ) (Is : List A → List B → Type 0) (xs : List A) → xs ≡ []

@@ -366,10 +366,6 @@ module _ (source : List ℕ) where
       fits_skip w (o ∷ (u ++ c ∷ [])) (apps_sites xs (whole_place (o ∷ (u ++ c ∷ []))))
       (apps_fit o c s (good_rest w (o ∷ (u ++ c ∷ [])) g))
 
-  -- the semicolon
-  semi_fits : (z : Token) → Fits (z ∷ []) []
-  semi_fits z = record { placed = All-nil (IsPlacedSite source); sub = sub_none (ends (z ∷ [])) }
-
   paths_fit : {u : List Token} {ps : List PathSyntax} → AreParents IsPath u ps → Good u → Fits u (paths_sites ps)
   paths_fit r g = parents_fit (λ u p h. path_fits h) r g
 

@@ -83,14 +83,6 @@ split_map f y (x ∷ xs) zero lt e = ([], x, xs, refl, e)
 split_map f y (x ∷ xs) (suc k) lt e =
     let r = split_map f y xs k (omega arith) e in (x ∷ r.0, r.1, r.2, ap (λ l. x ∷ l) r.3, r.4)
 
-pub has_none : (all : List Placed) → HasRead all all []
-has_none all = record {
-  front = [];
-  split = refl;
-  same = IsPermutation-refl [];
-  apart = λ i j d lt h. absurd (omega arith);
-}
-
 pub has_more : (all left after : List Placed) (a : Placed) (entries entries' : List (AnyId × Kept))
     → HasRead all left entries → left ≡ a ∷ after → lookup (is_at (key_cmp (placed_key a))) entries ≡ None
     → entries' ≡ insert_entry key_cmp entries (placed_key a) (entry_of a).1 → HasRead all after entries'

@@ -37,19 +37,6 @@ module _ (source : List ℕ) where
   reads_word t h Is r is free reserved =
       subst (λ s. Reads source (s ∷ []) Is r) (sym (site_word t.kind h t)) (as_word t Is r is free reserved)
 
-  as_text : {A : Type 0} (t : Token) (Is : A → Type 0) (r : Result A Stopped)
-      → IfOk r Is → OnOk r (NoBadEscapeAt source t) → IfErr r (IsEscapeStop source t)
-      → Reads source (text t ∷ []) Is r
-  as_text t Is (Ok x) is lawful escape = (is, no_fault_at source (text t) (text_lawful source t lawful))
-  as_text t Is (Err e) is lawful escape = stopped_at source (text t) e (text_stopped source t e escape)
-
-  -- a string
-  pub reads_text : {A : Type 0} (t : Token) → t.kind ≡ StringLit → (Is : A → Type 0) (r : Result A Stopped)
-      → IfOk r Is → OnOk r (NoBadEscapeAt source t) → IfErr r (IsEscapeStop source t)
-      → Reads source (name_sites t) Is r
-  reads_text t h Is r is lawful escape =
-      subst (λ k. Reads source (site_of_kind k t ∷ []) Is r) (sym h) (as_text t Is r is lawful escape)
-
   -- a name that is a string, and one that is a word
   pub named_string : (t : Token) (value : List ℕ) → t.kind ≡ StringLit → IsStringAt source t value
       → IsNameOf source t.kind t value

@@ -13,7 +13,7 @@ use Rattle.schema_syntax_errors.specs.declared.user_error.UserError.{UserError}
 use Rattle.schema_syntax_reader.specs.Sites.{Site, sites_of}
 use Rattle.schema_syntax_reader.specs.UserFaults.{FaultAt, empty_list, reserved, escape, note_escape, duplicate}
 use Rattle.schema_syntax_reader.specs.UserFaults.{HasUserFault, IsFirstUserFault, IsLawful}
-use Rattle.schema_syntax_reader.specs.Placed.{note_tokens, IsPlacedSite, NoSiteFault, IsFirstSiteFault}
+use Rattle.schema_syntax_reader.specs.Placed.{note_tokens, NoSiteFault, IsFirstSiteFault}
 use Rattle.schema_syntax_reader.specs.Stops.{IsStopped}
 use Rattle.schema_syntax_reader.specs.LawfulTrees.{IsStopOf}
 use Rattle.schema_syntax_reader.specs.declared.stopped.Stopped.{Stopped}
@@ -135,11 +135,6 @@ module _ (source : List ℕ) where
   -- no site with a fault: no user fault
   pub all_lawful : (items : List ItemSyntax) → All (NoSiteFault source) (sites_of items) → IsLawful source items
   all_lawful items h fault end f = no_fault_in (sites_of items) f.0 f.2 f.1 h f.3 fault end f.4
-
-  pub sites_placed : (tokens : List Token) (at : ℕ) (items : List ItemSyntax) → Scans source tokens at
-      → All (IsPlaced source) tokens → IsSyntax tokens items → All (IsPlacedSite source) (sites_of items)
-  sites_placed tokens at items s p r =
-      (syntax_fits source r (record { placed = p; rise = scans_rise source tokens at s })).placed
 
   -- what a stop says of the sites, said of the tokens
   pub stop_of : (tokens : List Token) (at : ℕ) (items : List ItemSyntax) (stop : Stopped) → Scans source tokens at

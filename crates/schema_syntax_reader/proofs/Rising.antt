@@ -70,10 +70,6 @@ rises_apart (x ∷ xs) ys n m r (inl e) b =
     subst (λ k. k ≤ m) (sym e) (all_among (λ k. x ≤ k) (xs ++ ys) m r.0 (among_right m xs ys b))
 rises_apart (x ∷ xs) ys n m r (inr a) b = rises_apart xs ys n m r.1 a b
 
-pub rises_right : (xs ys : List ℕ) → Rises (xs ++ ys) → Rises ys
-rises_right [] ys r = r
-rises_right (x ∷ xs) ys r = rises_right xs ys r.1
-
 -- some of the items, in order
 pub data Sub {A : Type 0} : List A → List A → Type 0 where
   none : Sub [] []

@@ -70,14 +70,6 @@ pub past_comment : (rest : List ℕ) (n : ℕ) → StartsComment rest → n ≤ 
     → EndsLine (drop n rest) → IsPastBlank rest (drop n rest)
 past_comment rest n h l i s = (take n rest, sym (take-append-drop n rest), inr (cut_line rest n h l i s))
 
--- a comment is no empty text
-pub comment_some : (rest : List ℕ) (n : ℕ) → StartsComment rest → EndsLine (drop n rest) → 0 < n
-comment_some [] n h s = absurd h
-comment_some (b ∷ []) n h s = absurd h
-comment_some (b ∷ c ∷ bs) zero h (inl s) = omega (arith, h.0, s)
-comment_some (b ∷ c ∷ bs) zero h (inr s) = omega (arith, h.0, s)
-comment_some (b ∷ c ∷ bs) (suc n) h s = omega arith
-
 line_end_byte : (bs : List ℕ) → EndsLine bs → (bs ≡ []) ⊎ (get_or bs 0 0 < 128)
 line_end_byte [] s = inl refl
 line_end_byte (b ∷ bs) (inl s) = inr (omega arith)

@@ -1,23 +1,20 @@
 -- The places of `\u{..}`: hex digits, and `_` among them.
-use Rattle.std.proofs.Common.{◌≡◌, ◌≢◌, ℕ, zero, suc, ◌+◌, ◌*◌, ◌^◌, ◌<◌, ◌≤◌, Bool, true, false, cond, not, ◌==◌, List}
+use Rattle.std.proofs.Common.{◌≡◌, ◌≢◌, ℕ, zero, suc, ◌+◌, ◌*◌, ◌^◌, ◌<◌, ◌≤◌, true, false, cond, not, ◌==◌, List}
 use Rattle.std.proofs.Common.{[], ◌∷◌, ◌++◌, length, take, drop, get_or, refl, sym, ap, ◌∙◌, subst, inl, inr, arith}
 use Rattle.std.proofs.Common.{lit≤}
 use Rattle.std.specs.List.{AllPass, prefix_len}
 use Rattle.std.specs.Char.{is_digit, digit_value, IsScalar}
-use Rattle.std.proofs.lemmas.List.{take-append-drop, length-append, append-nil, take_all, take_at, get_or_at}
+use Rattle.std.proofs.lemmas.List.{take-append-drop, length-append, append-nil, take_at, get_or_at}
 use Rattle.std.proofs.lemmas.List.Elements.{filter_more, filter-append, All-head, All-tail}
 use Rattle.std.proofs.lemmas.Bool.{cases_eq, or_cases, ne_eqb, ltb-true}
 use Rattle.std.proofs.lemmas.Grind.{pow_more}
 use Rattle.schema_syntax_tokens.specs.Escapes.{hex_value, is_place, digits_of, ArePlaces}
-use Rattle.schema_syntax_tokens.specs.Steps.{HasPlaces, NoPlaces, NoBraced}
+use Rattle.schema_syntax_tokens.specs.Steps.{NoPlaces, NoBraced}
 
 -- one more digit at the end
 hex_value-push : (n : ℕ) (ds : List ℕ) (d : ℕ) → hex_value n (ds ++ d ∷ []) ≡ hex_value n ds * 16 + digit_value d
 hex_value-push n [] d = refl
 hex_value-push n (c ∷ ds) d = hex_value-push (n * 16 + digit_value c) ds d
-
-is_kept : ℕ → Bool
-is_kept b = not (b == 95)
 
 digit_kept : (d : ℕ) → is_digit d 16 ≡ true → not (d == 95) ≡ true
 digit_kept d h =
@@ -49,10 +46,6 @@ pub record HasDigits (places : List ℕ) (at digits v : ℕ) : Type 0 where
   pub value : v ≡ hex_value 0 (digits_of (take at places))
   pub bound : v < 16 ^ digits
   pub first : 0 < at → is_digit (get_or places 0 0) 16 ≡ true
-
-pub HasDigits-none : (places : List ℕ) → HasDigits places 0 0 0
-HasDigits-none places = record
-    { count = refl; few = omega arith; value = refl; bound = omega arith; first = λ h. absurd (omega arith) }
 
 bound_more : (v d x : ℕ) → v < 16 ^ d → x < 16 → v * 16 + x < 16 ^ (d + 1)
 bound_more v d x h l = omega (arith, pow_more 16 d)
@@ -109,18 +102,6 @@ HasDigits-other places at digits value h a l f n =
       first = λ _. h.first f;
     }
 
-pub HasDigits-all : (places : List ℕ) (at digits value : ℕ) → HasDigits places at digits value
-    → AllPass is_place places → length places ≤ at → 0 < length places → HasPlaces places value
-HasDigits-all places at digits value h a l s =
-    let whole : take at places ≡ places = take_all at places l in (
-      record {
-        first = h.first (omega arith);
-        each = a;
-        few = omega (arith, h.count, h.few, ap (λ t. length (digits_of t)) whole);
-      },
-      h.value ∙ ap (λ t. hex_value 0 (digits_of t)) whole,
-    )
-
 -- a seventh digit
 pub too_many : (places : List ℕ) (at value : ℕ) → HasDigits places at 6 value → at < length places
     → is_digit (get_or places at 0) 16 ≡ true → NoPlaces places
@@ -134,13 +115,6 @@ too_many places at value h l d a =
     ∙ (ap length (filter-append (λ b. not (b == 95)) (take (at + 1) places) (drop (at + 1) places))
     ∙ length-append (digits_of (take (at + 1) places)) (digits_of (drop (at + 1) places))) in
     omega (arith, h.count, a.few)
-
-pub no_first : (places : List ℕ) → (is_digit (get_or places 0 0) 16 ≡ true → ⊥) → NoPlaces places
-no_first places n a = n a.first
-
-pub no_places_empty : (places : List ℕ) → length places ≡ 0 → NoPlaces places
-no_places_empty [] e a = let f : is_digit 0 16 ≡ true = a.first in cc
-no_places_empty (b ∷ bs) e a = omega arith
 
 -- places end at the brace behind them
 pub prefix_len-places : (places after : List ℕ) → AllPass is_place places

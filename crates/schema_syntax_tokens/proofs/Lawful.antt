@@ -1,12 +1,12 @@
 -- Lawful escapes, by what the bytes begin with.
-use Rattle.std.proofs.Common.{◌≡◌, ℕ, zero, suc, ◌+◌, ◌<◌, true, cond, ◌==◌, List, [], ◌∷◌, ◌++◌, length, take, drop}
+use Rattle.std.proofs.Common.{◌≡◌, ℕ, suc, ◌+◌, ◌<◌, true, cond, ◌==◌, List, [], ◌∷◌, ◌++◌, take, drop}
 use Rattle.std.proofs.Common.{get_or, Option, Some, refl, sym, ap, ◌∙◌, subst, inl, inr, arith, nat_lt, if◌then◌else◌}
 use Rattle.std.specs.Str.{IsUtf8, IsCharBoundary}
 use Rattle.std.proofs.lemmas.Bool.{cases_eq, ne_eqb, ltb-true}
 use Rattle.std.proofs.lemmas.Bool.Decides.{nat_tests}
 use Rattle.schema_syntax_tokens.proofs.Ends.{EndsAscii, boundary_after}
 use Rattle.std.specs.Char.{is_digit}
-use Rattle.std.proofs.lemmas.List.{length-append, take_more}
+use Rattle.std.proofs.lemmas.List.{take_more}
 use Rattle.schema_syntax_tokens.specs.Escapes.{simple_escape, IsEscape, IsEscapeTo, NoEscape}
 use Rattle.schema_syntax_tokens.specs.Steps.{NoHexPair, IsBraced}
 
@@ -66,9 +66,3 @@ escape_end e c (inr (inr s)) = (92 ∷ 117 ∷ 123 ∷ s.0, 125, s.1, omega arit
 
 pub boundary_after_escape : (rest : List ℕ) (n c : ℕ) → IsUtf8 rest → IsEscapeTo rest n c → IsCharBoundary rest n
 boundary_after_escape rest n c u h = boundary_after rest n u h.in_range (escape_end (take n rest) c h.escape)
-
--- an escape is no empty text
-pub escape_some : (rest : List ℕ) (n c : ℕ) → IsEscapeTo rest n c → 0 < n
-escape_some rest zero c h = let e = escape_end [] c h.escape in
-    let f : 0 ≡ length e.0 + 1 = ap length e.2 ∙ length-append e.0 (e.1 ∷ []) in omega arith
-escape_some rest (suc n) c h = omega arith

@@ -265,19 +265,3 @@ pub mark_of_none : (rest : List ℕ) → StartsOther rest → 0 < length rest �
     → NoForm rest
 mark_of_none [] h l e = NoForm-nil
 mark_of_none (b ∷ bs) h l e = no_mark b bs h.0 h.1 e
-
-pub NoForm-empty : (rest : List ℕ) → length rest ≡ 0 → NoForm rest
-NoForm-empty [] e = NoForm-nil
-NoForm-empty (b ∷ bs) e = absurd (omega arith)
-
-pub starts_word : (rest : List ℕ) → 0 < length rest → is_word_start (get_or rest 0 0) ≡ true → StartsWord rest
-starts_word [] l h = omega arith
-starts_word (b ∷ bs) l h = h
-
-pub starts_string : (rest : List ℕ) → 0 < length rest → get_or rest 0 0 ≡ 34 → StartsString rest
-starts_string [] l h = omega arith
-starts_string (b ∷ bs) l h = h
-
-pub starts_other : (rest : List ℕ) → is_word_start (get_or rest 0 0) ≡ false → get_or rest 0 0 ≢ 34 → StartsOther rest
-starts_other [] h n = tt
-starts_other (b ∷ bs) h n = (h, n)

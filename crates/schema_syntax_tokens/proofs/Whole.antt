@@ -5,7 +5,7 @@ use Rattle.std.specs.List.{All}
 use Rattle.std.specs.Str.{IsUtf8, IsCharBoundary}
 use Rattle.std.proofs.lemmas.List.{take-append-drop, length-take-le, length-append, length-drop, append_assoc}
 use Rattle.std.proofs.lemmas.List.{append-nil, drop_at}
-use Rattle.std.proofs.lemmas.List.Elements.{All-nil, All-push}
+use Rattle.std.proofs.lemmas.List.Elements.{All-push}
 use Rattle.std.proofs.lemmas.Str.{IsUtf8-drop, IsCharBoundary-at_seam}
 use Rattle.schema_syntax_grammar.specs.declared.token_kind.TokenKind.{TokenKind}
 use Rattle.schema_syntax_tokens.specs.declared.token.Token.{Token}
@@ -34,18 +34,6 @@ pub record HasScanned (text rest : List ℕ) (tokens : List Token) : Type 0 wher
   pub more_follow : (ts : List Token) (at : ℕ) → ScansFrom (length text - length rest) rest ts at
       → Scans text (tokens ++ ts) at
   pub placed : All (IsPlaced text) tokens
-
-pub HasScanned-none : (text : List ℕ) → HasScanned text text []
-HasScanned-none text =
-    record {
-      front = [];
-      split = refl;
-      more_follow = λ ts at h. subst (λ n. ScansFrom n text ts at) (no_difference (length text)) h;
-      placed = All-nil (IsPlaced text);
-    }
-  where
-    no_difference : (n : ℕ) → n - n ≡ 0
-    no_difference n = omega arith
 
 -- a place in the text: what follows it begins length front bytes behind the start
 at_rest : (text front rest : List ℕ) → text ≡ front ++ rest → length text ≡ length front + length rest

@@ -25,9 +25,6 @@ IsFedTo write old now body rest =
     (v : List ℕ) → Unescapes body v
     → (w : List ℕ) × Unescapes rest w × (fold write old (flat_map fed.char v) ≡ fold write now (flat_map fed.char w))
 
-pub IsFedTo-none : {S : Type 0} (write : S → List ℕ → S) (old : S) (body : List ℕ) → IsFedTo write old old body body
-IsFedTo-none write old body v h = (v, h, refl)
-
 pub IsFedTo-more : {S : Type 0} (write : S → List ℕ → S) (old now new : S) (body rest after : List ℕ) (c : ℕ)
     → Begins rest c after → new ≡ fold write now (fed.char c)
     → IsFedTo write old now body rest → IsFedTo write old new body after
