@@ -10,24 +10,8 @@ use schema_json::{
     ActionEntityUID, ReservedCommonTypeBasenameError, ReservedNameError, Type, action_name,
 };
 use schema_syntax_tree::{Path, SrcId};
-use schema_tests_lines::Wanted;
+use schema_tests_lines::{Wanted, says, text};
 use std::alloc::{AllocError, Global};
-
-// A text, which is empty where memory is wanted.
-fn text(alloc: Global, s: &str) -> Text {
-    match Text::from_str(alloc, s) {
-        Ok(text) => text,
-        Err(_) => Text::new(alloc),
-    }
-}
-
-// Is the answer this text?
-fn says(answer: Result<Text, AllocError>, wanted: &str) -> bool {
-    match answer {
-        Ok(text) => text.as_str() == wanted,
-        Err(_) => false,
-    }
-}
 
 // Is there no advice?
 fn is_silent(help: Result<Option<Text>, AllocError>) -> bool {

@@ -2,23 +2,14 @@
 
 use crate::fault_lines::{find_faults, find_warnings};
 use crate::fault_table::{fault_lines, warning_lines};
-use cedar_data::CloneIn;
 use cedar_names::ExtensionTable;
 use schema_convert::{
     CedarSchemaParseErrors, SchemaWarning, ToJsonSchemaErrors, ToJsonSchemaFailure,
     cedar_schema_to_json_schema, parse_cedar_schema_fragment,
 };
 use schema_syntax::parse_schema;
-use schema_tests_lines::{Wanted, answer_and_text, with_line_ends};
+use schema_tests_lines::{Wanted, answer_and_text, copies, with_line_ends};
 use std::alloc::Global;
-
-// Is a copy like its source?
-fn copies<T: CloneIn + PartialEq>(alloc: Global, value: &T) -> bool {
-    match value.clone_in(alloc) {
-        Ok(copy) => copy == *value,
-        Err(_) => false,
-    }
-}
 
 // Does the answer say these faults?
 fn says_faults(answer: &str, errors: &ToJsonSchemaErrors) -> bool {

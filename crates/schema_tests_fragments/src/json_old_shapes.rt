@@ -58,6 +58,7 @@ fn is_read_of_its_value(alloc: Global, text: &str) -> bool {
 
 #[test]
 fn old_values_are_read(rt: HostRuntime) {
-    let text = "{\"N\":{\"entityTypes\":{\"A\":{},\"B\":{\"memberOfTypes\":[\"A\"]}},\"actions\":{}}}";
+    let text =
+        "{\"N\":{\"entityTypes\":{\"A\":{},\"B\":{\"memberOfTypes\":[\"A\"]}},\"actions\":{}}}";
     assert!(rt; is_read_of_its_value(rt.alloc(), text));
 }

@@ -7,9 +7,7 @@ use cedar_identifiers::{InternalName, NameText, RawName};
 use cedar_names::ExtensionTable;
 use schema_convert::parse_cedar_schema_fragment;
 use schema_json::{ActionEntityUID, Fragment};
-use schema_resolve::{
-    ResolveError, ResolveFragment, UndefinedReferences, gather_undefined_alone,
-};
+use schema_resolve::{ResolveError, ResolveFragment, UndefinedReferences, gather_undefined_alone};
 use schema_tests_lines::{Wanted, answer_and_text};
 use std::alloc::{AllocError, Global};
 

@@ -4,32 +4,9 @@ use cedar_data::{
     Boxed, CloneIn, Label, List, Loc, Map, Node, NonEmpty, Set, Text, and_list, around, by_number,
     comma_list, lawful, message, push_both,
 };
-use std::alloc::{AllocError, Global};
+use schema_tests_lines::{copies, says, text};
+use std::alloc::Global;
 use std::collections::BTreeMap;
-
-// A text, which is empty where memory is wanted.
-fn text(alloc: Global, s: &str) -> Text {
-    match Text::from_str(alloc, s) {
-        Ok(text) => text,
-        Err(_) => Text::new(alloc),
-    }
-}
-
-// Is the answer this text?
-fn says(answer: Result<Text, AllocError>, wanted: &str) -> bool {
-    match answer {
-        Ok(text) => text.as_str() == wanted,
-        Err(_) => false,
-    }
-}
-
-// Is a copy like its source?
-fn copies<T: CloneIn + PartialEq>(alloc: Global, value: &T) -> bool {
-    match value.clone_in(alloc) {
-        Ok(copy) => copy == *value,
-        Err(_) => false,
-    }
-}
 
 // Are texts put together?
 fn grows(alloc: Global) -> bool {

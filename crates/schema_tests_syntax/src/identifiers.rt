@@ -1,13 +1,13 @@
 // What the readers of names say of texts, and names made, compared, qualified, copied and written.
 
 use crate::name_table::{alike_lines, apart_lines, word_and_name_lines};
-use cedar_data::{CloneIn, Loc, Map, Severity, SharedMap, Text, lawful};
+use cedar_data::{CloneIn, Loc, Map, SharedMap, Text, lawful};
 use cedar_identifiers::{
     Annotations, AnyId, ConditionalName, Eid, Id, InternalName, Name, NameFault, NameText, RawName,
     ReferenceType, UnreservedId,
 };
-use schema_tests_lines::with_line_ends;
-use std::alloc::{AllocError, Global};
+use schema_tests_lines::{copies, with_line_ends};
+use std::alloc::Global;
 
 // Is this what a reader says?
 fn says<T: Drop>(alloc: Global, answer: Result<T, NameFault>, wanted: &str) -> bool {
@@ -64,14 +64,6 @@ fn readers_agree_with_tables(rt: HostRuntime) {
             readers_agree(rt.alloc(), line, &[0, 1, 2, 3, 4, 3]),
             "{line}"
         );
-    }
-}
-
-// Is a copy like its source?
-fn copies<T: CloneIn + PartialEq>(alloc: Global, value: &T) -> bool {
-    match value.clone_in(alloc) {
-        Ok(copy) => copy == *value,
-        Err(_) => false,
     }
 }
 

@@ -11,16 +11,8 @@ use schema_build_types::{
 };
 use schema_json::Fragment;
 use schema_json_io::WriteJson;
-use schema_tests_lines::{Wanted, answer_and_text};
+use schema_tests_lines::{Wanted, answer_and_text, says};
 use std::alloc::{AllocError, Global};
-
-// Is this the text?
-fn says(text: Result<Text, AllocError>, wanted: &str) -> bool {
-    match text {
-        Ok(text) => text.as_str() == wanted,
-        Err(_) => false,
-    }
-}
 
 // The schema of the text, under the table of all extension types.
 fn schema_of(alloc: Global, text: &str) -> Option<ValidatorSchema> {

@@ -1,17 +1,9 @@
 // What a text is recovered as, and why others are not. What errors say was told by the second program that the table is from.
 
-use cedar_data::Text;
 use cedar_names::ExtensionTable;
 use cedar_schema_core::{RecoverError, Recovered, recover_schema};
-use std::alloc::{AllocError, Global};
-
-// Is this the text?
-fn says(text: Result<Text, AllocError>, wanted: &str) -> bool {
-    match text {
-        Ok(text) => text.as_str() == wanted,
-        Err(_) => false,
-    }
-}
+use schema_tests_lines::says;
+use std::alloc::Global;
 
 // Is this the cause, and is this what the error says?
 fn is_about(alloc: Global, error: &RecoverError, cause: &str, wanted: &str) -> bool {
