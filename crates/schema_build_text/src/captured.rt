@@ -5,7 +5,8 @@ ghost use Rattle.cedar_names.specs.CanonicalText.{basename, namespace};
 ghost use Rattle.cedar_names.specs.Definitions.{among, same_name};
 ghost use Rattle.schema_build_types.specs.Content.{SchemaContent, type_content, attributes_content, names_content};
 ghost use Rattle.schema_build_text.specs.Beside.{action_at, is_captured_by};
-ghost use Rattle.schema_build_text.specs.Captured.{plain_action, holds_plain_action, some_hold, tags_hold, item_holds, captured_items, first_item, IsAbout, IsItem, IsFirstOf};
+ghost use Rattle.schema_build_text.specs.Captured.{plain_action, holds_plain_action, some_hold, tags_hold, item_holds};
+ghost use Rattle.schema_build_text.specs.Captured.{captured_items, first_item, IsAbout, IsItem, IsFirstOf};
 ghost use Rattle.schema_build_text.specs.Items.{item_content, namespace_behind};
 ghost use Rattle.schema_build_text.specs.Walk.{namespace_of, walk};
 

@@ -164,8 +164,15 @@ fn is_recovered(alloc: Global, schema: &ValidatorSchema) -> bool {
 }
 
 // A schema with parts of each kind.
-const PARTS: &str =
-    "entity C enum [\"a\", \"b\"]; external entity D in B; entity B; entity A in [B, C] { x: Set<Bool>, y?: decimal, z: { u: B } } tags String; action a; external action b in a; action c in a appliesTo { principal: A, resource: [A, B], context: { v: Long } };";
+const PARTS: &str = "\
+entity C enum [\"a\", \"b\"];
+external entity D in B;
+entity B;
+entity A in [B, C] { x: Set<Bool>, y?: decimal, z: { u: B } } tags String;
+action a;
+external action b in a;
+action c in a appliesTo { principal: A, resource: [A, B], context: { v: Long } };
+";
 
 #[test]
 fn parts_make_the_schema_again(rt: HostRuntime) {
