@@ -23,22 +23,25 @@ chars-from_test bs h = chars-IsAscii bs (IsAscii-from_test bs h)
 pub encodes-from_test : (cs : List ℕ) → list_all is_ascii cs ≡ true → encode_utf8_all cs ≡ cs
 encodes-from_test cs h = encodes-IsAscii cs (IsAscii-from_test cs h)
 
-part_ascii : (b : ℕ) → is_word_part b ≡ true → b < 128
+-- words are ASCII
+pub part_ascii : (b : ℕ) → is_word_part b ≡ true → b < 128
 part_ascii b h = grind (arith, nat_tests)
 
-start_part : (b : ℕ) → is_word_start b ≡ true → is_word_part b ≡ true
+pub start_part : (b : ℕ) → is_word_start b ≡ true → is_word_part b ≡ true
 start_part b h = grind (arith, nat_tests)
+
+pub start_ascii : (b : ℕ) → is_word_start b ≡ true → b < 128
+start_ascii b h = part_ascii b (start_part b h)
 
 pub parts_ascii : (bs : List ℕ) → list_all is_word_part bs ≡ true → IsAscii bs
 parts_ascii [] h = IsAscii-nil
 parts_ascii (b ∷ bs) h = IsAscii-cons b bs (part_ascii b (first_so (is_word_part b) (list_all is_word_part bs) h))
     (parts_ascii bs (second_so (is_word_part b) (list_all is_word_part bs) h))
 
--- words are ASCII
 pub word_ascii : (w : List ℕ) → is_word w ≡ true → IsAscii w
 word_ascii [] h = IsAscii-nil
 word_ascii (b ∷ bs) h =
-    IsAscii-cons b bs (part_ascii b (start_part b (first_so (is_word_start b) (list_all is_word_part bs) h)))
+    IsAscii-cons b bs (start_ascii b (first_so (is_word_start b) (list_all is_word_part bs) h))
     (parts_ascii bs (second_so (is_word_start b) (list_all is_word_part bs) h))
 
 -- their bytes are their characters

@@ -12,7 +12,7 @@ use Rattle.std.specs.Option.{option_or}
 use Rattle.std.specs.Ordering.{is_eq, ordering_reverse, match_ordering}
 use Rattle.std.proofs.lemmas.Map.Keys.{sorted_from_all_adjacent}
 use Rattle.cedar_data.specs.Maps.{with_entries, map_of, last_at}
-use Rattle.cedar_data.proofs.Made.{or_none}
+use Rattle.cedar_data.proofs.Options.{or_none}
 
 module _ {K X : Type 0} (R : K → K → Ordering) (o : IsTotalOrder R) where
   -- entries each of whose keys is less than the next

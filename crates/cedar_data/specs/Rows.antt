@@ -1,5 +1,5 @@
 -- Texts in a row, and what goes by their number.
-use Rattle.std.specs.Prelude.{ℕ, List, [], ◌∷◌, ◌++◌, codes}
+use Rattle.std.specs.Prelude.{ℕ, Bool, true, false, List, [], ◌∷◌, ◌++◌, codes}
 
 -- the texts in turn, with the separator between two
 abbrev pub joined_by : List ℕ → List (List ℕ) → List ℕ
@@ -30,3 +30,13 @@ and_list texts = listed (codes ", ") (codes ", and ") texts
 abbrev pub by_number : List ℕ → List ℕ → List (List ℕ) → List ℕ
 by_number one several (first ∷ next ∷ texts) = several
 by_number one several texts = one
+
+-- what stands before a text: the separator where something stands before it
+abbrev pub separator_where : List ℕ → Bool → List ℕ
+separator_where separator true = separator
+separator_where separator false = []
+
+-- each of the texts behind the separator, the first too where something stands before it
+abbrev pub row_behind : List ℕ → Bool → List (List ℕ) → List ℕ
+row_behind separator behind [] = []
+row_behind separator behind (t ∷ ts) = separator_where separator behind ++ (t ++ row_behind separator true ts)

@@ -1,7 +1,7 @@
 //! Texts in a row, for messages.
 ghost use Rattle.std.specs.List.{list_all};
 ghost use Rattle.std.specs.Char.{is_ascii};
-ghost use Rattle.std.specs.Prelude.{◌≡◌, true, length, codes, IfOk};
+ghost use Rattle.std.specs.Prelude.{◌≡◌, true, codes, IfOk};
 ghost use Rattle.cedar_data.specs.Rows.{joined_by, listed, separator, and_list, by_number};
 
 use crate::messages::message;

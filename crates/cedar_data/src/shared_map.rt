@@ -1,5 +1,5 @@
-ghost use Rattle.std.specs.Ordering.{ordering_then, partial_ordering_then};
-ghost use Rattle.std.specs.Cmp.Lexicographic.{slice_cmp, slice_partial_cmp, pointwise, lists_equiv, lists_agrees, lists_total, lists_ties, lists_po, lists_per};
+ghost use Rattle.std.specs.Ordering.{ordering_then};
+ghost use Rattle.std.specs.Cmp.Lexicographic.{lists_equiv, lists_agrees, lists_total, lists_ties, lists_po, lists_per};
 ghost use Rattle.std.specs.Cmp.{on_equiv, on_total, on_po, on_per, and_per, and_equiv, then_po, then_total, then_agrees, both_tied};
 ghost use Rattle.std.specs.Hash.{on_Alike, items_Alike, and-Alike};
 ghost use Rattle.std.specs.Hash as fed;

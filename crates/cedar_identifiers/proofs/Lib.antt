@@ -4,7 +4,7 @@ mod Components
 mod Cut
 pub mod Joins
 pub mod Normal
-mod Ordered
+pub mod Ordered
 mod Pieces
 mod Reading
 pub mod Unique

@@ -9,10 +9,10 @@ use Rattle.std.proofs.lemmas.Slice.Eq.{bytes_eq-Decides}
 use Rattle.std.proofs.lemmas.Bool.{and_from}
 use Rattle.cedar_data.specs.Text.{text_cmp}
 use Rattle.cedar_data.specs.Words.{is_word}
+use Rattle.cedar_data.proofs.Ascii.{word_bytes}
 use Rattle.cedar_identifiers.specs.Names.{texts_of}
 use Rattle.cedar_identifiers.specs.declared.id.Id.{Id}
 use Rattle.cedar_identifiers.proofs.Ids.{id_is_word}
-use Rattle.cedar_data.proofs.Ascii.{word_bytes}
 
 -- whether two texts have the same bytes
 abbrev pub same : List ℕ → List ℕ → Bool
@@ -52,6 +52,11 @@ ids_from E e (x ∷ xs) (y ∷ ys) h =
     and_from (E x y) (pointwise E xs ys)
     (e x y ∙ (same_words x.text y.text (id_is_word x.text x.word) (id_is_word y.text y.word)).1 first)
     (ids_from E e xs ys rest)
+
+-- ids are equal in turn where their texts are
+pub texts_equal : (E : Id → Id → Bool) → ((x y : Id) → E x y ≡ same x.text y.text) → (xs ys : List Id)
+    → (pointwise E xs ys ≡ true) ↔ (texts_of xs ≡ texts_of ys)
+texts_equal E e xs ys = (ids_to E e xs ys, ids_from E e xs ys)
 
 -- names are equal where their components are
 pub ids_equal : (E : Id → Id → Bool) → ((x y : Id) → E x y ≡ same x.text y.text) → (f g : Id) (xs ys : List Id)

@@ -7,14 +7,12 @@ use Rattle.std.specs.Char.{is_ascii_digit}
 use Rattle.std.proofs.lemmas.List.Sums.{prefix_len-le-length, prefix_len_passes}
 use Rattle.std.proofs.lemmas.Str.{IsCharBoundary-after_ascii, chars-IsAscii}
 use Rattle.std.proofs.lemmas.Bool.Decides.{nat_tests}
-use Rattle.cedar_data.specs.Words.{is_word_start, is_word_part}
-use Rattle.cedar_identifiers.specs.NamePieces.{starts_twice, is_mark, blank_len, piece_len, BeginsWith, here, piece}
-use Rattle.cedar_identifiers.proofs.Blanks.{Begins-append}
 use Rattle.std.specs.Cmp.{first_so, second_so}
 use Rattle.std.proofs.lemmas.Str.Ascii.{IsAscii-nil, IsAscii-cons}
-
-part_ascii : (b : ℕ) → is_word_part b ≡ true → b < 128
-part_ascii b h = grind (arith, nat_tests)
+use Rattle.cedar_data.specs.Words.{is_word_start, is_word_part}
+use Rattle.cedar_data.proofs.Ascii.{part_ascii}
+use Rattle.cedar_identifiers.specs.NamePieces.{starts_twice, is_mark, blank_len, piece_len, BeginsWith, here, piece}
+use Rattle.cedar_identifiers.proofs.Blanks.{Begins-append}
 
 digit_ascii : (b : ℕ) → is_ascii_digit b ≡ true → b < 128
 digit_ascii b h = grind (arith, nat_tests)

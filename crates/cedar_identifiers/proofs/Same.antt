@@ -1,11 +1,11 @@
 -- Words with the same text are the same, and so are names with the same components and place.
-use Rattle.std.specs.Prelude.{◌≡◌, true, false}
+use Rattle.std.specs.Prelude.{◌≡◌, true, false, List, [], ◌∷◌}
 use Rattle.std.proofs.Math.Bool.{Bool-set}
-use Rattle.std.proofs.Common.{subst}
+use Rattle.std.proofs.Common.{refl, subst}
 use Rattle.cedar_data.specs.declared.text.Text.{Text}
-use Rattle.cedar_identifiers.specs.Words.{is_id, is_cedar}
 use Rattle.cedar_data.specs.Words.{is_word}
-use Rattle.cedar_identifiers.specs.Names.{components_of, has_cedar}
+use Rattle.cedar_identifiers.specs.Words.{is_id, is_cedar}
+use Rattle.cedar_identifiers.specs.Names.{components_of, has_cedar, texts_of}
 use Rattle.cedar_identifiers.specs.declared.any_id.AnyId.{AnyId}
 use Rattle.cedar_identifiers.specs.declared.id.Id.{Id}
 use Rattle.cedar_identifiers.specs.declared.unreserved_id.UnreservedId.{UnreservedId}
@@ -33,6 +33,15 @@ id_from x y e p q =
 
 pub id_same : (a b : Id) → a.text ≡ b.text → a ≡ b
 id_same a b e = id_from a.text b.text e a.word b.word
+
+pub ids_same : (is js : List Id) → texts_of is ≡ texts_of js → is ≡ js
+ids_same [] [] e = refl
+ids_same [] (j ∷ js) e = cc
+ids_same (i ∷ is) [] e = cc
+ids_same (i ∷ is) (j ∷ js) e =
+    let first = id_same i j (cc) in
+    let others = ids_same is js (cc) in
+    λ k. first k ∷ others k
 
 -- words that may stand in declared names
 unreserved_from : (x y : Id) (e : x ≡ y) (p : is_cedar x.text ≡ false) (q : is_cedar y.text ≡ false)

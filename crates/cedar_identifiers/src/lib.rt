@@ -11,7 +11,6 @@ pub mod laws;
 pub mod name;
 pub mod name_fault;
 pub mod name_kind;
-pub mod name_laws;
 mod name_pieces;
 mod name_reader;
 pub mod name_text;

@@ -1,6 +1,4 @@
-ghost use Rattle.std.specs.List.{list_all};
-ghost use Rattle.std.specs.Char.{is_ascii};
-ghost use Rattle.std.specs.Prelude.{◌≡◌, true, ◌++◌, [], Ok, None, IfOk, IsOkAnd};
+ghost use Rattle.std.specs.Prelude.{◌≡◌, [], Ok, None, IfOk, IsOkAnd};
 ghost use Rattle.cedar_identifiers.specs.FaultTexts.{name_fault_text};
 
 use cedar_data::{CloneIn, Label, Severity, Text, around, message};

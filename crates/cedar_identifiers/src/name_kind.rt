@@ -1,6 +1,4 @@
 ghost use Rattle.std.specs.Prelude.{◌≡◌};
-ghost use Rattle.std.specs.List.{list_any};
-ghost use Rattle.std.specs.Str.{bytes_eq};
 ghost use Rattle.cedar_identifiers.specs.Words.{is_reserved};
 ghost use Rattle.cedar_identifiers.specs.NameReading.{is_single, refuses};
 

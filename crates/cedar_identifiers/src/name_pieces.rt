@@ -3,7 +3,7 @@ ghost use Rattle.std.specs.Prelude.{◌≡◌, ◌<◌, [], drop, MatchOption};
 ghost use Rattle.std.specs.List.{prefix_len};
 ghost use Rattle.std.specs.Str.{chars};
 ghost use Rattle.std.specs.Char.{is_ascii_digit};
-ghost use Rattle.cedar_data.specs.Words.{is_word_start, is_word_part, is_in_line};
+ghost use Rattle.cedar_data.specs.Words.{is_word_start, is_in_line};
 ghost use Rattle.cedar_identifiers.specs.NamePieces.{space_len, starts_twice, is_mark, blank_len, piece_len, BeginsWith};
 ghost use Rattle.cedar_identifiers.specs.Fronts.{IsFront};
 

@@ -1,9 +1,8 @@
 // Names read from texts.
 ghost use Rattle.std.specs.Prelude.{◌≡◌, ◌≢◌, [], ◌∷◌, Some, None, true, false, IfOk, IfErr, MatchOption, MatchResult, find, codes, if◌then◌else◌};
-ghost use Rattle.std.specs.List.{list_all};
 ghost use Rattle.std.specs.Str.{bytes_eq};
 ghost use Rattle.cedar_data.specs.Rows.{joined_by};
-ghost use Rattle.cedar_data.specs.Words.{is_word, is_word_part};
+ghost use Rattle.cedar_data.specs.Words.{is_word};
 ghost use Rattle.cedar_identifiers.specs.Names.{components_of, texts_of};
 ghost use Rattle.cedar_identifiers.specs.NamePieces.{BeginsWith};
 ghost use Rattle.cedar_identifiers.specs.Fronts.{StopsAt, IsRefusedWord, AreAllowed, word_texts};

@@ -1,4 +1,4 @@
-ghost use Rattle.std.specs.Prelude.{◌≡◌, ◌≤◌, ◌<◌, ◌+◌, ℕ, List, length, IfOk, OnOk, IsErrOf};
+ghost use Rattle.std.specs.Prelude.{◌≤◌, ◌<◌, ◌+◌, ℕ, List, length, IfOk, OnOk, IsErrOf};
 ghost use Rattle.cedar_io.specs.Outside.{Rose, IsEnd};
 ghost use Rattle.cedar_io.specs.Input.{HadLeft, TookAtMost, max_input};
 

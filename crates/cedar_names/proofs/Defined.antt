@@ -1,44 +1,32 @@
 -- Names and actions that the order does not tell apart.
-use Rattle.std.proofs.Common.{◌≡◌, ℕ, ◌+◌, ◌<◌, Bool, true, false, not, ◌&&◌, ◌||◌, List, [], ◌∷◌, ◌++◌, length, get_or}
+use Rattle.std.proofs.Common.{◌≡◌, ℕ, ◌+◌, ◌<◌, Bool, true, false, ◌&&◌, ◌||◌, List, [], ◌∷◌, ◌++◌, length, get_or}
 use Rattle.std.proofs.Common.{take, map, refl, sym, ap, ◌∙◌, inl, inr}
 use Rattle.std.specs.Prelude.{◌⊎◌}
-use Rattle.std.specs.declared.cmp.Ordering.{Ordering}
-use Rattle.std.specs.declared.cmp.Ordering.TheVariants.{Less, Equal, Greater}
-use Rattle.std.specs.Ordering.{is_eq, ordering_then, ordering_reverse}
-use Rattle.std.specs.Cmp.{IsTotalOrder, first_so, second_so}
+use Rattle.std.specs.declared.cmp.Ordering.TheVariants.{Equal}
+use Rattle.std.specs.Ordering.{is_eq}
+use Rattle.std.specs.Cmp.{first_so, second_so}
 use Rattle.std.specs.Cmp.Lexicographic.{slice_cmp, lists_ties}
 use Rattle.std.specs.Cmp.Derive.Mapped.{pointwise-map}
 use Rattle.std.specs.Str.{bytes_eq, encode_utf8_all}
 use Rattle.std.specs.List.{list_any, insert}
-use Rattle.std.specs.List.Sorted.{IsStrictlySortedBy}
-use Rattle.std.proofs.lemmas.Bool.{cases_Bool}
+use Rattle.std.proofs.lemmas.Bool.{cases_Bool, and_from}
 use Rattle.std.proofs.lemmas.List.{map-append}
 use Rattle.std.proofs.lemmas.List.Folds.{list_any-append, list_any_more, list_any_at}
 use Rattle.std.proofs.lemmas.Slice.Eq.{bytes_eq-Decides}
 use Rattle.std.proofs.lemmas.Map.Text.{is_eq-slice_cmp}
-use Rattle.std.proofs.lemmas.Str.{encodes-IsAscii}
 use Rattle.cedar_data.specs.Text.{text_cmp}
-use Rattle.cedar_identifiers.specs.Words.{is_reserved}
-use Rattle.cedar_data.specs.Words.{is_word}
-use Rattle.cedar_data.proofs.Ascii.{word_ascii}
+use Rattle.cedar_data.proofs.Lists.{list_any-map}
+use Rattle.cedar_data.proofs.Orders.{is_eq_turned, is_eq_then}
 use Rattle.cedar_identifiers.specs.Names.{components_of, texts_of}
 use Rattle.cedar_identifiers.specs.declared.id.Id.{Id}
 use Rattle.cedar_identifiers.specs.declared.internal_name.InternalName.{InternalName}
+use Rattle.cedar_identifiers.proofs.Ids.{id_bytes}
 use Rattle.cedar_names.specs.Definitions.{same_name, among, action_of, same_action, among_actions}
-use Rattle.cedar_names.specs.Orders.{ids_in_order, ids_of, ids_behind, names_in_order, ActionKey, action_key}
+use Rattle.cedar_names.specs.Orders.{id_text_order, ids_of, ids_behind, names_in_order, ActionKey, action_key}
 use Rattle.cedar_names.specs.Orders.{keys_in_order, uids_in_order, ids_total, keys_total}
 use Rattle.cedar_names.specs.Rising.{PassesAlike}
 use Rattle.cedar_names.specs.declared.entity_uid.EntityUID.{EntityUID}
 use Rattle.cedar_names.proofs.Risen.{put_in}
-
-pub rises_empty : {T : Type 0} (R : T → T → Ordering) (xs : List T) → xs ≡ [] → IsStrictlySortedBy R xs
-unfolding IsStrictlySortedBy
-rises_empty R [] e = tt
-rises_empty R (x ∷ xs) e = cc
-
-any_map : {K N : Type 0} (h : K → N) (f : N → Bool) (ks : List K) → list_any f (map h ks) ≡ list_any (λ k. f (h k)) ks
-any_map h f [] = refl
-any_map h f (k ∷ ks) = ap (λ b. f (h k) || b) (any_map h f ks)
 
 alike_map : {K N : Type 0} (h : K → N) (f : N → Bool) (p : K → Bool) → ((k : K) → p k ≡ f (h k)) → (ks : List K)
     → list_any p ks ≡ list_any f (map h ks)
@@ -53,44 +41,28 @@ or_false : (a b : Bool) → b ≡ false → a ≡ (a || b)
 or_false true b h = refl
 or_false false b h = sym h
 
-id_bytes : (n : Id) → encode_utf8_all n.text ≡ n.text
-id_bytes n = encodes-IsAscii n.text (word_ascii n.text (first_so (is_word n.text) (not (is_reserved n.text)) n.word))
-
-same_ids : (i j : Id) → bytes_eq i.text j.text ≡ is_eq (ids_in_order i j)
-same_ids i j = sym (λ k. bytes_eq (id_bytes i k) (id_bytes j k))
+same_ids : (i j : Id) → bytes_eq i.text j.text ≡ is_eq (id_text_order i j)
+same_ids i j = sym (λ k. bytes_eq (id_bytes i.text i.word k) (id_bytes j.text j.word k))
     ∙ sym (is_eq-slice_cmp (encode_utf8_all i.text) (encode_utf8_all j.text))
 
-same_lists : (xs ys : List Id) → is_eq (slice_cmp ids_in_order xs ys) ≡ same_name (texts_of xs) (texts_of ys)
-same_lists xs ys = sym (pointwise-map (λ i. i.text) bytes_eq xs ys ∙ lists_ties ids_in_order same_ids xs ys)
-
-tied : (o : Ordering) → is_eq (ordering_reverse o) ≡ is_eq o
-tied Less = refl
-tied Equal = refl
-tied Greater = refl
-
-turned : {K : Type 0} {R : K → K → Ordering} → IsTotalOrder R → (a b : K) → is_eq (R a b) ≡ is_eq (R b a)
-turned {K} {R} o a b = ap is_eq (o.antisymm a b) ∙ tied (R b a)
-
-both : (a b : Ordering) → is_eq (ordering_then a b) ≡ (is_eq a && is_eq b)
-both Less b = refl
-both Equal b = refl
-both Greater b = refl
+pub same_lists : (xs ys : List Id) → is_eq (slice_cmp id_text_order xs ys) ≡ same_name (texts_of xs) (texts_of ys)
+same_lists xs ys = sym (pointwise-map (λ i. i.text) bytes_eq xs ys ∙ lists_ties id_text_order same_ids xs ys)
 
 same_keys : (a b : ActionKey) → is_eq (keys_in_order a b) ≡ same_action (texts_of a.0, a.1) (texts_of b.0, b.1)
-same_keys a b = both (slice_cmp ids_in_order a.0 b.0) (text_cmp a.1 b.1)
+same_keys a b = is_eq_then (slice_cmp id_text_order a.0 b.0) (text_cmp a.1 b.1)
     ∙ (λ i. same_lists a.0 b.0 i && is_eq-slice_cmp (encode_utf8_all a.1) (encode_utf8_all b.1) i)
 
 -- what a search among names, or among actions, tells
 pub name_sought : (q : List Id) (ks : List InternalName)
-    → list_any (λ x. is_eq (slice_cmp ids_in_order (ids_of x) q)) ks ≡ among (map components_of ks) (texts_of q)
-name_sought q ks = alike_map components_of (same_name (texts_of q)) (λ x. is_eq (slice_cmp ids_in_order (ids_of x) q))
-    (λ x. turned ids_total (ids_of x) q ∙ same_lists q (ids_of x)) ks
+    → list_any (λ x. is_eq (slice_cmp id_text_order (ids_of x) q)) ks ≡ among (map components_of ks) (texts_of q)
+name_sought q ks = alike_map components_of (same_name (texts_of q)) (λ x. is_eq (slice_cmp id_text_order (ids_of x) q))
+    (λ x. is_eq_turned ids_total (ids_of x) q ∙ same_lists q (ids_of x)) ks
 
 pub action_sought : (q : ActionKey) (ks : List EntityUID)
     → list_any (λ x. is_eq (keys_in_order (action_key x) q)) ks ≡ among_actions (map action_of ks) (texts_of q.0, q.1)
 action_sought q ks = alike_map action_of (same_action (texts_of q.0, q.1))
     (λ x. is_eq (keys_in_order (action_key x) q))
-    (λ x. turned keys_total (action_key x) q ∙ same_keys q (action_key x)) ks
+    (λ x. is_eq_turned keys_total (action_key x) q ∙ same_keys q (action_key x)) ks
 
 pub texts_behind : (namespace : InternalName) (last : Id)
     → texts_of (ids_behind namespace last) ≡ components_of namespace ++ last.text ∷ []
@@ -105,6 +77,11 @@ equal_names (x ∷ xs) [] h = cc
 equal_names (x ∷ xs) (y ∷ ys) h =
     λ i. (bytes_eq-Decides x y).0 (first_so (bytes_eq x y) (same_name xs ys) h) i ∷ equal_names xs ys
     (second_so (bytes_eq x y) (same_name xs ys) h) i
+
+pub name_itself : (n : List (List ℕ)) → same_name n n ≡ true
+name_itself [] = refl
+name_itself (x ∷ xs) =
+    and_from (bytes_eq x x) (same_name xs xs) ((bytes_eq-Decides x x).1 refl) (name_itself xs)
 
 same_to_name : (n a b : List (List ℕ)) → same_name a b ≡ true → same_name n a ≡ same_name n b
 same_to_name n a b h = ap (same_name n) (equal_names a b h)
@@ -160,32 +137,32 @@ name_at ks i k name h at e =
 pub name_put_in : (ks : List InternalName) (at : ℕ) (k : InternalName) (n : List (List ℕ))
     → among (map components_of (insert ks at k)) n ≡ (among (map components_of ks) n || same_name n (components_of k))
 name_put_in ks at k n =
-    any_map components_of (same_name n) (insert ks at k) ∙ put_in (λ x. same_name n (components_of x)) ks at k
-    ∙ ap (λ b. b || same_name n (components_of k)) (sym (any_map components_of (same_name n) ks))
+    list_any-map (same_name n) components_of (insert ks at k) ∙ put_in (λ x. same_name n (components_of x)) ks at k
+    ∙ ap (λ b. b || same_name n (components_of k)) (sym (list_any-map (same_name n) components_of ks))
 
 pub action_put_in : (ks : List EntityUID) (at : ℕ) (k : EntityUID) (n : List (List ℕ) × List ℕ)
     → among_actions (map action_of (insert ks at k)) n
     ≡ (among_actions (map action_of ks) n || same_action n (action_of k))
 action_put_in ks at k n =
-    any_map action_of (same_action n) (insert ks at k) ∙ put_in (λ x. same_action n (action_of x)) ks at k
-    ∙ ap (λ b. b || same_action n (action_of k)) (sym (any_map action_of (same_action n) ks))
+    list_any-map (same_action n) action_of (insert ks at k) ∙ put_in (λ x. same_action n (action_of x)) ks at k
+    ∙ ap (λ b. b || same_action n (action_of k)) (sym (list_any-map (same_action n) action_of ks))
 
 -- sorted names, and actions, are those that they were before
 pub names_sorted : (old new : List InternalName) → PassesAlike names_in_order old new → (n : List (List ℕ))
     → among (map components_of new) n ≡ among (map components_of old) n
 names_sorted old new same n =
-    any_map components_of (same_name n) new
+    list_any-map (same_name n) components_of new
     ∙ same (λ x. same_name n (components_of x))
     (λ x y e. same_to_name n (components_of x) (components_of y) (sym (same_lists (ids_of x) (ids_of y)) ∙ e))
-    ∙ sym (any_map components_of (same_name n) old)
+    ∙ sym (list_any-map (same_name n) components_of old)
 
 pub actions_sorted : (old new : List EntityUID) → PassesAlike uids_in_order old new → (n : List (List ℕ) × List ℕ)
     → among_actions (map action_of new) n ≡ among_actions (map action_of old) n
 actions_sorted old new same n =
-    any_map action_of (same_action n) new
+    list_any-map (same_action n) action_of new
     ∙ same (λ x. same_action n (action_of x))
     (λ x y e. same_to_action n (action_of x) (action_of y) (sym (same_keys (action_key x) (action_key y)) ∙ e))
-    ∙ sym (any_map action_of (same_action n) old)
+    ∙ sym (list_any-map (same_action n) action_of old)
 
 -- some names, and behind them others
 pub names_joined : (xs ys : List InternalName) (n : List (List ℕ))
@@ -202,7 +179,7 @@ type_more actions i d n h e =
     let test : EntityUID → Bool = λ a. same_name n (components_of a.ty.name) in
     let types : (l : List EntityUID)
     → among (map (λ a. a.0) (map action_of l)) n ≡ list_any test l =
-    λ l. any_map (λ (a : List (List ℕ) × List ℕ). a.0) (same_name n) (map action_of l)
-    ∙ any_map action_of (λ a. same_name n a.0) l in
+    λ l. list_any-map (same_name n) (λ (a : List (List ℕ) × List ℕ). a.0) (map action_of l)
+    ∙ list_any-map (λ a. same_name n a.0) action_of l in
     (λ k. types (take i actions) k || test (e k)) ∙ sym (list_any_more test actions i d h)
     ∙ sym (types (take (i + 1) actions))

@@ -1,5 +1,5 @@
 mod Ahead
-mod Cost
+pub mod Cost
 pub mod Defined
 mod Faults
 mod Found

@@ -5,31 +5,23 @@ use Rattle.std.specs.declared.cmp.Ordering.{Ordering}
 use Rattle.std.specs.declared.cmp.Ordering.TheVariants.{Less, Equal, Greater}
 use Rattle.std.specs.Ordering.{nat_cmp, is_eq, ordering_reverse}
 use Rattle.std.specs.Cmp.Lexicographic.{slice_cmp}
-use Rattle.std.specs.Cmp.{IsTotalOrder, first_so}
+use Rattle.std.specs.Cmp.{IsTotalOrder}
 use Rattle.std.specs.List.{list_any}
 use Rattle.std.specs.List.Sorted.{IsStrictlySortedBy}
-use Rattle.std.specs.Str.{bytes_eq, encode_utf8_all}
+use Rattle.std.specs.Str.{bytes_eq}
 use Rattle.std.proofs.lemmas.Slice.Eq.{bytes_eq-Decides}
 use Rattle.std.proofs.lemmas.Map.Text.{is_eq-slice_cmp}
 use Rattle.std.proofs.lemmas.Map.Keys.{Less-from_sorted}
 use Rattle.std.proofs.lemmas.Bool.{cases_eq, cases_lt, false≢true}
 use Rattle.std.proofs.lemmas.List.{get_or_default}
 use Rattle.std.proofs.lemmas.List.Folds.{list_any_at, list_any_none}
-use Rattle.std.proofs.lemmas.Str.{encodes-IsAscii}
-use Rattle.std.specs.Prelude.{not}
 use Rattle.cedar_data.specs.Text.{text_cmp}
-use Rattle.cedar_identifiers.specs.Words.{is_reserved}
-use Rattle.cedar_data.specs.Words.{is_word}
-use Rattle.cedar_data.proofs.Ascii.{word_ascii}
 use Rattle.cedar_identifiers.specs.declared.unreserved_id.UnreservedId.{UnreservedId}
-
-id_bytes : (n : UnreservedId) → encode_utf8_all n.id.text ≡ n.id.text
-id_bytes n = encodes-IsAscii n.id.text
-    (word_ascii n.id.text (first_so (is_word n.id.text) (not (is_reserved n.id.text)) n.id.word))
+use Rattle.cedar_identifiers.proofs.Ids.{id_bytes}
 
 -- the order of words is that of their bytes
 pub by_bytes : (x y : UnreservedId) → text_cmp x.id.text y.id.text ≡ slice_cmp nat_cmp x.id.text y.id.text
-by_bytes x y = λ i. slice_cmp nat_cmp (id_bytes x i) (id_bytes y i)
+by_bytes x y = λ i. slice_cmp nat_cmp (id_bytes x.id.text x.id.word i) (id_bytes y.id.text y.id.word i)
 
 -- a word has another's text exactly where the order sees no difference
 pub at_text : (R : UnreservedId → UnreservedId → Ordering)

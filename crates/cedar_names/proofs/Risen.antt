@@ -9,16 +9,7 @@ use Rattle.std.specs.List.{list_any, dedup, dedup_from, insert, AllByRecursion}
 use Rattle.std.specs.List.Sorted.{IsStrictlySortedBy, IsPermutation}
 use Rattle.std.proofs.lemmas.Bool.{cases_Bool}
 use Rattle.std.proofs.lemmas.List.Sorted.{list_any-IsPermutation, IsPermutation-insert}
-
-or_same : (a b : Bool) → (a || (a || b)) ≡ (a || b)
-or_same true b = refl
-or_same false b = refl
-
-or_turned : (a b : Bool) → (a || b) ≡ (b || a)
-or_turned true true = refl
-or_turned true false = refl
-or_turned false true = refl
-or_turned false false = refl
+use mathlib.Core.Bool.{or_comm, or_self_left}
 
 module _ {T : Type 0} (same : T → T → Bool) (passes : T → Bool)
     (alike : (x y : T) → same x y ≡ true → passes x ≡ passes y) where
@@ -33,7 +24,7 @@ module _ {T : Type 0} (same : T → T → Bool) (passes : T → Bool)
           ≡ (passes k || (passes x || list_any passes xs))
       go mine its (inl e) =
           ap (λ b. list_any passes (cond b (dedup_from same k xs) (k ∷ dedup_from same x xs))) e ∙ mine
-          ∙ sym (or_same (passes k) (list_any passes xs))
+          ∙ sym (or_self_left (passes k) (list_any passes xs))
           ∙ ap (λ b. passes k || (b || list_any passes xs)) (sym (alike x k e))
       go mine its (inr e) = ap (λ b. list_any passes (cond b (dedup_from same k xs) (k ∷ dedup_from same x xs))) e
           ∙ ap (λ b. passes k || b) its
@@ -50,7 +41,7 @@ shuffled passes xs ys p = sym (list_any-IsPermutation passes xs ys p)
 pub put_in : {T : Type 0} (passes : T → Bool) (xs : List T) (at : ℕ) (x : T)
     → list_any passes (insert xs at x) ≡ (list_any passes xs || passes x)
 put_in passes xs at x = sym (list_any-IsPermutation passes (x ∷ xs) (insert xs at x) (IsPermutation-insert xs at x))
-    ∙ or_turned (passes x) (list_any passes xs)
+    ∙ or_comm (passes x) (list_any passes xs)
 
 module _ {T : Type 0} {R : T → T → Ordering} (o : IsTotalOrder R) (x : T) where
   all_put_in : (P : T → Type 0) (xs : List T) (at : ℕ) → AllByRecursion P xs → P x → AllByRecursion P (insert xs at x)

@@ -1,8 +1,7 @@
-ghost use Rattle.std.specs.Prelude.{◌≡◌, ◌≢◌, true, ◌+◌, ◌-◌, ◌*◌, ◌^◌, ◌≤◌, ◌<◌, [], ◌∷◌, ◌||◌, ◌++◌, ℕ, List, map, length, IfOk, OnOk, OnErr};
-ghost use Rattle.std.specs.List.{list_any};
+ghost use Rattle.std.specs.Prelude.{◌≡◌, ◌≢◌, true, ◌+◌, ◌-◌, ◌*◌, ◌^◌, ◌≤◌, ◌<◌, [], ◌∷◌, ◌++◌, ℕ, List, map, length, IfOk, OnOk, OnErr};
 ghost use Rattle.std.specs.List.Sorted.{IsStrictlySortedBy};
 ghost use Rattle.cedar_identifiers.specs.Names.{components_of};
-ghost use Rattle.cedar_names.specs.Definitions.{among, among_actions, same_name, action_of, AddsName, AddsNames, AddsAction, AddsTypes};
+ghost use Rattle.cedar_names.specs.Definitions.{among, among_actions, action_of, AddsName, AddsNames, AddsAction, AddsTypes};
 ghost use Rattle.cedar_names.specs.Orders.{names_in_order, uids_in_order};
 
 use crate::entity_uid::EntityUID;

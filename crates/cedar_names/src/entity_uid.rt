@@ -6,7 +6,7 @@ ghost use Rattle.cedar_data.specs.Text.{text_cmp};
 ghost use Rattle.cedar_identifiers.specs.Names.{components_of};
 
 use cedar_data::{CloneIn, Loc, Text};
-use cedar_identifiers::name_laws::declared_names_go_by_components;
+use cedar_identifiers::laws::declared_names_go_by_components;
 use cedar_identifiers::{Eid, Name, NameText};
 use schema_syntax_tokens::push_quoted;
 use std::alloc::{AllocError, Global};

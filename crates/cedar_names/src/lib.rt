@@ -6,7 +6,7 @@ pub mod all_defs;
 pub mod entity_uid;
 pub mod extension_table;
 mod halving;
-pub mod meaning_laws;
+pub mod laws;
 mod rising;
 pub mod sought;
 pub mod steps;

@@ -1,6 +1,6 @@
 ghost use Rattle.std.specs.Prelude.{◌≡◌, [], ◌∷◌, ◌++◌};
 ghost use Rattle.std.specs.Cmp.Lexicographic.{slice_cmp};
-ghost use Rattle.cedar_names.specs.Orders.{ids_in_order, ids_of, ids_behind, names_in_order, keys_in_order, action_key, uids_in_order, ids_total, keys_total, is_below, is_above};
+ghost use Rattle.cedar_names.specs.Orders.{id_text_order, ids_of, ids_behind, names_in_order, keys_in_order, action_key, uids_in_order, ids_total, keys_total, is_below, is_above};
 
 use crate::entity_uid::EntityUID;
 use crate::halving::Sought;
@@ -17,7 +17,7 @@ pub(crate) struct Named<'a> {
 impl<'a> Sought<InternalName> for Named<'a> {
     ghost order = { names_in_order };
 
-    ghost place = { λ s x. slice_cmp ids_in_order (ids_of x) (ids_of s.name.now) };
+    ghost place = { λ s x. slice_cmp id_text_order (ids_of x) (ids_of s.name.now) };
 
     ghost below = { λ s. is_below ids_total ids_of (ids_of s.name.now) };
 
@@ -38,7 +38,7 @@ pub(crate) struct Behind<'a> {
 impl<'a> Sought<InternalName> for Behind<'a> {
     ghost order = { names_in_order };
 
-    ghost place = { λ s x. slice_cmp ids_in_order (ids_of x) (ids_behind s.namespace.now s.last.now) };
+    ghost place = { λ s x. slice_cmp id_text_order (ids_of x) (ids_behind s.namespace.now s.last.now) };
 
     ghost below = { λ s. is_below ids_total ids_of (ids_behind s.namespace.now s.last.now) };
 
@@ -102,7 +102,7 @@ impl<'a> Sought<EntityUID> for ActionBehind<'a> {
 
 /// How the name stands to the one with this last word behind a namespace, which is not built.
 pub fn compare_behind(name: &InternalName, namespace: &InternalName, last: &Id) -> Ordering
-    ensures { result ≡ slice_cmp ids_in_order (ids_of name.now) (ids_behind namespace.now last.now) }
+    ensures { result ≡ slice_cmp id_text_order (ids_of name.now) (ids_behind namespace.now last.now) }
 {
     match name.first.cmp(&namespace.first) {
         Ordering::Less => Ordering::Less,
@@ -115,7 +115,7 @@ pub fn compare_behind(name: &InternalName, namespace: &InternalName, last: &Id) 
 
 // How the words stand to those of a namespace with one behind them.
 fn compare_rest(words: &[Id], namespace: &[Id], last: &Id) -> Ordering
-    ensures { result ≡ slice_cmp ids_in_order words.now (namespace.now ++ last.now ∷ []) }
+    ensures { result ≡ slice_cmp id_text_order words.now (namespace.now ++ last.now ∷ []) }
 {
     for (at, part) in namespace.iter().enumerate() {
         match words.get(at) {
@@ -133,7 +133,7 @@ fn compare_rest(words: &[Id], namespace: &[Id], last: &Id) -> Ordering
 
 // How the words stand to this one alone.
 fn compare_last(words: &[Id], last: &Id) -> Ordering
-    ensures { result ≡ slice_cmp ids_in_order words.now (last.now ∷ []) }
+    ensures { result ≡ slice_cmp id_text_order words.now (last.now ∷ []) }
 {
     match words {
         [] => Ordering::Less,

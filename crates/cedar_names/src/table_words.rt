@@ -1,8 +1,8 @@
-ghost use Rattle.std.specs.Prelude.{◌≡◌, ◌≢◌, ◌∷◌, ℕ, List, true, false, not, ◌||◌, Some, None, map, codes, IfOk, IfErr, OnOk};
-ghost use Rattle.std.specs.List.{list_any, list_all};
+ghost use Rattle.std.specs.Prelude.{◌≡◌, ◌≢◌, ℕ, List, true, false, not, ◌||◌, Some, None, IfOk, IfErr, OnOk};
+ghost use Rattle.std.specs.List.{list_any};
 ghost use Rattle.std.specs.Str.{bytes_eq};
-ghost use Rattle.cedar_identifiers.specs.Words.{is_reserved, is_cedar, is_id};
-ghost use Rattle.cedar_data.specs.Words.{is_word_start, is_word_part, is_word};
+ghost use Rattle.cedar_identifiers.specs.Words.{is_reserved, is_cedar};
+ghost use Rattle.cedar_data.specs.Words.{is_word};
 ghost use Rattle.cedar_names.specs.TableNames.{is_builtin, word_fault};
 
 use crate::table_error::TableError;

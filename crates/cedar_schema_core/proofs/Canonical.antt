@@ -12,9 +12,9 @@ use Rattle.schema_syntax_parser.specs.declared.syntax.ItemSyntax.{ItemSyntax}
 use Rattle.schema_syntax_tokens.specs.TokenLists.{kinds_of}
 use Rattle.schema_syntax_tokens.specs.declared.token.Token.{Token}
 use Rattle.schema_json.specs.declared.fragment.Fragment.{Fragment}
+use Rattle.schema_json.specs.AsWritten.{as_written}
 use Rattle.schema_json_io.specs.Texts.{TextShape}
 use Rattle.schema_compat.specs.Causes.{OldText}
-use Rattle.schema_convert_types.specs.Declarations.{as_written}
 use Rattle.schema_convert.specs.Shadowings.{shadowings}
 use Rattle.schema_convert.specs.Translated.{translated}
 use Rattle.schema_readback.specs.Written.{WrittenItem}

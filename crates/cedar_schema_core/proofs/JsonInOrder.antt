@@ -1,7 +1,7 @@
 -- The fragment of a JSON value is in order.
-use Rattle.std.proofs.Common.{◌≡◌, ℕ, List, [], Option, Some, None, Ordering, refl, sym, ◌∙◌, subst, All}
+use Rattle.std.proofs.Common.{ℕ, List, [], Option, Some, None, Ordering, sym, subst, All}
 use Rattle.std.specs.Prelude.{codes}
-use Rattle.std.specs.Cmp.{IsTotalOrder, on_total}
+use Rattle.std.specs.Cmp.{IsTotalOrder}
 use Rattle.std.specs.List.Sorted.{IsStrictlySortedBy}
 use Rattle.std.specs.Map.{keys_of, values_of}
 use Rattle.std.proofs.lemmas.List.Elements.{All-nil, All-cons}
@@ -9,30 +9,19 @@ use Rattle.serde_json.specs.Data.{Data, null, boolean, number, string, array, ob
 use Rattle.serde_json.specs.Find.{get_member}
 use Rattle.cedar_data.specs.Maps.{map_of}
 use Rattle.cedar_data.specs.Text.{text_cmp}
+use Rattle.cedar_data.proofs.Orders.{text_total}
 use Rattle.cedar_identifiers.specs.declared.name.Name.{Name}
 use Rattle.cedar_identifiers.specs.declared.raw_name.RawName.{RawName}
-use Rattle.cedar_identifiers.specs.declared.unreserved_id.UnreservedId.{UnreservedId}
-use Rattle.schema_json.specs.declared.common_type.CommonTypeId.{CommonTypeId}
 use Rattle.schema_json.specs.declared.fragment.Fragment.{Fragment}
 use Rattle.schema_json.specs.declared.fragment.NamespaceDefinition.{NamespaceDefinition}
+use Rattle.schema_json.specs.Orders.{namespace_cmp, unreserved_cmp, common_cmp}
+use Rattle.schema_json.specs.AsWritten.{as_written}
+use Rattle.schema_json.proofs.Orders.{namespaces_total, common_total, unreserved_total}
 use Rattle.schema_json_shapes.specs.Said.{AreEntries, no_entry, next_entry, IsId, IsText, IsMap, IsMapOrNone}
-use Rattle.schema_json_shapes.specs.Shapes.{IsCommonType, IsEntityType, IsNamespaceKey, IsCommonId, id_order}
-use Rattle.schema_json_shapes.specs.Shapes.{common_id_order, namespace_order, IsAction, IsNamespace, IsFragment}
-use Rattle.schema_convert_types.specs.Declarations.{as_written}
-use Rattle.schema_convert_types.specs.Fragments.{namespace_cmp}
-use Rattle.schema_build_hierarchy.proofs.Exact.{text_total}
+use Rattle.schema_json_shapes.specs.Shapes.{IsCommonType, IsEntityType, IsNamespaceKey, IsCommonId}
+use Rattle.schema_json_shapes.specs.Shapes.{IsAction, IsNamespace, IsFragment}
 use Rattle.schema_build.specs.FaultsTold.{IsInOrder}
-use Rattle.cedar_schema_core.proofs.RisingMaps.{keys_rise, all_values, by_entries, one_order, namespaces_total}
-
--- namespaces go in one order, written in two ways
-same_order : (a b : Option Name) → namespace_cmp a b ≡ namespace_order a b
-same_order None None = refl
-same_order None (Some b) = refl
-same_order (Some a) None = refl
-same_order (Some a) (Some b) = refl
-
-pub same_namespaces : namespace_cmp ≡ namespace_order
-same_namespaces = λ i a b. same_order a b i
+use Rattle.cedar_schema_core.proofs.RisingMaps.{keys_rise, all_values, by_entries, one_order}
 
 -- the keys of a map that an object says rise
 module _ {K V : Type 0} (order : K → K → Ordering) (total : IsTotalOrder order) (Key : List ℕ → K → Type 0)
@@ -80,22 +69,22 @@ module _ (P : Definition → Type 0) (each : (ms : Members) (n : Definition) →
   definitions_have (array ds) f h = absurd h
   definitions_have (object ms) f h =
       subst (λ (es : List (Option Name × Definition)). All (λ e. P e.1) es) (sym h.2)
-      (by_entries P (map_of namespace_order h.0)
-      (all_values namespace_order (subst IsTotalOrder same_namespaces namespaces_total) P [] h.0 (All-nil P)
+      (by_entries P (map_of namespace_cmp h.0)
+      (all_values namespace_cmp namespaces_total P [] h.0 (All-nil P)
       (entries_have ms h.0 h.1)))
 
 pub json_in_order : (d : Data) (f : Fragment RawName as_written) → IsFragment d f → IsInOrder f
 json_in_order d f h = record {
-  namespaces = subst (λ R. IsStrictlySortedBy R (keys_of f.0)) (sym (one_order ∙ same_namespaces))
-      (map_rises namespace_order (subst IsTotalOrder same_namespaces namespaces_total) IsNamespaceKey
+  namespaces = subst (λ R. IsStrictlySortedBy R (keys_of f.0)) (sym one_order)
+      (map_rises namespace_cmp namespaces_total IsNamespaceKey
       IsNamespace d f.0 h);
   commons = definitions_have (λ n. IsStrictlySortedBy (λ x y. text_cmp x.id.id.text y.id.id.text)
       (keys_of n.common_types))
-      (λ ms n k. rises common_id_order (on_total (λ (u : CommonTypeId). u.id.id.text) text_total)
+      (λ ms n k. rises common_cmp common_total
       IsCommonId IsCommonType
       (get_member (codes "commonTypes") ms) n.common_types k.commons) d f h;
   entities = definitions_have (λ n. IsStrictlySortedBy (λ x y. text_cmp x.id.text y.id.text) (keys_of n.entity_types))
-      (λ ms n k. rises id_order (on_total (λ (u : UnreservedId). u.id.text) text_total) IsId IsEntityType
+      (λ ms n k. rises unreserved_cmp unreserved_total IsId IsEntityType
       (get_member (codes "entityTypes") ms) n.entity_types k.entities) d f h;
   actions = definitions_have (λ n. IsStrictlySortedBy text_cmp (keys_of n.actions))
       (λ ms n k. rises text_cmp text_total IsText IsAction (get_member (codes "actions") ms) n.actions k.actions) d f h;

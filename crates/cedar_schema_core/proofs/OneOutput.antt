@@ -7,7 +7,7 @@ use Rattle.cedar_names.specs.CanonicalText.{canonical_text}
 use Rattle.cedar_names.specs.Meaning.{SchemaMeaning}
 use Rattle.cedar_names.specs.declared.extension_table.ExtensionTable.{ExtensionTable}
 use Rattle.schema_json.specs.declared.fragment.Fragment.{Fragment}
-use Rattle.schema_convert_types.specs.Declarations.{as_written}
+use Rattle.schema_json.specs.AsWritten.{as_written}
 use Rattle.schema_convert_errors.specs.declared.error_list.CedarSchemaParseErrors.{CedarSchemaParseErrors}
 use Rattle.schema_convert_errors.specs.declared.warnings.SchemaWarning.{SchemaWarning}
 use Rattle.schema_convert.specs.Translated.{IsTranslationOfText}
@@ -18,10 +18,10 @@ use Rattle.cedar_schema_core_faults.specs.Told.{fault_text}
 use Rattle.cedar_schema_core_faults.specs.declared.recover_error.RecoverError.{RecoverError}
 use Rattle.cedar_schema_core_faults.specs.declared.recover_error.RecoverError.TheVariants.{Parse, Schema, Captured}
 use Rattle.cedar_schema_core_faults.specs.declared.recover_error.RecoverError.TheVariants.{Memory}
-use Rattle.cedar_schema_core.specs.Answers.{Writes, Refuses}
+use Rattle.cedar_schema_core.specs.Answers.{Writes, RefusesText}
 use Rattle.cedar_schema_core.specs.Commands.{count_line, made_line}
 use Rattle.cedar_schema_core.specs.declared.json_texts.JsonForm.{JsonForm}
-use Rattle.cedar_schema_core.specs.Json.{value_of, JsonMeaning, IsValidJson, IsRefusalOfJson}
+use Rattle.cedar_schema_core.specs.Json.{written_value, JsonMeaning, IsValidJson, IsRefusalOfJson}
 use Rattle.cedar_schema_core.specs.Meanings.{TextMeaning, IsValid}
 use Rattle.cedar_schema_core.specs.Recovery.{IsRefusal}
 use Rattle.cedar_schema_core.specs.Steps.{IsUnparsed}
@@ -53,14 +53,14 @@ module _ (one : (text : List ℕ) (table : ExtensionTable) (m n : SchemaMeaning)
       (e ∙ (ap count_line (one text table m n h k) ∙ sym f), (translation text table l.0 r.0 v w l.1 r.1).1)
   writes_once (ToJson table) text out other v w (a, h, l, e) (b, k, r, f) =
       let same = (translation text table a b h.0 k.0 h.1 k.1).0 in
-      (e ∙ (ap (λ z. compact_text (value_of z) ++ codes "\n") same ∙ sym f), l ∙ sym r)
+      (e ∙ (ap (λ z. compact_text (written_value z) ++ codes "\n") same ∙ sym f), l ∙ sym r)
   writes_once (FromJson form table) text out other v w (m, h, l, e) (n, k, r, f) =
       (e ∙ (ap canonical_text (json_meaning form text table m n h k) ∙ sym f), l ∙ sym r)
   writes_once (Generate size table) text out other v w (m, h, l, e) (n, k, r, f) =
       (e ∙ (ap (made_line text) (one text table m n h k) ∙ sym f), (translation text table l.0 r.0 v w l.1 r.1).1)
 
   pub refuses_once : (c : Command) (text : List ℕ) (e other : RecoverError) → IsUtf8 text → e ≢ Memory → other ≢ Memory
-      → Refuses c text e → Refuses c text other → fault_text text e ≡ fault_text text other
+      → RefusesText c text e → RefusesText c text other → fault_text text e ≡ fault_text text other
   refuses_once (Recover table) text e other u n m h k = refusal text table e other u n m h k
   refuses_once (Check table) text e other u n m h k = refusal text table e other u n m h k
   refuses_once (ToJson table) text e other u n m h k =
@@ -76,7 +76,7 @@ module _ (one : (text : List ℕ) (table : ExtensionTable) (m n : SchemaMeaning)
   untranslated text table f w Memory t n h = n refl
 
   pub refuses_or_writes : (c : Command) (text out : List ℕ) (w : List SchemaWarning) (e : RecoverError) → e ≢ Memory
-      → Refuses c text e → Writes c text out w → ⊥
+      → RefusesText c text e → Writes c text out w → ⊥
   refuses_or_writes (Recover table) text out w e n h (m, k, l, f) = invalid text table e h n (m, k)
   refuses_or_writes (Check table) text out w e n h (m, k, l, f) = invalid text table e h n (m, k)
   refuses_or_writes (ToJson table) text out w e n h (a, k, l, f) = untranslated text table a k.0 e k.1 n h

@@ -11,10 +11,10 @@ use Rattle.cedar_schema_core_faults.specs.declared.recover_error.RecoverError.Th
 use Rattle.std.specs.Str.{encode_utf8_all}
 use Rattle.cedar_schema_core_faults.specs.Told.{fault_text}
 use Rattle.cedar_schema_core.specs.declared.status.Status.TheVariants.{Refused}
-use Rattle.cedar_schema_core.specs.Answers.{Writes, Refuses, IsWrittenBy}
+use Rattle.cedar_schema_core.specs.Answers.{Writes, RefusesText, IsWrittenBy}
 use Rattle.cedar_schema_core.specs.Commands.{IsTableInOrder, Asks, recover, recover_with, check, to_json, from_json}
 use Rattle.cedar_schema_core.specs.Commands.{from_deprecated}
-use Rattle.cedar_schema_core.specs.Commands.{generate, own_text, Reads}
+use Rattle.cedar_schema_core.specs.Commands.{generate, own_text, ReadsInput}
 use Rattle.cedar_schema_core.specs.Plan.{Report, IsAnswer, refused, done, done_report, IsInputPlan, too_long, not_text}
 use Rattle.cedar_schema_core.specs.Plan.{answered, IsPlan, usage, asked, made}
 use Rattle.cedar_schema_core.proofs.Tables.{one_table_of_texts, one_table_of_names}
@@ -83,16 +83,16 @@ one_command words c d (generate n t e some small h) (generate m u f more fits k)
 
 -- where a command with a text of its own is asked for, none is that reads the input
 pub no_reader : (words : List (List ℕ)) (c : Command) (text : List ℕ) → Asks words c → own_text c ≡ Some text
-    → (d : Command) → Asks words d → Reads d → ⊥
+    → (d : Command) → Asks words d → ReadsInput d → ⊥
 no_reader words c text a own d b reads =
-    let none : own_text c ≡ None = subst Reads (sym (one_command words c d a b)) reads in cc
+    let none : own_text c ≡ None = subst ReadsInput (sym (one_command words c d a b)) reads in cc
 
 module _ (writes : (c : Command) (text out other : List ℕ) (v w : List SchemaWarning) → Writes c text out v
     → Writes c text other w → (out ≡ other) × (v ≡ w))
     (refuses : (c : Command) (text : List ℕ) (e other : RecoverError) → IsUtf8 text → e ≢ Memory → other ≢ Memory
-    → Refuses c text e → Refuses c text other → fault_text text e ≡ fault_text text other)
+    → RefusesText c text e → RefusesText c text other → fault_text text e ≡ fault_text text other)
     (apart : (c : Command) (text out : List ℕ) (w : List SchemaWarning) (e : RecoverError) → e ≢ Memory
-    → Refuses c text e → Writes c text out w → ⊥) where
+    → RefusesText c text e → Writes c text out w → ⊥) where
   one_answer : (c : Command) (text : List ℕ) (report other : Report) → IsUtf8 text → IsAnswer c text report
       → IsAnswer c text other → report ≡ other
   one_answer c text report other u (refused e n h) (refused f m k) =

@@ -12,7 +12,7 @@ use Rattle.schema_syntax_tree.specs.declared.namespace.Namespace.{Namespace}
 use Rattle.schema_syntax_errors.specs.declared.parse_error.ParseError.{ParseError}
 use Rattle.schema_syntax.specs.ParseAnswers.{IsTreeOfText, IsErrorOf}
 use Rattle.schema_json.specs.declared.fragment.Fragment.{Fragment}
-use Rattle.schema_convert_types.specs.Declarations.{as_written}
+use Rattle.schema_json.specs.AsWritten.{as_written}
 use Rattle.schema_convert_errors.specs.declared.error_list.CedarSchemaParseErrors.{CedarSchemaParseErrors}
 use Rattle.schema_convert_errors.specs.declared.error_list.CedarSchemaParseErrors.TheVariants as parse
 use Rattle.schema_convert_errors.specs.declared.warnings.SchemaWarning.{SchemaWarning}
@@ -24,13 +24,14 @@ use Rattle.schema_build_errors.specs.declared.captured.CapturedItem.TheVariants 
 use Rattle.schema_build_errors.specs.declared.captured.ReferenceCaptured.{ReferenceCaptured}
 use Rattle.schema_build_errors.specs.declared.schema_error.SchemaError.{SchemaError}
 use Rattle.schema_build_parts.specs.BuildFaults.{BuildFault}
-use Rattle.schema_build_text.specs.Captured.{IsItem, IsFirstOf, IsFirstCaptured, captured_items}
+use Rattle.schema_build_text.specs.Captured.{IsCapturedItem, IsFirstOf, IsFirstCaptured, captured_items}
 use Rattle.schema_build_text.specs.Walk.{ItemContent, entity_type, action}
 use Rattle.schema_build_types.specs.Standing.{schema_as_built}
 use Rattle.schema_syntax_tokens.specs.Quotes.{quoted}
 use Rattle.schema_build.specs.FaultsTold.{AreToldAlike, IsInOrder}
 use Rattle.schema_build.specs.Meaning.{FragmentMeaning}
-use Rattle.cedar_schema_core_faults.specs.Told.{Told, fault_text, told_lines, told_schema, told_translation, told_parse}
+use Rattle.cedar_schema_core_faults.specs.Told.{Told, fault_text, told_lines, told_schema, told_translation}
+use Rattle.cedar_schema_core_faults.specs.Told.{told_parse}
 use Rattle.cedar_schema_core_faults.specs.declared.recover_error.RecoverError.{RecoverError}
 use Rattle.cedar_schema_core_faults.specs.declared.recover_error.RecoverError.TheVariants.{Parse, Schema, Captured}
 use Rattle.cedar_schema_core_faults.specs.declared.recover_error.RecoverError.TheVariants.{Memory}
@@ -39,7 +40,7 @@ use Rattle.cedar_schema_core.specs.Recovery.{IsRefusal}
 use Rattle.cedar_schema_core.proofs.TranslatedInOrder.{in_order}
 
 -- the first captured item is told in one way
-item_once : (x : ItemContent) (i j : CapturedItem) → IsItem x i → IsItem x j → user_text i ≡ user_text j
+item_once : (x : ItemContent) (i j : CapturedItem) → IsCapturedItem x i → IsCapturedItem x j → user_text i ≡ user_text j
 item_once (entity_type e) (item.EntityType v) (item.EntityType w) h k =
     ap (λ word. codes "entity type `" ++ (word ++ codes "`")) (h ∙ sym k)
 item_once (entity_type e) (item.EntityType v) (item.Action w) h k = absurd k

@@ -19,8 +19,8 @@ use Rattle.cedar_schema_core_faults.specs.declared.recover_error.RecoverError.Th
 use Rattle.cedar_schema_core.specs.declared.reply.Reply.{Reply}
 use Rattle.cedar_schema_core.specs.declared.status.Status.{Status}
 use Rattle.cedar_schema_core.specs.declared.status.Status.TheVariants.{TooLong}
-use Rattle.cedar_schema_core.specs.Answers.{Refuses, IsRefusedBy}
-use Rattle.cedar_schema_core.specs.Commands.{Asks, IsSized, own_text, Reads}
+use Rattle.cedar_schema_core.specs.Answers.{RefusesText, IsRefusedBy}
+use Rattle.cedar_schema_core.specs.Commands.{Asks, IsSized, own_text, ReadsInput}
 use Rattle.cedar_schema_core.specs.Replies.{report_of}
 use Rattle.cedar_schema_core.specs.Plan.{Report, IsAnswer, refused, done, IsInputPlan, answered, IsPlan, asked, made}
 use Rattle.cedar_schema_core.specs.Plan.{refused_report}
@@ -75,12 +75,12 @@ module _ (words : List (List ℕ)) (source : Device) where
   unread none same status = record { unread = λ h. same; end = λ c a r h. absurd (none c a) }
 
   -- where a command is asked for, and the whole input was read
-  pub at_end : (c : Command) → Asks words c → Reads c → IsEnd source.after → (status : Status)
+  pub at_end : (c : Command) → Asks words c → ReadsInput c → IsEnd source.after → (status : Status)
       → LeftAs words source status
   at_end c a r end status = record { unread = λ h. absurd (h c a r); end = λ d b s h. end }
 
   -- where the input is too long
-  pub cut_short : (c : Command) → Asks words c → Reads c → LeftAs words source TooLong
+  pub cut_short : (c : Command) → Asks words c → ReadsInput c → LeftAs words source TooLong
   cut_short c a r = record { unread = λ h. absurd (h c a r); end = λ d b s h. absurd (h refl) }
 
   -- where a command with a text of its own is asked for, nothing is read
@@ -91,7 +91,7 @@ module _ (words : List (List ℕ)) (source : Device) where
 
   -- the reply for the whole input
   pub input_reported : (r : Result Reply AllocError) (c : Command) (lent bytes : List ℕ) → lent ≡ bytes → Asks words c
-      → Reads c → HadLeft source.before bytes → IsEnd source.after
+      → ReadsInput c → HadLeft source.before bytes → IsEnd source.after
       → IfOk r (λ reply. IsInputPlan c lent (report_of reply))
       → IfOk r (λ reply. IsReported words source (report_of reply))
   input_reported r c lent bytes same a reads had end told =
@@ -104,7 +104,7 @@ module _ (valid : (size : ℕ) (table : ExtensionTable) → 1 ≤ size → size 
     (apart : (text : List ℕ) (table : ExtensionTable) (e : RecoverError) → IsRefusal text table e → e ≢ Memory
     → IsValid text table → ⊥) where
   not_refused : (c : Command) (text : List ℕ) (e : RecoverError) → IsSized c → own_text c ≡ Some text → e ≢ Memory
-      → Refuses c text e → ⊥
+      → RefusesText c text e → ⊥
   not_refused (Recover table) text e s own n h = cc
   not_refused (Check table) text e s own n h = cc
   not_refused (ToJson table) text e s own n h = cc

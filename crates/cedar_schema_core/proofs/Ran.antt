@@ -7,11 +7,12 @@ use Rattle.cedar_schema_core.specs.declared.status.Status.TheVariants.{NotText, 
 use Rattle.cedar_schema_core.specs.declared.command.Command.{Command}
 use Rattle.cedar_io.specs.Outside.{Rose}
 use Rattle.cedar_io.specs.Input.{HadLeft}
-use Rattle.cedar_schema_core.specs.Commands.{Asks, own_text, Reads}
+use Rattle.cedar_schema_core.specs.Commands.{Asks, own_text, ReadsInput}
 use Rattle.cedar_schema_core.specs.Plan.{Report, IsAnswer, refused, done, IsInputPlan, too_long, not_text, answered}
 use Rattle.cedar_schema_core.specs.Plan.{IsPlan, usage, asked, made, read_fault_report}
 use Rattle.cedar_schema_core.specs.Run.{Device, LeftAs, IsReported, planned, read_fault, TookWhole, IsDelivered, whole}
-use Rattle.cedar_schema_core.specs.Run.{out_failed, err_failed, IsRun, delivered, wanted_memory, Completed, NoneCounted}
+use Rattle.cedar_schema_core.specs.Run.{out_failed, err_failed, IsRun, delivered, wanted_memory, Completed}
+use Rattle.cedar_schema_core.specs.Run.{NoneCounted}
 use Rattle.cedar_schema_core.specs.Run.{ReadWhole, WorksOn}
 use Rattle.cedar_schema_core.proofs.OnePlan.{no_reader}
 
@@ -86,7 +87,7 @@ module _ (words : List (List ℕ)) (source out err : Device) where
   abbrev pub CompletedBy : Type 0
   CompletedBy = (c : Command) × Asks words c × Completed c source out err
 
-  works_read : (c : Command) (bytes : List ℕ) → Reads c → ReadWhole source bytes → WorksOn c source bytes
+  works_read : (c : Command) (bytes : List ℕ) → ReadsInput c → ReadWhole source bytes → WorksOn c source bytes
   works_read c bytes r h =
       subst (λ o. MatchOption o (ReadWhole source bytes) (λ own. (own ≡ bytes) × source.Same)) (sym r) h
 
@@ -94,7 +95,7 @@ module _ (words : List (List ℕ)) (source out err : Device) where
   works_own c text own same =
       subst (λ o. MatchOption o (ReadWhole source text) (λ own. (own ≡ text) × source.Same)) (sym own) (refl, same)
 
-  answered_done : (c : Command) → Asks words c → Reads c → (bytes : List ℕ) (report : Report)
+  answered_done : (c : Command) → Asks words c → ReadsInput c → (bytes : List ℕ) (report : Report)
       → HadLeft source.before bytes
       → IsAnswer c bytes report → LeftAs words source report.status → TookWhole out report.out
       → TookWhole err report.err
@@ -115,7 +116,7 @@ module _ (words : List (List ℕ)) (source out err : Device) where
     },
   )
 
-  planned_done : (c : Command) → Asks words c → Reads c → (bytes : List ℕ) (report : Report)
+  planned_done : (c : Command) → Asks words c → ReadsInput c → (bytes : List ℕ) (report : Report)
       → HadLeft source.before bytes
       → IsInputPlan c bytes report → LeftAs words source report.status → TookWhole out report.out
       → TookWhole err report.err → report.status ≡ Done → CompletedBy

@@ -1,7 +1,6 @@
 -- Maps that are made of entries: their keys rise, and what all entries have, theirs have.
-use Rattle.std.proofs.Common.{◌≡◌, List, [], ◌∷◌, Option, Some, None, Ordering, refl, ap, ◌∙◌, subst, All}
-use Rattle.std.specs.Cmp.{IsTotalOrder, on_total}
-use Rattle.std.specs.Cmp.Lexicographic.{options_total}
+use Rattle.std.proofs.Common.{◌≡◌, List, [], ◌∷◌, Option, Some, None, Ordering, refl, ap, ◌∙◌, All}
+use Rattle.std.specs.Cmp.{IsTotalOrder}
 use Rattle.std.specs.BTreeMap.{insert_entry}
 use Rattle.std.specs.List.{AllByRecursion}
 use Rattle.std.specs.List.Sorted.{IsStrictlySortedBy}
@@ -12,15 +11,11 @@ use Rattle.std.specs.declared.cmp.Ordering.TheVariants.{Less, Equal, Greater}
 use Rattle.std.proofs.lemmas.List.Elements.{All-nil, All-cons, All-head, All-tail}
 use Rattle.std.proofs.lemmas.Map.Views.{All-values-insert_entry}
 use Rattle.cedar_data.specs.Maps.{map_of, with_entries}
+use Rattle.cedar_data.proofs.Orders.{all_above}
 use Rattle.cedar_identifiers.specs.declared.name.Name.{Name}
-use Rattle.cedar_names.specs.Orders.{ids_of, names_in_order, names_total}
-use Rattle.schema_convert_types.specs.Fragments.{namespace_cmp}
-use Rattle.schema_build_hierarchy.proofs.Exact.{by_texts}
-
-above_too : {K : Type 0} (R : K → K → Ordering) → IsTotalOrder R → (k n : K) (ns : List K) → R k n ≡ Less
-    → AllByRecursion (λ y. R n y ≡ Less) ns → AllByRecursion (λ y. R k y ≡ Less) ns
-above_too R total k n [] l h = tt
-above_too R total k n (m ∷ ns) l h = (total.trans k n m l h.0, above_too R total k n ns l h.1)
+use Rattle.cedar_names.specs.Orders.{names_in_order}
+use Rattle.schema_json.specs.Orders.{namespace_cmp}
+use Rattle.schema_build_checks.proofs.Names.{names_by_components}
 
 -- the keys of a map that is made of entries rise
 module _ {K X : Type 0} (R : K → K → Ordering) (total : IsTotalOrder R) where
@@ -44,7 +39,7 @@ module _ {K X : Type 0} (R : K → K → Ordering) (total : IsTotalOrder R) wher
       by : (c : Ordering) → R k e.0 ≡ c → IsStrictlySortedBy R (keys_of (insert_entry R es k v))
           → IsStrictlySortedBy R (keys_of
           (match_ordering c ((k, v) ∷ e ∷ es) ((e.0, v) ∷ es) (e ∷ insert_entry R es k v)))
-      by Less h l = ((h, above_too R total k e.0 (keys_of es) h s.0), s)
+      by Less h l = ((h, all_above total k e.0 (keys_of es) h s.0), s)
       by Equal h l = s
       by Greater h l = (kept_below (λ y. R e.0 y ≡ Less) es k v s.0 (total.antisymm e.0 k ∙ ap ordering_reverse h), l)
 
@@ -75,10 +70,7 @@ same_order : (a b : Option Name) → option_cmp (λ (x y : Name). names_in_order
 same_order None None = refl
 same_order None (Some b) = refl
 same_order (Some a) None = refl
-same_order (Some a) (Some b) = by_texts (ids_of a.name) (ids_of b.name)
+same_order (Some a) (Some b) = names_by_components a.name b.name
 
 pub one_order : option_cmp (λ (x y : Name). names_in_order x.name y.name) ≡ namespace_cmp
 one_order = λ i a b. same_order a b i
-
-pub namespaces_total : IsTotalOrder namespace_cmp
-namespaces_total = subst IsTotalOrder one_order (options_total (on_total (λ (n : Name). n.name) names_total))

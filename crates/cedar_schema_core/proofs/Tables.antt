@@ -1,5 +1,5 @@
 -- A table is known by its names.
-use Rattle.std.proofs.Common.{◌≡◌, ◌⊎◌, ℕ, Bool, true, false, List, [], ◌∷◌, inl, inr, refl, sym, ap, ◌∙◌, subst}
+use Rattle.std.proofs.Common.{◌≡◌, ℕ, true, false, List, [], ◌∷◌, inl, inr, refl, sym, ap, ◌∙◌, subst}
 use Rattle.std.specs.Prelude.{map}
 use Rattle.std.specs.Cmp.{IsTotalOrder, on_total}
 use Rattle.std.specs.List.{list_any}
@@ -7,6 +7,7 @@ use Rattle.std.specs.Str.{encode_utf8_all, bytes_eq}
 use Rattle.std.proofs.Math.Bool.{Bool-set}
 use Rattle.std.proofs.lemmas.Cmp.{nat_list_cmp_total}
 use Rattle.std.proofs.lemmas.Slice.Eq.{bytes_eq-Decides}
+use Rattle.std.proofs.lemmas.Bool.{cases_Bool}
 use Rattle.cedar_data.specs.Text.{text_cmp}
 use Rattle.cedar_identifiers.specs.declared.unreserved_id.UnreservedId.{UnreservedId}
 use Rattle.cedar_identifiers.proofs.Same.{unreserved_id_same}
@@ -48,21 +49,17 @@ same_words (x ∷ xs) (y ∷ ys) e =
 pub one_table_of_texts : (t u : ExtensionTable) → table_names t ≡ table_names u → t ≡ u
 one_table_of_texts t u e = table_same t u (same_words t.names u.names e)
 
-bool_cases : (b : Bool) → (b ≡ true) ⊎ (b ≡ false)
-bool_cases true = inl refl
-bool_cases false = inr refl
-
 has_own : (x : UnreservedId) (ys : List UnreservedId) → In x ys → list_any (λ n. bytes_eq x.id.text n.id.text) ys ≡ true
 has_own x [] h = absurd h
 has_own x (y ∷ ys) (inl e) = rw ((bytes_eq-Decides x.id.text y.id.text).1 (ap (λ u. u.id.text) e)) refl
-has_own x (y ∷ ys) (inr h) = elim (bool_cases (bytes_eq x.id.text y.id.text)) [
+has_own x (y ∷ ys) (inr h) = elim (cases_Bool (bytes_eq x.id.text y.id.text)) [
   | inl k ↦ rw k refl
   | inr k ↦ rw k (has_own x ys h)
 ]
 
 is_own : (x : UnreservedId) (ys : List UnreservedId) → list_any (λ n. bytes_eq x.id.text n.id.text) ys ≡ true → In x ys
 is_own x [] h = cc
-is_own x (y ∷ ys) h = elim (bool_cases (bytes_eq x.id.text y.id.text)) [
+is_own x (y ∷ ys) h = elim (cases_Bool (bytes_eq x.id.text y.id.text)) [
   | inl k ↦ inl (unreserved_id_same x y ((bytes_eq-Decides x.id.text y.id.text).0 k))
   | inr k ↦ inr (is_own x ys (rw k at h))
 ]

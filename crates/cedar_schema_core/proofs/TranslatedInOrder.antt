@@ -1,6 +1,5 @@
 -- A translated fragment is in order.
 use Rattle.std.proofs.Common.{List, [], ◌∷◌, Option, Some, None, sym, subst, All}
-use Rattle.std.specs.Cmp.{on_total}
 use Rattle.std.specs.List.{filter_map, cons_option}
 use Rattle.std.specs.List.Sorted.{IsStrictlySortedBy}
 use Rattle.std.specs.Map.{keys_of, values_of}
@@ -8,22 +7,22 @@ use Rattle.std.specs.Option.{option_map}
 use Rattle.std.proofs.lemmas.List.Elements.{All-nil, All-cons}
 use Rattle.cedar_data.specs.Maps.{map_of}
 use Rattle.cedar_data.specs.Text.{text_cmp}
+use Rattle.cedar_data.proofs.Orders.{text_total}
 use Rattle.cedar_identifiers.specs.declared.name.Name.{Name}
 use Rattle.cedar_identifiers.specs.declared.raw_name.RawName.{RawName}
-use Rattle.cedar_identifiers.specs.declared.unreserved_id.UnreservedId.{UnreservedId}
 use Rattle.schema_syntax_tree.specs.declared.annotated.Annotated.{Annotated}
 use Rattle.schema_syntax_tree.specs.declared.namespace.Namespace.{Namespace}
-use Rattle.schema_json.specs.declared.common_type.CommonTypeId.{CommonTypeId}
 use Rattle.schema_json.specs.declared.fragment.NamespaceDefinition.{NamespaceDefinition}
-use Rattle.schema_convert_types.specs.Declarations.{as_written}
-use Rattle.schema_convert_types.specs.Fragments.{unreserved_cmp, common_cmp, namespace_cmp, definition_of}
+use Rattle.schema_json.specs.Orders.{unreserved_cmp, common_cmp, namespace_cmp}
+use Rattle.schema_json.specs.AsWritten.{as_written}
+use Rattle.schema_json.proofs.Orders.{namespaces_total, common_total, unreserved_total}
+use Rattle.schema_convert_types.specs.Fragments.{definition_of}
 use Rattle.schema_convert_types.specs.Fragments.{common_entries, entity_entries, action_entries, namespace_key}
 use Rattle.schema_convert_types.specs.Fragments.{namespace_entry, fragment_of}
 use Rattle.schema_convert.specs.Joined.{joined}
 use Rattle.schema_convert.specs.Translated.{translated}
-use Rattle.schema_build_hierarchy.proofs.Exact.{text_total}
 use Rattle.schema_build.specs.FaultsTold.{IsInOrder}
-use Rattle.cedar_schema_core.proofs.RisingMaps.{keys_rise, all_values, by_entries, one_order, namespaces_total}
+use Rattle.cedar_schema_core.proofs.RisingMaps.{keys_rise, all_values, by_entries, one_order}
 
 abbrev Definition : Type 0
 Definition = NamespaceDefinition RawName as_written
@@ -53,10 +52,10 @@ in_order tree = record {
   namespaces = subst (λ R. IsStrictlySortedBy R (keys_of (fragment_of (joined tree)).0)) (sym one_order)
       (keys_rise namespace_cmp namespaces_total (filter_map namespace_entry (joined tree)));
   commons = definitions (λ n. IsStrictlySortedBy (λ x y. text_cmp x.id.id.text y.id.id.text) (keys_of n.common_types))
-      (λ decls notes. keys_rise common_cmp (on_total (λ (u : CommonTypeId). u.id.id.text) text_total)
+      (λ decls notes. keys_rise common_cmp common_total
       (common_entries decls)) (joined tree);
   entities = definitions (λ n. IsStrictlySortedBy (λ x y. text_cmp x.id.text y.id.text) (keys_of n.entity_types))
-      (λ decls notes. keys_rise unreserved_cmp (on_total (λ (u : UnreservedId). u.id.text) text_total)
+      (λ decls notes. keys_rise unreserved_cmp unreserved_total
       (entity_entries decls)) (joined tree);
   actions = definitions (λ n. IsStrictlySortedBy text_cmp (keys_of n.actions))
       (λ decls notes. keys_rise text_cmp text_total (action_entries decls)) (joined tree);

@@ -1,5 +1,6 @@
 -- What the words after the program's name ask for.
-use Rattle.std.proofs.Common.{◌≡◌, ℕ, ◌==◌, Bool, true, List, [], ◌∷◌, length, Option, Some, None, MatchOption, sym, ap}
+use Rattle.std.proofs.Common.{◌≡◌, ℕ, ◌==◌, Bool, true, List, [], ◌∷◌, length, Option, Some, None, MatchOption, sym}
+use Rattle.std.proofs.Common.{ap}
 use Rattle.std.proofs.Common.{◌∙◌, ◌<◌, subst, String, Global, arith, get_or}
 use Rattle.std.specs.Prelude.{map, codes, decimal, ◌≤◌}
 use Rattle.std.specs.String.{string_bytes}

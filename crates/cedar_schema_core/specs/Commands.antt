@@ -52,8 +52,8 @@ IsSized (FromJson form table) = Unit {0}
 IsSized (Generate size table) = (1 ≤ size) × (size ≤ max_size)
 
 -- the command works on its input
-abbrev pub Reads : Command → Type 0
-Reads c = own_text c ≡ None
+abbrev pub ReadsInput : Command → Type 0
+ReadsInput c = own_text c ≡ None
 
 -- how many entity types and actions a meaning holds
 abbrev pub count_line : SchemaMeaning → List ℕ

@@ -10,13 +10,13 @@ use Rattle.cedar_names.specs.CanonicalText.{canonical_text}
 use Rattle.cedar_names.specs.Meaning.{SchemaMeaning}
 use Rattle.cedar_names.specs.declared.extension_table.ExtensionTable.{ExtensionTable}
 use Rattle.schema_json.specs.declared.fragment.Fragment.{Fragment}
+use Rattle.schema_json.specs.AsWritten.{as_written}
 use Rattle.schema_json_errors.specs.declared.json_error.JsonDeserializationError.{JsonDeserializationError}
 use Rattle.schema_json_errors.specs.declared.json_fault.JsonFault.TheVariants as cause
 use Rattle.schema_json_values.specs.FragmentValues.{json_value}
-use Rattle.schema_json_io.specs.Causes.{IsTextError}
+use Rattle.schema_json_io.specs.Causes.{IsJsonTextError}
 use Rattle.schema_json_io.specs.Texts.{TextShape}
 use Rattle.schema_compat.specs.Causes.{OldText, IsOldTextError}
-use Rattle.schema_convert_types.specs.Declarations.{as_written}
 use Rattle.schema_build.specs.Meaning.{FragmentMeaning}
 use Rattle.schema_build.specs.Texts.{IsFragmentOf}
 use Rattle.schema_build_checks.specs.Rows.{Never}
@@ -35,13 +35,14 @@ use Rattle.cedar_schema_core_faults.specs.declared.recover_error.RecoverError.Th
 -- ---- written
 
 -- the JSON value of a fragment as it is written
-abbrev pub value_of : Fragment RawName as_written → Data
-value_of f = json_value as_written.components f
+abbrev pub written_value : Fragment RawName as_written → Data
+written_value f = json_value as_written.components f
 
 -- the schema text is translated, and this is the compact JSON of its fragment
 abbrev pub IsJsonOfText : List ℕ → ExtensionTable → Text → Type 0
 IsJsonOfText text table json =
-    (f : Fragment RawName as_written) × IsFragmentOf text table f × (encode_utf8_all json ≡ compact_text (value_of f))
+    (f : Fragment RawName as_written) × IsFragmentOf text table f
+    × (encode_utf8_all json ≡ compact_text (written_value f))
 
 -- ---- read
 
@@ -52,7 +53,7 @@ SaysIn Deprecated text f = OldText text f
 
 -- the JSON text says no fragment in its form, for this cause
 abbrev pub IsErrorIn : JsonForm → List ℕ → JsonDeserializationError → Type 0
-IsErrorIn Current text e = IsTextError text e
+IsErrorIn Current text e = IsJsonTextError text e
 IsErrorIn Deprecated text e = IsOldTextError text e
 
 -- the JSON text says a fragment without a fault that has this meaning, in which no type is captured

@@ -12,7 +12,7 @@ use Rattle.cedar_schema_core.specs.declared.status.Status.TheVariants.{TooLong}
 use Rattle.cedar_schema_core_faults.specs.declared.recover_error.RecoverError.{RecoverError}
 use Rattle.cedar_schema_core_faults.specs.declared.recover_error.RecoverError.TheVariants.{Memory}
 use Rattle.cedar_schema_core_faults.specs.Told.{fault_text}
-use Rattle.cedar_schema_core.specs.Commands.{Asks, own_text, Reads}
+use Rattle.cedar_schema_core.specs.Commands.{Asks, own_text, ReadsInput}
 use Rattle.cedar_schema_core.specs.Answers.{IsWrittenBy, IsRefusedBy}
 
 -- a status, and what goes to the output and to the error output, as bytes
@@ -64,7 +64,7 @@ pub data IsInputPlan (c : Command) (bytes : List ℕ) : Report → Type 0 where
 -- input, or for one that makes its own text, which is never refused
 pub data IsPlan (words : List (List ℕ)) (bytes : List ℕ) : Report → Type 0 where
   usage : ((c : Command) → Asks words c → ⊥) → IsPlan words bytes usage_report
-  asked : (c : Command) → Asks words c → Reads c → {report : Report} → IsInputPlan c bytes report
+  asked : (c : Command) → Asks words c → ReadsInput c → {report : Report} → IsInputPlan c bytes report
       → IsPlan words bytes report
   made : (c : Command) → Asks words c → (text : List ℕ) → own_text c ≡ Some text → (out : List ℕ)
       → (warnings : List SchemaWarning) → IsWrittenBy c text out warnings

@@ -6,7 +6,7 @@ use Rattle.cedar_names.specs.Meaning.{SchemaMeaning}
 use Rattle.cedar_names.specs.CanonicalText.{canonical_text}
 use Rattle.cedar_names.specs.declared.extension_table.ExtensionTable.{ExtensionTable}
 use Rattle.schema_json.specs.declared.fragment.Fragment.{Fragment}
-use Rattle.schema_convert_types.specs.Declarations.{as_written}
+use Rattle.schema_json.specs.AsWritten.{as_written}
 use Rattle.schema_build.specs.Texts.{IsFragmentOf, IsParseRefusal}
 use Rattle.schema_build_checks.specs.Rows.{Never}
 use Rattle.schema_build_parts.specs.BuildFaults.{BuildFault}

@@ -15,7 +15,7 @@ use Rattle.cedar_schema_core.specs.declared.json_texts.JsonForm.{JsonForm}
 use Rattle.schema_build_closed.specs.HalfFilled.{IsHalfFilled}
 use Rattle.cedar_schema_core.specs.Json.{JsonMeaning}
 use Rattle.cedar_schema_core.specs.Meanings.{TextMeaning}
-use Rattle.cedar_schema_core.specs.Commands.{Asks, own_text, Reads}
+use Rattle.cedar_schema_core.specs.Commands.{Asks, own_text, ReadsInput}
 use Rattle.cedar_schema_core.specs.Answers.{IsWrittenBy}
 use Rattle.cedar_schema_core.specs.Plan.{Report, IsPlan, read_fault_report, warning_line}
 
@@ -35,14 +35,14 @@ device told faults old new = record
 -- how the source stands: as before where the words ask for no command that reads it, and at its end where a command
 -- read it whole
 pub record LeftAs (words : List (List ℕ)) (source : Device) (status : Status) : Type 0 where
-  pub unread : ((c : Command) → Asks words c → Reads c → ⊥) → source.Same
-  pub end : (c : Command) → Asks words c → Reads c → status ≢ TooLong → IsEnd source.after
+  pub unread : ((c : Command) → Asks words c → ReadsInput c → ⊥) → source.Same
+  pub end : (c : Command) → Asks words c → ReadsInput c → status ≢ TooLong → IsEnd source.after
 
 -- the report on the words and the source: the plan for the bytes that were left, or a read fault, which was counted
 pub data IsReported (words : List (List ℕ)) (source : Device) : Report → Type 0 where
   planned : (bytes : List ℕ) → HadLeft source.before bytes → {report : Report} → IsPlan words bytes report
       → LeftAs words source report.status → IsReported words source report
-  read_fault : (c : Command) → Asks words c → Reads c → Rose source.faults_before source.faults_after
+  read_fault : (c : Command) → Asks words c → ReadsInput c → Rose source.faults_before source.faults_after
       → IsReported words source read_fault_report
 
 -- the text was taken whole; where there is none the sink stands as before

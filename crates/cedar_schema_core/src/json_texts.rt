@@ -4,7 +4,7 @@ ghost use Rattle.std.specs.Str.{encode_utf8_all};
 ghost use Rattle.serde_json.specs.Written.{compact_text};
 ghost use Rattle.cedar_names.specs.Meaning.{SchemaMeaning};
 ghost use Rattle.schema_build_closed.specs.HalfFilled.{IsHalfFilled};
-ghost use Rattle.cedar_schema_core.specs.Json.{value_of, SaysIn, IsJsonOfText, JsonMeaning, IsErrorIn, IsValidJson, IsRecoveredJson, IsRefusalOfJson};
+ghost use Rattle.cedar_schema_core.specs.Json.{written_value, SaysIn, IsJsonOfText, JsonMeaning, IsErrorIn, IsValidJson, IsRecoveredJson, IsRefusalOfJson};
 ghost use Rattle.cedar_schema_core.specs.Meanings.{TextMeaning};
 ghost use Rattle.cedar_schema_core.specs.Steps.{IsUnparsed, IsUnread};
 
@@ -33,7 +33,7 @@ pub enum JsonForm {
 
 // The compact JSON of a fragment.
 fn json_of(alloc: Global, fragment: &Fragment<RawName>) -> Result<Text, AllocError>
-    ensures { IfOk result (λ json. encode_utf8_all json ≡ compact_text (value_of fragment.now)) }
+    ensures { IfOk result (λ json. encode_utf8_all json ≡ compact_text (written_value fragment.now)) }
 {
     fragment_text(alloc, fragment)
 }

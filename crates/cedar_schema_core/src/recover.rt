@@ -1,4 +1,4 @@
-ghost use Rattle.std.specs.Prelude.{◌≡◌, ◌≢◌, List, Option, IfOk, IfErr, OnOk};
+ghost use Rattle.std.specs.Prelude.{◌≡◌, ◌≢◌, IfOk, IfErr, OnOk};
 ghost use Rattle.std.specs.Str.{encode_utf8_all};
 ghost use Rattle.cedar_names.specs.Meaning.{SchemaMeaning};
 ghost use Rattle.cedar_names.specs.CanonicalText.{canonical_text};
@@ -8,7 +8,6 @@ ghost use Rattle.schema_build_parts.specs.BuildFaults.{BuildFault};
 ghost use Rattle.schema_build_text.specs.Captured.{IsUncaptured};
 ghost use Rattle.schema_build.specs.Schemas.{StandsFor, Builds};
 ghost use Rattle.cedar_schema_core.specs.Meanings.{IsValid};
-ghost use Rattle.schema_build.specs.Texts.{IsParseRefusal};
 ghost use Rattle.cedar_schema_core.specs.Recovery.{IsRecovered, IsRefusal};
 ghost use Rattle.cedar_schema_core.specs.Steps.{IsUnparsed, IsUnbuilt, IsUnprinted};
 

@@ -1,10 +1,9 @@
-ghost use Rattle.std.specs.Prelude.{◌≡◌, ◌≢◌, ◌++◌, ◌+◌, ◌≤◌, ◌⊎◌, ℕ, List, [], Some, IfOk, OnOk, length, map, codes, decimal};
+ghost use Rattle.std.specs.Prelude.{◌≡◌, ◌≢◌, ◌+◌, ◌≤◌, ◌⊎◌, ℕ, List, Some, IfOk, length, map};
 ghost use Rattle.std.specs.String.{string_bytes};
-ghost use Rattle.std.specs.Str.{encode_utf8_all, IsAscii};
+ghost use Rattle.std.specs.Str.{encode_utf8_all};
 ghost use Rattle.cedar_io.specs.Outside.{Rose};
 ghost use Rattle.cedar_io.specs.Input.{TookAtMost, max_input};
-ghost use Rattle.cedar_names.specs.CanonicalText.{canonical_text};
-ghost use Rattle.cedar_schema_core.specs.Commands.{Asks, Reads, own_text};
+ghost use Rattle.cedar_schema_core.specs.Commands.{Asks, ReadsInput, own_text};
 ghost use Rattle.cedar_schema_core.specs.Plan.{Report, IsPlan, IsInputPlan, IsAnswer, done_report, refused_report, read_fault_report};
 ghost use Rattle.cedar_schema_core.specs.Run.{device, IsReported, IsDelivered, IsRun, Completed, KeepsMeaning, NoneCounted};
 ghost use Rattle.cedar_schema_core.specs.Replies.{report_of};
@@ -93,7 +92,7 @@ fn read_reply<S: Source>(
     command: &Command,
     source: &mut S,
 ) -> Result<Reply, AllocError>
-    ensures reported { (words : List (List ℕ)) → Asks words command.now → Reads command.now
+    ensures reported { (words : List (List ℕ)) → Asks words command.now → ReadsInput command.now
         → IfOk result (λ reply. IsReported words (device S.left S.faults source.old source.new) (report_of reply)) }
     ensures taken { TookAtMost (max_input + 1) (S.left source.old) (S.left source.new) }
     ensures later { S.faults source.old ≤ S.faults source.new }

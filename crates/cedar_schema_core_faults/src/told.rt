@@ -1,7 +1,7 @@
 //! What a person is told of a refusal.
 ghost use Rattle.std.specs.Prelude.{◌≡◌, ◌++◌, ◌∷◌, [], map, codes, decimal, None, IfOk, OnOk};
 ghost use Rattle.std.specs.List.{flat_map};
-ghost use Rattle.cedar_schema_core_faults.specs.Told.{Told, said_there, label_line, help_line, told_lines, told_parse};
+ghost use Rattle.cedar_schema_core_faults.specs.Told.{label_line, help_line, told_lines, told_parse};
 ghost use Rattle.cedar_schema_core_faults.specs.Told.{told_translation, told_schema, told_captured, told_memory, told_text, fault_text};
 
 use crate::numbers::number_text;

@@ -1,5 +1,5 @@
 //! What is proved of trees, of the fragments that they stand for, and of what fragments mean.
-ghost use Rattle.std.specs.Prelude.{◌≡◌, ◌↔◌, ℕ, Bool, List, []};
+ghost use Rattle.std.specs.Prelude.{◌≡◌, ◌↔◌, Bool, List, []};
 ghost use Rattle.std.specs.List.{AllZip, AllByRecursion, flat_map};
 ghost use Rattle.cedar_identifiers.specs.declared.raw_name.RawName.{RawName as Raw};
 ghost use Rattle.cedar_names.specs.Meaning.{SchemaMeaning};
@@ -8,7 +8,7 @@ ghost use Rattle.schema_syntax_tokens.specs.Laid.{laid};
 ghost use Rattle.schema_syntax_tree.specs.declared.annotated.Annotated.{Annotated};
 ghost use Rattle.schema_syntax_tree.specs.declared.namespace.Namespace.{Namespace};
 ghost use Rattle.schema_json.specs.declared.fragment.Fragment.{Fragment as Fragments};
-ghost use Rattle.schema_convert_types.specs.Declarations.{as_written};
+ghost use Rattle.schema_json.specs.AsWritten.{as_written};
 ghost use Rattle.schema_convert.specs.Faults.{translation_faults};
 ghost use Rattle.schema_convert.specs.Translatable.{IsTranslatable};
 ghost use Rattle.schema_convert.specs.Translated.{translated};

@@ -20,7 +20,7 @@ ghost use Rattle.schema_syntax.specs.ParseAnswers.{IsTreeOfText, IsErrorOf};
 ghost use Rattle.schema_syntax.specs.SyntaxFaults.{IsSyntaxFault};
 ghost use Rattle.schema_syntax.specs.declared.syntax_fault.SyntaxFault.{SyntaxFault};
 ghost use Rattle.schema_json.specs.declared.fragment.Fragment.{Fragment};
-ghost use Rattle.schema_convert_types.specs.Declarations.{as_written};
+ghost use Rattle.schema_json.specs.AsWritten.{as_written};
 ghost use Rattle.schema_convert_errors.specs.declared.warnings.SchemaWarning.{SchemaWarning};
 ghost use Rattle.schema_convert.specs.Translated.{IsTranslationOfText};
 ghost use Rattle.schema_readback.specs.Meant.{groups_of_meaning};

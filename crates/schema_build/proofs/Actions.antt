@@ -4,13 +4,13 @@ use Rattle.std.specs.Prelude.{zip}
 use Rattle.std.specs.declared.alloc.Global.{Global}
 use Rattle.std.specs.List.{AllZip}
 use Rattle.std.specs.List.Sorted.{IsStrictlySortedBy}
+use Rattle.std.specs.Map.{keys_of}
+use Rattle.cedar_data.proofs.Lists.{map-map}
 use Rattle.cedar_identifiers.specs.declared.name.Name.{Name}
 use Rattle.cedar_identifiers.specs.declared.name_text.NameText as named
 use Rattle.cedar_identifiers.specs.declared.raw_name.RawName.{RawName}
 use Rattle.cedar_names.specs.Definitions.{action_of}
 use Rattle.cedar_names.specs.Orders.{uids_in_order}
-use Rattle.schema_build_checks.specs.DeclaredAt.{actions_at_in_order}
-use Rattle.std.specs.Map.{keys_of}
 use Rattle.cedar_names.specs.Meaning.{Rec, ActionMeaning}
 use Rattle.cedar_names.specs.declared.entity_uid.EntityUID.{EntityUID}
 use Rattle.cedar_names.specs.declared.extension_table.ExtensionTable.{ExtensionTable}
@@ -25,13 +25,14 @@ use Rattle.schema_build_types.specs.declared.action.ValidatorActionKind.{Validat
 use Rattle.schema_build_types.specs.declared.action.ValidatorActionKind.TheVariants as built
 use Rattle.schema_build_types.proofs.Contents.{built_says}
 use Rattle.schema_build_expand.specs.Scope.{Scope}
+use Rattle.schema_build_checks.specs.DeclaredAt.{actions_at_in_order}
 use Rattle.schema_build_scope.specs.FragmentScope.{fragment_scope}
 use Rattle.schema_build_hierarchy.specs.Ancestors.{AreAncestorRows, IsAncestorRow}
 use Rattle.schema_build_hierarchy.specs.Declarations.{action_key, declared_actions}
 use Rattle.schema_build_hierarchy.specs.Entries.{AreActions, action_of_entry}
 use Rattle.schema_build_hierarchy.specs.Parents.{IsActionAncestor}
 use Rattle.schema_build_hierarchy.specs.declared.entries.Entry.{Entry}
-use Rattle.schema_build_hierarchy.proofs.Ordered.{map_twice, sorted_seen, sorted_back}
+use Rattle.schema_build_hierarchy.proofs.Ordered.{sorted_seen, sorted_back}
 use Rattle.schema_build_items.specs.ActionKinds.{AreJust, ApplyMeaning, ActionKindStandsFor, IsActionKindBuilt}
 use Rattle.schema_build_items.specs.ActionKinds.{IsApplyMeaning, as_components, components_cmp, tests_alone}
 use Rattle.schema_build.specs.Assembly.{AreAt, AreAllAt, HoldActions, AreActionsBuilt, action_of_parts}
@@ -70,7 +71,8 @@ module _ {G : named.Ghosts RawName} where
         ancestors = rising_actions ancestors up i;
         principals = (rising_names (as_components principals)
             (subst (IsStrictlySortedBy components_cmp) (sym these) first) ∙ these) i;
-        resources = (rising_names (as_components resources) (subst (IsStrictlySortedBy components_cmp) (sym those) second)
+        resources = (rising_names (as_components resources)
+            (subst (IsStrictlySortedBy components_cmp) (sym those) second)
             ∙ those) i;
         context = built_says (Rec m.context) context in_context i;
       }
@@ -132,7 +134,7 @@ module _ {G : named.Ghosts RawName} (f : Fragment RawName G) (table : ExtensionT
   ancestors_are es rows ancestors are above at =
       let names = map (λ (e : ActionEntry G). action_key (action_of_entry e)) es in
       let up : IsStrictlySortedBy actions_cmp names =
-      subst (IsStrictlySortedBy actions_cmp) (map_twice action_key action_of_entry es)
+      subst (IsStrictlySortedBy actions_cmp) (map-map action_key action_of_entry es)
       (action_keys_rise (map action_of_entry es) are.rising) in
       joined
       (λ e (row : Vec ℕ Global). IsAncestorRow (IsActionAncestor (tests_alone f table) (declared_actions f)) names
@@ -142,7 +144,7 @@ module _ {G : named.Ghosts RawName} (f : Fragment RawName G) (table : ExtensionT
       (λ e row found is stand. are_just names actions_total up
       (IsActionAncestor (tests_alone f table) (declared_actions f)) (action_key (action_of_entry e)) row.items
       (map action_of found) is
-      (subst (λ l. AreAt l row.items (map action_of found)) (map_twice action_of (λ (e : ActionEntry G). e.name) es)
+      (subst (λ l. AreAt l row.items (map action_of found)) (map-map action_of (λ (e : ActionEntry G). e.name) es)
       (seen_at action_of (map (λ (e : ActionEntry G). e.name) es) row.items found stand)))
       es rows ancestors
       (unmapped (λ (e : ActionEntry G). action_key (action_of_entry e))

@@ -6,6 +6,7 @@ use Rattle.std.specs.List.{AllZip}
 use Rattle.std.specs.List.Sorted.{IsStrictlySortedBy}
 use Rattle.std.specs.Map.{keys_of}
 use Rattle.std.specs.Option.{option_map}
+use Rattle.cedar_data.proofs.Lists.{map-map}
 use Rattle.cedar_identifiers.specs.Names.{components_of}
 use Rattle.cedar_identifiers.specs.declared.name.Name.{Name}
 use Rattle.cedar_identifiers.specs.declared.name_text.NameText as named
@@ -27,10 +28,10 @@ use Rattle.schema_build_hierarchy.specs.Declarations.{entity_name, declared_enti
 use Rattle.schema_build_hierarchy.specs.Entries.{AreEntities, entity_of}
 use Rattle.schema_build_hierarchy.specs.Parents.{IsAncestor}
 use Rattle.schema_build_hierarchy.specs.declared.entries.Entry.{Entry}
-use Rattle.schema_build_hierarchy.proofs.Ordered.{map_twice, sorted_seen, sorted_back}
+use Rattle.schema_build_hierarchy.proofs.Ordered.{sorted_seen, sorted_back}
 use Rattle.schema_build_items.specs.ActionKinds.{AreJust, as_components, components_cmp, tests_alone}
 use Rattle.schema_build_items.specs.Kinds.{KindMeaning, IsKindBuilt, KindStandsFor, AreTagsBuilt}
-use Rattle.schema_build.specs.Assembly.{AreAt, AreAllAt, HoldEntities, AreEntitiesBuilt, entity_type_of}
+use Rattle.schema_build.specs.Assembly.{AreAt, AreAllAt, HoldEntities, AreEntitiesBuilt, assembled_entity_type}
 use Rattle.schema_build.specs.Meaning.{IsEntityMeaning}
 use Rattle.schema_build.proofs.InOrder.{rising_names}
 use Rattle.schema_build.proofs.Orders.{components_total, entity_names_rise}
@@ -59,7 +60,7 @@ meant_by e ancestors m = record {
 -- it says what is meant
 says : (e : EntityEntry) (ancestors : List Name) (m : KindMeaning) (kind : ValidatorEntityTypeKind)
     → IsStrictlySortedBy components_cmp (as_components ancestors) → KindStandsFor kind e.ty.now.external m
-    → entity_content (entity_type_of ((e, ancestors), kind)) ≡ entity_as_built (meant_by e ancestors m)
+    → entity_content (assembled_entity_type ((e, ancestors), kind)) ≡ entity_as_built (meant_by e ancestors m)
 says e ancestors m (built.Standard attributes more tags) up (own, closed, all, tagged, unlisted) = λ i. record {
   name = components_of e.name.name;
   is_external = sym own i;
@@ -97,8 +98,8 @@ module _ {G : named.Ghosts RawName} (f : Fragment RawName G) (table : ExtensionT
   all_say : (es : List EntityEntry) (ancestors : List (List Name)) (kinds : List ValidatorEntityTypeKind)
       → AllZip HasAncestors es ancestors → AllZip (IsKindBuilt (fragment_scope f table)) (map entity_of es) kinds
       → (ms : List EntityMeaning) × AllZip (IsEntityMeaning f table) (map entity_of es) ms
-      × (map entity_content (map entity_type_of (zip (zip es ancestors) kinds)) ≡ map entity_as_built ms)
-      × (keys_of (map entity_type_of (zip (zip es ancestors) kinds)) ≡ map (λ e. e.name) es)
+      × (map entity_content (map assembled_entity_type (zip (zip es ancestors) kinds)) ≡ map entity_as_built ms)
+      × (keys_of (map assembled_entity_type (zip (zip es ancestors) kinds)) ≡ map (λ e. e.name) es)
   all_say [] [] [] above are = ([], tt, refl, refl)
   all_say [] [] (k ∷ kinds) above are = absurd are
   all_say [] (a ∷ ancestors) kinds above are = absurd above
@@ -122,7 +123,7 @@ module _ {G : named.Ghosts RawName} (f : Fragment RawName G) (table : ExtensionT
   ancestors_are es rows ancestors are above at =
       let names = map (λ (e : EntityEntry). entity_name (entity_of e)) es in
       let up : IsStrictlySortedBy components_cmp names =
-      subst (IsStrictlySortedBy components_cmp) (map_twice entity_name entity_of es)
+      subst (IsStrictlySortedBy components_cmp) (map-map entity_name entity_of es)
       (entity_names_rise (map entity_of es) are.rising) in
       joined
       (λ e (row : Vec ℕ Global). IsAncestorRow (IsAncestor (tests_alone f table) (declared_entities f)) names
@@ -133,7 +134,7 @@ module _ {G : named.Ghosts RawName} (f : Fragment RawName G) (table : ExtensionT
       (IsAncestor (tests_alone f table) (declared_entities f)) (entity_name (entity_of e)) row.items
       (as_components found) is
       (subst (λ l. AreAt l row.items (as_components found))
-      (map_twice (λ (n : Name). components_of n.name) (λ (e : EntityEntry). e.name) es)
+      (map-map (λ (n : Name). components_of n.name) (λ (e : EntityEntry). e.name) es)
       (seen_at (λ (n : Name). components_of n.name) (map (λ (e : EntityEntry). e.name) es) row.items found stand)))
       es rows ancestors
       (unmapped (λ (e : EntityEntry). entity_name (entity_of e))
@@ -145,7 +146,7 @@ module _ {G : named.Ghosts RawName} (f : Fragment RawName G) (table : ExtensionT
   pub entities_built : (es : List EntityEntry) (rows : List (Vec ℕ Global)) (ancestors : List (List Name))
       (kinds : List ValidatorEntityTypeKind) → HoldEntities f table es rows kinds
       → AreAllAt (map (λ e. e.name) es) rows ancestors
-      → AreEntitiesBuilt f table (map entity_type_of (zip (zip es ancestors) kinds))
+      → AreEntitiesBuilt f table (map assembled_entity_type (zip (zip es ancestors) kinds))
   entities_built es rows ancestors kinds hold at =
       let (ms, mean, say, keyed) = all_say es ancestors kinds
       (ancestors_are es rows ancestors hold.entities hold.rows at) hold.built in

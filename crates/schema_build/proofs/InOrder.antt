@@ -32,7 +32,3 @@ rising_actions (u ∷ us) up =
     ap (λ l. insert_key actions_cmp l (action_of u))
     (rising_actions us (sorted_tail actions_cmp (action_of u) (map action_of us) up))
     ∙ in_front actions_cmp (action_of u) (map action_of us) up
-
-pub none_rise : {K : Type 0} (R : K → K → Ordering) → IsStrictlySortedBy R []
-unfolding IsStrictlySortedBy
-none_rise R = tt

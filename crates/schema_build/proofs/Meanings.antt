@@ -8,6 +8,7 @@ use Rattle.cedar_identifiers.specs.declared.name_text.NameText as named
 use Rattle.cedar_identifiers.specs.declared.raw_name.RawName.{RawName}
 use Rattle.cedar_names.specs.Meaning.{PlainType, Attributes, Rec, EntityMeaning, ActionMeaning, SchemaMeaning}
 use Rattle.cedar_names.specs.declared.extension_table.ExtensionTable.{ExtensionTable}
+use Rattle.cedar_names.specs.Orders.{names_in_order}
 use Rattle.schema_json.specs.declared.action_type.ActionType.{ActionType}
 use Rattle.schema_json.specs.declared.action_type.ApplySpec.{ApplySpec}
 use Rattle.schema_json.specs.declared.entity_type.EntityTypeKind.{EntityTypeKind}
@@ -17,11 +18,10 @@ use Rattle.schema_json.specs.declared.types.Type.{«Type»}
 use Rattle.schema_resolve_definitions.specs.Declarations.{name_of}
 use Rattle.schema_resolve_definitions.specs.Tests.{Tests}
 use Rattle.schema_build_types.specs.Content.{actions_cmp}
-use Rattle.schema_build_checks.specs.DeclaredAt.{ActionAt, actions_at_in_order}
 use Rattle.schema_build_expand.specs.Expands.{Expands, ExpandsOnce}
 use Rattle.schema_build_expand.specs.Scope.{Scope}
+use Rattle.schema_build_checks.specs.DeclaredAt.{ActionAt, actions_at_in_order}
 use Rattle.schema_build_scope.specs.FragmentScope.{fragment_scope}
-use Rattle.cedar_names.specs.Orders.{names_in_order}
 use Rattle.schema_build_hierarchy.specs.Declarations.{Declared, DeclaredEntity, declared_entities, declared_actions}
 use Rattle.schema_build_hierarchy.specs.Entries.{SameMembers}
 use Rattle.schema_build_hierarchy.proofs.KnownByMembers.{known_by_members}
@@ -29,7 +29,8 @@ use Rattle.schema_build_items.specs.ActionKinds.{AreJust, ApplyMeaning, IsApplyM
 use Rattle.schema_build_items.specs.Kinds.{KindMeaning, IsKindMeaning, TagsExpand}
 use Rattle.schema_build.specs.Meaning.{IsEntityMeaning, IsActionMeaning, EntitiesMean, ActionsMean, FragmentMeaning}
 use Rattle.schema_build.specs.Meaning.{kind_meaning, apply_meaning, key_of}
-use Rattle.schema_build.proofs.Orders.{components_total, actions_total, declared_entities_total, declared_actions_total}
+use Rattle.schema_build.proofs.Orders.{components_total, actions_total, declared_entities_total}
+use Rattle.schema_build.proofs.Orders.{declared_actions_total}
 use Rattle.schema_build.proofs.Zipped.{one_beside}
 
 -- the members of two lists are the same where both are just what is wanted

@@ -10,7 +10,10 @@ use Rattle.std.specs.Map.{keys_of}
 use Rattle.std.specs.Ordering.{is_lt, is_eq, ordering_reverse}
 use Rattle.std.specs.Option.{option_map}
 use Rattle.std.proofs.lemmas.List.Elements.{All-contains, All-head, All-filter, All-contains_itself}
+use Rattle.std.proofs.lemmas.List.{same_from_push}
 use Rattle.cedar_data.specs.Rows.{and_list, by_number}
+use Rattle.cedar_data.proofs.Every.{at_middle}
+use Rattle.schema_syntax_tokens.specs.Quotes.{quoted}
 use Rattle.cedar_identifiers.specs.Names.{components_of, name_text}
 use Rattle.cedar_identifiers.specs.declared.conditional_name.ConditionalName.{ConditionalName}
 use Rattle.cedar_identifiers.specs.declared.id.Id.{Id}
@@ -20,19 +23,18 @@ use Rattle.cedar_identifiers.specs.declared.name_text.NameText as named
 use Rattle.cedar_identifiers.specs.declared.raw_name.RawName.{RawName}
 use Rattle.cedar_names.specs.Orders.{names_in_order, names_total, ids_of}
 use Rattle.cedar_names.specs.declared.extension_table.ExtensionTable.{ExtensionTable}
-use Rattle.schema_syntax_tokens.specs.Quotes.{quoted}
 use Rattle.schema_json.specs.Actions.{action_name, action_uid_text}
 use Rattle.schema_json.specs.declared.action_type.ActionEntityUID.{ActionEntityUID}
 use Rattle.schema_json.specs.declared.action_type.ActionType.{ActionType}
 use Rattle.schema_json.specs.declared.fragment.Fragment.{Fragment}
 use Rattle.schema_json_walk.specs.Walk.{of_fragment}
-use Rattle.schema_resolve.specs.Gathered.{uids}
-use Rattle.schema_resolve.specs.Undefined.{Undefined}
 use Rattle.schema_resolve_definitions.specs.Defined.{defined}
 use Rattle.schema_resolve_definitions.specs.Tests.{Tests, tests_of}
 use Rattle.schema_resolve_errors.specs.ErrorTexts.{label_at, name_labels, type_texts, type_labels, action_texts}
 use Rattle.schema_resolve_errors.specs.ErrorTexts.{action_labels, unresolved_text, undeclared_text, written_components}
 use Rattle.schema_resolve_errors.specs.Gathered.{if_there}
+use Rattle.schema_resolve.specs.Gathered.{uids}
+use Rattle.schema_resolve.specs.Undefined.{Undefined}
 use Rattle.schema_build_errors.specs.DeclaredTexts.{hidden_text}
 use Rattle.schema_build_errors.specs.HierarchyTexts.{ancestor_message}
 use Rattle.schema_build_errors.specs.UseTexts.{declared_texts, undeclared_labels}
@@ -56,7 +58,6 @@ use Rattle.schema_build_hierarchy.specs.FirstUses.{IsFirstUse, AreFirstUses}
 use Rattle.schema_build_hierarchy.specs.Rows.{IsLeastAmong, HasUndeclaredEntityTypes, HasActionCycle}
 use Rattle.schema_build_hierarchy.specs.Rows.{HasExternalUnderEnum, IsEnumAbove}
 use Rattle.schema_build_hierarchy.proofs.Exact.{actions_total}
-use Rattle.schema_build_hierarchy.proofs.Gathered.{last_same}
 use Rattle.schema_build_hierarchy.proofs.KnownByMembers.{same_rising}
 use Rattle.schema_build_items.specs.NoRecord.{IsLeastShape, IsLeastContext, HasNoRecordShape, HasNoRecordContext}
 use Rattle.schema_build_parts.specs.BuildFaults.{BuildFault}
@@ -76,12 +77,6 @@ or_else_once row behind one more e other (inr h) (inr k) = more e other h.1 k.1
 alike : (e other x y : SchemaError) → e ≡ x → other ≡ y → AreToldAlike x y → AreToldAlike e other
 alike e other x y h k a = subst (λ z. AreToldAlike z other) (sym h) (subst (AreToldAlike x) (sym k) a)
 
--- what all of a list have, each in it has
-at_place : {A : Type 0} (P : A → Type 0) (front : List A) (x : A) (back : List A) → AllByRecursion P (front ++ x ∷ back)
-    → P x
-at_place P [] x back h = h.0
-at_place P (y ∷ front) x back h = at_place P front x back h.1
-
 -- the first of the least is one
 least_place : {A : Type 0} (order : A → A → Ordering) (x y : A) (a b c d : List A) → a ++ x ∷ b ≡ c ++ y ∷ d
     → AllByRecursion (λ z. is_lt (order x z) ≡ true) a → AllByRecursion (λ z. is_lt (order z x) ≡ false) b
@@ -92,7 +87,7 @@ least_place order x y [] b (z ∷ c) d e g n h m =
     let tail : b ≡ c ++ y ∷ d = cc in
     let less : is_lt (order y x) ≡ true = ap (λ w. is_lt (order y w)) head ∙ h.0 in
     let not_less : is_lt (order y x)
-    ≡ false = at_place (λ w. is_lt (order w x) ≡ false) c y d
+    ≡ false = at_middle (λ w. is_lt (order w x) ≡ false) c y d
     (subst (AllByRecursion (λ w. is_lt (order w x) ≡ false)) tail n) in
     absurd (let no : true ≡ false = sym less ∙ not_less in cc)
 least_place order x y (z ∷ a) b [] d e g n h m =
@@ -100,7 +95,7 @@ least_place order x y (z ∷ a) b [] d e g n h m =
     let tail : a ++ x ∷ b ≡ d = cc in
     let less : is_lt (order x y) ≡ true = ap (λ w. is_lt (order x w)) (sym head) ∙ g.0 in
     let not_less : is_lt (order x y)
-    ≡ false = at_place (λ w. is_lt (order w y) ≡ false) a x b
+    ≡ false = at_middle (λ w. is_lt (order w y) ≡ false) a x b
     (subst (AllByRecursion (λ w. is_lt (order w y) ≡ false)) (sym tail) m) in
     absurd (let no : true ≡ false = sym less ∙ not_less in cc)
 least_place order x y (z ∷ a) b (w ∷ c) d e g n h m =
@@ -135,7 +130,7 @@ basename_once : (n v w : InternalName) → IsBasenameOf n v → IsBasenameOf n w
 basename_once n v w h k =
     let left : ids_of n ≡ h.namespace ++ v.first ∷ [] = h.last ∙ ap (λ o. h.namespace ++ v.first ∷ o) h.alone in
     let right : ids_of n ≡ k.namespace ++ w.first ∷ [] = k.last ∙ ap (λ o. k.namespace ++ w.first ∷ o) k.alone in
-    let first : v.first ≡ w.first = (last_same h.namespace k.namespace v.first w.first (sym left ∙ right)).1 in
+    let first : v.first ≡ w.first = (same_from_push h.namespace k.namespace v.first w.first (sym left ∙ right)).1 in
     ap (λ (o : List Id). map (λ i. i.text) (v.first ∷ o)) h.alone ∙ ap (λ (f : Id). f.text ∷ []) first
     ∙ sym (ap (λ (o : List Id). map (λ i. i.text) (w.first ∷ o)) k.alone)
 

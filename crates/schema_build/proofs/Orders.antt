@@ -1,38 +1,27 @@
 -- The orders of names and of actions, by their components.
-use Rattle.std.proofs.Common.{◌≡◌, ℕ, List, map, sym, ap, subst}
+use Rattle.std.proofs.Common.{◌≡◌, ℕ, List, map, ap, subst}
 use Rattle.std.specs.Cmp.{IsTotalOrder, on_total, then_total}
-use Rattle.std.specs.Cmp.Derive.Mapped.{lex_map}
-use Rattle.std.specs.Cmp.Lexicographic.{lists_total}
 use Rattle.std.specs.List.Sorted.{IsStrictlySortedBy}
 use Rattle.std.specs.Ordering.{ordering_then}
-use Rattle.std.specs.Str.{encode_utf8_all}
-use Rattle.std.proofs.lemmas.Cmp.{nat_list_cmp_total}
 use Rattle.cedar_data.specs.Text.{text_cmp}
-use Rattle.cedar_identifiers.specs.Names.{components_of}
-use Rattle.cedar_identifiers.specs.declared.internal_name.InternalName.{InternalName}
+use Rattle.cedar_data.proofs.Orders.{text_total, texts_total}
 use Rattle.cedar_identifiers.specs.declared.name_text.NameText as named
 use Rattle.cedar_identifiers.specs.declared.raw_name.RawName.{RawName}
 use Rattle.cedar_names.specs.Orders.{ids_of, names_in_order, names_total, keys_total}
 use Rattle.schema_json.specs.declared.action_type.ActionType.{ActionType}
+use Rattle.schema_build_types.specs.Content.{actions_cmp}
 use Rattle.schema_build_checks.specs.DeclaredAt.{ActionAt, actions_at_in_order}
+use Rattle.schema_build_checks.proofs.Names.{names_by_components}
 use Rattle.schema_build_hierarchy.specs.Declarations.{Declared, DeclaredEntity, entity_name, action_key, named_action}
 use Rattle.schema_build_hierarchy.proofs.Ordered.{sorted_seen}
 use Rattle.schema_build_items.specs.ActionKinds.{components_cmp}
-use Rattle.schema_build_types.specs.Content.{actions_cmp}
-
-texts_total : IsTotalOrder text_cmp
-texts_total = on_total encode_utf8_all nat_list_cmp_total
 
 pub components_total : IsTotalOrder components_cmp
-components_total = lists_total texts_total
+components_total = texts_total
 
 pub actions_total : IsTotalOrder actions_cmp
 actions_total = then_total (on_total (λ (a : List (List ℕ) × List ℕ). a.0) components_total)
-    (on_total (λ (a : List (List ℕ) × List ℕ). a.1) texts_total)
-
--- names are in the order of their components
-names_by_components : (x y : InternalName) → names_in_order x y ≡ components_cmp (components_of x) (components_of y)
-names_by_components x y = sym (lex_map (λ i. i.text) text_cmp (ids_of x) (ids_of y))
+    (on_total (λ (a : List (List ℕ) × List ℕ). a.1) text_total)
 
 -- actions are in the order of their types' components, and then of their ids
 actions_by_components : (a b : ActionAt) → actions_at_in_order a b ≡ actions_cmp (named_action a) (named_action b)

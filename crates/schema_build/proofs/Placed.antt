@@ -12,24 +12,21 @@ use Rattle.std.specs.Ordering.{nat_cmp}
 use Rattle.std.proofs.lemmas.Map.Keys.{sorted_from_strictly_increasing}
 use Rattle.std.specs.declared.alloc.Global.{Global}
 use Rattle.std.proofs.lemmas.List.{map-append, take_more, length-map, get_or-map}
-use Rattle.std.proofs.lemmas.Option.{slice_get-map, slice_get_read}
+use Rattle.std.proofs.lemmas.Option.{slice_get-map, slice_get_read, same_Some}
 use Rattle.std.proofs.lemmas.Slice.Zip.{AllZip-long, all_zipped_more}
+use Rattle.cedar_data.proofs.Lists.{contains_map, contains_unmap, map-map}
 use Rattle.schema_build_hierarchy.proofs.ParentRanks.{map_at}
 use Rattle.schema_build_hierarchy.specs.Ancestors.{IsAncestorRow}
-use Rattle.schema_build_hierarchy.proofs.Ordered.{contains_map, contains_unmap, map_twice}
 use Rattle.schema_build_hierarchy.proofs.Ranked.{less_at}
 use Rattle.schema_build_items.specs.ActionKinds.{AreJust}
 use Rattle.schema_build.specs.Assembly.{AreSharedOf, AreAt, AreAllAt}
-
-some_same : {A : Type 0} (x y : A) → Some x ≡ Some y → x ≡ y
-some_same x y e = cc
 
 -- what is seen of the names that stand at the places
 pub seen_at : {A B : Type 0} (v : A → B) (names : List A) (places : List ℕ) (found : List A) → AreAt names places found
     → AreAt (map v names) places (map v found)
 seen_at v names places found at =
-    map_twice Some v found ∙ sym (map_twice (option_map v) Some found) ∙ ap (map (option_map v)) at
-    ∙ map_twice (option_map v) (slice_get names) places
+    map-map Some v found ∙ sym (map-map (option_map v) Some found) ∙ ap (map (option_map v)) at
+    ∙ map-map (option_map v) (slice_get names) places
     ∙ sym (λ i. map (λ k. slice_get-map v names k i) places)
 
 -- one more of the places
@@ -105,7 +102,7 @@ module _ {K : Type 0} (names : List K) where
   there places found at r x c is =
       let seen = subst (λ l. Contains l (slice_get names r)) (sym at) (contains_map (slice_get names) places r c) in
       let (y, h, same) = contains_unmap Some found (slice_get names r) seen in
-      subst (Contains found) (some_same y x (same ∙ is)) h
+      subst (Contains found) (same_Some y x (same ∙ is)) h
 
   module _ {R : K → K → Ordering} (o : IsTotalOrder R) (up : IsStrictlySortedBy R names) where
     above : (x : K) (r : ℕ) (places : List ℕ) (found : List K) → slice_get names r ≡ Some x → AreAt names places found
@@ -144,7 +141,7 @@ module _ {K : Type 0} (names : List K) where
         (λ c.
             let (r, h, stands) = placed row found at b c in
             let (d, same, above) = is.sound r h in
-            subst (ancestor a) (some_same d b (sym same ∙ stands)) above),
+            subst (ancestor a) (same_Some d b (sym same ∙ stands)) above),
         (λ e.
             let (r, stands, h) = is.whole b e in
             there row found at r b h stands),

@@ -7,6 +7,7 @@ use Rattle.cedar_identifiers.specs.declared.raw_name.RawName.{RawName}
 use Rattle.cedar_names.specs.declared.entity_uid.EntityUID.{EntityUID}
 use Rattle.cedar_names.specs.declared.extension_table.ExtensionTable.{ExtensionTable}
 use Rattle.schema_json.specs.declared.fragment.Fragment.{Fragment}
+use Rattle.schema_json.specs.AsWritten.{as_written}
 use Rattle.schema_build_types.specs.declared.action.ValidatorActionId.{ValidatorActionId}
 use Rattle.schema_build_types.specs.declared.entity_type.ValidatorEntityType.{ValidatorEntityType}
 use Rattle.schema_build_expand.specs.Scope.{AreDeclaredOnce}
@@ -16,13 +17,13 @@ use Rattle.schema_build_hierarchy.specs.Declarations.{entity_name, action_key, d
 use Rattle.schema_build_hierarchy.specs.Entries.{entity_of, action_of_entry}
 use Rattle.schema_build_hierarchy.specs.Parents.{IsAncestor, IsActionAncestor}
 use Rattle.schema_build_items.specs.ActionKinds.{tests_alone}
-use Rattle.schema_build_parts.specs.Parts.{ArePartsOf, raw_names}
+use Rattle.schema_build_parts.specs.Parts.{ArePartsOf}
 use Rattle.schema_build_parts.specs.declared.parts.FragmentParts.{FragmentParts}
 use Rattle.schema_build.specs.Assembly.{AreEntitiesBuilt, AreActionsBuilt, HoldEntities, HoldActions}
 use Rattle.schema_build.specs.Schemas.{Builds}
 use Rattle.schema_build.proofs.Zipped.{rows_within}
 
-module _ (f : Fragment RawName raw_names) (table : ExtensionTable) (p : FragmentParts)
+module _ (f : Fragment RawName as_written) (table : ExtensionTable) (p : FragmentParts)
     (are : ArePartsOf f table p) where
   abbrev Within : ℕ → List (Vec ℕ Global) → Type 0
   Within n rows = All (λ (row : Vec ℕ Global). All (λ place. place < n) row.items) rows
@@ -61,7 +62,7 @@ module _ (f : Fragment RawName raw_names) (table : ExtensionTable) (p : Fragment
     built = are.applied;
   }
 
-pub schema_built : (f : Fragment RawName raw_names) (table : ExtensionTable)
+pub schema_built : (f : Fragment RawName as_written) (table : ExtensionTable)
     (entities : List (Name × ValidatorEntityType))
     (actions : List (EntityUID × ValidatorActionId)) → AreDeclaredOnce (fragment_scope f table)
     → AreEntitiesBuilt f table entities → AreActionsBuilt f table actions

@@ -25,9 +25,9 @@ use Rattle.schema_build_hierarchy.specs.Ancestors.{AreAncestorRows}
 use Rattle.schema_build_hierarchy.specs.Declarations.{entity_name, action_key, declared_entities, declared_actions}
 use Rattle.schema_build_hierarchy.specs.Entries.{AreEntities, AreActions, entity_of, action_of_entry}
 use Rattle.schema_build_hierarchy.specs.Parents.{IsAncestor, IsActionAncestor}
+use Rattle.schema_build_hierarchy.specs.declared.entries.Entry.{Entry}
 use Rattle.schema_build_items.specs.ActionKinds.{IsActionKindBuilt, tests_alone}
 use Rattle.schema_build_items.specs.Kinds.{IsKindBuilt}
-use Rattle.schema_build_hierarchy.specs.declared.entries.Entry.{Entry}
 use Rattle.schema_build.specs.Meaning.{EntitiesMean, ActionsMean}
 
 -- what stands at these places of the list
@@ -43,9 +43,9 @@ abbrev pub AreAllAt : {A : Type 0} → List A → List (Vec ℕ Global) → List
 AreAllAt names rows = AllZip (λ row. AreAt names row.items) rows
 
 -- an entity type from its declaration, its ancestors and what is built for it
-abbrev pub entity_type_of : (Entry Name (EntityType RawName) × List Name) × ValidatorEntityTypeKind
+abbrev pub assembled_entity_type : (Entry Name (EntityType RawName) × List Name) × ValidatorEntityTypeKind
     → Name × ValidatorEntityType
-entity_type_of e = (e.0.0.name, record { ancestors = e.0.1; kind = e.1 })
+assembled_entity_type e = (e.0.0.name, record { ancestors = e.0.1; kind = e.1 })
 
 -- these entity types say what is meant
 abbrev pub EntitiesStandFor : List (Name × ValidatorEntityType) → List EntityMeaning → Type 0

@@ -4,14 +4,14 @@ use Rattle.serde_json.specs.Data.{Data}
 use Rattle.cedar_identifiers.specs.declared.raw_name.RawName.{RawName}
 use Rattle.cedar_names.specs.declared.extension_table.ExtensionTable.{ExtensionTable}
 use Rattle.schema_json.specs.declared.fragment.Fragment.{Fragment}
+use Rattle.schema_json.specs.AsWritten.{as_written}
 use Rattle.schema_json_errors.specs.declared.json_error.JsonDeserializationError.{JsonDeserializationError}
 use Rattle.schema_json_errors.specs.declared.json_fault.JsonFault.{JsonFault}
 use Rattle.schema_json_errors.specs.declared.json_fault.JsonFault.TheVariants as cause
 use Rattle.schema_compat.specs.Causes.{OldText, OldValue, IsOldTextError, IsOldValueError}
-use Rattle.schema_convert_types.specs.Declarations.{as_written}
-use Rattle.schema_build_checks.specs.Rows.{Never, OrMemory}
 use Rattle.schema_build_errors.specs.declared.schema_error.SchemaError.{SchemaError}
 use Rattle.schema_build_errors.specs.declared.schema_error.SchemaError.TheVariants.{JsonDeserialization, Memory}
+use Rattle.schema_build_checks.specs.Rows.{Never, OrMemory}
 use Rattle.schema_build_parts.specs.BuildFaults.{BuildFault}
 use Rattle.schema_build.specs.Schemas.{SchemaLists, Builds}
 

@@ -20,23 +20,23 @@ with_json_help true None = Some json_help
 with_json_help true (Some help) = Some (help ++ (codes "\n" ++ json_help))
 
 -- what is said where a schema text is not read as a fragment
-abbrev pub parse_error_text : CedarSchemaParseError → List ℕ
-parse_error_text e = codes "error parsing schema: " ++ text_failure_text e.errs
+abbrev pub schema_parse_error_text : CedarSchemaParseError → List ℕ
+schema_parse_error_text e = codes "error parsing schema: " ++ text_failure_text e.errs
 
 -- the advice where a schema text is not read as a fragment, if there is any
-abbrev pub parse_error_help : CedarSchemaParseError → List ℕ → Option (List ℕ)
-parse_error_help e source = with_json_help e.suspect_json (text_failure_help e.errs source)
+abbrev pub schema_parse_error_help : CedarSchemaParseError → List ℕ → Option (List ℕ)
+schema_parse_error_help e source = with_json_help e.suspect_json (text_failure_help e.errs source)
 
 -- what the refusal of a schema text says
 abbrev pub text_error_text : CedarSchemaError → List ℕ
 text_error_text (Schema e) = schema_error_text e
-text_error_text (Parsing e) = parse_error_text e
+text_error_text (Parsing e) = schema_parse_error_text e
 text_error_text Memory = codes "out of memory"
 
 -- what the refusal of a schema text advises, if anything
 abbrev pub text_error_help : CedarSchemaError → List ℕ → Option (List ℕ)
 text_error_help (Schema e) source = schema_error_help e
-text_error_help (Parsing e) source = parse_error_help e source
+text_error_help (Parsing e) source = schema_parse_error_help e source
 text_error_help Memory source = None
 
 -- the places that the refusal of a schema text points to

@@ -4,7 +4,7 @@ ghost use Rattle.cedar_identifiers.specs.declared.raw_name.RawName.{RawName as R
 ghost use Rattle.cedar_names.specs.declared.extension_table.ExtensionTable.{ExtensionTable as Table};
 ghost use Rattle.schema_json.specs.declared.fragment.Fragment.{Fragment as Fragments};
 ghost use Rattle.schema_build.specs.Assembly.{AreSharedOf, AreAt, AreAllAt, AreEntitiesBuilt, AreActionsBuilt};
-ghost use Rattle.schema_build.specs.Assembly.{HoldEntities, HoldActions, entity_type_of, action_of_parts};
+ghost use Rattle.schema_build.specs.Assembly.{HoldEntities, HoldActions, assembled_entity_type, action_of_parts};
 
 use cedar_data::{CloneIn, List, Map, Shared};
 use cedar_identifiers::{Name, NameText, RawName};
@@ -129,7 +129,7 @@ trait Assembled<D: Drop, A: Drop, K: Drop>: Drop {
 
 impl<'f> Assembled<DeclaredEntity<'f>, List<Shared<Name>>, ValidatorEntityTypeKind>
     for EntityTypeEntry {
-    ghost assembly = { entity_type_of };
+    ghost assembly = { assembled_entity_type };
 
     fn of(
         parts: (
@@ -137,7 +137,7 @@ impl<'f> Assembled<DeclaredEntity<'f>, List<Shared<Name>>, ValidatorEntityTypeKi
             ValidatorEntityTypeKind,
         ),
     ) -> EntityTypeEntry
-        ensures { result ≡ entity_type_of parts.entry }
+        ensures { result ≡ assembled_entity_type parts.entry }
     {
         let ((entry, ancestors), kind) = parts;
         EntityTypeEntry {

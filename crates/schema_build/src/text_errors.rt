@@ -1,6 +1,6 @@
 ghost use Rattle.std.specs.Prelude.{◌≡◌, true, IfOk};
 ghost use Rattle.schema_convert_errors.specs.ErrorPlaces.{text_failure_labels};
-ghost use Rattle.schema_build.specs.TextErrorTexts.{with_json_help, parse_error_text, parse_error_help, text_error_text, text_error_help, text_error_labels};
+ghost use Rattle.schema_build.specs.TextErrorTexts.{with_json_help, schema_parse_error_text, schema_parse_error_help, text_error_text, text_error_help, text_error_labels};
 
 use cedar_data::{Label, Severity, Text, message};
 use schema_build_errors::SchemaError;
@@ -33,7 +33,7 @@ impl CedarSchemaParseError {
 
     /// What the error says.
     pub fn text(&self, alloc: Global) -> Result<Text, AllocError>
-        ensures text { IfOk result (λ text. text ≡ parse_error_text self.now) }
+        ensures text { IfOk result (λ text. text ≡ schema_parse_error_text self.now) }
     {
         let inner = self.errs.text(alloc)?;
         let mut text = message(alloc, "error parsing schema: ")?;
@@ -43,7 +43,7 @@ impl CedarSchemaParseError {
 
     /// Advice, where it has any. The source is the text that was read.
     pub fn help(&self, alloc: Global, source: &str) -> Result<Option<Text>, AllocError>
-        ensures help { IfOk result (λ help. help ≡ parse_error_help self.now source.now) }
+        ensures help { IfOk result (λ help. help ≡ schema_parse_error_help self.now source.now) }
     {
         let help = self.errs.help(alloc, source)?;
         if self.suspect_json {

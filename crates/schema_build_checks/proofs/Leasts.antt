@@ -8,17 +8,8 @@ use Rattle.std.specs.Ordering.{is_lt}
 use Rattle.std.specs.Cmp.{IsStrictWeakOrder}
 use Rattle.std.specs.declared.cmp.Ordering.{Ordering}
 use Rattle.std.proofs.lemmas.Bool.{cases_Bool}
+use Rattle.cedar_data.proofs.Every.{All-append, All-weaker, All-map}
 use Rattle.schema_build_checks.specs.Least.{IsFirstLeast}
-
-all_join : {A : Type 0} (P : A → Type 0) (xs ys : List A) → AllByRecursion P xs → AllByRecursion P ys
-    → AllByRecursion P (xs ++ ys)
-all_join P [] ys a b = b
-all_join P (x ∷ xs) ys a b = (a.0, all_join P xs ys a.1 b)
-
-all_given : {A : Type 0} (P Q : A → Type 0) → ((x : A) → P x → Q x) → (xs : List A) → AllByRecursion P xs
-    → AllByRecursion Q xs
-all_given P Q f [] a = tt
-all_given P Q f (x ∷ xs) a = (f x a.0, all_given P Q f xs a.1)
 
 module _ {A : Type 0} (order : A → A → Ordering) where
   pub least_alone : (x : A) → IsFirstLeast order (x ∷ []) x
@@ -31,7 +22,7 @@ module _ {A : Type 0} (order : A → A → Ordering) where
     behind = h.behind ++ y ∷ [];
     among = ap (λ l. l ++ y ∷ []) h.among ∙ append_assoc h.before (x ∷ h.behind) (y ∷ []);
     greater = h.greater;
-    not_less = all_join (λ z. is_lt (order z x) ≡ false) h.behind (y ∷ []) h.not_less (kept, tt);
+    not_less = All-append (λ z. is_lt (order z x) ≡ false) h.behind (y ∷ []) h.not_less (kept, tt);
   }
 
   module _ (o : IsStrictWeakOrder (λ a b. is_lt (order a b))) where
@@ -50,11 +41,11 @@ module _ {A : Type 0} (order : A → A → Ordering) where
       behind = [];
       among = refl;
       greater = subst (λ l. AllByRecursion (λ z. is_lt (order y z) ≡ true) l) (sym h.among)
-          (all_join (λ z. is_lt (order y z) ≡ true) h.before (x ∷ h.behind)
-          (all_given (λ z. is_lt (order x z) ≡ true) (λ z. is_lt (order y z) ≡ true)
+          (All-append (λ z. is_lt (order y z) ≡ true) h.before (x ∷ h.behind)
+          (All-weaker (λ z. is_lt (order x z) ≡ true) (λ z. is_lt (order y z) ≡ true)
           (λ z l. below x y z less (o.one_way x z l)) h.before h.greater) (
             less,
-            all_given (λ z. is_lt (order z x) ≡ false) (λ z. is_lt (order y z) ≡ true)
+            All-weaker (λ z. is_lt (order z x) ≡ false) (λ z. is_lt (order y z) ≡ true)
                 (λ z l. below x y z less l) h.behind h.not_less,
           ));
       not_less = tt;
@@ -65,11 +56,6 @@ pub whole_given : {A B : Type 0} (f : A → List B) (xs ys : List A) (i : ℕ) �
     → flat_map f (take i xs) ≡ flat_map f ys
 whole_given f xs ys i l e = ap (flat_map f) (take_all i xs l ∙ e)
 
-all_seen : {A B : Type 0} (g : A → B) (P : B → Type 0) (xs : List A) → AllByRecursion (λ a. P (g a)) xs
-    → AllByRecursion P (map g xs)
-all_seen g P [] h = tt
-all_seen g P (x ∷ xs) h = (h.0, all_seen g P xs h.1)
-
 -- the least by what is seen of the items
 pub least_seen : {A B : Type 0} (g : A → B) (order : B → B → Ordering) (xs : List A) (x : A)
     → IsFirstLeast (λ a b. order (g a) (g b)) xs x → IsFirstLeast order (map g xs) (g x)
@@ -77,6 +63,6 @@ least_seen g order xs x h = record {
   before = map g h.before;
   behind = map g h.behind;
   among = ap (map g) h.among ∙ map-append g h.before (x ∷ h.behind);
-  greater = all_seen g (λ y. is_lt (order (g x) y) ≡ true) h.before h.greater;
-  not_less = all_seen g (λ y. is_lt (order y (g x)) ≡ false) h.behind h.not_less;
+  greater = All-map (λ y. is_lt (order (g x) y) ≡ true) g h.before h.greater;
+  not_less = All-map (λ y. is_lt (order y (g x)) ≡ false) g h.behind h.not_less;
 }

@@ -1,2 +1,3 @@
-mod Leasts
+pub mod Leasts
+pub mod Names
 mod Stops

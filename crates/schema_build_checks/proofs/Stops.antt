@@ -4,7 +4,7 @@ use Rattle.std.specs.List.{flat_map, FoldsTo}
 use Rattle.schema_json_walk.specs.Visits.{StopsAmong}
 use Rattle.schema_build_errors.specs.declared.schema_error.SchemaError.{SchemaError}
 use Rattle.schema_build_checks.specs.Refusing.{IsAboutFirst, GivenNothing}
-use Rattle.schema_build_checks.specs.FirstRefused.{IsFirst, Refuses}
+use Rattle.schema_build_checks.specs.FirstRefused.{IsHead, Refuses}
 use Rattle.schema_build_checks.specs.declared.refused.Refused.{Refused}
 use Rattle.schema_build_checks.specs.declared.refused.Refused.TheVariants.{First}
 
@@ -27,24 +27,24 @@ module _ {S P U : Type 0} (gives : S → P → List U) where
       ∙ none_given s t ps (subst (λ j. FoldsTo (GivenNothing gives) j ps t) same more)
 
 module _ {S P U : Type 0} (gives : S → P → List U) where
-  first_of : (us vs : List U) (u : U) → IsFirst us u → IsFirst (us ++ vs) u
+  first_of : (us vs : List U) (u : U) → IsHead us u → IsHead (us ++ vs) u
   first_of [] vs u h = absurd h
   first_of (x ∷ us) vs u h = h
 
   pub first_refused : (s : S) (ps : List P) (u : U)
-      → StopsAmong (GivenNothing gives) (Refuses gives) s ps (First u) → IsFirst (flat_map (gives s) ps) u
+      → StopsAmong (GivenNothing gives) (Refuses gives) s ps (First u) → IsHead (flat_map (gives s) ps) u
   first_refused s [] u h = absurd h
   first_refused s (p ∷ ps) u (inl here) = first_of (gives s p) (flat_map (gives s) ps) u here
   first_refused s (p ∷ ps) u (inr (j, (same, nothing), more)) =
-      subst (λ l. IsFirst (l ++ flat_map (gives s) ps) u) (sym nothing)
+      subst (λ l. IsHead (l ++ flat_map (gives s) ps) u) (sym nothing)
       (first_refused s ps u (subst (λ j. StopsAmong (GivenNothing gives) (Refuses gives) j ps (First u)) same more))
 
   pub first_at : (s : S) (ps : List P) (r : Refused U) (u : U) → r ≡ First u
-      → StopsAmong (GivenNothing gives) (Refuses gives) s ps r → IsFirst (flat_map (gives s) ps) u
+      → StopsAmong (GivenNothing gives) (Refuses gives) s ps r → IsHead (flat_map (gives s) ps) u
   first_at s ps r u e h = first_refused s ps u (subst (StopsAmong (GivenNothing gives) (Refuses gives) s ps) e h)
 
 -- an error about what is the first of these is about the first of these
-pub about_first : {U : Type 0} (about : U → SchemaError → Type 0) (us : List U) (u : U) (e : SchemaError) → IsFirst us u
+pub about_first : {U : Type 0} (about : U → SchemaError → Type 0) (us : List U) (u : U) (e : SchemaError) → IsHead us u
     → about u e → IsAboutFirst about us e
 about_first about [] u e h a = absurd h
 about_first about (x ∷ us) u e h a = subst (λ y. about y e) h a

@@ -1,5 +1,4 @@
 ghost use Rattle.std.specs.Prelude.{◌≡◌, [], OnOk, IfErr};
-ghost use Rattle.cedar_names.specs.Tables.{table_has};
 ghost use Rattle.schema_json_walk.specs.Visits.{part_of};
 ghost use Rattle.schema_build_checks.specs.FirstRefused.{Refuses};
 ghost use Rattle.schema_build_checks.specs.Refusing.{GivenNothing};

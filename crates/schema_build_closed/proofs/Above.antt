@@ -5,6 +5,8 @@ use Rattle.std.specs.Cmp.{on_total}
 use Rattle.std.specs.Ordering.{is_lt}
 use Rattle.std.specs.Prelude.{find}
 use Rattle.std.specs.Option.{option_map, option_to_list}
+use Rattle.std.proofs.lemmas.Bool.{and_parts}
+use Rattle.cedar_data.proofs.Lists.{contains_flat, found_passes}
 use Rattle.cedar_identifiers.specs.Names.{components_of, has_cedar}
 use Rattle.cedar_identifiers.specs.declared.internal_name.InternalName.{InternalName}
 use Rattle.cedar_identifiers.specs.declared.name.Name.{Name}
@@ -24,34 +26,36 @@ use Rattle.schema_resolve_definitions.specs.Defined.{defined}
 use Rattle.schema_resolve_definitions.specs.Tests.{Tests, tests_of}
 use Rattle.schema_resolve.specs.Qualified.{type_in_namespace}
 use Rattle.schema_resolve.specs.Targets.{action_target, is_action}
-use Rattle.schema_build_errors.specs.declared.schema_error.SchemaError.TheVariants as error
 use Rattle.schema_build_graph.specs.Paths.{Reaches}
+use Rattle.schema_build_graph.proofs.Paths.{reaches_through}
+use Rattle.schema_build_errors.specs.declared.schema_error.SchemaError.TheVariants as error
 use Rattle.schema_build_checks.specs.DeclaredAt.{ActionAt, actions_at_in_order}
 use Rattle.schema_build_checks.specs.Rows.{Never}
+use Rattle.schema_build_checks.proofs.Names.{names_tied}
+use Rattle.schema_build_scope.specs.FragmentScope.{fragment_scope}
 use Rattle.schema_build_hierarchy.specs.Declarations.{Declared, DeclaredEntity, entity_name, action_key}
 use Rattle.schema_build_hierarchy.specs.Declarations.{declared_entities, declared_actions}
 use Rattle.schema_build_hierarchy.specs.Parents.{target_in, action_target_in, written_parents, parents_in}
-use Rattle.schema_build_hierarchy.specs.Parents.{entity_parents, IsParent, IsAncestor, IsActionParent, IsActionAncestor}
+use Rattle.schema_build_hierarchy.specs.Parents.{entity_parents, IsParent, IsAncestor, IsActionParent}
+use Rattle.schema_build_hierarchy.specs.Parents.{IsActionAncestor}
 use Rattle.schema_build_hierarchy.specs.Rows.{undeclared_part, undeclared_uses, is_enum, IsLeastAmong, IsEnumAbove}
 use Rattle.schema_build_hierarchy.specs.Rows.{IsExternalUnderEnum, HasActionCycle, HasExternalUnderEnum}
-use Rattle.schema_build_hierarchy.proofs.Exact.{actions_total, names_tied}
-use Rattle.schema_build_hierarchy.proofs.Gathered.{contains_flat}
+use Rattle.schema_build_hierarchy.proofs.Exact.{actions_total}
 use Rattle.schema_build_hierarchy.proofs.Once.{contains_cases}
-use Rattle.schema_build_scope.specs.FragmentScope.{fragment_scope}
+use Rattle.schema_build_hierarchy.proofs.ParentsDeclared.{among_actions_held, held_some}
 use Rattle.schema_build_items.specs.ActionKinds.{tests_alone}
 use Rattle.schema_build_items.specs.Kinds.{IsKindMeaning}
 use Rattle.schema_build.specs.Meaning.{kind_meaning, FragmentMeaning}
 use Rattle.schema_build_closed.specs.Closed.{IsEntityUnder, IsActionUnder, IsTransitive, HasClosedAncestors}
-use Rattle.schema_build_closed.specs.Known.{entity_names, action_names}
-use Rattle.schema_build_closed.proofs.Chains.{reaches_through, reaches_to}
+use Rattle.schema_build_closed.specs.Known.{meant_entities, meant_actions}
+use Rattle.schema_build_closed.proofs.Chains.{reaches_to}
 use Rattle.schema_build_closed.proofs.Declared.{entity_declared, entity_stands, entity_full, action_declared}
 use Rattle.schema_build_closed.proofs.Declared.{action_stands, action_full, action_held}
-use Rattle.schema_build_closed.proofs.Known.{found_passes}
 use Rattle.schema_build_closed.proofs.Least.{none_passes}
 use Rattle.schema_build_closed.proofs.Lists.{has_none, one_member}
 use Rattle.schema_build_closed.proofs.Undeclared.{target_named}
 use Rattle.schema_build_closed.proofs.Walked.{parent_none, entity_none}
-use Rattle.schema_build_closed.proofs.Words.{free_behind, both_true, actions_held}
+use Rattle.schema_build_closed.proofs.Words.{free_behind}
 
 module _ {G : named.Ghosts RawName} (f : Fragment RawName G) (table : ExtensionTable) (m : SchemaMeaning)
     (mean : FragmentMeaning f table m) where
@@ -81,7 +85,7 @@ module _ {G : named.Ghosts RawName} (f : Fragment RawName G) (table : ExtensionT
   -- what a parent of an entity type means is declared
   module _ (none : undeclared_uses (tests_of (defined f table)) f ≡ []) where
     parent_named : (a b : List (List ℕ)) → IsParent (tests_alone f table) (declared_entities f) a b
-        → Contains (entity_names m) b
+        → Contains (meant_entities m) b
     parent_named a b (d, cd, known, cb) =
         let t = tests_of (defined f table) in
         let s = entity_stands f d cd in
@@ -94,35 +98,28 @@ module _ {G : named.Ghosts RawName} (f : Fragment RawName G) (table : ExtensionT
         let quiet = parent_none (given s.entry.0) s.item.1 (entity_none given f none d s) p written in
         target_named f table m mean s.entry.0 p b quiet
         (ap (λ ns. target_in t ns Entity p) places ∙ held_some (target_in t d.ns Entity p) b tb)
-      where
-        held_some : (o : Option (List (List ℕ))) (b : List (List ℕ)) → Contains (option_to_list o) b → o ≡ Some b
-        held_some None b c = has_none b c
-        held_some (Some x) b c = elim (contains_cases x [] b c) [
-          | inl same ↦ ap Some same
-          | inr nothing ↦ has_none b nothing
-        ]
 
     pub ancestor_named : (a b : List (List ℕ)) → IsAncestor (tests_alone f table) (declared_entities f) a b
-        → Contains (entity_names m) b
+        → Contains (meant_entities m) b
     ancestor_named = reaches_to (IsParent (tests_alone f table) (declared_entities f))
-        (λ b. Contains (entity_names m) b) parent_named
+        (λ b. Contains (meant_entities m) b) parent_named
 
   -- what a parent of an action means is declared
   target_held : (id : List ℕ) (names : List InternalName) (n : InternalName)
       → find (is_action (tests_of (defined f table)) id) names ≡ Some n
       → Contains (declared f).actions (components_of n, id)
   target_held id names n found =
-      let both = both_true _ _ (found_passes (is_action (tests_of (defined f table)) id) names n found) in
-      actions_held (declared f).actions (components_of n, id) both.1
+      let both = and_parts _ _ (found_passes (is_action (tests_of (defined f table)) id) names n found) in
+      among_actions_held (declared f).actions (components_of n, id) both.1
 
   action_parent_named : (a b : Key) → IsActionParent (tests_alone f table) (declared_actions f) a b
-      → Contains (action_names m) b
+      → Contains (meant_actions m) b
   action_parent_named a b (d, cd, known, cb) =
       let t = tests_of (defined f table) in
       let (u, cu, tb) = contains_flat (λ u. option_to_list (action_target_in t d.ns u.id u.ty)) _ b cb in
       let given = type_in_namespace (name_of d.ns) u.id u.ty in
       let (n, met, same) = given_key u.id (action_target t u.id (Some given)) b tb in
-      subst (Contains (action_names m)) same
+      subst (Contains (meant_actions m)) same
       (action_held f table m mean (components_of n, u.id) (target_held u.id given.possibilities n met))
     where
       given_key : (id : List ℕ) (o : Option InternalName) (b : Key)
@@ -135,9 +132,9 @@ module _ {G : named.Ghosts RawName} (f : Fragment RawName G) (table : ExtensionT
       ]
 
   pub action_ancestor_named : (a b : Key) → IsActionAncestor (tests_alone f table) (declared_actions f) a b
-      → Contains (action_names m) b
+      → Contains (meant_actions m) b
   action_ancestor_named = reaches_to (IsActionParent (tests_alone f table) (declared_actions f))
-      (λ b. Contains (action_names m) b) action_parent_named
+      (λ b. Contains (meant_actions m) b) action_parent_named
 
   -- an enum has no ancestors
   pub enum_rootless : (d : DeclaredEntity) → Contains (declared_entities f) d → is_enum d.ty.kind ≡ true

@@ -1,10 +1,12 @@
 -- No entity type is called `Action`, and nothing hides what the empty namespace declares.
-use Rattle.std.proofs.Common.{◌≡◌, ◌≢◌, ℕ, Bool, true, false, ◌||◌, cond, List, [], ◌∷◌, ◌++◌, Contains, Option, Some}
+use Rattle.std.proofs.Common.{◌≡◌, ◌≢◌, ℕ, Bool, true, false, cond, List, [], ◌∷◌, ◌++◌, Contains, Option, Some}
 use Rattle.std.proofs.Common.{None, codes, refl, sym, ap, ◌∙◌, subst, inl, inr, true≢false}
 use Rattle.std.specs.List.{flat_map}
 use Rattle.std.specs.Str.{bytes_eq}
 use Rattle.std.proofs.lemmas.List.Elements.{Contains-append_right}
 use Rattle.std.proofs.lemmas.Slice.Eq.{bytes_eq-Decides}
+use Rattle.std.proofs.lemmas.Bool.{or_right}
+use Rattle.cedar_data.proofs.Lists.{contains_flat, contains_unmap, contains_first, empty_behind, empty_in}
 use Rattle.cedar_identifiers.specs.Names.{components_of, has_cedar}
 use Rattle.cedar_identifiers.specs.declared.id.Id.{Id}
 use Rattle.cedar_identifiers.specs.declared.internal_name.InternalName.{InternalName}
@@ -35,17 +37,16 @@ use Rattle.schema_build_checks.specs.Least.{IsFirstLeast}
 use Rattle.schema_build_checks.specs.Rows.{Never}
 use Rattle.schema_build_hierarchy.specs.Declarations.{DeclaredEntity, action_key}
 use Rattle.schema_build_hierarchy.proofs.Exact.{actions_total}
-use Rattle.schema_build_hierarchy.proofs.Gathered.{contains_flat}
 use Rattle.schema_build_hierarchy.proofs.Once.{contains_cases}
-use Rattle.schema_build_hierarchy.proofs.Ordered.{contains_unmap}
+use Rattle.schema_build_hierarchy.proofs.ActionTypes.{last_behind}
 use Rattle.schema_build.specs.Meaning.{key_of, FragmentMeaning}
 use Rattle.schema_build_closed.specs.Closed.{HasNamesApart}
-use Rattle.schema_build_closed.specs.Known.{entity_names, action_names}
+use Rattle.schema_build_closed.specs.Known.{meant_entities, meant_actions}
 use Rattle.schema_build_closed.proofs.Declared.{EntityStands, entity_declared, entity_stands, entity_full}
 use Rattle.schema_build_closed.proofs.Declared.{action_declared, action_stands, action_full, name_there, action_there}
 use Rattle.schema_build_closed.proofs.Least.{none_least}
-use Rattle.schema_build_closed.proofs.Lists.{has_first, has_none, all_have, empty_behind, empty_in, empty_where}
-use Rattle.schema_build_closed.proofs.Words.{front, action_type_full, basename_behind, free_behind, among_there}
+use Rattle.schema_build_closed.proofs.Lists.{has_none, all_have, empty_where}
+use Rattle.schema_build_closed.proofs.Words.{front, action_type_full, free_behind, among_there}
 use Rattle.schema_build_closed.proofs.Words.{actions_there}
 
 -- the last of some words
@@ -63,11 +64,7 @@ last_word name =
 -- what is the first least stands there
 least_there : {A : Type 0} {R : A → A → _} (xs : List A) (x : A) → IsFirstLeast R xs x → Contains xs x
 least_there xs x is = subst (λ l. Contains l x) (sym is.among)
-    (Contains-append_right is.before (x ∷ is.behind) x (has_first x is.behind))
-
-or_true : (a b : Bool) → b ≡ true → (a || b) ≡ true
-or_true true b e = refl
-or_true false b e = e
+    (Contains-append_right is.before (x ∷ is.behind) x (contains_first x is.behind))
 
 module _ {G : named.Ghosts RawName} (f : Fragment RawName G) where
   none_called : Never (ActionTypeDeclared f) → called_actions f ≡ []
@@ -99,7 +96,7 @@ module _ {G : named.Ghosts RawName} (f : Fragment RawName G) where
       let entities = empty_behind (flat_map (hiding_common t (Some ns)) n.common_types) _ entry in
       let item = empty_in (hiding_entity t (Some ns)) n.entity_types x d entities in
       let off : is_hidden t x.0.id.text ≡ false = empty_where (is_hidden t x.0.id.text) _ item in
-      let on : is_hidden t x.0.id.text ≡ true = or_true (t.is_common (x.0.id.text ∷ [])) _ h in
+      let on : is_hidden t x.0.id.text ≡ true = or_right (t.is_common (x.0.id.text ∷ [])) _ h in
       absurd (true≢false (sym on ∙ off))
 
   -- the type of an action that hides another
@@ -153,26 +150,26 @@ module _ {G : named.Ghosts RawName} (f : Fragment RawName G) where
         let (d, cd, is) = entity_declared f table m mean e c in
         let s = entity_stands f d cd in
         let word : s.item.0.id.text ≡ codes "Action" =
-        sym (ap basename (is.name ∙ entity_full f d s) ∙ basename_behind (front s.entry.0) s.item.0.id.text) ∙ same in
+        sym (ap basename (is.name ∙ entity_full f d s) ∙ last_behind (front s.entry.0) s.item.0.id.text) ∙ same in
         let hit = (bytes_eq-Decides s.item.0.id.text (codes "Action")).1 word in
         absurd (true≢false (sym hit ∙ not_called never d s))
 
-    entities_apart : Never (TypeHides f) → (name : List (List ℕ)) → Contains (entity_names m) name
-        → Contains (entity_names m) (basename name ∷ []) → name ≡ basename name ∷ []
+    entities_apart : Never (TypeHides f) → (name : List (List ℕ)) → Contains (meant_entities m) name
+        → Contains (meant_entities m) (basename name ∷ []) → name ≡ basename name ∷ []
     entities_apart never name c k =
         let (e, ce, same) = contains_unmap (λ (e : EntityMeaning). e.name) m.entities name c in
         let (d, cd, is) = entity_declared f table m mean e ce in
         let s = entity_stands f d cd in
         let w = s.item.0.id.text in
         let full : name ≡ front s.entry.0 ++ w ∷ [] = sym same ∙ is.name ∙ entity_full f d s in
-        let last : basename name ≡ w = ap basename full ∙ basename_behind (front s.entry.0) w in
-        let alone : Contains (entity_names m) (w ∷ []) = subst (λ v. Contains (entity_names m) (v ∷ [])) last k in
+        let last : basename name ≡ w = ap basename full ∙ last_behind (front s.entry.0) w in
+        let alone : Contains (meant_entities m) (w ∷ []) = subst (λ v. Contains (meant_entities m) (v ∷ [])) last k in
         let there = among_there (declared f).entities (w ∷ []) (name_there f table m mean (w ∷ []) alone) in
         let empty : front s.entry.0 ≡ [] = unhidden never s.entry.0 s.entry.1 s.item s.inside s.among there in
         full ∙ ap (λ l. l ++ w ∷ []) empty ∙ ap (λ v. v ∷ []) (sym last)
 
-    actions_apart : Never (ActionHides f) → (ty : List (List ℕ)) (id : List ℕ) → Contains (action_names m) (ty, id)
-        → Contains (action_names m) (plain_action, id) → ty ≡ plain_action
+    actions_apart : Never (ActionHides f) → (ty : List (List ℕ)) (id : List ℕ) → Contains (meant_actions m) (ty, id)
+        → Contains (meant_actions m) (plain_action, id) → ty ≡ plain_action
     actions_apart never ty id c k =
         let (a, ca, same) = contains_unmap key_of m.actions (ty, id) c in
         let (d, cd, is) = action_declared f table m mean a ca in
@@ -182,7 +179,7 @@ module _ {G : named.Ghosts RawName} (f : Fragment RawName G) where
         let ids : id ≡ s.item.0 = sym (ap (λ z. z.1) key) ∙ ap (λ z. (action_key z).1) (sym s.is) in
         let there = actions_there (declared f).actions (plain_action, s.item.0)
         (action_there f table m mean (plain_action, s.item.0)
-        (subst (λ i. Contains (action_names m) (plain_action, i)) ids k)) in
+        (subst (λ i. Contains (meant_actions m) (plain_action, i)) ids k)) in
         let empty : front s.entry.0 ≡ [] = unhidden_action never s.entry.0 s.entry.1 s.item s.inside s.among there in
         full ∙ ap (λ l. l ++ codes "Action" ∷ []) empty
 

@@ -1,7 +1,7 @@
 -- What another schema declares has nothing but a name and ancestors.
-use Rattle.std.proofs.Common.{◌≡◌, ℕ, Bool, true, false, not, ◌&&◌, List, [], ◌∷◌, Option, Some, None, refl, sym, ap}
+use Rattle.std.proofs.Common.{◌≡◌, ℕ, Bool, true, false, not, ◌&&◌, List, [], ◌∷◌, Option, refl, sym, ap}
 use Rattle.std.proofs.Common.{◌∙◌, subst, true≢false}
-use Rattle.std.specs.Prelude.{is_none}
+use Rattle.cedar_data.proofs.Lists.{empty_before}
 use Rattle.cedar_identifiers.specs.declared.internal_name.InternalName.{InternalName}
 use Rattle.cedar_identifiers.specs.declared.name.Name.{Name}
 use Rattle.cedar_identifiers.specs.declared.name_text.NameText as named
@@ -9,6 +9,7 @@ use Rattle.cedar_identifiers.specs.declared.raw_name.RawName.{RawName}
 use Rattle.cedar_names.specs.Meaning.{PlainType, Attributes, no_more}
 use Rattle.cedar_names.specs.Meaning as plain
 use Rattle.schema_json.specs.Shapes.{attributes_of, is_open, is_empty_type, is_empty_record}
+use Rattle.schema_json.specs.Shapes.{has_none, is_empty_shape, is_empty_outside}
 use Rattle.schema_json.specs.declared.action_type.ActionType.{ActionType}
 use Rattle.schema_json.specs.declared.entity_type.EntityType.{EntityType}
 use Rattle.schema_json.specs.declared.fragment.Fragment.{Fragment}
@@ -21,44 +22,32 @@ use Rattle.schema_json_walk.specs.Parts.{Part}
 use Rattle.schema_json_walk.specs.Walk.{of_kind, of_entity, of_action, of_action_parts, of_fragment}
 use Rattle.schema_build_errors.specs.declared.schema_error.SchemaError.TheVariants as error
 use Rattle.schema_build_errors.specs.declared.use_errors.UnsupportedFeature.{UnsupportedFeature}
-use Rattle.schema_build_checks.specs.Refusing.{IsAboutFirst}
-use Rattle.schema_build_checks.specs.Rows.{Never}
-use Rattle.schema_build_checks.specs.WalkFaults.{unsupported, NamesFeature, HasUnsupported}
 use Rattle.schema_build_expand.specs.Expands.{Expands, by_layer, LayerExpands, to_bool, to_long, to_string, to_set}
 use Rattle.schema_build_expand.specs.Expands.{to_record, to_extension, to_entity, to_builtin, to_declared, ExpandAll}
 use Rattle.schema_build_expand.specs.Expands.{to_no_attributes, to_attribute}
 use Rattle.schema_build_expand.specs.Scope.{Scope}
 use Rattle.schema_build_expand.specs.View.{View, outer_view, shape_view, record_layer, view}
-use Rattle.schema_build_closed.proofs.Lists.{empty_before, empty_where}
+use Rattle.schema_build_checks.specs.Refusing.{IsAboutFirst}
+use Rattle.schema_build_checks.specs.Rows.{Never}
+use Rattle.schema_build_checks.specs.WalkFaults.{unsupported, NamesFeature, HasUnsupported}
+use Rattle.schema_build_closed.proofs.Lists.{empty_where}
 
 abbrev Entry : Type 0
 Entry = List ℕ × TypeOfAttribute RawName
 
-abbrev holds_none : List Entry → Bool
-holds_none [] = true
-holds_none (e ∷ es) = false
-
 abbrev pub ShapeOf : Type 0
 ShapeOf = TypeVariant-F RawName («Type» RawName) (TypeVariant RawName) (RecordType RawName) (TypeOfAttribute RawName)
-
-abbrev pub empty_shape : ShapeOf → Bool
-empty_shape (TypeVariant-F.Record r) = is_empty_record r
-empty_shape _ = false
 
 abbrev pub OuterOf : Type 0
 OuterOf = Type-F RawName («Type» RawName) (TypeVariant RawName) (RecordType RawName) (TypeOfAttribute RawName)
 
-abbrev pub empty_outside : OuterOf → Bool
-empty_outside (Type-F.Variant ty loc) = empty_shape (out-TypeVariant RawName ty)
-empty_outside (Type-F.CommonTypeRef name loc) = false
-
-pub alike_record : (r : RecordType RawName) → is_empty_record r ≡ (holds_none (attributes_of r) && not (is_open r))
+pub alike_record : (r : RecordType RawName) → is_empty_record r ≡ (has_none (attributes_of r) && not (is_open r))
 alike_record r = refl
 
-pub alike_type : (t : «Type» RawName) → is_empty_type t ≡ empty_outside (out-Type RawName t)
+pub alike_type : (t : «Type» RawName) → is_empty_type t ≡ is_empty_outside (out-Type RawName t)
 alike_type t = refl
 
-entries_none : (es : List Entry) (b : Bool) → (holds_none es && not b) ≡ true → es ≡ []
+entries_none : (es : List Entry) (b : Bool) → (has_none es && not b) ≡ true → es ≡ []
 entries_none [] b e = refl
 entries_none (x ∷ xs) b e = absurd (cc)
 
@@ -66,7 +55,7 @@ entries_none (x ∷ xs) b e = absurd (cc)
 IsEmptyLayer : View RawName → Type 0
 IsEmptyLayer v = (b : Bool) × (v ≡ record_layer b [])
 
-shape_none : (v : ShapeOf) → empty_shape v ≡ true → IsEmptyLayer (shape_view v)
+shape_none : (v : ShapeOf) → is_empty_shape v ≡ true → IsEmptyLayer (shape_view v)
 unfolding IsEmptyLayer
 shape_none (TypeVariant-F.Record r) e = (
   is_open r,
@@ -81,7 +70,7 @@ shape_none (TypeVariant-F.Entity name) e = absurd (cc)
 shape_none (TypeVariant-F.EntityOrCommon name) e = absurd (cc)
 shape_none (TypeVariant-F.Extension name) e = absurd (cc)
 
-outside_none : (o : OuterOf) → empty_outside o ≡ true → IsEmptyLayer (outer_view o)
+outside_none : (o : OuterOf) → is_empty_outside o ≡ true → IsEmptyLayer (outer_view o)
 outside_none (Type-F.Variant ty loc) e = shape_none (out-TypeVariant RawName ty) e
 outside_none (Type-F.CommonTypeRef name loc) e = absurd (cc)
 
@@ -116,10 +105,6 @@ module _ (s : Scope RawName) where
       → Expands RawName s ns t (plain.Rec xs) → xs ≡ no_more
   empty_means ns t xs e h =
       type_none ns t (plain.Rec xs) h (outside_none (out-Type RawName t) (sym (alike_type t) ∙ e)) xs refl
-
-pub no_value : {A : Type 0} (o : Option A) → is_none o ≡ true → o ≡ None
-no_value None e = refl
-no_value (Some a) e = absurd (cc)
 
 -- features that no schema has are in no part
 abbrev features : Option Name → Part RawName → List UnsupportedFeature

@@ -1,6 +1,7 @@
 -- What a formed fragment without a build fault means is closed, where it is not half filled.
 use Rattle.std.proofs.Common.{ℕ, Bool, true, false, List, Contains, Option, Some, None, inl, inr}
 use Rattle.std.specs.List.{AllByRecursion}
+use Rattle.cedar_data.proofs.Lists.{contains_map}
 use Rattle.cedar_identifiers.specs.declared.name_text.NameText as named
 use Rattle.cedar_identifiers.specs.declared.raw_name.RawName.{RawName}
 use Rattle.cedar_names.specs.Meaning.{PlainType, EntityMeaning, ActionMeaning, SchemaMeaning}
@@ -10,10 +11,9 @@ use Rattle.schema_readback.specs.Printed.{IsProperPath}
 use Rattle.schema_says.specs.MeantNames.{AreSpelledTags, HasChoice, IsSpelledEntity, IsSpelledAction, IsOfWords}
 use Rattle.schema_build_text.specs.Captured.{IsUncaptured}
 use Rattle.schema_build_checks.specs.Rows.{Never}
-use Rattle.schema_build_hierarchy.proofs.Ordered.{contains_map}
 use Rattle.schema_build_parts.specs.BuildFaults.{BuildFault}
 use Rattle.schema_build.specs.Meaning.{FragmentMeaning}
-use Rattle.schema_build_closed.specs.Known.{entity_names, action_names, IsKnownName, AreKnownTags}
+use Rattle.schema_build_closed.specs.Known.{meant_entities, meant_actions, IsKnownName, AreKnownTags}
 use Rattle.schema_build_closed.specs.Closed.{IsClosedEntity, IsClosedAction, IsClosed}
 use Rattle.schema_build_closed.specs.HalfFilled.{IsHalfFilled}
 use Rattle.schema_build_closed.specs.Kinds.{HasBothOrNeither, AppliesWhereOwn}
@@ -36,10 +36,10 @@ use Rattle.schema_build_closed.proofs.Undefined.{none_untyped}
 -- a meaning whose known names are made of words is made of words, where its entries are closed
 module _ (table : ExtensionTable) (m : SchemaMeaning)
     (proper : (n : List (List ℕ)) → IsKnownName m n → IsProperPath n) where
-  all_proper : (names : List (List (List ℕ))) → AllByRecursion (λ n. Contains (entity_names m) n) names
+  all_proper : (names : List (List (List ℕ))) → AllByRecursion (λ n. Contains (meant_entities m) n) names
       → AllByRecursion IsProperPath names
   all_proper names h = all_have IsProperPath names
-      (λ n c. proper n (inl (each_has (λ n. Contains (entity_names m) n) names n h c)))
+      (λ n c. proper n (inl (each_has (λ n. Contains (meant_entities m) n) names n h c)))
 
   tags_spelled : (t : Option PlainType) → AreKnownTags table m t → AreSpelledTags t
   tags_spelled None h = tt
@@ -60,7 +60,7 @@ module _ (table : ExtensionTable) (m : SchemaMeaning)
     ty = proper a.ty (inr (contains_map (λ (a : ActionMeaning). a.ty) m.actions a c));
     ancestors = all_have (λ b. IsProperPath b.0) a.ancestors
         (λ b cb.
-        let named = each_has (λ n. Contains (action_names m) n) a.ancestors b h.ancestors cb in
+        let named = each_has (λ n. Contains (meant_actions m) n) a.ancestors b h.ancestors cb in
         proper b.0 (inr (type_named m b named)));
     principals = all_proper a.principals h.principals;
     resources = all_proper a.resources h.resources;

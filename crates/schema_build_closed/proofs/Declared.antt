@@ -1,6 +1,7 @@
 -- What a fragment declares and what it means.
-use Rattle.std.proofs.Common.{◌≡◌, ℕ, List, [], ◌∷◌, ◌++◌, Contains, Option, Some, None, codes, refl, sym, ap, ◌∙◌}
+use Rattle.std.proofs.Common.{◌≡◌, ℕ, List, [], ◌∷◌, ◌++◌, Contains, Option, codes, sym, ap, ◌∙◌}
 use Rattle.std.proofs.Common.{subst}
+use Rattle.cedar_data.proofs.Lists.{contains_flat, contains_map, contains_unmap}
 use Rattle.cedar_identifiers.specs.Names.{components_of}
 use Rattle.cedar_identifiers.specs.declared.name.Name.{Name}
 use Rattle.cedar_identifiers.specs.declared.name_text.NameText as named
@@ -12,22 +13,17 @@ use Rattle.schema_json.specs.declared.action_type.ActionType.{ActionType}
 use Rattle.schema_json.specs.declared.entity_type.EntityType.{EntityType}
 use Rattle.schema_json.specs.declared.fragment.Fragment.{Fragment}
 use Rattle.schema_json.specs.declared.fragment.NamespaceDefinition.{NamespaceDefinition}
-use Rattle.schema_resolve_definitions.specs.Declarations.{declared, declared_name, entities_in, actions_in, action_type}
+use Rattle.schema_resolve_definitions.specs.Declarations.{declared, declared_name, entities_in, actions_in}
+use Rattle.schema_resolve_definitions.specs.Declarations.{action_type}
 use Rattle.schema_build_checks.specs.DeclaredAt.{ActionAt}
 use Rattle.schema_build_hierarchy.specs.Declarations.{Declared, DeclaredEntity, entity_name, entity_in, entities_of}
 use Rattle.schema_build_hierarchy.specs.Declarations.{declared_entities, action_key, action_in, actions_of}
 use Rattle.schema_build_hierarchy.specs.Declarations.{declared_actions}
-use Rattle.schema_build_hierarchy.proofs.Gathered.{contains_flat}
-use Rattle.schema_build_hierarchy.proofs.Ordered.{contains_map, contains_unmap}
+use Rattle.schema_build_hierarchy.proofs.ParentsDeclared.{flat_contains, name_at}
 use Rattle.schema_build.specs.Meaning.{key_of, IsEntityMeaning, IsActionMeaning, FragmentMeaning}
-use Rattle.schema_build_closed.specs.Known.{entity_names, action_names, action_types}
-use Rattle.schema_build_closed.proofs.Lists.{in_flat, beside_left, beside_right}
+use Rattle.schema_build_closed.specs.Known.{meant_entities, meant_actions, action_types}
+use Rattle.schema_build_closed.proofs.Lists.{beside_left, beside_right}
 use Rattle.schema_build_closed.proofs.Words.{front, full_name, action_type_full}
-
-name_at : (ns : Option Name) (e : UnreservedId × EntityType RawName)
-    → components_of (declared_name ns e.0.id) ≡ entity_name (entity_in ns e)
-name_at None e = refl
-name_at (Some n) e = refl
 
 module _ {G : named.Ghosts RawName} (f : Fragment RawName G) where
   -- where an entity type is declared
@@ -97,37 +93,37 @@ module _ {G : named.Ghosts RawName} (f : Fragment RawName G) where
 
     -- the names of what is declared are those of the meaning
     pub entity_named : (d : DeclaredEntity) → Contains (declared_entities f) d
-        → Contains (entity_names m) (entity_name d)
+        → Contains (meant_entities m) (entity_name d)
     entity_named d c =
         let (e, ce, is) = entity_meant d c in
-        subst (Contains (entity_names m)) is.name (contains_map (λ e. e.name) m.entities e ce)
+        subst (Contains (meant_entities m)) is.name (contains_map (λ e. e.name) m.entities e ce)
 
     pub action_named : (d : Declared ActionAt (ActionType RawName G)) → Contains (declared_actions f) d
-        → Contains (action_names m) (action_key d)
+        → Contains (meant_actions m) (action_key d)
     action_named d c =
         let (a, ca, is) = action_meant d c in
-        subst (Contains (action_names m)) is.key (contains_map key_of m.actions a ca)
+        subst (Contains (meant_actions m)) is.key (contains_map key_of m.actions a ca)
 
-    pub entity_held : (b : List (List ℕ)) → Contains (declared f).entities b → Contains (entity_names m) b
+    pub entity_held : (b : List (List ℕ)) → Contains (declared f).entities b → Contains (meant_entities m) b
     entity_held b c =
         let (e, ce, cb) = contains_flat (λ e. entities_in e.0 e.1) f.0 b c in
         let (x, cx, same) = contains_unmap (λ x. components_of (declared_name e.0 x.0.id)) e.1.entity_types b cb in
         let d = entity_in e.0 x in
         let there : Contains (declared_entities f) d =
-        in_flat entities_of f.0 e d ce (contains_map (entity_in e.0) e.1.entity_types x cx) in
-        subst (Contains (entity_names m)) (sym (name_at e.0 x) ∙ same) (entity_named d there)
+        flat_contains entities_of f.0 e d ce (contains_map (entity_in e.0) e.1.entity_types x cx) in
+        subst (Contains (meant_entities m)) (sym (name_at e.0 x) ∙ same) (entity_named d there)
 
-    pub action_held : (b : List (List ℕ) × List ℕ) → Contains (declared f).actions b → Contains (action_names m) b
+    pub action_held : (b : List (List ℕ) × List ℕ) → Contains (declared f).actions b → Contains (meant_actions m) b
     action_held b c =
         let (e, ce, cb) = contains_flat (λ e. actions_in e.0 e.1) f.0 b c in
         let (x, cx, same) = contains_unmap (λ x. (components_of (action_type e.0), x.0)) e.1.actions b cb in
         let d = action_in e.0 x in
         let there : Contains (declared_actions f) d =
-        in_flat actions_of f.0 e d ce (contains_map (action_in e.0) e.1.actions x cx) in
-        subst (Contains (action_names m)) same (action_named d there)
+        flat_contains actions_of f.0 e d ce (contains_map (action_in e.0) e.1.actions x cx) in
+        subst (Contains (meant_actions m)) same (action_named d there)
 
     -- the names of the meaning are declared
-    pub name_there : (b : List (List ℕ)) → Contains (entity_names m) b → Contains (declared f).entities b
+    pub name_there : (b : List (List ℕ)) → Contains (meant_entities m) b → Contains (declared f).entities b
     name_there b c =
         let (e, ce, same) = contains_unmap (λ e. e.name) m.entities b c in
         let (d, cd, is) = entity_declared e ce in
@@ -135,22 +131,22 @@ module _ {G : named.Ghosts RawName} (f : Fragment RawName G) where
         let here = contains_map (λ x. components_of (declared_name s.entry.0 x.0.id)) s.entry.1.entity_types s.item
         s.among in
         let there : Contains (declared f).entities (components_of (declared_name s.entry.0 s.item.0.id)) =
-        in_flat (λ e. entities_in e.0 e.1) f.0 s.entry _ s.inside here in
+        flat_contains (λ e. entities_in e.0 e.1) f.0 s.entry _ s.inside here in
         subst (Contains (declared f).entities)
         (name_at s.entry.0 s.item ∙ ap entity_name s.is ∙ sym is.name ∙ same) there
 
-    pub action_there : (b : List (List ℕ) × List ℕ) → Contains (action_names m) b → Contains (declared f).actions b
+    pub action_there : (b : List (List ℕ) × List ℕ) → Contains (meant_actions m) b → Contains (declared f).actions b
     action_there b c =
         let (a, ca, same) = contains_unmap key_of m.actions b c in
         let (d, cd, is) = action_declared a ca in
         let s = action_stands d cd in
         let here = contains_map (λ x. (components_of (action_type s.entry.0), x.0)) s.entry.1.actions s.item s.among in
         let there : Contains (declared f).actions (components_of (action_type s.entry.0), s.item.0) =
-        in_flat (λ e. actions_in e.0 e.1) f.0 s.entry _ s.inside here in
+        flat_contains (λ e. actions_in e.0 e.1) f.0 s.entry _ s.inside here in
         subst (Contains (declared f).actions) (ap action_key s.is ∙ sym is.key ∙ same) there
 
 -- the type of a named action
-pub type_named : (m : SchemaMeaning) (k : List (List ℕ) × List ℕ) → Contains (action_names m) k
+pub type_named : (m : SchemaMeaning) (k : List (List ℕ) × List ℕ) → Contains (meant_actions m) k
     → Contains (action_types m) k.0
 type_named m k c =
     let (a, ca, same) = contains_unmap key_of m.actions k c in

@@ -4,8 +4,10 @@ use Rattle.std.proofs.Common.{ap, ◌∙◌, subst, true≢false}
 use Rattle.std.specs.Prelude.{is_none}
 use Rattle.std.specs.List.{AllByRecursion}
 use Rattle.std.specs.List.Sorted.{IsStrictlySortedBy}
-use Rattle.std.specs.declared.cmp.Ordering.{Ordering}
+use Rattle.std.proofs.lemmas.Bool.{and_parts}
 use Rattle.cedar_data.specs.Text.{text_cmp}
+use Rattle.cedar_data.proofs.Options.{none_from_test}
+use Rattle.cedar_data.proofs.Orders.{nothing_rises}
 use Rattle.cedar_identifiers.specs.declared.eid.Eid.{Eid}
 use Rattle.cedar_identifiers.specs.declared.internal_name.InternalName.{InternalName}
 use Rattle.cedar_identifiers.specs.declared.name_text.NameText as named
@@ -20,18 +22,18 @@ use Rattle.schema_json.specs.declared.entity_type.EntityTypeKind.{EntityTypeKind
 use Rattle.schema_json.specs.declared.entity_type.EntityTypeKind.TheVariants.{Standard, Enum}
 use Rattle.schema_json.specs.declared.fragment.Fragment.{Fragment}
 use Rattle.schema_json.specs.declared.types.Type.{«Type»}
+use Rattle.schema_readback.specs.PrintedDecls.{IsSome}
+use Rattle.schema_says.specs.MeantNames.{HasChoice}
 use Rattle.schema_json_walk.specs.Bare.{is_bare_kind, is_bare_action}
 use Rattle.schema_json_walk.specs.Parts.{principal, resource}
 use Rattle.schema_json_walk.specs.Walk.{of_fragment}
-use Rattle.schema_readback.specs.PrintedDecls.{IsSome}
-use Rattle.schema_says.specs.MeantNames.{HasChoice}
 use Rattle.schema_resolve_definitions.specs.Declarations.{name_of, declared}
 use Rattle.schema_resolve_definitions.specs.Defined.{defined}
 use Rattle.schema_resolve_definitions.specs.Tests.{Tests, tests_of}
-use Rattle.schema_build_checks.specs.DeclaredAt.{ActionAt}
-use Rattle.schema_build_checks.specs.WalkFaults.{unsupported}
 use Rattle.schema_build_expand.specs.Expands.{Expands}
 use Rattle.schema_build_expand.specs.Scope.{Scope}
+use Rattle.schema_build_checks.specs.DeclaredAt.{ActionAt}
+use Rattle.schema_build_checks.specs.WalkFaults.{unsupported}
 use Rattle.schema_build_scope.specs.FragmentScope.{fragment_scope}
 use Rattle.schema_build_hierarchy.specs.Declarations.{Declared, DeclaredEntity, declared_actions}
 use Rattle.schema_build_hierarchy.specs.Rows.{undeclared_part, undeclared_uses, is_enum}
@@ -40,26 +42,21 @@ use Rattle.schema_build_items.specs.Kinds.{TagsExpand, IsKindMeaning}
 use Rattle.schema_build.specs.Meaning.{kind_meaning, apply_meaning, IsActionMeaning, FragmentMeaning}
 use Rattle.schema_build_closed.specs.Ordered.{IsOrderedType}
 use Rattle.schema_build_closed.specs.Kinds.{HasItsParts, HasBothOrNeither, AppliesWhereOwn}
-use Rattle.schema_build_closed.specs.Known.{entity_names, action_names, AreKnownTypes, AreKnownTags}
+use Rattle.schema_build_closed.specs.Known.{meant_entities, meant_actions, AreKnownTypes, AreKnownTags}
 use Rattle.schema_build_closed.specs.Closed.{IsClosedEntity, IsClosedAction}
 use Rattle.schema_build_closed.specs.Formed.{ContextRises, IsFormed}
 use Rattle.schema_build_closed.specs.WellFormed.{TagsRise, IsKindFormed}
 use Rattle.schema_build_closed.proofs.Above.{ancestor_named, action_ancestor_named, enum_rootless}
-use Rattle.schema_build_closed.proofs.Bare.{empty_means, no_value, entity_bare, action_bare}
+use Rattle.schema_build_closed.proofs.Bare.{empty_means, entity_bare, action_bare}
 use Rattle.schema_build_closed.proofs.Declared.{entity_declared, entity_stands, action_declared, action_stands}
 use Rattle.schema_build_closed.proofs.Formed.{rising_ordered, kind_formed, context_rises}
 use Rattle.schema_build_closed.proofs.Known.{known}
 use Rattle.schema_build_closed.proofs.Lists.{all_have, no_members}
 use Rattle.schema_build_closed.proofs.Undeclared.{target_named}
 use Rattle.schema_build_closed.proofs.Walked.{entity_none, action_none, principal_none, resource_none}
-use Rattle.schema_build_closed.proofs.Words.{both_true}
-
-none_rises : {A : Type 0} (R : A → A → Ordering) → IsStrictlySortedBy R []
-unfolding IsStrictlySortedBy
-none_rises R = tt
 
 none_ordered : IsOrderedType (plain.Rec no_more)
-none_ordered = (none_rises text_cmp, tt)
+none_ordered = (nothing_rises text_cmp, tt)
 
 module _ {G : named.Ghosts RawName} (f : Fragment RawName G) (table : ExtensionTable) (m : SchemaMeaning)
     (mean : FragmentMeaning f table m) (is_formed : IsFormed f)
@@ -89,9 +86,9 @@ module _ {G : named.Ghosts RawName} (f : Fragment RawName G) (table : ExtensionT
       → (external ≡ true → is_bare_kind kind ≡ true) → (is_enum kind ≡ true → e.ancestors ≡ [])
       → e.choices ≡ choices → HasItsParts external choices e
   parts_by e ns (Standard k) true choices km b none same =
-      let both = both_true (is_empty_type k.shape.0) (is_none k.tags) (b refl) in (
+      let both = and_parts (is_empty_type k.shape.0) (is_none k.tags) (b refl) in (
         empty_means scope ns k.shape.0 e.attributes both.0 km.0,
-        no_tags ns k.tags e.tags km.1 (no_value k.tags both.1),
+        no_tags ns k.tags e.tags km.1 (none_from_test k.tags both.1),
         sym same ∙ km.2,
       )
   parts_by e ns (Enum ids) true choices km b none same = absurd (true≢false (sym (b refl)))
@@ -144,7 +141,7 @@ module _ {G : named.Ghosts RawName} (f : Fragment RawName G) (table : ExtensionT
         parts = subst (λ x. HasItsParts x e.choices e) (sym is.is_external)
             (parts_by e ns d.ty.kind d.ty.external e.choices is.kind own rootless refl);
         ancestors_rise = is.ancestors.rising;
-        ancestors = all_have (λ name. Contains (entity_names m) name) e.ancestors
+        ancestors = all_have (λ name. Contains (meant_entities m) name) e.ancestors
             (λ b cb. ancestor_named f table m mean undeclared _ b ((is.ancestors.just b).0 cb));
         ordered = ordered_by e ns d.ty.kind is.kind r;
         attributes = attributes_by e ns d.ty.kind is.kind;
@@ -162,8 +159,8 @@ module _ {G : named.Ghosts RawName} (f : Fragment RawName G) (table : ExtensionT
         → AreJust components_cmp (IsMeantByOne all_tests d.ns names) found
         → ((p : RawName) → Contains names p
         → undeclared_part all_tests (tests_of (declared f)) d.ns (principal p) ≡ [])
-        → AllByRecursion (λ name. Contains (entity_names m) name) found
-    named_all names found just quiet = all_have (λ name. Contains (entity_names m) name) found
+        → AllByRecursion (λ name. Contains (meant_entities m) name) found
+    named_all names found just quiet = all_have (λ name. Contains (meant_entities m) name) found
         (λ b cb.
         let (p, cp, e) = (just.just b).0 cb in
         target_named f table m mean d.ns p b (quiet p cp) e)
@@ -178,8 +175,8 @@ module _ {G : named.Ghosts RawName} (f : Fragment RawName G) (table : ExtensionT
         let own : (d.ty.external ≡ true → is_bare_action d.ty ≡ true) =
         subst (λ (z : Declared ActionAt (ActionType RawName G)). z.ty.external ≡ true → is_bare_action z.ty ≡ true)
         s.is (action_bare s.item.1 (action_none (λ ns part. unsupported part) f bare d s)) in
-        let both = both_true (is_none d.ty.attributes) (is_none d.ty.applies_to) (own x) in
-        absurd (let no : Some spec ≡ None = sym e ∙ no_value d.ty.applies_to both.1 in cc)
+        let both = and_parts (is_none d.ty.attributes) (is_none d.ty.applies_to) (own x) in
+        absurd (let no : Some spec ≡ None = sym e ∙ none_from_test d.ty.applies_to both.1 in cc)
     applies_by spec e am false x filled = filled
 
     closed_by : (spec : Option (ApplySpec RawName)) → d.ty.applies_to ≡ spec
@@ -188,12 +185,12 @@ module _ {G : named.Ghosts RawName} (f : Fragment RawName G) (table : ExtensionT
     closed_by None e am r own = record {
       applies = own;
       ancestors_rise = is.ancestors.rising;
-      ancestors = all_have (λ name. Contains (action_names m) name) a.ancestors
+      ancestors = all_have (λ name. Contains (meant_actions m) name) a.ancestors
           (λ b cb. action_ancestor_named f table m mean _ b ((is.ancestors.just b).0 cb));
-      principals_rise = subst (IsStrictlySortedBy components_cmp) (sym am.0) (none_rises components_cmp);
-      principals = subst (AllByRecursion (λ name. Contains (entity_names m) name)) (sym am.0) tt;
-      resources_rise = subst (IsStrictlySortedBy components_cmp) (sym am.1) (none_rises components_cmp);
-      resources = subst (AllByRecursion (λ name. Contains (entity_names m) name)) (sym am.1) tt;
+      principals_rise = subst (IsStrictlySortedBy components_cmp) (sym am.0) (nothing_rises components_cmp);
+      principals = subst (AllByRecursion (λ name. Contains (meant_entities m) name)) (sym am.0) tt;
+      resources_rise = subst (IsStrictlySortedBy components_cmp) (sym am.1) (nothing_rises components_cmp);
+      resources = subst (AllByRecursion (λ name. Contains (meant_entities m) name)) (sym am.1) tt;
       ordered = subst (λ xs. IsOrderedType (plain.Rec xs)) (sym am.2) none_ordered;
       context = subst (AreKnownTypes table m) (sym am.2) tt;
     }
@@ -207,7 +204,7 @@ module _ {G : named.Ghosts RawName} (f : Fragment RawName G) (table : ExtensionT
         record {
           applies = own;
           ancestors_rise = is.ancestors.rising;
-          ancestors = all_have (λ name. Contains (action_names m) name) a.ancestors
+          ancestors = all_have (λ name. Contains (meant_actions m) name) a.ancestors
               (λ b cb. action_ancestor_named f table m mean _ b ((is.ancestors.just b).0 cb));
           principals_rise = am.0.rising;
           principals = named_all spec.principal_types a.principals am.0

@@ -1,6 +1,7 @@
 -- Each action of what a well-formed fragment means has principals and resources, or neither and no context.
 use Rattle.std.proofs.Common.{◌≡◌, ℕ, List, [], ◌∷◌, All, Contains, Option, Some, None, refl, sym, ap, ◌∙◌, subst}
 use Rattle.std.proofs.lemmas.List.Elements.{All-contains, All-weaker}
+use Rattle.cedar_data.proofs.Lists.{contains_first}
 use Rattle.cedar_identifiers.specs.declared.name_text.NameText as named
 use Rattle.cedar_identifiers.specs.declared.raw_name.RawName.{RawName}
 use Rattle.cedar_names.specs.Meaning.{Attributes, no_more, attribute, ActionMeaning, SchemaMeaning}
@@ -15,9 +16,9 @@ use Rattle.schema_json_walk.specs.Walk.{of_fragment}
 use Rattle.schema_resolve_definitions.specs.Declarations.{name_of}
 use Rattle.schema_resolve_definitions.specs.Defined.{defined}
 use Rattle.schema_resolve_definitions.specs.Tests.{Tests, tests_of}
-use Rattle.schema_build_checks.specs.DeclaredAt.{ActionAt}
 use Rattle.schema_build_expand.specs.Expands.{Expands}
 use Rattle.schema_build_expand.specs.Scope.{Scope}
+use Rattle.schema_build_checks.specs.DeclaredAt.{ActionAt}
 use Rattle.schema_build_scope.specs.FragmentScope.{fragment_scope}
 use Rattle.schema_build_hierarchy.specs.Declarations.{Declared, declared_actions}
 use Rattle.schema_build_items.specs.ActionKinds.{components_cmp, AreJust, IsMeantByOne, IsApplyMeaning}
@@ -28,7 +29,7 @@ use Rattle.schema_build_closed.specs.Formed.{ContextRises, IsFormed}
 use Rattle.schema_build_closed.specs.WellFormed.{AreRolesFormed, IsSpecFormed, IsWellFormed}
 use Rattle.schema_build_closed.proofs.Bare.{empty_means}
 use Rattle.schema_build_closed.proofs.Declared.{ActionStands, action_declared, action_stands}
-use Rattle.schema_build_closed.proofs.Lists.{has_first, has_none, no_members}
+use Rattle.schema_build_closed.proofs.Lists.{has_none, no_members}
 use Rattle.schema_build_closed.proofs.Undefined.{untyped, target_there}
 use Rattle.schema_build_closed.proofs.Walked.{action_none, principal_none, resource_none}
 
@@ -111,7 +112,7 @@ module _ {G : named.Ghosts RawName} (f : Fragment RawName G) (formed : IsWellFor
           → untyped all_tests d.ns (principal p) ≡ [] → (b : List (List ℕ)) × Contains found b
       meant_one p names found just quiet =
           let (b, e) = target_there all_tests d.ns p quiet in
-          (b, (just.just b).1 (p, has_first p names, e))
+          (b, (just.just b).1 (p, contains_first p names, e))
 
       none_meant : (found : List (List (List ℕ))) → AreJust components_cmp (IsMeantByOne all_tests d.ns []) found
           → found ≡ []
@@ -131,8 +132,8 @@ module _ {G : named.Ghosts RawName} (f : Fragment RawName G) (formed : IsWellFor
       roles_by [] (q ∷ qs) context ps rs x r quiet also = absurd r
       roles_by (p ∷ ns) [] context ps rs x r quiet also = absurd r
       roles_by (p ∷ ns) (q ∷ qs) context ps rs x r quiet also =
-          let (b, cb) = meant_one p ns a.principals ps (quiet p (has_first p ns)) in
-          let (k, ck) = meant_one q qs a.resources rs (also q (has_first q qs)) in
+          let (b, cb) = meant_one p ns a.principals ps (quiet p (contains_first p ns)) in
+          let (k, ck) = meant_one q qs a.resources rs (also q (contains_first q qs)) in
           both_there a.principals a.resources a.context b k cb ck
 
       filled_by : (spec : Option (ApplySpec RawName)) → d.ty.applies_to ≡ spec

@@ -8,9 +8,11 @@ use Rattle.std.specs.List.Sorted.{IsStrictlySortedBy}
 use Rattle.std.specs.Ordering.{is_eq, ordering_reverse, match_ordering}
 use Rattle.std.proofs.lemmas.Cmp.{tied_itself}
 use Rattle.std.proofs.lemmas.List.Elements.{All-from_recursion}
+use Rattle.cedar_data.proofs.Lists.{contains_first, contains_later}
+use Rattle.cedar_data.proofs.Orders.{all_above}
 use Rattle.schema_build_hierarchy.specs.FirstUses.{IsFirstUse, HasAlike, AreFirstUses}
 use Rattle.schema_build_hierarchy.proofs.Once.{contains_cases}
-use Rattle.schema_build_closed.proofs.Lists.{has_first, has_later, has_none}
+use Rattle.schema_build_closed.proofs.Lists.{has_none}
 
 module _ {A : Type 0} {R : A → A → Ordering} (o : IsTotalOrder R) where
   -- the item in its place, and in place of one that is alike
@@ -41,11 +43,6 @@ module _ {A : Type 0} {R : A → A → Ordering} (o : IsTotalOrder R) where
       by_case Equal e more = subst (AllByRecursion P) (sym (put_is x y ys Equal e)) (p, h.1)
       by_case Greater e more = subst (AllByRecursion P) (sym (put_is x y ys Greater e)) (h.0, more)
 
-  below_all : (x y : A) (ys : List A) → R x y ≡ Less → AllByRecursion (λ z. R y z ≡ Less) ys
-      → AllByRecursion (λ z. R x z ≡ Less) ys
-  below_all x y [] e h = tt
-  below_all x y (z ∷ ys) e h = (o.trans x y z e h.0, below_all x y ys e h.1)
-
   alike_all : (x y : A) (ys : List A) → R x y ≡ Equal → AllByRecursion (λ z. R y z ≡ Less) ys
       → AllByRecursion (λ z. R x z ≡ Less) ys
   alike_all x y [] e h = tt
@@ -58,7 +55,7 @@ module _ {A : Type 0} {R : A → A → Ordering} (o : IsTotalOrder R) where
     where
       by_case : (c : Ordering) → R x y ≡ c → IsStrictlySortedBy R (put x ys) → IsStrictlySortedBy R (put x (y ∷ ys))
       by_case Less e more =
-          subst (IsStrictlySortedBy R) (sym (put_is x y ys Less e)) ((e, below_all x y ys e up.0), up)
+          subst (IsStrictlySortedBy R) (sym (put_is x y ys Less e)) ((e, all_above o x y ys e up.0), up)
       by_case Equal e more =
           subst (IsStrictlySortedBy R) (sym (put_is x y ys Equal e)) (alike_all x y ys e up.0, up.1)
       by_case Greater e more =
@@ -93,7 +90,7 @@ module _ {A : Type 0} {R : A → A → Ordering} (o : IsTotalOrder R) where
           → AllByRecursion (IsFirstUse R (x ∷ uses)) (put x (y ∷ ys))
       by_case Less e more =
           subst (AllByRecursion (IsFirstUse R (x ∷ uses))) (sym (put_is x y ys Less e))
-          (here x uses, all_passed x uses (y ∷ ys) (e, below_all x y ys e up.0) h)
+          (here x uses, all_passed x uses (y ∷ ys) (e, all_above o x y ys e up.0) h)
       by_case Equal e more =
           subst (AllByRecursion (IsFirstUse R (x ∷ uses))) (sym (put_is x y ys Equal e))
           (here x uses, all_passed x uses ys (alike_all x y ys e up.0) h.1)
@@ -103,14 +100,14 @@ module _ {A : Type 0} {R : A → A → Ordering} (o : IsTotalOrder R) where
 
   -- the item stands where it is put, and what is not alike stays
   put_there : (x : A) (ys : List A) → Contains (put x ys) x
-  put_there x [] = has_first x []
+  put_there x [] = contains_first x []
   put_there x (y ∷ ys) = by_case (R x y) refl (put_there x ys)
     where
       by_case : (c : Ordering) → R x y ≡ c → Contains (put x ys) x → Contains (put x (y ∷ ys)) x
-      by_case Less e more = subst (λ l. Contains l x) (sym (put_is x y ys Less e)) (has_first x (y ∷ ys))
-      by_case Equal e more = subst (λ l. Contains l x) (sym (put_is x y ys Equal e)) (has_first x ys)
+      by_case Less e more = subst (λ l. Contains l x) (sym (put_is x y ys Less e)) (contains_first x (y ∷ ys))
+      by_case Equal e more = subst (λ l. Contains l x) (sym (put_is x y ys Equal e)) (contains_first x ys)
       by_case Greater e more =
-          subst (λ l. Contains l x) (sym (put_is x y ys Greater e)) (has_later y (put x ys) x more)
+          subst (λ l. Contains l x) (sym (put_is x y ys Greater e)) (contains_later y (put x ys) x more)
 
   put_stays : (x : A) (ys : List A) (z : A) → Contains ys z → (R x z ≡ Equal) ⊎ Contains (put x ys) z
   put_stays x [] z c = has_none z c
@@ -119,17 +116,18 @@ module _ {A : Type 0} {R : A → A → Ordering} (o : IsTotalOrder R) where
       by_case : (d : Ordering) → R x y ≡ d → (Contains ys z → (R x z ≡ Equal) ⊎ Contains (put x ys) z)
           → (R x z ≡ Equal) ⊎ Contains (put x (y ∷ ys)) z
       by_case Less e more =
-          inr (subst (λ l. Contains l z) (sym (put_is x y ys Less e)) (has_later x (y ∷ ys) z c))
+          inr (subst (λ l. Contains l z) (sym (put_is x y ys Less e)) (contains_later x (y ∷ ys) z c))
       by_case Equal e more = elim (contains_cases y ys z c) [
         | inl same ↦ inl (subst (λ w. R x w ≡ Equal) same e)
-        | inr there ↦ inr (subst (λ l. Contains l z) (sym (put_is x y ys Equal e)) (has_later x ys z there))
+        | inr there ↦ inr (subst (λ l. Contains l z) (sym (put_is x y ys Equal e)) (contains_later x ys z there))
       ]
       by_case Greater e more = elim (contains_cases y ys z c) [
         | inl same ↦ inr (subst (λ w. Contains (put x (y ∷ ys)) w) same
-            (subst (λ l. Contains l y) (sym (put_is x y ys Greater e)) (has_first y (put x ys))))
+            (subst (λ l. Contains l y) (sym (put_is x y ys Greater e)) (contains_first y (put x ys))))
         | inr there ↦ elim (more there) [
           | inl tied ↦ inl tied
-          | inr kept ↦ inr (subst (λ l. Contains l z) (sym (put_is x y ys Greater e)) (has_later y (put x ys) z kept))
+          | inr kept ↦ inr (subst (λ l. Contains l z) (sym (put_is x y ys Greater e))
+              (contains_later y (put x ys) z kept))
         ]
       ]
 

@@ -8,7 +8,9 @@ use Rattle.std.specs.Str.{bytes_eq}
 use Rattle.std.specs.declared.cmp.Ordering.{Ordering}
 use Rattle.std.proofs.lemmas.List.Elements.{All-contains, All-nil}
 use Rattle.std.proofs.lemmas.Map.Views.{All-values-insert_entry}
+use Rattle.std.proofs.lemmas.Option.{same_Some}
 use Rattle.cedar_data.specs.Maps.{with_entries}
+use Rattle.cedar_data.proofs.Lists.{contains_flat, contains_map, contains_unmap, contains_first, contains_later}
 use Rattle.cedar_identifiers.specs.declared.internal_name.InternalName.{InternalName}
 use Rattle.cedar_identifiers.specs.declared.name_text.NameText as named
 use Rattle.cedar_identifiers.specs.declared.raw_name.RawName.{RawName}
@@ -20,30 +22,27 @@ use Rattle.schema_json.specs.declared.action_type.ActionType.{ActionType}
 use Rattle.schema_json.specs.declared.fragment.Fragment.{Fragment}
 use Rattle.schema_json.specs.declared.types.Type.{«Type»}
 use Rattle.schema_build_expand.specs.Expands.{Expands}
-use Rattle.schema_build_expand.specs.Scope.{Scope, Declared, Declares, in_table, builtin}
-use Rattle.schema_build_scope.specs.Commons.{TypeAt, common_entry, declared_commons, commons_in_order}
-use Rattle.schema_build_scope.specs.FragmentScope.{declaration, fragment_scope}
+use Rattle.schema_build_expand.specs.Scope.{Scope, DeclaredType, Declares, in_table, builtin}
 use Rattle.schema_build_checks.specs.DeclaredAt.{ActionAt}
+use Rattle.schema_build_scope.specs.Commons.{TypeAt, full_common_entry, declared_commons, commons_in_order}
+use Rattle.schema_build_scope.specs.FragmentScope.{declaration, fragment_scope}
 use Rattle.schema_build_hierarchy.specs.Declarations.{DeclaredEntity}
 use Rattle.schema_build_hierarchy.specs.Declarations.{Declared as DeclaredAs}
 use Rattle.schema_build_hierarchy.proofs.Above.{contains_at}
-use Rattle.schema_build_hierarchy.proofs.Gathered.{contains_flat}
-use Rattle.schema_build_hierarchy.proofs.Ordered.{contains_map, contains_unmap}
 use Rattle.schema_build_closed.specs.Ordered.{IsOrderedType}
 use Rattle.schema_build_closed.specs.Formed.{ContextRises, IsFormed}
 use Rattle.schema_build_closed.specs.WellFormed.{Rises, IsKindFormed}
 use Rattle.schema_build_closed.proofs.Declared.{EntityStands, ActionStands}
-use Rattle.schema_build_closed.proofs.Lists.{has_first, has_later, same_some}
 use Rattle.schema_build_closed.proofs.Rising.{ordered}
 
 -- a builtin type has no attributes
 word_ordered : (b c d e : Bool) (w : List ℕ) (p : PlainType)
     → cond b (Some plain.Bool) (cond c (Some plain.Long) (cond d (Some plain.String)
     (cond e (Some (plain.Ext w)) None))) ≡ Some p → IsOrderedType p
-word_ordered true c d e w p is = subst IsOrderedType (same_some plain.Bool p is) tt
-word_ordered false true d e w p is = subst IsOrderedType (same_some plain.Long p is) tt
-word_ordered false false true e w p is = subst IsOrderedType (same_some plain.String p is) tt
-word_ordered false false false true w p is = subst IsOrderedType (same_some (plain.Ext w) p is) tt
+word_ordered true c d e w p is = subst IsOrderedType (same_Some plain.Bool p is) tt
+word_ordered false true d e w p is = subst IsOrderedType (same_Some plain.Long p is) tt
+word_ordered false false true e w p is = subst IsOrderedType (same_Some plain.String p is) tt
+word_ordered false false false true w p is = subst IsOrderedType (same_Some (plain.Ext w) p is) tt
 word_ordered false false false false w p is = absurd (cc)
 
 builtin_ordered : (s : Scope RawName) (to : List (List ℕ)) (p : PlainType) → builtin s to ≡ Some p → IsOrderedType p
@@ -64,18 +63,19 @@ pub values_kept : {K X : Type 0} (cmp : K → K → Ordering) (P : X → Type 0)
 values_kept cmp P old [] h each = h
 values_kept cmp P old (e ∷ es) h each =
     values_kept cmp P (insert_entry cmp old e.0 e.1) es
-    (All-values-insert_entry cmp e.0 e.1 P old h (each e (has_first e es))) (λ x c. each x (has_later e es x c))
+    (All-values-insert_entry cmp e.0 e.1 P old h (each e (contains_first e es)))
+    (λ x c. each x (contains_later e es x c))
 
 module _ {G : named.Ghosts RawName} (f : Fragment RawName G) (is_formed : IsFormed f) (table : ExtensionTable) where
   commons_rise : (c : InternalName × TypeAt) → Contains (declared_commons f) c → Rises RawName c.1.ty
   commons_rise c there =
-      let (e, ce, d) = contains_flat (λ e. map (common_entry e.0) e.1.common_types) f.0 c there in
-      let (x, cx, same) = contains_unmap (common_entry e.0) e.1.common_types c d in
+      let (e, ce, d) = contains_flat (λ e. map (full_common_entry e.0) e.1.common_types) f.0 c there in
+      let (x, cx, same) = contains_unmap (full_common_entry e.0) e.1.common_types c d in
       let all = All-contains (λ e. All (λ c. Rises RawName c.1.ty) e.1.common_types) f.0 e is_formed.commons ce in
       let one : Rises RawName x.1.ty = All-contains (λ c. Rises RawName c.1.ty) e.1.common_types x all cx in
       subst (λ (z : InternalName × TypeAt). Rises RawName z.1.ty) same one
 
-  scope_rises : (name : List (List ℕ)) (d : Declared RawName) → Declares (fragment_scope f table) name d
+  scope_rises : (name : List (List ℕ)) (d : DeclaredType RawName) → Declares (fragment_scope f table) name d
       → Rises RawName d.ty
   scope_rises name d (k, at, same) =
       let there = contains_at (map declaration (commons_in_order f)) k d at in
@@ -85,7 +85,7 @@ module _ {G : named.Ghosts RawName} (f : Fragment RawName G) (is_formed : IsForm
       let one : Rises RawName x.1.ty = All-contains (λ (c : TypeAt). Rises RawName c.ty)
       (values_of (commons_in_order f)) x.1 all
       (contains_map (λ (e : InternalName × TypeAt). e.1) (commons_in_order f) x cx) in
-      subst (λ (z : Declared RawName). Rises RawName z.ty) is one
+      subst (λ (z : DeclaredType RawName). Rises RawName z.ty) is one
 
   pub rising_ordered : (ns : Option InternalName) (t : «Type» RawName) (p : PlainType)
       → Expands RawName (fragment_scope f table) ns t p → Rises RawName t → IsOrderedType p

@@ -15,17 +15,18 @@ use Rattle.schema_json.specs.declared.action_type.ActionType.{ActionType}
 use Rattle.schema_json.specs.declared.action_type.ApplySpec.{ApplySpec}
 use Rattle.schema_json.specs.declared.fragment.Fragment.{Fragment}
 use Rattle.schema_json.specs.declared.fragment.NamespaceDefinition.{NamespaceDefinition}
+use Rattle.schema_json.specs.Orders.{unreserved_cmp, common_cmp, namespace_cmp}
+use Rattle.schema_readback.specs.PrintedDecls.{IsSome}
 use Rattle.schema_json_shapes.specs.declared.words.TypeSite.TheVariants.{Common}
 use Rattle.schema_json_shapes.specs.Said.{IsId, IsText, IsOptional, not_null, IsList, IsChoice, next_item}
 use Rattle.schema_json_shapes.specs.Shapes.{IsCommonType, IsKind, IsEntityType, IsAppliesTo, IsAction, IsNamespaceKey}
-use Rattle.schema_json_shapes.specs.Shapes.{IsCommonId, id_order, common_id_order, namespace_order, IsNamespace}
+use Rattle.schema_json_shapes.specs.Shapes.{IsCommonId, IsNamespace}
 use Rattle.schema_json_shapes.specs.Shapes.{JsonShape}
 use Rattle.schema_json_shapes.specs.Walk.{AllMet, is_empty_list, empty_enum, member_role, key_demands, object_demands}
 use Rattle.schema_json_shapes.specs.Walk.{demands, member_demands}
 use Rattle.schema_json_shapes.specs.Walk as role
 use Rattle.schema_json_shapes.proofs.Demands.{first_met, second_met}
 use Rattle.schema_json_shapes.proofs.EntityKinds.{not_empty}
-use Rattle.schema_readback.specs.PrintedDecls.{IsSome}
 use Rattle.schema_build_closed.specs.Formed.{ContextRises, IsFormed}
 use Rattle.schema_build_closed.specs.WellFormed.{Rises, IsKindFormed}
 use Rattle.schema_build_closed.proofs.JsonMaps.{member_met, map_has, map_or_none_has}
@@ -117,11 +118,11 @@ module _ {G : named.Ghosts RawName} where
       let field = λ (name : List ℕ). member_met (key_demands role.namespace) (member_role role.namespace ms)
       name ms inside in
       record {
-        commons = map_or_none_has common_id_order IsCommonId IsCommonType role.common_types (role.typed Common)
+        commons = map_or_none_has common_cmp IsCommonId IsCommonType role.common_types (role.typed Common)
             (λ ms k. refl)
             (λ c. Rises RawName c.ty) (λ k d c met says. common_rises d c says) (codes "commonTypes")
             (get_member (codes "commonTypes") ms) n.common_types h.commons (field (codes "commonTypes"));
-        entities = map_or_none_has id_order IsId IsEntityType role.entity_types role.entity_type (λ ms k. refl)
+        entities = map_or_none_has unreserved_cmp IsId IsEntityType role.entity_types role.entity_type (λ ms k. refl)
             (λ t. IsKindFormed t.kind) entity_formed (codes "entityTypes")
             (get_member (codes "entityTypes") ms) n.entity_types h.entities (field (codes "entityTypes"));
         actions = map_or_none_has text_cmp IsText IsAction role.actions role.action (λ ms k. refl)
@@ -133,7 +134,7 @@ module _ {G : named.Ghosts RawName} where
   json_formed d f (met, says) =
       let each = λ (P : NamespaceDefinition RawName G → Type 0)
       (g : (n : NamespaceDefinition RawName G) → IsFormedNamespace n → P n).
-      map_has namespace_order IsNamespaceKey IsNamespace role.fragment role.namespace (λ ms k. refl) P
+      map_has namespace_cmp IsNamespaceKey IsNamespace role.fragment role.namespace (λ ms k. refl) P
       (λ k d n met says. g n (namespace_formed k d n met says)) [] d f.0 says met in
       record {
         commons = each (λ n. All (λ c. Rises RawName c.1.ty) n.common_types) (λ n h. h.commons);

@@ -11,15 +11,16 @@ use Rattle.std.proofs.lemmas.Map.Lookups.{exact_bytes}
 use Rattle.serde_json.specs.Data.{Data, null, boolean, number, string, array, object, Members, no_members, member}
 use Rattle.serde_json.specs.Find.{get_member}
 use Rattle.cedar_data.specs.Maps.{map_of}
+use Rattle.cedar_data.proofs.Lists.{contains_map, all_of}
 use Rattle.schema_json_shapes.specs.Reads.{field_demands}
 use Rattle.schema_json_shapes.specs.Said.{AreEntries, no_entry, next_entry, IsMap, IsMapOrNone}
-use Rattle.schema_json_shapes.specs.Walk.{Demand, AllMet, Role, member_role, key_demands, bare, object_demands, demands}
+use Rattle.schema_json_shapes.specs.Walk.{Demand, AllMet, Role, member_role, key_demands, without_null, object_demands}
+use Rattle.schema_json_shapes.specs.Walk.{demands}
 use Rattle.schema_json_shapes.specs.Walk.{member_demands}
 use Rattle.schema_json_shapes.proofs.Demands.{first_met, second_met}
 use Rattle.schema_build_hierarchy.proofs.Once.{contains_cases}
-use Rattle.schema_build_hierarchy.proofs.Ordered.{contains_map}
 use Rattle.schema_build_closed.proofs.Formed.{values_kept}
-use Rattle.schema_build_closed.proofs.Lists.{has_none, all_of}
+use Rattle.schema_build_closed.proofs.Lists.{has_none}
 
 -- a member that is there is lawful
 module _ (key : List ℕ → List Demand) (role : List ℕ → Role) where
@@ -41,16 +42,16 @@ module _ (key : List ℕ → List Demand) (role : List ℕ → Role) where
 
 -- the values of a map, whose members are all read as one thing
 module _ {K V : Type 0} (order : K → K → Ordering) (Key : List ℕ → K → Type 0) (Value : Data → V → Type 0)
-    (r within : Role) (one : (ms : Members) (k : List ℕ) → member_role (bare r) ms k ≡ within) (P : V → Type 0)
+    (r within : Role) (one : (ms : Members) (k : List ℕ) → member_role (without_null r) ms k ≡ within) (P : V → Type 0)
     (each : (k : List ℕ) (d : Data) (v : V) → AllMet (demands within k d) → Value d v → P v) where
   entries_have : (whole ms : Members) (es : List (K × V)) → AreEntries Key Value ms es
-      → AllMet (member_demands (key_demands (bare r)) (member_role (bare r) whole) ms)
+      → AllMet (member_demands (key_demands (without_null r)) (member_role (without_null r) whole) ms)
       → (e : K × V) → Contains es e → P e.1
   entries_have whole ms es no_entry met e c = has_none e c
   entries_have whole ms es (next_entry k d rest key v more is says others) met e c =
-      let first = demands (member_role (bare r) whole k) k d in
-      let later = member_demands (key_demands (bare r)) (member_role (bare r) whole) rest in
-      let behind = second_met (key_demands (bare r) k) (first ++ later) met in
+      let first = demands (member_role (without_null r) whole k) k d in
+      let later = member_demands (key_demands (without_null r)) (member_role (without_null r) whole) rest in
+      let behind = second_met (key_demands (without_null r) k) (first ++ later) met in
       elim (contains_cases (key, v) more e c) [
         | inl same ↦ subst (λ (z : K × V). P z.1) same
             (each k d v (subst (λ q. AllMet (demands q k d)) (one whole k) (first_met first later behind)) says)
@@ -66,8 +67,8 @@ module _ {K V : Type 0} (order : K → K → Ordering) (Key : List ℕ → K →
   map_has n (array ds) es h met = absurd h
   map_has n (object ms) es (entries, are, is) met =
       let values = values_kept order P [] entries (All-nil P) (entries_have ms ms entries are
-      (second_met (object_demands (bare r) n ms)
-      (member_demands (key_demands (bare r)) (member_role (bare r) ms) ms) met)) in
+      (second_met (object_demands (without_null r) n ms)
+      (member_demands (key_demands (without_null r)) (member_role (without_null r) ms) ms) met)) in
       subst (λ (l : List (K × V)). All (λ e. P e.1) l) (sym is)
       (all_of (λ (e : K × V). P e.1) (map_of order entries)
       (λ e c. All-contains P (values_of (map_of order entries)) e.1 values

@@ -8,6 +8,8 @@ use Rattle.std.proofs.lemmas.List.Elements.{All-nil, All-contains}
 use Rattle.serde_json.specs.Data.{Data, object, Members}
 use Rattle.cedar_data.specs.Maps.{map_of}
 use Rattle.cedar_data.specs.Text.{text_cmp}
+use Rattle.cedar_data.proofs.Lists.{contains_map}
+use Rattle.cedar_data.proofs.Orders.{text_total, text_exact, nothing_rises}
 use Rattle.cedar_identifiers.specs.declared.raw_name.RawName.{RawName}
 use Rattle.cedar_identifiers.specs.declared.unreserved_id.UnreservedId.{UnreservedId}
 use Rattle.cedar_identifiers.specs.declared.reference_type.ReferenceType.TheVariants.{Entity, CommonOrEntity}
@@ -21,14 +23,12 @@ use Rattle.schema_json.specs.declared.types.TypeOfAttribute.{TypeOfAttribute, ou
 use Rattle.schema_json_shapes.specs.Said.{IsOptional, IsType, string_type, long_type, boolean_type, set_type}
 use Rattle.schema_json_shapes.specs.Said.{record_type, entity_type, either_type, extension_type, reference}
 use Rattle.schema_json_shapes.specs.Said.{AreAttributes}
-use Rattle.schema_json_shapes.specs.Said.{no_attribute, next_attribute, plain, record_of}
-use Rattle.schema_json_shapes.specs.Shapes.{IsShape}
+use Rattle.schema_json_shapes.specs.Said.{no_attribute, next_attribute, plain, record_with}
+use Rattle.schema_json_shapes.specs.Shapes.{IsShapeOrNone}
 use Rattle.schema_says.proofs.Maps.{map_rises}
-use Rattle.schema_says.proofs.Orders.{text_total, text_exact}
 use Rattle.schema_build_expand.specs.View.{boolean_layer, long_layer, string_layer, reference_layer}
 use Rattle.schema_build_expand.specs.View.{extension_layer}
 use Rattle.schema_build_hierarchy.proofs.Once.{contains_cases}
-use Rattle.schema_build_hierarchy.proofs.Ordered.{contains_map}
 use Rattle.schema_build_closed.specs.WellFormed.{Rises, boolean_rises, long_rises, string_rises, set_rises}
 use Rattle.schema_build_closed.specs.WellFormed.{record_rises, reference_rises, extension_rises, TagsRise}
 use Rattle.schema_build_closed.proofs.Formed.{values_kept}
@@ -72,12 +72,12 @@ extension_rise id =
 -- a record whose attributes rise
 pub record_rise : (es : List (List ℕ × Attribute)) (more : Bool) → IsStrictlySortedBy text_cmp (keys_of es)
     → ((e : List ℕ × Attribute) → Contains es e → Rises RawName (out-TypeOfAttribute RawName e.1).ty)
-    → Rises RawName (record_of es more)
+    → Rises RawName (record_with es more)
 record_rise es more up each =
     let r : RecordType RawName = roll-RecordType RawName (record { attributes = es; additional_attributes = more }) in
     let same : attributes_of r ≡ es =
     ap (λ x. x.attributes) (out-roll-RecordType RawName (record { attributes = es; additional_attributes = more })) in
-    by_layer_of (record_of es more) _ (record_viewed (record_of es more) r None refl)
+    by_layer_of (record_with es more) _ (record_viewed (record_with es more) r None refl)
     (record_rises (is_open r) (attributes_of r) (subst (λ l. IsStrictlySortedBy text_cmp (keys_of l)) (sym same) up)
     (all_rise (attributes_of r)
     (λ e c. each e (subst (λ (l : List (List ℕ × Attribute)). Contains l e) same c))))
@@ -85,7 +85,7 @@ record_rise es more up each =
 -- the attributes of a map are those of its entries
 made_rises : (es : List (List ℕ × Attribute))
     → ((e : List ℕ × Attribute) → Contains es e → Rises RawName (out-TypeOfAttribute RawName e.1).ty)
-    → (more : Bool) → Rises RawName (record_of (map_of text_cmp es) more)
+    → (more : Bool) → Rises RawName (record_with (map_of text_cmp es) more)
 made_rises es each more =
     let P : Attribute → Type 0 = λ a. Rises RawName (out-TypeOfAttribute RawName a).ty in
     record_rise (map_of text_cmp es) more (map_rises Attribute text_cmp text_total text_exact (λ n. n) es)
@@ -115,13 +115,10 @@ mutual
         | inr there ↦ attributes_rise rest as' others e there
       ]
 
-none_sorted : IsStrictlySortedBy text_cmp []
-unfolding IsStrictlySortedBy
-none_sorted = tt
-
 -- a shape or a context, and tags
-pub shape_rises : (o : Option Data) (t : «Type» RawName) → IsShape o t → Rises RawName t
-shape_rises None t e = subst (Rises RawName) (sym e) (record_rise [] Bool.false none_sorted (λ e c. has_none e c))
+pub shape_rises : (o : Option Data) (t : «Type» RawName) → IsShapeOrNone o t → Rises RawName t
+shape_rises None t e = subst (Rises RawName) (sym e)
+    (record_rise [] Bool.false (nothing_rises text_cmp) (λ e c. has_none e c))
 shape_rises (Some d) t says = type_rises d t says
 
 pub tags_rise : (o : Option Data) (tags : Option («Type» RawName)) → IsOptional IsType o tags → TagsRise tags

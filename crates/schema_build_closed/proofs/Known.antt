@@ -1,20 +1,22 @@
 -- A type of a fragment stands for one whose names are known.
-use Rattle.std.proofs.Common.{◌≡◌, ℕ, Bool, true, false, ◌||◌, cond, List, [], ◌∷◌, ◌++◌, map, Contains, Option, Some}
+use Rattle.std.proofs.Common.{◌≡◌, ℕ, Bool, true, false, cond, List, [], ◌∷◌, ◌++◌, map, Contains, Option, Some}
 use Rattle.std.proofs.Common.{None, codes, refl, sym, ap, ◌∙◌, subst, inl, inr}
-use Rattle.std.specs.Prelude.{find}
 use Rattle.std.specs.List.{list_any}
 use Rattle.std.specs.Str.{bytes_eq}
 use Rattle.std.proofs.lemmas.Bool.{cases_Bool}
 use Rattle.std.proofs.lemmas.List.Elements.{Contains-append_cases}
 use Rattle.std.proofs.lemmas.List.Folds.{Any-from_list_any}
 use Rattle.std.proofs.lemmas.Slice.Eq.{bytes_eq-Decides}
+use Rattle.std.proofs.lemmas.Option.{same_Some}
+use Rattle.cedar_data.proofs.Lists.{contains_unmap, found_passes, list_any-map}
+use Rattle.cedar_data.proofs.Options.{seen_of}
 use Rattle.cedar_identifiers.specs.Names.{components_of}
 use Rattle.cedar_identifiers.specs.Words.{is_id}
 use Rattle.cedar_identifiers.specs.declared.internal_name.InternalName.{InternalName}
 use Rattle.cedar_identifiers.specs.declared.name_text.NameText as named
 use Rattle.cedar_identifiers.specs.declared.raw_name.RawName.{RawName}
 use Rattle.cedar_identifiers.specs.declared.reference_type.ReferenceType.{ReferenceType}
-use Rattle.cedar_identifiers.specs.declared.reference_type.ReferenceType.TheVariants.{Common, Entity, CommonOrEntity}
+use Rattle.cedar_identifiers.specs.declared.reference_type.ReferenceType.TheVariants.{Entity}
 use Rattle.cedar_identifiers.specs.declared.unreserved_id.UnreservedId.{UnreservedId}
 use Rattle.cedar_names.specs.Meaning.{PlainType, Attributes, SchemaMeaning}
 use Rattle.cedar_names.specs.Meaning as plain
@@ -27,7 +29,7 @@ use Rattle.schema_readback.specs.Printed.{IsProperPath}
 use Rattle.schema_says.specs.MeantNames.{IsSpelledType, AreSpelledTypes}
 use Rattle.schema_resolve_definitions.specs.Declarations.{declared}
 use Rattle.schema_resolve_definitions.specs.Defined.{defined}
-use Rattle.schema_resolve_definitions.specs.Tests.{Tests, tests_of}
+use Rattle.schema_resolve_definitions.specs.Tests.{tests_of}
 use Rattle.schema_resolve.specs.Meanings.{kind_there}
 use Rattle.schema_resolve.specs.Qualified.{in_namespace}
 use Rattle.schema_resolve.specs.Targets.{is_defined, target}
@@ -37,36 +39,11 @@ use Rattle.schema_build_expand.specs.Expands.{to_no_attributes, to_attribute}
 use Rattle.schema_build_expand.specs.Scope.{in_table, builtin}
 use Rattle.schema_build_expand.specs.View.{View}
 use Rattle.schema_build_scope.specs.FragmentScope.{fragment_scope, by_components}
-use Rattle.schema_build_hierarchy.proofs.Ordered.{contains_unmap}
+use Rattle.schema_build_scope.proofs.Targets.{kind_entity}
+use Rattle.schema_build_hierarchy.proofs.ParentsDeclared.{among_held}
 use Rattle.schema_build.specs.Meaning.{FragmentMeaning}
 use Rattle.schema_build_closed.specs.Known.{action_types, IsKnownName, IsKnownType, AreKnownTypes}
-use Rattle.schema_build_closed.proofs.Lists.{same_some, seen_of}
-use Rattle.schema_build_closed.proofs.Words.{or_second, among_held}
 use Rattle.schema_build_closed.proofs.Declared.{entity_held, action_held, type_named}
-
-pub found_passes : {A : Type 0} (p : A → Bool) (xs : List A) (x : A) → find p xs ≡ Some x → p x ≡ true
-found_passes p [] x e = absurd (cc)
-found_passes p (y ∷ ys) x e = elim (cases_Bool (p y)) [
-  | inl hit ↦
-      let here : find p (y ∷ ys) ≡ Some y = ap (λ b. cond b (Some y) (find p ys)) hit in
-      subst (λ z. p z ≡ true) (same_some y x (sym here ∙ e)) hit
-  | inr miss ↦
-      let there : find p (y ∷ ys) ≡ find p ys = ap (λ b. cond b (Some y) (find p ys)) miss in
-      found_passes p ys x (sym there ∙ e)
-]
-
--- what is defined and is there no common type is an entity type
-entity_there : (t : Tests) (kind : ReferenceType) (n : InternalName) → is_defined t kind (components_of n) ≡ true
-    → kind_there t kind n ≡ Entity → t.is_entity (components_of n) ≡ true
-entity_there t Common n d k = absurd (cc)
-entity_there t Entity n d k = d
-entity_there t CommonOrEntity n d k = elim (cases_Bool (t.is_common (components_of n))) [
-  | inl hit ↦ absurd (
-      let is : kind_there t CommonOrEntity n ≡ Common = ap (λ b. cond b Common Entity) hit in
-      let no : Common ≡ Entity = sym is ∙ k in
-      cc)
-  | inr miss ↦ or_second (t.is_common (components_of n)) (t.is_entity (components_of n)) d miss
-]
 
 module _ {G : named.Ghosts RawName} (f : Fragment RawName G) (table : ExtensionTable) (m : SchemaMeaning)
     (mean : FragmentMeaning f table m) where
@@ -91,24 +68,19 @@ module _ {G : named.Ghosts RawName} (f : Fragment RawName G) (table : ExtensionT
       let here : kind_there t kind n ≡ Entity = ap (λ z. z.1) pair ∙ ap (λ z. z.1) same in
       let named : components_of n ≡ to = ap (λ z. components_of z.0) pair ∙ ap (λ z. z.0) same in
       let passes = found_passes (λ p. is_defined t c.reference_type (components_of p)) c.possibilities n found in
-      subst (IsKnownName m) named (entity_known (components_of n) (entity_there t kind n passes here))
-
-  table_listed : (w : List ℕ) (names : List UnreservedId)
-      → list_any (bytes_eq w) (map (λ n. n.id.text) names) ≡ list_any (λ n. bytes_eq w n.id.text) names
-  table_listed w [] = refl
-  table_listed w (n ∷ ns) = ap (λ z. bytes_eq w n.id.text || z) (table_listed w ns)
+      subst (IsKnownName m) named (entity_known (components_of n) (kind_entity t kind n passes here))
 
   word_known : (w : List ℕ) → in_table (fragment_scope f table) w ≡ true → table_has table w ≡ true
-  word_known w h = sym (table_listed w table.names) ∙ h
+  word_known w h = sym (list_any-map (bytes_eq w) (λ (n : UnreservedId). n.id.text) table.names) ∙ h
 
   builtin_word_known : (b c d e : Bool) (w : List ℕ) (p : PlainType) → in_table (fragment_scope f table) w ≡ e
       → cond b (Some plain.Bool) (cond c (Some plain.Long) (cond d (Some plain.String)
       (cond e (Some (plain.Ext w)) None))) ≡ Some p → IsKnownType table m p
-  builtin_word_known true c d e w p h is = subst (IsKnownType table m) (same_some plain.Bool p is) tt
-  builtin_word_known false true d e w p h is = subst (IsKnownType table m) (same_some plain.Long p is) tt
-  builtin_word_known false false true e w p h is = subst (IsKnownType table m) (same_some plain.String p is) tt
+  builtin_word_known true c d e w p h is = subst (IsKnownType table m) (same_Some plain.Bool p is) tt
+  builtin_word_known false true d e w p h is = subst (IsKnownType table m) (same_Some plain.Long p is) tt
+  builtin_word_known false false true e w p h is = subst (IsKnownType table m) (same_Some plain.String p is) tt
   builtin_word_known false false false true w p h is =
-      subst (IsKnownType table m) (same_some (plain.Ext w) p is) (word_known w h)
+      subst (IsKnownType table m) (same_Some (plain.Ext w) p is) (word_known w h)
   builtin_word_known false false false false w p h is = absurd (cc)
 
   builtin_known : (to : List (List ℕ)) (p : PlainType) → builtin (fragment_scope f table) to ≡ Some p

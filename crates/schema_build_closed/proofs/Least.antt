@@ -1,5 +1,6 @@
 -- Where there is an item, there is a least one.
-use Rattle.std.proofs.Common.{◌≡◌, true, false, List, [], ◌∷◌, ◌++◌, Contains, Ordering, refl, sym, ap, ◌∙◌, subst, inl}
+use Rattle.std.proofs.Common.{◌≡◌, true, false, List, [], ◌∷◌, ◌++◌, Contains, Ordering, refl, sym, ap, ◌∙◌, subst}
+use Rattle.std.proofs.Common.{inl}
 use Rattle.std.proofs.Common.{inr, true≢false}
 use Rattle.std.specs.declared.cmp.Ordering.TheVariants.{Less, Equal, Greater}
 use Rattle.std.specs.Cmp.{IsTotalOrder}
@@ -7,10 +8,11 @@ use Rattle.std.specs.List.{AllByRecursion}
 use Rattle.std.specs.Ordering.{is_lt, ordering_reverse}
 use Rattle.std.proofs.lemmas.Bool.{cases_Bool}
 use Rattle.std.proofs.lemmas.Cmp.{tied_itself}
+use Rattle.cedar_data.proofs.Lists.{contains_first, contains_later}
 use Rattle.schema_build_checks.specs.Least.{IsFirstLeast}
 use Rattle.schema_build_hierarchy.specs.Rows.{IsLeastAmong}
 use Rattle.schema_build_hierarchy.proofs.Once.{contains_cases}
-use Rattle.schema_build_closed.proofs.Lists.{has_first, has_later, has_none}
+use Rattle.schema_build_closed.proofs.Lists.{has_none}
 
 is_less : (c : Ordering) → is_lt c ≡ true → c ≡ Less
 is_less Less e = refl
@@ -92,7 +94,7 @@ module _ {A : Type 0} {R : A → A → Ordering} (o : IsTotalOrder R) where
       lesser : passes d → (l : D) → Least ds l → ⊥
       lesser p l is = elim (cases_Bool (is_lt (R (name l) (name d)))) [
         | inl lt ↦ none l (record {
-          among = has_later d ds l is.among;
+          among = contains_later d ds l is.among;
           passes_too = is.passes_too;
           none_less = λ z c q. elim (contains_cases d ds z c) [
             | inl same ↦ subst (λ w. is_lt (R (name w) (name l)) ≡ false) same (not_after (name l) (name d) lt)
@@ -100,7 +102,7 @@ module _ {A : Type 0} {R : A → A → Ordering} (o : IsTotalOrder R) where
           ];
         })
         | inr ge ↦ none d (record {
-          among = has_first d ds;
+          among = contains_first d ds;
           passes_too = p;
           none_less = λ z c q. elim (contains_cases d ds z c) [
             | inl same ↦ subst (λ w. is_lt (R (name w) (name d)) ≡ false) same (not_itself (name d))
@@ -111,7 +113,7 @@ module _ {A : Type 0} {R : A → A → Ordering} (o : IsTotalOrder R) where
 
       head : passes d → ⊥
       head p = none d (record {
-        among = has_first d ds;
+        among = contains_first d ds;
         passes_too = p;
         none_less = λ z c q. elim (contains_cases d ds z c) [
           | inl same ↦ subst (λ w. is_lt (R (name w) (name d)) ≡ false) same (not_itself (name d))
@@ -121,7 +123,7 @@ module _ {A : Type 0} {R : A → A → Ordering} (o : IsTotalOrder R) where
 
       skipped : (l : D) → Least ds l → ⊥
       skipped l is = none l (record {
-        among = has_later d ds l is.among;
+        among = contains_later d ds l is.among;
         passes_too = is.passes_too;
         none_less = λ z c q. elim (contains_cases d ds z c) [
           | inl same ↦ absurd (head (subst passes (sym same) q))

@@ -1,4 +1,4 @@
-mod Lists
+pub mod Lists
 mod Words
 mod Declared
 mod Known
@@ -11,14 +11,14 @@ mod Firsts
 mod Apart
 mod Undeclared
 mod Undefined
-mod Bare
+pub mod Bare
 mod Chains
 mod Above
 mod Formed
 mod Entries
 mod Filled
 mod Closing
-mod Views
+pub mod Views
 mod SaidTypes
 mod JsonTypes
 mod JsonMaps

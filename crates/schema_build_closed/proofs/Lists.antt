@@ -1,29 +1,23 @@
 -- Members of lists, and lists side by side.
-use Rattle.std.proofs.Common.{◌≡◌, Bool, true, false, cond, List, [], ◌∷◌, ◌++◌, All, Contains, Ordering, Option, Some}
-use Rattle.std.proofs.Common.{None, refl, sym, ap, ◌∙◌, subst, inl, inr, arith}
-use Rattle.std.specs.Option.{option_map}
-use Rattle.std.specs.List.{AllByRecursion, AllZip, flat_map}
+use Rattle.std.proofs.Common.{◌≡◌, Bool, true, false, cond, List, [], ◌∷◌, Contains, Ordering}
+use Rattle.std.proofs.Common.{refl, sym, ap, ◌∙◌, subst, inl, inr, arith}
+use Rattle.std.specs.List.{AllByRecursion, AllZip}
 use Rattle.std.specs.List.Sorted.{IsStrictlySortedBy}
 use Rattle.std.specs.declared.cmp.Ordering.TheVariants.{Less, Equal, Greater}
 use Rattle.std.specs.Cmp.{IsTotalOrder}
 use Rattle.std.specs.Ordering.{ordering_reverse}
 use Rattle.std.proofs.lemmas.Map.Keys.{sorted_head, sorted_tail}
 use Rattle.std.proofs.lemmas.List.Elements.{All-contains, All-from_recursion, All-weaker, All-contains_itself}
-use Rattle.std.proofs.lemmas.List.Elements.{recursion_from_All, Contains-append_left, Contains-append_right}
+use Rattle.std.proofs.lemmas.List.Elements.{recursion_from_All}
+use Rattle.cedar_data.proofs.Lists.{contains_first, contains_later}
 use Rattle.schema_build_hierarchy.proofs.Once.{contains_cases}
-
-pub has_first : {A : Type 0} (x : A) (xs : List A) → Contains (x ∷ xs) x
-has_first x xs = (0, omega arith, refl)
-
-pub has_later : {A : Type 0} (x : A) (xs : List A) (y : A) → Contains xs y → Contains (x ∷ xs) y
-has_later x xs y c = Contains-append_right (x ∷ []) xs y c
 
 pub has_none : {A X : Type 0} (x : A) → Contains [] x → X
 has_none x c = absurd (omega (arith, c.1))
 
 pub no_members : {A : Type 0} (xs : List A) → ((x : A) → Contains xs x → ⊥) → xs ≡ []
 no_members [] none = refl
-no_members (x ∷ xs) none = absurd (none x (has_first x xs))
+no_members (x ∷ xs) none = absurd (none x (contains_first x xs))
 
 -- what holds of all holds of each, and the other way round
 pub each_has : {A : Type 0} (P : A → Type 0) (xs : List A) (x : A) → AllByRecursion P xs → Contains xs x → P x
@@ -32,46 +26,9 @@ each_has P xs x h c = All-contains P xs x (All-from_recursion P xs h) c
 pub all_have : {A : Type 0} (P : A → Type 0) (xs : List A) → ((x : A) → Contains xs x → P x) → AllByRecursion P xs
 all_have P xs each = recursion_from_All P xs (All-weaker (Contains xs) P (λ x c. each x c) xs (All-contains_itself xs))
 
--- what holds of each member holds of all, by index
-pub all_of : {A : Type 0} (P : A → Type 0) (xs : List A) → ((x : A) → Contains xs x → P x) → All P xs
-all_of P xs each = All-weaker (Contains xs) P (λ x c. each x c) xs (All-contains_itself xs)
-
-pub in_flat : {A B : Type 0} (g : A → List B) (xs : List A) (x : A) (y : B) → Contains xs x → Contains (g x) y
-    → Contains (flat_map g xs) y
-in_flat g [] x y c d = has_none x c
-in_flat g (k ∷ xs) x y c d = elim (contains_cases k xs x c) [
-  | inl here ↦ Contains-append_left (g k) (flat_map g xs) y (subst (λ z. Contains (g z) y) (sym here) d)
-  | inr there ↦ Contains-append_right (g k) (flat_map g xs) y (in_flat g xs x y there d)
-]
-
--- parts of what is empty are empty
-pub empty_before : {A : Type 0} (xs ys : List A) → xs ++ ys ≡ [] → xs ≡ []
-empty_before [] ys e = refl
-empty_before (x ∷ xs) ys e = absurd (cc)
-
-pub empty_behind : {A : Type 0} (xs ys : List A) → xs ++ ys ≡ [] → ys ≡ []
-empty_behind [] ys e = e
-empty_behind (x ∷ xs) ys e = absurd (cc)
-
-pub empty_in : {A B : Type 0} (g : A → List B) (xs : List A) (x : A) → Contains xs x → flat_map g xs ≡ [] → g x ≡ []
-empty_in g [] x c e = has_none x c
-empty_in g (y ∷ ys) x c e = elim (contains_cases y ys x c) [
-  | inl same ↦ subst (λ z. g z ≡ []) same (empty_before (g y) (flat_map g ys) e)
-  | inr there ↦ empty_in g ys x there (empty_behind (g y) (flat_map g ys) e)
-]
-
 pub empty_where : {A : Type 0} (b : Bool) (x : A) → cond b (x ∷ []) [] ≡ [] → b ≡ false
 empty_where true x e = absurd (cc)
 empty_where false x e = refl
-
-pub same_some : {A : Type 0} (a b : A) → Some a ≡ Some b → a ≡ b
-same_some a b e = cc
-
--- what there is that is seen
-pub seen_of : {A B : Type 0} (f : A → B) (o : Option A) (b : B) → option_map f o ≡ Some b
-    → (a : A) × (o ≡ Some a) × (f a ≡ b)
-seen_of f None b e = absurd (cc)
-seen_of f (Some a) b e = (a, refl, same_some (f a) b e)
 
 module _ {A B : Type 0} (P : A → B → Type 0) where
   pub beside_right : (xs : List A) (ys : List B) → AllZip P xs ys → (y : B) → Contains ys y
@@ -80,8 +37,8 @@ module _ {A B : Type 0} (P : A → B → Type 0) where
   beside_right [] (w ∷ ys) z y c = absurd z
   beside_right (x ∷ xs) [] z y c = absurd z
   beside_right (x ∷ xs) (w ∷ ys) z y c = elim (contains_cases w ys y c) [
-    | inl same ↦ (x, has_first x xs, subst (P x) same z.0)
-    | inr more ↦ (let (k, ck, pk) = beside_right xs ys z.1 y more in (k, has_later x xs k ck, pk))
+    | inl same ↦ (x, contains_first x xs, subst (P x) same z.0)
+    | inr more ↦ (let (k, ck, pk) = beside_right xs ys z.1 y more in (k, contains_later x xs k ck, pk))
   ]
 
   pub beside_left : (xs : List A) (ys : List B) → AllZip P xs ys → (x : A) → Contains xs x
@@ -90,8 +47,8 @@ module _ {A B : Type 0} (P : A → B → Type 0) where
   beside_left [] (w ∷ ys) z x c = absurd z
   beside_left (v ∷ xs) [] z x c = absurd z
   beside_left (v ∷ xs) (y ∷ ys) z x c = elim (contains_cases v xs x c) [
-    | inl same ↦ (y, has_first y ys, subst (λ w. P w y) same z.0)
-    | inr more ↦ (let (k, ck, pk) = beside_left xs ys z.1 x more in (k, has_later y ys k ck, pk))
+    | inl same ↦ (y, contains_first y ys, subst (λ w. P w y) same z.0)
+    | inr more ↦ (let (k, ck, pk) = beside_left xs ys z.1 x more in (k, contains_later y ys k ck, pk))
   ]
 
   -- what stands beside a list that rises rises, where the orders agree

@@ -7,6 +7,7 @@ use Rattle.std.specs.Map.{values_of}
 use Rattle.std.proofs.lemmas.List.Elements.{All-nil, All-cons, All-contains}
 use Rattle.cedar_data.specs.Maps.{map_of}
 use Rattle.cedar_data.specs.Text.{text_cmp}
+use Rattle.cedar_data.proofs.Lists.{contains_map, all_of}
 use Rattle.cedar_identifiers.specs.declared.name.Name.{Name}
 use Rattle.cedar_identifiers.specs.declared.name_text.NameText as named
 use Rattle.cedar_identifiers.specs.declared.raw_name.RawName.{RawName}
@@ -19,8 +20,8 @@ use Rattle.schema_json.specs.declared.action_type.ActionType.{ActionType}
 use Rattle.schema_json.specs.declared.action_type.ApplySpec.{ApplySpec}
 use Rattle.schema_json.specs.declared.fragment.Fragment.{Fragment}
 use Rattle.schema_json.specs.declared.fragment.NamespaceDefinition.{NamespaceDefinition}
+use Rattle.schema_json.specs.Orders.{namespace_cmp}
 use Rattle.schema_json_shapes.specs.Said.{plain}
-use Rattle.schema_json_shapes.specs.Shapes.{namespace_order}
 use Rattle.schema_compat_types.specs.declared.types.SchemaType.{SchemaType}
 use Rattle.schema_compat_types.specs.declared.types.SchemaTypeVariant.{SchemaTypeVariant}
 use Rattle.schema_compat_types.specs.declared.types.TypeOfAttribute.{TypeOfAttribute as OldAttribute}
@@ -30,7 +31,8 @@ use Rattle.schema_compat_types.specs.declared.action_type.ActionType.{ActionType
 use Rattle.schema_compat_types.specs.declared.action_type.ApplySpec.{ApplySpec as OldApply}
 use Rattle.schema_compat_types.specs.declared.fragment.NamespaceDefinition.{NamespaceDefinition as OldNamespace}
 use Rattle.schema_compat_types.specs.declared.fragment.SchemaFragment.{SchemaFragment}
-use Rattle.schema_compat_convert.specs.Converted.{attribute_of, no_annotations, TypeBecomes, of_shape, of_reference}
+use Rattle.schema_compat_convert.specs.Converted.{converted_attribute, no_annotations, TypeBecomes, of_shape}
+use Rattle.schema_compat_convert.specs.Converted.{of_reference}
 use Rattle.schema_compat_convert.specs.Converted.{ShapeBecomes, of_string, of_long, of_boolean, of_set, of_record}
 use Rattle.schema_compat_convert.specs.Converted.{of_entity, of_extension, AttributesBecome, no_attribute}
 use Rattle.schema_compat_convert.specs.Converted.{next_attribute, ValuesBecome, EntityTypeBecomes}
@@ -38,20 +40,20 @@ use Rattle.schema_compat_convert.specs.Converted.{ApplyBecomes, OptionBecomes, A
 use Rattle.schema_compat_convert.specs.Converted.{EntryBecomes, FragmentBecomes}
 use Rattle.schema_compat_convert.proofs.Kept.{attributes_keys}
 use Rattle.schema_build_hierarchy.proofs.Once.{contains_cases}
-use Rattle.schema_build_hierarchy.proofs.Ordered.{contains_map}
 use Rattle.schema_build_closed.specs.Formed.{ContextRises, IsFormed}
 use Rattle.schema_build_closed.specs.WellFormed.{Rises, IsKindFormed}
 use Rattle.schema_build_closed.proofs.Formed.{values_kept}
 use Rattle.schema_build_closed.proofs.JsonTypes.{string_rise, long_rise, boolean_rise, set_rise, entity_rise}
 use Rattle.schema_build_closed.proofs.JsonTypes.{extension_rise, record_rise}
-use Rattle.schema_build_closed.proofs.Lists.{has_none, all_of}
+use Rattle.schema_build_closed.proofs.Lists.{has_none}
 use Rattle.schema_build_closed.proofs.SaidTypes.{common_rises}
 
 abbrev Attribute : Type 0
 Attribute = TypeOfAttribute RawName
 
 -- the type of an attribute that is made of it
-attribute_type : (t : «Type» RawName) (required : Bool) → (out-TypeOfAttribute RawName (attribute_of t required)).ty ≡ t
+attribute_type : (t : «Type» RawName) (required : Bool)
+    → (out-TypeOfAttribute RawName (converted_attribute t required)).ty ≡ t
 attribute_type t required = ap (λ a. a.ty) (out-roll-TypeOfAttribute RawName
     (record { ty = t; annotations = no_annotations; required = required }))
 
@@ -76,7 +78,7 @@ mutual
   old_attributes_rise es fs no_attribute e c = has_none e c
   old_attributes_rise es fs (next_attribute k a t more others h hs) e c =
       let required = (OldAttributes.out-TypeOfAttribute a).required in
-      elim (contains_cases (k, attribute_of t required) others e c) [
+      elim (contains_cases (k, converted_attribute t required) others e c) [
         | inl same ↦ subst (λ (z : List ℕ × Attribute). Rises RawName (out-TypeOfAttribute RawName z.1).ty) same
             (subst (Rises RawName) (sym (attribute_type t required))
             (old_type_rises (OldAttributes.out-TypeOfAttribute a).ty t h))
@@ -123,11 +125,11 @@ module _ {G : named.Ghosts RawName} where
 
     fragment_has : (s : SchemaFragment) (f : Fragment RawName G) → FragmentBecomes s f → All (λ e. P e.1) f.0
     fragment_has s f (es, are, is) =
-        let values = values_kept namespace_order P [] es (All-nil P) (entries_have s.0 es are) in
+        let values = values_kept namespace_cmp P [] es (All-nil P) (entries_have s.0 es are) in
         subst (λ (l : List (Option Name × NamespaceDefinition RawName G)). All (λ e. P e.1) l) (sym is)
-        (all_of (λ (e : Option Name × NamespaceDefinition RawName G). P e.1) (map_of namespace_order es)
-        (λ e c. All-contains P (values_of (map_of namespace_order es)) e.1 values
-        (contains_map (λ (z : Option Name × NamespaceDefinition RawName G). z.1) (map_of namespace_order es) e c)))
+        (all_of (λ (e : Option Name × NamespaceDefinition RawName G). P e.1) (map_of namespace_cmp es)
+        (λ e c. All-contains P (values_of (map_of namespace_cmp es)) e.1 values
+        (contains_map (λ (z : Option Name × NamespaceDefinition RawName G). z.1) (map_of namespace_cmp es) e c)))
 
   pub old_formed : (s : SchemaFragment) (f : Fragment RawName G) → FragmentBecomes s f → IsFormed f
   old_formed s f h = record {

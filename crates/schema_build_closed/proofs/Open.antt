@@ -3,12 +3,13 @@ use Rattle.std.proofs.Common.{◌≡◌, ℕ, false, List, Contains, codes, refl
 use Rattle.std.specs.Cmp.Lexicographic.{slice_cmp}
 use Rattle.std.specs.Ordering.{ordering_then}
 use Rattle.cedar_data.specs.Text.{text_cmp}
+use Rattle.cedar_data.proofs.Lists.{contains_unmap}
 use Rattle.cedar_identifiers.specs.Names.{has_cedar}
 use Rattle.cedar_identifiers.specs.declared.name_text.NameText as named
 use Rattle.cedar_identifiers.specs.declared.raw_name.RawName.{RawName}
 use Rattle.cedar_names.specs.CanonicalText.{basename}
 use Rattle.cedar_names.specs.Meaning.{EntityMeaning, ActionMeaning, SchemaMeaning}
-use Rattle.cedar_names.specs.Orders.{ids_of, names_in_order}
+use Rattle.cedar_names.specs.Orders.{names_in_order}
 use Rattle.cedar_names.specs.declared.extension_table.ExtensionTable.{ExtensionTable}
 use Rattle.schema_json.specs.declared.action_type.ActionType.{ActionType}
 use Rattle.schema_json.specs.declared.fragment.Fragment.{Fragment}
@@ -16,15 +17,16 @@ use Rattle.schema_readback.specs.Printed.{IsProperPath}
 use Rattle.schema_readback.specs.PrintedDecls.{IsSome}
 use Rattle.schema_says.specs.MeantNames.{IsOpenName, IsActionName, action_name_order, HasOpenNames}
 use Rattle.schema_build_checks.specs.DeclaredAt.{ActionAt, actions_at_in_order}
+use Rattle.schema_build_checks.proofs.Names.{names_by_components}
 use Rattle.schema_build_hierarchy.specs.Declarations.{Declared, DeclaredEntity}
-use Rattle.schema_build_hierarchy.proofs.Exact.{by_texts}
-use Rattle.schema_build_hierarchy.proofs.Ordered.{contains_unmap, sorted_seen}
+use Rattle.schema_build_hierarchy.proofs.Ordered.{sorted_seen}
+use Rattle.schema_build_hierarchy.proofs.ActionTypes.{last_behind}
 use Rattle.schema_build.specs.Meaning.{key_of, IsEntityMeaning, IsActionMeaning, FragmentMeaning}
 use Rattle.schema_build_closed.specs.Known.{IsKnownName}
 use Rattle.schema_build_closed.proofs.Declared.{entity_declared, action_declared, entity_stands, entity_full}
 use Rattle.schema_build_closed.proofs.Declared.{action_stands, action_full}
 use Rattle.schema_build_closed.proofs.Lists.{all_have, beside_rises}
-use Rattle.schema_build_closed.proofs.Words.{front, some_behind, basename_behind, free_behind, proper_name}
+use Rattle.schema_build_closed.proofs.Words.{front, some_behind, free_behind, proper_name}
 
 module _ {G : named.Ghosts RawName} (f : Fragment RawName G) (table : ExtensionTable) (m : SchemaMeaning)
     (mean : FragmentMeaning f table m) where
@@ -46,20 +48,20 @@ module _ {G : named.Ghosts RawName} (f : Fragment RawName G) (table : ExtensionT
           subst IsSome (sym full) (some_behind (front s.entry.0) (codes "Action")),
           ap has_cedar full ∙ free_behind s.entry.0 (codes "Action") refl,
         ),
-        ap basename full ∙ basename_behind (front s.entry.0) (codes "Action"),
+        ap basename full ∙ last_behind (front s.entry.0) (codes "Action"),
       )
 
   entities_agree : (a b : DeclaredEntity) (x y : EntityMeaning) → IsEntityMeaning f table a x
       → IsEntityMeaning f table b y → slice_cmp text_cmp x.name y.name ≡ names_in_order a.name b.name
   entities_agree a b x y p q =
-      (λ i. slice_cmp text_cmp (p.name i) (q.name i)) ∙ sym (by_texts (ids_of a.name) (ids_of b.name))
+      (λ i. slice_cmp text_cmp (p.name i) (q.name i)) ∙ sym (names_by_components a.name b.name)
 
   actions_agree : (a b : Declared ActionAt (ActionType RawName G)) (x y : ActionMeaning)
       → IsActionMeaning f table a x → IsActionMeaning f table b y
       → action_name_order (key_of x) (key_of y) ≡ actions_at_in_order a.name b.name
   actions_agree a b x y p q =
       (λ i. action_name_order (p.key i) (q.key i))
-      ∙ ap (λ o. ordering_then o (text_cmp a.name.id b.name.id)) (sym (by_texts (ids_of a.name.ty) (ids_of b.name.ty)))
+      ∙ ap (λ o. ordering_then o (text_cmp a.name.id b.name.id)) (sym (names_by_components a.name.ty b.name.ty))
 
   pub names_open : HasOpenNames m
   names_open = record {

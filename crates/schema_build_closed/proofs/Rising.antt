@@ -11,14 +11,14 @@ use Rattle.schema_json.specs.declared.types.TypeOfAttribute.{TypeOfAttribute, ou
 use Rattle.schema_build_expand.specs.Expands.{Expands, by_layer, LayerExpands, to_bool, to_long, to_string, to_set}
 use Rattle.schema_build_expand.specs.Expands.{to_record, to_extension, to_entity, to_builtin, to_declared, ExpandAll}
 use Rattle.schema_build_expand.specs.Expands.{to_no_attributes, to_attribute}
-use Rattle.schema_build_expand.specs.Scope.{Scope, Declared, Declares, builtin}
+use Rattle.schema_build_expand.specs.Scope.{Scope, DeclaredType, Declares, builtin}
 use Rattle.schema_build_expand.specs.View.{View}
 use Rattle.schema_build_closed.specs.Ordered.{meant_names, IsOrderedType, AreOrderedTypes}
 use Rattle.schema_build_closed.specs.WellFormed.{Rises, rises_by_layer, LayerRises, set_rises, record_rises, AllRise}
 use Rattle.schema_build_closed.specs.WellFormed.{next_rises}
 
 module _ (s : Scope RawName)
-    (commons : (name : List (List ℕ)) (d : Declared RawName) → Declares s name d → Rises RawName d.ty)
+    (commons : (name : List (List ℕ)) (d : DeclaredType RawName) → Declares s name d → Rises RawName d.ty)
     (builtins : (to : List (List ℕ)) (p : PlainType) → builtin s to ≡ Some p → IsOrderedType p) where
   -- attributes keep their names
   names_kept : (ns : Option InternalName) (es : List (List ℕ × TypeOfAttribute RawName)) (ps : Attributes)

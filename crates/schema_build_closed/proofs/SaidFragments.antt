@@ -5,14 +5,17 @@ use Rattle.std.specs.Prelude.{filter, if◌then◌else◌}
 use Rattle.std.specs.BTreeMap.{is_at}
 use Rattle.std.specs.List.{AllByRecursion, flat_map}
 use Rattle.std.specs.Option.{option_or}
+use Rattle.std.proofs.lemmas.Option.{same_Some}
 use Rattle.cedar_data.specs.Text.{text_cmp}
+use Rattle.cedar_data.proofs.Lists.{all_of}
+use Rattle.cedar_data.proofs.Orders.{text_total}
 use Rattle.cedar_identifiers.specs.declared.name.Name.{Name}
 use Rattle.cedar_identifiers.specs.declared.raw_name.RawName.{RawName}
 use Rattle.cedar_identifiers.specs.declared.unreserved_id.UnreservedId.{UnreservedId}
 use Rattle.schema_json.specs.declared.common_type.CommonTypeId.{CommonTypeId}
 use Rattle.schema_json.specs.declared.fragment.Fragment.{Fragment}
 use Rattle.schema_json.specs.declared.fragment.NamespaceDefinition.{NamespaceDefinition}
-use Rattle.schema_convert_types.specs.Declarations.{as_written}
+use Rattle.schema_json.specs.AsWritten.{as_written}
 use Rattle.schema_readback.specs.Written.{WrittenDecl, WrittenDeclared, WrittenItem}
 use Rattle.schema_says.specs.DeclarationsSay.{EntitySays, ActionSays, CommonSays}
 use Rattle.schema_says.specs.Entries.{FoundSays, EntriesSay, last_written}
@@ -21,10 +24,9 @@ use Rattle.schema_says.specs.FragmentsSay.{WrittenNamespace, NamespaceSays, Name
 use Rattle.schema_says.specs.FragmentsSay.{decls_of_item, is_of_namespace, items_of_namespace, opened, written_in}
 use Rattle.schema_says.specs.FragmentsSay.{FragmentSays}
 use Rattle.schema_says.specs.Sayable.{AppliesWell, IsSayable}
-use Rattle.schema_says.proofs.Orders.{text_total, namespace_total}
+use Rattle.schema_says.proofs.Orders.{namespace_total}
 use Rattle.schema_build_closed.specs.Chosen.{IsChosenDecl, AreChosen}
 use Rattle.schema_build_closed.specs.WellFormed.{Rises, IsKindFormed, IsSpecFormed, IsWellFormed}
-use Rattle.schema_build_closed.proofs.Lists.{all_of, same_some}
 use Rattle.schema_build_closed.proofs.SaidDecls.{kind_said, common_said, spec_said}
 use Rattle.schema_build_closed.proofs.SaidTypes.{found_there}
 
@@ -44,8 +46,8 @@ module _ (P : WrittenDeclared → Type 0) where
       by_case : (o : Option WrittenDeclared) → last_written ws n ≡ o → (b : Bool)
           → option_or o (if b then Some w.1 else None) ≡ Some d
           → ((d : WrittenDeclared) → last_written ws n ≡ Some d → P d) → P d
-      by_case (Some v) f b k on = subst P (same_some v d k) (on v f)
-      by_case None f true k on = subst P (same_some w.1 d k) h.0
+      by_case (Some v) f b k on = subst P (same_Some v d k) (on v f)
+      by_case None f true k on = subst P (same_Some w.1 d k) h.0
       by_case None f false k on = absurd (cc)
 
   each_named : (names : List (List ℕ)) (d : WrittenDeclared) (rest : List (List ℕ × WrittenDeclared)) → P d
@@ -98,7 +100,7 @@ module _ (Q : WrittenDeclared → Type 0) where
   opened_has : (is : List WrittenItem) (n : WrittenNamespace) → opened is ≡ Some n → AllByRecursion AllIn is
       → AllByRecursion Q n.decls
   opened_has [] n e h = absurd (cc)
-  opened_has (i ∷ is) n e h = subst (λ (z : WrittenNamespace). AllByRecursion Q z.decls) (same_some _ n e)
+  opened_has (i ∷ is) n e h = subst (λ (z : WrittenNamespace). AllByRecursion Q z.decls) (same_Some _ n e)
       (flat_has (i ∷ is) h)
 
   pub written_has : (items : List WrittenItem) → AllByRecursion AllIn items → (q : NamespaceName)

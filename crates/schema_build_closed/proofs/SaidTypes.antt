@@ -10,8 +10,11 @@ use Rattle.std.specs.declared.cmp.Ordering.{Ordering}
 use Rattle.std.specs.declared.cmp.Ordering.TheVariants.{Less}
 use Rattle.std.proofs.lemmas.Cmp.{tied_itself}
 use Rattle.std.proofs.lemmas.Map.Keys.{sorted_head, sorted_tail}
+use Rattle.std.proofs.lemmas.Option.{same_Some}
 use Rattle.cedar_data.specs.Span.{Span}
 use Rattle.cedar_data.specs.Text.{text_cmp}
+use Rattle.cedar_data.proofs.Orders.{text_total}
+use Rattle.cedar_data.proofs.Lists.{contains_map, contains_first, contains_later}
 use Rattle.cedar_identifiers.specs.declared.raw_name.RawName.{RawName}
 use Rattle.cedar_identifiers.specs.declared.reference_type.ReferenceType.TheVariants.{Common, CommonOrEntity}
 use Rattle.schema_json.specs.Shapes.{attributes_of, is_open, is_empty_type, is_empty_record}
@@ -22,13 +25,12 @@ use Rattle.schema_json.specs.declared.types.TypeOfAttribute.{TypeOfAttribute, ou
 use Rattle.schema_readback.specs.Written.{WrittenType, WrittenAttributes, path, set, rec, no_more, attribute}
 use Rattle.schema_says.specs.TypesSay.{TypeSays, AttributeSays, ByTest, is_last_attribute}
 use Rattle.schema_build_expand.specs.View.{View, view}
-use Rattle.schema_build_hierarchy.proofs.Exact.{text_total}
 use Rattle.schema_build_hierarchy.proofs.Once.{contains_cases}
-use Rattle.schema_build_hierarchy.proofs.Ordered.{contains_map}
 use Rattle.schema_build_closed.specs.WellFormed.{Rises, rises_by_layer, LayerRises, set_rises, record_rises}
 use Rattle.schema_build_closed.specs.WellFormed.{reference_rises, AllRise, none_rise, next_rises}
-use Rattle.schema_build_closed.proofs.Lists.{has_first, has_later, has_none, each_has, same_some}
-use Rattle.schema_build_closed.proofs.Views.{reference_viewed, common_viewed, set_viewed, record_viewed, record_emptied}
+use Rattle.schema_build_closed.proofs.Lists.{has_none, each_has}
+use Rattle.schema_build_closed.proofs.Views.{reference_viewed, common_viewed, set_viewed, record_viewed}
+use Rattle.schema_build_closed.proofs.Views.{record_emptied}
 
 -- an entry of a map whose names rise is found by its name
 module _ {K N V : Type 0} {order : N → N → Ordering} (total : IsTotalOrder order) (name : K → N) where
@@ -58,7 +60,7 @@ pub all_rise : (es : List (List ℕ × TypeOfAttribute RawName))
     → AllRise RawName es
 all_rise [] each = none_rise
 all_rise (e ∷ es) each =
-    next_rises e.0 e.1 es (each e (has_first e es)) (all_rise es (λ x c. each x (has_later e es x c)))
+    next_rises e.0 e.1 es (each e (contains_first e es)) (all_rise es (λ x c. each x (contains_later e es x c)))
 
 -- the one or the other, by a test
 either_of : (b : Bool) (A B C : Type 0) → ByTest b A B → (A → C) → (B → C) → C
@@ -81,7 +83,7 @@ mutual
   found_rises name a (attribute ns n r t xs) h =
       either_of (is_last_attribute name n xs) _ _ _ h
       (λ (b, e, says, notes, marks).
-      subst (λ z. Rises RawName (out-TypeOfAttribute RawName z).ty) (sym (same_some a b e))
+      subst (λ z. Rises RawName (out-TypeOfAttribute RawName z).ty) (sym (same_Some a b e))
       (said_rises (out-TypeOfAttribute RawName b).ty t says))
       (λ k. found_rises name a xs k)
 

@@ -3,24 +3,17 @@ use Rattle.std.proofs.Common.{◌≡◌, ℕ, ◌+◌, ◌-◌, List, [], ◌∷
 use Rattle.std.proofs.Common.{append_assoc, arith, slice_range}
 use Rattle.std.specs.List.{All}
 use Rattle.std.proofs.lemmas.List.{take-append-drop, length-take-le, length-append, drop_at}
-use Rattle.std.proofs.lemmas.List.Elements.{All-nil, All-cons}
 use Rattle.schema_syntax_tokens.specs.declared.token.Token.{Token}
 use Rattle.schema_syntax_tokens.specs.Forms.{IsForm}
 use Rattle.schema_syntax_tokens.specs.Laid.{Spells}
-use Rattle.schema_syntax_tokens.specs.Scans.{Skips, ScansFrom, Scans}
-use Rattle.schema_syntax_tokens.specs.Scans.Skips.{none, more}
+use Rattle.schema_syntax_tokens.specs.Scans.{ScansFrom, Scans}
+use Rattle.schema_syntax_tokens.proofs.Whole.{skips_front}
 use Rattle.schema_syntax_parser.specs.declared.syntax.ItemSyntax.{ItemSyntax}
-use Rattle.schema_syntax_reader.specs.Sites.{Site, sites_of}
+use Rattle.schema_syntax_reader.specs.Sites.{sites_of}
 use Rattle.schema_syntax_reader.specs.UserFaults.{IsLawful}
 use Rattle.schema_readback.specs.Lexemes.{lexemes_at}
 use Rattle.schema_readback.specs.Reads.{IsFaultless}
-
--- blanks stand in front of what follows them
-skipped : {rest here : List ℕ} → Skips rest here → (front : List ℕ) × (rest ≡ front ++ here)
-skipped none = ([], refl)
-skipped (more {rest} {after} {end} p s) =
-    let f = skipped s in
-    (p.0 ++ f.0, p.1 ∙ (ap (λ t. p.0 ++ t) f.1 ∙ sym (append_assoc p.0 f.0 end)))
+use Rattle.schema_readback.proofs.ReadingBack.{faultless_all}
 
 -- what stands in a text behind a front of this length
 token_there : (text front here : List ℕ) (start end n : ℕ) → text ≡ front ++ here → start ≡ length front
@@ -34,7 +27,7 @@ spells_from : (text front rest : List ℕ) (from : ℕ) (tokens : List Token) (a
     → from ≡ length front → ScansFrom from rest tokens at → Spells text tokens (lexemes_at text tokens)
 spells_from text front rest from [] at e f scans = tt
 spells_from text front rest from (t ∷ ts) at e f (here, n, next, scans) =
-    let (blanks, b) = skipped next.skips in
+    let (blanks, b) = skips_front next.skips in
     let split : text ≡ (front ++ blanks) ++ here = e ∙ ap (λ x. front ++ x) b ∙ sym (append_assoc front blanks here) in
     let whole : length rest ≡ length blanks + length here = ap length b ∙ length-append blanks here in
     let start : t.loc.start ≡ length (front ++ blanks) =
@@ -59,13 +52,6 @@ pub tokens_spell : (text : List ℕ) (tokens : List Token) (at : ℕ) → Scans 
     → Spells text tokens (lexemes_at text tokens)
 tokens_spell text tokens at scans = spells_from text [] text 0 tokens at refl refl scans
 
-faultless_from : (source : List ℕ) (items : List ItemSyntax) → IsLawful source items → (front rest : List Site)
-    → sites_of items ≡ front ++ rest → All (IsFaultless source) rest
-faultless_from source items h front [] e = All-nil (IsFaultless source)
-faultless_from source items h front (s ∷ rest) e =
-    All-cons (IsFaultless source) s rest (λ fault end f. h fault end (front, s, rest, e, f))
-    (faultless_from source items h (front ++ s ∷ []) rest (e ∙ sym (append_assoc front (s ∷ []) rest)))
-
 pub faultless : (source : List ℕ) (items : List ItemSyntax) → IsLawful source items
     → All (IsFaultless source) (sites_of items)
-faultless source items h = faultless_from source items h [] (sites_of items) refl
+faultless source items h = faultless_all source items h [] (sites_of items) refl

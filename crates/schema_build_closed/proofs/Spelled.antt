@@ -8,7 +8,8 @@ use Rattle.schema_syntax_reader.specs.Leaves.{Notes}
 use Rattle.schema_readback.specs.PrintedDecls.{IsSome}
 use Rattle.schema_readback.specs.Spellings.{IsChainOf, one, more, AreNamesOf, one_name, more_names, SpellsPath}
 use Rattle.schema_readback.specs.Spellings.{AreSeparatedOf, no_item, last_item, more_items, AreListedOf, single_item}
-use Rattle.schema_readback.specs.Spellings.{listed_items, AreManyOf, no_more_items, item_first, AreParentsOf, no_parent}
+use Rattle.schema_readback.specs.Spellings.{listed_items, AreManyOf, no_more_items, item_first, AreParentsOf}
+use Rattle.schema_readback.specs.Spellings.{no_parent}
 use Rattle.schema_readback.specs.Spellings.{some_parents, SpellsRef, plain_ref, typed_ref, SpellsType, path_type}
 use Rattle.schema_readback.specs.Spellings.{set_type, record_type, IsRecordOf, braces, AreAttributesOf, no_attribute}
 use Rattle.schema_readback.specs.Spellings.{last_attribute, more_attributes, IsAttributeOf, required, optional}

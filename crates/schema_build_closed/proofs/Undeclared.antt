@@ -5,6 +5,8 @@ use Rattle.std.specs.Prelude.{filter}
 use Rattle.std.specs.List.{AllByRecursion}
 use Rattle.std.specs.Option.{option_to_list}
 use Rattle.std.proofs.lemmas.List.{length-map}
+use Rattle.cedar_data.proofs.Lists.{contains_flat, found_passes, contains_first}
+use Rattle.cedar_data.proofs.Options.{seen_of}
 use Rattle.cedar_identifiers.specs.Names.{components_of, has_cedar}
 use Rattle.cedar_identifiers.specs.declared.internal_name.InternalName.{InternalName}
 use Rattle.cedar_identifiers.specs.declared.name.Name.{Name}
@@ -31,17 +33,16 @@ use Rattle.schema_build_hierarchy.specs.FirstUses.{AreFirstUses}
 use Rattle.schema_build_hierarchy.specs.Parents.{target_in}
 use Rattle.schema_build_hierarchy.specs.Rows.{undeclared_target, undeclared_part, undeclared_uses}
 use Rattle.schema_build_hierarchy.specs.Rows.{HasUndeclaredEntityTypes}
-use Rattle.schema_build_hierarchy.proofs.Gathered.{contains_flat}
 use Rattle.schema_build_hierarchy.proofs.Once.{contains_cases}
 use Rattle.schema_build_hierarchy.proofs.ParentRanks.{filter_kept}
+use Rattle.schema_build_hierarchy.proofs.ParentsDeclared.{among_held}
 use Rattle.schema_build.specs.Meaning.{FragmentMeaning}
-use Rattle.schema_build_closed.specs.Known.{entity_names}
+use Rattle.schema_build_closed.specs.Known.{meant_entities}
 use Rattle.schema_build_closed.proofs.Declared.{entity_held}
 use Rattle.schema_build_closed.proofs.Firsts.{firsts, are_firsts, firsts_have}
-use Rattle.schema_build_closed.proofs.Known.{entity_known, found_passes}
-use Rattle.schema_build_closed.proofs.Lists.{has_first, has_none, all_have, seen_of}
+use Rattle.schema_build_closed.proofs.Known.{entity_known}
+use Rattle.schema_build_closed.proofs.Lists.{has_none, all_have}
 use Rattle.schema_build_closed.proofs.Open.{known_free}
-use Rattle.schema_build_closed.proofs.Words.{among_held}
 
 abbrev Free : InternalName → Type 0
 Free n = has_cedar (components_of n) ≡ false
@@ -108,7 +109,7 @@ module _ {G : named.Ghosts RawName} (f : Fragment RawName G) (table : ExtensionT
           let first = firsts names_total uses in
           let are = are_firsts names_total uses in
           let (types, same) = all_named first (firsts_have names_total Free uses uses_free) in
-          let there : Contains uses u = subst (λ l. Contains l u) (sym e) (has_first u us) in
+          let there : Contains uses u = subst (λ l. Contains l u) (sym e) (contains_first u us) in
           let (z, cz, tied) = are.whole u there in
           let many : 0 < length types = omega (arith, cz.1, ap length same, length-map types (λ n. n.name)) in
           never (error.UndeclaredEntityTypes (record { types = types }))
@@ -126,12 +127,12 @@ module _ {G : named.Ghosts RawName} (f : Fragment RawName G) (table : ExtensionT
 
   pub target_named : (ns : Option Name) (name : RawName) (b : List (List ℕ))
       → undeclared_target all_tests own_tests ns name ≡ [] → target_in all_tests ns Entity name ≡ Some b
-      → Contains (entity_names m) b
+      → Contains (meant_entities m) b
   target_named ns name b none e =
       let o = target all_tests (in_namespace (name_of ns) Entity name) in
       let (n, is, same) = seen_of components_of o b e in
       let alone : filter (λ p. not (own_tests.is_entity (components_of p))) (n ∷ []) ≡ [] =
       ap (λ z. filter (λ p. not (own_tests.is_entity (components_of p))) (option_to_list z)) (sym is) ∙ none in
       let own = own_target n (own_tests.is_entity (components_of n)) refl alone in
-      subst (Contains (entity_names m)) same
+      subst (Contains (meant_entities m)) same
       (entity_held f table m mean (components_of n) (among_held (declared f).entities (components_of n) own))

@@ -21,16 +21,12 @@ use Rattle.schema_resolve.specs.Qualified.{in_namespace}
 use Rattle.schema_resolve.specs.ReferenceParts.{by_reference}
 use Rattle.schema_resolve.specs.Resolved.{untargeted_in}
 use Rattle.schema_resolve.specs.Targets.{target, unless}
-use Rattle.schema_resolve.specs.Undefined.{Undefined, type_reference, action_reference, types_among}
+use Rattle.schema_resolve.specs.Undefined.{Undefined, type_reference, types_among}
+use Rattle.schema_resolve.proofs.Gathering.{types_both}
 use Rattle.schema_build_errors.specs.declared.schema_error.SchemaError.TheVariants as error
 use Rattle.schema_build_checks.specs.Rows.{Never}
 use Rattle.schema_build_scope.specs.UndefinedRows.{undefined_alone, HasUndefinedTypes}
 use Rattle.schema_build_hierarchy.specs.Parents.{target_in}
-
-types_both : (xs ys : List Undefined) → types_among (xs ++ ys) ≡ types_among xs ++ types_among ys
-types_both [] ys = refl
-types_both (type_reference c ∷ xs) ys = ap (λ l. c ∷ l) (types_both xs ys)
-types_both (action_reference id ty ∷ xs) ys = types_both xs ys
 
 types_flat : {A : Type 0} (g : A → List Undefined) (xs : List A)
     → types_among (flat_map g xs) ≡ flat_map (λ x. types_among (g x)) xs

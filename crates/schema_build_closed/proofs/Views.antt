@@ -4,6 +4,7 @@ use Rattle.cedar_data.specs.Span.{Span}
 use Rattle.cedar_identifiers.specs.declared.raw_name.RawName.{RawName}
 use Rattle.cedar_identifiers.specs.declared.reference_type.ReferenceType.TheVariants.{Common, CommonOrEntity}
 use Rattle.schema_json.specs.Shapes.{attributes_of, is_open, is_empty_type, is_empty_record}
+use Rattle.schema_json.specs.Shapes.{is_empty_shape, is_empty_outside}
 use Rattle.schema_json.specs.declared.types.Type.{«Type», Type-F, out-roll-Type}
 use Rattle.schema_json.specs.declared.types.Type.TheVariants as shape
 use Rattle.schema_json.specs.declared.types.TypeVariant.{TypeVariant, TypeVariant-F, out-TypeVariant}
@@ -11,7 +12,7 @@ use Rattle.schema_json.specs.declared.types.TypeVariant.{out-roll-TypeVariant}
 use Rattle.schema_json.specs.declared.types.TypeVariant.TheVariants as variant
 use Rattle.schema_json.specs.declared.types.RecordType.{RecordType}
 use Rattle.schema_build_expand.specs.View.{set_layer, record_layer, reference_layer, shape_view, outer_view, view}
-use Rattle.schema_build_closed.proofs.Bare.{ShapeOf, empty_shape, empty_outside, alike_type}
+use Rattle.schema_build_closed.proofs.Bare.{ShapeOf, alike_type}
 
 pub shape_viewed : (v : TypeVariant RawName) (o : ShapeOf) (loc : Option Span) → out-TypeVariant RawName v ≡ o
     → view (shape.Variant v loc) ≡ shape_view o
@@ -47,5 +48,5 @@ pub record_emptied : (t : «Type» RawName) (r : RecordType RawName) (loc : Opti
     → t ≡ shape.Variant (variant.Record r) loc → is_empty_type t ≡ is_empty_record r
 record_emptied t r loc e =
     ap is_empty_type e ∙ ap is_empty_type (sym (shape.rolls-Variant (variant.Record r) loc))
-    ∙ alike_type _ ∙ ap empty_outside (out-roll-Type RawName (Type-F.Variant (variant.Record r) loc))
-    ∙ ap empty_shape (record_out r)
+    ∙ alike_type _ ∙ ap is_empty_outside (out-roll-Type RawName (Type-F.Variant (variant.Record r) loc))
+    ∙ ap is_empty_shape (record_out r)

@@ -1,6 +1,7 @@
 -- Where a walk gives nothing, no part of what is walked gives anything.
 use Rattle.std.proofs.Common.{◌≡◌, List, [], Contains, Option, Some, ap, ◌∙◌, sym}
 use Rattle.std.specs.Option.{option_map_or}
+use Rattle.cedar_data.proofs.Lists.{empty_before, empty_behind, empty_in}
 use Rattle.cedar_identifiers.specs.declared.name.Name.{Name}
 use Rattle.cedar_identifiers.specs.declared.name_text.NameText as named
 use Rattle.cedar_identifiers.specs.declared.raw_name.RawName.{RawName}
@@ -14,11 +15,11 @@ use Rattle.schema_json_walk.specs.Parts.{Part, parent, principal, resource}
 use Rattle.schema_json_walk.specs.Walk.{each_value, of_common, of_entity, of_kind, of_action, of_items, of_parents}
 use Rattle.schema_json_walk.specs.Walk.{of_principals, of_resources, of_context, of_apply, of_relations}
 use Rattle.schema_json_walk.specs.Walk.{of_action_parts, of_entry, of_fragment}
+use Rattle.schema_build_checks.specs.DeclaredAt.{ActionAt}
 use Rattle.schema_build_hierarchy.specs.Declarations.{Declared, DeclaredEntity}
 use Rattle.schema_build_hierarchy.specs.Parents.{written_parents}
-use Rattle.schema_build_checks.specs.DeclaredAt.{ActionAt}
 use Rattle.schema_build_closed.proofs.Declared.{EntityStands, ActionStands}
-use Rattle.schema_build_closed.proofs.Lists.{has_none, empty_before, empty_behind, empty_in}
+use Rattle.schema_build_closed.proofs.Lists.{has_none}
 
 module _ {U : Type 0} (visit : Part RawName → List U) where
   parents_none : (kind : EntityTypeKind RawName) → of_kind visit kind ≡ [] → (p : RawName)

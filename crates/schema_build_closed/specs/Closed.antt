@@ -8,26 +8,26 @@ use Rattle.cedar_names.specs.CanonicalText.{basename}
 use Rattle.cedar_names.specs.Meaning.{PlainType, EntityMeaning, ActionMeaning, SchemaMeaning}
 use Rattle.cedar_names.specs.declared.extension_table.ExtensionTable.{ExtensionTable}
 use Rattle.schema_says.specs.MeantNames.{HasOpenNames, IsOfWords, action_name_order}
-use Rattle.schema_build_hierarchy.specs.Ancestors.{IsParentAmong}
 use Rattle.schema_build_text.specs.Captured.{plain_action, IsUncaptured}
+use Rattle.schema_build_hierarchy.specs.Ancestors.{IsParentAmong}
 use Rattle.schema_build_closed.specs.Ordered.{IsOrderedType}
 use Rattle.schema_build_closed.specs.Kinds.{HasItsParts, AppliesWhereOwn}
-use Rattle.schema_build_closed.specs.Known.{entity_names, action_names, AreKnownTypes, AreKnownTags}
+use Rattle.schema_build_closed.specs.Known.{meant_entities, meant_actions, AreKnownTypes, AreKnownTags}
 
 -- No entity type is called `Action`, and no entity type and no action of a namespace with a name has the last word, or
 -- the id, of one of the empty namespace.
 pub record HasNamesApart (m : SchemaMeaning) : Type 0 where
   pub no_action : AllByRecursion (λ e. basename e.name ≢ codes "Action") m.entities
-  pub entities : (name : List (List ℕ)) → Contains (entity_names m) name
-      → Contains (entity_names m) (basename name ∷ []) → name ≡ basename name ∷ []
-  pub actions : (ty : List (List ℕ)) (id : List ℕ) → Contains (action_names m) (ty, id)
-      → Contains (action_names m) (plain_action, id) → ty ≡ plain_action
+  pub entities : (name : List (List ℕ)) → Contains (meant_entities m) name
+      → Contains (meant_entities m) (basename name ∷ []) → name ≡ basename name ∷ []
+  pub actions : (ty : List (List ℕ)) (id : List ℕ) → Contains (meant_actions m) (ty, id)
+      → Contains (meant_actions m) (plain_action, id) → ty ≡ plain_action
 
 -- An entity type has what its kind has, each of its ancestors is declared, and so is each name in its types.
 pub record IsClosedEntity (table : ExtensionTable) (m : SchemaMeaning) (e : EntityMeaning) : Type 0 where
   pub parts : HasItsParts e.is_external e.choices e
   pub ancestors_rise : IsStrictlySortedBy (slice_cmp text_cmp) e.ancestors
-  pub ancestors : AllByRecursion (λ name. Contains (entity_names m) name) e.ancestors
+  pub ancestors : AllByRecursion (λ name. Contains (meant_entities m) name) e.ancestors
   pub ordered : IsOrderedType (PlainType.Rec e.attributes)
   pub attributes : AreKnownTypes table m e.attributes
   pub tags : AreKnownTags table m e.tags
@@ -37,11 +37,11 @@ pub record IsClosedEntity (table : ExtensionTable) (m : SchemaMeaning) (e : Enti
 pub record IsClosedAction (table : ExtensionTable) (m : SchemaMeaning) (a : ActionMeaning) : Type 0 where
   pub applies : AppliesWhereOwn a.is_external a
   pub ancestors_rise : IsStrictlySortedBy action_name_order a.ancestors
-  pub ancestors : AllByRecursion (λ name. Contains (action_names m) name) a.ancestors
+  pub ancestors : AllByRecursion (λ name. Contains (meant_actions m) name) a.ancestors
   pub principals_rise : IsStrictlySortedBy (slice_cmp text_cmp) a.principals
-  pub principals : AllByRecursion (λ name. Contains (entity_names m) name) a.principals
+  pub principals : AllByRecursion (λ name. Contains (meant_entities m) name) a.principals
   pub resources_rise : IsStrictlySortedBy (slice_cmp text_cmp) a.resources
-  pub resources : AllByRecursion (λ name. Contains (entity_names m) name) a.resources
+  pub resources : AllByRecursion (λ name. Contains (meant_entities m) name) a.resources
   pub ordered : IsOrderedType (PlainType.Rec a.context)
   pub context : AreKnownTypes table m a.context
 

@@ -6,19 +6,19 @@ use Rattle.cedar_names.specs.Tables.{table_has}
 use Rattle.cedar_names.specs.declared.extension_table.ExtensionTable.{ExtensionTable}
 use Rattle.schema_build_closed.specs.Ordered.{IsOrderedType}
 
-abbrev pub entity_names : SchemaMeaning → List (List (List ℕ))
-entity_names m = map (λ e. e.name) m.entities
+abbrev pub meant_entities : SchemaMeaning → List (List (List ℕ))
+meant_entities m = map (λ e. e.name) m.entities
 
 -- an action goes by its type and its id
-abbrev pub action_names : SchemaMeaning → List (List (List ℕ) × List ℕ)
-action_names m = map (λ a. (a.ty, a.id)) m.actions
+abbrev pub meant_actions : SchemaMeaning → List (List (List ℕ) × List ℕ)
+meant_actions m = map (λ a. (a.ty, a.id)) m.actions
 
 abbrev pub action_types : SchemaMeaning → List (List (List ℕ))
 action_types m = map (λ a. a.ty) m.actions
 
 -- the name of an entity type, or the type of an action
 abbrev pub IsKnownName : SchemaMeaning → List (List ℕ) → Type 0
-IsKnownName m name = Contains (entity_names m) name ⊎ Contains (action_types m) name
+IsKnownName m name = Contains (meant_entities m) name ⊎ Contains (action_types m) name
 
 module _ (table : ExtensionTable) (meaning : SchemaMeaning) where
   abbrev mutual

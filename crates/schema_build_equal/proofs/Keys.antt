@@ -1,18 +1,16 @@
 -- Names and actions by what tells them apart: their equality and their order.
 use Rattle.std.proofs.Common.{◌≡◌, ◌↔◌, ℕ, Bool, true, ◌&&◌, List, [], ◌∷◌, map, refl, ap, sym, ◌∙◌}
-use Rattle.std.specs.declared.cmp.Ordering.{Ordering}
-use Rattle.std.specs.declared.cmp.Ordering.TheVariants.{Less, Equal, Greater}
-use Rattle.std.specs.Ordering.{ordering_then}
+use Rattle.std.specs.declared.cmp.Ordering.TheVariants.{Equal}
 use Rattle.std.specs.BTreeSet.{insert_key}
 use Rattle.std.specs.Cmp.{IsTotalOrder, first_so, second_so}
-use Rattle.std.specs.Cmp.Lexicographic.{slice_cmp, lists_total, pointwise}
+use Rattle.std.specs.Cmp.Lexicographic.{slice_cmp, pointwise}
 use Rattle.std.specs.Str.{bytes_eq, encode_utf8_all}
 use Rattle.std.proofs.lemmas.Bool.{and_from}
-use Rattle.std.proofs.lemmas.Cmp.{on_total, then_total, nat_list_cmp_total}
-use Rattle.std.proofs.lemmas.Map.Lookups.{exact_bytes}
+use Rattle.std.proofs.lemmas.Cmp.{on_total, then_total}
 use Rattle.std.proofs.lemmas.Slice.Eq.{bytes_eq-Decides}
 use Rattle.std.proofs.lemmas.Str.{encodes_same}
 use Rattle.cedar_data.specs.Text.{text_cmp}
+use Rattle.cedar_data.proofs.Orders.{then_equal, text_total, text_exact, texts_total, texts_exact}
 use Rattle.cedar_identifiers.specs.Names.{components_of, texts_of}
 use Rattle.cedar_identifiers.specs.declared.id.Id.{Id}
 use Rattle.cedar_identifiers.specs.declared.internal_name.InternalName.{InternalName}
@@ -31,31 +29,6 @@ texts_equal v w =
     let bytes = bytes_eq-Decides (encode_utf8_all v) (encode_utf8_all w) in
     (λ h. encodes_same v w (bytes.0 h), λ e. bytes.1 (ap encode_utf8_all e))
 
-pub text_total : IsTotalOrder text_cmp
-text_total = on_total encode_utf8_all nat_list_cmp_total
-
-text_exact : (x y : List ℕ) → text_cmp x y ≡ Equal → x ≡ y
-text_exact x y e = encodes_same x y (exact_bytes (encode_utf8_all x) (encode_utf8_all y) e)
-
-then_equal : (a b : Ordering) → ordering_then a b ≡ Equal → (a ≡ Equal) × (b ≡ Equal)
-then_equal Less b e = absurd (cc)
-then_equal Equal b e = (refl, e)
-then_equal Greater b e = absurd (cc)
-
--- names
-pub names_total : IsTotalOrder (slice_cmp text_cmp)
-names_total = lists_total text_total
-
-pub names_exact : (xs ys : List (List ℕ)) → slice_cmp text_cmp xs ys ≡ Equal → xs ≡ ys
-names_exact [] [] e = refl
-names_exact [] (y ∷ ys) e = absurd (cc)
-names_exact (x ∷ xs) [] e = absurd (cc)
-names_exact (x ∷ xs) (y ∷ ys) e =
-    let both = then_equal (text_cmp x y) (slice_cmp text_cmp xs ys) e in
-    let first : x ≡ y = text_exact x y both.0 in
-    let rest : xs ≡ ys = names_exact xs ys both.1 in
-    cc
-
 pub ids_equal : (E : Id → Id → Bool) → ((x y : Id) → E x y ≡ same_text x.text y.text) → (xs ys : List Id)
     → (pointwise E xs ys ≡ true) ↔ (texts_of xs ≡ texts_of ys)
 ids_equal E e = in_turn (λ i. i.text) E (λ x y.
@@ -71,18 +44,18 @@ names_equal E e a b =
       λ h. ap (λ t. t && pointwise E a.others b.others) (sym (e a.first b.first)) ∙ all.1 h,
     )
 
-pub in_order_once : (ns : List (List (List ℕ))) → in_order ns ≡ once names_total names_exact ns
+pub in_order_once : (ns : List (List (List ℕ))) → in_order ns ≡ once texts_total texts_exact ns
 in_order_once [] = refl
 in_order_once (n ∷ ns) = ap (λ l. insert_key (slice_cmp text_cmp) l n) (in_order_once ns)
 
 -- actions
 pub actions_total : IsTotalOrder actions_cmp
-actions_total = then_total (on_total (λ a. a.0) names_total) (on_total (λ a. a.1) text_total)
+actions_total = then_total (on_total (λ a. a.0) texts_total) (on_total (λ a. a.1) text_total)
 
 pub actions_exact : (a b : List (List ℕ) × List ℕ) → actions_cmp a b ≡ Equal → a ≡ b
 actions_exact a b e =
     let both = then_equal (slice_cmp text_cmp a.0 b.0) (text_cmp a.1 b.1) e in
-    λ i. (names_exact a.0 b.0 both.0 i, text_exact a.1 b.1 both.1 i)
+    λ i. (texts_exact a.0 b.0 both.0 i, text_exact a.1 b.1 both.1 i)
 
 pub actions_equal : (E : Id → Id → Bool) → ((x y : Id) → E x y ≡ same_text x.text y.text) → (a b : EntityUID)
     → (((same_text a.ty.name.first.text b.ty.name.first.text && pointwise E a.ty.name.others b.ty.name.others)

@@ -2,28 +2,17 @@
 use Rattle.std.proofs.Common.{◌≡◌, ◌↔◌, Bool, true, false, ◌||◌, List, [], ◌∷◌, map, refl, ap, sym, ◌∙◌, subst}
 use Rattle.std.specs.declared.cmp.Ordering.{Ordering}
 use Rattle.std.specs.declared.cmp.Ordering.TheVariants.{Less, Equal, Greater}
-use Rattle.std.specs.Ordering.{is_eq, ordering_reverse, match_ordering}
+use Rattle.std.specs.Ordering.{is_eq, ordering_reverse}
 use Rattle.std.specs.BTreeSet.{insert_key}
 use Rattle.std.specs.Cmp.{IsTotalOrder, first_so, second_so}
 use Rattle.std.specs.Cmp.Lexicographic.{pointwise}
-use Rattle.std.specs.List.{list_any, list_all}
-use Rattle.std.proofs.lemmas.Bool.{and_from, false≢true}
+use Rattle.std.specs.List.{list_any, list_all, AllByRecursion}
+use Rattle.std.proofs.lemmas.Bool.{and_from, false≢true, or_right}
 use Rattle.std.proofs.lemmas.Cmp.{tied_itself}
+use Rattle.std.specs.List.Sorted.{IsStrictlySortedBy}
+use Rattle.cedar_data.proofs.Orders.{all_above, equal_from, nothing_rises}
+use Rattle.schema_build_types.proofs.Inserted.{any_insert, rises_insert}
 use Rattle.schema_build_equal.specs.Among.{are_among, are_one_set}
-
-or_right : (a b : Bool) → b ≡ true → (a || b) ≡ true
-or_right true b h = refl
-or_right false b h = h
-
-or_same : (a b : Bool) → (b || a) ≡ (b || (b || a))
-or_same a true = refl
-or_same a false = refl
-
-or_turned : (a b c : Bool) → (b || (a || c)) ≡ (a || (b || c))
-or_turned true true c = refl
-or_turned true false c = refl
-or_turned false true c = refl
-or_turned false false c = refl
 
 -- tests that imply one another are the same
 same_test : (a b : Bool) → (a ≡ true → b ≡ true) → (b ≡ true → a ≡ true) → a ≡ b
@@ -55,81 +44,37 @@ module _ {K : Type 0} {C : K → K → Ordering} (o : IsTotalOrder C) (exact : (
   turn : (a b : K) (r : Ordering) → C a b ≡ r → C b a ≡ ordering_reverse r
   turn a b r e = o.antisymm b a ∙ ap ordering_reverse e
 
-  -- a key is below each of these
-  abbrev Below : K → List K → Type 0
-  Below k [] = Unit {0}
-  Below k (n ∷ ns) = (C k n ≡ Less) × Below k ns
-
-  abbrev Rises : List K → Type 0
-  Rises [] = Unit {0}
-  Rises (n ∷ ns) = Below n ns × Rises ns
-
-  below_more : (j k : K) (ns : List K) → C j k ≡ Less → Below k ns → Below j ns
-  below_more j k [] e b = tt
-  below_more j k (n ∷ ns) e b = (o.trans j k n e b.0, below_more j k ns e b.1)
-
-  below_insert : (n k : K) (ks : List K) → Below n ks → C n k ≡ Less → Below n (insert_key C ks k)
-  below_insert n k [] b e = (e, tt)
-  below_insert n k (y ∷ ys) b e = by (below_insert n k ys b.1 e) (C k y)
-    where
-      by : Below n (insert_key C ys k) → (r : Ordering)
-          → Below n (match_ordering r (k ∷ y ∷ ys) (y ∷ ys) (y ∷ insert_key C ys k))
-      by more Less = (e, b)
-      by more Equal = b
-      by more Greater = (b.0, more)
-
-  rises_insert : (k : K) (ks : List K) → Rises ks → Rises (insert_key C ks k)
-  rises_insert k [] r = (tt, tt)
-  rises_insert k (y ∷ ys) r = by (rises_insert k ys r.1) (C k y) refl
-    where
-      by : Rises (insert_key C ys k) → (a : Ordering) → C k y ≡ a
-          → Rises (match_ordering a (k ∷ y ∷ ys) (y ∷ ys) (y ∷ insert_key C ys k))
-      by more Less e = ((e, below_more k y ys e r.0), r)
-      by more Equal e = r
-      by more Greater e = (below_insert y k ys r.0 (turn k y Greater e), more)
-
   -- the keys, sorted, each once
   abbrev pub once : List K → List K
   once [] = []
   once (k ∷ ks) = insert_key C (once ks) k
 
-  rises_once : (ks : List K) → Rises (once ks)
-  rises_once [] = tt
-  rises_once (k ∷ ks) = rises_insert k (once ks) (rises_once ks)
+  rises_once : (ks : List K) → IsStrictlySortedBy C (once ks)
+  rises_once [] = nothing_rises C
+  rises_once (k ∷ ks) = rises_insert C o k (once ks) (rises_once ks)
 
   -- the key is equal to one of these
   abbrev has : List K → K → Bool
   has ks q = list_any (λ k. is_eq (C k q)) ks
 
-  has_insert : (q k : K) (ks : List K) → has (insert_key C ks k) q ≡ (is_eq (C k q) || has ks q)
-  has_insert q k [] = refl
-  has_insert q k (y ∷ ys) = by (has_insert q k ys) (C k y) refl
-    where
-      by : has (insert_key C ys k) q ≡ (is_eq (C k q) || has ys q) → (a : Ordering) → C k y ≡ a
-          → has (match_ordering a (k ∷ y ∷ ys) (y ∷ ys) (y ∷ insert_key C ys k)) q
-          ≡ (is_eq (C k q) || (is_eq (C y q) || has ys q))
-      by more Less e = refl
-      by more Equal e = or_same (has ys q) (is_eq (C y q))
-          ∙ ap (λ b. b || (is_eq (C y q) || has ys q)) (ap is_eq (sym (o.congr k y q e)))
-      by more Greater e = ap (λ b. is_eq (C y q) || b) more
-          ∙ or_turned (is_eq (C k q)) (is_eq (C y q)) (has ys q)
-
   has_once : (ks : List K) (q : K) → has (once ks) q ≡ has ks q
   has_once [] q = refl
-  has_once (k ∷ ks) q = has_insert q k (once ks) ∙ ap (λ b. is_eq (C k q) || b) (has_once ks q)
+  has_once (k ∷ ks) q = any_insert C (λ j. is_eq (C j q)) (λ i j e. ap is_eq (o.congr i j q e)) k (once ks)
+      ∙ ap (λ b. is_eq (C k q) || b) (has_once ks q)
 
   has_first : (k : K) (ks : List K) → has (k ∷ ks) k ≡ true
   has_first k ks = ap (λ r. is_eq r || has ks k) (tied_itself o k)
 
-  not_had : (q : K) (ks : List K) → Below q ks → has ks q ≡ false
+  not_had : (q : K) (ks : List K) → AllByRecursion (λ k. C q k ≡ Less) ks → has ks q ≡ false
   not_had q [] b = refl
   not_had q (k ∷ ks) b = ap (λ r. is_eq r || has ks q) (turn q k Less b.0) ∙ not_had q ks b.1
 
-  clash : (x : K) (xs ys : List K) → Below x ys → ((q : K) → has (x ∷ xs) q ≡ has ys q) → ⊥
+  clash : (x : K) (xs ys : List K) → AllByRecursion (λ y. C x y ≡ Less) ys
+      → ((q : K) → has (x ∷ xs) q ≡ has ys q) → ⊥
   clash x xs ys b h = false≢true (sym (not_had x ys b) ∙ (sym (h x) ∙ has_first x xs))
 
-  behind : (x : K) (xs ys : List K) → Below x xs → Below x ys → ((q : K) → has (x ∷ xs) q ≡ has (x ∷ ys) q)
-      → (q : K) → has xs q ≡ has ys q
+  behind : (x : K) (xs ys : List K) → AllByRecursion (λ y. C x y ≡ Less) xs → AllByRecursion (λ y. C x y ≡ Less) ys
+      → ((q : K) → has (x ∷ xs) q ≡ has (x ∷ ys) q) → (q : K) → has xs q ≡ has ys q
   behind x xs ys b c h q = by (C x q) refl
     where
       by : (a : Ordering) → C x q ≡ a → has xs q ≡ has ys q
@@ -139,34 +84,31 @@ module _ {K : Type 0} {C : K → K → Ordering} (o : IsTotalOrder C) (exact : (
       by Greater e = sym (ap (λ r. is_eq r || has xs q) e) ∙ (h q ∙ ap (λ r. is_eq r || has ys q) e)
 
   -- lists that rise are the same where they have the same keys
-  one_list : (xs ys : List K) → Rises xs → Rises ys → ((q : K) → has xs q ≡ has ys q) → xs ≡ ys
+  one_list : (xs ys : List K) → IsStrictlySortedBy C xs → IsStrictlySortedBy C ys → ((q : K) → has xs q ≡ has ys q)
+      → xs ≡ ys
+  unfolding IsStrictlySortedBy
   one_list [] [] r s h = refl
   one_list [] (y ∷ ys) r s h = absurd (clash y ys [] tt (λ q. sym (h q)))
   one_list (x ∷ xs) [] r s h = absurd (clash x xs [] tt h)
   one_list (x ∷ xs) (y ∷ ys) r s h = by (λ f. one_list xs ys r.1 s.1 f) (C x y) refl
     where
       by : (((q : K) → has xs q ≡ has ys q) → xs ≡ ys) → (a : Ordering) → C x y ≡ a → x ∷ xs ≡ y ∷ ys
-      by more Less e = absurd (clash x xs (y ∷ ys) (e, below_more x y ys e s.0) h)
+      by more Less e = absurd (clash x xs (y ∷ ys) (e, all_above o x y ys e s.0) h)
       by more Equal e =
           let p = sym (exact x y e) in
-          let b : Below x ys = subst (λ k. Below k ys) p s.0 in
+          let b : AllByRecursion (λ z. C x z ≡ Less) ys = subst (λ k. AllByRecursion (λ z. C k z ≡ Less) ys) p s.0 in
           let f : (q : K) → has (x ∷ xs) q ≡ has (x ∷ ys) q =
           subst (λ k. (q : K) → has (x ∷ xs) q ≡ has (k ∷ ys) q) p h in
           let rest : xs ≡ ys = more (behind x xs ys r.0 b f) in
           cc
       by more Greater e = absurd (let less = turn x y Greater e in
-          clash y ys (x ∷ xs) (less, below_more y x xs less r.0) (λ q. sym (h q)))
+          clash y ys (x ∷ xs) (less, all_above o y x xs less r.0) (λ q. sym (h q)))
 
   module _ {T : Type 0} (key : T → K) (eq : T → T → Bool) (same : (x y : T) → (eq x y ≡ true) ↔ (key x ≡ key y)) where
     tests : (x y : T) → eq x y ≡ is_eq (C (key x) (key y))
     tests x y = same_test (eq x y) (is_eq (C (key x) (key y)))
         (λ h. ap (λ k. is_eq (C (key x) k)) (sym ((same x y).0 h)) ∙ ap is_eq (tied_itself o (key x)))
-        (λ h. (same x y).1 (exact (key x) (key y) (equal (C (key x) (key y)) h)))
-      where
-        equal : (r : Ordering) → is_eq r ≡ true → r ≡ Equal
-        equal Less h = absurd (false≢true h)
-        equal Equal h = refl
-        equal Greater h = absurd (false≢true h)
+        (λ h. (same x y).1 (exact (key x) (key y) (equal_from (C (key x) (key y)) h)))
 
     any_is : (ys : List T) (x : T) → list_any (λ y. eq y x) ys ≡ has (map key ys) (key x)
     any_is [] x = refl

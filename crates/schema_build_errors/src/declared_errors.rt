@@ -1,4 +1,4 @@
-ghost use Rattle.std.specs.Prelude.{◌≡◌, [], Ok, None, IfOk, IsSomeAnd};
+ghost use Rattle.std.specs.Prelude.{◌≡◌, Ok, None, IfOk, IsSomeAnd};
 ghost use Rattle.schema_resolve_errors.specs.ErrorTexts.{label_at};
 ghost use Rattle.schema_resolve_errors.specs.Gathered.{if_there};
 ghost use Rattle.schema_build_errors.specs.DeclaredTexts.{action_type_declared_text, type_shadowing_text, type_shadowing_help, action_shadowing_text, action_shadowing_help, hidden_text};

@@ -1,6 +1,4 @@
-ghost use Rattle.std.specs.Prelude.{◌≡◌, ◌++◌, [], map, Ok, None, IfOk, IsSomeAnd, OnOk};
-ghost use Rattle.schema_resolve_errors.specs.ErrorTexts.{label_at};
-ghost use Rattle.schema_resolve_errors.specs.Gathered.{if_there};
+ghost use Rattle.std.specs.Prelude.{◌≡◌, [], Ok, None, IfOk, IsSomeAnd};
 ghost use Rattle.schema_build_errors.specs.UseTexts.{unknown_extension_text, unsupported_text, undeclared_types_text, undeclared_types_help, undeclared_labels};
 
 use crate::places::add_place;

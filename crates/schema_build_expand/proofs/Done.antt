@@ -5,14 +5,14 @@ use Rattle.std.specs.Prelude.{slice_get}
 use Rattle.std.proofs.Math.ListN.{set}
 use Rattle.std.proofs.lemmas.List.{length-set, get_or-set_same, get_or-set_other}
 use Rattle.std.proofs.lemmas.List.Elements.{All-weaker, All-contains, All-more}
-use Rattle.std.proofs.lemmas.Option.{slice_get_within, get_or_from_slice_get, slice_get_read}
+use Rattle.std.proofs.lemmas.Option.{slice_get_within, get_or_from_slice_get, slice_get_read, same_Some}
 use Rattle.std.proofs.lemmas.Bool.{cases_eq}
 use Rattle.cedar_identifiers.specs.declared.internal_name.InternalName.{InternalName}
-use Rattle.schema_build_types.specs.declared.types.Type as built
 use Rattle.schema_json_walk.specs.Parts.{Part, type_reference, context_reference, parent, principal, resource}
 use Rattle.schema_json_walk.specs.Parts.{action_parent, extension_type, open_record, action_attributes}
 use Rattle.schema_json_walk.specs.Parts.{external_not_bare}
-use Rattle.schema_build_expand.specs.Scope.{Scope, Declared}
+use Rattle.schema_build_types.specs.declared.types.Type as built
+use Rattle.schema_build_expand.specs.Scope.{Scope, DeclaredType}
 use Rattle.schema_build_expand.specs.Targets.{ExpandsTo, AreExpanded, IsReady}
 use Rattle.schema_build_expand.specs.Commons.{IsDone, IsBehind}
 
@@ -61,16 +61,13 @@ front_done done order i k t lt here h all =
     (take i order) all) (subst (IsDone (set done k (Some t))) here (now_done done k t h))
 
 module _ {N : Type 0} (s : Scope N) where
-  some_same : {A : Type 0} (x y : A) → Some x ≡ Some y → x ≡ y
-  some_same x y e = cc
-
-  pub expanded_more : (done : List (Option built.«Type»)) (k : ℕ) (t : built.«Type») (d : Declared N)
+  pub expanded_more : (done : List (Option built.«Type»)) (k : ℕ) (t : built.«Type») (d : DeclaredType N)
       → AreExpanded s done → k < length done → slice_get s.commons k ≡ Some d → ExpandsTo s d.place d.ty t
       → AreExpanded s (set done k (Some t))
   expanded_more done k t d all h at made j u there = elim (cases_eq j k) [
     | inl same ↦
         let e : t ≡ u =
-        some_same t u (some_same (Some t) (Some u)
+        same_Some t u (same_Some (Some t) (Some u)
         (sym (set_here done k (Some t) h) ∙ subst
         (λ i. slice_get (set done k (Some t)) i ≡ Some (Some u)) same there)) in
         (d, subst (λ i. slice_get s.commons i ≡ Some d) (sym same) at, subst (ExpandsTo s d.place d.ty) e made)

@@ -13,7 +13,8 @@ use Rattle.schema_json.specs.declared.types.Type.TheVariants.{rolls-CommonTypeRe
 use Rattle.schema_json.specs.declared.types.TypeVariant.{TypeVariant, TypeVariant-F, out-TypeVariant}
 use Rattle.schema_json.specs.declared.types.TypeVariant.{out-roll-TypeVariant}
 use Rattle.schema_json.specs.declared.types.TypeVariant.TheVariants as variant
-use Rattle.schema_json.specs.declared.types.TypeVariant.TheVariants.{rolls-String, rolls-Long, rolls-Boolean, rolls-Set}
+use Rattle.schema_json.specs.declared.types.TypeVariant.TheVariants.{rolls-String, rolls-Long, rolls-Boolean}
+use Rattle.schema_json.specs.declared.types.TypeVariant.TheVariants.{rolls-Set}
 use Rattle.schema_json.specs.declared.types.TypeVariant.TheVariants.{rolls-Record, rolls-Entity, rolls-EntityOrCommon}
 use Rattle.schema_json.specs.declared.types.TypeVariant.TheVariants.{rolls-Extension}
 use Rattle.schema_json.specs.declared.types.RecordType.{RecordType}

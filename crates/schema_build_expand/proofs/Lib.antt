@@ -2,8 +2,8 @@ mod Deep
 mod Depths
 mod Done
 mod Layers
-mod Linked
-mod Made
+pub mod Linked
+pub mod Made
 mod Once
 mod Ranked
 mod Walked

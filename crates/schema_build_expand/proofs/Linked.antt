@@ -1,73 +1,40 @@
 -- The graph of ranks and what refers to what.
-use Rattle.std.proofs.Common.{◌≡◌, ℕ, ◌+◌, ◌<◌, List, [], ◌∷◌, ◌++◌, length, get_or, take, refl, sym, ap, ◌∙◌, subst}
-use Rattle.std.proofs.Common.{arith, All, Contains, Vec, Option, Some, None, inl, inr, Result, Ok, Err}
+use Rattle.std.proofs.Common.{◌≡◌, ℕ, ◌<◌, List, [], length, get_or, take, refl, sym, ap, subst}
+use Rattle.std.proofs.Common.{arith, All, Contains, Vec, Option, Some, Result, Ok, Err, inl, inr}
 use Rattle.std.specs.Prelude.{slice_get, IfErr}
 use Rattle.std.specs.Result.{IsErrAnd}
 use Rattle.std.specs.Borrow.{Bor}
 use Rattle.std.specs.Option.{option_map_or}
 use Rattle.std.specs.declared.alloc.Global.{Global}
-use Rattle.std.proofs.lemmas.List.{get_or_append_left, length-append, get_or_default}
-use Rattle.std.proofs.Math.Seq.{get_or-append_seam}
+use Rattle.std.proofs.lemmas.List.{get_or_default}
 use Rattle.std.proofs.lemmas.List.Elements.{All-weaker, All-contains}
-use Rattle.std.proofs.lemmas.Option.{slice_get_within, get_or_from_slice_get, slice_get_read}
-use Rattle.std.proofs.lemmas.Bool.{cases_lt}
+use Rattle.std.proofs.lemmas.Option.{slice_get_within, slice_get_read, slice_get_cases}
 use Rattle.cedar_identifiers.specs.declared.internal_name.InternalName.{InternalName}
 use Rattle.schema_json.specs.declared.types.Type.{«Type»}
-use Rattle.schema_build_graph.specs.Order.{StandBehind, IsLeastFault, NoneCyclic}
-use Rattle.schema_build_graph.specs.declared.order_fault.OrderFault.{OrderFault}
-use Rattle.schema_build_graph.specs.declared.order_fault.OrderFault.TheVariants.{Cycle, Memory}
-use Rattle.schema_build_graph.specs.Paths.{Leads, Reaches}
-use Rattle.schema_build_graph.specs.Graph.{targets_of, HasEdge, InRange}
 use Rattle.schema_json_walk.specs.Parts.{Part, type_reference, context_reference, parent, principal, resource}
 use Rattle.schema_json_walk.specs.Parts.{action_parent, extension_type, open_record, action_attributes}
 use Rattle.schema_json_walk.specs.Parts.{external_not_bare}
 use Rattle.schema_json_walk.specs.Walk.{parts}
+use Rattle.schema_build_graph.specs.Order.{StandBehind, IsLeastFault, NoneCyclic}
+use Rattle.schema_build_graph.specs.declared.order_fault.OrderFault.{OrderFault}
+use Rattle.schema_build_graph.specs.declared.order_fault.OrderFault.TheVariants.{Cycle, Memory}
+use Rattle.schema_build_graph.specs.Paths.{Reaches}
+use Rattle.schema_build_graph.specs.Graph.{targets_of, HasEdge, InRange}
+use Rattle.schema_build_graph.proofs.Rows.{edge_below}
+use Rattle.schema_build_graph.proofs.Paths.{reaches_one, reaches_on, reaches_within}
 use Rattle.schema_build_expand.specs.Scope.{Scope, IsRanked}
 use Rattle.schema_build_expand.specs.Commons.{AreBehind, IsBehind}
 use Rattle.schema_build_expand.specs.Ranks.{AreMeantRanks, RefersTo}
 use Rattle.schema_build_expand.specs.Rows.{AreMeantRows, AreMeant, IsMeant, RefersBy, IsCycleFault, NoneRound}
 
--- one row more
-pub each_push : {X : Type 0} (P : ℕ → X → Type 0) (xs ys : List X) (x : X) (n : ℕ) → length xs ≡ n
-    → ys ≡ xs ++ x ∷ [] → ((k : ℕ) (y : X) → slice_get xs k ≡ Some y → P k y) → P n x
-    → (k : ℕ) (y : X) → slice_get ys k ≡ Some y → P k y
-each_push {X} P xs ys x n e grown old new k y at =
-    let within : k < length ys = slice_get_within ys k y at in
-    let long : length ys ≡ n + 1 = ap length grown ∙ length-append xs (x ∷ []) ∙ ap (λ m. m + 1) e in
-    let here : get_or (xs ++ x ∷ []) k y ≡ y =
-    ap (λ zs. get_or zs k y) (sym grown) ∙ get_or_from_slice_get ys k y y at in
-    elim (cases_lt k n) [
-      | inl a ↦ old k y (slice_get_read xs (length xs) k y refl (omega arith)
-          (sym here ∙ get_or_append_left xs (x ∷ []) y k (omega arith)))
-      | inr b ↦
-          let last : k ≡ length xs = omega arith in
-          let same : x ≡ y =
-          sym (get_or-append_seam xs x [] y) ∙ ap (λ i. get_or (xs ++ x ∷ []) i y) (sym last) ∙ here in
-          subst (λ i. P i y) (sym (last ∙ e)) (subst (P n) same new)
-    ]
-
--- steps of one kind are steps of another
-leads_as : {A : Type 0} (E F : A → A → Type 0) → ((x y : A) → E x y → F x y) → (steps : List A) (a b : A)
-    → Leads E a steps b → Leads F a steps b
-leads_as E F f [] a b e = e
-leads_as E F f (c ∷ steps) a b l = (f a c l.0, leads_as E F f steps c b l.1)
-
+-- chains of steps of one kind are chains of another
 pub reaches_as : {A : Type 0} (E F : A → A → Type 0) → ((x y : A) → E x y → F x y) → (a b : A) → Reaches E a b
     → Reaches F a b
-reaches_as E F f a b r = (r.0, r.1, leads_as E F f (r.0 ∷ r.1) a b r.2)
+reaches_as E F f a b r = reaches_within E (Reaches F a) (λ x y s e. reaches_on F a x y s (f x y e)) a
+    (λ c e. reaches_one F a c (f a c e)) b r
 
-at_some : {X : Type 0} (xs : List X) (i : ℕ) → i < length xs → (x : X) × (slice_get xs i ≡ Some x)
-at_some [] i h = absurd (omega arith)
-at_some (y ∷ ys) i h = (
-  get_or (y ∷ ys) i y,
-  slice_get_read (y ∷ ys) (length (y ∷ ys)) i (get_or (y ∷ ys) i y) refl h
-      (get_or_default (y ∷ ys) i y (get_or (y ∷ ys) i y) h),
-)
-
-edge_below : (graph : List (Vec ℕ Global)) (x y : ℕ) (row : Option (Vec ℕ Global)) → slice_get graph x ≡ row
-    → Contains (option_map_or (λ r. r.items) row []) y → x < length graph
-edge_below graph x y None e c = absurd (let lt : c.0 < 0 = c.1 in omega arith)
-edge_below graph x y (Some row) e c = slice_get_within graph x row e
+pub at_some : {X : Type 0} (xs : List X) (i : ℕ) → i < length xs → (x : X) × (slice_get xs i ≡ Some x)
+at_some xs i h = elim (slice_get_cases xs i).1 [ inl x ↦ (x.0, x.2) | inr past ↦ absurd (omega (arith, past.0)) ]
 
 pub ranked_below : {N : Type 0} (s : Scope N) (full : List (List ℕ)) (k : ℕ) → IsRanked s full k → k < length s.commons
 ranked_below s full k ranked = slice_get_within s.commons k ranked.0 ranked.1
@@ -119,7 +86,7 @@ module _ {N R : Type 0} (s : Scope N) (place : R → Option InternalName) (commo
 
   edge_refers : (a b : ℕ) → HasEdge rows a b → RefersBy s place commons a b
   edge_refers a b e =
-      let c = at_some commons a (omega (arith, edge_below rows a b (slice_get rows a) refl e, are.same)) in (
+      let c = at_some commons a (omega (arith, edge_below rows a b e, are.same)) in (
         c.0,
         c.1,
         All-contains (RefersTo s (place c.0.0) (parts c.0.1.now)) (targets_of rows a) b
@@ -143,6 +110,3 @@ pub refused : {T : Type 0} (P : OrderFault → Type 0) (r : Result T OrderFault)
     → IsErrAnd r (λ y. y ≡ e) → P e → IfErr r P
 refused P (Ok x) e h k = tt
 refused P (Err y) e h k = subst P (sym h) k
-
-pub some_is : {A : Type 0} (a b : A) → Some a ≡ Some b → a ≡ b
-some_is a b e = cc

@@ -5,6 +5,8 @@ use Rattle.std.specs.Prelude.{slice_get, IfOk}
 use Rattle.std.specs.List.{AllZip}
 use Rattle.std.specs.Map.{keys_of}
 use Rattle.std.proofs.lemmas.List.{take_more}
+use Rattle.std.proofs.lemmas.Option.{same_Some}
+use Rattle.std.proofs.lemmas.Slice.Zip.{all_zipped_more}
 use Rattle.cedar_identifiers.specs.declared.internal_name.InternalName.{InternalName}
 use Rattle.cedar_identifiers.specs.declared.reference_type.ReferenceType.{ReferenceType}
 use Rattle.cedar_identifiers.specs.declared.reference_type.ReferenceType.TheVariants.{Common}
@@ -12,7 +14,7 @@ use Rattle.cedar_names.specs.Meaning.{Attributes, no_more, attribute}
 use Rattle.schema_json.specs.declared.types.TypeOfAttribute.{TypeOfAttribute, out-TypeOfAttribute}
 use Rattle.schema_build_types.specs.declared.types.Type as built
 use Rattle.schema_build_types.specs.Standing.{AreBuilt}
-use Rattle.schema_build_expand.specs.Scope.{Scope, Declared, IsRanked}
+use Rattle.schema_build_expand.specs.Scope.{Scope, DeclaredType, IsRanked}
 use Rattle.schema_build_expand.specs.Expands.{to_declared, ExpandAll, to_no_attributes, to_attribute}
 use Rattle.schema_build_expand.specs.Targets.{ReferenceExpandsTo, EntryExpandsTo, AreExpanded}
 
@@ -20,19 +22,12 @@ pub if_ok : {A E : Type 0} (P Q : A → Type 0) (r : Result A E) → ((x : A) �
 if_ok P Q (Ok x) f h = f x h
 if_ok P Q (Err e) f h = tt
 
-zip_push : {A B : Type 0} (R : A → B → Type 0) (xs : List A) (ys : List B) (x : A) (y : B) → AllZip R xs ys → R x y
-    → AllZip R (xs ++ x ∷ []) (ys ++ y ∷ [])
-zip_push R [] [] x y h r = (r, tt)
-zip_push R [] (b ∷ ys) x y h r = absurd h
-zip_push R (a ∷ xs) [] x y h r = absurd h
-zip_push R (a ∷ xs) (b ∷ ys) x y h r = (h.0, zip_push R xs ys x y h.1 r)
-
 -- one more of each
 pub zip_more : {A B : Type 0} (R : A → B → Type 0) (xs : List A) (ys : List B) (i : ℕ) (x : A) (y : B)
     → i < length xs → x ≡ get_or xs i x → AllZip R (take i xs) ys → R x y → AllZip R (take (i + 1) xs) (ys ++ y ∷ [])
 zip_more R xs ys i x y lt at h r =
     let same : take (i + 1) xs ≡ take i xs ++ x ∷ [] = take_more xs i x lt ∙ ap (λ z. take i xs ++ z ∷ []) (sym at) in
-    subst (λ front. AllZip R front (ys ++ y ∷ [])) (sym same) (zip_push R (take i xs) ys x y h r)
+    subst (λ front. AllZip R front (ys ++ y ∷ [])) (sym same) (all_zipped_more R (take i xs) ys x y h r)
 
 module _ (N : Type 0) (s : Scope N) (ns : Option InternalName) where
   -- attributes that are expanded one by one are expanded
@@ -56,17 +51,14 @@ module _ (N : Type 0) (s : Scope N) (ns : Option InternalName) where
   keys_kept (e ∷ es) [] h = absurd h
   keys_kept (e ∷ es) (t ∷ ts) h = λ i. h.0.0 i ∷ keys_kept es ts h.1 i
 
-  some_same : {A : Type 0} (x y : A) → Some x ≡ Some y → x ≡ y
-  some_same x y e = cc
-
   -- a reference to a common type that is expanded
   pub reference_made : (done : List (Option built.«Type»)) (kind : ReferenceType) (name : N) (full : List (List ℕ))
       (k : ℕ) (t : built.«Type») → AreExpanded s done → s.means ns kind name ≡ Some (full, Common)
       → IsRanked s full k → slice_get done k ≡ Some (Some t) → ReferenceExpandsTo s ns kind name t
   reference_made done kind name full k t all meant ranked at =
       let it = all k t at in
-      let same : it.0 ≡ ranked.0 = some_same it.0 ranked.0 (sym it.1 ∙ ranked.1) in
-      let called : full ≡ it.0.name = sym ranked.2 ∙ ap (λ (d : Declared N). d.name) (sym same) in (
+      let same : it.0 ≡ ranked.0 = same_Some it.0 ranked.0 (sym it.1 ∙ ranked.1) in
+      let called : full ≡ it.0.name = sym ranked.2 ∙ ap (λ (d : DeclaredType N). d.name) (sym same) in (
         it.2.0,
         to_declared ns kind name it.0 it.2.0 (meant ∙ ap (λ n. Some (n, Common)) called)
             (k, it.1, refl) it.2.1,

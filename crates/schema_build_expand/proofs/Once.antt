@@ -1,5 +1,6 @@
 -- A type stands for one plain type at most.
 use Rattle.std.proofs.Common.{◌≡◌, ℕ, List, refl, sym, ap, ◌∙◌, subst, Option, Some}
+use Rattle.std.proofs.lemmas.Option.{same_Some}
 use Rattle.cedar_identifiers.specs.declared.internal_name.InternalName.{InternalName}
 use Rattle.cedar_identifiers.specs.declared.reference_type.ReferenceType.{ReferenceType}
 use Rattle.cedar_identifiers.specs.declared.reference_type.ReferenceType.TheVariants.{Common, Entity}
@@ -13,17 +14,14 @@ use Rattle.schema_build_expand.specs.Expands.{Expands, by_layer, LayerExpands, t
 use Rattle.schema_build_expand.specs.Expands.{to_record, to_extension, to_entity, to_builtin, to_declared, ExpandAll}
 use Rattle.schema_build_expand.specs.Expands.{to_no_attributes, to_attribute}
 
-some_is : {A : Type 0} (a b : A) → Some a ≡ Some b → a ≡ b
-some_is a b e = cc
-
 -- what one reference means has one name and one kind
 names_same : (m : Option (List (List ℕ) × ReferenceType)) (x y : List (List ℕ)) (k l : ReferenceType)
     → m ≡ Some (x, k) → m ≡ Some (y, l) → x ≡ y
-names_same m x y k l a b = ap (λ (z : List (List ℕ) × ReferenceType). z.0) (some_is (x, k) (y, l) (sym a ∙ b))
+names_same m x y k l a b = ap (λ (z : List (List ℕ) × ReferenceType). z.0) (same_Some (x, k) (y, l) (sym a ∙ b))
 
 kinds_same : (m : Option (List (List ℕ) × ReferenceType)) (x y : List (List ℕ)) (k l : ReferenceType)
     → m ≡ Some (x, k) → m ≡ Some (y, l) → k ≡ l
-kinds_same m x y k l a b = ap (λ (z : List (List ℕ) × ReferenceType). z.1) (some_is (x, k) (y, l) (sym a ∙ b))
+kinds_same m x y k l a b = ap (λ (z : List (List ℕ) × ReferenceType). z.1) (same_Some (x, k) (y, l) (sym a ∙ b))
 
 not_both : Entity ≡ Common → ⊥
 not_both e = cc
@@ -51,7 +49,7 @@ module _ (N : Type 0) (s : Scope N) (apart : AreDeclaredOnce s) where
     layer_once ns v p q (to_builtin _ kind name x r a u d) (to_entity _ _ _ y b) =
         absurd (not_both (kinds_same _ y x Entity Common b a))
     layer_once ns v p q (to_builtin _ kind name x r a u d) (to_builtin _ _ _ y r' b u' d') =
-        some_is r r' (sym d ∙ ap (builtin s) (names_same _ x y Common Common a b) ∙ d')
+        same_Some r r' (sym d ∙ ap (builtin s) (names_same _ x y Common Common a b) ∙ d')
     layer_once ns v p q (to_builtin _ kind name x r a u d) (to_declared _ _ _ d' r' b c e) =
         absurd (let same : x ≡ d'.name = names_same _ x d'.name Common Common a b in u d'
         (subst (λ n. Declares s n d') (sym same) c))

@@ -9,7 +9,7 @@ use Rattle.schema_json.specs.declared.types.Type.{«Type»}
 use Rattle.schema_json_walk.specs.Parts.{Part, type_reference, extension_type}
 use Rattle.schema_json_walk.specs.Walk.{parts}
 use Rattle.schema_build_types.specs.declared.types.Type as built
-use Rattle.schema_build_expand.specs.Scope.{Scope, Declared, IsRanked, in_table}
+use Rattle.schema_build_expand.specs.Scope.{Scope, DeclaredType, IsRanked, in_table}
 
 -- a rank has its expansion
 abbrev pub IsDone : List (Option built.«Type») → ℕ → Type 0
@@ -20,7 +20,7 @@ module _ {N R : Type 0} where
   abbrev pub AreCommons : Scope N → (R → Scope N) → (R → Option InternalName) → List (R × Bor («Type» N)) → Type 0
   AreCommons s scope place commons = (k : ℕ) (c : R × Bor («Type» N)) → slice_get commons k ≡ Some c
       → (scope c.0 ≡ s)
-      × ((d : Declared N) × (slice_get s.commons k ≡ Some d) × (d.place ≡ place c.0) × (d.ty ≡ c.1.now))
+      × ((d : DeclaredType N) × (slice_get s.commons k ≡ Some d) × (d.place ≡ place c.0) × (d.ty ≡ c.1.now))
 
 module _ {N : Type 0} where
   -- the reference means something, and where that is declared it is one of those before

@@ -9,7 +9,7 @@ use Rattle.schema_json.specs.declared.types.Type.{«Type»}
 use Rattle.schema_json.specs.declared.types.TypeOfAttribute.{TypeOfAttribute, out-TypeOfAttribute}
 use Rattle.schema_build_expand.specs.View.{View, boolean_layer, long_layer, string_layer, set_layer, record_layer}
 use Rattle.schema_build_expand.specs.View.{reference_layer, extension_layer, view}
-use Rattle.schema_build_expand.specs.Scope.{Scope, Declared, Declares, IsUndeclared, in_table, builtin}
+use Rattle.schema_build_expand.specs.Scope.{Scope, DeclaredType, Declares, IsUndeclared, in_table, builtin}
 
 mutual
   -- a type that is written in the namespace stands for the plain type
@@ -37,7 +37,7 @@ mutual
         → s.means ns kind name ≡ Some (target, Common) → IsUndeclared s target → builtin s target ≡ Some p
         → LayerExpands N s ns (reference_layer kind name) p
     -- what the declaration's type stands for in the namespace of the declaration
-    to_declared : (ns : Option InternalName) (kind : ReferenceType) (name : N) (d : Declared N) (p : PlainType)
+    to_declared : (ns : Option InternalName) (kind : ReferenceType) (name : N) (d : DeclaredType N) (p : PlainType)
         → s.means ns kind name ≡ Some (d.name, Common) → Declares s d.name d → Expands N s d.place d.ty p
         → LayerExpands N s ns (reference_layer kind name) p
 

@@ -9,7 +9,7 @@ use Rattle.cedar_names.specs.Meaning as plain
 use Rattle.schema_json.specs.declared.types.Type.{«Type»}
 
 -- a declared common type: its full name, the namespace that it is declared in, and the type that it names
-pub record Declared (N : Type 0) : Type 0 where
+pub record DeclaredType (N : Type 0) : Type 0 where
   pub name : List (List ℕ)
   pub place : Option InternalName
   pub ty : «Type» N
@@ -19,25 +19,25 @@ pub record Scope (N : Type 0) : Type 0 where
   -- the full name that a reference means in a namespace, and whether it is a common type or an entity type there
   pub means : Option InternalName → ReferenceType → N → Option (List (List ℕ) × ReferenceType)
   -- the declared common types by their ranks
-  pub commons : List (Declared N)
+  pub commons : List (DeclaredType N)
   -- the extension table
   pub words : List (List ℕ)
 
 module _ {N : Type 0} where
   -- the declared common type of a rank has this name
   abbrev pub IsRanked : Scope N → List (List ℕ) → ℕ → Type 0
-  IsRanked s name k = (d : Declared N) × (slice_get s.commons k ≡ Some d) × (d.name ≡ name)
+  IsRanked s name k = (d : DeclaredType N) × (slice_get s.commons k ≡ Some d) × (d.name ≡ name)
 
   -- a declaration of this name
-  abbrev pub Declares : Scope N → List (List ℕ) → Declared N → Type 0
+  abbrev pub Declares : Scope N → List (List ℕ) → DeclaredType N → Type 0
   Declares s name d = (k : ℕ) × (slice_get s.commons k ≡ Some d) × (d.name ≡ name)
 
   abbrev pub IsUndeclared : Scope N → List (List ℕ) → Type 0
-  IsUndeclared s name = (d : Declared N) → Declares s name d → ⊥
+  IsUndeclared s name = (d : DeclaredType N) → Declares s name d → ⊥
 
   -- no two declarations have one name
   abbrev pub AreDeclaredOnce : Scope N → Type 0
-  AreDeclaredOnce s = (name : List (List ℕ)) (a b : Declared N) → Declares s name a → Declares s name b → a ≡ b
+  AreDeclaredOnce s = (name : List (List ℕ)) (a b : DeclaredType N) → Declares s name a → Declares s name b → a ≡ b
 
   abbrev pub in_table : Scope N → List ℕ → Bool
   in_table s word = list_any (bytes_eq word) s.words

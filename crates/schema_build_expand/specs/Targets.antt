@@ -1,19 +1,19 @@
 -- What the search for an expansion knows: the target of a reference, and which common types are expanded.
 use Rattle.std.specs.Prelude.{◌≡◌, ℕ, Bool, true, List, Option, Some, IsSome, slice_get}
 use Rattle.std.specs.List.{AllZip}
+use Rattle.cedar_data.specs.declared.loc.Loc.{Loc}
 use Rattle.cedar_identifiers.specs.Names.{components_of}
 use Rattle.cedar_identifiers.specs.declared.internal_name.InternalName.{InternalName}
 use Rattle.cedar_identifiers.specs.declared.reference_type.ReferenceType.{ReferenceType}
 use Rattle.cedar_identifiers.specs.declared.reference_type.ReferenceType.TheVariants.{Common, Entity}
 use Rattle.cedar_names.specs.Meaning.{PlainType}
-use Rattle.cedar_data.specs.declared.loc.Loc.{Loc}
 use Rattle.schema_json.specs.declared.types.Type.{«Type», Variant}
 use Rattle.schema_json.specs.declared.types.TypeVariant.{TypeVariant}
 use Rattle.schema_json.specs.declared.types.TypeOfAttribute.{TypeOfAttribute, out-TypeOfAttribute}
 use Rattle.schema_json_walk.specs.Parts.{Part, type_reference, extension_type}
 use Rattle.schema_build_types.specs.declared.types.Type as built
 use Rattle.schema_build_types.specs.Standing.{IsBuilt}
-use Rattle.schema_build_expand.specs.Scope.{Scope, Declared, IsRanked, IsUndeclared, in_table, builtin}
+use Rattle.schema_build_expand.specs.Scope.{Scope, DeclaredType, IsRanked, IsUndeclared, in_table, builtin}
 use Rattle.schema_build_expand.specs.Expands.{Expands, LayerExpands}
 use Rattle.schema_build_expand.specs.View.{reference_layer}
 use Rattle.schema_build_expand.specs.declared.meanings.Target.{Target}
@@ -55,7 +55,7 @@ module _ {N : Type 0} where
   -- what is kept of a rank is what its declaration stands for
   abbrev pub AreExpanded : Scope N → List (Option built.«Type») → Type 0
   AreExpanded s done = (k : ℕ) (t : built.«Type») → slice_get done k ≡ Some (Some t)
-      → (d : Declared N) × (slice_get s.commons k ≡ Some d) × ExpandsTo s d.place d.ty t
+      → (d : DeclaredType N) × (slice_get s.commons k ≡ Some d) × ExpandsTo s d.place d.ty t
 
   -- the reference means something, and where that is declared it is expanded
   abbrev pub IsReferenceReady : Scope N → List (Option built.«Type») → Option InternalName → ReferenceType → N → Type 0

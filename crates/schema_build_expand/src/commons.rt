@@ -1,4 +1,4 @@
-ghost use Rattle.std.specs.Prelude.{◌≡◌, ◌<◌, ℕ, All, None, length, IfOk};
+ghost use Rattle.std.specs.Prelude.{◌≡◌, ◌<◌, All, None, length, IfOk};
 ghost use Rattle.schema_build_expand.specs.Scope.{Scope};
 ghost use Rattle.schema_build_expand.specs.Targets.{AreExpanded};
 ghost use Rattle.schema_build_expand.specs.Commons.{AreCommons, AreBehind, IsDone};

@@ -1,4 +1,4 @@
-ghost use Rattle.std.specs.Prelude.{◌≡◌, All, IfOk};
+ghost use Rattle.std.specs.Prelude.{All, IfOk};
 ghost use Rattle.schema_json_walk.specs.Walk.{itself, parts, of_variant, of_entries};
 ghost use Rattle.schema_build_expand.specs.Targets.{IsReady, AreExpanded, ExpandsTo, ShapeExpandsTo, ReferenceExpandsTo, IsReferenceReady, EntriesExpandTo};
 

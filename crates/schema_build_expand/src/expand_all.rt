@@ -1,4 +1,4 @@
-ghost use Rattle.std.specs.Prelude.{◌≡◌, ◌<◌, ℕ, length, All, IfOk, IfErr, OnOk};
+ghost use Rattle.std.specs.Prelude.{◌≡◌, ◌<◌, length, All, IfOk, IfErr, OnOk};
 ghost use Rattle.schema_build_expand.specs.Scope.{Scope};
 ghost use Rattle.schema_build_expand.specs.Targets.{AreExpanded};
 ghost use Rattle.schema_build_expand.specs.Commons.{AreCommons};

@@ -1,4 +1,4 @@
-ghost use Rattle.std.specs.Prelude.{◌≡◌, Option, Some, IfOk, IsSome};
+ghost use Rattle.std.specs.Prelude.{Option, IfOk, IsSome};
 ghost use Rattle.cedar_identifiers.specs.declared.internal_name.InternalName.{InternalName};
 ghost use Rattle.schema_build_expand.specs.Scope.{Scope};
 ghost use Rattle.schema_build_expand.specs.Targets.{IsMeantTarget};

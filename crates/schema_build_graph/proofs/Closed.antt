@@ -1,13 +1,13 @@
 -- The last group is done, where all its targets were looked at.
 use Rattle.std.proofs.Common.{◌≡◌, ◌≢◌, ℕ, ◌+◌, ◌-◌, ◌<◌, ◌≤◌, ◌⊎◌, inl, inr, Bool, true, false, List, [], ◌∷◌, ◌++◌}
-use Rattle.std.proofs.Common.{length, length-append, get_or, take, drop, refl, sym, ap, ◌∙◌, subst, arith, All}
+use Rattle.std.proofs.Common.{length, length-append, get_or, take, drop, sym, ap, ◌∙◌, subst, arith, All}
 use Rattle.std.proofs.Common.{Contains, Vec, Some, None}
 use Rattle.std.specs.Bool.{Decides}
 use Rattle.std.specs.declared.alloc.Global.{Global}
 use Rattle.std.proofs.lemmas.List.{length-take, length-drop, get_or-take, get_or_append_left, take-append-le, take_all}
 use Rattle.std.proofs.lemmas.List.Elements.{All-push, All-weaker, All-contains, All-from_get_or, Contains-get_or}
 use Rattle.std.proofs.lemmas.List.Elements.{Contains-append_left, Contains-append_right, Contains-append_cases}
-use Rattle.std.proofs.lemmas.Bool.{cases_lt}
+use Rattle.std.proofs.lemmas.Bool.{cases_lt, cases_Bool}
 use Rattle.std.proofs.Math.Seq.{get_or-append_right}
 use Rattle.schema_build_graph.specs.Paths.{Reaches}
 use Rattle.schema_build_graph.specs.Graph.{targets_of, HasEdge}
@@ -20,10 +20,6 @@ use Rattle.schema_build_graph.proofs.Paths.{reaches_one, reaches_through, leads_
 use Rattle.schema_build_graph.proofs.Groups.{all_front, all_last, stacked_front, stand_below, targets_below, among_rest}
 use Rattle.schema_build_graph.proofs.Groups.{place_in_rest, first_of_rest}
 use Rattle.schema_build_graph.proofs.States.{state_cases}
-
-bool_cases : (b : Bool) → (b ≡ true) ⊎ (b ≡ false)
-bool_cases true = inl refl
-bool_cases false = inr refl
 
 module _ (graph : List (Vec ℕ Global)) (states : List State) (standing targets : List ℕ) (groups : List Group)
     (done : List ℕ) (s : IsSearched graph states standing targets groups done None)
@@ -128,7 +124,7 @@ module _ (graph : List (Vec ℕ Global)) (states : List State) (standing targets
               (subst (λ x. HasEdge graph x x) (first_at ∙ ap (λ i. get_or standing i 0) here) own)
         ]
       ]),
-      (λ r. elim (bool_cases b) [
+      (λ r. elim (cases_Bool b) [
         | inl e ↦ e
         | inr e ↦
             let no' = b_false e in
@@ -288,7 +284,7 @@ module _ (graph : List (Vec ℕ Global)) (states : List State) (standing targets
             (k - length done) 0 (omega (arith, length-append done (drop g.standing standing))) in
             let c : Contains (drop g.standing standing) (get_or (done ++ drop g.standing standing) k 0) = subst
             (Contains (drop g.standing standing)) (sym here) m in
-            elim (bool_cases b) [
+            elim (cases_Bool b) [
               | inl e ↦ inl ((told (get_or (done ++ drop g.standing standing) k 0) c).0 e)
               | inr e ↦
                   let first : k ≡ length done = omega

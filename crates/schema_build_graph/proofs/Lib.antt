@@ -1,9 +1,9 @@
-mod Paths
+pub mod Paths
 mod Marked
 mod Steps
 mod Rising
 mod Found
-mod Rows
+pub mod Rows
 mod Groups
 mod States
 mod Turns

@@ -1,4 +1,4 @@
-ghost use Rattle.std.specs.Prelude.{◌≡◌, ◌≢◌, ◌<◌, ◌≤◌, ◌⊎◌, ℕ, [], ◌∷◌, ◌++◌, List, length, All, Contains, Some, None, OnOk, IfOk};
+ghost use Rattle.std.specs.Prelude.{◌≡◌, ◌≢◌, ◌<◌, ◌⊎◌, ℕ, [], ◌∷◌, ◌++◌, List, length, All, Contains, Some, None, OnOk, IfOk};
 ghost use Rattle.schema_build_graph.specs.Graph.{InRange};
 ghost use Rattle.schema_build_graph.specs.Search.{AreStacked, IsMerged, Keeps, AllSeen, IsSeen, state_at, weight_of};
 ghost use Rattle.schema_build_graph.specs.declared.search.Group.{Group};

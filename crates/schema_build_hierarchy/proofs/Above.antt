@@ -6,22 +6,20 @@ use Rattle.std.specs.Option.{option_map, option_map_or}
 use Rattle.std.specs.declared.alloc.Global.{Global}
 use Rattle.std.proofs.lemmas.List.{length-map}
 use Rattle.std.proofs.lemmas.Option.{slice_get_within, get_or_from_slice_get, slice_get_cases, slice_get-map}
-use Rattle.std.proofs.lemmas.Option.{slice_get-get_or}
+use Rattle.std.proofs.lemmas.Option.{slice_get-get_or, same_Some}
+use Rattle.cedar_data.proofs.Lists.{contains_map, contains_unmap}
 use Rattle.schema_build_graph.specs.Paths.{Reaches}
 use Rattle.schema_build_graph.specs.Graph.{HasEdge, targets_of, AllReached, AreReached}
+use Rattle.schema_build_graph.proofs.Paths.{reaches_one, reaches_on, reaches_within}
 use Rattle.schema_build_hierarchy.specs.Ancestors.{IsParentAmong, AreParentsDeclared, IsAncestorAmong, AreParentRows}
 use Rattle.schema_build_hierarchy.specs.Ancestors.{IsAncestorRow, AreAncestorRows}
-use Rattle.schema_build_hierarchy.proofs.Ordered.{contains_map, contains_unmap}
-use Rattle.schema_build_hierarchy.proofs.Paths.{reaches_one, reaches_on, reaches_within, reaches_wider}
+use Rattle.schema_build_hierarchy.proofs.Paths.{reaches_wider}
 
 pub contains_at : {X : Type 0} (xs : List X) (i : ℕ) (x : X) → slice_get xs i ≡ Some x → Contains xs x
 contains_at xs i x is = (i, slice_get_within xs i x is, get_or_from_slice_get xs i x x is)
 
 pub at_contained : {X : Type 0} (xs : List X) (x : X) → Contains xs x → (i : ℕ) × (slice_get xs i ≡ Some x)
 at_contained xs x (i, h, e) = (i, slice_get-get_or xs i x h ∙ ap Some e)
-
-pub some_same : {X : Type 0} (x y : X) → Some x ≡ Some y → x ≡ y
-some_same x y e = cc
 
 pub row_there : (rows : List (Vec ℕ Global)) (i : ℕ) → i < length rows
     → (row : Vec ℕ Global) × (slice_get rows i ≡ Some row)
@@ -71,7 +69,7 @@ module _ {D K : Type 0} (known : D → K) (parents : D → List K) (ds : List D)
         let j = at_contained ds e c in
         let place : j.0 ≡ i = apart j.0 i e d j.1 is k in
         let here : slice_get ds i ≡ Some e = subst (λ z. slice_get ds z ≡ Some e) place j.1 in
-        some_same e d (sym here ∙ is)
+        same_Some e d (sym here ∙ is)
 
     step_at : (i : ℕ) (d : D) → slice_get ds i ≡ Some d → (c : K) → Step (known d) c
         → (r : ℕ) × (p : D) × (slice_get ds r ≡ Some p) × (known p ≡ c) × HasEdge graph i r
@@ -83,7 +81,7 @@ module _ {D K : Type 0} (known : D → K) (parents : D → List K) (ds : List D)
           | inl x ↦
               let shown : slice_get (map known ds) r ≡ Some (known x.0) = slice_get-map known ds r
               ∙ ap (option_map known) x.2 in
-              let named : known x.0 ≡ c = some_same (known x.0) c (sym shown ∙ it) in
+              let named : known x.0 ≡ c = same_Some (known x.0) c (sym shown ∙ it) in
               let held : Contains (parents d) (known x.0) = subst (Contains (parents d)) (sym named)
               (subst (λ z. Contains (parents z) c) same cp) in
               (r, x.0, x.2, named, edge_back i r d x.0 is x.2 held)
@@ -119,7 +117,7 @@ module _ {D K : Type 0} (known : D → K) (parents : D → List K) (ds : List D)
             let shown : slice_get (map known ds) i ≡ Some (known x.0) = slice_get-map known ds i
             ∙ ap (option_map known) x.2 in
             subst (λ z. IsAncestorRow (IsAncestorAmong known parents ds) (map known ds) z row.items)
-            (some_same (known x.0) a (sym shown ∙ is))
+            (same_Some (known x.0) a (sym shown ∙ is))
             (row_is i x.0 row.items x.2 (all.each i row at))
         | inr past ↦ absurd (let lt : i < length (map known ds) = slice_get_within (map known ds) i a is in
             omega (arith, past.0, length-map ds known))

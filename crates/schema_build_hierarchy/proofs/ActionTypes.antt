@@ -1,5 +1,6 @@
 -- Entity types that are defined and not declared are the types of actions, which are named `Action`.
-use Rattle.std.proofs.Common.{◌≡◌, ℕ, Bool, true, false, cond, not, List, [], ◌∷◌, ◌++◌, map, codes, Option, Some, None}
+use Rattle.std.proofs.Common.{◌≡◌, ℕ, Bool, true, false, cond, not, List, [], ◌∷◌, ◌++◌, map, codes, Option, Some}
+use Rattle.std.proofs.Common.{None}
 use Rattle.std.proofs.Common.{refl, sym, ap, ◌∙◌, inl, inr, All, Contains, arith}
 use Rattle.std.specs.Prelude.{◌⊎◌, filter, find}
 use Rattle.std.specs.Option.{option_to_list}
@@ -9,6 +10,7 @@ use Rattle.std.proofs.lemmas.List.{map-append}
 use Rattle.std.proofs.lemmas.List.Elements.{All-nil, All-cons, All-map, All-contains}
 use Rattle.std.proofs.lemmas.List.Folds.{list_any-append, Any-from_list_any}
 use Rattle.std.specs.List.{list_any}
+use Rattle.cedar_data.proofs.Lists.{contains_later, found_passes}
 use Rattle.cedar_identifiers.specs.Candidates.{candidates, behind}
 use Rattle.cedar_identifiers.specs.Names.{components_of, texts_of}
 use Rattle.cedar_identifiers.specs.declared.id.Id.{Id}
@@ -20,6 +22,7 @@ use Rattle.cedar_identifiers.specs.declared.reference_type.ReferenceType.TheVari
 use Rattle.cedar_names.specs.CanonicalText.{basename}
 use Rattle.cedar_names.specs.Definitions.{among, same_name}
 use Rattle.cedar_names.specs.declared.extension_table.ExtensionTable.{ExtensionTable}
+use Rattle.cedar_names.proofs.Defined.{equal_names}
 use Rattle.schema_json.specs.Actions.{action_name}
 use Rattle.schema_json.specs.declared.fragment.Fragment.{Fragment}
 use Rattle.schema_resolve_definitions.specs.Declarations.{name_of, declared, action_type, actions_in}
@@ -28,10 +31,9 @@ use Rattle.schema_resolve_definitions.specs.Tests.{Tests, tests_of}
 use Rattle.schema_resolve.specs.Qualified.{in_namespace}
 use Rattle.schema_resolve.specs.Targets.{target}
 use Rattle.schema_build_hierarchy.specs.Rows.{AreOwnButActions, undeclared_target}
-use Rattle.schema_build_hierarchy.proofs.ParentRanks.{contains_later}
-use Rattle.schema_build_hierarchy.proofs.UsesFree.{all_flat, or_second, same_names, found_passes}
+use Rattle.schema_build_hierarchy.proofs.UsesFree.{all_flat, or_second}
 
-last_behind : (xs : List (List ℕ)) (l : List ℕ) → basename (xs ++ l ∷ []) ≡ l
+pub last_behind : (xs : List (List ℕ)) (l : List ℕ) → basename (xs ++ l ∷ []) ≡ l
 last_behind [] l = refl
 last_behind (x ∷ []) l = refl
 last_behind (x ∷ y ∷ xs) l = last_behind (y ∷ xs) l
@@ -47,7 +49,8 @@ last_of name front last e =
 action_last : (ns : Option Name) → basename (components_of (action_type ns)) ≡ codes "Action"
 action_last None = refl
 action_last (Some ns) =
-    ap (λ l. basename (ns.name.first.text ∷ l)) (map-append (λ (i : Id). i.text) ns.name.others (action_name.first ∷ []))
+    ap (λ l. basename (ns.name.first.text ∷ l))
+    (map-append (λ (i : Id). i.text) ns.name.others (action_name.first ∷ []))
     ∙ last_behind (ns.name.first.text ∷ texts_of ns.name.others) (codes "Action")
 
 module _ {G : named.Ghosts RawName} (f : Fragment RawName G) (table : ExtensionTable) where
@@ -66,7 +69,7 @@ module _ {G : named.Ghosts RawName} (f : Fragment RawName G) (table : ExtensionT
       ≡ true = or_second (among (declared f).entities n) (among (map (λ a. a.0) (declared f).actions) n)
       (sym split ∙ (ap (λ s. s.is_entity n) (sym is) ∙ there)) mine in
       let found = Any-from_list_any (same_name n) (map (λ a. a.0) (declared f).actions) late in
-      ap basename (same_names n found.1 found.4)
+      ap basename (equal_names n found.1 found.4)
       ∙ All-contains (λ n. basename n ≡ codes "Action") (map (λ a. a.0) (declared f).actions) found.1
       types_named (found.0, found.2, found.3)
 

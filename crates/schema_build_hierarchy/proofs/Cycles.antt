@@ -3,21 +3,21 @@ use Rattle.std.proofs.Common.{◌≡◌, ℕ, ◌<◌, ◌≤◌, false, map, Or
 use Rattle.std.proofs.Common.{arith, inl, inr, Contains, Vec, Option, Some}
 use Rattle.std.specs.Prelude.{slice_get}
 use Rattle.std.specs.declared.alloc.Global.{Global}
-use Rattle.std.proofs.lemmas.Option.{slice_get_within, slice_get_cases, slice_get_past}
+use Rattle.std.proofs.lemmas.Option.{slice_get_within, slice_get_cases, slice_get_past, same_Some}
 use Rattle.std.specs.Option.{option_map_or}
-use Rattle.schema_build_graph.specs.Paths.{Reaches}
-use Rattle.schema_build_graph.specs.Graph.{HasEdge, AllReached}
-use Rattle.schema_build_hierarchy.specs.Ancestors.{AreAncestorRows}
 use Rattle.std.specs.declared.cmp.Ordering.TheVariants.{Equal}
 use Rattle.std.specs.Cmp.{IsTotalOrder}
 use Rattle.std.specs.Ordering.{is_lt, ordering_reverse}
 use Rattle.std.specs.List.Sorted.{IsStrictlySortedBy}
 use Rattle.std.proofs.lemmas.Bool.{cases_lt}
 use Rattle.std.proofs.lemmas.Cmp.{tied_itself}
+use Rattle.schema_build_graph.specs.Paths.{Reaches}
+use Rattle.schema_build_graph.specs.Graph.{HasEdge, AllReached}
+use Rattle.schema_build_graph.proofs.Paths.{reaches_one, reaches_within}
+use Rattle.schema_build_hierarchy.specs.Ancestors.{AreAncestorRows}
 use Rattle.schema_build_hierarchy.proofs.Ranked.{one_place, less_at}
 use Rattle.schema_build_hierarchy.proofs.ParentRanks.{at_map, map_at}
-use Rattle.schema_build_hierarchy.proofs.Paths.{reaches_one, reaches_within}
-use Rattle.schema_build_hierarchy.proofs.Above.{row_there, targets_are, some_same}
+use Rattle.schema_build_hierarchy.proofs.Above.{row_there, targets_are}
 
 pub edge_row : (rows : List (Vec ℕ Global)) (a b : ℕ) → HasEdge rows a b
     → (row : Vec ℕ Global) × (slice_get rows a ≡ Some row) × Contains row.items b
@@ -64,7 +64,7 @@ module _ {K : Type 0} (E : K → K → Type 0) (through : (a b c : K) → E a b 
   }
 
   pub own_cycle : (a : ℕ) (n : K) → slice_get names a ≡ Some n → Reaches (HasEdge rows) a a → E n n
-  own_cycle a n is r = let q = reached a n is a r in subst (E n) (some_same q.0 n (sym q.1 ∙ is)) q.2
+  own_cycle a n is r = let q = reached a n is a r in subst (E n) (same_Some q.0 n (sym q.1 ∙ is)) q.2
 
   pub cycle_there : (a : ℕ) (n : K) → slice_get names a ≡ Some n → E n n → Reaches (HasEdge rows) a a
   cycle_there a n is e =
@@ -85,7 +85,7 @@ module _ {D : Type 0} {R : D → D → Ordering} (o : IsTotalOrder R) where
     | inl lt ↦ ap is_lt (o.antisymm b a ∙ ap ordering_reverse (less_at o xs up i j a b p q lt))
     | inr ge ↦
         let place : i ≡ j = omega arith in
-        let same : a ≡ b = some_same a b (sym p ∙ ap (slice_get xs) place ∙ q) in
+        let same : a ≡ b = same_Some a b (sym p ∙ ap (slice_get xs) place ∙ q) in
         ap is_lt (ap (R b) same ∙ tied_itself o b)
   ]
 

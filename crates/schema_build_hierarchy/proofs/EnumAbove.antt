@@ -8,22 +8,22 @@ use Rattle.std.specs.declared.alloc.Global.{Global}
 use Rattle.std.proofs.lemmas.Cmp.{on_total}
 use Rattle.std.proofs.lemmas.List.{length-map}
 use Rattle.std.proofs.lemmas.List.Elements.{All-weaker, All-contains, All-contains_itself}
-use Rattle.std.proofs.lemmas.Option.{slice_get_within, get_or_from_slice_get, slice_get_read}
+use Rattle.std.proofs.lemmas.Option.{slice_get_within, get_or_from_slice_get, slice_get_read, same_Some}
 use Rattle.cedar_identifiers.specs.declared.name.Name.{Name}
 use Rattle.cedar_identifiers.specs.declared.raw_name.RawName.{RawName}
 use Rattle.cedar_names.specs.Orders.{names_in_order, names_total}
 use Rattle.schema_json.specs.declared.entity_type.EntityType.{EntityType}
 use Rattle.schema_resolve_definitions.specs.Tests.{Tests}
 use Rattle.schema_build_graph.specs.Order.{IsLeastMarked, is_marked}
+use Rattle.schema_build_checks.proofs.Names.{names_tied}
 use Rattle.schema_build_hierarchy.specs.Ancestors.{IsAncestorRow, AreAncestorRows}
 use Rattle.schema_build_hierarchy.specs.Declarations.{DeclaredEntity, entity_name}
 use Rattle.schema_build_hierarchy.specs.Entries.{AreEntities, entity_of}
 use Rattle.schema_build_hierarchy.specs.Parents.{IsAncestor}
 use Rattle.schema_build_hierarchy.specs.Rows.{IsLeastAmong, IsEnumAbove, is_enum}
 use Rattle.schema_build_hierarchy.specs.declared.entries.Entry.{Entry}
-use Rattle.schema_build_hierarchy.proofs.Above.{contains_at, at_contained, some_same}
+use Rattle.schema_build_hierarchy.proofs.Above.{contains_at, at_contained}
 use Rattle.schema_build_hierarchy.proofs.Cycles.{behind, names_apart}
-use Rattle.schema_build_hierarchy.proofs.Exact.{names_tied}
 use Rattle.schema_build_hierarchy.proofs.ParentRanks.{at_map, map_at}
 
 abbrev pub EntityEntry : Type 0
@@ -111,7 +111,7 @@ module _ (t : Tests) (ds : List DeclaredEntity) (entries : List EntityEntry) (he
           let es = map entity_of entries in
           let there : slice_get es v ≡ Some (entity_of e) = map_at entity_of entries v e at in
           let (b, it, anc) = is.sound v least.0 in
-          let same : b ≡ name_at e = some_same b (name_at e) (sym it ∙ map_at name_at entries v e at) in
+          let same : b ≡ name_at e = same_Some b (name_at e) (sym it ∙ map_at name_at entries v e at) in
           record {
             among = (held.same (entity_of e)).1 (contains_at es v (entity_of e) there);
             passes_too = (sym (mark_at v e at) ∙ least.1, subst (IsAncestor t ds (entity_name d)) same anc);

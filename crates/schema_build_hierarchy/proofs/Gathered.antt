@@ -1,6 +1,6 @@
 -- No name is declared twice, so each declaration has its entry.
-use Rattle.std.proofs.Common.{◌≡◌, ℕ, suc, List, [], ◌∷◌, ◌++◌, map, take, length, ◌≤◌, refl, sym, ap, ◌∙◌, subst}
-use Rattle.std.proofs.Common.{◌+◌, ◌<◌, get_or, arith, inl, inr, All, Contains, Option, Some, None, Ordering}
+use Rattle.std.proofs.Common.{◌≡◌, ℕ, List, [], ◌∷◌, ◌++◌, map, take, length, refl, sym, ap, ◌∙◌, subst}
+use Rattle.std.proofs.Common.{◌+◌, ◌<◌, get_or, All, Contains, Option, Some, None, Ordering}
 use Rattle.std.specs.Prelude.{slice_get, codes}
 use Rattle.std.specs.declared.cmp.Ordering.TheVariants.{Equal}
 use Rattle.std.specs.Cmp.{IsTotalOrder, on_total}
@@ -9,9 +9,12 @@ use Rattle.std.specs.List.Sorted.{IsStrictlySortedBy}
 use Rattle.std.specs.Map.{keys_of}
 use Rattle.std.specs.Option.{option_cmp}
 use Rattle.std.proofs.lemmas.Cmp.{tied_itself}
-use Rattle.std.proofs.lemmas.List.{flat_map_more, map-append, take_all, take_more}
-use Rattle.std.proofs.lemmas.List.Elements.{All-contains, Contains-append_cases}
+use Rattle.std.proofs.lemmas.List.{flat_map_more, map-append, take_more, same_from_push}
+use Rattle.std.proofs.lemmas.List.Elements.{All-contains}
+use Rattle.std.proofs.lemmas.Option.{same_Some}
 use Rattle.cedar_data.specs.Text.{text_cmp}
+use Rattle.cedar_data.proofs.Orders.{text_total}
+use Rattle.cedar_data.proofs.Lists.{contains_flat, contains_map, contains_unmap}
 use Rattle.cedar_identifiers.specs.Names.{components_of}
 use Rattle.cedar_identifiers.specs.Candidates.{qualified}
 use Rattle.cedar_identifiers.specs.declared.id.Id.{Id}
@@ -25,13 +28,13 @@ use Rattle.schema_json.specs.declared.action_type.ActionType.{ActionType}
 use Rattle.schema_json.specs.declared.fragment.NamespaceDefinition.{NamespaceDefinition}
 use Rattle.schema_resolve_definitions.specs.Declarations.{name_of, action_type}
 use Rattle.schema_build_checks.specs.DeclaredAt.{ActionAt, actions_at_in_order}
+use Rattle.schema_build_checks.proofs.Names.{names_exact, names_tied}
 use Rattle.schema_build_hierarchy.specs.Declarations.{Declared, DeclaredEntity, entity_in, action_in, entities_of}
 use Rattle.schema_build_hierarchy.specs.Declarations.{actions_of}
 use Rattle.schema_build_hierarchy.specs.Entries.{SameMembers}
 use Rattle.schema_build_hierarchy.specs.FirstUses.{HasAlike}
-use Rattle.schema_build_hierarchy.proofs.Above.{at_contained, some_same}
-use Rattle.schema_build_hierarchy.proofs.Exact.{names_exact, names_tied, actions_exact, text_total}
-use Rattle.schema_build_hierarchy.proofs.Ordered.{contains_map, contains_unmap}
+use Rattle.schema_build_hierarchy.proofs.Above.{at_contained}
+use Rattle.schema_build_hierarchy.proofs.Exact.{actions_exact}
 use Rattle.schema_build_hierarchy.proofs.ParentRanks.{map_at}
 use Rattle.schema_build_hierarchy.proofs.Ranked.{one_place}
 
@@ -57,27 +60,6 @@ module _ {E K D : Type 0} (name : E → K) (of : E → D) (R : K → K → Order
         subst (Contains ds) same (subst (λ l. Contains l (of x)) is
         (contains_map of entries x (All-contains (Contains entries) items x kept cx)))),
   )
-
-pub contains_flat : {A B : Type 0} (g : A → List B) (xs : List A) (y : B) → Contains (flat_map g xs) y
-    → (x : A) × Contains xs x × Contains (g x) y
-contains_flat g [] y c = absurd (omega (arith, c.1))
-contains_flat g (x ∷ xs) y c = elim (Contains-append_cases (g x) (flat_map g xs) y c) [
-  | inl here ↦ (x, (0, omega arith, refl), here)
-  | inr there ↦ (let (z, (k, h, e), d) = contains_flat g xs y there in (z, (suc k, omega arith, e), d))
-]
-
-pub last_same : {J : Type 0} (xs ys : List J) (a b : J) → xs ++ a ∷ [] ≡ ys ++ b ∷ [] → (xs ≡ ys) × (a ≡ b)
-last_same [] [] a b e = (refl, cc)
-last_same [] (y ∷ []) a b e = absurd (cc)
-last_same [] (y ∷ z ∷ ys) a b e = absurd (cc)
-last_same (x ∷ []) [] a b e = absurd (cc)
-last_same (x ∷ z ∷ xs) [] a b e = absurd (cc)
-last_same (x ∷ xs) (y ∷ ys) a b e =
-    let first : x ≡ y = cc in
-    let rest : xs ++ a ∷ [] ≡ ys ++ b ∷ [] = cc in
-    let both = last_same xs ys a b rest in
-    let front : xs ≡ ys = both.0 in
-    (cc, both.1)
 
 pub path : Option Name → List (List ℕ)
 path None = []
@@ -114,7 +96,7 @@ keyed_once o xs up x y cx cy e =
     let (j, jy) = at_contained xs y cy in
     let place : i ≡ j = one_place o (keys_of xs) up i j x.0 y.0 (map_at (λ p. p.0) xs i x ix)
     (map_at (λ p. p.0) xs j y jy) e in
-    some_same x y (sym ix ∙ ap (slice_get xs) place ∙ jy)
+    same_Some x y (sym ix ∙ ap (slice_get xs) place ∙ jy)
 
 module _ {G : named.Ghosts RawName} (f : List (Option Name × NamespaceDefinition RawName G))
     (total : IsTotalOrder (option_cmp (λ (x y : Name). names_in_order x.name y.name)))
@@ -132,7 +114,7 @@ module _ {G : named.Ghosts RawName} (f : List (Option Name × NamespaceDefinitio
       ∙ full_path e.0 (record { first = p.0.id; others = []; loc = p.1.loc }) refl in
       let right : components_of b.name ≡ path k.0 ++ q.0.id.text ∷ [] = ap (λ d. components_of d.name) (sym qb)
       ∙ full_path k.0 (record { first = q.0.id; others = []; loc = q.1.loc }) refl in
-      let both = last_same (path e.0) (path k.0) p.0.id.text q.0.id.text (sym left ∙ same ∙ right) in
+      let both = same_from_push (path e.0) (path k.0) p.0.id.text q.0.id.text (sym left ∙ same ∙ right) in
       let ek : e ≡ k = keyed_once total f up e k ce ck (place_tied e.0 k.0 both.0) in
       let cp' : Contains k.1.entity_types p = subst (λ z. Contains z.1.entity_types p) ek cp in
       let tied : text_cmp p.0.id.text q.0.id.text ≡ Equal = ap (text_cmp p.0.id.text) (sym both.1)
@@ -157,17 +139,13 @@ module _ {G : named.Ghosts RawName} (f : List (Option Name × NamespaceDefinitio
       ≡ components_of (action_type k.0) = ap (λ d. components_of d.name.ty) pa ∙ ap (λ z. z.0) same
       ∙ ap (λ d. components_of d.name.ty) (sym qb) in
       let ids : p.0 ≡ q.0 = ap (λ d. d.name.id) pa ∙ ap (λ z. z.1) same ∙ ap (λ d. d.name.id) (sym qb) in
-      let both = last_same (path e.0) (path k.0) (codes "Action") (codes "Action") (sym left ∙ types ∙ right) in
+      let both = same_from_push (path e.0) (path k.0) (codes "Action") (codes "Action") (sym left ∙ types ∙ right) in
       let ek : e ≡ k = keyed_once total f up e k ce ck (place_tied e.0 k.0 both.0) in
       let cp' : Contains k.1.actions p = subst (λ z. Contains z.1.actions p) ek cp in
       let tied : text_cmp p.0 q.0 ≡ Equal = ap (text_cmp p.0) (sym ids) ∙ tied_itself text_total p.0 in
       let pq : p ≡ q = keyed_once text_total k.1.actions
       (All-contains (λ e. IsStrictlySortedBy text_cmp (keys_of e.1.actions)) f k rising ck) p q cp' cq tied in
       sym pa ∙ (λ i. action_in (ek i).0 (pq i)) ∙ qb
-
-pub whole_given : {A B : Type 0} (f : A → List B) (xs ys : List A) (i : ℕ) → length xs ≤ i → xs ≡ ys
-    → flat_map f (take i xs) ≡ flat_map f ys
-whole_given f xs ys i l e = ap (flat_map f) (take_all i xs l ∙ e)
 
 -- what is gathered of one more item
 pub more_given : {A B E : Type 0} (seen : E → B) (f : A → List B) (xs : List A) (i : ℕ) (x : A) → i < length xs

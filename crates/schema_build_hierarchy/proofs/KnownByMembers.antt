@@ -7,19 +7,14 @@ use Rattle.std.specs.Cmp.{IsTotalOrder}
 use Rattle.std.specs.List.Sorted.{IsStrictlySortedBy}
 use Rattle.std.specs.Ordering.{ordering_reverse}
 use Rattle.std.proofs.lemmas.Cmp.{nat_cmp_total}
-use Rattle.std.proofs.lemmas.List.Elements.{All-from_recursion, All-contains, Contains-append_right}
+use Rattle.std.proofs.lemmas.List.Elements.{All-from_recursion, All-contains}
 use Rattle.std.proofs.lemmas.Map.Keys.{sorted_head, sorted_tail, sorted_from_strictly_increasing}
+use Rattle.cedar_data.proofs.Lists.{contains_first, contains_later}
 use Rattle.schema_build_hierarchy.specs.Ancestors.{IsAncestorRow}
 use Rattle.schema_build_hierarchy.specs.Entries.{SameMembers}
 use Rattle.schema_build_hierarchy.proofs.Once.{contains_cases}
 
 module _ {A : Type 0} where
-  first : (x : A) (xs : List A) → Contains (x ∷ xs) x
-  first x xs = (0, omega arith, refl)
-
-  later : (x : A) (xs : List A) (z : A) → Contains xs z → Contains (x ∷ xs) z
-  later x xs z c = Contains-append_right (x ∷ []) xs z c
-
   module _ {R : A → A → Ordering} (o : IsTotalOrder R) where
     less_itself : (x : A) → R x x ≡ Less → ⊥
     less_itself x h = let e : Less ≡ Greater = sym h ∙ (o.antisymm x x ∙ ap ordering_reverse h) in absurd (cc)
@@ -31,7 +26,7 @@ module _ {A : Type 0} where
 
     tails : (x y : A) (xs ys : List A) → x ≡ y → IsStrictlySortedBy R (x ∷ xs)
         → ((z : A) → Contains (x ∷ xs) z → Contains (y ∷ ys) z) → (z : A) → Contains xs z → Contains ys z
-    tails x y xs ys e up into z there = elim (contains_cases y ys z (into z (later x xs z there))) [
+    tails x y xs ys e up into z there = elim (contains_cases y ys z (into z (contains_later x xs z there))) [
       | inl f ↦ absurd (less_itself x (subst (λ w. R x w ≡ Less) (sym f ∙ sym e) (above x z xs up there)))
       | inr k ↦ k
     ]
@@ -49,10 +44,10 @@ module _ {A : Type 0} where
     pub same_rising : (xs ys : List A) → IsStrictlySortedBy R xs → IsStrictlySortedBy R ys
         → ((z : A) → Contains xs z → Contains ys z) → ((z : A) → Contains ys z → Contains xs z) → xs ≡ ys
     same_rising [] [] up down into back = refl
-    same_rising [] (y ∷ ys) up down into back = absurd (let c = back y (first y ys) in omega (arith, c.1))
-    same_rising (x ∷ xs) [] up down into back = absurd (let c = into x (first x xs) in omega (arith, c.1))
+    same_rising [] (y ∷ ys) up down into back = absurd (let c = back y (contains_first y ys) in omega (arith, c.1))
+    same_rising (x ∷ xs) [] up down into back = absurd (let c = into x (contains_first x xs) in omega (arith, c.1))
     same_rising (x ∷ xs) (y ∷ ys) up down into back =
-        let e : x ≡ y = heads x y xs ys up down (into x (first x xs)) (back y (first y ys)) in
+        let e : x ≡ y = heads x y xs ys up down (into x (contains_first x xs)) (back y (contains_first y ys)) in
         let more : xs ≡ ys = same_rising xs ys (sorted_tail R x xs up) (sorted_tail R y ys down)
         (tails x y xs ys e up into) (tails y x ys xs (sym e) down back) in
         λ i. e i ∷ more i

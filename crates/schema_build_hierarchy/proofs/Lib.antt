@@ -1,4 +1,4 @@
-mod ActionTypes
+pub mod ActionTypes
 mod Paths
 pub mod Ranked
 pub mod Once
@@ -11,9 +11,9 @@ mod Unreserved
 mod Gathering
 pub mod Exact
 pub mod ParentRanks
-mod UsesFree
+pub mod UsesFree
 mod Cycles
 pub mod Gathered
 mod EnumAbove
-mod ParentsDeclared
+pub mod ParentsDeclared
 pub mod KnownByMembers

@@ -14,7 +14,8 @@ use Rattle.std.proofs.lemmas.List.Elements.{Contains-append_cases, Contains-push
 use Rattle.std.proofs.lemmas.List.Kept.{IsStrictlySortedBy-dedup, Any-dedup, Contains-from_dedup}
 use Rattle.std.proofs.lemmas.List.Sorted.{Contains-permutation, IsPermutation-sym}
 use Rattle.std.proofs.lemmas.Map.Keys.{sorted_head, sorted_tail}
-use Rattle.schema_build_hierarchy.proofs.Ordered.{contains_map}
+use Rattle.cedar_data.proofs.Lists.{contains_map}
+use Rattle.cedar_data.proofs.Orders.{equal_from}
 use Rattle.schema_build_hierarchy.specs.FirstUses.{IsFirstUse, HasAlike, AreFirstUses}
 
 pub contains_cases : {A : Type 0} (k : A) (xs : List A) (x : A) → Contains (k ∷ xs) x → (k ≡ x) ⊎ Contains xs x
@@ -34,13 +35,8 @@ module _ {T : Type 0} {R : T → T → Ordering} (o : IsTotalOrder R) (E : T →
   abbrev alike : T → List T → List T
   alike x = filter (λ y. is_eq (R x y))
 
-  equal_from : (x y : T) → E x y ≡ true → R x y ≡ Equal
-  equal_from x y e = told (R x y) (sym (same x y) ∙ e)
-    where
-      told : (r : Ordering) → is_eq r ≡ true → r ≡ Equal
-      told Less h = absurd (cc)
-      told Equal h = refl
-      told Greater h = absurd (cc)
+  alike_from : (x y : T) → E x y ≡ true → R x y ≡ Equal
+  alike_from x y e = equal_from (R x y) (sym (same x y) ∙ e)
 
   here : (x : T) (xs : List T) → IsFirstUse R (x ∷ xs) x
   here x xs = (alike x xs, ap (λ b. cond b (x ∷ alike x xs) (alike x xs)) (ap is_eq (tied_itself o x)))
@@ -65,7 +61,7 @@ module _ {T : Type 0} {R : T → T → Ordering} (o : IsTotalOrder R) (E : T →
   put_in x k y xs e h = go (cases_Bool (is_eq (R x k)))
     where
       both : R x y ≡ R x k
-      both = alike_right o y k x (equal_from y k e)
+      both = alike_right o y k x (alike_from y k e)
 
       go : (is_eq (R x k) ≡ true) ⊎ (is_eq (R x k) ≡ false) → IsFirstUse R (k ∷ y ∷ xs) x
       go (inl hit) = subst (λ z. IsFirstUse R (z ∷ y ∷ xs) x) (sym (taken x k xs hit h)) (here x (y ∷ xs))
@@ -113,7 +109,7 @@ module _ {T : Type 0} {R : T → T → Ordering} (o : IsTotalOrder R) (E : T →
   alike_in xs u c =
       let equiv : IsEquivalence E = subst IsEquivalence (λ i x y. sym (same x y) i) (eq_by_cmp_equiv o) in
       let found = Any-dedup equiv xs u c in
-      (found.1, (found.0, found.2, found.3), tied_back o u found.1 (equal_from u found.1 found.4))
+      (found.1, (found.0, found.2, found.3), tied_back o u found.1 (alike_from u found.1 found.4))
 
   pub firsts_are : (uses sorted firsts : List T) → IsPermutation uses sorted → IsStable R uses sorted
       → IsSorted R sorted

@@ -1,35 +1,24 @@
 -- The rows of parents, one after another.
-use Rattle.std.proofs.Common.{◌≡◌, ℕ, zero, suc, ◌<◌, Bool, true, false, cond, List, [], ◌∷◌, ◌++◌, map, length, get_or}
+use Rattle.std.proofs.Common.{◌≡◌, ℕ, zero, suc, Bool, true, false, cond, List, [], ◌∷◌, ◌++◌, map, length, get_or}
 use Rattle.std.proofs.Common.{sym, ap, ◌∙◌, subst, arith, inl, inr, Contains, Vec, Some, Ordering}
 use Rattle.std.specs.Prelude.{slice_get, ◌↔◌, ◌⊎◌, filter}
 use Rattle.std.specs.declared.alloc.Global.{Global}
 use Rattle.std.specs.declared.cmp.Ordering.TheVariants.{Equal}
 use Rattle.std.specs.Option.{option_map}
 use Rattle.std.proofs.lemmas.Bool.{cases_Bool}
-use Rattle.std.proofs.lemmas.List.{length-map, length-append}
-use Rattle.std.proofs.lemmas.List.Elements.{Contains-get_or}
+use Rattle.std.proofs.lemmas.List.{length-append}
+use Rattle.std.proofs.lemmas.List.Elements.{Contains-get_or, All-contains, All-filter, All-contains_itself}
 use Rattle.std.proofs.lemmas.Option.{slice_get_within, slice_get_cases, slice_get-map, slice_get-get_or}
+use Rattle.cedar_data.proofs.Lists.{contains_map, contains_unmap, contains_later}
+use Rattle.cedar_data.proofs.Options.{seen_of}
 use Rattle.schema_build_graph.specs.Graph.{InRange}
 use Rattle.schema_build_hierarchy.specs.Ranks.{AreRanksOf}
 use Rattle.schema_build_hierarchy.specs.Ancestors.{AreRowsFor, AreParentRows}
 use Rattle.schema_build_hierarchy.proofs.Once.{contains_cases}
-use Rattle.schema_build_hierarchy.proofs.Ordered.{contains_map, contains_unmap}
-
-pub contains_later : {A : Type 0} (k : A) (xs : List A) (x : A) → Contains xs x → Contains (k ∷ xs) x
-contains_later k xs x (i, h, e) = (suc i, omega arith, e)
 
 pub filter_kept : {A : Type 0} (p : A → Bool) (xs : List A) (x : A) → Contains (filter p xs) x → Contains xs x
-filter_kept p [] x c = c
-filter_kept {A} p (k ∷ xs) x c = go (cases_Bool (p k)) (filter_kept p xs x)
-  where
-    go : (p k ≡ true) ⊎ (p k ≡ false) → (Contains (filter p xs) x → Contains xs x) → Contains (k ∷ xs) x
-    go (inl hit) on = elim (contains_cases k (filter p xs) x
-        (subst (λ b. Contains (cond b (k ∷ filter p xs) (filter p xs)) x) hit c)) [
-          | inl same ↦ (0, omega arith, same)
-          | inr there ↦ contains_later k xs x (on there)
-        ]
-    go (inr miss) on = contains_later k xs x
-        (on (subst (λ b. Contains (cond b (k ∷ filter p xs) (filter p xs)) x) miss c))
+filter_kept p xs x c =
+    All-contains (Contains xs) (filter p xs) x (All-filter p (Contains xs) xs (All-contains_itself xs)) c
 
 pub filter_keeps : {A : Type 0} (p : A → Bool) (xs : List A) (x : A) → Contains xs x → p x ≡ true
     → Contains (filter p xs) x
@@ -48,16 +37,7 @@ filter_keeps {A} p (k ∷ xs) x c h = elim (contains_cases k xs x c) [
 
 pub at_map : {X Y : Type 0} (f : X → Y) (xs : List X) (i : ℕ) (y : Y) → slice_get (map f xs) i ≡ Some y
     → (x : X) × (slice_get xs i ≡ Some x) × (f x ≡ y)
-at_map f xs i y is = elim (slice_get_cases xs i).1 [
-  | inl x ↦ (
-    x.0,
-    x.2,
-    (let shown : slice_get (map f xs) i ≡ Some (f x.0) = slice_get-map f xs i
-        ∙ ap (option_map f) x.2 in cc),
-  )
-  | inr past ↦ absurd (let lt : i < length (map f xs) = slice_get_within (map f xs) i y is in
-      omega (arith, past.0, length-map xs f))
-]
+at_map f xs i y is = seen_of f (slice_get xs i) y (sym (slice_get-map f xs i) ∙ is)
 
 pub map_at : {X Y : Type 0} (f : X → Y) (xs : List X) (i : ℕ) (x : X) → slice_get xs i ≡ Some x
     → slice_get (map f xs) i ≡ Some (f x)

@@ -6,10 +6,12 @@ use Rattle.std.specs.List.{flat_map}
 use Rattle.std.specs.Option.{option_map, option_to_list}
 use Rattle.std.specs.Str.{bytes_eq, encode_utf8_all}
 use Rattle.std.proofs.lemmas.Str.{encodes_same}
-use Rattle.std.proofs.lemmas.Bool.{cases_Bool}
+use Rattle.std.proofs.lemmas.Bool.{cases_Bool, and_parts}
 use Rattle.std.proofs.lemmas.List.Elements.{Contains-append_left, Contains-append_right}
 use Rattle.std.proofs.lemmas.List.Folds.{Any-from_list_any}
 use Rattle.std.proofs.lemmas.Slice.Eq.{bytes_eq-Decides}
+use Rattle.cedar_data.proofs.Lists.{contains_flat, contains_map, contains_unmap, found_passes}
+use Rattle.cedar_data.proofs.Options.{seen_of}
 use Rattle.cedar_identifiers.specs.Names.{components_of, has_cedar}
 use Rattle.cedar_identifiers.specs.declared.internal_name.InternalName.{InternalName}
 use Rattle.cedar_identifiers.specs.declared.name.Name.{Name}
@@ -19,6 +21,7 @@ use Rattle.cedar_identifiers.specs.declared.reference_type.ReferenceType.TheVari
 use Rattle.cedar_identifiers.specs.declared.unreserved_id.UnreservedId.{UnreservedId}
 use Rattle.cedar_names.specs.Definitions.{among, same_name, among_actions, same_action}
 use Rattle.cedar_names.specs.declared.extension_table.ExtensionTable.{ExtensionTable}
+use Rattle.cedar_names.proofs.Defined.{equal_names}
 use Rattle.schema_json.specs.declared.entity_type.EntityType.{EntityType}
 use Rattle.schema_json.specs.declared.entity_type.EntityTypeKind.{EntityTypeKind}
 use Rattle.schema_json.specs.declared.entity_type.EntityTypeKind.TheVariants.{Standard, Enum}
@@ -37,17 +40,14 @@ use Rattle.schema_build_hierarchy.specs.Declarations.{action_key, action_in, act
 use Rattle.schema_build_hierarchy.specs.Parents.{entity_parents, target_in, written_parents}
 use Rattle.schema_build_hierarchy.specs.Parents.{action_parents, action_target_in}
 use Rattle.schema_build_hierarchy.specs.Rows.{undeclared_part, undeclared_uses}
-use Rattle.schema_build_hierarchy.proofs.Gathered.{contains_flat}
 use Rattle.schema_build_hierarchy.proofs.Once.{contains_cases}
-use Rattle.schema_build_hierarchy.proofs.Ordered.{contains_map, contains_unmap}
-use Rattle.schema_build_hierarchy.proofs.UsesFree.{same_names, found_passes, both_true}
 
 -- the key of an action
 abbrev Key : Type 0
 Key = List (List ℕ) × List ℕ
 
 -- what one of them gives is given by all
-flat_contains : {A B : Type 0} (g : A → List B) (xs : List A) (x : A) (y : B) → Contains xs x → Contains (g x) y
+pub flat_contains : {A B : Type 0} (g : A → List B) (xs : List A) (x : A) (y : B) → Contains xs x → Contains (g x) y
     → Contains (flat_map g xs) y
 flat_contains g [] x y c d = absurd (omega (arith, c.1))
 flat_contains g (k ∷ xs) x y c d = elim (contains_cases k xs x c) [
@@ -55,20 +55,23 @@ flat_contains g (k ∷ xs) x y c d = elim (contains_cases k xs x c) [
   | inr there ↦ Contains-append_right (g k) (flat_map g xs) y (flat_contains g xs x y there d)
 ]
 
-given_here : {A B : Type 0} (f : A → B) (o : Option A) (b : B) → Contains (option_to_list (option_map f o)) b
-    → (a : A) × (o ≡ Some a) × (f a ≡ b)
-given_here f None b c = absurd (omega (arith, c.1))
-given_here f (Some a) b c = elim (contains_cases (f a) [] b c) [
-  | inl same ↦ (a, refl, same)
+pub held_some : {A : Type 0} (o : Option A) (x : A) → Contains (option_to_list o) x → o ≡ Some x
+held_some None x c = absurd (omega (arith, c.1))
+held_some (Some y) x c = elim (contains_cases y [] x c) [
+  | inl same ↦ ap Some same
   | inr none ↦ absurd (omega (arith, none.1))
 ]
 
-among_held : (names : List (List (List ℕ))) (n : List (List ℕ)) → among names n ≡ true → Contains names n
+given_here : {A B : Type 0} (f : A → B) (o : Option A) (b : B) → Contains (option_to_list (option_map f o)) b
+    → (a : A) × (o ≡ Some a) × (f a ≡ b)
+given_here f o b c = seen_of f o b (held_some (option_map f o) b c)
+
+pub among_held : (names : List (List (List ℕ))) (n : List (List ℕ)) → among names n ≡ true → Contains names n
 among_held names n there =
     let found = Any-from_list_any (same_name n) names there in
-    subst (Contains names) (sym (same_names n found.1 found.4)) (found.0, found.2, found.3)
+    subst (Contains names) (sym (equal_names n found.1 found.4)) (found.0, found.2, found.3)
 
-name_at : (ns : Option Name) (e : UnreservedId × EntityType RawName)
+pub name_at : (ns : Option Name) (e : UnreservedId × EntityType RawName)
     → components_of (declared_name ns e.0.id) ≡ entity_name (entity_in ns e)
 name_at None e = refl
 name_at (Some n) e = refl
@@ -147,15 +150,15 @@ module _ {G : named.Ghosts RawName} (f : Fragment RawName G) where
           | inr miss ↦ absurd (none n (used e x p n ce cx cp (use_of e.0 p n is miss)))
         ]
 
-same_actions : (a b : Key) → same_action a b ≡ true → a ≡ b
+pub same_actions : (a b : Key) → same_action a b ≡ true → a ≡ b
 same_actions a b h =
-    let both = both_true (same_name a.0 b.0) (bytes_eq (encode_utf8_all a.1) (encode_utf8_all b.1)) h in
-    let types : a.0 ≡ b.0 = same_names a.0 b.0 both.0 in
+    let both = and_parts (same_name a.0 b.0) (bytes_eq (encode_utf8_all a.1) (encode_utf8_all b.1)) h in
+    let types : a.0 ≡ b.0 = equal_names a.0 b.0 both.0 in
     let bytes = (bytes_eq-Decides (encode_utf8_all a.1) (encode_utf8_all b.1)).0 both.1 in
     let ids : a.1 ≡ b.1 = encodes_same a.1 b.1 bytes in
     λ i. (types i, ids i)
 
-among_actions_held : (actions : List Key) (a : Key) → among_actions actions a ≡ true → Contains actions a
+pub among_actions_held : (actions : List Key) (a : Key) → among_actions actions a ≡ true → Contains actions a
 among_actions_held actions a there =
     let found = Any-from_list_any (same_action a) actions there in
     subst (Contains actions) (sym (same_actions a found.1 found.4)) (found.0, found.2, found.3)
@@ -166,7 +169,7 @@ module _ {G : named.Ghosts RawName} (f : Fragment RawName G) (table : ExtensionT
       → Contains (declared f).actions (components_of n, id)
   target_held id names n found =
       let free = not (has_cedar (components_of n)) in
-      let both = both_true free (t.is_action (components_of n, id)) (found_passes (is_action t id) names n found) in
+      let both = and_parts free (t.is_action (components_of n, id)) (found_passes (is_action t id) names n found) in
       let there = ap (λ (s : Tests). s.is_action (components_of n, id)) (sym is) ∙ both.1 in
       among_actions_held (declared f).actions (components_of n, id) there
 

@@ -17,7 +17,7 @@ use Rattle.std.proofs.lemmas.List.Sorted.{searchable_from_sorted}
 use Rattle.std.proofs.lemmas.Map.Keys.{Less-from_sorted}
 use Rattle.std.proofs.lemmas.Option.{slice_get_within, get_or_from_slice_get, slice_get_cases, slice_get-map}
 use Rattle.std.proofs.lemmas.Option.{slice_get-get_or}
-use Rattle.schema_build_hierarchy.specs.Ranks.{HasRank, IsRankOf, IsNamed, AreRanksOf}
+use Rattle.schema_build_hierarchy.specs.Ranks.{HasRank, IsRankOf, HasRankAmong, AreRanksOf}
 
 module _ {K : Type 0} {R : K → K → Ordering} (o : IsTotalOrder R) where
   pub less_at : (own : List K) → IsStrictlySortedBy R own → (i j : ℕ) (a b : K) → slice_get own i ≡ Some a
@@ -47,7 +47,7 @@ module _ {K : Type 0} {R : K → K → Ordering} (o : IsTotalOrder R) where
         let tied : R b a ≡ Equal = same ∙ f in
         one_place own up r x a b p q (tied_back o b a tied)
 
-    more_named : (ns : List K) (k : K) (x : ℕ) → IsNamed R own ns x → IsNamed R own (ns ++ k ∷ []) x
+    more_named : (ns : List K) (k : K) (x : ℕ) → HasRankAmong R own ns x → HasRankAmong R own (ns ++ k ∷ []) x
     more_named ns k x (n, c, h) = (n, Contains-append_left ns (k ∷ []) n c, h)
 
     pub ranks_push : (ns row row' : List _) (k : K) (r : ℕ) → AreRanksOf R own ns row → HasRank R own k r

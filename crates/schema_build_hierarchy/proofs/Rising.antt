@@ -7,8 +7,9 @@ use Rattle.std.specs.List.Sorted.{IsStrictlySortedBy}
 use Rattle.std.proofs.lemmas.Cmp.{on_total, tied_itself}
 use Rattle.std.proofs.lemmas.List.Elements.{All-weaker, All-contains_itself}
 use Rattle.std.proofs.lemmas.Map.Keys.{sorted_from_all_adjacent}
+use Rattle.cedar_data.proofs.Lists.{contains_map}
 use Rattle.schema_build_hierarchy.specs.FirstUses.{HasAlike}
-use Rattle.schema_build_hierarchy.proofs.Ordered.{sorted_seen, contains_map}
+use Rattle.schema_build_hierarchy.proofs.Ordered.{sorted_seen}
 
 module _ {E K : Type 0} (f : E → K) {R : K → K → Ordering} (o : IsTotalOrder R) where
   pub rising_seen : (xs : List E)

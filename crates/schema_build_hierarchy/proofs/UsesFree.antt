@@ -1,15 +1,14 @@
 -- Entity types that are defined and not declared are the types of actions, which have no component `__cedar`.
-use Rattle.std.proofs.Common.{◌≡◌, ℕ, ◌<◌, Bool, true, false, cond, not, ◌||◌, ◌&&◌, List, [], ◌∷◌, map, length, Option}
+use Rattle.std.proofs.Common.{◌≡◌, ℕ, ◌<◌, Bool, true, false, cond, not, ◌||◌, List, [], ◌∷◌, map, length, Option}
 use Rattle.std.proofs.Common.{Some, None, refl, sym, ap, ◌∙◌, subst, inl, inr, All, Contains, arith}
-use Rattle.std.specs.Prelude.{◌⊎◌, filter, find}
+use Rattle.std.specs.Prelude.{◌⊎◌, filter}
 use Rattle.std.specs.List.{flat_map, list_any}
 use Rattle.std.specs.Option.{option_to_list}
 use Rattle.std.specs.declared.cmp.Ordering.{Ordering}
-use Rattle.std.specs.Str.{bytes_eq}
 use Rattle.std.proofs.lemmas.Bool.{cases_Bool}
 use Rattle.std.proofs.lemmas.List.Elements.{All-nil, All-cons, All-append, All-map, All-contains}
 use Rattle.std.proofs.lemmas.List.Folds.{list_any-append, Any-from_list_any}
-use Rattle.std.proofs.lemmas.Slice.Eq.{bytes_eq-Decides}
+use Rattle.cedar_data.proofs.Lists.{found_passes}
 use Rattle.cedar_identifiers.specs.Names.{components_of, has_cedar}
 use Rattle.cedar_identifiers.specs.declared.internal_name.InternalName.{InternalName}
 use Rattle.cedar_identifiers.specs.declared.name.Name.{Name}
@@ -18,6 +17,7 @@ use Rattle.cedar_identifiers.specs.declared.raw_name.RawName.{RawName}
 use Rattle.cedar_identifiers.specs.declared.reference_type.ReferenceType.TheVariants.{Entity}
 use Rattle.cedar_names.specs.Definitions.{among, same_name}
 use Rattle.cedar_names.specs.declared.extension_table.ExtensionTable.{ExtensionTable}
+use Rattle.cedar_names.proofs.Defined.{equal_names}
 use Rattle.schema_json.specs.Actions.{action_name}
 use Rattle.schema_json.specs.declared.fragment.Fragment.{Fragment}
 use Rattle.schema_json_walk.specs.Parts.{Part, type_reference, context_reference, parent, principal, resource}
@@ -43,34 +43,9 @@ pub all_flat : {A B : Type 0} (f : A → List B) (P : B → Type 0) → ((a : A)
 all_flat f P each [] = All-nil P
 all_flat f P each (x ∷ xs) = All-append P (f x) (flat_map f xs) (each x) (all_flat f P each xs)
 
-pub both_true : (a b : Bool) → (a && b) ≡ true → (a ≡ true) × (b ≡ true)
-both_true true b h = (refl, h)
-both_true false b h = absurd (cc)
-
-pub same_names : (xs ys : List (List ℕ)) → same_name xs ys ≡ true → xs ≡ ys
-same_names [] [] h = refl
-same_names [] (y ∷ ys) h = absurd (cc)
-same_names (x ∷ xs) [] h = absurd (cc)
-same_names (x ∷ xs) (y ∷ ys) h =
-    let both = both_true (bytes_eq x y) (same_name xs ys) h in
-    let first : x ≡ y = (bytes_eq-Decides x y).0 both.0 in
-    let rest : xs ≡ ys = same_names xs ys both.1 in
-    cc
-
 pub or_second : (a b : Bool) → (a || b) ≡ true → a ≡ false → b ≡ true
 or_second true b h k = absurd (cc)
 or_second false b h k = h
-
-pub found_passes : {A : Type 0} (p : A → Bool) (xs : List A) (x : A) → find p xs ≡ Some x → p x ≡ true
-found_passes p [] x h = absurd (cc)
-found_passes {A} p (k ∷ xs) x h = go (cases_Bool (p k)) (found_passes p xs x)
-  where
-    go : (p k ≡ true) ⊎ (p k ≡ false) → (find p xs ≡ Some x → p x ≡ true) → p x ≡ true
-    go (inl hit) on =
-        let here : Some k ≡ Some x = sym (ap (λ b. cond b (Some k) (find p xs)) hit) ∙ h in
-        let same : k ≡ x = cc in
-        ap p (sym same) ∙ hit
-    go (inr miss) on = on (sym (ap (λ b. cond b (Some k) (find p xs)) miss) ∙ h)
 
 module _ {G : named.Ghosts RawName} (f : Fragment RawName G) (table : ExtensionTable) where
   types_free : All (λ n. has_cedar n ≡ false) (map (λ a. a.0) (declared f).actions)
@@ -87,7 +62,7 @@ module _ {G : named.Ghosts RawName} (f : Fragment RawName G) (table : ExtensionT
       ≡ true = or_second (among (declared f).entities n) (among (map (λ a. a.0) (declared f).actions) n)
       (sym split ∙ there) own in
       let found = Any-from_list_any (same_name n) (map (λ a. a.0) (declared f).actions) late in
-      let same : n ≡ found.1 = same_names n found.1 found.4 in
+      let same : n ≡ found.1 = equal_names n found.1 found.4 in
       ap has_cedar same ∙ All-contains (λ n. has_cedar n ≡ false) (map (λ a. a.0) (declared f).actions) found.1
       types_free (found.0, found.2, found.3)
 

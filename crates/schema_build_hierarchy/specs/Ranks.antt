@@ -13,9 +13,9 @@ IsRankOf order own name None = (r : ℕ) → HasRank order own name r → ⊥
 IsRankOf order own name (Some r) = HasRank order own name r
 
 -- one of these names has the rank
-abbrev pub IsNamed : {K : Type 0} → (K → K → Ordering) → List K → List K → ℕ → Type 0
-IsNamed {K} order own names r = (k : K) × Contains names k × HasRank order own k r
+abbrev pub HasRankAmong : {K : Type 0} → (K → K → Ordering) → List K → List K → ℕ → Type 0
+HasRankAmong {K} order own names r = (k : K) × Contains names k × HasRank order own k r
 
 -- the row holds the ranks of those names that have one
 pub record AreRanksOf {K : Type 0} (order : K → K → Ordering) (own names : List K) (row : List ℕ) : Type 0 where
-  pub are : (r : ℕ) → Contains row r ↔ IsNamed order own names r
+  pub are : (r : ℕ) → Contains row r ↔ HasRankAmong order own names r

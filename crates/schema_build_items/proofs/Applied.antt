@@ -1,6 +1,8 @@
 -- What is built for actions stands for what they mean.
-use Rattle.std.proofs.Common.{◌≡◌, ℕ, Bool, true, false, ◌&&◌, List, [], Option, Some, None, refl, sym, ap, subst}
+use Rattle.std.proofs.Common.{◌≡◌, ℕ, Bool, true, false, List, [], Option, Some, None, refl, sym, ap, subst}
+use Rattle.std.specs.Cmp.{second_so}
 use Rattle.std.specs.Prelude.{is_none}
+use Rattle.cedar_data.proofs.Options.{none_from_test}
 use Rattle.cedar_identifiers.specs.declared.name.Name.{Name}
 use Rattle.cedar_identifiers.specs.declared.name_text.NameText as named
 use Rattle.cedar_identifiers.specs.declared.raw_name.RawName.{RawName}
@@ -14,10 +16,10 @@ use Rattle.schema_build_types.specs.declared.types.Type.{«Type» as Built}
 use Rattle.schema_build_types.specs.declared.types.Type.TheVariants as built
 use Rattle.schema_build_types.specs.declared.action.ValidatorActionKind.{ValidatorActionKind}
 use Rattle.schema_build_types.specs.declared.action.ValidatorActionKind.TheVariants as kind
-use Rattle.schema_build_checks.specs.DeclaredAt.{ActionAt}
 use Rattle.schema_build_expand.specs.Expands.{Expands, ExpandsOnce}
 use Rattle.schema_build_expand.specs.Scope.{Scope}
 use Rattle.schema_build_expand.specs.Targets.{ExpandsTo}
+use Rattle.schema_build_checks.specs.DeclaredAt.{ActionAt}
 use Rattle.schema_build_hierarchy.specs.Declarations.{Declared}
 use Rattle.schema_build_items.specs.ActionKinds.{ApplyMeaning, IsApplyMeaning, IsApplyBuilt, IsActionKindBuilt}
 use Rattle.schema_build_items.specs.ActionKinds.{IsMeantByOne, AreJust, as_components, components_cmp}
@@ -48,20 +50,12 @@ module _ (t : Tests) (s : Scope RawName) (ns : Option Name) where
   nothing_made ps rs attrs p r a =
       (nothing, (refl, refl, refl), (refl, ap as_components p, ap as_components r, (attrs, refl, a)))
 
-  none_there : {A : Type 0} (o : Option A) → is_none o ≡ true → o ≡ None
-  none_there None e = refl
-  none_there (Some a) e = cc
-
-  second : (a b : Bool) → (a && b) ≡ true → b ≡ true
-  second true b e = e
-  second false b e = cc
-
   -- what is bare applies to nothing
   pub bare_applies : {G : named.Ghosts RawName} (a : ActionType RawName G) → is_bare_action a ≡ true
       → IsApplyMeaning t s ns a.applies_to (record { principals = []; resources = []; context = no_more })
   bare_applies a e =
-      let gone : a.applies_to ≡ None = none_there a.applies_to
-      (second (is_none a.attributes) (is_none a.applies_to) e) in
+      let gone : a.applies_to ≡ None = none_from_test a.applies_to
+      (second_so (is_none a.attributes) (is_none a.applies_to) e) in
       subst (λ o. IsApplyMeaning t s ns o nothing) (sym gone) (refl, refl, refl)
 
 module _ (t : Tests) (s : Scope RawName) (once : ExpandsOnce s) where

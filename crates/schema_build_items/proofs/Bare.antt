@@ -1,11 +1,14 @@
 -- Bare entity types mean no attributes and no tags.
-use Rattle.std.proofs.Common.{◌≡◌, Bool, true, false, not, ◌&&◌, List, [], ◌∷◌, Option, Some, None, refl, sym, ◌∙◌}
+use Rattle.std.proofs.Common.{◌≡◌, Bool, true, false, not, ◌&&◌, List, [], ◌∷◌, Option, None, refl, sym, ◌∙◌}
 use Rattle.std.proofs.Common.{subst}
 use Rattle.std.specs.Prelude.{ℕ, is_none}
+use Rattle.std.proofs.lemmas.Bool.{and_parts}
+use Rattle.cedar_data.proofs.Options.{none_from_test}
 use Rattle.cedar_identifiers.specs.declared.internal_name.InternalName.{InternalName}
 use Rattle.cedar_identifiers.specs.declared.raw_name.RawName.{RawName}
 use Rattle.cedar_names.specs.Meaning.{no_more, Rec}
 use Rattle.schema_json.specs.Shapes.{attributes_of, is_open, is_empty_type, is_empty_record}
+use Rattle.schema_json.specs.Shapes.{has_none, is_empty_shape, is_empty_outside}
 use Rattle.schema_json.specs.declared.entity_type.EntityTypeKind.{EntityTypeKind}
 use Rattle.schema_json.specs.declared.entity_type.EntityTypeKind.TheVariants.{Standard, Enum}
 use Rattle.schema_json.specs.declared.types.Type.{«Type», Type-F, out-Type}
@@ -21,33 +24,21 @@ use Rattle.schema_build_items.specs.Kinds.{IsKindMeaning, TagsExpand}
 abbrev N : Type 0
 N = RawName
 
-abbrev holds_none : List (List ℕ × TypeOfAttribute N) → Bool
-holds_none [] = true
-holds_none (e ∷ es) = false
-
-abbrev empty_shape : TypeVariant-F N («Type» N) (TypeVariant N) (RecordType N) (TypeOfAttribute N) → Bool
-empty_shape (TypeVariant-F.Record r) = is_empty_record r
-empty_shape _ = false
-
-abbrev empty_outside : Type-F N («Type» N) (TypeVariant N) (RecordType N) (TypeOfAttribute N) → Bool
-empty_outside (Type-F.Variant ty loc) = empty_shape (out-TypeVariant N ty)
-empty_outside (Type-F.CommonTypeRef name loc) = false
-
-alike_record : (r : RecordType N) → is_empty_record r ≡ (holds_none (attributes_of r) && not (is_open r))
+alike_record : (r : RecordType N) → is_empty_record r ≡ (has_none (attributes_of r) && not (is_open r))
 alike_record r = refl
 
-alike_type : (t : «Type» N) → is_empty_type t ≡ empty_outside (out-Type N t)
+alike_type : (t : «Type» N) → is_empty_type t ≡ is_empty_outside (out-Type N t)
 alike_type t = refl
 
 module _ (s : Scope N) (ns : Option InternalName) where
-  entries_empty : (es : List (List ℕ × TypeOfAttribute N)) (b : Bool) → (holds_none es && not b) ≡ true
+  entries_empty : (es : List (List ℕ × TypeOfAttribute N)) (b : Bool) → (has_none es && not b) ≡ true
       → LayerExpands N s ns (record_layer b es) (Rec no_more)
   entries_empty [] false e = to_record ns [] no_more (to_no_attributes ns)
   entries_empty [] true e = cc
   entries_empty (x ∷ xs) b e = cc
 
   shape_empty : (v : TypeVariant-F N («Type» N) (TypeVariant N) (RecordType N) (TypeOfAttribute N))
-      → empty_shape v ≡ true
+      → is_empty_shape v ≡ true
       → LayerExpands N s ns (shape_view v) (Rec no_more)
   shape_empty (TypeVariant-F.Record r) e = entries_empty (attributes_of r) (is_open r) (sym (alike_record r) ∙ e)
   shape_empty TypeVariant-F.String e = cc
@@ -58,8 +49,8 @@ module _ (s : Scope N) (ns : Option InternalName) where
   shape_empty (TypeVariant-F.EntityOrCommon name) e = cc
   shape_empty (TypeVariant-F.Extension name) e = cc
 
-  outside_empty : (o : Type-F N («Type» N) (TypeVariant N) (RecordType N) (TypeOfAttribute N)) → empty_outside o ≡ true
-      → LayerExpands N s ns (outer_view o) (Rec no_more)
+  outside_empty : (o : Type-F N («Type» N) (TypeVariant N) (RecordType N) (TypeOfAttribute N))
+      → is_empty_outside o ≡ true → LayerExpands N s ns (outer_view o) (Rec no_more)
   outside_empty (Type-F.Variant ty loc) e = shape_empty (out-TypeVariant N ty) e
   outside_empty (Type-F.CommonTypeRef name loc) e = cc
 
@@ -67,18 +58,10 @@ module _ (s : Scope N) (ns : Option InternalName) where
   pub empty_expands : (t : «Type» N) → is_empty_type t ≡ true → Expands N s ns t (Rec no_more)
   empty_expands t e = by_layer ns t (Rec no_more) (outside_empty (out-Type N t) (sym (alike_type t) ∙ e))
 
-  both : (a b : Bool) → (a && b) ≡ true → (a ≡ true) × (b ≡ true)
-  both true b e = (refl, e)
-  both false b e = cc
-
-  no_tags : {A : Type 0} (o : Option A) → is_none o ≡ true → o ≡ None
-  no_tags None e = refl
-  no_tags (Some a) e = cc
-
   -- what is bare means nothing besides its name and its ancestors
   pub bare_means : (kind : EntityTypeKind N) → is_bare_kind kind ≡ true
       → IsKindMeaning s ns kind (record { attributes = no_more; tags = None; choices = None })
   bare_means (Standard d) e =
-      let (shape, tags) = both (is_empty_type d.shape.0) (is_none d.tags) e in
-      (empty_expands d.shape.0 shape, subst (λ o. TagsExpand s ns o None) (sym (no_tags d.tags tags)) refl, refl)
+      let (shape, tags) = and_parts (is_empty_type d.shape.0) (is_none d.tags) e in
+      (empty_expands d.shape.0 shape, subst (λ o. TagsExpand s ns o None) (sym (none_from_test d.tags tags)) refl, refl)
   bare_means (Enum choices) e = cc

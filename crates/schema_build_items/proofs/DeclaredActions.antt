@@ -1,15 +1,10 @@
 -- The actions of a fragment, among its namespaces.
-use Rattle.std.proofs.Common.{◌≡◌, ℕ, zero, suc, true, not, ◌&&◌, List, [], ◌∷◌, ◌++◌, get_or, All, Contains, Option}
-use Rattle.std.proofs.Common.{Some, None, refl, sym, ap, ◌∙◌, subst, arith}
+use Rattle.std.proofs.Common.{◌≡◌, ℕ, true, not, ◌&&◌, List, [], ◌++◌, Contains, Option}
+use Rattle.std.proofs.Common.{Some, None, refl, subst}
 use Rattle.std.specs.Prelude.{IsSome}
 use Rattle.std.specs.List.{flat_map}
-use Rattle.std.specs.Cmp.{IsTotalOrder}
-use Rattle.std.proofs.lemmas.Cmp.{on_total}
-use Rattle.cedar_identifiers.specs.declared.id.Id.{Id}
-use Rattle.cedar_names.specs.Orders.{ids_of, keys_total}
-use Rattle.std.specs.Option.{option_map, option_map_or, is_some}
-use Rattle.std.proofs.lemmas.List.{get_or_default}
-use Rattle.cedar_identifiers.specs.declared.conditional_name.ConditionalName.{ConditionalName}
+use Rattle.std.specs.Option.{option_map_or}
+use Rattle.cedar_data.proofs.Lists.{all_of, empty_before, contains_unmap, contains_flat}
 use Rattle.cedar_identifiers.specs.declared.internal_name.InternalName.{InternalName}
 use Rattle.cedar_identifiers.specs.declared.name.Name.{Name}
 use Rattle.cedar_identifiers.specs.declared.name_text.NameText as named
@@ -32,65 +27,20 @@ use Rattle.schema_resolve.specs.Meanings.{means}
 use Rattle.schema_resolve.specs.Qualified.{in_namespace}
 use Rattle.schema_resolve.specs.ReferenceParts.{by_reference}
 use Rattle.schema_resolve.specs.Resolved.{untargeted_in}
-use Rattle.schema_resolve.specs.Targets.{target, unless}
-use Rattle.schema_resolve.specs.Undefined.{Undefined, types_among}
-use Rattle.schema_resolve.specs.Undefined as undefined
-use Rattle.schema_build_errors.specs.declared.schema_error.SchemaError.TheVariants as error
-use Rattle.schema_build_checks.specs.DeclaredAt.{ActionAt, actions_at_in_order}
+use Rattle.schema_resolve.specs.Targets.{target}
+use Rattle.schema_resolve.specs.Undefined.{Undefined}
+use Rattle.schema_build_types.specs.declared.types.Type.{«Type» as Built}
+use Rattle.schema_build_checks.specs.DeclaredAt.{ActionAt}
 use Rattle.schema_build_checks.specs.Rows.{Never}
 use Rattle.schema_build_checks.specs.WalkFaults.{unsupported, HasUnsupported}
 use Rattle.schema_build_scope.specs.FragmentScope.{by_components, meant_in}
-use Rattle.schema_build_types.specs.declared.types.Type.{«Type» as Built}
 use Rattle.schema_build_scope.specs.Parts.{IsAllKnown, AreTypesReady}
-use Rattle.schema_build_scope.specs.UndefinedRows.{NamesTypes, undefined_alone}
+use Rattle.schema_build_scope.specs.UndefinedRows.{undefined_alone}
+use Rattle.schema_build_scope.proofs.Known.{NoTypes, types_parted, no_types, targeted, kept_some}
+use Rattle.schema_build_scope.proofs.Quiet.{IsOfParts, empty_parted, quiet_in}
 use Rattle.schema_build_hierarchy.specs.Declarations.{Declared, declared_actions, actions_of, action_in}
 use Rattle.schema_build_items.specs.ActionKinds.{IsApplyMeant, IsApplyReady, AreEntitiesMeant}
 use Rattle.schema_build_items.proofs.Fragments.{none_first, bare_if}
-use Rattle.schema_build_items.proofs.Lists.{contains_flat, contains_unmap, empty_before, empty_behind}
-
-pub actions_total : IsTotalOrder actions_at_in_order
-actions_total = on_total (λ (a : ActionAt). let k : List Id × List ℕ = (ids_of a.ty, a.id) in k) keys_total
-
--- what is said of a list, and then of each of its parts
-record IsOfParts {U : Type 0} (Quiet : List U → Type 0) : Type 0 where
-  left : (a b : List U) → Quiet (a ++ b) → Quiet a
-  right : (a b : List U) → Quiet (a ++ b) → Quiet b
-
--- no reference to a type is among them
-abbrev NoTypes : List Undefined → Type 0
-NoTypes us = types_among us ≡ []
-
-types_append : (us vs : List Undefined) → types_among (us ++ vs) ≡ types_among us ++ types_among vs
-types_append [] vs = refl
-types_append (undefined.type_reference c ∷ us) vs = ap (λ l. c ∷ l) (types_append us vs)
-types_append (undefined.action_reference id ty ∷ us) vs = types_append us vs
-
-types_parted : IsOfParts NoTypes
-types_parted = record {
-  left = λ a b e. empty_before (types_among a) (types_among b) (sym (types_append a b) ∙ e);
-  right = λ a b e. empty_behind (types_among a) (types_among b) (sym (types_append a b) ∙ e);
-}
-
-none_parted : {U : Type 0} → IsOfParts (λ (us : List U). us ≡ [])
-none_parted {U} = record { left = empty_before; right = empty_behind }
-
-no_types : (us : List Undefined) → Never (NamesTypes us) → NoTypes us
-no_types us never = go (types_among us) refl
-  where
-    go : (cs : List ConditionalName) → types_among us ≡ cs → types_among us ≡ []
-    go [] e = e
-    go (c ∷ cs) e =
-        absurd (never (error.TypeNotDefined (record { undefined_types = types_among us }))
-        (refl, λ none. (let h : c ∷ cs ≡ [] = sym e ∙ none in cc)))
-
-targeted : (o : Option InternalName) (c : ConditionalName) → NoTypes (unless o (undefined.type_reference c))
-    → is_some o ≡ true
-targeted None c e = cc
-targeted (Some n) c e = refl
-
-kept_some : {A B : Type 0} (f : A → B) (o : Option A) → is_some o ≡ true → is_some (option_map f o) ≡ true
-kept_some f None e = e
-kept_some f (Some a) e = refl
 
 entity_meant : (t : Tests) (ns : Option InternalName) (name : RawName)
     → NoTypes (by_reference (untargeted_in t ns) (principal name)) → IsSome (meant_in t ns Entity name)
@@ -98,24 +48,16 @@ entity_meant t ns name q =
     let c = in_namespace ns Entity name in
     kept_some by_components (means t ns Entity name) (kept_some _ (target t c) (targeted (target t c) c q))
 
-all_of : {A : Type 0} (P : A → Type 0) (xs : List A) → ((x : A) → Contains xs x → P x) → All P xs
-all_of P xs h k d lt = h (get_or xs k d) (k, lt, sym (get_or_default xs k d (get_or xs k d) lt))
-
 module _ {U : Type 0} (Quiet : List U → Type 0) (parted : IsOfParts Quiet) where
-  quiet_in : {A : Type 0} (f : A → List U) (xs : List A) (x : A) → Contains xs x → Quiet (flat_map f xs) → Quiet (f x)
-  quiet_in f [] x (k, lt, is) q = absurd (omega (arith, lt))
-  quiet_in f (y ∷ ys) x (zero, lt, is) q = subst (λ z. Quiet (f z)) is (parted.left (f y) (flat_map f ys) q)
-  quiet_in f (y ∷ ys) x (suc k, lt, is) q = quiet_in f ys x (k, omega arith, is) (parted.right (f y) (flat_map f ys) q)
-
   module _ {G : named.Ghosts RawName} (f : Fragment RawName G) (visit : Option Name → Part RawName → List U)
       (q : Quiet (of_fragment visit f)) (ns : Option Name) (n : NamespaceDefinition RawName G)
       (e : List ℕ × ActionType RawName G) (in_f : Contains f.0 (ns, n)) (in_n : Contains n.actions e) where
     quiet_action : Quiet (of_action (visit ns) e.1)
     quiet_action =
-        quiet_in (λ (x : List ℕ × ActionType RawName G). of_action (visit ns) x.1) n.actions e in_n
+        quiet_in Quiet parted (λ (x : List ℕ × ActionType RawName G). of_action (visit ns) x.1) n.actions e in_n
         (parted.right (each_value (of_entity (visit ns)) n.entity_types) _
         (parted.right (each_value (of_common (visit ns)) n.common_types) (of_items (visit ns) n)
-        (quiet_in (of_entry visit) f.0 (ns, n) in_f q)))
+        (quiet_in Quiet parted (of_entry visit) f.0 (ns, n) in_f q)))
 
     quiet_apply : (d : ApplySpec RawName) → e.1.applies_to ≡ Some d → Quiet (of_apply (visit ns) d)
     quiet_apply d is =
@@ -191,7 +133,7 @@ module _ {G : named.Ghosts RawName} (f : Fragment RawName G) where
       let (ns, n, e, in_f, in_n, is) = stands_in d c in
       let none : of_fragment (λ ns part. unsupported part) f
       ≡ [] = none_first (of_fragment (λ ns part. unsupported part) f) never in
-      let one = quiet_action (λ us. us ≡ []) none_parted f (λ ns part. unsupported part) none ns n e in_f in_n in
+      let one = quiet_action (λ us. us ≡ []) empty_parted f (λ ns part. unsupported part) none ns n e in_f in_n in
       let mark = visit_where unsupported (e.1.external && not (is_bare_action e.1)) external_not_bare in
       subst (λ d. d.ty.external ≡ true → is_bare_action d.ty ≡ true) is
       (bare_if e.1.external (is_bare_action e.1) (empty_before mark (of_action_parts unsupported e.1) one))

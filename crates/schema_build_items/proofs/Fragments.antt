@@ -1,6 +1,7 @@
 -- The entity types and the actions of a fragment, among its namespaces.
 use Rattle.std.proofs.Common.{◌≡◌, Bool, true, false, not, ◌&&◌, List, [], ◌∷◌, Contains, Option, Some, None, refl}
 use Rattle.std.proofs.Common.{subst}
+use Rattle.cedar_data.proofs.Lists.{empty_behind, empty_before, contains_unmap, contains_flat, empty_in}
 use Rattle.cedar_identifiers.specs.declared.name.Name.{Name}
 use Rattle.cedar_identifiers.specs.declared.name_text.NameText as named
 use Rattle.cedar_identifiers.specs.declared.raw_name.RawName.{RawName}
@@ -18,14 +19,13 @@ use Rattle.schema_json_walk.specs.Walk.{of_namespace, of_fragment, of_entry, of_
 use Rattle.schema_json_walk.specs.Walk.{each_value, visit_where}
 use Rattle.schema_build_errors.specs.declared.schema_error.SchemaError.TheVariants as error
 use Rattle.schema_build_errors.specs.declared.use_errors.UnsupportedFeature.{UnsupportedFeature}
+use Rattle.schema_build_types.specs.declared.types.Type.{«Type» as Built}
 use Rattle.schema_build_checks.specs.Refusing.{IsAboutFirst}
 use Rattle.schema_build_checks.specs.Rows.{Never}
 use Rattle.schema_build_checks.specs.WalkFaults.{unsupported, NamesFeature, HasUnsupported}
-use Rattle.schema_build_types.specs.declared.types.Type.{«Type» as Built}
 use Rattle.schema_build_scope.specs.Parts.{AreTypesReady}
 use Rattle.schema_build_hierarchy.specs.Declarations.{DeclaredEntity, declared_entities, entities_of, entity_in}
 use Rattle.schema_build_items.specs.Kinds.{IsKindReady, AreTagsReady}
-use Rattle.schema_build_items.proofs.Lists.{contains_flat, contains_unmap, empty_in, empty_before, empty_behind}
 
 -- a row on the first of a list does not hold where there is none
 pub none_first : (us : List UnsupportedFeature) → Never (IsAboutFirst NamesFeature us) → us ≡ []

@@ -5,5 +5,4 @@ mod Fragments
 mod Least
 mod Lists
 mod Made
-mod Once
 mod Targets

@@ -14,15 +14,15 @@ use Rattle.schema_json.specs.declared.common_type.CommonTypeId.{CommonTypeId}
 use Rattle.schema_json.specs.declared.entity_type.EntityType.{EntityType}
 use Rattle.schema_json.specs.declared.fragment.Fragment.{Fragment}
 use Rattle.schema_json.specs.declared.fragment.NamespaceDefinition.{NamespaceDefinition}
-use Rattle.schema_convert_types.specs.Declarations.{as_written}
+use Rattle.schema_json.specs.AsWritten.{as_written}
+use Rattle.schema_says.specs.Bare.{bare_internal, bare}
+use Rattle.schema_says.specs.BareFragments.{bare_common, bare_entity, bare_action}
 use Rattle.schema_resolve_definitions.specs.Declarations.{declared_name, action_type, commons_in, entities_in}
 use Rattle.schema_resolve_definitions.specs.Declarations.{actions_in, declared}
 use Rattle.schema_resolve_definitions.specs.Defined.{builtins, completed, defined}
 use Rattle.schema_resolve_definitions.specs.Tests.{tests_of}
-use Rattle.schema_says.specs.Bare.{bare_internal, bare}
-use Rattle.schema_says.specs.BareFragments.{bare_common, bare_entity, bare_action}
 use Rattle.schema_build_checks.specs.DeclaredAt.{ActionAt}
-use Rattle.schema_build_scope.specs.Commons.{TypeAt, common_entry, declared_commons}
+use Rattle.schema_build_scope.specs.Commons.{TypeAt, full_common_entry, declared_commons}
 use Rattle.schema_build_hierarchy.specs.Declarations.{Declared, DeclaredEntity, entity_in, action_in, entities_of}
 use Rattle.schema_build_hierarchy.specs.Declarations.{actions_of, declared_entities, declared_actions}
 use Rattle.schema_build_orders.specs.Alike.{bare_space, bare_place, declarations_alone, declared_alone, DeclareTheSame}
@@ -73,7 +73,7 @@ action_seen None e = refl
 action_seen (Some n) e = refl
 
 common_seen : (ns : Option Name) (e : CommonTypeId × CommonType RawName)
-    → common_entry (bare_space ns) (e.0, bare_common e.1) ≡ common_alone (common_entry ns e)
+    → full_common_entry (bare_space ns) (e.0, bare_common e.1) ≡ common_alone (full_common_entry ns e)
 common_seen None e = refl
 common_seen (Some n) e = refl
 
@@ -88,9 +88,10 @@ actions_alone f = flat_seen bare_block action_alone actions_of actions_of
     e.1.actions) f.0
 
 commons_alone : (f : Frag) → declared_commons (declared_alone f) ≡ map common_alone (declared_commons f)
-commons_alone f = flat_seen bare_block common_alone (λ (e : Block). map (common_entry e.0) e.1.common_types)
-    (λ (e : Block). map (common_entry e.0) e.1.common_types)
-    (λ e. map_seen common_bare common_alone (common_entry (bare_space e.0)) (common_entry e.0) (common_seen e.0)
+commons_alone f = flat_seen bare_block common_alone (λ (e : Block). map (full_common_entry e.0) e.1.common_types)
+    (λ (e : Block). map (full_common_entry e.0) e.1.common_types)
+    (λ e. map_seen common_bare common_alone (full_common_entry (bare_space e.0)) (full_common_entry e.0)
+    (common_seen e.0)
     e.1.common_types)
     f.0
 

@@ -8,18 +8,19 @@ use Rattle.cedar_names.specs.Meaning.{PlainType, Attributes, attribute}
 use Rattle.cedar_names.specs.Meaning as plain
 use Rattle.schema_json.specs.declared.types.Type.{«Type»}
 use Rattle.schema_says.specs.Bare.{bare_name, bare, bare_of_attribute}
+use Rattle.schema_says.proofs.BareTypes.{bare_entry}
 use Rattle.schema_build_expand.specs.Expands.{Expands, by_layer, LayerExpands, to_bool, to_long, to_string, to_set}
 use Rattle.schema_build_expand.specs.Expands.{to_record, to_extension, to_entity, to_builtin, to_declared, ExpandAll}
 use Rattle.schema_build_expand.specs.Expands.{to_no_attributes, to_attribute}
-use Rattle.schema_build_expand.specs.Scope.{Scope, Declared, Declares, IsUndeclared, in_table, builtin}
+use Rattle.schema_build_expand.specs.Scope.{Scope, DeclaredType, Declares, IsUndeclared, in_table, builtin}
 use Rattle.schema_build_expand.specs.View.{View, boolean_layer, long_layer, string_layer, set_layer, record_layer}
 use Rattle.schema_build_expand.specs.View.{reference_layer, extension_layer, view}
 use Rattle.schema_build_orders.specs.Alike.{bare_place}
-use Rattle.schema_build_orders.proofs.Layers.{Entry, bare_entry, type_in, is_required, type_in_bare, required_bare}
+use Rattle.schema_build_orders.proofs.Layers.{Entry, type_in, is_required, type_in_bare, required_bare}
 use Rattle.schema_build_orders.proofs.Layers.{bare_view, view_bare}
 
 abbrev pub Common' : Type 0
-Common' = Declared RawName
+Common' = DeclaredType RawName
 
 -- what a declared common type is without places
 abbrev pub bare_common_type : Common' → Common'

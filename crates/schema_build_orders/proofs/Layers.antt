@@ -6,21 +6,18 @@ use Rattle.schema_json.specs.declared.types.Type.{«Type», Type-F, out-Type, ou
 use Rattle.schema_json.specs.declared.types.TypeVariant.{TypeVariant, TypeVariant-F, out-TypeVariant}
 use Rattle.schema_json.specs.declared.types.TypeVariant.{out-roll-TypeVariant, fold_out-TypeVariant}
 use Rattle.schema_json.specs.declared.types.RecordType.{RecordType, roll-RecordType, out-roll-RecordType}
-use Rattle.schema_json.specs.declared.types.RecordType.{fold_out-RecordType}
 use Rattle.schema_json.specs.declared.types.TypeOfAttribute.{TypeOfAttribute, TypeOfAttribute-F, out-TypeOfAttribute}
 use Rattle.schema_json.specs.declared.types.TypeOfAttribute.{roll-TypeOfAttribute, out-roll-TypeOfAttribute}
-use Rattle.schema_json.specs.declared.types.TypeOfAttribute.{fold_out-TypeOfAttribute}
 use Rattle.schema_json.specs.declared.types.Type.TheFolds.{map-Type, map-TypeVariant}
 use Rattle.schema_says.specs.Bare.{bare_name, bare_step, bare_variant, bare, bare_of_variant, bare_of_record}
 use Rattle.schema_says.specs.Bare.{bare_of_attribute}
+use Rattle.schema_says.proofs.BareTypes.{bare_entry}
+use Rattle.schema_says.proofs.BareTypes as made
 use Rattle.schema_build_expand.specs.View.{View, boolean_layer, long_layer, string_layer, set_layer, record_layer}
 use Rattle.schema_build_expand.specs.View.{reference_layer, extension_layer, shape_view, outer_view, view}
 
 abbrev pub Entry : Type 0
 Entry = List ℕ × TypeOfAttribute RawName
-
-abbrev pub bare_entry : Entry → Entry
-bare_entry e = (e.0, bare_of_attribute e.1)
 
 abbrev pub Outer : Type 0
 Outer = Type-F RawName («Type» RawName) (TypeVariant RawName) (RecordType RawName) (TypeOfAttribute RawName)
@@ -87,26 +84,16 @@ inner_bare v =
     (TypeOfAttribute RawName) bare_step bare_variant (roll-RecordType RawName) (roll-TypeOfAttribute RawName) v)
     ∙ inner_made (out-TypeVariant RawName v)
 
--- the record of these attributes, open or not
-abbrev record_from : List Entry → Bool → RecordType RawName
-record_from es open' = roll-RecordType RawName (record { attributes = es; additional_attributes = open' })
-
-record_made : (r : RecordType RawName)
-    → bare_of_record r ≡ record_from (map bare_entry (attributes_of r)) (is_open r)
-record_made r =
-    fold_out-RecordType RawName («Type» RawName) (TypeVariant RawName) (RecordType RawName) (TypeOfAttribute RawName)
-    bare_step bare_variant (roll-RecordType RawName) (roll-TypeOfAttribute RawName) r
-
 pub attributes_bare : (r : RecordType RawName) → attributes_of (bare_of_record r) ≡ map bare_entry (attributes_of r)
 attributes_bare r =
-    ap attributes_of (record_made r)
+    ap attributes_of (made.attributes_bare r)
     ∙ ap (λ x. x.attributes)
     (out-roll-RecordType RawName
     (record { attributes = map bare_entry (attributes_of r); additional_attributes = is_open r }))
 
 pub openness_bare : (r : RecordType RawName) → is_open (bare_of_record r) ≡ is_open r
 openness_bare r =
-    ap is_open (record_made r)
+    ap is_open (made.attributes_bare r)
     ∙ ap (λ x. x.additional_attributes)
     (out-roll-RecordType RawName
     (record { attributes = map bare_entry (attributes_of r); additional_attributes = is_open r }))
@@ -126,9 +113,7 @@ attribute_made : (a : TypeOfAttribute RawName)
       required = is_required a;
     }
 attribute_made a =
-    ap (out-TypeOfAttribute RawName)
-    (fold_out-TypeOfAttribute RawName («Type» RawName) (TypeVariant RawName) (RecordType RawName)
-    (TypeOfAttribute RawName) bare_step bare_variant (roll-RecordType RawName) (roll-TypeOfAttribute RawName) a)
+    ap (out-TypeOfAttribute RawName) (made.attribute_bare a)
     ∙ out-roll-TypeOfAttribute RawName
     (record {
       ty = bare (type_in a);

@@ -1,10 +1,11 @@
 -- What fragments mean that declare the same.
-use Rattle.std.proofs.Common.{◌≡◌, ℕ, suc, List, [], ◌∷◌, map, Contains, Option, Some, None, refl, sym, ap, ◌∙◌, subst}
+use Rattle.std.proofs.Common.{◌≡◌, ℕ, List, [], ◌∷◌, map, Contains, Option, Some, None, refl, sym, ap, ◌∙◌, subst}
 use Rattle.std.proofs.Common.{inl, inr, arith}
 use Rattle.std.specs.List.{AllZip}
 use Rattle.std.specs.List.Sorted.{IsStrictlySortedBy}
 use Rattle.std.specs.Option.{option_map, option_map_or, option_to_list}
 use Rattle.std.specs.declared.cmp.Ordering.{Ordering}
+use Rattle.cedar_data.proofs.Lists.{contains_later}
 use Rattle.cedar_identifiers.specs.Names.{components_of}
 use Rattle.cedar_identifiers.specs.declared.internal_name.InternalName.{InternalName}
 use Rattle.cedar_identifiers.specs.declared.name.Name.{Name}
@@ -17,13 +18,13 @@ use Rattle.schema_json.specs.declared.action_type.ApplySpec.{ApplySpec}
 use Rattle.schema_json.specs.declared.entity_type.EntityTypeKind.{EntityTypeKind}
 use Rattle.schema_json.specs.declared.entity_type.EntityTypeKind.TheVariants.{Standard, Enum}
 use Rattle.schema_json.specs.declared.types.Type.{«Type»}
-use Rattle.schema_convert_types.specs.Declarations.{as_written}
-use Rattle.schema_resolve_definitions.specs.Declarations.{name_of}
-use Rattle.schema_resolve_definitions.specs.Tests.{Tests}
+use Rattle.schema_json.specs.AsWritten.{as_written}
 use Rattle.schema_says.specs.Bare.{bare_name, bare}
 use Rattle.schema_says.specs.BareFragments.{bare_kind, bare_spec, bare_ref}
+use Rattle.schema_resolve_definitions.specs.Declarations.{name_of}
+use Rattle.schema_resolve_definitions.specs.Tests.{Tests}
 use Rattle.schema_build_expand.specs.Scope.{Scope}
-use Rattle.schema_build_graph.specs.Paths.{Leads, Reaches}
+use Rattle.schema_build_expand.proofs.Linked.{reaches_as}
 use Rattle.schema_build_hierarchy.specs.Declarations.{DeclaredEntity, action_key, declared_entities, declared_actions}
 use Rattle.schema_build_hierarchy.specs.Entries.{SameMembers}
 use Rattle.schema_build_hierarchy.specs.Parents.{target_in, action_target_in, written_parents, parents_in}
@@ -46,14 +47,6 @@ Path = List (List ℕ)
 
 abbrev pub Key : Type 0
 Key = Path × List ℕ
-
-pub reaches_too : {A : Type 0} (E F : A → A → Type 0) → ((x y : A) → E x y → F x y) → (a b : A) → Reaches E a b
-    → Reaches F a b
-reaches_too {A} E F step a b (first, rest, chain) = (first, rest, leads (first ∷ rest) a chain)
-  where
-    leads : (steps : List A) (a : A) → Leads E a steps b → Leads F a steps b
-    leads [] a h = h
-    leads (s ∷ steps) a h = (step a s h.0, leads steps s h.1)
 
 -- parents
 written_seen : (k : EntityTypeKind RawName) → written_parents (bare_kind k) ≡ map bare_name (written_parents k)
@@ -175,12 +168,9 @@ module _ {A B : Type 0} (seen : A → B) (all others : List A) (same : map seen 
   rebuilt [] h = ([], refl, λ y c. absurd (omega (arith, c.1)))
   rebuilt (x ∷ xs) h =
       let (y, cy, e) = matched seen all others same x (h x (0, omega arith, refl)) in
-      let (ys, es, are) = rebuilt xs (λ z c. h z (later x xs z c)) in
+      let (ys, es, are) = rebuilt xs (λ z c. h z (contains_later x xs z c)) in
       (y ∷ ys, (λ i. e i ∷ es i), within y ys cy are)
     where
-      later : (x : A) (xs : List A) (z : A) → Contains xs z → Contains (x ∷ xs) z
-      later x xs z c = (suc c.0, omega (arith, c.1), c.2)
-
       within : (y : A) (ys : List A) → Contains others y → ((z : A) → Contains ys z → Contains others z)
           → (z : A) → Contains (y ∷ ys) z → Contains others z
       within y ys cy are z c = elim (contains_cases y ys z c) [
@@ -236,7 +226,7 @@ module _ (f g : Frag) (table : ExtensionTable) (same : DeclareTheSame f g) where
 
   pub ancestor_too : (a b : Path) → IsAncestor (tests_alone f table) (declared_entities f) a b
       → IsAncestor (tests_alone g table) (declared_entities g) a b
-  ancestor_too = reaches_too (IsParent (tests_alone f table) (declared_entities f))
+  ancestor_too = reaches_as (IsParent (tests_alone f table) (declared_entities f))
       (IsParent (tests_alone g table) (declared_entities g)) parent_too
 
   pub action_parent_too : (a b : Key) → IsActionParent (tests_alone f table) (declared_actions f) a b
@@ -250,5 +240,5 @@ module _ (f g : Frag) (table : ExtensionTable) (same : DeclareTheSame f g) where
 
   pub action_ancestor_too : (a b : Key) → IsActionAncestor (tests_alone f table) (declared_actions f) a b
       → IsActionAncestor (tests_alone g table) (declared_actions g) a b
-  action_ancestor_too = reaches_too (IsActionParent (tests_alone f table) (declared_actions f))
+  action_ancestor_too = reaches_as (IsActionParent (tests_alone f table) (declared_actions f))
       (IsActionParent (tests_alone g table) (declared_actions g)) action_parent_too

@@ -1,21 +1,18 @@
 -- What a fragment means, each fragment means that declares the same in order.
 use Rattle.std.proofs.Common.{◌≡◌, List, Contains, refl, sym, ap, ◌∙◌, subst}
-use Rattle.std.specs.Cmp.{IsTotalOrder, on_total}
-use Rattle.std.specs.Cmp.Lexicographic.{options_total}
-use Rattle.std.specs.Option.{option_cmp}
-use Rattle.cedar_identifiers.specs.declared.name.Name.{Name}
 use Rattle.cedar_names.specs.Meaning.{EntityMeaning, ActionMeaning, SchemaMeaning}
-use Rattle.cedar_names.specs.Orders.{names_in_order, names_total}
+use Rattle.cedar_names.specs.Orders.{names_in_order, places_total}
 use Rattle.cedar_names.specs.declared.extension_table.ExtensionTable.{ExtensionTable}
 use Rattle.schema_resolve_definitions.specs.Declarations.{name_of}
 use Rattle.schema_resolve_definitions.specs.Tests.{Tests}
 use Rattle.schema_build_types.specs.Content.{actions_cmp}
 use Rattle.schema_build_checks.specs.DeclaredAt.{actions_at_in_order}
+use Rattle.schema_build_checks.proofs.Names.{names_tied}
 use Rattle.schema_build_scope.specs.FragmentScope.{fragment_scope}
 use Rattle.schema_build_hierarchy.specs.Declarations.{DeclaredEntity, entity_name, action_key, declared_entities}
 use Rattle.schema_build_hierarchy.specs.Declarations.{declared_actions}
 use Rattle.schema_build_hierarchy.specs.Parents.{IsAncestor, IsActionAncestor}
-use Rattle.schema_build_hierarchy.proofs.Exact.{names_tied, actions_tied}
+use Rattle.schema_build_hierarchy.proofs.Exact.{actions_tied}
 use Rattle.schema_build_hierarchy.proofs.Gathered as gathered
 use Rattle.schema_build_items.specs.ActionKinds.{components_cmp, tests_alone}
 use Rattle.schema_build.specs.FaultsTold.{IsInOrder}
@@ -27,9 +24,6 @@ use Rattle.schema_build_orders.proofs.Declaring.{actions_same, tests_same}
 use Rattle.schema_build_orders.proofs.Meaning.{spaces_same, kind_too, apply_too, just_too, rebuilt, members_too}
 use Rattle.schema_build_orders.proofs.Meaning.{seen_rise, zip_too, ancestor_too, action_ancestor_too}
 use Rattle.schema_build_orders.proofs.Scoping.{declared_once, scopes_alike}
-
-places_total : IsTotalOrder (option_cmp (λ (x y : Name). names_in_order x.name y.name))
-places_total = options_total (on_total (λ (n : Name). n.name) names_total)
 
 module _ (f g : Frag) (table : ExtensionTable) (same : DeclareTheSame f g) (order : IsInOrder g) where
   abbrev t : Tests

@@ -1,5 +1,5 @@
 -- A fragment that says what is written is in order.
-use Rattle.std.proofs.Common.{◌≡◌, ℕ, cond, List, [], ◌∷◌, map, All, Contains, Option, Some, None, Ordering, refl, sym}
+use Rattle.std.proofs.Common.{◌≡◌, ℕ, cond, List, [], ◌∷◌, map, Contains, Option, Some, None, Ordering, refl, sym}
 use Rattle.std.proofs.Common.{ap, ◌∙◌, subst, inl, inr, arith}
 use Rattle.std.specs.BTreeMap.{is_at}
 use Rattle.std.specs.Cmp.{IsTotalOrder, tied_itself}
@@ -8,25 +8,26 @@ use Rattle.std.specs.Map.{keys_of, lookup}
 use Rattle.std.specs.Option.{option_cmp}
 use Rattle.std.specs.Ordering.{is_eq, ordering_reverse}
 use Rattle.std.specs.declared.cmp.Ordering.TheVariants.{Less}
-use Rattle.std.proofs.lemmas.List.Elements.{All-contains, All-from_recursion, All-weaker, All-contains_itself}
+use Rattle.std.proofs.lemmas.List.Elements.{All-contains, All-from_recursion}
 use Rattle.std.proofs.lemmas.Map.Keys.{sorted_head, sorted_tail}
 use Rattle.cedar_data.specs.Text.{text_cmp}
+use Rattle.cedar_data.proofs.Lists.{contains_map, map-map, all_of}
 use Rattle.cedar_identifiers.specs.declared.name.Name.{Name}
 use Rattle.cedar_identifiers.specs.declared.raw_name.RawName.{RawName}
 use Rattle.cedar_identifiers.specs.declared.unreserved_id.UnreservedId.{UnreservedId}
-use Rattle.cedar_names.specs.Orders.{ids_of, names_in_order}
+use Rattle.cedar_names.specs.Orders.{names_in_order}
 use Rattle.schema_json.specs.declared.common_type.CommonTypeId.{CommonTypeId}
 use Rattle.schema_json.specs.declared.fragment.Fragment.{Fragment}
 use Rattle.schema_json.specs.declared.fragment.NamespaceDefinition.{NamespaceDefinition}
-use Rattle.schema_convert_types.specs.Declarations.{as_written}
+use Rattle.schema_json.specs.AsWritten.{as_written}
 use Rattle.schema_readback.specs.Written.{WrittenItem}
 use Rattle.schema_says.specs.Entries.{FoundSays}
 use Rattle.schema_says.specs.FragmentsSay.{WrittenNamespace, NamespaceSays, namespace_order, name_components}
 use Rattle.schema_says.specs.FragmentsSay.{written_in, FragmentSays}
 use Rattle.schema_says.proofs.Orders.{namespace_total}
-use Rattle.schema_build_hierarchy.proofs.Exact.{by_texts}
+use Rattle.schema_build_checks.proofs.Names.{names_by_components}
 use Rattle.schema_build_hierarchy.proofs.Once.{contains_cases}
-use Rattle.schema_build_hierarchy.proofs.Ordered.{contains_map, map_twice, sorted_back}
+use Rattle.schema_build_hierarchy.proofs.Ordered.{sorted_back}
 use Rattle.schema_build.specs.FaultsTold.{IsInOrder}
 
 -- an entry of a map is beside its name
@@ -61,23 +62,20 @@ found_some : {V W : Type 0} (Says : V → W → Type 0) (v : V) (o : Option W) �
 found_some Says v None h = absurd h
 found_some Says v (Some w) h = (w, h)
 
-all_of : {A : Type 0} (P : A → Type 0) (xs : List A) → ((x : A) → Contains xs x → P x) → All P xs
-all_of P xs each = All-weaker (Contains xs) P (λ x c. each x c) xs (All-contains_itself xs)
-
 -- keys that rise by their names
 keys_rise : {K N V : Type 0} (order : N → N → Ordering) (name : K → N) (es : List (K × V))
     → IsStrictlySortedBy order (map (λ e. name e.0) es)
     → IsStrictlySortedBy (λ a b. order (name a) (name b)) (keys_of es)
 keys_rise {K} {N} {V} order name es up =
     sorted_back name order (keys_of es)
-    (subst (IsStrictlySortedBy order) (sym (map_twice name (λ (e : K × V). e.0) es)) up)
+    (subst (IsStrictlySortedBy order) (sym (map-map name (λ (e : K × V). e.0) es)) up)
 
 names_order : (a b : Option Name) → namespace_order (name_components a) (name_components b)
     ≡ option_cmp (λ (x y : Name). names_in_order x.name y.name) a b
 names_order None None = refl
 names_order None (Some b) = refl
 names_order (Some a) None = refl
-names_order (Some a) (Some b) = sym (by_texts (ids_of a.name) (ids_of b.name))
+names_order (Some a) (Some b) = sym (names_by_components a.name b.name)
 
 module _ (f : Fragment RawName as_written) (w : List WrittenItem) (says : FragmentSays f w) where
   abbrev Entry : Type 0

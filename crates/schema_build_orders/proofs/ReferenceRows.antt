@@ -5,6 +5,7 @@ use Rattle.std.specs.Option.{option_map, option_to_list}
 use Rattle.std.specs.List.{AllByRecursion}
 use Rattle.std.specs.Ordering.{is_eq}
 use Rattle.std.proofs.lemmas.List.Elements.{All-from_recursion, recursion_from_All}
+use Rattle.cedar_data.proofs.Lists.{map-map}
 use Rattle.cedar_identifiers.specs.Names.{components_of, has_cedar}
 use Rattle.cedar_identifiers.specs.declared.conditional_name.ConditionalName.{ConditionalName}
 use Rattle.cedar_identifiers.specs.declared.internal_name.InternalName.{InternalName}
@@ -18,6 +19,7 @@ use Rattle.cedar_names.specs.declared.extension_table.ExtensionTable.{ExtensionT
 use Rattle.schema_json.specs.Actions.{written_type}
 use Rattle.schema_json.specs.Presence.{is_where_due}
 use Rattle.schema_json.specs.declared.action_type.ActionEntityUID.{ActionEntityUID}
+use Rattle.schema_says.specs.Bare.{bare_internal, bare_name}
 use Rattle.schema_json_walk.specs.Parts.{Part, type_reference, context_reference, parent, principal, resource}
 use Rattle.schema_json_walk.specs.Parts.{action_parent, extension_type, open_record, action_attributes}
 use Rattle.schema_json_walk.specs.Parts.{external_not_bare}
@@ -33,16 +35,15 @@ use Rattle.schema_resolve.specs.Targets.{target, action_target, unless}
 use Rattle.schema_resolve.specs.Undefined.{Undefined, types_among, actions_among}
 use Rattle.schema_resolve.specs.Undefined as undefined
 use Rattle.schema_build_errors.specs.declared.schema_error.SchemaError.TheVariants as error
-use Rattle.schema_says.specs.Bare.{bare_internal, bare_name}
 use Rattle.schema_build_scope.specs.UndefinedRows.{undefined_alone, HasUndefinedTypes, HasUndefinedActions}
 use Rattle.schema_build_hierarchy.specs.FirstUses.{IsFirstUse, AreFirstUses}
 use Rattle.schema_build_hierarchy.specs.Rows.{undeclared_target, undeclared_part, undeclared_uses}
 use Rattle.schema_build_hierarchy.specs.Rows.{HasUndeclaredEntityTypes}
-use Rattle.schema_build_hierarchy.proofs.Ordered.{map_twice}
 use Rattle.schema_build_orders.specs.Alike.{bare_space, bare_place, declared_alone, DeclareTheSame}
 use Rattle.schema_build_orders.proofs.Declaring.{Frag, own_alone, tests_same}
 use Rattle.schema_build_orders.proofs.Meaning.{seen_rise}
-use Rattle.schema_build_orders.proofs.Naming.{place_named, candidates_seen, written_type_seen, target_seen, action_seen}
+use Rattle.schema_build_orders.proofs.Naming.{place_named, candidates_seen, written_type_seen, target_seen}
+use Rattle.schema_build_orders.proofs.Naming.{action_seen}
 use Rattle.schema_build_orders.proofs.Rows.{Follows, filter_too}
 use Rattle.schema_build_orders.proofs.Seen.{matched, none_seen}
 use Rattle.schema_build_orders.proofs.Walked.{bare_part, fragment_seen}
@@ -296,8 +297,8 @@ module _ (f g : Frag) (table : ExtensionTable) (same : DeclareTheSame f g) where
       let (others, all, seen) = named_too xs ys uses_same types first in
       let alike : map bare_internal (map (λ (n : Name). n.name) types)
       ≡ map bare_internal (map (λ (n : Name). n.name) others) =
-      map_twice bare_internal (λ (n : Name). n.name) types
-      ∙ (seen ∙ sym (map_twice bare_internal (λ (n : Name). n.name) others)) in (
+      map-map bare_internal (λ (n : Name). n.name) types
+      ∙ (seen ∙ sym (map-map bare_internal (λ (n : Name). n.name) others)) in (
         others,
         record {
           rising = seen_rise bare_internal names_in_order names_in_order (λ a b. refl)

@@ -4,10 +4,11 @@ use Rattle.std.proofs.Common.{None, is_some, refl, sym, ap, ◌∙◌, subst, ap
 use Rattle.std.specs.Cmp.{IsTotalOrder}
 use Rattle.std.specs.List.{AllByRecursion}
 use Rattle.std.specs.Option.{option_or}
-use Rattle.std.specs.Ordering.{is_eq, ordering_reverse}
+use Rattle.std.specs.Ordering.{is_eq}
 use Rattle.std.specs.declared.cmp.Ordering.{Ordering}
-use Rattle.std.specs.declared.cmp.Ordering.TheVariants.{Less, Equal, Greater}
 use Rattle.cedar_data.specs.Maps.{last_at}
+use Rattle.cedar_data.proofs.Orders.{is_eq_turned}
+use Rattle.cedar_data.proofs.Every.{at_middle}
 use Rattle.schema_convert.specs.Repeats.{same_among, NoneRepeats}
 use Rattle.schema_build_orders.specs.Reordered.{IsReordered, nothing, behind, swapped, in_turn}
 
@@ -117,14 +118,10 @@ module _ {K : Type 0} (cmp : K → K → Ordering) where
         (h (x ∷ before) after y (ap (λ l. x ∷ l) e))).1),
   )
 
-  at_middle : (P : K → Type 0) (before after : List K) (x : K) → AllByRecursion P (before ++ x ∷ after) → P x
-  at_middle P [] after x h = h.0
-  at_middle P (b ∷ before) after x h = at_middle P before after x h.1
-
   none_same : (before after : List K) (x : K) → AreDistinct (before ++ x ∷ after) → same_among cmp x before ≡ None
   none_same [] after x h = refl
   none_same (b ∷ before) after x h =
-      ap (λ c. cond c (Some b) (same_among cmp x before)) (at_middle (Differs b) before after x h.0)
+      ap (λ c. cond c (Some b) (same_among cmp x before)) (at_middle (Differs b) before x after h.0)
       ∙ none_same before after x h.1
 
   pub none_repeats : (xs : List K) → AreDistinct xs → NoneRepeats cmp xs
@@ -132,12 +129,7 @@ module _ {K : Type 0} (cmp : K → K → Ordering) where
 
   module _ (total : IsTotalOrder cmp) where
     turned : (x y : K) → Differs x y → Differs y x
-    turned x y h = ap is_eq (total.antisymm x y) ∙ (reversed (cmp y x) ∙ h)
-      where
-        reversed : (c : Ordering) → is_eq (ordering_reverse c) ≡ is_eq c
-        reversed Less = refl
-        reversed Equal = refl
-        reversed Greater = refl
+    turned x y h = is_eq_turned total x y ∙ h
 
     pub distinct_reordered : (xs ys : List K) → IsReordered xs ys → AreDistinct xs → AreDistinct ys
     distinct_reordered xs ys nothing h = tt

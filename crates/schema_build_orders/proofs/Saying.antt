@@ -9,16 +9,18 @@ use Rattle.std.specs.Map.{lookup}
 use Rattle.std.specs.Option.{option_map}
 use Rattle.std.specs.Ordering.{is_eq}
 use Rattle.std.proofs.lemmas.List.{map-append}
+use Rattle.std.proofs.lemmas.Option.{same_Some}
 use Rattle.cedar_data.specs.Text.{text_cmp}
+use Rattle.cedar_data.proofs.Orders.{text_total, text_exact, equal_from}
 use Rattle.cedar_identifiers.specs.declared.any_id.AnyId.{AnyId}
 use Rattle.cedar_identifiers.specs.declared.name.Name.{Name}
 use Rattle.cedar_identifiers.specs.declared.raw_name.RawName.{RawName}
 use Rattle.cedar_identifiers.specs.Words.{is_cedar}
-use Rattle.schema_convert.specs.Repeats.{NoneRepeats}
 use Rattle.schema_json.specs.declared.fragment.Fragment.{Fragment}
 use Rattle.schema_json.specs.declared.fragment.NamespaceDefinition.{NamespaceDefinition}
-use Rattle.schema_convert_types.specs.Declarations.{as_written}
+use Rattle.schema_json.specs.AsWritten.{as_written}
 use Rattle.schema_readback.specs.Written.{WrittenDecl, WrittenDeclared, WrittenItem, namespace, outside}
+use Rattle.schema_convert.specs.Repeats.{NoneRepeats}
 use Rattle.schema_says.specs.BareFragments.{bare_declared, bare_namespace, bare_fragment}
 use Rattle.schema_says.specs.Entries.{FoundSays, EntriesSay, last_written}
 use Rattle.schema_says.specs.FragmentsSay.{entities_of_decl, actions_of_decl, commons_of_decl, by_names}
@@ -26,14 +28,12 @@ use Rattle.schema_says.specs.FragmentsSay.{WrittenNamespace, NamespaceSays, Name
 use Rattle.schema_says.specs.FragmentsSay.{name_components, notes_of_item, decls_of_item, is_of_namespace}
 use Rattle.schema_says.specs.FragmentsSay.{items_of_namespace, opened, written_in, FragmentSays}
 use Rattle.schema_says.specs.Sayable.{AppliesWell, IsFreeCommonName, names_written, IsSayableNamespace, IsSayable}
-use Rattle.schema_says.proofs.Maps.{is_equal}
-use Rattle.schema_says.proofs.Orders.{text_total, text_exact}
 use Rattle.schema_build_orders.specs.Alike.{declarations_alone, declared_alone, DeclareTheSame}
 use Rattle.schema_build_orders.specs.Reordered.{IsReordered, HaveTheSame, AreRearranged}
 use Rattle.schema_build_orders.proofs.Rearranging.{rearranged_itself}
 use Rattle.schema_build_orders.proofs.Reordering.{flat_reordered, all_reordered, distinct, repeats_reordered}
 use Rattle.schema_build_orders.proofs.Reordering.{last_reordered}
-use Rattle.schema_build_orders.proofs.Seen.{map_same, some_is}
+use Rattle.schema_build_orders.proofs.Seen.{map_same}
 
 abbrev Frag : Type 0
 Frag = Fragment RawName as_written
@@ -138,8 +138,8 @@ module _ (names_of : WrittenDecl → List (List ℕ)) where
   one_name : (name x y : List ℕ) → is_at (text_cmp name) x ≡ true → is_at (text_cmp name) y ≡ true
       → is_eq (text_cmp y x) ≡ true
   one_name name x y a b =
-      let left : name ≡ x = text_exact name x (is_equal (text_cmp name x) a) in
-      let right : name ≡ y = text_exact name y (is_equal (text_cmp name y) b) in
+      let left : name ≡ x = text_exact name x (equal_from (text_cmp name x) a) in
+      let right : name ≡ y = text_exact name y (equal_from (text_cmp name y) b) in
       ap is_eq ((λ i. text_cmp (sym right i) (sym left i)) ∙ tied_itself text_total name)
 
   -- of names that are written once, the order of the declarations does not matter
@@ -251,7 +251,7 @@ found_sayable q None None r s n e = absurd (cc)
 found_sayable q None (Some m) r s n e = absurd r
 found_sayable q (Some m) None r s n e = absurd r
 found_sayable q (Some m) (Some k) r s n e =
-    subst (λ (z : WrittenNamespace). IsSayableNamespace q z.decls) (some_is k n e)
+    subst (λ (z : WrittenNamespace). IsSayableNamespace q z.decls) (same_Some k n e)
     (space_sayable q m.decls k.decls r (s m refl))
 
 pub sayable_too : (w v : List WrittenItem) → AreRearranged w v → IsSayable w → IsSayable v

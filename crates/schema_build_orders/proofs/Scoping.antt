@@ -1,5 +1,5 @@
 -- In fragments that declare the same, names mean the same and the same common types are declared.
-use Rattle.std.proofs.Common.{◌≡◌, ℕ, List, [], ◌∷◌, map, Contains, Option, Some, None, refl, sym, ap, ◌∙◌, subst}
+use Rattle.std.proofs.Common.{◌≡◌, ℕ, List, [], ◌∷◌, map, Contains, Option, Some, refl, sym, ap, ◌∙◌, subst}
 use Rattle.std.specs.Prelude.{slice_get}
 use Rattle.std.specs.BTreeMap.{insert_entry}
 use Rattle.std.specs.Cmp.{IsTotalOrder, on_total, tied_itself}
@@ -13,40 +13,36 @@ use Rattle.std.specs.declared.cmp.Ordering.TheVariants.{Less, Equal, Greater}
 use Rattle.std.proofs.lemmas.Option.{slice_get-map, slice_get_within, get_or_from_slice_get}
 use Rattle.cedar_data.specs.Maps.{with_entries, map_of}
 use Rattle.cedar_data.specs.Text.{text_cmp}
+use Rattle.cedar_data.proofs.Lists.{map-map}
+use Rattle.cedar_data.proofs.Options.{seen_of}
+use Rattle.cedar_data.proofs.Orders.{text_total, texts_exact}
 use Rattle.cedar_identifiers.specs.Names.{components_of}
 use Rattle.cedar_identifiers.specs.declared.internal_name.InternalName.{InternalName}
 use Rattle.cedar_identifiers.specs.declared.raw_name.RawName.{RawName}
 use Rattle.cedar_identifiers.specs.declared.reference_type.ReferenceType.{ReferenceType}
-use Rattle.cedar_names.specs.Orders.{ids_of, names_in_order}
+use Rattle.cedar_names.specs.Orders.{names_in_order}
 use Rattle.cedar_names.specs.declared.extension_table.ExtensionTable.{ExtensionTable}
-use Rattle.schema_resolve_definitions.specs.Defined.{defined}
-use Rattle.schema_resolve_definitions.specs.Tests.{tests_of}
 use Rattle.schema_says.specs.Bare.{bare_internal, bare_name}
 use Rattle.schema_says.proofs.Maps.{map_rises}
-use Rattle.schema_says.proofs.Orders.{text_total, components_exact}
-use Rattle.schema_build_expand.specs.Scope.{Declared, Declares, AreDeclaredOnce}
+use Rattle.schema_resolve_definitions.specs.Defined.{defined}
+use Rattle.schema_resolve_definitions.specs.Tests.{tests_of}
+use Rattle.schema_build_expand.specs.Scope.{DeclaredType, Declares, AreDeclaredOnce}
+use Rattle.schema_build_checks.proofs.Names.{names_by_components}
 use Rattle.schema_build_scope.specs.Commons.{TypeAt, declared_commons, commons_in_order}
 use Rattle.schema_build_scope.specs.FragmentScope.{meant_in, declaration, fragment_scope}
-use Rattle.schema_build_hierarchy.proofs.Exact.{by_texts}
 use Rattle.schema_build_hierarchy.proofs.Gathered.{keyed_once}
-use Rattle.schema_build_hierarchy.proofs.Ordered.{sorted_back, map_twice}
+use Rattle.schema_build_hierarchy.proofs.Ordered.{sorted_back}
 use Rattle.schema_build_orders.specs.Alike.{bare_place, DeclareTheSame}
 use Rattle.schema_build_orders.proofs.Declaring.{Frag, common_alone, type_alone, commons_same, tests_same}
 use Rattle.schema_build_orders.proofs.Expanding.{bare_common_type, AreScopesAlike}
 use Rattle.schema_build_orders.proofs.Naming.{meant_seen}
-use Rattle.schema_build_orders.proofs.Seen.{map_seen, some_is}
-
--- what is found is seen
-pub found_seen : {A B : Type 0} (f : A → B) (o : Option A) (b : B) → option_map f o ≡ Some b
-    → (a : A) × (o ≡ Some a) × (f a ≡ b)
-found_seen f None b e = cc
-found_seen f (Some a) b e = (a, refl, some_is (f a) b e)
+use Rattle.schema_build_orders.proofs.Seen.{map_seen}
 
 -- lists that are seen the same have items that are seen the same at each place
 pub at_matched : {A B : Type 0} (f : A → B) (xs ys : List A) → map f xs ≡ map f ys → (k : ℕ) (x : A)
     → slice_get xs k ≡ Some x → (y : A) × (slice_get ys k ≡ Some y) × (f y ≡ f x)
 at_matched f xs ys e k x at =
-    found_seen f (slice_get ys k) (f x)
+    seen_of f (slice_get ys k) (f x)
     (sym (slice_get-map f ys k)
     ∙ (ap (λ l. slice_get l k) (sym e) ∙ (slice_get-map f xs k ∙ ap (option_map f) at)))
 
@@ -92,23 +88,24 @@ module _ (g : Frag) (table : ExtensionTable) where
   by_both R e = subst (λ S. IsStrictlySortedBy by_components (keys_of (map_of S (declared_commons g)))) e
       (sorted_back components_of (slice_cmp text_cmp) (keys_of (map_of by_components (declared_commons g)))
       (subst (IsStrictlySortedBy (slice_cmp text_cmp))
-      (sym (map_twice components_of (λ (e : Found). e.0) (map_of by_components (declared_commons g))))
-      (map_rises TypeAt (slice_cmp text_cmp) (lists_total text_total) components_exact components_of
+      (sym (map-map components_of (λ (e : Found). e.0) (map_of by_components (declared_commons g))))
+      (map_rises TypeAt (slice_cmp text_cmp) (lists_total text_total) texts_exact components_of
       (declared_commons g))))
 
   commons_rise : IsStrictlySortedBy by_components (keys_of (commons_in_order g))
-  commons_rise = by_both names_in_order (λ i a b. sym (by_texts (ids_of a) (ids_of b)) i)
+  commons_rise = by_both names_in_order (λ i a b. sym (names_by_components a b) i)
 
   -- no two declared common types have one name
   pub declared_once : AreDeclaredOnce (fragment_scope g table)
   declared_once name a b (j, at_j, is_a) (k, at_k, is_b) =
       let es = commons_in_order g in
-      let (x, ax, sx) = found_seen declaration (slice_get es j) a (sym (slice_get-map declaration es j) ∙ at_j) in
-      let (y, ay, sy) = found_seen declaration (slice_get es k) b (sym (slice_get-map declaration es k) ∙ at_k) in
+      let (x, ax, sx) = seen_of declaration (slice_get es j) a (sym (slice_get-map declaration es j) ∙ at_j) in
+      let (y, ay, sy) = seen_of declaration (slice_get es k) b (sym (slice_get-map declaration es k) ∙ at_k) in
       let cx : Contains es x = (j, slice_get_within es j x ax, get_or_from_slice_get es j x x ax) in
       let cy : Contains es y = (k, slice_get_within es k y ay, get_or_from_slice_get es k y y ay) in
       let named : components_of x.0 ≡ components_of y.0 =
-      ap (λ (d : Declared RawName). d.name) sx ∙ (is_a ∙ (sym is_b ∙ ap (λ (d : Declared RawName). d.name) (sym sy))) in
+      ap (λ (d : DeclaredType RawName). d.name) sx
+      ∙ (is_a ∙ (sym is_b ∙ ap (λ (d : DeclaredType RawName). d.name) (sym sy))) in
       let tied : by_components x.0 y.0 ≡ Equal =
       ap (slice_cmp text_cmp (components_of x.0)) (sym named)
       ∙ tied_itself (lists_total text_total) (components_of x.0) in
@@ -138,13 +135,14 @@ module _ (f g : Frag) (table : ExtensionTable) (same : DeclareTheSame f g) where
       ∙ meant_seen (tests_of (defined g table)) ms kind m)
 
 module _ (f g : Frag) (table : ExtensionTable) (same : DeclareTheSame f g) where
-  there : (x y : Frag) → DeclareTheSame x y → (name : List (List ℕ)) (d : Declared RawName)
+  there : (x y : Frag) → DeclareTheSame x y → (name : List (List ℕ)) (d : DeclaredType RawName)
       → Declares (fragment_scope x table) name d
-      → (e : Declared RawName) × Declares (fragment_scope y table) name e × (bare_common_type d ≡ bare_common_type e)
+      → (e : DeclaredType RawName) × Declares (fragment_scope y table) name e
+      × (bare_common_type d ≡ bare_common_type e)
   there x y alike name d (k, at, is) =
       let (e, here, seen) = at_matched bare_common_type (fragment_scope x table).commons
       (fragment_scope y table).commons (commons_match x y table alike) k d at in
-      (e, (k, here, ap (λ (z : Declared RawName). z.name) seen ∙ is), sym seen)
+      (e, (k, here, ap (λ (z : DeclaredType RawName). z.name) seen ∙ is), sym seen)
 
   pub scopes_alike : AreScopesAlike (fragment_scope f table) (fragment_scope g table)
   scopes_alike = record {

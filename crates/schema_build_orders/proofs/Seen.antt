@@ -1,8 +1,8 @@
 -- Lists that are the same as they are seen.
-use Rattle.std.proofs.Common.{◌≡◌, List, [], ◌∷◌, ◌++◌, map, Contains, Some, refl, sym, ap, ◌∙◌, subst}
+use Rattle.std.proofs.Common.{◌≡◌, List, [], ◌∷◌, ◌++◌, map, Contains, refl, sym, ap, ◌∙◌, subst}
 use Rattle.std.specs.List.{flat_map}
 use Rattle.std.proofs.lemmas.List.{map-append}
-use Rattle.schema_build_hierarchy.proofs.Ordered.{contains_map, contains_unmap}
+use Rattle.cedar_data.proofs.Lists.{contains_map, contains_unmap}
 
 -- each of the one has one of the other that is seen the same
 pub matched : {A B : Type 0} (seen : A → B) (xs ys : List A) → map seen xs ≡ map seen ys → (x : A) → Contains xs x
@@ -42,6 +42,3 @@ flat_mapped k p (x ∷ xs) = ap (λ l. map k (p x) ++ l) (flat_mapped k p xs) �
 pub none_seen : {A B : Type 0} (seen : A → B) (xs : List A) → map seen xs ≡ [] → xs ≡ []
 none_seen seen [] e = refl
 none_seen seen (x ∷ xs) e = cc
-
-pub some_is : {A : Type 0} (a b : A) → Some a ≡ Some b → a ≡ b
-some_is a b e = cc

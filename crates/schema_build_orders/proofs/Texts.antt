@@ -1,67 +1,47 @@
 -- Texts that spell what is rearranged are translated to fragments that declare the same.
-use Rattle.std.proofs.Common.{◌≡◌, ℕ, List, [], ◌∷◌, ◌++◌, length, refl, sym, ap, ◌∙◌, subst, append_assoc}
+use Rattle.std.proofs.Common.{◌≡◌, ℕ, List, [], length, refl, sym, ap, ◌∙◌, subst}
 use Rattle.std.specs.List.{All, AllByRecursion, AllZip}
-use Rattle.std.proofs.lemmas.List.Elements.{All-nil, All-cons, All-head, All-tail}
-use Rattle.cedar_identifiers.specs.declared.raw_name.RawName.{RawName}
-use Rattle.cedar_names.specs.declared.extension_table.ExtensionTable.{ExtensionTable}
 use Rattle.schema_syntax_grammar.specs.Grammar.{Sentence}
 use Rattle.schema_syntax_tokens.specs.Laid.{Lexeme, Spells}
 use Rattle.schema_syntax_tokens.specs.Scans.{Scans}
 use Rattle.schema_syntax_tokens.specs.TokenLists.{kinds_of}
 use Rattle.schema_syntax_tokens.specs.declared.token.Token.{Token}
+use Rattle.cedar_identifiers.specs.declared.raw_name.RawName.{RawName}
+use Rattle.cedar_names.specs.declared.extension_table.ExtensionTable.{ExtensionTable}
 use Rattle.schema_syntax_parser.specs.Syntax.{IsSyntax}
 use Rattle.schema_syntax_parser.specs.declared.syntax.ItemSyntax.{ItemSyntax}
 use Rattle.schema_syntax_tree.specs.declared.annotated.Annotated.{Annotated}
 use Rattle.schema_syntax_tree.specs.declared.namespace.Namespace.{Namespace}
-use Rattle.schema_syntax_reader.specs.Sites.{Site, sites_of}
+use Rattle.schema_syntax_reader.specs.Sites.{sites_of}
 use Rattle.schema_syntax_reader.specs.Trees.{IsTreeOf}
-use Rattle.schema_syntax_reader.specs.UserFaults.{IsLawful}
 use Rattle.schema_syntax.specs.ParseAnswers.{IsTreeOfText}
 use Rattle.schema_json.specs.declared.fragment.Fragment.{Fragment}
-use Rattle.schema_convert_types.specs.Declarations.{as_written}
-use Rattle.schema_convert_errors.specs.declared.warnings.SchemaWarning.{SchemaWarning}
-use Rattle.schema_convert.specs.Faults.{translation_faults}
-use Rattle.schema_convert.specs.Shadowings.{shadowings}
-use Rattle.schema_convert.specs.Translated.{translated, IsTranslationOfText}
+use Rattle.schema_json.specs.AsWritten.{as_written}
 use Rattle.schema_readback.specs.Reads.{IsFaultless, ReadsSchema}
 use Rattle.schema_readback.specs.ReadsBack.{ReadsBack}
 use Rattle.schema_readback.specs.Said.{SaidAll}
 use Rattle.schema_readback.specs.Shows.{SaysItem}
 use Rattle.schema_readback.specs.Spellings.{SpellsSchema}
 use Rattle.schema_readback.specs.Written.{WrittenItem}
+use Rattle.schema_readback.proofs.ReadingBack.{lawful_so, faultless_all}
+use Rattle.schema_convert_errors.specs.declared.warnings.SchemaWarning.{SchemaWarning}
+use Rattle.schema_convert.specs.Faults.{translation_faults}
+use Rattle.schema_convert.specs.Shadowings.{shadowings}
+use Rattle.schema_convert.specs.Translated.{translated, IsTranslationOfText}
 use Rattle.schema_says.specs.FragmentsSay.{FragmentSays}
 use Rattle.schema_says.specs.Named.{IsWellNamed}
 use Rattle.schema_says.specs.Sayable.{IsSayable}
 use Rattle.schema_build.specs.FaultsTold.{IsInOrder}
+use Rattle.schema_build_closed.proofs.Spelled.{schema_good}
 use Rattle.schema_build_orders.specs.Alike.{declared_alone, DeclareTheSame}
 use Rattle.schema_build_orders.specs.Reordered.{AreRearranged}
 use Rattle.schema_build_orders.specs.Texts.{IsWrittenAs, HaveTheSameTokens, IsTranslatedAlike}
-use Rattle.schema_build_closed.proofs.Spelled.{schema_good}
 
 abbrev Frag : Type 0
 Frag = Fragment RawName as_written
 
 abbrev Tree : Type 0
 Tree = List (Annotated Namespace)
-
--- no fault is at any site exactly where the syntax is lawful
-at_middle : (source : List ℕ) (front : List Site) (site : Site) (back : List Site)
-    → All (IsFaultless source) (front ++ site ∷ back) → IsFaultless source site
-at_middle source [] site back h = All-head (IsFaultless source) site back h
-at_middle source (s ∷ front) site back h =
-    at_middle source front site back (All-tail (IsFaultless source) s (front ++ site ∷ back) h)
-
-lawful_so : (source : List ℕ) (items : List ItemSyntax) → All (IsFaultless source) (sites_of items)
-    → IsLawful source items
-lawful_so source items h fault end f =
-    at_middle source f.0 f.1 f.2 (subst (All (IsFaultless source)) f.3 h) fault end f.4
-
-faultless_behind : (source : List ℕ) (items : List ItemSyntax) → IsLawful source items → (front rest : List Site)
-    → sites_of items ≡ front ++ rest → All (IsFaultless source) rest
-faultless_behind source items h front [] e = All-nil (IsFaultless source)
-faultless_behind source items h front (s ∷ rest) e =
-    All-cons (IsFaultless source) s rest (λ fault end f. h fault end (front, s, rest, e, f))
-    (faultless_behind source items h (front ++ s ∷ []) rest (e ∙ sym (append_assoc front (s ∷ []) rest)))
 
 module _ (sentences : (tokens : List Token) (items : List ItemSyntax) → IsSyntax tokens items
     → Sentence (kinds_of tokens))
@@ -137,7 +117,7 @@ module _ (spelled : (source : List ℕ) (ts : List Token) (items : List ItemSynt
       → (w : List WrittenItem) × SpellsSchema u w
   written text tree u is spells =
       let said = spelled text is.tokens is.tree.items tree u is.tree.syntax is.tree.tree
-      (faultless_behind text is.tree.items is.tree.lawful [] (sites_of is.tree.items) refl) spells in
+      (faultless_all text is.tree.items is.tree.lawful [] (sites_of is.tree.items) refl) spells in
       (said.written, said.spell)
 
   pub written_so : (text : List ℕ) (tree : Tree) (u : List Lexeme) (is : IsTreeOfText text tree)

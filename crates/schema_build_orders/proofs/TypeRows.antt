@@ -14,6 +14,8 @@ use Rattle.schema_json.specs.declared.action_type.ApplySpec.{ApplySpec}
 use Rattle.schema_json.specs.declared.entity_type.EntityTypeKind.{EntityTypeKind}
 use Rattle.schema_json.specs.declared.entity_type.EntityTypeKind.TheVariants.{Standard, Enum}
 use Rattle.schema_json.specs.declared.types.Type.{«Type»}
+use Rattle.schema_says.specs.Bare.{bare_internal, bare_name, bare}
+use Rattle.schema_says.specs.BareFragments.{bare_kind, bare_spec}
 use Rattle.schema_json_walk.specs.Parts.{Part, type_reference, context_reference, parent, principal, resource}
 use Rattle.schema_json_walk.specs.Parts.{action_parent, extension_type, open_record, action_attributes}
 use Rattle.schema_json_walk.specs.Parts.{external_not_bare}
@@ -23,10 +25,9 @@ use Rattle.schema_build_errors.specs.declared.schema_error.SchemaError.{SchemaEr
 use Rattle.schema_build_errors.specs.declared.schema_error.SchemaError.TheVariants as error
 use Rattle.schema_build_errors.specs.declared.shape_errors.ContextOrShape.{ContextOrShape}
 use Rattle.schema_build_errors.specs.declared.shape_errors.ContextOrShape.TheVariants.{ActionContext, EntityTypeShape}
-use Rattle.schema_says.specs.Bare.{bare_internal, bare_name, bare}
-use Rattle.schema_says.specs.BareFragments.{bare_kind, bare_spec}
+use Rattle.schema_build_expand.specs.Scope.{Scope, DeclaredType}
+use Rattle.schema_build_expand.proofs.Linked.{reaches_as}
 use Rattle.schema_build_checks.specs.DeclaredAt.{at_of, actions_at_in_order}
-use Rattle.schema_build_expand.specs.Scope.{Scope, Declared}
 use Rattle.schema_build_scope.specs.Commons.{TypeAt, declared_commons}
 use Rattle.schema_build_scope.specs.CycleRow.{ReachesItself, HasCommonCycle}
 use Rattle.schema_build_scope.specs.FragmentScope.{fragment_scope}
@@ -39,7 +40,7 @@ use Rattle.schema_build_orders.proofs.Declaring.{Frag, DeclaredAction, entity_al
 use Rattle.schema_build_orders.proofs.Declaring.{common_alone, entities_same, actions_same, commons_same}
 use Rattle.schema_build_orders.proofs.DeclarationRows.{uid_too}
 use Rattle.schema_build_orders.proofs.Expanding.{AreScopesAlike, expands_too}
-use Rattle.schema_build_orders.proofs.Meaning.{reaches_too, spaces_same}
+use Rattle.schema_build_orders.proofs.Meaning.{spaces_same}
 use Rattle.schema_build_orders.proofs.Rows.{Follows, least_too}
 use Rattle.schema_build_orders.proofs.Scoping.{scopes_alike}
 use Rattle.schema_build_orders.proofs.Seen.{matched, map_seen}
@@ -84,13 +85,13 @@ module _ (s r : Scope RawName) (alike : AreScopesAlike s r) where
         y,
         hx,
         hy,
-        means_common_too d.place x.place d.ty x.ty b (ap (λ (z : Declared RawName). z.place) sx)
-            (ap (λ (z : Declared RawName). z.ty) sx) m,
+        means_common_too d.place x.place d.ty x.ty b (ap (λ (z : DeclaredType RawName). z.place) sx)
+            (ap (λ (z : DeclaredType RawName). z.ty) sx) m,
       )
 
   itself_too : (name : InternalName) → ReachesItself s name → ReachesItself r name
   itself_too name h =
-      reaches_too (RefersToCommon s) (RefersToCommon r) refers_too (components_of name) (components_of name) h
+      reaches_as (RefersToCommon s) (RefersToCommon r) refers_too (components_of name) (components_of name) h
 
   no_record_too : (ns ms : Option InternalName) (t u : «Type» RawName) → bare_place ns ≡ bare_place ms
       → bare t ≡ bare u → IsNoRecord s ns t → IsNoRecord r ms u

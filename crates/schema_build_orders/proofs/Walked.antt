@@ -1,19 +1,17 @@
 -- What a walk gives of a fragment without places, it gives of the fragment where it sees no places.
-use Rattle.std.proofs.Common.{◌≡◌, ℕ, Bool, true, false, not, ◌&&◌, List, [], ◌∷◌, ◌++◌, map, Option, Some, None}
-use Rattle.std.proofs.Common.{is_none, refl, sym, ap, ◌∙◌, subst}
-use Rattle.std.specs.List.{flat_map}
+use Rattle.std.proofs.Common.{◌≡◌, not, ◌&&◌, List, [], ◌∷◌, ◌++◌, map, Option, Some, None}
+use Rattle.std.proofs.Common.{is_none, refl, sym, ap, ◌∙◌}
+use Rattle.std.specs.List.{flat_map, AllByRecursion}
 use Rattle.std.specs.Option.{option_map, option_map_or}
+use Rattle.std.proofs.lemmas.List.Concat.{flat_map_single}
 use Rattle.cedar_identifiers.specs.declared.name.Name.{Name}
 use Rattle.cedar_identifiers.specs.declared.raw_name.RawName.{RawName}
 use Rattle.schema_json.specs.Shapes.{attributes_of, is_open, is_empty_type, is_empty_record}
-use Rattle.schema_json.specs.declared.types.Type.{«Type», Type-F, out-Type, roll-Type, fold-roll-Type}
-use Rattle.schema_json.specs.declared.types.TypeVariant.{TypeVariant, TypeVariant-F, out-TypeVariant, roll-TypeVariant}
-use Rattle.schema_json.specs.declared.types.TypeVariant.{fold-roll-TypeVariant}
-use Rattle.schema_json.specs.declared.types.RecordType.{RecordType, RecordType-F, roll-RecordType, fold-roll-RecordType}
-use Rattle.schema_json.specs.declared.types.TypeOfAttribute.{TypeOfAttribute, TypeOfAttribute-F, roll-TypeOfAttribute}
-use Rattle.schema_json.specs.declared.types.TypeOfAttribute.{fold-roll-TypeOfAttribute}
-use Rattle.schema_json.specs.declared.types.Type.TheFolds.{ind-Type, ind-TypeVariant, map-Type, map-TypeVariant}
-use Rattle.schema_json.specs.declared.types.Type.TheFolds.{map-RecordType, map-TypeOfAttribute}
+use Rattle.schema_json.specs.Shapes.{has_none, is_empty_shape, is_empty_outside}
+use Rattle.schema_json.specs.declared.types.Type.{«Type», Type-F, out-Type}
+use Rattle.schema_json.specs.declared.types.TypeVariant.{TypeVariant, TypeVariant-F, out-TypeVariant}
+use Rattle.schema_json.specs.declared.types.RecordType.{RecordType}
+use Rattle.schema_json.specs.declared.types.TypeOfAttribute.{TypeOfAttribute}
 use Rattle.schema_json.specs.declared.entity_type.AttributesOrContext.{AttributesOrContext}
 use Rattle.schema_json.specs.declared.entity_type.EntityType.{EntityType}
 use Rattle.schema_json.specs.declared.entity_type.EntityTypeKind.{EntityTypeKind}
@@ -23,24 +21,28 @@ use Rattle.schema_json.specs.declared.action_type.ActionType.{ActionType}
 use Rattle.schema_json.specs.declared.action_type.ApplySpec.{ApplySpec}
 use Rattle.schema_json.specs.declared.fragment.Fragment.{Fragment}
 use Rattle.schema_json.specs.declared.fragment.NamespaceDefinition.{NamespaceDefinition}
+use Rattle.schema_json.specs.AsWritten.{as_written}
+use Rattle.schema_json.proofs.Layers.{Layers, each_type, each_variant}
+use Rattle.schema_says.specs.Bare.{bare_name, bare, bare_of_variant, bare_of_record}
+use Rattle.schema_says.specs.Bare.{bare_of_attribute}
+use Rattle.schema_says.specs.BareFragments.{bare_shape, bare_kind, bare_entity, bare_spec, bare_ref, bare_action}
+use Rattle.schema_says.proofs.BareTypes as made
+use Rattle.schema_says.proofs.BareTypes.{bare_entry}
 use Rattle.schema_json_walk.specs.Bare.{is_bare_kind}
 use Rattle.schema_json_walk.specs.Parts.{Part, type_reference, context_reference, parent, principal, resource}
 use Rattle.schema_json_walk.specs.Parts.{action_parent, extension_type, open_record, action_attributes}
 use Rattle.schema_json_walk.specs.Parts.{external_not_bare}
-use Rattle.schema_json_walk.specs.Walk.{visit_where, at_type, at_variant, at_record, at_attribute, at_context, of_type}
+use Rattle.schema_json_walk.specs.Walk.{visit_where, at_context, of_type}
 use Rattle.schema_json_walk.specs.Walk.{of_variant, of_record, of_attribute, of_context, of_kind, of_entity, of_apply}
 use Rattle.schema_json_walk.specs.Walk.{of_uid, of_uids, of_action, of_common, of_namespace, of_entry, of_fragment}
-use Rattle.schema_json_walk.specs.Walk.{itself, parts, fragment_parts}
+use Rattle.schema_json_walk.specs.Walk.{itself, parts, fragment_parts, of_entries}
+use Rattle.schema_json_walk.proofs.Layers as walk
 use Rattle.schema_json_walk.proofs.ByParts.{type_by_parts, fragment_by_parts}
-use Rattle.schema_convert_types.specs.Declarations.{as_written}
-use Rattle.schema_says.specs.Bare.{bare_name, bare_step, bare_variant, bare, bare_of_variant, bare_of_record}
-use Rattle.schema_says.specs.Bare.{bare_of_attribute}
-use Rattle.schema_says.specs.BareFragments.{bare_shape, bare_kind, bare_entity, bare_spec, bare_ref, bare_action}
 use Rattle.schema_build_orders.specs.Alike.{bare_space, declarations_alone, declared_alone}
 use Rattle.schema_build_orders.proofs.Entries.{CommonEntry, EntityEntry, ActionEntry, common_bare, entity_bare}
 use Rattle.schema_build_orders.proofs.Entries.{action_bare}
-use Rattle.schema_build_orders.proofs.Layers.{Entry, bare_entry, Outer, Inner, bare_outer, bare_inner, outer_bare}
-use Rattle.schema_build_orders.proofs.Layers.{inner_bare, attributes_bare, openness_bare}
+use Rattle.schema_build_orders.proofs.Layers.{Entry, Outer, Inner, bare_outer, bare_inner, outer_bare}
+use Rattle.schema_build_orders.proofs.Layers.{inner_bare, attributes_bare, openness_bare, type_in_bare}
 use Rattle.schema_build_orders.proofs.Seen.{flat_same, flat_mapped}
 
 abbrev pub bare_part : Part RawName → Part RawName
@@ -83,139 +85,43 @@ module _ {U : Type 0} (visit : Part RawName → List U) where
   abbrev P3 : Attributes → Type 0
   P3 a = of_attribute visit (bare_of_attribute a) ≡ of_attribute seen a
 
-  abbrev T' : Type 0
-  T' = (t : Types) × P t
+  entries_walked : (es : List Entry) → AllByRecursion (λ e. P3 e.1) es
+      → of_entries visit (map bare_entry es) ≡ of_entries seen es
+  entries_walked [] h = refl
+  entries_walked (e ∷ es) h = λ i. h.0 i ++ entries_walked es h.1 i
 
-  abbrev V' : Type 0
-  V' = (v : Variants) × P1 v
-
-  abbrev R' : Type 0
-  R' = (r : Records) × P2 r
-
-  abbrev A' : Type 0
-  A' = (a : Attributes) × P3 a
-
-  -- a type that is rolled, without places
-  type_rolled : (x : Outer) → bare (roll-Type RawName x)
-      ≡ bare_step (map-Type RawName Types Variants Records Attributes Types Variants Records Attributes bare
-      bare_of_variant bare_of_record bare_of_attribute x)
-  type_rolled x = fold-roll-Type RawName Types Variants Records Attributes bare_step bare_variant
-      (roll-RecordType RawName) (roll-TypeOfAttribute RawName) x
-
-  variant_rolled : (x : Inner) → bare_of_variant (roll-TypeVariant RawName x)
-      ≡ bare_variant (map-TypeVariant RawName Types Variants Records Attributes Types Variants Records Attributes bare
-      bare_of_variant bare_of_record bare_of_attribute x)
-  variant_rolled x = fold-roll-TypeVariant RawName Types Variants Records Attributes bare_step bare_variant
-      (roll-RecordType RawName) (roll-TypeOfAttribute RawName) x
-
-  walked : (v : Part RawName → List U) (x : Outer) → of_type v (roll-Type RawName x)
-      ≡ at_type v (map-Type RawName Types Variants Records Attributes (List U) (List U) (List U) (List U) (of_type v)
-      (of_variant v) (of_record v) (of_attribute v) x)
-  walked v x = fold-roll-Type RawName (List U) (List U) (List U) (List U) (at_type v) (at_variant v) (at_record v)
-      (at_attribute v) x
-
-  variant_walked : (v : Part RawName → List U) (x : Inner) → of_variant v (roll-TypeVariant RawName x)
-      ≡ at_variant v (map-TypeVariant RawName Types Variants Records Attributes (List U) (List U) (List U) (List U)
-      (of_type v) (of_variant v) (of_record v) (of_attribute v) x)
-  variant_walked v x = fold-roll-TypeVariant RawName (List U) (List U) (List U) (List U) (at_type v) (at_variant v)
-      (at_record v) (at_attribute v) x
-
-  step_type : (y : Type-F RawName T' V' R' A')
-      → P (roll-Type RawName (map-Type RawName T' V' R' A' Types Variants Records Attributes (λ e. e.0) (λ e. e.0)
-      (λ e. e.0) (λ e. e.0) y))
-  step_type (Type-F.Variant v loc) =
-      ap (of_type visit) (type_rolled (Type-F.Variant v.0 loc))
-      ∙ (walked visit (Type-F.Variant (bare_of_variant v.0) None) ∙ (v.1 ∙ sym (walked seen (Type-F.Variant v.0 loc))))
-  step_type (Type-F.CommonTypeRef n loc) =
-      ap (of_type visit) (type_rolled (Type-F.CommonTypeRef n loc))
-      ∙ (walked visit (Type-F.CommonTypeRef (bare_name n) None) ∙ sym (walked seen (Type-F.CommonTypeRef n loc)))
-
-  step_variant : (y : TypeVariant-F RawName T' V' R' A')
-      → P1 (roll-TypeVariant RawName
-      (map-TypeVariant RawName T' V' R' A' Types Variants Records Attributes (λ e. e.0) (λ e. e.0) (λ e. e.0)
-      (λ e. e.0) y))
-  step_variant TypeVariant-F.String =
-      ap (of_variant visit) (variant_rolled TypeVariant-F.String)
-      ∙ (variant_walked visit TypeVariant-F.String ∙ sym (variant_walked seen TypeVariant-F.String))
-  step_variant TypeVariant-F.Long =
-      ap (of_variant visit) (variant_rolled TypeVariant-F.Long)
-      ∙ (variant_walked visit TypeVariant-F.Long ∙ sym (variant_walked seen TypeVariant-F.Long))
-  step_variant TypeVariant-F.Boolean =
-      ap (of_variant visit) (variant_rolled TypeVariant-F.Boolean)
-      ∙ (variant_walked visit TypeVariant-F.Boolean ∙ sym (variant_walked seen TypeVariant-F.Boolean))
-  step_variant (TypeVariant-F.Set b) =
-      ap (of_variant visit) (variant_rolled (TypeVariant-F.Set b.0))
-      ∙ (variant_walked visit (TypeVariant-F.Set (bare b.0))
-      ∙ (b.1 ∙ sym (variant_walked seen (TypeVariant-F.Set b.0))))
-  step_variant (TypeVariant-F.Record r) =
-      ap (of_variant visit) (variant_rolled (TypeVariant-F.Record r.0))
-      ∙ (variant_walked visit (TypeVariant-F.Record (bare_of_record r.0))
-      ∙ (r.1 ∙ sym (variant_walked seen (TypeVariant-F.Record r.0))))
-  step_variant (TypeVariant-F.Entity n) =
-      ap (of_variant visit) (variant_rolled (TypeVariant-F.Entity n))
-      ∙ (variant_walked visit (TypeVariant-F.Entity (bare_name n)) ∙ sym (variant_walked seen (TypeVariant-F.Entity n)))
-  step_variant (TypeVariant-F.EntityOrCommon n) =
-      ap (of_variant visit) (variant_rolled (TypeVariant-F.EntityOrCommon n))
-      ∙ (variant_walked visit (TypeVariant-F.EntityOrCommon (bare_name n))
-      ∙ sym (variant_walked seen (TypeVariant-F.EntityOrCommon n)))
-  step_variant (TypeVariant-F.Extension n) =
-      ap (of_variant visit) (variant_rolled (TypeVariant-F.Extension n))
-      ∙ (variant_walked visit (TypeVariant-F.Extension n) ∙ sym (variant_walked seen (TypeVariant-F.Extension n)))
-
-  entries_walked : (es : List (List ℕ × A'))
-      → flat_map (λ p. p.1) (map (λ p. let q : List ℕ × List U = (p.0, of_attribute visit p.1) in q)
-      (map (λ p. let q : Entry = (p.0, bare_of_attribute p.1) in q) (map (λ p. let q : Entry = (p.0, p.1.0) in q) es)))
-      ≡ flat_map (λ p. p.1) (map (λ p. let q : List ℕ × List U = (p.0, of_attribute seen p.1) in q)
-      (map (λ p. let q : Entry = (p.0, p.1.0) in q) es))
-  entries_walked [] = refl
-  entries_walked (e ∷ es) = λ i. e.1.1 i ++ entries_walked es i
-
-  step_record : (y : RecordType-F RawName T' V' R' A')
-      → P2 (roll-RecordType RawName (map-RecordType RawName T' V' R' A' Types Variants Records Attributes (λ e. e.0)
-      (λ e. e.0) (λ e. e.0) (λ e. e.0) y))
-  step_record y =
-      let x = map-RecordType RawName T' V' R' A' Types Variants Records Attributes (λ e. e.0) (λ e. e.0) (λ e. e.0)
-      (λ e. e.0) y in
-      ap (of_record visit) (fold-roll-RecordType RawName Types Variants Records Attributes bare_step bare_variant
-      (roll-RecordType RawName) (roll-TypeOfAttribute RawName) x)
-      ∙ (fold-roll-RecordType RawName (List U) (List U) (List U) (List U) (at_type visit) (at_variant visit)
-      (at_record visit) (at_attribute visit)
-      (map-RecordType RawName Types Variants Records Attributes Types Variants Records Attributes bare bare_of_variant
-      bare_of_record bare_of_attribute x)
-      ∙ (ap (λ l. visit_where visit y.additional_attributes open_record ++ l) (entries_walked y.attributes)
-      ∙ sym (fold-roll-RecordType RawName (List U) (List U) (List U) (List U) (at_type seen) (at_variant seen)
-      (at_record seen) (at_attribute seen) x)))
-
-  step_attribute : (y : TypeOfAttribute-F RawName T' V' R' A')
-      → P3 (roll-TypeOfAttribute RawName
-      (map-TypeOfAttribute RawName T' V' R' A' Types Variants Records Attributes (λ e. e.0) (λ e. e.0) (λ e. e.0)
-      (λ e. e.0) y))
-  step_attribute y =
-      let x = map-TypeOfAttribute RawName T' V' R' A' Types Variants Records Attributes (λ e. e.0) (λ e. e.0)
-      (λ e. e.0) (λ e. e.0) y in
-      ap (of_attribute visit) (fold-roll-TypeOfAttribute RawName Types Variants Records Attributes bare_step
-      bare_variant (roll-RecordType RawName) (roll-TypeOfAttribute RawName) x)
-      ∙ (fold-roll-TypeOfAttribute RawName (List U) (List U) (List U) (List U) (at_type visit) (at_variant visit)
-      (at_record visit) (at_attribute visit)
-      (map-TypeOfAttribute RawName Types Variants Records Attributes Types Variants Records Attributes bare
-      bare_of_variant bare_of_record bare_of_attribute x)
-      ∙ (y.ty.1
-      ∙ sym (fold-roll-TypeOfAttribute RawName (List U) (List U) (List U) (List U) (at_type seen) (at_variant seen)
-      (at_record seen) (at_attribute seen) x)))
+  layers : Layers RawName P P1 P2 P3
+  layers = record {
+    variant = λ v loc h. ap (of_type visit) (made.variant_bare v loc)
+        ∙ (walk.type_walked visit (bare_of_variant v) None ∙ (h ∙ sym (walk.type_walked seen v loc)));
+    reference = λ n loc. ap (of_type visit) (made.reference_bare n loc)
+        ∙ (walk.reference_walked visit (bare_name n) None ∙ sym (walk.reference_walked seen n loc));
+    string = ap (of_variant visit) made.string_bare ∙ (walk.string_walked visit ∙ sym (walk.string_walked seen));
+    long = ap (of_variant visit) made.long_bare ∙ (walk.long_walked visit ∙ sym (walk.long_walked seen));
+    boolean = ap (of_variant visit) made.boolean_bare ∙ (walk.boolean_walked visit ∙ sym (walk.boolean_walked seen));
+    set = λ t h. ap (of_variant visit) (made.set_bare t)
+        ∙ (walk.set_walked visit (bare t) ∙ (h ∙ sym (walk.set_walked seen t)));
+    fields = λ r h. ap (of_variant visit) (made.record_bare r)
+        ∙ (walk.variant_walked visit (bare_of_record r) ∙ (h ∙ sym (walk.variant_walked seen r)));
+    entity = λ n. ap (of_variant visit) (made.entity_bare n)
+        ∙ (walk.entity_walked visit (bare_name n) ∙ sym (walk.entity_walked seen n));
+    either = λ n. ap (of_variant visit) (made.either_bare n)
+        ∙ (walk.either_walked visit (bare_name n) ∙ sym (walk.either_walked seen n));
+    extension = λ x. ap (of_variant visit) (made.extension_bare x)
+        ∙ (walk.extension_walked visit x ∙ sym (walk.extension_walked seen x));
+    entries = λ r h. walk.record_walked visit (bare_of_record r)
+        ∙ ((λ i. visit_where visit (openness_bare r i) open_record ++ of_entries visit (attributes_bare r i))
+        ∙ (ap (λ l. visit_where visit (is_open r) open_record ++ l) (entries_walked (attributes_of r) h)
+        ∙ sym (walk.record_walked seen r)));
+    attribute = λ a h. walk.attribute_walked visit (bare_of_attribute a)
+        ∙ (ap (of_type visit) (type_in_bare a) ∙ (h ∙ sym (walk.attribute_walked seen a)));
+  }
 
   pub type_walked : (t : Types) → P t
-  type_walked = ind-Type RawName P P1 P2 P3
-      (λ x y is. subst (λ z. P (roll-Type RawName z)) is (step_type y))
-      (λ x y is. subst (λ z. P1 (roll-TypeVariant RawName z)) is (step_variant y))
-      (λ x y is. subst (λ z. P2 (roll-RecordType RawName z)) is (step_record y))
-      (λ x y is. subst (λ z. P3 (roll-TypeOfAttribute RawName z)) is (step_attribute y))
+  type_walked = each_type RawName P P1 P2 P3 layers
 
   shape_walked : (v : Variants) → P1 v
-  shape_walked = ind-TypeVariant RawName P P1 P2 P3
-      (λ x y is. subst (λ z. P (roll-Type RawName z)) is (step_type y))
-      (λ x y is. subst (λ z. P1 (roll-TypeVariant RawName z)) is (step_variant y))
-      (λ x y is. subst (λ z. P2 (roll-RecordType RawName z)) is (step_record y))
-      (λ x y is. subst (λ z. P3 (roll-TypeOfAttribute RawName z)) is (step_attribute y))
+  shape_walked = each_variant RawName P P1 P2 P3 layers
 
   context_made : (o : Outer) → at_context visit (bare_outer o) ≡ at_context seen o
   context_made (Type-F.Variant ty loc) = shape_walked ty
@@ -241,35 +147,23 @@ module _ {U : Type 0} (visit : Part RawName → List U) where
   kind_walked (Enum choices) = refl
 
 -- whether a type is an empty record does not depend on places
-abbrev holds_none : List Entry → Bool
-holds_none [] = true
-holds_none (e ∷ es) = false
-
-abbrev empty_inner : Inner → Bool
-empty_inner (TypeVariant-F.Record r) = is_empty_record r
-empty_inner _ = false
-
-abbrev empty_outer : Outer → Bool
-empty_outer (Type-F.Variant ty loc) = empty_inner (out-TypeVariant RawName ty)
-empty_outer (Type-F.CommonTypeRef name loc) = false
-
-type_emptied : (t : Types) → is_empty_type t ≡ empty_outer (out-Type RawName t)
+type_emptied : (t : Types) → is_empty_type t ≡ is_empty_outside (out-Type RawName t)
 type_emptied t = refl
 
-record_emptied : (r : Records) → is_empty_record r ≡ (holds_none (attributes_of r) && not (is_open r))
+record_emptied : (r : Records) → is_empty_record r ≡ (has_none (attributes_of r) && not (is_open r))
 record_emptied r = refl
 
-none_held : (es : List Entry) → holds_none (map bare_entry es) ≡ holds_none es
+none_held : (es : List Entry) → has_none (map bare_entry es) ≡ has_none es
 none_held [] = refl
 none_held (e ∷ es) = refl
 
 record_bare : (r : Records) → is_empty_record (bare_of_record r) ≡ is_empty_record r
 record_bare r =
     record_emptied (bare_of_record r)
-    ∙ ((λ i. holds_none (attributes_bare r i) && not (openness_bare r i))
+    ∙ ((λ i. has_none (attributes_bare r i) && not (openness_bare r i))
     ∙ (ap (λ b. b && not (is_open r)) (none_held (attributes_of r)) ∙ sym (record_emptied r)))
 
-inner_emptied : (o : Inner) → empty_inner (bare_inner o) ≡ empty_inner o
+inner_emptied : (o : Inner) → is_empty_shape (bare_inner o) ≡ is_empty_shape o
 inner_emptied TypeVariant-F.String = refl
 inner_emptied TypeVariant-F.Long = refl
 inner_emptied TypeVariant-F.Boolean = refl
@@ -279,15 +173,15 @@ inner_emptied (TypeVariant-F.Entity n) = refl
 inner_emptied (TypeVariant-F.EntityOrCommon n) = refl
 inner_emptied (TypeVariant-F.Extension x) = refl
 
-outer_emptied : (o : Outer) → empty_outer (bare_outer o) ≡ empty_outer o
+outer_emptied : (o : Outer) → is_empty_outside (bare_outer o) ≡ is_empty_outside o
 outer_emptied (Type-F.Variant ty loc) =
-    ap empty_inner (inner_bare ty) ∙ inner_emptied (out-TypeVariant RawName ty)
+    ap is_empty_shape (inner_bare ty) ∙ inner_emptied (out-TypeVariant RawName ty)
 outer_emptied (Type-F.CommonTypeRef name loc) = refl
 
 pub empty_bare : (t : Types) → is_empty_type (bare t) ≡ is_empty_type t
 empty_bare t =
     type_emptied (bare t)
-    ∙ (ap empty_outer (outer_bare t) ∙ (outer_emptied (out-Type RawName t) ∙ sym (type_emptied t)))
+    ∙ (ap is_empty_outside (outer_bare t) ∙ (outer_emptied (out-Type RawName t) ∙ sym (type_emptied t)))
 
 none_too : {A B : Type 0} (h : A → B) (o : Option A) → is_none (option_map h o) ≡ is_none o
 none_too h None = refl
@@ -363,11 +257,7 @@ walked_same visit same f g e = sym (alone f) ∙ (ap (of_fragment visit) e ∙ a
     alone : (f : Fragment RawName as_written) → of_fragment visit (declared_alone f) ≡ of_fragment visit f
     alone f = fragment_walked visit f ∙ (λ i. of_fragment (λ ns p. same ns p i) f)
 
-ones : {A B : Type 0} (k : A → B) (xs : List A) → flat_map (λ x. k x ∷ []) xs ≡ map k xs
-ones k [] = refl
-ones k (x ∷ xs) = ap (λ l. k x ∷ l) (ones k xs)
-
 pub parts_bare : (t : Types) → parts (bare t) ≡ map bare_part (parts t)
 parts_bare t =
     type_walked itself t
-    ∙ (type_by_parts (λ p. bare_part p ∷ []) t ∙ ones bare_part (parts t))
+    ∙ (type_by_parts (λ p. bare_part p ∷ []) t ∙ flat_map_single bare_part (parts t))

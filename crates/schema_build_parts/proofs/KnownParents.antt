@@ -1,6 +1,7 @@
 -- Where each reference to a type means something, each parent of a declared entity type means an entity type.
 use Rattle.std.proofs.Common.{◌≡◌, All, Contains, Option, refl, subst}
 use Rattle.std.proofs.lemmas.List.Elements.{All-nil}
+use Rattle.cedar_data.proofs.Lists.{all_of, contains_flat, contains_unmap}
 use Rattle.cedar_identifiers.specs.declared.name.Name.{Name}
 use Rattle.cedar_identifiers.specs.declared.name_text.NameText as named
 use Rattle.cedar_identifiers.specs.declared.raw_name.RawName.{RawName}
@@ -14,11 +15,9 @@ use Rattle.schema_json.specs.declared.fragment.NamespaceDefinition.{NamespaceDef
 use Rattle.schema_resolve_definitions.specs.Defined.{defined}
 use Rattle.schema_resolve_definitions.specs.Tests.{Tests, tests_of}
 use Rattle.schema_build_scope.specs.Parts.{IsAllKnown}
-use Rattle.schema_build_scope.proofs.Known.{all_of, parents_meant}
+use Rattle.schema_build_scope.proofs.Known.{parents_meant}
 use Rattle.schema_build_hierarchy.specs.Declarations.{entity_in, entities_of, declared_entities}
 use Rattle.schema_build_hierarchy.specs.Parents.{AreMeantIn, AreParentsMeant, written_parents}
-use Rattle.schema_build_hierarchy.proofs.Gathered.{contains_flat}
-use Rattle.schema_build_hierarchy.proofs.Ordered.{contains_unmap}
 
 module _ {G : named.Ghosts RawName} (f : Fragment RawName G) (table : ExtensionTable) (known : IsAllKnown f table) where
   abbrev t : Tests

@@ -2,4 +2,4 @@ mod Known
 mod KnownParents
 mod Moved
 mod NoRecords
-mod Rows
+pub mod Rows

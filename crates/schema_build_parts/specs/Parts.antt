@@ -1,11 +1,10 @@
 -- What is built of the declarations of a fragment.
-use Rattle.std.specs.Prelude.{false, map}
+use Rattle.std.specs.Prelude.{map}
 use Rattle.std.specs.List.{AllZip}
-use Rattle.cedar_identifiers.specs.Names.{components_of}
-use Rattle.cedar_identifiers.specs.declared.name_text.NameText as named
 use Rattle.cedar_identifiers.specs.declared.raw_name.RawName.{RawName}
 use Rattle.cedar_names.specs.declared.extension_table.ExtensionTable.{ExtensionTable}
 use Rattle.schema_json.specs.declared.fragment.Fragment.{Fragment}
+use Rattle.schema_json.specs.AsWritten.{as_written}
 use Rattle.schema_build_scope.specs.FragmentScope.{fragment_scope}
 use Rattle.schema_build_hierarchy.specs.Ancestors.{AreAncestorRows}
 use Rattle.schema_build_hierarchy.specs.Declarations.{declared_entities, declared_actions, entity_name, action_key}
@@ -15,13 +14,9 @@ use Rattle.schema_build_items.specs.ActionKinds.{IsActionKindBuilt, tests_alone}
 use Rattle.schema_build_items.specs.Kinds.{IsKindBuilt}
 use Rattle.schema_build_parts.specs.declared.parts.FragmentParts.{FragmentParts}
 
--- names as a fragment has them before they are resolved
-abbrev pub raw_names : named.Ghosts RawName
-raw_names = record { TYPED = false; components = λ n. components_of n.name }
-
 -- the parts hold what the fragment declares, in the order of names; each declaration is built as what it means, and its
 -- row holds the ranks of its ancestors
-pub record ArePartsOf (f : Fragment RawName raw_names) (table : ExtensionTable) (p : FragmentParts) : Type 0 where
+pub record ArePartsOf (f : Fragment RawName as_written) (table : ExtensionTable) (p : FragmentParts) : Type 0 where
   pub entities : AreEntities (declared_entities f) p.entities.items
   pub actions : AreActions (declared_actions f) p.actions.items
   pub kinds : AllZip (IsKindBuilt (fragment_scope f table)) (map entity_of p.entities.items) p.kinds.items

@@ -8,9 +8,8 @@ use Rattle.schema_build_types.specs.Content.{TypeContent, type_content, attribut
 use Rattle.schema_build_types.specs.Content as said
 use Rattle.schema_build_types.specs.Lacks.{type_lacks, attribute_lacks, context_lacks}
 use Rattle.schema_build_types.specs.Lacks as lack
-use Rattle.schema_build_text.proofs.Layers.{record_says, set_says, never_says}
-use Rattle.schema_build_text.proofs.Layers.{any_bool_says, true_says, false_says, long_says, string_says}
-use Rattle.schema_build_text.proofs.Layers.{any_entity_says}
+use Rattle.schema_build_types.proofs.Contents.{record_says, set_says, never_says, any_bool_says, true_says, false_says}
+use Rattle.schema_build_types.proofs.Contents.{long_says, string_says, any_entity_says}
 use Rattle.schema_build_recovered.specs.Refusals.{IsFirstLack}
 use Rattle.schema_build_recovered.proofs.Variants.{says_so}
 

@@ -6,6 +6,7 @@ use denote.Ref.{Bor}
 use Rattle.std.specs.List.{AllZip, flat_map}
 use Rattle.std.proofs.lemmas.List.{map_push, map_more, take_more}
 use Rattle.cedar_data.specs.Maps.{map_of}
+use Rattle.cedar_data.proofs.Lists.{map-map}
 use Rattle.cedar_identifiers.specs.declared.name.Name.{Name}
 use Rattle.cedar_identifiers.specs.declared.name_text.NameText as named
 use Rattle.cedar_identifiers.specs.declared.raw_name.RawName.{RawName}
@@ -16,7 +17,6 @@ use Rattle.schema_build_types.specs.Content.{SchemaContent, content, entity_cont
 use Rattle.schema_build_types.specs.Lacks.{namespace_lacks, schema_lacks}
 use Rattle.schema_build_text.proofs.InOrder.{entity_named, action_named}
 use Rattle.schema_build_text.specs.Readings.{schema_reading, entity_reading, action_reading}
-use Rattle.schema_build_text.proofs.Rowed.{map_both}
 use Rattle.schema_build_recovered.specs.Places.{words_of}
 use Rattle.schema_build_recovered.specs.Recovered.{IsRecoveredNamespace}
 use Rattle.schema_build_recovered.specs.declared.names.Namespace.{Namespace}
@@ -64,8 +64,8 @@ namespaces_are entities actions = ap in_order (sym (λ i. entity_keys entities i
 -- what all namespaces lack
 pub all_lack : (c : SchemaContent) → flat_map (namespace_lacks c) (namespaces (schema_reading c)) ≡ schema_lacks c
 all_lack c = λ i. flat_map (namespace_lacks c)
-    (in_order (map_both (λ (e : EntityMeaning). namespace e.name) entity_reading c.entities i
-    ++ map_both (λ (a : ActionMeaning). namespace a.ty) action_reading c.actions i))
+    (in_order (map-map (λ (e : EntityMeaning). namespace e.name) entity_reading c.entities i
+    ++ map-map (λ (a : ActionMeaning). namespace a.ty) action_reading c.actions i))
 
 -- the namespaces of a meaning rise
 pub namespaces_rise : (m : SchemaMeaning) → IsRising (namespaces m)

@@ -2,7 +2,9 @@
 use Rattle.std.proofs.Common.{◌≡◌, ℕ, Bool, true, false, List, [], ◌∷◌, ◌++◌, map, cond, refl, ap, sym, ◌∙◌}
 use Rattle.std.proofs.Common.{subst, Option}
 use Rattle.std.specs.List.{filter, flat_map, AllByRecursion, AllZip}
+use Rattle.std.proofs.lemmas.List.Folds.{flat_map-map}
 use Rattle.cedar_data.specs.Text.{text_cmp}
+use Rattle.cedar_data.proofs.Lists.{map-map}
 use Rattle.cedar_identifiers.specs.Names.{components_of}
 use Rattle.cedar_identifiers.specs.declared.name.Name.{Name}
 use Rattle.cedar_identifiers.specs.declared.name_text.NameText as named
@@ -11,6 +13,7 @@ use Rattle.cedar_names.specs.CanonicalText.{namespace}
 use Rattle.cedar_names.specs.Definitions.{same_name}
 use Rattle.cedar_names.specs.Meaning.{EntityMeaning, ActionMeaning}
 use Rattle.cedar_names.specs.declared.entity_uid.EntityUID.{EntityUID}
+use Rattle.cedar_names.proofs.Defined.{equal_names}
 use Rattle.schema_json.specs.declared.fragment.NamespaceDefinition.{NamespaceDefinition}
 use Rattle.schema_build_types.specs.Content.{entity_content, action_content, content}
 use Rattle.schema_build_types.specs.Content.{EntityContent, ActionContent}
@@ -19,8 +22,6 @@ use Rattle.schema_build_types.specs.declared.entity_type.ValidatorEntityType.{Va
 use Rattle.schema_build_types.specs.declared.action.ValidatorActionId.{ValidatorActionId}
 use Rattle.schema_build_text.specs.Readings.{schema_reading, entity_reading, action_reading}
 use Rattle.schema_build_text.proofs.InOrder.{entity_named, action_named}
-use Rattle.schema_build_text.proofs.Named.{same_list}
-use Rattle.schema_build_text.proofs.Rowed.{map_both}
 use Rattle.schema_build_recovered.specs.Places.{on_side}
 use Rattle.schema_build_recovered.specs.Recovered.{IsMapOf, IsRecoveredEntity, IsRecoveredAction, IsRecoveredNamespace}
 
@@ -63,7 +64,7 @@ pub home_entities : (n : List (List ℕ)) (entities : List (Name × ValidatorEnt
     ≡ map (λ e. entity_reading (entity_content e)) (filter (λ e. same_name n (entity_key e)) entities)
 home_entities n entities =
     let p = λ (e : EntityMeaning). same_name n (namespace e.name) in
-    ap (filter p) (map_both entity_reading entity_content entities)
+    ap (filter p) (map-map entity_reading entity_content entities)
     ∙ read_of (λ e. entity_reading (entity_content e)) p (λ e. same_name n (entity_key e))
     (λ e. ap (λ k. same_name n (namespace k)) (entity_named e.0 e.1)) entities
 
@@ -72,14 +73,9 @@ pub home_actions : (n : List (List ℕ)) (actions : List (EntityUID × Validator
     ≡ map (λ a. action_reading (action_content a)) (filter (λ a. same_name n (action_key a)) actions)
 home_actions n actions =
     let p = λ (a : ActionMeaning). same_name n (namespace a.ty) in
-    ap (filter p) (map_both action_reading action_content actions)
+    ap (filter p) (map-map action_reading action_content actions)
     ∙ read_of (λ a. action_reading (action_content a)) p (λ a. same_name n (action_key a))
     (λ a. ap (λ k. same_name n (namespace k)) (action_named a.0 a.1)) actions
-
-flat_both : {X Y A : Type 0} (f : Y → List A) (g : X → Y) (xs : List X)
-    → flat_map f (map g xs) ≡ flat_map (λ x. f (g x)) xs
-flat_both f g [] = refl
-flat_both f g (x ∷ xs) = ap (λ l. f (g x) ++ l) (flat_both f g xs)
 
 abbrev pub entities_lack : List (List ℕ) → List (Name × ValidatorEntityType) → List Lack
 entities_lack n entities =
@@ -98,9 +94,9 @@ home_lacks n entities actions =
     let two = read_of action_content (λ (a : ActionContent). same_name n (namespace a.ty))
     (λ a. same_name n (action_key a)) (λ a. ap (λ k. same_name n (namespace k)) (action_named a.0 a.1)) actions in
     let left = ap (flat_map entity_lacks) one
-    ∙ flat_both entity_lacks entity_content (filter (λ e. same_name n (entity_key e)) entities) in
+    ∙ flat_map-map entity_lacks entity_content (filter (λ e. same_name n (entity_key e)) entities) in
     let right = ap (flat_map (λ (a : ActionContent). context_lacks a.context)) two
-    ∙ flat_both (λ (a : ActionContent). context_lacks a.context) action_content
+    ∙ flat_map-map (λ (a : ActionContent). context_lacks a.context) action_content
     (filter (λ a. same_name n (action_key a)) actions) in
     λ i. left i ++ right i
 
@@ -110,13 +106,13 @@ module _ (below : Bool) (pivot n : List (List ℕ)) (on : on_side below pivot n 
       → on_side below pivot (entity_key e) ≡ true
   entity_on e h =
       subst (λ k. on_side below pivot k ≡ true)
-      (same_list n (namespace (entity_content e).name) h ∙ ap namespace (entity_named e.0 e.1)) on
+      (equal_names n (namespace (entity_content e).name) h ∙ ap namespace (entity_named e.0 e.1)) on
 
   action_on : (a : EntityUID × ValidatorActionId) → same_name n (namespace (action_content a).ty) ≡ true
       → on_side below pivot (action_key a) ≡ true
   action_on a h =
       subst (λ k. on_side below pivot k ≡ true)
-      (same_list n (namespace (action_content a).ty) h ∙ ap namespace (action_named a.0 a.1)) on
+      (equal_names n (namespace (action_content a).ty) h ∙ ap namespace (action_named a.0 a.1)) on
 
   module _ (entities : List (Name × ValidatorEntityType)) (actions : List (EntityUID × ValidatorActionId))
       (some_entities : List (Name × ValidatorEntityType)) (some_actions : List (EntityUID × ValidatorActionId))
@@ -139,20 +135,20 @@ module _ (below : Bool) (pivot n : List (List ℕ)) (on : on_side below pivot n 
         (map entity_reading (map entity_content entities))
     same_entities =
         let p = λ (e : EntityMeaning). same_name n (namespace e.name) in
-        ap (filter p) (map_both entity_reading entity_content some_entities)
+        ap (filter p) (map-map entity_reading entity_content some_entities)
         ∙ ap (λ l. filter p (map (λ e. entity_reading (entity_content e)) l)) entities_are
         ∙ kept (λ e. entity_reading (entity_content e)) p (λ e. on_side below pivot (entity_key e)) entity_on entities
-        ∙ sym (ap (filter p) (map_both entity_reading entity_content entities))
+        ∙ sym (ap (filter p) (map-map entity_reading entity_content entities))
 
     same_actions : filter (λ (a : ActionMeaning). same_name n (namespace a.ty))
         (map action_reading (map action_content some_actions))
         ≡ filter (λ (a : ActionMeaning). same_name n (namespace a.ty)) (map action_reading (map action_content actions))
     same_actions =
         let p = λ (a : ActionMeaning). same_name n (namespace a.ty) in
-        ap (filter p) (map_both action_reading action_content some_actions)
+        ap (filter p) (map-map action_reading action_content some_actions)
         ∙ ap (λ l. filter p (map (λ a. action_reading (action_content a)) l)) actions_are
         ∙ kept (λ a. action_reading (action_content a)) p (λ a. on_side below pivot (action_key a)) action_on actions
-        ∙ sym (ap (filter p) (map_both action_reading action_content actions))
+        ∙ sym (ap (filter p) (map-map action_reading action_content actions))
 
     pub same_namespace : {G : named.Ghosts RawName} (x : Option Name × NamespaceDefinition RawName G)
         → IsRecoveredNamespace (schema_reading (content some_entities some_actions)) n x

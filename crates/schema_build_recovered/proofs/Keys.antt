@@ -2,8 +2,7 @@
 use Rattle.std.proofs.Common.{◌≡◌, ℕ, List, [], ◌∷◌, Option, None, Some, refl, ◌∙◌}
 use Rattle.std.specs.declared.cmp.Ordering.{Ordering}
 use Rattle.std.specs.declared.cmp.Ordering.TheVariants.{Less}
-use Rattle.std.specs.Cmp.{IsTotalOrder, on_total}
-use Rattle.std.specs.Cmp.Lexicographic.{slice_cmp, options_total}
+use Rattle.std.specs.Cmp.Lexicographic.{slice_cmp}
 use Rattle.std.specs.List.{AllByRecursion, AllZip}
 use Rattle.std.specs.List.Sorted.{IsStrictlySortedBy}
 use Rattle.std.specs.Map.{keys_of}
@@ -14,8 +13,8 @@ use Rattle.cedar_data.proofs.Rising.{map_of_rising}
 use Rattle.cedar_identifiers.specs.declared.internal_name.InternalName.{InternalName}
 use Rattle.cedar_identifiers.specs.declared.name.Name.{Name}
 use Rattle.cedar_identifiers.specs.Names.{components_of}
-use Rattle.cedar_names.specs.Orders.{ids_in_order, ids_of, names_in_order, names_total}
-use Rattle.schema_build_text.proofs.Rowed.{ids_cmp}
+use Rattle.cedar_identifiers.proofs.Ordered.{ids_cmp}
+use Rattle.cedar_names.specs.Orders.{id_text_order, ids_of, names_in_order, places_total}
 use Rattle.schema_build_recovered.specs.Recovered.{IsKey}
 
 abbrev C : List (List ℕ) → List (List ℕ) → Ordering
@@ -24,12 +23,9 @@ C = slice_cmp text_cmp
 abbrev pub key_order : Option Name → Option Name → Ordering
 key_order = option_cmp (λ (x y : Name). names_in_order x.name y.name)
 
-keys_total : IsTotalOrder key_order
-keys_total = options_total (on_total (λ (n : Name). n.name) names_total)
-
 go : (a b : InternalName) (n m : List (List ℕ)) → components_of a ≡ n → components_of b ≡ m → C n m ≡ Less
     → names_in_order a b ≡ Less
-go a b n m h k e = ids_cmp ids_in_order (λ x y. refl) (ids_of a) (ids_of b) ∙ ((λ i. C (h i) (k i)) ∙ e)
+go a b n m h k e = ids_cmp id_text_order (λ x y. refl) (ids_of a) (ids_of b) ∙ ((λ i. C (h i) (k i)) ∙ e)
 
 keys_go : (n m : List (List ℕ)) (a b : Option Name) → IsKey n a → IsKey m b → C n m ≡ Less → key_order a b ≡ Less
 keys_go [] [] a b h k e = absurd (cc)
@@ -62,4 +58,4 @@ module _ {V : Type 0} (R : List (List ℕ) → Option Name × V → Type 0)
   -- rows of namespaces that rise are the map of themselves
   pub rows_are : (ns : List (List (List ℕ))) (rows : List (Option Name × V)) → AllZip R ns rows
       → IsStrictlySortedBy C ns → map_of key_order rows ≡ rows
-  rows_are ns rows z r = map_of_rising key_order keys_total rows (rises ns rows z r)
+  rows_are ns rows z r = map_of_rising key_order places_total rows (rises ns rows z r)

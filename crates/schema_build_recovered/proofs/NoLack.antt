@@ -3,7 +3,7 @@ use Rattle.std.proofs.Common.{◌≡◌, Bool, true, false, List, [], ◌∷◌,
 use Rattle.std.proofs.Common.{All}
 use Rattle.std.specs.List.{filter, flat_map}
 use Rattle.std.specs.Option.{option_map}
-use Rattle.std.proofs.lemmas.List.Elements.{All-head, All-tail, All-nil, All-cons}
+use Rattle.std.proofs.lemmas.List.Elements.{All-head, All-tail, All-nil, All-cons, All-map}
 use Rattle.cedar_identifiers.specs.declared.name.Name.{Name}
 use Rattle.cedar_names.specs.CanonicalText.{namespace}
 use Rattle.cedar_names.specs.Definitions.{same_name}
@@ -33,11 +33,6 @@ none_anywhere : {X Y : Type 0} (f : X → List Y) → ((x : X) → f x ≡ []) �
 none_anywhere f none [] = refl
 none_anywhere f none (x ∷ xs) = λ i. none x i ++ none_anywhere f none xs i
 
-all_of : {X Y : Type 0} (P : Y → Type 0) (f : X → Y) (xs : List X) → All (λ x. P (f x)) xs → All P (map f xs)
-all_of P f [] all = All-nil P
-all_of P f (x ∷ xs) all =
-    All-cons P (f x) (map f xs) (All-head (λ x. P (f x)) x xs all) (all_of P f xs (All-tail (λ x. P (f x)) x xs all))
-
 -- what lacks nothing, item by item
 pub none_lacks : (c : SchemaContent) → All (λ e. entity_lacks e ≡ []) c.entities
     → All (λ (a : ActionContent). context_lacks a.context ≡ []) c.actions → schema_lacks c ≡ []
@@ -50,8 +45,8 @@ pub items_whole : (entities : List (Name × ValidatorEntityType)) (actions : Lis
     → All (λ e. entity_lacks (entity_content e) ≡ []) entities
     → All (λ a. context_lacks (action_content a).context ≡ []) actions → schema_lacks (content entities actions) ≡ []
 items_whole entities actions ones others = none_lacks (content entities actions)
-    (all_of (λ e. entity_lacks e ≡ []) entity_content entities ones)
-    (all_of (λ (a : ActionContent). context_lacks a.context ≡ []) action_content actions others)
+    (All-map (λ e. entity_lacks e ≡ []) entity_content entities ones)
+    (All-map (λ (a : ActionContent). context_lacks a.context ≡ []) action_content actions others)
 
 mutual
   type_built : (p : PlainType) → type_lacks (as_built p) ≡ []

@@ -1,10 +1,9 @@
 -- Rows that are recovered one by one.
 use Rattle.std.proofs.Common.{◌≡◌, ℕ, Bool, ◌+◌, ◌<◌, List, [], ◌∷◌, ◌++◌, length, get_or, take, drop, refl, sym, ap}
 use Rattle.std.proofs.Common.{◌∙◌}
-use Rattle.std.proofs.Common.{subst, map, zero, suc, ◌≤◌, arith}
-use denote.Param.Weighed.{most}
+use Rattle.std.proofs.Common.{subst, map, ◌≤◌}
 use Rattle.std.specs.List.{AllZip}
-use Rattle.std.specs.Map.{keys_of, values_of}
+use Rattle.std.specs.Map.{keys_of}
 use Rattle.std.proofs.lemmas.List.{take_more, drop_all}
 use Rattle.std.proofs.lemmas.Slice.Zip.{all_zipped_more}
 use Rattle.std.specs.Cmp.Lexicographic.{slice_cmp}
@@ -19,11 +18,11 @@ use Rattle.schema_build_types.specs.declared.types.Type.{«Type»}
 use Rattle.schema_build_types.specs.Content.{type_content, attributes_content, names_content}
 use Rattle.schema_build_types.specs.Lacks.{type_lacks, attribute_lacks}
 use Rattle.schema_build_text.specs.Readings.{plain_type, plain_attributes}
+use Rattle.schema_build_text.specs.Rows.{sorted_once}
+use Rattle.schema_build_text.proofs.Rowed.{dropped, names_sorted}
 use Rattle.schema_build_recovered.specs.Recovered.{IsWritten, IsRecoveredType, AreRecoveredAttributes}
 use Rattle.schema_build_recovered.specs.Refusals.{IsFirstLack}
 use Rattle.schema_build_recovered.proofs.Lacking.{first_before}
-use Rattle.schema_build_text.specs.Rows.{sorted_once}
-use Rattle.schema_build_text.proofs.Rowed.{dropped, names_sorted}
 
 -- one more of each
 pub zip_more : {A B : Type 0} (R : A → B → Type 0) (xs : List A) (ys : List B) (i : ℕ) (x : A) (y : B)
@@ -97,10 +96,3 @@ pub all_whole : (es : List (List ℕ × («Type» × Bool))) (i : ℕ) → lengt
     → attribute_lacks (attributes_content es) ≡ attribute_lacks (attributes_content (drop i es))
     → attribute_lacks (attributes_content es) ≡ []
 all_whole es i h same = same ∙ ap (λ l. attribute_lacks (attributes_content l)) (drop_all i es h)
-
--- a value among the entries is no deeper than the deepest
-pub most_at : {K A : Type 0} (f : A → ℕ) (es : List (K × A)) (i : ℕ) (d : K × A) → i < length es
-    → f (get_or es i d).1 ≤ most f (values_of es)
-most_at f [] i d h = absurd (omega arith)
-most_at f (e ∷ es) zero d h = omega arith
-most_at f (e ∷ es) (suc i) d h = omega (arith, most_at f es i d (omega arith))

@@ -4,43 +4,19 @@ use Rattle.std.proofs.Common.{arith}
 use Rattle.std.proofs.Common.{subst, ◌≢◌, Bool, true, false, not}
 use Rattle.std.specs.declared.cmp.Ordering.{Ordering}
 use Rattle.std.specs.declared.cmp.Ordering.TheVariants.{Less, Equal, Greater}
-use Rattle.std.specs.Ordering.{match_ordering, ordering_then}
+use Rattle.std.specs.Ordering.{match_ordering}
 use Rattle.std.specs.BTreeSet.{insert_key}
-use Rattle.std.specs.Cmp.{IsTotalOrder}
-use Rattle.std.specs.Cmp.Lexicographic.{slice_cmp, lists_total}
-use Rattle.std.specs.Str.{encode_utf8_all}
-use Rattle.std.proofs.lemmas.Cmp.{on_total, nat_list_cmp_total, tied_itself}
+use Rattle.std.specs.Cmp.Lexicographic.{slice_cmp}
+use Rattle.std.proofs.lemmas.Cmp.{tied_itself}
 use Rattle.std.proofs.lemmas.List.Elements.{All-head, All-tail}
-use Rattle.std.proofs.lemmas.Map.Lookups.{exact_bytes}
-use Rattle.std.proofs.lemmas.Str.{encodes_same}
 use Rattle.cedar_data.specs.Text.{text_cmp}
+use Rattle.cedar_data.proofs.Orders.{texts_total, texts_exact}
 use Rattle.cedar_identifiers.specs.Names.{components_of}
 use Rattle.cedar_identifiers.specs.declared.name.Name.{Name}
 use Rattle.schema_build_types.specs.Content.{names_content}
 use Rattle.schema_build_text.specs.Rows.{sorted_once}
-use Rattle.schema_build_recovered.specs.Refusals.{IsSeveral}
 use Rattle.schema_build_text.proofs.Rowed.{in_order_is}
-
-pub names_total : IsTotalOrder (slice_cmp text_cmp)
-names_total = lists_total (on_total encode_utf8_all nat_list_cmp_total)
-
-text_exact : (x y : List ℕ) → text_cmp x y ≡ Equal → x ≡ y
-text_exact x y e = encodes_same x y (exact_bytes (encode_utf8_all x) (encode_utf8_all y) e)
-
-then_equal : (a b : Ordering) → ordering_then a b ≡ Equal → (a ≡ Equal) × (b ≡ Equal)
-then_equal Less b e = absurd (cc)
-then_equal Equal b e = (refl, e)
-then_equal Greater b e = absurd (cc)
-
-pub names_exact : (xs ys : List (List ℕ)) → slice_cmp text_cmp xs ys ≡ Equal → xs ≡ ys
-names_exact [] [] e = refl
-names_exact [] (y ∷ ys) e = absurd (cc)
-names_exact (x ∷ xs) [] e = absurd (cc)
-names_exact (x ∷ xs) (y ∷ ys) e =
-    let both = then_equal (text_cmp x y) (slice_cmp text_cmp xs ys) e in
-    let first : x ≡ y = text_exact x y both.0 in
-    let rest : xs ≡ ys = names_exact xs ys both.1 in
-    cc
+use Rattle.schema_build_recovered.specs.Refusals.{IsSeveral}
 
 -- names with the same components are one
 one_sorted : (n : List (List ℕ)) (xs : List Name) → All (λ x. components_of x.name ≡ n) xs
@@ -51,7 +27,7 @@ one_sorted n (x ∷ xs) a =
     (ap (λ m. sorted_once (slice_cmp text_cmp) (m ∷ map (λ x. components_of x.name) xs))
     (All-head (λ x. components_of x.name ≡ n) x xs a)
     ∙ one_sorted n xs (All-tail (λ x. components_of x.name ≡ n) x xs a))
-    ∙ ap (λ o. match_ordering o (n ∷ n ∷ []) (n ∷ []) (n ∷ n ∷ [])) (tied_itself names_total n)
+    ∙ ap (λ o. match_ordering o (n ∷ n ∷ []) (n ∷ []) (n ∷ n ∷ [])) (tied_itself texts_total n)
 
 pub one_name : (names : List Name) (x : Name) (xs : List Name) → names ≡ x ∷ xs
     → All (λ y. components_of y.name ≡ components_of x.name) xs → names_content names ≡ components_of x.name ∷ []
@@ -93,7 +69,7 @@ singled (k ∷ ks) y e = by (sorted_once C ks) refl e (λ h. singled ks y h)
         → match_ordering o (k ∷ z ∷ zs) (z ∷ zs) (z ∷ insert_key C zs k) ≡ y ∷ []
         → (z ∷ zs ≡ y ∷ []) × (k ≡ y)
     at z zs Less h f = absurd (cc)
-    at z zs Equal h f = let same : z ≡ y = cc in (f, names_exact k z h ∙ same)
+    at z zs Equal h f = let same : z ≡ y = cc in (f, texts_exact k z h ∙ same)
     at z zs Greater h f = let none : insert_key C zs k ≡ [] = cc in absurd (never_empty zs k none)
 
     by : (l : List (List (List ℕ))) → sorted_once C ks ≡ l → insert_key C l k ≡ y ∷ []

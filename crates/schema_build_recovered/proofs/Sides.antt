@@ -8,8 +8,9 @@ use Rattle.std.specs.List.{AllByRecursion}
 use Rattle.std.specs.List.Sorted.{IsStrictlySortedBy}
 use Rattle.std.proofs.lemmas.Cmp.{tied_itself}
 use Rattle.cedar_data.specs.Text.{text_cmp}
+use Rattle.cedar_data.proofs.Orders.{texts_total}
+use Rattle.cedar_data.proofs.Every.{all_front, all_back}
 use Rattle.schema_build_recovered.specs.Places.{on_side}
-use Rattle.schema_build_recovered.proofs.Several.{names_total}
 
 abbrev C : List (List ℕ) → List (List ℕ) → Ordering
 C = slice_cmp text_cmp
@@ -17,18 +18,10 @@ C = slice_cmp text_cmp
 abbrev pub IsRising : List (List (List ℕ)) → Type 0
 IsRising = IsStrictlySortedBy C
 
-front_all : {X : Type 0} (P : X → Type 0) (xs us : List X) → AllByRecursion P (xs ++ us) → AllByRecursion P xs
-front_all P [] us a = tt
-front_all P (x ∷ xs) us a = (a.0, front_all P xs us a.1)
-
-back_all : {X : Type 0} (P : X → Type 0) (xs us : List X) → AllByRecursion P (xs ++ us) → AllByRecursion P us
-back_all P [] us a = a
-back_all P (x ∷ xs) us a = back_all P xs us a.1
-
 pub front_rises : (xs us : List (List (List ℕ))) → IsRising (xs ++ us) → IsRising xs
 unfolding IsStrictlySortedBy
 front_rises [] us r = tt
-front_rises (x ∷ xs) us r = (front_all (λ y. C x y ≡ Less) xs us r.0, front_rises xs us r.1)
+front_rises (x ∷ xs) us r = (all_front (λ y. C x y ≡ Less) xs us r.0, front_rises xs us r.1)
 
 pub back_rises : (xs us : List (List (List ℕ))) → IsRising (xs ++ us) → IsRising us
 unfolding IsStrictlySortedBy
@@ -41,17 +34,17 @@ pub front_below : (xs : List (List (List ℕ))) (p : List (List ℕ)) (us : List
 unfolding IsStrictlySortedBy
 front_below [] p us r = tt
 front_below (x ∷ xs) p us r =
-    let all = back_all (λ y. C x y ≡ Less) xs (p ∷ us) r.0 in
+    let all = all_back (λ y. C x y ≡ Less) xs (p ∷ us) r.0 in
     (ap is_lt all.0, front_below xs p us r.1)
 
 above : (p : List (List ℕ)) (us : List (List (List ℕ))) → AllByRecursion (λ y. C p y ≡ Less) us
     → AllByRecursion (λ n. on_side false p n ≡ true) us
 above p [] a = tt
 above p (n ∷ us) a =
-    (ap (λ o. not (is_lt o)) (names_total.antisymm n p ∙ ap ordering_reverse a.0), above p us a.1)
+    (ap (λ o. not (is_lt o)) (texts_total.antisymm n p ∙ ap ordering_reverse a.0), above p us a.1)
 
 -- and those from it on are not
 pub back_above : (p : List (List ℕ)) (us : List (List (List ℕ))) → IsRising (p ∷ us)
     → AllByRecursion (λ n. on_side false p n ≡ true) (p ∷ us)
 unfolding IsStrictlySortedBy
-back_above p us r = (ap (λ o. not (is_lt o)) (tied_itself names_total p), above p us r.0)
+back_above p us r = (ap (λ o. not (is_lt o)) (tied_itself texts_total p), above p us r.0)

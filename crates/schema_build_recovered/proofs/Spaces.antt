@@ -1,44 +1,33 @@
 -- Namespaces that are sorted, each once.
-use Rattle.std.proofs.Common.{◌≡◌, ℕ, false, List, [], ◌∷◌, map, refl, sym, ◌∙◌, subst}
+use Rattle.std.proofs.Common.{◌≡◌, ℕ, false, List, ◌∷◌, map, refl, sym, ◌∙◌, subst}
 use Rattle.std.specs.declared.cmp.Ordering.{Ordering}
-use Rattle.std.specs.declared.cmp.Ordering.TheVariants.{Less}
 use Rattle.std.specs.Cmp.Lexicographic.{slice_cmp}
 use Rattle.std.specs.Ordering.{is_eq}
-use Rattle.std.specs.List.{AllByRecursion}
 use Rattle.std.specs.List.Sorted.{IsStrictlySortedBy}
 use Rattle.cedar_data.specs.Text.{text_cmp}
+use Rattle.cedar_data.proofs.Orders.{texts_total}
 use Rattle.cedar_identifiers.specs.Names.{has_cedar}
+use Rattle.cedar_identifiers.proofs.Ordered.{ids_cmp}
 use Rattle.cedar_names.specs.CanonicalText.{in_order}
 use Rattle.cedar_names.specs.Definitions.{same_name}
-use Rattle.cedar_names.specs.Orders.{ids_in_order}
+use Rattle.cedar_names.specs.Orders.{id_text_order}
 use Rattle.schema_build_text.specs.Rows.{sorted_once}
-use Rattle.schema_build_text.proofs.Grouped.{Below, Rises, rises_sorted}
+use Rattle.schema_build_text.proofs.Grouped.{rises_sorted}
 use Rattle.schema_build_text.proofs.Named.{same_lists}
-use Rattle.schema_build_text.proofs.Rowed.{in_order_is, sorted_map, ids_cmp}
+use Rattle.schema_build_text.proofs.Rowed.{in_order_is, sorted_map}
 use Rattle.schema_build_recovered.specs.Places.{words_of}
 use Rattle.schema_build_recovered.specs.contracts.names.NamespaceOrd.TheImpl as ordered
 use Rattle.schema_build_recovered.specs.declared.names.Namespace.{Namespace}
 use Rattle.schema_build_recovered.specs.declared.names.Words.{Words}
 use Rattle.schema_build_recovered.specs.declared.names.Words.TheVariants as lent
-use Rattle.schema_build_recovered.proofs.Several.{names_total}
 
 abbrev C : List (List ℕ) → List (List ℕ) → Ordering
 C = slice_cmp text_cmp
 
-all_below : (n : List (List ℕ)) (ns : List (List (List ℕ))) → Below names_total n ns
-    → AllByRecursion (λ m. C n m ≡ Less) ns
-all_below n [] b = tt
-all_below n (m ∷ ns) b = (b.0, all_below n ns b.1)
-
-sorted : (ns : List (List (List ℕ))) → Rises names_total ns → IsStrictlySortedBy C ns
-unfolding IsStrictlySortedBy
-sorted [] r = tt
-sorted (n ∷ ns) r = (all_below n ns r.0, sorted ns r.1)
-
 -- namespaces in order rise
 pub in_order_rises : (ns : List (List (List ℕ))) → IsStrictlySortedBy C (in_order ns)
 in_order_rises ns =
-    subst (IsStrictlySortedBy C) (sym (in_order_is ns)) (sorted (sorted_once C ns) (rises_sorted names_total ns))
+    subst (IsStrictlySortedBy C) (sym (in_order_is ns)) (rises_sorted texts_total ns)
 
 -- what is sorted by an order that goes by the words
 pub sorted_by_words : {X : Type 0} (key : X → List (List ℕ)) (D : X → X → Ordering)
@@ -67,4 +56,4 @@ by_words a b = by a.words b.words a.unreserved b.unreserved
     by lent.Empty (lent.Some g ps) h k = refl
     by (lent.Some f os) lent.Empty h k = refl
     by (lent.Some f os) (lent.Some g ps) h k =
-        ids_cmp ids_in_order (λ x y. refl) (f.now ∷ os.now) (g.now ∷ ps.now)
+        ids_cmp id_text_order (λ x y. refl) (f.now ∷ os.now) (g.now ∷ ps.now)

@@ -13,12 +13,11 @@ use Rattle.schema_build_types.specs.declared.types.Type.TheVariants as built
 use Rattle.schema_build_types.specs.Content.{TypeContent, type_content, attributes_content, names_content}
 use Rattle.schema_build_types.specs.Content as said
 use Rattle.schema_build_types.specs.Lacks.{type_lacks, attribute_lacks}
+use Rattle.schema_build_types.proofs.Contents.{any_bool_says, long_says, string_says, unknown_says, set_says}
+use Rattle.schema_build_types.proofs.Contents.{record_says, entity_says, extension_says}
 use Rattle.schema_build_text.specs.Readings.{plain_type}
 use Rattle.schema_build_recovered.specs.Recovered.{IsRecoveredType}
 use Rattle.schema_build_recovered.specs.Refusals.{IsFirstLack}
-use Rattle.schema_build_text.proofs.Layers.{any_bool_says, long_says, string_says}
-use Rattle.schema_build_text.proofs.Layers.{unknown_says, set_says, record_says, entity_says}
-use Rattle.schema_build_text.proofs.Layers.{extension_says}
 
 -- what holds of what a type says
 pub says_so : (P : TypeContent → Type 0) (t v : «Type») (s : TypeContent) → t ≡ v → type_content v ≡ s → P s

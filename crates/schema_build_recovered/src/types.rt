@@ -13,7 +13,7 @@ ghost use Rattle.schema_build_recovered.specs.Refusals.{IsSeveral, IsFirstLack};
 
 use crate::names::written_name;
 use cedar_data::{Boxed, CloneIn, Map, NonEmpty, Text};
-use cedar_identifiers::name_laws::declared_names_go_by_components;
+use cedar_identifiers::laws::declared_names_go_by_components;
 use cedar_identifiers::{Annotations, Name, RawName};
 use schema_build_errors::RecoveryError;
 use schema_build_types::Type as BuiltType;

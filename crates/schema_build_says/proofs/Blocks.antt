@@ -8,14 +8,16 @@ use Rattle.std.specs.Option.{option_or}
 use Rattle.std.specs.Ordering.{is_eq}
 use Rattle.std.specs.declared.cmp.Ordering.{Ordering}
 use Rattle.std.specs.declared.cmp.Ordering.TheVariants.{Equal}
+use Rattle.std.proofs.lemmas.Option.{same_Some}
 use Rattle.cedar_data.specs.Text.{text_cmp}
+use Rattle.cedar_data.proofs.Orders.{text_total, text_exact, equal_from}
 use Rattle.cedar_identifiers.specs.declared.name.Name.{Name}
 use Rattle.cedar_identifiers.specs.declared.raw_name.RawName.{RawName}
 use Rattle.cedar_names.specs.CanonicalText.{namespaces}
 use Rattle.cedar_names.specs.Meaning.{SchemaMeaning}
 use Rattle.schema_json.specs.declared.fragment.Fragment.{Fragment}
 use Rattle.schema_json.specs.declared.fragment.NamespaceDefinition.{NamespaceDefinition}
-use Rattle.schema_convert_types.specs.Declarations.{as_written}
+use Rattle.schema_json.specs.AsWritten.{as_written}
 use Rattle.schema_readback.specs.Meant.{name_or_none, groups_of_meaning}
 use Rattle.schema_readback.specs.PrintedDecls.{group_items}
 use Rattle.schema_readback.specs.Written.{WrittenDecl, WrittenDeclared, WrittenItem}
@@ -23,8 +25,7 @@ use Rattle.schema_says.specs.Entries.{FoundSays, EntriesSay, last_written}
 use Rattle.schema_says.specs.FragmentsSay.{by_names, WrittenNamespace, NamespaceSays, NamespaceName, namespace_order}
 use Rattle.schema_says.specs.FragmentsSay.{name_components, written_in, FragmentSays}
 use Rattle.schema_says.specs.MeantNamespaces.{meant_in_namespace, IsOfMeaning}
-use Rattle.schema_says.proofs.Maps.{is_equal}
-use Rattle.schema_says.proofs.Orders.{text_total, text_exact, namespace_total, namespace_exact}
+use Rattle.schema_says.proofs.Orders.{namespace_total, namespace_exact}
 use Rattle.schema_build_says.proofs.Members.{IsIn, in_map, map_to, in_flat, flat_to, found_there}
 
 -- what is found says something that is written
@@ -51,16 +52,13 @@ lookup_in order name [] n v h = absurd (true≢false (sym (ap is_some h)))
 lookup_in {K} {N} {V} order name (d ∷ es) n v h =
     by (is_at (order n) (name d.0)) refl h (lookup_in order name es n v)
   where
-    some_same : (a b : V) → Some a ≡ Some b → a ≡ b
-    some_same a b p = cc
-
     by : (b : Bool) → is_at (order n) (name d.0) ≡ b
         → cond b (Some d.1) (lookup (λ k. is_at (order n) (name k)) es) ≡ Some v
         → (lookup (λ k. is_at (order n) (name k)) es ≡ Some v
         → (k : K) × IsIn (let p : K × V = (k, v) in p) es × (order n (name k) ≡ Equal))
         → (k : K) × IsIn (let p : K × V = (k, v) in p) (d ∷ es) × (order n (name k) ≡ Equal)
     by true t k r =
-        (d.0, inl (pair_same d.0 d.0 v d.1 refl (sym (some_same d.1 v k))), is_equal (order n (name d.0)) t)
+        (d.0, inl (pair_same d.0 d.0 v d.1 refl (sym (same_Some d.1 v k))), equal_from (order n (name d.0)) t)
     by false t k r = let o = r k in (o.0, inr o.1, o.2)
 
 -- what is written last beside a name stands beside it
@@ -69,16 +67,13 @@ last_in : {W : Type 0} (ws : List (List ℕ × W)) (n : List ℕ) (w : W) → la
 last_in [] n w h = absurd (true≢false (sym (ap is_some h)))
 last_in {W} (x ∷ ws) n w h = by (last_in ws n w) (last_written ws n) refl (is_at (text_cmp n) x.0) refl h
   where
-    some_same : (a b : W) → Some a ≡ Some b → a ≡ b
-    some_same a b p = cc
-
     by : (last_written ws n ≡ Some w → IsIn (let p : List ℕ × W = (n, w) in p) ws) → (o : Option W)
         → last_written ws n ≡ o → (b : Bool) → is_at (text_cmp n) x.0 ≡ b
         → option_or o (if b then Some x.1 else None) ≡ Some w
         → ((let p : List ℕ × W = (n, w) in p) ≡ x) ⊎ IsIn (let p : List ℕ × W = (n, w) in p) ws
     by r (Some v) e b t k = inr (r (e ∙ k))
-    by r None e true t k = let same = text_exact n x.0 (is_equal (text_cmp n x.0) t) in let value =
-        some_same x.1 w k in inl (pair_same n x.0 w x.1 same (sym value))
+    by r None e true t k = let same = text_exact n x.0 (equal_from (text_cmp n x.0) t) in let value =
+        same_Some x.1 w k in inl (pair_same n x.0 w x.1 same (sym value))
     by r None e false t k = absurd (true≢false (sym (ap is_some k)))
 
 -- where something is written beside a name, something is written there last

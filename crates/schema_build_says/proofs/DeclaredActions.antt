@@ -9,21 +9,21 @@ use Rattle.cedar_names.specs.Meaning.{EntityMeaning, ActionMeaning, SchemaMeanin
 use Rattle.schema_json.specs.Actions.{action_name}
 use Rattle.schema_json.specs.declared.action_type.ActionType.{ActionType}
 use Rattle.schema_json.specs.declared.fragment.Fragment.{Fragment}
-use Rattle.schema_convert_types.specs.Declarations.{as_written}
+use Rattle.schema_json.specs.AsWritten.{as_written}
 use Rattle.schema_readback.specs.Meant.{entity_as, action_as, entity_of_meaning, action_of_meaning, items_of_meaning}
 use Rattle.schema_readback.specs.Meant.{name_or_none, groups_of_meaning}
 use Rattle.schema_readback.specs.PrintedDecls.{IsSome, group_items}
 use Rattle.schema_readback.specs.Written.{WrittenDeclared}
-use Rattle.schema_resolve_definitions.specs.Declarations.{action_type}
-use Rattle.schema_build_hierarchy.specs.Declarations.{action_in, action_key, actions_of, declared_actions}
-use Rattle.schema_build.specs.Meaning.{key_of}
 use Rattle.schema_says.specs.DeclarationsSay.{AppliesSay, ActionSays}
 use Rattle.schema_says.specs.FragmentsSay.{actions_of_decl, WrittenNamespace, NamespaceName, name_components}
 use Rattle.schema_says.specs.FragmentsSay.{written_in, FragmentSays}
 use Rattle.schema_says.specs.MeantNames.{IsActionName, HasOpenNames}
 use Rattle.schema_says.specs.MeantNamespaces.{meant_in_namespace, IsOfMeaning}
-use Rattle.schema_build_says.specs.DeclaredEntries.{DeclaredAction, IsActionEntryOf}
 use Rattle.schema_says.proofs.MeantSayable.{name_back, rebuilt}
+use Rattle.schema_resolve_definitions.specs.Declarations.{action_type}
+use Rattle.schema_build_hierarchy.specs.Declarations.{action_in, action_key, actions_of, declared_actions}
+use Rattle.schema_build.specs.Meaning.{key_of}
+use Rattle.schema_build_says.specs.DeclaredEntries.{DeclaredAction, IsActionEntryOf}
 use Rattle.schema_build_says.proofs.Blocks.{Block, IsBlockOf, block_of, block_there, entry_says, entry_there}
 use Rattle.schema_build_says.proofs.DeclaredEntities.{item_cases, action_item, action_space, some_in, texts_behind}
 use Rattle.schema_build_says.proofs.Members.{IsIn, in_from, in_to, in_map, map_to, in_flat, flat_to, all_in}

@@ -6,10 +6,8 @@ use Rattle.std.specs.Cmp.Lexicographic.{slice_cmp}
 use Rattle.std.specs.Ordering.{match_ordering}
 use Rattle.std.specs.declared.cmp.Ordering.{Ordering}
 use Rattle.std.specs.declared.cmp.Ordering.TheVariants.{Less, Equal, Greater}
-use Rattle.std.specs.Str.{bytes_eq}
-use Rattle.std.proofs.lemmas.Bool.{and_from}
-use Rattle.std.proofs.lemmas.Slice.Eq.{bytes_eq-Decides}
 use Rattle.cedar_data.specs.Text.{text_cmp}
+use Rattle.cedar_data.proofs.Orders.{texts_exact}
 use Rattle.cedar_identifiers.specs.Names.{components_of, texts_of}
 use Rattle.cedar_identifiers.specs.declared.id.Id.{Id}
 use Rattle.cedar_identifiers.specs.declared.name.Name.{Name}
@@ -18,23 +16,23 @@ use Rattle.cedar_identifiers.specs.declared.unreserved_id.UnreservedId.{Unreserv
 use Rattle.cedar_names.specs.CanonicalText.{basename, namespace, in_order, namespaces}
 use Rattle.cedar_names.specs.Definitions.{same_name}
 use Rattle.cedar_names.specs.Meaning.{EntityMeaning, ActionMeaning, SchemaMeaning}
+use Rattle.cedar_names.proofs.Defined.{name_itself}
 use Rattle.schema_json.specs.declared.entity_type.EntityType.{EntityType}
 use Rattle.schema_json.specs.declared.fragment.Fragment.{Fragment}
-use Rattle.schema_convert_types.specs.Declarations.{as_written}
+use Rattle.schema_json.specs.AsWritten.{as_written}
 use Rattle.schema_readback.specs.Meant.{entity_as, action_as, entity_of_meaning, action_of_meaning, items_of_meaning}
 use Rattle.schema_readback.specs.Meant.{name_or_none, groups_of_meaning}
 use Rattle.schema_readback.specs.PrintedDecls.{IsSome, group_items}
 use Rattle.schema_readback.specs.Written.{WrittenDeclared}
-use Rattle.schema_build_hierarchy.specs.Declarations.{DeclaredEntity, entity_in, entity_name, entities_of}
-use Rattle.schema_build_hierarchy.specs.Declarations.{declared_entities}
 use Rattle.schema_says.specs.DeclarationsSay.{KindSays, EntitySays}
 use Rattle.schema_says.specs.FragmentsSay.{entities_of_decl, WrittenNamespace, NamespaceName, name_components}
 use Rattle.schema_says.specs.FragmentsSay.{written_in, FragmentSays}
 use Rattle.schema_says.specs.MeantNames.{IsOpenName, HasOpenNames}
 use Rattle.schema_says.specs.MeantNamespaces.{meant_in_namespace, IsOfMeaning}
-use Rattle.schema_build_says.specs.DeclaredEntries.{IsEntryOf}
 use Rattle.schema_says.proofs.MeantSayable.{equal_names, name_back, rebuilt}
-use Rattle.schema_says.proofs.Orders.{components_exact}
+use Rattle.schema_build_hierarchy.specs.Declarations.{DeclaredEntity, entity_in, entity_name, entities_of}
+use Rattle.schema_build_hierarchy.specs.Declarations.{declared_entities}
+use Rattle.schema_build_says.specs.DeclaredEntries.{IsEntryOf}
 use Rattle.schema_build_says.proofs.Blocks.{Block, IsBlockOf, block_of, block_there, entry_says, entry_there}
 use Rattle.schema_build_says.proofs.Members.{IsIn, in_from, in_to, in_append, left_to, right_to, in_map, map_to}
 use Rattle.schema_build_says.proofs.Members.{in_flat, flat_to, in_filter, filter_to, all_in}
@@ -80,11 +78,6 @@ item_cases m q w h =
         let f = in_filter (λ (a : ActionMeaning). same_name q (namespace a.ty)) m.actions o.0 o.1 in
         inr (o.0, f.0, sym (equal_names q (namespace o.0.ty) f.1), o.2)
 
-pub name_itself : (n : List (List ℕ)) → same_name n n ≡ true
-name_itself [] = refl
-name_itself (x ∷ xs) =
-    and_from (bytes_eq x x) (same_name xs xs) ((bytes_eq-Decides x x).1 refl) (name_itself xs)
-
 -- each is an item of its namespace
 pub entity_item : (m : SchemaMeaning) (e : EntityMeaning) → IsIn e m.entities
     → IsIn (entity_of_meaning e) (items_of_meaning m (namespace e.name))
@@ -119,7 +112,7 @@ put_here (x ∷ ns) n = by (slice_cmp text_cmp n x) refl (put_here ns n)
     by : (c : Ordering) → slice_cmp text_cmp n x ≡ c → IsIn n (insert_key (slice_cmp text_cmp) ns n)
         → IsIn n (match_ordering c (n ∷ x ∷ ns) (x ∷ ns) (x ∷ insert_key (slice_cmp text_cmp) ns n))
     by Less e r = inl refl
-    by Equal e r = inl (components_exact n x e)
+    by Equal e r = inl (texts_exact n x e)
     by Greater e r = inr r
 
 put_behind : (ns : List (List (List ℕ))) (n p : List (List ℕ)) → IsIn p ns

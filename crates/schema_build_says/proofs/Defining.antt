@@ -1,13 +1,11 @@
 -- What a fragment defines that declares just what a meaning has.
-use Rattle.std.proofs.Common.{◌≡◌, ◌⊎◌, inl, inr, ℕ, Bool, true, false, ◌||◌, List, [], ◌∷◌, ◌++◌, codes, map, flat_map}
+use Rattle.std.proofs.Common.{◌≡◌, ◌⊎◌, inl, inr, ℕ, Bool, true, false, List, [], ◌∷◌, ◌++◌, codes, map, flat_map}
 use Rattle.std.proofs.Common.{Option, Some, None, refl, sym, ap, ◌∙◌, subst, true≢false, is_some, if◌then◌else◌}
 use Rattle.std.specs.Prelude.{slice_get}
-use Rattle.std.specs.Cmp.{first_so, second_so}
 use Rattle.std.specs.Str.{bytes_eq, encode_utf8_all}
-use Rattle.std.proofs.lemmas.Bool.{or_cases, and_from}
+use Rattle.std.proofs.lemmas.Bool.{or_cases, and_from, or_left, or_right}
 use Rattle.std.proofs.lemmas.List.{map-append}
 use Rattle.std.proofs.lemmas.Slice.Eq.{bytes_eq-Decides}
-use Rattle.std.proofs.lemmas.Str.{encodes_same}
 use Rattle.cedar_data.specs.Maps.{map_of}
 use Rattle.cedar_identifiers.specs.Names.{components_of}
 use Rattle.cedar_identifiers.specs.declared.name.Name.{Name}
@@ -17,24 +15,27 @@ use Rattle.cedar_names.specs.Definitions.{among, same_name, among_actions, same_
 use Rattle.cedar_names.specs.Meaning.{EntityMeaning, ActionMeaning, SchemaMeaning}
 use Rattle.cedar_names.specs.Orders.{names_in_order}
 use Rattle.cedar_names.specs.declared.extension_table.ExtensionTable.{ExtensionTable}
+use Rattle.cedar_names.proofs.Defined.{name_itself}
 use Rattle.schema_json.specs.declared.entity_type.EntityType.{EntityType}
 use Rattle.schema_json.specs.declared.action_type.ActionType.{ActionType}
 use Rattle.schema_json.specs.declared.fragment.Fragment.{Fragment}
-use Rattle.schema_convert_types.specs.Declarations.{as_written}
-use Rattle.schema_resolve_definitions.specs.Declarations.{declared, declared_name, action_type, commons_in, entities_in}
+use Rattle.schema_json.specs.AsWritten.{as_written}
+use Rattle.schema_says.proofs.MeantSayable.{equal_names}
+use Rattle.schema_resolve_definitions.specs.Declarations.{declared, declared_name, action_type, commons_in}
+use Rattle.schema_resolve_definitions.specs.Declarations.{entities_in}
 use Rattle.schema_resolve_definitions.specs.Declarations.{actions_in}
 use Rattle.schema_resolve_definitions.specs.Defined.{defined, builtins, is_hidden, names_of_builtin, names_of_builtins}
 use Rattle.schema_resolve_definitions.specs.Tests.{Tests, tests_of}
 use Rattle.schema_build_expand.specs.Scope.{IsUndeclared}
-use Rattle.schema_build_scope.specs.Commons.{common_entry, declared_commons}
+use Rattle.schema_build_scope.specs.Commons.{full_common_entry, declared_commons}
 use Rattle.schema_build_scope.specs.FragmentScope.{fragment_scope, declaration}
-use Rattle.schema_build_hierarchy.specs.Declarations.{entity_in, entity_name, entities_of, declared_entities, action_in}
+use Rattle.schema_build_hierarchy.specs.Declarations.{entity_in, entity_name, entities_of, declared_entities}
+use Rattle.schema_build_hierarchy.specs.Declarations.{action_in}
 use Rattle.schema_build_hierarchy.specs.Declarations.{action_key, actions_of, declared_actions}
+use Rattle.schema_build_hierarchy.proofs.ParentsDeclared.{name_at, same_actions}
 use Rattle.schema_build.specs.Meaning.{key_of}
 use Rattle.schema_build_says.specs.DeclaredEntries.{DeclaresJust}
-use Rattle.schema_says.proofs.MeantSayable.{equal_names}
 use Rattle.schema_build_says.proofs.Blocks.{Block}
-use Rattle.schema_build_says.proofs.DeclaredEntities.{name_itself}
 use Rattle.schema_build_says.proofs.Members.{IsIn, in_from, in_to, in_append, left_to, right_to, in_map, map_to}
 use Rattle.schema_build_says.proofs.Members.{in_flat, flat_to, flat_nothing}
 
@@ -42,25 +43,13 @@ use Rattle.schema_build_says.proofs.Members.{in_flat, flat_to, flat_nothing}
 abbrev pub Key : Type 0
 Key = List (List ℕ) × List ℕ
 
-pub or_left : (x y : Bool) → x ≡ true → (x || y) ≡ true
-or_left true y h = refl
-or_left false y h = absurd (true≢false (sym h))
-
-pub or_right : (x y : Bool) → y ≡ true → (x || y) ≡ true
-or_right true y h = refl
-or_right false y h = h
-
-pub not_true : (b : Bool) → (b ≡ true → ⊥) → b ≡ false
-not_true true h = absurd (h refl)
-not_true false h = refl
-
-among_from : (names : List (List (List ℕ))) (n : List (List ℕ)) → IsIn n names → among names n ≡ true
+pub among_from : (names : List (List (List ℕ))) (n : List (List ℕ)) → IsIn n names → among names n ≡ true
 among_from [] n h = absurd h
 among_from (x ∷ xs) n (inl e) =
     or_left (same_name n x) (among xs n) (ap (same_name n) (sym e) ∙ name_itself n)
 among_from (x ∷ xs) n (inr h) = or_right (same_name n x) (among xs n) (among_from xs n h)
 
-among_to : (names : List (List (List ℕ))) (n : List (List ℕ)) → among names n ≡ true → IsIn n names
+pub among_to : (names : List (List (List ℕ))) (n : List (List ℕ)) → among names n ≡ true → IsIn n names
 among_to [] n h = absurd (true≢false (sym h))
 among_to (x ∷ xs) n h = by (or_cases (same_name n x) (among xs n) h) (among_to xs n)
   where
@@ -71,15 +60,6 @@ among_to (x ∷ xs) n h = by (or_cases (same_name n x) (among xs n) h) (among_to
 same_itself : (a : Key) → same_action a a ≡ true
 same_itself a = and_from (same_name a.0 a.0) (bytes_eq (encode_utf8_all a.1) (encode_utf8_all a.1)) (name_itself a.0)
     ((bytes_eq-Decides (encode_utf8_all a.1) (encode_utf8_all a.1)).1 refl)
-
-same_key : (a b : Key) → same_action a b ≡ true → a ≡ b
-same_key a b h =
-    let ty : a.0 ≡ b.0 = equal_names a.0 b.0
-    (first_so (same_name a.0 b.0) (bytes_eq (encode_utf8_all a.1) (encode_utf8_all b.1)) h) in
-    let bytes = (bytes_eq-Decides (encode_utf8_all a.1) (encode_utf8_all b.1)).0
-    (second_so (same_name a.0 b.0) (bytes_eq (encode_utf8_all a.1) (encode_utf8_all b.1)) h) in
-    let id : a.1 ≡ b.1 = encodes_same a.1 b.1 bytes in
-    λ i. (ty i, id i)
 
 actions_from : (actions : List Key) (a : Key) → IsIn a actions → among_actions actions a ≡ true
 actions_from [] a h = absurd h
@@ -93,11 +73,11 @@ actions_to (x ∷ xs) a h = by (or_cases (same_action a x) (among_actions xs a) 
   where
     by : (same_action a x ≡ true) ⊎ (among_actions xs a ≡ true) → (among_actions xs a ≡ true → IsIn a xs)
         → (a ≡ x) ⊎ IsIn a xs
-    by (inl k) r = inl (same_key a x k)
+    by (inl k) r = inl (same_actions a x k)
     by (inr k) r = inr (r k)
 
 -- what is given of a list is seen of what is given
-flat_mapped : {A B C : Type 0} (f : A → List C) (h : B → C) (k : A → List B) → ((x : A) → f x ≡ map h (k x))
+pub flat_mapped : {A B C : Type 0} (f : A → List C) (h : B → C) (k : A → List B) → ((x : A) → f x ≡ map h (k x))
     → (xs : List A) → flat_map f xs ≡ map h (flat_map k xs)
 flat_mapped f h k same [] = refl
 flat_mapped f h k same (x ∷ xs) =
@@ -105,12 +85,7 @@ flat_mapped f h k same (x ∷ xs) =
     let others = flat_mapped f h k same xs in
     (λ i. first i ++ others i) ∙ sym (map-append h (k x) (flat_map k xs))
 
-name_at : (ns : Option Name) (e : UnreservedId × EntityType RawName)
-    → components_of (declared_name ns e.0.id) ≡ entity_name (entity_in ns e)
-name_at None e = refl
-name_at (Some n) e = refl
-
-names_at : (ns : Option Name) (es : List (UnreservedId × EntityType RawName))
+pub names_at : (ns : Option Name) (es : List (UnreservedId × EntityType RawName))
     → map (λ (e : UnreservedId × EntityType RawName). components_of (declared_name ns e.0.id)) es
     ≡ map entity_name (map (entity_in ns) es)
 names_at ns [] = refl
@@ -149,8 +124,8 @@ module _ (m : SchemaMeaning) (g : Fragment RawName as_written) (just : DeclaresJ
       (λ e h. ap (map (λ x. components_of (declared_name e.0 x.0.id.id))) (just.no_commons e (in_to g.0 e h)))
 
   pub none_common : declared_commons g ≡ []
-  none_common = flat_nothing (λ (e : Block). map (common_entry e.0) e.1.common_types) g.0
-      (λ e h. ap (map (common_entry e.0)) (just.no_commons e (in_to g.0 e h)))
+  none_common = flat_nothing (λ (e : Block). map (full_common_entry e.0) e.1.common_types) g.0
+      (λ e h. ap (map (full_common_entry e.0)) (just.no_commons e (in_to g.0 e h)))
 
   pub entity_named : (n : List (List ℕ)) → IsIn n (declared g).entities → IsEntityName m n
   entity_named n h =

@@ -1,9 +1,11 @@
 -- What says what is written of the entry of an entity type or of an action means it.
-use Rattle.std.proofs.Common.{◌≡◌, ℕ, zero, suc, Bool, true, false, List, [], ◌∷◌, map, Option, Some, None, refl, sym}
-use Rattle.std.proofs.Common.{ap, ◌∙◌, subst, arith, Contains}
+use Rattle.std.proofs.Common.{◌≡◌, ℕ, Bool, true, false, List, [], ◌∷◌, Option, Some, None, refl, sym}
+use Rattle.std.proofs.Common.{ap, ◌∙◌, subst, Contains}
 use Rattle.std.specs.List.{AllByRecursion}
 use Rattle.std.specs.List.Sorted.{IsStrictlySortedBy}
+use Rattle.std.proofs.lemmas.Option.{same_Some}
 use Rattle.cedar_data.specs.Text.{text_cmp}
+use Rattle.cedar_data.proofs.Lists.{contains_map, contains_unmap}
 use Rattle.cedar_identifiers.specs.Names.{components_of}
 use Rattle.cedar_identifiers.specs.declared.internal_name.InternalName.{InternalName}
 use Rattle.cedar_identifiers.specs.declared.name.Name.{Name}
@@ -14,18 +16,19 @@ use Rattle.schema_json.specs.declared.entity_type.EntityTypeKind.{EntityTypeKind
 use Rattle.schema_json.specs.declared.entity_type.EntityTypeKind.TheVariants.{Standard, Enum}
 use Rattle.schema_json.specs.declared.action_type.ActionEntityUID.{ActionEntityUID}
 use Rattle.schema_json.specs.declared.action_type.ApplySpec.{ApplySpec}
-use Rattle.schema_convert_types.specs.Declarations.{as_written}
+use Rattle.schema_json.specs.AsWritten.{as_written}
 use Rattle.schema_readback.specs.Meant.{tags_of_meaning, entity_as, members_of_meaning, action_as}
+use Rattle.schema_says.specs.DeclarationsSay.{written_paths, TagsSay, KindSays, SpecSays, members_said, AppliesSay}
 use Rattle.schema_resolve_definitions.specs.Declarations.{name_of}
 use Rattle.schema_resolve_definitions.specs.Tests.{Tests}
-use Rattle.schema_build.specs.Meaning.{kind_meaning, apply_meaning}
 use Rattle.schema_build_expand.specs.Expands.{Expands}
 use Rattle.schema_build_expand.specs.Scope.{Scope}
 use Rattle.schema_build_items.specs.ActionKinds.{components_cmp, AreJust, IsMeantByOne, IsApplyMeaning}
 use Rattle.schema_build_items.specs.Kinds.{TagsExpand, IsKindMeaning}
-use Rattle.schema_says.specs.DeclarationsSay.{written_paths, TagsSay, KindSays, SpecSays, members_said, AppliesSay}
+use Rattle.schema_build.specs.Meaning.{kind_meaning, apply_meaning}
 use Rattle.schema_build_closed.specs.Kinds.{HasItsParts, HasBothOrNeither, AppliesWhereOwn}
 use Rattle.schema_build_closed.specs.Ordered.{IsOrderedType}
+use Rattle.schema_build_closed.proofs.Lists.{each_has}
 use Rattle.schema_build_says.specs.Themselves.{MeansItself}
 use Rattle.schema_build_says.specs.Entries.{TagsMeanThemselves, EntityMeansItself, IsFoundAs, ActionMeansItself}
 use Rattle.schema_build_says.proofs.Expanding.{type_expands}
@@ -77,26 +80,6 @@ pub entity_means : (s : Scope RawName) (ns : Option InternalName) (x : Bool) (k 
     → (x ≡ e.is_external) × IsKindMeaning s ns k (kind_meaning e)
 entity_means s ns x k e h m = kind_means s ns e x k e.is_external e.choices h m.parts m.ordered m.attributes m.tags
 
--- members of lists
-map_in : {A B : Type 0} (f : A → B) (xs : List A) (x : A) → Contains xs x → Contains (map f xs) (f x)
-map_in f [] x (k, lt, e) = absurd (omega arith)
-map_in f (y ∷ ys) x (zero, lt, e) = (zero, omega arith, ap f e)
-map_in f (y ∷ ys) x (suc k, lt, e) = let r = map_in f ys x (k, omega arith, e) in (suc r.0, omega arith, r.2)
-
-in_map : {A B : Type 0} (f : A → B) (xs : List A) (y : B) → Contains (map f xs) y → (x : A) × Contains xs x × (f x ≡ y)
-in_map f [] y (k, lt, e) = absurd (omega arith)
-in_map f (x ∷ xs) y (zero, lt, e) = (x, (zero, omega arith, refl), e)
-in_map f (x ∷ xs) y (suc k, lt, e) = let r = in_map f xs y (k, omega arith, e) in
-    (r.0, (suc r.1.0, omega arith, r.1.2), r.2)
-
-all_has : {A : Type 0} (P : A → Type 0) (xs : List A) (x : A) → AllByRecursion P xs → Contains xs x → P x
-all_has P [] x h (k, lt, e) = absurd (omega arith)
-all_has P (y ∷ ys) x h (zero, lt, e) = subst P e h.0
-all_has P (y ∷ ys) x h (suc k, lt, e) = all_has P ys x h.1 (k, omega arith, e)
-
-some_same : (a b : List (List ℕ)) → Some a ≡ Some b → a ≡ b
-some_same a b p = cc
-
 module _ (t : Tests) (ns : Option Name) where
   -- the names that are written are just those that are meant
   just_these : (names : List RawName) (targets : List (List (List ℕ))) → written_paths names ≡ targets
@@ -106,16 +89,16 @@ module _ (t : Tests) (ns : Option Name) where
     rising = up;
     just = λ target. (
       λ h.
-          let found = in_map (λ (n : RawName). components_of n.name) names target
+          let found = contains_unmap (λ (n : RawName). components_of n.name) names target
           (subst (λ l. Contains l target) (sym e) h) in
-          (found.0, found.1, all_has (IsFoundAs t ns) targets target all h found.0 found.2),
+          (found.0, found.1, each_has (IsFoundAs t ns) targets target all h found.0 found.2),
       λ h.
           let there : Contains targets (components_of h.0.name) =
           subst (λ l. Contains l (components_of h.0.name)) e
-          (map_in (λ (n : RawName). components_of n.name) names h.0 h.1) in
+          (contains_map (λ (n : RawName). components_of n.name) names h.0 h.1) in
           let same : components_of h.0.name ≡ target =
-          some_same (components_of h.0.name) target
-          (sym (all_has (IsFoundAs t ns) targets (components_of h.0.name) all there h.0 refl) ∙ h.2) in
+          same_Some (components_of h.0.name) target
+          (sym (each_has (IsFoundAs t ns) targets (components_of h.0.name) all there h.0 refl) ∙ h.2) in
           subst (Contains targets) same there,
     );
   }

@@ -10,56 +10,28 @@ use Rattle.std.specs.Ordering.{is_eq, ordering_reverse}
 use Rattle.std.specs.declared.cmp.Ordering.{Ordering}
 use Rattle.std.specs.declared.cmp.Ordering.TheVariants.{Less, Equal, Greater}
 use Rattle.std.proofs.lemmas.Map.Keys.{sorted_head, sorted_tail}
-use Rattle.cedar_data.specs.Span.{Span}
+use Rattle.std.proofs.lemmas.Option.{same_Some}
 use Rattle.cedar_data.specs.Text.{text_cmp}
+use Rattle.cedar_data.proofs.Orders.{text_total, text_exact, equal_from}
 use Rattle.cedar_identifiers.specs.declared.internal_name.InternalName.{InternalName}
 use Rattle.cedar_identifiers.specs.declared.raw_name.RawName.{RawName}
 use Rattle.cedar_identifiers.specs.declared.reference_type.ReferenceType.TheVariants.{CommonOrEntity}
 use Rattle.cedar_names.specs.Meaning.{PlainType, Attributes}
 use Rattle.cedar_names.specs.Meaning as m
-use Rattle.schema_json.specs.Shapes.{attributes_of, is_open}
-use Rattle.schema_json.specs.declared.types.Type.{«Type», Type-F, out-roll-Type}
-use Rattle.schema_json.specs.declared.types.Type.TheVariants as shape
-use Rattle.schema_json.specs.declared.types.TypeVariant.{TypeVariant, TypeVariant-F, out-TypeVariant}
-use Rattle.schema_json.specs.declared.types.TypeVariant.{out-roll-TypeVariant}
-use Rattle.schema_json.specs.declared.types.TypeVariant.TheVariants as variant
-use Rattle.schema_json.specs.declared.types.RecordType.{RecordType}
+use Rattle.schema_json.specs.Shapes.{attributes_of}
+use Rattle.schema_json.specs.declared.types.Type.{«Type»}
 use Rattle.schema_json.specs.declared.types.TypeOfAttribute.{TypeOfAttribute, out-TypeOfAttribute}
 use Rattle.schema_readback.specs.Meant.{under_cedar, type_of_meaning, attributes_of_meaning}
 use Rattle.schema_readback.specs.Written.{WrittenType}
-use Rattle.schema_build_expand.specs.Expands.{Expands, by_layer, LayerExpands, to_set, to_record, to_entity, to_builtin}
+use Rattle.schema_says.specs.TypesSay.{TypeSays, AttributeSays, ByTest, has_attribute, is_last_attribute}
+use Rattle.schema_build_expand.specs.Expands.{Expands, by_layer, LayerExpands, to_set, to_record, to_entity}
+use Rattle.schema_build_expand.specs.Expands.{to_builtin}
 use Rattle.schema_build_expand.specs.Expands.{ExpandAll, to_no_attributes, to_attribute}
 use Rattle.schema_build_expand.specs.Scope.{Scope, builtin}
-use Rattle.schema_build_expand.specs.View.{View, set_layer, record_layer, reference_layer, shape_view, outer_view, view}
-use Rattle.schema_says.specs.TypesSay.{TypeSays, AttributeSays, ByTest, has_attribute, is_last_attribute}
-use Rattle.schema_says.proofs.Maps.{is_equal}
-use Rattle.schema_says.proofs.Orders.{text_total, text_exact}
+use Rattle.schema_build_expand.specs.View.{View, set_layer, record_layer, reference_layer, view}
 use Rattle.schema_build_closed.specs.Ordered.{meant_names, IsOrderedType, AreOrderedTypes}
+use Rattle.schema_build_closed.proofs.Views.{reference_viewed, set_viewed, record_viewed}
 use Rattle.schema_build_says.specs.Themselves.{MeansBuiltin, MeansItself, MeanThemselves}
-
--- views of types
-shape_viewed : (v : TypeVariant RawName)
-    (o : TypeVariant-F RawName («Type» RawName) (TypeVariant RawName) (RecordType RawName) (TypeOfAttribute RawName))
-    (loc : Option Span)
-    → out-TypeVariant RawName v ≡ o → view (shape.Variant v loc) ≡ shape_view o
-shape_viewed v o loc e = ap view (sym (shape.rolls-Variant v loc))
-    ∙ (ap outer_view (out-roll-Type RawName (Type-F.Variant v loc)) ∙ ap shape_view e)
-
-reference_viewed : (t : «Type» RawName) (n : RawName) (loc : Option Span)
-    → t ≡ shape.Variant (variant.EntityOrCommon n) loc → view t ≡ reference_layer CommonOrEntity n
-reference_viewed t n loc e = ap view e ∙ shape_viewed (variant.EntityOrCommon n) (TypeVariant-F.EntityOrCommon n) loc
-    (ap (out-TypeVariant RawName) (sym (variant.rolls-EntityOrCommon n))
-    ∙ out-roll-TypeVariant RawName (TypeVariant-F.EntityOrCommon n))
-
-set_viewed : (t x : «Type» RawName) (loc : Option Span) → t ≡ shape.Variant (variant.Set x) loc → view t ≡ set_layer x
-set_viewed t x loc e = ap view e ∙ shape_viewed (variant.Set x) (TypeVariant-F.Set x) loc
-    (ap (out-TypeVariant RawName) (sym (variant.rolls-Set x)) ∙ out-roll-TypeVariant RawName (TypeVariant-F.Set x))
-
-record_viewed : (t : «Type» RawName) (r : RecordType RawName) (loc : Option Span)
-    → t ≡ shape.Variant (variant.Record r) loc → view t ≡ record_layer (is_open r) (attributes_of r)
-record_viewed t r loc e = ap view e ∙ shape_viewed (variant.Record r) (TypeVariant-F.Record r) loc
-    (ap (out-TypeVariant RawName) (sym (variant.rolls-Record r))
-    ∙ out-roll-TypeVariant RawName (TypeVariant-F.Record r))
 
 -- the one or the other of two, where the test is known
 first_of : (b : Bool) (A B : Type 0) → b ≡ true → ByTest b A B → A
@@ -120,9 +92,6 @@ at_head e es = ap (λ c. cond (is_eq c) (Some e.1) (lookup (is_at (text_cmp e.0)
 pub not_some : {X : Type 0} (a : TypeOfAttribute RawName) → Some a ≡ None → X
 not_some a h = absurd (true≢false (ap is_some h))
 
-pub some_same : (a b : TypeOfAttribute RawName) → Some a ≡ Some b → a ≡ b
-some_same a b h = cc
-
 -- an attribute whose name is less than those behind it
 abbrev pub IsFirst : List ℕ → Bool → WrittenType → Option (TypeOfAttribute RawName) → Type 0
 IsFirst n required t found =
@@ -166,7 +135,7 @@ others_say e es n r t xs same h k says q = by (is_at (text_cmp q) n) refl
     by : (b : Bool) → is_at (text_cmp q) n ≡ b
         → AttributeSays q (lookup (is_at (text_cmp q)) es) (attributes_of_meaning xs)
     by true p =
-        let here : q ≡ n = text_exact q n (is_equal (text_cmp q n) p) in
+        let here : q ≡ n = text_exact q n (equal_from (text_cmp q n) p) in
         let none : lookup (is_at (text_cmp q)) es ≡ None =
         none_found q es (subst (λ x. AreGreater x (keys_of es)) (same ∙ sym here) h) in
         subst (λ o. AttributeSays q o (attributes_of_meaning xs)) (sym none)
@@ -230,7 +199,7 @@ module _ (s : Scope RawName) (ns : Option InternalName) where
         let behind = sorted_head text_cmp n (meant_names xs) names in
         let same = same_first e es n r t xs above behind says in
         let f = first_said n r t xs (lookup (is_at (text_cmp n)) (e ∷ es)) behind (says n) in
-        let is : f.0 ≡ e.1 = some_same f.0 e.1
+        let is : f.0 ≡ e.1 = same_Some f.0 e.1
         (sym f.1 ∙ (ap (λ k. lookup (is_at (text_cmp k)) (e ∷ es)) (sym same) ∙ at_head e es)) in
         let said : TypeSays (out-TypeOfAttribute RawName e.1).ty (type_of_meaning t) =
         subst (λ a. TypeSays (out-TypeOfAttribute RawName a).ty (type_of_meaning t)) is f.2 in

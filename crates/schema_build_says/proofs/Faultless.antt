@@ -1,5 +1,5 @@
 -- A fragment that declares just what a closed meaning has is without a build fault.
-use Rattle.std.proofs.Common.{◌≡◌, ◌<◌, inl, inr, ℕ, Bool, true, false, not, cond, ◌||◌, List, [], ◌∷◌, ◌++◌, codes}
+use Rattle.std.proofs.Common.{◌≡◌, ◌<◌, inl, ℕ, Bool, true, false, not, cond, ◌||◌, List, [], ◌∷◌, ◌++◌, codes}
 use Rattle.std.proofs.Common.{length, map, filter, flat_map, Option, Some, None, is_some, Contains, refl, sym, ap, ◌∙◌}
 use Rattle.std.proofs.Common.{subst, arith, true≢false, if◌then◌else◌}
 use Rattle.std.specs.Option.{option_map, option_to_list}
@@ -7,6 +7,8 @@ use Rattle.std.specs.Str.{bytes_eq}
 use Rattle.std.specs.declared.cmp.Ordering.{Ordering}
 use Rattle.std.proofs.lemmas.List.Elements.{All-contains}
 use Rattle.std.proofs.lemmas.Slice.Eq.{bytes_eq-Decides}
+use Rattle.std.proofs.lemmas.Bool.{false_from_ne_true}
+use Rattle.cedar_data.proofs.Lists.{nothing_is}
 use Rattle.cedar_identifiers.specs.Names.{components_of}
 use Rattle.cedar_identifiers.specs.declared.internal_name.InternalName.{InternalName}
 use Rattle.cedar_identifiers.specs.declared.name.Name.{Name}
@@ -24,10 +26,12 @@ use Rattle.schema_json.specs.declared.entity_type.EntityType.{EntityType}
 use Rattle.schema_json.specs.declared.entity_type.EntityTypeKind.{EntityTypeKind}
 use Rattle.schema_json.specs.declared.entity_type.EntityTypeKind.TheVariants.{Standard, Enum}
 use Rattle.schema_json.specs.declared.fragment.Fragment.{Fragment}
+use Rattle.schema_json.specs.Actions.{action_name}
+use Rattle.schema_json.specs.AsWritten.{as_written}
+use Rattle.schema_readback.specs.Meant.{entity_as}
+use Rattle.schema_says.specs.DeclarationsSay.{KindSays}
 use Rattle.schema_json_walk.specs.Parts.{Part, type_reference, parent, principal, resource, action_parent}
 use Rattle.schema_json_walk.specs.Walk.{each_value, of_common, of_entity, of_action, of_items, of_entry, of_fragment}
-use Rattle.schema_convert_types.specs.Declarations.{as_written}
-use Rattle.schema_readback.specs.Meant.{entity_as}
 use Rattle.schema_resolve_definitions.specs.Declarations.{name_of, declared, action_type}
 use Rattle.schema_resolve_definitions.specs.Defined.{defined}
 use Rattle.schema_resolve_definitions.specs.Tests.{Tests, tests_of}
@@ -40,8 +44,10 @@ use Rattle.schema_build_errors.specs.declared.schema_error.SchemaError.{SchemaEr
 use Rattle.schema_build_errors.specs.declared.schema_error.SchemaError.TheVariants as error
 use Rattle.schema_build_errors.specs.declared.shape_errors.ContextOrShape.{ContextOrShape}
 use Rattle.schema_build_errors.specs.declared.shape_errors.ContextOrShape.TheVariants.{ActionContext, EntityTypeShape}
-use Rattle.schema_json.specs.Actions.{action_name}
-use Rattle.schema_build_checks.specs.DeclaredAt.{at_of, actions_at_in_order, declared_at, called_action, called_actions}
+use Rattle.schema_build_expand.specs.Expands.{Expands, ExpandsOnce}
+use Rattle.schema_build_expand.specs.Scope.{Scope}
+use Rattle.schema_build_checks.specs.DeclaredAt.{at_of, actions_at_in_order, declared_at, called_action}
+use Rattle.schema_build_checks.specs.DeclaredAt.{called_actions}
 use Rattle.schema_build_checks.specs.DeclaredAt.{hiding_common, hiding_entity, hiding_types_in, hiding_types}
 use Rattle.schema_build_checks.specs.DeclaredAt.{hiding_action, hiding_actions_in, hiding_actions}
 use Rattle.schema_build_checks.specs.DeclaredTwice.{ActionTypeDeclared, TypeHides, ActionHides}
@@ -49,11 +55,8 @@ use Rattle.schema_build_checks.specs.Least.{IsFirstLeast}
 use Rattle.schema_build_checks.specs.Refusing.{IsAboutFirst}
 use Rattle.schema_build_checks.specs.Rows.{Never}
 use Rattle.schema_build_checks.specs.WalkFaults.{unknown_extension, unsupported, HasUnknownExtension, HasUnsupported}
-use Rattle.schema_build_expand.specs.Expands.{Expands, ExpandsOnce}
-use Rattle.schema_build_expand.specs.Scope.{Scope}
 use Rattle.schema_build_scope.specs.CycleRow.{HasCommonCycle}
 use Rattle.schema_build_scope.specs.FragmentScope.{fragment_scope}
-use Rattle.schema_build_scope.specs.Rows.{OrElse}
 use Rattle.schema_build_scope.specs.UndefinedRows.{HasUndefinedTypes, HasUndefinedActions}
 use Rattle.schema_build_hierarchy.specs.Declarations.{DeclaredEntity, entity_in, entity_name, entities_of}
 use Rattle.schema_build_hierarchy.specs.Declarations.{declared_entities, action_in, action_key, actions_of}
@@ -62,41 +65,33 @@ use Rattle.schema_build_hierarchy.specs.FirstUses.{IsFirstUse, AreFirstUses}
 use Rattle.schema_build_hierarchy.specs.Parents.{IsAncestor}
 use Rattle.schema_build_hierarchy.specs.Rows.{undeclared_part, undeclared_uses, is_enum, HasUndeclaredEntityTypes}
 use Rattle.schema_build_hierarchy.specs.Rows.{HasActionCycle, HasExternalUnderEnum}
+use Rattle.schema_build_hierarchy.proofs.ActionTypes.{last_behind}
 use Rattle.schema_build_items.specs.ActionKinds.{ApplyMeaning, IsApplyMeaning}
 use Rattle.schema_build_items.specs.Kinds.{KindMeaning, IsKindMeaning}
 use Rattle.schema_build_items.specs.NoRecord.{IsNoRecord, ShapeIsNoRecord, ContextIsNoRecord, IsLeastShape}
 use Rattle.schema_build_items.specs.NoRecord.{IsLeastContext, HasNoRecordShape, HasNoRecordContext}
 use Rattle.schema_build_parts.specs.BuildFaults.{BuildFault}
+use Rattle.schema_build_parts.proofs.Rows.{never_else}
 use Rattle.schema_build.specs.Meaning.{kind_meaning, apply_meaning}
 use Rattle.schema_build_closed.specs.Closed.{IsClosed}
-use Rattle.schema_build_closed.specs.Known.{entity_names, action_names}
-use Rattle.schema_says.specs.DeclarationsSay.{KindSays}
+use Rattle.schema_build_closed.specs.Known.{meant_entities, meant_actions}
 use Rattle.schema_build_says.specs.DeclaredEntries.{IsEntity, DeclaresJust}
 use Rattle.schema_build_says.proofs.Blocks.{Block}
 use Rattle.schema_build_says.proofs.DeclaredEntities.{texts_behind}
-use Rattle.schema_build_says.proofs.Defining.{Key, not_true, own, own_entity, own_common, own_action, is_own_entity}
+use Rattle.schema_build_says.proofs.Defining.{Key, own, own_entity, own_common, own_action, is_own_entity}
 use Rattle.schema_build_says.proofs.Defining.{is_entity_named, none_common}
 use Rattle.schema_build_says.proofs.EntryMeans.{entity_means, action_means}
 use Rattle.schema_build_says.proofs.Meant.{entity_closed, action_closed, key_found, entity_itself, action_itself}
 use Rattle.schema_build_says.proofs.Meant.{ancestor_is, action_ancestor_is}
 use Rattle.schema_build_says.proofs.Members.{IsIn, in_from, in_to, map_to, flat_to, flat_nothing, append_nothing}
-use Rattle.schema_build_says.proofs.Themselves.{last_of, key_there, no_action, apart, not_entity_behind, named_entity}
+use Rattle.schema_build_says.proofs.Themselves.{key_there, no_action, apart, not_entity_behind, named_entity}
 use Rattle.schema_build_says.proofs.Themselves.{found_as}
 use Rattle.schema_build_says.proofs.Walking.{entity_gives, action_gives}
 
-or_else : (A B : SchemaError → Type 0) → Never A → Never B → Never (OrElse A B)
-or_else A B a b e (inl h) = a e h
-or_else A B a b e (inr (n, h)) = b e h
+pub no_least : {A : Type 0} (order : A → A → Ordering) (xs : List A) (x : A) → xs ≡ [] → IsFirstLeast order xs x → ⊥
+no_least order xs x none first = nothing_is first.before x first.behind (sym none ∙ first.among)
 
--- of nothing none is the first
-no_first : {A : Type 0} (before behind : List A) (x : A) → [] ≡ before ++ x ∷ behind → ⊥
-no_first [] behind x e = cc
-no_first (y ∷ before) behind x e = cc
-
-no_least : {A : Type 0} (order : A → A → Ordering) (xs : List A) (x : A) → xs ≡ [] → IsFirstLeast order xs x → ⊥
-no_least order xs x none first = no_first first.before first.behind x (sym none ∙ first.among)
-
-no_about : {U : Type 0} (about : U → SchemaError → Type 0) (us : List U) → us ≡ [] → Never (IsAboutFirst about us)
+pub no_about : {U : Type 0} (about : U → SchemaError → Type 0) (us : List U) → us ≡ [] → Never (IsAboutFirst about us)
 no_about about us none e h = subst (λ l. IsAboutFirst about l e) none h
 
 found_none : {A B U : Type 0} (f : A → B) (o : Option A) (b : B) (u : U) → option_map f o ≡ Some b → unless o u ≡ []
@@ -113,7 +108,7 @@ base_name : (ns : Option Name) (x : UnreservedId × EntityType RawName)
     → basename (entity_name (entity_in ns x)) ≡ x.0.id.text
 base_name None x = refl
 base_name (Some n) x = ap basename (texts_behind (n.name.first ∷ n.name.others) x.0.id)
-    ∙ last_of (components_of n.name) x.0.id.text
+    ∙ last_behind (components_of n.name) x.0.id.text
 
 no_enum_said : (x : Bool) (k : EntityTypeKind RawName) (external : Bool) (choices : Option (List (List ℕ)))
     (e : EntityMeaning) → KindSays x k (entity_as external choices e) → choices ≡ None → is_enum k ≡ false
@@ -148,7 +143,8 @@ module _ (table : ExtensionTable) (m : SchemaMeaning) (closed : IsClosed table m
   none_called = flat_nothing (λ (b : Block). flat_map (called_action b.0) b.1.entity_types) g.0
       (λ b h. flat_nothing (called_action b.0) b.1.entity_types (λ x k.
       let of = just.entities (entity_in b.0 x) (entity_here b h x k) in
-      let off : bytes_eq x.0.id.text (codes "Action") ≡ false = not_true (bytes_eq x.0.id.text (codes "Action"))
+      let off : bytes_eq x.0.id.text (codes "Action") ≡ false =
+      false_from_ne_true (bytes_eq x.0.id.text (codes "Action"))
       (λ hit. no_action table m closed g just of.entry (in_from m.entities of.entry of.among)
       (ap basename (sym of.is.name) ∙ (base_name b.0 x ∙ (bytes_eq-Decides x.0.id.text (codes "Action")).0 hit))) in
       ap (λ c. if c then declared_at b.0 x.0.id x.1.loc ∷ [] else []) off))
@@ -173,7 +169,7 @@ module _ (table : ExtensionTable) (m : SchemaMeaning) (closed : IsClosed table m
           let w = x.0.id.text in
           let full : entity_name (entity_in (Some s) x) ≡ components_of s.name ++ w ∷ [] =
           texts_behind (s.name.first ∷ s.name.others) x.0.id in
-          let off : mine.is_entity (w ∷ []) ≡ false = not_true (mine.is_entity (w ∷ [])) (λ hit.
+          let off : mine.is_entity (w ∷ []) ≡ false = false_from_ne_true (mine.is_entity (w ∷ [])) (λ hit.
           true≢false (sym (is_entity_named m g just table (components_of s.name ++ w ∷ [])
           (inl (of.entry, in_from m.entities of.entry of.among, sym of.is.name ∙ full)))
           ∙ not_entity_behind table m closed g just s w (own_entity m g just (w ∷ []) hit))) in
@@ -197,13 +193,13 @@ module _ (table : ExtensionTable) (m : SchemaMeaning) (closed : IsClosed table m
           let ty : List (List ℕ) = components_of s.name ++ codes "Action" ∷ [] in
           let full : action_key (action_in (Some s) x) ≡ (ty, x.0) =
           λ i. (texts_behind (s.name.first ∷ s.name.others) action_name.first i, x.0) in
-          let here : Contains (action_names m) (ty, x.0) =
-          subst (Contains (action_names m)) (sym of.is.key ∙ full)
+          let here : Contains (meant_actions m) (ty, x.0) =
+          subst (Contains (meant_actions m)) (sym of.is.key ∙ full)
           (key_there table m closed g just of.entry (in_from m.actions of.entry of.among)) in
-          let off : mine.is_action (plain, x.0) ≡ false = not_true (mine.is_action (plain, x.0)) (λ hit.
+          let off : mine.is_action (plain, x.0) ≡ false = false_from_ne_true (mine.is_action (plain, x.0)) (λ hit.
           let b = own_action m g just (plain, x.0) hit in
-          let there : Contains (action_names m) (plain, x.0) =
-          subst (Contains (action_names m)) b.2 (key_there table m closed g just b.0 b.1) in
+          let there : Contains (meant_actions m) (plain, x.0) =
+          subst (Contains (meant_actions m)) b.2 (key_there table m closed g just b.0 b.1) in
           apart table m closed g just s (codes "Action") (closed.apart.actions ty x.0 here there)) in
           ap (λ c. if c then (record { ty = action_type (Some s); id = x.0; loc = x.1.loc }) ∷ [] else []) off)
 
@@ -216,13 +212,13 @@ module _ (table : ExtensionTable) (m : SchemaMeaning) (closed : IsClosed table m
   module _ {U : Type 0} (visit : Option Name → Part RawName → List U)
       (types : (ns : Option Name) (n : RawName) (r : List (List ℕ) × ReferenceType)
       → scope.means (name_of ns) CommonOrEntity n ≡ Some r → visit ns (type_reference CommonOrEntity n) ≡ [])
-      (parents : (ns : Option Name) (n : RawName) → Contains (entity_names m) (components_of n.name)
+      (parents : (ns : Option Name) (n : RawName) → Contains (meant_entities m) (components_of n.name)
       → visit ns (parent n) ≡ [])
-      (principals : (ns : Option Name) (n : RawName) → Contains (entity_names m) (components_of n.name)
+      (principals : (ns : Option Name) (n : RawName) → Contains (meant_entities m) (components_of n.name)
       → visit ns (principal n) ≡ [])
-      (resources : (ns : Option Name) (n : RawName) → Contains (entity_names m) (components_of n.name)
+      (resources : (ns : Option Name) (n : RawName) → Contains (meant_entities m) (components_of n.name)
       → visit ns (resource n) ≡ [])
-      (above : (ns : Option Name) (id : List ℕ) (ty : Option RawName) (k : Key) → Contains (action_names m) k
+      (above : (ns : Option Name) (id : List ℕ) (ty : Option RawName) (k : Key) → Contains (meant_actions m) k
       → option_map (λ (n : RawName). components_of n.name) ty ≡ Some k.0 → id ≡ k.1
       → visit ns (action_parent id ty) ≡ []) where
     entity_walked : (b : Block) → IsIn b g.0 → (x : UnreservedId × EntityType RawName) → IsIn x b.1.entity_types
@@ -231,7 +227,7 @@ module _ (table : ExtensionTable) (m : SchemaMeaning) (closed : IsClosed table m
         let of = just.entities (entity_in b.0 x) (entity_here b h x k) in
         let among = in_from m.entities of.entry of.among in
         let own = entity_itself table m closed g just of.entry among (entity_in b.0 x) of.is in
-        entity_gives (visit b.0) scope (name_of b.0) (types b.0) (λ n. Contains (entity_names m) n) (parents b.0)
+        entity_gives (visit b.0) scope (name_of b.0) (types b.0) (λ n. Contains (meant_entities m) n) (parents b.0)
         of.entry (entity_closed table m closed g just of.entry among).ancestors own.ordered own.attributes own.tags x.1
         of.is.kind
 
@@ -242,8 +238,8 @@ module _ (table : ExtensionTable) (m : SchemaMeaning) (closed : IsClosed table m
         let among = in_from m.actions of.entry of.among in
         let own = action_itself table m closed g just of.entry among (action_in b.0 x) of.is in
         let c = action_closed table m closed g just of.entry among in
-        action_gives (visit b.0) scope (name_of b.0) (types b.0) (λ n. Contains (entity_names m) n)
-        (λ k. Contains (action_names m) k) (principals b.0) (resources b.0) (above b.0) of.entry c.ancestors
+        action_gives (visit b.0) scope (name_of b.0) (types b.0) (λ n. Contains (meant_entities m) n)
+        (λ k. Contains (meant_actions m) k) (principals b.0) (resources b.0) (above b.0) of.entry c.ancestors
         c.principals c.resources own.ordered own.context own.applies x.1 of.is.bare of.is.applies
 
     fragment_gives : of_fragment visit g ≡ []
@@ -266,12 +262,12 @@ module _ (table : ExtensionTable) (m : SchemaMeaning) (closed : IsClosed table m
       (λ ns n h. refl) (λ ns id ty k h e f. refl))
 
   -- an entity type is found where it is named
-  entity_found : (ns : Option Name) (n : RawName) → Contains (entity_names m) (components_of n.name)
+  entity_found : (ns : Option Name) (n : RawName) → Contains (meant_entities m) (components_of n.name)
       → option_map components_of (target t (in_namespace (name_of ns) Entity n)) ≡ Some (components_of n.name)
   entity_found ns n h = found_as table m closed g just ns (components_of n.name)
       (named_entity table m closed g just (components_of n.name) h) n refl
 
-  action_found : (ns : Option Name) (id : List ℕ) (ty : Option RawName) (k : Key) → Contains (action_names m) k
+  action_found : (ns : Option Name) (id : List ℕ) (ty : Option RawName) (k : Key) → Contains (meant_actions m) k
       → option_map (λ (n : RawName). components_of n.name) ty ≡ Some k.0 → id ≡ k.1
       → option_map (λ (n : InternalName). let a : Key = (components_of n, id) in a)
       (action_target t id (Some (type_in_namespace (name_of ns) id ty))) ≡ Some k
@@ -306,7 +302,7 @@ module _ (table : ExtensionTable) (m : SchemaMeaning) (closed : IsClosed table m
       let same : components_of p ≡ n = cc in
       ap (λ b. cond (not b) (p ∷ []) []) (ap (tests_of (declared g)).is_entity same ∙ h)
 
-  own_named : (n : List (List ℕ)) → Contains (entity_names m) n → (tests_of (declared g)).is_entity n ≡ true
+  own_named : (n : List (List ℕ)) → Contains (meant_entities m) n → (tests_of (declared g)).is_entity n ≡ true
   own_named n h =
       let e = named_entity table m closed g just n h in
       subst (λ x. (tests_of (declared g)).is_entity x ≡ true) e.2 (is_own_entity m g just e.0 e.1)
@@ -326,7 +322,7 @@ module _ (table : ExtensionTable) (m : SchemaMeaning) (closed : IsClosed table m
   no_uses order [] some firsts = absurd (omega (arith, some))
   no_uses order (x ∷ xs) some firsts =
       let first = All-contains (IsFirstUse order []) (x ∷ xs) x firsts.first (0, omega arith, refl) in
-      no_first [] first.0 x first.1
+      nothing_is [] x first.0 first.1
 
   seen_some : {A B : Type 0} (f : A → B) (xs : List A) → 0 < length xs → 0 < length (map f xs)
   seen_some f [] h = absurd (omega (arith, h))
@@ -411,9 +407,10 @@ module _ (table : ExtensionTable) (m : SchemaMeaning) (closed : IsClosed table m
 
   pub faultless : Never (BuildFault g table)
   faultless =
-      or_else _ _
-      (or_else _ _ no_action_type (or_else _ _ no_type_hides (or_else _ _ no_action_hides
-      (or_else _ _ no_unknown none_unsupported))))
-      (or_else _ _ (or_else _ _ no_undefined_types no_undefined_actions)
-      (or_else _ _ no_undeclared (or_else _ _ (or_else _ _ no_common_cycle (or_else _ _ no_shape no_context))
-      (or_else _ _ no_action_cycle no_external_under))))
+      never_else _ _
+      (never_else _ _ no_action_type (never_else _ _ no_type_hides (never_else _ _ no_action_hides
+      (never_else _ _ no_unknown none_unsupported))))
+      (never_else _ _ (never_else _ _ no_undefined_types no_undefined_actions)
+      (never_else _ _ no_undeclared
+      (never_else _ _ (never_else _ _ no_common_cycle (never_else _ _ no_shape no_context))
+      (never_else _ _ no_action_cycle no_external_under))))

@@ -1,41 +1,42 @@
 -- A fragment which says what is written of a meaning declares just what the meaning has.
 use Rattle.std.proofs.Common.{◌≡◌, ◌⊎◌, inl, inr, ℕ, Bool, true, false, List, [], map, flat_map, Option, Some, None}
 use Rattle.std.proofs.Common.{Contains, All, refl, sym, ◌∙◌, subst}
-use Rattle.std.specs.Cmp.{IsTotalOrder, on_total, then_total}
-use Rattle.std.specs.Cmp.Lexicographic.{slice_cmp, lists_total, options_total}
+use Rattle.std.specs.Cmp.{on_total, then_total}
+use Rattle.std.specs.Cmp.Lexicographic.{slice_cmp, lists_total}
 use Rattle.std.specs.List.Sorted.{IsStrictlySortedBy}
 use Rattle.std.specs.Map.{keys_of}
 use Rattle.std.specs.Option.{option_cmp}
 use Rattle.std.specs.declared.cmp.Ordering.{Ordering}
 use Rattle.std.proofs.lemmas.List.Elements.{All-weaker, All-contains_itself}
 use Rattle.cedar_data.specs.Text.{text_cmp}
+use Rattle.cedar_data.proofs.Orders.{text_total}
 use Rattle.cedar_identifiers.specs.declared.name.Name.{Name}
 use Rattle.cedar_identifiers.specs.declared.raw_name.RawName.{RawName}
 use Rattle.cedar_identifiers.specs.declared.unreserved_id.UnreservedId.{UnreservedId}
 use Rattle.cedar_names.specs.CanonicalText.{namespace, namespaces}
 use Rattle.cedar_names.specs.Meaning.{EntityMeaning, ActionMeaning, SchemaMeaning}
-use Rattle.cedar_names.specs.Orders.{ids_of, names_in_order, names_total}
+use Rattle.cedar_names.specs.Orders.{names_in_order, places_total}
 use Rattle.schema_json.specs.declared.common_type.CommonType.{CommonType}
 use Rattle.schema_json.specs.declared.common_type.CommonTypeId.{CommonTypeId}
 use Rattle.schema_json.specs.declared.fragment.Fragment.{Fragment}
-use Rattle.schema_convert_types.specs.Declarations.{as_written}
+use Rattle.schema_json.specs.AsWritten.{as_written}
 use Rattle.schema_readback.specs.Meant.{entity_as, action_as, entity_of_meaning, action_of_meaning, items_of_meaning}
 use Rattle.schema_readback.specs.Meant.{name_or_none, groups_of_meaning}
 use Rattle.schema_readback.specs.PrintedDecls.{IsSome, group_items}
 use Rattle.schema_readback.specs.Written.{WrittenDeclared}
-use Rattle.schema_build_hierarchy.specs.Declarations.{DeclaredEntity, entity_name, action_key, declared_entities}
-use Rattle.schema_build_hierarchy.specs.Declarations.{declared_actions}
-use Rattle.schema_build.specs.Meaning.{key_of}
 use Rattle.schema_says.specs.DeclarationsSay.{CommonSays}
 use Rattle.schema_says.specs.FragmentsSay.{commons_of_decl, WrittenNamespace, NamespaceName, namespace_order}
 use Rattle.schema_says.specs.FragmentsSay.{name_components, written_in, FragmentSays}
 use Rattle.schema_says.specs.MeantNames.{action_name_order, HasOpenNames}
 use Rattle.schema_says.specs.MeantNamespaces.{meant_in_namespace, IsOfMeaning}
-use Rattle.schema_build_says.specs.DeclaredEntries.{IsEntity, DeclaredAction, IsAction, DeclaresJust}
-use Rattle.schema_build_hierarchy.proofs.Exact.{by_texts, names_tied, actions_tied}
+use Rattle.schema_build_checks.proofs.Names.{names_by_components, names_tied}
+use Rattle.schema_build_hierarchy.specs.Declarations.{DeclaredEntity, entity_name, action_key, declared_entities}
+use Rattle.schema_build_hierarchy.specs.Declarations.{declared_actions}
+use Rattle.schema_build_hierarchy.proofs.Exact.{actions_tied}
 use Rattle.schema_build_hierarchy.proofs.Gathered.{entities_once, actions_once}
 use Rattle.schema_build_hierarchy.proofs.Ordered.{sorted_seen, sorted_back}
-use Rattle.schema_says.proofs.Orders.{text_total}
+use Rattle.schema_build.specs.Meaning.{key_of}
+use Rattle.schema_build_says.specs.DeclaredEntries.{IsEntity, DeclaredAction, IsAction, DeclaresJust}
 use Rattle.schema_build_says.proofs.Blocks.{Block, IsBlockOf, block_of, entry_says}
 use Rattle.schema_build_says.proofs.DeclaredActions as actions
 use Rattle.schema_build_says.proofs.DeclaredEntities as entities
@@ -56,14 +57,11 @@ no_common_action false a n h = h
 abbrev place_order : Option Name → Option Name → Ordering
 place_order = option_cmp (λ (x y : Name). names_in_order x.name y.name)
 
-places_total : IsTotalOrder place_order
-places_total = options_total (on_total (λ (n : Name). n.name) names_total)
-
 same_place : (a b : Option Name) → namespace_order (name_components a) (name_components b) ≡ place_order a b
 same_place None None = refl
 same_place None (Some b) = refl
 same_place (Some a) None = refl
-same_place (Some a) (Some b) = sym (by_texts (ids_of a.name) (ids_of b.name))
+same_place (Some a) (Some b) = sym (names_by_components a.name b.name)
 
 -- what rises by a name of its keys rises by them
 keys_rise : {K V N : Type 0} (name : K → N) (R : N → N → Ordering) (S : K → K → Ordering)

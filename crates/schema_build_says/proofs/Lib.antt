@@ -1,14 +1,14 @@
 pub mod Blocks
 mod DeclaredActions
 mod DeclaredEntities
-mod Defining
+pub mod Defining
 mod EntryMeans
 mod Expanding
-mod Faultless
+pub mod Faultless
 mod Just
 mod Meant
 pub mod Members
 mod Parents
 mod Themselves
 mod Uncaptured
-mod Walking
+pub mod Walking

@@ -1,44 +1,46 @@
 -- A fragment that declares just what a closed meaning has means it.
-use Rattle.std.proofs.Common.{◌≡◌, ◌↔◌, ℕ, Bool, true, false, ◌||◌, List, [], ◌∷◌, map, Option, Some, None, is_some}
+use Rattle.std.proofs.Common.{◌≡◌, ◌↔◌, ℕ, ◌||◌, List, [], ◌∷◌, map, Option, Some, None, is_some}
 use Rattle.std.proofs.Common.{Contains, refl, sym, ap, ◌∙◌, subst, true≢false}
 use Rattle.std.specs.List.{AllByRecursion}
 use Rattle.std.specs.List.Sorted.{IsStrictlySortedBy}
 use Rattle.std.specs.Option.{option_map}
 use Rattle.std.specs.Ordering.{ordering_then}
+use Rattle.std.proofs.lemmas.Bool.{or_parts}
 use Rattle.cedar_data.specs.Text.{text_cmp}
 use Rattle.cedar_identifiers.specs.Names.{components_of}
 use Rattle.cedar_identifiers.specs.declared.name.Name.{Name}
 use Rattle.cedar_identifiers.specs.declared.raw_name.RawName.{RawName}
 use Rattle.cedar_names.specs.CanonicalText.{namespace}
 use Rattle.cedar_names.specs.Meaning.{PlainType, EntityMeaning, ActionMeaning, SchemaMeaning}
-use Rattle.cedar_names.specs.Orders.{ids_of, names_in_order}
+use Rattle.cedar_names.specs.Orders.{names_in_order}
 use Rattle.cedar_names.specs.declared.extension_table.ExtensionTable.{ExtensionTable}
 use Rattle.schema_json.specs.declared.fragment.Fragment.{Fragment}
-use Rattle.schema_convert_types.specs.Declarations.{as_written}
+use Rattle.schema_json.specs.AsWritten.{as_written}
 use Rattle.schema_readback.specs.Meant.{name_or_none}
 use Rattle.schema_readback.specs.PrintedDecls.{IsSome}
+use Rattle.schema_says.specs.FragmentsSay.{name_components}
 use Rattle.schema_resolve_definitions.specs.Declarations.{name_of}
 use Rattle.schema_resolve_definitions.specs.Defined.{defined}
 use Rattle.schema_resolve_definitions.specs.Tests.{Tests, tests_of}
 use Rattle.schema_build_types.specs.Content.{actions_cmp}
 use Rattle.schema_build_types.specs.Standing.{as_built, attributes_as_built}
 use Rattle.schema_build_text.specs.Captured.{some_hold, tags_hold}
-use Rattle.schema_build_checks.specs.DeclaredAt.{actions_at_in_order}
 use Rattle.schema_build_expand.specs.Scope.{Scope, AreDeclaredOnce}
+use Rattle.schema_build_checks.specs.DeclaredAt.{actions_at_in_order}
+use Rattle.schema_build_checks.proofs.Names.{names_by_components}
 use Rattle.schema_build_scope.specs.FragmentScope.{fragment_scope}
 use Rattle.schema_build_hierarchy.specs.Declarations.{DeclaredEntity, entity_name, action_key, declared_entities}
 use Rattle.schema_build_hierarchy.specs.Declarations.{declared_actions}
 use Rattle.schema_build_hierarchy.specs.Parents.{entity_parents, action_parents, IsParent, IsAncestor, IsActionParent}
 use Rattle.schema_build_hierarchy.specs.Parents.{IsActionAncestor}
+use Rattle.schema_build_hierarchy.proofs.Ordered.{sorted_back}
 use Rattle.schema_build_items.specs.ActionKinds.{components_cmp}
 use Rattle.schema_build.specs.Meaning.{key_of, IsEntityMeaning, IsActionMeaning, EntitiesMean, ActionsMean}
 use Rattle.schema_build.specs.Meaning.{FragmentMeaning}
-use Rattle.schema_build_closed.specs.Closed.{IsClosedEntity, IsClosedAction, IsEntityUnder, IsActionUnder, IsTransitive}
+use Rattle.schema_build_closed.specs.Closed.{IsClosedEntity, IsClosedAction, IsEntityUnder, IsActionUnder}
+use Rattle.schema_build_closed.specs.Closed.{IsTransitive}
 use Rattle.schema_build_closed.specs.Closed.{IsClosed}
-use Rattle.schema_build_closed.specs.Known.{entity_names, action_names, AreKnownTags}
-use Rattle.schema_says.specs.FragmentsSay.{name_components}
-use Rattle.schema_build_hierarchy.proofs.Exact.{by_texts}
-use Rattle.schema_build_hierarchy.proofs.Ordered.{sorted_back}
+use Rattle.schema_build_closed.specs.Known.{meant_entities, meant_actions, AreKnownTags}
 use Rattle.schema_build_says.specs.Ancestors.{IsActionFoundAs}
 use Rattle.schema_build_says.specs.DeclaredEntries.{IsEntity, DeclaredAction, IsAction, DeclaresJust}
 use Rattle.schema_build_says.specs.Entries.{TagsMeanThemselves, EntityMeansItself, IsFoundAs, ActionMeansItself}
@@ -47,17 +49,14 @@ use Rattle.schema_build_says.proofs.EntryMeans.{entity_means, action_means}
 use Rattle.schema_build_says.proofs.Members.{IsIn, in_from, in_to, in_map, all_in, in_all, picked, zip_left, zip_right}
 use Rattle.schema_build_says.proofs.Members.{zip_names, zip_more}
 use Rattle.schema_build_says.proofs.Parents.{entity_parents_are, action_parents_are, reaches_is}
-use Rattle.schema_build_says.proofs.Themselves.{IsFree, named_entity, found_as, action_found_as, type_means, types_mean}
+use Rattle.schema_build_says.proofs.Themselves.{IsFree, named_entity, found_as, action_found_as, type_means}
+use Rattle.schema_build_says.proofs.Themselves.{types_mean}
 use Rattle.schema_build_says.proofs.Uncaptured.{entity_free, action_free}
 
 -- what a namespace with a name is
 space_some : (c q : List (List ℕ)) → Some c ≡ name_or_none q → (q ≡ c) × IsSome q
 space_some c [] h = absurd (true≢false (ap is_some h))
 space_some c (x ∷ xs) h = (cc, tt)
-
-either_free : (a b : Bool) → (a || b) ≡ false → (a ≡ false) × (b ≡ false)
-either_free true b h = absurd (true≢false h)
-either_free false b h = (refl, h)
 
 pair_first : {A B : Type 0} → A × B → A
 pair_first (a, b) = a
@@ -81,20 +80,20 @@ module _ (table : ExtensionTable) (m : SchemaMeaning) (closed : IsClosed table m
 
   -- names of entity types are found
   pub all_found : (ns : Option Name) (names : List (List (List ℕ)))
-      → AllByRecursion (λ name. Contains (entity_names m) name) names → AllByRecursion (IsFoundAs t ns) names
+      → AllByRecursion (λ name. Contains (meant_entities m) name) names → AllByRecursion (IsFoundAs t ns) names
   all_found ns names all = in_all (IsFoundAs t ns) names
       (λ n h. found_as table m closed g just ns n
-      (named_entity table m closed g just n (all_in (λ name. Contains (entity_names m) name) names n all h)))
+      (named_entity table m closed g just n (all_in (λ name. Contains (meant_entities m) name) names n all h)))
 
-  pub key_found : (ns : Option Name) (k : Key) → Contains (action_names m) k → IsActionFoundAs t ns k
+  pub key_found : (ns : Option Name) (k : Key) → Contains (meant_actions m) k → IsActionFoundAs t ns k
   key_found ns k h =
-      let o = in_map key_of m.actions k (in_from (action_names m) k h) in
+      let o = in_map key_of m.actions k (in_from (meant_actions m) k h) in
       subst (IsActionFoundAs t ns) (sym o.2) (action_found_as table m closed g just ns o.0 o.1)
 
   pub all_keys_found : (ns : Option Name) (keys : List Key)
-      → AllByRecursion (λ name. Contains (action_names m) name) keys → AllByRecursion (IsActionFoundAs t ns) keys
+      → AllByRecursion (λ name. Contains (meant_actions m) name) keys → AllByRecursion (IsActionFoundAs t ns) keys
   all_keys_found ns keys all = in_all (IsActionFoundAs t ns) keys
-      (λ k h. key_found ns k (all_in (λ name. Contains (action_names m) name) keys k all h))
+      (λ k h. key_found ns k (all_in (λ name. Contains (meant_actions m) name) keys k all h))
 
   entity_is_free : (e : EntityMeaning) → IsIn e m.entities → (ns : Option Name)
       → name_components ns ≡ name_or_none (namespace e.name)
@@ -129,8 +128,8 @@ module _ (table : ExtensionTable) (m : SchemaMeaning) (closed : IsClosed table m
         parts = c.parts;
         ordered = c.ordered;
         attributes = types_mean table m closed g just d.ns e.attributes c.attributes
-            (λ s at a k same. (either_free holds tagged (free s at a k same)).0);
-        tags = tags_mean d.ns e.tags c.tags (λ s at a k same. (either_free holds tagged (free s at a k same)).1);
+            (λ s at a k same. (or_parts holds tagged (free s at a k same)).0);
+        tags = tags_mean d.ns e.tags c.tags (λ s at a k same. (or_parts holds tagged (free s at a k same)).1);
       }
 
   pub action_itself : (a : ActionMeaning) → IsIn a m.actions → (d : DeclaredAction) → IsAction a d
@@ -267,7 +266,7 @@ module _ (table : ExtensionTable) (m : SchemaMeaning) (closed : IsClosed table m
   names_rise : (found : List DeclaredEntity) → map entity_name found ≡ map (λ (e : EntityMeaning). e.name) m.entities
       → IsStrictlySortedBy (λ a b. names_in_order a.name b.name) found
   names_rise found same = subst (λ o. IsStrictlySortedBy o found)
-      (λ i (a b : DeclaredEntity). sym (by_texts (ids_of a.name) (ids_of b.name)) i)
+      (λ i (a b : DeclaredEntity). sym (names_by_components a.name b.name) i)
       (sorted_back entity_name components_cmp found
       (subst (IsStrictlySortedBy components_cmp) (sym same) closed.open_names.entities_rise))
 
@@ -275,7 +274,7 @@ module _ (table : ExtensionTable) (m : SchemaMeaning) (closed : IsClosed table m
       → IsStrictlySortedBy (λ a b. actions_at_in_order a.name b.name) found
   keys_rise found same = subst (λ o. IsStrictlySortedBy o found)
       (λ i (a b : DeclaredAction).
-      ordering_then (sym (by_texts (ids_of a.name.ty) (ids_of b.name.ty)) i) (text_cmp a.name.id b.name.id))
+      ordering_then (sym (names_by_components a.name.ty b.name.ty) i) (text_cmp a.name.id b.name.id))
       (sorted_back action_key actions_cmp found
       (subst (IsStrictlySortedBy actions_cmp) (sym same) closed.open_names.actions_rise))
 

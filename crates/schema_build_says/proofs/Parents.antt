@@ -11,13 +11,13 @@ use Rattle.schema_json.specs.declared.entity_type.EntityTypeKind.{EntityTypeKind
 use Rattle.schema_json.specs.declared.entity_type.EntityTypeKind.TheVariants.{Standard, Enum}
 use Rattle.schema_json.specs.declared.action_type.ActionEntityUID.{ActionEntityUID}
 use Rattle.schema_json.specs.declared.action_type.ApplySpec.{ApplySpec}
-use Rattle.schema_convert_types.specs.Declarations.{as_written}
+use Rattle.schema_json.specs.AsWritten.{as_written}
 use Rattle.schema_readback.specs.Meant.{entity_as, ref_of_meaning, action_as}
 use Rattle.schema_readback.specs.Written.{WrittenRef}
+use Rattle.schema_says.specs.DeclarationsSay.{written_paths, KindSays, written_ref, ParentsSay, AppliesSay}
 use Rattle.schema_resolve_definitions.specs.Tests.{Tests}
 use Rattle.schema_build_graph.specs.Paths.{Leads, Reaches}
 use Rattle.schema_build_hierarchy.specs.Parents.{action_target_in, written_parents, parents_in, action_parents_in}
-use Rattle.schema_says.specs.DeclarationsSay.{written_paths, KindSays, written_ref, ParentsSay, AppliesSay}
 use Rattle.schema_build_closed.specs.Closed.{IsTransitive}
 use Rattle.schema_build_closed.specs.Kinds.{HasItsParts}
 use Rattle.schema_build_says.specs.Ancestors.{IsActionFoundAs}

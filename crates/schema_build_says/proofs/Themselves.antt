@@ -6,8 +6,10 @@ use Rattle.std.specs.Cmp.{second_so}
 use Rattle.std.specs.List.{list_any}
 use Rattle.std.specs.Option.{option_map}
 use Rattle.std.specs.Str.{bytes_eq}
-use Rattle.std.proofs.lemmas.Bool.{and_from}
+use Rattle.std.proofs.lemmas.Bool.{and_from, or_parts, or_left, or_right, false_from_ne_true}
 use Rattle.std.proofs.lemmas.Slice.Eq.{bytes_eq-Decides}
+use Rattle.std.proofs.lemmas.Option.{same_Some}
+use Rattle.cedar_data.proofs.Lists.{list_any-map}
 use Rattle.cedar_identifiers.specs.Candidates.{behind, candidates}
 use Rattle.cedar_identifiers.specs.Names.{components_of, texts_of, has_cedar}
 use Rattle.cedar_identifiers.specs.Words.{is_cedar}
@@ -25,8 +27,10 @@ use Rattle.cedar_names.specs.Meaning as plain
 use Rattle.cedar_names.specs.TableNames.{is_builtin}
 use Rattle.cedar_names.specs.Tables.{table_names, table_has}
 use Rattle.cedar_names.specs.declared.extension_table.ExtensionTable.{ExtensionTable}
+use Rattle.cedar_names.proofs.Defined.{name_itself}
 use Rattle.schema_json.specs.declared.fragment.Fragment.{Fragment}
-use Rattle.schema_convert_types.specs.Declarations.{as_written}
+use Rattle.schema_json.specs.AsWritten.{as_written}
+use Rattle.schema_says.specs.MeantNames.{IsOpenName, IsActionName}
 use Rattle.schema_resolve_definitions.specs.Declarations.{name_of}
 use Rattle.schema_resolve_definitions.specs.Defined.{defined, builtins, is_hidden}
 use Rattle.schema_resolve_definitions.specs.Tests.{Tests, tests_of}
@@ -37,17 +41,17 @@ use Rattle.schema_build_types.specs.Standing.{as_built, attributes_as_built}
 use Rattle.schema_build_text.specs.Captured.{plain_action, holds_plain_action, some_hold}
 use Rattle.schema_build_expand.specs.Scope.{Scope, in_table, builtin}
 use Rattle.schema_build_scope.specs.FragmentScope.{fragment_scope, by_components}
+use Rattle.schema_build_hierarchy.proofs.ActionTypes.{last_behind}
 use Rattle.schema_build.specs.Meaning.{key_of}
 use Rattle.schema_build_closed.specs.Closed.{IsClosed}
-use Rattle.schema_build_closed.specs.Known.{entity_names, action_names, action_types, IsKnownName, IsKnownType}
+use Rattle.schema_build_closed.specs.Known.{meant_entities, meant_actions, action_types, IsKnownName, IsKnownType}
 use Rattle.schema_build_closed.specs.Known.{AreKnownTypes}
-use Rattle.schema_says.specs.MeantNames.{IsOpenName, IsActionName}
 use Rattle.schema_build_says.specs.Ancestors.{IsActionFoundAs}
 use Rattle.schema_build_says.specs.DeclaredEntries.{DeclaresJust}
 use Rattle.schema_build_says.specs.Entries.{IsFoundAs}
 use Rattle.schema_build_says.specs.Themselves.{MeansEntity, MeansBuiltin, MeansItself, MeanThemselves}
-use Rattle.schema_build_says.proofs.DeclaredEntities.{texts_behind, name_itself}
-use Rattle.schema_build_says.proofs.Defining.{Key, or_left, or_right, not_true, IsEntityName, IsActionType, own}
+use Rattle.schema_build_says.proofs.DeclaredEntities.{texts_behind}
+use Rattle.schema_build_says.proofs.Defining.{Key, IsEntityName, IsActionType, own}
 use Rattle.schema_build_says.proofs.Defining.{is_own_entity, own_action, is_own_action, entity_cases, is_entity_named}
 use Rattle.schema_build_says.proofs.Defining.{common_cases, is_builtin_named, none_declared}
 use Rattle.schema_build_says.proofs.Members.{IsIn, in_from, in_to, in_map, map_to, all_in}
@@ -57,19 +61,10 @@ not_none : (xs : List (List ℕ)) (x : List ℕ) → xs ++ x ∷ [] ≡ [] → �
 not_none [] x h = cc
 not_none (y ∷ xs) x h = cc
 
-pub last_of : (xs : List (List ℕ)) (x : List ℕ) → basename (xs ++ x ∷ []) ≡ x
-last_of [] x = refl
-last_of (y ∷ []) x = refl
-last_of (y ∷ z ∷ xs) x = last_of (z ∷ xs) x
-
 front_of : (xs : List (List ℕ)) (x : List ℕ) → namespace (xs ++ x ∷ []) ≡ xs
 front_of [] x = refl
 front_of (y ∷ []) x = refl
 front_of (y ∷ z ∷ xs) x = ap (λ l. y ∷ l) (front_of (z ∷ xs) x)
-
-or_false : (a b : Bool) → (a || b) ≡ false → (a ≡ false) × (b ≡ false)
-or_false true b h = absurd (true≢false h)
-or_false false b h = (refl, h)
 
 cedar_has : (w : List ℕ) (more : List (List ℕ)) → w ≡ codes "__cedar" → has_cedar (w ∷ more) ≡ true
 cedar_has w more e = ap (λ x. is_cedar x || has_cedar more) e
@@ -105,9 +100,9 @@ word_free : (ns : List UnreservedId) → list_any (λ (n : UnreservedId). is_bui
 word_free [] f n h = absurd h
 word_free (x ∷ ns) f n (inl e) =
     ap (λ (y : UnreservedId). is_builtin y.id.text) e
-    ∙ (or_false (is_builtin x.id.text) (list_any (λ (y : UnreservedId). is_builtin y.id.text) ns) f).0
+    ∙ (or_parts (is_builtin x.id.text) (list_any (λ (y : UnreservedId). is_builtin y.id.text) ns) f).0
 word_free (x ∷ ns) f n (inr h) = word_free ns
-    (or_false (is_builtin x.id.text) (list_any (λ (y : UnreservedId). is_builtin y.id.text) ns) f).1 n h
+    (or_parts (is_builtin x.id.text) (list_any (λ (y : UnreservedId). is_builtin y.id.text) ns) f).1 n h
 
 module _ (table : ExtensionTable) (m : SchemaMeaning) (closed : IsClosed table m) (g : Fragment RawName as_written)
     (just : DeclaresJust m g) where
@@ -130,11 +125,11 @@ module _ (table : ExtensionTable) (m : SchemaMeaning) (closed : IsClosed table m
   named_free n (inl (e, h, same)) = ap has_cedar (sym same) ∙ (entity_open e h).1
   named_free n (inr (a, h, same)) = ap has_cedar (sym same) ∙ (action_open a h).0.1
 
-  name_there : (e : EntityMeaning) → IsIn e m.entities → Contains (entity_names m) e.name
-  name_there e h = in_to (entity_names m) e.name (map_to (λ (y : EntityMeaning). y.name) m.entities e h)
+  name_there : (e : EntityMeaning) → IsIn e m.entities → Contains (meant_entities m) e.name
+  name_there e h = in_to (meant_entities m) e.name (map_to (λ (y : EntityMeaning). y.name) m.entities e h)
 
-  pub key_there : (a : ActionMeaning) → IsIn a m.actions → Contains (action_names m) (key_of a)
-  key_there a h = in_to (action_names m) (key_of a) (map_to key_of m.actions a h)
+  pub key_there : (a : ActionMeaning) → IsIn a m.actions → Contains (meant_actions m) (key_of a)
+  key_there a h = in_to (meant_actions m) (key_of a) (map_to key_of m.actions a h)
 
   -- no entity type is called `Action`
   pub no_action : (e : EntityMeaning) → IsIn e m.entities → basename e.name ≡ codes "Action" → ⊥
@@ -152,7 +147,7 @@ module _ (table : ExtensionTable) (m : SchemaMeaning) (closed : IsClosed table m
 
   -- no name of the meaning is that of a common type
   not_common : (n : List (List ℕ)) → IsNamed n → t.is_common n ≡ false
-  not_common n known = not_true (t.is_common n) (λ h. by (common_cases m g just table n h))
+  not_common n known = false_from_ne_true (t.is_common n) (λ h. by (common_cases m g just table n h))
     where
       alone : (w : List ℕ) → IsIn w (builtins table) → n ≡ w ∷ [] → is_hidden (own m g just) w ≡ false → IsNamed n → ⊥
       alone w h same off (inl (e, k, is)) =
@@ -171,7 +166,7 @@ module _ (table : ExtensionTable) (m : SchemaMeaning) (closed : IsClosed table m
 
   -- behind a namespace stands no builtin
   not_common_behind : (s : Name) (x : List ℕ) → t.is_common (components_of s.name ++ x ∷ []) ≡ false
-  not_common_behind s x = not_true (t.is_common (components_of s.name ++ x ∷ []))
+  not_common_behind s x = false_from_ne_true (t.is_common (components_of s.name ++ x ∷ []))
       (λ h. by (common_cases m g just table (components_of s.name ++ x ∷ []) h))
     where
       by : (w : List ℕ) × IsIn w (builtins table) × ((components_of s.name ++ x ∷ [] ≡ codes "__cedar" ∷ w ∷ [])
@@ -193,19 +188,19 @@ module _ (table : ExtensionTable) (m : SchemaMeaning) (closed : IsClosed table m
   pub not_entity_behind : (s : Name) (x : List ℕ) → IsEntityName m (x ∷ [])
       → t.is_entity (components_of s.name ++ x ∷ []) ≡ false
   not_entity_behind s x (o, k, is) =
-      not_true (t.is_entity (components_of s.name ++ x ∷ []))
+      false_from_ne_true (t.is_entity (components_of s.name ++ x ∷ []))
       (λ h. by (entity_cases m g just table (components_of s.name ++ x ∷ []) h))
     where
       by : IsNamed (components_of s.name ++ x ∷ []) → ⊥
       by (inl (e, h, same)) =
-          let base : basename e.name ≡ x = ap basename same ∙ last_of (components_of s.name) x in
+          let base : basename e.name ≡ x = ap basename same ∙ last_behind (components_of s.name) x in
           let here = name_there e h in
-          let there : Contains (entity_names m) (basename e.name ∷ []) =
-          subst (Contains (entity_names m)) (is ∙ ap (λ y. y ∷ []) (sym base))
+          let there : Contains (meant_entities m) (basename e.name ∷ []) =
+          subst (Contains (meant_entities m)) (is ∙ ap (λ y. y ∷ []) (sym base))
           (name_there o k) in
           apart s x (sym same ∙ (closed.apart.entities e.name here there ∙ ap (λ y. y ∷ []) base))
       by (inr (a, h, same)) =
-          let base : basename a.ty ≡ x = ap basename same ∙ last_of (components_of s.name) x in
+          let base : basename a.ty ≡ x = ap basename same ∙ last_behind (components_of s.name) x in
           no_action o k (ap basename is ∙ (sym base ∙ (action_open a h).1))
 
   -- nor that of its actions' type, where there is no action in the namespace
@@ -213,12 +208,12 @@ module _ (table : ExtensionTable) (m : SchemaMeaning) (closed : IsClosed table m
       → ((a : ActionMeaning) → IsIn a m.actions → namespace a.ty ≡ components_of s.name → ⊥)
       → t.is_entity (components_of s.name ++ x ∷ []) ≡ false
   not_action_behind s x (b, k, is) free =
-      not_true (t.is_entity (components_of s.name ++ x ∷ []))
+      false_from_ne_true (t.is_entity (components_of s.name ++ x ∷ []))
       (λ h. by (entity_cases m g just table (components_of s.name ++ x ∷ []) h))
     where
       by : IsNamed (components_of s.name ++ x ∷ []) → ⊥
       by (inl (e, h, same)) =
-          let base : basename e.name ≡ x = ap basename same ∙ last_of (components_of s.name) x in
+          let base : basename e.name ≡ x = ap basename same ∙ last_behind (components_of s.name) x in
           no_action e h (base ∙ (ap basename (sym is) ∙ (action_open b k).1))
       by (inr (a, h, same)) = free a h (ap namespace same ∙ front_of (components_of s.name) x)
 
@@ -309,21 +304,18 @@ module _ (table : ExtensionTable) (m : SchemaMeaning) (closed : IsClosed table m
   -- a reference to an action finds it
   pub action_found_as : (ns : Option Name) (b : ActionMeaning) → IsIn b m.actions → IsActionFoundAs t ns (key_of b)
   action_found_as ns b h None same = absurd (true≢false (sym (ap is_some same)))
-  action_found_as ns b h (Some name) same = by (some_same (components_of name.name) b.ty same)
+  action_found_as ns b h (Some name) same = by (same_Some (components_of name.name) b.ty same)
     where
-      some_same : (x y : List (List ℕ)) → Some x ≡ Some y → x ≡ y
-      some_same x y e = cc
-
       behind_none : (s : Name) (x : List ℕ) → b.ty ≡ x ∷ []
           → passes_action b.id (components_of s.name ++ x ∷ []) ≡ false
-      behind_none s x plain = not_true (passes_action b.id (components_of s.name ++ x ∷ [])) (λ k.
+      behind_none s x plain = false_from_ne_true (passes_action b.id (components_of s.name ++ x ∷ [])) (λ k.
           let c = components_of s.name ++ x ∷ [] in
           let a = own_action m g just (c, b.id) (second_so (not (has_cedar c)) (t.is_action (c, b.id)) k) in
           let word : x ≡ codes "Action" = ap basename (sym plain) ∙ (action_open b h).1 in
-          let here : Contains (action_names m) (c, b.id) =
-          subst (Contains (action_names m)) a.2 (key_there a.0 a.1) in
-          let there : Contains (action_names m) (plain_action, b.id) =
-          subst (λ ty. Contains (action_names m) (ty, b.id)) (plain ∙ ap (λ y. y ∷ []) word)
+          let here : Contains (meant_actions m) (c, b.id) =
+          subst (Contains (meant_actions m)) a.2 (key_there a.0 a.1) in
+          let there : Contains (meant_actions m) (plain_action, b.id) =
+          subst (λ ty. Contains (meant_actions m) (ty, b.id)) (plain ∙ ap (λ y. y ∷ []) word)
           (key_there b h) in
           apart s x (closed.apart.actions c b.id here there ∙ ap (λ y. y ∷ []) (sym word)))
 
@@ -363,18 +355,14 @@ module _ (table : ExtensionTable) (m : SchemaMeaning) (closed : IsClosed table m
       let o = in_map (λ (n : UnreservedId). n.id.text) table.names w (table_word w h) in
       ap is_builtin o.2 ∙ word_free table.names table.extensions o.0 o.1
 
-  any_seen : (w : List ℕ) (ns : List UnreservedId) → list_any (λ (n : UnreservedId). bytes_eq w n.id.text) ns
-      ≡ list_any (bytes_eq w) (map (λ (n : UnreservedId). n.id.text) ns)
-  any_seen w [] = refl
-  any_seen w (n ∷ ns) = ap (λ b. bytes_eq w n.id.text || b) (any_seen w ns)
-
   ext_builtin : (w : List ℕ) → table_has table w ≡ true
       → builtin scope (codes "__cedar" ∷ w ∷ []) ≡ Some (PlainType.Ext w)
   ext_builtin w h =
-      let one = or_false (bytes_eq w (codes "Bool")) _ (not_primitive w h) in
-      let two = or_false (bytes_eq w (codes "Long")) _ one.1 in
-      let three = or_false (bytes_eq w (codes "String")) _ two.1 in
-      let last : in_table scope w ≡ true = sym (any_seen w table.names) ∙ h in
+      let one = or_parts (bytes_eq w (codes "Bool")) _ (not_primitive w h) in
+      let two = or_parts (bytes_eq w (codes "Long")) _ one.1 in
+      let three = or_parts (bytes_eq w (codes "String")) _ two.1 in
+      let last : in_table scope w ≡ true =
+      list_any-map (bytes_eq w) (λ (n : UnreservedId). n.id.text) table.names ∙ h in
       λ i. (if one.0 i then Some PlainType.Bool else (if two.0 i then Some PlainType.Long
       else (if three.0 i then Some PlainType.String else (if last i then Some (PlainType.Ext w) else None))))
 
@@ -383,9 +371,9 @@ module _ (table : ExtensionTable) (m : SchemaMeaning) (closed : IsClosed table m
   IsFree ns holds = (s : Name) → ns ≡ Some s → (a : ActionMeaning) → IsIn a m.actions
       → namespace a.ty ≡ components_of s.name → holds ≡ false
 
-  pub named_entity : (n : List (List ℕ)) → Contains (entity_names m) n → IsEntityName m n
+  pub named_entity : (n : List (List ℕ)) → Contains (meant_entities m) n → IsEntityName m n
   named_entity n h =
-      let o = in_map (λ (e : EntityMeaning). e.name) m.entities n (in_from (entity_names m) n h) in
+      let o = in_map (λ (e : EntityMeaning). e.name) m.entities n (in_from (meant_entities m) n h) in
       (o.0, o.1, sym o.2)
 
   referred : (ns : Option Name) (n : List (List ℕ)) → IsKnownName m n
@@ -418,7 +406,7 @@ module _ (table : ExtensionTable) (m : SchemaMeaning) (closed : IsClosed table m
     types_mean ns (plain.attribute n r p xs) k f =
         let both = λ (s : Name) (e : ns ≡ Some s) (a : ActionMeaning) (h : IsIn a m.actions)
         (same : namespace a.ty ≡ components_of s.name).
-        or_false (holds_plain_action (as_built p)) (some_hold (attributes_as_built xs)) (f s e a h same) in (
+        or_parts (holds_plain_action (as_built p)) (some_hold (attributes_as_built xs)) (f s e a h same) in (
           type_means ns p k.0 (λ s e a h same. (both s e a h same).0),
           types_mean ns xs k.1 (λ s e a h same. (both s e a h same).1),
         )

@@ -1,18 +1,20 @@
 -- Where nothing is captured, no item beside an action of its namespace holds the type `Action` of the empty namespace.
-use Rattle.std.proofs.Common.{◌≡◌, inl, inr, ℕ, true, false, cond, ◌||◌, List, [], ◌∷◌, map, filter, refl, sym, ap, ◌∙◌}
+use Rattle.std.proofs.Common.{◌≡◌, inl, inr, ℕ, true, false, cond, ◌||◌, List, [], ◌∷◌, map, filter, refl, sym, ap}
+use Rattle.std.proofs.Common.{◌∙◌}
 use Rattle.std.proofs.Common.{subst}
 use Rattle.std.specs.List.{list_any}
+use Rattle.std.proofs.lemmas.Bool.{or_left, or_right, false_from_ne_true}
 use Rattle.cedar_names.specs.CanonicalText.{namespace}
 use Rattle.cedar_names.specs.Definitions.{same_name}
 use Rattle.cedar_names.specs.Meaning.{EntityMeaning, ActionMeaning, SchemaMeaning}
+use Rattle.cedar_names.proofs.Defined.{name_itself}
+use Rattle.schema_readback.specs.PrintedDecls.{IsSome}
 use Rattle.schema_build_types.specs.Content.{ActionContent, SchemaContent}
 use Rattle.schema_build_types.specs.Standing.{entity_as_built, action_as_built, schema_as_built, attributes_as_built}
 use Rattle.schema_build_text.specs.Captured.{some_hold, tags_hold, item_holds, has_action, captured_in, IsUncaptured}
 use Rattle.schema_build_text.specs.Walk.{ItemContent, entity_type, action, namespace_of, items_of, items_in}
 use Rattle.schema_build_text.specs.Walk.{namespaces_of}
-use Rattle.schema_readback.specs.PrintedDecls.{IsSome}
-use Rattle.schema_build_says.proofs.DeclaredEntities.{name_itself, in_ordered}
-use Rattle.schema_build_says.proofs.Defining.{or_left, or_right, not_true}
+use Rattle.schema_build_says.proofs.DeclaredEntities.{in_ordered}
 use Rattle.schema_build_says.proofs.Members.{IsIn, left_to, right_to, map_to, flat_to, filter_to}
 
 module _ (m : SchemaMeaning) (free : IsUncaptured m) where
@@ -31,7 +33,7 @@ module _ (m : SchemaMeaning) (free : IsUncaptured m) where
   holds_none : (x : ItemContent) (q : List (List ℕ)) → IsIn x (items_of c) → namespace_of x ≡ q → IsSome q
       → (a : ActionMeaning) → IsIn a m.actions → namespace a.ty ≡ q → item_holds x ≡ false
   holds_none x [] h s some a k e = absurd some
-  holds_none x (n ∷ ns) h s some a k e = not_true (item_holds x) (λ holds.
+  holds_none x (n ∷ ns) h s some a k e = false_from_ne_true (item_holds x) (λ holds.
       let q : List (List ℕ) = n ∷ ns in
       let own : IsIn x (items_in c q) = filter_to (λ y. same_name q (namespace_of y)) (items_of c) x h
       (ap (same_name q) s ∙ name_itself q) in

@@ -7,6 +7,7 @@ use Rattle.std.specs.List.Sorted.{IsStrictlySortedBy}
 use Rattle.std.specs.Map.{lookup, keys_of}
 use Rattle.std.specs.Option.{option_map, option_map_or}
 use Rattle.std.proofs.lemmas.Map.Keys.{sorted_head, sorted_tail}
+use Rattle.std.proofs.lemmas.Option.{same_Some}
 use Rattle.cedar_data.specs.Span.{Span}
 use Rattle.cedar_data.specs.Text.{text_cmp}
 use Rattle.cedar_identifiers.specs.Names.{components_of}
@@ -16,11 +17,12 @@ use Rattle.cedar_identifiers.specs.declared.reference_type.ReferenceType.{Refere
 use Rattle.cedar_identifiers.specs.declared.reference_type.ReferenceType.TheVariants.{CommonOrEntity}
 use Rattle.cedar_names.specs.Meaning.{PlainType, Attributes, EntityMeaning, ActionMeaning}
 use Rattle.cedar_names.specs.Meaning as plain
-use Rattle.schema_json.specs.Shapes.{attributes_of, is_open, is_empty_type, is_empty_record}
-use Rattle.schema_json.specs.declared.types.Type.{«Type», Type-F, out-Type, out-roll-Type, fold-roll-Type}
+use Rattle.schema_json.specs.Shapes.{attributes_of, is_open, is_empty_type}
+use Rattle.schema_json.specs.Shapes.{has_none, is_empty_shape, is_empty_outside}
+use Rattle.schema_json.specs.declared.types.Type.{«Type», Type-F, out-Type, out-roll-Type}
 use Rattle.schema_json.specs.declared.types.Type.TheVariants as shape
 use Rattle.schema_json.specs.declared.types.TypeVariant.{TypeVariant, TypeVariant-F, out-TypeVariant}
-use Rattle.schema_json.specs.declared.types.TypeVariant.{out-roll-TypeVariant, fold-roll-TypeVariant}
+use Rattle.schema_json.specs.declared.types.TypeVariant.{out-roll-TypeVariant}
 use Rattle.schema_json.specs.declared.types.TypeVariant.TheVariants as variant
 use Rattle.schema_json.specs.declared.types.RecordType.{RecordType}
 use Rattle.schema_json.specs.declared.types.TypeOfAttribute.{TypeOfAttribute, out-TypeOfAttribute}
@@ -31,52 +33,33 @@ use Rattle.schema_json.specs.declared.entity_type.EntityTypeKind.TheVariants.{St
 use Rattle.schema_json.specs.declared.action_type.ActionEntityUID.{ActionEntityUID}
 use Rattle.schema_json.specs.declared.action_type.ActionType.{ActionType}
 use Rattle.schema_json.specs.declared.action_type.ApplySpec.{ApplySpec}
-use Rattle.schema_json_walk.specs.Bare.{is_bare_kind}
-use Rattle.schema_json_walk.specs.Parts.{Part, type_reference, parent, principal, resource, action_parent}
-use Rattle.schema_json_walk.specs.Parts.{action_attributes, open_record, external_not_bare}
-use Rattle.schema_json_walk.specs.Walk.{visit_where, at_type, at_variant, at_record, at_attribute, at_context, of_type}
-use Rattle.schema_json_walk.specs.Walk.{of_variant, of_attribute, of_entries, of_context, of_parents, of_principals}
-use Rattle.schema_json_walk.specs.Walk.{of_resources, of_kind, of_entity, of_apply, of_uid, of_uids, of_action}
-use Rattle.schema_json_walk.proofs.Layers.{record_walked, variant_walked, attribute_walked}
-use Rattle.schema_convert_types.specs.Declarations.{as_written}
+use Rattle.schema_json.specs.AsWritten.{as_written}
 use Rattle.schema_readback.specs.Meant.{type_of_meaning, attributes_of_meaning, tags_of_meaning, entity_as}
 use Rattle.schema_readback.specs.Meant.{ref_of_meaning, members_of_meaning, action_as}
 use Rattle.schema_readback.specs.Written.{WrittenRef}
-use Rattle.schema_build_expand.specs.Scope.{Scope}
-use Rattle.schema_build_closed.specs.Kinds.{HasBothOrNeither, AppliesWhereOwn}
-use Rattle.schema_build_closed.specs.Ordered.{meant_names, IsOrderedType, AreOrderedTypes}
 use Rattle.schema_says.specs.DeclarationsSay.{written_paths, TagsSay, KindSays, written_ref, ParentsSay, SpecSays}
 use Rattle.schema_says.specs.DeclarationsSay.{members_said, AppliesSay}
 use Rattle.schema_says.specs.TypesSay.{TypeSays, AttributeSays}
+use Rattle.schema_json_walk.specs.Bare.{is_bare_kind}
+use Rattle.schema_json_walk.specs.Parts.{Part, type_reference, parent, principal, resource, action_parent}
+use Rattle.schema_json_walk.specs.Parts.{action_attributes, open_record, external_not_bare}
+use Rattle.schema_json_walk.specs.Walk.{visit_where, at_context, of_type}
+use Rattle.schema_json_walk.specs.Walk.{of_variant, of_attribute, of_entries, of_context, of_parents, of_principals}
+use Rattle.schema_json_walk.specs.Walk.{of_resources, of_kind, of_entity, of_apply, of_uid, of_uids, of_action}
+use Rattle.schema_json_walk.proofs.Layers.{record_walked, variant_walked, attribute_walked}
+use Rattle.schema_json_walk.proofs.Layers.{type_walked, either_walked, set_walked}
+use Rattle.schema_build_expand.specs.Scope.{Scope}
+use Rattle.schema_build_closed.specs.Kinds.{HasBothOrNeither, AppliesWhereOwn}
+use Rattle.schema_build_closed.specs.Ordered.{meant_names, IsOrderedType, AreOrderedTypes}
+use Rattle.schema_build_closed.proofs.Bare.{alike_type, alike_record}
 use Rattle.schema_build_says.specs.Entries.{TagsMeanThemselves}
 use Rattle.schema_build_says.specs.Themselves.{MeansItself, MeanThemselves}
 use Rattle.schema_build_says.proofs.EntryMeans.{nothing_rises}
-use Rattle.schema_build_says.proofs.Expanding.{Entry, same_first, first_said, others_say, not_some, at_head, some_same}
+use Rattle.schema_build_says.proofs.Expanding.{Entry, same_first, first_said, others_say, not_some, at_head}
 use Rattle.schema_build_says.proofs.Members.{IsIn, map_to, in_map, all_in, flat_nothing, append_nothing}
 
 module _ {U : Type 0} (visit : Part RawName → List U) where
-  -- a type by its shape
-  shape_walked : (v : TypeVariant RawName) (loc : Option Span)
-      → of_type visit (shape.Variant v loc) ≡ of_variant visit v
-  shape_walked v loc =
-      ap (of_type visit) (sym (shape.rolls-Variant v loc))
-      ∙ fold-roll-Type RawName (List U) (List U) (List U) (List U) (at_type visit) (at_variant visit) (at_record visit)
-      (at_attribute visit) (Type-F.Variant v loc)
-
-  reference_walked : (n : RawName)
-      → of_variant visit (variant.EntityOrCommon n) ≡ visit (type_reference CommonOrEntity n)
-  reference_walked n =
-      ap (of_variant visit) (sym (variant.rolls-EntityOrCommon n))
-      ∙ fold-roll-TypeVariant RawName (List U) (List U) (List U) (List U) (at_type visit) (at_variant visit)
-      (at_record visit) (at_attribute visit) (TypeVariant-F.EntityOrCommon n)
-
-  set_walked : (t : «Type» RawName) → of_variant visit (variant.Set t) ≡ of_type visit t
-  set_walked t =
-      ap (of_variant visit) (sym (variant.rolls-Set t))
-      ∙ fold-roll-TypeVariant RawName (List U) (List U) (List U) (List U) (at_type visit) (at_variant visit)
-      (at_record visit) (at_attribute visit) (TypeVariant-F.Set t)
-
-  closed_walked : (r : RecordType RawName) → is_open r ≡ false → of_entries visit (attributes_of r) ≡ []
+  pub closed_walked : (r : RecordType RawName) → is_open r ≡ false → of_entries visit (attributes_of r) ≡ []
       → of_variant visit (variant.Record r) ≡ []
   closed_walked r closed none =
       variant_walked visit r ∙ (record_walked visit r
@@ -84,7 +67,7 @@ module _ {U : Type 0} (visit : Part RawName → List U) where
       (ap (λ b. visit_where visit b open_record) closed) none)
 
   -- a context that is no reference is walked as a type
-  context_walked : (c : AttributesOrContext RawName) (v : TypeVariant RawName) (loc : Option Span)
+  pub context_walked : (c : AttributesOrContext RawName) (v : TypeVariant RawName) (loc : Option Span)
       → c.0 ≡ shape.Variant v loc → of_context visit c ≡ of_variant visit v
   context_walked c v loc e =
       ap (λ t. at_context visit (out-Type RawName t)) (e ∙ sym (shape.rolls-Variant v loc))
@@ -95,8 +78,8 @@ module _ {U : Type 0} (visit : Part RawName → List U) where
       → visit (type_reference CommonOrEntity n) ≡ []) where
     named_walked : (t : «Type» RawName) (n : RawName) (loc : Option Span) (r : List (List ℕ) × ReferenceType)
         → t ≡ shape.Variant (variant.EntityOrCommon n) loc → s.means ns CommonOrEntity n ≡ Some r → of_type visit t ≡ []
-    named_walked t n loc r e h = ap (of_type visit) e ∙ (shape_walked (variant.EntityOrCommon n) loc
-        ∙ (reference_walked n ∙ types n r h))
+    named_walked t n loc r e h = ap (of_type visit) e ∙ (type_walked visit (variant.EntityOrCommon n) loc
+        ∙ (either_walked visit n ∙ types n r h))
 
     mutual
       pub type_gives : (p : PlainType) (t : «Type» RawName) → TypeSays t (type_of_meaning p) → MeansItself s ns p
@@ -107,9 +90,10 @@ module _ {U : Type 0} (visit : Part RawName → List U) where
       type_gives (PlainType.Ext w) t (n, loc, e, c) h o = named_walked t n loc _ e (h.0.0 n c)
       type_gives (PlainType.Entity name) t (n, loc, e, c) h o = named_walked t n loc _ e (h n c)
       type_gives (PlainType.Set p) t (x, loc, e, says) h o =
-          ap (of_type visit) e ∙ (shape_walked (variant.Set x) loc ∙ (set_walked x ∙ type_gives p x says h o))
+          ap (of_type visit) e ∙ (type_walked visit (variant.Set x) loc
+          ∙ (set_walked visit x ∙ type_gives p x says h o))
       type_gives (PlainType.Rec xs) t (r, loc, e, closed, up, each) h o =
-          ap (of_type visit) e ∙ (shape_walked (variant.Record r) loc
+          ap (of_type visit) e ∙ (type_walked visit (variant.Record r) loc
           ∙ closed_walked r closed (entries_give xs (attributes_of r) up each h o.0 o.1))
 
       entries_give : (xs : Attributes) (es : List Entry) → IsStrictlySortedBy text_cmp (keys_of es)
@@ -126,7 +110,7 @@ module _ {U : Type 0} (visit : Part RawName → List U) where
           let behind = sorted_head text_cmp n (meant_names xs) names in
           let same = same_first e es n r p xs above behind says in
           let f = first_said n r p xs (lookup (is_at (text_cmp n)) (e ∷ es)) behind (says n) in
-          let is : f.0 ≡ e.1 = some_same f.0 e.1
+          let is : f.0 ≡ e.1 = same_Some f.0 e.1
           (sym f.1 ∙ (ap (λ k. lookup (is_at (text_cmp k)) (e ∷ es)) (sym same) ∙ at_head e es)) in
           let said : TypeSays (out-TypeOfAttribute RawName e.1).ty (type_of_meaning p) =
           subst (λ a. TypeSays (out-TypeOfAttribute RawName a).ty (type_of_meaning p)) is f.2 in
@@ -149,7 +133,7 @@ module _ {U : Type 0} (visit : Part RawName → List U) where
         ∙ closed_walked r closed (entries_give xs (attributes_of r) up each h o.0 o.1)
 
   -- names that are written, each of which gives nothing
-  names_give : (part : RawName → Part RawName) (P : List (List ℕ) → Type 0)
+  pub names_give : (part : RawName → Part RawName) (P : List (List ℕ) → Type 0)
       → ((n : RawName) → P (components_of n.name) → visit (part n) ≡ []) → (names : List RawName)
       → (paths : List (List (List ℕ))) → written_paths names ≡ paths → AllByRecursion P paths
       → flat_map (λ n. visit (part n)) names ≡ []
@@ -157,29 +141,8 @@ module _ {U : Type 0} (visit : Part RawName → List U) where
       (λ n h. none n (all_in P paths (components_of n.name) all
       (subst (IsIn (components_of n.name)) same (map_to (λ (x : RawName). components_of x.name) names n h))))
 
--- the type of which nothing is written is empty
-abbrev holds_none : List (List ℕ × TypeOfAttribute RawName) → Bool
-holds_none [] = true
-holds_none (e ∷ es) = false
-
-abbrev empty_shape : TypeVariant-F RawName («Type» RawName) (TypeVariant RawName) (RecordType RawName)
-    (TypeOfAttribute RawName) → Bool
-empty_shape (TypeVariant-F.Record r) = is_empty_record r
-empty_shape _ = false
-
-abbrev empty_outside : Type-F RawName («Type» RawName) (TypeVariant RawName) (RecordType RawName)
-    (TypeOfAttribute RawName) → Bool
-empty_outside (Type-F.Variant ty loc) = empty_shape (out-TypeVariant RawName ty)
-empty_outside (Type-F.CommonTypeRef name loc) = false
-
-alike_type : (t : «Type» RawName) → is_empty_type t ≡ empty_outside (out-Type RawName t)
-alike_type t = refl
-
-alike_record : (r : RecordType RawName) → is_empty_record r ≡ (holds_none (attributes_of r) && not (is_open r))
-alike_record r = refl
-
 no_entries : (es : List (List ℕ × TypeOfAttribute RawName))
-    → ((k : List ℕ) → lookup (is_at (text_cmp k)) es ≡ None) → holds_none es ≡ true
+    → ((k : List ℕ) → lookup (is_at (text_cmp k)) es ≡ None) → has_none es ≡ true
 no_entries [] h = refl
 no_entries (e ∷ es) h = not_some e.1 (sym (at_head e es) ∙ h e.0)
 
@@ -187,10 +150,10 @@ empty_said : (t : «Type» RawName) → TypeSays t (type_of_meaning (PlainType.R
 empty_said t (r, loc, e, closed, up, each) =
     ap is_empty_type e
     ∙ (alike_type (shape.Variant (variant.Record r) loc)
-    ∙ (ap (λ x. empty_outside (out-Type RawName x)) (sym (shape.rolls-Variant (variant.Record r) loc))
-    ∙ (ap empty_outside (out-roll-Type RawName (Type-F.Variant (variant.Record r) loc))
-    ∙ (ap (λ x. empty_shape (out-TypeVariant RawName x)) (sym (variant.rolls-Record r))
-    ∙ (ap empty_shape (out-roll-TypeVariant RawName (TypeVariant-F.Record r))
+    ∙ (ap (λ x. is_empty_outside (out-Type RawName x)) (sym (shape.rolls-Variant (variant.Record r) loc))
+    ∙ (ap is_empty_outside (out-roll-Type RawName (Type-F.Variant (variant.Record r) loc))
+    ∙ (ap (λ x. is_empty_shape (out-TypeVariant RawName x)) (sym (variant.rolls-Record r))
+    ∙ (ap is_empty_shape (out-roll-TypeVariant RawName (TypeVariant-F.Record r))
     ∙ (alike_record r ∙ (λ i. no_entries (attributes_of r) each i && not (closed i))))))))
 
 module _ {U : Type 0} (visit : Part RawName → List U) (s : Scope RawName) (ns : Option InternalName)

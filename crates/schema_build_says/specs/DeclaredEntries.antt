@@ -4,16 +4,16 @@ use Rattle.std.specs.List.{Contains}
 use Rattle.cedar_identifiers.specs.declared.raw_name.RawName.{RawName}
 use Rattle.cedar_names.specs.CanonicalText.{namespace}
 use Rattle.cedar_names.specs.Meaning.{EntityMeaning, ActionMeaning, SchemaMeaning}
-use Rattle.schema_convert_types.specs.Declarations.{as_written}
 use Rattle.schema_json.specs.declared.action_type.ActionType.{ActionType}
 use Rattle.schema_json.specs.declared.fragment.Fragment.{Fragment}
+use Rattle.schema_json.specs.AsWritten.{as_written}
 use Rattle.schema_readback.specs.Meant.{entity_as, action_as, name_or_none}
+use Rattle.schema_says.specs.DeclarationsSay.{KindSays, AppliesSay}
+use Rattle.schema_says.specs.FragmentsSay.{name_components}
 use Rattle.schema_build_checks.specs.DeclaredAt.{ActionAt}
 use Rattle.schema_build_hierarchy.specs.Declarations.{Declared, DeclaredEntity, entity_name, action_key}
 use Rattle.schema_build_hierarchy.specs.Declarations.{declared_entities, declared_actions}
 use Rattle.schema_build.specs.Meaning.{key_of}
-use Rattle.schema_says.specs.DeclarationsSay.{KindSays, AppliesSay}
-use Rattle.schema_says.specs.FragmentsSay.{name_components}
 
 -- The declared entity type has the full name of the entry and stands in the namespace of that name, and it says what is
 -- written of the entry.

@@ -1,5 +1,5 @@
 -- Ranks of the declared common types: no two have one name.
-use Rattle.std.proofs.Common.{◌≡◌, ℕ, ◌<◌, List, length, get_or, map, Option, Some, None, refl, sym, ap, ◌∙◌, arith}
+use Rattle.std.proofs.Common.{◌≡◌, ℕ, ◌<◌, List, length, get_or, map, Some, sym, ap, ◌∙◌, arith}
 use Rattle.std.proofs.Common.{inl, inr}
 use Rattle.std.specs.Prelude.{slice_get}
 use Rattle.std.specs.Option.{option_map}
@@ -9,30 +9,23 @@ use Rattle.std.specs.Map.{keys_of}
 use Rattle.std.specs.Ordering.{ordering_reverse}
 use Rattle.std.proofs.lemmas.Bool.{cases_lt, cases_eq}
 use Rattle.std.proofs.lemmas.Map.Keys.{Less-from_sorted}
-use Rattle.std.proofs.lemmas.Option.{slice_get-map, slice_get_within, get_or_from_slice_get}
+use Rattle.std.proofs.lemmas.Option.{slice_get-map, slice_get_within, get_or_from_slice_get, same_Some}
+use Rattle.std.specs.Cmp.Lexicographic.{slice_cmp}
+use Rattle.cedar_data.specs.Text.{text_cmp}
+use Rattle.cedar_data.proofs.Options.{seen_of}
 use Rattle.cedar_identifiers.specs.Names.{components_of}
 use Rattle.cedar_identifiers.specs.declared.internal_name.InternalName.{InternalName}
-use Rattle.cedar_names.specs.Orders.{names_in_order, names_total}
 use Rattle.cedar_identifiers.specs.declared.raw_name.RawName.{RawName}
-use Rattle.schema_build_expand.specs.Scope.{Scope, Declared, IsRanked, AreDeclaredOnce}
+use Rattle.cedar_names.specs.Orders.{names_in_order, names_total}
+use Rattle.schema_build_expand.specs.Scope.{Scope, DeclaredType, IsRanked, AreDeclaredOnce}
+use Rattle.schema_build_checks.proofs.Names.{names_by_components}
 use Rattle.schema_build_scope.specs.Commons.{TypeAt}
 use Rattle.schema_build_scope.specs.FragmentScope.{declaration}
-use Rattle.schema_build_scope.proofs.Names.{names_by_components}
-use Rattle.cedar_data.specs.Text.{text_cmp}
-use Rattle.std.specs.Cmp.Lexicographic.{slice_cmp}
-
-pub some_is : {A : Type 0} (a b : A) → Some a ≡ Some b → a ≡ b
-some_is a b e = cc
-
-pub mapped_some : {A B : Type 0} (f : A → B) (o : Option A) (b : B) → option_map f o ≡ Some b
-    → (a : A) × (o ≡ Some a) × (f a ≡ b)
-mapped_some f None b e = cc
-mapped_some f (Some a) b e = (a, refl, some_is (f a) b e)
 
 -- the item that a read of what is seen of a list sees
 pub seen_at : {A B : Type 0} (f : A → B) (xs : List A) (k : ℕ) (b : B) → slice_get (map f xs) k ≡ Some b
     → (a : A) × (slice_get xs k ≡ Some a) × (f a ≡ b)
-seen_at f xs k b e = mapped_some f (slice_get xs k) b (sym (slice_get-map f xs k) ∙ e)
+seen_at f xs k b e = seen_of f (slice_get xs k) b (sym (slice_get-map f xs k) ∙ e)
 
 -- no two declared common types of different ranks have one name
 abbrev pub RanksApart : {N : Type 0} → Scope N → Type 0
@@ -41,7 +34,7 @@ RanksApart s = (name : List (List ℕ)) (j k : ℕ) → IsRanked s name j → Is
 pub declared_once : {N : Type 0} (s : Scope N) → RanksApart s → AreDeclaredOnce s
 declared_once s apart name a b (j, at_j, is_a) (k, at_k, is_b) =
     let same : j ≡ k = apart name j k (a, at_j, is_a) (b, at_k, is_b) in
-    some_is a b (sym at_j ∙ ap (slice_get s.commons) same ∙ at_k)
+    same_Some a b (sym at_j ∙ ap (slice_get s.commons) same ∙ at_k)
 
 not_below_itself : (x : InternalName) → names_in_order x x ≡ Less → ⊥
 not_below_itself x less =
@@ -87,4 +80,5 @@ entries_apart s es is up name j k (a, at_j, is_a) (b, at_k, is_b) =
     let x = seen_at declaration es j a (ap (λ l. slice_get l j) (sym is) ∙ at_j) in
     let y = seen_at declaration es k b (ap (λ l. slice_get l k) (sym is) ∙ at_k) in
     keys_apart es up j k x.0 y.0 x.1 y.1
-    (ap (λ (d : Declared RawName). d.name) x.2 ∙ is_a ∙ sym is_b ∙ ap (λ (d : Declared RawName). d.name) (sym y.2))
+    (ap (λ (d : DeclaredType RawName). d.name) x.2 ∙ is_a ∙ sym is_b
+    ∙ ap (λ (d : DeclaredType RawName). d.name) (sym y.2))

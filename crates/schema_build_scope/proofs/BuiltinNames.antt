@@ -1,5 +1,6 @@
 -- A name that is defined as a common type and is not declared is a builtin name.
-use Rattle.std.proofs.Common.{◌≡◌, ℕ, suc, Bool, true, false, ◌||◌, List, [], ◌∷◌, ◌++◌, map, codes, Option, Some, None}
+use Rattle.std.proofs.Common.{◌≡◌, ℕ, suc, Bool, true, false, ◌||◌, List, [], ◌∷◌, ◌++◌, map, codes, Option, Some}
+use Rattle.std.proofs.Common.{None}
 use Rattle.std.proofs.Common.{refl, sym, ap, ◌∙◌, subst, inl, inr}
 use Rattle.std.specs.Prelude.{◌⊎◌, IsSome, slice_get, if◌then◌else◌}
 use Rattle.std.specs.List.{list_any, flat_map, AllByRecursion}
@@ -10,8 +11,10 @@ use Rattle.std.proofs.lemmas.List.{map-append}
 use Rattle.std.proofs.lemmas.List.Folds.{list_any-append}
 use Rattle.std.proofs.lemmas.Slice.Eq.{bytes_eq-Decides}
 use Rattle.std.proofs.lemmas.Option.{slice_get-map}
-use Rattle.cedar_identifiers.specs.Names.{components_of}
+use Rattle.std.proofs.lemmas.Bool.{or_cases, or_right}
 use Rattle.cedar_data.specs.declared.loc.Loc.{Loc}
+use Rattle.cedar_data.proofs.Lists.{list_any-map}
+use Rattle.cedar_identifiers.specs.Names.{components_of}
 use Rattle.cedar_identifiers.specs.declared.id.Id.{Id}
 use Rattle.cedar_identifiers.specs.declared.internal_name.InternalName.{InternalName}
 use Rattle.cedar_identifiers.specs.declared.name.Name.{Name}
@@ -29,16 +32,12 @@ use Rattle.schema_json.specs.declared.fragment.NamespaceDefinition.{NamespaceDef
 use Rattle.schema_resolve_definitions.specs.Declarations.{declared_name, commons_in, declared}
 use Rattle.schema_resolve_definitions.specs.Defined.{builtins, names_of_builtin, names_of_builtins, is_hidden, defined}
 use Rattle.schema_resolve_definitions.specs.Tests.{Tests, tests_of}
+use Rattle.schema_build_expand.specs.Scope.{Scope, DeclaredType, Declares, IsUndeclared, in_table, builtin}
 use Rattle.schema_build_checks.specs.DeclaredAt.{declared_at}
-use Rattle.schema_build_expand.specs.Scope.{Scope, Declared, Declares, IsUndeclared, in_table, builtin}
-use Rattle.schema_build_scope.specs.Commons.{TypeAt, common_entry, declared_commons, commons_in_order}
+use Rattle.schema_build_checks.proofs.Names.{names_exact}
+use Rattle.schema_build_scope.specs.Commons.{TypeAt, full_common_entry, declared_commons, commons_in_order}
 use Rattle.schema_build_scope.specs.FragmentScope.{declaration, fragment_scope}
 use Rattle.schema_build_scope.proofs.Entries.{with_there}
-use Rattle.schema_build_scope.proofs.Names.{names_equal}
-
-either : (a b : Bool) → (a || b) ≡ true → (a ≡ true) ⊎ (b ≡ true)
-either true b h = inl refl
-either false b h = inr h
 
 bytes_same : (w : List ℕ) → bytes_eq w w ≡ true
 bytes_same w = (bytes_eq-Decides w w).1 refl
@@ -50,34 +49,30 @@ same_parts None id loc = refl
 same_parts (Some ns) id loc = refl
 
 keys_in : (ns : Option Name) (cs : List (CommonTypeId × CommonType RawName))
-    → map components_of (keys_of (map (common_entry ns) cs)) ≡ map (λ e. components_of (declared_name ns e.0.id.id)) cs
+    → map components_of (keys_of (map (full_common_entry ns) cs))
+    ≡ map (λ e. components_of (declared_name ns e.0.id.id)) cs
 keys_in ns [] = refl
 keys_in ns (c ∷ cs) = λ i. same_parts ns c.0.id.id c.1.loc i ∷ keys_in ns cs i
 
 module _ {G : named.Ghosts RawName} where
   keys_of_all : (es : List (Option Name × NamespaceDefinition RawName G))
-      → map components_of (keys_of (flat_map (λ e. map (common_entry e.0) e.1.common_types) es))
+      → map components_of (keys_of (flat_map (λ e. map (full_common_entry e.0) e.1.common_types) es))
       ≡ flat_map (λ e. commons_in e.0 e.1) es
   keys_of_all [] = refl
   keys_of_all (e ∷ es) =
-      let first = map (common_entry e.0) e.1.common_types in
-      let others = flat_map (λ (e : Option Name × NamespaceDefinition RawName G). map (common_entry e.0)
+      let first = map (full_common_entry e.0) e.1.common_types in
+      let others = flat_map (λ (e : Option Name × NamespaceDefinition RawName G). map (full_common_entry e.0)
       e.1.common_types) es in
       ap (map components_of) (map-append (λ (x : InternalName × TypeAt). x.0) first others)
       ∙ map-append components_of (keys_of first) (keys_of others)
       ∙ (λ i. keys_in e.0 e.1.common_types i ++ keys_of_all es i)
-
-any_seen : {A B : Type 0} (f : A → B) (test : B → Bool) (xs : List A)
-    → list_any test (map f xs) ≡ list_any (λ x. test (f x)) xs
-any_seen f test [] = refl
-any_seen f test (x ∷ xs) = ap (λ b. test (f x) || b) (any_seen f test xs)
 
 -- the entry whose key passes a test
 entry_passing : {V : Type 0} (test : InternalName → Bool) (es : List (InternalName × V))
     → list_any test (keys_of es) ≡ true
     → (k : ℕ) × (e : InternalName × V) × (slice_get es k ≡ Some e) × (test e.0 ≡ true)
 entry_passing test [] h = cc
-entry_passing test (e ∷ es) h = go (entry_passing test es) (either (test e.0) (list_any test (keys_of es)) h)
+entry_passing test (e ∷ es) h = go (entry_passing test es) (or_cases (test e.0) (list_any test (keys_of es)) h)
   where
     go : (list_any test (keys_of es) ≡ true
         → (k : ℕ) × (d : InternalName × _) × (slice_get es k ≡ Some d) × (test d.0 ≡ true))
@@ -135,7 +130,7 @@ module _ {N : Type 0} (s : Scope N) where
       → among (names_of_builtins t ws) n ≡ true → IsBuiltin n
   among_builtins t [] n all h = cc
   among_builtins t (w ∷ ws) n all h =
-      go (either (among (names_of_builtin t w) n) (among (names_of_builtins t ws) n)
+      go (or_cases (among (names_of_builtin t w) n) (among (names_of_builtins t ws) n)
       (sym (list_any-append (same_name n) (names_of_builtin t w) (names_of_builtins t ws)) ∙ h))
       (among_builtins t ws n all.1)
     where
@@ -150,24 +145,20 @@ module _ {N : Type 0} (s : Scope N) where
   table_builtin ws [] all e = tt
   table_builtin ws (w ∷ more) all e = (
     word_builtin w (all w (ap (λ b. b || list_any (bytes_eq w) more) (bytes_same w))),
-    table_builtin more more (λ x h. all x (later (bytes_eq x w) (list_any (bytes_eq x) more) h)) refl,
+    table_builtin more more (λ x h. all x (or_right (bytes_eq x w) (list_any (bytes_eq x) more) h)) refl,
   )
-    where
-      later : (a b : Bool) → b ≡ true → (a || b) ≡ true
-      later true b h = refl
-      later false b h = h
 
 module _ {G : named.Ghosts RawName} (f : Fragment RawName G) (table : ExtensionTable) where
   -- a declared name is the name of a declared common type
   declares : (n : List (List ℕ)) → among (declared f).commons n ≡ true
-      → (d : Declared RawName) × Declares (fragment_scope f table) n d
+      → (d : DeclaredType RawName) × Declares (fragment_scope f table) n d
   declares n h =
       let test : InternalName → Bool = λ k. same_name n (components_of k) in
       let there : list_any test (keys_of (declared_commons f)) ≡ true =
-      sym (any_seen components_of (same_name n) (keys_of (declared_commons f)))
+      sym (list_any-map (same_name n) components_of (keys_of (declared_commons f)))
       ∙ ap (λ l. among l n) (keys_of_all f.0) ∙ h in
       let kept : list_any test (keys_of (commons_in_order f)) ≡ true =
-      with_there names_in_order test (λ a b e. ap (same_name n) (names_equal a b e)) [] (declared_commons f) there in
+      with_there names_in_order test (λ a b e. ap (same_name n) (names_exact a b e)) [] (declared_commons f) there in
       let e = entry_passing test (commons_in_order f) kept in (
         declaration e.1,
         (
@@ -184,7 +175,7 @@ module _ {G : named.Ghosts RawName} (f : Fragment RawName G) (table : ExtensionT
       let s = fragment_scope f table in
       let t = tests_of (declared f) in
       let ws = builtins table in
-      elim (either (among (declared f).commons n) (among (names_of_builtins t ws) n)
+      elim (or_cases (among (declared f).commons n) (among (names_of_builtins t ws) n)
       (sym (list_any-append (same_name n) (declared f).commons (names_of_builtins t ws)) ∙ h)) [
         | inl here ↦ let d = declares n here in absurd (none d.0 d.1)
         | inr there ↦ among_builtins s t ws n

@@ -8,10 +8,10 @@ use Rattle.std.specs.Option.{option_map}
 use Rattle.std.specs.Ordering.{is_lt, ordering_reverse}
 use Rattle.std.proofs.lemmas.Bool.{cases_eq}
 use Rattle.std.proofs.lemmas.List.Elements.{All-contains, All-contains_itself}
-use Rattle.std.proofs.lemmas.Option.{slice_get-map, slice_get_within, get_or_from_slice_get}
+use Rattle.std.proofs.lemmas.Option.{slice_get-map, slice_get_within, get_or_from_slice_get, same_Some}
+use Rattle.std.specs.Cmp.Lexicographic.{slice_cmp}
 use Rattle.cedar_data.specs.Entries.{on_value}
 use Rattle.cedar_data.specs.Text.{text_cmp}
-use Rattle.std.specs.Cmp.Lexicographic.{slice_cmp}
 use Rattle.cedar_identifiers.specs.Names.{components_of}
 use Rattle.cedar_identifiers.specs.declared.internal_name.InternalName.{InternalName}
 use Rattle.cedar_identifiers.specs.declared.name_text.NameText as named
@@ -21,8 +21,9 @@ use Rattle.cedar_names.specs.declared.extension_table.ExtensionTable.{ExtensionT
 use Rattle.schema_json.specs.declared.fragment.Fragment.{Fragment}
 use Rattle.schema_build_errors.specs.declared.schema_error.SchemaError.{SchemaError}
 use Rattle.schema_build_errors.specs.declared.schema_error.SchemaError.TheVariants.{CycleInCommonTypeReferences}
+use Rattle.schema_build_expand.specs.Scope.{Scope, DeclaredType}
 use Rattle.schema_build_checks.specs.Rows.{Never}
-use Rattle.schema_build_expand.specs.Scope.{Scope, Declared}
+use Rattle.schema_build_checks.proofs.Names.{names_by_components}
 use Rattle.schema_build_scope.specs.Commons.{TypeAt, declared_commons, commons_in_order}
 use Rattle.schema_build_scope.specs.CycleRow.{ReachesItself, HasCommonCycle}
 use Rattle.schema_build_scope.specs.FragmentScope.{declaration, fragment_scope}
@@ -30,9 +31,8 @@ use Rattle.schema_build_scope.specs.LentCommons.{lent_type, lent_commons, NamesC
 use Rattle.schema_build_scope.specs.LentRounds.{IsLeastRoundRank, NoneReachesItself}
 use Rattle.schema_build_scope.specs.TypeReaches.{RefersToCommon, TypeReaches}
 use Rattle.schema_build_scope.specs.declared.lent_commons.LentType.{LentType}
-use Rattle.schema_build_scope.proofs.Apart.{key_below, some_is, same_not_below, seen_at}
+use Rattle.schema_build_scope.proofs.Apart.{key_below, same_not_below, seen_at}
 use Rattle.schema_build_scope.proofs.Entries.{map_keys, map_sorted}
-use Rattle.schema_build_scope.proofs.Names.{names_by_components}
 use Rattle.schema_build_scope.proofs.Paths.{first_step}
 
 not_lt : (x y : InternalName) → (names_in_order x y ≡ Less → ⊥) → is_lt (names_in_order x y) ≡ false
@@ -73,7 +73,7 @@ module _ {G : named.Ghosts RawName} (f : Fragment RawName G) (table : ExtensionT
         )
 
     not_below : (v : ℕ) (e : InternalName × TypeAt) → slice_get (commons_in_order f) v ≡ Some e
-        → ((u : ℕ) (d : Declared RawName) → slice_get s.commons u ≡ Some d → TypeReaches s d.name d.name → v ≤ u)
+        → ((u : ℕ) (d : DeclaredType RawName) → slice_get s.commons u ≡ Some d → TypeReaches s d.name d.name → v ≤ u)
         → (other : InternalName) → ReachesItself s other → names_in_order other e.0 ≡ Less → ⊥
     not_below v e at least other round less =
         let first = (first_step (RefersToCommon s) (components_of other) (components_of other) round).1 in
@@ -82,7 +82,7 @@ module _ {G : named.Ghosts RawName} (f : Fragment RawName G) (table : ExtensionT
         let at_u : slice_get s.commons u ≡ Some d = first.2.1 in
         let is : d.name ≡ components_of other = first.2.2 in
         let x = seen_at declaration (commons_in_order f) u d at_u in
-        let same : components_of x.0.0 ≡ components_of other = ap (λ (y : Declared RawName). y.name) x.2 ∙ is in
+        let same : components_of x.0.0 ≡ components_of other = ap (λ (y : DeclaredType RawName). y.name) x.2 ∙ is in
         let low : v ≤ u = least u d at_u (subst (λ n. TypeReaches s n n) (sym is) round) in
         let less_key : names_in_order x.0.0 e.0 ≡ Less =
         names_by_components x.0.0 e.0 ∙ ap (λ c. slice_cmp text_cmp c (components_of e.0)) same
@@ -90,7 +90,7 @@ module _ {G : named.Ghosts RawName} (f : Fragment RawName G) (table : ExtensionT
         let up = map_sorted names_in_order names_total (declared_commons f) in
         elim (cases_eq v u) [
           | inl eq ↦
-              let both : e ≡ x.0 = some_is e x.0 (sym at ∙ ap (slice_get (commons_in_order f)) eq ∙ x.1) in
+              let both : e ≡ x.0 = same_Some e x.0 (sym at ∙ ap (slice_get (commons_in_order f)) eq ∙ x.1) in
               same_not_below x.0.0 e.0 (ap (λ (y : InternalName × TypeAt). components_of y.0) (sym both)) less_key
           | inr apart ↦
               let above : names_in_order e.0 x.0.0
@@ -105,11 +105,11 @@ module _ {G : named.Ghosts RawName} (f : Fragment RawName G) (table : ExtensionT
     named_cycle v r (CycleInCommonTypeReferences e) (c, at) =
         let lent = lent_at_rank v (e.ty, c) at in
         let is : r.ty ≡ declaration (on_value lent_type (e.ty, c)) =
-        some_is r.ty _ (sym r.here ∙ slice_get-map declaration (commons_in_order f) v
+        same_Some r.ty _ (sym r.here ∙ slice_get-map declaration (commons_in_order f) v
         ∙ ap (option_map declaration) lent) in
         record {
           declared = declared_key v (on_value lent_type (e.ty, c)) lent;
-          round = subst (λ n. TypeReaches s n n) (ap (λ (d : Declared RawName). d.name) is) r.round;
+          round = subst (λ n. TypeReaches s n n) (ap (λ (d : DeclaredType RawName). d.name) is) r.round;
           least = λ other round. not_lt other e.ty
               (not_below v (on_value lent_type (e.ty, c)) lent r.least other round);
         }

@@ -10,16 +10,10 @@ use Rattle.std.specs.Map.{keys_of, values_of}
 use Rattle.std.specs.Ordering.{match_ordering, ordering_reverse}
 use Rattle.std.proofs.lemmas.List.Elements.{All-nil, All-head, All-tail}
 use Rattle.std.proofs.lemmas.Map.Views.{All-keys-insert_entry, All-values-insert_entry}
+use Rattle.std.proofs.lemmas.Bool.{or_left, or_right}
 use Rattle.cedar_data.specs.Entries.{on_value}
 use Rattle.cedar_data.specs.Maps.{with_entries, map_of}
-
-pub first_true : (a b : Bool) → a ≡ true → (a || b) ≡ true
-first_true true b h = refl
-first_true false b h = cc
-
-pub second_true : (a b : Bool) → b ≡ true → (a || b) ≡ true
-second_true true b h = refl
-second_true false b h = h
+use Rattle.cedar_data.proofs.Orders.{all_above}
 
 either_more : (a b c : Bool) → (b ≡ true → c ≡ true) → (a || b) ≡ true → (a || c) ≡ true
 either_more true b c f h = refl
@@ -27,11 +21,6 @@ either_more false b c f h = f h
 
 turned : {K : Type 0} (cmp : K → K → Ordering) → IsTotalOrder cmp → (a b : K) → cmp a b ≡ Greater → cmp b a ≡ Less
 turned cmp o a b h = o.antisymm b a ∙ ap ordering_reverse h
-
-below_all : {K : Type 0} (cmp : K → K → Ordering) → IsTotalOrder cmp → (k x : K) (xs : List K) → cmp k x ≡ Less
-    → AllByRecursion (λ y. cmp x y ≡ Less) xs → AllByRecursion (λ y. cmp k y ≡ Less) xs
-below_all cmp o k x [] lt a = tt
-below_all cmp o k x (y ∷ ys) lt a = (o.trans k x y lt a.0, below_all cmp o k x ys lt a.1)
 
 module _ {K X : Type 0} (cmp : K → K → Ordering) where
   -- what holds of the keys, or of the values, of the entries holds of those of the map
@@ -59,7 +48,7 @@ module _ {K X : Type 0} (cmp : K → K → Ordering) where
         go : (list_any test (keys_of es) ≡ true → list_any test (keys_of (insert_entry cmp es k v)) ≡ true)
             → (o : Ordering) → list_any test
             (keys_of (match_ordering o ((k, v) ∷ e ∷ es) ((e.0, v) ∷ es) (e ∷ insert_entry cmp es k v))) ≡ true
-        go more Less = second_true (test k) (list_any test (keys_of (e ∷ es))) h
+        go more Less = or_right (test k) (list_any test (keys_of (e ∷ es))) h
         go more Equal = h
         go more Greater = either_more (test e.0) (list_any test (keys_of es))
             (list_any test (keys_of (insert_entry cmp es k v))) more h
@@ -73,15 +62,15 @@ module _ {K X : Type 0} (cmp : K → K → Ordering) where
       -- a key that is put in is there, or one that is equal to it
       insert_there : (es : List (K × X)) (k : K) (v : X) → test k ≡ true
           → list_any test (keys_of (insert_entry cmp es k v)) ≡ true
-      insert_there [] k v h = first_true (test k) false h
+      insert_there [] k v h = or_left (test k) false h
       insert_there (e ∷ es) k v h = go (insert_there es k v h) (cmp k e.0) refl
         where
           go : list_any test (keys_of (insert_entry cmp es k v)) ≡ true → (o : Ordering) → cmp k e.0 ≡ o
               → list_any test (keys_of (match_ordering o ((k, v) ∷ e ∷ es) ((e.0, v) ∷ es)
               (e ∷ insert_entry cmp es k v))) ≡ true
-          go more Less is = first_true (test k) (list_any test (keys_of (e ∷ es))) h
-          go more Equal is = first_true (test e.0) (list_any test (keys_of es)) (sym (respects k e.0 is) ∙ h)
-          go more Greater is = second_true (test e.0) (list_any test (keys_of (insert_entry cmp es k v))) more
+          go more Less is = or_left (test k) (list_any test (keys_of (e ∷ es))) h
+          go more Equal is = or_left (test e.0) (list_any test (keys_of es)) (sym (respects k e.0 is) ∙ h)
+          go more Greater is = or_right (test e.0) (list_any test (keys_of (insert_entry cmp es k v))) more
 
       -- each key of the entries is a key of the map, or equal to one
       pub with_there : (m es : List (K × X)) → list_any test (keys_of es) ≡ true
@@ -119,7 +108,7 @@ module _ {K X : Type 0} (cmp : K → K → Ordering) where
         go : IsStrictlySortedBy cmp (keys_of (insert_entry cmp es k v)) → (r : Ordering) → cmp k e.0 ≡ r
             → IsStrictlySortedBy cmp (keys_of
             (match_ordering r ((k, v) ∷ e ∷ es) ((e.0, v) ∷ es) (e ∷ insert_entry cmp es k v)))
-        go more Less is = ((is, below_all cmp o k e.0 (keys_of es) is up.0), up)
+        go more Less is = ((is, all_above o k e.0 (keys_of es) is up.0), up)
         go more Equal is = up
         go more Greater is = (insert_behind e.0 es k v (turned cmp o k e.0 is) up.0, more)
 

@@ -15,13 +15,13 @@ use Rattle.cedar_identifiers.specs.declared.raw_name.RawName.{RawName}
 use Rattle.cedar_names.specs.Orders.{names_in_order, names_total}
 use Rattle.cedar_names.specs.declared.extension_table.ExtensionTable.{ExtensionTable}
 use Rattle.schema_json.specs.declared.fragment.Fragment.{Fragment}
-use Rattle.schema_build_expand.specs.Scope.{Declared, IsRanked, IsUndeclared}
+use Rattle.schema_build_expand.specs.Scope.{DeclaredType, IsRanked, IsUndeclared}
+use Rattle.schema_build_expand.proofs.Linked.{at_some}
+use Rattle.schema_build_checks.proofs.Names.{names_exact}
 use Rattle.schema_build_scope.specs.Commons.{TypeAt, declared_commons, commons_in_order}
 use Rattle.schema_build_scope.specs.FragmentScope.{declaration, fragment_scope}
 use Rattle.schema_build_scope.proofs.Apart.{RanksApart, seen_at, same_not_below, entries_apart}
 use Rattle.schema_build_scope.proofs.Entries.{map_sorted}
-use Rattle.schema_build_scope.proofs.Names.{names_equal}
-use Rattle.schema_build_scope.proofs.Rounds.{at_some}
 
 module _ {G : named.Ghosts RawName} (f : Fragment RawName G) (table : ExtensionTable) where
   -- no two declared common types have one name
@@ -47,7 +47,7 @@ module _ {G : named.Ghosts RawName} (f : Fragment RawName G) (table : ExtensionT
         let here : get_or entries k e.0 ≡ e.0 = get_or_from_slice_get entries k e.0 e.0 e.1 in (
           declaration (on_value h e.0),
           entry_in k e.0 e.1,
-          names_equal e.0.0 q (ap (λ (x : InternalName × V). names_in_order x.0 q) (sym here) ∙ hit.equal e.0),
+          names_exact e.0.0 q (ap (λ (x : InternalName × V). names_in_order x.0 q) (sym here) ∙ hit.equal e.0),
         )
 
     pub gap_undeclared : (q : InternalName) (k : ℕ) → IsGap names_in_order q entries k k
@@ -57,7 +57,8 @@ module _ {G : named.Ghosts RawName} (f : Fragment RawName G) (table : ExtensionT
         let b = seen_at (on_value h) entries j a.0 (ap (λ l. slice_get l j) known ∙ a.1) in
         let e = b.0 in
         let same : components_of e.0 ≡ components_of q =
-        ap (λ (x : InternalName × TypeAt). components_of x.0) b.2 ∙ ap (λ (x : Declared RawName). x.name) a.2 ∙ is in
+        ap (λ (x : InternalName × TypeAt). components_of x.0) b.2 ∙ ap (λ (x : DeclaredType RawName). x.name) a.2
+        ∙ is in
         let here : get_or entries j e ≡ e = get_or_from_slice_get entries j e e b.1 in
         let below : names_in_order (get_or entries j e).0 q ≡ Less
         → ⊥ = λ less. same_not_below e.0 q same

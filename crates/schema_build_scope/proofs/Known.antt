@@ -1,12 +1,11 @@
 -- Where the rows on extension types, features and references to types do not hold, each part of each type is meant.
-use Rattle.std.proofs.Common.{◌≡◌, zero, suc, Bool, true, false, ◌||◌, List, [], ◌∷◌, ◌++◌, get_or, map, All, Contains}
+use Rattle.std.proofs.Common.{◌≡◌, zero, suc, Bool, true, false, ◌||◌, List, [], ◌∷◌, All, Contains}
 use Rattle.std.proofs.Common.{Option, Some, None, refl, sym, ap, ◌∙◌, subst, arith}
 use Rattle.std.specs.Prelude.{IsSome, if◌then◌else◌}
 use Rattle.std.specs.List.{flat_map, list_any}
 use Rattle.std.specs.Option.{option_map, is_some}
 use Rattle.std.specs.Str.{bytes_eq}
-use Rattle.std.proofs.lemmas.List.{get_or_default}
-use Rattle.std.proofs.lemmas.List.Elements.{All-nil, All-append}
+use Rattle.cedar_data.proofs.Lists.{all_of, contains_flat, list_any-map}
 use Rattle.cedar_identifiers.specs.declared.internal_name.InternalName.{InternalName}
 use Rattle.cedar_identifiers.specs.declared.name.Name.{Name}
 use Rattle.cedar_identifiers.specs.declared.name_text.NameText as named
@@ -38,13 +37,14 @@ use Rattle.schema_resolve.specs.Resolved.{untargeted_in}
 use Rattle.schema_resolve.specs.Targets.{target, unless}
 use Rattle.schema_resolve.specs.Undefined.{Undefined, types_among}
 use Rattle.schema_resolve.specs.Undefined as among
+use Rattle.schema_resolve.proofs.Gathering.{types_both}
 use Rattle.schema_build_errors.specs.declared.schema_error.SchemaError.{SchemaError}
 use Rattle.schema_build_errors.specs.declared.schema_error.SchemaError.TheVariants as error
 use Rattle.schema_build_errors.specs.declared.use_errors.UnsupportedFeature.{UnsupportedFeature}
+use Rattle.schema_build_expand.specs.Rows.{IsMeant}
 use Rattle.schema_build_checks.specs.Refusing.{IsAboutFirst}
 use Rattle.schema_build_checks.specs.Rows.{Never}
 use Rattle.schema_build_checks.specs.WalkFaults.{unknown_extension, unsupported, NamesExtension, NamesFeature}
-use Rattle.schema_build_expand.specs.Rows.{IsMeant}
 use Rattle.schema_build_scope.specs.FragmentScope.{fragment_scope, meant_in, by_components}
 use Rattle.schema_build_scope.specs.Parts.{IsTypeMeant, IsAllKnown, AreTypesMeant}
 use Rattle.schema_build_scope.specs.UndefinedRows.{NamesTypes, undefined_alone}
@@ -52,15 +52,10 @@ use Rattle.schema_build_scope.proofs.Quiet.{IsOfParts, empty_parted, quiet_in, q
 use Rattle.schema_build_scope.proofs.Quiet.{quiet_shape, quiet_tags, quiet_context, quiet_parent}
 use Rattle.schema_build_scope.proofs.TypeParts.{only_within, parts_within}
 
-pub all_of : {A : Type 0} (P : A → Type 0) (xs : List A) → ((x : A) → Contains xs x → P x) → All P xs
-all_of P xs h k d lt = h (get_or xs k d) (k, lt, sym (get_or_default xs k d (get_or xs k d) lt))
-
 all_flat : {A B : Type 0} (P : B → Type 0) (f : A → List B) (xs : List A)
     → ((x : A) → Contains xs x → (y : B) → Contains (f x) y → P y) → All P (flat_map f xs)
-all_flat P f [] h = All-nil P
-all_flat P f (x ∷ xs) h =
-    All-append P (f x) (flat_map f xs) (all_of P (f x) (h x (0, omega arith, refl)))
-    (all_flat P f xs (λ y (k, lt, e). h y (suc k, omega (arith, lt), e)))
+all_flat P f xs h =
+    all_of P (flat_map f xs) (λ y c. let (x, there, here) = contains_flat f xs y c in h x there y here)
 
 -- a row on the first of a list does not hold where there is none
 none_first : {U : Type 0} (about : U → SchemaError → Type 0) → ((u : U) → (e : SchemaError) × about u e) → (us : List U)
@@ -76,7 +71,7 @@ extension_error id =
 feature_error : (u : UnsupportedFeature) → (e : SchemaError) × NamesFeature u e
 feature_error u = (error.UnsupportedFeature (record { 0 = u }), (record { 0 = u }, refl, refl))
 
-no_types : (us : List Undefined) → Never (NamesTypes us) → types_among us ≡ []
+pub no_types : (us : List Undefined) → Never (NamesTypes us) → types_among us ≡ []
 no_types us never = go (types_among us) refl
   where
     go : (cs : List ConditionalName) → types_among us ≡ cs → types_among us ≡ []
@@ -86,27 +81,22 @@ no_types us never = go (types_among us) refl
         (refl, λ none. (let h : c ∷ cs ≡ [] = sym e ∙ none in cc)))
 
 -- no reference to a type is among them
-abbrev NoTypes : List Undefined → Type 0
+abbrev pub NoTypes : List Undefined → Type 0
 NoTypes us = types_among us ≡ []
 
-types_append : (us vs : List Undefined) → types_among (us ++ vs) ≡ types_among us ++ types_among vs
-types_append [] vs = refl
-types_append (among.type_reference c ∷ us) vs = ap (λ l. c ∷ l) (types_append us vs)
-types_append (among.action_reference id ty ∷ us) vs = types_append us vs
-
-types_parted : IsOfParts NoTypes
+pub types_parted : IsOfParts NoTypes
 types_parted = record {
-  left = λ a b e. empty_parted.left (types_among a) (types_among b) (sym (types_append a b) ∙ e);
-  right = λ a b e. empty_parted.right (types_among a) (types_among b) (sym (types_append a b) ∙ e);
+  left = λ a b e. empty_parted.left (types_among a) (types_among b) (sym (types_both a b) ∙ e);
+  right = λ a b e. empty_parted.right (types_among a) (types_among b) (sym (types_both a b) ∙ e);
 }
 
 -- a reference that is not among them means something
-targeted : (o : Option InternalName) (c : ConditionalName) → NoTypes (unless o (among.type_reference c))
+pub targeted : (o : Option InternalName) (c : ConditionalName) → NoTypes (unless o (among.type_reference c))
     → is_some o ≡ true
 targeted None c e = cc
 targeted (Some n) c e = refl
 
-kept_some : {A B : Type 0} (f : A → B) (o : Option A) → is_some o ≡ true → is_some (option_map f o) ≡ true
+pub kept_some : {A B : Type 0} (f : A → B) (o : Option A) → is_some o ≡ true → is_some (option_map f o) ≡ true
 kept_some f None e = e
 kept_some f (Some a) e = refl
 
@@ -119,13 +109,9 @@ reference_meant t ns kind name q =
 -- an extension type that is not unknown is in the table
 known_extension : (table : ExtensionTable) (id : UnreservedId) → unknown_extension table (extension_type id) ≡ []
     → list_any (bytes_eq id.id.text) (table_names table) ≡ true
-known_extension table id e = seen table.names ∙ go (table_has table id.id.text) e
+known_extension table id e =
+    list_any-map (bytes_eq id.id.text) (λ (n : UnreservedId). n.id.text) table.names ∙ go (table_has table id.id.text) e
   where
-    seen : (ids : List UnreservedId)
-        → list_any (bytes_eq id.id.text) (map (λ n. n.id.text) ids) ≡ list_any (λ n. bytes_eq id.id.text n.id.text) ids
-    seen [] = refl
-    seen (n ∷ ids) = ap (λ b. bytes_eq id.id.text n.id.text || b) (seen ids)
-
     go : (b : Bool) → (if b then [] else id ∷ []) ≡ [] → b ≡ true
     go true e = refl
     go false e = cc

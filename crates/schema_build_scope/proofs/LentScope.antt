@@ -25,7 +25,7 @@ use Rattle.schema_build_graph.specs.declared.order_fault.OrderFault.TheVariants.
 use Rattle.schema_build_expand.specs.Commons.{AreCommons}
 use Rattle.schema_build_expand.specs.Rows.{IsMeant, AreMeant, NoneRound, IsCycleFault}
 use Rattle.schema_build_expand.specs.Scope.{Scope}
-use Rattle.schema_build_scope.specs.Commons.{TypeAt, common_entry, declared_commons, commons_in_order}
+use Rattle.schema_build_scope.specs.Commons.{TypeAt, full_common_entry, declared_commons, commons_in_order}
 use Rattle.schema_build_scope.specs.FragmentScope.{declaration, fragment_scope}
 use Rattle.schema_build_scope.specs.LentRounds.{IsRoundFault, NoneReachesItself}
 use Rattle.schema_build_scope.specs.Parts.{AreTypesMeant}
@@ -60,9 +60,9 @@ module _ {G : named.Ghosts RawName} (f : Fragment RawName G) (table : ExtensionT
   values_meant : AreTypesMeant f table → All IsValueMeant (values_of (commons_in_order f))
   values_meant meant =
       map_values names_in_order IsValueMeant (declared_commons f)
-      (each_value IsValueMeant (λ (e : Option Name × NamespaceDefinition RawName G). map (common_entry e.0)
+      (each_value IsValueMeant (λ (e : Option Name × NamespaceDefinition RawName G). map (full_common_entry e.0)
       e.1.common_types) f.0
-      (λ e in_f. each_entry IsValueMeant (common_entry e.0) e.1.common_types
+      (λ e in_f. each_entry IsValueMeant (full_common_entry e.0) e.1.common_types
       (λ d in_n. meant.commons e.0 e.1 d in_f in_n)))
 
   module _ {R V : Type 0} (h : V → TypeAt) (entries : List (InternalName × V))

@@ -1,16 +1,15 @@
 mod Entries
-mod Names
 mod Paths
 mod Apart
 mod Rounds
 mod Unreserved
 mod BuiltinNames
 mod Found
-mod Quiet
+pub mod Quiet
 mod TypeParts
 pub mod Known
 mod Meanings
-mod Targets
+pub mod Targets
 mod UndefinedNames
 mod BuiltinParts
 mod UsedTypes

@@ -3,6 +3,7 @@ use Rattle.std.proofs.Common.{◌≡◌, Bool, true, false, List, [], ◌∷◌,
 use Rattle.std.proofs.Common.{ℕ, refl, subst}
 use Rattle.std.specs.Prelude.{if◌then◌else◌, IsSome}
 use Rattle.std.specs.Option.{option_map}
+use Rattle.std.proofs.lemmas.Option.{same_Some}
 use Rattle.cedar_data.specs.declared.loc.Loc.{Loc}
 use Rattle.cedar_identifiers.specs.Candidates.{qualified}
 use Rattle.cedar_identifiers.specs.Names.{components_of}
@@ -14,11 +15,8 @@ use Rattle.cedar_identifiers.specs.declared.reference_type.ReferenceType.TheVari
 use Rattle.schema_resolve_definitions.specs.Tests.{Tests}
 use Rattle.schema_resolve.specs.Meanings.{means, kind_there}
 use Rattle.schema_resolve.specs.Tried.{kind_found, own_kind, candidate}
-use Rattle.schema_build_scope.specs.Meant.{kind_if, meant_candidate}
 use Rattle.schema_resolve.proofs.Candidates.{behind_parts, either_told, own_found, plain_found, none_found}
-
-some_is : (x y : Bool) → Some x ≡ Some y → x ≡ y
-some_is x y e = cc
+use Rattle.schema_build_scope.specs.Meant.{kind_if, meant_candidate}
 
 -- the kind of what is found
 told_kind : (t : Tests) (kind : ReferenceType) (n : InternalName) (b : Bool)
@@ -26,12 +24,12 @@ told_kind : (t : Tests) (kind : ReferenceType) (n : InternalName) (b : Bool)
 told_kind t Common n b h = go (t.is_common (components_of n)) h
   where
     go : (c : Bool) → (if c then Some true else None) ≡ Some b → Common ≡ kind_if b
-    go true e = ap kind_if (some_is true b e)
+    go true e = ap kind_if (same_Some true b e)
     go false e = cc
 told_kind t Entity n b h = go (t.is_entity (components_of n)) h
   where
     go : (c : Bool) → (if c then Some false else None) ≡ Some b → Entity ≡ kind_if b
-    go true e = ap kind_if (some_is false b e)
+    go true e = ap kind_if (same_Some false b e)
     go false e = cc
 told_kind t CommonOrEntity n b h = ap kind_if (sym (either_told t (components_of n) b h))
 
@@ -81,7 +79,8 @@ module _ (t : Tests) (ns : Option InternalName) (kind : ReferenceType) (name : R
           → (b : Bool) × (kind_found t kind (components_of name.name) ≡ Some b)
       go (Some b) e = (b, e)
       go None e =
-          absurd (let h : IsSome {T = InternalName × ReferenceType} None = subst IsSome (sym (none_meant none e)) some in
+          absurd (let h : IsSome {T = InternalName × ReferenceType} None = subst IsSome
+          (sym (none_meant none e)) some in
           cc)
 
 -- what is found in a kind that leaves nothing open
@@ -89,12 +88,12 @@ pub known_common : (t : Tests) (n : List (List ℕ)) (b : Bool) → kind_found t
 known_common t n b h = go (t.is_common n) h
   where
     go : (c : Bool) → (if c then Some true else None) ≡ Some b → true ≡ b
-    go true e = some_is true b e
+    go true e = same_Some true b e
     go false e = cc
 
 pub known_entity : (t : Tests) (n : List (List ℕ)) (b : Bool) → kind_found t Entity n ≡ Some b → false ≡ b
 known_entity t n b h = go (t.is_entity n) h
   where
     go : (c : Bool) → (if c then Some false else None) ≡ Some b → false ≡ b
-    go true e = some_is false b e
+    go true e = same_Some false b e
     go false e = cc

@@ -1,8 +1,9 @@
 -- Walks that find nothing: then nothing is found in any type of the fragment.
-use Rattle.std.proofs.Common.{◌≡◌, ℕ, zero, suc, ◌<◌, List, [], ◌∷◌, ◌++◌, length, get_or, Contains, Option, Some, refl}
+use Rattle.std.proofs.Common.{◌≡◌, ℕ, zero, suc, List, [], ◌∷◌, ◌++◌, Contains, Option, Some, refl}
 use Rattle.std.proofs.Common.{sym, ◌∙◌, subst, arith}
 use Rattle.std.specs.List.{flat_map}
 use Rattle.std.specs.Option.{option_map_or}
+use Rattle.cedar_data.proofs.Lists.{empty_before, empty_behind}
 use Rattle.cedar_identifiers.specs.declared.name.Name.{Name}
 use Rattle.cedar_identifiers.specs.declared.name_text.NameText as named
 use Rattle.cedar_identifiers.specs.declared.reference_type.ReferenceType.TheVariants.{Common}
@@ -34,16 +35,13 @@ pub record IsOfParts {U : Type 0} (Quiet : List U → Type 0) : Type 0 where
   pub right : (a b : List U) → Quiet (a ++ b) → Quiet b
 
 module _ {U : Type 0} (Quiet : List U → Type 0) (parted : IsOfParts Quiet) where
-  quiet_at : {A : Type 0} (f : A → List U) (xs : List A) (k : ℕ) (x : A) → k < length xs → get_or xs k x ≡ x
-      → Quiet (flat_map f xs) → Quiet (f x)
-  quiet_at f [] k x lt is q = absurd (omega arith)
-  quiet_at f (y ∷ ys) zero x lt is q = subst (λ z. Quiet (f z)) is (parted.left (f y) (flat_map f ys) q)
-  quiet_at f (y ∷ ys) (suc k) x lt is q = quiet_at f ys k x (omega arith) is (parted.right (f y) (flat_map f ys) q)
-
   -- of each item of a list
   pub quiet_in : {A : Type 0} (f : A → List U) (xs : List A) (x : A) → Contains xs x → Quiet (flat_map f xs)
       → Quiet (f x)
-  quiet_in f xs x (k, lt, is) q = quiet_at f xs k x lt is q
+  quiet_in f [] x (k, lt, is) q = absurd (omega (arith, lt))
+  quiet_in f (y ∷ ys) x (zero, lt, is) q = subst (λ z. Quiet (f z)) is (parted.left (f y) (flat_map f ys) q)
+  quiet_in f (y ∷ ys) x (suc k, lt, is) q =
+      quiet_in f ys x (k, omega arith, is) (parted.right (f y) (flat_map f ys) q)
 
   quiet_some : {A : Type 0} (f : A → List U) (o : Option A) (a : A) → o ≡ Some a → Quiet (option_map_or f o [])
       → Quiet (f a)
@@ -119,12 +117,4 @@ module _ {U : Type 0} (Quiet : List U → Type 0) (parted : IsOfParts Quiet) whe
 
 -- nothing is there
 pub empty_parted : {U : Type 0} → IsOfParts (λ (us : List U). us ≡ [])
-empty_parted {U} = record { left = first; right = second }
-  where
-    first : (a b : List U) → a ++ b ≡ [] → a ≡ []
-    first [] b e = refl
-    first (x ∷ xs) b e = cc
-
-    second : (a b : List U) → a ++ b ≡ [] → b ≡ []
-    second [] b e = e
-    second (x ∷ xs) b e = cc
+empty_parted {U} = record { left = empty_before; right = empty_behind }

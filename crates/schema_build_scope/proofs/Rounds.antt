@@ -1,28 +1,20 @@
 -- Common types that reach themselves, by their ranks and by their names.
-use Rattle.std.proofs.Common.{◌≡◌, ℕ, ◌<◌, List, [], ◌∷◌, length, get_or, Option, Some, refl, sym, ap, ◌∙◌, subst}
+use Rattle.std.proofs.Common.{◌≡◌, ℕ, List, length, Option, Some, sym, ap, ◌∙◌, subst}
 use Rattle.std.proofs.Common.{arith}
 use Rattle.std.specs.Prelude.{slice_get}
 use Rattle.std.specs.Borrow.{Bor}
-use Rattle.std.proofs.lemmas.List.{get_or_default}
-use Rattle.std.proofs.lemmas.Option.{slice_get_within, slice_get_read}
+use Rattle.std.proofs.lemmas.Option.{slice_get_within, same_Some}
 use Rattle.cedar_identifiers.specs.declared.internal_name.InternalName.{InternalName}
 use Rattle.schema_json.specs.declared.types.Type.{«Type»}
 use Rattle.schema_json_walk.specs.Walk.{parts}
 use Rattle.schema_build_graph.specs.Paths.{Reaches}
-use Rattle.schema_build_expand.specs.Scope.{Scope, Declared, IsRanked}
+use Rattle.schema_build_expand.specs.Scope.{Scope, DeclaredType, IsRanked}
 use Rattle.schema_build_expand.specs.Commons.{AreCommons}
 use Rattle.schema_build_expand.specs.Rows.{RefersBy}
+use Rattle.schema_build_expand.proofs.Linked.{at_some}
 use Rattle.schema_build_scope.specs.TypeReaches.{MeansCommon, RefersToCommon, TypeReaches}
-use Rattle.schema_build_scope.proofs.Apart.{RanksApart, some_is}
+use Rattle.schema_build_scope.proofs.Apart.{RanksApart}
 use Rattle.schema_build_scope.proofs.Paths.{reaches_alike, first_step}
-
-pub at_some : {X : Type 0} (xs : List X) (i : ℕ) → i < length xs → (x : X) × (slice_get xs i ≡ Some x)
-at_some [] i h = absurd (omega arith)
-at_some (y ∷ ys) i h = (
-  get_or (y ∷ ys) i y,
-  slice_get_read (y ∷ ys) (length (y ∷ ys)) i (get_or (y ∷ ys) i y) refl h
-      (get_or_default (y ∷ ys) i y (get_or (y ∷ ys) i y) h),
-)
 
 module _ {N R : Type 0} (s : Scope N) (scope : R → Scope N) (place : R → Option InternalName)
     (commons : List (R × Bor («Type» N))) (are : AreCommons s scope place commons)
@@ -32,12 +24,12 @@ module _ {N R : Type 0} (s : Scope N) (scope : R → Scope N) (place : R → Opt
   Named k name = IsRanked s name k
 
   -- the type of the declaration of a rank
-  declared_at : (k : ℕ) (d : Declared N) (c : R × Bor («Type» N)) → slice_get s.commons k ≡ Some d
+  declared_at : (k : ℕ) (d : DeclaredType N) (c : R × Bor («Type» N)) → slice_get s.commons k ≡ Some d
       → slice_get commons k ≡ Some c → (d.place ≡ place c.0) × (d.ty ≡ c.1.now)
   declared_at k d c at_d at_c =
       let of_c = (are k c at_c).1 in
-      let same : of_c.0 ≡ d = some_is of_c.0 d (sym of_c.1 ∙ at_d) in
-      (ap (λ (x : Declared N). x.place) (sym same) ∙ of_c.2, ap (λ (x : Declared N). x.ty) (sym same) ∙ of_c.3)
+      let same : of_c.0 ≡ d = same_Some of_c.0 d (sym of_c.1 ∙ at_d) in
+      (ap (λ (x : DeclaredType N). x.place) (sym same) ∙ of_c.2, ap (λ (x : DeclaredType N). x.ty) (sym same) ∙ of_c.3)
 
   step_up : (a b : ℕ) (x : List (List ℕ)) → RefersBy s place commons a b → Named a x
       → (y : List (List ℕ)) × Named b y × RefersToCommon s x y
@@ -69,8 +61,8 @@ module _ {N R : Type 0} (s : Scope N) (scope : R → Scope N) (place : R → Opt
   round_named k x named round =
       let r = reaches_alike (RefersBy s place commons) (RefersToCommon s) Named step_up k k x named round in
       let other = r.1 in
-      let d : other.0 ≡ named.0 = some_is other.0 named.0 (sym other.1 ∙ named.1) in
-      let same : r.0 ≡ x = sym other.2 ∙ ap (λ (e : Declared N). e.name) d ∙ named.2 in
+      let d : other.0 ≡ named.0 = same_Some other.0 named.0 (sym other.1 ∙ named.1) in
+      let same : r.0 ≡ x = sym other.2 ∙ ap (λ (e : DeclaredType N). e.name) d ∙ named.2 in
       subst (TypeReaches s x) same r.2
 
   -- the name reaches itself, and so does its rank
@@ -86,7 +78,7 @@ module _ {N R : Type 0} (s : Scope N) (scope : R → Scope N) (place : R → Opt
 
   -- a rank that reaches itself is that of a declared common type
   pub round_below : (k : ℕ) → Reaches (RefersBy s place commons) k k
-      → (d : Declared N) × (slice_get s.commons k ≡ Some d)
+      → (d : DeclaredType N) × (slice_get s.commons k ≡ Some d)
   round_below k round =
       let first = (first_step (RefersBy s place commons) k k round).1 in
       let of_c = (are k first.0 first.1).1 in

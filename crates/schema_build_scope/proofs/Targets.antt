@@ -1,8 +1,11 @@
 -- What a reference stands for, from what it means.
-use Rattle.std.proofs.Common.{◌≡◌, ℕ, Bool, true, false, ◌||◌, List, [], ◌∷◌, Option, Some, None, cond, find, refl, sym}
+use Rattle.std.proofs.Common.{◌≡◌, ℕ, Bool, true, false, ◌||◌, List, Option, Some, None, refl, sym}
 use Rattle.std.proofs.Common.{ap, ◌∙◌, subst}
 use Rattle.std.specs.Prelude.{if◌then◌else◌}
 use Rattle.std.specs.Option.{option_map}
+use Rattle.std.proofs.lemmas.Option.{same_Some}
+use Rattle.cedar_data.proofs.Options.{seen_of}
+use Rattle.cedar_data.proofs.Lists.{found_passes}
 use Rattle.cedar_identifiers.specs.Names.{components_of}
 use Rattle.cedar_identifiers.specs.declared.internal_name.InternalName.{InternalName}
 use Rattle.cedar_identifiers.specs.declared.name_text.NameText as named
@@ -16,26 +19,17 @@ use Rattle.schema_resolve_definitions.specs.Tests.{Tests, tests_of}
 use Rattle.schema_resolve.specs.Meanings.{means, kind_there}
 use Rattle.schema_resolve.specs.Qualified.{in_namespace}
 use Rattle.schema_resolve.specs.Targets.{is_defined, target}
+use Rattle.schema_resolve.specs.Tried.{candidate}
 use Rattle.schema_build_expand.specs.Scope.{IsRanked}
 use Rattle.schema_build_expand.specs.Ranks.{IsRankOf}
 use Rattle.schema_build_expand.specs.Targets.{IsMeantTarget}
 use Rattle.schema_build_expand.specs.declared.meanings.Target.{Target}
 use Rattle.schema_build_expand.specs.declared.meanings.Target.TheVariants as told
 use Rattle.schema_build_scope.specs.FragmentScope.{by_components, fragment_scope}
-use Rattle.schema_resolve.specs.Tried.{candidate}
 use Rattle.schema_build_scope.specs.Meant.{kind_if, meant_candidate}
 use Rattle.schema_build_scope.specs.declared.meant.Meant.{Meant}
 use Rattle.schema_build_scope.specs.NamedTargets.{IsRankOfName, IsCommonTarget}
-use Rattle.schema_build_scope.proofs.Apart.{mapped_some, some_is}
 use Rattle.schema_build_scope.proofs.Found.{fragment_apart}
-
-find_passes : {A : Type 0} (p : A → Bool) (xs : List A) (x : A) → find p xs ≡ Some x → p x ≡ true
-find_passes p [] x h = cc
-find_passes p (y ∷ ys) x h = go (find_passes p ys x) (p y) refl h
-  where
-    go : (find p ys ≡ Some x → p x ≡ true) → (b : Bool) → p y ≡ b → cond b (Some y) (find p ys) ≡ Some x → p x ≡ true
-    go more true is h = ap p (sym (some_is y x h)) ∙ is
-    go more false is h = more h
 
 kind_common : (t : Tests) (kind : ReferenceType) (n : InternalName) → is_defined t kind (components_of n) ≡ true
     → kind_there t kind n ≡ Common → t.is_common (components_of n) ≡ true
@@ -47,7 +41,7 @@ kind_common t CommonOrEntity n h k = go (t.is_common (components_of n)) k
     go true e = refl
     go false e = cc
 
-kind_entity : (t : Tests) (kind : ReferenceType) (n : InternalName) → is_defined t kind (components_of n) ≡ true
+pub kind_entity : (t : Tests) (kind : ReferenceType) (n : InternalName) → is_defined t kind (components_of n) ≡ true
     → kind_there t kind n ≡ Entity → t.is_entity (components_of n) ≡ true
 kind_entity t Common n h k = cc
 kind_entity t Entity n h k = h
@@ -62,11 +56,11 @@ module _ (t : Tests) (ns : Option InternalName) (kind : ReferenceType) (name : R
       → (is_defined t kind (components_of n) ≡ true) × (kind_there t kind n ≡ k)
   defined_kind k e =
       let c = in_namespace ns kind name in
-      let m = mapped_some (λ (x : InternalName). let y : InternalName × ReferenceType = (x, kind_there t kind x) in y)
+      let m = seen_of (λ (x : InternalName). let y : InternalName × ReferenceType = (x, kind_there t kind x) in y)
       (target t c) (n, k) e in
       let same : m.0 ≡ n = ap (λ (y : InternalName × ReferenceType). y.0) m.2 in
       let passes : is_defined t kind (components_of m.0) ≡ true =
-      find_passes (λ p. is_defined t kind (components_of p)) c.possibilities m.0 m.1 in (
+      found_passes (λ p. is_defined t kind (components_of p)) c.possibilities m.0 m.1 in (
         subst (λ x. is_defined t kind (components_of x) ≡ true) same passes,
         ap (kind_there t kind) (sym same) ∙ ap (λ (y : InternalName × ReferenceType). y.1) m.2,
       )
@@ -100,7 +94,7 @@ module _ {G : named.Ghosts RawName} (f : Fragment RawName G) (table : ExtensionT
   same_full n e full k m =
       let a : List (List ℕ) × ReferenceType = (components_of n, Common) in
       let b : List (List ℕ) × ReferenceType = (full, k) in
-      ap (λ (z : List (List ℕ) × ReferenceType). z.0) (some_is a b (sym (by_names (Some (n, Common)) e) ∙ m))
+      ap (λ (z : List (List ℕ) × ReferenceType). z.0) (same_Some a b (sym (by_names (Some (n, Common)) e) ∙ m))
 
   pub rank_common : (n : InternalName) → Means (Some (n, Common)) → (r : Option ℕ)
       → IsRankOfName (fragment_scope f table) (components_of n) r → IsRankOf (fragment_scope f table) ns kind name r

@@ -1,9 +1,11 @@
 -- The entity types that are defined have no component `__cedar`.
-use Rattle.std.proofs.Common.{◌≡◌, ℕ, Bool, true, false, ◌||◌, List, [], ◌∷◌, ◌++◌, map, Option, Some, None, refl, ap}
+use Rattle.std.proofs.Common.{◌≡◌, ℕ, Bool, true, false, ◌||◌, List, [], ◌∷◌, map, Option, Some, None, refl, ap}
 use Rattle.std.proofs.Common.{◌∙◌}
 use Rattle.std.specs.List.{flat_map, AllByRecursion}
 use Rattle.std.proofs.lemmas.List.{map-append}
 use Rattle.std.proofs.lemmas.List.Folds.{list_any-append}
+use Rattle.std.proofs.lemmas.Bool.{or_from}
+use Rattle.cedar_data.proofs.Every.{All-append, All-map}
 use Rattle.cedar_identifiers.specs.Words.{is_cedar}
 use Rattle.cedar_identifiers.specs.Candidates.{behind}
 use Rattle.cedar_identifiers.specs.Names.{components_of, has_cedar}
@@ -28,19 +30,15 @@ use Rattle.schema_resolve_definitions.specs.Tests.{tests_of}
 abbrev IsFree : List (List ℕ) → Type 0
 IsFree name = has_cedar name ≡ false
 
-both_false : (a b : Bool) → a ≡ false → b ≡ false → (a || b) ≡ false
-both_false true b h k = cc
-both_false false b h k = k
-
 behind_free : (ns name : InternalName) → IsFree (components_of ns) → IsFree (components_of name)
     → IsFree (components_of (behind ns name))
 behind_free ns name a b =
     ap (λ l. has_cedar (ns.first.text ∷ l)) (map-append (λ (i : Id). i.text) ns.others (name.first ∷ name.others))
     ∙ list_any-append is_cedar (components_of ns) (components_of name)
-    ∙ both_false (has_cedar (components_of ns)) (has_cedar (components_of name)) a b
+    ∙ or_from (has_cedar (components_of ns)) (has_cedar (components_of name)) a b
 
 word_free : (id : UnreservedId) → IsFree (components_of (alone id.id))
-word_free id = both_false (is_cedar id.id.text) false id.unreserved refl
+word_free id = or_from (is_cedar id.id.text) false id.unreserved refl
 
 declared_free : (ns : Option Name) (id : UnreservedId) → IsFree (components_of (declared_name ns id.id))
 declared_free None id = word_free id
@@ -50,25 +48,15 @@ action_free : (ns : Option Name) → IsFree (components_of (action_type ns))
 action_free None = refl
 action_free (Some ns) = behind_free ns.name action_name ns.unreserved refl
 
-both_all : {A : Type 0} (P : A → Type 0) (xs ys : List A) → AllByRecursion P xs → AllByRecursion P ys
-    → AllByRecursion P (xs ++ ys)
-both_all P [] ys a b = b
-both_all P (x ∷ xs) ys a b = (a.0, both_all P xs ys a.1 b)
-
 each_all : {A B : Type 0} (P : B → Type 0) (f : A → List B) → ((a : A) → AllByRecursion P (f a)) → (xs : List A)
     → AllByRecursion P (flat_map f xs)
 each_all P f all [] = tt
-each_all P f all (x ∷ xs) = both_all P (f x) (flat_map f xs) (all x) (each_all P f all xs)
+each_all P f all (x ∷ xs) = All-append P (f x) (flat_map f xs) (all x) (each_all P f all xs)
 
 mapped_all : {A B : Type 0} (P : B → Type 0) (f : A → B) → ((a : A) → P (f a)) → (xs : List A)
     → AllByRecursion P (map f xs)
 mapped_all P f all [] = tt
 mapped_all P f all (x ∷ xs) = (all x, mapped_all P f all xs)
-
-seen_all : {A B : Type 0} (P : B → Type 0) (f : A → B) (xs : List A) → AllByRecursion (λ a. P (f a)) xs
-    → AllByRecursion P (map f xs)
-seen_all P f [] h = tt
-seen_all P f (x ∷ xs) h = (h.0, seen_all P f xs h.1)
 
 among_free : (names : List (List (List ℕ))) (n : List (List ℕ)) → AllByRecursion IsFree names
     → among names n ≡ true → IsFree n
@@ -84,12 +72,12 @@ module _ {G : named.Ghosts RawName} (f : Fragment RawName G) (table : ExtensionT
   pub entity_free : (n : List (List ℕ)) → (tests_of (defined f table)).is_entity n ≡ true → IsFree n
   entity_free n h =
       among_free (defined f table).entities n
-      (both_all IsFree (declared f).entities (map (λ a. a.0) (declared f).actions)
+      (All-append IsFree (declared f).entities (map (λ a. a.0) (declared f).actions)
       (each_all IsFree (λ e. entities_in e.0 e.1)
       (λ e. mapped_all IsFree (λ (d : UnreservedId × EntityType RawName). components_of (declared_name e.0 d.0.id))
       (λ d. declared_free e.0 d.0) e.1.entity_types)
       f.0)
-      (seen_all IsFree (λ a. a.0) (declared f).actions
+      (All-map IsFree (λ a. a.0) (declared f).actions
       (each_all (λ a. IsFree a.0) (λ e. actions_in e.0 e.1)
       (λ e. mapped_all (λ a. IsFree a.0)
       (λ (d : List ℕ × ActionType RawName G).

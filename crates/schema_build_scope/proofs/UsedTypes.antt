@@ -1,11 +1,11 @@
 -- The types that a fragment uses are those of its entity types and actions.
-use Rattle.std.proofs.Common.{◌≡◌, ℕ, suc, ◌+◌, ◌<◌, List, [], ◌∷◌, ◌++◌, length, get_or, take, map, All, Contains}
-use Rattle.std.proofs.Common.{Option, Some, None, refl, sym, ap, ◌∙◌, subst, arith, append_assoc, append-nil}
+use Rattle.std.proofs.Common.{◌≡◌, ℕ, ◌+◌, ◌<◌, List, [], ◌∷◌, ◌++◌, length, get_or, take, map, All, Contains}
+use Rattle.std.proofs.Common.{Option, Some, None, refl, sym, ap, ◌∙◌, subst, append_assoc, append-nil}
 use Rattle.std.specs.List.{flat_map}
 use Rattle.std.proofs.lemmas.Grind.{flat_map-append}
 use Rattle.std.proofs.lemmas.List.{take_more}
 use Rattle.std.proofs.lemmas.List.Elements.{All-nil, All-cons, All-head, All-tail, All-append, All-contains}
-use Rattle.std.proofs.lemmas.List.Elements.{Contains-append_left, Contains-append_right, Contains-get_or}
+use Rattle.cedar_data.proofs.Lists.{All-front, All-back, all_of, contains_flat, contains_map}
 use Rattle.cedar_identifiers.specs.declared.name.Name.{Name}
 use Rattle.cedar_identifiers.specs.declared.name_text.NameText as named
 use Rattle.cedar_identifiers.specs.declared.raw_name.RawName.{RawName}
@@ -31,27 +31,17 @@ use Rattle.schema_build_scope.proofs.Quiet.{IsOfParts, quiet_in}
 
 each_flat : {A B : Type 0} (P : B → Type 0) (f : A → List B) (xs : List A) → ((x : A) → Contains xs x → All P (f x))
     → All P (flat_map f xs)
-each_flat P f [] h = All-nil P
-each_flat P f (x ∷ xs) h =
-    All-append P (f x) (flat_map f xs) (h x (0, omega arith, refl))
-    (each_flat P f xs (λ y (k, lt, e). h y (suc k, omega (arith, lt), e)))
+each_flat P f xs h = all_of P (flat_map f xs)
+    (λ y c. let (x, there, here) = contains_flat f xs y c in All-contains P (f x) y (h x there) here)
 
 all_parted : {A : Type 0} (P : A → Type 0) → IsOfParts (All P)
-all_parted P = record {
-  left = λ a b all k d h.
-      All-contains P (a ++ b) (get_or a k d) all (Contains-append_left a b (get_or a k d) (Contains-get_or a k d h));
-  right = λ a b all k d h.
-      All-contains P (a ++ b) (get_or b k d) all (Contains-append_right a b (get_or b k d) (Contains-get_or b k d h));
-}
+all_parted P = record { left = All-front P; right = All-back P }
 
 -- what holds of each of a list, where another is seen as it
 pub all_seen : {A B : Type 0} (P : B → Type 0) (h : A → B) (xs : List A) (ys : List B) → map h xs ≡ ys → All P ys
     → All (λ x. P (h x)) xs
-all_seen P h [] ys e all = All-nil (λ x. P (h x))
-all_seen P h (x ∷ xs) ys e all =
-    let one : All P (h x ∷ map h xs) = subst (All P) (sym e) all in
-    All-cons (λ x. P (h x)) x xs (All-head P (h x) (map h xs) one)
-    (all_seen P h xs (map h xs) refl (All-tail P (h x) (map h xs) one))
+all_seen P h xs ys e all = all_of (λ x. P (h x)) xs
+    (λ x c. All-contains P ys (h x) all (subst (λ l. Contains l (h x)) e (contains_map h xs x c)))
 
 -- the types of one namespace more
 pub used_more : {G : named.Ghosts RawName} (spaces : List (Option Name × NamespaceDefinition RawName G)) (i : ℕ)

@@ -20,13 +20,13 @@ pub record TypeAt : Type 0 where
   pub ty : «Type» RawName
 
 -- a declared common type under its full name, at the place of its declaration
-abbrev pub common_entry : Option Name → CommonTypeId × CommonType RawName → InternalName × TypeAt
-common_entry ns e = (declared_at ns e.0.id.id e.1.loc, record { place = name_of ns; ty = e.1.ty })
+abbrev pub full_common_entry : Option Name → CommonTypeId × CommonType RawName → InternalName × TypeAt
+full_common_entry ns e = (declared_at ns e.0.id.id e.1.loc, record { place = name_of ns; ty = e.1.ty })
 
 module _ {G : named.Ghosts RawName} where
   -- the common types that a fragment declares, in the order of the walk
   abbrev pub declared_commons : Fragment RawName G → List (InternalName × TypeAt)
-  declared_commons f = flat_map (λ e. map (common_entry e.0) e.1.common_types) f.0
+  declared_commons f = flat_map (λ e. map (full_common_entry e.0) e.1.common_types) f.0
 
   -- the map of them, which has them in the order of their full names
   abbrev pub commons_in_order : Fragment RawName G → List (InternalName × TypeAt)

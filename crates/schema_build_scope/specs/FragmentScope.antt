@@ -12,7 +12,7 @@ use Rattle.schema_json.specs.declared.fragment.Fragment.{Fragment}
 use Rattle.schema_resolve_definitions.specs.Defined.{defined}
 use Rattle.schema_resolve_definitions.specs.Tests.{Tests, tests_of}
 use Rattle.schema_resolve.specs.Meanings.{means}
-use Rattle.schema_build_expand.specs.Scope.{Scope, Declared}
+use Rattle.schema_build_expand.specs.Scope.{Scope, DeclaredType}
 use Rattle.schema_build_scope.specs.Commons.{TypeAt, commons_in_order}
 
 -- a name and what it is there, with the name as its components
@@ -24,7 +24,7 @@ abbrev pub meant_in : Tests → Option InternalName → ReferenceType → RawNam
 meant_in t ns kind name = option_map by_components (means t ns kind name)
 
 -- a declared common type, as types are expanded
-abbrev pub declaration : InternalName × TypeAt → Declared RawName
+abbrev pub declaration : InternalName × TypeAt → DeclaredType RawName
 declaration e = record { name = components_of e.0; place = e.1.place; ty = e.1.ty }
 
 -- what the references of a fragment mean under a table, and the common types that it declares, by their full names

@@ -6,7 +6,7 @@ use Rattle.cedar_identifiers.specs.declared.reference_type.ReferenceType.TheVari
 use Rattle.schema_json_walk.specs.Parts.{Part, type_reference}
 use Rattle.schema_json_walk.specs.Walk.{parts}
 use Rattle.schema_build_graph.specs.Paths.{Reaches}
-use Rattle.schema_build_expand.specs.Scope.{Scope, Declared, Declares}
+use Rattle.schema_build_expand.specs.Scope.{Scope, DeclaredType, Declares}
 
 module _ {N : Type 0} where
   -- some reference among the parts means the common type of this name
@@ -16,7 +16,7 @@ module _ {N : Type 0} where
 
   -- the type of the one declared common type holds a reference that means the other
   abbrev pub RefersToCommon : Scope N → List (List ℕ) → List (List ℕ) → Type 0
-  RefersToCommon s one other = (d e : Declared N) × Declares s one d × Declares s other e
+  RefersToCommon s one other = (d e : DeclaredType N) × Declares s one d × Declares s other e
       × MeansCommon s d.place (parts d.ty) other
 
   -- the one declared common type reaches the other by references

@@ -1,5 +1,5 @@
 ghost use Rattle.std.specs.Prelude.{◌≡◌, ◌++◌, map, IfOk, OnOk};
-ghost use Rattle.schema_build_scope.specs.Commons.{common_entry, declared_commons};
+ghost use Rattle.schema_build_scope.specs.Commons.{full_common_entry, declared_commons};
 ghost use Rattle.schema_build_scope.specs.LentCommons.{lent_commons};
 
 use cedar_identifiers::{InternalName, Name, RawName};
@@ -38,7 +38,7 @@ fn push_commons<'f>(
     ns: &'f Option<Name>,
     commons: &'f [(CommonTypeId, CommonType<RawName>)],
 ) -> Result<(), AllocError>
-    ensures { OnOk result (lent_commons found.new.items ≡ lent_commons found.old.items ++ map (common_entry ns.now) commons.now) }
+    ensures { OnOk result (lent_commons found.new.items ≡ lent_commons found.old.items ++ map (full_common_entry ns.now) commons.now) }
 {
     for (id, common) in commons {
         let name = declared_at(alloc, ns, &id.id.id, common.loc)?;

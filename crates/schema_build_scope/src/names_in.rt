@@ -8,9 +8,7 @@ ghost use Rattle.schema_resolve_definitions.specs.Tests.{tests_of};
 ghost use Rattle.schema_resolve.specs.Tried.{candidate};
 ghost use Rattle.cedar_names.specs.Meaning.{PlainType};
 ghost use Rattle.schema_build_types.specs.Standing.{IsBuilt};
-ghost use Rattle.schema_build_expand.specs.Scope.{Scope, builtin};
-ghost use Rattle.schema_build_expand.specs.Targets.{IsMeantTarget};
-ghost use Rattle.schema_build_expand.specs.Ranks.{IsRankOf};
+ghost use Rattle.schema_build_expand.specs.Scope.{builtin};
 ghost use Rattle.schema_build_scope.specs.FragmentScope.{fragment_scope, table_scope};
 ghost use Rattle.schema_build_scope.specs.NamedTargets.{IsRankOfName, IsCommonTarget, IsEntityTarget};
 

@@ -1,17 +1,22 @@
 -- What stands beside the first action at or behind it in the walk, and holds the type, is what is captured.
-use Rattle.std.proofs.Common.{◌≡◌, ℕ, ◌+◌, Bool, true, false, ◌&&◌, ◌||◌, ◌==◌, length, List, [], ◌∷◌, ◌++◌, map}
+use Rattle.std.proofs.Common.{◌≡◌, ℕ, Bool, true, false, ◌&&◌, ◌||◌, ◌==◌, length, List, [], ◌∷◌, ◌++◌, map}
 use Rattle.std.proofs.Common.{cond, refl, ap, sym, ◌∙◌, subst, append_assoc, Option, Some, None}
 use Rattle.std.proofs.Common.{if◌then◌else◌}
 use Rattle.std.specs.Prelude.{MatchOption}
 use Rattle.std.specs.Cmp.{first_so}
 use Rattle.std.specs.Cmp.Lexicographic.{slice_cmp}
-use Rattle.std.specs.List.{filter, flat_map, list_any}
+use Rattle.std.specs.List.{filter, flat_map, list_any, AllByRecursion}
+use Rattle.std.specs.declared.cmp.Ordering.TheVariants.{Less}
+use Rattle.std.specs.List.Sorted.{IsStrictlySortedBy}
+use Rattle.std.proofs.lemmas.List.Elements.{filter-append}
 use Rattle.cedar_data.specs.Text.{text_cmp}
+use Rattle.cedar_data.proofs.Orders.{texts_total}
 use Rattle.cedar_identifiers.specs.Names.{components_of, texts_of}
 use Rattle.cedar_identifiers.specs.declared.id.Id.{Id}
 use Rattle.cedar_identifiers.specs.declared.internal_name.InternalName.{InternalName}
 use Rattle.cedar_names.specs.CanonicalText.{namespace}
 use Rattle.cedar_names.specs.Definitions.{same_name}
+use Rattle.cedar_names.proofs.Defined.{equal_names}
 use Rattle.schema_build_errors.specs.declared.captured.ReferenceCaptured.{ReferenceCaptured}
 use Rattle.schema_build_types.specs.Content.{EntityContent, ActionContent, SchemaContent}
 use Rattle.schema_build_text.specs.Beside.{first_action, is_beside, is_captured_by, captured_before}
@@ -19,10 +24,9 @@ use Rattle.schema_build_text.specs.Captured.{item_holds, has_action, captured_in
 use Rattle.schema_build_text.specs.Captured.{IsFirstOf}
 use Rattle.schema_build_text.specs.Rows.{sorted_once}
 use Rattle.schema_build_text.specs.Walk.{ItemContent, entity_type, action, namespace_of, items_of, items_in, walk}
-use Rattle.schema_build_text.proofs.Grouped.{Below, Rises, rises_sorted}
-use Rattle.schema_build_text.proofs.Named.{same_list}
+use Rattle.schema_build_text.proofs.Grouped.{rises_sorted}
 use Rattle.schema_build_text.proofs.Rowed.{in_order_is}
-use Rattle.schema_build_text.proofs.Walked.{AreIn, apart, filter_append, names_total, same_self, within}
+use Rattle.schema_build_text.proofs.Walked.{AreIn, apart, same_self, within}
 
 abbrev Name : Type 0
 Name = List (List ℕ)
@@ -75,7 +79,7 @@ entities_part n (e ∷ es) rest = by (entities_part n es rest) (is_in n (entity_
         let all = captured_before (filter (is_in n) (map entity_type es) ++ rest) in
         ap (λ m. if (is_beside m (namespace e.name) && item_holds x) then x ∷ all else all) (action_behind n es rest)
         ∙ (ap (λ k. if (is_beside (first_action rest) k && item_holds x) then x ∷ all else all)
-        (sym (same_list n (namespace e.name) h))
+        (sym (equal_names n (namespace e.name) h))
         ∙ put (held (is_beside (first_action rest) n) x) x
         (filter (held (is_beside (first_action rest) n)) (filter (is_in n) (map entity_type es)))
         (captured_before rest) all more)
@@ -98,7 +102,8 @@ actions_part n (u ∷ us) rest = by (actions_part n us rest) (is_in n (action u)
     by more true h =
         let x = action u in
         let all = captured_before (filter (is_in n) (map action us) ++ rest) in
-        ap (λ k. if (is_beside (Some k) k && item_holds x) then x ∷ all else all) (sym (same_list n (namespace u.ty) h))
+        ap (λ k. if (is_beside (Some k) k && item_holds x) then x ∷ all else all)
+        (sym (equal_names n (namespace u.ty) h))
         ∙ put (held (is_beside (Some n) n) x) x
         (filter (held (is_beside (Some n) n)) (filter (is_in n) (map action us))) (captured_before rest) all more
     by more false h = more
@@ -139,7 +144,7 @@ module _ (c : SchemaContent) where
   own_actions n = filter (is_in n) (map action c.actions)
 
   items_are : (n : Name) → items_in c n ≡ own_entities n ++ own_actions n
-  items_are n = filter_append (is_in n) (map entity_type c.entities) (map action c.actions)
+  items_are n = filter-append (is_in n) (map entity_type c.entities) (map action c.actions)
 
   both_parts : (n : Name) (rest : List ItemContent) → is_beside (first_action rest) n ≡ false
       → filter (held (is_beside (first_action (own_actions n ++ rest)) n)) (own_entities n)
@@ -162,7 +167,7 @@ module _ (c : SchemaContent) where
           sym (append_assoc (filter item_holds (own_entities (k ∷ ks))) (filter item_holds (own_actions (k ∷ ks)))
           (captured_before rest))
           ∙ ap (λ l. l ++ captured_before rest)
-          (sym (filter_append item_holds (own_entities (k ∷ ks)) (own_actions (k ∷ ks)))
+          (sym (filter-append item_holds (own_entities (k ∷ ks)) (own_actions (k ∷ ks)))
           ∙ ap (filter item_holds) (sym (items_are (k ∷ ks))))
       by false e = λ i. none_held (own_entities (k ∷ ks)) i
           ++ (filter item_holds (no_actions (k ∷ ks) c.actions e i) ++ captured_before rest)
@@ -192,14 +197,15 @@ past n k [] rest a d h = h
 past n k (entity_type e ∷ zs) rest a d h = past n k zs rest a.1 d h
 past n k (action u ∷ zs) rest a d h = ap (λ m. is_beside (Some m) n) a.0 ∙ not_beside n k d
 
-above : (c : SchemaContent) (n : Name) (ns : List Name) → Below names_total n ns
+above : (c : SchemaContent) (n : Name) (ns : List Name) → AllByRecursion (λ k. slice_cmp text_cmp n k ≡ Less) ns
     → is_beside (first_action (flat_map (items_in c) ns)) n ≡ false
 above c n [] b = beside_nothing n
 above c n (k ∷ ks) b =
     past n k (items_in c k) (flat_map (items_in c) ks) (within k (items_of c)) (apart n k b.0) (above c n ks b.1)
 
-groups_captured : (c : SchemaContent) (ns : List Name) → Rises names_total ns
+groups_captured : (c : SchemaContent) (ns : List Name) → IsStrictlySortedBy (slice_cmp text_cmp) ns
     → captured_before (flat_map (items_in c) ns) ≡ flat_map (captured_in c) ns
+unfolding IsStrictlySortedBy
 groups_captured c [] r = refl
 groups_captured c (n ∷ ns) r =
     group_captured c n (flat_map (items_in c) ns) (above c n ns r.0)
@@ -210,7 +216,7 @@ walk_captured c =
     subst (λ l. captured_before (flat_map (items_in c) l) ≡ flat_map (captured_in c) l)
     (sym (in_order_is (map namespace_of (items_of c))))
     (groups_captured c (sorted_once (slice_cmp text_cmp) (map namespace_of (items_of c)))
-    (rises_sorted names_total (map namespace_of (items_of c))))
+    (rises_sorted texts_total (map namespace_of (items_of c))))
 
 -- what is captured is of a namespace with a name
 first_named : (zs : List ItemContent) (x : ItemContent) → first_item (captured_before zs) ≡ Some x
@@ -249,10 +255,6 @@ beside_named name m = by name.others
         ≡ same_name (namespace (name.first.text ∷ texts_of os)) m
     by [] h = absurd (cc)
     by (o ∷ os) h = refl
-
-pub and_true : (b : Bool) → (b && true) ≡ b
-and_true true = refl
-and_true false = refl
 
 pub told_beside : (x : ItemContent) (name : InternalName) (m : Name) (b : Bool)
     → namespace_of x ≡ namespace (components_of name) → (length name.others == 0) ≡ false

@@ -1,5 +1,6 @@
 -- Declarations by what is declared.
-use Rattle.std.proofs.Common.{◌≡◌, ℕ, ◌+◌, suc, ◌==◌, Bool, true, false, subst, List, [], ◌∷◌, ◌++◌, codes, map, length}
+use Rattle.std.proofs.Common.{◌≡◌, ℕ, ◌+◌, suc, ◌==◌, Bool, true, false, subst, List, [], ◌∷◌, ◌++◌, codes, map}
+use Rattle.std.proofs.Common.{length}
 use Rattle.std.proofs.Common.{refl, ap, sym, ◌∙◌, append_assoc, arith}
 use Rattle.std.proofs.lemmas.Bool.{eqb-true, ne_eqb}
 use Rattle.std.specs.Cmp.Lexicographic.{slice_cmp}

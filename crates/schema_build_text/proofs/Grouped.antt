@@ -4,15 +4,18 @@ use Rattle.std.proofs.Common.{◌≡◌, ℕ, suc, ◌<◌, ◌≤◌, Bool, tru
 use Rattle.std.proofs.Common.{length, get_or, All, cond, refl, ap, sym, ◌∙◌, subst, arith}
 use Rattle.std.specs.declared.cmp.Ordering.{Ordering}
 use Rattle.std.specs.declared.cmp.Ordering.TheVariants.{Less, Equal, Greater}
-use Rattle.std.specs.Ordering.{is_eq, is_lt, ordering_reverse, match_ordering}
+use Rattle.std.specs.Ordering.{is_eq, is_lt, ordering_reverse}
 use Rattle.std.specs.BTreeSet.{insert_key}
 use Rattle.std.specs.Cmp.{IsTotalOrder}
-use Rattle.std.specs.List.{filter, flat_map, list_any}
-use Rattle.std.specs.List.Sorted.{IsPermutation, IsSortedBy, IsStableBy, ties}
+use Rattle.std.specs.List.{AllByRecursion, filter, flat_map, list_any}
+use Rattle.std.specs.List.Sorted.{IsPermutation, IsSortedBy, IsStableBy, IsStrictlySortedBy, ties}
 use Rattle.std.proofs.lemmas.Cmp.{tied_itself, alike_right}
 use Rattle.std.proofs.lemmas.List.Elements.{All-head, All-tail, All-cons, All-nil}
 use Rattle.std.proofs.lemmas.List.Sorted.{sorted_far, ranks_by, All-permutation}
 use Rattle.std.proofs.lemmas.Map.Views.{All-insert_key}
+use Rattle.std.proofs.lemmas.Bool.{or_right}
+use Rattle.cedar_data.proofs.Orders.{nothing_rises}
+use Rattle.schema_build_types.proofs.Inserted.{any_insert, rises_insert}
 use Rattle.schema_build_text.specs.Rows.{sorted_once}
 
 -- filters and groups
@@ -29,76 +32,20 @@ pub flat_nothing : {X A : Type 0} (xs : List X) → flat_map (λ (x : X). let no
 flat_nothing [] = refl
 flat_nothing (x ∷ xs) = flat_nothing xs
 
-or_right : (a b : Bool) → b ≡ true → (a || b) ≡ true
-or_right true b h = refl
-or_right false b h = h
-
-pub or_same : (a b : Bool) → (b || a) ≡ (b || (b || a))
-or_same a true = refl
-or_same a false = refl
-
-pub or_turned : (a b c : Bool) → (b || (a || c)) ≡ (a || (b || c))
-or_turned true true c = refl
-or_turned true false c = refl
-or_turned false true c = refl
-or_turned false false c = refl
-
 module _ {K : Type 0} {C : K → K → Ordering} (o : IsTotalOrder C) where
   turn : (a b : K) (r : Ordering) → C a b ≡ r → C b a ≡ ordering_reverse r
   turn a b r e = o.antisymm b a ∙ ap ordering_reverse e
 
-  -- a key is below each of these
-  abbrev pub Below : K → List K → Type 0
-  Below k [] = Unit {0}
-  Below k (n ∷ ns) = (C k n ≡ Less) × Below k ns
-
-  abbrev pub Rises : List K → Type 0
-  Rises [] = Unit {0}
-  Rises (n ∷ ns) = Below n ns × Rises ns
-
-  below_more : (j k : K) (ns : List K) → C j k ≡ Less → Below k ns → Below j ns
-  below_more j k [] e b = tt
-  below_more j k (n ∷ ns) e b = (o.trans j k n e b.0, below_more j k ns e b.1)
-
-  below_insert : (n k : K) (ks : List K) → Below n ks → C n k ≡ Less → Below n (insert_key C ks k)
-  below_insert n k [] b e = (e, tt)
-  below_insert n k (y ∷ ys) b e = by (below_insert n k ys b.1 e) (C k y)
-    where
-      by : Below n (insert_key C ys k) → (r : Ordering)
-          → Below n (match_ordering r (k ∷ y ∷ ys) (y ∷ ys) (y ∷ insert_key C ys k))
-      by more Less = (e, b)
-      by more Equal = b
-      by more Greater = (b.0, more)
-
-  rises_insert : (k : K) (ks : List K) → Rises ks → Rises (insert_key C ks k)
-  rises_insert k [] r = (tt, tt)
-  rises_insert k (y ∷ ys) r = by (rises_insert k ys r.1) (C k y) refl
-    where
-      by : Rises (insert_key C ys k) → (a : Ordering) → C k y ≡ a
-          → Rises (match_ordering a (k ∷ y ∷ ys) (y ∷ ys) (y ∷ insert_key C ys k))
-      by more Less e = ((e, below_more k y ys e r.0), r)
-      by more Equal e = r
-      by more Greater e = (below_insert y k ys r.0 (turn k y Greater e), more)
-
-  pub rises_sorted : (ks : List K) → Rises (sorted_once C ks)
-  rises_sorted [] = tt
-  rises_sorted (k ∷ ks) = rises_insert k (sorted_once C ks) (rises_sorted ks)
+  pub rises_sorted : (ks : List K) → IsStrictlySortedBy C (sorted_once C ks)
+  rises_sorted [] = nothing_rises C
+  rises_sorted (k ∷ ks) = rises_insert C o k (sorted_once C ks) (rises_sorted ks)
 
   -- the key is equal to one of these
   abbrev has : List K → K → Bool
   has ks q = list_any (λ k. is_eq (C k q)) ks
 
   has_insert : (q k : K) (ks : List K) → has (insert_key C ks k) q ≡ (is_eq (C k q) || has ks q)
-  has_insert q k [] = refl
-  has_insert q k (y ∷ ys) = by (has_insert q k ys) (C k y) refl
-    where
-      by : has (insert_key C ys k) q ≡ (is_eq (C k q) || has ys q) → (a : Ordering) → C k y ≡ a
-          → has (match_ordering a (k ∷ y ∷ ys) (y ∷ ys) (y ∷ insert_key C ys k)) q
-          ≡ (is_eq (C k q) || (is_eq (C y q) || has ys q))
-      by more Less e = refl
-      by more Equal e = or_same (has ys q) (is_eq (C y q))
-          ∙ ap (λ b. b || (is_eq (C y q) || has ys q)) (ap is_eq (sym (o.congr k y q e)))
-      by more Greater e = ap (λ b. is_eq (C y q) || b) more ∙ or_turned (is_eq (C k q)) (is_eq (C y q)) (has ys q)
+  has_insert q k ks = any_insert C (λ j. is_eq (C j q)) (λ i j e. ap is_eq (o.congr i j q e)) k ks
 
   module _ {X : Type 0} (key : X → K) where
     all_has : (xs : List X) → All (λ x. has (sorted_once C (map key xs)) (key x) ≡ true) xs
@@ -158,13 +105,14 @@ module _ {K : Type 0} {C : K → K → Ordering} (o : IsTotalOrder C) where
 
     -- keys above that of an item do not have it
     not_there : (n : K) (x : X) (xs : List X) (ns : List K) → ((m : K) → C n m ≡ Less → is_eq (C m (key x)) ≡ false)
-        → Below n ns → flat_map (λ m. filter (in_group m) (x ∷ xs)) ns ≡ flat_map (λ m. filter (in_group m) xs) ns
+        → AllByRecursion (λ m. C n m ≡ Less) ns
+        → flat_map (λ m. filter (in_group m) (x ∷ xs)) ns ≡ flat_map (λ m. filter (in_group m) xs) ns
     not_there n x xs [] f b = refl
     not_there n x xs (m ∷ ms) f b =
         (λ i. filter_front (in_group m) x xs false (f m b.0) i ++ not_there n x xs ms f b.1 i)
 
-    not_had : (n : K) (x : X) (ns : List K) → ((m : K) → C n m ≡ Less → is_eq (C m (key x)) ≡ false) → Below n ns
-        → has ns (key x) ≡ false
+    not_had : (n : K) (x : X) (ns : List K) → ((m : K) → C n m ≡ Less → is_eq (C m (key x)) ≡ false)
+        → AllByRecursion (λ m. C n m ≡ Less) ns → has ns (key x) ≡ false
     not_had n x [] f b = refl
     not_had n x (m ∷ ms) f b = ap (λ t. t || has ms (key x)) (f m b.0) ∙ not_had n x ms f b.1
 
@@ -175,8 +123,10 @@ module _ {K : Type 0} {C : K → K → Ordering} (o : IsTotalOrder C) where
     above_greater n x e m h = ap is_eq (turn (key x) m Less (o.trans (key x) n m (turn n (key x) Greater e) h))
 
     -- the first item stands in the first group that has items
-    put_first : (x : X) (xs : List X) → NoneBelow (key x) xs → (ns : List K) → Rises ns → has ns (key x) ≡ true
+    put_first : (x : X) (xs : List X) → NoneBelow (key x) xs → (ns : List K) → IsStrictlySortedBy C ns
+        → has ns (key x) ≡ true
         → x ∷ flat_map (λ n. filter (in_group n) xs) ns ≡ flat_map (λ n. filter (in_group n) (x ∷ xs)) ns
+    unfolding IsStrictlySortedBy
     put_first x xs b [] r h = absurd (cc)
     put_first x xs b (n ∷ ns) r h = by (λ k. put_first x xs b ns r.1 k) (C n (key x)) refl
       where
@@ -200,7 +150,7 @@ module _ {K : Type 0} {C : K → K → Ordering} (o : IsTotalOrder C) where
             ∙ not_had n x ns (above_greater n x e) r.0 in
             absurd (cc)
 
-    in_groups : (ns : List K) → Rises ns → (ys : List X) → IsUp ys → All (λ y. has ns (key y) ≡ true) ys
+    in_groups : (ns : List K) → IsStrictlySortedBy C ns → (ys : List X) → IsUp ys → All (λ y. has ns (key y) ≡ true) ys
         → ys ≡ flat_map (λ n. filter (in_group n) ys) ns
     in_groups ns r [] up all = sym (flat_nothing ns)
     in_groups ns r (y ∷ ys) up all =

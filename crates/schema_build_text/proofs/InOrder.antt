@@ -6,6 +6,8 @@ use Rattle.std.specs.List.{filter, flat_map}
 use Rattle.std.specs.List.Sorted.{IsPermutation, IsSortedBy, IsStableBy}
 use Rattle.std.proofs.lemmas.List.{map-append}
 use Rattle.cedar_data.specs.Text.{text_cmp}
+use Rattle.cedar_data.proofs.Lists.{map-map}
+use Rattle.cedar_data.proofs.Orders.{texts_total}
 use Rattle.cedar_identifiers.specs.Names.{components_of}
 use Rattle.cedar_identifiers.specs.declared.internal_name.InternalName.{InternalName}
 use Rattle.cedar_identifiers.specs.declared.name.Name.{Name}
@@ -26,8 +28,7 @@ use Rattle.schema_build_text.specs.Walk.{ItemContent, namespace_of, items_of, it
 use Rattle.schema_build_text.specs.Rows.{sorted_once}
 use Rattle.schema_build_text.proofs.Grouped.{grouped}
 use Rattle.schema_build_text.proofs.Named.{namespaces_tie}
-use Rattle.schema_build_text.proofs.Rowed.{map_both, in_order_is}
-use Rattle.schema_build_text.proofs.Walked.{names_total}
+use Rattle.schema_build_text.proofs.Rowed.{in_order_is}
 
 pub entity_named : (n : Name) (t : ValidatorEntityType) → (entity_content (n, t)).name ≡ components_of n.name
 entity_named n t = by t.kind
@@ -85,9 +86,9 @@ pub in_walk_order : (c : SchemaContent) (xs ys : List Item) → map item_content
 in_walk_order c xs ys e perm up stable =
     let ns = sorted_once (slice_cmp text_cmp) (map key xs) in
     let of = λ (n : List (List ℕ)) (x : ItemContent). same_name n (namespace_of x) in
-    ap (map item_content) (grouped names_total key same_name tie xs ys perm up stable)
+    ap (map item_content) (grouped texts_total key same_name tie xs ys perm up stable)
     ∙ (map_flat item_content (λ n. filter (λ x. same_name n (key x)) xs) ns
     ∙ ((λ i. flat_map (λ n. (map_filter item_content (of n) xs ∙ ap (filter (of n)) e) i) ns)
     ∙ ap (flat_map (items_in c)) (ap (sorted_once (slice_cmp text_cmp))
-    (sym (map_both namespace_of item_content xs) ∙ ap (map namespace_of) e)
+    (sym (map-map namespace_of item_content xs) ∙ ap (map namespace_of) e)
     ∙ sym (in_order_is (map namespace_of (items_of c))))))

@@ -1,61 +1,16 @@
 -- What is printed of each kind of type, one equation a layer.
 use Rattle.std.proofs.Common.{◌≡◌, ℕ, ◌+◌, ◌<◌, ◌==◌, Bool, true, false, length, List, [], ◌∷◌, ◌++◌, drop, get_or}
-use Rattle.std.proofs.Common.{codes, refl, ap, sym, ◌∙◌, inl, inr, append_assoc, Some, None, if◌then◌else◌}
+use Rattle.std.proofs.Common.{codes, refl, ap, sym, ◌∙◌, inl, inr, append_assoc, Some, if◌then◌else◌}
 use Rattle.std.specs.Prelude.{◌⊎◌}
-use Rattle.cedar_identifiers.specs.declared.name.Name.{Name}
-use Rattle.cedar_identifiers.specs.declared.unreserved_id.UnreservedId.{UnreservedId}
 use Rattle.cedar_names.specs.Meaning.{PlainType, Attributes, attribute}
 use Rattle.cedar_names.specs.CanonicalText.{type_text, lines_text, record_text, spaces, attribute_name}
-use Rattle.schema_build_types.specs.declared.types.Type.{«Type», Type-F, fold-roll-Type}
+use Rattle.schema_build_types.specs.declared.types.Type.{«Type»}
 use Rattle.schema_build_types.specs.declared.types.Type.TheVariants as built
-use Rattle.schema_build_types.specs.Content.{TypeContent, attributes_content, layer_content, type_content}
-use Rattle.schema_build_types.specs.Content.{names_content}
+use Rattle.schema_build_types.specs.Content.{TypeContent, attributes_content, type_content}
 use Rattle.schema_build_types.specs.Content as said
+use Rattle.schema_build_types.proofs.Contents.{never_says, any_bool_says, true_says, false_says, set_says}
 use Rattle.schema_build_text.specs.Readings.{plain_type, plain_attributes}
 use Rattle.schema_build_text.proofs.Rowed.{dropped}
-
--- what each kind of type says
-pub never_says : type_content built.Never ≡ said.Never
-never_says = ap type_content (sym built.rolls-Never) ∙ fold-roll-Type TypeContent layer_content Type-F.Never
-
-pub any_bool_says : type_content built.AnyBool ≡ said.AnyBool
-any_bool_says = ap type_content (sym built.rolls-AnyBool) ∙ fold-roll-Type TypeContent layer_content Type-F.AnyBool
-
-pub true_says : type_content built.True ≡ said.True
-true_says = ap type_content (sym built.rolls-True) ∙ fold-roll-Type TypeContent layer_content Type-F.True
-
-pub false_says : type_content built.False ≡ said.False
-false_says = ap type_content (sym built.rolls-False) ∙ fold-roll-Type TypeContent layer_content Type-F.False
-
-pub long_says : type_content built.Long ≡ said.Long
-long_says = ap type_content (sym built.rolls-Long) ∙ fold-roll-Type TypeContent layer_content Type-F.Long
-
-pub string_says : type_content built.String ≡ said.String
-string_says = ap type_content (sym built.rolls-String) ∙ fold-roll-Type TypeContent layer_content Type-F.String
-
-pub any_entity_says : type_content built.AnyEntity ≡ said.AnyEntity
-any_entity_says = ap type_content (sym built.rolls-AnyEntity)
-    ∙ fold-roll-Type TypeContent layer_content Type-F.AnyEntity
-
-pub unknown_says : type_content (built.Set None) ≡ said.SetOfUnknown
-unknown_says = ap type_content (sym (built.rolls-Set None)) ∙ fold-roll-Type TypeContent layer_content (Type-F.Set None)
-
-pub set_says : (t : «Type») → type_content (built.Set (Some t)) ≡ said.Set (type_content t)
-set_says t = ap type_content (sym (built.rolls-Set (Some t)))
-    ∙ fold-roll-Type TypeContent layer_content (Type-F.Set (Some t))
-
-pub record_says : (attrs : List (List ℕ × («Type» × Bool))) (more : Bool)
-    → type_content (built.Record attrs more) ≡ said.Rec (attributes_content attrs) more
-record_says attrs more = ap type_content (sym (built.rolls-Record attrs more))
-    ∙ fold-roll-Type TypeContent layer_content (Type-F.Record attrs more)
-
-pub entity_says : (names : List Name) → type_content (built.Entity names) ≡ said.Entity (names_content names)
-entity_says names = ap type_content (sym (built.rolls-Entity names))
-    ∙ fold-roll-Type TypeContent layer_content (Type-F.Entity names)
-
-pub extension_says : (name : UnreservedId) → type_content (built.Extension name) ≡ said.Ext name.id.text
-extension_says name = ap type_content (sym (built.rolls-Extension name))
-    ∙ fold-roll-Type TypeContent layer_content (Type-F.Extension name)
 
 -- the text of what a type says
 pub shown : (base : ℕ) (t v : «Type») (said : TypeContent) (text : List ℕ) → t ≡ v → type_content v ≡ said

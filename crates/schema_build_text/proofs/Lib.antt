@@ -10,7 +10,6 @@ mod Opened
 pub mod Parts
 mod Plain
 pub mod Rowed
-mod Sizes
 mod Strings
 mod Uncaptured
 mod Walked

@@ -1,12 +1,11 @@
 -- A meaning is read back from what is built for it.
-use Rattle.std.proofs.Common.{◌≡◌, false, List, [], ◌∷◌, map, refl, ap, Option, Some, None}
+use Rattle.std.proofs.Common.{◌≡◌, List, [], ◌∷◌, map, refl, ap, Option, Some, None}
 use Rattle.std.specs.Option.{option_map}
 use Rattle.cedar_names.specs.Meaning.{PlainType, Attributes, no_more, attribute, EntityMeaning, ActionMeaning}
 use Rattle.cedar_names.specs.Meaning.{SchemaMeaning}
 use Rattle.cedar_names.specs.Meaning as plain
-use Rattle.schema_build_types.specs.Content.{EntityContent, ActionContent}
-use Rattle.schema_build_types.specs.Content as said
-use Rattle.schema_build_types.specs.Standing.{as_built, attributes_as_built, schema_as_built}
+use Rattle.schema_build_types.specs.Standing.{as_built, attributes_as_built, schema_as_built, entity_as_built}
+use Rattle.schema_build_types.specs.Standing.{action_as_built}
 use Rattle.schema_build_text.specs.Readings.{plain_type, plain_attributes, entity_reading, action_reading}
 use Rattle.schema_build_text.specs.Readings.{schema_reading}
 
@@ -28,29 +27,7 @@ tags_back : (t : Option PlainType) → option_map plain_type (option_map as_buil
 tags_back None = refl
 tags_back (Some p) = ap Some (plain_back p)
 
-abbrev built_entity : EntityMeaning → EntityContent
-built_entity e = record {
-  name = e.name;
-  is_external = e.is_external;
-  ancestors = e.ancestors;
-  attributes = attributes_as_built e.attributes;
-  more = false;
-  tags = option_map as_built e.tags;
-  choices = e.choices;
-}
-
-abbrev built_action : ActionMeaning → ActionContent
-built_action a = record {
-  ty = a.ty;
-  id = a.id;
-  is_external = a.is_external;
-  ancestors = a.ancestors;
-  principals = a.principals;
-  resources = a.resources;
-  context = said.Rec (attributes_as_built a.context) false;
-}
-
-entity_back : (e : EntityMeaning) → entity_reading (built_entity e) ≡ e
+entity_back : (e : EntityMeaning) → entity_reading (entity_as_built e) ≡ e
 entity_back e = λ i. record {
   name = e.name;
   is_external = e.is_external;
@@ -60,7 +37,7 @@ entity_back e = λ i. record {
   choices = e.choices;
 }
 
-action_back : (a : ActionMeaning) → action_reading (built_action a) ≡ a
+action_back : (a : ActionMeaning) → action_reading (action_as_built a) ≡ a
 action_back a = λ i. record {
   ty = a.ty;
   id = a.id;
@@ -78,6 +55,6 @@ each_back f g back (x ∷ xs) = λ i. back x i ∷ each_back f g back xs i
 -- the meaning that is printed of what is built for a meaning
 pub meaning_back : (m : SchemaMeaning) → schema_reading (schema_as_built m) ≡ m
 meaning_back m = λ i. record {
-  entities = each_back entity_reading built_entity entity_back m.entities i;
-  actions = each_back action_reading built_action action_back m.actions i;
+  entities = each_back entity_reading entity_as_built entity_back m.entities i;
+  actions = each_back action_reading action_as_built action_back m.actions i;
 }

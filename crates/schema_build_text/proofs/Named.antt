@@ -1,24 +1,20 @@
 -- The namespace and the basename of a name, by its words.
-use Rattle.std.proofs.Common.{◌≡◌, ℕ, ◌+◌, ◌<◌, true, List, [], ◌∷◌, ◌++◌, codes, length, drop, get_or, refl, ap, sym}
+use Rattle.std.proofs.Common.{◌≡◌, ℕ, ◌+◌, ◌<◌, List, [], ◌∷◌, ◌++◌, codes, length, drop, get_or, refl, ap, sym}
 use Rattle.std.proofs.Common.{◌∙◌, append_assoc, arith}
 use Rattle.std.specs.declared.cmp.Ordering.{Ordering}
 use Rattle.std.specs.Ordering.{is_eq, ordering_then}
-use Rattle.std.specs.Cmp.{first_so, second_so}
-use Rattle.std.specs.Cmp.Lexicographic.{slice_cmp, lists_ties}
-use Rattle.std.specs.Cmp.Derive.Mapped.{pointwise-map}
-use Rattle.std.specs.Str.{bytes_eq, encode_utf8_all}
+use Rattle.std.specs.Cmp.Lexicographic.{slice_cmp}
 use Rattle.std.proofs.lemmas.List.{append-nil}
-use Rattle.std.proofs.lemmas.Slice.Eq.{bytes_eq-Decides}
-use Rattle.std.proofs.lemmas.Map.Text.{is_eq-slice_cmp}
 use Rattle.cedar_data.specs.Text.{text_cmp}
 use Rattle.cedar_identifiers.specs.Names.{components_of, name_text, texts_of}
 use Rattle.cedar_identifiers.specs.declared.id.Id.{Id}
 use Rattle.cedar_identifiers.specs.declared.internal_name.InternalName.{InternalName}
+use Rattle.cedar_identifiers.proofs.Ordered.{ids_cmp}
 use Rattle.cedar_names.specs.CanonicalText.{basename, namespace}
 use Rattle.cedar_names.specs.Definitions.{same_name}
-use Rattle.cedar_names.specs.Orders.{ids_in_order}
-use Rattle.schema_build_text.proofs.Bytes.{id_bytes}
-use Rattle.schema_build_text.proofs.Rowed.{dropped, ids_cmp}
+use Rattle.cedar_names.specs.Orders.{id_text_order}
+use Rattle.cedar_names.proofs.Defined.{same_lists as lists_same}
+use Rattle.schema_build_text.proofs.Rowed.{dropped}
 
 -- the words behind the first, each behind `::`
 abbrev pub behind_text : List Id → List ℕ
@@ -70,24 +66,9 @@ fronts [] = refl
 fronts (c ∷ []) = refl
 fronts (c ∷ d ∷ ds) = ap (λ t. c.text ∷ t) (fronts (d ∷ ds))
 
-same_ids : (i j : Id) → bytes_eq i.text j.text ≡ is_eq (ids_in_order i j)
-same_ids i j =
-    sym (λ k. bytes_eq (id_bytes i.text i.word k) (id_bytes j.text j.word k))
-    ∙ sym (is_eq-slice_cmp (encode_utf8_all i.text) (encode_utf8_all j.text))
-
 pub same_lists : (xs ys : List Id)
     → same_name (texts_of xs) (texts_of ys) ≡ is_eq (slice_cmp text_cmp (texts_of xs) (texts_of ys))
-same_lists xs ys =
-    pointwise-map (λ i. i.text) bytes_eq xs ys ∙ lists_ties ids_in_order same_ids xs ys
-    ∙ ap is_eq (ids_cmp ids_in_order (λ x y. refl) xs ys)
-
-pub same_list : (xs ys : List (List ℕ)) → same_name xs ys ≡ true → xs ≡ ys
-same_list [] [] h = refl
-same_list [] (y ∷ ys) h = cc
-same_list (x ∷ xs) [] h = cc
-same_list (x ∷ xs) (y ∷ ys) h =
-    (λ k. (bytes_eq-Decides x y).0 (first_so (bytes_eq x y) (same_name xs ys) h) k ∷ same_list xs ys
-    (second_so (bytes_eq x y) (same_name xs ys) h) k)
+same_lists xs ys = sym (lists_same xs ys) ∙ ap is_eq (ids_cmp id_text_order (λ x y. refl) xs ys)
 
 -- namespaces of names are the same where they are equal in the order
 pub namespaces_tie : (a b : InternalName)

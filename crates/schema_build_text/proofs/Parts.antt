@@ -1,22 +1,11 @@
 -- The namespace and the last word of a name have no component `__cedar` where the name has none.
-use Rattle.std.proofs.Common.{◌≡◌, Bool, true, false, ◌||◌, List, [], ◌∷◌, ◌++◌, refl, ap, sym, ◌∙◌}
+use Rattle.std.proofs.Common.{◌≡◌, false, ◌||◌, List, [], ◌∷◌, ◌++◌, refl, ap, sym, ◌∙◌}
 use Rattle.std.specs.List.{list_any}
+use Rattle.std.proofs.lemmas.Bool.{or_from, or_parts}
 use Rattle.cedar_identifiers.specs.Names.{components_of, texts_of, has_cedar}
 use Rattle.cedar_identifiers.specs.Words.{is_cedar}
 use Rattle.cedar_identifiers.specs.declared.id.Id.{Id}
 use Rattle.cedar_identifiers.specs.declared.internal_name.InternalName.{InternalName}
-
-or_first : (a b : Bool) → (a || b) ≡ false → a ≡ false
-or_first true b h = h
-or_first false b h = refl
-
-or_second : (a b : Bool) → (a || b) ≡ false → b ≡ false
-or_second true b h = absurd (cc)
-or_second false b h = h
-
-or_both : (a b : Bool) → a ≡ false → b ≡ false → (a || b) ≡ false
-or_both true b h k = h
-or_both false b h k = k
 
 front_free : (os : List Id) (x : Id) → list_any is_cedar (texts_of (os ++ x ∷ [])) ≡ false
     → list_any is_cedar (texts_of os) ≡ false
@@ -24,12 +13,12 @@ front_free [] x h = refl
 front_free (o ∷ os) x h =
     let a = is_cedar o.text in
     let b = list_any is_cedar (texts_of (os ++ x ∷ [])) in
-    or_both a (list_any is_cedar (texts_of os)) (or_first a b h) (front_free os x (or_second a b h))
+    or_from a (list_any is_cedar (texts_of os)) (or_parts a b h).0 (front_free os x (or_parts a b h).1)
 
 last_free : (os : List Id) (x : Id) → list_any is_cedar (texts_of (os ++ x ∷ [])) ≡ false → is_cedar x.text ≡ false
-last_free [] x h = or_first (is_cedar x.text) false h
+last_free [] x h = (or_parts (is_cedar x.text) false h).0
 last_free (o ∷ os) x h =
-    last_free os x (or_second (is_cedar o.text) (list_any is_cedar (texts_of (os ++ x ∷ []))) h)
+    last_free os x (or_parts (is_cedar o.text) (list_any is_cedar (texts_of (os ++ x ∷ []))) h).1
 
 module _ (name : InternalName) (front : List Id) (x : Id) (is : name.others ≡ front ++ x ∷ [])
     (free : has_cedar (components_of name) ≡ false) where
@@ -42,11 +31,11 @@ module _ (name : InternalName) (front : List Id) (x : Id) (is : name.others ≡ 
       let a = is_cedar name.first.text in
       let b = list_any is_cedar (texts_of (front ++ x ∷ [])) in
       (λ i. has_cedar (texts_of (e i ∷ f i)))
-      ∙ or_both a (list_any is_cedar (texts_of front)) (or_first a b others_free)
-      (front_free front x (or_second a b others_free))
+      ∙ or_from a (list_any is_cedar (texts_of front)) (or_parts a b others_free).0
+      (front_free front x (or_parts a b others_free).1)
 
   pub word_free : (word : Id) → word ≡ x → is_cedar word.text ≡ false
   word_free word e =
       ap (λ w. is_cedar w.text) e
-      ∙ last_free front x (or_second (is_cedar name.first.text)
-      (list_any is_cedar (texts_of (front ++ x ∷ []))) others_free)
+      ∙ last_free front x (or_parts (is_cedar name.first.text)
+      (list_any is_cedar (texts_of (front ++ x ∷ []))) others_free).1

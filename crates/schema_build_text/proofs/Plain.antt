@@ -1,34 +1,31 @@
 -- Names among which the empty namespace's `Action` is.
-use Rattle.std.proofs.Common.{◌≡◌, ℕ, Bool, true, false, ◌&&◌, ◌||◌, ◌==◌, length, List, [], ◌∷◌, codes, map, refl, ap}
+use Rattle.std.proofs.Common.{◌≡◌, ℕ, Bool, true, false, ◌||◌, ◌==◌, length, List, [], ◌∷◌, codes, map, refl, ap}
 use Rattle.std.proofs.Common.{sym, ◌∙◌}
 use Rattle.std.specs.declared.cmp.Ordering.{Ordering}
-use Rattle.std.specs.declared.cmp.Ordering.TheVariants.{Less, Equal, Greater}
-use Rattle.std.specs.Ordering.{is_eq, match_ordering}
-use Rattle.std.specs.BTreeSet.{insert_key}
+use Rattle.std.specs.declared.cmp.Ordering.TheVariants.{Equal}
+use Rattle.std.specs.Ordering.{is_eq}
 use Rattle.std.specs.Cmp.Lexicographic.{slice_cmp}
 use Rattle.std.specs.List.{list_any}
 use Rattle.std.specs.Str.{bytes_eq}
+use mathlib.Core.Bool.{and-false}
 use Rattle.cedar_data.specs.Text.{text_cmp}
 use Rattle.cedar_identifiers.specs.Names.{components_of, texts_of}
 use Rattle.cedar_identifiers.specs.declared.id.Id.{Id}
 use Rattle.cedar_identifiers.specs.declared.name.Name.{Name}
 use Rattle.cedar_names.specs.Definitions.{same_name, among}
+use Rattle.cedar_names.proofs.Defined.{equal_names}
 use Rattle.schema_build_types.specs.Content.{names_content}
+use Rattle.schema_build_types.proofs.Inserted.{any_insert}
 use Rattle.schema_build_text.specs.Captured.{plain_action}
 use Rattle.schema_build_text.specs.Rows.{sorted_once}
-use Rattle.schema_build_text.proofs.Grouped.{or_same, or_turned}
-use Rattle.schema_build_text.proofs.Named.{same_list, same_lists}
+use Rattle.schema_build_text.proofs.Named.{same_lists}
 use Rattle.schema_build_text.proofs.Rowed.{names_sorted}
-
-and_false : (b : Bool) → false ≡ (b && false)
-and_false true = refl
-and_false false = refl
 
 -- a name of several words, and of one
 pub several_words : (t : List ℕ) (os : List Id) → (length os == 0) ≡ false
     → false ≡ same_name plain_action (t ∷ texts_of os)
 several_words t [] h = absurd (cc)
-several_words t (o ∷ os) h = and_false (bytes_eq (codes "Action") t)
+several_words t (o ∷ os) h = sym (and-false (bytes_eq (codes "Action") t))
 
 abbrev pub is_plain : Name → Bool
 is_plain n = same_name plain_action (components_of n.name)
@@ -39,28 +36,13 @@ order x y = slice_cmp text_cmp (components_of x.name) (components_of y.name)
 alike : (x y : Name) → order x y ≡ Equal → is_plain x ≡ is_plain y
 alike x y e =
     ap (same_name plain_action)
-    (same_list (components_of x.name) (components_of y.name)
+    (equal_names (components_of x.name) (components_of y.name)
     (same_lists (x.name.first ∷ x.name.others) (y.name.first ∷ y.name.others) ∙ ap is_eq e))
-
-any_insert : (n : Name) (ns : List Name)
-    → list_any is_plain (insert_key order ns n) ≡ (is_plain n || list_any is_plain ns)
-any_insert n [] = refl
-any_insert n (y ∷ ys) = by (any_insert n ys) (order n y) refl
-  where
-    by : list_any is_plain (insert_key order ys n) ≡ (is_plain n || list_any is_plain ys) → (o : Ordering)
-        → order n y ≡ o
-        → list_any is_plain (match_ordering o (n ∷ y ∷ ys) (y ∷ ys) (y ∷ insert_key order ys n))
-        ≡ (is_plain n || (is_plain y || list_any is_plain ys))
-    by more Less e = refl
-    by more Equal e =
-        or_same (list_any is_plain ys) (is_plain y)
-        ∙ ap (λ b. b || (is_plain y || list_any is_plain ys)) (sym (alike n y e))
-    by more Greater e =
-        ap (λ b. is_plain y || b) more ∙ or_turned (is_plain n) (is_plain y) (list_any is_plain ys)
 
 any_sorted : (ns : List Name) → list_any is_plain (sorted_once order ns) ≡ list_any is_plain ns
 any_sorted [] = refl
-any_sorted (n ∷ ns) = any_insert n (sorted_once order ns) ∙ ap (λ b. is_plain n || b) (any_sorted ns)
+any_sorted (n ∷ ns) = any_insert order is_plain alike n (sorted_once order ns)
+    ∙ ap (λ b. is_plain n || b) (any_sorted ns)
 
 any_components : (ns : List Name)
     → among (map (λ n. components_of n.name) ns) plain_action ≡ list_any is_plain ns

@@ -6,23 +6,24 @@ use Rattle.std.specs.declared.cmp.Ordering.TheVariants.{Less, Equal, Greater}
 use Rattle.std.specs.Ordering.{match_ordering, ordering_then}
 use Rattle.std.specs.BTreeSet.{insert_key}
 use Rattle.std.specs.Cmp.Lexicographic.{slice_cmp}
-use Rattle.std.specs.Cmp.Derive.Mapped.{lex_map}
 use Rattle.std.proofs.lemmas.List.{append-nil}
 use Rattle.std.proofs.lemmas.Bool.{eqb-true}
+use Rattle.std.proofs.Common.{String, string_bytes}
+use denote.Ref.{Bor}
 use Rattle.cedar_data.specs.Text.{text_cmp}
-use Rattle.cedar_data.specs.Rows.{joined_by}
-use Rattle.cedar_identifiers.specs.Names.{components_of, name_text, texts_of}
+use Rattle.cedar_data.specs.Rows.{joined_by, separator_where, row_behind}
+use Rattle.cedar_data.proofs.Lists.{map-map}
+use Rattle.cedar_identifiers.specs.Names.{components_of, name_text}
 use Rattle.cedar_identifiers.specs.declared.id.Id.{Id}
 use Rattle.cedar_identifiers.specs.declared.name.Name.{Name}
+use Rattle.cedar_identifiers.proofs.Ordered.{ids_cmp}
 use Rattle.cedar_names.specs.CanonicalText.{in_order, list_text, parents_text, action_name_text}
 use Rattle.cedar_names.specs.Definitions.{action_of}
 use Rattle.cedar_names.specs.declared.entity_uid.EntityUID.{EntityUID}
 use Rattle.schema_build_types.specs.Content.{names_content, actions_in_order, actions_cmp}
-use Rattle.std.proofs.Common.{String, string_bytes}
 use Rattle.schema_build_text.specs.Growing.{Leaves}
-use denote.Ref.{Bor}
 use Rattle.schema_build_text.specs.Readings.{first_name}
-use Rattle.schema_build_text.specs.Rows.{sorted_once, between, row_behind}
+use Rattle.schema_build_text.specs.Rows.{sorted_once}
 
 pub dropped_all : {A : Type 0} (xs : List A) → drop (length xs) xs ≡ []
 dropped_all [] = refl
@@ -41,26 +42,22 @@ dropped xs i d h e = rw (add-one, drop-cons xs i d) (ap (λ x. x ∷ drop (suc i
 pub row_step : {A : Type 0} (f : A → List ℕ) (separator : List ℕ) (b : Bool) (xs : List A) (i : ℕ) (d : A)
     → i < length xs
     → d ≡ get_or xs i d
-    → row_behind separator b (map f (drop i xs)) ≡ (between separator b ++ f d)
+    → row_behind separator b (map f (drop i xs)) ≡ (separator_where separator b ++ f d)
     ++ row_behind separator true (map f (drop (i + 1) xs))
 row_step f separator b xs i d h e =
     ap (λ ys. row_behind separator b (map f ys)) (dropped xs i d h e)
-    ∙ sym (append_assoc (between separator b) (f d) (row_behind separator true (map f (drop (i + 1) xs))))
+    ∙ sym (append_assoc (separator_where separator b) (f d) (row_behind separator true (map f (drop (i + 1) xs))))
 
 pub row_front : {A : Type 0} (f : A → List ℕ) (separator : List ℕ) (b : Bool) (xs ys : List A) (d : A) → xs ≡ d ∷ ys
-    → row_behind separator b (map f xs) ≡ (between separator b ++ f d) ++ row_behind separator true (map f ys)
+    → row_behind separator b (map f xs) ≡ (separator_where separator b ++ f d) ++ row_behind separator true (map f ys)
 row_front f separator b xs ys d e =
     ap (λ l. row_behind separator b (map f l)) e
-    ∙ sym (append_assoc (between separator b) (f d) (row_behind separator true (map f ys)))
+    ∙ sym (append_assoc (separator_where separator b) (f d) (row_behind separator true (map f ys)))
 
 pub joined_row : (separator : List ℕ) (ts : List (List ℕ)) → row_behind separator false ts ≡ joined_by separator ts
 joined_row separator [] = refl
 joined_row separator (t ∷ []) = append-nil t
 joined_row separator (t ∷ u ∷ ts) = ap (λ x. t ++ (separator ++ x)) (joined_row separator (u ∷ ts))
-
-pub map_both : {A B C : Type 0} (f : B → C) (g : A → B) (xs : List A) → map f (map g xs) ≡ map (λ x. f (g x)) xs
-map_both f g [] = refl
-map_both f g (x ∷ xs) = ap (λ t. f (g x) ∷ t) (map_both f g xs)
 
 module _ {A B : Type 0} (f : A → B) (C : A → A → Ordering) (D : B → B → Ordering)
     (same : (x y : A) → C x y ≡ D (f x) (f y)) where
@@ -89,11 +86,6 @@ pub actions_in_order_is : (us : List EntityUID) → actions_in_order us ≡ sort
 actions_in_order_is [] = refl
 actions_in_order_is (a ∷ us) = ap (λ l. insert_key actions_cmp l (action_of a)) (actions_in_order_is us)
 
--- words in turn, by their texts
-pub ids_cmp : (C : Id → Id → Ordering) → ((x y : Id) → C x y ≡ text_cmp x.text y.text) → (xs ys : List Id)
-    → slice_cmp C xs ys ≡ slice_cmp text_cmp (texts_of xs) (texts_of ys)
-ids_cmp C e xs ys = (λ i. slice_cmp (λ x y. e x y i) xs ys) ∙ sym (lex_map (λ j. j.text) text_cmp xs ys)
-
 -- names that are sorted by their order
 pub names_sorted : (C : Name → Name → Ordering)
     → ((x y : Name) → C x y ≡ slice_cmp text_cmp (components_of x.name) (components_of y.name)) → (names : List Name)
@@ -106,7 +98,7 @@ pub names_shown : (C : Name → Name → Ordering)
     → ((x y : Name) → C x y ≡ slice_cmp text_cmp (components_of x.name) (components_of y.name)) → (names : List Name)
     → map (λ n. name_text (components_of n.name)) (sorted_once C names) ≡ map name_text (names_content names)
 names_shown C same names =
-    sym (map_both name_text (λ n. components_of n.name) (sorted_once C names))
+    sym (map-map name_text (λ n. components_of n.name) (sorted_once C names))
     ∙ ap (map name_text) (names_sorted C same names)
 
 -- and actions
@@ -120,7 +112,7 @@ pub actions_shown : (C : EntityUID → EntityUID → Ordering)
     → map (λ a. action_name_text (action_of a)) (sorted_once C actions)
     ≡ map action_name_text (actions_in_order actions)
 actions_shown C same actions =
-    sym (map_both action_name_text action_of (sorted_once C actions))
+    sym (map-map action_name_text action_of (sorted_once C actions))
     ∙ ap (map action_name_text) (actions_sorted C same actions)
 
 -- the order of names is that of their components

@@ -2,38 +2,37 @@
 use Rattle.std.proofs.Common.{◌≡◌, ℕ, Bool, true, false, List, [], ◌∷◌, ◌++◌, codes, map, cond, get_or, All, refl, ap}
 use Rattle.std.proofs.Common.{sym, ◌∙◌, subst, append_assoc, Option, Some, None, if◌then◌else◌}
 use Rattle.std.specs.declared.cmp.Ordering.TheVariants.{Less, Equal}
-use Rattle.std.specs.Cmp.{IsTotalOrder, on_total}
-use Rattle.std.specs.Cmp.Lexicographic.{slice_cmp, lists_total}
+use Rattle.std.specs.Cmp.Lexicographic.{slice_cmp}
 use Rattle.std.specs.List.{filter, flat_map}
-use Rattle.std.specs.Str.{bytes_eq, encode_utf8_all}
+use Rattle.std.specs.Str.{bytes_eq}
 use Rattle.std.proofs.lemmas.Bool.{and_from}
-use Rattle.std.proofs.lemmas.Cmp.{nat_list_cmp_total, tied_itself}
+use Rattle.std.proofs.lemmas.Cmp.{tied_itself}
 use Rattle.std.proofs.lemmas.List.{append-nil, map-append}
-use Rattle.std.proofs.lemmas.List.Elements.{All-head, All-tail, All-nil}
+use Rattle.std.proofs.lemmas.List.Elements.{All-head, All-tail, All-nil, filter-append}
 use Rattle.std.proofs.lemmas.Map.Views.{All-insert_key}
 use Rattle.std.proofs.lemmas.Slice.Eq.{bytes_eq-Decides}
+use Rattle.std.specs.List.Sorted.{IsStrictlySortedBy}
 use Rattle.cedar_data.specs.Text.{text_cmp}
 use Rattle.cedar_data.specs.Rows.{joined_by}
+use Rattle.cedar_data.proofs.Lists.{map-map}
+use Rattle.cedar_data.proofs.Orders.{texts_total}
 use Rattle.cedar_identifiers.specs.Names.{name_text}
 use Rattle.cedar_names.specs.CanonicalText.{namespace, namespaces, line_end, in_order, items_text, namespace_text}
 use Rattle.cedar_names.specs.CanonicalText.{canonical_text, entity_type_text, action_text}
 use Rattle.cedar_names.specs.Definitions.{same_name}
 use Rattle.cedar_names.specs.Meaning.{EntityMeaning, ActionMeaning}
+use Rattle.cedar_names.proofs.Defined.{equal_names}
 use Rattle.schema_build_types.specs.Content.{SchemaContent}
 use Rattle.schema_build_text.specs.Items.{item_text, base_in, opening, closing, break_between, before_text, after_text}
 use Rattle.schema_build_text.specs.Readings.{entity_reading, action_reading, schema_reading}
 use Rattle.schema_build_text.specs.Walk.{ItemContent, entity_type, action, namespace_of, items_of, items_in}
 use Rattle.schema_build_text.specs.Walk.{namespaces_of, walk}
 use Rattle.schema_build_text.specs.Rows.{sorted_once}
-use Rattle.schema_build_text.proofs.Grouped.{Rises, rises_sorted}
-use Rattle.schema_build_text.proofs.Named.{same_list}
-use Rattle.schema_build_text.proofs.Rowed.{map_both, in_order_is}
+use Rattle.schema_build_text.proofs.Grouped.{rises_sorted}
+use Rattle.schema_build_text.proofs.Rowed.{in_order_is}
 
 abbrev pub Name : Type 0
 Name = List (List ℕ)
-
-pub names_total : IsTotalOrder (slice_cmp text_cmp)
-names_total = lists_total (on_total encode_utf8_all nat_list_cmp_total)
 
 pub same_self : (n : Name) → same_name n n ≡ true
 same_self [] = refl
@@ -45,11 +44,11 @@ by_bool P false t f = f refl
 
 pub apart : (m n : Name) → slice_cmp text_cmp m n ≡ Less → same_name m n ≡ false
 apart m n less = by_bool (λ b. same_name m n ≡ b → b ≡ false) (same_name m n)
-    (λ e h. absurd (clash (same_list m n e))) (λ e h. refl) refl
+    (λ e h. absurd (clash (equal_names m n e))) (λ e h. refl) refl
   where
     clash : m ≡ n → ⊥
     clash e = let tied : slice_cmp text_cmp m n ≡ Equal = ap (slice_cmp text_cmp m) (sym e)
-        ∙ tied_itself names_total m in cc
+        ∙ tied_itself texts_total m in cc
 
 -- the text of items behind one of this namespace
 abbrev pub text_behind : Option Name → List ItemContent → List ℕ
@@ -117,8 +116,9 @@ module _ (items : Name → List ItemContent) where
       ∙ ap (λ l. before_text before n
       ++ (joined_by line_end (map (item_text (base_in n)) l) ++ text_behind (Some n) rest)) (sym g.is)))))
 
-  blocks_behind : (m : Name) (ns : List Name) → Rises names_total (m ∷ ns) → All (λ n. IsGroup n (items n)) ns
-      → text_behind (Some m) (flat_map items ns) ≡ closing m ++ later_blocks ns
+  blocks_behind : (m : Name) (ns : List Name) → IsStrictlySortedBy (slice_cmp text_cmp) (m ∷ ns)
+      → All (λ n. IsGroup n (items n)) ns → text_behind (Some m) (flat_map items ns) ≡ closing m ++ later_blocks ns
+  unfolding IsStrictlySortedBy
   blocks_behind m [] r all = sym (append-nil (closing m))
   blocks_behind m (n ∷ ns) r all =
       let texts = joined_by line_end (map (item_text (base_in n)) (items n)) in
@@ -133,7 +133,7 @@ module _ (items : Name → List ItemContent) where
   joined_blocks k [] = append-nil (block k)
   joined_blocks k (j ∷ js) = ap (λ t. block k ++ (line_end ++ t)) (joined_blocks j js)
 
-  blocks_text : (ns : List Name) → Rises names_total ns → All (λ n. IsGroup n (items n)) ns
+  blocks_text : (ns : List Name) → IsStrictlySortedBy (slice_cmp text_cmp) ns → All (λ n. IsGroup n (items n)) ns
       → text_behind None (flat_map items ns) ≡ joined_by line_end (map block ns)
   blocks_text [] r all = refl
   blocks_text (n ∷ ns) r all =
@@ -151,7 +151,7 @@ within n (x ∷ xs) = by (within n xs) (same_name n (namespace_of x)) refl
     by : AreIn n (filter (λ x. same_name n (namespace_of x)) xs) → (b : Bool) → same_name n (namespace_of x) ≡ b
         → AreIn n (cond b (x ∷ filter (λ x. same_name n (namespace_of x)) xs)
         (filter (λ x. same_name n (namespace_of x)) xs))
-    by more true e = (sym (same_list n (namespace_of x) e), more)
+    by more true e = (sym (equal_names n (namespace_of x) e), more)
     by more false e = more
 
 -- and there are some
@@ -200,17 +200,8 @@ walk_text c =
     let ns = sorted_once (slice_cmp text_cmp) (map namespace_of (items_of c)) in
     subst (λ l. text_behind None (flat_map (items_in c) l) ≡ joined_by line_end (map (block (items_in c)) l))
     (sym (in_order_is (map namespace_of (items_of c))))
-    (blocks_text (items_in c) ns (rises_sorted names_total (map namespace_of (items_of c)))
+    (blocks_text (items_in c) ns (rises_sorted texts_total (map namespace_of (items_of c)))
     (λ i d h. group_of (get_or ns i d) (items_of c) (all_have (items_of c) i d h)))
-
-pub filter_append : {X : Type 0} (p : X → Bool) (xs ys : List X) → filter p (xs ++ ys) ≡ filter p xs ++ filter p ys
-filter_append p [] ys = refl
-filter_append p (x ∷ xs) ys = ap (λ l. cond (p x) (x ∷ l) l) (filter_append p xs ys) ∙ by (p x)
-  where
-    by : (b : Bool) → cond b (x ∷ (filter p xs ++ filter p ys)) (filter p xs ++ filter p ys)
-        ≡ cond b (x ∷ filter p xs) (filter p xs) ++ filter p ys
-    by true = refl
-    by false = refl
 
 module _ {A B D T : Type 0} (f : A → B) (g : A → D) (p : B → Bool) (q : D → Bool) (s : B → T) (t : D → T)
     (pq : (x : A) → p (f x) ≡ q (g x)) (st : (x : A) → s (f x) ≡ t (g x)) where
@@ -231,7 +222,7 @@ module _ (c : SchemaContent) where
   texts_are base n =
       let p = λ (x : ItemContent). same_name n (namespace_of x) in
       ap (joined_by line_end)
-      (ap (map (item_text base)) (filter_append p (map entity_type c.entities) (map action c.actions))
+      (ap (map (item_text base)) (filter-append p (map entity_type c.entities) (map action c.actions))
       ∙ (map-append (item_text base) (filter p (map entity_type c.entities)) (filter p (map action c.actions))
       ∙ (λ i.
       alike entity_type entity_reading p (λ (e : EntityMeaning). same_name n (namespace e.name)) (item_text base)
@@ -252,10 +243,10 @@ module _ (c : SchemaContent) where
       ap in_order
       (map-append namespace_of (map entity_type c.entities) (map action c.actions)
       ∙ (λ i.
-      (map_both namespace_of entity_type c.entities
-      ∙ sym (map_both (λ (e : EntityMeaning). namespace e.name) entity_reading c.entities)) i
-      ++ (map_both namespace_of action c.actions
-      ∙ sym (map_both (λ (a : ActionMeaning). namespace a.ty) action_reading c.actions)) i))
+      (map-map namespace_of entity_type c.entities
+      ∙ sym (map-map (λ (e : EntityMeaning). namespace e.name) entity_reading c.entities)) i
+      ++ (map-map namespace_of action c.actions
+      ∙ sym (map-map (λ (a : ActionMeaning). namespace a.ty) action_reading c.actions)) i))
 
   pub printed : text_behind None (walk c) ≡ canonical_text (schema_reading c)
   printed = walk_text c ∙ (λ i. joined_by line_end (map (λ n. block_is n i) (names_are i)))

@@ -7,15 +7,15 @@ use Rattle.cedar_identifiers.specs.Names.{components_of}
 use Rattle.cedar_names.specs.CanonicalText.{basename, namespace}
 use Rattle.cedar_names.specs.Definitions.{same_name, among}
 use Rattle.cedar_names.specs.Meaning.{SchemaMeaning}
-use Rattle.schema_build_types.specs.Content.{TypeContent, AttributeContents, none, first}
-use Rattle.schema_build_types.specs.Content.{SchemaContent}
-use Rattle.schema_build_types.specs.Content as said
-use Rattle.schema_build_types.specs.Standing.{schema_as_built}
 use Rattle.schema_build_errors.specs.declared.captured.CapturedItem.{CapturedItem}
 use Rattle.schema_build_errors.specs.declared.captured.CapturedItem.TheVariants as item
 use Rattle.schema_build_errors.specs.declared.captured.ReferenceCaptured.{ReferenceCaptured}
 use Rattle.schema_build_errors.specs.declared.recovery_error.ToTextError.{ToTextError}
 use Rattle.schema_build_errors.specs.declared.recovery_error.ToTextError.TheVariants as refusal
+use Rattle.schema_build_types.specs.Content.{TypeContent, AttributeContents, none, first}
+use Rattle.schema_build_types.specs.Content.{SchemaContent}
+use Rattle.schema_build_types.specs.Content as said
+use Rattle.schema_build_types.specs.Standing.{schema_as_built}
 use Rattle.schema_build_text.specs.Walk.{ItemContent, entity_type, action, namespace_of, items_in, namespaces_of}
 
 -- the type `Action` of the empty namespace
@@ -76,15 +76,15 @@ first_item [] = None
 first_item (x ∷ others) = Some x
 
 -- this is the last word of the entity type's name, or the id of the action
-abbrev pub IsItem : ItemContent → CapturedItem → Type 0
-IsItem (entity_type e) (item.EntityType word) = word.id.text ≡ basename e.name
-IsItem (entity_type e) (item.Action id) = ⊥
-IsItem (action a) (item.EntityType word) = ⊥
-IsItem (action a) (item.Action id) = id ≡ a.id
+abbrev pub IsCapturedItem : ItemContent → CapturedItem → Type 0
+IsCapturedItem (entity_type e) (item.EntityType word) = word.id.text ≡ basename e.name
+IsCapturedItem (entity_type e) (item.Action id) = ⊥
+IsCapturedItem (action a) (item.EntityType word) = ⊥
+IsCapturedItem (action a) (item.Action id) = id ≡ a.id
 
 -- the error names the namespace of the item, and the item
 abbrev pub IsAbout : ItemContent → ReferenceCaptured → Type 0
-IsAbout x captured = (components_of captured.namespace.name ≡ namespace_of x) × IsItem x captured.item
+IsAbout x captured = (components_of captured.namespace.name ≡ namespace_of x) × IsCapturedItem x captured.item
 
 -- the error is about the first of the items, of which there is one
 abbrev pub IsFirstOf : List ItemContent → ReferenceCaptured → Type 0

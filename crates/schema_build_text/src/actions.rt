@@ -1,4 +1,4 @@
-ghost use Rattle.std.specs.Prelude.{◌≡◌, ◌++◌, OnOk, true, codes, map};
+ghost use Rattle.std.specs.Prelude.{◌++◌, OnOk, true, codes, map};
 ghost use Rattle.cedar_data.specs.Rows.{joined_by};
 ghost use Rattle.cedar_identifiers.specs.Names.{name_text};
 ghost use Rattle.cedar_names.specs.CanonicalText.{spaces, parents_text, context_text, applies_text, action_name_text};

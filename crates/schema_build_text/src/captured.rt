@@ -6,7 +6,7 @@ ghost use Rattle.cedar_names.specs.Definitions.{among, same_name};
 ghost use Rattle.schema_build_types.specs.Content.{SchemaContent, type_content, attributes_content, names_content};
 ghost use Rattle.schema_build_text.specs.Beside.{action_at, is_captured_by};
 ghost use Rattle.schema_build_text.specs.Captured.{plain_action, holds_plain_action, some_hold, tags_hold, item_holds};
-ghost use Rattle.schema_build_text.specs.Captured.{captured_items, first_item, IsAbout, IsItem, IsFirstOf};
+ghost use Rattle.schema_build_text.specs.Captured.{captured_items, first_item, IsAbout, IsCapturedItem, IsFirstOf};
 ghost use Rattle.schema_build_text.specs.Items.{item_content, namespace_behind};
 ghost use Rattle.schema_build_text.specs.Walk.{namespace_of, walk};
 
@@ -180,7 +180,7 @@ pub fn last_word(alloc: Global, name: &Name) -> Result<UnreservedId, AllocError>
 
 // The item by its last word or its id.
 fn captured_item(alloc: Global, item: &Item<'_>) -> Result<CapturedItem, AllocError>
-    ensures { IfOk result (IsItem (item_content item.now)) }
+    ensures { IfOk result (IsCapturedItem (item_content item.now)) }
 {
     match item {
         Item::EntityType(name, _) => Ok(CapturedItem::EntityType(last_word(alloc, name)?)),

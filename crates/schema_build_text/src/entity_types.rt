@@ -1,4 +1,4 @@
-ghost use Rattle.std.specs.Prelude.{◌≡◌, ◌++◌, OnOk, true, codes, map};
+ghost use Rattle.std.specs.Prelude.{◌++◌, OnOk, true, codes, map};
 ghost use Rattle.std.specs.Option.{option_map};
 ghost use Rattle.cedar_identifiers.specs.Names.{components_of, name_text};
 ghost use Rattle.cedar_names.specs.CanonicalText.{basename, parents_text, list_text, shape_text, tags_text, spaces};

@@ -7,7 +7,7 @@ mod entity_types;
 mod items;
 pub mod laws;
 mod names;
-pub mod printing;
+mod printing;
 mod pushing;
 mod rows;
 pub mod to_text;

@@ -3,10 +3,10 @@ ghost use Rattle.cedar_names.specs.CanonicalText.{spaces, attribute_name};
 ghost use Rattle.cedar_identifiers.specs.Words.{is_id};
 ghost use Rattle.std.specs.List.{list_all};
 ghost use Rattle.std.specs.Str.{chars};
+ghost use Rattle.cedar_data.specs.Rows.{separator_where};
 ghost use Rattle.schema_syntax_tokens.specs.Quotes.{is_escaped, quoted};
 ghost use Rattle.schema_build_text.specs.Strings.{is_plain};
 ghost use Rattle.schema_build_text.specs.Adds.{Adds};
-ghost use Rattle.schema_build_text.specs.Rows.{between};
 
 use cedar_data::{Text, is_word};
 use cedar_identifiers::is_reserved;
@@ -22,7 +22,7 @@ pub fn push(text: &mut String, more: &str) -> Result<(), AllocError>
 
 /// Adds the separator, where something stands before.
 pub fn push_between(text: &mut String, behind: bool, separator: &str) -> Result<(), AllocError>
-    ensures { OnOk result (Adds text.old text.new (between separator.now behind)) }
+    ensures { OnOk result (Adds text.old text.new (separator_where separator.now behind)) }
 {
     if behind {
         push(text, separator)
@@ -52,7 +52,7 @@ fn are_plain(bytes: &[u8]) -> bool
     bytes.iter().all(|byte| is_plain(*byte))
 }
 
-// Adds the characters between quotes.
+// Adds the characters separator_where quotes.
 fn push_between_quotes(text: &mut String, value: &str) -> Result<(), AllocError>
     ensures { OnOk result (Adds text.old text.new (codes "\"" ++ (value.now ++ codes "\""))) }
 {

@@ -1,4 +1,4 @@
-ghost use Rattle.std.specs.Prelude.{◌≡◌, ◌++◌, ℕ, List, OnOk, IfOk, IfSome, true, [], ◌∷◌, codes, map};
+ghost use Rattle.std.specs.Prelude.{◌≡◌, ℕ, List, OnOk, IfOk, IfSome, true, [], ◌∷◌, codes, map};
 ghost use Rattle.cedar_data.specs.Rows.{joined_by};
 ghost use Rattle.schema_build_text.specs.Adds.{Adds};
 ghost use Rattle.cedar_identifiers.specs.Names.{components_of, name_text};

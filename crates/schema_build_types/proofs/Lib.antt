@@ -1,4 +1,3 @@
 pub mod Contents
-mod Cost
+pub mod Inserted
 mod Paired
-mod Sizes

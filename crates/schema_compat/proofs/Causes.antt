@@ -5,13 +5,13 @@ use Rattle.serde_json.specs.Written.{has_float}
 use Rattle.schema_json_errors.specs.declared.json_error.JsonDeserializationError.{JsonDeserializationError}
 use Rattle.schema_json_errors.specs.declared.json_fault.JsonFault.{JsonFault}
 use Rattle.schema_json_errors.specs.declared.json_fault.JsonFault.TheVariants as cause
+use Rattle.schema_json_shapes.specs.Reads.{IsDemandFault}
+use Rattle.schema_json_shapes.specs.declared.shape_fault.ShapeFault.{ShapeFault}
+use Rattle.schema_json_shapes.specs.declared.shape_fault.ShapeFault.TheVariants as shape
 use Rattle.schema_json_io.specs.Advice.{beside}
 use Rattle.schema_json_io.specs.Causes.{IsValueCauseBy}
 use Rattle.schema_json_io.specs.Faults.{of_shape}
 use Rattle.schema_json_io.proofs.Causes.{value_cause_by}
-use Rattle.schema_json_shapes.specs.Reads.{IsFault}
-use Rattle.schema_json_shapes.specs.declared.shape_fault.ShapeFault.{ShapeFault}
-use Rattle.schema_json_shapes.specs.declared.shape_fault.ShapeFault.TheVariants as shape
 use Rattle.schema_compat_types.specs.declared.fragment.SchemaFragment.{SchemaFragment}
 use Rattle.schema_compat_shapes.specs.OldParts.{IsFirstOldFault}
 use Rattle.schema_compat_convert.specs.Demands.{asks_fragment}
@@ -29,7 +29,7 @@ beside_none cause.Memory = refl
 beside_none _ = refl
 
 pub conversion_error : (s : SchemaFragment) (fault : ShapeFault) (e : JsonDeserializationError)
-    → e.fault ≡ of_shape fault → e.advice ≡ beside (of_shape fault) None → IsFault (asks_fragment s) fault
+    → e.fault ≡ of_shape fault → e.advice ≡ beside (of_shape fault) None → IsDemandFault (asks_fragment s) fault
     → IsConversionError s e
 conversion_error s fault e is advised (inl m) = (advised ∙ beside_none (of_shape fault), inl (is ∙ ap of_shape m))
 conversion_error s fault e is advised (inr h) = (advised ∙ beside_none (of_shape fault), inr (fault, h, is))

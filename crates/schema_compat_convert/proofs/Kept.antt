@@ -7,7 +7,7 @@ use Rattle.schema_json.specs.declared.types.Type.{«Type»}
 use Rattle.schema_json.specs.declared.types.TypeOfAttribute.{TypeOfAttribute}
 use Rattle.schema_compat_types.specs.declared.types.TypeOfAttribute.{TypeOfAttribute as OldAttribute}
 use Rattle.schema_compat_types.specs.declared.types.TypeOfAttribute as OldAttributes
-use Rattle.schema_compat_convert.specs.Converted.{attribute_of, TypeBecomes, AttributesBecome, no_attribute}
+use Rattle.schema_compat_convert.specs.Converted.{converted_attribute, TypeBecomes, AttributesBecome, no_attribute}
 use Rattle.schema_compat_convert.specs.Converted.{next_attribute}
 use Rattle.schema_compat_convert.specs.Converted.{ValuesBecome}
 
@@ -27,7 +27,7 @@ attributes_keys es fs (next_attribute k a t more others says h) = λ i. k ∷ at
 pub attribute_next : (k : List ℕ) (a : OldAttribute) (t : «Type» RawName) (b : TypeOfAttribute RawName)
     (es : List (List ℕ × OldAttribute)) (fs : List (List ℕ × TypeOfAttribute RawName))
     → TypeBecomes (OldAttributes.out-TypeOfAttribute a).ty t
-    → b ≡ attribute_of t (OldAttributes.out-TypeOfAttribute a).required → AttributesBecome es fs
+    → b ≡ converted_attribute t (OldAttributes.out-TypeOfAttribute a).required → AttributesBecome es fs
     → AttributesBecome ((k, a) ∷ es) ((k, b) ∷ fs)
 attribute_next k a t b es fs says is h =
     subst (λ x. AttributesBecome ((k, a) ∷ es) ((k, x) ∷ fs)) (sym is) (next_attribute k a t es fs says h)

@@ -14,7 +14,7 @@ use Rattle.schema_json.specs.declared.types.TypeOfAttribute.{TypeOfAttribute}
 use Rattle.schema_json_shapes.specs.declared.name_role.NameRole.TheVariants as role
 use Rattle.schema_json_shapes.specs.declared.shape_fault.ShapeFault.{ShapeFault}
 use Rattle.schema_json_shapes.specs.Walk.{is_name, AllMet}
-use Rattle.schema_json_shapes.specs.Reads.{IsFault}
+use Rattle.schema_json_shapes.specs.Reads.{IsDemandFault}
 use Rattle.schema_json_shapes.specs.Said.{IsRawName, IsId, plain}
 use Rattle.schema_compat_types.specs.declared.types.SchemaType.{SchemaType}
 use Rattle.schema_compat_types.specs.declared.types.SchemaType.TheVariants as written
@@ -73,9 +73,9 @@ record_made v es is_open fs is up (met, h) =
     (subst AllMet (sym (record_asked es is_open)) met, of_record es fs is_open up h)
 
 pub record_fails : (v : SchemaTypeVariant) (es : List (List ℕ × OldAttribute)) (is_open : Bool) (e : ShapeFault)
-    → v ≡ shape.Record es is_open → IsFault (asks_attributes es) e → IsFault (asks_shape v) e
-record_fails v es is_open e is h = subst (λ x. IsFault (asks_shape x) e) (sym is)
-    (subst (λ ds. IsFault ds e) (sym (record_asked es is_open)) h)
+    → v ≡ shape.Record es is_open → IsDemandFault (asks_attributes es) e → IsDemandFault (asks_shape v) e
+record_fails v es is_open e is h = subst (λ x. IsDemandFault (asks_shape x) e) (sym is)
+    (subst (λ ds. IsDemandFault ds e) (sym (record_asked es is_open)) h)
 
 pub entity_made : (v : SchemaTypeVariant) (text bytes : List ℕ) (n : RawName) → v ≡ shape.Entity text
     → bytes ≡ encode_utf8_all text → AllMet (is_name role.EntityType bytes ∷ []) × IsRawName bytes n

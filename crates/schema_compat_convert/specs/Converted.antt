@@ -27,8 +27,9 @@ use Rattle.schema_json.specs.declared.action_type.ActionEntityUID.{ActionEntityU
 use Rattle.schema_json.specs.declared.action_type.ApplySpec.{ApplySpec}
 use Rattle.schema_json.specs.declared.fragment.Fragment.{Fragment}
 use Rattle.schema_json.specs.declared.fragment.NamespaceDefinition.{NamespaceDefinition}
+use Rattle.schema_json.specs.Orders.{unreserved_cmp, common_cmp, namespace_cmp}
 use Rattle.schema_json_shapes.specs.Said.{IsRawName, IsId, plain}
-use Rattle.schema_json_shapes.specs.Shapes.{IsNamespaceKey, id_order, common_id_order, namespace_order}
+use Rattle.schema_json_shapes.specs.Shapes.{IsNamespaceKey}
 use Rattle.schema_json_shapes.specs.Walk.{AllMet, FirstUnmet}
 use Rattle.schema_json_shapes.specs.declared.shape_fault.ShapeFault.{ShapeFault}
 use Rattle.schema_compat_types.specs.declared.types.SchemaType.{SchemaType}
@@ -50,8 +51,8 @@ no_annotations = record { 0 = [] }
 
 -- ---- types
 
-abbrev pub attribute_of : «Type» RawName → Bool → TypeOfAttribute RawName
-attribute_of t required =
+abbrev pub converted_attribute : «Type» RawName → Bool → TypeOfAttribute RawName
+converted_attribute t required =
     roll-TypeOfAttribute RawName (record { ty = t; annotations = no_annotations; required = required })
 
 abbrev pub record_shape : List (List ℕ × TypeOfAttribute RawName) → Bool → TypeVariant RawName
@@ -87,7 +88,7 @@ mutual
     next_attribute : (k : List ℕ) (a : OldAttribute) (t : «Type» RawName) (es : List (List ℕ × OldAttribute))
         (fs : List (List ℕ × TypeOfAttribute RawName)) → TypeBecomes (out-TypeOfAttribute a).ty t
         → AttributesBecome es fs
-        → AttributesBecome ((k, a) ∷ es) ((k, attribute_of t (out-TypeOfAttribute a).required) ∷ fs)
+        → AttributesBecome ((k, a) ∷ es) ((k, converted_attribute t (out-TypeOfAttribute a).required) ∷ fs)
 
 -- ---- what is declared
 
@@ -150,8 +151,8 @@ module _ {G : ghosts.Ghosts RawName} where
 
   -- what the namespace declares becomes what is declared, map by map, without annotations
   pub record NamespaceBecomes (n : OldNamespace) (m : NamespaceDefinition RawName G) : Type 0 where
-    pub commons : MapBecomes common_id_order CommonTypeBecomes n.common_types m.common_types
-    pub entities : MapBecomes id_order EntityTypeBecomes n.entity_types m.entity_types
+    pub commons : MapBecomes common_cmp CommonTypeBecomes n.common_types m.common_types
+    pub entities : MapBecomes unreserved_cmp EntityTypeBecomes n.entity_types m.entity_types
     pub actions : MapBecomes text_cmp ActionBecomes n.actions m.actions
     pub bare : m.annotations ≡ no_annotations
 
@@ -163,7 +164,7 @@ module _ {G : ghosts.Ghosts RawName} where
   abbrev pub FragmentBecomes : SchemaFragment → Fragment RawName G → Type 0
   FragmentBecomes s f =
       (entries : List (Option Name × NamespaceDefinition RawName G)) × AllZip EntryBecomes s.0 entries
-      × (f.0 ≡ map_of namespace_order entries)
+      × (f.0 ≡ map_of namespace_cmp entries)
 
   -- the data keeps what it must, and becomes the fragment
   abbrev pub IsConverted : SchemaFragment → Fragment RawName G → Type 0

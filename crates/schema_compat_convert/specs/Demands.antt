@@ -4,6 +4,10 @@ use Rattle.std.specs.Prelude.{ℕ, List, [], ◌∷◌, ◌++◌, codes, Option,
 use Rattle.std.specs.List.{flat_map}
 use Rattle.std.specs.Option.{option_map_or}
 use Rattle.std.specs.Str.{chars, encode_utf8_all}
+use Rattle.schema_json_shapes.specs.declared.name_role.NameRole.{NameRole}
+use Rattle.schema_json_shapes.specs.declared.name_role.NameRole.TheVariants as role
+use Rattle.schema_json_shapes.specs.declared.shape_fault.ShapeFault.TheVariants.{MissingField}
+use Rattle.schema_json_shapes.specs.Walk.{Demand, unless, is_name, namespace_key_demands}
 use Rattle.schema_compat_types.specs.declared.types.SchemaType.{SchemaType, SchemaType-F, fold-SchemaType}
 use Rattle.schema_compat_types.specs.declared.types.SchemaTypeVariant.{SchemaTypeVariant, SchemaTypeVariant-F}
 use Rattle.schema_compat_types.specs.declared.types.SchemaTypeVariant.{fold-SchemaTypeVariant}
@@ -14,10 +18,6 @@ use Rattle.schema_compat_types.specs.declared.action_type.ActionType.{ActionType
 use Rattle.schema_compat_types.specs.declared.action_type.ApplySpec.{ApplySpec}
 use Rattle.schema_compat_types.specs.declared.fragment.NamespaceDefinition.{NamespaceDefinition}
 use Rattle.schema_compat_types.specs.declared.fragment.SchemaFragment.{SchemaFragment}
-use Rattle.schema_json_shapes.specs.declared.name_role.NameRole.{NameRole}
-use Rattle.schema_json_shapes.specs.declared.name_role.NameRole.TheVariants as role
-use Rattle.schema_json_shapes.specs.declared.shape_fault.ShapeFault.TheVariants.{MissingField}
-use Rattle.schema_json_shapes.specs.Walk.{Demand, unless, is_name, namespace_key}
 
 abbrev pub Asked : Type 0
 Asked = List Demand
@@ -91,7 +91,7 @@ asks_namespace n =
 
 -- a namespace under its name
 abbrev pub asks_entry : List ℕ × NamespaceDefinition → Asked
-asks_entry e = namespace_key (encode_utf8_all e.0) ++ asks_namespace e.1
+asks_entry e = namespace_key_demands (encode_utf8_all e.0) ++ asks_namespace e.1
 
 -- what the data must keep, namespace by namespace
 abbrev pub asks_fragment : SchemaFragment → Asked

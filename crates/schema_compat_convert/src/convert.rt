@@ -1,7 +1,7 @@
 // The values of a map, converted one after another.
 ghost use Rattle.std.specs.Prelude.{List};
 ghost use Rattle.schema_json_shapes.specs.Walk.{Demand};
-ghost use Rattle.schema_json_shapes.specs.Reads.{Reads};
+ghost use Rattle.schema_json_shapes.specs.Reads.{ReadsValue};
 ghost use Rattle.schema_compat_convert.specs.Demands.{asks_values};
 ghost use Rattle.schema_compat_convert.specs.Converted.{MapBecomes};
 
@@ -22,7 +22,7 @@ pub trait Convert: Drop {
 
     /// What it says, or its first fault.
     fn convert(self, alloc: Global) -> Result<Self::Out, ShapeFault>
-        ensures { Reads result (asks self) (Becomes self) };
+        ensures { ReadsValue result (asks self) (Becomes self) };
 }
 
 /// A map with each value converted.
@@ -30,7 +30,7 @@ pub fn convert_map<K: Ord + Drop, V: Convert>(
     alloc: Global,
     map: Map<K, V>,
 ) -> Result<Map<K, V::Out>, ShapeFault>
-    ensures { Reads result (asks_values V.asks map) (MapBecomes K.cmp V.Becomes map) }
+    ensures { ReadsValue result (asks_values V.asks map) (MapBecomes K.cmp V.Becomes map) }
 {
     let mut out = Vec::new(alloc);
     for (key, value) in map.into_vec() {

@@ -1,6 +1,6 @@
 // Namespaces and fragments.
 ghost use Rattle.std.specs.List.{AllZip, flat_map};
-ghost use Rattle.schema_json_shapes.specs.Reads.{Reads};
+ghost use Rattle.schema_json_shapes.specs.Reads.{ReadsValue};
 ghost use Rattle.schema_compat_convert.specs.Demands.{asks_namespace, asks_entry, asks_fragment};
 ghost use Rattle.schema_compat_convert.specs.Converted.{NamespaceBecomes, EntryBecomes, FragmentBecomes};
 
@@ -18,7 +18,7 @@ pub fn convert_fragment(
     alloc: Global,
     fragment: SchemaFragment,
 ) -> Result<Fragment<RawName>, ShapeFault>
-    ensures { Reads result (asks_fragment fragment) (FragmentBecomes fragment) }
+    ensures { ReadsValue result (asks_fragment fragment) (FragmentBecomes fragment) }
 {
     let SchemaFragment(namespaces) = fragment;
     let entries = convert_entries(alloc, namespaces.into_vec())?;
@@ -31,7 +31,7 @@ fn convert_entries(
     alloc: Global,
     entries: Vec<(Text, OldNamespace)>,
 ) -> Result<Vec<(Option<Name>, NamespaceDefinition<RawName>)>, ShapeFault>
-    ensures { Reads result (flat_map asks_entry entries.items) (λ out. AllZip EntryBecomes entries.items out.items) }
+    ensures { ReadsValue result (flat_map asks_entry entries.items) (λ out. AllZip EntryBecomes entries.items out.items) }
 {
     let mut out = Vec::new(alloc);
     for (name, namespace) in entries {
@@ -46,7 +46,7 @@ fn convert_entry(
     name: &Text,
     namespace: OldNamespace,
 ) -> Result<(Option<Name>, NamespaceDefinition<RawName>), ShapeFault>
-    ensures { Reads result (asks_entry (name.now, namespace)) (EntryBecomes (name.now, namespace)) }
+    ensures { ReadsValue result (asks_entry (name.now, namespace)) (EntryBecomes (name.now, namespace)) }
 {
     let name = read_key(alloc, name.as_str())?;
     let namespace = convert_namespace(alloc, namespace)?;
@@ -57,7 +57,7 @@ fn convert_namespace(
     alloc: Global,
     namespace: OldNamespace,
 ) -> Result<NamespaceDefinition<RawName>, ShapeFault>
-    ensures { Reads result (asks_namespace namespace) (NamespaceBecomes namespace) }
+    ensures { ReadsValue result (asks_namespace namespace) (NamespaceBecomes namespace) }
 {
     let OldNamespace {
         common_types,

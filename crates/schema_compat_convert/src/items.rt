@@ -2,7 +2,7 @@
 ghost use Rattle.std.specs.Prelude.{◌≡◌, [], ◌∷◌, IfOk};
 ghost use Rattle.std.specs.List.{AllZip};
 ghost use Rattle.std.specs.Option.{option_map_or};
-ghost use Rattle.schema_json_shapes.specs.Reads.{Reads};
+ghost use Rattle.schema_json_shapes.specs.Reads.{ReadsValue};
 ghost use Rattle.schema_compat_convert.specs.Demands.{asks_type, asks_entity, asks_action, asks_apply, asks_field};
 ghost use Rattle.schema_compat_convert.specs.Converted.{CommonTypeBecomes, EntityTypeBecomes, ActionBecomes, ApplyBecomes, UidBecomes, OptionBecomes, no_names};
 
@@ -104,7 +104,7 @@ fn convert_applies_to(
     alloc: Global,
     applies_to: Option<OldApply>,
 ) -> Result<Option<ApplySpec<RawName>>, ShapeFault>
-    ensures { Reads result (option_map_or asks_apply applies_to []) (OptionBecomes ApplyBecomes applies_to) }
+    ensures { ReadsValue result (option_map_or asks_apply applies_to []) (OptionBecomes ApplyBecomes applies_to) }
 {
     match applies_to {
         Some(applies_to) => Ok(Some(convert_apply(alloc, applies_to)?)),
@@ -114,7 +114,7 @@ fn convert_applies_to(
 
 // What an action applies to, which has both lists.
 fn convert_apply(alloc: Global, applies_to: OldApply) -> Result<ApplySpec<RawName>, ShapeFault>
-    ensures { Reads result (asks_apply applies_to) (ApplyBecomes applies_to) }
+    ensures { ReadsValue result (asks_apply applies_to) (ApplyBecomes applies_to) }
 {
     let OldApply {
         resource_types,
@@ -138,7 +138,7 @@ fn present(
     names: Option<List<RawName>>,
     field: &str,
 ) -> Result<List<RawName>, ShapeFault>
-    ensures { Reads result (asks_field field.now names ∷ []) (λ out. names ≡ Some out) }
+    ensures { ReadsValue result (asks_field field.now names ∷ []) (λ out. names ≡ Some out) }
 {
     match names {
         Some(names) => Ok(names),

@@ -3,7 +3,7 @@
 
 pub mod convert;
 pub mod fragments;
-pub mod items;
-pub mod types;
+mod items;
+mod types;
 
 pub use fragments::convert_fragment;

@@ -1,6 +1,6 @@
 // Types.
-ghost use Rattle.schema_json_shapes.specs.Reads.{Reads};
-ghost use Rattle.schema_compat_convert.specs.Demands.{asks_type, asks_shape, asks_attribute, asks_attributes};
+ghost use Rattle.schema_json_shapes.specs.Reads.{ReadsValue};
+ghost use Rattle.schema_compat_convert.specs.Demands.{asks_type, asks_shape, asks_attributes};
 ghost use Rattle.schema_compat_convert.specs.Converted.{TypeBecomes, ShapeBecomes, AttributesBecome};
 
 use cedar_data::{Boxed, Map, Text};
@@ -14,7 +14,7 @@ use std::alloc::Global;
 /// A type, or the first fault of a name in it.
 #[cycle(types)]
 pub fn convert_type(alloc: Global, ty: SchemaType) -> Result<Type<RawName>, ShapeFault>
-    ensures { Reads result (asks_type ty) (TypeBecomes ty) }
+    ensures { ReadsValue result (asks_type ty) (TypeBecomes ty) }
 {
     match ty {
         SchemaType::Variant(shape) => Ok(Type::from_variant(convert_shape(alloc, shape)?)),
@@ -33,7 +33,7 @@ fn convert_shape(
     alloc: Global,
     shape: SchemaTypeVariant,
 ) -> Result<TypeVariant<RawName>, ShapeFault>
-    ensures { Reads result (asks_shape shape) (ShapeBecomes shape) }
+    ensures { ReadsValue result (asks_shape shape) (ShapeBecomes shape) }
 {
     match shape {
         SchemaTypeVariant::String => Ok(TypeVariant::String),
@@ -71,7 +71,7 @@ fn convert_attributes(
     alloc: Global,
     attributes: Vec<(Text, OldAttribute)>,
 ) -> Result<Vec<(Text, TypeOfAttribute<RawName>)>, ShapeFault>
-    ensures { Reads result (asks_attributes attributes.items) (λ out. AttributesBecome attributes.items out.items) }
+    ensures { ReadsValue result (asks_attributes attributes.items) (λ out. AttributesBecome attributes.items out.items) }
 {
     let mut out = Vec::new(alloc);
     for (name, attribute) in attributes {

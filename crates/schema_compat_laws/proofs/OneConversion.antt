@@ -1,5 +1,6 @@
 -- The data of the deprecated form becomes one fragment.
 use Rattle.std.proofs.Common.{◌≡◌, ℕ, Bool, List, [], ◌∷◌, Option, Some, None, refl, sym, ap, ◌∙◌, subst}
+use Rattle.std.proofs.lemmas.Option.{same_Some}
 use Rattle.std.specs.List.{AllZip}
 use Rattle.std.specs.Str.{encode_utf8_all}
 use Rattle.std.specs.declared.cmp.Ordering.{Ordering}
@@ -22,10 +23,8 @@ use Rattle.schema_json.specs.declared.action_type.ApplySpec.{ApplySpec}
 use Rattle.schema_json.specs.declared.fragment.Fragment.{Fragment}
 use Rattle.schema_json.specs.declared.fragment.NamespaceDefinition.{NamespaceDefinition}
 use Rattle.schema_json.proofs.Same.{action_same}
+use Rattle.schema_json.specs.Orders.{namespace_cmp}
 use Rattle.schema_json_shapes.specs.Said.{IsRawName, IsId, plain}
-use Rattle.schema_json_shapes.specs.Shapes.{namespace_order}
-use Rattle.schema_json_laws.proofs.OneFragment.{name_once}
-use Rattle.schema_json_laws.proofs.OneShape.{one_raw_name, one_id}
 use Rattle.schema_compat_types.specs.declared.types.SchemaType.{SchemaType, SchemaType-F, out-SchemaType}
 use Rattle.schema_compat_types.specs.declared.types.SchemaType.{out-roll-SchemaType}
 use Rattle.schema_compat_types.specs.declared.types.SchemaType.TheVariants as written
@@ -41,7 +40,8 @@ use Rattle.schema_compat_types.specs.declared.action_type.ActionEntityUID.{Actio
 use Rattle.schema_compat_types.specs.declared.action_type.ApplySpec.{ApplySpec as OldApply}
 use Rattle.schema_compat_types.specs.declared.fragment.NamespaceDefinition.{NamespaceDefinition as OldNamespace}
 use Rattle.schema_compat_types.specs.declared.fragment.SchemaFragment.{SchemaFragment}
-use Rattle.schema_compat_convert.specs.Converted.{attribute_of, record_shape, TypeBecomes, of_shape, of_reference}
+use Rattle.schema_compat_convert.specs.Converted.{converted_attribute, record_shape, TypeBecomes, of_shape}
+use Rattle.schema_compat_convert.specs.Converted.{of_reference}
 use Rattle.schema_compat_convert.specs.Converted.{ShapeBecomes, of_string, of_long, of_boolean, of_set, of_record}
 use Rattle.schema_compat_convert.specs.Converted.{of_entity, of_extension, AttributesBecome, no_attribute}
 use Rattle.schema_compat_convert.specs.Converted.{next_attribute}
@@ -49,6 +49,8 @@ use Rattle.schema_compat_convert.specs.Converted.{MapBecomes, CommonTypeBecomes,
 use Rattle.schema_compat_convert.specs.Converted.{ApplyBecomes, OptionBecomes, UidBecomes, ActionBecomes}
 use Rattle.schema_compat_convert.specs.Converted.{NamespaceBecomes}
 use Rattle.schema_compat_convert.specs.Converted.{EntryBecomes, FragmentBecomes}
+use Rattle.schema_json_laws.proofs.OneFragment.{name_once}
+use Rattle.schema_json_laws.proofs.OneShape.{one_raw_name, one_id}
 
 -- ---- types, by their outermost layer
 
@@ -163,7 +165,7 @@ mutual
       → AttributesBecome es fs → AttributesBecome es gs → fs ≡ gs
   one_attributes es fs gs no_attribute no_attribute = refl
   one_attributes es fs gs (next_attribute k a t more xs h hs) (next_attribute _ _ u _ ys g gs') =
-      λ i. (k, attribute_of (one_type (out-TypeOfAttribute a).ty t u h g i) (out-TypeOfAttribute a).required)
+      λ i. (k, converted_attribute (one_type (out-TypeOfAttribute a).ty t u h g i) (out-TypeOfAttribute a).required)
       ∷ one_attributes more xs ys hs gs' i
 
 -- ---- lists and maps
@@ -218,13 +220,10 @@ entity_once e f g h k =
       loc = (h.placeless ∙ sym k.placeless) i;
     }
 
-some_same : {A : Type 0} (a b : A) → Some a ≡ Some b → a ≡ b
-some_same a b e = cc
-
 apply_once : (a : OldApply) (b c : ApplySpec RawName) → ApplyBecomes a b → ApplyBecomes a c → b ≡ c
 apply_once a b c h k = λ i. record {
-  resource_types = some_same b.resource_types c.resource_types (sym h.resources ∙ k.resources) i;
-  principal_types = some_same b.principal_types c.principal_types (sym h.principals ∙ k.principals) i;
+  resource_types = same_Some b.resource_types c.resource_types (sym h.resources ∙ k.resources) i;
+  principal_types = same_Some b.principal_types c.principal_types (sym h.principals ∙ k.principals) i;
   context = record { 0 = one_type a.context.0 b.context.0 c.context.0 h.in_context k.in_context i };
 }
 
@@ -263,5 +262,5 @@ module _ {G : ghosts.Ghosts RawName} where
       → f ≡ g
   one_converted s f g (es, are, is) (fs, are', is') =
       let same = list_once EntryBecomes entry_once s.0 es fs are are' in
-      let maps : f.0 ≡ g.0 = is ∙ (ap (map_of namespace_order) same ∙ sym is') in
+      let maps : f.0 ≡ g.0 = is ∙ (ap (map_of namespace_cmp) same ∙ sym is') in
       λ i. record { 0 = maps i }

@@ -4,6 +4,9 @@ use Rattle.std.specs.Prelude.{codes}
 use Rattle.serde_json.specs.Data.{Data, Members}
 use Rattle.serde_json.specs.Find.{get_member}
 use Rattle.cedar_data.specs.Text.{text_cmp}
+use Rattle.schema_json.specs.Orders.{unreserved_cmp, common_cmp}
+use Rattle.schema_json_shapes.specs.Said.{IsId, IsText, IsNamed, IsList, not_null}
+use Rattle.schema_json_shapes.specs.Shapes.{AreKeys, IsCommonId}
 use Rattle.schema_compat_types.specs.declared.entity_type.AttributesOrContext.{AttributesOrContext}
 use Rattle.schema_compat_types.specs.declared.entity_type.EntityType.{EntityType}
 use Rattle.schema_compat_types.specs.declared.action_type.ActionType.{ActionType}
@@ -11,16 +14,14 @@ use Rattle.schema_compat_types.specs.declared.action_type.ApplySpec.{ApplySpec}
 use Rattle.schema_compat_types.specs.declared.action_type.ActionEntityUID.{ActionEntityUID}
 use Rattle.schema_compat_types.specs.declared.fragment.NamespaceDefinition.{NamespaceDefinition}
 use Rattle.schema_compat_types.specs.declared.fragment.SchemaFragment.{SchemaFragment}
-use Rattle.schema_json_shapes.specs.Said.{IsId, IsText, IsNamed, IsList, not_null}
-use Rattle.schema_json_shapes.specs.Shapes.{AreKeys, IsCommonId, id_order, common_id_order}
-use Rattle.schema_json_laws.proofs.OneShape.{one_id, optional_once, list_once, list_or_none_once, map_once}
-use Rattle.schema_json_laws.proofs.OneShape.{map_or_none_once}
-use Rattle.schema_json_laws.proofs.OneFragment.{named_once, keys_once, names_once, text_in_once, text_once}
-use Rattle.schema_json_laws.proofs.OneFragment.{common_id_once}
 use Rattle.schema_compat_shapes.specs.OldParts.{IsOldType, IsOldShape, IsOldEntityTypeIn, IsOldEntityType}
 use Rattle.schema_compat_shapes.specs.OldParts.{IsOldActionIdIn, IsOldActionId, IsOldAppliesToIn, IsOldAppliesTo}
 use Rattle.schema_compat_shapes.specs.OldParts.{IsOldActionIn, IsOldAction, IsOldNamespaceIn, IsOldNamespace}
 use Rattle.schema_compat_shapes.specs.OldParts.{IsOldFragment}
+use Rattle.schema_json_laws.proofs.OneShape.{one_id, optional_once, list_once, list_or_none_once, map_once}
+use Rattle.schema_json_laws.proofs.OneShape.{map_or_none_once}
+use Rattle.schema_json_laws.proofs.OneFragment.{named_once, keys_once, names_once, text_in_once, text_once}
+use Rattle.schema_json_laws.proofs.OneFragment.{common_id_once}
 use Rattle.schema_compat_laws.proofs.OneOldShape.{in_object_once, one_type_value}
 
 shape_once : (o : Option Data) (s t : AttributesOrContext) → IsOldShape o s → IsOldShape o t → s ≡ t
@@ -66,9 +67,10 @@ action_once ms a b h k = λ i. record {
 
 namespace_once : (ms : Members) (a b : NamespaceDefinition) → IsOldNamespaceIn ms a → IsOldNamespaceIn ms b → a ≡ b
 namespace_once ms a b h k = λ i. record {
-  common_types = map_or_none_once common_id_order IsCommonId IsOldType common_id_once one_type_value
+  common_types = map_or_none_once common_cmp IsCommonId IsOldType common_id_once one_type_value
       (get_member (codes "commonTypes") ms) a.common_types b.common_types h.commons k.commons i;
-  entity_types = map_or_none_once id_order IsId IsOldEntityType one_id (in_object_once IsOldEntityTypeIn entity_once)
+  entity_types = map_or_none_once unreserved_cmp IsId IsOldEntityType one_id
+      (in_object_once IsOldEntityTypeIn entity_once)
       (get_member (codes "entityTypes") ms) a.entity_types b.entity_types h.entities k.entities i;
   actions = map_or_none_once text_cmp IsText IsOldAction text_once (in_object_once IsOldActionIn action_once)
       (get_member (codes "actions") ms) a.actions b.actions h.actions k.actions i;

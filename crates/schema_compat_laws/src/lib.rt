@@ -2,7 +2,5 @@
 #![tactic(auto)]
 
 pub mod laws;
-pub mod text_laws;
 
-pub use laws::one_reading_or_fault;
-pub use text_laws::one_old_fragment_or_error;
+pub use laws::{one_old_fragment_or_error, one_reading_or_fault};

@@ -1,7 +1,8 @@
 -- Types whose fields read, and what they say.
-use Rattle.std.proofs.Common.{◌≡◌, ℕ, Bool, true, false, List, ◌∷◌, Option, Some, None, String, Global, refl, sym}
+use Rattle.std.proofs.Common.{◌≡◌, ℕ, Bool, true, false, List, ◌∷◌, Option, Some, None, String, Global, sym}
 use Rattle.std.proofs.Common.{ap, subst}
-use Rattle.std.specs.Prelude.{◌&&◌, codes}
+use Rattle.std.proofs.lemmas.Bool.{and_parts}
+use Rattle.std.specs.Prelude.{codes}
 use Rattle.std.specs.Str.{chars}
 use Rattle.serde_json.specs.Data.{Data, null, boolean, number, string, array, object, Members, member}
 use Rattle.serde_json.specs.Find.{get_member, as_object}
@@ -10,24 +11,20 @@ use Rattle.serde_json.proofs.Views.{Entry}
 use Rattle.serde_json.specs.declared.value.Value.{Value}
 use Rattle.cedar_data.specs.Maps.{map_of}
 use Rattle.cedar_data.specs.Text.{text_cmp}
-use Rattle.schema_compat_types.specs.declared.types.SchemaTypeVariant.TheVariants as variant
-use Rattle.schema_compat_types.specs.declared.types.TypeOfAttribute.{TypeOfAttribute}
 use Rattle.schema_json_shapes.specs.declared.words.TypeWord.TheVariants as word
 use Rattle.schema_json_shapes.specs.Walk.{flag_or}
 use Rattle.schema_json_shapes.specs.Said.{IsText, HasWord, AreEntries, no_entry, next_entry}
 use Rattle.schema_json_shapes.proofs.Objects.{an_object}
-use Rattle.schema_compat_shapes.specs.OldTypes.{object_of, is_old_attribute, are_all_attributes}
+use Rattle.schema_compat_types.specs.declared.types.SchemaTypeVariant.TheVariants as variant
+use Rattle.schema_compat_types.specs.declared.types.TypeOfAttribute.{TypeOfAttribute}
+use Rattle.schema_compat_shapes.specs.OldTypes.{object_members, is_old_attribute, are_all_attributes}
 use Rattle.schema_compat_shapes.specs.OldTypes.{SaysOldVariant, SayOldAttributes}
 use Rattle.schema_compat_shapes.specs.OldTypes.{old_record, no_old_attribute, next_old_attribute}
 use Rattle.schema_compat_shapes.specs.OldParts.{IsOldAttribute}
 
-both : (a b : Bool) → (a && b) ≡ true → (a ≡ true) × (b ≡ true)
-both true b e = (refl, e)
-both false b e = absurd (cc)
-
 -- ---- objects that are there
 
-pub object_there : (o : Option Data) (ms : Members) → Some ms ≡ object_of o → o ≡ Some (object ms)
+pub object_there : (o : Option Data) (ms : Members) → Some ms ≡ object_members o → o ≡ Some (object ms)
 object_there None ms e = absurd (cc)
 object_there (Some d) ms e = ap Some (sym (an_object d ms e))
 
@@ -37,7 +34,8 @@ object_there (Some d) ms e = ap Some (sym (an_object d ms e))
 pub next_attribute : (es : List Entry) (key : String Global) (v : Value) (left : List Entry)
     → are_all_attributes (members_view es) ≡ true → es ≡ (key, v) ∷ left
     → (is_old_attribute (as_object (view v)) ≡ true) × (are_all_attributes (members_view left) ≡ true)
-next_attribute es key v left h e = both (is_old_attribute (as_object (view v))) (are_all_attributes (members_view left))
+next_attribute es key v left h e = and_parts (is_old_attribute (as_object (view v)))
+    (are_all_attributes (members_view left))
     (subst (λ xs. are_all_attributes (members_view xs) ≡ true) e h)
 
 abbrev AttributeEntry : Type 0

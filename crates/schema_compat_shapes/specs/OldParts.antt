@@ -3,6 +3,12 @@ use Rattle.std.specs.Prelude.{◌≡◌, true, false, [], codes, Option, Some, N
 use Rattle.serde_json.specs.Data.{Data, object, Members}
 use Rattle.serde_json.specs.Find.{get_member}
 use Rattle.cedar_data.specs.Text.{text_cmp}
+use Rattle.schema_json.specs.Orders.{unreserved_cmp, common_cmp}
+use Rattle.schema_json_shapes.specs.declared.shape_fault.ShapeFault.{ShapeFault}
+use Rattle.schema_json_shapes.specs.Walk.{AllMet, FirstUnmet, flag_or}
+use Rattle.schema_json_shapes.specs.Said.{IsId, IsText, IsNamed, IsOptional, not_null, IsList, IsListOrNone, IsMap}
+use Rattle.schema_json_shapes.specs.Said.{IsMapOrNone}
+use Rattle.schema_json_shapes.specs.Shapes.{AreKeys, IsTextIn, IsCommonId}
 use Rattle.schema_compat_types.specs.declared.types.SchemaType.{SchemaType}
 use Rattle.schema_compat_types.specs.declared.types.SchemaType.TheVariants.{Variant}
 use Rattle.schema_compat_types.specs.declared.types.SchemaTypeVariant.TheVariants.{Record}
@@ -13,12 +19,7 @@ use Rattle.schema_compat_types.specs.declared.action_type.ApplySpec.{ApplySpec}
 use Rattle.schema_compat_types.specs.declared.action_type.ActionEntityUID.{ActionEntityUID}
 use Rattle.schema_compat_types.specs.declared.fragment.NamespaceDefinition.{NamespaceDefinition}
 use Rattle.schema_compat_types.specs.declared.fragment.SchemaFragment.{SchemaFragment}
-use Rattle.schema_json_shapes.specs.declared.shape_fault.ShapeFault.{ShapeFault}
 use Rattle.schema_compat_types.specs.declared.types.TypeOfAttribute.{TypeOfAttribute, out-TypeOfAttribute}
-use Rattle.schema_json_shapes.specs.Walk.{AllMet, FirstUnmet, flag_or}
-use Rattle.schema_json_shapes.specs.Said.{IsId, IsText, IsNamed, IsOptional, not_null, IsList, IsListOrNone, IsMap}
-use Rattle.schema_json_shapes.specs.Said.{IsMapOrNone}
-use Rattle.schema_json_shapes.specs.Shapes.{AreKeys, IsTextIn, IsCommonId, id_order, common_id_order}
 use Rattle.schema_compat_shapes.specs.OldTypes.{SaysOldType}
 use Rattle.schema_compat_shapes.specs.OldWalk.{old_demands}
 
@@ -90,8 +91,8 @@ IsOldAction d a = InObject IsOldActionIn d a
 -- ---- namespaces and fragments
 
 pub record IsOldNamespaceIn (ms : Members) (n : NamespaceDefinition) : Type 0 where
-  pub commons : IsMapOrNone common_id_order IsCommonId IsOldType (get_member (codes "commonTypes") ms) n.common_types
-  pub entities : IsMapOrNone id_order IsId IsOldEntityType (get_member (codes "entityTypes") ms) n.entity_types
+  pub commons : IsMapOrNone common_cmp IsCommonId IsOldType (get_member (codes "commonTypes") ms) n.common_types
+  pub entities : IsMapOrNone unreserved_cmp IsId IsOldEntityType (get_member (codes "entityTypes") ms) n.entity_types
   pub actions : IsMapOrNone text_cmp IsText IsOldAction (get_member (codes "actions") ms) n.actions
 
 -- the value is an object that says the namespace: its common types, entity types and actions

@@ -9,16 +9,16 @@ use Rattle.serde_json.specs.Data.{Data, boolean, string, object, Members, no_mem
 use Rattle.serde_json.specs.Find.{get_member, as_object}
 use Rattle.cedar_data.specs.Maps.{map_of}
 use Rattle.cedar_data.specs.Text.{text_cmp}
-use Rattle.schema_compat_types.specs.declared.types.SchemaType.{SchemaType}
-use Rattle.schema_compat_types.specs.declared.types.SchemaType.TheVariants.{Variant, TypeDef}
-use Rattle.schema_compat_types.specs.declared.types.SchemaTypeVariant.{SchemaTypeVariant}
-use Rattle.schema_compat_types.specs.declared.types.SchemaTypeVariant.TheVariants as variant
-use Rattle.schema_compat_types.specs.declared.types.TypeOfAttribute.{TypeOfAttribute, out-TypeOfAttribute}
 use Rattle.schema_json_shapes.specs.declared.words.TypeWord.{TypeWord}
 use Rattle.schema_json_shapes.specs.declared.words.TypeWord.TheVariants as word
 use Rattle.schema_json_shapes.specs.Tables.{Field, needs, may_have, word_fields, first_unknown, word_of}
 use Rattle.schema_json_shapes.specs.Walk.{flag_or}
 use Rattle.schema_json_shapes.specs.Said.{HasWord}
+use Rattle.schema_compat_types.specs.declared.types.SchemaType.{SchemaType}
+use Rattle.schema_compat_types.specs.declared.types.SchemaType.TheVariants.{Variant, TypeDef}
+use Rattle.schema_compat_types.specs.declared.types.SchemaTypeVariant.{SchemaTypeVariant}
+use Rattle.schema_compat_types.specs.declared.types.SchemaTypeVariant.TheVariants as variant
+use Rattle.schema_compat_types.specs.declared.types.TypeOfAttribute.{TypeOfAttribute, out-TypeOfAttribute}
 
 -- ---- which fields read
 
@@ -34,9 +34,9 @@ is_flag_or_none (Some (boolean b)) = true
 is_flag_or_none _ = false
 
 -- the members of an object, where one is there
-abbrev pub object_of : Option Data → Option Members
-object_of None = None
-object_of (Some d) = as_object d
+abbrev pub object_members : Option Data → Option Members
+object_members None = None
+object_members (Some d) = as_object d
 
 -- an object with a text as its member `type`
 abbrev pub is_old_type : Option Members → Bool
@@ -64,9 +64,9 @@ abbrev pub inner_reads : TypeWord → Members → Bool
 inner_reads word.String ms = true
 inner_reads word.Long ms = true
 inner_reads word.Boolean ms = true
-inner_reads word.Set ms = is_old_type (object_of (get_member (codes "element") ms))
+inner_reads word.Set ms = is_old_type (object_members (get_member (codes "element") ms))
 inner_reads word.Record ms =
-    are_old_attributes (object_of (get_member (codes "attributes") ms))
+    are_old_attributes (object_members (get_member (codes "attributes") ms))
     && is_flag_or_none (get_member (codes "additionalAttributes") ms)
 inner_reads word.Entity ms = is_text (get_member (codes "name") ms)
 inner_reads word.Extension ms = is_text (get_member (codes "name") ms)

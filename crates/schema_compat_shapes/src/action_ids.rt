@@ -1,11 +1,11 @@
 // References to actions.
-ghost use Rattle.std.specs.Prelude.{◌≡◌, codes};
+ghost use Rattle.std.specs.Prelude.{codes};
 ghost use Rattle.serde_json.specs.Data.{object};
 ghost use Rattle.serde_json.specs.View.{view, items_view, members_view};
 ghost use Rattle.serde_json.specs.Find.{get_member};
 ghost use Rattle.schema_json_shapes.specs.Walk.{action_ids, action_id, or_null, demands, item_demands};
 ghost use Rattle.schema_json_shapes.specs.Said.{IsList, AreItems, IsOptional, not_null};
-ghost use Rattle.schema_json_shapes.specs.Reads.{Reads, field_demands};
+ghost use Rattle.schema_json_shapes.specs.Reads.{ReadsValue, field_demands};
 ghost use Rattle.schema_compat_shapes.specs.OldParts.{IsOldActionId, IsOldActionIdIn};
 
 use cedar_data::List;
@@ -24,7 +24,7 @@ pub(crate) fn parents_at(
     members: &Members,
 ) -> Result<Option<List<ActionEntityUID>>, ShapeFault>
     ensures { let o = get_member (codes "memberOf") (members_view members.now.entries) in
-        Reads result (field_demands (or_null action_ids) (codes "memberOf") o)
+        ReadsValue result (field_demands (or_null action_ids) (codes "memberOf") o)
         (IsOptional (IsList IsOldActionId) (not_null o)) }
 {
     match given_at(members, "memberOf") {
@@ -34,7 +34,7 @@ pub(crate) fn parents_at(
 }
 
 fn read_parents(alloc: Global, value: &Value) -> Result<List<ActionEntityUID>, ShapeFault>
-    ensures { Reads result (demands action_ids (codes "memberOf") (view value.now))
+    ensures { ReadsValue result (demands action_ids (codes "memberOf") (view value.now))
         (IsList IsOldActionId (view value.now)) }
 {
     match value.as_array() {
@@ -44,7 +44,7 @@ fn read_parents(alloc: Global, value: &Value) -> Result<List<ActionEntityUID>, S
 }
 
 fn read_action_ids(alloc: Global, items: &Vec<Value>) -> Result<List<ActionEntityUID>, ShapeFault>
-    ensures { Reads result (item_demands action_id (codes "memberOf") (items_view items.now.items))
+    ensures { ReadsValue result (item_demands action_id (codes "memberOf") (items_view items.now.items))
         (AreItems IsOldActionId (items_view items.now.items)) }
 {
     let mut parents = List::new(alloc);
@@ -56,7 +56,7 @@ fn read_action_ids(alloc: Global, items: &Vec<Value>) -> Result<List<ActionEntit
 }
 
 fn read_action_id(alloc: Global, value: &Value) -> Result<ActionEntityUID, ShapeFault>
-    ensures { Reads result (demands action_id (codes "memberOf") (view value.now)) (IsOldActionId (view value.now)) }
+    ensures { ReadsValue result (demands action_id (codes "memberOf") (view value.now)) (IsOldActionId (view value.now)) }
 {
     match value.as_object() {
         Some(members) => read_id_members(alloc, members),
@@ -66,7 +66,7 @@ fn read_action_id(alloc: Global, value: &Value) -> Result<ActionEntityUID, Shape
 
 fn read_id_members(alloc: Global, members: &Members) -> Result<ActionEntityUID, ShapeFault>
     ensures { let ms = members_view members.now.entries in
-        Reads result (demands action_id (codes "memberOf") (object ms)) (IsOldActionIdIn ms) }
+        ReadsValue result (demands action_id (codes "memberOf") (object ms)) (IsOldActionIdIn ms) }
 {
     let _ = members.len();
     check_fields(alloc, action_id_fields(), members)?;

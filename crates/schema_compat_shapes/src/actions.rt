@@ -1,10 +1,10 @@
 // Actions, and what they may be applied to.
-ghost use Rattle.std.specs.Prelude.{◌≡◌, codes};
+ghost use Rattle.std.specs.Prelude.{codes};
 ghost use Rattle.serde_json.specs.View.{view, members_view};
 ghost use Rattle.serde_json.specs.Find.{get_member};
 ghost use Rattle.schema_json_shapes.specs.Walk.{names, or_null};
 ghost use Rattle.schema_json_shapes.specs.Said.{IsNamed, IsList, IsOptional, not_null};
-ghost use Rattle.schema_json_shapes.specs.Reads.{Reads, field_demands};
+ghost use Rattle.schema_json_shapes.specs.Reads.{ReadsValue, field_demands};
 ghost use Rattle.schema_compat_shapes.specs.OldWalk.{at_field, old_action_demands, old_action_members, old_applies_to_demands, old_applies_to_members};
 ghost use Rattle.schema_compat_shapes.specs.OldParts.{IsOldAction, IsOldActionIn, IsOldAppliesTo, IsOldAppliesToIn};
 
@@ -28,7 +28,7 @@ pub(crate) fn read_action(
     value: &Value,
     label: &str,
 ) -> Result<ActionType, ShapeFault>
-    ensures { Reads result (old_action_demands label.now (view value.now)) (IsOldAction (view value.now)) }
+    ensures { ReadsValue result (old_action_demands label.now (view value.now)) (IsOldAction (view value.now)) }
 {
     match value.as_object() {
         Some(members) => read_members(alloc, members),
@@ -38,7 +38,7 @@ pub(crate) fn read_action(
 
 fn read_members(alloc: Global, members: &Members) -> Result<ActionType, ShapeFault>
     ensures { let ms = members_view members.now.entries in
-        Reads result (old_action_members ms) (IsOldActionIn ms) }
+        ReadsValue result (old_action_members ms) (IsOldActionIn ms) }
 {
     check_fields(alloc, action_fields(), members)?;
     let applies_to = applies_to_at(alloc, members)?;
@@ -53,7 +53,7 @@ fn read_members(alloc: Global, members: &Members) -> Result<ActionType, ShapeFau
 
 fn applies_to_at(alloc: Global, members: &Members) -> Result<Option<ApplySpec>, ShapeFault>
     ensures { let o = not_null (get_member (codes "appliesTo") (members_view members.now.entries)) in
-        Reads result (at_field old_applies_to_demands (codes "appliesTo") o) (IsOptional IsOldAppliesTo o) }
+        ReadsValue result (at_field old_applies_to_demands (codes "appliesTo") o) (IsOptional IsOldAppliesTo o) }
 {
     match given_at(members, "appliesTo") {
         Some(value) => Ok(Some(read_applies_to(alloc, value)?)),
@@ -62,7 +62,7 @@ fn applies_to_at(alloc: Global, members: &Members) -> Result<Option<ApplySpec>, 
 }
 
 fn read_applies_to(alloc: Global, value: &Value) -> Result<ApplySpec, ShapeFault>
-    ensures { Reads result (old_applies_to_demands (codes "appliesTo") (view value.now))
+    ensures { ReadsValue result (old_applies_to_demands (codes "appliesTo") (view value.now))
         (IsOldAppliesTo (view value.now)) }
 {
     match value.as_object() {
@@ -73,7 +73,7 @@ fn read_applies_to(alloc: Global, value: &Value) -> Result<ApplySpec, ShapeFault
 
 fn read_applies_to_members(alloc: Global, members: &Members) -> Result<ApplySpec, ShapeFault>
     ensures { let ms = members_view members.now.entries in
-        Reads result (old_applies_to_members ms) (IsOldAppliesToIn ms) }
+        ReadsValue result (old_applies_to_members ms) (IsOldAppliesToIn ms) }
 {
     check_fields(alloc, applies_to_fields(), members)?;
     let context = shape_at(alloc, members, "context")?;
@@ -93,7 +93,7 @@ fn names_at(
     name: &str,
 ) -> Result<Option<List<RawName>>, ShapeFault>
     ensures { let o = get_member name.now (members_view members.now.entries) in
-        Reads result (field_demands (or_null names) name.now o) (IsOptional (IsList IsNamed) (not_null o)) }
+        ReadsValue result (field_demands (or_null names) name.now o) (IsOptional (IsList IsNamed) (not_null o)) }
 {
     match given_at(members, name) {
         Some(value) => Ok(Some(read_names(alloc, value, name)?)),

@@ -1,7 +1,6 @@
 // Entity types.
-ghost use Rattle.std.specs.Prelude.{◌≡◌};
 ghost use Rattle.serde_json.specs.View.{view, members_view};
-ghost use Rattle.schema_json_shapes.specs.Reads.{Reads};
+ghost use Rattle.schema_json_shapes.specs.Reads.{ReadsValue};
 ghost use Rattle.schema_json_shapes.specs.Entries.{of_object};
 ghost use Rattle.schema_compat_shapes.specs.OldWalk.{old_entity_type_members};
 ghost use Rattle.schema_compat_shapes.specs.OldParts.{IsOldEntityType, IsOldEntityTypeIn};
@@ -22,7 +21,7 @@ pub(crate) fn read_entity_type(
     value: &Value,
     label: &str,
 ) -> Result<EntityType, ShapeFault>
-    ensures { Reads result (of_object old_entity_type_members label.now (view value.now))
+    ensures { ReadsValue result (of_object old_entity_type_members label.now (view value.now))
         (IsOldEntityType (view value.now)) }
 {
     match value.as_object() {
@@ -33,7 +32,7 @@ pub(crate) fn read_entity_type(
 
 fn read_members(alloc: Global, members: &Members) -> Result<EntityType, ShapeFault>
     ensures { let ms = members_view members.now.entries in
-        Reads result (old_entity_type_members ms) (IsOldEntityTypeIn ms) }
+        ReadsValue result (old_entity_type_members ms) (IsOldEntityTypeIn ms) }
 {
     check_fields(alloc, entity_type_fields(), members)?;
     let member_of_types = parents_at(alloc, members)?;

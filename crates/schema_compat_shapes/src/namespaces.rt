@@ -1,11 +1,12 @@
 // Namespaces and what they declare.
-ghost use Rattle.std.specs.Prelude.{◌≡◌, codes};
+ghost use Rattle.std.specs.Prelude.{codes};
 ghost use Rattle.serde_json.specs.View.{view, members_view};
 ghost use Rattle.serde_json.specs.Find.{get_member};
 ghost use Rattle.cedar_data.specs.Text.{text_cmp};
+ghost use Rattle.schema_json.specs.Orders.{unreserved_cmp, common_cmp};
 ghost use Rattle.schema_json_shapes.specs.Said.{IsId, IsText, IsMap, IsMapOrNone};
-ghost use Rattle.schema_json_shapes.specs.Shapes.{IsCommonId, id_order, common_id_order};
-ghost use Rattle.schema_json_shapes.specs.Reads.{Reads};
+ghost use Rattle.schema_json_shapes.specs.Shapes.{IsCommonId};
+ghost use Rattle.schema_json_shapes.specs.Reads.{ReadsValue};
 ghost use Rattle.schema_json_shapes.specs.Entries.{each_entry, of_object};
 ghost use Rattle.schema_compat_shapes.specs.OldWalk.{at_field, old_action_demands, old_common_type_demands, old_entity_type_demands, old_namespace_demands, old_namespace_members};
 ghost use Rattle.schema_compat_shapes.specs.OldParts.{IsOldType, IsOldEntityType, IsOldAction, IsOldNamespace, IsOldNamespaceIn};
@@ -33,7 +34,7 @@ pub(crate) fn read_namespace(
     value: &Value,
     key: &str,
 ) -> Result<NamespaceDefinition, ShapeFault>
-    ensures { Reads result (old_namespace_demands key.now (view value.now)) (IsOldNamespace (view value.now)) }
+    ensures { ReadsValue result (old_namespace_demands key.now (view value.now)) (IsOldNamespace (view value.now)) }
 {
     match value.as_object() {
         Some(members) => read_members(alloc, members),
@@ -43,7 +44,7 @@ pub(crate) fn read_namespace(
 
 fn read_members(alloc: Global, members: &Members) -> Result<NamespaceDefinition, ShapeFault>
     ensures { let ms = members_view members.now.entries in
-        Reads result (old_namespace_members ms) (IsOldNamespaceIn ms) }
+        ReadsValue result (old_namespace_members ms) (IsOldNamespaceIn ms) }
 {
     check_fields(alloc, namespace_fields(), members)?;
     let declared_actions = needed(members, "actions");
@@ -59,7 +60,7 @@ fn read_members(alloc: Global, members: &Members) -> Result<NamespaceDefinition,
 }
 
 fn read_actions(alloc: Global, value: &Value) -> Result<Map<Text, ActionType>, ShapeFault>
-    ensures { Reads result (of_object (each_entry old_action_demands) (codes "actions") (view value.now))
+    ensures { ReadsValue result (of_object (each_entry old_action_demands) (codes "actions") (view value.now))
         (IsMap text_cmp IsText IsOldAction (view value.now)) }
 {
     read_map::<Actions>(alloc, value, "actions")
@@ -90,8 +91,8 @@ fn common_types_at(
     members: &Members,
 ) -> Result<Map<CommonTypeId, SchemaType>, ShapeFault>
     ensures { let o = get_member (codes "commonTypes") (members_view members.now.entries) in
-        Reads result (at_field (of_object (each_entry old_common_type_demands)) (codes "commonTypes") o)
-        (IsMapOrNone common_id_order IsCommonId IsOldType o) }
+        ReadsValue result (at_field (of_object (each_entry old_common_type_demands)) (codes "commonTypes") o)
+        (IsMapOrNone common_cmp IsCommonId IsOldType o) }
 {
     match at(members, "commonTypes") {
         Some(value) => read_common_types(alloc, value),
@@ -103,8 +104,8 @@ fn read_common_types(
     alloc: Global,
     value: &Value,
 ) -> Result<Map<CommonTypeId, SchemaType>, ShapeFault>
-    ensures { Reads result (of_object (each_entry old_common_type_demands) (codes "commonTypes") (view value.now))
-        (IsMap common_id_order IsCommonId IsOldType (view value.now)) }
+    ensures { ReadsValue result (of_object (each_entry old_common_type_demands) (codes "commonTypes") (view value.now))
+        (IsMap common_cmp IsCommonId IsOldType (view value.now)) }
 {
     read_map::<CommonTypes>(alloc, value, "commonTypes")
 }
@@ -138,8 +139,8 @@ fn read_entity_types(
     alloc: Global,
     value: &Value,
 ) -> Result<Map<UnreservedId, EntityType>, ShapeFault>
-    ensures { Reads result (of_object (each_entry old_entity_type_demands) (codes "entityTypes") (view value.now))
-        (IsMap id_order IsId IsOldEntityType (view value.now)) }
+    ensures { ReadsValue result (of_object (each_entry old_entity_type_demands) (codes "entityTypes") (view value.now))
+        (IsMap unreserved_cmp IsId IsOldEntityType (view value.now)) }
 {
     read_map::<EntityTypes>(alloc, value, "entityTypes")
 }

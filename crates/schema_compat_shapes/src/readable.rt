@@ -4,7 +4,7 @@ ghost use Rattle.serde_json.specs.Data.{object, string};
 ghost use Rattle.serde_json.specs.View.{view, members_view};
 ghost use Rattle.serde_json.specs.Find.{get_member, as_object};
 ghost use Rattle.schema_json_shapes.specs.Walk.{flag_or};
-ghost use Rattle.schema_compat_shapes.specs.OldTypes.{is_text, is_flag_or_none, object_of, is_old_type, is_old_attribute, are_all_attributes, are_old_attributes, inner_reads, has_no_other, ignores_others, reads_as_shape};
+ghost use Rattle.schema_compat_shapes.specs.OldTypes.{is_text, is_flag_or_none, object_members, is_old_type, is_old_attribute, are_all_attributes, are_old_attributes, inner_reads, has_no_other, ignores_others, reads_as_shape};
 
 use crate::tables::type_fields;
 use schema_json_shapes::TypeWord;
@@ -35,7 +35,7 @@ fn is_flag_or_none(members: &Members, name: &str) -> bool
 // The members of the object that the member is.
 fn object_at<'v>(members: &'v Members, name: &str) -> Option<&'v Members>
     ensures { option_map (λ m. members_view m.now.entries) result
-        ≡ object_of (get_member name.now (members_view members.now.entries)) }
+        ≡ object_members (get_member name.now (members_view members.now.entries)) }
 {
     match at(members, name) {
         Some(value) => value.as_object(),
@@ -45,7 +45,7 @@ fn object_at<'v>(members: &'v Members, name: &str) -> Option<&'v Members>
 
 // Whether the member is an object with a text as its member `type`.
 fn is_type(members: &Members, name: &str) -> bool
-    ensures { result ≡ is_old_type (object_of (get_member name.now (members_view members.now.entries))) }
+    ensures { result ≡ is_old_type (object_members (get_member name.now (members_view members.now.entries))) }
 {
     match object_at(members, name) {
         Some(inner) => is_text(inner, "type"),
@@ -76,7 +76,7 @@ fn are_all_attributes(members: &Members) -> bool
 
 // Whether the member is an object of attributes.
 fn are_attributes(members: &Members, name: &str) -> bool
-    ensures { result ≡ are_old_attributes (object_of (get_member name.now (members_view members.now.entries))) }
+    ensures { result ≡ are_old_attributes (object_members (get_member name.now (members_view members.now.entries))) }
 {
     match object_at(members, name) {
         Some(inner) => are_all_attributes(inner),
@@ -137,7 +137,7 @@ pub(crate) fn text_in<'v>(members: &'v Members, name: &str) -> &'v str
 
 // The members of the type that the member is.
 pub(crate) fn type_in<'v>(members: &'v Members, name: &str) -> &'v Members
-    requires { is_old_type (object_of (get_member name.now (members_view members.now.entries))) ≡ true }
+    requires { is_old_type (object_members (get_member name.now (members_view members.now.entries))) ≡ true }
     ensures there { get_member name.now (members_view members.now.entries)
         ≡ Some (object (members_view result.now.entries)) }
     ensures typed { is_text (get_member (codes "type") (members_view result.now.entries)) ≡ true }
@@ -150,7 +150,7 @@ pub(crate) fn type_in<'v>(members: &'v Members, name: &str) -> &'v Members
 
 // The attributes that the member is.
 pub(crate) fn attributes_in<'v>(members: &'v Members, name: &str) -> &'v Members
-    requires { are_old_attributes (object_of (get_member name.now (members_view members.now.entries))) ≡ true }
+    requires { are_old_attributes (object_members (get_member name.now (members_view members.now.entries))) ≡ true }
     ensures there { get_member name.now (members_view members.now.entries)
         ≡ Some (object (members_view result.now.entries)) }
     ensures all { are_all_attributes (members_view result.now.entries) ≡ true }

@@ -2,7 +2,7 @@
 ghost use Rattle.std.specs.Prelude.{◌≡◌, false, codes};
 ghost use Rattle.serde_json.specs.View.{view, members_view};
 ghost use Rattle.serde_json.specs.Find.{get_member};
-ghost use Rattle.schema_json_shapes.specs.Reads.{Reads};
+ghost use Rattle.schema_json_shapes.specs.Reads.{ReadsValue};
 ghost use Rattle.schema_compat_shapes.specs.OldTypes.{SaysOldType};
 ghost use Rattle.schema_compat_shapes.specs.OldWalk.{old_type_demands, old_word_demands, at_field};
 ghost use Rattle.schema_compat_shapes.specs.OldParts.{IsOldType, IsOldShape, old_empty_record};
@@ -22,7 +22,7 @@ pub(crate) fn read_type_value(
     value: &Value,
     label: &str,
 ) -> Result<SchemaType, ShapeFault>
-    ensures { Reads result (old_type_demands label.now (view value.now)) (IsOldType (view value.now)) }
+    ensures { ReadsValue result (old_type_demands label.now (view value.now)) (IsOldType (view value.now)) }
 {
     match value.as_object() {
         Some(members) => read_typed(alloc, members),
@@ -33,7 +33,7 @@ pub(crate) fn read_type_value(
 // The type that an object says, which has a text as its member `type`.
 fn read_typed(alloc: Global, members: &Members) -> Result<SchemaType, ShapeFault>
     ensures { let ms = members_view members.now.entries in
-        Reads result (old_word_demands (get_member (codes "type") ms)) (SaysOldType false ms) }
+        ReadsValue result (old_word_demands (get_member (codes "type") ms)) (SaysOldType false ms) }
 {
     match at(members, "type") {
         Some(Value::String(_)) => Ok(read_type(alloc, members, false)?),
@@ -49,7 +49,7 @@ pub(crate) fn shape_at(
     name: &str,
 ) -> Result<AttributesOrContext, ShapeFault>
     ensures { let o = get_member name.now (members_view members.now.entries) in
-        Reads result (at_field old_type_demands name.now o) (IsOldShape o) }
+        ReadsValue result (at_field old_type_demands name.now o) (IsOldShape o) }
 {
     match at(members, name) {
         Some(value) => Ok(AttributesOrContext(read_type_value(alloc, value, name)?)),

@@ -5,76 +5,10 @@ ghost use Rattle.schema_compat_shapes.specs.OldTypes.{old_type_fields};
 ghost use Rattle.schema_compat_shapes.specs.OldWalk.{old_namespace_fields, old_entity_type_fields, old_action_fields, old_applies_to_fields};
 
 use schema_json_shapes::TypeWord;
-use schema_json_shapes::tables::Field;
-
-const TYPE: Field = Field {
-    name: "type",
-    needed: true,
-};
-
-const ELEMENT: Field = Field {
-    name: "element",
-    needed: true,
-};
-
-const RECORD_ATTRIBUTES: Field = Field {
-    name: "attributes",
-    needed: true,
-};
-
-const ADDITIONAL_ATTRIBUTES: Field = Field {
-    name: "additionalAttributes",
-    needed: false,
-};
-
-const NAME: Field = Field {
-    name: "name",
-    needed: true,
-};
-
-const REQUIRED: Field = Field {
-    name: "required",
-    needed: false,
-};
-
-const COMMON_TYPES: Field = Field {
-    name: "commonTypes",
-    needed: false,
-};
-
-const ENTITY_TYPES: Field = Field {
-    name: "entityTypes",
-    needed: true,
-};
-
-const ACTIONS: Field = Field {
-    name: "actions",
-    needed: true,
-};
-
-const MEMBER_OF_TYPES: Field = Field {
-    name: "memberOfTypes",
-    needed: false,
-};
-
-const SHAPE: Field = Field {
-    name: "shape",
-    needed: false,
-};
-
-const ATTRIBUTES: Field = Field {
-    name: "attributes",
-    needed: false,
-};
-
-const APPLIES_TO: Field = Field {
-    name: "appliesTo",
-    needed: false,
-};
-
-const MEMBER_OF: Field = Field {
-    name: "memberOf",
-    needed: false,
+use schema_json_shapes::tables::{
+    ACTIONS, ADDITIONAL_ATTRIBUTES, APPLIES_TO, ATTRIBUTES, COMMON_TYPES, CONTEXT, ELEMENT,
+    ENTITY_TYPES, Field, MEMBER_OF, MEMBER_OF_TYPES, NAME, RECORD_ATTRIBUTES, REQUIRED, SHAPE,
+    TYPE,
 };
 
 const RESOURCE_TYPES: Field = Field {
@@ -84,11 +18,6 @@ const RESOURCE_TYPES: Field = Field {
 
 const PRINCIPAL_TYPES: Field = Field {
     name: "principalTypes",
-    needed: false,
-};
-
-const CONTEXT: Field = Field {
-    name: "context",
     needed: false,
 };
 

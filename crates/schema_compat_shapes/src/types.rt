@@ -3,7 +3,7 @@ ghost use Rattle.std.specs.Prelude.{◌≡◌, true, false, codes, IfOk};
 ghost use Rattle.serde_json.specs.View.{view, members_view};
 ghost use Rattle.serde_json.specs.Find.{get_member, as_object};
 ghost use Rattle.schema_json_shapes.specs.Said.{HasWord};
-ghost use Rattle.schema_compat_shapes.specs.OldTypes.{is_text, object_of, is_old_attribute, are_all_attributes, are_old_attributes, is_old_type, inner_reads, SaysOldType, SaysOldVariant, SayOldAttributes};
+ghost use Rattle.schema_compat_shapes.specs.OldTypes.{is_text, object_members, is_old_attribute, are_all_attributes, are_old_attributes, is_old_type, inner_reads, SaysOldType, SaysOldVariant, SayOldAttributes};
 ghost use Rattle.schema_compat_shapes.specs.OldParts.{IsOldAttribute};
 
 use crate::readable::{attributes_in, flag_in, reads_as_shape, text_in, type_in};
@@ -62,7 +62,7 @@ fn read_variant(
 #[cycle(types)]
 fn read_set(alloc: Global, members: &Members) -> Result<SchemaTypeVariant, AllocError>
     requires word { HasWord (members_view members.now.entries) TypeWord.Set }
-    requires reads { is_old_type (object_of (get_member (codes "element") (members_view members.now.entries))) ≡ true }
+    requires reads { is_old_type (object_members (get_member (codes "element") (members_view members.now.entries))) ≡ true }
     ensures { IfOk result (λ v. SaysOldVariant (members_view members.now.entries) v) }
 {
     let inner = type_in(members, "element");
@@ -76,7 +76,7 @@ fn read_set(alloc: Global, members: &Members) -> Result<SchemaTypeVariant, Alloc
 fn read_record(alloc: Global, members: &Members) -> Result<SchemaTypeVariant, AllocError>
     requires word { HasWord (members_view members.now.entries) TypeWord.Record }
     requires reads { let ms = members_view members.now.entries in
-        are_old_attributes (object_of (get_member (codes "attributes") ms)) ≡ true }
+        are_old_attributes (object_members (get_member (codes "attributes") ms)) ≡ true }
     ensures { IfOk result (λ v. SaysOldVariant (members_view members.now.entries) v) }
 {
     let inner = attributes_in(members, "attributes");

@@ -9,13 +9,13 @@ use Rattle.std.specs.Map.{lookup}
 use Rattle.std.specs.Cmp.{IsTotalOrder}
 use Rattle.std.specs.Option.{option_or}
 use Rattle.std.proofs.lemmas.List.{map-append}
+use Rattle.std.proofs.lemmas.Option.{same_Some}
+use Rattle.cedar_data.specs.Maps.{with_entries, map_of, last_at}
+use Rattle.cedar_data.proofs.Orders.{equal_from}
+use Rattle.cedar_data.proofs.Options.{or_none}
 use Rattle.schema_convert.specs.Warned.{IsAmong}
 use Rattle.schema_convert.proofs.FirstRepeat.{AreNew}
-use Rattle.schema_convert.proofs.Valued.{by_cond, equal_from, last-append, map_last, put, or_none}
-use Rattle.cedar_data.specs.Maps.{with_entries, map_of, last_at}
-
-some_pair : {X : Type 0} (a b : X) → Some a ≡ Some b → a ≡ b
-some_pair a b h = cc
+use Rattle.schema_convert.proofs.Valued.{by_cond, last-append, map_last, put}
 
 module _ {A : Type 0} where
   pub among_append : (x : A) (xs ys : List A) → IsAmong x (xs ++ ys) ↔ IsAmong x xs ⊎ IsAmong x ys
@@ -49,15 +49,15 @@ among_map g w (z ∷ xs) =
       λ h. elim h.1 [ inl e ↦ inl (h.2 ∙ ap g e) | inr e ↦ inr (rest.1 (h.0, e, h.2)) ],
     )
 
+pub none_cond : {X : Type 0} (b : Bool) (v : X) (o : Option X) → cond b (Some v) o ≡ None → (b ≡ false) × (o ≡ None)
+none_cond true v o h = absurd (true≢false (ap is_some h))
+none_cond false v o h = (refl, h)
+
 -- a key goes into a map that has no key like it
 module _ {K X : Type 0} (R : K → K → Ordering) where
   -- the map has no key that is equal
   abbrev pub HasNot : K → List (K × X) → Type 0
   HasNot k es = lookup (is_at (R k)) es ≡ None
-
-  none_or : (b : Bool) (v : X) (o : Option X) → cond b (Some v) o ≡ None → (b ≡ false) × (o ≡ None)
-  none_or true v o h = absurd (true≢false (ap is_some h))
-  none_or false v o h = (refl, h)
 
   among_insert_by : (k : K) (v : X) (e : K × X) (es : List (K × X)) (x : K × X) (r : Ordering) → R k e.0 ≡ r
       → is_eq (R k e.0) ≡ false
@@ -75,7 +75,7 @@ module _ {K X : Type 0} (R : K → K → Ordering) where
       → IsAmong x (insert_entry R es k v) ↔ (x ≡ (k, v)) ⊎ IsAmong x es
   among_insert k v [] x h = (λ g. g, λ g. g)
   among_insert k v (e ∷ es) x h =
-      let both = none_or (is_eq (R k e.0)) e.1 (lookup (is_at (R k)) es) h in
+      let both = none_cond (is_eq (R k e.0)) e.1 (lookup (is_at (R k)) es) h in
       among_insert_by k v e es x (R k e.0) refl both.0 (among_insert k v es x both.1)
 
   -- each key is new to the map when it goes into it
@@ -209,7 +209,7 @@ module _ {N K X : Type 0} (R : K → K → Ordering) (o : IsTotalOrder R) (key :
     found_here : (x : N) (ns : List N) (v : X) (b : Bool) → at_key x ≡ b
         → (if b then Some (value x) else None) ≡ Some v
         → IsFound (x ∷ ns) v
-    found_here x ns v true e h = (x, inl refl, e, some_pair (value x) v h)
+    found_here x ns v true e h = (x, inl refl, e, same_Some (value x) v h)
     found_here x ns v false e h = absurd (true≢false (sym (ap is_some h)))
 
     found_by : (x : N) (ns : List N) (v : X) (l : Option X) → last_at (is_at (R q)) (map entry_of ns) ≡ l

@@ -1,5 +1,6 @@
 -- Items of which no two are the same have no repeat.
-use Rattle.std.proofs.Common.{◌≡◌, ◌+◌, ◌<◌, ℕ, Bool, true, false, cond, List, [], ◌∷◌, ◌++◌, length, get_or, map, Option}
+use Rattle.std.proofs.Common.{◌≡◌, ◌+◌, ◌<◌, ℕ, Bool, true, false, cond, List, [], ◌∷◌, ◌++◌, length, get_or, map}
+use Rattle.std.proofs.Common.{Option}
 use Rattle.std.proofs.Common.{Some, None, refl, sym, ap, ◌∙◌, subst}
 use Rattle.std.specs.Cmp.{IsTotalOrder}
 use Rattle.std.specs.List.{AllByRecursion, IsDistinct}
@@ -11,8 +12,8 @@ use Rattle.std.proofs.lemmas.Cmp.{nat_cmp_total, tied_itself}
 use Rattle.std.proofs.lemmas.List.{map-append}
 use Rattle.std.proofs.lemmas.List.Sorted.{IsPermutation-sym}
 use Rattle.std.proofs.lemmas.Map.Keys.{IsDistinct-from_sorted, IsDistinct-IsPermutation, sorted_from_all_adjacent}
+use Rattle.cedar_data.proofs.Orders.{is_eq_turned}
 use Rattle.schema_convert.specs.Repeats.{first_repeat, same_among, or_later, repeat_behind}
-use Rattle.schema_convert.proofs.Seen.{turned}
 
 -- items each of which is less than the next
 pub rising : {K : Type 0} (R : K → K → Ordering) (o : IsTotalOrder R) (items : List K)
@@ -24,7 +25,7 @@ rising R o (x ∷ xs) h = sorted_from_all_adjacent o (x ∷ xs) x (λ k lt. h k 
 
 module _ {K : Type 0} (R : K → K → Ordering) (o : IsTotalOrder R) where
   flips : (x y : K) → eq_by_cmp R x y ≡ eq_by_cmp R y x
-  flips x y = ap is_eq (o.antisymm x y) ∙ turned (R y x)
+  flips x y = is_eq_turned o x y
 
   -- none of the later items is the same as one of those that are done
   abbrev AreOther : List K → List K → Type 0

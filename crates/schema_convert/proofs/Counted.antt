@@ -1,6 +1,6 @@
 -- Maps that have as many entries as were put into them: no key stood twice.
-use Rattle.std.proofs.Common.{◌≡◌, ◌≤◌, ◌+◌, suc, Bool, true, false, cond, List, [], ◌∷◌, ◌++◌, length, map, Option}
-use Rattle.std.proofs.Common.{Some, None, refl, sym, ap, ◌∙◌, subst, true≢false, is_some, find, arith}
+use Rattle.std.proofs.Common.{◌≡◌, ◌≤◌, ◌+◌, suc, Bool, true, false, cond, List, [], ◌∷◌, ◌++◌, length, map}
+use Rattle.std.proofs.Common.{Some, None, refl, sym, ap, ◌∙◌, subst, true≢false, find, arith}
 use Rattle.std.proofs.Common.{append_assoc, append-nil}
 use Rattle.std.specs.declared.cmp.Ordering.{Ordering}
 use Rattle.std.specs.declared.cmp.Ordering.TheVariants.{Less, Equal, Greater}
@@ -14,21 +14,14 @@ use Rattle.std.specs.Ordering.{is_eq, ordering_reverse, match_ordering}
 use Rattle.std.proofs.lemmas.List.{map-append}
 use Rattle.std.proofs.lemmas.List.Folds.{find-append}
 use Rattle.cedar_data.specs.Maps.{with_entries, map_of}
-use Rattle.schema_convert.proofs.Among.{HasNot, AreFresh}
+use Rattle.schema_convert.proofs.Among.{HasNot, AreFresh, none_cond}
 use Rattle.schema_convert.proofs.FirstRepeat.{AreNew}
 use Rattle.schema_convert.proofs.Valued.{put}
-
-none_some : {X : Type 0} (x : X) → Some x ≡ None → true ≡ false
-none_some x h = ap is_some h
 
 turned_less : (a : Ordering) → ordering_reverse a ≡ Greater → a ≡ Less
 turned_less Less h = refl
 turned_less Equal h = cc
 turned_less Greater h = cc
-
-pub none_cond : {X : Type 0} (b : Bool) (v : X) (o : Option X) → cond b (Some v) o ≡ None → (b ≡ false) × (o ≡ None)
-none_cond true v o h = absurd (true≢false (none_some v h))
-none_cond false v o h = (refl, h)
 
 module _ {K X : Type 0} (R : K → K → Ordering) (o : IsTotalOrder R) where
   abbrev Sorted : List (K × X) → Type 0

@@ -1,13 +1,11 @@
 -- The first repeat, by where it stands.
 use Rattle.std.proofs.Common.{◌≡◌, ◌↔◌, Bool, find, List, [], ◌∷◌, ◌++◌, Option, Some, None, refl, sym, ap, ◌∙◌, subst}
 use Rattle.std.proofs.Common.{append_assoc, append-nil, true≢false, is_some}
+use Rattle.std.proofs.lemmas.Option.{same_Some}
 use Rattle.std.specs.Ordering.{is_eq}
 use Rattle.std.specs.declared.cmp.Ordering.{Ordering}
 use Rattle.schema_convert.specs.Repeats.{same_among, or_later, repeat_behind, first_repeat}
 use Rattle.schema_convert.specs.Repeats.{NoneRepeats, IsFirstRepeat}
-
-some_pair : {X : Type 0} (a b : X) → Some a ≡ Some b → a ≡ b
-some_pair a b h = cc
 
 module _ {K : Type 0} (test : K → K → Bool) where
   -- each of the items is new behind those that are done
@@ -70,7 +68,7 @@ module _ {K : Type 0} (cmp : K → K → Ordering) where
       → (repeat_behind cmp (done ++ x ∷ []) xs ≡ Some (first, second) → Found (done ++ x ∷ []) xs first second)
       → or_later o x (repeat_behind cmp (done ++ x ∷ []) xs) ≡ Some (first, second) → Found done (x ∷ xs) first second
   some_by done x xs first second (Some y) e later h =
-      let is : (y, x) ≡ (first, second) = some_pair (y, x) (first, second) h in (
+      let is : (y, x) ≡ (first, second) = same_Some (y, x) (first, second) h in (
         [],
         xs,
         ap (λ (p : K × K). p.1 ∷ xs) is,

@@ -2,15 +2,15 @@
 use Rattle.std.proofs.Common.{◌≡◌, List, [], ◌∷◌, map, refl, ap, ◌∙◌}
 use Rattle.std.specs.Option.{option_cmp}
 use Rattle.std.specs.Cmp.{IsTotalOrder}
-use Rattle.std.specs.Cmp.Lexicographic.{lists_total, options_total}
-use Rattle.std.proofs.lemmas.Cmp.{on_total, nat_cmp_total}
-use Rattle.cedar_identifiers.specs.declared.id.Id.{Id}
+use Rattle.std.specs.Cmp.Lexicographic.{options_total}
+use Rattle.std.proofs.lemmas.Cmp.{on_total}
+use Rattle.cedar_data.proofs.Orders.{is_eq_turned}
+use Rattle.cedar_names.specs.Orders.{ids_total}
 use Rattle.schema_syntax_tree.specs.declared.annotated.Annotated.{Annotated}
 use Rattle.schema_syntax_tree.specs.declared.namespace.Namespace.{Namespace}
 use Rattle.schema_syntax_tree.specs.declared.path.Path.{Path}
-use Rattle.std.specs.Str.{encode_utf8_all}
 use Rattle.schema_convert.specs.declared.openings.Openings.{Openings}
-use Rattle.schema_convert.specs.Joined.{first_openings, openings_of, opened_as, joined_by_name}
+use Rattle.schema_convert.specs.Joined.{first_openings, openings_of, opened_as, joined_by_name, have_one_name}
 use Rattle.schema_convert.specs.NamesIn.{path_cmp}
 use Rattle.schema_convert.proofs.Ranked.{with_all}
 
@@ -20,8 +20,10 @@ opened g = (g.first, g.first ∷ g.others.items)
 
 -- names are in order by their ids, and no name comes first
 pub names_total : IsTotalOrder (option_cmp path_cmp)
-names_total = options_total (on_total (λ (p : Path). p.ids)
-    (lists_total (on_total (λ (id : Id). id.text) (on_total encode_utf8_all (lists_total nat_cmp_total)))))
+names_total = options_total (on_total (λ (p : Path). p.ids) ids_total)
+
+pub one_name_swaps : (a b : Annotated Namespace) → have_one_name a b ≡ have_one_name b a
+one_name_swaps a b = is_eq_turned names_total a.item.name b.item.name
 
 abbrev pub joined_groups : List Openings → List (Annotated Namespace)
 joined_groups groups = map (λ g. opened_as g.first (g.first ∷ g.others.items)) groups

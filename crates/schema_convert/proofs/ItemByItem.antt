@@ -6,50 +6,50 @@ use Rattle.std.specs.List.{All, AllByRecursion, cons_option, flat_map}
 use Rattle.std.specs.Option.{option_map}
 use Rattle.std.proofs.lemmas.Grind.{flat_map-append}
 use Rattle.std.proofs.lemmas.List.Elements.{filter_map-append}
+use Rattle.cedar_data.proofs.Every.{All-append}
 use Rattle.cedar_data.specs.Maps.{map_of}
 use Rattle.cedar_data.specs.Text.{text_cmp}
 use Rattle.cedar_data.specs.declared.node.Node.{Node}
+use Rattle.cedar_data.specs.Span.{Span}
 use Rattle.cedar_identifiers.specs.declared.annotations.Annotations.{Annotations}
 use Rattle.cedar_identifiers.specs.declared.name.Name.{Name}
 use Rattle.cedar_identifiers.specs.declared.raw_name.RawName.{RawName}
 use Rattle.cedar_names.specs.declared.extension_table.ExtensionTable.{ExtensionTable}
-use Rattle.cedar_data.specs.Span.{Span}
 use Rattle.schema_syntax_parser.specs.declared.syntax.AnnotationSyntax.{AnnotationSyntax}
 use Rattle.schema_syntax_parser.specs.declared.syntax.DeclaredSyntax.{DeclaredSyntax}
 use Rattle.schema_syntax_parser.specs.declared.syntax.ItemSyntax.{ItemSyntax}
 use Rattle.schema_syntax_parser.specs.declared.syntax.ItemSyntax.TheVariants as item
 use Rattle.schema_syntax_parser.specs.declared.syntax.PathSyntax.{PathSyntax}
-use Rattle.schema_syntax_reader.specs.Placed.{NoSiteFault}
-use Rattle.schema_syntax_reader.specs.Sites.{annotations, path_sites, declared_sites}
-use Rattle.schema_syntax_reader.specs.Trees.{IsDeclaredOf}
-use Rattle.schema_syntax_reader.proofs.Readings.{ReadTo, none_read, one_more_read, all_read, both_faultless}
 use Rattle.schema_syntax_tree.specs.declared.annotated.Annotated.{Annotated}
 use Rattle.schema_syntax_tree.specs.declared.declaration.Declaration.{Declaration}
 use Rattle.schema_syntax_tree.specs.declared.namespace.Namespace.{Namespace}
 use Rattle.schema_syntax_tree.specs.declared.path.Path.{Path}
+use Rattle.schema_syntax_reader.specs.Placed.{NoSiteFault}
+use Rattle.schema_syntax_reader.specs.Sites.{annotations, path_sites, declared_sites}
+use Rattle.schema_syntax_reader.specs.Trees.{IsDeclaredOf}
+use Rattle.schema_syntax_reader.proofs.Readings.{ReadTo, none_read, one_more_read, all_read, both_faultless}
 use Rattle.schema_json.specs.declared.fragment.Fragment.{Fragment}
 use Rattle.schema_json.specs.declared.fragment.NamespaceDefinition.{NamespaceDefinition}
-use Rattle.schema_convert_types.specs.Declarations.{as_written}
-use Rattle.schema_convert_types.specs.Fragments.{common_cmp, unreserved_cmp, namespace_cmp, common_entries}
+use Rattle.schema_json.specs.Orders.{unreserved_cmp, common_cmp, namespace_cmp}
+use Rattle.schema_json.specs.AsWritten.{as_written}
+use Rattle.schema_json.proofs.Orders.{namespaces_total}
+use Rattle.schema_convert_types.specs.Fragments.{common_entries}
 use Rattle.schema_convert_types.specs.Fragments.{entity_entries, action_entries, common_entries_of, entity_entries_of}
 use Rattle.schema_convert_types.specs.Fragments.{action_entries_of, namespace_entry, namespace_key, definition_of}
 use Rattle.schema_convert_types.specs.Fragments.{fragment_of}
 use Rattle.schema_convert_types.specs.declared.namespaces.Entries.{Entries}
-use Rattle.schema_convert.specs.Gathered.{EachPlain, Adds, AddsRead, IsReadAs, IsOwn, IsGatheredOf, AddsOutside}
+use Rattle.schema_convert.specs.Gathered.{EachPlain, AddsEntries, AddsRead, IsGatheredAs, IsOwn, IsGatheredOf}
+use Rattle.schema_convert.specs.Gathered.{AddsOutside}
 use Rattle.schema_convert.specs.Gathered.{AddsNamespace, AddsOwn, AddsItem}
 use Rattle.schema_convert.specs.Joined.{named, named_so, outside, unnamed_so, empty_namespace}
-use Rattle.schema_convert.specs.Plain.{IsPlain, AreOnce, AreUnlike, ArePlain, HasRisingNotes, IsPlainNamespace}
-use Rattle.schema_convert.specs.Plain.{apart}
+use Rattle.schema_convert.specs.Plain.{IsPlainDeclaration, AreOnce, AreUnlike, ArePlain, HasRisingNotes}
+use Rattle.schema_convert.specs.Plain.{IsPlainNamespace}
+use Rattle.schema_convert.specs.Plain.{namespaces_apart}
 use Rattle.schema_convert.specs.Translatable.{IsFreeName}
 use Rattle.schema_convert.specs.Translated.{IsTranslation}
 use Rattle.schema_convert.specs.declared.gathering.Gathered.{Gathered}
 use Rattle.schema_convert.proofs.Counted.{at_most_all}
-use Rattle.schema_convert.proofs.PlainTree.{keys_total, plain_tree}
-
-all_append : {A : Type 0} (P : A → Type 0) (xs ys : List A) → AllByRecursion P xs → AllByRecursion P ys
-    → AllByRecursion P (xs ++ ys)
-all_append P [] ys h g = g
-all_append P (x ∷ xs) ys h g = (h.0, all_append P xs ys h.1 g)
+use Rattle.schema_convert.proofs.PlainTree.{plain_tree}
 
 one_option : {A : Type 0} (o : Option A) → cons_option o [] ≡ option_to_list o
 one_option None = refl
@@ -89,7 +89,7 @@ module _ (table : ExtensionTable) (tree : List (Annotated Namespace)) (n : Annot
             ∙ (sym (filter_map-append namespace_entry (named tree) (n ∷ []))
             ∙ ap (filter_map namespace_entry) (sym names))));
         each = subst (AllByRecursion (IsPlainNamespace table)) (sym names)
-            (all_append (IsPlainNamespace table) (named tree) (n ∷ []) so_far.each (plain, tt));
+            (All-append (IsPlainNamespace table) (named tree) (n ∷ []) so_far.each (plain, tt));
         commons = ap (λ (e : Entries). e.commons.items) same ∙ (so_far.commons ∙ ap common_entries (sym out));
         entities = ap (λ (e : Entries). e.entities.items) same ∙ (so_far.entities ∙ ap entity_entries (sym out));
         actions = ap (λ (e : Entries). e.actions.items) same ∙ (so_far.actions ∙ ap action_entries (sym out));
@@ -123,7 +123,7 @@ module _ (table : ExtensionTable) (tree : List (Annotated Namespace)) (n : Annot
             ∙ (sym (flat_map-append (λ (d : Annotated (Node Declaration)). action_entries_of d.item.node d.annotations
             d.item.loc) (outside tree) decls) ∙ ap action_entries (sym out)));
         plain = subst (EachPlain table) (sym out)
-            (all_append (λ (d : Annotated (Node Declaration)). IsPlain table d.item.node) (outside tree)
+            (All-append (λ (d : Annotated (Node Declaration)). IsPlainDeclaration table d.item.node) (outside tree)
             decls so_far.plain
             adds.entries.plain);
         none = λ h. absurd (true≢false (sym adds.some ∙ h));
@@ -204,11 +204,11 @@ grown f before mid after xs x so_far more =
 
 -- one plain declaration more
 more_declared : (table : ExtensionTable) (before mid after : Entries) (decls : List (Annotated (Node Declaration)))
-    (d : Annotated (Node Declaration)) → Adds table before mid decls
+    (d : Annotated (Node Declaration)) → AddsEntries table before mid decls
     → after.commons.items ≡ mid.commons.items ++ common_entries_of d.item.node d.annotations d.item.loc
     → after.entities.items ≡ mid.entities.items ++ entity_entries_of d.item.node d.annotations d.item.loc
     → after.actions.items ≡ mid.actions.items ++ action_entries_of d.item.node d.annotations d.item.loc
-    → IsPlain table d.item.node → Adds table before after (decls ++ d ∷ [])
+    → IsPlainDeclaration table d.item.node → AddsEntries table before after (decls ++ d ∷ [])
 more_declared table before mid after decls d so_far commons entities actions plain = record {
   commons = grown (λ (d : Annotated (Node Declaration)). common_entries_of d.item.node d.annotations d.item.loc)
       before.commons.items mid.commons.items after.commons.items decls d so_far.commons commons;
@@ -216,7 +216,8 @@ more_declared table before mid after decls d so_far commons entities actions pla
       before.entities.items mid.entities.items after.entities.items decls d so_far.entities entities;
   actions = grown (λ (d : Annotated (Node Declaration)). action_entries_of d.item.node d.annotations d.item.loc)
       before.actions.items mid.actions.items after.actions.items decls d so_far.actions actions;
-  plain = all_append (λ (d : Annotated (Node Declaration)). IsPlain table d.item.node) decls (d ∷ []) so_far.plain
+  plain = All-append (λ (d : Annotated (Node Declaration)). IsPlainDeclaration table d.item.node) decls
+      (d ∷ []) so_far.plain
       (plain, tt);
 }
 
@@ -228,7 +229,7 @@ module _ (source : List ℕ) (table : ExtensionTable) (raws : List DeclaredSynta
   pub record AddedTo (rest : List DeclaredSyntax) (before after : Entries) : Type 0 where
     pub decls : List (Annotated (Node Declaration))
     pub read : IsReadTo rest decls
-    pub adds : Adds table before after decls
+    pub adds : AddsEntries table before after decls
 
   pub none_added : (rest : List DeclaredSyntax) (entries : Entries) → rest ≡ raws → AddedTo rest entries entries
   none_added rest entries whole = record {
@@ -248,7 +249,7 @@ module _ (source : List ℕ) (table : ExtensionTable) (raws : List DeclaredSynta
       → after.commons.items ≡ mid.commons.items ++ common_entries_of d.item.node d.annotations d.item.loc
       → after.entities.items ≡ mid.entities.items ++ entity_entries_of d.item.node d.annotations d.item.loc
       → after.actions.items ≡ mid.actions.items ++ action_entries_of d.item.node d.annotations d.item.loc
-      → IsPlain table d.item.node → AddedTo others before after
+      → IsPlainDeclaration table d.item.node → AddedTo others before after
   one_more_added rest r others next before mid after d so_far is lawful commons entities actions plain = record {
     decls = so_far.decls ++ d ∷ [];
     read = one_more_read source declared_sites (IsDeclaredOf source) raws rest r others next so_far.decls so_far.read
@@ -265,7 +266,7 @@ module _ (source : List ℕ) (table : ExtensionTable) (raws : List DeclaredSynta
   -- what entries define that are those of these declarations
   pub read_as : (before after : Entries) (notes : Annotations) (d : NamespaceDefinition RawName as_written)
       → before.commons.items ≡ [] → before.entities.items ≡ [] → before.actions.items ≡ []
-      → AddsRead source table raws before after → IsOwn after notes d → IsReadAs source table raws notes d
+      → AddsRead source table raws before after → IsOwn after notes d → IsGatheredAs source table raws notes d
   read_as before after notes d commons entities actions reads own =
       let is = own_plain table reads.decls after notes d own
       (reads.adds.commons ∙ ap (λ l. l ++ common_entries reads.decls) commons)
@@ -277,11 +278,12 @@ module _ (table : ExtensionTable) (tree : List (Annotated Namespace))
     (rising : AllByRecursion HasRisingNotes (named tree)) where
   -- as many namespaces as were gathered
   finished : (es : List (Option Name × NamespaceDefinition RawName as_written)) (f : Fragment RawName as_written)
-      → es ≡ filter_map namespace_entry (apart tree) → f ≡ record { 0 = map_of namespace_cmp es }
-      → length es ≤ length f.0 → AllByRecursion (IsPlainNamespace table) (apart tree) → IsTranslation tree table f []
+      → es ≡ filter_map namespace_entry (namespaces_apart tree) → f ≡ record { 0 = map_of namespace_cmp es }
+      → length es ≤ length f.0 → AllByRecursion (IsPlainNamespace table) (namespaces_apart tree)
+      → IsTranslation tree table f []
   finished es f are made many plain =
-      let all : f ≡ fragment_of (apart tree) = made ∙ (λ i. record { 0 = map_of namespace_cmp (are i) }) in
-      let most = at_most_all namespace_cmp keys_total es in
+      let all : f ≡ fragment_of (namespaces_apart tree) = made ∙ (λ i. record { 0 = map_of namespace_cmp (are i) }) in
+      let most = at_most_all namespace_cmp namespaces_total es in
       let long : length f.0 ≡ length (map_of namespace_cmp es) = ap
       (λ (x : Fragment RawName as_written). length x.0) made in
       let once : length (map_of namespace_cmp es) ≡ length es = omega (arith, most, long, many) in
@@ -297,7 +299,7 @@ module _ (table : ExtensionTable) (tree : List (Annotated Namespace))
       → g.has_outside ≡ false → f ≡ record { 0 = map_of namespace_cmp g.namespaces.items }
       → length g.namespaces.items ≤ length f.0 → IsTranslation tree table f []
   finished_without g f so_far without made many =
-      let same : apart tree ≡ named tree = ap (λ l. named tree ++ empty_namespace l) (so_far.none without)
+      let same : namespaces_apart tree ≡ named tree = ap (λ l. named tree ++ empty_namespace l) (so_far.none without)
       ∙ append-nil (named tree) in
       finished g.namespaces.items f (so_far.namespaces ∙ ap (filter_map namespace_entry) (sym same)) made many
       (subst (AllByRecursion (IsPlainNamespace table)) (sym same) so_far.each)
@@ -330,12 +332,12 @@ module _ (table : ExtensionTable) (tree : List (Annotated Namespace))
       let n = empty_of decls (so_far.some with) in
       let entry : namespace_entry n.0 ≡ Some (None, definition_of decls (record { 0 = [] })) =
       entry_of n.0 decls n.2 n.3 n.4 in
-      let all : filter_map namespace_entry (apart tree)
+      let all : filter_map namespace_entry (namespaces_apart tree)
       ≡ filter_map namespace_entry (named tree) ++ (None, definition_of decls (record { 0 = [] })) ∷ [] =
       ap (λ l. filter_map namespace_entry (named tree ++ l)) n.1
       ∙ (filter_map-append namespace_entry (named tree) (n.0 ∷ [])
       ∙ ap (λ o. filter_map namespace_entry (named tree) ++ cons_option o []) entry) in
-      let are : es ≡ filter_map namespace_entry (apart tree) =
+      let are : es ≡ filter_map namespace_entry (namespaces_apart tree) =
       into ∙ ((λ i. so_far.namespaces i ++ (None, is.0 i) ∷ []) ∙ sym all) in
       let here : IsPlainNamespace table n.0 = record {
         free = subst IsFreeName (sym n.2) tt;
@@ -343,7 +345,7 @@ module _ (table : ExtensionTable) (tree : List (Annotated Namespace))
       } in
       finished es f are made many
       (subst (λ l. AllByRecursion (IsPlainNamespace table) (named tree ++ l)) (sym n.1)
-      (all_append (IsPlainNamespace table) (named tree) (n.0 ∷ []) so_far.each (here, tt)))
+      (All-append (IsPlainNamespace table) (named tree) (n.0 ∷ []) so_far.each (here, tt)))
     where
       entry_of : (n : Annotated Namespace) (decls : List (Annotated (Node Declaration))) → n.item.name ≡ None
           → n.item.decls ≡ decls → n.annotations ≡ record { 0 = [] }

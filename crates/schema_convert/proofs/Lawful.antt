@@ -4,6 +4,7 @@ use Rattle.std.proofs.Common.{find, if◌then◌else◌, refl, sym, ap, ◌∙�
 use Rattle.std.proofs.Common.{flat_map, option_to_list}
 use Rattle.std.specs.List.{AllByRecursion, list_any, cons_option}
 use Rattle.std.specs.Option.{option_or}
+use mathlib.Core.Logic.Iff.{trans as both_ways}
 use Rattle.cedar_data.specs.Span.{Span}
 use Rattle.cedar_data.specs.declared.node.Node.{Node}
 use Rattle.cedar_identifiers.specs.Words.{is_cedar}
@@ -59,9 +60,6 @@ cons_option_nil (Some x) xs = (λ h. cons_nil x xs h, λ h. some_none x h.0)
 to_list_nil : {X : Type 0} (o : Option X) → option_to_list o ≡ [] ↔ o ≡ None
 to_list_nil None = (λ h. refl, λ h. refl)
 to_list_nil (Some x) = (λ h. cons_nil x [] h, λ h. some_none x h)
-
-both_ways : {A B C : Type 0} → A ↔ B → B ↔ C → A ↔ C
-both_ways f g = (λ a. g.0 (f.0 a), λ c. f.1 (g.1 c))
 
 -- what holds of each item where a list that is made of them is empty
 module _ {A B : Type 0} (P : A → Type 0) where

@@ -5,7 +5,7 @@ mod FirstRepeat
 mod Gathered
 mod Grouped
 mod Lawful
-mod Own
+pub mod Own
 mod Ranked
 mod Seen
 mod Sorted

@@ -1,10 +1,12 @@
 -- Joined namespaces have names of their own.
-use Rattle.std.proofs.Common.{◌≡◌, Bool, true, false, not, ◌||◌, cond, List, [], ◌∷◌, ◌++◌, map, filter, Option, Some}
+use Rattle.std.proofs.Common.{◌≡◌, Bool, true, false, not, ◌||◌, List, [], ◌∷◌, ◌++◌, map, Option, Some}
 use Rattle.std.proofs.Common.{None, refl, sym, ap, ◌∙◌, subst, true≢false}
 use Rattle.std.specs.List.{list_any, AllByRecursion}
 use Rattle.std.specs.Option.{option_cmp}
 use Rattle.std.specs.Ordering.{is_eq}
 use Rattle.std.proofs.lemmas.List.Folds.{list_any-append}
+use Rattle.std.proofs.lemmas.Bool.{or_parts}
+use Rattle.cedar_data.proofs.Every.{all_kept_by}
 use Rattle.cedar_data.specs.declared.node.Node.{Node}
 use Rattle.schema_syntax_tree.specs.declared.annotated.Annotated.{Annotated}
 use Rattle.schema_syntax_tree.specs.declared.declaration.Declaration.{Declaration}
@@ -14,16 +16,16 @@ use Rattle.schema_convert.specs.Joined.{named_so, named, outside, first_of_each,
 use Rattle.schema_convert.specs.Joined.{openings_of, opened_as, joined_by_name, empty_namespace, joined}
 use Rattle.schema_convert.specs.NamesIn.{path_cmp}
 use Rattle.schema_convert.specs.Joined.{HaveOwnNames}
-use Rattle.schema_convert.proofs.Ranked.{AreApart, firsts_apart, either_false}
+use Rattle.schema_convert.proofs.Ranked.{AreApart, firsts_apart}
 
 module _ {N : Type 0} (same : N → N → Bool) where
   apart_split : (before after : List N) (x : N) → AreApart same (before ++ x ∷ after)
       → list_any (λ y. same y x) before ≡ false
   apart_split [] after x h = refl
   apart_split (y ∷ before) after x h =
-      let later = either_false (list_any (same y) before) (list_any (same y) (x ∷ after))
+      let later = or_parts (list_any (same y) before) (list_any (same y) (x ∷ after))
       (sym (list_any-append (same y) before (x ∷ after)) ∙ h.0) in
-      let other = either_false (same y x) (list_any (same y) after) later.1 in
+      let other = or_parts (same y x) (list_any (same y) after) later.1 in
       rw other.0 (apart_split before after x h.1)
 
   apart_append : (xs ys : List N) → AreApart same xs → AreApart same ys
@@ -44,18 +46,10 @@ module _ {N : Type 0} (same : N → N → Bool) where
     apart_map (x ∷ xs) h = (any_map x xs ∙ h.0, apart_map xs h.1)
 
 module _ {N : Type 0} (P : N → Type 0) where
-  all_filter_by : (test : N → Bool) (x : N) (xs : List N) → P x → AllByRecursion P (filter test xs) → (b : Bool)
-      → AllByRecursion P (cond b (x ∷ filter test xs) (filter test xs))
-  all_filter_by test x xs p h true = (p, h)
-  all_filter_by test x xs p h false = h
-
-  all_filter : (test : N → Bool) (xs : List N) → AllByRecursion P xs → AllByRecursion P (filter test xs)
-  all_filter test [] h = tt
-  all_filter test (x ∷ xs) h = all_filter_by test x xs h.0 (all_filter test xs h.1) (test x)
-
-  all_firsts : (same : N → N → Bool) (xs : List N) → AllByRecursion P xs → AllByRecursion P (first_of_each same xs)
+  pub all_firsts : (same : N → N → Bool) (xs : List N) → AllByRecursion P xs → AllByRecursion P (first_of_each same xs)
   all_firsts same [] h = tt
-  all_firsts same (x ∷ xs) h = (h.0, all_filter (λ y. not (same x y)) (first_of_each same xs) (all_firsts same xs h.1))
+  all_firsts same (x ∷ xs) h =
+      (h.0, all_kept_by (λ y. not (same x y)) P (first_of_each same xs) (all_firsts same xs h.1))
 
 -- none of these is the namespace without a name
 abbrev pub IsNamed : Annotated Namespace → Type 0

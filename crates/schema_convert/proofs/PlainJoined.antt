@@ -6,23 +6,21 @@ use Rattle.std.specs.BTreeMap.{insert_entry}
 use Rattle.std.specs.List.{AllByRecursion}
 use Rattle.std.specs.List.Sorted.{IsStrictlySortedBy}
 use Rattle.std.specs.Map.{keys_of}
-use Rattle.std.specs.Option.{option_cmp}
-use Rattle.std.specs.Ordering.{is_eq, ordering_reverse, match_ordering}
+use Rattle.std.specs.Ordering.{is_eq, match_ordering}
 use Rattle.std.specs.declared.cmp.Ordering.{Ordering}
-use Rattle.std.specs.declared.cmp.Ordering.TheVariants.{Less, Equal, Greater}
+use Rattle.std.specs.declared.cmp.Ordering.TheVariants.{Less}
 use Rattle.std.proofs.lemmas.Cmp.{tied_itself}
 use Rattle.std.proofs.lemmas.List.{reverse-append}
 use Rattle.std.proofs.lemmas.List.Elements.{filter-append}
 use Rattle.cedar_data.specs.Maps.{with_entries, map_of}
 use Rattle.schema_syntax_tree.specs.declared.annotated.Annotated.{Annotated}
 use Rattle.schema_syntax_tree.specs.declared.namespace.Namespace.{Namespace}
+use Rattle.schema_json.specs.Orders.{annotation_key_cmp}
 use Rattle.schema_convert.specs.Joined.{first_of_each, have_one_name, openings_of, opened_as, joined_by_name}
-use Rattle.schema_convert.specs.Joined.{annotation_key_cmp}
-use Rattle.schema_convert.specs.NamesIn.{path_cmp}
 use Rattle.schema_convert.specs.Plain.{HasRisingNotes}
-use Rattle.schema_convert.proofs.Counted.{none_cond}
 use Rattle.schema_convert.proofs.FirstRepeat.{AreNew}
-use Rattle.schema_convert.proofs.Grouped.{names_total}
+use Rattle.schema_convert.proofs.Grouped.{names_total, one_name_swaps}
+use Rattle.schema_convert.proofs.Among.{none_cond}
 
 module _ {K X : Type 0} (R : K → K → Ordering) where
   with_append : (m xs ys : List (K × X)) → with_entries R m (xs ++ ys) ≡ with_entries R (with_entries R m xs) ys
@@ -105,15 +103,6 @@ module _ {N : Type 0} (same : N → N → Bool) (swaps : (a b : N) → same a b 
   firsts before (x ∷ xs) new =
       ap (λ l. x ∷ filter (λ y. not (same x y)) l) (firsts (before ++ x ∷ []) xs new.1)
       ∙ ap (λ l. x ∷ l) (all_filtered x xs (others x before [] xs new.1))
-
-one_name_swaps : (a b : Annotated Namespace) → have_one_name a b ≡ have_one_name b a
-one_name_swaps a b = ap is_eq (names_total.antisymm a.item.name b.item.name)
-    ∙ turned (option_cmp path_cmp b.item.name a.item.name)
-  where
-    turned : (o : Ordering) → is_eq (ordering_reverse o) ≡ is_eq o
-    turned Less = refl
-    turned Equal = refl
-    turned Greater = refl
 
 one_name_itself : (a : Annotated Namespace) → have_one_name a a ≡ true
 one_name_itself a = ap is_eq (tied_itself names_total a.item.name)

@@ -3,16 +3,14 @@ use Rattle.std.proofs.Common.{◌≡◌, ℕ, Bool, true, false, List, [], ◌�
 use Rattle.std.proofs.Common.{refl}
 use Rattle.std.proofs.Common.{sym, ap, ◌∙◌, subst, true≢false, flat_map}
 use Rattle.std.specs.Cmp.{IsTotalOrder}
-use Rattle.std.specs.Cmp.Lexicographic.{lists_total}
 use Rattle.std.specs.List.{AllByRecursion, cons_option}
 use Rattle.std.specs.Ordering.{is_eq}
-use Rattle.std.specs.Str.{encode_utf8_all}
 use Rattle.std.specs.declared.cmp.Ordering.{Ordering}
-use Rattle.std.proofs.lemmas.Cmp.{on_total, nat_cmp_total}
 use Rattle.std.proofs.lemmas.List.{map-append}
 use Rattle.cedar_data.specs.Span.{Span}
 use Rattle.cedar_data.specs.Text.{text_cmp}
 use Rattle.cedar_data.specs.declared.node.Node.{Node}
+use Rattle.cedar_data.proofs.Orders.{text_total}
 use Rattle.cedar_identifiers.specs.Words.{is_cedar}
 use Rattle.cedar_identifiers.specs.declared.annotations.Annotations.{Annotations}
 use Rattle.cedar_identifiers.specs.declared.id.Id.{Id}
@@ -24,26 +22,18 @@ use Rattle.schema_syntax_tree.specs.declared.declaration.Declaration.{Declaratio
 use Rattle.schema_syntax_tree.specs.declared.declaration.Declaration.TheVariants.{Entity, Action, Common}
 use Rattle.schema_json.specs.declared.common_type.CommonType.{CommonType}
 use Rattle.schema_json.specs.declared.common_type.CommonTypeId.{CommonTypeId}
+use Rattle.schema_json.specs.Orders.{unreserved_cmp, common_cmp}
+use Rattle.schema_json.proofs.Orders.{unreserved_total, common_total}
 use Rattle.schema_convert_types.specs.Types.{type_of}
 use Rattle.schema_convert_types.specs.Declarations.{unreserved, unreserved_so, declarable, each_with}
 use Rattle.schema_convert_types.specs.Fragments.{entity_entries_of, action_entries_of, common_entries_of, common_entry}
-use Rattle.schema_convert_types.specs.Fragments.{entity_entries, action_entries, common_entries, common_cmp}
-use Rattle.schema_convert_types.specs.Fragments.{unreserved_cmp}
+use Rattle.schema_convert_types.specs.Fragments.{entity_entries, action_entries, common_entries}
 use Rattle.schema_convert.specs.NamesIn.{entities_of, actions_of, commons_of, entity_names_in, action_names_in}
 use Rattle.schema_convert.specs.NamesIn.{common_names_in, id_cmp, action_cmp}
-use Rattle.schema_convert.specs.Plain.{IsFreeId, IsPlain, AreOnce, ArePlain}
+use Rattle.schema_convert.specs.Plain.{IsFreeId, IsPlainDeclaration, AreOnce, ArePlain}
 use Rattle.schema_convert.specs.Repeats.{NoneRepeats}
 use Rattle.schema_convert.proofs.Counted.{keys_new, items_new}
 use Rattle.schema_convert.proofs.FirstRepeat.{AreNew, new_everywhere}
-
-pub text_total : IsTotalOrder text_cmp
-text_total = on_total encode_utf8_all (lists_total nat_cmp_total)
-
-pub unreserved_total : IsTotalOrder unreserved_cmp
-unreserved_total = on_total (λ (u : UnreservedId). u.id.text) text_total
-
-pub common_total : IsTotalOrder common_cmp
-common_total = on_total (λ (c : CommonTypeId). c.id) unreserved_total
 
 abbrev pub text_eq : List ℕ → List ℕ → Bool
 text_eq a b = is_eq (text_cmp a b)
@@ -71,7 +61,7 @@ module _ (table : ExtensionTable) where
       ap (λ o. map entity_key (each_with x (cons_option o (declarable names)))) u.1
       ∙ (λ i. (u.2 i).text ∷ free_keys x names all.1 i)
 
-  entity_keys_of : (d : Declaration) (notes : Annotations) (loc : Option Span) → IsPlain table d
+  entity_keys_of : (d : Declaration) (notes : Annotations) (loc : Option Span) → IsPlainDeclaration table d
       → map entity_key (entity_entries_of d notes loc) ≡ map (λ n. n.node.text) (entities_of d)
   entity_keys_of (Entity d) notes loc plain = free_keys _ _ plain.entities
   entity_keys_of (Action d) notes loc plain = refl
@@ -80,7 +70,7 @@ module _ (table : ExtensionTable) where
   abbrev pub common_key : CommonTypeId × CommonType RawName → List ℕ
   common_key e = e.0.id.id.text
 
-  common_keys_of : (d : Declaration) (notes : Annotations) (loc : Option Span) → IsPlain table d
+  common_keys_of : (d : Declaration) (notes : Annotations) (loc : Option Span) → IsPlainDeclaration table d
       → map common_key (common_entries_of d notes loc) ≡ map (λ n. n.node.text) (commons_of d)
   common_keys_of (Entity d) notes loc plain = refl
   common_keys_of (Action d) notes loc plain = refl
@@ -127,12 +117,12 @@ once R o cmp p q tells alike es names same keys =
 
 module _ (table : ExtensionTable) (decls : List (Annotated (Node Declaration))) (plain : ArePlain table decls) where
   pub entity_keys : map entity_key (entity_entries decls) ≡ map (λ n. n.node.text) (entity_names_in decls)
-  entity_keys = flat_keys (λ (d : Annotated (Node Declaration)). IsPlain table d.item.node)
+  entity_keys = flat_keys (λ (d : Annotated (Node Declaration)). IsPlainDeclaration table d.item.node)
       (λ d. entity_entries_of d.item.node d.annotations d.item.loc) (λ d. entities_of d.item.node) entity_key
       (λ n. n.node.text) (λ d h. entity_keys_of table d.item.node d.annotations d.item.loc h) decls plain.each
 
   pub common_keys : map (common_key table) (common_entries decls) ≡ map (λ n. n.node.text) (common_names_in decls)
-  common_keys = flat_keys (λ (d : Annotated (Node Declaration)). IsPlain table d.item.node)
+  common_keys = flat_keys (λ (d : Annotated (Node Declaration)). IsPlainDeclaration table d.item.node)
       (λ d. common_entries_of d.item.node d.annotations d.item.loc) (λ d. commons_of d.item.node) (common_key table)
       (λ n. n.node.text) (λ d h. common_keys_of table d.item.node d.annotations d.item.loc h) decls plain.each
 

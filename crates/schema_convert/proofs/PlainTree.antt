@@ -1,23 +1,26 @@
 -- Trees of which nothing is to be said are translated namespace by namespace.
 use Rattle.std.proofs.Common.{◌≡◌, ℕ, Bool, true, false, List, [], ◌∷◌, ◌++◌, map, Option, Some, None, refl, sym}
 use Rattle.std.proofs.Common.{ap}
-use Rattle.std.proofs.Common.{◌∙◌, subst, true≢false, find, inl, inr, flat_map, filter_map, ◌||◌}
+use Rattle.std.proofs.Common.{◌∙◌, subst, true≢false, find, inl, inr, flat_map, filter_map}
 use Rattle.std.specs.BTreeMap.{is_at}
 use Rattle.std.specs.Cmp.Derive.Mapped.{lex_map}
-use Rattle.std.specs.Cmp.Lexicographic.{slice_cmp, lists_total, options_total}
-use Rattle.std.specs.Cmp.{IsTotalOrder}
-use Rattle.std.proofs.lemmas.Cmp.{on_total, tied_itself}
+use Rattle.std.specs.Cmp.Lexicographic.{slice_cmp}
+use Rattle.std.proofs.lemmas.Cmp.{tied_itself}
 use Rattle.std.specs.List.{AllByRecursion, list_any, cons_option}
 use Rattle.std.specs.Map.{lookup}
 use Rattle.std.specs.Option.{option_cmp, option_map}
 use Rattle.std.specs.Ordering.{is_eq}
 use Rattle.std.specs.declared.cmp.Ordering.{Ordering}
 use Rattle.std.specs.declared.cmp.Ordering.TheVariants.{Equal}
+use Rattle.cedar_data.proofs.Every.{All-append, All-weaker}
 use Rattle.cedar_data.specs.Maps.{map_of}
 use Rattle.cedar_data.specs.Span.{Span}
 use Rattle.cedar_data.specs.Text.{text_cmp}
 use Rattle.cedar_data.specs.declared.node.Node.{Node}
-use Rattle.cedar_identifiers.specs.Names.{components_of, has_cedar, texts_of}
+use Rattle.cedar_data.proofs.Orders.{texts_total}
+use Rattle.cedar_data.proofs.Lists.{list_any-map}
+use Rattle.cedar_data.proofs.Every.{all_both}
+use Rattle.cedar_identifiers.specs.Names.{components_of, has_cedar}
 use Rattle.cedar_identifiers.specs.Words.{is_cedar}
 use Rattle.cedar_identifiers.specs.declared.id.Id.{Id}
 use Rattle.cedar_identifiers.specs.declared.internal_name.InternalName.{InternalName}
@@ -25,6 +28,7 @@ use Rattle.cedar_identifiers.specs.declared.name.Name.{Name}
 use Rattle.cedar_identifiers.specs.declared.raw_name.RawName.{RawName}
 use Rattle.cedar_identifiers.specs.declared.unreserved_id.UnreservedId.{UnreservedId}
 use Rattle.cedar_names.specs.declared.extension_table.ExtensionTable.{ExtensionTable}
+use Rattle.cedar_names.specs.Orders.{id_text_order}
 use Rattle.schema_syntax_tree.specs.declared.annotated.Annotated.{Annotated}
 use Rattle.schema_syntax_tree.specs.declared.declaration.Declaration.{Declaration}
 use Rattle.schema_syntax_tree.specs.declared.namespace.Namespace.{Namespace}
@@ -32,25 +36,29 @@ use Rattle.schema_syntax_tree.specs.declared.path.Path.{Path}
 use Rattle.schema_json.specs.Keywords.{is_keyword_name}
 use Rattle.schema_json.specs.declared.common_type.CommonType.{CommonType}
 use Rattle.schema_json.specs.declared.common_type.CommonTypeId.{CommonTypeId}
-use Rattle.schema_convert_errors.specs.declared.warnings.SchemaWarning.{SchemaWarning}
+use Rattle.schema_json.specs.Orders.{unreserved_cmp, common_cmp, namespace_cmp}
+use Rattle.schema_json.proofs.Orders.{unreserved_total, common_total, namespace_components, by_components}
+use Rattle.schema_json.proofs.Orders.{namespaces_total}
 use Rattle.schema_convert_types.specs.Names.{internal_name_of, name_of_ids}
 use Rattle.schema_convert_types.specs.Fragments.{declarable_name_so, namespace_key, namespace_entry}
-use Rattle.schema_convert_types.specs.Fragments.{namespace_cmp, common_entries, entity_entries, common_cmp}
-use Rattle.schema_convert_types.specs.Fragments.{unreserved_cmp, fragment_of, definition_of}
+use Rattle.schema_convert_types.specs.Fragments.{common_entries, entity_entries}
+use Rattle.schema_convert_types.specs.Fragments.{fragment_of, definition_of}
+use Rattle.schema_convert_errors.specs.declared.warnings.SchemaWarning.{SchemaWarning}
 use Rattle.schema_convert.specs.Joined.{named, outside, empty_namespace, joined, have_one_name}
-use Rattle.schema_convert.specs.NamesIn.{entities_of, commons_of, entity_names_in, common_names_in, id_cmp, id_text_cmp}
+use Rattle.schema_convert.specs.NamesIn.{entities_of, commons_of, entity_names_in, common_names_in, id_cmp}
 use Rattle.schema_convert.specs.NamesIn.{path_cmp}
-use Rattle.schema_convert.specs.Plain.{IsFreeId, IsPlain, ArePlain, IsPlainNamespace, IsPlainTree, apart}
+use Rattle.schema_convert.specs.Plain.{IsFreeId, IsPlainDeclaration, ArePlain, IsPlainNamespace, IsPlainTree}
+use Rattle.schema_convert.specs.Plain.{namespaces_apart}
 use Rattle.schema_convert.specs.Shadowings.{shadowings}
 use Rattle.schema_convert.specs.Translatable.{IsFreeName, AppliesLawfully, IsFreeCommon, IsLawfulNamespace}
 use Rattle.schema_convert.specs.Translated.{IsTranslation}
 use Rattle.schema_convert.specs.Warned.{IsAmong, SaysBuiltin, IsOfDeclared}
-use Rattle.schema_convert.proofs.Among.{among_map, among_map_of}
-use Rattle.schema_convert.proofs.Counted.{keys_new, items_new, fresh, none_cond, absent_parts}
+use Rattle.schema_convert.proofs.Among.{among_map, among_map_of, none_cond}
+use Rattle.schema_convert.proofs.Counted.{keys_new, items_new, fresh, absent_parts}
 use Rattle.schema_convert.proofs.FirstRepeat.{AreNew}
 use Rattle.schema_convert.proofs.Lawful.{action_lawful, lawful}
 use Rattle.schema_convert.proofs.PlainJoined.{joined_as_they_stand}
-use Rattle.schema_convert.proofs.PlainNames.{text_eq, text_total, unreserved_total, common_total, entity_key}
+use Rattle.schema_convert.proofs.PlainNames.{text_eq, entity_key}
 use Rattle.schema_convert.proofs.PlainNames.{common_key}
 use Rattle.schema_convert.proofs.PlainNames.{entity_keys, common_keys, entities_once, commons_once, actions_once}
 use Rattle.schema_convert.proofs.Warnings.{warned, all_at}
@@ -59,16 +67,8 @@ use Rattle.schema_convert.proofs.Warnings.{warned, all_at}
 all_flat : {A B : Type 0} (P : A → Type 0) (Q : B → Type 0) (f : A → List B) → ((x : A) → P x → AllByRecursion Q (f x))
     → (xs : List A) → AllByRecursion P xs → AllByRecursion Q (flat_map f xs)
 all_flat P Q f each [] all = tt
-all_flat {A} {B} P Q f each (x ∷ xs) all = both (f x) (flat_map f xs) (each x all.0) (all_flat P Q f each xs all.1)
-  where
-    both : (ys zs : List B) → AllByRecursion Q ys → AllByRecursion Q zs → AllByRecursion Q (ys ++ zs)
-    both [] zs h g = g
-    both (y ∷ ys) zs h g = (h.0, both ys zs h.1 g)
-
-all_weaker : {A : Type 0} (P Q : A → Type 0) → ((x : A) → P x → Q x) → (xs : List A) → AllByRecursion P xs
-    → AllByRecursion Q xs
-all_weaker P Q each [] all = tt
-all_weaker P Q each (x ∷ xs) all = (each x all.0, all_weaker P Q each xs all.1)
+all_flat P Q f each (x ∷ xs) all =
+    All-append Q (f x) (flat_map f xs) (each x all.0) (all_flat P Q f each xs all.1)
 
 -- no item passes a test where none is found
 none_at : {A : Type 0} (test : A → Bool) (x : A) (xs : List A) → find test xs ≡ None → IsAmong x xs → test x ≡ false
@@ -76,14 +76,9 @@ none_at test x [] h i = absurd i
 none_at test x (y ∷ xs) h (inl is) = ap test is ∙ (none_cond (test y) y (find test xs) h).0
 none_at test x (y ∷ xs) h (inr i) = none_at test x xs (none_cond (test y) y (find test xs) h).1 i
 
-all_paired : {A : Type 0} (P Q : A → Type 0) (xs : List A) → AllByRecursion P xs → AllByRecursion Q xs
-    → AllByRecursion (λ x. P x × Q x) xs
-all_paired P Q [] all alike = tt
-all_paired P Q (x ∷ xs) all alike = ((all.0, alike.0), all_paired P Q xs all.1 alike.1)
-
 module _ (table : ExtensionTable) (decls : List (Annotated (Node Declaration))) (plain : ArePlain table decls) where
   abbrev IsPlainDecl : Annotated (Node Declaration) → Type 0
-  IsPlainDecl d = IsPlain table d.item.node
+  IsPlainDecl d = IsPlainDeclaration table d.item.node
 
   entities_free : AllByRecursion (IsFreeId table) (entity_names_in decls)
   entities_free = all_flat IsPlainDecl (IsFreeId table) (λ d. entities_of d.item.node) (λ d h. h.entities)
@@ -140,10 +135,8 @@ module _ (table : ExtensionTable) (decls : List (Annotated (Node Declaration))) 
   ]
 
   names_free : AllByRecursion IsFreeCommon (common_names_in decls)
-  names_free = all_weaker (λ id. IsFreeId table id × (is_keyword_name id.node.text ≡ false)) IsFreeCommon
-      (λ id h. (h.0.0, h.1)) (common_names_in decls)
-      (all_paired (IsFreeId table) (λ id. is_keyword_name id.node.text ≡ false) (common_names_in decls) commons_free
-      words_free)
+  names_free = all_both (IsFreeId table) (λ id. is_keyword_name id.node.text ≡ false) IsFreeCommon
+      (λ id h k. (h.0, k)) (common_names_in decls) commons_free words_free
 
 lawful_one : (table : ExtensionTable) (n : Annotated Namespace) → IsPlainNamespace table n → IsLawfulNamespace n
 lawful_one table n p =
@@ -153,9 +146,9 @@ lawful_one table n p =
       entities_once = entities_once table decls p.decls;
       actions_once = actions_once table decls p.decls;
       commons_once = commons_once table decls p.decls;
-      entities_free = all_weaker (IsFreeId table) (λ id. is_cedar id.node.text ≡ false) (λ id h. h.0)
+      entities_free = All-weaker (IsFreeId table) (λ id. is_cedar id.node.text ≡ false) (λ id h. h.0)
           (entity_names_in decls) (entities_free table decls p.decls);
-      blocks = all_weaker (IsPlainDecl table decls p.decls) (λ d. AppliesLawfully d.item.node)
+      blocks = All-weaker (IsPlainDecl table decls p.decls) (λ d. AppliesLawfully d.item.node)
           (λ d h. (action_lawful d.item.node).0 h.block) decls p.decls.each;
       commons_free = names_free table decls p.decls;
     }
@@ -174,25 +167,12 @@ components_cmp = option_cmp (slice_cmp text_cmp)
 abbrev components_eq : Components → Components → Bool
 components_eq a b = is_eq (components_cmp a b)
 
-abbrev key_part : Option Name → Components
-key_part key = option_map (λ n. components_of n.name) key
-
 abbrev name_part : Option Path → Components
 name_part name = option_map (λ p. components_of (internal_name_of p)) name
 
-keys_alike : (a b : Option Name) → components_cmp (key_part a) (key_part b) ≡ namespace_cmp a b
-keys_alike None None = refl
-keys_alike None (Some b) = refl
-keys_alike (Some a) None = refl
-keys_alike (Some a) (Some b) = refl
-
-pub keys_total : IsTotalOrder namespace_cmp
-keys_total = subst IsTotalOrder (λ i a b. keys_alike a b i)
-    (on_total key_part (options_total (lists_total text_total)))
-
-ids_alike : (a b : List Id) (first second : Option Span) → is_eq (slice_cmp id_text_cmp a b) ≡ true
+ids_alike : (a b : List Id) (first second : Option Span) → is_eq (slice_cmp id_text_order a b) ≡ true
     → is_eq (slice_cmp text_cmp (components_of (name_of_ids a first)) (components_of (name_of_ids b second))) ≡ true
-ids_alike [] [] first second h = ap is_eq (tied_itself (lists_total text_total) (components_of (name_of_ids [] first)))
+ids_alike [] [] first second h = ap is_eq (tied_itself (texts_total) (components_of (name_of_ids [] first)))
 ids_alike [] (y ∷ b) first second h = absurd (true≢false (sym h))
 ids_alike (x ∷ a) [] first second h = absurd (true≢false (sym h))
 ids_alike (x ∷ a) (y ∷ b) first second h =
@@ -205,14 +185,10 @@ names_alike None (Some b) h = absurd (true≢false (sym h))
 names_alike (Some a) None h = absurd (true≢false (sym h))
 names_alike (Some a) (Some b) h = ids_alike a.ids b.ids a.loc b.loc h
 
-any_text : (ids : List Id) → has_cedar (texts_of ids) ≡ list_any (λ id. is_cedar id.text) ids
-any_text [] = refl
-any_text (id ∷ ids) = ap (λ b. is_cedar id.text || b) (any_text ids)
-
 free_ids : (ids : List Id) (loc : Option Span) → list_any (λ id. is_cedar id.text) ids ≡ false
     → has_cedar (components_of (name_of_ids ids loc)) ≡ false
 free_ids [] loc h = refl
-free_ids (id ∷ ids) loc h = any_text (id ∷ ids) ∙ h
+free_ids (id ∷ ids) loc h = list_any-map is_cedar (λ (id : Id). id.text) (id ∷ ids) ∙ h
 
 abbrev IsNameOf : InternalName → Option Name → Type 0
 IsNameOf name o = (d : Name) × (o ≡ Some d) × (d.name ≡ name)
@@ -223,7 +199,7 @@ declared_so name true e h = absurd (true≢false h)
 declared_so name false e h = (record { name = name; unreserved = e }, refl, refl)
 
 abbrev HasKey : Option Path → Type 0
-HasKey name = (key : Option Name) × (namespace_key name ≡ Some key) × (key_part key ≡ name_part name)
+HasKey name = (key : Option Name) × (namespace_key name ≡ Some key) × (namespace_components key ≡ name_part name)
 
 free_key : (name : Option Path) → IsFreeName name → HasKey name
 free_key None free = (None, refl, refl)
@@ -233,11 +209,11 @@ free_key (Some path) free =
     (Some d.0, ap (option_map Some) d.1, ap (λ m. Some (components_of m)) d.2)
 
 entry_keys : (ns : List (Annotated Namespace)) → AllByRecursion (λ n. IsFreeName n.item.name) ns
-    → map (λ e. key_part e.0) (filter_map namespace_entry ns) ≡ map (λ n. name_part n.item.name) ns
+    → map (λ e. namespace_components e.0) (filter_map namespace_entry ns) ≡ map (λ n. name_part n.item.name) ns
 entry_keys [] all = refl
 entry_keys (n ∷ ns) all =
     let k = free_key n.item.name all.0 in
-    ap (λ o. map (λ e. key_part e.0)
+    ap (λ o. map (λ e. namespace_components e.0)
     (cons_option (option_map (λ key. (key, definition_of n.item.decls n.annotations)) o)
     (filter_map namespace_entry ns))) k.1
     ∙ (λ i. k.2 i ∷ entry_keys ns all.1 i)
@@ -248,17 +224,18 @@ new_front done [] ys new = tt
 new_front done (x ∷ xs) ys new = (new.0, new_front (done ++ x ∷ []) xs ys new.1)
 
 module _ (table : ExtensionTable) (tree : List (Annotated Namespace)) (plain : IsPlainTree table tree) where
-  new_names : AreNew have_one_name [] (apart tree)
+  new_names : AreNew have_one_name [] (namespaces_apart tree)
   new_names =
       items_new have_one_name components_eq (λ n. name_part n.item.name)
-      (λ a b h. names_alike a.item.name b.item.name h) [] (apart tree)
+      (λ a b h. names_alike a.item.name b.item.name h) [] (namespaces_apart tree)
       (subst (AreNew components_eq [])
-      (entry_keys (apart tree)
-      (all_weaker (IsPlainNamespace table) (λ n. IsFreeName n.item.name) (λ n h. h.free) (apart tree) plain.each))
-      (keys_new namespace_cmp keys_total components_eq key_part (λ a b. ap is_eq (keys_alike a b))
-      (filter_map namespace_entry (apart tree)) plain.once))
+      (entry_keys (namespaces_apart tree)
+      (All-weaker (IsPlainNamespace table) (λ n. IsFreeName n.item.name) (λ n h. h.free)
+      (namespaces_apart tree) plain.each))
+      (keys_new namespace_cmp namespaces_total components_eq namespace_components (λ a b. ap is_eq (by_components a b))
+      (filter_map namespace_entry (namespaces_apart tree)) plain.once))
 
-  joined_so : joined tree ≡ apart tree
+  joined_so : joined tree ≡ namespaces_apart tree
   joined_so = ap (λ l. l ++ empty_namespace (outside tree))
       (joined_as_they_stand (named tree) (new_front [] (named tree) (empty_namespace (outside tree)) new_names)
       plain.notes)
@@ -266,10 +243,10 @@ module _ (table : ExtensionTable) (tree : List (Annotated Namespace)) (plain : I
   each_plain : AllByRecursion (IsPlainNamespace table) (joined tree)
   each_plain = subst (AllByRecursion (IsPlainNamespace table)) (sym joined_so) plain.each
 
-  pub plain_tree : IsTranslation tree table (fragment_of (apart tree)) []
+  pub plain_tree : IsTranslation tree table (fragment_of (namespaces_apart tree)) []
   plain_tree =
       let no_fault = (lawful tree).1
-      (all_weaker (IsPlainNamespace table) IsLawfulNamespace (lawful_one table) (joined tree) each_plain) in
+      (All-weaker (IsPlainNamespace table) IsLawfulNamespace (lawful_one table) (joined tree) each_plain) in
       record {
         lawful = no_fault;
         is = ap fragment_of (sym joined_so);

@@ -3,15 +3,19 @@ use Rattle.std.proofs.Common.{◌≡◌, ℕ, zero, suc, ◌<◌, Bool, true, fa
 use Rattle.std.proofs.Common.{get_or, set, map, filter, Option, Some, None, refl, sym, ap, ◌∙◌, append_assoc}
 use Rattle.std.proofs.Common.{append-nil, arith, true≢false}
 use Rattle.std.specs.declared.cmp.Ordering.{Ordering}
-use Rattle.std.specs.declared.cmp.Ordering.TheVariants.{Less, Equal, Greater}
-use Rattle.std.specs.Ordering.{is_eq, ordering_reverse}
+use Rattle.std.specs.Ordering.{is_eq}
 use Rattle.std.specs.BTreeMap.{is_at}
-use Rattle.std.specs.Cmp.{IsTotalOrder}
+use Rattle.std.specs.Cmp.{IsTotalOrder, tied_itself}
 use Rattle.std.specs.List.{list_any}
 use Rattle.std.specs.Map.{lookup}
 use Rattle.std.specs.Option.{option_or, option_map}
 use Rattle.std.proofs.lemmas.List.{map-append, length-map}
 use Rattle.std.proofs.lemmas.List.Elements.{filter-append}
+use Rattle.std.proofs.lemmas.Bool.{or_parts}
+use Rattle.std.proofs.lemmas.Option.{same_Some}
+use Rattle.std.proofs.Math.Bool.{not-not}
+use Rattle.cedar_data.proofs.Options.{or_none}
+use Rattle.cedar_data.proofs.Orders.{equal_from, is_eq_turned}
 use Rattle.schema_convert.specs.Joined.{first_of_each}
 
 -- where the first item stands that passes the test
@@ -24,33 +28,22 @@ abbrev pub AreApart : {N : Type 0} → (N → N → Bool) → List N → Type 0
 AreApart same [] = Unit {0}
 AreApart same (x ∷ xs) = (list_any (same x) xs ≡ false) × AreApart same xs
 
-pub either_false : (a b : Bool) → (a || b) ≡ false → (a ≡ false) × (b ≡ false)
-either_false true b h = absurd (true≢false h)
-either_false false b h = (refl, h)
-
-some_is : (a b : ℕ) → Some a ≡ Some b → a ≡ b
-some_is a b h = cc
-
 none_not : (i : ℕ) → None ≡ Some i → true ≡ false
 none_not i h = cc
 
 zero_not : (i : ℕ) → Some 0 ≡ Some (suc i) → true ≡ false
-zero_not i h = let e : 0 ≡ suc i = some_is 0 (suc i) h in absurd (omega arith)
+zero_not i h = let e : 0 ≡ suc i = same_Some 0 (suc i) h in absurd (omega arith)
 
 not_zero : (o : Option ℕ) → option_map suc o ≡ Some 0 → true ≡ false
 not_zero None h = cc
-not_zero (Some j) h = let e : suc j ≡ 0 = some_is (suc j) 0 h in absurd (omega arith)
+not_zero (Some j) h = let e : suc j ≡ 0 = same_Some (suc j) 0 h in absurd (omega arith)
 
 behind_suc : (o : Option ℕ) (i : ℕ) → option_map suc o ≡ Some (suc i) → o ≡ Some i
 behind_suc None i h = cc
 behind_suc (Some j) i h =
-    let e : suc j ≡ suc i = some_is (suc j) (suc i) h in
+    let e : suc j ≡ suc i = same_Some (suc j) (suc i) h in
     let same : j ≡ i = omega arith in
     ap (λ (k : ℕ). Some k) same
-
-or_nothing : {X : Type 0} (o : Option X) → option_or o None ≡ o
-or_nothing None = refl
-or_nothing (Some x) = refl
 
 shifted : (o : Option ℕ) (l : ℕ) (c : Bool)
     → option_map suc (option_or o (cond c (Some l) None)) ≡ option_or (option_map suc o) (cond c (Some (suc l)) None)
@@ -80,7 +73,7 @@ module _ {N : Type 0} where
   none_filter : (p k : N → Bool) (xs : List N) → list_any p xs ≡ false → list_any p (filter k xs) ≡ false
   none_filter p k [] h = refl
   none_filter p k (x ∷ xs) h =
-      let both = either_false (p x) (list_any p xs) h in
+      let both = or_parts (p x) (list_any p xs) h in
       none_filter_by p k x xs (none_filter p k xs both.1) both.0 (k x)
 
   none_removed_by : (p : N → Bool) (x : N) (xs : List N) → list_any p (filter (λ y. not (p y)) xs) ≡ false
@@ -96,7 +89,7 @@ module _ {N : Type 0} where
   none_kept : (p : N → Bool) (xs : List N) → list_any p xs ≡ false → filter p xs ≡ []
   none_kept p [] h = refl
   none_kept p (x ∷ xs) h =
-      let both = either_false (p x) (list_any p xs) h in
+      let both = or_parts (p x) (list_any p xs) h in
       rw both.0 (none_kept p xs both.1)
 
   none_behind : (t : N → Bool) (xs : List N) → (place_of t xs ≡ None → list_any t xs ≡ false) → (o : Option ℕ)
@@ -146,14 +139,14 @@ module _ {N : Type 0} where
       → (o : Option ℕ) → place_of t xs ≡ o → option_map suc o ≡ Some i → i < suc (length xs)
   below_behind t xs i below None e h = cc
   below_behind t xs i below (Some j) e h =
-      let at : suc j ≡ i = some_is (suc j) i h in
+      let at : suc j ≡ i = same_Some (suc j) i h in
       let under : j < length xs = below j e in
       omega arith
 
   below_by : (t : N → Bool) (xs : List N) (i : ℕ) → ((j : ℕ) → place_of t xs ≡ Some j → j < length xs) → (b : Bool)
       → cond b (Some 0) (option_map suc (place_of t xs)) ≡ Some i → i < suc (length xs)
   below_by t xs i below true h =
-      let at : 0 ≡ i = some_is 0 i h in
+      let at : 0 ≡ i = same_Some 0 i h in
       omega arith
   below_by t xs i below false h = below_behind t xs i below (place_of t xs) refl h
 
@@ -227,33 +220,11 @@ module _ {N P : Type 0} (name : N → P) (R : P → P → Ordering) where
   over all (x ∷ left) entries groups h e = absurd (omega arith)
 
   module _ (o : IsTotalOrder R) where
-    equal_from : (a : Ordering) → is_eq a ≡ true → a ≡ Equal
-    equal_from Less h = cc
-    equal_from Equal h = refl
-    equal_from Greater h = cc
-
-    turned : (a : Ordering) → is_eq (ordering_reverse a) ≡ is_eq a
-    turned Less = refl
-    turned Equal = refl
-    turned Greater = refl
-
-    swapped : (p q : P) → is_eq (R p q) ≡ is_eq (R q p)
-    swapped p q = ap is_eq (o.antisymm p q) ∙ turned (R q p)
-
     alike : (p q r : P) → is_eq (R p q) ≡ true → is_eq (R p r) ≡ is_eq (R q r)
     alike p q r h = ap is_eq (o.congr p q r (equal_from (R p q) h))
 
-    own_turn : (a : Ordering) → a ≡ ordering_reverse a → is_eq a ≡ true
-    own_turn Less h = cc
-    own_turn Equal h = refl
-    own_turn Greater h = cc
-
     own : (p : P) → is_eq (R p p) ≡ true
-    own p = own_turn (R p p) (o.antisymm p p)
-
-    not_false : (b : Bool) → not b ≡ false → b ≡ true
-    not_false true h = refl
-    not_false false h = absurd (true≢false h)
+    own p = ap is_eq (tied_itself o p)
 
     any_first_by : (x n : N) (xs : List N)
         → list_any (λ y. are_same y n) (first_of_each are_same xs) ≡ list_any (λ y. are_same y n) xs → (b : Bool)
@@ -263,7 +234,8 @@ module _ {N P : Type 0} (name : N → P) (R : P → P → Ordering) where
     any_first_by x n xs i true e = refl
     any_first_by x n xs i false e =
         any_filter (λ y. are_same y n) (λ y. not (are_same x y))
-        (λ y h. sym (alike (name x) (name y) (name n) (not_false (are_same x y) h)) ∙ e) (first_of_each are_same xs) ∙ i
+        (λ y h. sym (alike (name x) (name y) (name n) (sym (not-not (are_same x y)) ∙ ap not h)) ∙ e)
+        (first_of_each are_same xs) ∙ i
 
     -- one of the first ones is the same as n exactly where one of all is
     any_first : (n : N) (xs : List N)
@@ -273,7 +245,7 @@ module _ {N P : Type 0} (name : N → P) (R : P → P → Ordering) where
 
     any_swapped : (n : N) (xs : List N) → list_any (are_same n) xs ≡ list_any (λ y. are_same y n) xs
     any_swapped n [] = refl
-    any_swapped n (x ∷ xs) = ap (λ b. b || list_any (are_same n) xs) (swapped (name n) (name x))
+    any_swapped n (x ∷ xs) = ap (λ b. b || list_any (are_same n) xs) (is_eq_turned o (name n) (name x))
         ∙ ap (λ b. are_same x n || b) (any_swapped n xs)
 
     -- of items that are not the same as n, none has one more
@@ -281,8 +253,8 @@ module _ {N P : Type 0} (name : N → P) (R : P → P → Ordering) where
         → map (with_all (xs ++ n ∷ [])) fs ≡ map (with_all xs) fs
     untouched n xs [] h = refl
     untouched n xs (f ∷ fs) h =
-        let both = either_false (are_same n f) (list_any (are_same n) fs) h in
-        let other : are_same f n ≡ false = swapped (name f) (name n) ∙ both.0 in
+        let both = or_parts (are_same n f) (list_any (are_same n) fs) h in
+        let other : are_same f n ≡ false = is_eq_turned o (name f) (name n) ∙ both.0 in
         let kept : filter (are_same f) (xs ++ n ∷ [])
         ≡ filter (are_same f) xs = filter-append (are_same f) xs (n ∷ [])
         ∙ rw other (append-nil (filter (are_same f) xs)) in
@@ -299,7 +271,7 @@ module _ {N P : Type 0} (name : N → P) (R : P → P → Ordering) where
         → are_same n f ≡ true → e ≡ with_all xs f
         → map (with_all (xs ++ n ∷ [])) (f ∷ fs) ≡ (e.0, e.1 ++ n ∷ []) ∷ map (with_all xs) fs
     touched_first n xs f fs e apart same is =
-        let also : are_same f n ≡ true = swapped (name f) (name n) ∙ same in
+        let also : are_same f n ≡ true = is_eq_turned o (name f) (name n) ∙ same in
         let one : filter (are_same f) (xs ++ n ∷ []) ≡ filter (are_same f) xs
         ++ n ∷ [] = filter-append (are_same f) xs (n ∷ []) ∙ rw also refl in
         ap (λ l. (f, l) ∷ map (with_all (xs ++ n ∷ [])) fs) one
@@ -309,7 +281,7 @@ module _ {N P : Type 0} (name : N → P) (R : P → P → Ordering) where
     touched_later : (n : N) (xs : List N) (f : N) (fs : List N) (ws : List (N × List N)) → are_same n f ≡ false
         → map (with_all (xs ++ n ∷ [])) fs ≡ ws → map (with_all (xs ++ n ∷ [])) (f ∷ fs) ≡ with_all xs f ∷ ws
     touched_later n xs f fs ws other behind =
-        let also : are_same f n ≡ false = swapped (name f) (name n) ∙ other in
+        let also : are_same f n ≡ false = is_eq_turned o (name f) (name n) ∙ other in
         let kept : filter (are_same f) (xs ++ n ∷ [])
         ≡ filter (are_same f) xs = filter-append (are_same f) xs (n ∷ [])
         ∙ rw also (append-nil (filter (are_same f) xs)) in
@@ -367,13 +339,13 @@ module _ {N P : Type 0} (name : N → P) (R : P → P → Ordering) where
         → cond b (Some (length fs)) l ≡ option_or (place_of (λ m. is_eq (R q (name m))) fs)
         (cond (is_eq (R q (name n))) (Some (length fs)) None)
     placed_new n fs q l none was true same =
-        let also : is_eq (R q (name n)) ≡ true = swapped q (name n) ∙ same in
+        let also : is_eq (R q (name n)) ≡ true = is_eq_turned o q (name n) ∙ same in
         let away : place_of (λ m. is_eq (R q (name m))) fs
         ≡ None = (λ j. place_of (λ m. alike q (name n) (name m) also j) fs) ∙ none in
         rw away (rw also refl)
     placed_new n fs q l none was false other =
-        let also : is_eq (R q (name n)) ≡ false = swapped q (name n) ∙ other in
-        was ∙ rw also (sym (or_nothing (place_of (λ m. is_eq (R q (name m))) fs)))
+        let also : is_eq (R q (name n)) ≡ false = is_eq_turned o q (name n) ∙ other in
+        was ∙ rw also (sym (or_none (place_of (λ m. is_eq (R q (name m))) fs)))
 
     -- an item that is the first of its group
     pub met_first : (all left left' : List N) (entries entries' : List (P × ℕ))
@@ -418,8 +390,3 @@ module _ {N P : Type 0} (name : N → P) (R : P → P → Ordering) where
       let count : length groups ≡ length fs = ap length h.grouped ∙ length-map fs (with_all h.done) in
       let below : i < length fs = place_below (λ n. is_eq (R q (name n))) fs i (sym (h.placed q) ∙ at) in
       omega arith
-
--- one entry more
-pub pushed_as : {A B : Type 0} (f : A → B) (done done' : List A) (a : A) (b : B) → done' ≡ done ++ a ∷ [] → f a ≡ b
-    → map f done' ≡ map f done ++ b ∷ []
-pushed_as f done done' a b e p = ap (map f) e ∙ (map-append f done (a ∷ []) ∙ ap (λ x. map f done ++ x ∷ []) p)

@@ -6,9 +6,10 @@ use Rattle.std.specs.Map.{keys_of}
 use Rattle.std.specs.Prelude.{IfSome}
 use Rattle.std.specs.declared.cmp.Ordering.TheVariants.{Less}
 use Rattle.cedar_data.specs.Text.{text_cmp}
-use Rattle.cedar_identifiers.specs.declared.any_id.AnyId.{AnyId}
-use Rattle.cedar_names.specs.declared.extension_table.ExtensionTable.{ExtensionTable}
 use Rattle.schema_syntax_tokens.specs.declared.token.Token.{Token}
+use Rattle.cedar_identifiers.specs.declared.any_id.AnyId.{AnyId}
+use Rattle.cedar_identifiers.specs.declared.raw_name.RawName.{RawName}
+use Rattle.cedar_names.specs.declared.extension_table.ExtensionTable.{ExtensionTable}
 use Rattle.schema_syntax_parser.specs.declared.syntax.ItemSyntax.{ItemSyntax}
 use Rattle.schema_syntax_parser.specs.declared.syntax.ItemSyntax.TheVariants as item
 use Rattle.schema_syntax_tree.specs.declared.annotated.Annotated.{Annotated}
@@ -17,12 +18,12 @@ use Rattle.schema_syntax_tree.specs.declared.path.Path.{Path}
 use Rattle.schema_syntax_reader.specs.Trees.{IsItemOf}
 use Rattle.schema_syntax_reader.specs.LawfulTrees.{IsLawfulTree}
 use Rattle.schema_syntax_reader.proofs.ItemReads.{ReadItems, all_items}
-use Rattle.schema_convert.specs.Gathered.{IsGatheredOf}
-use Rattle.schema_convert.specs.Joined.{annotation_key_cmp, named, named_so}
-use Rattle.schema_convert.specs.Plain.{HasRisingNotes}
 use Rattle.schema_json.specs.declared.fragment.Fragment.{Fragment}
-use Rattle.cedar_identifiers.specs.declared.raw_name.RawName.{RawName}
-use Rattle.schema_convert_types.specs.Declarations.{as_written}
+use Rattle.schema_json.specs.Orders.{annotation_key_cmp}
+use Rattle.schema_json.specs.AsWritten.{as_written}
+use Rattle.schema_convert.specs.Gathered.{IsGatheredOf}
+use Rattle.schema_convert.specs.Joined.{named, named_so}
+use Rattle.schema_convert.specs.Plain.{HasRisingNotes}
 use Rattle.schema_convert.specs.Translated.{IsTranslation}
 use Rattle.schema_convert.specs.declared.gathering.Gathered.{Gathered}
 

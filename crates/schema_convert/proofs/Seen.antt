@@ -1,16 +1,17 @@
 -- Items that go into a map, one after the other, until one is there.
-use Rattle.std.proofs.Common.{◌≡◌, ℕ, suc, ◌+◌, ◌<◌, ◌≤◌, Bool, true, false, cond, List, [], ◌∷◌, ◌++◌, length, get_or}
-use Rattle.std.proofs.Common.{take, drop, map, find, Option, Some, None, refl, sym, ap, ◌∙◌, drop-cons, add-one}
+use Rattle.std.proofs.Common.{◌≡◌, ℕ, ◌+◌, ◌<◌, ◌≤◌, Bool, true, false, cond, List, [], ◌∷◌, ◌++◌, length, get_or}
+use Rattle.std.proofs.Common.{take, drop, map, find, Option, Some, None, refl, sym, ap, ◌∙◌}
 use Rattle.std.specs.declared.cmp.Ordering.{Ordering}
-use Rattle.std.specs.declared.cmp.Ordering.TheVariants.{Less, Equal, Greater}
-use Rattle.std.specs.Ordering.{is_eq, ordering_reverse}
+use Rattle.std.specs.Ordering.{is_eq}
 use Rattle.std.specs.BTreeMap.{is_at}
 use Rattle.std.specs.Borrow.{Bor}
 use Rattle.std.specs.Cmp.{IsTotalOrder}
 use Rattle.std.specs.Map.{lookup}
 use Rattle.std.specs.Option.{option_or, option_map}
-use Rattle.std.proofs.lemmas.List.{drop_all, map-append, take_more}
+use Rattle.std.proofs.lemmas.List.{drop_all, map-append, take_more, drop_more}
 use Rattle.std.proofs.lemmas.List.Folds.{find-append}
+use Rattle.cedar_data.proofs.Orders.{equal_from, is_eq_turned}
+use Rattle.cedar_data.proofs.Options.{or_none}
 use Rattle.schema_convert.specs.Repeats.{same_among, or_later, repeat_behind, first_repeat, both_now}
 
 -- the entries tell of each item what the items before the place tell, and none of these is a repeat
@@ -21,28 +22,13 @@ pub record Seen {K : Type 0} (R : K → K → Ordering) (items : List K) (i : �
 pub begun : {K : Type 0} (R : K → K → Ordering) (items : List K) → Seen R items 0 []
 begun R items = record { seen = λ q. refl; rest = refl }
 
-equal_from : (a : Ordering) → is_eq a ≡ true → a ≡ Equal
-equal_from Less h = cc
-equal_from Equal h = refl
-equal_from Greater h = cc
-
-pub turned : (a : Ordering) → is_eq (ordering_reverse a) ≡ is_eq a
-turned Less = refl
-turned Equal = refl
-turned Greater = refl
-
-or_none : {K : Type 0} (o : Option K) → option_or o None ≡ o
-or_none None = refl
-or_none (Some x) = refl
-
 take_one : {K : Type 0} (items : List K) (i : ℕ) (x : K) → i < length items → x ≡ get_or items i x
     → take (i + 1) items ≡ take i items ++ x ∷ []
 take_one items i x lt e = take_more items i x lt ∙ ap (λ y. take i items ++ y ∷ []) (sym e)
 
 drop_one : {K : Type 0} (items : List K) (i : ℕ) (x : K) → i < length items → x ≡ get_or items i x
     → drop i items ≡ x ∷ drop (i + 1) items
-drop_one items i x lt e = drop-cons items i x lt
-    ∙ (ap (λ y. y ∷ drop (suc i) items) (sym e) ∙ ap (λ j. x ∷ drop j items) (sym (add-one i)))
+drop_one items i x lt e = drop_more items i x lt ∙ ap (λ y. y ∷ drop (i + 1) items) (sym e)
 
 module _ {K : Type 0} (R : K → K → Ordering) (items : List K) where
   pub found : (i : ℕ) (entries : List (K × K)) (x y : K) → Seen R items i entries → i < length items
@@ -60,10 +46,10 @@ module _ {K : Type 0} (R : K → K → Ordering) (items : List K) where
     by_test : (x q : K) (l : Option K) (b : Bool) → is_eq (R x q) ≡ b → (is_eq (R x q) ≡ true → l ≡ None)
         → cond b (Some x) l ≡ option_or l (find (is_at (R q)) (x ∷ []))
     by_test x q l true e free =
-        let at : is_eq (R q x) ≡ true = ap is_eq (o.antisymm q x) ∙ (turned (R x q) ∙ e) in
+        let at : is_eq (R q x) ≡ true = is_eq_turned o q x ∙ e in
         rw (free e) (rw at refl)
     by_test x q l false e free =
-        let at : is_eq (R q x) ≡ false = ap is_eq (o.antisymm q x) ∙ (turned (R x q) ∙ e) in
+        let at : is_eq (R q x) ≡ false = is_eq_turned o q x ∙ e in
         rw at (sym (or_none l))
 
     pub pushed : (i : ℕ) (entries entries' : List (K × K)) (x : K) → Seen R items i entries → i < length items

@@ -10,13 +10,14 @@ use Rattle.std.proofs.lemmas.List.{map-append}
 use Rattle.cedar_data.specs.Maps.{map_of}
 use Rattle.cedar_data.specs.declared.node.Node.{Node}
 use Rattle.cedar_identifiers.specs.declared.id.Id.{Id}
+use Rattle.cedar_names.specs.declared.extension_table.ExtensionTable.{ExtensionTable}
+use Rattle.cedar_names.specs.Orders.{id_text_order}
 use Rattle.schema_syntax_tree.specs.declared.annotated.Annotated.{Annotated}
 use Rattle.schema_syntax_tree.specs.declared.namespace.Namespace.{Namespace}
 use Rattle.schema_syntax_tree.specs.declared.path.Path.{Path}
-use Rattle.cedar_names.specs.declared.extension_table.ExtensionTable.{ExtensionTable}
 use Rattle.schema_convert_errors.specs.declared.warnings.SchemaWarning.{SchemaWarning}
 use Rattle.schema_convert.specs.Borrowed.{entry_now, optional_now}
-use Rattle.schema_convert.specs.NamesIn.{id_text_cmp, path_cmp}
+use Rattle.schema_convert.specs.NamesIn.{path_cmp}
 use Rattle.schema_convert.specs.Shadowings.{by_id, by_name, builtin_shadowed, entity_shadowed, common_warnings}
 use Rattle.schema_convert.specs.Shadowings.{warnings_in, declared_warnings}
 use Rattle.schema_convert.proofs.Borrowed.{map_of_is, lookup_is}
@@ -33,10 +34,11 @@ pub pushed_now : {A B : Type 0} (f : A → B) (done done' : List A) (a : A) (b :
 pushed_now f done done' a b e p = ap (map f) e ∙ (map-append f done (a ∷ []) ∙ ap (λ x. map f done ++ x ∷ []) p)
 
 pub ids_sorted : (names : List (Bor (Node Id))) (entries sorted : List (Bor Id × Bor (Node Id)))
-    → sorted ≡ map_of (λ a b. id_text_cmp a.now b.now) entries → map entry_now entries ≡ id_entries names
+    → sorted ≡ map_of (λ a b. id_text_order a.now b.now) entries → map entry_now entries ≡ id_entries names
     → map entry_now sorted ≡ by_id (map (λ x. x.now) names)
 ids_sorted names entries sorted h e = ap (map entry_now) h
-    ∙ (map_of_is (λ (k : Bor Id). k.now) (λ (x : Bor (Node Id)). x.now) id_text_cmp entries ∙ ap (map_of id_text_cmp) e)
+    ∙ (map_of_is (λ (k : Bor Id). k.now) (λ (x : Bor (Node Id)). x.now) id_text_order entries
+    ∙ ap (map_of id_text_order) e)
 
 abbrev pub name_entries : List (Annotated Namespace) → List (Option Path × Annotated Namespace)
 name_entries namespaces = map (λ n. (n.item.name, n)) namespaces
@@ -72,17 +74,17 @@ module _ (table : ExtensionTable) where
   -- a common type's warnings, of the entity type that was found
   pub common_made : (old w1 w2 : List SchemaWarning) (common : Node Id) (entities : List (Bor Id × Bor (Node Id)))
       (found : Option (Bor (Node Id)))
-      → found ≡ lookup (λ k. is_eq (id_text_cmp common.node k.now)) entities
+      → found ≡ lookup (λ k. is_eq (id_text_order common.node k.now)) entities
       → w1 ≡ old ++ entity_shadowed (option_map (λ (n : Bor (Node Id)). n.now) found) common
       → w2 ≡ w1 ++ builtin_shadowed table common → w2 ≡ old ++ common_warnings table (map entry_now entities) common
   common_made old w1 w2 common entities found f e b =
       let same : option_map (λ (n : Bor (Node Id)). n.now) found
-      ≡ lookup (is_at (id_text_cmp common.node)) (map entry_now entities) =
+      ≡ lookup (is_at (id_text_order common.node)) (map entry_now entities) =
       ap (option_map (λ (n : Bor (Node Id)). n.now)) f
       ∙ sym (lookup_is (λ (k : Bor Id). k.now) (λ (x : Bor (Node Id)). x.now)
-      (is_at (id_text_cmp common.node)) entities) in
+      (is_at (id_text_order common.node)) entities) in
       b ∙ (ap (λ w. w ++ builtin_shadowed table common) (e ∙ ap (λ o. old ++ entity_shadowed o common) same)
-      ∙ append_assoc old (entity_shadowed (lookup (is_at (id_text_cmp common.node)) (map entry_now entities)) common)
+      ∙ append_assoc old (entity_shadowed (lookup (is_at (id_text_order common.node)) (map entry_now entities)) common)
       (builtin_shadowed table common))
 
   -- the warnings of a namespace, of its sorted names

@@ -13,16 +13,16 @@ use Rattle.cedar_data.specs.Maps.{with_entries, map_of}
 use Rattle.cedar_data.specs.declared.node.Node.{Node}
 use Rattle.cedar_identifiers.specs.declared.id.Id.{Id}
 use Rattle.cedar_names.specs.declared.extension_table.ExtensionTable.{ExtensionTable}
-use Rattle.schema_convert_errors.specs.declared.warnings.SchemaWarning.{SchemaWarning}
+use Rattle.cedar_names.specs.Orders.{id_text_order, id_text_total}
 use Rattle.schema_syntax_tree.specs.declared.annotated.Annotated.{Annotated}
 use Rattle.schema_syntax_tree.specs.declared.declaration.Declaration.{Declaration}
-use Rattle.schema_convert.specs.NamesIn.{entity_names_in, common_names_in, id_text_cmp}
-use Rattle.schema_convert.specs.Shadowings.{by_id, is_taken, builtin_shadowed, warnings_in, declared_warnings}
 use Rattle.schema_convert_types.proofs.Filtered.{given_of_filtered}
-use Rattle.schema_convert.proofs.Warnings.{ids_total}
+use Rattle.schema_convert_errors.specs.declared.warnings.SchemaWarning.{SchemaWarning}
+use Rattle.schema_convert.specs.NamesIn.{entity_names_in, common_names_in}
+use Rattle.schema_convert.specs.Shadowings.{by_id, is_taken, builtin_shadowed, warnings_in, declared_warnings}
 
 -- words that their order does not tell apart
-same_text : (a b : Id) → id_text_cmp a b ≡ Equal → a.text ≡ b.text
+same_text : (a b : Id) → id_text_order a b ≡ Equal → a.text ≡ b.text
 same_text a b e = encodes_same a.text b.text (exact_bytes (encode_utf8_all a.text) (encode_utf8_all b.text) e)
 
 -- the key is the name's word
@@ -30,22 +30,22 @@ abbrev IsOwn : Id × Node Id → Type 0
 IsOwn e = e.0.text ≡ e.1.node.text
 
 put_own : (k : Id) (v : Node Id) (es : List (Id × Node Id)) → IsOwn (k, v) → AllByRecursion IsOwn es
-    → AllByRecursion IsOwn (insert_entry id_text_cmp es k v)
+    → AllByRecursion IsOwn (insert_entry id_text_order es k v)
 put_own k v [] own all = (own, tt)
-put_own k v (e ∷ es) own all = by (put_own k v es own all.1) (id_text_cmp k e.0) refl
+put_own k v (e ∷ es) own all = by (put_own k v es own all.1) (id_text_order k e.0) refl
   where
-    by : AllByRecursion IsOwn (insert_entry id_text_cmp es k v) → (r : Ordering) → id_text_cmp k e.0 ≡ r
+    by : AllByRecursion IsOwn (insert_entry id_text_order es k v) → (r : Ordering) → id_text_order k e.0 ≡ r
         → AllByRecursion IsOwn
-        (match_ordering r ((k, v) ∷ e ∷ es) ((e.0, v) ∷ es) (e ∷ insert_entry id_text_cmp es k v))
+        (match_ordering r ((k, v) ∷ e ∷ es) ((e.0, v) ∷ es) (e ∷ insert_entry id_text_order es k v))
     by more Less h = (own, all)
     by more Equal h = (sym (same_text k e.0 h) ∙ own, all.1)
     by more Greater h = (all.0, more)
 
 with_own : (es more : List (Id × Node Id)) → AllByRecursion IsOwn es → AllByRecursion IsOwn more
-    → AllByRecursion IsOwn (with_entries id_text_cmp es more)
+    → AllByRecursion IsOwn (with_entries id_text_order es more)
 with_own es [] all own = all
 with_own es (e ∷ more) all own =
-    with_own (insert_entry id_text_cmp es e.0 e.1) more (put_own e.0 e.1 es own.0 all) own.1
+    with_own (insert_entry id_text_order es e.0 e.1) more (put_own e.0 e.1 es own.0 all) own.1
 
 each_own : (names : List (Node Id)) → AllByRecursion IsOwn (map (λ n. (n.node, n)) names)
 each_own [] = tt
@@ -95,9 +95,9 @@ module _ (table : ExtensionTable) where
   taken_alone names =
       let taken = filter (λ (n : Node Id). is_taken table n.node.text) names in
       all_told (by_id names) (with_own [] (map (λ n. (n.node, n)) names) tt (each_own names))
-      ∙ given_of_filtered ids_total is_taken_key (λ a b e. ap (is_taken table) (same_text a b e)) told_by_key
+      ∙ given_of_filtered id_text_total is_taken_key (λ a b e. ap (is_taken table) (same_text a b e)) told_by_key
       (λ e h. ap (λ t. cond t (told e) []) h) (map (λ n. (n.node, n)) names)
-      ∙ ap (λ l. flat_map told_by_key (map_of id_text_cmp l)) (taken_entries names)
+      ∙ ap (λ l. flat_map told_by_key (map_of id_text_order l)) (taken_entries names)
       ∙ sym (all_told (by_id taken) (with_own [] (map (λ n. (n.node, n)) taken) tt (each_own taken)))
 
   -- where no common type is declared, the warnings are those of entity types alone

@@ -3,35 +3,27 @@ use Rattle.std.proofs.Common.{◌≡◌, Bool, true, false, cond, List, [], ◌�
 use Rattle.std.proofs.Common.{if◌then◌else◌, refl, sym, ap, ◌∙◌, true≢false, flat_map}
 use Rattle.std.specs.declared.cmp.Ordering.{Ordering}
 use Rattle.std.specs.declared.cmp.Ordering.TheVariants.{Less, Equal, Greater}
-use Rattle.std.specs.Ordering.{is_eq, ordering_reverse, match_ordering}
+use Rattle.std.specs.Ordering.{is_eq, match_ordering}
 use Rattle.std.specs.BTreeMap.{insert_entry, is_at}
 use Rattle.std.specs.Cmp.{IsTotalOrder}
-use Rattle.std.specs.Cmp.Lexicographic.{lists_total}
 use Rattle.std.specs.Map.{lookup}
 use Rattle.std.specs.Option.{option_or}
-use Rattle.std.specs.Str.{encode_utf8_all}
 use Rattle.std.proofs.lemmas.List.{reverse-append}
-use Rattle.std.proofs.lemmas.Cmp.{on_total, nat_cmp_total}
 use Rattle.cedar_data.specs.Maps.{with_entries, map_of, last_at}
+use Rattle.cedar_data.proofs.Orders.{equal_from, is_eq_turned}
+use Rattle.cedar_data.proofs.Options.{or_none}
 use Rattle.cedar_identifiers.specs.declared.any_id.AnyId.{AnyId}
 use Rattle.schema_syntax_tree.specs.declared.annotated.Annotated.{Annotated}
 use Rattle.schema_syntax_tree.specs.declared.namespace.Namespace.{Namespace}
+use Rattle.schema_json.specs.Orders.{annotation_key_cmp}
+use Rattle.schema_json.proofs.Orders.{annotation_keys_total}
 use Rattle.schema_convert.specs.Faults.{first_some}
-use Rattle.schema_convert.specs.Joined.{annotation_key_cmp, first_values}
-use Rattle.schema_convert.specs.Joined.{value_of}
-
-pub equal_from : (a : Ordering) → is_eq a ≡ true → a ≡ Equal
-equal_from Less h = cc
-equal_from Equal h = refl
-equal_from Greater h = cc
+use Rattle.schema_convert.specs.Joined.{first_values}
+use Rattle.schema_convert.specs.Joined.{value_at_key}
 
 or_assoc : {X : Type 0} (a b c : Option X) → option_or (option_or a b) c ≡ option_or a (option_or b c)
 or_assoc None b c = refl
 or_assoc (Some x) b c = refl
-
-pub or_none : {X : Type 0} (a : Option X) → option_or a None ≡ a
-or_none None = refl
-or_none (Some x) = refl
 
 pub by_cond : {X : Type 0} (b : Bool) (v : X) (o : Option X)
     → cond b (Some v) o ≡ option_or (if b then Some v else None) o
@@ -78,16 +70,10 @@ put_greater false true v w l m h i = refl
 put_greater false false v w l m h i = i
 
 module _ {K : Type 0} (R : K → K → Ordering) (o : IsTotalOrder R) where
-  turned : (a : Ordering) → is_eq (ordering_reverse a) ≡ is_eq a
-  turned Less = refl
-  turned Equal = refl
-  turned Greater = refl
-
   -- equal keys are equal to the same
   alike : (q k e : K) → is_eq (R k e) ≡ true → is_eq (R q k) ≡ is_eq (R q e)
   alike q k e h =
-      ap is_eq (o.antisymm q k) ∙ (turned (R k q)
-      ∙ (ap is_eq (o.congr k e q (equal_from (R k e) h)) ∙ (sym (turned (R e q)) ∙ sym (ap is_eq (o.antisymm q e)))))
+      is_eq_turned o q k ∙ (ap is_eq (o.congr k e q (equal_from (R k e) h)) ∙ is_eq_turned o e q)
 
   apart : (q k e : K) → is_eq (R k e) ≡ false → is_eq (R q k) ≡ true → is_eq (R q e) ≡ false
   apart q k e h s = ap is_eq (o.congr q k e (equal_from (R q k) s)) ∙ h
@@ -122,19 +108,16 @@ module _ {K X : Type 0} (R : K → K → Ordering) (o : IsTotalOrder R) where
   pub map_last : (q : K) (es : List (K × X)) → lookup (is_at (R q)) (map_of R es) ≡ last_at (is_at (R q)) es
   map_last q es = put_all q [] es ∙ or_none (last_at (is_at (R q)) es)
 
-keys_total : IsTotalOrder annotation_key_cmp
-keys_total = on_total (λ (key : AnyId). key.text) (on_total encode_utf8_all (lists_total nat_cmp_total))
-
 gathered : (key : AnyId) (openings : List (Annotated Namespace))
     → lookup (is_at (annotation_key_cmp key)) (flat_map (λ n. n.annotations.0) openings)
-    ≡ first_some (λ n. value_of key n.annotations) openings
+    ≡ first_some (λ n. value_at_key key n.annotations) openings
 gathered key [] = refl
 gathered key (n ∷ openings) =
     lookup-append (is_at (annotation_key_cmp key)) n.annotations.0 (flat_map (λ m. m.annotations.0) openings)
-    ∙ ap (option_or (value_of key n.annotations)) (gathered key openings)
+    ∙ ap (option_or (value_at_key key n.annotations)) (gathered key openings)
 
 pub valued : (key : AnyId) (openings : List (Annotated Namespace))
-    → value_of key (first_values openings) ≡ first_some (λ n. value_of key n.annotations) openings
+    → value_at_key key (first_values openings) ≡ first_some (λ n. value_at_key key n.annotations) openings
 valued key openings =
-    map_last annotation_key_cmp keys_total key (reverse (flat_map (λ n. n.annotations.0) openings))
+    map_last annotation_key_cmp annotation_keys_total key (reverse (flat_map (λ n. n.annotations.0) openings))
     ∙ (last-reverse (is_at (annotation_key_cmp key)) (flat_map (λ n. n.annotations.0) openings) ∙ gathered key openings)

@@ -1,20 +1,19 @@
 -- What a tree without faults is warned of.
 use Rattle.std.proofs.Common.{◌≡◌, ◌↔◌, ◌⊎◌, inl, inr, Bool, true, false, List, [], ◌∷◌, find, Option, Some, None}
 use Rattle.std.proofs.Common.{if◌then◌else◌, refl, sym, ap, ◌∙◌, subst, true≢false, flat_map, is_some}
-use Rattle.std.specs.declared.cmp.Ordering.{Ordering}
-use Rattle.std.specs.declared.cmp.Ordering.TheVariants.{Less, Equal, Greater}
+use Rattle.std.proofs.lemmas.Option.{same_Some}
+use Rattle.std.proofs.lemmas.Bool.{or_parts}
+use Rattle.std.specs.declared.cmp.Ordering.TheVariants.{Equal}
 use Rattle.std.specs.List.{AllByRecursion, list_any}
-use Rattle.std.specs.Ordering.{is_eq, ordering_reverse}
+use Rattle.std.specs.Ordering.{is_eq}
 use Rattle.std.specs.BTreeMap.{is_at}
 use Rattle.std.specs.Map.{lookup}
 use Rattle.std.specs.Option.{option_cmp}
-use Rattle.std.specs.Str.{encode_utf8_all}
-use Rattle.std.specs.Cmp.{IsTotalOrder}
-use Rattle.std.specs.Cmp.Lexicographic.{lists_total}
-use Rattle.std.proofs.lemmas.Cmp.{on_total, nat_cmp_total}
 use Rattle.cedar_data.specs.declared.node.Node.{Node}
+use Rattle.cedar_data.proofs.Orders.{equal_from}
 use Rattle.cedar_identifiers.specs.declared.id.Id.{Id}
 use Rattle.cedar_names.specs.declared.extension_table.ExtensionTable.{ExtensionTable}
+use Rattle.cedar_names.specs.Orders.{id_text_order, id_text_total}
 use Rattle.schema_syntax_tree.specs.declared.annotated.Annotated.{Annotated}
 use Rattle.schema_syntax_tree.specs.declared.declaration.Declaration.{Declaration}
 use Rattle.schema_syntax_tree.specs.declared.namespace.Namespace.{Namespace}
@@ -22,7 +21,7 @@ use Rattle.schema_convert_errors.specs.declared.warnings.SchemaWarning.{SchemaWa
 use Rattle.schema_convert_errors.specs.declared.warnings.SchemaWarning.TheVariants.{ShadowsEntity}
 use Rattle.schema_convert.specs.Faults.{translation_faults}
 use Rattle.schema_convert.specs.Joined.{have_one_name, joined}
-use Rattle.schema_convert.specs.NamesIn.{entity_names_in, common_names_in, id_cmp, id_text_cmp, path_cmp}
+use Rattle.schema_convert.specs.NamesIn.{entity_names_in, common_names_in, id_cmp, path_cmp}
 use Rattle.schema_convert.specs.Repeats.{NoneRepeats}
 use Rattle.schema_convert.specs.Shadowings.{by_id, is_taken, builtin_shadowed, entity_shadowed, common_warnings}
 use Rattle.schema_convert.specs.Shadowings.{declared_warnings, shadowings}
@@ -30,14 +29,9 @@ use Rattle.schema_convert.specs.Translatable.{IsLawfulNamespace}
 use Rattle.schema_convert.specs.Warned.{IsAmong, SaysBuiltin, SaysEntity, IsOfDeclared, IsWarnedOf}
 use Rattle.schema_convert.proofs.Among.{among_append, flat_entries, looked_up}
 use Rattle.schema_convert.proofs.FirstRepeat.{AreNew, new_from}
-use Rattle.schema_convert.proofs.Grouped.{names_total}
+use Rattle.schema_convert.proofs.Grouped.{names_total, one_name_swaps}
 use Rattle.schema_convert.proofs.Lawful.{lawful}
 use Rattle.schema_convert.proofs.Own.{own_names}
-use Rattle.schema_convert.proofs.Ranked.{either_false}
-use Rattle.schema_convert.proofs.Valued.{equal_from}
-
-pub ids_total : IsTotalOrder id_text_cmp
-ids_total = on_total (λ (id : Id). id.text) (on_total encode_utf8_all (lists_total nat_cmp_total))
 
 abbrev id_eq : Node Id → Node Id → Bool
 id_eq a b = is_eq (id_cmp a b)
@@ -54,9 +48,6 @@ builtin_said table d w = builtin_by w (is_taken table d.node.text) _
 no : (e : Node Id) → None ≡ Some e → ⊥
 no e h = true≢false (sym (ap is_some h))
 
-same : (a b : Node Id) → Some a ≡ Some b → a ≡ b
-same a b h = cc
-
 entity_said : (o : Option (Node Id)) (c : Node Id) (w : SchemaWarning)
     → IsAmong w (entity_shadowed o c) ↔ (e : Node Id) × (o ≡ Some e)
     × (w ≡ ShadowsEntity (record { name = c.node.text; entity_loc = e.loc; common_loc = c.loc }))
@@ -64,7 +55,7 @@ entity_said None c w = (λ h. absurd h, λ h. absurd (no h.0 h.1))
 entity_said (Some e) c w = (
   λ h. elim h [ inl i ↦ (e, refl, i) | inr i ↦ absurd i ],
   λ h. inl (h.2 ∙ ap (λ (d : Node Id). ShadowsEntity
-      (record { name = c.node.text; entity_loc = d.loc; common_loc = c.loc })) (sym (same e h.0 h.1))),
+      (record { name = c.node.text; entity_loc = d.loc; common_loc = c.loc })) (sym (same_Some e h.0 h.1))),
 )
 
 -- what the names of one kind tell, where none repeats
@@ -74,12 +65,13 @@ module _ (names : List (Node Id)) (once : NoneRepeats id_cmp names) where
 
   of_names : (f : Id × Node Id → List SchemaWarning) (w : SchemaWarning)
       → IsAmong w (flat_map f (by_id names)) ↔ (d : Node Id) × IsAmong d names × IsAmong w (f (d.node, d))
-  of_names f w = flat_entries id_text_cmp ids_total (λ (d : Node Id). d.node) (λ (d : Node Id). d) f w names new
+  of_names f w = flat_entries id_text_order id_text_total (λ (d : Node Id). d.node) (λ (d : Node Id). d) f w names new
 
   at_name : (c e : Node Id)
-      → lookup (is_at (id_text_cmp c.node)) (by_id names) ≡ Some e ↔ IsAmong e names × (id_cmp c e ≡ Equal)
+      → lookup (is_at (id_text_order c.node)) (by_id names) ≡ Some e ↔ IsAmong e names × (id_cmp c e ≡ Equal)
   at_name c e =
-      let found = looked_up id_text_cmp ids_total (λ (d : Node Id). d.node) (λ (d : Node Id). d) c.node names e new in (
+      let found = looked_up id_text_order id_text_total (λ (d : Node Id). d.node)
+      (λ (d : Node Id). d) c.node names e new in (
         λ h. let f = found.0 h in (
           subst (λ d. IsAmong d names) f.3 f.1,
           equal_from (id_cmp c e)
@@ -98,10 +90,10 @@ module _ (table : ExtensionTable) (decls : List (Annotated (Node Declaration))) 
   entities = entity_names_in decls
 
   entity_of : (c : Node Id)
-      → IsAmong w (entity_shadowed (lookup (is_at (id_text_cmp c.node)) (by_id entities)) c) ↔ (e : Node Id)
+      → IsAmong w (entity_shadowed (lookup (is_at (id_text_order c.node)) (by_id entities)) c) ↔ (e : Node Id)
       × IsAmong e entities × SaysEntity c e w
   entity_of c =
-      let said = entity_said (lookup (is_at (id_text_cmp c.node)) (by_id entities)) c w in (
+      let said = entity_said (lookup (is_at (id_text_order c.node)) (by_id entities)) c w in (
         λ h. let s = said.0 h in let at = (at_name entities entities_once c s.0).0 s.1 in (s.0, at.0, (at.1, s.2)),
         λ h. said.1 (h.0, (at_name entities entities_once c h.0).1 (h.1, h.2.0), h.2.1),
       )
@@ -110,7 +102,7 @@ module _ (table : ExtensionTable) (decls : List (Annotated (Node Declaration))) 
       → IsAmong w (common_warnings table (by_id entities) c) ↔ ((e : Node Id) × IsAmong e entities × SaysEntity c e w)
       ⊎ SaysBuiltin table c w
   common_of c =
-      let split = among_append w (entity_shadowed (lookup (is_at (id_text_cmp c.node)) (by_id entities)) c)
+      let split = among_append w (entity_shadowed (lookup (is_at (id_text_order c.node)) (by_id entities)) c)
       (builtin_shadowed table c) in (
         λ h. elim (split.0 h) [ inl e ↦ inl ((entity_of c).0 e) | inr b ↦ inr ((builtin_said table c w).0 b) ],
         λ h. split.1 (elim h [ inl e ↦ inl ((entity_of c).1 e) | inr b ↦ inr ((builtin_said table c w).1 b) ]),
@@ -143,22 +135,13 @@ all_at P x [] h i = absurd i
 all_at P x (y ∷ xs) h (inl is) = subst P (sym is) h.0
 all_at P x (y ∷ xs) h (inr i) = all_at P x xs h.1 i
 
-turned : (a : Ordering) → is_eq (ordering_reverse a) ≡ is_eq a
-turned Less = refl
-turned Equal = refl
-turned Greater = refl
-
-swapped : (a b : Annotated Namespace) → have_one_name a b ≡ have_one_name b a
-swapped a b = ap is_eq (names_total.antisymm a.item.name b.item.name)
-    ∙ turned (option_cmp path_cmp b.item.name a.item.name)
-
 none_before : (n : Annotated Namespace) (before : List (Annotated Namespace))
     → list_any (λ b. have_one_name b n) before ≡ false
     → find (have_one_name n) before ≡ None
 none_before n [] h = refl
 none_before n (b ∷ before) h =
-    let both = either_false (have_one_name b n) (list_any (λ c. have_one_name c n) before) h in
-    rw (swapped n b ∙ both.0) (none_before n before both.1)
+    let both = or_parts (have_one_name b n) (list_any (λ c. have_one_name c n) before) h in
+    rw (one_name_swaps n b ∙ both.0) (none_before n before both.1)
 
 -- the namespaces of a tree are warned of one by one
 of_namespaces : (tree : List (Annotated Namespace)) (table : ExtensionTable) (w : SchemaWarning)

@@ -1,10 +1,10 @@
 -- What is gathered of a tree, item by item.
 use Rattle.std.specs.Prelude.{◌≡◌, ℕ, Bool, true, false, List, [], ◌∷◌, ◌++◌, Option, None, Some}
 use Rattle.std.specs.List.{All, AllByRecursion, AllZip, filter_map, flat_map}
-use Rattle.cedar_identifiers.specs.declared.name.Name.{Name}
 use Rattle.cedar_data.specs.Maps.{map_of}
 use Rattle.cedar_data.specs.Text.{text_cmp}
 use Rattle.cedar_data.specs.declared.node.Node.{Node}
+use Rattle.cedar_identifiers.specs.declared.name.Name.{Name}
 use Rattle.cedar_identifiers.specs.declared.annotations.Annotations.{Annotations}
 use Rattle.cedar_identifiers.specs.declared.raw_name.RawName.{RawName}
 use Rattle.cedar_names.specs.declared.extension_table.ExtensionTable.{ExtensionTable}
@@ -12,31 +12,32 @@ use Rattle.schema_syntax_parser.specs.declared.syntax.AnnotationSyntax.{Annotati
 use Rattle.schema_syntax_parser.specs.declared.syntax.DeclaredSyntax.{DeclaredSyntax}
 use Rattle.schema_syntax_parser.specs.declared.syntax.ItemSyntax.{ItemSyntax}
 use Rattle.schema_syntax_parser.specs.declared.syntax.PathSyntax.{PathSyntax}
-use Rattle.schema_syntax_reader.specs.Leaves.{AreNotes}
-use Rattle.schema_syntax_reader.specs.Placed.{NoSiteFault}
-use Rattle.schema_syntax_reader.specs.Sites.{Site, annotations, path_sites, declared_sites, item_sites}
-use Rattle.schema_syntax_reader.specs.Trees.{IsDeclaredOf, IsItemOf, IsPathOf}
 use Rattle.schema_syntax_tree.specs.declared.annotated.Annotated.{Annotated}
 use Rattle.schema_syntax_tree.specs.declared.declaration.Declaration.{Declaration}
 use Rattle.schema_syntax_tree.specs.declared.namespace.Namespace.{Namespace}
 use Rattle.schema_syntax_tree.specs.declared.path.Path.{Path}
+use Rattle.schema_syntax_reader.specs.Leaves.{AreNotes}
+use Rattle.schema_syntax_reader.specs.Placed.{NoSiteFault}
+use Rattle.schema_syntax_reader.specs.Sites.{Site, annotations, path_sites, declared_sites, item_sites}
+use Rattle.schema_syntax_reader.specs.Trees.{IsDeclaredOf, IsItemOf, IsPathOf}
 use Rattle.schema_json.specs.declared.fragment.NamespaceDefinition.{NamespaceDefinition}
-use Rattle.schema_convert_types.specs.Declarations.{as_written}
-use Rattle.schema_convert_types.specs.Fragments.{common_cmp, unreserved_cmp, common_entries, entity_entries}
+use Rattle.schema_json.specs.Orders.{unreserved_cmp, common_cmp}
+use Rattle.schema_json.specs.AsWritten.{as_written}
+use Rattle.schema_convert_types.specs.Fragments.{common_entries, entity_entries}
 use Rattle.schema_convert_types.specs.Fragments.{action_entries, declarable_name, definition_of, namespace_entry}
 use Rattle.schema_convert_types.specs.Names.{internal_name_of}
 use Rattle.schema_convert_types.specs.declared.namespaces.Entries.{Entries}
 use Rattle.schema_convert.specs.Joined.{named, outside}
 use Rattle.schema_convert.specs.Faults.{is_reserved_path}
-use Rattle.schema_convert.specs.Plain.{IsPlain, AreOnce, AreUnlike, ArePlain, IsPlainNamespace}
+use Rattle.schema_convert.specs.Plain.{IsPlainDeclaration, AreOnce, AreUnlike, ArePlain, IsPlainNamespace}
 use Rattle.schema_convert.specs.declared.gathering.Gathered.{Gathered}
 
 -- each of the declarations is plain by itself
 abbrev pub EachPlain : ExtensionTable → List (Annotated (Node Declaration)) → Type 0
-EachPlain table decls = AllByRecursion (λ d. IsPlain table d.item.node) decls
+EachPlain table decls = AllByRecursion (λ d. IsPlainDeclaration table d.item.node) decls
 
 -- the entries after are those before, and those of these declarations, each of which is plain
-pub record Adds (table : ExtensionTable) (before after : Entries) (decls : List (Annotated (Node Declaration)))
+pub record AddsEntries (table : ExtensionTable) (before after : Entries) (decls : List (Annotated (Node Declaration)))
     : Type 0 where
   pub commons : after.commons.items ≡ before.commons.items ++ common_entries decls
   pub entities : after.entities.items ≡ before.entities.items ++ entity_entries decls
@@ -70,7 +71,7 @@ pub record IsGatheredOf (table : ExtensionTable) (tree : List (Annotated Namespa
 -- a declaration outside of every namespace is gathered too
 pub record AddsOutside (table : ExtensionTable) (before after : Gathered) (decl : Annotated (Node Declaration))
     : Type 0 where
-  pub entries : Adds table before.outside after.outside (decl ∷ [])
+  pub entries : AddsEntries table before.outside after.outside (decl ∷ [])
   pub others : after.namespaces.items ≡ before.namespaces.items
   pub some : after.has_outside ≡ true
 
@@ -80,10 +81,10 @@ pub record AddsRead (source : List ℕ) (table : ExtensionTable) (raws : List De
   pub decls : List (Annotated (Node Declaration))
   pub are : AllZip (IsDeclaredOf source) raws decls
   pub lawful : All (NoSiteFault source) (flat_map declared_sites raws)
-  pub adds : Adds table before after decls
+  pub adds : AddsEntries table before after decls
 
 -- the declarations were read, and this is what they define together
-pub record IsReadAs (source : List ℕ) (table : ExtensionTable) (raws : List DeclaredSyntax) (notes : Annotations)
+pub record IsGatheredAs (source : List ℕ) (table : ExtensionTable) (raws : List DeclaredSyntax) (notes : Annotations)
     (d : NamespaceDefinition RawName as_written) : Type 0 where
   pub decls : List (Annotated (Node Declaration))
   pub are : AllZip (IsDeclaredOf source) raws decls
@@ -108,7 +109,7 @@ pub record AddsNamed (source : List ℕ) (table : ExtensionTable) (list : List A
   pub lawful : All (NoSiteFault source) (annotations list ∷ path_sites name)
   pub free : is_reserved_path path ≡ false
   pub keyed : declarable_name (internal_name_of path) ≡ Some key
-  pub read : IsReadAs source table raws notes definition
+  pub read : IsGatheredAs source table raws notes definition
   pub entry : after ≡ before ++ (Some key, definition) ∷ []
 
 -- a namespace that has a name is gathered too

@@ -5,15 +5,14 @@ use Rattle.std.specs.List.{filter, flat_map, list_any}
 use Rattle.std.specs.Map.{lookup}
 use Rattle.std.specs.Option.{option_cmp}
 use Rattle.std.specs.Ordering.{is_eq}
-use Rattle.std.specs.declared.cmp.Ordering.{Ordering}
 use Rattle.cedar_data.specs.Maps.{map_of}
-use Rattle.cedar_data.specs.Text.{text_cmp}
 use Rattle.cedar_data.specs.declared.node.Node.{Node}
 use Rattle.cedar_identifiers.specs.declared.annotations.Annotations.{Annotations}
 use Rattle.cedar_identifiers.specs.declared.any_id.AnyId.{AnyId}
 use Rattle.schema_syntax_tree.specs.declared.annotated.Annotated.{Annotated}
 use Rattle.schema_syntax_tree.specs.declared.declaration.Declaration.{Declaration}
 use Rattle.schema_syntax_tree.specs.declared.namespace.Namespace.{Namespace}
+use Rattle.schema_json.specs.Orders.{annotation_key_cmp}
 use Rattle.schema_convert.specs.NamesIn.{path_cmp}
 
 -- the namespace alone, where it has a name
@@ -50,10 +49,6 @@ first_openings namespaces = first_of_each have_one_name namespaces
 abbrev pub openings_of : Annotated Namespace → List (Annotated Namespace) → List (Annotated Namespace)
 openings_of n namespaces = filter (have_one_name n) namespaces
 
--- annotation keys go by their texts
-abbrev pub annotation_key_cmp : AnyId → AnyId → Ordering
-annotation_key_cmp a b = text_cmp a.text b.text
-
 -- Each annotation key with its first value: the entries are put into the map from the last one to the first.
 abbrev pub first_values : List (Annotated Namespace) → Annotations
 first_values openings = record { 0 = map_of annotation_key_cmp (reverse (flat_map (λ n. n.annotations.0) openings)) }
@@ -81,8 +76,8 @@ abbrev pub joined : List (Annotated Namespace) → List (Annotated Namespace)
 joined tree = joined_by_name (named tree) ++ empty_namespace (outside tree)
 
 -- the value at an annotation's key, which is none where the key stands alone
-abbrev pub value_of : AnyId → Annotations → Option (Option (List ℕ))
-value_of key annotations = lookup (is_at (annotation_key_cmp key)) annotations.0
+abbrev pub value_at_key : AnyId → Annotations → Option (Option (List ℕ))
+value_at_key key annotations = lookup (is_at (annotation_key_cmp key)) annotations.0
 
 -- no namespace has one name with one before it
 abbrev pub HaveOwnNames : List (Annotated Namespace) → Type 0

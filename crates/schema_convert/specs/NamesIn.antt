@@ -6,6 +6,7 @@ use Rattle.std.specs.declared.cmp.Ordering.{Ordering}
 use Rattle.cedar_data.specs.Text.{text_cmp}
 use Rattle.cedar_data.specs.declared.node.Node.{Node}
 use Rattle.cedar_identifiers.specs.declared.id.Id.{Id}
+use Rattle.cedar_names.specs.Orders.{id_text_order}
 use Rattle.schema_syntax_tree.specs.DeclaredNames.{entity_names, action_names}
 use Rattle.schema_syntax_tree.specs.declared.annotated.Annotated.{Annotated}
 use Rattle.schema_syntax_tree.specs.declared.declaration.Declaration.{Declaration}
@@ -45,8 +46,5 @@ id_cmp a b = text_cmp a.node.text b.node.text
 abbrev pub action_cmp : Node (List ℕ) → Node (List ℕ) → Ordering
 action_cmp a b = text_cmp a.node b.node
 
-abbrev pub id_text_cmp : Id → Id → Ordering
-id_text_cmp a b = text_cmp a.text b.text
-
 abbrev pub path_cmp : Path → Path → Ordering
-path_cmp a b = slice_cmp id_text_cmp a.ids b.ids
+path_cmp a b = slice_cmp id_text_order a.ids b.ids

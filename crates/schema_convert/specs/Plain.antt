@@ -20,10 +20,11 @@ use Rattle.schema_json.specs.Keywords.{is_keyword_name}
 use Rattle.schema_json.specs.declared.common_type.CommonType.{CommonType}
 use Rattle.schema_json.specs.declared.common_type.CommonTypeId.{CommonTypeId}
 use Rattle.schema_json.specs.declared.entity_type.EntityType.{EntityType}
-use Rattle.schema_convert_types.specs.Fragments.{common_cmp, unreserved_cmp, namespace_cmp, common_entries}
+use Rattle.schema_json.specs.Orders.{unreserved_cmp, common_cmp, namespace_cmp, annotation_key_cmp}
+use Rattle.schema_convert_types.specs.Fragments.{common_entries}
 use Rattle.schema_convert_types.specs.Fragments.{entity_entries, action_entries, namespace_entry}
 use Rattle.schema_convert.specs.Faults.{action_fault}
-use Rattle.schema_convert.specs.Joined.{annotation_key_cmp, named, outside, empty_namespace}
+use Rattle.schema_convert.specs.Joined.{named, outside, empty_namespace}
 use Rattle.schema_convert.specs.NamesIn.{entities_of, commons_of}
 use Rattle.schema_convert.specs.Shadowings.{is_taken}
 use Rattle.schema_convert.specs.Translatable.{IsFreeName}
@@ -33,7 +34,7 @@ abbrev pub IsFreeId : ExtensionTable → Node Id → Type 0
 IsFreeId table id = (is_cedar id.node.text ≡ false) × (is_taken table id.node.text ≡ false)
 
 -- nothing is to be said of the declaration by itself
-pub record IsPlain (table : ExtensionTable) (d : Declaration) : Type 0 where
+pub record IsPlainDeclaration (table : ExtensionTable) (d : Declaration) : Type 0 where
   pub entities : AllByRecursion (IsFreeId table) (entities_of d)
   pub block : action_fault d ≡ None
   pub commons : AllByRecursion (IsFreeId table) (commons_of d)
@@ -49,7 +50,7 @@ AreUnlike commons entities = AllByRecursion (λ c. lookup (is_at (unreserved_cmp
 
 -- nothing is to be said of declarations that stand together
 pub record ArePlain (table : ExtensionTable) (decls : List (Annotated (Node Declaration))) : Type 0 where
-  pub each : AllByRecursion (λ d. IsPlain table d.item.node) decls
+  pub each : AllByRecursion (λ d. IsPlainDeclaration table d.item.node) decls
   pub commons_once : AreOnce common_cmp (common_entries decls)
   pub entities_once : AreOnce unreserved_cmp (entity_entries decls)
   pub actions_once : AreOnce text_cmp (action_entries decls)
@@ -65,11 +66,11 @@ pub record IsPlainNamespace (table : ExtensionTable) (n : Annotated Namespace) :
   pub decls : ArePlain table n.item.decls
 
 -- the namespaces that have a name, and one of what stands outside of these
-abbrev pub apart : List (Annotated Namespace) → List (Annotated Namespace)
-apart tree = named tree ++ empty_namespace (outside tree)
+abbrev pub namespaces_apart : List (Annotated Namespace) → List (Annotated Namespace)
+namespaces_apart tree = named tree ++ empty_namespace (outside tree)
 
 -- nothing is to be said of the tree
 pub record IsPlainTree (table : ExtensionTable) (tree : List (Annotated Namespace)) : Type 0 where
-  pub each : AllByRecursion (IsPlainNamespace table) (apart tree)
+  pub each : AllByRecursion (IsPlainNamespace table) (namespaces_apart tree)
   pub notes : AllByRecursion HasRisingNotes (named tree)
-  pub once : AreOnce namespace_cmp (filter_map namespace_entry (apart tree))
+  pub once : AreOnce namespace_cmp (filter_map namespace_entry (namespaces_apart tree))

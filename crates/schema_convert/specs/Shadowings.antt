@@ -10,6 +10,7 @@ use Rattle.cedar_data.specs.declared.node.Node.{Node}
 use Rattle.cedar_identifiers.specs.declared.id.Id.{Id}
 use Rattle.cedar_names.specs.Tables.{table_has}
 use Rattle.cedar_names.specs.declared.extension_table.ExtensionTable.{ExtensionTable}
+use Rattle.cedar_names.specs.Orders.{id_text_order}
 use Rattle.schema_syntax_tree.specs.declared.annotated.Annotated.{Annotated}
 use Rattle.schema_syntax_tree.specs.declared.declaration.Declaration.{Declaration}
 use Rattle.schema_syntax_tree.specs.declared.namespace.Namespace.{Namespace}
@@ -17,11 +18,11 @@ use Rattle.schema_syntax_tree.specs.declared.path.Path.{Path}
 use Rattle.schema_convert_errors.specs.declared.warnings.SchemaWarning.{SchemaWarning}
 use Rattle.schema_convert_errors.specs.declared.warnings.SchemaWarning.TheVariants.{ShadowsBuiltin, ShadowsEntity}
 use Rattle.schema_convert.specs.Joined.{joined}
-use Rattle.schema_convert.specs.NamesIn.{entity_names_in, common_names_in, id_text_cmp, path_cmp}
+use Rattle.schema_convert.specs.NamesIn.{entity_names_in, common_names_in, path_cmp}
 
 -- declared names, sorted by their texts
 abbrev pub by_id : List (Node Id) → List (Id × Node Id)
-by_id names = map_of id_text_cmp (map (λ n. (n.node, n)) names)
+by_id names = map_of id_text_order (map (λ n. (n.node, n)) names)
 
 -- the word is the name of a type that every schema has, or of one of the table's
 abbrev pub is_primitive_name : List ℕ → Bool
@@ -43,7 +44,7 @@ entity_shadowed (Some entity) common =
 
 abbrev pub common_warnings : ExtensionTable → List (Id × Node Id) → Node Id → List SchemaWarning
 common_warnings table entities common =
-    entity_shadowed (lookup (is_at (id_text_cmp common.node)) entities) common ++ builtin_shadowed table common
+    entity_shadowed (lookup (is_at (id_text_order common.node)) entities) common ++ builtin_shadowed table common
 
 -- the warnings of a namespace: those of each common type in turn, that it hides an entity type first, and then those of
 -- each entity type

@@ -1,4 +1,4 @@
-ghost use Rattle.std.specs.Prelude.{◌≡◌, ℕ, List, length, IfOk, IfErr};
+ghost use Rattle.std.specs.Prelude.{ℕ, List, length, IfOk, IfErr};
 ghost use Rattle.std.specs.List.{All};
 ghost use Rattle.schema_syntax_grammar.specs.Grammar.{Sentence};
 ghost use Rattle.schema_syntax_tokens.specs.Scans.{Scans, IsPlaced};

@@ -1,4 +1,4 @@
-ghost use Rattle.std.specs.Prelude.{◌≡◌, true, [], ◌++◌, ◌∷◌, List, length, IfOk, IfErr, IfSome};
+ghost use Rattle.std.specs.Prelude.{◌≡◌, true, [], List, IfOk, IfErr, IfSome};
 ghost use Rattle.cedar_names.specs.declared.extension_table.ExtensionTable.{ExtensionTable};
 ghost use Rattle.schema_syntax_parser.specs.Syntax.{AreAnnotations, IsPath, IsDeclared};
 ghost use Rattle.schema_syntax_reader.specs.Placed.{IsScanned};
@@ -6,7 +6,7 @@ ghost use Rattle.schema_syntax_reader.specs.Sites.{declared_sites};
 ghost use Rattle.schema_syntax_reader.specs.Stops.{IsStopped};
 ghost use Rattle.schema_syntax_tree.specs.declared.annotated.Annotated.{Annotated};
 ghost use Rattle.schema_syntax_tree.specs.declared.namespace.Namespace.{Namespace};
-ghost use Rattle.schema_convert.specs.Gathered.{AddsRead, IsReadAs, AddsOutside, AddsNamed, AddsNamespace, AddsOwn, IsOwn, IsGatheredOf, named_sites};
+ghost use Rattle.schema_convert.specs.Gathered.{AddsRead, IsGatheredAs, AddsOutside, AddsNamed, AddsNamespace, AddsOwn, IsOwn, IsGatheredOf, named_sites};
 ghost use Rattle.schema_convert.specs.Plain.{AreUnlike, HasRisingNotes};
 ghost use Rattle.schema_convert.specs.Joined.{named};
 ghost use Rattle.schema_convert.specs.Translated.{IsTranslation};
@@ -157,7 +157,7 @@ fn read_definition(
     annotations: Annotations,
 ) -> Result<Option<NamespaceDefinition<RawName>>, Stopped>
     requires { All (IsScanned IsDeclared text.now) raws }
-    ensures found { IfOk result (λ found. IfSome found (IsReadAs text.now table.now raws annotations)) }
+    ensures found { IfOk result (λ found. IfSome found (IsGatheredAs text.now table.now raws annotations)) }
     ensures fault { IfErr result (IsStopped text.now (flat_map declared_sites raws)) }
 {
     let mut entries = entries_for(alloc, raws.as_slice())?;

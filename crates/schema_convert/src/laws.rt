@@ -5,12 +5,12 @@ ghost use Rattle.schema_syntax_tree.specs.declared.annotated.Annotated.{Annotate
 ghost use Rattle.schema_syntax_tree.specs.declared.namespace.Namespace.{Namespace};
 ghost use Rattle.schema_convert_errors.specs.declared.warnings.SchemaWarning.{SchemaWarning};
 ghost use Rattle.schema_convert.specs.Faults.{first_some, translation_faults};
-ghost use Rattle.schema_convert.specs.Joined.{first_values, joined, value_of, HaveOwnNames};
+ghost use Rattle.schema_convert.specs.Joined.{first_values, joined, value_at_key, HaveOwnNames};
 ghost use Rattle.schema_convert.specs.Repeats.{first_repeat, NoneRepeats, IsFirstRepeat};
 ghost use Rattle.schema_convert.specs.Shadowings.{shadowings};
 ghost use Rattle.schema_convert.specs.Translatable.{IsTranslatable};
 ghost use Rattle.schema_convert_types.specs.Fragments.{fragment_of};
-ghost use Rattle.schema_convert.specs.Plain.{IsPlainTree, apart};
+ghost use Rattle.schema_convert.specs.Plain.{IsPlainTree, namespaces_apart};
 ghost use Rattle.schema_convert.specs.Translated.{IsTranslation};
 ghost use Rattle.schema_convert.specs.Warned.{IsAmong, IsWarnedOf};
 
@@ -21,7 +21,7 @@ pub fn names_are_own()
 
 /// Where several openings of a namespace have one annotation key, the earliest of them gives its value, or gives it none.
 pub fn first_openings_have_values()
-    ensures { (key : AnyId) (openings : List (Annotated Namespace)) → value_of key (first_values openings) ≡ first_some (λ n. value_of key n.annotations) openings }
+    ensures { (key : AnyId) (openings : List (Annotated Namespace)) → value_at_key key (first_values openings) ≡ first_some (λ n. value_at_key key n.annotations) openings }
 {}
 
 /// No repeat is found exactly where no item is the same as one before it, and else the first repeat is found.
@@ -44,5 +44,5 @@ pub fn warnings_are_of()
 
 /// A tree of which nothing is to be said is translated namespace by namespace, with no warning.
 pub fn plain_trees()
-    ensures { (table : ExtensionTable) (tree : List (Annotated Namespace)) → IsPlainTree table tree → IsTranslation tree table (fragment_of (apart tree)) [] }
+    ensures { (table : ExtensionTable) (tree : List (Annotated Namespace)) → IsPlainTree table tree → IsTranslation tree table (fragment_of (namespaces_apart tree)) [] }
 {}

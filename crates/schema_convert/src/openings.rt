@@ -1,7 +1,8 @@
 ghost use Rattle.std.specs.Prelude.{◌≡◌, ◌∷◌, ◌++◌, map, reverse, IfOk, OnOk};
 ghost use Rattle.std.specs.List.{flat_map};
 ghost use Rattle.cedar_data.specs.Maps.{map_of};
-ghost use Rattle.schema_convert.specs.Joined.{annotation_key_cmp, opened_as, joined_by_name};
+ghost use Rattle.schema_json.specs.Orders.{annotation_key_cmp};
+ghost use Rattle.schema_convert.specs.Joined.{opened_as, joined_by_name};
 
 use cedar_data::{CloneIn, List, Map, Node};
 use schema_syntax_tree::{Annotated, Declaration, Namespace, SrcAnnotations, SrcStr, SrcWord};

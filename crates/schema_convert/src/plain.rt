@@ -1,7 +1,7 @@
 ghost use Rattle.std.specs.Prelude.{◌≡◌, true, IfOk};
 ghost use Rattle.std.specs.List.{AllByRecursion};
 ghost use Rattle.cedar_data.specs.NonEmpty.{items_left};
-ghost use Rattle.schema_convert.specs.Plain.{IsFreeId, IsPlain};
+ghost use Rattle.schema_convert.specs.Plain.{IsFreeId, IsPlainDeclaration};
 
 use crate::faults::action_fault;
 use crate::shadowing::is_taken;
@@ -39,7 +39,7 @@ pub fn is_plain(
     table: &ExtensionTable,
     decl: &Declaration<'_>,
 ) -> Result<bool, AllocError>
-    ensures { IfOk result (λ plain. plain ≡ true → IsPlain table.now decl.now) }
+    ensures { IfOk result (λ plain. plain ≡ true → IsPlainDeclaration table.now decl.now) }
 {
     match decl {
         Declaration::Entity(decl) => Ok(are_free(table, decl.names())),

@@ -1,2 +1,1 @@
-mod Advice
 mod SameFaults

@@ -1,12 +1,12 @@
 //! What the faults of translation say, advise and point to.
-ghost use Rattle.std.specs.Prelude.{◌≡◌, ◌++◌, [], Ok, Some, None, codes, IfOk};
+ghost use Rattle.std.specs.Prelude.{◌≡◌, ◌++◌, [], Ok, Some, None, IfOk};
 ghost use Rattle.schema_syntax_errors.specs.FaultLabels.{unnamed_label};
 ghost use Rattle.schema_convert_errors.specs.declared.errors.MissingOrEmpty.TheVariants.{Empty};
 ghost use Rattle.schema_convert_errors.specs.ErrorTexts.{second_text, absent_text, empty_text, declared_twice_text, second_context_text, second_targets_text};
 ghost use Rattle.schema_convert_errors.specs.ErrorTexts.{no_targets_text, namespace_twice_text, unknown_name_text, reserved_name_text};
 ghost use Rattle.schema_convert_errors.specs.ErrorTexts.{keyword_text, translation_fault_text};
 ghost use Rattle.schema_convert_errors.specs.ErrorPlaces.{second_context_help, second_targets_help, no_targets_help, unknown_name_help};
-ghost use Rattle.schema_convert_errors.specs.ErrorPlaces.{reserved_name_help, keyword_help, saying_label, missing_labels};
+ghost use Rattle.schema_convert_errors.specs.ErrorPlaces.{reserved_name_help, keyword_help, missing_labels};
 ghost use Rattle.schema_convert_errors.specs.ErrorPlaces.{translation_fault_help, translation_fault_labels};
 
 use crate::errors::{

@@ -1,17 +1,14 @@
 -- A namespace and a fragment whose maps were made.
-use Rattle.std.proofs.Common.{◌≡◌, ℕ, List, Option, Some, None, refl, sym, ap, ◌∙◌}
+use Rattle.std.proofs.Common.{◌≡◌, ℕ, List, Option, ◌∙◌}
 use Rattle.std.specs.Prelude.{Result, Ok, Err, IfOk}
 use Rattle.std.specs.Cmp.Lexicographic.{slice_cmp}
-use Rattle.std.specs.Cmp.Derive.Mapped.{lex_map}
 use Rattle.std.specs.List.{filter_map}
 use Rattle.std.specs.Option.{option_cmp}
-use Rattle.std.specs.Ordering.{ordering_then}
 use Rattle.std.specs.declared.cmp.Ordering.{Ordering}
 use Rattle.cedar_data.specs.Maps.{map_of}
 use Rattle.cedar_data.specs.Text.{text_cmp}
 use Rattle.cedar_data.specs.declared.node.Node.{Node}
 use Rattle.cedar_identifiers.specs.Names.{components_of}
-use Rattle.cedar_identifiers.specs.declared.id.Id.{Id}
 use Rattle.cedar_identifiers.specs.declared.annotations.Annotations.{Annotations}
 use Rattle.cedar_identifiers.specs.declared.name.Name.{Name}
 use Rattle.cedar_identifiers.specs.declared.raw_name.RawName.{RawName}
@@ -25,9 +22,11 @@ use Rattle.schema_json.specs.declared.common_type.CommonTypeId.{CommonTypeId}
 use Rattle.schema_json.specs.declared.entity_type.EntityType.{EntityType}
 use Rattle.schema_json.specs.declared.fragment.Fragment.{Fragment}
 use Rattle.schema_json.specs.declared.fragment.NamespaceDefinition.{NamespaceDefinition}
-use Rattle.schema_convert_types.specs.Declarations.{as_written}
-use Rattle.schema_convert_types.specs.Fragments.{common_cmp, unreserved_cmp, common_entries, entity_entries}
-use Rattle.schema_convert_types.specs.Fragments.{action_entries, definition_of, namespace_cmp, namespace_entry}
+use Rattle.schema_json.specs.Orders.{unreserved_cmp, common_cmp, namespace_cmp}
+use Rattle.schema_json.specs.AsWritten.{as_written}
+use Rattle.schema_json.proofs.Namespaces.{map_made}
+use Rattle.schema_convert_types.specs.Fragments.{common_entries, entity_entries}
+use Rattle.schema_convert_types.specs.Fragments.{action_entries, definition_of, namespace_entry}
 use Rattle.schema_convert_types.specs.Fragments.{fragment_of}
 
 pub definition_made : {E : Type 0} (decls : List (Annotated (Node Declaration))) (notes : Annotations)
@@ -50,29 +49,13 @@ definition_made decls notes commons entities actions (Ok d) h c f a =
       annotations = notes;
     })
 
--- the derived order of names goes by their components
-pub names_order : (a b : Name)
-    → ordering_then (text_cmp a.name.first.text b.name.first.text)
-    (slice_cmp (λ (x y : Id). text_cmp x.text y.text) a.name.others b.name.others)
-    ≡ slice_cmp text_cmp (components_of a.name) (components_of b.name)
-names_order a b = ap (ordering_then (text_cmp a.name.first.text b.name.first.text))
-    (sym (lex_map (λ (j : Id). j.text) text_cmp a.name.others b.name.others))
-
-module _ (D : Name → Name → Ordering)
-    (is : (a b : Name) → D a b ≡ slice_cmp text_cmp (components_of a.name) (components_of b.name)) where
-  namespaces_order : (a b : Option Name) → option_cmp D a b ≡ namespace_cmp a b
-  namespaces_order None None = refl
-  namespaces_order None (Some b) = refl
-  namespaces_order (Some a) None = refl
-  namespaces_order (Some a) (Some b) = is a b
-
-  pub entries_made : (entries made : List (Option Name × NamespaceDefinition RawName as_written))
-      → made ≡ map_of (option_cmp D) entries
-      → (let whole : Fragment RawName as_written = record { 0 = made } in whole) ≡ record
-      { 0 = map_of namespace_cmp entries }
-  entries_made entries made h =
-      let all : made ≡ map_of namespace_cmp entries = h ∙ (λ i. map_of (λ a b. namespaces_order a b i) entries) in
-      λ i. record { 0 = all i }
+pub entries_made : (D : Name → Name → Ordering)
+    → ((a b : Name) → D a b ≡ slice_cmp text_cmp (components_of a.name) (components_of b.name))
+    → (entries made : List (Option Name × NamespaceDefinition RawName as_written))
+    → made ≡ map_of (option_cmp D) entries
+    → (let whole : Fragment RawName as_written = record { 0 = made } in whole) ≡ record
+    { 0 = map_of namespace_cmp entries }
+entries_made D is entries made h = λ i. record { 0 = map_made D is entries made h i }
 
 pub fragment_made : {E : Type 0} (namespaces : List (Annotated Namespace))
     (entries : List (Option Name × NamespaceDefinition RawName as_written)) (r : Result (Fragment RawName as_written) E)

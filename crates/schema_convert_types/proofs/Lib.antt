@@ -4,4 +4,4 @@ mod Lists
 mod Moved
 mod Reserved
 mod StablySorted
-mod TypeSteps
+pub mod TypeSteps

@@ -3,7 +3,7 @@ use Rattle.std.proofs.Common.{◌≡◌, Bool, true, false, not, ◌&&◌, cond,
 use Rattle.std.specs.declared.cmp.Ordering.{Ordering}
 use Rattle.std.specs.declared.cmp.Ordering.TheVariants.{Less, Equal, Greater}
 use Rattle.std.specs.Ordering.{is_eq, is_lt, ordering_reverse}
-use Rattle.std.specs.Cmp.{IsTotalOrder}
+use Rattle.std.specs.Cmp.{IsTotalOrder, tied_itself}
 use Rattle.std.specs.List.{filter}
 use Rattle.std.specs.List.Sorted.{IsStableBy}
 use Rattle.cedar_data.specs.Maps.{map_of}
@@ -16,14 +16,6 @@ is_tie Equal b e = ap (λ r. not (is_lt r)) e
 is_tie Greater b e = ap (λ r. not (is_lt r)) e
 
 module _ {K : Type 0} {R : K → K → Ordering} (o : IsTotalOrder R) where
-  same_self : (k : K) → R k k ≡ Equal
-  same_self k = by (R k k) (o.antisymm k k)
-    where
-      by : (a : Ordering) → a ≡ ordering_reverse a → a ≡ Equal
-      by Less h = absurd (cc)
-      by Equal h = refl
-      by Greater h = absurd (cc)
-
   -- whether keys are the same as one is told of the same keys alike
   told_alike : (k a b : K) → R a b ≡ Equal → is_eq (R k a) ≡ is_eq (R k b)
   told_alike k a b same =
@@ -73,20 +65,20 @@ module _ {K X : Type 0} {R : K → K → Ordering} (o : IsTotalOrder R) where
   -- entries whose keys rise are known by those of each key
   known_by_ties : (m n : List (K × X)) → Rises o m → Rises o n → TiedAlike m n → m ≡ n
   known_by_ties [] [] r s h = refl
-  known_by_ties [] (b ∷ n) r s h = absurd (no_first b [] (sym (tied_first b.0 b n (same_self o b.0) s.0) ∙ sym (h b)))
-  known_by_ties (a ∷ m) [] r s h = absurd (no_first a [] (sym (tied_first a.0 a m (same_self o a.0) r.0) ∙ h a))
+  known_by_ties [] (b ∷ n) r s h = absurd (no_first b [] (sym (tied_first b.0 b n (tied_itself o b.0) s.0) ∙ sym (h b)))
+  known_by_ties (a ∷ m) [] r s h = absurd (no_first a [] (sym (tied_first a.0 a m (tied_itself o a.0) r.0) ∙ h a))
   known_by_ties (a ∷ m) (b ∷ n) r s h = by (R a.0 b.0) refl (known_by_ties m n r.1 s.1)
     where
       by : (t : Ordering) → R a.0 b.0 ≡ t → (TiedAlike m n → m ≡ n) → a ∷ m ≡ b ∷ n
       by Less e more =
-          absurd (no_first a [] (sym (tied_first a.0 a m (same_self o a.0) r.0)
+          absurd (no_first a [] (sym (tied_first a.0 a m (tied_itself o a.0) r.0)
           ∙ (h a ∙ tied_none a.0 (b ∷ n) (e, below_less a.0 b.0 n e s.0))))
       by Greater e more =
           let less : R b.0 a.0 ≡ Less = o.antisymm b.0 a.0 ∙ ap ordering_reverse e in
-          absurd (no_first b [] (sym (tied_first b.0 b n (same_self o b.0) s.0)
+          absurd (no_first b [] (sym (tied_first b.0 b n (tied_itself o b.0) s.0)
           ∙ (sym (h b) ∙ tied_none b.0 (a ∷ m) (less, below_less b.0 a.0 m less r.0))))
       by Equal e more =
-          let same : a ≡ b = first_of a b [] [] (sym (tied_first a.0 a m (same_self o a.0) r.0)
+          let same : a ≡ b = first_of a b [] [] (sym (tied_first a.0 a m (tied_itself o a.0) r.0)
           ∙ (h a ∙ tied_first a.0 b n e (below_same a.0 b.0 n e s.0))) in
           (λ i. same i ∷ more (rest_alike a b m n same h) i)
 

@@ -1,7 +1,8 @@
 -- The equations of what types and attributes become.
-use Rattle.std.proofs.Common.{◌≡◌, ℕ, List, [], ◌∷◌, Option, map, refl, sym, ap, ◌∙◌}
+use Rattle.std.proofs.Common.{◌≡◌, ℕ, List, Option, map, sym, ap, ◌∙◌}
 use Rattle.cedar_data.specs.Span.{Span}
 use Rattle.cedar_data.specs.declared.node.Node.{Node}
+use Rattle.cedar_data.proofs.Lists.{map-map}
 use Rattle.cedar_identifiers.specs.declared.annotations.Annotations.{Annotations}
 use Rattle.cedar_identifiers.specs.declared.raw_name.RawName.{RawName}
 use Rattle.schema_syntax_tree.specs.declared.annotated.Annotated.{Annotated}
@@ -19,10 +20,6 @@ use Rattle.schema_json.specs.declared.types.TypeOfAttribute.{roll-TypeOfAttribut
 use Rattle.schema_convert_types.specs.Names.{raw_name_of}
 use Rattle.schema_convert_types.specs.Types.{AttributeEntry, record_type, translated_type}
 use Rattle.schema_convert_types.specs.Types.{translated_attribute, type_at, attribute_beside, attribute_of}
-
-map_both : {A B C : Type 0} (f : B → C) (g : A → B) (xs : List A) → map f (map g xs) ≡ map (λ x. f (g x)) xs
-map_both f g [] = refl
-map_both f g (x ∷ xs) = ap (λ ys. f (g x) ∷ ys) (map_both f g xs)
 
 pub set_at : (n : Node «Type») (loc : Option Span)
     → type_at (Set n) loc ≡ shape.Variant (variant.Set (type_at n.node n.loc)) loc
@@ -48,7 +45,7 @@ record_at attributes loc =
     ∙ ap (λ (f : Option Span → Shape RawName). f loc)
     (fold-roll-Type (Option Span → Shape RawName) (Annotations → AttributeEntry) translated_type translated_attribute
     (Type-F.Record attributes)) in
-    step ∙ ap (λ entries. record_type entries loc) (map_both _ _ attributes)
+    step ∙ ap (λ entries. record_type entries loc) (map-map _ _ attributes)
 
 pub attribute_is : (a : AttrDecl) (notes : Annotations)
     → attribute_beside a notes ≡ (

@@ -3,14 +3,12 @@ use Rattle.std.specs.Prelude.{◌≡◌, ℕ, Bool, true, false, List, [], ◌�
 use Rattle.std.specs.List.{filter_map}
 use Rattle.cedar_data.specs.Span.{Span}
 use Rattle.cedar_data.specs.declared.node.Node.{Node}
-use Rattle.cedar_identifiers.specs.Names.{components_of}
 use Rattle.cedar_identifiers.specs.Words.{is_cedar}
 use Rattle.cedar_identifiers.specs.declared.eid.Eid.{Eid}
 use Rattle.cedar_identifiers.specs.declared.id.Id.{Id}
 use Rattle.cedar_identifiers.specs.declared.unreserved_id.UnreservedId.{UnreservedId}
 use Rattle.cedar_identifiers.specs.declared.annotations.Annotations.{Annotations}
 use Rattle.cedar_identifiers.specs.declared.raw_name.RawName.{RawName}
-use Rattle.cedar_identifiers.specs.declared.name_text.NameText as named
 use Rattle.schema_syntax_tree.specs.declared.path.Path.{Path}
 use Rattle.schema_syntax_tree.specs.declared.annotated.Annotated.{Annotated}
 use Rattle.schema_syntax_tree.specs.declared.types.AttrDecl.{AttrDecl}
@@ -35,6 +33,7 @@ use Rattle.schema_json.specs.declared.entity_type.EntityTypeKind.TheVariants.{St
 use Rattle.schema_json.specs.declared.action_type.ActionEntityUID.{ActionEntityUID}
 use Rattle.schema_json.specs.declared.action_type.ActionType.{ActionType}
 use Rattle.schema_json.specs.declared.action_type.ApplySpec.{ApplySpec}
+use Rattle.schema_json.specs.AsWritten.{as_written}
 use Rattle.schema_convert_types.specs.Names.{raw_name_of}
 use Rattle.schema_convert_types.specs.Types.{record_type, record_of_attributes, type_of}
 
@@ -110,10 +109,6 @@ applied_to_nothing = record { resource_types = []; principal_types = []; context
 abbrev pub apply_spec_of : Option (Node (List (Node AppDecl))) → ApplySpec RawName
 apply_spec_of None = applied_to_nothing
 apply_spec_of (Some block) = with_members block.node applied_to_nothing
-
--- names as written, which may leave the type of an action out
-abbrev pub as_written : named.Ghosts RawName
-as_written = record { TYPED = false; components = λ n. components_of n.name }
 
 -- an action's parent: its id, and its type, which is absent where a plain name was written
 abbrev pub reference_of : Node QualName → ActionEntityUID RawName as_written

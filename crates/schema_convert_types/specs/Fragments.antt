@@ -1,9 +1,6 @@
 -- The namespaces of a tree, in a fragment.
 use Rattle.std.specs.Prelude.{◌≡◌, ℕ, Bool, true, false, List, [], ◌∷◌, map, Option, Some, None, option_map, refl}
 use Rattle.std.specs.List.{filter_map, flat_map}
-use Rattle.std.specs.declared.cmp.Ordering.{Ordering}
-use Rattle.std.specs.declared.cmp.Ordering.TheVariants.{Less, Equal, Greater}
-use Rattle.std.specs.Cmp.Lexicographic.{slice_cmp}
 use Rattle.cedar_data.specs.Maps.{map_of}
 use Rattle.cedar_data.specs.Span.{Span}
 use Rattle.cedar_data.specs.Text.{text_cmp}
@@ -26,9 +23,11 @@ use Rattle.schema_json.specs.declared.common_type.CommonTypeId.{CommonTypeId}
 use Rattle.schema_json.specs.declared.entity_type.EntityType.{EntityType}
 use Rattle.schema_json.specs.declared.fragment.Fragment.{Fragment}
 use Rattle.schema_json.specs.declared.fragment.NamespaceDefinition.{NamespaceDefinition}
+use Rattle.schema_json.specs.Orders.{unreserved_cmp, common_cmp, namespace_cmp}
+use Rattle.schema_json.specs.AsWritten.{as_written}
 use Rattle.schema_convert_types.specs.Names.{internal_name_of}
 use Rattle.schema_convert_types.specs.Types.{type_of}
-use Rattle.schema_convert_types.specs.Declarations.{as_written, entity_type_of, action_type_of, declarable, unreserved}
+use Rattle.schema_convert_types.specs.Declarations.{entity_type_of, action_type_of, declarable, unreserved}
 use Rattle.schema_convert_types.specs.Declarations.{each_with}
 
 -- the entity types that a declaration declares, with its annotations and its place
@@ -66,21 +65,6 @@ action_entries decls = flat_map (λ d. action_entries_of d.item.node d.annotatio
 -- the common types that declarations declare, in turn
 abbrev pub common_entries : List (Annotated (Node Declaration)) → List (CommonTypeId × CommonType RawName)
 common_entries decls = flat_map (λ d. common_entries_of d.item.node d.annotations d.item.loc) decls
-
--- the order of words: by the bytes of their texts
-abbrev pub unreserved_cmp : UnreservedId → UnreservedId → Ordering
-unreserved_cmp a b = text_cmp a.id.text b.id.text
-
--- the order of the names of common types: by the bytes of their texts
-abbrev pub common_cmp : CommonTypeId → CommonTypeId → Ordering
-common_cmp a b = unreserved_cmp a.id b.id
-
--- the order of namespaces: the empty one first, the others by the texts of their components
-abbrev pub namespace_cmp : Option Name → Option Name → Ordering
-namespace_cmp None None = Equal
-namespace_cmp None (Some b) = Less
-namespace_cmp (Some a) None = Greater
-namespace_cmp (Some a) (Some b) = slice_cmp text_cmp (components_of a.name) (components_of b.name)
 
 -- what a namespace with these declarations and annotations defines
 abbrev pub definition_of : List (Annotated (Node Declaration)) → Annotations → NamespaceDefinition RawName as_written

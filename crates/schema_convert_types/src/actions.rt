@@ -1,7 +1,7 @@
 ghost use Rattle.std.specs.Prelude.{◌≡◌, option_map, map, IfOk, OnOk};
 ghost use Rattle.schema_convert_types.specs.Names.{raw_name_of};
 ghost use Rattle.schema_syntax_tree.specs.DeclaredNames.{action_names};
-ghost use Rattle.schema_convert_types.specs.Declarations.{reference_of, references_of, member_types, context_of, with_types, with_member, with_members, applied_to_nothing, apply_spec_of, action_type_of};
+ghost use Rattle.schema_convert_types.specs.Declarations.{reference_of, references_of, member_types, context_of, with_types, with_member, apply_spec_of, action_type_of};
 
 use crate::entities::nothing;
 use crate::items::{Item, some};

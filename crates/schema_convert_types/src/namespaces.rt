@@ -5,8 +5,9 @@ ghost use Rattle.cedar_data.specs.Text.{text_cmp};
 ghost use Rattle.std.specs.Option.{option_to_list};
 ghost use Rattle.schema_convert_types.specs.Declarations.{declarable, unreserved, each_with, entity_type_of};
 ghost use Rattle.schema_syntax_tree.specs.DeclaredNames.{entity_names};
+ghost use Rattle.schema_json.specs.Orders.{unreserved_cmp, common_cmp, namespace_cmp};
 ghost use Rattle.schema_convert_types.specs.Names.{internal_name_of};
-ghost use Rattle.schema_convert_types.specs.Fragments.{entity_entries_of, action_entries_of, common_entries_of, entity_entries, action_entries, common_entries, unreserved_cmp, common_cmp, definition_of, namespace_key, declarable_name, namespace_entry, namespace_cmp, fragment_of};
+ghost use Rattle.schema_convert_types.specs.Fragments.{entity_entries_of, action_entries_of, common_entries_of, entity_entries, action_entries, common_entries, definition_of, namespace_key, declarable_name, namespace_entry, fragment_of};
 
 use crate::actions::{action_ids, action_type};
 use crate::entities::entity_type;

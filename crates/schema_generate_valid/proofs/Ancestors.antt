@@ -8,6 +8,7 @@ use Rattle.std.specs.List.Sorted.{IsStrictlySortedBy}
 use Rattle.std.specs.Option.{option_map, option_to_list}
 use Rattle.std.proofs.lemmas.Bool.Decides.{nat_tests}
 use Rattle.std.proofs.lemmas.List.Kept.{IsStrictlySortedBy-filter}
+use Rattle.schema_generate.specs.Generated.{max_size, entity_word, parent_of}
 use Rattle.cedar_identifiers.specs.Names.{components_of}
 use Rattle.cedar_identifiers.specs.declared.raw_name.RawName.{RawName}
 use Rattle.cedar_identifiers.specs.declared.reference_type.ReferenceType.TheVariants.{Entity}
@@ -16,22 +17,22 @@ use Rattle.cedar_names.specs.declared.extension_table.ExtensionTable.{ExtensionT
 use Rattle.schema_json.specs.declared.entity_type.EntityTypeKind.{EntityTypeKind}
 use Rattle.schema_json.specs.declared.entity_type.EntityTypeKind.TheVariants.{Standard, Enum}
 use Rattle.schema_json.specs.declared.fragment.Fragment.{Fragment}
-use Rattle.schema_convert_types.specs.Declarations.{as_written}
+use Rattle.schema_json.specs.AsWritten.{as_written}
+use Rattle.schema_says.specs.DeclarationsSay.{written_paths, KindSays}
+use Rattle.schema_says.specs.FragmentsSay.{FragmentSays}
 use Rattle.schema_resolve_definitions.specs.Tests.{Tests}
 use Rattle.schema_build_graph.specs.Paths.{Leads, Reaches}
 use Rattle.schema_build_hierarchy.specs.Declarations.{DeclaredEntity, entity_name, declared_entities}
 use Rattle.schema_build_hierarchy.specs.Parents.{target_in, written_parents, parents_in, entity_parents, IsParent}
 use Rattle.schema_build_hierarchy.specs.Parents.{IsAncestor}
 use Rattle.schema_build_items.specs.ActionKinds.{components_cmp, AreJust}
-use Rattle.schema_says.specs.DeclarationsSay.{written_paths, KindSays}
-use Rattle.schema_says.specs.FragmentsSay.{FragmentSays}
-use Rattle.schema_generate.specs.Generated.{max_size, entity_word, parent_of}
-use Rattle.schema_generate_valid.specs.Declares.{entity_path, parents_of, entity_of, generated_items}
+use Rattle.schema_build_says.proofs.Members.{IsIn, in_from, in_to, map_to, in_filter, filter_to}
+use Rattle.schema_build_says.proofs.Defining.{among_from, among_to}
+use Rattle.schema_generate_valid.specs.Declares.{entity_path, parents_of, entity_of_number, generated_items}
 use Rattle.schema_generate_valid.specs.Said.{IsEntityOf}
 use Rattle.schema_generate_valid.proofs.Declared.{entity_at, entity_there}
-use Rattle.schema_generate_valid.proofs.Defined.{IsDeclaredName, among_from, among_to, t, entity_defined}
+use Rattle.schema_generate_valid.proofs.Defined.{IsDeclaredName, t, entity_defined}
 use Rattle.schema_generate_valid.proofs.Given.{parents_declared}
-use Rattle.schema_build_says.proofs.Members.{IsIn, in_from, in_to, map_to, in_filter, filter_to}
 use Rattle.schema_generate_valid.proofs.Sayable.{entities_apart}
 
 -- the parent, its parent, and so on, as many as are counted
@@ -69,7 +70,7 @@ module _ (n : ℕ) (some : 1 ≤ n) (small : n ≤ max_size) (f : Fragment RawNa
       let rest = found_parents names ps others h.1 in
       λ i. option_to_list (found i) ++ rest i
 
-  kind_parents : (i : ℕ) (x : Bool) (k : EntityTypeKind RawName) → i < n → KindSays x k (entity_of n i).decl
+  kind_parents : (i : ℕ) (x : Bool) (k : EntityTypeKind RawName) → i < n → KindSays x k (entity_of_number n i).decl
       → parents_in tests None (written_parents k) ≡ parents_of i
   kind_parents i x (Standard d) below h = found_parents d.member_of_types (parents_of i) h.1
       (parents_declared n i below)

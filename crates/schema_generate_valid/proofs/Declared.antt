@@ -6,6 +6,7 @@ use Rattle.std.specs.Prelude.{codes}
 use Rattle.std.specs.BTreeMap.{is_at}
 use Rattle.std.specs.List.{range_with_len}
 use Rattle.std.specs.Map.{lookup}
+use Rattle.schema_generate.specs.Generated.{entity_word, action_word}
 use Rattle.cedar_identifiers.specs.declared.name.Name.{Name}
 use Rattle.cedar_identifiers.specs.declared.raw_name.RawName.{RawName}
 use Rattle.cedar_identifiers.specs.declared.unreserved_id.UnreservedId.{UnreservedId}
@@ -15,21 +16,21 @@ use Rattle.schema_json.specs.declared.common_type.CommonTypeId.{CommonTypeId}
 use Rattle.schema_json.specs.declared.entity_type.EntityType.{EntityType}
 use Rattle.schema_json.specs.declared.fragment.Fragment.{Fragment}
 use Rattle.schema_json.specs.declared.fragment.NamespaceDefinition.{NamespaceDefinition}
-use Rattle.schema_convert_types.specs.Declarations.{as_written}
+use Rattle.schema_json.specs.AsWritten.{as_written}
 use Rattle.schema_readback.specs.Written.{WrittenDeclared, WrittenItem}
-use Rattle.schema_build_hierarchy.specs.Declarations.{DeclaredEntity, entity_in, entity_name, entities_of, action_in}
-use Rattle.schema_build_hierarchy.specs.Declarations.{declared_entities, action_key, actions_of, declared_actions}
 use Rattle.schema_says.specs.DeclarationsSay.{EntitySays, ActionSays, CommonSays}
 use Rattle.schema_says.specs.Entries.{FoundSays}
 use Rattle.schema_says.specs.FragmentsSay.{entities_of_decl, actions_of_decl, commons_of_decl, WrittenNamespace}
 use Rattle.schema_says.specs.FragmentsSay.{NamespaceSays, NamespaceName, namespace_order, name_components, opened}
 use Rattle.schema_says.specs.FragmentsSay.{written_in, FragmentSays}
 use Rattle.schema_says.proofs.Orders.{namespace_total}
-use Rattle.schema_generate.specs.Generated.{entity_word, action_word}
-use Rattle.schema_generate_valid.specs.Declares.{entity_path, entity_of, action_of, items_of, generated_items}
-use Rattle.schema_generate_valid.specs.Said.{DeclaredAction, IsEntityOf, IsActionOf}
+use Rattle.schema_build_hierarchy.specs.Declarations.{DeclaredEntity, entity_in, entity_name, entities_of, action_in}
+use Rattle.schema_build_hierarchy.specs.Declarations.{declared_entities, action_key, actions_of, declared_actions}
 use Rattle.schema_build_says.proofs.Blocks.{found_some, found_value, lookup_in, entry_says, entry_there}
 use Rattle.schema_build_says.proofs.Members.{IsIn, in_map, map_to, in_flat, flat_to, all_in, none_in, found_there}
+use Rattle.schema_generate_valid.specs.Declares.{entity_path, entity_of_number, action_of_number, items_of_number}
+use Rattle.schema_generate_valid.specs.Declares.{generated_items}
+use Rattle.schema_generate_valid.specs.Said.{DeclaredAction, IsEntityOf, IsActionOf}
 use Rattle.schema_generate_valid.proofs.Sayable.{all_decls, decls_are, all_outside, none_named, opened_decls}
 use Rattle.schema_generate_valid.proofs.Spelled.{numbers_below}
 
@@ -41,15 +42,15 @@ id_text id = id.id.text
 
 -- a declaration is that of an entity type or of an action
 decl_cases : (n : ℕ) (is : List ℕ) (w : WrittenDeclared) → IsIn w (all_decls n is)
-    → (i : ℕ) × IsIn i is × ((w ≡ entity_of n i) ⊎ (w ≡ action_of n i))
+    → (i : ℕ) × IsIn i is × ((w ≡ entity_of_number n i) ⊎ (w ≡ action_of_number n i))
 decl_cases n [] w h = absurd h
 decl_cases n (i ∷ is) w (inl e) = (i, inl refl, inl e)
 decl_cases n (i ∷ is) w (inr (inl e)) = (i, inl refl, inr e)
 decl_cases n (i ∷ is) w (inr (inr h)) = let r = decl_cases n is w h in (r.0, inr r.1, r.2)
 
-entity_among : (n i : ℕ) (is : List ℕ) → IsIn i is → IsIn (entity_of n i) (all_decls n is)
+entity_among : (n i : ℕ) (is : List ℕ) → IsIn i is → IsIn (entity_of_number n i) (all_decls n is)
 entity_among n i [] h = absurd h
-entity_among n i (j ∷ is) (inl e) = inl (ap (entity_of n) e)
+entity_among n i (j ∷ is) (inl e) = inl (ap (entity_of_number n) e)
 entity_among n i (j ∷ is) (inr h) = inr (inr (entity_among n i is h))
 
 number_among : (from k i : ℕ) → from ≤ i → i < from + k → IsIn i (range_with_len from k)
@@ -118,7 +119,7 @@ module _ (n : ℕ) (some : 1 ≤ n) (f : Fragment RawName as_written) (says : Fr
       named i (inl e) = e
       named i (inr e) = absurd e
 
-      by : (i : ℕ) × IsIn i numbers × ((said.0 ≡ entity_of n i) ⊎ (said.0 ≡ action_of n i))
+      by : (i : ℕ) × IsIn i numbers × ((said.0 ≡ entity_of_number n i) ⊎ (said.0 ≡ action_of_number n i))
           → IsEntityOf n (entity_in b.0 x)
       by (i, among, inl e) = record {
         number = i;
@@ -144,7 +145,7 @@ module _ (n : ℕ) (some : 1 ≤ n) (f : Fragment RawName as_written) (says : Fr
       named i (inl e) = e
       named i (inr e) = absurd e
 
-      by : (i : ℕ) × IsIn i numbers × ((said.0 ≡ entity_of n i) ⊎ (said.0 ≡ action_of n i))
+      by : (i : ℕ) × IsIn i numbers × ((said.0 ≡ entity_of_number n i) ⊎ (said.0 ≡ action_of_number n i))
           → IsActionOf n (action_in b.0 x)
       by (i, among, inr e) = record {
         number = i;
@@ -170,7 +171,7 @@ module _ (n : ℕ) (some : 1 ≤ n) (f : Fragment RawName as_written) (says : Fr
           said = entry_says (λ (id : CommonTypeId). id.id.id.text) CommonSays commons_of_decl b.1.common_types
               of.0.decls of.3.commons x k
 
-          by : (i : ℕ) × IsIn i numbers × ((said.0 ≡ entity_of n i) ⊎ (said.0 ≡ action_of n i)) → ⊥
+          by : (i : ℕ) × IsIn i numbers × ((said.0 ≡ entity_of_number n i) ⊎ (said.0 ≡ action_of_number n i)) → ⊥
           by (i, among, inl e) = subst (λ d. IsIn x.0.id.id.text (commons_of_decl d.decl)) e said.2
           by (i, among, inr e) = subst (λ d. IsIn x.0.id.id.text (commons_of_decl d.decl)) e said.2
 
@@ -191,7 +192,7 @@ module _ (n : ℕ) (some : 1 ≤ n) (f : Fragment RawName as_written) (says : Fr
   opened_some [] x h = absurd h
   opened_some (y ∷ xs) x h = (_, refl)
 
-  first_item : (is : List ℕ) → IsIn 0 is → (x : WrittenItem) × IsIn x (flat_map (items_of n) is)
+  first_item : (is : List ℕ) → IsIn 0 is → (x : WrittenItem) × IsIn x (flat_map (items_of_number n) is)
   first_item [] h = absurd h
   first_item (i ∷ is) h = (_, inl refl)
 
@@ -212,10 +213,10 @@ module _ (n : ℕ) (some : 1 ≤ n) (f : Fragment RawName as_written) (says : Fr
   entity_there i h =
       let b = block_there in
       let of = block_is b.0 b.1 in
-      let among = subst (IsIn (entity_of n i)) (sym of.2)
+      let among = subst (IsIn (entity_of_number n i)) (sym of.2)
       (entity_among n i numbers (number_among 0 n i (omega arith) (omega arith))) in
       let x = entry_there id_text EntitySays entities_of_decl b.0.1.entity_types of.0.decls of.3.entities
-      (entity_of n i) (entity_word i) among (inl refl) in (
+      (entity_of_number n i) (entity_word i) among (inl refl) in (
         entity_in b.0.0 x.0,
         flat_to entities_of f.0 b.0 (entity_in b.0.0 x.0) b.1 (map_to (entity_in b.0.0) b.0.1.entity_types x.0 x.1),
         name_outside b.0.0 x.0 of.1 ∙ ap (λ w. w ∷ []) x.2,

@@ -1,78 +1,23 @@
 -- What a fragment defines that says what a generated text declares.
 use Rattle.std.proofs.Common.{◌≡◌, ◌⊎◌, inl, inr, ℕ, ◌<◌, ◌≤◌, Bool, true, false, ◌||◌, ◌==◌, List, [], ◌∷◌, ◌++◌, map}
-use Rattle.std.proofs.Common.{flat_map, Option}
-use Rattle.std.proofs.Common.{Some, None, refl, sym, ap, ◌∙◌, subst, true≢false, if◌then◌else◌}
+use Rattle.std.proofs.Common.{refl, sym, ap, ◌∙◌, subst, true≢false, if◌then◌else◌}
 use Rattle.std.specs.Prelude.{codes}
-use Rattle.std.specs.Str.{bytes_eq}
-use Rattle.std.proofs.lemmas.Bool.{or_cases, and_from}
-use Rattle.std.proofs.lemmas.List.{map-append}
-use Rattle.std.proofs.lemmas.Slice.Eq.{bytes_eq-Decides}
+use Rattle.std.proofs.lemmas.Bool.{or_left, or_right, false_from_ne_true}
 use Rattle.cedar_identifiers.specs.Names.{components_of}
-use Rattle.cedar_identifiers.specs.declared.name.Name.{Name}
 use Rattle.cedar_identifiers.specs.declared.raw_name.RawName.{RawName}
-use Rattle.cedar_identifiers.specs.declared.unreserved_id.UnreservedId.{UnreservedId}
-use Rattle.cedar_names.specs.Definitions.{among, same_name}
+use Rattle.cedar_names.specs.Definitions.{among}
 use Rattle.cedar_names.specs.declared.extension_table.ExtensionTable.{ExtensionTable}
-use Rattle.schema_json.specs.declared.entity_type.EntityType.{EntityType}
 use Rattle.schema_json.specs.declared.fragment.Fragment.{Fragment}
-use Rattle.schema_convert_types.specs.Declarations.{as_written}
+use Rattle.schema_json.specs.AsWritten.{as_written}
+use Rattle.schema_says.specs.FragmentsSay.{FragmentSays}
 use Rattle.schema_resolve_definitions.specs.Declarations.{declared, declared_name, commons_in, entities_in}
 use Rattle.schema_resolve_definitions.specs.Defined.{defined, builtins, is_hidden, names_of_builtin, names_of_builtins}
 use Rattle.schema_resolve_definitions.specs.Tests.{Tests, tests_of}
-use Rattle.schema_build_hierarchy.specs.Declarations.{entity_in, entity_name, entities_of, declared_entities}
-use Rattle.schema_says.specs.FragmentsSay.{FragmentSays}
-use Rattle.schema_says.proofs.MeantSayable.{equal_names}
+use Rattle.schema_build_hierarchy.specs.Declarations.{entity_name, entities_of, declared_entities}
+use Rattle.schema_build_says.proofs.Members.{IsIn, left_to, right_to, in_map, map_to, flat_to, flat_nothing}
+use Rattle.schema_build_says.proofs.Defining.{among_from, among_to, flat_mapped, names_at}
 use Rattle.schema_generate_valid.specs.Declares.{entity_path, generated_items}
 use Rattle.schema_generate_valid.proofs.Declared.{Block, no_commons, entity_at, entity_there}
-use Rattle.schema_build_says.proofs.Members.{IsIn, left_to, right_to, in_map, map_to, flat_to, flat_nothing}
-use Rattle.schema_generate_valid.proofs.Names.{not_true}
-
-pub or_left : (x y : Bool) → x ≡ true → (x || y) ≡ true
-or_left true y h = refl
-or_left false y h = absurd (true≢false (sym h))
-
-pub or_right : (x y : Bool) → y ≡ true → (x || y) ≡ true
-or_right true y h = refl
-or_right false y h = h
-
-pub name_itself : (n : List (List ℕ)) → same_name n n ≡ true
-name_itself [] = refl
-name_itself (x ∷ xs) =
-    and_from (bytes_eq x x) (same_name xs xs) ((bytes_eq-Decides x x).1 refl) (name_itself xs)
-
-pub among_from : (names : List (List (List ℕ))) (n : List (List ℕ)) → IsIn n names → among names n ≡ true
-among_from [] n h = absurd h
-among_from (x ∷ xs) n (inl e) =
-    or_left (same_name n x) (among xs n) (ap (same_name n) (sym e) ∙ name_itself n)
-among_from (x ∷ xs) n (inr h) = or_right (same_name n x) (among xs n) (among_from xs n h)
-
-pub among_to : (names : List (List (List ℕ))) (n : List (List ℕ)) → among names n ≡ true → IsIn n names
-among_to [] n h = absurd (true≢false (sym h))
-among_to (x ∷ xs) n h = by (or_cases (same_name n x) (among xs n) h) (among_to xs n)
-  where
-    by : (same_name n x ≡ true) ⊎ (among xs n ≡ true) → (among xs n ≡ true → IsIn n xs) → (n ≡ x) ⊎ IsIn n xs
-    by (inl k) r = inl (equal_names n x k)
-    by (inr k) r = inr (r k)
-
--- what is given of a list is seen of what is given
-flat_mapped : {A B C : Type 0} (f : A → List C) (h : B → C) (k : A → List B) → ((x : A) → f x ≡ map h (k x))
-    → (xs : List A) → flat_map f xs ≡ map h (flat_map k xs)
-flat_mapped f h k same [] = refl
-flat_mapped f h k same (x ∷ xs) =
-    let first = same x in
-    let others = flat_mapped f h k same xs in
-    (λ i. first i ++ others i) ∙ sym (map-append h (k x) (flat_map k xs))
-
-name_at : (ns : Option Name) (e : UnreservedId × EntityType RawName)
-    → components_of (declared_name ns e.0.id) ≡ entity_name (entity_in ns e)
-name_at None e = refl
-name_at (Some n) e = refl
-
-names_at : (ns : Option Name) (es : List (UnreservedId × EntityType RawName))
-    → map (λ (e : UnreservedId × EntityType RawName). components_of (declared_name ns e.0.id)) es
-    ≡ map entity_name (map (entity_in ns) es)
-names_at ns [] = refl
-names_at ns (e ∷ es) = let first = name_at ns e in let others = names_at ns es in λ i. first i ∷ others i
 
 -- the number is small and the name is that of its entity type
 abbrev pub IsDeclaredName : ℕ → List (List ℕ) → Type 0
@@ -125,7 +70,7 @@ module _ (n : ℕ) (some : 1 ≤ n) (f : Fragment RawName as_written) (says : Fr
 
   long_shown : is_hidden own (codes "Long") ≡ false
   long_shown =
-      let none : own.is_entity long ≡ false = not_true (own.is_entity long) (λ h.
+      let none : own.is_entity long ≡ false = false_from_ne_true (own.is_entity long) (λ h.
       let of = own_named long h in no_long of.0 of.2) in
       λ i. among (commons_are i) long || none i
 

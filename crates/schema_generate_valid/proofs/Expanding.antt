@@ -1,12 +1,14 @@
 -- What the types of a fragment stand for that says what a generated text declares.
 use Rattle.std.proofs.Common.{◌≡◌, inl, inr, ℕ, ◌≤◌, Bool, true, false, cond, List, [], ◌∷◌, ◌++◌, codes}
-use Rattle.std.proofs.Common.{map, Option}
+use Rattle.std.proofs.Common.{map}
 use Rattle.std.proofs.Common.{Some, None, is_some, refl, sym, ap, ◌∙◌, subst, true≢false, if◌then◌else◌}
 use Rattle.std.specs.Prelude.{slice_get}
 use Rattle.std.specs.Option.{option_map}
+use Rattle.std.proofs.lemmas.Bool.{or_right, false_from_ne_true}
 use Rattle.cedar_data.specs.Maps.{map_of}
-use Rattle.cedar_data.specs.Span.{Span}
 use Rattle.cedar_data.specs.Text.{text_cmp}
+use Rattle.cedar_data.proofs.Orders.{text_total}
+use Rattle.schema_generate.specs.Generated.{entity_word}
 use Rattle.cedar_identifiers.specs.Names.{components_of}
 use Rattle.cedar_identifiers.specs.declared.raw_name.RawName.{RawName}
 use Rattle.cedar_identifiers.specs.declared.reference_type.ReferenceType.{ReferenceType}
@@ -18,39 +20,27 @@ use Rattle.cedar_names.specs.declared.extension_table.ExtensionTable.{ExtensionT
 use Rattle.schema_json.specs.Shapes.{attributes_of}
 use Rattle.schema_json.specs.declared.fragment.Fragment.{Fragment}
 use Rattle.schema_json.specs.declared.types.Type.{«Type»}
-use Rattle.schema_json.specs.declared.types.Type.TheVariants as shape
-use Rattle.schema_json.specs.declared.types.TypeVariant.{TypeVariant-F, out-TypeVariant, out-roll-TypeVariant}
-use Rattle.schema_json.specs.declared.types.TypeVariant.TheVariants as variant
 use Rattle.schema_json.specs.declared.types.TypeOfAttribute.{TypeOfAttribute, out-TypeOfAttribute}
-use Rattle.schema_convert_types.specs.Declarations.{as_written}
+use Rattle.schema_json.specs.AsWritten.{as_written}
+use Rattle.schema_readback.specs.Written.{WrittenAttributes, rec}
+use Rattle.schema_says.specs.FragmentsSay.{FragmentSays}
+use Rattle.schema_says.specs.TypesSay.{TypeSays, AttributeSays}
 use Rattle.schema_resolve_definitions.specs.Defined.{builtins, is_hidden, names_of_builtin, names_of_builtins}
 use Rattle.schema_resolve_definitions.specs.Tests.{Tests}
 use Rattle.schema_build_expand.specs.Expands.{Expands, by_layer, LayerExpands, to_record, to_entity, to_builtin}
 use Rattle.schema_build_expand.specs.Expands.{ExpandAll, to_no_attributes, to_attribute}
 use Rattle.schema_build_expand.specs.Scope.{Scope, AreDeclaredOnce, IsUndeclared}
-use Rattle.schema_build_expand.specs.View.{record_layer, reference_layer, view}
+use Rattle.schema_build_expand.specs.View.{record_layer}
 use Rattle.schema_build_scope.specs.FragmentScope.{fragment_scope, declaration}
-use Rattle.schema_readback.specs.Written.{WrittenAttributes, rec}
-use Rattle.schema_says.specs.FragmentsSay.{FragmentSays}
-use Rattle.schema_says.specs.TypesSay.{TypeSays, AttributeSays}
-use Rattle.schema_says.proofs.Orders.{text_total}
-use Rattle.schema_generate.specs.Generated.{entity_word}
+use Rattle.schema_build_closed.proofs.Views.{reference_viewed, record_viewed}
+use Rattle.schema_build_says.proofs.Members.{IsIn, in_flat, found_there}
+use Rattle.schema_build_says.proofs.Defining.{among_to}
 use Rattle.schema_generate_valid.specs.Declares.{generated_items}
-use Rattle.schema_generate_valid.proofs.Defined.{IsDeclaredName, IsTypeName, long, or_right, among_to, own, own_there}
+use Rattle.schema_generate_valid.proofs.Defined.{IsDeclaredName, IsTypeName, long, own, own_there}
 use Rattle.schema_generate_valid.proofs.Defined.{t}
 use Rattle.schema_generate_valid.proofs.Defined.{commons_are, long_defined, type_defined}
 use Rattle.schema_generate_valid.proofs.Faultless.{none_common}
-use Rattle.schema_build_says.proofs.Members.{IsIn, in_flat, found_there}
-use Rattle.schema_generate_valid.proofs.Names.{not_true}
-use Rattle.schema_generate_valid.proofs.Records.{shape_viewed, record_viewed}
 use Rattle.schema_generate_valid.proofs.Walked.{AreNames, SaysName, said_name}
-
-reference_viewed : (u : «Type» RawName) (m : RawName) (loc : Option Span)
-    → u ≡ shape.Variant (variant.EntityOrCommon m) loc → view u ≡ reference_layer CommonOrEntity m
-reference_viewed u m loc e =
-    ap view e ∙ shape_viewed (variant.EntityOrCommon m) (TypeVariant-F.EntityOrCommon m) loc
-    (ap (out-TypeVariant RawName) (sym (variant.rolls-EntityOrCommon m))
-    ∙ out-roll-TypeVariant RawName (TypeVariant-F.EntityOrCommon m))
 
 -- a name of one component is none of two
 two_words : (c w x : List ℕ) (p : List (List ℕ)) → p ≡ x ∷ [] → p ≡ c ∷ w ∷ [] → ⊥
@@ -78,7 +68,7 @@ module _ (n : ℕ) (some : 1 ≤ n) (f : Fragment RawName as_written) (says : Fr
 
   -- the name of an entity type is none of a common type
   not_common : (p : List (List ℕ)) → IsDeclaredName n p → tests.is_common p ≡ false
-  not_common p known = not_true (tests.is_common p) (λ h.
+  not_common p known = false_from_ne_true (tests.is_common p) (λ h.
       let names = names_of_builtins (own n some f says) (builtins table) in
       let there : IsIn p names =
       among_to names p (sym (ap (λ l. among (l ++ names) p) (commons_are n some f says)) ∙ h) in

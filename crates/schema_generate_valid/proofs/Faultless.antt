@@ -1,5 +1,5 @@
 -- A fragment that says what a generated text declares is without a build fault.
-use Rattle.std.proofs.Common.{◌≡◌, ◌<◌, ◌≤◌, inl, inr, ℕ, Bool, true, false, not, cond, List, [], ◌∷◌, ◌++◌}
+use Rattle.std.proofs.Common.{◌≡◌, ◌<◌, ◌≤◌, ℕ, Bool, true, false, not, cond, List, [], ◌∷◌}
 use Rattle.std.proofs.Common.{codes}
 use Rattle.std.proofs.Common.{length, map, filter, flat_map, Option, Some, None, is_some, Contains, refl, sym, ap, ◌∙◌}
 use Rattle.std.proofs.Common.{subst, arith, true≢false, if◌then◌else◌}
@@ -7,6 +7,7 @@ use Rattle.std.specs.Option.{option_to_list, option_map_or}
 use Rattle.std.specs.Str.{bytes_eq}
 use Rattle.std.specs.declared.cmp.Ordering.{Ordering}
 use Rattle.std.proofs.lemmas.List.Elements.{All-contains}
+use Rattle.cedar_data.proofs.Lists.{nothing_is}
 use Rattle.cedar_identifiers.specs.Names.{components_of}
 use Rattle.cedar_identifiers.specs.declared.name.Name.{Name}
 use Rattle.cedar_identifiers.specs.declared.raw_name.RawName.{RawName}
@@ -17,30 +18,29 @@ use Rattle.schema_json.specs.declared.action_type.ApplySpec.{ApplySpec}
 use Rattle.schema_json.specs.declared.entity_type.EntityTypeKind.{EntityTypeKind}
 use Rattle.schema_json.specs.declared.entity_type.EntityTypeKind.TheVariants.{Standard, Enum}
 use Rattle.schema_json.specs.declared.fragment.Fragment.{Fragment}
-use Rattle.schema_convert_types.specs.Declarations.{as_written}
+use Rattle.schema_json.specs.AsWritten.{as_written}
+use Rattle.schema_readback.specs.Written.{no_more}
+use Rattle.schema_says.specs.DeclarationsSay.{KindSays, AppliesSay}
+use Rattle.schema_says.specs.FragmentsSay.{FragmentSays}
+use Rattle.schema_json_walk.specs.Parts.{parent}
 use Rattle.schema_resolve_definitions.specs.Declarations.{name_of, declared}
 use Rattle.schema_resolve_definitions.specs.Tests.{Tests, tests_of}
 use Rattle.schema_resolve.specs.ReferenceParts.{by_reference}
 use Rattle.schema_resolve.specs.Resolved.{untargeted_in, undefined}
 use Rattle.schema_resolve.specs.Targets.{unless}
-use Rattle.schema_json_walk.specs.Parts.{parent}
 use Rattle.schema_resolve.specs.Undefined.{types_among, actions_among}
-use Rattle.schema_build_errors.specs.declared.schema_error.SchemaError.{SchemaError}
 use Rattle.schema_build_errors.specs.declared.schema_error.SchemaError.TheVariants as error
 use Rattle.schema_build_errors.specs.declared.shape_errors.ContextOrShape.{ContextOrShape}
 use Rattle.schema_build_errors.specs.declared.shape_errors.ContextOrShape.TheVariants.{ActionContext, EntityTypeShape}
+use Rattle.schema_build_expand.specs.Scope.{Scope}
 use Rattle.schema_build_checks.specs.DeclaredAt.{at_of, actions_at_in_order, called_action, called_actions, declared_at}
 use Rattle.schema_build_checks.specs.DeclaredAt.{hiding_types_in, hiding_types, hiding_actions_in, hiding_actions}
 use Rattle.schema_build_checks.specs.DeclaredTwice.{ActionTypeDeclared, TypeHides, ActionHides}
-use Rattle.schema_build_checks.specs.Least.{IsFirstLeast}
-use Rattle.schema_build_checks.specs.Refusing.{IsAboutFirst}
 use Rattle.schema_build_checks.specs.Rows.{Never}
 use Rattle.schema_build_checks.specs.WalkFaults.{unknown_extension, unsupported, HasUnknownExtension, HasUnsupported}
-use Rattle.schema_build_expand.specs.Scope.{Scope}
-use Rattle.schema_build_scope.specs.Commons.{declared_commons, common_entry}
+use Rattle.schema_build_scope.specs.Commons.{declared_commons, full_common_entry}
 use Rattle.schema_build_scope.specs.CycleRow.{HasCommonCycle}
 use Rattle.schema_build_scope.specs.FragmentScope.{fragment_scope}
-use Rattle.schema_build_scope.specs.Rows.{OrElse}
 use Rattle.schema_build_scope.specs.UndefinedRows.{HasUndefinedTypes, HasUndefinedActions}
 use Rattle.schema_build_hierarchy.specs.Declarations.{entity_name, declared_entities, action_key}
 use Rattle.schema_build_hierarchy.specs.Declarations.{declared_actions}
@@ -51,33 +51,17 @@ use Rattle.schema_build_hierarchy.specs.Rows.{HasActionCycle, HasExternalUnderEn
 use Rattle.schema_build_items.specs.NoRecord.{ShapeIsNoRecord, ContextIsNoRecord, IsLeastShape, IsLeastContext}
 use Rattle.schema_build_items.specs.NoRecord.{HasNoRecordShape, HasNoRecordContext}
 use Rattle.schema_build_parts.specs.BuildFaults.{BuildFault}
-use Rattle.schema_readback.specs.Written.{no_more}
-use Rattle.schema_says.specs.DeclarationsSay.{KindSays, AppliesSay}
-use Rattle.schema_says.specs.FragmentsSay.{FragmentSays}
-use Rattle.schema_generate_valid.specs.Declares.{attributes_of, entity_of, action_of, generated_items}
+use Rattle.schema_build_parts.proofs.Rows.{never_else}
+use Rattle.schema_build_says.proofs.Members.{IsIn, in_from, flat_nothing}
+use Rattle.schema_build_says.proofs.Faultless.{no_least, no_about}
+use Rattle.schema_generate_valid.specs.Declares.{attributes_of, entity_of_number, action_of_number, generated_items}
 use Rattle.schema_generate_valid.specs.Said.{DeclaredAction, IsActionOf}
 use Rattle.schema_generate_valid.proofs.Declared.{Block, id_text, block_is, entity_block, no_commons, entity_at}
 use Rattle.schema_generate_valid.proofs.Declared.{action_at}
 use Rattle.schema_generate_valid.proofs.Defined.{IsDeclaredName, own_there, t, entity_defined}
 use Rattle.schema_generate_valid.proofs.Defined.{type_defined}
 use Rattle.schema_generate_valid.proofs.Given.{no_parents, fragment_gives}
-use Rattle.schema_build_says.proofs.Members.{IsIn, in_from, flat_nothing}
 use Rattle.schema_generate_valid.proofs.Records.{record_said}
-
-or_else : (A B : SchemaError → Type 0) → Never A → Never B → Never (OrElse A B)
-or_else A B a b e (inl h) = a e h
-or_else A B a b e (inr (n, h)) = b e h
-
--- of nothing none is the first
-no_first : {A : Type 0} (before behind : List A) (x : A) → [] ≡ before ++ x ∷ behind → ⊥
-no_first [] behind x e = cc
-no_first (y ∷ before) behind x e = cc
-
-no_least : {A : Type 0} (order : A → A → Ordering) (xs : List A) (x : A) → xs ≡ [] → IsFirstLeast order xs x → ⊥
-no_least order xs x none first = no_first first.before first.behind x (sym none ∙ first.among)
-
-no_about : {U : Type 0} (about : U → SchemaError → Type 0) (us : List U) → us ≡ [] → Never (IsAboutFirst about us)
-no_about about us none e h = subst (λ l. IsAboutFirst about l e) none h
 
 -- the first word is `Action`
 abbrev head_is : List (List ℕ) → Bool
@@ -191,7 +175,7 @@ module _ (n : ℕ) (some : 1 ≤ n) (f : Fragment RawName as_written) (says : Fr
   no_uses order [] some' firsts = absurd (omega (arith, some'))
   no_uses order (x ∷ xs) some' firsts =
       let first = All-contains (IsFirstUse order []) (x ∷ xs) x firsts.first (0, omega arith, refl) in
-      no_first [] first.0 x first.1
+      nothing_is [] x first.0 first.1
 
   seen_some : {A B : Type 0} (g : A → B) (xs : List A) → 0 < length xs → 0 < length (map g xs)
   seen_some g [] h = absurd (omega (arith, h))
@@ -204,21 +188,21 @@ module _ (n : ℕ) (some : 1 ≤ n) (f : Fragment RawName as_written) (says : Fr
       (subst (λ uses. AreFirstUses names_in_order uses (map (λ (m : Name). m.name) given.types)) none_undeclared firsts)
 
   pub none_common : declared_commons f ≡ []
-  none_common = flat_nothing (λ (e : Block). map (common_entry e.0) e.1.common_types) f.0
-      (λ e h. ap (map (common_entry e.0)) (no_commons n some f says e h))
+  none_common = flat_nothing (λ (e : Block). map (full_common_entry e.0) e.1.common_types) f.0
+      (λ e h. ap (map (full_common_entry e.0)) (no_commons n some f says e h))
 
   no_common_cycle : Never (HasCommonCycle f table)
   no_common_cycle (error.CycleInCommonTypeReferences e) h =
       none_contained _ e.ty (ap (map (λ x. x.0)) none_common) h.declared
   no_common_cycle _ h = absurd h
 
-  shape_is_record : (i : ℕ) (ns : _) (x : Bool) (k : EntityTypeKind RawName) → KindSays x k (entity_of n i).decl
+  shape_is_record : (i : ℕ) (ns : _) (x : Bool) (k : EntityTypeKind RawName) → KindSays x k (entity_of_number n i).decl
       → ShapeIsNoRecord scope ns k → ⊥
   shape_is_record i ns x (Standard d) h none = record_said scope ns d.shape.0 (attributes_of n i) h.2 none
   shape_is_record i ns x (Enum ids) h none = none
 
   context_is_record : (i : ℕ) (ns : _) (x : Bool) (spec : Option (ApplySpec RawName))
-      (ps : Option (List (ActionEntityUID RawName as_written))) → AppliesSay x spec ps (action_of n i).decl
+      (ps : Option (List (ActionEntityUID RawName as_written))) → AppliesSay x spec ps (action_of_number n i).decl
       → ContextIsNoRecord scope ns spec → ⊥
   context_is_record i ns x None ps h none = none
   context_is_record i ns x (Some d) ps h none = record_said scope ns d.context.0 no_more h.2.2 none
@@ -246,7 +230,8 @@ module _ (n : ℕ) (some : 1 ≤ n) (f : Fragment RawName as_written) (says : Fr
 
   -- no action has a parent
   none_above : (i : ℕ) (x : Bool) (spec : Option (ApplySpec RawName))
-      (ps : Option (List (ActionEntityUID RawName as_written))) → AppliesSay x spec ps (action_of n i).decl → ps ≡ None
+      (ps : Option (List (ActionEntityUID RawName as_written))) → AppliesSay x spec ps (action_of_number n i).decl
+      → ps ≡ None
   none_above i x None ps h = absurd h
   none_above i x (Some d) ps h = no_parents ps h.1
 
@@ -263,7 +248,7 @@ module _ (n : ℕ) (some : 1 ≤ n) (f : Fragment RawName as_written) (says : Fr
   no_action_cycle : Never (HasActionCycle tests (declared_actions f))
   no_action_cycle e (d, is, least) = no_action_ancestor (action_key d) (action_key d) least.passes_too
 
-  own_kind : (i : ℕ) (x : Bool) (k : EntityTypeKind RawName) → KindSays x k (entity_of n i).decl → x ≡ false
+  own_kind : (i : ℕ) (x : Bool) (k : EntityTypeKind RawName) → KindSays x k (entity_of_number n i).decl → x ≡ false
   own_kind i x (Standard d) h = h.0
   own_kind i x (Enum ids) h = absurd h
 
@@ -274,9 +259,10 @@ module _ (n : ℕ) (some : 1 ≤ n) (f : Fragment RawName as_written) (says : Fr
 
   pub faultless : Never (BuildFault f table)
   faultless =
-      or_else _ _
-      (or_else _ _ no_action_type (or_else _ _ no_type_hides (or_else _ _ no_action_hides
-      (or_else _ _ no_unknown none_unsupported))))
-      (or_else _ _ (or_else _ _ no_undefined_types no_undefined_actions)
-      (or_else _ _ no_undeclared (or_else _ _ (or_else _ _ no_common_cycle (or_else _ _ no_shape no_context))
-      (or_else _ _ no_action_cycle no_external_under))))
+      never_else _ _
+      (never_else _ _ no_action_type (never_else _ _ no_type_hides (never_else _ _ no_action_hides
+      (never_else _ _ no_unknown none_unsupported))))
+      (never_else _ _ (never_else _ _ no_undefined_types no_undefined_actions)
+      (never_else _ _ no_undeclared
+      (never_else _ _ (never_else _ _ no_common_cycle (never_else _ _ no_shape no_context))
+      (never_else _ _ no_action_cycle no_external_under))))

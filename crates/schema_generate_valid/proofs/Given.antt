@@ -4,6 +4,7 @@ use Rattle.std.proofs.Common.{Option, Some, None, refl, sym, ap, ◌∙◌, subs
 use Rattle.std.specs.List.{AllByRecursion}
 use Rattle.std.specs.Option.{option_map_or}
 use Rattle.std.proofs.lemmas.Nat.{mod_below}
+use Rattle.schema_generate.specs.Generated.{parent_of, target_of, resource_of}
 use Rattle.cedar_identifiers.specs.Names.{components_of}
 use Rattle.cedar_identifiers.specs.declared.name.Name.{Name}
 use Rattle.cedar_identifiers.specs.declared.raw_name.RawName.{RawName}
@@ -17,23 +18,24 @@ use Rattle.schema_json.specs.declared.entity_type.EntityTypeKind.{EntityTypeKind
 use Rattle.schema_json.specs.declared.entity_type.EntityTypeKind.TheVariants.{Standard, Enum}
 use Rattle.schema_json.specs.declared.fragment.Fragment.{Fragment}
 use Rattle.schema_json.specs.declared.types.Type.{«Type»}
+use Rattle.schema_json.specs.AsWritten.{as_written}
+use Rattle.schema_readback.specs.Written.{no_more}
+use Rattle.schema_says.specs.DeclarationsSay.{TagsSay, KindSays, EntitySays, ParentsSay, AppliesSay, ActionSays}
+use Rattle.schema_says.specs.FragmentsSay.{FragmentSays}
 use Rattle.schema_json_walk.specs.Bare.{is_bare_kind, is_bare_action}
 use Rattle.schema_json_walk.specs.Parts.{Part, type_reference, parent, principal, resource, action_attributes}
 use Rattle.schema_json_walk.specs.Parts.{external_not_bare}
 use Rattle.schema_json_walk.specs.Walk.{visit_where, of_type, of_parents, of_principals, of_resources, of_context}
 use Rattle.schema_json_walk.specs.Walk.{of_kind, of_entity, of_apply, of_uids, of_action, each_value, of_common}
 use Rattle.schema_json_walk.specs.Walk.{of_items, of_entry, of_fragment}
-use Rattle.schema_convert_types.specs.Declarations.{as_written}
-use Rattle.schema_readback.specs.Written.{no_more}
-use Rattle.schema_says.specs.DeclarationsSay.{TagsSay, KindSays, EntitySays, ParentsSay, AppliesSay, ActionSays}
-use Rattle.schema_says.specs.FragmentsSay.{FragmentSays}
-use Rattle.schema_generate.specs.Generated.{parent_of, target_of, resource_of}
-use Rattle.schema_generate_valid.specs.Declares.{entity_path, parents_of, attributes_of, entity_of, action_of}
+use Rattle.schema_build_says.proofs.Members.{IsIn, flat_nothing, append_nothing}
+use Rattle.schema_build_says.proofs.Walking.{names_give}
+use Rattle.schema_generate_valid.specs.Declares.{entity_path, parents_of, attributes_of, entity_of_number}
+use Rattle.schema_generate_valid.specs.Declares.{action_of_number}
 use Rattle.schema_generate_valid.specs.Declares.{generated_items}
 use Rattle.schema_generate_valid.proofs.Declared.{Block, block_is, entity_block, action_block, no_commons}
 use Rattle.schema_generate_valid.proofs.Defined.{IsDeclaredName, IsTypeName}
-use Rattle.schema_build_says.proofs.Members.{IsIn, flat_nothing, append_nothing}
-use Rattle.schema_generate_valid.proofs.Walked.{record_gives, context_gives, names_give}
+use Rattle.schema_generate_valid.proofs.Walked.{record_gives, context_gives}
 
 pub no_tags : (o : Option («Type» RawName)) → TagsSay o None → o ≡ None
 no_tags None h = refl
@@ -67,7 +69,7 @@ module _ {U : Type 0} (n : ℕ) (some : 1 ≤ n) (visit : Part RawName → List 
       → visit (type_reference CommonOrEntity m) ≡ []
   quiet p h m e = types m (subst (IsTypeName n) (sym e) h)
 
-  kind_gives : (x : Bool) (k : EntityTypeKind RawName) → KindSays x k (entity_of n i).decl
+  kind_gives : (x : Bool) (k : EntityTypeKind RawName) → KindSays x k (entity_of_number n i).decl
       → visit_where visit (x && not (is_bare_kind k)) external_not_bare ++ of_kind visit k ≡ []
   kind_gives x (Standard d) h =
       append_nothing (visit_where visit (x && not (is_bare_kind (Standard d))) external_not_bare)
@@ -82,11 +84,11 @@ module _ {U : Type 0} (n : ℕ) (some : 1 ≤ n) (visit : Part RawName → List 
       (ap (λ o. option_map_or (of_type visit) o []) (no_tags d.tags h.3))))
   kind_gives x (Enum ids) h = absurd h
 
-  pub entity_gives : (x : EntityType RawName) → EntitySays x (entity_of n i) → of_entity visit x ≡ []
+  pub entity_gives : (x : EntityType RawName) → EntitySays x (entity_of_number n i) → of_entity visit x ≡ []
   entity_gives x s = kind_gives x.external x.kind s.1
 
   apply_gives : (x : Bool) (spec : Option (ApplySpec RawName)) (ps : Option (List (ActionEntityUID RawName as_written)))
-      → AppliesSay x spec ps (action_of n i).decl
+      → AppliesSay x spec ps (action_of_number n i).decl
       → (x ≡ false) × (ps ≡ None) × (option_map_or (of_apply visit) spec [] ≡ [])
   apply_gives x None ps h = absurd h
   apply_gives x (Some d) ps h = (
@@ -101,7 +103,7 @@ module _ {U : Type 0} (n : ℕ) (some : 1 ≤ n) (visit : Part RawName → List 
         (context_gives visit d.context no_more tt h.2.2)),
   )
 
-  pub action_gives : (a : ActionType RawName as_written) → ActionSays a (action_of n i) → of_action visit a ≡ []
+  pub action_gives : (a : ActionType RawName as_written) → ActionSays a (action_of_number n i) → of_action visit a ≡ []
   action_gives a s =
       let h = apply_gives a.external a.applies_to a.member_of s.2 in
       append_nothing (visit_where visit (a.external && not (is_bare_action a)) external_not_bare) _

@@ -5,7 +5,6 @@ mod Expanding
 mod Faultless
 mod Given
 mod Meant
-mod Names
 mod Records
 mod Sayable
 mod Spelled

@@ -12,13 +12,16 @@ use Rattle.std.specs.Ordering.{ordering_then, match_ordering}
 use Rattle.std.specs.declared.cmp.Ordering.{Ordering}
 use Rattle.std.specs.declared.cmp.Ordering.TheVariants.{Less, Equal, Greater}
 use Rattle.std.proofs.lemmas.Map.Keys.{sorted_head}
+use Rattle.std.proofs.lemmas.Option.{same_Some}
 use Rattle.cedar_data.specs.Text.{text_cmp}
+use Rattle.cedar_data.proofs.Orders.{nothing_rises}
+use Rattle.schema_generate.specs.Generated.{max_size, resource_of}
 use Rattle.cedar_identifiers.specs.Names.{components_of}
 use Rattle.cedar_identifiers.specs.declared.raw_name.RawName.{RawName}
 use Rattle.cedar_identifiers.specs.declared.unreserved_id.UnreservedId.{UnreservedId}
 use Rattle.cedar_names.specs.CanonicalText.{namespace, in_order}
 use Rattle.cedar_names.specs.Meaning.{EntityMeaning, ActionMeaning, SchemaMeaning}
-use Rattle.cedar_names.specs.Orders.{ids_of, names_in_order, names_total}
+use Rattle.cedar_names.specs.Orders.{names_in_order, names_total}
 use Rattle.cedar_names.specs.declared.extension_table.ExtensionTable.{ExtensionTable}
 use Rattle.schema_json.specs.Actions.{action_name}
 use Rattle.schema_json.specs.declared.action_type.ActionEntityUID.{ActionEntityUID}
@@ -28,30 +31,31 @@ use Rattle.schema_json.specs.declared.entity_type.EntityType.{EntityType}
 use Rattle.schema_json.specs.declared.entity_type.EntityTypeKind.{EntityTypeKind}
 use Rattle.schema_json.specs.declared.entity_type.EntityTypeKind.TheVariants.{Standard, Enum}
 use Rattle.schema_json.specs.declared.fragment.Fragment.{Fragment}
-use Rattle.schema_convert_types.specs.Declarations.{as_written}
+use Rattle.schema_json.specs.AsWritten.{as_written}
 use Rattle.schema_readback.specs.Written.{no_more}
+use Rattle.schema_says.specs.DeclarationsSay.{written_paths, KindSays, AppliesSay}
+use Rattle.schema_says.specs.FragmentsSay.{FragmentSays, namespace_order, name_components}
 use Rattle.schema_resolve_definitions.specs.Declarations.{name_of}
 use Rattle.schema_resolve_definitions.specs.Tests.{Tests}
-use Rattle.schema_build_checks.specs.DeclaredAt.{actions_at_in_order}
+use Rattle.schema_build_types.specs.Content.{actions_cmp}
+use Rattle.schema_build_types.specs.Standing.{entity_as_built, action_as_built, schema_as_built}
+use Rattle.schema_build_text.specs.Captured.{captured_in, IsUncaptured}
+use Rattle.schema_build_text.specs.Walk.{ItemContent, entity_type, action, namespace_of, items_of, namespaces_of}
 use Rattle.schema_build_expand.specs.Scope.{Scope}
+use Rattle.schema_build_checks.specs.DeclaredAt.{actions_at_in_order}
+use Rattle.schema_build_checks.proofs.Names.{names_by_components}
+use Rattle.schema_build_scope.specs.FragmentScope.{fragment_scope}
 use Rattle.schema_build_hierarchy.specs.Declarations.{DeclaredEntity, entity_in, entity_name, entities_of, action_in}
 use Rattle.schema_build_hierarchy.specs.Declarations.{declared_entities, action_key, actions_of, declared_actions}
 use Rattle.schema_build_hierarchy.specs.Parents.{IsAncestor}
-use Rattle.schema_build_hierarchy.proofs.Exact.{by_texts}
 use Rattle.schema_build_hierarchy.proofs.Ordered.{sorted_back, sorted_seen}
 use Rattle.schema_build_items.specs.ActionKinds.{components_cmp, AreJust, IsMeantByOne, IsApplyMeaning}
 use Rattle.schema_build_items.specs.Kinds.{TagsExpand, IsKindMeaning}
-use Rattle.schema_build_scope.specs.FragmentScope.{fragment_scope}
-use Rattle.schema_build_text.specs.Captured.{captured_in, IsUncaptured}
-use Rattle.schema_build_text.specs.Walk.{ItemContent, entity_type, action, namespace_of, items_of, namespaces_of}
-use Rattle.schema_build_types.specs.Content.{actions_cmp}
-use Rattle.schema_build_types.specs.Standing.{entity_as_built, action_as_built, schema_as_built}
 use Rattle.schema_build.specs.Meaning.{IsEntityMeaning, IsActionMeaning, EntitiesMean, ActionsMean}
 use Rattle.schema_build.specs.Meaning.{FragmentMeaning}
-use Rattle.schema_says.specs.DeclarationsSay.{written_paths, KindSays, AppliesSay}
-use Rattle.schema_says.specs.FragmentsSay.{FragmentSays, namespace_order, name_components}
-use Rattle.schema_generate.specs.Generated.{max_size, resource_of}
-use Rattle.schema_generate_valid.specs.Declares.{entity_path, attributes_of, entity_of, action_of, generated_items}
+use Rattle.schema_build_says.proofs.Members.{IsIn, in_from, in_to, in_append, in_map, map_to, flat_nothing}
+use Rattle.schema_generate_valid.specs.Declares.{entity_path, attributes_of, entity_of_number, action_of_number}
+use Rattle.schema_generate_valid.specs.Declares.{generated_items}
 use Rattle.schema_generate_valid.specs.Said.{DeclaredAction}
 use Rattle.schema_generate_valid.proofs.Ancestors.{target_found, ancestors_of, are_ancestors}
 use Rattle.schema_generate_valid.proofs.Declared.{Block, id_text, block_is, block_there, entity_at, action_at}
@@ -59,7 +63,6 @@ use Rattle.schema_generate_valid.proofs.Defined.{IsDeclaredName, t}
 use Rattle.schema_generate_valid.proofs.Expanding.{declared_once, record_expands}
 use Rattle.schema_generate_valid.proofs.Faultless.{no_action_ancestor}
 use Rattle.schema_generate_valid.proofs.Given.{no_tags, target_declared, resource_declared}
-use Rattle.schema_build_says.proofs.Members.{IsIn, in_from, in_to, in_append, in_map, map_to, flat_nothing}
 
 -- one for each
 chosen : {A B : Type 0} (P : A → B → Type 0) (xs : List A) → ((x : A) → IsIn x xs → (y : B) × P x y)
@@ -105,10 +108,6 @@ then_equal : (c : Ordering) → ordering_then c Equal ≡ c
 then_equal Less = refl
 then_equal Equal = refl
 then_equal Greater = refl
-
-none_rises : {A : Type 0} (R : A → A → Ordering) → IsStrictlySortedBy R []
-unfolding IsStrictlySortedBy
-none_rises R = tt
 
 one_rises : {A : Type 0} (R : A → A → Ordering) (x : A) → IsStrictlySortedBy R (x ∷ [])
 unfolding IsStrictlySortedBy
@@ -190,7 +189,7 @@ module _ (n : ℕ) (some : 1 ≤ n) (small : n ≤ max_size) (f : Fragment RawNa
 
   entities_rise : IsStrictlySortedBy (λ (a b : DeclaredEntity). names_in_order a.name b.name) (declared_entities f)
   entities_rise = subst (λ R. IsStrictlySortedBy R (declared_entities f))
-      (λ i (a b : DeclaredEntity). sym (by_texts (ids_of a.name) (ids_of b.name)) i)
+      (λ i (a b : DeclaredEntity). sym (names_by_components a.name b.name) i)
       (sorted_back entity_name components_cmp (declared_entities f) names_rise)
 
   actions_rise : IsStrictlySortedBy (λ (a b : DeclaredAction). actions_at_in_order a.name b.name) (declared_actions f)
@@ -205,7 +204,7 @@ module _ (n : ℕ) (some : 1 ≤ n) (small : n ≤ max_size) (f : Fragment RawNa
       (sorted_back (λ (e : List ℕ × ActionType RawName as_written). e.0) text_cmp es up)))
 
   -- what an entity type means
-  kind_meant : (i : ℕ) (x : Bool) (k : EntityTypeKind RawName) → KindSays x k (entity_of n i).decl
+  kind_meant : (i : ℕ) (x : Bool) (k : EntityTypeKind RawName) → KindSays x k (entity_of_number n i).decl
       → (m : _) × IsKindMeaning scope None k m
   kind_meant i x (Standard d) h =
       let r = record_expands n some f says table d.shape.0 (attributes_of n i)
@@ -279,7 +278,7 @@ module _ (n : ℕ) (some : 1 ≤ n) (small : n ≤ max_size) (f : Fragment RawNa
           let there = map_to (λ (x : RawName). components_of x.name) names h.0 (in_from names h.0 h.1) in
           let same = in_one (components_of h.0.name) (subst (IsIn (components_of h.0.name)) e there) in
           let found = target_found n some small f says table h.0 (subst (IsDeclaredName n) (sym same) known) in
-          in_to (p ∷ []) target (inl (some_same target (components_of h.0.name) (sym h.2 ∙ found) ∙ same)),
+          in_to (p ∷ []) target (inl (same_Some target (components_of h.0.name) (sym h.2 ∙ found) ∙ same)),
     );
   }
     where
@@ -287,11 +286,9 @@ module _ (n : ℕ) (some : 1 ≤ n) (small : n ≤ max_size) (f : Fragment RawNa
       in_one x (inl k) = k
       in_one x (inr k) = absurd k
 
-      some_same : (a b : List (List ℕ)) → Some a ≡ Some b → a ≡ b
-      some_same a b k = cc
-
   apply_meant : (i : ℕ) (x : Bool) (spec : Option (ApplySpec RawName))
-      (ps : Option (List (ActionEntityUID RawName as_written))) → i < n → AppliesSay x spec ps (action_of n i).decl
+      (ps : Option (List (ActionEntityUID RawName as_written))) → i < n
+      → AppliesSay x spec ps (action_of_number n i).decl
       → (m : _) × IsApplyMeaning tests scope None spec m
   apply_meant i x None ps below h = absurd h
   apply_meant i x (Some d) ps below h =
@@ -329,7 +326,7 @@ module _ (n : ℕ) (some : 1 ≤ n) (small : n ≤ max_size) (f : Fragment RawNa
             key = refl;
             is_external = refl;
             ancestors = record {
-              rising = none_rises actions_cmp;
+              rising = nothing_rises actions_cmp;
               just = λ b. (
                 λ c. absurd (omega (arith, c.1)),
                 λ r. absurd (no_action_ancestor n some f says table (action_key d) b r),

@@ -1,37 +1,23 @@
 -- What says a record stands for records alone.
-use Rattle.std.proofs.Common.{◌≡◌, ℕ, Bool, List, refl, sym, ap, ◌∙◌, Option}
+use Rattle.std.proofs.Common.{◌≡◌, ℕ, Bool, List, refl, Option}
 use Rattle.cedar_data.specs.Span.{Span}
 use Rattle.cedar_identifiers.specs.declared.internal_name.InternalName.{InternalName}
 use Rattle.cedar_identifiers.specs.declared.raw_name.RawName.{RawName}
 use Rattle.cedar_names.specs.Meaning.{PlainType, Attributes}
 use Rattle.schema_json.specs.Shapes.{attributes_of, is_open}
-use Rattle.schema_json.specs.declared.types.Type.{«Type», Type-F, out-roll-Type}
+use Rattle.schema_json.specs.declared.types.Type.{«Type»}
 use Rattle.schema_json.specs.declared.types.Type.TheVariants as shape
-use Rattle.schema_json.specs.declared.types.TypeVariant.{TypeVariant, TypeVariant-F, out-TypeVariant}
-use Rattle.schema_json.specs.declared.types.TypeVariant.{out-roll-TypeVariant}
 use Rattle.schema_json.specs.declared.types.TypeVariant.TheVariants as variant
 use Rattle.schema_json.specs.declared.types.RecordType.{RecordType}
 use Rattle.schema_json.specs.declared.types.TypeOfAttribute.{TypeOfAttribute}
+use Rattle.schema_readback.specs.Written.{WrittenAttributes, rec}
+use Rattle.schema_says.specs.TypesSay.{TypeSays}
 use Rattle.schema_build_expand.specs.Expands.{Expands, by_layer, LayerExpands, to_bool, to_long, to_string, to_set}
 use Rattle.schema_build_expand.specs.Expands.{to_record, to_extension, to_entity, to_builtin, to_declared}
 use Rattle.schema_build_expand.specs.Scope.{Scope}
-use Rattle.schema_build_expand.specs.View.{View, record_layer, view, outer_view, shape_view}
+use Rattle.schema_build_expand.specs.View.{View, record_layer, view}
 use Rattle.schema_build_items.specs.NoRecord.{IsNoRecord}
-use Rattle.schema_readback.specs.Written.{WrittenAttributes, rec}
-use Rattle.schema_says.specs.TypesSay.{TypeSays}
-
-pub shape_viewed : (v : TypeVariant RawName)
-    (o : TypeVariant-F RawName («Type» RawName) (TypeVariant RawName) (RecordType RawName) (TypeOfAttribute RawName))
-    (loc : Option Span)
-    → out-TypeVariant RawName v ≡ o → view (shape.Variant v loc) ≡ shape_view o
-shape_viewed v o loc e = ap view (sym (shape.rolls-Variant v loc))
-    ∙ (ap outer_view (out-roll-Type RawName (Type-F.Variant v loc)) ∙ ap shape_view e)
-
-pub record_viewed : (t : «Type» RawName) (r : RecordType RawName) (loc : Option Span)
-    → t ≡ shape.Variant (variant.Record r) loc → view t ≡ record_layer (is_open r) (attributes_of r)
-record_viewed t r loc e = ap view e ∙ shape_viewed (variant.Record r) (TypeVariant-F.Record r) loc
-    (ap (out-TypeVariant RawName) (sym (variant.rolls-Record r))
-    ∙ out-roll-TypeVariant RawName (TypeVariant-F.Record r))
+use Rattle.schema_build_closed.proofs.Views.{record_viewed}
 
 module _ (s : Scope RawName) (ns : Option InternalName) where
   layer_record : (v : View RawName) (open' : Bool) (es : List (List ℕ × TypeOfAttribute RawName)) (p : PlainType)

@@ -7,59 +7,57 @@ use Rattle.std.specs.Prelude.{decimal}
 use Rattle.std.specs.List.{AllByRecursion, range_with_len}
 use Rattle.std.specs.Ordering.{is_eq}
 use Rattle.std.proofs.lemmas.Fmt.{decimal_injective}
+use Rattle.std.proofs.lemmas.Bool.{false_from_ne_true}
+use Rattle.std.proofs.lemmas.Option.{same_Some}
 use Rattle.cedar_data.specs.Text.{text_cmp}
+use Rattle.cedar_data.proofs.Orders.{text_exact, equal_from}
+use Rattle.schema_generate.specs.Generated.{max_size, entity_word, action_word, parent_of, resource_of}
 use Rattle.cedar_identifiers.specs.Words.{is_cedar}
 use Rattle.schema_syntax_tree.specs.declared.pr.PR.TheVariants.{Principal, Resource}
-use Rattle.schema_convert.specs.Repeats.{same_among, NoneRepeats}
 use Rattle.schema_readback.specs.PrintedDecls.{IsSome}
 use Rattle.schema_readback.specs.Written.{WrittenMember, types, WrittenDeclared, WrittenItem}
+use Rattle.schema_convert.specs.Repeats.{same_among, NoneRepeats}
 use Rattle.schema_says.specs.FragmentsSay.{entities_of_decl, actions_of_decl, commons_of_decl}
 use Rattle.schema_says.specs.FragmentsSay.{WrittenNamespace, decls_of_item, items_of_namespace, opened}
 use Rattle.schema_says.specs.Named.{IsWellNamed}
 use Rattle.schema_says.specs.Sayable.{says_alike, AreLawfulMembers, AppliesWell, IsFreeCommonName, names_written}
 use Rattle.schema_says.specs.Sayable.{IsSayableNamespace, IsSayable}
-use Rattle.schema_says.proofs.Maps.{is_equal}
-use Rattle.schema_says.proofs.Orders.{text_exact}
-use Rattle.schema_generate.specs.Generated.{max_size, entity_word, action_word, parent_of, resource_of}
-use Rattle.schema_generate_valid.specs.Declares.{entity_path, entity_of, action_of, items_of, generated_items}
-use Rattle.schema_generate_valid.proofs.Names.{not_true}
+use Rattle.schema_generate_valid.specs.Declares.{entity_path, entity_of_number, action_of_number, items_of_number}
+use Rattle.schema_generate_valid.specs.Declares.{generated_items}
 
 -- the declarations of these numbers
 abbrev decls_of : ℕ → ℕ → List WrittenDeclared
-decls_of n i = entity_of n i ∷ action_of n i ∷ []
+decls_of n i = entity_of_number n i ∷ action_of_number n i ∷ []
 
 abbrev pub all_decls : ℕ → List ℕ → List WrittenDeclared
 all_decls n is = flat_map (decls_of n) is
 
-pub decls_are : (n : ℕ) (is : List ℕ) → flat_map decls_of_item (flat_map (items_of n) is) ≡ all_decls n is
+pub decls_are : (n : ℕ) (is : List ℕ) → flat_map decls_of_item (flat_map (items_of_number n) is) ≡ all_decls n is
 decls_are n [] = refl
-decls_are n (i ∷ is) = ap (λ l. entity_of n i ∷ action_of n i ∷ l) (decls_are n is)
+decls_are n (i ∷ is) = ap (λ l. entity_of_number n i ∷ action_of_number n i ∷ l) (decls_are n is)
 
 -- all of it stands in the empty namespace
 pub all_outside : (n : ℕ) (is : List ℕ)
-    → items_of_namespace None (flat_map (items_of n) is) ≡ flat_map (items_of n) is
+    → items_of_namespace None (flat_map (items_of_number n) is) ≡ flat_map (items_of_number n) is
 all_outside n [] = refl
-all_outside n (i ∷ is) = ap (λ l. items_of n i ++ l) (all_outside n is)
+all_outside n (i ∷ is) = ap (λ l. items_of_number n i ++ l) (all_outside n is)
 
 pub none_named : (n : ℕ) (is : List ℕ) (q : List (List ℕ))
-    → items_of_namespace (Some q) (flat_map (items_of n) is) ≡ []
+    → items_of_namespace (Some q) (flat_map (items_of_number n) is) ≡ []
 none_named n [] q = refl
 none_named n (i ∷ is) q = none_named n is q
-
-some_same : {A : Type 0} (a b : A) → Some a ≡ Some b → a ≡ b
-some_same a b h = cc
 
 pub opened_decls : (items : List WrittenItem) (w : WrittenNamespace) → opened items ≡ Some w
     → w.decls ≡ flat_map decls_of_item items
 opened_decls [] w h = absurd (true≢false (sym (ap is_some h)))
-opened_decls (x ∷ items) w h = ap (λ (v : WrittenNamespace). v.decls) (sym (some_same _ w h))
+opened_decls (x ∷ items) w h = ap (λ (v : WrittenNamespace). v.decls) (sym (same_Some _ w h))
 
 -- names
 parents_named : (b : Bool) (p : List (List ℕ)) → IsSome p → AllByRecursion IsSome (if b then [] else p ∷ [])
 parents_named true p h = tt
 parents_named false p h = (h, tt)
 
-pub well_named : (n : ℕ) (is : List ℕ) → AllByRecursion IsWellNamed (flat_map (items_of n) is)
+pub well_named : (n : ℕ) (is : List ℕ) → AllByRecursion IsWellNamed (flat_map (items_of_number n) is)
 well_named n [] = tt
 well_named n (i ∷ is) = (
   (parents_named (i == 0) (entity_path (parent_of i)) tt, (tt, (tt, tt)), tt),
@@ -112,8 +110,8 @@ module _ (word : ℕ → List ℕ) (apart : TellsApart word) where
       let first : word from ≡ y = cc in
       let rest : map word (range_with_len (from + 1) k) ≡ before ++ x ∷ after = cc in
       let r = stands (from + 1) k before after x rest in
-      let off : is_eq (text_cmp x y) ≡ false = not_true (is_eq (text_cmp x y)) (λ t.
-      let same : word r.0 ≡ word from = sym r.3 ∙ (text_exact x y (is_equal (text_cmp x y) t) ∙ sym first) in
+      let off : is_eq (text_cmp x y) ≡ false = false_from_ne_true (is_eq (text_cmp x y)) (λ t.
+      let same : word r.0 ≡ word from = sym r.3 ∙ (text_exact x y (equal_from (text_cmp x y) t) ∙ sym first) in
       let e : r.0 ≡ from = apart r.0 from (omega (arith, r.2)) (omega arith) same in omega (arith, e, r.1)) in
       ap (λ b. cond b (Some y) (same_among text_cmp x before)) off
       ∙ none_twice (from + 1) k (omega arith) before after x rest
@@ -153,7 +151,7 @@ pub sayable : (n : ℕ) → n ≤ max_size → IsSayable (generated_items n)
 sayable n small None w h =
     let is = range_with_len 0 n in
     let decls : w.decls ≡ all_decls n is =
-    opened_decls (flat_map (items_of n) is) w (ap opened (sym (all_outside n is)) ∙ h) ∙ decls_are n is in
+    opened_decls (flat_map (items_of_number n) is) w (ap opened (sym (all_outside n is)) ∙ h) ∙ decls_are n is in
     subst (IsSayableNamespace None) (sym decls)
     (record {
       name_free = tt;

@@ -4,20 +4,22 @@ use Rattle.std.proofs.Common.{◌∷◌, ◌++◌, refl, sym}
 use Rattle.std.proofs.Common.{ap, ◌∙◌, subst, arith, inl, inr, append_assoc, flat_map, Some, None, if◌then◌else◌}
 use Rattle.std.specs.Prelude.{codes}
 use Rattle.std.specs.List.{AllByRecursion, range_with_len}
-use Rattle.std.specs.List.Sorted.{IsStrictlySortedBy}
-use Rattle.cedar_data.specs.Text.{text_cmp}
-use Rattle.schema_syntax_grammar.specs.declared.token_kind.TokenKind.{TokenKind}
 use Rattle.std.proofs.lemmas.Nat.{mod_below}
+use Rattle.cedar_data.specs.Text.{text_cmp}
+use Rattle.cedar_data.specs.Words.{is_word}
+use Rattle.cedar_data.proofs.Orders.{nothing_rises}
+use Rattle.schema_generate.specs.Generated.{max_size, entity_word, action_word, parent_of, target_of, resource_of}
+use Rattle.schema_generate.specs.Generated.{parent_part, entity_line, action_line, lines_of, generated}
+use Rattle.schema_syntax_grammar.specs.declared.token_kind.TokenKind.{TokenKind}
 use Rattle.schema_syntax_grammar.specs.declared.token_kind.TokenKind.TheVariants.{Identifier, Comma, Semi, Colon}
 use Rattle.schema_syntax_grammar.specs.declared.token_kind.TokenKind.TheVariants.{RBrace, LBrace, Equals}
 use Rattle.schema_syntax_tokens.specs.Forms.{word_kind}
 use Rattle.schema_syntax_tokens.specs.Laid.{Lexeme, Piece, laid, lexemes_of, AreBlanks, none, blank, free, word, Follow}
-use Rattle.schema_syntax_tokens.specs.Laid.{done, by_gap, by_lexeme, IsReadAs, Edge, edge_of, may_touch}
+use Rattle.schema_syntax_tokens.specs.Laid.{done, by_gap, by_lexeme, HasLexemes, Edge, edge_of, may_touch}
 use Rattle.schema_syntax_tokens.specs.Forms.{IsForm, mark_kind}
 use Rattle.cedar_identifiers.specs.Words.{is_id}
 use Rattle.schema_readback.specs.Printed.{space, mark}
 use Rattle.schema_readback.specs.Printed as printed
-use Rattle.cedar_data.specs.Words.{is_word}
 use Rattle.schema_readback.specs.Notes.{SpellNotes, no_note}
 use Rattle.schema_readback.specs.ReadsBack.{ReadsBack}
 use Rattle.schema_readback.specs.Written.{WrittenItem, entity, outside}
@@ -28,10 +30,8 @@ use Rattle.schema_readback.specs.Spellings.{path_type, braces, last_attribute, m
 use Rattle.schema_readback.specs.Spellings.{required, equals_shape, no_tags, types_of, some_applies}
 use Rattle.schema_readback.specs.Spellings.{declared_of, entity_of, action_of, SpellsItem, outside_of}
 use Rattle.schema_readback.specs.Spellings.{SpellsSchema, SpellsShape}
-use Rattle.schema_generate.specs.Generated.{max_size, entity_word, action_word, parent_of, target_of, resource_of}
-use Rattle.schema_generate.specs.Generated.{parent_part, entity_line, action_line, lines_of, generated}
 use Rattle.schema_generate_valid.specs.Declares as declares
-use Rattle.schema_generate_valid.specs.Declares.{items_of, generated_items, attributes_of, entity_path}
+use Rattle.schema_generate_valid.specs.Declares.{items_of_number, generated_items, attributes_of, entity_path}
 use Rattle.schema_generate_valid.specs.Pieces.{name, shape_before, entity_before, action_before, pieces_of}
 use Rattle.schema_generate_valid.proofs.Words.{word_so, entity_id, action_id, entity_form, action_form}
 
@@ -151,15 +151,11 @@ action_follow n i rest h k s =
     (sp (mk RBrace (codes "}") refl refl (mk Semi (codes ";") refl refl (by_gap one_line_end s)))))))))))))))))))))
 
 -- the lexemes spell the declarations
-nothing_rises : IsStrictlySortedBy text_cmp []
-unfolding IsStrictlySortedBy
-nothing_rises = tt
-
 no_notes : SpellNotes [] []
 no_notes = record {
   written = [];
   spell = no_note;
-  arranged = record { sorted = nothing_rises; as_many = refl; each = tt; apart = tt };
+  arranged = record { sorted = nothing_rises text_cmp; as_many = refl; each = tt; apart = tt };
 }
 
 abbrev lexeme_of : List ℕ → Lexeme
@@ -221,7 +217,7 @@ entity_first false n i rest ws h k l r =
 
 action_first : (n i : ℕ) (rest : List Piece) (ws : List WrittenItem) → IsSmall i → IsSmall (resource_of n i)
     → AreManyOf SpellsItem (lexemes_of rest) ws
-    → AreManyOf SpellsItem (lexemes_of (action_before n i rest)) (outside (declares.action_of n i) ∷ ws)
+    → AreManyOf SpellsItem (lexemes_of (action_before n i rest)) (outside (declares.action_of_number n i) ∷ ws)
 action_first n i rest ws h k r =
     item_first (outside_of (declared_of no_notes
     (action_of end_lexeme refl (one_name (bare (action_ident i h))) no_parent
@@ -251,18 +247,18 @@ module _ (n : ℕ) (some : 1 ≤ n) (small : n ≤ max_size) where
       (action_follow n i (pieces_of n is) (below i h.0) (rest_below (5 * i + 1)) (pieces_follow is h.1))
 
   pieces_spell : (is : List ℕ) → AllByRecursion (λ i. i < n) is
-      → SpellsSchema (lexemes_of (pieces_of n is)) (flat_map (items_of n) is)
+      → SpellsSchema (lexemes_of (pieces_of n is)) (flat_map (items_of_number n) is)
   pieces_spell [] h = no_more_items
   pieces_spell (i ∷ is) h =
       entity_first (i == 0) n i (action_before n i (pieces_of n is))
-      (outside (declares.action_of n i) ∷ flat_map (items_of n) is) (below i h.0) (half_below i h.0)
+      (outside (declares.action_of_number n i) ∷ flat_map (items_of_number n) is) (below i h.0) (half_below i h.0)
       (rest_below (7 * i + 3))
-      (action_first n i (pieces_of n is) (flat_map (items_of n) is) (below i h.0) (rest_below (5 * i + 1))
+      (action_first n i (pieces_of n is) (flat_map (items_of_number n) is) (below i h.0) (rest_below (5 * i + 1))
       (pieces_spell is h.1))
 
   -- the text reads back as what it declares
-  pub reads : ((ps : List Piece) → Follow free ps → IsReadAs (laid ps) (lexemes_of ps))
-      → ((text : List ℕ) (u : List Lexeme) (w : List WrittenItem) → IsReadAs text u → SpellsSchema u w
+  pub reads : ((ps : List Piece) → Follow free ps → HasLexemes (laid ps) (lexemes_of ps))
+      → ((text : List ℕ) (u : List Lexeme) (w : List WrittenItem) → HasLexemes text u → SpellsSchema u w
       → ReadsBack text w) → ReadsBack (generated n) (generated_items n)
   reads read back =
       let is = range_with_len 0 n in

@@ -1,10 +1,10 @@
 -- What a generated text declares.
 use Rattle.std.specs.Prelude.{ℕ, ◌==◌, true, List, [], ◌∷◌, codes, flat_map, Some, None, if◌then◌else◌}
 use Rattle.std.specs.List.{range_with_len}
+use Rattle.schema_generate.specs.Generated.{entity_word, action_word, parent_of, target_of, resource_of}
 use Rattle.schema_syntax_tree.specs.declared.pr.PR.TheVariants.{Principal, Resource}
 use Rattle.schema_readback.specs.Written.{WrittenAttributes, path, no_more, attribute, types, entity, action}
 use Rattle.schema_readback.specs.Written.{WrittenDeclared, WrittenItem, outside}
-use Rattle.schema_generate.specs.Generated.{entity_word, action_word, parent_of, target_of, resource_of}
 
 -- the name of an entity type
 abbrev pub entity_path : ℕ → List (List ℕ)
@@ -19,12 +19,12 @@ attributes_of n i =
     attribute [] (codes "a") true (path (codes "Long" ∷ []))
     (attribute [] (codes "b") true (path (entity_path (target_of n i))) no_more)
 
-abbrev pub entity_of : ℕ → ℕ → WrittenDeclared
-entity_of n i =
+abbrev pub entity_of_number : ℕ → ℕ → WrittenDeclared
+entity_of_number n i =
     record { notes = []; decl = entity (entity_word i ∷ []) (parents_of i) (attributes_of n i) None }
 
-abbrev pub action_of : ℕ → ℕ → WrittenDeclared
-action_of n i =
+abbrev pub action_of_number : ℕ → ℕ → WrittenDeclared
+action_of_number n i =
     record {
       notes = [];
       decl = action (action_word i ∷ []) []
@@ -32,9 +32,9 @@ action_of n i =
     }
 
 -- the two declarations of a number
-abbrev pub items_of : ℕ → ℕ → List WrittenItem
-items_of n i = outside (entity_of n i) ∷ outside (action_of n i) ∷ []
+abbrev pub items_of_number : ℕ → ℕ → List WrittenItem
+items_of_number n i = outside (entity_of_number n i) ∷ outside (action_of_number n i) ∷ []
 
 -- what the text of n entity types and n actions declares: for each number below n, in turn, one of both
 abbrev pub generated_items : ℕ → List WrittenItem
-generated_items n = flat_map (items_of n) (range_with_len 0 n)
+generated_items n = flat_map (items_of_number n) (range_with_len 0 n)

@@ -4,7 +4,7 @@ ghost use Rattle.cedar_identifiers.specs.declared.raw_name.RawName.{RawName};
 ghost use Rattle.cedar_names.specs.Meaning.{SchemaMeaning};
 ghost use Rattle.cedar_names.specs.declared.extension_table.ExtensionTable.{ExtensionTable};
 ghost use Rattle.schema_json.specs.declared.fragment.Fragment.{Fragment};
-ghost use Rattle.schema_convert_types.specs.Declarations.{as_written};
+ghost use Rattle.schema_json.specs.AsWritten.{as_written};
 ghost use Rattle.schema_says.specs.FragmentsSay.{FragmentSays};
 ghost use Rattle.schema_says.specs.TranslatedAs.{IsTranslatedAs};
 ghost use Rattle.schema_build_checks.specs.Rows.{Never};

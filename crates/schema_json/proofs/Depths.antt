@@ -9,7 +9,8 @@ use Rattle.schema_json.specs.declared.types.Type.TheViews.{sized-Variant, sized-
 use Rattle.schema_json.specs.declared.types.TypeVariant.{TypeVariant, size-TypeVariant}
 use Rattle.schema_json.specs.declared.types.TypeVariant.TheVariants.{Set, Record}
 use Rattle.schema_json.specs.declared.types.RecordType.{RecordType, size-RecordType, size_is-RecordType, out-RecordType}
-use Rattle.schema_json.specs.declared.types.TypeOfAttribute.{TypeOfAttribute, size-TypeOfAttribute, size_is-TypeOfAttribute}
+use Rattle.schema_json.specs.declared.types.TypeOfAttribute.{TypeOfAttribute, size-TypeOfAttribute}
+use Rattle.schema_json.specs.declared.types.TypeOfAttribute.{size_is-TypeOfAttribute}
 use Rattle.schema_json.specs.declared.types.TypeOfAttribute.{out-TypeOfAttribute}
 
 pub variant_below : (N : Type 0) (ty : TypeVariant N) (loc : Option Span) (t : «Type» N) → t ≡ Variant ty loc

@@ -1,11 +1,22 @@
 -- A type equals itself with every place erased.
-use Rattle.std.proofs.Common.{◌≡◌, ℕ, Bool, true, false, ◌&&◌, List, [], ◌∷◌, map, refl, ap, ◌∙◌, subst, Option, Some}
+use Rattle.std.proofs.Common.{◌≡◌, ℕ, Bool, true, false, ◌&&◌, List, [], ◌∷◌, map, refl, ap, ◌∙◌, Option, Some}
 use Rattle.std.proofs.Common.{None}
 use denote.RattleType.{RattleType}
 use mir.Syntax.{Dict}
 use Rattle.std.specs.declared.cmp.PartialEq as eq
 use Rattle.std.specs.contracts.cmp.PartialEq.TheBound as bound
+use Rattle.std.specs.contracts.prelude.BoolPartialEq.TheImpl as bool
+use Rattle.std.specs.Cmp.{IsEquivalence}
+use Rattle.std.specs.Cmp.Lexicographic.{pointwise, nat_list_eq_equiv}
+use Rattle.std.specs.List.{AllByRecursion}
+use Rattle.std.specs.Option.{option_eq, option_map}
+use Rattle.std.specs.Str.{encode_utf8_all}
 use Rattle.cedar_data.specs.declared.loc.Loc.{Loc}
+use Rattle.cedar_data.specs.contracts.text.TextPartialEq.TheImpl as text
+use Rattle.cedar_identifiers.specs.declared.annotations.Annotations.{Annotations}
+use Rattle.cedar_identifiers.specs.declared.unreserved_id.UnreservedId.{UnreservedId}
+use Rattle.cedar_identifiers.specs.contracts.annotations.AnnotationsPartialEq.TheImpl as annotations
+use Rattle.cedar_identifiers.specs.contracts.unreserved_id.UnreservedIdPartialEq.TheImpl as unreserved_id
 use Rattle.schema_json.specs.contracts.types.TypePartialEq.TheImpl as ty
 use Rattle.schema_json.specs.contracts.types.TypePartialEq.TheImpl.Laws as ty_laws
 use Rattle.schema_json.specs.contracts.types.TypeVariantPartialEq.TheImpl as tv
@@ -16,22 +27,10 @@ use Rattle.schema_json.specs.contracts.types.TypeOfAttributePartialEq.TheImpl as
 use Rattle.schema_json.specs.contracts.types.TypeOfAttributePartialEq.TheImpl.Laws as at_laws
 use Rattle.schema_json.specs.Places.{erased_entries, erased_type, erased_variant, erased_record, erased_attribute}
 use Rattle.schema_json.specs.Places.{placeless}
-use Rattle.schema_json.specs.declared.types.Type.TheFolds.{ind-Type, ind-TypeVariant, ind-RecordType}
-use Rattle.schema_json.specs.declared.types.Type.TheFolds.{ind-TypeOfAttribute, map-Type, map-TypeVariant}
-use Rattle.schema_json.specs.declared.types.Type.TheFolds.{map-RecordType, map-TypeOfAttribute, fold-roll-Type}
-use Rattle.schema_json.specs.declared.types.Type.TheFolds.{fold-roll-TypeVariant, fold-roll-RecordType}
-use Rattle.schema_json.specs.declared.types.Type.TheFolds.{fold-roll-TypeOfAttribute}
-use Rattle.cedar_data.specs.contracts.text.TextPartialEq.TheImpl as text
-use Rattle.cedar_identifiers.specs.declared.annotations.Annotations.{Annotations}
-use Rattle.cedar_identifiers.specs.declared.unreserved_id.UnreservedId.{UnreservedId}
-use Rattle.cedar_identifiers.specs.contracts.annotations.AnnotationsPartialEq.TheImpl as annotations
-use Rattle.cedar_identifiers.specs.contracts.unreserved_id.UnreservedIdPartialEq.TheImpl as unreserved_id
-use Rattle.std.specs.contracts.prelude.BoolPartialEq.TheImpl as bool
-use Rattle.std.specs.Cmp.{IsEquivalence}
-use Rattle.std.specs.Cmp.Lexicographic.{pointwise, nat_list_eq_equiv}
-use Rattle.std.specs.Option.{option_eq, option_map}
-use Rattle.std.specs.Str.{encode_utf8_all}
-use Rattle.schema_json.specs.declared.types.Type.{«Type», roll-Type}
+use Rattle.schema_json.proofs.Layers.{Layers, variant_made, reference_made, string_made, long_made, boolean_made}
+use Rattle.schema_json.proofs.Layers.{set_made, record_made, entity_made, either_made, extension_made, each_type}
+use Rattle.schema_json.proofs.Layers.{each_variant, each_record, each_attribute}
+use Rattle.schema_json.specs.declared.types.Type.{«Type»}
 use Rattle.schema_json.specs.declared.types.Type.TheVariants.{Variant, CommonTypeRef, rolls-Variant}
 use Rattle.schema_json.specs.declared.types.Type.TheVariants.{rolls-CommonTypeRef}
 use Rattle.schema_json.specs.declared.types.TypeVariant.{TypeVariant, out-TypeVariant, roll-TypeVariant}
@@ -41,10 +40,9 @@ use Rattle.schema_json.specs.declared.types.TypeVariant.TheVariants.{rolls-Long,
 use Rattle.schema_json.specs.declared.types.TypeVariant.TheVariants.{rolls-Entity, rolls-EntityOrCommon}
 use Rattle.schema_json.specs.declared.types.TypeVariant.TheVariants.{rolls-Extension}
 use Rattle.schema_json.specs.declared.types.RecordType.{RecordType, out-RecordType, roll-RecordType}
-use Rattle.schema_json.specs.declared.types.RecordType.{out-roll-RecordType}
+use Rattle.schema_json.specs.declared.types.RecordType.{out-roll-RecordType, fold_out-RecordType}
 use Rattle.schema_json.specs.declared.types.TypeOfAttribute.{TypeOfAttribute, out-TypeOfAttribute, roll-TypeOfAttribute}
-use Rattle.schema_json.specs.declared.types.TypeOfAttribute.{out-roll-TypeOfAttribute}
-use Rattle.schema_json.specs.declared.types.Type.TheOpen.{Type-F, TypeVariant-F, RecordType-F, TypeOfAttribute-F}
+use Rattle.schema_json.specs.declared.types.TypeOfAttribute.{out-roll-TypeOfAttribute, fold_out-TypeOfAttribute}
 
 pub bool_same : (x : Bool) → bool.ghosts.eq x x ≡ true
 bool_same true = refl
@@ -147,148 +145,70 @@ module _ (N : RattleType) (E : eq.Ghosts N.Denot) (D : Dict) (lawful : bound.Law
     abbrev P3 : TypeOfAttribute N.Denot → Type 0
     P3 a = at_eq (erased_attribute a) a ≡ true
 
-    abbrev T' : Type 0
-    T' = (t : «Type» N.Denot) × P t
-
-    abbrev V' : Type 0
-    V' = (v : TypeVariant N.Denot) × P1 v
-
-    abbrev R' : Type 0
-    R' = (r : RecordType N.Denot) × P2 r
-
-    abbrev A' : Type 0
-    A' = (a : TypeOfAttribute N.Denot) × P3 a
-
-    rolled : (x : Type-F N.Denot («Type» N.Denot) (TypeVariant N.Denot) (RecordType N.Denot) (TypeOfAttribute N.Denot))
-        → erased_type (roll-Type N.Denot x)
-        ≡ placeless (map-Type N.Denot _ _ _ _ _ _ _ _ erased_type erased_variant erased_record erased_attribute x)
-    rolled x = fold-roll-Type N.Denot («Type» N.Denot) (TypeVariant N.Denot) (RecordType N.Denot)
-        (TypeOfAttribute N.Denot) placeless (roll-TypeVariant N.Denot) (roll-RecordType N.Denot)
-        (roll-TypeOfAttribute N.Denot) x
-
-    rolled_variant : (x : TypeVariant-F N.Denot («Type» N.Denot) (TypeVariant N.Denot) (RecordType N.Denot)
-        (TypeOfAttribute N.Denot))
-        → erased_variant (roll-TypeVariant N.Denot x)
-        ≡ roll-TypeVariant N.Denot (map-TypeVariant N.Denot _ _ _ _ _ _ _ _ erased_type erased_variant erased_record
-        erased_attribute x)
-    rolled_variant x = fold-roll-TypeVariant N.Denot («Type» N.Denot) (TypeVariant N.Denot) (RecordType N.Denot)
-        (TypeOfAttribute N.Denot) placeless (roll-TypeVariant N.Denot) (roll-RecordType N.Denot)
-        (roll-TypeOfAttribute N.Denot) x
-
-    rolled_record : (x : RecordType-F N.Denot («Type» N.Denot) (TypeVariant N.Denot) (RecordType N.Denot)
-        (TypeOfAttribute N.Denot))
-        → erased_record (roll-RecordType N.Denot x)
-        ≡ roll-RecordType N.Denot (map-RecordType N.Denot _ _ _ _ _ _ _ _ erased_type erased_variant erased_record
-        erased_attribute x)
-    rolled_record x = fold-roll-RecordType N.Denot («Type» N.Denot) (TypeVariant N.Denot) (RecordType N.Denot)
-        (TypeOfAttribute N.Denot) placeless (roll-TypeVariant N.Denot) (roll-RecordType N.Denot)
-        (roll-TypeOfAttribute N.Denot) x
-
-    rolled_attribute : (x : TypeOfAttribute-F N.Denot («Type» N.Denot) (TypeVariant N.Denot) (RecordType N.Denot)
-        (TypeOfAttribute N.Denot))
-        → erased_attribute (roll-TypeOfAttribute N.Denot x)
-        ≡ roll-TypeOfAttribute N.Denot
-        (map-TypeOfAttribute N.Denot _ _ _ _ _ _ _ _ erased_type erased_variant erased_record erased_attribute x)
-    rolled_attribute x = fold-roll-TypeOfAttribute N.Denot («Type» N.Denot) (TypeVariant N.Denot) (RecordType N.Denot)
-        (TypeOfAttribute N.Denot) placeless (roll-TypeVariant N.Denot) (roll-RecordType N.Denot)
-        (roll-TypeOfAttribute N.Denot) x
-
-    step_type : (y : Type-F N.Denot T' V' R' A')
-        → P (roll-Type N.Denot (map-Type N.Denot T' V' R' A' _ _ _ _ (λ e. e.0) (λ e. e.0) (λ e. e.0) (λ e. e.0) y))
-    step_type (Type-F.Variant v loc) =
-        let e = rolled (Type-F.Variant v.0 loc) ∙ rolls-Variant (erased_variant v.0) None in
-        let r = rolls-Variant v.0 loc in
-        (λ i. ty_eq (e i) (r i)) ∙ variant_same (erased_variant v.0) v.0 None loc ∙ v.1
-    step_type (Type-F.CommonTypeRef n loc) =
-        let e = rolled (Type-F.CommonTypeRef n loc) ∙ rolls-CommonTypeRef n None in
-        let r = rolls-CommonTypeRef n loc in
-        (λ i. ty_eq (e i) (r i)) ∙ ref_same n n None loc ∙ reflexive n
-
-    step_variant : (y : TypeVariant-F N.Denot T' V' R' A')
-        → P1 (roll-TypeVariant N.Denot
-        (map-TypeVariant N.Denot T' V' R' A' _ _ _ _ (λ e. e.0) (λ e. e.0) (λ e. e.0) (λ e. e.0) y))
-    step_variant TypeVariant-F.String =
-        (λ i. tv_eq ((rolled_variant TypeVariant-F.String ∙ rolls-String) i) (rolls-String i)) ∙ string_same
-    step_variant TypeVariant-F.Long =
-        (λ i. tv_eq ((rolled_variant TypeVariant-F.Long ∙ rolls-Long) i) (rolls-Long i)) ∙ long_same
-    step_variant TypeVariant-F.Boolean =
-        (λ i. tv_eq ((rolled_variant TypeVariant-F.Boolean ∙ rolls-Boolean) i) (rolls-Boolean i)) ∙ boolean_same
-    step_variant (TypeVariant-F.Set b) =
-        (λ i. tv_eq ((rolled_variant (TypeVariant-F.Set b.0) ∙ rolls-Set (erased_type b.0)) i) (rolls-Set b.0 i))
-        ∙ set_same (erased_type b.0) b.0 ∙ b.1
-    step_variant (TypeVariant-F.Record r) =
-        (λ i. tv_eq ((rolled_variant (TypeVariant-F.Record r.0) ∙ rolls-Record (erased_record r.0)) i)
-        (rolls-Record r.0 i)) ∙ record_same (erased_record r.0) r.0 ∙ r.1
-    step_variant (TypeVariant-F.Entity n) =
-        (λ i. tv_eq ((rolled_variant (TypeVariant-F.Entity n) ∙ rolls-Entity n) i) (rolls-Entity n i)) ∙ name_same n n
-        ∙ reflexive n
-    step_variant (TypeVariant-F.EntityOrCommon n) =
-        (λ i. tv_eq ((rolled_variant (TypeVariant-F.EntityOrCommon n) ∙ rolls-EntityOrCommon n) i)
-        (rolls-EntityOrCommon n i)) ∙ common_same n n ∙ reflexive n
-    step_variant (TypeVariant-F.Extension x) =
-        (λ i. tv_eq ((rolled_variant (TypeVariant-F.Extension x) ∙ rolls-Extension x) i) (rolls-Extension x i))
-        ∙ extension_same x x ∙ id_same x
-
     text_same : (x : List ℕ) → text_eq x x ≡ true
     text_same x = nat_list_eq_equiv.refl (encode_utf8_all x)
 
-    entries_same : (es : List (List ℕ × A'))
-        → entries_eq (map (λ p. let q : List ℕ × TypeOfAttribute N.Denot = (p.0, erased_attribute p.1) in q)
-        (map (λ p. let q : List ℕ × TypeOfAttribute N.Denot = (p.0, p.1.0) in q) es))
-        (map (λ p. let q : List ℕ × TypeOfAttribute N.Denot = (p.0, p.1.0) in q) es) ≡ true
-    entries_same [] = refl
-    entries_same (e ∷ es) = rw (text_same e.0, e.1.1, entries_same es)
+    abbrev erased : List (List ℕ × TypeOfAttribute N.Denot) → List (List ℕ × TypeOfAttribute N.Denot)
+    erased es = map (λ p. let q : List ℕ × TypeOfAttribute N.Denot = (p.0, erased_attribute p.1) in q) es
 
-    step_record : (y : RecordType-F N.Denot T' V' R' A')
-        → P2 (roll-RecordType N.Denot (map-RecordType N.Denot T' V' R' A' _ _ _ _ (λ e. e.0) (λ e. e.0) (λ e. e.0)
-        (λ e. e.0) y))
-    step_record y =
-        let x = map-RecordType N.Denot T' V' R' A' («Type» N.Denot) (TypeVariant N.Denot) (RecordType N.Denot)
-        (TypeOfAttribute N.Denot) (λ e. e.0) (λ e. e.0) (λ e. e.0) (λ e. e.0) y in
-        let e = ap (out-RecordType N.Denot) (rolled_record x) ∙ out-roll-RecordType N.Denot _ in
-        let r = out-roll-RecordType N.Denot x in
-        attributes_same (erased_record (roll-RecordType N.Denot x)) (roll-RecordType N.Denot x)
-        ∙ (λ i. entries_eq (e i).attributes (r i).attributes && bool.ghosts.eq (e i).additional_attributes
-        (r i).additional_attributes)
-        ∙ (λ i. entries_same y.attributes i && bool_same y.additional_attributes i)
+    entries_same : (es : List (List ℕ × TypeOfAttribute N.Denot)) → AllByRecursion (λ e. P3 e.1) es
+        → entries_eq (erased es) es ≡ true
+    entries_same [] h = refl
+    entries_same (e ∷ es) h = rw (text_same e.0, h.0, entries_same es h.1)
 
-    step_attribute : (y : TypeOfAttribute-F N.Denot T' V' R' A')
-        → P3 (roll-TypeOfAttribute N.Denot
-        (map-TypeOfAttribute N.Denot T' V' R' A' _ _ _ _ (λ e. e.0) (λ e. e.0) (λ e. e.0) (λ e. e.0) y))
-    step_attribute y =
-        let x = map-TypeOfAttribute N.Denot T' V' R' A' («Type» N.Denot) (TypeVariant N.Denot) (RecordType N.Denot)
-        (TypeOfAttribute N.Denot) (λ e. e.0) (λ e. e.0) (λ e. e.0) (λ e. e.0) y in
-        let e = ap (out-TypeOfAttribute N.Denot) (rolled_attribute x) ∙ out-roll-TypeOfAttribute N.Denot _ in
-        let r = out-roll-TypeOfAttribute N.Denot x in
-        attribute_same (erased_attribute (roll-TypeOfAttribute N.Denot x)) (roll-TypeOfAttribute N.Denot x)
-        ∙ (λ i. ty_eq (e i).ty (r i).ty &&
-        (annotations.ghosts.eq (e i).annotations (r i).annotations && bool.ghosts.eq (e i).required (r i).required))
-        ∙ (λ i. y.ty.1 i && (annotations_same y.annotations i && bool_same y.required i))
+    layers : Layers N.Denot P P1 P2 P3
+    layers =
+        let V = roll-TypeVariant N.Denot in
+        let R = roll-RecordType N.Denot in
+        let A = roll-TypeOfAttribute N.Denot in
+        record {
+          variant = λ v loc h. ap (λ t. ty_eq t (Variant v loc))
+              (variant_made _ placeless V R A v loc ∙ rolls-Variant (erased_variant v) None)
+              ∙ variant_same (erased_variant v) v None loc ∙ h;
+          reference = λ n loc. ap (λ t. ty_eq t (CommonTypeRef n loc))
+              (reference_made _ placeless V R A n loc ∙ rolls-CommonTypeRef n None)
+              ∙ ref_same n n None loc ∙ reflexive n;
+          string = ap (λ v. tv_eq v String) (string_made _ placeless V R A ∙ rolls-String) ∙ string_same;
+          long = ap (λ v. tv_eq v Long) (long_made _ placeless V R A ∙ rolls-Long) ∙ long_same;
+          boolean = ap (λ v. tv_eq v Boolean) (boolean_made _ placeless V R A ∙ rolls-Boolean) ∙ boolean_same;
+          set = λ t h. ap (λ v. tv_eq v (Set t)) (set_made _ placeless V R A t ∙ rolls-Set (erased_type t))
+              ∙ set_same (erased_type t) t ∙ h;
+          fields = λ r h. ap (λ v. tv_eq v (Record r))
+              (record_made _ placeless V R A r ∙ rolls-Record (erased_record r))
+              ∙ record_same (erased_record r) r ∙ h;
+          entity = λ n. ap (λ v. tv_eq v (Entity n)) (entity_made _ placeless V R A n ∙ rolls-Entity n)
+              ∙ name_same n n ∙ reflexive n;
+          either = λ n. ap (λ v. tv_eq v (EntityOrCommon n))
+              (either_made _ placeless V R A n ∙ rolls-EntityOrCommon n)
+              ∙ common_same n n ∙ reflexive n;
+          extension = λ x. ap (λ v. tv_eq v (Extension x)) (extension_made _ placeless V R A x ∙ rolls-Extension x)
+              ∙ extension_same x x ∙ id_same x;
+          entries = λ r h.
+              let e = ap (out-RecordType N.Denot) (fold_out-RecordType N.Denot _ _ _ _ placeless V R A r)
+              ∙ out-roll-RecordType N.Denot _ in
+              let open' = (out-RecordType N.Denot r).additional_attributes in
+              attributes_same (erased_record r) r
+              ∙ ap (λ x. entries_eq x.attributes (out-RecordType N.Denot r).attributes
+              && bool.ghosts.eq x.additional_attributes open') e
+              ∙ (λ i. entries_same (out-RecordType N.Denot r).attributes h i && bool_same open' i);
+          attribute = λ a h.
+              let e = ap (out-TypeOfAttribute N.Denot) (fold_out-TypeOfAttribute N.Denot _ _ _ _ placeless V R A a)
+              ∙ out-roll-TypeOfAttribute N.Denot _ in
+              let o = out-TypeOfAttribute N.Denot a in
+              attribute_same (erased_attribute a) a
+              ∙ ap (λ x. ty_eq x.ty o.ty && (annotations.ghosts.eq x.annotations o.annotations
+              && bool.ghosts.eq x.required o.required)) e
+              ∙ (λ i. h i && (annotations_same o.annotations i && bool_same o.required i));
+        }
 
     pub type_placeless : (t : «Type» N.Denot) → P t
-    type_placeless = ind-Type N.Denot P P1 P2 P3
-        (λ x y is. subst (λ z. P (roll-Type N.Denot z)) is (step_type y))
-        (λ x y is. subst (λ z. P1 (roll-TypeVariant N.Denot z)) is (step_variant y))
-        (λ x y is. subst (λ z. P2 (roll-RecordType N.Denot z)) is (step_record y))
-        (λ x y is. subst (λ z. P3 (roll-TypeOfAttribute N.Denot z)) is (step_attribute y))
+    type_placeless = each_type N.Denot P P1 P2 P3 layers
 
     pub variant_placeless : (v : TypeVariant N.Denot) → P1 v
-    variant_placeless = ind-TypeVariant N.Denot P P1 P2 P3
-        (λ x y is. subst (λ z. P (roll-Type N.Denot z)) is (step_type y))
-        (λ x y is. subst (λ z. P1 (roll-TypeVariant N.Denot z)) is (step_variant y))
-        (λ x y is. subst (λ z. P2 (roll-RecordType N.Denot z)) is (step_record y))
-        (λ x y is. subst (λ z. P3 (roll-TypeOfAttribute N.Denot z)) is (step_attribute y))
+    variant_placeless = each_variant N.Denot P P1 P2 P3 layers
 
     pub record_placeless : (r : RecordType N.Denot) → P2 r
-    record_placeless = ind-RecordType N.Denot P P1 P2 P3
-        (λ x y is. subst (λ z. P (roll-Type N.Denot z)) is (step_type y))
-        (λ x y is. subst (λ z. P1 (roll-TypeVariant N.Denot z)) is (step_variant y))
-        (λ x y is. subst (λ z. P2 (roll-RecordType N.Denot z)) is (step_record y))
-        (λ x y is. subst (λ z. P3 (roll-TypeOfAttribute N.Denot z)) is (step_attribute y))
+    record_placeless = each_record N.Denot P P1 P2 P3 layers
 
     pub attribute_placeless : (a : TypeOfAttribute N.Denot) → P3 a
-    attribute_placeless = ind-TypeOfAttribute N.Denot P P1 P2 P3
-        (λ x y is. subst (λ z. P (roll-Type N.Denot z)) is (step_type y))
-        (λ x y is. subst (λ z. P1 (roll-TypeVariant N.Denot z)) is (step_variant y))
-        (λ x y is. subst (λ z. P2 (roll-RecordType N.Denot z)) is (step_record y))
-        (λ x y is. subst (λ z. P3 (roll-TypeOfAttribute N.Denot z)) is (step_attribute y))
+    attribute_placeless = each_attribute N.Denot P P1 P2 P3 layers

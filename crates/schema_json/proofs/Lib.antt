@@ -1,5 +1,7 @@
 pub mod Depths
 mod Erased
+pub mod Layers
+pub mod Namespaces
+pub mod Orders
 pub mod Same
-pub mod Sizes
 pub mod Walks

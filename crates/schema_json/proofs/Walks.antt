@@ -1,6 +1,7 @@
 -- The equations of the walks.
-use Rattle.std.proofs.Common.{◌≡◌, ℕ, Bool, true, false, ◌||◌, List, [], ◌∷◌, ◌++◌, map, refl, ap, sym, ◌∙◌, suc, ◌+◌}
+use Rattle.std.proofs.Common.{◌≡◌, ℕ, Bool, ◌||◌, List, [], ◌∷◌, ◌++◌, map, refl, ap, sym, ◌∙◌, suc, ◌+◌}
 use Rattle.std.proofs.Common.{◌<◌, length, get_or, drop, drop-cons, add-one, Option, Some, None}
+use Rattle.std.proofs.Math.Bool.{or_assoc}
 use Rattle.std.specs.List.{flat_map}
 use Rattle.schema_json.specs.Walk.{type_refs, variant_refs, record_refs, attribute_refs, references, variant_references}
 use Rattle.schema_json.specs.Walk.{record_references, attribute_references, entry_references, either, any_extension}
@@ -10,12 +11,11 @@ use Rattle.schema_json.specs.Walk.{is_extension_among}
 use Rattle.schema_json.specs.declared.types.RecordType.{RecordType, out-RecordType, fold_out-RecordType}
 use Rattle.schema_json.specs.declared.types.TypeOfAttribute.{TypeOfAttribute, out-TypeOfAttribute}
 use Rattle.schema_json.specs.declared.types.TypeOfAttribute.{fold_out-TypeOfAttribute}
-use Rattle.schema_json.specs.declared.types.TypeVariant.{TypeVariant-F, fold-roll-TypeVariant}
-use Rattle.schema_json.specs.declared.types.TypeVariant.TheVariants.{Record, EntityOrCommon, rolls-Record}
-use Rattle.schema_json.specs.declared.types.TypeVariant.TheVariants.{rolls-EntityOrCommon}
+use Rattle.schema_json.specs.declared.types.TypeVariant.TheVariants.{Record, EntityOrCommon}
+use Rattle.schema_json.proofs.Layers.{record_made, either_made}
 
 -- the values of entries, each made anew
-values_made : {A R : Type 0} (f : A → R) (entries : List (List ℕ × A))
+pub values_made : {A R : Type 0} (f : A → R) (entries : List (List ℕ × A))
     → map (λ p. p.1) (map (λ p. let q : List ℕ × R = (p.0, f p.1) in q) entries) ≡ map (λ p. f p.1) entries
 values_made f [] = refl
 values_made f (p ∷ ps) = ap (λ made. f p.1 ∷ made) (values_made f ps)
@@ -27,14 +27,10 @@ pub values_walked : {A U : Type 0} (f : A → List U) (entries : List (List ℕ 
 values_walked f [] = refl
 values_walked f (p ∷ ps) = ap (λ made. f p.1 ++ made) (values_walked f ps)
 
-or_later : (a b c : Bool) → (a || (b || c)) ≡ ((a || b) || c)
-or_later true b c = refl
-or_later false b c = refl
-
 pub either_more : (a b : Bool) (answer : Option Bool)
     → either (Some a) (either (Some b) answer) ≡ either (Some (a || b)) answer
 either_more a b None = refl
-either_more a b (Some c) = ap Some (or_later a b c)
+either_more a b (Some c) = ap Some (sym (or_assoc a b c))
 
 -- the next answer, and the answer of those after it
 pub one_answer : (a : Bool) (answer known rest all : Option Bool) → answer ≡ known → all ≡ either known rest
@@ -53,14 +49,10 @@ module _ (N : Type 0) where
 
   pub variant_record : (r : RecordType N)
       → variant_references (Record r) ≡ entry_references (out-RecordType N r).attributes
-  variant_record r = ap variant_references (sym (rolls-Record r))
-      ∙ fold-roll-TypeVariant N (List N) (List N) (List N) (List N) type_refs variant_refs record_refs attribute_refs
-      (TypeVariant-F.Record r) ∙ record_out r
+  variant_record r = record_made N type_refs variant_refs record_refs attribute_refs r ∙ record_out r
 
   pub variant_common : (n : N) → variant_references (EntityOrCommon n) ≡ n ∷ []
-  variant_common n = ap variant_references (sym (rolls-EntityOrCommon n))
-      ∙ fold-roll-TypeVariant N (List N) (List N) (List N) (List N) type_refs variant_refs record_refs attribute_refs
-      (TypeVariant-F.EntityOrCommon n)
+  variant_common n = either_made N type_refs variant_refs record_refs attribute_refs n
 
   -- one more entry
   pub entries_step : (entries : List (List ℕ × TypeOfAttribute N)) (i : ℕ) (d : List ℕ × TypeOfAttribute N)
@@ -83,9 +75,7 @@ module _ (N : Type 0) where
 
   pub variant_answered : (r : RecordType N)
       → is_extension_variant (Record r) ≡ is_extension_among (out-RecordType N r).attributes
-  variant_answered r = ap is_extension_variant (sym (rolls-Record r))
-      ∙ fold-roll-TypeVariant N (Option Bool) (Option Bool) (Option Bool) (Option Bool) type_answer variant_answer
-      record_answer attribute_answer (TypeVariant-F.Record r) ∙ record_answered r
+  variant_answered r = record_made N type_answer variant_answer record_answer attribute_answer r ∙ record_answered r
 
   pub answers_step : (entries : List (List ℕ × TypeOfAttribute N)) (i : ℕ) (d : List ℕ × TypeOfAttribute N)
       → i < length entries → d ≡ get_or entries i d

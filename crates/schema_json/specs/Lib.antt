@@ -1,6 +1,8 @@
 pub mod Actions
+pub mod AsWritten
 pub mod Comparisons
 pub mod Keywords
+pub mod Orders
 pub mod Places
 pub mod Presence
 pub mod Shapes

@@ -18,7 +18,8 @@ module _ {N : Type 0} where
   abbrev pub empty_record : RecordType N
   empty_record = roll-RecordType N (record { attributes = []; additional_attributes = false })
 
-  abbrev has_none : List (List ℕ × TypeOfAttribute N) → Bool
+  -- there is no attribute
+  abbrev pub has_none : List (List ℕ × TypeOfAttribute N) → Bool
   has_none [] = true
   has_none (e ∷ es) = false
 
@@ -26,11 +27,13 @@ module _ {N : Type 0} where
   abbrev pub is_empty_record : RecordType N → Bool
   is_empty_record r = has_none (attributes_of r) && not (is_open r)
 
-  abbrev is_empty_shape : TypeVariant-F N («Type» N) (TypeVariant N) (RecordType N) (TypeOfAttribute N) → Bool
+  -- this layer is a closed record without attributes
+  abbrev pub is_empty_shape : TypeVariant-F N («Type» N) (TypeVariant N) (RecordType N) (TypeOfAttribute N) → Bool
   is_empty_shape (TypeVariant-F.Record r) = is_empty_record r
   is_empty_shape _ = false
 
-  abbrev is_empty_outside : Type-F N («Type» N) (TypeVariant N) (RecordType N) (TypeOfAttribute N) → Bool
+  -- the layer inside is one
+  abbrev pub is_empty_outside : Type-F N («Type» N) (TypeVariant N) (RecordType N) (TypeOfAttribute N) → Bool
   is_empty_outside (Type-F.Variant ty loc) = is_empty_shape (out-TypeVariant N ty)
   is_empty_outside (Type-F.CommonTypeRef name loc) = false
 

@@ -12,7 +12,7 @@ use crate::reserved::ReservedCommonTypeBasenameError;
 use crate::types::{RecordType, Type, TypeOfAttribute, TypeVariant};
 use cedar_data::lawful;
 use cedar_identifiers::NameText;
-use cedar_identifiers::name_laws::unreserved_ids_go_by_text;
+use cedar_identifiers::laws::unreserved_ids_go_by_text;
 use std::hash::Hash;
 
 // `eq` is reflexive, symmetric and transitive, and `cmp` is a total order, by which values are level just where they are equal.

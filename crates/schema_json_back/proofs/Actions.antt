@@ -12,8 +12,9 @@ use Rattle.cedar_identifiers.specs.declared.raw_name.RawName.{RawName}
 use Rattle.schema_json.specs.declared.action_type.ActionEntityUID.{ActionEntityUID}
 use Rattle.schema_json.specs.declared.action_type.ActionType.{ActionType}
 use Rattle.schema_json.specs.declared.action_type.ApplySpec.{ApplySpec}
-use Rattle.schema_convert_types.specs.Declarations.{as_written}
-use Rattle.schema_json_values.specs.FragmentValues.{with_value, list_of, name_value, names_value, applies_to_value}
+use Rattle.schema_json.specs.AsWritten.{as_written}
+use Rattle.schema_json_values.specs.FragmentValues.{with_optional_value, list_of, name_value, names_value}
+use Rattle.schema_json_values.specs.FragmentValues.{applies_to_value}
 use Rattle.schema_json_values.specs.FragmentValues.{with_applies_to, with_type, action_id_value, with_parents}
 use Rattle.schema_json_values.specs.FragmentValues.{action_value}
 use Rattle.schema_json_shapes.specs.declared.name_role.NameRole.TheVariants as role
@@ -24,7 +25,7 @@ use Rattle.schema_json_shapes.specs.Walk.{action_id_member, action_ids, or_null,
 use Rattle.schema_json_shapes.specs.Walk.{external_conflict, or_next}
 use Rattle.schema_json_shapes.specs.Reads.{field_demands}
 use Rattle.schema_json_shapes.specs.Said.{IsOptional, IsList, IsNamed, not_null}
-use Rattle.schema_json_shapes.specs.Shapes.{IsShape, IsTextIn, AreKeys, IsActionId, IsAppliesTo, IsAction}
+use Rattle.schema_json_shapes.specs.Shapes.{IsShapeOrNone, IsTextIn, AreKeys, IsActionId, IsAppliesTo, IsAction}
 use Rattle.schema_json_shapes.proofs.Demands.{both_met}
 use Rattle.schema_says.specs.Bare.{bare_name, bare}
 use Rattle.schema_says.specs.BareFragments.{bare_spec, bare_ref, bare_action}
@@ -51,7 +52,7 @@ type_field None = None
 type_field (Some n) = Some (name_value components n)
 
 type_value : (o : Option RawName) (ms : Members)
-    → with_type components o ms ≡ with_value (codes "type") (type_field o) ms
+    → with_type components o ms ≡ with_optional_value (codes "type") (type_field o) ms
 type_value None ms = refl
 type_value (Some n) ms = refl
 
@@ -106,7 +107,7 @@ parents_field None = None
 parents_field (Some us) = Some (list_of (map (action_id_value components) us))
 
 parents_value : (o : Option (List Uid)) (ms : Members)
-    → with_parents components o ms ≡ with_value (codes "memberOf") (parents_field o) ms
+    → with_parents components o ms ≡ with_optional_value (codes "memberOf") (parents_field o) ms
 parents_value None ms = refl
 parents_value (Some us) ms = refl
 
@@ -147,7 +148,7 @@ spec_says s p =
         get_made (codes "principalTypes") fs,
         names_say s.principal_types,
       );
-      in_context = subst (λ o. IsShape o (bare s.context.0))
+      in_context = subst (λ o. IsShapeOrNone o (bare s.context.0))
           (sym (get_made (codes "context") fs ∙ or_none (shape_field s.context.0) None refl))
           (shape_says s.context.0 p);
     })
@@ -173,7 +174,7 @@ applies_field None = None
 applies_field (Some s) = Some (applies_to_value components s)
 
 applies_value : (o : Option (ApplySpec RawName)) (ms : Members)
-    → with_applies_to components o ms ≡ with_value (codes "appliesTo") (applies_field o) ms
+    → with_applies_to components o ms ≡ with_optional_value (codes "appliesTo") (applies_field o) ms
 applies_value None ms = refl
 applies_value (Some s) ms = refl
 
@@ -220,10 +221,10 @@ action_members a =
 
 action_is : (a : Action) → action_value components a ≡ object (made (action_members a))
 action_is a =
-    ap object (notes_value a.annotations.0 _ ∙ ap (with_value (codes "annotations") (notes_field a.annotations.0))
-    (flag_value a.external (codes "external") _ ∙ ap (with_value (codes "external") (flag_field a.external))
-    (parents_value a.member_of _ ∙ ap (with_value (codes "memberOf") (parents_field a.member_of))
-    (applies_value a.applies_to _ ∙ ap (with_value (codes "appliesTo") (applies_field a.applies_to))
+    ap object (notes_value a.annotations.0 _ ∙ ap (with_optional_value (codes "annotations") (notes_field a.annotations.0))
+    (flag_value a.external (codes "external") _ ∙ ap (with_optional_value (codes "external") (flag_field a.external))
+    (parents_value a.member_of _ ∙ ap (with_optional_value (codes "memberOf") (parents_field a.member_of))
+    (applies_value a.applies_to _ ∙ ap (with_optional_value (codes "appliesTo") (applies_field a.applies_to))
     (attributes_value a.attributes no_members)))))
 
 no_attributes : (o : Option (List (List ℕ))) → is_none o ≡ true → attributes_field o ≡ None

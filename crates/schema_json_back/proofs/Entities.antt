@@ -17,9 +17,9 @@ use Rattle.schema_json.specs.declared.entity_type.EntityType.{EntityType}
 use Rattle.schema_json.specs.declared.entity_type.EntityTypeKind.{EntityTypeKind}
 use Rattle.schema_json.specs.declared.entity_type.EntityTypeKind.TheVariants.{Standard, Enum}
 use Rattle.schema_json.specs.declared.entity_type.StandardEntityType.{StandardEntityType}
-use Rattle.schema_json_walk.specs.Bare.{is_bare_kind}
 use Rattle.schema_json_values.specs.TypeValues.{with_flag, with_annotations, type_members, type_value}
-use Rattle.schema_json_values.specs.FragmentValues.{with_value, list_of, name_value, choice_value, common_type_value}
+use Rattle.schema_json_values.specs.FragmentValues.{with_optional_value, list_of, name_value, choice_value}
+use Rattle.schema_json_values.specs.FragmentValues.{common_type_value}
 use Rattle.schema_json_values.specs.FragmentValues.{with_tags, kind_members, entity_type_value}
 use Rattle.schema_json_shapes.specs.declared.words.TypeSite.TheVariants.{Plain, Common}
 use Rattle.schema_json_shapes.specs.Tables.{entity_type_fields}
@@ -28,11 +28,12 @@ use Rattle.schema_json_shapes.specs.Walk.{typed}
 use Rattle.schema_json_shapes.specs.Walk.{entity_type, entity_type_member, is_there, not_external_type, empty_enum}
 use Rattle.schema_json_shapes.specs.Walk.{Demand, unless, external_conflict, enum_conflict, flag_or, or_next}
 use Rattle.schema_json_shapes.specs.Reads.{field_demands}
-use Rattle.schema_json_shapes.specs.Said.{IsOptional, IsListOrNone, IsNamed, AreAnnotations, IsType}
-use Rattle.schema_json_shapes.specs.Shapes.{IsShape, IsCommonType, IsEntityType, IsEntityTypeIn}
+use Rattle.schema_json_shapes.specs.Said.{IsOptional, IsListOrNone, IsNamed, IsAnnotationMap, IsType}
+use Rattle.schema_json_shapes.specs.Shapes.{IsShapeOrNone, IsCommonType, IsEntityType, IsEntityTypeIn}
 use Rattle.schema_json_shapes.proofs.Demands.{both_met}
 use Rattle.schema_says.specs.Bare.{bare_name, bare}
 use Rattle.schema_says.specs.BareFragments.{bare_common, bare_entity}
+use Rattle.schema_json_walk.specs.Bare.{is_bare_kind}
 use Rattle.schema_json_back.specs.Sayable as is_sayable
 use Rattle.schema_json_back.proofs.Fields.{Fields, made, found, get_made, known_field, fits, fit_field, made_met}
 use Rattle.schema_json_back.proofs.Fields.{external_in, external_made, enum_made, Known}
@@ -44,9 +45,9 @@ use Rattle.schema_json_back.proofs.Lists.{list_field, list_value, parents_say, p
 
 -- what is found among the annotations of an object
 pub notes_found : (fs : Fields) (a : Annotations) → found (codes "annotations") fs ≡ or_next (notes_field a.0) None
-    → is_sayable.AreSayableNotes a → AreAnnotations (get_member (codes "annotations") (made fs)) a
+    → is_sayable.AreSayableNotes a → IsAnnotationMap (get_member (codes "annotations") (made fs)) a
 notes_found fs a e p =
-    subst (λ o. AreAnnotations o a)
+    subst (λ o. IsAnnotationMap o a)
     (sym (get_made (codes "annotations") fs ∙ (e ∙ or_none (notes_field a.0) None refl))) (notes_say a p)
 
 pub flag_found : (fs : Fields) (x : Bool) → found (codes "external") fs ≡ or_next (flag_field x) None
@@ -67,7 +68,7 @@ common_says id c p =
     let n = notes_field c.annotations.0 in
     subst (λ ms. IsCommonType (object ms) (bare_common c)) (sym (common_is c)) (record {
       says = b.says None n;
-      annotated = subst (λ o. AreAnnotations o c.annotations) (sym (b.notes None n)) (notes_say c.annotations p.notes);
+      annotated = subst (λ o. IsAnnotationMap o c.annotations) (sym (b.notes None n)) (notes_say c.annotations p.notes);
       placeless = refl;
     })
 
@@ -88,7 +89,7 @@ tags_field None = None
 tags_field (Some t) = Some (type_value components t)
 
 tags_value : (o : Option («Type» RawName)) (ms : Members)
-    → with_tags components o ms ≡ with_value (codes "tags") (tags_field o) ms
+    → with_tags components o ms ≡ with_optional_value (codes "tags") (tags_field o) ms
 tags_value None ms = refl
 tags_value (Some t) ms = refl
 
@@ -163,10 +164,10 @@ standard_is : (s : StandardEntityType RawName) (x : Bool) (a : Annotations)
     ≡ made (standard_fields (notes_field a.0) x (tags_field s.tags) (shape_field s.shape.0)
     (list_field (map (name_value components) s.member_of_types)))
 standard_is s x a =
-    notes_value a.0 _ ∙ ap (with_value (codes "annotations") (notes_field a.0))
-    (flag_value x (codes "external") _ ∙ ap (with_value (codes "external") (flag_field x))
-    (tags_value s.tags _ ∙ ap (with_value (codes "tags") (tags_field s.tags))
-    (shape_value (codes "shape") s.shape.0 _ ∙ ap (with_value (codes "shape") (shape_field s.shape.0))
+    notes_value a.0 _ ∙ ap (with_optional_value (codes "annotations") (notes_field a.0))
+    (flag_value x (codes "external") _ ∙ ap (with_optional_value (codes "external") (flag_field x))
+    (tags_value s.tags _ ∙ ap (with_optional_value (codes "tags") (tags_field s.tags))
+    (shape_value (codes "shape") s.shape.0 _ ∙ ap (with_optional_value (codes "shape") (shape_field s.shape.0))
     (list_value (codes "memberOfTypes") (map (name_value components) s.member_of_types) no_members))))
 
 standard_back : (s : StandardEntityType RawName) (x : Bool) (a : Annotations) → is_sayable.IsSayableKind (Standard s)
@@ -202,7 +203,7 @@ standard_back s x a p b notes =
               no_enum = get_made (codes "enum") fs;
               parents = subst (λ o. IsListOrNone IsNamed o (map bare_name s.member_of_types))
                   (sym (get_made (codes "memberOfTypes") fs)) (parents_say s.member_of_types);
-              shaped = subst (λ o. IsShape o (bare s.shape.0))
+              shaped = subst (λ o. IsShapeOrNone o (bare s.shape.0))
                   (sym (get_made (codes "shape") fs ∙ or_none h None refl)) (shape_says s.shape.0 p.0);
               tagged = subst (λ o. IsOptional IsType o (option_map bare s.tags))
                   (sym (get_made (codes "tags") fs)) (tags_say s.tags p.1);
@@ -230,7 +231,7 @@ enum_is : (cs : List Eid) (x : Bool) (a : Annotations)
     → with_annotations a.0 (with_flag x (codes "external") true (kind_members components (Enum cs)))
     ≡ made (enum_fields (notes_field a.0) x (list_of (map choice_value cs)))
 enum_is cs x a =
-    notes_value a.0 _ ∙ ap (with_value (codes "annotations") (notes_field a.0)) (flag_value x (codes "external") _)
+    notes_value a.0 _ ∙ ap (with_optional_value (codes "annotations") (notes_field a.0)) (flag_value x (codes "external") _)
 
 false_true : false ≡ true → ⊥
 false_true e = cc

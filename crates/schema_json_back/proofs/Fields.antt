@@ -13,10 +13,10 @@ use Rattle.std.proofs.lemmas.Slice.Eq.{bytes_eq-Decides}
 use Rattle.serde_json.specs.Data.{Data, Members, no_members, member, put}
 use Rattle.serde_json.specs.Find.{get_member}
 use Rattle.serde_json.proofs.Views.{get_member-put, get_member-put_other}
-use Rattle.schema_json_values.specs.FragmentValues.{with_value}
+use Rattle.std.specs.Prelude.{codes}
+use Rattle.schema_json_values.specs.FragmentValues.{with_optional_value}
 use Rattle.schema_json_shapes.specs.Tables.{Field, is_field, first_unknown, first_missing}
 use Rattle.schema_json_shapes.specs.Walk.{Role, Demand, AllMet, demands, member_demands, fits_table, or_next}
-use Rattle.std.specs.Prelude.{codes}
 use Rattle.schema_json_shapes.specs.Walk.{present, flag_or, conflict, external_conflict, enum_conflict, is_there}
 use Rattle.schema_json_shapes.specs.Walk.{not_enum}
 use Rattle.schema_json_shapes.specs.Reads.{field_demands}
@@ -31,7 +31,7 @@ Fields = List (List ℕ × Option Data)
 
 abbrev pub made : Fields → Members
 made [] = no_members
-made (f ∷ fs) = with_value f.0 f.1 (made fs)
+made (f ∷ fs) = with_optional_value f.0 f.1 (made fs)
 
 -- ---- what is found
 

@@ -10,6 +10,7 @@ use Rattle.std.specs.declared.cmp.Ordering.TheVariants.{Less, Equal, Greater}
 use Rattle.std.proofs.lemmas.Str.{chars-encodes}
 use Rattle.serde_json.specs.Data.{Data, object, Members, no_members}
 use Rattle.cedar_data.specs.Text.{text_cmp}
+use Rattle.cedar_data.proofs.Orders.{text_total}
 use Rattle.cedar_identifiers.specs.Names.{components_of}
 use Rattle.cedar_identifiers.specs.declared.any_id.AnyId.{AnyId}
 use Rattle.cedar_identifiers.specs.declared.name.Name.{Name}
@@ -23,10 +24,11 @@ use Rattle.schema_json.specs.declared.entity_type.EntityType.{EntityType}
 use Rattle.schema_json.specs.declared.action_type.ActionType.{ActionType}
 use Rattle.schema_json.specs.declared.fragment.Fragment.{Fragment}
 use Rattle.schema_json.specs.declared.fragment.NamespaceDefinition.{NamespaceDefinition}
-use Rattle.schema_convert_types.specs.Declarations.{as_written}
-use Rattle.schema_json_laws.proofs.NamesRead.{id_reads}
+use Rattle.schema_json.specs.Orders.{unreserved_cmp, common_cmp, namespace_cmp}
+use Rattle.schema_json.specs.AsWritten.{as_written}
 use Rattle.schema_json_values.specs.TypeValues.{object_of}
-use Rattle.schema_json_values.specs.FragmentValues.{with_value, with_object, common_entry, entity_entry, action_entry}
+use Rattle.schema_json_values.specs.FragmentValues.{with_optional_value, with_object, common_entry, entity_entry}
+use Rattle.schema_json_values.specs.FragmentValues.{action_entry}
 use Rattle.schema_json_values.specs.FragmentValues.{namespace_value, namespace_entry, namespace_bytes, json_value}
 use Rattle.schema_json_shapes.specs.declared.name_role.NameRole.TheVariants as role
 use Rattle.schema_json_shapes.specs.declared.words.TypeSite.TheVariants.{Common}
@@ -34,19 +36,20 @@ use Rattle.schema_json_shapes.specs.Tables.{namespace_fields}
 use Rattle.schema_json_shapes.specs.Walk.{Demand, unless, is_name, AllMet, demands, member_demands, object_demands}
 use Rattle.schema_json_shapes.specs.Walk.{key_demands, fits_table, fragment, namespace, namespace_member, common_types}
 use Rattle.schema_json_shapes.specs.Walk.{entity_types, entity_type, actions, action, typed, empty_annotated, annotated}
-use Rattle.schema_json_shapes.specs.Walk.{or_next, namespace_key}
+use Rattle.schema_json_shapes.specs.Walk.{or_next, namespace_key_demands}
 use Rattle.schema_json_shapes.specs.Reads.{field_demands}
 use Rattle.schema_json_shapes.specs.Said.{IsId, IsText, IsMap, IsMapOrNone}
-use Rattle.schema_json_shapes.specs.Shapes.{IsCommonId, IsCommonType, common_id_order, id_order, IsEntityType, IsAction}
-use Rattle.schema_json_shapes.specs.Shapes.{IsNamespaceKey, IsNamespace, namespace_order, JsonShape}
+use Rattle.schema_json_shapes.specs.Shapes.{IsCommonId, IsCommonType, IsEntityType, IsAction}
+use Rattle.schema_json_shapes.specs.Shapes.{IsNamespaceKey, IsNamespace, JsonShape}
 use Rattle.schema_json_shapes.proofs.Demands.{both_met}
 use Rattle.schema_json_shapes.proofs.NamespaceOrder.{key_says}
+use Rattle.schema_json_laws.proofs.NamesRead.{id_reads}
 use Rattle.schema_says.specs.BareFragments.{bare_declared, bare_entries, bare_common, bare_entity, bare_action}
 use Rattle.schema_says.specs.BareFragments.{bare_namespace, bare_fragment}
 use Rattle.schema_json_back.specs.Sayable as is_sayable
 use Rattle.schema_json_back.proofs.Fields.{Fields, made, get_made, known_field, fits, fit_field, made_met, Known}
 use Rattle.schema_json_back.proofs.Placed.{RisesBy, rises_from, all_met, says_map}
-use Rattle.schema_json_back.proofs.Names.{declared_reads, name_some, text_total, flipped, ids_apart, texts_apart}
+use Rattle.schema_json_back.proofs.Names.{declared_reads, name_some, flipped, ids_apart, texts_apart}
 use Rattle.schema_json_back.proofs.Names.{not_less}
 use Rattle.schema_json_back.proofs.Notes.{notes_field, notes_value, notes_met}
 use Rattle.schema_json_back.proofs.Types.{components}
@@ -88,24 +91,24 @@ commons_field (e ∷ es) = Some (object_of (map (common_entry components) (e ∷
 
 commons_value : (es : List CommonEntry) (ms : Members)
     → with_object (codes "commonTypes") (map (common_entry components) es) ms
-    ≡ with_value (codes "commonTypes") (commons_field es) ms
+    ≡ with_optional_value (codes "commonTypes") (commons_field es) ms
 commons_value [] ms = refl
 commons_value (e ∷ es) ms = refl
 
 abbrev bare_commons : List CommonEntry → List CommonEntry
 bare_commons es = bare_entries {K = CommonTypeId} (λ id. id) bare_common es
 
-commons_map : (es : List CommonEntry) → RisesBy (λ x y. common_id_order x.0 y.0) es
+commons_map : (es : List CommonEntry) → RisesBy (λ x y. common_cmp x.0 y.0) es
     → AllByRecursion (λ e. is_sayable.IsSayableCommon e.0 e.1) es
-    → IsMap common_id_order IsCommonId IsCommonType (object_of (map (common_entry components) es)) (bare_commons es)
+    → IsMap common_cmp IsCommonId IsCommonType (object_of (map (common_entry components) es)) (bare_commons es)
 commons_map es r h =
-    says_map IsCommonId IsCommonType common_id_order
+    says_map IsCommonId IsCommonType common_cmp
     (λ x y. flipped text_cmp text_total x.id.id.text y.id.id.text) (λ s x y. ids_apart s x.id y.id)
     (common_entry components) (λ e. let p : CommonEntry = (e.0, bare_common e.1) in p) es r (commons_say es h)
 
-commons_found : (es : List CommonEntry) → RisesBy (λ x y. common_id_order x.0 y.0) es
+commons_found : (es : List CommonEntry) → RisesBy (λ x y. common_cmp x.0 y.0) es
     → AllByRecursion (λ e. is_sayable.IsSayableCommon e.0 e.1) es
-    → IsMapOrNone common_id_order IsCommonId IsCommonType (or_next (commons_field es) None) (bare_commons es)
+    → IsMapOrNone common_cmp IsCommonId IsCommonType (or_next (commons_field es) None) (bare_commons es)
 commons_found [] r h = refl
 commons_found (e ∷ es) r h = commons_map (e ∷ es) r h
 
@@ -136,11 +139,11 @@ entities_keep (e ∷ es) h = (
 abbrev bare_entities : List EntityEntry → List EntityEntry
 bare_entities es = bare_entries {K = UnreservedId} (λ id. id) bare_entity es
 
-entities_map : (es : List EntityEntry) → RisesBy (λ x y. id_order x.0 y.0) es
+entities_map : (es : List EntityEntry) → RisesBy (λ x y. unreserved_cmp x.0 y.0) es
     → AllByRecursion (λ e. is_sayable.IsSayableEntity e.1) es
-    → IsMap id_order IsId IsEntityType (object_of (map (entity_entry components) es)) (bare_entities es)
+    → IsMap unreserved_cmp IsId IsEntityType (object_of (map (entity_entry components) es)) (bare_entities es)
 entities_map es r h =
-    says_map IsId IsEntityType id_order (λ x y. flipped text_cmp text_total x.id.text y.id.text) ids_apart
+    says_map IsId IsEntityType unreserved_cmp (λ x y. flipped text_cmp text_total x.id.text y.id.text) ids_apart
     (entity_entry components) (λ e. let p : EntityEntry = (e.0, bare_entity e.1) in p) es r (entities_say es h)
 
 -- ---- actions
@@ -179,7 +182,7 @@ space_fields n =
 
 space_is : (n : Space) → namespace_value components n ≡ object (made (space_fields n))
 space_is n =
-    ap object (notes_value n.annotations.0 _ ∙ ap (with_value (codes "annotations") (notes_field n.annotations.0))
+    ap object (notes_value n.annotations.0 _ ∙ ap (with_optional_value (codes "annotations") (notes_field n.annotations.0))
     (commons_value n.common_types _))
 
 space_says : (key : Option Name) (n : Space) → is_sayable.IsSayableNamespace key n
@@ -187,11 +190,11 @@ space_says : (key : Option Name) (n : Space) → is_sayable.IsSayableNamespace k
 space_says key n p =
     let fs = space_fields n in
     subst (λ d. IsNamespace d (bare_namespace n)) (sym (space_is n)) (record {
-      commons = subst (λ o. IsMapOrNone common_id_order IsCommonId IsCommonType o (bare_commons n.common_types))
+      commons = subst (λ o. IsMapOrNone common_cmp IsCommonId IsCommonType o (bare_commons n.common_types))
           (sym (get_made (codes "commonTypes") fs))
           (commons_found n.common_types
           (rises_from text_cmp (λ (e : CommonEntry). e.0.id.id.text) n.common_types p.commons_rise) p.commons);
-      entities = subst (λ o. IsMapOrNone id_order IsId IsEntityType o (bare_entities n.entity_types))
+      entities = subst (λ o. IsMapOrNone unreserved_cmp IsId IsEntityType o (bare_entities n.entity_types))
           (sym (get_made (codes "entityTypes") fs))
           (entities_map n.entity_types
           (rises_from text_cmp (λ (e : EntityEntry). e.0.id.text) n.entity_types p.entities_rise) p.entities);
@@ -259,7 +262,7 @@ label_free : (e : SpaceEntry) → is_sayable.IsSayableNamespace e.0 e.1 → name
 label_free (None, n) p h = p.unannotated refl
 label_free (Some x, n) p h = not_nil (namespace_bytes (Some x)) (name_some x.name) h
 
-key_back : (o : Option Name) → AllMet (namespace_key (namespace_bytes o))
+key_back : (o : Option Name) → AllMet (namespace_key_demands (namespace_bytes o))
     × IsNamespaceKey (namespace_bytes o) (option_map bare_declared o)
 key_back None = (tt, refl)
 key_back (Some x) =
@@ -291,7 +294,7 @@ equal_less e = absurd (cc)
 greater_less : {X : Type 0} → Greater ≡ Less → X
 greater_less e = absurd (cc)
 
-spaces_flip : (x y : Option Name) → namespace_order x y ≡ Less → namespace_order y x ≡ Greater
+spaces_flip : (x y : Option Name) → namespace_cmp x y ≡ Less → namespace_cmp y x ≡ Greater
 spaces_flip None None h = equal_less h
 spaces_flip None (Some b) h = refl
 spaces_flip (Some a) None h = greater_less h
@@ -299,27 +302,27 @@ spaces_flip (Some a) (Some b) h =
     flipped (slice_cmp text_cmp) (lists_total text_total) (components_of a.name) (components_of b.name) h
 
 spaces_apart : (s : List ℕ) (x y : Option Name) → IsNamespaceKey s x → IsNamespaceKey s y
-    → namespace_order x y ≡ Less → ⊥
-spaces_apart [] x y h k less = equal_less (sym (ap (λ o. namespace_order o y) h ∙ ap (namespace_order None) k) ∙ less)
+    → namespace_cmp x y ≡ Less → ⊥
+spaces_apart [] x y h k less = equal_less (sym (ap (λ o. namespace_cmp o y) h ∙ ap (namespace_cmp None) k) ∙ less)
 spaces_apart (c ∷ s) x y h k less =
     let same = one_name (c ∷ s) kind.Name (components_of h.0.name) (components_of k.0.name) h.2.0 k.2.0 in
     not_less (slice_cmp text_cmp) (lists_total text_total) (components_of h.0.name) (components_of k.0.name) same
-    (sym (ap (λ o. namespace_order o y) h.1 ∙ ap (namespace_order (Some h.0)) k.1) ∙ less)
+    (sym (ap (λ o. namespace_cmp o y) h.1 ∙ ap (namespace_cmp (Some h.0)) k.1) ∙ less)
 
 bare_order : (a b : Option Name)
-    → namespace_order (option_map bare_declared a) (option_map bare_declared b) ≡ namespace_order a b
+    → namespace_cmp (option_map bare_declared a) (option_map bare_declared b) ≡ namespace_cmp a b
 bare_order None None = refl
 bare_order None (Some b) = refl
 bare_order (Some a) None = refl
 bare_order (Some a) (Some b) = refl
 
-all_bare : (x : SpaceEntry) (es : List SpaceEntry) → AllByRecursion (λ y. namespace_order x.0 y.0 ≡ Less) es
-    → AllByRecursion (λ y. namespace_order (bare_space x).0 (bare_space y).0 ≡ Less) es
+all_bare : (x : SpaceEntry) (es : List SpaceEntry) → AllByRecursion (λ y. namespace_cmp x.0 y.0 ≡ Less) es
+    → AllByRecursion (λ y. namespace_cmp (bare_space x).0 (bare_space y).0 ≡ Less) es
 all_bare x [] h = tt
 all_bare x (y ∷ ys) h = (bare_order x.0 y.0 ∙ h.0, all_bare x ys h.1)
 
-bare_rise : (es : List SpaceEntry) → RisesBy (λ x y. namespace_order x.0 y.0) es
-    → RisesBy (λ x y. namespace_order (bare_space x).0 (bare_space y).0) es
+bare_rise : (es : List SpaceEntry) → RisesBy (λ x y. namespace_cmp x.0 y.0) es
+    → RisesBy (λ x y. namespace_cmp (bare_space x).0 (bare_space y).0) es
 bare_rise [] h = tt
 bare_rise (e ∷ es) h = (all_bare e es h.0, bare_rise es h.1)
 
@@ -328,7 +331,7 @@ pub fragment_back : (f : Fragment RawName as_written) → is_sayable.IsSayableFr
 fragment_back f p = (
   all_met (key_demands fragment) (λ k. namespace) (namespace_entry components) f.0 no_members
       (spaces_keep f.0 p.each) tt,
-  says_map IsNamespaceKey IsNamespace namespace_order spaces_flip spaces_apart (namespace_entry components)
+  says_map IsNamespaceKey IsNamespace namespace_cmp spaces_flip spaces_apart (namespace_entry components)
       bare_space f.0
-      (bare_rise f.0 (rises_from namespace_order (λ (e : SpaceEntry). e.0) f.0 p.names_rise)) (spaces_say f.0 p.each),
+      (bare_rise f.0 (rises_from namespace_cmp (λ (e : SpaceEntry). e.0) f.0 p.names_rise)) (spaces_say f.0 p.each),
 )

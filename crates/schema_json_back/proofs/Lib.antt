@@ -2,7 +2,6 @@ pub mod Fields
 pub mod Placed
 pub mod Names
 pub mod Notes
-pub mod BareTypes
 pub mod Types
 pub mod Records
 pub mod Lists

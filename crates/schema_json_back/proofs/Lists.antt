@@ -1,5 +1,5 @@
 -- What is written of lists and of the keys of objects reads back.
-use Rattle.std.proofs.Common.{◌≡◌, ℕ, List, [], ◌∷◌, ◌++◌, map, Option, Some, None, refl, sym}
+use Rattle.std.proofs.Common.{◌≡◌, ℕ, List, [], ◌∷◌, ◌++◌, map, Option, Some, None, refl, sym, map-id}
 use Rattle.std.proofs.Common.{ap}
 use Rattle.std.proofs.Common.{◌∙◌, subst, append_assoc, append-nil}
 use Rattle.std.specs.List.Sorted.{IsStrictlySortedBy}
@@ -17,8 +17,8 @@ use Rattle.cedar_data.specs.Text.{text_cmp}
 use Rattle.cedar_identifiers.specs.declared.eid.Eid.{Eid}
 use Rattle.cedar_identifiers.specs.declared.raw_name.RawName.{RawName}
 use Rattle.schema_json_values.specs.TypeValues.{put_all, object_of}
-use Rattle.schema_json_values.specs.FragmentValues.{list_of, with_list, with_value, name_value, choice_value}
-use Rattle.schema_json_values.specs.FragmentValues.{attribute_name_entry, with_attributes}
+use Rattle.schema_json_values.specs.FragmentValues.{list_of, with_list, with_optional_value, name_value, choice_value}
+use Rattle.schema_json_values.specs.FragmentValues.{attribute_name_entry, with_attribute_names}
 use Rattle.schema_json_shapes.specs.declared.name_role.NameRole.TheVariants as role
 use Rattle.schema_json_shapes.specs.Walk.{Role, AllMet, demands, item_demands, named, names, texts, text, keys, ignored}
 use Rattle.schema_json_shapes.specs.Walk.{or_null, or_next}
@@ -29,7 +29,6 @@ use Rattle.schema_json_shapes.specs.Shapes.{key_texts, AreKeys}
 use Rattle.schema_json_shapes.proofs.Demands.{both_met}
 use Rattle.schema_says.specs.Bare.{bare_name}
 use Rattle.schema_json_back.specs.Sayable as is_sayable
-use Rattle.schema_json_back.proofs.Notes.{map_same}
 use Rattle.schema_json_back.proofs.Placed.{RisesBy, rises_from, all_met}
 use Rattle.schema_json_back.proofs.Names.{raw_reads}
 use Rattle.schema_json_back.proofs.Types.{components}
@@ -72,7 +71,7 @@ list_field [] = None
 list_field (d ∷ ds) = Some (list_of (d ∷ ds))
 
 pub list_value : (key : List ℕ) (ds : List Data) (ms : Members)
-    → with_list key ds ms ≡ with_value key (list_field ds) ms
+    → with_list key ds ms ≡ with_optional_value key (list_field ds) ms
 list_value key [] ms = refl
 list_value key (d ∷ ds) ms = refl
 
@@ -96,7 +95,7 @@ choices_each (c ∷ cs) h = (sym (chars-encodes c.0 h.0), choices_each cs h.1)
 pub choices_say : (cs : List Eid) → AllByRecursion (λ (e : Eid). is_sayable.IsCharacters e.0) cs
     → AreItems IsChoice (items_of (map choice_value cs)) cs
 choices_say cs h =
-    subst (AreItems IsChoice (items_of (map choice_value cs))) (map_same cs)
+    subst (AreItems IsChoice (items_of (map choice_value cs))) (map-id cs)
     (items_say IsChoice choice_value (λ c. c) cs (choices_each cs h))
 
 each_choice_met : (label : List ℕ) (cs : List Eid)
@@ -152,14 +151,14 @@ none_below (t ∷ ts) = (tt, none_below ts)
 keys_say : (ts : List (List ℕ)) → is_sayable.AreSayableNames ts
     → AreKeys (object_of (map attribute_name_entry ts)) ts
 keys_say ts p = sym (keys_put ts no_members (rises_from text_cmp (λ t. t) ts
-    (subst (IsStrictlySortedBy text_cmp) (sym (map_same ts)) p.0)) p.1 (none_below ts))
+    (subst (IsStrictlySortedBy text_cmp) (sym (map-id ts)) p.0)) p.1 (none_below ts))
 
 abbrev pub attributes_field : Option (List (List ℕ)) → Option Data
 attributes_field None = None
 attributes_field (Some ts) = Some (object_of (map attribute_name_entry ts))
 
 pub attributes_value : (o : Option (List (List ℕ))) (ms : Members)
-    → with_attributes o ms ≡ with_value (codes "attributes") (attributes_field o) ms
+    → with_attribute_names o ms ≡ with_optional_value (codes "attributes") (attributes_field o) ms
 attributes_value None ms = refl
 attributes_value (Some ts) ms = refl
 

@@ -1,21 +1,19 @@
 -- Names and words are read from what is written of them, and one key has one place in its order.
-use Rattle.std.proofs.Common.{◌≡◌, ℕ, ◌<◌, true, not, List, [], ◌∷◌, ◌++◌, length, length-append}
+use Rattle.std.proofs.Common.{◌≡◌, ℕ, ◌<◌, List, [], ◌∷◌, ◌++◌, length, length-append}
 use Rattle.std.proofs.Common.{refl, sym, ap, ◌∙◌, subst, arith}
 use Rattle.std.specs.Prelude.{codes}
-use Rattle.std.specs.Cmp.{IsTotalOrder, first_so, on_total, tied_itself}
+use Rattle.std.specs.Cmp.{IsTotalOrder, tied_itself}
 use Rattle.std.specs.Ordering.{ordering_reverse}
 use Rattle.std.specs.Str.{IsAscii, encode_utf8_all}
 use Rattle.std.specs.declared.cmp.Ordering.{Ordering}
 use Rattle.std.specs.declared.cmp.Ordering.TheVariants.{Less, Equal, Greater}
-use Rattle.std.proofs.lemmas.Cmp.{nat_list_cmp_total}
 use Rattle.std.proofs.lemmas.Str.{IsAscii-append, encodes-IsAscii}
 use Rattle.std.proofs.lemmas.Str.Ascii.{IsAscii-cons}
 use Rattle.cedar_data.specs.Text.{text_cmp}
-use Rattle.cedar_data.specs.Words.{is_word}
 use Rattle.cedar_data.proofs.Ascii.{word_ascii}
+use Rattle.cedar_data.proofs.Orders.{text_total}
 use Rattle.cedar_identifiers.specs.Names.{texts_of, components_of, name_text}
 use Rattle.cedar_identifiers.specs.NameReading.{ReadsAs}
-use Rattle.cedar_identifiers.specs.Words.{is_reserved}
 use Rattle.cedar_identifiers.specs.declared.any_id.AnyId.{AnyId}
 use Rattle.cedar_identifiers.specs.declared.id.Id.{Id}
 use Rattle.cedar_identifiers.specs.declared.internal_name.InternalName.{InternalName}
@@ -24,20 +22,19 @@ use Rattle.cedar_identifiers.specs.declared.name_kind.NameKind.TheVariants as ki
 use Rattle.cedar_identifiers.specs.declared.raw_name.RawName.{RawName}
 use Rattle.cedar_identifiers.specs.declared.unreserved_id.UnreservedId.{UnreservedId}
 use Rattle.cedar_identifiers.proofs.Unique.{one_name}
-use Rattle.schema_json_laws.proofs.NamesRead.{internal_reads, name_reads}
-use Rattle.schema_json_shapes.specs.Said.{IsRawName, IsId, IsAnyId, IsText, annotation_order}
+use Rattle.cedar_identifiers.proofs.Ids.{id_is_word}
+use Rattle.schema_json.specs.Orders.{annotation_key_cmp}
+use Rattle.schema_json_shapes.specs.Said.{IsRawName, IsId, IsAnyId, IsText}
+use Rattle.schema_json_laws.proofs.NamesRead.{internal_reads, name_reads, word_some}
 use Rattle.schema_says.specs.Bare.{bare_name}
 
 -- ---- texts of names are ASCII
 
-id_word : (id : Id) → is_word id.text ≡ true
-id_word id = first_so (is_word id.text) (not (is_reserved id.text)) id.word
-
 texts_ascii : (i : Id) (ids : List Id) → IsAscii (name_text (texts_of (i ∷ ids)))
-texts_ascii i [] = word_ascii i.text (id_word i)
+texts_ascii i [] = word_ascii i.text (id_is_word i.text i.word)
 texts_ascii i (j ∷ ids) =
     let tail = name_text (texts_of (j ∷ ids)) in
-    IsAscii-append i.text (codes "::" ++ tail) (word_ascii i.text (id_word i))
+    IsAscii-append i.text (codes "::" ++ tail) (word_ascii i.text (id_is_word i.text i.word))
     (IsAscii-cons 58 (58 ∷ tail) (omega arith) (IsAscii-cons 58 tail (omega arith) (texts_ascii j ids)))
 
 pub name_bytes_are : (n : InternalName)
@@ -55,23 +52,16 @@ pub declared_reads : (n : Name)
 declared_reads n =
     subst (λ s. ReadsAs kind.Name s (components_of n.name)) (sym (name_bytes_are n.name)) (name_reads n)
 
-word_some : (w : List ℕ) → is_word w ≡ true → 0 < length w
-word_some [] h = absurd (cc)
-word_some (b ∷ bs) h = omega arith
-
 text_some : (i : Id) (ids : List Id) → 0 < length (name_text (texts_of (i ∷ ids)))
-text_some i [] = word_some i.text (id_word i)
+text_some i [] = word_some i.text (id_is_word i.text i.word)
 text_some i (j ∷ ids) =
     let tail = codes "::" ++ name_text (texts_of (j ∷ ids)) in
-    omega (arith, word_some i.text (id_word i), length-append i.text tail)
+    omega (arith, word_some i.text (id_is_word i.text i.word), length-append i.text tail)
 
 pub name_some : (n : InternalName) → 0 < length (encode_utf8_all (name_text (components_of n)))
 name_some n = subst (λ s. 0 < length s) (sym (name_bytes_are n)) (text_some n.first n.others)
 
 -- ---- the orders of keys
-
-pub text_total : IsTotalOrder text_cmp
-text_total = on_total encode_utf8_all nat_list_cmp_total
 
 less_equal : Less ≡ Equal → ⊥
 less_equal e = cc
@@ -86,7 +76,7 @@ flipped R o x y h = o.antisymm y x ∙ ap ordering_reverse h
 only_word : (v w : List ℕ) → v ∷ [] ≡ w ∷ [] → v ≡ w
 only_word v w e = cc
 
-pub keys_apart : (s : List ℕ) (x y : AnyId) → IsAnyId s x → IsAnyId s y → annotation_order x y ≡ Less → ⊥
+pub keys_apart : (s : List ℕ) (x y : AnyId) → IsAnyId s x → IsAnyId s y → annotation_key_cmp x y ≡ Less → ⊥
 keys_apart s x y h k =
     not_less text_cmp text_total x.text y.text
     (only_word x.text y.text (one_name s kind.AnyId (x.text ∷ []) (y.text ∷ []) h k))

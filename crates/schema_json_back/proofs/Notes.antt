@@ -1,25 +1,23 @@
 -- What is written of annotations reads back.
-use Rattle.std.proofs.Common.{◌≡◌, ℕ, List, [], ◌∷◌, map, Option, Some, None, refl, sym, ap, subst}
+use Rattle.std.proofs.Common.{◌≡◌, ℕ, List, [], ◌∷◌, map, Option, Some, None, refl, sym, ap, subst, map-id}
 use Rattle.std.specs.Prelude.{codes, IfSome}
 use Rattle.std.specs.List.{AllByRecursion}
 use Rattle.std.proofs.lemmas.Str.{chars-encodes}
 use Rattle.serde_json.specs.Data.{Data, Members, no_members}
 use Rattle.cedar_data.specs.Text.{text_cmp}
+use Rattle.cedar_data.proofs.Orders.{text_total}
 use Rattle.cedar_identifiers.specs.declared.annotations.Annotations.{Annotations}
 use Rattle.cedar_identifiers.specs.declared.any_id.AnyId.{AnyId}
-use Rattle.schema_json_laws.proofs.NamesRead.{key_reads}
+use Rattle.schema_json.specs.Orders.{annotation_key_cmp}
 use Rattle.schema_json_values.specs.TypeValues.{object_of, annotation_entry, text_or_null, with_annotations}
-use Rattle.schema_json_values.specs.FragmentValues.{with_value}
-use Rattle.schema_json_shapes.specs.Said.{IsMap, AreAnnotations, annotation_order, IsAnyId, IsAnnotation}
+use Rattle.schema_json_values.specs.FragmentValues.{with_optional_value}
+use Rattle.schema_json_shapes.specs.Said.{IsMap, IsAnnotationMap, IsAnyId, IsAnnotation}
 use Rattle.schema_json_shapes.specs.Walk.{AllMet, demands, annotation, annotations, key_demands}
 use Rattle.schema_json_shapes.specs.Reads.{field_demands}
+use Rattle.schema_json_laws.proofs.NamesRead.{key_reads}
 use Rattle.schema_json_back.specs.Sayable.{IsCharacters, AreSayableNotes}
-use Rattle.schema_json_back.proofs.Names.{text_total, flipped, keys_apart}
+use Rattle.schema_json_back.proofs.Names.{flipped, keys_apart}
 use Rattle.schema_json_back.proofs.Placed.{RisesBy, rises_from, all_met, says_map}
-
-pub map_same : {X : Type 0} (xs : List X) → map (λ x. x) xs ≡ xs
-map_same [] = refl
-map_same (x ∷ xs) = ap (λ l. x ∷ l) (map_same xs)
 
 -- the member of the annotations, where there are any
 abbrev pub notes_field : List (AnyId × Option (List ℕ)) → Option Data
@@ -27,7 +25,7 @@ notes_field [] = None
 notes_field (a ∷ as') = Some (object_of (map annotation_entry (a ∷ as')))
 
 pub notes_value : (notes : List (AnyId × Option (List ℕ))) (ms : Members)
-    → with_annotations notes ms ≡ with_value (codes "annotations") (notes_field notes) ms
+    → with_annotations notes ms ≡ with_optional_value (codes "annotations") (notes_field notes) ms
 notes_value [] ms = refl
 notes_value (a ∷ as') ms = refl
 
@@ -40,21 +38,21 @@ each_says : (notes : List (AnyId × Option (List ℕ))) → AllByRecursion (λ n
 each_says [] h = tt
 each_says (n ∷ ns) h = ((key_reads n.0, value_says n.1 h.0), each_says ns h.1)
 
-map_says : (notes : List (AnyId × Option (List ℕ))) → RisesBy (λ x y. annotation_order x.0 y.0) notes
+map_says : (notes : List (AnyId × Option (List ℕ))) → RisesBy (λ x y. annotation_key_cmp x.0 y.0) notes
     → AllByRecursion (λ n. IfSome n.1 IsCharacters) notes
-    → IsMap annotation_order IsAnyId IsAnnotation (object_of (map annotation_entry notes)) notes
+    → IsMap annotation_key_cmp IsAnyId IsAnnotation (object_of (map annotation_entry notes)) notes
 map_says notes r h =
-    subst (IsMap annotation_order IsAnyId IsAnnotation (object_of (map annotation_entry notes))) (map_same notes)
-    (says_map IsAnyId IsAnnotation annotation_order (λ x y. flipped text_cmp text_total x.text y.text) keys_apart
+    subst (IsMap annotation_key_cmp IsAnyId IsAnnotation (object_of (map annotation_entry notes))) (map-id notes)
+    (says_map IsAnyId IsAnnotation annotation_key_cmp (λ x y. flipped text_cmp text_total x.text y.text) keys_apart
     annotation_entry (λ n. n) notes r (each_says notes h))
 
-notes_say_at : (notes : List (AnyId × Option (List ℕ))) → RisesBy (λ x y. annotation_order x.0 y.0) notes
+notes_say_at : (notes : List (AnyId × Option (List ℕ))) → RisesBy (λ x y. annotation_key_cmp x.0 y.0) notes
     → AllByRecursion (λ n. IfSome n.1 IsCharacters) notes
-    → AreAnnotations (notes_field notes) (record { 0 = notes })
+    → IsAnnotationMap (notes_field notes) (record { 0 = notes })
 notes_say_at [] r h = refl
 notes_say_at (n ∷ ns) r h = map_says (n ∷ ns) r h
 
-pub notes_say : (a : Annotations) → AreSayableNotes a → AreAnnotations (notes_field a.0) a
+pub notes_say : (a : Annotations) → AreSayableNotes a → IsAnnotationMap (notes_field a.0) a
 notes_say a p = notes_say_at a.0 (rises_from text_cmp (λ n. n.0.text) a.0 p.rise) p.values
 
 value_met : (k : List ℕ) (v : Option (List ℕ)) → AllMet (demands annotation k (text_or_null v))

@@ -10,6 +10,7 @@ use Rattle.std.specs.declared.cmp.Ordering.{Ordering}
 use Rattle.std.specs.declared.cmp.Ordering.TheVariants.{Less, Equal, Greater}
 use Rattle.serde_json.specs.Data.{Data, object, Members, no_members, member, put}
 use Rattle.cedar_data.specs.Maps.{with_entries, map_of}
+use Rattle.cedar_data.proofs.Every.{all_unmapped}
 use Rattle.schema_json_values.specs.TypeValues.{put_all}
 use Rattle.schema_json_shapes.specs.Walk.{Role, Demand, AllMet, demands, member_demands}
 use Rattle.schema_json_shapes.specs.Said.{AreEntries, no_entry, next_entry, IsMap}
@@ -20,16 +21,11 @@ abbrev pub RisesBy : {X : Type 0} → (X → X → Ordering) → List X → Type
 RisesBy c [] = ⊤
 RisesBy c (x ∷ xs) = AllByRecursion (λ y. c x y ≡ Less) xs × RisesBy c xs
 
-all_of_map : {X L : Type 0} (P : L → Type 0) (h : X → L) (xs : List X) → AllByRecursion P (map h xs)
-    → AllByRecursion (λ x. P (h x)) xs
-all_of_map P h [] a = tt
-all_of_map P h (x ∷ xs) a = (a.0, all_of_map P h xs a.1)
-
 pub rises_from : {X L : Type 0} (c : L → L → Ordering) (h : X → L) (xs : List X) → IsStrictlySortedBy c (map h xs)
     → RisesBy (λ x y. c (h x) (h y)) xs
 unfolding IsStrictlySortedBy
 rises_from c h [] s = tt
-rises_from c h (x ∷ xs) s = (all_of_map (λ y. c (h x) y ≡ Less) h xs s.0, rises_from c h xs s.1)
+rises_from c h (x ∷ xs) s = (all_unmapped (λ y. c (h x) y ≡ Less) h xs s.0, rises_from c h xs s.1)
 
 module _ (key : List ℕ → List Demand) (role : List ℕ → Role) where
   -- each of the entries keeps what it must

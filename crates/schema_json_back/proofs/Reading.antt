@@ -3,18 +3,18 @@ use Rattle.std.proofs.Common.{◌≡◌, ℕ, List, [], true, false, refl, sym, 
 use Rattle.serde_json.specs.Data.{Data}
 use Rattle.serde_json.specs.Written.{has_float}
 use Rattle.cedar_identifiers.specs.declared.raw_name.RawName.{RawName}
-use Rattle.schema_convert_types.specs.Declarations.{as_written}
 use Rattle.schema_json.specs.declared.fragment.Fragment.{Fragment}
+use Rattle.schema_json.specs.AsWritten.{as_written}
 use Rattle.schema_json_errors.specs.declared.json_fault.JsonFault.{JsonFault}
 use Rattle.schema_json_errors.specs.declared.json_fault.JsonFault.TheVariants as cause
-use Rattle.schema_json_io.specs.Causes.{IsFirstFault, IsValueCause}
+use Rattle.schema_json_values.specs.FragmentValues.{json_value}
+use Rattle.schema_json_shapes.specs.Walk.{AllMet, demands, fragment}
+use Rattle.schema_json_shapes.proofs.Demands.{met_or_unmet}
+use Rattle.schema_json_io.specs.Causes.{IsFirstJsonFault, IsValueCause}
 use Rattle.schema_json_io.specs.Texts.{Holds, TextShape, ValueShape}
 use Rattle.schema_json_laws.proofs.OneReading.{one_text_fragment}
 use Rattle.schema_json_laws.proofs.NoFloats.{fragment_whole}
 use Rattle.schema_json_laws.proofs.OneFragment.{one_fragment}
-use Rattle.schema_json_shapes.specs.Walk.{AllMet, demands, fragment}
-use Rattle.schema_json_shapes.proofs.Demands.{met_or_unmet}
-use Rattle.schema_json_values.specs.FragmentValues.{json_value}
 use Rattle.schema_says.specs.BareFragments.{bare_fragment}
 use Rattle.schema_json_back.specs.Sayable.{IsSayableFragment}
 use Rattle.schema_json_back.proofs.Types.{components}
@@ -23,7 +23,7 @@ use Rattle.schema_json_back.proofs.Fragments.{fragment_back}
 false_true : false ≡ true → ⊥
 false_true e = cc
 
-faultless : (d : Data) (e : JsonFault) → AllMet (demands fragment [] d) → IsFirstFault d e → ⊥
+faultless : (d : Data) (e : JsonFault) → AllMet (demands fragment [] d) → IsFirstJsonFault d e → ⊥
 faultless d e m h = met_or_unmet (demands fragment [] d) h.0 m h.1
 
 -- a lawful value without a float is refused for memory alone

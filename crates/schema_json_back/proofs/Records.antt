@@ -12,8 +12,10 @@ use Rattle.serde_json.specs.Data.{Data, boolean, object, Members, no_members, me
 use Rattle.serde_json.specs.Find.{get_member}
 use Rattle.cedar_data.specs.Text.{text_cmp}
 use Rattle.cedar_data.specs.declared.loc.Loc.{Loc}
+use Rattle.cedar_data.proofs.Orders.{text_total}
 use Rattle.cedar_identifiers.specs.declared.raw_name.RawName.{RawName}
 use Rattle.schema_json.specs.Shapes.{is_empty_type, is_empty_record, record_type, empty_record}
+use Rattle.schema_json.specs.Shapes.{has_none, is_empty_shape, is_empty_outside}
 use Rattle.schema_json.specs.declared.types.Type.{«Type», Type-F, roll-Type, out-roll-Type}
 use Rattle.schema_json.specs.declared.types.Type.TheVariants.{Variant, rolls-Variant}
 use Rattle.schema_json.specs.declared.types.Type.TheVariants.{rolls-CommonTypeRef}
@@ -24,25 +26,25 @@ use Rattle.schema_json.specs.declared.types.RecordType.{RecordType, out-RecordTy
 use Rattle.schema_json.specs.declared.types.TypeOfAttribute.{TypeOfAttribute, out-TypeOfAttribute}
 use Rattle.schema_json_values.specs.TypeValues.{put_all, with_flag, attribute_members}
 use Rattle.schema_json_values.specs.TypeValues.{attribute_entry, type_members, type_value}
-use Rattle.schema_json_values.specs.FragmentValues.{with_value, with_shape}
+use Rattle.schema_json_values.specs.FragmentValues.{with_optional_value, with_shape}
 use Rattle.schema_json_values.proofs.Layers.{attribute_out, type_variant, variant_set, variant_record}
 use Rattle.schema_json_shapes.specs.declared.words.TypeSite.TheVariants.{Plain, Attribute}
 use Rattle.schema_json_shapes.specs.declared.words.TypeWord.TheVariants as word
 use Rattle.schema_json_shapes.specs.Tables.{type_fields}
 use Rattle.schema_json_shapes.specs.Walk.{AllMet, demands, typed, flag, type_member, flag_or, or_next}
 use Rattle.schema_json_shapes.specs.Reads.{field_demands}
-use Rattle.schema_json_shapes.specs.Said.{IsText, AreEntries, no_entry, next_entry, IsMap, AreAnnotations}
-use Rattle.schema_json_shapes.specs.Said.{record_of, IsType, set_type, record_type as says_record, AreAttributes}
+use Rattle.schema_json_shapes.specs.Said.{IsText, AreEntries, no_entry, next_entry, IsMap, IsAnnotationMap}
+use Rattle.schema_json_shapes.specs.Said.{record_with, IsType, set_type, record_type as says_record, AreAttributes}
 use Rattle.schema_json_shapes.specs.Said.{no_attribute, next_attribute}
-use Rattle.schema_json_shapes.specs.Shapes.{IsShape}
+use Rattle.schema_json_shapes.specs.Shapes.{IsShapeOrNone}
+use Rattle.schema_json_shapes.proofs.Attributes.{AttributeEntry}
 use Rattle.schema_says.specs.Bare.{bare, bare_of_attribute}
+use Rattle.schema_says.proofs.BareTypes.{shape_bare, set_bare, record_at, bare_entry, attribute_from, attribute_bare}
 use Rattle.schema_json_back.specs.Sayable as is_sayable
 use Rattle.schema_json_back.proofs.Fields.{Fields, made, get_made, known_field, fit_field}
 use Rattle.schema_json_back.proofs.Placed.{rises_from, all_met, says_map}
-use Rattle.schema_json_back.proofs.Names.{text_total, flipped, texts_apart}
+use Rattle.schema_json_back.proofs.Names.{flipped, texts_apart}
 use Rattle.schema_json_back.proofs.Notes.{notes_field, notes_value, notes_say, notes_met}
-use Rattle.schema_json_back.proofs.BareTypes.{set_bare, record_bare, AttributeEntry, bare_entry, attribute_from}
-use Rattle.schema_json_back.proofs.BareTypes.{attribute_bare}
 use Rattle.schema_json_back.proofs.Types.{components, with_more, More, beside, TypeBack, of_fields, word_field}
 use Rattle.schema_json_back.proofs.Types.{word_here, site_complete, string_back, long_back, boolean_back, entity_back}
 use Rattle.schema_json_back.proofs.Types.{either_back, extension_back, reference_back}
@@ -55,7 +57,7 @@ required_field true = None
 required_field false = Some (boolean false)
 
 required_value : (b : Bool) (ms : Members)
-    → with_flag (not b) (codes "required") false ms ≡ with_value (codes "required") (required_field b) ms
+    → with_flag (not b) (codes "required") false ms ≡ with_optional_value (codes "required") (required_field b) ms
 required_value true ms = refl
 required_value false ms = refl
 
@@ -74,14 +76,14 @@ attribute_is : (a : TypeOfAttribute RawName)
 attribute_is a =
     let o = out-TypeOfAttribute RawName a in
     attribute_out RawName components a ∙ (required_value o.required _
-    ∙ ap (with_value (codes "required") (required_field o.required))
+    ∙ ap (with_optional_value (codes "required") (required_field o.required))
     (notes_value o.annotations.0 (type_members components o.ty)))
 
 record SaidAttribute (d : Data) (a : TypeOfAttribute RawName) : Type 0 where
   inside : Members
   is : d ≡ object inside
   says : IsType (object inside) (out-TypeOfAttribute RawName a).ty
-  annotated : AreAnnotations (get_member (codes "annotations") inside) (out-TypeOfAttribute RawName a).annotations
+  annotated : IsAnnotationMap (get_member (codes "annotations") inside) (out-TypeOfAttribute RawName a).annotations
   marked : (out-TypeOfAttribute RawName a).required ≡ flag_or true (get_member (codes "required") inside)
 
 attribute_said : (a : TypeOfAttribute RawName) → TypeBack (out-TypeOfAttribute RawName a).ty
@@ -96,7 +98,7 @@ attribute_said a b p =
       inside = beside r n (type_members components o.ty);
       is = refl;
       says = b.says r n;
-      annotated = subst (λ x. AreAnnotations x o.annotations) (sym (b.notes r n)) (notes_say o.annotations p);
+      annotated = subst (λ x. IsAnnotationMap x o.annotations) (sym (b.notes r n)) (notes_say o.annotations p);
       marked = required_back o.required ∙ ap (flag_or true) (sym (b.required r n));
     } in
     subst (λ ms. SaidAttribute (object ms) (bare_of_attribute a)) (sym (attribute_is a))
@@ -158,7 +160,7 @@ flag_field true = Some (boolean true)
 flag_field false = None
 
 pub flag_value : (b : Bool) (key : List ℕ) (ms : Members)
-    → with_flag b key true ms ≡ with_value key (flag_field b) ms
+    → with_flag b key true ms ≡ with_optional_value key (flag_field b) ms
 flag_value true key ms = refl
 flag_value false key ms = refl
 
@@ -177,14 +179,14 @@ record_fields es is_open =
 
 record_says : (es : List AttributeEntry) (is_open : Bool) (r n : Option Data)
     → IsMap text_cmp IsText SaidAttribute (object (attribute_members_of es)) (map bare_entry es)
-    → IsType (object (made (with_more r n (record_fields es is_open)))) (record_of (map bare_entry es) is_open)
+    → IsType (object (made (with_more r n (record_fields es is_open)))) (record_with (map bare_entry es) is_open)
 record_says es is_open r n m =
     let fs = with_more r n (record_fields es is_open) in
     let flag_is : flag_or false (get_member (codes "additionalAttributes") (made fs)) ≡ is_open =
     ap (flag_or false) (get_made (codes "additionalAttributes") fs) ∙ sym (flag_back is_open) in
-    subst (λ b. IsType (object (made fs)) (record_of (map bare_entry es) b)) flag_is
+    subst (λ b. IsType (object (made fs)) (record_with (map bare_entry es) b)) flag_is
     (subst (λ (xs : List AttributeEntry). IsType (object (made fs))
-    (record_of xs (flag_or false (get_member (codes "additionalAttributes") (made fs))))) (sym m.2)
+    (record_with xs (flag_or false (get_member (codes "additionalAttributes") (made fs))))) (sym m.2)
     (says_record (made fs) (attribute_members_of es) m.0
     (word_here (codes "Record") r n (record_fields es is_open) word.Record refl refl)
     (get_made (codes "attributes") fs) (attributes_said (attribute_members_of es) m.0 m.1)))
@@ -207,7 +209,7 @@ record_back loc x rise h =
       (tt, all_met (λ k. []) (λ k. typed Attribute) (attribute_entry components) es no_members (all_keep es h) tt),
       ((tt, tt), tt),
     ))
-    (λ r n. subst (IsType (object (made (with_more r n fs)))) (sym (record_bare x loc))
+    (λ r n. subst (IsType (object (made (with_more r n fs)))) (sym (record_at x loc))
     (record_says es is_open r n (attributes_map es rise h)))
 
 pub alone : More Plain None None
@@ -221,7 +223,7 @@ set_back loc t b =
     (type_variant RawName components (variant.Set t) loc ∙ variant_set RawName components t) refl refl refl
     (λ site. (refl, (refl, tt))) (λ site r n. site_complete site (with_more r n fs))
     ((tt, b.met Plain None None (codes "element") alone), ((tt, tt), tt))
-    (λ r n. subst (IsType (object (made (with_more r n fs)))) (sym (set_bare t loc))
+    (λ r n. subst (IsType (object (made (with_more r n fs)))) (sym (shape_bare _ _ (set_bare t) loc))
     (set_type _ d (bare t) (word_here (codes "Set") r n fs word.Set refl refl)
     (get_made (codes "element") (with_more r n fs)) (b.says None None)))
 
@@ -259,39 +261,27 @@ Outer = Type-F RawName («Type» RawName) (TypeVariant RawName) (RecordType RawN
 abbrev Inner : Type 0
 Inner = TypeVariant-F RawName («Type» RawName) (TypeVariant RawName) (RecordType RawName) (TypeOfAttribute RawName)
 
--- the type is a closed record without attributes, by its layers
-abbrev empty_inner : Inner → Bool
-empty_inner (TypeVariant-F.Record r) = is_empty_record r
-empty_inner _ = false
-
-abbrev empty_outer : Outer → Bool
-empty_outer (Type-F.Variant v loc) = empty_inner (out-TypeVariant RawName v)
-empty_outer (Type-F.CommonTypeRef name loc) = false
-
-empty_rolled : (x : Outer) → is_empty_type (roll-Type RawName x) ≡ empty_outer x
-empty_rolled x = ap empty_outer (out-roll-Type RawName x)
+empty_rolled : (x : Outer) → is_empty_type (roll-Type RawName x) ≡ is_empty_outside x
+empty_rolled x = ap is_empty_outside (out-roll-Type RawName x)
 
 variant_empty : (v : TypeVariant RawName) (x : Inner) (loc : Option Loc) → roll-TypeVariant RawName x ≡ v
-    → is_empty_type (Variant v loc) ≡ empty_inner x
+    → is_empty_type (Variant v loc) ≡ is_empty_shape x
 variant_empty v x loc e =
     ap is_empty_type (sym (rolls-Variant v loc)) ∙ (empty_rolled (Type-F.Variant v loc)
-    ∙ (ap (λ w. empty_inner (out-TypeVariant RawName w)) (sym e) ∙ ap empty_inner (out-roll-TypeVariant RawName x)))
+    ∙ (ap (λ w. is_empty_shape (out-TypeVariant RawName w)) (sym e)
+    ∙ ap is_empty_shape (out-roll-TypeVariant RawName x)))
 
 -- a type that is no record is no empty one
 not_empty : (v : TypeVariant RawName) (x : Inner) (loc : Option Loc) → roll-TypeVariant RawName x ≡ v
-    → empty_inner x ≡ false → is_empty_type (Variant v loc) ≡ true → bare (Variant v loc) ≡ record_type empty_record
+    → is_empty_shape x ≡ false → is_empty_type (Variant v loc) ≡ true → bare (Variant v loc) ≡ record_type empty_record
 not_empty v x loc e h g = let no : false ≡ true = sym h ∙ (sym (variant_empty v x loc e) ∙ g) in absurd (cc)
 
 record_empty : (r : RecordType RawName) (loc : Option Loc)
     → is_empty_type (Variant (variant.Record r) loc) ≡ is_empty_record r
 record_empty r loc = variant_empty (variant.Record r) (TypeVariant-F.Record r) loc (variant.rolls-Record r)
 
-abbrev has_none : List AttributeEntry → Bool
-has_none [] = true
-has_none (e ∷ es) = false
-
 none_written : (es : List AttributeEntry) (b : Bool) → (has_none es && not b) ≡ true
-    → record_of (map bare_entry es) b ≡ record_type empty_record
+    → record_with (map bare_entry es) b ≡ record_type empty_record
 none_written [] true h = absurd (cc)
 none_written [] false h = refl
 none_written (e ∷ es) b h = absurd (cc)
@@ -304,7 +294,7 @@ empty_back _ (is_sayable.sayable_boolean loc) h = not_empty _ TypeVariant-F.Bool
 empty_back _ (is_sayable.sayable_set loc t p) h =
     not_empty _ (TypeVariant-F.Set t) loc (variant.rolls-Set t) refl h
 empty_back _ (is_sayable.sayable_record loc r rise p) h =
-    record_bare r loc ∙ none_written (out-RecordType RawName r).attributes
+    record_at r loc ∙ none_written (out-RecordType RawName r).attributes
     (out-RecordType RawName r).additional_attributes (sym (record_empty r loc) ∙ h)
 empty_back _ (is_sayable.sayable_entity loc n) h =
     not_empty _ (TypeVariant-F.Entity n) loc (variant.rolls-Entity n) refl h
@@ -324,20 +314,21 @@ abbrev pub shape_field : «Type» RawName → Option Data
 shape_field t = shape_if (is_empty_type t) t
 
 shape_value_at : (b : Bool) (key : List ℕ) (t : «Type» RawName) (ms : Members)
-    → cond b ms (with_value key (Some (type_value components t)) ms) ≡ with_value key (shape_if b t) ms
+    → cond b ms (with_optional_value key (Some (type_value components t)) ms)
+    ≡ with_optional_value key (shape_if b t) ms
 shape_value_at true key t ms = refl
 shape_value_at false key t ms = refl
 
 pub shape_value : (key : List ℕ) (t : «Type» RawName) (ms : Members)
-    → with_shape components key t ms ≡ with_value key (shape_field t) ms
+    → with_shape components key t ms ≡ with_optional_value key (shape_field t) ms
 shape_value key t ms = shape_value_at (is_empty_type t) key t ms
 
 shape_says_at : (b : Bool) (t : «Type» RawName) → is_sayable.IsSayableType t → is_empty_type t ≡ b
-    → IsShape (shape_if b t) (bare t)
+    → IsShapeOrNone (shape_if b t) (bare t)
 shape_says_at true t p e = empty_back t p e
 shape_says_at false t p e = (type_back t p).says None None
 
-pub shape_says : (t : «Type» RawName) → is_sayable.IsSayableType t → IsShape (shape_field t) (bare t)
+pub shape_says : (t : «Type» RawName) → is_sayable.IsSayableType t → IsShapeOrNone (shape_field t) (bare t)
 shape_says t p = shape_says_at (is_empty_type t) t p refl
 
 shape_met_at : (b : Bool) (label : List ℕ) (t : «Type» RawName) → is_sayable.IsSayableType t

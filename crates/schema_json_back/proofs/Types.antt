@@ -8,13 +8,14 @@ use Rattle.cedar_data.specs.declared.loc.Loc.{Loc}
 use Rattle.cedar_identifiers.specs.Names.{components_of}
 use Rattle.cedar_identifiers.specs.declared.raw_name.RawName.{RawName}
 use Rattle.cedar_identifiers.specs.declared.unreserved_id.UnreservedId.{UnreservedId}
-use Rattle.schema_json_laws.proofs.NamesRead.{id_reads}
+use Rattle.cedar_identifiers.specs.NameReading.{ReadsAs}
+use Rattle.cedar_identifiers.specs.declared.name_kind.NameKind.TheVariants as kind
 use Rattle.schema_json.specs.declared.types.Type.{«Type»}
 use Rattle.schema_json.specs.declared.types.Type.TheVariants.{Variant, CommonTypeRef}
 use Rattle.schema_json.specs.declared.types.TypeVariant.TheVariants as variant
 use Rattle.schema_json_values.specs.TypeValues.{name_bytes}
 use Rattle.schema_json_values.specs.TypeValues.{type_members}
-use Rattle.schema_json_values.specs.FragmentValues.{with_value}
+use Rattle.schema_json_values.specs.FragmentValues.{with_optional_value}
 use Rattle.schema_json_values.proofs.Layers.{type_variant, type_common}
 use Rattle.schema_json_values.proofs.Layers.{variant_entity, variant_either, variant_extension, variant_string}
 use Rattle.schema_json_values.proofs.Layers.{variant_long, variant_boolean}
@@ -24,20 +25,19 @@ use Rattle.schema_json_shapes.specs.declared.words.TypeWord.{TypeWord}
 use Rattle.schema_json_shapes.specs.declared.words.TypeWord.TheVariants as word
 use Rattle.schema_json_shapes.specs.Tables.{word_of, site_fields, type_fields, is_field}
 use Rattle.schema_json_shapes.specs.Walk.{AllMet, demands, typed, flag, annotations, type_member, word_fits}
-use Rattle.cedar_identifiers.specs.NameReading.{ReadsAs}
-use Rattle.cedar_identifiers.specs.declared.name_kind.NameKind.TheVariants as kind
 use Rattle.schema_json_shapes.specs.Walk.{reference_fits, member_demands, text_in, or_next}
 use Rattle.schema_json_shapes.specs.Reads.{field_demands}
 use Rattle.schema_json_shapes.specs.Said.{HasWord}
 use Rattle.schema_json_shapes.specs.Said.{IsType, string_type, long_type, boolean_type}
 use Rattle.schema_json_shapes.specs.Said.{entity_type, either_type, extension_type, reference}
 use Rattle.schema_json_shapes.proofs.Demands.{both_met}
+use Rattle.schema_json_laws.proofs.NamesRead.{id_reads}
 use Rattle.schema_says.specs.Bare.{bare_name, bare}
+use Rattle.schema_says.proofs.BareTypes.{shape_bare, reference_bare, string_bare, long_bare, boolean_bare}
+use Rattle.schema_says.proofs.BareTypes.{entity_bare, either_bare, extension_bare}
 use Rattle.schema_json_back.specs.Sayable as is_sayable
 use Rattle.schema_json_back.proofs.Fields.{Fields, made, found, get_made, Known, complete, fits, AllFit, made_met}
 use Rattle.schema_json_back.proofs.Names.{raw_reads, name_bytes_are}
-use Rattle.schema_json_back.proofs.BareTypes.{reference_bare, string_bare, long_bare, boolean_bare}
-use Rattle.schema_json_back.proofs.BareTypes.{entity_bare, either_bare, extension_bare}
 
 abbrev pub components : RawName → List (List ℕ)
 components n = components_of n.name
@@ -138,7 +138,7 @@ or_none (Some d) f e = refl
 
 -- the members of a type, with more beside them
 abbrev pub beside : Option Data → Option Data → Members → Members
-beside r n ms = with_value (codes "required") r (with_value (codes "annotations") n ms)
+beside r n ms = with_optional_value (codes "required") r (with_optional_value (codes "annotations") n ms)
 
 pub record TypeBack (t : «Type» RawName) : Type 0 where
   pub met : (site : TypeSite) (r n : Option Data) (label : List ℕ) → More site r n
@@ -180,7 +180,8 @@ string_back loc =
     of_fields (Variant variant.String loc) (codes "String") (word_field (codes "String"))
     (type_variant RawName components variant.String loc ∙ variant_string RawName components) refl refl refl
     (λ site. (refl, tt)) (λ site r n. site_complete site (with_more r n (word_field (codes "String")))) ((tt, tt), tt)
-    (λ r n. subst (IsType (object (made (with_more r n (word_field (codes "String")))))) (sym (string_bare loc))
+    (λ r n. subst (IsType (object (made (with_more r n (word_field (codes "String"))))))
+    (sym (shape_bare _ _ string_bare loc))
     (string_type _ (word_here (codes "String") r n (word_field (codes "String")) word.String refl refl)))
 
 pub long_back : (loc : Option Loc) → TypeBack (Variant variant.Long loc)
@@ -188,7 +189,8 @@ long_back loc =
     of_fields (Variant variant.Long loc) (codes "Long") (word_field (codes "Long"))
     (type_variant RawName components variant.Long loc ∙ variant_long RawName components) refl refl refl
     (λ site. (refl, tt)) (λ site r n. site_complete site (with_more r n (word_field (codes "Long")))) ((tt, tt), tt)
-    (λ r n. subst (IsType (object (made (with_more r n (word_field (codes "Long")))))) (sym (long_bare loc))
+    (λ r n. subst (IsType (object (made (with_more r n (word_field (codes "Long"))))))
+    (sym (shape_bare _ _ long_bare loc))
     (long_type _ (word_here (codes "Long") r n (word_field (codes "Long")) word.Long refl refl)))
 
 pub boolean_back : (loc : Option Loc) → TypeBack (Variant variant.Boolean loc)
@@ -196,7 +198,8 @@ boolean_back loc =
     of_fields (Variant variant.Boolean loc) (codes "Boolean") (word_field (codes "Boolean"))
     (type_variant RawName components variant.Boolean loc ∙ variant_boolean RawName components) refl refl refl
     (λ site. (refl, tt)) (λ site r n. site_complete site (with_more r n (word_field (codes "Boolean")))) ((tt, tt), tt)
-    (λ r n. subst (IsType (object (made (with_more r n (word_field (codes "Boolean")))))) (sym (boolean_bare loc))
+    (λ r n. subst (IsType (object (made (with_more r n (word_field (codes "Boolean"))))))
+    (sym (shape_bare _ _ boolean_bare loc))
     (boolean_type _ (word_here (codes "Boolean") r n (word_field (codes "Boolean")) word.Boolean refl refl)))
 
 -- ---- types with a name
@@ -212,7 +215,7 @@ entity_back loc x =
     (type_variant RawName components (variant.Entity x) loc ∙ variant_entity RawName components x) refl refl refl
     (λ site. (refl, (refl, tt))) (λ site r n. site_complete site (with_more r n fs))
     ((tt, ((components x, (raw_reads x).0), tt)), ((tt, tt), tt))
-    (λ r n. subst (IsType (object (made (with_more r n fs)))) (sym (entity_bare x loc))
+    (λ r n. subst (IsType (object (made (with_more r n fs)))) (sym (shape_bare _ _ (entity_bare x) loc))
     (entity_type _ s (bare_name x) (word_here (codes "Entity") r n fs word.Entity refl refl)
     (get_made (codes "name") (with_more r n fs)) (raw_reads x)))
 
@@ -224,7 +227,7 @@ either_back loc x =
     (type_variant RawName components (variant.EntityOrCommon x) loc ∙ variant_either RawName components x)
     refl refl refl (λ site. (refl, (refl, tt))) (λ site r n. site_complete site (with_more r n fs))
     ((tt, ((components x, (raw_reads x).0), tt)), ((tt, tt), tt))
-    (λ r n. subst (IsType (object (made (with_more r n fs)))) (sym (either_bare x loc))
+    (λ r n. subst (IsType (object (made (with_more r n fs)))) (sym (shape_bare _ _ (either_bare x) loc))
     (either_type _ s (bare_name x) (word_here (codes "EntityOrCommon") r n fs word.EntityOrCommon refl refl)
     (get_made (codes "name") (with_more r n fs)) (raw_reads x)))
 
@@ -236,7 +239,7 @@ extension_back loc x =
     (type_variant RawName components (variant.Extension x) loc ∙ variant_extension RawName components x)
     refl refl refl (λ site. (refl, (refl, tt))) (λ site r n. site_complete site (with_more r n fs))
     ((tt, (((s ∷ []), id_reads x), tt)), ((tt, tt), tt))
-    (λ r n. subst (IsType (object (made (with_more r n fs)))) (sym (extension_bare x loc))
+    (λ r n. subst (IsType (object (made (with_more r n fs)))) (sym (shape_bare _ _ (extension_bare x) loc))
     (extension_type _ s x (word_here (codes "Extension") r n fs word.Extension refl refl)
     (get_made (codes "name") (with_more r n fs)) (id_reads x)))
 

@@ -28,8 +28,8 @@ use Rattle.schema_json.specs.declared.action_type.ActionType.{ActionType}
 use Rattle.schema_json.specs.declared.action_type.ActionEntityUID.{ActionEntityUID}
 use Rattle.schema_json.specs.declared.fragment.Fragment.{Fragment}
 use Rattle.schema_json.specs.declared.fragment.NamespaceDefinition.{NamespaceDefinition}
+use Rattle.schema_json.specs.Orders.{namespace_cmp}
 use Rattle.schema_json_shapes.specs.Tables.{word_of}
-use Rattle.schema_json_shapes.specs.Shapes.{namespace_order}
 use Rattle.schema_json_shapes.specs.declared.words.TypeWord.TheVariants.{Reference}
 use Rattle.schema_json_walk.specs.Bare.{is_bare_entity, is_bare_action}
 
@@ -113,5 +113,5 @@ module _ {G : named.Ghosts RawName} where
   -- types, no common type has a name that none may have, what another schema declares is bare, and the empty namespace
   -- has no annotations.
   pub record IsSayableFragment (f : Fragment RawName G) : Type 0 where
-    pub names_rise : IsStrictlySortedBy namespace_order (keys_of f.0)
+    pub names_rise : IsStrictlySortedBy namespace_cmp (keys_of f.0)
     pub each : AllByRecursion (λ e. IsSayableNamespace e.0 e.1) f.0

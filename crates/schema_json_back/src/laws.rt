@@ -9,7 +9,7 @@ ghost use Rattle.schema_says.specs.BareFragments.{bare_fragment};
 ghost use Rattle.schema_json_back.specs.Sayable.{IsSayableFragment};
 ghost use Rattle.schema_json_errors.specs.declared.json_error.JsonDeserializationError.{JsonDeserializationError as Error};
 ghost use Rattle.schema_json_errors.specs.declared.json_fault.JsonFault.TheVariants.{Memory};
-ghost use Rattle.schema_json_io.specs.Causes.{IsTextError, IsValueError};
+ghost use Rattle.schema_json_io.specs.Causes.{IsJsonTextError, IsValueError};
 ghost use Rattle.schema_json_io.specs.Texts.{Holds, TextShape, ValueShape};
 ghost use Rattle.schema_json_shapes.specs.Shapes.{JsonShape};
 ghost use Rattle.schema_json_values.specs.FragmentValues.{json_value};
@@ -41,7 +41,7 @@ pub fn sayable_texts_are_read()
     ensures alone { (text : List ℕ) (f g : Fragment Raw ⟦<RawName as NameText>⟧) → IsSayableFragment f
         → Holds text (json_value ⟦<RawName as NameText>⟧.components f) → TextShape text g → g ≡ bare_fragment f }
     ensures refused { (text : List ℕ) (f : Fragment Raw ⟦<RawName as NameText>⟧) (e : Error) → IsSayableFragment f
-        → Holds text (json_value ⟦<RawName as NameText>⟧.components f) → e.fault ≢ Memory → ¬ IsTextError text e }
+        → Holds text (json_value ⟦<RawName as NameText>⟧.components f) → e.fault ≢ Memory → ¬ IsJsonTextError text e }
 {}
 
 /// Reading the compact text of the JSON value of a sayable fragment gives the fragment, places aside, and nothing else,
@@ -55,5 +55,5 @@ pub fn written_texts_are_read()
         → TextShape (compact_text (json_value ⟦<RawName as NameText>⟧.components f)) g → g ≡ bare_fragment f }
     ensures refused { (f : Fragment Raw ⟦<RawName as NameText>⟧) (e : Error) → IsSayableFragment f
         → depth (json_value ⟦<RawName as NameText>⟧.components f) ≤ max_depth → e.fault ≢ Memory
-        → ¬ IsTextError (compact_text (json_value ⟦<RawName as NameText>⟧.components f)) e }
+        → ¬ IsJsonTextError (compact_text (json_value ⟦<RawName as NameText>⟧.components f)) e }
 {}

@@ -2,13 +2,13 @@
 use Rattle.std.proofs.Common.{◌≡◌, ◌⊎◌, false, inl, inr, refl}
 use Rattle.serde_json.specs.Data.{Data}
 use Rattle.serde_json.specs.Written.{has_float}
+use Rattle.std.specs.Prelude.{[]}
+use Rattle.schema_json_errors.specs.declared.json_fault.JsonFault.{JsonFault}
 use Rattle.schema_json_shapes.specs.declared.shape_fault.ShapeFault.{ShapeFault}
 use Rattle.schema_json_shapes.specs.declared.shape_fault.ShapeFault.TheVariants as shape
-use Rattle.std.specs.Prelude.{[]}
 use Rattle.schema_json_shapes.specs.Walk.{fragment, demands}
-use Rattle.schema_json_shapes.specs.Reads.{IsFault}
-use Rattle.schema_json_errors.specs.declared.json_fault.JsonFault.{JsonFault}
-use Rattle.schema_json_io.specs.Causes.{IsFirstFault, IsValueCause, IsValueCauseBy}
+use Rattle.schema_json_shapes.specs.Reads.{IsDemandFault}
+use Rattle.schema_json_io.specs.Causes.{IsFirstJsonFault, IsValueCause, IsValueCauseBy}
 use Rattle.schema_json_io.specs.Faults.{of_shape}
 
 pub value_cause_by : (IsFirst : Data → JsonFault → Type 0) (d : Data) (fault : ShapeFault) → has_float d ≡ false
@@ -33,7 +33,7 @@ value_cause_by IsFirst d shape.AnnotationsOnEmptyNamespace w (inl m) = absurd (c
 value_cause_by IsFirst d shape.AnnotationsOnEmptyNamespace w (inr h) = (w, h)
 value_cause_by IsFirst d shape.Memory w h = tt
 
-pub value_cause : (d : Data) (fault : ShapeFault) → has_float d ≡ false → IsFault (demands fragment [] d) fault
+pub value_cause : (d : Data) (fault : ShapeFault) → has_float d ≡ false → IsDemandFault (demands fragment [] d) fault
     → IsValueCause d (of_shape fault)
-value_cause d fault w (inl m) = value_cause_by IsFirstFault d fault w (inl m)
-value_cause d fault w (inr h) = value_cause_by IsFirstFault d fault w (inr (fault, h, refl))
+value_cause d fault w (inl m) = value_cause_by IsFirstJsonFault d fault w (inl m)
+value_cause d fault w (inr h) = value_cause_by IsFirstJsonFault d fault w (inr (fault, h, refl))

@@ -27,13 +27,13 @@ is_bare_namespace (object ms) =
 is_bare_namespace _ = false
 
 -- the advice on the value that is read: `MissingNamespace` where it has a field that a namespace has
-abbrev pub on_value : Option Data → Option JsonAdvice
-on_value None = None
-on_value (Some d) = if is_bare_namespace d then Some MissingNamespace else None
+abbrev pub value_advice : Option Data → Option JsonAdvice
+value_advice None = None
+value_advice (Some d) = if is_bare_namespace d then Some MissingNamespace else None
 
 -- the advice on a text: `CedarFormat` where it begins, and not with `{`, and else that on the value that is read
 abbrev pub advice_on : List ℕ → Option JsonAdvice
-advice_on text = if is_no_object_text text then Some CedarFormat else on_value (read text)
+advice_on text = if is_no_object_text text then Some CedarFormat else value_advice (read text)
 
 -- the advice beside the fault; there is none where memory is out
 abbrev pub beside : JsonFault → Option JsonAdvice → Option JsonAdvice

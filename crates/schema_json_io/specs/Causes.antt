@@ -4,19 +4,19 @@ use Rattle.std.specs.Str.{chars}
 use Rattle.serde_json.specs.Data.{Data}
 use Rattle.serde_json.specs.Read.{read}
 use Rattle.serde_json.specs.Written.{has_float}
-use Rattle.schema_json_keys.specs.Keys.{RepeatedKey}
-use Rattle.schema_json_shapes.specs.declared.shape_fault.ShapeFault.{ShapeFault}
-use Rattle.schema_json_shapes.specs.Shapes.{IsShapeFault}
 use Rattle.schema_json_errors.specs.declared.json_error.JsonDeserializationError.{JsonDeserializationError}
 use Rattle.schema_json_errors.specs.declared.json_fault.JsonFault.{JsonFault}
 use Rattle.schema_json_errors.specs.declared.json_fault.JsonFault.TheVariants as cause
+use Rattle.schema_json_keys.specs.Keys.{RepeatedKey}
+use Rattle.schema_json_shapes.specs.declared.shape_fault.ShapeFault.{ShapeFault}
+use Rattle.schema_json_shapes.specs.Shapes.{IsShapeFault}
 use Rattle.schema_json_io.specs.Advice.{advice_on, beside}
 use Rattle.schema_json_io.specs.Faults.{of_shape}
 use Rattle.schema_json_io.specs.Texts.{HasNoRepeat, Holds}
 
 -- the first fault of the value
-abbrev pub IsFirstFault : Data → JsonFault → Type 0
-IsFirstFault d e = (fault : ShapeFault) × IsShapeFault d fault × (e ≡ of_shape fault)
+abbrev pub IsFirstJsonFault : Data → JsonFault → Type 0
+IsFirstJsonFault d e = (fault : ShapeFault) × IsShapeFault d fault × (e ≡ of_shape fault)
 
 -- why a value is refused, where this tells the first fault of a value without a float
 abbrev pub IsValueCauseBy : (Data → JsonFault → Type 0) → Data → JsonFault → Type 0
@@ -37,15 +37,15 @@ IsTextCauseBy IsFirst text e = (d : Data) × Holds text d × IsFirst d e
 
 -- why a value is refused
 abbrev pub IsValueCause : Data → JsonFault → Type 0
-IsValueCause d e = IsValueCauseBy IsFirstFault d e
+IsValueCause d e = IsValueCauseBy IsFirstJsonFault d e
 
 -- why a text is refused
 abbrev pub IsTextCause : List ℕ → JsonFault → Type 0
-IsTextCause text e = IsTextCauseBy IsFirstFault text e
+IsTextCause text e = IsTextCauseBy IsFirstJsonFault text e
 
 -- why a text is refused, with the advice beside the cause
-abbrev pub IsTextError : List ℕ → JsonDeserializationError → Type 0
-IsTextError text e = IsTextCause text e.fault × (e.advice ≡ beside e.fault (advice_on text))
+abbrev pub IsJsonTextError : List ℕ → JsonDeserializationError → Type 0
+IsJsonTextError text e = IsTextCause text e.fault × (e.advice ≡ beside e.fault (advice_on text))
 
 -- why a value is refused; nothing is advised
 abbrev pub IsValueError : Data → JsonDeserializationError → Type 0

@@ -6,7 +6,7 @@ ghost use Rattle.serde_json.specs.Written.{has_float};
 ghost use Rattle.schema_json_keys.specs.Plain.{IsPlainText};
 ghost use Rattle.schema_json_io.specs.Advice.{beside};
 ghost use Rattle.schema_json_io.specs.Texts.{TextShape, ValueShape};
-ghost use Rattle.schema_json_io.specs.Causes.{IsTextCause, IsValueCause, IsTextError, IsValueError};
+ghost use Rattle.schema_json_io.specs.Causes.{IsTextCause, IsValueCause, IsJsonTextError, IsValueError};
 
 use crate::advice::advice_on;
 use crate::floats::has_float;
@@ -75,7 +75,7 @@ fn read_plain(
     value: &Value,
 ) -> Result<Fragment<RawName>, JsonDeserializationError>
     requires { IsPlainText text.now (view value.now) }
-    ensures { MatchResult result (TextShape text.now) (IsTextError text.now) }
+    ensures { MatchResult result (TextShape text.now) (IsJsonTextError text.now) }
 {
     match read_whole(alloc, value) {
         Ok(fragment) => Ok(fragment),
@@ -85,7 +85,7 @@ fn read_plain(
 
 // The fragment of any text, or the error.
 fn read_any(alloc: Global, json: &str) -> Result<Fragment<RawName>, JsonDeserializationError>
-    ensures { MatchResult result (TextShape json.now) (IsTextError json.now) }
+    ensures { MatchResult result (TextShape json.now) (IsJsonTextError json.now) }
 {
     match Value::from_str(alloc, json) {
         Ok(value) => match read_text(alloc, json, &value) {
@@ -108,7 +108,7 @@ pub fn from_json_str(
     alloc: Global,
     json: &str,
 ) -> Result<Fragment<RawName>, JsonDeserializationError>
-    ensures { MatchResult result (TextShape json.now) (IsTextError json.now) }
+    ensures { MatchResult result (TextShape json.now) (IsJsonTextError json.now) }
 {
     match plain_value(alloc, json) {
         Ok(Some(value)) => read_plain(alloc, json, &value),
@@ -141,7 +141,7 @@ pub trait FragmentJson: Drop {
 
     /// What the JSON text says, or its first fault as `from_json_str` orders them; or out of memory.
     fn from_json_str(alloc: Global, json: &str) -> Result<Self, JsonDeserializationError>
-        ensures { MatchResult result (SaidByText json.now) (IsTextError json.now) };
+        ensures { MatchResult result (SaidByText json.now) (IsJsonTextError json.now) };
 
     /// What the JSON value says, or its first fault; or out of memory.
     fn from_json_value(alloc: Global, json: Value) -> Result<Self, JsonDeserializationError>

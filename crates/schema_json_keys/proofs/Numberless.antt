@@ -1,5 +1,6 @@
 -- A text without a number is read as a value without a float.
-use Rattle.std.proofs.Common.{◌≡◌, ℕ, Bool, true, false, List, [], ◌∷◌, Option, Some, None, refl, sym, ap, ◌∙◌}
+use Rattle.std.proofs.Common.{◌≡◌, ℕ, false, List, [], ◌∷◌, Option, Some, None, refl, sym, ap, ◌∙◌}
+use Rattle.std.proofs.lemmas.Bool.{or_parts, or_from}
 use Rattle.std.specs.Prelude.{◌||◌, option_map, option_and_then}
 use Rattle.std.specs.declared.cmp.Ordering.{Ordering}
 use Rattle.std.specs.declared.cmp.Ordering.TheVariants.{Less, Equal, Greater}
@@ -13,23 +14,8 @@ use Rattle.serde_json.specs.Data.{Data, null, boolean, string, array, object, It
 use Rattle.serde_json.specs.Data.{no_members, member, put}
 use Rattle.serde_json.specs.Read.{of_json, of_items, of_members, max_depth, read}
 use Rattle.serde_json.specs.Written.{has_float, items_have_float, members_have_float}
+use Rattle.cedar_data.proofs.Options.{seen_of}
 use Rattle.schema_json_keys.specs.Numbers.{has_number, items_have_number, members_have_number, HasNoNumber}
-
-neither_left : (a b : Bool) → (a || b) ≡ false → a ≡ false
-neither_left true b e = e
-neither_left false b e = refl
-
-neither_right : (a b : Bool) → (a || b) ≡ false → b ≡ false
-neither_right true b e = let no : true ≡ false = e in cc
-neither_right false b e = e
-
-both : (a b : Bool) → a ≡ false → b ≡ false → (a || b) ≡ false
-both a b e f = ap (λ x. x || b) e ∙ f
-
--- what an optional part is made of
-part : {A B : Type 0} (f : A → B) (o : Option A) (b : B) → option_map f o ≡ Some b → (a : A) × (o ≡ Some a) × (b ≡ f a)
-part f None b e = cc
-part f (Some a) b e = (a, refl, sym (Some_inj (f a) b e))
 
 parts : {A B : Type 0} (f : A → Option B) (o : Option A) (b : B) → option_and_then f o ≡ Some b
     → (a : A) × (o ≡ Some a) × (f a ≡ Some b)
@@ -39,18 +25,18 @@ parts f (Some a) b e = (a, refl, e)
 -- a member more has no float where the others have none
 put_float : (k : List ℕ) (d : Data) (ms : Members) → has_float d ≡ false → members_have_float ms ≡ false
     → members_have_float (put k d ms) ≡ false
-put_float k d no_members e f = both (has_float d) false e refl
+put_float k d no_members e f = or_from (has_float d) false e refl
 put_float k d (member l x ms) e f =
-    by (slice_cmp nat_cmp k l) (neither_left (has_float x) (members_have_float ms) f)
-    (neither_right (has_float x) (members_have_float ms) f)
-    (put_float k d ms e (neither_right (has_float x) (members_have_float ms) f))
+    by (slice_cmp nat_cmp k l) (or_parts (has_float x) (members_have_float ms) f).0
+    (or_parts (has_float x) (members_have_float ms) f).1
+    (put_float k d ms e (or_parts (has_float x) (members_have_float ms) f).1)
   where
     by : (r : Ordering) → has_float x ≡ false → members_have_float ms ≡ false
         → members_have_float (put k d ms) ≡ false → members_have_float
         (match_ordering r (member k d (member l x ms)) (member l d ms) (member l x (put k d ms))) ≡ false
-    by Less g h more = both (has_float d) (has_float x || members_have_float ms) e (both (has_float x) _ g h)
-    by Equal g h more = both (has_float d) (members_have_float ms) e h
-    by Greater g h more = both (has_float x) (members_have_float (put k d ms)) g more
+    by Less g h more = or_from (has_float d) (has_float x || members_have_float ms) e (or_from (has_float x) _ g h)
+    by Equal g h more = or_from (has_float d) (members_have_float ms) e h
+    by Greater g h more = or_from (has_float x) (members_have_float (put k d ms)) g more
 
 -- a value without a number is read as one without a float
 mutual
@@ -60,30 +46,30 @@ mutual
   of_json_float (json.number s) d e n = cc
   of_json_float (json.string s) d e n = sym (ap has_float (Some_inj (string s) d e))
   of_json_float (json.array js) d e n =
-      let p = part array (of_items js) d e in
-      ap has_float p.2 ∙ of_items_float js p.0 p.1 n
+      let p = seen_of array (of_items js) d e in
+      ap has_float (sym p.2) ∙ of_items_float js p.0 p.1 n
   of_json_float (json.object ms) d e n =
-      let p = part object (of_members ms no_members) d e in
-      ap has_float p.2 ∙ of_members_float ms no_members p.0 p.1 n refl
+      let p = seen_of object (of_members ms no_members) d e in
+      ap has_float (sym p.2) ∙ of_members_float ms no_members p.0 p.1 n refl
 
   of_items_float : (js : json.Items) (ds : Items) → of_items js ≡ Some ds → items_have_number js ≡ false
       → items_have_float ds ≡ false
   of_items_float json.no_items ds e n = sym (ap items_have_float (Some_inj no_items ds e))
   of_items_float (json.item j js) ds e n =
       let p = parts (λ d. option_map (item d) (of_items js)) (of_json j) ds e in
-      let q = part (item p.0) (of_items js) ds p.2 in
-      ap items_have_float q.2
-      ∙ both (has_float p.0) (items_have_float q.0)
-      (of_json_float j p.0 p.1 (neither_left (has_number j) (items_have_number js) n))
-      (of_items_float js q.0 q.1 (neither_right (has_number j) (items_have_number js) n))
+      let q = seen_of (item p.0) (of_items js) ds p.2 in
+      ap items_have_float (sym q.2)
+      ∙ or_from (has_float p.0) (items_have_float q.0)
+      (of_json_float j p.0 p.1 (or_parts (has_number j) (items_have_number js) n).0)
+      (of_items_float js q.0 q.1 (or_parts (has_number j) (items_have_number js) n).1)
 
   of_members_float : (ms : json.Members) (found all : Members) → of_members ms found ≡ Some all
       → members_have_number ms ≡ false → members_have_float found ≡ false → members_have_float all ≡ false
   of_members_float json.no_members found all e n f = sym (ap members_have_float (Some_inj found all e)) ∙ f
   of_members_float (json.member k j ms) found all e n f =
       let p = parts (λ d. of_members ms (put k d found)) (of_json j) all e in
-      of_members_float ms (put k p.0 found) all p.2 (neither_right (has_number j) (members_have_number ms) n)
-      (put_float k p.0 found (of_json_float j p.0 p.1 (neither_left (has_number j) (members_have_number ms) n)) f)
+      of_members_float ms (put k p.0 found) all p.2 (or_parts (has_number j) (members_have_number ms) n).1
+      (put_float k p.0 found (of_json_float j p.0 p.1 (or_parts (has_number j) (members_have_number ms) n).0) f)
 
 -- what stands alone in a text
 pub alone : (o : Option (json.Json × List Token)) (j : json.Json)

@@ -8,6 +8,7 @@ use Rattle.std.specs.Map.{lookup}
 use Rattle.std.specs.BTreeMap.{is_at}
 use Rattle.std.proofs.lemmas.List.Folds.{list_any-append}
 use Rattle.std.proofs.lemmas.Slice.Eq.{bytes_eq-Decides}
+use Rattle.std.proofs.lemmas.Bool.{or_from}
 use Rattle.json.specs.Token.{Token}
 use Rattle.json.specs.Lex.{tokens}
 use Rattle.json.specs.Json as json
@@ -22,14 +23,14 @@ use Rattle.serde_json.specs.View.{view, items_view, members_view}
 use Rattle.serde_json.specs.declared.value.Value.{Value}
 use Rattle.serde_json.proofs.Views.{Entry, view-lookup, get_member-put, get_member-put_other}
 use Rattle.schema_json_keys.specs.Keys.{keys_of, items_keys, members_keys, FirstAgain}
-use Rattle.schema_json_keys.specs.Plain.{IsPlain, ArePlainItems, ArePlainMembers, IsPlainText}
+use Rattle.schema_json_keys.specs.Plain.{IsPlainValue, ArePlainItems, ArePlainMembers, IsPlainText}
 use Rattle.schema_json_keys.proofs.Numberless.{of_json_float, alone}
 use Rattle.schema_json_keys.proofs.Firsts.{or_next, first_again-append, comes_again-false, FirstAgain-none}
 
 -- ---- one value
 
 pub plain_string : (depth : ℕ) (s : List ℕ) (ts rest : List Token) → ts ≡ Token.string s ∷ rest
-    → IsPlain (value depth ts) (string s) rest
+    → IsPlainValue (value depth ts) (string s) rest
 plain_string depth s ts rest e = record {
   value = json.string s;
   stands = ap (value depth) e ∙ value_is depth (Token.string s ∷ rest);
@@ -39,7 +40,7 @@ plain_string depth s ts rest e = record {
 }
 
 pub plain_boolean : (depth : ℕ) (b : Bool) (ts rest : List Token) → ts ≡ Token.boolean b ∷ rest
-    → IsPlain (value depth ts) (boolean b) rest
+    → IsPlainValue (value depth ts) (boolean b) rest
 plain_boolean depth b ts rest e = record {
   value = json.boolean b;
   stands = ap (value depth) e ∙ value_is depth (Token.boolean b ∷ rest);
@@ -48,7 +49,7 @@ plain_boolean depth b ts rest e = record {
   numberless = refl;
 }
 
-pub plain_null : (depth : ℕ) (ts rest : List Token) → ts ≡ Token.null ∷ rest → IsPlain (value depth ts) null rest
+pub plain_null : (depth : ℕ) (ts rest : List Token) → ts ≡ Token.null ∷ rest → IsPlainValue (value depth ts) null rest
 plain_null depth ts rest e = record {
   value = json.null;
   stands = ap (value depth) e ∙ value_is depth (Token.null ∷ rest);
@@ -59,7 +60,7 @@ plain_null depth ts rest e = record {
 
 pub plain_array : (depth : ℕ) (ts first : List Token) (ds : Items) (rest : List Token) → 0 < depth
     → ts ≡ Token.begin_array ∷ first → ArePlainItems (items (value (depth - 1)) (length first) first) ds rest
-    → IsPlain (value depth ts) (array ds) rest
+    → IsPlainValue (value depth ts) (array ds) rest
 plain_array depth ts first ds rest some e more = record {
   value = json.array more.items;
   stands = ap (value depth) e ∙ value-begin_array depth first some ∙ ap (parse_map json.array) more.stands;
@@ -71,7 +72,7 @@ plain_array depth ts first ds rest some e more = record {
 pub plain_object : (depth : ℕ) (ts first : List Token) (all : Members) (rest : List Token) → 0 < depth
     → ts ≡ Token.begin_object ∷ first
     → ArePlainMembers [] Members.no_members (members (value (depth - 1)) (length first) first) all rest
-    → IsPlain (value depth ts) (object all) rest
+    → IsPlainValue (value depth ts) (object all) rest
 plain_object depth ts first all rest some e more = record {
   value = json.object more.members;
   stands = ap (value depth) e ∙ value-begin_object depth first some ∙ ap (parse_map json.object) more.stands;
@@ -85,9 +86,6 @@ plain_object depth ts first all rest some e more = record {
 none_of_both : (a b : Option (List ℕ)) → a ≡ None → b ≡ None → or_next a b ≡ None
 none_of_both a b e f = ap (λ o. or_next o b) e ∙ f
 
-neither : (a b : Bool) → a ≡ false → b ≡ false → (a || b) ≡ false
-neither a b e f = ap (λ x. x || b) e ∙ f
-
 module _ (p : Parse json.Json) (n : ℕ) where
   pub no_more_items : (ts rest : List Token) → length ts ≤ n → after_end_array ts ≡ Some rest
       → ArePlainItems (items p n ts) no_items rest
@@ -99,7 +97,8 @@ module _ (p : Parse json.Json) (n : ℕ) where
     numberless = refl;
   }
 
-  pub one_item : (ts r : List Token) (d : Data) → 0 < n → after_end_array ts ≡ None → IsPlain (p ts) d r → (ds : Items)
+  pub one_item : (ts r : List Token) (d : Data) → 0 < n → after_end_array ts ≡ None → IsPlainValue (p ts) d r
+      → (ds : Items)
       (rest : List Token) → ArePlainItems (items p (n - 1) r) ds rest → ArePlainItems (items p n ts) (item d ds) rest
   one_item ts r d some going v ds rest more = record {
     items = json.item v.value more.items;
@@ -107,7 +106,7 @@ module _ (p : Parse json.Json) (n : ℕ) where
     reads = ap (option_and_then (λ x. option_map (item x) (of_items more.items))) v.reads
         ∙ ap (option_map (item d)) more.reads;
     once = first_again-append (keys_of v.value) (items_keys more.items) ∙ none_of_both _ _ v.once more.once;
-    numberless = neither _ _ v.numberless more.numberless;
+    numberless = or_from _ _ v.numberless more.numberless;
   }
 
   pub no_more_members : (earlier : List (List ℕ)) (old : Members) (ts rest : List Token) → length ts ≤ n
@@ -121,7 +120,7 @@ module _ (p : Parse json.Json) (n : ℕ) where
   }
 
   pub one_member : (earlier : List (List ℕ)) (old : Members) (k : List ℕ) (ts s r : List Token) (d : Data) → 0 < n
-      → read_key ts ≡ Some (Some k, s) → IsPlain (p s) d r → list_any (bytes_eq k) earlier ≡ false
+      → read_key ts ≡ Some (Some k, s) → IsPlainValue (p s) d r → list_any (bytes_eq k) earlier ≡ false
       → (all : Members) (rest : List Token)
       → ArePlainMembers (earlier ++ k ∷ []) (put k d old) (members p (n - 1) r) all rest
       → ArePlainMembers earlier old (members p n ts) all rest
@@ -132,7 +131,7 @@ module _ (p : Parse json.Json) (n : ℕ) where
     once = comes_again-false (record { name = k; earlier = earlier }) _ apart
         ∙ first_again-append (keys_of v.value) (members_keys (earlier ++ k ∷ []) more.members)
         ∙ none_of_both _ _ v.once more.once;
-    numberless = neither _ _ v.numberless more.numberless;
+    numberless = or_from _ _ v.numberless more.numberless;
   }
 
 -- ---- a list that grows at its end
@@ -192,7 +191,7 @@ not_had ks es k has none =
 abbrev last_of : Option (json.Json × List Token) → Option json.Json
 last_of o = option_and_then (λ p. if_last p.0 p.1) o
 
-pub whole_text : (text : List ℕ) (d : Data) → IsPlain (value max_depth (tokens text)) d [] → IsPlainText text d
+pub whole_text : (text : List ℕ) (d : Data) → IsPlainValue (value max_depth (tokens text)) d [] → IsPlainText text d
 whole_text text d v = record {
   reads = ap (λ o. option_and_then of_json (last_of o)) v.stands ∙ v.reads;
   once = λ name again.

@@ -10,7 +10,7 @@ use Rattle.schema_json_keys.specs.Computed.{first_again}
 use Rattle.schema_json_keys.specs.Numbers.{has_number, items_have_number, members_have_number}
 
 -- a value is what was read, this data, and these tokens follow
-pub record IsPlain (found : Option (json.Json × List Token)) (d : Data) (rest : List Token) : Type 0 where
+pub record IsPlainValue (found : Option (json.Json × List Token)) (d : Data) (rest : List Token) : Type 0 where
   pub value : json.Json
   pub stands : found ≡ Some (value, rest)
   pub reads : of_json value ≡ Some d

@@ -2,9 +2,9 @@
 #![tactic(auto)]
 
 pub mod looking;
-pub mod numbers;
+mod numbers;
 pub mod plain;
-pub mod repeated_keys;
+mod repeated_keys;
 
 pub use looking::{Findings, look_through};
 pub use plain::plain_value;

@@ -1,9 +1,9 @@
 // The values of texts in which no object has a key twice and nothing is a number, read in one pass.
-ghost use Rattle.std.specs.Prelude.{◌≡◌, ◌<◌, [], length, IfOk, OnOk, IfSome};
+ghost use Rattle.std.specs.Prelude.{◌<◌, [], length, IfOk, OnOk, IfSome};
 ghost use Rattle.json.specs.Json.{value, items, members};
 ghost use Rattle.serde_json.specs.Data.{no_members};
 ghost use Rattle.serde_json.specs.View.{view, items_view, members_view};
-ghost use Rattle.schema_json_keys.specs.Plain.{IsPlain, ArePlainItems, ArePlainMembers, IsPlainText};
+ghost use Rattle.schema_json_keys.specs.Plain.{IsPlainValue, ArePlainItems, ArePlainMembers, IsPlainText};
 
 use json::{Invalid, Reader, Scratch, Token};
 use serde_json::{Map, Value};
@@ -59,7 +59,7 @@ pub fn plain_value(alloc: Global, text: &str) -> Result<Option<Value>, AllocErro
 #[cycle(plain)]
 #[inline(always)]
 fn read_value(alloc: Global, reader: &mut Reader<'_>, depth: usize) -> Result<Value, Stop>
-    ensures plain { IfOk result (λ v. IsPlain (value depth reader.old) (view v) reader.new) }
+    ensures plain { IfOk result (λ v. IsPlainValue (value depth reader.old) (view v) reader.new) }
     ensures shorter { OnOk result (length reader.new < length reader.old) }
 {
     let token = reader.next().ok_or(Stop::NotPlain)?;

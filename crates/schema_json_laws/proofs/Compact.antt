@@ -8,6 +8,7 @@ use Rattle.std.specs.declared.cmp.Ordering.{Ordering}
 use Rattle.std.specs.declared.cmp.Ordering.TheVariants.{Less, Equal, Greater}
 use Rattle.std.proofs.lemmas.Cmp.{nat_list_cmp_total, tied_itself}
 use Rattle.std.proofs.lemmas.List.Elements.{All-nil, All-cons, All-head, All-tail, All-append, All-push, All-contains}
+use Rattle.std.proofs.lemmas.Bool.{or_parts}
 use Rattle.json.specs.Json as json
 use Rattle.json.specs.Lex.{tokens}
 use Rattle.json.specs.Tree as tree
@@ -19,24 +20,23 @@ use Rattle.serde_json.specs.Data.{Members, no_members, member, put, depth, items
 use Rattle.serde_json.specs.Read.{read, of_json, of_items, of_members, max_depth}
 use Rattle.serde_json.specs.Written.{outline, items_outline, members_outline, compact_text}
 use Rattle.serde_json.proofs.Texts.{print-outline}
-use Rattle.schema_json_values.proofs.Followed.{followed, followed_once, followed_by_none, Before, put_last, before_more}
 use Rattle.schema_json_keys.specs.Keys.{Key, keys_of, items_keys, members_keys, ComesAgain, FirstAgain, RepeatedKey}
-use Rattle.schema_json_laws.proofs.Tidied.{untidy, items_untidy, members_untidy, not_above, is_not_less, first_of}
-use Rattle.schema_json_laws.proofs.Tidied.{second_of}
+use Rattle.schema_json_values.proofs.Followed.{followed, followed_once, followed_by_none, Before, put_last, before_more}
+use Rattle.schema_json_laws.proofs.Tidied.{untidy, items_untidy, members_untidy, not_above, is_not_less}
 
 -- ---- the parts of a tidy object
 
 module _ (k : List ℕ) (d : Data) (ms : Members) (h : members_untidy (member k d ms) ≡ false) where
   value_tidy : untidy d ≡ false
-  value_tidy = first_of (untidy d) (not_above k ms || members_untidy ms) h
+  value_tidy = (or_parts (untidy d) (not_above k ms || members_untidy ms) h).0
 
   rest_tidy : members_untidy ms ≡ false
-  rest_tidy = second_of (not_above k ms) (members_untidy ms)
-      (second_of (untidy d) (not_above k ms || members_untidy ms) h)
+  rest_tidy =
+      (or_parts (not_above k ms) (members_untidy ms) (or_parts (untidy d) (not_above k ms || members_untidy ms) h).1).1
 
   is_above : not_above k ms ≡ false
-  is_above = first_of (not_above k ms) (members_untidy ms)
-      (second_of (untidy d) (not_above k ms || members_untidy ms) h)
+  is_above =
+      (or_parts (not_above k ms) (members_untidy ms) (or_parts (untidy d) (not_above k ms || members_untidy ms) h).1).0
 
 less_is : (o : Ordering) → is_not_less o ≡ false → o ≡ Less
 less_is Less h = refl
@@ -57,8 +57,8 @@ mutual
   items_numbered : (ds : Items) → items_untidy ds ≡ false → tree.ItemsHaveNumbers (items_outline ds)
   items_numbered no_items h = tt
   items_numbered (item d ds) h = (
-    numbered d (first_of (untidy d) (items_untidy ds) h),
-    items_numbered ds (second_of (untidy d) (items_untidy ds) h),
+    numbered d (or_parts (untidy d) (items_untidy ds) h).0,
+    items_numbered ds (or_parts (untidy d) (items_untidy ds) h).1,
   )
 
   members_numbered : (ms : Members) → members_untidy ms ≡ false → tree.MembersHaveNumbers (members_outline ms)
@@ -108,9 +108,9 @@ mutual
   items_back : (ds : Items) → items_untidy ds ≡ false → of_items (items_outline ds) ≡ Some ds
   items_back no_items h = refl
   items_back (item d ds) h =
-      ap (option_and_then (λ e. option_map (item e) (of_items (items_outline ds)))) (back d (first_of (untidy d)
-      (items_untidy ds) h))
-      ∙ ap (option_map (item d)) (items_back ds (second_of (untidy d) (items_untidy ds) h))
+      ap (option_and_then (λ e. option_map (item e) (of_items (items_outline ds)))) (back d (or_parts (untidy d)
+      (items_untidy ds) h).0)
+      ∙ ap (option_map (item d)) (items_back ds (or_parts (untidy d) (items_untidy ds) h).1)
 
   members_back : (ms found : Members) → members_untidy ms ≡ false → BeforeFirst found ms
       → of_members (members_outline ms) found ≡ Some (followed found ms)
@@ -179,9 +179,9 @@ mutual
   items_once : (ds : Items) → items_untidy ds ≡ false → All NotAgain (items_keys (items_outline ds))
   items_once no_items h = All-nil NotAgain
   items_once (item d ds) h =
-      All-append NotAgain (keys_of (outline d)) (items_keys (items_outline ds)) (once d (first_of (untidy d)
-      (items_untidy ds) h))
-      (items_once ds (second_of (untidy d) (items_untidy ds) h))
+      All-append NotAgain (keys_of (outline d)) (items_keys (items_outline ds)) (once d (or_parts (untidy d)
+      (items_untidy ds) h).0)
+      (items_once ds (or_parts (untidy d) (items_untidy ds) h).1)
 
   members_once : (earlier : List (List ℕ)) (ms : Members) → members_untidy ms ≡ false → NamesBefore earlier ms
       → All NotAgain (members_keys earlier (members_outline ms))

@@ -1,6 +1,6 @@
 -- Words and names are read from their texts.
 use Rattle.std.proofs.Common.{◌≡◌, ℕ, ◌<◌, Bool, true, false, not, ◌||◌, ◌==◌, List, [], ◌∷◌, ◌++◌, length, take, drop}
-use Rattle.std.proofs.Common.{find, Some, None, refl, sym, subst, arith, append-nil}
+use Rattle.std.proofs.Common.{find, Some, None, refl, sym, subst, arith, append-nil, ap, ◌∙◌}
 use Rattle.std.specs.Prelude.{codes}
 use Rattle.std.specs.Char.{is_whitespace}
 use Rattle.std.specs.Cmp.{first_so, second_so}
@@ -9,8 +9,10 @@ use Rattle.std.specs.Str.{IsAscii}
 use Rattle.std.proofs.lemmas.Bool.Decides.{nat_tests}
 use Rattle.std.proofs.lemmas.List.{drop_at, take_at}
 use Rattle.std.proofs.lemmas.Str.{IsAscii-append, chars-IsAscii}
-use Rattle.std.proofs.lemmas.Str.Ascii.{IsAscii-nil, IsAscii-cons}
+use Rattle.std.proofs.lemmas.Str.Ascii.{IsAscii-cons}
+use Rattle.std.proofs.Math.Bool.{not-not}
 use Rattle.cedar_data.specs.Words.{is_word_start, is_word_part, is_word}
+use Rattle.cedar_data.proofs.Ascii.{word_ascii, start_part}
 use Rattle.cedar_identifiers.specs.Names.{texts_of, components_of, name_text}
 use Rattle.cedar_identifiers.specs.NamePieces.{starts_twice, blank_len, piece_len, BeginsWith, here, piece}
 use Rattle.cedar_identifiers.specs.NameReading.{due_behind, separated, ReadsAs}
@@ -21,29 +23,12 @@ use Rattle.cedar_identifiers.specs.declared.internal_name.InternalName.{Internal
 use Rattle.cedar_identifiers.specs.declared.name.Name.{Name}
 use Rattle.cedar_identifiers.specs.declared.name_kind.NameKind.TheVariants as kind
 use Rattle.cedar_identifiers.specs.declared.unreserved_id.UnreservedId.{UnreservedId}
+use Rattle.cedar_identifiers.proofs.Ids.{id_is_word}
 
 -- ---- bytes of words
 
 start_free : (b : ℕ) → is_word_start b ≡ true → ((b == 47) ≡ false) × (is_whitespace b ≡ false)
 start_free b h = (grind (arith, nat_tests), grind (arith, nat_tests))
-
-part_ascii : (b : ℕ) → is_word_part b ≡ true → b < 128
-part_ascii b h = grind (arith, nat_tests)
-
-start_ascii : (b : ℕ) → is_word_start b ≡ true → b < 128
-start_ascii b h = grind (arith, nat_tests)
-
-parts_ascii : (bs : List ℕ) → list_all is_word_part bs ≡ true → IsAscii bs
-parts_ascii [] h = IsAscii-nil
-parts_ascii (b ∷ bs) h =
-    IsAscii-cons b bs (part_ascii b (first_so (is_word_part b) (list_all is_word_part bs) h))
-    (parts_ascii bs (second_so (is_word_part b) (list_all is_word_part bs) h))
-
-word_ascii : (w : List ℕ) → is_word w ≡ true → IsAscii w
-word_ascii [] h = IsAscii-nil
-word_ascii (b ∷ bs) h =
-    IsAscii-cons b bs (start_ascii b (first_so (is_word_start b) (list_all is_word_part bs) h))
-    (parts_ascii bs (second_so (is_word_start b) (list_all is_word_part bs) h))
 
 -- ---- one piece at the front
 
@@ -78,9 +63,6 @@ parts_len (b ∷ bs) rest h s =
     let others = parts_len bs rest (second_so (is_word_part b) (list_all is_word_part bs) h) s in
     rw first (omega (arith, others))
 
-start_part : (b : ℕ) → is_word_start b ≡ true → is_word_part b ≡ true
-start_part b h = grind (arith, nat_tests)
-
 word_len : (w rest : List ℕ) → is_word w ≡ true → Stops rest → piece_len (w ++ rest) ≡ length w
 word_len [] rest h s = cc
 word_len (b ∷ bs) rest h s =
@@ -94,7 +76,7 @@ word_bare (b ∷ bs) rest h low =
     let free = start_free b (first_so (is_word_start b) (list_all is_word_part bs) h) in
     no_blank b (bs ++ rest) low free.0 free.1
 
-word_some : (w : List ℕ) → is_word w ≡ true → 0 < length w
+pub word_some : (w : List ℕ) → is_word w ≡ true → 0 < length w
 word_some [] h = cc
 word_some (b ∷ bs) h = omega arith
 
@@ -151,19 +133,13 @@ none_refused p (w ∷ ws) h = by (p w) refl h (none_refused p ws)
 
 -- ---- words and names
 
-not_so : (b : Bool) → not b ≡ true → b ≡ false
-not_so true h = cc
-not_so false h = refl
-
-id_word : (id : Id) → is_word id.text ≡ true
-id_word id = first_so (is_word id.text) (not (is_reserved id.text)) id.word
-
 id_free : (id : Id) → is_reserved id.text ≡ false
-id_free id = not_so (is_reserved id.text) (second_so (is_word id.text) (not (is_reserved id.text)) id.word)
+id_free id =
+    sym (not-not (is_reserved id.text)) ∙ ap not (second_so (is_word id.text) (not (is_reserved id.text)) id.word)
 
 ids_words : (ids : List Id) → AreWords (texts_of ids)
 ids_words [] = tt
-ids_words (id ∷ ids) = (id_word id, ids_words ids)
+ids_words (id ∷ ids) = (id_is_word id.text id.word, ids_words ids)
 
 ids_free : (ids : List Id) → list_any is_reserved (texts_of ids) ≡ false
 ids_free [] = refl
@@ -213,7 +189,10 @@ pub id_reads : (id : UnreservedId) → ReadsAs kind.UnreservedId id.id.text (id.
 id_reads id =
     let words = ids_words (id.id ∷ []) in
     record {
-      has = record { pieces = begins id.id.text [] words; whole = due_alone id.id.text (id_word id.id) };
+      has = record {
+        pieces = begins id.id.text [] words;
+        whole = due_alone id.id.text (id_is_word id.id.text id.id.word);
+      };
       allowed = none_refused (λ w. is_reserved w || is_cedar w) (id.id.text ∷ [])
           (either_none is_reserved is_cedar (id.id.text ∷ []) (ids_free (id.id ∷ [])) (rw id.unreserved refl));
       normal = refl;

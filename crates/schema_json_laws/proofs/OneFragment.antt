@@ -1,5 +1,6 @@
 -- A value says one fragment, and has one fault.
 use Rattle.std.proofs.Common.{◌≡◌, ℕ, List, [], ◌∷◌, Option, Some, None, inl, inr, sym, ap, ◌∙◌}
+use Rattle.std.proofs.lemmas.Option.{none-some}
 use Rattle.std.specs.Prelude.{codes}
 use Rattle.std.specs.Str.{chars}
 use Rattle.serde_json.specs.Data.{Data, null, boolean, number, string, array, object, Members}
@@ -25,20 +26,22 @@ use Rattle.schema_json.specs.declared.action_type.ApplySpec.{ApplySpec}
 use Rattle.schema_json.specs.declared.fragment.Fragment.{Fragment}
 use Rattle.schema_json.specs.declared.fragment.NamespaceDefinition.{NamespaceDefinition}
 use Rattle.schema_json.proofs.Same.{action_same}
+use Rattle.schema_json.specs.Orders.{unreserved_cmp, common_cmp, namespace_cmp}
 use Rattle.schema_json_shapes.specs.declared.shape_fault.ShapeFault.{ShapeFault}
 use Rattle.schema_json_shapes.specs.declared.shape_fault.ShapeFault.TheVariants.{BadName, ReservedCommonType}
-use Rattle.schema_json_shapes.specs.Walk.{Demand, unless, is_name, no_keyword, IsMet, IsUnmet, FirstUnmet, kind_of}
+use Rattle.schema_json_shapes.specs.Walk.{Demand, unless, is_name, no_keyword, IsUnmet, FirstUnmet, kind_of}
 use Rattle.schema_json_shapes.specs.Walk.{role_text}
 use Rattle.schema_json_shapes.specs.Said.{IsText, IsId, IsNamed, IsChoice, not_null, IsList, IsType}
-use Rattle.schema_json_shapes.specs.Shapes.{IsShape, IsCommonType, IsKind, IsEntityType, AreKeys, IsAppliesTo, IsTextIn}
-use Rattle.schema_json_shapes.specs.Shapes.{IsNamespaceKey, IsCommonId, id_order, common_id_order, namespace_order}
+use Rattle.schema_json_shapes.specs.Shapes.{IsShapeOrNone, IsCommonType, IsKind, IsEntityType, AreKeys, IsAppliesTo}
+use Rattle.schema_json_shapes.specs.Shapes.{IsTextIn}
+use Rattle.schema_json_shapes.specs.Shapes.{IsNamespaceKey, IsCommonId}
 use Rattle.schema_json_shapes.specs.Shapes.{IsActionId, IsAction, IsNamespace, IsFragment}
-use Rattle.schema_json_shapes.proofs.Demands.{met_or_unmet}
+use Rattle.schema_json_shapes.proofs.Demands.{one_met}
 use Rattle.schema_json_laws.proofs.OneShape.{internal_same, one_raw_name, one_id, optional_once, list_once}
 use Rattle.schema_json_laws.proofs.OneShape.{list_or_none_once, there_once, map_once, map_or_none_once}
 use Rattle.schema_json_laws.proofs.OneShape.{annotations_once, one_type}
 
-shape_once : (o : Option Data) (t u : «Type» RawName) → IsShape o t → IsShape o u → t ≡ u
+shape_once : (o : Option Data) (t u : «Type» RawName) → IsShapeOrNone o t → IsShapeOrNone o u → t ≡ u
 shape_once None t u h k = h ∙ sym k
 shape_once (Some d) t u h k = one_type d t u h k
 
@@ -73,9 +76,6 @@ choice_once (string s) a b h k = λ i. record { 0 = (h ∙ sym k) i }
 choice_once (array ds) a b h k = absurd h
 choice_once (object ms) a b h k = absurd h
 
-none_some : (o : Option Data) (d : Data) → o ≡ None → o ≡ Some d → ⊥
-none_some o d e f = let both : None ≡ Some d = sym e ∙ f in cc
-
 kind_once : (ms : Members) (a b : EntityTypeKind RawName) → IsKind ms a → IsKind ms b → a ≡ b
 kind_once ms (Standard s) (Standard t) h k =
     let parents = list_or_none_once IsNamed named_once (get_member
@@ -83,8 +83,8 @@ kind_once ms (Standard s) (Standard t) h k =
     let shape = shape_once (get_member (codes "shape") ms) s.shape.0 t.shape.0 h.shaped k.shaped in
     let tags = optional_once IsType one_type (get_member (codes "tags") ms) s.tags t.tags h.tagged k.tagged in
     ap Standard (λ i. record { member_of_types = parents i; shape = record { 0 = shape i }; tags = tags i })
-kind_once ms (Standard s) (Enum bs) h k = absurd (none_some (get_member (codes "enum") ms) k.0 h.no_enum k.1)
-kind_once ms (Enum as') (Standard t) h k = absurd (none_some (get_member (codes "enum") ms) h.0 k.no_enum h.1)
+kind_once ms (Standard s) (Enum bs) h k = absurd (none-some k.0 (sym h.no_enum ∙ k.1))
+kind_once ms (Enum as') (Standard t) h k = absurd (none-some h.0 (sym k.no_enum ∙ h.1))
 kind_once ms (Enum as') (Enum bs) h k =
     ap Enum (there_once (IsList IsChoice) (list_once IsChoice choice_once) (get_member (codes "enum") ms) as' bs h k)
 
@@ -192,9 +192,9 @@ module _ {G : ghosts.Ghosts RawName} where
   namespace_once (string s) a b h k = absurd h
   namespace_once (array ds) a b h k = absurd h
   namespace_once (object ms) a b h k = λ i. record {
-    common_types = map_or_none_once common_id_order IsCommonId IsCommonType common_id_once common_once (get_member
+    common_types = map_or_none_once common_cmp IsCommonId IsCommonType common_id_once common_once (get_member
         (codes "commonTypes") ms) a.common_types b.common_types h.commons k.commons i;
-    entity_types = map_or_none_once id_order IsId IsEntityType one_id entity_once (get_member
+    entity_types = map_or_none_once unreserved_cmp IsId IsEntityType one_id entity_once (get_member
         (codes "entityTypes") ms) a.entity_types b.entity_types h.entities k.entities i;
     actions = map_or_none_once text_cmp IsText IsAction text_once action_once (get_member
         (codes "actions") ms) a.actions b.actions h.actions k.actions i;
@@ -204,7 +204,7 @@ module _ {G : ghosts.Ghosts RawName} where
 
   pub one_fragment : (d : Data) (f g : Fragment RawName G) → IsFragment d f → IsFragment d g → f ≡ g
   one_fragment d f g h k =
-      let same = map_once namespace_order IsNamespaceKey IsNamespace name_once namespace_once d f.0 g.0 h k in
+      let same = map_once namespace_cmp IsNamespaceKey IsNamespace name_once namespace_once d f.0 g.0 h k in
       λ i. record { 0 = same i }
 
 -- ---- faults
@@ -222,14 +222,10 @@ unmet_once (is_name r s) e f h k =
 unmet_once (no_keyword s) e f (is, a, named, told) (is', b, named', told') =
     told ∙ (ap ReservedCommonType (unreserved_id_same a b (named ∙ sym named')) ∙ sym told')
 
--- a demand is met, or has a fault
-met_or_not : (d : Demand) (e : ShapeFault) → IsMet d → IsUnmet d e → ⊥
-met_or_not d e m u = met_or_unmet (d ∷ []) e (m, tt) (inl u)
-
 -- of demands in a row the first that is not met has one fault
 pub one_fault_of : (ds : List Demand) (e f : ShapeFault) → FirstUnmet ds e → FirstUnmet ds f → e ≡ f
 one_fault_of [] e f h k = absurd h
 one_fault_of (d ∷ ds) e f (inl h) (inl k) = unmet_once d e f h k
-one_fault_of (d ∷ ds) e f (inl h) (inr k) = absurd (met_or_not d e k.0 h)
-one_fault_of (d ∷ ds) e f (inr h) (inl k) = absurd (met_or_not d f h.0 k)
+one_fault_of (d ∷ ds) e f (inl h) (inr k) = absurd (one_met d e k.0 h)
+one_fault_of (d ∷ ds) e f (inr h) (inl k) = absurd (one_met d f h.0 k)
 one_fault_of (d ∷ ds) e f (inr h) (inr k) = one_fault_of ds e f h.1 k.1

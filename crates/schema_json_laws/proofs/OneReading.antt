@@ -1,38 +1,30 @@
 -- A JSON text says one fragment, or is refused for one cause.
-use Rattle.std.proofs.Common.{◌≡◌, ◌≢◌, ℕ, true, false, List, [], ◌∷◌, ◌++◌, Option, Some, None, All, refl, sym, ap}
-use Rattle.std.proofs.Common.{◌∙◌, subst}
+use Rattle.std.proofs.Common.{◌≡◌, ◌≢◌, ℕ, true, List, [], ◌∷◌, ◌++◌, Some, None, All, refl, sym, ap}
+use Rattle.std.proofs.Common.{◌∙◌, subst, true≢false}
 use Rattle.std.specs.Str.{chars}
 use Rattle.std.proofs.lemmas.List.Elements.{All-head, All-tail}
+use Rattle.std.proofs.lemmas.Option.{same_Some, none-some}
 use Rattle.serde_json.specs.Data.{Data}
 use Rattle.serde_json.specs.Read.{read}
 use Rattle.serde_json.specs.Written.{has_float}
 use Rattle.cedar_identifiers.specs.declared.name_text.NameText as ghosts
 use Rattle.cedar_identifiers.specs.declared.raw_name.RawName.{RawName}
 use Rattle.schema_json.specs.declared.fragment.Fragment.{Fragment}
+use Rattle.schema_json_errors.specs.declared.json_error.JsonDeserializationError.{JsonDeserializationError}
+use Rattle.schema_json_errors.specs.declared.json_fault.JsonFault.{JsonFault}
+use Rattle.schema_json_errors.specs.declared.json_fault.JsonFault.TheVariants as cause
 use Rattle.schema_json_keys.specs.Keys.{Key, ComesAgain, FirstAgain, keys_of, RepeatedKey}
 use Rattle.schema_json_shapes.specs.Walk.{fragment, demands}
 use Rattle.schema_json_shapes.specs.Shapes.{IsFragment}
 use Rattle.schema_json_shapes.proofs.Demands.{met_or_unmet}
-use Rattle.schema_json_laws.proofs.OneFragment.{one_fragment, one_fault_of}
-use Rattle.schema_json_errors.specs.declared.json_error.JsonDeserializationError.{JsonDeserializationError}
-use Rattle.schema_json_errors.specs.declared.json_fault.JsonFault.{JsonFault}
-use Rattle.schema_json_errors.specs.declared.json_fault.JsonFault.TheVariants as cause
 use Rattle.schema_json_io.specs.Advice.{advice_on, beside}
-use Rattle.schema_json_io.specs.Causes.{IsFirstFault, IsTextCauseBy, IsTextError}
+use Rattle.schema_json_io.specs.Causes.{IsFirstJsonFault, IsTextCauseBy, IsJsonTextError}
 use Rattle.schema_json_io.specs.Faults.{of_shape}
 use Rattle.schema_json_io.specs.Texts.{HasNoRepeat, Holds, TextShape}
-
-some_is : {A : Type 0} (a b : A) → Some a ≡ Some b → a ≡ b
-some_is a b e = cc
-
-none_some : {A : Type 0} (o : Option A) (a : A) → o ≡ None → o ≡ Some a → ⊥
-none_some o a h k = let both : None ≡ Some a = sym h ∙ k in cc
+use Rattle.schema_json_laws.proofs.OneFragment.{one_fragment, one_fault_of}
 
 pub one_value : (text : List ℕ) (d e : Data) → read text ≡ Some d → read text ≡ Some e → d ≡ e
-one_value text d e h k = some_is d e (sym h ∙ k)
-
-true_false : true ≡ false → ⊥
-true_false e = cc
+one_value text d e h k = same_Some d e (sym h ∙ k)
 
 -- ---- the first key that comes again
 
@@ -53,7 +45,7 @@ first_again (c ∷ before) a after (d ∷ others) b behind e h k again too =
 
 one_repeated : (text x y : List ℕ) → RepeatedKey text x → RepeatedKey text y → x ≡ y
 one_repeated text x y (j, is, f) (i, too, g) =
-    let same : i ≡ j = some_is i j (sym too ∙ is) in
+    let same : i ≡ j = same_Some i j (sym too ∙ is) in
     let g' : FirstAgain (keys_of j) y = subst (λ z. FirstAgain (keys_of z) y) same g in
     let keys : f.again ≡ g'.again = first_again f.before f.again f.after g'.before g'.again g'.after (sym f.stands
     ∙ g'.stands) f.first g'.first f.comes_again g'.comes_again in
@@ -80,45 +72,45 @@ module _ (IsFirst : Data → JsonFault → Type 0) (text : List ℕ) where
 
   -- a text that holds a value without a first fault is not refused
   pub caused : (d : Data) (e : JsonFault) → Holds text d → (IsFirst d e → ⊥) → CauseOf IsFirst text e → ⊥
-  caused d e holds lawful (no_json p r) = none_some (read text) d r holds.reads
+  caused d e holds lawful (no_json p r) = none-some d (sym r ∙ holds.reads)
   caused d e holds lawful (repeats d' key s rep p) = holds.once key rep
   caused d e holds lawful (floats d' s once wide p) =
-      true_false (sym wide ∙ (ap has_float (one_value text d' d s holds.reads) ∙ holds.whole))
+      true≢false (sym wide ∙ (ap has_float (one_value text d' d s holds.reads) ∙ holds.whole))
   caused d e holds lawful (misshapen d' holds' first) =
       lawful (subst (λ z. IsFirst z e) (one_value text d' d holds'.reads holds.reads) first)
 
   pub one_cause : ((d : Data) (e f : JsonFault) → IsFirst d e → IsFirst d f → e ≡ f) → (e f : JsonFault)
       → CauseOf IsFirst text e → CauseOf IsFirst text f → e ≡ f
   one_cause one e f (no_json p r) (no_json q s) = p ∙ sym q
-  one_cause one e f (no_json p r) (repeats d key s rep q) = absurd (none_some (read text) d r s)
-  one_cause one e f (no_json p r) (floats d s once wide q) = absurd (none_some (read text) d r s)
-  one_cause one e f (no_json p r) (misshapen d holds first) = absurd (none_some (read text) d r holds.reads)
-  one_cause one e f (repeats d key s rep p) (no_json q r) = absurd (none_some (read text) d r s)
+  one_cause one e f (no_json p r) (repeats d key s rep q) = absurd (none-some d (sym r ∙ s))
+  one_cause one e f (no_json p r) (floats d s once wide q) = absurd (none-some d (sym r ∙ s))
+  one_cause one e f (no_json p r) (misshapen d holds first) = absurd (none-some d (sym r ∙ holds.reads))
+  one_cause one e f (repeats d key s rep p) (no_json q r) = absurd (none-some d (sym r ∙ s))
   one_cause one e f (repeats d key s rep p) (repeats d' key' s' rep' q) =
       p ∙ (ap (λ k. cause.RepeatedKey (chars k)) (one_repeated text key key' rep rep') ∙ sym q)
   one_cause one e f (repeats d key s rep p) (floats d' s' once wide q) = absurd (once key rep)
   one_cause one e f (repeats d key s rep p) (misshapen d' holds first) = absurd (holds.once key rep)
-  one_cause one e f (floats d s once wide p) (no_json q r) = absurd (none_some (read text) d r s)
+  one_cause one e f (floats d s once wide p) (no_json q r) = absurd (none-some d (sym r ∙ s))
   one_cause one e f (floats d s once wide p) (repeats d' key s' rep q) = absurd (once key rep)
   one_cause one e f (floats d s once wide p) (floats d' s' once' wide' q) = p ∙ sym q
   one_cause one e f (floats d s once wide p) (misshapen d' holds first) =
-      absurd (true_false (sym wide ∙ (ap has_float (one_value text d d' s holds.reads) ∙ holds.whole)))
-  one_cause one e f (misshapen d holds first) (no_json q r) = absurd (none_some (read text) d r holds.reads)
+      absurd (true≢false (sym wide ∙ (ap has_float (one_value text d d' s holds.reads) ∙ holds.whole)))
+  one_cause one e f (misshapen d holds first) (no_json q r) = absurd (none-some d (sym r ∙ holds.reads))
   one_cause one e f (misshapen d holds first) (repeats d' key s rep q) = absurd (holds.once key rep)
   one_cause one e f (misshapen d holds first) (floats d' s once wide q) =
-      absurd (true_false (sym wide ∙ (ap has_float (one_value text d' d s holds.reads) ∙ holds.whole)))
+      absurd (true≢false (sym wide ∙ (ap has_float (one_value text d' d s holds.reads) ∙ holds.whole)))
   one_cause one e f (misshapen d holds first) (misshapen d' holds' first') =
       one d e f first (subst (λ z. IsFirst z f) (one_value text d' d holds'.reads holds.reads) first')
 
-first_once : (d : Data) (e f : JsonFault) → IsFirstFault d e → IsFirstFault d f → e ≡ f
+first_once : (d : Data) (e f : JsonFault) → IsFirstJsonFault d e → IsFirstJsonFault d f → e ≡ f
 first_once d e f (x, is, told) (y, is', told') =
     told ∙ (ap of_shape (one_fault_of (demands fragment [] d) x y is is') ∙ sym told')
 
 pub one_error : (text : List ℕ) (e f : JsonDeserializationError) → e.fault ≢ cause.Memory → f.fault ≢ cause.Memory
-    → IsTextError text e → IsTextError text f → e ≡ f
+    → IsJsonTextError text e → IsJsonTextError text f → e ≡ f
 one_error text e f m n h k =
-    let same : e.fault ≡ f.fault = one_cause IsFirstFault text first_once e.fault f.fault
-    (cause_of IsFirstFault text e.fault m h.0) (cause_of IsFirstFault text f.fault n k.0) in
+    let same : e.fault ≡ f.fault = one_cause IsFirstJsonFault text first_once e.fault f.fault
+    (cause_of IsFirstJsonFault text e.fault m h.0) (cause_of IsFirstJsonFault text f.fault n k.0) in
     let advice : e.advice ≡ f.advice = h.1 ∙ (ap (λ c. beside c (advice_on text)) same ∙ sym k.1) in
     λ i. record { fault = same i; advice = advice i }
 
@@ -131,8 +123,8 @@ module _ {G : ghosts.Ghosts RawName} where
       one_fragment d f g shape.1 (subst (λ z. IsFragment z g) same shape'.1)
 
   pub said_or_refused : (text : List ℕ) (f : Fragment RawName G) (e : JsonDeserializationError) → TextShape text f
-      → e.fault ≢ cause.Memory → IsTextError text e → ⊥
+      → e.fault ≢ cause.Memory → IsJsonTextError text e → ⊥
   said_or_refused text f e (d, holds, shape) n k =
-      caused IsFirstFault text d e.fault holds
+      caused IsFirstJsonFault text d e.fault holds
       (λ (x, is, told). met_or_unmet (demands fragment [] d) x shape.0 is)
-      (cause_of IsFirstFault text e.fault n k.0)
+      (cause_of IsFirstJsonFault text e.fault n k.0)

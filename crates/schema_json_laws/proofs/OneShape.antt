@@ -1,5 +1,6 @@
 -- What a value says is one.
 use Rattle.std.proofs.Common.{◌≡◌, ℕ, Bool, List, [], ◌∷◌, Option, Some, None, Ordering, refl, sym, ap, ◌∙◌, subst}
+use Rattle.std.proofs.lemmas.Option.{same_Some}
 use Rattle.std.specs.Prelude.{codes}
 use Rattle.std.specs.Str.{chars}
 use Rattle.serde_json.specs.Data.{Data, null, boolean, number, string, array, object, Items, Members}
@@ -9,39 +10,30 @@ use Rattle.cedar_data.specs.Text.{text_cmp}
 use Rattle.cedar_identifiers.specs.Names.{components_of, texts_of}
 use Rattle.cedar_identifiers.specs.declared.annotations.Annotations.{Annotations}
 use Rattle.cedar_identifiers.specs.declared.any_id.AnyId.{AnyId}
-use Rattle.cedar_identifiers.specs.declared.id.Id.{Id}
 use Rattle.cedar_identifiers.specs.declared.internal_name.InternalName.{InternalName}
 use Rattle.cedar_identifiers.specs.declared.name_kind.NameKind.TheVariants as kind
 use Rattle.cedar_identifiers.specs.declared.raw_name.RawName.{RawName}
 use Rattle.cedar_identifiers.specs.declared.unreserved_id.UnreservedId.{UnreservedId}
-use Rattle.cedar_identifiers.proofs.Same.{any_id_same, id_same, unreserved_id_same}
+use Rattle.cedar_identifiers.proofs.Same.{any_id_same, id_same, unreserved_id_same, ids_same}
 use Rattle.cedar_identifiers.proofs.Unique.{one_name}
 use Rattle.schema_json.specs.declared.types.Type.{«Type»}
 use Rattle.schema_json.specs.declared.types.Type.TheVariants.{CommonTypeRef}
 use Rattle.schema_json.specs.declared.types.TypeVariant.TheVariants as variant
 use Rattle.schema_json.specs.declared.types.TypeOfAttribute.{TypeOfAttribute, out-TypeOfAttribute, roll-TypeOfAttribute}
 use Rattle.schema_json.specs.declared.types.TypeOfAttribute.{roll-out-TypeOfAttribute}
+use Rattle.schema_json.specs.Orders.{annotation_key_cmp}
 use Rattle.schema_json_shapes.specs.declared.words.TypeWord.{TypeWord}
 use Rattle.schema_json_shapes.specs.declared.words.TypeWord.TheVariants as word
 use Rattle.schema_json_shapes.specs.Tables.{word_of}
 use Rattle.schema_json_shapes.specs.Walk.{flag_or}
 use Rattle.schema_json_shapes.specs.Said.{IsRawName, IsId, IsAnyId, IsOptional, AreItems, no_item, next_item, IsList}
 use Rattle.schema_json_shapes.specs.Said.{IsListOrNone, AreEntries, no_entry, next_entry, IsMap, IsMapOrNone}
-use Rattle.schema_json_shapes.specs.Said.{annotation_order, IsAnnotation, AreAnnotations, HasWord, plain, record_of}
+use Rattle.schema_json_shapes.specs.Said.{IsAnnotation, IsAnnotationMap, HasWord, plain, record_with}
 use Rattle.schema_json_shapes.specs.Said.{IsType, string_type, long_type, boolean_type, set_type, record_type}
 use Rattle.schema_json_shapes.specs.Said.{entity_type, either_type, extension_type, reference, AreAttributes}
 use Rattle.schema_json_shapes.specs.Said.{no_attribute, next_attribute}
 
 -- ---- names and words
-
-words_same : (xs ys : List Id) → texts_of xs ≡ texts_of ys → xs ≡ ys
-words_same [] [] e = refl
-words_same [] (y ∷ ys) e = cc
-words_same (x ∷ xs) [] e = cc
-words_same (x ∷ xs) (y ∷ ys) e =
-    let first : x.text ≡ y.text = cc in
-    let others : texts_of xs ≡ texts_of ys = cc in
-    λ i. id_same x y first i ∷ words_same xs ys others i
 
 -- names of the same components and the same place are the same
 pub internal_same : (a b : InternalName) → components_of a ≡ components_of b → a.loc ≡ b.loc → a ≡ b
@@ -50,7 +42,7 @@ internal_same a b e place =
     let others : texts_of a.others ≡ texts_of b.others = cc in
     λ i. record {
       first = id_same a.first b.first first i;
-      others = words_same a.others b.others others i;
+      others = ids_same a.others b.others others i;
       loc =
           place i;
     }
@@ -74,9 +66,6 @@ one_any_id s a b h k =
     any_id_same a b same
 
 -- ---- lists and maps
-
-pub some_data : (d e : Data) → Some d ≡ Some e → d ≡ e
-some_data d e h = cc
 
 -- a part says one thing at most
 abbrev pub Once : {X : Type 0} → (Data → X → Type 0) → Type 0
@@ -109,7 +98,7 @@ module _ {X : Type 0} (P : Data → X → Type 0) (one : Once P) where
       × P d y)
       → x ≡ y
   there_once o x y h k =
-      one h.0 x y h.2 (subst (λ d. P d y) (some_data k.0 h.0 (sym k.1 ∙ h.1)) k.2)
+      one h.0 x y h.2 (subst (λ d. P d y) (same_Some k.0 h.0 (sym k.1 ∙ h.1)) k.2)
 
 module _ {K V : Type 0} (order : K → K → Ordering) (Key : List ℕ → K → Type 0) (Value : Data → V → Type 0)
     (keys : (s : List ℕ) (a b : K) → Key s a → Key s b → a ≡ b) (values : Once Value) where
@@ -142,9 +131,9 @@ one_annotation (string s) x y h k = h ∙ sym k
 one_annotation (array ds) x y h k = absurd h
 one_annotation (object ms) x y h k = absurd h
 
-pub annotations_once : (o : Option Data) (a b : Annotations) → AreAnnotations o a → AreAnnotations o b → a ≡ b
+pub annotations_once : (o : Option Data) (a b : Annotations) → IsAnnotationMap o a → IsAnnotationMap o b → a ≡ b
 annotations_once o a b h k =
-    let same = map_or_none_once annotation_order IsAnyId IsAnnotation one_any_id one_annotation o a.0 b.0 h k in
+    let same = map_or_none_once annotation_key_cmp IsAnyId IsAnnotation one_any_id one_annotation o a.0 b.0 h k in
     λ i. record { 0 = same i }
 
 -- ---- types
@@ -161,7 +150,7 @@ SaysBy word.Set ms t = (d : Data) × (e : «Type» RawName) × (get_member (code
     × (t ≡ plain (variant.Set e))
 SaysBy word.Record ms t = (inner : Members) × (es : List AttributeEntry)
     × (get_member (codes "attributes") ms ≡ Some (object inner)) × AreAttributes inner es
-    × (t ≡ record_of (map_of text_cmp es) (flag_or Bool.false (get_member (codes "additionalAttributes") ms)))
+    × (t ≡ record_with (map_of text_cmp es) (flag_or Bool.false (get_member (codes "additionalAttributes") ms)))
 SaysBy word.Entity ms t = (s : List ℕ) × (n : RawName) × (get_member (codes "name") ms ≡ Some (string s))
     × IsRawName s n
     × (t ≡ plain (variant.Entity n))
@@ -208,12 +197,12 @@ mutual
   one_type d t u (boolean_type ms h) k = sym (by_word ms u word.Boolean h k)
   one_type d t u (set_type ms e x h at inner) k =
       let v = by_word ms u word.Set h k in
-      let same : v.0 ≡ e = some_data v.0 e (sym v.2 ∙ at) in
+      let same : v.0 ≡ e = same_Some v.0 e (sym v.2 ∙ at) in
       ap (λ z. plain (variant.Set z)) (one_type e x v.1 inner (subst (λ z. IsType z v.1) same v.3)) ∙ sym v.4
   one_type d t u (record_type ms inner es h at says) k =
       let v = by_word ms u word.Record h k in
       let same : v.0 ≡ inner = one_object v.0 inner (sym v.2 ∙ at) in
-      ap (λ z. record_of (map_of text_cmp z) (flag_or Bool.false (get_member (codes "additionalAttributes") ms)))
+      ap (λ z. record_with (map_of text_cmp z) (flag_or Bool.false (get_member (codes "additionalAttributes") ms)))
       (attributes_once inner es v.1 says (subst (λ z. AreAttributes z v.1) same v.3))
       ∙ sym v.4
   one_type d t u (entity_type ms s n h at is) k =

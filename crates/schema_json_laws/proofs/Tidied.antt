@@ -6,6 +6,7 @@ use Rattle.std.specs.Cmp.Lexicographic.{slice_cmp}
 use Rattle.std.specs.declared.cmp.Ordering.{Ordering}
 use Rattle.std.specs.declared.cmp.Ordering.TheVariants.{Less, Equal, Greater}
 use Rattle.std.proofs.lemmas.Cmp.{nat_list_cmp_total}
+use Rattle.std.proofs.lemmas.Bool.{or_from, or_parts}
 use Rattle.serde_json.specs.Data.{Data, null, boolean, number, string, array, object, Items, no_items, item}
 use Rattle.serde_json.specs.Data.{Members, no_members, member, put}
 use Rattle.serde_json.specs.Written.{has_float, items_have_float, members_have_float}
@@ -38,17 +39,6 @@ abbrev mutual
   members_untidy no_members = false
   members_untidy (member k d ms) = untidy d || (not_above k ms || members_untidy ms)
 
-pub neither : (a b : Bool) → a ≡ false → b ≡ false → (a || b) ≡ false
-neither a b e f = ap (λ x. x || b) e ∙ f
-
-pub first_of : (a b : Bool) → (a || b) ≡ false → a ≡ false
-first_of true b e = e
-first_of false b e = refl
-
-pub second_of : (a b : Bool) → (a || b) ≡ false → b ≡ false
-second_of true b e = absurd (cc)
-second_of false b e = e
-
 -- a key that comes before the first of the members, and before what is put among them, comes before all
 above_put : (l k : List ℕ) (d : Data) (ms : Members) → slice_cmp nat_cmp l k ≡ Less → not_above l ms ≡ false
     → not_above l (put k d ms) ≡ false
@@ -65,24 +55,24 @@ put_at : (o : Ordering) (k l : List ℕ) (d e : Data) (ms : Members) → slice_c
     → members_untidy (member l e ms) ≡ false → members_untidy (put k d ms) ≡ false
     → members_untidy (match_ordering o (member k d (member l e ms)) (member l d ms) (member l e (put k d ms))) ≡ false
 put_at Less k l d e ms is h w later =
-    neither (untidy d) _ h (neither (not_above k (member l e ms)) _ (ap is_not_less is) w)
+    or_from (untidy d) _ h (or_from (not_above k (member l e ms)) _ (ap is_not_less is) w)
 put_at Equal k l d e ms is h w later =
-    neither (untidy d) _ h (second_of (untidy e) (not_above l ms || members_untidy ms) w)
+    or_from (untidy d) _ h (or_parts (untidy e) (not_above l ms || members_untidy ms) w).1
 put_at Greater k l d e ms is h w later =
-    let rest = second_of (untidy e) (not_above l ms || members_untidy ms) w in
+    let rest = (or_parts (untidy e) (not_above l ms || members_untidy ms) w).1 in
     let less : slice_cmp nat_cmp l k ≡ Less = nat_list_cmp_total.antisymm l k ∙ ap ordering_reverse is in
-    neither (untidy e) _ (first_of (untidy e) (not_above l ms || members_untidy ms) w)
-    (neither (not_above l (put k d ms)) _
-    (above_put l k d ms less (first_of (not_above l ms) (members_untidy ms) rest)) later)
+    or_from (untidy e) _ (or_parts (untidy e) (not_above l ms || members_untidy ms) w).0
+    (or_from (not_above l (put k d ms)) _
+    (above_put l k d ms less (or_parts (not_above l ms) (members_untidy ms) rest).0) later)
 
 -- what is put among members leaves them tidy
 pub put_tidy : (k : List ℕ) (d : Data) (ms : Members) → untidy d ≡ false → members_untidy ms ≡ false
     → members_untidy (put k d ms) ≡ false
-put_tidy k d no_members h w = neither (untidy d) false h refl
+put_tidy k d no_members h w = or_from (untidy d) false h refl
 put_tidy k d (member l e ms) h w =
     put_at (slice_cmp nat_cmp k l) k l d e ms refl h w
-    (put_tidy k d ms h (second_of (not_above l ms) (members_untidy ms)
-    (second_of (untidy e) (not_above l ms || members_untidy ms) w)))
+    (put_tidy k d ms h (or_parts (not_above l ms) (members_untidy ms)
+    (or_parts (untidy e) (not_above l ms || members_untidy ms) w).1).1)
 
 -- a tidy value has no float
 mutual
@@ -97,13 +87,13 @@ mutual
   items_whole : (ds : Items) → items_untidy ds ≡ false → items_have_float ds ≡ false
   items_whole no_items h = refl
   items_whole (item d ds) h =
-      neither (has_float d) (items_have_float ds) (whole d (first_of (untidy d) (items_untidy ds) h))
-      (items_whole ds (second_of (untidy d) (items_untidy ds) h))
+      or_from (has_float d) (items_have_float ds) (whole d (or_parts (untidy d) (items_untidy ds) h).0)
+      (items_whole ds (or_parts (untidy d) (items_untidy ds) h).1)
 
   members_whole : (ms : Members) → members_untidy ms ≡ false → members_have_float ms ≡ false
   members_whole no_members h = refl
   members_whole (member k d ms) h =
-      let rest = second_of (untidy d) (not_above k ms || members_untidy ms) h in
-      neither (has_float d) (members_have_float ms)
-      (whole d (first_of (untidy d) (not_above k ms || members_untidy ms) h))
-      (members_whole ms (second_of (not_above k ms) (members_untidy ms) rest))
+      let rest = (or_parts (untidy d) (not_above k ms || members_untidy ms) h).1 in
+      or_from (has_float d) (members_have_float ms)
+      (whole d (or_parts (untidy d) (not_above k ms || members_untidy ms) h).0)
+      (members_whole ms (or_parts (not_above k ms) (members_untidy ms) rest).1)

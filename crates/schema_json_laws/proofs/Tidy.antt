@@ -1,24 +1,21 @@
 -- No value that is written has a number, and the keys of each of its objects rise.
 use Rattle.std.proofs.Common.{◌≡◌, ℕ, Bool, true, false, not, List, [], ◌∷◌, map, Option, Some, None, refl, ap, ◌∙◌}
-use Rattle.std.proofs.Common.{subst}
+use Rattle.std.proofs.lemmas.Bool.{or_from}
 use Rattle.std.specs.Prelude.{codes, if◌then◌else◌}
 use Rattle.std.specs.Str.{encode_utf8_all}
+use Rattle.std.specs.List.{AllByRecursion}
 use Rattle.serde_json.specs.Data.{Data, boolean, string, object, Members, no_members, put}
 use Rattle.serde_json.specs.View.{items_of}
-use Rattle.schema_json_laws.proofs.Tidied.{untidy, items_untidy, members_untidy, neither, put_tidy}
 use Rattle.cedar_identifiers.specs.declared.any_id.AnyId.{AnyId}
 use Rattle.cedar_identifiers.specs.declared.name.Name.{Name}
 use Rattle.cedar_identifiers.specs.declared.name_text.NameText as named
 use Rattle.cedar_identifiers.specs.declared.unreserved_id.UnreservedId.{UnreservedId}
-use Rattle.schema_json.specs.Shapes.{is_empty_type}
-use Rattle.schema_json.specs.declared.types.Type.{«Type», roll-Type}
-use Rattle.schema_json.specs.declared.types.TypeVariant.{TypeVariant, roll-TypeVariant}
-use Rattle.schema_json.specs.declared.types.RecordType.{RecordType, roll-RecordType}
-use Rattle.schema_json.specs.declared.types.TypeOfAttribute.{TypeOfAttribute, roll-TypeOfAttribute}
-use Rattle.schema_json.specs.declared.types.Type.TheFolds.{ind-Type, map-Type, map-TypeVariant, map-RecordType}
-use Rattle.schema_json.specs.declared.types.Type.TheFolds.{map-TypeOfAttribute, fold-roll-Type, fold-roll-TypeVariant}
-use Rattle.schema_json.specs.declared.types.Type.TheFolds.{fold-roll-RecordType, fold-roll-TypeOfAttribute}
-use Rattle.schema_json.specs.declared.types.Type.TheOpen.{Type-F, TypeVariant-F, RecordType-F, TypeOfAttribute-F}
+use Rattle.schema_json.specs.Shapes.{attributes_of, is_open, is_empty_type}
+use Rattle.schema_json.specs.declared.types.Type.{«Type»}
+use Rattle.schema_json.specs.declared.types.TypeVariant.{TypeVariant}
+use Rattle.schema_json.specs.declared.types.RecordType.{RecordType}
+use Rattle.schema_json.specs.declared.types.TypeOfAttribute.{TypeOfAttribute, out-TypeOfAttribute}
+use Rattle.schema_json.proofs.Layers.{Layers, record_made, each_type}
 use Rattle.schema_json.specs.declared.common_type.CommonType.{CommonType}
 use Rattle.schema_json.specs.declared.common_type.CommonTypeId.{CommonTypeId}
 use Rattle.schema_json.specs.declared.entity_type.EntityType.{EntityType}
@@ -30,10 +27,14 @@ use Rattle.schema_json.specs.declared.action_type.ApplySpec.{ApplySpec}
 use Rattle.schema_json.specs.declared.fragment.Fragment.{Fragment}
 use Rattle.schema_json.specs.declared.fragment.NamespaceDefinition.{NamespaceDefinition}
 use Rattle.schema_json_values.specs.TypeValues.{put_all, object_of, with_flag, annotation_entry, with_annotations}
-use Rattle.schema_json_values.specs.TypeValues.{with_word, layer_entry, with_attributes, name_bytes, type_layer}
+use Rattle.schema_json_values.specs.TypeValues.{with_word, with_attributes, name_bytes, type_layer}
 use Rattle.schema_json_values.specs.TypeValues.{variant_layer, record_layer, attribute_layer, type_members}
-use Rattle.schema_json_values.specs.TypeValues.{variant_members, record_members, attribute_members}
+use Rattle.schema_json_values.specs.TypeValues.{variant_members, record_members, attribute_members, attribute_entry}
 use Rattle.schema_json_values.specs.FragmentValues as values
+use Rattle.schema_json_values.proofs.Layers.{type_variant, type_common, variant_set, variant_entity}
+use Rattle.schema_json_values.proofs.Layers.{variant_either, variant_extension, variant_string, variant_long}
+use Rattle.schema_json_values.proofs.Layers.{variant_boolean, record_out, attribute_out}
+use Rattle.schema_json_laws.proofs.Tidied.{untidy, items_untidy, members_untidy, put_tidy}
 
 -- ---- members and lists
 
@@ -49,7 +50,7 @@ all_tidy f each (x ∷ xs) ms w = all_tidy f each xs (put (f x).0 (f x).1 ms) (p
 items_tidy : {X : Type 0} (f : X → Data) → ((x : X) → untidy (f x) ≡ false) → (xs : List X)
     → items_untidy (items_of (map f xs)) ≡ false
 items_tidy f each [] = refl
-items_tidy f each (x ∷ xs) = neither (untidy (f x)) (items_untidy (items_of (map f xs))) (each x)
+items_tidy f each (x ∷ xs) = or_from (untidy (f x)) (items_untidy (items_of (map f xs))) (each x)
     (items_tidy f each xs)
 
 flag_tidy : (b : Bool) (k : List ℕ) (flag : Bool) (ms : Members) → Tidy ms → Tidy (with_flag b k flag ms)
@@ -81,79 +82,12 @@ module _ (N : Type 0) (names : N → List (List ℕ)) where
   abbrev P3 : TypeOfAttribute N → Type 0
   P3 a = Tidy (attribute_members names a)
 
-  abbrev T' : Type 0
-  T' = (t : «Type» N) × P t
-
-  abbrev V' : Type 0
-  V' = (v : TypeVariant N) × P1 v
-
-  abbrev R' : Type 0
-  R' = (r : RecordType N) × P2 r
-
-  abbrev A' : Type 0
-  A' = (a : TypeOfAttribute N) × P3 a
-
-  type_is : (x : Type-F N («Type» N) (TypeVariant N) (RecordType N) (TypeOfAttribute N))
-      → members_untidy (type_members names (roll-Type N x))
-      ≡ members_untidy (type_layer names (map-Type N _ _ _ _ _ _ _ _ (type_members names)
-      (variant_members names) (record_members names) (attribute_members names) x))
-  type_is x = ap members_untidy (fold-roll-Type N Members Members Members Members (type_layer names)
-      (variant_layer names) (record_layer names) (attribute_layer names) x)
-
-  variant_is : (x : TypeVariant-F N («Type» N) (TypeVariant N) (RecordType N) (TypeOfAttribute N))
-      → members_untidy (variant_members names (roll-TypeVariant N x))
-      ≡ members_untidy (variant_layer names (map-TypeVariant N _ _ _ _ _ _ _ _ (type_members names)
-      (variant_members names) (record_members names) (attribute_members names) x))
-  variant_is x = ap members_untidy (fold-roll-TypeVariant N Members Members Members Members (type_layer names)
-      (variant_layer names) (record_layer names) (attribute_layer names) x)
-
-  record_is : (x : RecordType-F N («Type» N) (TypeVariant N) (RecordType N) (TypeOfAttribute N))
-      → members_untidy (record_members names (roll-RecordType N x))
-      ≡ members_untidy (record_layer names (map-RecordType N _ _ _ _ _ _ _ _ (type_members names)
-      (variant_members names) (record_members names) (attribute_members names) x))
-  record_is x = ap members_untidy (fold-roll-RecordType N Members Members Members Members (type_layer names)
-      (variant_layer names) (record_layer names) (attribute_layer names) x)
-
-  attribute_is : (x : TypeOfAttribute-F N («Type» N) (TypeVariant N) (RecordType N) (TypeOfAttribute N))
-      → members_untidy (attribute_members names (roll-TypeOfAttribute N x))
-      ≡ members_untidy (attribute_layer names (map-TypeOfAttribute N _ _ _ _ _ _ _ _ (type_members names)
-      (variant_members names) (record_members names) (attribute_members names) x))
-  attribute_is x = ap members_untidy (fold-roll-TypeOfAttribute N Members Members Members Members
-      (type_layer names) (variant_layer names) (record_layer names) (attribute_layer names) x)
-
-  step_type : (y : Type-F N T' V' R' A')
-      → P (roll-Type N (map-Type N T' V' R' A' _ _ _ _ (λ e. e.0) (λ e. e.0) (λ e. e.0) (λ e. e.0) y))
-  step_type (Type-F.Variant v loc) = type_is (Type-F.Variant v.0 loc) ∙ v.1
-  step_type (Type-F.CommonTypeRef n loc) = type_is (Type-F.CommonTypeRef n loc)
-
-  step_variant : (y : TypeVariant-F N T' V' R' A')
-      → P1 (roll-TypeVariant N (map-TypeVariant N T' V' R' A' _ _ _ _ (λ e. e.0) (λ e. e.0) (λ e. e.0) (λ e. e.0) y))
-  step_variant TypeVariant-F.String = variant_is TypeVariant-F.String
-  step_variant TypeVariant-F.Long = variant_is TypeVariant-F.Long
-  step_variant TypeVariant-F.Boolean = variant_is TypeVariant-F.Boolean
-  step_variant (TypeVariant-F.Set b) =
-      variant_is (TypeVariant-F.Set b.0)
-      ∙ put_tidy (codes "element") (object (type_members names b.0)) (with_word (codes "Set")) b.1 refl
-  step_variant (TypeVariant-F.Record r) = variant_is (TypeVariant-F.Record r.0) ∙ r.1
-  step_variant (TypeVariant-F.Entity n) =
-      variant_is (TypeVariant-F.Entity n) ∙ put_tidy (codes "name") (string (name_bytes names n)) (with_word
-      (codes "Entity")) refl refl
-  step_variant (TypeVariant-F.EntityOrCommon n) =
-      variant_is (TypeVariant-F.EntityOrCommon n)
-      ∙ put_tidy (codes "name") (string (name_bytes names n)) (with_word (codes "EntityOrCommon")) refl refl
-  step_variant (TypeVariant-F.Extension x) =
-      variant_is (TypeVariant-F.Extension x) ∙ put_tidy (codes "name") (string x.id.text) (with_word
-      (codes "Extension")) refl refl
-
-  abbrev written_entries : List (List ℕ × A') → List (List ℕ × Data)
-  written_entries es = map layer_entry (map (λ p. let q : List ℕ × Members =
-      (p.0, attribute_members names p.1) in q) (map (λ p. let q : List ℕ × TypeOfAttribute N = (p.0, p.1.0) in q) es))
-
-  entries_tidy : (es : List (List ℕ × A')) (ms : Members) → Tidy ms → Tidy (put_all (written_entries es) ms)
-  entries_tidy [] ms w = w
-  entries_tidy (e ∷ es) ms w =
-      let d = object (attribute_members names e.1.0) in
-      entries_tidy es (put (encode_utf8_all e.0) d ms) (put_tidy (encode_utf8_all e.0) d ms e.1.1 w)
+  entries_tidy : (es : List (List ℕ × TypeOfAttribute N)) → AllByRecursion (λ e. P3 e.1) es → (ms : Members) → Tidy ms
+      → Tidy (put_all (map (attribute_entry names) es) ms)
+  entries_tidy [] h ms w = w
+  entries_tidy (e ∷ es) h ms w =
+      let d = object (attribute_members names e.1) in
+      entries_tidy es h.1 (put (encode_utf8_all e.0) d ms) (put_tidy (encode_utf8_all e.0) d ms h.0 w)
 
   attributes_tidy : (es : List (List ℕ × Data)) (is_open : Bool) → Tidy (put_all es no_members) → Tidy
       (with_attributes es is_open)
@@ -162,30 +96,36 @@ module _ (N : Type 0) (names : N → List (List ℕ)) where
       (codes "Record")))
       (put_tidy (codes "attributes") (object_of es) (with_word (codes "Record")) w refl)
 
-  step_record : (y : RecordType-F N T' V' R' A')
-      → P2 (roll-RecordType N (map-RecordType N T' V' R' A' _ _ _ _ (λ e. e.0) (λ e. e.0) (λ e. e.0) (λ e. e.0) y))
-  step_record y =
-      record_is (map-RecordType N T' V' R' A' («Type» N) (TypeVariant N) (RecordType N) (TypeOfAttribute N)
-      (λ e. e.0) (λ e. e.0) (λ e. e.0) (λ e. e.0) y)
-      ∙ attributes_tidy (written_entries y.attributes) y.additional_attributes
-      (entries_tidy y.attributes no_members refl)
-
-  step_attribute : (y : TypeOfAttribute-F N T' V' R' A')
-      → P3 (roll-TypeOfAttribute N (map-TypeOfAttribute N T' V' R' A' _ _ _ _ (λ e. e.0) (λ e. e.0) (λ e. e.0)
-      (λ e. e.0) y))
-  step_attribute y =
-      attribute_is (map-TypeOfAttribute N T' V' R' A' («Type» N) (TypeVariant N) (RecordType N) (TypeOfAttribute N)
-      (λ e. e.0) (λ e. e.0) (λ e. e.0) (λ e. e.0) y)
-      ∙ flag_tidy (not y.required) (codes "required") false (with_annotations y.annotations.0
-      (type_members names y.ty.0))
-      (notes_tidy y.annotations.0 (type_members names y.ty.0) y.ty.1)
+  layers : Layers N P P1 P2 P3
+  layers = record {
+    variant = λ v loc h. ap members_untidy (type_variant N names v loc) ∙ h;
+    reference = λ n loc. ap members_untidy (type_common N names n loc);
+    string = ap members_untidy (variant_string N names);
+    long = ap members_untidy (variant_long N names);
+    boolean = ap members_untidy (variant_boolean N names);
+    set = λ t h. ap members_untidy (variant_set N names t)
+        ∙ put_tidy (codes "element") (object (type_members names t)) (with_word (codes "Set")) h refl;
+    fields = λ r h. ap members_untidy
+        (record_made N (type_layer names) (variant_layer names) (record_layer names) (attribute_layer names) r) ∙ h;
+    entity = λ n. ap members_untidy (variant_entity N names n)
+        ∙ put_tidy (codes "name") (string (name_bytes names n)) (with_word (codes "Entity")) refl refl;
+    either = λ n. ap members_untidy (variant_either N names n)
+        ∙ put_tidy (codes "name") (string (name_bytes names n)) (with_word (codes "EntityOrCommon")) refl refl;
+    extension = λ x. ap members_untidy (variant_extension N names x)
+        ∙ put_tidy (codes "name") (string x.id.text) (with_word (codes "Extension")) refl refl;
+    entries = λ r h. ap members_untidy (record_out N names r)
+        ∙ attributes_tidy (map (attribute_entry names) (attributes_of r)) (is_open r)
+        (entries_tidy (attributes_of r) h no_members refl);
+    attribute = λ a h.
+        let members = type_members names (out-TypeOfAttribute N a).ty in
+        let notes = (out-TypeOfAttribute N a).annotations.0 in
+        ap members_untidy (attribute_out N names a)
+        ∙ flag_tidy (not (out-TypeOfAttribute N a).required) (codes "required") false (with_annotations notes members)
+        (notes_tidy notes members h);
+  }
 
   pub type_tidy : (t : «Type» N) → P t
-  type_tidy = ind-Type N P P1 P2 P3
-      (λ x y is. subst (λ z. P (roll-Type N z)) is (step_type y))
-      (λ x y is. subst (λ z. P1 (roll-TypeVariant N z)) is (step_variant y))
-      (λ x y is. subst (λ z. P2 (roll-RecordType N z)) is (step_record y))
-      (λ x y is. subst (λ z. P3 (roll-TypeOfAttribute N z)) is (step_attribute y))
+  type_tidy = each_type N P P1 P2 P3 layers
 
   -- ---- common types and entity types
 
@@ -242,7 +182,7 @@ module _ (N : Type 0) (names : N → List (List ℕ)) where
   spec_tidy None ms w = w
   spec_tidy (Some a) ms w = put_tidy (codes "appliesTo") (values.applies_to_value names a) ms (applies_tidy a) w
 
-  written_tidy : (o : Option (List (List ℕ))) (ms : Members) → Tidy ms → Tidy (values.with_attributes o ms)
+  written_tidy : (o : Option (List (List ℕ))) (ms : Members) → Tidy ms → Tidy (values.with_attribute_names o ms)
   written_tidy None ms w = w
   written_tidy (Some ns) ms w =
       put_tidy (codes "attributes") (object_of (map values.attribute_name_entry ns)) ms

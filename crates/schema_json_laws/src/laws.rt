@@ -14,7 +14,7 @@ ghost use Rattle.cedar_identifiers.specs.declared.unreserved_id.UnreservedId.{Un
 ghost use Rattle.schema_json.specs.declared.fragment.Fragment.{Fragment};
 ghost use Rattle.schema_json_errors.specs.declared.json_error.JsonDeserializationError.{JsonDeserializationError as Error};
 ghost use Rattle.schema_json_errors.specs.declared.json_fault.JsonFault.TheVariants.{Memory};
-ghost use Rattle.schema_json_io.specs.Causes.{IsTextError};
+ghost use Rattle.schema_json_io.specs.Causes.{IsJsonTextError};
 ghost use Rattle.schema_json_io.specs.Texts.{Holds, TextShape};
 ghost use Rattle.schema_json_shapes.specs.Shapes.{IsFragment, JsonShape, IsShapeFault};
 ghost use Rattle.schema_json_shapes.specs.declared.shape_fault.ShapeFault.{ShapeFault as Fault};
@@ -37,9 +37,9 @@ pub fn one_fragment_or_error()
     ensures fragment { (text : List ℕ) (f g : Fragment Raw ⟦<RawName as NameText>⟧) → TextShape text f
         → TextShape text g → f ≡ g }
     ensures error { (text : List ℕ) (e other : Error) → e.fault ≢ Memory → other.fault ≢ Memory
-        → IsTextError text e → IsTextError text other → e ≡ other }
+        → IsJsonTextError text e → IsJsonTextError text other → e ≡ other }
     ensures never_both { (text : List ℕ) (f : Fragment Raw ⟦<RawName as NameText>⟧) (e : Error) → TextShape text f
-        → e.fault ≢ Memory → ¬ IsTextError text e }
+        → e.fault ≢ Memory → ¬ IsJsonTextError text e }
 {}
 
 /// The JSON value of a fragment has no float, so it has one compact text.

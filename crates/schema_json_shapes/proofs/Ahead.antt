@@ -9,7 +9,7 @@ use Rattle.serde_json.specs.declared.value.Value.{Value}
 use Rattle.schema_json_shapes.specs.declared.shape_fault.ShapeFault.{ShapeFault}
 use Rattle.schema_json_shapes.specs.Walk.{Role, Demand, AllMet, demands, member_demands, item_demands}
 use Rattle.schema_json_shapes.specs.Said.{AreItems, no_item, next_item}
-use Rattle.schema_json_shapes.specs.Reads.{IsFault}
+use Rattle.schema_json_shapes.specs.Reads.{IsDemandFault}
 use Rattle.schema_json_shapes.proofs.Demands.{both_met, fails, passes}
 
 -- ---- demands of members
@@ -18,7 +18,8 @@ module _ (key : List ℕ → List Demand) (role : List ℕ → Role) where
   -- what is left of the members, and all of them
   pub record Left (left all : Members) : Type 0 where
     pub met : AllMet (member_demands key role left) → AllMet (member_demands key role all)
-    pub unmet : (e : ShapeFault) → IsFault (member_demands key role left) e → IsFault (member_demands key role all) e
+    pub unmet : (e : ShapeFault) → IsDemandFault (member_demands key role left) e
+        → IsDemandFault (member_demands key role all) e
 
   pub all_left : (es fs : List Entry) → es ≡ fs → Left (members_view es) (members_view fs)
   all_left es fs same = subst (λ ys. Left (members_view es) (members_view ys)) same
@@ -26,9 +27,9 @@ module _ (key : List ℕ → List Demand) (role : List ℕ → Role) where
 
   -- the first of what is left has a fault
   pub first_fails : (k : List ℕ) (d : Data) (left all : Members) (e : ShapeFault) → Left (member k d left) all
-      → IsFault (key k ++ demands (role k) k d) e → IsFault (member_demands key role all) e
+      → IsDemandFault (key k ++ demands (role k) k d) e → IsDemandFault (member_demands key role all) e
   first_fails k d left all e l h =
-      l.unmet e (subst (λ ds. IsFault ds e)
+      l.unmet e (subst (λ ds. IsDemandFault ds e)
       (append_assoc (key k) (demands (role k) k d) (member_demands key role left))
       (fails (key k ++ demands (role k) k d) (member_demands key role left) e h))
 
@@ -39,7 +40,7 @@ module _ (key : List ℕ → List Demand) (role : List ℕ → Role) where
       record {
         met = λ m. l.met (subst AllMet whole
             (both_met (key k ++ demands (role k) k d) (member_demands key role left) h m));
-        unmet = λ e m. l.unmet e (subst (λ ds. IsFault ds e) whole
+        unmet = λ e m. l.unmet e (subst (λ ds. IsDemandFault ds e) whole
             (passes (key k ++ demands (role k) k d) (member_demands key role left) e h m));
       }
 
@@ -51,17 +52,18 @@ module _ (key : List ℕ → List Demand) (role : List ℕ → Role) where
 module _ (role : Role) (label : List ℕ) where
   pub record LeftItems (left all : Items) : Type 0 where
     pub met : AllMet (item_demands role label left) → AllMet (item_demands role label all)
-    pub unmet : (e : ShapeFault) → IsFault (item_demands role label left) e → IsFault (item_demands role label all) e
+    pub unmet : (e : ShapeFault) → IsDemandFault (item_demands role label left) e
+        → IsDemandFault (item_demands role label all) e
 
   pub all_items_left : (ds : Items) → LeftItems ds ds
   all_items_left ds = record { met = λ h. h; unmet = λ e h. h }
 
   pub item_fails : (vs : List Value) (i : ℕ) (x : Value) (all : Items) (e : ShapeFault) → i < length vs
-      → x ≡ get_or vs i x → LeftItems (items_view (drop i vs)) all → IsFault (demands role label (view x)) e
-      → IsFault (item_demands role label all) e
+      → x ≡ get_or vs i x → LeftItems (items_view (drop i vs)) all → IsDemandFault (demands role label (view x)) e
+      → IsDemandFault (item_demands role label all) e
   item_fails vs i x all e h is l f =
       let here : drop i vs ≡ x ∷ drop (i + 1) vs = drop_more vs i x h ∙ ap (λ y. y ∷ drop (i + 1) vs) (sym is) in
-      l.unmet e (subst (λ d. IsFault (item_demands role label (items_view d)) e) (sym here)
+      l.unmet e (subst (λ d. IsDemandFault (item_demands role label (items_view d)) e) (sym here)
       (fails (demands role label (view x)) (item_demands role label (items_view (drop (i + 1) vs))) e f))
 
   pub item_passes : (vs : List Value) (i : ℕ) (x : Value) (all : Items) → i < length vs → x ≡ get_or vs i x
@@ -73,7 +75,7 @@ module _ (role : Role) (label : List ℕ) where
       record {
         met = λ g. l.met (subst (λ d. AllMet (item_demands role label (items_view d))) (sym here)
             (both_met (demands role label (view x)) rest m g));
-        unmet = λ e g. l.unmet e (subst (λ d. IsFault (item_demands role label (items_view d)) e) (sym here)
+        unmet = λ e g. l.unmet e (subst (λ d. IsDemandFault (item_demands role label (items_view d)) e) (sym here)
             (passes (demands role label (view x)) rest e m g));
       }
 

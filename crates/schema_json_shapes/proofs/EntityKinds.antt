@@ -12,7 +12,7 @@ use Rattle.schema_json_shapes.specs.declared.shape_fault.ShapeFault.{ShapeFault}
 use Rattle.schema_json_shapes.specs.declared.shape_fault.ShapeFault.TheVariants.{EmptyEnum}
 use Rattle.schema_json_shapes.specs.Walk.{is_empty_list, empty_enum}
 use Rattle.schema_json_shapes.specs.Said.{IsNamed, IsChoice, IsList, IsListOrNone, IsOptional, IsType}
-use Rattle.schema_json_shapes.specs.Shapes.{IsShape, IsKind, IsTextIn}
+use Rattle.schema_json_shapes.specs.Shapes.{IsShapeOrNone, IsKind, IsTextIn}
 use Rattle.schema_json_shapes.specs.EntityKinds.{kind_from}
 
 pub optional_some : {X : Type 0} (P : Data → X → Type 0) (o : Option Data) (x : X) → IsOptional P o (Some x)
@@ -24,18 +24,18 @@ pub optional_none : {X : Type 0} (P : Data → X → Type 0) (o : Option Data) �
 optional_none P None h = refl
 optional_none P (Some d) h = absurd (cc)
 
-pub shape_some : (o : Option Data) (t : «Type» RawName) → IsOptional IsType o (Some t) → IsShape o t
-shape_some o t h = let p = optional_some IsType o t h in subst (λ x. IsShape x t) (sym p.1) p.2
+pub shape_some : (o : Option Data) (t : «Type» RawName) → IsOptional IsType o (Some t) → IsShapeOrNone o t
+shape_some o t h = let p = optional_some IsType o t h in subst (λ x. IsShapeOrNone x t) (sym p.1) p.2
 
 pub shape_none : (o : Option Data) (t : «Type» RawName) → IsOptional IsType o None → t ≡ record_type empty_record
-    → IsShape o t
-shape_none o t h e = subst (λ x. IsShape x t) (sym (optional_none IsType o h)) e
+    → IsShapeOrNone o t
+shape_none o t h e = subst (λ x. IsShapeOrNone x t) (sym (optional_none IsType o h)) e
 
 kind_at : (ms : Members) (choices : Option (List Eid)) (parents : List RawName) (shape : «Type» RawName)
     (tags : Option («Type» RawName))
     → IsOptional (IsList IsChoice) (get_member (codes "enum") ms) choices
     → IsListOrNone IsNamed (get_member (codes "memberOfTypes") ms) parents
-    → IsShape (get_member (codes "shape") ms) shape → IsOptional IsType (get_member (codes "tags") ms) tags
+    → IsShapeOrNone (get_member (codes "shape") ms) shape → IsOptional IsType (get_member (codes "tags") ms) tags
     → IsKind ms (kind_from choices parents shape tags)
 kind_at ms (Some choices) parents shape tags c p s t =
     let q = optional_some (IsList IsChoice) (get_member (codes "enum") ms) choices c in (q.0, q.1, q.2)
@@ -52,7 +52,7 @@ pub kind_says : (ms : Members) (choices : Option (List Eid)) (parents : List Raw
     → kind ≡ kind_from choices parents shape tags
     → IsOptional (IsList IsChoice) (get_member (codes "enum") ms) choices
     → IsListOrNone IsNamed (get_member (codes "memberOfTypes") ms) parents
-    → IsShape (get_member (codes "shape") ms) shape → IsOptional IsType (get_member (codes "tags") ms) tags
+    → IsShapeOrNone (get_member (codes "shape") ms) shape → IsOptional IsType (get_member (codes "tags") ms) tags
     → IsKind ms kind
 kind_says ms choices parents shape tags kind e c p s t =
     subst (IsKind ms) (sym e) (kind_at ms choices parents shape tags c p s t)

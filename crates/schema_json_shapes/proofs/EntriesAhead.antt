@@ -8,7 +8,7 @@ use Rattle.serde_json.specs.declared.value.Value.{Value}
 use Rattle.schema_json_shapes.specs.declared.shape_fault.ShapeFault.{ShapeFault}
 use Rattle.schema_json_shapes.specs.Walk.{Demand, AllMet}
 use Rattle.schema_json_shapes.specs.Said.{AreEntries, no_entry, next_entry}
-use Rattle.schema_json_shapes.specs.Reads.{IsFault}
+use Rattle.schema_json_shapes.specs.Reads.{IsDemandFault}
 use Rattle.schema_json_shapes.proofs.Demands.{both_met, fails, passes}
 use Rattle.schema_json_shapes.specs.Entries.{each_entry}
 
@@ -17,7 +17,7 @@ module _ {K V : Type 0} (part : List ℕ → Data → List Demand) (Key : List �
   -- what was found so far, before what is left of the entries
   pub record EntriesAhead (left all : Members) (found : List (K × V)) : Type 0 where
     pub met : AllMet (each_entry part left) → AllMet (each_entry part all)
-    pub unmet : (e : ShapeFault) → IsFault (each_entry part left) e → IsFault (each_entry part all) e
+    pub unmet : (e : ShapeFault) → IsDemandFault (each_entry part left) e → IsDemandFault (each_entry part all) e
     pub says : (es : List (K × V)) → AreEntries Key Says left es → AreEntries Key Says all (found ++ es)
 
   pub none_yet : (ls fs : List Entry) (found : List (K × V)) → ls ≡ fs → found ≡ []
@@ -53,11 +53,11 @@ module _ {K V : Type 0} (part : List ℕ → Data → List Demand) (Key : List �
   -- the next entry has a fault
   pub next_fails : (es : List Entry) (key : String Global) (v : Value) (left : List Entry) (all : Members) (n : List ℕ)
       (found : List (K × V)) (e : ShapeFault) → EntriesAhead (members_view es) all found → es ≡ (key, v) ∷ left
-      → n ≡ string_bytes key → IsFault (part n (view v)) e → IsFault (each_entry part all) e
+      → n ≡ string_bytes key → IsDemandFault (part n (view v)) e → IsDemandFault (each_entry part all) e
   next_fails es key v left all n found e a steps is h =
       let here = subst (λ xs. EntriesAhead (members_view xs) all found) steps a in
       here.unmet e (fails (part (string_bytes key) (view v)) (each_entry part (members_view left)) e
-      (subst (λ m. IsFault (part m (view v)) e) is h))
+      (subst (λ m. IsDemandFault (part m (view v)) e) is h))
 
   pub all_read : (es : List Entry) (all : Members) (found : List (K × V)) → EntriesAhead (members_view es) all found
       → es ≡ [] → AllMet (each_entry part all) × AreEntries Key Says all found

@@ -7,6 +7,7 @@ use Rattle.std.specs.Ordering.{nat_cmp, is_eq, match_ordering}
 use Rattle.std.specs.Str.{bytes_eq}
 use Rattle.std.specs.Cmp.Lexicographic.{slice_cmp}
 use Rattle.std.proofs.lemmas.Map.Text.{is_eq-slice_cmp}
+use Rattle.std.proofs.lemmas.Option.{same_Some}
 use Rattle.serde_json.specs.Data.{Data, Members, member}
 use Rattle.serde_json.specs.Find.{get_member}
 use Rattle.serde_json.specs.View.{view, members_view}
@@ -35,14 +36,11 @@ found_later name key value others apart =
 
 -- ---- among two members at most
 
-one : (x e : Entry) → Some x ≡ Some e → x ≡ e
-one x e same = cc
-
 pub found_first : (name : List ℕ) (es : List Entry) (e : Entry) → slice_get es 0 ≡ Some e
     → bytes_eq name (string_bytes e.0) ≡ true → Some (view e.1) ≡ get_member name (members_view es)
 found_first name [] e first same = cc
 found_first name (x ∷ es) e first same =
-    let is : x ≡ e = one x e first in
+    let is : x ≡ e = same_Some x e first in
     sym (subst (λ (y : Entry). get_member name (members_view (y ∷ es)) ≡ Some (view e.1)) (sym is)
     (found_here name (string_bytes e.0) (view e.1) (members_view es) same))
 
@@ -51,12 +49,12 @@ pub found_last : (name : List ℕ) (es : List Entry) (e l : Entry) → length es
     → bytes_eq name (string_bytes l.0) ≡ true → Some (view l.1) ≡ get_member name (members_view es)
 found_last name [] e l two first last apart same = cc
 found_last name (x ∷ []) e l two first last apart same =
-    let is : l ≡ e = sym (one x l last) ∙ one x e first in
+    let is : l ≡ e = sym (same_Some x l last) ∙ same_Some x e first in
     let no : true ≡ false = sym same ∙ ap (λ (y : Entry). bytes_eq name (string_bytes y.0)) is ∙ apart in
     cc
 found_last name (x ∷ y ∷ []) e l two first last apart same =
     let not_first : bytes_eq name (string_bytes x.0) ≡ false =
-    ap (λ (z : Entry). bytes_eq name (string_bytes z.0)) (one x e first) ∙ apart in
+    ap (λ (z : Entry). bytes_eq name (string_bytes z.0)) (same_Some x e first) ∙ apart in
     found_first name (y ∷ []) l last same
     ∙ sym (found_later name (string_bytes x.0) (view x.1) (members_view (y ∷ [])) not_first)
 found_last name (x ∷ y ∷ z ∷ es) e l two first last apart same = let no : ⊥ = omega arith in absurd no
@@ -67,13 +65,13 @@ pub none_of_two : (name : List ℕ) (es : List Entry) (e l : Entry) → length e
 none_of_two name [] e l two first last apart other = cc
 none_of_two name (x ∷ []) e l two first last apart other =
     let not_first : bytes_eq name (string_bytes x.0) ≡ false =
-    ap (λ (z : Entry). bytes_eq name (string_bytes z.0)) (one x e first) ∙ apart in
+    ap (λ (z : Entry). bytes_eq name (string_bytes z.0)) (same_Some x e first) ∙ apart in
     sym (found_later name (string_bytes x.0) (view x.1) (members_view []) not_first)
 none_of_two name (x ∷ y ∷ []) e l two first last apart other =
     let not_first : bytes_eq name (string_bytes x.0) ≡ false =
-    ap (λ (z : Entry). bytes_eq name (string_bytes z.0)) (one x e first) ∙ apart in
+    ap (λ (z : Entry). bytes_eq name (string_bytes z.0)) (same_Some x e first) ∙ apart in
     let not_last : bytes_eq name (string_bytes y.0) ≡ false =
-    ap (λ (z : Entry). bytes_eq name (string_bytes z.0)) (one y l last) ∙ other in
+    ap (λ (z : Entry). bytes_eq name (string_bytes z.0)) (same_Some y l last) ∙ other in
     sym (found_later name (string_bytes x.0) (view x.1) (members_view (y ∷ [])) not_first
     ∙ found_later name (string_bytes y.0) (view y.1) (members_view []) not_last)
 none_of_two name (x ∷ y ∷ z ∷ es) e l two first last apart other = let no : ⊥ = omega arith in absurd no
@@ -92,7 +90,8 @@ pub unknown_first : (fs : List Field) (es : List Entry) (e : Entry) → slice_ge
     → is_field fs (string_bytes e.0) ≡ false → Some (string_bytes e.0) ≡ first_unknown fs (members_view es)
 unknown_first fs [] e first no_field = cc
 unknown_first fs (x ∷ es) e first no_field =
-    subst (λ (y : Entry). Some (string_bytes e.0) ≡ first_unknown fs (members_view (y ∷ es))) (sym (one x e first))
+    subst (λ (y : Entry). Some (string_bytes e.0) ≡ first_unknown fs (members_view (y ∷ es)))
+    (sym (same_Some x e first))
     (stops (is_field fs (string_bytes e.0)) (string_bytes e.0) (first_unknown fs (members_view es)) no_field)
 
 unknown_later : (fs : List Field) (x e : Entry) (es : List Entry) → x ≡ e → is_field fs (string_bytes e.0) ≡ true
@@ -106,18 +105,18 @@ pub unknown_last : (fs : List Field) (es : List Entry) (e l : Entry) → length 
     → is_field fs (string_bytes l.0) ≡ false → Some (string_bytes l.0) ≡ first_unknown fs (members_view es)
 unknown_last fs [] e l two first last field no_field = cc
 unknown_last fs (x ∷ []) e l two first last field no_field =
-    let is : l ≡ e = sym (one x l last) ∙ one x e first in
+    let is : l ≡ e = sym (same_Some x l last) ∙ same_Some x e first in
     let no : false ≡ true = sym no_field ∙ ap (λ (y : Entry). is_field fs (string_bytes y.0)) is ∙ field in
     cc
 unknown_last fs (x ∷ y ∷ []) e l two first last field no_field =
-    unknown_first fs (y ∷ []) l last no_field ∙ unknown_later fs x e (y ∷ []) (one x e first) field
+    unknown_first fs (y ∷ []) l last no_field ∙ unknown_later fs x e (y ∷ []) (same_Some x e first) field
 unknown_last fs (x ∷ y ∷ z ∷ es) e l two first last field no_field = let no : ⊥ = omega arith in absurd no
 
 pub all_known : (fs : List Field) (es : List Entry) (e l : Entry) → length es ≤ 2 → slice_get es 0 ≡ Some e
     → slice_get es (length es - 1) ≡ Some l → is_field fs (string_bytes e.0) ≡ true
     → is_field fs (string_bytes l.0) ≡ true → None ≡ first_unknown fs (members_view es)
 all_known fs [] e l two first last field other = cc
-all_known fs (x ∷ []) e l two first last field other = unknown_later fs x e [] (one x e first) field
+all_known fs (x ∷ []) e l two first last field other = unknown_later fs x e [] (same_Some x e first) field
 all_known fs (x ∷ y ∷ []) e l two first last field other =
-    unknown_later fs y l [] (one y l last) other ∙ unknown_later fs x e (y ∷ []) (one x e first) field
+    unknown_later fs y l [] (same_Some y l last) other ∙ unknown_later fs x e (y ∷ []) (same_Some x e first) field
 all_known fs (x ∷ y ∷ z ∷ es) e l two first last field other = let no : ⊥ = omega arith in absurd no

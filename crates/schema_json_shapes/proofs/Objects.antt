@@ -6,26 +6,26 @@ use Rattle.serde_json.specs.Data.{no_members, member}
 use Rattle.serde_json.specs.Find.{as_object, as_array}
 use Rattle.schema_json_shapes.specs.declared.shape_fault.ShapeFault.{ShapeFault}
 use Rattle.schema_json_shapes.specs.Walk.{Role, Demand, AllMet, demands, ignored, or_null, null_demands, flag_demands}
-use Rattle.schema_json_shapes.specs.Walk.{number_demands, string_demands, array_demands, object_demands, bare}
+use Rattle.schema_json_shapes.specs.Walk.{number_demands, string_demands, array_demands, object_demands, without_null}
 use Rattle.schema_json_shapes.specs.Walk.{wrong_type, item_demands, item_role, member_demands, key_demands, member_role}
 use Rattle.schema_json_shapes.specs.Said.{not_null, IsOptional}
-use Rattle.schema_json_shapes.specs.Reads.{IsFault, Reads, field_demands}
+use Rattle.schema_json_shapes.specs.Reads.{IsDemandFault, ReadsValue, field_demands}
 use Rattle.schema_json_shapes.specs.Entries.{of_object, each_entry, entry_demands}
 use Rattle.schema_json_shapes.proofs.Demands.{fails}
 
 -- a role of objects alone
 pub record OnlyObjects (r : Role) (n : List ℕ) : Type 0 where
   pub on_null : null_demands r n ≡ wrong_type n
-  pub on_flag : flag_demands (bare r) n ≡ wrong_type n
-  pub on_number : number_demands (bare r) n ≡ wrong_type n
-  pub on_string : (s : List ℕ) → string_demands (bare r) n s ≡ wrong_type n
-  pub on_array : array_demands (bare r) n ≡ wrong_type n
+  pub on_flag : flag_demands (without_null r) n ≡ wrong_type n
+  pub on_number : number_demands (without_null r) n ≡ wrong_type n
+  pub on_string : (s : List ℕ) → string_demands (without_null r) n s ≡ wrong_type n
+  pub on_array : array_demands (without_null r) n ≡ wrong_type n
 
-kept : (ds es : List Demand) (e : ShapeFault) → ds ≡ es → IsFault es e → IsFault ds e
-kept ds es e same h = subst (λ xs. IsFault xs e) (sym same) h
+kept : (ds es : List Demand) (e : ShapeFault) → ds ≡ es → IsDemandFault es e → IsDemandFault ds e
+kept ds es e same h = subst (λ xs. IsDemandFault xs e) (sym same) h
 
 pub no_object : (r : Role) (n : List ℕ) → OnlyObjects r n → (d : Data) (e : ShapeFault) → None ≡ as_object d
-    → IsFault (wrong_type n) e → IsFault (demands r n d) e
+    → IsDemandFault (wrong_type n) e → IsDemandFault (demands r n d) e
 no_object r n o null e h f = kept _ _ e o.on_null f
 no_object r n o (boolean b) e h f = kept _ _ e o.on_flag f
 no_object r n o (number x) e h f = kept _ _ e o.on_number f
@@ -43,20 +43,20 @@ an_object (object os) ms e = cc
 
 -- what is read of an object is read of the value
 pub reads_object : {A : Type 0} (result : Result A ShapeFault) (r : Role) (n : List ℕ) (d : Data) (ms : Members)
-    (P : Data → A → Type 0) → Some ms ≡ as_object d → Reads result (demands r n (object ms)) (P (object ms))
-    → Reads result (demands r n d) (P d)
-reads_object result r n d ms P e h = subst (λ x. Reads result (demands r n x) (P x)) (an_object d ms e) h
+    (P : Data → A → Type 0) → Some ms ≡ as_object d → ReadsValue result (demands r n (object ms)) (P (object ms))
+    → ReadsValue result (demands r n d) (P d)
+reads_object result r n d ms P e h = subst (λ x. ReadsValue result (demands r n x) (P x)) (an_object d ms e) h
 
 -- a role of lists alone
 pub record OnlyArrays (r : Role) (n : List ℕ) : Type 0 where
   pub on_null : null_demands r n ≡ wrong_type n
-  pub on_flag : flag_demands (bare r) n ≡ wrong_type n
-  pub on_number : number_demands (bare r) n ≡ wrong_type n
-  pub on_string : (s : List ℕ) → string_demands (bare r) n s ≡ wrong_type n
-  pub on_object : (ms : Members) → object_demands (bare r) n ms ≡ wrong_type n
+  pub on_flag : flag_demands (without_null r) n ≡ wrong_type n
+  pub on_number : number_demands (without_null r) n ≡ wrong_type n
+  pub on_string : (s : List ℕ) → string_demands (without_null r) n s ≡ wrong_type n
+  pub on_object : (ms : Members) → object_demands (without_null r) n ms ≡ wrong_type n
 
 pub no_array : (r : Role) (n : List ℕ) → OnlyArrays r n → (d : Data) (e : ShapeFault) → None ≡ as_array d
-    → IsFault (wrong_type n) e → IsFault (demands r n d) e
+    → IsDemandFault (wrong_type n) e → IsDemandFault (demands r n d) e
 no_array r n o null e h f = kept _ _ e o.on_null f
 no_array r n o (boolean b) e h f = kept _ _ e o.on_flag f
 no_array r n o (number x) e h f = kept _ _ e o.on_number f
@@ -73,12 +73,12 @@ an_array (array es) ds e = cc
 an_array (object ms) ds e = absurd (cc)
 
 pub reads_array : {A : Type 0} (result : Result A ShapeFault) (r : Role) (n : List ℕ) (d : Data) (ds : Items)
-    (P : Data → A → Type 0) → Some ds ≡ as_array d → Reads result (demands r n (array ds)) (P (array ds))
-    → Reads result (demands r n d) (P d)
-reads_array result r n d ds P e h = subst (λ x. Reads result (demands r n x) (P x)) (an_array d ds e) h
+    (P : Data → A → Type 0) → Some ds ≡ as_array d → ReadsValue result (demands r n (array ds)) (P (array ds))
+    → ReadsValue result (demands r n d) (P d)
+reads_array result r n d ds P e h = subst (λ x. ReadsValue result (demands r n x) (P x)) (an_array d ds e) h
 
 -- null is as if nothing were there
-pub given_demands : (r : Role) (n : List ℕ) (o : Option Data) → bare (or_null r) ≡ bare r
+pub given_demands : (r : Role) (n : List ℕ) (o : Option Data) → without_null (or_null r) ≡ without_null r
     → field_demands (or_null r) n o ≡ field_demands r n (not_null o)
 given_demands r n None e = refl
 given_demands r n (Some null) e = refl
@@ -90,24 +90,27 @@ given_demands r n (Some (object ms)) e =
     ap (λ x. object_demands x n ms ++ member_demands (key_demands x) (member_role x ms) ms) e
 
 module _ {X : Type 0} (r : Role) (n : List ℕ) (P : Data → X → Type 0) where
-  pub given_some : (o : Option Data) (d : Data) (x : X) → bare (or_null r) ≡ bare r → Some d ≡ not_null o
+  pub given_some : (o : Option Data) (d : Data) (x : X) → without_null (or_null r) ≡ without_null r
+      → Some d ≡ not_null o
       → AllMet (demands r n d) → P d x → AllMet (field_demands (or_null r) n o) × IsOptional P (not_null o) (Some x)
   given_some o d x b e m p = (
     subst AllMet (sym (given_demands r n o b)) (subst (λ q. AllMet (field_demands r n q)) e m),
     subst (λ q. IsOptional P q (Some x)) e (x, p, refl),
   )
 
-  pub given_none : (o : Option Data) → bare (or_null r) ≡ bare r → None ≡ not_null o
+  pub given_none : (o : Option Data) → without_null (or_null r) ≡ without_null r → None ≡ not_null o
       → AllMet (field_demands (or_null r) n o) × IsOptional P (not_null o) None
   given_none o b e = (
     subst AllMet (sym (given_demands r n o b)) (subst (λ q. AllMet (field_demands r n q)) e tt),
     subst (λ q. IsOptional P q None) e refl,
   )
 
-pub given_fails : (r : Role) (n : List ℕ) (o : Option Data) (d : Data) (e : ShapeFault) → bare (or_null r) ≡ bare r
-    → Some d ≡ not_null o → IsFault (demands r n d) e → IsFault (field_demands (or_null r) n o) e
+pub given_fails : (r : Role) (n : List ℕ) (o : Option Data) (d : Data) (e : ShapeFault)
+    → without_null (or_null r) ≡ without_null r
+    → Some d ≡ not_null o → IsDemandFault (demands r n d) e → IsDemandFault (field_demands (or_null r) n o) e
 given_fails r n o d e b is f =
-    subst (λ ds. IsFault ds e) (sym (given_demands r n o b)) (subst (λ q. IsFault (field_demands r n q) e) is f)
+    subst (λ ds. IsDemandFault ds e) (sym (given_demands r n o b))
+    (subst (λ q. IsDemandFault (field_demands r n q) e) is f)
 
 -- nothing is asked of what is not read
 mutual
@@ -141,7 +144,7 @@ each_asked key role (member k d ms) =
 -- a role of objects of such entries
 pub record OfEntries (r : Role) (n : List ℕ) : Type 0 where
   pub only : OnlyObjects r n
-  pub items : item_role (bare r) ≡ ignored
+  pub items : item_role (without_null r) ≡ ignored
   pub own : (ms : Members) → each_entry (entry_demands r) ms ≡ demands r n (object ms)
 
 pub entries_asked : (r : Role) (n : List ℕ) → OfEntries r n → (d : Data)
@@ -150,12 +153,13 @@ entries_asked r n o null = sym o.only.on_null
 entries_asked r n o (boolean b) = sym o.only.on_flag
 entries_asked r n o (number x) = sym o.only.on_number
 entries_asked r n o (string s) = sym (o.only.on_string s)
-entries_asked r n o (array ds) = sym (ap (λ x. array_demands (bare r) n ++ item_demands x n ds) o.items
-    ∙ (ap (λ x. array_demands (bare r) n ++ x) (no_items_asked n ds)
-    ∙ (append-nil (array_demands (bare r) n) ∙ o.only.on_array)))
+entries_asked r n o (array ds) = sym (ap (λ x. array_demands (without_null r) n ++ item_demands x n ds) o.items
+    ∙ (ap (λ x. array_demands (without_null r) n ++ x) (no_items_asked n ds)
+    ∙ (append-nil (array_demands (without_null r) n) ∙ o.only.on_array)))
 entries_asked r n o (object ms) = o.own ms
 
 -- what is read of the entries is read of the value
 pub reads_entries : {A : Type 0} (result : Result A ShapeFault) (r : Role) (n : List ℕ) (d : Data) (P : A → Type 0)
-    → OfEntries r n → Reads result (of_object (each_entry (entry_demands r)) n d) P → Reads result (demands r n d) P
-reads_entries result r n d P o h = subst (λ ds. Reads result ds P) (entries_asked r n o d) h
+    → OfEntries r n → ReadsValue result (of_object (each_entry (entry_demands r)) n d) P
+    → ReadsValue result (demands r n d) P
+reads_entries result r n d P o h = subst (λ ds. ReadsValue result ds P) (entries_asked r n o d) h

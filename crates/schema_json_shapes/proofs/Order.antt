@@ -14,6 +14,7 @@ use Rattle.serde_json.specs.View.{members_view}
 use Rattle.serde_json.proofs.Views.{Entry}
 use Rattle.schema_json_shapes.specs.Walk.{Role, Demand, demands, member_demands}
 use Rattle.schema_json_shapes.specs.Reads.{field_demands}
+use Rattle.schema_json_shapes.proofs.Demands.{rows}
 
 abbrev key_cmp : List ℕ → List ℕ → Ordering
 key_cmp = slice_cmp nat_cmp
@@ -90,6 +91,16 @@ module _ (role : List ℕ → Role) where
   abbrev pub fields_demands : List (List ℕ) → Members → List Demand
   fields_demands [] ms = []
   fields_demands (n ∷ ns) ms = field_demands (role n) n (get_member n ms) ++ fields_demands ns ms
+
+  -- the demands of each field
+  abbrev pub field_rows : List (List ℕ) → Members → List (List Demand)
+  field_rows [] ms = [] ∷ []
+  field_rows (n ∷ ns) ms = field_demands (role n) n (get_member n ms) ∷ field_rows ns ms
+
+  pub in_rows : (ds : List Demand) (ns : List (List ℕ)) (ms : Members)
+      → rows ds (field_rows ns ms) ≡ ds ++ fields_demands ns ms
+  in_rows ds [] ms = refl
+  in_rows ds (n ∷ ns) ms = ap (λ t. ds ++ t) (in_rows (field_demands (role n) n (get_member n ms)) ns ms)
 
   none_there : (ns : List (List ℕ)) → fields_demands ns no_members ≡ []
   none_there [] = refl

@@ -11,7 +11,7 @@ use Rattle.schema_json.specs.declared.types.TypeVariant.TheVariants as variant
 use Rattle.schema_json_shapes.specs.declared.words.TypeWord.TheVariants as word
 use Rattle.schema_json_shapes.specs.Walk.{flag_or}
 use Rattle.schema_json_shapes.specs.Said.{IsType, IsNamed, IsWordNamed, HasWord, HasAttributes, SaysTyped, plain}
-use Rattle.schema_json_shapes.specs.Said.{record_of, entity_type, either_type, extension_type, set_type, record_type}
+use Rattle.schema_json_shapes.specs.Said.{record_with, entity_type, either_type, extension_type, set_type, record_type}
 use Rattle.schema_json_shapes.proofs.Attributes.{AttributeEntry}
 
 pub entity_says : (ms : Members) (d : Data) (n : RawName) → HasWord ms word.Entity
@@ -56,7 +56,7 @@ set_says ms d t e a r w f h same =
 
 pub record_says : (ms : Members) (d : Data) (es : List AttributeEntry) (is_open : Bool) → HasWord ms word.Record
     → get_member (codes "attributes") ms ≡ Some d → HasAttributes d es
-    → is_open ≡ flag_or false (get_member (codes "additionalAttributes") ms) → IsType (object ms) (record_of es is_open)
+    → is_open ≡ flag_or false (get_member (codes "additionalAttributes") ms) → IsType (object ms) (record_with es is_open)
 record_says ms null es b w e h o = absurd h
 record_says ms (boolean c) es b w e h o = absurd h
 record_says ms (number x) es b w e h o = absurd h
@@ -64,6 +64,6 @@ record_says ms (string s) es b w e h o = absurd h
 record_says ms (array ds) es b w e h o = absurd h
 record_says ms (object attributes) es b w e h o =
     let flag = flag_or false (get_member (codes "additionalAttributes") ms) in
-    subst (λ x. IsType (object ms) (record_of es x)) (sym o)
-    (subst (λ (xs : List AttributeEntry). IsType (object ms) (record_of xs flag)) (sym h.2)
+    subst (λ x. IsType (object ms) (record_with es x)) (sym o)
+    (subst (λ (xs : List AttributeEntry). IsType (object ms) (record_with xs flag)) (sym h.2)
     (record_type ms attributes h.0 w e h.1))

@@ -1,7 +1,7 @@
 -- The members of an object that fits its table.
 use Rattle.std.proofs.Common.{◌≡◌, ℕ, Bool, true, false, not, cond, List, [], ◌∷◌, Option, Some, None, inl, inr, refl}
-use Rattle.std.proofs.Common.{sym, ap, ◌∙◌, subst}
-use Rattle.std.specs.Prelude.{◌⊎◌, ◌||◌, ◌&&◌, option_map, is_some}
+use Rattle.std.proofs.Common.{sym, ap, ◌∙◌, subst, true≢false}
+use Rattle.std.specs.Prelude.{◌⊎◌, ◌||◌, option_map, is_some}
 use Rattle.std.specs.List.{list_any, list_all}
 use Rattle.std.specs.Ordering.{nat_cmp, match_ordering}
 use Rattle.std.specs.Cmp.Lexicographic.{slice_cmp}
@@ -10,6 +10,7 @@ use Rattle.std.specs.declared.cmp.Ordering.{Ordering}
 use Rattle.std.specs.declared.cmp.Ordering.TheVariants.{Less, Equal, Greater}
 use Rattle.std.proofs.lemmas.Slice.Eq.{bytes_eq-Decides}
 use Rattle.std.proofs.lemmas.Map.Text.{is_eq-slice_cmp}
+use Rattle.std.proofs.lemmas.Bool.{and_parts}
 use Rattle.std.proofs.Common.{is_eq}
 use Rattle.serde_json.specs.Data.{Data, Members, no_members, member}
 use Rattle.serde_json.specs.Find.{get_member}
@@ -30,17 +31,13 @@ found : (k : List ℕ) (ns : List (List ℕ)) → list_any (bytes_eq k) ns ≡ t
 found k [] e = absurd (cc)
 found k (n ∷ ns) e = found_at k n ns (bytes_eq k n) refl (found k ns) e
 
-both : (a b : Bool) → (a && b) ≡ true → (a ≡ true) × (b ≡ true)
-both true b e = (refl, e)
-both false b e = absurd (cc)
-
 module _ (ns : List (List ℕ)) where
   of_table_at : (f : Field) (fs : List Field) (k : List ℕ) (b : Bool) → bytes_eq f.name k ≡ b
       → (among ns fs ≡ true → is_field fs k ≡ true → Among k ns) → among ns (f ∷ fs) ≡ true
       → (b || is_field fs k) ≡ true → Among k ns
   of_table_at f fs k true e rest h g =
-      subst (λ x. Among x ns) ((bytes_eq-Decides f.name k).0 e) (found f.name ns (both _ _ h).0)
-  of_table_at f fs k false e rest h g = rest (both _ _ h).1 g
+      subst (λ x. Among x ns) ((bytes_eq-Decides f.name k).0 e) (found f.name ns (and_parts _ _ h).0)
+  of_table_at f fs k false e rest h g = rest (and_parts _ _ h).1 g
 
   of_table : (fs : List Field) (k : List ℕ) → among ns fs ≡ true → is_field fs k ≡ true → Among k ns
   of_table [] k h e = absurd (cc)
@@ -96,13 +93,10 @@ needed_there n (f ∷ fs) ms (inl is) e =
 needed_there n (f ∷ fs) ms (inr h) e =
     needed_there n fs ms h (first_there (is_missing f ms) f.name (first_missing fs ms) e).1
 
-true_false : true ≡ false → ⊥
-true_false e = cc
-
 unknown_here : (o : Ordering) (b : Bool) (d : Data) (k : List ℕ) (p : Option Data) (rest : Option (List ℕ))
     → (is_eq o ≡ true → b ≡ false) → cond b rest (Some k) ≡ None → p ≡ None → match_ordering o p (Some d) p ≡ None
 unknown_here Less b d k p rest f e h = h
-unknown_here Equal true d k p rest f e h = absurd (true_false (f refl))
+unknown_here Equal true d k p rest f e h = absurd (true≢false (f refl))
 unknown_here Equal false d k p rest f e h = absurd (cc)
 unknown_here Greater b d k p rest f e h = h
 

@@ -1,17 +1,39 @@
 -- What objects that fit their tables must keep, field after field.
-use Rattle.std.proofs.Common.{◌≡◌, ℕ, List, [], ◌∷◌, ◌++◌, inl, inr, refl, ap}
+use Rattle.std.proofs.Common.{◌≡◌, ℕ, List, [], ◌∷◌, ◌++◌, inl, inr, refl, ap, Result, sym, subst, ◌∙◌}
 use Rattle.std.specs.Prelude.{codes, true}
+use Rattle.std.specs.Result.{IsErrAnd}
 use Rattle.serde_json.specs.Data.{object, Members}
 use Rattle.serde_json.specs.Find.{get_member}
 use Rattle.schema_json_shapes.specs.Tables.{namespace_fields, entity_type_fields, action_fields, applies_to_fields}
 use Rattle.schema_json_shapes.specs.Tables.{action_id_fields}
 use Rattle.schema_json_shapes.specs.Walk.{AllMet, demands, object_demands, is_there, namespace, namespace_member}
 use Rattle.schema_json_shapes.specs.Walk.{entity_type, entity_type_member, action, action_member, applies_to}
-use Rattle.schema_json_shapes.specs.Walk.{applies_to_member, action_id, action_id_member}
-use Rattle.schema_json_shapes.proofs.Order.{Rises, NamesRise, fields_demands}
+use Rattle.schema_json_shapes.specs.Walk.{applies_to_member, action_id, action_id_member, Role, Demand}
+use Rattle.schema_json_shapes.specs.declared.shape_fault.ShapeFault.{ShapeFault}
+use Rattle.schema_json_shapes.specs.Reads.{IsDemandFault, ReadsValue}
+use Rattle.schema_json_shapes.proofs.Order.{Rises, NamesRise, fields_demands, field_rows, in_rows}
 use Rattle.schema_json_shapes.proofs.Tabled.{tabled, none_missing, needed_there}
+use Rattle.schema_json_shapes.proofs.Demands.{rows, row_fails, rows_met, refused, IfFails, IfEachMet}
 
-abbrev namespace_names : List (List ℕ)
+-- an object whose fields are read one after the other
+module _ (r : Role) (label : List ℕ) (role : List ℕ → Role) (ns : List (List ℕ)) (ms : Members)
+    (whole : demands r label (object ms) ≡ object_demands r label ms ++ fields_demands role ns ms) where
+  abbrev own : List Demand
+  own = object_demands r label ms
+
+  is_whole : rows own (field_rows role ns ms) ≡ demands r label (object ms)
+  is_whole = in_rows role own ns ms ∙ sym whole
+
+  pub field_refused : {X : Type 0} (P : X → Type 0) (k : ℕ) (x : Result X ShapeFault) (e : ShapeFault)
+      → IsErrAnd x (λ y. y ≡ e) → IfFails k own (field_rows role ns ms) e (ReadsValue x (demands r label (object ms)) P)
+  field_refused P k x e h =
+      row_fails k own (field_rows role ns ms) e _
+      (λ f. refused x e (demands r label (object ms)) P h (subst (λ ds. IsDemandFault ds e) is_whole f))
+
+  pub fields_met : IfEachMet own (field_rows role ns ms) (AllMet (demands r label (object ms)))
+  fields_met = rows_met own (field_rows role ns ms) _ (λ h. subst AllMet is_whole h)
+
+abbrev pub namespace_names : List (List ℕ)
 namespace_names = codes "actions" ∷ codes "annotations" ∷ codes "commonTypes" ∷ codes "entityTypes" ∷ []
 
 namespace_rise : NamesRise namespace_names
@@ -24,7 +46,7 @@ namespace_whole n ms rises own =
     ap (λ t. object_demands namespace n ms ++ t)
     (tabled namespace_member namespace_names namespace_fields ms namespace_rise refl rises (own.0, (own.1.0, tt)))
 
-abbrev entity_type_names : List (List ℕ)
+abbrev pub entity_type_names : List (List ℕ)
 entity_type_names = codes "annotations" ∷ codes "enum" ∷ codes "external" ∷ codes "memberOfTypes" ∷ codes "shape"
     ∷ codes "tags" ∷ []
 
@@ -42,7 +64,7 @@ entity_type_whole n ms rises own =
     (tabled entity_type_member entity_type_names entity_type_fields ms entity_type_rise refl rises
     (own.0, (own.1.0, tt)))
 
-abbrev action_names : List (List ℕ)
+abbrev pub action_names : List (List ℕ)
 action_names = codes "annotations" ∷ codes "appliesTo" ∷ codes "attributes" ∷ codes "external" ∷ codes "memberOf" ∷ []
 
 action_rise : NamesRise action_names
@@ -56,7 +78,7 @@ pub action_whole : (n : List ℕ) (ms : Members) → Rises ms → AllMet (object
 action_whole n ms rises own = ap (λ t. object_demands action n ms ++ t)
     (tabled action_member action_names action_fields ms action_rise refl rises (own.0, (own.1.0, tt)))
 
-abbrev applies_to_names : List (List ℕ)
+abbrev pub applies_to_names : List (List ℕ)
 applies_to_names = codes "context" ∷ codes "principalTypes" ∷ codes "resourceTypes" ∷ []
 
 applies_to_rise : NamesRise applies_to_names
@@ -69,7 +91,7 @@ applies_to_whole n ms rises own =
     ap (λ t. object_demands applies_to n ms ++ t)
     (tabled applies_to_member applies_to_names applies_to_fields ms applies_to_rise refl rises (own.0, (own.1.0, tt)))
 
-abbrev action_id_names : List (List ℕ)
+abbrev pub action_id_names : List (List ℕ)
 action_id_names = codes "id" ∷ codes "type" ∷ []
 
 action_id_rise : NamesRise action_id_names

@@ -6,12 +6,12 @@ use Rattle.schema_json_shapes.specs.declared.shape_fault.ShapeFault.TheVariants.
 use Rattle.schema_json_shapes.specs.Walk.{Role, Demand, demands, AllMet, FirstUnmet}
 
 -- memory was out, or this is the fault of the first demand that is not met
-abbrev pub IsFault : List Demand → ShapeFault → Type 0
-IsFault ds e = (e ≡ Memory) ⊎ FirstUnmet ds e
+abbrev pub IsDemandFault : List Demand → ShapeFault → Type 0
+IsDemandFault ds e = (e ≡ Memory) ⊎ FirstUnmet ds e
 
 -- all demands are met and the answer says so, or it is the fault of the first that is not
-abbrev pub Reads : {A : Type 0} → Result A ShapeFault → List Demand → (A → Type 0) → Type 0
-Reads r ds Says = MatchResult r (λ x. AllMet ds × Says x) (IsFault ds)
+abbrev pub ReadsValue : {A : Type 0} → Result A ShapeFault → List Demand → (A → Type 0) → Type 0
+ReadsValue r ds Says = MatchResult r (λ x. AllMet ds × Says x) (IsDemandFault ds)
 
 -- nothing is asked of the answer
 abbrev pub Any : {A : Type 0} → A → Type 0

@@ -20,6 +20,7 @@ use Rattle.schema_json.specs.declared.types.TypeVariant.{TypeVariant}
 use Rattle.schema_json.specs.declared.types.TypeVariant.TheVariants as variant
 use Rattle.schema_json.specs.declared.types.RecordType.{roll-RecordType}
 use Rattle.schema_json.specs.declared.types.TypeOfAttribute.{TypeOfAttribute, out-TypeOfAttribute}
+use Rattle.schema_json.specs.Orders.{annotation_key_cmp}
 use Rattle.schema_json_shapes.specs.declared.words.TypeWord.{TypeWord}
 use Rattle.schema_json_shapes.specs.declared.words.TypeWord.TheVariants as word
 use Rattle.schema_json_shapes.specs.Tables.{word_of}
@@ -109,10 +110,6 @@ IsChoice _ e = ⊥
 
 -- ---- annotations
 
--- the order of annotation keys: by the bytes of their texts
-abbrev pub annotation_order : AnyId → AnyId → Ordering
-annotation_order a b = text_cmp a.text b.text
-
 -- what the value of an annotation says: a text, or none where it is null
 abbrev pub IsAnnotation : Data → Option (List ℕ) → Type 0
 IsAnnotation null o = o ≡ None
@@ -120,8 +117,8 @@ IsAnnotation (string s) o = o ≡ Some (chars s)
 IsAnnotation _ o = ⊥
 
 -- the annotations are the map of the object's members, of which there are none where it is absent
-abbrev pub AreAnnotations : Option Data → Annotations → Type 0
-AreAnnotations o a = IsMapOrNone annotation_order IsAnyId IsAnnotation o a.0
+abbrev pub IsAnnotationMap : Option Data → Annotations → Type 0
+IsAnnotationMap o a = IsMapOrNone annotation_key_cmp IsAnyId IsAnnotation o a.0
 
 -- ---- types
 
@@ -134,8 +131,8 @@ pub record HasWord (ms : Members) (w : TypeWord) : Type 0 where
 abbrev pub plain : TypeVariant RawName → «Type» RawName
 plain v = Variant v None
 
-abbrev pub record_of : List (List ℕ × TypeOfAttribute RawName) → Bool → «Type» RawName
-record_of attributes is_open =
+abbrev pub record_with : List (List ℕ × TypeOfAttribute RawName) → Bool → «Type» RawName
+record_with attributes is_open =
     plain (variant.Record (roll-RecordType RawName
     (record { attributes = attributes; additional_attributes = is_open })))
 
@@ -150,7 +147,7 @@ mutual
         → IsType (object ms) (plain (variant.Set t))
     record_type : (ms attributes : Members) (es : List (List ℕ × TypeOfAttribute RawName)) → HasWord ms word.Record
         → get_member (codes "attributes") ms ≡ Some (object attributes) → AreAttributes attributes es
-        → IsType (object ms) (record_of (map_of text_cmp es)
+        → IsType (object ms) (record_with (map_of text_cmp es)
         (flag_or false (get_member (codes "additionalAttributes") ms)))
     entity_type : (ms : Members) (s : List ℕ) (n : RawName) → HasWord ms word.Entity
         → get_member (codes "name") ms ≡ Some (string s) → IsRawName s n
@@ -170,14 +167,14 @@ mutual
     next_attribute : (k : List ℕ) (beside : Members) (ms : Members) (a : TypeOfAttribute RawName)
         (es : List (List ℕ × TypeOfAttribute RawName))
         → IsType (object beside) (out-TypeOfAttribute RawName a).ty
-        → AreAnnotations (get_member (codes "annotations") beside) (out-TypeOfAttribute RawName a).annotations
+        → IsAnnotationMap (get_member (codes "annotations") beside) (out-TypeOfAttribute RawName a).annotations
         → (out-TypeOfAttribute RawName a).required ≡ flag_or true (get_member (codes "required") beside)
         → AreAttributes ms es → AreAttributes (member k (object beside) ms) ((chars k, a) ∷ es)
 
 -- the object says the type, its annotations, and whether it is required
 pub record IsTyped (ms : Members) (ty : «Type» RawName) (annotations : Annotations) (required : Bool) : Type 0 where
   pub says : IsType (object ms) ty
-  pub annotated : AreAnnotations (get_member (codes "annotations") ms) annotations
+  pub annotated : IsAnnotationMap (get_member (codes "annotations") ms) annotations
   pub marked : required ≡ flag_or true (get_member (codes "required") ms)
 
 -- the value is an object that says the type, its annotations, and whether it is required

@@ -1,9 +1,6 @@
 -- What the value of a fragment says, part by part.
 use Rattle.std.specs.Prelude.{◌≡◌, ℕ, false, List, [], ◌∷◌, codes, Option, Some, None}
 use Rattle.std.specs.Str.{chars}
-use Rattle.std.specs.declared.cmp.Ordering.{Ordering}
-use Rattle.std.specs.declared.cmp.Ordering.TheVariants.{Less, Equal, Greater}
-use Rattle.std.specs.Cmp.Lexicographic.{slice_cmp}
 use Rattle.serde_json.specs.Data.{Data, string, object, Members, no_members, member}
 use Rattle.serde_json.specs.Find.{get_member}
 use Rattle.cedar_data.specs.Text.{text_cmp}
@@ -13,7 +10,6 @@ use Rattle.cedar_identifiers.specs.declared.name_kind.NameKind.TheVariants as ki
 use Rattle.cedar_identifiers.specs.declared.name.Name.{Name}
 use Rattle.cedar_identifiers.specs.declared.name_text.NameText as ghosts
 use Rattle.cedar_identifiers.specs.declared.raw_name.RawName.{RawName}
-use Rattle.cedar_identifiers.specs.declared.unreserved_id.UnreservedId.{UnreservedId}
 use Rattle.schema_json.specs.Shapes.{record_type, empty_record}
 use Rattle.schema_json.specs.declared.types.Type.{«Type»}
 use Rattle.schema_json.specs.declared.common_type.CommonType.{CommonType}
@@ -27,21 +23,22 @@ use Rattle.schema_json.specs.declared.action_type.ActionEntityUID.{ActionEntityU
 use Rattle.schema_json.specs.declared.action_type.ApplySpec.{ApplySpec}
 use Rattle.schema_json.specs.declared.fragment.Fragment.{Fragment}
 use Rattle.schema_json.specs.declared.fragment.NamespaceDefinition.{NamespaceDefinition}
+use Rattle.schema_json.specs.Orders.{unreserved_cmp, common_cmp, namespace_cmp}
 use Rattle.schema_json_shapes.specs.declared.shape_fault.ShapeFault.{ShapeFault}
 use Rattle.schema_json_shapes.specs.Walk.{fragment, demands, AllMet, FirstUnmet, flag_or}
 use Rattle.schema_json_shapes.specs.Said.{IsId, IsText, IsNamed, IsChoice, IsOptional, not_null, IsList, IsListOrNone}
-use Rattle.schema_json_shapes.specs.Said.{IsMap, IsMapOrNone, AreAnnotations, IsType}
+use Rattle.schema_json_shapes.specs.Said.{IsMap, IsMapOrNone, IsAnnotationMap, IsType}
 
 -- ---- common types and entity types
 
 -- a shape or a context, which is the empty record where it is absent
-abbrev pub IsShape : Option Data → «Type» RawName → Type 0
-IsShape None t = t ≡ record_type empty_record
-IsShape (Some d) t = IsType d t
+abbrev pub IsShapeOrNone : Option Data → «Type» RawName → Type 0
+IsShapeOrNone None t = t ≡ record_type empty_record
+IsShapeOrNone (Some d) t = IsType d t
 
 pub record IsCommonTypeIn (ms : Members) (c : CommonType RawName) : Type 0 where
   pub says : IsType (object ms) c.ty
-  pub annotated : AreAnnotations (get_member (codes "annotations") ms) c.annotations
+  pub annotated : IsAnnotationMap (get_member (codes "annotations") ms) c.annotations
   pub placeless : c.loc ≡ None
 
 -- the value is an object that says the common type: its type and its annotations, without a place
@@ -49,21 +46,21 @@ abbrev pub IsCommonType : Data → CommonType RawName → Type 0
 IsCommonType (object ms) c = IsCommonTypeIn ms c
 IsCommonType _ c = ⊥
 
-pub record IsStandard (ms : Members) (s : StandardEntityType RawName) : Type 0 where
+pub record IsStandardEntity (ms : Members) (s : StandardEntityType RawName) : Type 0 where
   pub no_enum : get_member (codes "enum") ms ≡ None
   pub parents : IsListOrNone IsNamed (get_member (codes "memberOfTypes") ms) s.member_of_types
-  pub shaped : IsShape (get_member (codes "shape") ms) s.shape.0
+  pub shaped : IsShapeOrNone (get_member (codes "shape") ms) s.shape.0
   pub tagged : IsOptional IsType (get_member (codes "tags") ms) s.tags
 
 -- the members say the kind: an enum where `enum` is there, and else a standard entity type
 abbrev pub IsKind : Members → EntityTypeKind RawName → Type 0
-IsKind ms (Standard s) = IsStandard ms s
+IsKind ms (Standard s) = IsStandardEntity ms s
 IsKind ms (Enum choices) = (d : Data) × (get_member (codes "enum") ms ≡ Some d) × IsList IsChoice d choices
 
 pub record IsEntityTypeIn (ms : Members) (e : EntityType RawName) : Type 0 where
   pub is_kind : IsKind ms e.kind
   pub marked : e.external ≡ flag_or false (get_member (codes "external") ms)
-  pub annotated : AreAnnotations (get_member (codes "annotations") ms) e.annotations
+  pub annotated : IsAnnotationMap (get_member (codes "annotations") ms) e.annotations
   pub placeless : e.loc ≡ None
 
 -- the value is an object that says the entity type: its kind, whether it is external, its annotations, and no place
@@ -86,7 +83,7 @@ AreKeys _ ks = ⊥
 pub record IsAppliesToIn (ms : Members) (a : ApplySpec RawName) : Type 0 where
   pub resources : (d : Data) × (get_member (codes "resourceTypes") ms ≡ Some d) × IsList IsNamed d a.resource_types
   pub principals : (d : Data) × (get_member (codes "principalTypes") ms ≡ Some d) × IsList IsNamed d a.principal_types
-  pub in_context : IsShape (get_member (codes "context") ms) a.context.0
+  pub in_context : IsShapeOrNone (get_member (codes "context") ms) a.context.0
 
 -- the value is an object that says what an action applies to: resources, principals and the context
 abbrev pub IsAppliesTo : Data → ApplySpec RawName → Type 0
@@ -111,21 +108,6 @@ IsNamespaceKey (c ∷ s) key = (n : Name) × (key ≡ Some n) × IsNamespaceName
 abbrev pub IsCommonId : List ℕ → CommonTypeId → Type 0
 IsCommonId s id = IsId s id.id
 
--- the order of words: by the bytes of their texts
-abbrev pub id_order : UnreservedId → UnreservedId → Ordering
-id_order a b = text_cmp a.id.text b.id.text
-
--- the order of the names of common types: by the bytes of their texts
-abbrev pub common_id_order : CommonTypeId → CommonTypeId → Ordering
-common_id_order a b = id_order a.id b.id
-
--- the order of namespaces: the empty one first, the others by the texts of their components
-abbrev pub namespace_order : Option Name → Option Name → Ordering
-namespace_order None None = Equal
-namespace_order None (Some b) = Less
-namespace_order (Some a) None = Greater
-namespace_order (Some a) (Some b) = slice_cmp text_cmp (components_of a.name) (components_of b.name)
-
 module _ {G : ghosts.Ghosts RawName} where
   pub record IsActionIdIn (ms : Members) (u : ActionEntityUID RawName G) : Type 0 where
     pub named : IsTextIn (get_member (codes "id") ms) u.id
@@ -141,7 +123,7 @@ module _ {G : ghosts.Ghosts RawName} where
     pub applied : IsOptional IsAppliesTo (not_null (get_member (codes "appliesTo") ms)) a.applies_to
     pub parents : IsOptional (IsList IsActionId) (not_null (get_member (codes "memberOf") ms)) a.member_of
     pub marked : a.external ≡ flag_or false (get_member (codes "external") ms)
-    pub annotated : AreAnnotations (get_member (codes "annotations") ms) a.annotations
+    pub annotated : IsAnnotationMap (get_member (codes "annotations") ms) a.annotations
     pub placeless : a.loc ≡ None
 
   -- the value is an object that says the action: its parts, whether it is external, its annotations, and no place
@@ -152,11 +134,11 @@ module _ {G : ghosts.Ghosts RawName} where
   -- ---- namespaces and fragments
 
   pub record IsNamespaceIn (ms : Members) (n : NamespaceDefinition RawName G) : Type 0 where
-    pub commons : IsMapOrNone common_id_order IsCommonId IsCommonType (get_member (codes "commonTypes") ms)
+    pub commons : IsMapOrNone common_cmp IsCommonId IsCommonType (get_member (codes "commonTypes") ms)
         n.common_types
-    pub entities : IsMapOrNone id_order IsId IsEntityType (get_member (codes "entityTypes") ms) n.entity_types
+    pub entities : IsMapOrNone unreserved_cmp IsId IsEntityType (get_member (codes "entityTypes") ms) n.entity_types
     pub actions : IsMapOrNone text_cmp IsText IsAction (get_member (codes "actions") ms) n.actions
-    pub annotated : AreAnnotations (get_member (codes "annotations") ms) n.annotations
+    pub annotated : IsAnnotationMap (get_member (codes "annotations") ms) n.annotations
 
   -- the value is an object that says the namespace: its common types, entity types and actions, and its annotations
   abbrev pub IsNamespace : Data → NamespaceDefinition RawName G → Type 0
@@ -165,7 +147,7 @@ module _ {G : ghosts.Ghosts RawName} where
 
   -- the value says the fragment
   abbrev pub IsFragment : Data → Fragment RawName G → Type 0
-  IsFragment d f = IsMap namespace_order IsNamespaceKey IsNamespace d f.0
+  IsFragment d f = IsMap namespace_cmp IsNamespaceKey IsNamespace d f.0
 
   -- the value is lawful, and says the fragment
   abbrev pub JsonShape : Data → Fragment RawName G → Type 0

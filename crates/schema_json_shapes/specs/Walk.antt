@@ -214,13 +214,13 @@ item_role action_ids = action_id
 item_role _ = ignored
 
 -- what the key of a namespace must keep: it is a name, or the empty text of the empty namespace
-abbrev pub namespace_key : List ℕ → List Demand
-namespace_key [] = []
-namespace_key (c ∷ s) = is_name role.Namespace (c ∷ s) ∷ []
+abbrev pub namespace_key_demands : List ℕ → List Demand
+namespace_key_demands [] = []
+namespace_key_demands (c ∷ s) = is_name role.Namespace (c ∷ s) ∷ []
 
 -- what a key must keep, before its value
 abbrev pub key_demands : Role → List ℕ → List Demand
-key_demands fragment k = namespace_key k
+key_demands fragment k = namespace_key_demands k
 key_demands common_types k = is_name role.Id k ∷ no_keyword k ∷ []
 key_demands entity_types k = is_name role.Id k ∷ []
 key_demands annotations k = is_name role.Annotation k ∷ []
@@ -374,9 +374,9 @@ abbrev pub number_demands : Role → List ℕ → List Demand
 number_demands ignored n = []
 number_demands _ n = wrong_type n
 
-abbrev pub bare : Role → Role
-bare (or_null r) = r
-bare r = r
+abbrev pub without_null : Role → Role
+without_null (or_null r) = r
+without_null r = r
 
 -- ---- the walk
 
@@ -384,12 +384,12 @@ bare r = r
 abbrev mutual
   pub demands : Role → List ℕ → Data → List Demand
   demands r n null = null_demands r n
-  demands r n (boolean b) = flag_demands (bare r) n
-  demands r n (number x) = number_demands (bare r) n
-  demands r n (string s) = string_demands (bare r) n s
-  demands r n (array ds) = array_demands (bare r) n ++ item_demands (item_role (bare r)) n ds
-  demands r n (object ms) = object_demands (bare r) n ms
-      ++ member_demands (key_demands (bare r)) (member_role (bare r) ms) ms
+  demands r n (boolean b) = flag_demands (without_null r) n
+  demands r n (number x) = number_demands (without_null r) n
+  demands r n (string s) = string_demands (without_null r) n s
+  demands r n (array ds) = array_demands (without_null r) n ++ item_demands (item_role (without_null r)) n ds
+  demands r n (object ms) = object_demands (without_null r) n ms
+      ++ member_demands (key_demands (without_null r)) (member_role (without_null r) ms) ms
 
   pub item_demands : Role → List ℕ → Items → List Demand
   item_demands r n no_items = []

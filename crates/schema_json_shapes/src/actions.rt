@@ -6,7 +6,7 @@ ghost use Rattle.serde_json.specs.Find.{get_member};
 ghost use Rattle.schema_json_shapes.specs.Walk.{action, applies_to, action_ids, action_id, keys, named, or_null, demands, item_demands, object_demands};
 ghost use Rattle.schema_json_shapes.specs.Said.{IsNamed, IsList, AreItems, IsOptional, not_null};
 ghost use Rattle.schema_json_shapes.specs.Shapes.{AreKeys, IsAction, IsActionIn, IsAppliesTo, IsAppliesToIn, IsActionId, IsActionIdIn, key_texts};
-ghost use Rattle.schema_json_shapes.specs.Reads.{Reads, Any, field_demands};
+ghost use Rattle.schema_json_shapes.specs.Reads.{ReadsValue, Any, field_demands};
 
 use crate::annotations::annotations_at;
 use crate::conflicts::check_external_action;
@@ -29,7 +29,7 @@ pub fn read_action(
     value: &Value,
     label: &str,
 ) -> Result<ActionType<RawName>, ShapeFault>
-    ensures { Reads result (demands action label.now (view value.now)) (IsAction (view value.now)) }
+    ensures { ReadsValue result (demands action label.now (view value.now)) (IsAction (view value.now)) }
 {
     match value.as_object() {
         Some(members) => read_members(alloc, members),
@@ -39,7 +39,7 @@ pub fn read_action(
 
 fn read_members(alloc: Global, members: &Members) -> Result<ActionType<RawName>, ShapeFault>
     ensures { let ms = members_view members.now.entries in
-        Reads result (demands action [] (object ms)) (IsActionIn ms) }
+        ReadsValue result (demands action [] (object ms)) (IsActionIn ms) }
 {
     let _ = members.len();
     check_members(alloc, members)?;
@@ -60,7 +60,7 @@ fn read_members(alloc: Global, members: &Members) -> Result<ActionType<RawName>,
 
 // What the object itself must keep.
 fn check_members(alloc: Global, members: &Members) -> Result<(), ShapeFault>
-    ensures { Reads result (object_demands action [] (members_view members.now.entries)) Any }
+    ensures { ReadsValue result (object_demands action [] (members_view members.now.entries)) Any }
 {
     check_fields(alloc, action_fields(), members)?;
     check_external_action(alloc, members)
@@ -69,7 +69,7 @@ fn check_members(alloc: Global, members: &Members) -> Result<(), ShapeFault>
 /// The names of the attributes, where they are there and not null.
 pub fn attributes_at(alloc: Global, members: &Members) -> Result<Option<Set<Text>>, ShapeFault>
     ensures { let o = get_member (codes "attributes") (members_view members.now.entries) in
-        Reads result (field_demands (or_null keys) (codes "attributes") o) (IsOptional AreKeys (not_null o)) }
+        ReadsValue result (field_demands (or_null keys) (codes "attributes") o) (IsOptional AreKeys (not_null o)) }
 {
     match given_at(members, "attributes") {
         Some(value) => Ok(Some(read_attributes(alloc, value)?)),
@@ -78,7 +78,7 @@ pub fn attributes_at(alloc: Global, members: &Members) -> Result<Option<Set<Text
 }
 
 fn read_attributes(alloc: Global, value: &Value) -> Result<Set<Text>, ShapeFault>
-    ensures { Reads result (demands keys (codes "attributes") (view value.now)) (AreKeys (view value.now)) }
+    ensures { ReadsValue result (demands keys (codes "attributes") (view value.now)) (AreKeys (view value.now)) }
 {
     match value.as_object() {
         Some(members) => Ok(read_keys(alloc, members)?),
@@ -100,7 +100,7 @@ fn read_keys(alloc: Global, members: &Members) -> Result<Set<Text>, AllocError>
 
 fn applies_to_at(alloc: Global, members: &Members) -> Result<Option<ApplySpec<RawName>>, ShapeFault>
     ensures { let o = get_member (codes "appliesTo") (members_view members.now.entries) in
-        Reads result (field_demands (or_null applies_to) (codes "appliesTo") o) (IsOptional IsAppliesTo (not_null o)) }
+        ReadsValue result (field_demands (or_null applies_to) (codes "appliesTo") o) (IsOptional IsAppliesTo (not_null o)) }
 {
     match given_at(members, "appliesTo") {
         Some(value) => Ok(Some(read_applies_to(alloc, value)?)),
@@ -109,7 +109,7 @@ fn applies_to_at(alloc: Global, members: &Members) -> Result<Option<ApplySpec<Ra
 }
 
 fn read_applies_to(alloc: Global, value: &Value) -> Result<ApplySpec<RawName>, ShapeFault>
-    ensures { Reads result (demands applies_to (codes "appliesTo") (view value.now)) (IsAppliesTo (view value.now)) }
+    ensures { ReadsValue result (demands applies_to (codes "appliesTo") (view value.now)) (IsAppliesTo (view value.now)) }
 {
     match value.as_object() {
         Some(members) => read_applies_to_members(alloc, members),
@@ -122,7 +122,7 @@ fn read_applies_to_members(
     members: &Members,
 ) -> Result<ApplySpec<RawName>, ShapeFault>
     ensures { let ms = members_view members.now.entries in
-        Reads result (demands applies_to (codes "appliesTo") (object ms)) (IsAppliesToIn ms) }
+        ReadsValue result (demands applies_to (codes "appliesTo") (object ms)) (IsAppliesToIn ms) }
 {
     let _ = members.len();
     check_fields(alloc, applies_to_fields(), members)?;
@@ -143,7 +143,7 @@ fn parents_at(
     members: &Members,
 ) -> Result<Option<List<ActionEntityUID<RawName>>>, ShapeFault>
     ensures { let o = get_member (codes "memberOf") (members_view members.now.entries) in
-        Reads result (field_demands (or_null action_ids) (codes "memberOf") o)
+        ReadsValue result (field_demands (or_null action_ids) (codes "memberOf") o)
         (IsOptional (IsList IsActionId) (not_null o)) }
 {
     match given_at(members, "memberOf") {
@@ -153,7 +153,7 @@ fn parents_at(
 }
 
 fn read_parents(alloc: Global, value: &Value) -> Result<List<ActionEntityUID<RawName>>, ShapeFault>
-    ensures { Reads result (demands action_ids (codes "memberOf") (view value.now)) (IsList IsActionId (view value.now)) }
+    ensures { ReadsValue result (demands action_ids (codes "memberOf") (view value.now)) (IsList IsActionId (view value.now)) }
 {
     match value.as_array() {
         Some(items) => read_action_ids(alloc, items),
@@ -165,7 +165,7 @@ fn read_action_ids(
     alloc: Global,
     items: &Vec<Value>,
 ) -> Result<List<ActionEntityUID<RawName>>, ShapeFault>
-    ensures { Reads result (item_demands action_id (codes "memberOf") (items_view items.now.items))
+    ensures { ReadsValue result (item_demands action_id (codes "memberOf") (items_view items.now.items))
         (AreItems IsActionId (items_view items.now.items)) }
 {
     let mut parents = List::new(alloc);
@@ -177,7 +177,7 @@ fn read_action_ids(
 }
 
 fn read_action_id(alloc: Global, value: &Value) -> Result<ActionEntityUID<RawName>, ShapeFault>
-    ensures { Reads result (demands action_id (codes "memberOf") (view value.now)) (IsActionId (view value.now)) }
+    ensures { ReadsValue result (demands action_id (codes "memberOf") (view value.now)) (IsActionId (view value.now)) }
 {
     match value.as_object() {
         Some(members) => read_id_members(alloc, members),
@@ -187,7 +187,7 @@ fn read_action_id(alloc: Global, value: &Value) -> Result<ActionEntityUID<RawNam
 
 fn read_id_members(alloc: Global, members: &Members) -> Result<ActionEntityUID<RawName>, ShapeFault>
     ensures { let ms = members_view members.now.entries in
-        Reads result (demands action_id (codes "memberOf") (object ms)) (IsActionIdIn ms) }
+        ReadsValue result (demands action_id (codes "memberOf") (object ms)) (IsActionIdIn ms) }
 {
     let _ = members.len();
     check_fields(alloc, action_id_fields(), members)?;
@@ -200,7 +200,7 @@ fn read_id_members(alloc: Global, members: &Members) -> Result<ActionEntityUID<R
 /// The type of a reference to an action, where it is there and not null.
 pub fn action_type_at(alloc: Global, members: &Members) -> Result<Option<RawName>, ShapeFault>
     ensures { let o = get_member (codes "type") (members_view members.now.entries) in
-        Reads result (field_demands (or_null (named NameRole.Name)) (codes "type") o) (IsOptional IsNamed (not_null o)) }
+        ReadsValue result (field_demands (or_null (named NameRole.Name)) (codes "type") o) (IsOptional IsNamed (not_null o)) }
 {
     match given_at(members, "type") {
         Some(value) => Ok(Some(read_named(alloc, NameRole::Name, value, "type")?)),

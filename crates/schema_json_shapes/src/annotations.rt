@@ -3,8 +3,8 @@ ghost use Rattle.std.specs.Prelude.{codes};
 ghost use Rattle.serde_json.specs.View.{view, members_view};
 ghost use Rattle.serde_json.specs.Find.{get_member};
 ghost use Rattle.schema_json_shapes.specs.Walk.{annotations, annotation, demands};
-ghost use Rattle.schema_json_shapes.specs.Said.{IsAnyId, IsAnnotation, AreAnnotations};
-ghost use Rattle.schema_json_shapes.specs.Reads.{Reads, field_demands};
+ghost use Rattle.schema_json_shapes.specs.Said.{IsAnyId, IsAnnotation, IsAnnotationMap};
+ghost use Rattle.schema_json_shapes.specs.Reads.{ReadsValue, field_demands};
 ghost use Rattle.schema_json_shapes.specs.Entries.{entry_demands};
 
 use crate::entries::{Entry, read_map};
@@ -20,7 +20,7 @@ use std::alloc::Global;
 /// The annotations that stand beside something.
 pub fn annotations_at(alloc: Global, members: &Members) -> Result<Annotations, ShapeFault>
     ensures { let o = get_member (codes "annotations") (members_view members.now.entries) in
-        Reads result (field_demands annotations (codes "annotations") o) (AreAnnotations o) }
+        ReadsValue result (field_demands annotations (codes "annotations") o) (IsAnnotationMap o) }
 {
     match at(members, "annotations") {
         Some(value) => read_annotations(alloc, value),
@@ -29,8 +29,8 @@ pub fn annotations_at(alloc: Global, members: &Members) -> Result<Annotations, S
 }
 
 fn read_annotations(alloc: Global, value: &Value) -> Result<Annotations, ShapeFault>
-    ensures { Reads result (demands annotations (codes "annotations") (view value.now))
-        (AreAnnotations (Some (view value.now))) }
+    ensures { ReadsValue result (demands annotations (codes "annotations") (view value.now))
+        (IsAnnotationMap (Some (view value.now))) }
 {
     let notes = read_map::<Notes>(alloc, value, "annotations")?;
     Ok(Annotations(SharedMap::from_map(alloc, notes)?))
@@ -58,7 +58,7 @@ impl Entry for Notes {
 }
 
 fn read_annotation(alloc: Global, value: &Value, label: &str) -> Result<Option<Text>, ShapeFault>
-    ensures { Reads result (demands annotation label.now (view value.now)) (IsAnnotation (view value.now)) }
+    ensures { ReadsValue result (demands annotation label.now (view value.now)) (IsAnnotation (view value.now)) }
 {
     match value {
         Value::Null => Ok(None),

@@ -5,7 +5,7 @@ ghost use Rattle.serde_json.specs.View.{view, members_view};
 ghost use Rattle.serde_json.specs.Find.{get_member};
 ghost use Rattle.schema_json_shapes.specs.Seen.{name_texts};
 ghost use Rattle.schema_json_shapes.specs.Walk.{unless, present, flag_or, is_there, is_given, is_empty_list, has_members, external_conflict, enum_conflict, empty_enum, empty_annotated, not_external_type, not_external_action};
-ghost use Rattle.schema_json_shapes.specs.Reads.{Reads, Any};
+ghost use Rattle.schema_json_shapes.specs.Reads.{ReadsValue, Any};
 
 use crate::fields::{Members, at, given_at};
 use crate::shape_fault::ShapeFault;
@@ -66,7 +66,7 @@ fn is_external(members: &Members) -> bool
 /// Refuses what an external entity type may not have.
 pub fn check_external_type(alloc: Global, members: &Members) -> Result<(), ShapeFault>
     ensures { let ms = members_view members.now.entries in
-        Reads result (unless (external_conflict is_there not_external_type ms (get_member (codes "external") ms)) ∷ []) Any }
+        ReadsValue result (unless (external_conflict is_there not_external_type ms (get_member (codes "external") ms)) ∷ []) Any }
 {
     if !is_external(members) {
         return Ok(());
@@ -80,7 +80,7 @@ pub fn check_external_type(alloc: Global, members: &Members) -> Result<(), Shape
 /// Refuses what an external action may not have.
 pub fn check_external_action(alloc: Global, members: &Members) -> Result<(), ShapeFault>
     ensures { let ms = members_view members.now.entries in
-        Reads result (unless (external_conflict is_given not_external_action ms (get_member (codes "external") ms)) ∷ []) Any }
+        ReadsValue result (unless (external_conflict is_given not_external_action ms (get_member (codes "external") ms)) ∷ []) Any }
 {
     if !is_external(members) {
         return Ok(());
@@ -94,7 +94,7 @@ pub fn check_external_action(alloc: Global, members: &Members) -> Result<(), Sha
 /// Refuses what may not stand beside `enum`.
 pub fn check_enum(alloc: Global, members: &Members) -> Result<(), ShapeFault>
     ensures { let ms = members_view members.now.entries in
-        Reads result (unless (enum_conflict ms (get_member (codes "enum") ms)) ∷ []) Any }
+        ReadsValue result (unless (enum_conflict ms (get_member (codes "enum") ms)) ∷ []) Any }
 {
     if !is_there(members, "enum") {
         return Ok(());
@@ -108,7 +108,7 @@ pub fn check_enum(alloc: Global, members: &Members) -> Result<(), ShapeFault>
 /// Refuses an `enum` without choices.
 pub fn check_choices(members: &Members) -> Result<(), ShapeFault>
     ensures { let ms = members_view members.now.entries in
-        Reads result (unless (empty_enum (get_member (codes "enum") ms)) ∷ []) Any }
+        ReadsValue result (unless (empty_enum (get_member (codes "enum") ms)) ∷ []) Any }
 {
     match at(members, "enum") {
         Some(value) => {
@@ -132,7 +132,7 @@ fn is_empty_list(value: &Value) -> bool
 
 /// Refuses annotations of the empty namespace.
 pub fn check_annotated(members: &Members, key: &str) -> Result<(), ShapeFault>
-    ensures { Reads result (unless (empty_annotated key.now (members_view members.now.entries)) ∷ []) Any }
+    ensures { ReadsValue result (unless (empty_annotated key.now (members_view members.now.entries)) ∷ []) Any }
 {
     if !key.is_empty() {
         return Ok(());

@@ -5,9 +5,9 @@ ghost use Rattle.serde_json.specs.View.{view, items_view, members_view};
 ghost use Rattle.serde_json.specs.Find.{get_member};
 ghost use Rattle.schema_json_shapes.specs.Walk.{entity_type, names, texts, text, typed, demands, item_demands, object_demands, empty_enum, is_empty_list};
 ghost use Rattle.schema_json_shapes.specs.Said.{IsNamed, IsChoice, IsList, IsListOrNone, AreItems, IsOptional};
-ghost use Rattle.schema_json_shapes.specs.Shapes.{IsShape, IsEntityType, IsEntityTypeIn};
+ghost use Rattle.schema_json_shapes.specs.Shapes.{IsShapeOrNone, IsEntityType, IsEntityTypeIn};
 ghost use Rattle.schema_json_shapes.specs.EntityKinds.{kind_from};
-ghost use Rattle.schema_json_shapes.specs.Reads.{Reads, Any, field_demands};
+ghost use Rattle.schema_json_shapes.specs.Reads.{ReadsValue, Any, field_demands};
 
 use crate::annotations::annotations_at;
 use crate::conflicts::{check_choices, check_enum, check_external_type};
@@ -30,7 +30,7 @@ pub fn read_entity_type(
     value: &Value,
     label: &str,
 ) -> Result<EntityType<RawName>, ShapeFault>
-    ensures { Reads result (demands entity_type label.now (view value.now)) (IsEntityType (view value.now)) }
+    ensures { ReadsValue result (demands entity_type label.now (view value.now)) (IsEntityType (view value.now)) }
 {
     match value.as_object() {
         Some(members) => read_members(alloc, members),
@@ -40,7 +40,7 @@ pub fn read_entity_type(
 
 fn read_members(alloc: Global, members: &Members) -> Result<EntityType<RawName>, ShapeFault>
     ensures { let ms = members_view members.now.entries in
-        Reads result (demands entity_type [] (object ms)) (IsEntityTypeIn ms) }
+        ReadsValue result (demands entity_type [] (object ms)) (IsEntityTypeIn ms) }
 {
     let _ = members.len();
     check_members(alloc, members)?;
@@ -61,7 +61,7 @@ fn read_members(alloc: Global, members: &Members) -> Result<EntityType<RawName>,
 
 // What the object itself must keep.
 fn check_members(alloc: Global, members: &Members) -> Result<(), ShapeFault>
-    ensures { Reads result (object_demands entity_type [] (members_view members.now.entries)) Any }
+    ensures { ReadsValue result (object_demands entity_type [] (members_view members.now.entries)) Any }
 {
     check_fields(alloc, entity_type_fields(), members)?;
     check_external_type(alloc, members)?;
@@ -96,7 +96,7 @@ fn kind_of(
 /// The type in a field, and the empty record where it is absent.
 pub fn shape_at(alloc: Global, members: &Members, name: &str) -> Result<Type<RawName>, ShapeFault>
     ensures { let o = get_member name.now (members_view members.now.entries) in
-        Reads result (field_demands (typed TypeSite.Plain) name.now o) (IsShape o) }
+        ReadsValue result (field_demands (typed TypeSite.Plain) name.now o) (IsShapeOrNone o) }
 {
     match type_at(alloc, members, name)? {
         Some(ty) => Ok(ty),
@@ -107,7 +107,7 @@ pub fn shape_at(alloc: Global, members: &Members, name: &str) -> Result<Type<Raw
 /// The names of the parents, none where they are absent.
 pub fn parents_at(alloc: Global, members: &Members) -> Result<List<RawName>, ShapeFault>
     ensures { let o = get_member (codes "memberOfTypes") (members_view members.now.entries) in
-        Reads result (field_demands names (codes "memberOfTypes") o) (IsListOrNone IsNamed o) }
+        ReadsValue result (field_demands names (codes "memberOfTypes") o) (IsListOrNone IsNamed o) }
 {
     match at(members, "memberOfTypes") {
         Some(value) => read_names(alloc, value, "memberOfTypes"),
@@ -118,7 +118,7 @@ pub fn parents_at(alloc: Global, members: &Members) -> Result<List<RawName>, Sha
 fn choices_at(alloc: Global, members: &Members) -> Result<Option<NonEmpty<Eid>>, ShapeFault>
     requires { empty_enum (get_member (codes "enum") (members_view members.now.entries)) ≡ None }
     ensures { let o = get_member (codes "enum") (members_view members.now.entries) in
-        Reads result (field_demands texts (codes "enum") o) (IsOptional (IsList IsChoice) o) }
+        ReadsValue result (field_demands texts (codes "enum") o) (IsOptional (IsList IsChoice) o) }
 {
     match at(members, "enum") {
         Some(value) => Ok(Some(read_enum(alloc, value)?)),
@@ -129,7 +129,7 @@ fn choices_at(alloc: Global, members: &Members) -> Result<Option<NonEmpty<Eid>>,
 // The choices, of which there is at least one.
 fn read_enum(alloc: Global, value: &Value) -> Result<NonEmpty<Eid>, ShapeFault>
     requires { is_empty_list (view value.now) ≡ false }
-    ensures { Reads result (demands texts (codes "enum") (view value.now)) (IsList IsChoice (view value.now)) }
+    ensures { ReadsValue result (demands texts (codes "enum") (view value.now)) (IsList IsChoice (view value.now)) }
 {
     match value.as_array() {
         Some(items) => {
@@ -144,7 +144,7 @@ fn read_enum(alloc: Global, value: &Value) -> Result<NonEmpty<Eid>, ShapeFault>
 }
 
 fn read_choices(alloc: Global, items: &Vec<Value>) -> Result<Vec<Eid>, ShapeFault>
-    ensures { Reads result (item_demands text (codes "enum") (items_view items.now.items))
+    ensures { ReadsValue result (item_demands text (codes "enum") (items_view items.now.items))
         (λ choices. AreItems IsChoice (items_view items.now.items) choices.items) }
 {
     let mut choices = Vec::new(alloc);

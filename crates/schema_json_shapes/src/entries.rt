@@ -1,7 +1,7 @@
 // Objects whose members are read alike, one by one.
 ghost use Rattle.serde_json.specs.View.{view, members_view};
 ghost use Rattle.schema_json_shapes.specs.Said.{IsMap, AreEntries};
-ghost use Rattle.schema_json_shapes.specs.Reads.{Reads};
+ghost use Rattle.schema_json_shapes.specs.Reads.{ReadsValue};
 ghost use Rattle.schema_json_shapes.specs.Entries.{each_entry, of_object};
 
 use crate::fields::Members;
@@ -17,7 +17,7 @@ pub trait Entry {
     ghost use Rattle.serde_json.specs.Data.{Data};
     ghost use Rattle.serde_json.specs.View.{view};
     ghost use Rattle.schema_json_shapes.specs.Walk.{Demand};
-    ghost use Rattle.schema_json_shapes.specs.Reads.{Reads};
+    ghost use Rattle.schema_json_shapes.specs.Reads.{ReadsValue};
 
     /// What a key says.
     type Key: Ord + Drop;
@@ -33,14 +33,14 @@ pub trait Entry {
 
     /// What the key and the value say, or their first fault; or out of memory.
     fn read(alloc: Global, key: &str, value: &Value) -> Result<(Self::Key, Self::Item), ShapeFault>
-        ensures { Reads result (asks key.now (view value.now))
+        ensures { ReadsValue result (asks key.now (view value.now))
             (λ entry. is_key key.now entry.0 × is_item (view value.now) entry.1) };
 }
 
 // The entries, in the order of the members.
 fn entries<E: Entry>(alloc: Global, members: &Members) -> Result<Vec<(E::Key, E::Item)>, ShapeFault>
     ensures { let ms = members_view members.now.entries in
-        Reads result (each_entry E.asks ms) (λ entries. AreEntries E.is_key E.is_item ms entries.items) }
+        ReadsValue result (each_entry E.asks ms) (λ entries. AreEntries E.is_key E.is_item ms entries.items) }
 {
     let mut entries = Vec::with_capacity(alloc, members.len())?;
     for (key, value) in members {
@@ -56,7 +56,7 @@ pub fn read_map<E: Entry>(
     value: &Value,
     label: &str,
 ) -> Result<Map<E::Key, E::Item>, ShapeFault>
-    ensures { Reads result (of_object (each_entry E.asks) label.now (view value.now))
+    ensures { ReadsValue result (of_object (each_entry E.asks) label.now (view value.now))
         (IsMap E.Key.cmp E.is_key E.is_item (view value.now)) }
 {
     match value.as_object() {

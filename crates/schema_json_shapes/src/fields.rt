@@ -6,7 +6,7 @@ ghost use Rattle.schema_json_shapes.specs.Tables.{is_field, first_unknown, first
 ghost use Rattle.schema_json_shapes.specs.Walk.{fits_table, is_there};
 ghost use Rattle.schema_json_shapes.specs.Said.{not_null};
 ghost use Rattle.schema_json_shapes.specs.Seen.{table};
-ghost use Rattle.schema_json_shapes.specs.Reads.{Reads, Any};
+ghost use Rattle.schema_json_shapes.specs.Reads.{ReadsValue, Any};
 
 use crate::shape_fault::ShapeFault;
 use crate::tables::Field;
@@ -150,7 +150,7 @@ fn first_missing(fields: &[Field], members: &Members) -> Option<&'static str>
 
 /// Refuses an object that does not have these fields.
 pub fn check_fields(alloc: Global, fields: &[Field], members: &Members) -> Result<(), ShapeFault>
-    ensures { Reads result (fits_table (table fields.now) (members_view members.now.entries)) Any }
+    ensures { ReadsValue result (fits_table (table fields.now) (members_view members.now.entries)) Any }
 {
     if let Some(key) = first_unknown(fields, members) {
         return Err(ShapeFault::UnknownField(Text::from_str(alloc, key)?));

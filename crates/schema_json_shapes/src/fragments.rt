@@ -1,9 +1,9 @@
 // Fragments.
 ghost use Rattle.std.specs.Prelude.{[]};
 ghost use Rattle.serde_json.specs.View.{view};
-ghost use Rattle.schema_json_shapes.specs.Walk.{fragment, demands, namespace_key};
+ghost use Rattle.schema_json_shapes.specs.Walk.{fragment, demands, namespace_key_demands};
 ghost use Rattle.schema_json_shapes.specs.Shapes.{IsNamespaceKey, IsNamespace, IsFragment};
-ghost use Rattle.schema_json_shapes.specs.Reads.{Reads};
+ghost use Rattle.schema_json_shapes.specs.Reads.{ReadsValue};
 ghost use Rattle.schema_json_shapes.specs.Entries.{entry_demands};
 
 use crate::entries::{Entry, read_map};
@@ -17,7 +17,7 @@ use std::alloc::Global;
 
 /// The fragment that a value says, or its first fault. Numbers are not looked at.
 pub fn read_fragment(alloc: Global, value: &Value) -> Result<Fragment<RawName>, ShapeFault>
-    ensures { Reads result (demands fragment [] (view value.now)) (IsFragment (view value.now)) }
+    ensures { ReadsValue result (demands fragment [] (view value.now)) (IsFragment (view value.now)) }
 {
     let namespaces = read_map::<Namespaces>(alloc, value, "")?;
     Ok(Fragment(namespaces))
@@ -50,7 +50,7 @@ impl Entry for Namespaces {
 
 /// The name of a namespace, of which the empty one has none.
 pub fn read_key(alloc: Global, key: &str) -> Result<Option<Name>, ShapeFault>
-    ensures { Reads result (namespace_key key.now) (IsNamespaceKey key.now) }
+    ensures { ReadsValue result (namespace_key_demands key.now) (IsNamespaceKey key.now) }
 {
     if key.len() == 0 {
         return Ok(None);

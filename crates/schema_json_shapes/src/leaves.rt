@@ -4,7 +4,7 @@ ghost use Rattle.serde_json.specs.View.{view, members_view};
 ghost use Rattle.serde_json.specs.Find.{get_member};
 ghost use Rattle.schema_json_shapes.specs.Walk.{flag, flag_or, text, demands, wrong_type as wrong};
 ghost use Rattle.schema_json_shapes.specs.Shapes.{IsTextIn};
-ghost use Rattle.schema_json_shapes.specs.Reads.{Reads, IsFault, field_demands};
+ghost use Rattle.schema_json_shapes.specs.Reads.{ReadsValue, IsDemandFault, field_demands};
 
 use crate::fields::{Members, at};
 use crate::shape_fault::ShapeFault;
@@ -14,7 +14,7 @@ use std::alloc::Global;
 
 /// The fault of a value of another kind than its field has.
 pub fn wrong_type(alloc: Global, label: &str) -> ShapeFault
-    ensures { IsFault (wrong label.now) result }
+    ensures { IsDemandFault (wrong label.now) result }
 {
     match Text::from_str(alloc, label) {
         Ok(name) => ShapeFault::WrongType(name),
@@ -30,7 +30,7 @@ pub fn flag_at(
     otherwise: bool,
 ) -> Result<bool, ShapeFault>
     ensures { let o = get_member name.now (members_view members.now.entries) in
-        Reads result (field_demands flag name.now o) (λ b. b ≡ flag_or otherwise o) }
+        ReadsValue result (field_demands flag name.now o) (λ b. b ≡ flag_or otherwise o) }
 {
     match at(members, name) {
         Some(Value::Bool(b)) => Ok(*b),
@@ -41,7 +41,7 @@ pub fn flag_at(
 
 /// The text that a value is, or that it is none, under the name `label`.
 pub fn read_text(alloc: Global, value: &Value, label: &str) -> Result<Text, ShapeFault>
-    ensures { Reads result (demands text label.now (view value.now)) (IsTextIn (Some (view value.now))) }
+    ensures { ReadsValue result (demands text label.now (view value.now)) (IsTextIn (Some (view value.now))) }
 {
     match value {
         Value::String(text) => Ok(Text::from_str(alloc, text.as_str())?),

@@ -2,8 +2,8 @@
 #![tactic(auto)]
 
 pub mod actions;
-pub mod annotations;
-pub mod conflicts;
+mod annotations;
+mod conflicts;
 pub mod entity_types;
 pub mod entries;
 pub mod fields;

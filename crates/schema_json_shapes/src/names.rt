@@ -7,13 +7,13 @@ ghost use Rattle.cedar_identifiers.specs.declared.name_kind.NameKind.TheVariants
 ghost use Rattle.schema_json_shapes.specs.Walk.{named, names, is_name, kind_of, role_text, demands, item_demands};
 ghost use Rattle.schema_json_shapes.specs.Said.{IsRawName, IsId, IsAnyId, IsNamed, IsWordNamed, IsList, AreItems};
 ghost use Rattle.schema_json_shapes.specs.Shapes.{IsNamespaceName};
-ghost use Rattle.schema_json_shapes.specs.Reads.{Reads, IsFault};
+ghost use Rattle.schema_json_shapes.specs.Reads.{ReadsValue, IsDemandFault};
 
 use crate::leaves::wrong_type;
 use crate::name_role::NameRole;
 use crate::shape_fault::ShapeFault;
 use cedar_data::{List, Text};
-use cedar_identifiers::name_laws::one_reading;
+use cedar_identifiers::laws::one_reading;
 use cedar_identifiers::{AnyId, Name, NameFault, RawName, UnreservedId};
 use serde_json::Value;
 use std::alloc::{AllocError, Global};
@@ -21,7 +21,7 @@ use std::alloc::{AllocError, Global};
 // The fault of a text that is no name of its role, for this cause.
 fn bad_name(alloc: Global, role: NameRole, text: &str, fault: NameFault) -> ShapeFault
     requires { NameFaultOf (kind_of role) text.now fault }
-    ensures { IsFault (is_name role text.now ∷ []) result }
+    ensures { IsDemandFault (is_name role text.now ∷ []) result }
 {
     one_reading(text);
     if let NameFault::Memory = fault {
@@ -44,7 +44,7 @@ fn copied(alloc: Global, role: NameRole, text: &str) -> Result<(Text, Text), All
 /// A name as it is written, in a role of such names.
 pub fn read_raw_name(alloc: Global, role: NameRole, text: &str) -> Result<RawName, ShapeFault>
     requires { kind_of role ≡ kind.InternalName }
-    ensures { Reads result (is_name role text.now ∷ []) (IsRawName text.now) }
+    ensures { ReadsValue result (is_name role text.now ∷ []) (IsRawName text.now) }
 {
     match RawName::from_normalized_str(alloc, text) {
         Ok(name) => Ok(name),
@@ -55,7 +55,7 @@ pub fn read_raw_name(alloc: Global, role: NameRole, text: &str) -> Result<RawNam
 /// A word that may be declared, in a role of such words.
 pub fn read_id(alloc: Global, role: NameRole, text: &str) -> Result<UnreservedId, ShapeFault>
     requires { kind_of role ≡ kind.UnreservedId }
-    ensures { Reads result (is_name role text.now ∷ []) (IsId text.now) }
+    ensures { ReadsValue result (is_name role text.now ∷ []) (IsId text.now) }
 {
     match UnreservedId::from_normalized_str(alloc, text) {
         Ok(id) => Ok(id),
@@ -65,7 +65,7 @@ pub fn read_id(alloc: Global, role: NameRole, text: &str) -> Result<UnreservedId
 
 /// The key of an annotation that the text is, or why it is none.
 pub fn read_any_id(alloc: Global, text: &str) -> Result<AnyId, ShapeFault>
-    ensures { Reads result (is_name NameRole.Annotation text.now ∷ []) (IsAnyId text.now) }
+    ensures { ReadsValue result (is_name NameRole.Annotation text.now ∷ []) (IsAnyId text.now) }
 {
     match AnyId::from_normalized_str(alloc, text) {
         Ok(id) => Ok(id),
@@ -75,7 +75,7 @@ pub fn read_any_id(alloc: Global, text: &str) -> Result<AnyId, ShapeFault>
 
 /// The name of a namespace that the text is, or why it is none.
 pub fn read_namespace_name(alloc: Global, text: &str) -> Result<Name, ShapeFault>
-    ensures { Reads result (is_name NameRole.Namespace text.now ∷ []) (IsNamespaceName text.now) }
+    ensures { ReadsValue result (is_name NameRole.Namespace text.now ∷ []) (IsNamespaceName text.now) }
 {
     match Name::from_normalized_str(alloc, text) {
         Ok(name) => Ok(name),
@@ -91,7 +91,7 @@ pub(crate) fn read_named(
     label: &str,
 ) -> Result<RawName, ShapeFault>
     requires { kind_of role ≡ kind.InternalName }
-    ensures { Reads result (demands (named role) label.now (view value.now)) (IsNamed (view value.now)) }
+    ensures { ReadsValue result (demands (named role) label.now (view value.now)) (IsNamed (view value.now)) }
 {
     match value {
         Value::String(text) => read_raw_name(alloc, role, text.as_str()),
@@ -107,7 +107,7 @@ pub(crate) fn read_word(
     label: &str,
 ) -> Result<UnreservedId, ShapeFault>
     requires { kind_of role ≡ kind.UnreservedId }
-    ensures { Reads result (demands (named role) label.now (view value.now)) (IsWordNamed (view value.now)) }
+    ensures { ReadsValue result (demands (named role) label.now (view value.now)) (IsWordNamed (view value.now)) }
 {
     match value {
         Value::String(text) => read_id(alloc, role, text.as_str()),
@@ -117,7 +117,7 @@ pub(crate) fn read_word(
 
 /// The names that a list says, or its first fault, under the name `label`.
 pub fn read_names(alloc: Global, value: &Value, label: &str) -> Result<List<RawName>, ShapeFault>
-    ensures { Reads result (demands names label.now (view value.now)) (IsList IsNamed (view value.now)) }
+    ensures { ReadsValue result (demands names label.now (view value.now)) (IsList IsNamed (view value.now)) }
 {
     match value {
         Value::Array(items) => read_name_items(alloc, items, label),
@@ -130,7 +130,7 @@ fn read_name_items(
     items: &Vec<Value>,
     label: &str,
 ) -> Result<List<RawName>, ShapeFault>
-    ensures { Reads result (item_demands (named NameRole.Name) label.now (items_view items.now.items))
+    ensures { ReadsValue result (item_demands (named NameRole.Name) label.now (items_view items.now.items))
         (AreItems IsNamed (items_view items.now.items)) }
 {
     let mut found = List::new(alloc);

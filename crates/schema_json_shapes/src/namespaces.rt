@@ -4,10 +4,11 @@ ghost use Rattle.serde_json.specs.Data.{object};
 ghost use Rattle.serde_json.specs.View.{view, members_view};
 ghost use Rattle.serde_json.specs.Find.{get_member};
 ghost use Rattle.cedar_data.specs.Text.{text_cmp};
+ghost use Rattle.schema_json.specs.Orders.{unreserved_cmp, common_cmp};
 ghost use Rattle.schema_json_shapes.specs.Walk.{namespace, common_types, entity_types, actions as actions_role, demands, key_demands, object_demands};
 ghost use Rattle.schema_json_shapes.specs.Said.{IsId, IsText, IsMap, IsMapOrNone};
-ghost use Rattle.schema_json_shapes.specs.Shapes.{IsCommonId, IsCommonType, IsEntityType, IsAction, IsNamespace, IsNamespaceIn, id_order, common_id_order};
-ghost use Rattle.schema_json_shapes.specs.Reads.{Reads, Any, field_demands};
+ghost use Rattle.schema_json_shapes.specs.Shapes.{IsCommonId, IsCommonType, IsEntityType, IsAction, IsNamespace, IsNamespaceIn};
+ghost use Rattle.schema_json_shapes.specs.Reads.{ReadsValue, Any, field_demands};
 ghost use Rattle.schema_json_shapes.specs.Entries.{entry_demands};
 
 use crate::actions::read_action;
@@ -35,7 +36,7 @@ pub fn read_namespace(
     value: &Value,
     key: &str,
 ) -> Result<NamespaceDefinition<RawName>, ShapeFault>
-    ensures { Reads result (demands namespace key.now (view value.now)) (IsNamespace (view value.now)) }
+    ensures { ReadsValue result (demands namespace key.now (view value.now)) (IsNamespace (view value.now)) }
 {
     match value.as_object() {
         Some(members) => read_members(alloc, members, key),
@@ -49,7 +50,7 @@ fn read_members(
     key: &str,
 ) -> Result<NamespaceDefinition<RawName>, ShapeFault>
     ensures { let ms = members_view members.now.entries in
-        Reads result (demands namespace key.now (object ms)) (IsNamespaceIn ms) }
+        ReadsValue result (demands namespace key.now (object ms)) (IsNamespaceIn ms) }
 {
     let _ = members.len();
     check_members(alloc, members, key)?;
@@ -69,14 +70,14 @@ fn read_members(
 
 // What the object itself must keep.
 fn check_members(alloc: Global, members: &Members, key: &str) -> Result<(), ShapeFault>
-    ensures { Reads result (object_demands namespace key.now (members_view members.now.entries)) Any }
+    ensures { ReadsValue result (object_demands namespace key.now (members_view members.now.entries)) Any }
 {
     check_fields(alloc, namespace_fields(), members)?;
     check_annotated(members, key)
 }
 
 fn read_actions(alloc: Global, value: &Value) -> Result<Map<Text, ActionType<RawName>>, ShapeFault>
-    ensures { Reads result (demands actions_role (codes "actions") (view value.now))
+    ensures { ReadsValue result (demands actions_role (codes "actions") (view value.now))
         (IsMap text_cmp IsText IsAction (view value.now)) }
 {
     read_map::<Actions>(alloc, value, "actions")
@@ -111,8 +112,8 @@ fn common_types_at(
     members: &Members,
 ) -> Result<Map<CommonTypeId, CommonType<RawName>>, ShapeFault>
     ensures { let o = get_member (codes "commonTypes") (members_view members.now.entries) in
-        Reads result (field_demands common_types (codes "commonTypes") o)
-        (IsMapOrNone common_id_order IsCommonId IsCommonType o) }
+        ReadsValue result (field_demands common_types (codes "commonTypes") o)
+        (IsMapOrNone common_cmp IsCommonId IsCommonType o) }
 {
     match at(members, "commonTypes") {
         Some(value) => read_common_types(alloc, value),
@@ -124,8 +125,8 @@ fn read_common_types(
     alloc: Global,
     value: &Value,
 ) -> Result<Map<CommonTypeId, CommonType<RawName>>, ShapeFault>
-    ensures { Reads result (demands common_types (codes "commonTypes") (view value.now))
-        (IsMap common_id_order IsCommonId IsCommonType (view value.now)) }
+    ensures { ReadsValue result (demands common_types (codes "commonTypes") (view value.now))
+        (IsMap common_cmp IsCommonId IsCommonType (view value.now)) }
 {
     read_map::<CommonTypes>(alloc, value, "commonTypes")
 }
@@ -172,7 +173,7 @@ fn common_type(typed: Typed) -> CommonType<RawName>
 
 /// The name of a common type that the key is, or why it is none.
 pub fn read_common_id(alloc: Global, key: &str) -> Result<CommonTypeId, ShapeFault>
-    ensures { Reads result (key_demands common_types key.now) (IsCommonId key.now) }
+    ensures { ReadsValue result (key_demands common_types key.now) (IsCommonId key.now) }
 {
     let id = read_id(alloc, NameRole::Id, key)?;
     match CommonTypeId::new(id) {
@@ -185,8 +186,8 @@ fn read_entity_types(
     alloc: Global,
     value: &Value,
 ) -> Result<Map<UnreservedId, EntityType<RawName>>, ShapeFault>
-    ensures { Reads result (demands entity_types (codes "entityTypes") (view value.now))
-        (IsMap id_order IsId IsEntityType (view value.now)) }
+    ensures { ReadsValue result (demands entity_types (codes "entityTypes") (view value.now))
+        (IsMap unreserved_cmp IsId IsEntityType (view value.now)) }
 {
     read_map::<EntityTypes>(alloc, value, "entityTypes")
 }

@@ -13,32 +13,32 @@ pub struct Field {
     pub needed: bool,
 }
 
-const TYPE: Field = Field {
+pub const TYPE: Field = Field {
     name: "type",
     needed: true,
 };
 
-const ELEMENT: Field = Field {
+pub const ELEMENT: Field = Field {
     name: "element",
     needed: true,
 };
 
-const RECORD_ATTRIBUTES: Field = Field {
+pub const RECORD_ATTRIBUTES: Field = Field {
     name: "attributes",
     needed: true,
 };
 
-const ADDITIONAL_ATTRIBUTES: Field = Field {
+pub const ADDITIONAL_ATTRIBUTES: Field = Field {
     name: "additionalAttributes",
     needed: false,
 };
 
-const NAME: Field = Field {
+pub const NAME: Field = Field {
     name: "name",
     needed: true,
 };
 
-const REQUIRED: Field = Field {
+pub const REQUIRED: Field = Field {
     name: "required",
     needed: false,
 };
@@ -48,27 +48,27 @@ const ANNOTATIONS: Field = Field {
     needed: false,
 };
 
-const COMMON_TYPES: Field = Field {
+pub const COMMON_TYPES: Field = Field {
     name: "commonTypes",
     needed: false,
 };
 
-const ENTITY_TYPES: Field = Field {
+pub const ENTITY_TYPES: Field = Field {
     name: "entityTypes",
     needed: true,
 };
 
-const ACTIONS: Field = Field {
+pub const ACTIONS: Field = Field {
     name: "actions",
     needed: true,
 };
 
-const MEMBER_OF_TYPES: Field = Field {
+pub const MEMBER_OF_TYPES: Field = Field {
     name: "memberOfTypes",
     needed: false,
 };
 
-const SHAPE: Field = Field {
+pub const SHAPE: Field = Field {
     name: "shape",
     needed: false,
 };
@@ -88,17 +88,17 @@ const EXTERNAL: Field = Field {
     needed: false,
 };
 
-const ATTRIBUTES: Field = Field {
+pub const ATTRIBUTES: Field = Field {
     name: "attributes",
     needed: false,
 };
 
-const APPLIES_TO: Field = Field {
+pub const APPLIES_TO: Field = Field {
     name: "appliesTo",
     needed: false,
 };
 
-const MEMBER_OF: Field = Field {
+pub const MEMBER_OF: Field = Field {
     name: "memberOf",
     needed: false,
 };
@@ -113,7 +113,7 @@ const PRINCIPAL_TYPES: Field = Field {
     needed: true,
 };
 
-const CONTEXT: Field = Field {
+pub const CONTEXT: Field = Field {
     name: "context",
     needed: false,
 };

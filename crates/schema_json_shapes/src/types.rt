@@ -8,7 +8,7 @@ ghost use Rattle.schema_json_shapes.specs.declared.words.TypeSite.{TypeSite as S
 ghost use Rattle.schema_json_shapes.specs.Walk.{typed, attributes as attributes_role, demands, member_demands, key_demands, word_fits, flag_or};
 ghost use Rattle.schema_json_shapes.specs.Said.{IsType, IsTyped, SaysTyped, AreAttributes, HasAttributes, IsOptional, HasWord, plain};
 ghost use Rattle.schema_json_shapes.specs.Inner.{HasInner, IsInner, inner_demands, made_demands, IsMade};
-ghost use Rattle.schema_json_shapes.specs.Reads.{Reads, IsFault, field_demands};
+ghost use Rattle.schema_json_shapes.specs.Reads.{ReadsValue, IsDemandFault, field_demands};
 
 use crate::annotations::annotations_at;
 use crate::fields::{Members, at, check_fields, needed};
@@ -40,7 +40,7 @@ pub fn type_at(
     name: &str,
 ) -> Result<Option<Type<RawName>>, ShapeFault>
     ensures { let o = get_member name.now (members_view members.now.entries) in
-        Reads result (field_demands (typed TypeSite.Plain) name.now o) (IsOptional IsType o) }
+        ReadsValue result (field_demands (typed TypeSite.Plain) name.now o) (IsOptional IsType o) }
 {
     match at(members, name) {
         Some(value) => {
@@ -58,7 +58,7 @@ pub fn boxed_type_at(
     name: &str,
 ) -> Result<Option<Boxed<Type<RawName>>>, ShapeFault>
     ensures { let o = get_member name.now (members_view members.now.entries) in
-        Reads result (field_demands (typed TypeSite.Plain) name.now o) (IsOptional IsType o) }
+        ReadsValue result (field_demands (typed TypeSite.Plain) name.now o) (IsOptional IsType o) }
 {
     match type_at(alloc, members, name)? {
         Some(ty) => Ok(Some(Boxed::new(alloc, ty)?)),
@@ -74,7 +74,7 @@ pub fn read_typed(
     label: &str,
     site: TypeSite,
 ) -> Result<Typed, ShapeFault>
-    ensures { Reads result (demands (typed site) label.now (view value.now))
+    ensures { ReadsValue result (demands (typed site) label.now (view value.now))
         (λ t. SaysTyped (view value.now) t.ty t.annotations t.required) }
 {
     match value.as_object() {
@@ -86,7 +86,7 @@ pub fn read_typed(
 #[cycle(types)]
 fn read_object(alloc: Global, members: &Members, site: TypeSite) -> Result<Typed, ShapeFault>
     ensures { let ms = members_view members.now.entries in
-        Reads result (demands (typed site) [] (object ms)) (λ t. IsTyped ms t.ty t.annotations t.required) }
+        ReadsValue result (demands (typed site) [] (object ms)) (λ t. IsTyped ms t.ty t.annotations t.required) }
 {
     let _ = members.len();
     let text = checked_word(alloc, members, site)?;
@@ -114,7 +114,7 @@ fn read_shape(
     requires word { HasWord (members_view members.now.entries) word }
     requires needed { HasInner word (members_view members.now.entries) }
     requires is_open { is_open ≡ flag_or false (get_member (codes "additionalAttributes") (members_view members.now.entries)) }
-    ensures { Reads result (inner_demands word (members_view members.now.entries))
+    ensures { ReadsValue result (inner_demands word (members_view members.now.entries))
         (IsInner word (members_view members.now.entries)) }
 {
     match word {
@@ -136,7 +136,7 @@ fn read_set(alloc: Global, members: &Members) -> Result<TypeVariant<RawName>, Sh
     requires word { HasWord (members_view members.now.entries) TypeWord.Set }
     requires needed { HasInner TypeWord.Set (members_view members.now.entries) }
     ensures { let ms = members_view members.now.entries in
-        Reads result (inner_demands TypeWord.Set ms) (λ v. IsType (object ms) (plain v)) }
+        ReadsValue result (inner_demands TypeWord.Set ms) (λ v. IsType (object ms) (plain v)) }
 {
     let value = needed(members, "element");
     let typed = read_typed(alloc, value, "element", TypeSite::Plain)?;
@@ -155,7 +155,7 @@ fn read_record(
     requires needed { HasInner TypeWord.Record (members_view members.now.entries) }
     requires is_open { is_open ≡ flag_or false (get_member (codes "additionalAttributes") (members_view members.now.entries)) }
     ensures { let ms = members_view members.now.entries in
-        Reads result (inner_demands TypeWord.Record ms) (λ v. IsType (object ms) (plain v)) }
+        ReadsValue result (inner_demands TypeWord.Record ms) (λ v. IsType (object ms) (plain v)) }
 {
     let value = needed(members, "attributes");
     let attributes = read_attributes(alloc, value)?;
@@ -170,7 +170,7 @@ fn read_attributes(
     alloc: Global,
     value: &Value,
 ) -> Result<Map<Text, TypeOfAttribute<RawName>>, ShapeFault>
-    ensures { Reads result (demands attributes_role (codes "attributes") (view value.now)) (HasAttributes (view value.now)) }
+    ensures { ReadsValue result (demands attributes_role (codes "attributes") (view value.now)) (HasAttributes (view value.now)) }
 {
     match value.as_object() {
         Some(members) => {
@@ -187,7 +187,7 @@ fn read_attribute_entries(
     members: &Members,
 ) -> Result<Vec<(Text, TypeOfAttribute<RawName>)>, ShapeFault>
     ensures { let ms = members_view members.now.entries in
-        Reads result (member_demands (key_demands attributes_role) (λ k. typed TypeSite.Attribute) ms)
+        ReadsValue result (member_demands (key_demands attributes_role) (λ k. typed TypeSite.Attribute) ms)
         (λ entries. AreAttributes ms entries.items) }
 {
     let mut entries = Vec::with_capacity(alloc, members.len())?;
@@ -219,7 +219,7 @@ fn read_entity(alloc: Global, members: &Members) -> Result<TypeVariant<RawName>,
     requires word { HasWord (members_view members.now.entries) TypeWord.Entity }
     requires needed { HasInner TypeWord.Entity (members_view members.now.entries) }
     ensures { let ms = members_view members.now.entries in
-        Reads result (inner_demands TypeWord.Entity ms) (λ v. IsType (object ms) (plain v)) }
+        ReadsValue result (inner_demands TypeWord.Entity ms) (λ v. IsType (object ms) (plain v)) }
 {
     let value = needed(members, "name");
     let name = read_named(alloc, NameRole::EntityType, value, "name")?;
@@ -231,7 +231,7 @@ fn read_either(alloc: Global, members: &Members) -> Result<TypeVariant<RawName>,
     requires word { HasWord (members_view members.now.entries) TypeWord.EntityOrCommon }
     requires needed { HasInner TypeWord.EntityOrCommon (members_view members.now.entries) }
     ensures { let ms = members_view members.now.entries in
-        Reads result (inner_demands TypeWord.EntityOrCommon ms) (λ v. IsType (object ms) (plain v)) }
+        ReadsValue result (inner_demands TypeWord.EntityOrCommon ms) (λ v. IsType (object ms) (plain v)) }
 {
     let value = needed(members, "name");
     let type_name = read_named(alloc, NameRole::EntityOrCommonType, value, "name")?;
@@ -243,7 +243,7 @@ fn read_extension(alloc: Global, members: &Members) -> Result<TypeVariant<RawNam
     requires word { HasWord (members_view members.now.entries) TypeWord.Extension }
     requires needed { HasInner TypeWord.Extension (members_view members.now.entries) }
     ensures { let ms = members_view members.now.entries in
-        Reads result (inner_demands TypeWord.Extension ms) (λ v. IsType (object ms) (plain v)) }
+        ReadsValue result (inner_demands TypeWord.Extension ms) (λ v. IsType (object ms) (plain v)) }
 {
     let value = needed(members, "name");
     let name = read_word(alloc, NameRole::ExtensionType, value, "name")?;
@@ -256,7 +256,7 @@ fn made(
     shape: Option<TypeVariant<RawName>>,
     text: &str,
 ) -> Result<Type<RawName>, ShapeFault>
-    ensures { Reads result (made_demands shape text.now) (IsMade shape text.now) }
+    ensures { ReadsValue result (made_demands shape text.now) (IsMade shape text.now) }
 {
     match shape {
         Some(shape) => Ok(Type::from_variant(shape)),
@@ -277,7 +277,7 @@ fn checked_word<'v>(
     site: TypeSite,
 ) -> Result<&'v str, ShapeFault>
     ensures { let ms = members_view members.now.entries in
-        Reads result (word_fits site ms (get_member (codes "type") ms))
+        ReadsValue result (word_fits site ms (get_member (codes "type") ms))
         (λ s. get_member (codes "type") ms ≡ Some (string s.now)) }
 {
     let text = type_text(alloc, members)?;
@@ -289,7 +289,7 @@ fn checked_word<'v>(
 fn type_text<'v>(alloc: Global, members: &'v Members) -> Result<&'v str, ShapeFault>
     ensures { let ms = members_view members.now.entries in
         MatchResult result (λ s. get_member (codes "type") ms ≡ Some (string s.now))
-        (λ e. (site : Site) → IsFault (word_fits site ms (get_member (codes "type") ms)) e) }
+        (λ e. (site : Site) → IsDemandFault (word_fits site ms (get_member (codes "type") ms)) e) }
 {
     match at(members, "type") {
         Some(Value::String(text)) => Ok(text.as_str()),

@@ -9,7 +9,7 @@ use Rattle.cedar_identifiers.specs.declared.name_text.NameText as named
 use Rattle.schema_json.specs.declared.action_type.ApplySpec.{ApplySpec}
 use Rattle.schema_json.specs.declared.fragment.NamespaceDefinition.{NamespaceDefinition}
 use Rattle.schema_json_values.specs.TypeValues.{object_of, name_bytes}
-use Rattle.schema_json_values.specs.FragmentValues.{with_value, with_object, names_value, applies_to_value}
+use Rattle.schema_json_values.specs.FragmentValues.{with_optional_value, with_object, names_value, applies_to_value}
 use Rattle.schema_json_values.specs.FragmentValues.{common_entry, entity_entry, action_entry}
 use Rattle.schema_json_values.specs.FragmentValues.{namespace_value}
 use Rattle.schema_json_text.specs.Members.{ahead, shape_value, annotations_value, object_value}
@@ -38,7 +38,7 @@ two_written p r old n1 n2 n3 n4 new e1 e2 e3 e4 e5 =
 
 module _ {N : Type 0} (names : N → List (List ℕ)) where
   context_first : (o : Option Data) (p r : Data)
-      → with_value (codes "context") o (put (codes "principalTypes") p (put (codes "resourceTypes") r no_members))
+      → with_optional_value (codes "context") o (put (codes "principalTypes") p (put (codes "resourceTypes") r no_members))
       ≡ opt (codes "context") o (member (codes "principalTypes") p (member (codes "resourceTypes") r no_members))
   context_first None p r = refl
   context_first (Some d) p r = refl
@@ -88,12 +88,12 @@ module _ {N : Type 0} (names : N → List (List ℕ)) where
 -- ---- a namespace
 
 object_is : (key : List ℕ) (es : List (List ℕ × Data)) (ms : Members)
-    → with_object key es ms ≡ with_value key (object_value es) ms
+    → with_object key es ms ≡ with_optional_value key (object_value es) ms
 object_is key [] ms = refl
 object_is key (e ∷ es) ms = refl
 
 namespace_order : (a c : Option Data) (actions entities : Data)
-    → with_value (codes "annotations") a (with_value (codes "commonTypes") c (put (codes "actions") actions
+    → with_optional_value (codes "annotations") a (with_optional_value (codes "commonTypes") c (put (codes "actions") actions
     (put (codes "entityTypes") entities no_members)))
     ≡ member (codes "actions") actions (opt (codes "annotations") a (opt (codes "commonTypes") c
     (member (codes "entityTypes") entities no_members)))
@@ -121,7 +121,7 @@ module _ {N : Type 0} (names : N → List (List ℕ)) {G : named.Ghosts N} (n : 
       let lower = put (codes "actions") Actions (put (codes "entityTypes") Entities no_members) in
       ap object (annotations_is n.annotations.0
       (with_object (codes "commonTypes") (map (common_entry names) n.common_types) lower)
-      ∙ ap (with_value (codes "annotations") Notes)
+      ∙ ap (with_optional_value (codes "annotations") Notes)
       (object_is (codes "commonTypes") (map (common_entry names) n.common_types) lower)
       ∙ namespace_order Notes Commons Actions Entities)
 

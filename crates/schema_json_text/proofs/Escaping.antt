@@ -9,7 +9,7 @@ use Rattle.std.proofs.lemmas.Str.{IsUtf8-drop, IsCharBoundary-before_ascii, IsCh
 use Rattle.json.specs.Run.{is_stop}
 use Rattle.json.specs.Print.{escape, escape_byte}
 use Rattle.json.proofs.Printed.Plain.{escape_on_plain}
-use Rattle.schema_json_text.specs.Escapes.{NoneEscaped, IsNextEscape}
+use Rattle.schema_json_text.specs.Escapes.{NoneJsonEscaped, IsNextJsonEscape}
 
 stop_ascii : (c : ℕ) → is_stop c ≡ true → c < 128
 stop_ascii c h =
@@ -20,7 +20,7 @@ stop_ascii c h =
     ]
 
 -- bytes of which none is escaped stand as they are
-pub escape_plain : (bs : List ℕ) → NoneEscaped bs → escape bs ≡ bs
+pub escape_plain : (bs : List ℕ) → NoneJsonEscaped bs → escape bs ≡ bs
 escape_plain bs all = escape_on_plain true bs (λ k p q. ap not (all k 0 q))
 
 cut_next : (rest : List ℕ) (at : ℕ) → at < length rest
@@ -30,7 +30,7 @@ cut_next rest at l =
     let same : drop 1 (drop at rest) ≡ drop (at + 1) rest = ap (λ t. drop 1 t) first in
     sym (take-append-drop at rest) ∙ ap (λ t. take at rest ++ t) (first ∙ ap (λ t. get_or rest at 0 ∷ t) (sym same))
 
-module _ (rest text : List ℕ) (at : ℕ) (h : IsNextEscape rest at text) where
+module _ (rest text : List ℕ) (at : ℕ) (h : IsNextJsonEscape rest at text) where
   pub boundary_at_escape : IsCharBoundary rest at
   boundary_at_escape = IsCharBoundary-before_ascii rest at h.in_range (stop_ascii (get_or rest at 0) h.escaped)
 

@@ -10,7 +10,7 @@ use Rattle.std.specs.declared.cmp.Ordering.TheVariants.{Less}
 use Rattle.serde_json.specs.Data.{Data, Members, no_members, member}
 use Rattle.schema_json_values.specs.TypeValues.{put_all}
 use Rattle.schema_json_values.proofs.Followed.{followed, followed_once, followed_by_none, Before, put_last, before_more}
-use Rattle.schema_json_text.specs.Members.{in_order}
+use Rattle.schema_json_text.specs.Members.{members_in_order}
 
 module _ {X : Type 0} (f : X → List ℕ × Data) where
   -- each key is below those after it
@@ -31,20 +31,20 @@ module _ {X : Type 0} (f : X → List ℕ × Data) where
   )
 
   all_last : (xs : List X) (ms : Members) → Rises xs → AllBehind ms xs
-      → put_all (map f xs) ms ≡ followed ms (in_order (map f xs))
+      → put_all (map f xs) ms ≡ followed ms (members_in_order (map f xs))
   all_last [] ms r a = sym (followed_by_none ms)
   all_last (x ∷ xs) ms r a =
       let more = followed ms (member (f x).0 (f x).1 no_members) in
       ap (put_all (map f xs)) (put_last ms (f x).0 (f x).1 a.0)
       ∙ all_last xs more r.1 (behind_more ms x xs a.0 a.1 r.0)
-      ∙ followed_once ms (in_order (map f xs)) (f x).0 (f x).1
+      ∙ followed_once ms (members_in_order (map f xs)) (f x).0 (f x).1
 
   none_behind : (xs : List X) → AllBehind no_members xs
   none_behind [] = tt
   none_behind (x ∷ xs) = (tt, none_behind xs)
 
   -- put one after another they stand in their order
-  pub put_in_order : (xs : List X) → Rises xs → put_all (map f xs) no_members ≡ in_order (map f xs)
+  pub put_in_order : (xs : List X) → Rises xs → put_all (map f xs) no_members ≡ members_in_order (map f xs)
   put_in_order xs r = all_last xs no_members r (none_behind xs)
 
   all_rise : {K : Type 0} (R : K → K → Ordering) (h : X → K)

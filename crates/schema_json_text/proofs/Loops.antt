@@ -6,7 +6,7 @@ use Rattle.json.specs.Print.{quoted}
 use Rattle.serde_json.specs.Data.{Data}
 use Rattle.serde_json.specs.View.{items_of}
 use Rattle.serde_json.specs.Written.{comma_if, compact_text, items_text, members_text}
-use Rattle.schema_json_text.specs.Members.{in_order}
+use Rattle.schema_json_text.specs.Members.{members_in_order}
 
 regroup : (now c q t r : List ℕ)
     → ((now ++ (c ++ (q ++ 58 ∷ []))) ++ t) ++ r ≡ now ++ (c ++ (q ++ 58 ∷ (t ++ r)))
@@ -23,21 +23,22 @@ module _ {X : Type 0} (f : X → List ℕ × Data) (es : List X) (i : ℕ) (x : 
   -- one entry more
   pub entry_step : (name key new : List ℕ) → i < length es → x ≡ get_or es i x → name ≡ (f x).0
       → key ≡ now ++ (comma_if later ++ (quoted name ++ 58 ∷ [])) → new ≡ key ++ compact_text (f x).1
-      → now ++ members_text later (in_order (map f (drop i es))) ≡ all
-      → new ++ members_text true (in_order (map f (drop (i + 1) es))) ≡ all
+      → now ++ members_text later (members_in_order (map f (drop i es))) ≡ all
+      → new ++ members_text true (members_in_order (map f (drop (i + 1) es))) ≡ all
   entry_step name key new h is named k n e =
       let here : drop i es ≡ x ∷ drop (i + 1) es = drop_more es i x h ∙ ap (λ y. y ∷ drop (i + 1) es) (sym is) in
-      let rest = members_text true (in_order (map f (drop (i + 1) es))) in
+      let rest = members_text true (members_in_order (map f (drop (i + 1) es))) in
       ap (λ s. s ++ rest) (n ∙ ap (λ s. s ++ compact_text (f x).1)
       (k ∙ ap (λ s. now ++ (comma_if later ++ (quoted s ++ 58 ∷ []))) named))
       ∙ regroup now (comma_if later) (quoted (f x).0) (compact_text (f x).1) rest
-      ∙ sym (ap (λ d. now ++ members_text later (in_order (map f d))) here) ∙ e
+      ∙ sym (ap (λ d. now ++ members_text later (members_in_order (map f d))) here) ∙ e
 
 module _ {X : Type 0} (f : X → List ℕ × Data) (es : List X) (i : ℕ) (later : Bool) (now all : List ℕ) where
   -- all entries
   pub entries_end : (new : List ℕ) → length es ≤ i → new ≡ now ++ 125 ∷ []
-      → now ++ members_text later (in_order (map f (drop i es))) ≡ all → new ≡ all
-  entries_end new h n e = n ∙ sym (ap (λ d. now ++ members_text later (in_order (map f d))) (drop_all i es h)) ∙ e
+      → now ++ members_text later (members_in_order (map f (drop i es))) ≡ all → new ≡ all
+  entries_end new h n e = n ∙ sym (ap (λ d. now ++ members_text later (members_in_order (map f d))) (drop_all i es h))
+      ∙ e
 
 module _ (later : Bool) (now all : List ℕ) where
   -- the next item

@@ -11,31 +11,33 @@ use Rattle.serde_json.specs.Data.{Data, no_members, member, put}
 use Rattle.cedar_data.specs.Text.{text_cmp}
 use Rattle.cedar_data.specs.Maps.{with_entries, map_of}
 use Rattle.schema_json_values.specs.TypeValues.{put_all}
-use Rattle.schema_json_text.specs.Members.{in_order, ArePut}
+use Rattle.schema_json_text.specs.Members.{members_in_order, ArePut}
 
 module _ {V : Type 0} (value : V → Data) where
   abbrev by_text : List ℕ × V → List ℕ × Data
   by_text p = (encode_utf8_all p.0, value p.1)
 
   put_at : (r : Ordering) (e x : List ℕ × V) (es : List (List ℕ × V))
-      → in_order (map by_text (insert_entry text_cmp es x.0 x.1))
-      ≡ put (by_text x).0 (by_text x).1 (in_order (map by_text es))
-      → in_order (map by_text (match_ordering r (x ∷ e ∷ es) ((e.0, x.1) ∷ es) (e ∷ insert_entry text_cmp es x.0 x.1)))
-      ≡ match_ordering r (member (by_text x).0 (by_text x).1 (in_order (map by_text (e ∷ es))))
-      (member (by_text e).0 (by_text x).1 (in_order (map by_text es)))
-      (member (by_text e).0 (by_text e).1 (put (by_text x).0 (by_text x).1 (in_order (map by_text es))))
+      → members_in_order (map by_text (insert_entry text_cmp es x.0 x.1))
+      ≡ put (by_text x).0 (by_text x).1 (members_in_order (map by_text es))
+      → members_in_order (map by_text
+      (match_ordering r (x ∷ e ∷ es) ((e.0, x.1) ∷ es) (e ∷ insert_entry text_cmp es x.0 x.1)))
+      ≡ match_ordering r (member (by_text x).0 (by_text x).1 (members_in_order (map by_text (e ∷ es))))
+      (member (by_text e).0 (by_text x).1 (members_in_order (map by_text es)))
+      (member (by_text e).0 (by_text e).1 (put (by_text x).0 (by_text x).1 (members_in_order (map by_text es))))
   put_at Less e x es h = refl
   put_at Equal e x es h = refl
   put_at Greater e x es h = ap (member (by_text e).0 (by_text e).1) h
 
   put_entry : (es : List (List ℕ × V)) (x : List ℕ × V)
-      → in_order (map by_text (insert_entry text_cmp es x.0 x.1))
-      ≡ put (by_text x).0 (by_text x).1 (in_order (map by_text es))
+      → members_in_order (map by_text (insert_entry text_cmp es x.0 x.1))
+      ≡ put (by_text x).0 (by_text x).1 (members_in_order (map by_text es))
   put_entry [] x = refl
   put_entry (e ∷ es) x = put_at (text_cmp x.0 e.0) e x es (put_entry es x)
 
   put_entries : (xs es : List (List ℕ × V))
-      → in_order (map by_text (with_entries text_cmp es xs)) ≡ put_all (map by_text xs) (in_order (map by_text es))
+      → members_in_order (map by_text (with_entries text_cmp es xs))
+      ≡ put_all (map by_text xs) (members_in_order (map by_text es))
   put_entries [] es = refl
   put_entries (x ∷ xs) es =
       put_entries xs (insert_entry text_cmp es x.0 x.1) ∙ ap (put_all (map by_text xs)) (put_entry es x)

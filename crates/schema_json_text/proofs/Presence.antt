@@ -1,7 +1,8 @@
 -- What is written where it is there, and the keys as they stand in the code.
-use Rattle.std.proofs.Common.{◌≡◌, ℕ, ◌<◌, ◌≤◌, Bool, true, false, List, [], ◌∷◌, ◌++◌, length, map, Option, Some, None}
+use Rattle.std.proofs.Common.{◌≡◌, ℕ, ◌<◌, ◌≤◌, true, false, List, [], ◌∷◌, ◌++◌, length, map, Option, Some, None}
 use Rattle.std.proofs.Common.{refl, arith}
-use Rattle.std.specs.Prelude.{codes, if◌then◌else◌}
+use Rattle.std.proofs.lemmas.Bool.{cond-true, cond-false}
+use Rattle.std.specs.Prelude.{codes}
 use Rattle.json.specs.Print.{quoted, escape_byte}
 use Rattle.serde_json.specs.Data.{Data, boolean}
 use Rattle.serde_json.specs.Written.{compact_text}
@@ -92,17 +93,9 @@ pub external_whole : bare_key (codes "external") ++ codes "true"
 unfolding escape_byte
 external_whole = refl
 
-if_true : {X : Type 0} (b : Bool) (x y : X) → b ≡ true → (if b then x else y) ≡ x
-if_true true x y e = refl
-if_true false x y e = absurd (cc)
-
-if_false : {X : Type 0} (b : Bool) (x y : X) → b ≡ false → (if b then x else y) ≡ y
-if_false true x y e = absurd (cc)
-if_false false x y e = refl
-
 module _ {N : Type 0} (names : N → List (List ℕ)) (t : «Type» N) where
   pub shape_none : is_empty_type t ≡ true → shape_value names t ≡ None
-  shape_none e = if_true (is_empty_type t) None (Some (type_value names t)) e
+  shape_none e = cond-true (is_empty_type t) None (Some (type_value names t)) e
 
   pub shape_some : is_empty_type t ≡ false → shape_value names t ≡ Some (type_value names t)
-  shape_some e = if_false (is_empty_type t) None (Some (type_value names t)) e
+  shape_some e = cond-false (is_empty_type t) None (Some (type_value names t)) e

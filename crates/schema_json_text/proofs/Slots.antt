@@ -7,8 +7,8 @@ use Rattle.std.specs.declared.cmp.Ordering.TheVariants.{Less, Greater}
 use Rattle.json.specs.Print.{quoted}
 use Rattle.serde_json.specs.Data.{Data, Members, no_members, member, put}
 use Rattle.serde_json.specs.Written.{comma_if, compact_text, members_text}
-use Rattle.schema_json_values.specs.FragmentValues.{with_value}
-use Rattle.schema_json_text.specs.Members.{ahead, behind, AddsMember}
+use Rattle.schema_json_values.specs.FragmentValues.{with_optional_value}
+use Rattle.schema_json_text.specs.Members.{ahead, member_behind, AddsMember}
 
 -- the member, where it is there, before the others
 abbrev pub opt : List ℕ → Option Data → Members → Members
@@ -30,12 +30,12 @@ first_opt k l None ms less f d = f d
 first_opt k l (Some e) ms less f d =
     ap (λ r. match_ordering r (member k d (member l e ms)) (member l d ms) (member l e (put k d ms))) less
 
-pub put_first : (k : List ℕ) (o : Option Data) (ms : Members) → IsFirst k ms → with_value k o ms ≡ opt k o ms
+pub put_first : (k : List ℕ) (o : Option Data) (ms : Members) → IsFirst k ms → with_optional_value k o ms ≡ opt k o ms
 put_first k None ms f = refl
 put_first k (Some d) ms f = f d
 
 pub put_past : (k l : List ℕ) (o p : Option Data) (ms : Members) → slice_cmp nat_cmp k l ≡ Greater
-    → with_value k o (opt l p ms) ≡ opt l p (with_value k o ms)
+    → with_optional_value k o (opt l p ms) ≡ opt l p (with_optional_value k o ms)
 put_past k l None p ms greater = refl
 put_past k l (Some d) None ms greater = refl
 put_past k l (Some d) (Some e) ms greater =
@@ -90,7 +90,7 @@ ahead_is key (Some d) ms f =
     (append_assoc (compact_text d) (44 ∷ []) (members_text false ms) ∙ ap (λ s. compact_text d ++ s) (sym f))
 
 pub behind_is : (key : List ℕ) (o : Option Data) (ms : Members)
-    → behind true key o ++ members_text true ms ≡ members_text true (opt key o ms)
+    → member_behind true key o ++ members_text true ms ≡ members_text true (opt key o ms)
 behind_is key None ms = refl
 behind_is key (Some d) ms = ap (λ s. 44 ∷ s) (append_assoc (quoted key) (58 ∷ compact_text d) (members_text true ms))
 

@@ -7,7 +7,7 @@ use Rattle.serde_json.specs.Data.{Data, string, object, member, put}
 use Rattle.serde_json.specs.Written.{compact_text, members_text}
 use Rattle.cedar_identifiers.specs.declared.any_id.AnyId.{AnyId}
 use Rattle.schema_json_values.specs.TypeValues.{with_flag, with_annotations, with_word}
-use Rattle.schema_json_text.specs.Members.{ahead, behind, annotations_value, flag_value}
+use Rattle.schema_json_text.specs.Members.{ahead, member_behind, annotations_value, flag_value}
 use Rattle.schema_json_text.proofs.Slots.{opt, filled_opt, ahead_is, ahead_step, behind_is}
 use Rattle.schema_json_text.proofs.Loops.{opened}
 use Rattle.schema_json_text.proofs.TypeSlots.{ends, word_slots, name_slots, element_slots, record_slots}
@@ -48,12 +48,12 @@ regroup old a f d e x = simp append_assoc
 module _ (key : List ℕ) (d : Data) (r : Bool) (w first field value old n1 n2 new end : List ℕ) where
   field_written : n1 ≡ old ++ 123 ∷ (first ++ field) → n2 ≡ n1 ++ value
       → field ++ value ≡ quoted key ++ 58 ∷ compact_text d
-      → new ≡ n2 ++ (behind true (codes "required") (flag_value r false) ++ end) → end ≡ members_text true (with_word w)
+      → new ≡ n2 ++ (member_behind true (codes "required") (flag_value r false) ++ end) → end ≡ members_text true (with_word w)
       → new ≡ old ++ 123 ∷ (first ++ members_text false (member key d (ends w r)))
   field_written e1 e2 is e3 e4 =
-      let tail = behind true (codes "required") (flag_value r false) ++ end in
+      let tail = member_behind true (codes "required") (flag_value r false) ++ end in
       let ended : tail ≡ members_text true (ends w r) =
-      ap (λ t. behind true (codes "required") (flag_value r false) ++ t) e4
+      ap (λ t. member_behind true (codes "required") (flag_value r false) ++ t) e4
       ∙ behind_is (codes "required") (flag_value r false) (with_word w) in
       e3 ∙ ap (λ t. t ++ tail) (e2 ∙ ap (λ t. t ++ value) e1)
       ∙ regroup old first field value tail 123
@@ -70,7 +70,7 @@ module _ (as_ : Notes) (r : Bool) (w old n1 n2 new end : List ℕ) where
   -- a type that has a name
   pub name_written : (name : List ℕ) → n1 ≡ old ++ 123 ∷ (notes_ahead as_ ++ (bare_key (codes "name") ++ 34 ∷ []))
       → n2 ≡ n1 ++ (escape name ++ 34 ∷ [])
-      → new ≡ n2 ++ (behind true (codes "required") (flag_value r false) ++ end) → end ≡ members_text true (with_word w)
+      → new ≡ n2 ++ (member_behind true (codes "required") (flag_value r false) ++ end) → end ≡ members_text true (with_word w)
       → new ≡ old ++ compact_text (object (with_flag r (codes "required") false
       (with_annotations as_ (put (codes "name") (string name) (with_word w)))))
   unfolding escape_byte
@@ -83,7 +83,7 @@ module _ (as_ : Notes) (r : Bool) (w old n1 n2 new end : List ℕ) where
   -- a set
   pub element_written : (d : Data) → n1 ≡ old ++ 123 ∷ (notes_ahead as_ ++ bare_key (codes "element"))
       → n2 ≡ n1 ++ compact_text d
-      → new ≡ n2 ++ (behind true (codes "required") (flag_value r false) ++ end) → end ≡ members_text true (with_word w)
+      → new ≡ n2 ++ (member_behind true (codes "required") (flag_value r false) ++ end) → end ≡ members_text true (with_word w)
       → new ≡ old ++ compact_text (object (with_flag r (codes "required") false
       (with_annotations as_ (put (codes "element") d (with_word w)))))
   unfolding escape_byte
@@ -98,7 +98,7 @@ module _ (as_ : Notes) (r : Bool) (w old n1 n2 new end : List ℕ) where
       → n1 ≡ old ++ 123 ∷ (ahead (codes "additionalAttributes") (flag_value is_open true)
       ++ (notes_ahead as_ ++ bare_key (codes "attributes")))
       → n2 ≡ n1 ++ compact_text d
-      → new ≡ n2 ++ (behind true (codes "required") (flag_value r false) ++ end) → end ≡ members_text true (with_word w)
+      → new ≡ n2 ++ (member_behind true (codes "required") (flag_value r false) ++ end) → end ≡ members_text true (with_word w)
       → new ≡ old ++ compact_text (object (with_flag r (codes "required") false (with_annotations as_
       (with_flag is_open (codes "additionalAttributes") true (put (codes "attributes") d (with_word w))))))
   unfolding escape_byte

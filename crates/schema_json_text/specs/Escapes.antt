@@ -5,12 +5,12 @@ use Rattle.json.specs.Run.{is_stop}
 use Rattle.json.specs.Print.{escape_byte}
 
 -- none of these bytes is escaped in a JSON string
-abbrev pub NoneEscaped : List ℕ → Type 0
-NoneEscaped bs = All (λ b. is_stop b ≡ false) bs
+abbrev pub NoneJsonEscaped : List ℕ → Type 0
+NoneJsonEscaped bs = All (λ b. is_stop b ≡ false) bs
 
 -- the byte at this place is the first that is escaped, and text is how it is written
-pub record IsNextEscape (rest : List ℕ) (at : ℕ) (text : List ℕ) : Type 0 where
+pub record IsNextJsonEscape (rest : List ℕ) (at : ℕ) (text : List ℕ) : Type 0 where
   pub in_range : at < length rest
-  pub plain : NoneEscaped (take at rest)
+  pub plain : NoneJsonEscaped (take at rest)
   pub escaped : is_stop (slice_index rest at) ≡ true
   pub written : text ≡ escape_byte (slice_index rest at)

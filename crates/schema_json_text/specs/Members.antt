@@ -16,13 +16,13 @@ use Rattle.schema_json_values.specs.FragmentValues.{list_of, name_value, attribu
 use Rattle.schema_json_values.specs.FragmentValues.{action_id_value}
 
 -- the entries as members, in their order
-abbrev pub in_order : List (List ℕ × Data) → Members
-in_order [] = no_members
-in_order (e ∷ es) = member e.0 e.1 (in_order es)
+abbrev pub members_in_order : List (List ℕ × Data) → Members
+members_in_order [] = no_members
+members_in_order (e ∷ es) = member e.0 e.1 (members_in_order es)
 
 -- the entries, put among no members one after another, are these members in their order
 abbrev pub ArePut : List (List ℕ × Data) → List (List ℕ × Data) → Type 0
-ArePut entries members = put_all entries no_members ≡ in_order members
+ArePut entries members = put_all entries no_members ≡ members_in_order members
 
 -- the member, where it is there, with a comma behind it
 abbrev pub ahead : List ℕ → Option Data → List ℕ
@@ -30,13 +30,13 @@ ahead key None = []
 ahead key (Some d) = quoted key ++ 58 ∷ (compact_text d ++ 44 ∷ [])
 
 -- the member, where it is there, behind a comma where something stands before
-abbrev pub behind : Bool → List ℕ → Option Data → List ℕ
-behind later key None = []
-behind later key (Some d) = comma_if later ++ (quoted key ++ 58 ∷ compact_text d)
+abbrev pub member_behind : Bool → List ℕ → Option Data → List ℕ
+member_behind later key None = []
+member_behind later key (Some d) = comma_if later ++ (quoted key ++ 58 ∷ compact_text d)
 
 -- the member is added where it is there, and now tells whether something stands before the next one
 pub record AddsMember (later : Bool) (key : List ℕ) (o : Option Data) (old new : List ℕ) (now : Bool) : Type 0 where
-  pub text : new ≡ old ++ behind later key o
+  pub text : new ≡ old ++ member_behind later key o
   pub next : now ≡ (later || is_some o)
 
 -- the end of an object of a type: its word, and the brace

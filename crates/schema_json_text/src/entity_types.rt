@@ -1,7 +1,7 @@
 // Common types and entity types.
 ghost use Rattle.std.specs.Prelude.{OnOk, IfOk, map, string_bytes, codes, true};
 ghost use Rattle.serde_json.specs.Data.{no_members, put};
-ghost use Rattle.schema_json_values.specs.FragmentValues.{common_type_value, entity_type_value, kind_members, list_of, name_value, choice_value};
+ghost use Rattle.schema_json_values.specs.FragmentValues.{common_type_value, entity_type_value, kind_members, list_of, choice_value};
 ghost use Rattle.schema_json_text.specs.Adds.{Adds, AddsValue};
 ghost use Rattle.schema_json_text.specs.Members.{AddsMember, entity_end, flag_value, named_list, shape_value, tags_value};
 

@@ -1,14 +1,14 @@
 //! The compact JSON text of a fragment, written as it is gone through.
 #![tactic(auto)]
 
-pub mod actions;
-pub mod annotations;
-pub mod entity_types;
+mod actions;
+mod annotations;
+mod entity_types;
 pub mod fragments;
-pub mod leaves;
+mod leaves;
 pub mod members;
 mod pushing;
-pub mod quotes;
-pub mod types;
+mod quotes;
+mod types;
 
 pub use fragments::fragment_text;

@@ -2,7 +2,7 @@
 ghost use Rattle.std.specs.Prelude.{◌≡◌, ℕ, List, OnOk, map};
 ghost use Rattle.serde_json.specs.Data.{Data, object};
 ghost use Rattle.schema_json_text.specs.Adds.{AddsValue};
-ghost use Rattle.schema_json_text.specs.Members.{in_order};
+ghost use Rattle.schema_json_text.specs.Members.{members_in_order};
 
 use crate::leaves::push_key;
 use crate::pushing::push_char;
@@ -28,7 +28,7 @@ pub fn push_object<M: Member>(
     alloc: Global,
     members: &[M],
 ) -> Result<(), AllocError>
-    ensures { OnOk result (AddsValue out.old out.new (object (in_order (map M.entry members.now)))) }
+    ensures { OnOk result (AddsValue out.old out.new (object (members_in_order (map M.entry members.now)))) }
 {
     push_char(out, '{')?;
     let mut later = false;

@@ -3,7 +3,7 @@ ghost use Rattle.std.specs.Prelude.{◌≡◌, true, false, OnOk, MatchOption};
 ghost use Rattle.json.specs.Run.{is_stop};
 ghost use Rattle.json.specs.Print.{escape, escape_byte, quoted};
 ghost use Rattle.schema_json_text.specs.Adds.{Adds};
-ghost use Rattle.schema_json_text.specs.Escapes.{NoneEscaped, IsNextEscape};
+ghost use Rattle.schema_json_text.specs.Escapes.{NoneJsonEscaped, IsNextJsonEscape};
 
 use crate::pushing::{push, push_char};
 use std::alloc::AllocError;
@@ -54,7 +54,7 @@ fn escape_text(byte: u8) -> Option<&'static str>
 
 // The first place of a byte that must be escaped, and how it is written.
 fn next_escape(rest: &[u8]) -> Option<(usize, &'static str)>
-    ensures { MatchOption result (NoneEscaped rest.now) (λ e. IsNextEscape rest.now e.0 e.1.now) }
+    ensures { MatchOption result (NoneJsonEscaped rest.now) (λ e. IsNextJsonEscape rest.now e.0 e.1.now) }
 {
     for (at, byte) in rest.iter().enumerate() {
         if let Some(escape) = escape_text(*byte) {

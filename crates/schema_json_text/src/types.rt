@@ -5,7 +5,7 @@ ghost use Rattle.std.specs.List.Sorted.{IsStrictlySortedBy};
 ghost use Rattle.cedar_data.specs.Text.{text_cmp};
 ghost use Rattle.schema_json_values.specs.TypeValues.{object_of, type_members, variant_members, attribute_entry, type_value, with_word};
 ghost use Rattle.schema_json_text.specs.Adds.{Adds, AddsValue};
-ghost use Rattle.schema_json_text.specs.Members.{ahead, annotations_ahead, behind, described, flag_value, named_type, record_start, word_end};
+ghost use Rattle.schema_json_text.specs.Members.{ahead, annotations_ahead, member_behind, described, flag_value, named_type, record_start, word_end};
 
 use crate::annotations::push_annotations;
 use crate::leaves::push_key;
@@ -62,7 +62,7 @@ fn push_optional_ahead(out: &mut String, required: bool) -> Result<(), AllocErro
 
 // Adds that the attribute is not required, where it is not, behind another member.
 fn push_optional_behind(out: &mut String, required: bool) -> Result<(), AllocError>
-    ensures { OnOk result (Adds out.old out.new (behind true (codes "required") (flag_value (not required) false))) }
+    ensures { OnOk result (Adds out.old out.new (member_behind true (codes "required") (flag_value (not required) false))) }
 {
     if required {
         return Ok(());
@@ -72,7 +72,7 @@ fn push_optional_behind(out: &mut String, required: bool) -> Result<(), AllocErr
 
 // Ends the object of a type behind its field: whether it is required, and its word.
 fn push_end(out: &mut String, required: bool, end: &str) -> Result<(), AllocError>
-    ensures { OnOk result (Adds out.old out.new (behind true (codes "required") (flag_value (not required) false) ++ end.now)) }
+    ensures { OnOk result (Adds out.old out.new (member_behind true (codes "required") (flag_value (not required) false) ++ end.now)) }
 {
     push_optional_behind(out, required)?;
     push(out, end)

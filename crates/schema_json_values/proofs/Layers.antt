@@ -1,35 +1,24 @@
 -- The members of each kind of type, one equation a layer.
-use Rattle.std.proofs.Common.{◌≡◌, ℕ, ◌<◌, ◌≤◌, zero, suc, not, false, arith, List, [], ◌∷◌, ◌+◌, length, get_or, drop}
+use Rattle.std.proofs.Common.{◌≡◌, ℕ, ◌<◌, not, false, List, [], ◌∷◌, ◌+◌, length, get_or, drop}
 use Rattle.std.proofs.Common.{map, codes, refl, ap, sym, ◌∙◌, Option}
-use Rattle.std.specs.Map.{values_of}
 use Rattle.std.proofs.lemmas.List.{drop_more}
-use denote.Param.Weighed.{most}
 use Rattle.serde_json.specs.Data.{Data, Members, object, string, put}
 use Rattle.cedar_data.specs.declared.loc.Loc.{Loc}
 use Rattle.cedar_identifiers.specs.declared.unreserved_id.UnreservedId.{UnreservedId}
-use Rattle.schema_json.specs.declared.types.Type.{«Type», Type-F, fold-roll-Type}
-use Rattle.schema_json.specs.declared.types.Type.TheVariants.{Variant, CommonTypeRef, rolls-Variant}
-use Rattle.schema_json.specs.declared.types.Type.TheVariants.{rolls-CommonTypeRef}
-use Rattle.schema_json.specs.declared.types.TypeVariant.{TypeVariant, TypeVariant-F, fold-roll-TypeVariant}
+use Rattle.schema_json.specs.declared.types.Type.{«Type»}
+use Rattle.schema_json.specs.declared.types.Type.TheVariants.{Variant, CommonTypeRef}
+use Rattle.schema_json.specs.declared.types.TypeVariant.{TypeVariant}
 use Rattle.schema_json.specs.declared.types.TypeVariant.TheVariants.{Set, Record, Entity, EntityOrCommon, Extension}
-use Rattle.schema_json.specs.declared.types.TypeVariant.TheVariants.{String, Long, Boolean, rolls-Set, rolls-Record}
-use Rattle.schema_json.specs.declared.types.TypeVariant.TheVariants.{rolls-Entity, rolls-EntityOrCommon}
-use Rattle.schema_json.specs.declared.types.TypeVariant.TheVariants.{rolls-Extension, rolls-String, rolls-Long}
-use Rattle.schema_json.specs.declared.types.TypeVariant.TheVariants.{rolls-Boolean}
+use Rattle.schema_json.specs.declared.types.TypeVariant.TheVariants.{String, Long, Boolean}
 use Rattle.schema_json.specs.declared.types.RecordType.{RecordType, out-RecordType, fold_out-RecordType}
 use Rattle.schema_json.specs.declared.types.TypeOfAttribute.{TypeOfAttribute, out-TypeOfAttribute}
 use Rattle.schema_json.specs.declared.types.TypeOfAttribute.{fold_out-TypeOfAttribute}
+use Rattle.schema_json.proofs.Layers.{variant_made, reference_made, string_made, long_made, boolean_made, set_made}
+use Rattle.schema_json.proofs.Layers.{record_made, entity_made, either_made, extension_made}
 use Rattle.schema_json_values.specs.TypeValues.{put_all, type_layer, variant_layer, record_layer, attribute_layer}
 use Rattle.schema_json_values.specs.TypeValues.{layer_entry, attribute_entry, attribute_members, type_members}
 use Rattle.schema_json_values.specs.TypeValues.{variant_members, record_members, with_attributes, with_word, with_flag}
 use Rattle.schema_json_values.specs.TypeValues.{with_annotations, name_bytes}
-
--- a value among the entries is no deeper than the deepest
-pub most_at : {K A : Type 0} (f : A → ℕ) (es : List (K × A)) (i : ℕ) (d : K × A) → i < length es
-    → f (get_or es i d).1 ≤ most f (values_of es)
-most_at f [] i d h = absurd (omega arith)
-most_at f (e ∷ es) zero d h = omega arith
-most_at f (e ∷ es) (suc i) d h = omega (arith, most_at f es i d (omega arith))
 
 -- one member more
 pub put_step : {X : Type 0} (f : X → List ℕ × Data) (es : List X) (i : ℕ) (x : X) (ms new : Members) → i < length es
@@ -46,7 +35,7 @@ module _ (N : Type 0) (names : N → List (List ℕ)) where
   entries_made [] = refl
   entries_made (e ∷ es) = ap (λ xs. attribute_entry names e ∷ xs) (entries_made es)
 
-  record_out : (r : RecordType N)
+  pub record_out : (r : RecordType N)
       → record_members names r ≡ with_attributes (map (attribute_entry names) (out-RecordType N r).attributes)
       (out-RecordType N r).additional_attributes
   record_out r =
@@ -63,59 +52,47 @@ module _ (N : Type 0) (names : N → List (List ℕ)) where
 
   pub type_variant : (ty : TypeVariant N) (loc : Option Loc)
       → type_members names (Variant ty loc) ≡ variant_members names ty
-  type_variant ty loc = ap (type_members names) (sym (rolls-Variant ty loc))
-      ∙ fold-roll-Type N Members Members Members Members (type_layer names) (variant_layer names) (record_layer names)
-      (attribute_layer names) (Type-F.Variant ty loc)
+  type_variant ty loc =
+      variant_made N (type_layer names) (variant_layer names) (record_layer names) (attribute_layer names) ty loc
 
   pub type_common : (n : N) (loc : Option Loc)
       → type_members names (CommonTypeRef n loc) ≡ with_word (name_bytes names n)
-  type_common n loc = ap (type_members names) (sym (rolls-CommonTypeRef n loc))
-      ∙ fold-roll-Type N Members Members Members Members (type_layer names) (variant_layer names) (record_layer names)
-      (attribute_layer names) (Type-F.CommonTypeRef n loc)
+  type_common n loc =
+      reference_made N (type_layer names) (variant_layer names) (record_layer names) (attribute_layer names) n loc
 
   pub variant_set : (t : «Type» N)
       → variant_members names (Set t) ≡ put (codes "element") (object (type_members names t)) (with_word (codes "Set"))
-  variant_set t = ap (variant_members names) (sym (rolls-Set t))
-      ∙ fold-roll-TypeVariant N Members Members Members Members (type_layer names) (variant_layer names)
-      (record_layer names) (attribute_layer names) (TypeVariant-F.Set t)
+  variant_set t = set_made N (type_layer names) (variant_layer names) (record_layer names) (attribute_layer names) t
 
   pub variant_record : (r : RecordType N)
       → variant_members names (Record r)
       ≡ with_attributes (map (attribute_entry names) (out-RecordType N r).attributes)
       (out-RecordType N r).additional_attributes
-  variant_record r = ap (variant_members names) (sym (rolls-Record r))
-      ∙ fold-roll-TypeVariant N Members Members Members Members (type_layer names) (variant_layer names)
-      (record_layer names) (attribute_layer names) (TypeVariant-F.Record r) ∙ record_out r
+  variant_record r =
+      record_made N (type_layer names) (variant_layer names) (record_layer names) (attribute_layer names) r
+      ∙ record_out r
 
   pub variant_entity : (n : N) → variant_members names (Entity n)
       ≡ put (codes "name") (string (name_bytes names n)) (with_word (codes "Entity"))
-  variant_entity n = ap (variant_members names) (sym (rolls-Entity n))
-      ∙ fold-roll-TypeVariant N Members Members Members Members (type_layer names) (variant_layer names)
-      (record_layer names) (attribute_layer names) (TypeVariant-F.Entity n)
+  variant_entity n =
+      entity_made N (type_layer names) (variant_layer names) (record_layer names) (attribute_layer names) n
 
   pub variant_either : (n : N) → variant_members names (EntityOrCommon n)
       ≡ put (codes "name") (string (name_bytes names n)) (with_word (codes "EntityOrCommon"))
-  variant_either n = ap (variant_members names) (sym (rolls-EntityOrCommon n))
-      ∙ fold-roll-TypeVariant N Members Members Members Members (type_layer names) (variant_layer names)
-      (record_layer names) (attribute_layer names) (TypeVariant-F.EntityOrCommon n)
+  variant_either n =
+      either_made N (type_layer names) (variant_layer names) (record_layer names) (attribute_layer names) n
 
   pub variant_extension : (id : UnreservedId)
       → variant_members names (Extension id) ≡ put (codes "name") (string id.id.text) (with_word (codes "Extension"))
-  variant_extension id = ap (variant_members names) (sym (rolls-Extension id))
-      ∙ fold-roll-TypeVariant N Members Members Members Members (type_layer names) (variant_layer names)
-      (record_layer names) (attribute_layer names) (TypeVariant-F.Extension id)
+  variant_extension id =
+      extension_made N (type_layer names) (variant_layer names) (record_layer names) (attribute_layer names) id
 
   pub variant_string : variant_members names String ≡ with_word (codes "String")
-  variant_string = ap (variant_members names) (sym rolls-String)
-      ∙ fold-roll-TypeVariant N Members Members Members Members (type_layer names) (variant_layer names)
-      (record_layer names) (attribute_layer names) TypeVariant-F.String
+  variant_string = string_made N (type_layer names) (variant_layer names) (record_layer names) (attribute_layer names)
 
   pub variant_long : variant_members names Long ≡ with_word (codes "Long")
-  variant_long = ap (variant_members names) (sym rolls-Long)
-      ∙ fold-roll-TypeVariant N Members Members Members Members (type_layer names) (variant_layer names)
-      (record_layer names) (attribute_layer names) TypeVariant-F.Long
+  variant_long = long_made N (type_layer names) (variant_layer names) (record_layer names) (attribute_layer names)
 
   pub variant_boolean : variant_members names Boolean ≡ with_word (codes "Boolean")
-  variant_boolean = ap (variant_members names) (sym rolls-Boolean)
-      ∙ fold-roll-TypeVariant N Members Members Members Members (type_layer names) (variant_layer names)
-      (record_layer names) (attribute_layer names) TypeVariant-F.Boolean
+  variant_boolean =
+      boolean_made N (type_layer names) (variant_layer names) (record_layer names) (attribute_layer names)

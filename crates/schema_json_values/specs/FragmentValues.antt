@@ -31,9 +31,9 @@ abbrev pub list_of : List Data → Data
 list_of ds = array (items_of ds)
 
 -- with the value, where it is there
-abbrev pub with_value : List ℕ → Option Data → Members → Members
-with_value key None ms = ms
-with_value key (Some d) ms = put key d ms
+abbrev pub with_optional_value : List ℕ → Option Data → Members → Members
+with_optional_value key None ms = ms
+with_optional_value key (Some d) ms = put key d ms
 
 -- with the list, where it has an item
 abbrev pub with_list : List ℕ → List Data → Members → Members
@@ -54,9 +54,9 @@ abbrev pub attribute_name_entry : List ℕ → List ℕ × Data
 attribute_name_entry t = (encode_utf8_all t, null)
 
 -- with the names of the attributes, each beside null, where any were written
-abbrev pub with_attributes : Option (List (List ℕ)) → Members → Members
-with_attributes None ms = ms
-with_attributes (Some names) ms = put (codes "attributes") (object_of (map attribute_name_entry names)) ms
+abbrev pub with_attribute_names : Option (List (List ℕ)) → Members → Members
+with_attribute_names None ms = ms
+with_attribute_names (Some names) ms = put (codes "attributes") (object_of (map attribute_name_entry names)) ms
 
 -- the text of the name of a namespace, and the empty text for the empty one
 abbrev pub namespace_bytes : Option Name → List ℕ
@@ -136,7 +136,7 @@ module _ {N : Type 0} (components : N → List (List ℕ)) where
     action_value a =
         object (with_annotations a.annotations.0
         (with_flag a.external (codes "external") true
-        (with_parents a.member_of (with_applies_to a.applies_to (with_attributes a.attributes no_members)))))
+        (with_parents a.member_of (with_applies_to a.applies_to (with_attribute_names a.attributes no_members)))))
 
     -- the object of an action under its id
     abbrev pub action_entry : List ℕ × ActionType N G → List ℕ × Data

@@ -3,7 +3,7 @@ ghost use Rattle.std.specs.Prelude.{◌≡◌, IfOk, OnOk, map};
 ghost use Rattle.serde_json.specs.Data.{no_members};
 ghost use Rattle.serde_json.specs.View.{view, members_view};
 ghost use Rattle.schema_json_values.specs.TypeValues.{put_all};
-ghost use Rattle.schema_json_values.specs.FragmentValues.{with_attributes, attribute_name_entry, applies_to_value, with_applies_to, with_type, action_id_value, with_parents, list_of, action_value};
+ghost use Rattle.schema_json_values.specs.FragmentValues.{with_attribute_names, attribute_name_entry, applies_to_value, with_applies_to, with_type, action_id_value, with_parents, list_of, action_value};
 
 use crate::annotations::put_annotations;
 use crate::entity_types::put_shape;
@@ -20,7 +20,7 @@ fn put_attributes(
     alloc: Global,
     attributes: &Option<Set<Text>>,
 ) -> Result<(), AllocError>
-    ensures { OnOk result (members_view members.new.entries ≡ with_attributes attributes.now (members_view members.old.entries)) }
+    ensures { OnOk result (members_view members.new.entries ≡ with_attribute_names attributes.now (members_view members.old.entries)) }
 {
     match attributes {
         Some(names) => {

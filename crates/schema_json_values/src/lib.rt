@@ -1,11 +1,11 @@
 //! Fragments written as JSON values.
 #![tactic(auto)]
 
-pub mod actions;
-pub mod annotations;
-pub mod entity_types;
+mod actions;
+mod annotations;
+mod entity_types;
 pub mod fragments;
-pub mod leaves;
-pub mod types;
+mod leaves;
+mod types;
 
 pub use fragments::{WriteJson, fragment_value};

@@ -2,7 +2,7 @@
 ghost use Rattle.std.specs.Prelude.{◌≡◌, IfOk, map, true, codes};
 ghost use Rattle.serde_json.specs.Data.{object, no_members, put as put_in};
 ghost use Rattle.serde_json.specs.View.{view, members_view};
-ghost use Rattle.schema_json_values.specs.TypeValues.{put_all, type_members, variant_members, attribute_members, attribute_entry, with_flag, with_word};
+ghost use Rattle.schema_json_values.specs.TypeValues.{put_all, type_members, variant_members, attribute_entry, with_flag, with_word};
 
 use crate::annotations::put_annotations;
 use crate::leaves::{Members, name_value, put_flag, text_value, with_word};

@@ -1,22 +1,17 @@
 -- What a walk gives is what its parts give, one after another.
-use Rattle.std.proofs.Common.{◌≡◌, ℕ, Bool, true, false, List, [], ◌∷◌, ◌++◌, map, refl, sym, ap, ◌∙◌, subst}
+use Rattle.std.proofs.Common.{◌≡◌, ℕ, Bool, true, false, List, [], ◌∷◌, ◌++◌, refl, sym, ap, ◌∙◌}
 use Rattle.std.proofs.Common.{append-nil, Option, Some, None}
-use Rattle.std.specs.List.{flat_map}
+use Rattle.std.specs.List.{flat_map, AllByRecursion}
 use Rattle.std.specs.Option.{option_map_or}
 use Rattle.std.proofs.lemmas.Grind.{flat_map-append}
 use Rattle.cedar_identifiers.specs.declared.name.Name.{Name}
 use Rattle.cedar_identifiers.specs.declared.name_text.NameText as named
-use Rattle.cedar_identifiers.specs.declared.reference_type.ReferenceType.TheVariants.{Common, Entity, CommonOrEntity}
-use Rattle.schema_json.specs.declared.types.Type.{«Type», out-Type, roll-Type}
-use Rattle.schema_json.specs.declared.types.TypeVariant.{TypeVariant, roll-TypeVariant}
-use Rattle.schema_json.specs.declared.types.RecordType.{RecordType, roll-RecordType}
-use Rattle.schema_json.specs.declared.types.TypeOfAttribute.{TypeOfAttribute, roll-TypeOfAttribute}
-use Rattle.schema_json.specs.declared.types.Type.TheOpen.{Type-F, TypeVariant-F, RecordType-F, TypeOfAttribute-F}
-use Rattle.schema_json.specs.declared.types.Type.TheFolds.{ind-Type, ind-TypeVariant}
-use Rattle.schema_json.specs.declared.types.Type.TheFolds.{map-Type, map-TypeVariant}
-use Rattle.schema_json.specs.declared.types.Type.TheFolds.{map-RecordType, map-TypeOfAttribute, fold-roll-Type}
-use Rattle.schema_json.specs.declared.types.Type.TheFolds.{fold-roll-TypeVariant, fold-roll-RecordType}
-use Rattle.schema_json.specs.declared.types.Type.TheFolds.{fold-roll-TypeOfAttribute}
+use Rattle.schema_json.specs.Shapes.{attributes_of, is_open}
+use Rattle.schema_json.specs.declared.types.Type.{«Type», Type-F, out-Type}
+use Rattle.schema_json.specs.declared.types.TypeVariant.{TypeVariant}
+use Rattle.schema_json.specs.declared.types.RecordType.{RecordType}
+use Rattle.schema_json.specs.declared.types.TypeOfAttribute.{TypeOfAttribute}
+use Rattle.schema_json.proofs.Layers.{Layers, each_type, each_variant}
 use Rattle.schema_json.specs.declared.entity_type.AttributesOrContext.{AttributesOrContext}
 use Rattle.schema_json.specs.declared.entity_type.EntityTypeKind.{EntityTypeKind}
 use Rattle.schema_json.specs.declared.entity_type.EntityTypeKind.TheVariants.{Standard, Enum}
@@ -26,12 +21,16 @@ use Rattle.schema_json.specs.declared.action_type.ActionEntityUID.{ActionEntityU
 use Rattle.schema_json.specs.declared.action_type.ActionType.{ActionType}
 use Rattle.schema_json.specs.declared.fragment.NamespaceDefinition.{NamespaceDefinition}
 use Rattle.schema_json.specs.declared.fragment.Fragment.{Fragment}
-use Rattle.schema_json_walk.specs.Parts.{Part, type_reference, context_reference, action_parent, extension_type}
+use Rattle.schema_json_walk.specs.Parts.{Part, context_reference, action_parent}
 use Rattle.schema_json_walk.specs.Parts.{open_record, action_attributes, external_not_bare}
-use Rattle.schema_json_walk.specs.Walk.{itself, visit_where, at_type, at_variant, at_record, at_attribute}
+use Rattle.schema_json_walk.specs.Walk.{itself, visit_where, of_entries}
 use Rattle.schema_json_walk.specs.Walk.{at_context, of_type, of_variant, of_record, of_attribute, of_context}
 use Rattle.schema_json_walk.specs.Walk.{of_kind, of_entity, of_common, of_apply, of_uid, of_uids}
 use Rattle.schema_json_walk.specs.Walk.{of_action, of_namespace, of_entry, of_fragment, fragment_parts}
+use Rattle.schema_json_walk.proofs.Layers.{type_walked, reference_walked, string_walked, long_walked, boolean_walked}
+use Rattle.schema_json_walk.proofs.Layers.{set_walked}
+use Rattle.schema_json_walk.proofs.Layers.{variant_walked, entity_walked, either_walked, extension_walked}
+use Rattle.schema_json_walk.proofs.Layers.{record_walked, attribute_walked}
 
 -- of a list, each item's
 pub each_by_parts : {A P U : Type 0} (visit : P → List U) (f : A → List U) (g : A → List P)
@@ -49,6 +48,11 @@ option_by_parts visit f g same (Some a) = same a
 both_by_parts : {P U : Type 0} (visit : P → List U) (a b : List U) (p q : List P)
     → a ≡ flat_map visit p → b ≡ flat_map visit q → a ++ b ≡ flat_map visit (p ++ q)
 both_by_parts visit a b p q h k = (λ i. h i ++ k i) ∙ sym (flat_map-append visit p q)
+
+-- of what is made of a part, what is made of the part
+as_inside : {P U : Type 0} (visit : P → List U) {a b : List U} {p q : List P} → a ≡ b → p ≡ q → b ≡ flat_map visit q
+    → a ≡ flat_map visit p
+as_inside visit e f h = e ∙ h ∙ ap (flat_map visit) (sym f)
 
 module _ {N U : Type 0} (visit : Part N → List U) where
   pub one_by_parts : (p : Part N) → visit p ≡ flat_map visit (itself p)
@@ -70,109 +74,35 @@ module _ {N U : Type 0} (visit : Part N → List U) where
   abbrev P3 : TypeOfAttribute N → Type 0
   P3 a = of_attribute visit a ≡ flat_map visit (of_attribute itself a)
 
-  abbrev T' : Type 0
-  T' = (t : «Type» N) × P t
+  entries_by_parts : (es : List (List ℕ × TypeOfAttribute N)) → AllByRecursion (λ e. P3 e.1) es
+      → of_entries visit es ≡ flat_map visit (of_entries itself es)
+  entries_by_parts [] h = refl
+  entries_by_parts (e ∷ es) h = both_by_parts visit _ _ _ _ h.0 (entries_by_parts es h.1)
 
-  abbrev V' : Type 0
-  V' = (v : TypeVariant N) × P1 v
-
-  abbrev R' : Type 0
-  R' = (r : RecordType N) × P2 r
-
-  abbrev A' : Type 0
-  A' = (a : TypeOfAttribute N) × P3 a
-
-  step_type : (y : Type-F N T' V' R' A')
-      → P (roll-Type N (map-Type N T' V' R' A' _ _ _ _ (λ e. e.0) (λ e. e.0) (λ e. e.0) (λ e. e.0) y))
-  step_type y =
-      let x = map-Type N T' V' R' A' («Type» N) (TypeVariant N) (RecordType N) (TypeOfAttribute N) (λ e. e.0)
-      (λ e. e.0) (λ e. e.0) (λ e. e.0) y in
-      fold-roll-Type N (List U) (List U) (List U) (List U) (at_type visit) (at_variant visit) (at_record visit)
-      (at_attribute visit) x
-      ∙ core y
-      ∙ ap (flat_map visit) (sym (fold-roll-Type N (List (Part N)) (List (Part N)) (List (Part N)) (List (Part N))
-      (at_type itself) (at_variant itself) (at_record itself) (at_attribute itself) x))
-    where
-      core : (z : Type-F N T' V' R' A')
-          → at_type visit (map-Type N _ _ _ _ _ _ _ _ (of_type visit) (of_variant visit) (of_record visit)
-          (of_attribute visit) (map-Type N T' V' R' A' _ _ _ _ (λ e. e.0) (λ e. e.0) (λ e. e.0) (λ e. e.0) z))
-          ≡ flat_map visit (at_type itself
-          (map-Type N _ _ _ _ _ _ _ _ (of_type itself) (of_variant itself) (of_record itself) (of_attribute itself)
-          (map-Type N T' V' R' A' _ _ _ _ (λ e. e.0) (λ e. e.0) (λ e. e.0) (λ e. e.0) z)))
-      core (Type-F.Variant v loc) = v.1
-      core (Type-F.CommonTypeRef n loc) = one_by_parts (type_reference Common n)
-
-  step_variant : (y : TypeVariant-F N T' V' R' A')
-      → P1 (roll-TypeVariant N (map-TypeVariant N T' V' R' A' _ _ _ _ (λ e. e.0) (λ e. e.0) (λ e. e.0) (λ e. e.0) y))
-  step_variant y =
-      let x = map-TypeVariant N T' V' R' A' («Type» N) (TypeVariant N) (RecordType N) (TypeOfAttribute N) (λ e. e.0)
-      (λ e. e.0) (λ e. e.0) (λ e. e.0) y in
-      fold-roll-TypeVariant N (List U) (List U) (List U) (List U) (at_type visit) (at_variant visit) (at_record visit)
-      (at_attribute visit) x
-      ∙ core y
-      ∙ ap (flat_map visit) (sym (fold-roll-TypeVariant N (List (Part N)) (List (Part N)) (List (Part N))
-      (List (Part N)) (at_type itself) (at_variant itself) (at_record itself) (at_attribute itself) x))
-    where
-      core : (z : TypeVariant-F N T' V' R' A')
-          → at_variant visit (map-TypeVariant N _ _ _ _ _ _ _ _ (of_type visit) (of_variant visit) (of_record visit)
-          (of_attribute visit) (map-TypeVariant N T' V' R' A' _ _ _ _ (λ e. e.0) (λ e. e.0) (λ e. e.0) (λ e. e.0) z))
-          ≡ flat_map visit (at_variant itself
-          (map-TypeVariant N _ _ _ _ _ _ _ _ (of_type itself) (of_variant itself) (of_record itself)
-          (of_attribute itself) (map-TypeVariant N T' V' R' A' _ _ _ _ (λ e. e.0) (λ e. e.0) (λ e. e.0) (λ e. e.0) z)))
-      core TypeVariant-F.String = refl
-      core TypeVariant-F.Long = refl
-      core TypeVariant-F.Boolean = refl
-      core (TypeVariant-F.Set b) = b.1
-      core (TypeVariant-F.Record r) = r.1
-      core (TypeVariant-F.Entity n) = one_by_parts (type_reference Entity n)
-      core (TypeVariant-F.EntityOrCommon n) = one_by_parts (type_reference CommonOrEntity n)
-      core (TypeVariant-F.Extension n) = one_by_parts (extension_type n)
-
-  entries_by_parts : (es : List (List ℕ × A'))
-      → flat_map (λ p. p.1) (map (λ p. let q : List ℕ × List U = (p.0, of_attribute visit p.1) in q)
-      (map (λ p. let q : List ℕ × TypeOfAttribute N = (p.0, p.1.0) in q) es))
-      ≡ flat_map visit (flat_map (λ p. p.1)
-      (map (λ p. let q : List ℕ × List (Part N) = (p.0, of_attribute itself p.1) in q)
-      (map (λ p. let q : List ℕ × TypeOfAttribute N = (p.0, p.1.0) in q) es)))
-  entries_by_parts [] = refl
-  entries_by_parts (e ∷ es) = both_by_parts visit _ _ _ _ e.1.1 (entries_by_parts es)
-
-  step_record : (y : RecordType-F N T' V' R' A')
-      → P2 (roll-RecordType N (map-RecordType N T' V' R' A' _ _ _ _ (λ e. e.0) (λ e. e.0) (λ e. e.0) (λ e. e.0) y))
-  step_record y =
-      let x = map-RecordType N T' V' R' A' («Type» N) (TypeVariant N) (RecordType N) (TypeOfAttribute N) (λ e. e.0)
-      (λ e. e.0) (λ e. e.0) (λ e. e.0) y in
-      fold-roll-RecordType N (List U) (List U) (List U) (List U) (at_type visit) (at_variant visit) (at_record visit)
-      (at_attribute visit) x
-      ∙ both_by_parts visit _ _ _ _ (where_by_parts y.additional_attributes open_record) (entries_by_parts y.attributes)
-      ∙ ap (flat_map visit) (sym (fold-roll-RecordType N (List (Part N)) (List (Part N)) (List (Part N))
-      (List (Part N)) (at_type itself) (at_variant itself) (at_record itself) (at_attribute itself) x))
-
-  step_attribute : (y : TypeOfAttribute-F N T' V' R' A')
-      → P3 (roll-TypeOfAttribute N (map-TypeOfAttribute N T' V' R' A' _ _ _ _ (λ e. e.0) (λ e. e.0) (λ e. e.0)
-      (λ e. e.0) y))
-  step_attribute y =
-      let x = map-TypeOfAttribute N T' V' R' A' («Type» N) (TypeVariant N) (RecordType N) (TypeOfAttribute N)
-      (λ e. e.0) (λ e. e.0) (λ e. e.0) (λ e. e.0) y in
-      fold-roll-TypeOfAttribute N (List U) (List U) (List U) (List U) (at_type visit) (at_variant visit)
-      (at_record visit) (at_attribute visit) x
-      ∙ y.ty.1
-      ∙ ap (flat_map visit) (sym (fold-roll-TypeOfAttribute N (List (Part N)) (List (Part N)) (List (Part N))
-      (List (Part N)) (at_type itself) (at_variant itself) (at_record itself) (at_attribute itself) x))
+  layers : Layers N P P1 P2 P3
+  layers = record {
+    variant = λ v loc h. as_inside visit (type_walked visit v loc) (type_walked itself v loc) h;
+    reference = λ n loc.
+        as_inside visit (reference_walked visit n loc) (reference_walked itself n loc) (one_by_parts _);
+    string = as_inside visit (string_walked visit) (string_walked itself) refl;
+    long = as_inside visit (long_walked visit) (long_walked itself) refl;
+    boolean = as_inside visit (boolean_walked visit) (boolean_walked itself) refl;
+    set = λ t h. as_inside visit (set_walked visit t) (set_walked itself t) h;
+    fields = λ r h. as_inside visit (variant_walked visit r) (variant_walked itself r) h;
+    entity = λ n. as_inside visit (entity_walked visit n) (entity_walked itself n) (one_by_parts _);
+    either = λ n. as_inside visit (either_walked visit n) (either_walked itself n) (one_by_parts _);
+    extension = λ id. as_inside visit (extension_walked visit id) (extension_walked itself id) (one_by_parts _);
+    entries = λ r h. as_inside visit (record_walked visit r) (record_walked itself r)
+        (both_by_parts visit _ _ _ _ (where_by_parts (is_open r) open_record)
+        (entries_by_parts (attributes_of r) h));
+    attribute = λ a h. as_inside visit (attribute_walked visit a) (attribute_walked itself a) h;
+  }
 
   pub type_by_parts : (t : «Type» N) → P t
-  type_by_parts = ind-Type N P P1 P2 P3
-      (λ x y is. subst (λ z. P (roll-Type N z)) is (step_type y))
-      (λ x y is. subst (λ z. P1 (roll-TypeVariant N z)) is (step_variant y))
-      (λ x y is. subst (λ z. P2 (roll-RecordType N z)) is (step_record y))
-      (λ x y is. subst (λ z. P3 (roll-TypeOfAttribute N z)) is (step_attribute y))
+  type_by_parts = each_type N P P1 P2 P3 layers
 
   pub variant_by_parts : (v : TypeVariant N) → P1 v
-  variant_by_parts = ind-TypeVariant N P P1 P2 P3
-      (λ x y is. subst (λ z. P (roll-Type N z)) is (step_type y))
-      (λ x y is. subst (λ z. P1 (roll-TypeVariant N z)) is (step_variant y))
-      (λ x y is. subst (λ z. P2 (roll-RecordType N z)) is (step_record y))
-      (λ x y is. subst (λ z. P3 (roll-TypeOfAttribute N z)) is (step_attribute y))
+  variant_by_parts = each_variant N P P1 P2 P3 layers
 
   pub context_by_parts : (c : AttributesOrContext N) → of_context visit c ≡ flat_map visit (of_context itself c)
   context_by_parts c = go (out-Type N c.0)

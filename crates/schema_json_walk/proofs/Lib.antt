@@ -1,4 +1,4 @@
 pub mod ByParts
 pub mod Layers
 mod Placed
-mod Visiting
+pub mod Visiting

@@ -8,6 +8,15 @@ use Rattle.std.specs.List.{FoldsTo, flat_map}
 use Rattle.std.specs.Result.{IsErrAnd, IfErr, OnOk}
 use Rattle.schema_json_walk.specs.Visits.{StopsAmong}
 
+-- what is before an item, what the item gives, and what is behind it
+pub parted : {A P : Type 0} (f : A → List P) (xs : List A) (i : ℕ) (d : A) → i < length xs → d ≡ get_or xs i d
+    → flat_map f (take i xs) ++ (f d ++ flat_map f (drop (suc i) xs)) ≡ flat_map f xs
+parted f [] i d h e = absurd (omega arith)
+parted f (x ∷ xs) zero d h e = ap (λ a. f a ++ flat_map f xs) e
+parted f (x ∷ xs) (suc i) d h e =
+    append_assoc (f x) (flat_map f (take i xs)) (f d ++ flat_map f (drop (suc i) xs))
+    ∙ ap (λ l. f x ++ l) (parted f xs i d (omega arith) e)
+
 module _ {S P : Type 0} (R : S → P → S → Type 0) where
   pub folds_then : (a b : List P) (s j t : S) → FoldsTo R s a j → FoldsTo R j b t → FoldsTo R s (a ++ b) t
   folds_then [] b s j t h k = subst (λ x. FoldsTo R x b t) (sym h) k
@@ -34,19 +43,11 @@ module _ {S P : Type 0} (R : S → P → S → Type 0) where
     stops_behind (p ∷ ps) b s j e h k = inr (h.0, h.1, stops_behind ps b h.0 j e h.2 k)
 
     module _ {A : Type 0} (f : A → List P) where
-      parted : (xs : List A) (i : ℕ) (d : A) → i < length xs → d ≡ get_or xs i d
-          → flat_map f (take i xs) ++ (f d ++ flat_map f (drop (suc i) xs)) ≡ flat_map f xs
-      parted [] i d h e = absurd (omega arith)
-      parted (x ∷ xs) zero d h e = ap (λ a. f a ++ flat_map f xs) e
-      parted (x ∷ xs) (suc i) d h e =
-          append_assoc (f x) (flat_map f (take i xs)) (f d ++ flat_map f (drop (suc i) xs))
-          ∙ ap (λ l. f x ++ l) (parted xs i d (omega arith) e)
-
       -- the first of an item that stops it, where those before it are taken
       pub each_stops : (xs : List A) (i : ℕ) (d : A) (s j : S) (e : E) → i < length xs → d ≡ get_or xs i d
           → FoldsTo R s (flat_map f (take i xs)) j → StopsAmong R Q j (f d) e → StopsAmong R Q s (flat_map f xs) e
       each_stops xs i d s j e l at h k =
-          subst (λ x. StopsAmong R Q s x e) (parted xs i d l at)
+          subst (λ x. StopsAmong R Q s x e) (parted f xs i d l at)
           (stops_behind (flat_map f (take i xs)) (f d ++ flat_map f (drop (suc i) xs)) s j e h
           (stops_front (f d) (flat_map f (drop (suc i) xs)) j e k))
 

@@ -1,4 +1,4 @@
-ghost use Rattle.std.specs.Prelude.{[], ◌∷◌, Option, OnOk, IfErr, if◌then◌else◌};
+ghost use Rattle.std.specs.Prelude.{Option, OnOk, IfErr, if◌then◌else◌};
 ghost use Rattle.std.specs.List.{FoldsTo};
 ghost use Rattle.cedar_identifiers.specs.declared.name.Name.{Name};
 ghost use Rattle.schema_json_walk.specs.Parts.{Part};

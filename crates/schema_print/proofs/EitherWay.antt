@@ -1,9 +1,9 @@
 -- A reference means the same either way exactly where its test passes.
-use Rattle.std.proofs.Common.{◌≡◌, ◌↔◌, Bool, true, false, not, ◌||◌, List, [], ◌∷◌, ◌++◌, Option, Some, None, cond}
+use Rattle.std.proofs.Common.{◌≡◌, ◌↔◌, Bool, true, false, not, ◌||◌, List, [], ◌∷◌, Option, Some, None, cond}
 use Rattle.std.proofs.Common.{refl, sym, ap, ◌∙◌}
 use Rattle.std.specs.Prelude.{if◌then◌else◌}
 use Rattle.std.specs.Option.{option_map}
-use Rattle.std.proofs.lemmas.List.{map-append}
+use Rattle.std.proofs.lemmas.Option.{same_Some}
 use Rattle.cedar_data.specs.declared.loc.Loc.{Loc}
 use Rattle.cedar_identifiers.specs.Candidates.{behind}
 use Rattle.cedar_identifiers.specs.Names.{components_of}
@@ -12,17 +12,14 @@ use Rattle.cedar_identifiers.specs.declared.internal_name.InternalName.{Internal
 use Rattle.cedar_identifiers.specs.declared.raw_name.RawName.{RawName}
 use Rattle.cedar_identifiers.specs.declared.reference_type.ReferenceType.{ReferenceType}
 use Rattle.cedar_identifiers.specs.declared.reference_type.ReferenceType.TheVariants.{Common, Entity, CommonOrEntity}
-use Rattle.schema_resolve.specs.Meanings.{means, kind_there}
 use Rattle.schema_resolve_definitions.specs.Tests.{Tests}
+use Rattle.schema_resolve.specs.Meanings.{means, kind_there}
+use Rattle.schema_resolve.proofs.Candidates.{behind_parts}
 use Rattle.schema_print.specs.PrintableTests.{agrees, agrees_in}
 
-abbrev kind_or : {N : Type 0} → ReferenceType → Option (N × ReferenceType) → ReferenceType
-kind_or k None = k
-kind_or k (Some found) = found.1
-
 -- what is found alike is of one kind
-same_kind : {N : Type 0} (m n : N × ReferenceType) → Some m ≡ Some n → m.1 ≡ n.1
-same_kind m n h = ap (kind_or m.1) h
+pub same_kind : {N : Type 0} (m n : N × ReferenceType) → Some m ≡ Some n → m.1 ≡ n.1
+same_kind m n h = ap (λ found. found.1) (same_Some m n h)
 
 -- what is found among two candidates, by what each of them is
 module _ {N : Type 0} (told : N → ReferenceType) where
@@ -71,11 +68,6 @@ module _ {N : Type 0} (told : N → ReferenceType) where
       entity_agrees false true c d e f = (λ h. cc, λ h. refl)
       entity_agrees false false c d e f = entity_alone c d f
 
--- the words of an unqualified name behind a namespace
-behind_words : (ns : InternalName) (first : Id) (loc : Option Loc)
-    → components_of (behind ns (record { first = first; others = []; loc = loc })) ≡ components_of ns ++ first.text ∷ []
-behind_words ns first loc = ap (λ l. ns.first.text ∷ l) (map-append (λ (i : Id). i.text) ns.others (first ∷ []))
-
 module _ (t : Tests) where
   abbrev told_in : InternalName → ReferenceType
   told_in n = kind_there t CommonOrEntity n
@@ -101,7 +93,7 @@ module _ (t : Tests) where
     moved kind =
         ap (λ w. agrees kind (t.is_common w) (t.is_entity w) (t.is_common (components_of plain))
         (t.is_entity (components_of plain)))
-        (sym (behind_words ns first loc))
+        (sym (behind_parts ns first loc))
 
     behind_in : (kind : ReferenceType) → AgreesAsMeant (Some ns) kind plain
     behind_in Common =

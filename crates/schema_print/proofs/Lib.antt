@@ -1,7 +1,7 @@
-mod EitherWay
+pub mod EitherWay
 pub mod Grouped
 mod Printables
 pub mod Rows
 pub mod Spelled
-mod Tested
+pub mod Tested
 pub mod Wanted

@@ -1,7 +1,9 @@
 -- The tests of the namespaces and of the parts tell whether a fragment is printable.
-use Rattle.std.proofs.Common.{◌≡◌, ◌↔◌, Bool, true, false, not, ◌&&◌, Option, Some, None, refl, sym, ◌∙◌, true≢false}
+use Rattle.std.proofs.Common.{◌≡◌, ◌↔◌, Bool, true, not, ◌&&◌, Option, Some, None, refl, sym, ◌∙◌}
 use Rattle.std.specs.List.{list_all, AllByRecursion}
-use Rattle.std.proofs.lemmas.Bool.{and_from}
+use Rattle.std.proofs.lemmas.Bool.{and_from, and_parts}
+use Rattle.cedar_data.proofs.Every.{All-weaker}
+use Rattle.cedar_data.proofs.Every.{all_both}
 use Rattle.cedar_identifiers.specs.declared.name.Name.{Name}
 use Rattle.cedar_identifiers.specs.declared.name_text.NameText as named
 use Rattle.cedar_identifiers.specs.declared.raw_name.RawName.{RawName}
@@ -15,23 +17,20 @@ use Rattle.schema_json_walk.specs.Walk.{fragment_parts}
 use Rattle.schema_resolve_definitions.specs.Declarations.{name_of}
 use Rattle.schema_resolve_definitions.specs.Defined.{defined}
 use Rattle.schema_resolve_definitions.specs.Tests.{tests_of}
-use Rattle.schema_print.specs.Collisions.{declared_in, collisions, collisions_in, shapeless, shapeless_in, is_shapeless}
+use Rattle.schema_print.specs.Collisions.{declared_in, collisions, collisions_in, shapeless, shapeless_in}
+use Rattle.schema_print.specs.Collisions.{is_shapeless}
 use Rattle.schema_print.specs.Collisions.{names_entity_type}
-use Rattle.schema_print.specs.Printable.{IsClosed, IsBare, IsWithoutAttributes, IsInTable, IsMeantEitherWay}
+use Rattle.schema_print.specs.Printable.{IsClosedPart, IsBare, IsWithoutAttributes, IsInTable, IsMeantEitherWay}
 use Rattle.schema_print.specs.Printable.{has_printable_context, has_whole_targets, is_annotated_where_named}
 use Rattle.schema_print.specs.Printable.{of_each_action, IsPrintable}
 use Rattle.schema_print.specs.PrintableTests.{IsPrintablePart, passes_action, has_distinct_names, passes_block}
 use Rattle.schema_print.specs.PrintableTests.{agrees_in}
 use Rattle.schema_print.proofs.EitherWay.{agrees_as_meant}
-use Rattle.schema_print.proofs.Tested.{both_of_all, all_are_both, none, none_is, none_given, none_filtered, none_passes}
-use Rattle.schema_print.proofs.Tested.{both_held, weakly_held}
+use Rattle.schema_print.proofs.Tested.{both_of_all, all_are_both, none, none_is, none_given, none_filtered}
+use Rattle.schema_print.proofs.Tested.{none_passes}
 
 abbrev BlockOf : named.Ghosts RawName → Type 0
 BlockOf G = Option Name × NamespaceDefinition RawName G
-
-both_told : (a b : Bool) → (a && b) ≡ true → (a ≡ true) × (b ≡ true)
-both_told true b h = (refl, h)
-both_told false b h = absurd (true≢false (sym h))
 
 abbrev Placed : Type 0
 Placed = Option Name × Part RawName
@@ -122,10 +121,11 @@ module _ {G : named.Ghosts RawName} where
         → IsPrintable f table
     printable_told h parts =
         let p = each_passed f h in
-        let applied = both_told _ _ (sym (actions_told f) ∙ p.targets) in
-        let weaker = λ (Q : Placed → Type 0). weakly_held Passes Q (fragment_parts f) in
+        let applied = and_parts _ _ (sym (actions_told f) ∙ p.targets) in
+        let weaker = λ (Q : Placed → Type 0) (h : (e : Placed) → Passes e → Q e).
+        All-weaker Passes Q h (fragment_parts f) in
         record {
-          closed = weaker (λ e. IsClosed e.1) (λ e h. h.closed) parts;
+          closed = weaker (λ e. IsClosedPart e.1) (λ e h. h.closed) parts;
           bare = weaker (λ e. IsBare e.1) (λ e h. h.bare) parts;
           shapes = (none_is (shapeless f)).0 (shapes_told f ∙ p.shapes);
           contexts = applied.0;
@@ -149,7 +149,7 @@ module _ {G : named.Ghosts RawName} where
         })
 
     abbrev Two : Placed → Type 0
-    Two e = IsClosed e.1 × IsBare e.1
+    Two e = IsClosedPart e.1 × IsBare e.1
 
     abbrev Three : Placed → Type 0
     Three e = IsWithoutAttributes e.1 × Two e
@@ -166,19 +166,19 @@ module _ {G : named.Ghosts RawName} where
     pub parts_pass : IsPrintable f table → AllByRecursion Passes (fragment_parts f)
     parts_pass p =
         let parts = fragment_parts f in
-        let two : AllByRecursion Two parts = both_held (λ e. IsClosed e.1) (λ e. IsBare e.1) Two parts
-        (λ e h k. (h, k)) p.closed p.bare in
+        let two : AllByRecursion Two parts = all_both (λ e. IsClosedPart e.1) (λ e. IsBare e.1) Two
+        (λ e h k. (h, k)) parts p.closed p.bare in
         let three : AllByRecursion Three parts =
-        both_held (λ e. IsWithoutAttributes e.1) Two Three parts (λ e h k. (h, k)) p.attributes two in
-        let four : AllByRecursion Four parts = both_held InTable Three Four parts (λ e h k. (h, k))
-        p.extensions three in
-        both_held Meant Four Passes parts (λ e h (i, (a, (c, b))). record {
+        all_both (λ e. IsWithoutAttributes e.1) Two Three (λ e h k. (h, k)) parts p.attributes two in
+        let four : AllByRecursion Four parts = all_both InTable Three Four (λ e h k. (h, k))
+        parts p.extensions three in
+        all_both Meant Four Passes (λ e h (i, (a, (c, b))). record {
           closed = c;
           bare = b;
           attributes = a;
           extension = i;
           reference = h;
-        }) p.references four
+        }) parts p.references four
 
     -- a part that is a reference
     pub reference_told : (ns : Option Name) (kind : ReferenceType) (name : RawName) (told : Bool)
@@ -195,7 +195,3 @@ module _ {G : named.Ghosts RawName} where
           },
           λ p. is ∙ meant.1 p.reference,
         )
-
-pub opposed : (b : Bool) → b ≡ true → b ≡ false → ⊥
-opposed true h k = true≢false k
-opposed false h k = true≢false (sym h)

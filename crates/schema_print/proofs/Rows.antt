@@ -4,25 +4,26 @@ use Rattle.std.proofs.Common.{length, drop, drop-cons, get_or, add-one, refl, ap
 use Rattle.std.proofs.Common.{arith}
 use Rattle.std.proofs.lemmas.Bool.{eqb-true, ne_eqb}
 use Rattle.std.proofs.lemmas.List.{append-nil}
+use Rattle.std.specs.Str.{encode_utf8_all}
+use Rattle.cedar_data.specs.Rows.{separator_where, row_behind}
+use Rattle.cedar_data.proofs.Lists.{map-map}
 use Rattle.schema_syntax_grammar.specs.declared.token_kind.TokenKind.TheVariants.{Comma, RBracket, PathSep}
 use Rattle.schema_syntax_tokens.specs.Laid.{Piece, laid}
+use Rattle.schema_syntax_tokens.specs.Quotes.{quoted}
 use Rattle.schema_readback.specs.Printed.{mark, string, space, line_break, path_pieces}
 use Rattle.schema_readback.specs.PrintedDecls.{list_pieces, bracketed, joined_pieces, parents_pieces, typed_pieces}
-use Rattle.schema_syntax_tokens.specs.Quotes.{quoted}
-use Rattle.std.specs.Str.{encode_utf8_all}
 use Rattle.schema_print_text.specs.Growing.{laid_append, Leaves}
-use Rattle.schema_print.specs.RowsOfTexts.{between, row_behind}
 
 -- one more text, and those after it
 pub row_step : {A : Type 0} (f : A → List ℕ) (separator : List ℕ) (b : Bool) (xs : List A) (i : ℕ) (d : A)
     → i < length xs
     → d ≡ get_or xs i d
-    → row_behind separator b (map f (drop i xs)) ≡ (between separator b ++ f d)
+    → row_behind separator b (map f (drop i xs)) ≡ (separator_where separator b ++ f d)
     ++ row_behind separator true (map f (drop (i + 1) xs))
 row_step f separator b xs i d h e =
     rw (add-one, drop-cons xs i d)
     (ap (λ x. row_behind separator b (map f (x ∷ drop (suc i) xs))) (sym e)
-    ∙ sym (append_assoc (between separator b) (f d) (row_behind separator true (map f (drop (suc i) xs)))))
+    ∙ sym (append_assoc (separator_where separator b) (f d) (row_behind separator true (map f (drop (suc i) xs)))))
 
 pub list_row : {A : Type 0} (f : A → List Piece) (xs : List A)
     → laid (list_pieces f xs) ≡ row_behind (codes ", ") false (map (λ x. laid (f x)) xs)
@@ -44,17 +45,13 @@ brackets_row f xs =
     ap (λ t. codes "[" ++ t) (ap (λ t. t ++ codes "]") (sym (list_row f xs))
     ∙ sym (laid_append (list_pieces f xs) (mark RBracket (codes "]") ∷ [])))
 
-map_both : {A B C : Type 0} (f : B → C) (g : A → B) (xs : List A) → map f (map g xs) ≡ map (λ x. f (g x)) xs
-map_both f g [] = refl
-map_both f g (x ∷ xs) = ap (λ t. f (g x) ∷ t) (map_both f g xs)
-
 -- a list in brackets, of what is made of its items
 pub brackets_made : {A B : Type 0} (f : B → List Piece) (g : A → B) (xs : List A)
     → codes "[" ++ (row_behind (codes ", ") false (map (λ x. laid (f (g x))) xs) ++ codes "]")
     ≡ laid (bracketed f (map g xs))
 brackets_made f g xs =
     ap (λ rows. codes "[" ++ (row_behind (codes ", ") false rows ++ codes "]"))
-    (sym (map_both (λ x. laid (f x)) g xs)) ∙ brackets_row f (map g xs)
+    (sym (map-map (λ x. laid (f x)) g xs)) ∙ brackets_row f (map g xs)
 
 -- an action by its type and its id
 pub ref_laid : (p : List (List ℕ)) (id : List ℕ)
@@ -88,16 +85,17 @@ row_before : {A : Type 0} (f : A → List Piece) (separator : List ℕ) (b : Boo
 row_before f separator true [] rest = refl
 row_before f separator false [] rest = refl
 row_before f separator b (x ∷ xs) rest =
-    ap (λ t. between separator b ++ (laid (f x) ++ t)) (row_before f separator true xs rest)
-    ∙ (ap (λ t. between separator b ++ t)
+    ap (λ t. separator_where separator b ++ (laid (f x) ++ t)) (row_before f separator true xs rest)
+    ∙ (ap (λ t. separator_where separator b ++ t)
     (sym (append_assoc (laid (f x)) (row_behind separator true (map (λ y. laid (f y)) xs))
     (row_behind separator true (map laid rest))))
-    ∙ (sym (append_assoc (between separator b) (laid (f x) ++ row_behind separator true (map (λ y. laid (f y)) xs))
+    ∙ (sym (append_assoc (separator_where separator b)
+    (laid (f x) ++ row_behind separator true (map (λ y. laid (f y)) xs))
     (row_behind separator true (map laid rest)))
-    ∙ ap (λ t. (between separator b ++ (laid (f x) ++ row_behind separator true (map (λ y. laid (f y)) xs)))
+    ∙ ap (λ t. (separator_where separator b ++ (laid (f x) ++ row_behind separator true (map (λ y. laid (f y)) xs)))
     ++ row_behind separator t (map laid rest)) (begun_by b x xs)))
 
--- three kinds of items, with an empty line between two
+-- three kinds of items, with an empty line separator_where two
 pub items_row : {A B C : Type 0} (f : A → List Piece) (g : B → List Piece) (h : C → List Piece) (xs : List A)
     (ys : List B) (zs : List C)
     (b c : Bool) → b ≡ not (length xs == 0) → c ≡ (b || not (length ys == 0))
@@ -112,7 +110,7 @@ items_row f g h xs ys zs b c p q =
     ∙ (ap (λ t. first ++ row_behind (codes "\n") t (map laid (map g ys ++ map h zs))) (sym p)
     ∙ (ap (λ t. first ++ t) (row_before g (codes "\n") b ys (map h zs))
     ∙ (ap (λ t. first ++ (second ++ row_behind (codes "\n") t (map laid (map h zs)))) (sym q)
-    ∙ ap (λ t. first ++ (second ++ row_behind (codes "\n") c t)) (map_both laid h zs))))))
+    ∙ ap (λ t. first ++ (second ++ row_behind (codes "\n") c t)) (map-map laid h zs))))))
 
 -- what is said of a slice holds of the list
 pub empty_so : {A : Type 0} (xs ys : List A) (r b : Bool) → xs ≡ ys → r ≡ (length xs == 0) → r ≡ b

@@ -2,19 +2,20 @@
 use Rattle.std.proofs.Common.{◌≡◌, ℕ, ◌+◌, Bool, true, false, List, [], ◌∷◌, ◌++◌, codes, map, length, refl, ap, sym}
 use Rattle.std.proofs.Common.{◌∙◌, append_assoc, ◌==◌, arith, Option, Some}
 use Rattle.std.proofs.lemmas.Bool.{eqb-true}
-use Rattle.cedar_names.specs.CanonicalText.{spaces}
-use Rattle.schema_syntax_reader.specs.Leaves.{Notes}
+use Rattle.schema_syntax_grammar.specs.declared.token_kind.TokenKind.TheVariants.{LBrace, RBrace}
 use Rattle.schema_syntax_tokens.specs.Laid.{Piece, laid}
 use Rattle.schema_syntax_tokens.specs.Quotes.{quoted}
+use Rattle.cedar_names.specs.CanonicalText.{spaces}
+use Rattle.schema_syntax_reader.specs.Leaves.{Notes}
+use Rattle.schema_json.specs.declared.action_type.ApplySpec.{ApplySpec}
 use Rattle.schema_readback.specs.Written.{WrittenType, path, set, rec, no_more, attribute}
-use Rattle.schema_readback.specs.Printed.{word, mark, string, space, line_break, path_pieces, notes_pieces, type_pieces}
+use Rattle.schema_readback.specs.Printed.{word, mark, string, space, line_break, path_pieces, notes_pieces}
+use Rattle.schema_readback.specs.Printed.{type_pieces}
 use Rattle.schema_print_text.specs.Growing.{laid_append}
 use Rattle.schema_print_text.specs.PrintedTypes.{is_bare_record}
 use Rattle.schema_print.specs.RowsOfTexts.{names_line_text, head_text}
 use Rattle.schema_print.specs.PrintedFragments.{shape_type_pieces, context_type_pieces, targets_pieces, common_pieces}
 use Rattle.schema_print.specs.PrintedFragments.{item_pieces, spec_pieces, applied_pieces}
-use Rattle.schema_json.specs.declared.action_type.ApplySpec.{ApplySpec}
-use Rattle.schema_syntax_grammar.specs.declared.token_kind.TokenKind.TheVariants.{LBrace, RBrace}
 
 pub shape_none : (base : ℕ) (w : WrittenType) → is_bare_record w ≡ true → [] ≡ laid (shape_type_pieces true base w)
 shape_none base (rec no_more) h = refl

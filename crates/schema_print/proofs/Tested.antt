@@ -2,8 +2,7 @@
 use Rattle.std.proofs.Common.{◌≡◌, ◌↔◌, Bool, true, false, not, ◌&&◌, ◌||◌, List, [], ◌∷◌, ◌++◌, map, cond, filter}
 use Rattle.std.proofs.Common.{refl, sym, ap, ◌∙◌, inl, inr, subst}
 use Rattle.std.specs.List.{flat_map, list_all, list_any, AllByRecursion, FoldsTo}
-use Rattle.std.specs.Cmp.{first_so, second_so}
-use Rattle.std.proofs.lemmas.Bool.{and_from}
+use Rattle.std.proofs.lemmas.Bool.{and_from, and_parts}
 use Rattle.schema_json_walk.specs.Visits.{StopsAmong}
 
 -- what a visitor that stays as it is takes
@@ -36,34 +35,19 @@ and_passed first second x y all h e k whole = k ∙ sym (whole ∙ ap (λ b. b &
 
 -- two tests of each item
 module _ {A : Type 0} where
-  all_both : (p q : A → Bool) (xs : List A) → list_all (λ x. p x && q x) xs ≡ true
-      → (list_all p xs ≡ true) × (list_all q xs ≡ true)
-  all_both p q [] h = (refl, refl)
-  all_both p q (x ∷ xs) h =
-      let here = first_so (p x && q x) (list_all (λ x. p x && q x) xs) h in
-      let more = all_both p q xs (second_so (p x && q x) (list_all (λ x. p x && q x) xs) h) in (
-        and_from (p x) (list_all p xs) (first_so (p x) (q x) here) more.0,
-        and_from (q x) (list_all q xs) (second_so (p x) (q x) here) more.1,
-      )
-
-  both_all : (p q : A → Bool) (xs : List A) → list_all p xs ≡ true → list_all q xs ≡ true
-      → list_all (λ x. p x && q x) xs ≡ true
-  both_all p q [] h k = refl
-  both_all p q (x ∷ xs) h k =
-      and_from (p x && q x) (list_all (λ x. p x && q x) xs)
-      (and_from (p x) (q x) (first_so (p x) (list_all p xs) h) (first_so (q x) (list_all q xs) k))
-      (both_all p q xs (second_so (p x) (list_all p xs) h) (second_so (q x) (list_all q xs) k))
-
-  -- two tests pass of each item exactly where each of them does
-  pub both_of_all : (p q : A → Bool) (xs : List A)
-      → (list_all (λ x. p x && q x) xs ≡ true) ↔ ((list_all p xs ≡ true) × (list_all q xs ≡ true))
-  both_of_all p q xs = (λ h. all_both p q xs h, λ (h, k). both_all p q xs h k)
-
   pub all_are_both : (p q : A → Bool) (xs : List A)
       → list_all (λ x. p x && q x) xs ≡ (list_all p xs && list_all q xs)
   all_are_both p q [] = refl
   all_are_both p q (x ∷ xs) =
       ap (λ b. (p x && q x) && b) (all_are_both p q xs) ∙ and_in_turn (p x) (q x) (list_all p xs) (list_all q xs)
+
+  -- two tests pass of each item exactly where each of them does
+  pub both_of_all : (p q : A → Bool) (xs : List A)
+      → (list_all (λ x. p x && q x) xs ≡ true) ↔ ((list_all p xs ≡ true) × (list_all q xs ≡ true))
+  both_of_all p q xs = (
+    λ h. and_parts (list_all p xs) (list_all q xs) (sym (all_are_both p q xs) ∙ h),
+    λ (h, k). all_are_both p q xs ∙ and_from (list_all p xs) (list_all q xs) h k,
+  )
 
 -- no item
 abbrev pub none : {A : Type 0} → List A → Bool
@@ -74,7 +58,7 @@ pub none_is : {A : Type 0} (xs : List A) → (none xs ≡ true) ↔ (xs ≡ [])
 none_is [] = (λ h. refl, λ h. refl)
 none_is (x ∷ xs) = (λ h. cc, λ h. cc)
 
-none_joined : {A : Type 0} (xs ys : List A) → none (xs ++ ys) ≡ (none xs && none ys)
+pub none_joined : {A : Type 0} (xs ys : List A) → none (xs ++ ys) ≡ (none xs && none ys)
 none_joined [] ys = refl
 none_joined (x ∷ xs) ys = refl
 
@@ -103,14 +87,3 @@ none_passes test (x ∷ xs) = go (none_passes test xs) (test x)
         → not (b || list_any test xs) ≡ (not b && list_all (λ x. not (test x)) xs)
     go more true = refl
     go more false = more
-
--- what holds of each item, where it is two things
-pub both_held : {A : Type 0} (P Q R : A → Type 0) (xs : List A) → ((x : A) → P x → Q x → R x)
-    → AllByRecursion P xs → AllByRecursion Q xs → AllByRecursion R xs
-both_held P Q R [] join h k = tt
-both_held P Q R (x ∷ xs) join (h, hs) (k, ks) = (join x h k, both_held P Q R xs join hs ks)
-
-pub weakly_held : {A : Type 0} (P Q : A → Type 0) (xs : List A) → ((x : A) → P x → Q x) → AllByRecursion P xs
-    → AllByRecursion Q xs
-weakly_held P Q [] weaken h = tt
-weakly_held P Q (x ∷ xs) weaken (h, hs) = (weaken x h, weakly_held P Q xs weaken hs)

@@ -21,16 +21,16 @@ use Rattle.schema_json.specs.declared.types.TypeOfAttribute.{TypeOfAttribute}
 use Rattle.schema_json_walk.specs.Parts.{Part, type_reference, extension_type, open_record, action_attributes}
 use Rattle.schema_json_walk.specs.Parts.{external_not_bare}
 use Rattle.schema_json_walk.specs.Walk.{fragment_parts}
-use Rattle.schema_resolve.specs.Meanings.{means}
 use Rattle.schema_resolve_definitions.specs.Declarations.{name_of}
 use Rattle.schema_resolve_definitions.specs.Defined.{defined}
 use Rattle.schema_resolve_definitions.specs.Tests.{Tests, tests_of}
+use Rattle.schema_resolve.specs.Meanings.{means}
 use Rattle.schema_print.specs.Collisions.{collisions, shapeless, is_record_type}
 
 -- a part that is no open record
-abbrev pub IsClosed : Part RawName → Type 0
-IsClosed open_record = ⊥
-IsClosed _ = Unit {0}
+abbrev pub IsClosedPart : Part RawName → Type 0
+IsClosedPart open_record = ⊥
+IsClosedPart _ = Unit {0}
 
 -- a part that is no external item with more than such a one may have
 abbrev pub IsBare : Part RawName → Type 0
@@ -103,7 +103,7 @@ module _ {G : named.Ghosts RawName} where
   -- common type and as an entity type, no common type has one of the eight words as its name, extension types are in
   -- the table, and references mean what their names mean where they may be either kind of type.
   pub record IsPrintable (f : Fragment RawName G) (table : ExtensionTable) : Type 0 where
-    pub closed : IsOfEachPart (λ ns. IsClosed) f
+    pub closed : IsOfEachPart (λ ns. IsClosedPart) f
     pub bare : IsOfEachPart (λ ns. IsBare) f
     pub shapes : shapeless f ≡ []
     pub contexts : of_each_action (λ a. has_printable_context a.applies_to) f ≡ true

@@ -18,7 +18,7 @@ use Rattle.schema_json_walk.specs.Parts.{Part}
 use Rattle.schema_resolve_definitions.specs.Defined.{defined}
 use Rattle.schema_resolve_definitions.specs.Tests.{Tests, tests_of}
 use Rattle.schema_print.specs.Collisions.{is_shapeless, names_entity_type}
-use Rattle.schema_print.specs.Printable.{IsClosed, IsBare, IsWithoutAttributes, IsInTable, IsMeantEitherWay}
+use Rattle.schema_print.specs.Printable.{IsClosedPart, IsBare, IsWithoutAttributes, IsInTable, IsMeantEitherWay}
 use Rattle.schema_print.specs.Printable.{has_printable_context, has_whole_targets, is_annotated_where_named}
 
 module _ {G : named.Ghosts RawName} where
@@ -48,7 +48,7 @@ module _ {G : named.Ghosts RawName} where
   -- a part passes
   pub record IsPrintablePart (f : Fragment RawName G) (table : ExtensionTable) (ns : Option Name) (part : Part RawName)
       : Type 0 where
-    pub closed : IsClosed part
+    pub closed : IsClosedPart part
     pub bare : IsBare part
     pub attributes : IsWithoutAttributes part
     pub extension : IsInTable table part

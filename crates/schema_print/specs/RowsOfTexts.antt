@@ -1,25 +1,16 @@
 -- Texts in a row, as the code adds them.
-use Rattle.std.specs.Prelude.{ℕ, Bool, true, false, List, [], ◌∷◌, ◌++◌, codes}
+use Rattle.std.specs.Prelude.{ℕ, Bool, List, ◌++◌, codes}
+use Rattle.cedar_data.specs.Rows.{separator_where}
+use Rattle.schema_syntax_tokens.specs.Laid.{laid}
 use Rattle.cedar_names.specs.CanonicalText.{spaces}
 use Rattle.schema_syntax_reader.specs.Leaves.{Notes}
-use Rattle.schema_syntax_tokens.specs.Laid.{laid}
 use Rattle.schema_readback.specs.Printed.{notes_pieces, path_pieces}
 use Rattle.schema_readback.specs.PrintedDecls.{bracketed}
-
--- what stands before a text: the separator where something stands before it
-abbrev pub between : List ℕ → Bool → List ℕ
-between separator true = separator
-between separator false = []
-
--- each of the texts behind the separator, the first too where something stands before it
-abbrev pub row_behind : List ℕ → Bool → List (List ℕ) → List ℕ
-row_behind separator behind [] = []
-row_behind separator behind (t ∷ ts) = between separator behind ++ (t ++ row_behind separator true ts)
 
 -- the annotations on lines of their own, and how the line below them begins
 abbrev pub head_text : ℕ → Notes → Bool → List ℕ → List ℕ
 head_text base notes external keyword =
-    laid (notes_pieces base notes) ++ (spaces base ++ (between (codes "external ") external ++ keyword))
+    laid (notes_pieces base notes) ++ (spaces base ++ (separator_where (codes "external ") external ++ keyword))
 
 -- a line with names in brackets and a comma
 abbrev pub names_line_text : ℕ → List ℕ → List (List (List ℕ)) → List ℕ

@@ -1,4 +1,4 @@
-ghost use Rattle.std.specs.Prelude.{◌≡◌, Some, OnOk, true};
+ghost use Rattle.std.specs.Prelude.{Some, OnOk, true};
 ghost use Rattle.std.specs.Option.{option_map};
 ghost use Rattle.schema_syntax_tokens.specs.Laid.{laid};
 ghost use Rattle.schema_readback.specs.PrintedDecls.{tags_pieces};

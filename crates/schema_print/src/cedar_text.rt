@@ -1,4 +1,4 @@
-ghost use Rattle.std.specs.Prelude.{◌≡◌, ℕ, List, IfOk, true};
+ghost use Rattle.std.specs.Prelude.{◌≡◌, ℕ, List, IfOk};
 ghost use Rattle.std.specs.Str.{encode_utf8_all};
 ghost use Rattle.schema_print.specs.PartTexts.{fragment_part_text, namespace_part_text, type_part_text, shape_part_text, record_part_text, entity_type_part_text, standard_part_text, action_part_text};
 

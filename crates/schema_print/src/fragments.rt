@@ -2,7 +2,7 @@ ghost use Rattle.std.specs.Prelude.{◌≡◌, OnOk, IfOk, true};
 ghost use Rattle.std.specs.Str.{encode_utf8_all};
 ghost use Rattle.schema_syntax_tokens.specs.Laid.{laid};
 ghost use Rattle.schema_print_text.specs.Adds.{Adds};
-ghost use Rattle.schema_print.specs.PrintedFragments.{named_block, fragment_pieces, fragment_text};
+ghost use Rattle.schema_print.specs.PrintedFragments.{named_block, fragment_text};
 
 use crate::items::push_items;
 use crate::lists::push_between;

@@ -1,7 +1,8 @@
-ghost use Rattle.std.specs.Prelude.{◌≡◌, OnOk, true, map, codes};
+ghost use Rattle.std.specs.Prelude.{OnOk, true, map, codes};
+ghost use Rattle.cedar_data.specs.Rows.{row_behind};
 ghost use Rattle.schema_syntax_tokens.specs.Laid.{laid};
 ghost use Rattle.schema_print_text.specs.Adds.{Adds};
-ghost use Rattle.schema_print.specs.RowsOfTexts.{head_text, row_behind};
+ghost use Rattle.schema_print.specs.RowsOfTexts.{head_text};
 ghost use Rattle.schema_print.specs.PrintedFragments.{common_type_pieces, entity_pieces, action_pieces, items_pieces};
 
 use crate::bodies::{push_action_body, push_entity_body};

@@ -1,9 +1,9 @@
-ghost use Rattle.std.specs.Prelude.{◌≡◌, OnOk, map, codes};
+ghost use Rattle.std.specs.Prelude.{OnOk, map};
+ghost use Rattle.cedar_data.specs.Rows.{separator_where};
 ghost use Rattle.schema_syntax_tokens.specs.Laid.{laid};
 ghost use Rattle.schema_readback.specs.Printed.{path_pieces};
 ghost use Rattle.schema_readback.specs.PrintedDecls.{bracketed, parents_pieces, string_pieces, ref_pieces};
 ghost use Rattle.schema_print_text.specs.Adds.{Adds};
-ghost use Rattle.schema_print.specs.RowsOfTexts.{between};
 ghost use Rattle.schema_print.specs.PrintedFragments.{paths_of_names, parent_type, printed_parent, printed_parents};
 
 use cedar_data::{List, NonEmpty, Text};
@@ -14,7 +14,7 @@ use std::alloc::{AllocError, Global};
 
 /// Adds the separator, where something stands before.
 pub fn push_between(text: &mut Text, behind: bool, separator: &str) -> Result<(), AllocError>
-    ensures { OnOk result (Adds text.old text.new (between separator.now behind)) }
+    ensures { OnOk result (Adds text.old text.new (separator_where separator.now behind)) }
 {
     if behind {
         push(text, separator)
@@ -23,7 +23,7 @@ pub fn push_between(text: &mut Text, behind: bool, separator: &str) -> Result<()
     }
 }
 
-/// Adds the names in brackets, with `, ` between two.
+/// Adds the names in brackets, with `, ` separator_where two.
 pub fn push_names<N: NameText>(
     text: &mut Text,
     alloc: Global,
@@ -56,7 +56,7 @@ pub fn push_parents<N: NameText>(
     push_names(text, alloc, names)
 }
 
-/// Adds the ids in brackets, each as a string, with `, ` between two.
+/// Adds the ids in brackets, each as a string, with `, ` separator_where two.
 pub fn push_choices(text: &mut Text, choices: &NonEmpty<Eid>) -> Result<(), AllocError>
     ensures { OnOk result (Adds text.old text.new (laid (bracketed string_pieces (map (λ c. c.0) choices.now)))) }
 {

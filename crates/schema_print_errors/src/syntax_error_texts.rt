@@ -1,4 +1,4 @@
-ghost use Rattle.std.specs.Prelude.{◌≡◌, [], map, Ok, None, IfOk, IsSomeAnd};
+ghost use Rattle.std.specs.Prelude.{◌≡◌, [], Ok, None, IfOk, IsSomeAnd};
 ghost use Rattle.schema_print_errors.specs.SyntaxErrorTexts.{texts_of_names, collisions_text, shapes_text, shapes_help, syntax_error_text, syntax_error_help};
 
 use crate::syntax_error::{

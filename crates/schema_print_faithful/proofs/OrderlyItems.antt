@@ -8,7 +8,7 @@ use Rattle.schema_json.specs.declared.common_type.CommonType.{CommonType}
 use Rattle.schema_json.specs.declared.common_type.CommonTypeId.{CommonTypeId}
 use Rattle.schema_json.specs.declared.entity_type.EntityType.{EntityType}
 use Rattle.schema_json.specs.declared.fragment.NamespaceDefinition.{NamespaceDefinition}
-use Rattle.schema_convert_types.specs.Declarations.{as_written}
+use Rattle.schema_json.specs.AsWritten.{as_written}
 use Rattle.schema_readback.specs.Printed.{AreProperNotes}
 use Rattle.schema_print_plain.specs.Orderly.{IsOrderlyType, IsOrderlyKind, HasOrderlyContext, IsOrderlyNamespace}
 

@@ -1,6 +1,4 @@
-ghost use Rattle.std.specs.Prelude.{◌≡◌};
 ghost use Rattle.schema_readback.specs.Printed.{AreProperNotes};
-ghost use Rattle.schema_readback.specs.Written.{rec};
 ghost use Rattle.schema_print_text.specs.PrintedTypes.{printed_variant, printed_entries};
 ghost use Rattle.schema_print_says.specs.Plain.{components_written, IsRisingType, AreRisingAttributes};
 ghost use Rattle.schema_print_plain.specs.Orderly.{IsOrderlyType, AreOrderlyTags};

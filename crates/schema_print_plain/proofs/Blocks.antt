@@ -1,19 +1,22 @@
 -- What a printable fragment has in each of its namespaces.
-use Rattle.std.proofs.Common.{◌≡◌, Bool, true, false, not, List, [], ◌∷◌, ◌++◌, map, filter, cond, refl}
+use Rattle.std.proofs.Common.{◌≡◌, Bool, true, false, not, List, [], ◌∷◌, map, filter, cond, refl}
 use Rattle.std.specs.Cmp.{first_so, second_so}
 use Rattle.std.specs.List.{AllByRecursion, flat_map, list_all}
+use Rattle.std.proofs.lemmas.Bool.{not-true}
+use Rattle.cedar_data.proofs.Every.{All-weaker}
+use Rattle.cedar_data.proofs.Lists.{empty_before, empty_behind}
 use Rattle.cedar_identifiers.specs.declared.raw_name.RawName.{RawName}
 use Rattle.cedar_names.specs.declared.extension_table.ExtensionTable.{ExtensionTable}
 use Rattle.schema_json.specs.Keywords.{is_keyword_name}
 use Rattle.schema_json.specs.declared.fragment.Fragment.{Fragment}
+use Rattle.schema_json.specs.AsWritten.{as_written}
 use Rattle.schema_json_walk.specs.Walk.{itself, of_namespace}
-use Rattle.schema_convert_types.specs.Declarations.{as_written}
 use Rattle.schema_print.specs.Collisions.{declared_in, is_shapeless, block_shapeless}
-use Rattle.schema_print.specs.Printable.{IsClosed, IsBare, IsWithoutAttributes, has_printable_context}
+use Rattle.schema_print.specs.Printable.{IsClosedPart, IsBare, IsWithoutAttributes, has_printable_context}
 use Rattle.schema_print.specs.Printable.{has_whole_targets}
 use Rattle.schema_print.specs.Printable.{is_annotated_where_named, IsPrintable}
 use Rattle.schema_print_says.specs.CedarForm.{Block}
-use Rattle.schema_print_plain.proofs.PartsOfEach.{all_as, in_each}
+use Rattle.schema_print_plain.proofs.PartsOfEach.{in_each}
 
 -- each item passes a test
 each_passes : {A : Type 0} (test : A → Bool) (xs : List A) → list_all test xs ≡ true
@@ -22,25 +25,12 @@ each_passes test [] h = tt
 each_passes test (x ∷ xs) h =
     (first_so (test x) (list_all test xs) h, each_passes test xs (second_so (test x) (list_all test xs) h))
 
-not_so : (b : Bool) → not b ≡ true → b ≡ false
-not_so true h = absurd (cc)
-not_so false h = refl
-
--- none of two lists, where none of both joined
-none_before : {A : Type 0} (xs ys : List A) → xs ++ ys ≡ [] → xs ≡ []
-none_before [] ys h = refl
-none_before (x ∷ xs) ys h = absurd (cc)
-
-none_behind : {A : Type 0} (xs ys : List A) → xs ++ ys ≡ [] → ys ≡ []
-none_behind [] ys h = h
-none_behind (x ∷ xs) ys h = absurd (cc)
-
 each_gives_none : {A B : Type 0} (give : A → List B) (xs : List A) → flat_map give xs ≡ []
     → AllByRecursion (λ x. give x ≡ []) xs
 each_gives_none give [] h = tt
 each_gives_none give (x ∷ xs) h = (
-  none_before (give x) (flat_map give xs) h,
-  each_gives_none give xs (none_behind (give x) (flat_map give xs) h),
+  empty_before (give x) (flat_map give xs) h,
+  each_gives_none give xs (empty_behind (give x) (flat_map give xs) h),
 )
 
 -- where nothing is kept, each item is passed over
@@ -57,7 +47,7 @@ none_kept {A} test name (x ∷ xs) h = by (test x) refl h (λ k. none_kept test 
 
 -- a namespace of a printable fragment
 pub record IsPrintableBlock (e : Block) : Type 0 where
-  pub closed : AllByRecursion IsClosed (of_namespace itself e.1)
+  pub closed : AllByRecursion IsClosedPart (of_namespace itself e.1)
   pub bare : AllByRecursion IsBare (of_namespace itself e.1)
   pub without : AllByRecursion IsWithoutAttributes (of_namespace itself e.1)
   pub annotated : is_annotated_where_named e.0 e.1.annotations ≡ true
@@ -78,11 +68,11 @@ whole e = list_all (λ a. has_whole_targets a.1.applies_to) e.1.actions
 block_words : (e : Block) → worded e ≡ true
     → AllByRecursion (λ c. is_keyword_name c.0.id.id.text ≡ false) e.1.common_types
 block_words e h =
-    all_as (λ c. not (is_keyword_name c.0.id.id.text) ≡ true) (λ c. is_keyword_name c.0.id.id.text ≡ false)
-    (λ c k. not_so (is_keyword_name c.0.id.id.text) k) e.1.common_types
+    All-weaker (λ c. not (is_keyword_name c.0.id.id.text) ≡ true) (λ c. is_keyword_name c.0.id.id.text ≡ false)
+    (λ c k. not-true (is_keyword_name c.0.id.id.text) k) e.1.common_types
     (each_passes (λ c. not (is_keyword_name c.0.id.id.text)) e.1.common_types h)
 
-blocks : (es : List Block) → AllByRecursion (λ e. AllByRecursion IsClosed (of_namespace itself e.1)) es
+blocks : (es : List Block) → AllByRecursion (λ e. AllByRecursion IsClosedPart (of_namespace itself e.1)) es
     → AllByRecursion (λ e. AllByRecursion IsBare (of_namespace itself e.1)) es
     → AllByRecursion (λ e. AllByRecursion IsWithoutAttributes (of_namespace itself e.1)) es
     → AllByRecursion (λ e. is_annotated_where_named e.0 e.1.annotations ≡ true) es
@@ -108,7 +98,7 @@ blocks (e ∷ es) (c, cs) (b, bs) (w, ws) (n, ns) (k, ks) (s, ss) (x, xs) (t, ts
 pub printable_blocks : (f : Fragment RawName as_written) (table : ExtensionTable) → IsPrintable f table
     → AllByRecursion IsPrintableBlock f.0
 printable_blocks f table p =
-    blocks f.0 (in_each (λ ns. IsClosed) f.0 p.closed) (in_each (λ ns. IsBare) f.0 p.bare)
+    blocks f.0 (in_each (λ ns. IsClosedPart) f.0 p.closed) (in_each (λ ns. IsBare) f.0 p.bare)
     (in_each (λ ns. IsWithoutAttributes) f.0 p.attributes)
     (each_passes (λ (e : Block). is_annotated_where_named e.0 e.1.annotations) f.0 p.annotations)
     (each_passes worded f.0 p.words) (each_gives_none block_shapeless f.0 p.shapes)

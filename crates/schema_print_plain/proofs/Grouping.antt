@@ -1,10 +1,13 @@
 -- A printable fragment is written as groups of declarations.
-use Rattle.std.proofs.Common.{◌≡◌, ℕ, Bool, true, false, not, List, [], ◌∷◌, ◌++◌, map, Option, Some, None, option_map}
+use Rattle.std.proofs.Common.{◌≡◌, ℕ, Bool, true, false, List, [], ◌∷◌, ◌++◌, map, Option, Some, None, option_map}
 use Rattle.std.proofs.Common.{refl, sym, subst}
 use Rattle.std.specs.List.{AllZip, AllByRecursion}
+use Rattle.std.proofs.lemmas.Bool.{not-false}
+use Rattle.cedar_data.proofs.Every.{All-weaker}
 use Rattle.cedar_identifiers.specs.declared.raw_name.RawName.{RawName}
 use Rattle.cedar_identifiers.specs.declared.unreserved_id.UnreservedId.{UnreservedId}
 use Rattle.cedar_names.specs.declared.extension_table.ExtensionTable.{ExtensionTable}
+use Rattle.schema_syntax_tree.specs.declared.pr.PR.TheVariants.{Principal, Resource}
 use Rattle.schema_json.specs.declared.action_type.ActionType.{ActionType}
 use Rattle.schema_json.specs.declared.action_type.ApplySpec.{ApplySpec}
 use Rattle.schema_json.specs.declared.common_type.CommonType.{CommonType}
@@ -14,8 +17,7 @@ use Rattle.schema_json.specs.declared.entity_type.EntityTypeKind.{EntityTypeKind
 use Rattle.schema_json.specs.declared.entity_type.EntityTypeKind.TheVariants.{Standard, Enum}
 use Rattle.schema_json.specs.declared.fragment.Fragment.{Fragment}
 use Rattle.schema_json.specs.declared.types.Type.{«Type», Type-F, out-Type}
-use Rattle.schema_syntax_tree.specs.declared.pr.PR.TheVariants.{Principal, Resource}
-use Rattle.schema_convert_types.specs.Declarations.{as_written}
+use Rattle.schema_json.specs.AsWritten.{as_written}
 use Rattle.schema_readback.specs.Written.{WrittenType, WrittenRef, WrittenMember, types, context_path}
 use Rattle.schema_readback.specs.Written.{context_record, WrittenDecl, entity, enum, external_entity, action}
 use Rattle.schema_readback.specs.Written.{external_action, common, WrittenDeclared}
@@ -29,7 +31,6 @@ use Rattle.schema_print.specs.PrintedFragments.{paths_of_names, printed_parents}
 use Rattle.schema_print_says.specs.CedarForm.{Block}
 use Rattle.schema_print_says.specs.Plain.{components_written}
 use Rattle.schema_print_plain.proofs.Blocks.{IsPrintableBlock, printable_blocks}
-use Rattle.schema_print_plain.proofs.PartsOfEach.{all_as}
 use Rattle.schema_print_plain.proofs.PlainItems.{record_or_common}
 use Rattle.schema_print_plain.proofs.RecordTypes.{Outer, written, written_as_record, written_as_name}
 
@@ -44,10 +45,6 @@ zipped R (x ∷ xs) (h, hs) =
     let more = zipped R xs hs in
     (h.0 ∷ more.0, (h.1, more.1))
 
-so_not : (b : Bool) → not b ≡ false → b ≡ true
-so_not true h = refl
-so_not false h = absurd (cc)
-
 kind_written : (x : Bool) (k : EntityTypeKind N) (name : List ℕ) → kind_is_shapeless x k ≡ false
     → (d : WrittenDecl) × KindAs components_written x k name d
 kind_written true (Standard e) name h =
@@ -55,7 +52,7 @@ kind_written true (Standard e) name h =
 kind_written true (Enum choices) name h = (external_entity (name ∷ []) [], refl)
 kind_written false (Enum choices) name h = (enum (name ∷ []) (map (λ c. c.0) choices), refl)
 kind_written false (Standard e) name h =
-    let shape = written_as_record e.shape.0 (so_not (is_record_type e.shape.0) h) in (
+    let shape = written_as_record e.shape.0 (not-false (is_record_type e.shape.0) h) in (
       entity (name ∷ []) (paths_of_names components_written e.member_of_types) shape.0 (option_map written e.tags),
       (shape.0, shape.1, refl),
     )
@@ -118,10 +115,10 @@ items_written : (e : Block) → IsPrintableBlock e → (ds : List WrittenDeclare
 items_written e p =
     let commons = zipped (CommonAs components_written) e.1.common_types (each_common e.1.common_types) in
     let entities = zipped (EntityAs components_written) e.1.entity_types
-    (all_as (λ d. is_shapeless d.1 ≡ false) (λ d. (w : WrittenDeclared) × EntityAs components_written d w)
+    (All-weaker (λ d. is_shapeless d.1 ≡ false) (λ d. (w : WrittenDeclared) × EntityAs components_written d w)
     entity_written e.1.entity_types p.shaped) in
     let actions = zipped (ActionAs components_written) e.1.actions
-    (all_as (λ a. has_printable_context a.1.applies_to ≡ true)
+    (All-weaker (λ a. has_printable_context a.1.applies_to ≡ true)
     (λ a. (w : WrittenDeclared) × ActionAs components_written a w) action_written e.1.actions p.contexts) in (
       commons.0 ++ (entities.0 ++ actions.0),
       record {
@@ -146,5 +143,5 @@ pub groups_written : (f : Fragment N as_written) (table : ExtensionTable) → Is
     → (groups : List Group) × AreGroupsOf components_written f groups
 groups_written f table p =
     zipped (IsGroupOf components_written) f.0
-    (all_as IsPrintableBlock (λ e. (g : Group) × IsGroupOf components_written e g) group_written f.0
+    (All-weaker IsPrintableBlock (λ e. (g : Group) × IsGroupOf components_written e g) group_written f.0
     (printable_blocks f table p))

@@ -1,6 +1,8 @@
 -- What holds of each part of a fragment holds of each part of each namespace.
-use Rattle.std.proofs.Common.{List, [], ◌∷◌, ◌++◌, Option, subst}
+use Rattle.std.proofs.Common.{List, [], ◌∷◌, Option, subst}
 use Rattle.std.specs.List.{flat_map, AllByRecursion}
+use Rattle.cedar_data.proofs.Every.{All-weaker}
+use Rattle.cedar_data.proofs.Every.{all_front, all_back}
 use Rattle.cedar_identifiers.specs.declared.name.Name.{Name}
 use Rattle.cedar_identifiers.specs.declared.raw_name.RawName.{RawName}
 use Rattle.schema_json_walk.specs.Parts.{Part}
@@ -8,27 +10,12 @@ use Rattle.schema_json_walk.specs.Walk.{itself, of_namespace}
 use Rattle.schema_json_walk.proofs.ByParts.{namespace_by_parts}
 use Rattle.schema_print_says.specs.CedarForm.{Block}
 
--- the front of a list, and what stands behind it
-pub all_before : {A : Type 0} (P : A → Type 0) (xs ys : List A) → AllByRecursion P (xs ++ ys) → AllByRecursion P xs
-all_before P [] ys h = tt
-all_before P (x ∷ xs) ys (h, hs) = (h, all_before P xs ys hs)
-
-pub all_behind : {A : Type 0} (P : A → Type 0) (xs ys : List A) → AllByRecursion P (xs ++ ys) → AllByRecursion P ys
-all_behind P [] ys h = h
-all_behind P (x ∷ xs) ys (h, hs) = all_behind P xs ys hs
-
 -- what the items give, item by item
 pub all_given : {A B : Type 0} (P : B → Type 0) (give : A → List B) (xs : List A)
     → AllByRecursion P (flat_map give xs) → AllByRecursion (λ x. AllByRecursion P (give x)) xs
 all_given P give [] h = tt
 all_given P give (x ∷ xs) h =
-    (all_before P (give x) (flat_map give xs) h, all_given P give xs (all_behind P (give x) (flat_map give xs) h))
-
--- what holds of items one way holds of them another way
-pub all_as : {A : Type 0} (P Q : A → Type 0) → ((x : A) → P x → Q x) → (xs : List A) → AllByRecursion P xs
-    → AllByRecursion Q xs
-all_as P Q f [] h = tt
-all_as P Q f (x ∷ xs) (h, hs) = (f x h, all_as P Q f xs hs)
+    (all_front P (give x) (flat_map give xs) h, all_given P give xs (all_back P (give x) (flat_map give xs) h))
 
 module _ (P : Option Name → Part RawName → Type 0) where
   abbrev Placed : Option Name × Part RawName → Type 0
@@ -47,7 +34,7 @@ module _ (P : Option Name → Part RawName → Type 0) where
       → AllByRecursion Placed (flat_map (λ e. of_namespace (placed e.0) e.1) es)
       → AllByRecursion (λ e. AllByRecursion (P e.0) (of_namespace itself e.1)) es
   in_each es h =
-      all_as (λ e. AllByRecursion Placed (of_namespace (placed e.0) e.1))
+      All-weaker (λ e. AllByRecursion Placed (of_namespace (placed e.0) e.1))
       (λ e. AllByRecursion (P e.0) (of_namespace itself e.1))
       (λ e k. unplaced e.0 (of_namespace itself e.1)
       (subst (AllByRecursion Placed) (namespace_by_parts (placed e.0) e.1) k)) es

@@ -4,6 +4,8 @@ use Rattle.std.proofs.Common.{sym, subst}
 use Rattle.std.specs.Cmp.{first_so, second_so}
 use Rattle.std.specs.List.{AllByRecursion}
 use Rattle.std.specs.Option.{is_none, option_map_or}
+use Rattle.cedar_data.proofs.Every.{all_front, all_back}
+use Rattle.cedar_data.proofs.Options.{none_from_test}
 use Rattle.cedar_identifiers.specs.declared.raw_name.RawName.{RawName}
 use Rattle.cedar_identifiers.specs.declared.unreserved_id.UnreservedId.{UnreservedId}
 use Rattle.schema_json.specs.Shapes.{is_empty_type}
@@ -15,21 +17,20 @@ use Rattle.schema_json.specs.declared.entity_type.EntityType.{EntityType}
 use Rattle.schema_json.specs.declared.entity_type.EntityTypeKind.{EntityTypeKind}
 use Rattle.schema_json.specs.declared.entity_type.EntityTypeKind.TheVariants.{Standard, Enum}
 use Rattle.schema_json.specs.declared.types.Type.{«Type», Type-F, out-Type}
+use Rattle.schema_json.specs.AsWritten.{as_written}
+use Rattle.schema_readback.specs.Printed.{AreProperNotes}
 use Rattle.schema_json_walk.specs.Bare.{is_bare_kind, is_bare_entity, is_bare_action}
 use Rattle.schema_json_walk.specs.Parts.{Part, action_attributes, external_not_bare}
 use Rattle.schema_json_walk.specs.Walk.{itself, each_value, visit_where, at_context, of_type, of_common, of_parents}
 use Rattle.schema_json_walk.specs.Walk.{of_principals, of_resources, of_kind, of_entity, of_apply}
 use Rattle.schema_json_walk.specs.Walk.{of_uids, of_action}
-use Rattle.schema_convert_types.specs.Declarations.{as_written}
-use Rattle.schema_readback.specs.Printed.{AreProperNotes}
 use Rattle.schema_print.specs.Collisions.{is_record_type}
-use Rattle.schema_print.specs.Printable.{IsClosed, IsBare, IsWithoutAttributes, is_record_or_common}
+use Rattle.schema_print.specs.Printable.{IsClosedPart, IsBare, IsWithoutAttributes, is_record_or_common}
 use Rattle.schema_print.specs.Printable.{has_printable_context, are_whole_targets, has_whole_targets}
 use Rattle.schema_print_says.specs.Plain.{IsPlainType, ArePlainTags, IsPlainKind, IsWrittenRecord, IsPlainOutside}
 use Rattle.schema_print_says.specs.Plain.{AreTargets, AppliesPlainly}
 use Rattle.schema_print_plain.specs.Orderly.{IsOrderlyType, AreOrderlyTags, IsOrderlyKind, HasOrderlyContext}
 use Rattle.schema_print_plain.proofs.ClosedTypes.{type_closed, outside_closed}
-use Rattle.schema_print_plain.proofs.PartsOfEach.{all_before, all_behind}
 use Rattle.schema_print_plain.proofs.RecordTypes.{Outer, written_as_record, empty_bare}
 
 abbrev N : Type 0
@@ -39,7 +40,7 @@ abbrev Parts : Type 0
 Parts = List (Part N)
 
 abbrev AreClosed : Parts → Type 0
-AreClosed = AllByRecursion IsClosed
+AreClosed = AllByRecursion IsClosedPart
 
 abbrev AreBare : Parts → Type 0
 AreBare = AllByRecursion IsBare
@@ -48,10 +49,6 @@ AreBare = AllByRecursion IsBare
 bare_where : (b : Bool) → AreBare (visit_where itself (true && not b) external_not_bare) → b ≡ true
 bare_where true h = refl
 bare_where false h = absurd h.0
-
-no_tags : {A : Type 0} (o : Option A) → is_none o ≡ true → o ≡ None
-no_tags None h = refl
-no_tags (Some a) h = absurd (cc)
 
 tags_plain : (tags : Option («Type» N)) → AreClosed (option_map_or (of_type itself) tags []) → AreOrderlyTags tags
     → ArePlainTags tags
@@ -64,15 +61,15 @@ kind_plain : (x : Bool) (k : EntityTypeKind N)
 kind_plain true (Standard e) bare closed up =
     let both = bare_where (is_empty_type e.shape.0 && is_none e.tags) bare in (
       empty_bare e.shape.0 (first_so (is_empty_type e.shape.0) (is_none e.tags) both),
-      no_tags e.tags (second_so (is_empty_type e.shape.0) (is_none e.tags) both),
+      none_from_test e.tags (second_so (is_empty_type e.shape.0) (is_none e.tags) both),
     )
 kind_plain true (Enum choices) bare closed up = absurd bare.0
 kind_plain false (Standard e) bare closed up =
     let shape = of_type itself e.shape.0 in
     let tags = option_map_or (of_type itself) e.tags [] in
-    let inner = all_behind IsClosed (of_parents itself e.member_of_types) (shape ++ tags) closed in (
-      (type_closed e.shape.0 (all_before IsClosed shape tags inner), up.0),
-      tags_plain e.tags (all_behind IsClosed shape tags inner) up.1,
+    let inner = all_back IsClosedPart (of_parents itself e.member_of_types) (shape ++ tags) closed in (
+      (type_closed e.shape.0 (all_front IsClosedPart shape tags inner), up.0),
+      tags_plain e.tags (all_back IsClosedPart shape tags inner) up.1,
     )
 kind_plain false (Enum choices) bare closed up = up
 
@@ -80,8 +77,8 @@ entity_plain : (e : EntityType N) → AreClosed (of_entity itself e) → AreBare
     → IsOrderlyKind e.kind → IsPlainKind e.external e.kind
 entity_plain e closed bare up =
     let there = visit_where itself (e.external && not (is_bare_entity e)) external_not_bare in
-    kind_plain e.external e.kind (all_before IsBare there (of_kind itself e.kind) bare)
-    (all_behind IsClosed there (of_kind itself e.kind) closed) up
+    kind_plain e.external e.kind (all_front IsBare there (of_kind itself e.kind) bare)
+    (all_back IsClosedPart there (of_kind itself e.kind) closed) up
 
 -- each entity type
 pub entities_plain : (es : List (UnreservedId × EntityType N)) → AreClosed (each_value (of_entity itself) es)
@@ -92,8 +89,8 @@ entities_plain [] closed bare up = tt
 entities_plain (e ∷ es) closed bare (here, more) =
     let first = of_entity itself e.1 in
     let rest = each_value (of_entity itself) es in (
-      entity_plain e.1 (all_before IsClosed first rest closed) (all_before IsBare first rest bare) here.1,
-      entities_plain es (all_behind IsClosed first rest closed) (all_behind IsBare first rest bare) more,
+      entity_plain e.1 (all_front IsClosedPart first rest closed) (all_front IsBare first rest bare) here.1,
+      entities_plain es (all_back IsClosedPart first rest closed) (all_back IsBare first rest bare) more,
     )
 
 -- each common type
@@ -104,8 +101,8 @@ commons_plain [] closed up = tt
 commons_plain (e ∷ es) closed (here, more) =
     let first = of_type itself e.1.ty in
     let rest = each_value (of_common itself) es in (
-      (type_closed e.1.ty (all_before IsClosed first rest closed), here.1),
-      commons_plain es (all_behind IsClosed first rest closed) more,
+      (type_closed e.1.ty (all_front IsClosedPart first rest closed), here.1),
+      commons_plain es (all_back IsClosedPart first rest closed) more,
     )
 
 -- a record, or a reference to a common type
@@ -143,8 +140,8 @@ applied_plain false names (Some spec) bare closed test whole up =
     let context = at_context itself (out-Type N spec.context.0) in
     let resources = of_resources itself spec.resource_types in
     targets_plain spec.principal_types spec.resource_types spec.context.0
-    (all_behind IsClosed resources context
-    (all_behind IsClosed (of_principals itself spec.principal_types) (resources ++ context) closed))
+    (all_back IsClosedPart resources context
+    (all_back IsClosedPart (of_principals itself spec.principal_types) (resources ++ context) closed))
     test whole up
 
 no_attributes : (names : Option (List (List ℕ)))
@@ -169,11 +166,11 @@ action_plain a closed bare without test whole up =
     let parents = option_map_or (of_uids itself) a.member_of [] in
     let applied = option_map_or (of_apply itself) a.applies_to [] in
     let rest = names ++ (parents ++ applied) in (
-      no_attributes a.attributes (all_before IsWithoutAttributes names (parents ++ applied)
-          (all_behind IsWithoutAttributes there rest without)),
-      applied_plain a.external a.attributes a.applies_to (all_before IsBare there rest bare)
-          (all_behind IsClosed parents applied
-          (all_behind IsClosed names (parents ++ applied) (all_behind IsClosed there rest closed)))
+      no_attributes a.attributes (all_front IsWithoutAttributes names (parents ++ applied)
+          (all_back IsWithoutAttributes there rest without)),
+      applied_plain a.external a.attributes a.applies_to (all_front IsBare there rest bare)
+          (all_back IsClosedPart parents applied
+          (all_back IsClosedPart names (parents ++ applied) (all_back IsClosedPart there rest closed)))
           test whole up,
     )
 
@@ -189,8 +186,8 @@ actions_plain [] closed bare without tests wholes up = tt
 actions_plain (e ∷ es) closed bare without (test, tests) (whole, wholes) (here, more) =
     let first = of_action itself e.1 in
     let rest = each_value (of_action itself) es in (
-      action_plain e.1 (all_before IsClosed first rest closed) (all_before IsBare first rest bare)
-          (all_before IsWithoutAttributes first rest without) test whole here.1,
-      actions_plain es (all_behind IsClosed first rest closed) (all_behind IsBare first rest bare)
-          (all_behind IsWithoutAttributes first rest without) tests wholes more,
+      action_plain e.1 (all_front IsClosedPart first rest closed) (all_front IsBare first rest bare)
+          (all_front IsWithoutAttributes first rest without) test whole here.1,
+      actions_plain es (all_back IsClosedPart first rest closed) (all_back IsBare first rest bare)
+          (all_back IsWithoutAttributes first rest without) tests wholes more,
     )

@@ -1,22 +1,24 @@
 -- A printable fragment that is orderly is plain.
 use Rattle.std.proofs.Common.{◌≡◌, Bool, true, false, List, [], ◌∷◌, ◌++◌, Option, Some, None, refl}
 use Rattle.std.specs.List.{AllByRecursion}
+use Rattle.cedar_data.proofs.Every.{All-weaker}
+use Rattle.cedar_data.proofs.Every.{all_front, all_back}
 use Rattle.cedar_identifiers.specs.declared.annotations.Annotations.{Annotations}
 use Rattle.cedar_identifiers.specs.declared.name.Name.{Name}
 use Rattle.cedar_identifiers.specs.declared.raw_name.RawName.{RawName}
 use Rattle.cedar_names.specs.declared.extension_table.ExtensionTable.{ExtensionTable}
 use Rattle.schema_json.specs.declared.fragment.Fragment.{Fragment}
+use Rattle.schema_json.specs.AsWritten.{as_written}
+use Rattle.schema_readback.specs.Printed.{AreProperNotes}
 use Rattle.schema_json_walk.specs.Parts.{Part}
 use Rattle.schema_json_walk.specs.Walk.{itself, each_value, of_common, of_entity, of_action, of_namespace}
-use Rattle.schema_convert_types.specs.Declarations.{as_written}
-use Rattle.schema_readback.specs.Printed.{AreProperNotes}
-use Rattle.schema_print.specs.Printable.{IsClosed, IsBare, IsWithoutAttributes, is_annotated_where_named, IsPrintable}
+use Rattle.schema_print.specs.Printable.{IsClosedPart, IsBare, IsWithoutAttributes, is_annotated_where_named}
+use Rattle.schema_print.specs.Printable.{IsPrintable}
 use Rattle.schema_print_says.specs.CedarForm.{Block}
-use Rattle.schema_print_says.specs.Plain.{IsAnnotatedWhereNamed, IsPlainNamespace, IsPlainFragment}
+use Rattle.schema_print_says.specs.Plain.{IsAnnotatedWhereNamed, IsPlainBlock, IsPlainFragment}
 use Rattle.schema_print_plain.specs.Orderly.{IsOrderlyType, IsOrderlyKind, HasOrderlyContext, IsOrderlyNamespace}
 use Rattle.schema_print_plain.specs.Orderly.{IsOrderly}
 use Rattle.schema_print_plain.proofs.Blocks.{IsPrintableBlock, printable_blocks}
-use Rattle.schema_print_plain.proofs.PartsOfEach.{all_before, all_behind, all_as}
 use Rattle.schema_print_plain.proofs.PlainItems.{commons_plain, entities_plain, actions_plain}
 
 abbrev is_empty : {A : Type 0} → List A → Bool
@@ -44,15 +46,15 @@ module _ (P : Part RawName → Type 0) (e : Block) (h : AllByRecursion P (of_nam
   actions = each_value (of_action itself) e.1.actions
 
   in_commons : AllByRecursion P commons
-  in_commons = all_before P commons (entities ++ actions) h
+  in_commons = all_front P commons (entities ++ actions) h
 
   in_entities : AllByRecursion P entities
-  in_entities = all_before P entities actions (all_behind P commons (entities ++ actions) h)
+  in_entities = all_front P entities actions (all_back P commons (entities ++ actions) h)
 
   in_actions : AllByRecursion P actions
-  in_actions = all_behind P entities actions (all_behind P commons (entities ++ actions) h)
+  in_actions = all_back P entities actions (all_back P commons (entities ++ actions) h)
 
-namespace_plain : (e : Block) → IsPrintableBlock e → IsOrderlyNamespace e.1 → IsPlainNamespace e
+namespace_plain : (e : Block) → IsPrintableBlock e → IsOrderlyNamespace e.1 → IsPlainBlock e
 namespace_plain e p o = record {
   annotated = annotated_plain e.0 e.1.annotations p.annotated;
   keys_rise = o.notes;
@@ -60,21 +62,21 @@ namespace_plain e p o = record {
   entities_rise = o.entities_rise;
   actions_rise = o.actions_rise;
   commons_open = p.words;
-  common_notes = all_as (λ c. AreProperNotes c.1.annotations.0 × IsOrderlyType c.1.ty)
+  common_notes = All-weaker (λ c. AreProperNotes c.1.annotations.0 × IsOrderlyType c.1.ty)
       (λ c. AreProperNotes c.1.annotations.0) (λ c h. h.0) e.1.common_types o.commons;
-  entity_notes = all_as (λ d. AreProperNotes d.1.annotations.0 × IsOrderlyKind d.1.kind)
+  entity_notes = All-weaker (λ d. AreProperNotes d.1.annotations.0 × IsOrderlyKind d.1.kind)
       (λ d. AreProperNotes d.1.annotations.0) (λ d h. h.0) e.1.entity_types o.entities;
-  action_notes = all_as (λ a. AreProperNotes a.1.annotations.0 × HasOrderlyContext a.1.applies_to)
+  action_notes = All-weaker (λ a. AreProperNotes a.1.annotations.0 × HasOrderlyContext a.1.applies_to)
       (λ a. AreProperNotes a.1.annotations.0) (λ a h. h.0) e.1.actions o.actions;
-  commons = commons_plain e.1.common_types (in_commons IsClosed e p.closed) o.commons;
-  entities = entities_plain e.1.entity_types (in_entities IsClosed e p.closed) (in_entities IsBare e p.bare)
+  commons = commons_plain e.1.common_types (in_commons IsClosedPart e p.closed) o.commons;
+  entities = entities_plain e.1.entity_types (in_entities IsClosedPart e p.closed) (in_entities IsBare e p.bare)
       o.entities;
-  actions = actions_plain e.1.actions (in_actions IsClosed e p.closed) (in_actions IsBare e p.bare)
+  actions = actions_plain e.1.actions (in_actions IsClosedPart e p.closed) (in_actions IsBare e p.bare)
       (in_actions IsWithoutAttributes e p.without) p.contexts p.targets o.actions;
 }
 
 namespaces_plain : (es : List Block) → AllByRecursion IsPrintableBlock es
-    → AllByRecursion (λ e. IsOrderlyNamespace e.1) es → AllByRecursion IsPlainNamespace es
+    → AllByRecursion (λ e. IsOrderlyNamespace e.1) es → AllByRecursion IsPlainBlock es
 namespaces_plain [] p o = tt
 namespaces_plain (e ∷ es) (p, ps) (o, os) = (namespace_plain e p o, namespaces_plain es ps os)
 

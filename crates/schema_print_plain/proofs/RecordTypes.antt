@@ -1,12 +1,13 @@
 -- What is written of types that are records, and of references to common types.
-use Rattle.std.proofs.Common.{◌≡◌, ℕ, Bool, true, false, not, ◌&&◌, List, [], ◌∷◌, map, Option, refl, sym, ap, ◌∙◌}
+use Rattle.std.proofs.Common.{◌≡◌, ℕ, Bool, true, false, not, ◌&&◌, List, [], ◌∷◌, Option, refl, sym, ap, ◌∙◌}
 use Rattle.cedar_data.specs.declared.loc.Loc.{Loc}
 use Rattle.cedar_identifiers.specs.declared.raw_name.RawName.{RawName}
 use Rattle.schema_json.specs.Shapes.{attributes_of, is_open, is_empty_record, is_empty_type}
+use Rattle.schema_json.specs.Shapes.{has_none, is_empty_shape, is_empty_outside}
 use Rattle.schema_json.specs.declared.types.Type.{«Type», Type-F, out-Type, fold-Type, map-Type, fold_out-Type}
 use Rattle.schema_json.specs.declared.types.TypeVariant.{TypeVariant, TypeVariant-F, out-TypeVariant, fold-TypeVariant}
 use Rattle.schema_json.specs.declared.types.TypeVariant.{map-TypeVariant, fold_out-TypeVariant}
-use Rattle.schema_json.specs.declared.types.RecordType.{RecordType, RecordType-F, fold-RecordType, fold_out-RecordType}
+use Rattle.schema_json.specs.declared.types.RecordType.{RecordType, RecordType-F, fold-RecordType}
 use Rattle.schema_json.specs.declared.types.TypeOfAttribute.{TypeOfAttribute, TypeOfAttribute-F, fold-TypeOfAttribute}
 use Rattle.schema_readback.specs.Written.{WrittenType, WrittenAttributes, rec, no_more}
 use Rattle.schema_print_text.specs.PrintedTypes.{printed_reference, printed_type, printed_record, printed_entries}
@@ -14,8 +15,10 @@ use Rattle.schema_print_text.specs.PrintedTypes.{type_layer, variant_layer, reco
 use Rattle.schema_print_text.proofs.Layers.{record_out}
 use Rattle.schema_print.specs.Collisions.{is_record_type}
 use Rattle.schema_print_says.specs.Plain.{components_written, all_hold, closed_layer, closed_variant_layer}
-use Rattle.schema_print_says.specs.Plain.{closed_record_layer, closed_attribute_layer, is_closed_type, is_closed_record}
-use Rattle.schema_print_says.specs.Plain.{is_closed_attribute, IsBareType}
+use Rattle.schema_print_says.specs.Plain.{closed_record_layer, closed_attribute_layer, is_closed_type}
+use Rattle.schema_print_says.specs.Plain.{is_closed_record}
+use Rattle.schema_print_says.specs.Plain.{IsBareType}
+use Rattle.schema_print_plain.proofs.ClosedTypes.{closed_entries, record_told}
 
 abbrev N : Type 0
 N = RawName
@@ -58,15 +61,6 @@ module _ {A B C D : Type 0} (f : Type-F N A B C D → A) (g : TypeVariant-F N A 
 
 abbrev pub written : «Type» N → WrittenType
 written = printed_type components_written
-
-abbrev closed_entries : List Entry → List (List ℕ × Bool)
-closed_entries es = map (λ p. let q : List ℕ × Bool = (p.0, is_closed_attribute p.1) in q) es
-
-record_told : (r : RecordType N)
-    → is_closed_record r ≡ (not (is_open r) && all_hold (closed_entries (attributes_of r)))
-record_told r =
-    fold_out-RecordType N Bool Bool Bool Bool closed_layer closed_variant_layer closed_record_layer
-    closed_attribute_layer r
 
 -- the type is these records
 record IsOfRecords (s : «Type» N) (r : RecordType N) : Type 0 where
@@ -128,32 +122,19 @@ written_as_name s name loc e =
     made_outside (type_layer components_written) (variant_layer components_written) (record_layer components_written)
     (attribute_layer components_written) s (Type-F.CommonTypeRef name loc) e
 
--- the type is a closed record without attributes, by its layers
-abbrev holds_none : List Entry → Bool
-holds_none [] = true
-holds_none (e ∷ es) = false
-
-abbrev empty_inner : Inner → Bool
-empty_inner (TypeVariant-F.Record r) = is_empty_record r
-empty_inner _ = false
-
-abbrev empty_outer : Outer → Bool
-empty_outer (Type-F.Variant v loc) = empty_inner (out-TypeVariant N v)
-empty_outer (Type-F.CommonTypeRef name loc) = false
-
-empty_is : (s : «Type» N) → is_empty_type s ≡ empty_outer (out-Type N s)
+empty_is : (s : «Type» N) → is_empty_type s ≡ is_empty_outside (out-Type N s)
 empty_is s = refl
 
-empty_record_is : (r : RecordType N) → is_empty_record r ≡ (holds_none (attributes_of r) && not (is_open r))
+empty_record_is : (r : RecordType N) → is_empty_record r ≡ (has_none (attributes_of r) && not (is_open r))
 empty_record_is r = refl
 
-none_open : (es : List Entry) (b : Bool) → (holds_none es && not b) ≡ true
+none_open : (es : List Entry) (b : Bool) → (has_none es && not b) ≡ true
     → (not b && all_hold (closed_entries es)) ≡ true
 none_open [] true h = h
 none_open [] false h = refl
 none_open (e ∷ es) b h = absurd (cc)
 
-none_written : (es : List Entry) (b : Bool) → (holds_none es && not b) ≡ true
+none_written : (es : List Entry) (b : Bool) → (has_none es && not b) ≡ true
     → printed_entries components_written es ≡ no_more
 none_written [] b h = refl
 none_written (e ∷ es) b h = absurd (cc)
@@ -166,7 +147,7 @@ record_bare s r is h =
     )
 
 inner_bare : (s : «Type» N) (v : TypeVariant N) (loc : Option Loc) → out-Type N s ≡ Type-F.Variant v loc
-    → (i : Inner) → out-TypeVariant N v ≡ i → empty_inner i ≡ true → IsBareType s
+    → (i : Inner) → out-TypeVariant N v ≡ i → is_empty_shape i ≡ true → IsBareType s
 inner_bare s v loc e (TypeVariant-F.Record r) f h = record_bare s r (of_records s v loc r e f) h
 inner_bare s v loc e TypeVariant-F.String f h = absurd (cc)
 inner_bare s v loc e TypeVariant-F.Long f h = absurd (cc)
@@ -176,7 +157,7 @@ inner_bare s v loc e (TypeVariant-F.Entity name) f h = absurd (cc)
 inner_bare s v loc e (TypeVariant-F.EntityOrCommon name) f h = absurd (cc)
 inner_bare s v loc e (TypeVariant-F.Extension name) f h = absurd (cc)
 
-outer_bare : (s : «Type» N) (o : Outer) → out-Type N s ≡ o → empty_outer o ≡ true → IsBareType s
+outer_bare : (s : «Type» N) (o : Outer) → out-Type N s ≡ o → is_empty_outside o ≡ true → IsBareType s
 outer_bare s (Type-F.Variant v loc) e h = inner_bare s v loc e (out-TypeVariant N v) refl h
 outer_bare s (Type-F.CommonTypeRef name loc) e h = absurd (cc)
 

@@ -11,11 +11,11 @@ use Rattle.schema_json.specs.declared.entity_type.EntityTypeKind.TheVariants.{St
 use Rattle.schema_json.specs.declared.action_type.ApplySpec.{ApplySpec}
 use Rattle.schema_json.specs.declared.fragment.Fragment.{Fragment}
 use Rattle.schema_json.specs.declared.fragment.NamespaceDefinition.{NamespaceDefinition}
-use Rattle.schema_convert_types.specs.Declarations.{as_written}
+use Rattle.schema_json.specs.AsWritten.{as_written}
 use Rattle.schema_readback.specs.Printed.{AreProperNotes}
 use Rattle.schema_readback.specs.PrintedDecls.{IsSome}
-use Rattle.schema_print_text.specs.PrintedTypes.{printed_type}
 use Rattle.schema_says.specs.FragmentsSay.{namespace_order, name_components}
+use Rattle.schema_print_text.specs.PrintedTypes.{printed_type}
 use Rattle.schema_print_says.specs.Plain.{components_written, IsRisingType}
 
 -- the attributes of each record in the type rise by their names, and the annotations of each attribute by their keys

@@ -3,13 +3,13 @@ use Rattle.std.specs.Prelude.{◌≡◌, ◌↔◌, ℕ, List, []}
 use Rattle.cedar_identifiers.specs.declared.raw_name.RawName.{RawName}
 use Rattle.cedar_names.specs.declared.extension_table.ExtensionTable.{ExtensionTable}
 use Rattle.schema_json.specs.declared.fragment.Fragment.{Fragment}
-use Rattle.schema_convert_types.specs.Declarations.{as_written}
+use Rattle.schema_json.specs.AsWritten.{as_written}
 use Rattle.schema_convert_errors.specs.declared.warnings.SchemaWarning.{SchemaWarning}
 use Rattle.schema_convert.specs.Translated.{IsTranslationOfText}
-use Rattle.schema_resolve.specs.Resolved.{resolved, undefined}
+use Rattle.schema_says.specs.BareFragments.{bare_fragment}
 use Rattle.schema_resolve_definitions.specs.Defined.{defined}
 use Rattle.schema_resolve_definitions.specs.Tests.{tests_of}
-use Rattle.schema_says.specs.BareFragments.{bare_fragment}
+use Rattle.schema_resolve.specs.Resolved.{resolved, undefined}
 use Rattle.schema_print_resolves.specs.Alike.{AreAlike, as_resolved}
 
 -- The text has a tree, without a fault of its syntax and without a user fault, and the tree is translated without a

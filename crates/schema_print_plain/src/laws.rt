@@ -1,10 +1,10 @@
 //! Laws of what the texts of printable fragments say. Each law is what its function ensures; the functions do
 //! nothing but cite laws.
-ghost use Rattle.std.specs.Prelude.{◌≡◌, Bool, List};
+ghost use Rattle.std.specs.Prelude.{Bool, List};
 ghost use Rattle.cedar_identifiers.specs.declared.raw_name.RawName.{RawName as Raw};
 ghost use Rattle.cedar_names.specs.declared.extension_table.ExtensionTable.{ExtensionTable};
 ghost use Rattle.schema_json.specs.declared.fragment.Fragment.{Fragment as Fragments};
-ghost use Rattle.schema_convert_types.specs.Declarations.{as_written};
+ghost use Rattle.schema_json.specs.AsWritten.{as_written};
 ghost use Rattle.schema_readback.specs.PrintedDecls.{Group};
 ghost use Rattle.schema_print.specs.FragmentGroups.{AreGroupsOf};
 ghost use Rattle.schema_print.specs.Printable.{IsPrintable};

@@ -2,6 +2,7 @@
 use Rattle.std.proofs.Common.{◌≡◌, Bool, true, false, List, [], ◌∷◌, ◌++◌, map, Option, Some, None, refl, sym, ap, ◌∙◌}
 use Rattle.std.specs.List.{AllByRecursion}
 use Rattle.std.specs.Option.{option_map, option_map_or}
+use Rattle.cedar_data.proofs.Every.{all_back}
 use Rattle.cedar_identifiers.specs.declared.internal_name.InternalName.{InternalName}
 use Rattle.cedar_identifiers.specs.declared.name_text.NameText as named
 use Rattle.cedar_identifiers.specs.declared.raw_name.RawName.{RawName}
@@ -17,22 +18,25 @@ use Rattle.schema_json.specs.declared.types.TypeVariant.{TypeVariant, roll-TypeV
 use Rattle.schema_json.specs.declared.types.RecordType.{RecordType, out-RecordType, out-roll-RecordType}
 use Rattle.schema_json.specs.declared.types.TypeOfAttribute.{TypeOfAttribute}
 use Rattle.schema_json.specs.declared.types.TypeVariant.TheVariants as variant
+use Rattle.schema_json.specs.AsWritten.{as_written}
 use Rattle.schema_json_walk.specs.Parts.{Part, external_not_bare, action_attributes, action_parent, open_record}
 use Rattle.schema_json_walk.specs.Walk.{itself, visit_where, at_context, of_entries, of_context, of_principals}
 use Rattle.schema_json_walk.specs.Walk.{of_resources, of_apply, of_uid, of_uids, of_action}
 use Rattle.schema_json_walk.proofs.Layers.{record_walked, variant_walked}
-use Rattle.schema_convert_types.specs.Declarations.{as_written}
+use Rattle.schema_resolve_definitions.specs.Tests.{Tests}
 use Rattle.schema_resolve.specs.Renamed.{Renaming, due_there, renamed, renamed_record, renamed_apply, renamed_uid}
 use Rattle.schema_resolve.specs.Renamed.{renamed_action}
 use Rattle.schema_resolve.specs.Resolved.{resolving_in, meant_type}
 use Rattle.schema_resolve.specs.Undefined.{Undefined}
-use Rattle.schema_resolve_definitions.specs.Tests.{Tests}
+use Rattle.schema_print.proofs.Tested.{none}
 use Rattle.schema_print_says.specs.CedarForm.{cedar_spec, cedar_applies, cedar_parent, cedar_parents, cedar_action}
 use Rattle.schema_print_says.specs.CedarForm.{type_or_action}
-use Rattle.schema_print_resolves.specs.Alike.{referred, referred_spec, referred_applies, listed, referred_action}
-use Rattle.schema_print_resolves.proofs.References.{none, visit}
-use Rattle.schema_print_resolves.proofs.TypesAlike.{Good, KnowsPrimitives, all_back, referred_is, as_reference}
-use Rattle.schema_print_resolves.proofs.TypesAlike.{resolved_is, shape_resolved_is, record_resolved_is, referred_record}
+use Rattle.schema_print_resolves.specs.Alike.{referred, referred_spec, referred_applies, list_or_empty}
+use Rattle.schema_print_resolves.specs.Alike.{referred_action}
+use Rattle.schema_print_resolves.proofs.References.{visit}
+use Rattle.schema_print_resolves.proofs.TypesAlike.{Good, KnowsPrimitives, referred_is, as_reference}
+use Rattle.schema_print_resolves.proofs.TypesAlike.{resolved_is, shape_resolved_is, record_resolved_is}
+use Rattle.schema_print_resolves.proofs.TypesAlike.{referred_record}
 use Rattle.schema_print_resolves.proofs.TypesAlike.{referred_record_is}
 use Rattle.schema_print_resolves.proofs.ItemsAlike.{both_found, second_none, beside_excess, context_alike}
 
@@ -81,8 +85,8 @@ module _ (t : Tests) (ns : Option InternalName) (knows : KnowsPrimitives t ns) w
     uids_alike (u ∷ us) = λ i. uid_alike u i ∷ uids_alike us i
 
     parents_alike : (o : Option (List (ActionEntityUID RawName as_written)))
-        → listed (option_map (map (renamed_uid R (meant_type t ns) {G = as_written} {H = H})) o)
-        ≡ listed (option_map (map (renamed_uid R (meant_type t ns) {G = as_written} {H = H})) (cedar_parents o))
+        → list_or_empty (option_map (map (renamed_uid R (meant_type t ns) {G = as_written} {H = H})) o)
+        ≡ list_or_empty (option_map (map (renamed_uid R (meant_type t ns) {G = as_written} {H = H})) (cedar_parents o))
     parents_alike None = refl
     parents_alike (Some []) = refl
     parents_alike (Some (u ∷ us)) = ap Some (uids_alike (u ∷ us))

@@ -2,21 +2,24 @@
 use Rattle.std.proofs.Common.{◌≡◌, true, List, [], ◌∷◌, map, Option, refl}
 use Rattle.std.specs.List.{AllByRecursion}
 use Rattle.cedar_data.specs.Entries.{on_value}
+use Rattle.cedar_data.proofs.Every.{all_front, all_back}
 use Rattle.cedar_identifiers.specs.declared.internal_name.InternalName.{InternalName}
 use Rattle.cedar_identifiers.specs.declared.name_text.NameText as named
 use Rattle.cedar_identifiers.specs.declared.raw_name.RawName.{RawName}
 use Rattle.schema_json.specs.declared.fragment.NamespaceDefinition.{NamespaceDefinition}
+use Rattle.schema_json.specs.AsWritten.{as_written}
 use Rattle.schema_json_walk.specs.Parts.{Part}
 use Rattle.schema_json_walk.specs.Walk.{itself, each_value, of_common, of_entity, of_action, of_namespace}
-use Rattle.schema_convert_types.specs.Declarations.{as_written}
+use Rattle.schema_resolve_definitions.specs.Tests.{Tests}
 use Rattle.schema_resolve.specs.Renamed.{Renaming, renamed_common, renamed_entity, renamed_action, renamed_namespace}
 use Rattle.schema_resolve.specs.Resolved.{resolving_in, meant_type}
 use Rattle.schema_resolve.specs.Undefined.{Undefined}
-use Rattle.schema_resolve_definitions.specs.Tests.{Tests}
-use Rattle.schema_print_says.specs.CedarForm.{changed_values, cedar_common, cedar_entity, cedar_action, cedar_namespace}
+use Rattle.schema_print.proofs.Tested.{none}
+use Rattle.schema_print_says.specs.CedarForm.{changed_values, cedar_common, cedar_entity, cedar_action}
+use Rattle.schema_print_says.specs.CedarForm.{cedar_namespace}
 use Rattle.schema_print_resolves.specs.Alike.{referred_common, referred_entity, referred_action, referred_namespace}
-use Rattle.schema_print_resolves.proofs.References.{none, visit}
-use Rattle.schema_print_resolves.proofs.TypesAlike.{Good, KnowsPrimitives, all_front, all_back}
+use Rattle.schema_print_resolves.proofs.References.{visit}
+use Rattle.schema_print_resolves.proofs.TypesAlike.{Good, KnowsPrimitives}
 use Rattle.schema_print_resolves.proofs.ItemsAlike.{both_found, first_none, second_none, entity_alike}
 use Rattle.schema_print_resolves.proofs.ItemsAlike.{common_type_alike}
 use Rattle.schema_print_resolves.proofs.ActionsAlike.{action_found, action_alike}

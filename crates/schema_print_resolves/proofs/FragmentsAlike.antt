@@ -1,5 +1,6 @@
 -- A fragment and its form in a text declare the same, and resolve alike, where one of them resolves.
-use Rattle.std.proofs.Common.{◌≡◌, Bool, true, false, ◌||◌, List, [], ◌∷◌, ◌++◌, map, Option, Some, None, refl, sym, ap}
+use Rattle.std.proofs.Common.{◌≡◌, Bool, true, false, ◌||◌, List, [], ◌∷◌, ◌++◌, map, Option, Some, None, refl, sym}
+use Rattle.std.proofs.Common.{ap}
 use Rattle.std.proofs.Common.{◌∙◌, true≢false}
 use Rattle.std.specs.Prelude.{if◌then◌else◌}
 use Rattle.std.specs.List.{flat_map, filter_map, cons_option, AllByRecursion}
@@ -11,18 +12,20 @@ use Rattle.cedar_identifiers.specs.declared.name_text.NameText as named
 use Rattle.cedar_identifiers.specs.declared.raw_name.RawName.{RawName}
 use Rattle.schema_json.specs.declared.fragment.Fragment.{Fragment}
 use Rattle.schema_json.specs.declared.fragment.NamespaceDefinition.{NamespaceDefinition}
+use Rattle.schema_json.specs.AsWritten.{as_written}
 use Rattle.schema_json_walk.specs.Walk.{itself, each_value, of_common, of_entity, of_action, of_namespace}
-use Rattle.schema_convert_types.specs.Declarations.{as_written}
-use Rattle.schema_resolve.specs.Renamed.{renamed_common, renamed_entity, renamed_action, renamed_entry}
-use Rattle.schema_resolve.specs.Resolved.{resolving_in, meant_type}
-use Rattle.schema_resolve.specs.Undefined.{Undefined}
 use Rattle.schema_resolve_definitions.specs.Declarations.{name_of, declared_name, action_type, commons_in, entities_in}
 use Rattle.schema_resolve_definitions.specs.Declarations.{actions_in, declared}
 use Rattle.schema_resolve_definitions.specs.Tests.{Tests}
-use Rattle.schema_print_says.specs.CedarForm.{Block, is_some_list, changed_values, cedar_common, cedar_entity}
+use Rattle.schema_resolve_lookup.specs.Sought.{is_some_list}
+use Rattle.schema_resolve.specs.Renamed.{renamed_common, renamed_entity, renamed_action, renamed_entry}
+use Rattle.schema_resolve.specs.Resolved.{resolving_in, meant_type}
+use Rattle.schema_resolve.specs.Undefined.{Undefined}
+use Rattle.schema_print.proofs.Tested.{none}
+use Rattle.schema_print_says.specs.CedarForm.{Block, changed_values, cedar_common, cedar_entity}
 use Rattle.schema_print_says.specs.CedarForm.{cedar_action, cedar_namespace, declares, cedar_block, cedar_form}
 use Rattle.schema_print_resolves.specs.Alike.{declares_some, referred_namespace, referred_block}
-use Rattle.schema_print_resolves.proofs.References.{none, visit}
+use Rattle.schema_print_resolves.proofs.References.{visit}
 use Rattle.schema_print_resolves.proofs.TypesAlike.{Good, KnowsPrimitives}
 use Rattle.schema_print_resolves.proofs.ItemsAlike.{both_found, first_none, second_none}
 use Rattle.schema_print_resolves.proofs.BlocksAlike.{namespace_found, namespace_alike}

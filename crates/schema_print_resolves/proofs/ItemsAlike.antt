@@ -1,8 +1,10 @@
 -- Entity types, actions and common types, and their forms in a text, resolve alike, where one of them resolves.
-use Rattle.std.proofs.Common.{◌≡◌, Bool, true, false, ◌&&◌, List, [], ◌++◌, map, Option, Some, None, refl, sym, ap, ◌∙◌}
+use Rattle.std.proofs.Common.{◌≡◌, Bool, true, false, ◌&&◌, List, [], ◌++◌, map, Option, Some, None, refl, sym, ap}
+use Rattle.std.proofs.Common.{◌∙◌}
 use Rattle.std.specs.List.{AllByRecursion}
 use Rattle.std.specs.Option.{option_map, option_map_or}
 use Rattle.std.specs.Cmp.{first_so, second_so}
+use Rattle.cedar_data.proofs.Every.{all_front, all_back}
 use Rattle.cedar_identifiers.specs.declared.internal_name.InternalName.{InternalName}
 use Rattle.cedar_identifiers.specs.declared.raw_name.RawName.{RawName}
 use Rattle.cedar_identifiers.specs.declared.reference_type.ReferenceType.TheVariants.{Entity}
@@ -18,17 +20,19 @@ use Rattle.schema_json.specs.declared.types.TypeOfAttribute.{TypeOfAttribute, ro
 use Rattle.schema_json_walk.specs.Parts.{Part, external_not_bare}
 use Rattle.schema_json_walk.specs.Walk.{itself, visit_where, at_context, of_type, of_context, of_parents, of_kind}
 use Rattle.schema_json_walk.specs.Walk.{of_entity, of_common}
+use Rattle.schema_resolve_definitions.specs.Tests.{Tests}
 use Rattle.schema_resolve.specs.Renamed.{Renaming, new_type, new_shape, new_record, new_attribute, renamed}
 use Rattle.schema_resolve.specs.Renamed.{renamed_kind, renamed_entity, renamed_common}
 use Rattle.schema_resolve.specs.Resolved.{resolving_in}
 use Rattle.schema_resolve.specs.Undefined.{Undefined}
-use Rattle.schema_resolve_definitions.specs.Tests.{Tests}
+use Rattle.schema_print.proofs.Tested.{none, none_joined}
 use Rattle.schema_print_says.specs.CedarForm.{cedar_layer, cedar_variant_layer, cedar_type, cedar_variant}
-use Rattle.schema_print_says.specs.CedarForm.{cedar_context, cedar_outside, cedar_common, cedar_kind, cedar_entity}
+use Rattle.schema_print_says.specs.CedarForm.{cedar_context, cedar_common, cedar_kind, cedar_entity}
+use Rattle.schema_print_says.proofs.CedarDecls.{context_at}
 use Rattle.schema_print_resolves.specs.Alike.{referred, referred_common, referred_kind, referred_entity}
 use Rattle.schema_print_resolves.proofs.Layers.{type_made}
-use Rattle.schema_print_resolves.proofs.References.{none, visit}
-use Rattle.schema_print_resolves.proofs.TypesAlike.{Good, KnowsPrimitives, all_front, all_back, none_joined, type_alike}
+use Rattle.schema_print_resolves.proofs.References.{visit}
+use Rattle.schema_print_resolves.proofs.TypesAlike.{Good, KnowsPrimitives, type_alike}
 use Rattle.schema_print_resolves.proofs.TypesAlike.{shape_alike, resolved_is}
 
 -- what is found of two lists, each as of another
@@ -66,15 +70,12 @@ module _ (t : Tests) (ns : Option InternalName) (knows : KnowsPrimitives t ns) w
       → of_context w (record { 0 = s }) ≡ at_context w o
   context_of w s o e = ap (at_context w) e
 
-  outside_of : (s : «Type» RawName) (o : Outer) → out-Type RawName s ≡ o → cedar_context s ≡ cedar_outside o s
-  outside_of s o e = ap (λ o. cedar_outside o s) e
-
   context_by : (s : «Type» RawName) (o : Outer) → out-Type RawName s ≡ o
       → Goods (at_context itself o) → ContextAlike s
   context_by s (Type-F.Variant w loc) e goods =
       let c : Outer = Type-F.Variant (cedar_variant w) loc in
       let form : cedar_context s ≡ roll-Type RawName c =
-      outside_of s (Type-F.Variant w loc) e
+      context_at s (Type-F.Variant w loc) e
       ∙ type_made RawName cedar_layer cedar_variant_layer (roll-RecordType RawName) (roll-TypeOfAttribute RawName) s
       (Type-F.Variant w loc) e in
       let inner = shape_alike t ns knows w goods in
@@ -90,7 +91,7 @@ module _ (t : Tests) (ns : Option InternalName) (knows : KnowsPrimitives t ns) w
       }
   context_by s (Type-F.CommonTypeRef n loc) e goods =
       let o : Outer = Type-F.CommonTypeRef n loc in
-      let form : cedar_context s ≡ roll-Type RawName o = outside_of s o e ∙ sym (shape.rolls-CommonTypeRef n loc) in
+      let form : cedar_context s ≡ roll-Type RawName o = context_at s o e ∙ sym (shape.rolls-CommonTypeRef n loc) in
       let out : out-Type RawName (cedar_context s) ≡ o = ap (out-Type RawName) form ∙ out-roll-Type RawName o in
       record {
         found = ap none (context_of v s o e) ∙ sym (ap none (context_of v (cedar_context s) o out));

@@ -3,6 +3,8 @@ use Rattle.std.proofs.Common.{◌≡◌, ◌↔◌, ℕ, true, ◌||◌, map, Li
 use Rattle.std.specs.List.{list_any, flat_map, AllByRecursion}
 use Rattle.std.specs.Str.{bytes_eq}
 use Rattle.std.proofs.lemmas.List.Folds.{list_any-append}
+use Rattle.std.proofs.lemmas.Bool.{or_right}
+use Rattle.cedar_data.proofs.Every.{all_front, all_back}
 use Rattle.cedar_identifiers.specs.declared.internal_name.InternalName.{InternalName}
 use Rattle.cedar_identifiers.specs.declared.name.Name.{Name}
 use Rattle.cedar_identifiers.specs.declared.name_text.NameText as named
@@ -12,27 +14,23 @@ use Rattle.cedar_names.specs.Definitions.{same_name}
 use Rattle.cedar_names.specs.Tables.{table_has}
 use Rattle.cedar_names.specs.declared.extension_table.ExtensionTable.{ExtensionTable}
 use Rattle.schema_json.specs.declared.fragment.Fragment.{Fragment}
+use Rattle.schema_json.specs.AsWritten.{as_written}
 use Rattle.schema_json_walk.specs.Parts.{Part, type_reference, context_reference, parent, principal, resource}
 use Rattle.schema_json_walk.specs.Parts.{action_parent, extension_type, open_record, action_attributes}
 use Rattle.schema_json_walk.specs.Parts.{external_not_bare}
 use Rattle.schema_json_walk.specs.Walk.{itself, of_namespace}
 use Rattle.schema_json_walk.proofs.ByParts.{namespace_by_parts}
-use Rattle.schema_convert_types.specs.Declarations.{as_written}
-use Rattle.schema_resolve.specs.Resolved.{resolved, undefined}
 use Rattle.schema_resolve_definitions.specs.Declarations.{name_of, declared}
 use Rattle.schema_resolve_definitions.specs.Defined.{builtins, names_of_builtins, completed, defined}
 use Rattle.schema_resolve_definitions.specs.Tests.{Tests, tests_of}
+use Rattle.schema_resolve.specs.Resolved.{resolved, undefined}
 use Rattle.schema_print.specs.Printable.{IsInTable, IsMeantEitherWay, IsPrintable}
+use Rattle.schema_print.proofs.Tested.{none, none_is}
 use Rattle.schema_print_says.specs.CedarForm.{Block, cedar_form}
 use Rattle.schema_print_resolves.specs.Alike.{AreAlike}
-use Rattle.schema_print_resolves.proofs.References.{none}
-use Rattle.schema_print_resolves.proofs.TypesAlike.{Good, KnowsPrimitives, all_front, all_back}
+use Rattle.schema_print_resolves.proofs.TypesAlike.{Good, KnowsPrimitives}
 use Rattle.schema_print_resolves.proofs.FragmentsAlike.{declared_alike, all_found, all_alike, Goods}
-use Rattle.schema_print_resolves.proofs.Printed.{cedar_there, or_right}
-
-none_is : {A : Type 0} (xs : List A) → (none xs ≡ true) ↔ (xs ≡ [])
-none_is [] = (λ h. refl, λ h. refl)
-none_is (x ∷ xs) = (λ h. absurd (cc), λ h. absurd (cc))
+use Rattle.schema_print_resolves.proofs.Printed.{cedar_there}
 
 module _ (f : Fragment RawName as_written) (table : ExtensionTable) where
   pub same_defined : defined f table ≡ defined (cedar_form f) table

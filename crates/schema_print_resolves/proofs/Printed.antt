@@ -3,17 +3,10 @@ use Rattle.std.proofs.Common.{◌≡◌, ℕ, Bool, true, false, ◌&&◌, ◌||
 use Rattle.std.specs.List.{list_any}
 use Rattle.std.specs.Str.{bytes_eq}
 use Rattle.std.proofs.lemmas.List.Folds.{list_any-append}
+use Rattle.std.proofs.lemmas.Bool.{or_left, or_right}
 use Rattle.cedar_names.specs.Definitions.{among, same_name}
 use Rattle.schema_resolve_definitions.specs.Defined.{names_of_builtin, names_of_builtins}
 use Rattle.schema_resolve_definitions.specs.Tests.{Tests}
-
-pub or_left : (a b : Bool) → a ≡ true → (a || b) ≡ true
-or_left true b h = refl
-or_left false b h = absurd (cc)
-
-pub or_right : (a b : Bool) → b ≡ true → (a || b) ≡ true
-or_right true b h = refl
-or_right false b h = h
 
 abbrev full : List ℕ → List (List ℕ)
 full w = codes "__cedar" ∷ w ∷ []

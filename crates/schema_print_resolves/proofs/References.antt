@@ -1,8 +1,9 @@
 -- What references mean that mean the same either way, and what the names in `__cedar` mean.
-use Rattle.std.proofs.Common.{◌≡◌, ℕ, Bool, true, false, ◌||◌, List, [], ◌∷◌, Option, Some, None, cond, refl, sym, ap}
+use Rattle.std.proofs.Common.{◌≡◌, ℕ, Bool, true, false, ◌||◌, List, Option, Some, None, cond, refl, sym, ap}
 use Rattle.std.proofs.Common.{◌∙◌}
 use Rattle.std.specs.Prelude.{if◌then◌else◌}
 use Rattle.std.specs.Option.{option_map, is_some, unwrap_or}
+use Rattle.std.proofs.lemmas.Option.{same_Some}
 use Rattle.cedar_data.specs.declared.loc.Loc.{Loc}
 use Rattle.cedar_identifiers.specs.Names.{components_of}
 use Rattle.cedar_identifiers.specs.declared.id.Id.{Id}
@@ -13,6 +14,7 @@ use Rattle.cedar_identifiers.specs.declared.reference_type.ReferenceType.TheVari
 use Rattle.schema_json.specs.declared.types.Type.{Variant, CommonTypeRef}
 use Rattle.schema_json.specs.declared.types.TypeVariant.TheVariants as variant
 use Rattle.schema_json_walk.specs.Parts.{Part, type_reference}
+use Rattle.schema_resolve_definitions.specs.Tests.{Tests}
 use Rattle.schema_resolve.specs.Meanings.{means, kind_there}
 use Rattle.schema_resolve.specs.Qualified.{in_namespace}
 use Rattle.schema_resolve.specs.ReferenceParts.{by_reference}
@@ -20,27 +22,12 @@ use Rattle.schema_resolve.specs.References.{reference_to}
 use Rattle.schema_resolve.specs.Resolved.{resolving_in, untargeted_in}
 use Rattle.schema_resolve.specs.Targets.{target, unless}
 use Rattle.schema_resolve.specs.Undefined.{Undefined}
-use Rattle.schema_resolve_definitions.specs.Tests.{Tests}
+use Rattle.schema_print.proofs.Tested.{none}
+use Rattle.schema_print.proofs.EitherWay.{same_kind}
 use Rattle.schema_print_says.specs.CedarForm.{builtin_name}
 
--- no item
-abbrev pub none : {A : Type 0} → List A → Bool
-none [] = true
-none (x ∷ xs) = false
-
-abbrev kind_or : {N : Type 0} → ReferenceType → Option (N × ReferenceType) → ReferenceType
-kind_or k None = k
-kind_or k (Some found) = found.1
-
-abbrev name_or : {N : Type 0} → N → Option (N × ReferenceType) → N
-name_or n None = n
-name_or n (Some found) = found.0
-
-same_kind : {N : Type 0} (m n : N × ReferenceType) → Some m ≡ Some n → m.1 ≡ n.1
-same_kind m n h = ap (kind_or m.1) h
-
 same_name : {N : Type 0} (m n : N × ReferenceType) → Some m ≡ Some n → m.0 ≡ n.0
-same_name m n h = ap (name_or m.0) h
+same_name m n h = ap (λ found. found.0) (same_Some m n h)
 
 module _ {A B U : Type 0} where
   told : (f : A → B) (o : Option A) (u : U) → none (unless o u) ≡ is_some (option_map f o)

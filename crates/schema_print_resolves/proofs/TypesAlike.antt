@@ -4,6 +4,7 @@ use Rattle.std.proofs.Common.{◌∙◌, subst}
 use Rattle.std.specs.List.{flat_map, AllByRecursion}
 use Rattle.std.specs.Cmp.{first_so, second_so}
 use Rattle.cedar_data.specs.declared.loc.Loc.{Loc}
+use Rattle.cedar_data.proofs.Every.{all_front, all_back}
 use Rattle.cedar_identifiers.specs.Names.{components_of}
 use Rattle.cedar_identifiers.specs.declared.id.Id.{Id}
 use Rattle.cedar_identifiers.specs.declared.internal_name.InternalName.{InternalName}
@@ -21,20 +22,22 @@ use Rattle.schema_json.specs.declared.types.Type.TheFolds.{map-RecordType, map-T
 use Rattle.schema_json_walk.specs.Parts.{Part, type_reference, extension_type, open_record}
 use Rattle.schema_json_walk.specs.Walk.{itself, visit_where, at_type, at_variant, at_record, at_attribute, of_type}
 use Rattle.schema_json_walk.specs.Walk.{of_variant, of_record, of_attribute}
+use Rattle.schema_resolve_definitions.specs.Tests.{Tests}
 use Rattle.schema_resolve.specs.Meanings.{means}
 use Rattle.schema_resolve.specs.Renamed.{Renaming, new_type, new_shape, new_record, new_attribute, renamed, renamed_at}
 use Rattle.schema_resolve.specs.Renamed.{renamed_record, renamed_attribute}
 use Rattle.schema_resolve.specs.Resolved.{resolving_in}
 use Rattle.schema_resolve.specs.Undefined.{Undefined}
-use Rattle.schema_resolve_definitions.specs.Tests.{Tests}
+use Rattle.schema_print.proofs.Tested.{none, none_joined}
 use Rattle.schema_print_says.specs.CedarForm.{builtin_name, bool_name, long_name, string_name, cedar_layer}
 use Rattle.schema_print_says.specs.CedarForm.{cedar_variant_layer, cedar_type, cedar_variant, cedar_record}
 use Rattle.schema_print_says.specs.CedarForm.{cedar_attribute}
 use Rattle.schema_print_resolves.specs.Alike.{Shaped, common_named, referred_layer, referred_shape, referred_fields}
 use Rattle.schema_print_resolves.specs.Alike.{referred_field, referred}
-use Rattle.schema_print_resolves.proofs.Layers.{type_is, variant_is, record_is, attribute_is, on_variant, on_record}
-use Rattle.schema_print_resolves.proofs.Layers.{on_attribute}
-use Rattle.schema_print_resolves.proofs.References.{none, visit, found_either, common_alike, entity_alike}
+use Rattle.schema_print_resolves.proofs.Layers.{Outer, Shape, Fields, Field, type_is, variant_is, record_is}
+use Rattle.schema_print_resolves.proofs.Layers.{attribute_is}
+use Rattle.schema_print_resolves.proofs.Layers.{on_variant, on_record, on_attribute}
+use Rattle.schema_print_resolves.proofs.References.{visit, found_either, common_alike, entity_alike}
 use Rattle.schema_print_resolves.proofs.References.{builtin_found, builtin_either}
 
 abbrev N : Type 0
@@ -42,19 +45,6 @@ N = RawName
 
 abbrev M : Type 0
 M = InternalName
-
--- the parts of a list
-pub all_front : {A : Type 0} (P : A → Type 0) (xs ys : List A) → AllByRecursion P (xs ++ ys) → AllByRecursion P xs
-all_front P [] ys h = tt
-all_front P (x ∷ xs) ys (h, hs) = (h, all_front P xs ys hs)
-
-pub all_back : {A : Type 0} (P : A → Type 0) (xs ys : List A) → AllByRecursion P (xs ++ ys) → AllByRecursion P ys
-all_back P [] ys h = h
-all_back P (x ∷ xs) ys (h, hs) = all_back P xs ys hs
-
-pub none_joined : {A : Type 0} (xs ys : List A) → none (xs ++ ys) ≡ (none xs && none ys)
-none_joined [] ys = refl
-none_joined (x ∷ xs) ys = refl
 
 -- comparison, layer by layer
 abbrev referred_at : TypeVariant InternalName → Shaped
@@ -66,13 +56,10 @@ referred_record = on_record M referred_layer referred_shape referred_fields refe
 abbrev referred_attribute : TypeOfAttribute InternalName → TypeOfAttribute InternalName
 referred_attribute = on_attribute M referred_layer referred_shape referred_fields referred_field
 
-abbrev pub as_reference : TypeVariant-F InternalName («Type» InternalName) (TypeVariant InternalName)
-    (RecordType InternalName) (TypeOfAttribute InternalName)
-    → Option Loc → «Type» InternalName
+abbrev pub as_reference : Shape M → Option Loc → «Type» InternalName
 as_reference o loc = roll-Type M (Type-F.Variant (roll-TypeVariant M o) loc)
 
-pub referred_is : (o : TypeVariant-F M («Type» M) (TypeVariant M) (RecordType M) (TypeOfAttribute M)) (loc : Option Loc)
-    → referred (as_reference o loc)
+pub referred_is : (o : Shape M) (loc : Option Loc) → referred (as_reference o loc)
     ≡ referred_shape (map-TypeVariant M _ _ _ _ _ _ _ _ referred referred_at referred_record referred_attribute o) loc
 referred_is o loc =
     type_is M referred_layer referred_shape referred_fields referred_field (Type-F.Variant (roll-TypeVariant M o) loc)
@@ -83,8 +70,7 @@ referred_common_is : (n : InternalName) (loc : Option Loc)
 referred_common_is n loc =
     type_is M referred_layer referred_shape referred_fields referred_field (Type-F.CommonTypeRef n loc)
 
-pub referred_record_is : (o : RecordType-F M («Type» M) (TypeVariant M) (RecordType M) (TypeOfAttribute M))
-    → referred_record (roll-RecordType M o)
+pub referred_record_is : (o : Fields M) → referred_record (roll-RecordType M o)
     ≡ referred_fields (map-RecordType M _ _ _ _ _ _ _ _ referred referred_at referred_record referred_attribute o)
 referred_record_is o = record_is M referred_layer referred_shape referred_fields referred_field o
 
@@ -128,52 +114,43 @@ module _ (t : Tests) (ns : Option InternalName) where
 
   -- walks, the form in a text and resolution, layer by layer
   module _ {U : Type 0} (w : Part RawName → List U) where
-    walked : (o : Type-F N («Type» N) (TypeVariant N) (RecordType N) (TypeOfAttribute N)) → of_type w (roll-Type N o)
+    walked : (o : Outer N) → of_type w (roll-Type N o)
         ≡ at_type w (map-Type N _ _ _ _ _ _ _ _ (of_type w) (of_variant w) (of_record w) (of_attribute w) o)
     walked o = type_is N (at_type w) (at_variant w) (at_record w) (at_attribute w) o
 
-    shape_walked : (o : TypeVariant-F N («Type» N) (TypeVariant N) (RecordType N) (TypeOfAttribute N))
-        → of_variant w (roll-TypeVariant N o)
+    shape_walked : (o : Shape N) → of_variant w (roll-TypeVariant N o)
         ≡ at_variant w (map-TypeVariant N _ _ _ _ _ _ _ _ (of_type w) (of_variant w) (of_record w) (of_attribute w) o)
     shape_walked o = variant_is N (at_type w) (at_variant w) (at_record w) (at_attribute w) o
 
-    record_walked : (o : RecordType-F N («Type» N) (TypeVariant N) (RecordType N) (TypeOfAttribute N))
-        → of_record w (roll-RecordType N o)
+    record_walked : (o : Fields N) → of_record w (roll-RecordType N o)
         ≡ at_record w (map-RecordType N _ _ _ _ _ _ _ _ (of_type w) (of_variant w) (of_record w) (of_attribute w) o)
     record_walked o = record_is N (at_type w) (at_variant w) (at_record w) (at_attribute w) o
 
-    attribute_walked : (o : TypeOfAttribute-F N («Type» N) (TypeVariant N) (RecordType N) (TypeOfAttribute N))
-        → of_attribute w (roll-TypeOfAttribute N o) ≡ of_type w o.ty
+    attribute_walked : (o : Field N) → of_attribute w (roll-TypeOfAttribute N o) ≡ of_type w o.ty
     attribute_walked o = attribute_is N (at_type w) (at_variant w) (at_record w) (at_attribute w) o
 
-  pub cedar_is : (o : Type-F N («Type» N) (TypeVariant N) (RecordType N) (TypeOfAttribute N))
-      → cedar_type (roll-Type N o)
+  pub cedar_is : (o : Outer N) → cedar_type (roll-Type N o)
       ≡ cedar_layer (map-Type N _ _ _ _ _ _ _ _ cedar_type cedar_variant cedar_record cedar_attribute o)
   cedar_is o = type_is N cedar_layer cedar_variant_layer (roll-RecordType N) (roll-TypeOfAttribute N) o
 
-  cedar_shape_is : (o : TypeVariant-F N («Type» N) (TypeVariant N) (RecordType N) (TypeOfAttribute N))
-      → cedar_variant (roll-TypeVariant N o)
+  cedar_shape_is : (o : Shape N) → cedar_variant (roll-TypeVariant N o)
       ≡ cedar_variant_layer (map-TypeVariant N _ _ _ _ _ _ _ _ cedar_type cedar_variant cedar_record cedar_attribute o)
   cedar_shape_is o = variant_is N cedar_layer cedar_variant_layer (roll-RecordType N) (roll-TypeOfAttribute N) o
 
-  cedar_record_is : (o : RecordType-F N («Type» N) (TypeVariant N) (RecordType N) (TypeOfAttribute N))
-      → cedar_record (roll-RecordType N o)
+  cedar_record_is : (o : Fields N) → cedar_record (roll-RecordType N o)
       ≡ roll-RecordType N (map-RecordType N _ _ _ _ _ _ _ _ cedar_type cedar_variant cedar_record cedar_attribute o)
   cedar_record_is o = record_is N cedar_layer cedar_variant_layer (roll-RecordType N) (roll-TypeOfAttribute N) o
 
-  cedar_attribute_is : (o : TypeOfAttribute-F N («Type» N) (TypeVariant N) (RecordType N) (TypeOfAttribute N))
-      → cedar_attribute (roll-TypeOfAttribute N o)
+  cedar_attribute_is : (o : Field N) → cedar_attribute (roll-TypeOfAttribute N o)
       ≡ roll-TypeOfAttribute N (map-TypeOfAttribute N _ _ _ _ _ _ _ _ cedar_type cedar_variant cedar_record
       cedar_attribute o)
   cedar_attribute_is o = attribute_is N cedar_layer cedar_variant_layer (roll-RecordType N) (roll-TypeOfAttribute N) o
 
-  pub resolved_is : (o : Type-F N («Type» N) (TypeVariant N) (RecordType N) (TypeOfAttribute N))
-      → renamed R (roll-Type N o)
+  pub resolved_is : (o : Outer N) → renamed R (roll-Type N o)
       ≡ new_type R (map-Type N _ _ _ _ _ _ _ _ (renamed R) (renamed_at R) (renamed_record R) (renamed_attribute R) o)
   resolved_is o = type_is N (new_type R) (new_shape R) (new_record R) (new_attribute R) o
 
-  pub shape_resolved_is : (o : TypeVariant-F N («Type» N) (TypeVariant N) (RecordType N) (TypeOfAttribute N))
-      (loc : Option Loc)
+  pub shape_resolved_is : (o : Shape N) (loc : Option Loc)
       → renamed_at R (roll-TypeVariant N o) loc
       ≡ new_shape R (map-TypeVariant N _ _ _ _ _ _ _ _ (renamed R) (renamed_at R) (renamed_record R)
       (renamed_attribute R) o) loc
@@ -181,14 +158,12 @@ module _ (t : Tests) (ns : Option InternalName) where
       ap (λ (f : Option Loc → «Type» M). f loc)
       (variant_is N (new_type R) (new_shape R) (new_record R) (new_attribute R) o)
 
-  pub record_resolved_is : (o : RecordType-F N («Type» N) (TypeVariant N) (RecordType N) (TypeOfAttribute N))
-      → renamed_record R (roll-RecordType N o)
+  pub record_resolved_is : (o : Fields N) → renamed_record R (roll-RecordType N o)
       ≡ new_record R (map-RecordType N _ _ _ _ _ _ _ _ (renamed R) (renamed_at R) (renamed_record R)
       (renamed_attribute R) o)
   record_resolved_is o = record_is N (new_type R) (new_shape R) (new_record R) (new_attribute R) o
 
-  attribute_resolved_is : (o : TypeOfAttribute-F N («Type» N) (TypeVariant N) (RecordType N) (TypeOfAttribute N))
-      → renamed_attribute R (roll-TypeOfAttribute N o)
+  attribute_resolved_is : (o : Field N) → renamed_attribute R (roll-TypeOfAttribute N o)
       ≡ new_attribute R (map-TypeOfAttribute N _ _ _ _ _ _ _ _ (renamed R) (renamed_at R) (renamed_record R)
       (renamed_attribute R) o)
   attribute_resolved_is o = attribute_is N (new_type R) (new_shape R) (new_record R) (new_attribute R) o
@@ -222,8 +197,7 @@ module _ (t : Tests) (ns : Option InternalName) where
     abbrev either_way : RawName → TypeVariant RawName
     either_way name = roll-TypeVariant N (TypeVariant-F.EntityOrCommon name)
 
-    shape_by : (o : TypeVariant-F N («Type» N) (TypeVariant N) (RecordType N) (TypeOfAttribute N))
-        (c : TypeVariant RawName)
+    shape_by : (o : Shape N) (c : TypeVariant RawName)
         → cedar_variant (roll-TypeVariant N o) ≡ c
         → none (of_variant v (roll-TypeVariant N o)) ≡ none (of_variant v c)
         → (none (of_variant v (roll-TypeVariant N o)) ≡ true → (loc : Option Loc)
@@ -235,14 +209,12 @@ module _ (t : Tests) (ns : Option InternalName) where
     }
 
     -- what every schema has, and the reference to its name
-    named_shape : (o : TypeVariant-F N («Type» N) (TypeVariant N) (RecordType N) (TypeOfAttribute N)) (id : Id)
-        → cedar_variant (roll-TypeVariant N o) ≡ either_way (builtin_name id)
+    named_shape : (o : Shape N) (id : Id) → cedar_variant (roll-TypeVariant N o) ≡ either_way (builtin_name id)
         → none (of_variant v (roll-TypeVariant N o)) ≡ true
         → ((loc : Option Loc) → referred (renamed_at R (roll-TypeVariant N o) loc) ≡ common_named (builtin_name id) loc)
         → t.is_common (components_of (builtin_name id).name) ≡ true → ShapeAlike (roll-TypeVariant N o)
     named_shape o id is nothing becomes defined =
-        let reference : TypeVariant-F N («Type» N) (TypeVariant N) (RecordType N)
-        (TypeOfAttribute N) = TypeVariant-F.EntityOrCommon (builtin_name id) in
+        let reference : Shape N = TypeVariant-F.EntityOrCommon (builtin_name id) in
         shape_by o (either_way (builtin_name id)) is
         (nothing ∙ sym (ap none (shape_walked v reference) ∙ builtin_found t ns id defined))
         (λ h loc. becomes loc
@@ -253,28 +225,25 @@ module _ (t : Tests) (ns : Option InternalName) where
     step_variant : (y : TypeVariant-F N T' V' R' A')
         → P1 (roll-TypeVariant N (map-TypeVariant N T' V' R' A' _ _ _ _ (λ e. e.0) (λ e. e.0) (λ e. e.0) (λ e. e.0) y))
     step_variant TypeVariant-F.String goods =
-        let o : TypeVariant-F N («Type» N) (TypeVariant N) (RecordType N) (TypeOfAttribute N) = TypeVariant-F.String in
+        let o : Shape N = TypeVariant-F.String in
         named_shape o (record { text = codes "String"; word = refl }) (cedar_shape_is o) (ap none (shape_walked v o))
         (λ loc. ap referred (shape_resolved_is o loc) ∙ referred_is TypeVariant-F.String loc) knows.string
     step_variant TypeVariant-F.Long goods =
-        let o : TypeVariant-F N («Type» N) (TypeVariant N) (RecordType N) (TypeOfAttribute N) = TypeVariant-F.Long in
+        let o : Shape N = TypeVariant-F.Long in
         named_shape o (record { text = codes "Long"; word = refl }) (cedar_shape_is o) (ap none (shape_walked v o))
         (λ loc. ap referred (shape_resolved_is o loc) ∙ referred_is TypeVariant-F.Long loc) knows.long
     step_variant TypeVariant-F.Boolean goods =
-        let o : TypeVariant-F N («Type» N) (TypeVariant N) (RecordType N) (TypeOfAttribute N) = TypeVariant-F.Boolean in
+        let o : Shape N = TypeVariant-F.Boolean in
         named_shape o (record { text = codes "Bool"; word = refl }) (cedar_shape_is o) (ap none (shape_walked v o))
         (λ loc. ap referred (shape_resolved_is o loc) ∙ referred_is TypeVariant-F.Boolean loc) knows.bool
     step_variant (TypeVariant-F.Extension n) goods =
-        let o : TypeVariant-F N («Type» N) (TypeVariant N) (RecordType N)
-        (TypeOfAttribute N) = TypeVariant-F.Extension n in
+        let o : Shape N = TypeVariant-F.Extension n in
         named_shape o n.id (cedar_shape_is o) (ap none (shape_walked v o))
         (λ loc. ap referred (shape_resolved_is o loc) ∙ referred_is (TypeVariant-F.Extension n) loc)
         (subst (AllByRecursion Good) (shape_walked itself o) goods).0
     step_variant (TypeVariant-F.Entity n) goods =
-        let o : TypeVariant-F N («Type» N) (TypeVariant N) (RecordType N)
-        (TypeOfAttribute N) = TypeVariant-F.Entity n in
-        let reference : TypeVariant-F N («Type» N) (TypeVariant N) (RecordType N)
-        (TypeOfAttribute N) = TypeVariant-F.EntityOrCommon n in
+        let o : Shape N = TypeVariant-F.Entity n in
+        let reference : Shape N = TypeVariant-F.EntityOrCommon n in
         let good = (subst (AllByRecursion Good) (shape_walked itself o) goods).0 in
         shape_by o (either_way n) (cedar_shape_is o)
         (ap none (shape_walked v o) ∙ found_either t ns Entity n good ∙ sym (ap none (shape_walked v reference)))
@@ -284,13 +253,11 @@ module _ (t : Tests) (ns : Option InternalName) where
         ∙ entity_alike t ns n loc good (sym (ap none (shape_walked v o)) ∙ h))
         ∙ sym (ap referred (shape_resolved_is reference loc)))
     step_variant (TypeVariant-F.EntityOrCommon n) goods =
-        let o : TypeVariant-F N («Type» N) (TypeVariant N) (RecordType N)
-        (TypeOfAttribute N) = TypeVariant-F.EntityOrCommon n in
+        let o : Shape N = TypeVariant-F.EntityOrCommon n in
         shape_by o (either_way n) (cedar_shape_is o) refl (λ h loc. refl)
     step_variant (TypeVariant-F.Set w) goods =
-        let o : TypeVariant-F N («Type» N) (TypeVariant N) (RecordType N) (TypeOfAttribute N) = TypeVariant-F.Set w.0 in
-        let c : TypeVariant-F N («Type» N) (TypeVariant N) (RecordType N) (TypeOfAttribute N) = TypeVariant-F.Set
-        (cedar_type w.0) in
+        let o : Shape N = TypeVariant-F.Set w.0 in
+        let c : Shape N = TypeVariant-F.Set (cedar_type w.0) in
         let inner = w.1 (subst (AllByRecursion Good) (shape_walked itself o) goods) in
         shape_by o (roll-TypeVariant N c) (cedar_shape_is o)
         (ap none (shape_walked v o) ∙ inner.found ∙ sym (ap none (shape_walked v c)))
@@ -299,10 +266,8 @@ module _ (t : Tests) (ns : Option InternalName) where
         ∙ sym (ap referred (shape_resolved_is c loc)
         ∙ referred_is (TypeVariant-F.Set (renamed R (cedar_type w.0))) loc))
     step_variant (TypeVariant-F.Record w) goods =
-        let o : TypeVariant-F N («Type» N) (TypeVariant N) (RecordType N)
-        (TypeOfAttribute N) = TypeVariant-F.Record w.0 in
-        let c : TypeVariant-F N («Type» N) (TypeVariant N) (RecordType N) (TypeOfAttribute N) = TypeVariant-F.Record
-        (cedar_record w.0) in
+        let o : Shape N = TypeVariant-F.Record w.0 in
+        let c : Shape N = TypeVariant-F.Record (cedar_record w.0) in
         let inner = w.1 (subst (AllByRecursion Good) (shape_walked itself o) goods) in
         shape_by o (roll-TypeVariant N c) (cedar_shape_is o)
         (ap none (shape_walked v o) ∙ inner.found ∙ sym (ap none (shape_walked v c)))
@@ -314,9 +279,8 @@ module _ (t : Tests) (ns : Option InternalName) where
     step_type : (y : Type-F N T' V' R' A')
         → P (roll-Type N (map-Type N T' V' R' A' _ _ _ _ (λ e. e.0) (λ e. e.0) (λ e. e.0) (λ e. e.0) y))
     step_type (Type-F.Variant w loc) goods =
-        let o : Type-F N («Type» N) (TypeVariant N) (RecordType N) (TypeOfAttribute N) = Type-F.Variant w.0 loc in
-        let c : Type-F N («Type» N) (TypeVariant N) (RecordType N) (TypeOfAttribute N) = Type-F.Variant
-        (cedar_variant w.0) loc in
+        let o : Outer N = Type-F.Variant w.0 loc in
+        let c : Outer N = Type-F.Variant (cedar_variant w.0) loc in
         let inner = w.1 (subst (AllByRecursion Good) (walked itself o) goods) in
         record {
           found = ap none (walked v o) ∙ inner.found
@@ -325,11 +289,9 @@ module _ (t : Tests) (ns : Option InternalName) where
               ∙ sym (ap (λ s. referred (renamed R s)) (cedar_is o) ∙ ap referred (resolved_is c));
         }
     step_type (Type-F.CommonTypeRef n loc) goods =
-        let o : Type-F N («Type» N) (TypeVariant N) (RecordType N) (TypeOfAttribute N) = Type-F.CommonTypeRef n loc in
-        let reference : TypeVariant-F N («Type» N) (TypeVariant N) (RecordType N)
-        (TypeOfAttribute N) = TypeVariant-F.EntityOrCommon n in
-        let c : Type-F N («Type» N) (TypeVariant N) (RecordType N) (TypeOfAttribute N) = Type-F.Variant
-        (either_way n) loc in
+        let o : Outer N = Type-F.CommonTypeRef n loc in
+        let reference : Shape N = TypeVariant-F.EntityOrCommon n in
+        let c : Outer N = Type-F.Variant (either_way n) loc in
         let good = (subst (AllByRecursion Good) (walked itself o) goods).0 in
         record {
           found = ap none (walked v o) ∙ found_either t ns Common n good
@@ -385,10 +347,8 @@ module _ (t : Tests) (ns : Option InternalName) where
         → P2 (roll-RecordType N (map-RecordType N T' V' R' A' _ _ _ _ (λ e. e.0) (λ e. e.0) (λ e. e.0) (λ e. e.0) y))
     step_record y goods =
         let es = plain y.attributes in
-        let o : RecordType-F N («Type» N) (TypeVariant N) (RecordType N) (TypeOfAttribute N) =
-        record { attributes = es; additional_attributes = y.additional_attributes } in
-        let c : RecordType-F N («Type» N) (TypeVariant N) (RecordType N) (TypeOfAttribute N) =
-        record { attributes = in_form es; additional_attributes = y.additional_attributes } in
+        let o : Fields N = record { attributes = es; additional_attributes = y.additional_attributes } in
+        let c : Fields N = record { attributes = in_form es; additional_attributes = y.additional_attributes } in
         let more = y.additional_attributes in
         let these = all_back Good (visit_where itself more open_record) (given itself es)
         (subst (AllByRecursion Good) (record_walked itself o) goods) in
@@ -421,10 +381,8 @@ module _ (t : Tests) (ns : Option InternalName) where
         → P3 (roll-TypeOfAttribute N (map-TypeOfAttribute N T' V' R' A' _ _ _ _ (λ e. e.0) (λ e. e.0) (λ e. e.0)
         (λ e. e.0) y))
     step_attribute y goods =
-        let o : TypeOfAttribute-F N («Type» N) (TypeVariant N) (RecordType N) (TypeOfAttribute N) =
-        record { ty = y.ty.0; annotations = y.annotations; required = y.required } in
-        let c : TypeOfAttribute-F N («Type» N) (TypeVariant N) (RecordType N) (TypeOfAttribute N) =
-        record { ty = cedar_type y.ty.0; annotations = y.annotations; required = y.required } in
+        let o : Field N = record { ty = y.ty.0; annotations = y.annotations; required = y.required } in
+        let c : Field N = record { ty = cedar_type y.ty.0; annotations = y.annotations; required = y.required } in
         let inner = y.ty.1 (subst (AllByRecursion Good) (attribute_walked itself o) goods) in
         record {
           found = ap none (attribute_walked v o) ∙ inner.found

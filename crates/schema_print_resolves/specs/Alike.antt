@@ -25,7 +25,8 @@ use Rattle.schema_json.specs.declared.types.Type.{«Type», Type-F, roll-Type, f
 use Rattle.schema_json.specs.declared.types.TypeVariant.{TypeVariant-F, roll-TypeVariant}
 use Rattle.schema_json.specs.declared.types.RecordType.{RecordType, RecordType-F, roll-RecordType}
 use Rattle.schema_json.specs.declared.types.TypeOfAttribute.{TypeOfAttribute, TypeOfAttribute-F, roll-TypeOfAttribute}
-use Rattle.schema_print_says.specs.CedarForm.{builtin_name, bool_name, long_name, string_name, is_some_list}
+use Rattle.schema_resolve_lookup.specs.Sought.{is_some_list}
+use Rattle.schema_print_says.specs.CedarForm.{builtin_name, bool_name, long_name, string_name}
 
 -- names that are resolved, each with all that it is behind
 abbrev pub as_resolved : named.Ghosts InternalName
@@ -107,20 +108,20 @@ referred_spec s = record {
   context = referred_inside s.context;
 }
 
-abbrev pub applied_to_nothing : ApplySpec InternalName
-applied_to_nothing =
+abbrev pub resolved_to_nothing : ApplySpec InternalName
+resolved_to_nothing =
     record { resource_types = []; principal_types = []; context = record { 0 = record_type empty_record } }
 
 -- what an action applies to: nothing where it is of the schema itself and does not say it
 abbrev pub referred_applies : Bool → Option (ApplySpec InternalName) → Option (ApplySpec InternalName)
 referred_applies true None = None
-referred_applies false None = Some applied_to_nothing
+referred_applies false None = Some resolved_to_nothing
 referred_applies external (Some spec) = Some (referred_spec spec)
 
 -- no list is the empty one
-abbrev pub listed : {A : Type 0} → Option (List A) → Option (List A)
-listed None = Some []
-listed (Some items) = Some items
+abbrev pub list_or_empty : {A : Type 0} → Option (List A) → Option (List A)
+list_or_empty None = Some []
+list_or_empty (Some items) = Some items
 
 module _ {H : named.Ghosts InternalName} where
   -- an action: principals, resources and parents stay, and its types are read so
@@ -128,7 +129,7 @@ module _ {H : named.Ghosts InternalName} where
   referred_action a = record {
     attributes = a.attributes;
     applies_to = referred_applies a.external a.applies_to;
-    member_of = listed a.member_of;
+    member_of = list_or_empty a.member_of;
     external = a.external;
     annotations = a.annotations;
     loc = a.loc;

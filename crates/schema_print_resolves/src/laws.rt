@@ -3,7 +3,7 @@ ghost use Rattle.std.specs.Prelude.{◌≡◌, ◌↔◌, []};
 ghost use Rattle.cedar_identifiers.specs.declared.raw_name.RawName.{RawName};
 ghost use Rattle.cedar_names.specs.declared.extension_table.ExtensionTable.{ExtensionTable};
 ghost use Rattle.schema_json.specs.declared.fragment.Fragment.{Fragment};
-ghost use Rattle.schema_convert_types.specs.Declarations.{as_written};
+ghost use Rattle.schema_json.specs.AsWritten.{as_written};
 ghost use Rattle.schema_resolve.specs.Resolved.{resolved, undefined};
 ghost use Rattle.schema_resolve_definitions.specs.Defined.{defined};
 ghost use Rattle.schema_resolve_definitions.specs.Tests.{tests_of};

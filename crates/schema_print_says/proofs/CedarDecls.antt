@@ -4,11 +4,14 @@ use Rattle.std.proofs.Common.{ap, ◌∙◌, subst}
 use Rattle.std.specs.BTreeMap.{is_at}
 use Rattle.std.specs.List.Sorted.{IsStrictlySortedBy}
 use Rattle.std.specs.Map.{lookup, keys_of}
+use Rattle.std.proofs.lemmas.Option.{same_Some}
 use Rattle.cedar_data.specs.Span.{Span}
 use Rattle.cedar_data.specs.Text.{text_cmp}
+use Rattle.cedar_data.proofs.Orders.{nothing_rises}
 use Rattle.cedar_identifiers.specs.Names.{components_of}
 use Rattle.cedar_identifiers.specs.declared.raw_name.RawName.{RawName}
 use Rattle.cedar_identifiers.specs.declared.unreserved_id.UnreservedId.{UnreservedId}
+use Rattle.schema_syntax_tree.specs.declared.pr.PR.TheVariants.{Principal, Resource}
 use Rattle.schema_json.specs.Shapes.{empty_record, record_type}
 use Rattle.schema_json.specs.declared.types.Type.{«Type», Type-F, out-Type}
 use Rattle.schema_json.specs.declared.types.TypeVariant.{TypeVariant}
@@ -22,26 +25,25 @@ use Rattle.schema_json.specs.declared.entity_type.EntityTypeKind.TheVariants.{St
 use Rattle.schema_json.specs.declared.action_type.ActionEntityUID.{ActionEntityUID}
 use Rattle.schema_json.specs.declared.action_type.ActionType.{ActionType}
 use Rattle.schema_json.specs.declared.action_type.ApplySpec.{ApplySpec}
-use Rattle.schema_syntax_tree.specs.declared.pr.PR.TheVariants.{Principal, Resource}
-use Rattle.schema_convert_types.specs.Declarations.{as_written}
+use Rattle.schema_json.specs.AsWritten.{as_written}
 use Rattle.schema_readback.specs.Written.{WrittenType, WrittenAttributes, path, set, rec, no_more, WrittenRef}
 use Rattle.schema_readback.specs.Written.{WrittenMember, types, context_path, context_record, WrittenDecl, common}
 use Rattle.schema_readback.specs.Written.{WrittenDeclared}
-use Rattle.schema_print_text.specs.PrintedTypes.{type_layer, variant_layer, record_layer, attribute_layer}
-use Rattle.schema_print.specs.PrintedFragments.{paths_of_names, parent_type, printed_parent, printed_parents}
-use Rattle.schema_print.specs.FragmentGroups.{ContextAs, TargetsAs, KindAs, EntityAs, CommonAs, SpecAs, AppliedAs}
-use Rattle.schema_print.specs.FragmentGroups.{ActionAs}
 use Rattle.schema_says.specs.TypesSay.{TypeSays}
 use Rattle.schema_says.specs.DeclarationsSay.{written_paths, TagsSay, KindSays, EntitySays, CommonIs, CommonSays}
 use Rattle.schema_says.specs.DeclarationsSay.{ContextSays, SpecSays, members_said, written_ref, ParentsSay, AppliesSay}
 use Rattle.schema_says.specs.DeclarationsSay.{ActionSays}
 use Rattle.schema_says.specs.FragmentsSay.{entities_of_decl, actions_of_decl, commons_of_decl}
+use Rattle.schema_print_text.specs.PrintedTypes.{type_layer, variant_layer, record_layer, attribute_layer}
+use Rattle.schema_print.specs.PrintedFragments.{paths_of_names, parent_type, printed_parent, printed_parents}
+use Rattle.schema_print.specs.FragmentGroups.{ContextAs, TargetsAs, KindAs, EntityAs, CommonAs, SpecAs, AppliedAs}
+use Rattle.schema_print.specs.FragmentGroups.{ActionAs}
 use Rattle.schema_print_says.specs.CedarForm.{cedar_type, cedar_outside, cedar_context, cedar_common, cedar_kind}
 use Rattle.schema_print_says.specs.CedarForm.{cedar_entity, cedar_parent, cedar_parents, cedar_spec, applied_to_none}
 use Rattle.schema_print_says.specs.CedarForm.{cedar_applies, cedar_action}
 use Rattle.schema_print_says.specs.Plain.{components_written, IsPlainType, ArePlainTags, IsBareType, IsPlainKind}
 use Rattle.schema_print_says.specs.Plain.{IsWrittenRecord, IsPlainOutside, AreTargets, AppliesPlainly}
-use Rattle.schema_print_says.proofs.CedarTypes.{printed, view, type_says, plain_says}
+use Rattle.schema_print_says.proofs.CedarTypes.{printed, view, type_says, plain_says, path_is}
 use Rattle.schema_print_says.proofs.Folds.{Outer, type_made, name_bytes}
 
 paths_bytes : (ns : List RawName) → paths_of_names components_written ns ≡ written_paths ns
@@ -51,12 +53,8 @@ paths_bytes (n ∷ ns) =
     let others = paths_bytes ns in
     λ i. first i ∷ others i
 
-none_rise : IsStrictlySortedBy text_cmp []
-unfolding IsStrictlySortedBy
-none_rise = tt
-
 bare_says : (s : «Type» RawName) → IsBareType s → TypeSays (cedar_type s) (rec no_more)
-bare_says s h = type_says (rec no_more) s (view s) h.1 h.0 (none_rise, tt)
+bare_says s h = type_says (rec no_more) s (view s) h.1 h.0 (nothing_rises text_cmp, tt)
 
 -- the names that a declaration gives
 pub record NamesOf (d : WrittenDecl) (commons entities actions : List (List ℕ)) : Type 0 where
@@ -148,7 +146,7 @@ parents_say (Some []) = tt
 parents_say (Some (r ∷ rs)) = all_parents_say (r ∷ rs)
 
 -- contexts
-context_at : (s : «Type» RawName) (o : Outer) → out-Type RawName s ≡ o → cedar_context s ≡ cedar_outside o s
+pub context_at : (s : «Type» RawName) (o : Outer) → out-Type RawName s ≡ o → cedar_context s ≡ cedar_outside o s
 context_at s o e = ap (λ x. cedar_outside x s) e
 
 pub common_printed : (s : «Type» RawName) (n : RawName) (loc : Option Span)
@@ -185,9 +183,6 @@ context_says s (Type-F.CommonTypeRef n loc) e h (path p) w m so =
       context_at s (Type-F.CommonTypeRef n loc) e,
       path_is (components_of n.name) p (sym (common_printed s n loc e) ∙ w),
     )
-  where
-    path_is : (a b : List (List ℕ)) → path a ≡ path b → a ≡ b
-    path_is a b h = cc
 context_says s (Type-F.CommonTypeRef n loc) e h (set t) w m so = absurd so
 context_says s (Type-F.CommonTypeRef n loc) e h (rec xs) w m so =
     absurd (subst IsNoRecord (sym (common_printed s n loc e) ∙ w) tt)
@@ -206,7 +201,7 @@ empty_says =
       refl,
       ap (λ (r : RecordType-F RawName («Type» RawName) (TypeVariant RawName) (RecordType RawName)
           (TypeOfAttribute RawName)). r.additional_attributes) back,
-      subst (λ es. IsStrictlySortedBy text_cmp (keys_of es)) (sym none) none_rise,
+      subst (λ es. IsStrictlySortedBy text_cmp (keys_of es)) (sym none) (nothing_rises text_cmp),
       λ name. ap (lookup (is_at (text_cmp name))) none,
     )
 
@@ -251,17 +246,11 @@ spec_says : (spec : Option (ApplySpec RawName)) → AppliesPlainly false spec �
     → SpecAs components_written spec ms
     → (made : ApplySpec RawName) → cedar_applies false spec ≡ Some made → SpecSays made (members_said ms)
 spec_says None h ms so made e =
-    subst (λ x. SpecSays x (members_said ms)) (some_same applied_to_none made e)
+    subst (λ x. SpecSays x (members_said ms)) (same_Some applied_to_none made e)
     (subst (λ x. SpecSays applied_to_none (members_said x)) (sym so) (refl, refl, empty_says))
-  where
-    some_same : (a b : ApplySpec RawName) → Some a ≡ Some b → a ≡ b
-    some_same a b p = cc
 spec_says (Some s) h ms so made e =
-    subst (λ x. SpecSays x (members_said ms)) (some_same (cedar_spec s) made e)
+    subst (λ x. SpecSays x (members_said ms)) (same_Some (cedar_spec s) made e)
     (targets_say s s.principal_types s.resource_types refl refl h ms so)
-  where
-    some_same : (a b : ApplySpec RawName) → Some a ≡ Some b → a ≡ b
-    some_same a b p = cc
 
 applies_say : (x : Bool) (spec : Option (ApplySpec RawName)) (parents : Option (List Reference)) (id : List ℕ)
     (d : WrittenDecl) → AppliedAs components_written x spec (printed_parents components_written parents) id d

@@ -11,21 +11,19 @@ use Rattle.std.specs.Ordering.{is_eq}
 use Rattle.std.specs.declared.cmp.Ordering.TheVariants.{Less}
 use Rattle.std.proofs.lemmas.Map.Keys.{sorted_head, sorted_tail}
 use Rattle.cedar_data.specs.Text.{text_cmp}
+use Rattle.cedar_data.proofs.Orders.{equal_from}
 use Rattle.cedar_identifiers.specs.Names.{components_of}
 use Rattle.cedar_identifiers.specs.declared.any_id.AnyId.{AnyId}
 use Rattle.cedar_identifiers.specs.declared.name.Name.{Name}
 use Rattle.cedar_identifiers.specs.declared.raw_name.RawName.{RawName}
 use Rattle.cedar_identifiers.specs.declared.unreserved_id.UnreservedId.{UnreservedId}
+use Rattle.schema_syntax_reader.specs.Leaves.{Notes}
 use Rattle.schema_json.specs.declared.common_type.CommonTypeId.{CommonTypeId}
 use Rattle.schema_json.specs.declared.fragment.Fragment.{Fragment}
 use Rattle.schema_json.specs.declared.fragment.NamespaceDefinition.{NamespaceDefinition}
-use Rattle.schema_convert_types.specs.Declarations.{as_written}
-use Rattle.schema_syntax_reader.specs.Leaves.{Notes}
+use Rattle.schema_json.specs.AsWritten.{as_written}
 use Rattle.schema_readback.specs.Written.{WrittenDecl, WrittenDeclared, namespace, outside}
 use Rattle.schema_readback.specs.PrintedDecls.{Group, namespace_items, group_items}
-use Rattle.schema_print_text.specs.PrintedTypes.{printed_name}
-use Rattle.schema_print.specs.FragmentGroups.{written_name, EntityAs, CommonAs, ActionAs, AreItemsOf, IsGroupOf}
-use Rattle.schema_print.specs.FragmentGroups.{AreGroupsOf}
 use Rattle.schema_says.specs.DeclarationsSay.{EntitySays, CommonSays, ActionSays}
 use Rattle.schema_says.specs.Entries.{FoundSays}
 use Rattle.schema_says.specs.FragmentsSay.{entities_of_decl, actions_of_decl, commons_of_decl, by_names, NamespaceSays}
@@ -34,12 +32,16 @@ use Rattle.schema_says.specs.FragmentsSay.{FragmentSays}
 use Rattle.schema_says.proofs.Entered.{EntryOf, rising_say}
 use Rattle.schema_says.proofs.Fragments.{found_same}
 use Rattle.schema_says.proofs.Grouped.{outside_decls, outside_notes, filter_append, items_at}
-use Rattle.schema_says.proofs.Maps.{is_equal}
 use Rattle.schema_says.proofs.Orders.{namespace_total, namespace_exact}
-use Rattle.schema_print_says.specs.CedarForm.{cedar_common, cedar_entity, cedar_action, changed_values, cedar_namespace}
-use Rattle.schema_print_says.specs.CedarForm.{is_some_list, declares, Block, cedar_block, cedar_form}
+use Rattle.schema_resolve_lookup.specs.Sought.{is_some_list}
+use Rattle.schema_print_text.specs.PrintedTypes.{printed_name}
+use Rattle.schema_print.specs.FragmentGroups.{written_name, EntityAs, CommonAs, ActionAs, AreItemsOf, IsGroupOf}
+use Rattle.schema_print.specs.FragmentGroups.{AreGroupsOf}
+use Rattle.schema_print_says.specs.CedarForm.{cedar_common, cedar_entity, cedar_action, changed_values}
+use Rattle.schema_print_says.specs.CedarForm.{cedar_namespace}
+use Rattle.schema_print_says.specs.CedarForm.{declares, Block, cedar_block, cedar_form}
 use Rattle.schema_print_says.specs.Plain.{components_written, IsPlainType, IsPlainKind, AppliesPlainly}
-use Rattle.schema_print_says.specs.Plain.{IsPlainNamespace, IsPlainFragment}
+use Rattle.schema_print_says.specs.Plain.{IsPlainBlock, IsPlainFragment}
 use Rattle.schema_print_says.proofs.CedarDecls.{EntityEntry, entity_names, entity_says, CommonEntry, common_names}
 use Rattle.schema_print_says.proofs.CedarDecls.{common_says, ActionEntry, action_names, action_says}
 use Rattle.schema_print_says.proofs.Folds.{name_bytes}
@@ -118,7 +120,7 @@ abbrev PlainAction : ActionEntry → Type 0
 PlainAction e = (e.1.attributes ≡ None) × AppliesPlainly e.1.external e.1.applies_to
 
 module _ (b : Block) (ds : List WrittenDeclared) (h : AreItemsOf components_written b.1 ds)
-    (plain : IsPlainNamespace b) where
+    (plain : IsPlainBlock b) where
   commons_are : by_names commons_of_decl ds ≡ by_names commons_of_decl h.commons
   commons_are =
       three commons_of_decl ds h.commons h.entities h.actions h.all
@@ -273,7 +275,7 @@ unnamed_says n bs true (d ∷ ds) e s none = subst (FoundSays NamespaceSays (Som
 unnamed_says n bs false [] e s none = subst (λ o. FoundSays NamespaceSays o None) (sym none) tt
 unnamed_says n bs false (d ∷ ds) e s none = absurd (true≢false e)
 
-block_says : (b : Block) (g : Group) (bs : List Block) → IsGroupOf components_written b g → IsPlainNamespace b
+block_says : (b : Block) (g : Group) (bs : List Block) → IsGroupOf components_written b g → IsPlainBlock b
     → found (name_components b.0) bs ≡ None
     → FoundSays NamespaceSays (found (name_components b.0) (b ∷ bs)) (opened (group_items g))
 block_says (None, n) g bs h plain none =
@@ -296,7 +298,7 @@ block_says (Some name, n) g bs h plain none =
     (opened (namespace g.notes p g.decls ∷ []))) (sym (ap is_eq (tied_itself namespace_total (Some q)))) whole)
 
 says_at : (q : NamespaceName) (bs : List Block) (gs : List Group) → AllZip (IsGroupOf components_written) bs gs
-    → IsStrictlySortedBy namespace_order (map (λ e. name_components e.0) bs) → AllByRecursion IsPlainNamespace bs
+    → IsStrictlySortedBy namespace_order (map (λ e. name_components e.0) bs) → AllByRecursion IsPlainBlock bs
     → FoundSays NamespaceSays (found q bs) (opened (items_of_namespace q (flat_map group_items gs)))
 says_at q [] [] z up plain = tt
 says_at q [] (g ∷ gs) z up plain = absurd z
@@ -314,7 +316,7 @@ says_at q (b ∷ bs) (g ∷ gs) z up plain = by (is_block q b) refl
         (opened (items_of_namespace q (group_items g ++ flat_map group_items gs)))
     by true e r =
         let here : name_components b.0 ≡ q = sym
-        (namespace_exact q (name_components b.0) (is_equal (namespace_order q (name_components b.0)) e)) in
+        (namespace_exact q (name_components b.0) (equal_from (namespace_order q (name_components b.0)) e)) in
         let items : items_of_namespace q (group_items g ++ flat_map group_items gs) ≡ group_items g =
         filter_append q (group_items g) (flat_map group_items gs)
         ∙ ((λ i. (group_at q b g z.0 ∙ ap (λ t. cond t (group_items g) []) e) i

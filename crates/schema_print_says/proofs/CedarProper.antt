@@ -1,7 +1,9 @@
 -- What is written of a fragment whose text can say it may be printed.
-use Rattle.std.proofs.Common.{◌≡◌, ℕ, Bool, true, false, List, [], ◌∷◌, ◌++◌, map, Option, Some, None, option_map, refl}
+use Rattle.std.proofs.Common.{◌≡◌, ℕ, Bool, true, false, List, [], ◌∷◌, ◌++◌, map, Option, Some, None, option_map}
+use Rattle.std.proofs.Common.{refl}
 use Rattle.std.proofs.Common.{sym, ap, ◌∙◌, subst}
 use Rattle.std.specs.List.{AllZip, AllByRecursion}
+use Rattle.cedar_data.proofs.Every.{All-append}
 use Rattle.cedar_identifiers.specs.Names.{components_of, texts_of}
 use Rattle.cedar_identifiers.specs.declared.eid.Eid.{Eid}
 use Rattle.cedar_identifiers.specs.declared.id.Id.{Id}
@@ -16,7 +18,7 @@ use Rattle.schema_json.specs.declared.entity_type.EntityTypeKind.TheVariants.{St
 use Rattle.schema_json.specs.declared.action_type.ActionEntityUID.{ActionEntityUID}
 use Rattle.schema_json.specs.declared.action_type.ApplySpec.{ApplySpec}
 use Rattle.schema_json.specs.declared.fragment.Fragment.{Fragment}
-use Rattle.schema_convert_types.specs.Declarations.{as_written}
+use Rattle.schema_json.specs.AsWritten.{as_written}
 use Rattle.schema_readback.specs.Printed.{IsProperPath, IsProperType, AreProperAttributes, AreProperNotes}
 use Rattle.schema_readback.specs.PrintedDecls.{IsSome, IsProperWord, IsProperOptional, IsProperRef, IsProperTags}
 use Rattle.schema_readback.specs.PrintedDecls.{IsProperMember, AreProperMembers, IsProperDecl, IsProperDeclared, Group}
@@ -25,12 +27,13 @@ use Rattle.schema_readback.specs.Written.{WrittenType, WrittenAttributes, path, 
 use Rattle.schema_readback.specs.Written.{WrittenMember, WrittenDecl, WrittenDeclared}
 use Rattle.schema_print_text.specs.PrintedTypes.{PrintedAttribute, printed_name, printed_attribute}
 use Rattle.schema_print.specs.PrintedFragments.{paths_of_names, parent_type, printed_parent, printed_parents}
-use Rattle.schema_print.specs.FragmentGroups.{written_name, ContextAs, TargetsAs, KindAs, SpecAs, AppliedAs, AreItemsOf}
+use Rattle.schema_print.specs.FragmentGroups.{written_name, ContextAs, TargetsAs, KindAs, SpecAs, AppliedAs}
+use Rattle.schema_print.specs.FragmentGroups.{AreItemsOf}
 use Rattle.schema_print.specs.FragmentGroups.{IsGroupOf, AreGroupsOf}
 use Rattle.schema_print_says.specs.CedarForm.{Block}
 use Rattle.schema_print_says.specs.Plain.{components_written, IsRisingType, AreRisingAttributes, ArePlainTags}
 use Rattle.schema_print_says.specs.Plain.{IsPlainKind, IsWrittenRecord, IsPlainOutside, AreTargets, AppliesPlainly}
-use Rattle.schema_print_says.specs.Plain.{IsPlainNamespace, IsPlainFragment}
+use Rattle.schema_print_says.specs.Plain.{IsPlainBlock, IsPlainFragment}
 use Rattle.schema_print_says.proofs.CedarDecls.{common_printed}
 use Rattle.schema_print_says.proofs.CedarFragments.{CommonSo, EntitySo, ActionSo}
 use Rattle.schema_print_says.proofs.CedarTypes.{CedarView, reference, of_set, of_record, view, Entry, printed}
@@ -176,22 +179,17 @@ module _ {K V : Type 0} (So : K × V → WrittenDeclared → Type 0) (Plain Note
   all_proper f (e ∷ es) [] z h k = absurd z
   all_proper f (e ∷ es) (d ∷ ds) z h k = (f e d z.0 h.0 k.0, all_proper f es ds z.1 h.1 k.1)
 
-all_with : {A : Type 0} (P : A → Type 0) (xs ys : List A) → AllByRecursion P xs → AllByRecursion P ys
-    → AllByRecursion P (xs ++ ys)
-all_with P [] ys h k = k
-all_with P (x ∷ xs) ys h k = (h.0, all_with P xs ys h.1 k)
-
 optional_proper : (key : Option Name) → IsProperOptional (written_name key)
 optional_proper None = tt
 optional_proper (Some n) = bytes_proper n.name
 
-group_proper : (b : Block) (g : Group) → IsGroupOf components_written b g → IsPlainNamespace b → IsProperGroup g
+group_proper : (b : Block) (g : Group) → IsGroupOf components_written b g → IsPlainBlock b → IsProperGroup g
 group_proper b g h plain =
     let i : AreItemsOf components_written b.1 g.decls = h.items in (
       subst AreProperNotes (sym h.notes) plain.keys_rise,
       subst IsProperOptional (sym h.name) (optional_proper b.0),
       subst (AllByRecursion IsProperDeclared) (sym i.all)
-          (all_with IsProperDeclared i.commons (i.entities ++ i.actions)
+          (All-append IsProperDeclared i.commons (i.entities ++ i.actions)
           (all_proper CommonSo _ _
           (λ e d s p n. (
             subst AreProperNotes (sym s.0) n,
@@ -199,7 +197,7 @@ group_proper b g h plain =
                 (e.0.id.id.word, printed_proper e.1.ty p.1),
           ))
           b.1.common_types i.commons i.of_commons plain.commons plain.common_notes)
-          (all_with IsProperDeclared i.entities i.actions
+          (All-append IsProperDeclared i.entities i.actions
           (all_proper EntitySo _ _
           (λ e d s p n.
           (subst AreProperNotes (sym s.0) n, kind_proper e.1.external e.1.kind e.0.id.text d.decl e.0.id.word s.1 p))
@@ -213,7 +211,7 @@ group_proper b g h plain =
     )
 
 groups_proper : (bs : List Block) (gs : List Group) → AllZip (IsGroupOf components_written) bs gs
-    → AllByRecursion IsPlainNamespace bs → AllByRecursion IsProperGroup gs
+    → AllByRecursion IsPlainBlock bs → AllByRecursion IsProperGroup gs
 groups_proper [] [] z h = tt
 groups_proper [] (g ∷ gs) z h = absurd z
 groups_proper (b ∷ bs) [] z h = absurd z

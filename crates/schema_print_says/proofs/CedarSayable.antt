@@ -6,36 +6,38 @@ use Rattle.std.specs.List.Sorted.{IsStrictlySortedBy}
 use Rattle.std.specs.Ordering.{is_eq, ordering_reverse}
 use Rattle.std.specs.declared.cmp.Ordering.TheVariants.{Less}
 use Rattle.std.proofs.lemmas.Map.Keys.{sorted_head, sorted_tail}
+use Rattle.std.proofs.lemmas.Option.{same_Some}
+use Rattle.cedar_data.proofs.Every.{All-append, All-map}
 use Rattle.cedar_data.specs.Text.{text_cmp}
+use Rattle.cedar_data.proofs.Orders.{text_total, equal_from}
+use Rattle.cedar_data.proofs.Every.{all_of_any}
 use Rattle.cedar_identifiers.specs.Words.{is_cedar}
 use Rattle.cedar_identifiers.specs.declared.name.Name.{Name}
 use Rattle.cedar_identifiers.specs.declared.raw_name.RawName.{RawName}
+use Rattle.schema_syntax_tree.specs.declared.pr.PR.TheVariants.{Principal, Resource}
 use Rattle.schema_json.specs.Keywords.{is_keyword_name}
 use Rattle.schema_json.specs.declared.action_type.ApplySpec.{ApplySpec}
 use Rattle.schema_json.specs.declared.entity_type.EntityTypeKind.{EntityTypeKind}
 use Rattle.schema_json.specs.declared.entity_type.EntityTypeKind.TheVariants.{Standard, Enum}
 use Rattle.schema_json.specs.declared.fragment.Fragment.{Fragment}
-use Rattle.schema_syntax_tree.specs.declared.pr.PR.TheVariants.{Principal, Resource}
-use Rattle.schema_convert.specs.Repeats.{NoneRepeats}
-use Rattle.schema_convert_types.specs.Declarations.{as_written}
+use Rattle.schema_json.specs.AsWritten.{as_written}
 use Rattle.schema_readback.specs.Written.{WrittenType, path, set, rec, WrittenRef, WrittenMember, types, context_path}
 use Rattle.schema_readback.specs.Written.{context_record, WrittenDecl, WrittenDeclared, outside}
 use Rattle.schema_readback.specs.PrintedDecls.{Group, namespace_items, group_items}
-use Rattle.schema_print.specs.PrintedFragments.{paths_of_names, printed_parents}
-use Rattle.schema_print.specs.FragmentGroups.{ContextAs, TargetsAs, KindAs, SpecAs, AppliedAs, AreItemsOf, IsGroupOf}
-use Rattle.schema_print.specs.FragmentGroups.{AreGroupsOf}
+use Rattle.schema_convert.specs.Repeats.{NoneRepeats}
 use Rattle.schema_says.specs.FragmentsSay.{entities_of_decl, actions_of_decl, commons_of_decl, NamespaceName}
 use Rattle.schema_says.specs.FragmentsSay.{namespace_order, name_components, WrittenNamespace, items_of_namespace}
 use Rattle.schema_says.specs.FragmentsSay.{opened}
 use Rattle.schema_says.specs.Sayable.{IsFreeNamespace, says_alike, HasLawfulMembers, AppliesWell, IsFreeCommonName}
 use Rattle.schema_says.specs.Sayable.{names_written, IsSayableNamespace, IsSayable}
 use Rattle.schema_says.proofs.Grouped.{outside_decls, filter_append}
-use Rattle.schema_says.proofs.Maps.{is_equal}
 use Rattle.schema_says.proofs.MeantSayable.{AreUnlike, unlike_once, same_text, names_append, flat_one, flat_none}
-use Rattle.schema_says.proofs.MeantSayable.{all_with}
-use Rattle.schema_says.proofs.Orders.{text_total, namespace_exact}
+use Rattle.schema_says.proofs.Orders.{namespace_exact}
+use Rattle.schema_print.specs.PrintedFragments.{paths_of_names, printed_parents}
+use Rattle.schema_print.specs.FragmentGroups.{ContextAs, TargetsAs, KindAs, SpecAs, AppliedAs, AreItemsOf, IsGroupOf}
+use Rattle.schema_print.specs.FragmentGroups.{AreGroupsOf}
 use Rattle.schema_print_says.specs.CedarForm.{Block}
-use Rattle.schema_print_says.specs.Plain.{components_written, IsPlainNamespace, IsPlainFragment}
+use Rattle.schema_print_says.specs.Plain.{components_written, IsPlainBlock, IsPlainFragment}
 use Rattle.schema_print_says.proofs.CedarDecls.{EntityEntry, CommonEntry, ActionEntry, entity_names, common_names}
 use Rattle.schema_print_says.proofs.CedarDecls.{action_names}
 use Rattle.schema_print_says.proofs.CedarFragments.{CommonSo, EntitySo, ActionSo, is_block, group_at, none_written}
@@ -125,8 +127,7 @@ module _ {K V : Type 0} (So : K × V → WrittenDeclared → Type 0) where
 
 all_of_map : {A B : Type 0} (P : B → Type 0) (f : A → B) (xs : List A) → ((x : A) → P (f x))
     → AllByRecursion P (map f xs)
-all_of_map P f [] h = tt
-all_of_map P f (x ∷ xs) h = (h x, all_of_map P f xs h)
+all_of_map P f xs h = All-map P f xs (all_of_any (λ x. P (f x)) h xs)
 
 abbrev common_name : CommonEntry → List ℕ
 common_name e = e.0.id.id.text
@@ -148,7 +149,7 @@ block_free None = tt
 block_free (Some n) = n.unreserved
 
 module _ (b : Block) (ds : List WrittenDeclared) (h : AreItemsOf components_written b.1 ds)
-    (plain : IsPlainNamespace b) where
+    (plain : IsPlainBlock b) where
   parts : (f : WrittenDecl → List (List ℕ)) → names_written f ds ≡ names_written f h.commons
       ++ (names_written f h.entities ++ names_written f h.actions)
   parts f = ap (names_written f) h.all
@@ -206,9 +207,9 @@ module _ (b : Block) (ds : List WrittenDeclared) (h : AreItemsOf components_writ
     entities_free = subst (AllByRecursion (λ n. is_cedar n ≡ false)) (sym entities_are)
         (all_of_map (λ n. is_cedar n ≡ false) entity_name b.1.entity_types (λ e. e.0.unreserved));
     blocks = subst (AllByRecursion (λ (d : WrittenDeclared). AppliesWell d.decl)) (sym h.all)
-        (all_with (λ (d : WrittenDeclared). AppliesWell d.decl) h.commons (h.entities ++ h.actions)
+        (All-append (λ (d : WrittenDeclared). AppliesWell d.decl) h.commons (h.entities ++ h.actions)
         (all_apply CommonSo (λ e d s. subst AppliesWell (sym s.1) tt) b.1.common_types h.commons h.of_commons)
-        (all_with (λ (d : WrittenDeclared). AppliesWell d.decl) h.entities h.actions
+        (All-append (λ (d : WrittenDeclared). AppliesWell d.decl) h.entities h.actions
         (all_apply EntitySo (λ e d s. kind_applies e.1.external e.1.kind e.0.id.text d.decl s.1)
         b.1.entity_types h.entities h.of_entities)
         (all_apply ActionSo
@@ -218,22 +219,18 @@ module _ (b : Block) (ds : List WrittenDeclared) (h : AreItemsOf components_writ
         (commons_free b.1.common_types plain.commons_open);
   }
 
--- what is written in the namespace of a group
-some_same : (a b : WrittenNamespace) → Some a ≡ Some b → a ≡ b
-some_same a b p = cc
-
 group_decls : (g : Group) (name : NamespaceName) → g.name ≡ name → (w : WrittenNamespace)
     → opened (group_items g) ≡ Some w → w.decls ≡ g.decls
 group_decls g None s w e = by g.decls (sym (ap (λ n. opened (namespace_items g.notes n g.decls)) s) ∙ e)
   where
     by : (ds : List WrittenDeclared) → opened (map outside ds) ≡ Some w → w.decls ≡ ds
     by [] e = cc
-    by (d ∷ ds) e = ap (λ (x : WrittenNamespace). x.decls) (sym (some_same _ w e)) ∙ outside_decls (d ∷ ds)
+    by (d ∷ ds) e = ap (λ (x : WrittenNamespace). x.decls) (sym (same_Some _ w e)) ∙ outside_decls (d ∷ ds)
 group_decls g (Some p) s w e = ap (λ (x : WrittenNamespace). x.decls)
-    (sym (some_same _ w (sym (ap (λ n. opened (namespace_items g.notes n g.decls)) s) ∙ e))) ∙ append-nil g.decls
+    (sym (same_Some _ w (sym (ap (λ n. opened (namespace_items g.notes n g.decls)) s) ∙ e))) ∙ append-nil g.decls
 
 sayable_at : (q : NamespaceName) (bs : List Block) (gs : List Group) → AllZip (IsGroupOf components_written) bs gs
-    → IsStrictlySortedBy namespace_order (map (λ e. name_components e.0) bs) → AllByRecursion IsPlainNamespace bs
+    → IsStrictlySortedBy namespace_order (map (λ e. name_components e.0) bs) → AllByRecursion IsPlainBlock bs
     → (w : WrittenNamespace) → opened (items_of_namespace q (flat_map group_items gs)) ≡ Some w
     → IsSayableNamespace q w.decls
 sayable_at q [] [] z up plain w e = cc
@@ -250,7 +247,7 @@ sayable_at q (b ∷ bs) (g ∷ gs) z up plain w e =
         → IsSayableNamespace q w.decls
     by true t k r =
         let here : name_components b.0 ≡ q = sym
-        (namespace_exact q (name_components b.0) (is_equal (namespace_order q (name_components b.0)) t)) in
+        (namespace_exact q (name_components b.0) (equal_from (namespace_order q (name_components b.0)) t)) in
         let above = sorted_head namespace_order (name_components b.0)
         (map (λ (d : Block). name_components d.0) bs) up in
         let whole : items_of_namespace q (group_items g)

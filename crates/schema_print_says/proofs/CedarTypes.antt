@@ -7,16 +7,15 @@ use Rattle.std.specs.List.{AllByRecursion}
 use Rattle.std.specs.List.Sorted.{IsStrictlySortedBy}
 use Rattle.std.specs.Map.{lookup, keys_of}
 use Rattle.std.specs.Ordering.{is_eq}
-use Rattle.std.specs.declared.cmp.Ordering.{Ordering}
-use Rattle.std.specs.declared.cmp.Ordering.TheVariants.{Less, Equal, Greater}
+use Rattle.std.specs.declared.cmp.Ordering.TheVariants.{Less}
 use Rattle.std.proofs.lemmas.Map.Keys.{sorted_head, sorted_tail}
-use Rattle.std.proofs.lemmas.Str.{encodes_same}
-use Rattle.std.proofs.lemmas.Map.Lookups.{exact_bytes}
-use Rattle.std.specs.Str.{encode_utf8_all}
+use Rattle.std.proofs.lemmas.Bool.{not-true}
 use Rattle.cedar_data.specs.Span.{Span}
 use Rattle.cedar_data.specs.Text.{text_cmp}
+use Rattle.cedar_data.proofs.Orders.{equal_from, text_exact}
 use Rattle.cedar_identifiers.specs.Names.{components_of}
 use Rattle.cedar_identifiers.specs.declared.raw_name.RawName.{RawName}
+use Rattle.schema_syntax_reader.specs.Leaves.{Notes}
 use Rattle.schema_json.specs.Shapes.{attributes_of, is_open}
 use Rattle.schema_json.specs.declared.types.Type.{«Type», Type-F, out-Type, roll-Type}
 use Rattle.schema_json.specs.declared.types.Type.TheVariants as shape
@@ -27,12 +26,11 @@ use Rattle.schema_json.specs.declared.types.RecordType.{out-roll-RecordType, fol
 use Rattle.schema_json.specs.declared.types.TypeOfAttribute.{TypeOfAttribute, TypeOfAttribute-F, out-TypeOfAttribute}
 use Rattle.schema_json.specs.declared.types.TypeOfAttribute.{roll-TypeOfAttribute, out-roll-TypeOfAttribute}
 use Rattle.schema_json.specs.declared.types.TypeOfAttribute.{fold_out-TypeOfAttribute}
-use Rattle.schema_syntax_reader.specs.Leaves.{Notes}
 use Rattle.schema_readback.specs.Written.{WrittenType, WrittenAttributes, path, set, rec, no_more, attribute}
+use Rattle.schema_says.specs.TypesSay.{TypeSays, AttributeSays, ByTest, has_attribute, is_last_attribute}
 use Rattle.schema_print_text.specs.PrintedTypes.{PrintedAttribute, printed_attributes, type_layer, variant_layer}
 use Rattle.schema_print_text.specs.PrintedTypes.{record_layer, attribute_layer, printed_type, printed_variant}
 use Rattle.schema_print_text.specs.PrintedTypes.{printed_record, printed_attribute, printed_entries}
-use Rattle.schema_says.specs.TypesSay.{TypeSays, AttributeSays, ByTest, has_attribute, is_last_attribute}
 use Rattle.schema_print_says.specs.CedarForm.{builtin_name, bool_name, long_name, string_name, cedar_layer}
 use Rattle.schema_print_says.specs.CedarForm.{cedar_variant_layer, cedar_type, cedar_variant, cedar_record}
 use Rattle.schema_print_says.specs.CedarForm.{cedar_attribute}
@@ -229,10 +227,6 @@ closed_attribute_is a =
     fold_out-TypeOfAttribute RawName Bool Bool Bool Bool closed_layer closed_variant_layer closed_record_layer
     closed_attribute_layer a
 
-not_true : (b : Bool) → not b ≡ true → b ≡ false
-not_true true h = absurd (true≢false (sym h))
-not_true false h = refl
-
 names_printed : (es : List Entry) → attribute_names (entries_printed es) ≡ keys_of es
 names_printed [] = refl
 names_printed (e ∷ es) = ap (λ l. e.0 ∷ l) (names_printed es)
@@ -240,15 +234,6 @@ names_printed (e ∷ es) = ap (λ l. e.0 ∷ l) (names_printed es)
 keys_kept : (es : List Entry) → keys_of (map cedar_entry es) ≡ keys_of es
 keys_kept [] = refl
 keys_kept (e ∷ es) = ap (λ l. e.0 ∷ l) (keys_kept es)
-
--- a name that is found is not one of greater names
-is_equal : (c : Ordering) → is_eq c ≡ true → c ≡ Equal
-is_equal Less h = absurd (true≢false (sym h))
-is_equal Equal h = refl
-is_equal Greater h = absurd (true≢false (sym h))
-
-text_exact : (a b : List ℕ) → text_cmp a b ≡ Equal → a ≡ b
-text_exact a b h = encodes_same a b (exact_bytes (encode_utf8_all a) (encode_utf8_all b) h)
 
 none_greater : (name : List ℕ) (es : List Entry) → AllByRecursion (λ y. text_cmp name y ≡ Less) (keys_of es)
     → has_attribute name (entries_printed es) ≡ false
@@ -350,7 +335,7 @@ mutual
         loc,
         c,
         ap (λ (m : Made). m.additional_attributes) (record_is r)
-            ∙ not_true (is_open r) (first_so (not (is_open r)) (all_hold (map closed_entry (attributes_of r))) closed),
+            ∙ not-true (is_open r) (first_so (not (is_open r)) (all_hold (map closed_entry (attributes_of r))) closed),
         subst (IsStrictlySortedBy text_cmp) (sym (ap keys_of whole ∙ keys_kept (attributes_of r))) keys,
         λ name. subst (λ es. AttributeSays name (lookup (is_at (text_cmp name)) es) xs) (sym whole)
             (entries_say xs (attributes_of r) these
@@ -386,7 +371,7 @@ mutual
       (second_so (is_closed_attribute e.1) (all_hold (map closed_entry es)) h)
       (sorted_tail text_cmp e.0 (keys_of es) keys) up.1 name in
       let none : is_at (text_cmp name) e.0 ≡ true → has_attribute name xs ≡ false = λ q.
-      let from : name ≡ e.0 = text_exact name e.0 (is_equal (text_cmp name e.0) q) in
+      let from : name ≡ e.0 = text_exact name e.0 (equal_from (text_cmp name e.0) q) in
       ap (has_attribute name) (sym same.others)
       ∙ none_greater name es
       (subst (λ m. AllByRecursion (λ y. text_cmp m y ≡ Less) (keys_of es)) (sym from)

@@ -1,16 +1,10 @@
 -- What a fold makes of a type, by what the type holds; and that names are their bytes.
-use Rattle.std.proofs.Common.{◌≡◌, ℕ, ◌<◌, true, List, [], ◌∷◌, refl, ap, ◌∙◌, arith}
-use Rattle.std.specs.List.{list_all}
-use Rattle.std.specs.Str.{IsAscii, encode_utf8_all}
-use Rattle.std.specs.Cmp.{first_so, second_so}
-use Rattle.std.proofs.lemmas.Str.{encodes-IsAscii}
-use Rattle.std.proofs.lemmas.Str.Ascii.{IsAscii-nil, IsAscii-cons}
-use Rattle.std.proofs.lemmas.Bool.Decides.{nat_tests}
-use Rattle.cedar_data.specs.Words.{is_word_start, is_word_part, is_word}
+use Rattle.std.proofs.Common.{◌≡◌, List, [], ◌∷◌, refl, ap, ◌∙◌}
 use Rattle.cedar_identifiers.specs.Names.{components_of, texts_of}
 use Rattle.cedar_identifiers.specs.declared.id.Id.{Id}
 use Rattle.cedar_identifiers.specs.declared.internal_name.InternalName.{InternalName}
 use Rattle.cedar_identifiers.specs.declared.raw_name.RawName.{RawName}
+use Rattle.cedar_identifiers.proofs.Ids.{id_bytes}
 use Rattle.schema_json.specs.declared.types.Type.{«Type», Type-F, out-Type, fold-Type, map-Type, fold_out-Type}
 use Rattle.schema_json.specs.declared.types.TypeVariant.{TypeVariant, TypeVariant-F, out-TypeVariant, fold-TypeVariant}
 use Rattle.schema_json.specs.declared.types.TypeVariant.{map-TypeVariant, fold_out-TypeVariant}
@@ -50,31 +44,10 @@ module _ {A B C D : Type 0} (f : Type-F RawName A B C D → A) (g : TypeVariant-
   pub variant_made : (v : TypeVariant RawName) (o : Inner) → out-TypeVariant RawName v ≡ o → of_variant v ≡ inner_made o
   variant_made v o e = fold_out-TypeVariant RawName A B C D f g h k v ∙ ap inner_made e
 
--- words are ASCII
-part_ascii : (b : ℕ) → is_word_part b ≡ true → b < 128
-part_ascii b h = grind (arith, nat_tests)
-
-start_part : (b : ℕ) → is_word_start b ≡ true → is_word_part b ≡ true
-start_part b h = grind (arith, nat_tests)
-
-parts_ascii : (bs : List ℕ) → list_all is_word_part bs ≡ true → IsAscii bs
-parts_ascii [] h = IsAscii-nil
-parts_ascii (b ∷ bs) h = IsAscii-cons b bs (part_ascii b (first_so (is_word_part b) (list_all is_word_part bs) h))
-    (parts_ascii bs (second_so (is_word_part b) (list_all is_word_part bs) h))
-
-word_ascii : (w : List ℕ) → is_word w ≡ true → IsAscii w
-word_ascii [] h = IsAscii-nil
-word_ascii (b ∷ bs) h =
-    IsAscii-cons b bs (part_ascii b (start_part b (first_so (is_word_start b) (list_all is_word_part bs) h)))
-    (parts_ascii bs (second_so (is_word_start b) (list_all is_word_part bs) h))
-
-id_bytes : (i : Id) → encode_utf8_all i.text ≡ i.text
-id_bytes i = encodes-IsAscii i.text (word_ascii i.text (first_so (is_word i.text) _ i.word))
-
 ids_bytes : (ids : List Id) → printed_name (texts_of ids) ≡ texts_of ids
 ids_bytes [] = refl
 ids_bytes (i ∷ ids) =
-    let first = id_bytes i in
+    let first = id_bytes i.text i.word in
     let others = ids_bytes ids in
     λ j. first j ∷ others j
 

@@ -1,4 +1,4 @@
-mod CedarDecls
+pub mod CedarDecls
 mod CedarFragments
 mod CedarProper
 mod CedarSayable

@@ -25,7 +25,8 @@ use Rattle.schema_json.specs.declared.action_type.ActionType.{ActionType}
 use Rattle.schema_json.specs.declared.action_type.ApplySpec.{ApplySpec}
 use Rattle.schema_json.specs.declared.fragment.Fragment.{Fragment}
 use Rattle.schema_json.specs.declared.fragment.NamespaceDefinition.{NamespaceDefinition}
-use Rattle.schema_convert_types.specs.Declarations.{as_written}
+use Rattle.schema_json.specs.AsWritten.{as_written}
+use Rattle.schema_resolve_lookup.specs.Sought.{is_some_list}
 
 abbrev id_in_cedar : Id
 id_in_cedar = record { text = codes "__cedar"; word = refl }
@@ -171,11 +172,6 @@ cedar_namespace n = record {
   actions = changed_values {K = List ℕ} cedar_action n.actions;
   annotations = n.annotations;
 }
-
--- it has an item
-abbrev pub is_some_list : {A : Type 0} → List A → Bool
-is_some_list [] = false
-is_some_list (x ∷ xs) = true
 
 -- something is declared in it
 abbrev pub declares : NamespaceDefinition RawName as_written → Bool

@@ -17,12 +17,12 @@ use Rattle.schema_json.specs.declared.entity_type.EntityTypeKind.{EntityTypeKind
 use Rattle.schema_json.specs.declared.entity_type.EntityTypeKind.TheVariants.{Standard, Enum}
 use Rattle.schema_json.specs.declared.action_type.ApplySpec.{ApplySpec}
 use Rattle.schema_json.specs.declared.fragment.Fragment.{Fragment}
-use Rattle.schema_convert_types.specs.Declarations.{as_written}
+use Rattle.schema_json.specs.AsWritten.{as_written}
 use Rattle.schema_readback.specs.Written.{WrittenType, WrittenAttributes, path, set, rec, no_more, attribute}
 use Rattle.schema_readback.specs.Printed.{AreProperNotes}
 use Rattle.schema_readback.specs.PrintedDecls.{IsSome}
-use Rattle.schema_print_text.specs.PrintedTypes.{printed_type}
 use Rattle.schema_says.specs.FragmentsSay.{namespace_order, name_components}
+use Rattle.schema_print_text.specs.PrintedTypes.{printed_type}
 use Rattle.schema_print_says.specs.CedarForm.{Block}
 
 -- the components of a name as it was written
@@ -136,7 +136,7 @@ abbrev pub IsAnnotatedWhereNamed : Option Name → Annotations → Type 0
 IsAnnotatedWhereNamed None annotations = annotations.0 ≡ []
 IsAnnotatedWhereNamed (Some name) annotations = Unit {0}
 
-pub record IsPlainNamespace (p : Block) : Type 0 where
+pub record IsPlainBlock (p : Block) : Type 0 where
   pub annotated : IsAnnotatedWhereNamed p.0 p.1.annotations
   pub keys_rise : IsStrictlySortedBy text_cmp (map (λ (e : AnyId × Option (List ℕ)). e.0.text) p.1.annotations.0)
   pub commons_rise : IsStrictlySortedBy text_cmp (map (λ e. e.0.id.id.text) p.1.common_types)
@@ -155,4 +155,4 @@ pub record IsPlainNamespace (p : Block) : Type 0 where
 -- common type has one of the eight words as its name.
 pub record IsPlainFragment (f : Fragment RawName as_written) : Type 0 where
   pub names_rise : IsStrictlySortedBy namespace_order (map (λ e. name_components e.0) f.0)
-  pub each : AllByRecursion IsPlainNamespace f.0
+  pub each : AllByRecursion IsPlainBlock f.0

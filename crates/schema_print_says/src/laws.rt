@@ -5,7 +5,7 @@ ghost use Rattle.cedar_identifiers.specs.declared.raw_name.RawName.{RawName};
 ghost use Rattle.schema_syntax_tokens.specs.Laid.{laid};
 ghost use Rattle.schema_json.specs.declared.types.Type.{«Type»};
 ghost use Rattle.schema_json.specs.declared.fragment.Fragment.{Fragment};
-ghost use Rattle.schema_convert_types.specs.Declarations.{as_written};
+ghost use Rattle.schema_json.specs.AsWritten.{as_written};
 ghost use Rattle.schema_readback.specs.PrintedDecls.{Group, IsProperGroup, group_items, schema_pieces};
 ghost use Rattle.schema_print_text.specs.PrintedTypes.{printed_type};
 ghost use Rattle.schema_print.specs.FragmentGroups.{AreGroupsOf};

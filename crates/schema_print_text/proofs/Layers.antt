@@ -4,27 +4,26 @@ use Rattle.std.proofs.Common.{◌∙◌, Option}
 use Rattle.std.proofs.Common.{arith}
 use Rattle.std.proofs.lemmas.Bool.{ne_eqb}
 use Rattle.cedar_data.specs.declared.loc.Loc.{Loc}
+use Rattle.schema_syntax_tokens.specs.Laid.{laid}
 use Rattle.cedar_identifiers.specs.declared.unreserved_id.UnreservedId.{UnreservedId}
-use Rattle.schema_json.specs.declared.types.Type.{«Type», Type-F, fold-roll-Type}
-use Rattle.schema_json.specs.declared.types.Type.TheVariants.{Variant, CommonTypeRef, rolls-Variant}
-use Rattle.schema_json.specs.declared.types.Type.TheVariants.{rolls-CommonTypeRef}
-use Rattle.schema_json.specs.declared.types.TypeVariant.{TypeVariant, TypeVariant-F, fold-roll-TypeVariant}
+use Rattle.schema_json.specs.declared.types.Type.{«Type»}
+use Rattle.schema_json.specs.declared.types.Type.TheVariants.{Variant, CommonTypeRef}
+use Rattle.schema_json.specs.declared.types.TypeVariant.{TypeVariant}
 use Rattle.schema_json.specs.declared.types.TypeVariant.TheVariants.{Set, Record, Entity, EntityOrCommon, Extension}
-use Rattle.schema_json.specs.declared.types.TypeVariant.TheVariants.{String, Long, Boolean, rolls-Set, rolls-Record}
-use Rattle.schema_json.specs.declared.types.TypeVariant.TheVariants.{rolls-Entity, rolls-EntityOrCommon}
-use Rattle.schema_json.specs.declared.types.TypeVariant.TheVariants.{rolls-Extension, rolls-String, rolls-Long}
-use Rattle.schema_json.specs.declared.types.TypeVariant.TheVariants.{rolls-Boolean}
+use Rattle.schema_json.specs.declared.types.TypeVariant.TheVariants.{String, Long, Boolean}
 use Rattle.schema_json.specs.declared.types.RecordType.{RecordType, out-RecordType, fold_out-RecordType}
 use Rattle.schema_json.specs.declared.types.TypeOfAttribute.{TypeOfAttribute, out-TypeOfAttribute}
 use Rattle.schema_json.specs.declared.types.TypeOfAttribute.{fold_out-TypeOfAttribute}
+use Rattle.schema_json.proofs.Layers.{variant_made, reference_made, string_made, long_made, boolean_made, set_made}
+use Rattle.schema_json.proofs.Layers.{record_made, entity_made, either_made, extension_made}
 use Rattle.schema_readback.specs.Written.{WrittenType, WrittenAttributes, path, set, rec, attribute}
 use Rattle.schema_readback.specs.Meant.{under_cedar}
+use Rattle.schema_readback.specs.Printed.{path_pieces, type_pieces}
 use Rattle.schema_print_text.specs.PrintedTypes.{is_bare_record, PrintedAttribute, printed_name, printed_attributes}
-use Rattle.schema_print_text.specs.PrintedTypes.{type_layer, variant_layer, record_layer, attribute_layer, printed_type}
+use Rattle.schema_print_text.specs.PrintedTypes.{type_layer, variant_layer, record_layer, attribute_layer}
+use Rattle.schema_print_text.specs.PrintedTypes.{printed_type}
 use Rattle.schema_print_text.specs.PrintedTypes.{printed_variant, printed_record, printed_attribute, printed_entries}
 use Rattle.schema_print_text.specs.PrintedTypes.{printed_type_text}
-use Rattle.schema_syntax_tokens.specs.Laid.{laid}
-use Rattle.schema_readback.specs.Printed.{path_pieces, type_pieces}
 
 nonzero : (n : ℕ) → (suc n == 0) ≡ false
 nonzero n = ne_eqb (suc n) 0 (λ e. omega arith)
@@ -58,58 +57,43 @@ module _ (N : Type 0) (names : N → List (List ℕ)) where
   pub type_variant : (ty : TypeVariant N) (loc : Option Loc)
       → printed_type names (Variant ty loc) ≡ printed_variant names ty
   type_variant ty loc =
-      ap (printed_type names) (sym (rolls-Variant ty loc))
-      ∙ fold-roll-Type N WrittenType WrittenType WrittenAttributes PrintedAttribute (type_layer names)
-      (variant_layer names) (record_layer names) (attribute_layer names) (Type-F.Variant ty loc)
+      variant_made N (type_layer names) (variant_layer names) (record_layer names) (attribute_layer names) ty loc
 
   pub type_common : (n : N) (loc : Option Loc)
       → printed_type names (CommonTypeRef n loc) ≡ path (printed_name (names n))
   type_common n loc =
-      ap (printed_type names) (sym (rolls-CommonTypeRef n loc))
-      ∙ fold-roll-Type N WrittenType WrittenType WrittenAttributes PrintedAttribute (type_layer names)
-      (variant_layer names) (record_layer names) (attribute_layer names) (Type-F.CommonTypeRef n loc)
+      reference_made N (type_layer names) (variant_layer names) (record_layer names) (attribute_layer names) n loc
 
   pub variant_set : (t : «Type» N) → printed_variant names (Set t) ≡ set (printed_type names t)
-  variant_set t = ap (printed_variant names) (sym (rolls-Set t))
-      ∙ fold-roll-TypeVariant N WrittenType WrittenType WrittenAttributes PrintedAttribute (type_layer names)
-      (variant_layer names) (record_layer names) (attribute_layer names) (TypeVariant-F.Set t)
+  variant_set t = set_made N (type_layer names) (variant_layer names) (record_layer names) (attribute_layer names) t
 
   pub variant_record : (r : RecordType N)
       → printed_variant names (Record r) ≡ rec (printed_entries names (out-RecordType N r).attributes)
-  variant_record r = ap (printed_variant names) (sym (rolls-Record r))
-      ∙ fold-roll-TypeVariant N WrittenType WrittenType WrittenAttributes PrintedAttribute (type_layer names)
-      (variant_layer names) (record_layer names) (attribute_layer names) (TypeVariant-F.Record r)
+  variant_record r =
+      record_made N (type_layer names) (variant_layer names) (record_layer names) (attribute_layer names) r
       ∙ ap rec (record_out r)
 
   pub variant_entity : (n : N) → printed_variant names (Entity n) ≡ path (printed_name (names n))
-  variant_entity n = ap (printed_variant names) (sym (rolls-Entity n))
-      ∙ fold-roll-TypeVariant N WrittenType WrittenType WrittenAttributes PrintedAttribute (type_layer names)
-      (variant_layer names) (record_layer names) (attribute_layer names) (TypeVariant-F.Entity n)
+  variant_entity n =
+      entity_made N (type_layer names) (variant_layer names) (record_layer names) (attribute_layer names) n
 
   pub variant_either : (n : N) → printed_variant names (EntityOrCommon n) ≡ path (printed_name (names n))
-  variant_either n = ap (printed_variant names) (sym (rolls-EntityOrCommon n))
-      ∙ fold-roll-TypeVariant N WrittenType WrittenType WrittenAttributes PrintedAttribute (type_layer names)
-      (variant_layer names) (record_layer names) (attribute_layer names) (TypeVariant-F.EntityOrCommon n)
+  variant_either n =
+      either_made N (type_layer names) (variant_layer names) (record_layer names) (attribute_layer names) n
 
   pub variant_extension : (e : UnreservedId) → printed_variant names (Extension e) ≡ under_cedar e.id.text
-  variant_extension e = ap (printed_variant names) (sym (rolls-Extension e))
-      ∙ fold-roll-TypeVariant N WrittenType WrittenType WrittenAttributes PrintedAttribute (type_layer names)
-      (variant_layer names) (record_layer names) (attribute_layer names) (TypeVariant-F.Extension e)
+  variant_extension e =
+      extension_made N (type_layer names) (variant_layer names) (record_layer names) (attribute_layer names) e
 
   pub variant_string : printed_variant names String ≡ under_cedar (codes "String")
-  variant_string = ap (printed_variant names) (sym rolls-String)
-      ∙ fold-roll-TypeVariant N WrittenType WrittenType WrittenAttributes PrintedAttribute (type_layer names)
-      (variant_layer names) (record_layer names) (attribute_layer names) TypeVariant-F.String
+  variant_string = string_made N (type_layer names) (variant_layer names) (record_layer names) (attribute_layer names)
 
   pub variant_long : printed_variant names Long ≡ under_cedar (codes "Long")
-  variant_long = ap (printed_variant names) (sym rolls-Long)
-      ∙ fold-roll-TypeVariant N WrittenType WrittenType WrittenAttributes PrintedAttribute (type_layer names)
-      (variant_layer names) (record_layer names) (attribute_layer names) TypeVariant-F.Long
+  variant_long = long_made N (type_layer names) (variant_layer names) (record_layer names) (attribute_layer names)
 
   pub variant_boolean : printed_variant names Boolean ≡ under_cedar (codes "Bool")
-  variant_boolean = ap (printed_variant names) (sym rolls-Boolean)
-      ∙ fold-roll-TypeVariant N WrittenType WrittenType WrittenAttributes PrintedAttribute (type_layer names)
-      (variant_layer names) (record_layer names) (attribute_layer names) TypeVariant-F.Boolean
+  variant_boolean =
+      boolean_made N (type_layer names) (variant_layer names) (record_layer names) (attribute_layer names)
 
   -- the text of each kind of type
   pub variant_shown : (base : ℕ) (t : «Type» N) (v : TypeVariant N) (loc : Option Loc) → t ≡ Variant v loc

@@ -1,4 +1,3 @@
 pub mod Bytes
 pub mod Layers
 pub mod Laying
-pub mod Sizes

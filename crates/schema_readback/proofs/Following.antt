@@ -1,12 +1,12 @@
 -- Pieces behind pieces.
 use Rattle.std.proofs.Common.{◌≡◌, ℕ, zero, suc, Bool, true, false, not, cond, List, [], ◌∷◌, ◌++◌, refl, sym, ap, ◌∙◌}
-use Rattle.std.proofs.Common.{subst, append_assoc, inl, ◌+◌, ◌||◌, arith}
+use Rattle.std.proofs.Common.{subst, append_assoc, inl, ◌+◌, arith}
 use Rattle.std.specs.Prelude.{codes}
 use Rattle.std.specs.Str.{bytes_eq}
 use Rattle.std.specs.List.{list_all}
 use Rattle.std.specs.Cmp.{first_so, second_so}
 use Rattle.std.proofs.lemmas.List.Sums.{AllPass-from_list_all}
-use Rattle.cedar_identifiers.specs.Words.{is_reserved, is_id}
+use Rattle.std.proofs.lemmas.Bool.{not-true, or_parts}
 use Rattle.cedar_data.specs.Words.{is_word_start, is_word_part}
 use Rattle.cedar_data.specs.Words as words
 use Rattle.schema_syntax_grammar.specs.declared.token_kind.TokenKind.{TokenKind}
@@ -15,11 +15,12 @@ use Rattle.schema_syntax_grammar.specs.declared.token_kind.TokenKind.TheVariants
 use Rattle.schema_syntax_grammar.specs.declared.token_kind.TokenKind.TheVariants.{KwPrincipal, KwAction, KwResource}
 use Rattle.schema_syntax_grammar.specs.declared.token_kind.TokenKind.TheVariants.{KwContext, KwTags, KwEnum}
 use Rattle.schema_syntax_grammar.specs.Grammar.{is_ident}
-use Rattle.schema_syntax_grammar.specs.Grammar.{is_word_kind}
 use Rattle.schema_syntax_tokens.specs.Forms.{IsWord, word_kind}
 use Rattle.schema_syntax_tokens.specs.Laid.{Piece, gap, lexeme, piece_text, laid, lexemes_of, AreBlanks, none, blank}
-use Rattle.schema_syntax_tokens.specs.Laid.{Edge, free, word, colon, edge_of, is_calm, Follow, done, by_gap, by_blanks}
+use Rattle.schema_syntax_tokens.specs.Laid.{Edge, free, word, colon, is_calm, Follow, done, by_gap, by_blanks}
 use Rattle.schema_syntax_tokens.specs.Laid.{by_lexeme}
+use Rattle.schema_syntax_tokens.proofs.Standing.{at_word, word_kind_word, edge_of_word}
+use Rattle.cedar_identifiers.specs.Words.{is_reserved, is_id}
 use Rattle.cedar_names.specs.CanonicalText.{spaces}
 use Rattle.schema_readback.specs.Printed as printed
 
@@ -77,75 +78,39 @@ is_word_so (b ∷ bs) h = (
       bs (second_so (is_word_start b) (list_all is_word_part bs) h),
 )
 
-at_kind : (P : TokenKind → Bool) (c : Bool) (x r k : TokenKind) → P x ≡ true → (r ≡ k → P k ≡ true) → cond c x r ≡ k
-    → P k ≡ true
-at_kind P true x r k h there e = subst (λ y. P y ≡ true) e h
-at_kind P false x r k h there e = there e
-
 at_in : (c : Bool) (x r k : TokenKind) → c ≡ false → (r ≡ k → is_ident k ≡ true) → cond c x r ≡ k → is_ident k ≡ true
 at_in true x r k n there e = cc
 at_in false x r k n there e = there e
 
 ident_of_kind : (w : List ℕ) (k : TokenKind) → bytes_eq w (codes "in") ≡ false → word_kind w ≡ k → is_ident k ≡ true
 ident_of_kind w k n e =
-    at_kind is_ident (bytes_eq w (codes "namespace")) KwNamespace _ k refl
-    (at_kind is_ident (bytes_eq w (codes "entity")) KwEntity _ k refl
-    (at_kind is_ident (bytes_eq w (codes "external")) KwExternal _ k refl
+    at_word is_ident (bytes_eq w (codes "namespace")) KwNamespace _ k refl
+    (at_word is_ident (bytes_eq w (codes "entity")) KwEntity _ k refl
+    (at_word is_ident (bytes_eq w (codes "external")) KwExternal _ k refl
     (at_in (bytes_eq w (codes "in")) KwIn _ k n
-    (at_kind is_ident (bytes_eq w (codes "type")) KwType _ k refl
-    (at_kind is_ident (bytes_eq w (codes "Set")) KwSet _ k refl
-    (at_kind is_ident (bytes_eq w (codes "appliesTo")) KwAppliesTo _ k refl
-    (at_kind is_ident (bytes_eq w (codes "principal")) KwPrincipal _ k refl
-    (at_kind is_ident (bytes_eq w (codes "action")) KwAction _ k refl
-    (at_kind is_ident (bytes_eq w (codes "resource")) KwResource _ k refl
-    (at_kind is_ident (bytes_eq w (codes "context")) KwContext _ k refl
-    (at_kind is_ident (bytes_eq w (codes "tags")) KwTags _ k refl
-    (at_kind is_ident (bytes_eq w (codes "enum")) KwEnum _ k refl
+    (at_word is_ident (bytes_eq w (codes "type")) KwType _ k refl
+    (at_word is_ident (bytes_eq w (codes "Set")) KwSet _ k refl
+    (at_word is_ident (bytes_eq w (codes "appliesTo")) KwAppliesTo _ k refl
+    (at_word is_ident (bytes_eq w (codes "principal")) KwPrincipal _ k refl
+    (at_word is_ident (bytes_eq w (codes "action")) KwAction _ k refl
+    (at_word is_ident (bytes_eq w (codes "resource")) KwResource _ k refl
+    (at_word is_ident (bytes_eq w (codes "context")) KwContext _ k refl
+    (at_word is_ident (bytes_eq w (codes "tags")) KwTags _ k refl
+    (at_word is_ident (bytes_eq w (codes "enum")) KwEnum _ k refl
     (λ f. subst (λ y. is_ident y ≡ true) f refl))))))))))))) e
 
-word_of_kind : (w : List ℕ) (k : TokenKind) → word_kind w ≡ k → is_word_kind k ≡ true
-word_of_kind w k e =
-    at_kind is_word_kind (bytes_eq w (codes "namespace")) KwNamespace _ k refl
-    (at_kind is_word_kind (bytes_eq w (codes "entity")) KwEntity _ k refl
-    (at_kind is_word_kind (bytes_eq w (codes "external")) KwExternal _ k refl
-    (at_kind is_word_kind (bytes_eq w (codes "in")) KwIn _ k refl
-    (at_kind is_word_kind (bytes_eq w (codes "type")) KwType _ k refl
-    (at_kind is_word_kind (bytes_eq w (codes "Set")) KwSet _ k refl
-    (at_kind is_word_kind (bytes_eq w (codes "appliesTo")) KwAppliesTo _ k refl
-    (at_kind is_word_kind (bytes_eq w (codes "principal")) KwPrincipal _ k refl
-    (at_kind is_word_kind (bytes_eq w (codes "action")) KwAction _ k refl
-    (at_kind is_word_kind (bytes_eq w (codes "resource")) KwResource _ k refl
-    (at_kind is_word_kind (bytes_eq w (codes "context")) KwContext _ k refl
-    (at_kind is_word_kind (bytes_eq w (codes "tags")) KwTags _ k refl
-    (at_kind is_word_kind (bytes_eq w (codes "enum")) KwEnum _ k refl
-    (λ f. subst (λ y. is_word_kind y ≡ true) f refl))))))))))))) e
-
-pub word_kind_is : (c : List ℕ) → is_word_kind (word_kind c) ≡ true
-word_kind_is c = word_of_kind c (word_kind c) refl
-
-or_first : (a b : Bool) → (a || b) ≡ false → a ≡ false
-or_first true b h = cc
-or_first false b h = refl
-
-opposite : (b : Bool) → not b ≡ true → b ≡ false
-opposite true h = cc
-opposite false h = refl
-
 no_in : (c : List ℕ) → is_reserved c ≡ false → bytes_eq c (codes "in") ≡ false
-no_in c h = or_first (bytes_eq c (codes "in")) _ h
+no_in c h = (or_parts (bytes_eq c (codes "in")) _ h).0
 
 -- a word that may be a name has the kind of one
 pub ident_kind_of : (c : List ℕ) → is_id c ≡ true → is_ident (word_kind c) ≡ true
 ident_kind_of c h = ident_of_kind c (word_kind c)
-    (no_in c (opposite (is_reserved c) (second_so (words.is_word c) (not (is_reserved c)) h))) refl
-
-edge_of_word : (k : TokenKind) → is_word_kind k ≡ true → edge_of k ≡ word
-edge_of_word k h = rw h refl
+    (no_in c (not-true (is_reserved c) (second_so (words.is_word c) (not (is_reserved c)) h))) refl
 
 pub then_word : {ps : List Piece} (c : List ℕ) → words.is_word c ≡ true → Follow word ps
     → Follow free (printed.word c ∷ ps)
 then_word {ps} c h s = by_lexeme (inl (is_word_so c h, refl)) refl
-    (subst (λ e. Follow e ps) (sym (edge_of_word (word_kind c) (word_of_kind c (word_kind c) refl))) s)
+    (subst (λ e. Follow e ps) (sym (edge_of_word (word_kind c) (word_kind_word c))) s)
 
 pub then_id : {ps : List Piece} (c : List ℕ) → is_id c ≡ true → Follow word ps → Follow free (printed.word c ∷ ps)
 then_id c h s = then_word c (first_so (words.is_word c) (not (is_reserved c)) h) s

@@ -3,19 +3,20 @@ use Rattle.std.proofs.Common.{◌≡◌, ℕ, Bool, true, false, cond, List, [],
 use Rattle.std.proofs.Common.{ap, ◌∙◌, append-nil, append_assoc, ◌+◌}
 use Rattle.std.specs.Prelude.{codes, filter, if◌then◌else◌}
 use Rattle.std.proofs.lemmas.List.{map-append}
-use Rattle.cedar_names.specs.CanonicalText.{parents_text}
 use Rattle.cedar_data.specs.Rows.{joined_by}
+use Rattle.cedar_data.proofs.Lists.{map-map}
+use Rattle.schema_syntax_grammar.specs.declared.token_kind.TokenKind.TheVariants.{Comma, PathSep, LBrace, RBrace}
+use Rattle.schema_syntax_grammar.specs.declared.token_kind.TokenKind.TheVariants.{RBracket}
+use Rattle.schema_syntax_tokens.specs.Quotes.{quoted}
+use Rattle.schema_syntax_tokens.specs.Laid.{Piece, gap, laid}
 use Rattle.cedar_identifiers.specs.Names.{name_text}
+use Rattle.cedar_names.specs.CanonicalText.{parents_text}
 use Rattle.cedar_names.specs.Meaning.{PlainType, Attributes, EntityMeaning, ActionMeaning, SchemaMeaning}
 use Rattle.cedar_names.specs.Meaning as m
 use Rattle.cedar_names.specs.Definitions.{same_name}
 use Rattle.cedar_names.specs.CanonicalText.{line_end, spaces, basename, namespace, list_text, shape_text, tags_text}
 use Rattle.cedar_names.specs.CanonicalText.{entity_type_text, action_name_text, context_text, applies_text, action_text}
 use Rattle.cedar_names.specs.CanonicalText.{items_text, namespace_text, namespaces, schema_text}
-use Rattle.schema_syntax_tokens.specs.Quotes.{quoted}
-use Rattle.schema_syntax_tokens.specs.Laid.{Piece, gap, laid}
-use Rattle.schema_syntax_grammar.specs.declared.token_kind.TokenKind.TheVariants.{Comma, PathSep, LBrace, RBrace}
-use Rattle.schema_syntax_grammar.specs.declared.token_kind.TokenKind.TheVariants.{RBracket}
 use Rattle.schema_syntax_tree.specs.declared.pr.PR.TheVariants.{Principal, Resource}
 use Rattle.schema_readback.specs.Written.{WrittenMember, types, context_record}
 use Rattle.schema_readback.specs.Printed.{mark, space, path_pieces, string}
@@ -62,10 +63,6 @@ string_laid n = append-nil (quoted n)
 ref_laid : (a : List (List ℕ) × List ℕ) → laid (ref_pieces (ref_of_meaning a)) ≡ action_name_text a
 ref_laid a = both (path_pieces a.0) (mark PathSep (codes "::") ∷ string a.1 ∷ []) (name_text a.0)
     (codes "::" ++ quoted a.1) (path_laid a.0) (ap (λ l. codes "::" ++ l) (append-nil (quoted a.1)))
-
-map_both : {A B C : Type 0} (f : B → C) (g : A → B) (xs : List A) → map f (map g xs) ≡ map (λ x. f (g x)) xs
-map_both f g [] = refl
-map_both f g (x ∷ xs) = ap (λ ys. f (g x) ∷ ys) (map_both f g xs)
 
 refs_laid : (as' : List (List (List ℕ) × List ℕ))
     → laid (parents_pieces ref_pieces (map ref_of_meaning as')) ≡ parents_text (map action_name_text as')
@@ -317,7 +314,7 @@ module _ (closing : Bool) where
   pub schema_laid : (m : SchemaMeaning) → laid (schema_pieces closing (groups_of_meaning m)) ≡ schema_text closing m
   schema_laid m =
       joined_laid (group_pieces closing) (groups_of_meaning m)
-      ∙ ap (joined_by line_end) (map_both (λ g. laid (group_pieces closing g)) (group_of_meaning m) (namespaces m)
+      ∙ ap (joined_by line_end) (map-map (λ g. laid (group_pieces closing g)) (group_of_meaning m) (namespaces m)
       ∙ each (namespaces m))
     where
       each : (ns : List (List (List ℕ)))

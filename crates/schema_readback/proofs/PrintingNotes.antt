@@ -1,32 +1,29 @@
 -- Notes that are laid out spell themselves.
 use Rattle.std.proofs.Common.{◌≡◌, ◌≢◌, ℕ, false, cond, List, [], ◌∷◌, ◌++◌, map, Option, Some, None, refl, sym, ap}
 use Rattle.std.proofs.Common.{◌∙◌, subst, inl, inr, Less, Greater}
-use Rattle.std.specs.Cmp.{IsTotalOrder, on_total}
 use Rattle.std.specs.List.{AllByRecursion}
 use Rattle.std.specs.List.Sorted.{IsStrictlySortedBy}
 use Rattle.std.specs.Map.{lookup}
 use Rattle.std.specs.Ordering.{ordering_reverse}
-use Rattle.std.specs.Str.{bytes_eq, encode_utf8_all}
-use Rattle.std.proofs.lemmas.Cmp.{nat_list_cmp_total}
+use Rattle.std.specs.Str.{bytes_eq}
 use Rattle.std.proofs.lemmas.List.{length-map}
 use Rattle.std.proofs.lemmas.Map.Keys.{sorted_head, sorted_tail}
 use Rattle.std.proofs.lemmas.Slice.Eq.{bytes_eq-Decides}
 use Rattle.std.proofs.lemmas.Bool.{cases_Bool}
 use Rattle.cedar_data.specs.Text.{text_cmp}
-use Rattle.cedar_identifiers.specs.declared.any_id.AnyId.{AnyId}
+use Rattle.cedar_data.proofs.Orders.{text_total}
 use Rattle.schema_syntax_grammar.specs.declared.token_kind.TokenKind.TheVariants.{StringLit}
 use Rattle.schema_syntax_tokens.specs.Escapes.{Unescapes}
 use Rattle.schema_syntax_tokens.specs.Forms.{IsForm}
 use Rattle.schema_syntax_tokens.specs.Quotes.{quoted, quoted_body}
 use Rattle.schema_syntax_tokens.specs.Laid.{Piece, lexemes_of, free, Follow, by_gap, by_blanks, by_lexeme}
+use Rattle.schema_syntax_tokens.proofs.Standing.{word_kind_word}
+use Rattle.cedar_identifiers.specs.declared.any_id.AnyId.{AnyId}
 use Rattle.schema_syntax_reader.specs.Leaves.{Notes}
 use Rattle.schema_readback.specs.Notes.{Note, AreNotesOf, no_note, bare_note, valued_note, HaveOtherNotes, AreApart}
 use Rattle.schema_readback.specs.Notes.{SpellNotes}
 use Rattle.schema_readback.specs.Printed.{notes_pieces, AreProperNotes}
-use Rattle.schema_readback.proofs.Following.{blank_spaces, one_line_end, then_word, word_kind_is}
-
-text_total : IsTotalOrder text_cmp
-text_total = on_total encode_utf8_all nat_list_cmp_total
+use Rattle.schema_readback.proofs.Following.{blank_spaces, one_line_end, then_word}
 
 less_apart : (a b : List ℕ) → text_cmp a b ≡ Less → a ≢ b
 less_apart a b h e =
@@ -90,8 +87,8 @@ module _ (string_form : (cs : List ℕ) → IsForm (quoted cs) StringLit)
       by_value : (key : AnyId) (value : Option (List ℕ))
           → AreNotesOf (lexemes_of (notes_pieces base notes)) (map note_of notes)
           → AreNotesOf (lexemes_of (notes_pieces base ((key, value) ∷ notes))) ((key.text, value) ∷ map note_of notes)
-      by_value key None r = bare_note refl (word_kind_is key.text) r
-      by_value key (Some v) r = valued_note (quoted_body v) refl (word_kind_is key.text) refl refl refl
+      by_value key None r = bare_note refl (word_kind_word key.text) r
+      by_value key (Some v) r = valued_note (quoted_body v) refl (word_kind_word key.text) refl refl refl
           (stands_for v) refl r
 
   pub spell_notes : (base : ℕ) (notes : Notes) → AreProperNotes notes

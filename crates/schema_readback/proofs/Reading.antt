@@ -8,13 +8,13 @@ use Rattle.schema_syntax_grammar.specs.declared.token_kind.TokenKind.TheVariants
 use Rattle.schema_syntax_tokens.specs.declared.token.Token.{Token}
 use Rattle.schema_syntax_tokens.specs.Escapes.{Unescapes, BadEscape}
 use Rattle.schema_syntax_tokens.specs.Laid.{Lexeme, IsSpelled, Spells}
+use Rattle.schema_syntax_tokens.specs.TokenLists.{whole_place}
 use Rattle.schema_syntax_parser.specs.declared.syntax.TypeSyntax.TheVariants as syntax
 use Rattle.schema_syntax_parser.specs.declared.syntax.TypeSyntax.{TypeSyntax}
 use Rattle.schema_syntax_parser.specs.declared.syntax.AttrSyntax.{AttrSyntax, roll-AttrSyntax, out-AttrSyntax}
 use Rattle.schema_syntax_parser.specs.declared.syntax.AttrSyntax.{out-roll-AttrSyntax}
 use Rattle.schema_syntax_parser.specs.declared.syntax.TypeSyntax.TheOpen.{AttrSyntax-F}
 use Rattle.schema_syntax_parser.specs.Syntax.{IsRecord, AreAttrs, IsMark}
-use Rattle.schema_syntax_tokens.specs.TokenLists.{whole_place}
 use Rattle.schema_syntax_parser.specs.Syntax as S
 use Rattle.schema_syntax_tree.specs.declared.types.Type.{«Type»}
 use Rattle.schema_syntax_tree.specs.declared.types.Type.TheVariants as shape
@@ -24,6 +24,7 @@ use Rattle.schema_syntax_reader.specs.Sites.{annotations, name_sites, names_site
 use Rattle.schema_syntax_reader.specs.Sites.{sites_of_attrs}
 use Rattle.schema_syntax_reader.specs.Leaves.{Notes, AreNotes}
 use Rattle.schema_syntax_reader.specs.Trees as tree
+use Rattle.schema_syntax_reader.proofs.SiteEquations.{of_path, of_set, of_record, of_attr}
 use Rattle.schema_readback.specs.Written.{WrittenType, WrittenAttributes, path, set, rec, no_more, attribute}
 use Rattle.schema_readback.specs.Spellings.{IsIdent, SpellsName, SpellsPath, one, more, SpellsType, path_type, set_type}
 use Rattle.schema_readback.specs.Spellings.{record_type, IsRecordOf, braces, AreAttributesOf, no_attribute}
@@ -32,7 +33,6 @@ use Rattle.schema_readback.specs.Shows.{ShowsType, shows_path, shows_set, shows_
 use Rattle.schema_readback.specs.Reads.{IsFaultless, ReadsPath, ReadsType, ReadsAttributes, ReadsAttribute, ReadsNotes}
 use Rattle.schema_readback.proofs.ReadingNotes.{read_notes}
 use Rattle.schema_readback.proofs.Split.{closed, between, front}
-use Rattle.schema_readback.proofs.Sites.{of_path, of_set, of_record, of_attr}
 use Rattle.schema_readback.proofs.Words.{word_here, ident_kind, ident_site, name_kind, name_here, name_site}
 
 module _ (source : List ℕ) where

@@ -2,15 +2,16 @@
 use Rattle.std.proofs.Common.{◌≡◌, ℕ, List, [], ◌∷◌, ◌++◌, refl, sym, ◌∙◌, subst, append_assoc}
 use Rattle.std.specs.List.{All, AllZip}
 use Rattle.std.proofs.lemmas.List.Elements.{All-nil, All-cons, All-head, All-tail}
+use Rattle.cedar_data.proofs.Lists.{All-back}
 use Rattle.schema_syntax_tokens.specs.Escapes.{Unescapes, BadEscape}
 use Rattle.schema_syntax_tokens.specs.declared.token.Token.{Token}
 use Rattle.schema_syntax_tokens.specs.Scans.{IsPlaced}
-use Rattle.schema_syntax_tokens.specs.Laid.{Lexeme, Spells, IsReadAs}
+use Rattle.schema_syntax_tokens.specs.Laid.{Lexeme, Spells, HasLexemes}
 use Rattle.schema_syntax_parser.specs.Syntax.{IsSyntax}
+use Rattle.schema_syntax_parser.specs.declared.syntax.ItemSyntax.{ItemSyntax}
 use Rattle.schema_syntax_tree.specs.declared.annotated.Annotated.{Annotated}
 use Rattle.schema_syntax_tree.specs.declared.namespace.Namespace.{Namespace}
 use Rattle.schema_syntax_reader.specs.Trees.{IsTreeOf}
-use Rattle.schema_syntax_parser.specs.declared.syntax.ItemSyntax.{ItemSyntax}
 use Rattle.schema_syntax_reader.specs.Sites.{Site, sites_of}
 use Rattle.schema_syntax_reader.specs.UserFaults.{IsLawful}
 use Rattle.schema_readback.specs.Written.{WrittenItem}
@@ -22,19 +23,14 @@ use Rattle.schema_readback.specs.ReadsBack.{ReadsBack}
 use Rattle.schema_readback.proofs.Decls.{read_schema}
 use Rattle.schema_readback.proofs.SaidDecls.{back_schema}
 
-faultless_at : (source : List ℕ) (front : List Site) (site : Site) (back : List Site)
-    → All (IsFaultless source) (front ++ site ∷ back) → IsFaultless source site
-faultless_at source [] site back h = All-head (IsFaultless source) site back h
-faultless_at source (s ∷ front) site back h =
-    faultless_at source front site back (All-tail (IsFaultless source) s (front ++ site ∷ back) h)
-
-lawful_so : (source : List ℕ) (items : List ItemSyntax) → All (IsFaultless source) (sites_of items)
+pub lawful_so : (source : List ℕ) (items : List ItemSyntax) → All (IsFaultless source) (sites_of items)
     → IsLawful source items
 lawful_so source items h fault end f =
-    faultless_at source f.0 f.1 f.2 (subst (All (IsFaultless source)) f.3 h) fault end f.4
+    All-head (IsFaultless source) f.1 f.2
+    (All-back (IsFaultless source) f.0 (f.1 ∷ f.2) (subst (All (IsFaultless source)) f.3 h)) fault end f.4
 
 pub reads_back : ((body value : List ℕ) (at : ℕ) → Unescapes body value → BadEscape body at → ⊥)
-    → (text : List ℕ) (u : List Lexeme) (w : List WrittenItem) → IsReadAs text u → SpellsSchema u w → ReadsBack text w
+    → (text : List ℕ) (u : List Lexeme) (w : List WrittenItem) → HasLexemes text u → SpellsSchema u w → ReadsBack text w
 reads_back never_both text u w a h =
     let r = read_schema text never_both h a.tokens a.spells in
     record {
@@ -55,7 +51,7 @@ placed_spell text [] h = tt
 placed_spell text (t ∷ ts) h =
     ((refl, refl, (All-head (IsPlaced text) t ts h).form), placed_spell text ts (All-tail (IsPlaced text) t ts h))
 
-faultless_all : (source : List ℕ) (items : List ItemSyntax) → IsLawful source items → (front rest : List Site)
+pub faultless_all : (source : List ℕ) (items : List ItemSyntax) → IsLawful source items → (front rest : List Site)
     → sites_of items ≡ front ++ rest → All (IsFaultless source) rest
 faultless_all source items h front [] e = All-nil (IsFaultless source)
 faultless_all source items h front (s ∷ rest) e =

@@ -1,22 +1,16 @@
 -- Tokens that spell annotations are read as the notes that they make.
-use Rattle.std.proofs.Common.{◌≡◌, ℕ, suc, Bool, true, false, ◌&&◌, if◌then◌else◌, List, [], ◌∷◌, ◌++◌, Option, Some}
-use Rattle.std.proofs.Common.{None, length, refl, sym, ap, ◌∙◌, subst, inl, inr, ◌==◌}
-use Rattle.std.specs.List.{All, AllZip, AllByRecursion, list_all}
+use Rattle.std.proofs.Common.{◌≡◌, ℕ, suc, true, List, [], ◌∷◌, ◌++◌, Option, Some}
+use Rattle.std.proofs.Common.{None, length, refl, sym, ap, ◌∙◌, subst}
+use Rattle.std.specs.List.{All, AllZip, AllByRecursion}
 use Rattle.std.specs.Map.{lookup}
 use Rattle.std.specs.Str.{bytes_eq, chars}
 use Rattle.std.proofs.lemmas.Str.{chars-IsAscii}
-use Rattle.std.proofs.lemmas.Bool.{and_from}
 use Rattle.std.proofs.lemmas.List.{append_cancel_right}
 use Rattle.std.proofs.lemmas.List.Elements.{All-nil, All-cons}
-use Rattle.std.proofs.lemmas.List.Sums.{list_all-from_AllPass}
-use Rattle.cedar_data.specs.Words.{is_word_start, is_word_part}
-use Rattle.cedar_data.specs.Words as words
-use Rattle.schema_syntax_grammar.specs.declared.token_kind.TokenKind.{TokenKind}
-use Rattle.schema_syntax_grammar.specs.declared.token_kind.TokenKind.TheVariants.{PathSep}
+use Rattle.cedar_data.proofs.Ascii.{word_ascii}
 use Rattle.schema_syntax_grammar.specs.Grammar.{is_word_kind}
 use Rattle.schema_syntax_tokens.specs.declared.token.Token.{Token}
 use Rattle.schema_syntax_tokens.specs.Escapes.{Unescapes, BadEscape}
-use Rattle.schema_syntax_tokens.specs.Forms.{IsWord, single_mark, mark_kind, IsForm}
 use Rattle.schema_syntax_tokens.specs.Laid.{Lexeme, IsSpelled, Spells}
 use Rattle.schema_syntax_parser.specs.declared.syntax.AnnotationSyntax.{AnnotationSyntax}
 use Rattle.schema_syntax_parser.specs.Syntax.{AreAnnotations}
@@ -24,43 +18,10 @@ use Rattle.schema_syntax_parser.specs.Syntax as grammar
 use Rattle.schema_syntax_reader.specs.Leaves.{Notes, word_at, IsNoteValue, HasNote}
 use Rattle.schema_syntax_reader.specs.Sites.{annotations}
 use Rattle.schema_syntax_reader.specs.UserFaults.{IsBadEscapeAt, note_escape, duplicate}
+use Rattle.schema_syntax_reader.proofs.PlacedWords.{form_word, word_test}
 use Rattle.schema_readback.specs.Reads.{IsFaultless, ReadsNotes}
 use Rattle.schema_readback.specs.Notes.{Note, AreNotesOf, no_note, bare_note, valued_note, HaveOtherNotes, AreApart}
 use Rattle.schema_readback.specs.Notes.{AreArranged}
-use Rattle.schema_readback.proofs.Words.{word_ascii}
-
--- a lexeme of a word's kind is a word
-abbrev IsMark : Option TokenKind → Type 0
-IsMark None = Unit {0}
-IsMark (Some k) = is_word_kind k ≡ false
-
-mark_or : (b : Bool) (x r : Option TokenKind) → IsMark x → IsMark r → IsMark (if b then x else r)
-mark_or true x r p q = p
-mark_or false x r p q = q
-
-single_marks : (b : ℕ) → IsMark (single_mark b)
-single_marks b =
-    mark_or (b == 64) _ _ refl (mark_or (b == 44) _ _ refl
-    (mark_or (b == 59) _ _ refl (mark_or (b == 58) _ _ refl (mark_or (b == 40) _ _ refl (mark_or (b == 41) _ _ refl
-    (mark_or (b == 123) _ _ refl (mark_or (b == 125) _ _ refl
-    (mark_or (b == 91) _ _ refl (mark_or (b == 93) _ _ refl (mark_or (b == 60) _ _ refl (mark_or (b == 62) _ _ refl
-    (mark_or (b == 63) _ _ refl (mark_or (b == 61) _ _ refl tt)))))))))))))
-
-marks : (w : List ℕ) → IsMark (mark_kind w)
-marks [] = tt
-marks (b ∷ []) = single_marks b
-marks (b ∷ c ∷ []) = mark_or (b == 58 && c == 58) (Some PathSep) None refl tt
-marks (b ∷ c ∷ d ∷ bs) = tt
-
-pub form_word : (w : List ℕ) (k : TokenKind) → IsForm w k → is_word_kind k ≡ true → IsWord w
-form_word w k (inl h) e = h.0
-form_word w k (inr (inl m)) e = let f : is_word_kind k ≡ false = subst IsMark m (marks w) in cc
-form_word w k (inr (inr s)) e = let f : false ≡ true = sym (ap is_word_kind s.1) ∙ e in cc
-
-pub word_test : (w : List ℕ) → IsWord w → words.is_word w ≡ true
-word_test [] h = absurd h
-word_test (b ∷ bs) h = and_from (is_word_start b) (list_all is_word_part bs) h.0
-    (list_all-from_AllPass is_word_part bs h.1)
 
 -- what is true of each pair is true of one in the middle
 paired : {A B : Type 0} (R : A → B → Type 0) (front : List A) (x : A) (back : List A) (ys : List B)

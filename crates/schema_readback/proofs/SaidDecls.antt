@@ -2,10 +2,10 @@
 use Rattle.std.proofs.Common.{◌≡◌, ℕ, true, List, [], ◌∷◌, ◌++◌, Option, Some, None, refl, sym, ap, ◌∙◌, subst}
 use Rattle.std.specs.List.{All, AllZip, flat_map}
 use Rattle.std.proofs.lemmas.List.Elements.{All-head, All-tail}
+use Rattle.std.proofs.lemmas.List.{same_from_push}
 use Rattle.cedar_data.specs.Span.{Span}
 use Rattle.cedar_data.specs.declared.node.Node.{Node}
-use Rattle.cedar_identifiers.specs.Names.{texts_of}
-use Rattle.cedar_identifiers.specs.declared.id.Id.{Id}
+use Rattle.cedar_data.proofs.Lists.{All-front, All-back, nothing_is}
 use Rattle.schema_syntax_grammar.specs.declared.token_kind.TokenKind.{TokenKind}
 use Rattle.schema_syntax_grammar.specs.declared.token_kind.TokenKind.TheVariants.{KwAppliesTo, KwEntity, KwEnum, Comma}
 use Rattle.schema_syntax_grammar.specs.declared.token_kind.TokenKind.TheVariants.{Semi, LBrace, RBrace, LBracket}
@@ -14,6 +14,9 @@ use Rattle.schema_syntax_grammar.specs.Grammar.{is_ident}
 use Rattle.schema_syntax_grammar.specs.Grammar.{is_name_kind}
 use Rattle.schema_syntax_tokens.specs.declared.token.Token.{Token}
 use Rattle.schema_syntax_tokens.specs.Laid.{Lexeme, IsSpelled, Spells}
+use Rattle.schema_syntax_tokens.specs.TokenLists.{whole_place}
+use Rattle.cedar_identifiers.specs.Names.{texts_of}
+use Rattle.cedar_identifiers.specs.declared.id.Id.{Id}
 use Rattle.schema_syntax_parser.specs.declared.syntax.PathSyntax.{PathSyntax}
 use Rattle.schema_syntax_parser.specs.declared.syntax.AttrSyntax.{AttrSyntax}
 use Rattle.schema_syntax_parser.specs.declared.syntax.TypeSyntax.{TypeSyntax}
@@ -25,7 +28,6 @@ use Rattle.schema_syntax_parser.specs.Syntax.{IsChain, IsPath, IsRef, AreSeparat
 use Rattle.schema_syntax_parser.specs.Syntax.{IsShape, AreTags, IsApp, Applies, IsDecl, IsDeclared, IsItem, IsSyntax}
 use Rattle.schema_syntax_parser.specs.Syntax.{is_role}
 use Rattle.schema_syntax_parser.specs.Syntax.{IsStringToken}
-use Rattle.schema_syntax_tokens.specs.TokenLists.{whole_place}
 use Rattle.schema_syntax_parser.specs.Syntax as grammar
 use Rattle.schema_syntax_tree.specs.declared.path.Path.{Path}
 use Rattle.schema_syntax_tree.specs.declared.annotated.Annotated.{Annotated}
@@ -64,22 +66,8 @@ use Rattle.schema_readback.specs.Reads.{IsFaultless}
 use Rattle.schema_readback.specs.Said.{Said, SaidAll}
 use Rattle.schema_readback.proofs.Split.{unsplit, unbetween, unclosed, no_lexeme}
 use Rattle.schema_readback.proofs.SaidNotes.{back_notes}
-use Rattle.schema_readback.proofs.SaidTypes.{all_left, all_right, ident_back, back_path, name_back, back_type}
+use Rattle.schema_readback.proofs.SaidTypes.{ident_back, back_path, name_back, back_type}
 use Rattle.schema_readback.proofs.SaidTypes.{back_record}
-
-nothing_is : {A : Type 0} (xs : List A) (x : A) (ys : List A) → [] ≡ xs ++ x ∷ ys → ⊥
-nothing_is [] x ys e = cc
-nothing_is (a ∷ xs) x ys e = cc
-
-snoc_same : {A : Type 0} (xs ys : List A) (x y : A) → xs ++ x ∷ [] ≡ ys ++ y ∷ [] → (xs ≡ ys) × (x ≡ y)
-snoc_same [] [] x y e = (refl, cc)
-snoc_same [] (b ∷ ys) x y e = let f : [] ≡ ys ++ y ∷ [] = cc in absurd (nothing_is ys y [] f)
-snoc_same (a ∷ xs) [] x y e = let f : [] ≡ xs ++ x ∷ [] = cc in absurd (nothing_is xs x [] f)
-snoc_same (a ∷ xs) (b ∷ ys) x y e =
-    let head : a ≡ b = cc in
-    let tail : xs ++ x ∷ [] ≡ ys ++ y ∷ [] = cc in
-    let r = snoc_same xs ys x y tail in
-    ((λ i. head i ∷ r.0 i), r.1)
 
 abbrev HasOne : {A : Type 0} → List A → Type 0
 HasOne [] = ⊥
@@ -106,13 +94,13 @@ module _ (source : List ℕ) where
     back_separated (grammar.last q) [] z f u s = absurd z
     back_separated (grammar.last q) (n ∷ m ∷ ns) z f u s = absurd z.1
     back_separated (grammar.last {u = ts} {x = x} q) (n ∷ []) z f u s =
-        let r = back ts x n q z.0 (all_left (IsFaultless source) (sites x) [] f) u s in
+        let r = back ts x n q z.0 (All-front (IsFaultless source) (sites x) [] f) u s in
         record { written = r.written ∷ []; spell = last_item r.spell; says = (r.says, tt) }
     back_separated (grammar.more c q k r) [] z f u s = absurd z
     back_separated (grammar.more {u = ts} {v = vs} c {x = x} {xs = xs} q k others) (n ∷ ns) z f u s =
         let b = unbetween source ts c vs u s in
-        let r = back ts x n q z.0 (all_left (IsFaultless source) (sites x) (flat_map sites xs) f) b.left b.first in
-        let o = back_separated others ns z.1 (all_right (IsFaultless source) (sites x) (flat_map sites xs) f)
+        let r = back ts x n q z.0 (All-front (IsFaultless source) (sites x) (flat_map sites xs) f) b.left b.first in
+        let o = back_separated others ns z.1 (All-back (IsFaultless source) (sites x) (flat_map sites xs) f)
         b.right b.second in
         record {
           written = r.written ∷ o.written;
@@ -126,7 +114,7 @@ module _ (source : List ℕ) where
     back_listed (grammar.single q) [] z f u s = absurd z
     back_listed (grammar.single q) (n ∷ m ∷ ns) z f u s = absurd z.1
     back_listed (grammar.single {u = ts} {x = x} q) (n ∷ []) z f u s =
-        let r = back ts x n q z.0 (all_left (IsFaultless source) (sites x) [] f) u s in
+        let r = back ts x n q z.0 (All-front (IsFaultless source) (sites x) [] f) u s in
         record { written = r.written ∷ []; spell = single_item r.spell; says = (r.says, tt) }
     back_listed (grammar.listed c ko h kc) ns z f [] s = absurd s
     back_listed (grammar.listed c {u = ts} ko h kc) ns z f (x ∷ u) s =
@@ -151,8 +139,8 @@ module _ (source : List ℕ) where
     back_many (grammar.more q r) [] z f u s = absurd z
     back_many (grammar.more {u = ts} {v = vs} {x = x} {xs = xs} q others) (n ∷ ns) z f u s =
         let b = unsplit source ts vs u s in
-        let r = back ts x n q z.0 (all_left (IsFaultless source) (sites x) (flat_map sites xs) f) b.left b.first in
-        let o = back_many others ns z.1 (all_right (IsFaultless source) (sites x) (flat_map sites xs) f)
+        let r = back ts x n q z.0 (All-front (IsFaultless source) (sites x) (flat_map sites xs) f) b.left b.first in
+        let o = back_many others ns z.1 (All-back (IsFaultless source) (sites x) (flat_map sites xs) f)
         b.right b.second in
         record {
           written = r.written ∷ o.written;
@@ -205,7 +193,7 @@ module _ (source : List ℕ) where
         says = (subst (λ p. SaysOptionalPath p None) (sym ty) tt, refl);
       }
   plain_back t n (a ∷ front) last e name ty h f x s =
-      let g : [] ≡ front ++ last ∷ [] = cc in absurd (nothing_is front last [] g)
+      let g : [] ≡ front ++ last ∷ [] = cc in nothing_is front last [] g
 
   typed_by : {ts ws : List Token} → IsChain PathSep is_ident ts ws → (found : Option Path)
       → tree.IsTypeOfRef source ws found → (u : List Lexeme) → Spells source ts u
@@ -228,7 +216,7 @@ module _ (source : List ℕ) where
   one_ref ts p n (grammar.plain {t = t} h) is f (x ∷ []) s =
       plain_back t n is.0 is.1 is.2 is.3 is.4 h (All-head (IsFaultless source) (site_of_kind t.kind t) [] f) x s.0
   one_ref ts p n (grammar.typed {u = us} {names = ws} c q chain k kq) is f u s =
-      let same = snoc_same ws is.0 q is.1 is.2 in
+      let same = same_from_push ws is.0 q is.1 is.2 in
       let b = unbetween source us c (q ∷ []) u s in
       let d = unclosed source [] q b.right b.second in
       let empty_left : d.left ≡ [] = no_lexeme source d.left d.first in
@@ -462,18 +450,18 @@ module _ (source : List ℕ) where
       {tags = y} ke hi hp hs ht kz) (declaration.Entity (entity_decl.Standard d)) is f [] s = absurd s
   back_decl (grammar.entity_decl {e = e} z {i = i} {p = p} {s = h} {t = t} {names = ws} {parents = ps} {shape = x}
       {tags = y} ke hi hp hs ht kz) (declaration.Entity (entity_decl.Standard d)) is f (a ∷ u) s =
-      let f1 = all_right (IsFaultless source) (names_sites ws) (paths_sites ps ++ (shape_sites x ++ tags_sites y)) f in
-      let f2 = all_right (IsFaultless source) (paths_sites ps) (shape_sites x ++ tags_sites y) f1 in
+      let f1 = All-back (IsFaultless source) (names_sites ws) (paths_sites ps ++ (shape_sites x ++ tags_sites y)) f in
+      let f2 = All-back (IsFaultless source) (paths_sites ps) (shape_sites x ++ tags_sites y) f1 in
       let b = unsplit source i (p ++ (h ++ (t ++ z ∷ []))) u s.1 in
       let c = unsplit source p (h ++ (t ++ z ∷ [])) b.right b.second in
       let g = unsplit source h (t ++ z ∷ []) c.right c.second in
       let k = unclosed source t z g.right g.second in
       let rn = back_idents hi d.names is.0 b.left b.first in
       let rp = paths_back hp d.member_of_types is.1
-      (all_left (IsFaultless source) (paths_sites ps) (shape_sites x ++ tags_sites y) f1) c.left c.first in
-      let rs = back_shape hs d.attrs is.2 (all_left (IsFaultless source) (shape_sites x) (tags_sites y) f2)
+      (All-front (IsFaultless source) (paths_sites ps) (shape_sites x ++ tags_sites y) f1) c.left c.first in
+      let rs = back_shape hs d.attrs is.2 (All-front (IsFaultless source) (shape_sites x) (tags_sites y) f2)
       g.left g.first in
-      let rt = back_tags ht d.tags is.3 (all_right (IsFaultless source) (shape_sites x) (tags_sites y) f2)
+      let rt = back_tags ht d.tags is.3 (All-back (IsFaultless source) (shape_sites x) (tags_sites y) f2)
       k.left k.first in
       let whole : u ≡ b.left ++ (c.left ++ (g.left ++ (k.left ++ k.lexeme ∷ []))) = b.whole
       ∙ ap (λ l. b.left ++ l) (c.whole ∙ ap (λ l. c.left ++ l) (g.whole ∙ ap (λ l. g.left ++ l) k.whole)) in
@@ -495,7 +483,7 @@ module _ (source : List ℕ) where
       let l = unbetween source [] z [] k.right k.second in
       let rn = back_idents hi d.names is.0 b.left b.first in
       let rc = choices_back hs d.choices is.1 loc
-      (all_right (IsFaultless source) (names_sites ws) (choices_sites xs loc) f) k.left k.first in
+      (All-back (IsFaultless source) (names_sites ws) (choices_sites xs loc) f) k.left k.first in
       let one_o : b.right ≡ g.lexeme ∷ g.right = g.whole
       ∙ ap (λ q. q ++ g.lexeme ∷ g.right) (no_lexeme source g.left g.first) in
       let one_z : k.right ≡ l.lexeme ∷ [] = l.whole
@@ -522,7 +510,7 @@ module _ (source : List ℕ) where
       let k = unclosed source p z b.right b.second in
       let rn = back_idents hi d.names is.0 b.left b.first in
       let rp = paths_back hp d.member_of_types is.1
-      (all_right (IsFaultless source) (names_sites ws) (paths_sites ps) f) k.left k.first in
+      (All-back (IsFaultless source) (names_sites ws) (paths_sites ps) f) k.left k.first in
       record {
         written = external_entity rn.written rp.written;
         spell = subst (λ q. SpellsDecl (a ∷ e ∷ q) (external_entity rn.written rp.written))
@@ -534,16 +522,16 @@ module _ (source : List ℕ) where
   back_decl (grammar.action_decl z ka hn hr hs kz) (declaration.Action (action_decl.Defined d)) is f [] s = absurd s
   back_decl (grammar.action_decl z {n = n} {r = p} {s = h} {names = ws} {parents = ps} {applies = x} ka hn hr hs kz)
       (declaration.Action (action_decl.Defined d)) is f (a ∷ u) s =
-      let f1 = all_right (IsFaultless source) (names_sites ws) (paths_sites ps ++ applies_sites x) f in
+      let f1 = All-back (IsFaultless source) (names_sites ws) (paths_sites ps ++ applies_sites x) f in
       let b = unsplit source n (p ++ (h ++ z ∷ [])) u s.1 in
       let c = unsplit source p (h ++ z ∷ []) b.right b.second in
       let k = unclosed source h z c.right c.second in
       let o = optional_back (tree.IsRefOf source) SaysRef ps d.parents is.1 in
       let rn = back_names hn d.names is.0
-      (all_left (IsFaultless source) (names_sites ws) (paths_sites ps ++ applies_sites x) f) b.left b.first in
-      let rp = refs_back hr o.0 o.1 (all_left (IsFaultless source) (paths_sites ps) (applies_sites x) f1)
+      (All-front (IsFaultless source) (names_sites ws) (paths_sites ps ++ applies_sites x) f) b.left b.first in
+      let rp = refs_back hr o.0 o.1 (All-front (IsFaultless source) (paths_sites ps) (applies_sites x) f1)
       c.left c.first in
-      let rs = back_applies hs d.app_decls is.2 (all_right (IsFaultless source) (paths_sites ps) (applies_sites x) f1)
+      let rs = back_applies hs d.app_decls is.2 (All-back (IsFaultless source) (paths_sites ps) (applies_sites x) f1)
       k.left k.first in
       record {
         written = action rn.written rp.written rs.written;
@@ -562,9 +550,9 @@ module _ (source : List ℕ) where
       let b = unsplit source n (p ++ z ∷ []) u s.1.1 in
       let k = unclosed source p z b.right b.second in
       let o = optional_back (tree.IsRefOf source) SaysRef ps d.parents is.1 in
-      let rn = back_names hn d.names is.0 (all_left (IsFaultless source) (names_sites ws) (paths_sites ps) f)
+      let rn = back_names hn d.names is.0 (All-front (IsFaultless source) (names_sites ws) (paths_sites ps) f)
       b.left b.first in
-      let rp = refs_back hr o.0 o.1 (all_right (IsFaultless source) (names_sites ws) (paths_sites ps) f)
+      let rp = refs_back hr o.0 o.1 (All-back (IsFaultless source) (names_sites ws) (paths_sites ps) f)
       k.left k.first in
       record {
         written = external_action rn.written rp.written;
@@ -582,7 +570,7 @@ module _ (source : List ℕ) where
       let k = unclosed source us z u s.1.1.1 in
       let i = ident_back source n x d.name.node s.1.0 hn is.0.0 in
       let r = back_type source (back_notes source) h d.def is.1
-      (all_right (IsFaultless source) (name_sites n) (sites_of_type t) f) k.left k.first in
+      (All-back (IsFaultless source) (name_sites n) (sites_of_type t) f) k.left k.first in
       record {
         written = common x.text r.written;
         spell = subst (λ q. SpellsDecl (a ∷ x ∷ e ∷ q) (common x.text r.written)) (sym k.whole)
@@ -618,9 +606,9 @@ module _ (source : List ℕ) where
       let notes = back_notes source as' xs n.annotations.0 b.left ha is.5
       (All-head (IsFaultless source) (annotations xs) (path_sites name ++ flat_map declared_sites ds) f) b.first in
       let rp = one_path p name is.0 hp is.3
-      (all_left (IsFaultless source) (path_sites name) (flat_map declared_sites ds) f1) g.left g.first in
+      (All-front (IsFaultless source) (path_sites name) (flat_map declared_sites ds) f1) g.left g.first in
       let rd = back_many SpellsDeclared IsDeclared (tree.IsDeclaredOf source) SaysDeclared declared_sites one_declared
-      hd is.1 is.4 (all_right (IsFaultless source) (path_sites name) (flat_map declared_sites ds) f1) l.left l.first in
+      hd is.1 is.4 (All-back (IsFaultless source) (path_sites name) (flat_map declared_sites ds) f1) l.left l.first in
       record {
         written = namespace n.annotations.0 rp.written rd.written;
         spell = subst (λ q. SpellsItem q (namespace n.annotations.0 rp.written rd.written))

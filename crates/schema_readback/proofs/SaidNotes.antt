@@ -18,10 +18,11 @@ use Rattle.schema_syntax_parser.specs.Syntax as grammar
 use Rattle.schema_syntax_reader.specs.Leaves.{Notes, word_at, IsNoteValue, HasNote, AreNotes}
 use Rattle.schema_syntax_reader.specs.Sites.{annotations}
 use Rattle.schema_syntax_reader.specs.UserFaults.{IsOtherKey, duplicate}
+use Rattle.schema_syntax_reader.proofs.PlacedWords.{form_word, word_test}
 use Rattle.schema_readback.specs.Reads.{IsFaultless}
 use Rattle.schema_readback.specs.Notes.{Note, AreNotesOf, no_note, bare_note, valued_note, HaveOtherNotes, AreApart}
 use Rattle.schema_readback.specs.Notes.{SpellNotes}
-use Rattle.schema_readback.proofs.ReadingNotes.{key_here, form_word, word_test}
+use Rattle.schema_readback.proofs.ReadingNotes.{key_here}
 
 module _ (source : List ℕ) where
   -- an annotation and its note: the key is a word

@@ -3,13 +3,10 @@ use Rattle.std.proofs.Common.{◌≡◌, ℕ, Bool, true, false, not, List, [], 
 use Rattle.std.proofs.Common.{inr}
 use Rattle.std.specs.List.{All, AllZip}
 use Rattle.std.proofs.lemmas.Bool.{and_from, cases_Bool}
-use Rattle.std.proofs.lemmas.List.Elements.{All-nil, All-cons, All-head, All-tail}
+use Rattle.std.proofs.lemmas.List.Elements.{All-head, All-tail}
 use Rattle.cedar_data.specs.declared.node.Node.{Node}
-use Rattle.cedar_identifiers.specs.Words.{is_reserved, is_id}
 use Rattle.cedar_data.specs.Words as words
-use Rattle.cedar_identifiers.specs.Names.{texts_of}
-use Rattle.cedar_identifiers.specs.declared.id.Id.{Id}
-use Rattle.cedar_identifiers.specs.declared.annotations.Annotations.{Annotations}
+use Rattle.cedar_data.proofs.Lists.{All-front, All-back}
 use Rattle.schema_syntax_grammar.specs.declared.token_kind.TokenKind.{TokenKind}
 use Rattle.schema_syntax_grammar.specs.declared.token_kind.TokenKind.TheVariants.{KwNamespace, KwEntity, KwExternal}
 use Rattle.schema_syntax_grammar.specs.declared.token_kind.TokenKind.TheVariants.{KwIn, KwType, KwSet, KwAppliesTo}
@@ -21,6 +18,11 @@ use Rattle.schema_syntax_grammar.specs.Grammar.{is_word_kind}
 use Rattle.schema_syntax_grammar.specs.Grammar.{is_name_kind}
 use Rattle.schema_syntax_tokens.specs.declared.token.Token.{Token}
 use Rattle.schema_syntax_tokens.specs.Laid.{Lexeme, IsSpelled, Spells}
+use Rattle.schema_syntax_tokens.specs.TokenLists.{whole_place}
+use Rattle.cedar_identifiers.specs.Words.{is_reserved, is_id}
+use Rattle.cedar_identifiers.specs.Names.{texts_of}
+use Rattle.cedar_identifiers.specs.declared.id.Id.{Id}
+use Rattle.cedar_identifiers.specs.declared.annotations.Annotations.{Annotations}
 use Rattle.schema_syntax_parser.specs.declared.syntax.AnnotationSyntax.{AnnotationSyntax}
 use Rattle.schema_syntax_parser.specs.declared.syntax.PathSyntax.{PathSyntax}
 use Rattle.schema_syntax_parser.specs.declared.syntax.TypeSyntax.{TypeSyntax, out-TypeSyntax, out-roll-TypeSyntax}
@@ -30,7 +32,6 @@ use Rattle.schema_syntax_parser.specs.declared.syntax.AttrSyntax.{AttrSyntax, ro
 use Rattle.schema_syntax_parser.specs.declared.syntax.AttrSyntax.{out-roll-AttrSyntax}
 use Rattle.schema_syntax_parser.specs.Syntax.{IsChain, AreAnnotations, IsMark, IsType, IsRecord, AreAttrs}
 use Rattle.schema_syntax_parser.specs.Syntax.{IsAttr}
-use Rattle.schema_syntax_tokens.specs.TokenLists.{whole_place}
 use Rattle.schema_syntax_parser.specs.Syntax as S
 use Rattle.schema_syntax_tree.specs.declared.types.Type.{«Type»}
 use Rattle.schema_syntax_tree.specs.declared.types.Type.TheOpen.{AttrDecl-F}
@@ -41,6 +42,8 @@ use Rattle.schema_syntax_reader.specs.Sites.{Site, word, annotations, site_of_ki
 use Rattle.schema_syntax_reader.specs.Sites.{sites_of_attr, sites_of_attrs}
 use Rattle.schema_syntax_reader.specs.UserFaults.{reserved}
 use Rattle.schema_syntax_reader.specs.Trees as tree
+use Rattle.schema_syntax_reader.proofs.SiteEquations.{of_set, of_record, of_attr}
+use Rattle.schema_syntax_reader.proofs.PlacedWords.{form_word, word_test}
 use Rattle.schema_readback.specs.Written.{WrittenType, WrittenAttributes, path, set, rec, no_more, attribute}
 use Rattle.schema_readback.specs.Notes.{SpellNotes}
 use Rattle.schema_readback.specs.Spellings.{IsIdent, SpellsName, bare, quoted, SpellsPath, one, more, SpellsType}
@@ -53,17 +56,8 @@ use Rattle.schema_readback.specs.Reads.{IsFaultless}
 use Rattle.schema_readback.specs.Said.{SaidType, SaidAttributes}
 use Rattle.schema_readback.specs.Views.{ViewOfType}
 use Rattle.schema_readback.proofs.Back.{view}
-use Rattle.schema_readback.proofs.Sites.{of_set, of_record, of_attr}
 use Rattle.schema_readback.proofs.Split.{unbetween, unclosed, no_lexeme}
-use Rattle.schema_readback.proofs.ReadingNotes.{key_here, form_word, word_test}
-
-pub all_left : {A : Type 0} (P : A → Type 0) (xs ys : List A) → All P (xs ++ ys) → All P xs
-all_left P [] ys h = All-nil P
-all_left P (x ∷ xs) ys h = All-cons P x xs (All-head P x (xs ++ ys) h) (all_left P xs ys (All-tail P x (xs ++ ys) h))
-
-pub all_right : {A : Type 0} (P : A → Type 0) (xs ys : List A) → All P (xs ++ ys) → All P ys
-all_right P [] ys h = h
-all_right P (x ∷ xs) ys h = all_right P xs ys (All-tail P x (xs ++ ys) h)
+use Rattle.schema_readback.proofs.ReadingNotes.{key_here}
 
 ident_word : (k : TokenKind) → is_ident k ≡ true → is_word_kind k ≡ true
 ident_word KwIn h = cc
@@ -236,7 +230,7 @@ module _ (source : List ℕ) where
             shows = shows_none;
           }
       back_attrs (S.last_attr {a = a} h) ys (tree.more name ty notes hn ht hs tree.none) f u s =
-          let r = back_attr h name ty notes.0 hn ht hs (all_left (IsFaultless source) (sites_of_attr a) [] f) u s in
+          let r = back_attr h name ty notes.0 hn ht hs (All-front (IsFaultless source) (sites_of_attr a) [] f) u s in
           record {
             written = attribute notes.0 name.node (out-AttrSyntax a).required r.written no_more;
             spell = last_attribute r.spell;
@@ -246,8 +240,8 @@ module _ (source : List ℕ) where
           (tree.more {ys = zs} name ty notes hn ht hs rest) f u s =
           let b = unbetween source ts c vs u s in
           let r = back_attr h name ty notes.0 hn ht hs
-          (all_left (IsFaultless source) (sites_of_attr a) (sites_of_attrs xs) f) b.left b.first in
-          let o = back_attrs others zs rest (all_right (IsFaultless source) (sites_of_attr a) (sites_of_attrs xs) f)
+          (All-front (IsFaultless source) (sites_of_attr a) (sites_of_attrs xs) f) b.left b.first in
+          let o = back_attrs others zs rest (All-back (IsFaultless source) (sites_of_attr a) (sites_of_attrs xs) f)
           b.right b.second in
           record {
             written = attribute notes.0 name.node (out-AttrSyntax a).required r.written o.written;

@@ -1,77 +1,34 @@
 -- Lawful words and strings: what stands there, and that it has no fault.
-use Rattle.std.proofs.Common.{◌≡◌, ℕ, ◌<◌, Bool, true, false, not, List, [], ◌∷◌, ◌++◌, slice_range, refl, sym}
-use Rattle.std.proofs.Common.{ap, ◌∙◌, subst, arith}
-use Rattle.std.specs.List.{list_all, All}
-use Rattle.std.specs.Str.{IsAscii, chars}
+use Rattle.std.proofs.Common.{◌≡◌, ℕ, true, false, not, List, [], ◌∷◌, ◌++◌, slice_range, sym}
+use Rattle.std.proofs.Common.{ap, ◌∙◌, subst}
+use Rattle.std.specs.List.{All}
+use Rattle.std.specs.Str.{chars}
 use Rattle.std.specs.Cmp.{first_so, second_so}
 use Rattle.std.proofs.lemmas.Str.{chars-IsAscii}
-use Rattle.std.proofs.lemmas.Str.Ascii.{IsAscii-nil, IsAscii-cons}
-use Rattle.std.proofs.lemmas.Bool.Decides.{nat_tests}
 use Rattle.std.proofs.lemmas.List.{append_cancel_right}
 use Rattle.std.proofs.lemmas.List.Elements.{All-nil, All-cons}
-use Rattle.cedar_identifiers.specs.Words.{is_reserved, is_id}
-use Rattle.cedar_data.specs.Words.{is_word_start, is_word_part, is_word}
-use Rattle.schema_syntax_grammar.specs.declared.token_kind.TokenKind.{TokenKind}
-use Rattle.schema_syntax_grammar.specs.declared.token_kind.TokenKind.TheVariants.{KwNamespace, KwEntity, KwExternal}
-use Rattle.schema_syntax_grammar.specs.declared.token_kind.TokenKind.TheVariants.{KwType, KwSet, KwAppliesTo}
-use Rattle.schema_syntax_grammar.specs.declared.token_kind.TokenKind.TheVariants.{KwPrincipal, KwAction, KwResource}
-use Rattle.schema_syntax_grammar.specs.declared.token_kind.TokenKind.TheVariants.{KwContext, KwTags, KwEnum, Identifier}
+use Rattle.std.proofs.lemmas.Bool.{not-true}
+use Rattle.cedar_data.specs.Words.{is_word}
+use Rattle.cedar_data.proofs.Ascii.{word_ascii}
 use Rattle.schema_syntax_grammar.specs.declared.token_kind.TokenKind.TheVariants.{StringLit}
 use Rattle.schema_syntax_grammar.specs.Grammar.{is_ident}
 use Rattle.schema_syntax_grammar.specs.Grammar.{is_name_kind}
+use Rattle.schema_syntax_grammar.proofs.Complete.{ident_is_name}
 use Rattle.schema_syntax_tokens.specs.declared.token.Token.{Token}
 use Rattle.schema_syntax_tokens.specs.Escapes.{Unescapes, BadEscape}
 use Rattle.schema_syntax_tokens.specs.Laid.{Lexeme, IsSpelled}
+use Rattle.cedar_identifiers.specs.Words.{is_reserved, is_id}
 use Rattle.schema_syntax_reader.specs.Leaves.{word_at}
 use Rattle.schema_syntax_reader.specs.Sites.{word, text, site_of_kind, name_sites}
 use Rattle.schema_syntax_reader.specs.UserFaults.{reserved, escape}
 use Rattle.schema_syntax_reader.specs.Trees.{IsNameOf}
+use Rattle.schema_syntax_reader.proofs.Fits.{site_word}
+use Rattle.schema_syntax_reader.proofs.NameReads.{named_word}
 use Rattle.schema_readback.specs.Reads.{IsFaultless}
 use Rattle.schema_readback.specs.Spellings as spelled
 
-part_ascii : (b : ℕ) → is_word_part b ≡ true → b < 128
-part_ascii b h = grind (arith, nat_tests)
-
-start_part : (b : ℕ) → is_word_start b ≡ true → is_word_part b ≡ true
-start_part b h = grind (arith, nat_tests)
-
-parts_ascii : (bs : List ℕ) → list_all is_word_part bs ≡ true → IsAscii bs
-parts_ascii [] h = IsAscii-nil
-parts_ascii (b ∷ bs) h = IsAscii-cons b bs (part_ascii b (first_so (is_word_part b) (list_all is_word_part bs) h))
-    (parts_ascii bs (second_so (is_word_part b) (list_all is_word_part bs) h))
-
-pub word_ascii : (w : List ℕ) → is_word w ≡ true → IsAscii w
-word_ascii [] h = IsAscii-nil
-word_ascii (b ∷ bs) h =
-    IsAscii-cons b bs (part_ascii b (start_part b (first_so (is_word_start b) (list_all is_word_part bs) h)))
-    (parts_ascii bs (second_so (is_word_start b) (list_all is_word_part bs) h))
-
 not_reserved : (w : List ℕ) → is_id w ≡ true → is_reserved w ≡ false
-not_reserved w h = opposite (is_reserved w) (second_so (is_word w) (not (is_reserved w)) h)
-  where
-    opposite : (b : Bool) → not b ≡ true → b ≡ false
-    opposite true h = cc
-    opposite false h = refl
-
-ident_name : (k : TokenKind) → is_ident k ≡ true → is_name_kind k ≡ true
-ident_name KwNamespace h = refl
-ident_name KwEntity h = refl
-ident_name KwExternal h = refl
-ident_name KwType h = refl
-ident_name KwSet h = refl
-ident_name KwAppliesTo h = refl
-ident_name KwPrincipal h = refl
-ident_name KwAction h = refl
-ident_name KwResource h = refl
-ident_name KwContext h = refl
-ident_name KwTags h = refl
-ident_name KwEnum h = refl
-ident_name Identifier h = refl
-ident_name _ h = cc
-
-site_word : (k : TokenKind) → is_ident k ≡ true → (t : Token) → site_of_kind k t ≡ word t
-site_word StringLit h t = cc
-site_word _ h t = refl
+not_reserved w h = not-true (is_reserved w) (second_so (is_word w) (not (is_reserved w)) h)
 
 module _ (source : List ℕ) where
   -- the bytes of a word are its characters
@@ -93,19 +50,14 @@ module _ (source : List ℕ) where
       (no_word_fault t (ap is_reserved (sym (word_here t x s i.id)) ∙ not_reserved x.text i.id))
       (All-nil (IsFaultless source)))
 
-  as_word : (k : TokenKind) (t : Token) (n : List ℕ) → is_ident k ≡ true → n ≡ word_at source t
-      → IsNameOf source k t n
-  as_word StringLit t n h e = cc
-  as_word _ t n h e = e
-
   pub name_kind : (t : Token) (x : Lexeme) (n : List ℕ) → IsSpelled source t x → spelled.SpellsName x n
       → is_name_kind t.kind ≡ true
-  name_kind t x n s (spelled.bare i) = ident_name t.kind (ident_kind t x s i)
+  name_kind t x n s (spelled.bare i) = ident_is_name t.kind (ident_kind t x s i)
   name_kind t x n s (spelled.quoted body k e u) = ap is_name_kind (s.0 ∙ k)
 
   pub name_here : (t : Token) (x : Lexeme) (n : List ℕ) → IsSpelled source t x → spelled.SpellsName x n
       → IsNameOf source t.kind t n
-  name_here t x n s (spelled.bare i) = as_word t.kind t n (ident_kind t x s i) (word_here t x s i.id)
+  name_here t x n s (spelled.bare i) = named_word source t n (ident_kind t x s i) (word_here t x s i.id)
   name_here t x n s (spelled.quoted body k e u) = subst (λ k. IsNameOf source k t n) (sym (s.0 ∙ k)) (body, s.1 ∙ e, u)
 
   module _ (never_both : (body value : List ℕ) (at : ℕ) → Unescapes body value → BadEscape body at → ⊥) where

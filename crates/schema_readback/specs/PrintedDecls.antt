@@ -2,18 +2,17 @@
 use Rattle.std.specs.Prelude.{◌≡◌, ℕ, ◌+◌, Bool, true, false, List, [], ◌∷◌, ◌++◌, Option, Some, None, codes}
 use Rattle.std.specs.List.{AllByRecursion}
 use Rattle.std.specs.Prelude.{map}
-use Rattle.cedar_identifiers.specs.Words.{is_id}
-use Rattle.cedar_names.specs.CanonicalText.{spaces}
 use Rattle.schema_syntax_grammar.specs.declared.token_kind.TokenKind.TheVariants.{Comma, Semi, Colon, PathSep, LBrace}
 use Rattle.schema_syntax_grammar.specs.declared.token_kind.TokenKind.TheVariants.{RBrace, LBracket, RBracket, Equals}
 use Rattle.schema_syntax_tokens.specs.Laid.{Piece, gap}
-use Rattle.schema_syntax_tree.specs.declared.pr.PR.{PR}
-use Rattle.schema_syntax_tree.specs.declared.pr.PR.TheVariants.{Principal, Resource}
+use Rattle.cedar_identifiers.specs.Words.{is_id}
+use Rattle.cedar_names.specs.CanonicalText.{spaces}
+use Rattle.schema_syntax_tree.specs.Words.{pr_text}
+use Rattle.schema_syntax_reader.specs.Leaves.{Notes}
 use Rattle.schema_readback.specs.Written.{WrittenType, WrittenAttributes, rec, no_more, attribute, WrittenRef}
 use Rattle.schema_readback.specs.Written.{WrittenMember, types, context_path, context_record, WrittenDecl, entity, enum}
 use Rattle.schema_readback.specs.Written.{external_entity, action, external_action, common, WrittenDeclared}
 use Rattle.schema_readback.specs.Written.{WrittenItem, namespace, outside}
-use Rattle.schema_syntax_reader.specs.Leaves.{Notes}
 use Rattle.schema_readback.specs.Printed.{word, mark, string, space, line_break, notes_pieces, path_pieces, type_pieces}
 use Rattle.schema_readback.specs.Printed.{IsProperPath, AreProperNotes, IsProperType, AreProperAttributes}
 
@@ -54,10 +53,6 @@ abbrev pub tags_pieces : Bool → Option WrittenType → List Piece
 tags_pieces closing None = []
 tags_pieces closing (Some t) = space ∷ word (codes "tags") ∷ space ∷ type_pieces closing 0 t
 
-abbrev pub role_word : PR → List ℕ
-role_word Principal = codes "principal"
-role_word Resource = codes "resource"
-
 -- an empty context has no space in its braces
 abbrev pub context_pieces : Bool → ℕ → WrittenAttributes → List Piece
 context_pieces closing base no_more = mark LBrace (codes "{") ∷ mark RBrace (codes "}") ∷ []
@@ -65,7 +60,7 @@ context_pieces closing base (attribute ns n r t xs) = type_pieces closing base (
 
 abbrev pub member_pieces : Bool → ℕ → WrittenMember → List Piece
 member_pieces closing base (types role ps) =
-    word (role_word role) ∷ mark Colon (codes ":") ∷ space ∷ bracketed path_pieces ps
+    word (pr_text role) ∷ mark Colon (codes ":") ∷ space ∷ bracketed path_pieces ps
 member_pieces closing base (context_path p) = word (codes "context") ∷ mark Colon (codes ":") ∷ space ∷ path_pieces p
 member_pieces closing base (context_record xs) =
     word (codes "context") ∷ mark Colon (codes ":") ∷ space ∷ context_pieces closing base xs

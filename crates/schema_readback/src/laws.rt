@@ -4,7 +4,7 @@ ghost use Rattle.std.specs.List.{All, AllByRecursion, AllZip, flat_map};
 ghost use Rattle.cedar_names.specs.Meaning.{PlainType, SchemaMeaning};
 ghost use Rattle.cedar_names.specs.CanonicalText.{type_text, schema_text};
 ghost use Rattle.schema_syntax_tokens.specs.declared.token.Token.{Token};
-ghost use Rattle.schema_syntax_tokens.specs.Laid.{Lexeme, Spells, IsReadAs, laid, lexemes_of};
+ghost use Rattle.schema_syntax_tokens.specs.Laid.{Lexeme, Spells, HasLexemes, laid, lexemes_of};
 ghost use Rattle.cedar_data.specs.declared.node.Node.{Node};
 ghost use Rattle.schema_syntax_parser.specs.declared.syntax.TypeSyntax.{TypeSyntax, out-TypeSyntax};
 ghost use Rattle.schema_syntax_tree.specs.declared.types.Type.{«Type»};
@@ -42,7 +42,7 @@ pub fn spelled_types_are_read()
 /// A proper type that is laid out has lexemes that spell it, and is read as them; the type of a meaning, laid out, is its text.
 pub fn laid_types_are_spelled()
     ensures spelled { (closing : Bool) (base : ℕ) (t : WrittenType) → IsProperType t → SpellsType (lexemes_of (type_pieces closing base t)) t }
-    ensures read { (closing : Bool) (base : ℕ) (t : WrittenType) → IsProperType t → IsReadAs (laid (type_pieces closing base t)) (lexemes_of (type_pieces closing base t)) }
+    ensures read { (closing : Bool) (base : ℕ) (t : WrittenType) → IsProperType t → HasLexemes (laid (type_pieces closing base t)) (lexemes_of (type_pieces closing base t)) }
     ensures meant { (closing : Bool) (base : ℕ) (t : PlainType) → laid (type_pieces closing base (type_of_meaning t)) ≡ type_text closing base t }
 {
     laid_text_is_read();
@@ -59,7 +59,7 @@ pub fn spelled_schemas_are_read()
 /// A schema of proper groups that is laid out has lexemes that spell it, and is read as them.
 pub fn laid_schemas_are_spelled()
     ensures spelled { (closing : Bool) (groups : List Group) → AllByRecursion IsProperGroup groups → SpellsSchema (lexemes_of (schema_pieces closing groups)) (flat_map group_items groups) }
-    ensures read { (closing : Bool) (groups : List Group) → AllByRecursion IsProperGroup groups → IsReadAs (laid (schema_pieces closing groups)) (lexemes_of (schema_pieces closing groups)) }
+    ensures read { (closing : Bool) (groups : List Group) → AllByRecursion IsProperGroup groups → HasLexemes (laid (schema_pieces closing groups)) (lexemes_of (schema_pieces closing groups)) }
 {
     laid_text_is_read();
     quoted_is_one_string();

@@ -4,24 +4,16 @@ use Rattle.std.proofs.Common.{inr}
 use Rattle.std.specs.Prelude.{◌⊎◌, cond}
 use Rattle.std.specs.List.{list_any}
 use Rattle.std.specs.Option.{unwrap_or}
-use Rattle.std.proofs.lemmas.Bool.{cases_Bool}
+use Rattle.std.proofs.lemmas.Bool.{cases_Bool, or_parts}
 use Rattle.schema_resolve.specs.Meanings.{IsFirst}
-
-nor_left : (a b : Bool) → (a || b) ≡ false → a ≡ false
-nor_left false b h = refl
-nor_left true b h = cc
-
-nor_right : (a b : Bool) → (a || b) ≡ false → b ≡ false
-nor_right false b h = h
-nor_right true b h = cc
 
 module _ {A : Type 0} (p : A → Bool) where
   found_behind : (before behind : List A) (x : A) → list_any p before ≡ false → p x ≡ true
       → find p (before ++ x ∷ behind) ≡ Some x
   found_behind [] behind x none here = ap (λ b. cond b (Some x) (find p behind)) here
   found_behind (y ∷ ys) behind x none here =
-      ap (λ b. cond b (Some y) (find p (ys ++ x ∷ behind))) (nor_left (p y) (list_any p ys) none)
-      ∙ found_behind ys behind x (nor_right (p y) (list_any p ys) none) here
+      ap (λ b. cond b (Some y) (find p (ys ++ x ∷ behind))) (or_parts (p y) (list_any p ys) none).0
+      ∙ found_behind ys behind x (or_parts (p y) (list_any p ys) none).1 here
 
   pub first_found : (xs : List A) (x : A) → IsFirst p xs x → find p xs ≡ Some x
   first_found xs x f = ap (find p) f.among ∙ found_behind f.before f.behind x f.none_before f.here

@@ -4,25 +4,25 @@ use Rattle.std.proofs.Common.{Option, Some, None}
 use Rattle.std.specs.Prelude.{is_some}
 use Rattle.std.specs.Option.{option_map}
 use Rattle.std.proofs.lemmas.List.{map-append}
+use Rattle.std.specs.List.{FoldsTo, flat_map}
 use Rattle.cedar_identifiers.specs.declared.conditional_name.ConditionalName.{ConditionalName}
 use Rattle.cedar_identifiers.specs.declared.internal_name.InternalName.{InternalName}
 use Rattle.cedar_identifiers.specs.declared.name_text.NameText as named
-use Rattle.schema_json.specs.declared.action_type.ActionEntityUID.{ActionEntityUID}
-use Rattle.schema_resolve.specs.Targets.{unless}
-use Rattle.std.specs.List.{FoldsTo, flat_map}
 use Rattle.cedar_identifiers.specs.declared.name.Name.{Name}
 use Rattle.cedar_identifiers.specs.declared.raw_name.RawName.{RawName}
+use Rattle.schema_json.specs.declared.action_type.ActionEntityUID.{ActionEntityUID}
 use Rattle.schema_json_walk.specs.Parts.{Part}
 use Rattle.schema_json_walk.specs.Visits.{takes_placed}
 use Rattle.schema_resolve_definitions.specs.Declarations.{name_of}
 use Rattle.schema_resolve_definitions.specs.Tests.{Tests, tests_of}
+use Rattle.schema_resolve.specs.Targets.{unless}
 use Rattle.schema_resolve.specs.Gathered.{uids, Gathers}
 use Rattle.schema_resolve.specs.ReferenceParts.{by_reference}
 use Rattle.schema_resolve.specs.Resolved.{untargeted_in}
 use Rattle.schema_resolve.specs.Undefined.{Undefined, type_reference, action_reference, types_among, actions_among}
 use Rattle.schema_resolve.specs.declared.gather.Gatherer.{Gatherer}
 
-types_both : (us vs : List Undefined) → types_among (us ++ vs) ≡ types_among us ++ types_among vs
+pub types_both : (us vs : List Undefined) → types_among (us ++ vs) ≡ types_among us ++ types_among vs
 types_both [] vs = refl
 types_both (type_reference c ∷ us) vs = ap (λ l. c ∷ l) (types_both us vs)
 types_both (action_reference id ty ∷ us) vs = types_both us vs

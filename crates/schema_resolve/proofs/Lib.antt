@@ -1,7 +1,7 @@
 pub mod Candidates
 mod Equations
 mod First
-mod Gathering
+pub mod Gathering
 mod Lists
 mod Meant
 pub mod Told

@@ -1,17 +1,19 @@
 -- What each of a list gives, item by item.
-use Rattle.std.proofs.Common.{◌≡◌, ℕ, zero, suc, ◌+◌, ◌<◌, ◌≤◌, List, [], ◌∷◌, ◌++◌, map, length, get_or, take, drop}
-use Rattle.std.proofs.Common.{refl, sym, ap, ◌∙◌, subst, append_assoc, append-nil, add-one, arith}
+use Rattle.std.proofs.Common.{◌≡◌, ℕ, suc, ◌+◌, ◌<◌, ◌≤◌, List, [], ◌∷◌, ◌++◌, map, length, get_or, take, drop}
+use Rattle.std.proofs.Common.{refl, sym, ap, ◌∙◌, subst, append-nil, add-one}
 use Rattle.std.proofs.Common.{Result, Ok, Err}
 use Rattle.std.specs.Result.{IsErrAnd, IfErr}
 use Rattle.std.specs.Map.{keys_of}
 use Rattle.std.proofs.Math.Seq.{take-suc}
 use Rattle.std.proofs.lemmas.List.{map-append, take_all}
+use Rattle.std.proofs.lemmas.Grind.{flat_map-append}
 use Rattle.std.specs.List.{flat_map}
-use Rattle.schema_resolve.specs.Undefined.{Undefined}
-use Rattle.schema_resolve.specs.Faults.{NamesFirst}
+use Rattle.schema_json_walk.proofs.Visiting.{parted}
 use Rattle.schema_resolve_errors.specs.declared.resolve_error.ResolveError.{ResolveError}
 use Rattle.schema_resolve_errors.specs.declared.resolve_error.ResolveError.TheVariants.{TypeNotDefined}
 use Rattle.schema_resolve_errors.specs.declared.resolve_error.ResolveError.TheVariants.{ActionNotDefined, Memory}
+use Rattle.schema_resolve.specs.Undefined.{Undefined}
+use Rattle.schema_resolve.specs.Faults.{NamesFirst}
 
 -- the first of the front, and the first behind where the front has none
 pub front_first : (us vs : List Undefined) (e : ResolveError) → NamesFirst us e → NamesFirst (us ++ vs) e
@@ -28,16 +30,11 @@ pub both_none : {A : Type 0} (us vs : List A) → us ≡ [] → vs ≡ [] → us
 both_none us vs p q = ap (λ l. l ++ vs) p ∙ q
 
 module _ {A U : Type 0} (u : A → List U) where
-  each_parts : (xs ys : List A) → flat_map u (xs ++ ys) ≡ flat_map u xs ++ flat_map u ys
-  each_parts [] ys = refl
-  each_parts (x ∷ xs) ys = ap (λ l. u x ++ l) (each_parts xs ys)
-      ∙ sym (append_assoc (u x) (flat_map u xs) (flat_map u ys))
-
   -- one more
   pub each_more : (xs : List A) (i : ℕ) (d : A) → i < length xs → d ≡ get_or xs i d → flat_map u (take i xs) ≡ []
       → u d ≡ [] → flat_map u (take (i + 1) xs) ≡ []
   each_more xs i d h e none here =
-      rw (add-one, take-suc xs i d h, each_parts (take i xs) (get_or xs i d ∷ []))
+      rw (add-one, take-suc xs i d h, flat_map-append u (take i xs) (get_or xs i d ∷ []))
       (both_none (flat_map u (take i xs)) (u (get_or xs i d) ++ []) none
       (append-nil (u (get_or xs i d)) ∙ ap u (sym e) ∙ here))
 
@@ -45,19 +42,12 @@ module _ {A U : Type 0} (u : A → List U) where
   pub each_all : (xs : List A) (i : ℕ) → length xs ≤ i → flat_map u (take i xs) ≡ [] → flat_map u xs ≡ []
   each_all xs i h none = ap (flat_map u) (sym (take_all i xs h)) ∙ none
 
-  each_split : (xs : List A) (i : ℕ) (d : A) → i < length xs → d ≡ get_or xs i d
-      → flat_map u xs ≡ flat_map u (take i xs) ++ (u d ++ flat_map u (drop (suc i) xs))
-  each_split [] i d h e = absurd (omega arith)
-  each_split (x ∷ xs) zero d h e = ap (λ a. u a ++ flat_map u xs) (sym e)
-  each_split (x ∷ xs) (suc i) d h e = ap (λ l. u x ++ l) (each_split xs i d (omega arith) e)
-      ∙ sym (append_assoc (u x) (flat_map u (take i xs)) (u d ++ flat_map u (drop (suc i) xs)))
-
 -- the first of an item, where those before it give none
 pub each_first : {A : Type 0} (u : A → List Undefined) (xs : List A) (i : ℕ) (d : A) (e : ResolveError)
     → i < length xs → d ≡ get_or xs i d → flat_map u (take i xs) ≡ [] → NamesFirst (u d) e
     → NamesFirst (flat_map u xs) e
 each_first u xs i d e h at none here =
-    subst (λ l. NamesFirst l e) (sym (each_split u xs i d h at))
+    subst (λ l. NamesFirst l e) (parted u xs i d h at)
     (behind_first (flat_map u (take i xs)) (u d ++ flat_map u (drop (suc i) xs)) e none
     (front_first (u d) (flat_map u (drop (suc i) xs)) e here))
 

@@ -1,5 +1,4 @@
-ghost use Rattle.std.specs.Prelude.{◌≡◌, ◌++◌, List, ℕ, Option, map, IfOk, IfErr, OnOk, ⊤};
-ghost use Rattle.std.specs.Option.{option_copied};
+ghost use Rattle.std.specs.Prelude.{◌≡◌, Option, IfOk, IfErr, OnOk, ⊤};
 ghost use Rattle.cedar_identifiers.specs.declared.conditional_name.ConditionalName.{ConditionalName};
 ghost use Rattle.schema_json_walk.specs.Visits.{part_of};
 ghost use Rattle.schema_resolve_definitions.specs.Declarations.{name_of};

@@ -3,7 +3,7 @@ ghost use Rattle.schema_resolve.specs.Faults.{NamesFirst};
 ghost use Rattle.schema_resolve.specs.Renamed.{renamed, renamed_common, renamed_context, renamed_standard, renamed_kind, renamed_entity, renamed_apply, renamed_uid, renamed_action};
 ghost use Rattle.std.specs.List.{flat_map};
 ghost use Rattle.std.specs.Option.{option_map, option_map_or};
-ghost use Rattle.schema_json_walk.specs.Walk.{of_type, of_common, of_context, of_standard, of_kind, of_entity, of_apply, of_uid, of_action};
+ghost use Rattle.schema_json_walk.specs.Walk.{of_type, of_common, of_standard, of_kind, of_entity, of_apply, of_uid, of_action};
 ghost use Rattle.schema_resolve.specs.ReferenceParts.{by_reference};
 
 use crate::rename_types::rename_type;

@@ -1,12 +1,12 @@
 -- The types of actions, by which actions there are.
-use Rattle.std.proofs.Common.{◌≡◌, ℕ, Bool, true, false, ◌||◌, List, [], ◌∷◌, map, refl, sym, ap, ◌∙◌, inl, inr}
+use Rattle.std.proofs.Common.{◌≡◌, ℕ, Bool, true, false, List, [], ◌∷◌, map, refl, sym, ap, ◌∙◌, inl, inr}
 use Rattle.std.specs.Prelude.{◌⊎◌}
 use Rattle.std.specs.Str.{bytes_eq, encode_utf8_all}
 use Rattle.std.specs.Cmp.{first_so}
-use Rattle.std.proofs.lemmas.Bool.{or_cases, and_from}
+use Rattle.std.proofs.lemmas.Bool.{or_cases, and_from, or_left, or_right}
 use Rattle.std.proofs.lemmas.Slice.Eq.{bytes_eq-Decides}
 use Rattle.cedar_names.specs.Definitions.{among, among_actions, same_name, same_action}
-use Rattle.cedar_names.proofs.Defined.{equal_names}
+use Rattle.cedar_names.proofs.Defined.{equal_names, name_itself}
 
 abbrev Action : Type 0
 Action = List (List ℕ) × List ℕ
@@ -14,22 +14,10 @@ Action = List (List ℕ) × List ℕ
 abbrev types_of : List (List (List ℕ) × List ℕ) → List (List (List ℕ))
 types_of xs = map (λ a. a.0) xs
 
-or_left : (x y : Bool) → x ≡ true → (x || y) ≡ true
-or_left true y h = refl
-or_left false y h = cc
-
-or_right : (x y : Bool) → y ≡ true → (x || y) ≡ true
-or_right true y h = refl
-or_right false y h = h
-
 same_bool : (a b : Bool) → (a ≡ true → b ≡ true) → (b ≡ true → a ≡ true) → a ≡ b
 same_bool true b f g = sym (f refl)
 same_bool false true f g = g refl
 same_bool false false f g = refl
-
-name_itself : (n : List (List ℕ)) → same_name n n ≡ true
-name_itself [] = refl
-name_itself (x ∷ xs) = and_from (bytes_eq x x) (same_name xs xs) ((bytes_eq-Decides x x).1 refl) (name_itself xs)
 
 action_itself : (a : Action) → same_action a a ≡ true
 action_itself a = and_from (same_name a.0 a.0) (bytes_eq (encode_utf8_all a.1) (encode_utf8_all a.1))

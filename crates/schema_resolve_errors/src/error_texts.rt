@@ -1,4 +1,4 @@
-ghost use Rattle.std.specs.Prelude.{◌≡◌, ◌++◌, map, Ok, None, IfOk, IsSomeAnd, OnOk};
+ghost use Rattle.std.specs.Prelude.{◌≡◌, ◌++◌, Ok, None, IfOk, IsSomeAnd, OnOk};
 ghost use Rattle.schema_resolve_errors.specs.ErrorTexts.{type_texts, action_texts, unresolved_text, undeclared_text, undeclared_actions_help, name_labels, type_labels, action_labels, resolve_error_text, resolve_error_help, resolve_error_labels};
 
 use crate::name_texts::name_texts;

@@ -4,8 +4,10 @@ use Rattle.std.proofs.Common.{None, refl, sym, ap, ◌∙◌, subst}
 use Rattle.std.specs.Prelude.{if◌then◌else◌}
 use Rattle.std.specs.List.{list_any}
 use Rattle.std.specs.Str.{bytes_eq}
-use Rattle.std.proofs.Math.Bool.{and-false}
+use Rattle.std.proofs.Math.Bool.{and-false, or-false, and-true}
 use Rattle.std.proofs.lemmas.Slice.Eq.{bytes_eq-Decides}
+use Rattle.std.proofs.lemmas.Bool.{or_parts}
+use Rattle.cedar_data.proofs.Lists.{list_any-map}
 use Rattle.cedar_identifiers.specs.Names.{texts_of}
 use Rattle.cedar_names.specs.Definitions.{among, same_name}
 use Rattle.cedar_names.specs.Tables.{table_names, table_has}
@@ -14,11 +16,7 @@ use Rattle.schema_resolve_definitions.specs.Defined.{builtins, is_hidden, names_
 use Rattle.schema_resolve_definitions.specs.Tests.{Tests}
 use Rattle.schema_resolve_lookup.specs.Sought.{words_before}
 use Rattle.schema_resolve_lookup.specs.declared.sought.Before.{Before}
-use Rattle.schema_resolve_lookup.proofs.Looked.{same_behind, any_given, any_seen, any_where}
-
-or_false : (b : Bool) → (b || false) ≡ b
-or_false true = refl
-or_false false = refl
+use Rattle.schema_resolve_lookup.proofs.Looked.{same_behind, any_given, any_where}
 
 abbrev pub cedar : List (List ℕ)
 cedar = codes "__cedar" ∷ []
@@ -28,12 +26,8 @@ hidden_alike : (t : Tests) (l w : List ℕ)
     → (bytes_eq l w && not (is_hidden t w)) ≡ (not (is_hidden t l) && bytes_eq l w)
 hidden_alike t l w = go (bytes_eq l w) refl
   where
-    turned : (b : Bool) → b ≡ (b && true)
-    turned true = refl
-    turned false = refl
-
     go : (b : Bool) → bytes_eq l w ≡ b → (b && not (is_hidden t w)) ≡ (not (is_hidden t l) && b)
-    go true e = ap (λ x. not (is_hidden t x)) (sym ((bytes_eq-Decides l w).0 e)) ∙ turned (not (is_hidden t l))
+    go true e = ap (λ x. not (is_hidden t x)) (sym ((bytes_eq-Decides l w).0 e)) ∙ sym (and-true (not (is_hidden t l)))
     go false e = sym (and-false (not (is_hidden t l)))
 
 -- a word by itself
@@ -47,7 +41,7 @@ alone_there t l w = go (is_hidden t w) refl ∙ hidden_alike t l w
     go true e = ap (λ b. b || false) (and-false (bytes_eq l (codes "__cedar"))) ∙ sym (and-false (bytes_eq l w))
     go false e =
         ap (λ b. b || ((bytes_eq l w && true) || false)) (and-false (bytes_eq l (codes "__cedar")))
-        ∙ or_false (bytes_eq l w && true)
+        ∙ or-false (bytes_eq l w && true)
 
 pub builtin_alone : (t : Tests) (l : List ℕ) (ws : List (List ℕ))
     → among (names_of_builtins t ws) (l ∷ []) ≡ (not (is_hidden t l) && list_any (bytes_eq l) ws)
@@ -58,7 +52,7 @@ builtin_alone t l ws =
 -- a word behind others
 behind_there : (t : Tests) (x : List ℕ) (xs : List (List ℕ)) (l w : List ℕ)
     → among (names_of_builtin t w) (x ∷ xs ++ l ∷ []) ≡ (same_name (x ∷ xs) cedar && bytes_eq l w)
-behind_there t x xs l w = go (is_hidden t w) ∙ ap (λ b. b || false) (same_behind (x ∷ xs) cedar l w) ∙ or_false _
+behind_there t x xs l w = go (is_hidden t w) ∙ ap (λ b. b || false) (same_behind (x ∷ xs) cedar l w) ∙ or-false _
   where
     none : (ys : List (List ℕ)) → (bytes_eq x w && same_name (ys ++ l ∷ []) []) ≡ false
     none [] = and-false (bytes_eq x w)
@@ -71,7 +65,7 @@ behind_there t x xs l w = go (is_hidden t w) ∙ ap (λ b. b || false) (same_beh
     go true = refl
     go false =
         ap (λ b. same_name (x ∷ xs ++ l ∷ []) (cedar ++ w ∷ []) || b)
-        (or_false (bytes_eq x w && same_name (xs ++ l ∷ []) []) ∙ none xs)
+        (or-false (bytes_eq x w && same_name (xs ++ l ∷ []) []) ∙ none xs)
 
 pub builtin_behind : (t : Tests) (x : List ℕ) (xs : List (List ℕ)) (l : List ℕ) (ws : List (List ℕ))
     → among (names_of_builtins t ws) (x ∷ xs ++ l ∷ []) ≡ (same_name (x ∷ xs) cedar && list_any (bytes_eq l) ws)
@@ -79,6 +73,11 @@ builtin_behind t x xs l ws =
     any_given (same_name (x ∷ xs ++ l ∷ [])) (names_of_builtin t) ws
     ∙ (λ i. list_any (λ w. behind_there t x xs l w i) ws)
     ∙ any_where (same_name (x ∷ xs) cedar) (bytes_eq l) ws
+
+-- a test that passes beside another
+with_true : (a b : Bool) → b ≡ true → a ≡ (a && b)
+with_true true b e = sym e
+with_true false b e = refl
 
 -- what is told of a name whose last word is builtin, behind a namespace or by itself, and of another
 pub told_behind : (t : Tests) (o : Option Before) (before : Before) (l : List ℕ) (ws : List (List ℕ)) (answer : Bool)
@@ -88,10 +87,6 @@ told_behind t o before l ws answer is builtin h =
     subst (λ o. answer ≡ among (names_of_builtins t ws) (words_before o ++ l ∷ [])) (sym is)
     (h ∙ with_true (same_name (words_before (Some before)) cedar) (list_any (bytes_eq l) ws) builtin
     ∙ sym (builtin_behind t before.first.now.text (texts_of before.others.now) l ws))
-  where
-    with_true : (a b : Bool) → b ≡ true → a ≡ (a && b)
-    with_true true b e = sym e
-    with_true false b e = refl
 
 pub told_alone : (t : Tests) (o : Option Before) (l : List ℕ) (ws : List (List ℕ)) (hidden : Bool) → o ≡ None
     → list_any (bytes_eq l) ws ≡ true
@@ -99,10 +94,6 @@ pub told_alone : (t : Tests) (o : Option Before) (l : List ℕ) (ws : List (List
     → not hidden ≡ among (names_of_builtins t ws) (words_before o ++ l ∷ [])
 told_alone t None l ws hidden is builtin h =
     ap not h ∙ with_true (not (is_hidden t l)) (list_any (bytes_eq l) ws) builtin ∙ sym (builtin_alone t l ws)
-  where
-    with_true : (a b : Bool) → b ≡ true → a ≡ (a && b)
-    with_true true b e = sym e
-    with_true false b e = refl
 told_alone t (Some before) l ws hidden is builtin h = absurd (cc)
 
 pub shown_alone : (t : Tests) (o : Option Before) (l : List ℕ) (ws : List (List ℕ)) → o ≡ None
@@ -128,19 +119,11 @@ not_hidden t l [] there none = absurd (cc)
 not_hidden t l (w ∷ ws) there none =
     by (bytes_eq l w) refl
     (λ e. not_hidden t l ws (ap (λ b. b || list_any (bytes_eq l) ws) (sym e) ∙ there)
-    (second (is_hidden t w) (list_any (is_hidden t) ws) none))
+    (or_parts (is_hidden t w) (list_any (is_hidden t) ws) none).1)
   where
-    first : (a b : Bool) → (a || b) ≡ false → a ≡ false
-    first false b e = refl
-    first true b e = e
-
-    second : (a b : Bool) → (a || b) ≡ false → b ≡ false
-    second false b e = e
-    second true b e = absurd (cc)
-
     by : (b : Bool) → bytes_eq l w ≡ b → (bytes_eq l w ≡ false → is_hidden t l ≡ false) → is_hidden t l ≡ false
     by true e others = ap (is_hidden t) ((bytes_eq-Decides l w).0 e)
-        ∙ first (is_hidden t w) (list_any (is_hidden t) ws) none
+        ∙ (or_parts (is_hidden t w) (list_any (is_hidden t) ws) none).0
     by false e others = others e
 
 -- behind three that are not
@@ -163,4 +146,4 @@ is_builtin_word table w =
     joined (bytes_eq w (codes "Bool")) (bytes_eq w (codes "Long")) (bytes_eq w (codes "String"))
     (list_any (bytes_eq w) (table_names table))
     ∙ ap (λ b. list_any (bytes_eq w) (codes "Bool" ∷ codes "Long" ∷ codes "String" ∷ []) || b)
-    (any_seen (bytes_eq w) (λ n. n.id.text) table.names)
+    (list_any-map (bytes_eq w) (λ n. n.id.text) table.names)

@@ -3,9 +3,10 @@ use Rattle.std.proofs.Common.{◌≡◌, ℕ, Bool, true, false, ◌&&◌, ◌||
 use Rattle.std.proofs.Common.{None, refl, sym, ap, ◌∙◌}
 use Rattle.std.specs.List.{flat_map, list_any}
 use Rattle.std.specs.Str.{bytes_eq, encode_utf8_all}
-use Rattle.std.proofs.Math.Bool.{and-false}
+use Rattle.std.proofs.Math.Bool.{and-false, and-true, and_assoc}
 use Rattle.std.proofs.lemmas.List.{map-append}
 use Rattle.std.proofs.lemmas.List.Folds.{list_any-append}
+use Rattle.cedar_data.proofs.Lists.{list_any-map}
 use Rattle.cedar_identifiers.specs.Names.{components_of}
 use Rattle.cedar_identifiers.specs.declared.id.Id.{Id}
 use Rattle.cedar_identifiers.specs.declared.name.Name.{Name}
@@ -17,11 +18,7 @@ use Rattle.schema_json.specs.declared.fragment.Fragment.{Fragment}
 use Rattle.schema_json.specs.declared.fragment.NamespaceDefinition.{NamespaceDefinition}
 use Rattle.schema_resolve_definitions.specs.Declarations.{declared, declared_name, action_type, commons_in, entities_in}
 use Rattle.schema_resolve_definitions.specs.Declarations.{actions_in}
-use Rattle.schema_resolve_lookup.specs.Sought.{namespace_words, is_there, passes_in}
-
-and_true : (b : Bool) → (b && true) ≡ b
-and_true true = refl
-and_true false = refl
+use Rattle.schema_resolve_lookup.specs.Sought.{namespace_words, is_some_list, passes_in}
 
 -- what one test or another tells
 pub or_passed : (first x y all : Bool) → first ≡ true → first ≡ x → all ≡ (x || y) → first ≡ all
@@ -29,10 +26,6 @@ or_passed first x y all h e whole = h ∙ sym (whole ∙ ap (λ b. b || y) (sym 
 
 pub or_next : (first second x y all : Bool) → first ≡ false → first ≡ x → second ≡ y → all ≡ (x || y) → second ≡ all
 or_next first second x y all h e k whole = k ∙ sym (whole ∙ ap (λ b. b || y) (sym e ∙ h))
-
-and_assoc : (a b c : Bool) → (a && (b && c)) ≡ ((a && b) && c)
-and_assoc true b c = refl
-and_assoc false b c = refl
 
 and_first : (a b c : Bool) → ((a && b) && c) ≡ (b && (a && c))
 and_first true b c = refl
@@ -50,11 +43,12 @@ some_words (y ∷ ys) m = refl
 
 pub same_behind : (xs ys : List (List ℕ)) (l m : List ℕ)
     → same_name (xs ++ l ∷ []) (ys ++ m ∷ []) ≡ (same_name xs ys && bytes_eq l m)
-same_behind [] [] l m = and_true (bytes_eq l m)
+same_behind [] [] l m = and-true (bytes_eq l m)
 same_behind [] (y ∷ ys) l m = ap (λ b. bytes_eq l y && b) (some_words ys m) ∙ and-false (bytes_eq l y)
 same_behind (x ∷ xs) [] l m = ap (λ b. bytes_eq x m && b) (no_words xs l) ∙ and-false (bytes_eq x m)
 same_behind (x ∷ xs) (y ∷ ys) l m =
-    ap (λ b. bytes_eq x y && b) (same_behind xs ys l m) ∙ and_assoc (bytes_eq x y) (same_name xs ys) (bytes_eq l m)
+    ap (λ b. bytes_eq x y && b) (same_behind xs ys l m)
+    ∙ sym (and_assoc (bytes_eq x y) (same_name xs ys) (bytes_eq l m))
 
 -- whether a word is `Action`, told of a copy of it
 pub is_action_word : (l lent : List ℕ) (answer : Bool) → lent ≡ l → answer ≡ bytes_eq lent (codes "Action")
@@ -68,18 +62,13 @@ any_given test give [] = refl
 any_given test give (x ∷ xs) =
     list_any-append test (give x) (flat_map give xs) ∙ ap (λ b. list_any test (give x) || b) (any_given test give xs)
 
-pub any_seen : {A B : Type 0} (test : B → Bool) (see : A → B) (xs : List A)
-    → list_any test (map see xs) ≡ list_any (λ x. test (see x)) xs
-any_seen test see [] = refl
-any_seen test see (x ∷ xs) = ap (λ b. test (see x) || b) (any_seen test see xs)
-
 pub any_where : {A : Type 0} (b : Bool) (test : A → Bool) (xs : List A)
     → list_any (λ x. b && test x) xs ≡ (b && list_any test xs)
 any_where true test xs = refl
 any_where false test [] = refl
 any_where false test (x ∷ xs) = any_where false test xs
 
-any_of_all : {A : Type 0} (b : Bool) (xs : List A) → list_any (λ x. b) xs ≡ (b && is_there xs)
+any_of_all : {A : Type 0} (b : Bool) (xs : List A) → list_any (λ x. b) xs ≡ (b && is_some_list xs)
 any_of_all true [] = refl
 any_of_all true (x ∷ xs) = refl
 any_of_all false [] = refl
@@ -108,24 +97,24 @@ module _ {G : named.Ghosts RawName} (ns : Option Name) (n : NamespaceDefinition 
   pub common_there : among (commons_in ns n) (xs ++ l ∷ [])
       ≡ (same_name xs (namespace_words ns) && list_any (λ e. bytes_eq l e.0.id.id.text) n.common_types)
   common_there =
-      any_seen (same_name (xs ++ l ∷ [])) (λ e. components_of (declared_name ns e.0.id.id)) n.common_types
+      list_any-map (same_name (xs ++ l ∷ [])) (λ e. components_of (declared_name ns e.0.id.id)) n.common_types
       ∙ (λ i. list_any (λ e. declared_there ns e.0.id.id xs l i) n.common_types)
       ∙ any_where (same_name xs (namespace_words ns)) (λ e. bytes_eq l e.0.id.id.text) n.common_types
 
   pub entity_there : among (entities_in ns n) (xs ++ l ∷ [])
       ≡ (same_name xs (namespace_words ns) && list_any (λ e. bytes_eq l e.0.id.text) n.entity_types)
   entity_there =
-      any_seen (same_name (xs ++ l ∷ [])) (λ e. components_of (declared_name ns e.0.id)) n.entity_types
+      list_any-map (same_name (xs ++ l ∷ [])) (λ e. components_of (declared_name ns e.0.id)) n.entity_types
       ∙ (λ i. list_any (λ e. declared_there ns e.0.id xs l i) n.entity_types)
       ∙ any_where (same_name xs (namespace_words ns)) (λ e. bytes_eq l e.0.id.text) n.entity_types
 
   pub action_there : among (map (λ a. a.0) (actions_in ns n)) (xs ++ l ∷ [])
-      ≡ ((same_name xs (namespace_words ns) && bytes_eq l (codes "Action")) && is_there n.actions)
+      ≡ ((same_name xs (namespace_words ns) && bytes_eq l (codes "Action")) && is_some_list n.actions)
   action_there =
-      any_seen (same_name (xs ++ l ∷ [])) (λ a. a.0) (actions_in ns n)
-      ∙ any_seen (λ a. same_name (xs ++ l ∷ []) a.0) (λ e. (components_of (action_type ns), e.0)) n.actions
+      list_any-map (same_name (xs ++ l ∷ [])) (λ a. a.0) (actions_in ns n)
+      ∙ list_any-map (λ a. same_name (xs ++ l ∷ []) a.0) (λ e. (components_of (action_type ns), e.0)) n.actions
       ∙ any_of_all (same_name (xs ++ l ∷ []) (components_of (action_type ns))) n.actions
-      ∙ ap (λ b. b && is_there n.actions)
+      ∙ ap (λ b. b && is_some_list n.actions)
       (ap (same_name (xs ++ l ∷ [])) (action_words ns) ∙ same_behind xs (namespace_words ns) l (codes "Action"))
 
   pub named_there : (id : List ℕ) → among_actions (actions_in ns n) (xs ++ l ∷ [], id)
@@ -133,7 +122,7 @@ module _ {G : named.Ghosts RawName} (ns : Option Name) (n : NamespaceDefinition 
       && list_any (λ e. bytes_eq (encode_utf8_all id) (encode_utf8_all e.0)) n.actions)
   named_there id =
       let told = list_any (λ e. bytes_eq (encode_utf8_all id) (encode_utf8_all e.0)) n.actions in
-      any_seen (same_action (xs ++ l ∷ [], id)) (λ e. (components_of (action_type ns), e.0)) n.actions
+      list_any-map (same_action (xs ++ l ∷ [], id)) (λ e. (components_of (action_type ns), e.0)) n.actions
       ∙ any_where (same_name (xs ++ l ∷ []) (components_of (action_type ns)))
       (λ e. bytes_eq (encode_utf8_all id) (encode_utf8_all e.0)) n.actions
       ∙ ap (λ b. b && told)
@@ -154,16 +143,16 @@ module _ {G : named.Ghosts RawName} (f : Fragment RawName G) (xs : List (List �
       ∙ (λ i. list_any (λ e. entity_there e.0 e.1 xs l i) f.0)
 
   pub types_given : among (map (λ a. a.0) (declared f).actions) (xs ++ l ∷ [])
-      ≡ (bytes_eq l (codes "Action") && passes_in f xs (λ n. is_there n.actions))
+      ≡ (bytes_eq l (codes "Action") && passes_in f xs (λ n. is_some_list n.actions))
   types_given =
-      any_seen (same_name (xs ++ l ∷ [])) (λ (a : List (List ℕ) × List ℕ). a.0) (declared f).actions
+      list_any-map (same_name (xs ++ l ∷ [])) (λ (a : List (List ℕ) × List ℕ). a.0) (declared f).actions
       ∙ any_given (λ (a : List (List ℕ) × List ℕ). same_name (xs ++ l ∷ []) a.0) (λ e. actions_in e.0 e.1) f.0
-      ∙ sym (λ i. list_any (λ e. any_seen (same_name (xs ++ l ∷ [])) (λ (a : List (List ℕ) × List ℕ). a.0)
+      ∙ sym (λ i. list_any (λ e. list_any-map (same_name (xs ++ l ∷ [])) (λ (a : List (List ℕ) × List ℕ). a.0)
       (actions_in e.0 e.1) i) f.0)
       ∙ (λ i. list_any (λ e. (action_there e.0 e.1 xs l
-      ∙ and_first (same_name xs (namespace_words e.0)) (bytes_eq l (codes "Action")) (is_there e.1.actions)) i) f.0)
+      ∙ and_first (same_name xs (namespace_words e.0)) (bytes_eq l (codes "Action")) (is_some_list e.1.actions)) i) f.0)
       ∙ any_where (bytes_eq l (codes "Action"))
-      (λ e. same_name xs (namespace_words e.0) && is_there e.1.actions) f.0
+      (λ e. same_name xs (namespace_words e.0) && is_some_list e.1.actions) f.0
 
   pub actions_given : (id : List ℕ) → among_actions (declared f).actions (xs ++ l ∷ [], id)
       ≡ (bytes_eq l (codes "Action")

@@ -11,14 +11,7 @@ use Rattle.std.specs.Result.{is_ok}
 use Rattle.std.proofs.lemmas.Bool.{cases_lt}
 use Rattle.std.proofs.lemmas.List.Folds.{list_any_at}
 use Rattle.std.proofs.lemmas.List.Sorted.{searchable_from_sorted}
-
-or_false : (b : Bool) → (b || false) ≡ b
-or_false true = refl
-or_false false = refl
-
-and_true : (b : Bool) → (b && true) ≡ b
-and_true true = refl
-and_true false = refl
+use Rattle.std.proofs.Math.Bool.{or-false, and-true}
 
 module _ {K X : Type 0} {R : K → K → Ordering} (o : IsTotalOrder R) (key : X → K) where
   key_at : (P : K → Type 0) (xs : List X) (i : ℕ) (d : X) → AllByRecursion P (map key xs) → i < length xs
@@ -61,7 +54,7 @@ module _ {K X : Type 0} {R : K → K → Ordering} (o : IsTotalOrder R) (key : X
     found_at test [] up at d h e = absurd (omega arith)
     found_at test (x ∷ xs) up zero d h e =
         ap (λ b. (b && test x) || list_any (λ z. same z && test z) xs) (stands x Equal e)
-        ∙ ap (λ b. test x || b) (none_behind test x xs e up.0) ∙ or_false (test x)
+        ∙ ap (λ b. test x || b) (none_behind test x xs e up.0) ∙ or-false (test x)
     found_at test (x ∷ xs) up (suc at) d h e =
         let y = get_or xs at d in
         let less : R (key x) (key y) ≡ Less = key_at (λ k. R (key x) k ≡ Less) xs at d up.0 (omega arith) in
@@ -112,4 +105,4 @@ module _ {K X : Type 0} {R : K → K → Ordering} (o : IsTotalOrder R) (key : X
     found_any [] up (Ok at) h found = absurd (omega arith)
     found_any (x ∷ xs) up (Ok at) h found = sym (list_any_at same (x ∷ xs) at x h (stands _ Equal (found x)))
     found_any xs up (Err at) h found =
-        sym (found_none (λ x. true) xs up at found) ∙ (λ i. list_any (λ x. and_true (same x) i) xs)
+        sym (found_none (λ x. true) xs up at found) ∙ (λ i. list_any (λ x. and-true (same x) i) xs)

@@ -36,9 +36,9 @@ namespace_ids None = []
 namespace_ids (Some ns) = ids_of ns.name
 
 -- there is an item
-abbrev pub is_there : {A : Type 0} → List A → Bool
-is_there [] = false
-is_there (x ∷ xs) = true
+abbrev pub is_some_list : {A : Type 0} → List A → Bool
+is_some_list [] = false
+is_some_list (x ∷ xs) = true
 
 -- a namespace of these words passes the test
 abbrev pub passes_in : {N : Type 0} {G : named.Ghosts N} → Fragment N G → List (List ℕ)

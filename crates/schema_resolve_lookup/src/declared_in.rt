@@ -4,7 +4,7 @@ ghost use Rattle.std.specs.Result.{is_ok};
 ghost use Rattle.std.specs.Str.{bytes_eq, encode_utf8_all};
 ghost use Rattle.cedar_names.specs.Definitions.{among, among_actions};
 ghost use Rattle.schema_resolve_definitions.specs.Declarations.{declared};
-ghost use Rattle.schema_resolve_lookup.specs.Sought.{name_sought, is_there};
+ghost use Rattle.schema_resolve_lookup.specs.Sought.{name_sought, is_some_list};
 
 use crate::namespaces::{Searched, namespace_of};
 use crate::near::Recent;
@@ -180,7 +180,7 @@ fn has_action(actions: &Map<Text, ActionType<RawName>>, id: &Text) -> bool
 
 // Whether the namespace has an action.
 fn has_actions(definition: &NamespaceDefinition<RawName>) -> bool
-    ensures { result ≡ is_there definition.now.actions }
+    ensures { result ≡ is_some_list definition.now.actions }
 {
     !definition.actions.as_slice().is_empty()
 }

@@ -1,7 +1,7 @@
 ghost use Rattle.std.specs.Prelude.{◌≡◌, [], Some, IfSome};
 ghost use Rattle.std.specs.Option.{option_copied};
 ghost use Rattle.std.specs.Cmp.Lexicographic.{slice_cmp};
-ghost use Rattle.cedar_names.specs.Orders.{ids_in_order};
+ghost use Rattle.cedar_names.specs.Orders.{id_text_order};
 ghost use Rattle.schema_resolve_lookup.specs.Sought.{ids_before, namespace_ids, words_before, passes_in, passes};
 
 use crate::near::Recent;
@@ -108,7 +108,7 @@ fn found_at<'a>(
 
 // How the namespace stands to the one that is sought.
 fn compare(ns: &Option<Name>, sought: Option<Before<'_>>) -> Ordering
-    ensures { result ≡ slice_cmp ids_in_order (namespace_ids ns.now) (ids_before sought.entry) }
+    ensures { result ≡ slice_cmp id_text_order (namespace_ids ns.now) (ids_before sought.entry) }
 {
     match ns {
         None => match sought {
@@ -124,7 +124,7 @@ fn compare(ns: &Option<Name>, sought: Option<Before<'_>>) -> Ordering
 
 // How the namespace stands to these words: by the first of each, and then by the others in turn.
 fn compare_named(ns: &Name, before: Before<'_>) -> Ordering
-    ensures { result ≡ slice_cmp ids_in_order (namespace_ids (Some ns.now)) (ids_before (Some before.entry)) }
+    ensures { result ≡ slice_cmp id_text_order (namespace_ids (Some ns.now)) (ids_before (Some before.entry)) }
 {
     match ns.name.first.cmp(before.first) {
         Ordering::Equal => ns.name.others.as_slice().cmp(before.others),

@@ -1,50 +1,83 @@
 -- What types are with every place erased, and when two are then the same.
-use Rattle.std.proofs.Common.{◌≡◌, ℕ, Bool, true, List, [], ◌∷◌, map, Option, None, refl, sym, ap, ◌∙◌, subst}
-use Rattle.std.proofs.Math.Bool.{Bool-set}
+use Rattle.std.proofs.Common.{◌≡◌, Bool, List, ◌∷◌, map, Option, None, sym, ap, ◌∙◌}
 use Rattle.cedar_data.specs.Span.{Span}
-use Rattle.cedar_identifiers.specs.Words.{is_id}
-use Rattle.cedar_identifiers.specs.Names.{components_of, texts_of}
-use Rattle.cedar_identifiers.specs.declared.id.Id.{Id}
+use Rattle.cedar_identifiers.specs.Names.{components_of}
 use Rattle.cedar_identifiers.specs.declared.annotations.Annotations.{Annotations}
 use Rattle.cedar_identifiers.specs.declared.raw_name.RawName.{RawName}
-use Rattle.schema_json.specs.declared.types.Type.{«Type» as Shape, Type-F, fold-roll-Type}
+use Rattle.cedar_identifiers.specs.declared.unreserved_id.UnreservedId.{UnreservedId}
+use Rattle.cedar_identifiers.proofs.Same.{ids_same}
+use Rattle.schema_syntax_reader.specs.Leaves.{Notes}
+use Rattle.schema_json.specs.declared.types.Type.{«Type» as Shape}
 use Rattle.schema_json.specs.declared.types.Type.TheVariants as shape
-use Rattle.schema_json.specs.declared.types.TypeVariant.{TypeVariant, TypeVariant-F, fold-roll-TypeVariant}
+use Rattle.schema_json.specs.declared.types.TypeVariant.{TypeVariant}
 use Rattle.schema_json.specs.declared.types.TypeVariant.TheVariants as variant
 use Rattle.schema_json.specs.declared.types.RecordType.{RecordType, roll-RecordType, out-RecordType}
 use Rattle.schema_json.specs.declared.types.RecordType.{fold_out-RecordType}
 use Rattle.schema_json.specs.declared.types.TypeOfAttribute.{TypeOfAttribute, roll-TypeOfAttribute, out-TypeOfAttribute}
 use Rattle.schema_json.specs.declared.types.TypeOfAttribute.{fold_out-TypeOfAttribute}
+use Rattle.schema_json.proofs.Layers.{variant_made, reference_made, string_made, long_made, boolean_made, set_made}
+use Rattle.schema_json.proofs.Layers.{record_made, entity_made, either_made, extension_made}
 use Rattle.schema_convert_types.specs.Types.{AttributeEntry}
-use Rattle.schema_syntax_reader.specs.Leaves.{Notes}
 use Rattle.schema_says.specs.Bare.{bare_name, bare_step, bare_variant, bare, bare_of_variant, bare_of_record}
 use Rattle.schema_says.specs.Bare.{bare_of_attribute}
 
 pub variant_bare : (v : TypeVariant RawName) (loc : Option Span)
     → bare (shape.Variant v loc) ≡ shape.Variant (bare_of_variant v) None
 variant_bare v loc =
-    ap bare (sym (shape.rolls-Variant v loc))
-    ∙ (fold-roll-Type RawName (Shape RawName) (TypeVariant RawName) (RecordType RawName)
-    (TypeOfAttribute RawName) bare_step bare_variant (roll-RecordType RawName) (roll-TypeOfAttribute RawName)
-    (Type-F.Variant v loc) ∙ shape.rolls-Variant (bare_of_variant v) None)
+    variant_made RawName bare_step bare_variant (roll-RecordType RawName) (roll-TypeOfAttribute RawName) v loc
+    ∙ shape.rolls-Variant (bare_of_variant v) None
 
-ref_bare : (n : RawName) → bare_of_variant (variant.EntityOrCommon n) ≡ variant.EntityOrCommon (bare_name n)
-ref_bare n = ap bare_of_variant (sym (variant.rolls-EntityOrCommon n))
-    ∙ (fold-roll-TypeVariant RawName (Shape RawName) (TypeVariant RawName) (RecordType RawName)
-    (TypeOfAttribute RawName) bare_step bare_variant (roll-RecordType RawName) (roll-TypeOfAttribute RawName)
-    (TypeVariant-F.EntityOrCommon n) ∙ variant.rolls-EntityOrCommon (bare_name n))
+-- a type of which this is without places
+pub shape_bare : (v w : TypeVariant RawName) → bare_of_variant v ≡ w → (loc : Option Span)
+    → bare (shape.Variant v loc) ≡ shape.Variant w None
+shape_bare v w e loc = variant_bare v loc ∙ ap (λ (x : TypeVariant RawName). shape.Variant x None) e
 
-set_bare : (s : Shape RawName) → bare_of_variant (variant.Set s) ≡ variant.Set (bare s)
-set_bare s = ap bare_of_variant (sym (variant.rolls-Set s))
-    ∙ (fold-roll-TypeVariant RawName (Shape RawName) (TypeVariant RawName) (RecordType RawName)
-    (TypeOfAttribute RawName) bare_step bare_variant (roll-RecordType RawName) (roll-TypeOfAttribute RawName)
-    (TypeVariant-F.Set s) ∙ variant.rolls-Set (bare s))
+pub reference_bare : (n : RawName) (loc : Option Span)
+    → bare (shape.CommonTypeRef n loc) ≡ shape.CommonTypeRef (bare_name n) None
+reference_bare n loc =
+    reference_made RawName bare_step bare_variant (roll-RecordType RawName) (roll-TypeOfAttribute RawName) n loc
+    ∙ shape.rolls-CommonTypeRef (bare_name n) None
+
+pub string_bare : bare_of_variant variant.String ≡ variant.String
+string_bare =
+    string_made RawName bare_step bare_variant (roll-RecordType RawName) (roll-TypeOfAttribute RawName)
+    ∙ variant.rolls-String
+
+pub long_bare : bare_of_variant variant.Long ≡ variant.Long
+long_bare =
+    long_made RawName bare_step bare_variant (roll-RecordType RawName) (roll-TypeOfAttribute RawName)
+    ∙ variant.rolls-Long
+
+pub boolean_bare : bare_of_variant variant.Boolean ≡ variant.Boolean
+boolean_bare =
+    boolean_made RawName bare_step bare_variant (roll-RecordType RawName) (roll-TypeOfAttribute RawName)
+    ∙ variant.rolls-Boolean
+
+pub set_bare : (s : Shape RawName) → bare_of_variant (variant.Set s) ≡ variant.Set (bare s)
+set_bare s =
+    set_made RawName bare_step bare_variant (roll-RecordType RawName) (roll-TypeOfAttribute RawName) s
+    ∙ variant.rolls-Set (bare s)
 
 pub record_bare : (r : RecordType RawName) → bare_of_variant (variant.Record r) ≡ variant.Record (bare_of_record r)
-record_bare r = ap bare_of_variant (sym (variant.rolls-Record r))
-    ∙ (fold-roll-TypeVariant RawName (Shape RawName) (TypeVariant RawName) (RecordType RawName)
-    (TypeOfAttribute RawName) bare_step bare_variant (roll-RecordType RawName) (roll-TypeOfAttribute RawName)
-    (TypeVariant-F.Record r) ∙ variant.rolls-Record (bare_of_record r))
+record_bare r =
+    record_made RawName bare_step bare_variant (roll-RecordType RawName) (roll-TypeOfAttribute RawName) r
+    ∙ variant.rolls-Record (bare_of_record r)
+
+pub entity_bare : (n : RawName) → bare_of_variant (variant.Entity n) ≡ variant.Entity (bare_name n)
+entity_bare n =
+    entity_made RawName bare_step bare_variant (roll-RecordType RawName) (roll-TypeOfAttribute RawName) n
+    ∙ variant.rolls-Entity (bare_name n)
+
+pub either_bare : (n : RawName)
+    → bare_of_variant (variant.EntityOrCommon n) ≡ variant.EntityOrCommon (bare_name n)
+either_bare n =
+    either_made RawName bare_step bare_variant (roll-RecordType RawName) (roll-TypeOfAttribute RawName) n
+    ∙ variant.rolls-EntityOrCommon (bare_name n)
+
+pub extension_bare : (id : UnreservedId) → bare_of_variant (variant.Extension id) ≡ variant.Extension id
+extension_bare id =
+    extension_made RawName bare_step bare_variant (roll-RecordType RawName) (roll-TypeOfAttribute RawName) id
+    ∙ variant.rolls-Extension id
 
 abbrev pub bare_entry : AttributeEntry → AttributeEntry
 bare_entry p = (p.0, bare_of_attribute p.1)
@@ -52,42 +85,21 @@ bare_entry p = (p.0, bare_of_attribute p.1)
 abbrev pub record_from : List AttributeEntry → Bool → RecordType RawName
 record_from es open' = roll-RecordType RawName (record { attributes = es; additional_attributes = open' })
 
-attributes_bare : (r : RecordType RawName) → bare_of_record r ≡ record_from
+pub attributes_bare : (r : RecordType RawName) → bare_of_record r ≡ record_from
     (map bare_entry (out-RecordType RawName r).attributes) (out-RecordType RawName r).additional_attributes
 attributes_bare r = fold_out-RecordType RawName (Shape RawName) (TypeVariant RawName) (RecordType RawName)
     (TypeOfAttribute RawName) bare_step bare_variant (roll-RecordType RawName) (roll-TypeOfAttribute RawName) r
 
-abbrev attribute_from : Shape RawName → Annotations → Bool → TypeOfAttribute RawName
+abbrev pub attribute_from : Shape RawName → Annotations → Bool → TypeOfAttribute RawName
 attribute_from t notes r = roll-TypeOfAttribute RawName (record { ty = t; annotations = notes; required = r })
 
-attribute_bare : (a : TypeOfAttribute RawName)
+pub attribute_bare : (a : TypeOfAttribute RawName)
     → bare_of_attribute a ≡ attribute_from (bare (out-TypeOfAttribute RawName a).ty)
     (out-TypeOfAttribute RawName a).annotations (out-TypeOfAttribute RawName a).required
 attribute_bare a = fold_out-TypeOfAttribute RawName (Shape RawName) (TypeVariant RawName) (RecordType RawName)
     (TypeOfAttribute RawName) bare_step bare_variant (roll-RecordType RawName) (roll-TypeOfAttribute RawName) a
 
 -- names go by their components
-id_from : (x y : List ℕ) (e : x ≡ y) (p : is_id x ≡ true) (q : is_id y ≡ true)
-    → (let a : Id = record { text = x; word = p } in a) ≡ (let b : Id = record { text = y; word = q } in b)
-id_from x y e p q =
-    let P : List ℕ → Type 0 = λ z. (r : is_id z ≡ true)
-    → (let a : Id = record { text = x; word = p } in a) ≡ (let b : Id = record { text = z; word = r } in b) in
-    subst P e (λ r i. record { text = x; word = Bool-set _ _ p r i }) q
-
-pub id_same : (a b : Id) → a.text ≡ b.text → a ≡ b
-id_same a b e = id_from a.text b.text e a.word b.word
-
-pub ids_same : (as' bs : List Id) → texts_of as' ≡ texts_of bs → as' ≡ bs
-ids_same [] [] e = refl
-ids_same [] (b ∷ bs) e = cc
-ids_same (a ∷ as') [] e = cc
-ids_same (a ∷ as') (b ∷ bs) e =
-    let first : a.text ≡ b.text = cc in
-    let others : texts_of as' ≡ texts_of bs = cc in
-    let p = id_same a b first in
-    let q = ids_same as' bs others in
-    λ i. p i ∷ q i
-
 pub name_same : (n m : RawName) → components_of n.name ≡ components_of m.name → bare_name n ≡ bare_name m
 name_same n m e =
     let all = ids_same (n.name.first ∷ n.name.others) (m.name.first ∷ m.name.others) e in
@@ -95,23 +107,12 @@ name_same n m e =
     let others : n.name.others ≡ m.name.others = cc in
     λ i. record { name = record { first = first i; others = others i; loc = None } }
 
-pub ref_at : (n : RawName) (loc : Option Span)
-    → bare (shape.Variant (variant.EntityOrCommon n) loc) ≡ shape.Variant (variant.EntityOrCommon (bare_name n)) None
-ref_at n loc = variant_bare (variant.EntityOrCommon n) loc
-    ∙ ap (λ (v : TypeVariant RawName). shape.Variant v None) (ref_bare n)
-
-pub set_at : (s : Shape RawName) (loc : Option Span)
-    → bare (shape.Variant (variant.Set s) loc) ≡ shape.Variant (variant.Set (bare s)) None
-set_at s loc = variant_bare (variant.Set s) loc ∙ ap (λ (v : TypeVariant RawName). shape.Variant v None) (set_bare s)
-
 pub record_at : (r : RecordType RawName) (loc : Option Span)
     → bare (shape.Variant (variant.Record r) loc) ≡ shape.Variant
     (variant.Record
     (record_from (map bare_entry (out-RecordType RawName r).attributes)
     (out-RecordType RawName r).additional_attributes)) None
-record_at r loc = variant_bare (variant.Record r) loc
-    ∙ (ap (λ (v : TypeVariant RawName). shape.Variant v None) (record_bare r)
-    ∙ ap (λ (q : RecordType RawName). shape.Variant (variant.Record q) None) (attributes_bare r))
+record_at r loc = shape_bare _ _ (record_bare r ∙ ap variant.Record (attributes_bare r)) loc
 
 pub attribute_same : (a b : TypeOfAttribute RawName)
     → bare (out-TypeOfAttribute RawName a).ty ≡ bare (out-TypeOfAttribute RawName b).ty

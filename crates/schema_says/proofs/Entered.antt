@@ -9,6 +9,7 @@ use Rattle.cedar_data.specs.Maps.{map_of, last_at}
 use Rattle.cedar_data.specs.Span.{Span}
 use Rattle.cedar_data.specs.Text.{text_cmp}
 use Rattle.cedar_data.specs.declared.node.Node.{Node}
+use Rattle.cedar_data.proofs.Orders.{text_total, text_exact}
 use Rattle.cedar_identifiers.specs.Words.{is_cedar}
 use Rattle.cedar_identifiers.specs.declared.annotations.Annotations.{Annotations}
 use Rattle.cedar_identifiers.specs.declared.id.Id.{Id}
@@ -24,23 +25,23 @@ use Rattle.schema_json.specs.declared.action_type.ActionType.{ActionType}
 use Rattle.schema_json.specs.declared.common_type.CommonType.{CommonType}
 use Rattle.schema_json.specs.declared.common_type.CommonTypeId.{CommonTypeId}
 use Rattle.schema_json.specs.declared.entity_type.EntityType.{EntityType}
+use Rattle.schema_json.specs.AsWritten.{as_written}
+use Rattle.schema_readback.specs.Written.{WrittenDecl, entity, enum, external_entity, action, external_action, common}
+use Rattle.schema_readback.specs.Written.{WrittenDeclared}
+use Rattle.schema_readback.specs.Shows.{SaysId, SaysName, SaysDecl, SaysDeclared}
 use Rattle.schema_convert_types.specs.Types.{type_of}
-use Rattle.schema_convert_types.specs.Declarations.{as_written, entity_type_of, action_type_of, unreserved_so}
+use Rattle.schema_convert_types.specs.Declarations.{entity_type_of, action_type_of, unreserved_so}
 use Rattle.schema_convert_types.specs.Declarations.{unreserved, declarable, each_with}
 use Rattle.schema_convert_types.specs.Fragments.{entity_entries_of, action_entries_of, common_entry, common_entries_of}
 use Rattle.schema_convert_types.specs.Fragments.{entity_entries, action_entries, common_entries}
 use Rattle.schema_convert.specs.NamesIn.{entities_of, actions_of, commons_of, entity_names_in, common_names_in}
 use Rattle.schema_convert.specs.Translatable.{IsFreeCommon}
-use Rattle.schema_readback.specs.Written.{WrittenDecl, entity, enum, external_entity, action, external_action, common}
-use Rattle.schema_readback.specs.Written.{WrittenDeclared}
-use Rattle.schema_readback.specs.Shows.{SaysId, SaysName, SaysDecl, SaysDeclared}
 use Rattle.schema_says.specs.Entries.{FoundSays, EntriesSay, last_written}
 use Rattle.schema_says.specs.Named.{IsNamedDeclared}
 use Rattle.schema_says.specs.DeclarationsSay.{EntitySays, ActionSays, CommonSays}
 use Rattle.schema_says.specs.FragmentsSay.{entities_of_decl, actions_of_decl, commons_of_decl, by_names}
 use Rattle.schema_says.proofs.Declared.{entity_says, action_says, common_says}
 use Rattle.schema_says.proofs.Maps.{lookup_map, lookup_rising, map_rises}
-use Rattle.schema_says.proofs.Orders.{text_total, text_exact}
 
 pub zip_append : {A B : Type 0} (R : A → B → Type 0) (xs xs' : List A) (ys ys' : List B) → AllZip R xs ys
     → AllZip R xs' ys' → AllZip R (xs ++ xs') (ys ++ ys')

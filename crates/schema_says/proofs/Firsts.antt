@@ -1,8 +1,10 @@
 -- The last item that passes a test, of lists that are filtered, mapped, and reduced to the first of each.
 use Rattle.std.proofs.Common.{◌≡◌, Bool, true, false, not, cond, List, [], ◌∷◌, ◌++◌, map, Option, Some, None}
 use Rattle.std.proofs.Common.{option_map, filter, find, refl, sym, ap, subst, ◌∙◌, true≢false, if◌then◌else◌}
+use Rattle.std.proofs.lemmas.Option.{same_Some}
 use Rattle.std.specs.List.{AllZip, AllByRecursion}
 use Rattle.std.specs.Option.{option_or}
+use Rattle.cedar_data.proofs.Options.{or_none}
 use Rattle.schema_convert.specs.Joined.{first_of_each}
 
 module _ {A : Type 0} (test : A → Bool) where
@@ -15,10 +17,6 @@ module _ {A : Type 0} (test : A → Bool) where
   or_assoc None b c = refl
   or_assoc (Some x) b c = refl
 
-  or_none : (a : Option A) → option_or a None ≡ a
-  or_none None = refl
-  or_none (Some x) = refl
-
   pub last_append : (xs ys : List A) → last_of (xs ++ ys) ≡ option_or (last_of ys) (last_of xs)
   last_append [] ys = sym (or_none (last_of ys))
   last_append (x ∷ xs) ys = ap (λ o. option_or o (if test x then Some x else None)) (last_append xs ys)
@@ -29,12 +27,9 @@ module _ {A : Type 0} (test : A → Bool) where
   last_has P [] y h e = cc
   last_has P (x ∷ xs) y h e = by (λ p. last_has P xs y h.1 p) (last_of xs) refl (test x) e
     where
-      some_same : (a b : A) → Some a ≡ Some b → a ≡ b
-      some_same a b p = cc
-
       by : (last_of xs ≡ Some y → P y) → (o : Option A) → last_of xs ≡ o → (b : Bool)
           → option_or o (if b then Some x else None) ≡ Some y → P y
-      by r None p true q = subst P (some_same x y q) h.0
+      by r None p true q = subst P (same_Some x y q) h.0
       by r None p false q = cc
       by r (Some z) p b q = r (p ∙ q)
 
@@ -116,13 +111,4 @@ zip_filter R f g h (x ∷ xs) (y ∷ ys) k = subst
     by : AllZip R (filter f xs) (filter g ys) → (b : Bool)
         → AllZip R (cond b (x ∷ filter f xs) (filter f xs)) (cond b (y ∷ filter g ys) (filter g ys))
     by r true = (k.0, r)
-    by r false = r
-
-pub all_filter : {A : Type 0} (P : A → Type 0) (f : A → Bool) (xs : List A) → AllByRecursion P xs
-    → AllByRecursion P (filter f xs)
-all_filter P f [] h = tt
-all_filter P f (x ∷ xs) h = by (all_filter P f xs h.1) (f x)
-  where
-    by : AllByRecursion P (filter f xs) → (b : Bool) → AllByRecursion P (cond b (x ∷ filter f xs) (filter f xs))
-    by r true = (h.0, r)
     by r false = r

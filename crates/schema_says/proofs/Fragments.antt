@@ -1,6 +1,6 @@
 -- A tree that says what is written, and has no fault, becomes a fragment that says it.
 use Rattle.std.proofs.Common.{◌≡◌, ℕ, Bool, true, false, cond, List, [], ◌∷◌, ◌++◌, map, reverse, Option, Some, None}
-use Rattle.std.proofs.Common.{option_map, filter, filter_map, flat_map, refl, sym, ap, subst, ◌∙◌, true≢false}
+use Rattle.std.proofs.Common.{option_map, filter_map, flat_map, refl, sym, ap, subst, ◌∙◌, true≢false}
 use Rattle.std.proofs.Common.{if◌then◌else◌}
 use mathlib.Core.List.{reverse_aux}
 use Rattle.std.specs.BTreeMap.{is_at}
@@ -8,9 +8,12 @@ use Rattle.std.specs.List.{AllZip, AllByRecursion}
 use Rattle.std.specs.List.Sorted.{IsStrictlySortedBy}
 use Rattle.std.specs.Map.{lookup}
 use Rattle.std.specs.Option.{option_or}
+use Rattle.cedar_data.proofs.Every.{all_kept_by, kept_by_passes}
 use Rattle.cedar_data.specs.Maps.{last_at}
 use Rattle.cedar_data.specs.Text.{text_cmp}
 use Rattle.cedar_data.specs.declared.node.Node.{Node}
+use Rattle.cedar_data.proofs.Orders.{text_total, text_exact}
+use Rattle.cedar_data.proofs.Options.{or_none}
 use Rattle.cedar_identifiers.specs.Words.{is_cedar}
 use Rattle.cedar_identifiers.specs.declared.annotations.Annotations.{Annotations}
 use Rattle.cedar_identifiers.specs.declared.any_id.AnyId.{AnyId}
@@ -18,26 +21,26 @@ use Rattle.cedar_identifiers.specs.declared.id.Id.{Id}
 use Rattle.schema_syntax_tree.specs.declared.annotated.Annotated.{Annotated}
 use Rattle.schema_syntax_tree.specs.declared.declaration.Declaration.{Declaration}
 use Rattle.schema_syntax_tree.specs.declared.path.Path.{Path}
-use Rattle.schema_convert_types.specs.Fragments.{namespace_entry, definition_of, fragment_of}
-use Rattle.schema_convert.specs.Joined.{first_values, opened_as, outside, empty_namespace, joined}
-use Rattle.schema_convert.specs.NamesIn.{entity_names_in, common_names_in}
-use Rattle.schema_convert.specs.Translatable.{IsFreeCommon, IsLawfulNamespace, IsTranslatable}
 use Rattle.schema_syntax_reader.specs.Leaves.{Notes}
 use Rattle.schema_readback.specs.Written.{WrittenDeclared, WrittenItem, namespace, outside as stands_outside}
 use Rattle.schema_readback.specs.PrintedDecls.{IsSome}
 use Rattle.schema_readback.specs.Shows.{SaysOptionalPath, SaysDeclared, SaysItem}
+use Rattle.schema_convert_types.specs.Fragments.{namespace_entry, definition_of, fragment_of}
+use Rattle.schema_convert.specs.Joined.{first_values, opened_as, outside, empty_namespace, joined}
+use Rattle.schema_convert.specs.NamesIn.{entity_names_in, common_names_in}
+use Rattle.schema_convert.specs.Translatable.{IsFreeCommon, IsLawfulNamespace, IsTranslatable}
 use Rattle.schema_says.specs.Entries.{FoundSays, EntriesSay}
 use Rattle.schema_says.specs.Named.{IsNamedDeclared, IsWellNamed}
 use Rattle.schema_says.specs.FragmentsSay.{WrittenNamespace, NamespaceSays, NamespaceName, namespace_order}
 use Rattle.schema_says.specs.FragmentsSay.{name_components, name_of_item, notes_of_item, decls_of_item, is_of_namespace}
 use Rattle.schema_says.specs.FragmentsSay.{items_of_namespace, opened, written_in, FragmentSays}
 use Rattle.schema_says.proofs.Entered.{zip_append, entities_map_says, actions_map_says, commons_map_says}
-use Rattle.schema_says.proofs.Firsts.{last_of, last_has, zip_filter, all_filter}
-use Rattle.schema_says.proofs.Maps.{lookup_map, map_rises, or_nothing}
+use Rattle.schema_says.proofs.Firsts.{last_of, last_has, zip_filter}
+use Rattle.schema_says.proofs.Maps.{lookup_map, map_rises}
 use Rattle.schema_says.proofs.Openings.{Opening, Definition, name_in_tree, tree_name, opens, openings, whole, decls_of}
 use Rattle.schema_says.proofs.Openings.{defined, HasIds, HasKey, has_key, all_joined, joined_named, joined_unnamed}
 use Rattle.schema_says.proofs.Openings.{outside_opens, found_namespace, by_names_is}
-use Rattle.schema_says.proofs.Orders.{text_total, text_exact, namespace_total, namespace_exact}
+use Rattle.schema_says.proofs.Orders.{namespace_total, namespace_exact}
 
 -- what an item says of the namespace that it opens
 said_name : (o : Option Path) (name : List (List ℕ)) → SaysOptionalPath o (Some name) → name_in_tree o ≡ Some name
@@ -127,7 +130,7 @@ found_same (Some x) (Some y) h = cc
 -- of items that are put in front of others in turn, the first is the last of those in front
 last_turned : (test : AnyId → Bool) (xs behind : List Note)
     → last_at test (reverse_aux xs behind) ≡ option_or (last_at test behind) (lookup test xs)
-last_turned test [] behind = sym (or_nothing (last_at test behind))
+last_turned test [] behind = sym (or_none (last_at test behind))
 last_turned test (x ∷ xs) behind = last_turned test xs (x ∷ behind) ∙ by (last_at test behind) (test x.0)
   where
     by : (o : Option (Option (List ℕ))) (b : Bool)
@@ -191,15 +194,6 @@ named_says p (o ∷ os) (i ∷ is) h k lawful =
 abbrev pub StandsOutside : WrittenItem → Type 0
 StandsOutside i = is_of_namespace None i ≡ true
 
-pub all_pass : {A : Type 0} (test : A → Bool) (xs : List A) → AllByRecursion (λ x. test x ≡ true) (filter test xs)
-all_pass test [] = tt
-all_pass test (x ∷ xs) = by (all_pass test xs) (test x) refl
-  where
-    by : AllByRecursion (λ x. test x ≡ true) (filter test xs) → (b : Bool) → test x ≡ b
-        → AllByRecursion (λ x. test x ≡ true) (cond b (x ∷ filter test xs) (filter test xs))
-    by r true e = (e, r)
-    by r false e = r
-
 no_notes : (is : List WrittenItem) → AllByRecursion StandsOutside is → flat_map notes_of_item is ≡ []
 no_notes [] h = refl
 no_notes (namespace ns name ds ∷ is) h = absurd (true≢false (sym h.0))
@@ -236,7 +230,7 @@ module _ (tree : List Opening) (w : List WrittenItem) (h : AllZip SaysItem tree 
   joined_says (Some p) =
       subst (λ o. FoundSays NamespaceSays (option_map defined o) (written_in w (Some p))) (sym (joined_named p tree))
       (named_says p (openings (Some p) tree) (items_of_namespace (Some p) w) (openings_say (Some p) tree w h)
-      (all_filter IsWellNamed (is_of_namespace (Some p)) w k)
+      (all_kept_by (is_of_namespace (Some p)) IsWellNamed w k)
       (last_lawful (Some p) (whole (Some p) (openings (Some p) tree)) (joined_named p tree)))
   joined_says None =
       subst (λ o. FoundSays NamespaceSays (option_map defined o) (written_in w None)) (sym (joined_unnamed tree))
@@ -244,7 +238,7 @@ module _ (tree : List Opening) (w : List WrittenItem) (h : AllZip SaysItem tree 
       (subst (λ ds. AllZip SaysDeclared ds (flat_map decls_of_item (items_of_namespace None w)))
       (sym (outside_opens tree))
       (decls_say (openings None tree) (items_of_namespace None w) (openings_say None tree w h)))
-      (all_filter IsWellNamed (is_of_namespace None) w k) (all_pass (is_of_namespace None) w)
+      (all_kept_by (is_of_namespace None) IsWellNamed w k) (kept_by_passes (is_of_namespace None) w)
       (last_lawful None (last_of (opens None) (empty_namespace (outside tree))) (joined_unnamed tree)))
 
   keys : (ns : List Opening) → AllByRecursion IsLawfulNamespace ns

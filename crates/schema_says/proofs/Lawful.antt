@@ -5,6 +5,7 @@ use Rattle.std.proofs.lemmas.List.{map-append}
 use Rattle.std.specs.List.{AllZip, AllByRecursion, list_any}
 use Rattle.std.specs.Option.{option_eq}
 use Rattle.std.specs.Ordering.{is_eq}
+use mathlib.Core.Logic.Iff.{trans as both_ways}
 use Rattle.cedar_data.specs.Text.{text_cmp}
 use Rattle.cedar_data.specs.declared.node.Node.{Node}
 use Rattle.cedar_identifiers.specs.Names.{texts_of, has_cedar}
@@ -20,6 +21,11 @@ use Rattle.schema_syntax_tree.specs.declared.action_decl.ActionDecl.TheVariants 
 use Rattle.schema_syntax_tree.specs.declared.path.Path.{Path}
 use Rattle.schema_syntax_tree.specs.declared.pr.PR.{PR}
 use Rattle.schema_syntax_tree.specs.declared.pr.PR.TheVariants.{Principal, Resource}
+use Rattle.schema_readback.specs.Written.{WrittenMember, types, context_path, context_record, WrittenDecl, entity, enum}
+use Rattle.schema_readback.specs.Written.{external_entity, action, external_action, common, WrittenDeclared}
+use Rattle.schema_readback.specs.PrintedDecls.{IsSome}
+use Rattle.schema_readback.specs.Shows.{SaysPath, SaysId, SaysName, SaysOptional, SaysMember, SaysApplies, SaysDecl}
+use Rattle.schema_readback.specs.Shows.{SaysDeclared}
 use Rattle.schema_convert.specs.Faults.{is_reserved_path}
 use Rattle.schema_convert.specs.Members.{is_same_role, says_role, says_same}
 use Rattle.schema_convert.specs.NamesIn.{entities_of, actions_of, commons_of, entity_names_in, action_names_in}
@@ -27,11 +33,6 @@ use Rattle.schema_convert.specs.NamesIn.{common_names_in, id_cmp, action_cmp}
 use Rattle.schema_convert.specs.Repeats.{NoneRepeats}
 use Rattle.schema_convert.specs.Translatable.{IsFreeName, IsFilled, IsLawfulBlock, HasLawfulBlock, AppliesLawfully}
 use Rattle.schema_convert.specs.Translatable.{IsLawfulNamespace}
-use Rattle.schema_readback.specs.Written.{WrittenMember, types, context_path, context_record, WrittenDecl, entity, enum}
-use Rattle.schema_readback.specs.Written.{external_entity, action, external_action, common, WrittenDeclared}
-use Rattle.schema_readback.specs.PrintedDecls.{IsSome}
-use Rattle.schema_readback.specs.Shows.{SaysPath, SaysId, SaysName, SaysOptional, SaysMember, SaysApplies, SaysDecl}
-use Rattle.schema_readback.specs.Shows.{SaysDeclared}
 use Rattle.schema_says.specs.Named.{IsNamedDecl, IsNamedDeclared}
 use Rattle.schema_says.specs.FragmentsSay.{entities_of_decl, actions_of_decl, commons_of_decl, NamespaceName}
 use Rattle.schema_says.specs.Sayable.{IsFreeNamespace, role_said, says_alike, has_role, IsFilledMember}
@@ -39,9 +40,6 @@ use Rattle.schema_says.specs.Sayable.{AreLawfulMembers, HasLawfulMembers, Applie
 use Rattle.schema_says.specs.Sayable.{IsSayableNamespace}
 use Rattle.schema_says.proofs.Entered.{zip_append, kinds}
 use Rattle.schema_says.proofs.Openings.{Opening, name_in_tree, tree_name}
-
-pub both_ways : {A B C : Type 0} → A ↔ B → B ↔ C → A ↔ C
-both_ways f g = (λ a. g.0 (f.0 a), λ c. f.1 (g.1 c))
 
 by_path : {A : Type 0} (P : A → Type 0) (x y : A) → x ≡ y → P x ↔ P y
 by_path P x y e = (subst P e, subst P (sym e))

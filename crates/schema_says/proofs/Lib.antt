@@ -1,4 +1,4 @@
-mod BareTypes
+pub mod BareTypes
 mod Declared
 pub mod Entered
 mod Firsts
@@ -15,5 +15,4 @@ mod Proper
 mod Same
 mod SameFragments
 mod Sayable
-mod Steps
 mod Types

@@ -12,13 +12,10 @@ use Rattle.std.specs.List.Sorted.{IsStrictlySortedBy}
 use Rattle.std.specs.Map.{lookup}
 use Rattle.std.proofs.lemmas.Map.Keys.{sorted_head, sorted_tail}
 use Rattle.std.proofs.lemmas.Map.Lookups.{CmpEqualImpliesEq}
+use Rattle.std.proofs.lemmas.Option.{same_Some}
 use Rattle.cedar_data.specs.Maps.{with_entries, map_of, last_at}
-
--- a test that passes says that the two are equal
-pub is_equal : (c : Ordering) → is_eq c ≡ true → c ≡ Equal
-is_equal Less h = absurd (true≢false (sym h))
-is_equal Equal h = refl
-is_equal Greater h = absurd (true≢false (sym h))
+use Rattle.cedar_data.proofs.Orders.{equal_from, all_above}
+use Rattle.cedar_data.proofs.Options.{or_none}
 
 greater_not : {X : Type 0} → Greater ≡ Equal → X
 greater_not h = absurd (true≢false (sym (ap is_eq h)))
@@ -33,10 +30,6 @@ cond_swap false t a b c h = refl
 cond_twice : {X : Type 0} (s : Bool) (a b c : X) → cond s a c ≡ cond s a (cond s b c)
 cond_twice true a b c = refl
 cond_twice false a b c = refl
-
-pub or_nothing : {X : Type 0} (a : Option X) → option_or a None ≡ a
-or_nothing None = refl
-or_nothing (Some x) = refl
 
 or_cond : {X : Type 0} (a : Option X) (t : Bool) (v : X) (old : Option X)
     → option_or a (cond t (Some v) old) ≡ option_or (option_or a (cond t (Some v) None)) old
@@ -58,8 +51,8 @@ module _ {K N : Type 0} (X : Type 0) (order : N → N → Ordering) (total : IsT
 
     not_both : (k l : K) → by_name k l ≡ Greater → is_named n k ≡ true → is_named n l ≡ true → ⊥
     not_both k l g s t =
-        let same : name k ≡ name l = sym (exact n (name k) (is_equal (order n (name k)) s))
-        ∙ exact n (name l) (is_equal (order n (name l)) t) in
+        let same : name k ≡ name l = sym (exact n (name k) (equal_from (order n (name k)) s))
+        ∙ exact n (name l) (equal_from (order n (name l)) t) in
         greater_not (sym g ∙ (ap (λ m. order m (name l)) same ∙ tied_itself total (name l)))
 
     inserted_as : (e : K × X) (es : List (K × X)) (k : K) (v : X) (c : Ordering) → by_name k e.0 ≡ c
@@ -92,7 +85,7 @@ module _ {K N : Type 0} (X : Type 0) (order : N → N → Ordering) (total : IsT
 
     -- beside a name a map has what was put there last
     pub lookup_map : (es : List (K × X)) → lookup (is_named n) (map_of by_name es) ≡ last_at (is_named n) es
-    lookup_map es = lookup_with [] es ∙ or_nothing (last_at (is_named n) es)
+    lookup_map es = lookup_with [] es ∙ or_none (last_at (is_named n) es)
 
   -- the names, in the entries' order
   abbrev pub names_of : List (K × X) → List N
@@ -110,11 +103,6 @@ module _ {K N : Type 0} (X : Type 0) (order : N → N → Ordering) (total : IsT
       by Equal l = h
       by Greater l = (h.0, l)
 
-  all_above : (k : N) (ns : List N) (n : N) → order k n ≡ Less → AllByRecursion (λ y. order n y ≡ Less) ns
-      → AllByRecursion (λ y. order k y ≡ Less) ns
-  all_above k [] n l h = tt
-  all_above k (m ∷ ns) n l h = (total.trans k n m l h.0, all_above k ns n l h.1)
-
   inserted_rises : (es : List (K × X)) (k : K) (v : X) → IsStrictlySortedBy order (names_of es)
       → IsStrictlySortedBy order (names_of (insert_entry by_name es k v))
   unfolding IsStrictlySortedBy
@@ -124,7 +112,7 @@ module _ {K N : Type 0} (X : Type 0) (order : N → N → Ordering) (total : IsT
       by : (c : Ordering) → by_name k e.0 ≡ c → IsStrictlySortedBy order (names_of (insert_entry by_name es k v))
           → IsStrictlySortedBy order
           (names_of (match_ordering c ((k, v) ∷ e ∷ es) ((e.0, v) ∷ es) (e ∷ insert_entry by_name es k v)))
-      by Less h l = ((h, all_above (name k) (names_of es) (name e.0) h s.0), s)
+      by Less h l = ((h, all_above total (name k) (name e.0) (names_of es) h s.0), s)
       by Equal h l = s
       by Greater h l = (
         all_inserted (λ y. order (name e.0) y ≡ Less) es k v s.0
@@ -162,12 +150,12 @@ module _ {K N : Type 0} (X : Type 0) (order : N → N → Ordering) (total : IsT
       beyond h =
           none_above n es
           (subst (λ m. AllByRecursion (λ y. order m y ≡ Less) (names_of es))
-          (sym (exact n (name e.0) (is_equal (order n (name e.0)) h))) (sorted_head order (name e.0) (names_of es) s))
+          (sym (exact n (name e.0) (equal_from (order n (name e.0)) h))) (sorted_head order (name e.0) (names_of es) s))
 
       by : (b : Bool) → is_named n e.0 ≡ b → found n es ≡ last_at (is_named n) es
           → cond b (Some e.1) (found n es) ≡ option_or (last_at (is_named n) es) (cond b (Some e.1) None)
       by true h r = ap (λ o. option_or o (Some e.1)) (sym (beyond h) ∙ r)
-      by false h r = r ∙ sym (or_nothing (last_at (is_named n) es))
+      by false h r = r ∙ sym (or_none (last_at (is_named n) es))
 
   at_head : (e : K × X) (es : List (K × X)) → found (name e.0) (e ∷ es) ≡ Some e.1
   at_head e es = ap (λ c. cond (is_eq c) (Some e.1) (found (name e.0) es)) (tied_itself total (name e.0))
@@ -188,33 +176,30 @@ module _ {K N : Type 0} (X : Type 0) (order : N → N → Ordering) (total : IsT
       heads_by : (c : Ordering) → order (name e.0) (name f.0) ≡ c → order (name e.0) (name f.0) ≡ Equal
       heads_by Less p =
           let beyond = none_above (name e.0) (f ∷ fs)
-          (p, all_above (name e.0) (names_of fs) (name f.0) p (sorted_head order (name f.0) (names_of fs) t)) in
+          (p, all_above total (name e.0) (name f.0) (names_of fs) p (sorted_head order (name f.0) (names_of fs) t)) in
           not_some (value e.1)
           (ap (option_map value) (sym (at_head e es)) ∙ (h (name e.0) ∙ ap (option_map value) beyond))
       heads_by Equal p = p
       heads_by Greater p =
           let q : order (name f.0) (name e.0) ≡ Less = total.antisymm (name f.0) (name e.0) ∙ ap ordering_reverse p in
           let beyond = none_above (name f.0) (e ∷ es)
-          (q, all_above (name f.0) (names_of es) (name e.0) q (sorted_head order (name e.0) (names_of es) s)) in
+          (q, all_above total (name f.0) (name e.0) (names_of es) q (sorted_head order (name e.0) (names_of es) s)) in
           not_some (value f.1)
           (ap (option_map value) (sym (at_head f fs)) ∙ (sym (h (name f.0)) ∙ ap (option_map value) beyond))
 
       heads : name e.0 ≡ name f.0
       heads = exact (name e.0) (name f.0) (heads_by (order (name e.0) (name f.0)) refl)
 
-      some_same : (x y : Y) → Some x ≡ Some y → x ≡ y
-      some_same x y p = cc
-
       values : value e.1 ≡ value f.1
-      values = some_same (value e.1) (value f.1)
+      values = same_Some (value e.1) (value f.1)
           (ap (option_map value) (sym (at_head e es))
           ∙ (h (name e.0) ∙ ap (option_map value) (ap (λ n. found n (f ∷ fs)) heads ∙ at_head f fs)))
 
       tails_by : (n : N) (b c : Bool) → is_named n e.0 ≡ b → is_named n f.0 ≡ c → b ≡ c
           → option_map value (found n es) ≡ option_map value (found n fs)
       tails_by n true c p q r =
-          let from : name e.0 ≡ n = sym (exact n (name e.0) (is_equal (order n (name e.0)) p)) in
-          let from2 : name f.0 ≡ n = sym (exact n (name f.0) (is_equal (order n (name f.0)) (q ∙ sym r))) in
+          let from : name e.0 ≡ n = sym (exact n (name e.0) (equal_from (order n (name e.0)) p)) in
+          let from2 : name f.0 ≡ n = sym (exact n (name f.0) (equal_from (order n (name f.0)) (q ∙ sym r))) in
           let left : found n es ≡ None = none_above n es
           (subst (λ m. AllByRecursion (λ y. order m y ≡ Less) (names_of es)) from
           (sorted_head order (name e.0) (names_of es) s)) in

@@ -1,14 +1,9 @@
 -- What is written of a meaning whose names are made of words may be printed.
 use Rattle.std.proofs.Common.{ℕ, Bool, true, false, cond, List, [], ◌∷◌, ◌++◌, map, filter, Option, Some, None, refl}
-use Rattle.std.specs.BTreeSet.{insert_key}
-use Rattle.std.specs.Cmp.Lexicographic.{slice_cmp}
 use Rattle.std.specs.List.{AllByRecursion}
 use Rattle.std.specs.List.Sorted.{IsStrictlySortedBy}
-use Rattle.std.specs.Ordering.{match_ordering}
-use Rattle.std.specs.declared.cmp.Ordering.{Ordering}
-use Rattle.std.specs.declared.cmp.Ordering.TheVariants.{Less, Equal, Greater}
-use Rattle.cedar_data.specs.Text.{text_cmp}
-use Rattle.cedar_names.specs.CanonicalText.{basename, namespace, in_order, namespaces}
+use Rattle.cedar_data.proofs.Every.{All-append}
+use Rattle.cedar_names.specs.CanonicalText.{basename, namespace, namespaces}
 use Rattle.cedar_names.specs.Meaning.{PlainType, Attributes, EntityMeaning, ActionMeaning, SchemaMeaning}
 use Rattle.cedar_names.specs.Meaning as m
 use Rattle.schema_readback.specs.Meant.{type_of_meaning, attributes_of_meaning, tags_of_meaning, entity_as}
@@ -19,6 +14,7 @@ use Rattle.schema_readback.specs.PrintedDecls.{IsProperWord, IsProperOptional, I
 use Rattle.schema_readback.specs.PrintedDecls.{AreProperMembers, IsProperDecl, IsProperDeclared, IsProperGroup}
 use Rattle.schema_says.specs.MeantNames.{IsSpelledType, AreSpelledTypes, AreSpelledTags, HasChoice, IsSpelledEntity}
 use Rattle.schema_says.specs.MeantNames.{IsSpelledAction, IsOfWords}
+use Rattle.schema_says.proofs.MeantSayable.{all_ordered}
 
 abbrev Name : Type 0
 Name = List (List ℕ)
@@ -111,26 +107,6 @@ actions_proper test (e ∷ es) h = by (test e) (actions_proper test es h.1)
     by true r = ((no_notes, action_proper e.is_external e h.0), r)
     by false r = r
 
-all_with : {A : Type 0} (P : A → Type 0) (xs ys : List A) → AllByRecursion P xs → AllByRecursion P ys
-    → AllByRecursion P (xs ++ ys)
-all_with P [] ys h k = k
-all_with P (x ∷ xs) ys h k = (h.0, all_with P xs ys h.1 k)
-
-all_put : (P : Name → Type 0) (ns : List Name) (n : Name) → AllByRecursion P ns → P n
-    → AllByRecursion P (insert_key (slice_cmp text_cmp) ns n)
-all_put P [] n h p = (p, tt)
-all_put P (x ∷ ns) n h p = by (slice_cmp text_cmp n x) (all_put P ns n h.1 p)
-  where
-    by : (c : Ordering) → AllByRecursion P (insert_key (slice_cmp text_cmp) ns n)
-        → AllByRecursion P (match_ordering c (n ∷ x ∷ ns) (x ∷ ns) (x ∷ insert_key (slice_cmp text_cmp) ns n))
-    by Less r = (p, h)
-    by Equal r = h
-    by Greater r = (h.0, r)
-
-all_ordered : (P : Name → Type 0) (ns : List Name) → AllByRecursion P ns → AllByRecursion P (in_order ns)
-all_ordered P [] h = tt
-all_ordered P (n ∷ ns) h = all_put P (in_order ns) n (all_ordered P ns h.1) h.0
-
 entity_spaces : (es : List EntityMeaning) → AllByRecursion IsSpelledEntity es
     → AllByRecursion IsNamespace (map (λ e. namespace e.name) es)
 entity_spaces [] h = tt
@@ -148,7 +124,7 @@ groups_proper m h (n ∷ ns) k = (
   (
     no_notes,
     k.0,
-    all_with IsProperDeclared _ _ (entities_proper _ m.entities h.entities)
+    All-append IsProperDeclared _ _ (entities_proper _ m.entities h.entities)
         (actions_proper _ m.actions h.actions),
   ),
   groups_proper m h ns k.1,
@@ -158,5 +134,5 @@ pub meaning_proper : (m : SchemaMeaning) → IsOfWords m → AllByRecursion IsPr
 meaning_proper m h =
     groups_proper m h (namespaces m)
     (all_ordered IsNamespace (map (λ e. namespace e.name) m.entities ++ map (λ a. namespace a.ty) m.actions)
-    (all_with IsNamespace (map (λ e. namespace e.name) m.entities) (map (λ a. namespace a.ty) m.actions)
+    (All-append IsNamespace (map (λ e. namespace e.name) m.entities) (map (λ a. namespace a.ty) m.actions)
     (entity_spaces m.entities h.entities) (action_spaces m.actions h.actions)))

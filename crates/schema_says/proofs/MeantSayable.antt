@@ -4,44 +4,45 @@ use Rattle.std.proofs.Common.{Option, Some, None, refl, sym, ap, ◌∙◌, subs
 use Rattle.std.proofs.Common.{is_some}
 use Rattle.std.specs.BTreeMap.{is_at}
 use Rattle.std.specs.BTreeSet.{insert_key}
-use Rattle.std.specs.Cmp.{IsTotalOrder, tied_itself}
-use Rattle.std.specs.Cmp.Lexicographic.{slice_cmp, lists_total, pointwise_decides, bytes_decides}
+use Rattle.std.specs.Cmp.{tied_itself}
+use Rattle.std.specs.Cmp.Lexicographic.{slice_cmp, pointwise_decides, bytes_decides}
 use Rattle.std.specs.List.{AllByRecursion}
 use Rattle.std.specs.List.Sorted.{IsStrictlySortedBy}
 use Rattle.std.specs.Ordering.{is_eq, is_lt, ordering_reverse, ordering_then, match_ordering}
 use Rattle.std.specs.declared.cmp.Ordering.{Ordering}
 use Rattle.std.specs.declared.cmp.Ordering.TheVariants.{Less, Equal, Greater}
 use Rattle.std.proofs.lemmas.Map.Keys.{sorted_head, sorted_tail}
+use Rattle.std.proofs.lemmas.Bool.{or_parts}
+use Rattle.std.proofs.lemmas.Option.{same_Some}
+use Rattle.cedar_data.proofs.Every.{All-append}
 use Rattle.cedar_data.specs.Text.{text_cmp}
+use Rattle.cedar_data.proofs.Orders.{text_total, text_exact, equal_from, all_above, texts_total}
+use Rattle.cedar_data.proofs.Every.{at_middle}
 use Rattle.cedar_identifiers.specs.Names.{has_cedar}
 use Rattle.cedar_identifiers.specs.Words.{is_cedar}
 use Rattle.cedar_names.specs.CanonicalText.{basename, namespace, in_order, namespaces}
 use Rattle.cedar_names.specs.Definitions.{same_name}
 use Rattle.cedar_names.specs.Meaning.{EntityMeaning, ActionMeaning, SchemaMeaning, Attributes}
-use Rattle.schema_convert.specs.Repeats.{NoneRepeats}
 use Rattle.schema_syntax_tree.specs.declared.pr.PR.TheVariants.{Principal, Resource}
 use Rattle.schema_readback.specs.Meant.{attributes_of_meaning, entity_as, action_as, members_of_meaning}
 use Rattle.schema_readback.specs.Meant.{entity_of_meaning, action_of_meaning, items_of_meaning, name_or_none}
 use Rattle.schema_readback.specs.Meant.{group_of_meaning, groups_of_meaning}
 use Rattle.schema_readback.specs.PrintedDecls.{IsSome, group_items}
 use Rattle.schema_readback.specs.Written.{WrittenDecl, WrittenDeclared, WrittenItem, types, context_record, outside}
+use Rattle.schema_convert.specs.Repeats.{NoneRepeats}
 use Rattle.schema_says.specs.FragmentsSay.{entities_of_decl, actions_of_decl, commons_of_decl, NamespaceName}
 use Rattle.schema_says.specs.FragmentsSay.{namespace_order, WrittenNamespace, items_of_namespace, opened}
 use Rattle.schema_says.specs.MeantNames.{IsOpenName, IsActionName, action_name_order, HasOpenNames}
 use Rattle.schema_says.specs.Sayable.{IsFreeNamespace, says_alike, HasLawfulMembers, AppliesWell, IsFreeCommonName}
 use Rattle.schema_says.specs.Sayable.{names_written, IsSayableNamespace, IsSayable}
 use Rattle.schema_says.proofs.Grouped.{outside_decls, filter_append, items_at}
-use Rattle.schema_says.proofs.Maps.{is_equal}
-use Rattle.schema_says.proofs.Orders.{text_total, text_exact, namespace_exact}
+use Rattle.schema_says.proofs.Orders.{namespace_exact}
 
 abbrev pub Name : Type 0
 Name = List (List ℕ)
 
 abbrev pub name_order : Name → Name → Ordering
 name_order = slice_cmp text_cmp
-
-name_total : IsTotalOrder name_order
-name_total = lists_total text_total
 
 -- names that differ, each from those behind it
 abbrev AreApart : List (List ℕ) → Type 0
@@ -54,15 +55,10 @@ module _ {A : Type 0} (test : A → A → Bool) where
   AreUnlike [] = Unit {0}
   AreUnlike (x ∷ xs) = AllByRecursion (λ y. test y x ≡ false) xs × AreUnlike xs
 
-  last_unlike : (b : A) (before after : List A) (x : A)
-      → AllByRecursion (λ y. test y b ≡ false) (before ++ x ∷ after) → test x b ≡ false
-  last_unlike b [] after x h = h.0
-  last_unlike b (c ∷ before) after x h = last_unlike b before after x h.1
-
   unlike_at : (before after : List A) (x : A) → AreUnlike (before ++ x ∷ after) → find (test x) before ≡ None
   unlike_at [] after x h = refl
   unlike_at (b ∷ before) after x h = ap (λ t. cond t (Some b) (find (test x) before))
-      (last_unlike b before after x h.0) ∙ unlike_at before after x h.1
+      (at_middle (λ y. test y b ≡ false) before x after h.0) ∙ unlike_at before after x h.1
 
   pub unlike_once : (xs : List A) → AreUnlike xs → (before after : List A) (x : A) → xs ≡ before ++ x ∷ after
       → find (test x) before ≡ None
@@ -100,16 +96,11 @@ rebuilt (c ∷ d ∷ ds) h = ap (λ l. c ∷ l) (rebuilt (d ∷ ds) tt)
 one_name : (a b : Name) → IsSome a → IsSome b → namespace a ≡ namespace b → basename a ≡ basename b → a ≡ b
 one_name a b h k p q = sym (rebuilt a h) ∙ ((λ i. p i ++ q i ∷ []) ∙ rebuilt b k)
 
--- parts of a name that is not reserved
-or_false : (a b : Bool) → (a || b) ≡ false → (a ≡ false) × (b ≡ false)
-or_false true b h = absurd (true≢false h)
-or_false false b h = (refl, h)
-
 free_parts : (n : Name) → has_cedar n ≡ false → (has_cedar (namespace n) ≡ false) × (is_cedar (basename n) ≡ false)
 free_parts [] h = (refl, refl)
-free_parts (c ∷ []) h = (refl, (or_false (is_cedar c) false h).0)
+free_parts (c ∷ []) h = (refl, (or_parts (is_cedar c) false h).0)
 free_parts (c ∷ d ∷ ds) h =
-    let both = or_false (is_cedar c) (has_cedar (d ∷ ds)) h in
+    let both = or_parts (is_cedar c) (has_cedar (d ∷ ds)) h in
     let rest = free_parts (d ∷ ds) both.1 in
     ((λ i. both.0 i || rest.0 i), rest.1)
 
@@ -120,7 +111,7 @@ pub less_apart : (c : Ordering) → c ≡ Less → c ≡ Equal → ⊥
 less_apart c e f = true≢false (ap is_lt (sym e ∙ f))
 
 pub equal_self : (n : Name) → name_order n n ≡ Equal
-equal_self n = tied_itself name_total n
+equal_self n = tied_itself texts_total n
 
 -- the entity types of a namespace
 module _ (n : Name) where
@@ -274,11 +265,6 @@ actions_apply : (es : List ActionMeaning) → AllByRecursion (λ (d : WrittenDec
 actions_apply [] = tt
 actions_apply (e ∷ es) = ((action_names e.is_external e).3, actions_apply es)
 
-pub all_with : {A : Type 0} (P : A → Type 0) (xs ys : List A) → AllByRecursion P xs → AllByRecursion P ys
-    → AllByRecursion P (xs ++ ys)
-all_with P [] ys h k = k
-all_with P (x ∷ xs) ys h k = (h.0, all_with P xs ys h.1 k)
-
 module _ (m : SchemaMeaning) (h : HasOpenNames m) (n : Name) where
   abbrev these : List EntityMeaning
   these = filter (is_entity n) m.entities
@@ -319,7 +305,7 @@ module _ (m : SchemaMeaning) (h : HasOpenNames m) (n : Name) where
     commons_once = subst (NoneRepeats text_cmp) (sym commons_are) (apart_once [] tt);
     entities_free = subst (AllByRecursion (λ t. is_cedar t ≡ false)) (sym entities_are)
         (entities_free n m.entities h.entities);
-    blocks = all_with (λ (d : WrittenDeclared). AppliesWell d.decl) (map entity_of_meaning these)
+    blocks = All-append (λ (d : WrittenDeclared). AppliesWell d.decl) (map entity_of_meaning these)
         (map action_of_meaning those) (entities_apply these) (actions_apply those);
     commons_free = subst (AllByRecursion IsFreeCommonName) (sym commons_are) tt;
   }
@@ -336,11 +322,6 @@ all_put P (x ∷ ns) n h p = by (name_order n x) (all_put P ns n h.1 p)
     by Equal r = h
     by Greater r = (h.0, r)
 
-all_above : (k : Name) (ns : List Name) (n : Name) → name_order k n ≡ Less
-    → AllByRecursion (λ y. name_order n y ≡ Less) ns → AllByRecursion (λ y. name_order k y ≡ Less) ns
-all_above k [] n l h = tt
-all_above k (x ∷ ns) n l h = (name_total.trans k n x l h.0, all_above k ns n l h.1)
-
 put_rises : (ns : List Name) (n : Name) → IsStrictlySortedBy name_order ns
     → IsStrictlySortedBy name_order (insert_key name_order ns n)
 unfolding IsStrictlySortedBy
@@ -349,17 +330,17 @@ put_rises (x ∷ ns) n s = by (name_order n x) refl (put_rises ns n s.1)
   where
     by : (c : Ordering) → name_order n x ≡ c → IsStrictlySortedBy name_order (insert_key name_order ns n)
         → IsStrictlySortedBy name_order (match_ordering c (n ∷ x ∷ ns) (x ∷ ns) (x ∷ insert_key name_order ns n))
-    by Less e r = ((e, all_above n ns x e s.0), s)
+    by Less e r = ((e, all_above texts_total n x ns e s.0), s)
     by Equal e r = s
     by Greater e r =
-        (all_put (λ y. name_order x y ≡ Less) ns n s.0 (name_total.antisymm x n ∙ ap ordering_reverse e), r)
+        (all_put (λ y. name_order x y ≡ Less) ns n s.0 (texts_total.antisymm x n ∙ ap ordering_reverse e), r)
 
 pub order_rises : (ns : List Name) → IsStrictlySortedBy name_order (in_order ns)
 unfolding IsStrictlySortedBy
 order_rises [] = tt
 order_rises (n ∷ ns) = put_rises (in_order ns) n (order_rises ns)
 
-all_ordered : (P : Name → Type 0) (ns : List Name) → AllByRecursion P ns → AllByRecursion P (in_order ns)
+pub all_ordered : (P : Name → Type 0) (ns : List Name) → AllByRecursion P ns → AllByRecursion P (in_order ns)
 all_ordered P [] h = tt
 all_ordered P (n ∷ ns) h = all_put P (in_order ns) n (all_ordered P ns h.1) h.0
 
@@ -410,24 +391,18 @@ module _ (m : SchemaMeaning) where
           let same =
           name_back p n
           (namespace_exact (name_or_none p) (name_or_none n)
-          (is_equal (namespace_order (name_or_none p) (name_or_none n)) e)) in
+          (equal_from (namespace_order (name_or_none p) (name_or_none n)) e)) in
           absurd (less_apart (name_order p n) h.0 (ap (λ x. name_order x n) same ∙ equal_self n))
 
   group_decls : (n : Name) (w : WrittenNamespace) → opened (group_items (group_of_meaning m n)) ≡ Some w
       → w.decls ≡ items_of_meaning m n
   group_decls [] w e = by (items_of_meaning m []) e
     where
-      some_same : (a b : WrittenNamespace) → Some a ≡ Some b → a ≡ b
-      some_same a b p = cc
-
       by : (ds : List WrittenDeclared) → opened (map outside ds) ≡ Some w → w.decls ≡ ds
       by [] e = cc
-      by (d ∷ ds) e = ap (λ (x : WrittenNamespace). x.decls) (sym (some_same _ w e)) ∙ outside_decls (d ∷ ds)
-  group_decls (c ∷ cs) w e = ap (λ (x : WrittenNamespace). x.decls) (sym (some_same _ w e))
+      by (d ∷ ds) e = ap (λ (x : WrittenNamespace). x.decls) (sym (same_Some _ w e)) ∙ outside_decls (d ∷ ds)
+  group_decls (c ∷ cs) w e = ap (λ (x : WrittenNamespace). x.decls) (sym (same_Some _ w e))
       ∙ append-nil (items_of_meaning m (c ∷ cs))
-    where
-      some_same : (a b : WrittenNamespace) → Some a ≡ Some b → a ≡ b
-      some_same a b p = cc
 
   sayable_at : HasOpenNames m → (q : NamespaceName) (ns : List Name) → IsStrictlySortedBy name_order ns
       → AllByRecursion IsFree ns → (w : WrittenNamespace) → opened (items_of_namespace q (items ns)) ≡ Some w
@@ -445,7 +420,7 @@ module _ (m : SchemaMeaning) where
           → IsSayableNamespace q w.decls
       by true t k r =
           let here : q ≡ name_or_none n = namespace_exact q (name_or_none n)
-          (is_equal (namespace_order q (name_or_none n)) t) in
+          (equal_from (namespace_order q (name_or_none n)) t) in
           let rest : items_of_namespace q (items ns) ≡ [] = ap (λ x. items_of_namespace x (items ns)) here
           ∙ none_behind n ns (sorted_head name_order n ns s) in
           let whole : items_of_namespace q (group_items (group_of_meaning m n))
@@ -464,5 +439,5 @@ meaning_sayable m h q w e =
     sayable_at m h q (namespaces m)
     (order_rises (map (λ e. namespace e.name) m.entities ++ map (λ a. namespace a.ty) m.actions))
     (all_ordered IsFree (map (λ e. namespace e.name) m.entities ++ map (λ a. namespace a.ty) m.actions)
-    (all_with IsFree (map (λ e. namespace e.name) m.entities) (map (λ a. namespace a.ty) m.actions)
+    (All-append IsFree (map (λ e. namespace e.name) m.entities) (map (λ a. namespace a.ty) m.actions)
     (entities_in m.entities h.entities) (actions_in m.actions h.actions))) w e

@@ -8,6 +8,8 @@ use Rattle.std.specs.List.Sorted.{IsStrictlySortedBy}
 use Rattle.std.specs.declared.cmp.Ordering.TheVariants.{Less}
 use Rattle.std.specs.Ordering.{is_eq}
 use Rattle.std.proofs.lemmas.Map.Keys.{sorted_head, sorted_tail}
+use Rattle.std.proofs.lemmas.Option.{same_Some}
+use Rattle.cedar_data.proofs.Orders.{equal_from}
 use Rattle.cedar_names.specs.CanonicalText.{namespace, namespaces}
 use Rattle.cedar_names.specs.Meaning.{SchemaMeaning}
 use Rattle.schema_readback.specs.Meant.{items_of_meaning, name_or_none, group_of_meaning, groups_of_meaning}
@@ -17,16 +19,11 @@ use Rattle.schema_says.specs.FragmentsSay.{NamespaceName, namespace_order, Writt
 use Rattle.schema_says.specs.FragmentsSay.{written_in}
 use Rattle.schema_says.specs.MeantNamespaces.{meant_in_namespace, IsOfMeaning}
 use Rattle.schema_says.proofs.Grouped.{outside_decls, outside_notes, filter_append}
-use Rattle.schema_says.proofs.Maps.{is_equal}
 use Rattle.schema_says.proofs.MeantSayable.{Name, name_order, items, items_here, none_behind, order_rises, name_back}
 use Rattle.schema_says.proofs.MeantSayable.{less_apart, equal_self}
 use Rattle.schema_says.proofs.Orders.{namespace_exact, namespace_total}
 
 module _ (m : SchemaMeaning) where
-  -- a group with a name, or with a declaration
-  some_same : (a b : WrittenNamespace) → Some a ≡ Some b → a ≡ b
-  some_same a b p = cc
-
   opened_outside : (d : WrittenDeclared) (ds : List WrittenDeclared)
       → opened (map outside (d ∷ ds)) ≡ Some (record { notes = []; decls = d ∷ ds })
   opened_outside d ds = λ i. Some (record { notes = outside_notes (d ∷ ds) i; decls = outside_decls (d ∷ ds) i })
@@ -37,9 +34,9 @@ module _ (m : SchemaMeaning) where
     where
       by : (ds : List WrittenDeclared) → opened (map outside ds) ≡ Some w → w ≡ record { notes = []; decls = ds }
       by [] e = cc
-      by (d ∷ ds) e = some_same w (record { notes = []; decls = d ∷ ds }) (sym e ∙ opened_outside d ds)
+      by (d ∷ ds) e = same_Some w (record { notes = []; decls = d ∷ ds }) (sym e ∙ opened_outside d ds)
   group_is (c ∷ cs) w e =
-      sym (some_same (record { notes = []; decls = items_of_meaning m (c ∷ cs) ++ [] }) w e)
+      sym (same_Some (record { notes = []; decls = items_of_meaning m (c ∷ cs) ++ [] }) w e)
       ∙ (λ i. record { notes = []; decls = append-nil (items_of_meaning m (c ∷ cs)) i })
 
   group_opens : (n : Name) → IsSome (items_of_meaning m n)
@@ -88,7 +85,7 @@ module _ (m : SchemaMeaning) where
           → (opened (items_of_namespace q (items m ns)) ≡ Some w → OneOf q ns w) → OneOf q (n ∷ ns) w
       by true t r =
           let here : q ≡ name_or_none n = namespace_exact q (name_or_none n)
-          (is_equal (namespace_order q (name_or_none n)) t) in
+          (equal_from (namespace_order q (name_or_none n)) t) in
           record {
             name = n;
             among = (zero, omega arith, refl);
@@ -118,7 +115,7 @@ module _ (m : SchemaMeaning) where
       let same : n ≡ x =
       name_back n x
       (namespace_exact (name_or_none n) (name_or_none x)
-      (is_equal (namespace_order (name_or_none n) (name_or_none x)) t)) in
+      (equal_from (namespace_order (name_or_none n) (name_or_none x)) t)) in
       absurd (less_apart (name_order x n) l (ap (name_order x) same ∙ equal_self x))
 
   opens_at : (n : Name) (ns : List Name) → IsSome (items_of_meaning m n) → IsStrictlySortedBy name_order ns

@@ -1,39 +1,47 @@
 -- The joined namespaces of a tree, by the openings of each name.
-use Rattle.std.proofs.Common.{◌≡◌, ◌||◌, ℕ, Bool, true, false, not, cond, List, [], ◌∷◌, ◌++◌, map, Option, Some, None}
-use Rattle.std.proofs.Common.{option_map, filter, filter_map, flat_map, find, refl, sym, ap, subst, ◌∙◌, true≢false}
+use Rattle.std.proofs.Common.{◌≡◌, ℕ, Bool, true, false, cond, List, [], ◌∷◌, ◌++◌, Option, Some, None}
+use Rattle.std.proofs.Common.{option_map, filter, filter_map, flat_map, find, refl, sym, ap, ◌∙◌, true≢false}
 use Rattle.std.proofs.Common.{if◌then◌else◌}
+use Rattle.std.proofs.lemmas.Option.{same_Some}
 use Rattle.std.specs.BTreeMap.{is_at}
 use Rattle.std.specs.Cmp.Lexicographic.{slice_cmp}
 use Rattle.std.specs.List.{AllByRecursion, list_any, cons_option}
 use Rattle.std.specs.Map.{lookup}
 use Rattle.std.specs.Option.{option_or, option_cmp}
 use Rattle.std.specs.Ordering.{is_eq, ordering_then}
+use Rattle.cedar_data.proofs.Every.{All-append, All-map}
 use Rattle.cedar_data.specs.Maps.{map_of, last_at}
 use Rattle.cedar_data.specs.Text.{text_cmp}
 use Rattle.cedar_data.specs.declared.node.Node.{Node}
+use Rattle.cedar_data.proofs.Orders.{equal_from}
+use Rattle.cedar_data.proofs.Lists.{found_passes, list_any-map}
+use Rattle.cedar_data.proofs.Options.{or_none}
 use Rattle.cedar_identifiers.specs.Names.{components_of, texts_of, has_cedar}
 use Rattle.cedar_identifiers.specs.Words.{is_cedar}
 use Rattle.cedar_identifiers.specs.declared.id.Id.{Id}
 use Rattle.cedar_identifiers.specs.declared.internal_name.InternalName.{InternalName}
 use Rattle.cedar_identifiers.specs.declared.name.Name.{Name}
 use Rattle.cedar_identifiers.specs.declared.raw_name.RawName.{RawName}
+use Rattle.cedar_names.specs.Orders.{id_text_order}
 use Rattle.schema_syntax_tree.specs.declared.annotated.Annotated.{Annotated}
 use Rattle.schema_syntax_tree.specs.declared.declaration.Declaration.{Declaration}
 use Rattle.schema_syntax_tree.specs.declared.namespace.Namespace.{Namespace}
 use Rattle.schema_syntax_tree.specs.declared.path.Path.{Path}
 use Rattle.schema_json.specs.declared.fragment.NamespaceDefinition.{NamespaceDefinition}
+use Rattle.schema_json.specs.Orders.{namespace_cmp}
+use Rattle.schema_json.specs.AsWritten.{as_written}
+use Rattle.schema_readback.specs.PrintedDecls.{IsSome}
 use Rattle.schema_convert_types.specs.Names.{internal_name_of}
-use Rattle.schema_convert_types.specs.Declarations.{as_written}
-use Rattle.schema_convert_types.specs.Fragments.{namespace_cmp, definition_of, declarable_name_so, namespace_key}
+use Rattle.schema_convert_types.specs.Fragments.{definition_of, declarable_name_so, namespace_key}
 use Rattle.schema_convert_types.specs.Fragments.{namespace_entry}
 use Rattle.schema_convert.specs.Joined.{named_so, unnamed_so, named, outside, have_one_name, first_openings}
 use Rattle.schema_convert.specs.Joined.{openings_of, opened_as, joined_by_name, empty_namespace, joined}
-use Rattle.schema_convert.specs.NamesIn.{id_text_cmp, path_cmp}
+use Rattle.schema_convert.specs.NamesIn.{path_cmp}
 use Rattle.schema_convert.specs.Translatable.{IsFreeName}
-use Rattle.schema_readback.specs.PrintedDecls.{IsSome}
+use Rattle.schema_convert.proofs.Own.{all_firsts}
 use Rattle.schema_says.specs.FragmentsSay.{NamespaceName, namespace_order, name_components}
-use Rattle.schema_says.proofs.Firsts.{last_of, last_append, last_first, last_map, find_first, filter_same, all_filter}
-use Rattle.schema_says.proofs.Maps.{lookup_map, is_equal}
+use Rattle.schema_says.proofs.Firsts.{last_of, last_append, last_first, last_map, find_first, filter_same}
+use Rattle.schema_says.proofs.Maps.{lookup_map}
 use Rattle.schema_says.proofs.Orders.{namespace_total, namespace_exact}
 use Rattle.schema_says.proofs.Types.{named as path_named}
 
@@ -50,7 +58,7 @@ tree_name n = name_in_tree n.item.name
 abbrev pub opens : NamespaceName → Opening → Bool
 opens q n = is_at (namespace_order q) (tree_name n)
 
-ids_order : (xs ys : List Id) → slice_cmp id_text_cmp xs ys ≡ slice_cmp text_cmp (texts_of xs) (texts_of ys)
+ids_order : (xs ys : List Id) → slice_cmp id_text_order xs ys ≡ slice_cmp text_cmp (texts_of xs) (texts_of ys)
 ids_order [] [] = refl
 ids_order [] (y ∷ ys) = refl
 ids_order (x ∷ xs) [] = refl
@@ -67,7 +75,7 @@ one_name a b = ap is_eq (paths_order a.item.name b.item.name)
 
 module _ (q : NamespaceName) where
   pub at_name : (x : Opening) → opens q x ≡ true → q ≡ tree_name x
-  at_name x h = namespace_exact q (tree_name x) (is_equal (namespace_order q (tree_name x)) h)
+  at_name x h = namespace_exact q (tree_name x) (equal_from (namespace_order q (tree_name x)) h)
 
   pub same_openings : (x y : Opening) → opens q x ≡ true → have_one_name x y ≡ opens q y
   same_openings x y h = one_name x y ∙ ap (λ n. opens n y) (sym (at_name x h))
@@ -80,7 +88,7 @@ module _ (q : NamespaceName) where
   not_one x y false e h k = e
   not_one x y true e h k =
       let same : tree_name x ≡ tree_name y = namespace_exact (tree_name x) (tree_name y)
-      (is_equal (namespace_order (tree_name x) (tree_name y)) (sym (one_name x y) ∙ e)) in
+      (equal_from (namespace_order (tree_name x) (tree_name y)) (sym (one_name x y) ∙ e)) in
       absurd (true≢false (sym k ∙ (ap (is_at (namespace_order q)) (sym same) ∙ h)))
 
   abbrev pub openings : List Opening → List Opening
@@ -97,24 +105,11 @@ module _ (q : NamespaceName) where
   opened_whole ns [] e (Some n) f g = cc
   opened_whole ns (o ∷ os) e None f g = cc
   opened_whole ns (o ∷ os) e (Some n) f g =
-      let same : n ≡ o = some_same n o g in
-      let passes : opens q o ≡ true = find_passes ns o (f ∙ g) in
+      let same : n ≡ o = same_Some n o g in
+      let passes : opens q o ≡ true = found_passes (opens q) ns o (f ∙ g) in
       ap (λ m. Some (opened_as m (openings_of m ns))) same
       ∙ ap (λ l. Some (opened_as o l))
       (filter_same (have_one_name o) (opens q) (λ y. same_openings o y passes) ns ∙ e)
-    where
-      some_same : (a b : Opening) → Some a ≡ Some b → a ≡ b
-      some_same a b p = cc
-
-      passed : (xs : List Opening) (x y : Opening) (b : Bool) → opens q x ≡ b
-          → cond b (Some x) (find (opens q) xs) ≡ Some y → (find (opens q) xs ≡ Some y → opens q y ≡ true)
-          → opens q y ≡ true
-      passed xs x y true e h r = subst (λ z. opens q z ≡ true) (some_same x y h) e
-      passed xs x y false e h r = r h
-
-      find_passes : (xs : List Opening) (y : Opening) → find (opens q) xs ≡ Some y → opens q y ≡ true
-      find_passes [] y h = cc
-      find_passes (x ∷ xs) y h = passed xs x y (opens q x) refl h (find_passes xs y)
 
   pub last_named : (ns : List Opening) → last_of (opens q) (joined_by_name ns) ≡ whole (openings ns)
   last_named ns =
@@ -187,10 +182,6 @@ joined_unnamed tree =
     ∙ (ap (option_or (last_of (opens None) (empty_namespace (outside tree))))
     (last_named None (named tree) ∙ ap (whole None) (no_unnamed tree))
     ∙ or_none (last_of (opens None) (empty_namespace (outside tree))))
-  where
-    or_none : (o : Option Opening) → option_or o None ≡ o
-    or_none None = refl
-    or_none (Some x) = refl
 
 -- a name has ids
 abbrev pub HasIds : Option Path → Type 0
@@ -198,20 +189,6 @@ HasIds None = Unit {0}
 HasIds (Some p) = IsSome (texts_of p.ids)
 
 module _ (P : Option Path → Type 0) where
-  all_firsts : (ns : List Opening) → AllByRecursion (λ (n : Opening). P n.item.name) ns
-      → AllByRecursion (λ (n : Opening). P n.item.name) (first_openings ns)
-  all_firsts [] h = tt
-  all_firsts (n ∷ ns) h = (
-    h.0,
-    all_filter (λ (m : Opening). P m.item.name) (λ y. not (have_one_name n y)) (first_openings ns)
-        (all_firsts ns h.1),
-  )
-
-  all_opened : (all ns : List Opening) → AllByRecursion (λ (n : Opening). P n.item.name) ns
-      → AllByRecursion (λ (n : Opening). P n.item.name) (map (λ n. opened_as n (openings_of n all)) ns)
-  all_opened all [] h = tt
-  all_opened all (n ∷ ns) h = (h.0, all_opened all ns h.1)
-
   all_named : (tree : List Opening) → AllByRecursion (λ (n : Opening). P n.item.name) tree
       → AllByRecursion (λ (n : Opening). P n.item.name) (named tree)
   all_named [] h = tt
@@ -222,11 +199,6 @@ module _ (P : Option Path → Type 0) where
       by None r = r
       by (Some x) r = (h.0, r)
 
-  both_all : (xs ys : List Opening) → AllByRecursion (λ (n : Opening). P n.item.name) xs
-      → AllByRecursion (λ (n : Opening). P n.item.name) ys → AllByRecursion (λ (n : Opening). P n.item.name) (xs ++ ys)
-  both_all [] ys h k = k
-  both_all (x ∷ xs) ys h k = (h.0, both_all xs ys h.1 k)
-
   all_empty : P None → (ds : List (Annotated (Node Declaration)))
       → AllByRecursion (λ (n : Opening). P n.item.name) (empty_namespace ds)
   all_empty h [] = tt
@@ -236,8 +208,10 @@ module _ (P : Option Path → Type 0) where
   pub all_joined : P None → (tree : List Opening) → AllByRecursion (λ (n : Opening). P n.item.name) tree
       → AllByRecursion (λ (n : Opening). P n.item.name) (joined tree)
   all_joined none tree h =
-      both_all (joined_by_name (named tree)) (empty_namespace (outside tree))
-      (all_opened (named tree) (first_openings (named tree)) (all_firsts (named tree) (all_named tree h)))
+      let Q : Opening → Type 0 = λ n. P n.item.name in
+      All-append Q (joined_by_name (named tree)) (empty_namespace (outside tree))
+      (All-map Q (λ n. opened_as n (openings_of n (named tree))) (first_openings (named tree))
+      (all_firsts Q have_one_name (named tree) (all_named tree h)))
       (all_empty none (outside tree))
 
 -- a name that may be declared
@@ -247,11 +221,7 @@ pub record HasKey (name : Option Path) : Type 0 where
   pub same : name_components key ≡ name_in_tree name
 
 none_reserved : (ids : List Id) → list_any (λ id. is_cedar id.text) ids ≡ false → has_cedar (texts_of ids) ≡ false
-none_reserved ids h = any_map ids ∙ h
-  where
-    any_map : (ids : List Id) → has_cedar (texts_of ids) ≡ list_any (λ id. is_cedar id.text) ids
-    any_map [] = refl
-    any_map (i ∷ ids) = ap (λ b. is_cedar i.text || b) (any_map ids)
+none_reserved ids h = list_any-map is_cedar (λ (id : Id). id.text) ids ∙ h
 
 named_so_far : (name : InternalName) (b : Bool) (e : has_cedar (components_of name) ≡ b) → b ≡ false
     → (m : Name) × (declarable_name_so name b e ≡ Some m) × (m.name ≡ name)

@@ -1,6 +1,8 @@
 -- What may be printed has names.
-use Rattle.std.proofs.Common.{ℕ, List, [], ◌∷◌, ◌++◌, map, Option, Some, None, flat_map}
+use Rattle.std.proofs.Common.{ℕ, List, [], ◌∷◌, map, Option, Some, None, flat_map}
 use Rattle.std.specs.List.{AllByRecursion}
+use Rattle.cedar_data.proofs.Every.{All-weaker, All-append}
+use Rattle.schema_syntax_reader.specs.Leaves.{Notes}
 use Rattle.schema_readback.specs.Written.{WrittenType, WrittenAttributes, path, set, rec, no_more, attribute}
 use Rattle.schema_readback.specs.Written.{WrittenMember, types, context_path, context_record, WrittenDecl, entity, enum}
 use Rattle.schema_readback.specs.Written.{external_entity, action, external_action, common, WrittenDeclared, outside}
@@ -8,19 +10,8 @@ use Rattle.schema_readback.specs.Printed.{IsProperPath, IsProperType, AreProperA
 use Rattle.schema_readback.specs.PrintedDecls.{IsSome, IsProperOptional, IsProperRef, IsProperTags, IsProperMember}
 use Rattle.schema_readback.specs.PrintedDecls.{AreProperMembers, IsProperDecl, IsProperDeclared, Group, IsProperGroup}
 use Rattle.schema_readback.specs.PrintedDecls.{namespace_items, group_items}
-use Rattle.schema_syntax_reader.specs.Leaves.{Notes}
 use Rattle.schema_says.specs.Named.{IsNamedType, AreNamedAttributes, AreNamedTags, IsNamedRole, IsNamedRef}
 use Rattle.schema_says.specs.Named.{IsNamedMember, AreNamedMembers, IsNamedDecl, IsNamedDeclared, IsWellNamed}
-
-all_weaker : {A : Type 0} (P Q : A → Type 0) → ((x : A) → P x → Q x) → (xs : List A) → AllByRecursion P xs
-    → AllByRecursion Q xs
-all_weaker P Q f [] h = tt
-all_weaker P Q f (x ∷ xs) h = (f x h.0, all_weaker P Q f xs h.1)
-
-all_with : {A : Type 0} (P : A → Type 0) (xs ys : List A) → AllByRecursion P xs → AllByRecursion P ys
-    → AllByRecursion P (xs ++ ys)
-all_with P [] ys h k = k
-all_with P (x ∷ xs) ys h k = (h.0, all_with P xs ys h.1 k)
 
 path_named : (p : List (List ℕ)) → IsProperPath p → IsSome p
 path_named [] h = h
@@ -46,22 +37,22 @@ role_named None h = tt
 role_named (Some p) h = path_named p h
 
 member_named : (m : WrittenMember) → IsProperMember m → IsNamedMember m
-member_named (types role ps) h = all_weaker IsProperPath IsSome path_named ps h
+member_named (types role ps) h = All-weaker IsProperPath IsSome path_named ps h
 member_named (context_path p) h = path_named p h
 member_named (context_record xs) h = attributes_named xs h
 
 members_named : (ms : Option (List WrittenMember)) → AreProperMembers ms → AreNamedMembers ms
 members_named None h = tt
-members_named (Some ms) h = all_weaker IsProperMember IsNamedMember member_named ms h.1
+members_named (Some ms) h = All-weaker IsProperMember IsNamedMember member_named ms h.1
 
 decl_named : (d : WrittenDecl) → IsProperDecl d → IsNamedDecl d
 decl_named (entity names ps xs tags) h =
-    (all_weaker IsProperPath IsSome path_named ps h.2, attributes_named xs h.3, tags_named tags h.4)
+    (All-weaker IsProperPath IsSome path_named ps h.2, attributes_named xs h.3, tags_named tags h.4)
 decl_named (enum names choices) h = tt
-decl_named (external_entity names ps) h = all_weaker IsProperPath IsSome path_named ps h.2
+decl_named (external_entity names ps) h = All-weaker IsProperPath IsSome path_named ps h.2
 decl_named (action names rs ms) h =
-    (h.0, all_weaker IsProperRef IsNamedRef (λ r. role_named r.ty) rs h.1, members_named ms h.2)
-decl_named (external_action names rs) h = all_weaker IsProperRef IsNamedRef (λ r. role_named r.ty) rs h.1
+    (h.0, All-weaker IsProperRef IsNamedRef (λ r. role_named r.ty) rs h.1, members_named ms h.2)
+decl_named (external_action names rs) h = All-weaker IsProperRef IsNamedRef (λ r. role_named r.ty) rs h.1
 decl_named (common n t) h = type_named t h.1
 
 declared_named : (d : WrittenDeclared) → IsProperDeclared d → IsNamedDeclared d
@@ -77,10 +68,10 @@ items_named : (notes : Notes) (name : Option (List (List ℕ))) (ds : List Writt
     → AllByRecursion IsWellNamed (namespace_items notes name ds)
 items_named notes None ds h k = outside_named ds k
 items_named notes (Some p) ds h k =
-    ((path_named p h, all_weaker IsProperDeclared IsNamedDeclared declared_named ds k), tt)
+    ((path_named p h, All-weaker IsProperDeclared IsNamedDeclared declared_named ds k), tt)
 
 pub groups_named : (groups : List Group) → AllByRecursion IsProperGroup groups
     → AllByRecursion IsWellNamed (flat_map group_items groups)
 groups_named [] h = tt
-groups_named (g ∷ gs) h = all_with IsWellNamed (group_items g) (flat_map group_items gs)
+groups_named (g ∷ gs) h = All-append IsWellNamed (group_items g) (flat_map group_items gs)
     (items_named g.notes g.name g.decls h.0.1 h.0.2) (groups_named gs h.1)

@@ -3,19 +3,20 @@ use Rattle.std.proofs.Common.{◌≡◌, ℕ, Bool, true, false, List, Option, S
 use Rattle.std.specs.BTreeMap.{is_at}
 use Rattle.std.specs.Map.{lookup}
 use Rattle.cedar_data.specs.Text.{text_cmp}
+use Rattle.cedar_data.proofs.Orders.{text_total, text_exact}
 use Rattle.cedar_identifiers.specs.declared.raw_name.RawName.{RawName}
+use Rattle.schema_syntax_reader.specs.Leaves.{Notes}
 use Rattle.schema_json.specs.Shapes.{attributes_of}
 use Rattle.schema_json.specs.declared.types.Type.{«Type» as Shape}
 use Rattle.schema_json.specs.declared.types.Type.TheVariants as shape
 use Rattle.schema_json.specs.declared.types.TypeVariant.TheVariants as variant
 use Rattle.schema_json.specs.declared.types.TypeOfAttribute.{TypeOfAttribute, out-TypeOfAttribute}
-use Rattle.schema_syntax_reader.specs.Leaves.{Notes}
 use Rattle.schema_readback.specs.Written.{WrittenType, WrittenAttributes, path, set, rec, no_more, attribute}
 use Rattle.schema_says.specs.Bare.{bare, bare_of_attribute}
 use Rattle.schema_says.specs.TypesSay.{TypeSays, AttributeSays, ByTest, is_last_attribute}
-use Rattle.schema_says.proofs.BareTypes.{ref_at, set_at, record_at, record_from, attribute_same, notes_same, name_same}
+use Rattle.schema_says.proofs.BareTypes.{shape_bare, either_bare, set_bare}
+use Rattle.schema_says.proofs.BareTypes.{record_at, record_from, attribute_same, notes_same, name_same}
 use Rattle.schema_says.proofs.Maps.{told_by_names}
-use Rattle.schema_says.proofs.Orders.{text_total, text_exact}
 
 -- what is found is an attribute that says this
 abbrev pub IsAttribute : Notes → Bool → WrittenType → Option (TypeOfAttribute RawName) → Type 0
@@ -31,14 +32,14 @@ mutual
   pub same_type : (t : WrittenType) (s r : Shape RawName) → TypeSays s t → TypeSays r t → bare s ≡ bare r
   same_type (path p) s r (n, loc, e, c) (m, other, f, d) =
       ap bare e
-      ∙ (ref_at n loc
+      ∙ (shape_bare _ _ (either_bare n) loc
       ∙ (ap (λ (x : RawName). shape.Variant (variant.EntityOrCommon x) None) (name_same n m (c ∙ sym d))
-      ∙ (sym (ref_at m other) ∙ ap bare (sym f))))
+      ∙ (sym (shape_bare _ _ (either_bare m) other) ∙ ap bare (sym f))))
   same_type (set t) s r (a, loc, e, h) (b, other, f, k) =
       ap bare e
-      ∙ (set_at a loc
+      ∙ (shape_bare _ _ (set_bare a) loc
       ∙ (ap (λ (x : Shape RawName). shape.Variant (variant.Set x) None) (same_type t a b h k)
-      ∙ (sym (set_at b other) ∙ ap bare (sym f))))
+      ∙ (sym (shape_bare _ _ (set_bare b) other) ∙ ap bare (sym f))))
   same_type (rec xs) s r (a, loc, e, o, up, h) (b, other, f, q, up2, k) =
       let es = told_by_names (TypeOfAttribute RawName) text_cmp text_total text_exact (λ n. n)
       (TypeOfAttribute RawName) (List ℕ) (λ n. n) bare_of_attribute (λ x y p. p)

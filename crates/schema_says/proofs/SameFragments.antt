@@ -1,28 +1,25 @@
 -- Fragments that say the same are the same, places aside.
-use Rattle.std.proofs.Common.{◌≡◌, ℕ, Bool, true, false, List, [], ◌∷◌, map, Option, Some, None, option_map, is_some}
-use Rattle.std.proofs.Common.{refl, sym, ap, subst, ◌∙◌, map-id, true≢false}
-use Rattle.std.proofs.Math.Bool.{Bool-set}
+use Rattle.std.proofs.Common.{◌≡◌, ℕ, Bool, List, [], ◌∷◌, map, Option, Some, None, option_map, is_some}
+use Rattle.std.proofs.Common.{refl, sym, ap, ◌∙◌, map-id, true≢false}
 use Rattle.std.specs.BTreeMap.{is_at}
 use Rattle.std.specs.Cmp.{IsTotalOrder}
 use Rattle.std.specs.Map.{lookup}
 use Rattle.std.specs.declared.cmp.Ordering.{Ordering}
 use Rattle.std.proofs.lemmas.Map.Lookups.{CmpEqualImpliesEq}
+use Rattle.std.proofs.lemmas.Option.{same_Some}
 use Rattle.cedar_data.specs.Span.{Span}
 use Rattle.cedar_data.specs.Text.{text_cmp}
-use Rattle.cedar_data.specs.Words.{is_word}
-use Rattle.cedar_identifiers.specs.Names.{components_of, has_cedar}
-use Rattle.cedar_identifiers.specs.Words.{is_cedar}
+use Rattle.cedar_data.proofs.Orders.{text_total, text_exact}
+use Rattle.cedar_identifiers.specs.Names.{components_of}
 use Rattle.cedar_identifiers.specs.declared.any_id.AnyId.{AnyId}
-use Rattle.cedar_identifiers.specs.declared.id.Id.{Id}
 use Rattle.cedar_identifiers.specs.declared.internal_name.InternalName.{InternalName}
 use Rattle.cedar_identifiers.specs.declared.name.Name.{Name}
 use Rattle.cedar_identifiers.specs.declared.raw_name.RawName.{RawName}
 use Rattle.cedar_identifiers.specs.declared.unreserved_id.UnreservedId.{UnreservedId}
-use Rattle.schema_json.specs.declared.types.Type.{«Type» as Shape, Type-F, fold-roll-Type}
+use Rattle.cedar_identifiers.specs.declared.eid.Eid.{Eid}
+use Rattle.cedar_identifiers.proofs.Same.{any_id_same, unreserved_id_same, name_same as declared_same, ids_same}
+use Rattle.schema_json.specs.declared.types.Type.{«Type» as Shape}
 use Rattle.schema_json.specs.declared.types.Type.TheVariants as shape
-use Rattle.schema_json.specs.declared.types.TypeVariant.{TypeVariant}
-use Rattle.schema_json.specs.declared.types.RecordType.{RecordType, roll-RecordType}
-use Rattle.schema_json.specs.declared.types.TypeOfAttribute.{TypeOfAttribute, roll-TypeOfAttribute}
 use Rattle.schema_json.specs.declared.common_type.CommonType.{CommonType}
 use Rattle.schema_json.specs.declared.common_type.CommonTypeId.{CommonTypeId}
 use Rattle.schema_json.specs.declared.entity_type.EntityType.{EntityType}
@@ -34,12 +31,11 @@ use Rattle.schema_json.specs.declared.action_type.ActionType.{ActionType}
 use Rattle.schema_json.specs.declared.action_type.ApplySpec.{ApplySpec}
 use Rattle.schema_json.specs.declared.fragment.Fragment.{Fragment}
 use Rattle.schema_json.specs.declared.fragment.NamespaceDefinition.{NamespaceDefinition}
-use Rattle.schema_convert_types.specs.Declarations.{as_written}
-use Rattle.cedar_identifiers.specs.declared.eid.Eid.{Eid}
+use Rattle.schema_json.specs.AsWritten.{as_written}
 use Rattle.schema_readback.specs.Written.{WrittenType, no_more, rec, WrittenRef, WrittenMember, types, context_path}
 use Rattle.schema_readback.specs.Written.{context_record, WrittenDecl, entity, enum, external_entity, action}
 use Rattle.schema_readback.specs.Written.{external_action, common, WrittenDeclared, WrittenItem}
-use Rattle.schema_says.specs.Bare.{bare_internal, bare_name, bare, bare_step, bare_variant}
+use Rattle.schema_says.specs.Bare.{bare_internal, bare_name, bare}
 use Rattle.schema_says.specs.BareFragments.{bare_declared, bare_common, bare_kind, bare_entity, bare_spec, bare_ref}
 use Rattle.schema_says.specs.BareFragments.{bare_action, bare_namespace, bare_fragment}
 use Rattle.schema_says.specs.TypesSay.{TypeSays}
@@ -49,9 +45,9 @@ use Rattle.schema_says.specs.DeclarationsSay.{ActionSays}
 use Rattle.schema_says.specs.Entries.{FoundSays, EntriesSay}
 use Rattle.schema_says.specs.FragmentsSay.{WrittenNamespace, NamespaceSays, namespace_order, name_components}
 use Rattle.schema_says.specs.FragmentsSay.{written_in, FragmentSays}
-use Rattle.schema_says.proofs.BareTypes.{name_same, notes_same, id_same, ids_same}
+use Rattle.schema_says.proofs.BareTypes.{name_same, notes_same, reference_bare}
 use Rattle.schema_says.proofs.Maps.{told_by_names}
-use Rattle.schema_says.proofs.Orders.{text_total, text_exact, namespace_total, namespace_exact}
+use Rattle.schema_says.proofs.Orders.{namespace_total, namespace_exact}
 use Rattle.schema_says.proofs.Same.{same_type}
 
 found_alike : {V W Y : Type 0} (Says : V → W → Type 0) (value : V → Y)
@@ -79,31 +75,8 @@ module _ {K N V W Y C : Type 0} (order : N → N → Ordering) (total : IsTotalO
       (λ n. found_alike Says value values (lookup (λ q. is_at (order n) (name q)) es)
       (lookup (λ q. is_at (order n) (name q)) fs) (written n) (h.each n) (k.each n))
 
--- keys go by their texts
-any_id_from : (x y : List ℕ) (e : x ≡ y) (p : is_word x ≡ true) (q : is_word y ≡ true)
-    → (let a : AnyId = record { text = x; word = p } in a) ≡ (let b : AnyId = record { text = y; word = q } in b)
-any_id_from x y e p q =
-    let P : List ℕ → Type 0 = λ z. (r : is_word z ≡ true)
-    → (let a : AnyId = record { text = x; word = p } in a) ≡ (let b : AnyId = record { text = z; word = r } in b) in
-    subst P e (λ r i. record { text = x; word = Bool-set _ _ p r i }) q
-
-any_id_same : (a b : AnyId) → a.text ≡ b.text → a ≡ b
-any_id_same a b e = any_id_from a.text b.text e a.word b.word
-
-unreserved_from : (x y : Id) (e : x ≡ y) (p : is_cedar x.text ≡ false) (q : is_cedar y.text ≡ false)
-    → (let a : UnreservedId = record { id = x; unreserved = p } in a) ≡
-    (let b : UnreservedId = record { id = y; unreserved = q } in b)
-unreserved_from x y e p q =
-    let P : Id → Type 0 = λ z. (r : is_cedar z.text ≡ false)
-    → (let a : UnreservedId = record { id = x; unreserved = p } in a) ≡
-    (let b : UnreservedId = record { id = z; unreserved = r } in b) in
-    subst P e (λ r i. record { id = x; unreserved = Bool-set _ _ p r i }) q
-
-unreserved_same : (a b : UnreservedId) → a.id.text ≡ b.id.text → a ≡ b
-unreserved_same a b e = unreserved_from a.id b.id (id_same a.id b.id e) a.unreserved b.unreserved
-
 common_id_same : (a b : CommonTypeId) → a.id.id.text ≡ b.id.id.text → a ≡ b
-common_id_same a b e = let same = unreserved_same a.id b.id e in λ i. record { id = same i }
+common_id_same a b e = let same = unreserved_id_same a.id b.id e in λ i. record { id = same i }
 
 internal_same : (a b : InternalName) → components_of a ≡ components_of b → bare_internal a ≡ bare_internal b
 internal_same a b e =
@@ -111,19 +84,6 @@ internal_same a b e =
     let first : a.first ≡ b.first = cc in
     let others : a.others ≡ b.others = cc in
     λ i. record { first = first i; others = others i; loc = None }
-
-declared_from : (x y : InternalName) (e : x ≡ y) (p : has_cedar (components_of x) ≡ false)
-    (q : has_cedar (components_of y) ≡ false)
-    → (let a : Name = record { name = x; unreserved = p } in a) ≡
-    (let b : Name = record { name = y; unreserved = q } in b)
-declared_from x y e p q =
-    let P : InternalName → Type 0 = λ z. (r : has_cedar (components_of z) ≡ false)
-    → (let a : Name = record { name = x; unreserved = p } in a) ≡
-    (let b : Name = record { name = z; unreserved = r } in b) in
-    subst P e (λ r i. record { name = x; unreserved = Bool-set _ _ p r i }) q
-
-some_same : {X : Type 0} (a b : X) → Some a ≡ Some b → a ≡ b
-some_same a b h = cc
 
 not_some : {X Y : Type 0} (x : X) → Some x ≡ None → Y
 not_some x h = absurd (true≢false (ap is_some h))
@@ -134,9 +94,8 @@ namespace_name_same None None e = refl
 namespace_name_same None (Some b) e = not_some (components_of b.name) (sym e)
 namespace_name_same (Some a) None e = not_some (components_of a.name) e
 namespace_name_same (Some a) (Some b) e =
-    ap Some (declared_from (bare_internal a.name) (bare_internal b.name)
-    (internal_same a.name b.name (some_same (components_of a.name) (components_of b.name) e))
-    a.unreserved b.unreserved)
+    ap Some (declared_same (bare_declared a) (bare_declared b)
+    (internal_same a.name b.name (same_Some (components_of a.name) (components_of b.name) e)))
 
 -- names in lists
 paths_same : (ns ms : List RawName) → written_paths ns ≡ written_paths ms → map bare_name ns ≡ map bare_name ms
@@ -223,15 +182,6 @@ common_same a b w h k =
     let notes = notes_same a.annotations b.annotations w.notes h.0 k.0 in
     λ i. record { ty = ty i; annotations = notes i; loc = None }
 
--- a reference that must mean a common type
-common_ref_bare : (n : RawName) (loc : Option Span)
-    → bare (shape.CommonTypeRef n loc) ≡ shape.CommonTypeRef (bare_name n) None
-common_ref_bare n loc =
-    ap bare (sym (shape.rolls-CommonTypeRef n loc))
-    ∙ (fold-roll-Type RawName (Shape RawName) (TypeVariant RawName) (RecordType RawName)
-    (TypeOfAttribute RawName) bare_step bare_variant (roll-RecordType RawName) (roll-TypeOfAttribute RawName)
-    (Type-F.CommonTypeRef n loc) ∙ shape.rolls-CommonTypeRef (bare_name n) None)
-
 module _ (s r : Shape RawName) where
   context_same : (A B : Type 0) → (A → B → bare s ≡ bare r) → (ms : List WrittenMember) → ContextOr A s ms
       → ContextOr B r ms → bare s ≡ bare r
@@ -243,9 +193,9 @@ module _ (s r : Shape RawName) where
       × (components_of name.name ≡ p))
       ((name : RawName) × (loc : Option Span) × (r ≡ shape.CommonTypeRef name loc) × (components_of name.name ≡ p))
       (λ (n, loc, e, c) (m, other, g, d). ap bare e
-      ∙ (common_ref_bare n loc
+      ∙ (reference_bare n loc
       ∙ (ap (λ (x : RawName). shape.CommonTypeRef x None) (name_same n m (c ∙ sym d))
-      ∙ (sym (common_ref_bare m other) ∙ ap bare (sym g)))))
+      ∙ (sym (reference_bare m other) ∙ ap bare (sym g)))))
       ms h k
   context_same A B f (context_record xs ∷ ms) h k =
       context_same (TypeSays s (rec xs)) (TypeSays r (rec xs)) (λ p q. same_type (rec xs) s r p q) ms h k
@@ -267,7 +217,7 @@ role_same : (a b : Option RawName) → option_map (λ (n : RawName). components_
 role_same None None e = refl
 role_same None (Some b) e = not_some (components_of b.name) (sym e)
 role_same (Some a) None e = not_some (components_of a.name) e
-role_same (Some a) (Some b) e = ap Some (name_same a b (some_same (components_of a.name) (components_of b.name) e))
+role_same (Some a) (Some b) e = ap Some (name_same a b (same_Some (components_of a.name) (components_of b.name) e))
 
 ref_same : (a b : Reference) → written_ref a ≡ written_ref b → bare_ref a ≡ bare_ref b
 ref_same a b e =
@@ -346,7 +296,7 @@ namespace_same a b w h k =
     let commons = entries_same text_cmp text_total text_exact (λ (id : CommonTypeId). id.id.id.text) CommonSays
     (λ id. id) bare_common common_id_same common_same a.common_types b.common_types _ h.commons k.commons in
     let entities = entries_same text_cmp text_total text_exact (λ (id : UnreservedId). id.id.text) EntitySays
-    (λ id. id) bare_entity unreserved_same entity_same a.entity_types b.entity_types _ h.entities k.entities in
+    (λ id. id) bare_entity unreserved_id_same entity_same a.entity_types b.entity_types _ h.entities k.entities in
     let actions = entries_same text_cmp text_total text_exact (λ (id : List ℕ). id) ActionSays (λ id. id) bare_action
     (λ x y e. e) action_same a.actions b.actions _ h.actions k.actions in
     let notes = entries_same text_cmp text_total text_exact (λ (id : AnyId). id.text) (λ v x. v ≡ x) (λ id. id)

@@ -1,32 +1,34 @@
 -- A tree is lawful exactly where what it says can be translated.
-use Rattle.std.proofs.Common.{◌≡◌, ◌↔◌, ◌||◌, ℕ, Bool, true, false, not, cond, List, [], ◌∷◌, ◌++◌, map, Option, Some}
+use Rattle.std.proofs.Common.{◌≡◌, ◌↔◌, ◌||◌, ℕ, Bool, true, false, cond, List, [], ◌∷◌, ◌++◌, Option, Some}
 use Rattle.std.proofs.Common.{None, option_map, filter, flat_map, refl, sym, ap, subst, ◌∙◌, true≢false}
+use Rattle.std.proofs.lemmas.Bool.{or_right}
+use Rattle.std.proofs.lemmas.Option.{same_Some}
 use Rattle.std.specs.Cmp.{tied_itself}
 use Rattle.std.specs.List.{AllZip, AllByRecursion, list_any}
 use Rattle.std.specs.Ordering.{is_eq}
+use Rattle.cedar_data.proofs.Every.{all_kept_by, kept_by_passes, All-weaker, All-map, All-append}
 use Rattle.cedar_data.specs.declared.node.Node.{Node}
+use Rattle.cedar_data.proofs.Every.{all_both}
+use Rattle.cedar_identifiers.specs.Names.{texts_of}
 use Rattle.schema_syntax_tree.specs.declared.annotated.Annotated.{Annotated}
 use Rattle.schema_syntax_tree.specs.declared.declaration.Declaration.{Declaration}
 use Rattle.schema_syntax_tree.specs.declared.path.Path.{Path}
-use Rattle.cedar_identifiers.specs.Names.{texts_of}
+use Rattle.schema_readback.specs.Written.{WrittenItem, namespace, outside as stands_outside}
+use Rattle.schema_readback.specs.Shows.{SaysDeclared, SaysItem}
 use Rattle.schema_convert.specs.Joined.{named_so, named, outside, have_one_name, first_openings, openings_of, opened_as}
 use Rattle.schema_convert.specs.Joined.{joined_by_name, empty_namespace, joined}
 use Rattle.schema_convert.specs.Translatable.{IsLawfulNamespace, IsTranslatable}
-use Rattle.schema_readback.specs.Written.{WrittenItem, namespace, outside as stands_outside}
-use Rattle.schema_readback.specs.Shows.{SaysDeclared, SaysItem}
+use Rattle.schema_convert.proofs.Own.{all_firsts}
 use Rattle.schema_says.specs.Named.{IsWellNamed}
 use Rattle.schema_says.specs.FragmentsSay.{NamespaceName, WrittenNamespace, notes_of_item, decls_of_item}
 use Rattle.schema_says.specs.FragmentsSay.{is_of_namespace, items_of_namespace, opened}
 use Rattle.schema_says.specs.Sayable.{IsSayableNamespace, IsSayable}
-use Rattle.schema_says.proofs.Firsts.{last_of, last_has, all_filter, filter_same}
-use Rattle.schema_says.proofs.Fragments.{openings_say, decls_say, decls_named, all_pass, StandsOutside}
+use Rattle.schema_says.proofs.Firsts.{last_of, last_has, filter_same}
+use Rattle.schema_says.proofs.Fragments.{openings_say, decls_say, decls_named, StandsOutside}
 use Rattle.schema_says.proofs.Lawful.{namespace_iff}
 use Rattle.schema_says.proofs.Openings.{Opening, tree_name, opens, at_name, one_name, openings, whole, named_opens}
 use Rattle.schema_says.proofs.Openings.{joined_named, joined_unnamed, outside_opens}
 use Rattle.schema_says.proofs.Orders.{namespace_total}
-
-some_same : (a b : WrittenNamespace) → Some a ≡ Some b → a ≡ b
-some_same a b p = cc
 
 not_some : {X : Type 0} (a : WrittenNamespace) → None ≡ Some a → X
 not_some a p = cc
@@ -43,7 +45,7 @@ named_sayable p (o ∷ os) (i ∷ is) h k out lawful n e =
     record { notes = flat_map notes_of_item (i ∷ is); decls = flat_map decls_of_item (i ∷ is) } in
     let iff = namespace_iff (opened_as o (o ∷ os)) (Some p) (flat_map decls_of_item (i ∷ is))
     (sym (at_name (Some p) o out.0)) (decls_say (o ∷ os) (i ∷ is) h) (decls_named (i ∷ is) k) in
-    subst (λ (m : WrittenNamespace). IsSayableNamespace (Some p) m.decls) (some_same made n e)
+    subst (λ (m : WrittenNamespace). IsSayableNamespace (Some p) m.decls) (same_Some made n e)
     (iff.0 (lawful (opened_as o (o ∷ os)) refl))
 
 unnamed_sayable : (ds : List (Annotated (Node Declaration))) (is : List WrittenItem)
@@ -65,7 +67,7 @@ unnamed_sayable (d ∷ ds) (stands_outside w ∷ is) h k out lawful n e =
     record { item = record { name = None; decls = d ∷ ds; loc = None }; annotations = record { 0 = [] } } in
     let iff = namespace_iff whole_one None (flat_map decls_of_item (stands_outside w ∷ is)) refl h
     (decls_named (stands_outside w ∷ is) k) in
-    subst (λ (m : WrittenNamespace). IsSayableNamespace None m.decls) (some_same made n e)
+    subst (λ (m : WrittenNamespace). IsSayableNamespace None m.decls) (same_Some made n e)
     (iff.0 (lawful whole_one refl))
 
 -- what is written of items, where there are any
@@ -90,22 +92,13 @@ kept {A} test (x ∷ xs) h e = by (kept test xs) (test x) h e
     by r true p q = cc
     by r false p q = r p q
 
-all_weaker : {A : Type 0} (P Q : A → Type 0) → ((x : A) → P x → Q x) → (xs : List A) → AllByRecursion P xs
-    → AllByRecursion Q xs
-all_weaker P Q f [] h = tt
-all_weaker P Q f (x ∷ xs) h = (f x h.0, all_weaker P Q f xs h.1)
-
-both_true : (a b : Bool) → b ≡ true → (a || b) ≡ true
-both_true true b h = refl
-both_true false b h = h
-
 all_there : (xs : List Opening) → AllByRecursion (λ (n : Opening). list_any (opens (tree_name n)) xs ≡ true) xs
 all_there [] = tt
 all_there (x ∷ xs) = (
   ap (λ c. is_eq c || list_any (opens (tree_name x)) xs) (tied_itself namespace_total (tree_name x)),
-  all_weaker (λ (n : Opening). list_any (opens (tree_name n)) xs ≡ true)
+  All-weaker (λ (n : Opening). list_any (opens (tree_name n)) xs ≡ true)
       (λ (n : Opening). list_any (opens (tree_name n)) (x ∷ xs) ≡ true)
-      (λ n h. both_true (opens (tree_name n) x) (list_any (opens (tree_name n)) xs) h) xs (all_there xs),
+      (λ n h. or_right (opens (tree_name n) x) (list_any (opens (tree_name n)) xs) h) xs (all_there xs),
 )
 
 -- a name
@@ -121,25 +114,6 @@ all_have_names (a ∷ tree) = by a.item.name refl (all_have_names tree)
     by None e r = r
     by (Some x) e r = ((texts_of x.ids, ap (option_map (λ (p : Path). texts_of p.ids)) e), r)
 
-both_all : {A : Type 0} (P Q R : A → Type 0) → ((x : A) → P x → Q x → R x) → (xs : List A) → AllByRecursion P xs
-    → AllByRecursion Q xs → AllByRecursion R xs
-both_all P Q R f [] h k = tt
-both_all P Q R f (x ∷ xs) h k = (f x h.0 k.0, both_all P Q R f xs h.1 k.1)
-
-all_of_map : {A B : Type 0} (P : B → Type 0) (f : A → B) (xs : List A) → AllByRecursion (λ x. P (f x)) xs
-    → AllByRecursion P (map f xs)
-all_of_map P f [] h = tt
-all_of_map P f (x ∷ xs) h = (h.0, all_of_map P f xs h.1)
-
-firsts_have : (P : Opening → Type 0) (ns : List Opening) → AllByRecursion P ns → AllByRecursion P (first_openings ns)
-firsts_have P [] h = tt
-firsts_have P (n ∷ ns) h = (h.0, all_filter P (λ y. not (have_one_name n y)) (first_openings ns) (firsts_have P ns h.1))
-
-all_with : (P : Opening → Type 0) (xs ys : List Opening) → AllByRecursion P xs → AllByRecursion P ys
-    → AllByRecursion P (xs ++ ys)
-all_with P [] ys h k = k
-all_with P (x ∷ xs) ys h k = (h.0, all_with P xs ys h.1 k)
-
 module _ (tree : List Opening) (w : List WrittenItem) (h : AllZip SaysItem tree w)
     (k : AllByRecursion IsWellNamed w) where
   outside_says : AllZip SaysDeclared (outside tree) (flat_map decls_of_item (items_of_namespace None w))
@@ -154,11 +128,11 @@ module _ (tree : List Opening) (w : List WrittenItem) (h : AllZip SaysItem tree 
   sayable : IsTranslatable tree → IsSayable w
   sayable lawful (Some p) n e =
       named_sayable p (openings (Some p) tree) (items_of_namespace (Some p) w) (openings_say (Some p) tree w h)
-      (all_filter IsWellNamed (is_of_namespace (Some p)) w k) (all_pass (opens (Some p)) tree)
+      (all_kept_by (is_of_namespace (Some p)) IsWellNamed w k) (kept_by_passes (opens (Some p)) tree)
       (last_lawful lawful (Some p) (whole (Some p) (openings (Some p) tree)) (joined_named p tree)) n e
   sayable lawful None n e =
       unnamed_sayable (outside tree) (items_of_namespace None w) outside_says
-      (all_filter IsWellNamed (is_of_namespace None) w k) (all_pass (is_of_namespace None) w)
+      (all_kept_by (is_of_namespace None) IsWellNamed w k) (kept_by_passes (is_of_namespace None) w)
       (last_lawful lawful None (last_of (opens None) (empty_namespace (outside tree))) (joined_unnamed tree)) n e
 
   -- an item that has declarations that say what is written in a namespace
@@ -167,7 +141,7 @@ module _ (tree : List Opening) (w : List WrittenItem) (h : AllZip SaysItem tree 
   lawful_at says q n same some z =
       let o = opened_here (items_of_namespace q w) some in
       (namespace_iff n q (flat_map decls_of_item (items_of_namespace q w)) same z
-      (decls_named (items_of_namespace q w) (all_filter IsWellNamed (is_of_namespace q) w k))).1
+      (decls_named (items_of_namespace q w) (all_kept_by (is_of_namespace q) IsWellNamed w k))).1
       (subst (IsSayableNamespace q) o.2 (says q o.0 o.1))
 
   named_lawful : IsSayable w → (n : Opening) → HasName n → list_any (opens (tree_name n)) (named tree) ≡ true
@@ -199,12 +173,12 @@ module _ (tree : List Opening) (w : List WrittenItem) (h : AllZip SaysItem tree 
 
   translatable : IsSayable w → IsTranslatable tree
   translatable says =
-      let all = both_all HasName (λ (n : Opening). list_any (opens (tree_name n)) (named tree) ≡ true)
+      let all = all_both HasName (λ (n : Opening). list_any (opens (tree_name n)) (named tree) ≡ true)
       (λ (n : Opening). IsLawfulNamespace (opened_as n (openings_of n (named tree))))
       (named_lawful says) (named tree) (all_have_names tree) (all_there (named tree)) in
-      all_with IsLawfulNamespace (joined_by_name (named tree)) (empty_namespace (outside tree))
-      (all_of_map IsLawfulNamespace (λ n. opened_as n (openings_of n (named tree))) (first_openings (named tree))
-      (firsts_have (λ (n : Opening). IsLawfulNamespace (opened_as n (openings_of n (named tree))))
+      All-append IsLawfulNamespace (joined_by_name (named tree)) (empty_namespace (outside tree))
+      (All-map IsLawfulNamespace (λ n. opened_as n (openings_of n (named tree))) (first_openings (named tree))
+      (all_firsts (λ (n : Opening). IsLawfulNamespace (opened_as n (openings_of n (named tree)))) have_one_name
       (named tree) all))
       (empty_lawful says (outside tree) outside_says)
 

@@ -9,31 +9,31 @@ use Rattle.cedar_data.specs.Maps.{map_of, last_at}
 use Rattle.cedar_data.specs.Span.{Span}
 use Rattle.cedar_data.specs.Text.{text_cmp}
 use Rattle.cedar_data.specs.declared.node.Node.{Node}
+use Rattle.cedar_data.proofs.Orders.{text_total, text_exact}
 use Rattle.cedar_identifiers.specs.Names.{components_of, texts_of}
 use Rattle.cedar_identifiers.specs.declared.id.Id.{Id}
 use Rattle.cedar_identifiers.specs.declared.raw_name.RawName.{RawName}
 use Rattle.schema_syntax_tree.specs.declared.annotated.Annotated.{Annotated}
 use Rattle.schema_syntax_tree.specs.declared.types.AttrDecl.{AttrDecl, out-AttrDecl}
 use Rattle.schema_syntax_tree.specs.declared.types.Type.{«Type»}
+use Rattle.schema_syntax_reader.specs.Leaves.{Notes}
 use Rattle.schema_json.specs.Shapes.{attributes_of}
 use Rattle.schema_json.specs.declared.types.Type.{«Type» as Shape}
 use Rattle.schema_json.specs.declared.types.RecordType.{RecordType, out-RecordType, out-roll-RecordType, RecordType-F}
 use Rattle.schema_json.specs.declared.types.TypeOfAttribute.{TypeOfAttribute, roll-TypeOfAttribute, out-TypeOfAttribute}
 use Rattle.schema_json.specs.declared.types.TypeOfAttribute.{out-roll-TypeOfAttribute, TypeOfAttribute-F}
 use Rattle.schema_json.specs.declared.types.TypeVariant.{TypeVariant}
-use Rattle.schema_convert_types.specs.Names.{raw_name_of, name_of_ids}
-use Rattle.schema_convert_types.specs.Types.{AttributeEntry, record_of, record_type, type_at, attribute_of}
-use Rattle.schema_syntax_reader.specs.Leaves.{Notes}
 use Rattle.schema_readback.specs.Written.{WrittenType, WrittenAttributes, rec}
 use Rattle.schema_readback.specs.PrintedDecls.{IsSome}
 use Rattle.schema_readback.specs.Shows.{ShowsType, shows_path, shows_set, shows_record, ShowsAttributes, shows_none}
 use Rattle.schema_readback.specs.Shows.{shows_more}
+use Rattle.schema_convert_types.specs.Names.{raw_name_of, name_of_ids}
+use Rattle.schema_convert_types.specs.Types.{AttributeEntry, record_of, record_type, type_at, attribute_of}
+use Rattle.schema_convert_types.proofs.TypeSteps.{set_at, ident_at, record_at, attribute_is}
 use Rattle.schema_says.specs.Named.{IsNamedType, AreNamedAttributes}
 use Rattle.schema_says.specs.TypesSay.{TypeSays, AttributeSays, ByTest, has_attribute, is_last_attribute}
 use Rattle.schema_says.proofs.Maps.{lookup_map, map_rises}
-use Rattle.schema_says.proofs.Orders.{text_total, text_exact}
 use Rattle.schema_says.proofs.Same.{IsAttribute}
-use Rattle.schema_says.proofs.Steps.{set_at, ident_at, record_at, attribute_is}
 
 -- a path has an id
 pub named : (ids : List Id) (loc : Option Span) → IsSome (texts_of ids)

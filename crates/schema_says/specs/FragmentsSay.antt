@@ -12,11 +12,11 @@ use Rattle.cedar_identifiers.specs.declared.any_id.AnyId.{AnyId}
 use Rattle.cedar_identifiers.specs.declared.name.Name.{Name}
 use Rattle.cedar_identifiers.specs.declared.raw_name.RawName.{RawName}
 use Rattle.cedar_identifiers.specs.declared.unreserved_id.UnreservedId.{UnreservedId}
+use Rattle.schema_syntax_reader.specs.Leaves.{Notes}
 use Rattle.schema_json.specs.declared.common_type.CommonTypeId.{CommonTypeId}
 use Rattle.schema_json.specs.declared.fragment.Fragment.{Fragment}
 use Rattle.schema_json.specs.declared.fragment.NamespaceDefinition.{NamespaceDefinition}
-use Rattle.schema_syntax_reader.specs.Leaves.{Notes}
-use Rattle.schema_convert_types.specs.Declarations.{as_written}
+use Rattle.schema_json.specs.AsWritten.{as_written}
 use Rattle.schema_readback.specs.Written.{WrittenDecl, entity, enum, external_entity, action, external_action, common}
 use Rattle.schema_readback.specs.Written.{WrittenDeclared, WrittenItem, namespace, outside}
 use Rattle.schema_says.specs.DeclarationsSay.{EntitySays, ActionSays, CommonSays}

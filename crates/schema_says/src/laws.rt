@@ -10,7 +10,7 @@ ghost use Rattle.schema_syntax_tree.specs.declared.namespace.Namespace.{Namespac
 ghost use Rattle.schema_syntax_tree.specs.declared.types.Type.{«Type»};
 ghost use Rattle.schema_json.specs.declared.types.Type.{«Type» as Shape};
 ghost use Rattle.schema_json.specs.declared.fragment.Fragment.{Fragment};
-ghost use Rattle.schema_convert_types.specs.Declarations.{as_written};
+ghost use Rattle.schema_json.specs.AsWritten.{as_written};
 ghost use Rattle.schema_convert_types.specs.Types.{type_at};
 ghost use Rattle.schema_convert.specs.Faults.{translation_faults};
 ghost use Rattle.schema_convert.specs.Translated.{translated};

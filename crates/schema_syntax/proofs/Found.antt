@@ -1,18 +1,18 @@
 -- The fault that is found, from the tokens and the fault of their kinds.
-use Rattle.std.proofs.Common.{◌≡◌, ◌+◌, ◌<◌, ◌≤◌, ◌-◌, ℕ, List, [], ◌∷◌, ◌++◌, length, refl, sym}
-use Rattle.std.proofs.Common.{subst, arith, append-nil}
+use Rattle.std.proofs.Common.{◌≡◌, ◌+◌, ◌<◌, ◌≤◌, ℕ, List, [], ◌∷◌, ◌++◌, length, refl, sym}
+use Rattle.std.proofs.Common.{subst, arith}
 use Rattle.std.proofs.lemmas.List.{take_all}
 use Rattle.schema_syntax_grammar.specs.declared.token_kind.TokenKind.{TokenKind}
 use Rattle.schema_syntax_grammar.specs.declared.token_kind.TheConstants.{ALL_KINDS}
-use Rattle.schema_syntax_grammar.specs.Grammar.{Sentence, Viable, no_item}
+use Rattle.schema_syntax_grammar.specs.Grammar.{Viable, no_item}
 use Rattle.schema_syntax_grammar.specs.Fault.{IsFault}
 use Rattle.schema_syntax_tokens.specs.declared.token.Token.{Token}
 use Rattle.schema_syntax_tokens.specs.Scans.{Scans}
+use Rattle.schema_syntax_tokens.specs.TokenLists.{kinds_of}
 use Rattle.schema_syntax.specs.declared.syntax_fault.SyntaxFault.{SyntaxFault}
 use Rattle.schema_syntax.specs.declared.syntax_fault.SyntaxFault.TheVariants.{InvalidToken}
 use Rattle.schema_syntax.specs.SyntaxFaults.{IsSyntaxFault, unrecognized_token, invalid_token, unrecognized_eof}
 use Rattle.schema_syntax.specs.SyntaxFaults.{IsTokenAt, IsEndOf}
-use Rattle.schema_syntax_tokens.specs.TokenLists.{kinds_of}
 
 -- there are as many kinds as tokens
 pub kinds_long : (tokens : List Token) → length (kinds_of tokens) ≡ length tokens
@@ -50,7 +50,3 @@ module _ (text : List ℕ) (tokens : List Token) (at place : ℕ) (expected : Li
       subst (λ ts. IsFault ALL_KINDS (kinds_of ts) (length ts) expected) f.2
       (subst (λ p. IsFault ALL_KINDS (kinds_of tokens) p expected) same is) in
       subst (IsSyntaxFault text) (sym f.3) (unrecognized_eof f.0 f.1 here fault_here)
-
--- a sentence is the beginning of one
-pub sentence_viable : (kinds : List TokenKind) → Sentence kinds → Viable kinds
-sentence_viable kinds s = ([], subst Sentence (sym (append-nil kinds)) s)

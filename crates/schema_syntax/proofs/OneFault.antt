@@ -1,22 +1,22 @@
 -- A text has one syntax fault at most, and none where its tokens are those of a schema.
 use Rattle.std.proofs.Common.{◌≡◌, ◌+◌, ◌<◌, ℕ, List, [], ◌∷◌, ◌++◌, length, take, drop, Some, sym, ap, ◌∙◌, subst}
-use Rattle.std.proofs.Common.{arith, refl, length-append}
+use Rattle.std.proofs.Common.{arith, refl}
 use Rattle.std.specs.Prelude.{slice_get, slice_range}
 use Rattle.std.specs.Str.{chars}
-use Rattle.std.proofs.lemmas.List.{take-append-drop}
-use Rattle.std.proofs.lemmas.Option.{slice_get_within}
+use Rattle.std.proofs.lemmas.List.{take-append-drop, same_from_push}
+use Rattle.std.proofs.lemmas.Option.{slice_get_within, same_Some}
 use Rattle.schema_syntax_grammar.specs.declared.token_kind.TokenKind.{TokenKind}
 use Rattle.schema_syntax_grammar.specs.declared.token_kind.TheConstants.{ALL_KINDS}
 use Rattle.schema_syntax_grammar.specs.Grammar.{Sentence, Viable}
 use Rattle.schema_syntax_grammar.specs.Fault.{IsFault}
 use Rattle.schema_syntax_tokens.specs.declared.token.Token.{Token}
 use Rattle.schema_syntax_tokens.specs.Scans.{Scans}
+use Rattle.schema_syntax_tokens.specs.TokenLists.{kinds_of}
 use Rattle.schema_syntax.specs.declared.syntax_fault.SyntaxFault.{SyntaxFault}
 use Rattle.schema_syntax.specs.declared.syntax_fault.SyntaxFault.TheVariants.{InvalidToken, UnrecognizedToken}
 use Rattle.schema_syntax.specs.declared.syntax_fault.SyntaxFault.TheVariants.{UnrecognizedEof}
 use Rattle.schema_syntax.specs.SyntaxFaults.{IsSyntaxFault, unrecognized_token, invalid_token, unrecognized_eof}
 use Rattle.schema_syntax.specs.SyntaxFaults.{IsSentence}
-use Rattle.schema_syntax_tokens.specs.TokenLists.{kinds_of}
 use Rattle.schema_syntax.proofs.Found.{kinds_long}
 
 abbrev OneScan : Type 0
@@ -29,23 +29,10 @@ OneFault = (kinds first second : List TokenKind) (p q : ℕ) → IsFault ALL_KIN
 abbrev Fronts : Type 0
 Fronts = (front rest : List TokenKind) → Viable (front ++ rest) → Viable front
 
--- what `Some` holds is one
-some_once : {A : Type 0} (a b : A) → Some a ≡ Some b → a ≡ b
-some_once a b e = cc
-
 -- the token at a place is one
 one_token : (tokens : List Token) (p q : ℕ) (t u : Token) → p ≡ q → slice_get tokens p ≡ Some t
     → slice_get tokens q ≡ Some u → t ≡ u
-one_token tokens p q t u e g h = some_once t u (sym g ∙ ap (slice_get tokens) e ∙ h)
-
--- the last item is one
-one_last : {A : Type 0} (front other : List A) (last end : A) → front ++ last ∷ [] ≡ other ++ end ∷ [] → last ≡ end
-one_last [] [] a b e = cc
-one_last [] (y ∷ ys) a b e = let h : length (a ∷ []) ≡ length (y ∷ (ys ++ b ∷ [])) = ap length e in
-    let l = length-append ys (b ∷ []) in absurd (omega arith)
-one_last (x ∷ xs) [] a b e = let h : length (x ∷ (xs ++ a ∷ [])) ≡ length (b ∷ []) = ap length e in
-    let l = length-append xs (a ∷ []) in absurd (omega arith)
-one_last (x ∷ xs) (y ∷ ys) a b e = one_last xs ys a b cc
+one_token tokens p q t u e g h = same_Some t u (sym g ∙ ap (slice_get tokens) e ∙ h)
 
 -- the fault that a token is
 abbrev fault_at : List ℕ → Token → List TokenKind → SyntaxFault
@@ -108,7 +95,7 @@ module _ (scan_once : OneScan) (fault_once : OneFault) (fronts : Fronts) (text :
       let all = ts ++ t ∷ [] in
       let once = fault_once (kinds_of all) first second (length all) (length all) f
       (subst (λ x. IsFault ALL_KINDS (kinds_of x) (length x) second) same f2) in
-      let last : t ≡ u = one_last ts us t u (sym same) in
+      let last : t ≡ u = (same_from_push ts us t u (sym same)).1 in
       ap (λ x. UnrecognizedEof x.loc.end first) last ∙ ap (UnrecognizedEof u.loc.end) once.1
 
   pub one_syntax_fault_from : (fault other : SyntaxFault) → IsSyntaxFault text fault → IsSyntaxFault text other

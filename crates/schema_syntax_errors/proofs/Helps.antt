@@ -3,12 +3,12 @@ use Rattle.std.proofs.Common.{◌≡◌, ℕ, Bool, true, false, List, [], ◌�
 use Rattle.std.specs.Option.{MatchOption}
 use Rattle.std.specs.Prelude.{⊤}
 use Rattle.std.specs.Str.{chars}
+use Rattle.cedar_data.proofs.Ascii.{chars-from_test}
 use Rattle.schema_syntax_errors.specs.declared.parse_error.ParseError.{ParseError}
 use Rattle.schema_syntax_errors.specs.declared.parse_error.ParseError.TheVariants.{InvalidToken, UnrecognizedEof}
 use Rattle.schema_syntax_errors.specs.declared.parse_error.ParseError.TheVariants.{UnrecognizedToken, ExtraToken, User}
 use Rattle.schema_syntax_errors.specs.FaultHelps.{missing_applies_to, trailing_namespace_semicolon, misses_applies_to}
 use Rattle.schema_syntax_errors.specs.FaultHelps.{ends_namespace, parse_error_help, first_error_help}
-use Rattle.cedar_data.proofs.Ascii.{chars-from_test}
 
 abbrev Plain : Option (List ℕ) → Type 0
 Plain help = MatchOption help ⊤ (λ text. chars text ≡ text)
@@ -27,10 +27,11 @@ plain_fault (UnrecognizedToken start token end expected) source =
 plain_fault (ExtraToken start token end) source = tt
 plain_fault (User fault) source = tt
 
-plain_first : (faults : List ParseError) (source : List ℕ) → Plain (first_error_help faults source)
-plain_first [] source = tt
-plain_first (first ∷ others) source = plain_fault first source
+pub advice_characters : (fault : ParseError) (source help : List ℕ) → Some help ≡ parse_error_help fault source
+    → chars help ≡ help
+advice_characters fault source help e = subst Plain (sym e) (plain_fault fault source)
 
 pub help_characters : (faults : List ParseError) (source help : List ℕ) → Some help ≡ first_error_help faults source
     → chars help ≡ help
-help_characters faults source help e = subst Plain (sym e) (plain_first faults source)
+help_characters [] source help e = absurd (cc)
+help_characters (first ∷ others) source help e = advice_characters first source help e

@@ -1,4 +1,4 @@
-mod Helps
+pub mod Helps
 mod LastVisible
 mod Listing
 mod SameKinds

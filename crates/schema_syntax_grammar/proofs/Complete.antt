@@ -20,7 +20,8 @@ use Rattle.schema_syntax_grammar.specs.declared.symbol.Symbol.TheVariants.{Apps,
 use Rattle.schema_syntax_grammar.specs.declared.symbol.Symbol.TheVariants.{Paths, PathsTail, Refs, RefList, RefListTail}
 use Rattle.schema_syntax_grammar.specs.declared.symbol.Symbol.TheVariants.{RefTail, RefStep, AnyType, SetTail, Record}
 use Rattle.schema_syntax_grammar.specs.declared.symbol.Symbol.TheVariants.{Attrs, AttrsTail, Attr, Mark}
-use Rattle.schema_syntax_grammar.specs.Grammar.{is_word_kind, is_ident, Part, schema, item, decls, decl, bare_decl}
+use Rattle.schema_syntax_grammar.specs.Grammar.{is_word_kind, is_ident, Nonterminal, schema, item, decls, decl}
+use Rattle.schema_syntax_grammar.specs.Grammar.{bare_decl}
 use Rattle.schema_syntax_grammar.specs.Grammar.{idents, parents, shape, tags, strings, names, name, in_refs, applies}
 use Rattle.schema_syntax_grammar.specs.Grammar.{apps, app, types, paths, refs, ref_list, ref, ty, rec, attrs, attr}
 use Rattle.schema_syntax_grammar.specs.Grammar.{mark, path, anns, Phrase, no_item, more_items, namespace_item}
@@ -104,7 +105,7 @@ Tails a w = (s : List Symbol) (v : List TokenKind) → Forest (a ++ s) v → For
     → Forest (EntityTail ∷ s) (w ++ v)
 
 -- what a phrase is for the table
-abbrev Built : Part → List TokenKind → Type 0
+abbrev Built : Nonterminal → List TokenKind → Type 0
 Built schema w = Reads (Schema ∷ []) w
 Built item w = Adds Schema Schema w
 Built decls w = Reads (Decls ∷ []) w
@@ -205,7 +206,7 @@ name_cases : (k : TokenKind) → is_name_kind k ≡ true → (is_ident k ≡ tru
 name_cases StringLit h = inr refl
 name_cases k h = inl h
 
-ident_is_name : (k : TokenKind) → is_ident k ≡ true → is_name_kind k ≡ true
+pub ident_is_name : (k : TokenKind) → is_ident k ≡ true → is_name_kind k ≡ true
 ident_is_name StringLit h = refl
 ident_is_name k h = h
 
@@ -268,7 +269,7 @@ annotation : (k : TokenKind) (x y : Symbol) (a s : List Symbol) (w : List TokenK
     → Forest (AnnotationTail ∷ y ∷ (a ++ s)) w → Forest (x ∷ s) (At ∷ k ∷ w)
 annotation k x y a s w g h f = takes g (take (at_word k h) nothing f)
 
-built : {p : Part} {w : List TokenKind} → Phrase p w → Built p w
+built : {p : Nonterminal} {w : List TokenKind} → Phrase p w → Built p w
 unfolding after_front
 built no_item = λ s v f. skip refl f
 built (more_items {a = a} {b = b} d r) = λ s v f. rw (append_assoc a b v) (built d s (b ++ v) (built r s v f))

@@ -1,6 +1,7 @@
 -- Where the kinds stop being the beginning of a sentence.
 use Rattle.std.proofs.Common.{◌≡◌, ℕ, ◌+◌, ◌<◌, ◌≤◌, List, [], ◌∷◌, ◌++◌, length, map, take, drop, get_or}
-use Rattle.std.proofs.Common.{true, false, Option, Some, None, sym, ap, ◌∙◌, subst, arith, add-one, append_assoc, inl, inr, IsTrue}
+use Rattle.std.proofs.Common.{true, false, Option, Some, None, sym, ap, ◌∙◌, subst, arith, add-one, append_assoc, inl}
+use Rattle.std.proofs.Common.{inr, IsTrue}
 use Rattle.std.proofs.Common.{◌↔◌}
 use Rattle.std.specs.Prelude.{slice_get}
 use Rattle.std.proofs.Math.Seq.{take-suc, take-length}

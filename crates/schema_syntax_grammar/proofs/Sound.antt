@@ -22,7 +22,8 @@ use Rattle.schema_syntax_grammar.specs.declared.symbol.Symbol.TheVariants.{Apps,
 use Rattle.schema_syntax_grammar.specs.declared.symbol.Symbol.TheVariants.{Paths, PathsTail, Refs, RefList, RefListTail}
 use Rattle.schema_syntax_grammar.specs.declared.symbol.Symbol.TheVariants.{RefTail, RefStep, AnyType, SetTail, Record}
 use Rattle.schema_syntax_grammar.specs.declared.symbol.Symbol.TheVariants.{Attrs, AttrsTail, Attr, Mark}
-use Rattle.schema_syntax_grammar.specs.Grammar.{is_word_kind, is_ident, Part, schema, item, decls, decl, bare_decl}
+use Rattle.schema_syntax_grammar.specs.Grammar.{is_word_kind, is_ident, Nonterminal, schema, item, decls, decl}
+use Rattle.schema_syntax_grammar.specs.Grammar.{bare_decl}
 use Rattle.schema_syntax_grammar.specs.Grammar.{idents, parents, shape, tags, strings, names, name, in_refs, applies}
 use Rattle.schema_syntax_grammar.specs.Grammar.{apps, app, types, paths, refs, ref_list, ref, ty, rec, attrs, attr}
 use Rattle.schema_syntax_grammar.specs.Grammar.{mark, path, anns, Phrase, no_item, more_items, namespace_item}
@@ -50,7 +51,7 @@ abbrev Value : Kinds → Type 0
 Value w = (k : TokenKind) (a : Kinds) → is_word_kind k ≡ true → Phrase anns a → Phrase anns (At ∷ k ∷ (w ++ a))
 
 -- the rest of a list, after one of its parts
-abbrev After : Part → Part → Kinds → Type 0
+abbrev After : Nonterminal → Nonterminal → Kinds → Type 0
 After one all w = (a : Kinds) → Phrase one a → Phrase all (a ++ w)
 
 -- an action's name with a path
@@ -330,7 +331,7 @@ external_action_row u (n, u1, e1, i, (a, u2, e2, f, m)) =
     (simp append_assoc (ap (λ z. KwExternal ∷ KwAction ∷ (n ++ (a ++ z))) p.1)) in
     subst (Phrase bare_decl) whole (external_action (f n i) p.2)
 
-one_token : (k : TokenKind) → is_name_kind k ≡ true → Phrase name (k ∷ [])
+pub one_token : (k : TokenKind) → is_name_kind k ≡ true → Phrase name (k ∷ [])
 one_token StringLit h = string_name
 one_token k h = ident_name h
 
@@ -444,8 +445,13 @@ grows Schema = (
         (λ k u e m. at_one KwExternal k (λ j. Phrase schema (j ∷ u)) e
             (schema_decl KwExternal AfterExternal u (λ a p. p) m)),
         (
-          (λ k u e m. at_one KwAction k (λ j. Phrase schema (j ∷ u)) e (schema_decl KwAction AfterAction u (λ a p. p) m)),
-          ((λ k u e m. at_one KwType k (λ j. Phrase schema (j ∷ u)) e (schema_decl KwType AfterType u (λ a p. p) m)), tt),
+          (λ k u e m. at_one KwAction k (λ j. Phrase schema (j ∷ u)) e
+              (schema_decl KwAction AfterAction u (λ a p. p) m)),
+          (
+            (λ k u e m. at_one KwType k (λ j. Phrase schema (j ∷ u)) e
+                (schema_decl KwType AfterType u (λ a p. p) m)),
+            tt,
+          ),
         ),
       ),
     ),
@@ -510,7 +516,8 @@ grows EntityTail = (
         (
           (λ k u e m. at_one KwEnum k (λ j. Means EntityTail (j ∷ u)) e (enum_row u m)),
           (
-            (λ k u e m. at_one Semi k (λ j. Means EntityTail (j ∷ u)) e (rw m (parts [] [] [] no_parents no_shape no_tags))),
+            (λ k u e m. at_one Semi k (λ j. Means EntityTail (j ∷ u)) e
+                (rw m (parts [] [] [] no_parents no_shape no_tags))),
             tt,
           ),
         ),

@@ -93,38 +93,38 @@ abbrev pub Kinds : Type 0
 Kinds = List TokenKind
 
 -- the parts of a schema
-pub data Part : Type 0 where
-  schema : Part
-  item : Part
-  decls : Part
-  decl : Part
-  bare_decl : Part
-  idents : Part
-  parents : Part
-  shape : Part
-  tags : Part
-  strings : Part
-  names : Part
-  name : Part
-  in_refs : Part
-  applies : Part
-  apps : Part
-  app : Part
-  types : Part
-  paths : Part
-  refs : Part
-  ref_list : Part
-  ref : Part
-  ty : Part
-  rec : Part
-  attrs : Part
-  attr : Part
-  mark : Part
-  path : Part
-  anns : Part
+pub data Nonterminal : Type 0 where
+  schema : Nonterminal
+  item : Nonterminal
+  decls : Nonterminal
+  decl : Nonterminal
+  bare_decl : Nonterminal
+  idents : Nonterminal
+  parents : Nonterminal
+  shape : Nonterminal
+  tags : Nonterminal
+  strings : Nonterminal
+  names : Nonterminal
+  name : Nonterminal
+  in_refs : Nonterminal
+  applies : Nonterminal
+  apps : Nonterminal
+  app : Nonterminal
+  types : Nonterminal
+  paths : Nonterminal
+  refs : Nonterminal
+  ref_list : Nonterminal
+  ref : Nonterminal
+  ty : Nonterminal
+  rec : Nonterminal
+  attrs : Nonterminal
+  attr : Nonterminal
+  mark : Nonterminal
+  path : Nonterminal
+  anns : Nonterminal
 
 -- the kinds are those of the part
-pub data Phrase : Part → Kinds → Type 0 where
+pub data Phrase : Nonterminal → Kinds → Type 0 where
   -- {Item}
   no_item : Phrase schema []
   more_items : {a b : Kinds} → Phrase item a → Phrase schema b → Phrase schema (a ++ b)

@@ -1,23 +1,24 @@
 -- What annotations stand for is one, where no key stands twice.
 use Rattle.std.specs.declared.cmp.Ordering.TheVariants.{Less}
-use Rattle.std.proofs.Common.{◌≡◌, ◌⊎◌, ℕ, Bool, true, false, List, [], ◌∷◌, ◌++◌, Option, Some, None, inl, inr, refl}
+use Rattle.std.proofs.Common.{◌≡◌, ◌⊎◌, ℕ, true, false, List, [], ◌∷◌, ◌++◌, Option, Some, None, inl, inr, refl}
 use Rattle.std.proofs.Common.{sym, ap, ◌∙◌, subst}
 use Rattle.std.specs.Prelude.{map}
 use Rattle.std.specs.List.{All}
 use Rattle.std.specs.List.Sorted.{IsStrictlySortedBy}
-use Rattle.std.specs.Cmp.{IsTotalOrder, on_total}
 use Rattle.std.specs.Map.{lookup}
-use Rattle.std.specs.Str.{encode_utf8_all, bytes_eq}
-use Rattle.std.proofs.lemmas.Cmp.{nat_list_cmp_total}
+use Rattle.std.specs.Str.{bytes_eq}
 use Rattle.std.proofs.lemmas.Slice.Eq.{bytes_eq-Decides}
 use Rattle.std.proofs.lemmas.List.{length-map, append_assoc}
 use Rattle.std.proofs.lemmas.List.Elements.{All-nil, All-cons, All-head, All-tail}
 use Rattle.std.proofs.lemmas.Map.Keys.{sorted_head, sorted_tail}
+use Rattle.std.proofs.lemmas.Bool.{cases_Bool, false_from_ne_true}
+use Rattle.std.proofs.lemmas.Option.{same_Some}
 use Rattle.cedar_data.specs.Text.{text_cmp}
-use Rattle.cedar_identifiers.specs.declared.any_id.AnyId.{AnyId}
-use Rattle.cedar_identifiers.proofs.Same.{any_id_same}
+use Rattle.cedar_data.proofs.Orders.{text_total}
 use Rattle.schema_syntax_tokens.specs.declared.token.Token.{Token}
 use Rattle.schema_syntax_tokens.specs.Escapes.{Unescapes}
+use Rattle.cedar_identifiers.specs.declared.any_id.AnyId.{AnyId}
+use Rattle.cedar_identifiers.proofs.Same.{any_id_same}
 use Rattle.schema_syntax_parser.specs.declared.syntax.AnnotationSyntax.{AnnotationSyntax}
 use Rattle.schema_syntax_errors.specs.declared.user_error.UserError.{UserError}
 use Rattle.schema_syntax_reader.specs.Sites.{annotations}
@@ -26,23 +27,10 @@ use Rattle.schema_syntax_reader.specs.UserFaults.{FaultAt, duplicate, IsOtherKey
 use Rattle.schema_syntax_laws.proofs.Members.{In, AllIn, Apart, no_other, above, less_itself, same_rising}
 use Rattle.schema_syntax_laws.proofs.Values.{one_string}
 
-text_total : IsTotalOrder text_cmp
-text_total = on_total encode_utf8_all nat_list_cmp_total
-
-bool_cases : (b : Bool) → (b ≡ true) ⊎ (b ≡ false)
-bool_cases true = inl refl
-bool_cases false = inr refl
-
 same : (x y : List ℕ) → (x ≡ y) ⊎ (x ≡ y → ⊥)
-same x y = elim (bool_cases (bytes_eq x y)) [
+same x y = elim (cases_Bool (bytes_eq x y)) [
   | inl h ↦ inl ((bytes_eq-Decides x y).0 h)
   | inr h ↦ inr (λ e. let k : true ≡ false = sym ((bytes_eq-Decides x y).1 e) ∙ h in cc)
-]
-
-other : (x y : List ℕ) → (x ≡ y → ⊥) → bytes_eq x y ≡ false
-other x y h = elim (bool_cases (bytes_eq x y)) [
-  | inl k ↦ absurd (h ((bytes_eq-Decides x y).0 k))
-  | inr k ↦ k
 ]
 
 -- the value beside the key with this text
@@ -56,7 +44,7 @@ hit : (k : AnyId) (v : Option (List ℕ)) (n : Notes) (z : List ℕ) → k.text 
 hit k v n z e = rw ((bytes_eq-Decides k.text z).1 e) refl
 
 miss : (k : AnyId) (v : Option (List ℕ)) (n : Notes) (z : List ℕ) → (k.text ≡ z → ⊥) → at z ((k, v) ∷ n) ≡ at z n
-miss k v n z h = rw (other k.text z h) refl
+miss k v n z h = rw (false_from_ne_true (bytes_eq k.text z) (λ e. h ((bytes_eq-Decides k.text z).0 e))) refl
 
 named : (z : List ℕ) (n : Notes) (v : Option (List ℕ)) → at z n ≡ Some v → In z (names n)
 named z [] v h = cc
@@ -90,10 +78,7 @@ same_notes (a ∷ n) (b ∷ m) up e beside =
     let more : n ≡ m = same_notes n m (sorted_tail text_cmp a.0.text (names n) up) rest
     (λ z there. sym (miss a.0 a.1 n z (apart z there)) ∙ beside z (inr there)
     ∙ miss b.0 b.1 m z (λ f. apart z there (first ∙ f))) in
-    λ i. (key i, value_of value i) ∷ more i
-  where
-    value_of : {v w : Option (List ℕ)} → Some v ≡ Some w → v ≡ w
-    value_of e = cc
+    λ i. (key i, same_Some a.1 b.1 value i) ∷ more i
 
 module _ (value : (body cs ds : List ℕ) → Unescapes body cs → Unescapes body ds → cs ≡ ds) (text : List ℕ) where
   one_value_of : (v : Option Token) (a b : Option (List ℕ)) → IsNoteValue text v a → IsNoteValue text v b → a ≡ b

@@ -5,17 +5,17 @@ use Rattle.std.proofs.Common.{arith, slice_range, IsUtf8, if◌then◌else◌}
 use Rattle.std.specs.List.{All, AllPass}
 use Rattle.std.specs.Str.{IsCharBoundary}
 use Rattle.std.proofs.lemmas.Bool.{cases_eq, ne_eqb, eq-eqb}
-use Rattle.std.proofs.lemmas.Bool.Decides.{nat_tests}
 use Rattle.std.proofs.lemmas.List.{take-append-drop, length-take-le, length-append, append_assoc, get_or_at, drop_at}
 use Rattle.std.proofs.lemmas.List.Elements.{All-nil, All-cons, All-head, All-tail, All-weaker}
 use Rattle.std.proofs.lemmas.Str.{IsCharBoundary-before_ascii, IsCharBoundary-after_ascii}
-use Rattle.cedar_data.specs.Words.{is_word_start, is_word_part}
+use Rattle.cedar_data.specs.Words.{is_word_part}
+use Rattle.cedar_data.proofs.Ascii.{part_ascii, start_ascii}
 use Rattle.schema_syntax_grammar.specs.declared.token_kind.TokenKind.{TokenKind}
 use Rattle.schema_syntax_grammar.specs.declared.token_kind.TokenKind.TheVariants.{PathSep}
 use Rattle.schema_syntax_tokens.specs.declared.token.Token.{Token}
 use Rattle.schema_syntax_tokens.specs.Forms.{single_mark, mark_kind, IsForm}
-use Rattle.schema_syntax_tokens.specs.Scans.{Skips, IsLongest, ScansFrom, Scans, IsPlaced}
-use Rattle.schema_syntax_tokens.specs.Scans.Skips.{none, more}
+use Rattle.schema_syntax_tokens.specs.Scans.{IsLongest, ScansFrom, Scans, IsPlaced}
+use Rattle.schema_syntax_tokens.proofs.Whole.{skips_front}
 
 -- the bytes begin and end with one below 128
 record Edges (w : List ℕ) : Type 0 where
@@ -27,13 +27,6 @@ record Edges (w : List ℕ) : Type 0 where
   last : ℕ
   ends : w ≡ front ++ last ∷ []
   last_ascii : last < 128
-
--- bytes that are a letter, a digit or `_`
-part_ascii : (b : ℕ) → is_word_part b ≡ true → b < 128
-part_ascii b h = grind (arith, nat_tests)
-
-start_ascii : (b : ℕ) → is_word_start b ≡ true → b < 128
-start_ascii b h = grind (arith, nat_tests)
 
 mark_below : (b n : ℕ) (k : TokenKind) (x r : Option TokenKind) → n < 128 → (r ≡ Some k → b < 128)
     → (if b == n then x else r) ≡ Some k → b < 128
@@ -156,13 +149,6 @@ token_placed text front here t n u e h s f =
           (omega (arith, last_byte, g.last_ascii)));
       form = subst (λ w. IsForm w t.kind) (sym there) h.form;
     }
-
--- blanks stand in front of what follows them
-skips_front : {rest here : List ℕ} → Skips rest here → (front : List ℕ) × (rest ≡ front ++ here)
-skips_front none = ([], refl)
-skips_front (more {rest} {after} {end} p s) =
-    let f = skips_front s in
-    (p.0 ++ f.0, p.1 ∙ (ap (λ t. p.0 ++ t) f.1 ∙ sym (append_assoc p.0 f.0 end)))
 
 -- each token ends behind those before it
 abbrev pub Mount : List Token → Type 0

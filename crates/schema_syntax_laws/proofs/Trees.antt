@@ -1,13 +1,14 @@
 -- A lawful syntax has one tree.
 use Rattle.std.proofs.Common.{◌≡◌, ℕ, List, [], ◌∷◌, ◌++◌, Option, Some, None, refl, sym, ap, ◌∙◌, subst}
 use Rattle.std.specs.List.{All, AllZip, flat_map}
-use Rattle.std.proofs.lemmas.List.{append_assoc}
+use Rattle.std.proofs.lemmas.List.{append_assoc, same_from_push}
 use Rattle.std.proofs.lemmas.List.Elements.{All-nil, All-cons, All-head, All-tail}
 use Rattle.cedar_data.specs.Span.{Span}
 use Rattle.cedar_data.specs.declared.node.Node.{Node}
-use Rattle.cedar_identifiers.specs.declared.id.Id.{Id}
+use Rattle.cedar_data.proofs.Lists.{All-front, All-back}
 use Rattle.schema_syntax_tokens.specs.declared.token.Token.{Token}
 use Rattle.schema_syntax_tokens.specs.Escapes.{Unescapes}
+use Rattle.cedar_identifiers.specs.declared.id.Id.{Id}
 use Rattle.schema_syntax_parser.specs.declared.syntax.PathSyntax.{PathSyntax}
 use Rattle.schema_syntax_parser.specs.declared.syntax.TypeSyntax.{TypeSyntax}
 use Rattle.schema_syntax_parser.specs.declared.syntax.AttrSyntax.{AttrSyntax}
@@ -39,7 +40,7 @@ use Rattle.schema_syntax_reader.specs.Trees.{IsId, IsIdNode, IsNameNode, IsChoic
 use Rattle.schema_syntax_reader.specs.Trees.{IsOptional, IsTypeOfRef, IsRefOf, IsShapeOf, AreTagsOf, IsAppOf, AppliesOf}
 use Rattle.schema_syntax_reader.specs.Trees.{IsDeclOf, IsDeclaredOf, IsItemOf, IsTreeOf}
 use Rattle.schema_syntax_laws.proofs.Values.{one_zip, one_id, one_name, one_string}
-use Rattle.schema_syntax_laws.proofs.Types.{all_left, all_right, IsFaultless, Faultless, one_path, one_name_node}
+use Rattle.schema_syntax_laws.proofs.Types.{IsFaultless, Faultless, one_path, one_name_node}
 use Rattle.schema_syntax_laws.proofs.Types.{one_annotations, one_type, one_attrs}
 
 -- lists whose parts are the same wherever these are faultless
@@ -52,23 +53,9 @@ faultless_zip F sites R one [] (y ∷ ys) zs f h k = absurd h
 faultless_zip F sites R one (x ∷ xs) [] zs f h k = absurd h
 faultless_zip F sites R one (x ∷ xs) (y ∷ ys) [] f h k = absurd k
 faultless_zip F sites R one (x ∷ xs) (y ∷ ys) (z ∷ zs) f (h, hs) (k, ks) =
-    let first : y ≡ z = one x y z (all_left F (sites x) (flat_map sites xs) f) h k in
-    let more : ys ≡ zs = faultless_zip F sites R one xs ys zs (all_right F (sites x) (flat_map sites xs) f) hs ks in
+    let first : y ≡ z = one x y z (All-front F (sites x) (flat_map sites xs) f) h k in
+    let more : ys ≡ zs = faultless_zip F sites R one xs ys zs (All-back F (sites x) (flat_map sites xs) f) hs ks in
     λ i. first i ∷ more i
-
--- the last of a list and those before it
-same_last : {A : Type 0} (front other : List A) (x y : A) → front ++ x ∷ [] ≡ other ++ y ∷ []
-    → (front ≡ other) × (x ≡ y)
-same_last [] [] x y e = (refl, (let h : x ≡ y = cc in h))
-same_last [] (b ∷ []) x y e = cc
-same_last [] (b ∷ c ∷ other) x y e = cc
-same_last (a ∷ []) [] x y e = cc
-same_last (a ∷ b ∷ front) [] x y e = cc
-same_last (a ∷ front) (b ∷ other) x y e =
-    let head : a ≡ b = cc in
-    let rest : front ++ x ∷ [] ≡ other ++ y ∷ [] = cc in
-    let more = same_last front other x y rest in
-    ((λ i. head i ∷ more.0 i), more.1)
 
 module _ (value : (body cs ds : List ℕ) → Unescapes body cs → Unescapes body ds → cs ≡ ds) (text : List ℕ) where
   one_id_node : (t : Token) (n m : Node Id) → IsIdNode text t n → IsIdNode text t m → n ≡ m
@@ -104,7 +91,7 @@ module _ (value : (body cs ds : List ℕ) → Unescapes body cs → Unescapes bo
 
   one_ref : (p : PathSyntax) (n m : Node QualName) → IsRefOf text p n → IsRefOf text p m → n ≡ m
   one_ref p n m (front, last, split, id, ty, loc) (front2, last2, split2, id2, ty2, loc2) =
-      let same = same_last front front2 last last2 (sym split ∙ split2) in
+      let same = same_from_push front front2 last last2 (sym split ∙ split2) in
       let eid : n.node.eid ≡ m.node.eid = one_name value text last.kind last n.node.eid m.node.eid id
       (subst (λ (t : Token). IsNameOf text t.kind t m.node.eid) (sym same.1) id2) in
       let path : n.node.path ≡ m.node.path = one_ref_type front n.node.path m.node.path ty
@@ -171,17 +158,17 @@ module _ (value : (body cs ds : List ℕ) → Unescapes body cs → Unescapes bo
       → n ≡ m
   one_decl (decl.Entity names parents shape tags) (declaration.Entity (entity.Standard d))
       (declaration.Entity (entity.Standard e)) f h k =
-      let behind_names = all_right (IsFaultless value text) (names_sites names)
+      let behind_names = All-back (IsFaultless value text) (names_sites names)
       (paths_sites parents ++ (shape_sites shape ++ tags_sites tags)) f in
-      let behind_parents = all_right (IsFaultless value text) (paths_sites parents)
+      let behind_parents = All-back (IsFaultless value text) (paths_sites parents)
       (shape_sites shape ++ tags_sites tags) behind_names in
       let are : d.names ≡ e.names = one_zip (IsIdNode text) one_id_node names d.names e.names h.0 k.0 in
       let above : d.member_of_types ≡ e.member_of_types = one_zip (IsPathOf text) (one_path value text) parents
       d.member_of_types e.member_of_types h.1 k.1 in
       let attrs : d.attrs ≡ e.attrs = one_shape shape d.attrs e.attrs
-      (all_left (IsFaultless value text) (shape_sites shape) (tags_sites tags) behind_parents) h.2 k.2 in
+      (All-front (IsFaultless value text) (shape_sites shape) (tags_sites tags) behind_parents) h.2 k.2 in
       let tagged : d.tags ≡ e.tags = one_tags tags d.tags e.tags
-      (all_right (IsFaultless value text) (shape_sites shape) (tags_sites tags) behind_parents) h.3 k.3 in
+      (All-back (IsFaultless value text) (shape_sites shape) (tags_sites tags) behind_parents) h.3 k.3 in
       λ i. declaration.Entity (entity.Standard
       (record { names = are i; member_of_types = above i; attrs = attrs i; tags = tagged i }))
   one_decl (decl.Entity names parents shape tags) (declaration.Entity (entity.Standard d)) _ f h k = absurd k
@@ -203,8 +190,8 @@ module _ (value : (body cs ds : List ℕ) → Unescapes body cs → Unescapes bo
   one_decl (decl.ExternalEntity names parents) _ m f h k = absurd h
   one_decl (decl.Action names parents applies) (declaration.Action (action.Defined d))
       (declaration.Action (action.Defined e)) f h k =
-      let behind = all_right (IsFaultless value text) (paths_sites parents) (applies_sites applies)
-      (all_right (IsFaultless value text) (names_sites names) (paths_sites parents ++ applies_sites applies) f) in
+      let behind = All-back (IsFaultless value text) (paths_sites parents) (applies_sites applies)
+      (All-back (IsFaultless value text) (names_sites names) (paths_sites parents ++ applies_sites applies) f) in
       let are : d.names ≡ e.names = one_zip (IsNameNode text) (one_name_node value text) names d.names
       e.names h.0 k.0 in
       let above : d.parents ≡ e.parents = one_optional (AllZip (IsRefOf text)) (one_zip (IsRefOf text) one_ref)
@@ -225,7 +212,7 @@ module _ (value : (body cs ds : List ℕ) → Unescapes body cs → Unescapes bo
   one_decl (decl.Common name ty) (declaration.Common d) (declaration.Common e) f h k =
       let named : d.name ≡ e.name = one_id_node name d.name e.name h.0 k.0 in
       let is : d.def ≡ e.def = one_type value text h.1 e.def k.1
-      (all_right (IsFaultless value text) (name_sites name) (sites_of_type ty) f) in
+      (All-back (IsFaultless value text) (name_sites name) (sites_of_type ty) f) in
       λ i. declaration.Common (record { name = named i; def = is i })
   one_decl (decl.Common name ty) (declaration.Common d) _ f h k = absurd k
   one_decl (decl.Common name ty) _ m f h k = absurd h
@@ -250,7 +237,7 @@ module _ (value : (body cs ds : List ℕ) → Unescapes body cs → Unescapes bo
       let path : h.0 ≡ k.0 = one_path value text p h.0 k.0 h.3 k.3 in
       let ds : h.1 ≡ k.1 =
       faultless_zip (IsFaultless value text) declared_sites (IsDeclaredOf text) one_declared decls h.1 k.1
-      (all_right (IsFaultless value text) (path_sites p) (flat_map declared_sites decls) behind) h.4 k.4 in
+      (All-back (IsFaultless value text) (path_sites p) (flat_map declared_sites decls) behind) h.4 k.4 in
       let own : a.item ≡ b.item = h.2
       ∙ (λ i. record { name = Some (path i); decls = ds i; loc = Some loc }) ∙ sym k.2 in
       let noted : a.annotations ≡ b.annotations =

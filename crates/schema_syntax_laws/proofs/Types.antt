@@ -1,18 +1,18 @@
 -- What a path, a type and attributes stand for is one, where no key of an annotation stands twice.
-use Rattle.std.proofs.Common.{◌≡◌, ℕ, List, [], ◌∷◌, ◌++◌, map, Some, refl, sym, ap, ◌∙◌, subst}
-use Rattle.std.specs.List.{All, flat_map}
-use Rattle.std.proofs.lemmas.List.Elements.{All-nil, All-cons, All-head, All-tail}
+use Rattle.std.proofs.Common.{◌≡◌, ℕ, List, ◌∷◌, ◌++◌, Some, refl, sym, ap, ◌∙◌, subst}
+use Rattle.std.specs.List.{All}
+use Rattle.std.proofs.lemmas.List.Elements.{All-head, All-tail}
 use Rattle.cedar_data.specs.Span.{Span}
 use Rattle.cedar_data.specs.declared.node.Node.{Node}
-use Rattle.cedar_identifiers.specs.declared.annotations.Annotations.{Annotations}
+use Rattle.cedar_data.proofs.Lists.{All-front, All-back}
 use Rattle.schema_syntax_tokens.specs.declared.token.Token.{Token}
 use Rattle.schema_syntax_tokens.specs.Escapes.{Unescapes}
+use Rattle.cedar_identifiers.specs.declared.annotations.Annotations.{Annotations}
 use Rattle.schema_syntax_parser.specs.declared.syntax.AnnotationSyntax.{AnnotationSyntax}
 use Rattle.schema_syntax_parser.specs.declared.syntax.PathSyntax.{PathSyntax}
 use Rattle.schema_syntax_parser.specs.declared.syntax.TypeSyntax.{TypeSyntax, out-TypeSyntax, out-roll-TypeSyntax}
 use Rattle.schema_syntax_parser.specs.declared.syntax.TypeSyntax.TheVariants as syntax
 use Rattle.schema_syntax_parser.specs.declared.syntax.TypeSyntax.TheOpen.{TypeSyntax-F}
-use Rattle.schema_syntax_parser.specs.declared.syntax.TypeSyntax.TheFolds.{fold-roll-TypeSyntax, fold_out-AttrSyntax}
 use Rattle.schema_syntax_parser.specs.declared.syntax.AttrSyntax.{AttrSyntax, out-AttrSyntax}
 use Rattle.schema_syntax_tree.specs.declared.path.Path.{Path}
 use Rattle.schema_syntax_tree.specs.declared.types.Type.{«Type»}
@@ -20,42 +20,15 @@ use Rattle.schema_syntax_tree.specs.declared.types.Type.TheVariants as shape
 use Rattle.schema_syntax_tree.specs.declared.types.AttrDecl.{AttrDecl, roll-AttrDecl}
 use Rattle.schema_syntax_tree.specs.declared.annotated.Annotated.{Annotated}
 use Rattle.schema_syntax_errors.specs.declared.user_error.UserError.{UserError}
-use Rattle.schema_syntax_reader.specs.Sites.{Site, annotations, name_sites, type_sites, attr_sites, sites_of_type}
+use Rattle.schema_syntax_reader.specs.Sites.{Site, annotations, name_sites, sites_of_type}
 use Rattle.schema_syntax_reader.specs.Sites.{sites_of_attr, sites_of_attrs}
 use Rattle.schema_syntax_reader.specs.UserFaults.{FaultAt}
 use Rattle.schema_syntax_reader.specs.Leaves.{AreNotes}
 use Rattle.schema_syntax_reader.specs.Trees.{IsId, IsPathOf, IsNameNode, IsTypeOf, AreAttrsOf}
 use Rattle.schema_syntax_reader.specs.Trees as tree
+use Rattle.schema_syntax_reader.proofs.SiteEquations.{of_set, of_record, of_out_attr}
 use Rattle.schema_syntax_laws.proofs.Values.{one_zip, one_id, one_name}
 use Rattle.schema_syntax_laws.proofs.Notes.{one_notes}
-
-pub all_left : {A : Type 0} (P : A → Type 0) (xs ys : List A) → All P (xs ++ ys) → All P xs
-all_left P [] ys h = All-nil P
-all_left P (x ∷ xs) ys h = All-cons P x xs (All-head P x (xs ++ ys) h) (all_left P xs ys (All-tail P x (xs ++ ys) h))
-
-pub all_right : {A : Type 0} (P : A → Type 0) (xs ys : List A) → All P (xs ++ ys) → All P ys
-all_right P [] ys h = h
-all_right P (x ∷ xs) ys h = all_right P xs ys (All-tail P x (xs ++ ys) h)
-
-flat_joined : {A B : Type 0} (f : A → List B) (xs : List A) → flat_map (λ s. s) (map f xs) ≡ flat_map f xs
-flat_joined f [] = refl
-flat_joined f (x ∷ xs) = ap (λ ys. f x ++ ys) (flat_joined f xs)
-
-of_set : (t : TypeSyntax) (loc : Span) → sites_of_type (syntax.Set t loc) ≡ sites_of_type t
-of_set t loc =
-    ap sites_of_type (sym (syntax.rolls-Set t loc))
-    ∙ fold-roll-TypeSyntax (List Site) (List Site) type_sites attr_sites (TypeSyntax-F.Set t loc)
-
-of_record : (xs : List AttrSyntax) (loc : Span) → sites_of_type (syntax.Record xs loc) ≡ sites_of_attrs xs
-of_record xs loc =
-    ap sites_of_type (sym (syntax.rolls-Record xs loc))
-    ∙ fold-roll-TypeSyntax (List Site) (List Site) type_sites attr_sites (TypeSyntax-F.Record xs loc)
-    ∙ flat_joined sites_of_attr xs
-
-of_attr : (x : AttrSyntax) → sites_of_attr x
-    ≡ annotations (out-AttrSyntax x).annotations
-    ∷ (name_sites (out-AttrSyntax x).name ++ sites_of_type (out-AttrSyntax x).ty)
-of_attr x = fold_out-AttrSyntax (List Site) (List Site) type_sites attr_sites x
 
 module _ (value : (body cs ds : List ℕ) → Unescapes body cs → Unescapes body ds → cs ≡ ds) (text : List ℕ) where
   abbrev pub IsFaultless : Site → Type 0
@@ -140,18 +113,18 @@ module _ (value : (body cs ds : List ℕ) → Unescapes body cs → Unescapes bo
         (tree.more {ys = ws} name2 ty2 notes2 a2 b2 c2 r2) f =
         let own : Faultless (annotations (out-AttrSyntax x).annotations
         ∷ (name_sites (out-AttrSyntax x).name ++ sites_of_type (out-AttrSyntax x).ty)) =
-        subst Faultless (of_attr x) (all_left IsFaultless (sites_of_attr x) (sites_of_attrs xs) f) in
+        subst Faultless (of_out_attr x) (All-front IsFaultless (sites_of_attr x) (sites_of_attrs xs) f) in
         let first : IsFaultless (annotations (out-AttrSyntax x).annotations) = All-head IsFaultless
         (annotations (out-AttrSyntax x).annotations)
         (name_sites (out-AttrSyntax x).name ++ sites_of_type (out-AttrSyntax x).ty) own in
         let of_ty : Faultless (sites_of_type (out-AttrSyntax x).ty) =
-        all_right IsFaultless (name_sites (out-AttrSyntax x).name) (sites_of_type (out-AttrSyntax x).ty)
+        All-back IsFaultless (name_sites (out-AttrSyntax x).name) (sites_of_type (out-AttrSyntax x).ty)
         (All-tail IsFaultless (annotations (out-AttrSyntax x).annotations)
         (name_sites (out-AttrSyntax x).name ++ sites_of_type (out-AttrSyntax x).ty) own) in
         let e : name ≡ name2 = one_name_node (out-AttrSyntax x).name name name2 a a2 in
         let g : ty ≡ ty2 = one_type b ty2 b2 of_ty in
         let k : notes ≡ notes2 = one_annotations (out-AttrSyntax x).annotations notes notes2 first c c2 in
-        let more = one_attrs r ws r2 (all_right IsFaultless (sites_of_attr x) (sites_of_attrs xs) f) in
+        let more = one_attrs r ws r2 (All-back IsFaultless (sites_of_attr x) (sites_of_attrs xs) f) in
         λ i. record {
           node = record {
             item = roll-AttrDecl

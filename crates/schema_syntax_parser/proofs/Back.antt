@@ -14,7 +14,9 @@ use Rattle.schema_syntax_grammar.specs.declared.token_kind.TokenKind.TheVariants
 use Rattle.schema_syntax_grammar.specs.declared.token_kind.TokenKind.TheVariants.{LBracket, RBracket, Less, Greater}
 use Rattle.schema_syntax_grammar.specs.declared.token_kind.TokenKind.TheVariants.{Equals}
 use Rattle.schema_syntax_grammar.specs.Grammar.{is_ident, same_kind, is_name_kind}
+use Rattle.schema_syntax_grammar.proofs.Complete.{ident_is_name}
 use Rattle.schema_syntax_tokens.specs.declared.token.Token.{Token}
+use Rattle.schema_syntax_tokens.specs.TokenLists.{whole_place}
 use Rattle.schema_syntax_parser.specs.declared.syntax.PathSyntax.{PathSyntax}
 use Rattle.schema_syntax_parser.specs.declared.syntax.AnnotationSyntax.{AnnotationSyntax}
 use Rattle.schema_syntax_parser.specs.declared.syntax.TypeSyntax.{TypeSyntax}
@@ -34,7 +36,6 @@ use Rattle.schema_syntax_parser.specs.Syntax.{IsApp, types, context_path, contex
 use Rattle.schema_syntax_parser.specs.Syntax.{some_applies, IsDecl, entity_decl, enum_decl, external_entity}
 use Rattle.schema_syntax_parser.specs.Syntax.{action_decl, external_action, common_decl, IsDeclared, declared, IsItem}
 use Rattle.schema_syntax_parser.specs.Syntax.{namespace, outside, IsSyntax}
-use Rattle.schema_syntax_tokens.specs.TokenLists.{whole_place}
 use Rattle.schema_syntax_parser.specs.Syntax as S
 use Rattle.schema_syntax_parser.specs.Reading.{◌>>=◌, Read, Turn, Done, Last, More, after_turn, many_at, all_at}
 use Rattle.schema_syntax_parser.specs.Reading.{place_before, link_at, chain_turn, closed_at, separated_turn, path_at}
@@ -45,7 +46,7 @@ use Rattle.schema_syntax_parser.specs.Reading.{tags_at, context_at, app_at, appl
 use Rattle.schema_syntax_parser.specs.Reading.{entity_body_at, entity_at, external_entity_at, external_action_at}
 use Rattle.schema_syntax_parser.specs.Reading.{action_at, common_at, external_at, decl_at, declared_at, decl_turn}
 use Rattle.schema_syntax_parser.specs.Reading.{namespace_at, outside_at, item_body_at, item_at, item_turn, items_at}
-use Rattle.schema_syntax_parser.proofs.Heads.{begins, Apart, ident_apart, name_apart, ident_name, begins_head}
+use Rattle.schema_syntax_parser.proofs.Heads.{begins, Apart, ident_apart, name_apart, begins_head}
 use Rattle.schema_syntax_parser.proofs.Heads.{path_head, ref_head, string_head, app_head, attr_head, skip_parents}
 use Rattle.schema_syntax_parser.proofs.Heads.{skip_shape, skip_tags, skip_applies, skip_annotations, decl_head}
 use Rattle.schema_syntax_parser.proofs.Heads.{declared_length, declared_close, item_length}
@@ -116,8 +117,8 @@ path_back (path {u = u} c) v e = rw (all_chain c v e, place_back u v) refl
 -- a reference is a chain of names
 ref_chain : {u names : List Token} (s q : Token) → IsChain PathSep is_ident u names → s.kind ≡ PathSep
     → q.kind ≡ StringLit → IsChain PathSep is_name_kind (u ++ s ∷ q ∷ []) (names ++ q ∷ [])
-ref_chain s q (one {t = t} h) k l = more (ident_name t.kind h) k (one (rw l refl))
-ref_chain s q (more {t = t} h x r) k l = more (ident_name t.kind h) x (ref_chain s q r k l)
+ref_chain s q (one {t = t} h) k l = more (ident_is_name t.kind h) k (one (rw l refl))
+ref_chain s q (more {t = t} h x r) k l = more (ident_is_name t.kind h) x (ref_chain s q r k l)
 
 ref_back : {u : List Token} {p : PathSyntax} → IsRef u p → (v : List Token) → begins PathSep v ≡ false
     → ref_at (u ++ v) ≡ Some (p, v)

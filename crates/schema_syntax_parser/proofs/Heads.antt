@@ -1,6 +1,8 @@
 -- What a part may begin with.
 use Rattle.std.proofs.Common.{◌≡◌, ◌<◌, List, [], ◌∷◌, ◌++◌, length, Bool, true, false, refl, ap, ◌∙◌, arith}
 use Rattle.std.proofs.Common.{length-append}
+use Rattle.std.specs.Prelude.{Option}
+use Rattle.cedar_data.specs.Span.{Span}
 use Rattle.schema_syntax_grammar.specs.declared.token_kind.TokenKind.{TokenKind}
 use Rattle.schema_syntax_grammar.specs.declared.token_kind.TokenKind.TheVariants.{KwNamespace, KwEntity, KwExternal}
 use Rattle.schema_syntax_grammar.specs.declared.token_kind.TokenKind.TheVariants.{KwIn, KwType, KwSet, KwAppliesTo}
@@ -18,8 +20,6 @@ use Rattle.schema_syntax_parser.specs.declared.syntax.AppSyntax.{AppSyntax}
 use Rattle.schema_syntax_parser.specs.declared.syntax.DeclSyntax.{DeclSyntax}
 use Rattle.schema_syntax_parser.specs.declared.syntax.DeclaredSyntax.{DeclaredSyntax}
 use Rattle.schema_syntax_parser.specs.declared.syntax.ItemSyntax.{ItemSyntax}
-use Rattle.cedar_data.specs.Span.{Span}
-use Rattle.std.specs.Prelude.{Option}
 use Rattle.schema_syntax_parser.specs.Syntax.{IsChain, one, more, IsPath, path, IsRef, plain, typed, AreParents}
 use Rattle.schema_syntax_parser.specs.Syntax.{no_parents, in_parents, AreAnnotations, none, bare, valued, IsShape}
 use Rattle.schema_syntax_parser.specs.Syntax.{no_shape, bare_shape, equals_shape, braces, AreTags, no_tags, some_tags}
@@ -78,22 +78,6 @@ name_apart KwTags h = ident_apart KwTags h
 name_apart KwEnum h = ident_apart KwEnum h
 name_apart Identifier h = ident_apart Identifier h
 name_apart _ h = cc
-
-pub ident_name : (k : TokenKind) → is_ident k ≡ true → is_name_kind k ≡ true
-ident_name KwNamespace h = refl
-ident_name KwEntity h = refl
-ident_name KwExternal h = refl
-ident_name KwType h = refl
-ident_name KwSet h = refl
-ident_name KwAppliesTo h = refl
-ident_name KwPrincipal h = refl
-ident_name KwAction h = refl
-ident_name KwResource h = refl
-ident_name KwContext h = refl
-ident_name KwTags h = refl
-ident_name KwEnum h = refl
-ident_name Identifier h = refl
-ident_name _ h = cc
 
 -- a part that is not empty, and its first token
 pub record Head (P : TokenKind → Type 0) (u : List Token) : Type 0 where

@@ -9,19 +9,20 @@ use Rattle.schema_syntax_grammar.specs.declared.token_kind.TokenKind.TheVariants
 use Rattle.schema_syntax_grammar.specs.declared.token_kind.TokenKind.TheVariants.{LParen, RParen, LBrace, RBrace}
 use Rattle.schema_syntax_grammar.specs.declared.token_kind.TokenKind.TheVariants.{LBracket, RBracket, Less, Greater}
 use Rattle.schema_syntax_grammar.specs.declared.token_kind.TokenKind.TheVariants.{Question, Equals}
-use Rattle.schema_syntax_grammar.specs.Grammar.{is_word_kind, is_ident, Part, schema, item, decls, decl, bare_decl}
+use Rattle.schema_syntax_grammar.specs.Grammar.{is_word_kind, is_ident, Nonterminal, schema, item, decls, decl}
+use Rattle.schema_syntax_grammar.specs.Grammar.{bare_decl}
 use Rattle.schema_syntax_grammar.specs.Grammar.{idents, parents, shape, tags, strings, names, name, in_refs, applies}
 use Rattle.schema_syntax_grammar.specs.Grammar.{apps, app, types, paths, refs, ref_list, ref, ty, rec, attrs, attr}
 use Rattle.schema_syntax_grammar.specs.Grammar.{mark, path, anns, Phrase, is_name_kind}
 use Rattle.schema_syntax_grammar.specs.Grammar as G
+use Rattle.schema_syntax_grammar.proofs.Complete.{ident_is_name}
 use Rattle.schema_syntax_tokens.specs.declared.token.Token.{Token}
+use Rattle.schema_syntax_tokens.specs.TokenLists.{kinds_of}
 use Rattle.schema_syntax_parser.specs.Syntax.{IsChain, AreSeparated, AreListed, AreMany, IsPath, IsRef, AreParents}
 use Rattle.schema_syntax_parser.specs.Syntax.{AreAnnotations, IsMark, IsType, IsRecord, AreAttrs, IsAttr, IsShape}
 use Rattle.schema_syntax_parser.specs.Syntax.{AreTags, IsStringToken, is_role, IsApp, Applies, IsDecl, IsDeclared}
 use Rattle.schema_syntax_parser.specs.Syntax.{IsItem}
-use Rattle.schema_syntax_tokens.specs.TokenLists.{kinds_of}
 use Rattle.schema_syntax_parser.specs.Syntax as S
-use Rattle.schema_syntax_parser.proofs.Heads.{ident_name}
 
 record Split (u : List Token) (a b : List TokenKind) : Type 0 where
   left : List Token
@@ -123,7 +124,7 @@ Has {A} P u = (x : A) × P u x
 abbrev IsName : List Token → Token → Type 0
 IsName u t = (u ≡ t ∷ []) × (is_name_kind t.kind ≡ true)
 
-abbrev Made : Part → List Token → Type 0
+abbrev Made : Nonterminal → List Token → Type 0
 Made schema u = Has (AreMany IsItem) u
 Made item u = Has IsItem u
 Made decls u = Has (AreMany IsDeclared) u
@@ -156,7 +157,7 @@ Made anns u = Has AreAnnotations u
 along : {A : Type 0} (P : List Token → A → Type 0) (u v : List Token) → u ≡ v → Has P v → Has P u
 along P u v e h = subst (Has P) (sym e) h
 
-pub made : {p : Part} {w : List TokenKind} → Phrase p w → (u : List Token) → kinds_of u ≡ w → Made p u
+pub made : {p : Nonterminal} {w : List TokenKind} → Phrase p w → (u : List Token) → kinds_of u ≡ w → Made p u
 made G.no_item u e = along (AreMany IsItem) u [] (none u e) (_, S.none)
 made (G.more_items {a = a} {b = b} p q) u e =
     let s = split a b u e in
@@ -293,7 +294,7 @@ made (G.more_names {a = a} {b = b} p q) u e =
     let n = made q c.right c.second in
     along (IsChain Comma is_name_kind) u _ (c.whole ∙ ap (λ v. v ++ c.token ∷ c.right) m.1.0) (_, S.more m.1.1 c.is n.1)
 made (G.ident_name {i = i} h) u e =
-    let a = alone i u e in (a.token, (a.whole, ident_name a.token.kind (as_kind is_ident a.token.kind i a.is h)))
+    let a = alone i u e in (a.token, (a.whole, ident_is_name a.token.kind (as_kind is_ident a.token.kind i a.is h)))
 made G.string_name u e = let a = alone StringLit u e in (a.token, (a.whole, rw a.is refl))
 made G.no_refs u e = along (AreParents IsRef) u [] (none u e) (_, S.no_parents)
 made (G.some_refs {a = a} p) u e =

@@ -11,12 +11,14 @@ use Rattle.schema_syntax_grammar.specs.declared.token_kind.TokenKind.TheVariants
 use Rattle.schema_syntax_grammar.specs.declared.token_kind.TokenKind.TheVariants.{LParen, RParen, LBrace, RBrace}
 use Rattle.schema_syntax_grammar.specs.declared.token_kind.TokenKind.TheVariants.{LBracket, RBracket, Less, Greater}
 use Rattle.schema_syntax_grammar.specs.declared.token_kind.TokenKind.TheVariants.{Question, Equals}
-use Rattle.schema_syntax_grammar.specs.Grammar.{is_ident, Kinds, Part, schema, item, decls, decl}
-use Rattle.schema_syntax_grammar.specs.Grammar.{bare_decl, idents, parents, shape, tags, strings, names, name, in_refs}
+use Rattle.schema_syntax_grammar.specs.Grammar.{is_ident, Kinds, Nonterminal, schema, item, decls, decl}
+use Rattle.schema_syntax_grammar.specs.Grammar.{bare_decl, idents, parents, shape, tags, strings, names, in_refs}
 use Rattle.schema_syntax_grammar.specs.Grammar.{applies, apps, app, types, paths, refs, ref_list, ref, ty, rec, attrs}
 use Rattle.schema_syntax_grammar.specs.Grammar.{attr, mark, path, anns, Phrase, is_name_kind}
 use Rattle.schema_syntax_grammar.specs.Grammar as G
+use Rattle.schema_syntax_grammar.proofs.Sound.{one_token}
 use Rattle.schema_syntax_tokens.specs.declared.token.Token.{Token}
+use Rattle.schema_syntax_tokens.specs.TokenLists.{kinds_of}
 use Rattle.schema_syntax_parser.specs.declared.syntax.PathSyntax.{PathSyntax}
 use Rattle.schema_syntax_parser.specs.declared.syntax.AnnotationSyntax.{AnnotationSyntax}
 use Rattle.schema_syntax_parser.specs.declared.syntax.TypeSyntax.{TypeSyntax}
@@ -29,7 +31,6 @@ use Rattle.schema_syntax_parser.specs.Syntax.{IsChain, AreSeparated, AreListed, 
 use Rattle.schema_syntax_parser.specs.Syntax.{AreAnnotations, IsMark, IsType, IsRecord, AreAttrs, IsAttr, IsShape}
 use Rattle.schema_syntax_parser.specs.Syntax.{AreTags, IsStringToken, is_role, IsApp, Applies, IsDecl, IsDeclared}
 use Rattle.schema_syntax_parser.specs.Syntax.{IsItem, IsSyntax}
-use Rattle.schema_syntax_tokens.specs.TokenLists.{kinds_of}
 use Rattle.schema_syntax_parser.specs.Syntax as S
 
 both : (u v : List Token) → kinds_of (u ++ v) ≡ kinds_of u ++ kinds_of v
@@ -49,12 +50,8 @@ closed u c k e = between u c [] k [] e refl
 after : (u v : List Token) (w : Kinds) → kinds_of v ≡ w → kinds_of (u ++ v) ≡ kinds_of u ++ w
 after u v w f = both u v ∙ ap (λ l. kinds_of u ++ l) f
 
-as_phrase : (p : Part) (u : List Token) (w : Kinds) → kinds_of u ≡ w → Phrase p w → Phrase p (kinds_of u)
+as_phrase : (p : Nonterminal) (u : List Token) (w : Kinds) → kinds_of u ≡ w → Phrase p w → Phrase p (kinds_of u)
 as_phrase p u w e h = subst (Phrase p) (sym e) h
-
-name_phrase : (k : TokenKind) → is_name_kind k ≡ true → Phrase name (k ∷ [])
-name_phrase StringLit h = G.string_name
-name_phrase k h = G.ident_name h
 
 path_chain : {u ns : List Token} → IsChain PathSep is_ident u ns → Phrase path (kinds_of u)
 path_chain (S.one h) = G.one_step h
@@ -69,16 +66,16 @@ ident_chain (S.more {t = t} {s = s} {u = u} h k r) =
     (G.more_idents h (ident_chain r))
 
 name_chain : {u ns : List Token} → IsChain Comma is_name_kind u ns → Phrase names (kinds_of u)
-name_chain (S.one {t = t} h) = G.one_name (name_phrase t.kind h)
+name_chain (S.one {t = t} h) = G.one_name (one_token t.kind h)
 name_chain (S.more {t = t} {s = s} {u = u} h k r) =
     as_phrase names (t ∷ s ∷ u) (t.kind ∷ Comma ∷ kinds_of u) (λ i. t.kind ∷ k i ∷ kinds_of u)
-    (G.more_names (name_phrase t.kind h) (name_chain r))
+    (G.more_names (one_token t.kind h) (name_chain r))
 
 one_path : {u : List Token} {p : PathSyntax} → IsPath u p → Phrase path (kinds_of u)
 one_path (S.path h) = path_chain h
 
 one_ref : {u : List Token} {p : PathSyntax} → IsRef u p → Phrase ref (kinds_of u)
-one_ref (S.plain {t = t} h) = G.plain_ref (name_phrase t.kind h)
+one_ref (S.plain {t = t} h) = G.plain_ref (one_token t.kind h)
 one_ref (S.typed {u = u} s q h ks kq) =
     as_phrase ref (u ++ s ∷ q ∷ []) (kinds_of u ++ PathSep ∷ StringLit ∷ [])
     (between u s (q ∷ []) PathSep (StringLit ∷ []) ks (λ i. kq i ∷ [])) (G.typed_ref (path_chain h))
@@ -160,7 +157,7 @@ mutual
       as_phrase attr (a ++ n ∷ (m ++ c ∷ u)) (kinds_of a ++ n.kind ∷ (kinds_of m ++ Colon ∷ kinds_of u))
       (between a n (m ++ c ∷ u) n.kind (kinds_of m ++ Colon ∷ kinds_of u) refl
       (between m c u Colon (kinds_of u) kc refl))
-      (G.one_attr (annotation_list ha) (name_phrase n.kind hn) (one_mark hm) (one_type ht))
+      (G.one_attr (annotation_list ha) (one_token n.kind hn) (one_mark hm) (one_type ht))
 
 one_shape : {u : List Token} {x : Option (List AttrSyntax × Span)} → IsShape u x → Phrase shape (kinds_of u)
 one_shape S.no_shape = G.no_shape

@@ -1,4 +1,3 @@
-ghost use Rattle.std.specs.Prelude.{◌≡◌};
 ghost use Rattle.schema_syntax_grammar.specs.declared.token_kind.TokenKind.TheVariants.{RBrace};
 ghost use Rattle.schema_syntax_parser.specs.Reading.{Gives, separated_turn, context_at, app_at, applies_at};
 

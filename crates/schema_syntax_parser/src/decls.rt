@@ -1,4 +1,3 @@
-ghost use Rattle.std.specs.Prelude.{◌≡◌};
 ghost use Rattle.schema_syntax_parser.specs.Reading.{Gives, enum_at, standard_at, entity_body_at, entity_at, external_entity_at, external_action_at, action_at, common_at, external_at, decl_at};
 
 use crate::actions::applies;

@@ -1,4 +1,4 @@
-ghost use Rattle.std.specs.Prelude.{◌≡◌, ◌++◌, [], ◌∷◌, List, Option, Some, OnOk, ◌+◌, length};
+ghost use Rattle.std.specs.Prelude.{◌≡◌, ◌++◌, [], ◌∷◌, List, Option, Some, OnOk, ◌+◌};
 ghost use Rattle.schema_syntax_tokens.specs.declared.token.Token.{Token};
 ghost use Rattle.schema_syntax_parser.specs.Reading.{Gives, Done, all_at, many_at, link_at, closed_at};
 ghost use Rattle.schema_syntax_parser.specs.Turns.{turn_of};

@@ -1,20 +1,20 @@
 -- The sites of a syntax are placed, and their ends are ends of its tokens, in order.
-use Rattle.std.proofs.Common.{◌≡◌, ℕ, ◌≤◌, List, [], ◌∷◌, ◌++◌, true, map, refl, sym, ap, ◌∙◌, subst, append_assoc}
+use Rattle.std.proofs.Common.{◌≡◌, ℕ, ◌≤◌, List, [], ◌∷◌, ◌++◌, true, map, refl, sym, ap, subst, append_assoc}
 use Rattle.std.proofs.Common.{arith, Option, None, Some, inl, inr}
 use Rattle.std.specs.Prelude.{◌⊎◌, max}
 use Rattle.std.specs.List.{All, flat_map}
 use Rattle.std.proofs.lemmas.List.{map-append, append-nil}
 use Rattle.std.proofs.lemmas.List.Elements.{All-nil, All-cons, All-head, All-tail, All-append}
+use Rattle.std.proofs.lemmas.List.Concat.{flat_map-append}
 use Rattle.cedar_data.specs.Span.{Span}
+use Rattle.cedar_data.proofs.Lists.{All-front, All-back}
 use Rattle.schema_syntax_grammar.specs.declared.token_kind.TokenKind.{TokenKind}
-use Rattle.schema_syntax_grammar.specs.declared.token_kind.TokenKind.TheVariants.{KwNamespace, KwEntity, KwExternal}
-use Rattle.schema_syntax_grammar.specs.declared.token_kind.TokenKind.TheVariants.{KwType, KwSet, KwAppliesTo}
-use Rattle.schema_syntax_grammar.specs.declared.token_kind.TokenKind.TheVariants.{KwPrincipal, KwAction, KwResource}
-use Rattle.schema_syntax_grammar.specs.declared.token_kind.TokenKind.TheVariants.{KwContext, KwTags, KwEnum, Identifier}
 use Rattle.schema_syntax_grammar.specs.declared.token_kind.TokenKind.TheVariants.{StringLit}
 use Rattle.schema_syntax_grammar.specs.Grammar.{is_ident, is_name_kind}
+use Rattle.schema_syntax_grammar.proofs.Complete.{ident_is_name}
 use Rattle.schema_syntax_tokens.specs.declared.token.Token.{Token}
 use Rattle.schema_syntax_tokens.specs.Scans.{IsPlaced}
+use Rattle.schema_syntax_tokens.specs.TokenLists.{whole_place}
 use Rattle.schema_syntax_parser.specs.declared.syntax.PathSyntax.{PathSyntax}
 use Rattle.schema_syntax_parser.specs.declared.syntax.AnnotationSyntax.{AnnotationSyntax}
 use Rattle.schema_syntax_parser.specs.declared.syntax.TypeSyntax.{TypeSyntax}
@@ -27,8 +27,6 @@ use Rattle.schema_syntax_parser.specs.Syntax.{IsChain, AreSeparated, AreListed, 
 use Rattle.schema_syntax_parser.specs.Syntax.{AreAnnotations, IsType, IsRecord, AreAttrs, IsAttr, IsShape}
 use Rattle.schema_syntax_parser.specs.Syntax.{AreTags, IsStringToken, IsApp, Applies, IsDecl, IsDeclared}
 use Rattle.schema_syntax_parser.specs.Syntax.{IsItem, IsSyntax}
-use Rattle.schema_syntax_parser.proofs.Heads.{ident_name}
-use Rattle.schema_syntax_tokens.specs.TokenLists.{whole_place}
 use Rattle.schema_syntax_parser.specs.Syntax as S
 use Rattle.schema_syntax_reader.specs.Sites.{Site, word, text, annotations, empty, site_of_kind, name_sites}
 use Rattle.schema_syntax_reader.specs.Sites.{names_sites, path_sites, paths_sites, sites_of_type, sites_of_attr}
@@ -37,7 +35,7 @@ use Rattle.schema_syntax_reader.specs.Sites.{apps_sites, applies_sites, decl_sit
 use Rattle.schema_syntax_reader.specs.Sites.{sites_of}
 use Rattle.schema_syntax_reader.specs.Placed.{AreScanned, note_tokens, IsPlacedNote, IsPlacedSite}
 use Rattle.schema_syntax_reader.proofs.SiteEquations.{of_path, of_set, of_record, of_attr}
-use Rattle.schema_syntax_reader.proofs.Rising.{all_both, rise_both, Sub, none, skip, keep, sub_join, sub_none, sub_map}
+use Rattle.schema_syntax_reader.proofs.Rising.{rise_both, Sub, none, skip, keep, sub_join, sub_none, sub_map}
 use Rattle.schema_syntax_reader.proofs.Rising.{sub_rise}
 
 abbrev pub ends : List Token → List ℕ
@@ -55,37 +53,12 @@ sites_ends sites = flat_map site_ends sites
 
 pub name_split : (k : TokenKind) → is_name_kind k ≡ true → (k ≡ StringLit) ⊎ (is_ident k ≡ true)
 name_split StringLit h = inl refl
-name_split KwNamespace h = inr refl
-name_split KwEntity h = inr refl
-name_split KwExternal h = inr refl
-name_split KwType h = inr refl
-name_split KwSet h = inr refl
-name_split KwAppliesTo h = inr refl
-name_split KwPrincipal h = inr refl
-name_split KwAction h = inr refl
-name_split KwResource h = inr refl
-name_split KwContext h = inr refl
-name_split KwTags h = inr refl
-name_split KwEnum h = inr refl
-name_split Identifier h = inr refl
-name_split _ h = cc
+name_split k h = inr h
 
 -- a word is no string
 pub site_word : (k : TokenKind) → is_ident k ≡ true → (t : Token) → site_of_kind k t ≡ word t
-site_word KwNamespace h t = refl
-site_word KwEntity h t = refl
-site_word KwExternal h t = refl
-site_word KwType h t = refl
-site_word KwSet h t = refl
-site_word KwAppliesTo h t = refl
-site_word KwPrincipal h t = refl
-site_word KwAction h t = refl
-site_word KwResource h t = refl
-site_word KwContext h t = refl
-site_word KwTags h t = refl
-site_word KwEnum h t = refl
-site_word Identifier h t = refl
-site_word _ h t = cc
+site_word StringLit h t = cc
+site_word _ h t = refl
 
 module _ (source : List ℕ) where
   abbrev Good : List Token → Type 0
@@ -96,28 +69,19 @@ module _ (source : List ℕ) where
     pub sub : Sub (sites_ends sites) (ends u)
 
   pub good_left : (u v : List Token) → Good (u ++ v) → Good u
-  good_left u v g = record { placed = (all_both (IsPlaced source) u v g.placed).0; rise = (rise_both u v g.rise).0 }
+  good_left u v g = record { placed = All-front (IsPlaced source) u v g.placed; rise = (rise_both u v g.rise).0 }
 
   pub good_right : (u v : List Token) → Good (u ++ v) → Good v
-  good_right u v g = record { placed = (all_both (IsPlaced source) u v g.placed).1; rise = (rise_both u v g.rise).1 }
+  good_right u v g = record { placed = All-back (IsPlaced source) u v g.placed; rise = (rise_both u v g.rise).1 }
 
   pub good_rest : (t : Token) (u : List Token) → Good (t ∷ u) → Good u
   good_rest t u g = record { placed = All-tail (IsPlaced source) t u g.placed; rise = g.rise.1 }
-
-  pub flat_join : (a b : List Site) → sites_ends (a ++ b) ≡ sites_ends a ++ sites_ends b
-  flat_join [] b = refl
-  flat_join (s ∷ a) b = ap (λ x. site_ends s ++ x) (flat_join a b)
-      ∙ sym (append_three (site_ends s) (sites_ends a) (sites_ends b))
-    where
-      append_three : (x y z : List ℕ) → (x ++ y) ++ z ≡ x ++ (y ++ z)
-      append_three [] y z = refl
-      append_three (n ∷ x) y z = ap (λ w. n ∷ w) (append_three x y z)
 
   fits_join : (u v : List Token) (a b : List Site) → Fits u a → Fits v b → Fits (u ++ v) (a ++ b)
   fits_join u v a b f g = record {
     placed = All-append (IsPlacedSite source) a b f.placed g.placed;
     sub = subst (λ x. Sub (sites_ends (a ++ b)) x) (sym (map-append (λ t. t.loc.end) u v))
-        (subst (λ x. Sub x (ends u ++ ends v)) (sym (flat_join a b)) (sub_join f.sub g.sub));
+        (subst (λ x. Sub x (ends u ++ ends v)) (sym (flat_map-append site_ends a b)) (sub_join f.sub g.sub));
   }
 
   fits_skip : (t : Token) (u : List Token) (a : List Site) → Fits u a → Fits (t ∷ u) a
@@ -125,12 +89,8 @@ module _ (source : List ℕ) where
 
   -- tokens without a site behind a part
   fits_end : (u v : List Token) (a : List Site) → Fits u a → Fits (u ++ v) a
-  fits_end u v a f = subst (Fits (u ++ v)) (append_none a)
+  fits_end u v a f = subst (Fits (u ++ v)) (append-nil a)
       (fits_join u v a [] f (record { placed = All-nil (IsPlacedSite source); sub = sub_none (ends v) }))
-    where
-      append_none : (a : List Site) → a ++ [] ≡ a
-      append_none [] = refl
-      append_none (s ∷ a) = ap (λ b. s ∷ b) (append_none a)
 
   fits_none : Fits [] []
   fits_none = record { placed = All-nil (IsPlacedSite source); sub = none }
@@ -166,8 +126,8 @@ module _ (source : List ℕ) where
       (fits_skip s u (names_sites names) (names_fit r (good_rest s u (good_rest t (s ∷ u) g))))
 
   chain_names : {k : TokenKind} {u names : List Token} → IsChain k is_ident u names → IsChain k is_name_kind u names
-  chain_names (S.one {t = t} h) = S.one (ident_name t.kind h)
-  chain_names (S.more {t = t} h k r) = S.more (ident_name t.kind h) k (chain_names r)
+  chain_names (S.one {t = t} h) = S.one (ident_is_name t.kind h)
+  chain_names (S.more {t = t} h k r) = S.more (ident_is_name t.kind h) k (chain_names r)
 
   idents_fit : {k : TokenKind} {u names : List Token} → IsChain k is_ident u names → Good u
       → Fits u (names_sites names)
@@ -176,20 +136,13 @@ module _ (source : List ℕ) where
   path_fits : {u : List Token} {p : PathSyntax} → IsPath u p → Good u → Fits u (path_sites p)
   path_fits (S.path c) g = idents_fit c g
 
-  pub names_append : (a b : List Token) → names_sites (a ++ b) ≡ names_sites a ++ names_sites b
-  names_append [] b = refl
-  names_append (t ∷ a) b = ap (λ x. name_sites t ++ x) (names_append a b)
-
   ref_fits : {u : List Token} {p : PathSyntax} → IsRef u p → Good u → Fits u (path_sites p)
   ref_fits (S.plain {t = t} h) g = name_fits t [] h g
   ref_fits (S.typed {u = u} {names = names} s q c k l) g =
       let rest = good_rest s (q ∷ []) (good_right u (s ∷ q ∷ []) g) in
-      subst (Fits (u ++ s ∷ q ∷ [])) (sym (names_append names (q ∷ [])))
+      subst (Fits (u ++ s ∷ q ∷ [])) (sym (flat_map-append name_sites names (q ∷ [])))
       (fits_join u (s ∷ q ∷ []) (names_sites names) (name_sites q) (idents_fit c (good_left u (s ∷ q ∷ []) g))
-      (fits_skip s (q ∷ []) (name_sites q) (name_fits q [] (string_name q.kind l) rest)))
-    where
-      string_name : (k : TokenKind) → k ≡ StringLit → is_name_kind k ≡ true
-      string_name k e = rw e refl
+      (fits_skip s (q ∷ []) (name_sites q) (name_fits q [] (rw l refl) rest)))
 
   string_fits : {u : List Token} {t : Token} → IsStringToken u t → Good u → Fits u (name_sites t)
   string_fits (S.string {t = t} h) g = name_fits t [] (rw h refl) g
@@ -435,7 +388,7 @@ module _ (source : List ℕ) where
       (fits_end u (z ∷ []) (sites_of_type t) (type_fits r (good_left u (z ∷ []) g2))) in
       fits_skip w (n ∷ e ∷ (u ++ z ∷ [])) (name_sites n ++ sites_of_type t)
       (fits_join (n ∷ []) (e ∷ (u ++ z ∷ [])) (name_sites n) (sites_of_type t)
-      (name_fits n (e ∷ (u ++ z ∷ [])) (ident_name n.kind hn) g1) two)
+      (name_fits n (e ∷ (u ++ z ∷ [])) (ident_is_name n.kind hn) g1) two)
 
   declared_fits : {u : List Token} {d : DeclaredSyntax} → IsDeclared u d → Good u → Fits u (declared_sites d)
   declared_fits (S.declared {a = a} {u = u} {xs = notes} {d = d} p r) g =

@@ -6,6 +6,7 @@ use Rattle.std.specs.List.{All, AllZip}
 use Rattle.std.proofs.lemmas.List.Elements.{All-nil, All-head, All-append}
 use Rattle.std.proofs.lemmas.Grind.{flat_map-append}
 use Rattle.std.proofs.lemmas.Slice.Zip.{all_zipped_more}
+use Rattle.cedar_data.proofs.Lists.{All-back}
 use Rattle.schema_syntax_grammar.specs.Grammar.{Sentence}
 use Rattle.schema_syntax_tokens.specs.declared.token.Token.{Token}
 use Rattle.schema_syntax_tokens.specs.Scans.{Scans, IsPlaced}
@@ -24,7 +25,7 @@ use Rattle.schema_syntax_reader.specs.Trees.{IsItemOf}
 use Rattle.schema_syntax_reader.specs.LawfulTrees.{IsLawfulTree, IsStopOf}
 use Rattle.schema_syntax_reader.proofs.Order.{all_lawful, stop_of}
 use Rattle.schema_syntax_reader.proofs.Readings.{Faultless, stopped_left, stopped_right}
-use Rattle.schema_syntax_reader.proofs.Rising.{all_both, scans_rise}
+use Rattle.schema_syntax_reader.proofs.Rising.{scans_rise}
 use Rattle.schema_syntax_reader.proofs.Scanned.{items_scanned}
 
 module _ (source : List ℕ) (tokens : List Token) where
@@ -84,7 +85,7 @@ module _ (source : List ℕ) (tokens : List Token) where
         let all = items_scanned source tokens (next.done ++ item ∷ next.others) next.syntax
         (record { placed = placed; rise = scans_rise source tokens at scans }) in
         All-head (IsScanned IsItem source) item next.others
-        (all_both (IsScanned IsItem source) next.done (item ∷ next.others) all).1
+        (All-back (IsScanned IsItem source) next.done (item ∷ next.others) all)
 
     pub one_more_item : (namespace : Annotated Namespace) (grown : List (Annotated Namespace))
         → IsItemOf source item namespace → Faultless source (item_sites item)

@@ -20,22 +20,19 @@ use Rattle.std.proofs.lemmas.Map.{NonePasses, none_passes_from_lookup}
 use Rattle.std.proofs.lemmas.Map.Views.{Contains-from_lookup}
 use Rattle.std.proofs.lemmas.Map.Text.{is_eq-slice_cmp}
 use Rattle.std.proofs.lemmas.Slice.Eq.{bytes_eq-Decides}
-use Rattle.std.proofs.lemmas.Str.{encodes-IsAscii}
 use Rattle.cedar_data.specs.Text.{text_cmp}
+use Rattle.cedar_data.proofs.Ascii.{word_bytes}
+use Rattle.cedar_data.proofs.Every.{all_unmapped}
 use Rattle.cedar_identifiers.specs.declared.any_id.AnyId.{AnyId}
 use Rattle.cedar_identifiers.proofs.Same.{any_id_same}
 use Rattle.schema_syntax_errors.specs.declared.user_error.UserError.TheVariants.{DuplicateAnnotations}
 use Rattle.schema_syntax_reader.specs.declared.annotations.Kept.{Kept}
 use Rattle.schema_syntax_reader.specs.Deduplicated.{Placed, placed_key, key_place, HaveOtherKeys, IsTwice}
 use Rattle.schema_syntax_reader.specs.Collected.{entry_of, HasRead}
-use Rattle.cedar_data.proofs.Ascii.{word_ascii}
 
 -- the order of keys
 abbrev pub key_cmp : AnyId → AnyId → Ordering
 key_cmp a b = text_cmp a.text b.text
-
-word_bytes : (a : AnyId) → encode_utf8_all a.text ≡ a.text
-word_bytes a = encodes-IsAscii a.text (word_ascii a.text a.word)
 
 -- keys that tie are the same
 key_same : (a b : AnyId) → is_eq (key_cmp a b) ≡ true → a ≡ b
@@ -43,7 +40,7 @@ key_same a b h =
     let e : encode_utf8_all a.text
     ≡ encode_utf8_all b.text = (bytes_eq-Decides (encode_utf8_all a.text) (encode_utf8_all b.text)).0
     (sym (is_eq-slice_cmp (encode_utf8_all a.text) (encode_utf8_all b.text)) ∙ h) in
-    any_id_same a b (sym (word_bytes a) ∙ (e ∙ word_bytes b))
+    any_id_same a b (sym (word_bytes a.text a.word) ∙ (e ∙ word_bytes b.text b.word))
 
 key_ties : (a : AnyId) → is_eq (key_cmp a a) ≡ true
 key_ties a = is_eq-slice_cmp (encode_utf8_all a.text) (encode_utf8_all a.text)
@@ -68,12 +65,6 @@ insert_new : {K X : Type 0} (R : K → K → Ordering) (k : K) (v : X) (es : Lis
     → IsPermutation ((k, v) ∷ es) (insert_entry R es k v)
 insert_new R k v [] h = IsPermutation-refl ((k, v) ∷ [])
 insert_new R k v (e ∷ es) h = insert_by R k v e es (R k e.0) h.0 (insert_new R k v es h.1)
-
--- what holds of what f makes of the items
-pub unmapped : {A B : Type 0} (P : B → Type 0) (f : A → B) (xs : List A) → AllByRecursion P (map f xs)
-    → AllByRecursion (λ x. P (f x)) xs
-unmapped P f [] h = tt
-unmapped P f (x ∷ xs) h = (h.0, unmapped P f xs h.1)
 
 -- what a list contains stands between two parts
 split_map : {A B : Type 0} (f : A → B) (y : B) (xs : List A) (k : ℕ) → k < length (map f xs)
@@ -100,7 +91,7 @@ has_more all left after a entries entries' h e none into =
     (All-permutation Other entries (map entry_of h.front) (IsPermutation-sym (map entry_of h.front) entries h.same)
     (All-from_recursion Other entries free)) in
     let apart : All (λ p. is_eq (key_cmp (placed_key a) (placed_key p)) ≡ false) h.front = All-from_recursion
-    (λ p. is_eq (key_cmp (placed_key a) (placed_key p)) ≡ false) h.front (unmapped Other entry_of h.front others) in
+    (λ p. is_eq (key_cmp (placed_key a) (placed_key p)) ≡ false) h.front (all_unmapped Other entry_of h.front others) in
     record {
       front = h.front ++ a ∷ [];
       split = h.split ∙ (ap (λ l. h.front ++ l) e ∙ sym (append_assoc h.front (a ∷ []) after));

@@ -1,11 +1,11 @@
 -- What is read of one token, and of one site.
 use Rattle.std.proofs.Common.{◌≡◌, ℕ, true, false, List, [], ◌∷◌, sym, subst, inl, inr}
 use Rattle.std.specs.Prelude.{Result, Ok, Err, IfOk, IfErr, OnOk}
-use Rattle.cedar_identifiers.specs.Words.{is_reserved}
 use Rattle.schema_syntax_grammar.specs.declared.token_kind.TokenKind.{TokenKind}
 use Rattle.schema_syntax_grammar.specs.declared.token_kind.TokenKind.TheVariants.{StringLit}
 use Rattle.schema_syntax_grammar.specs.Grammar.{is_ident}
 use Rattle.schema_syntax_tokens.specs.declared.token.Token.{Token}
+use Rattle.cedar_identifiers.specs.Words.{is_reserved}
 use Rattle.schema_syntax_reader.specs.declared.stopped.Stopped.{Stopped}
 use Rattle.schema_syntax_reader.specs.Sites.{Site, word, text, site_of_kind, name_sites}
 use Rattle.schema_syntax_reader.specs.Leaves.{word_at, IsStringAt}
@@ -42,7 +42,7 @@ module _ (source : List ℕ) where
       → IsNameOf source t.kind t value
   named_string t value h is = subst (λ k. IsNameOf source k t value) (sym h) is
 
-  word_named : (k : TokenKind) (t : Token) (value : List ℕ) → is_ident k ≡ true → value ≡ word_at source t
+  pub word_named : (k : TokenKind) (t : Token) (value : List ℕ) → is_ident k ≡ true → value ≡ word_at source t
       → IsNameOf source k t value
   word_named StringLit t value h is = absurd (cc)
   word_named _ t value h is = is

@@ -10,8 +10,11 @@ use Rattle.std.proofs.lemmas.List.{map-append}
 use Rattle.std.proofs.lemmas.List.Elements.{All-from_recursion, recursion_from_All, All-head, All-tail, All-nil}
 use Rattle.std.proofs.lemmas.Grind.{flat_map-append}
 use Rattle.std.proofs.lemmas.Slice.Zip.{AllZip-long}
-use Rattle.cedar_identifiers.proofs.Same.{any_id_same}
+use Rattle.std.proofs.lemmas.List.Elements.{All-weaker}
+use Rattle.cedar_data.proofs.Lists.{nothing_is}
+use Rattle.cedar_data.proofs.Every.{at_middle, all_unmapped}
 use Rattle.schema_syntax_tokens.specs.declared.token.Token.{Token}
+use Rattle.cedar_identifiers.proofs.Same.{any_id_same}
 use Rattle.schema_syntax_parser.specs.declared.syntax.AnnotationSyntax.{AnnotationSyntax}
 use Rattle.schema_syntax_errors.specs.declared.user_error.UserError.{UserError}
 use Rattle.schema_syntax_errors.specs.declared.user_error.UserError.TheVariants.{DuplicateAnnotations}
@@ -86,29 +89,26 @@ apart_texts (p ∷ ps) h = (
       (λ i j d lt b. h (suc i) (suc j) d (omega arith) (omega arith)),
 )
 
-other_in : {A : Type 0} (w : A → List ℕ) (v : List ℕ) (mid : List A) (s : A) (y : List A)
-    → AllByRecursion (λ u. v ≢ u) (map w (mid ++ s ∷ y)) → v ≢ w s
-other_in w v [] s y h = h.0
-other_in w v (m ∷ mid) s y h = other_in w v mid s y h.1
-
 apart_split : {A : Type 0} (w : A → List ℕ) (fr : List A) (f : A) (mid : List A) (s : A) (y : List A)
     → Apart (map w (fr ++ f ∷ (mid ++ s ∷ y))) → w f ≢ w s
-apart_split w [] f mid s y h = other_in w (w f) mid s y h.0
+apart_split w [] f mid s y h = at_middle (λ a. w f ≢ w a) mid s y
+    (all_unmapped (λ v. w f ≢ v) w (mid ++ s ∷ y) h.0)
 apart_split w (x ∷ fr) f mid s y h = apart_split w fr f mid s y h.1
 
 others_front : {A : Type 0} (w : A → List ℕ) (key : List ℕ) (fr : List A) (f : A) (mi : List A)
     → Apart (map w (fr ++ f ∷ mi)) → w f ≡ key → AllByRecursion (λ a. w a ≡ key → ⊥) fr
 others_front w key [] f mi h e = tt
-others_front w key (x ∷ fr) f mi h e = (λ k. other_in w (w x) fr f mi h.0 (k ∙ sym e), others_front w key fr f mi h.1 e)
-
-flipped : {A : Type 0} (w : A → List ℕ) (v key : List ℕ) (mi : List A) → AllByRecursion (λ u. v ≢ u) (map w mi)
-    → v ≡ key → AllByRecursion (λ a. w a ≡ key → ⊥) mi
-flipped w v key [] h e = tt
-flipped w v key (m ∷ mi) h e = (λ k. h.0 (e ∙ sym k), flipped w v key mi h.1 e)
+others_front w key (x ∷ fr) f mi h e = (
+  λ k. at_middle (λ a. w x ≢ w a) fr f mi (all_unmapped (λ v. w x ≢ v) w (fr ++ f ∷ mi) h.0) (k ∙ sym e),
+  others_front w key fr f mi h.1 e,
+)
 
 others_middle : {A : Type 0} (w : A → List ℕ) (key : List ℕ) (fr : List A) (f : A) (mi : List A)
     → Apart (map w (fr ++ f ∷ mi)) → w f ≡ key → AllByRecursion (λ a. w a ≡ key → ⊥) mi
-others_middle w key [] f mi h e = flipped w (w f) key mi h.0 e
+others_middle w key [] f mi h e =
+    recursion_from_All (λ a. w a ≡ key → ⊥) mi
+    (All-weaker (λ a. w f ≢ w a) (λ a. w a ≡ key → ⊥) (λ a other k. other (e ∙ sym k)) mi
+    (All-from_recursion (λ a. w f ≢ w a) mi (all_unmapped (λ v. w f ≢ v) w mi h.0)))
 others_middle w key (x ∷ fr) f mi h e = others_middle w key fr f mi h.1 e
 
 -- ---- values
@@ -395,16 +395,12 @@ escape_stops source list all fault notes rise h kept =
     (subst (AllPairs HaveOtherKeys) h.split_read kept.apart) refl h.bad
 
 -- no annotation at all
-no_item : {A : Type 0} (xs : List A) (x : A) (ys : List A) → [] ≡ xs ++ x ∷ ys → ⊥
-no_item [] x ys e = cc
-no_item (a ∷ xs) x ys e = cc
-
 pub no_note : (source : List ℕ) → AreNotes source [] []
 unfolding IsStrictlySortedBy
 no_note source = record { sorted = tt; as_many = refl; each = All-nil (HasNote source []) }
 
 pub nothing_at : (source : List ℕ) → NoSiteFault source (annotations [])
 nothing_at source fault end f = elim (end_of source (annotations []) fault end f) [
-  | inl h ↦ no_item h.front h.here h.back h.split
-  | inr h ↦ no_item h.front h.first (h.middle ++ h.second ∷ h.back) h.split
+  | inl h ↦ nothing_is h.front h.here h.back h.split
+  | inr h ↦ nothing_is h.front h.first (h.middle ++ h.second ∷ h.back) h.split
 ]

@@ -3,7 +3,9 @@ use Rattle.std.proofs.Common.{◌≡◌, ℕ, ◌≤◌, List, [], ◌∷◌, �
 use Rattle.std.specs.List.{All}
 use Rattle.std.specs.Option.{option_to_list}
 use Rattle.std.proofs.lemmas.List.{map-append}
-use Rattle.std.proofs.lemmas.List.Elements.{All-head, All-tail}
+use Rattle.std.proofs.lemmas.List.Elements.{All-head}
+use Rattle.std.proofs.lemmas.List.Concat.{flat_map-append}
+use Rattle.cedar_data.proofs.Lists.{All-back}
 use Rattle.schema_syntax_tokens.specs.declared.token.Token.{Token}
 use Rattle.schema_syntax_tokens.specs.Scans.{IsPlaced, Scans}
 use Rattle.schema_syntax_parser.specs.declared.syntax.AnnotationSyntax.{AnnotationSyntax}
@@ -18,35 +20,57 @@ use Rattle.schema_syntax_reader.specs.Stops.{IsStopped}
 use Rattle.schema_syntax_reader.specs.LawfulTrees.{IsStopOf}
 use Rattle.schema_syntax_reader.specs.declared.stopped.Stopped.{Stopped}
 use Rattle.schema_syntax_reader.specs.declared.stopped.Stopped.TheVariants.{Memory, User}
-use Rattle.schema_syntax_reader.proofs.Rising.{Rises, Among, among_left, among_right, rises_apart, rise_ends, sub_rises}
-use Rattle.schema_syntax_reader.proofs.Rising.{scans_rise}
-use Rattle.schema_syntax_reader.proofs.Fits.{ends, site_ends, sites_ends, syntax_fits, flat_join}
+use Rattle.schema_syntax_reader.proofs.Rising.{Rises, Among, among_left, among_right, turns_apart, turns_back}
+use Rattle.schema_syntax_reader.proofs.Rising.{sub_turns, rise_ends, scans_rise}
+use Rattle.schema_syntax_reader.proofs.Fits.{ends, site_ends, sites_ends, syntax_fits}
+
+-- the ends of one annotation, and of those in front of it and behind it
+abbrev pub note_ends : AnnotationSyntax → List ℕ
+note_ends a = ends (a.key ∷ option_to_list a.value)
+
+pub one_note : (a : AnnotationSyntax) (back : List AnnotationSyntax)
+    → ends (note_tokens (a ∷ back)) ≡ note_ends a ++ ends (note_tokens back)
+one_note a back = map-append (λ t. t.loc.end) (a.key ∷ option_to_list a.value) (note_tokens back)
+
+pub notes_join : (a b : List AnnotationSyntax)
+    → ends (note_tokens (a ++ b)) ≡ ends (note_tokens a) ++ ends (note_tokens b)
+notes_join [] b = refl
+notes_join (x ∷ a) b =
+    one_note x (a ++ b)
+    ∙ (ap (λ w. note_ends x ++ w) (notes_join a b)
+    ∙ (sym (append_assoc (note_ends x) (ends (note_tokens a)) (ends (note_tokens b)))
+    ∙ ap (λ w. w ++ ends (note_tokens b)) (sym (one_note x a))))
+
+-- what ends in one of the annotations ends in the list
+pub among_note : (front back : List AnnotationSyntax) (a : AnnotationSyntax) (n : ℕ) → Among n (note_ends a)
+    → Among n (ends (note_tokens (front ++ a ∷ back)))
+among_note front back a n h =
+    subst (Among n) (sym (notes_join front (a ∷ back)))
+    (among_right n (ends (note_tokens front)) (ends (note_tokens (a ∷ back)))
+    (subst (Among n) (sym (one_note a back)) (among_left n (note_ends a) (ends (note_tokens back)) h)))
+
+-- where one of two places in a list is, seen from the other
+pub data Where {A : Type 0} (front back : List A) (item other : A) : Type 0 where
+  earlier : (a b : List A) → front ≡ a ++ other ∷ b → Where front back item other
+  same : item ≡ other → Where front back item other
+  later : (a b : List A) → back ≡ a ++ other ∷ b → Where front back item other
+
+pub places : {A : Type 0} (front back a b : List A) (item other : A) → front ++ item ∷ back ≡ a ++ other ∷ b
+    → Where front back item other
+places [] back [] b item other e = same (cc)
+places [] back (x ∷ a) b item other e = later a b (cc)
+places (x ∷ front) back [] b item other e = earlier [] front (ap (λ y. y ∷ front) (cc))
+places {A} (x ∷ front) back (y ∷ a) b item other e = step (places front back a b item other (cc))
+  where
+    step : Where front back item other → Where (x ∷ front) back item other
+    step (earlier c d f) = earlier (x ∷ c) d (ap (λ l. x ∷ l) f)
+    step (same f) = same f
+    step (later c d f) = later c d f
 
 module _ (source : List ℕ) where
-  abbrev note_ends : (a : AnnotationSyntax) → List ℕ
-  note_ends a = ends (a.key ∷ option_to_list a.value)
-
-  notes_join : (a b : List AnnotationSyntax)
-      → ends (note_tokens (a ++ b)) ≡ ends (note_tokens a) ++ ends (note_tokens b)
-  notes_join [] b = refl
-  notes_join (x ∷ a) b =
-      map-append (λ t. t.loc.end) (x.key ∷ option_to_list x.value) (note_tokens (a ++ b))
-      ∙ (ap (λ w. note_ends x ++ w) (notes_join a b)
-      ∙ (sym (append_assoc (note_ends x) (ends (note_tokens a)) (ends (note_tokens b)))
-      ∙ ap (λ w. w ++ ends (note_tokens b))
-      (sym (map-append (λ t. t.loc.end) (x.key ∷ option_to_list x.value) (note_tokens a)))))
-
-  -- what ends in one of the annotations ends in the list
-  among_note : (front back : List AnnotationSyntax) (a : AnnotationSyntax) (n : ℕ) → Among n (note_ends a)
-      → Among n (ends (note_tokens (front ++ a ∷ back)))
-  among_note front back a n h =
-      subst (Among n) (sym (notes_join front (a ∷ back)))
-      (among_right n (ends (note_tokens front)) (ends (note_tokens (a ∷ back)))
-      (subst (Among n) (sym (map-append (λ t. t.loc.end) (a.key ∷ option_to_list a.value) (note_tokens back)))
-      (among_left n (note_ends a) (ends (note_tokens back)) h)))
-
   -- a fault ends where a token of its site does
-  fault_end : {site : Site} {fault : UserError} {end : ℕ} → FaultAt source site fault end → Among end (site_ends site)
+  pub fault_end : {site : Site} {fault : UserError} {end : ℕ} → FaultAt source site fault end
+      → Among end (site_ends site)
   fault_end (empty_list brackets) = inl refl
   fault_end (reserved t h) = inl refl
   fault_end (escape t at h) = inl refl
@@ -59,53 +83,18 @@ module _ (source : List ℕ) where
       subst (λ list. Among second.key.loc.end (ends (note_tokens list))) (sym (e ∙ whole))
       (among_note (front ++ first ∷ middle) back second second.key.loc.end (inl refl))
 
-  -- where one of two places in a list is, seen from the other
-  data Where (front back : List Site) (site other : Site) : Type 0 where
-    earlier : (a b : List Site) → front ≡ a ++ other ∷ b → Where front back site other
-    same : site ≡ other → Where front back site other
-    later : (a b : List Site) → back ≡ a ++ other ∷ b → Where front back site other
-
-  places : (front back a b : List Site) (site other : Site) → front ++ site ∷ back ≡ a ++ other ∷ b
-      → Where front back site other
-  places [] back [] b site other e = same (head_is e)
-    where
-      head_is : {x y : Site} {xs ys : List Site} → x ∷ xs ≡ y ∷ ys → x ≡ y
-      head_is {x} h = ap (λ (l : List Site). elim l [ [] ↦ x | (z ∷ zs) ↦ z ]) h
-  places [] back (x ∷ a) b site other e = later a b (ap (λ (l : List Site). elim l [ [] ↦ [] | (z ∷ zs) ↦ zs ]) e)
-  places (x ∷ front) back [] b site other e =
-      earlier [] front (ap (λ y. y ∷ front) (ap (λ (l : List Site). elim l [ [] ↦ x | (z ∷ zs) ↦ z ]) e))
-  places (x ∷ front) back (y ∷ a) b site other e =
-      step (places front back a b site other (ap (λ (l : List Site). elim l [ [] ↦ [] | (z ∷ zs) ↦ zs ]) e))
-    where
-      step : Where front back site other → Where (x ∷ front) back site other
-      step (earlier c d f) = earlier (x ∷ c) d (ap (λ l. x ∷ l) f)
-      step (same f) = same f
-      step (later c d f) = later c d f
-
   no_fault_in : (front a b : List Site) (other : Site) → All (NoSiteFault source) front → front ≡ a ++ other ∷ b
       → NoSiteFault source other
-  no_fault_in front [] b other h e = All-head (NoSiteFault source) other b (subst (All (NoSiteFault source)) e h)
-  no_fault_in front (x ∷ a) b other h e =
-      no_fault_in (a ++ other ∷ b) a b other
-      (All-tail (NoSiteFault source) x (a ++ other ∷ b) (subst (All (NoSiteFault source)) e h)) refl
+  no_fault_in front a b other h e = All-head (NoSiteFault source) other b
+      (All-back (NoSiteFault source) a (other ∷ b) (subst (All (NoSiteFault source)) e h))
 
   -- the ends of a later site
   later_end : (back a b : List Site) (other : Site) (n : ℕ) → back ≡ a ++ other ∷ b → Among n (site_ends other)
       → Among n (sites_ends back)
   later_end back a b other n e h =
       subst (λ l. Among n (sites_ends l)) (sym e)
-      (subst (Among n) (sym (flat_join source a (other ∷ b)))
+      (subst (Among n) (sym (flat_map-append site_ends a (other ∷ b)))
       (among_right n (sites_ends a) (sites_ends (other ∷ b)) (among_left n (site_ends other) (sites_ends b) h)))
-
-  rises_from : (front back : List Site) (site : Site) → Rises (sites_ends (front ++ site ∷ back))
-      → Rises (site_ends site ++ sites_ends back)
-  rises_from [] back site r = r
-  rises_from (x ∷ front) back site r =
-      rises_from front back site (rises_behind (site_ends x) (sites_ends (front ++ site ∷ back)) r)
-    where
-      rises_behind : (xs ys : List ℕ) → Rises (xs ++ ys) → Rises ys
-      rises_behind [] ys r = r
-      rises_behind (x ∷ xs) ys r = rises_behind xs ys r.1
 
   -- the first fault of the sites is the one that ends first
   pub first_ends_first : (tokens : List Token) (at : ℕ) (items : List ItemSyntax) (fault : UserError)
@@ -115,8 +104,10 @@ module _ (source : List ℕ) where
   first_ends_first tokens at items fault s p r f =
       let rise = scans_rise source tokens at s in
       let fits = syntax_fits source r (record { placed = p; rise = rise }) in
-      let all = sub_rises fits.sub (rise_ends tokens rise) in
-      let here = rises_from f.front f.back f.site (subst (λ l. Rises (sites_ends l)) f.split all) in
+      let all = sub_turns (λ n m. n ≤ m) fits.sub (rise_ends tokens rise) in
+      let here = turns_back (λ n m. n ≤ m) (sites_ends f.front) (sites_ends (f.site ∷ f.back))
+      (subst Rises (flat_map-append site_ends f.front (f.site ∷ f.back))
+      (subst (λ l. Rises (sites_ends l)) f.split all)) in
       record {
         end = f.end;
         has = (f.front, f.site, f.back, f.split, f.here);
@@ -129,7 +120,7 @@ module _ (source : List ℕ) where
       by_place here other n h (earlier a b e) = absurd (no_fault_in f.front a b h.1 f.before e other n h.4)
       by_place here other n h (same e) = f.least other n (subst (λ s. FaultAt source s other n) (sym e) h.4)
       by_place here other n h (later a b e) =
-          rises_apart (site_ends f.site) (sites_ends f.back) f.end n here (fault_end f.here)
+          turns_apart (λ n m. n ≤ m) (site_ends f.site) (sites_ends f.back) f.end n here (fault_end f.here)
           (later_end f.back a b h.1 n e (fault_end h.4))
 
   -- no site with a fault: no user fault

@@ -5,14 +5,14 @@ use Rattle.std.specs.List.{list_all}
 use Rattle.std.proofs.lemmas.Str.{chars-IsAscii}
 use Rattle.std.proofs.lemmas.Bool.{and_from}
 use Rattle.std.proofs.lemmas.List.Sums.{list_all-from_AllPass}
+use Rattle.cedar_data.specs.Words.{is_word_start, is_word_part, is_word}
+use Rattle.cedar_data.proofs.Ascii.{word_ascii}
 use Rattle.schema_syntax_grammar.specs.declared.token_kind.TokenKind.{TokenKind}
 use Rattle.schema_syntax_grammar.specs.declared.token_kind.TokenKind.TheVariants.{PathSep}
 use Rattle.schema_syntax_grammar.specs.Grammar as kind
-use Rattle.cedar_identifiers.specs.Words.{is_reserved, is_id}
-use Rattle.cedar_data.specs.Words.{is_word_start, is_word_part, is_word}
-use Rattle.cedar_data.proofs.Ascii.{word_ascii}
 use Rattle.schema_syntax_tokens.specs.declared.token.Token.{Token}
 use Rattle.schema_syntax_tokens.specs.Forms.{IsWord, single_mark, mark_kind, IsForm}
+use Rattle.cedar_identifiers.specs.Words.{is_reserved, is_id}
 use Rattle.schema_syntax_reader.specs.Leaves.{word_at}
 use Rattle.schema_syntax_reader.specs.Stops.{IsPlacedWord}
 
@@ -40,12 +40,12 @@ marks (b ∷ c ∷ []) = mark_or (b == 58 && c == 58) (Some PathSep) None refl t
 marks (b ∷ c ∷ d ∷ bs) = tt
 
 -- what has the kind of a word is a word
-form_word : (w : List ℕ) (k : TokenKind) → IsForm w k → kind.is_word_kind k ≡ true → IsWord w
+pub form_word : (w : List ℕ) (k : TokenKind) → IsForm w k → kind.is_word_kind k ≡ true → IsWord w
 form_word w k (inl h) e = h.0
 form_word w k (inr (inl m)) e = let f : kind.is_word_kind k ≡ false = subst IsMark m (marks w) in cc
 form_word w k (inr (inr s)) e = let f : false ≡ true = sym (ap kind.is_word_kind s.1) ∙ e in cc
 
-word_test : (w : List ℕ) → IsWord w → is_word w ≡ true
+pub word_test : (w : List ℕ) → IsWord w → is_word w ≡ true
 word_test [] h = absurd h
 word_test (b ∷ bs) h = and_from (is_word_start b) (list_all is_word_part bs) h.0
     (list_all-from_AllPass is_word_part bs h.1)

@@ -9,13 +9,14 @@ use Rattle.std.proofs.lemmas.List.{append-nil}
 use Rattle.std.proofs.lemmas.List.Elements.{All-append, All-nil, All-cons, All-head, All-tail}
 use Rattle.std.proofs.lemmas.Result.{err_from_is_err_and}
 use Rattle.std.proofs.lemmas.Slice.Zip.{all_zipped_more}
+use Rattle.std.proofs.lemmas.List.Concat.{flat_map-append}
+use Rattle.cedar_data.proofs.Lists.{All-back}
 use Rattle.schema_syntax_reader.specs.declared.stopped.Stopped.{Stopped}
 use Rattle.schema_syntax_reader.specs.declared.stopped.Stopped.TheVariants.{Memory, User}
 use Rattle.schema_syntax_reader.specs.Sites.{Site}
 use Rattle.schema_syntax_reader.specs.Placed.{NoSiteFault}
 use Rattle.schema_syntax_reader.specs.Stops.{IsStopped, IsStoppedAt}
 use Rattle.schema_syntax_reader.specs.Readings.{Reads}
-use Rattle.schema_syntax_reader.proofs.Rising.{all_both}
 
 module _ (source : List ℕ) where
   abbrev pub Faultless : List Site → Type 0
@@ -90,11 +91,6 @@ module _ (source : List ℕ) where
       pub each : AllZip Is done items
       pub lawful : Faultless (flat_map sites done)
 
-    flat_joined : (xs ys : List R) → flat_map sites (xs ++ ys) ≡ flat_map sites xs ++ flat_map sites ys
-    flat_joined [] ys = refl
-    flat_joined (x ∷ xs) ys = ap (λ l. sites x ++ l) (flat_joined xs ys)
-        ∙ sym (append_assoc (sites x) (flat_map sites xs) (flat_map sites ys))
-
     pub none_read : (rest : List R) (items : List A) → rest ≡ raws → items ≡ [] → ReadTo rest items
     none_read rest items whole none = record {
       done = [];
@@ -110,7 +106,7 @@ module _ (source : List ℕ) where
 
       pub next_fits : (P : R → Type 0) → All P raws → P r
       next_fits P all =
-          All-head P r others (all_both P so_far.done (r ∷ others) (subst (All P) next_part all)).1
+          All-head P r others (All-back P so_far.done (r ∷ others) (subst (All P) next_part all))
 
       pub one_more_read : (items' : List A) (x : A) → Is r x → Faultless (sites r) → items' ≡ items ++ x ∷ []
           → ReadTo others items'
@@ -119,7 +115,7 @@ module _ (source : List ℕ) where
         split = next_part ∙ sym (append_assoc so_far.done (r ∷ []) others);
         each = subst (AllZip Is (so_far.done ++ r ∷ [])) (sym into)
             (all_zipped_more Is so_far.done items r x so_far.each is);
-        lawful = subst Faultless (sym (flat_joined so_far.done (r ∷ [])))
+        lawful = subst Faultless (sym (flat_map-append sites so_far.done (r ∷ [])))
             (All-append (NoSiteFault source) (flat_map sites so_far.done) (sites r ++ []) so_far.lawful
             (subst Faultless (sym (append-nil (sites r))) all));
       }
@@ -127,7 +123,7 @@ module _ (source : List ℕ) where
       pub stopped_at_part : (e : Stopped) → IsStopped source (sites r) e → IsStopped source (flat_map sites raws) e
       stopped_at_part e h =
           subst (λ l. IsStopped source l e)
-          (sym (ap (flat_map sites) next_part ∙ flat_joined so_far.done (r ∷ others)))
+          (sym (ap (flat_map sites) next_part ∙ flat_map-append sites so_far.done (r ∷ others)))
           (stopped_right (flat_map sites so_far.done) (sites r ++ flat_map sites others) e so_far.lawful
           (stopped_left (sites r) (flat_map sites others) e h))
 

@@ -3,21 +3,16 @@ use Rattle.std.proofs.Common.{◌≡◌, ℕ, ◌≤◌, List, [], ◌∷◌, �
 use Rattle.std.proofs.Common.{inl, inr}
 use Rattle.std.specs.Prelude.{◌⊎◌}
 use Rattle.std.specs.List.{All}
-use Rattle.std.proofs.lemmas.List.Elements.{All-nil, All-cons, All-head, All-tail, All-weaker}
+use Rattle.std.proofs.lemmas.List.Elements.{All-nil, All-cons, All-head, All-tail, All-weaker, All-map}
+use Rattle.cedar_data.proofs.Lists.{All-front}
 use Rattle.schema_syntax_tokens.specs.declared.token.Token.{Token}
 use Rattle.schema_syntax_tokens.specs.Scans.{Skips, ScansFrom, Scans}
 use Rattle.schema_syntax_tokens.specs.Scans as T
 use Rattle.schema_syntax_reader.specs.Placed.{Rise}
 
-pub all_both : {A : Type 0} (P : A → Type 0) (xs ys : List A) → All P (xs ++ ys) → All P xs × All P ys
-all_both P [] ys h = (All-nil P, h)
-all_both P (x ∷ xs) ys h =
-    let r = all_both P xs ys (All-tail P x (xs ++ ys) h) in
-    (All-cons P x xs (All-head P x (xs ++ ys) h) r.0, r.1)
-
 pub rise_both : (u v : List Token) → Rise (u ++ v) → Rise u × Rise v
 rise_both [] v h = (tt, h)
-rise_both (t ∷ u) v h = let r = rise_both u v h.1 in (((all_both (λ s. t.loc.end ≤ s.loc.end) u v h.0).0, r.0), r.1)
+rise_both (t ∷ u) v h = let r = rise_both u v h.1 in ((All-front (λ s. t.loc.end ≤ s.loc.end) u v h.0, r.0), r.1)
 
 -- blanks take no more than there is
 skips_shorter : {rest here : List ℕ} → Skips rest here → length here ≤ length rest
@@ -40,10 +35,14 @@ from_on from rest (t ∷ ts) at s =
 pub scans_rise : (text : List ℕ) (ts : List Token) (at : ℕ) → Scans text ts at → Rise ts
 scans_rise text ts at s = (from_on 0 text ts at s).1
 
+-- numbers, each of which is so to the later ones
+abbrev pub InTurn : (ℕ → ℕ → Type 0) → List ℕ → Type 0
+InTurn R [] = Unit {0}
+InTurn R (n ∷ ns) = All (R n) ns × InTurn R ns
+
 -- numbers, none of which is above a later one
 abbrev pub Rises : List ℕ → Type 0
-Rises [] = Unit {0}
-Rises (n ∷ ns) = All (λ m. n ≤ m) ns × Rises ns
+Rises = InTurn (λ n m. n ≤ m)
 
 abbrev pub Among : ℕ → List ℕ → Type 0
 Among n [] = ⊥
@@ -63,12 +62,17 @@ all_among P [] n h a = absurd a
 all_among P (x ∷ xs) n h (inl e) = subst P (sym e) (All-head P x xs h)
 all_among P (x ∷ xs) n h (inr a) = all_among P xs n (All-tail P x xs h) a
 
--- a number before another one is not above it
-pub rises_apart : (xs ys : List ℕ) (n m : ℕ) → Rises (xs ++ ys) → Among n xs → Among m ys → n ≤ m
-rises_apart [] ys n m r a b = absurd a
-rises_apart (x ∷ xs) ys n m r (inl e) b =
-    subst (λ k. k ≤ m) (sym e) (all_among (λ k. x ≤ k) (xs ++ ys) m r.0 (among_right m xs ys b))
-rises_apart (x ∷ xs) ys n m r (inr a) b = rises_apart xs ys n m r.1 a b
+-- a number before another one is so to it
+pub turns_apart : (R : ℕ → ℕ → Type 0) (xs ys : List ℕ) (n m : ℕ) → InTurn R (xs ++ ys) → Among n xs → Among m ys
+    → R n m
+turns_apart R [] ys n m r a b = absurd a
+turns_apart R (x ∷ xs) ys n m r (inl e) b =
+    subst (λ k. R k m) (sym e) (all_among (R x) (xs ++ ys) m r.0 (among_right m xs ys b))
+turns_apart R (x ∷ xs) ys n m r (inr a) b = turns_apart R xs ys n m r.1 a b
+
+pub turns_back : (R : ℕ → ℕ → Type 0) (xs ys : List ℕ) → InTurn R (xs ++ ys) → InTurn R ys
+turns_back R [] ys r = r
+turns_back R (x ∷ xs) ys r = turns_back R xs ys r.1
 
 -- some of the items, in order
 pub data Sub {A : Type 0} : List A → List A → Type 0 where
@@ -100,16 +104,11 @@ sub_rise none r = tt
 sub_rise (skip y s) r = sub_rise s r.1
 sub_rise (keep x s) r = (sub_all (λ t. x.loc.end ≤ t.loc.end) s r.0, sub_rise s r.1)
 
-pub sub_rises : {xs ys : List ℕ} → Sub xs ys → Rises ys → Rises xs
-sub_rises none r = tt
-sub_rises (skip y s) r = sub_rises s r.1
-sub_rises (keep x s) r = (sub_all (λ m. x ≤ m) s r.0, sub_rises s r.1)
+pub sub_turns : (R : ℕ → ℕ → Type 0) {xs ys : List ℕ} → Sub xs ys → InTurn R ys → InTurn R xs
+sub_turns R none r = tt
+sub_turns R (skip y s) r = sub_turns R s r.1
+sub_turns R (keep x s) r = (sub_all (R x) s r.0, sub_turns R s r.1)
 
 pub rise_ends : (ts : List Token) → Rise ts → Rises (map (λ t. t.loc.end) ts)
 rise_ends [] r = tt
-rise_ends (t ∷ ts) r = (ends_above t.loc.end ts r.0, rise_ends ts r.1)
-  where
-    ends_above : (n : ℕ) (ts : List Token) → All (λ s. n ≤ s.loc.end) ts → All (λ m. n ≤ m) (map (λ t. t.loc.end) ts)
-    ends_above n [] h = All-nil (λ m. n ≤ m)
-    ends_above n (t ∷ ts) h = All-cons (λ m. n ≤ m) t.loc.end (map (λ t. t.loc.end) ts)
-        (All-head (λ s. n ≤ s.loc.end) t ts h) (ends_above n ts (All-tail (λ s. n ≤ s.loc.end) t ts h))
+rise_ends (t ∷ ts) r = (All-map (λ m. t.loc.end ≤ m) (λ s. s.loc.end) ts r.0, rise_ends ts r.1)

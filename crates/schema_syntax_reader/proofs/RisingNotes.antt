@@ -1,5 +1,5 @@
 -- Notes by rising keys: each is found at its key.
-use Rattle.std.proofs.Common.{◌≡◌, ℕ, Bool, true, false, cond, List, [], ◌∷◌, map, length, Option, Some, refl, sym, ap}
+use Rattle.std.proofs.Common.{◌≡◌, ℕ, true, false, cond, List, [], ◌∷◌, map, length, Option, Some, refl, sym, ap}
 use Rattle.std.proofs.Common.{◌∙◌, subst, append-nil}
 use Rattle.std.specs.declared.cmp.Ordering.TheVariants.{Less}
 use Rattle.std.specs.Ordering.{is_eq}
@@ -12,13 +12,15 @@ use Rattle.std.proofs.lemmas.List.Elements.{All-from_recursion, recursion_from_A
 use Rattle.std.proofs.lemmas.List.Sorted.{IsPermutation-sym, IsPermutation-map, All-permutation, length_permutation}
 use Rattle.std.proofs.lemmas.Map.Text.{is_eq-slice_cmp}
 use Rattle.std.proofs.lemmas.Slice.Eq.{bytes_eq-Decides}
+use Rattle.std.proofs.lemmas.Bool.{false_from_ne_true}
 use Rattle.cedar_data.specs.Text.{text_cmp}
+use Rattle.cedar_data.proofs.Every.{all_unmapped}
 use Rattle.cedar_identifiers.specs.declared.any_id.AnyId.{AnyId}
 use Rattle.schema_syntax_reader.specs.declared.annotations.Kept.{Kept}
 use Rattle.schema_syntax_reader.specs.Leaves.{Notes}
 use Rattle.schema_syntax_reader.specs.Deduplicated.{Placed, placed_key, value_of, note_of, HaveOtherKeys, AreKept}
 use Rattle.schema_syntax_reader.specs.Collected.{entry_of, note_of_entry, HasRead}
-use Rattle.schema_syntax_reader.proofs.Keys.{key_cmp, unmapped}
+use Rattle.schema_syntax_reader.proofs.Keys.{key_cmp}
 
 -- the places aside, the keys stay
 pub same_keys : (es : List (AnyId × Kept)) → keys_of (map note_of_entry es) ≡ keys_of es
@@ -72,17 +74,13 @@ below_other v w h e =
     let no : false ≡ true = sym (ap is_eq h) ∙ tie in
     cc
 
-passes : (b : Bool) → (b ≡ true → ⊥) → b ≡ false
-passes true h = absurd (h refl)
-passes false h = refl
-
 found_behind : (n : AnyId × Option (List ℕ)) (all ns : Notes)
     → AllByRecursion (λ y. text_cmp n.0.text y ≡ Less) (map (λ note. note.0.text) ns)
     → AllByRecursion (IsFound all) ns → AllByRecursion (IsFound (n ∷ all)) ns
 found_behind n all [] below h = tt
 found_behind n all (m ∷ ms) below h = (
   ap (λ b. cond b (Some n.1) (lookup (λ key. bytes_eq key.text m.0.text) all))
-      (passes (bytes_eq n.0.text m.0.text) (below_other n.0.text m.0.text below.0))
+      (false_from_ne_true (bytes_eq n.0.text m.0.text) (below_other n.0.text m.0.text below.0))
       ∙ h.0,
   found_behind n all ms below.1 h.1,
 )
@@ -101,7 +99,7 @@ each_found (n ∷ ns) h = (
 pub kept_found : (ps : List Placed) (notes : Notes) → AreKept ps notes
     → AllByRecursion (λ p. lookup (λ key. bytes_eq key.text (placed_key p).text) notes ≡ Some (value_of p)) ps
 kept_found ps notes h =
-    unmapped (IsFound notes) note_of ps
+    all_unmapped (IsFound notes) note_of ps
     (recursion_from_All (IsFound notes) (map note_of ps)
     (All-permutation (IsFound notes) notes (map note_of ps) (IsPermutation-sym (map note_of ps) notes h.same)
     (All-from_recursion (IsFound notes) notes (each_found notes h.rising))))

@@ -1,11 +1,11 @@
 -- The parts of a syntax whose tokens are scanned are such.
-use Rattle.std.proofs.Common.{◌≡◌, ◌<◌, ℕ, List, [], ◌∷◌, ◌++◌, true, length, refl, sym, ap, ◌∙◌, subst}
+use Rattle.std.proofs.Common.{◌≡◌, ◌<◌, ℕ, List, [], ◌∷◌, ◌++◌, length, refl, sym, ap, ◌∙◌, subst}
 use Rattle.std.proofs.Common.{arith, Option, None, Some, Bool}
 use Rattle.std.specs.List.{All}
 use Rattle.std.proofs.lemmas.List.Elements.{All-nil, All-cons, All-head}
+use Rattle.std.proofs.lemmas.List.{same_from_push}
 use Rattle.cedar_data.specs.Span.{Span}
 use Rattle.schema_syntax_grammar.specs.declared.token_kind.TokenKind.{TokenKind}
-use Rattle.schema_syntax_grammar.specs.declared.token_kind.TokenKind.TheVariants.{StringLit}
 use Rattle.schema_syntax_grammar.specs.Grammar.{is_ident, is_name_kind}
 use Rattle.schema_syntax_tokens.specs.declared.token.Token.{Token}
 use Rattle.schema_syntax_tokens.specs.Scans.{IsPlaced}
@@ -29,21 +29,6 @@ use Rattle.schema_syntax_parser.specs.Syntax as S
 use Rattle.schema_syntax_reader.specs.Sites.{word}
 use Rattle.schema_syntax_reader.specs.Placed.{AreScanned, IsScanned, IsPlacedName, IsPlacedSite, IsPlacedString}
 use Rattle.schema_syntax_reader.proofs.Fits.{good_left, good_right, good_rest}
-
-nothing_is : {A : Type 0} (xs : List A) (x : A) (ys : List A) → [] ≡ xs ++ x ∷ ys → ⊥
-nothing_is [] x ys e = cc
-nothing_is (a ∷ xs) x ys e = cc
-
--- two lists with a last item are the same where their parts are
-pub last_same : {A : Type 0} (xs ys : List A) (x y : A) → xs ++ x ∷ [] ≡ ys ++ y ∷ [] → (xs ≡ ys) × (x ≡ y)
-last_same [] [] x y e = (refl, cc)
-last_same [] (b ∷ ys) x y e = let f : [] ≡ ys ++ y ∷ [] = cc in absurd (nothing_is ys y [] f)
-last_same (a ∷ xs) [] x y e = let f : [] ≡ xs ++ x ∷ [] = cc in absurd (nothing_is xs x [] f)
-last_same (a ∷ xs) (b ∷ ys) x y e =
-    let head : a ≡ b = cc in
-    let tail : xs ++ x ∷ [] ≡ ys ++ y ∷ [] = cc in
-    let r = last_same xs ys x y tail in
-    ((λ i. head i ∷ r.0 i), r.1)
 
 module _ (source : List ℕ) where
   abbrev Good : List Token → Type 0
@@ -120,9 +105,6 @@ module _ (source : List ℕ) where
     words : All IsWord front
     name : IsPlacedName source last
 
-  string_name : (k : TokenKind) → k ≡ StringLit → is_name_kind k ≡ true
-  string_name k e = rw e refl
-
   ref_of : {u : List Token} {p : PathSyntax} → IsRef u p → Good u → RefParts p
   ref_of (S.plain {t = t} h) g = record {
     front = [];
@@ -138,7 +120,7 @@ module _ (source : List ℕ) where
     words = words c (good_left source u (s ∷ q ∷ []) g);
     name = (
       All-head (IsPlaced source) q [] (good_rest source s (q ∷ []) (good_right source u (s ∷ q ∷ []) g)).placed,
-      string_name q.kind l,
+      rw l refl,
     );
   }
 
@@ -146,22 +128,19 @@ module _ (source : List ℕ) where
       → p.names ≡ front ++ last ∷ [] → All IsWord front × IsPlacedName source last
   ref_parts p h front last split =
       let r = ref_of h.1 h.2 in
-      let same = last_same r.front front r.last last (sym r.split ∙ split) in
+      let same = same_from_push r.front front r.last last (sym r.split ∙ split) in
       (subst (All IsWord) same.0 r.words, subst (IsPlacedName source) same.1 r.name)
+
+  string : {u : List Token} {t : Token} → IsStringToken u t → Good u → IsPlacedString source t
+  string (S.string {t = t} h) g = (All-head (IsPlaced source) t [] g.placed, h)
 
   strings : {u : List Token} {choices : List Token} → AreSeparated IsStringToken u choices → Good u
       → All (IsPlacedString source) choices
   strings S.none g = All-nil (IsPlacedString source)
   strings (S.last {x = x} p) g = All-cons (IsPlacedString source) x [] (string p g) (All-nil (IsPlacedString source))
-    where
-      string : {u : List Token} {t : Token} → IsStringToken u t → Good u → IsPlacedString source t
-      string (S.string {t = t} h) g = (All-head (IsPlaced source) t [] g.placed, h)
   strings (S.more {u = u} {v = v} c {x = x} {xs = xs} p k r) g =
       All-cons (IsPlacedString source) x xs (string p (good_left source u (c ∷ v) g))
       (strings r (good_rest source c v (good_right source u (c ∷ v) g)))
-    where
-      string : {u : List Token} {t : Token} → IsStringToken u t → Good u → IsPlacedString source t
-      string (S.string {t = t} h) g = (All-head (IsPlaced source) t [] g.placed, h)
 
   -- types
   attrs_of : {u : List Token} {xs : List AttrSyntax} → AreAttrs u xs → Good u → All (IsScanned IsAttr source) xs

@@ -1,7 +1,7 @@
 -- The sites of a type and of an attribute, by cases.
-use Rattle.std.proofs.Common.{◌≡◌, List, [], ◌∷◌, ◌++◌, map, refl, ap, sym, ◌∙◌}
-use Rattle.std.specs.List.{flat_map}
+use Rattle.std.proofs.Common.{◌≡◌, List, ◌∷◌, ◌++◌, ap, sym, ◌∙◌}
 use Rattle.cedar_data.specs.Span.{Span}
+use Rattle.cedar_data.proofs.Lists.{flat_joined}
 use Rattle.schema_syntax_parser.specs.declared.syntax.PathSyntax.{PathSyntax}
 use Rattle.schema_syntax_parser.specs.declared.syntax.TypeSyntax.{TypeSyntax}
 use Rattle.schema_syntax_parser.specs.declared.syntax.TypeSyntax.TheVariants.{Path, Set, Record, rolls-Path, rolls-Set}
@@ -12,10 +12,6 @@ use Rattle.schema_syntax_parser.specs.declared.syntax.TypeSyntax.TheFolds.{fold_
 use Rattle.schema_syntax_parser.specs.declared.syntax.AttrSyntax.{AttrSyntax, roll-AttrSyntax, out-AttrSyntax}
 use Rattle.schema_syntax_reader.specs.Sites.{Site, annotations, name_sites, path_sites, type_sites, attr_sites}
 use Rattle.schema_syntax_reader.specs.Sites.{sites_of_type, sites_of_attr, sites_of_attrs}
-
-flat_joined : {A B : Type 0} (f : A → List B) (xs : List A) → flat_map (λ s. s) (map f xs) ≡ flat_map f xs
-flat_joined f [] = refl
-flat_joined f (x ∷ xs) = ap (λ ys. f x ++ ys) (flat_joined f xs)
 
 pub of_path : (p : PathSyntax) → sites_of_type (Path p) ≡ path_sites p
 of_path p = ap sites_of_type (sym (rolls-Path p))

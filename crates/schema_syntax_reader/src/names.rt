@@ -1,6 +1,5 @@
 //! What names and annotations stand for, or of their user faults the one that ends first.
-ghost use Rattle.std.specs.Prelude.{◌≡◌, ◌∷◌, [], true};
-ghost use Rattle.schema_syntax_tokens.specs.Scans.{IsPlaced};
+ghost use Rattle.std.specs.Prelude.{◌∷◌, []};
 ghost use Rattle.schema_syntax_parser.specs.Syntax.{AreAnnotations};
 ghost use Rattle.schema_syntax_reader.specs.Sites.{name_sites, annotations, word};
 ghost use Rattle.schema_syntax_reader.specs.Leaves.{AreNotes};

@@ -1,5 +1,5 @@
 ghost use Rattle.std.specs.Prelude.{◌≡◌};
-ghost use Rattle.std.specs.List.{All, AllZip};
+ghost use Rattle.std.specs.List.{All};
 ghost use Rattle.schema_syntax_parser.specs.Syntax.{IsType, IsAttr, IsShape, AreTags};
 ghost use Rattle.schema_syntax_reader.specs.Sites.{sites_of_type, sites_of_attr, sites_of_attrs, shape_sites, tags_sites};
 ghost use Rattle.schema_syntax_reader.specs.Placed.{IsScanned};

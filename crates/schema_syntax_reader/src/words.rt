@@ -1,8 +1,6 @@
 //! What words stand for.
-ghost use Rattle.std.specs.Prelude.{◌≡◌, true, false, IfOk, IfErr, OnOk};
-ghost use Rattle.schema_syntax_grammar.specs.Grammar.{is_word_kind};
+ghost use Rattle.std.specs.Prelude.{◌≡◌, false, IfOk, IfErr, OnOk};
 ghost use Rattle.cedar_identifiers.specs.Words.{is_reserved};
-ghost use Rattle.schema_syntax_tokens.specs.Scans.{IsPlaced};
 ghost use Rattle.schema_syntax_reader.specs.Leaves.{word_at};
 ghost use Rattle.schema_syntax_reader.specs.Stops.{IsPlacedWord, IsReservedStop};
 

@@ -7,11 +7,13 @@ use Rattle.cedar_data.specs.Span.{Span}
 use Rattle.schema_syntax_grammar.specs.declared.token_kind.TokenKind.{TokenKind}
 use Rattle.schema_syntax_grammar.specs.declared.token_kind.TokenKind.TheVariants.{StringLit}
 use Rattle.schema_syntax_grammar.specs.declared.token_kind.TokenKind.TheVariants.{Comma, PathSep}
-use Rattle.schema_syntax_grammar.specs.Grammar.{is_ident, is_name_kind, is_word_kind, Kinds, Sentence, Part, schema}
+use Rattle.schema_syntax_grammar.specs.Grammar.{is_ident, is_name_kind, is_word_kind, Kinds, Sentence, Nonterminal}
+use Rattle.schema_syntax_grammar.specs.Grammar.{schema}
 use Rattle.schema_syntax_grammar.specs.Grammar.{item, decls, decl, bare_decl, idents, parents, shape, tags, strings}
 use Rattle.schema_syntax_grammar.specs.Grammar.{names, name, in_refs, applies, apps, app, types, paths, refs, ref_list}
 use Rattle.schema_syntax_grammar.specs.Grammar.{ref, ty, rec, attrs, attr, path, anns, Phrase}
 use Rattle.schema_syntax_grammar.specs.Grammar as G
+use Rattle.schema_syntax_grammar.proofs.Complete.{ident_is_name}
 use Rattle.schema_syntax_tokens.specs.declared.token.Token.{Token}
 use Rattle.schema_syntax_tokens.specs.TokenLists.{kinds_of}
 use Rattle.schema_syntax_parser.specs.declared.syntax.PathSyntax.{PathSyntax}
@@ -23,7 +25,6 @@ use Rattle.schema_syntax_parser.specs.Syntax.{AreTags, IsStringToken, is_role, I
 use Rattle.schema_syntax_parser.specs.Syntax.{IsItem, IsSyntax}
 use Rattle.schema_syntax_parser.specs.Syntax as S
 use Rattle.schema_syntax_parser.proofs.Back.{one_syntax}
-use Rattle.schema_syntax_parser.proofs.Heads.{ident_name}
 use Rattle.schema_syntax_parser.proofs.Sentences.{sentence_of}
 use Rattle.schema_syntax_reader.specs.Placed.{note_tokens}
 use Rattle.schema_syntax_reader.specs.Sites.{Site, site_of_kind, name_sites, names_sites, path_sites, paths_sites}
@@ -93,7 +94,7 @@ abbrev ArePaths : (List Token → List PathSyntax → Type 0) → List Token →
 ArePaths P = Is P (λ ps. flat_map path_tokens ps)
 
 -- of each part of the grammar: the syntax of its tokens, with the tokens of the sites
-abbrev Made : Part → List Token → List Token → Type 0
+abbrev Made : Nonterminal → List Token → List Token → Type 0
 Made schema = Is (AreMany IsItem) (λ xs. tokens_of_sites (sites_of xs))
 Made item = Is IsItem (λ x. tokens_of_sites (item_sites x))
 Made decls = Is (AreMany IsDeclared) (λ xs. tokens_of_sites (flat_map declared_sites xs))
@@ -148,7 +149,7 @@ string_name : (k : TokenKind) → k ≡ StringLit → is_name_kind k ≡ true
 string_name k e = ap is_name_kind e
 
 -- Tokens whose kinds are derived so have a syntax, and the tokens of its sites are picked as the derivation reads.
-made : {p : Part} {kinds : Kinds} (d : Phrase p kinds) → Reads (Made p) kinds (reads d)
+made : {p : Nonterminal} {kinds : Kinds} (d : Phrase p kinds) → Reads (Made p) kinds (reads d)
 made G.no_item = done (so _ S.none refl)
 made (G.more_items x y) =
     part (readings x) (made x) (λ _ _ h. whole (made y) (λ _ _ r.
@@ -223,7 +224,7 @@ made (G.one_name x) = whole (made x) (λ _ _ h. one_name h)
 made (G.more_names x y) =
     name_part (readings x) (made x) (λ t k. mark (λ c kc. whole (made y) (λ _ _ r.
     so _ (S.more k kc r.is) (ap (λ l. t ∷ l) r.exact))))
-made (G.ident_name h) = word (λ t k. done (name_is t (ident_name t.kind (as_kind is_ident k h))))
+made (G.ident_name h) = word (λ t k. done (name_is t (ident_is_name t.kind (as_kind is_ident k h))))
 made G.string_name = word (λ t k. done (name_is t (string_name t.kind k)))
 made G.no_refs = done (so _ S.no_parents refl)
 made (G.some_refs x) = mark (λ i k. whole (made x) (λ _ _ h. so _ (S.in_parents k h.is) h.exact))

@@ -5,7 +5,7 @@ use Rattle.schema_syntax_grammar.specs.declared.token_kind.TokenKind.TheVariants
 use Rattle.schema_syntax_grammar.specs.declared.token_kind.TokenKind.TheVariants.{KwIn, KwType, KwSet, KwAppliesTo}
 use Rattle.schema_syntax_grammar.specs.declared.token_kind.TokenKind.TheVariants.{KwPrincipal, KwAction, KwResource}
 use Rattle.schema_syntax_grammar.specs.declared.token_kind.TokenKind.TheVariants.{KwContext, KwTags, KwEnum, Identifier}
-use Rattle.schema_syntax_grammar.specs.Grammar.{is_ident, is_word_kind, Kinds, Part, Phrase}
+use Rattle.schema_syntax_grammar.specs.Grammar.{is_ident, is_word_kind, Kinds, Nonterminal, Phrase}
 use Rattle.schema_syntax_grammar.specs.Grammar as G
 use Rattle.schema_syntax_sites.specs.Readings.{reads, is_text_kind, AreReadings, none, text, itself}
 
@@ -56,7 +56,7 @@ key : {k : TokenKind} {c : List Bool} {a : Kinds} → is_word_kind k ≡ true �
     → AreReadings (true ∷ c) (k ∷ a)
 key {k} h r = text (word_text k h) r
 
-pub readings : {p : Part} {kinds : Kinds} (d : Phrase p kinds) → AreReadings (reads d) kinds
+pub readings : {p : Nonterminal} {kinds : Kinds} (d : Phrase p kinds) → AreReadings (reads d) kinds
 readings G.no_item = none
 readings (G.more_items x y) = joins (readings x) (readings y)
 readings (G.namespace_item x y z) =

@@ -2,13 +2,13 @@
 use Rattle.std.specs.Prelude.{◌≡◌, Bool, true, false, List, [], ◌∷◌, ◌++◌}
 use Rattle.schema_syntax_grammar.specs.declared.token_kind.TokenKind.{TokenKind}
 use Rattle.schema_syntax_grammar.specs.declared.token_kind.TokenKind.TheVariants.{Identifier, StringLit}
-use Rattle.schema_syntax_grammar.specs.Grammar.{is_word_kind, Kinds, Part, Phrase}
+use Rattle.schema_syntax_grammar.specs.Grammar.{is_word_kind, Kinds, Nonterminal, Phrase}
 use Rattle.schema_syntax_grammar.specs.Grammar as G
 use Rattle.schema_syntax_tokens.specs.declared.token.Token.{Token}
 
 -- for each kind of the derivation, one case for each production: true where it is read as a word or as a string, and
 -- false where it is a keyword or a mark that stands for itself
-abbrev pub reads : {p : Part} {kinds : Kinds} → Phrase p kinds → List Bool
+abbrev pub reads : {p : Nonterminal} {kinds : Kinds} → Phrase p kinds → List Bool
 reads G.no_item = []
 reads (G.more_items first rest) = reads first ++ reads rest
 reads (G.namespace_item notes path decls) =

@@ -5,7 +5,7 @@ ghost use Rattle.schema_syntax_grammar.specs.declared.token_kind.TokenKind.{Toke
 ghost use Rattle.schema_syntax_grammar.specs.declared.token_kind.TokenKind.TheVariants.{KwEntity, KwIn, KwType};
 ghost use Rattle.schema_syntax_grammar.specs.declared.token_kind.TokenKind.TheVariants.{KwSet, At, Less, Greater};
 ghost use Rattle.schema_syntax_grammar.specs.declared.token_kind.TokenKind.TheVariants.{Equals, Semi};
-ghost use Rattle.schema_syntax_grammar.specs.Grammar.{Part, Phrase, Sentence};
+ghost use Rattle.schema_syntax_grammar.specs.Grammar.{Nonterminal, Phrase, Sentence};
 ghost use Rattle.schema_syntax_tokens.specs.declared.token.Token.{Token};
 ghost use Rattle.schema_syntax_tokens.specs.TokenLists.{kinds_of};
 ghost use Rattle.schema_syntax_parser.specs.declared.syntax.ItemSyntax.{ItemSyntax};
@@ -25,7 +25,7 @@ pub fn sites_are_names_and_strings()
 /// A derivation says of each of its kinds how it is read: as words and strings nothing but such, and among them each
 /// identifier and each string. Of a keyword the production says it in which it stands.
 pub fn readings_are_words_and_strings()
-    ensures { (part : Part) (kinds : List TokenKind) (d : Phrase part kinds) → AreReadings (reads d) kinds }
+    ensures { (part : Nonterminal) (kinds : List TokenKind) (d : Phrase part kinds) → AreReadings (reads d) kinds }
 {}
 
 /// Two derivations of the same kinds read each kind alike.

@@ -2,12 +2,12 @@
 use Rattle.std.proofs.Common.{◌≡◌, ◌≢◌, ℕ, ◌+◌, ◌<◌, ◌≤◌, List, [], ◌∷◌, ◌++◌, length, take, drop, get_or, refl, sym}
 use Rattle.std.proofs.Common.{ap, ◌∙◌, inl, inr, arith}
 use Rattle.std.proofs.lemmas.List.{append_assoc, take_more, drop_more, drop_all}
-use Rattle.schema_syntax_tokens.specs.Forms.{IsPlain, IsBody, NoBody, IsBodyEnd}
+use Rattle.schema_syntax_tokens.specs.Forms.{IsPlainByte, IsBody, NoBody, IsBodyEnd}
 
 -- a body, by its pieces
 pub data Body : List ℕ → Type 0 where
   none : Body []
-  plain : {b : ℕ} {bs : List ℕ} → IsPlain b → Body bs → Body (b ∷ bs)
+  plain : {b : ℕ} {bs : List ℕ} → IsPlainByte b → Body bs → Body (b ∷ bs)
   escaped : {b c : ℕ} {bs : List ℕ} → b ≡ 92 → c ≢ 10 → Body bs → Body (b ∷ c ∷ bs)
 
 pub pieces : (bs : List ℕ) → IsBody bs → Body bs
@@ -16,7 +16,7 @@ pieces (b ∷ []) h = plain h none
 pieces (b ∷ c ∷ bs) (inl h) = plain h.0 (pieces (c ∷ bs) h.1)
 pieces (b ∷ c ∷ bs) (inr h) = escaped h.0 h.1 (pieces bs h.2)
 
-pub IsBody-plain : (b : ℕ) (bs : List ℕ) → IsPlain b → IsBody bs → IsBody (b ∷ bs)
+pub IsBody-plain : (b : ℕ) (bs : List ℕ) → IsPlainByte b → IsBody bs → IsBody (b ∷ bs)
 IsBody-plain b [] p h = p
 IsBody-plain b (c ∷ bs) p h = inl (p, h)
 
@@ -61,14 +61,14 @@ NoBody-nil : NoBody []
 NoBody-nil [] after h e = cc
 NoBody-nil (b ∷ bs) after h e = cc
 
-no_plain : (b : ℕ) (bs after : List ℕ) {body : List ℕ} → IsPlain b → NoBody bs → Body body
+no_plain : (b : ℕ) (bs after : List ℕ) {body : List ℕ} → IsPlainByte b → NoBody bs → Body body
     → b ∷ bs ≡ body ++ 34 ∷ after → ⊥
 no_plain b bs after p n none e = let h : b ≡ 34 = cc in p.0 h
 no_plain b bs after p n (plain {b = c} {bs = cs} q k) e =
     let h : bs ≡ cs ++ 34 ∷ after = cc in n cs after (from_pieces k) h
 no_plain b bs after p n (escaped {b = c} q m k) e = let h : b ≡ c = cc in p.1 (h ∙ q)
 
-pub NoBody-plain : (b : ℕ) (bs : List ℕ) → IsPlain b → NoBody bs → NoBody (b ∷ bs)
+pub NoBody-plain : (b : ℕ) (bs : List ℕ) → IsPlainByte b → NoBody bs → NoBody (b ∷ bs)
 NoBody-plain b bs p n body after h e = no_plain b bs after p n (pieces body h) e
 
 no_escaped : (b c : ℕ) (bs after : List ℕ) {body : List ℕ} → b ≡ 92 → NoBody bs → Body body

@@ -8,7 +8,7 @@ use Rattle.std.proofs.lemmas.List.{append-nil, get_or_default}
 use Rattle.std.proofs.lemmas.List.Elements.{All-nil, All-head, All-tail}
 use Rattle.std.proofs.lemmas.Bool.{cases_eq, cases_lt}
 use Rattle.std.proofs.lemmas.Str.{encode_ascii, char_from_byte, inside_one, length-encode, len_utf8_bounds}
-use Rattle.schema_syntax_tokens.specs.Forms.{IsPlain, IsBody}
+use Rattle.schema_syntax_tokens.specs.Forms.{IsPlainByte, IsBody}
 use Rattle.schema_syntax_tokens.proofs.Bodies.{Body, pieces, IsBody-plain, IsBody-escaped, IsBody-append}
 use Rattle.schema_syntax_tokens.proofs.Bodies.Body.{none, plain, escaped}
 
@@ -20,45 +20,46 @@ byte_is_char c k d l h =
     inside_one c [] (encode_utf8 c) k (sym (append-nil (encode_utf8 c))) l (omega arith) ∙ sym same
 
 -- the bytes of a character other than `"` and `\` are plain
-pub plain_bytes : (c : ℕ) → IsPlain c → All IsPlain (encode_utf8 c)
+pub plain_bytes : (c : ℕ) → IsPlainByte c → All IsPlainByte (encode_utf8 c)
 plain_bytes c p k d l = (
   λ e. p.0 (byte_is_char c k d l (omega (arith, e)) ∙ e),
   λ e. p.1 (byte_is_char c k d l (omega (arith, e)) ∙ e),
 )
 
 -- the bytes of a character above 127 are plain
-high_bytes : (c : ℕ) → 128 ≤ c → All IsPlain (encode_utf8 c)
+high_bytes : (c : ℕ) → 128 ≤ c → All IsPlainByte (encode_utf8 c)
 high_bytes c h = plain_bytes c (omega arith, omega arith)
 
-pub IsBody-all_plain : (xs : List ℕ) → All IsPlain xs → IsBody xs
+pub IsBody-all_plain : (xs : List ℕ) → All IsPlainByte xs → IsBody xs
 IsBody-all_plain [] h = tt
-IsBody-all_plain (x ∷ xs) h = IsBody-plain x xs (All-head IsPlain x xs h)
-    (IsBody-all_plain xs (All-tail IsPlain x xs h))
+IsBody-all_plain (x ∷ xs) h = IsBody-plain x xs (All-head IsPlainByte x xs h)
+    (IsBody-all_plain xs (All-tail IsPlainByte x xs h))
 
 -- plain bytes in front of a body may be left out
-behind_plain : (x : ℕ) (xs : List ℕ) → IsPlain x → IsBody (x ∷ xs) → IsBody xs
+behind_plain : (x : ℕ) (xs : List ℕ) → IsPlainByte x → IsBody (x ∷ xs) → IsBody xs
 behind_plain x [] p h = tt
 behind_plain x (y ∷ ys) p (inl h) = h.1
 behind_plain x (y ∷ ys) p (inr h) = absurd (p.1 h.0)
 
-behind_all_plain : (xs ys : List ℕ) → All IsPlain xs → IsBody (xs ++ ys) → IsBody ys
+behind_all_plain : (xs ys : List ℕ) → All IsPlainByte xs → IsBody (xs ++ ys) → IsBody ys
 behind_all_plain [] ys a h = h
 behind_all_plain (x ∷ xs) ys a h =
-    behind_all_plain xs ys (All-tail IsPlain x xs a) (behind_plain x (xs ++ ys) (All-head IsPlain x xs a) h)
+    behind_all_plain xs ys (All-tail IsPlainByte x xs a) (behind_plain x (xs ++ ys) (All-head IsPlainByte x xs a) h)
 
 -- a character is its first byte and plain bytes
 first_byte : (c : ℕ)
-    → (b : ℕ) × (more : List ℕ) × (encode_utf8 c ≡ b ∷ more) × All IsPlain more × (b ≡ 10 → c ≡ 10) × (c ≡ 10 → b ≡ 10)
+    → (b : ℕ) × (more : List ℕ) × (encode_utf8 c ≡ b ∷ more) × All IsPlainByte more × (b ≡ 10 → c ≡ 10)
+    × (c ≡ 10 → b ≡ 10)
 first_byte c = by_bytes (encode_utf8 c) refl
   where
     low : (c b : ℕ) (bs : List ℕ) → encode_utf8 c ≡ b ∷ bs → c < 128 → (b ≡ c) × (bs ≡ [])
     low c b bs e l = let f : b ∷ bs ≡ c ∷ [] = sym e ∙ encode_ascii c l in (cc, cc)
 
-    tail_plain : (c b : ℕ) (bs : List ℕ) → encode_utf8 c ≡ b ∷ bs → All IsPlain bs
+    tail_plain : (c b : ℕ) (bs : List ℕ) → encode_utf8 c ≡ b ∷ bs → All IsPlainByte bs
     tail_plain c b bs e =
         elim (cases_lt c 128) [
-          | inl l ↦ subst (λ t. All IsPlain t) (sym (low c b bs e l).1) (All-nil IsPlain)
-          | inr h ↦ All-tail IsPlain b bs (subst (λ t. All IsPlain t) e (high_bytes c h))
+          | inl l ↦ subst (λ t. All IsPlainByte t) (sym (low c b bs e l).1) (All-nil IsPlainByte)
+          | inr h ↦ All-tail IsPlainByte b bs (subst (λ t. All IsPlainByte t) e (high_bytes c h))
         ]
 
     back : (c b : ℕ) (bs : List ℕ) → encode_utf8 c ≡ b ∷ bs → b ≡ 10 → c ≡ 10
@@ -69,7 +70,7 @@ first_byte c = by_bytes (encode_utf8 c) refl
     there c b bs e f = (low c b bs e (omega arith)).0 ∙ f
 
     by_bytes : (xs : List ℕ) → encode_utf8 c ≡ xs
-        → (b : ℕ) × (more : List ℕ) × (encode_utf8 c ≡ b ∷ more) × All IsPlain more × (b ≡ 10 → c ≡ 10)
+        → (b : ℕ) × (more : List ℕ) × (encode_utf8 c ≡ b ∷ more) × All IsPlainByte more × (b ≡ 10 → c ≡ 10)
         × (c ≡ 10 → b ≡ 10)
     by_bytes [] e = absurd (omega (arith, ap length e, length-encode c, (len_utf8_bounds c).0))
     by_bytes (b ∷ bs) e = (b, bs, e, tail_plain c b bs e, back c b bs e, there c b bs e)
@@ -105,7 +106,8 @@ pieces_of_bytes [] h = tt
 pieces_of_bytes (c ∷ []) h =
     elim (cases_eq c 34) [
       | inl e ↦ absurd (no_quote_first []
-          (subst (λ t. IsBody t) (ap (λ x. encode_utf8 x ++ []) e ∙ ap (λ t. t ++ []) (encode_ascii 34 (omega arith))) h))
+          (subst (λ t. IsBody t)
+          (ap (λ x. encode_utf8 x ++ []) e ∙ ap (λ t. t ++ []) (encode_ascii 34 (omega arith))) h))
       | inr n ↦
           elim (cases_eq c 92) [
             | inl e ↦ let lone : IsBody (92 ∷ []) = subst (λ t. IsBody t) (backslash_first c [] e) h in

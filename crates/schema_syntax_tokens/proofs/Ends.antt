@@ -7,20 +7,17 @@ use Rattle.std.specs.Str.{IsUtf8, IsCharBoundary}
 use Rattle.std.proofs.lemmas.List.{length-take-le, length-append, get_or-take, get_or_at}
 use Rattle.std.proofs.lemmas.List.Elements.{All-head, All-tail}
 use Rattle.std.proofs.lemmas.Bool.{and_parts, ltb-true}
-use Rattle.std.proofs.lemmas.Bool.Decides.{nat_tests}
 use Rattle.std.proofs.lemmas.Str.{IsCharBoundary-after_ascii}
+use Rattle.cedar_data.specs.Words.{is_word_start, is_word_part}
+use Rattle.cedar_data.proofs.Ascii.{part_ascii, start_part}
 use Rattle.schema_syntax_grammar.specs.declared.token_kind.TokenKind.{TokenKind}
 use Rattle.schema_syntax_tokens.specs.Forms.{mark_kind, IsForm}
-use Rattle.cedar_data.specs.Words.{is_word_start, is_word_part}
 use Rattle.schema_syntax_tokens.specs.Scans.{IsLongest}
-use Rattle.schema_syntax_tokens.proofs.Longest.{may_be_mark, mark_byte, two_colons, part_from_start}
+use Rattle.schema_syntax_tokens.proofs.Longest.{may_be_mark, mark_byte, two_colons}
 
 -- the last byte is below 128
 abbrev pub EndsAscii : List ℕ → Type 0
 EndsAscii w = (front : List ℕ) × (l : ℕ) × (w ≡ front ++ l ∷ []) × (l < 128)
-
-part_ascii : (b : ℕ) → is_word_part b ≡ true → b < 128
-part_ascii b h = grind (arith, nat_tests)
 
 pub mark_ascii : (b : ℕ) → may_be_mark b ≡ true → b < 128
 mark_ascii b h =
@@ -45,7 +42,7 @@ word_end : (w : List ℕ) (k : TokenKind) → IsForm w k → EndsAscii w
 word_end w k (inr (inl h)) = mark_end w k h
 word_end w k (inr (inr h)) = (34 ∷ h.0.0, 34, h.0.2, omega arith)
 word_end [] k (inl h) = absurd h.0
-word_end (b ∷ bs) k (inl h) = parts_end b bs (part_from_start b h.0.0) h.0.1
+word_end (b ∷ bs) k (inl h) = parts_end b bs (start_part b h.0.0) h.0.1
 
 pub boundary_after : (rest : List ℕ) (n : ℕ) → IsUtf8 rest → n ≤ length rest → EndsAscii (take n rest)
     → IsCharBoundary rest n

@@ -4,16 +4,16 @@ use Rattle.std.proofs.Common.{◌++◌, length, take, drop, Some, refl, sym, ap,
 use Rattle.std.proofs.lemmas.List.{append_assoc, take_at, drop_at, length-append}
 use Rattle.std.proofs.lemmas.Bool.{or_cases, eqb-true, cases_Bool, cases_eq, ne_eqb}
 use Rattle.std.proofs.lemmas.Str.{encode_ascii}
+use Rattle.cedar_data.specs.Words.{is_word_part}
 use Rattle.schema_syntax_grammar.specs.declared.token_kind.TokenKind.{TokenKind}
 use Rattle.schema_syntax_grammar.specs.Grammar.{is_word_kind}
 use Rattle.schema_syntax_tokens.specs.declared.token.Token.{Token}
 use Rattle.schema_syntax_tokens.specs.Forms.{single_mark, mark_kind, IsForm}
-use Rattle.cedar_data.specs.Words.{is_word_part}
 use Rattle.schema_syntax_tokens.specs.Scans.{IsSpace, IsPastBlank, Skips, ScansFrom, Scans}
 use Rattle.schema_syntax_tokens.specs.Scans.Skips.{none, more}
-use Rattle.schema_syntax_tokens.specs.Laid.{Lexeme, Piece, gap, lexeme, laid, lexemes_of, tokens_from}
+use Rattle.schema_syntax_tokens.specs.Laid.{Lexeme, Piece, laid, lexemes_of, tokens_from}
 use Rattle.schema_syntax_tokens.specs.Laid.{is_plain_blank, AreBlanks, Edge, free, word, colon, edge_of, may_touch}
-use Rattle.schema_syntax_tokens.specs.Laid.{Follow, done, by_gap, by_blanks, by_lexeme, Spells, IsReadAs}
+use Rattle.schema_syntax_tokens.specs.Laid.{Follow, done, by_gap, by_blanks, by_lexeme, Spells, HasLexemes}
 use Rattle.schema_syntax_tokens.specs.Laid as L
 use Rattle.schema_syntax_tokens.proofs.Blank.{NoBlank-nil}
 use Rattle.schema_syntax_tokens.proofs.Longest.{NoForm-nil, no_form_nil, two_colons}
@@ -195,7 +195,7 @@ spelled_behind (by_lexeme {x = x} {ps = ps} f m s) front from whole e w =
     )
 
 -- what is laid out is read as its lexemes
-pub laid_reads : {e : Edge} {ps : List Piece} → Follow e ps → IsReadAs (laid ps) (lexemes_of ps)
+pub laid_reads : {e : Edge} {ps : List Piece} → Follow e ps → HasLexemes (laid ps) (lexemes_of ps)
 laid_reads {e} {ps} s =
     record {
       tokens = tokens_from 0 ps;

@@ -3,7 +3,7 @@ mod Bodies
 mod ByCharacters
 mod Digits
 pub mod Ends
-mod Gone
+pub mod Gone
 mod LaidOut
 mod LastPlaces
 mod Lawful
@@ -14,7 +14,7 @@ mod Quotation
 pub mod Quoted
 mod Quoting
 mod Sorted
-mod Standing
+pub mod Standing
 mod Unique
 pub mod Values
 pub mod Whole

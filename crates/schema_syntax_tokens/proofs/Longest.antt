@@ -8,11 +8,11 @@ use Rattle.std.proofs.lemmas.List.{append_assoc, take-append-drop, take_more, dr
 use Rattle.std.proofs.lemmas.List.{length-append, get_or-take}
 use Rattle.std.proofs.lemmas.List.Sums.{prefix_len_passes, prefix_len_stops, prefix_len-le-length}
 use Rattle.std.proofs.lemmas.Bool.{cases_eq, eq-eqb, ne_eqb, and_parts, cases_lt}
-use Rattle.std.proofs.lemmas.Bool.Decides.{nat_tests}
+use Rattle.cedar_data.specs.Words.{is_word_start, is_word_part}
+use Rattle.cedar_data.proofs.Ascii.{start_part}
 use Rattle.schema_syntax_grammar.specs.declared.token_kind.TokenKind.{TokenKind}
 use Rattle.schema_syntax_grammar.specs.declared.token_kind.TokenKind.TheVariants.{StringLit, PathSep}
 use Rattle.schema_syntax_tokens.specs.Forms.{word_kind, single_mark, mark_kind, IsBody, NoBody, IsBodyEnd, IsForm}
-use Rattle.cedar_data.specs.Words.{is_word_start, is_word_part}
 use Rattle.schema_syntax_tokens.specs.Scans.{NoForm, IsLongest}
 use Rattle.schema_syntax_tokens.specs.Steps.{StartsWord, StartsString, StartsOther, StartsColons}
 use Rattle.schema_syntax_tokens.proofs.Bodies.{same_bodies}
@@ -105,13 +105,9 @@ pub NoForm-nil : NoForm []
 NoForm-nil zero k f = no_form_nil k f
 NoForm-nil (suc m) k f = no_form_nil k f
 
--- a letter or `_` may stand in a word
-pub part_from_start : (b : ℕ) → is_word_start b ≡ true → is_word_part b ≡ true
-part_from_start b h = grind (arith, nat_tests)
-
 prefix_word : (b : ℕ) (bs : List ℕ) → is_word_start b ≡ true
     → prefix_len is_word_part (b ∷ bs) ≡ suc (prefix_len is_word_part bs)
-prefix_word b bs h = ap (λ t. cond t (1 + prefix_len is_word_part bs) 0) (part_from_start b h) ∙ omega arith
+prefix_word b bs h = ap (λ t. cond t (1 + prefix_len is_word_part bs) 0) (start_part b h) ∙ omega arith
 
 -- the longest front that passes passes
 pub AllPass-prefix : (p : ℕ → Bool) (bs : List ℕ) → AllPass p (take (prefix_len p bs) bs)

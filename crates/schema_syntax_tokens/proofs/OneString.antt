@@ -10,10 +10,10 @@ use Rattle.std.proofs.lemmas.List.Sums.{AllPass-from_list_all}
 use Rattle.std.proofs.lemmas.Bool.{cases_eq, cases_Bool, and_parts, or_cases, ltb-true, leb-true, eqb-true, eq-eqb}
 use Rattle.std.proofs.lemmas.Bool.{ne_eqb, agree_below_at, cond-true, cond-false}
 use Rattle.schema_syntax_grammar.specs.declared.token_kind.TokenKind.TheVariants.{StringLit}
-use Rattle.schema_syntax_tokens.specs.Forms.{IsPlain, IsBody, IsBodyEnd}
+use Rattle.schema_syntax_tokens.specs.Forms.{IsPlainByte, IsBody, IsBodyEnd}
 use Rattle.schema_syntax_tokens.specs.Scans.{IsLongest}
 use Rattle.schema_syntax_tokens.specs.Escapes.{simple_escape, hex_value, digits_of, is_place, ArePlaces, IsEscape}
-use Rattle.schema_syntax_tokens.specs.Escapes.{StandsFor, Unescapes}
+use Rattle.schema_syntax_tokens.specs.Escapes.{IsPieceFor, Unescapes}
 use Rattle.schema_syntax_tokens.specs.Quotes.{is_escaped, lower_hex, quoted_char, quoted_body, quoted}
 use Rattle.schema_syntax_tokens.proofs.Bodies.{IsBody-plain, IsBody-escaped, IsBody-append}
 use Rattle.schema_syntax_tokens.proofs.ByCharacters.{plain_bytes, IsBody-all_plain}
@@ -52,7 +52,7 @@ unfolding is_written_body is_body
 escaped_body c h = sym (ap (λ t. not t || is_body (quoted_char c)) h)
     ∙ agree_below_at is_written_body (λ _. true) 128 c refl (escaped_ascii c h)
 
-plain_unless_escaped : (c : ℕ) → is_escaped c ≡ false → IsPlain c
+plain_unless_escaped : (c : ℕ) → is_escaped c ≡ false → IsPlainByte c
 plain_unless_escaped c h = (
   λ e. let f : true ≡ false = ap is_escaped (sym e) ∙ h in cc,
   λ e. let f : true ≡ false = ap is_escaped (sym e) ∙ h in cc,
@@ -118,26 +118,26 @@ control_escape c l =
       (and_parts _ true s.1).0,
     ))
 
-at_simple : (c n b : ℕ) (r : List ℕ) → IsEscape (92 ∷ b ∷ []) n → (c ≢ n → StandsFor r c)
-    → StandsFor (if c == n then 92 ∷ b ∷ [] else r) c
+at_simple : (c n b : ℕ) (r : List ℕ) → IsEscape (92 ∷ b ∷ []) n → (c ≢ n → IsPieceFor r c)
+    → IsPieceFor (if c == n then 92 ∷ b ∷ [] else r) c
 at_simple c n b r here there =
     elim (cases_eq c n) [
-      | inl e ↦ subst (λ t. StandsFor t c) (sym (cond-true (c == n) (92 ∷ b ∷ []) r (eq-eqb c n e)))
+      | inl e ↦ subst (λ t. IsPieceFor t c) (sym (cond-true (c == n) (92 ∷ b ∷ []) r (eq-eqb c n e)))
           (inr (subst (λ x. IsEscape (92 ∷ b ∷ []) x) (sym e) here))
-      | inr ne ↦ subst (λ t. StandsFor t c) (sym (cond-false (c == n) (92 ∷ b ∷ []) r (ne_eqb c n ne))) (there ne)
+      | inr ne ↦ subst (λ t. IsPieceFor t c) (sym (cond-false (c == n) (92 ∷ b ∷ []) r (ne_eqb c n ne))) (there ne)
     ]
 
 simple : (b n : ℕ) → simple_escape b ≡ Some n → IsEscape (92 ∷ b ∷ []) n
 simple b n h = inl (b, refl, h)
 
 at_control : (c : ℕ) → c ≢ 92
-    → StandsFor (if nat_lt c 32 || c == 127 then 92 ∷ 117 ∷ 123 ∷ (lower_hex c ++ 125 ∷ []) else encode_utf8 c) c
+    → IsPieceFor (if nat_lt c 32 || c == 127 then 92 ∷ 117 ∷ 123 ∷ (lower_hex c ++ 125 ∷ []) else encode_utf8 c) c
 at_control c n =
     elim (cases_Bool (nat_lt c 32 || c == 127)) [
-      | inl h ↦ subst (λ t. StandsFor t c)
+      | inl h ↦ subst (λ t. IsPieceFor t c)
           (sym (cond-true (nat_lt c 32 || c == 127) (92 ∷ 117 ∷ 123 ∷ (lower_hex c ++ 125 ∷ [])) (encode_utf8 c) h))
           (inr (control_escape c (control_ascii c h)))
-      | inr h ↦ subst (λ t. StandsFor t c)
+      | inr h ↦ subst (λ t. IsPieceFor t c)
           (sym (cond-false (nat_lt c 32 || c == 127) (92 ∷ 117 ∷ 123 ∷ (lower_hex c ++ 125 ∷ [])) (encode_utf8 c) h))
           (inl (refl, n))
     ]
@@ -147,7 +147,7 @@ at_control c n =
         [ inl l ↦ omega (arith, ltb-true c 32 l) | inr e ↦ omega (arith, eqb-true c 127 e) ]
 
 -- a character as it is written stands for itself
-quoted_char_stands : (c : ℕ) → StandsFor (quoted_char c) c
+quoted_char_stands : (c : ℕ) → IsPieceFor (quoted_char c) c
 quoted_char_stands c =
     at_simple c 0 48 _ (simple 48 0 refl)
     (λ _. at_simple c 9 116 _ (simple 116 9 refl)

@@ -1,16 +1,16 @@
 -- What a body stands for, piece by piece.
 use Rattle.std.proofs.Common.{◌≡◌, ◌≢◌, ℕ, ◌+◌, ◌<◌, ◌≤◌, true, false, ◌==◌, List, [], ◌∷◌, ◌++◌, length, take, drop}
 use Rattle.std.proofs.Common.{get_or, refl, sym, ap, ◌∙◌, subst, inl, inr, arith}
-use Rattle.std.specs.List.{AllPass, All, prefix_len}
+use Rattle.std.specs.List.{AllPass, prefix_len}
 use Rattle.std.specs.Char.{encode_utf8}
 use Rattle.std.specs.Str.{IsUtf8, IsCharBoundary, chars, encode_utf8_all}
-use Rattle.std.proofs.lemmas.List.{take-append-drop, length-append, length-drop, append_assoc, append-nil, drop_at}
-use Rattle.std.proofs.lemmas.List.{take_at, drop_more, take_all, drop_all}
-use Rattle.std.proofs.lemmas.List.Elements.{All-drop, All-take}
+use Rattle.std.proofs.lemmas.List.{take-append-drop, length-append, length-drop, append_assoc, append-nil}
+use Rattle.std.proofs.lemmas.List.{drop_more, take_all, drop_all}
 use Rattle.std.proofs.lemmas.List.Sums.{prefix_len_stops, prefix_len-le-length}
 use Rattle.std.proofs.lemmas.Bool.{cases_lt, eqb-true, not-false}
 use Rattle.std.proofs.lemmas.Str.{encode_ascii, encodes-append, encodes-chars, chars_from_encodes}
 use Rattle.std.proofs.lemmas.Str.{IsCharBoundary-before_ascii, IsCharBoundary-end}
+use Rattle.cedar_data.proofs.Lists.{All-front, All-back}
 use Rattle.schema_syntax_tokens.specs.Escapes.{Unescapes, NoEscape, BadEscape, IsEscapeTo}
 use Rattle.schema_syntax_tokens.specs.Steps.{is_unescaped}
 use Rattle.schema_syntax_tokens.proofs.Longest.{AllPass-prefix}
@@ -20,12 +20,6 @@ pub Unescapes-append : (xs ys cs ds : List ℕ) → Unescapes xs cs → Unescape
 Unescapes-append xs ys [] ds h k = subst (λ t. Unescapes (t ++ ys) ds) (sym h) k
 Unescapes-append xs ys (c ∷ cs) ds h k =
     (h.0, h.1 ++ ys, ap (λ t. t ++ ys) h.2 ∙ append_assoc h.0 h.1 ys, h.3, Unescapes-append h.1 ys cs ds h.4 k)
-
-All-behind : (P : ℕ → Type 0) (xs ys : List ℕ) → All P (xs ++ ys) → All P ys
-All-behind P xs ys h = subst (λ t. All P t) (drop_at xs ys (length xs) refl) (All-drop P (length xs) (xs ++ ys) h)
-
-All-before : (P : ℕ → Type 0) (xs ys : List ℕ) → All P (xs ++ ys) → All P xs
-All-before P xs ys h = subst (λ t. All P t) (take_at xs ys (length xs) refl) (All-take P (length xs) (xs ++ ys) h)
 
 no_backslash : (c : ℕ) → AllPass is_unescaped (encode_utf8 c) → c ≢ 92
 no_backslash c h e =
@@ -37,9 +31,9 @@ no_backslash c h e =
 Unescapes-plain : (cs : List ℕ) → AllPass is_unescaped (encode_utf8_all cs) → Unescapes (encode_utf8_all cs) cs
 Unescapes-plain [] h = refl
 Unescapes-plain (c ∷ cs) h =
-    let here : AllPass is_unescaped (encode_utf8 c) = All-before (λ x. is_unescaped x ≡ true) (encode_utf8 c)
+    let here : AllPass is_unescaped (encode_utf8 c) = All-front (λ x. is_unescaped x ≡ true) (encode_utf8 c)
     (encode_utf8_all cs) h in
-    let there : AllPass is_unescaped (encode_utf8_all cs) = All-behind (λ x. is_unescaped x ≡ true) (encode_utf8 c)
+    let there : AllPass is_unescaped (encode_utf8_all cs) = All-back (λ x. is_unescaped x ≡ true) (encode_utf8 c)
     (encode_utf8_all cs) h in
     (encode_utf8 c, encode_utf8_all cs, refl, inl (refl, no_backslash c here), Unescapes-plain cs there)
 

@@ -1,12 +1,11 @@
 -- Quoting: which bytes are escaped, and what is written so far.
 use Rattle.std.proofs.Common.{◌≡◌, ℕ, ◌+◌, ◌<◌, ◌≤◌, Bool, true, false, not, ◌==◌, ◌||◌, List, [], ◌∷◌, ◌++◌, length}
 use Rattle.std.proofs.Common.{take, drop, get_or, refl, sym, ap, ◌∙◌, subst, inl, inr, arith, nat_lt}
-use Rattle.std.specs.List.{All, list_all}
+use Rattle.std.specs.List.{list_all}
 use Rattle.std.specs.Char.{encode_utf8, IsScalar}
 use Rattle.std.specs.Str.{IsUtf8, IsAscii, IsCharBoundary, chars, encode_utf8_all, all_scalars}
-use Rattle.std.proofs.lemmas.List.{take-append-drop, append_assoc, append-nil, take_at, drop_at, drop_more}
+use Rattle.std.proofs.lemmas.List.{take-append-drop, append_assoc, append-nil, drop_more}
 use Rattle.std.proofs.lemmas.List.Concat.{flat_map-append}
-use Rattle.std.proofs.lemmas.List.Elements.{All-drop, All-take}
 use Rattle.std.proofs.lemmas.List.Sums.{AllPass-from_list_all}
 use Rattle.std.proofs.lemmas.Bool.{cases_Bool, or_cases, or_parts, and_parts, ltb-true, ltb-false, eqb-true, ne_eqb}
 use Rattle.std.proofs.lemmas.Bool.{cond-false, agree_below_at}
@@ -14,6 +13,7 @@ use Rattle.std.proofs.lemmas.Str.{encode_ascii, encodes-chars, chars-append, cha
 use Rattle.std.proofs.lemmas.Str.{IsUtf8-append, IsUtf8-nil, IsUtf8-encode, IsUtf8-from_ascii, IsUtf8-take, IsUtf8-drop}
 use Rattle.std.proofs.lemmas.Str.{IsCharBoundary-before_ascii, IsCharBoundary-after_ascii}
 use Rattle.std.proofs.lemmas.Str.Ascii.{IsAscii-from_all, IsAscii-cons, IsAscii-nil}
+use Rattle.cedar_data.proofs.Lists.{All-front, All-back}
 use Rattle.schema_syntax_tokens.specs.Quotes.{is_escaped, quoted_char, quoted_body, quoted, HasWritten, WritesFront}
 use Rattle.schema_syntax_tokens.specs.Steps.{NoneEscaped, IsNextEscape}
 
@@ -76,12 +76,6 @@ IsUtf8-quoted_body (c ∷ cs) h =
     let p = and_parts _ (all_scalars cs) h in
     IsUtf8-append (quoted_char c) (quoted_body cs) (quoted_char_text c p.0) (IsUtf8-quoted_body cs p.1)
 
-All-behind : (P : ℕ → Type 0) (xs ys : List ℕ) → All P (xs ++ ys) → All P ys
-All-behind P xs ys h = subst (λ t. All P t) (drop_at xs ys (length xs) refl) (All-drop P (length xs) (xs ++ ys) h)
-
-All-before : (P : ℕ → Type 0) (xs ys : List ℕ) → All P (xs ++ ys) → All P xs
-All-before P xs ys h = subst (λ t. All P t) (take_at xs ys (length xs) refl) (All-take P (length xs) (xs ++ ys) h)
-
 plain_char : (c : ℕ) → NoneEscaped (encode_utf8 c) → is_escaped c ≡ false
 plain_char c h =
     elim (cases_Bool (is_escaped c)) [
@@ -94,9 +88,9 @@ quoted_body-plain : (cs : List ℕ) → NoneEscaped (encode_utf8_all cs) → quo
 quoted_body-plain [] h = refl
 quoted_body-plain (c ∷ cs) h =
     let e : quoted_char c ≡ encode_utf8 c = quoted_char-plain c
-    (plain_char c (All-before (λ b. is_escaped b ≡ false) (encode_utf8 c) (encode_utf8_all cs) h)) in
+    (plain_char c (All-front (λ b. is_escaped b ≡ false) (encode_utf8 c) (encode_utf8_all cs) h)) in
     let r : quoted_body cs ≡ encode_utf8_all cs = quoted_body-plain cs
-    (All-behind (λ b. is_escaped b ≡ false) (encode_utf8 c) (encode_utf8_all cs) h) in
+    (All-back (λ b. is_escaped b ≡ false) (encode_utf8 c) (encode_utf8_all cs) h) in
     λ i. e i ++ r i
 
 quoted_text-plain : (plain : List ℕ) → IsUtf8 plain → NoneEscaped plain → quoted_body (chars plain) ≡ plain

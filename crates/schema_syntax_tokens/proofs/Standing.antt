@@ -7,6 +7,8 @@ use Rattle.std.specs.Str.{bytes_eq}
 use Rattle.std.proofs.lemmas.List.{append_assoc, take_at, get_or_at, length-append}
 use Rattle.std.proofs.lemmas.List.Elements.{All-head, All-tail}
 use Rattle.std.proofs.lemmas.Bool.{cases_Bool}
+use Rattle.cedar_data.specs.Words.{is_word_start, is_word_part}
+use Rattle.cedar_data.proofs.Ascii.{start_part}
 use Rattle.schema_syntax_grammar.specs.declared.token_kind.TokenKind.{TokenKind}
 use Rattle.schema_syntax_grammar.specs.declared.token_kind.TokenKind.TheVariants.{KwNamespace, KwEntity, KwExternal}
 use Rattle.schema_syntax_grammar.specs.declared.token_kind.TokenKind.TheVariants.{KwIn, KwType, KwSet, KwAppliesTo}
@@ -15,11 +17,10 @@ use Rattle.schema_syntax_grammar.specs.declared.token_kind.TokenKind.TheVariants
 use Rattle.schema_syntax_grammar.specs.declared.token_kind.TokenKind.TheVariants.{PathSep, Colon}
 use Rattle.schema_syntax_grammar.specs.Grammar.{is_word_kind}
 use Rattle.schema_syntax_tokens.specs.Forms.{IsWord, word_kind, single_mark, mark_kind, IsBody, IsBodyEnd, IsForm}
-use Rattle.cedar_data.specs.Words.{is_word_start, is_word_part}
 use Rattle.schema_syntax_tokens.specs.Scans.{IsLongest}
 use Rattle.schema_syntax_tokens.specs.Laid.{Edge, free, word, colon, edge_of}
 use Rattle.schema_syntax_tokens.proofs.Longest.{longest_word, longest_string, longest_mark, longest_colons, mark_start}
-use Rattle.schema_syntax_tokens.proofs.Longest.{mark_no_word, mark_no_quote, two_colons, part_from_start}
+use Rattle.schema_syntax_tokens.proofs.Longest.{mark_no_word, mark_no_quote, two_colons}
 
 -- what follows does not go on with what stands in front
 abbrev pub Ends : Edge → List ℕ → Type 0
@@ -29,32 +30,34 @@ Ends word (b ∷ bs) = is_word_part b ≡ false
 Ends colon [] = Unit {0}
 Ends colon (b ∷ bs) = b ≢ 58
 
-at_word : (c : Bool) (x r k : TokenKind) → is_word_kind x ≡ true → (r ≡ k → is_word_kind k ≡ true) → cond c x r ≡ k
-    → is_word_kind k ≡ true
-at_word true x r k h there e = subst (λ y. is_word_kind y ≡ true) e h
-at_word false x r k h there e = there e
+-- what passes as a kind that is chosen, or as another
+pub at_word : (P : TokenKind → Bool) (c : Bool) (x r k : TokenKind) → P x ≡ true → (r ≡ k → P k ≡ true)
+    → cond c x r ≡ k → P k ≡ true
+at_word P true x r k h there e = subst (λ y. P y ≡ true) e h
+at_word P false x r k h there e = there e
 
 kind_of_word : (w : List ℕ) (k : TokenKind) → word_kind w ≡ k → is_word_kind k ≡ true
 kind_of_word w k e =
-    at_word (bytes_eq w (codes "namespace")) KwNamespace _ k refl
-    (at_word (bytes_eq w (codes "entity")) KwEntity _ k refl
-    (at_word (bytes_eq w (codes "external")) KwExternal _ k refl
-    (at_word (bytes_eq w (codes "in")) KwIn _ k refl
-    (at_word (bytes_eq w (codes "type")) KwType _ k refl
-    (at_word (bytes_eq w (codes "Set")) KwSet _ k refl
-    (at_word (bytes_eq w (codes "appliesTo")) KwAppliesTo _ k refl
-    (at_word (bytes_eq w (codes "principal")) KwPrincipal _ k refl
-    (at_word (bytes_eq w (codes "action")) KwAction _ k refl
-    (at_word (bytes_eq w (codes "resource")) KwResource _ k refl
-    (at_word (bytes_eq w (codes "context")) KwContext _ k refl
-    (at_word (bytes_eq w (codes "tags")) KwTags _ k refl
-    (at_word (bytes_eq w (codes "enum")) KwEnum _ k refl (λ f. subst (λ y. is_word_kind y ≡ true) f refl))))))))))))) e
+    at_word is_word_kind (bytes_eq w (codes "namespace")) KwNamespace _ k refl
+    (at_word is_word_kind (bytes_eq w (codes "entity")) KwEntity _ k refl
+    (at_word is_word_kind (bytes_eq w (codes "external")) KwExternal _ k refl
+    (at_word is_word_kind (bytes_eq w (codes "in")) KwIn _ k refl
+    (at_word is_word_kind (bytes_eq w (codes "type")) KwType _ k refl
+    (at_word is_word_kind (bytes_eq w (codes "Set")) KwSet _ k refl
+    (at_word is_word_kind (bytes_eq w (codes "appliesTo")) KwAppliesTo _ k refl
+    (at_word is_word_kind (bytes_eq w (codes "principal")) KwPrincipal _ k refl
+    (at_word is_word_kind (bytes_eq w (codes "action")) KwAction _ k refl
+    (at_word is_word_kind (bytes_eq w (codes "resource")) KwResource _ k refl
+    (at_word is_word_kind (bytes_eq w (codes "context")) KwContext _ k refl
+    (at_word is_word_kind (bytes_eq w (codes "tags")) KwTags _ k refl
+    (at_word is_word_kind (bytes_eq w (codes "enum")) KwEnum _ k refl
+    (λ f. subst (λ y. is_word_kind y ≡ true) f refl))))))))))))) e
 
 -- the kind of a word is one
 pub word_kind_word : (w : List ℕ) → is_word_kind (word_kind w) ≡ true
 word_kind_word w = kind_of_word w (word_kind w) refl
 
-edge_of_word : (k : TokenKind) → is_word_kind k ≡ true → edge_of k ≡ word
+pub edge_of_word : (k : TokenKind) → is_word_kind k ≡ true → edge_of k ≡ word
 edge_of_word k h = rw h refl
 
 prefix_stops : (after : List ℕ) → Ends word after → prefix_len is_word_part after ≡ 0
@@ -72,7 +75,7 @@ stands_word : (w after : List ℕ) → IsWord w → Ends word after → IsLonges
 stands_word [] after h e = absurd h
 stands_word (b ∷ bs) after h e =
     let n : prefix_len is_word_part (b ∷ (bs ++ after)) ≡ length (b ∷ bs) =
-    ap (λ t. cond t (1 + prefix_len is_word_part (bs ++ after)) 0) (part_from_start b h.0)
+    ap (λ t. cond t (1 + prefix_len is_word_part (bs ++ after)) 0) (start_part b h.0)
     ∙ omega (arith, prefix_all bs after h.1 e) in
     subst (λ x. IsLongest (b ∷ (bs ++ after)) (word_kind x) (length (b ∷ bs)))
     (take_at (b ∷ bs) after (length (b ∷ bs)) refl)

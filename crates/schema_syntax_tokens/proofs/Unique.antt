@@ -5,13 +5,13 @@ use Rattle.std.specs.List.{All}
 use Rattle.std.specs.Char.{encode_utf8, is_whitespace}
 use Rattle.std.proofs.lemmas.List.Elements.{All-head, All-tail}
 use Rattle.std.proofs.lemmas.Bool.{cases_eq, cases_Bool, and_parts, agree_below_at, eq-eqb}
-use Rattle.std.proofs.lemmas.Bool.Decides.{nat_tests}
 use Rattle.std.proofs.lemmas.Str.{encode_same, char_from_byte}
+use Rattle.cedar_data.specs.Words.{is_word_start}
+use Rattle.cedar_data.proofs.Ascii.{start_ascii}
 use Rattle.schema_syntax_grammar.specs.declared.token_kind.TokenKind.{TokenKind}
 use Rattle.schema_syntax_grammar.specs.declared.token_kind.TokenKind.TheVariants.{StringLit}
 use Rattle.schema_syntax_tokens.specs.declared.token.Token.{Token}
 use Rattle.schema_syntax_tokens.specs.Forms.{word_kind, IsForm}
-use Rattle.cedar_data.specs.Words.{is_word_start}
 use Rattle.schema_syntax_tokens.specs.Scans.{IsInLine, EndsLine, IsBlank, NoBlank, Skips, IsLongest, ScansFrom, Scans}
 use Rattle.schema_syntax_tokens.specs.Scans.Skips.{none, more}
 use Rattle.schema_syntax_tokens.proofs.Longest.{may_be_mark, mark_start, mark_no_word, mark_no_quote, form_mark}
@@ -64,9 +64,6 @@ one_end (more {after = x} p s) (more {after = y} {end = b} q t) n m =
 -- what the first byte of a token is not
 no_blank_byte : ℕ → Bool
 no_blank_byte b = not (is_word_start b) || (not (b == 47) && not (is_whitespace b))
-
-start_ascii : (b : ℕ) → is_word_start b ≡ true → b < 128
-start_ascii b h = grind (arith, nat_tests)
 
 start_no_blank : (b : ℕ) → is_word_start b ≡ true → (not (b == 47) && not (is_whitespace b)) ≡ true
 unfolding no_blank_byte

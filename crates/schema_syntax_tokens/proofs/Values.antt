@@ -6,7 +6,7 @@ use Rattle.std.specs.Char.{encode_utf8}
 use Rattle.std.proofs.lemmas.List.{length-append, append_assoc, append_cancel_left, take_at}
 use Rattle.std.proofs.lemmas.Str.{encode_same, char_from_byte, length-encode, len_utf8_bounds}
 use Rattle.schema_syntax_tokens.specs.Escapes.{simple_escape, hex_value, digits_of, ArePlaces, is_place, IsEscape}
-use Rattle.schema_syntax_tokens.specs.Escapes.{StandsFor, Unescapes, NoEscape, BadEscape}
+use Rattle.schema_syntax_tokens.specs.Escapes.{IsPieceFor, Unescapes, NoEscape, BadEscape}
 use Rattle.schema_syntax_tokens.proofs.Digits.{prefix_len-places}
 
 -- places before a brace are one
@@ -85,7 +85,7 @@ char_and_escape f us vs c d n k e =
     n (backslash_is c us (s.0 ++ vs) (e ∙ ap (λ t. t ++ vs) s.1))
 
 -- two pieces that begin the same bytes are one
-pub same_piece : (p q us vs : List ℕ) (c d : ℕ) → StandsFor p c → StandsFor q d → p ++ us ≡ q ++ vs
+pub same_piece : (p q us vs : List ℕ) (c d : ℕ) → IsPieceFor p c → IsPieceFor q d → p ++ us ≡ q ++ vs
     → (c ≡ d) × (us ≡ vs)
 same_piece p q us vs c d (inl s) (inl t) e =
     encode_same c d us vs (ap (λ x. x ++ us) (sym s.0) ∙ (e ∙ ap (λ x. x ++ vs) t.0))
@@ -96,11 +96,11 @@ same_piece p q us vs c d (inr s) (inl t) e =
 same_piece p q us vs c d (inr s) (inr t) e = same_escapes p q us vs c d s t e
 
 -- a piece is no empty text
-pub piece_some : (p : List ℕ) (c : ℕ) → StandsFor p c → 0 < length p
+pub piece_some : (p : List ℕ) (c : ℕ) → IsPieceFor p c → 0 < length p
 piece_some p c (inl s) = omega (arith, ap length s.0, length-encode c, (len_utf8_bounds c).0)
 piece_some p c (inr s) = let t = escape_start p c s in omega (arith, ap length t.1)
 
-pub some_and_none : (p us : List ℕ) (c : ℕ) → StandsFor p c → [] ≡ p ++ us → ⊥
+pub some_and_none : (p us : List ℕ) (c : ℕ) → IsPieceFor p c → [] ≡ p ++ us → ⊥
 some_and_none p us c s e = let l : 0 ≡ length p + length us = ap length e
     ∙ length-append p us in omega (arith, piece_some p c s)
 
@@ -114,7 +114,7 @@ one_value body (c ∷ cs) (d ∷ ds) h k =
     λ i. same.0 i ∷ more i
 
 -- no piece stands where a backslash has no lawful escape
-no_piece : (p us rest : List ℕ) (c : ℕ) → StandsFor p c → p ++ us ≡ 92 ∷ rest → NoEscape (92 ∷ rest) → ⊥
+no_piece : (p us rest : List ℕ) (c : ℕ) → IsPieceFor p c → p ++ us ≡ 92 ∷ rest → NoEscape (92 ∷ rest) → ⊥
 no_piece p us rest c (inl s) e n = s.1 (backslash_is c us rest (ap (λ t. t ++ us) (sym s.0) ∙ e))
 no_piece p us rest c (inr s) e n = n p us c (sym e) s
 

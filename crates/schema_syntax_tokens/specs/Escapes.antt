@@ -61,13 +61,13 @@ pub record IsEscapeTo (rest : List ℕ) (n c : ℕ) : Type 0 where
   pub escape : IsEscape (take n rest) c
 
 -- a piece of a body: an escape, or a character other than `\`, which stands for itself
-abbrev pub StandsFor : List ℕ → ℕ → Type 0
-StandsFor piece c = ((piece ≡ encode_utf8 c) × (c ≢ 92)) ⊎ IsEscape piece c
+abbrev pub IsPieceFor : List ℕ → ℕ → Type 0
+IsPieceFor piece c = ((piece ≡ encode_utf8 c) × (c ≢ 92)) ⊎ IsEscape piece c
 
 -- the body stands for these characters
 abbrev pub Unescapes : List ℕ → List ℕ → Type 0
 Unescapes body [] = body ≡ []
-Unescapes body (c ∷ cs) = (piece : List ℕ) × (rest : List ℕ) × (body ≡ piece ++ rest) × StandsFor piece c
+Unescapes body (c ∷ cs) = (piece : List ℕ) × (rest : List ℕ) × (body ≡ piece ++ rest) × IsPieceFor piece c
     × Unescapes rest cs
 
 -- no lawful escape starts there

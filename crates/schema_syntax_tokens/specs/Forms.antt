@@ -64,14 +64,14 @@ mark_kind (b ∷ c ∷ []) = if b == 58 && c == 58 then Some PathSep else None
 mark_kind (b ∷ c ∷ d ∷ bs) = None
 
 -- neither `"` nor `\`
-abbrev pub IsPlain : ℕ → Type 0
-IsPlain b = (b ≢ 34) × (b ≢ 92)
+abbrev pub IsPlainByte : ℕ → Type 0
+IsPlainByte b = (b ≢ 34) × (b ≢ 92)
 
 -- pieces: a plain one, or `\` and one other than LF
 abbrev pub IsBody : List ℕ → Type 0
 IsBody [] = Unit {0}
-IsBody (b ∷ []) = IsPlain b
-IsBody (b ∷ c ∷ bs) = (IsPlain b × IsBody (c ∷ bs)) ⊎ ((b ≡ 92) × (c ≢ 10) × IsBody bs)
+IsBody (b ∷ []) = IsPlainByte b
+IsBody (b ∷ c ∷ bs) = (IsPlainByte b × IsBody (c ∷ bs)) ⊎ ((b ≡ 92) × (c ≢ 10) × IsBody bs)
 
 -- these bytes begin with no body and a quote
 abbrev pub NoBody : List ℕ → Type 0

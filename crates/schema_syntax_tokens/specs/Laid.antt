@@ -94,7 +94,7 @@ Spells text (t ∷ ts) (x ∷ xs) = IsSpelled text t x × Spells text ts xs
 Spells text _ _ = ⊥
 
 -- The text has these tokens to its end, and they are these lexemes.
-pub record IsReadAs (text : List ℕ) (xs : List Lexeme) : Type 0 where
+pub record HasLexemes (text : List ℕ) (xs : List Lexeme) : Type 0 where
   pub tokens : List Token
   pub scans : Scans text tokens (length text)
   pub spells : Spells text tokens xs

@@ -6,7 +6,7 @@ ghost use Rattle.schema_syntax_tokens.specs.declared.token.Token.{Token};
 ghost use Rattle.schema_syntax_tokens.specs.Forms.{IsBody, IsForm};
 ghost use Rattle.schema_syntax_tokens.specs.Scans.{IsLongest, Scans};
 ghost use Rattle.schema_syntax_tokens.specs.Escapes.{Unescapes, BadEscape};
-ghost use Rattle.schema_syntax_tokens.specs.Laid.{Piece, free, Follow, IsReadAs, laid, lexemes_of};
+ghost use Rattle.schema_syntax_tokens.specs.Laid.{Piece, free, Follow, HasLexemes, laid, lexemes_of};
 ghost use Rattle.schema_syntax_tokens.specs.Quotes.{quoted, quoted_body};
 
 /// A text has at most one list of tokens, and one place where they stop.
@@ -35,6 +35,6 @@ pub fn pieces_by_characters()
 /// A text that is laid out from lexemes, none of which merges with the next, is read as these lexemes. A text written as a string
 /// is such a lexeme.
 pub fn laid_text_is_read()
-    ensures read { (ps : List Piece) → Follow free ps → IsReadAs (laid ps) (lexemes_of ps) }
+    ensures read { (ps : List Piece) → Follow free ps → HasLexemes (laid ps) (lexemes_of ps) }
     ensures string { (cs : List ℕ) → IsForm (quoted cs) StringLit }
 {}

@@ -1,7 +1,5 @@
 ghost use Rattle.std.specs.Prelude.{◌≡◌};
-ghost use Rattle.std.specs.List.{prefix_len};
 ghost use Rattle.schema_syntax_tokens.specs.Forms.{word_kind, single_mark};
-ghost use Rattle.cedar_data.specs.Words.{is_word_start, is_word_part};
 
 use cedar_data::same_bytes;
 use schema_syntax_grammar::TokenKind;

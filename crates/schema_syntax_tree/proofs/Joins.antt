@@ -1,8 +1,5 @@
 -- The ids of a path, joined from the first on.
-use Rattle.std.proofs.Common.{◌≡◌, ℕ, List, [], ◌∷◌, ◌++◌, sym, ap, ◌∙◌, append-nil, append_assoc, codes, arith}
-use Rattle.std.specs.Str.{chars}
-use Rattle.std.proofs.lemmas.Str.{chars-IsAscii}
-use Rattle.std.proofs.lemmas.Str.Ascii.{IsAscii-nil, IsAscii-cons}
+use Rattle.std.proofs.Common.{◌≡◌, ℕ, List, [], ◌∷◌, ◌++◌, sym, ap, ◌∙◌, append-nil, append_assoc}
 use Rattle.cedar_data.specs.Rows.{joined_by}
 use Rattle.cedar_identifiers.specs.Names.{texts_of}
 use Rattle.cedar_identifiers.specs.declared.id.Id.{Id}
@@ -30,8 +27,3 @@ one_more s t u whole x rest ids h e k =
     ap (λ v. v ++ behind s (texts_of rest)) h
     ∙ (append_assoc (t ++ s) x.text (behind s (texts_of rest))
     ∙ (append_assoc t s (x.text ++ behind s (texts_of rest)) ∙ (ap (λ l. t ++ behind s (texts_of l)) (sym e) ∙ k)))
-
--- `::` is its own characters
-pub separator_chars : chars (codes "::") ≡ codes "::"
-separator_chars = chars-IsAscii (codes "::")
-    (IsAscii-cons 58 (58 ∷ []) (omega arith) (IsAscii-cons 58 [] (omega arith) IsAscii-nil))

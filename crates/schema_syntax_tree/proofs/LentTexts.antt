@@ -1,7 +1,6 @@
 -- Words are ASCII, so their bytes are their characters.
-use Rattle.std.specs.Prelude.{◌≡◌, ℕ, true, not, nat_eq, List, refl}
+use Rattle.std.specs.Prelude.{◌≡◌, ℕ, true, nat_eq, List, refl}
 use Rattle.std.specs.Bool.{Decides}
-use Rattle.std.specs.Cmp.{first_so}
 use Rattle.std.specs.Cmp.Lexicographic.{pointwise}
 use Rattle.std.proofs.Common.{ap}
 use Rattle.std.proofs.lemmas.Bool.Decides.{Decides-eqb, same_from_decides}
@@ -10,18 +9,12 @@ use Rattle.std.specs.Str.{chars, encode_utf8_all}
 use Rattle.std.proofs.lemmas.Str.{chars-IsAscii, encodes_same}
 use Rattle.cedar_data.specs.Words.{is_word}
 use Rattle.cedar_data.proofs.Ascii.{word_ascii, word_bytes}
-use Rattle.cedar_identifiers.specs.Words.{is_id, is_reserved}
-use Rattle.cedar_identifiers.specs.declared.id.Id.{Id}
+use Rattle.cedar_identifiers.specs.Words.{is_id}
 use Rattle.cedar_identifiers.specs.declared.any_id.AnyId.{AnyId}
-
-pub id_is_word : (w : List ℕ) → is_id w ≡ true → is_word w ≡ true
-id_is_word w h = first_so (is_word w) (not (is_reserved w)) h
+use Rattle.cedar_identifiers.proofs.Ids.{id_is_word}
 
 pub id_chars : (w : List ℕ) → is_id w ≡ true → chars w ≡ w
 id_chars w h = chars-IsAscii w (word_ascii w (id_is_word w h))
-
-pub id_bytes : (id : Id) → encode_utf8_all id.text ≡ id.text
-id_bytes id = word_bytes id.text (id_is_word id.text id.word)
 
 -- texts are told apart by their bytes as by their characters
 pub same_tests : (v w : List ℕ) → pointwise nat_eq v w ≡ pointwise nat_eq (encode_utf8_all v) (encode_utf8_all w)

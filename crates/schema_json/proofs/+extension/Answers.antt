@@ -1,10 +1,11 @@
 use Rattle.std.proofs.Common.{rules, arith, List, ℕ, ◌≡◌, ap, sym, ◌∙◌, get_or, Some, None}
-use Rattle.schema_json.specs.declared.types.TypeOfAttribute.{TypeOfAttribute, size-TypeOfAttribute, size_is-TypeOfAttribute}
-use Rattle.schema_json.proofs.Depths.{variant_below, element_below, entries_in_variant}
-use Rattle.schema_json.specs.declared.types.Type.{size-Type}
 use Rattle.std.specs.Map.{values_of}
 use denote.Param.Weighed.{most}
-use Rattle.schema_json.proofs.Sizes.{most_at}
+use Rattle.cedar_data.proofs.Sizes.{most_at}
+use Rattle.schema_json.specs.declared.types.TypeOfAttribute.{TypeOfAttribute, size-TypeOfAttribute}
+use Rattle.schema_json.specs.declared.types.TypeOfAttribute.{size_is-TypeOfAttribute}
+use Rattle.schema_json.proofs.Depths.{variant_below, element_below, entries_in_variant}
+use Rattle.schema_json.specs.declared.types.Type.{size-Type}
 use Rattle.schema_json.proofs.Walks.{answers_step, variant_answered, either_more, one_answer}
 use Rattle.schema_json.proofs.+extension.Goals as goal
 

@@ -1,8 +1,8 @@
 use Rattle.std.proofs.Common.{sym, ◌∙◌}
-use Rattle.cedar_names.specs.Orders.{ids_in_order}
+use Rattle.cedar_names.specs.Orders.{id_text_order}
 use Rattle.cedar_names.proofs.Ahead.{longer}
 use Rattle.cedar_names.proofs.sought.compare_last.Goals as goal
 
 pub returns-in-Equal : goal.returns-in-Equal
-returns-in-Equal c = longer ids_in_order c.args.words.now c.args.last.now c.own-item-2.result
+returns-in-Equal c = longer id_text_order c.args.words.now c.args.last.now c.own-item-2.result
     c.in-len1-up.len_at_least c.own-item-2.is (sym c.cmp-in-len1-up.ensures ∙ c.in-Equal.is)

@@ -1,8 +1,9 @@
 use Rattle.std.proofs.Common.{rules, arith, ◌≡◌, true, refl, ap, sym, get_or}
+use Rattle.cedar_data.proofs.Sizes.{most_at}
 use Rattle.schema_build_types.specs.declared.types.Type.{size-Type}
 use Rattle.schema_build_types.specs.Content.{type_content, attributes_content}
 use Rattle.schema_build_equal.proofs.Keys.{same_text, texts_equal}
-use Rattle.schema_build_equal.proofs.Layers.{most_at, as_many, attribute_same, record_same, extension_same}
+use Rattle.schema_build_equal.proofs.Layers.{as_many, attribute_same, record_same, extension_same}
 use Rattle.schema_build_equal.proofs.OneSet.{restated}
 use Rattle.schema_build_equal.proofs.types.+same_type.Goals as goal
 

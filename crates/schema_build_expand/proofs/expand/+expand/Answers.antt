@@ -1,21 +1,22 @@
 use Rattle.std.proofs.Common.{◌≡◌, ◌≤◌, ◌+◌, false, [], ◌∷◌, Some, refl, sym, ap, ◌∙◌, subst, arith, All}
 use Rattle.std.proofs.lemmas.List.Elements.{All-head}
 use Rattle.std.proofs.lemmas.List.{take_all}
-use Rattle.schema_json.specs.declared.types.TypeOfAttribute.{out-TypeOfAttribute}
 use Rattle.cedar_identifiers.specs.declared.reference_type.ReferenceType.TheVariants.{Common, Entity, CommonOrEntity}
 use Rattle.cedar_names.specs.Meaning as plain
-use Rattle.schema_build_types.specs.declared.types.Type.TheVariants as built
+use Rattle.schema_json.specs.declared.types.TypeOfAttribute.{out-TypeOfAttribute}
 use Rattle.schema_json.specs.declared.types.Type.TheVariants.{Variant}
 use Rattle.schema_json_walk.specs.Parts.{type_reference, extension_type}
 use Rattle.schema_json_walk.specs.Walk.{itself, parts, of_variant, of_entries}
+use Rattle.schema_json_walk.proofs.Layers.{reference_walked, type_walked, set_walked, entity_walked, either_walked}
+use Rattle.schema_json_walk.proofs.Layers.{extension_walked}
+use Rattle.schema_build_types.specs.declared.types.Type.TheVariants as built
 use Rattle.schema_build_expand.specs.Expands.{Expands, ExpandAll}
 use Rattle.schema_build_expand.proofs.Layers.{common, entity, either, boolean, long, string, set, record_of, extension}
 use Rattle.schema_build_expand.specs.Targets.{IsReady, ExpandsTo, ShapeExpandsTo, ReferenceExpandsTo, EntryExpandsTo}
 use Rattle.schema_build_expand.proofs.Depths.{depth, variant_depth, entries_depth}
 use Rattle.schema_build_expand.proofs.Deep.{shape_deep, set_deep, record_is_deep, entry_deep}
 use Rattle.schema_build_expand.proofs.Made.{zip_more, if_ok, entries_made, keys_kept}
-use Rattle.schema_build_expand.proofs.Walked.{all_record, all_entry, common_walked, shape_walked, set_walked}
-use Rattle.schema_build_expand.proofs.Walked.{entity_walked, either_walked, extension_walked}
+use Rattle.schema_build_expand.proofs.Walked.{all_record, all_entry}
 use Rattle.schema_build_expand.proofs.expand.+expand.Goals as goal
 
 pub expand_entries-expand_type-requires : goal.expand_entries-expand_type-requires
@@ -66,7 +67,7 @@ expand_type-expand_reference-requires-clause-ready g t c =
     let Ready = IsReady s c.args.done.now ns in
     let all : All Ready (type_reference Common c.in-CommonTypeRef.type_name ∷ []) =
     subst (All Ready) (ap parts c.in-CommonTypeRef.is
-    ∙ common_walked N c.in-CommonTypeRef.type_name c.in-CommonTypeRef.loc) c.requires.ready in
+    ∙ reference_walked itself c.in-CommonTypeRef.type_name c.in-CommonTypeRef.loc) c.requires.ready in
     All-head Ready (type_reference Common c.in-CommonTypeRef.type_name) [] all
 
 pub expand_type-returns-in-CommonTypeRef : goal.expand_type-returns-in-CommonTypeRef
@@ -90,7 +91,8 @@ expand_variant-expand_reference-requires-clause-ready g t c =
     let ns = g.R.Meanings.place c.args.names.now in
     let Ready = IsReady s c.args.done.now ns in
     let all : All Ready (type_reference Entity c.in-Entity.name ∷ []) =
-    subst (All Ready) (ap (of_variant itself) c.in-Entity.is ∙ entity_walked N c.in-Entity.name) c.requires.ready in
+    subst (All Ready) (ap (of_variant itself) c.in-Entity.is ∙ entity_walked itself c.in-Entity.name)
+    c.requires.ready in
     All-head Ready (type_reference Entity c.in-Entity.name) [] all
 
 pub expand_variant-expand_reference-requires-in-EntityOrCommon-clause-ready :
@@ -101,7 +103,8 @@ expand_variant-expand_reference-requires-in-EntityOrCommon-clause-ready g t c =
     let ns = g.R.Meanings.place c.args.names.now in
     let Ready = IsReady s c.args.done.now ns in
     let all : All Ready (type_reference CommonOrEntity c.in-EntityOrCommon.type_name ∷ []) =
-    subst (All Ready) (ap (of_variant itself) c.in-EntityOrCommon.is ∙ either_walked N c.in-EntityOrCommon.type_name)
+    subst (All Ready)
+    (ap (of_variant itself) c.in-EntityOrCommon.is ∙ either_walked itself c.in-EntityOrCommon.type_name)
     c.requires.ready in
     All-head Ready (type_reference CommonOrEntity c.in-EntityOrCommon.type_name) [] all
 
@@ -121,7 +124,7 @@ expand_variant-expand_type-requires g t c κs within =
           (
             c.requires.done,
             subst (All Ready)
-                (ap (of_variant itself) c.in-Set.is ∙ set_walked N c.in-Set.element ∙ ap parts (sym c.get.ensures))
+                (ap (of_variant itself) c.in-Set.is ∙ set_walked itself c.in-Set.element ∙ ap parts (sym c.get.ensures))
                 c.requires.ready,
           ),
         ),
@@ -171,7 +174,7 @@ expand_type-expand_variant-requires g t c κs within =
           (
             c.requires.done,
             subst (All Ready)
-                (ap parts c.in-Variant.is ∙ shape_walked N c.in-Variant.ty c.in-Variant.loc) c.requires.ready,
+                (ap parts c.in-Variant.is ∙ type_walked itself c.in-Variant.ty c.in-Variant.loc) c.requires.ready,
           ),
         ),
       ),
@@ -293,7 +296,7 @@ expand_variant-returns-in_ok-clone_in-in-Extension g t c =
     let Ready = IsReady s c.args.done.now ns in
     λ loc.
     let all : All Ready (extension_type c.in-Extension.name ∷ []) =
-    subst (All Ready) (ap (of_variant itself) c.in-Extension.is ∙ extension_walked N c.in-Extension.name)
+    subst (All Ready) (ap (of_variant itself) c.in-Extension.is ∙ extension_walked {N = N} itself c.in-Extension.name)
     c.requires.ready in (
       plain.Ext c.in-Extension.name.id.text,
       subst (λ v. Expands N s ns (Variant v loc) (plain.Ext c.in-Extension.name.id.text)) (sym c.in-Extension.is)

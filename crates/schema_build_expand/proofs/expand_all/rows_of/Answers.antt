@@ -1,10 +1,10 @@
 use Rattle.std.proofs.Common.{◌≡◌, ◌∷◌, ◌++◌, [], ℕ, length, Vec, Some, refl, sym, ap, ◌∙◌, subst, arith}
 use Rattle.std.specs.Prelude.{slice_get}
 use Rattle.std.proofs.lemmas.List.{length-append}
-use Rattle.std.proofs.lemmas.Option.{slice_get_read}
+use Rattle.std.proofs.lemmas.Option.{slice_get_read, same_Some}
 use Rattle.schema_json_walk.specs.Walk.{parts}
+use Rattle.schema_build_graph.proofs.Rows.{each_push}
 use Rattle.schema_build_expand.specs.Ranks.{AreMeantRanks}
-use Rattle.schema_build_expand.proofs.Linked.{each_push, some_is}
 use Rattle.schema_build_expand.proofs.expand_all.rows_of.Goals as goal
 
 pub loop-names-preserved : goal.loop-names-preserved
@@ -28,5 +28,5 @@ loop-names-preserved g c =
           (g.R.Meanings.place o.0) (parts o.1.now) row.items)
           l.rows.items c.push.new.self.items row i l.invariant.same c.in_ok-push.ensures.items l.invariant.each
           (λ o here. subst (λ o. AreMeantRanks g.s (g.R.Meanings.place o.0) (parts o.1.now) row.items)
-          (some_is it o (sym at ∙ here)) made);
+          (same_Some it o (sym at ∙ here)) made);
     }

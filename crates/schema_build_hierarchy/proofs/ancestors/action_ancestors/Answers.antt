@@ -1,15 +1,15 @@
 use Rattle.std.proofs.Common.{map, sym, subst}
 use Rattle.std.proofs.lemmas.Cmp.{on_total}
 use Rattle.std.proofs.lemmas.Result.{IfOk-weaker}
-use Rattle.schema_build_hierarchy.proofs.Exact.{actions_total}
+use Rattle.cedar_data.proofs.Lists.{map-map}
 use Rattle.schema_resolve_definitions.specs.Tests.{tests_of}
+use Rattle.schema_build_hierarchy.proofs.Exact.{actions_total}
 use Rattle.schema_build_hierarchy.specs.Ancestors.{AreParentRows, AreAncestorRows, IsAncestorAmong}
 use Rattle.schema_build_hierarchy.specs.Declarations.{Declared, action_key}
 use Rattle.schema_build_hierarchy.specs.Entries.{action_of_entry}
 use Rattle.schema_build_hierarchy.specs.Parents.{action_parents}
 use Rattle.schema_build_hierarchy.proofs.Exact.{actions_tied}
 use Rattle.schema_build_hierarchy.proofs.Ranked.{one_place}
-use Rattle.schema_build_hierarchy.proofs.Ordered.{map_twice}
 use Rattle.schema_build_hierarchy.proofs.Above.{rows_are, rows_moved, ancestor_moved, declared_moved}
 use Rattle.schema_build_hierarchy.proofs.ParentRanks.{rows_below}
 use Rattle.schema_build_hierarchy.proofs.ancestors.action_ancestors.Goals as goal
@@ -31,7 +31,7 @@ returns g c =
     let held = c.requires.0 in
     IfOk-weaker c.closure.result _ _ (λ rows all.
     subst (λ names. AreAncestorRows (IsAncestorAmong action_key (action_parents t) g.ds) names rows.items)
-    (map_twice action_key action_of_entry entries)
+    (map-map action_key action_of_entry entries)
     (rows_moved (IsAncestorAmong action_key (action_parents t) es) (IsAncestorAmong action_key (action_parents t) g.ds)
     (ancestor_moved action_key (action_parents t) es g.ds (λ d h. (held.same d).1 h))
     (ancestor_moved action_key (action_parents t) g.ds es (λ d h. (held.same d).0 h)) (map action_key es) rows.items

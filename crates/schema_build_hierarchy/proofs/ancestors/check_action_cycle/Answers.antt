@@ -4,6 +4,7 @@ use Rattle.std.proofs.lemmas.Cmp.{on_total}
 use Rattle.std.proofs.lemmas.List.{length-map}
 use Rattle.std.proofs.lemmas.Option.{slice_get_read}
 use Rattle.schema_build_graph.specs.Order.{IsLeastCyclicOf}
+use Rattle.schema_build_graph.proofs.Paths.{reaches_through}
 use Rattle.schema_build_checks.specs.DeclaredAt.{at_of}
 use Rattle.schema_build_hierarchy.specs.Rows.{IsCycleOf}
 use Rattle.schema_build_hierarchy.specs.Declarations.{Declared, action_key}
@@ -13,7 +14,6 @@ use Rattle.schema_build_hierarchy.proofs.Above.{contains_at, at_contained}
 use Rattle.schema_build_hierarchy.proofs.Cycles.{closed, own_cycle, cycle_there, cycle_within, behind, names_apart}
 use Rattle.schema_build_hierarchy.proofs.Exact.{actions_total, actions_tied}
 use Rattle.schema_build_hierarchy.proofs.ParentRanks.{at_map, map_at}
-use Rattle.schema_build_hierarchy.proofs.Paths.{reaches_through}
 use Rattle.schema_build_hierarchy.proofs.ancestors.check_action_cycle.Goals as goal
 
 pub bounds-entries-rank : goal.bounds-entries-rank

@@ -1,15 +1,15 @@
 use Rattle.std.proofs.Common.{map, sym, subst}
 use Rattle.std.proofs.lemmas.Cmp.{on_total}
 use Rattle.std.proofs.lemmas.Result.{IfOk-weaker}
+use Rattle.cedar_data.proofs.Lists.{map-map}
 use Rattle.cedar_names.specs.Orders.{names_total}
 use Rattle.schema_resolve_definitions.specs.Tests.{tests_of}
+use Rattle.schema_build_checks.proofs.Names.{names_tied}
 use Rattle.schema_build_hierarchy.specs.Ancestors.{AreParentRows, AreAncestorRows, IsAncestorAmong}
 use Rattle.schema_build_hierarchy.specs.Declarations.{Declared, entity_name}
 use Rattle.schema_build_hierarchy.specs.Entries.{entity_of}
 use Rattle.schema_build_hierarchy.specs.Parents.{entity_parents}
-use Rattle.schema_build_hierarchy.proofs.Exact.{names_tied}
 use Rattle.schema_build_hierarchy.proofs.Ranked.{one_place}
-use Rattle.schema_build_hierarchy.proofs.Ordered.{map_twice}
 use Rattle.schema_build_hierarchy.proofs.Above.{rows_are, rows_moved, ancestor_moved, declared_moved}
 use Rattle.schema_build_hierarchy.proofs.ParentRanks.{rows_below}
 use Rattle.schema_build_hierarchy.proofs.ancestors.entity_ancestors.Goals as goal
@@ -32,7 +32,7 @@ returns g c =
     let held = c.requires.0 in
     IfOk-weaker c.closure.result _ _ (λ rows all.
     subst (λ names. AreAncestorRows (IsAncestorAmong entity_name (entity_parents t) g.ds) names rows.items)
-    (map_twice entity_name entity_of entries)
+    (map-map entity_name entity_of entries)
     (rows_moved (IsAncestorAmong entity_name (entity_parents t) es)
     (IsAncestorAmong entity_name (entity_parents t) g.ds)
     (ancestor_moved entity_name (entity_parents t) es g.ds (λ d h. (held.same d).1 h))

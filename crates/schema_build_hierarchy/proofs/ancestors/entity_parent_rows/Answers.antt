@@ -1,18 +1,20 @@
-use Rattle.std.proofs.Common.{◌≡◌, ◌+◌, not, List, [], ◌∷◌, ◌++◌, map, take, arith, refl, sym, ap, ◌∙◌, subst, Contains}
+use Rattle.std.proofs.Common.{◌≡◌, ◌+◌, not, List, [], ◌∷◌, ◌++◌, map, take, arith, refl, sym, ap, ◌∙◌, subst}
+use Rattle.std.proofs.Common.{Contains}
 use Rattle.std.proofs.Common.{ℕ}
 use Rattle.std.proofs.lemmas.List.Elements.{All-contains}
 use Rattle.std.proofs.lemmas.List.{take_more, get_or-map, length-map}
+use Rattle.cedar_data.proofs.Lists.{contains_map}
 use Rattle.cedar_identifiers.specs.Names.{components_of, has_cedar}
 use Rattle.cedar_identifiers.specs.declared.name.Name.{Name}
 use Rattle.cedar_names.specs.Orders.{names_in_order}
 use Rattle.schema_resolve_definitions.specs.Tests.{tests_of}
+use Rattle.schema_build_checks.proofs.Names.{names_exact, names_tied}
 use Rattle.schema_build_hierarchy.specs.Ancestors.{AreRowsFor}
 use Rattle.schema_build_hierarchy.specs.Declarations.{entity_name}
 use Rattle.schema_build_hierarchy.specs.Entries.{entity_of}
 use Rattle.schema_build_hierarchy.specs.Parents.{entity_parents, AreParentsMeant}
 use Rattle.schema_build_hierarchy.specs.Ranks.{AreRanksOf}
-use Rattle.schema_build_hierarchy.proofs.Exact.{names_exact, names_tied}
-use Rattle.schema_build_hierarchy.proofs.Ordered.{sorted_seen, sorted_back, contains_map}
+use Rattle.schema_build_hierarchy.proofs.Ordered.{sorted_seen, sorted_back}
 use Rattle.schema_build_hierarchy.proofs.ParentRanks.{row_for, rows_more, filter_kept, filter_keeps}
 use Rattle.schema_build_hierarchy.proofs.ancestors.entity_parent_rows.Goals as goal
 

@@ -1,9 +1,9 @@
 use Rattle.std.proofs.Common.{◌++◌, sym, ap, ◌∙◌}
 use Rattle.std.specs.List.{flat_map}
 use Rattle.schema_json_walk.specs.Walk.{fragment_parts}
+use Rattle.schema_json_walk.specs.Walk.{of_fragment}
 use Rattle.schema_resolve_definitions.specs.Tests.{tests_of}
 use Rattle.schema_build_hierarchy.specs.Rows.{undeclared_part}
-use Rattle.schema_json_walk.specs.Walk.{of_fragment}
 use Rattle.schema_build_hierarchy.proofs.ActionTypes.{own_but_actions}
 use Rattle.schema_build_hierarchy.proofs.Gathering.{finds_all}
 use Rattle.schema_build_hierarchy.proofs.declared_types.undeclared_uses.Goals as goal
@@ -11,7 +11,8 @@ use Rattle.schema_build_hierarchy.proofs.declared_types.undeclared_uses.Goals as
 pub invariant_of-finder : goal.invariant_of-finder
 invariant_of-finder g c =
     record {
-      whole = own_but_actions c.args.fragment.now g.table (tests_of c.args.defs.now) (tests_of c.new-own.result) c.requires
+      whole = own_but_actions c.args.fragment.now g.table (tests_of c.args.defs.now)
+          (tests_of c.new-own.result) c.requires
           (ap tests_of c.new-own.ensures);
     }
 

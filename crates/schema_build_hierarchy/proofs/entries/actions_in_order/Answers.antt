@@ -1,18 +1,16 @@
 use Rattle.std.proofs.Common.{◌≡◌, map, ap, ◌∙◌, subst, All}
 use Rattle.std.specs.Map.{keys_of}
 use Rattle.std.specs.List.Sorted.{IsStrictlySortedBy}
-use Rattle.cedar_data.specs.Text.{text_cmp}
-use Rattle.std.specs.Cmp.{on_total}
-use Rattle.std.specs.Cmp.Lexicographic.{options_total}
 use Rattle.std.specs.List.{flat_map}
 use Rattle.std.proofs.lemmas.List.{take_all}
 use Rattle.std.proofs.lemmas.List.Elements.{All-more}
-use Rattle.cedar_identifiers.specs.declared.name.Name.{Name}
-use Rattle.cedar_names.specs.Orders.{names_total, uids_in_order}
+use Rattle.cedar_data.specs.Text.{text_cmp}
+use Rattle.cedar_names.specs.Orders.{uids_in_order, places_total}
 use Rattle.schema_build_checks.specs.DeclaredAt.{actions_at_in_order}
+use Rattle.schema_build_checks.proofs.Leasts.{whole_given}
 use Rattle.schema_build_hierarchy.specs.Declarations.{actions_of, action_in}
 use Rattle.schema_build_hierarchy.specs.Entries.{action_of_entry}
-use Rattle.schema_build_hierarchy.proofs.Gathered.{same_members, actions_once, more_given, whole_given}
+use Rattle.schema_build_hierarchy.proofs.Gathered.{same_members, actions_once, more_given}
 use Rattle.schema_build_hierarchy.proofs.Ordered.{sorted_seen, sorted_back}
 use Rattle.schema_build_hierarchy.proofs.entries.actions_in_order.Goals as goal
 
@@ -32,7 +30,7 @@ returns c =
           (sorted_back (λ e. e.name) uids_in_order items c.in_order.ensures.sorted);
       same = same_members (λ e. e.name) action_of_entry uids_in_order (λ a b. actions_at_in_order a.name b.name)
           (λ a b h. h) entries items (flat_map actions_of f) is
-          (actions_once f (options_total (on_total (λ (n : Name). n.name) names_total))
+          (actions_once f places_total
           c.as_slice-ns-items.ensures.sorted rising) c.in_order.ensures.kept c.in_order.ensures.whole;
     }
 

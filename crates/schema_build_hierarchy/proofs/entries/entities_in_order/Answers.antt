@@ -1,17 +1,16 @@
 use Rattle.std.proofs.Common.{◌≡◌, map, ap, ◌∙◌, subst, All}
 use Rattle.std.specs.Map.{keys_of}
 use Rattle.std.specs.List.Sorted.{IsStrictlySortedBy}
-use Rattle.cedar_data.specs.Text.{text_cmp}
-use Rattle.std.specs.Cmp.{on_total}
-use Rattle.std.specs.Cmp.Lexicographic.{options_total}
 use Rattle.std.specs.List.{flat_map}
 use Rattle.std.proofs.lemmas.List.{take_all}
 use Rattle.std.proofs.lemmas.List.Elements.{All-more}
+use Rattle.cedar_data.specs.Text.{text_cmp}
 use Rattle.cedar_identifiers.specs.declared.name.Name.{Name}
-use Rattle.cedar_names.specs.Orders.{names_in_order, names_total}
+use Rattle.cedar_names.specs.Orders.{names_in_order, places_total}
+use Rattle.schema_build_checks.proofs.Leasts.{whole_given}
 use Rattle.schema_build_hierarchy.specs.Declarations.{entities_of, entity_in}
 use Rattle.schema_build_hierarchy.specs.Entries.{entity_of}
-use Rattle.schema_build_hierarchy.proofs.Gathered.{same_members, entities_once, more_given, whole_given}
+use Rattle.schema_build_hierarchy.proofs.Gathered.{same_members, entities_once, more_given}
 use Rattle.schema_build_hierarchy.proofs.Ordered.{sorted_seen, sorted_back}
 use Rattle.schema_build_hierarchy.proofs.entries.entities_in_order.Goals as goal
 
@@ -31,7 +30,7 @@ returns c =
           (sorted_back (λ e. e.name) (λ (a b : Name). names_in_order a.name b.name) items c.in_order.ensures.sorted);
       same = same_members (λ e. e.name) entity_of (λ (a b : Name). names_in_order a.name b.name)
           (λ a b. names_in_order a.name b.name) (λ a b h. h) entries items (flat_map entities_of f) is
-          (entities_once f (options_total (on_total (λ (n : Name). n.name) names_total))
+          (entities_once f places_total
           c.as_slice-ns-items.ensures.sorted rising) c.in_order.ensures.kept c.in_order.ensures.whole;
     }
 

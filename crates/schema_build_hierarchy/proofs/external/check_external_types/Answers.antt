@@ -4,7 +4,7 @@ use Rattle.std.specs.Prelude.{slice_get}
 use Rattle.std.specs.List.Sorted.{IsStrictlyIncreasing}
 use Rattle.std.proofs.lemmas.Bool.{cases_lt}
 use Rattle.std.proofs.lemmas.List.{length-map}
-use Rattle.std.proofs.lemmas.Option.{slice_get_within}
+use Rattle.std.proofs.lemmas.Option.{slice_get_within, same_Some}
 use Rattle.cedar_identifiers.specs.Names.{components_of}
 use Rattle.schema_build_graph.specs.Order.{IsLeastMarked}
 use Rattle.schema_build_hierarchy.specs.Ancestors.{IsAncestorRow}
@@ -12,7 +12,7 @@ use Rattle.schema_build_hierarchy.specs.Declarations.{entity_name}
 use Rattle.schema_build_hierarchy.specs.Entries.{entity_of}
 use Rattle.schema_build_hierarchy.specs.Parents.{IsAncestor}
 use Rattle.schema_build_hierarchy.specs.Rows.{IsUnderEnum}
-use Rattle.schema_build_hierarchy.proofs.Above.{contains_at, at_contained, some_same}
+use Rattle.schema_build_hierarchy.proofs.Above.{contains_at, at_contained}
 use Rattle.schema_build_hierarchy.proofs.Cycles.{behind}
 use Rattle.schema_build_hierarchy.proofs.EnumAbove.{names_of, by_name, read_at, row_read, in_range, within}
 use Rattle.schema_build_hierarchy.proofs.EnumAbove.{none_above, least_above}
@@ -57,7 +57,7 @@ returns-in-Some-clause-err g c =
     let at : slice_get entries rank ≡ Some e = read_at entries rank e lt c.index-entries-rank.is in
     let at_again : slice_get entries rank ≡ Some again =
     read_at entries rank again lt c.index-entries-rank-in-Some.is in
-    let same : again ≡ e = some_same again e (sym at_again ∙ at) in
+    let same : again ≡ e = same_Some again e (sym at_again ∙ at) in
     let is = row_read g.g.0 g.g.1 entries held c.args.ancestors.now c.requires.1 rank e row
     lt c.index-entries-rank.is c.index-ancestors-rank.is in
     let marked = c.deref-then-entries-rank.ensures.value ∙ c.in_ok-marks.ensures in
@@ -106,7 +106,7 @@ loop-rank-preserved g c = λ i d lt at under.
       | inr after ↦
           let place : i ≡ rank = omega (arith, lt, after) in
           let (x, ix, same) = at_map entity_of entries i d at in
-          let here : x ≡ e = some_same x e (sym ix ∙ ap (slice_get entries) place ∙ at_rank) in
+          let here : x ≡ e = same_Some x e (sym ix ∙ ap (slice_get entries) place ∙ at_rank) in
           elim c.if-entries-rank.branch [
             | then-entries-rank+in_default w ↦
                 let row = w.index-ancestors-rank.result in

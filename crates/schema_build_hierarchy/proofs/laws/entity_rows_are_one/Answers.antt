@@ -1,10 +1,10 @@
 use Rattle.std.proofs.Common.{map}
+use Rattle.schema_build_checks.proofs.Names.{names_tied}
 use Rattle.schema_build_hierarchy.specs.Declarations.{entity_name}
 use Rattle.schema_build_hierarchy.specs.Entries.{entity_of}
 use Rattle.schema_build_hierarchy.specs.Parents.{IsAncestor}
 use Rattle.schema_build_hierarchy.proofs.EnumAbove.{by_name}
 use Rattle.schema_build_hierarchy.proofs.Cycles.{names_apart}
-use Rattle.schema_build_hierarchy.proofs.Exact.{names_tied}
 use Rattle.schema_build_hierarchy.proofs.KnownByMembers.{one_row}
 use Rattle.schema_build_hierarchy.proofs.laws.entity_rows_are_one.Goals as goal
 

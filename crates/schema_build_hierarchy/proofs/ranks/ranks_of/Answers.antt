@@ -32,5 +32,6 @@ pub returns : goal.returns
 returns g c =
     let l = c.loop-name in
     let own = map (λ e. e.name) c.args.entries.now in
-    subst (λ names. AreRanksOf g.K.Ord.cmp own names l.row.items) (take_all l.name-index c.args.names.now c.loop-name-test.false)
+    subst (λ names. AreRanksOf g.K.Ord.cmp own names l.row.items)
+    (take_all l.name-index c.args.names.now c.loop-name-test.false)
     l.invariant

@@ -3,17 +3,18 @@ use Rattle.std.proofs.Common.{IfSome}
 use Rattle.std.proofs.lemmas.Cmp.{on_total}
 use Rattle.std.specs.List.{AllZip}
 use Rattle.std.proofs.lemmas.List.{get_or-map, length-map, take_all}
-use Rattle.schema_build_items.proofs.DeclaredActions.{actions_total}
+use Rattle.cedar_data.proofs.Lists.{contains_map}
 use Rattle.schema_build_expand.specs.Expands.{ExpandsOnce}
 use Rattle.schema_build_expand.specs.Scope.{AreDeclaredOnce}
 use Rattle.schema_build_scope.specs.FragmentScope.{fragment_scope}
 use Rattle.schema_build_hierarchy.specs.Declarations.{Declared, declared_actions}
 use Rattle.schema_build_hierarchy.specs.Entries.{action_of_entry}
+use Rattle.schema_build_hierarchy.proofs.Exact.{actions_total}
 use Rattle.schema_build_items.specs.ActionKinds.{IsActionKindBuilt, tests_alone}
 use Rattle.schema_build_items.specs.NoRecord.{LacksContext, IsLeastContext, HasNoRecordContext}
 use Rattle.schema_build_items.proofs.DeclaredActions.{action_meant, action_ready, external_bare}
 use Rattle.schema_build_items.proofs.Least.{none_lacks, none_less}
-use Rattle.schema_build_items.proofs.Lists.{contains_map, zip_more}
+use Rattle.schema_build_items.proofs.Lists.{zip_seen_more}
 use Rattle.schema_build_items.proofs.Applied.{action_apart}
 use Rattle.schema_build_items.proofs.actions.action_kinds.Goals as goal
 
@@ -91,7 +92,7 @@ loop-entry-preserved c =
     let built : IsActionKindBuilt t s (action_of_entry e) c.in-Some.kind =
     subst (λ o. IfSome o (IsActionKindBuilt t s (action_of_entry e))) c.in-Some.is c.in_ok-kind.ensures.some in
     subst (AllZip (IsActionKindBuilt t s) _) (sym c.in_ok-push-in-Some.ensures.items)
-    (zip_more action_of_entry (IsActionKindBuilt t s) c.args.entries.now c.loop-entry.kinds.items
+    (zip_seen_more action_of_entry (IsActionKindBuilt t s) c.args.entries.now c.loop-entry.kinds.items
     c.loop-entry.entry-index e c.in-Some.kind
     c.loop-entry-test.true c.entry-item.is c.loop-entry.invariant built)
 

@@ -3,6 +3,7 @@ use Rattle.std.proofs.Common.{IfSome}
 use Rattle.std.proofs.lemmas.Cmp.{on_total}
 use Rattle.std.specs.List.{AllZip}
 use Rattle.std.proofs.lemmas.List.{get_or-map, length-map, take_all}
+use Rattle.cedar_data.proofs.Lists.{contains_map}
 use Rattle.cedar_names.specs.Orders.{names_total}
 use Rattle.schema_build_expand.specs.Expands.{ExpandsOnce}
 use Rattle.schema_build_expand.specs.Scope.{AreDeclaredOnce}
@@ -13,7 +14,7 @@ use Rattle.schema_build_items.specs.Kinds.{IsKindBuilt}
 use Rattle.schema_build_items.specs.NoRecord.{LacksShape, IsLeastShape, HasNoRecordShape}
 use Rattle.schema_build_items.proofs.Fragments.{entity_ready, external_bare}
 use Rattle.schema_build_items.proofs.Least.{none_lacks, none_less}
-use Rattle.schema_build_items.proofs.Lists.{contains_map, zip_more}
+use Rattle.schema_build_items.proofs.Lists.{zip_seen_more}
 use Rattle.schema_build_items.proofs.Made.{built_apart}
 use Rattle.schema_build_items.proofs.kinds.entity_kinds.Goals as goal
 
@@ -80,7 +81,7 @@ loop-entry-preserved c =
     let built : IsKindBuilt s (entity_of e) c.in-Some.kind =
     subst (λ o. IfSome o (IsKindBuilt s (entity_of e))) c.in-Some.is c.in_ok-kind.ensures.some in
     subst (AllZip (IsKindBuilt s) _) (sym c.in_ok-push-in-Some.ensures.items)
-    (zip_more entity_of (IsKindBuilt s) c.args.entries.now c.loop-entry.kinds.items c.loop-entry.entry-index e
+    (zip_seen_more entity_of (IsKindBuilt s) c.args.entries.now c.loop-entry.kinds.items c.loop-entry.entry-index e
     c.in-Some.kind
     c.loop-entry-test.true c.entry-item.is c.loop-entry.invariant built)
 

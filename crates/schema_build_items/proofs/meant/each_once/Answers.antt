@@ -3,7 +3,7 @@ use Rattle.std.specs.List.Sorted.{IsStrictlySortedBy}
 use Rattle.std.proofs.lemmas.List.Filters.{dedup_is}
 use Rattle.std.proofs.lemmas.List.Kept.{IsStrictlySortedBy-dedup}
 use Rattle.schema_build_hierarchy.specs.FirstUses.{HasAlike}
-use Rattle.schema_build_items.proofs.Once.{once_kept, once_whole}
+use Rattle.schema_build_hierarchy.proofs.Once.{once_kept, once_whole}
 use Rattle.schema_build_items.proofs.meant.each_once.Goals as goal
 
 pub returns : goal.returns

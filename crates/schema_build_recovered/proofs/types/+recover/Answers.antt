@@ -2,6 +2,7 @@ use Rattle.std.proofs.Common.{rules, arith, ◌≡◌, ap, sym, ◌∙◌, get_o
 use Rattle.std.specs.List.{AllZip}
 use Rattle.std.proofs.lemmas.Result.{IfOk-weaker}
 use Rattle.std.proofs.lemmas.List.{take_all}
+use Rattle.cedar_data.proofs.Sizes.{most_at}
 use Rattle.schema_json.specs.declared.types.Type.{Variant}
 use Rattle.schema_build_types.specs.declared.types.Type.{size-Type}
 use Rattle.schema_build_types.specs.declared.types.Type.TheVariants as built
@@ -10,7 +11,7 @@ use Rattle.schema_build_types.specs.Content as said
 use Rattle.schema_build_types.specs.Lacks.{type_lacks, attribute_lacks}
 use Rattle.schema_build_text.specs.Readings.{plain_type}
 use Rattle.schema_build_recovered.specs.Recovered.{IsRecoveredType}
-use Rattle.schema_build_recovered.proofs.Rows.{most_at, zip_more, rows_recovered, row_keys, lacks_at, lacks_more, IsRow}
+use Rattle.schema_build_recovered.proofs.Rows.{zip_more, rows_recovered, row_keys, lacks_at, lacks_more, IsRow}
 use Rattle.schema_build_recovered.proofs.Rows.{all_whole}
 use Rattle.schema_build_recovered.proofs.Lacking.{refused}
 use Rattle.schema_build_recovered.proofs.Variants.{bool_is, bool_whole, long_is, long_whole, string_is, string_whole}

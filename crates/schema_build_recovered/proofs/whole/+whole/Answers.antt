@@ -1,6 +1,6 @@
 use Rattle.std.proofs.Common.{rules, arith, ◌≡◌, ap, get_or}
+use Rattle.cedar_data.proofs.Sizes.{most_at}
 use Rattle.schema_build_types.specs.declared.types.Type.{size-Type}
-use Rattle.schema_build_recovered.proofs.Rows.{most_at}
 use Rattle.schema_build_recovered.proofs.whole.+whole.Goals as goal
 
 pub are_whole-is_whole-requires : goal.are_whole-is_whole-requires

@@ -7,7 +7,8 @@ use Rattle.schema_build_recovered.proofs.whole.entity_types_are_whole.Goals as g
 
 pub loop-entry-preserved : goal.loop-entry-preserved
 loop-entry-preserved c =
-    All-more (λ e. entity_lacks (entity_content e) ≡ []) c.args.entities.now c.loop-entry.entry-index c.entry-item.result
+    All-more (λ e. entity_lacks (entity_content e)
+    ≡ []) c.args.entities.now c.loop-entry.entry-index c.entry-item.result
     c.loop-entry-test.true c.loop-entry.invariant
     (subst (λ e. entity_lacks (entity_content e) ≡ []) c.entry-item.is
     (c.is_whole_entity_type.ensures c.if-not-is_whole_entity_type.false))
@@ -15,4 +16,5 @@ loop-entry-preserved c =
 pub returns : goal.returns
 returns c h =
     subst (All (λ e. entity_lacks (entity_content e) ≡ []))
-    (take_all c.loop-entry.entry-index c.args.entities.now (omega (arith, c.loop-entry-test.false))) c.loop-entry.invariant
+    (take_all c.loop-entry.entry-index c.args.entities.now
+    (omega (arith, c.loop-entry-test.false))) c.loop-entry.invariant

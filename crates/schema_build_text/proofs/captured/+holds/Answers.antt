@@ -1,6 +1,6 @@
 use Rattle.std.proofs.Common.{rules, arith, ◌≡◌, ap, get_or}
+use Rattle.cedar_data.proofs.Sizes.{most_at}
 use Rattle.schema_build_types.specs.declared.types.Type.{size-Type}
-use Rattle.schema_build_text.proofs.Sizes.{most_at}
 use Rattle.schema_build_text.proofs.captured.+holds.Goals as goal
 
 pub some_hold-holds-requires : goal.some_hold-holds-requires

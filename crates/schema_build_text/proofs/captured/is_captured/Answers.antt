@@ -1,13 +1,14 @@
 use Rattle.std.proofs.Common.{◌==◌, ◌&&◌, Some, length, ap, sym, ◌∙◌}
 use Rattle.std.specs.Option.{option_copied}
 use Rattle.std.proofs.lemmas.Bool.{and_right}
+use mathlib.Core.Bool.{and-true}
 use Rattle.cedar_identifiers.specs.Names.{components_of}
 use Rattle.cedar_names.specs.CanonicalText.{namespace}
 use Rattle.schema_build_text.specs.Beside.{is_beside, is_captured_by}
 use Rattle.schema_build_text.specs.Captured.{item_holds}
 use Rattle.schema_build_text.specs.Items.{item_content, namespace_behind}
 use Rattle.schema_build_text.specs.Walk.{namespace_of}
-use Rattle.schema_build_text.proofs.Besides.{beside_nothing, told_beside, and_true}
+use Rattle.schema_build_text.proofs.Besides.{beside_nothing, told_beside}
 use Rattle.schema_build_text.proofs.captured.is_captured.Goals as goal
 
 pub returns-in-None : goal.returns-in-None
@@ -26,7 +27,7 @@ returns-then-item_holds c =
     ∙ (told_beside x c.name_of-name.result.now (namespace (components_of c.in-Some.action.now)) near
     c.name_of-name.ensures (ap (λ l. length l == 0) (sym c.as_slice.ensures)
     ∙ (sym c.is_empty.ensures ∙ c.if-is_empty.false)) c.are_together.ensures
-    ∙ (ap (λ b. near && b) (sym c.item_holds.ensures ∙ c.if-item_holds.true) ∙ and_true near)))
+    ∙ (ap (λ b. near && b) (sym c.item_holds.ensures ∙ c.if-item_holds.true) ∙ and-true near)))
 
 pub returns-else-item_holds : goal.returns-else-item_holds
 returns-else-item_holds c =

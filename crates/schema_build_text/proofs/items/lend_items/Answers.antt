@@ -1,8 +1,8 @@
 use Rattle.std.proofs.Common.{◌++◌, map, ap, sym, ◌∙◌, arith}
 use Rattle.std.proofs.lemmas.List.{take_all}
+use Rattle.cedar_data.proofs.Lists.{map-map}
 use Rattle.schema_build_types.specs.Content.{entity_content, action_content}
 use Rattle.schema_build_text.specs.Walk.{entity_type, action}
-use Rattle.schema_build_text.proofs.Rowed.{map_both}
 use Rattle.schema_build_text.proofs.items.lend_items.Goals as goal
 
 pub returns : goal.returns
@@ -11,5 +11,5 @@ returns c =
     let us = c.args.actions.now in
     let all = ap (map (λ a. action (action_content a)))
     (take_all c.loop-action.action-index us (omega (arith, c.loop-action-test.false)))
-    ∙ sym (map_both action action_content us) in
-    c.loop-action.invariant ∙ (λ i. sym (map_both entity_type entity_content es) i ++ all i)
+    ∙ sym (map-map action action_content us) in
+    c.loop-action.invariant ∙ (λ i. sym (map-map entity_type entity_content es) i ++ all i)

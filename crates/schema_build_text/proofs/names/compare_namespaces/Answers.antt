@@ -1,6 +1,6 @@
 use Rattle.std.proofs.Common.{refl, sym, ◌∙◌}
 use Rattle.std.specs.declared.cmp.Ordering.TheVariants.{Less, Equal, Greater}
-use Rattle.cedar_names.specs.Orders.{ids_in_order}
+use Rattle.cedar_names.specs.Orders.{id_text_order}
 use Rattle.schema_build_text.proofs.Named.{front_of, decided}
 use Rattle.schema_build_text.proofs.names.compare_namespaces.Goals as goal
 
@@ -12,7 +12,7 @@ returns-in-Less c =
     (sym c.as_slice.ensures ∙ c.in-Some.ensures.cases.0) in
     let q = front_of b c.in-Some-split_last-2.b_front.now c.in-Some-split_last-2.field-0-0.now
     (sym c.as_slice-in-Some.ensures ∙ c.in-Some-split_last-2.ensures.cases.0) in
-    decided ids_in_order (λ x y. refl) a b Less c.in-Some.a_front.now c.in-Some-split_last-2.b_front.now p q
+    decided id_text_order (λ x y. refl) a b Less c.in-Some.a_front.now c.in-Some-split_last-2.b_front.now p q
     (sym c.in-Less.ensures)
 
 pub returns-in-Greater : goal.returns-in-Greater
@@ -23,7 +23,7 @@ returns-in-Greater c =
     (sym c.as_slice.ensures ∙ c.in-Some.ensures.cases.0) in
     let q = front_of b c.in-Some-split_last-2.b_front.now c.in-Some-split_last-2.field-0-0.now
     (sym c.as_slice-in-Some.ensures ∙ c.in-Some-split_last-2.ensures.cases.0) in
-    decided ids_in_order (λ x y. refl) a b Greater c.in-Some.a_front.now c.in-Some-split_last-2.b_front.now p q
+    decided id_text_order (λ x y. refl) a b Greater c.in-Some.a_front.now c.in-Some-split_last-2.b_front.now p q
     (sym c.in-Greater.ensures)
 
 pub returns-in-Equal : goal.returns-in-Equal

@@ -1,12 +1,12 @@
 use Rattle.std.proofs.Common.{List, codes, map, false, ap, sym, ◌∙◌, ◌++◌}
 use Rattle.std.proofs.lemmas.Result.{on_ok_weaker}
-use Rattle.cedar_data.specs.Rows.{joined_by}
+use Rattle.cedar_data.specs.Rows.{joined_by, row_behind}
 use Rattle.cedar_data.specs.NonEmpty.{items_left}
-use Rattle.cedar_identifiers.specs.declared.eid.Eid.{Eid}
+use Rattle.cedar_data.proofs.Lists.{map-map}
 use Rattle.schema_syntax_tokens.specs.Quotes.{quoted}
+use Rattle.cedar_identifiers.specs.declared.eid.Eid.{Eid}
 use Rattle.schema_build_text.specs.Growing.{then, so, round, adds_all}
-use Rattle.schema_build_text.specs.Rows.{row_behind}
-use Rattle.schema_build_text.proofs.Rowed.{begun_as, row_front, map_both, joined_row}
+use Rattle.schema_build_text.proofs.Rowed.{begun_as, row_front, joined_row}
 use Rattle.schema_build_text.proofs.rows.push_choices.Goals as goal
 
 pub loop-choice-init : goal.loop-choice-init
@@ -29,4 +29,4 @@ returns c =
     e))
     (ap (λ t. codes "[" ++ (t ++ codes "]"))
     (joined_row (codes ", ") (map (λ x. quoted x.0) c.args.choices.now)
-    ∙ ap (joined_by (codes ", ")) (sym (map_both quoted (λ (x : Eid). x.0) c.args.choices.now))))) c.push-2.ensures
+    ∙ ap (joined_by (codes ", ")) (sym (map-map quoted (λ (x : Eid). x.0) c.args.choices.now))))) c.push-2.ensures

@@ -1,8 +1,8 @@
 use Rattle.std.proofs.Common.{codes, map}
 use Rattle.cedar_data.specs.NonEmpty.{items_left}
+use Rattle.cedar_data.specs.Rows.{row_behind}
 use Rattle.schema_syntax_tokens.specs.Quotes.{quoted}
 use Rattle.schema_build_text.specs.Growing.{Leaves}
-use Rattle.schema_build_text.specs.Rows.{row_behind}
 use Rattle.schema_build_text.proofs.rows.push_choices.Given as goal
 
 abbrev pub invariant-loop-choice : goal.invariant-loop-choice

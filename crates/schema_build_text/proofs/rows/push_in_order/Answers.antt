@@ -1,8 +1,8 @@
 use Rattle.std.proofs.Common.{codes, map, ap, sym, ◌∙◌}
 use Rattle.std.proofs.lemmas.Result.{on_ok_weaker}
 use Rattle.cedar_data.specs.Rows.{joined_by}
+use Rattle.cedar_data.proofs.Lists.{map-map}
 use Rattle.schema_build_text.specs.Growing.{so}
-use Rattle.schema_build_text.proofs.Rowed.{map_both}
 use Rattle.schema_build_text.proofs.rows.push_in_order.Goals as goal
 
 pub returns-then-is_rising : goal.returns-then-is_rising
@@ -15,5 +15,5 @@ pub returns-in_ok-set : goal.returns-in_ok-set
 returns-in_ok-set g c =
     on_ok_weaker c.push_set.result
     (λ e. so e (ap (joined_by (codes ", "))
-    (sym (map_both g.T.Listed.shown (λ x. x.now) c.in_ok-set.set.keys)
+    (sym (map-map g.T.Listed.shown (λ x. x.now) c.in_ok-set.set.keys)
     ∙ ap (map g.T.Listed.shown) c.in_ok-set.ensures))) c.push_set.ensures

@@ -13,4 +13,5 @@ pub returns : goal.returns
 returns g c =
     on_ok_weaker c.push-2.result (λ e.
     so (then c.in_ok-push.ensures (then c.in_ok-push_in_order.ensures e))
-    (some_parents g.T.Listed.shown g.T.Ord.cmp c.args.items.now (sym c.is_empty.ensures ∙ c.if-is_empty.false))) c.push-2.ensures
+    (some_parents g.T.Listed.shown g.T.Ord.cmp c.args.items.now
+    (sym c.is_empty.ensures ∙ c.if-is_empty.false))) c.push-2.ensures

@@ -1,7 +1,7 @@
 use Rattle.std.proofs.Common.{codes, map}
 use Rattle.std.proofs.lemmas.List.{at_drop_all}
+use Rattle.cedar_data.specs.Rows.{row_behind}
 use Rattle.schema_build_text.specs.Growing.{then, so, begun, round, adds_all}
-use Rattle.schema_build_text.specs.Rows.{row_behind}
 use Rattle.schema_build_text.proofs.Rowed.{row_step, joined_row}
 use Rattle.schema_build_text.proofs.rows.push_row.Goals as goal
 

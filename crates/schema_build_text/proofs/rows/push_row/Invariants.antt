@@ -1,6 +1,6 @@
 use Rattle.std.proofs.Common.{codes, map, drop}
+use Rattle.cedar_data.specs.Rows.{row_behind}
 use Rattle.schema_build_text.specs.Growing.{Leaves}
-use Rattle.schema_build_text.specs.Rows.{row_behind}
 use Rattle.schema_build_text.proofs.rows.push_row.Given as goal
 
 abbrev pub invariant-loop-item : goal.invariant-loop-item

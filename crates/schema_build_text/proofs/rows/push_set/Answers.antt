@@ -1,6 +1,6 @@
 use Rattle.std.proofs.Common.{codes, map, ap}
+use Rattle.cedar_data.specs.Rows.{row_behind}
 use Rattle.schema_build_text.specs.Growing.{so, adds_all}
-use Rattle.schema_build_text.specs.Rows.{row_behind}
 use Rattle.schema_build_text.proofs.Rowed.{none_left, joined_row}
 use Rattle.schema_build_text.proofs.rows.push_set.Goals as goal
 

@@ -2,17 +2,19 @@ use Rattle.std.proofs.Common.{rules, arith, ◌≡◌, ◌++◌, ap, sym, ◌∙
 use Rattle.std.proofs.Common.{None}
 use Rattle.std.proofs.lemmas.List.{at_drop_all}
 use Rattle.std.proofs.lemmas.Result.{on_ok_weaker}
+use Rattle.cedar_data.proofs.Sizes.{most_at}
 use Rattle.cedar_names.specs.CanonicalText.{type_text, lines_text, record_text, spaces}
 use Rattle.schema_build_types.specs.declared.types.Type.{size-Type}
 use Rattle.schema_build_types.specs.declared.types.Type.TheVariants as built
 use Rattle.schema_build_types.specs.Content.{type_content, attributes_content, names_content}
 use Rattle.schema_build_types.specs.Content as said
+use Rattle.schema_build_types.proofs.Contents.{long_says, string_says, any_entity_says, unknown_says, set_says}
+use Rattle.schema_build_types.proofs.Contents.{record_says, entity_says, extension_says}
 use Rattle.schema_build_text.specs.Growing.{then, so, begun, round, adds_all}
 use Rattle.schema_build_text.specs.Readings.{plain_type, plain_attributes}
-use Rattle.schema_build_text.proofs.Layers.{shown, bool_shown, long_says, string_says, any_entity_says, unknown_says}
-use Rattle.schema_build_text.proofs.Layers.{set_says, record_says, entity_says, extension_says, record_filled}
+use Rattle.schema_build_text.proofs.Layers.{shown, bool_shown}
+use Rattle.schema_build_text.proofs.Layers.{record_filled}
 use Rattle.schema_build_text.proofs.Layers.{entry_step}
-use Rattle.schema_build_text.proofs.Sizes.{most_at}
 use Rattle.schema_build_text.proofs.types.+push_type.Goals as goal
 
 pub push_type-returns-in-Never : goal.push_type-returns-in-Never
@@ -92,7 +94,8 @@ pub push_record-returns : goal.push_record-returns
 push_record-returns t c =
     on_ok_weaker c.push_members.result (λ e.
     so (then c.in_ok-push-3.ensures e)
-    (record_filled c.args.base c.args.entries.now (sym c.is_empty.ensures ∙ c.if-is_empty.false))) c.push_members.ensures
+    (record_filled c.args.base c.args.entries.now
+    (sym c.is_empty.ensures ∙ c.if-is_empty.false))) c.push_members.ensures
 
 pub push_line-returns-in-Some : goal.push_line-returns-in-Some
 push_line-returns-in-Some t c = on_ok_weaker c.push.result (λ e. so e (c.in-Some.ensures c.args.base)) c.push.ensures

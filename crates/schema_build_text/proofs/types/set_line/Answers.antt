@@ -1,7 +1,8 @@
 use Rattle.std.proofs.Common.{◌++◌, ap, codes, refl}
 use Rattle.schema_build_types.specs.declared.types.Type.TheVariants as built
 use Rattle.schema_build_types.specs.Content as said
-use Rattle.schema_build_text.proofs.Layers.{shown, bool_shown, long_says, string_says}
+use Rattle.schema_build_types.proofs.Contents.{long_says, string_says}
+use Rattle.schema_build_text.proofs.Layers.{shown, bool_shown}
 use Rattle.schema_build_text.proofs.types.set_line.Goals as goal
 
 pub returns-in-Never : goal.returns-in-Never

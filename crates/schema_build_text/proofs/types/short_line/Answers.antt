@@ -1,8 +1,9 @@
 use Rattle.std.proofs.Common.{◌++◌, ap, codes, refl, ◌∙◌}
+use Rattle.std.proofs.lemmas.Option.{IfSome_then}
 use Rattle.schema_build_types.specs.declared.types.Type.TheVariants as built
 use Rattle.schema_build_types.specs.Content as said
-use Rattle.std.proofs.lemmas.Option.{IfSome_then}
-use Rattle.schema_build_text.proofs.Layers.{shown, bool_shown, long_says, string_says, set_laid}
+use Rattle.schema_build_types.proofs.Contents.{long_says, string_says}
+use Rattle.schema_build_text.proofs.Layers.{shown, bool_shown, set_laid}
 use Rattle.schema_build_text.proofs.types.short_line.Goals as goal
 
 pub returns-in-Never : goal.returns-in-Never

@@ -1,6 +1,6 @@
-use Rattle.std.proofs.Common.{◌≡◌, ◌+◌, ◌-◌, arith, sym, ◌∙◌, length}
+use Rattle.std.proofs.Common.{◌-◌, true, arith, sym, ◌∙◌, length}
 use Rattle.std.proofs.lemmas.List.{length-map}
-use Rattle.schema_build_types.proofs.Cost.{none_yet, halved}
+use Rattle.cedar_names.proofs.Cost.{none_yet, halved}
 use Rattle.schema_build_types.proofs.Paired.{below_paired, above_paired}
 use Rattle.schema_build_types.proofs.lookups.search_counted.Goals as goal
 
@@ -14,7 +14,7 @@ loop-low-init g c = record {
     above = λ k d h i. absurd (omega (arith, length-map c.args.entries.now g.E.Keyed.pair));
   };
   counted = omega arith;
-  cost = none_yet c.args.steps.now (length c.args.entries.now);
+  cost = none_yet true c.args.steps.now (length c.args.entries.now);
 }
 
 pub loop-low-preserved-in-Less : goal.loop-low-preserved-in-Less
@@ -27,9 +27,8 @@ loop-low-preserved-in-Less g c =
           c.index-entries-middle.result c.requires l.invariant.gap (omega arith) c.index-entries-middle.is
           c.key.result.now c.key.ensures (sym c.cmp.ensures ∙ c.in-Less.is);
       counted = omega arith;
-      cost = (let ticked : c.tick.new.self ≡ l.steps + 1 = c.tick.ensures in
-          rw ticked (halved c.args.steps.now l.steps (l.high - l.low) _ (length c.args.entries.now)
-          l.invariant.counted l.invariant.cost (omega arith) (omega arith)));
+      cost = halved true c.args.steps.now l.steps c.tick.new.self (l.high - l.low) _ (length c.args.entries.now)
+          c.tick.ensures l.invariant.cost (omega arith) (omega arith);
     }
 
 pub loop-low-preserved : goal.loop-low-preserved
@@ -42,14 +41,12 @@ loop-low-preserved g c =
           c.index-entries-middle.result c.requires l.invariant.gap (omega arith) c.index-entries-middle.is
           c.key.result.now c.key.ensures (sym c.cmp.ensures ∙ c.in-Greater.is);
       counted = omega arith;
-      cost = (let ticked : c.tick.new.self ≡ l.steps + 1 = c.tick.ensures in
-          rw ticked (halved c.args.steps.now l.steps (l.high - l.low) _ (length c.args.entries.now)
-          l.invariant.counted l.invariant.cost (omega arith) (omega arith)));
+      cost = halved true c.args.steps.now l.steps c.tick.new.self (l.high - l.low) _ (length c.args.entries.now)
+          c.tick.ensures l.invariant.cost (omega arith) (omega arith);
     }
 
 pub returns-in-Equal-clause-cost : goal.returns-in-Equal-clause-cost
 returns-in-Equal-clause-cost g c =
     let l = c.loop-low in
-    let ticked : c.tick.new.self ≡ l.steps + 1 = c.tick.ensures in
-    rw ticked (halved c.args.steps.now l.steps (l.high - l.low) 0 (length c.args.entries.now) l.invariant.counted
-    l.invariant.cost (omega arith) (omega arith)).cost
+    (halved true c.args.steps.now l.steps c.tick.new.self (l.high - l.low) 0 (length c.args.entries.now)
+    c.tick.ensures l.invariant.cost (omega arith) (omega arith)).cost

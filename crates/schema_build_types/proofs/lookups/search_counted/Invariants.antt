@@ -1,6 +1,6 @@
-use Rattle.std.proofs.Common.{◌≤◌, ◌-◌, length, map}
+use Rattle.std.proofs.Common.{◌≤◌, ◌-◌, true, length, map}
 use Rattle.cedar_data.specs.Halving.{IsGap}
-use Rattle.schema_build_types.proofs.Cost.{IsCost}
+use Rattle.cedar_names.proofs.Cost.{IsCost}
 use Rattle.schema_build_types.proofs.lookups.search_counted.Given as goal
 
 abbrev pub invariant-loop-low : goal.invariant-loop-low
@@ -9,7 +9,7 @@ invariant-loop-low g l = record {
   within : l.high ≤ length l.entries;
   gap : IsGap g.E.Key.Ord.cmp l.key (map g.E.Keyed.pair l.entries) l.low l.high;
   counted : l.fn.steps ≤ l.steps;
-  cost : IsCost (l.steps - l.fn.steps) (l.high - l.low) (length l.entries);
+  cost : IsCost true l.fn.steps l.steps (l.high - l.low) (length l.entries);
 }
 
 abbrev pub decreases-loop-low : goal.decreases-loop-low

@@ -1,6 +1,6 @@
 use Rattle.std.proofs.Common.{◌≡◌, ap, get_or, rules, arith}
+use Rattle.cedar_data.proofs.Sizes.{most_at}
 use Rattle.schema_build_types.specs.declared.types.Type.{size-Type}
-use Rattle.schema_build_types.proofs.Sizes.{most_at}
 use Rattle.schema_build_types.proofs.types.+clone_in.Goals as goal
 
 pub clone_entries-clone_in-requires-in-loop-name : goal.clone_entries-clone_in-requires-in-loop-name

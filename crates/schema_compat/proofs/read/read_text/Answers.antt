@@ -2,7 +2,8 @@ use Rattle.std.proofs.Common.{sym, ◌∙◌}
 use Rattle.serde_json.specs.View.{view}
 use Rattle.schema_json_keys.proofs.Numberless.{no_float}
 use Rattle.schema_compat.proofs.read.read_text.Goals as goal
-use Rattle.schema_compat.proofs.read.read_text.Goals.{else-found-via-then-found+else-has_float, else-found-via-else-found}
+use Rattle.schema_compat.proofs.read.read_text.Goals.{else-found-via-then-found+else-has_float}
+use Rattle.schema_compat.proofs.read.read_text.Goals.{else-found-via-else-found}
 
 pub read_whole-requires : goal.read_whole-requires
 read_whole-requires c =

@@ -1,7 +1,7 @@
 use Rattle.std.proofs.Common.{subst}
 use Rattle.std.specs.List.{AllZip, flat_map}
+use Rattle.schema_json.proofs.Namespaces.{names_order, map_made}
 use Rattle.schema_json_shapes.specs.Walk.{AllMet}
-use Rattle.schema_json_shapes.proofs.NamespaceOrder.{names_order, map_made}
 use Rattle.schema_compat_convert.specs.Demands.{asks_entry}
 use Rattle.schema_compat_convert.specs.Converted.{EntryBecomes}
 use Rattle.schema_compat_convert.proofs.fragments.convert_fragment.Goals as goal

@@ -6,7 +6,7 @@ use Rattle.cedar_identifiers.specs.declared.raw_name.RawName.{RawName}
 use Rattle.schema_json.specs.declared.types.TypeOfAttribute.{roll-TypeOfAttribute}
 use Rattle.schema_json.specs.declared.types.TypeVariant.TheVariants as variant
 use Rattle.schema_json_shapes.specs.Walk.{AllMet}
-use Rattle.schema_json_shapes.specs.Reads.{IsFault}
+use Rattle.schema_json_shapes.specs.Reads.{IsDemandFault}
 use Rattle.schema_json_shapes.proofs.Demands.{refused}
 use Rattle.schema_compat_types.specs.declared.types.TypeOfAttribute.{out-TypeOfAttribute, size-TypeOfAttribute}
 use Rattle.schema_compat_convert.specs.Demands.{asks_type, asks_shape, asks_attribute, asks_attributes}
@@ -56,7 +56,8 @@ convert_shape-returns-in_err-attributes-in-Record t c =
     refused c.from_residual-in_err-attributes-in-Record.result e _ _
     c.from_residual-in_err-attributes-in-Record.ensures.1
     (record_fails c.args.shape c.in-Record.attributes c.in-Record.additional_attributes e c.in-Record.is
-    (subst (λ es. IsFault (asks_attributes es) e) c.into_vec.ensures.entries c.in_err-attributes-in-Record.ensures))
+    (subst (λ es. IsDemandFault
+    (asks_attributes es) e) c.into_vec.ensures.entries c.in_err-attributes-in-Record.ensures))
 
 pub convert_shape-from_sorted_vec-requires : goal.convert_shape-from_sorted_vec-requires
 convert_shape-from_sorted_vec-requires t c =
@@ -95,7 +96,7 @@ convert_attributes-returns-in_err-ty t c =
     refused c.from_residual.result e _ _ c.from_residual.ensures.1
     (first_fails (λ x. asks_attribute x.1) AttributesBecome (c.in-Some.name, a) _ _ _ _ e
     c.loop-name.invariant.ahead c.in-Some.ensures.steps.0
-    (subst (λ ds. IsFault ds e) (sym (attribute_asked a)) c.in_err-ty.ensures))
+    (subst (λ ds. IsDemandFault ds e) (sym (attribute_asked a)) c.in_err-ty.ensures))
 
 pub convert_attributes-loop-name-preserved : goal.convert_attributes-loop-name-preserved
 convert_attributes-loop-name-preserved t c =

@@ -3,11 +3,11 @@ use Rattle.std.specs.Prelude.{codes}
 use Rattle.serde_json.specs.View.{items_view}
 use Rattle.schema_json_shapes.specs.Walk.{action_id, AllMet, item_demands}
 use Rattle.schema_json_shapes.specs.Said.{AreItems}
-use Rattle.schema_compat_shapes.specs.OldParts.{IsOldActionId}
-use Rattle.schema_json_shapes.specs.Reads.{IsFault}
+use Rattle.schema_json_shapes.specs.Reads.{IsDemandFault}
 use Rattle.schema_json_shapes.proofs.Demands.{refused}
 use Rattle.schema_json_shapes.proofs.Ahead.{all_items_left, item_fails, item_passes, no_items_left, no_item_found}
 use Rattle.schema_json_shapes.proofs.Ahead.{item_found, all_items_found}
+use Rattle.schema_compat_shapes.specs.OldParts.{IsOldActionId}
 use Rattle.schema_compat_shapes.proofs.action_ids.read_action_ids.Goals as goal
 
 pub loop-item-init : goal.loop-item-init
@@ -36,7 +36,7 @@ returns-in_err-parent c =
     let fault = item_fails action_id (codes "memberOf") vs c.loop-item.item-index c.item-item.result (items_view vs) e
     c.loop-item-test.true c.item-item.is c.loop-item.invariant.left c.in_err-parent.ensures in
     refused c.from_residual.result e _ _ c.from_residual.ensures.1
-    (subst (λ ys. IsFault (item_demands action_id (codes "memberOf") (items_view ys)) e)
+    (subst (λ ys. IsDemandFault (item_demands action_id (codes "memberOf") (items_view ys)) e)
     c.deref-item-items.ensures.value fault)
 
 pub returns : goal.returns

@@ -4,7 +4,7 @@ use Rattle.std.specs.Map.{lookup}
 use Rattle.cedar_identifiers.specs.declared.raw_name.RawName.{RawName}
 use Rattle.schema_json.specs.declared.common_type.CommonType.{CommonType}
 use Rattle.schema_json.specs.declared.common_type.CommonTypeId.{CommonTypeId}
-use Rattle.schema_convert_types.specs.Fragments.{unreserved_cmp}
+use Rattle.schema_json.specs.Orders.{unreserved_cmp}
 use Rattle.schema_convert.proofs.Rest.{rest_more_at, absent}
 use Rattle.schema_convert.proofs.gathering.are_apart.Goals as goal
 

@@ -1,12 +1,13 @@
 use Rattle.std.proofs.Common.{◌≡◌, length, ap, arith}
 use Rattle.cedar_data.specs.Maps.{map_of}
 use Rattle.cedar_data.specs.Text.{text_cmp}
+use Rattle.cedar_data.proofs.Orders.{text_total}
 use Rattle.cedar_identifiers.specs.declared.raw_name.RawName.{RawName}
 use Rattle.schema_json.specs.declared.fragment.NamespaceDefinition.{NamespaceDefinition}
-use Rattle.schema_convert_types.specs.Declarations.{as_written}
-use Rattle.schema_convert_types.specs.Fragments.{common_cmp, unreserved_cmp}
+use Rattle.schema_json.specs.Orders.{unreserved_cmp, common_cmp}
+use Rattle.schema_json.specs.AsWritten.{as_written}
+use Rattle.schema_json.proofs.Orders.{unreserved_total, common_total}
 use Rattle.schema_convert.proofs.Counted.{at_most_all}
-use Rattle.schema_convert.proofs.PlainNames.{text_total, unreserved_total, common_total}
 use Rattle.schema_convert.proofs.gathering.own_definition.Goals as goal
 
 pub returns : goal.returns

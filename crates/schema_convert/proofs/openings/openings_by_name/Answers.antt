@@ -9,8 +9,9 @@ use Rattle.schema_syntax_tree.specs.declared.annotated.Annotated.{Annotated}
 use Rattle.schema_syntax_tree.specs.declared.namespace.Namespace.{Namespace}
 use Rattle.schema_convert.specs.NamesIn.{path_cmp}
 use Rattle.schema_convert.proofs.Grouped.{opened, names_total, all_joined}
-use Rattle.schema_convert.proofs.Ranked.{at_group, met, met_first, over, pushed_as}
+use Rattle.schema_convert.proofs.Ranked.{at_group, met, met_first, over}
 use Rattle.schema_convert.proofs.openings.openings_by_name.Goals as goal
+use Rattle.schema_convert.proofs.Sorted.{pushed_now}
 
 pub index_mut-requires : goal.index_mut-requires
 index_mut-requires c =
@@ -43,7 +44,7 @@ loop-namespace-preserved c =
     (λ q. c.in_ok-insert-in-None-get.ensures.updates.0 q
     ∙ (λ j. cond (is_at (option_cmp path_cmp (c.in_ok-name-in-None-get.ensures j)) q) (Some (len j))
     (lookup (is_at (option_cmp path_cmp q)) c.loop-namespace.places.entries)))
-    (pushed_as opened _ _ _ _ c.in_ok-push-in-None-get.ensures.items
+    (pushed_now opened _ _ _ _ c.in_ok-push-in-None-get.ensures.items
     (ap (λ (l : List (Annotated Namespace)). (c.in-Some.namespace, c.in-Some.namespace ∷ l)) c.new.ensures.items))
 
 pub returns : goal.returns

@@ -1,5 +1,5 @@
 use Rattle.std.proofs.Common.{ap, ◌∙◌, Some}
-use Rattle.schema_convert_errors.proofs.Advice.{advice_characters}
+use Rattle.schema_syntax_errors.proofs.Helps.{advice_characters}
 use Rattle.schema_convert_errors.proofs.parse_help.parse_error_help.Goals as goal
 
 pub returns-in_ok-from_str-in-Some : goal.returns-in_ok-from_str-in-Some

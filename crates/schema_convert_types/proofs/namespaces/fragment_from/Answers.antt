@@ -1,4 +1,5 @@
-use Rattle.schema_convert_types.proofs.Definitions.{names_order, entries_made}
+use Rattle.schema_json.proofs.Namespaces.{names_order}
+use Rattle.schema_convert_types.proofs.Definitions.{entries_made}
 use Rattle.schema_convert_types.proofs.namespaces.fragment_from.Goals as goal
 
 pub returns : goal.returns

@@ -1,6 +1,6 @@
 use Rattle.std.proofs.Common.{◌≡◌, ap, get_or, rules, arith}
+use Rattle.cedar_data.proofs.Sizes.{most_at}
 use Rattle.schema_json.specs.declared.types.TypeOfAttribute.{size-TypeOfAttribute}
-use Rattle.schema_json.proofs.Sizes.{most_at}
 use Rattle.schema_json.proofs.types.+clone_in.Goals as goal
 
 pub clone_attributes-clone_in-requires-in-loop-name :

@@ -2,9 +2,10 @@ use Rattle.std.proofs.Common.{rules, arith, List, ℕ, ◌≡◌, ap, get_or, ap
 use Rattle.std.proofs.lemmas.List.{map-append}
 use Rattle.std.specs.Map.{values_of}
 use denote.Param.Weighed.{most}
+use Rattle.cedar_data.proofs.Sizes.{most_at}
 use Rattle.schema_json.specs.declared.types.Type.{size-Type}
-use Rattle.schema_json.specs.declared.types.TypeOfAttribute.{TypeOfAttribute, size-TypeOfAttribute, size_is-TypeOfAttribute}
-use Rattle.schema_json.proofs.Sizes.{most_at}
+use Rattle.schema_json.specs.declared.types.TypeOfAttribute.{TypeOfAttribute, size-TypeOfAttribute}
+use Rattle.schema_json.specs.declared.types.TypeOfAttribute.{size_is-TypeOfAttribute}
 use Rattle.schema_json.proofs.Depths.{variant_below, element_below, entries_in_variant}
 use Rattle.schema_json.proofs.Walks.{entries_step, variant_record, variant_common}
 use Rattle.schema_json.proofs.walk.+gather.Goals as goal

@@ -3,12 +3,12 @@ use Rattle.serde_json.specs.Data.{depth}
 use Rattle.serde_json.specs.Read.{max_depth}
 use Rattle.serde_json.specs.Written.{compact_text}
 use Rattle.cedar_identifiers.specs.declared.raw_name.RawName.{RawName}
-use Rattle.schema_convert_types.specs.Declarations.{as_written}
 use Rattle.schema_json.specs.declared.fragment.Fragment.{Fragment}
+use Rattle.schema_json.specs.AsWritten.{as_written}
+use Rattle.schema_json_values.specs.FragmentValues.{json_value}
 use Rattle.schema_json_io.specs.Texts.{Holds}
 use Rattle.schema_json_laws.proofs.OneReading.{said_or_refused}
 use Rattle.schema_json_laws.proofs.Written.{text_holds}
-use Rattle.schema_json_values.specs.FragmentValues.{json_value}
 use Rattle.schema_says.specs.BareFragments.{bare_fragment}
 use Rattle.schema_json_back.proofs.Reading.{text_said, text_alone}
 use Rattle.schema_json_back.proofs.Types.{components}

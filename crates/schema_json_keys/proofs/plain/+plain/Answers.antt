@@ -14,7 +14,7 @@ use Rattle.serde_json.specs.Find.{get_member}
 use Rattle.serde_json.specs.View.{view, members_view}
 use Rattle.serde_json.specs.declared.value.Value.{String, Bool, Null, the_lemmas}
 use Rattle.serde_json.proofs.Views.{view-Array, view-Object, members_view-insert_entry}
-use Rattle.schema_json_keys.specs.Plain.{IsPlain, ArePlainItems, ArePlainMembers}
+use Rattle.schema_json_keys.specs.Plain.{IsPlainValue, ArePlainItems, ArePlainMembers}
 use Rattle.schema_json_keys.proofs.Plainly.{plain_string, plain_boolean, plain_null, plain_array, plain_object}
 use Rattle.schema_json_keys.proofs.Plainly.{no_more_items, one_item, no_more_members, one_member, items_before}
 use Rattle.schema_json_keys.proofs.Plainly.{items_before-no_items, items_before-append, one_more_key, not_had}
@@ -27,7 +27,7 @@ read_value-returns-in_ok-from_str-in-String-clause-plain t c =
     let is : c.args.reader.now ≡ Token.string c.in-String.text.now ∷ c.next.new.self = grind (arith, first) in
     let seen : view (String c.in_ok-from_str-in-String.field-0) ≡ string c.in-String.text.now = search
     (rules, the_lemmas) in
-    subst (λ d. IsPlain (value c.args.depth c.args.reader.now) d c.next.new.self) (sym seen)
+    subst (λ d. IsPlainValue (value c.args.depth c.args.reader.now) d c.next.new.self) (sym seen)
     (plain_string c.args.depth c.in-String.text.now c.args.reader.now c.next.new.self is)
 
 pub read_value-returns-in-Bool-clause-plain : goal.read_value-returns-in-Bool-clause-plain
@@ -35,7 +35,7 @@ read_value-returns-in-Bool-clause-plain t c =
     let first : c.args.reader.now ≡ token_of c.in_ok-token.token ∷ c.next.new.self = grind arith in
     let is : c.args.reader.now ≡ Token.boolean c.in-Bool.b ∷ c.next.new.self = grind (arith, first) in
     let seen : view (Bool c.in-Bool.b) ≡ boolean c.in-Bool.b = search (rules, the_lemmas) in
-    subst (λ d. IsPlain (value c.args.depth c.args.reader.now) d c.next.new.self) (sym seen)
+    subst (λ d. IsPlainValue (value c.args.depth c.args.reader.now) d c.next.new.self) (sym seen)
     (plain_boolean c.args.depth c.in-Bool.b c.args.reader.now c.next.new.self is)
 
 pub read_value-returns-in-Null-clause-plain : goal.read_value-returns-in-Null-clause-plain
@@ -43,7 +43,7 @@ read_value-returns-in-Null-clause-plain t c =
     let first : c.args.reader.now ≡ token_of c.in_ok-token.token ∷ c.next.new.self = grind arith in
     let is : c.args.reader.now ≡ Token.null ∷ c.next.new.self = grind (arith, first) in
     let seen : view Null ≡ null = search (rules, the_lemmas) in
-    subst (λ d. IsPlain (value c.args.depth c.args.reader.now) d c.next.new.self) (sym seen)
+    subst (λ d. IsPlainValue (value c.args.depth c.args.reader.now) d c.next.new.self) (sym seen)
     (plain_null c.args.depth c.args.reader.now c.next.new.self is)
 
 pub read_value-returns-in_ok-read_items-in-BeginArray-clause-plain :
@@ -52,7 +52,7 @@ read_value-returns-in_ok-read_items-in-BeginArray-clause-plain t c =
     let first : c.args.reader.now ≡ token_of c.in_ok-token.token ∷ c.next.new.self = grind arith in
     let is : c.args.reader.now ≡ Token.begin_array ∷ c.next.new.self = grind (arith, first) in
     let found = c.in_ok-read_items-in-BeginArray in
-    subst (λ d. IsPlain (value c.args.depth c.args.reader.now) d c.read_items.new.reader)
+    subst (λ d. IsPlainValue (value c.args.depth c.args.reader.now) d c.read_items.new.reader)
     (sym (view-Array found.field-0))
     (plain_array c.args.depth c.args.reader.now c.next.new.self _ c.read_items.new.reader (omega arith) is
     found.ensures.plain)
@@ -63,7 +63,7 @@ read_value-returns-in_ok-read_members-in-BeginObject-clause-plain t c =
     let first : c.args.reader.now ≡ token_of c.in_ok-token.token ∷ c.next.new.self = grind arith in
     let is : c.args.reader.now ≡ Token.begin_object ∷ c.next.new.self = grind (arith, first) in
     let found = c.in_ok-read_members-in-BeginObject in
-    subst (λ d. IsPlain (value c.args.depth c.args.reader.now) d c.read_members.new.reader)
+    subst (λ d. IsPlainValue (value c.args.depth c.args.reader.now) d c.read_members.new.reader)
     (sym (view-Object found.field-0))
     (plain_object c.args.depth c.args.reader.now c.next.new.self _ c.read_members.new.reader (omega arith) is
     found.ensures.plain)
@@ -89,7 +89,7 @@ read_items-items-preserved t c =
     let v = c.in_ok-item.item in
     let r = c.read_value.new.reader in
     let less : length r < length l.reader = rw (← going.1) done.shorter in
-    let here : IsPlain (p l.reader) (view v) r = subst (λ ts. IsPlain (p ts) (view v) r) going.1 done.plain in
+    let here : IsPlainValue (p l.reader) (view v) r = subst (λ ts. IsPlainValue (p ts) (view v) r) going.1 done.plain in
     record {
       turns = n - 1;
       enough = omega (arith, l.invariant.enough);

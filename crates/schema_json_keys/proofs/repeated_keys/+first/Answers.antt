@@ -162,7 +162,8 @@ first_in_rising-returns-in-Some t c =
     let xs = c.deref-member-items.result.now in
     let m = c.member-item.result in
     let among : list_any (bytes_eq m.0.now) (names (take l.member-index xs)) ≡ false = none_before xs l.member-index m
-    (subst (λ ys. IsStrictlySortedBy order (names ys)) (sym c.deref-member-items.ensures.value) c.requires) (omega arith)
+    (subst (λ ys. IsStrictlySortedBy order (names ys)) (sym c.deref-member-items.ensures.value) c.requires)
+    (omega arith)
     c.member-item.is in
     let here : Some c.in-Some.name.now
     ≡ first_again (keys_of (value_view m.1)) = sym (ap (option_map (λ (s : Name). s.now)) c.in-Some.is)
@@ -179,7 +180,8 @@ first_in_rising-loop-member-preserved t c =
     let xs = c.deref-member-items.result.now in
     let m = c.member-item.result in
     let among : list_any (bytes_eq m.0.now) (names (take l.member-index xs)) ≡ false = none_before xs l.member-index m
-    (subst (λ ys. IsStrictlySortedBy order (names ys)) (sym c.deref-member-items.ensures.value) c.requires) (omega arith)
+    (subst (λ ys. IsStrictlySortedBy order (names ys)) (sym c.deref-member-items.ensures.value) c.requires)
+    (omega arith)
     c.member-item.is in
     let here : None ≡ first_again (keys_of (value_view m.1)) = sym
     (ap (option_map (λ (s : Name). s.now)) c.in_default.is) ∙ c.in_ok-name.ensures in

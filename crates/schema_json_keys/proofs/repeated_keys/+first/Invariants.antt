@@ -39,7 +39,8 @@ decreases-first_in_few l = length (members_tokens (members_view l.members.now.it
 
 abbrev pub invariant-first_in_few-loop-at : goal.invariant-first_in_few-loop-at
 invariant-first_in_few-loop-at l =
-    first_again (members_keys (map (λ m. m.0.now) (take l.at l.members.items)) (members_view (drop l.at l.members.items)))
+    first_again (members_keys (map (λ m. m.0.now) (take l.at l.members.items))
+    (members_view (drop l.at l.members.items)))
     ≡ first_again (members_keys [] (members_view l.members.items))
 
 abbrev pub decreases-first_in_rising : goal.decreases-first_in_rising

@@ -4,7 +4,7 @@ use Rattle.serde_json.specs.View.{items_view}
 use Rattle.schema_json_shapes.specs.Walk.{action_id, AllMet, item_demands}
 use Rattle.schema_json_shapes.specs.Said.{AreItems}
 use Rattle.schema_json_shapes.specs.Shapes.{IsActionId}
-use Rattle.schema_json_shapes.specs.Reads.{IsFault}
+use Rattle.schema_json_shapes.specs.Reads.{IsDemandFault}
 use Rattle.schema_json_shapes.proofs.Demands.{refused}
 use Rattle.schema_json_shapes.proofs.Ahead.{all_items_left, item_fails, item_passes, no_items_left, no_item_found}
 use Rattle.schema_json_shapes.proofs.Ahead.{item_found, all_items_found}
@@ -36,7 +36,7 @@ returns-in_err-parent c =
     let fault = item_fails action_id (codes "memberOf") vs c.loop-item.item-index c.item-item.result (items_view vs) e
     c.loop-item-test.true c.item-item.is c.loop-item.invariant.left c.in_err-parent.ensures in
     refused c.from_residual.result e _ _ c.from_residual.ensures.1
-    (subst (λ ys. IsFault (item_demands action_id (codes "memberOf") (items_view ys)) e)
+    (subst (λ ys. IsDemandFault (item_demands action_id (codes "memberOf") (items_view ys)) e)
     c.deref-item-items.ensures.value fault)
 
 pub returns : goal.returns
@@ -48,5 +48,6 @@ returns c =
           (no_items_left action_id (codes "memberOf") vs l.item-index (items_view vs) c.loop-item-test.false
           l.invariant.left),
       subst (λ ys. AreItems IsActionId (items_view ys) l.parents) c.deref-item-items.ensures.value
-          (all_items_found IsActionId vs l.item-index (items_view vs) l.parents c.loop-item-test.false l.invariant.found),
+          (all_items_found IsActionId vs l.item-index
+          (items_view vs) l.parents c.loop-item-test.false l.invariant.found),
     )

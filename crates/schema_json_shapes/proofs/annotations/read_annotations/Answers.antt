@@ -1,9 +1,10 @@
 use Rattle.std.proofs.Common.{refl, sym, subst}
 use Rattle.std.specs.Prelude.{codes}
 use Rattle.serde_json.specs.View.{view}
+use Rattle.schema_json.specs.Orders.{annotation_key_cmp}
 use Rattle.schema_json_shapes.specs.Walk.{annotation, annotations, demands, key_demands, AllMet}
-use Rattle.schema_json_shapes.specs.Said.{IsMap, IsAnyId, IsAnnotation, annotation_order}
-use Rattle.schema_json_shapes.specs.Reads.{IsFault}
+use Rattle.schema_json_shapes.specs.Said.{IsMap, IsAnyId, IsAnnotation}
+use Rattle.schema_json_shapes.specs.Reads.{IsDemandFault}
 use Rattle.schema_json_shapes.proofs.Demands.{refused}
 use Rattle.schema_json_shapes.proofs.Objects.{OfEntries, each_asked, entries_asked}
 use Rattle.schema_json_shapes.proofs.annotations.read_annotations.Goals as goal
@@ -20,11 +21,11 @@ returns-in_err-notes c =
     let d = view c.args.value.now in
     let e = c.in_err-notes.field-0.0 in
     refused c.from_residual.result e (demands annotations (codes "annotations") d) _ c.from_residual.ensures.1
-    (subst (λ ds. IsFault ds e) (entries_asked annotations (codes "annotations") of_entries d) c.in_err-notes.ensures)
+    (subst (λ ds. IsDemandFault ds e) (entries_asked annotations (codes "annotations") of_entries d) c.in_err-notes.ensures)
 
 pub returns : goal.returns
 returns c =
     let d = view c.args.value.now in (
       subst AllMet (entries_asked annotations (codes "annotations") of_entries d) c.in_ok-notes.ensures.0,
-      subst (IsMap annotation_order IsAnyId IsAnnotation d) (sym c.in_ok-from_map.ensures) c.in_ok-notes.ensures.1,
+      subst (IsMap annotation_key_cmp IsAnyId IsAnnotation d) (sym c.in_ok-from_map.ensures) c.in_ok-notes.ensures.1,
     )

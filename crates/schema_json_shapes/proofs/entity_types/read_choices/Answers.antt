@@ -1,12 +1,12 @@
 use Rattle.std.proofs.Common.{refl, subst, rules}
 use Rattle.std.specs.Prelude.{codes}
 use Rattle.serde_json.specs.View.{view, items_view}
+use Rattle.cedar_identifiers.specs.declared.eid.Eid.{Eid}
 use Rattle.schema_json_shapes.specs.Walk.{text, AllMet, item_demands}
 use Rattle.schema_json_shapes.specs.Said.{IsChoice, AreItems}
-use Rattle.schema_json_shapes.specs.Reads.{IsFault}
+use Rattle.schema_json_shapes.specs.Reads.{IsDemandFault}
 use Rattle.schema_json_shapes.proofs.Demands.{refused}
 use Rattle.schema_json_shapes.proofs.EntityKinds.{choice_says}
-use Rattle.cedar_identifiers.specs.declared.eid.Eid.{Eid}
 use Rattle.schema_json_shapes.proofs.Ahead.{all_items_left, item_fails, item_passes, no_items_left, no_item_found}
 use Rattle.schema_json_shapes.proofs.Ahead.{item_found, all_items_found}
 use Rattle.schema_json_shapes.proofs.entity_types.read_choices.Goals as goal
@@ -37,7 +37,7 @@ returns-in_err-text c =
     let fault = item_fails text (codes "enum") vs c.loop-item.item-index c.item-item.result (items_view vs) e
     c.loop-item-test.true c.item-item.is c.loop-item.invariant.left c.in_err-text.ensures in
     refused c.from_residual.result e _ _ c.from_residual.ensures.1
-    (subst (λ ys. IsFault (item_demands text (codes "enum") (items_view ys)) e) c.deref-item-items.ensures.value fault)
+    (subst (λ ys. IsDemandFault (item_demands text (codes "enum") (items_view ys)) e) c.deref-item-items.ensures.value fault)
 
 pub returns : goal.returns
 returns c =

@@ -1,10 +1,11 @@
 use Rattle.std.proofs.Common.{[], refl, subst}
 use Rattle.serde_json.specs.View.{view}
+use Rattle.schema_json.proofs.Namespaces.{names_order}
 use Rattle.schema_json_shapes.specs.Walk.{fragment, namespace, demands, key_demands, AllMet}
 use Rattle.schema_json_shapes.specs.Shapes.{IsNamespace}
-use Rattle.schema_json_shapes.specs.Reads.{IsFault}
+use Rattle.schema_json_shapes.specs.Reads.{IsDemandFault}
 use Rattle.schema_json_shapes.proofs.Demands.{refused}
-use Rattle.schema_json_shapes.proofs.NamespaceOrder.{names_order, map_ordered}
+use Rattle.schema_json_shapes.proofs.NamespaceOrder.{map_ordered}
 use Rattle.schema_json_shapes.proofs.Objects.{OfEntries, each_asked, entries_asked}
 use Rattle.schema_json_shapes.proofs.fragments.read_fragment.Goals as goal
 
@@ -20,7 +21,7 @@ returns-in_err-namespaces c =
     let d = view c.args.value.now in
     let e = c.in_err-namespaces.field-0.0 in
     refused c.from_residual.result e (demands fragment [] d) _ c.from_residual.ensures.1
-    (subst (λ ds. IsFault ds e) (entries_asked fragment [] of_entries d) c.in_err-namespaces.ensures)
+    (subst (λ ds. IsDemandFault ds e) (entries_asked fragment [] of_entries d) c.in_err-namespaces.ensures)
 
 pub returns : goal.returns
 returns c =

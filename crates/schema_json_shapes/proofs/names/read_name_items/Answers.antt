@@ -2,7 +2,7 @@ use Rattle.std.proofs.Common.{subst}
 use Rattle.serde_json.specs.View.{items_view}
 use Rattle.schema_json_shapes.specs.Walk.{named, AllMet, item_demands}
 use Rattle.schema_json_shapes.specs.Said.{IsNamed, AreItems}
-use Rattle.schema_json_shapes.specs.Reads.{IsFault}
+use Rattle.schema_json_shapes.specs.Reads.{IsDemandFault}
 use Rattle.schema_json_shapes.specs.declared.name_role.NameRole.TheVariants as role
 use Rattle.schema_json_shapes.proofs.Demands.{refused}
 use Rattle.schema_json_shapes.proofs.Ahead.{all_items_left, item_fails, item_passes, no_items_left, no_item_found}
@@ -34,7 +34,7 @@ returns-in_err-name c =
     let fault = item_fails (named role.Name) c.args.label.now vs c.loop-item.item-index c.item-item.result
     (items_view vs) e c.loop-item-test.true c.item-item.is c.loop-item.invariant.left c.in_err-name.ensures in
     refused c.from_residual.result e _ _ c.from_residual.ensures.1
-    (subst (λ ys. IsFault (item_demands (named role.Name) c.args.label.now (items_view ys)) e)
+    (subst (λ ys. IsDemandFault (item_demands (named role.Name) c.args.label.now (items_view ys)) e)
     c.deref-item-items.ensures.value fault)
 
 pub returns : goal.returns

@@ -11,7 +11,7 @@ use Rattle.schema_json_shapes.specs.declared.words.TypeSite.TheVariants as site
 use Rattle.schema_json_shapes.specs.Walk.{AllMet, typed, attributes, demands, key_demands}
 use Rattle.schema_json_shapes.specs.Said.{HasWord, SaysTyped, string_type, long_type, boolean_type}
 use Rattle.schema_json_shapes.specs.Inner.{HasInner, inner_demands}
-use Rattle.schema_json_shapes.specs.Reads.{IsFault, field_demands}
+use Rattle.schema_json_shapes.specs.Reads.{IsDemandFault, field_demands}
 use Rattle.schema_json_shapes.proofs.Demands.{both_met, fails, passes, refused}
 use Rattle.schema_json_shapes.proofs.Order.{Rises-view}
 use Rattle.schema_json_shapes.proofs.Objects.{no_object, an_object, reads_object}
@@ -75,7 +75,7 @@ read_object-returns-in_err-is_open t c =
     c.in_ok-text.ensures.1 own in
     let e = c.in_err-is_open.field-0.0 in
     refused c.from_residual-in_err-is_open.result e _ _ c.from_residual-in_err-is_open.ensures.1
-    (subst (λ ds. IsFault ds e) (sym whole) (passes _ _ e own (fails _ _ e c.in_err-is_open.ensures)))
+    (subst (λ ds. IsDemandFault ds e) (sym whole) (passes _ _ e own (fails _ _ e c.in_err-is_open.ensures)))
 
 pub read_object-returns-in_err-annotations : goal.read_object-returns-in_err-annotations
 read_object-returns-in_err-annotations t c =
@@ -86,7 +86,7 @@ read_object-returns-in_err-annotations t c =
     c.in_ok-text.ensures.1 own in
     let e = c.in_err-annotations.field-0.0 in
     refused c.from_residual-in_err-annotations.result e _ _ c.from_residual-in_err-annotations.ensures.1
-    (subst (λ ds. IsFault ds e) (sym whole)
+    (subst (λ ds. IsDemandFault ds e) (sym whole)
     (passes _ _ e own (passes _ _ e c.in_ok-is_open.ensures.0 (fails _ _ e c.in_err-annotations.ensures))))
 
 pub read_object-returns-in_err-shape : goal.read_object-returns-in_err-shape
@@ -98,10 +98,10 @@ read_object-returns-in_err-shape t c =
     c.in_ok-text.ensures.1 own in
     let e = c.in_err-shape.field-0.0 in
     refused c.from_residual-in_err-shape.result e _ _ c.from_residual-in_err-shape.ensures.1
-    (subst (λ ds. IsFault ds e) (sym whole)
+    (subst (λ ds. IsDemandFault ds e) (sym whole)
     (passes _ _ e own (passes _ _ e c.in_ok-is_open.ensures.0
     (passes _ _ e c.in_ok-annotations.ensures.0
-    (fails _ _ e (subst (λ w. IsFault (inner_demands w ms) e) c.word_of-word.ensures c.in_err-shape.ensures))))))
+    (fails _ _ e (subst (λ w. IsDemandFault (inner_demands w ms) e) c.word_of-word.ensures c.in_err-shape.ensures))))))
 
 pub read_object-returns-in_err-required : goal.read_object-returns-in_err-required
 read_object-returns-in_err-required t c =
@@ -113,7 +113,7 @@ read_object-returns-in_err-required t c =
     let shape = subst (λ w. AllMet (inner_demands w ms)) c.word_of-word.ensures c.in_ok-shape.ensures.0 in
     let e = c.in_err-required.field-0.0 in
     refused c.from_residual-in_err-required.result e _ _ c.from_residual-in_err-required.ensures.1
-    (subst (λ ds. IsFault ds e) (sym whole)
+    (subst (λ ds. IsDemandFault ds e) (sym whole)
     (passes _ _ e own (passes _ _ e c.in_ok-is_open.ensures.0
     (passes _ _ e c.in_ok-annotations.ensures.0 (passes _ _ e shape (fails _ _ e c.in_err-required.ensures))))))
 
@@ -129,11 +129,11 @@ read_object-returns-in_err-ty t c =
     c.in_ok-shape.ensures.1 in
     let e = c.in_err-ty.field-0.0 in
     refused c.from_residual-in_err-ty.result e _ _ c.from_residual-in_err-ty.ensures.1
-    (subst (λ ds. IsFault ds e) (sym whole)
+    (subst (λ ds. IsDemandFault ds e) (sym whole)
     (passes _ _ e own (passes _ _ e c.in_ok-is_open.ensures.0
     (passes _ _ e c.in_ok-annotations.ensures.0
     (passes _ _ e shape (passes _ _ e c.in_ok-required.ensures.0
-    (fails _ _ e (subst (λ ds. IsFault ds e) same c.in_err-ty.ensures))))))))
+    (fails _ _ e (subst (λ ds. IsDemandFault ds e) same c.in_err-ty.ensures))))))))
 
 pub read_object-returns : goal.read_object-returns
 read_object-returns t c =
@@ -255,7 +255,7 @@ read_attribute_entries-returns-in_err-typed t c =
     let d = view c.in-Some.value.now in
     let all = members_view c.args.members.now.entries in
     let e = c.in_err-typed.field-0.0 in
-    let fault = subst (λ n. IsFault (demands (typed site.Attribute) n d) e) c.as_str.ensures.value
+    let fault = subst (λ n. IsDemandFault (demands (typed site.Attribute) n d) e) c.as_str.ensures.value
     c.in_err-typed.ensures in
     refused c.from_residual-in_err-typed.result e _ _ c.from_residual-in_err-typed.ensures.1
     (first_fails (key_demands attributes) (λ k. typed site.Attribute) key d (members_view left) all e
@@ -297,5 +297,6 @@ read_attribute_entries-returns t c =
           (subst (λ es. Left (key_demands attributes) (λ k. typed site.Attribute) (members_view es) all)
           c.in-None.ensures.steps.0 l.invariant.left),
       all_attributes_found all l.entries.items
-          (subst (λ es. FoundAttributes (members_view es) all l.entries.items) c.in-None.ensures.steps.0 l.invariant.found),
+          (subst (λ es. FoundAttributes
+          (members_view es) all l.entries.items) c.in-None.ensures.steps.0 l.invariant.found),
     )

@@ -2,7 +2,7 @@ use Rattle.std.proofs.Common.{ap, ◌∙◌, map, sym}
 use Rattle.std.proofs.lemmas.List.{take_all}
 use Rattle.std.proofs.lemmas.Result.{IfOk-weaker}
 use Rattle.schema_json_values.specs.FragmentValues.{namespace_value, namespace_entry}
-use Rattle.schema_json_text.specs.Members.{in_order}
+use Rattle.schema_json_text.specs.Members.{members_in_order}
 use Rattle.schema_json_text.specs.Places.{placed_entry}
 use Rattle.schema_json_text.proofs.Placing.{seen_more, put_by_text}
 use Rattle.schema_json_text.proofs.fragments.by_text.Goals as goal
@@ -24,5 +24,5 @@ returns g c =
     IfOk-weaker c.from_entries.result _ _
     (λ placed is. put_by_text (λ n. namespace_value names n.now) c.loop-name.placed.items
     (map (namespace_entry names) es) whole
-    ∙ ap (λ ps. in_order (map (λ p. placed_entry names p.0 p.1.now) ps)) (sym is))
+    ∙ ap (λ ps. members_in_order (map (λ p. placed_entry names p.0 p.1.now) ps)) (sym is))
     c.from_entries.ensures.entries

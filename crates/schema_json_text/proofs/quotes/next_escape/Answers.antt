@@ -2,7 +2,7 @@ use Rattle.std.proofs.Common.{◌≡◌, get_or, false, subst, arith}
 use Rattle.std.proofs.lemmas.List.{take_all}
 use Rattle.std.proofs.lemmas.List.Elements.{All-more}
 use Rattle.json.specs.Run.{is_stop}
-use Rattle.schema_json_text.specs.Escapes.{NoneEscaped}
+use Rattle.schema_json_text.specs.Escapes.{NoneJsonEscaped}
 use Rattle.schema_json_text.proofs.quotes.next_escape.Goals as goal
 
 pub loop-at-preserved : goal.loop-at-preserved
@@ -11,4 +11,4 @@ loop-at-preserved c =
     All-more (λ b. is_stop b ≡ false) c.args.rest.now c.loop-at.at 0 c.loop-at-test.true c.loop-at.invariant plain
 
 pub returns : goal.returns
-returns c = subst (λ t. NoneEscaped t) (take_all c.loop-at.at c.args.rest.now (omega arith)) c.loop-at.invariant
+returns c = subst (λ t. NoneJsonEscaped t) (take_all c.loop-at.at c.args.rest.now (omega arith)) c.loop-at.invariant

@@ -1,6 +1,6 @@
 use Rattle.std.proofs.Common.{take}
-use Rattle.schema_json_text.specs.Escapes.{NoneEscaped}
+use Rattle.schema_json_text.specs.Escapes.{NoneJsonEscaped}
 use Rattle.schema_json_text.proofs.quotes.next_escape.Given as goal
 
 abbrev pub invariant-loop-at : goal.invariant-loop-at
-invariant-loop-at l = NoneEscaped (take l.at l.rest)
+invariant-loop-at l = NoneJsonEscaped (take l.at l.rest)

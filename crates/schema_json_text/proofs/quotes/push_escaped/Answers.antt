@@ -2,14 +2,14 @@ use Rattle.std.proofs.Common.{◌≡◌, ◌++◌, take, drop, sym, ap, ◌∙�
 use Rattle.std.specs.Str.{IsUtf8}
 use Rattle.std.proofs.lemmas.Result.{on_ok_weaker}
 use Rattle.json.specs.Print.{escape}
-use Rattle.schema_json_text.specs.Escapes.{NoneEscaped, IsNextEscape}
+use Rattle.schema_json_text.specs.Escapes.{NoneJsonEscaped, IsNextJsonEscape}
 use Rattle.schema_json_text.proofs.Escaping.{escape_plain, boundary_after_escaped}
 use Rattle.schema_json_text.proofs.Escaping.{text_after_escape, left_to_escape}
 use Rattle.schema_json_text.proofs.quotes.push_escaped.Goals as goal
 use Rattle.schema_json_text.proofs.quotes.push_escaped.Goals.{In_ok-push}
 
-found : (c : In_ok-push) → IsNextEscape c.loop-at.rest.now c.in-Some.at c.in-Some.escape.now
-found c = subst (λ t. IsNextEscape t c.in-Some.at c.in-Some.escape.now) c.as_bytes.ensures.value c.in-Some.ensures
+found : (c : In_ok-push) → IsNextJsonEscape c.loop-at.rest.now c.in-Some.at c.in-Some.escape.now
+found c = subst (λ t. IsNextJsonEscape t c.in-Some.at c.in-Some.escape.now) c.as_bytes.ensures.value c.in-Some.ensures
 
 pub split_at-requires-in-Some : goal.split_at-requires-in-Some
 split_at-requires-in-Some c =
@@ -40,7 +40,7 @@ loop-at-preserved c =
 pub returns : goal.returns
 returns c =
     let rest = c.loop-at.rest.now in
-    let none : NoneEscaped rest = subst (λ t. NoneEscaped t) c.as_bytes.ensures.value c.in_default.ensures in
+    let none : NoneJsonEscaped rest = subst (λ t. NoneJsonEscaped t) c.as_bytes.ensures.value c.in_default.ensures in
     on_ok_weaker c.push-2.result
     (λ ok. ok ∙ ap (λ t. string_bytes c.loop-at.out ++ t) (sym (escape_plain rest none)) ∙ c.loop-at.invariant.1)
     c.push-2.ensures

@@ -5,15 +5,16 @@ use Rattle.std.specs.Str.{encode_utf8_all}
 use Rattle.std.proofs.lemmas.Result.{on_ok_weaker}
 use Rattle.serde_json.specs.Data.{object, string, put}
 use Rattle.serde_json.specs.Written.{compact_text, members_text}
+use Rattle.cedar_data.proofs.Sizes.{most_at}
 use Rattle.schema_json.specs.declared.types.TypeOfAttribute.{size-TypeOfAttribute}
 use Rattle.schema_json.specs.declared.types.TypeOfAttribute.{size_is-TypeOfAttribute}
 use Rattle.schema_json.specs.declared.types.RecordType.{out-RecordType}
 use Rattle.schema_json_values.specs.TypeValues.{attribute_entry, type_members, variant_members, with_word, object_of}
 use Rattle.schema_json_values.specs.TypeValues.{with_flag, with_annotations}
-use Rattle.schema_json_values.proofs.Layers.{most_at, attribute_out, type_variant, type_common, variant_set}
+use Rattle.schema_json_values.proofs.Layers.{attribute_out, type_variant, type_common, variant_set}
 use Rattle.schema_json_values.proofs.Layers.{variant_record, variant_string, variant_long, variant_boolean}
 use Rattle.schema_json_values.proofs.Layers.{variant_entity, variant_either, variant_extension}
-use Rattle.schema_json_text.specs.Members.{in_order}
+use Rattle.schema_json_text.specs.Members.{members_in_order}
 use Rattle.schema_json_text.proofs.Words.{attributes_in_order}
 use Rattle.schema_json_text.proofs.Loops.{opened, entry_step, entries_end}
 use Rattle.schema_json_text.proofs.TypeTexts.{element_written, record_written, end_entity, end_either}
@@ -101,7 +102,7 @@ push_attributes-loop-name-preserved g t c =
     let it = c.loop-name-item.result in
     let key = string_bytes c.push_key.new.out in
     entry_step (attribute_entry names) es c.loop-name.name-index it c.loop-name.later (string_bytes c.loop-name.out)
-    (string_bytes c.args.out.now ++ 123 ∷ members_text false (in_order (map (attribute_entry names) es)))
+    (string_bytes c.args.out.now ++ 123 ∷ members_text false (members_in_order (map (attribute_entry names) es)))
     c.as_str.result.now key (string_bytes c.push_annotated.new.out) c.loop-name-test.true c.loop-name-item.is
     c.as_str.ensures.bytes c.in_ok-push_key.ensures
     (c.in_ok-push_annotated.ensures ∙ ap (λ ms. key ++ compact_text (object ms)) (sym (attribute_out N names it.1)))
@@ -114,7 +115,7 @@ push_attributes-returns g t c =
     let old = string_bytes c.args.out.now in
     on_ok_weaker c.push_char-2.result
     (λ e. entries_end (attribute_entry names) es c.loop-name.name-index c.loop-name.later
-    (string_bytes c.loop-name.out) (old ++ 123 ∷ members_text false (in_order (map (attribute_entry names) es)))
+    (string_bytes c.loop-name.out) (old ++ 123 ∷ members_text false (members_in_order (map (attribute_entry names) es)))
     (string_bytes c.push_char-2.new.out) c.loop-name-test.false e c.loop-name.invariant
     ∙ ap (λ ms. old ++ compact_text (object ms)) (sym (attributes_in_order names es c.requires)))
     c.push_char-2.ensures

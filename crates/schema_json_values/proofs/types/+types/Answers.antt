@@ -6,6 +6,7 @@ use Rattle.serde_json.specs.View.{members_view}
 use Rattle.serde_json.proofs.Views.{view-Object}
 use Rattle.std.specs.Map.{values_of}
 use denote.Param.Weighed.{most}
+use Rattle.cedar_data.proofs.Sizes.{most_at}
 use Rattle.schema_json.specs.declared.types.Type.{size-Type}
 use Rattle.schema_json.specs.declared.types.TypeOfAttribute.{TypeOfAttribute}
 use Rattle.schema_json.specs.declared.types.TypeOfAttribute.{out-TypeOfAttribute, size-TypeOfAttribute}
@@ -14,7 +15,7 @@ use Rattle.schema_json.specs.declared.types.RecordType.{out-RecordType}
 use Rattle.schema_json.proofs.Depths.{variant_below, element_below, entries_in_variant}
 use Rattle.schema_json_values.specs.TypeValues.{put_all, attribute_entry, type_members, variant_members, with_word}
 use Rattle.schema_json_values.specs.TypeValues.{with_flag, with_annotations}
-use Rattle.schema_json_values.proofs.Layers.{most_at, put_step, attribute_out, type_variant, type_common}
+use Rattle.schema_json_values.proofs.Layers.{put_step, attribute_out, type_variant, type_common}
 use Rattle.schema_json_values.proofs.Layers.{variant_record, variant_string, variant_long, variant_boolean}
 use Rattle.schema_json_values.proofs.types.+types.Goals as goal
 

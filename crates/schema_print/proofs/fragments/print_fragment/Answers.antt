@@ -1,12 +1,12 @@
 use Rattle.std.proofs.Common.{codes, map, true, false, ap, sym, ◌∙◌, ◌++◌, List, Option}
 use Rattle.std.specs.Str.{encode_utf8_all}
+use Rattle.std.proofs.lemmas.List.{at_drop_all}
+use Rattle.cedar_data.specs.Rows.{row_behind}
+use Rattle.schema_syntax_tokens.specs.Laid.{laid}
 use Rattle.cedar_identifiers.specs.declared.name.Name.{Name}
 use Rattle.schema_json.specs.declared.fragment.NamespaceDefinition.{NamespaceDefinition}
-use Rattle.std.proofs.lemmas.List.{at_drop_all}
-use Rattle.schema_syntax_tokens.specs.Laid.{laid}
 use Rattle.schema_print_text.specs.Growing.{then, begun, round, adds_all}
 use Rattle.schema_print.specs.PrintedFragments.{block_pieces}
-use Rattle.schema_print.specs.RowsOfTexts.{row_behind}
 use Rattle.schema_print.proofs.Rows.{row_step, joined_row}
 use Rattle.schema_print.proofs.fragments.print_fragment.Goals as goal
 

@@ -1,9 +1,9 @@
 use Rattle.std.proofs.Common.{codes, map, true}
 use Rattle.std.proofs.lemmas.List.{at_drop_all}
+use Rattle.cedar_data.specs.Rows.{row_behind}
 use Rattle.schema_syntax_tokens.specs.Laid.{laid}
 use Rattle.schema_print_text.specs.Growing.{then, so, begun, round, adds_all}
 use Rattle.schema_print.specs.PrintedFragments.{action_pieces, action_body_pieces}
-use Rattle.schema_print.specs.RowsOfTexts.{row_behind}
 use Rattle.schema_print.proofs.Rows.{row_step}
 use Rattle.schema_print.proofs.Spelled.{action_laid}
 use Rattle.schema_print.proofs.items.push_actions.Goals as goal

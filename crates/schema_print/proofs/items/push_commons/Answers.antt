@@ -1,10 +1,10 @@
 use Rattle.std.proofs.Common.{codes, map, true, ap, ◌∙◌}
 use Rattle.std.proofs.lemmas.List.{at_drop_all}
+use Rattle.cedar_data.specs.Rows.{row_behind}
 use Rattle.schema_syntax_tokens.specs.Laid.{laid}
 use Rattle.schema_print_text.specs.Growing.{then, so, begun, round, adds_all}
 use Rattle.schema_print_text.specs.PrintedTypes.{printed_type}
 use Rattle.schema_print.specs.PrintedFragments.{common_type_pieces}
-use Rattle.schema_print.specs.RowsOfTexts.{row_behind}
 use Rattle.schema_print.proofs.Rows.{row_step}
 use Rattle.schema_print.proofs.Spelled.{common_laid}
 use Rattle.schema_print.proofs.items.push_commons.Goals as goal

@@ -1,9 +1,9 @@
 use Rattle.std.proofs.Common.{codes, map, true, ap, not, ◌||◌, ◌∙◌, false, length, ◌==◌}
 use Rattle.std.proofs.lemmas.Result.{on_ok_weaker}
+use Rattle.cedar_data.specs.Rows.{row_behind}
 use Rattle.schema_syntax_tokens.specs.Laid.{laid}
 use Rattle.schema_print_text.specs.Growing.{then, so}
 use Rattle.schema_print.specs.PrintedFragments.{common_type_pieces, entity_pieces, action_pieces}
-use Rattle.schema_print.specs.RowsOfTexts.{row_behind}
 use Rattle.schema_print.proofs.Rows.{items_row}
 use Rattle.schema_print.proofs.items.push_items.Goals as goal
 
@@ -28,4 +28,5 @@ returns g c =
     (items_row (common_type_pieces names true base) (entity_pieces names true base) (action_pieces names true base)
     n.common_types n.entity_types n.actions b f
     (ap not (c.is_empty-begun.ensures ∙ ap (λ t. length t == 0) c.as_slice-commons.ensures.entries))
-    (ap (λ t. b || not t) (c.is_empty.ensures ∙ ap (λ t. length t == 0) c.as_slice-entity_types.ensures.entries)))) c.push_actions.ensures
+    (ap (λ t. b || not t)
+    (c.is_empty.ensures ∙ ap (λ t. length t == 0) c.as_slice-entity_types.ensures.entries)))) c.push_actions.ensures

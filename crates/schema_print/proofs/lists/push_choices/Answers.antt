@@ -2,12 +2,12 @@ use Rattle.std.proofs.Common.{List, codes, map, false, true, ap, sym, ◌∙◌,
 use Rattle.std.proofs.lemmas.List.{append-nil}
 use Rattle.std.proofs.lemmas.Result.{on_ok_weaker}
 use Rattle.cedar_data.specs.NonEmpty.{items_left}
-use Rattle.cedar_identifiers.specs.declared.eid.Eid.{Eid}
+use Rattle.cedar_data.specs.Rows.{separator_where, row_behind}
 use Rattle.schema_syntax_tokens.specs.Laid.{laid}
 use Rattle.schema_syntax_tokens.specs.Quotes.{quoted}
+use Rattle.cedar_identifiers.specs.declared.eid.Eid.{Eid}
 use Rattle.schema_readback.specs.PrintedDecls.{string_pieces}
 use Rattle.schema_print_text.specs.Growing.{then, so, round, adds_all}
-use Rattle.schema_print.specs.RowsOfTexts.{between, row_behind}
 use Rattle.schema_print.proofs.Rows.{begun_as, brackets_made}
 use Rattle.schema_print.proofs.lists.push_choices.Goals as goal
 
@@ -25,7 +25,8 @@ loop-choice-preserved c =
     let later = row_behind (codes ", ") true (map (λ x. laid (string_pieces x.0)) (items_left c.next.new.self)) in
     round (then c.in_ok-push_between.ensures (so c.in_ok-push_string.ensures (sym (append-nil (quoted d.0)))))
     c.loop-choice.invariant
-    (ap row c.in-Some.ensures.steps ∙ sym (append_assoc (between (codes ", ") b) (laid (string_pieces d.0)) later))
+    (ap row c.in-Some.ensures.steps
+    ∙ sym (append_assoc (separator_where (codes ", ") b) (laid (string_pieces d.0)) later))
 
 pub returns : goal.returns
 returns c =

@@ -1,6 +1,6 @@
 use Rattle.std.proofs.Common.{Bool, not, ◌&&◌, ap, sym, ◌∙◌}
 use Rattle.cedar_identifiers.specs.Words.{is_id, is_reserved}
-use Rattle.schema_print_text.proofs.Bytes.{id_by_bytes}
+use Rattle.cedar_identifiers.proofs.Ids.{id_by_bytes}
 use Rattle.schema_print_text.proofs.notes.is_bare.Goals as goal
 
 pub returns-then-is_word : goal.returns-then-is_word

@@ -1,21 +1,21 @@
 use Rattle.std.proofs.Common.{rules, arith, ◌≡◌, ap, sym, ◌∙◌, get_or, codes, refl, true}
 use Rattle.std.proofs.lemmas.List.{at_drop_all}
 use Rattle.std.proofs.lemmas.Result.{on_ok_weaker}
+use Rattle.cedar_data.proofs.Sizes.{most_at}
+use Rattle.schema_syntax_tokens.specs.Laid.{laid}
 use Rattle.schema_json.specs.declared.types.TypeOfAttribute.{size-TypeOfAttribute, size_is-TypeOfAttribute}
 use Rattle.schema_json.specs.declared.types.TypeVariant.TheVariants.{Set, Record, Entity, EntityOrCommon, Extension}
 use Rattle.schema_json.specs.declared.types.TypeVariant.TheVariants.{String, Long, Boolean}
-use Rattle.schema_syntax_tokens.specs.Laid.{laid}
+use Rattle.schema_json.specs.declared.types.RecordType.{out-RecordType}
 use Rattle.schema_readback.specs.Printed.{lines_pieces, type_pieces}
 use Rattle.schema_readback.specs.Written.{path, set, rec}
 use Rattle.schema_readback.specs.Meant.{under_cedar}
-use Rattle.schema_json.specs.declared.types.RecordType.{out-RecordType}
 use Rattle.schema_print_text.specs.Growing.{then, so, begun, round, adds_all}
 use Rattle.schema_print_text.specs.PrintedTypes.{printed_name, printed_type, printed_type_text, printed_entries}
 use Rattle.schema_print_text.proofs.Layers.{variant_shown, common_shown, shown, variant_set, variant_record}
 use Rattle.schema_print_text.proofs.Layers.{variant_entity, variant_either, variant_extension, variant_string}
 use Rattle.schema_print_text.proofs.Layers.{variant_long, variant_boolean}
 use Rattle.schema_print_text.proofs.Laying.{set_laid, extension_laid, record_filled, entry_step}
-use Rattle.schema_print_text.proofs.Sizes.{most_at}
 use Rattle.schema_print_text.proofs.types.+push_type.Goals as goal
 
 pub push_type-returns-in-Variant : goal.push_type-returns-in-Variant
@@ -59,7 +59,8 @@ push_variant-returns-in_ok-push_type-in-Set g t c =
     (then (so c.in_ok-push_type-in-Set.ensures (ap (λ it. printed_type_text names c.args.base it) c.get.ensures))
     e))
     (shown g.row.N.Denot names c.args.base c.args.ty.now (Set element) (set (printed_type names element)) _
-    c.in-Set.is (variant_set g.row.N.Denot names element) (sym (set_laid c.args.base (printed_type names element))))) c.push-in-Set-2.ensures
+    c.in-Set.is (variant_set g.row.N.Denot names element)
+    (sym (set_laid c.args.base (printed_type names element))))) c.push-in-Set-2.ensures
 
 pub push_variant-returns-in-Record : goal.push_variant-returns-in-Record
 push_variant-returns-in-Record g t c =

@@ -12,7 +12,9 @@ loop-id-preserved g c =
     record {
       out = c.in_ok-push.ensures.items
           ∙ (λ k. c.loop-id.invariant.out k ++ (c.in_ok-id.ensures k, c.in_ok-item.ensures.out k) ∷ [])
-          ∙ sym (map_more (on_value (g.T.Renamed.output (g.R.Renamer.becomes c.args.renamer.now) (g.R.Renamer.action_becomes c.args.renamer.now))) es i it
+          ∙ sym (map_more (on_value
+          (g.T.Renamed.output (g.R.Renamer.becomes c.args.renamer.now)
+          (g.R.Renamer.action_becomes c.args.renamer.now))) es i it
           c.loop-id-test.true c.loop-id-item.is);
       defined = each_more (λ e. g.T.Renamed.undefined (g.R.Renamer.untargeted c.args.renamer.now) e.1) es i it
           c.loop-id-test.true c.loop-id-item.is c.loop-id.invariant.defined c.in_ok-item.ensures.defined;
@@ -34,11 +36,13 @@ pub from_sorted_vec-requires : goal.from_sorted_vec-requires
 from_sorted_vec-requires g c =
     let es = c.as_slice-id-items.result.now in
     let all = c.loop-id.invariant.out
-    ∙ map_all (on_value (g.T.Renamed.output (g.R.Renamer.becomes c.args.renamer.now) (g.R.Renamer.action_becomes c.args.renamer.now))) es c.loop-id.id-index
+    ∙ map_all (on_value (g.T.Renamed.output (g.R.Renamer.becomes c.args.renamer.now)
+    (g.R.Renamer.action_becomes c.args.renamer.now))) es c.loop-id.id-index
     c.loop-id-test.false in
     rw (
       all,
-      keys_on_values (g.T.Renamed.output (g.R.Renamer.becomes c.args.renamer.now) (g.R.Renamer.action_becomes c.args.renamer.now)) es,
+      keys_on_values (g.T.Renamed.output (g.R.Renamer.becomes c.args.renamer.now)
+          (g.R.Renamer.action_becomes c.args.renamer.now)) es,
       c.as_slice-id-items.ensures.entries,
     ) c.as_slice-id-items.ensures.sorted
 
@@ -46,8 +50,11 @@ pub returns-clause-out : goal.returns-clause-out
 returns-clause-out g c =
     let es = c.as_slice-id-items.result.now in
     c.from_sorted_vec.ensures ∙ c.loop-id.invariant.out
-    ∙ map_all (on_value (g.T.Renamed.output (g.R.Renamer.becomes c.args.renamer.now) (g.R.Renamer.action_becomes c.args.renamer.now))) es c.loop-id.id-index
-    c.loop-id-test.false ∙ ap (map (on_value (g.T.Renamed.output (g.R.Renamer.becomes c.args.renamer.now) (g.R.Renamer.action_becomes c.args.renamer.now))))
+    ∙ map_all (on_value (g.T.Renamed.output (g.R.Renamer.becomes c.args.renamer.now)
+    (g.R.Renamer.action_becomes c.args.renamer.now))) es c.loop-id.id-index
+    c.loop-id-test.false ∙ ap
+    (map (on_value (g.T.Renamed.output (g.R.Renamer.becomes c.args.renamer.now)
+    (g.R.Renamer.action_becomes c.args.renamer.now))))
     c.as_slice-id-items.ensures.entries
 
 pub returns-clause-defined : goal.returns-clause-defined

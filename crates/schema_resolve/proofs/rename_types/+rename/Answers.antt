@@ -1,19 +1,19 @@
 use Rattle.std.proofs.Common.{◌≡◌, ◌∷◌, List, ℕ, ◌++◌, [], ap, sym, ◌∙◌, get_or, rules, arith}
+use Rattle.std.specs.Map.{values_of}
+use denote.Param.Weighed.{most}
 use Rattle.cedar_data.specs.Entries.{on_value, keys_on_values}
+use Rattle.cedar_data.proofs.Sizes.{most_at}
 use Rattle.schema_json.specs.declared.types.TypeOfAttribute.{size-TypeOfAttribute}
-use Rattle.schema_json.proofs.Sizes.{most_at}
 use Rattle.schema_json.proofs.Depths.{variant_below, element_below, record_below, entries_below, type_below}
 use Rattle.schema_json.specs.declared.types.Type.{size-Type}
 use Rattle.schema_json.specs.declared.types.TypeOfAttribute.{TypeOfAttribute}
-use Rattle.std.specs.Map.{values_of}
-use denote.Param.Weighed.{most}
 use Rattle.schema_json.specs.declared.types.Type.TheVariants.{Variant}
 use Rattle.schema_json.specs.declared.types.TypeVariant.TheVariants.{Record}
+use Rattle.schema_json_walk.specs.Walk.{of_attribute, of_record, of_entries}
+use Rattle.schema_json_walk.proofs.Layers.{variant_walked}
 use Rattle.schema_resolve.specs.ReferenceParts.{by_reference}
 use Rattle.schema_resolve.specs.Renamed.{renamed_attribute}
-use Rattle.schema_json_walk.specs.Walk.{of_attribute, of_record, of_entries}
 use Rattle.schema_resolve.proofs.Lists.{each_more, each_first, map_more, refused}
-use Rattle.schema_json_walk.proofs.Layers.{variant_walked}
 use Rattle.schema_resolve.proofs.Equations.{record_renamed, record_renamed_at}
 use Rattle.schema_resolve.proofs.Told.{record_told}
 use Rattle.schema_resolve.proofs.rename_types.+rename.Goals as goal

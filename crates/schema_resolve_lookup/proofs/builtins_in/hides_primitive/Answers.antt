@@ -1,7 +1,7 @@
 use Rattle.std.proofs.Common.{refl, ap, ◌∙◌, ◌∷◌, [], codes}
 use Rattle.std.specs.List.{list_any}
-use Rattle.cedar_identifiers.specs.Words.{is_id}
 use Rattle.cedar_data.proofs.Ascii.{chars-from_test}
+use Rattle.cedar_identifiers.specs.Words.{is_id}
 use Rattle.schema_resolve_definitions.specs.Declarations.{declared}
 use Rattle.schema_resolve_definitions.specs.Defined.{is_hidden}
 use Rattle.schema_resolve_definitions.specs.Tests.{tests_of}
@@ -22,4 +22,5 @@ returns c =
     let long = c.in_ok-long.ensures ∙ chars-from_test (codes "Long") refl in
     let string = c.in_ok-string.ensures ∙ chars-from_test (codes "String") refl in
     c.is_one_hidden.ensures
-    ∙ (λ i. list_any (is_hidden (tests_of (declared c.args.searched.now.fragment.now))) (bool i ∷ long i ∷ string i ∷ []))
+    ∙ (λ i. list_any (is_hidden (tests_of (declared c.args.searched.now.fragment.now)))
+    (bool i ∷ long i ∷ string i ∷ []))

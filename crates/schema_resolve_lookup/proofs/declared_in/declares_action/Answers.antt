@@ -15,7 +15,8 @@ returns-in-Some c =
     let found = c.namespace_of.ensures _
     ∙ ap (λ n. passes (option_copied n) (λ n. list_any (λ e. bytes_eq (encode_utf8_all id) (encode_utf8_all e.0))
     n.actions)) c.in-Some.is in
-    c.has_action.ensures ∙ sym (actions_given c.args.searched.now.fragment.now words word id ∙ (λ i. named i && found i))
+    c.has_action.ensures ∙ sym
+    (actions_given c.args.searched.now.fragment.now words word id ∙ (λ i. named i && found i))
 
 pub returns-in-None : goal.returns-in-None
 returns-in-None c =

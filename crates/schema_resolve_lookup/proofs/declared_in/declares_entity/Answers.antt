@@ -10,11 +10,13 @@ pub returns-in-Some : goal.returns-in-Some
 returns-in-Some c =
     let word = c.args.sought.last.now.text in
     c.has_entity.ensures
-    ∙ sym (entities_given c.args.searched.now.fragment.now (words_before c.args.sought.namespace) word ∙ c.namespace_of.ensures _
+    ∙ sym (entities_given c.args.searched.now.fragment.now (words_before c.args.sought.namespace) word
+    ∙ c.namespace_of.ensures _
     ∙ ap (λ n. passes (option_copied n) (λ n. list_any (λ e. bytes_eq word e.0.id.text) n.entity_types)) c.in-Some.is)
 
 pub returns-in-None : goal.returns-in-None
 returns-in-None c =
     let word = c.args.sought.last.now.text in
-    sym (entities_given c.args.searched.now.fragment.now (words_before c.args.sought.namespace) word ∙ c.namespace_of.ensures _
+    sym (entities_given c.args.searched.now.fragment.now (words_before c.args.sought.namespace) word
+    ∙ c.namespace_of.ensures _
     ∙ ap (λ n. passes (option_copied n) (λ n. list_any (λ e. bytes_eq word e.0.id.text) n.entity_types)) c.in-None.is)

@@ -3,7 +3,8 @@ use Rattle.std.proofs.lemmas.Fn.{always_returns_same}
 use Rattle.std.specs.List.{list_any}
 use Rattle.std.specs.Str.{bytes_eq, encode_utf8_all}
 use Rattle.cedar_data.specs.Text.{text_cmp}
-use Rattle.schema_resolve_lookup.proofs.Ordered.{texts_total, text_alike, sorted_seen}
+use Rattle.cedar_data.proofs.Orders.{text_total}
+use Rattle.schema_resolve_lookup.proofs.Ordered.{text_alike, sorted_seen}
 use Rattle.schema_resolve_lookup.proofs.Searched.{found_any}
 use Rattle.schema_resolve_lookup.proofs.declared_in.has_action.Goals as goal
 
@@ -12,7 +13,7 @@ returns c =
     let id = c.args.id.now in
     let entries = c.as_slice-entries.result.now in
     c.is_ok.ensures.value
-    ∙ (found_any texts_total (λ e. e.0) id (λ e. bytes_eq (encode_utf8_all id) (encode_utf8_all e.0))
+    ∙ (found_any text_total (λ e. e.0) id (λ e. bytes_eq (encode_utf8_all id) (encode_utf8_all e.0))
     (λ e. text_alike e.0 id) entries
     (sorted_seen _ text_cmp (λ k. k) (λ a b. refl) c.args.actions.now entries
     c.as_slice-entries.ensures.entries c.as_slice-entries.ensures.sorted) c.binary_search_by.result

@@ -4,7 +4,7 @@ use Rattle.std.specs.Cmp.Lexicographic.{slice_cmp}
 use Rattle.std.specs.List.{list_any}
 use Rattle.std.specs.Option.{is_some, option_copied}
 use Rattle.cedar_names.specs.Definitions.{same_name}
-use Rattle.cedar_names.specs.Orders.{ids_in_order, ids_total}
+use Rattle.cedar_names.specs.Orders.{id_text_order, ids_total}
 use Rattle.schema_resolve_lookup.specs.Sought.{words_before, namespace_words, ids_before, namespace_ids}
 use Rattle.schema_resolve_lookup.specs.Sought.{passes_in, passes}
 use Rattle.schema_resolve_lookup.specs.declared.sought.Before.{Before}
@@ -19,10 +19,10 @@ returns-in-Ok c = λ test.
     ∙ found_at ids_total (λ e. namespace_ids e.0) (ids_before c.args.sought)
     (λ e. same_name words (namespace_words e.0)) (λ e. namespace_alike c.args.sought e.0) (λ e. test e.1)
     c.as_slice-entries.result.now
-    (sorted_seen _ (slice_cmp ids_in_order) namespace_ids (by_words _ refl (λ n. refl) (λ n. refl) (λ n m. refl))
+    (sorted_seen _ (slice_cmp id_text_order) namespace_ids (by_words _ refl (λ n. refl) (λ n. refl) (λ n m. refl))
     c.args.searched.now.fragment.now.0 c.as_slice-entries.result.now c.as_slice-entries.ensures.entries
     c.as_slice-entries.ensures.sorted) c.in-Ok.at c.index-entries-at.result c.in-Ok.ensures.bound
-    (c.in-Ok.ensures.position (λ e. slice_cmp ids_in_order (namespace_ids e.0) (ids_before c.args.sought))
+    (c.in-Ok.ensures.position (λ e. slice_cmp id_text_order (namespace_ids e.0) (ids_before c.args.sought))
     (always_returns_same _ _ _ (λ a r f' k. search rules)) c.index-entries-at.result)
 
 no_words : (sought : Option Before) → is_some sought ≡ false → words_before sought ≡ []
@@ -42,8 +42,8 @@ returns-in-Err c = λ test.
     ∙ found_none ids_total (λ e. namespace_ids e.0) (ids_before c.args.sought)
     (λ e. same_name words (namespace_words e.0)) (λ e. namespace_alike c.args.sought e.0) (λ e. test e.1)
     c.as_slice-entries.result.now
-    (sorted_seen _ (slice_cmp ids_in_order) namespace_ids (by_words _ refl (λ n. refl) (λ n. refl) (λ n m. refl))
+    (sorted_seen _ (slice_cmp id_text_order) namespace_ids (by_words _ refl (λ n. refl) (λ n. refl) (λ n m. refl))
     c.args.searched.now.fragment.now.0 c.as_slice-entries.result.now c.as_slice-entries.ensures.entries
     c.as_slice-entries.ensures.sorted) c.in-Err.field-0
-    (c.in-Err.ensures.position (λ e. slice_cmp ids_in_order (namespace_ids e.0) (ids_before c.args.sought))
+    (c.in-Err.ensures.position (λ e. slice_cmp id_text_order (namespace_ids e.0) (ids_before c.args.sought))
     (always_returns_same _ _ _ (λ a r f' k. search rules)))

@@ -1,4 +1,4 @@
-use Rattle.schema_says.proofs.Lawful.{both_ways}
+use mathlib.Core.Logic.Iff.{trans as both_ways}
 use Rattle.schema_says.proofs.Sayable.{sayable_iff}
 use Rattle.schema_says.proofs.laws.faults_depend_on_what_is_said.Goals as goal
 

@@ -2,9 +2,10 @@ use Rattle.std.proofs.Common.{◌≡◌, ◌<◌, length, sym, ap, subst, arith}
 use Rattle.schema_syntax_grammar.specs.declared.token_kind.TheConstants.{ALL_KINDS}
 use Rattle.schema_syntax_grammar.specs.Grammar.{Sentence, Viable}
 use Rattle.schema_syntax_grammar.specs.Fault.{IsFault}
-use Rattle.schema_syntax.specs.SyntaxFaults.{IsTokenAt, IsEndOf, invalid_token}
+use Rattle.schema_syntax_grammar.proofs.Main.{sentence_viable}
 use Rattle.schema_syntax_tokens.specs.TokenLists.{kinds_of}
-use Rattle.schema_syntax.proofs.Found.{found_token, found_invalid, found_end, some_token, sentence_viable}
+use Rattle.schema_syntax.specs.SyntaxFaults.{IsTokenAt, IsEndOf, invalid_token}
+use Rattle.schema_syntax.proofs.Found.{found_token, found_invalid, found_end, some_token}
 use Rattle.schema_syntax.proofs.syntax_fault.sentence_of.Goals as goal
 
 pub returns-then-at-text : goal.returns-then-at-text

@@ -6,7 +6,8 @@ use Rattle.schema_syntax_grammar.proofs.expected.fault_of.Goals.{else-front-toke
 use Rattle.schema_syntax_grammar.proofs.expected.fault_of.Goals.{else-front-tokens-via-else-front-tokens}
 
 pub returns-then-may_end : goal.returns-then-may_end
-returns-then-may_end g c = whole_sentence _ _ _ (c.if-front-tokens.true ∙ sym (length-map _ _)) c.in_ok-front.ensures.stack
+returns-then-may_end g c = whole_sentence _ _ _
+    (c.if-front-tokens.true ∙ sym (length-map _ _)) c.in_ok-front.ensures.stack
     (sym c.may_end.ensures ∙ c.if-may_end.true)
 
 pub returns : goal.returns

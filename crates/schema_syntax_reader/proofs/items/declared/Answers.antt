@@ -49,5 +49,6 @@ returns c =
         notes,
       ),
       both_faultless c.args.text.now (annotations c.args.raw.annotations ∷ []) (decl_sites c.args.raw.decl) noted
-          (subst (λ p. Faultless c.args.text.now (decl_sites p.1)) c.into_parts-annotations.ensures c.in_ok-node.ensures.1),
+          (subst (λ p. Faultless c.args.text.now
+          (decl_sites p.1)) c.into_parts-annotations.ensures c.in_ok-node.ensures.1),
     )

@@ -16,7 +16,8 @@ read-requires g c κs = (
   (refl, tt),
   next_fits c.args.text.now g.P.Part.sites (g.P.Part.stands_for c.args.text.now) c.args.raws.items
       (into_iter_items c.loop-raw.raw-iterator) c.in-Some.raw (into_iter_items c.next.new.self)
-      c.in-Some.ensures.steps.0 c.loop-raw.items.items c.loop-raw.invariant.0 (g.P.Part.fits c.args.text.now) c.requires,
+      c.in-Some.ensures.steps.0 c.loop-raw.items.items c.loop-raw.invariant.0
+      (g.P.Part.fits c.args.text.now) c.requires,
 )
 
 pub returns-in_err-item : goal.returns-in_err-item

@@ -5,5 +5,6 @@ use Rattle.schema_syntax_reader.proofs.parts.each.Given as goal
 
 abbrev pub invariant-loop-raw : goal.invariant-loop-raw
 invariant-loop-raw g l =
-    ReadTo l.text g.P.Part.sites (g.P.Part.stands_for l.text) l.fn.raws.items (into_iter_items l.raw-iterator) l.items.items
+    ReadTo l.text g.P.Part.sites (g.P.Part.stands_for l.text) l.fn.raws.items
+    (into_iter_items l.raw-iterator) l.items.items
     × (vec_len l.items + length (into_iter_items l.raw-iterator) ≤ vec_capacity l.items)

@@ -43,4 +43,5 @@ returns-clause-free c =
     let t = c.args.token.now in
     let part : c.unwrap-part.result.now
     ≡ slice_range source t.loc.start t.loc.end = rw c.unwrap-part.ensures at c.token_text.ensures.value in
-    ap is_reserved (word_is_bytes source t c.requires ∙ sym part) ∙ (sym c.is_reserved_word.ensures ∙ c.if-is_reserved_word.false)
+    ap is_reserved (word_is_bytes source t c.requires ∙ sym part)
+    ∙ (sym c.is_reserved_word.ensures ∙ c.if-is_reserved_word.false)

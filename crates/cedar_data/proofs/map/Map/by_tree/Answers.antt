@@ -4,7 +4,8 @@ use Rattle.std.specs.Map.{lookup}
 use Rattle.std.specs.Option.{option_or}
 use Rattle.std.proofs.lemmas.List.{nil_from_length}
 use Rattle.cedar_data.specs.Maps.{with_entries, last_at}
-use Rattle.cedar_data.proofs.Made.{last_more, or_none}
+use Rattle.cedar_data.proofs.Made.{last_more}
+use Rattle.cedar_data.proofs.Options.{or_none}
 use Rattle.cedar_data.proofs.map.Map.by_tree.Goals as goal
 
 pub loop-key-init : goal.loop-key-init

@@ -15,7 +15,8 @@ loop-low-preserved-in-Less c =
           l.invariant.below (omega arith)
           (c.index-names-middle.is ∙ ap (λ ns. get_or ns (c.loop-low.low + (c.loop-low.high - c.loop-low.low) / 2)
           c.index-names-middle.result) c.as_slice-names.ensures.items)
-          (ap (λ t. slice_cmp nat_cmp t c.args.id.now) (sym c.as_str.ensures) ∙ sym c.compare_bytes.ensures ∙ c.in-Less.is);
+          (ap (λ t. slice_cmp nat_cmp t c.args.id.now) (sym c.as_str.ensures) ∙ sym c.compare_bytes.ensures
+          ∙ c.in-Less.is);
       above = l.invariant.above;
     }
 
@@ -31,7 +32,8 @@ loop-low-preserved c =
           (omega arith) (c.index-names-middle.is
           ∙ ap (λ ns. get_or ns (c.loop-low.low + (c.loop-low.high - c.loop-low.low) / 2) c.index-names-middle.result)
           c.as_slice-names.ensures.items)
-          (ap (λ t. slice_cmp nat_cmp t c.args.id.now) (sym c.as_str.ensures) ∙ sym c.compare_bytes.ensures ∙ c.in-Greater.is);
+          (ap (λ t. slice_cmp nat_cmp t c.args.id.now) (sym c.as_str.ensures) ∙ sym c.compare_bytes.ensures
+          ∙ c.in-Greater.is);
     }
 
 pub returns-in-Equal : goal.returns-in-Equal

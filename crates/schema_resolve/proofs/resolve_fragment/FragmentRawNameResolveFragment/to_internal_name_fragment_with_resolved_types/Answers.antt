@@ -10,7 +10,8 @@ returns-clause-out c =
     c.args.self.now)) (ap tests_of c.in_ok-defs.ensures) c.rename_fragment.ensures.out)
 
 pub returns-clause-defined : goal.returns-clause-defined
-returns-clause-defined c = rw (c.or_error.ensures, ← (ap tests_of c.in_ok-defs.ensures)) c.rename_fragment.ensures.defined
+returns-clause-defined c = rw
+    (c.or_error.ensures, ← (ap tests_of c.in_ok-defs.ensures)) c.rename_fragment.ensures.defined
 
 pub returns-clause-err : goal.returns-clause-err
 returns-clause-err c = rw (c.or_error.ensures, ← (ap tests_of c.in_ok-defs.ensures)) c.rename_fragment.ensures.err

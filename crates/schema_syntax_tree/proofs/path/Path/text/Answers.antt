@@ -1,6 +1,7 @@
 use Rattle.std.proofs.Common.{◌≡◌, ◌∷◌, ◌++◌, sym, ap, ◌∙◌, codes}
+use Rattle.cedar_identifiers.proofs.Joins.{separator_chars}
 use Rattle.schema_syntax_tree.specs.Paths.{ids_left}
-use Rattle.schema_syntax_tree.proofs.Joins.{begun, one_more, separator_chars}
+use Rattle.schema_syntax_tree.proofs.Joins.{begun, one_more}
 use Rattle.schema_syntax_tree.proofs.path.Path.text.Goals as goal
 
 pub loop-id-init : goal.loop-id-init
