@@ -1,4 +1,5 @@
 use Rattle.std.proofs.Common.{◌≡◌, map, drop, ap, ◌∙◌, arith}
+use Rattle.std.proofs.lemmas.Grind.{common_steps}
 use Rattle.schema_build_text.specs.Beside.{captured_before}
 use Rattle.schema_build_text.specs.Captured.{first_item}
 use Rattle.schema_build_text.specs.Items.{item_content}
@@ -12,3 +13,6 @@ returns c =
     λ s same. c.loop-left.invariant.2
     ∙ (ap (λ k. first_item (captured_before (map item_content (drop k items)))) none
     ∙ (ap (λ l. first_item (captured_before l)) same ∙ ap first_item (walk_captured s)))
+
+pub loop-left-preserved : goal.loop-left-preserved
+loop-left-preserved c = grind (arith, common_steps)

@@ -1,7 +1,7 @@
 use Rattle.std.proofs.Common.{◌≡◌, ◌∙◌, ◌++◌, ℕ, zero, suc, ◌+◌, List, [], ◌∷◌, flat_map, sym, ap, arith}
 use Rattle.std.proofs.Common.{append_assoc}
 use Rattle.std.specs.List.{range_with_len}
-use Rattle.std.proofs.lemmas.Grind.{flat_map-append}
+use Rattle.std.proofs.lemmas.Grind.{common_steps, flat_map-append}
 use Rattle.std.proofs.lemmas.List.{append-nil}
 use Rattle.schema_generate.specs.Generated.{entity_line, action_line, lines_of}
 use Rattle.schema_generate.proofs.Ascii.{generated_ascii}
@@ -33,3 +33,6 @@ loop-i-preserved c =
 
 pub returns-clause-ascii : goal.returns-clause-ascii
 returns-clause-ascii c = generated_ascii c.args.n c.requires.some c.requires.size
+
+pub returns-clause-text : goal.returns-clause-text
+returns-clause-text c = grind (arith, common_steps)
