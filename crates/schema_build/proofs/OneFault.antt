@@ -33,8 +33,8 @@ use Rattle.schema_resolve_definitions.specs.Tests.{Tests, tests_of}
 use Rattle.schema_resolve_errors.specs.ErrorTexts.{label_at, name_labels, type_texts, type_labels, action_texts}
 use Rattle.schema_resolve_errors.specs.ErrorTexts.{action_labels, unresolved_text, undeclared_text, written_components}
 use Rattle.schema_resolve_errors.specs.Gathered.{if_there}
-use Rattle.schema_resolve.specs.Gathered.{uids}
-use Rattle.schema_resolve.specs.Undefined.{Undefined}
+use Rattle.schema_resolve_targets.specs.Gathered.{uids}
+use Rattle.schema_resolve_targets.specs.Undefined.{Undefined}
 use Rattle.schema_build_errors.specs.DeclaredTexts.{hidden_text}
 use Rattle.schema_build_errors.specs.HierarchyTexts.{ancestor_message}
 use Rattle.schema_build_errors.specs.UseTexts.{declared_texts, undeclared_labels}

@@ -24,8 +24,8 @@ use Rattle.schema_json.specs.declared.fragment.Fragment.{Fragment}
 use Rattle.schema_resolve_definitions.specs.Declarations.{name_of, declared}
 use Rattle.schema_resolve_definitions.specs.Defined.{defined}
 use Rattle.schema_resolve_definitions.specs.Tests.{Tests, tests_of}
-use Rattle.schema_resolve.specs.Qualified.{type_in_namespace}
-use Rattle.schema_resolve.specs.Targets.{action_target, is_action}
+use Rattle.schema_resolve_targets.specs.Qualified.{type_in_namespace}
+use Rattle.schema_resolve_targets.specs.Targets.{action_target, is_action}
 use Rattle.schema_build_graph.specs.Paths.{Reaches}
 use Rattle.schema_build_graph.proofs.Paths.{reaches_through}
 use Rattle.schema_build_errors.specs.declared.schema_error.SchemaError.TheVariants as error

@@ -30,9 +30,9 @@ use Rattle.schema_says.specs.MeantNames.{IsSpelledType, AreSpelledTypes}
 use Rattle.schema_resolve_definitions.specs.Declarations.{declared}
 use Rattle.schema_resolve_definitions.specs.Defined.{defined}
 use Rattle.schema_resolve_definitions.specs.Tests.{tests_of}
-use Rattle.schema_resolve.specs.Meanings.{kind_there}
-use Rattle.schema_resolve.specs.Qualified.{in_namespace}
-use Rattle.schema_resolve.specs.Targets.{is_defined, target}
+use Rattle.schema_resolve_targets.specs.Meanings.{kind_there}
+use Rattle.schema_resolve_targets.specs.Qualified.{in_namespace}
+use Rattle.schema_resolve_targets.specs.Targets.{is_defined, target}
 use Rattle.schema_build_expand.specs.Expands.{Expands, by_layer, LayerExpands, to_bool, to_long, to_string, to_set}
 use Rattle.schema_build_expand.specs.Expands.{to_record, to_extension, to_entity, to_builtin, to_declared, ExpandAll}
 use Rattle.schema_build_expand.specs.Expands.{to_no_attributes, to_attribute}

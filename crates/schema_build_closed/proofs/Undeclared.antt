@@ -25,8 +25,8 @@ use Rattle.schema_json_walk.proofs.ByParts.{fragment_by_parts}
 use Rattle.schema_resolve_definitions.specs.Declarations.{name_of, declared}
 use Rattle.schema_resolve_definitions.specs.Defined.{defined}
 use Rattle.schema_resolve_definitions.specs.Tests.{Tests, tests_of}
-use Rattle.schema_resolve.specs.Qualified.{in_namespace}
-use Rattle.schema_resolve.specs.Targets.{target}
+use Rattle.schema_resolve_targets.specs.Qualified.{in_namespace}
+use Rattle.schema_resolve_targets.specs.Targets.{target}
 use Rattle.schema_build_errors.specs.declared.schema_error.SchemaError.TheVariants as error
 use Rattle.schema_build_checks.specs.Rows.{Never}
 use Rattle.schema_build_hierarchy.specs.FirstUses.{AreFirstUses}

@@ -17,12 +17,12 @@ use Rattle.schema_json_walk.proofs.ByParts.{fragment_by_parts}
 use Rattle.schema_resolve_definitions.specs.Declarations.{name_of}
 use Rattle.schema_resolve_definitions.specs.Defined.{defined}
 use Rattle.schema_resolve_definitions.specs.Tests.{Tests, tests_of}
-use Rattle.schema_resolve.specs.Qualified.{in_namespace}
-use Rattle.schema_resolve.specs.ReferenceParts.{by_reference}
-use Rattle.schema_resolve.specs.Resolved.{untargeted_in}
-use Rattle.schema_resolve.specs.Targets.{target, unless}
-use Rattle.schema_resolve.specs.Undefined.{Undefined, type_reference, types_among}
-use Rattle.schema_resolve.proofs.Gathering.{types_both}
+use Rattle.schema_resolve_targets.specs.Qualified.{in_namespace}
+use Rattle.schema_resolve_targets.specs.ReferenceParts.{by_reference}
+use Rattle.schema_resolve_targets.specs.Untargeted.{untargeted_in}
+use Rattle.schema_resolve_targets.specs.Targets.{target, unless}
+use Rattle.schema_resolve_targets.specs.Undefined.{Undefined, type_reference, types_among}
+use Rattle.schema_resolve_targets.proofs.Gathering.{types_both}
 use Rattle.schema_build_errors.specs.declared.schema_error.SchemaError.TheVariants as error
 use Rattle.schema_build_checks.specs.Rows.{Never}
 use Rattle.schema_build_scope.specs.UndefinedRows.{undefined_alone, HasUndefinedTypes}

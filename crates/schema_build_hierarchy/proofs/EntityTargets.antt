@@ -8,8 +8,8 @@ use Rattle.cedar_identifiers.specs.Names.{components_of}
 use Rattle.cedar_identifiers.specs.declared.internal_name.InternalName.{InternalName}
 use Rattle.cedar_identifiers.specs.declared.reference_type.ReferenceType.TheVariants.{Entity}
 use Rattle.schema_resolve_definitions.specs.Tests.{Tests}
-use Rattle.schema_resolve.specs.Tried.{own_kind}
-use Rattle.schema_resolve.proofs.Candidates.{own_found, plain_found, none_found}
+use Rattle.schema_resolve_targets.specs.Tried.{own_kind}
+use Rattle.schema_resolve_targets.proofs.Candidates.{own_found, plain_found, none_found}
 
 module _ (t : Tests) (ns : Option InternalName) (name : InternalName) where
   abbrev own : Option Bool

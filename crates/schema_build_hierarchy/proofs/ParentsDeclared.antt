@@ -32,8 +32,8 @@ use Rattle.schema_resolve_definitions.specs.Declarations.{name_of, declared, dec
 use Rattle.schema_resolve_definitions.specs.Declarations.{entities_in, actions_in, action_type}
 use Rattle.schema_resolve_definitions.specs.Defined.{defined}
 use Rattle.schema_resolve_definitions.specs.Tests.{Tests, tests_of}
-use Rattle.schema_resolve.specs.Qualified.{in_namespace, type_in_namespace}
-use Rattle.schema_resolve.specs.Targets.{target, action_target, is_action}
+use Rattle.schema_resolve_targets.specs.Qualified.{in_namespace, type_in_namespace}
+use Rattle.schema_resolve_targets.specs.Targets.{target, action_target, is_action}
 use Rattle.schema_build_hierarchy.specs.Ancestors.{AreParentsDeclared}
 use Rattle.schema_build_hierarchy.specs.Declarations.{entity_name, entity_in, entities_of, declared_entities}
 use Rattle.schema_build_hierarchy.specs.Declarations.{action_key, action_in, actions_of, declared_actions}

@@ -28,8 +28,8 @@ use Rattle.schema_json_walk.proofs.ByParts.{fragment_by_parts}
 use Rattle.schema_resolve_definitions.specs.Declarations.{name_of, declared, action_type, actions_in}
 use Rattle.schema_resolve_definitions.specs.Defined.{defined}
 use Rattle.schema_resolve_definitions.specs.Tests.{Tests, tests_of}
-use Rattle.schema_resolve.specs.Qualified.{in_namespace}
-use Rattle.schema_resolve.specs.Targets.{target}
+use Rattle.schema_resolve_targets.specs.Qualified.{in_namespace}
+use Rattle.schema_resolve_targets.specs.Targets.{target}
 use Rattle.schema_build_hierarchy.specs.FirstUses.{IsFirstUse, AreFirstUses}
 use Rattle.schema_build_hierarchy.specs.Rows.{undeclared_part, undeclared_uses}
 use Rattle.schema_build_hierarchy.proofs.ParentRanks.{filter_kept}

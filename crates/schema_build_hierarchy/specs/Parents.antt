@@ -14,8 +14,8 @@ use Rattle.schema_json.specs.declared.action_type.ActionEntityUID.{ActionEntityU
 use Rattle.schema_json.specs.declared.action_type.ActionType.{ActionType}
 use Rattle.schema_resolve_definitions.specs.Declarations.{name_of}
 use Rattle.schema_resolve_definitions.specs.Tests.{Tests}
-use Rattle.schema_resolve.specs.Qualified.{in_namespace, type_in_namespace}
-use Rattle.schema_resolve.specs.Targets.{target, action_target}
+use Rattle.schema_resolve_targets.specs.Qualified.{in_namespace, type_in_namespace}
+use Rattle.schema_resolve_targets.specs.Targets.{target, action_target}
 use Rattle.schema_build_checks.specs.DeclaredAt.{ActionAt}
 use Rattle.schema_build_hierarchy.specs.Declarations.{Declared, DeclaredEntity, entity_name, action_key}
 use Rattle.schema_build_hierarchy.specs.Ancestors.{IsParentAmong, IsAncestorAmong}

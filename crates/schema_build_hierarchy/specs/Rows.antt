@@ -19,8 +19,8 @@ use Rattle.schema_json_walk.specs.Parts.{Part, parent, principal, resource}
 use Rattle.schema_json_walk.specs.Walk.{of_fragment}
 use Rattle.schema_resolve_definitions.specs.Declarations.{name_of, declared}
 use Rattle.schema_resolve_definitions.specs.Tests.{Tests, tests_of}
-use Rattle.schema_resolve.specs.Qualified.{in_namespace}
-use Rattle.schema_resolve.specs.Targets.{target}
+use Rattle.schema_resolve_targets.specs.Qualified.{in_namespace}
+use Rattle.schema_resolve_targets.specs.Targets.{target}
 use Rattle.schema_build_errors.specs.declared.schema_error.SchemaError.{SchemaError}
 use Rattle.schema_build_errors.specs.declared.schema_error.SchemaError.TheVariants as error
 use Rattle.schema_build_checks.specs.DeclaredAt.{ActionAt, at_of, actions_at_in_order}

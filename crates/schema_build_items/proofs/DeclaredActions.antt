@@ -23,12 +23,12 @@ use Rattle.schema_json_walk.specs.Walk.{each_value, visit_where}
 use Rattle.schema_resolve_definitions.specs.Declarations.{name_of}
 use Rattle.schema_resolve_definitions.specs.Defined.{defined}
 use Rattle.schema_resolve_definitions.specs.Tests.{Tests, tests_of}
-use Rattle.schema_resolve.specs.Meanings.{means}
-use Rattle.schema_resolve.specs.Qualified.{in_namespace}
-use Rattle.schema_resolve.specs.ReferenceParts.{by_reference}
-use Rattle.schema_resolve.specs.Resolved.{untargeted_in}
-use Rattle.schema_resolve.specs.Targets.{target}
-use Rattle.schema_resolve.specs.Undefined.{Undefined}
+use Rattle.schema_resolve_targets.specs.Meanings.{means}
+use Rattle.schema_resolve_targets.specs.Qualified.{in_namespace}
+use Rattle.schema_resolve_targets.specs.ReferenceParts.{by_reference}
+use Rattle.schema_resolve_targets.specs.Untargeted.{untargeted_in}
+use Rattle.schema_resolve_targets.specs.Targets.{target}
+use Rattle.schema_resolve_targets.specs.Undefined.{Undefined}
 use Rattle.schema_build_types.specs.declared.types.Type.{«Type» as Built}
 use Rattle.schema_build_checks.specs.DeclaredAt.{ActionAt}
 use Rattle.schema_build_checks.specs.Rows.{Never}

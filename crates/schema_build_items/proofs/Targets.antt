@@ -15,8 +15,8 @@ use Rattle.cedar_identifiers.specs.declared.reference_type.ReferenceType.{Refere
 use Rattle.cedar_identifiers.specs.declared.reference_type.ReferenceType.TheVariants.{Common, Entity}
 use Rattle.cedar_names.specs.Orders.{names_in_order}
 use Rattle.schema_resolve_definitions.specs.Tests.{Tests}
-use Rattle.schema_resolve.specs.Qualified.{in_namespace}
-use Rattle.schema_resolve.specs.Targets.{target}
+use Rattle.schema_resolve_targets.specs.Qualified.{in_namespace}
+use Rattle.schema_resolve_targets.specs.Targets.{target}
 use Rattle.schema_build_expand.specs.Scope.{Scope}
 use Rattle.schema_build_expand.specs.Targets.{IsMeantTarget}
 use Rattle.schema_build_expand.specs.declared.meanings.Target.{Target}

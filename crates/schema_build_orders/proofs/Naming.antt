@@ -11,9 +11,9 @@ use Rattle.cedar_identifiers.specs.declared.reference_type.ReferenceType.{Refere
 use Rattle.schema_json.specs.Actions.{written_type}
 use Rattle.schema_resolve_definitions.specs.Declarations.{name_of}
 use Rattle.schema_resolve_definitions.specs.Tests.{Tests}
-use Rattle.schema_resolve.specs.Meanings.{kind_there}
-use Rattle.schema_resolve.specs.Qualified.{in_namespace, type_in_namespace}
-use Rattle.schema_resolve.specs.Targets.{is_defined, target, is_action, action_target}
+use Rattle.schema_resolve_targets.specs.Meanings.{kind_there}
+use Rattle.schema_resolve_targets.specs.Qualified.{in_namespace, type_in_namespace}
+use Rattle.schema_resolve_targets.specs.Targets.{is_defined, target, is_action, action_target}
 use Rattle.schema_says.specs.Bare.{bare_internal, bare_name}
 use Rattle.schema_build_scope.specs.FragmentScope.{by_components, meant_in}
 use Rattle.schema_build_hierarchy.specs.Parents.{target_in, action_target_in}

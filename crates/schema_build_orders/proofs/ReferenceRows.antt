@@ -27,13 +27,13 @@ use Rattle.schema_json_walk.specs.Walk.{of_fragment}
 use Rattle.schema_resolve_definitions.specs.Declarations.{name_of, declared}
 use Rattle.schema_resolve_definitions.specs.Defined.{defined}
 use Rattle.schema_resolve_definitions.specs.Tests.{Tests, tests_of}
-use Rattle.schema_resolve.specs.Gathered.{uids}
-use Rattle.schema_resolve.specs.Qualified.{in_namespace, type_in_namespace}
-use Rattle.schema_resolve.specs.ReferenceParts.{by_reference}
-use Rattle.schema_resolve.specs.Resolved.{untargeted_in, undefined}
-use Rattle.schema_resolve.specs.Targets.{target, action_target, unless}
-use Rattle.schema_resolve.specs.Undefined.{Undefined, types_among, actions_among}
-use Rattle.schema_resolve.specs.Undefined as undefined
+use Rattle.schema_resolve_targets.specs.Gathered.{uids}
+use Rattle.schema_resolve_targets.specs.Qualified.{in_namespace, type_in_namespace}
+use Rattle.schema_resolve_targets.specs.ReferenceParts.{by_reference}
+use Rattle.schema_resolve_targets.specs.Untargeted.{untargeted_in, undefined}
+use Rattle.schema_resolve_targets.specs.Targets.{target, action_target, unless}
+use Rattle.schema_resolve_targets.specs.Undefined.{Undefined, types_among, actions_among}
+use Rattle.schema_resolve_targets.specs.Undefined as undefined
 use Rattle.schema_build_errors.specs.declared.schema_error.SchemaError.TheVariants as error
 use Rattle.schema_build_scope.specs.UndefinedRows.{undefined_alone, HasUndefinedTypes, HasUndefinedActions}
 use Rattle.schema_build_hierarchy.specs.FirstUses.{IsFirstUse, AreFirstUses}

@@ -35,11 +35,11 @@ use Rattle.schema_json_walk.specs.Walk.{each_value, of_common, of_entity, of_act
 use Rattle.schema_resolve_definitions.specs.Declarations.{name_of, declared, action_type}
 use Rattle.schema_resolve_definitions.specs.Defined.{defined}
 use Rattle.schema_resolve_definitions.specs.Tests.{Tests, tests_of}
-use Rattle.schema_resolve.specs.Qualified.{in_namespace, type_in_namespace}
-use Rattle.schema_resolve.specs.ReferenceParts.{by_reference}
-use Rattle.schema_resolve.specs.Resolved.{untargeted_in, undefined}
-use Rattle.schema_resolve.specs.Targets.{target, action_target, unless}
-use Rattle.schema_resolve.specs.Undefined.{types_among, actions_among}
+use Rattle.schema_resolve_targets.specs.Qualified.{in_namespace, type_in_namespace}
+use Rattle.schema_resolve_targets.specs.ReferenceParts.{by_reference}
+use Rattle.schema_resolve_targets.specs.Untargeted.{untargeted_in, undefined}
+use Rattle.schema_resolve_targets.specs.Targets.{target, action_target, unless}
+use Rattle.schema_resolve_targets.specs.Undefined.{types_among, actions_among}
 use Rattle.schema_build_errors.specs.declared.schema_error.SchemaError.{SchemaError}
 use Rattle.schema_build_errors.specs.declared.schema_error.SchemaError.TheVariants as error
 use Rattle.schema_build_errors.specs.declared.shape_errors.ContextOrShape.{ContextOrShape}

@@ -34,9 +34,9 @@ use Rattle.schema_says.specs.MeantNames.{IsOpenName, IsActionName}
 use Rattle.schema_resolve_definitions.specs.Declarations.{name_of}
 use Rattle.schema_resolve_definitions.specs.Defined.{defined, builtins, is_hidden}
 use Rattle.schema_resolve_definitions.specs.Tests.{Tests, tests_of}
-use Rattle.schema_resolve.specs.Meanings.{kind_there}
-use Rattle.schema_resolve.specs.Qualified.{in_namespace, type_in_namespace}
-use Rattle.schema_resolve.specs.Targets.{target, action_target}
+use Rattle.schema_resolve_targets.specs.Meanings.{kind_there}
+use Rattle.schema_resolve_targets.specs.Qualified.{in_namespace, type_in_namespace}
+use Rattle.schema_resolve_targets.specs.Targets.{target, action_target}
 use Rattle.schema_build_types.specs.Standing.{as_built, attributes_as_built}
 use Rattle.schema_build_text.specs.Captured.{plain_action, holds_plain_action, some_hold}
 use Rattle.schema_build_expand.specs.Scope.{Scope, in_table, builtin}

@@ -13,9 +13,9 @@ use Rattle.cedar_identifiers.specs.declared.raw_name.RawName.{RawName}
 use Rattle.cedar_identifiers.specs.declared.reference_type.ReferenceType.{ReferenceType}
 use Rattle.cedar_identifiers.specs.declared.reference_type.ReferenceType.TheVariants.{Common, Entity, CommonOrEntity}
 use Rattle.schema_resolve_definitions.specs.Tests.{Tests}
-use Rattle.schema_resolve.specs.Meanings.{means, kind_there}
-use Rattle.schema_resolve.specs.Tried.{kind_found, own_kind, candidate}
-use Rattle.schema_resolve.proofs.Candidates.{behind_parts, either_told, own_found, plain_found, none_found}
+use Rattle.schema_resolve_targets.specs.Meanings.{means, kind_there}
+use Rattle.schema_resolve_targets.specs.Tried.{kind_found, own_kind, candidate}
+use Rattle.schema_resolve_targets.proofs.Candidates.{behind_parts, either_told, own_found, plain_found, none_found}
 use Rattle.schema_build_scope.specs.Meant.{kind_if, meant_candidate}
 
 -- the kind of what is found

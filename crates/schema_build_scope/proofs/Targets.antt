@@ -16,10 +16,10 @@ use Rattle.cedar_names.specs.declared.extension_table.ExtensionTable.{ExtensionT
 use Rattle.schema_json.specs.declared.fragment.Fragment.{Fragment}
 use Rattle.schema_resolve_definitions.specs.Defined.{defined}
 use Rattle.schema_resolve_definitions.specs.Tests.{Tests, tests_of}
-use Rattle.schema_resolve.specs.Meanings.{means, kind_there}
-use Rattle.schema_resolve.specs.Qualified.{in_namespace}
-use Rattle.schema_resolve.specs.Targets.{is_defined, target}
-use Rattle.schema_resolve.specs.Tried.{candidate}
+use Rattle.schema_resolve_targets.specs.Meanings.{means, kind_there}
+use Rattle.schema_resolve_targets.specs.Qualified.{in_namespace}
+use Rattle.schema_resolve_targets.specs.Targets.{is_defined, target}
+use Rattle.schema_resolve_targets.specs.Tried.{candidate}
 use Rattle.schema_build_expand.specs.Scope.{IsRanked}
 use Rattle.schema_build_expand.specs.Ranks.{IsRankOf}
 use Rattle.schema_build_expand.specs.Targets.{IsMeantTarget}

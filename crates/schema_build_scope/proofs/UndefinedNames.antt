@@ -3,8 +3,8 @@ use Rattle.std.proofs.Common.{◌≡◌, ℕ, ◌<◌, ◌≢◌, List, [], ◌�
 use Rattle.cedar_identifiers.specs.declared.conditional_name.ConditionalName.{ConditionalName}
 use Rattle.cedar_identifiers.specs.declared.name_text.NameText as named
 use Rattle.schema_json.specs.declared.action_type.ActionEntityUID.{ActionEntityUID}
-use Rattle.schema_resolve.specs.Gathered.{uids}
-use Rattle.schema_resolve.specs.Undefined.{Undefined, types_among, actions_among}
+use Rattle.schema_resolve_targets.specs.Gathered.{uids}
+use Rattle.schema_resolve_targets.specs.Undefined.{Undefined, types_among, actions_among}
 use Rattle.schema_build_errors.specs.declared.schema_error.SchemaError.TheVariants.{TypeNotDefined, ActionNotDefined}
 use Rattle.schema_build_checks.specs.Rows.{Never}
 use Rattle.schema_build_scope.specs.UndefinedRows.{NamesTypes, NamesActions}

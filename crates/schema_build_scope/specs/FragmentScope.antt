@@ -11,7 +11,7 @@ use Rattle.cedar_names.specs.declared.extension_table.ExtensionTable.{ExtensionT
 use Rattle.schema_json.specs.declared.fragment.Fragment.{Fragment}
 use Rattle.schema_resolve_definitions.specs.Defined.{defined}
 use Rattle.schema_resolve_definitions.specs.Tests.{Tests, tests_of}
-use Rattle.schema_resolve.specs.Meanings.{means}
+use Rattle.schema_resolve_targets.specs.Meanings.{means}
 use Rattle.schema_build_expand.specs.Scope.{Scope, DeclaredType}
 use Rattle.schema_build_scope.specs.Commons.{TypeAt, commons_in_order}
 

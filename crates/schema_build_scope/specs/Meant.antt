@@ -3,7 +3,7 @@ use Rattle.std.specs.Prelude.{Bool, Option, if◌then◌else◌}
 use Rattle.cedar_identifiers.specs.declared.internal_name.InternalName.{InternalName}
 use Rattle.cedar_identifiers.specs.declared.reference_type.ReferenceType.{ReferenceType}
 use Rattle.cedar_identifiers.specs.declared.reference_type.ReferenceType.TheVariants.{Common, Entity}
-use Rattle.schema_resolve.specs.Tried.{candidate}
+use Rattle.schema_resolve_targets.specs.Tried.{candidate}
 use Rattle.schema_build_scope.specs.declared.meant.Meant.{Meant}
 
 -- the kind of a name of which it is known whether it is a common type

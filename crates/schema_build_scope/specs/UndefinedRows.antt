@@ -6,9 +6,9 @@ use Rattle.cedar_names.specs.declared.extension_table.ExtensionTable.{ExtensionT
 use Rattle.schema_json.specs.declared.fragment.Fragment.{Fragment}
 use Rattle.schema_resolve_definitions.specs.Defined.{defined}
 use Rattle.schema_resolve_definitions.specs.Tests.{tests_of}
-use Rattle.schema_resolve.specs.Gathered.{uids}
-use Rattle.schema_resolve.specs.Resolved.{undefined}
-use Rattle.schema_resolve.specs.Undefined.{Undefined, types_among, actions_among}
+use Rattle.schema_resolve_targets.specs.Gathered.{uids}
+use Rattle.schema_resolve_targets.specs.Untargeted.{undefined}
+use Rattle.schema_resolve_targets.specs.Undefined.{Undefined, types_among, actions_among}
 use Rattle.schema_build_errors.specs.declared.schema_error.SchemaError.{SchemaError}
 use Rattle.schema_build_errors.specs.declared.schema_error.SchemaError.TheVariants.{TypeNotDefined, ActionNotDefined}
 

@@ -2,13 +2,13 @@ ghost use Rattle.std.specs.Prelude.{◌≡◌, Bool, Some, IsSome};
 ghost use Rattle.std.specs.Option.{option_copied, option_map};
 ghost use Rattle.cedar_identifiers.specs.Names.{components_of};
 ghost use Rattle.schema_resolve_definitions.specs.Tests.{tests_of};
-ghost use Rattle.schema_resolve.specs.Meanings.{means};
-ghost use Rattle.schema_resolve.specs.Tried.{kind_found};
+ghost use Rattle.schema_resolve_targets.specs.Meanings.{means};
+ghost use Rattle.schema_resolve_targets.specs.Tried.{kind_found};
 ghost use Rattle.schema_build_scope.specs.Meant.{meant_candidate};
 
 use cedar_identifiers::{InternalName, RawName, ReferenceType};
-use schema_resolve::tried::{kind_of, own_kind};
 use schema_resolve_lookup::FragmentDefs;
+use schema_resolve_targets::tried::{kind_of, own_kind};
 
 // Which candidate a reference means: the one behind its namespace or the name as it is written, and whether that is a
 // common type.

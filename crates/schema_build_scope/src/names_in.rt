@@ -5,7 +5,7 @@ ghost use Rattle.cedar_identifiers.specs.Names.{components_of, has_cedar};
 ghost use Rattle.schema_resolve_definitions.specs.Declarations.{name_of};
 ghost use Rattle.schema_resolve_definitions.specs.Defined.{defined};
 ghost use Rattle.schema_resolve_definitions.specs.Tests.{tests_of};
-ghost use Rattle.schema_resolve.specs.Tried.{candidate};
+ghost use Rattle.schema_resolve_targets.specs.Tried.{candidate};
 ghost use Rattle.cedar_names.specs.Meaning.{PlainType};
 ghost use Rattle.schema_build_types.specs.Standing.{IsBuilt};
 ghost use Rattle.schema_build_expand.specs.Scope.{builtin};

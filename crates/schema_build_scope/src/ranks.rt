@@ -8,7 +8,7 @@ ghost use Rattle.cedar_names.specs.Orders.{names_in_order};
 
 use cedar_identifiers::InternalName;
 use cedar_names::compare_behind;
-use schema_resolve::tried::is_unqualified;
+use schema_resolve_targets::tried::is_unqualified;
 use std::cell::Cell;
 use std::cmp::Ordering;
 

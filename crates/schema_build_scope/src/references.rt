@@ -6,9 +6,8 @@ ghost use Rattle.schema_build_scope.specs.UndefinedRows.{HasUndefinedTypes, HasU
 use crate::fragment_names::FragmentNames;
 use cedar_data::NonEmpty;
 use schema_build_errors::{Refusal, SchemaError};
-use schema_resolve::{
-    ActionNotDefinedError, TypeNotDefinedError, UndefinedReferences, gather_undefined,
-};
+use schema_resolve_errors::{ActionNotDefinedError, TypeNotDefinedError};
+use schema_resolve_targets::{UndefinedReferences, gather_undefined};
 use std::alloc::Global;
 
 /// Refuses a fragment with references to types that mean nothing, and names them all in the order of the walk; else one

@@ -25,10 +25,10 @@ use Rattle.schema_says.specs.FragmentsSay.{FragmentSays}
 use Rattle.schema_json_walk.specs.Parts.{parent}
 use Rattle.schema_resolve_definitions.specs.Declarations.{name_of, declared}
 use Rattle.schema_resolve_definitions.specs.Tests.{Tests, tests_of}
-use Rattle.schema_resolve.specs.ReferenceParts.{by_reference}
-use Rattle.schema_resolve.specs.Resolved.{untargeted_in, undefined}
-use Rattle.schema_resolve.specs.Targets.{unless}
-use Rattle.schema_resolve.specs.Undefined.{types_among, actions_among}
+use Rattle.schema_resolve_targets.specs.ReferenceParts.{by_reference}
+use Rattle.schema_resolve_targets.specs.Untargeted.{untargeted_in, undefined}
+use Rattle.schema_resolve_targets.specs.Targets.{unless}
+use Rattle.schema_resolve_targets.specs.Undefined.{types_among, actions_among}
 use Rattle.schema_build_errors.specs.declared.schema_error.SchemaError.TheVariants as error
 use Rattle.schema_build_errors.specs.declared.shape_errors.ContextOrShape.{ContextOrShape}
 use Rattle.schema_build_errors.specs.declared.shape_errors.ContextOrShape.TheVariants.{ActionContext, EntityTypeShape}

@@ -13,8 +13,8 @@ use Rattle.cedar_identifiers.specs.declared.raw_name.RawName.{RawName}
 use Rattle.cedar_identifiers.specs.declared.reference_type.ReferenceType.{ReferenceType}
 use Rattle.cedar_identifiers.specs.declared.reference_type.ReferenceType.TheVariants.{Common, Entity, CommonOrEntity}
 use Rattle.schema_resolve_definitions.specs.Tests.{Tests}
-use Rattle.schema_resolve.specs.Meanings.{means, kind_there}
-use Rattle.schema_resolve.proofs.Candidates.{behind_parts}
+use Rattle.schema_resolve_targets.specs.Meanings.{means, kind_there}
+use Rattle.schema_resolve_targets.proofs.Candidates.{behind_parts}
 use Rattle.schema_print.specs.PrintableTests.{agrees, agrees_in}
 
 -- what is found alike is of one kind

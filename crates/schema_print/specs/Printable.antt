@@ -24,7 +24,7 @@ use Rattle.schema_json_walk.specs.Walk.{fragment_parts}
 use Rattle.schema_resolve_definitions.specs.Declarations.{name_of}
 use Rattle.schema_resolve_definitions.specs.Defined.{defined}
 use Rattle.schema_resolve_definitions.specs.Tests.{Tests, tests_of}
-use Rattle.schema_resolve.specs.Meanings.{means}
+use Rattle.schema_resolve_targets.specs.Meanings.{means}
 use Rattle.schema_print.specs.Collisions.{collisions, shapeless, is_record_type}
 
 -- a part that is no open record

@@ -7,8 +7,8 @@ ghost use Rattle.schema_print.specs.PrintableTests.{agrees, agrees_in, passes_be
 use cedar_identifiers::{InternalName, Name, RawName, ReferenceType};
 use cedar_names::ExtensionTable;
 use schema_json::Fragment;
-use schema_resolve::tried::is_unqualified;
 use schema_resolve_lookup::{is_common, is_common_behind, is_entity, is_entity_behind};
+use schema_resolve_targets::tried::is_unqualified;
 
 // Whether a reference in the namespace means what its name means where it may be either kind of type.
 pub(crate) fn is_meant_either_way(

@@ -9,7 +9,8 @@ use Rattle.schema_convert.specs.Translated.{IsTranslationOfText}
 use Rattle.schema_says.specs.BareFragments.{bare_fragment}
 use Rattle.schema_resolve_definitions.specs.Defined.{defined}
 use Rattle.schema_resolve_definitions.specs.Tests.{tests_of}
-use Rattle.schema_resolve.specs.Resolved.{resolved, undefined}
+use Rattle.schema_resolve.specs.Resolved.{resolved}
+use Rattle.schema_resolve_targets.specs.Untargeted.{undefined}
 use Rattle.schema_print_resolves.specs.Alike.{AreAlike, as_resolved}
 
 -- The text has a tree, without a fault of its syntax and without a user fault, and the tree is translated without a

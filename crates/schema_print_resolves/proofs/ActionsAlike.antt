@@ -27,7 +27,7 @@ use Rattle.schema_resolve_definitions.specs.Tests.{Tests}
 use Rattle.schema_resolve.specs.Renamed.{Renaming, due_there, renamed, renamed_record, renamed_apply, renamed_uid}
 use Rattle.schema_resolve.specs.Renamed.{renamed_action}
 use Rattle.schema_resolve.specs.Resolved.{resolving_in, meant_type}
-use Rattle.schema_resolve.specs.Undefined.{Undefined}
+use Rattle.schema_resolve_targets.specs.Undefined.{Undefined}
 use Rattle.schema_print.proofs.Tested.{none}
 use Rattle.schema_print_says.specs.CedarForm.{cedar_spec, cedar_applies, cedar_parent, cedar_parents, cedar_action}
 use Rattle.schema_print_says.specs.CedarForm.{type_or_action}

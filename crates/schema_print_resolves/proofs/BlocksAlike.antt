@@ -13,7 +13,7 @@ use Rattle.schema_json_walk.specs.Walk.{itself, each_value, of_common, of_entity
 use Rattle.schema_resolve_definitions.specs.Tests.{Tests}
 use Rattle.schema_resolve.specs.Renamed.{Renaming, renamed_common, renamed_entity, renamed_action, renamed_namespace}
 use Rattle.schema_resolve.specs.Resolved.{resolving_in, meant_type}
-use Rattle.schema_resolve.specs.Undefined.{Undefined}
+use Rattle.schema_resolve_targets.specs.Undefined.{Undefined}
 use Rattle.schema_print.proofs.Tested.{none}
 use Rattle.schema_print_says.specs.CedarForm.{changed_values, cedar_common, cedar_entity, cedar_action}
 use Rattle.schema_print_says.specs.CedarForm.{cedar_namespace}

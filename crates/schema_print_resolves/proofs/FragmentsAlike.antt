@@ -20,7 +20,7 @@ use Rattle.schema_resolve_definitions.specs.Tests.{Tests}
 use Rattle.schema_resolve_lookup.specs.Sought.{is_some_list}
 use Rattle.schema_resolve.specs.Renamed.{renamed_common, renamed_entity, renamed_action, renamed_entry}
 use Rattle.schema_resolve.specs.Resolved.{resolving_in, meant_type}
-use Rattle.schema_resolve.specs.Undefined.{Undefined}
+use Rattle.schema_resolve_targets.specs.Undefined.{Undefined}
 use Rattle.schema_print.proofs.Tested.{none}
 use Rattle.schema_print_says.specs.CedarForm.{Block, changed_values, cedar_common, cedar_entity}
 use Rattle.schema_print_says.specs.CedarForm.{cedar_action, cedar_namespace, declares, cedar_block, cedar_form}

@@ -24,7 +24,7 @@ use Rattle.schema_resolve_definitions.specs.Tests.{Tests}
 use Rattle.schema_resolve.specs.Renamed.{Renaming, new_type, new_shape, new_record, new_attribute, renamed}
 use Rattle.schema_resolve.specs.Renamed.{renamed_kind, renamed_entity, renamed_common}
 use Rattle.schema_resolve.specs.Resolved.{resolving_in}
-use Rattle.schema_resolve.specs.Undefined.{Undefined}
+use Rattle.schema_resolve_targets.specs.Undefined.{Undefined}
 use Rattle.schema_print.proofs.Tested.{none, none_joined}
 use Rattle.schema_print_says.specs.CedarForm.{cedar_layer, cedar_variant_layer, cedar_type, cedar_variant}
 use Rattle.schema_print_says.specs.CedarForm.{cedar_context, cedar_common, cedar_kind, cedar_entity}

@@ -23,7 +23,8 @@ use Rattle.schema_json_walk.proofs.ByParts.{namespace_by_parts}
 use Rattle.schema_resolve_definitions.specs.Declarations.{name_of, declared}
 use Rattle.schema_resolve_definitions.specs.Defined.{builtins, names_of_builtins, completed, defined}
 use Rattle.schema_resolve_definitions.specs.Tests.{Tests, tests_of}
-use Rattle.schema_resolve.specs.Resolved.{resolved, undefined}
+use Rattle.schema_resolve.specs.Resolved.{resolved}
+use Rattle.schema_resolve_targets.specs.Untargeted.{undefined}
 use Rattle.schema_print.specs.Printable.{IsInTable, IsMeantEitherWay, IsPrintable}
 use Rattle.schema_print.proofs.Tested.{none, none_is}
 use Rattle.schema_print_says.specs.CedarForm.{Block, cedar_form}

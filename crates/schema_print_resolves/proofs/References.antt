@@ -15,13 +15,14 @@ use Rattle.schema_json.specs.declared.types.Type.{Variant, CommonTypeRef}
 use Rattle.schema_json.specs.declared.types.TypeVariant.TheVariants as variant
 use Rattle.schema_json_walk.specs.Parts.{Part, type_reference}
 use Rattle.schema_resolve_definitions.specs.Tests.{Tests}
-use Rattle.schema_resolve.specs.Meanings.{means, kind_there}
-use Rattle.schema_resolve.specs.Qualified.{in_namespace}
-use Rattle.schema_resolve.specs.ReferenceParts.{by_reference}
+use Rattle.schema_resolve_targets.specs.Meanings.{means, kind_there}
+use Rattle.schema_resolve_targets.specs.Qualified.{in_namespace}
+use Rattle.schema_resolve_targets.specs.ReferenceParts.{by_reference}
 use Rattle.schema_resolve.specs.References.{reference_to}
-use Rattle.schema_resolve.specs.Resolved.{resolving_in, untargeted_in}
-use Rattle.schema_resolve.specs.Targets.{target, unless}
-use Rattle.schema_resolve.specs.Undefined.{Undefined}
+use Rattle.schema_resolve.specs.Resolved.{resolving_in}
+use Rattle.schema_resolve_targets.specs.Untargeted.{untargeted_in}
+use Rattle.schema_resolve_targets.specs.Targets.{target, unless}
+use Rattle.schema_resolve_targets.specs.Undefined.{Undefined}
 use Rattle.schema_print.proofs.Tested.{none}
 use Rattle.schema_print.proofs.EitherWay.{same_kind}
 use Rattle.schema_print_says.specs.CedarForm.{builtin_name}

@@ -23,11 +23,11 @@ use Rattle.schema_json_walk.specs.Parts.{Part, type_reference, extension_type, o
 use Rattle.schema_json_walk.specs.Walk.{itself, visit_where, at_type, at_variant, at_record, at_attribute, of_type}
 use Rattle.schema_json_walk.specs.Walk.{of_variant, of_record, of_attribute}
 use Rattle.schema_resolve_definitions.specs.Tests.{Tests}
-use Rattle.schema_resolve.specs.Meanings.{means}
+use Rattle.schema_resolve_targets.specs.Meanings.{means}
 use Rattle.schema_resolve.specs.Renamed.{Renaming, new_type, new_shape, new_record, new_attribute, renamed, renamed_at}
 use Rattle.schema_resolve.specs.Renamed.{renamed_record, renamed_attribute}
 use Rattle.schema_resolve.specs.Resolved.{resolving_in}
-use Rattle.schema_resolve.specs.Undefined.{Undefined}
+use Rattle.schema_resolve_targets.specs.Undefined.{Undefined}
 use Rattle.schema_print.proofs.Tested.{none, none_joined}
 use Rattle.schema_print_says.specs.CedarForm.{builtin_name, bool_name, long_name, string_name, cedar_layer}
 use Rattle.schema_print_says.specs.CedarForm.{cedar_variant_layer, cedar_type, cedar_variant, cedar_record}

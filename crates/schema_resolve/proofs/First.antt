@@ -5,7 +5,7 @@ use Rattle.std.specs.Prelude.{◌⊎◌, cond}
 use Rattle.std.specs.List.{list_any}
 use Rattle.std.specs.Option.{unwrap_or}
 use Rattle.std.proofs.lemmas.Bool.{cases_Bool, or_parts}
-use Rattle.schema_resolve.specs.Meanings.{IsFirst}
+use Rattle.schema_resolve.specs.MeaningLaws.{IsFirst}
 
 module _ {A : Type 0} (p : A → Bool) where
   found_behind : (before behind : List A) (x : A) → list_any p before ≡ false → p x ≡ true

@@ -1,7 +1,5 @@
-pub mod Candidates
 mod Equations
 mod First
-pub mod Gathering
 mod Lists
 mod Meant
 pub mod Told

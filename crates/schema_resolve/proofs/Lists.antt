@@ -12,7 +12,7 @@ use Rattle.schema_json_walk.proofs.Visiting.{parted}
 use Rattle.schema_resolve_errors.specs.declared.resolve_error.ResolveError.{ResolveError}
 use Rattle.schema_resolve_errors.specs.declared.resolve_error.ResolveError.TheVariants.{TypeNotDefined}
 use Rattle.schema_resolve_errors.specs.declared.resolve_error.ResolveError.TheVariants.{ActionNotDefined, Memory}
-use Rattle.schema_resolve.specs.Undefined.{Undefined}
+use Rattle.schema_resolve_targets.specs.Undefined.{Undefined}
 use Rattle.schema_resolve.specs.Faults.{NamesFirst}
 
 -- the first of the front, and the first behind where the front has none

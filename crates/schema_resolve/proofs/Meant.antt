@@ -10,11 +10,12 @@ use Rattle.cedar_identifiers.specs.declared.internal_name.InternalName.{Internal
 use Rattle.cedar_identifiers.specs.declared.raw_name.RawName.{RawName}
 use Rattle.schema_resolve_definitions.specs.Tests.{Tests}
 use Rattle.schema_resolve.specs.Designated.{designated_reference}
-use Rattle.schema_resolve.specs.Meanings.{kind_there, means, reference_as, ResolvesAsItMeans}
-use Rattle.schema_resolve.specs.Qualified.{in_namespace}
+use Rattle.schema_resolve_targets.specs.Meanings.{kind_there, means}
+use Rattle.schema_resolve.specs.MeaningLaws.{reference_as, ResolvesAsItMeans}
+use Rattle.schema_resolve_targets.specs.Qualified.{in_namespace}
 use Rattle.schema_resolve.specs.References.{reference_to}
 use Rattle.schema_resolve.specs.Resolved.{meant_name}
-use Rattle.schema_resolve.specs.Targets.{target}
+use Rattle.schema_resolve_targets.specs.Targets.{target}
 
 -- a target with its kind
 record Meant (t : Tests) (kind : ReferenceType) (o : Option InternalName)

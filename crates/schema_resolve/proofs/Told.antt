@@ -18,7 +18,7 @@ use Rattle.schema_json_walk.specs.Parts.{Part, open_record, external_not_bare, a
 use Rattle.schema_json_walk.specs.Walk.{visit_where, at_type, at_variant, at_record, at_attribute, at_context, of_type}
 use Rattle.schema_json_walk.specs.Walk.{of_variant, of_record, of_attribute, of_entries, of_context, of_kind, of_entity}
 use Rattle.schema_json_walk.specs.Walk.{of_apply, of_relations, of_action_parts, of_action}
-use Rattle.schema_resolve.specs.ReferenceParts.{GivenBy, by_reference}
+use Rattle.schema_resolve_targets.specs.ReferenceParts.{GivenBy, by_reference}
 
 module _ {N U : Type 0} (given : GivenBy N U) where
   nothing_where : (there : Bool) (part : Part N) → by_reference given part ≡ []

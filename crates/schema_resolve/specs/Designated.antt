@@ -9,12 +9,12 @@ use Rattle.cedar_identifiers.specs.declared.internal_name.InternalName.{Internal
 use Rattle.schema_json.specs.Actions.{action_name}
 use Rattle.schema_json.specs.declared.types.Type.{«Type»}
 use Rattle.schema_resolve_definitions.specs.Tests.{Tests}
-use Rattle.schema_resolve.specs.Qualified.{in_namespace}
-use Rattle.schema_resolve.specs.ReferenceParts.{GivenBy}
+use Rattle.schema_resolve_targets.specs.Qualified.{in_namespace}
+use Rattle.schema_resolve_targets.specs.ReferenceParts.{GivenBy}
 use Rattle.schema_resolve.specs.References.{reference_to}
 use Rattle.schema_resolve.specs.Renamed.{Renaming}
-use Rattle.schema_resolve.specs.Targets.{is_defined}
-use Rattle.schema_resolve.specs.Undefined.{Undefined, type_reference}
+use Rattle.schema_resolve_targets.specs.Targets.{is_defined}
+use Rattle.schema_resolve_targets.specs.Undefined.{Undefined, type_reference}
 
 -- a common type where the name is one, and else an entity type
 abbrev pub designated_reference : Tests → InternalName → Option Loc → «Type» InternalName

@@ -1,6 +1,6 @@
 -- Which error names a reference that means nothing.
 use Rattle.std.specs.Prelude.{◌≡◌, List, [], ◌∷◌, ⊤}
-use Rattle.schema_resolve.specs.Undefined.{Undefined, type_reference, action_reference}
+use Rattle.schema_resolve_targets.specs.Undefined.{Undefined, type_reference, action_reference}
 use Rattle.schema_resolve_errors.specs.declared.resolve_error.ResolveError.{ResolveError}
 use Rattle.schema_resolve_errors.specs.declared.resolve_error.ResolveError.TheVariants.{TypeNotDefined}
 use Rattle.schema_resolve_errors.specs.declared.resolve_error.ResolveError.TheVariants.{ActionNotDefined, Memory}

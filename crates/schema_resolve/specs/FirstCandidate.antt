@@ -6,8 +6,8 @@ use Rattle.cedar_identifiers.specs.declared.reference_type.ReferenceType.{Refere
 use Rattle.cedar_identifiers.specs.declared.internal_name.InternalName.{InternalName}
 use Rattle.cedar_identifiers.specs.declared.raw_name.RawName.{RawName}
 use Rattle.schema_resolve_definitions.specs.Tests.{Tests}
-use Rattle.schema_resolve.specs.Qualified.{in_namespace}
-use Rattle.schema_resolve.specs.Targets.{is_defined, target}
+use Rattle.schema_resolve_targets.specs.Qualified.{in_namespace}
+use Rattle.schema_resolve_targets.specs.Targets.{is_defined, target}
 
 abbrev pub if_defined : Tests → ReferenceType → InternalName → Option InternalName → Option InternalName
 if_defined t kind name other = if is_defined t kind (components_of name) then Some name else other

@@ -1,13 +1,8 @@
 pub mod Designated
 pub mod Faults
 pub mod FirstCandidate
-pub mod Gathered
-pub mod Meanings
-pub mod Qualified
-pub mod ReferenceParts
+pub mod MeaningLaws
 pub mod References
 pub mod Renamed
+pub mod Renamings
 pub mod Resolved
-pub mod Targets
-pub mod Tried
-pub mod Undefined

@@ -6,16 +6,13 @@ use Rattle.cedar_identifiers.specs.declared.reference_type.ReferenceType.TheVari
 use Rattle.cedar_identifiers.specs.declared.internal_name.InternalName.{InternalName}
 use Rattle.cedar_identifiers.specs.declared.name_text.NameText as named
 use Rattle.cedar_identifiers.specs.declared.raw_name.RawName.{RawName}
-use Rattle.schema_json_walk.specs.Walk.{of_fragment}
 use Rattle.schema_resolve_definitions.specs.Declarations.{name_of}
 use Rattle.schema_resolve_definitions.specs.Tests.{Tests}
 use Rattle.schema_json.specs.declared.fragment.Fragment.{Fragment}
 use Rattle.schema_resolve.specs.Designated.{designated_reference}
-use Rattle.schema_resolve.specs.Qualified.{in_namespace, type_in_namespace}
-use Rattle.schema_resolve.specs.ReferenceParts.{GivenBy, by_reference}
+use Rattle.schema_resolve_targets.specs.Qualified.{in_namespace, type_in_namespace}
 use Rattle.schema_resolve.specs.Renamed.{Renaming, renamed_fragment}
-use Rattle.schema_resolve.specs.Targets.{target_name, action_target_name, untargeted_type, untargeted_action}
-use Rattle.schema_resolve.specs.Undefined.{Undefined}
+use Rattle.schema_resolve_targets.specs.Targets.{target_name, action_target_name}
 
 -- the name of what a name in a namespace means
 abbrev pub meant_name : Tests → Option InternalName → ReferenceType → RawName → InternalName
@@ -32,18 +29,7 @@ resolving_in t ns = record {
 abbrev pub meant_type : Tests → Option InternalName → List ℕ → Option RawName → InternalName
 meant_type t ns id ty = action_target_name t id (Some (type_in_namespace ns id ty))
 
--- a reference, where nothing in the namespace or the empty one is meant by it
-abbrev pub untargeted_in : Tests → Option InternalName → GivenBy RawName Undefined
-untargeted_in t ns = record {
-  types = λ kind name. untargeted_type t (in_namespace ns kind name);
-  actions = λ id ty. untargeted_action t id (Some (type_in_namespace ns id ty));
-}
-
 module _ {G : named.Ghosts RawName} where
   -- the fragment in which each reference is one to what it means
   abbrev pub resolved : {H : named.Ghosts InternalName} → Tests → Fragment RawName G → Fragment InternalName H
   resolved t f = renamed_fragment (λ ns. resolving_in t (name_of ns)) (λ ns. meant_type t (name_of ns)) f
-
-  -- the references that mean nothing, in the order of the walk
-  abbrev pub undefined : Tests → Fragment RawName G → List Undefined
-  undefined t f = of_fragment (λ ns. by_reference (untargeted_in t (name_of ns))) f

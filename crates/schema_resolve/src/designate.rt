@@ -3,9 +3,9 @@ ghost use Rattle.cedar_names.specs.Definitions.{Definitions};
 ghost use Rattle.schema_resolve_definitions.specs.Tests.{tests_of};
 ghost use Rattle.schema_resolve.specs.Designated.{designating, type_as_written, undesignated};
 ghost use Rattle.schema_resolve.specs.Faults.{NamesFirst};
-ghost use Rattle.schema_resolve.specs.ReferenceParts.{by_reference};
+ghost use Rattle.schema_resolve_targets.specs.ReferenceParts.{by_reference};
 ghost use Rattle.schema_resolve.specs.Renamed.{renamed, renamed_namespace, renamed_fragment};
-ghost use Rattle.schema_resolve.specs.Undefined.{Undefined};
+ghost use Rattle.schema_resolve_targets.specs.Undefined.{Undefined};
 ghost use Rattle.schema_json_walk.specs.Walk.{of_type, of_namespace, of_fragment};
 
 use crate::designator::Designator;

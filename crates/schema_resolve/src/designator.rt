@@ -1,20 +1,20 @@
 ghost use Rattle.std.specs.Prelude.{◌≡◌, [], ◌∷◌, None, IfOk, OnOk, IfErr};
 ghost use Rattle.cedar_identifiers.specs.Names.{components_of};
 ghost use Rattle.schema_resolve_definitions.specs.Tests.{tests_of};
-ghost use Rattle.schema_resolve.specs.Tried.{kind_found};
+ghost use Rattle.schema_resolve_targets.specs.Tried.{kind_found};
 ghost use Rattle.schema_resolve.specs.Designated.{designating, type_as_written, undesignated_type, undesignated};
 ghost use Rattle.schema_resolve.specs.Faults.{NamesFirst};
-ghost use Rattle.schema_resolve.specs.Qualified.{in_namespace};
+ghost use Rattle.schema_resolve_targets.specs.Qualified.{in_namespace};
 ghost use Rattle.schema_resolve.specs.References.{reference_to};
 
 use crate::renamer::Renamer;
 use crate::stop::Stop;
-use crate::tried::told;
 use cedar_data::{CloneIn, Loc, NonEmpty};
 use cedar_identifiers::{InternalName, RawName, ReferenceType};
 use cedar_names::AllDefs;
 use schema_json::{ActionEntityUID, Type, TypeVariant};
 use schema_resolve_errors::{ResolveError, TypeNotDefinedError};
+use schema_resolve_targets::tried::told;
 use std::alloc::{AllocError, Global};
 
 // What each name is that a reference may mean either way.

@@ -1,10 +1,11 @@
 ghost use Rattle.std.specs.Prelude.{◌≡◌, [], List, IfOk, IfErr, OnOk};
 ghost use Rattle.cedar_names.specs.Definitions.{Definitions};
 ghost use Rattle.schema_resolve_definitions.specs.Tests.{tests_of};
-ghost use Rattle.schema_resolve.specs.Undefined.{Undefined};
+ghost use Rattle.schema_resolve_targets.specs.Undefined.{Undefined};
 ghost use Rattle.schema_resolve.specs.Faults.{NamesFirst};
-ghost use Rattle.schema_resolve.specs.Targets.{resolving, action_target_name, untargeted};
-ghost use Rattle.schema_resolve.specs.ReferenceParts.{by_reference};
+ghost use Rattle.schema_resolve.specs.Renamings.{resolving};
+ghost use Rattle.schema_resolve_targets.specs.Targets.{action_target_name, untargeted};
+ghost use Rattle.schema_resolve_targets.specs.ReferenceParts.{by_reference};
 ghost use Rattle.schema_resolve.specs.Renamed.{renamed, renamed_variant, renamed_record, renamed_attribute, renamed_context, renamed_entity, renamed_apply, renamed_uid, renamed_action, renamed_namespace};
 ghost use Rattle.schema_json_walk.specs.Walk.{of_type, of_variant, of_record, of_attribute, of_entity, of_apply, of_uid, of_action, of_namespace};
 

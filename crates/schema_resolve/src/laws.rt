@@ -6,7 +6,7 @@ ghost use Rattle.cedar_identifiers.specs.declared.internal_name.InternalName.{In
 ghost use Rattle.cedar_identifiers.specs.declared.raw_name.RawName.{RawName};
 ghost use Rattle.cedar_identifiers.specs.declared.reference_type.ReferenceType.{ReferenceType};
 ghost use Rattle.schema_resolve_definitions.specs.Tests.{Tests};
-ghost use Rattle.schema_resolve.specs.Meanings.{TargetIsFirst, TargetIsOne, ResolvesWhatIsMeant};
+ghost use Rattle.schema_resolve.specs.MeaningLaws.{TargetIsFirst, TargetIsOne, ResolvesWhatIsMeant};
 ghost use Rattle.schema_resolve.specs.FirstCandidate.{OwnThenPlain, ItselfOrNothing};
 
 /// An unqualified name in a namespace means what is defined there, and else what is defined in the empty namespace, each in

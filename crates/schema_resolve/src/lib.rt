@@ -4,7 +4,6 @@
 pub mod designate;
 mod designator;
 pub mod fully_qualify;
-pub mod gather;
 pub mod laws;
 pub mod qualify;
 mod rename_fragments;
@@ -17,13 +16,12 @@ pub mod resolve_fragment;
 mod resolver;
 mod scope;
 mod stop;
-mod targets;
-pub mod tried;
+mod target_names;
 
 pub use designate::Designate;
 pub use fully_qualify::FullyQualify;
-pub use gather::{UndefinedReferences, gather_undefined, gather_undefined_alone};
 pub use qualify::Qualify;
 pub use resolve_fragment::ResolveFragment;
 pub use schema_resolve_definitions::single_fragment;
 pub use schema_resolve_errors::{ActionNotDefinedError, ResolveError, TypeNotDefinedError};
+pub use schema_resolve_targets::{UndefinedReferences, gather_undefined, gather_undefined_alone};

@@ -1,7 +1,8 @@
 ghost use Rattle.std.specs.Prelude.{◌≡◌, Option, IfOk};
 ghost use Rattle.std.specs.Option.{option_copied};
 ghost use Rattle.cedar_identifiers.specs.declared.internal_name.InternalName.{InternalName};
-ghost use Rattle.schema_resolve.specs.Qualified.{qualifying, type_in_namespace};
+ghost use Rattle.schema_resolve.specs.Renamings.{qualifying};
+ghost use Rattle.schema_resolve_targets.specs.Qualified.{type_in_namespace};
 ghost use Rattle.schema_resolve.specs.Renamed.{renamed, renamed_variant, renamed_record, renamed_attribute, renamed_context, renamed_entity, renamed_apply, renamed_uid, renamed_action, renamed_namespace};
 
 use crate::rename_items::{rename_action, rename_apply, rename_context, rename_entity, rename_uid};

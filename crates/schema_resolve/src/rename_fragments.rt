@@ -2,9 +2,9 @@ ghost use Rattle.std.specs.Prelude.{◌≡◌, [], List, ℕ, Option, IfOk, IfEr
 ghost use Rattle.cedar_identifiers.specs.declared.name.Name.{Name};
 ghost use Rattle.schema_resolve.specs.Faults.{NamesFirst};
 ghost use Rattle.schema_resolve.specs.Renamed.{Renaming, renamed_namespace, renamed_fragment};
-ghost use Rattle.schema_resolve.specs.Undefined.{Undefined};
+ghost use Rattle.schema_resolve_targets.specs.Undefined.{Undefined};
 ghost use Rattle.schema_json_walk.specs.Walk.{of_namespace, of_fragment};
-ghost use Rattle.schema_resolve.specs.ReferenceParts.{GivenBy, by_reference};
+ghost use Rattle.schema_resolve_targets.specs.ReferenceParts.{GivenBy, by_reference};
 
 use crate::stop::Stop;
 use cedar_data::{CloneIn, Map};

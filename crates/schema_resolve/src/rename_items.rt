@@ -4,7 +4,7 @@ ghost use Rattle.schema_resolve.specs.Renamed.{renamed, renamed_common, renamed_
 ghost use Rattle.std.specs.List.{flat_map};
 ghost use Rattle.std.specs.Option.{option_map, option_map_or};
 ghost use Rattle.schema_json_walk.specs.Walk.{of_type, of_common, of_standard, of_kind, of_entity, of_apply, of_uid, of_action};
-ghost use Rattle.schema_resolve.specs.ReferenceParts.{by_reference};
+ghost use Rattle.schema_resolve_targets.specs.ReferenceParts.{by_reference};
 
 use crate::rename_types::rename_type;
 use crate::renamer::Renamer;

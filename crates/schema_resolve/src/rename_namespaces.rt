@@ -3,7 +3,7 @@ ghost use Rattle.cedar_data.specs.Entries.{on_value};
 ghost use Rattle.schema_resolve.specs.Faults.{NamesFirst};
 ghost use Rattle.schema_resolve.specs.Renamed.{renamed_namespace};
 ghost use Rattle.schema_json_walk.specs.Walk.{each_value, of_namespace};
-ghost use Rattle.schema_resolve.specs.ReferenceParts.{by_reference};
+ghost use Rattle.schema_resolve_targets.specs.ReferenceParts.{by_reference};
 
 use crate::renamed::Renamed;
 use crate::renamer::Renamer;

@@ -1,7 +1,7 @@
 ghost use Rattle.std.specs.Prelude.{◌≡◌, [], List, ℕ, Option, IfOk, IfErr, OnOk};
-ghost use Rattle.schema_resolve.specs.Undefined.{Undefined};
+ghost use Rattle.schema_resolve_targets.specs.Undefined.{Undefined};
 ghost use Rattle.schema_resolve.specs.Faults.{NamesFirst};
-ghost use Rattle.schema_resolve.specs.ReferenceParts.{GivenBy, by_reference};
+ghost use Rattle.schema_resolve_targets.specs.ReferenceParts.{GivenBy, by_reference};
 ghost use Rattle.schema_resolve.specs.Renamed.{Renaming, renamed_common, renamed_entity, renamed_action};
 ghost use Rattle.schema_json_walk.specs.Walk.{of_common, of_entity, of_action};
 

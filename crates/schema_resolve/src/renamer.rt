@@ -1,8 +1,8 @@
 ghost use Rattle.std.specs.Prelude.{◌≡◌, [], List, ℕ, Option, IfOk, IfErr, OnOk};
 ghost use Rattle.cedar_identifiers.specs.declared.reference_type.ReferenceType.{ReferenceType};
-ghost use Rattle.schema_resolve.specs.Undefined.{Undefined};
+ghost use Rattle.schema_resolve_targets.specs.Undefined.{Undefined};
 ghost use Rattle.schema_resolve.specs.Faults.{NamesFirst};
-ghost use Rattle.schema_resolve.specs.ReferenceParts.{GivenBy};
+ghost use Rattle.schema_resolve_targets.specs.ReferenceParts.{GivenBy};
 ghost use Rattle.schema_resolve.specs.Renamed.{Renaming};
 
 use crate::stop::Stop;

@@ -5,8 +5,9 @@ ghost use Rattle.schema_resolve_definitions.specs.Declarations.{name_of};
 ghost use Rattle.schema_resolve_definitions.specs.Defined.{defined};
 ghost use Rattle.schema_resolve_definitions.specs.Tests.{tests_of};
 ghost use Rattle.schema_resolve.specs.Faults.{NamesFirst};
-ghost use Rattle.schema_resolve.specs.Resolved.{resolving_in, meant_type, untargeted_in, resolved, undefined};
-ghost use Rattle.schema_resolve.specs.Undefined.{Undefined};
+ghost use Rattle.schema_resolve.specs.Resolved.{resolving_in, meant_type, resolved};
+ghost use Rattle.schema_resolve_targets.specs.Untargeted.{untargeted_in, undefined};
+ghost use Rattle.schema_resolve_targets.specs.Undefined.{Undefined};
 
 use crate::rename_fragments::{FragmentRenamer, rename_fragment};
 use crate::rename_namespaces::rename_namespace;

@@ -3,21 +3,23 @@ ghost use Rattle.std.specs.Option.{option_copied};
 ghost use Rattle.schema_resolve_definitions.specs.Tests.{tests_of};
 ghost use Rattle.schema_resolve_errors.specs.declared.resolve_error.ResolveError.TheVariants.{ActionNotDefined};
 ghost use Rattle.schema_resolve.specs.Faults.{Names};
-ghost use Rattle.schema_resolve.specs.Qualified.{in_namespace, type_in_namespace};
-ghost use Rattle.schema_resolve.specs.Resolved.{resolving_in, meant_type, untargeted_in};
-ghost use Rattle.schema_resolve.specs.Tried.{candidate};
-ghost use Rattle.schema_resolve.specs.Undefined.{action_reference};
+ghost use Rattle.schema_resolve_targets.specs.Qualified.{in_namespace, type_in_namespace};
+ghost use Rattle.schema_resolve.specs.Resolved.{resolving_in, meant_type};
+ghost use Rattle.schema_resolve_targets.specs.Untargeted.{untargeted_in};
+ghost use Rattle.schema_resolve_targets.specs.Tried.{candidate};
+ghost use Rattle.schema_resolve_targets.specs.Undefined.{action_reference};
 
 use crate::designator::reference_to;
 use crate::renamer::Renamer;
-use crate::scope::{Scope, written};
+use crate::scope::Scope;
 use crate::stop::Stop;
-use crate::tried::{find_action, find_type};
 use cedar_data::{CloneIn, Loc, NonEmpty};
 use cedar_identifiers::{InternalName, RawName, ReferenceType};
 use schema_json::{ActionEntityUID, Type};
 use schema_resolve_errors::{ActionNotDefinedError, ResolveError, TypeNotDefinedError};
 use schema_resolve_lookup::FragmentDefs;
+use schema_resolve_targets::action_types::written;
+use schema_resolve_targets::tried::{find_action, find_type};
 use std::alloc::{AllocError, Global};
 
 // What each name in a namespace means.

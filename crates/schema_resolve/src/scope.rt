@@ -1,14 +1,14 @@
 ghost use Rattle.std.specs.Prelude.{◌≡◌, [], Ok, IfOk};
 ghost use Rattle.std.specs.Option.{option_copied};
-ghost use Rattle.schema_json.specs.Actions.{written_type};
-ghost use Rattle.schema_resolve.specs.Qualified.{qualifying, type_in_namespace};
+ghost use Rattle.schema_resolve.specs.Renamings.{qualifying};
+ghost use Rattle.schema_resolve_targets.specs.Qualified.{type_in_namespace};
 
 use crate::renamer::Renamer;
 use crate::stop::Stop;
 use cedar_data::{CloneIn, Loc};
 use cedar_identifiers::{ConditionalName, InternalName, RawName, ReferenceType};
-use schema_json::action_uid::action_name;
 use schema_json::{ActionEntityUID, Type, TypeVariant};
+use schema_resolve_targets::action_types::written;
 use std::alloc::{AllocError, Global};
 
 // The namespace that names stand in.
@@ -54,16 +54,6 @@ impl<'a> Renamer<RawName, ConditionalName> for Scope<'a> {
     ) -> Result<ConditionalName, Stop> {
         let ty = written(alloc, &uid.ty)?;
         Ok(ty.conditionally_qualify_with(alloc, self.ns, ReferenceType::Entity)?)
-    }
-}
-
-// The type as it is written, and `Action` where none is.
-pub(crate) fn written(alloc: Global, ty: &Option<RawName>) -> Result<RawName, AllocError>
-    ensures { IfOk result (λ name. name ≡ record { name = written_type ty.now }) }
-{
-    match ty {
-        Some(ty) => ty.clone_in(alloc),
-        None => Ok(RawName::from_internal(action_name(alloc)?)),
     }
 }
 

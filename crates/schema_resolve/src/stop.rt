@@ -1,6 +1,6 @@
 ghost use Rattle.std.specs.Prelude.{◌≡◌, List, IfOk};
 ghost use Rattle.schema_resolve.specs.Faults.{NamesFirst};
-ghost use Rattle.schema_resolve.specs.Undefined.{Undefined};
+ghost use Rattle.schema_resolve_targets.specs.Undefined.{Undefined};
 
 use cedar_data::Boxed;
 use schema_resolve_errors::ResolveError;

@@ -5,7 +5,7 @@ use Rattle.cedar_identifiers.specs.declared.name.Name.{Name}
 use Rattle.schema_json.specs.Actions.{written_type}
 use Rattle.schema_resolve_definitions.specs.Declarations.{name_of}
 use Rattle.schema_resolve_definitions.specs.Tests.{tests_of}
-use Rattle.schema_resolve.specs.Targets.{is_action}
+use Rattle.schema_resolve_targets.specs.Targets.{is_action}
 use Rattle.schema_build_hierarchy.proofs.FirstCandidate.{own_told, plain_told}
 use Rattle.schema_build_hierarchy.proofs.parents.action_target.Goals as goal
 

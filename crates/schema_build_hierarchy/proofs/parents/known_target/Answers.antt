@@ -5,7 +5,7 @@ use Rattle.cedar_identifiers.specs.Candidates.{qualified}
 use Rattle.cedar_identifiers.specs.declared.reference_type.ReferenceType.TheVariants.{Entity}
 use Rattle.schema_resolve_definitions.specs.Declarations.{name_of}
 use Rattle.schema_resolve_definitions.specs.Tests.{tests_of}
-use Rattle.schema_resolve.specs.Tried.{own_kind}
+use Rattle.schema_resolve_targets.specs.Tried.{own_kind}
 use Rattle.schema_build_hierarchy.proofs.EntityTargets.{own_target, known_target}
 use Rattle.schema_build_hierarchy.proofs.parents.known_target.Goals as goal
 

@@ -1,8 +1,8 @@
 use Rattle.std.proofs.Common.{◌≡◌, ◌∙◌, sym, subst, Some}
 use Rattle.cedar_identifiers.specs.Names.{components_of}
 use Rattle.schema_resolve_definitions.specs.Tests.{tests_of}
-use Rattle.schema_resolve.specs.Tried.{kind_found}
-use Rattle.schema_resolve.proofs.Candidates.{either_told}
+use Rattle.schema_resolve_targets.specs.Tried.{kind_found}
+use Rattle.schema_resolve_targets.proofs.Candidates.{either_told}
 use Rattle.schema_build_scope.proofs.Meanings.{known_common, known_entity}
 use Rattle.schema_build_scope.proofs.meant.is_known_common.Goals as goal
 

@@ -3,7 +3,7 @@ use Rattle.std.specs.Prelude.{IsSome}
 use Rattle.cedar_identifiers.specs.Names.{components_of}
 use Rattle.cedar_names.specs.declared.extension_table.ExtensionTable.{ExtensionTable}
 use Rattle.schema_resolve_definitions.specs.Declarations.{name_of}
-use Rattle.schema_resolve.specs.Tried.{candidate}
+use Rattle.schema_resolve_targets.specs.Tried.{candidate}
 use Rattle.schema_build_expand.specs.Scope.{builtin}
 use Rattle.schema_build_scope.specs.FragmentScope.{table_scope}
 use Rattle.schema_build_scope.proofs.BuiltinNames.{undeclared_builtin}

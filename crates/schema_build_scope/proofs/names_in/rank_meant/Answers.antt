@@ -2,7 +2,7 @@ use Rattle.std.proofs.Common.{subst}
 use Rattle.cedar_data.specs.Halving.{IsHit, IsGap}
 use Rattle.cedar_names.specs.Orders.{names_in_order}
 use Rattle.schema_resolve_definitions.specs.Declarations.{name_of}
-use Rattle.schema_resolve.specs.Tried.{candidate}
+use Rattle.schema_resolve_targets.specs.Tried.{candidate}
 use Rattle.schema_build_scope.specs.LentCommons.{lent_type}
 use Rattle.schema_build_scope.proofs.Found.{hit_ranked, gap_undeclared}
 use Rattle.schema_build_scope.proofs.names_in.rank_meant.Goals as goal

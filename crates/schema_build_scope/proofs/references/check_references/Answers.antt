@@ -1,7 +1,7 @@
 use Rattle.std.proofs.Common.{◌≡◌, sym, ap, ◌∙◌, subst, inl, inr}
-use Rattle.schema_resolve.specs.Gathered.{uids}
-use Rattle.schema_resolve.specs.Resolved.{undefined}
-use Rattle.schema_resolve.specs.Undefined.{types_among, actions_among}
+use Rattle.schema_resolve_targets.specs.Gathered.{uids}
+use Rattle.schema_resolve_targets.specs.Untargeted.{undefined}
+use Rattle.schema_resolve_targets.specs.Undefined.{types_among, actions_among}
 use Rattle.schema_build_scope.specs.UndefinedRows.{undefined_alone, HasUndefinedTypes, HasUndefinedActions}
 use Rattle.schema_build_scope.proofs.UndefinedNames.{never_types, never_actions, not_empty, uids_not_empty}
 use Rattle.schema_build_scope.proofs.references.check_references.Goals as goal

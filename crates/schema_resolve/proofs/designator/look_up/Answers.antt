@@ -3,7 +3,7 @@ use Rattle.cedar_identifiers.specs.Names.{components_of}
 use Rattle.cedar_identifiers.specs.declared.reference_type.ReferenceType.TheVariants.{CommonOrEntity}
 use Rattle.schema_resolve_definitions.specs.Tests.{tests_of}
 use Rattle.schema_resolve.specs.Designated.{undesignated_type}
-use Rattle.schema_resolve.proofs.Candidates.{none_defined}
+use Rattle.schema_resolve_targets.proofs.Candidates.{none_defined}
 use Rattle.schema_resolve.proofs.designator.look_up.Goals as goal
 
 pub returns-in_ok-new-in-None-clause-err : goal.returns-in_ok-new-in-None-clause-err

@@ -1,5 +1,5 @@
 use Rattle.cedar_identifiers.specs.Names.{components_of}
-use Rattle.schema_resolve.specs.Targets.{is_defined}
+use Rattle.schema_resolve_targets.specs.Targets.{is_defined}
 use Rattle.schema_resolve.proofs.First.{first_found, found_first, first_is_one}
 use Rattle.schema_resolve.proofs.laws.one_target.Goals as goal
 

@@ -1,5 +1,5 @@
 use Rattle.std.proofs.Common.{◌≡◌, [], map, take}
-use Rattle.schema_resolve.specs.ReferenceParts.{by_reference}
+use Rattle.schema_resolve_targets.specs.ReferenceParts.{by_reference}
 use Rattle.schema_resolve.specs.Renamed.{renamed_entry}
 use Rattle.std.specs.List.{flat_map}
 use Rattle.schema_json_walk.specs.Walk.{of_entry}

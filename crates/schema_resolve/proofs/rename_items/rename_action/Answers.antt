@@ -1,5 +1,5 @@
 use Rattle.schema_json_walk.specs.Walk.{of_action}
-use Rattle.schema_resolve.specs.ReferenceParts.{by_reference}
+use Rattle.schema_resolve_targets.specs.ReferenceParts.{by_reference}
 use Rattle.schema_resolve.proofs.Lists.{behind_first, both_none, refused}
 use Rattle.schema_resolve.proofs.Told.{action_told}
 use Rattle.schema_resolve.proofs.rename_items.rename_action.Goals as goal

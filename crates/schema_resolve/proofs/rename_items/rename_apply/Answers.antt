@@ -1,5 +1,5 @@
 use Rattle.schema_json_walk.specs.Walk.{of_apply}
-use Rattle.schema_resolve.specs.ReferenceParts.{by_reference}
+use Rattle.schema_resolve_targets.specs.ReferenceParts.{by_reference}
 use Rattle.schema_resolve.proofs.Lists.{front_first, behind_first, refused}
 use Rattle.schema_resolve.proofs.Told.{apply_told}
 use Rattle.schema_resolve.proofs.rename_items.rename_apply.Goals as goal

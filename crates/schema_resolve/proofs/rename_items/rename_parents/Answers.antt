@@ -1,7 +1,7 @@
 use Rattle.std.proofs.Common.{[], ap}
 use Rattle.std.specs.List.{flat_map}
 use Rattle.std.specs.Option.{option_map_or}
-use Rattle.schema_resolve.specs.ReferenceParts.{by_reference}
+use Rattle.schema_resolve_targets.specs.ReferenceParts.{by_reference}
 use Rattle.schema_json_walk.specs.Walk.{of_uid}
 use Rattle.schema_resolve.proofs.Lists.{refused}
 use Rattle.schema_resolve.proofs.rename_items.rename_parents.Goals as goal

@@ -1,6 +1,6 @@
 use Rattle.std.proofs.Common.{◌∷◌, ◌++◌, [], sym, ◌∙◌}
 use Rattle.std.specs.List.{flat_map}
-use Rattle.schema_resolve.specs.ReferenceParts.{by_reference}
+use Rattle.schema_resolve_targets.specs.ReferenceParts.{by_reference}
 use Rattle.schema_json_walk.specs.Walk.{of_uid}
 use Rattle.schema_resolve.proofs.Lists.{each_more, each_first, map_more, refused}
 use Rattle.schema_resolve.specs.Renamed.{renamed_uid}

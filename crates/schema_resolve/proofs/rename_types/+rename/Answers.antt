@@ -11,7 +11,7 @@ use Rattle.schema_json.specs.declared.types.Type.TheVariants.{Variant}
 use Rattle.schema_json.specs.declared.types.TypeVariant.TheVariants.{Record}
 use Rattle.schema_json_walk.specs.Walk.{of_attribute, of_record, of_entries}
 use Rattle.schema_json_walk.proofs.Layers.{variant_walked}
-use Rattle.schema_resolve.specs.ReferenceParts.{by_reference}
+use Rattle.schema_resolve_targets.specs.ReferenceParts.{by_reference}
 use Rattle.schema_resolve.specs.Renamed.{renamed_attribute}
 use Rattle.schema_resolve.proofs.Lists.{each_more, each_first, map_more, refused}
 use Rattle.schema_resolve.proofs.Equations.{record_renamed, record_renamed_at}

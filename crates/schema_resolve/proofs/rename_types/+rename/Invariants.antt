@@ -2,7 +2,7 @@ use Rattle.std.proofs.Common.{◌≡◌, ◌+◌, ◌*◌, [], take}
 use Rattle.std.specs.Map.{values_of}
 use denote.Param.Weighed.{most}
 use Rattle.schema_json.specs.declared.types.TypeOfAttribute.{size-TypeOfAttribute}
-use Rattle.schema_resolve.specs.ReferenceParts.{by_reference}
+use Rattle.schema_resolve_targets.specs.ReferenceParts.{by_reference}
 use Rattle.schema_resolve.specs.Renamed.{renamed_entries}
 use Rattle.schema_json_walk.specs.Walk.{of_entries}
 use Rattle.schema_resolve.proofs.rename_types.+rename.Given as goal

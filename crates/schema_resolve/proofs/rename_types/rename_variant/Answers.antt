@@ -1,4 +1,4 @@
-use Rattle.schema_resolve.specs.ReferenceParts.{by_reference}
+use Rattle.schema_resolve_targets.specs.ReferenceParts.{by_reference}
 use Rattle.schema_json_walk.proofs.Layers.{variant_walked}
 use Rattle.schema_resolve.proofs.rename_types.rename_variant.Goals as goal
 

@@ -1,7 +1,7 @@
 use Rattle.std.proofs.Common.{Some, ap, ◌∙◌}
 use Rattle.std.specs.Option.{option_copied}
 use Rattle.cedar_identifiers.specs.declared.reference_type.ReferenceType.TheVariants.{Entity}
-use Rattle.schema_resolve.specs.Qualified.{in_namespace}
+use Rattle.schema_resolve_targets.specs.Qualified.{in_namespace}
 use Rattle.schema_resolve.proofs.resolver.no_action.Goals as goal
 
 pub returns : goal.returns

@@ -3,7 +3,7 @@ use Rattle.std.specs.Option.{option_copied}
 use Rattle.schema_resolve_definitions.specs.Declarations.{name_of}
 use Rattle.schema_resolve_definitions.specs.Defined.{defined}
 use Rattle.schema_resolve_definitions.specs.Tests.{tests_of}
-use Rattle.schema_resolve.specs.Tried.{candidate}
+use Rattle.schema_resolve_targets.specs.Tried.{candidate}
 use Rattle.schema_build_scope.proofs.Targets.{means_found, rank_common}
 use Rattle.schema_build_scope.proofs.names_in.NamesInMeaningsRawName.rank.Goals as goal
 

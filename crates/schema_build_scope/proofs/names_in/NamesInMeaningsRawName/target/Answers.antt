@@ -5,7 +5,7 @@ use Rattle.cedar_identifiers.specs.Names.{components_of}
 use Rattle.schema_resolve_definitions.specs.Declarations.{name_of}
 use Rattle.schema_resolve_definitions.specs.Defined.{defined}
 use Rattle.schema_resolve_definitions.specs.Tests.{tests_of}
-use Rattle.schema_resolve.specs.Tried.{candidate}
+use Rattle.schema_resolve_targets.specs.Tried.{candidate}
 use Rattle.schema_build_scope.proofs.Targets.{means_found, meant_common, meant_entity, common_meant}
 use Rattle.schema_build_scope.proofs.Unreserved.{entity_free}
 use Rattle.schema_build_scope.proofs.names_in.NamesInMeaningsRawName.target.Goals as goal
