@@ -16,9 +16,9 @@ use Rattle.schema_json.specs.declared.fragment.NamespaceDefinition.{NamespaceDef
 use Rattle.schema_json.specs.Orders.{unreserved_cmp, common_cmp, namespace_cmp}
 use Rattle.schema_json.specs.AsWritten.{as_written}
 use Rattle.schema_json.proofs.Orders.{namespaces_total, common_total, unreserved_total}
-use Rattle.schema_convert_types.specs.Fragments.{definition_of}
-use Rattle.schema_convert_types.specs.Fragments.{common_entries, entity_entries, action_entries, namespace_key}
-use Rattle.schema_convert_types.specs.Fragments.{namespace_entry, fragment_of}
+use Rattle.schema_convert_fragments.specs.Fragments.{definition_of}
+use Rattle.schema_convert_fragments.specs.Fragments.{common_entries, entity_entries, action_entries, namespace_key}
+use Rattle.schema_convert_fragments.specs.Fragments.{namespace_entry, fragment_of}
 use Rattle.schema_convert.specs.Joined.{joined}
 use Rattle.schema_convert.specs.Translated.{translated}
 use Rattle.schema_build.specs.FaultsTold.{IsInOrder}

@@ -33,11 +33,11 @@ use Rattle.schema_json.specs.declared.fragment.NamespaceDefinition.{NamespaceDef
 use Rattle.schema_json.specs.Orders.{unreserved_cmp, common_cmp, namespace_cmp}
 use Rattle.schema_json.specs.AsWritten.{as_written}
 use Rattle.schema_json.proofs.Orders.{namespaces_total}
-use Rattle.schema_convert_types.specs.Fragments.{common_entries}
-use Rattle.schema_convert_types.specs.Fragments.{entity_entries, action_entries, common_entries_of, entity_entries_of}
-use Rattle.schema_convert_types.specs.Fragments.{action_entries_of, namespace_entry, namespace_key, definition_of}
-use Rattle.schema_convert_types.specs.Fragments.{fragment_of}
-use Rattle.schema_convert_types.specs.declared.namespaces.Entries.{Entries}
+use Rattle.schema_convert_fragments.specs.Fragments.{common_entries}
+use Rattle.schema_convert_fragments.specs.Fragments.{entity_entries, action_entries, common_entries_of, entity_entries_of}
+use Rattle.schema_convert_fragments.specs.Fragments.{action_entries_of, namespace_entry, namespace_key, definition_of}
+use Rattle.schema_convert_fragments.specs.Fragments.{fragment_of}
+use Rattle.schema_convert_fragments.specs.declared.namespaces.Entries.{Entries}
 use Rattle.schema_convert.specs.Gathered.{EachPlain, AddsEntries, AddsRead, IsGatheredAs, IsOwn, IsGatheredOf}
 use Rattle.schema_convert.specs.Gathered.{AddsOutside}
 use Rattle.schema_convert.specs.Gathered.{AddsNamespace, AddsOwn, AddsItem}

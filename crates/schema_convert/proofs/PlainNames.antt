@@ -25,9 +25,9 @@ use Rattle.schema_json.specs.declared.common_type.CommonTypeId.{CommonTypeId}
 use Rattle.schema_json.specs.Orders.{unreserved_cmp, common_cmp}
 use Rattle.schema_json.proofs.Orders.{unreserved_total, common_total}
 use Rattle.schema_convert_types.specs.Types.{type_of}
-use Rattle.schema_convert_types.specs.Declarations.{unreserved, unreserved_so, declarable, each_with}
-use Rattle.schema_convert_types.specs.Fragments.{entity_entries_of, action_entries_of, common_entries_of, common_entry}
-use Rattle.schema_convert_types.specs.Fragments.{entity_entries, action_entries, common_entries}
+use Rattle.schema_convert_fragments.specs.Declarations.{unreserved, unreserved_so, declarable, each_with}
+use Rattle.schema_convert_fragments.specs.Fragments.{entity_entries_of, action_entries_of, common_entries_of, common_entry}
+use Rattle.schema_convert_fragments.specs.Fragments.{entity_entries, action_entries, common_entries}
 use Rattle.schema_convert.specs.NamesIn.{entities_of, actions_of, commons_of, entity_names_in, action_names_in}
 use Rattle.schema_convert.specs.NamesIn.{common_names_in, id_cmp, action_cmp}
 use Rattle.schema_convert.specs.Plain.{IsFreeId, IsPlainDeclaration, AreOnce, ArePlain}

@@ -40,9 +40,9 @@ use Rattle.schema_json.specs.Orders.{unreserved_cmp, common_cmp, namespace_cmp}
 use Rattle.schema_json.proofs.Orders.{unreserved_total, common_total, namespace_components, by_components}
 use Rattle.schema_json.proofs.Orders.{namespaces_total}
 use Rattle.schema_convert_types.specs.Names.{internal_name_of, name_of_ids}
-use Rattle.schema_convert_types.specs.Fragments.{declarable_name_so, namespace_key, namespace_entry}
-use Rattle.schema_convert_types.specs.Fragments.{common_entries, entity_entries}
-use Rattle.schema_convert_types.specs.Fragments.{fragment_of, definition_of}
+use Rattle.schema_convert_fragments.specs.Fragments.{declarable_name_so, namespace_key, namespace_entry}
+use Rattle.schema_convert_fragments.specs.Fragments.{common_entries, entity_entries}
+use Rattle.schema_convert_fragments.specs.Fragments.{fragment_of, definition_of}
 use Rattle.schema_convert_errors.specs.declared.warnings.SchemaWarning.{SchemaWarning}
 use Rattle.schema_convert.specs.Joined.{named, outside, empty_namespace, joined, have_one_name}
 use Rattle.schema_convert.specs.NamesIn.{entities_of, commons_of, entity_names_in, common_names_in, id_cmp}

@@ -16,7 +16,7 @@ use Rattle.cedar_names.specs.declared.extension_table.ExtensionTable.{ExtensionT
 use Rattle.cedar_names.specs.Orders.{id_text_order, id_text_total}
 use Rattle.schema_syntax_tree.specs.declared.annotated.Annotated.{Annotated}
 use Rattle.schema_syntax_tree.specs.declared.declaration.Declaration.{Declaration}
-use Rattle.schema_convert_types.proofs.Filtered.{given_of_filtered}
+use Rattle.schema_convert_fragments.proofs.Filtered.{given_of_filtered}
 use Rattle.schema_convert_errors.specs.declared.warnings.SchemaWarning.{SchemaWarning}
 use Rattle.schema_convert.specs.NamesIn.{entity_names_in, common_names_in}
 use Rattle.schema_convert.specs.Shadowings.{by_id, is_taken, builtin_shadowed, warnings_in, declared_warnings}

@@ -23,10 +23,10 @@ use Rattle.schema_syntax_reader.specs.Trees.{IsDeclaredOf, IsItemOf, IsPathOf}
 use Rattle.schema_json.specs.declared.fragment.NamespaceDefinition.{NamespaceDefinition}
 use Rattle.schema_json.specs.Orders.{unreserved_cmp, common_cmp}
 use Rattle.schema_json.specs.AsWritten.{as_written}
-use Rattle.schema_convert_types.specs.Fragments.{common_entries, entity_entries}
-use Rattle.schema_convert_types.specs.Fragments.{action_entries, declarable_name, definition_of, namespace_entry}
+use Rattle.schema_convert_fragments.specs.Fragments.{common_entries, entity_entries}
+use Rattle.schema_convert_fragments.specs.Fragments.{action_entries, declarable_name, definition_of, namespace_entry}
 use Rattle.schema_convert_types.specs.Names.{internal_name_of}
-use Rattle.schema_convert_types.specs.declared.namespaces.Entries.{Entries}
+use Rattle.schema_convert_fragments.specs.declared.namespaces.Entries.{Entries}
 use Rattle.schema_convert.specs.Joined.{named, outside}
 use Rattle.schema_convert.specs.Faults.{is_reserved_path}
 use Rattle.schema_convert.specs.Plain.{IsPlainDeclaration, AreOnce, AreUnlike, ArePlain, IsPlainNamespace}

@@ -21,8 +21,8 @@ use Rattle.schema_json.specs.declared.common_type.CommonType.{CommonType}
 use Rattle.schema_json.specs.declared.common_type.CommonTypeId.{CommonTypeId}
 use Rattle.schema_json.specs.declared.entity_type.EntityType.{EntityType}
 use Rattle.schema_json.specs.Orders.{unreserved_cmp, common_cmp, namespace_cmp, annotation_key_cmp}
-use Rattle.schema_convert_types.specs.Fragments.{common_entries}
-use Rattle.schema_convert_types.specs.Fragments.{entity_entries, action_entries, namespace_entry}
+use Rattle.schema_convert_fragments.specs.Fragments.{common_entries}
+use Rattle.schema_convert_fragments.specs.Fragments.{entity_entries, action_entries, namespace_entry}
 use Rattle.schema_convert.specs.Faults.{action_fault}
 use Rattle.schema_convert.specs.Joined.{named, outside, empty_namespace}
 use Rattle.schema_convert.specs.NamesIn.{entities_of, commons_of}

@@ -8,7 +8,7 @@ use Rattle.schema_syntax_errors.specs.declared.parse_schema_error.ParseSchemaErr
 use Rattle.schema_syntax.specs.ParseAnswers.{IsTreeOfText, IsRefusalOf}
 use Rattle.schema_json.specs.declared.fragment.Fragment.{Fragment}
 use Rattle.schema_json.specs.AsWritten.{as_written}
-use Rattle.schema_convert_types.specs.Fragments.{fragment_of}
+use Rattle.schema_convert_fragments.specs.Fragments.{fragment_of}
 use Rattle.schema_convert_errors.specs.declared.error_list.CedarSchemaParseErrors.{CedarSchemaParseErrors}
 use Rattle.schema_convert_errors.specs.declared.error_list.CedarSchemaParseErrors.TheVariants.{SyntaxError, JsonError}
 use Rattle.schema_convert_errors.specs.declared.error_list.CedarSchemaParseErrors.TheVariants.{Memory}

@@ -16,7 +16,7 @@ use cedar_names::ExtensionTable;
 use schema_convert_errors::{
     CedarSchemaParseErrors, SchemaWarning, ToJsonSchemaErrors, ToJsonSchemaFailure,
 };
-use schema_convert_types::fragment_of;
+use schema_convert_fragments::fragment_of;
 use schema_json::Fragment;
 use schema_syntax::{ParseSchemaError, parse_tokens, refused, sentence_of, stopped};
 use schema_syntax_tokens::ShortToken;

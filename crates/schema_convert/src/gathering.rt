@@ -17,7 +17,9 @@ use crate::plain::is_plain;
 use cedar_data::{List, Node};
 use cedar_identifiers::{Annotations, Name, RawName};
 use cedar_names::ExtensionTable;
-use schema_convert_types::{Entries, declared_key, definition_from, fragment_from, push_declared};
+use schema_convert_fragments::{
+    Entries, declared_key, definition_from, fragment_from, push_declared,
+};
 use schema_json::{Fragment, NamespaceDefinition};
 use schema_syntax_parser::{AnnotationSyntax, DeclSyntax, DeclaredSyntax, PathSyntax};
 use schema_syntax_reader::names::notes;

@@ -9,7 +9,7 @@ ghost use Rattle.schema_convert.specs.Joined.{first_values, joined, value_at_key
 ghost use Rattle.schema_convert.specs.Repeats.{first_repeat, NoneRepeats, IsFirstRepeat};
 ghost use Rattle.schema_convert.specs.Shadowings.{shadowings};
 ghost use Rattle.schema_convert.specs.Translatable.{IsTranslatable};
-ghost use Rattle.schema_convert_types.specs.Fragments.{fragment_of};
+ghost use Rattle.schema_convert_fragments.specs.Fragments.{fragment_of};
 ghost use Rattle.schema_convert.specs.Plain.{IsPlainTree, namespaces_apart};
 ghost use Rattle.schema_convert.specs.Translated.{IsTranslation};
 ghost use Rattle.schema_convert.specs.Warned.{IsAmong, IsWarnedOf};

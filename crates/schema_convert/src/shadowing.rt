@@ -10,7 +10,7 @@ use crate::names_in::{common_names_in, entity_names_in};
 use cedar_data::{Boxed, Map, Node, Text, same_bytes};
 use cedar_names::ExtensionTable;
 use schema_convert_errors::{SchemaWarning, ShadowsBuiltinWarning, ShadowsEntityWarning};
-use schema_convert_types::map_of;
+use schema_convert_fragments::map_of;
 use schema_syntax_tree::{Annotated, Declaration, Namespace, Path, SrcId};
 use std::alloc::{AllocError, Global};
 

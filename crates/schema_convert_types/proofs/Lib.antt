@@ -1,7 +1,1 @@
-mod Definitions
-pub mod Filtered
-mod Lists
-mod Moved
-mod Reserved
-mod StablySorted
 pub mod TypeSteps

@@ -4,7 +4,7 @@ use cedar_data::NonEmpty;
 use std::alloc::{AllocError, Global};
 
 /// A kind of items of a tree, and what each of them is translated to.
-pub(crate) trait Item<'a> {
+pub trait Item<'a> {
     ghost use Rattle.std.specs.Prelude.{◌≡◌, IfOk};
 
     type Tree;
@@ -33,10 +33,7 @@ fn add<'a, I: Item<'a>>(
 }
 
 /// What the items are translated to, in order.
-pub(crate) fn all<'a, I: Item<'a>>(
-    alloc: Global,
-    items: &[I::Tree],
-) -> Result<Vec<I::Out>, AllocError>
+pub fn all<'a, I: Item<'a>>(alloc: Global, items: &[I::Tree]) -> Result<Vec<I::Out>, AllocError>
     ensures { IfOk result (λ out. out.items ≡ map I.translation items.now) }
 {
     let mut translated = Vec::with_capacity(alloc, items.len())?;
@@ -45,7 +42,7 @@ pub(crate) fn all<'a, I: Item<'a>>(
 }
 
 /// What the items are translated to, in order, of which there is one at least.
-pub(crate) fn some<'a, I: Item<'a>>(
+pub fn some<'a, I: Item<'a>>(
     alloc: Global,
     items: &NonEmpty<I::Tree>,
 ) -> Result<Vec<I::Out>, AllocError>

@@ -37,7 +37,7 @@ impl<'a> Item<'a> for Ids {
 }
 
 // The name of the path's ids, at its place.
-pub(crate) fn internal_name(alloc: Global, path: &Path<'_>) -> Result<InternalName, AllocError>
+pub fn internal_name(alloc: Global, path: &Path<'_>) -> Result<InternalName, AllocError>
     ensures { IfOk result (λ name. name ≡ internal_name_of path.now) }
 {
     let (first, others) = path.parts();
@@ -49,14 +49,14 @@ pub(crate) fn internal_name(alloc: Global, path: &Path<'_>) -> Result<InternalNa
 }
 
 // The name that the path is, as it was written.
-pub(crate) fn raw_name(alloc: Global, path: &Path<'_>) -> Result<RawName, AllocError>
+pub fn raw_name(alloc: Global, path: &Path<'_>) -> Result<RawName, AllocError>
     ensures { IfOk result (λ name. name ≡ raw_name_of path.now) }
 {
     Ok(RawName::from_internal(internal_name(alloc, path)?))
 }
 
 /// Paths, as names that namespaces may still qualify.
-pub(crate) struct Paths;
+pub struct Paths;
 
 impl<'a> Item<'a> for Paths {
     type Tree = Path<'a>;

@@ -21,7 +21,7 @@ pub fn cedar_type_to_json_type(
 }
 
 /// What a type of the tree becomes, at its place.
-pub(crate) fn node_type(
+pub fn node_type(
     alloc: Global,
     ty: &Node<schema_syntax_tree::Type<'_>>,
 ) -> Result<Type<RawName>, AllocError>
@@ -123,7 +123,7 @@ fn attribute_with<'a>(
 }
 
 /// What the attributes of an entity type or of a context become.
-pub(crate) fn record_type<'a>(
+pub fn record_type<'a>(
     alloc: Global,
     attributes: &Node<List<Node<Annotated<'a, AttrDecl<'a>>>>>,
 ) -> Result<Type<RawName>, AllocError>

@@ -31,10 +31,10 @@ use Rattle.schema_json.specs.declared.action_type.ApplySpec.{ApplySpec}
 use Rattle.schema_json.specs.declared.common_type.CommonType.{CommonType}
 use Rattle.schema_convert_types.specs.Names.{internal_name_of, raw_name_of}
 use Rattle.schema_convert_types.specs.Types.{type_of, attribute_of, record_of_attributes}
-use Rattle.schema_convert_types.specs.Declarations.{raw_names, nothing, choices_of, tags_of, entity_kind_of}
-use Rattle.schema_convert_types.specs.Declarations.{is_external, entity_type_of, with_types, with_member, with_members}
-use Rattle.schema_convert_types.specs.Declarations.{applied_to_nothing, apply_spec_of, reference_of, references_of}
-use Rattle.schema_convert_types.specs.Declarations.{action_type_of, member_types}
+use Rattle.schema_convert_fragments.specs.Declarations.{raw_names, nothing, choices_of, tags_of, entity_kind_of}
+use Rattle.schema_convert_fragments.specs.Declarations.{is_external, entity_type_of, with_types, with_member, with_members}
+use Rattle.schema_convert_fragments.specs.Declarations.{applied_to_nothing, apply_spec_of, reference_of, references_of}
+use Rattle.schema_convert_fragments.specs.Declarations.{action_type_of, member_types}
 use Rattle.schema_convert.specs.Members.{is_same_role}
 use Rattle.schema_readback.specs.Written.{WrittenType, WrittenAttributes, no_more, rec, WrittenRef, WrittenMember}
 use Rattle.schema_readback.specs.Written.{types, context_path, context_record, WrittenDecl, entity, enum}

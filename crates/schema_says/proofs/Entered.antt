@@ -30,10 +30,10 @@ use Rattle.schema_readback.specs.Written.{WrittenDecl, entity, enum, external_en
 use Rattle.schema_readback.specs.Written.{WrittenDeclared}
 use Rattle.schema_readback.specs.Shows.{SaysId, SaysName, SaysDecl, SaysDeclared}
 use Rattle.schema_convert_types.specs.Types.{type_of}
-use Rattle.schema_convert_types.specs.Declarations.{entity_type_of, action_type_of, unreserved_so}
-use Rattle.schema_convert_types.specs.Declarations.{unreserved, declarable, each_with}
-use Rattle.schema_convert_types.specs.Fragments.{entity_entries_of, action_entries_of, common_entry, common_entries_of}
-use Rattle.schema_convert_types.specs.Fragments.{entity_entries, action_entries, common_entries}
+use Rattle.schema_convert_fragments.specs.Declarations.{entity_type_of, action_type_of, unreserved_so}
+use Rattle.schema_convert_fragments.specs.Declarations.{unreserved, declarable, each_with}
+use Rattle.schema_convert_fragments.specs.Fragments.{entity_entries_of, action_entries_of, common_entry, common_entries_of}
+use Rattle.schema_convert_fragments.specs.Fragments.{entity_entries, action_entries, common_entries}
 use Rattle.schema_convert.specs.NamesIn.{entities_of, actions_of, commons_of, entity_names_in, common_names_in}
 use Rattle.schema_convert.specs.Translatable.{IsFreeCommon}
 use Rattle.schema_says.specs.Entries.{FoundSays, EntriesSay, last_written}

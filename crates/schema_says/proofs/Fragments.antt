@@ -25,7 +25,7 @@ use Rattle.schema_syntax_reader.specs.Leaves.{Notes}
 use Rattle.schema_readback.specs.Written.{WrittenDeclared, WrittenItem, namespace, outside as stands_outside}
 use Rattle.schema_readback.specs.PrintedDecls.{IsSome}
 use Rattle.schema_readback.specs.Shows.{SaysOptionalPath, SaysDeclared, SaysItem}
-use Rattle.schema_convert_types.specs.Fragments.{namespace_entry, definition_of, fragment_of}
+use Rattle.schema_convert_fragments.specs.Fragments.{namespace_entry, definition_of, fragment_of}
 use Rattle.schema_convert.specs.Joined.{first_values, opened_as, outside, empty_namespace, joined}
 use Rattle.schema_convert.specs.NamesIn.{entity_names_in, common_names_in}
 use Rattle.schema_convert.specs.Translatable.{IsFreeCommon, IsLawfulNamespace, IsTranslatable}

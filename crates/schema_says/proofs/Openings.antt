@@ -32,8 +32,8 @@ use Rattle.schema_json.specs.Orders.{namespace_cmp}
 use Rattle.schema_json.specs.AsWritten.{as_written}
 use Rattle.schema_readback.specs.PrintedDecls.{IsSome}
 use Rattle.schema_convert_types.specs.Names.{internal_name_of}
-use Rattle.schema_convert_types.specs.Fragments.{definition_of, declarable_name_so, namespace_key}
-use Rattle.schema_convert_types.specs.Fragments.{namespace_entry}
+use Rattle.schema_convert_fragments.specs.Fragments.{definition_of, declarable_name_so, namespace_key}
+use Rattle.schema_convert_fragments.specs.Fragments.{namespace_entry}
 use Rattle.schema_convert.specs.Joined.{named_so, unnamed_so, named, outside, have_one_name, first_openings}
 use Rattle.schema_convert.specs.Joined.{openings_of, opened_as, joined_by_name, empty_namespace, joined}
 use Rattle.schema_convert.specs.NamesIn.{path_cmp}

@@ -1,5 +1,0 @@
-use Rattle.schema_convert_types.proofs.Reserved.{declared_is}
-use Rattle.schema_convert_types.proofs.namespaces.declarable_name.Goals as goal
-
-pub returns : goal.returns
-returns c = declared_is c.args.name c.from_internal.result c.from_internal.ensures

@@ -1,6 +1,0 @@
-use Rattle.std.proofs.Common.{ap, ◌∙◌}
-use Rattle.schema_convert_types.specs.Fragments.{declarable_name}
-use Rattle.schema_convert_types.proofs.namespaces.declared_key.Goals as goal
-
-pub returns : goal.returns
-returns c = c.declarable_name.ensures ∙ ap declarable_name c.in_ok-internal_name.ensures
