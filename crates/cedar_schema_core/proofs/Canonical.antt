@@ -15,8 +15,8 @@ use Rattle.schema_json.specs.declared.fragment.Fragment.{Fragment}
 use Rattle.schema_json.specs.AsWritten.{as_written}
 use Rattle.schema_json_io.specs.Texts.{TextShape}
 use Rattle.schema_compat.specs.Causes.{OldText}
-use Rattle.schema_convert.specs.Shadowings.{shadowings}
-use Rattle.schema_convert.specs.Translated.{translated}
+use Rattle.schema_convert_faults.specs.Shadowings.{shadowings}
+use Rattle.schema_convert_plain.specs.Translation.{translated}
 use Rattle.schema_readback.specs.Written.{WrittenItem}
 use Rattle.schema_build_checks.specs.Rows.{Never}
 use Rattle.schema_build_parts.specs.BuildFaults.{BuildFault}

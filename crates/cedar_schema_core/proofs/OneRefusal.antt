@@ -16,7 +16,7 @@ use Rattle.schema_json.specs.AsWritten.{as_written}
 use Rattle.schema_convert_errors.specs.declared.error_list.CedarSchemaParseErrors.{CedarSchemaParseErrors}
 use Rattle.schema_convert_errors.specs.declared.error_list.CedarSchemaParseErrors.TheVariants as parse
 use Rattle.schema_convert_errors.specs.declared.warnings.SchemaWarning.{SchemaWarning}
-use Rattle.schema_convert.specs.Faults.{translation_faults}
+use Rattle.schema_convert_faults.specs.Faults.{translation_faults}
 use Rattle.schema_convert.specs.Translated.{IsTranslationOfText}
 use Rattle.schema_build_errors.specs.CapturedTexts.{captured_text, captured_message, user_text}
 use Rattle.schema_build_errors.specs.declared.captured.CapturedItem.{CapturedItem}

@@ -12,7 +12,7 @@ use Rattle.schema_convert_errors.specs.declared.error_list.CedarSchemaParseError
 use Rattle.schema_convert_errors.specs.declared.error_list.CedarSchemaParseErrors.TheVariants as parse
 use Rattle.schema_convert_errors.specs.declared.warnings.SchemaWarning.{SchemaWarning}
 use Rattle.schema_convert.specs.Translated.{IsTranslationOfText}
-use Rattle.schema_convert.specs.Faults.{translation_faults}
+use Rattle.schema_convert_faults.specs.Faults.{translation_faults}
 use Rattle.schema_build.specs.Texts.{IsParseRefusal}
 
 module _ (one : (text : List ℕ) (tree other : List (Annotated Namespace)) → IsTreeOfText text tree

@@ -19,8 +19,8 @@ use Rattle.schema_json.proofs.Orders.{namespaces_total, common_total, unreserved
 use Rattle.schema_convert_fragments.specs.Fragments.{definition_of}
 use Rattle.schema_convert_fragments.specs.Fragments.{common_entries, entity_entries, action_entries, namespace_key}
 use Rattle.schema_convert_fragments.specs.Fragments.{namespace_entry, fragment_of}
-use Rattle.schema_convert.specs.Joined.{joined}
-use Rattle.schema_convert.specs.Translated.{translated}
+use Rattle.schema_convert_openings.specs.Joined.{joined}
+use Rattle.schema_convert_plain.specs.Translation.{translated}
 use Rattle.schema_build.specs.FaultsTold.{IsInOrder}
 use Rattle.cedar_schema_core.proofs.RisingMaps.{keys_rise, all_values, by_entries, one_order}
 

@@ -9,9 +9,9 @@ ghost use Rattle.schema_syntax_tree.specs.declared.annotated.Annotated.{Annotate
 ghost use Rattle.schema_syntax_tree.specs.declared.namespace.Namespace.{Namespace};
 ghost use Rattle.schema_json.specs.declared.fragment.Fragment.{Fragment as Fragments};
 ghost use Rattle.schema_json.specs.AsWritten.{as_written};
-ghost use Rattle.schema_convert.specs.Faults.{translation_faults};
-ghost use Rattle.schema_convert.specs.Translatable.{IsTranslatable};
-ghost use Rattle.schema_convert.specs.Translated.{translated};
+ghost use Rattle.schema_convert_faults.specs.Faults.{translation_faults};
+ghost use Rattle.schema_convert_faults.specs.Translatable.{IsTranslatable};
+ghost use Rattle.schema_convert_plain.specs.Translation.{translated};
 ghost use Rattle.schema_readback.specs.PrintedDecls.{Group, group_items, schema_pieces};
 ghost use Rattle.schema_readback.specs.Shows.{SaysItem};
 ghost use Rattle.schema_readback.specs.Written.{WrittenItem};

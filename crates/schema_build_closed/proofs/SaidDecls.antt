@@ -20,7 +20,7 @@ use Rattle.schema_readback.specs.PrintedDecls.{IsSome}
 use Rattle.schema_readback.specs.Written.{WrittenType, no_more, rec, WrittenMember, types, context_path}
 use Rattle.schema_readback.specs.Written.{context_record}
 use Rattle.schema_readback.specs.Written.{WrittenDecl, entity, enum, external_entity, action, external_action, common}
-use Rattle.schema_convert.specs.Members.{is_same_role}
+use Rattle.schema_convert_faults.specs.Members.{is_same_role}
 use Rattle.schema_says.specs.DeclarationsSay.{written_paths, TagsSay, KindSays, CommonIs, role_and_types, types_in}
 use Rattle.schema_says.specs.DeclarationsSay.{ContextOr, SpecSays, members_said, AppliesSay}
 use Rattle.schema_says.specs.Sayable.{has_role, IsFilledMember, HasLawfulMembers, AppliesWell}

@@ -9,7 +9,7 @@ use Rattle.std.specs.declared.cmp.Ordering.{Ordering}
 use Rattle.cedar_data.specs.Maps.{last_at}
 use Rattle.cedar_data.proofs.Orders.{is_eq_turned}
 use Rattle.cedar_data.proofs.Every.{at_middle}
-use Rattle.schema_convert.specs.Repeats.{same_among, NoneRepeats}
+use Rattle.schema_convert_openings.specs.Repeats.{same_among, NoneRepeats}
 use Rattle.schema_build_orders.specs.Reordered.{IsReordered, nothing, behind, swapped, in_turn}
 
 pub itself : {A : Type 0} (xs : List A) → IsReordered xs xs

@@ -20,7 +20,7 @@ use Rattle.schema_json.specs.declared.fragment.Fragment.{Fragment}
 use Rattle.schema_json.specs.declared.fragment.NamespaceDefinition.{NamespaceDefinition}
 use Rattle.schema_json.specs.AsWritten.{as_written}
 use Rattle.schema_readback.specs.Written.{WrittenDecl, WrittenDeclared, WrittenItem, namespace, outside}
-use Rattle.schema_convert.specs.Repeats.{NoneRepeats}
+use Rattle.schema_convert_openings.specs.Repeats.{NoneRepeats}
 use Rattle.schema_says.specs.BareFragments.{bare_declared, bare_namespace, bare_fragment}
 use Rattle.schema_says.specs.Entries.{FoundSays, EntriesSay, last_written}
 use Rattle.schema_says.specs.FragmentsSay.{entities_of_decl, actions_of_decl, commons_of_decl, by_names}

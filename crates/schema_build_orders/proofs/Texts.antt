@@ -25,9 +25,10 @@ use Rattle.schema_readback.specs.Spellings.{SpellsSchema}
 use Rattle.schema_readback.specs.Written.{WrittenItem}
 use Rattle.schema_readback.proofs.ReadingBack.{lawful_so, faultless_all}
 use Rattle.schema_convert_errors.specs.declared.warnings.SchemaWarning.{SchemaWarning}
-use Rattle.schema_convert.specs.Faults.{translation_faults}
-use Rattle.schema_convert.specs.Shadowings.{shadowings}
-use Rattle.schema_convert.specs.Translated.{translated, IsTranslationOfText}
+use Rattle.schema_convert_faults.specs.Faults.{translation_faults}
+use Rattle.schema_convert_faults.specs.Shadowings.{shadowings}
+use Rattle.schema_convert_plain.specs.Translation.{translated}
+use Rattle.schema_convert.specs.Translated.{IsTranslationOfText}
 use Rattle.schema_says.specs.FragmentsSay.{FragmentSays}
 use Rattle.schema_says.specs.Named.{IsWellNamed}
 use Rattle.schema_says.specs.Sayable.{IsSayable}

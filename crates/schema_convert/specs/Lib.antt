@@ -1,12 +1,1 @@
-pub mod Borrowed
-pub mod Faults
-pub mod Gathered
-pub mod Joined
-pub mod Members
-pub mod NamesIn
-pub mod Plain
-pub mod Repeats
-pub mod Shadowings
-pub mod Translatable
 pub mod Translated
-pub mod Warned

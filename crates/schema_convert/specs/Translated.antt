@@ -1,4 +1,4 @@
--- What a tree, and a text, is translated to, or why it is not.
+-- What a text is translated to, or why it, or a tree, is not.
 use Rattle.std.specs.Prelude.{◌≡◌, ◌≢◌, ℕ, List, []}
 use Rattle.cedar_identifiers.specs.declared.raw_name.RawName.{RawName}
 use Rattle.cedar_names.specs.declared.extension_table.ExtensionTable.{ExtensionTable}
@@ -8,7 +8,6 @@ use Rattle.schema_syntax_errors.specs.declared.parse_schema_error.ParseSchemaErr
 use Rattle.schema_syntax.specs.ParseAnswers.{IsTreeOfText, IsRefusalOf}
 use Rattle.schema_json.specs.declared.fragment.Fragment.{Fragment}
 use Rattle.schema_json.specs.AsWritten.{as_written}
-use Rattle.schema_convert_fragments.specs.Fragments.{fragment_of}
 use Rattle.schema_convert_errors.specs.declared.error_list.CedarSchemaParseErrors.{CedarSchemaParseErrors}
 use Rattle.schema_convert_errors.specs.declared.error_list.CedarSchemaParseErrors.TheVariants.{SyntaxError, JsonError}
 use Rattle.schema_convert_errors.specs.declared.error_list.CedarSchemaParseErrors.TheVariants.{Memory}
@@ -16,20 +15,8 @@ use Rattle.schema_convert_errors.specs.declared.error_list.ToJsonSchemaErrors.{T
 use Rattle.schema_convert_errors.specs.declared.error_list.ToJsonSchemaFailure.{ToJsonSchemaFailure}
 use Rattle.schema_convert_errors.specs.declared.error_list.ToJsonSchemaFailure.TheVariants as failure
 use Rattle.schema_convert_errors.specs.declared.warnings.SchemaWarning.{SchemaWarning}
-use Rattle.schema_convert.specs.Faults.{translation_faults}
-use Rattle.schema_convert.specs.Joined.{joined}
-use Rattle.schema_convert.specs.Shadowings.{shadowings}
-
--- the fragment of a tree without faults: that of its joined namespaces
-abbrev pub translated : List (Annotated Namespace) → Fragment RawName as_written
-translated tree = fragment_of (joined tree)
-
--- the tree has no fault, and this is its fragment, with these warnings
-pub record IsTranslation (tree : List (Annotated Namespace)) (table : ExtensionTable)
-    (fragment : Fragment RawName as_written) (warnings : List SchemaWarning) : Type 0 where
-  pub lawful : translation_faults tree ≡ []
-  pub is : fragment ≡ translated tree
-  pub warned : warnings ≡ shadowings tree table
+use Rattle.schema_convert_faults.specs.Faults.{translation_faults}
+use Rattle.schema_convert_plain.specs.Translation.{IsTranslation}
 
 -- the tree has faults, and these are all of them
 pub record AreItsFaults (tree : List (Annotated Namespace)) (errors : ToJsonSchemaErrors) : Type 0 where

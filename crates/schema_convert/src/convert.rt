@@ -4,19 +4,20 @@ ghost use Rattle.schema_syntax_grammar.specs.Grammar.{Sentence};
 ghost use Rattle.schema_syntax_tokens.specs.Scans.{Scans, IsPlaced};
 ghost use Rattle.schema_syntax_tokens.specs.TokenLists.{kinds_of};
 ghost use Rattle.schema_syntax.specs.ParseAnswers.{IsRefusalOf};
-ghost use Rattle.schema_convert.specs.Translated.{IsTranslation, IsFailureOf, IsTranslationOfText, IsParseFailureOf};
+ghost use Rattle.schema_convert_plain.specs.Translation.{IsTranslation};
+ghost use Rattle.schema_convert.specs.Translated.{IsFailureOf, IsTranslationOfText, IsParseFailureOf};
 
-use crate::faults::faults_in;
-use crate::joined::joined;
-use crate::reading::fragment_at_once;
-use crate::shadowing::warnings_of;
 use cedar_data::NonEmpty;
 use cedar_identifiers::RawName;
 use cedar_names::ExtensionTable;
 use schema_convert_errors::{
     CedarSchemaParseErrors, SchemaWarning, ToJsonSchemaErrors, ToJsonSchemaFailure,
 };
+use schema_convert_faults::faults::faults_in;
+use schema_convert_faults::shadowing::warnings_of;
 use schema_convert_fragments::fragment_of;
+use schema_convert_openings::joined::joined;
+use schema_convert_plain::reading::fragment_at_once;
 use schema_json::Fragment;
 use schema_syntax::{ParseSchemaError, parse_tokens, refused, sentence_of, stopped};
 use schema_syntax_tokens::ShortToken;

@@ -4,15 +4,15 @@ ghost use Rattle.cedar_names.specs.declared.extension_table.ExtensionTable.{Exte
 ghost use Rattle.schema_syntax_tree.specs.declared.annotated.Annotated.{Annotated};
 ghost use Rattle.schema_syntax_tree.specs.declared.namespace.Namespace.{Namespace};
 ghost use Rattle.schema_convert_errors.specs.declared.warnings.SchemaWarning.{SchemaWarning};
-ghost use Rattle.schema_convert.specs.Faults.{first_some, translation_faults};
-ghost use Rattle.schema_convert.specs.Joined.{first_values, joined, value_at_key, HaveOwnNames};
-ghost use Rattle.schema_convert.specs.Repeats.{first_repeat, NoneRepeats, IsFirstRepeat};
-ghost use Rattle.schema_convert.specs.Shadowings.{shadowings};
-ghost use Rattle.schema_convert.specs.Translatable.{IsTranslatable};
+ghost use Rattle.schema_convert_faults.specs.Faults.{first_some, translation_faults};
+ghost use Rattle.schema_convert_openings.specs.Joined.{first_values, joined, value_at_key, HaveOwnNames};
+ghost use Rattle.schema_convert_openings.specs.Repeats.{first_repeat, NoneRepeats, IsFirstRepeat};
+ghost use Rattle.schema_convert_faults.specs.Shadowings.{shadowings};
+ghost use Rattle.schema_convert_faults.specs.Translatable.{IsTranslatable};
 ghost use Rattle.schema_convert_fragments.specs.Fragments.{fragment_of};
-ghost use Rattle.schema_convert.specs.Plain.{IsPlainTree, namespaces_apart};
-ghost use Rattle.schema_convert.specs.Translated.{IsTranslation};
-ghost use Rattle.schema_convert.specs.Warned.{IsAmong, IsWarnedOf};
+ghost use Rattle.schema_convert_plain.specs.Plain.{IsPlainTree, namespaces_apart};
+ghost use Rattle.schema_convert_plain.specs.Translation.{IsTranslation};
+ghost use Rattle.schema_convert_faults.specs.Warned.{IsAmong, IsWarnedOf};
 
 /// No two of the namespaces that a tree has have one name.
 pub fn names_are_own()

@@ -2,17 +2,7 @@
 #![tactic(auto)]
 
 pub mod convert;
-mod faults;
-mod gathering;
-mod joined;
 pub mod laws;
-mod members;
-mod names_in;
-mod openings;
-mod plain;
-mod reading;
-mod repeats;
-mod shadowing;
 
 pub use convert::{cedar_schema_to_json_schema, parse_cedar_schema_fragment};
 pub use laws::{

@@ -16,7 +16,7 @@ use Rattle.cedar_identifiers.specs.Words.{is_cedar}
 use Rattle.schema_syntax_tree.specs.declared.pr.PR.TheVariants.{Principal, Resource}
 use Rattle.schema_readback.specs.PrintedDecls.{IsSome}
 use Rattle.schema_readback.specs.Written.{WrittenMember, types, WrittenDeclared, WrittenItem}
-use Rattle.schema_convert.specs.Repeats.{same_among, NoneRepeats}
+use Rattle.schema_convert_openings.specs.Repeats.{same_among, NoneRepeats}
 use Rattle.schema_says.specs.FragmentsSay.{entities_of_decl, actions_of_decl, commons_of_decl}
 use Rattle.schema_says.specs.FragmentsSay.{WrittenNamespace, decls_of_item, items_of_namespace, opened}
 use Rattle.schema_says.specs.Named.{IsWellNamed}

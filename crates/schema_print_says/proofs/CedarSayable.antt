@@ -24,7 +24,7 @@ use Rattle.schema_json.specs.AsWritten.{as_written}
 use Rattle.schema_readback.specs.Written.{WrittenType, path, set, rec, WrittenRef, WrittenMember, types, context_path}
 use Rattle.schema_readback.specs.Written.{context_record, WrittenDecl, WrittenDeclared, outside}
 use Rattle.schema_readback.specs.PrintedDecls.{Group, namespace_items, group_items}
-use Rattle.schema_convert.specs.Repeats.{NoneRepeats}
+use Rattle.schema_convert_openings.specs.Repeats.{NoneRepeats}
 use Rattle.schema_says.specs.FragmentsSay.{entities_of_decl, actions_of_decl, commons_of_decl, NamespaceName}
 use Rattle.schema_says.specs.FragmentsSay.{namespace_order, name_components, WrittenNamespace, items_of_namespace}
 use Rattle.schema_says.specs.FragmentsSay.{opened}

@@ -9,7 +9,7 @@ ghost use Rattle.schema_json.specs.AsWritten.{as_written};
 ghost use Rattle.schema_readback.specs.PrintedDecls.{Group, IsProperGroup, group_items, schema_pieces};
 ghost use Rattle.schema_print_text.specs.PrintedTypes.{printed_type};
 ghost use Rattle.schema_print.specs.FragmentGroups.{AreGroupsOf};
-ghost use Rattle.schema_convert.specs.Translated.{translated};
+ghost use Rattle.schema_convert_plain.specs.Translation.{translated};
 ghost use Rattle.schema_says.specs.BareFragments.{bare_fragment};
 ghost use Rattle.schema_says.specs.Sayable.{IsSayable};
 ghost use Rattle.schema_says.specs.TranslatedAs.{IsTranslatedAs};

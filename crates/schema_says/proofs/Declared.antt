@@ -35,7 +35,7 @@ use Rattle.schema_convert_fragments.specs.Declarations.{raw_names, nothing, choi
 use Rattle.schema_convert_fragments.specs.Declarations.{is_external, entity_type_of, with_types, with_member, with_members}
 use Rattle.schema_convert_fragments.specs.Declarations.{applied_to_nothing, apply_spec_of, reference_of, references_of}
 use Rattle.schema_convert_fragments.specs.Declarations.{action_type_of, member_types}
-use Rattle.schema_convert.specs.Members.{is_same_role}
+use Rattle.schema_convert_faults.specs.Members.{is_same_role}
 use Rattle.schema_readback.specs.Written.{WrittenType, WrittenAttributes, no_more, rec, WrittenRef, WrittenMember}
 use Rattle.schema_readback.specs.Written.{types, context_path, context_record, WrittenDecl, entity, enum}
 use Rattle.schema_readback.specs.Written.{external_entity, action, external_action, common, WrittenDeclared}

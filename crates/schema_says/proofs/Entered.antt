@@ -34,8 +34,8 @@ use Rattle.schema_convert_fragments.specs.Declarations.{entity_type_of, action_t
 use Rattle.schema_convert_fragments.specs.Declarations.{unreserved, declarable, each_with}
 use Rattle.schema_convert_fragments.specs.Fragments.{entity_entries_of, action_entries_of, common_entry, common_entries_of}
 use Rattle.schema_convert_fragments.specs.Fragments.{entity_entries, action_entries, common_entries}
-use Rattle.schema_convert.specs.NamesIn.{entities_of, actions_of, commons_of, entity_names_in, common_names_in}
-use Rattle.schema_convert.specs.Translatable.{IsFreeCommon}
+use Rattle.schema_convert_faults.specs.NamesIn.{entities_of, actions_of, commons_of, entity_names_in, common_names_in}
+use Rattle.schema_convert_faults.specs.Translatable.{IsFreeCommon}
 use Rattle.schema_says.specs.Entries.{FoundSays, EntriesSay, last_written}
 use Rattle.schema_says.specs.Named.{IsNamedDeclared}
 use Rattle.schema_says.specs.DeclarationsSay.{EntitySays, ActionSays, CommonSays}

@@ -5,7 +5,7 @@ use Rattle.std.proofs.lemmas.Option.{same_Some}
 use Rattle.std.specs.List.{AllZip, AllByRecursion}
 use Rattle.std.specs.Option.{option_or}
 use Rattle.cedar_data.proofs.Options.{or_none}
-use Rattle.schema_convert.specs.Joined.{first_of_each}
+use Rattle.schema_convert_openings.specs.Joined.{first_of_each}
 
 module _ {A : Type 0} (test : A → Bool) where
   -- the last item that passes

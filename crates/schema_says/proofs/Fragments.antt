@@ -26,9 +26,9 @@ use Rattle.schema_readback.specs.Written.{WrittenDeclared, WrittenItem, namespac
 use Rattle.schema_readback.specs.PrintedDecls.{IsSome}
 use Rattle.schema_readback.specs.Shows.{SaysOptionalPath, SaysDeclared, SaysItem}
 use Rattle.schema_convert_fragments.specs.Fragments.{namespace_entry, definition_of, fragment_of}
-use Rattle.schema_convert.specs.Joined.{first_values, opened_as, outside, empty_namespace, joined}
-use Rattle.schema_convert.specs.NamesIn.{entity_names_in, common_names_in}
-use Rattle.schema_convert.specs.Translatable.{IsFreeCommon, IsLawfulNamespace, IsTranslatable}
+use Rattle.schema_convert_openings.specs.Joined.{first_values, opened_as, outside, empty_namespace, joined}
+use Rattle.schema_convert_faults.specs.NamesIn.{entity_names_in, common_names_in}
+use Rattle.schema_convert_faults.specs.Translatable.{IsFreeCommon, IsLawfulNamespace, IsTranslatable}
 use Rattle.schema_says.specs.Entries.{FoundSays, EntriesSay}
 use Rattle.schema_says.specs.Named.{IsNamedDeclared, IsWellNamed}
 use Rattle.schema_says.specs.FragmentsSay.{WrittenNamespace, NamespaceSays, NamespaceName, namespace_order}

@@ -26,13 +26,13 @@ use Rattle.schema_readback.specs.Written.{external_entity, action, external_acti
 use Rattle.schema_readback.specs.PrintedDecls.{IsSome}
 use Rattle.schema_readback.specs.Shows.{SaysPath, SaysId, SaysName, SaysOptional, SaysMember, SaysApplies, SaysDecl}
 use Rattle.schema_readback.specs.Shows.{SaysDeclared}
-use Rattle.schema_convert.specs.Faults.{is_reserved_path}
-use Rattle.schema_convert.specs.Members.{is_same_role, says_role, says_same}
-use Rattle.schema_convert.specs.NamesIn.{entities_of, actions_of, commons_of, entity_names_in, action_names_in}
-use Rattle.schema_convert.specs.NamesIn.{common_names_in, id_cmp, action_cmp}
-use Rattle.schema_convert.specs.Repeats.{NoneRepeats}
-use Rattle.schema_convert.specs.Translatable.{IsFreeName, IsFilled, IsLawfulBlock, HasLawfulBlock, AppliesLawfully}
-use Rattle.schema_convert.specs.Translatable.{IsLawfulNamespace}
+use Rattle.schema_convert_faults.specs.Faults.{is_reserved_path}
+use Rattle.schema_convert_faults.specs.Members.{is_same_role, says_role, says_same}
+use Rattle.schema_convert_faults.specs.NamesIn.{entities_of, actions_of, commons_of, entity_names_in, action_names_in}
+use Rattle.schema_convert_faults.specs.NamesIn.{common_names_in, id_cmp, action_cmp}
+use Rattle.schema_convert_openings.specs.Repeats.{NoneRepeats}
+use Rattle.schema_convert_faults.specs.Translatable.{IsFreeName, IsFilled, IsLawfulBlock, HasLawfulBlock}
+use Rattle.schema_convert_faults.specs.Translatable.{AppliesLawfully, IsLawfulNamespace}
 use Rattle.schema_says.specs.Named.{IsNamedDecl, IsNamedDeclared}
 use Rattle.schema_says.specs.FragmentsSay.{entities_of_decl, actions_of_decl, commons_of_decl, NamespaceName}
 use Rattle.schema_says.specs.Sayable.{IsFreeNamespace, role_said, says_alike, has_role, IsFilledMember}

@@ -29,7 +29,7 @@ use Rattle.schema_readback.specs.Meant.{entity_of_meaning, action_of_meaning, it
 use Rattle.schema_readback.specs.Meant.{group_of_meaning, groups_of_meaning}
 use Rattle.schema_readback.specs.PrintedDecls.{IsSome, group_items}
 use Rattle.schema_readback.specs.Written.{WrittenDecl, WrittenDeclared, WrittenItem, types, context_record, outside}
-use Rattle.schema_convert.specs.Repeats.{NoneRepeats}
+use Rattle.schema_convert_openings.specs.Repeats.{NoneRepeats}
 use Rattle.schema_says.specs.FragmentsSay.{entities_of_decl, actions_of_decl, commons_of_decl, NamespaceName}
 use Rattle.schema_says.specs.FragmentsSay.{namespace_order, WrittenNamespace, items_of_namespace, opened}
 use Rattle.schema_says.specs.MeantNames.{IsOpenName, IsActionName, action_name_order, HasOpenNames}

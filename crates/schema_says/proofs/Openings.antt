@@ -34,11 +34,11 @@ use Rattle.schema_readback.specs.PrintedDecls.{IsSome}
 use Rattle.schema_convert_types.specs.Names.{internal_name_of}
 use Rattle.schema_convert_fragments.specs.Fragments.{definition_of, declarable_name_so, namespace_key}
 use Rattle.schema_convert_fragments.specs.Fragments.{namespace_entry}
-use Rattle.schema_convert.specs.Joined.{named_so, unnamed_so, named, outside, have_one_name, first_openings}
-use Rattle.schema_convert.specs.Joined.{openings_of, opened_as, joined_by_name, empty_namespace, joined}
-use Rattle.schema_convert.specs.NamesIn.{path_cmp}
-use Rattle.schema_convert.specs.Translatable.{IsFreeName}
-use Rattle.schema_convert.proofs.Own.{all_firsts}
+use Rattle.schema_convert_openings.specs.Joined.{named_so, unnamed_so, named, outside, have_one_name, first_openings}
+use Rattle.schema_convert_openings.specs.Joined.{openings_of, opened_as, joined_by_name, empty_namespace, joined}
+use Rattle.schema_convert_openings.specs.Joined.{path_cmp}
+use Rattle.schema_convert_faults.specs.Translatable.{IsFreeName}
+use Rattle.schema_convert_openings.proofs.Own.{all_firsts}
 use Rattle.schema_says.specs.FragmentsSay.{NamespaceName, namespace_order, name_components}
 use Rattle.schema_says.proofs.Firsts.{last_of, last_append, last_first, last_map, find_first, filter_same}
 use Rattle.schema_says.proofs.Maps.{lookup_map}

@@ -15,10 +15,10 @@ use Rattle.schema_syntax_tree.specs.declared.declaration.Declaration.{Declaratio
 use Rattle.schema_syntax_tree.specs.declared.path.Path.{Path}
 use Rattle.schema_readback.specs.Written.{WrittenItem, namespace, outside as stands_outside}
 use Rattle.schema_readback.specs.Shows.{SaysDeclared, SaysItem}
-use Rattle.schema_convert.specs.Joined.{named_so, named, outside, have_one_name, first_openings, openings_of, opened_as}
-use Rattle.schema_convert.specs.Joined.{joined_by_name, empty_namespace, joined}
-use Rattle.schema_convert.specs.Translatable.{IsLawfulNamespace, IsTranslatable}
-use Rattle.schema_convert.proofs.Own.{all_firsts}
+use Rattle.schema_convert_openings.specs.Joined.{named_so, named, outside, have_one_name, first_openings, openings_of}
+use Rattle.schema_convert_openings.specs.Joined.{opened_as, joined_by_name, empty_namespace, joined}
+use Rattle.schema_convert_faults.specs.Translatable.{IsLawfulNamespace, IsTranslatable}
+use Rattle.schema_convert_openings.proofs.Own.{all_firsts}
 use Rattle.schema_says.specs.Named.{IsWellNamed}
 use Rattle.schema_says.specs.FragmentsSay.{NamespaceName, WrittenNamespace, notes_of_item, decls_of_item}
 use Rattle.schema_says.specs.FragmentsSay.{is_of_namespace, items_of_namespace, opened}

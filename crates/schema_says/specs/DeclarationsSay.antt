@@ -21,7 +21,7 @@ use Rattle.schema_json.specs.AsWritten.{as_written}
 use Rattle.schema_readback.specs.Written.{WrittenType, no_more, rec, WrittenRef, WrittenMember, types, context_path}
 use Rattle.schema_readback.specs.Written.{context_record, WrittenDecl, entity, enum, external_entity, action}
 use Rattle.schema_readback.specs.Written.{external_action, common, WrittenDeclared}
-use Rattle.schema_convert.specs.Members.{is_same_role}
+use Rattle.schema_convert_faults.specs.Members.{is_same_role}
 use Rattle.schema_says.specs.TypesSay.{TypeSays}
 
 -- the names as they were written

@@ -8,8 +8,8 @@ use Rattle.cedar_identifiers.specs.Words.{is_cedar}
 use Rattle.schema_syntax_tree.specs.declared.pr.PR.{PR}
 use Rattle.schema_syntax_tree.specs.declared.pr.PR.TheVariants.{Principal, Resource}
 use Rattle.schema_json.specs.Keywords.{is_keyword_name}
-use Rattle.schema_convert.specs.Members.{is_same_role}
-use Rattle.schema_convert.specs.Repeats.{NoneRepeats}
+use Rattle.schema_convert_faults.specs.Members.{is_same_role}
+use Rattle.schema_convert_openings.specs.Repeats.{NoneRepeats}
 use Rattle.schema_readback.specs.Written.{WrittenMember, types, WrittenDecl, action, WrittenDeclared, WrittenItem}
 use Rattle.schema_readback.specs.PrintedDecls.{IsSome}
 use Rattle.schema_says.specs.DeclarationsSay.{role_and_types}

@@ -1,7 +1,7 @@
 -- A text whose fragment says what is written.
 use Rattle.std.specs.Prelude.{◌≡◌, ℕ, List, []}
-use Rattle.schema_convert.specs.Faults.{translation_faults}
-use Rattle.schema_convert.specs.Translated.{translated}
+use Rattle.schema_convert_faults.specs.Faults.{translation_faults}
+use Rattle.schema_convert_plain.specs.Translation.{translated}
 use Rattle.schema_readback.specs.ReadsBack.{ReadsBack}
 use Rattle.schema_readback.specs.Written.{WrittenItem}
 use Rattle.schema_says.specs.FragmentsSay.{FragmentSays}

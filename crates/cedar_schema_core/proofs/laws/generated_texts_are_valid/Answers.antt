@@ -1,4 +1,4 @@
-use Rattle.schema_convert.specs.Translated.{translated}
+use Rattle.schema_convert_plain.specs.Translation.{translated}
 use Rattle.schema_generate.specs.Generated.{generated}
 use Rattle.schema_generate_valid.specs.Declares.{generated_items}
 use Rattle.cedar_schema_core.proofs.Canonical.{text_means}

@@ -1,6 +1,6 @@
 use Rattle.std.proofs.Common.{sym, ap, ◌∙◌}
-use Rattle.schema_convert.specs.Translated.{translated}
-use Rattle.schema_convert.specs.Shadowings.{shadowings}
+use Rattle.schema_convert_plain.specs.Translation.{translated}
+use Rattle.schema_convert_faults.specs.Shadowings.{shadowings}
 use Rattle.cedar_schema_core.proofs.laws.one_translation.Goals as goal
 
 pub returns : goal.returns

@@ -1,6 +1,6 @@
 use Rattle.std.specs.List.{flat_map}
 use Rattle.cedar_names.specs.CanonicalText.{schema_text}
-use Rattle.schema_convert.specs.Translated.{translated}
+use Rattle.schema_convert_plain.specs.Translation.{translated}
 use Rattle.schema_readback.specs.Meant.{groups_of_meaning}
 use Rattle.schema_readback.specs.PrintedDecls.{group_items}
 use Rattle.cedar_schema_core.proofs.Canonical.{text_means}

@@ -1,4 +1,4 @@
-use Rattle.schema_convert.proofs.Lawful.{lawful}
+use Rattle.schema_convert_faults.proofs.Lawful.{lawful}
 use Rattle.schema_convert.proofs.laws.lawful_trees.Goals as goal
 
 pub returns : goal.returns

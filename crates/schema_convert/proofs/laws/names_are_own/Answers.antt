@@ -1,4 +1,4 @@
-use Rattle.schema_convert.proofs.Own.{own_names}
+use Rattle.schema_convert_openings.proofs.Own.{own_names}
 use Rattle.schema_convert.proofs.laws.names_are_own.Goals as goal
 
 pub returns : goal.returns

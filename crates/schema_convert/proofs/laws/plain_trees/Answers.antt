@@ -1,4 +1,4 @@
-use Rattle.schema_convert.proofs.PlainTree.{plain_tree}
+use Rattle.schema_convert_plain.proofs.PlainTree.{plain_tree}
 use Rattle.schema_convert.proofs.laws.plain_trees.Goals as goal
 
 pub returns : goal.returns

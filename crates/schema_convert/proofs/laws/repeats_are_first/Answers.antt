@@ -1,4 +1,4 @@
-use Rattle.schema_convert.proofs.FirstRepeat.{none_found, some_found}
+use Rattle.schema_convert_openings.proofs.FirstRepeat.{none_found, some_found}
 use Rattle.schema_convert.proofs.laws.repeats_are_first.Goals as goal
 
 pub returns-clause-none : goal.returns-clause-none

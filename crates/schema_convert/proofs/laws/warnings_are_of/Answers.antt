@@ -1,4 +1,4 @@
-use Rattle.schema_convert.proofs.Warnings.{warned}
+use Rattle.schema_convert_faults.proofs.Warnings.{warned}
 use Rattle.schema_convert.proofs.laws.warnings_are_of.Goals as goal
 
 pub returns : goal.returns

@@ -4,8 +4,8 @@ use Rattle.cedar_identifiers.specs.declared.raw_name.RawName.{RawName}
 use Rattle.cedar_names.specs.declared.extension_table.ExtensionTable.{ExtensionTable}
 use Rattle.schema_json.specs.declared.fragment.Fragment.{Fragment}
 use Rattle.schema_json.specs.AsWritten.{as_written}
-use Rattle.schema_convert.specs.Shadowings.{shadowings}
-use Rattle.schema_convert.specs.Translated.{translated}
+use Rattle.schema_convert_faults.specs.Shadowings.{shadowings}
+use Rattle.schema_convert_plain.specs.Translation.{translated}
 use Rattle.schema_print.specs.Printable.{IsPrintable}
 use Rattle.schema_print.specs.PrintedFragments.{fragment_text}
 use Rattle.schema_print.proofs.Grouped.{groups_laid_out}

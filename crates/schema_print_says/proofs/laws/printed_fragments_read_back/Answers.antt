@@ -1,6 +1,6 @@
 use Rattle.std.specs.List.{flat_map}
 use Rattle.schema_syntax_tokens.specs.Laid.{laid}
-use Rattle.schema_convert.specs.Translated.{translated}
+use Rattle.schema_convert_plain.specs.Translation.{translated}
 use Rattle.schema_readback.specs.PrintedDecls.{group_items, schema_pieces}
 use Rattle.schema_print_says.specs.CedarForm.{cedar_form}
 use Rattle.schema_print_says.proofs.laws.printed_fragments_read_back.Goals as goal

@@ -1,4 +1,4 @@
-use Rattle.schema_convert.specs.Translated.{translated}
+use Rattle.schema_convert_plain.specs.Translation.{translated}
 use Rattle.schema_says.proofs.laws.trees_that_say_the_same.Goals as goal
 
 pub returns : goal.returns

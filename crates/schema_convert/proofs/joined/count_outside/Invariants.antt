@@ -1,7 +1,0 @@
-use Rattle.std.proofs.Common.{◌+◌, ◌≤◌, length, drop}
-use Rattle.schema_convert.specs.Joined.{outside}
-use Rattle.schema_convert.proofs.joined.count_outside.Given as goal
-
-abbrev pub invariant-loop-namespace : goal.invariant-loop-namespace
-invariant-loop-namespace l =
-    l.count + length (outside (drop l.namespace-index l.namespaces)) ≤ length (outside l.namespaces)

@@ -1,7 +1,0 @@
-use Rattle.std.proofs.Common.{◌≡◌, map, take}
-use Rattle.schema_convert.specs.Repeats.{fingerprint}
-use Rattle.schema_convert.proofs.repeats.are_apart.Given as goal
-
-abbrev pub invariant-loop-item : goal.invariant-loop-item
-invariant-loop-item g l =
-    l.numbers.items ≡ map (λ x. fingerprint (g.T.Hash.hash_input x.now)) (take l.item-index l.items.items)

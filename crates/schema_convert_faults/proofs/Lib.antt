@@ -1,0 +1,8 @@
+pub mod Among
+mod Below
+mod Borrowed
+pub mod Lawful
+mod Sorted
+mod Taken
+pub mod Valued
+pub mod Warnings

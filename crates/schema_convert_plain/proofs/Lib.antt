@@ -1,0 +1,7 @@
+mod Counted
+mod ItemByItem
+mod PlainJoined
+mod PlainNames
+pub mod PlainTree
+mod Readings
+mod Rest
