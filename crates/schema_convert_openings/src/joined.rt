@@ -70,8 +70,8 @@ pub fn joined<'a>(
     ensures { IfOk result (λ namespaces. namespaces.items ≡ joined schema.entry) }
 {
     let openings = schema.into_vec();
-    let mut named = Vec::new(alloc);
     let mut outside = Vec::with_capacity(alloc, count_outside(openings.as_slice()))?;
+    let mut named = Vec::new(alloc);
     for namespace in openings {
         push_namespace(alloc, &mut named, &mut outside, namespace)?;
     }
