@@ -1,5 +1,5 @@
 use Rattle.std.proofs.Common.{ℕ, ◌-◌, ◌≤◌, ◌≡◌, true, List, [], ◌∷◌, length, take, drop, get_or, ap, sym, ◌∙◌, arith}
-use Rattle.std.proofs.lemmas.Grind.{common_steps}
+use Rattle.std.proofs.lemmas.List.{take_all}
 use Rattle.schema_syntax_tokens.specs.declared.token.Token.{Token}
 use Rattle.schema_syntax_grammar.specs.declared.token_kind.TokenKind.TheVariants.{Equals}
 use Rattle.schema_syntax_grammar.specs.Grammar.{same_kind}
@@ -12,8 +12,8 @@ behind_equals : (ts : List Token) (first : Token) → 1 ≤ length ts → first 
 unfolding shape_at
 behind_equals [] first some is kind = absurd (omega (arith, some))
 behind_equals (t ∷ ts) first some is kind =
-    let same : ts ≡ take (length (t ∷ ts) - 1) (drop 1 (t ∷ ts)) = grind (arith, common_steps) in
-    rw (← is, ← kind) (ap (λ l. some_record (record_at l)) same)
+    rw (← is, ← kind)
+    (ap (λ l. some_record (record_at l)) (sym (take_all (length (t ∷ ts) - 1) (drop 1 (t ∷ ts)) (omega arith))))
 
 pub returns-in_ok-attrs-in-len1-up : goal.returns-in_ok-attrs-in-len1-up
 returns-in_ok-attrs-in-len1-up c =
