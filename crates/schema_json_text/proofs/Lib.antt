@@ -3,7 +3,6 @@ mod Slots
 mod Loops
 mod TypeSlots
 mod KindSlots
-mod Escaping
 mod Words
 mod Presence
 mod TypeTexts

@@ -1,4 +1,3 @@
-pub mod Adds
-pub mod Escapes
+pub mod AddsValue
 pub mod Members
 pub mod Places

@@ -4,19 +4,20 @@ ghost use Rattle.std.specs.List.Sorted.{IsStrictlySortedBy};
 ghost use Rattle.cedar_data.specs.Text.{text_cmp};
 ghost use Rattle.schema_json_values.specs.TypeValues.{object_of};
 ghost use Rattle.schema_json_values.specs.FragmentValues.{attribute_name_entry, applies_to_value, action_id_value, action_value, list_of};
-ghost use Rattle.schema_json_text.specs.Adds.{Adds, AddsValue};
+ghost use Rattle.schema_json_quotes.specs.Adds.{Adds};
+ghost use Rattle.schema_json_text.specs.AddsValue.{AddsValue};
 ghost use Rattle.schema_json_text.specs.Members.{AddsMember, ahead, shape_value, nulls_value, applies_value, parents_value};
 
 use crate::annotations::push_first_annotations;
 use crate::entity_types::push_external;
 use crate::leaves::{push_comma, push_later, push_name, push_names};
 use crate::members::{Member, push_object};
-use crate::pushing::{push, push_char};
-use crate::quotes::push_quoted;
 use crate::types::push_type;
 use cedar_data::{List, Set, Text};
 use cedar_identifiers::NameText;
 use schema_json::{ActionEntityUID, ActionType, ApplySpec, Type};
+use schema_json_quotes::pushing::{push, push_char};
+use schema_json_quotes::quotes::push_quoted;
 use std::alloc::{AllocError, Global};
 
 // Adds the context, where it is not the empty record, ahead of a further member.

@@ -4,14 +4,15 @@ ghost use Rattle.std.specs.Map.{keys_of};
 ghost use Rattle.std.specs.List.Sorted.{IsStrictlySortedBy};
 ghost use Rattle.cedar_data.specs.Text.{text_cmp};
 ghost use Rattle.schema_json_values.specs.TypeValues.{object_of, annotation_entry, text_or_null};
-ghost use Rattle.schema_json_text.specs.Adds.{Adds, AddsValue};
+ghost use Rattle.schema_json_quotes.specs.Adds.{Adds};
+ghost use Rattle.schema_json_text.specs.AddsValue.{AddsValue};
 ghost use Rattle.schema_json_text.specs.Members.{annotations_ahead, annotations_value, AddsMember};
 
 use crate::leaves::push_key;
-use crate::pushing::{push, push_char};
-use crate::quotes::push_quoted;
 use cedar_data::Text;
 use cedar_identifiers::{Annotations, AnyId};
+use schema_json_quotes::pushing::{push, push_char};
+use schema_json_quotes::quotes::push_quoted;
 use std::alloc::AllocError;
 
 // Adds a text, or null.

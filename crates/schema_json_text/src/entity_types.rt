@@ -2,17 +2,18 @@
 ghost use Rattle.std.specs.Prelude.{OnOk, IfOk, map, string_bytes, codes, true};
 ghost use Rattle.serde_json.specs.Data.{no_members, put};
 ghost use Rattle.schema_json_values.specs.FragmentValues.{common_type_value, entity_type_value, kind_members, list_of, choice_value};
-ghost use Rattle.schema_json_text.specs.Adds.{Adds, AddsValue};
+ghost use Rattle.schema_json_quotes.specs.Adds.{Adds};
+ghost use Rattle.schema_json_text.specs.AddsValue.{AddsValue};
 ghost use Rattle.schema_json_text.specs.Members.{AddsMember, entity_end, flag_value, named_list, shape_value, tags_value};
 
 use crate::annotations::push_first_annotations;
 use crate::leaves::{push_comma, push_later, push_names};
-use crate::pushing::{push, push_char};
-use crate::quotes::push_quoted;
 use crate::types::{push_annotated, push_type};
 use cedar_data::{Boxed, NonEmpty};
 use cedar_identifiers::{Eid, NameText};
 use schema_json::{CommonType, EntityType, EntityTypeKind, StandardEntityType, Type};
+use schema_json_quotes::pushing::{push, push_char};
+use schema_json_quotes::quotes::push_quoted;
 use std::alloc::{AllocError, Global};
 
 /// Adds the JSON text of a common type.

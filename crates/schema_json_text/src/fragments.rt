@@ -8,7 +8,8 @@ ghost use Rattle.cedar_data.specs.Text.{text_cmp};
 ghost use Rattle.schema_json_values.specs.TypeValues.{object_of};
 ghost use Rattle.schema_json_values.specs.FragmentValues.{common_entry, entity_entry, action_entry};
 ghost use Rattle.schema_json_values.specs.FragmentValues.{namespace_value, namespace_entry, json_value};
-ghost use Rattle.schema_json_text.specs.Adds.{Adds, AddsValue};
+ghost use Rattle.schema_json_quotes.specs.Adds.{Adds};
+ghost use Rattle.schema_json_text.specs.AddsValue.{AddsValue};
 ghost use Rattle.schema_json_text.specs.Members.{ahead, object_value, ArePut};
 ghost use Rattle.schema_json_text.specs.Places.{placed_entry};
 
@@ -16,12 +17,12 @@ use crate::actions::push_action;
 use crate::annotations::push_annotations;
 use crate::entity_types::{push_common_type, push_entity_type};
 use crate::members::{Member, push_object};
-use crate::pushing::{push, push_char};
 use cedar_data::{Map, Text};
 use cedar_identifiers::{Name, NameText, UnreservedId};
 use schema_json::{
     ActionType, CommonType, CommonTypeId, EntityType, Fragment, NamespaceDefinition,
 };
+use schema_json_quotes::pushing::{push, push_char};
 use schema_json_values::fragments::namespace_text;
 use std::alloc::{AllocError, Global};
 

@@ -2,13 +2,14 @@
 ghost use Rattle.std.specs.Prelude.{◌<◌, ◌++◌, [], ◌∷◌, OnOk};
 ghost use Rattle.json.specs.Print.{quoted};
 ghost use Rattle.serde_json.specs.Written.{comma_if};
-ghost use Rattle.schema_json_text.specs.Adds.{Adds, AddsValue};
+ghost use Rattle.schema_json_quotes.specs.Adds.{Adds};
+ghost use Rattle.schema_json_text.specs.AddsValue.{AddsValue};
 ghost use Rattle.schema_json_values.specs.TypeValues.{name_bytes};
 ghost use Rattle.schema_json_values.specs.FragmentValues.{names_value};
 
-use crate::pushing::{push, push_char};
-use crate::quotes::push_quoted;
 use cedar_identifiers::NameText;
+use schema_json_quotes::pushing::{push, push_char};
+use schema_json_quotes::quotes::push_quoted;
 use std::alloc::{AllocError, Global};
 
 /// Adds a comma, where something stands before.

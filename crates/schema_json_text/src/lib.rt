@@ -7,8 +7,6 @@ mod entity_types;
 pub mod fragments;
 mod leaves;
 pub mod members;
-mod pushing;
-mod quotes;
 mod types;
 
 pub use fragments::fragment_text;

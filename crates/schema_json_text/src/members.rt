@@ -1,11 +1,11 @@
 // Objects, member by member.
 ghost use Rattle.std.specs.Prelude.{◌≡◌, ℕ, List, OnOk, map};
 ghost use Rattle.serde_json.specs.Data.{Data, object};
-ghost use Rattle.schema_json_text.specs.Adds.{AddsValue};
+ghost use Rattle.schema_json_text.specs.AddsValue.{AddsValue};
 ghost use Rattle.schema_json_text.specs.Members.{members_in_order};
 
 use crate::leaves::push_key;
-use crate::pushing::push_char;
+use schema_json_quotes::pushing::push_char;
 use std::alloc::{AllocError, Global};
 
 /// What is written as a member of an object.

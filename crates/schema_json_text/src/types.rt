@@ -4,16 +4,17 @@ ghost use Rattle.std.specs.Map.{keys_of};
 ghost use Rattle.std.specs.List.Sorted.{IsStrictlySortedBy};
 ghost use Rattle.cedar_data.specs.Text.{text_cmp};
 ghost use Rattle.schema_json_values.specs.TypeValues.{object_of, type_members, variant_members, attribute_entry, type_value, with_word};
-ghost use Rattle.schema_json_text.specs.Adds.{Adds, AddsValue};
+ghost use Rattle.schema_json_quotes.specs.Adds.{Adds};
+ghost use Rattle.schema_json_text.specs.AddsValue.{AddsValue};
 ghost use Rattle.schema_json_text.specs.Members.{ahead, annotations_ahead, member_behind, described, flag_value, named_type, record_start, word_end};
 
 use crate::annotations::push_annotations;
 use crate::leaves::push_key;
-use crate::pushing::{push, push_char};
-use crate::quotes::{push_escaped, push_quoted};
 use cedar_data::Text;
 use cedar_identifiers::{Annotations, NameText};
 use schema_json::{RecordType, Type, TypeOfAttribute, TypeVariant};
+use schema_json_quotes::pushing::{push, push_char};
+use schema_json_quotes::quotes::{push_escaped, push_quoted};
 use std::alloc::{AllocError, Global};
 
 // Begins the object of a type, up to this field. `start` is the brace and the field.

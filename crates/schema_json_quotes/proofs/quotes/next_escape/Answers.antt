@@ -2,8 +2,8 @@ use Rattle.std.proofs.Common.{◌≡◌, get_or, false, subst, arith}
 use Rattle.std.proofs.lemmas.List.{take_all}
 use Rattle.std.proofs.lemmas.List.Elements.{All-more}
 use Rattle.json.specs.Run.{is_stop}
-use Rattle.schema_json_text.specs.Escapes.{NoneJsonEscaped}
-use Rattle.schema_json_text.proofs.quotes.next_escape.Goals as goal
+use Rattle.schema_json_quotes.specs.Escapes.{NoneJsonEscaped}
+use Rattle.schema_json_quotes.proofs.quotes.next_escape.Goals as goal
 
 pub loop-at-preserved : goal.loop-at-preserved
 loop-at-preserved c =

@@ -1,6 +1,6 @@
 // Adding to a text.
 ghost use Rattle.std.specs.Prelude.{◌<◌, [], ◌∷◌, OnOk};
-ghost use Rattle.schema_json_text.specs.Adds.{Adds};
+ghost use Rattle.schema_json_quotes.specs.Adds.{Adds};
 
 use std::alloc::AllocError;
 

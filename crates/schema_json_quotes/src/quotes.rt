@@ -2,8 +2,8 @@
 ghost use Rattle.std.specs.Prelude.{◌≡◌, true, false, OnOk, MatchOption};
 ghost use Rattle.json.specs.Run.{is_stop};
 ghost use Rattle.json.specs.Print.{escape, escape_byte, quoted};
-ghost use Rattle.schema_json_text.specs.Adds.{Adds};
-ghost use Rattle.schema_json_text.specs.Escapes.{NoneJsonEscaped, IsNextJsonEscape};
+ghost use Rattle.schema_json_quotes.specs.Adds.{Adds};
+ghost use Rattle.schema_json_quotes.specs.Escapes.{NoneJsonEscaped, IsNextJsonEscape};
 
 use crate::pushing::{push, push_char};
 use std::alloc::AllocError;

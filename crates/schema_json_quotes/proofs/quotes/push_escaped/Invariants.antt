@@ -2,7 +2,7 @@ use Rattle.std.proofs.Common.{◌≡◌, ◌++◌, length, string_bytes}
 use denote.Text.{Utf8}
 use denote.Shadow.{shadow}
 use Rattle.json.specs.Print.{escape}
-use Rattle.schema_json_text.proofs.quotes.push_escaped.Given as goal
+use Rattle.schema_json_quotes.proofs.quotes.push_escaped.Given as goal
 
 abbrev pub invariant-loop-at : goal.invariant-loop-at
 invariant-loop-at l = shadow (Utf8 l.rest)

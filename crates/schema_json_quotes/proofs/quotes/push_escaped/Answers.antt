@@ -2,11 +2,11 @@ use Rattle.std.proofs.Common.{◌≡◌, ◌++◌, take, drop, sym, ap, ◌∙�
 use Rattle.std.specs.Str.{IsUtf8}
 use Rattle.std.proofs.lemmas.Result.{on_ok_weaker}
 use Rattle.json.specs.Print.{escape}
-use Rattle.schema_json_text.specs.Escapes.{NoneJsonEscaped, IsNextJsonEscape}
-use Rattle.schema_json_text.proofs.Escaping.{escape_plain, boundary_after_escaped}
-use Rattle.schema_json_text.proofs.Escaping.{text_after_escape, left_to_escape}
-use Rattle.schema_json_text.proofs.quotes.push_escaped.Goals as goal
-use Rattle.schema_json_text.proofs.quotes.push_escaped.Goals.{In_ok-push}
+use Rattle.schema_json_quotes.specs.Escapes.{NoneJsonEscaped, IsNextJsonEscape}
+use Rattle.schema_json_quotes.proofs.Escaping.{escape_plain, boundary_after_escaped}
+use Rattle.schema_json_quotes.proofs.Escaping.{text_after_escape, left_to_escape}
+use Rattle.schema_json_quotes.proofs.quotes.push_escaped.Goals as goal
+use Rattle.schema_json_quotes.proofs.quotes.push_escaped.Goals.{In_ok-push}
 
 found : (c : In_ok-push) → IsNextJsonEscape c.loop-at.rest.now c.in-Some.at c.in-Some.escape.now
 found c = subst (λ t. IsNextJsonEscape t c.in-Some.at c.in-Some.escape.now) c.as_bytes.ensures.value c.in-Some.ensures

@@ -9,7 +9,7 @@ use Rattle.std.proofs.lemmas.Str.{IsUtf8-drop, IsCharBoundary-before_ascii, IsCh
 use Rattle.json.specs.Run.{is_stop}
 use Rattle.json.specs.Print.{escape, escape_byte}
 use Rattle.json.proofs.Printed.Plain.{escape_on_plain}
-use Rattle.schema_json_text.specs.Escapes.{NoneJsonEscaped, IsNextJsonEscape}
+use Rattle.schema_json_quotes.specs.Escapes.{NoneJsonEscaped, IsNextJsonEscape}
 
 stop_ascii : (c : ℕ) → is_stop c ≡ true → c < 128
 stop_ascii c h =
