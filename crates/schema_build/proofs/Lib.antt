@@ -8,6 +8,4 @@ mod Meanings
 mod Schemas
 mod OneFault
 mod DeclaredOnce
-mod Least
-mod Misnamed
 mod OldJson

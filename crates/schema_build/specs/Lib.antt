@@ -2,7 +2,7 @@ pub mod Assembly
 pub mod FaultsTold
 pub mod Meaning
 pub mod OldJson
-pub mod Parts
+pub mod PartsFault
 pub mod Schemas
 pub mod TextErrorTexts
 pub mod Texts

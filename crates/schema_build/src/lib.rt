@@ -5,7 +5,6 @@ mod assembly;
 pub mod from_old_json;
 pub mod from_text;
 pub mod laws;
-mod parts;
 pub mod schema;
 pub mod text_errors;
 

@@ -14,11 +14,11 @@ ghost use Rattle.schema_build_types.specs.Content.{content};
 ghost use Rattle.schema_build_types.specs.Lacks.{schema_lacks};
 ghost use Rattle.schema_build_recovered.specs.Recovered.{IsRecoveredFragment};
 ghost use Rattle.schema_build_recovered.specs.Refusals.{IsFirstLack, NamesLacksFirst};
-ghost use Rattle.schema_build.specs.Parts.{IsMisnamed, IsEnumBelow, NoneIs, PartsFault};
+ghost use Rattle.schema_build_unfit.specs.Parts.{IsMisnamed, IsEnumBelow, NoneIs};
+ghost use Rattle.schema_build.specs.PartsFault.{PartsFault};
 ghost use Rattle.schema_build.specs.Schemas.{StandsFor, Builds};
 
 use crate::assembly::{action_entries, actions, entity_type_entries, entity_types};
-use crate::parts::{first_enum_below, first_misnamed};
 use cedar_data::{CloneIn, Map, Text};
 use cedar_identifiers::{Name, RawName};
 use cedar_names::{EntityUID, ExtensionTable, Steps};
@@ -32,6 +32,7 @@ use schema_build_scope::laws::common_types_are_declared_once;
 use schema_build_types::{
     ActionEntry, EntityTypeEntry, ValidatorActionId, ValidatorEntityType, get_counted,
 };
+use schema_build_unfit::parts::{first_enum_below, first_misnamed};
 use schema_json::Fragment;
 use std::alloc::Global;
 use std::marker::Model;

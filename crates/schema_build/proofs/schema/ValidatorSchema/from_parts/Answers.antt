@@ -2,7 +2,7 @@ use Rattle.std.proofs.Common.{inr, sym, subst}
 use Rattle.std.specs.List.Sorted.{IsStrictlySortedBy}
 use Rattle.std.specs.Map.{keys_of}
 use Rattle.cedar_names.specs.Orders.{names_in_order, uids_in_order}
-use Rattle.schema_build.specs.Parts.{IsMisnamed, IsEnumBelow, NoneIs, IsFirstThat, IsLeastName}
+use Rattle.schema_build_unfit.specs.Parts.{IsMisnamed, IsEnumBelow, NoneIs, IsFirstThat, IsLeastName}
 use Rattle.schema_build.proofs.schema.ValidatorSchema.from_parts.Goals as goal
 
 pub returns-in-Some-first_enum_below-clause-fault :

@@ -1,7 +1,7 @@
 use Rattle.std.proofs.Common.{sym, ap, codes, ◌∙◌}
 use Rattle.std.specs.Str.{bytes_eq}
 use Rattle.schema_build_text.proofs.Named.{last_of}
-use Rattle.schema_build.proofs.parts.is_action_type.Goals as goal
+use Rattle.schema_build_unfit.proofs.parts.is_action_type.Goals as goal
 
 pub returns-in-Some : goal.returns-in-Some
 returns-in-Some c =

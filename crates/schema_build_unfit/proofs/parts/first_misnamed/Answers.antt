@@ -1,9 +1,9 @@
 use Rattle.cedar_identifiers.specs.Names.{components_of}
 use Rattle.cedar_names.specs.CanonicalText.{basename}
 use Rattle.std.proofs.Common.{codes}
-use Rattle.schema_build.specs.Parts.{IsMisnamed}
-use Rattle.schema_build.proofs.Misnamed.{differs, first_at}
-use Rattle.schema_build.proofs.parts.first_misnamed.Goals as goal
+use Rattle.schema_build_unfit.specs.Parts.{IsMisnamed}
+use Rattle.schema_build_unfit.proofs.Misnamed.{differs, first_at}
+use Rattle.schema_build_unfit.proofs.parts.first_misnamed.Goals as goal
 
 pub returns-then-not-is_action_type : goal.returns-then-not-is_action_type
 returns-then-not-is_action_type c =

@@ -1,8 +1,8 @@
 use Rattle.std.proofs.Common.{◌+◌, ◌≡◌, sym, subst, ◌∙◌}
 use Rattle.cedar_names.specs.Orders.{names_in_order}
-use Rattle.schema_build.proofs.Least.{IsLeastSoFar, least_at_first, least_taken, least_kept, not_less}
-use Rattle.schema_build.proofs.parts.least.Goals.{in-Less, in-Equal}
-use Rattle.schema_build.proofs.parts.least.Goals as goal
+use Rattle.schema_build_unfit.proofs.Least.{IsLeastSoFar, least_at_first, least_taken, least_kept, not_less}
+use Rattle.schema_build_unfit.proofs.parts.least.Goals.{in-Less, in-Equal}
+use Rattle.schema_build_unfit.proofs.parts.least.Goals as goal
 
 pub loop-name-init : goal.loop-name-init
 loop-name-init c = least_at_first c.args.first.now c.args.others.now

@@ -4,7 +4,7 @@ ghost use Rattle.cedar_identifiers.specs.Names.{components_of};
 ghost use Rattle.cedar_names.specs.CanonicalText.{basename};
 ghost use Rattle.schema_build_types.specs.declared.action.ValidatorActionId.{ValidatorActionId as Action};
 ghost use Rattle.schema_build_types.specs.declared.entity_type.ValidatorEntityType.{ValidatorEntityType as EntityType};
-ghost use Rattle.schema_build.specs.Parts.{IsMisnamed, IsEnumBelow, NoneIs, IsFirstThat, IsLeastName};
+ghost use Rattle.schema_build_unfit.specs.Parts.{IsMisnamed, IsEnumBelow, NoneIs, IsFirstThat, IsLeastName};
 
 use cedar_data::{Shared, same_bytes};
 use cedar_identifiers::Name;
@@ -22,8 +22,8 @@ fn is_action_type(name: &Name) -> bool
     }
 }
 
-// The first action whose type has another basename than `Action`.
-pub(crate) fn first_misnamed(actions: &[(EntityUID, ValidatorActionId)]) -> Option<&EntityUID>
+/// The first action whose type has another basename than `Action`.
+pub fn first_misnamed(actions: &[(EntityUID, ValidatorActionId)]) -> Option<&EntityUID>
     ensures { MatchOption result (NoneIs IsMisnamed actions.now) (λ uid. (action : Action) × IsFirstThat IsMisnamed actions.now (uid.now, action)) }
 {
     for (uid, _) in actions {
@@ -62,8 +62,8 @@ fn enum_ancestor(ty: &ValidatorEntityType) -> Option<&Name>
     }
 }
 
-// The first enumerated entity type with ancestors, and the least ancestor of it.
-pub(crate) fn first_enum_below(entities: &[(Name, ValidatorEntityType)]) -> Option<(&Name, &Name)>
+/// The first enumerated entity type with ancestors, and the least ancestor of it.
+pub fn first_enum_below(entities: &[(Name, ValidatorEntityType)]) -> Option<(&Name, &Name)>
     ensures { MatchOption result (NoneIs (λ e. IsEnumBelow e.1) entities.now) (λ found. (ty : EntityType) × IsFirstThat (λ e. IsEnumBelow e.1) entities.now (found.0.now, ty) × IsLeastName ty.ancestors found.1.now) }
 {
     for (name, ty) in entities {
