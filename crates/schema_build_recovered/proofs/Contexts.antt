@@ -10,8 +10,8 @@ use Rattle.schema_build_types.specs.Lacks.{type_lacks, attribute_lacks, context_
 use Rattle.schema_build_types.specs.Lacks as lack
 use Rattle.schema_build_types.proofs.Contents.{record_says, set_says, never_says, any_bool_says, true_says, false_says}
 use Rattle.schema_build_types.proofs.Contents.{long_says, string_says, any_entity_says}
-use Rattle.schema_build_recovered.specs.Refusals.{IsFirstLack}
-use Rattle.schema_build_recovered.proofs.Variants.{says_so}
+use Rattle.schema_build_recovered_types.specs.FirstLacks.{IsFirstLack}
+use Rattle.schema_build_recovered_types.proofs.Variants.{says_so}
 
 -- the context is a record
 module _ (t : «Type») (attrs : List (List ℕ × («Type» × Bool))) (more : Bool) (is : t ≡ built.Record attrs more) where

@@ -10,7 +10,7 @@ use Rattle.schema_build_types.specs.declared.entity_type.ValidatorEntityTypeKind
 use Rattle.schema_build_types.specs.declared.types.Type.{«Type»}
 use Rattle.schema_build_types.specs.Content.{EntityContent, entity_content, attributes_content, type_content}
 use Rattle.schema_build_types.specs.Lacks.{attribute_lacks, entity_lacks, tag_lacks}
-use Rattle.schema_build_recovered.specs.Refusals.{IsFirstLack}
+use Rattle.schema_build_recovered_types.specs.FirstLacks.{IsFirstLack}
 
 -- what holds of what an entity type says
 pub kind_so : (P : EntityContent → Type 0) (e : Name × ValidatorEntityType) (k : ValidatorEntityTypeKind)

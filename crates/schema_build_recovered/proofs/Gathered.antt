@@ -9,8 +9,8 @@ use Rattle.std.proofs.lemmas.List.Elements.{filter_more}
 use Rattle.schema_build_errors.specs.declared.recovery_error.RecoveryError.{RecoveryError}
 use Rattle.schema_build_types.specs.Lacks.{Lack}
 use Rattle.schema_build_text.proofs.Rowed.{dropped}
-use Rattle.schema_build_recovered.specs.Refusals.{IsFirstLack}
-use Rattle.schema_build_recovered.proofs.Lacking.{first_before}
+use Rattle.schema_build_recovered_types.specs.FirstLacks.{IsFirstLack}
+use Rattle.schema_build_recovered_types.proofs.Lacking.{first_before}
 
 -- an item that is lent, at its place
 pub lent_at : {X : Type 0} (xs : List (Bor X)) (i : ℕ) (d : Bor X) → d ≡ get_or xs i d

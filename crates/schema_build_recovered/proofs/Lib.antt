@@ -4,12 +4,9 @@ mod Fragments
 mod Gathered
 mod Halves
 mod Keys
-mod Lacking
 mod NoLack
 mod Parents
 mod Rows
-mod Several
 mod Sides
 mod Spaces
-mod Variants
 mod Walks

@@ -19,12 +19,12 @@ use Rattle.schema_build_text.specs.Readings.{schema_reading}
 use Rattle.schema_build_text.proofs.Rowed.{dropped}
 use Rattle.schema_build_recovered.specs.Places.{on_side, words_of}
 use Rattle.schema_build_recovered.specs.Recovered.{IsRecoveredNamespace}
-use Rattle.schema_build_recovered.specs.Refusals.{IsFirstLack}
+use Rattle.schema_build_recovered_types.specs.FirstLacks.{IsFirstLack}
 use Rattle.schema_build_recovered.specs.declared.names.Namespace.{Namespace}
 use Rattle.schema_build_recovered.proofs.Halves.{entity_key, action_key, same_lacks, same_namespace, zip_same}
 use Rattle.schema_build_recovered.proofs.Halves.{flat_alike}
 use Rattle.schema_build_recovered.proofs.Halves.{zip_append}
-use Rattle.schema_build_recovered.proofs.Lacking.{first_before}
+use Rattle.schema_build_recovered_types.proofs.Lacking.{first_before}
 use Rattle.schema_build_recovered.proofs.Sides.{IsRising, front_rises, back_rises, front_below, back_above}
 
 abbrev pub words : List Namespace → List (List (List ℕ))

@@ -4,22 +4,15 @@ use Rattle.std.specs.List.{AllZip}
 use Rattle.std.specs.declared.cmp.Ordering.{Ordering}
 use Rattle.cedar_data.specs.Maps.{map_of}
 use Rattle.cedar_data.specs.Text.{text_cmp}
-use Rattle.cedar_identifiers.specs.Names.{components_of}
-use Rattle.cedar_identifiers.specs.declared.internal_name.InternalName.{InternalName}
 use Rattle.cedar_identifiers.specs.declared.name.Name.{Name}
 use Rattle.cedar_identifiers.specs.declared.name_text.NameText as named
 use Rattle.cedar_identifiers.specs.declared.raw_name.RawName.{RawName}
 use Rattle.cedar_identifiers.specs.declared.unreserved_id.UnreservedId.{UnreservedId}
 use Rattle.cedar_names.specs.CanonicalText.{namespace, namespaces, basename}
 use Rattle.cedar_names.specs.Definitions.{same_name}
-use Rattle.cedar_names.specs.Meaning.{PlainType, Attributes, no_more, attribute, EntityMeaning, ActionMeaning}
-use Rattle.cedar_names.specs.Meaning.{SchemaMeaning}
+use Rattle.cedar_names.specs.Meaning.{PlainType, EntityMeaning, ActionMeaning, SchemaMeaning}
 use Rattle.cedar_names.specs.Meaning as plain
-use Rattle.schema_json.specs.Shapes.{record_type}
-use Rattle.schema_json.specs.declared.types.Type.{«Type», Variant}
-use Rattle.schema_json.specs.declared.types.TypeVariant.TheVariants as shape
-use Rattle.schema_json.specs.declared.types.RecordType.{roll-RecordType}
-use Rattle.schema_json.specs.declared.types.TypeOfAttribute.{TypeOfAttribute, out-TypeOfAttribute}
+use Rattle.schema_json.specs.declared.types.Type.{«Type»}
 use Rattle.schema_json.specs.declared.entity_type.EntityType.{EntityType}
 use Rattle.schema_json.specs.declared.entity_type.EntityTypeKind.{EntityTypeKind}
 use Rattle.schema_json.specs.declared.entity_type.EntityTypeKind.TheVariants.{Standard, Enum}
@@ -29,43 +22,7 @@ use Rattle.schema_json.specs.declared.action_type.ActionType.{ActionType}
 use Rattle.schema_json.specs.declared.action_type.ApplySpec.{ApplySpec}
 use Rattle.schema_json.specs.declared.fragment.Fragment.{Fragment}
 use Rattle.schema_json.specs.declared.fragment.NamespaceDefinition.{NamespaceDefinition}
-
--- the name of these components, without a place
-abbrev pub IsName : List (List ℕ) → InternalName → Type 0
-IsName n name = (components_of name ≡ n) × (name.loc ≡ None)
-
--- the full name of these components, as it is written, without a place
-abbrev pub IsWritten : List (List ℕ) → RawName → Type 0
-IsWritten n written = IsName n written.name
-
--- the closed record with these attributes
-abbrev pub closed_record : List (List ℕ × TypeOfAttribute RawName) → «Type» RawName
-closed_record attributes =
-    record_type (roll-RecordType RawName (record { attributes = attributes; additional_attributes = false }))
-
-abbrev mutual
-  -- a type: that of entities is a reference that may mean a common type or an entity type
-  pub IsRecoveredType : PlainType → «Type» RawName → Type 0
-  IsRecoveredType plain.Bool t = t ≡ Variant shape.Boolean None
-  IsRecoveredType plain.Long t = t ≡ Variant shape.Long None
-  IsRecoveredType plain.String t = t ≡ Variant shape.String None
-  IsRecoveredType (plain.Set p) t =
-      (element : «Type» RawName) × (t ≡ Variant (shape.Set element) None) × IsRecoveredType p element
-  IsRecoveredType (plain.Rec ps) t =
-      (attributes : List (List ℕ × TypeOfAttribute RawName)) × (t ≡ closed_record attributes)
-      × AreRecoveredAttributes ps attributes
-  IsRecoveredType (plain.Entity n) t =
-      (name : RawName) × (t ≡ Variant (shape.EntityOrCommon name) None) × IsWritten n name
-  IsRecoveredType (plain.Ext w) t =
-      (name : UnreservedId) × (t ≡ Variant (shape.Extension name) None) × (name.id.text ≡ w)
-
-  -- attributes, each under its name and with its required mark
-  pub AreRecoveredAttributes : Attributes → List (List ℕ × TypeOfAttribute RawName) → Type 0
-  AreRecoveredAttributes no_more attributes = attributes ≡ []
-  AreRecoveredAttributes (attribute name required p ps) attributes =
-      (a : TypeOfAttribute RawName) × (more : List (List ℕ × TypeOfAttribute RawName)) × (attributes ≡ (name, a) ∷ more)
-      × IsRecoveredType p (out-TypeOfAttribute RawName a).ty × ((out-TypeOfAttribute RawName a).annotations.0 ≡ [])
-      × ((out-TypeOfAttribute RawName a).required ≡ required) × AreRecoveredAttributes ps more
+use Rattle.schema_build_recovered_types.specs.RecoveredTypes.{IsName, IsWritten, IsRecoveredType}
 
 -- tags, where there are any
 abbrev pub AreRecoveredTags : Option PlainType → Option («Type» RawName) → Type 0

@@ -6,14 +6,15 @@ ghost use Rattle.cedar_names.specs.Meaning.{no_more};
 ghost use Rattle.schema_build_types.specs.Content.{type_content, attributes_content, names_content, entity_content};
 ghost use Rattle.schema_build_types.specs.Lacks.{attribute_lacks, entity_lacks, tag_lacks};
 ghost use Rattle.schema_build_text.specs.Readings.{plain_type, plain_attributes, entity_reading};
-ghost use Rattle.schema_build_recovered.specs.Recovered.{IsWritten, IsRecoveredType, AreRecoveredTags, IsRecoveredKind, IsRecoveredEntity};
-ghost use Rattle.schema_build_recovered.specs.Refusals.{IsFirstLack};
+ghost use Rattle.schema_build_recovered_types.specs.RecoveredTypes.{IsWritten, IsRecoveredType};
+ghost use Rattle.schema_build_recovered.specs.Recovered.{AreRecoveredTags, IsRecoveredKind, IsRecoveredEntity};
+ghost use Rattle.schema_build_recovered_types.specs.FirstLacks.{IsFirstLack};
 
 use crate::sets::written_ancestors;
-use crate::types::{recovered_record, recovered_type};
 use cedar_data::{Boxed, CloneIn, Map, Shared, Text};
 use cedar_identifiers::{Annotations, Name, RawName, UnreservedId};
 use schema_build_errors::RecoveryError;
+use schema_build_recovered_types::types::{recovered_record, recovered_type};
 use schema_build_text::last_word;
 use schema_build_types::{EntityTypeEntry, Type as BuiltType, ValidatorEntityTypeKind};
 use schema_json::{

@@ -7,7 +7,7 @@ ghost use Rattle.schema_build_types.specs.Standing.{SchemaStandsFor};
 ghost use Rattle.schema_build_text.specs.Readings.{schema_reading};
 ghost use Rattle.schema_build_recovered.specs.Places.{words_of};
 ghost use Rattle.schema_build_recovered.specs.Recovered.{IsRecoveredFragment};
-ghost use Rattle.schema_build_recovered.specs.Refusals.{IsFirstLack};
+ghost use Rattle.schema_build_recovered_types.specs.FirstLacks.{IsFirstLack};
 
 use crate::names::{Namespace, namespace_of};
 use crate::namespaces::recover_namespaces;

@@ -8,7 +8,6 @@ mod names;
 mod namespaces;
 mod sets;
 pub mod text;
-mod types;
 mod whole;
 
 pub use fragment::recovered_fragment;

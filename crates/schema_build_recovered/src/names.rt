@@ -1,14 +1,14 @@
-ghost use Rattle.std.specs.Prelude.{◌≡◌, ◌∷◌, IfOk, false};
+ghost use Rattle.std.specs.Prelude.{◌≡◌, IfOk, false};
 ghost use Rattle.std.specs.Cmp.Lexicographic.{slice_cmp};
 ghost use Rattle.cedar_data.specs.Text.{text_cmp};
-ghost use Rattle.cedar_identifiers.specs.Names.{components_of, texts_of, has_cedar};
+ghost use Rattle.cedar_identifiers.specs.Names.{components_of, has_cedar};
 ghost use Rattle.cedar_names.specs.Definitions.{same_name};
 ghost use Rattle.cedar_names.specs.CanonicalText.{namespace};
-ghost use Rattle.schema_build_recovered.specs.Recovered.{IsName, IsWritten, IsKey};
+ghost use Rattle.schema_build_recovered.specs.Recovered.{IsKey};
 ghost use Rattle.schema_build_recovered.specs.Places.{words_of, on_side};
 
-use cedar_data::{CloneIn, List};
-use cedar_identifiers::{Id, InternalName, Name, RawName};
+use cedar_identifiers::{Id, Name};
+use schema_build_recovered_types::names::name_of;
 use std::alloc::{AllocError, Global};
 use std::cmp::Ordering;
 
@@ -62,31 +62,6 @@ pub fn is_on_side(below: bool, pivot: Namespace<'_>, home: Namespace<'_>) -> boo
 {
     let lower = compare(home, pivot).is_lt();
     if below { lower } else { !lower }
-}
-
-// The name of these words, without a place.
-fn name_of(alloc: Global, first: &Id, others: &[Id]) -> Result<InternalName, AllocError>
-    ensures { IfOk result (λ name. IsName (texts_of (first.now ∷ others.now)) name) }
-{
-    let first = first.clone_in(alloc)?;
-    let mut copies = Vec::with_capacity(alloc, others.len())?;
-    for id in others {
-        copies.push(id.clone_in(alloc)?)?;
-    }
-    let others = List::from_vec(copies);
-    Ok(InternalName {
-        first,
-        others,
-        loc: None,
-    })
-}
-
-/// The name as it is written, without a place.
-pub fn written_name(alloc: Global, name: &Name) -> Result<RawName, AllocError>
-    ensures { IfOk result (IsWritten (components_of name.now.name)) }
-{
-    let name = name_of(alloc, &name.name.first, name.name.others.as_slice())?;
-    Ok(RawName { name })
 }
 
 /// The key of a namespace in a fragment.

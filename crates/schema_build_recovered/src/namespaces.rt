@@ -11,7 +11,7 @@ ghost use Rattle.schema_build_recovered.specs.Lent.{entities_at, actions_at, len
 ghost use Rattle.schema_build_recovered.specs.Places.{words_of, on_side};
 ghost use Rattle.schema_build_recovered.specs.Recovered.{IsMapOf, IsRecoveredEntity, IsRecoveredAction, IsRecoveredNamespace};
 ghost use Rattle.schema_build_types.specs.Lacks.{entity_lacks, context_lacks, namespace_lacks};
-ghost use Rattle.schema_build_recovered.specs.Refusals.{IsFirstLack};
+ghost use Rattle.schema_build_recovered_types.specs.FirstLacks.{IsFirstLack};
 
 use crate::actions::recovered_action;
 use crate::entity_types::recovered_entity_type;

@@ -4,12 +4,13 @@ ghost use Rattle.cedar_identifiers.specs.Names.{components_of};
 ghost use Rattle.cedar_names.specs.Definitions.{action_of};
 ghost use Rattle.schema_build_types.specs.Content.{names_content, actions_in_order};
 ghost use Rattle.schema_build_text.specs.Rows.{sorted_once};
-ghost use Rattle.schema_build_recovered.specs.Recovered.{IsWritten, IsRecoveredParent, AreRecoveredParents};
+ghost use Rattle.schema_build_recovered_types.specs.RecoveredTypes.{IsWritten};
+ghost use Rattle.schema_build_recovered.specs.Recovered.{IsRecoveredParent, AreRecoveredParents};
 
-use crate::names::written_name;
 use cedar_data::{CloneIn, List, Shared};
 use cedar_identifiers::{Name, RawName};
 use cedar_names::EntityUID;
+use schema_build_recovered_types::names::written_name;
 use schema_build_text::sorted_set;
 use schema_json::ActionEntityUID;
 use std::alloc::{AllocError, Global};

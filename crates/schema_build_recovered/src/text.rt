@@ -6,7 +6,8 @@ ghost use Rattle.schema_build_types.specs.Content.{content};
 ghost use Rattle.schema_build_types.specs.Lacks.{Lack, schema_lacks};
 ghost use Rattle.schema_build_types.specs.Standing.{SchemaStandsFor};
 ghost use Rattle.schema_build_text.specs.Captured.{IsUncaptured, IsTextRefusal};
-ghost use Rattle.schema_build_recovered.specs.Refusals.{IsFirstLack, NamesLacksFirst};
+ghost use Rattle.schema_build_recovered_types.specs.FirstLacks.{IsFirstLack};
+ghost use Rattle.schema_build_recovered.specs.Refusals.{NamesLacksFirst};
 
 use crate::fragment::recovered_fragment;
 use crate::whole::is_whole_schema;

@@ -3,8 +3,8 @@ ghost use Rattle.std.specs.Option.{option_map};
 ghost use Rattle.schema_build_types.specs.Content.{type_content, attributes_content, entity_content, action_content, content};
 ghost use Rattle.schema_build_types.specs.Lacks.{type_lacks, attribute_lacks, context_lacks, tag_lacks, entity_lacks, schema_lacks};
 
-use crate::types::only_name;
 use cedar_data::{Boxed, Text};
+use schema_build_recovered_types::types::only_name;
 use schema_build_types::{
     ActionEntry, EntityTypeEntry, Type, ValidatorActionKind, ValidatorEntityTypeKind,
 };

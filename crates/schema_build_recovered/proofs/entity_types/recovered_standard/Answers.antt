@@ -2,7 +2,7 @@ use Rattle.std.proofs.Common.{◌++◌}
 use Rattle.std.specs.Option.{option_map}
 use Rattle.schema_build_types.specs.Content.{type_content, attributes_content}
 use Rattle.schema_build_types.specs.Lacks.{attribute_lacks, tag_lacks}
-use Rattle.schema_build_recovered.proofs.Lacking.{first_before, refused}
+use Rattle.schema_build_recovered_types.proofs.Lacking.{first_before, refused}
 use Rattle.schema_build_recovered.proofs.entity_types.recovered_standard.Goals as goal
 
 pub returns-in_err-record-clause-lack : goal.returns-in_err-record-clause-lack

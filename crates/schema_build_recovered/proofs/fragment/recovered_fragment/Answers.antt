@@ -6,10 +6,10 @@ use Rattle.schema_build_types.specs.Content.{content}
 use Rattle.schema_build_types.specs.Lacks.{namespace_lacks}
 use Rattle.schema_build_text.specs.Readings.{schema_reading}
 use Rattle.schema_build_recovered.specs.Recovered.{IsRecoveredNamespace}
-use Rattle.schema_build_recovered.specs.Refusals.{IsFirstLack}
+use Rattle.schema_build_recovered_types.specs.FirstLacks.{IsFirstLack}
 use Rattle.schema_build_recovered.proofs.Fragments.{all_lack, fragment_is, namespaces_rise}
 use Rattle.schema_build_recovered.proofs.Keys.{key_order}
-use Rattle.schema_build_recovered.proofs.Lacking.{refused}
+use Rattle.schema_build_recovered_types.proofs.Lacking.{refused}
 use Rattle.schema_build_recovered.proofs.Sides.{IsRising}
 use Rattle.schema_build_recovered.proofs.Walks.{words}
 use Rattle.schema_build_recovered.proofs.fragment.recovered_fragment.Goals as goal

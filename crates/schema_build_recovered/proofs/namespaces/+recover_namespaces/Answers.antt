@@ -1,7 +1,7 @@
 use Rattle.std.proofs.Common.{◌≡◌, ◌<◌, ◌++◌, length, map, sym, ◌∙◌, arith}
 use Rattle.std.proofs.lemmas.List.{take-append-drop}
 use Rattle.std.proofs.lemmas.Result.{on_ok_weaker, IfErr-weaker}
-use Rattle.schema_build_recovered.proofs.Lacking.{refused}
+use Rattle.schema_build_recovered_types.proofs.Lacking.{refused}
 use Rattle.schema_build_recovered.proofs.Walks.{split, two, both_added, both_whole, first_lacking, then_lacking}
 use Rattle.schema_build_recovered.proofs.namespaces.+recover_namespaces.Goals as goal
 

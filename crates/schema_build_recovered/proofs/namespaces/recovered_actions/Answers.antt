@@ -3,7 +3,7 @@ use Rattle.cedar_names.specs.Definitions.{same_name}
 use Rattle.schema_build_recovered.specs.Places.{words_of}
 use Rattle.schema_build_recovered.proofs.Halves.{action_key}
 use Rattle.schema_build_recovered.proofs.Gathered.{lent_at, lent_long, passed, taken, lacking, all_made}
-use Rattle.schema_build_recovered.proofs.Lacking.{refused}
+use Rattle.schema_build_recovered_types.proofs.Lacking.{refused}
 use Rattle.schema_build_recovered.proofs.namespaces.recovered_actions.Goals.{then-are_one+in_ok-row+in_ok-push}
 use Rattle.schema_build_recovered.proofs.namespaces.recovered_actions.Goals.{else-are_one}
 use Rattle.schema_build_recovered.proofs.namespaces.recovered_actions.Goals as goal

@@ -2,9 +2,9 @@ use Rattle.std.proofs.Common.{◌++◌, map, sym, ap, ◌∙◌, subst}
 use Rattle.cedar_data.specs.Text.{text_cmp}
 use Rattle.schema_build_recovered.specs.Places.{words_of}
 use Rattle.schema_build_recovered.specs.Recovered.{IsMapOf, IsRecoveredEntity, IsRecoveredAction}
-use Rattle.schema_build_recovered.specs.Refusals.{IsFirstLack}
+use Rattle.schema_build_recovered_types.specs.FirstLacks.{IsFirstLack}
 use Rattle.schema_build_recovered.proofs.Halves.{home_entities, home_actions, home_lacks, entities_lack, actions_lack}
-use Rattle.schema_build_recovered.proofs.Lacking.{first_before, first_behind, refused}
+use Rattle.schema_build_recovered_types.proofs.Lacking.{first_before, first_behind, refused}
 use Rattle.schema_build_recovered.proofs.namespaces.recovered_namespace.Goals as goal
 
 pub returns-clause-recovered : goal.returns-clause-recovered

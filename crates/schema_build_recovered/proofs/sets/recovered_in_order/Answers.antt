@@ -1,7 +1,8 @@
 use Rattle.std.proofs.Common.{map, ap, ◌∙◌, subst}
 use Rattle.std.specs.List.{AllZip}
 use Rattle.std.proofs.lemmas.List.{take_all}
-use Rattle.schema_build_recovered.proofs.Rows.{zip_more, zip_seen}
+use Rattle.schema_build_recovered_types.proofs.Rows.{zip_more}
+use Rattle.schema_build_recovered.proofs.Rows.{zip_seen}
 use Rattle.schema_build_recovered.proofs.sets.recovered_in_order.Goals as goal
 
 pub loop-item-preserved : goal.loop-item-preserved

@@ -1,6 +1,6 @@
 use Rattle.std.proofs.Common.{[], subst}
 use Rattle.schema_build_types.specs.Lacks as lack
-use Rattle.schema_build_recovered.specs.Refusals.{IsFirstLack}
+use Rattle.schema_build_recovered_types.specs.FirstLacks.{IsFirstLack}
 use Rattle.schema_build_recovered.proofs.NoLack.{none_first}
 use Rattle.schema_build_recovered.proofs.text.refusal.Goals as goal
 

@@ -2,8 +2,8 @@ use Rattle.std.proofs.Common.{[], refl, sym, ap, subst}
 use Rattle.schema_build_types.specs.Content as said
 use Rattle.schema_build_types.specs.Lacks.{type_lacks}
 use Rattle.schema_build_text.specs.Readings.{first_name}
-use Rattle.schema_build_recovered.specs.Recovered.{IsWritten}
-use Rattle.schema_build_recovered.proofs.types.recovered_entity.Goals as goal
+use Rattle.schema_build_recovered_types.specs.RecoveredTypes.{IsWritten}
+use Rattle.schema_build_recovered_types.proofs.types.recovered_entity.Goals as goal
 
 pub returns-in_ok-type_name-in-Some-clause-recovered : goal.returns-in_ok-type_name-in-Some-clause-recovered
 returns-in_ok-type_name-in-Some-clause-recovered c = (

@@ -10,14 +10,14 @@ use Rattle.schema_build_types.specs.Content.{type_content, attributes_content, n
 use Rattle.schema_build_types.specs.Content as said
 use Rattle.schema_build_types.specs.Lacks.{type_lacks, attribute_lacks}
 use Rattle.schema_build_text.specs.Readings.{plain_type}
-use Rattle.schema_build_recovered.specs.Recovered.{IsRecoveredType}
-use Rattle.schema_build_recovered.proofs.Rows.{zip_more, rows_recovered, row_keys, lacks_at, lacks_more, IsRow}
-use Rattle.schema_build_recovered.proofs.Rows.{all_whole}
-use Rattle.schema_build_recovered.proofs.Lacking.{refused}
-use Rattle.schema_build_recovered.proofs.Variants.{bool_is, bool_whole, long_is, long_whole, string_is, string_whole}
-use Rattle.schema_build_recovered.proofs.Variants.{set_is, set_whole, unknown_lacking}
-use Rattle.schema_build_recovered.proofs.Variants.{open_lacking, entity_is, extension_is}
-use Rattle.schema_build_recovered.proofs.types.+recover.Goals as goal
+use Rattle.schema_build_recovered_types.specs.RecoveredTypes.{IsRecoveredType}
+use Rattle.schema_build_recovered_types.proofs.Rows.{zip_more, rows_recovered, row_keys, lacks_at, lacks_more, IsRow}
+use Rattle.schema_build_recovered_types.proofs.Rows.{all_whole}
+use Rattle.schema_build_recovered_types.proofs.Lacking.{refused}
+use Rattle.schema_build_recovered_types.proofs.Variants.{bool_is, bool_whole, long_is, long_whole, string_is, string_whole}
+use Rattle.schema_build_recovered_types.proofs.Variants.{set_is, set_whole, unknown_lacking}
+use Rattle.schema_build_recovered_types.proofs.Variants.{open_lacking, entity_is, extension_is}
+use Rattle.schema_build_recovered_types.proofs.types.+recover.Goals as goal
 
 pub recovered_variant-returns-in-AnyBool-clause-recovered : goal.recovered_variant-returns-in-AnyBool-clause-recovered
 recovered_variant-returns-in-AnyBool-clause-recovered t c = bool_is c.args.ty.now c.in-AnyBool.is

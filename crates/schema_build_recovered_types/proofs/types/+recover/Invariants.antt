@@ -5,8 +5,8 @@ use denote.Param.Weighed.{most}
 use Rattle.schema_build_types.specs.declared.types.Type.{size-Type}
 use Rattle.schema_build_types.specs.Content.{attributes_content}
 use Rattle.schema_build_types.specs.Lacks.{attribute_lacks}
-use Rattle.schema_build_recovered.proofs.Rows.{IsRow}
-use Rattle.schema_build_recovered.proofs.types.+recover.Given as goal
+use Rattle.schema_build_recovered_types.proofs.Rows.{IsRow}
+use Rattle.schema_build_recovered_types.proofs.types.+recover.Given as goal
 
 abbrev pub decreases-recovered_variant : goal.decreases-recovered_variant
 decreases-recovered_variant l = 4 * goal.size-recovered_variant l

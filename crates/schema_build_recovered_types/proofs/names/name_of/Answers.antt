@@ -1,7 +1,7 @@
 use Rattle.std.proofs.Common.{◌∷◌, refl, ◌∙◌, arith}
 use Rattle.std.proofs.lemmas.List.{take_all}
 use Rattle.cedar_identifiers.specs.Names.{texts_of}
-use Rattle.schema_build_recovered.proofs.names.name_of.Goals as goal
+use Rattle.schema_build_recovered_types.proofs.names.name_of.Goals as goal
 
 pub returns : goal.returns
 returns c =

@@ -5,7 +5,7 @@ use Rattle.std.specs.Result.{IsErrAnd}
 use Rattle.schema_build_types.specs.Lacks.{Lack}
 use Rattle.schema_build_errors.specs.declared.recovery_error.RecoveryError.{RecoveryError}
 use Rattle.schema_build_errors.specs.declared.recovery_error.RecoveryError.TheVariants as error
-use Rattle.schema_build_recovered.specs.Refusals.{IsFirstLack}
+use Rattle.schema_build_recovered_types.specs.FirstLacks.{IsFirstLack}
 
 -- the first of these is the first of these and others
 pub first_before : (xs ys : List Lack) (e : RecoveryError) → IsFirstLack xs e → IsFirstLack (xs ++ ys) e

@@ -16,7 +16,7 @@ use Rattle.cedar_identifiers.specs.declared.name.Name.{Name}
 use Rattle.schema_build_types.specs.Content.{names_content}
 use Rattle.schema_build_text.specs.Rows.{sorted_once}
 use Rattle.schema_build_text.proofs.Rowed.{in_order_is}
-use Rattle.schema_build_recovered.specs.Refusals.{IsSeveral}
+use Rattle.schema_build_recovered_types.specs.FirstLacks.{IsSeveral}
 
 -- names with the same components are one
 one_sorted : (n : List (List ℕ)) (xs : List Name) → All (λ x. components_of x.name ≡ n) xs

@@ -8,8 +8,8 @@ ghost use Rattle.schema_build_types.specs.Content.{type_content, attributes_cont
 ghost use Rattle.schema_build_types.specs.Content as said;
 ghost use Rattle.schema_build_types.specs.Lacks.{type_lacks, attribute_lacks};
 ghost use Rattle.schema_build_text.specs.Readings.{plain_type, plain_attributes};
-ghost use Rattle.schema_build_recovered.specs.Recovered.{IsRecoveredType, AreRecoveredAttributes};
-ghost use Rattle.schema_build_recovered.specs.Refusals.{IsSeveral, IsFirstLack};
+ghost use Rattle.schema_build_recovered_types.specs.RecoveredTypes.{IsRecoveredType, AreRecoveredAttributes};
+ghost use Rattle.schema_build_recovered_types.specs.FirstLacks.{IsSeveral, IsFirstLack};
 
 use crate::names::written_name;
 use cedar_data::{Boxed, CloneIn, Map, NonEmpty, Text};

@@ -2,8 +2,8 @@ use Rattle.std.proofs.Common.{◌≡◌, true, false, not, ap, sym, ◌∙◌, s
 use Rattle.std.proofs.lemmas.List.{take_all}
 use Rattle.std.proofs.lemmas.List.Elements.{All-more}
 use Rattle.cedar_identifiers.specs.Names.{components_of}
-use Rattle.schema_build_recovered.proofs.Several.{one_name, several_names, told_same}
-use Rattle.schema_build_recovered.proofs.types.only_name.Goals as goal
+use Rattle.schema_build_recovered_types.proofs.Several.{one_name, several_names, told_same}
+use Rattle.schema_build_recovered_types.proofs.types.only_name.Goals as goal
 
 pub returns-then-ne : goal.returns-then-ne
 returns-then-ne c =

@@ -16,8 +16,8 @@ use Rattle.schema_build_types.specs.Lacks.{type_lacks, attribute_lacks}
 use Rattle.schema_build_types.proofs.Contents.{any_bool_says, long_says, string_says, unknown_says, set_says}
 use Rattle.schema_build_types.proofs.Contents.{record_says, entity_says, extension_says}
 use Rattle.schema_build_text.specs.Readings.{plain_type}
-use Rattle.schema_build_recovered.specs.Recovered.{IsRecoveredType}
-use Rattle.schema_build_recovered.specs.Refusals.{IsFirstLack}
+use Rattle.schema_build_recovered_types.specs.RecoveredTypes.{IsRecoveredType}
+use Rattle.schema_build_recovered_types.specs.FirstLacks.{IsFirstLack}
 
 -- what holds of what a type says
 pub says_so : (P : TypeContent → Type 0) (t v : «Type») (s : TypeContent) → t ≡ v → type_content v ≡ s → P s

@@ -1,0 +1,4 @@
+pub mod Lacking
+pub mod Rows
+mod Several
+pub mod Variants

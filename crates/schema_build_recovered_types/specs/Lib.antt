@@ -1,0 +1,2 @@
+pub mod FirstLacks
+pub mod RecoveredTypes
