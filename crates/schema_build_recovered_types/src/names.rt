@@ -1,4 +1,4 @@
-ghost use Rattle.std.specs.Prelude.{◌≡◌, ◌∷◌, IfOk};
+ghost use Rattle.std.specs.Prelude.{◌∷◌, IfOk};
 ghost use Rattle.cedar_identifiers.specs.Names.{components_of, texts_of};
 ghost use Rattle.schema_build_recovered_types.specs.RecoveredTypes.{IsName, IsWritten};
 
