@@ -1,7 +1,10 @@
 ghost use Rattle.std.specs.Prelude.{◌≡◌, ◌++◌, map, IfOk, OnOk};
 ghost use Rattle.std.specs.List.{filter_map};
 ghost use Rattle.std.specs.Option.{option_to_list};
-ghost use Rattle.schema_convert_faults.specs.Faults.{is_reserved_path, reserved_namespace, id_twice, action_twice, declared_twice, name_fault, reserved_id, keyword, common_fault, first_some, applies_fault, action_fault, entity_faults, action_faults, declaration_faults, all_declaration_faults, faults_in};
+ghost use Rattle.schema_convert_faults.specs.Faults.{is_reserved_path, reserved_namespace, id_twice, action_twice, declared_twice};
+ghost use Rattle.schema_convert_faults.specs.Faults.{name_fault, reserved_id, keyword, common_fault, first_some, applies_fault};
+ghost use Rattle.schema_convert_faults.specs.Faults.{action_fault, entity_faults, action_faults, declaration_faults};
+ghost use Rattle.schema_convert_faults.specs.Faults.{all_declaration_faults, faults_in};
 ghost use Rattle.schema_convert_faults.specs.NamesIn.{entities_of};
 
 use crate::members::block_fault;

@@ -1,7 +1,8 @@
 ghost use Rattle.std.specs.Prelude.{◌≡◌, Some, map, find, IfOk};
 ghost use Rattle.std.specs.List.{list_any};
 ghost use Rattle.std.specs.Option.{option_copied};
-ghost use Rattle.schema_convert_faults.specs.Members.{says_role, says_same, said_twice, empty_role, missing_role, said_empty, member_fault, missing, block_fault};
+ghost use Rattle.schema_convert_faults.specs.Members.{says_role, says_same, said_twice, empty_role, missing_role, said_empty, member_fault};
+ghost use Rattle.schema_convert_faults.specs.Members.{missing, block_fault};
 
 use cedar_data::{Loc, Node, NonEmpty};
 use schema_convert_errors::{

@@ -4,7 +4,8 @@ ghost use Rattle.std.specs.Option.{option_copied};
 ghost use Rattle.cedar_names.specs.Tables.{table_has};
 ghost use Rattle.schema_convert_faults.specs.Borrowed.{entry_now, optional_now};
 ghost use Rattle.schema_convert_faults.specs.NamesIn.{entities_of, entity_names_in};
-ghost use Rattle.schema_convert_faults.specs.Shadowings.{by_id, is_primitive_name, is_taken, builtin_shadowed, entity_shadowed, common_warnings, declared_warnings, by_name, warnings_of};
+ghost use Rattle.schema_convert_faults.specs.Shadowings.{by_id, is_primitive_name, is_taken, builtin_shadowed, entity_shadowed};
+ghost use Rattle.schema_convert_faults.specs.Shadowings.{common_warnings, declared_warnings, by_name, warnings_of};
 
 use crate::names_in::{common_names_in, entity_names_in};
 use cedar_data::{Boxed, Map, Node, Text, same_bytes};

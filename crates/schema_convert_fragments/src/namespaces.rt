@@ -7,7 +7,9 @@ ghost use Rattle.schema_convert_fragments.specs.Declarations.{declarable, unrese
 ghost use Rattle.schema_syntax_tree.specs.DeclaredNames.{entity_names};
 ghost use Rattle.schema_json.specs.Orders.{unreserved_cmp, common_cmp, namespace_cmp};
 ghost use Rattle.schema_convert_types.specs.Names.{internal_name_of};
-ghost use Rattle.schema_convert_fragments.specs.Fragments.{entity_entries_of, action_entries_of, common_entries_of, entity_entries, action_entries, common_entries, definition_of, namespace_key, declarable_name, namespace_entry, fragment_of};
+ghost use Rattle.schema_convert_fragments.specs.Fragments.{entity_entries_of, action_entries_of, common_entries_of, entity_entries};
+ghost use Rattle.schema_convert_fragments.specs.Fragments.{action_entries, common_entries, definition_of, namespace_key, declarable_name};
+ghost use Rattle.schema_convert_fragments.specs.Fragments.{namespace_entry, fragment_of};
 
 use crate::actions::{action_ids, action_type};
 use crate::entities::entity_type;
