@@ -1,3 +1,4 @@
+use Rattle.std.proofs.lemmas.Grind.{common_steps}
 use Rattle.std.proofs.Common.{arith, sym, ap, ◌∙◌}
 use Rattle.cedar_data.proofs.Halving.{below_more, above_more}
 use Rattle.cedar_data.proofs.map.search.Goals as goal
@@ -21,3 +22,6 @@ loop-low-preserved g c =
           c.index-entries-middle.result c.requires l.invariant.gap (omega arith) c.index-entries-middle.is
           (ap (λ e. g.K.Ord.cmp e.0 c.args.key.now) c.index-entries-middle.is ∙ sym c.cmp.ensures ∙ c.in-Greater.is);
     }
+
+pub returns-in-Equal-clause-found : goal.returns-in-Equal-clause-found
+returns-in-Equal-clause-found g c = grind (arith, common_steps)

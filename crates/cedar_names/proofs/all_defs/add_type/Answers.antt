@@ -1,4 +1,5 @@
-use Rattle.std.proofs.Common.{◌∙◌, sym, ap, map}
+use Rattle.std.proofs.lemmas.Grind.{common_steps}
+use Rattle.std.proofs.Common.{◌∙◌, sym, ap, map, arith}
 use Rattle.cedar_identifiers.specs.Names.{components_of}
 use Rattle.cedar_names.specs.Definitions.{among}
 use Rattle.cedar_names.proofs.Defined.{name_there}
@@ -9,3 +10,6 @@ returns-then-ends_with c =
     let ty = components_of c.args.ty.now in
     name_there (map components_of c.args.types.now.items) ty
     (ap (λ l. among (map components_of l) ty) (sym c.as_slice.ensures.value) ∙ c.ends_with.ensures c.if-ends_with.true)
+
+pub returns : goal.returns
+returns c = grind (arith, common_steps)

@@ -1,4 +1,5 @@
-use Rattle.std.proofs.Common.{◌∙◌, ◌||◌, ap}
+use Rattle.std.proofs.lemmas.Grind.{common_steps}
+use Rattle.std.proofs.Common.{◌∙◌, ◌||◌, ap, arith}
 use Rattle.cedar_identifiers.specs.Names.{components_of}
 use Rattle.cedar_names.specs.Definitions.{same_name}
 use Rattle.cedar_names.proofs.Defined.{type_more}
@@ -10,3 +11,6 @@ loop-action-preserved c = λ n.
     c.in_ok-add_type.ensures n ∙ ap (λ b. b || same_name n (components_of c.action-item.result.ty.name))
     (l.invariant n) ∙ type_more c.args.actions.now l.action-index c.action-item.result n c.loop-action-test.true
     c.action-item.is
+
+pub returns : goal.returns
+returns c = grind (arith, common_steps)

@@ -1,4 +1,5 @@
-use Rattle.std.proofs.Common.{ap, ◌∙◌, map}
+use Rattle.std.proofs.lemmas.Grind.{common_steps}
+use Rattle.std.proofs.Common.{ap, ◌∙◌, map, arith}
 use Rattle.cedar_identifiers.specs.Names.{components_of}
 use Rattle.cedar_names.specs.Definitions.{among}
 use Rattle.cedar_names.specs.Orders.{ids_of}
@@ -11,3 +12,9 @@ returns-clause-answer g c =
     c.is_there.ensures.there ∙ name_sought (ids_of name) c.as_slice.result.now
     ∙ ap (λ l. among (map components_of l) (components_of name)) c.as_slice.ensures.value
     ∙ ap (λ d. among d.commons (components_of name)) c.self.view_is
+
+pub returns-clause-cost : goal.returns-clause-cost
+returns-clause-cost g c = grind (arith, common_steps)
+
+pub returns-clause-some : goal.returns-clause-some
+returns-clause-some g c = grind (arith, common_steps)

@@ -1,3 +1,4 @@
+use Rattle.std.proofs.lemmas.Grind.{common_steps}
 use Rattle.std.proofs.Common.{◌≡◌, ◌<◌, List, [], ℕ, false, ◌||◌, length, take, get_or, map, sym, ap, ◌∙◌, arith}
 use Rattle.std.proofs.Common.{below_more}
 use Rattle.std.specs.List.{list_any}
@@ -34,3 +35,9 @@ loop-at-preserved c =
       extensions = c.in_ok-add.ensures.builtin
           ∙ or_from _ _ inv.extensions (ap is_builtin name ∙ not_builtin at (get_or names at []) own);
     }
+
+pub returns-clause-ok : goal.returns-clause-ok
+returns-clause-ok c = grind (arith, common_steps)
+
+pub returns-in_err-id-clause-err : goal.returns-in_err-id-clause-err
+returns-in_err-id-clause-err c = grind (arith, common_steps)
