@@ -1,3 +1,5 @@
+use Rattle.std.proofs.Common.{arith}
+use Rattle.std.proofs.lemmas.Grind.{common_steps, elements}
 use Rattle.schema_syntax_grammar.proofs.Faults.{further_of, none_past}
 use Rattle.schema_syntax_grammar.proofs.stack.longest_front.Goals as goal
 
@@ -7,3 +9,12 @@ loop-i-preserved g c = further_of g.T.HasKind.kind_of _ _ _ _ _ c.loop-i-test.tr
 
 pub returns-clause-stops : goal.returns-clause-stops
 returns-clause-stops g c = λ k e. none_past g.T.HasKind.kind_of c.args.tokens.now k _ e
+
+pub returns-clause-within : goal.returns-clause-within
+returns-clause-within g c = grind (arith, common_steps)
+
+pub returns-then-not-branch-clause-stops : goal.returns-then-not-branch-clause-stops
+returns-then-not-branch-clause-stops g c = grind (arith, elements)
+
+pub returns-then-not-branch-clause-within : goal.returns-then-not-branch-clause-within
+returns-then-not-branch-clause-within g c = grind (arith, common_steps)

@@ -1,4 +1,5 @@
-use Rattle.std.proofs.Common.{ℕ, ◌-◌, ◌≤◌, ◌≡◌, true, List, [], ◌∷◌, length, take, drop, get_or, ap, sym, ◌∙◌, arith}
+use Rattle.std.proofs.lemmas.Grind.{common_steps}
+use Rattle.std.proofs.Common.{◌-◌, ◌≤◌, ◌≡◌, true, List, [], ◌∷◌, length, take, drop, get_or, ap, sym, ◌∙◌, arith}
 use Rattle.std.proofs.lemmas.List.{take_all}
 use Rattle.schema_syntax_tokens.specs.declared.token.Token.{Token}
 use Rattle.schema_syntax_grammar.specs.declared.token_kind.TokenKind.TheVariants.{Equals}
@@ -19,3 +20,15 @@ pub returns-in_ok-attrs-in-len1-up : goal.returns-in_ok-attrs-in-len1-up
 returns-in_ok-attrs-in-len1-up c =
     behind_equals _ _ c.in-len1-up.len_at_least c.first-item.is c.if-is_of.ensures
     ∙ ap some_record c.in_ok-attrs-in-len1-up.ensures
+
+pub returns-in_default : goal.returns-in_default
+unfolding shape_at
+returns-in_default c = grind (arith, common_steps)
+
+pub returns-in_err-attrs-in-len1-up : goal.returns-in_err-attrs-in-len1-up
+unfolding shape_at
+returns-in_err-attrs-in-len1-up c = grind (arith, common_steps)
+
+pub returns-in_ok-attrs-in-len1-up-2 : goal.returns-in_ok-attrs-in-len1-up-2
+unfolding shape_at
+returns-in_ok-attrs-in-len1-up-2 c = grind (arith, common_steps)

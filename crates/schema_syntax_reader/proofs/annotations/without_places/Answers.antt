@@ -1,3 +1,4 @@
+use Rattle.std.proofs.lemmas.Grind.{common_steps}
 use Rattle.std.proofs.Common.{◌≡◌, ◌++◌, map, ap, sym, ◌∙◌, subst, append-nil, length, arith, rules}
 use Rattle.std.specs.List.Sorted.{IsStrictlySortedBy}
 use Rattle.std.specs.Map.{keys_of}
@@ -44,3 +45,6 @@ returns-clause-rising c =
     (rising_texts c.from_sorted_vec.result
     (subst (IsStrictlySortedBy key_cmp) (sym (ap keys_of all ∙ same_keys c.args.tree.entries)) c.len.ensures.ordered)))
     c.from_map.ensures
+
+pub loop-key-preserved : goal.loop-key-preserved
+loop-key-preserved c = grind (arith, common_steps)

@@ -1,4 +1,5 @@
-use Rattle.std.proofs.Common.{refl, sym, subst, ◌++◌}
+use Rattle.std.proofs.lemmas.Grind.{common_steps}
+use Rattle.std.proofs.Common.{refl, sym, subst, ◌++◌, arith}
 use Rattle.schema_syntax_reader.proofs.Scanned.{decl_parts}
 use Rattle.schema_syntax_reader.proofs.Readings.{stops_right, stopped_left, stopped_right, both_faultless}
 use Rattle.schema_syntax_reader.specs.Sites.{names_sites, paths_sites, shape_sites, tags_sites}
@@ -80,3 +81,6 @@ returns c =
           (both_faultless c.args.text.now parents (shape ++ tags) c.in_ok-parents.ensures.1
           (both_faultless c.args.text.now shape tags c.in_ok-attrs.ensures.1 c.in_ok-tags.ensures.1)),
     )
+
+pub returns-in_err-names : goal.returns-in_err-names
+returns-in_err-names c = grind (arith, common_steps)

@@ -1,4 +1,5 @@
-use Rattle.std.proofs.Common.{refl, sym, subst}
+use Rattle.std.proofs.lemmas.Grind.{common_steps}
+use Rattle.std.proofs.Common.{refl, sym, subst, arith}
 use Rattle.schema_syntax_reader.proofs.Scanned.{decl_parts}
 use Rattle.schema_syntax_reader.proofs.Readings.{stops_right, both_faultless}
 use Rattle.schema_syntax_reader.specs.Sites.{names_sites, paths_sites}
@@ -36,3 +37,6 @@ returns c = (
   both_faultless c.args.text.now (names_sites c.args.names) (paths_sites c.args.parents)
       c.in_ok-names.ensures.1 c.in_ok-parents.ensures.1,
 )
+
+pub returns-in_err-names : goal.returns-in_err-names
+returns-in_err-names c = grind (arith, common_steps)

@@ -1,3 +1,4 @@
+use Rattle.std.proofs.lemmas.Grind.{common_steps}
 use Rattle.std.proofs.Common.{arith}
 use Rattle.schema_syntax_reader.proofs.ReadSteps.{read_more, read_stopped}
 use Rattle.schema_syntax_reader.proofs.notes.read_notes.Goals as goal
@@ -22,3 +23,6 @@ returns-in-Some c =
     read_stopped c.args.text.now c.args.list.now c.loop-note.note-index c.note-item.result c.loop-note.notes.items
     c.push_reserved.new.self.items c.in_ok-read.read c.in_ok-read.fault c.in-Some.fault c.loop-note-test.true
     c.note-item.is c.loop-note.invariant.0 c.in_ok-read.ensures c.in-Some.is c.push_reserved.ensures.items
+
+pub returns : goal.returns
+returns c = grind (arith, common_steps)

@@ -1,4 +1,4 @@
-use Rattle.std.proofs.Common.{◌≡◌, ◌≤◌, ◌++◌, length, take, drop, sym, ap, ◌∙◌, subst}
+use Rattle.std.proofs.Common.{◌≡◌, ◌≤◌, ◌++◌, length, take, drop, sym, ap, ◌∙◌, subst, rules}
 use Rattle.std.specs.List.{All}
 use Rattle.std.specs.Char.{encode_utf8}
 use Rattle.std.proofs.lemmas.Bool.{iff_false}
@@ -34,3 +34,18 @@ returns-clause-cases c =
     let stop : EndsLine (drop n c.args.rest.now) = subst (λ t. EndsLine (drop n t)) same c.line_len.ensures.stop in
     subst (λ t. IsPastBlank c.args.rest.now t) (sym c.split_at.ensures.back)
     (past_comment c.args.rest.now n starts in_range line stop)
+
+pub returns-clause-shorter : goal.returns-clause-shorter
+returns-clause-shorter c = search rules
+
+pub returns-in_err-first-clause-shorter : goal.returns-in_err-first-clause-shorter
+returns-in_err-first-clause-shorter c = search rules
+
+pub returns-then-is_whitespace-clause-cases : goal.returns-then-is_whitespace-clause-cases
+returns-then-is_whitespace-clause-cases c = search rules
+
+pub returns-then-is_whitespace-clause-shorter : goal.returns-then-is_whitespace-clause-shorter
+returns-then-is_whitespace-clause-shorter c = search rules
+
+pub returns-then-not-starts_comment-clause-shorter : goal.returns-then-not-starts_comment-clause-shorter
+returns-then-not-starts_comment-clause-shorter c = search rules

@@ -1,3 +1,4 @@
+use Rattle.std.proofs.lemmas.Grind.{common_steps}
 use Rattle.std.proofs.Common.{arith, subst, sym}
 use Rattle.std.specs.List.{AllPass}
 use Rattle.std.proofs.lemmas.List.Sums.{prefix_len-le-length}
@@ -28,3 +29,9 @@ returns-in-None c = no_braced_places c.args.rest.now c.place_len-len.result c.pl
 pub returns-in-None-from_u32 : goal.returns-in-None-from_u32
 returns-in-None-from_u32 c = no_braced_scalar c.args.rest.now c.place_len-len.result c.in-Some.code
     c.place_len-len.ensures c.in-Some.ensures.1 c.in-None-from_u32.ensures.value
+
+pub returns-in-Some-from_u32 : goal.returns-in-Some-from_u32
+returns-in-Some-from_u32 c = grind (arith, common_steps)
+
+pub slice_bounds-places_value-end : goal.slice_bounds-places_value-end
+slice_bounds-places_value-end c = grind (arith, common_steps)

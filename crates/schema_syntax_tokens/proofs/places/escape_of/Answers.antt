@@ -1,3 +1,4 @@
+use Rattle.std.proofs.lemmas.Grind.{common_steps}
 use Rattle.std.proofs.Common.{◌≡◌, get_or, subst, arith}
 use Rattle.std.proofs.lemmas.List.{take_rest}
 use Rattle.schema_syntax_tokens.specs.Steps.{NoHexPair, IsBraced}
@@ -13,3 +14,9 @@ pub returns-in-None-hex_pair : goal.returns-in-None-hex_pair
 returns-in-None-hex_pair c =
     let b : get_or c.args.rest.now 1 0 ≡ 120 = grind arith in
     no_hex_escape c.args.rest.now b (subst (λ t. NoHexPair t) (take_rest c.args.rest.now 2) c.in-None-hex_pair.ensures)
+
+pub returns-in-None : goal.returns-in-None
+returns-in-None c = grind (arith, common_steps)
+
+pub returns-in-Some-hex_pair : goal.returns-in-Some-hex_pair
+returns-in-Some-hex_pair c = grind (arith, common_steps)

@@ -1,3 +1,4 @@
+use Rattle.std.proofs.lemmas.Grind.{common_steps}
 use Rattle.std.proofs.Common.{◌≤◌, ◌+◌, ◌-◌, length, drop, ◌++◌, ◌∷◌, [], refl, sym, ap, ◌∙◌, subst, arith}
 use Rattle.std.specs.Str.{IsUtf8}
 use Rattle.std.proofs.lemmas.Str.{IsUtf8-drop}
@@ -53,3 +54,6 @@ loop-tokens-preserved c =
           c.loop-tokens.invariant.1 c.past_blanks-here.utf8 c.past_blanks-here.ensures.skips c.in-Some.ensures
           c.split_at.ensures.back (omega arith) refl),
     )
+
+pub overflow_sub-start : goal.overflow_sub-start
+overflow_sub-start c = grind (arith, common_steps)

@@ -1,3 +1,4 @@
+use Rattle.std.proofs.lemmas.Grind.{common_steps}
 use Rattle.std.proofs.Common.{◌≡◌, ◌≤◌, ◌-◌, length, take, get_or, ap, ◌∙◌, subst, arith}
 use Rattle.schema_syntax_tokens.proofs.Quotation.{boundary_opened}
 use Rattle.schema_syntax_tokens.proofs.token.between_quotes.Goals as goal
@@ -14,3 +15,12 @@ split_at-requires-2 c =
     ∙ ap (λ t. take (length t - 1) part) same in
     boundary_opened part c.split_at.result.0.now (length part - 1) c.utf8.part front (omega arith)
     (omega arith) first last
+
+pub returns : goal.returns
+returns c = grind (arith, common_steps)
+
+pub returns-then-bytes-len-ne34 : goal.returns-then-bytes-len-ne34
+returns-then-bytes-len-ne34 c = grind (arith, common_steps)
+
+pub returns-then-len-lt2 : goal.returns-then-len-lt2
+returns-then-len-lt2 c = grind (arith, common_steps)

@@ -4,3 +4,6 @@ use Rattle.schema_syntax_tree.proofs.path.Path.split_last.Goals as goal
 
 pub returns : goal.returns
 returns c = grind (arith, common_steps)
+
+pub returns-then-is_empty : goal.returns-then-is_empty
+returns-then-is_empty c = grind (arith, common_steps)
