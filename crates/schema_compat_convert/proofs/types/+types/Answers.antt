@@ -1,4 +1,4 @@
-use Rattle.std.proofs.Common.{◌≡◌, length, sym, ◌∙◌, subst}
+use Rattle.std.proofs.Common.{◌≡◌, length, sym, ◌∙◌, subst, rules}
 use Rattle.std.specs.List.Sorted.{IsStrictlySortedBy}
 use Rattle.std.specs.Vec.Iter.{into_iter_items}
 use Rattle.cedar_data.specs.Text.{text_cmp}
@@ -122,3 +122,15 @@ convert_attributes-returns t c =
     ∙ c.in-None.ensures.steps.0 in
     none_ahead (λ x. asks_attribute x.1) AttributesBecome _ c.args.attributes.items c.loop-name.out.items
     c.loop-name.invariant.ahead over no_attribute
+
+pub convert_attributes-loop-name-init : goal.convert_attributes-loop-name-init
+convert_attributes-loop-name-init t c = record {
+  ahead = search rules;
+  within = search rules;
+}
+
+pub convert_attributes-returns-in_err-push : goal.convert_attributes-returns-in_err-push
+convert_attributes-returns-in_err-push t c = search rules
+
+pub convert_shape-returns-in_err-element-in-Set-2 : goal.convert_shape-returns-in_err-element-in-Set-2
+convert_shape-returns-in_err-element-in-Set-2 t c = search rules

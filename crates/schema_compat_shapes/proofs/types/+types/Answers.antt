@@ -130,3 +130,48 @@ read_attributes-returns t c =
     attributes_said all l.entries.items
     (all_read (λ k d. []) IsText IsOldAttribute l.key-iterator all l.entries.items l.invariant.ahead
     c.in-None.ensures.steps.0).1
+
+pub read_attribute-returns : goal.read_attribute-returns
+read_attribute-returns t c = search rules
+
+pub read_attribute-returns-in_err-ty-in-Some : goal.read_attribute-returns-in_err-ty-in-Some
+read_attribute-returns-in_err-ty-in-Some t c = search rules
+
+pub read_attributes-returns-in_err-attribute : goal.read_attributes-returns-in_err-attribute
+read_attributes-returns-in_err-attribute t c = search rules
+
+pub read_attributes-returns-in_err-name : goal.read_attributes-returns-in_err-name
+read_attributes-returns-in_err-name t c = search rules
+
+pub read_attributes-returns-in_err-push : goal.read_attributes-returns-in_err-push
+read_attributes-returns-in_err-push t c = search rules
+
+pub read_record-returns-in_err-attributes : goal.read_record-returns-in_err-attributes
+read_record-returns-in_err-attributes t c = search rules
+
+pub read_record-returns-in_err-entries : goal.read_record-returns-in_err-entries
+read_record-returns-in_err-entries t c = search rules
+
+pub read_set-returns-in_err-element : goal.read_set-returns-in_err-element
+read_set-returns-in_err-element t c = search rules
+
+pub read_set-returns-in_err-ty : goal.read_set-returns-in_err-ty
+read_set-returns-in_err-ty t c = search rules
+
+pub read_type-returns-in_err-read_variant : goal.read_type-returns-in_err-read_variant
+read_type-returns-in_err-read_variant t c = search rules
+
+pub read_type-returns-in_err-type_name : goal.read_type-returns-in_err-type_name
+read_type-returns-in_err-type_name t c = search rules
+
+pub read_variant-returns-in-Entity : goal.read_variant-returns-in-Entity
+read_variant-returns-in-Entity t c = search rules
+
+pub read_variant-returns-in-Extension : goal.read_variant-returns-in-Extension
+read_variant-returns-in-Extension t c = search rules
+
+pub read_variant-returns-in-Record : goal.read_variant-returns-in-Record
+read_variant-returns-in-Record t c = search rules
+
+pub read_variant-returns-in-Set : goal.read_variant-returns-in-Set
+read_variant-returns-in-Set t c = search rules

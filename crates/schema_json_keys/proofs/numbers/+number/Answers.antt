@@ -1,3 +1,4 @@
+use Rattle.std.proofs.lemmas.Grind.{common_steps}
 use Rattle.std.proofs.Common.{◌<◌, length, sym, subst, arith, rules}
 use Rattle.json.specs.Tree.{json_tokens, items_tokens, members_tokens}
 use Rattle.json.specs.Value.{value_view, items_view, members_view}
@@ -26,3 +27,21 @@ members_have_number-has_number-requires t c =
     (subst (λ y. length (json_tokens (value_view y.1)) < length (members_tokens (members_view xs)))
     (sym c.member-item.is) (member_smaller xs c.loop-member.member-index x (omega arith))) in
     search rules
+
+pub items_have_number-loop-item-preserved : goal.items_have_number-loop-item-preserved
+items_have_number-loop-item-preserved t c = grind (arith, common_steps)
+
+pub items_have_number-returns : goal.items_have_number-returns
+items_have_number-returns t c = grind (arith, common_steps)
+
+pub items_have_number-returns-then-has_number : goal.items_have_number-returns-then-has_number
+items_have_number-returns-then-has_number t c = grind (arith, common_steps)
+
+pub members_have_number-loop-member-preserved : goal.members_have_number-loop-member-preserved
+members_have_number-loop-member-preserved t c = grind (arith, common_steps)
+
+pub members_have_number-returns : goal.members_have_number-returns
+members_have_number-returns t c = grind (arith, common_steps)
+
+pub members_have_number-returns-then-has_number : goal.members_have_number-returns-then-has_number
+members_have_number-returns-then-has_number t c = grind (arith, common_steps)

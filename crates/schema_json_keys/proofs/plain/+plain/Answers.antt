@@ -167,3 +167,108 @@ read_members-returns-clause-plain t c =
     l.invariant.whole (members_view l.found.entries) c.next_key.new.self
     (no_more_members p l.invariant.turns l.invariant.earlier (members_view l.found.entries) l.reader c.next_key.new.self
     l.invariant.enough (grind arith))
+
+pub read_items-returns-clause-shorter : goal.read_items-returns-clause-shorter
+read_items-returns-clause-shorter t c = search rules
+
+pub read_items-returns-in_err-item-clause-plain : goal.read_items-returns-in_err-item-clause-plain
+read_items-returns-in_err-item-clause-plain t c = search rules
+
+pub read_items-returns-in_err-item-clause-shorter : goal.read_items-returns-in_err-item-clause-shorter
+read_items-returns-in_err-item-clause-shorter t c = search rules
+
+pub read_items-returns-in_err-push-clause-plain : goal.read_items-returns-in_err-push-clause-plain
+read_items-returns-in_err-push-clause-plain t c = search rules
+
+pub read_items-returns-in_err-push-clause-shorter : goal.read_items-returns-in_err-push-clause-shorter
+read_items-returns-in_err-push-clause-shorter t c = search rules
+
+pub read_members-returns-clause-shorter : goal.read_members-returns-clause-shorter
+read_members-returns-clause-shorter t c = search rules
+
+pub read_members-returns-in-Some-2-clause-plain : goal.read_members-returns-in-Some-2-clause-plain
+read_members-returns-in-Some-2-clause-plain t c = search rules
+
+pub read_members-returns-in-Some-2-clause-shorter : goal.read_members-returns-in-Some-2-clause-shorter
+read_members-returns-in-Some-2-clause-shorter t c = search rules
+
+pub read_members-returns-in_err-_earlier-clause-plain : goal.read_members-returns-in_err-_earlier-clause-plain
+read_members-returns-in_err-_earlier-clause-plain t c = search rules
+
+pub read_members-returns-in_err-_earlier-clause-shorter : goal.read_members-returns-in_err-_earlier-clause-shorter
+read_members-returns-in_err-_earlier-clause-shorter t c = search rules
+
+pub read_members-returns-in_err-key-clause-plain : goal.read_members-returns-in_err-key-clause-plain
+read_members-returns-in_err-key-clause-plain t c = search rules
+
+pub read_members-returns-in_err-key-clause-shorter : goal.read_members-returns-in_err-key-clause-shorter
+read_members-returns-in_err-key-clause-shorter t c = search rules
+
+pub read_members-returns-in_err-member-clause-plain : goal.read_members-returns-in_err-member-clause-plain
+read_members-returns-in_err-member-clause-plain t c = search rules
+
+pub read_members-returns-in_err-member-clause-shorter : goal.read_members-returns-in_err-member-clause-shorter
+read_members-returns-in_err-member-clause-shorter t c = search rules
+
+pub read_members-returns-in_err-name-clause-plain : goal.read_members-returns-in_err-name-clause-plain
+read_members-returns-in_err-name-clause-plain t c = search rules
+
+pub read_members-returns-in_err-name-clause-shorter : goal.read_members-returns-in_err-name-clause-shorter
+read_members-returns-in_err-name-clause-shorter t c = search rules
+
+pub read_value-returns-in-Bool-clause-shorter : goal.read_value-returns-in-Bool-clause-shorter
+read_value-returns-in-Bool-clause-shorter t c = search rules
+
+pub read_value-returns-in-Null-clause-shorter : goal.read_value-returns-in-Null-clause-shorter
+read_value-returns-in-Null-clause-shorter t c = search rules
+
+pub read_value-returns-in-Number-clause-plain : goal.read_value-returns-in-Number-clause-plain
+read_value-returns-in-Number-clause-plain t c = search rules
+
+pub read_value-returns-in-Number-clause-shorter : goal.read_value-returns-in-Number-clause-shorter
+read_value-returns-in-Number-clause-shorter t c = search rules
+
+pub read_value-returns-in_err-from_str-in-String-clause-plain : goal.read_value-returns-in_err-from_str-in-String-clause-plain
+read_value-returns-in_err-from_str-in-String-clause-plain t c = search rules
+
+pub read_value-returns-in_err-from_str-in-String-clause-shorter : goal.read_value-returns-in_err-from_str-in-String-clause-shorter
+read_value-returns-in_err-from_str-in-String-clause-shorter t c = search rules
+
+pub read_value-returns-in_err-read_items-in-BeginArray-clause-plain : goal.read_value-returns-in_err-read_items-in-BeginArray-clause-plain
+read_value-returns-in_err-read_items-in-BeginArray-clause-plain t c = search rules
+
+pub read_value-returns-in_err-read_items-in-BeginArray-clause-shorter : goal.read_value-returns-in_err-read_items-in-BeginArray-clause-shorter
+read_value-returns-in_err-read_items-in-BeginArray-clause-shorter t c = search rules
+
+pub read_value-returns-in_err-read_members-in-BeginObject-clause-plain : goal.read_value-returns-in_err-read_members-in-BeginObject-clause-plain
+read_value-returns-in_err-read_members-in-BeginObject-clause-plain t c = search rules
+
+pub read_value-returns-in_err-read_members-in-BeginObject-clause-shorter : goal.read_value-returns-in_err-read_members-in-BeginObject-clause-shorter
+read_value-returns-in_err-read_members-in-BeginObject-clause-shorter t c = search rules
+
+pub read_value-returns-in_err-token-clause-plain : goal.read_value-returns-in_err-token-clause-plain
+read_value-returns-in_err-token-clause-plain t c = search rules
+
+pub read_value-returns-in_err-token-clause-shorter : goal.read_value-returns-in_err-token-clause-shorter
+read_value-returns-in_err-token-clause-shorter t c = search rules
+
+pub read_value-returns-in_ok-from_str-in-String-clause-shorter : goal.read_value-returns-in_ok-from_str-in-String-clause-shorter
+read_value-returns-in_ok-from_str-in-String-clause-shorter t c = search rules
+
+pub read_value-returns-in_ok-read_items-in-BeginArray-clause-shorter : goal.read_value-returns-in_ok-read_items-in-BeginArray-clause-shorter
+read_value-returns-in_ok-read_items-in-BeginArray-clause-shorter t c = search rules
+
+pub read_value-returns-in_ok-read_members-in-BeginObject-clause-shorter : goal.read_value-returns-in_ok-read_members-in-BeginObject-clause-shorter
+read_value-returns-in_ok-read_members-in-BeginObject-clause-shorter t c = search rules
+
+pub read_value-returns-then-depth-eq0-2-clause-plain : goal.read_value-returns-then-depth-eq0-2-clause-plain
+read_value-returns-then-depth-eq0-2-clause-plain t c = search rules
+
+pub read_value-returns-then-depth-eq0-2-clause-shorter : goal.read_value-returns-then-depth-eq0-2-clause-shorter
+read_value-returns-then-depth-eq0-2-clause-shorter t c = search rules
+
+pub read_value-returns-then-depth-eq0-clause-plain : goal.read_value-returns-then-depth-eq0-clause-plain
+read_value-returns-then-depth-eq0-clause-plain t c = search rules
+
+pub read_value-returns-then-depth-eq0-clause-shorter : goal.read_value-returns-then-depth-eq0-clause-shorter
+read_value-returns-then-depth-eq0-clause-shorter t c = search rules

@@ -1,3 +1,4 @@
+use Rattle.std.proofs.lemmas.Grind.{common_steps}
 use Rattle.std.proofs.Common.{◌≡◌, ◌+◌, ◌<◌, true, false, [], ◌∷◌, Some, None, length, take, drop, sym, ap, ◌∙◌, subst}
 use Rattle.std.proofs.Common.{arith, rules}
 use Rattle.std.specs.Prelude.{◌||◌, option_map}
@@ -189,3 +190,18 @@ first_in_rising-loop-member-preserved t c =
     (members_keys (names (take (l.member-index + 1) xs)) (members_view (drop (l.member-index + 1) xs))))) here
     ∙ sym (comes_again-false (record { name = m.0.now; earlier = names (take l.member-index xs) }) _ among)
     ∙ sym (member_step xs l.member-index m (omega arith) c.member-item.is) ∙ l.invariant
+
+pub first_in_few-returns : goal.first_in_few-returns
+first_in_few-returns t c = grind (arith, common_steps)
+
+pub first_in_few-returns-then-is_among : goal.first_in_few-returns-then-is_among
+first_in_few-returns-then-is_among t c = grind (arith, common_steps)
+
+pub first_in_items-returns : goal.first_in_items-returns
+first_in_items-returns t c = grind (arith, common_steps)
+
+pub first_in_members-returns : goal.first_in_members-returns
+first_in_members-returns t c = grind (arith, common_steps)
+
+pub first_in_rising-returns : goal.first_in_rising-returns
+first_in_rising-returns t c = grind (arith, common_steps)

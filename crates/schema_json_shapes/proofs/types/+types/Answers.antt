@@ -300,3 +300,63 @@ read_attribute_entries-returns t c =
           (subst (λ es. FoundAttributes
           (members_view es) all l.entries.items) c.in-None.ensures.steps.0 l.invariant.found),
     )
+
+pub read_attribute_entries-returns-in_err-entries : goal.read_attribute_entries-returns-in_err-entries
+read_attribute_entries-returns-in_err-entries t c = search rules
+
+pub read_attribute_entries-returns-in_err-name : goal.read_attribute_entries-returns-in_err-name
+read_attribute_entries-returns-in_err-name t c = search rules
+
+pub read_attribute_entries-returns-in_err-push : goal.read_attribute_entries-returns-in_err-push
+read_attribute_entries-returns-in_err-push t c = search rules
+
+pub read_attributes-returns-in_err-entries-in-Some : goal.read_attributes-returns-in_err-entries-in-Some
+read_attributes-returns-in_err-entries-in-Some t c = search rules
+
+pub read_attributes-returns-in_err-from_entries-in-Some : goal.read_attributes-returns-in_err-from_entries-in-Some
+read_attributes-returns-in_err-from_entries-in-Some t c = search rules
+
+pub read_attributes-returns-in_ok-from_entries-in-Some : goal.read_attributes-returns-in_ok-from_entries-in-Some
+read_attributes-returns-in_ok-from_entries-in-Some t c = search rules
+
+pub read_record-returns-in_err-attributes : goal.read_record-returns-in_err-attributes
+read_record-returns-in_err-attributes t c = search rules
+
+pub read_set-returns-in_err-element : goal.read_set-returns-in_err-element
+read_set-returns-in_err-element t c = search rules
+
+pub read_set-returns-in_err-typed : goal.read_set-returns-in_err-typed
+read_set-returns-in_err-typed t c = search rules
+
+pub read_shape-returns-in-Reference : goal.read_shape-returns-in-Reference
+read_shape-returns-in-Reference t c = search rules
+
+pub read_shape-returns-in_err-read_either-in-EntityOrCommon : goal.read_shape-returns-in_err-read_either-in-EntityOrCommon
+read_shape-returns-in_err-read_either-in-EntityOrCommon t c = search rules
+
+pub read_shape-returns-in_err-read_entity-in-Entity : goal.read_shape-returns-in_err-read_entity-in-Entity
+read_shape-returns-in_err-read_entity-in-Entity t c = search rules
+
+pub read_shape-returns-in_err-read_extension-in-Extension : goal.read_shape-returns-in_err-read_extension-in-Extension
+read_shape-returns-in_err-read_extension-in-Extension t c = search rules
+
+pub read_shape-returns-in_err-read_record-in-Record : goal.read_shape-returns-in_err-read_record-in-Record
+read_shape-returns-in_err-read_record-in-Record t c = search rules
+
+pub read_shape-returns-in_err-read_set-in-Set : goal.read_shape-returns-in_err-read_set-in-Set
+read_shape-returns-in_err-read_set-in-Set t c = search rules
+
+pub read_shape-returns-in_ok-read_either-in-EntityOrCommon : goal.read_shape-returns-in_ok-read_either-in-EntityOrCommon
+read_shape-returns-in_ok-read_either-in-EntityOrCommon t c = search rules
+
+pub read_shape-returns-in_ok-read_entity-in-Entity : goal.read_shape-returns-in_ok-read_entity-in-Entity
+read_shape-returns-in_ok-read_entity-in-Entity t c = search rules
+
+pub read_shape-returns-in_ok-read_extension-in-Extension : goal.read_shape-returns-in_ok-read_extension-in-Extension
+read_shape-returns-in_ok-read_extension-in-Extension t c = search rules
+
+pub read_shape-returns-in_ok-read_record-in-Record : goal.read_shape-returns-in_ok-read_record-in-Record
+read_shape-returns-in_ok-read_record-in-Record t c = search rules
+
+pub read_shape-returns-in_ok-read_set-in-Set : goal.read_shape-returns-in_ok-read_set-in-Set
+read_shape-returns-in_ok-read_set-in-Set t c = search rules

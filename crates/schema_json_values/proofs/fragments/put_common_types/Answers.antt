@@ -1,3 +1,4 @@
+use Rattle.std.proofs.lemmas.Grind.{common_steps}
 use Rattle.std.proofs.Common.{◌<◌, length, codes, sym, ap, ◌∙◌, arith}
 use Rattle.std.proofs.lemmas.Result.{on_ok_weaker}
 use Rattle.serde_json.specs.Data.{object, put}
@@ -16,3 +17,6 @@ returns g c =
     let value = view-Object c.in_ok-common.common ∙ ap object c.in_ok-common.ensures in
     on_ok_weaker c.put.result (λ e. e ∙ ap (λ d. put key d ms) value
     ∙ sym (object_put f key c.args.entries.now ms some)) c.put.ensures.ok
+
+pub returns-then-entries-eq0 : goal.returns-then-entries-eq0
+returns-then-entries-eq0 g c = grind (arith, common_steps)

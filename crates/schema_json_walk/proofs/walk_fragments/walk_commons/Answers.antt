@@ -1,3 +1,5 @@
+use Rattle.std.proofs.Common.{arith}
+use Rattle.std.proofs.lemmas.Grind.{common_steps}
 use Rattle.schema_json_walk.specs.Walk.{itself, of_common}
 use Rattle.schema_json_walk.proofs.Visiting.{each_taken, each_stops, handed}
 use Rattle.schema_json_walk.proofs.walk_fragments.walk_commons.Goals as goal
@@ -16,3 +18,6 @@ returns-in_err-walk_common-clause-refused g c =
     c.args.entries.now c.loop-common.common-index c.loop-common-item.result c.args.visitor.now c.loop-common.visitor
     c.in_err-walk_common.field-0.0 c.loop-common-test.true c.loop-common-item.is c.loop-common.invariant
     c.in_err-walk_common.ensures.refused)
+
+pub returns-clause-taken : goal.returns-clause-taken
+returns-clause-taken g c = grind (arith, common_steps)

@@ -1,3 +1,5 @@
+use Rattle.std.proofs.Common.{arith}
+use Rattle.std.proofs.lemmas.Grind.{common_steps}
 use Rattle.schema_json_walk.specs.Walk.{itself, of_uid}
 use Rattle.schema_json_walk.proofs.Visiting.{each_taken, each_stops, handed}
 use Rattle.schema_json_walk.proofs.walk_items.walk_uids.Goals as goal
@@ -14,3 +16,6 @@ returns-in_err-meet-clause-refused g c =
     (each_stops (g.V.Visitor.takes c.args.ns.now) (g.V.Visitor.refuses c.args.ns.now) (of_uid itself) c.args.uids.now
     c.loop-uid.uid-index c.uid-item.result c.args.visitor.now c.loop-uid.visitor c.in_err-meet.field-0.0
     c.loop-uid-test.true c.uid-item.is c.loop-uid.invariant c.in_err-meet.ensures.refused)
+
+pub returns-clause-taken : goal.returns-clause-taken
+returns-clause-taken g c = grind (arith, common_steps)

@@ -1,3 +1,4 @@
+use Rattle.std.proofs.lemmas.Grind.{common_steps}
 use Rattle.std.proofs.Common.{rules, arith, List, ℕ, ◌≡◌, ap, get_or, sym, subst}
 use Rattle.std.specs.List.{FoldsTo}
 use Rattle.std.specs.Map.{values_of}
@@ -95,3 +96,6 @@ walk_variant-returns-in-Record-clause-taken g t c =
 pub walk_variant-returns-in-Record-clause-refused : goal.walk_variant-returns-in-Record-clause-refused
 walk_variant-returns-in-Record-clause-refused g t c =
     rw (c.in-Record.is, variant_walked itself c.in-Record.fields) c.walk_record.ensures.refused
+
+pub walk_entries-returns-clause-taken : goal.walk_entries-returns-clause-taken
+walk_entries-returns-clause-taken g t c = grind (arith, common_steps)
