@@ -1,4 +1,5 @@
-use Rattle.std.proofs.Common.{◌++◌, List, Option, ap, ◌∙◌}
+use Rattle.std.proofs.lemmas.Grind.{common_steps}
+use Rattle.std.proofs.Common.{◌++◌, List, Option, ap, ◌∙◌, arith}
 use Rattle.std.specs.List.{flat_map}
 use Rattle.std.specs.Vec.Iter.{into_iter_items}
 use Rattle.schema_syntax_tree.specs.declared.annotated.Annotated.{Annotated}
@@ -18,3 +19,9 @@ loop-namespace-init c =
     c.new-warnings.ensures.items ∙ (ap (of_namespaces table) sorted
     ∙ ap (flat_map (λ (n : Option Path × Annotated Namespace). declared_warnings table n.1.item.decls))
     c.in_ok-sorted.ensures)
+
+pub loop-namespace-preserved : goal.loop-namespace-preserved
+loop-namespace-preserved c = grind (arith, common_steps)
+
+pub returns : goal.returns
+returns c = grind (arith, common_steps)

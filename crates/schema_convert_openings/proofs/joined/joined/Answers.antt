@@ -1,4 +1,5 @@
-use Rattle.std.proofs.Common.{◌≡◌, ◌++◌, List, length, refl, sym, ap, ◌∙◌}
+use Rattle.std.proofs.lemmas.Grind.{common_steps}
+use Rattle.std.proofs.Common.{◌≡◌, ◌++◌, List, length, refl, sym, ap, ◌∙◌, arith}
 use Rattle.std.specs.Vec.Iter.{into_iter_items}
 use Rattle.cedar_data.specs.declared.node.Node.{Node}
 use Rattle.schema_syntax_tree.specs.declared.annotated.Annotated.{Annotated}
@@ -23,3 +24,9 @@ returns c =
     (c.in_ok-namespaces.ensures ∙ ap joined_by_name with_names)
     ∙ ap (λ (l : List (Annotated (Node Declaration))). joined_by_name (named c.args.schema) ++ empty_namespace l)
     without)
+
+pub loop-namespace-preserved : goal.loop-namespace-preserved
+loop-namespace-preserved c = record {
+  named = grind (arith, common_steps);
+  outside = grind (arith, common_steps);
+}

@@ -1,3 +1,4 @@
+use Rattle.std.proofs.lemmas.Grind.{common_steps}
 use Rattle.std.proofs.Common.{◌≡◌, length, map, sym, ap, ◌∙◌, subst, arith}
 use Rattle.std.specs.Borrow.{Bor}
 use Rattle.std.specs.Option.{option_map}
@@ -27,3 +28,6 @@ returns g c = λ e.
     sym (repeat_now g.T.Ord.cmp items)
     ∙ ap (option_map both_now) (none_by_numbers R number alike items
     (none_repeats nat_cmp nat_cmp_total (map number items) sorted moved (c.all_rise.ensures e)))
+
+pub loop-item-preserved : goal.loop-item-preserved
+loop-item-preserved g c = grind (arith, common_steps)

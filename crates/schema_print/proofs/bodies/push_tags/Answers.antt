@@ -1,4 +1,4 @@
-use Rattle.std.proofs.Common.{ap, sym, true}
+use Rattle.std.proofs.Common.{ap, sym, true, rules}
 use Rattle.std.specs.Option.{option_map}
 use Rattle.schema_syntax_tokens.specs.Laid.{laid}
 use Rattle.schema_readback.specs.PrintedDecls.{tags_pieces}
@@ -10,3 +10,6 @@ pub returns-in-None : goal.returns-in-None
 returns-in-None g c =
     so (adds_nothing c.args.text.now)
     (ap (λ o. laid (tags_pieces true (option_map (printed_type g.N.NameText.components) o))) (sym c.in-None.is))
+
+pub returns-in_err-push-in-Some : goal.returns-in_err-push-in-Some
+returns-in_err-push-in-Some g c = search rules

@@ -1,3 +1,4 @@
+use Rattle.std.proofs.lemmas.Grind.{common_steps}
 use Rattle.std.proofs.Common.{rules, arith, ◌≡◌, ap, sym, ◌∙◌, get_or, codes, refl, true}
 use Rattle.std.proofs.lemmas.List.{at_drop_all}
 use Rattle.std.proofs.lemmas.Result.{on_ok_weaker}
@@ -138,3 +139,6 @@ push_entries-returns g t c =
     adds_all c.loop-name.invariant
     (at_drop_all (λ es. laid (lines_pieces true c.args.base (printed_entries g.N.NameText.components es)))
     c.args.entries.now c.loop-name.name-index c.loop-name-test.false)
+
+pub push_record-returns-then-is_empty : goal.push_record-returns-then-is_empty
+push_record-returns-then-is_empty g t c = grind (arith, common_steps)

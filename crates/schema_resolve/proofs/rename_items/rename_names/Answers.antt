@@ -1,4 +1,5 @@
-use Rattle.std.proofs.Common.{◌∷◌, ◌++◌, [], sym, ◌∙◌}
+use Rattle.std.proofs.lemmas.Grind.{common_steps}
+use Rattle.std.proofs.Common.{◌∷◌, ◌++◌, [], sym, ◌∙◌, arith}
 use Rattle.std.specs.List.{flat_map}
 use Rattle.schema_resolve.proofs.Lists.{each_more, each_first, map_more, refused}
 use Rattle.cedar_identifiers.specs.declared.reference_type.ReferenceType.TheVariants.{Entity}
@@ -25,3 +26,9 @@ loop-name-preserved g c =
       defined = each_more u xs i it c.loop-name-test.true c.name-item.is c.loop-name.invariant.defined
           c.in_ok-name.ensures.defined;
     }
+
+pub returns-clause-defined : goal.returns-clause-defined
+returns-clause-defined g c = grind (arith, common_steps)
+
+pub returns-clause-out : goal.returns-clause-out
+returns-clause-out g c = grind (arith, common_steps)
