@@ -1,4 +1,5 @@
-use Rattle.std.proofs.Common.{map, subst}
+use Rattle.std.proofs.lemmas.Grind.{common_steps}
+use Rattle.std.proofs.Common.{map, subst, arith}
 use Rattle.schema_build.specs.Assembly.{AreAt}
 use Rattle.schema_build.proofs.Placed.{one_more_row}
 use Rattle.schema_build.proofs.assembly.all_names_at.Goals as goal
@@ -11,3 +12,6 @@ loop-row-preserved g c =
     (subst (λ l. AreAt (map (λ e. e.name) c.args.entries.now) l c.in_ok-names_at.field-0)
     c.deref-in-loop-row-2.ensures.value c.in_ok-names_at.ensures)
     c.loop-row.invariant
+
+pub returns : goal.returns
+returns g c = grind (arith, common_steps)

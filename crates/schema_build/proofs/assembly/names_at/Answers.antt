@@ -1,4 +1,5 @@
-use Rattle.std.proofs.Common.{◌<◌, length}
+use Rattle.std.proofs.lemmas.Grind.{common_steps}
+use Rattle.std.proofs.Common.{◌<◌, length, arith}
 use Rattle.std.proofs.lemmas.List.Elements.{All-get_or}
 use Rattle.schema_build.proofs.Placed.{one_more, shared_within, shared_at}
 use Rattle.schema_build.proofs.assembly.names_at.Goals as goal
@@ -24,3 +25,6 @@ loop-place-preserved g c =
     (All-get_or (λ place. place < length c.args.entries.now) c.args.places.now c.loop-place.place-index 0
     c.loop-place-test.true c.requires.places)
     c.index-entries-place.is c.in_ok-name_of.ensures c.in_ok-push.ensures.items c.loop-place.invariant
+
+pub returns : goal.returns
+returns g c = grind (arith, common_steps)

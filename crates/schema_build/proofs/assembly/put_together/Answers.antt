@@ -1,4 +1,5 @@
-use Rattle.std.proofs.Common.{map, map-id, ap, sym, ◌∙◌, rules}
+use Rattle.std.proofs.lemmas.Grind.{common_steps}
+use Rattle.std.proofs.Common.{map, map-id, ap, sym, ◌∙◌, rules, arith}
 use Rattle.std.proofs.lemmas.Iterator.{YieldsList-from_zip}
 use Rattle.std.proofs.lemmas.Iterator.Adapters.{YieldsList-from_vec}
 use Rattle.std.proofs.lemmas.Iterator.Consumers.{YieldsList-at, YieldsList-end}
@@ -15,3 +16,6 @@ returns g c =
     let end = YieldsList-end road c.loop-parts.yielded c.loop-parts.parts-iterator c.loop-parts.yielded_by
     c.next.result c.next.new.self c.in-None.is c.next.ensures.steps in
     c.loop-parts.invariant ∙ ap (map g.B.Assembled.assembly) (sym (map-id c.loop-parts.yielded) ∙ end.0)
+
+pub loop-parts-preserved : goal.loop-parts-preserved
+loop-parts-preserved g c = grind (arith, common_steps)

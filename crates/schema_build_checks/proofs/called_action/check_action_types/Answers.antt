@@ -1,4 +1,5 @@
-use Rattle.std.proofs.Common.{◌∙◌, inr, refl, sym, subst}
+use Rattle.std.proofs.lemmas.Grind.{common_steps}
+use Rattle.std.proofs.Common.{◌∙◌, inr, refl, sym, subst, arith}
 use Rattle.std.specs.List.{flat_map}
 use Rattle.cedar_names.specs.Orders.{names_in_order}
 use Rattle.schema_build_checks.specs.DeclaredAt.{called_action}
@@ -18,3 +19,9 @@ returns-in_ok-new-in-Some-clause-err c =
           c.in-Some.ensures,
       refl,
     ))
+
+pub loop-ns-preserved : goal.loop-ns-preserved
+loop-ns-preserved c = grind (arith, common_steps)
+
+pub returns-in-None-clause-ok : goal.returns-in-None-clause-ok
+returns-in-None-clause-ok c = grind (arith, common_steps)

@@ -1,4 +1,5 @@
-use Rattle.std.proofs.Common.{◌∙◌, ap, inr, sym, subst}
+use Rattle.std.proofs.lemmas.Grind.{common_steps}
+use Rattle.std.proofs.Common.{◌∙◌, ap, inr, sym, subst, arith}
 use Rattle.schema_resolve_definitions.specs.Tests.{tests_of}
 use Rattle.schema_build_checks.specs.DeclaredAt.{at_of, actions_at_in_order, hiding_actions_in, hiding_actions}
 use Rattle.schema_build_checks.specs.DeclaredTwice.{ActionHides}
@@ -19,3 +20,9 @@ returns-in_ok-new-in-Some-clause-err c =
       subst (λ l. IsFirstLeast actions_at_in_order l (at_of uid)) is least,
       c.in_ok-shadowed_def-in-Some.ensures,
     ))
+
+pub loop-ns-preserved : goal.loop-ns-preserved
+loop-ns-preserved c = grind (arith, common_steps)
+
+pub returns-in-None-clause-ok : goal.returns-in-None-clause-ok
+returns-in-None-clause-ok c = grind (arith, common_steps)

@@ -1,4 +1,5 @@
-use Rattle.std.proofs.Common.{◌∙◌, ap, inr, sym, subst}
+use Rattle.std.proofs.lemmas.Grind.{common_steps}
+use Rattle.std.proofs.Common.{◌∙◌, ap, inr, sym, subst, arith}
 use Rattle.cedar_names.specs.Orders.{names_in_order}
 use Rattle.schema_resolve_definitions.specs.Tests.{tests_of}
 use Rattle.schema_build_checks.specs.DeclaredAt.{hiding_types_in, hiding_types}
@@ -18,3 +19,9 @@ returns-in_ok-new-in-Some-clause-err c =
       subst (λ l. IsFirstLeast names_in_order l c.in-Some.shadowing_def) is c.in-Some.ensures,
       c.in_ok-shadowed_def-in-Some.ensures,
     ))
+
+pub loop-ns-preserved : goal.loop-ns-preserved
+loop-ns-preserved c = grind (arith, common_steps)
+
+pub returns-in-None-clause-ok : goal.returns-in-None-clause-ok
+returns-in-None-clause-ok c = grind (arith, common_steps)

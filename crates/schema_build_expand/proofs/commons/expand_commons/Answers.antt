@@ -1,4 +1,5 @@
-use Rattle.std.proofs.Common.{◌≡◌, ◌<◌, length, get_or, take, refl, sym, ◌∙◌, subst, arith, All, Some}
+use Rattle.std.proofs.lemmas.Grind.{elements}
+use Rattle.std.proofs.Common.{◌≡◌, ◌<◌, length, get_or, take, refl, sym, ◌∙◌, subst, arith, All, Some, rules}
 use Rattle.std.specs.Prelude.{slice_get}
 use Rattle.std.proofs.lemmas.List.{length-set, take_all}
 use Rattle.std.proofs.lemmas.Option.{slice_get_read}
@@ -55,3 +56,10 @@ loop-rank-preserved g c =
 pub returns-clause-whole : goal.returns-clause-whole
 returns-clause-whole g c =
     rw (take_all c.loop-rank.rank-index c.args.order.now c.loop-rank-test.false) at c.loop-rank.invariant.finished
+
+pub loop-rank-init : goal.loop-rank-init
+loop-rank-init g c = record {
+  expanded = grind (arith, elements);
+  long = search rules;
+  finished = search rules;
+}

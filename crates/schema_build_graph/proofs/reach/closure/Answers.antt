@@ -1,5 +1,6 @@
+use Rattle.std.proofs.lemmas.Grind.{common_steps}
 use Rattle.std.proofs.Common.{◌≡◌, ◌+◌, ◌<◌, ◌≤◌, ◌++◌, ◌∷◌, [], length, length-append, take, drop, arith, All, subst}
-use Rattle.std.proofs.Common.{sym, ap, ◌∙◌}
+use Rattle.std.proofs.Common.{sym, ap, ◌∙◌, rules}
 use Rattle.std.proofs.lemmas.List.Elements.{All-weaker}
 use Rattle.schema_build_graph.specs.Graph.{AreReached}
 use Rattle.schema_build_graph.proofs.Rows.{written, each_push}
@@ -25,3 +26,11 @@ loop-start-preserved c =
           (subst (AreReached c.args.graph.now l.start)
           (sym (c.in_ok-from_slice.ensures.items ∙ c.deref.ensures.value)) c.in_ok-reach.ensures.reached);
     }
+
+pub loop-start-init : goal.loop-start-init
+loop-start-init c = record {
+  long = search rules;
+  fresh = grind (arith, common_steps);
+  same = search rules;
+  each = search rules;
+}

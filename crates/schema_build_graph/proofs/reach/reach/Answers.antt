@@ -1,4 +1,4 @@
-use Rattle.std.proofs.Common.{◌≡◌, ◌<◌, length, get_or, arith, All, Contains, subst, sym, ap, ◌∙◌, []}
+use Rattle.std.proofs.Common.{◌≡◌, ◌<◌, length, get_or, arith, All, Contains, subst, sym, ap, ◌∙◌, [], rules}
 use Rattle.std.proofs.lemmas.Grind.{common_steps}
 use Rattle.schema_build_graph.specs.Marks.{IsMarked, AddsFrom}
 use Rattle.schema_build_graph.specs.Graph.{targets_of}
@@ -56,3 +56,27 @@ returns-clause-reached c =
     reached c.args.graph.now c.args.start l.found.items c.sort_unstable.new.self.items l.at l.invariant.marked.apart
     c.sort_unstable.ensures.permutation c.sort_unstable.ensures.sorted
     (omega arith) l.invariant.sound l.invariant.first l.invariant.next
+
+pub bounds-graph-next : goal.bounds-graph-next
+bounds-graph-next c = search rules
+
+pub bounds-graph-start : goal.bounds-graph-start
+bounds-graph-start c = search rules
+
+pub overflow_add-at : goal.overflow_add-at
+overflow_add-at c = search rules
+
+pub returns-clause-marks : goal.returns-clause-marks
+returns-clause-marks c = search rules
+
+pub returns-in_err-add_new-2-clause-marks : goal.returns-in_err-add_new-2-clause-marks
+returns-in_err-add_new-2-clause-marks c = search rules
+
+pub returns-in_err-add_new-2-clause-reached : goal.returns-in_err-add_new-2-clause-reached
+returns-in_err-add_new-2-clause-reached c = search rules
+
+pub returns-in_err-add_new-clause-marks : goal.returns-in_err-add_new-clause-marks
+returns-in_err-add_new-clause-marks c = search rules
+
+pub returns-in_err-add_new-clause-reached : goal.returns-in_err-add_new-clause-reached
+returns-in_err-add_new-clause-reached c = search rules

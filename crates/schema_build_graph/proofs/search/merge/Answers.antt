@@ -1,4 +1,5 @@
-use Rattle.std.proofs.Common.{sym, subst, arith}
+use Rattle.std.proofs.lemmas.Grind.{common_steps}
+use Rattle.std.proofs.Common.{sym, subst, arith, rules}
 use Rattle.schema_build_graph.specs.Search.{IsMerged}
 use Rattle.schema_build_graph.proofs.Groups.{merged_none, merged_some}
 use Rattle.schema_build_graph.proofs.search.merge.Goals as goal
@@ -14,3 +15,15 @@ returns c =
       | else-loop-kept-test w ↦ merged_none xs l.kept c.args.place
           (omega (arith, w.loop-kept-test.false)) l.invariant.behind
     ])
+
+pub loop-kept-init : goal.loop-kept-init
+loop-kept-init c = record {
+  within = search rules;
+  behind = grind (arith, common_steps);
+}
+
+pub loop-kept-preserved : goal.loop-kept-preserved
+loop-kept-preserved c = record {
+  within = search rules;
+  behind = grind (arith, common_steps);
+}

@@ -1,3 +1,4 @@
+use Rattle.std.proofs.lemmas.Grind.{common_steps}
 use Rattle.cedar_names.specs.Orders.{uids_in_order}
 use Rattle.std.proofs.Common.{◌≡◌, ◌+◌, [], ◌∷◌, ◌++◌, map, take, arith, refl, sym, ap, ◌∙◌, subst, Contains}
 use Rattle.std.proofs.lemmas.List.{take_more, get_or-map, length-map}
@@ -46,3 +47,6 @@ loop-entry-preserved g c =
     (λ j h. subst (λ l. Contains l j) c.in_ok-names.ensures h)
     (λ x h. subst (λ l. Contains l (action_key (action_of_entry x))) (sym c.in_ok-names.ensures) h))
     c.in_ok-push.ensures.items)
+
+pub returns : goal.returns
+returns g c = grind (arith, common_steps)

@@ -1,3 +1,4 @@
+use Rattle.std.proofs.lemmas.Grind.{common_steps}
 use Rattle.std.proofs.Common.{◌≡◌, ◌+◌, not, List, [], ◌∷◌, ◌++◌, map, take, arith, refl, sym, ap, ◌∙◌, subst}
 use Rattle.std.proofs.Common.{Contains}
 use Rattle.std.proofs.Common.{ℕ}
@@ -60,3 +61,6 @@ loop-entry-preserved g c =
     (λ x h. subst (λ l. Contains l (entity_name (entity_of x))) (sym c.in_ok-names.ensures)
     (filter_keeps free targets (entity_name (entity_of x)) h (ap not x.name.unreserved))))
     c.in_ok-push.ensures.items)
+
+pub returns : goal.returns
+returns g c = grind (arith, common_steps)

@@ -1,3 +1,4 @@
+use Rattle.std.proofs.lemmas.Grind.{common_steps}
 use Rattle.std.proofs.Common.{◌≡◌, ◌<◌, map, length, sym, ap, ◌∙◌, subst, inl, inr, arith, Some, None, All}
 use Rattle.std.proofs.Common.{get_or, true, false}
 use Rattle.std.specs.Prelude.{slice_get}
@@ -139,3 +140,9 @@ returns-clause-ok g c = λ e h.
     let short : j < length es = slice_get_within es j h.0 jy in
     let passed : j < c.loop-rank.rank = omega (arith, short, length-map entries entity_of, c.loop-rank-test.false) in
     c.loop-rank.invariant j h.0 passed jy h.3.passes_too
+
+pub bounds-ancestors-rank : goal.bounds-ancestors-rank
+bounds-ancestors-rank g c = grind (arith, common_steps)
+
+pub bounds-entries-above : goal.bounds-entries-above
+bounds-entries-above g c = grind (arith, common_steps)

@@ -1,3 +1,4 @@
+use Rattle.std.proofs.lemmas.Grind.{common_steps}
 use Rattle.std.proofs.Common.{◌<◌, length, map, ap, sym, ◌∙◌, arith}
 use Rattle.cedar_names.specs.Definitions.{same_name}
 use Rattle.schema_build_recovered.specs.Places.{words_of}
@@ -50,3 +51,6 @@ returns-clause-recovered c =
           (omega (arith, c.loop-at-test.false, c.len-at-end.ensures, lent_long items)) c.loop-at.invariant,
       c.in_ok-from_entries.ensures.entries,
     )
+
+pub returns-clause-whole : goal.returns-clause-whole
+returns-clause-whole c = grind (arith, common_steps)

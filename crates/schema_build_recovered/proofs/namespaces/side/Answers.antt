@@ -1,3 +1,4 @@
+use Rattle.std.proofs.lemmas.Grind.{common_steps}
 use Rattle.std.proofs.Common.{◌<◌, length, ap, sym, ◌∙◌, arith}
 use Rattle.schema_build_recovered.specs.Places.{on_side, words_of}
 use Rattle.schema_build_recovered.proofs.Gathered.{one_kept, one_left}
@@ -20,3 +21,6 @@ loop-at-preserved g c =
           (one_left _ items c.loop-at.those.items c.loop-at.at item within c.index-item.ensures c.loop-at.invariant
           (told ∙ w.if-is_on_side.false))
     ]
+
+pub returns : goal.returns
+returns g c = grind (arith, common_steps)

@@ -1,4 +1,4 @@
-use Rattle.std.proofs.Common.{◌∙◌}
+use Rattle.std.proofs.Common.{◌∙◌, rules}
 use Rattle.std.proofs.lemmas.Result.{IfOk-weaker}
 use Rattle.schema_build_scope.specs.FragmentScope.{table_scope}
 use Rattle.schema_build_scope.proofs.BuiltinParts.{last_decides}
@@ -11,3 +11,9 @@ returns-in-len1-up c =
     c.as_slice.ensures
     c.in-len1-up.len_at_least c.word-item.is c.requires in
     IfOk-weaker c.word_type-in-len1-up.result _ _ (λ ty h. (h.0, same ∙ h.1, h.2)) c.word_type-in-len1-up.ensures
+
+pub bounds-word-0 : goal.bounds-word-0
+bounds-word-0 c = search rules
+
+pub returns-in-empty : goal.returns-in-empty
+returns-in-empty c = search rules

@@ -1,4 +1,5 @@
-use Rattle.std.proofs.Common.{map}
+use Rattle.std.proofs.lemmas.Grind.{common_steps}
+use Rattle.std.proofs.Common.{map, arith}
 use Rattle.schema_build_scope.specs.LentCommons.{lent_type}
 use Rattle.schema_build_scope.proofs.UsedTypes.{used_more}
 use Rattle.schema_build_scope.proofs.lent_uses.used_types.Goals as goal
@@ -11,3 +12,6 @@ loop-ns-preserved c =
     c.as_slice.result.now c.as_slice-in-loop-ns.result.now c.loop-ns-test.true c.loop-ns-item.is l.invariant
     c.in_ok-push_entities.ensures c.as_slice.ensures.entries c.in_ok-push_actions.ensures
     c.as_slice-in-loop-ns.ensures.entries
+
+pub returns : goal.returns
+returns c = grind (arith, common_steps)

@@ -1,3 +1,4 @@
+use Rattle.std.proofs.lemmas.Grind.{common_steps}
 use Rattle.std.proofs.Common.{◌∷◌, sym, ◌∙◌, arith}
 use Rattle.std.proofs.lemmas.List.{take_all}
 use Rattle.cedar_identifiers.specs.Names.{texts_of}
@@ -20,3 +21,9 @@ returns-in_ok-first-in-Some c =
     (λ i. texts_of (c.in_ok-first-in-Some.ensures i ∷ others i))
     ∙ sym (front_of c.args.name.now.name c.in-Some.front.now c.in-Some.field-0-0.now
     (sym c.as_slice.ensures ∙ c.in-Some.ensures.cases.0))
+
+pub loop-id-preserved : goal.loop-id-preserved
+loop-id-preserved c = grind (arith, common_steps)
+
+pub returns-in-None : goal.returns-in-None
+returns-in-None c = grind (arith, common_steps)

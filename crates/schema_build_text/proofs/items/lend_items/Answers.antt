@@ -1,3 +1,4 @@
+use Rattle.std.proofs.lemmas.Grind.{common_steps}
 use Rattle.std.proofs.Common.{◌++◌, map, ap, sym, ◌∙◌, arith}
 use Rattle.std.proofs.lemmas.List.{take_all}
 use Rattle.cedar_data.proofs.Lists.{map-map}
@@ -13,3 +14,12 @@ returns c =
     (take_all c.loop-action.action-index us (omega (arith, c.loop-action-test.false)))
     ∙ sym (map-map action action_content us) in
     c.loop-action.invariant ∙ (λ i. sym (map-map entity_type entity_content es) i ++ all i)
+
+pub loop-action-init : goal.loop-action-init
+loop-action-init c = grind (arith, common_steps)
+
+pub loop-action-preserved : goal.loop-action-preserved
+loop-action-preserved c = grind (arith, common_steps)
+
+pub loop-entity-preserved : goal.loop-entity-preserved
+loop-entity-preserved c = grind (arith, common_steps)

@@ -1,4 +1,5 @@
-use Rattle.std.proofs.Common.{refl, sym, ◌∙◌}
+use Rattle.std.proofs.lemmas.Grind.{common_steps}
+use Rattle.std.proofs.Common.{refl, sym, ◌∙◌, arith}
 use Rattle.std.specs.declared.cmp.Ordering.TheVariants.{Less, Equal, Greater}
 use Rattle.cedar_names.specs.Orders.{id_text_order}
 use Rattle.schema_build_text.proofs.Named.{front_of, decided}
@@ -36,3 +37,12 @@ returns-in-Equal c =
     (sym c.as_slice-in-Some.ensures ∙ c.in-Some-split_last-2.ensures.cases.0) in
     c.cmp-in-Equal.ensures ∙ decided _ (λ x y. refl) a b Equal c.in-Some.a_front.now
     c.in-Some-split_last-2.b_front.now p q (sym c.in-Equal.ensures)
+
+pub returns-in-None-split_last : goal.returns-in-None-split_last
+returns-in-None-split_last c = grind (arith, common_steps)
+
+pub returns-in-None-split_last-2 : goal.returns-in-None-split_last-2
+returns-in-None-split_last-2 c = grind (arith, common_steps)
+
+pub returns-in-Some-split_last : goal.returns-in-Some-split_last
+returns-in-Some-split_last c = grind (arith, common_steps)

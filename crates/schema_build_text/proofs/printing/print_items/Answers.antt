@@ -1,4 +1,5 @@
-use Rattle.std.proofs.Common.{◌++◌, map, refl, ap, sym, ◌∙◌, None, string_bytes}
+use Rattle.std.proofs.lemmas.Grind.{common_steps}
+use Rattle.std.proofs.Common.{◌++◌, map, refl, ap, sym, ◌∙◌, None, string_bytes, arith}
 use Rattle.std.specs.Option.{option_copied}
 use Rattle.std.specs.Str.{encode_utf8_all}
 use Rattle.std.proofs.lemmas.List.{at_drop_all, append-nil}
@@ -19,3 +20,6 @@ returns c =
     λ s same. ap encode_utf8_all c.from_string.ensures ∙ encodes-chars (string_bytes text) (IsUtf8-string_bytes text)
     ∙ (e.grown ∙ (ap (λ t. t ++ open_behind None (map item_content items)) c.in_ok-text.ensures.bytes
     ∙ (ap (open_behind None) same ∙ opened s)))
+
+pub loop-item-preserved : goal.loop-item-preserved
+loop-item-preserved c = grind (arith, common_steps)

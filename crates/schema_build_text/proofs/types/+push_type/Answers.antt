@@ -1,3 +1,4 @@
+use Rattle.std.proofs.lemmas.Grind.{common_steps}
 use Rattle.std.proofs.Common.{rules, arith, ◌≡◌, ◌++◌, ap, sym, ◌∙◌, append_assoc, get_or, codes, refl, true, Some}
 use Rattle.std.proofs.Common.{None}
 use Rattle.std.proofs.lemmas.List.{at_drop_all}
@@ -126,3 +127,12 @@ push_entries-push_line-requires t c =
     let same : size-Type it.1.0 ≡ size-Type (get_or c.args.entries.now c.loop-name.name-index it).1.0 = ap
     (λ p. size-Type p.1.0) c.loop-name-item.is in
     (omega (arith, le, same, c.decreases), search rules)
+
+pub push_line-returns-in_ok-push_type-in-None : goal.push_line-returns-in_ok-push_type-in-None
+push_line-returns-in_ok-push_type-in-None t c = grind (arith, common_steps)
+
+pub push_members-returns : goal.push_members-returns
+push_members-returns t c = grind (arith, common_steps)
+
+pub push_record-returns-then-is_empty : goal.push_record-returns-then-is_empty
+push_record-returns-then-is_empty t c = grind (arith, common_steps)

@@ -1,4 +1,5 @@
-use Rattle.std.proofs.Common.{[], ◌∷◌, ap, ◌∙◌}
+use Rattle.std.proofs.lemmas.Grind.{common_steps}
+use Rattle.std.proofs.Common.{[], ◌∷◌, ap, ◌∙◌, arith}
 use Rattle.std.specs.Prelude.{map}
 use Rattle.std.proofs.lemmas.Result.{IfOk-weaker}
 use Rattle.std.specs.String.{string_bytes}
@@ -60,3 +61,21 @@ returns-in-generate c =
     (split_words c.args.words.now c.in-Some.names.now c.in-Some.first.now c.as_str.result.now c.in-Some.ensures.cases
     c.as_str.ensures.value ∙ ap (λ w. w ∷ map string_bytes c.in-Some.names.now) c.in-generate.is) h)
     c.generate.ensures
+
+pub returns-else-is_empty : goal.returns-else-is_empty
+returns-else-is_empty c = grind (arith, common_steps)
+
+pub returns-else-is_empty-2 : goal.returns-else-is_empty-2
+returns-else-is_empty-2 c = grind (arith, common_steps)
+
+pub returns-else-is_empty-3 : goal.returns-else-is_empty-3
+returns-else-is_empty-3 c = grind (arith, common_steps)
+
+pub returns-else-is_empty-4 : goal.returns-else-is_empty-4
+returns-else-is_empty-4 c = grind (arith, common_steps)
+
+pub returns-else-is_empty-5 : goal.returns-else-is_empty-5
+returns-else-is_empty-5 c = grind (arith, common_steps)
+
+pub returns-in_default : goal.returns-in_default
+returns-in_default c = grind (arith, common_steps)

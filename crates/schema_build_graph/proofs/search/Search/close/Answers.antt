@@ -1,3 +1,4 @@
+use Rattle.std.proofs.lemmas.Grind.{common_steps}
 use Rattle.std.proofs.Common.{◌≡◌, ◌≢◌, ◌-◌, ◌<◌, ◌++◌, ◌∷◌, ◌⊎◌, ℕ, Bool, true, false, List, [], length, length-append}
 use Rattle.std.proofs.Common.{get_or, take, drop, sym, ap, ◌∙◌, subst, arith, All, Contains, Vec, inl, inr}
 use Rattle.std.specs.Bool.{Decides}
@@ -102,3 +103,18 @@ returns-clause-smaller c =
     → (state_at c.mark_done.new.states v ≡ Done c.if-vertices-eq1.cyclic)
     ⊎ (state_at c.mark_done.new.states v ≡ state_at old v)) c.deref_mut.ensures.value c.mark_done.ensures.each)
     (omega (arith, ap length c.requires.last.1, length-append before (c.args.group ∷ []))))
+
+pub bounds-graph-vertices : goal.bounds-graph-vertices
+bounds-graph-vertices c = grind (arith, common_steps)
+
+pub overflow_sub-len : goal.overflow_sub-len
+overflow_sub-len c = grind (arith, common_steps)
+
+pub returns-clause-seen : goal.returns-clause-seen
+returns-clause-seen c = grind (arith, common_steps)
+
+pub slice_bounds-vertices-count : goal.slice_bounds-vertices-count
+slice_bounds-vertices-count c = grind (arith, common_steps)
+
+pub slice_bounds-vertices-start : goal.slice_bounds-vertices-start
+slice_bounds-vertices-start c = grind (arith, common_steps)

@@ -1,4 +1,4 @@
-use Rattle.std.proofs.Common.{◌≡◌, ◌<◌, List, ℕ, length, get_or, refl, sym, ◌∙◌, arith}
+use Rattle.std.proofs.Common.{◌≡◌, ◌<◌, List, ℕ, length, get_or, refl, sym, ◌∙◌, arith, rules}
 use Rattle.std.proofs.lemmas.List.{get_or_default}
 use Rattle.schema_build_graph.specs.declared.search.State.{State}
 use Rattle.schema_build_graph.specs.declared.search.State.TheVariants.{New}
@@ -30,3 +30,24 @@ returns-in-Done-clause-searched c =
     c.in-Done.field-0
     (state_read s.states.items v c.index.result.now (omega (arith, held.range v refl, held.same)) c.index.ensures
     ∙ c.in-Done.is)
+
+pub overflow_sub-len : goal.overflow_sub-len
+overflow_sub-len c = search rules
+
+pub returns-in-Done-clause-seen : goal.returns-in-Done-clause-seen
+returns-in-Done-clause-seen c = search rules
+
+pub returns-in-New-clause-searched : goal.returns-in-New-clause-searched
+returns-in-New-clause-searched c = search rules
+
+pub returns-in-New-clause-seen : goal.returns-in-New-clause-seen
+returns-in-New-clause-seen c = search rules
+
+pub returns-in-Open-clause-seen : goal.returns-in-Open-clause-seen
+returns-in-Open-clause-seen c = search rules
+
+pub returns-then-group-len-clause-searched : goal.returns-then-group-len-clause-searched
+returns-then-group-len-clause-searched c = search rules
+
+pub returns-then-group-len-clause-seen : goal.returns-then-group-len-clause-seen
+returns-then-group-len-clause-seen c = search rules

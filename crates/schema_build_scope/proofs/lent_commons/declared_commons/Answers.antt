@@ -1,0 +1,9 @@
+use Rattle.std.proofs.Common.{arith}
+use Rattle.std.proofs.lemmas.Grind.{common_steps}
+use Rattle.schema_build_scope.proofs.lent_commons.declared_commons.Goals as goal
+
+pub loop-ns-preserved : goal.loop-ns-preserved
+loop-ns-preserved c = grind (arith, common_steps)
+
+pub returns : goal.returns
+returns c = grind (arith, common_steps)
