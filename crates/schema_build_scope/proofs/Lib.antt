@@ -1,10 +1,10 @@
-mod Entries
+pub mod Entries
 mod Paths
-mod Apart
+pub mod Apart
 mod Rounds
 mod Unreserved
-mod BuiltinNames
-mod Found
+pub mod BuiltinNames
+pub mod Found
 pub mod Quiet
 mod TypeParts
 pub mod Known

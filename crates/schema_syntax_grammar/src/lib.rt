@@ -3,8 +3,8 @@
 
 pub mod expected;
 pub mod laws;
-mod stack;
-mod symbol;
+pub mod stack;
+pub mod symbol;
 pub mod token_kind;
 
 pub use expected::{Fault, expected_after, fault_of, is_sentence, longest_viable};

@@ -1,10 +1,10 @@
-mod Blank
-mod Bodies
+pub mod Blank
+pub mod Bodies
 mod ByCharacters
 mod Digits
 pub mod Ends
 pub mod Gone
-mod LaidOut
+pub mod LaidOut
 mod LastPlaces
 mod Lawful
 pub mod Longest
@@ -15,6 +15,6 @@ pub mod Quoted
 mod Quoting
 mod Sorted
 pub mod Standing
-mod Unique
+pub mod Unique
 pub mod Values
 pub mod Whole

@@ -4,7 +4,7 @@ ghost use Rattle.schema_syntax_tokens.specs.Scans.{IsInLine, EndsLine, NoBlank, 
 ghost use Rattle.schema_syntax_tokens.specs.Steps.{StartsComment, IsPrinted};
 
 /// How many bytes stand before the next LF or CR, or before the end.
-fn line_len(rest: &[u8]) -> usize
+pub fn line_len(rest: &[u8]) -> usize
     ensures in_range { result ≤ length rest.now }
     ensures line { All IsInLine (take result rest.now) }
     ensures stop { EndsLine (drop result rest.now) }
@@ -21,7 +21,7 @@ fn line_len(rest: &[u8]) -> usize
 }
 
 /// Whether the bytes begin with `//`.
-fn starts_comment(rest: &[u8]) -> bool
+pub fn starts_comment(rest: &[u8]) -> bool
     ensures { IsTrue result ↔ StartsComment rest.now }
 {
     match rest {
@@ -31,7 +31,7 @@ fn starts_comment(rest: &[u8]) -> bool
 }
 
 /// What follows the blank that the text begins with, and `None` where it begins with none.
-fn past_blank(rest: &str) -> Option<&str>
+pub fn past_blank(rest: &str) -> Option<&str>
     ensures cases { MatchOption result (NoBlank rest.now) (λ after. IsPastBlank rest.now after.now) }
     ensures shorter { IfSome result (λ after. length after.now < length rest.now) }
 {

@@ -1,7 +1,7 @@
 //! The tokens of Cedar schema texts, and what their strings stand for.
 #![tactic(auto)]
 
-mod blanks;
+pub mod blanks;
 pub mod escapes;
 pub mod laws;
 pub mod ordered;
@@ -13,9 +13,10 @@ pub mod token;
 pub mod walks;
 mod words;
 
+pub use blanks::{line_len, past_blank, starts_comment};
 pub use escapes::{Refusal, unescape};
 pub use ordered::cmp_values;
 pub use quotes::push_quoted;
-pub use scanner::{Scanned, ShortScan, scan, scan_short};
+pub use scanner::{Scanned, ShortScan, scan, scan_short, token_of};
 pub use token::{ShortToken, Token, place_from, string_body, token_text, whole_place};
 pub use walks::{check_escapes, next_piece, same_value};

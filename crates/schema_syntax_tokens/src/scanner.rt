@@ -77,7 +77,7 @@ fn mark_of(rest: &[u8]) -> Option<(TokenKind, usize)>
 }
 
 /// The longest token that the text begins with: its kind and its length.
-fn token_of(rest: &str) -> Option<(TokenKind, usize)>
+pub fn token_of(rest: &str) -> Option<(TokenKind, usize)>
     ensures { MatchOption result (NoForm rest.now) (λ t. IsLongest rest.now t.0 t.1) }
 {
     let bytes = rest.as_bytes();
