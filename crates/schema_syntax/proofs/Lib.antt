@@ -1,3 +1,4 @@
 mod Found
+mod Nesting
 mod OneFault
 pub mod TreeOrError

@@ -2,10 +2,12 @@
 #![tactic(auto)]
 
 pub mod laws;
+pub mod nesting;
 pub mod schema_parser;
 pub mod syntax_fault;
 
 pub use laws::{faulty_or_sentence, one_syntax_fault, tree_or_error};
+pub use nesting::{DEEPEST, is_too_deep};
 pub use schema_parser::{parse_schema, parse_tokens, refused, stopped};
 pub use schema_syntax_errors::{
     AnnotationError, ParseError, ParseErrors, ParseSchemaError, UnescapeError, UserError,

@@ -2,9 +2,11 @@ ghost use Rattle.std.specs.Prelude.{◌≡◌, ◌<◌, List, length, IfOk, IfEr
 ghost use Rattle.std.specs.List.{All};
 ghost use Rattle.schema_syntax_grammar.specs.Grammar.{Sentence};
 ghost use Rattle.schema_syntax_tokens.specs.Scans.{Scans, IsPlaced};
+ghost use Rattle.schema_syntax.specs.Nesting.{IsTooDeep};
 ghost use Rattle.schema_syntax.specs.SyntaxFaults.{IsSyntaxFault, IsSentence, IsSyntaxRefusal, IsTokenAt, IsEndOf};
 ghost use Rattle.schema_syntax_tokens.specs.TokenLists.{kinds_of};
 
+use crate::nesting::is_too_deep;
 use cedar_data::Text;
 use schema_syntax_grammar::{Fault, TokenKind, fault_of};
 use schema_syntax_tokens::{ShortScan, ShortToken, scan_short, token_text};
@@ -57,7 +59,7 @@ fn unrecognized_eof(tokens: &[ShortToken], expected: Vec<TokenKind>) -> SyntaxFa
 pub enum Refused {
     /// The text has this syntax fault.
     Fault(SyntaxFault),
-    /// Out of memory.
+    /// Out of memory, or of the stack that brackets are read with.
     Memory,
 }
 
@@ -71,11 +73,13 @@ impl From<AllocError> for Refused {
     }
 }
 
-/// The tokens of the text, where they reach its end and are those of a schema; else its syntax fault.
+/// The tokens of the text, where they reach its end and are those of a schema; else its syntax fault. A text without a
+/// fault that has more than `DEEPEST` brackets open at one place is out of memory.
 pub fn sentence_of(alloc: Global, text: &str) -> Result<Vec<ShortToken>, Refused>
     ensures scans { IfOk result (λ tokens. Scans text.now tokens.items (length text.now)) }
     ensures placed { IfOk result (λ tokens. All (IsPlaced text.now) tokens.items) }
     ensures sentence { IfOk result (λ tokens. Sentence (kinds_of tokens.items)) }
+    ensures shallow { IfOk result (λ tokens. IsTooDeep (kinds_of tokens.items) → ⊥) }
     ensures fault { IfErr result (IsSyntaxRefusal text.now) }
 {
     let ShortScan { tokens, at } = scan_short(alloc, text)?;
@@ -83,6 +87,8 @@ pub fn sentence_of(alloc: Global, text: &str) -> Result<Vec<ShortToken>, Refused
         None => {
             if at < text.len() {
                 Err(Refused::Fault(SyntaxFault::InvalidToken(at)))
+            } else if is_too_deep(&tokens) {
+                Err(Refused::Memory)
             } else {
                 Ok(tokens)
             }

@@ -17,6 +17,7 @@ returns-then-at-text c =
       scans = tt;
       placed = tt;
       sentence = tt;
+      shallow = tt;
       fault = invalid_token tokens c.in_ok-tokens.field-0.at c.in_ok-tokens.ensures.scans (omega arith)
           (subst Viable same (sentence_viable (kinds_of c.deref.result.now) sentence));
     }
@@ -32,6 +33,7 @@ returns-then-place-len c =
       scans = tt;
       placed = tt;
       sentence = tt;
+      shallow = tt;
       fault = found_token c.args.text.now tokens c.in_ok-tokens.field-0.at c.in-Some.field-0.place
           c.in-Some.field-0.expected.items c.in_ok-tokens.ensures.scans fault c.in_ok-fault-in-Some.fault
           (subst (λ ts. IsTokenAt c.args.text.now ts c.in-Some.field-0.place c.in-Some.field-0.expected.items
@@ -51,6 +53,7 @@ returns-then-at-text-2 c =
       scans = tt;
       placed = tt;
       sentence = tt;
+      shallow = tt;
       fault = found_invalid c.args.text.now tokens c.in_ok-tokens.field-0.at c.in-Some.field-0.place
           c.in-Some.field-0.expected.items c.in_ok-tokens.ensures.scans fault (omega arith) (omega arith);
     }
@@ -79,6 +82,7 @@ returns c =
       scans = tt;
       placed = tt;
       sentence = tt;
+      shallow = tt;
       fault = found_end c.args.text.now tokens c.in_ok-tokens.field-0.at c.in-Some.field-0.place
           c.in-Some.field-0.expected.items c.in_ok-tokens.ensures.scans fault (omega arith)
           (omega (arith, c.in_ok-tokens.ensures.in_range)) c.unrecognized_eof.result
