@@ -5,7 +5,7 @@ ghost use Rattle.schema_build_expand.specs.Commons.{AreCommons, AreBehind, IsDon
 
 use crate::expand::expand_type;
 use crate::meanings::Meanings;
-use schema_build_types::Type as BuiltType;
+use schema_build_types::{DEEPEST, Type as BuiltType, is_deeper};
 use schema_json::Type;
 use std::alloc::{AllocError, Global};
 
@@ -22,7 +22,8 @@ fn none_of(alloc: Global, count: usize) -> Result<Vec<Option<BuiltType>>, AllocE
 }
 
 /// What the declared common types of these ranks stand for, each expanded once. The order has each behind those that
-/// its type refers to, and beside each type stands what names mean where it is declared. It errs when out of memory.
+/// its type refers to, and beside each type stands what names mean where it is declared. It errs when out of memory, or of the
+/// stack: where sets and records are nested more than `DEEPEST` deep.
 pub fn expand_commons<N, R: Meanings<N>>(
     alloc: Global,
     commons: &[(R, &Type<N>)],
@@ -40,6 +41,9 @@ pub fn expand_commons<N, R: Meanings<N>>(
     for &rank in order {
         let (names, ty) = &commons[rank];
         let ty = expand_type(alloc, names, &done, ty)?;
+        if is_deeper(&ty, DEEPEST) {
+            return Err(AllocError);
+        }
         done[rank] = Some(ty);
     }
     Ok(done)

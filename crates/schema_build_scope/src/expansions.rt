@@ -20,7 +20,7 @@ use cedar_identifiers::{InternalName, Name, RawName};
 use schema_build_errors::{CycleInCommonTypeReferencesError, Refusal, SchemaError};
 use schema_build_expand::{expand_type, expansions};
 use schema_build_graph::OrderFault;
-use schema_build_types::Type as BuiltType;
+use schema_build_types::{DEEPEST, Type as BuiltType, is_deeper};
 use schema_json::Type;
 use std::alloc::{AllocError, Global};
 
@@ -113,7 +113,7 @@ fn common_cycle(
 }
 
 /// What a type stands for that is written in this namespace, where each of its parts can be expanded. It errs when
-/// out of memory.
+/// out of memory, or of the stack: where sets and records are nested more than `DEEPEST` deep.
 pub fn expand_in(
     alloc: Global,
     names: &FragmentNames<'_>,
@@ -125,5 +125,9 @@ pub fn expand_in(
     requires ready { IsTypeReady names.now.fragment names.now.table done.now ns.now ty.now }
     ensures { IfOk result (ExpandsTo (fragment_scope names.now.fragment names.now.table) (name_of ns.now) ty.now) }
 {
-    expand_type(alloc, &names.in_namespace(ns), done, ty)
+    let expanded = expand_type(alloc, &names.in_namespace(ns), done, ty)?;
+    if is_deeper(&expanded, DEEPEST) {
+        return Err(AllocError);
+    }
+    Ok(expanded)
 }

@@ -1,3 +1,4 @@
 pub mod Contents
 pub mod Inserted
+mod Nested
 mod Paired

@@ -1,3 +1,4 @@
 pub mod Content
 pub mod Standing
 pub mod Lacks
+pub mod Nesting
