@@ -11,10 +11,12 @@ advance (Some next) b s t = Some (next ++ s)
 advance None true s t = t
 advance None false s t = None
 
+-- The stack behind a token of the kind, and None where none may come.
 abbrev pub step : List Symbol → TokenKind → Option (List Symbol)
 step [] k = None
 step (x ∷ s) k = advance (after_front x k) (is_nullable x) s (step s k)
 
+-- every symbol may stand for nothing
 abbrev pub all_nullable : List Symbol → Bool
 all_nullable [] = true
 all_nullable (x ∷ s) = is_nullable x && all_nullable s

@@ -60,8 +60,8 @@ fn put_behind(stack: &mut Vec<Symbol>, left: usize, symbols: &[Symbol]) -> Resul
     push_all(stack, above)
 }
 
-// Takes a token of the kind, where one may come; else the stack stays as it is. It goes down the stack as `taker` does, by
-// itself, since it is asked for each token.
+/// Takes a token of the kind, where one may come; else the stack stays as it is. It goes down the stack as `taker` does, by
+/// itself, since it is called for each token.
 pub fn advance(stack: &mut Vec<Symbol>, kind: TokenKind) -> Result<bool, AllocError>
     ensures step { IfOk result (λ taken. MatchBool taken (step (reverse stack.old.items) kind ≡ Some (reverse stack.new.items))
         (step (reverse stack.old.items) kind ≡ None)) }
