@@ -5,6 +5,7 @@
 pub mod boxed;
 pub mod byte_by_byte;
 pub mod clone_in;
+pub mod diagnostic;
 pub mod label;
 pub mod laws;
 pub mod list;
@@ -24,6 +25,7 @@ pub mod words;
 pub use boxed::Boxed;
 pub use byte_by_byte::{compare_bytes, same_bytes};
 pub use clone_in::CloneIn;
+pub use diagnostic::Diagnostic;
 pub use label::Label;
 pub use laws::{lawful, nodes_are_equal_by_value};
 pub use list::List;

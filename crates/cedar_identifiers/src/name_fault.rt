@@ -1,7 +1,7 @@
-ghost use Rattle.std.specs.Prelude.{◌≡◌, [], Ok, None, IfOk, IsOkAnd};
+ghost use Rattle.std.specs.Prelude.{◌≡◌, [], IsOkAnd};
 ghost use Rattle.cedar_identifiers.specs.FaultTexts.{name_fault_text};
 
-use cedar_data::{CloneIn, Label, Severity, Text, around, message};
+use cedar_data::{CloneIn, Diagnostic, Label, Severity, Text, around, message};
 use std::alloc::{AllocError, AllocFailed, Global};
 
 /// Why a text is no name: it ends where a word is due, a piece cannot stand where it does, no piece stands there, it has
@@ -22,11 +22,10 @@ pub enum NameFault {
     Memory,
 }
 
-impl NameFault {
-    /// What the fault says.
-    pub fn text(&self, alloc: Global) -> Result<Text, AllocError>
-        ensures text { IfOk result (λ text. text ≡ name_fault_text self.now) }
-    {
+impl Diagnostic for NameFault {
+    ghost text = { name_fault_text };
+
+    fn text(&self, alloc: Global) -> Result<Text, AllocError> {
         match self {
             NameFault::End => message(alloc, "unexpected end of input"),
             NameFault::Token(token) => around(alloc, "unexpected token `", token, "`"),
@@ -37,24 +36,18 @@ impl NameFault {
         }
     }
 
-    /// Advice, of which it has none.
-    pub fn help(&self, _alloc: Global, _source: &str) -> Result<Option<Text>, AllocError>
-        ensures none { result ≡ Ok None }
-    {
+    fn help(&self, _alloc: Global, _source: &str) -> Result<Option<Text>, AllocError> {
         Ok(None)
     }
 
-    /// The places that it points to, of which it has none.
-    pub fn labels(&self, alloc: Global) -> Result<Vec<Label>, AllocError>
+    /// It takes no memory.
+    fn labels(&self, alloc: Global) -> Result<Vec<Label>, AllocError>
         ensures none { IsOkAnd result (λ labels. labels.items ≡ []) }
     {
         Ok(Vec::new(alloc))
     }
 
-    /// How grave it is: an error.
-    pub fn severity(&self) -> Severity
-        ensures error { result ≡ Severity.Error }
-    {
+    fn severity(&self) -> Severity {
         Severity::Error
     }
 }

@@ -1,50 +1,43 @@
-ghost use Rattle.std.specs.Prelude.{◌≡◌, [], Ok, None, IfOk, IsSomeAnd};
+ghost use Rattle.std.specs.Prelude.{◌≡◌, IfOk, Some};
 ghost use Rattle.schema_print_errors.specs.SyntaxErrorTexts.{texts_of_names, collisions_text, shapes_text, shapes_help, syntax_error_text, syntax_error_help};
 
 use crate::syntax_error::{
     NameCollisionsError, ToCedarSchemaSyntaxError, UnconvertibleEntityTypeShapeError,
 };
-use cedar_data::{Label, NonEmpty, Severity, Text, around, comma_list, message};
+use cedar_data::{Diagnostic, Label, NonEmpty, Severity, Text, around, comma_list, message};
 use cedar_identifiers::{InternalName, NameText};
 use std::alloc::{AllocError, Global};
 
-impl NameCollisionsError {
+impl Diagnostic for NameCollisionsError {
+    ghost text = { λ e. collisions_text e.names };
+
     /// What the error says, with the names.
-    pub fn text(&self, alloc: Global) -> Result<Text, AllocError>
-        ensures text { IfOk result (λ text. text ≡ collisions_text self.now.names) }
-    {
+    fn text(&self, alloc: Global) -> Result<Text, AllocError> {
         let names = texts_of_names(alloc, &self.names)?;
         let list = comma_list(alloc, &names)?;
         around(alloc, "There are name collisions: [", &list, "]")
     }
 
-    /// Advice, of which it has none.
-    pub fn help(&self, _alloc: Global, _source: &str) -> Result<Option<Text>, AllocError>
-        ensures none { result ≡ Ok None }
-    {
+    fn help(&self, _alloc: Global, _source: &str) -> Result<Option<Text>, AllocError> {
         Ok(None)
     }
 
-    /// The places that it points to: none.
-    pub fn labels(&self, alloc: Global) -> Result<Vec<Label>, AllocError>
-        ensures none { IfOk result (λ labels. labels.items ≡ []) }
-    {
+    fn labels(&self, alloc: Global) -> Result<Vec<Label>, AllocError> {
         Ok(Vec::new(alloc))
     }
 
-    /// How grave it is: an error.
-    pub fn severity(&self) -> Severity
-        ensures error { result ≡ Severity.Error }
-    {
+    fn severity(&self) -> Severity {
         Severity::Error
     }
 }
 
-impl UnconvertibleEntityTypeShapeError {
+impl Diagnostic for UnconvertibleEntityTypeShapeError {
+    ghost text = { λ e. shapes_text e.names };
+
+    ghost help = { λ _ _. Some shapes_help };
+
     /// What the error says, with the names of the entity types.
-    pub fn text(&self, alloc: Global) -> Result<Text, AllocError>
-        ensures text { IfOk result (λ text. text ≡ shapes_text self.now.names) }
-    {
+    fn text(&self, alloc: Global) -> Result<Text, AllocError> {
         let names = texts_of_names(alloc, &self.names)?;
         let list = comma_list(alloc, &names)?;
         let before =
@@ -52,10 +45,7 @@ impl UnconvertibleEntityTypeShapeError {
         around(alloc, before, &list, "]")
     }
 
-    /// Advice, which it always has.
-    pub fn help(&self, alloc: Global, _source: &str) -> Result<Option<Text>, AllocError>
-        ensures help { IfOk result (λ help. IsSomeAnd help (λ text. text ≡ shapes_help)) }
-    {
+    fn help(&self, alloc: Global, _source: &str) -> Result<Option<Text>, AllocError> {
         let advice = message(
             alloc,
             "Entity shapes may only be record types. In the Cedar schema syntax, they additionally may not reference common type definitions.",
@@ -63,26 +53,21 @@ impl UnconvertibleEntityTypeShapeError {
         Ok(Some(advice))
     }
 
-    /// The places that it points to: none.
-    pub fn labels(&self, alloc: Global) -> Result<Vec<Label>, AllocError>
-        ensures none { IfOk result (λ labels. labels.items ≡ []) }
-    {
+    fn labels(&self, alloc: Global) -> Result<Vec<Label>, AllocError> {
         Ok(Vec::new(alloc))
     }
 
-    /// How grave it is: an error.
-    pub fn severity(&self) -> Severity
-        ensures error { result ≡ Severity.Error }
-    {
+    fn severity(&self) -> Severity {
         Severity::Error
     }
 }
 
-impl ToCedarSchemaSyntaxError {
-    /// What the error says.
-    pub fn text(&self, alloc: Global) -> Result<Text, AllocError>
-        ensures text { IfOk result (λ text. text ≡ syntax_error_text self.now) }
-    {
+impl Diagnostic for ToCedarSchemaSyntaxError {
+    ghost text = { syntax_error_text };
+
+    ghost help = { λ e _. syntax_error_help e };
+
+    fn text(&self, alloc: Global) -> Result<Text, AllocError> {
         match self {
             ToCedarSchemaSyntaxError::NameCollisions(error) => error.text(alloc),
             ToCedarSchemaSyntaxError::UnconvertibleEntityTypeShape(error) => error.text(alloc),
@@ -90,10 +75,7 @@ impl ToCedarSchemaSyntaxError {
         }
     }
 
-    /// Advice, where it has any.
-    pub fn help(&self, alloc: Global, source: &str) -> Result<Option<Text>, AllocError>
-        ensures help { IfOk result (λ help. help ≡ syntax_error_help self.now) }
-    {
+    fn help(&self, alloc: Global, source: &str) -> Result<Option<Text>, AllocError> {
         match self {
             ToCedarSchemaSyntaxError::NameCollisions(error) => error.help(alloc, source),
             ToCedarSchemaSyntaxError::UnconvertibleEntityTypeShape(error) => {
@@ -103,17 +85,11 @@ impl ToCedarSchemaSyntaxError {
         }
     }
 
-    /// The places that it points to: none.
-    pub fn labels(&self, alloc: Global) -> Result<Vec<Label>, AllocError>
-        ensures none { IfOk result (λ labels. labels.items ≡ []) }
-    {
+    fn labels(&self, alloc: Global) -> Result<Vec<Label>, AllocError> {
         Ok(Vec::new(alloc))
     }
 
-    /// How grave it is: an error.
-    pub fn severity(&self) -> Severity
-        ensures error { result ≡ Severity.Error }
-    {
+    fn severity(&self) -> Severity {
         Severity::Error
     }
 }
