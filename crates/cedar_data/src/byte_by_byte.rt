@@ -1,4 +1,5 @@
-//! Texts that are compared byte by byte, which is the shortest way for names: most of them differ in one of their first bytes.
+//! Texts that are compared byte by byte, which is the shortest way for names: most of them differ in one of their first
+//! bytes.
 ghost use Rattle.std.specs.Prelude.{◌≡◌};
 ghost use Rattle.std.specs.Cmp.Lexicographic.{slice_cmp};
 ghost use Rattle.std.specs.Ordering.{nat_cmp};

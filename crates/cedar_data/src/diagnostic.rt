@@ -20,7 +20,7 @@ pub trait Diagnostic {
     // The places that it points to, in order. An impl that says nothing of them has none.
     ghost labels: { Self → List Label } = { λ _. [] };
 
-    // How grave it is. An impl that says nothing of it is an error.
+    // Its severity: an error, unless an impl says otherwise.
     ghost severity: { Self → Severity } = { λ _. Error };
 
     /// What it says.
@@ -36,7 +36,7 @@ pub trait Diagnostic {
     fn labels(&self, alloc: Global) -> Result<Vec<Label>, AllocError>
         ensures labels { IfOk result (λ found. found.items ≡ labels self.now) };
 
-    /// How grave it is.
+    /// Its severity.
     fn severity(&self) -> Severity
         ensures severity { result ≡ severity self.now };
 }

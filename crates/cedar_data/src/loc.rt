@@ -35,7 +35,8 @@ impl Loc {
 
     /// What stands there in the source, and `None` exactly where the place is no range of characters of it.
     pub fn snippet<'a>(&self, source: &'a str) -> Option<&'a str>
-        ensures some { IsSome result ↔ (IsCharBoundary source.now self.now.start × IsCharBoundary source.now self.now.end) }
+        ensures some { IsSome result ↔ (IsCharBoundary source.now self.now.start
+            × IsCharBoundary source.now self.now.end) }
         ensures text { IfSome result (λ text. text.now ≡ slice_range source.now self.now.start self.now.end) }
     {
         if !source.is_char_boundary(self.start) {

@@ -1,7 +1,8 @@
 ghost use Rattle.std.specs.Prelude.{◌≡◌, ◌+◌, ◌<◌, ◌^◌, [], ◌∷◌, length, IfSome, IfNone};
 ghost use Rattle.cedar_data.specs.NonEmpty.{items_left, items_to_come};
 ghost use Rattle.cedar_data.specs.Fed.{first_and_rest, first_and_rest_alike};
-ghost use Rattle.std.specs.Cmp.Lexicographic.{slice_cmp, slice_partial_cmp, pointwise, lists_equiv, lists_agrees, lists_total, lists_ties, lists_po, lists_per};
+ghost use Rattle.std.specs.Cmp.Lexicographic.{slice_cmp, slice_partial_cmp, pointwise, lists_equiv, lists_agrees};
+ghost use Rattle.std.specs.Cmp.Lexicographic.{lists_total, lists_ties, lists_po, lists_per};
 ghost use Rattle.std.specs.Iterator.{YieldsFirst, YieldsFirstRef, item_count};
 
 use crate::clone_in::CloneIn;

@@ -1,4 +1,4 @@
-/// How grave a report is.
+/// The severity of a report.
 #[derive(Clone, Copy, PartialEq, Eq)]
 pub enum Severity {
     /// What it reports keeps an input from being taken.

@@ -1,6 +1,7 @@
 ghost use Rattle.std.specs.Ordering.{ordering_then};
 ghost use Rattle.std.specs.Cmp.Lexicographic.{lists_equiv, lists_agrees, lists_total, lists_ties, lists_po, lists_per};
-ghost use Rattle.std.specs.Cmp.{on_equiv, on_total, on_po, on_per, and_per, and_equiv, then_po, then_total, then_agrees, both_tied};
+ghost use Rattle.std.specs.Cmp.{on_equiv, on_total, on_po, on_per, and_per, and_equiv, then_po, then_total};
+ghost use Rattle.std.specs.Cmp.{then_agrees, both_tied};
 ghost use Rattle.std.specs.Hash.{on_Alike, items_Alike, and-Alike};
 ghost use Rattle.std.specs.Hash as fed;
 ghost use Rattle.std.specs.Prelude.{◌≡◌, [], IfOk, length};
@@ -16,8 +17,8 @@ use std::cmp::Ordering;
 use std::hash::{Hash, Hasher};
 use std::marker::Model;
 
-/// A map that its copies share: neither a copy nor the map without entries takes memory. Contracts see the entries, in the
-/// order of their keys.
+/// A map that its copies share: neither a copy nor the map without entries takes memory. Contracts see the entries, in
+/// the order of their keys.
 pub struct SharedMap<K: Ord, V> {
     held: Option<Shared<Map<K, V>>>,
 }
@@ -103,11 +104,13 @@ impl<K: Ord, V: Ord> Ord for SharedMap<K, V> {
 
     ghost total = { lists_total (then_total (on_total (λ p. p.0) K.total) (on_total (λ p. p.1) V.total)) };
 
-    ghost matches_partial_cmp = { lists_agrees (then_agrees (λ p q. K.matches_partial_cmp p.0 q.0) (λ p q. V.matches_partial_cmp p.1 q.1)) };
+    ghost matches_partial_cmp = { lists_agrees (then_agrees (λ p q. K.matches_partial_cmp p.0 q.0)
+        (λ p q. V.matches_partial_cmp p.1 q.1)) };
 
     ghost matches_eq = { let K' = K.cmp in
         let V' = V.cmp in
-        lists_ties (λ p q. ordering_then (K' p.0 q.0) (V' p.1 q.1)) (λ p q. both_tied _ _ (K' p.0 q.0) (V' p.1 q.1) (K.matches_eq p.0 q.0) (V.matches_eq p.1 q.1)) };
+        lists_ties (λ p q. ordering_then (K' p.0 q.0) (V' p.1 q.1))
+        (λ p q. both_tied _ _ (K' p.0 q.0) (V' p.1 q.1) (K.matches_eq p.0 q.0) (V.matches_eq p.1 q.1)) };
 
     fn cmp(&self, other: &SharedMap<K, V>) -> Ordering {
         self.as_slice().cmp(other.as_slice())
@@ -117,7 +120,8 @@ impl<K: Ord, V: Ord> Ord for SharedMap<K, V> {
 impl<K: Ord + Hash, V: Hash> Hash for SharedMap<K, V> {
     ghost hash_input = { ⟦<Map<K, V> as Hash>⟧.hash_input };
 
-    ghost respects_eq = { (items_Alike (and-Alike (on_Alike (λ p. p.0) (record { fed = K.respects_eq })) (on_Alike (λ p. p.1) (record { fed = V.respects_eq })))).fed };
+    ghost respects_eq = { (items_Alike (and-Alike (on_Alike (λ p. p.0) (record { fed = K.respects_eq }))
+        (on_Alike (λ p. p.1) (record { fed = V.respects_eq })))).fed };
 
     fn hash<H: Hasher>(&self, state: &mut H) {
         self.as_slice().hash(state);

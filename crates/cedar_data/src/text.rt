@@ -17,8 +17,8 @@ use std::cmp::Ordering;
 use std::hash::{Hash, Hasher};
 use std::marker::Model;
 
-/// An owned text, which contracts see as its list of characters. It is ordered by its bytes in UTF-8. A text of at most 16
-/// bytes stands in the value itself and takes no memory.
+/// An owned text, which contracts see as its list of characters. It is ordered by its bytes in UTF-8. A text of at most
+/// 16 bytes stands in the value itself and takes no memory.
 pub struct Text {
     held: Held,
     alloc: Global,
@@ -83,7 +83,8 @@ impl Held {
 
     // Adds the bytes at the end. A text that they do not fit into becomes a string first.
     fn push_str(&mut self, alloc: Global, more: &str) -> Result<(), AllocError>
-        ensures bytes { held_bytes self.new ≡ (if is_ok result then held_bytes self.old ++ more.now else held_bytes self.old) }
+        ensures bytes { held_bytes self.new ≡ (if is_ok result then held_bytes self.old ++ more.now
+            else held_bytes self.old) }
         ensures text { IsUtf8 (held_bytes self.old) }
     {
         let _text = self.as_str();

@@ -29,8 +29,8 @@ pub fn annotations_are_equal_by_entries()
         ≡ pointwise (λ p q. ⟦<AnyId as PartialEq>⟧.eq p.0 q.0 && ⟦<Option<Text> as PartialEq>⟧.eq p.1 q.1) a.0 b.0 }
 {}
 
-/// A text reads as one name, or has one fault: besides being out of memory, which may come at any text, no other answer is
-/// right.
+/// A text reads as one name, or has one fault: besides being out of memory, which may come at any text, no other answer
+/// is right.
 pub fn one_reading(text: &str)
     ensures one_name { OneName text.now }
     ensures no_fault { NoFault text.now }
@@ -60,18 +60,24 @@ pub fn unreserved_ids_go_by_text(a: &UnreservedId, b: &UnreservedId)
 
 /// Names are ordered by their components, the outermost first and each by bytes; their places are not seen.
 pub fn names_go_by_components(a: &InternalName, b: &InternalName)
-    ensures order { ⟦<InternalName as Ord>⟧.cmp a.now b.now ≡ slice_cmp text_cmp (components_of a.now) (components_of b.now) }
+    ensures order { ⟦<InternalName as Ord>⟧.cmp a.now b.now ≡ slice_cmp text_cmp (components_of a.now)
+        (components_of b.now) }
     ensures equal { ⟦<InternalName as PartialEq>⟧.eq a.now b.now ≡ true ↔ (components_of a.now ≡ components_of b.now) }
 {}
 
-/// Names without `__cedar` are ordered by their components, the outermost first and each by bytes; their places are not seen.
+/// Names without `__cedar` are ordered by their components, the outermost first and each by bytes; their places are not
+/// seen.
 pub fn declared_names_go_by_components(a: &Name, b: &Name)
-    ensures order { ⟦<Name as Ord>⟧.cmp a.now b.now ≡ slice_cmp text_cmp (components_of a.now.name) (components_of b.now.name) }
-    ensures equal { ⟦<Name as PartialEq>⟧.eq a.now b.now ≡ true ↔ (components_of a.now.name ≡ components_of b.now.name) }
+    ensures order { ⟦<Name as Ord>⟧.cmp a.now b.now ≡ slice_cmp text_cmp (components_of a.now.name)
+        (components_of b.now.name) }
+    ensures equal { ⟦<Name as PartialEq>⟧.eq a.now b.now ≡ true
+        ↔ (components_of a.now.name ≡ components_of b.now.name) }
 {}
 
 /// Names as written are ordered by their components, the outermost first and each by bytes; their places are not seen.
 pub fn raw_names_go_by_components(a: &RawName, b: &RawName)
-    ensures order { ⟦<RawName as Ord>⟧.cmp a.now b.now ≡ slice_cmp text_cmp (components_of a.now.name) (components_of b.now.name) }
-    ensures equal { ⟦<RawName as PartialEq>⟧.eq a.now b.now ≡ true ↔ (components_of a.now.name ≡ components_of b.now.name) }
+    ensures order { ⟦<RawName as Ord>⟧.cmp a.now b.now ≡ slice_cmp text_cmp (components_of a.now.name)
+        (components_of b.now.name) }
+    ensures equal { ⟦<RawName as PartialEq>⟧.eq a.now b.now ≡ true
+        ↔ (components_of a.now.name ≡ components_of b.now.name) }
 {}

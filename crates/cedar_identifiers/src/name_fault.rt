@@ -4,8 +4,8 @@ ghost use Rattle.cedar_identifiers.specs.FaultTexts.{name_fault_text};
 use cedar_data::{CloneIn, Diagnostic, Label, Severity, Text, around, message};
 use std::alloc::{AllocError, AllocFailed, Global};
 
-/// Why a text is no name: it ends where a word is due, a piece cannot stand where it does, no piece stands there, it has
-/// blanks, or a component is a reserved word.
+/// Why a text is no name: it ends where a word is due, a piece cannot stand where it does, no piece stands there, it
+/// has blanks, or a component is a reserved word.
 #[derive(Drop)]
 pub enum NameFault {
     /// A word is due at the end of the text.

@@ -4,7 +4,8 @@ ghost use Rattle.std.specs.List.{prefix_len};
 ghost use Rattle.std.specs.Str.{chars};
 ghost use Rattle.std.specs.Char.{is_ascii_digit};
 ghost use Rattle.cedar_data.specs.Words.{is_word_start, is_in_line};
-ghost use Rattle.cedar_identifiers.specs.NamePieces.{space_len, starts_twice, is_mark, blank_len, piece_len, BeginsWith};
+ghost use Rattle.cedar_identifiers.specs.NamePieces.{space_len, starts_twice, is_mark, blank_len, piece_len};
+ghost use Rattle.cedar_identifiers.specs.NamePieces.{BeginsWith};
 ghost use Rattle.cedar_identifiers.specs.Fronts.{IsFront};
 
 use cedar_data::{is_word_start, word_len};
@@ -81,7 +82,8 @@ fn starts_twice(byte: u8, bytes: &[u8]) -> bool
 
 // What follows the White_Space character at the front.
 fn past_space(text: &str) -> Option<&str>
-    ensures { MatchOption result (space_len (chars text.now) ≡ 0) (λ rest. (0 < space_len (chars text.now)) × (rest.now ≡ drop (space_len (chars text.now)) text.now)) }
+    ensures { MatchOption result (space_len (chars text.now) ≡ 0) (λ rest. (0 < space_len (chars text.now))
+        × (rest.now ≡ drop (space_len (chars text.now)) text.now)) }
 {
     let mut chars = text.chars();
     match chars.next() {
@@ -99,7 +101,8 @@ fn past_space(text: &str) -> Option<&str>
 // What follows the blank at the front.
 #[tactic(auto, unfolding(crate::specs::NamePieces::blank_len))]
 fn past_blank(text: &str) -> Option<&str>
-    ensures { MatchOption result (blank_len text.now ≡ 0) (λ rest. (0 < blank_len text.now) × (rest.now ≡ drop (blank_len text.now) text.now)) }
+    ensures { MatchOption result (blank_len text.now ≡ 0) (λ rest. (0 < blank_len text.now)
+        × (rest.now ≡ drop (blank_len text.now) text.now)) }
 {
     if starts_twice(b'/', text.as_bytes()) {
         let len = line_len(text.as_bytes());

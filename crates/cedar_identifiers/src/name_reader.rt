@@ -1,5 +1,6 @@
 // Names read from texts.
-ghost use Rattle.std.specs.Prelude.{◌≡◌, ◌≢◌, [], ◌∷◌, Some, None, true, false, IfOk, IfErr, MatchOption, MatchResult, find, codes, if◌then◌else◌};
+ghost use Rattle.std.specs.Prelude.{◌≡◌, ◌≢◌, [], ◌∷◌, Some, None, true, false, IfOk, IfErr, MatchOption, MatchResult};
+ghost use Rattle.std.specs.Prelude.{find, codes, if◌then◌else◌};
 ghost use Rattle.std.specs.Str.{bytes_eq};
 ghost use Rattle.cedar_data.specs.Rows.{joined_by};
 ghost use Rattle.cedar_data.specs.Words.{is_word};
@@ -58,7 +59,8 @@ fn word_at(alloc: Global, kind: NameKind, text: &str) -> Result<(AnyId, &str), N
 
 // What follows the `::` at the front, or nothing where the text ends.
 fn past_separator(alloc: Global, kind: NameKind, text: &str) -> Result<Option<&str>, NameFault>
-    ensures ok { IfOk result (λ r. MatchOption r (BeginsWith text.now [] []) (λ after. (is_single kind ≡ false) × BeginsWith text.now (codes "::" ∷ []) after.now)) }
+    ensures ok { IfOk result (λ r. MatchOption r (BeginsWith text.now [] []) (λ after. (is_single kind ≡ false)
+        × BeginsWith text.now (codes "::" ∷ []) after.now)) }
     ensures err { IfErr result (StopsAt (is_single kind) false text.now) }
 {
     match next_front(text) {
@@ -92,7 +94,8 @@ fn read_words(alloc: Global, kind: NameKind, text: &str) -> Result<Words, NameFa
 // The word as a component, unless no component may be this word.
 fn component(kind: NameKind, word: AnyId) -> Result<Id, NameFault>
     requires { kind ≢ NameKind.AnyId }
-    ensures { MatchResult result (λ id. (id.text ≡ word.text) × (refuses kind word.text ≡ false)) (λ f. (f ≡ Reserved word.text) × (refuses kind word.text ≡ true)) }
+    ensures { MatchResult result (λ id. (id.text ≡ word.text) × (refuses kind word.text ≡ false))
+        (λ f. (f ≡ Reserved word.text) × (refuses kind word.text ≡ true)) }
 {
     if kind.refuses(word.as_str()) {
         let AnyId { text } = word;
@@ -106,7 +109,8 @@ fn component(kind: NameKind, word: AnyId) -> Result<Id, NameFault>
 // The words as components, unless one of them may not be one.
 fn components(alloc: Global, kind: NameKind, words: Vec<AnyId>) -> Result<Vec<Id>, NameFault>
     requires { kind ≢ NameKind.AnyId }
-    ensures ok { IfOk result (λ ids. (texts_of ids.items ≡ word_texts words.items) × (find (refuses kind) (word_texts words.items) ≡ None)) }
+    ensures ok { IfOk result (λ ids. (texts_of ids.items ≡ word_texts words.items)
+        × (find (refuses kind) (word_texts words.items) ≡ None)) }
     ensures err { IfErr result (IsRefusedWord kind (word_texts words.items)) }
 {
     let mut ids = Vec::new(alloc);

@@ -25,12 +25,14 @@ pub trait NameText {
         ensures text { IfOk result (λ text. text ≡ joined_by (codes "::") (components self.now)) };
 
     /// Names have the same text only where they have the same components.
-    ghost tells_apart: { (a b : Self) → joined_by (codes "::") (components a) ≡ joined_by (codes "::") (components b) → components a ≡ components b };
+    ghost tells_apart: { (a b : Self) → joined_by (codes "::") (components a) ≡ joined_by (codes "::") (components b)
+        → components a ≡ components b };
 }
 
 /// Names have the same text exactly where they have the same components.
 pub fn texts_tell_names_apart<N: NameText>(a: &N, b: &N)
-    ensures { joined_by (codes "::") (N.components a.now) ≡ joined_by (codes "::") (N.components b.now) ↔ N.components a.now ≡ N.components b.now }
+    ensures { joined_by (codes "::") (N.components a.now) ≡ joined_by (codes "::") (N.components b.now)
+        ↔ N.components a.now ≡ N.components b.now }
 {}
 
 impl NameText for InternalName {

@@ -65,7 +65,11 @@ impl RawName {
         ns: Option<&InternalName>,
         kind: ReferenceType,
     ) -> Result<ConditionalName, AllocError>
-        ensures { IfOk result (λ name. name ≡ record { possibilities = candidates (option_copied ns.entry) self.name; raw = self; reference_type = kind }) }
+        ensures { IfOk result (λ name. name ≡ record {
+          possibilities = candidates (option_copied ns.entry) self.name;
+          raw = self;
+          reference_type = kind;
+        }) }
     {
         let possibilities = candidates(alloc, ns, &self.name)?;
         Ok(ConditionalName {

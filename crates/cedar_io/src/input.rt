@@ -22,13 +22,14 @@ pub enum ReadEnd {
     Memory,
 }
 
-/// The whole input, or why it was not read to its end. Each piece that is asked for has 4,096 bytes at most, and at most one byte
-/// more than an input may have is taken.
+/// The whole input, or why it was not read to its end. Each piece that is asked for has 4,096 bytes at most, and at
+/// most one byte more than an input may have is taken.
 pub fn read_input<S: Source>(alloc: Global, source: &mut S) -> Result<Vec<u8>, ReadEnd>
     ensures whole { IfOk result (λ bytes. HadLeft (S.left source.old) bytes.items) }
     ensures end { OnOk result (IsEnd (S.left source.new)) }
     ensures short { IfOk result (λ bytes. length bytes.items ≤ max_input) }
-    ensures too_long { IsErrOf result ReadEnd.TooLong → (bytes : List ℕ) × HadLeft (S.left source.old) bytes × (max_input < length bytes) }
+    ensures too_long { IsErrOf result ReadEnd.TooLong → (bytes : List ℕ) × HadLeft (S.left source.old) bytes
+        × (max_input < length bytes) }
     ensures failed { IsErrOf result ReadEnd.Failed → Rose (S.faults source.old) (S.faults source.new) }
     ensures taken { TookAtMost (max_input + 1) (S.left source.old) (S.left source.new) }
     ensures later { S.faults source.old ≤ S.faults source.new }

@@ -1,4 +1,5 @@
-ghost use Rattle.std.specs.Prelude.{◌≡◌, ◌≤◌, ◌<◌, ◌+◌, ◌-◌, ◌↔◌, ◌⊎◌, ◌++◌, [], Some, length, take, min, IfOk, OnErr, IsOk, IsErr};
+ghost use Rattle.std.specs.Prelude.{◌≡◌, ◌≤◌, ◌<◌, ◌+◌, ◌-◌, ◌↔◌, ◌⊎◌, ◌++◌, [], Some, length, take, min, IfOk, OnErr};
+ghost use Rattle.std.specs.Prelude.{IsOk, IsErr};
 ghost use Rattle.cedar_io.specs.Outside.{Rose, Appends, IsListed, IsFull, counted, sure_room};
 
 use crate::calls::Calls;
@@ -22,7 +23,13 @@ impl Model for MemorySink {
 
     ghost Value = { SinkState };
 
-    ghost view = { λ s. record { taken = take s.used s.bytes.items; room = vec_len s.bytes - s.used; calls = s.calls.made; failing = s.calls.failing.items; faults = s.calls.faults } };
+    ghost view = { λ s. record {
+      taken = take s.used s.bytes.items;
+      room = vec_len s.bytes - s.used;
+      calls = s.calls.made;
+      failing = s.calls.failing.items;
+      faults = s.calls.faults;
+    } };
 
     ghost invariant = { λ s. s.used ≤ vec_len s.bytes };
 }
@@ -34,7 +41,13 @@ impl MemorySink {
         room: usize,
         failing: Vec<u64>,
     ) -> Result<MemorySink, AllocError>
-        ensures { IfOk result (λ s. s ≡ record { taken = []; room = room; calls = 0; failing = failing.items; faults = 0 }) }
+        ensures { IfOk result (λ s. s ≡ record {
+          taken = [];
+          room = room;
+          calls = 0;
+          failing = failing.items;
+          faults = 0;
+        }) }
     {
         Ok(MemorySink {
             bytes: vec![in alloc; 0; room]?,
@@ -66,14 +79,23 @@ impl Sink for MemorySink {
         ensures failed { OnErr result (Rose self.old.faults self.new.faults) }
         ensures later { self.old.faults ≤ self.new.faults }
         ensures sure { 0 < length bytes.now → length bytes.now ≤ sure_room self.old → IsOk result }
-        ensures steady { 0 < length bytes.now → length bytes.now ≤ sure_room self.old → self.new.faults ≡ self.old.faults }
-        ensures left { 0 < length bytes.now → length bytes.now ≤ sure_room self.old → IfOk result (λ n. sure_room self.old ≤ sure_room self.new + n) }
+        ensures steady { 0 < length bytes.now → length bytes.now ≤ sure_room self.old
+            → self.new.faults ≡ self.old.faults }
+        ensures left { 0 < length bytes.now → length bytes.now ≤ sure_room self.old
+            → IfOk result (λ n. sure_room self.old ≤ sure_room self.new + n) }
 
         // Which calls fail, what the others take, and what stands after each.
         ensures exact { IsErr result ↔ (IsListed self.old.calls self.old.failing ⊎ IsFull self.old.room bytes.now) }
         ensures amount { IfOk result (λ n. n ≡ min (length bytes.now) self.old.room) }
-        ensures next { IfOk result (λ n. self.new ≡ record self.old { taken = self.old.taken ++ take n bytes.now; room = self.old.room - n; calls = counted self.old.calls }) }
-        ensures fault { OnErr result (self.new ≡ record self.old { calls = counted self.old.calls; faults = counted self.old.faults }) }
+        ensures next { IfOk result (λ n. self.new ≡ record self.old {
+          taken = self.old.taken ++ take n bytes.now;
+          room = self.old.room - n;
+          calls = counted self.old.calls;
+        }) }
+        ensures fault { OnErr result (self.new ≡ record self.old {
+          calls = counted self.old.calls;
+          faults = counted self.old.faults;
+        }) }
     {
         let listed = self.calls.next_is_listed();
         let n = bytes.len().min(self.bytes.len() - self.used);

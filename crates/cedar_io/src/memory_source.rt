@@ -22,7 +22,12 @@ impl Model for MemorySource {
 
     ghost Value = { SourceState };
 
-    ghost view = { λ s. record { left = drop s.at s.bytes.items; calls = s.calls.made; failing = s.calls.failing.items; faults = s.calls.faults } };
+    ghost view = { λ s. record {
+      left = drop s.at s.bytes.items;
+      calls = s.calls.made;
+      failing = s.calls.failing.items;
+      faults = s.calls.faults;
+    } };
 
     ghost invariant = { λ s. s.at ≤ vec_len s.bytes };
 }
@@ -57,9 +62,15 @@ impl Source for MemorySource {
         ensures exact { IsErr result ↔ IsListed self.old.calls self.old.failing }
         ensures amount { IfOk result (λ n. n ≡ min (length buf.old) (length self.old.left)) }
         ensures bytes { IfOk result (λ n. buf.new ≡ take n self.old.left ++ drop n buf.old) }
-        ensures next { IfOk result (λ n. self.new ≡ record self.old { left = drop n self.old.left; calls = counted self.old.calls }) }
+        ensures next { IfOk result (λ n. self.new ≡ record self.old {
+          left = drop n self.old.left;
+          calls = counted self.old.calls;
+        }) }
         ensures untouched { OnErr result (buf.new ≡ buf.old) }
-        ensures fault { OnErr result (self.new ≡ record self.old { calls = counted self.old.calls; faults = counted self.old.faults }) }
+        ensures fault { OnErr result (self.new ≡ record self.old {
+          calls = counted self.old.calls;
+          faults = counted self.old.faults;
+        }) }
     {
         if self.calls.next_is_listed() {
             return Err(self.calls.fault());

@@ -28,5 +28,6 @@ pub trait Sink {
         // What is sure is taken, and no more than what was taken of it is sure no longer.
         ensures sure { 0 < length bytes.now → length bytes.now ≤ sure self.old → IsOk result }
         ensures steady { 0 < length bytes.now → length bytes.now ≤ sure self.old → faults self.new ≡ faults self.old }
-        ensures left { 0 < length bytes.now → length bytes.now ≤ sure self.old → IfOk result (λ n. sure self.old ≤ sure self.new + n) };
+        ensures left { 0 < length bytes.now → length bytes.now ≤ sure self.old
+            → IfOk result (λ n. sure self.old ≤ sure self.new + n) };
 }

@@ -11,7 +11,8 @@ pub trait Source {
     /// How often it has failed: a count that never falls.
     ghost faults: { Self → ℕ };
 
-    /// Takes the next bytes into the front of `buf`, and says how many: 0 for a `buf` with room is the end of the input.
+    /// Takes the next bytes into the front of `buf`, and says how many: 0 for a `buf` with room is the end of the
+    /// input.
     fn read(&mut self, buf: &mut [u8]) -> Result<usize, Failed>
         ensures count { IfOk result (λ n. n ≤ length buf.old) }
         ensures took { IfOk result (λ n. Took (left self.old) (take n buf.new) (left self.new)) }

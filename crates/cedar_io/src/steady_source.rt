@@ -44,7 +44,8 @@ impl Source for SteadySource {
         ensures took { IfOk result (λ n. Took (Some self.old.left) (take n buf.new) (Some self.new.left)) }
         ensures end { IfOk result (λ n. n ≡ 0 → 0 < length buf.old → IsEnd (Some self.old.left)) }
         ensures err { OnErr result (self.new.left ≡ self.old.left) }
-        ensures failed { OnErr result (Rose (⟦<SteadySource as Source>⟧.faults self.old) (⟦<SteadySource as Source>⟧.faults self.new)) }
+        ensures failed { OnErr result (Rose (⟦<SteadySource as Source>⟧.faults self.old)
+            (⟦<SteadySource as Source>⟧.faults self.new)) }
         ensures later { ⟦<SteadySource as Source>⟧.faults self.old ≤ ⟦<SteadySource as Source>⟧.faults self.new }
 
         // Each call answers, with as much as there is and as fits.

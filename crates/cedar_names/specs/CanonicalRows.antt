@@ -29,7 +29,8 @@ nested_records = record {
 
 -- the canonical text of `nested_records`
 abbrev pub nested_records_text : List ℕ
-nested_records_text = codes "namespace N {\n  entity Album in [N::Album, User] = {\n    owner: User,\n    x: {    },\n    \"zip code\"?: Set<__cedar::String>,\n  };\n}\n"
+nested_records_text = codes
+    "namespace N {\n  entity Album in [N::Album, User] = {\n    owner: User,\n    x: {    },\n    \"zip code\"?: Set<__cedar::String>,\n  };\n}\n"
 
 -- tags stand at no indentation
 abbrev pub record_tags : SchemaMeaning

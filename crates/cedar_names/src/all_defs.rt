@@ -1,7 +1,9 @@
-ghost use Rattle.std.specs.Prelude.{◌≡◌, ◌≢◌, true, ◌+◌, ◌-◌, ◌*◌, ◌^◌, ◌≤◌, ◌<◌, [], ◌∷◌, ◌++◌, ℕ, List, map, length, IfOk, OnOk, OnErr};
+ghost use Rattle.std.specs.Prelude.{◌≡◌, ◌≢◌, true, ◌+◌, ◌-◌, ◌*◌, ◌^◌, ◌≤◌, ◌<◌, [], ◌∷◌, ◌++◌, ℕ, List, map, length};
+ghost use Rattle.std.specs.Prelude.{IfOk, OnOk, OnErr};
 ghost use Rattle.std.specs.List.Sorted.{IsStrictlySortedBy};
 ghost use Rattle.cedar_identifiers.specs.Names.{components_of};
-ghost use Rattle.cedar_names.specs.Definitions.{among, among_actions, action_of, AddsName, AddsNames, AddsAction, AddsTypes};
+ghost use Rattle.cedar_names.specs.Definitions.{among, among_actions, action_of, AddsName, AddsNames, AddsAction};
+ghost use Rattle.cedar_names.specs.Definitions.{AddsTypes};
 ghost use Rattle.cedar_names.specs.Orders.{names_in_order, uids_in_order};
 
 use crate::entity_uid::EntityUID;
@@ -16,7 +18,8 @@ use std::cmp::Ordering;
 use std::marker::Model;
 use std::sync::ledger::Ledger;
 
-/// What is defined: names of common types, names of entity types, and actions. Contracts see three sets, without places.
+/// What is defined: names of common types, names of entity types, and actions. Contracts see three sets, without
+/// places.
 pub struct AllDefs {
     common_defs: Vec<InternalName>,
     entity_defs: Vec<InternalName>,
@@ -44,9 +47,15 @@ impl Model for AllDefs {
 
     ghost Value = { Definitions };
 
-    ghost view = { λ d. record { commons = map components_of d.common_defs.items; entities = map components_of d.entity_defs.items; actions = map action_of d.action_defs.items } };
+    ghost view = { λ d. record {
+      commons = map components_of d.common_defs.items;
+      entities = map components_of d.entity_defs.items;
+      actions = map action_of d.action_defs.items;
+    } };
 
-    ghost invariant = { λ d. IsStrictlySortedBy names_in_order d.common_defs.items × (IsStrictlySortedBy names_in_order d.entity_defs.items × IsStrictlySortedBy uids_in_order d.action_defs.items) };
+    ghost invariant = { λ d. IsStrictlySortedBy names_in_order d.common_defs.items
+        × (IsStrictlySortedBy names_in_order d.entity_defs.items
+        × IsStrictlySortedBy uids_in_order d.action_defs.items) };
 }
 
 impl AllDefs {
@@ -71,7 +80,8 @@ impl AllDefs {
     ) -> AllDefs
         ensures commons { (n : List (List ℕ)) → among result.commons n ≡ among (map components_of commons.items) n }
         ensures entities { (n : List (List ℕ)) → among result.entities n ≡ among (map components_of entities.items) n }
-        ensures actions { (a : List (List ℕ) × List ℕ) → among_actions result.actions a ≡ among_actions (map action_of actions.items) a }
+        ensures actions { (a : List (List ℕ) × List ℕ) → among_actions result.actions a
+            ≡ among_actions (map action_of actions.items) a }
     {
         sort_once(&mut commons);
         sort_once(&mut entities);
@@ -254,7 +264,8 @@ impl AllDefs {
 fn add_name(names: &mut Vec<InternalName>, name: InternalName) -> Result<(), AllocError>
     requires { IsStrictlySortedBy names_in_order names.old.items }
     ensures sorted { IsStrictlySortedBy names_in_order names.new.items }
-    ensures added { OnOk result (AddsName (map components_of names.old.items) (map components_of names.new.items) (components_of name)) }
+    ensures added { OnOk result (AddsName (map components_of names.old.items) (map components_of names.new.items)
+        (components_of name)) }
     ensures err { OnErr result (names.new.items ≡ names.old.items) }
 {
     match find(names.as_slice(), &Named { name: &name }, &mut Uncounted {}) {
@@ -270,7 +281,8 @@ fn add_name(names: &mut Vec<InternalName>, name: InternalName) -> Result<(), All
 fn add_names(names: &mut Vec<InternalName>, mut more: Vec<InternalName>) -> Result<(), AllocError>
     requires { IsStrictlySortedBy names_in_order names.old.items }
     ensures sorted { IsStrictlySortedBy names_in_order names.new.items }
-    ensures added { OnOk result (AddsNames (map components_of names.old.items) (map components_of names.new.items) (map components_of more.items)) }
+    ensures added { OnOk result (AddsNames (map components_of names.old.items) (map components_of names.new.items)
+        (map components_of more.items)) }
     ensures err { OnErr result (names.new.items ≡ names.old.items) }
 {
     names.append(&mut more)?;
@@ -282,7 +294,8 @@ fn add_names(names: &mut Vec<InternalName>, mut more: Vec<InternalName>) -> Resu
 fn add_action(actions: &mut Vec<EntityUID>, uid: EntityUID) -> Result<(), AllocError>
     requires { IsStrictlySortedBy uids_in_order actions.old.items }
     ensures sorted { IsStrictlySortedBy uids_in_order actions.new.items }
-    ensures added { OnOk result (AddsAction (map action_of actions.old.items) (map action_of actions.new.items) (action_of uid)) }
+    ensures added { OnOk result (AddsAction (map action_of actions.old.items) (map action_of actions.new.items)
+        (action_of uid)) }
     ensures err { OnErr result (actions.new.items ≡ actions.old.items) }
 {
     let sought = ActionNamed {
@@ -300,7 +313,8 @@ fn add_action(actions: &mut Vec<EntityUID>, uid: EntityUID) -> Result<(), AllocE
 
 // The types of the actions, of neighbours with the same type once.
 fn types_of(alloc: Global, actions: &[EntityUID]) -> Result<Vec<InternalName>, AllocError>
-    ensures { IfOk result (λ types. (n : List (List ℕ)) → among (map components_of types.items) n ≡ among (map (λ a. a.0) (map action_of actions.now)) n) }
+    ensures { IfOk result (λ types. (n : List (List ℕ)) → among (map components_of types.items) n
+        ≡ among (map (λ a. a.0) (map action_of actions.now)) n) }
 {
     let mut types = Vec::new(alloc);
     for action in actions {
@@ -315,7 +329,8 @@ fn add_type(
     types: &mut Vec<InternalName>,
     ty: &InternalName,
 ) -> Result<(), AllocError>
-    ensures { OnOk result (AddsName (map components_of types.old.items) (map components_of types.new.items) (components_of ty.now)) }
+    ensures { OnOk result (AddsName (map components_of types.old.items) (map components_of types.new.items)
+        (components_of ty.now)) }
 {
     if ends_with(types.as_slice(), ty) {
         return Ok(());

@@ -11,7 +11,8 @@ use cedar_identifiers::{Eid, Name, NameText};
 use schema_syntax_tokens::push_quoted;
 use std::alloc::{AllocError, Global};
 
-/// An entity: its type and its id, with a place that no comparison sees. It is ordered by type, then by the bytes of its id.
+/// An entity: its type and its id, with a place that no comparison sees. It is ordered by type, then by the bytes of
+/// its id.
 #[derive_where(PartialEq, Eq, PartialOrd, Ord, Hash)]
 pub struct EntityUID {
     pub ty: Name,
@@ -65,8 +66,12 @@ impl CloneIn for EntityUID {
 
 /// Entities are ordered by type, then by the bytes of their ids; their places are not seen.
 pub fn entities_go_by_type_and_id(a: &EntityUID, b: &EntityUID)
-    ensures order { ⟦<EntityUID as Ord>⟧.cmp a.now b.now ≡ ordering_then (slice_cmp text_cmp (components_of a.now.ty.name) (components_of b.now.ty.name)) (text_cmp a.now.eid.0 b.now.eid.0) }
-    ensures equal { ⟦<EntityUID as PartialEq>⟧.eq a.now b.now ≡ true ↔ ((components_of a.now.ty.name ≡ components_of b.now.ty.name) × (encode_utf8_all a.now.eid.0 ≡ encode_utf8_all b.now.eid.0)) }
+    ensures order { ⟦<EntityUID as Ord>⟧.cmp a.now b.now
+        ≡ ordering_then (slice_cmp text_cmp (components_of a.now.ty.name) (components_of b.now.ty.name))
+        (text_cmp a.now.eid.0 b.now.eid.0) }
+    ensures equal { ⟦<EntityUID as PartialEq>⟧.eq a.now b.now ≡ true
+        ↔ ((components_of a.now.ty.name ≡ components_of b.now.ty.name)
+        × (encode_utf8_all a.now.eid.0 ≡ encode_utf8_all b.now.eid.0)) }
 {
     declared_names_go_by_components(&a.ty, &b.ty);
 }

@@ -10,8 +10,8 @@ use std::alloc::{AllocError, Global};
 use std::cmp::Ordering;
 use std::collections::BTreeSet;
 
-/// The names of the extension types that a schema may use: distinct words, none of them reserved or the name of what every
-/// schema has.
+/// The names of the extension types that a schema may use: distinct words, none of them reserved or the name of what
+/// every schema has.
 pub struct ExtensionTable {
     pub names: Set<UnreservedId>,
     pub ghost extensions: { list_any (λ n. is_builtin n.id.text) names ≡ false },

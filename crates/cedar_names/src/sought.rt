@@ -1,6 +1,7 @@
 ghost use Rattle.std.specs.Prelude.{◌≡◌, [], ◌∷◌, ◌++◌};
 ghost use Rattle.std.specs.Cmp.Lexicographic.{slice_cmp};
-ghost use Rattle.cedar_names.specs.Orders.{id_text_order, ids_of, ids_behind, names_in_order, keys_in_order, action_key, uids_in_order, ids_total, keys_total, is_below, is_above};
+ghost use Rattle.cedar_names.specs.Orders.{id_text_order, ids_of, ids_behind, names_in_order, keys_in_order};
+ghost use Rattle.cedar_names.specs.Orders.{action_key, uids_in_order, ids_total, keys_total, is_below, is_above};
 
 use crate::entity_uid::EntityUID;
 use crate::halving::Sought;

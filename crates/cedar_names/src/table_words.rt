@@ -51,8 +51,10 @@ pub(crate) fn word(alloc: Global, name: &str) -> Result<UnreservedId, AllocError
 // Adds the word to the set, and says whether it is new there.
 pub(crate) fn add(seen: &mut BTreeSet<UnreservedId>, id: UnreservedId) -> Result<bool, AllocError>
     ensures added { IfOk result (λ added. added ≡ not (list_any (λ n. bytes_eq id.id.text n.id.text) seen.old.keys)) }
-    ensures same { OnOk result ((text : List ℕ) → list_any (λ n. bytes_eq text n.id.text) seen.new.keys ≡ (list_any (λ n. bytes_eq text n.id.text) seen.old.keys || bytes_eq text id.id.text)) }
-    ensures builtin { OnOk result (list_any (λ n. is_builtin n.id.text) seen.new.keys ≡ (list_any (λ n. is_builtin n.id.text) seen.old.keys || is_builtin id.id.text)) }
+    ensures same { OnOk result ((text : List ℕ) → list_any (λ n. bytes_eq text n.id.text) seen.new.keys
+        ≡ (list_any (λ n. bytes_eq text n.id.text) seen.old.keys || bytes_eq text id.id.text)) }
+    ensures builtin { OnOk result (list_any (λ n. is_builtin n.id.text) seen.new.keys
+        ≡ (list_any (λ n. is_builtin n.id.text) seen.old.keys || is_builtin id.id.text)) }
 {
     let added = seen.insert(id)?;
     Ok(added)

@@ -2,7 +2,8 @@
 ghost use Rattle.std.specs.Prelude.{◌≡◌, ◌++◌, ◌∷◌, [], map, codes, decimal, None, IfOk, OnOk};
 ghost use Rattle.std.specs.List.{flat_map};
 ghost use Rattle.cedar_schema_core_faults.specs.Told.{label_line, help_line, told_lines, told_parse};
-ghost use Rattle.cedar_schema_core_faults.specs.Told.{told_translation, told_schema, told_captured, told_memory, told_text, fault_text};
+ghost use Rattle.cedar_schema_core_faults.specs.Told.{told_translation, told_schema, told_captured, told_memory};
+ghost use Rattle.cedar_schema_core_faults.specs.Told.{told_text, fault_text};
 
 use crate::numbers::number_text;
 use crate::recover_error::RecoverError;
@@ -62,7 +63,11 @@ fn push_told(
     labels: &[Label],
     help: Option<Text>,
 ) -> Result<(), AllocError>
-    ensures { OnOk result (lines.new ≡ lines.old ++ told_lines (record { text = text.now; labels = labels.now; help = help })) }
+    ensures { OnOk result (lines.new ≡ lines.old ++ told_lines (record {
+      text = text.now;
+      labels = labels.now;
+      help = help;
+    })) }
 {
     lines.push_text(&around(alloc, "error: ", text, "\n")?)?;
     push_labels(alloc, lines, labels)?;

@@ -33,8 +33,8 @@ pub fn rearranged_texts_mean_the_same()
     what_declares_the_same_means_the_same();
 }
 
-/// Order does not matter: texts mean the same where whole items, or whole declarations of one opening of a namespace, stand in
-/// another order.
+/// Order does not matter: texts mean the same where whole items, or whole declarations of one opening of a namespace,
+/// stand in another order.
 pub fn order_does_not_matter()
     ensures items { (text other : List ℕ) (table : ExtensionTable) (w v : List WrittenItem) → IsWrittenAs text w
         → IsWrittenAs other v → IsReordered w v → MeanTheSame text other table }

@@ -38,16 +38,16 @@ use schema_print_plain::laws::printable_fragments_read_back;
 use schema_print_says::laws::printed_fragments_read_back;
 use schema_says::laws::trees_that_say_the_same;
 
-/// A tree has no fault of translation exactly where it can be translated: no name is reserved, none is declared twice in its
-/// kind and namespace, and each block of an action is whole.
+/// A tree has no fault of translation exactly where it can be translated: no name is reserved, none is declared twice
+/// in its kind and namespace, and each block of an action is whole.
 pub fn a_tree_is_translated_where_it_can_be()
     ensures { (tree : List (Annotated Namespace)) → translation_faults tree ≡ [] ↔ IsTranslatable tree }
 {
     lawful_trees();
 }
 
-/// Of two trees that say the same, with a component in each name and a name in each declaration of actions, the other has no
-/// fault where one has none, and then their fragments are the same, places aside.
+/// Of two trees that say the same, with a component in each name and a name in each declaration of actions, the other
+/// has no fault where one has none, and then their fragments are the same, places aside.
 pub fn what_is_said_decides()
     ensures { (tree other : List (Annotated Namespace)) (w : List WrittenItem) → AllZip SaysItem tree w
         → AllZip SaysItem other w → AllByRecursion IsWellNamed w → translation_faults tree ≡ []
@@ -56,8 +56,8 @@ pub fn what_is_said_decides()
     trees_that_say_the_same();
 }
 
-/// The printed text of a fragment that a text can say has no fault, and its fragment is that one in the form that its text has,
-/// places aside.
+/// The printed text of a fragment that a text can say has no fault, and its fragment is that one in the form that its
+/// text has, places aside.
 pub fn printed_fragments_say_the_same()
     ensures { (closing : Bool) (f : Fragments Raw as_written) (groups : List Group)
         → AreGroupsOf components_written f groups → IsPlainFragment f
@@ -86,8 +86,8 @@ pub fn a_fragment_has_one_meaning()
     one_fragment_meaning();
 }
 
-/// What is told of the fault that keeps a fragment from being a schema is one: its text, its advice and its places. The entries
-/// of the fragment are to be in the order of their names, as those of each fragment in memory are.
+/// What is told of the fault that keeps a fragment from being a schema is one: its text, its advice and its places. The
+/// entries of the fragment are to be in the order of their names, as those of each fragment in memory are.
 pub fn faults_are_told_alike()
     ensures { (f : Fragments Raw as_written) (table : ExtensionTable) (error other : SchemaError) → IsInOrder f
         → BuildFault f table error → BuildFault f table other → AreToldAlike error other }

@@ -1,7 +1,7 @@
-//! The page of theorems: what is proved of schema texts, fragments and schemas, one sentence each. Each theorem is what its
-//! function ensures, over definitions alone, and each function does nothing but cite the laws that it follows from.
-//! A text is the list of its bytes; a meaning is what a schema is about: entity types and actions, each with all that is
-//! above it, and no common type.
+//! The page of theorems: what is proved of schema texts, fragments and schemas, one sentence each. Each theorem is what
+//! its function ensures, over definitions alone, and each function does nothing but cite the laws that it follows from.
+//! A text is the list of its bytes; a meaning is what a schema is about: entity types and actions, each with all that
+//! is above it, and no common type.
 #![tactic(auto)]
 
 pub mod fragments;

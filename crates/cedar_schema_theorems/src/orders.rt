@@ -10,7 +10,8 @@ use cedar_schema_core_orders::laws::{
     blanks_do_not_matter, divisions_do_not_matter, order_does_not_matter,
 };
 
-/// Texts whose tokens have the same kinds and the same bytes mean the same, whatever blanks and comments stand between these.
+/// Texts whose tokens have the same kinds and the same bytes mean the same, whatever blanks and comments stand between
+/// these.
 pub fn blanks_change_no_meaning()
     ensures { (text other : List ℕ) (table : ExtensionTable) → HaveTheSameTokens text other
         → MeanTheSame text other table }

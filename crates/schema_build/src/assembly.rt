@@ -174,7 +174,8 @@ fn put_together<D: Drop, A: Drop, K: Drop, B: Assembled<D, A, K>>(
     ancestors: Vec<A>,
     kinds: Vec<K>,
 ) -> Result<Vec<B>, AllocError>
-    ensures { IfOk result (λ built. built.items ≡ map B.assembly (zip (zip entries.items ancestors.items) kinds.items)) }
+    ensures { IfOk result (λ built. built.items
+        ≡ map B.assembly (zip (zip entries.items ancestors.items) kinds.items)) }
 {
     let mut built = Vec::with_capacity(alloc, entries.len())?;
     for parts in entries.into_iter().zip(ancestors).zip(kinds) {
@@ -191,7 +192,9 @@ pub(crate) fn entity_types(
     kinds: Vec<ValidatorEntityTypeKind>,
 ) -> Result<Vec<EntityTypeEntry>, AllocError>
     requires { All (λ (row : Vec ℕ GlobalTold). All (λ place. place < length entries.items) row.items) above.now }
-    ensures { (f : Fragments Raw ⟦<RawName as NameText>⟧) (table : Table) → HoldEntities f table entries.entry.items above.now kinds.items → IfOk result (λ built. AreEntitiesBuilt f table built.items) }
+    ensures { (f : Fragments Raw ⟦<RawName as NameText>⟧) (table : Table)
+        → HoldEntities f table entries.entry.items above.now kinds.items
+        → IfOk result (λ built. AreEntitiesBuilt f table built.items) }
 {
     let ancestors = all_names_at(alloc, &entries, above)?;
     put_together(alloc, entries, ancestors, kinds)
@@ -205,7 +208,9 @@ pub(crate) fn actions(
     kinds: Vec<ValidatorActionKind>,
 ) -> Result<Vec<ActionEntry>, AllocError>
     requires { All (λ (row : Vec ℕ GlobalTold). All (λ place. place < length entries.items) row.items) above.now }
-    ensures { (f : Fragments Raw ⟦<RawName as NameText>⟧) (table : Table) → HoldActions f table entries.entry.items above.now kinds.items → IfOk result (λ built. AreActionsBuilt f table built.items) }
+    ensures { (f : Fragments Raw ⟦<RawName as NameText>⟧) (table : Table)
+        → HoldActions f table entries.entry.items above.now kinds.items
+        → IfOk result (λ built. AreActionsBuilt f table built.items) }
 {
     let ancestors = all_names_at(alloc, &entries, above)?;
     put_together(alloc, entries, ancestors, kinds)

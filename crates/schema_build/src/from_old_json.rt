@@ -2,7 +2,8 @@ ghost use Rattle.std.specs.Prelude.{◌≡◌, MatchResult};
 ghost use Rattle.serde_json.specs.View.{view};
 ghost use Rattle.schema_compat.specs.Causes.{OldText, OldValue, IsOldTextError, IsOldValueError};
 ghost use Rattle.schema_build_checks.specs.Rows.{OrMemory};
-ghost use Rattle.schema_build.specs.OldJson.{refusal, IsUnsaid, IsSchemaOfOldText, IsOldTextFault, IsSchemaOfOldValue, IsOldValueFault};
+ghost use Rattle.schema_build.specs.OldJson.{refusal, IsUnsaid, IsSchemaOfOldText, IsOldTextFault, IsSchemaOfOldValue};
+ghost use Rattle.schema_build.specs.OldJson.{IsOldValueFault};
 
 use crate::schema::ValidatorSchema;
 use cedar_identifiers::RawName;
@@ -46,8 +47,8 @@ fn read_value(alloc: Global, json: Value) -> Result<Fragment<RawName>, SchemaErr
 
 impl ValidatorSchema {
     /// The schema of a JSON text in the deprecated form under a table of extension types: it stands for what the text's
-    /// fragment means. Refused are, in this order, a text that says no fragment, as `JsonDeserialization`, and one whose
-    /// fragment has a fault, by that fault.
+    /// fragment means. Refused are, in this order, a text that says no fragment, as `JsonDeserialization`, and one
+    /// whose fragment has a fault, by that fault.
     pub fn from_deprecated_json_str(
         alloc: Global,
         json: &str,
@@ -59,15 +60,16 @@ impl ValidatorSchema {
         ValidatorSchema::from_schema_frag(alloc, fragment, table)
     }
 
-    /// The schema of a JSON value in the deprecated form under a table of extension types: it stands for what the value's
-    /// fragment means. Refused are, in this order, a value that says no fragment, as `JsonDeserialization`, and one whose
-    /// fragment has a fault, by that fault.
+    /// The schema of a JSON value in the deprecated form under a table of extension types: it stands for what the
+    /// value's fragment means. Refused are, in this order, a value that says no fragment, as `JsonDeserialization`, and
+    /// one whose fragment has a fault, by that fault.
     pub fn from_deprecated_json_value(
         alloc: Global,
         json: Value,
         table: &ExtensionTable,
     ) -> Result<ValidatorSchema, SchemaError>
-        ensures { MatchResult result (IsSchemaOfOldValue (view json) table.now) (IsOldValueFault (view json) table.now) }
+        ensures { MatchResult result (IsSchemaOfOldValue (view json) table.now)
+            (IsOldValueFault (view json) table.now) }
     {
         let fragment = read_value(alloc, json)?;
         ValidatorSchema::from_schema_frag(alloc, fragment, table)

@@ -29,7 +29,8 @@ fn read_fragment(
     src: &str,
     table: &ExtensionTable,
 ) -> Result<(Fragment<RawName>, Vec<SchemaWarning>), CedarSchemaError>
-    ensures { MatchResult result (λ out. IsTranslationOfText src.now table.now out.0 out.1.items) (IsFragmentError src.now) }
+    ensures { MatchResult result (λ out. IsTranslationOfText src.now table.now out.0 out.1.items)
+        (IsFragmentError src.now) }
 {
     match parse_cedar_schema_fragment(alloc, src, table) {
         Ok(translation) => Ok(translation),
@@ -46,8 +47,8 @@ pub trait FromCedarSchema: Drop {
     /// The text is read as it under the table, with the warnings.
     ghost IsReadAs: { List ℕ → Table → Self → List Warning → Type 0 };
 
-    /// What the text says under a table of extension types, with its warnings. A text that has no fragment is refused with its
-    /// faults as `Parsing`.
+    /// What the text says under a table of extension types, with its warnings. A text that has no fragment is refused
+    /// with its faults as `Parsing`.
     fn from_cedarschema_str(
         alloc: Global,
         src: &str,
@@ -69,15 +70,16 @@ impl FromCedarSchema for Fragment<RawName> {
 }
 
 impl ValidatorSchema {
-    /// The schema of a text in the Cedar schema format under a table of extension types, with the text's warnings: it stands
-    /// for what the text's fragment means. Refused are, in this order, a text that has no fragment, as `Parsing`, and one whose
-    /// fragment has a fault, as `Schema`.
+    /// The schema of a text in the Cedar schema format under a table of extension types, with the text's warnings: it
+    /// stands for what the text's fragment means. Refused are, in this order, a text that has no fragment, as
+    /// `Parsing`, and one whose fragment has a fault, as `Schema`.
     pub fn from_cedarschema_str(
         alloc: Global,
         src: &str,
         table: &ExtensionTable,
     ) -> Result<(ValidatorSchema, Vec<SchemaWarning>), CedarSchemaError>
-        ensures { MatchResult result (λ out. IsSchemaOfText src.now table.now out.0 out.1.items) (IsTextError src.now table.now) }
+        ensures { MatchResult result (λ out. IsSchemaOfText src.now table.now out.0 out.1.items)
+            (IsTextError src.now table.now) }
     {
         let (fragment, warnings) = read_fragment(alloc, src, table)?;
         match ValidatorSchema::from_schema_frag(alloc, fragment, table) {

@@ -1,4 +1,5 @@
-//! Laws of what fragments mean. Each law is what its function ensures; the functions do nothing but cite laws below them.
+//! Laws of what fragments mean. Each law is what its function ensures; the functions do nothing but cite laws below
+//! them.
 ghost use Rattle.std.specs.Prelude.{◌≡◌};
 ghost use Rattle.cedar_names.specs.Meaning.{SchemaMeaning};
 ghost use Rattle.cedar_names.specs.declared.extension_table.ExtensionTable.{ExtensionTable as Table};
@@ -14,13 +15,14 @@ use schema_build_expand::laws::types_stand_for_one;
 
 /// A fragment has at most one meaning under a table.
 pub fn one_fragment_meaning()
-    ensures { (f : Fragments Raw ⟦<RawName as NameText>⟧) (table : Table) (m n : SchemaMeaning) → FragmentMeaning f table m → FragmentMeaning f table n → m ≡ n }
+    ensures { (f : Fragments Raw ⟦<RawName as NameText>⟧) (table : Table) (m n : SchemaMeaning)
+        → FragmentMeaning f table m → FragmentMeaning f table n → m ≡ n }
 {
     types_stand_for_one::<RawName>();
 }
 
-/// What is told of the fault of a fragment under a table is one: its text, its advice and its places. The entries of the fragment
-/// are to be in the order of their names.
+/// What is told of the fault of a fragment under a table is one: its text, its advice and its places. The entries of
+/// the fragment are to be in the order of their names.
 pub fn one_build_fault()
     ensures { (f : Fragments Raw ⟦<RawName as NameText>⟧) (table : Table) (error other : Error) → IsInOrder f
         → BuildFault f table error → BuildFault f table other → AreToldAlike error other }

@@ -39,8 +39,8 @@ use std::alloc::Global;
 use std::marker::Model;
 use std::sync::ledger::Ledger;
 
-/// A built schema: its entity types in the order of their names, and its actions in the order of their types and ids, each
-/// once.
+/// A built schema: its entity types in the order of their names, and its actions in the order of their types and ids,
+/// each once.
 pub struct ValidatorSchema {
     entity_types: Vec<EntityTypeEntry>,
     actions: Vec<ActionEntry>,
@@ -69,7 +69,8 @@ impl Model for ValidatorSchema {
 
     ghost view = { λ s. record { entity_types = s.entity_types.items; actions = s.actions.items } };
 
-    ghost invariant = { λ s. IsStrictlySortedBy (λ a b. names_in_order a.name b.name) (keys_of s.entity_types.items) × IsStrictlySortedBy uids_in_order (keys_of s.actions.items) };
+    ghost invariant = { λ s. IsStrictlySortedBy (λ a b. names_in_order a.name b.name) (keys_of s.entity_types.items)
+        × IsStrictlySortedBy uids_in_order (keys_of s.actions.items) };
 }
 
 impl ValidatorSchema {
@@ -83,8 +84,8 @@ impl ValidatorSchema {
         }
     }
 
-    /// The schema of a fragment under a table of extension types: it stands for what the fragment means. A fragment with a
-    /// fault is refused by the first that holds, in the order of the causes of `SchemaError`.
+    /// The schema of a fragment under a table of extension types: it stands for what the fragment means. A fragment
+    /// with a fault is refused by the first that holds, in the order of the causes of `SchemaError`.
     pub fn from_schema_frag(
         alloc: Global,
         fragment: Fragment<RawName>,
@@ -111,9 +112,9 @@ impl ValidatorSchema {
         })
     }
 
-    /// The schema of these entity types and actions, as they stand. Refused are an action whose type has another basename than
-    /// `Action`, the least of them as `InvalidActionType`, and else an enumerated entity type with ancestors, the least of
-    /// them and its least ancestor as `EnumEntityInHierarchy`.
+    /// The schema of these entity types and actions, as they stand. Refused are an action whose type has another
+    /// basename than `Action`, the least of them as `InvalidActionType`, and else an enumerated entity type with
+    /// ancestors, the least of them and its least ancestor as `EnumEntityInHierarchy`.
     pub fn from_parts(
         alloc: Global,
         entity_types: Map<Name, ValidatorEntityType>,
@@ -164,7 +165,8 @@ impl ValidatorSchema {
         name: &Name,
         steps: &mut Steps<L>,
     ) -> Option<&ValidatorEntityType>
-        ensures value { option_copied result ≡ lookup (is_at (λ n. names_in_order name.now.name n.name)) self.now.entity_types }
+        ensures value { option_copied result
+            ≡ lookup (is_at (λ n. names_in_order name.now.name n.name)) self.now.entity_types }
         ensures counted { steps.old ≤ steps.new }
         ensures cost { 2 ^ (steps.new - steps.old) ≤ 2 * length self.now.entity_types + 1 }
     {
@@ -186,14 +188,15 @@ impl ValidatorSchema {
 
     /// Whether the two schemas say the same, wherever their names were written. It takes no memory.
     pub fn meaning_eq(a: &ValidatorSchema, b: &ValidatorSchema) -> bool
-        ensures same { result ≡ true ↔ content a.now.entity_types a.now.actions ≡ content b.now.entity_types b.now.actions }
+        ensures same { result ≡ true ↔ content a.now.entity_types a.now.actions
+            ≡ content b.now.entity_types b.now.actions }
     {
         same_content(&a.entity_types, &a.actions, &b.entity_types, &b.actions)
     }
 
-    /// The fragment that is recovered of what the schema stands for: without common types, annotations and places. Refused is
-    /// what no text says, by the first of it: namespace by namespace, entity types before actions, and an outer type before the
-    /// types inside it.
+    /// The fragment that is recovered of what the schema stands for: without common types, annotations and places.
+    /// Refused is what no text says, by the first of it: namespace by namespace, entity types before actions, and an
+    /// outer type before the types inside it.
     pub fn to_json_schema(&self, alloc: Global) -> Result<Fragment<RawName>, RecoveryError>
         ensures recovered { IfOk result (λ f. (m : SchemaMeaning) → StandsFor self.now m → IsRecoveredFragment m f) }
         ensures whole { OnOk result (schema_lacks (content self.now.entity_types self.now.actions) ≡ []) }
@@ -202,11 +205,12 @@ impl ValidatorSchema {
         recovered_fragment(alloc, &self.entity_types, &self.actions)
     }
 
-    /// The canonical text of what the schema stands for. `Recovery` where the schema holds what no text says, by the first
-    /// of it, as `to_json_schema` tells it; else `Captured` where an item has a type that would be read otherwise in its
-    /// namespace, about the first of them.
+    /// The canonical text of what the schema stands for. `Recovery` where the schema holds what no text says, by the
+    /// first of it, as `to_json_schema` tells it; else `Captured` where an item has a type that would be read otherwise
+    /// in its namespace, about the first of them.
     pub fn to_cedar_schema(&self, alloc: Global) -> Result<Text, ToTextError>
-        ensures text { IfOk result (λ text. (m : SchemaMeaning) → StandsFor self.now m → encode_utf8_all text ≡ canonical_text m) }
+        ensures text { IfOk result (λ text. (m : SchemaMeaning) → StandsFor self.now m
+            → encode_utf8_all text ≡ canonical_text m) }
         ensures whole { OnOk result (schema_lacks (content self.now.entity_types self.now.actions) ≡ []) }
         ensures uncaptured { OnOk result ((m : SchemaMeaning) → StandsFor self.now m → IsUncaptured m) }
         ensures lacks { IfErr result (NamesLacksFirst (schema_lacks (content self.now.entity_types self.now.actions))) }

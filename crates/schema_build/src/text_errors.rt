@@ -1,6 +1,7 @@
 ghost use Rattle.std.specs.Prelude.{◌≡◌, true, IfOk};
 ghost use Rattle.schema_convert_errors.specs.ErrorPlaces.{text_failure_labels};
-ghost use Rattle.schema_build.specs.TextErrorTexts.{with_json_help, schema_parse_error_text, schema_parse_error_help, text_error_text, text_error_help, text_error_labels};
+ghost use Rattle.schema_build.specs.TextErrorTexts.{with_json_help, schema_parse_error_text, schema_parse_error_help};
+ghost use Rattle.schema_build.specs.TextErrorTexts.{text_error_text, text_error_help, text_error_labels};
 
 use cedar_data::{Label, Severity, Text, message};
 use schema_build_errors::SchemaError;
@@ -60,7 +61,7 @@ impl CedarSchemaParseError {
         self.errs.labels(alloc)
     }
 
-    /// How grave it is: an error.
+    /// Its severity: an error.
     pub fn severity(&self) -> Severity
         ensures error { result ≡ Severity.Error }
     {
@@ -133,7 +134,7 @@ impl CedarSchemaError {
         }
     }
 
-    /// How grave it is: an error.
+    /// Its severity: an error.
     pub fn severity(&self) -> Severity
         ensures error { result ≡ Severity.Error }
     {

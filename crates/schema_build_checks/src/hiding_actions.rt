@@ -17,8 +17,8 @@ use schema_resolve_definitions::declared::action_type;
 use schema_resolve_lookup::DeclaredDefs;
 use std::alloc::{AllocError, Global};
 
-/// Refuses a fragment in which an action of a named namespace has the id of an action of the empty one, and names the least
-/// of them. The definitions are what the fragment declares.
+/// Refuses a fragment in which an action of a named namespace has the id of an action of the empty one, and names the
+/// least of them. The definitions are what the fragment declares.
 pub fn check_action_shadowing(
     alloc: Global,
     fragment: &Fragment<RawName>,
@@ -53,7 +53,8 @@ fn push_hiding_actions(
     ns: &Option<Name>,
     definition: &NamespaceDefinition<RawName>,
 ) -> Result<(), AllocError>
-    ensures { OnOk result (map at_of found.new.items ≡ map at_of found.old.items ++ hiding_actions_in (tests_of defs.now) (ns.now, definition.now)) }
+    ensures { OnOk result (map at_of found.new.items ≡ map at_of found.old.items
+        ++ hiding_actions_in (tests_of defs.now) (ns.now, definition.now)) }
 {
     match ns {
         None => Ok(()),
@@ -69,7 +70,8 @@ fn push_hiding(
     ns: &Option<Name>,
     actions: &[(Text, ActionType<RawName>)],
 ) -> Result<(), AllocError>
-    ensures { OnOk result (map at_of found.new.items ≡ map at_of found.old.items ++ flat_map (hiding_action (tests_of defs.now) ns.now) actions.now) }
+    ensures { OnOk result (map at_of found.new.items ≡ map at_of found.old.items
+        ++ flat_map (hiding_action (tests_of defs.now) ns.now) actions.now) }
 {
     let plain = action_name(alloc)?;
     for (id, action) in actions {

@@ -17,8 +17,8 @@ use schema_resolve_definitions::declared::alone;
 use schema_resolve_lookup::DeclaredDefs;
 use std::alloc::{AllocError, Global};
 
-/// Refuses a fragment in which a type of a named namespace has the name of a type of the empty one, and names the least of
-/// them. The definitions are what the fragment declares.
+/// Refuses a fragment in which a type of a named namespace has the name of a type of the empty one, and names the least
+/// of them. The definitions are what the fragment declares.
 pub fn check_type_shadowing(
     alloc: Global,
     fragment: &Fragment<RawName>,
@@ -53,7 +53,8 @@ fn push_hiding_types(
     ns: &Option<Name>,
     definition: &NamespaceDefinition<RawName>,
 ) -> Result<(), AllocError>
-    ensures { OnOk result (found.new.items ≡ found.old.items ++ hiding_types_in (tests_of defs.now) (ns.now, definition.now)) }
+    ensures { OnOk result (found.new.items ≡ found.old.items ++ hiding_types_in (tests_of defs.now)
+        (ns.now, definition.now)) }
 {
     match ns {
         None => Ok(()),
@@ -74,7 +75,8 @@ fn push_hiding_commons(
     ns: &Option<Name>,
     commons: &[(CommonTypeId, CommonType<RawName>)],
 ) -> Result<(), AllocError>
-    ensures { OnOk result (found.new.items ≡ found.old.items ++ flat_map (hiding_common (tests_of defs.now) ns.now) commons.now) }
+    ensures { OnOk result (found.new.items ≡ found.old.items
+        ++ flat_map (hiding_common (tests_of defs.now) ns.now) commons.now) }
 {
     for (id, common) in commons {
         if is_hidden(alloc, defs, &id.id.id)? {
@@ -92,7 +94,8 @@ fn push_hiding_entities(
     ns: &Option<Name>,
     entities: &[(UnreservedId, EntityType<RawName>)],
 ) -> Result<(), AllocError>
-    ensures { OnOk result (found.new.items ≡ found.old.items ++ flat_map (hiding_entity (tests_of defs.now) ns.now) entities.now) }
+    ensures { OnOk result (found.new.items ≡ found.old.items
+        ++ flat_map (hiding_entity (tests_of defs.now) ns.now) entities.now) }
 {
     for (id, entity) in entities {
         if is_hidden(alloc, defs, &id.id)? {

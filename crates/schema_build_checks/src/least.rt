@@ -14,7 +14,8 @@ pub(crate) fn least<T: Ord + Drop>(items: Vec<T>) -> Option<T>
 
 // The least of these, of which the first is the least of those before, and of equal ones the first.
 fn lesser<T: Ord + Drop>(least: Option<T>, item: T) -> T
-    ensures { (xs : List T) → MatchOption least (xs ≡ []) (IsFirstLeast T.cmp xs) → IsFirstLeast T.cmp (xs ++ item ∷ []) result }
+    ensures { (xs : List T) → MatchOption least (xs ≡ []) (IsFirstLeast T.cmp xs)
+        → IsFirstLeast T.cmp (xs ++ item ∷ []) result }
 {
     match least {
         Some(other) => {

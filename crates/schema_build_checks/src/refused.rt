@@ -1,7 +1,7 @@
 use std::alloc::{AllocError, AllocFailed};
 
-/// Why a walk stopped: the first that it was to refuse, or out of memory. It is small, since each level of the walk hands it
-/// up.
+/// Why a walk stopped: the first that it was to refuse, or out of memory. It is small, since each level of the walk
+/// hands it up.
 #[derive(Drop)]
 pub(crate) enum Refused<T> {
     First(T),

@@ -31,8 +31,10 @@ impl<'a> Visitor<RawName> for Extensions<'a> {
         _ns: &Option<Name>,
         part: LentPart<'_, RawName>,
     ) -> Result<(), Refused<UnreservedId>>
-        ensures taken { OnOk result (GivenNothing (λ v part. unknown_extension v.table.now part) self.old (part_of part.entry) self.new) }
-        ensures refused { IfErr result (Refuses (λ v part. unknown_extension v.table.now part) self.old (part_of part.entry)) }
+        ensures taken { OnOk result (GivenNothing (λ v part. unknown_extension v.table.now part) self.old
+            (part_of part.entry) self.new) }
+        ensures refused { IfErr result (Refuses (λ v part. unknown_extension v.table.now part) self.old
+            (part_of part.entry)) }
     {
         match part {
             LentPart::ExtensionType { name } => {
@@ -90,7 +92,8 @@ pub(crate) struct Fitting<'a> {
 impl<'a> Visitor<RawName> for Fitting<'a> {
     type Refusal = ();
 
-    ghost takes = { λ ns before part after. GivenNothing (λ v p. unknown_extension v.table.now p) before part after × (unsupported part ≡ []) };
+    ghost takes = { λ ns before part after. GivenNothing (λ v p. unknown_extension v.table.now p) before part after
+        × (unsupported part ≡ []) };
 
     ghost refuses = { λ ns before part refusal. Unit {0} };
 

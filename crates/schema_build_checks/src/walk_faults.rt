@@ -15,8 +15,8 @@ use schema_json_walk::walk_fragment;
 use schema_resolve_definitions::declared::alone;
 use std::alloc::{AllocError, Global};
 
-/// Whether the fragment has neither an extension type that is not in the table nor what no schema has. One walk tells it
-/// of most fragments, which then need not be walked for each of the two.
+/// Whether the fragment has neither an extension type that is not in the table nor what no schema has. One walk tells
+/// it of most fragments, which then need not be walked for each of the two.
 pub fn has_fitting_parts(fragment: &Fragment<RawName>, table: &ExtensionTable) -> bool
     ensures extensions { result ≡ true → Never (HasUnknownExtension table.now fragment.now) }
     ensures features { result ≡ true → Never (HasUnsupported fragment.now) }

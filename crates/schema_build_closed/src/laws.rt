@@ -87,8 +87,8 @@ pub fn fragments_of_old_json_are_formed()
     ensures { (text : List ℕ) (f : Fragment RawName as_written) → OldText text f → IsFormed f }
 {}
 
-/// What the fragment of a JSON text in the deprecated form means is closed exactly where it is not half filled, where the
-/// fragment has no build fault and nothing in its meaning is captured.
+/// What the fragment of a JSON text in the deprecated form means is closed exactly where it is not half filled, where
+/// the fragment has no build fault and nothing in its meaning is captured.
 pub fn meanings_of_old_json_are_closed()
     ensures { (text : List ℕ) (table : ExtensionTable) (f : Fragment RawName as_written) (m : SchemaMeaning)
         → OldText text f → FragmentMeaning f table m → Never (BuildFault f table) → IsUncaptured m

@@ -46,8 +46,8 @@ impl CloneIn for CapturedItem {
     }
 }
 
-/// A schema that cannot be printed: something in a named namespace that has actions speaks of the type `Action` of the empty
-/// namespace, which would be read there as the type of the namespace's own actions.
+/// A schema that cannot be printed: something in a named namespace that has actions speaks of the type `Action` of the
+/// empty namespace, which would be read there as the type of the namespace's own actions.
 pub struct ReferenceCaptured {
     /// The namespace.
     pub namespace: Name,
@@ -74,21 +74,21 @@ impl ReferenceCaptured {
         captured_message(alloc, &namespace, &user)
     }
 
-    /// Advice, of which it has none.
+    /// It has no advice.
     pub fn help(&self, _alloc: Global, _source: &str) -> Result<Option<Text>, AllocError>
         ensures none { result ≡ Ok None }
     {
         Ok(None)
     }
 
-    /// The places that it points to, of which it has none.
+    /// It points to no place.
     pub fn labels(&self, alloc: Global) -> Result<Vec<Label>, AllocError>
         ensures none { IfOk result (λ labels. labels.items ≡ []) }
     {
         Ok(Vec::new(alloc))
     }
 
-    /// How grave it is: an error.
+    /// Its severity: an error.
     pub fn severity(&self) -> Severity
         ensures error { result ≡ Severity.Error }
     {

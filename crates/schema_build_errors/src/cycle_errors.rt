@@ -35,7 +35,7 @@ impl CycleInCommonTypeReferencesError {
         )
     }
 
-    /// Advice, of which it has none.
+    /// It has no advice.
     pub fn help(&self, _alloc: Global, _source: &str) -> Result<Option<Text>, AllocError>
         ensures none { result ≡ Ok None }
     {
@@ -49,7 +49,7 @@ impl CycleInCommonTypeReferencesError {
         place_labels(alloc, self.ty.loc)
     }
 
-    /// How grave it is: an error.
+    /// Its severity: an error.
     pub fn severity(&self) -> Severity
         ensures error { result ≡ Severity.Error }
     {
@@ -91,7 +91,7 @@ impl CycleInActionHierarchyError {
         )
     }
 
-    /// Advice, of which it has none.
+    /// It has no advice.
     pub fn help(&self, _alloc: Global, _source: &str) -> Result<Option<Text>, AllocError>
         ensures none { result ≡ Ok None }
     {
@@ -105,7 +105,7 @@ impl CycleInActionHierarchyError {
         place_labels(alloc, self.uid.loc)
     }
 
-    /// How grave it is: an error.
+    /// Its severity: an error.
     pub fn severity(&self) -> Severity
         ensures error { result ≡ Severity.Error }
     {

@@ -1,7 +1,9 @@
 ghost use Rattle.std.specs.Prelude.{◌≡◌, Ok, None, IfOk, IsSomeAnd};
 ghost use Rattle.schema_resolve_errors.specs.ErrorTexts.{label_at};
 ghost use Rattle.schema_resolve_errors.specs.Gathered.{if_there};
-ghost use Rattle.schema_build_errors.specs.DeclaredTexts.{action_type_declared_text, type_shadowing_text, type_shadowing_help, action_shadowing_text, action_shadowing_help, hidden_text};
+ghost use Rattle.schema_build_errors.specs.DeclaredTexts.{action_type_declared_text, type_shadowing_text};
+ghost use Rattle.schema_build_errors.specs.DeclaredTexts.{type_shadowing_help, action_shadowing_text};
+ghost use Rattle.schema_build_errors.specs.DeclaredTexts.{action_shadowing_help, hidden_text};
 
 use crate::places::place_labels;
 use cedar_data::{CloneIn, Label, Loc, Severity, Text, around, message, push_both};
@@ -29,7 +31,7 @@ impl ActionEntityTypeDeclaredError {
         message(alloc, "entity type `Action` declared in `entityTypes` list")
     }
 
-    /// Advice, of which it has none.
+    /// It has no advice.
     pub fn help(&self, _alloc: Global, _source: &str) -> Result<Option<Text>, AllocError>
         ensures none { result ≡ Ok None }
     {
@@ -43,7 +45,7 @@ impl ActionEntityTypeDeclaredError {
         place_labels(alloc, self.loc)
     }
 
-    /// How grave it is: an error.
+    /// Its severity: an error.
     pub fn severity(&self) -> Severity
         ensures error { result ≡ Severity.Error }
     {
@@ -84,7 +86,7 @@ impl TypeShadowingError {
         shadowing_text(alloc, &shadowing, &shadowed)
     }
 
-    /// Advice, which it always has.
+    /// Its advice; it always has some.
     pub fn help(&self, alloc: Global, _source: &str) -> Result<Option<Text>, AllocError>
         ensures help { IfOk result (λ help. IsSomeAnd help (λ text. text ≡ type_shadowing_help self.now)) }
     {
@@ -100,7 +102,7 @@ impl TypeShadowingError {
         place_labels(alloc, self.shadowing_def.loc)
     }
 
-    /// How grave it is: an error.
+    /// Its severity: an error.
     pub fn severity(&self) -> Severity
         ensures error { result ≡ Severity.Error }
     {
@@ -144,7 +146,7 @@ impl ActionShadowingError {
         shadowing_text(alloc, &shadowing, &shadowed)
     }
 
-    /// Advice, which it always has.
+    /// Its advice; it always has some.
     pub fn help(&self, alloc: Global, _source: &str) -> Result<Option<Text>, AllocError>
         ensures help { IfOk result (λ help. IsSomeAnd help (λ text. text ≡ action_shadowing_help self.now)) }
     {
@@ -160,7 +162,7 @@ impl ActionShadowingError {
         place_labels(alloc, self.shadowing_def.loc)
     }
 
-    /// How grave it is: an error.
+    /// Its severity: an error.
     pub fn severity(&self) -> Severity
         ensures error { result ≡ Severity.Error }
     {

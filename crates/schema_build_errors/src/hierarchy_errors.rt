@@ -1,7 +1,9 @@
 ghost use Rattle.std.specs.Prelude.{◌≡◌, [], Ok, None, IfOk, IsSomeAnd};
 ghost use Rattle.schema_resolve_errors.specs.ErrorTexts.{label_at};
 ghost use Rattle.schema_resolve_errors.specs.Gathered.{if_there};
-ghost use Rattle.schema_build_errors.specs.HierarchyTexts.{enum_ancestor_text, enum_ancestor_help, action_type_text, enum_parent_text, enum_parent_help, ancestor_message, action_message};
+ghost use Rattle.schema_build_errors.specs.HierarchyTexts.{enum_ancestor_text, enum_ancestor_help, action_type_text};
+ghost use Rattle.schema_build_errors.specs.HierarchyTexts.{enum_parent_text, enum_parent_help, ancestor_message};
+ghost use Rattle.schema_build_errors.specs.HierarchyTexts.{action_message};
 
 use crate::places::place_labels;
 use cedar_data::{CloneIn, Label, Severity, Text, around, message, push_both};
@@ -36,7 +38,7 @@ impl ExternalWithEnumAncestorError {
         ancestor_message(alloc, &external, &ancestor)
     }
 
-    /// Advice, which it always has.
+    /// Its advice; it always has some.
     pub fn help(&self, alloc: Global, _source: &str) -> Result<Option<Text>, AllocError>
         ensures help { IfOk result (λ help. IsSomeAnd help (λ text. text ≡ enum_ancestor_help)) }
     {
@@ -54,7 +56,7 @@ impl ExternalWithEnumAncestorError {
         place_labels(alloc, self.external_type.name.loc)
     }
 
-    /// How grave it is: an error.
+    /// Its severity: an error.
     pub fn severity(&self) -> Severity
         ensures error { result ≡ Severity.Error }
     {
@@ -92,21 +94,21 @@ impl InvalidActionTypeError {
         action_message(alloc, &action)
     }
 
-    /// Advice, of which it has none.
+    /// It has no advice.
     pub fn help(&self, _alloc: Global, _source: &str) -> Result<Option<Text>, AllocError>
         ensures none { result ≡ Ok None }
     {
         Ok(None)
     }
 
-    /// The places that it points to, of which it has none.
+    /// It points to no place.
     pub fn labels(&self, alloc: Global) -> Result<Vec<Label>, AllocError>
         ensures none { IfOk result (λ labels. labels.items ≡ []) }
     {
         Ok(Vec::new(alloc))
     }
 
-    /// How grave it is: an error.
+    /// Its severity: an error.
     pub fn severity(&self) -> Severity
         ensures error { result ≡ Severity.Error }
     {
@@ -152,7 +154,7 @@ impl EnumEntityInHierarchyError {
         Ok(text)
     }
 
-    /// Advice, which it always has.
+    /// Its advice; it always has some.
     pub fn help(&self, alloc: Global, _source: &str) -> Result<Option<Text>, AllocError>
         ensures help { IfOk result (λ help. IsSomeAnd help (λ text. text ≡ enum_parent_help)) }
     {
@@ -163,14 +165,14 @@ impl EnumEntityInHierarchyError {
         Ok(Some(advice))
     }
 
-    /// The places that it points to, of which it has none.
+    /// It points to no place.
     pub fn labels(&self, alloc: Global) -> Result<Vec<Label>, AllocError>
         ensures none { IfOk result (λ labels. labels.items ≡ []) }
     {
         Ok(Vec::new(alloc))
     }
 
-    /// How grave it is: an error.
+    /// Its severity: an error.
     pub fn severity(&self) -> Severity
         ensures error { result ≡ Severity.Error }
     {

@@ -55,7 +55,8 @@ fn add_types(
     types: &mut Vec<ConditionalName>,
     error: &SchemaError,
 ) -> Result<(), AllocError>
-    ensures { OnOk result (types.new.items ≡ types.old.items ++ flat_map (λ x. x.undefined_types) (of_types error.now)) }
+    ensures { OnOk result (types.new.items ≡ types.old.items ++ flat_map (λ x. x.undefined_types)
+        (of_types error.now)) }
 {
     match error {
         SchemaError::TypeNotDefined(error) => add_copies(alloc, types, &error.undefined_types),

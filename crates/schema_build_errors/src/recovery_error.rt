@@ -32,21 +32,21 @@ impl RecoveryError {
         message(alloc, said)
     }
 
-    /// Advice, of which it has none.
+    /// It has no advice.
     pub fn help(&self, _alloc: Global, _source: &str) -> Result<Option<Text>, AllocError>
         ensures none { result ≡ Ok None }
     {
         Ok(None)
     }
 
-    /// The places that it points to, of which it has none.
+    /// It points to no place.
     pub fn labels(&self, alloc: Global) -> Result<Vec<Label>, AllocError>
         ensures none { IfOk result (λ labels. labels.items ≡ []) }
     {
         Ok(Vec::new(alloc))
     }
 
-    /// How grave it is: an error.
+    /// Its severity: an error.
     pub fn severity(&self) -> Severity
         ensures error { result ≡ Severity.Error }
     {
@@ -77,21 +77,21 @@ impl ToTextError {
         }
     }
 
-    /// Advice, of which it has none.
+    /// It has no advice.
     pub fn help(&self, _alloc: Global, _source: &str) -> Result<Option<Text>, AllocError>
         ensures none { result ≡ Ok None }
     {
         Ok(None)
     }
 
-    /// The places that it points to, of which it has none.
+    /// It points to no place.
     pub fn labels(&self, alloc: Global) -> Result<Vec<Label>, AllocError>
         ensures none { IfOk result (λ labels. labels.items ≡ []) }
     {
         Ok(Vec::new(alloc))
     }
 
-    /// How grave it is: an error.
+    /// Its severity: an error.
     pub fn severity(&self) -> Severity
         ensures error { result ≡ Severity.Error }
     {

@@ -80,7 +80,7 @@ impl SchemaError {
         }
     }
 
-    /// Advice, where it has any.
+    /// Its advice, if it has any.
     pub fn help(&self, alloc: Global, source: &str) -> Result<Option<Text>, AllocError>
         ensures help { IfOk result (λ help. help ≡ schema_error_help self.now) }
     {
@@ -128,7 +128,7 @@ impl SchemaError {
         }
     }
 
-    /// How grave it is: an error.
+    /// Its severity: an error.
     pub fn severity(&self) -> Severity
         ensures error { result ≡ Severity.Error }
     {

@@ -1,7 +1,8 @@
 ghost use Rattle.std.specs.Prelude.{◌≡◌, Ok, IfOk, IsSomeAnd};
 ghost use Rattle.schema_resolve_errors.specs.ErrorTexts.{label_at};
 ghost use Rattle.schema_resolve_errors.specs.Gathered.{if_there};
-ghost use Rattle.schema_build_errors.specs.ShapeTexts.{shape_subject, no_record_text, no_record_help, subject_place, type_message};
+ghost use Rattle.schema_build_errors.specs.ShapeTexts.{shape_subject, no_record_text, no_record_help, subject_place};
+ghost use Rattle.schema_build_errors.specs.ShapeTexts.{type_message};
 
 use crate::places::place_labels;
 use cedar_data::{CloneIn, Label, Loc, Severity, Text, around, message};
@@ -94,7 +95,7 @@ impl ContextOrShapeNotRecordError {
         type_message(alloc, &subject)
     }
 
-    /// Advice, which it always has.
+    /// Its advice; it always has some.
     pub fn help(&self, alloc: Global, _source: &str) -> Result<Option<Text>, AllocError>
         ensures help { IfOk result (λ help. IsSomeAnd help (λ text. text ≡ no_record_help self.now.ctx_or_shape)) }
     {
@@ -107,12 +108,13 @@ impl ContextOrShapeNotRecordError {
 
     /// The place of the declaration.
     pub fn labels(&self, alloc: Global) -> Result<Vec<Label>, AllocError>
-        ensures labels { IfOk result (λ labels. labels.items ≡ if_there label_at (subject_place self.now.ctx_or_shape)) }
+        ensures labels { IfOk result (λ labels. labels.items
+            ≡ if_there label_at (subject_place self.now.ctx_or_shape)) }
     {
         place_labels(alloc, self.ctx_or_shape.loc().copied())
     }
 
-    /// How grave it is: an error.
+    /// Its severity: an error.
     pub fn severity(&self) -> Severity
         ensures error { result ≡ Severity.Error }
     {

@@ -1,5 +1,6 @@
 ghost use Rattle.std.specs.Prelude.{◌≡◌, [], Ok, None, IfOk, IsSomeAnd};
-ghost use Rattle.schema_build_errors.specs.UseTexts.{unknown_extension_text, unsupported_text, undeclared_types_text, undeclared_types_help, undeclared_labels};
+ghost use Rattle.schema_build_errors.specs.UseTexts.{unknown_extension_text, unsupported_text, undeclared_types_text};
+ghost use Rattle.schema_build_errors.specs.UseTexts.{undeclared_types_help, undeclared_labels};
 
 use crate::places::add_place;
 use cedar_data::{
@@ -30,21 +31,21 @@ impl UnknownExtensionTypeError {
         around(alloc, "unknown extension type `", &name, "`")
     }
 
-    /// Advice, of which it has none.
+    /// It has no advice.
     pub fn help(&self, _alloc: Global, _source: &str) -> Result<Option<Text>, AllocError>
         ensures none { result ≡ Ok None }
     {
         Ok(None)
     }
 
-    /// The places that it points to, of which it has none.
+    /// It points to no place.
     pub fn labels(&self, alloc: Global) -> Result<Vec<Label>, AllocError>
         ensures none { IfOk result (λ labels. labels.items ≡ []) }
     {
         Ok(Vec::new(alloc))
     }
 
-    /// How grave it is: an error.
+    /// Its severity: an error.
     pub fn severity(&self) -> Severity
         ensures error { result ≡ Severity.Error }
     {
@@ -111,21 +112,21 @@ impl UnsupportedFeatureError {
         message(alloc, "unsupported feature used in schema")
     }
 
-    /// Advice, of which it has none.
+    /// It has no advice.
     pub fn help(&self, _alloc: Global, _source: &str) -> Result<Option<Text>, AllocError>
         ensures none { result ≡ Ok None }
     {
         Ok(None)
     }
 
-    /// The places that it points to, of which it has none.
+    /// It points to no place.
     pub fn labels(&self, alloc: Global) -> Result<Vec<Label>, AllocError>
         ensures none { IfOk result (λ labels. labels.items ≡ []) }
     {
         Ok(Vec::new(alloc))
     }
 
-    /// How grave it is: an error.
+    /// Its severity: an error.
     pub fn severity(&self) -> Severity
         ensures error { result ≡ Severity.Error }
     {
@@ -164,7 +165,7 @@ impl UndeclaredEntityTypesError {
         Ok(text)
     }
 
-    /// Advice, which it always has.
+    /// Its advice; it always has some.
     pub fn help(&self, alloc: Global, _source: &str) -> Result<Option<Text>, AllocError>
         ensures help { IfOk result (λ help. IsSomeAnd help (λ text. text ≡ undeclared_types_help)) }
     {
@@ -186,7 +187,7 @@ impl UndeclaredEntityTypesError {
         Ok(labels)
     }
 
-    /// How grave it is: an error.
+    /// Its severity: an error.
     pub fn severity(&self) -> Severity
         ensures error { result ≡ Severity.Error }
     {

@@ -22,8 +22,8 @@ fn none_of(alloc: Global, count: usize) -> Result<Vec<Option<BuiltType>>, AllocE
 }
 
 /// What the declared common types of these ranks stand for, each expanded once. The order has each behind those that
-/// its type refers to, and beside each type stands what names mean where it is declared. It errs when out of memory, or of the
-/// stack: where sets and records are nested more than `DEEPEST` deep.
+/// its type refers to, and beside each type stands what names mean where it is declared. It errs when out of memory, or
+/// of the stack: where sets and records are nested more than `DEEPEST` deep.
 pub fn expand_commons<N, R: Meanings<N>>(
     alloc: Global,
     commons: &[(R, &Type<N>)],

@@ -1,6 +1,7 @@
 ghost use Rattle.std.specs.Prelude.{All, IfOk};
 ghost use Rattle.schema_json_walk.specs.Walk.{itself, parts, of_variant, of_entries};
-ghost use Rattle.schema_build_expand.specs.Targets.{IsReady, AreExpanded, ExpandsTo, ShapeExpandsTo, ReferenceExpandsTo, IsReferenceReady, EntriesExpandTo};
+ghost use Rattle.schema_build_expand.specs.Targets.{IsReady, AreExpanded, ExpandsTo, ShapeExpandsTo};
+ghost use Rattle.schema_build_expand.specs.Targets.{ReferenceExpandsTo, IsReferenceReady, EntriesExpandTo};
 
 use crate::meanings::{Meanings, Target};
 use cedar_data::{Boxed, CloneIn, Map, NonEmpty, Text};

@@ -55,8 +55,8 @@ fn roots_of<N, R: Meanings<N>>(
 }
 
 /// What declared common types stand for, by their ranks, where none reaches itself by references; else the least rank
-/// that does, unless out of memory. Those are expanded, each once, that these uses lead to. Beside each type stands what
-/// names mean where it is written. No recursion goes from one common type to another.
+/// that does, unless out of memory. Those are expanded, each once, that these uses lead to. Beside each type stands
+/// what names mean where it is written. No recursion goes from one common type to another.
 pub fn expansions<N, R: Meanings<N>>(
     alloc: Global,
     commons: &[(R, &Type<N>)],

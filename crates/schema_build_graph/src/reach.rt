@@ -26,8 +26,8 @@ fn add_new(
     Ok(())
 }
 
-// Leaves the vertices that some path with at least one step leads to, in rising order. A vertex is marked in this round where
-// its mark is the stamp, which is larger than all marks before.
+// Leaves the vertices that some path with at least one step leads to, in rising order. A vertex is marked in this round
+// where its mark is the stamp, which is larger than all marks before.
 fn reach(
     found: &mut Vec<usize>,
     graph: &[Vec<usize>],

@@ -1,4 +1,5 @@
-ghost use Rattle.std.specs.Prelude.{◌≡◌, ◌≢◌, ◌<◌, ◌⊎◌, ℕ, [], ◌∷◌, ◌++◌, List, length, All, Contains, Some, None, OnOk, IfOk};
+ghost use Rattle.std.specs.Prelude.{◌≡◌, ◌≢◌, ◌<◌, ◌⊎◌, ℕ, [], ◌∷◌, ◌++◌, List, length, All, Contains, Some, None};
+ghost use Rattle.std.specs.Prelude.{OnOk, IfOk};
 ghost use Rattle.schema_build_graph.specs.Graph.{InRange};
 ghost use Rattle.schema_build_graph.specs.Search.{AreStacked, IsMerged, Keeps, AllSeen, IsSeen, state_at, weight_of};
 ghost use Rattle.schema_build_graph.specs.declared.search.Group.{Group};
@@ -15,7 +16,8 @@ pub(crate) enum State {
     Done(bool),
 }
 
-/// Vertices that reach each other: those that stand from a place on, with the targets of theirs that were not looked at.
+/// Vertices that reach each other: those that stand from a place on, with the targets of theirs that were not looked
+/// at.
 #[derive(Clone, Copy)]
 pub(crate) struct Group {
     standing: usize,
@@ -39,7 +41,8 @@ fn mark_done(states: &mut [State], vertices: &[usize], cyclic: bool)
     ensures same { length states.new ≡ length states.old }
     ensures marked { All (λ v. state_at states.new v ≡ State.Done cyclic) vertices.now }
     ensures others { (v : ℕ) → (Contains vertices.now v → ⊥) → state_at states.new v ≡ state_at states.old v }
-    ensures each { (v : ℕ) → (state_at states.new v ≡ State.Done cyclic) ⊎ (state_at states.new v ≡ state_at states.old v) }
+    ensures each { (v : ℕ) → (state_at states.new v ≡ State.Done cyclic)
+        ⊎ (state_at states.new v ≡ state_at states.old v) }
 {
     for &vertex in vertices {
         states[vertex] = State::Done(cyclic);

@@ -5,7 +5,8 @@ ghost use Rattle.schema_build_checks.specs.Rows.{Never, OrMemory};
 ghost use Rattle.schema_build_hierarchy.specs.Declarations.{Declared, DeclaredEntity, entity_name, action_key};
 ghost use Rattle.schema_build_hierarchy.specs.Ancestors.{AreParentRows, AreParentsDeclared, AreAncestorRows};
 ghost use Rattle.schema_build_hierarchy.specs.Entries.{AreEntities, AreActions, entity_of, action_of_entry};
-ghost use Rattle.schema_build_hierarchy.specs.Parents.{entity_parents, action_parents, AreParentsMeant, IsAncestor, IsActionAncestor};
+ghost use Rattle.schema_build_hierarchy.specs.Parents.{entity_parents, action_parents, AreParentsMeant, IsAncestor};
+ghost use Rattle.schema_build_hierarchy.specs.Parents.{IsActionAncestor};
 ghost use Rattle.schema_build_hierarchy.specs.Rows.{HasActionCycle, IsCycleOf};
 ghost use Rattle.schema_json.specs.declared.action_type.ActionType.{ActionType as ActionTold};
 ghost use Rattle.cedar_identifiers.specs.declared.raw_name.RawName.{RawName as Raw};
@@ -31,7 +32,8 @@ pub fn entity_ancestors<'f>(
     requires entries { AreEntities ds entries.now }
     requires declared { AreParentsDeclared entity_name (entity_parents (tests_of defs.now)) ds }
     requires meant { All (AreParentsMeant (tests_of defs.now)) ds }
-    ensures { IfOk result (λ rows. AreAncestorRows (IsAncestor (tests_of defs.now) ds) (map (λ e. entity_name (entity_of e)) entries.now) rows.items) }
+    ensures { IfOk result (λ rows. AreAncestorRows (IsAncestor (tests_of defs.now) ds)
+        (map (λ e. entity_name (entity_of e)) entries.now) rows.items) }
 {
     let rows = entity_parent_rows(alloc, entries, defs)?;
     closure(alloc, &rows)
@@ -46,7 +48,8 @@ fn entity_parent_rows<'f>(
     ghost ds: { List DeclaredEntity }
     requires entries { AreEntities ds entries.now }
     requires meant { All (AreParentsMeant (tests_of defs.now)) ds }
-    ensures { IfOk result (λ rows. AreParentRows entity_name (entity_parents (tests_of defs.now)) (map entity_of entries.now) rows.items) }
+    ensures { IfOk result (λ rows. AreParentRows entity_name (entity_parents (tests_of defs.now))
+        (map entity_of entries.now) rows.items) }
 {
     let recent = Recent::new();
     let mut rows = Vec::with_capacity(alloc, entries.len())?;
@@ -66,7 +69,8 @@ pub fn action_ancestors<'f>(
     ghost ds: { List (Declared ActionAt (ActionTold Raw ⟦<RawName as NameText>⟧)) }
     requires entries { AreActions ds entries.now }
     requires declared { AreParentsDeclared action_key (action_parents (tests_of defs.now)) ds }
-    ensures { IfOk result (λ rows. AreAncestorRows (IsActionAncestor (tests_of defs.now) ds) (map (λ e. action_key (action_of_entry e)) entries.now) rows.items) }
+    ensures { IfOk result (λ rows. AreAncestorRows (IsActionAncestor (tests_of defs.now) ds)
+        (map (λ e. action_key (action_of_entry e)) entries.now) rows.items) }
 {
     let rows = action_parent_rows(alloc, entries, defs)?;
     closure(alloc, &rows)
@@ -80,7 +84,8 @@ fn action_parent_rows<'f>(
 ) -> Result<Vec<Vec<usize>>, AllocError>
     ghost ds: { List (Declared ActionAt (ActionTold Raw ⟦<RawName as NameText>⟧)) }
     requires { AreActions ds entries.now }
-    ensures { IfOk result (λ rows. AreParentRows action_key (action_parents (tests_of defs.now)) (map action_of_entry entries.now) rows.items) }
+    ensures { IfOk result (λ rows. AreParentRows action_key (action_parents (tests_of defs.now))
+        (map action_of_entry entries.now) rows.items) }
 {
     let recent = Recent::new();
     let mut rows = Vec::with_capacity(alloc, entries.len())?;
@@ -99,7 +104,8 @@ pub fn check_action_cycle<'f>(
 ) -> Result<(), Refusal>
     ghost g: { Tests × List (Declared ActionAt (ActionTold Raw ⟦<RawName as NameText>⟧)) }
     requires entries { AreActions g.1 entries.now }
-    requires ancestors { AreAncestorRows (IsActionAncestor g.0 g.1) (map (λ e. action_key (action_of_entry e)) entries.now) ancestors.now }
+    requires ancestors { AreAncestorRows (IsActionAncestor g.0 g.1)
+        (map (λ e. action_key (action_of_entry e)) entries.now) ancestors.now }
     ensures ok { OnOk result (Never (HasActionCycle g.0 g.1)) }
     ensures err { IfErr result (OrMemory (HasActionCycle g.0 g.1)) }
 {

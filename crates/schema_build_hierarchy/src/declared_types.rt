@@ -11,7 +11,8 @@ ghost use Rattle.schema_build_hierarchy.specs.Ancestors.{AreParentsDeclared};
 ghost use Rattle.schema_build_hierarchy.specs.Declarations.{entity_name, declared_entities};
 ghost use Rattle.schema_build_hierarchy.specs.Finding.{Finds};
 ghost use Rattle.schema_build_hierarchy.specs.Parents.{entity_parents};
-ghost use Rattle.schema_build_hierarchy.specs.Rows.{HasUndeclaredEntityTypes, undeclared_part, undeclared_target, undeclared_uses};
+ghost use Rattle.schema_build_hierarchy.specs.Rows.{HasUndeclaredEntityTypes, undeclared_part, undeclared_target};
+ghost use Rattle.schema_build_hierarchy.specs.Rows.{undeclared_uses};
 
 use crate::firsts::{first_uses, unreserved};
 use crate::parents::entity_target;
@@ -36,7 +37,8 @@ pub fn check_declared_types(
     ghost table: { TableTold }
     requires { tests_of defs.now ≡ tests_of (defined fragment.now table) }
     ensures ok { OnOk result (Never (HasUndeclaredEntityTypes (tests_of defs.now) fragment.now)) }
-    ensures declared { OnOk result (AreParentsDeclared entity_name (entity_parents (tests_of defs.now)) (declared_entities fragment.now)) }
+    ensures declared { OnOk result (AreParentsDeclared entity_name (entity_parents (tests_of defs.now))
+        (declared_entities fragment.now)) }
     ensures err { IfErr result (OrMemory (HasUndeclaredEntityTypes (tests_of defs.now) fragment.now)) }
 {
     let uses = undeclared_uses(alloc, fragment, defs)?;
@@ -85,12 +87,14 @@ fn is_named_action(name: &InternalName) -> bool
 impl<'d, 'f, 'g> Visitor<RawName> for UseFinder<'d, 'f, 'g> {
     type Refusal = AllocError;
 
-    ghost takes = { λ ns before part after. Finds (undeclared_part (tests_of before.defs.now) (tests_of before.own) ns part) before after };
+    ghost takes = { λ ns before part after.
+        Finds (undeclared_part (tests_of before.defs.now) (tests_of before.own) ns part) before after };
 
     ghost refuses = { λ _ _ _ _. ⊤ };
 
     fn visit(&mut self, ns: &Option<Name>, part: LentPart<'_, RawName>) -> Result<(), AllocError>
-        ensures taken { OnOk result (Finds (undeclared_part (tests_of self.old.defs.now) (tests_of self.old.own) ns.now (part_of part.entry)) self.old self.new) }
+        ensures taken { OnOk result (Finds (undeclared_part (tests_of self.old.defs.now) (tests_of self.old.own) ns.now
+            (part_of part.entry)) self.old self.new) }
         ensures refused { IfErr result (λ _. ⊤) }
     {
         match part {
@@ -106,7 +110,8 @@ impl<'d, 'f, 'g> UseFinder<'d, 'f, 'g> {
     // Keeps what the name means as an entity type, where that is not declared: only types of actions are defined so, so
     // no other name is looked up.
     fn meet(&mut self, ns: &Option<Name>, name: &RawName) -> Result<(), AllocError>
-        ensures { OnOk result (Finds (undeclared_target (tests_of self.old.defs.now) (tests_of self.old.own) ns.now name.now) self.old self.new) }
+        ensures { OnOk result (Finds (undeclared_target (tests_of self.old.defs.now)
+            (tests_of self.old.own) ns.now name.now) self.old self.new) }
     {
         if !is_named_action(&name.name) {
             return Ok(());

@@ -68,7 +68,8 @@ fn push_entities<'f>(
     ns: &'f Option<Name>,
     entities: &'f [(UnreservedId, EntityType<RawName>)],
 ) -> Result<(), AllocError>
-    ensures { OnOk result (map entity_of entries.new.items ≡ map entity_of entries.old.items ++ map (entity_in ns.now) entities.now) }
+    ensures { OnOk result (map entity_of entries.new.items ≡ map entity_of entries.old.items
+        ++ map (entity_in ns.now) entities.now) }
 {
     for (id, ty) in entities {
         let name = full_name(alloc, ns, id, ty.loc)?;
@@ -84,7 +85,8 @@ fn push_actions<'f>(
     ns: &'f Option<Name>,
     actions: &'f [(Text, ActionType<RawName>)],
 ) -> Result<(), AllocError>
-    ensures { OnOk result (map action_of_entry entries.new.items ≡ map action_of_entry entries.old.items ++ map (action_in ns.now) actions.now) }
+    ensures { OnOk result (map action_of_entry entries.new.items ≡ map action_of_entry entries.old.items
+        ++ map (action_in ns.now) actions.now) }
 {
     for (id, action) in actions {
         let ty = action_type(alloc, ns)?;

@@ -16,8 +16,8 @@ use schema_build_graph::least_marked;
 use schema_json::{EntityType, EntityTypeKind};
 use std::alloc::{AllocError, Global};
 
-/// Refuses entity types of which an external one has an enumerated ancestor, and names the least with the least of these.
-/// The rows are the ancestors of each.
+/// Refuses entity types of which an external one has an enumerated ancestor, and names the least with the least of
+/// these. The rows are the ancestors of each.
 pub fn check_external_types<'f>(
     alloc: Global,
     entries: &[EntityEntry<'f>],
@@ -25,7 +25,8 @@ pub fn check_external_types<'f>(
 ) -> Result<(), Refusal>
     ghost g: { Tests × List DeclaredEntity }
     requires entries { AreEntities g.1 entries.now }
-    requires ancestors { AreAncestorRows (IsAncestor g.0 g.1) (map (λ e. entity_name (entity_of e)) entries.now) ancestors.now }
+    requires ancestors { AreAncestorRows (IsAncestor g.0 g.1)
+        (map (λ e. entity_name (entity_of e)) entries.now) ancestors.now }
     ensures ok { OnOk result (Never (HasExternalUnderEnum g.0 g.1)) }
     ensures err { IfErr result (OrMemory (HasExternalUnderEnum g.0 g.1)) }
 {

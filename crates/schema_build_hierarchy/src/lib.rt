@@ -1,5 +1,5 @@
-//! The hierarchies of entity types and of actions: what is declared in order, the ancestors of each, and what a schema may
-//! not have in them.
+//! The hierarchies of entity types and of actions: what is declared in order, the ancestors of each, and what a schema
+//! may not have in them.
 #![tactic(auto)]
 
 pub mod ancestors;

@@ -10,7 +10,8 @@ ghost use Rattle.schema_resolve_targets.specs.Qualified.{in_namespace, type_in_n
 ghost use Rattle.schema_resolve_targets.specs.Targets.{target, is_action, action_target};
 ghost use Rattle.schema_resolve_targets.specs.Tried.{own_kind};
 ghost use Rattle.schema_build_hierarchy.specs.Entries.{entity_of, action_of_entry};
-ghost use Rattle.schema_build_hierarchy.specs.Parents.{entity_parents, action_parents, parents_in, action_parents_in, target_in, AreMeantIn, AreParentsMeant};
+ghost use Rattle.schema_build_hierarchy.specs.Parents.{entity_parents, action_parents, parents_in, action_parents_in};
+ghost use Rattle.schema_build_hierarchy.specs.Parents.{target_in, AreMeantIn, AreParentsMeant};
 ghost use Rattle.schema_build_hierarchy.specs.Unreserved.{unreserved_names};
 
 use crate::entries::{ActionEntry, EntityEntry};
@@ -30,7 +31,8 @@ pub(crate) fn entity_target(
     ns: &Option<Name>,
     name: &RawName,
 ) -> Result<Option<InternalName>, AllocError>
-    ensures { IfOk result (λ found. found ≡ target (tests_of defs.now) (in_namespace (name_of ns.now) Entity name.now)) }
+    ensures { IfOk result (λ found. found
+        ≡ target (tests_of defs.now) (in_namespace (name_of ns.now) Entity name.now)) }
 {
     let ns = name_of(ns);
     if is_own_entity(defs, ns, &name.name) {
@@ -64,7 +66,8 @@ fn known_target(
     name: &RawName,
 ) -> Result<InternalName, AllocError>
     requires { IsSome (target (tests_of defs.now) (in_namespace (name_of ns.now) Entity name.now)) }
-    ensures { IfOk result (λ found. Some found ≡ target (tests_of defs.now) (in_namespace (name_of ns.now) Entity name.now)) }
+    ensures { IfOk result (λ found. Some found
+        ≡ target (tests_of defs.now) (in_namespace (name_of ns.now) Entity name.now)) }
 {
     let known = name.name.clone_in(alloc)?;
     let ns = name_of(ns);
@@ -82,7 +85,8 @@ pub(crate) fn entity_parents<'f>(
     entry: &EntityEntry<'f>,
 ) -> Result<Vec<Name>, AllocError>
     requires { AreParentsMeant (tests_of defs.now) (entity_of entry.now) }
-    ensures { IfOk result (λ names. map (λ n. components_of n.name) names.items ≡ unreserved_names (entity_parents (tests_of defs.now) (entity_of entry.now))) }
+    ensures { IfOk result (λ names. map (λ n. components_of n.name) names.items
+        ≡ unreserved_names (entity_parents (tests_of defs.now) (entity_of entry.now))) }
 {
     match &entry.ty.kind {
         EntityTypeKind::Standard(standard) => {
@@ -101,7 +105,8 @@ fn targets_of(
     names: &[RawName],
 ) -> Result<Vec<Name>, AllocError>
     requires { AreMeantIn (tests_of defs.now) ns.now names.now }
-    ensures { IfOk result (λ found. map (λ n. components_of n.name) found.items ≡ unreserved_names (parents_in (tests_of defs.now) ns.now names.now)) }
+    ensures { IfOk result (λ found. map (λ n. components_of n.name) found.items
+        ≡ unreserved_names (parents_in (tests_of defs.now) ns.now names.now)) }
 {
     let mut found = Vec::with_capacity(alloc, names.len())?;
     for name in names {
@@ -120,7 +125,8 @@ fn unreserved_target(
     name: &RawName,
 ) -> Result<Option<Name>, AllocError>
     requires { IsSome (target (tests_of defs.now) (in_namespace (name_of ns.now) Entity name.now)) }
-    ensures { IfOk result (λ found. option_to_list (option_map (λ n. components_of n.name) found) ≡ unreserved_names (option_to_list (target_in (tests_of defs.now) ns.now Entity name.now))) }
+    ensures { IfOk result (λ found. option_to_list (option_map (λ n. components_of n.name) found)
+        ≡ unreserved_names (option_to_list (target_in (tests_of defs.now) ns.now Entity name.now))) }
 {
     Ok(Name::from_internal(known_target(alloc, defs, ns, name)?))
 }
@@ -131,7 +137,8 @@ pub(crate) fn action_parents<'f>(
     defs: &FragmentDefs<'_>,
     entry: &ActionEntry<'f>,
 ) -> Result<Vec<EntityUID>, AllocError>
-    ensures { IfOk result (λ uids. map action_of uids.items ≡ action_parents (tests_of defs.now) (action_of_entry entry.now)) }
+    ensures { IfOk result (λ uids. map action_of uids.items
+        ≡ action_parents (tests_of defs.now) (action_of_entry entry.now)) }
 {
     match &entry.ty.member_of {
         Some(uids) => action_targets_of(alloc, defs, entry.ns, uids.as_slice()),
@@ -166,7 +173,8 @@ fn action_target(
     id: &Text,
     ty: &Option<RawName>,
 ) -> Result<Option<Name>, AllocError>
-    ensures { IfOk result (λ found. option_map (λ n. n.name) found ≡ action_target (tests_of defs.now) id.now (Some (type_in_namespace (name_of ns.now) id.now ty.now))) }
+    ensures { IfOk result (λ found. option_map (λ n. n.name) found ≡ action_target (tests_of defs.now) id.now
+        (Some (type_in_namespace (name_of ns.now) id.now ty.now))) }
 {
     let plain = written(alloc, ty)?;
     let own = plain.clone_in(alloc)?.qualify_with(alloc, name_of(ns))?;

@@ -8,8 +8,10 @@ ghost use Rattle.schema_build_scope.specs.FragmentScope.{fragment_scope};
 ghost use Rattle.schema_build_scope.specs.Parts.{IsAllKnown, AreTypesReady};
 ghost use Rattle.schema_build_hierarchy.specs.Declarations.{declared_actions};
 ghost use Rattle.schema_build_hierarchy.specs.Entries.{AreActions, action_of_entry};
-ghost use Rattle.schema_build_items.specs.ActionKinds.{IsActionKindBuilt, IsApplyBuilt, IsApplyMeant, IsApplyReady, tests_alone};
-ghost use Rattle.schema_build_items.specs.NoRecord.{LacksContext, AreContextsRecords, HasNoRecordContext, IsNoRecord, IsContextError};
+ghost use Rattle.schema_build_items.specs.ActionKinds.{IsActionKindBuilt, IsApplyBuilt, IsApplyMeant, IsApplyReady};
+ghost use Rattle.schema_build_items.specs.ActionKinds.{tests_alone};
+ghost use Rattle.schema_build_items.specs.NoRecord.{LacksContext, AreContextsRecords, HasNoRecordContext, IsNoRecord};
+ghost use Rattle.schema_build_items.specs.NoRecord.{IsContextError};
 
 use crate::meant::entities_meant;
 use cedar_data::{CloneIn, List, Map};
@@ -36,8 +38,10 @@ pub fn action_kinds(
     requires entries { AreActions (declared_actions names.now.fragment) entries.now }
     requires done { AreExpanded (fragment_scope names.now.fragment names.now.table) done.now }
     requires ready { AreTypesReady names.now.fragment names.now.table done.now }
-    ensures kinds { IfOk result (λ kinds. AllZip (IsActionKindBuilt (tests_alone names.now.fragment names.now.table) (fragment_scope names.now.fragment names.now.table)) (map action_of_entry entries.now) kinds.items) }
-    ensures ok { OnOk result (AreContextsRecords (fragment_scope names.now.fragment names.now.table) names.now.fragment) }
+    ensures kinds { IfOk result (λ kinds. AllZip (IsActionKindBuilt (tests_alone names.now.fragment names.now.table)
+        (fragment_scope names.now.fragment names.now.table)) (map action_of_entry entries.now) kinds.items) }
+    ensures ok { OnOk result (AreContextsRecords
+        (fragment_scope names.now.fragment names.now.table) names.now.fragment) }
     ensures err { IfErr result (OrMemory (HasNoRecordContext names.now.fragment names.now.table)) }
 {
     common_types_are_declared_once(names.fragment(), names.table());
@@ -71,9 +75,13 @@ fn action_kind(
     requires meant { IsApplyMeant names.now.fragment names.now.table entry.now.ns.now entry.now.ty.now.applies_to }
     requires bare { entry.now.ty.now.external ≡ true → is_bare_action entry.now.ty.now ≡ true }
     requires done { AreExpanded (fragment_scope names.now.fragment names.now.table) done.now }
-    requires ready { IsApplyReady names.now.fragment names.now.table done.now entry.now.ns.now entry.now.ty.now.applies_to }
-    ensures some { IfOk result (λ found. IfSome found (IsActionKindBuilt (tests_alone names.now.fragment names.now.table) (fragment_scope names.now.fragment names.now.table) (action_of_entry entry.now))) }
-    ensures none { IfOk result (λ found. IfNone found (LacksContext (fragment_scope names.now.fragment names.now.table) (action_of_entry entry.now))) }
+    requires ready { IsApplyReady names.now.fragment names.now.table done.now entry.now.ns.now
+        entry.now.ty.now.applies_to }
+    ensures some { IfOk result (λ found. IfSome found
+        (IsActionKindBuilt (tests_alone names.now.fragment names.now.table)
+        (fragment_scope names.now.fragment names.now.table) (action_of_entry entry.now))) }
+    ensures none { IfOk result (λ found. IfNone found (LacksContext (fragment_scope names.now.fragment names.now.table)
+        (action_of_entry entry.now))) }
 {
     if entry.ty.external {
         return Ok(Some(ValidatorActionKind::External));
@@ -102,8 +110,10 @@ fn applied_kind(
     requires meant { IsApplyMeant names.now.fragment names.now.table ns.now (Some applies.now) }
     requires done { AreExpanded (fragment_scope names.now.fragment names.now.table) done.now }
     requires ready { IsApplyReady names.now.fragment names.now.table done.now ns.now (Some applies.now) }
-    ensures some { IfOk result (λ found. IfSome found (IsApplyBuilt (tests_alone names.now.fragment names.now.table) (fragment_scope names.now.fragment names.now.table) ns.now (Some applies.now))) }
-    ensures none { IfOk result (λ found. IfNone found (IsNoRecord (fragment_scope names.now.fragment names.now.table) (name_of ns.now) applies.now.context.0)) }
+    ensures some { IfOk result (λ found. IfSome found (IsApplyBuilt (tests_alone names.now.fragment names.now.table)
+        (fragment_scope names.now.fragment names.now.table) ns.now (Some applies.now))) }
+    ensures none { IfOk result (λ found. IfNone found (IsNoRecord (fragment_scope names.now.fragment names.now.table)
+        (name_of ns.now) applies.now.context.0)) }
 {
     let context = expand_in(alloc, names, done, ns, &applies.context.0)?;
     match context {

@@ -10,7 +10,8 @@ ghost use Rattle.schema_build_scope.specs.Parts.{IsAllKnown, AreTypesReady};
 ghost use Rattle.schema_build_hierarchy.specs.Declarations.{declared_entities};
 ghost use Rattle.schema_build_hierarchy.specs.Entries.{AreEntities, entity_of};
 ghost use Rattle.schema_build_items.specs.Kinds.{IsKindBuilt, IsKindReady, AreTagsReady, IsKindOf, TagsBuilt};
-ghost use Rattle.schema_build_items.specs.NoRecord.{LacksShape, AreShapesRecords, HasNoRecordShape, IsNoRecord, IsShapeError};
+ghost use Rattle.schema_build_items.specs.NoRecord.{LacksShape, AreShapesRecords, HasNoRecordShape, IsNoRecord};
+ghost use Rattle.schema_build_items.specs.NoRecord.{IsShapeError};
 
 use cedar_data::{Boxed, CloneIn};
 use cedar_identifiers::{Name, RawName};
@@ -23,8 +24,8 @@ use schema_build_types::{Type as BuiltType, ValidatorEntityTypeKind};
 use schema_json::{EntityTypeKind, StandardEntityType, Type};
 use std::alloc::{AllocError, Global};
 
-/// What is built for each declared entity type, in the order of the entries. It refuses a fragment in which a shape is no
-/// record, and names the least entity type with such a shape.
+/// What is built for each declared entity type, in the order of the entries. It refuses a fragment in which a shape is
+/// no record, and names the least entity type with such a shape.
 pub fn entity_kinds(
     alloc: Global,
     names: &FragmentNames<'_>,
@@ -35,7 +36,8 @@ pub fn entity_kinds(
     requires entries { AreEntities (declared_entities names.now.fragment) entries.now }
     requires done { AreExpanded (fragment_scope names.now.fragment names.now.table) done.now }
     requires ready { AreTypesReady names.now.fragment names.now.table done.now }
-    ensures kinds { IfOk result (λ kinds. AllZip (IsKindBuilt (fragment_scope names.now.fragment names.now.table)) (map entity_of entries.now) kinds.items) }
+    ensures kinds { IfOk result (λ kinds. AllZip (IsKindBuilt (fragment_scope names.now.fragment names.now.table))
+        (map entity_of entries.now) kinds.items) }
     ensures ok { OnOk result (AreShapesRecords (fragment_scope names.now.fragment names.now.table) names.now.fragment) }
     ensures err { IfErr result (OrMemory (HasNoRecordShape names.now.fragment names.now.table)) }
 {
@@ -70,8 +72,10 @@ fn entity_kind(
     requires ready { IsKindReady names.now.fragment names.now.table done.now entry.now.ns.now entry.now.ty.now.kind }
     requires bare { entry.now.ty.now.external ≡ true → is_bare_entity entry.now.ty.now ≡ true }
     requires done { AreExpanded (fragment_scope names.now.fragment names.now.table) done.now }
-    ensures some { IfOk result (λ found. IfSome found (IsKindBuilt (fragment_scope names.now.fragment names.now.table) (entity_of entry.now))) }
-    ensures none { IfOk result (λ found. IfNone found (LacksShape (fragment_scope names.now.fragment names.now.table) (entity_of entry.now))) }
+    ensures some { IfOk result (λ found. IfSome found (IsKindBuilt (fragment_scope names.now.fragment names.now.table)
+        (entity_of entry.now))) }
+    ensures none { IfOk result (λ found. IfNone found (LacksShape (fragment_scope names.now.fragment names.now.table)
+        (entity_of entry.now))) }
 {
     if entry.ty.external {
         return Ok(Some(ValidatorEntityTypeKind::External));
@@ -97,8 +101,10 @@ fn standard_kind(
 ) -> Result<Option<ValidatorEntityTypeKind>, AllocError>
     requires ready { IsKindReady names.now.fragment names.now.table done.now ns.now (Standard standard.now) }
     requires done { AreExpanded (fragment_scope names.now.fragment names.now.table) done.now }
-    ensures some { IfOk result (λ found. IfSome found (IsKindOf (fragment_scope names.now.fragment names.now.table) (name_of ns.now) (Standard standard.now))) }
-    ensures none { IfOk result (λ found. IfNone found (IsNoRecord (fragment_scope names.now.fragment names.now.table) (name_of ns.now) standard.now.shape.0)) }
+    ensures some { IfOk result (λ found. IfSome found (IsKindOf (fragment_scope names.now.fragment names.now.table)
+        (name_of ns.now) (Standard standard.now))) }
+    ensures none { IfOk result (λ found. IfNone found (IsNoRecord (fragment_scope names.now.fragment names.now.table)
+        (name_of ns.now) standard.now.shape.0)) }
 {
     let shape = expand_in(alloc, names, done, ns, &standard.shape.0)?;
     match shape {

@@ -6,7 +6,8 @@ ghost use Rattle.schema_resolve_definitions.specs.Declarations.{name_of};
 ghost use Rattle.schema_build_scope.specs.FragmentScope.{fragment_scope};
 ghost use Rattle.schema_build_hierarchy.specs.FirstUses.{HasAlike};
 ghost use Rattle.schema_build_hierarchy.specs.Parents.{target_in};
-ghost use Rattle.schema_build_items.specs.ActionKinds.{AreEntitiesMeant, AreJust, IsMeantByOne, as_components, components_cmp, tests_alone};
+ghost use Rattle.schema_build_items.specs.ActionKinds.{AreEntitiesMeant, AreJust, IsMeantByOne, as_components};
+ghost use Rattle.schema_build_items.specs.ActionKinds.{components_cmp, tests_alone};
 
 use cedar_identifiers::{Name, RawName, ReferenceType};
 use schema_build_expand::{Meanings, Target};
@@ -21,7 +22,9 @@ pub(crate) fn entities_meant(
     written: &[RawName],
 ) -> Result<Vec<Name>, AllocError>
     requires { AreEntitiesMeant names.now.fragment names.now.table ns.now written.now }
-    ensures { IfOk result (λ found. AreJust components_cmp (IsMeantByOne (tests_alone names.now.fragment names.now.table) ns.now written.now) (as_components found.items)) }
+    ensures { IfOk result (λ found. AreJust components_cmp
+        (IsMeantByOne (tests_alone names.now.fragment names.now.table) ns.now written.now)
+        (as_components found.items)) }
 {
     let found = each_meant(alloc, names, ns, written)?;
     Ok(each_once(found))
@@ -35,7 +38,8 @@ fn each_meant(
     written: &[RawName],
 ) -> Result<Vec<Name>, AllocError>
     requires { AreEntitiesMeant names.now.fragment names.now.table ns.now written.now }
-    ensures { IfOk result (λ found. map (λ n. Some (components_of n.name)) found.items ≡ map (target_in (tests_alone names.now.fragment names.now.table) ns.now Entity) written.now) }
+    ensures { IfOk result (λ found. map (λ n. Some (components_of n.name)) found.items
+        ≡ map (target_in (tests_alone names.now.fragment names.now.table) ns.now Entity) written.now) }
 {
     let mut found = Vec::with_capacity(alloc, written.len())?;
     for name in written {
@@ -52,7 +56,8 @@ fn entity_meant(
     name: &RawName,
 ) -> Result<Name, AllocError>
     requires { IsSome ((fragment_scope names.now.fragment names.now.table).means (name_of ns.now) Entity name.now) }
-    ensures { IfOk result (λ n. Some (components_of n.name) ≡ target_in (tests_alone names.now.fragment names.now.table) ns.now Entity name.now) }
+    ensures { IfOk result (λ n. Some (components_of n.name)
+        ≡ target_in (tests_alone names.now.fragment names.now.table) ns.now Entity name.now) }
 {
     let target = names
         .in_namespace(ns)

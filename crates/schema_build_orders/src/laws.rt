@@ -27,8 +27,8 @@ use schema_syntax_laws::one_tree;
 use schema_syntax_parser::syntax_is_sentence;
 use schema_syntax_tokens::laws::one_scan;
 
-/// Of fragments that are the same, places and annotations of namespaces aside, the second has no build fault where the first has
-/// none, and it means what the first means, where its own entries are in the order of their names.
+/// Of fragments that are the same, places and annotations of namespaces aside, the second has no build fault where the
+/// first has none, and it means what the first means, where its own entries are in the order of their names.
 pub fn what_declares_the_same_means_the_same()
     ensures means { (f g : Fragment RawName as_written) (table : ExtensionTable) (m : SchemaMeaning)
         → DeclareTheSame f g → IsInOrder g → FragmentMeaning f table m → FragmentMeaning g table m }
@@ -36,9 +36,9 @@ pub fn what_declares_the_same_means_the_same()
         → Never (BuildFault f table) → Never (BuildFault g table) }
 {}
 
-/// What is written again with whole items in another order, with the declarations of an opening in another order, or with the
-/// declarations of an opening divided over two, declares the same in each namespace. Declaring the same goes both ways, and what
-/// is written declares the same as itself.
+/// What is written again with whole items in another order, with the declarations of an opening in another order, or
+/// with the declarations of an opening divided over two, declares the same in each namespace. Declaring the same goes
+/// both ways, and what is written declares the same as itself.
 pub fn reordered_texts_are_rearranged()
     ensures items { (w v : List WrittenItem) → IsReordered w v → AreRearranged w v }
     ensures declarations { (w v : List WrittenItem) → IsReorderedWithin w v → AreRearranged w v }
@@ -47,8 +47,8 @@ pub fn reordered_texts_are_rearranged()
     ensures same { (w : List WrittenItem) → AreRearranged w w }
 {}
 
-/// Of what declares the same in each namespace, the second can be translated where the first can, and then their fragments
-/// declare the same. The entries of a fragment that says what is written are in order.
+/// Of what declares the same in each namespace, the second can be translated where the first can, and then their
+/// fragments declare the same. The entries of a fragment that says what is written are in order.
 pub fn rearranged_texts_declare_the_same()
     ensures sayable { (w v : List WrittenItem) → AreRearranged w v → IsSayable w → IsSayable v }
     ensures declare { (f g : Fragment RawName as_written) (w v : List WrittenItem) → FragmentSays f w

@@ -7,7 +7,8 @@ ghost use Rattle.schema_build_checks.specs.Rows.{Never, OrMemory};
 ghost use Rattle.schema_build_hierarchy.specs.Ancestors.{AreParentsDeclared, AreAncestorRows};
 ghost use Rattle.schema_build_hierarchy.specs.Declarations.{Declared, DeclaredEntity, entity_name, action_key};
 ghost use Rattle.schema_build_hierarchy.specs.Entries.{AreEntities, AreActions, entity_of, action_of_entry};
-ghost use Rattle.schema_build_hierarchy.specs.Parents.{entity_parents, action_parents, AreParentsMeant, IsAncestor, IsActionAncestor};
+ghost use Rattle.schema_build_hierarchy.specs.Parents.{entity_parents, action_parents, AreParentsMeant, IsAncestor};
+ghost use Rattle.schema_build_hierarchy.specs.Parents.{IsActionAncestor};
 ghost use Rattle.schema_build_parts.specs.BuildFaults.{HierarchyFault};
 
 use cedar_identifiers::{NameText, RawName};
@@ -34,8 +35,10 @@ pub(crate) fn build_hierarchies(
     requires parents { AreParentsDeclared entity_name (entity_parents (tests_of defs.now)) g.1.0 }
     requires uids { AreParentsDeclared action_key (action_parents (tests_of defs.now)) g.1.1 }
     requires meant { All (AreParentsMeant (tests_of defs.now)) g.1.0 }
-    ensures above { IfOk result (λ rows. AreAncestorRows (IsAncestor g.0 g.1.0) (map (λ e. entity_name (entity_of e)) entities.now) rows.0.items) }
-    ensures above_actions { IfOk result (λ rows. AreAncestorRows (IsActionAncestor g.0 g.1.1) (map (λ e. action_key (action_of_entry e)) actions.now) rows.1.items) }
+    ensures above { IfOk result (λ rows. AreAncestorRows (IsAncestor g.0 g.1.0)
+        (map (λ e. entity_name (entity_of e)) entities.now) rows.0.items) }
+    ensures above_actions { IfOk result (λ rows. AreAncestorRows (IsActionAncestor g.0 g.1.1)
+        (map (λ e. action_key (action_of_entry e)) actions.now) rows.1.items) }
     ensures ok { OnOk result (Never (HierarchyFault g.0 g.1.0 g.1.1)) }
     ensures err { IfErr result (OrMemory (HierarchyFault g.0 g.1.0 g.1.1)) }
 {

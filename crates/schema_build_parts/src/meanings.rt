@@ -7,7 +7,8 @@ ghost use Rattle.schema_resolve_definitions.specs.Tests.{Tests, tests_of};
 ghost use Rattle.schema_build_checks.specs.DeclaredAt.{ActionAt};
 ghost use Rattle.schema_build_checks.specs.Rows.{Never, OrMemory};
 ghost use Rattle.schema_build_scope.specs.Parts.{IsAllKnown};
-ghost use Rattle.schema_build_hierarchy.specs.Declarations.{Declared, DeclaredEntity, declared_entities, declared_actions};
+ghost use Rattle.schema_build_hierarchy.specs.Declarations.{Declared, DeclaredEntity, declared_entities};
+ghost use Rattle.schema_build_hierarchy.specs.Declarations.{declared_actions};
 ghost use Rattle.schema_build_parts.specs.BuildFaults.{MeaningFault};
 ghost use Rattle.schema_build_parts.specs.Parts.{ArePartsOf};
 
@@ -29,7 +30,8 @@ pub(crate) fn build_meanings<'f>(
     fragment: &'f Fragment<RawName>,
     names: &FragmentNames<'_>,
 ) -> Result<FragmentParts<'f>, Refusal>
-    ghost g: { TableTold × (Tests × (List DeclaredEntity × List (Declared ActionAt (ActionTold Raw ⟦<RawName as NameText>⟧)))) }
+    ghost g: { TableTold × (Tests × (List DeclaredEntity
+        × List (Declared ActionAt (ActionTold Raw ⟦<RawName as NameText>⟧)))) }
     requires same { fragment.now ≡ names.now.fragment }
     requires table { g.0 ≡ names.now.table }
     requires tests { g.1.0 ≡ tests_of (defined names.now.fragment names.now.table) }

@@ -27,8 +27,10 @@ pub(crate) fn build_types(
     requires known { IsAllKnown names.now.fragment names.now.table }
     requires entities { AreEntities (declared_entities names.now.fragment) entities.now }
     requires actions { AreActions (declared_actions names.now.fragment) actions.now }
-    ensures kinds { IfOk result (λ built. AllZip (IsKindBuilt (fragment_scope names.now.fragment names.now.table)) (map entity_of entities.now) built.0.items) }
-    ensures applied { IfOk result (λ built. AllZip (IsActionKindBuilt (tests_alone names.now.fragment names.now.table) (fragment_scope names.now.fragment names.now.table)) (map action_of_entry actions.now) built.1.items) }
+    ensures kinds { IfOk result (λ built. AllZip (IsKindBuilt (fragment_scope names.now.fragment names.now.table))
+        (map entity_of entities.now) built.0.items) }
+    ensures applied { IfOk result (λ built. AllZip (IsActionKindBuilt (tests_alone names.now.fragment names.now.table)
+        (fragment_scope names.now.fragment names.now.table)) (map action_of_entry actions.now) built.1.items) }
     ensures ok { OnOk result (Never (TypeFault names.now.fragment names.now.table)) }
     ensures err { IfErr result (OrMemory (TypeFault names.now.fragment names.now.table)) }
 {

@@ -23,7 +23,8 @@ fn recovered_context(
     alloc: Global,
     context: &BuiltType,
 ) -> Result<RecordType<RawName>, RecoveryError>
-    ensures recovered { IfOk result (λ r. IsRecoveredType (plain.Rec (context_attributes (type_content context.now))) (record_type r)) }
+    ensures recovered { IfOk result (λ r. IsRecoveredType (plain.Rec (context_attributes (type_content context.now)))
+        (record_type r)) }
     ensures whole { OnOk result (context_lacks (type_content context.now) ≡ []) }
     ensures lack { IfErr result (IsFirstLack (context_lacks (type_content context.now))) }
 {
@@ -62,7 +63,8 @@ fn recovered_spec(
 ) -> Result<ApplySpec<RawName>, RecoveryError>
     ensures principals { IfOk result (λ s. AllZip IsWritten (names_content principals.now) s.principal_types) }
     ensures resources { IfOk result (λ s. AllZip IsWritten (names_content resources.now) s.resource_types) }
-    ensures context { IfOk result (λ s. IsRecoveredType (plain.Rec (context_attributes (type_content context.now))) s.context.0) }
+    ensures context { IfOk result (λ s. IsRecoveredType (plain.Rec (context_attributes (type_content context.now)))
+        s.context.0) }
     ensures whole { OnOk result (context_lacks (type_content context.now) ≡ []) }
     ensures lack { IfErr result (IsFirstLack (context_lacks (type_content context.now))) }
 {
@@ -81,7 +83,8 @@ fn recovered_applies_to(
     alloc: Global,
     entry: &ActionEntry,
 ) -> Result<Option<ApplySpec<RawName>>, RecoveryError>
-    ensures recovered { IfOk result (IsRecoveredApplies (action_reading (action_content entry.now)) (action_content entry.now).is_external) }
+    ensures recovered { IfOk result (IsRecoveredApplies (action_reading (action_content entry.now))
+        (action_content entry.now).is_external) }
     ensures whole { OnOk result (context_lacks (action_content entry.now).context ≡ []) }
     ensures lack { IfErr result (IsFirstLack (context_lacks (action_content entry.now).context)) }
 {

@@ -48,10 +48,14 @@ fn recovered_standard(
     tags: &Option<Boxed<BuiltType>>,
 ) -> Result<StandardEntityType<RawName>, RecoveryError>
     ensures parents { IfOk result (λ s. AllZip IsWritten (names_content ancestors.now) s.member_of_types) }
-    ensures shape { IfOk result (λ s. IsRecoveredType (plain.Rec (plain_attributes (attributes_content attributes.now))) s.shape.0) }
-    ensures tags { IfOk result (λ s. AreRecoveredTags (option_map plain_type (option_map type_content tags.now)) s.tags) }
-    ensures whole { OnOk result (attribute_lacks (attributes_content attributes.now) ++ tag_lacks (option_map type_content tags.now) ≡ []) }
-    ensures lack { IfErr result (IsFirstLack (attribute_lacks (attributes_content attributes.now) ++ tag_lacks (option_map type_content tags.now))) }
+    ensures shape { IfOk result (λ s. IsRecoveredType (plain.Rec (plain_attributes (attributes_content attributes.now)))
+        s.shape.0) }
+    ensures tags { IfOk result (λ s. AreRecoveredTags (option_map plain_type (option_map type_content tags.now))
+        s.tags) }
+    ensures whole { OnOk result (attribute_lacks (attributes_content attributes.now)
+        ++ tag_lacks (option_map type_content tags.now) ≡ []) }
+    ensures lack { IfErr result (IsFirstLack (attribute_lacks (attributes_content attributes.now)
+        ++ tag_lacks (option_map type_content tags.now))) }
 {
     let record = recovered_record(alloc, attributes)?;
     let tags = recovered_tags(alloc, tags)?;
@@ -85,7 +89,8 @@ fn recovered_kind(
     alloc: Global,
     entry: &EntityTypeEntry,
 ) -> Result<EntityTypeKind<RawName>, RecoveryError>
-    ensures recovered { IfOk result (IsRecoveredKind (entity_reading (entity_content entry.now)) (entity_reading (entity_content entry.now)).choices) }
+    ensures recovered { IfOk result (IsRecoveredKind (entity_reading (entity_content entry.now))
+        (entity_reading (entity_content entry.now)).choices) }
     ensures whole { OnOk result (entity_lacks (entity_content entry.now) ≡ []) }
     ensures lack { IfErr result (IsFirstLack (entity_lacks (entity_content entry.now))) }
 {

@@ -37,7 +37,8 @@ fn namespaces<'a>(
     entities: &'a [EntityTypeEntry],
     actions: &'a [ActionEntry],
 ) -> Result<Vec<Namespace<'a>>, AllocError>
-    ensures { IfOk result (λ found. map (λ n. words_of n.words) found.items ≡ namespaces (schema_reading (content entities.now actions.now))) }
+    ensures { IfOk result (λ found. map (λ n. words_of n.words) found.items
+        ≡ namespaces (schema_reading (content entities.now actions.now))) }
 {
     let mut all = Vec::new(alloc);
     for entity in entities {
@@ -54,14 +55,15 @@ fn namespaces<'a>(
     Ok(namespaces)
 }
 
-/// The fragment that is recovered of a built schema of these entity types and actions: that of each meaning that the schema
-/// stands for. Refused is what no text says, by the first that is lacking, in the order of the walk.
+/// The fragment that is recovered of a built schema of these entity types and actions: that of each meaning that the
+/// schema stands for. Refused is what no text says, by the first that is lacking, in the order of the walk.
 pub fn recovered_fragment(
     alloc: Global,
     entities: &[EntityTypeEntry],
     actions: &[ActionEntry],
 ) -> Result<Fragment<RawName>, RecoveryError>
-    ensures recovered { IfOk result (λ f. (m : SchemaMeaning) → SchemaStandsFor entities.now actions.now m → IsRecoveredFragment m f) }
+    ensures recovered { IfOk result (λ f. (m : SchemaMeaning) → SchemaStandsFor entities.now actions.now m
+        → IsRecoveredFragment m f) }
     ensures whole { OnOk result (schema_lacks (content entities.now actions.now) ≡ []) }
     ensures lack { IfErr result (IsFirstLack (schema_lacks (content entities.now actions.now))) }
 {

@@ -9,7 +9,8 @@ ghost use Rattle.schema_build_types.specs.Content.{entity_content, action_conten
 ghost use Rattle.schema_build_text.specs.Readings.{schema_reading, entity_reading, action_reading};
 ghost use Rattle.schema_build_recovered.specs.Lent.{entities_at, actions_at, lent_content, all_words};
 ghost use Rattle.schema_build_recovered.specs.Places.{words_of, on_side};
-ghost use Rattle.schema_build_recovered.specs.Recovered.{IsMapOf, IsRecoveredEntity, IsRecoveredAction, IsRecoveredNamespace};
+ghost use Rattle.schema_build_recovered.specs.Recovered.{IsMapOf, IsRecoveredEntity, IsRecoveredAction};
+ghost use Rattle.schema_build_recovered.specs.Recovered.{IsRecoveredNamespace};
 ghost use Rattle.schema_build_types.specs.Lacks.{entity_lacks, context_lacks, namespace_lacks};
 ghost use Rattle.schema_build_recovered_types.specs.FirstLacks.{IsFirstLack};
 
@@ -57,7 +58,8 @@ fn side<'a, T: Item>(
     below: bool,
 ) -> Result<Vec<&'a T>, AllocError>
     ensures { IfOk result (λ those. map (λ x. x.now) those.items
-        ≡ filter (λ x. on_side below (words_of pivot.entry.words) (T.home_words x)) (map (λ x. x.now) items.now.items)) }
+        ≡ filter (λ x. on_side below (words_of pivot.entry.words) (T.home_words x))
+        (map (λ x. x.now) items.now.items)) }
 {
     let mut those = Vec::new(alloc);
     for at in 0..items.len() {
@@ -77,8 +79,10 @@ fn recovered_entity_types<'a>(
 ) -> Result<Map<UnreservedId, EntityType<RawName>>, RecoveryError>
     ensures recovered { IfOk result (IsMapOf (λ a b. text_cmp a.id.text b.id.text) IsRecoveredEntity
         (map (λ e. entity_reading (entity_content e)) (entities_at home.entry.words entities.now.items))) }
-    ensures whole { OnOk result (flat_map (λ e. entity_lacks (entity_content e)) (entities_at home.entry.words entities.now.items) ≡ []) }
-    ensures lack { IfErr result (IsFirstLack (flat_map (λ e. entity_lacks (entity_content e)) (entities_at home.entry.words entities.now.items))) }
+    ensures whole { OnOk result (flat_map (λ e. entity_lacks (entity_content e))
+        (entities_at home.entry.words entities.now.items) ≡ []) }
+    ensures lack { IfErr result (IsFirstLack (flat_map (λ e. entity_lacks (entity_content e))
+        (entities_at home.entry.words entities.now.items))) }
 {
     let mut rows = Vec::new(alloc);
     for at in 0..entities.len() {
@@ -99,8 +103,10 @@ fn recovered_actions<'a>(
 ) -> Result<Map<Text, ActionType<RawName>>, RecoveryError>
     ensures recovered { IfOk result (IsMapOf text_cmp IsRecoveredAction
         (map (λ a. action_reading (action_content a)) (actions_at home.entry.words actions.now.items))) }
-    ensures whole { OnOk result (flat_map (λ a. context_lacks (action_content a).context) (actions_at home.entry.words actions.now.items) ≡ []) }
-    ensures lack { IfErr result (IsFirstLack (flat_map (λ a. context_lacks (action_content a).context) (actions_at home.entry.words actions.now.items))) }
+    ensures whole { OnOk result (flat_map (λ a. context_lacks (action_content a).context)
+        (actions_at home.entry.words actions.now.items) ≡ []) }
+    ensures lack { IfErr result (IsFirstLack (flat_map (λ a. context_lacks (action_content a).context)
+        (actions_at home.entry.words actions.now.items))) }
 {
     let mut rows = Vec::new(alloc);
     for at in 0..actions.len() {
@@ -120,9 +126,12 @@ fn recovered_namespace<'a>(
     entities: &Vec<&'a EntityTypeEntry>,
     actions: &Vec<&'a ActionEntry>,
 ) -> Result<(Option<Name>, NamespaceDefinition<RawName>), RecoveryError>
-    ensures recovered { IfOk result (IsRecoveredNamespace (schema_reading (lent_content entities.now.items actions.now.items)) (words_of home.entry.words)) }
-    ensures whole { OnOk result (namespace_lacks (lent_content entities.now.items actions.now.items) (words_of home.entry.words) ≡ []) }
-    ensures lack { IfErr result (IsFirstLack (namespace_lacks (lent_content entities.now.items actions.now.items) (words_of home.entry.words))) }
+    ensures recovered { IfOk result (IsRecoveredNamespace
+        (schema_reading (lent_content entities.now.items actions.now.items)) (words_of home.entry.words)) }
+    ensures whole { OnOk result (namespace_lacks (lent_content entities.now.items actions.now.items)
+        (words_of home.entry.words) ≡ []) }
+    ensures lack { IfErr result (IsFirstLack (namespace_lacks (lent_content entities.now.items actions.now.items)
+        (words_of home.entry.words))) }
 {
     let entity_types = recovered_entity_types(alloc, home, entities)?;
     let actions = recovered_actions(alloc, home, actions)?;
@@ -139,8 +148,8 @@ fn recovered_namespace<'a>(
     ))
 }
 
-/// Adds the namespaces, which rise, each with those of the entity types and actions that stand in it. Half of the namespaces
-/// are below the one in the middle, and so are their items.
+/// Adds the namespaces, which rise, each with those of the entity types and actions that stand in it. Half of the
+/// namespaces are below the one in the middle, and so are their items.
 pub fn recover_namespaces<'a>(
     alloc: Global,
     namespaces: &[Namespace<'a>],
@@ -150,9 +159,12 @@ pub fn recover_namespaces<'a>(
 ) -> Result<(), RecoveryError>
     requires { IsStrictlySortedBy (slice_cmp text_cmp) (all_words namespaces.now) }
     ensures recovered { OnOk result ((rows : _) × (found.new.items ≡ found.old.items ++ rows)
-        × AllZip (IsRecoveredNamespace (schema_reading (lent_content entities.now.items actions.now.items))) (all_words namespaces.now) rows) }
-    ensures whole { OnOk result (flat_map (namespace_lacks (lent_content entities.now.items actions.now.items)) (all_words namespaces.now) ≡ []) }
-    ensures lack { IfErr result (IsFirstLack (flat_map (namespace_lacks (lent_content entities.now.items actions.now.items)) (all_words namespaces.now))) }
+        × AllZip (IsRecoveredNamespace (schema_reading (lent_content entities.now.items actions.now.items)))
+        (all_words namespaces.now) rows) }
+    ensures whole { OnOk result (flat_map (namespace_lacks (lent_content entities.now.items actions.now.items))
+        (all_words namespaces.now) ≡ []) }
+    ensures lack { IfErr result (IsFirstLack
+        (flat_map (namespace_lacks (lent_content entities.now.items actions.now.items)) (all_words namespaces.now))) }
 {
     if namespaces.is_empty() {
         return Ok(());

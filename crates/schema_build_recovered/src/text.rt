@@ -49,18 +49,22 @@ fn refuse_lack(
     Err(refusal(lack))
 }
 
-/// The canonical text of a built schema of which a text says each type, and of which nothing is captured. Else the refusal
-/// is the first that is lacking, `Recovery`, and where nothing is lacking the first that is captured, `Captured`.
+/// The canonical text of a built schema of which a text says each type, and of which nothing is captured. Else the
+/// refusal is the first that is lacking, `Recovery`, and where nothing is lacking the first that is captured,
+/// `Captured`.
 pub fn whole_schema_text(
     alloc: Global,
     entities: &[EntityTypeEntry],
     actions: &[ActionEntry],
 ) -> Result<Text, ToTextError>
-    ensures text { IfOk result (λ text. (m : SchemaMeaning) → SchemaStandsFor entities.now actions.now m → encode_utf8_all text ≡ canonical_text m) }
+    ensures text { IfOk result (λ text. (m : SchemaMeaning) → SchemaStandsFor entities.now actions.now m
+        → encode_utf8_all text ≡ canonical_text m) }
     ensures whole { OnOk result (schema_lacks (content entities.now actions.now) ≡ []) }
-    ensures uncaptured { OnOk result ((m : SchemaMeaning) → SchemaStandsFor entities.now actions.now m → IsUncaptured m) }
+    ensures uncaptured { OnOk result ((m : SchemaMeaning) → SchemaStandsFor entities.now actions.now m
+        → IsUncaptured m) }
     ensures lacks { IfErr result (NamesLacksFirst (schema_lacks (content entities.now actions.now))) }
-    ensures refusal { IfErr result (λ e. (m : SchemaMeaning) → SchemaStandsFor entities.now actions.now m → IsTextRefusal m e) }
+    ensures refusal { IfErr result (λ e. (m : SchemaMeaning) → SchemaStandsFor entities.now actions.now m
+        → IsTextRefusal m e) }
 {
     match refuse_lack(alloc, entities, actions) {
         Ok(()) => {}

@@ -1,7 +1,9 @@
 ghost use Rattle.std.specs.Prelude.{◌≡◌, [], true, All};
 ghost use Rattle.std.specs.Option.{option_map};
-ghost use Rattle.schema_build_types.specs.Content.{type_content, attributes_content, entity_content, action_content, content};
-ghost use Rattle.schema_build_types.specs.Lacks.{type_lacks, attribute_lacks, context_lacks, tag_lacks, entity_lacks, schema_lacks};
+ghost use Rattle.schema_build_types.specs.Content.{type_content, attributes_content, entity_content, action_content};
+ghost use Rattle.schema_build_types.specs.Content.{content};
+ghost use Rattle.schema_build_types.specs.Lacks.{type_lacks, attribute_lacks, context_lacks, tag_lacks, entity_lacks};
+ghost use Rattle.schema_build_types.specs.Lacks.{schema_lacks};
 
 use cedar_data::{Boxed, Text};
 use schema_build_recovered_types::types::only_name;

@@ -22,7 +22,8 @@ use std::alloc::Global;
 
 /// The one name that these names are, and `None` where they are several.
 pub fn only_name(names: &NonEmpty<Name>) -> Option<&Name>
-    ensures { MatchOption result (IsSeveral (names_content names.now)) (λ name. names_content names.now ≡ components_of name.now.name ∷ []) }
+    ensures { MatchOption result (IsSeveral (names_content names.now)) (λ name. names_content names.now
+        ≡ components_of name.now.name ∷ []) }
 {
     let (first, others) = names.parts();
     for name in others {
@@ -39,7 +40,8 @@ fn recovered_entity(
     alloc: Global,
     names: &NonEmpty<Name>,
 ) -> Result<TypeVariant<RawName>, RecoveryError>
-    ensures recovered { IfOk result (λ shape. IsRecoveredType (plain_type (said.Entity (names_content names.now))) (Variant shape None)) }
+    ensures recovered { IfOk result (λ shape. IsRecoveredType (plain_type (said.Entity (names_content names.now)))
+        (Variant shape None)) }
     ensures whole { OnOk result (type_lacks (said.Entity (names_content names.now)) ≡ []) }
     ensures lack { IfErr result (IsFirstLack (type_lacks (said.Entity (names_content names.now)))) }
 {
@@ -106,7 +108,8 @@ pub fn recovered_record(
     alloc: Global,
     attributes: &Map<Text, (BuiltType, bool)>,
 ) -> Result<RecordType<RawName>, RecoveryError>
-    ensures recovered { IfOk result (λ r. IsRecoveredType (plain.Rec (plain_attributes (attributes_content attributes.now))) (record_type r)) }
+    ensures recovered { IfOk result (λ r. IsRecoveredType
+        (plain.Rec (plain_attributes (attributes_content attributes.now))) (record_type r)) }
     ensures whole { OnOk result (attribute_lacks (attributes_content attributes.now) ≡ []) }
     ensures lack { IfErr result (IsFirstLack (attribute_lacks (attributes_content attributes.now))) }
 {
@@ -123,7 +126,8 @@ fn recovered_attributes(
     alloc: Global,
     entries: &[(Text, (BuiltType, bool))],
 ) -> Result<Vec<(Text, TypeOfAttribute<RawName>)>, RecoveryError>
-    ensures recovered { IfOk result (λ rows. AreRecoveredAttributes (plain_attributes (attributes_content entries.now)) rows.items) }
+    ensures recovered { IfOk result (λ rows. AreRecoveredAttributes
+        (plain_attributes (attributes_content entries.now)) rows.items) }
     ensures keys { IfOk result (λ rows. keys_of rows.items ≡ keys_of entries.now) }
     ensures whole { OnOk result (attribute_lacks (attributes_content entries.now) ≡ []) }
     ensures lack { IfErr result (IsFirstLack (attribute_lacks (attributes_content entries.now))) }

@@ -11,7 +11,8 @@ ghost use Rattle.schema_json.specs.declared.action_type.ActionEntityUID.{ActionE
 ghost use Rattle.schema_readback.specs.Meant.{type_of_meaning, entity_as, action_as, groups_of_meaning};
 ghost use Rattle.schema_resolve_definitions.specs.Tests.{Tests};
 ghost use Rattle.schema_build_hierarchy.specs.Declarations.{Declared, DeclaredEntity};
-ghost use Rattle.schema_build_hierarchy.specs.Parents.{written_parents, parents_in, action_parents_in, IsParent, IsAncestor, IsActionParent, IsActionAncestor};
+ghost use Rattle.schema_build_hierarchy.specs.Parents.{written_parents, parents_in, action_parents_in, IsParent};
+ghost use Rattle.schema_build_hierarchy.specs.Parents.{IsAncestor, IsActionParent, IsActionAncestor};
 ghost use Rattle.schema_build_checks.specs.DeclaredAt.{ActionAt};
 ghost use Rattle.cedar_names.specs.declared.extension_table.ExtensionTable.{ExtensionTable};
 ghost use Rattle.schema_build_checks.specs.Rows.{Never};
@@ -43,8 +44,8 @@ use cedar_identifiers::RawName as RawNameOfCode;
 use schema_build_expand::laws::types_stand_for_one;
 use schema_says::laws::namespaces_of_meanings_are_written;
 
-/// A type that says what is written of a plain type stands for it, where each name in that means itself and the attributes of
-/// each record rise by their names.
+/// A type that says what is written of a plain type stands for it, where each name in that means itself and the
+/// attributes of each record rise by their names.
 pub fn types_said_of_meanings_expand()
     ensures { (s : Scope RawName) (ns : Option InternalName) (t : «Type» RawName) (p : PlainType)
         → TypeSays t (type_of_meaning p) → IsOrderedType p → MeansItself s ns p → Expands RawName s ns t p }
@@ -58,7 +59,8 @@ pub fn kinds_said_of_meanings_mean_them()
         → (external ≡ e.is_external) × IsKindMeaning s ns kind (kind_meaning e) }
 {}
 
-/// What an action applies to, where it says what is written of the action's entry, means the entry, where that means itself.
+/// What an action applies to, where it says what is written of the action's entry, means the entry, where that means
+/// itself.
 pub fn actions_said_of_meanings_mean_them()
     ensures { (t : Tests) (s : Scope RawName) (ns : Option Name) (external : Bool)
         (applies : Option (ApplySpec RawName))
@@ -67,8 +69,8 @@ pub fn actions_said_of_meanings_mean_them()
         → (external ≡ a.is_external) × IsApplyMeaning t s ns applies (apply_meaning a) }
 {}
 
-/// Parents that say what is written of an entry of a meaning are the entry's ancestors, where each of these is found as itself;
-/// an entity type is to have only what its kind has.
+/// Parents that say what is written of an entry of a meaning are the entry's ancestors, where each of these is found as
+/// itself; an entity type is to have only what its kind has.
 pub fn parents_said_of_meanings_are_ancestors()
     ensures entities { (t : Tests) (ns : Option Name) (external : Bool) (kind : EntityTypeKind RawName)
         (e : EntityMeaning)
@@ -90,8 +92,8 @@ pub fn parents_of_closed_meanings_are_ancestors()
         → (a b : List (List ℕ) × List ℕ) → IsActionAncestor t declared a b ↔ IsActionParent t declared a b }
 {}
 
-/// A fragment that says what is written of a meaning whose names may be declared declares just the entity types and the actions
-/// of the meaning.
+/// A fragment that says what is written of a meaning whose names may be declared declares just the entity types and the
+/// actions of the meaning.
 pub fn what_says_a_meaning_declares_it()
     ensures { (g : Fragment RawName as_written) (m : SchemaMeaning)
         → FragmentSays g (flat_map group_items (groups_of_meaning m)) → HasOpenNames m → DeclaresJust m g }

@@ -18,7 +18,8 @@ pub(crate) fn builtin_type(
     name: &InternalName,
 ) -> Result<BuiltType, AllocError>
     requires { IsSome (builtin (table_scope table.now) (components_of name.now)) }
-    ensures { IfOk result (λ ty. (p : PlainType) × (builtin (table_scope table.now) (components_of name.now) ≡ Some p) × IsBuilt p ty) }
+    ensures { IfOk result (λ ty. (p : PlainType) × (builtin (table_scope table.now) (components_of name.now) ≡ Some p)
+        × IsBuilt p ty) }
 {
     match name.others.as_slice() {
         [] => word_type(alloc, table, &name.first),
@@ -29,7 +30,8 @@ pub(crate) fn builtin_type(
 // What a word stands for that is builtin under this table.
 fn word_type(alloc: Global, _table: &ExtensionTable, word: &Id) -> Result<BuiltType, AllocError>
     requires { IsSome (builtin (table_scope _table.now) (word.now.text ∷ [])) }
-    ensures { IfOk result (λ ty. (p : PlainType) × (builtin (table_scope _table.now) (word.now.text ∷ []) ≡ Some p) × IsBuilt p ty) }
+    ensures { IfOk result (λ ty. (p : PlainType) × (builtin (table_scope _table.now) (word.now.text ∷ []) ≡ Some p)
+        × IsBuilt p ty) }
 {
     let text = word.as_str();
     if same_bytes(text, "Bool") {

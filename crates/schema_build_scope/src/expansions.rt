@@ -24,14 +24,16 @@ use schema_build_types::{DEEPEST, Type as BuiltType, is_deeper};
 use schema_json::Type;
 use std::alloc::{AllocError, Global};
 
-/// What the declared common types stand for that shapes, types of tags and contexts lead to, by their ranks in the order
-/// of full names. It refuses a fragment in which a common type reaches itself by references, and names the least such.
+/// What the declared common types stand for that shapes, types of tags and contexts lead to, by their ranks in the
+/// order of full names. It refuses a fragment in which a common type reaches itself by references, and names the least
+/// such.
 pub fn expand_used_commons(
     alloc: Global,
     names: &FragmentNames<'_>,
 ) -> Result<Vec<Option<BuiltType>>, Refusal>
     requires known { IsAllKnown names.now.fragment names.now.table }
-    ensures expanded { IfOk result (λ done. AreExpanded (fragment_scope names.now.fragment names.now.table) done.items) }
+    ensures expanded { IfOk result (λ done. AreExpanded
+        (fragment_scope names.now.fragment names.now.table) done.items) }
     ensures ready { IfOk result (λ done. AreTypesReady names.now.fragment names.now.table done.items) }
     ensures ok { OnOk result (Never (HasCommonCycle names.now.fragment names.now.table)) }
     ensures err { IfErr result (OrMemory (HasCommonCycle names.now.fragment names.now.table)) }

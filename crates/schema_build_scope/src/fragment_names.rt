@@ -18,7 +18,8 @@ use schema_resolve_lookup::FragmentDefs;
 use std::alloc::{AllocError, Global};
 use std::marker::Model;
 
-/// A fragment that stands alone under an extension table, with what is defined there and the common types that it declares.
+/// A fragment that stands alone under an extension table, with what is defined there and the common types that it
+/// declares.
 #[derive(Drop)]
 pub struct FragmentNames<'f> {
     fragment: &'f Fragment<RawName>,
@@ -46,7 +47,8 @@ impl<'f> Model for FragmentNames<'f> {
 
     ghost view = { λ n. record { fragment = n.fragment.now; table = n.table.now } };
 
-    ghost invariant = { λ n. (tests_of n.defs ≡ tests_of (defined n.fragment.now n.table.now)) × (lent_commons n.commons ≡ commons_in_order n.fragment.now) };
+    ghost invariant = { λ n. (tests_of n.defs ≡ tests_of (defined n.fragment.now n.table.now))
+        × (lent_commons n.commons ≡ commons_in_order n.fragment.now) };
 }
 
 impl<'f> FragmentNames<'f> {

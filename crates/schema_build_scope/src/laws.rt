@@ -7,8 +7,8 @@ use cedar_identifiers::RawName;
 use cedar_names::ExtensionTable;
 use schema_json::Fragment;
 
-/// Where a fragment has no fault of extension types, of features or of references to types, each part of each declared common
-/// type, shape, type of tags and context is meant.
+/// Where a fragment has no fault of extension types, of features or of references to types, each part of each declared
+/// common type, shape, type of tags and context is meant.
 pub fn types_are_meant(fragment: &Fragment<RawName>, table: &ExtensionTable)
     ensures { IsAllKnown fragment.now table.now → AreTypesMeant fragment.now table.now }
 {}

@@ -38,7 +38,8 @@ fn push_commons<'f>(
     ns: &'f Option<Name>,
     commons: &'f [(CommonTypeId, CommonType<RawName>)],
 ) -> Result<(), AllocError>
-    ensures { OnOk result (lent_commons found.new.items ≡ lent_commons found.old.items ++ map (full_common_entry ns.now) commons.now) }
+    ensures { OnOk result (lent_commons found.new.items ≡ lent_commons found.old.items
+        ++ map (full_common_entry ns.now) commons.now) }
 {
     for (id, common) in commons {
         let name = declared_at(alloc, ns, &id.id.id, common.loc)?;

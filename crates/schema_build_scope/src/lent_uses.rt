@@ -30,7 +30,8 @@ fn push_entities<'f>(
     ns: &'f Option<Name>,
     entities: &'f [(UnreservedId, EntityType<RawName>)],
 ) -> Result<(), AllocError>
-    ensures { OnOk result (map lent_type uses.new.items ≡ map lent_type uses.old.items ++ flat_map (λ d. used_by_kind ns.now d.1.kind) entities.now) }
+    ensures { OnOk result (map lent_type uses.new.items ≡ map lent_type uses.old.items
+        ++ flat_map (λ d. used_by_kind ns.now d.1.kind) entities.now) }
 {
     for (_, entity) in entities {
         push_kind(uses, ns, &entity.kind)?;
@@ -44,7 +45,8 @@ fn push_kind<'f>(
     ns: &'f Option<Name>,
     kind: &'f EntityTypeKind<RawName>,
 ) -> Result<(), AllocError>
-    ensures { OnOk result (map lent_type uses.new.items ≡ map lent_type uses.old.items ++ used_by_kind ns.now kind.now) }
+    ensures { OnOk result (map lent_type uses.new.items ≡ map lent_type uses.old.items
+        ++ used_by_kind ns.now kind.now) }
 {
     match kind {
         EntityTypeKind::Standard(standard) => {
@@ -63,7 +65,8 @@ fn push_tags<'f>(
     ns: &'f Option<Name>,
     tags: &'f Option<Boxed<Type<RawName>>>,
 ) -> Result<(), AllocError>
-    ensures { OnOk result (map lent_type uses.new.items ≡ map lent_type uses.old.items ++ used_by_tags ns.now tags.now) }
+    ensures { OnOk result (map lent_type uses.new.items ≡ map lent_type uses.old.items
+        ++ used_by_tags ns.now tags.now) }
 {
     if let Some(ty) = tags {
         uses.push(LentType { ns, ty: ty.get() })?;
@@ -77,7 +80,8 @@ fn push_actions<'f>(
     ns: &'f Option<Name>,
     actions: &'f [(Text, ActionType<RawName>)],
 ) -> Result<(), AllocError>
-    ensures { OnOk result (map lent_type uses.new.items ≡ map lent_type uses.old.items ++ flat_map (λ d. used_by_apply ns.now d.1.applies_to) actions.now) }
+    ensures { OnOk result (map lent_type uses.new.items ≡ map lent_type uses.old.items
+        ++ flat_map (λ d. used_by_apply ns.now d.1.applies_to) actions.now) }
 {
     for (_, action) in actions {
         push_context(uses, ns, &action.applies_to)?;
@@ -91,7 +95,8 @@ fn push_context<'f>(
     ns: &'f Option<Name>,
     applies: &'f Option<ApplySpec<RawName>>,
 ) -> Result<(), AllocError>
-    ensures { OnOk result (map lent_type uses.new.items ≡ map lent_type uses.old.items ++ used_by_apply ns.now applies.now) }
+    ensures { OnOk result (map lent_type uses.new.items ≡ map lent_type uses.old.items
+        ++ used_by_apply ns.now applies.now) }
 {
     if let Some(applies) = applies {
         let ty = &applies.context.0;

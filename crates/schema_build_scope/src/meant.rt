@@ -25,7 +25,8 @@ pub(crate) fn find_meant(
     kind: ReferenceType,
     name: &RawName,
 ) -> Option<Meant>
-    ensures { option_map (meant_candidate (option_copied ns.entry) name.now.name) result ≡ means (tests_of defs.now) (option_copied ns.entry) kind name.now }
+    ensures { option_map (meant_candidate (option_copied ns.entry) name.now.name) result
+        ≡ means (tests_of defs.now) (option_copied ns.entry) kind name.now }
 {
     match own_kind(defs, ns, kind, &name.name) {
         Some(is_common) => Some(Meant {
@@ -50,7 +51,8 @@ pub(crate) fn find_known(
     name: &RawName,
 ) -> Meant
     requires { IsSome (means (tests_of defs.now) (option_copied ns) kind name.now) }
-    ensures { option_map (meant_candidate (option_copied ns.entry) name.now.name) (Some result) ≡ means (tests_of defs.now) (option_copied ns.entry) kind name.now }
+    ensures { option_map (meant_candidate (option_copied ns.entry) name.now.name) (Some result)
+        ≡ means (tests_of defs.now) (option_copied ns.entry) kind name.now }
 {
     match own_kind(defs, ns, kind, &name.name) {
         Some(is_common) => Meant {

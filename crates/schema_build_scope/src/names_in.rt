@@ -102,7 +102,8 @@ fn rank_meant(
     name: &InternalName,
     is_own: bool,
 ) -> Option<usize>
-    ensures { IsRankOfName (fragment_scope names.now.fragment names.now.table) (components_of (candidate (name_of ns.now) name.now is_own)) result }
+    ensures { IsRankOfName (fragment_scope names.now.fragment names.now.table)
+        (components_of (candidate (name_of ns.now) name.now is_own)) result }
 {
     match search(names.commons(), names.recent(), before(ns, is_own), name) {
         Ok(rank) => Some(rank),
@@ -119,8 +120,10 @@ fn common_meant(
     name: &InternalName,
     is_own: bool,
 ) -> Result<Target, AllocError>
-    requires { (tests_of (defined names.now.fragment names.now.table)).is_common (components_of (candidate (name_of ns.now) name.now is_own)) ≡ true }
-    ensures { IfOk result (IsCommonTarget (fragment_scope names.now.fragment names.now.table) (components_of (candidate (name_of ns.now) name.now is_own))) }
+    requires { (tests_of (defined names.now.fragment names.now.table)).is_common
+        (components_of (candidate (name_of ns.now) name.now is_own)) ≡ true }
+    ensures { IfOk result (IsCommonTarget (fragment_scope names.now.fragment names.now.table)
+        (components_of (candidate (name_of ns.now) name.now is_own))) }
 {
     match rank_meant(names, ns, name, is_own) {
         Some(rank) => Ok(Target::Common(rank)),

@@ -29,8 +29,8 @@ impl Recent {
     }
 }
 
-// Where the name stands, with the namespace before it, among entries whose names rise, or the gap where it would stand: at
-// or beside a recent place, or else found by halving.
+// Where the name stands, with the namespace before it, among entries whose names rise, or the gap where it would stand:
+// at or beside a recent place, or else found by halving.
 pub(crate) fn search<V>(
     entries: &[(InternalName, V)],
     recent: &Recent,
@@ -38,8 +38,10 @@ pub(crate) fn search<V>(
     name: &InternalName,
 ) -> Result<usize, usize>
     requires { IsStrictlySortedBy names_in_order (keys_of entries.now) }
-    ensures found { IfOk result (λ at. IsHit names_in_order (qualified (option_copied ns.entry) name.now) entries.now at) }
-    ensures absent { IfErr result (λ at. IsGap names_in_order (qualified (option_copied ns.entry) name.now) entries.now at at) }
+    ensures found { IfOk result (λ at. IsHit names_in_order (qualified (option_copied ns.entry) name.now) entries.now
+        at) }
+    ensures absent { IfErr result (λ at. IsGap names_in_order (qualified (option_copied ns.entry) name.now) entries.now
+        at at) }
 {
     if let Some(at) = found_near(entries, recent.found.get(), ns, name) {
         recent.found.set(at);
@@ -128,7 +130,8 @@ fn are_below<V>(
 ) -> bool
     requires { IsStrictlySortedBy names_in_order (keys_of entries.now) }
     ensures within { result ≡ true → at ≤ length entries.now }
-    ensures below { result ≡ true → IsGap names_in_order (qualified (option_copied ns.entry) name.now) entries.now at (length entries.now) }
+    ensures below { result ≡ true → IsGap names_in_order (qualified (option_copied ns.entry) name.now) entries.now at
+        (length entries.now) }
 {
     if at == 0 {
         return true;
@@ -149,8 +152,10 @@ fn halve<V>(
     name: &InternalName,
 ) -> Result<usize, usize>
     requires { IsStrictlySortedBy names_in_order (keys_of entries.now) }
-    ensures found { IfOk result (λ at. IsHit names_in_order (qualified (option_copied ns.entry) name.now) entries.now at) }
-    ensures absent { IfErr result (λ at. IsGap names_in_order (qualified (option_copied ns.entry) name.now) entries.now at at) }
+    ensures found { IfOk result (λ at. IsHit names_in_order (qualified (option_copied ns.entry) name.now) entries.now
+        at) }
+    ensures absent { IfErr result (λ at. IsGap names_in_order (qualified (option_copied ns.entry) name.now) entries.now
+        at at) }
 {
     let mut low = 0;
     let mut high = entries.len();

@@ -15,7 +15,8 @@ use std::alloc::Global;
 pub fn check_references(alloc: Global, names: &FragmentNames<'_>) -> Result<(), Refusal>
     ensures types { OnOk result (Never (HasUndefinedTypes names.now.fragment names.now.table)) }
     ensures actions { OnOk result (Never (HasUndefinedActions names.now.fragment names.now.table)) }
-    ensures err { IfErr result (OrMemory (OrElse (HasUndefinedTypes names.now.fragment names.now.table) (HasUndefinedActions names.now.fragment names.now.table))) }
+    ensures err { IfErr result (OrMemory (OrElse (HasUndefinedTypes names.now.fragment names.now.table)
+        (HasUndefinedActions names.now.fragment names.now.table))) }
 {
     let found = gather_undefined(alloc, names.fragment(), names.defs())?;
     let UndefinedReferences { types, actions } = found;

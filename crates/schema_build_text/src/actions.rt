@@ -2,7 +2,8 @@ ghost use Rattle.std.specs.Prelude.{◌++◌, OnOk, true, codes, map};
 ghost use Rattle.cedar_data.specs.Rows.{joined_by};
 ghost use Rattle.cedar_identifiers.specs.Names.{name_text};
 ghost use Rattle.cedar_names.specs.CanonicalText.{spaces, parents_text, context_text, applies_text, action_name_text};
-ghost use Rattle.schema_build_types.specs.Content.{type_content, attributes_content, names_content, actions_in_order, action_content};
+ghost use Rattle.schema_build_types.specs.Content.{type_content, attributes_content, names_content, actions_in_order};
+ghost use Rattle.schema_build_types.specs.Content.{action_content};
 ghost use Rattle.schema_syntax_tokens.specs.Quotes.{quoted};
 ghost use Rattle.schema_build_text.specs.Adds.{Adds};
 ghost use Rattle.schema_build_text.specs.Readings.{plain_attributes, context_attributes, action_reading};
@@ -24,7 +25,8 @@ fn push_attributes(
     base: usize,
     entries: &[(Text, (Type, bool))],
 ) -> Result<(), AllocError>
-    ensures { OnOk result (Adds text.old text.new (context_text true base (plain_attributes (attributes_content entries.now)))) }
+    ensures { OnOk result (Adds text.old text.new
+        (context_text true base (plain_attributes (attributes_content entries.now)))) }
 {
     if entries.is_empty() {
         push(text, "{}")
@@ -40,7 +42,8 @@ fn push_context(
     base: usize,
     context: &Type,
 ) -> Result<(), AllocError>
-    ensures { OnOk result (Adds text.old text.new (context_text true base (context_attributes (type_content context.now)))) }
+    ensures { OnOk result (Adds text.old text.new
+        (context_text true base (context_attributes (type_content context.now)))) }
 {
     match context {
         Type::Record { attrs, .. } => push_attributes(text, alloc, base, attrs.as_slice()),
@@ -76,7 +79,8 @@ fn push_applies(
     resources: &[Name],
     context: &Type,
 ) -> Result<(), AllocError>
-    ensures { OnOk result (Adds text.old text.new (applies_text true base (names_content principals.now) (names_content resources.now) (context_attributes (type_content context.now)))) }
+    ensures { OnOk result (Adds text.old text.new (applies_text true base (names_content principals.now)
+        (names_content resources.now) (context_attributes (type_content context.now)))) }
 {
     if principals.is_empty() {
         return Ok(());
@@ -103,7 +107,9 @@ fn push_head(
     uid: &EntityUID,
     ancestors: &[Shared<EntityUID>],
 ) -> Result<(), AllocError>
-    ensures { OnOk result (Adds text.old text.new (codes "action " ++ (quoted uid.now.eid.0 ++ parents_text (map action_name_text (actions_in_order ancestors.now))))) }
+    ensures { OnOk result (Adds text.old text.new
+        (codes "action " ++ (quoted uid.now.eid.0
+        ++ parents_text (map action_name_text (actions_in_order ancestors.now))))) }
 {
     push(text, "action ")?;
     push_string(text, &uid.eid.0)?;
@@ -118,7 +124,8 @@ fn push_declaration(
     uid: &EntityUID,
     action: &ValidatorActionId,
 ) -> Result<(), AllocError>
-    ensures { OnOk result (Adds text.old text.new (action_declaration base (action_reading (action_content (uid.now, action.now))))) }
+    ensures { OnOk result (Adds text.old text.new
+        (action_declaration base (action_reading (action_content (uid.now, action.now))))) }
 {
     let ancestors = action.ancestors.as_slice();
     match &action.kind {
@@ -147,7 +154,8 @@ pub fn push_action(
     uid: &EntityUID,
     action: &ValidatorActionId,
 ) -> Result<(), AllocError>
-    ensures { OnOk result (Adds text.old text.new (spaces base ++ action_declaration base (action_reading (action_content (uid.now, action.now))))) }
+    ensures { OnOk result (Adds text.old text.new
+        (spaces base ++ action_declaration base (action_reading (action_content (uid.now, action.now))))) }
 {
     push_spaces(text, base)?;
     push_declaration(text, alloc, base, uid, action)

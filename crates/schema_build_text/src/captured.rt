@@ -104,7 +104,8 @@ fn item_holds(item: &Item<'_>) -> bool
 
 // The type of the first action of the item and those behind it, of which the first action has the other.
 fn first_action<'a>(item: &Item<'a>, behind: Option<&'a InternalName>) -> Option<&'a InternalName>
-    ensures { namespace_behind (option_copied result) ≡ action_at (item_content item.now) (namespace_behind (option_copied behind.entry)) }
+    ensures { namespace_behind (option_copied result)
+        ≡ action_at (item_content item.now) (namespace_behind (option_copied behind.entry)) }
 {
     match item {
         Item::EntityType(..) => behind,
@@ -128,7 +129,8 @@ fn is_captured(item: &Item<'_>, action: Option<&InternalName>) -> bool
 
 // The first captured item of items in the order of the walk, in which the actions of a namespace stand last.
 fn first_captured_item<'a>(items: &'a [Item<'a>]) -> Option<&'a Item<'a>>
-    ensures { (c : SchemaContent) → map item_content items.now ≡ walk c → option_map item_content (option_copied result) ≡ first_item (captured_items c) }
+    ensures { (c : SchemaContent) → map item_content items.now ≡ walk c → option_map item_content (option_copied result)
+        ≡ first_item (captured_items c) }
 {
     let mut found = None;
     let mut action = None;
@@ -146,7 +148,8 @@ fn first_captured_item<'a>(items: &'a [Item<'a>]) -> Option<&'a Item<'a>>
 
 // The namespace of a name, where it has one.
 fn namespace_name(alloc: Global, name: &Name) -> Result<Option<Name>, AllocError>
-    ensures { IfOk result (λ found. MatchOption found (namespace (components_of name.now.name) ≡ []) (λ n. components_of n.name ≡ namespace (components_of name.now.name))) }
+    ensures { IfOk result (λ found. MatchOption found (namespace (components_of name.now.name) ≡ [])
+        (λ n. components_of n.name ≡ namespace (components_of name.now.name))) }
 {
     match name.name.others.as_slice().split_last() {
         None => Ok(None),
@@ -200,7 +203,8 @@ fn type_name<'a>(item: &Item<'a>) -> &'a Name
 
 // What is said of the item, where its namespace has a name.
 fn capture(alloc: Global, item: &Item<'_>) -> Result<Option<ReferenceCaptured>, AllocError>
-    ensures { IfOk result (λ found. MatchOption found (namespace_of (item_content item.now) ≡ []) (IsAbout (item_content item.now))) }
+    ensures { IfOk result (λ found. MatchOption found (namespace_of (item_content item.now) ≡ [])
+        (IsAbout (item_content item.now))) }
 {
     match namespace_name(alloc, type_name(item))? {
         None => Ok(None),
@@ -216,7 +220,8 @@ pub fn first_captured_of(
     alloc: Global,
     items: &[Item<'_>],
 ) -> Result<Option<ReferenceCaptured>, AllocError>
-    ensures { IfOk result (λ found. (c : SchemaContent) → map item_content items.now ≡ walk c → MatchOption found (captured_items c ≡ []) (IsFirstOf (captured_items c))) }
+    ensures { IfOk result (λ found. (c : SchemaContent) → map item_content items.now ≡ walk c
+        → MatchOption found (captured_items c ≡ []) (IsFirstOf (captured_items c))) }
 {
     match first_captured_item(items) {
         None => Ok(None),

@@ -24,7 +24,8 @@ fn push_shape(
     base: usize,
     entries: &[(Text, (Type, bool))],
 ) -> Result<(), AllocError>
-    ensures { OnOk result (Adds text.old text.new (shape_text true base (plain_attributes (attributes_content entries.now)))) }
+    ensures { OnOk result (Adds text.old text.new
+        (shape_text true base (plain_attributes (attributes_content entries.now)))) }
 {
     if entries.is_empty() {
         return Ok(());
@@ -35,7 +36,8 @@ fn push_shape(
 
 // Adds ` tags ` and the type of the tags at no indentation, where there are tags.
 fn push_tags(text: &mut String, alloc: Global, tags: &Option<Boxed<Type>>) -> Result<(), AllocError>
-    ensures { OnOk result (Adds text.old text.new (tags_text true (option_map plain_type (option_map type_content tags.now)))) }
+    ensures { OnOk result (Adds text.old text.new
+        (tags_text true (option_map plain_type (option_map type_content tags.now)))) }
 {
     match tags {
         None => Ok(()),
@@ -56,7 +58,11 @@ fn push_standard(
     entries: &[(Text, (Type, bool))],
     tags: &Option<Boxed<Type>>,
 ) -> Result<(), AllocError>
-    ensures { OnOk result (Adds text.old text.new (codes "entity " ++ (basename (components_of name.now.name) ++ (parents_text (map name_text (names_content ancestors.now)) ++ (shape_text true base (plain_attributes (attributes_content entries.now)) ++ tags_text true (option_map plain_type (option_map type_content tags.now))))))) }
+    ensures { OnOk result (Adds text.old text.new
+        (codes "entity " ++ (basename (components_of name.now.name)
+        ++ (parents_text (map name_text (names_content ancestors.now))
+        ++ (shape_text true base (plain_attributes (attributes_content entries.now))
+        ++ tags_text true (option_map plain_type (option_map type_content tags.now))))))) }
 {
     push(text, "entity ")?;
     push_basename(text, &name.name)?;
@@ -67,7 +73,9 @@ fn push_standard(
 
 // Adds an enum up to its semicolon: its name and its choices.
 fn push_enum(text: &mut String, name: &Name, choices: &NonEmpty<Eid>) -> Result<(), AllocError>
-    ensures { OnOk result (Adds text.old text.new (codes "entity " ++ (basename (components_of name.now.name) ++ (codes " enum " ++ list_text (map quoted (map (λ c. c.0) choices.now)))))) }
+    ensures { OnOk result (Adds text.old text.new
+        (codes "entity " ++ (basename (components_of name.now.name)
+        ++ (codes " enum " ++ list_text (map quoted (map (λ c. c.0) choices.now)))))) }
 {
     push(text, "entity ")?;
     push_basename(text, &name.name)?;
@@ -82,7 +90,8 @@ fn push_external(
     name: &Name,
     ancestors: &[Shared<Name>],
 ) -> Result<(), AllocError>
-    ensures { OnOk result (Adds text.old text.new (codes "external entity " ++ (basename (components_of name.now.name) ++ parents_text (map name_text (names_content ancestors.now))))) }
+    ensures { OnOk result (Adds text.old text.new (codes "external entity "
+        ++ (basename (components_of name.now.name) ++ parents_text (map name_text (names_content ancestors.now))))) }
 {
     push(text, "external entity ")?;
     push_basename(text, &name.name)?;
@@ -97,7 +106,8 @@ fn push_declaration(
     name: &Name,
     entity: &ValidatorEntityType,
 ) -> Result<(), AllocError>
-    ensures { OnOk result (Adds text.old text.new (entity_declaration base (entity_reading (entity_content (name.now, entity.now))))) }
+    ensures { OnOk result (Adds text.old text.new
+        (entity_declaration base (entity_reading (entity_content (name.now, entity.now))))) }
 {
     let ancestors = entity.ancestors.as_slice();
     match &entity.kind {
@@ -127,7 +137,8 @@ pub fn push_entity_type(
     name: &Name,
     entity: &ValidatorEntityType,
 ) -> Result<(), AllocError>
-    ensures { OnOk result (Adds text.old text.new (spaces base ++ entity_declaration base (entity_reading (entity_content (name.now, entity.now))))) }
+    ensures { OnOk result (Adds text.old text.new
+        (spaces base ++ entity_declaration base (entity_reading (entity_content (name.now, entity.now))))) }
 {
     push_spaces(text, base)?;
     push_declaration(text, alloc, base, name, entity)

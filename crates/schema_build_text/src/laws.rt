@@ -11,10 +11,11 @@ pub fn meanings_are_read_back()
     ensures { (m : SchemaMeaning) → schema_reading (schema_as_built m) ≡ m }
 {}
 
-/// Nothing of the empty namespace is captured, nor of one without actions; and nothing of a meaning without actions in named
-/// namespaces.
+/// Nothing of the empty namespace is captured, nor of one without actions; and nothing of a meaning without actions in
+/// named namespaces.
 pub fn captured_items_are_beside_named_actions()
     ensures empty { (c : SchemaContent) → captured_in c [] ≡ [] }
     ensures alone { (c : SchemaContent) (n : List (List ℕ)) → has_action c n ≡ false → captured_in c n ≡ [] }
-    ensures all { (m : SchemaMeaning) → ((n : List ℕ) (ns : List (List ℕ)) → has_action (schema_as_built m) (n ∷ ns) ≡ false) → IsUncaptured m }
+    ensures all { (m : SchemaMeaning) → ((n : List ℕ) (ns : List (List ℕ)) → has_action (schema_as_built m) (n ∷ ns)
+        ≡ false) → IsUncaptured m }
 {}

@@ -84,7 +84,8 @@ pub fn push_break(
     before: &InternalName,
     behind: &InternalName,
 ) -> Result<(), AllocError>
-    ensures { OnOk result (Adds text.old text.new (item_end ++ break_between (namespace (components_of before.now)) (namespace (components_of behind.now)))) }
+    ensures { OnOk result (Adds text.old text.new (item_end ++ break_between (namespace (components_of before.now))
+        (namespace (components_of behind.now)))) }
 {
     if are_together(before, behind) {
         return push(text, ";\n\n");

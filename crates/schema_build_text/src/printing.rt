@@ -24,7 +24,8 @@ fn push_before(
     before: Option<&InternalName>,
     name: &InternalName,
 ) -> Result<(), AllocError>
-    ensures { OnOk result (Adds text.old text.new (break_text (namespace_behind (option_copied before.entry)) (namespace (components_of name.now)))) }
+    ensures { OnOk result (Adds text.old text.new (break_text (namespace_behind (option_copied before.entry))
+        (namespace (components_of name.now)))) }
 {
     match before {
         None => push_opening(text, name),
@@ -44,7 +45,8 @@ fn push_after(text: &mut String, last: Option<&InternalName>) -> Result<(), Allo
 
 /// The text of items that stand in the order of the walk.
 pub fn print_items(alloc: Global, items: &[Item<'_>]) -> Result<Text, AllocError>
-    ensures { IfOk result (λ text. (c : SchemaContent) → map item_content items.now ≡ walk c → encode_utf8_all text ≡ canonical_text (schema_reading c)) }
+    ensures { IfOk result (λ text. (c : SchemaContent) → map item_content items.now ≡ walk c
+        → encode_utf8_all text ≡ canonical_text (schema_reading c)) }
 {
     let mut text = String::with_capacity(alloc, items.len().saturating_mul(BYTES_OF_AN_ITEM))?;
     let mut before = None;

@@ -111,7 +111,8 @@ fn push_set<T: Listed>(text: &mut String, set: BTreeSet<&T>) -> Result<(), Alloc
 
 // Adds the items in order, each once, with `, ` between two. They mostly stand so, and nothing is taken then.
 fn push_in_order<T: Listed>(text: &mut String, alloc: Global, items: &[T]) -> Result<(), AllocError>
-    ensures { OnOk result (Adds text.old text.new (joined_by (codes ", ") (map T.shown (sorted_once T.cmp items.now)))) }
+    ensures { OnOk result (Adds text.old text.new
+        (joined_by (codes ", ") (map T.shown (sorted_once T.cmp items.now)))) }
 {
     if is_rising(items) {
         push_row(text, items)
@@ -157,7 +158,8 @@ pub fn push_action_parents(
     alloc: Global,
     actions: &[Shared<EntityUID>],
 ) -> Result<(), AllocError>
-    ensures { OnOk result (Adds text.old text.new (parents_text (map action_name_text (actions_in_order actions.now)))) }
+    ensures { OnOk result (Adds text.old text.new
+        (parents_text (map action_name_text (actions_in_order actions.now)))) }
 {
     push_parents(text, alloc, actions)
 }

@@ -80,7 +80,8 @@ fn short_line(ty: &Type) -> Option<&'static str>
 // Adds what stands behind the name of a required attribute, to the end of its line.
 #[cycle(push_type)]
 fn push_line(text: &mut String, alloc: Global, base: usize, ty: &Type) -> Result<(), AllocError>
-    ensures { OnOk result (Adds text.old text.new (codes ": " ++ (type_text true base (plain_type (type_content ty.now)) ++ codes ",\n"))) }
+    ensures { OnOk result (Adds text.old text.new (codes ": " ++ (type_text true base (plain_type (type_content ty.now))
+        ++ codes ",\n"))) }
 {
     match short_line(ty) {
         Some(line) => push(text, line),
@@ -100,7 +101,8 @@ pub fn push_record(
     base: usize,
     entries: &[(Text, (Type, bool))],
 ) -> Result<(), AllocError>
-    ensures { OnOk result (Adds text.old text.new (record_text true base (plain_attributes (attributes_content entries.now)))) }
+    ensures { OnOk result (Adds text.old text.new
+        (record_text true base (plain_attributes (attributes_content entries.now)))) }
 {
     if entries.is_empty() {
         push(text, "{")?;
@@ -120,7 +122,8 @@ pub fn push_members(
     base: usize,
     entries: &[(Text, (Type, bool))],
 ) -> Result<(), AllocError>
-    ensures { OnOk result (Adds text.old text.new (lines_text true base (plain_attributes (attributes_content entries.now)) ++ (spaces base ++ codes "}"))) }
+    ensures { OnOk result (Adds text.old text.new
+        (lines_text true base (plain_attributes (attributes_content entries.now)) ++ (spaces base ++ codes "}"))) }
 {
     push_entries(text, alloc, base, entries)?;
     push_spaces(text, base)?;
@@ -135,7 +138,8 @@ fn push_entries(
     base: usize,
     entries: &[(Text, (Type, bool))],
 ) -> Result<(), AllocError>
-    ensures { OnOk result (Adds text.old text.new (lines_text true base (plain_attributes (attributes_content entries.now)))) }
+    ensures { OnOk result (Adds text.old text.new
+        (lines_text true base (plain_attributes (attributes_content entries.now)))) }
 {
     let inner = deeper(base)?;
     for (name, (ty, required)) in entries {

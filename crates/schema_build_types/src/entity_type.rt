@@ -22,8 +22,8 @@ impl Drop for ValidatorEntityType {
 
 /// What is declared of an entity type.
 pub enum ValidatorEntityTypeKind {
-    /// Its attributes, each with its type and its required mark, whether its entities may have more of them, and the type of
-    /// its tags where it has tags.
+    /// Its attributes, each with its type and its required mark, whether its entities may have more of them, and the
+    /// type of its tags where it has tags.
     Standard {
         attributes: Map<Text, (Type, bool)>,
         more: bool,

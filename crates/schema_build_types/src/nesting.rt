@@ -5,8 +5,8 @@ ghost use Rattle.schema_build_types.specs.Nesting.{is_deeper, some_are_deeper};
 use crate::types::Type;
 use cedar_data::Text;
 
-/// How deep sets and records may be nested in a type of a built schema. Functions that copy, compare and print types call
-/// themselves once for each level, so this bounds the stack that they take.
+/// How deep sets and records may be nested in a type of a built schema. Functions that copy, compare and print types
+/// call themselves once for each level, so this bounds the stack that they take.
 pub const DEEPEST: usize = 4096;
 
 /// Whether sets and records are nested in the type more than `most` deep. It looks no deeper than that.

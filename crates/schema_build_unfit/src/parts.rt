@@ -24,7 +24,8 @@ fn is_action_type(name: &Name) -> bool
 
 /// The first action whose type has another basename than `Action`.
 pub fn first_misnamed(actions: &[(EntityUID, ValidatorActionId)]) -> Option<&EntityUID>
-    ensures { MatchOption result (NoneIs IsMisnamed actions.now) (λ uid. (action : Action) × IsFirstThat IsMisnamed actions.now (uid.now, action)) }
+    ensures { MatchOption result (NoneIs IsMisnamed actions.now) (λ uid. (action : Action)
+        × IsFirstThat IsMisnamed actions.now (uid.now, action)) }
 {
     for (uid, _) in actions {
         if !is_action_type(&uid.ty) {
@@ -51,7 +52,8 @@ fn least<'a>(first: &'a Name, others: &'a [Shared<Name>]) -> &'a Name
 
 // The least ancestor of an enumerated entity type.
 fn enum_ancestor(ty: &ValidatorEntityType) -> Option<&Name>
-    ensures { MatchOption result (IsEnumBelow ty.now → ⊥) (λ name. IsEnumBelow ty.now × IsLeastName ty.now.ancestors name.now) }
+    ensures { MatchOption result (IsEnumBelow ty.now → ⊥) (λ name. IsEnumBelow ty.now
+        × IsLeastName ty.now.ancestors name.now) }
 {
     match &ty.kind {
         ValidatorEntityTypeKind::Enum(_) => match ty.ancestors.as_slice().split_first() {
@@ -64,7 +66,8 @@ fn enum_ancestor(ty: &ValidatorEntityType) -> Option<&Name>
 
 /// The first enumerated entity type with ancestors, and the least ancestor of it.
 pub fn first_enum_below(entities: &[(Name, ValidatorEntityType)]) -> Option<(&Name, &Name)>
-    ensures { MatchOption result (NoneIs (λ e. IsEnumBelow e.1) entities.now) (λ found. (ty : EntityType) × IsFirstThat (λ e. IsEnumBelow e.1) entities.now (found.0.now, ty) × IsLeastName ty.ancestors found.1.now) }
+    ensures { MatchOption result (NoneIs (λ e. IsEnumBelow e.1) entities.now) (λ found. (ty : EntityType)
+        × IsFirstThat (λ e. IsEnumBelow e.1) entities.now (found.0.now, ty) × IsLeastName ty.ancestors found.1.now) }
 {
     for (name, ty) in entities {
         if let Some(ancestor) = enum_ancestor(ty) {

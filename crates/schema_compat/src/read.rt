@@ -8,7 +8,8 @@ ghost use Rattle.schema_json_io.specs.Causes.{IsValueCauseBy, IsTextCauseBy};
 ghost use Rattle.schema_json_io.specs.Texts.{Holds};
 ghost use Rattle.schema_compat_shapes.specs.OldParts.{IsOldRead};
 ghost use Rattle.schema_compat_convert.specs.Converted.{IsConverted};
-ghost use Rattle.schema_compat.specs.Causes.{OldText, OldValue, IsReadFault, IsConversionError, IsOldTextError, IsOldValueError};
+ghost use Rattle.schema_compat.specs.Causes.{OldText, OldValue, IsReadFault, IsConversionError, IsOldTextError};
+ghost use Rattle.schema_compat.specs.Causes.{IsOldValueError};
 
 use cedar_data::Text;
 use cedar_identifiers::RawName;
@@ -48,7 +49,8 @@ fn read_value(alloc: Global, value: &Value) -> Result<SchemaFragment, JsonFault>
     read_whole(alloc, value)
 }
 
-// The data that the value of a text is read as, or the fault. Mostly the text has no number, and floats are not looked for.
+// The data that the value of a text is read as, or the fault. Mostly the text has no number, and floats are not looked
+// for.
 fn read_text(alloc: Global, text: &str, value: &Value) -> Result<SchemaFragment, JsonFault>
     requires { read text.now ≡ Some (view value.now) }
     ensures { MatchResult result (λ s. (d : Data) × Holds text.now d × IsOldRead d s)
@@ -110,9 +112,10 @@ fn read_any(alloc: Global, json: &str) -> Result<Fragment<RawName>, JsonDeserial
     }
 }
 
-/// The fragment that a JSON text says in the deprecated form. Refused are, in this order: a text that is no JSON, a key that
-/// an object has twice, a number that is no whole number of 64 bits, the first fault of reading the value, and the first fault
-/// of the data that is read. Mostly the text has neither a repeated key nor a number, and is read in one pass.
+/// The fragment that a JSON text says in the deprecated form. Refused are, in this order: a text that is no JSON, a key
+/// that an object has twice, a number that is no whole number of 64 bits, the first fault of reading the value, and the
+/// first fault of the data that is read. Mostly the text has neither a repeated key nor a number, and is read in one
+/// pass.
 pub fn from_deprecated_json_str(
     alloc: Global,
     json: &str,
@@ -126,8 +129,8 @@ pub fn from_deprecated_json_str(
     }
 }
 
-/// The fragment that a JSON value says in the deprecated form. Refused are a number that is no whole number of 64 bits, and
-/// else the first fault of reading the value, or of the data that is read.
+/// The fragment that a JSON value says in the deprecated form. Refused are a number that is no whole number of 64 bits,
+/// and else the first fault of reading the value, or of the data that is read.
 pub fn from_deprecated_json_value(
     alloc: Global,
     json: Value,
@@ -148,8 +151,8 @@ pub trait FragmentDeprecated: Drop {
     /// The value says it.
     ghost SaidByOldValue: { Data → Self → Type 0 };
 
-    /// What the JSON text says in the deprecated form, or its first fault as `from_deprecated_json_str` orders them; or out
-    /// of memory.
+    /// What the JSON text says in the deprecated form, or its first fault as `from_deprecated_json_str` orders them; or
+    /// out of memory.
     fn from_deprecated_json_str(alloc: Global, json: &str) -> Result<Self, JsonDeserializationError>
         ensures { MatchResult result (SaidByOldText json.now) (IsOldTextError json.now) };
 

@@ -31,7 +31,8 @@ fn convert_entries(
     alloc: Global,
     entries: Vec<(Text, OldNamespace)>,
 ) -> Result<Vec<(Option<Name>, NamespaceDefinition<RawName>)>, ShapeFault>
-    ensures { ReadsValue result (flat_map asks_entry entries.items) (λ out. AllZip EntryBecomes entries.items out.items) }
+    ensures { ReadsValue result (flat_map asks_entry entries.items)
+        (λ out. AllZip EntryBecomes entries.items out.items) }
 {
     let mut out = Vec::new(alloc);
     for (name, namespace) in entries {

@@ -4,7 +4,8 @@ ghost use Rattle.std.specs.List.{AllZip};
 ghost use Rattle.std.specs.Option.{option_map_or};
 ghost use Rattle.schema_json_shapes.specs.Reads.{ReadsValue};
 ghost use Rattle.schema_compat_convert.specs.Demands.{asks_type, asks_entity, asks_action, asks_apply, asks_field};
-ghost use Rattle.schema_compat_convert.specs.Converted.{CommonTypeBecomes, EntityTypeBecomes, ActionBecomes, ApplyBecomes, UidBecomes, OptionBecomes, no_names};
+ghost use Rattle.schema_compat_convert.specs.Converted.{CommonTypeBecomes, EntityTypeBecomes, ActionBecomes};
+ghost use Rattle.schema_compat_convert.specs.Converted.{ApplyBecomes, UidBecomes, OptionBecomes, no_names};
 
 use crate::convert::Convert;
 use crate::types::convert_type;

@@ -71,7 +71,8 @@ fn convert_attributes(
     alloc: Global,
     attributes: Vec<(Text, OldAttribute)>,
 ) -> Result<Vec<(Text, TypeOfAttribute<RawName>)>, ShapeFault>
-    ensures { ReadsValue result (asks_attributes attributes.items) (λ out. AttributesBecome attributes.items out.items) }
+    ensures { ReadsValue result (asks_attributes attributes.items)
+        (λ out. AttributesBecome attributes.items out.items) }
 {
     let mut out = Vec::new(alloc);
     for (name, attribute) in attributes {

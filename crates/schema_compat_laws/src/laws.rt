@@ -6,7 +6,10 @@ ghost use Rattle.schema_json_shapes.specs.declared.shape_fault.ShapeFault.{Shape
 ghost use Rattle.schema_compat_shapes.specs.OldParts.{IsOldFragment, IsOldRead, IsFirstOldFault};
 ghost use Rattle.cedar_identifiers.specs.declared.raw_name.RawName.{RawName as Raw};
 ghost use Rattle.schema_json.specs.declared.fragment.Fragment.{Fragment};
-ghost use Rattle.schema_json_errors.specs.declared.json_error.JsonDeserializationError.{JsonDeserializationError as Error};
+ghost use Rattle.schema_json_errors.specs.declared.json_error.JsonDeserializationError.{
+  JsonDeserializationError as
+      Error,
+};
 ghost use Rattle.schema_json_errors.specs.declared.json_fault.JsonFault.TheVariants.{Memory};
 ghost use Rattle.schema_compat.specs.Causes.{OldText, IsOldTextError};
 

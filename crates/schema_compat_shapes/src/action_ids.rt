@@ -56,7 +56,8 @@ fn read_action_ids(alloc: Global, items: &Vec<Value>) -> Result<List<ActionEntit
 }
 
 fn read_action_id(alloc: Global, value: &Value) -> Result<ActionEntityUID, ShapeFault>
-    ensures { ReadsValue result (demands action_id (codes "memberOf") (view value.now)) (IsOldActionId (view value.now)) }
+    ensures { ReadsValue result (demands action_id (codes "memberOf") (view value.now))
+        (IsOldActionId (view value.now)) }
 {
     match value.as_object() {
         Some(members) => read_id_members(alloc, members),

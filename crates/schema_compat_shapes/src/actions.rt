@@ -5,7 +5,8 @@ ghost use Rattle.serde_json.specs.Find.{get_member};
 ghost use Rattle.schema_json_shapes.specs.Walk.{names, or_null};
 ghost use Rattle.schema_json_shapes.specs.Said.{IsNamed, IsList, IsOptional, not_null};
 ghost use Rattle.schema_json_shapes.specs.Reads.{ReadsValue, field_demands};
-ghost use Rattle.schema_compat_shapes.specs.OldWalk.{at_field, old_action_demands, old_action_members, old_applies_to_demands, old_applies_to_members};
+ghost use Rattle.schema_compat_shapes.specs.OldWalk.{at_field, old_action_demands, old_action_members};
+ghost use Rattle.schema_compat_shapes.specs.OldWalk.{old_applies_to_demands, old_applies_to_members};
 ghost use Rattle.schema_compat_shapes.specs.OldParts.{IsOldAction, IsOldActionIn, IsOldAppliesTo, IsOldAppliesToIn};
 
 use crate::action_ids::parents_at;

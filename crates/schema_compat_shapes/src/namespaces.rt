@@ -8,8 +8,11 @@ ghost use Rattle.schema_json_shapes.specs.Said.{IsId, IsText, IsMap, IsMapOrNone
 ghost use Rattle.schema_json_shapes.specs.Shapes.{IsCommonId};
 ghost use Rattle.schema_json_shapes.specs.Reads.{ReadsValue};
 ghost use Rattle.schema_json_shapes.specs.Entries.{each_entry, of_object};
-ghost use Rattle.schema_compat_shapes.specs.OldWalk.{at_field, old_action_demands, old_common_type_demands, old_entity_type_demands, old_namespace_demands, old_namespace_members};
-ghost use Rattle.schema_compat_shapes.specs.OldParts.{IsOldType, IsOldEntityType, IsOldAction, IsOldNamespace, IsOldNamespaceIn};
+ghost use Rattle.schema_compat_shapes.specs.OldWalk.{at_field, old_action_demands, old_common_type_demands};
+ghost use Rattle.schema_compat_shapes.specs.OldWalk.{old_entity_type_demands, old_namespace_demands};
+ghost use Rattle.schema_compat_shapes.specs.OldWalk.{old_namespace_members};
+ghost use Rattle.schema_compat_shapes.specs.OldParts.{IsOldType, IsOldEntityType, IsOldAction, IsOldNamespace};
+ghost use Rattle.schema_compat_shapes.specs.OldParts.{IsOldNamespaceIn};
 
 use crate::actions::read_action;
 use crate::entity_types::read_entity_type;

@@ -4,7 +4,9 @@ ghost use Rattle.serde_json.specs.Data.{object, string};
 ghost use Rattle.serde_json.specs.View.{view, members_view};
 ghost use Rattle.serde_json.specs.Find.{get_member, as_object};
 ghost use Rattle.schema_json_shapes.specs.Walk.{flag_or};
-ghost use Rattle.schema_compat_shapes.specs.OldTypes.{is_text, is_flag_or_none, object_members, is_old_type, is_old_attribute, are_all_attributes, are_old_attributes, inner_reads, has_no_other, ignores_others, reads_as_shape};
+ghost use Rattle.schema_compat_shapes.specs.OldTypes.{is_text, is_flag_or_none, object_members, is_old_type};
+ghost use Rattle.schema_compat_shapes.specs.OldTypes.{is_old_attribute, are_all_attributes, are_old_attributes};
+ghost use Rattle.schema_compat_shapes.specs.OldTypes.{inner_reads, has_no_other, ignores_others, reads_as_shape};
 
 use crate::tables::type_fields;
 use schema_json_shapes::TypeWord;

@@ -2,7 +2,8 @@
 ghost use Rattle.std.specs.Prelude.{◌≡◌, true, false};
 ghost use Rattle.schema_json_shapes.specs.Seen.{table};
 ghost use Rattle.schema_compat_shapes.specs.OldTypes.{old_type_fields};
-ghost use Rattle.schema_compat_shapes.specs.OldWalk.{old_namespace_fields, old_entity_type_fields, old_action_fields, old_applies_to_fields};
+ghost use Rattle.schema_compat_shapes.specs.OldWalk.{old_namespace_fields, old_entity_type_fields, old_action_fields};
+ghost use Rattle.schema_compat_shapes.specs.OldWalk.{old_applies_to_fields};
 
 use schema_json_shapes::TypeWord;
 use schema_json_shapes::tables::{

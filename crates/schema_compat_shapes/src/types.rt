@@ -3,7 +3,9 @@ ghost use Rattle.std.specs.Prelude.{◌≡◌, true, false, codes, IfOk};
 ghost use Rattle.serde_json.specs.View.{view, members_view};
 ghost use Rattle.serde_json.specs.Find.{get_member, as_object};
 ghost use Rattle.schema_json_shapes.specs.Said.{HasWord};
-ghost use Rattle.schema_compat_shapes.specs.OldTypes.{is_text, object_members, is_old_attribute, are_all_attributes, are_old_attributes, is_old_type, inner_reads, SaysOldType, SaysOldVariant, SayOldAttributes};
+ghost use Rattle.schema_compat_shapes.specs.OldTypes.{is_text, object_members, is_old_attribute, are_all_attributes};
+ghost use Rattle.schema_compat_shapes.specs.OldTypes.{are_old_attributes, is_old_type, inner_reads, SaysOldType};
+ghost use Rattle.schema_compat_shapes.specs.OldTypes.{SaysOldVariant, SayOldAttributes};
 ghost use Rattle.schema_compat_shapes.specs.OldParts.{IsOldAttribute};
 
 use crate::readable::{attributes_in, flag_in, reads_as_shape, text_in, type_in};
@@ -62,7 +64,8 @@ fn read_variant(
 #[cycle(types)]
 fn read_set(alloc: Global, members: &Members) -> Result<SchemaTypeVariant, AllocError>
     requires word { HasWord (members_view members.now.entries) TypeWord.Set }
-    requires reads { is_old_type (object_members (get_member (codes "element") (members_view members.now.entries))) ≡ true }
+    requires reads { is_old_type (object_members (get_member (codes "element") (members_view members.now.entries)))
+        ≡ true }
     ensures { IfOk result (λ v. SaysOldVariant (members_view members.now.entries) v) }
 {
     let inner = type_in(members, "element");

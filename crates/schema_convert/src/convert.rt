@@ -81,8 +81,8 @@ fn through_tree(
 }
 
 /// The fragment that a schema text stands for, with its warnings, or the fault that keeps it from having a tree, or all
-/// faults that keep its tree from being a fragment. Where nothing is to be said of the text, each item of it is translated
-/// as it is read, and no tree is made.
+/// faults that keep its tree from being a fragment. Where nothing is to be said of the text, each item of it is
+/// translated as it is read, and no tree is made.
 pub fn parse_cedar_schema_fragment(
     alloc: Global,
     src: &str,

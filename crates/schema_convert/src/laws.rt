@@ -19,15 +19,18 @@ pub fn names_are_own()
     ensures { (tree : List (Annotated Namespace)) → HaveOwnNames (joined tree) }
 {}
 
-/// Where several openings of a namespace have one annotation key, the earliest of them gives its value, or gives it none.
+/// Where several openings of a namespace have one annotation key, the earliest of them gives its value, or gives it
+/// none.
 pub fn first_openings_have_values()
-    ensures { (key : AnyId) (openings : List (Annotated Namespace)) → value_at_key key (first_values openings) ≡ first_some (λ n. value_at_key key n.annotations) openings }
+    ensures { (key : AnyId) (openings : List (Annotated Namespace)) → value_at_key key (first_values openings)
+        ≡ first_some (λ n. value_at_key key n.annotations) openings }
 {}
 
 /// No repeat is found exactly where no item is the same as one before it, and else the first repeat is found.
 pub fn repeats_are_first<T: Ord>()
     ensures none { (items : List T) → first_repeat T.cmp items ≡ None ↔ NoneRepeats T.cmp items }
-    ensures some { (items : List T) (first repeat : T) → first_repeat T.cmp items ≡ Some (first, repeat) ↔ IsFirstRepeat T.cmp items first repeat }
+    ensures some { (items : List T) (first repeat : T) → first_repeat T.cmp items ≡ Some (first, repeat)
+        ↔ IsFirstRepeat T.cmp items first repeat }
 {}
 
 /// A tree has no fault exactly where it can be translated: no name is reserved, none is declared twice in its kind and
@@ -36,13 +39,15 @@ pub fn lawful_trees()
     ensures { (tree : List (Annotated Namespace)) → translation_faults tree ≡ [] ↔ IsTranslatable tree }
 {}
 
-/// A tree without faults is warned exactly of its declared types that have the name of a builtin type, and of its common
-/// types that have the name of an entity type of their namespace.
+/// A tree without faults is warned exactly of its declared types that have the name of a builtin type, and of its
+/// common types that have the name of an entity type of their namespace.
 pub fn warnings_are_of()
-    ensures { (tree : List (Annotated Namespace)) (table : ExtensionTable) (w : SchemaWarning) → translation_faults tree ≡ [] → IsAmong w (shadowings tree table) ↔ IsWarnedOf tree table w }
+    ensures { (tree : List (Annotated Namespace)) (table : ExtensionTable) (w : SchemaWarning) → translation_faults tree
+        ≡ [] → IsAmong w (shadowings tree table) ↔ IsWarnedOf tree table w }
 {}
 
 /// A tree of which nothing is to be said is translated namespace by namespace, with no warning.
 pub fn plain_trees()
-    ensures { (table : ExtensionTable) (tree : List (Annotated Namespace)) → IsPlainTree table tree → IsTranslation tree table (fragment_of (namespaces_apart tree)) [] }
+    ensures { (table : ExtensionTable) (tree : List (Annotated Namespace)) → IsPlainTree table tree
+        → IsTranslation tree table (fragment_of (namespaces_apart tree)) [] }
 {}

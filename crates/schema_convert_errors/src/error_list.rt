@@ -78,7 +78,7 @@ impl ToJsonSchemaErrors {
         self.errors.first().labels(alloc)
     }
 
-    /// How grave the first fault is.
+    /// The severity of the first fault.
     pub fn severity(&self) -> Severity
         ensures error { result ≡ Severity.Error }
     {
@@ -114,7 +114,7 @@ impl ToJsonSchemaFailure {
         }
     }
 
-    /// Advice, where it has any.
+    /// Its advice, if it has any.
     pub fn help(&self, alloc: Global, source: &str) -> Result<Option<Text>, AllocError>
         ensures help { IfOk result (λ help. help ≡ failure_help self.now) }
     {
@@ -134,7 +134,7 @@ impl ToJsonSchemaFailure {
         }
     }
 
-    /// How grave it is: an error.
+    /// Its severity: an error.
     pub fn severity(&self) -> Severity
         ensures error { result ≡ Severity.Error }
     {
@@ -176,7 +176,7 @@ impl CedarSchemaParseErrors {
         }
     }
 
-    /// Advice, where it has any.
+    /// Its advice, if it has any.
     pub fn help(&self, alloc: Global, source: &str) -> Result<Option<Text>, AllocError>
         ensures help { IfOk result (λ help. help ≡ text_failure_help self.now source.now) }
     {
@@ -200,7 +200,7 @@ impl CedarSchemaParseErrors {
         }
     }
 
-    /// How grave it is: an error.
+    /// Its severity: an error.
     pub fn severity(&self) -> Severity
         ensures error { result ≡ Severity.Error }
     {

@@ -2,10 +2,13 @@
 ghost use Rattle.std.specs.Prelude.{◌≡◌, ◌++◌, [], Ok, Some, None, IfOk};
 ghost use Rattle.schema_syntax_errors.specs.FaultLabels.{unnamed_label};
 ghost use Rattle.schema_convert_errors.specs.declared.errors.MissingOrEmpty.TheVariants.{Empty};
-ghost use Rattle.schema_convert_errors.specs.ErrorTexts.{second_text, absent_text, empty_text, declared_twice_text, second_context_text, second_targets_text};
-ghost use Rattle.schema_convert_errors.specs.ErrorTexts.{no_targets_text, namespace_twice_text, unknown_name_text, reserved_name_text};
+ghost use Rattle.schema_convert_errors.specs.ErrorTexts.{second_text, absent_text, empty_text, declared_twice_text};
+ghost use Rattle.schema_convert_errors.specs.ErrorTexts.{second_context_text, second_targets_text};
+ghost use Rattle.schema_convert_errors.specs.ErrorTexts.{no_targets_text, namespace_twice_text, unknown_name_text};
+ghost use Rattle.schema_convert_errors.specs.ErrorTexts.{reserved_name_text};
 ghost use Rattle.schema_convert_errors.specs.ErrorTexts.{keyword_text, translation_fault_text};
-ghost use Rattle.schema_convert_errors.specs.ErrorPlaces.{second_context_help, second_targets_help, no_targets_help, unknown_name_help};
+ghost use Rattle.schema_convert_errors.specs.ErrorPlaces.{second_context_help, second_targets_help, no_targets_help};
+ghost use Rattle.schema_convert_errors.specs.ErrorPlaces.{unknown_name_help};
 ghost use Rattle.schema_convert_errors.specs.ErrorPlaces.{reserved_name_help, keyword_help, missing_labels};
 ghost use Rattle.schema_convert_errors.specs.ErrorPlaces.{translation_fault_help, translation_fault_labels};
 
@@ -47,7 +50,7 @@ impl DuplicateDeclarations {
         around(alloc, "`", &self.decl, "` is declared twice")
     }
 
-    /// Advice, of which it has none.
+    /// It has no advice.
     pub fn help(&self, _alloc: Global, _source: &str) -> Result<Option<Text>, AllocError>
         ensures none { result ≡ Ok None }
     {
@@ -56,12 +59,13 @@ impl DuplicateDeclarations {
 
     /// The places that it points to.
     pub fn labels(&self, alloc: Global) -> Result<Vec<Label>, AllocError>
-        ensures labels { IfOk result (λ labels. labels.items ≡ unnamed_label self.now.loc1 ++ unnamed_label self.now.loc2) }
+        ensures labels { IfOk result (λ labels. labels.items ≡ unnamed_label self.now.loc1
+            ++ unnamed_label self.now.loc2) }
     {
         bare_labels(alloc, self.loc1, self.loc2)
     }
 
-    /// How grave it is: an error.
+    /// Its severity: an error.
     pub fn severity(&self) -> Severity
         ensures error { result ≡ Severity.Error }
     {
@@ -82,7 +86,7 @@ impl DuplicateContext {
         )
     }
 
-    /// How it is mended.
+    /// How to mend it.
     pub fn help(&self, alloc: Global, _source: &str) -> Result<Option<Text>, AllocError>
         ensures help { IfOk result (λ help. help ≡ Some second_context_help) }
     {
@@ -91,12 +95,13 @@ impl DuplicateContext {
 
     /// The places that it points to.
     pub fn labels(&self, alloc: Global) -> Result<Vec<Label>, AllocError>
-        ensures labels { IfOk result (λ labels. labels.items ≡ unnamed_label self.now.loc1 ++ unnamed_label self.now.loc2) }
+        ensures labels { IfOk result (λ labels. labels.items ≡ unnamed_label self.now.loc1
+            ++ unnamed_label self.now.loc2) }
     {
         bare_labels(alloc, self.loc1, self.loc2)
     }
 
-    /// How grave it is: an error.
+    /// Its severity: an error.
     pub fn severity(&self) -> Severity
         ensures error { result ≡ Severity.Error }
     {
@@ -112,7 +117,7 @@ impl DuplicatePrincipalOrResource {
         second_text(alloc, self.kind, &self.name)
     }
 
-    /// How it is mended.
+    /// How to mend it.
     pub fn help(&self, alloc: Global, _source: &str) -> Result<Option<Text>, AllocError>
         ensures help { IfOk result (λ help. help ≡ Some (second_targets_help self.now.kind)) }
     {
@@ -124,12 +129,13 @@ impl DuplicatePrincipalOrResource {
 
     /// The places that it points to.
     pub fn labels(&self, alloc: Global) -> Result<Vec<Label>, AllocError>
-        ensures labels { IfOk result (λ labels. labels.items ≡ unnamed_label self.now.loc1 ++ unnamed_label self.now.loc2) }
+        ensures labels { IfOk result (λ labels. labels.items ≡ unnamed_label self.now.loc1
+            ++ unnamed_label self.now.loc2) }
     {
         bare_labels(alloc, self.loc1, self.loc2)
     }
 
-    /// How grave it is: an error.
+    /// Its severity: an error.
     pub fn severity(&self) -> Severity
         ensures error { result ≡ Severity.Error }
     {
@@ -148,7 +154,7 @@ impl NoPrincipalOrResource {
         }
     }
 
-    /// How it is mended.
+    /// How to mend it.
     pub fn help(&self, alloc: Global, _source: &str) -> Result<Option<Text>, AllocError>
         ensures help { IfOk result (λ help. help ≡ Some no_targets_help) }
     {
@@ -157,7 +163,8 @@ impl NoPrincipalOrResource {
 
     /// The places that it points to.
     pub fn labels(&self, alloc: Global) -> Result<Vec<Label>, AllocError>
-        ensures labels { IfOk result (λ labels. labels.items ≡ missing_labels self.now.missing_or_empty self.now.name_loc) }
+        ensures labels { IfOk result (λ labels. labels.items
+            ≡ missing_labels self.now.missing_or_empty self.now.name_loc) }
     {
         match self.missing_or_empty {
             MissingOrEmpty::Missing => bare_label(alloc, self.name_loc),
@@ -165,7 +172,7 @@ impl NoPrincipalOrResource {
         }
     }
 
-    /// How grave it is: an error.
+    /// Its severity: an error.
     pub fn severity(&self) -> Severity
         ensures error { result ≡ Severity.Error }
     {
@@ -181,7 +188,7 @@ impl DuplicateNamespace {
         around(alloc, "duplicate namespace id: `", &self.namespace_id, "`")
     }
 
-    /// Advice, of which it has none.
+    /// It has no advice.
     pub fn help(&self, _alloc: Global, _source: &str) -> Result<Option<Text>, AllocError>
         ensures none { result ≡ Ok None }
     {
@@ -190,12 +197,13 @@ impl DuplicateNamespace {
 
     /// The places that it points to.
     pub fn labels(&self, alloc: Global) -> Result<Vec<Label>, AllocError>
-        ensures labels { IfOk result (λ labels. labels.items ≡ unnamed_label self.now.loc1 ++ unnamed_label self.now.loc2) }
+        ensures labels { IfOk result (λ labels. labels.items ≡ unnamed_label self.now.loc1
+            ++ unnamed_label self.now.loc2) }
     {
         bare_labels(alloc, self.loc1, self.loc2)
     }
 
-    /// How grave it is: an error.
+    /// Its severity: an error.
     pub fn severity(&self) -> Severity
         ensures error { result ≡ Severity.Error }
     {
@@ -227,7 +235,7 @@ impl UnknownTypeName {
         bare_label(alloc, self.loc)
     }
 
-    /// How grave it is: an error.
+    /// Its severity: an error.
     pub fn severity(&self) -> Severity
         ensures error { result ≡ Severity.Error }
     {
@@ -243,7 +251,7 @@ impl ReservedName {
         message(alloc, "use of the reserved `__cedar` namespace")
     }
 
-    /// How it is mended.
+    /// How to mend it.
     pub fn help(&self, alloc: Global, _source: &str) -> Result<Option<Text>, AllocError>
         ensures help { IfOk result (λ help. help ≡ Some reserved_name_help) }
     {
@@ -257,7 +265,7 @@ impl ReservedName {
         bare_label(alloc, self.loc)
     }
 
-    /// How grave it is: an error.
+    /// Its severity: an error.
     pub fn severity(&self) -> Severity
         ensures error { result ≡ Severity.Error }
     {
@@ -278,7 +286,7 @@ impl ReservedSchemaKeyword {
         )
     }
 
-    /// How it is mended.
+    /// How to mend it.
     pub fn help(&self, alloc: Global, _source: &str) -> Result<Option<Text>, AllocError>
         ensures help { IfOk result (λ help. help ≡ Some keyword_help) }
     {
@@ -292,7 +300,7 @@ impl ReservedSchemaKeyword {
         bare_label(alloc, self.loc)
     }
 
-    /// How grave it is: an error.
+    /// Its severity: an error.
     pub fn severity(&self) -> Severity
         ensures error { result ≡ Severity.Error }
     {
@@ -381,7 +389,7 @@ impl ToJsonSchemaError {
         }
     }
 
-    /// Advice, where it has any.
+    /// Its advice, if it has any.
     pub fn help(&self, alloc: Global, source: &str) -> Result<Option<Text>, AllocError>
         ensures help { IfOk result (λ help. help ≡ translation_fault_help self.now) }
     {
@@ -413,7 +421,7 @@ impl ToJsonSchemaError {
         }
     }
 
-    /// How grave it is: an error.
+    /// Its severity: an error.
     pub fn severity(&self) -> Severity
         ensures error { result ≡ Severity.Error }
     {

@@ -1,5 +1,6 @@
 ghost use Rattle.std.specs.Prelude.{◌≡◌, Ok, None, IfOk};
-ghost use Rattle.schema_convert_errors.specs.WarningTexts.{shadows_builtin_text, shadows_entity_text, warning_text, builtin_labels, entity_labels, warning_labels};
+ghost use Rattle.schema_convert_errors.specs.WarningTexts.{shadows_builtin_text, shadows_entity_text, warning_text};
+ghost use Rattle.schema_convert_errors.specs.WarningTexts.{builtin_labels, entity_labels, warning_labels};
 
 use cedar_data::{CloneIn, Label, Loc, Severity, Text, message, push_both};
 use schema_syntax_errors::labels::{bare_label, bare_labels};
@@ -73,7 +74,7 @@ impl ShadowsBuiltinWarning {
         Ok(text)
     }
 
-    /// Advice, of which it has none.
+    /// It has no advice.
     pub fn help(&self, _alloc: Global, _source: &str) -> Result<Option<Text>, AllocError>
         ensures { result ≡ Ok None }
     {
@@ -87,7 +88,7 @@ impl ShadowsBuiltinWarning {
         bare_label(alloc, self.loc)
     }
 
-    /// How grave it is: a warning.
+    /// Its severity: a warning.
     pub fn severity(&self) -> Severity
         ensures { result ≡ Severity.Warning }
     {
@@ -105,7 +106,7 @@ impl ShadowsEntityWarning {
         Ok(text)
     }
 
-    /// Advice, of which it has none.
+    /// It has no advice.
     pub fn help(&self, _alloc: Global, _source: &str) -> Result<Option<Text>, AllocError>
         ensures { result ≡ Ok None }
     {
@@ -119,7 +120,7 @@ impl ShadowsEntityWarning {
         bare_labels(alloc, self.entity_loc, self.common_loc)
     }
 
-    /// How grave it is: a warning.
+    /// Its severity: a warning.
     pub fn severity(&self) -> Severity
         ensures { result ≡ Severity.Warning }
     {
@@ -138,7 +139,7 @@ impl SchemaWarning {
         }
     }
 
-    /// Advice, of which it has none.
+    /// It has no advice.
     pub fn help(&self, _alloc: Global, _source: &str) -> Result<Option<Text>, AllocError>
         ensures { result ≡ Ok None }
     {
@@ -155,7 +156,7 @@ impl SchemaWarning {
         }
     }
 
-    /// How grave it is: a warning.
+    /// Its severity: a warning.
     pub fn severity(&self) -> Severity
         ensures { result ≡ Severity.Warning }
     {

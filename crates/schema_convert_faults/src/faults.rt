@@ -1,8 +1,10 @@
 ghost use Rattle.std.specs.Prelude.{◌≡◌, ◌++◌, map, IfOk, OnOk};
 ghost use Rattle.std.specs.List.{filter_map};
 ghost use Rattle.std.specs.Option.{option_to_list};
-ghost use Rattle.schema_convert_faults.specs.Faults.{is_reserved_path, reserved_namespace, id_twice, action_twice, declared_twice};
-ghost use Rattle.schema_convert_faults.specs.Faults.{name_fault, reserved_id, keyword, common_fault, first_some, applies_fault};
+ghost use Rattle.schema_convert_faults.specs.Faults.{is_reserved_path, reserved_namespace, id_twice, action_twice};
+ghost use Rattle.schema_convert_faults.specs.Faults.{declared_twice};
+ghost use Rattle.schema_convert_faults.specs.Faults.{name_fault, reserved_id, keyword, common_fault, first_some};
+ghost use Rattle.schema_convert_faults.specs.Faults.{applies_fault};
 ghost use Rattle.schema_convert_faults.specs.Faults.{action_fault, entity_faults, action_faults, declaration_faults};
 ghost use Rattle.schema_convert_faults.specs.Faults.{all_declaration_faults, faults_in};
 ghost use Rattle.schema_convert_faults.specs.NamesIn.{entities_of};
@@ -56,7 +58,11 @@ fn reserved_namespace(
 
 // The fault of a name that stands twice.
 fn twice<T>(decl: Text, first: &Node<T>, second: &Node<T>) -> ToJsonSchemaError
-    ensures { result ≡ ToJsonSchemaError.DuplicateDeclarations (record { decl = decl; loc1 = first.now.loc; loc2 = second.now.loc }) }
+    ensures { result ≡ ToJsonSchemaError.DuplicateDeclarations (record {
+      decl = decl;
+      loc1 = first.now.loc;
+      loc2 = second.now.loc;
+    }) }
 {
     ToJsonSchemaError::DuplicateDeclarations(DuplicateDeclarations {
         decl,
@@ -302,7 +308,8 @@ fn common_faults(
     alloc: Global,
     ids: Vec<&Node<SrcId<'_>>>,
 ) -> Result<Vec<ToJsonSchemaError>, AllocError>
-    ensures { IfOk result (λ faults. faults.items ≡ option_to_list (first_some common_fault (map (λ x. x.now) ids.entry.items))) }
+    ensures { IfOk result (λ faults. faults.items
+        ≡ option_to_list (first_some common_fault (map (λ x. x.now) ids.entry.items))) }
 {
     let fault = first_common(alloc, ids)?;
     let mut faults = Vec::new(alloc);

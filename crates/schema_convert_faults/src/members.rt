@@ -1,7 +1,8 @@
 ghost use Rattle.std.specs.Prelude.{◌≡◌, Some, map, find, IfOk};
 ghost use Rattle.std.specs.List.{list_any};
 ghost use Rattle.std.specs.Option.{option_copied};
-ghost use Rattle.schema_convert_faults.specs.Members.{says_role, says_same, said_twice, empty_role, missing_role, said_empty, member_fault};
+ghost use Rattle.schema_convert_faults.specs.Members.{says_role, says_same, said_twice, empty_role, missing_role};
+ghost use Rattle.schema_convert_faults.specs.Members.{said_empty, member_fault};
 ghost use Rattle.schema_convert_faults.specs.Members.{missing, block_fault};
 
 use cedar_data::{Loc, Node, NonEmpty};
@@ -177,8 +178,8 @@ fn missing(
     Ok(None)
 }
 
-/// The first fault of an `appliesTo` block of the action. Of members without a fault there are three at most, so few are
-/// compared with each.
+/// The first fault of an `appliesTo` block of the action. Of members without a fault there are three at most, so few
+/// are compared with each.
 pub fn block_fault<'s>(
     alloc: Global,
     name: &Node<SrcStr<'s>>,

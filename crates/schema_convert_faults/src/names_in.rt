@@ -1,6 +1,7 @@
 ghost use Rattle.std.specs.Prelude.{◌≡◌, ◌++◌, map, IfOk, OnOk};
 ghost use Rattle.cedar_data.specs.NonEmpty.{items_left};
-ghost use Rattle.schema_convert_faults.specs.NamesIn.{entities_of, actions_of, commons_of, entity_names_in, action_names_in, common_names_in};
+ghost use Rattle.schema_convert_faults.specs.NamesIn.{entities_of, actions_of, commons_of, entity_names_in};
+ghost use Rattle.schema_convert_faults.specs.NamesIn.{action_names_in, common_names_in};
 
 use cedar_data::{Node, NonEmptyIter};
 use schema_syntax_tree::{ActionDecl, Annotated, Declaration, SrcId, SrcStr};
@@ -8,7 +9,8 @@ use std::alloc::{AllocError, Global};
 
 // Adds the items, in order.
 fn push_all<'a, T>(items: &mut Vec<&'a T>, more: NonEmptyIter<'a, T>) -> Result<(), AllocError>
-    ensures { OnOk result (map (λ x. x.now) items.new.items ≡ map (λ x. x.now) items.old.items ++ items_left more.entry) }
+    ensures { OnOk result (map (λ x. x.now) items.new.items ≡ map (λ x. x.now) items.old.items
+        ++ items_left more.entry) }
 {
     for item in more {
         items.push(item)?;
@@ -21,7 +23,8 @@ fn push_entities<'a, 's>(
     names: &mut Vec<&'a Node<SrcId<'s>>>,
     decl: &'a Declaration<'s>,
 ) -> Result<(), AllocError>
-    ensures { OnOk result (map (λ x. x.now) names.new.items ≡ map (λ x. x.now) names.old.items ++ entities_of decl.now) }
+    ensures { OnOk result (map (λ x. x.now) names.new.items ≡ map (λ x. x.now) names.old.items
+        ++ entities_of decl.now) }
 {
     match decl {
         Declaration::Entity(decl) => push_all(names, decl.names()),

@@ -4,7 +4,8 @@ ghost use Rattle.std.specs.Option.{option_copied};
 ghost use Rattle.cedar_names.specs.Tables.{table_has};
 ghost use Rattle.schema_convert_faults.specs.Borrowed.{entry_now, optional_now};
 ghost use Rattle.schema_convert_faults.specs.NamesIn.{entities_of, entity_names_in};
-ghost use Rattle.schema_convert_faults.specs.Shadowings.{by_id, is_primitive_name, is_taken, builtin_shadowed, entity_shadowed};
+ghost use Rattle.schema_convert_faults.specs.Shadowings.{by_id, is_primitive_name, is_taken, builtin_shadowed};
+ghost use Rattle.schema_convert_faults.specs.Shadowings.{entity_shadowed};
 ghost use Rattle.schema_convert_faults.specs.Shadowings.{common_warnings, declared_warnings, by_name, warnings_of};
 
 use crate::names_in::{common_names_in, entity_names_in};
@@ -98,7 +99,8 @@ fn push_entity(
     entity: Option<&Node<SrcId<'_>>>,
     common: &Node<SrcId<'_>>,
 ) -> Result<(), AllocError>
-    ensures { OnOk result (warnings.new.items ≡ warnings.old.items ++ entity_shadowed (option_copied entity.entry) common.now) }
+    ensures { OnOk result (warnings.new.items ≡ warnings.old.items
+        ++ entity_shadowed (option_copied entity.entry) common.now) }
 {
     let Some(entity) = entity else {
         return Ok(());
@@ -120,7 +122,8 @@ fn push_common<'s>(
     entities: &Map<&SrcId<'s>, &Node<SrcId<'s>>>,
     common: &Node<SrcId<'s>>,
 ) -> Result<(), AllocError>
-    ensures { OnOk result (warnings.new.items ≡ warnings.old.items ++ common_warnings table.now (map entry_now entities.now) common.now) }
+    ensures { OnOk result (warnings.new.items ≡ warnings.old.items ++ common_warnings table.now
+        (map entry_now entities.now) common.now) }
 {
     let key = &common.node;
     let entity = entities.get(&key).copied();
@@ -137,7 +140,8 @@ fn push_commons<'s>(
     entities: &Map<&SrcId<'s>, &Node<SrcId<'s>>>,
     commons: Map<&SrcId<'s>, &Node<SrcId<'s>>>,
 ) -> Result<(), AllocError>
-    ensures { OnOk result (warnings.new.items ≡ warnings.old.items ++ flat_map (λ c. common_warnings table.now (map entry_now entities.now) c.1) (map entry_now commons.entry)) }
+    ensures { OnOk result (warnings.new.items ≡ warnings.old.items
+        ++ flat_map (λ c. common_warnings table.now (map entry_now entities.now) c.1) (map entry_now commons.entry)) }
 {
     for (_, common) in commons.into_vec() {
         push_common(alloc, warnings, table, entities, common)?;
@@ -152,7 +156,8 @@ fn push_entities<'s>(
     table: &ExtensionTable,
     entities: Map<&SrcId<'s>, &Node<SrcId<'s>>>,
 ) -> Result<(), AllocError>
-    ensures { OnOk result (warnings.new.items ≡ warnings.old.items ++ flat_map (λ e. builtin_shadowed table.now e.1) (map entry_now entities.entry)) }
+    ensures { OnOk result (warnings.new.items ≡ warnings.old.items ++ flat_map (λ e. builtin_shadowed table.now e.1)
+        (map entry_now entities.entry)) }
 {
     for (_, entity) in entities.into_vec() {
         push_builtin(alloc, warnings, table, entity)?;
@@ -166,7 +171,8 @@ fn push_taken_of<'a, 's>(
     table: &ExtensionTable,
     decl: &'a Declaration<'s>,
 ) -> Result<(), AllocError>
-    ensures { OnOk result (map (λ x. x.now) taken.new.items ≡ map (λ x. x.now) taken.old.items ++ filter (λ n. is_taken table.now n.node.text) (entities_of decl.now)) }
+    ensures { OnOk result (map (λ x. x.now) taken.new.items ≡ map (λ x. x.now) taken.old.items
+        ++ filter (λ n. is_taken table.now n.node.text) (entities_of decl.now)) }
 {
     let Declaration::Entity(decl) = decl else {
         return Ok(());
@@ -185,7 +191,8 @@ fn taken_names<'a, 's>(
     table: &ExtensionTable,
     decls: &'a [Annotated<'s, Node<Declaration<'s>>>],
 ) -> Result<Vec<&'a Node<SrcId<'s>>>, AllocError>
-    ensures { IfOk result (λ taken. map (λ x. x.now) taken.items ≡ filter (λ n. is_taken table.now n.node.text) (entity_names_in decls.now)) }
+    ensures { IfOk result (λ taken. map (λ x. x.now) taken.items ≡ filter (λ n. is_taken table.now n.node.text)
+        (entity_names_in decls.now)) }
 {
     let mut taken = Vec::new(alloc);
     for decl in decls {
@@ -194,14 +201,16 @@ fn taken_names<'a, 's>(
     Ok(taken)
 }
 
-// Adds the warnings of the entity types that the declarations declare. Those with names that are not taken need no order.
+// Adds the warnings of the entity types that the declarations declare. Those with names that are not taken need no
+// order.
 fn push_taken<'s>(
     alloc: Global,
     warnings: &mut Vec<SchemaWarning>,
     table: &ExtensionTable,
     decls: &[Annotated<'s, Node<Declaration<'s>>>],
 ) -> Result<(), AllocError>
-    ensures { OnOk result (warnings.new.items ≡ warnings.old.items ++ flat_map (λ e. builtin_shadowed table.now e.1) (by_id (entity_names_in decls.now))) }
+    ensures { OnOk result (warnings.new.items ≡ warnings.old.items ++ flat_map (λ e. builtin_shadowed table.now e.1)
+        (by_id (entity_names_in decls.now))) }
 {
     let taken = taken_names(alloc, table, decls)?;
     let entities = by_id(alloc, taken)?;

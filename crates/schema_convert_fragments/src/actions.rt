@@ -1,7 +1,8 @@
 ghost use Rattle.std.specs.Prelude.{◌≡◌, option_map, map, IfOk, OnOk};
 ghost use Rattle.schema_convert_types.specs.Names.{raw_name_of};
 ghost use Rattle.schema_syntax_tree.specs.DeclaredNames.{action_names};
-ghost use Rattle.schema_convert_fragments.specs.Declarations.{reference_of, references_of, member_types, context_of, with_types};
+ghost use Rattle.schema_convert_fragments.specs.Declarations.{reference_of, references_of, member_types, context_of};
+ghost use Rattle.schema_convert_fragments.specs.Declarations.{with_types};
 ghost use Rattle.schema_convert_fragments.specs.Declarations.{with_member, apply_spec_of, action_type_of};
 
 use crate::entities::nothing;

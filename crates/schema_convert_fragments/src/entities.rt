@@ -1,5 +1,6 @@
 ghost use Rattle.std.specs.Prelude.{◌≡◌, IfOk};
-ghost use Rattle.schema_convert_fragments.specs.Declarations.{raw_names, nothing, entity_kind_of, entity_type_of, choices_of, is_external, tags_of};
+ghost use Rattle.schema_convert_fragments.specs.Declarations.{raw_names, nothing, entity_kind_of, entity_type_of};
+ghost use Rattle.schema_convert_fragments.specs.Declarations.{choices_of, is_external, tags_of};
 
 use cedar_data::{Boxed, List, Loc, Map, Node, NonEmpty};
 use cedar_identifiers::{Annotations, Eid, RawName};
@@ -127,8 +128,8 @@ fn external(
     Ok(EntityTypeKind::Standard(Boxed::new(alloc, standard)?))
 }
 
-// What the entity types of the declaration are. Most are standard ones, and the others stand by themselves, so that these
-// need no room for them.
+// What the entity types of the declaration are. Most are standard ones, and the others stand by themselves, so that
+// these need no room for them.
 fn kind(alloc: Global, decl: &EntityDecl<'_>) -> Result<EntityTypeKind<RawName>, AllocError>
     ensures { IfOk result (λ out. out ≡ entity_kind_of decl.now) }
 {

@@ -11,8 +11,8 @@ use std::alloc::{AllocError, Global};
 use std::cmp::Ordering;
 use std::mem;
 
-/// The map of these entries, of which the last of a key counts. They are put in order as a whole, so that none is moved for
-/// each that comes behind it.
+/// The map of these entries, of which the last of a key counts. They are put in order as a whole, so that none is moved
+/// for each that comes behind it.
 pub fn map_of<K: Ord + Drop, T: Drop>(
     alloc: Global,
     mut entries: Vec<(K, T)>,
@@ -78,9 +78,11 @@ fn places_in_order<K: Ord, T>(
     alloc: Global,
     entries: &Vec<(K, T)>,
 ) -> Result<Option<Vec<usize>>, AllocError>
-    ensures distinct { IfOk result (λ found. IfSome found (λ _. IsDistinct (eq_by_cmp K.cmp) (keys_of entries.now.items))) }
+    ensures distinct { IfOk result (λ found. IfSome found
+        (λ _. IsDistinct (eq_by_cmp K.cmp) (keys_of entries.now.items))) }
     ensures len { IfOk result (λ found. IfSome found (λ places. length places.items ≡ length entries.now.items)) }
-    ensures in_range { IfOk result (λ found. IfSome found (λ places. All (λ p. p < length entries.now.items) places.items)) }
+    ensures in_range { IfOk result (λ found. IfSome found
+        (λ places. All (λ p. p < length entries.now.items) places.items)) }
 {
     let mut keys = placed_keys(alloc, entries)?;
     keys.sort_by(|a, b| a.0.cmp(b.0))?;

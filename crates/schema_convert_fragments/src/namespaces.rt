@@ -7,8 +7,10 @@ ghost use Rattle.schema_convert_fragments.specs.Declarations.{declarable, unrese
 ghost use Rattle.schema_syntax_tree.specs.DeclaredNames.{entity_names};
 ghost use Rattle.schema_json.specs.Orders.{unreserved_cmp, common_cmp, namespace_cmp};
 ghost use Rattle.schema_convert_types.specs.Names.{internal_name_of};
-ghost use Rattle.schema_convert_fragments.specs.Fragments.{entity_entries_of, action_entries_of, common_entries_of, entity_entries};
-ghost use Rattle.schema_convert_fragments.specs.Fragments.{action_entries, common_entries, definition_of, namespace_key, declarable_name};
+ghost use Rattle.schema_convert_fragments.specs.Fragments.{entity_entries_of, action_entries_of, common_entries_of};
+ghost use Rattle.schema_convert_fragments.specs.Fragments.{entity_entries};
+ghost use Rattle.schema_convert_fragments.specs.Fragments.{action_entries, common_entries, definition_of};
+ghost use Rattle.schema_convert_fragments.specs.Fragments.{namespace_key, declarable_name};
 ghost use Rattle.schema_convert_fragments.specs.Fragments.{namespace_entry, fragment_of};
 
 use crate::actions::{action_ids, action_type};
@@ -113,7 +115,8 @@ fn push_entity(
     annotations: Annotations,
     loc: Option<Loc>,
 ) -> Result<(), AllocError>
-    ensures { OnOk result (entries.new.items ≡ entries.old.items ++ each_with (entity_type_of decl.now annotations loc) (option_to_list name)) }
+    ensures { OnOk result (entries.new.items ≡ entries.old.items ++ each_with (entity_type_of decl.now annotations loc)
+        (option_to_list name)) }
 {
     let of = entity_type(alloc, decl, annotations, loc)?;
     if let Some(name) = name {
@@ -131,7 +134,8 @@ fn push_each_entity(
     annotations: Annotations,
     loc: Option<Loc>,
 ) -> Result<(), AllocError>
-    ensures { OnOk result (entries.new.items ≡ entries.old.items ++ entity_entries_of (Declaration.Entity decl.now) annotations loc) }
+    ensures { OnOk result (entries.new.items ≡ entries.old.items
+        ++ entity_entries_of (Declaration.Entity decl.now) annotations loc) }
 {
     let names = declarable(alloc, decl.names())?;
     let of = entity_type(alloc, decl, annotations, loc)?;
@@ -146,7 +150,8 @@ fn push_entities(
     annotations: Annotations,
     loc: Option<Loc>,
 ) -> Result<(), AllocError>
-    ensures { OnOk result (entries.new.items ≡ entries.old.items ++ entity_entries_of (Declaration.Entity decl.now) annotations loc) }
+    ensures { OnOk result (entries.new.items ≡ entries.old.items
+        ++ entity_entries_of (Declaration.Entity decl.now) annotations loc) }
 {
     match only_name(decl) {
         None => push_each_entity(alloc, entries, decl, annotations, loc),
@@ -166,7 +171,8 @@ fn push_actions(
     annotations: Annotations,
     loc: Option<Loc>,
 ) -> Result<(), AllocError>
-    ensures { OnOk result (entries.new.items ≡ entries.old.items ++ action_entries_of (Declaration.Action decl.now) annotations loc) }
+    ensures { OnOk result (entries.new.items ≡ entries.old.items
+        ++ action_entries_of (Declaration.Action decl.now) annotations loc) }
 {
     let names = action_ids(alloc, decl)?;
     let of = action_type(alloc, decl, annotations, loc)?;
@@ -182,7 +188,8 @@ fn push_common(
     annotations: Annotations,
     loc: Option<Loc>,
 ) -> Result<(), AllocError>
-    ensures { OnOk result (entries.new.items ≡ entries.old.items ++ common_entries_of (Declaration.Common decl.now) annotations loc) }
+    ensures { OnOk result (entries.new.items ≡ entries.old.items
+        ++ common_entries_of (Declaration.Common decl.now) annotations loc) }
 {
     let ty = node_type(alloc, &decl.def)?;
     let of = CommonType {
@@ -202,9 +209,12 @@ pub fn push_declared<'a>(
     entries: &mut Entries,
     decl: &Annotated<'a, Node<Declaration<'a>>>,
 ) -> Result<(), AllocError>
-    ensures commons { OnOk result (entries.new.commons.items ≡ entries.old.commons.items ++ common_entries_of decl.now.item.node decl.now.annotations decl.now.item.loc) }
-    ensures entities { OnOk result (entries.new.entities.items ≡ entries.old.entities.items ++ entity_entries_of decl.now.item.node decl.now.annotations decl.now.item.loc) }
-    ensures actions { OnOk result (entries.new.actions.items ≡ entries.old.actions.items ++ action_entries_of decl.now.item.node decl.now.annotations decl.now.item.loc) }
+    ensures commons { OnOk result (entries.new.commons.items ≡ entries.old.commons.items
+        ++ common_entries_of decl.now.item.node decl.now.annotations decl.now.item.loc) }
+    ensures entities { OnOk result (entries.new.entities.items ≡ entries.old.entities.items
+        ++ entity_entries_of decl.now.item.node decl.now.annotations decl.now.item.loc) }
+    ensures actions { OnOk result (entries.new.actions.items ≡ entries.old.actions.items
+        ++ action_entries_of decl.now.item.node decl.now.annotations decl.now.item.loc) }
 {
     let annotations = decl.annotations.to_annotations(alloc)?;
     let loc = decl.item.loc;
@@ -249,7 +259,12 @@ pub fn definition_from(
     entries: Entries,
     annotations: Annotations,
 ) -> Result<NamespaceDefinition<RawName>, AllocError>
-    ensures { IfOk result (λ definition. definition ≡ record { common_types = map_of common_cmp entries.commons.items; entity_types = map_of unreserved_cmp entries.entities.items; actions = map_of text_cmp entries.actions.items; annotations = annotations }) }
+    ensures { IfOk result (λ definition. definition ≡ record {
+      common_types = map_of common_cmp entries.commons.items;
+      entity_types = map_of unreserved_cmp entries.entities.items;
+      actions = map_of text_cmp entries.actions.items;
+      annotations = annotations;
+    }) }
 {
     let Entries {
         commons,
@@ -339,8 +354,8 @@ pub fn fragment_from(
     Ok(Fragment(entries))
 }
 
-/// The fragment of namespaces with distinct names that may be declared, and distinct such declarations of each kind. Any
-/// other name is left out, and of those that stand twice the last counts.
+/// The fragment of namespaces with distinct names that may be declared, and distinct such declarations of each kind.
+/// Any other name is left out, and of those that stand twice the last counts.
 pub fn fragment_of<'a>(
     alloc: Global,
     namespaces: Vec<Annotated<'a, Namespace<'a>>>,

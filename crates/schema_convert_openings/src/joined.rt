@@ -13,8 +13,10 @@ fn push_namespace<'a>(
     outside: &mut Vec<Annotated<'a, Node<Declaration<'a>>>>,
     namespace: Annotated<'a, Namespace<'a>>,
 ) -> Result<(), AllocError>
-    ensures named { OnOk result (namespaces.new.items ≡ namespaces.old.items ++ named_so namespace.entry.item.name namespace.entry) }
-    ensures outside { OnOk result (outside.new.items ≡ outside.old.items ++ unnamed_so namespace.entry.item.name namespace.entry.item.decls) }
+    ensures named { OnOk result (namespaces.new.items ≡ namespaces.old.items
+        ++ named_so namespace.entry.item.name namespace.entry) }
+    ensures outside { OnOk result (outside.new.items ≡ outside.old.items
+        ++ unnamed_so namespace.entry.item.name namespace.entry.item.decls) }
 {
     if namespace.item.name.is_some() {
         namespaces.push(namespace)?;
@@ -61,8 +63,8 @@ fn count_outside<'a>(namespaces: &[Annotated<'a, Namespace<'a>>]) -> usize
     count
 }
 
-/// The namespaces that a tree has: one for each name, in the order of the first openings, and behind them the one of all
-/// declarations that stand outside of these, where there are any.
+/// The namespaces that a tree has: one for each name, in the order of the first openings, and behind them the one of
+/// all declarations that stand outside of these, where there are any.
 pub fn joined<'a>(
     alloc: Global,
     schema: Schema<'a>,

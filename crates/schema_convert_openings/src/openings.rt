@@ -21,7 +21,8 @@ fn openings_by_name<'a>(
     alloc: Global,
     namespaces: Vec<Annotated<'a, Namespace<'a>>>,
 ) -> Result<Vec<Openings<'a>>, AllocError>
-    ensures { IfOk result (λ groups. map (λ g. opened_as g.first (g.first ∷ g.others.items)) groups.items ≡ joined_by_name namespaces.entry.items) }
+    ensures { IfOk result (λ groups. map (λ g. opened_as g.first (g.first ∷ g.others.items)) groups.items
+        ≡ joined_by_name namespaces.entry.items) }
 {
     let mut groups: Vec<Openings<'a>> = Vec::new(alloc);
     let mut places = BTreeMap::new(alloc);
@@ -93,7 +94,9 @@ fn with_others<'a>(
     AllocError,
 >
     ensures decls { IfOk result (λ out. out.0 ≡ decls.entry ++ flat_map (λ n. n.item.decls) others.entry.items) }
-    ensures annotations { IfOk result (λ out. out.1.0 ≡ map_of annotation_key_cmp (reverse (annotations.entry.0 ++ flat_map (λ n. n.annotations.0) others.entry.items))) }
+    ensures annotations { IfOk result (λ out. out.1.0
+        ≡ map_of annotation_key_cmp (reverse (annotations.entry.0
+        ++ flat_map (λ n. n.annotations.0) others.entry.items))) }
 {
     let mut decls = decls.into_vec();
     let mut entries = Vec::new(alloc);
@@ -113,7 +116,8 @@ fn opened_as<'a>(
     alloc: Global,
     openings: Openings<'a>,
 ) -> Result<Annotated<'a, Namespace<'a>>, AllocError>
-    ensures { IfOk result (λ namespace. namespace ≡ opened_as openings.entry.first (openings.entry.first ∷ openings.entry.others.items)) }
+    ensures { IfOk result (λ namespace. namespace
+        ≡ opened_as openings.entry.first (openings.entry.first ∷ openings.entry.others.items)) }
 {
     let Openings { first, others } = openings;
     let (item, annotations) = first.into_parts();

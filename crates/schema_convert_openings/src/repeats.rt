@@ -60,13 +60,14 @@ fn repeat_in<'a, T: Ord>(
     Ok(None)
 }
 
-/// Of these items the first that is the same as one before it, behind the first that it is the same as. Where no two have
-/// one fingerprint, no item is compared with another, and no map is made of them.
+/// Of these items the first that is the same as one before it, behind the first that it is the same as. Where no two
+/// have one fingerprint, no item is compared with another, and no map is made of them.
 pub fn first_repeat<'a, T: Ord + Hash>(
     alloc: Global,
     items: Vec<&'a T>,
 ) -> Result<Option<(&'a T, &'a T)>, AllocError>
-    ensures { IfOk result (λ found. option_map both_now found ≡ first_repeat T.cmp (map (λ x. x.now) items.entry.items)) }
+    ensures { IfOk result (λ found. option_map both_now found
+        ≡ first_repeat T.cmp (map (λ x. x.now) items.entry.items)) }
 {
     if are_apart(alloc, &items)? {
         return Ok(None);

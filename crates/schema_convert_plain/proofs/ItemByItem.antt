@@ -34,7 +34,8 @@ use Rattle.schema_json.specs.Orders.{unreserved_cmp, common_cmp, namespace_cmp}
 use Rattle.schema_json.specs.AsWritten.{as_written}
 use Rattle.schema_json.proofs.Orders.{namespaces_total}
 use Rattle.schema_convert_fragments.specs.Fragments.{common_entries}
-use Rattle.schema_convert_fragments.specs.Fragments.{entity_entries, action_entries, common_entries_of, entity_entries_of}
+use Rattle.schema_convert_fragments.specs.Fragments.{entity_entries, action_entries, common_entries_of}
+use Rattle.schema_convert_fragments.specs.Fragments.{entity_entries_of}
 use Rattle.schema_convert_fragments.specs.Fragments.{action_entries_of, namespace_entry, namespace_key, definition_of}
 use Rattle.schema_convert_fragments.specs.Fragments.{fragment_of}
 use Rattle.schema_convert_fragments.specs.declared.namespaces.Entries.{Entries}

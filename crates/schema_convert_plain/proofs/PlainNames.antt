@@ -26,7 +26,8 @@ use Rattle.schema_json.specs.Orders.{unreserved_cmp, common_cmp}
 use Rattle.schema_json.proofs.Orders.{unreserved_total, common_total}
 use Rattle.schema_convert_types.specs.Types.{type_of}
 use Rattle.schema_convert_fragments.specs.Declarations.{unreserved, unreserved_so, declarable, each_with}
-use Rattle.schema_convert_fragments.specs.Fragments.{entity_entries_of, action_entries_of, common_entries_of, common_entry}
+use Rattle.schema_convert_fragments.specs.Fragments.{entity_entries_of, action_entries_of, common_entries_of}
+use Rattle.schema_convert_fragments.specs.Fragments.{common_entry}
 use Rattle.schema_convert_fragments.specs.Fragments.{entity_entries, action_entries, common_entries}
 use Rattle.schema_convert_faults.specs.NamesIn.{entities_of, actions_of, commons_of, entity_names_in, action_names_in}
 use Rattle.schema_convert_faults.specs.NamesIn.{common_names_in, id_cmp, action_cmp}

@@ -6,7 +6,8 @@ ghost use Rattle.schema_syntax_reader.specs.Sites.{declared_sites};
 ghost use Rattle.schema_syntax_reader.specs.Stops.{IsStopped};
 ghost use Rattle.schema_syntax_tree.specs.declared.annotated.Annotated.{Annotated};
 ghost use Rattle.schema_syntax_tree.specs.declared.namespace.Namespace.{Namespace};
-ghost use Rattle.schema_convert_plain.specs.Gathered.{AddsRead, IsGatheredAs, AddsOutside, AddsNamed, AddsNamespace, AddsOwn, IsOwn, IsGatheredOf, named_sites};
+ghost use Rattle.schema_convert_plain.specs.Gathered.{AddsRead, IsGatheredAs, AddsOutside, AddsNamed, AddsNamespace};
+ghost use Rattle.schema_convert_plain.specs.Gathered.{AddsOwn, IsOwn, IsGatheredOf, named_sites};
 ghost use Rattle.schema_convert_plain.specs.Plain.{AreUnlike, HasRisingNotes};
 ghost use Rattle.schema_convert_openings.specs.Joined.{named};
 ghost use Rattle.schema_convert_plain.specs.Translation.{IsTranslation};
@@ -183,7 +184,8 @@ fn push_named(
     requires list { IsScanned AreAnnotations text.now list }
     requires name { IsScanned IsPath text.now name }
     requires raws { All (IsScanned IsDeclared text.now) raws }
-    ensures added { IfOk result (λ plain. plain ≡ true → AddsNamed text.now table.now list name raws namespaces.old.items namespaces.new.items) }
+    ensures added { IfOk result (λ plain. plain ≡ true
+        → AddsNamed text.now table.now list name raws namespaces.old.items namespaces.new.items) }
     ensures fault { IfErr result (IsStopped text.now (named_sites list name raws)) }
 {
     let noted = notes(alloc, text, list.as_slice())?;
@@ -202,8 +204,8 @@ fn push_named(
     Ok(true)
 }
 
-/// Adds what a namespace that has a name defines, where nothing is to be said of it: from its annotations, its path and its
-/// declarations. Or of its user faults the one that ends first.
+/// Adds what a namespace that has a name defines, where nothing is to be said of it: from its annotations, its path and
+/// its declarations. Or of its user faults the one that ends first.
 pub fn push_namespace(
     alloc: Global,
     text: &str,
@@ -216,7 +218,8 @@ pub fn push_namespace(
     requires list { IsScanned AreAnnotations text.now list }
     requires name { IsScanned IsPath text.now name }
     requires raws { All (IsScanned IsDeclared text.now) raws }
-    ensures added { IfOk result (λ plain. plain ≡ true → AddsNamespace text.now table.now list name raws gathered.old gathered.new) }
+    ensures added { IfOk result (λ plain. plain ≡ true
+        → AddsNamespace text.now table.now list name raws gathered.old gathered.new) }
     ensures fault { IfErr result (IsStopped text.now (named_sites list name raws)) }
 {
     push_named(
@@ -230,7 +233,8 @@ pub fn push_namespace(
     )
 }
 
-// The entries of the namespaces, and of what stands outside of these, where something does and no name stands twice there.
+// The entries of the namespaces, and of what stands outside of these, where something does and no name stands twice
+// there.
 fn with_outside(
     alloc: Global,
     mut namespaces: Vec<(Option<Name>, NamespaceDefinition<RawName>)>,
@@ -249,13 +253,15 @@ fn with_outside(
     Ok(Some(namespaces))
 }
 
-/// The fragment of what was gathered, where no namespace was opened twice and nothing is to be said of what stands outside
-/// of every one.
+/// The fragment of what was gathered, where no namespace was opened twice and nothing is to be said of what stands
+/// outside of every one.
 pub fn gathered_fragment(
     alloc: Global,
     gathered: Gathered,
 ) -> Result<Option<Fragment<RawName>>, AllocError>
-    ensures { IfOk result (λ found. IfSome found (λ fragment. (table : ExtensionTable) (tree : List (Annotated Namespace)) → IsGatheredOf table tree gathered → AllByRecursion HasRisingNotes (named tree) → IsTranslation tree table fragment [])) }
+    ensures { IfOk result (λ found. IfSome found
+        (λ fragment. (table : ExtensionTable) (tree : List (Annotated Namespace)) → IsGatheredOf table tree gathered
+        → AllByRecursion HasRisingNotes (named tree) → IsTranslation tree table fragment [])) }
 {
     let Gathered {
         namespaces,

@@ -58,7 +58,8 @@ pub fn fragment_at_once(
     requires scans { Scans text.now tokens.now (length text.now) }
     requires placed { All (IsPlaced text.now) tokens.now }
     requires sentence { Sentence (kinds_of tokens.now) }
-    ensures found { IfOk result (λ found. IfSome found (λ fragment. (tree : List (Annotated Namespace)) × IsLawfulTree text.now tokens.now tree × IsTranslation tree table.now fragment [])) }
+    ensures found { IfOk result (λ found. IfSome found (λ fragment. (tree : List (Annotated Namespace))
+        × IsLawfulTree text.now tokens.now tree × IsTranslation tree table.now fragment [])) }
     ensures fault { IfErr result (IsStopOf text.now tokens.now) }
 {
     let mut gathered = Gathered::new(alloc);

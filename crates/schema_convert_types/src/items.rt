@@ -17,7 +17,8 @@ pub trait Item<'a> {
         ensures { IfOk result (λ out. out ≡ translation item.now) };
 }
 
-// Adds what the items are translated to, in order. It stands by itself, so that what calls it needs no room for an item.
+// Adds what the items are translated to, in order. It stands by itself, so that what calls it needs no room for an
+// item.
 #[inline(never)]
 fn add<'a, I: Item<'a>>(
     alloc: Global,

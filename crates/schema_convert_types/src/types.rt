@@ -9,8 +9,8 @@ use schema_json::{RecordType, Type, TypeOfAttribute, TypeVariant};
 use schema_syntax_tree::{Annotated, AttrDecl};
 use std::alloc::{AllocError, Global};
 
-/// What a type of the tree becomes. Each name in it is a reference to a common type or an entity type, each type and name
-/// keeps its place, and of two attributes with one name in a record the last is there.
+/// What a type of the tree becomes. Each name in it is a reference to a common type or an entity type, each type and
+/// name keeps its place, and of two attributes with one name in a record the last is there.
 pub fn cedar_type_to_json_type(
     alloc: Global,
     ty: Node<schema_syntax_tree::Type<'_>>,
@@ -86,8 +86,8 @@ fn record_of<'a>(
     closed_record(alloc, entries)
 }
 
-// The closed record of these attributes, of which the last of a name counts. It stands by itself for the same reason as an
-// attribute does.
+// The closed record of these attributes, of which the last of a name counts. It stands by itself for the same reason as
+// an attribute does.
 #[inline(never)]
 fn closed_record(
     alloc: Global,
@@ -109,7 +109,8 @@ fn attribute_with<'a>(
     attribute: &Node<Annotated<'a, AttrDecl<'a>>>,
     ty: Type<RawName>,
 ) -> Result<(Text, TypeOfAttribute<RawName>), AllocError>
-    ensures { IfOk result (λ entry. ty ≡ type_at (out-AttrDecl attribute.now.node.item).ty.node (out-AttrDecl attribute.now.node.item).ty.loc → entry ≡ attribute_of attribute.now) }
+    ensures { IfOk result (λ entry. ty ≡ type_at (out-AttrDecl attribute.now.node.item).ty.node
+        (out-AttrDecl attribute.now.node.item).ty.loc → entry ≡ attribute_of attribute.now) }
 {
     let declared = &attribute.node.item;
     let annotations = attribute.node.annotations.to_annotations(alloc)?;

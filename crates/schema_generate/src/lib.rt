@@ -1,4 +1,5 @@
-//! A schema text of a size from 1 to 4,096, made by rule: what measures and tries the program where no schema is at hand.
+//! A schema text of a size from 1 to 4,096, made by rule: what measures and tries the program where no schema is at
+//! hand.
 #![tactic(auto)]
 
 pub mod text;

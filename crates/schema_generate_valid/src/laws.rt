@@ -17,8 +17,8 @@ ghost use Rattle.schema_generate_valid.specs.Declares.{generated_items};
 use schema_says::laws::texts_that_read_back_are_translated;
 use schema_syntax_tokens::laws::{laid_text_is_read, one_value};
 
-/// A generated text of a size from 1 to 4,096 has no fault of syntax or of translation, and its fragment says what the text
-/// declares.
+/// A generated text of a size from 1 to 4,096 has no fault of syntax or of translation, and its fragment says what the
+/// text declares.
 pub fn generated_texts_are_translated()
     ensures { (n : ℕ) → 1 ≤ n → n ≤ max_size → IsTranslatedAs (generated n) (generated_items n) }
 {
@@ -27,8 +27,8 @@ pub fn generated_texts_are_translated()
     texts_that_read_back_are_translated();
 }
 
-/// A fragment that says what a generated text of a positive size declares has no build fault under any table; where the size is
-/// at most 4,096, it means something in which nothing is captured.
+/// A fragment that says what a generated text of a positive size declares has no build fault under any table; where the
+/// size is at most 4,096, it means something in which nothing is captured.
 pub fn what_is_generated_means_something()
     ensures faultless { (n : ℕ) → 1 ≤ n → (f : Fragment RawName as_written) → FragmentSays f (generated_items n)
         → (table : ExtensionTable) → Never (BuildFault f table) }

@@ -103,7 +103,8 @@ impl ActionEntityUID<RawName> {
         ns: Option<&InternalName>,
     ) -> Result<ActionEntityUID<InternalName>, AllocError>
         ensures id { IfOk result (λ action. action.id ≡ self.id) }
-        ensures ty { IfOk result (λ action. action.ty ≡ Some (qualified (option_copied ns.entry) (written_type self.ty))) }
+        ensures ty { IfOk result (λ action. action.ty
+            ≡ Some (qualified (option_copied ns.entry) (written_type self.ty))) }
     {
         let ActionEntityUID { id, ty } = self;
         let written = written_type(alloc, ty)?;
@@ -153,7 +154,8 @@ impl ActionEntityUID<InternalName> {
         ensures ty { IfOk result (λ uid. self.ty ≡ Some uid.ty.name) }
         ensures id { IfOk result (λ uid. uid.eid.0 ≡ self.id) }
         ensures placeless { IfOk result (λ uid. uid.loc ≡ None) }
-        ensures err { IfErr result (λ error. (self.ty ≡ Some error.name) × (has_cedar (components_of error.name) ≡ true)) }
+        ensures err { IfErr result (λ error. (self.ty ≡ Some error.name)
+            × (has_cedar (components_of error.name) ≡ true)) }
     {
         let (name, id) = self.into_parts();
         if name.has_cedar() {

@@ -75,8 +75,8 @@ impl CommonTypeId {
     }
 }
 
-/// Whether the word names a type or a kind of types already: `Bool`, `Boolean`, `Entity`, `Extension`, `Long`, `Record`,
-/// `Set` and `String` do.
+/// Whether the word names a type or a kind of types already: `Bool`, `Boolean`, `Entity`, `Extension`, `Long`,
+/// `Record`, `Set` and `String` do.
 pub fn is_keyword_name(word: &str) -> bool
     ensures { result ≡ is_keyword_name word.now }
 {

@@ -15,15 +15,16 @@ use cedar_identifiers::NameText;
 use cedar_identifiers::laws::unreserved_ids_go_by_text;
 use std::hash::Hash;
 
-// `eq` is reflexive, symmetric and transitive, and `cmp` is a total order, by which values are level just where they are equal.
+// `eq` is reflexive, symmetric and transitive, and `cmp` is a total order, by which values are level just where they
+// are equal.
 pub(crate) fn ordered<T: Ord>()
     ensures equivalence { IsEquivalence T.eq }
     ensures order { IsTotalOrder T.cmp }
     ensures agrees { (a b : T) → T.eq a b ≡ eq_by_cmp T.cmp a b }
 {}
 
-/// Comparisons of types are lawful for every lawful type of names: `eq` is reflexive, symmetric and transitive, and `cmp` is a
-/// total order, by which two types are level exactly where they are equal.
+/// Comparisons of types are lawful for every lawful type of names: `eq` is reflexive, symmetric and transitive, and
+/// `cmp` is a total order, by which two types are level exactly where they are equal.
 pub fn types_are_lawful<N: Ord>()
     ensures types { IsLawfulComparison ⟦<Type<N> as PartialEq>⟧.eq ⟦<Type<N> as Ord>⟧.cmp }
     ensures shapes { IsLawfulComparison ⟦<TypeVariant<N> as PartialEq>⟧.eq ⟦<TypeVariant<N> as Ord>⟧.cmp }
@@ -42,8 +43,10 @@ pub fn declared_types_are_lawful<N: Ord>()
     ensures common_types { IsLawfulComparison ⟦<CommonType<N> as PartialEq>⟧.eq ⟦<CommonType<N> as Ord>⟧.cmp }
     ensures entity_types { IsLawfulComparison ⟦<EntityType<N> as PartialEq>⟧.eq ⟦<EntityType<N> as Ord>⟧.cmp }
     ensures kinds { IsLawfulComparison ⟦<EntityTypeKind<N> as PartialEq>⟧.eq ⟦<EntityTypeKind<N> as Ord>⟧.cmp }
-    ensures standard { IsLawfulComparison ⟦<StandardEntityType<N> as PartialEq>⟧.eq ⟦<StandardEntityType<N> as Ord>⟧.cmp }
-    ensures shapes { IsLawfulComparison ⟦<AttributesOrContext<N> as PartialEq>⟧.eq ⟦<AttributesOrContext<N> as Ord>⟧.cmp }
+    ensures standard { IsLawfulComparison ⟦<StandardEntityType<N> as PartialEq>⟧.eq
+        ⟦<StandardEntityType<N> as Ord>⟧.cmp }
+    ensures shapes { IsLawfulComparison ⟦<AttributesOrContext<N> as PartialEq>⟧.eq
+        ⟦<AttributesOrContext<N> as Ord>⟧.cmp }
 {
     ordered::<CommonTypeId>();
     ordered::<CommonType<N>>();
@@ -58,7 +61,8 @@ pub fn fragments_are_lawful<N: NameText + Ord>()
     ensures action_types { IsLawfulComparison ⟦<ActionType<N> as PartialEq>⟧.eq ⟦<ActionType<N> as Ord>⟧.cmp }
     ensures applies_to { IsLawfulComparison ⟦<ApplySpec<N> as PartialEq>⟧.eq ⟦<ApplySpec<N> as Ord>⟧.cmp }
     ensures action_uids { IsLawfulComparison ⟦<ActionEntityUID<N> as PartialEq>⟧.eq ⟦<ActionEntityUID<N> as Ord>⟧.cmp }
-    ensures namespaces { IsLawfulComparison ⟦<NamespaceDefinition<N> as PartialEq>⟧.eq ⟦<NamespaceDefinition<N> as Ord>⟧.cmp }
+    ensures namespaces { IsLawfulComparison ⟦<NamespaceDefinition<N> as PartialEq>⟧.eq
+        ⟦<NamespaceDefinition<N> as Ord>⟧.cmp }
     ensures fragments { IsLawfulComparison ⟦<Fragment<N> as PartialEq>⟧.eq ⟦<Fragment<N> as Ord>⟧.cmp }
 {
     ordered::<ActionType<N>>();
@@ -87,8 +91,10 @@ pub fn declared_types_hash_alike<N: Ord + Hash>()
     ensures common_types { HashesAlike ⟦<CommonType<N> as PartialEq>⟧.eq ⟦<CommonType<N> as Hash>⟧.hash_input }
     ensures entity_types { HashesAlike ⟦<EntityType<N> as PartialEq>⟧.eq ⟦<EntityType<N> as Hash>⟧.hash_input }
     ensures kinds { HashesAlike ⟦<EntityTypeKind<N> as PartialEq>⟧.eq ⟦<EntityTypeKind<N> as Hash>⟧.hash_input }
-    ensures standard { HashesAlike ⟦<StandardEntityType<N> as PartialEq>⟧.eq ⟦<StandardEntityType<N> as Hash>⟧.hash_input }
-    ensures shapes { HashesAlike ⟦<AttributesOrContext<N> as PartialEq>⟧.eq ⟦<AttributesOrContext<N> as Hash>⟧.hash_input }
+    ensures standard { HashesAlike ⟦<StandardEntityType<N> as PartialEq>⟧.eq
+        ⟦<StandardEntityType<N> as Hash>⟧.hash_input }
+    ensures shapes { HashesAlike ⟦<AttributesOrContext<N> as PartialEq>⟧.eq
+        ⟦<AttributesOrContext<N> as Hash>⟧.hash_input }
 {
     lawful::<CommonTypeId>();
     lawful::<CommonType<N>>();
@@ -103,7 +109,8 @@ pub fn fragments_hash_alike<N: NameText + Ord + Hash>()
     ensures action_types { HashesAlike ⟦<ActionType<N> as PartialEq>⟧.eq ⟦<ActionType<N> as Hash>⟧.hash_input }
     ensures applies_to { HashesAlike ⟦<ApplySpec<N> as PartialEq>⟧.eq ⟦<ApplySpec<N> as Hash>⟧.hash_input }
     ensures action_uids { HashesAlike ⟦<ActionEntityUID<N> as PartialEq>⟧.eq ⟦<ActionEntityUID<N> as Hash>⟧.hash_input }
-    ensures namespaces { HashesAlike ⟦<NamespaceDefinition<N> as PartialEq>⟧.eq ⟦<NamespaceDefinition<N> as Hash>⟧.hash_input }
+    ensures namespaces { HashesAlike ⟦<NamespaceDefinition<N> as PartialEq>⟧.eq
+        ⟦<NamespaceDefinition<N> as Hash>⟧.hash_input }
     ensures fragments { HashesAlike ⟦<Fragment<N> as PartialEq>⟧.eq ⟦<Fragment<N> as Hash>⟧.hash_input }
 {
     lawful::<ActionType<N>>();

@@ -1,6 +1,9 @@
 //! No comparison of fragments sees a place. Each law is what its function ensures; the functions do nothing.
 ghost use Rattle.schema_json.specs.Comparisons.{IsPlaceless};
-ghost use Rattle.schema_json.specs.Places.{erased_type, erased_variant, erased_record, erased_attribute, erased_common_type, erased_shape, erased_standard, erased_kind, erased_entity_type, erased_applies_to, erased_action_type, erased_namespace, erased_fragment};
+ghost use Rattle.schema_json.specs.Places.{erased_type, erased_variant, erased_record, erased_attribute};
+ghost use Rattle.schema_json.specs.Places.{erased_common_type, erased_shape, erased_standard, erased_kind};
+ghost use Rattle.schema_json.specs.Places.{erased_entity_type, erased_applies_to, erased_action_type, erased_namespace};
+ghost use Rattle.schema_json.specs.Places.{erased_fragment};
 
 use crate::action_type::{ActionEntityUID, ActionType, ApplySpec};
 use crate::common_type::{CommonType, CommonTypeId};

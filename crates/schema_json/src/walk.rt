@@ -19,7 +19,8 @@ impl<N> Type<N> {
 // Adds those of a type.
 #[cycle(gather)]
 fn gather<'a, N>(ty: &'a Type<N>, found: &mut Vec<&'a N>) -> Result<(), AllocError>
-    ensures { OnOk result (map (λ name. name.now) found.new.items ≡ map (λ name. name.now) found.old.items ++ references ty.now) }
+    ensures { OnOk result (map (λ name. name.now) found.new.items ≡ map (λ name. name.now) found.old.items
+        ++ references ty.now) }
 {
     match ty {
         Type::Variant { ty, .. } => gather_variant(ty, found),
@@ -33,7 +34,8 @@ fn gather<'a, N>(ty: &'a Type<N>, found: &mut Vec<&'a N>) -> Result<(), AllocErr
 // Adds those of a shape.
 #[cycle(gather)]
 fn gather_variant<'a, N>(ty: &'a TypeVariant<N>, found: &mut Vec<&'a N>) -> Result<(), AllocError>
-    ensures { OnOk result (map (λ name. name.now) found.new.items ≡ map (λ name. name.now) found.old.items ++ variant_references ty.now) }
+    ensures { OnOk result (map (λ name. name.now) found.new.items ≡ map (λ name. name.now) found.old.items
+        ++ variant_references ty.now) }
 {
     match ty {
         TypeVariant::Set { element } => gather(element.get(), found),
@@ -56,7 +58,8 @@ fn gather_entries<'a, N>(
     entries: &'a [(Text, TypeOfAttribute<N>)],
     found: &mut Vec<&'a N>,
 ) -> Result<(), AllocError>
-    ensures { OnOk result (map (λ name. name.now) found.new.items ≡ map (λ name. name.now) found.old.items ++ entry_references entries.now) }
+    ensures { OnOk result (map (λ name. name.now) found.new.items ≡ map (λ name. name.now) found.old.items
+        ++ entry_references entries.now) }
 {
     for (_, attribute) in entries {
         gather(&attribute.ty, found)?;

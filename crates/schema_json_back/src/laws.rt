@@ -7,7 +7,10 @@ ghost use Rattle.cedar_identifiers.specs.declared.raw_name.RawName.{RawName as R
 ghost use Rattle.schema_json.specs.declared.fragment.Fragment.{Fragment};
 ghost use Rattle.schema_says.specs.BareFragments.{bare_fragment};
 ghost use Rattle.schema_json_back.specs.Sayable.{IsSayableFragment};
-ghost use Rattle.schema_json_errors.specs.declared.json_error.JsonDeserializationError.{JsonDeserializationError as Error};
+ghost use Rattle.schema_json_errors.specs.declared.json_error.JsonDeserializationError.{
+  JsonDeserializationError as
+      Error,
+};
 ghost use Rattle.schema_json_errors.specs.declared.json_fault.JsonFault.TheVariants.{Memory};
 ghost use Rattle.schema_json_io.specs.Causes.{IsJsonTextError, IsValueError};
 ghost use Rattle.schema_json_io.specs.Texts.{Holds, TextShape, ValueShape};
@@ -33,8 +36,8 @@ pub fn sayable_values_are_read()
         → IsValueError (json_value ⟦<RawName as NameText>⟧.components f) e → e.fault ≡ Memory }
 {}
 
-/// Reading a text that holds the JSON value of a sayable fragment gives the fragment, places aside, and nothing else; it
-/// is refused only when out of memory.
+/// Reading a text that holds the JSON value of a sayable fragment gives the fragment, places aside, and nothing else;
+/// it is refused only when out of memory.
 pub fn sayable_texts_are_read()
     ensures said { (text : List ℕ) (f : Fragment Raw ⟦<RawName as NameText>⟧) → IsSayableFragment f
         → Holds text (json_value ⟦<RawName as NameText>⟧.components f) → TextShape text (bare_fragment f) }

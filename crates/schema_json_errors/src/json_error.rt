@@ -56,7 +56,7 @@ impl JsonDeserializationError {
         self.fault.text(alloc)
     }
 
-    /// Advice, where it has any.
+    /// Its advice, if it has any.
     pub fn help(&self, alloc: Global, _source: &str) -> Result<Option<Text>, AllocError>
         ensures help { IfOk result (λ help. help ≡ json_error_help self.now) }
     {
@@ -66,14 +66,14 @@ impl JsonDeserializationError {
         }
     }
 
-    /// The places that it points to, of which it has none.
+    /// It points to no place.
     pub fn labels(&self, alloc: Global) -> Result<Vec<Label>, AllocError>
         ensures none { IfOk result (λ labels. labels.items ≡ []) }
     {
         Ok(Vec::new(alloc))
     }
 
-    /// How grave it is: an error.
+    /// Its severity: an error.
     pub fn severity(&self) -> Severity
         ensures error { result ≡ Severity.Error }
     {

@@ -41,7 +41,8 @@ fn read_value(alloc: Global, value: &Value) -> Result<Fragment<RawName>, JsonFau
     read_whole(alloc, value)
 }
 
-// The fragment of a value that a text reads as, or the fault. Mostly the text has no number, and floats are not looked for.
+// The fragment of a value that a text reads as, or the fault. Mostly the text has no number, and floats are not looked
+// for.
 fn read_text(alloc: Global, text: &str, value: &Value) -> Result<Fragment<RawName>, JsonFault>
     requires { read text.now ≡ Some (view value.now) }
     ensures { MatchResult result (TextShape text.now) (IsTextCause text.now) }

@@ -16,8 +16,8 @@ pub struct Findings {
     pub has_number: bool,
 }
 
-/// Looks through a text: for the first key that its object has had before, and where there is none, for numbers. In a text
-/// that is no JSON no key repeats.
+/// Looks through a text: for the first key that its object has had before, and where there is none, for numbers. In a
+/// text that is no JSON no key repeats.
 pub fn look_through(alloc: Global, text: &str) -> Result<Findings, AllocError>
     ensures repeated { IfOk result (λ found. MatchOption found.repeated ((name : List ℕ) → ¬ RepeatedKey text.now name)
         (λ name. RepeatedKey text.now (string_bytes name))) }

@@ -12,7 +12,10 @@ ghost use Rattle.cedar_identifiers.specs.declared.name_kind.NameKind.TheVariants
 ghost use Rattle.cedar_identifiers.specs.declared.raw_name.RawName.{RawName as Raw};
 ghost use Rattle.cedar_identifiers.specs.declared.unreserved_id.UnreservedId.{UnreservedId};
 ghost use Rattle.schema_json.specs.declared.fragment.Fragment.{Fragment};
-ghost use Rattle.schema_json_errors.specs.declared.json_error.JsonDeserializationError.{JsonDeserializationError as Error};
+ghost use Rattle.schema_json_errors.specs.declared.json_error.JsonDeserializationError.{
+  JsonDeserializationError as
+      Error,
+};
 ghost use Rattle.schema_json_errors.specs.declared.json_fault.JsonFault.TheVariants.{Memory};
 ghost use Rattle.schema_json_io.specs.Causes.{IsJsonTextError};
 ghost use Rattle.schema_json_io.specs.Texts.{Holds, TextShape};
@@ -47,8 +50,8 @@ pub fn values_have_no_float<N: NameText>()
     ensures { (f : Fragment N ⟦<N as NameText>⟧) → has_float (json_value N.components f) ≡ false }
 {}
 
-/// The compact text of the JSON value of a fragment holds this value, where it is nested no deeper than JSON that is read may
-/// be.
+/// The compact text of the JSON value of a fragment holds this value, where it is nested no deeper than JSON that is
+/// read may be.
 pub fn compact_texts_hold_their_values<N: NameText>()
     ensures { (f : Fragment N ⟦<N as NameText>⟧) → depth (json_value N.components f) ≤ max_depth
         → Holds (compact_text (json_value N.components f)) (json_value N.components f) }

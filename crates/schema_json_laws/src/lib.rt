@@ -1,5 +1,5 @@
-//! Laws of schemas in JSON: what a value or a text says is one, and so is the cause of its refusal; what is written, and that
-//! it is read again.
+//! Laws of schemas in JSON: what a value or a text says is one, and so is the cause of its refusal; what is written,
+//! and that it is read again.
 #![tactic(auto)]
 
 pub mod laws;

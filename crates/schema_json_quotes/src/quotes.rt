@@ -11,7 +11,8 @@ use std::alloc::AllocError;
 // How a byte is written in a JSON string where it must be escaped.
 #[tactic(auto, unfolding(json::specs::Print::escape_byte))]
 fn escape_text(byte: u8) -> Option<&'static str>
-    ensures { MatchOption result (is_stop byte ≡ false) (λ text. (is_stop byte ≡ true) × (text.now ≡ escape_byte byte)) }
+    ensures { MatchOption result (is_stop byte ≡ false) (λ text. (is_stop byte ≡ true)
+        × (text.now ≡ escape_byte byte)) }
 {
     match byte {
         0x00 => Some("\\u0000"),

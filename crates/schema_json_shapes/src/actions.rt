@@ -3,9 +3,11 @@ ghost use Rattle.std.specs.Prelude.{◌≡◌, [], codes, IfOk};
 ghost use Rattle.serde_json.specs.Data.{object};
 ghost use Rattle.serde_json.specs.View.{view, items_view, members_view};
 ghost use Rattle.serde_json.specs.Find.{get_member};
-ghost use Rattle.schema_json_shapes.specs.Walk.{action, applies_to, action_ids, action_id, keys, named, or_null, demands, item_demands, object_demands};
+ghost use Rattle.schema_json_shapes.specs.Walk.{action, applies_to, action_ids, action_id, keys, named, or_null};
+ghost use Rattle.schema_json_shapes.specs.Walk.{demands, item_demands, object_demands};
 ghost use Rattle.schema_json_shapes.specs.Said.{IsNamed, IsList, AreItems, IsOptional, not_null};
-ghost use Rattle.schema_json_shapes.specs.Shapes.{AreKeys, IsAction, IsActionIn, IsAppliesTo, IsAppliesToIn, IsActionId, IsActionIdIn, key_texts};
+ghost use Rattle.schema_json_shapes.specs.Shapes.{AreKeys, IsAction, IsActionIn, IsAppliesTo, IsAppliesToIn};
+ghost use Rattle.schema_json_shapes.specs.Shapes.{IsActionId, IsActionIdIn, key_texts};
 ghost use Rattle.schema_json_shapes.specs.Reads.{ReadsValue, Any, field_demands};
 
 use crate::annotations::annotations_at;
@@ -100,7 +102,8 @@ fn read_keys(alloc: Global, members: &Members) -> Result<Set<Text>, AllocError>
 
 fn applies_to_at(alloc: Global, members: &Members) -> Result<Option<ApplySpec<RawName>>, ShapeFault>
     ensures { let o = get_member (codes "appliesTo") (members_view members.now.entries) in
-        ReadsValue result (field_demands (or_null applies_to) (codes "appliesTo") o) (IsOptional IsAppliesTo (not_null o)) }
+        ReadsValue result (field_demands (or_null applies_to) (codes "appliesTo") o)
+        (IsOptional IsAppliesTo (not_null o)) }
 {
     match given_at(members, "appliesTo") {
         Some(value) => Ok(Some(read_applies_to(alloc, value)?)),
@@ -109,7 +112,8 @@ fn applies_to_at(alloc: Global, members: &Members) -> Result<Option<ApplySpec<Ra
 }
 
 fn read_applies_to(alloc: Global, value: &Value) -> Result<ApplySpec<RawName>, ShapeFault>
-    ensures { ReadsValue result (demands applies_to (codes "appliesTo") (view value.now)) (IsAppliesTo (view value.now)) }
+    ensures { ReadsValue result (demands applies_to (codes "appliesTo") (view value.now))
+        (IsAppliesTo (view value.now)) }
 {
     match value.as_object() {
         Some(members) => read_applies_to_members(alloc, members),
@@ -153,7 +157,8 @@ fn parents_at(
 }
 
 fn read_parents(alloc: Global, value: &Value) -> Result<List<ActionEntityUID<RawName>>, ShapeFault>
-    ensures { ReadsValue result (demands action_ids (codes "memberOf") (view value.now)) (IsList IsActionId (view value.now)) }
+    ensures { ReadsValue result (demands action_ids (codes "memberOf") (view value.now))
+        (IsList IsActionId (view value.now)) }
 {
     match value.as_array() {
         Some(items) => read_action_ids(alloc, items),
@@ -200,7 +205,8 @@ fn read_id_members(alloc: Global, members: &Members) -> Result<ActionEntityUID<R
 /// The type of a reference to an action, where it is there and not null.
 pub fn action_type_at(alloc: Global, members: &Members) -> Result<Option<RawName>, ShapeFault>
     ensures { let o = get_member (codes "type") (members_view members.now.entries) in
-        ReadsValue result (field_demands (or_null (named NameRole.Name)) (codes "type") o) (IsOptional IsNamed (not_null o)) }
+        ReadsValue result (field_demands (or_null (named NameRole.Name)) (codes "type") o)
+        (IsOptional IsNamed (not_null o)) }
 {
     match given_at(members, "type") {
         Some(value) => Ok(Some(read_named(alloc, NameRole::Name, value, "type")?)),

@@ -4,7 +4,9 @@ ghost use Rattle.std.specs.Str.{chars};
 ghost use Rattle.serde_json.specs.View.{view, members_view};
 ghost use Rattle.serde_json.specs.Find.{get_member};
 ghost use Rattle.schema_json_shapes.specs.Seen.{name_texts};
-ghost use Rattle.schema_json_shapes.specs.Walk.{unless, present, flag_or, is_there, is_given, is_empty_list, has_members, external_conflict, enum_conflict, empty_enum, empty_annotated, not_external_type, not_external_action};
+ghost use Rattle.schema_json_shapes.specs.Walk.{unless, present, flag_or, is_there, is_given, is_empty_list};
+ghost use Rattle.schema_json_shapes.specs.Walk.{has_members, external_conflict, enum_conflict, empty_enum};
+ghost use Rattle.schema_json_shapes.specs.Walk.{empty_annotated, not_external_type, not_external_action};
 ghost use Rattle.schema_json_shapes.specs.Reads.{ReadsValue, Any};
 
 use crate::fields::{Members, at, given_at};
@@ -29,7 +31,8 @@ fn is_given(members: &Members, name: &str) -> bool
 
 // Those of the fields that the object has.
 fn there(alloc: Global, members: &Members, fields: &[&str]) -> Result<Vec<Text>, AllocError>
-    ensures { IfOk result (λ found. found.items ≡ map chars (present is_there (name_texts fields.now) (members_view members.now.entries))) }
+    ensures { IfOk result (λ found. found.items
+        ≡ map chars (present is_there (name_texts fields.now) (members_view members.now.entries))) }
 {
     let mut found = Vec::new(alloc);
     for field in fields {
@@ -42,7 +45,8 @@ fn there(alloc: Global, members: &Members, fields: &[&str]) -> Result<Vec<Text>,
 
 // Those of the fields that the object has with another value than null.
 fn given(alloc: Global, members: &Members, fields: &[&str]) -> Result<Vec<Text>, AllocError>
-    ensures { IfOk result (λ found. found.items ≡ map chars (present is_given (name_texts fields.now) (members_view members.now.entries))) }
+    ensures { IfOk result (λ found. found.items
+        ≡ map chars (present is_given (name_texts fields.now) (members_view members.now.entries))) }
 {
     let mut found = Vec::new(alloc);
     for field in fields {
@@ -66,7 +70,8 @@ fn is_external(members: &Members) -> bool
 /// Refuses what an external entity type may not have.
 pub fn check_external_type(alloc: Global, members: &Members) -> Result<(), ShapeFault>
     ensures { let ms = members_view members.now.entries in
-        ReadsValue result (unless (external_conflict is_there not_external_type ms (get_member (codes "external") ms)) ∷ []) Any }
+        ReadsValue result (unless (external_conflict is_there not_external_type ms (get_member (codes "external") ms))
+        ∷ []) Any }
 {
     if !is_external(members) {
         return Ok(());
@@ -80,7 +85,8 @@ pub fn check_external_type(alloc: Global, members: &Members) -> Result<(), Shape
 /// Refuses what an external action may not have.
 pub fn check_external_action(alloc: Global, members: &Members) -> Result<(), ShapeFault>
     ensures { let ms = members_view members.now.entries in
-        ReadsValue result (unless (external_conflict is_given not_external_action ms (get_member (codes "external") ms)) ∷ []) Any }
+        ReadsValue result (unless (external_conflict is_given not_external_action ms (get_member (codes "external") ms))
+        ∷ []) Any }
 {
     if !is_external(members) {
         return Ok(());

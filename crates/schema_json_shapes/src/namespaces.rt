@@ -5,9 +5,11 @@ ghost use Rattle.serde_json.specs.View.{view, members_view};
 ghost use Rattle.serde_json.specs.Find.{get_member};
 ghost use Rattle.cedar_data.specs.Text.{text_cmp};
 ghost use Rattle.schema_json.specs.Orders.{unreserved_cmp, common_cmp};
-ghost use Rattle.schema_json_shapes.specs.Walk.{namespace, common_types, entity_types, actions as actions_role, demands, key_demands, object_demands};
+ghost use Rattle.schema_json_shapes.specs.Walk.{namespace, common_types, entity_types, actions as actions_role};
+ghost use Rattle.schema_json_shapes.specs.Walk.{demands, key_demands, object_demands};
 ghost use Rattle.schema_json_shapes.specs.Said.{IsId, IsText, IsMap, IsMapOrNone};
-ghost use Rattle.schema_json_shapes.specs.Shapes.{IsCommonId, IsCommonType, IsEntityType, IsAction, IsNamespace, IsNamespaceIn};
+ghost use Rattle.schema_json_shapes.specs.Shapes.{IsCommonId, IsCommonType, IsEntityType, IsAction, IsNamespace};
+ghost use Rattle.schema_json_shapes.specs.Shapes.{IsNamespaceIn};
 ghost use Rattle.schema_json_shapes.specs.Reads.{ReadsValue, Any, field_demands};
 ghost use Rattle.schema_json_shapes.specs.Entries.{entry_demands};
 

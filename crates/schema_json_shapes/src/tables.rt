@@ -1,7 +1,8 @@
 // The fields of each object. A table is a literal, and none takes memory.
 ghost use Rattle.std.specs.Prelude.{◌≡◌};
 ghost use Rattle.schema_json_shapes.specs.Seen.{table};
-ghost use Rattle.schema_json_shapes.specs.Tables.{type_fields, namespace_fields, entity_type_fields, action_fields, applies_to_fields, action_id_fields};
+ghost use Rattle.schema_json_shapes.specs.Tables.{type_fields, namespace_fields, entity_type_fields, action_fields};
+ghost use Rattle.schema_json_shapes.specs.Tables.{applies_to_fields, action_id_fields};
 
 use crate::words::{TypeSite, TypeWord};
 

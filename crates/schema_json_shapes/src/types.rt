@@ -5,8 +5,10 @@ ghost use Rattle.serde_json.specs.View.{view, members_view};
 ghost use Rattle.serde_json.specs.Find.{get_member};
 ghost use Rattle.schema_json.specs.declared.types.TypeOfAttribute.{roll-TypeOfAttribute};
 ghost use Rattle.schema_json_shapes.specs.declared.words.TypeSite.{TypeSite as Site};
-ghost use Rattle.schema_json_shapes.specs.Walk.{typed, attributes as attributes_role, demands, member_demands, key_demands, word_fits, flag_or};
-ghost use Rattle.schema_json_shapes.specs.Said.{IsType, IsTyped, SaysTyped, AreAttributes, HasAttributes, IsOptional, HasWord, plain};
+ghost use Rattle.schema_json_shapes.specs.Walk.{typed, attributes as attributes_role, demands, member_demands};
+ghost use Rattle.schema_json_shapes.specs.Walk.{key_demands, word_fits, flag_or};
+ghost use Rattle.schema_json_shapes.specs.Said.{IsType, IsTyped, SaysTyped, AreAttributes, HasAttributes, IsOptional};
+ghost use Rattle.schema_json_shapes.specs.Said.{HasWord, plain};
 ghost use Rattle.schema_json_shapes.specs.Inner.{HasInner, IsInner, inner_demands, made_demands, IsMade};
 ghost use Rattle.schema_json_shapes.specs.Reads.{ReadsValue, IsDemandFault, field_demands};
 
@@ -113,7 +115,8 @@ fn read_shape(
 ) -> Result<Option<TypeVariant<RawName>>, ShapeFault>
     requires word { HasWord (members_view members.now.entries) word }
     requires needed { HasInner word (members_view members.now.entries) }
-    requires is_open { is_open ≡ flag_or false (get_member (codes "additionalAttributes") (members_view members.now.entries)) }
+    requires is_open { is_open ≡ flag_or false
+        (get_member (codes "additionalAttributes") (members_view members.now.entries)) }
     ensures { ReadsValue result (inner_demands word (members_view members.now.entries))
         (IsInner word (members_view members.now.entries)) }
 {
@@ -153,7 +156,8 @@ fn read_record(
 ) -> Result<TypeVariant<RawName>, ShapeFault>
     requires word { HasWord (members_view members.now.entries) TypeWord.Record }
     requires needed { HasInner TypeWord.Record (members_view members.now.entries) }
-    requires is_open { is_open ≡ flag_or false (get_member (codes "additionalAttributes") (members_view members.now.entries)) }
+    requires is_open { is_open ≡ flag_or false
+        (get_member (codes "additionalAttributes") (members_view members.now.entries)) }
     ensures { let ms = members_view members.now.entries in
         ReadsValue result (inner_demands TypeWord.Record ms) (λ v. IsType (object ms) (plain v)) }
 {
@@ -170,7 +174,8 @@ fn read_attributes(
     alloc: Global,
     value: &Value,
 ) -> Result<Map<Text, TypeOfAttribute<RawName>>, ShapeFault>
-    ensures { ReadsValue result (demands attributes_role (codes "attributes") (view value.now)) (HasAttributes (view value.now)) }
+    ensures { ReadsValue result (demands attributes_role (codes "attributes") (view value.now))
+        (HasAttributes (view value.now)) }
 {
     match value.as_object() {
         Some(members) => {
@@ -200,7 +205,11 @@ fn read_attribute_entries(
 }
 
 fn attribute(typed: Typed) -> TypeOfAttribute<RawName>
-    ensures { result ≡ roll-TypeOfAttribute RawName (record { ty = typed.ty; annotations = typed.annotations; required = typed.required }) }
+    ensures { result ≡ roll-TypeOfAttribute RawName (record {
+      ty = typed.ty;
+      annotations = typed.annotations;
+      required = typed.required;
+    }) }
 {
     let Typed {
         ty,

@@ -3,10 +3,12 @@ ghost use Rattle.std.specs.Prelude.{OnOk, IfOk, map, string_bytes, codes, true};
 ghost use Rattle.std.specs.List.Sorted.{IsStrictlySortedBy};
 ghost use Rattle.cedar_data.specs.Text.{text_cmp};
 ghost use Rattle.schema_json_values.specs.TypeValues.{object_of};
-ghost use Rattle.schema_json_values.specs.FragmentValues.{attribute_name_entry, applies_to_value, action_id_value, action_value, list_of};
+ghost use Rattle.schema_json_values.specs.FragmentValues.{attribute_name_entry, applies_to_value, action_id_value};
+ghost use Rattle.schema_json_values.specs.FragmentValues.{action_value, list_of};
 ghost use Rattle.schema_json_quotes.specs.Adds.{Adds};
 ghost use Rattle.schema_json_text.specs.AddsValue.{AddsValue};
-ghost use Rattle.schema_json_text.specs.Members.{AddsMember, ahead, shape_value, nulls_value, applies_value, parents_value};
+ghost use Rattle.schema_json_text.specs.Members.{AddsMember, ahead, shape_value, nulls_value, applies_value};
+ghost use Rattle.schema_json_text.specs.Members.{parents_value};
 
 use crate::annotations::push_first_annotations;
 use crate::entity_types::push_external;
@@ -59,7 +61,8 @@ fn push_applies_to<N: NameText>(
     later: bool,
     applies_to: &Option<ApplySpec<N>>,
 ) -> Result<bool, AllocError>
-    ensures { IfOk result (AddsMember later (codes "appliesTo") (applies_value N.components applies_to.now) (string_bytes out.old) (string_bytes out.new)) }
+    ensures { IfOk result (AddsMember later (codes "appliesTo") (applies_value N.components applies_to.now)
+        (string_bytes out.old) (string_bytes out.new)) }
 {
     match applies_to {
         Some(applies_to) => {
@@ -99,7 +102,8 @@ fn push_attribute_names(
     later: bool,
     attributes: &Option<Set<Text>>,
 ) -> Result<bool, AllocError>
-    ensures { IfOk result (AddsMember later (codes "attributes") (nulls_value attributes.now) (string_bytes out.old) (string_bytes out.new)) }
+    ensures { IfOk result (AddsMember later (codes "attributes") (nulls_value attributes.now) (string_bytes out.old)
+        (string_bytes out.new)) }
 {
     match attributes {
         Some(names) => {
@@ -154,7 +158,8 @@ fn push_parents<N: NameText>(
     later: bool,
     parents: &Option<List<ActionEntityUID<N>>>,
 ) -> Result<bool, AllocError>
-    ensures { IfOk result (AddsMember later (codes "memberOf") (parents_value N.components parents.now) (string_bytes out.old) (string_bytes out.new)) }
+    ensures { IfOk result (AddsMember later (codes "memberOf") (parents_value N.components parents.now)
+        (string_bytes out.old) (string_bytes out.new)) }
 {
     match parents {
         Some(actions) => {

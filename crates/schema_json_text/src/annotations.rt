@@ -45,7 +45,8 @@ pub fn push_first_annotations(
     out: &mut String,
     annotations: &Annotations,
 ) -> Result<bool, AllocError>
-    ensures { IfOk result (AddsMember false (codes "annotations") (annotations_value annotations.now.0) (string_bytes out.old) (string_bytes out.new)) }
+    ensures { IfOk result (AddsMember false (codes "annotations") (annotations_value annotations.now.0)
+        (string_bytes out.old) (string_bytes out.new)) }
 {
     let entries = annotations.0.as_slice();
     if entries.len() == 0 {

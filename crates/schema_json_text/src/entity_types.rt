@@ -1,10 +1,12 @@
 // Common types and entity types.
 ghost use Rattle.std.specs.Prelude.{OnOk, IfOk, map, string_bytes, codes, true};
 ghost use Rattle.serde_json.specs.Data.{no_members, put};
-ghost use Rattle.schema_json_values.specs.FragmentValues.{common_type_value, entity_type_value, kind_members, list_of, choice_value};
+ghost use Rattle.schema_json_values.specs.FragmentValues.{common_type_value, entity_type_value, kind_members, list_of};
+ghost use Rattle.schema_json_values.specs.FragmentValues.{choice_value};
 ghost use Rattle.schema_json_quotes.specs.Adds.{Adds};
 ghost use Rattle.schema_json_text.specs.AddsValue.{AddsValue};
-ghost use Rattle.schema_json_text.specs.Members.{AddsMember, entity_end, flag_value, named_list, shape_value, tags_value};
+ghost use Rattle.schema_json_text.specs.Members.{AddsMember, entity_end, flag_value, named_list, shape_value};
+ghost use Rattle.schema_json_text.specs.Members.{tags_value};
 
 use crate::annotations::push_first_annotations;
 use crate::leaves::{push_comma, push_later, push_names};
@@ -29,7 +31,8 @@ pub fn push_common_type<N: NameText>(
 
 /// Adds that another schema declares it, where it does.
 pub fn push_external(out: &mut String, later: bool, external: bool) -> Result<bool, AllocError>
-    ensures { IfOk result (AddsMember later (codes "external") (flag_value external true) (string_bytes out.old) (string_bytes out.new)) }
+    ensures { IfOk result (AddsMember later (codes "external") (flag_value external true) (string_bytes out.old)
+        (string_bytes out.new)) }
 {
     if external {
         push_later(out, later, "\"external\":true")?;
@@ -45,7 +48,8 @@ fn push_parents<N: NameText>(
     later: bool,
     parents: &[N],
 ) -> Result<bool, AllocError>
-    ensures { IfOk result (AddsMember later (codes "memberOfTypes") (named_list N.components parents.now) (string_bytes out.old) (string_bytes out.new)) }
+    ensures { IfOk result (AddsMember later (codes "memberOfTypes") (named_list N.components parents.now)
+        (string_bytes out.old) (string_bytes out.new)) }
 {
     if parents.len() == 0 {
         return Ok(later);
@@ -62,7 +66,8 @@ fn push_shape<N: NameText>(
     later: bool,
     shape: &Type<N>,
 ) -> Result<bool, AllocError>
-    ensures { IfOk result (AddsMember later (codes "shape") (shape_value N.components shape.now) (string_bytes out.old) (string_bytes out.new)) }
+    ensures { IfOk result (AddsMember later (codes "shape") (shape_value N.components shape.now) (string_bytes out.old)
+        (string_bytes out.new)) }
 {
     if shape.is_empty_record() {
         return Ok(later);
@@ -79,7 +84,8 @@ fn push_tags<N: NameText>(
     later: bool,
     tags: &Option<Boxed<Type<N>>>,
 ) -> Result<bool, AllocError>
-    ensures { IfOk result (AddsMember later (codes "tags") (tags_value N.components tags.now) (string_bytes out.old) (string_bytes out.new)) }
+    ensures { IfOk result (AddsMember later (codes "tags") (tags_value N.components tags.now) (string_bytes out.old)
+        (string_bytes out.new)) }
 {
     match tags {
         Some(ty) => {
@@ -113,7 +119,8 @@ fn push_standard<N: NameText>(
     external: bool,
     standard: &StandardEntityType<N>,
 ) -> Result<(), AllocError>
-    ensures { OnOk result (Adds out.old out.new (entity_end later external (kind_members N.components (EntityTypeKind.Standard standard.now)))) }
+    ensures { OnOk result (Adds out.old out.new
+        (entity_end later external (kind_members N.components (EntityTypeKind.Standard standard.now)))) }
 {
     let later = push_external(out, later, external)?;
     let later = push_parents(out, alloc, later, standard.member_of_types.as_slice())?;
@@ -129,7 +136,8 @@ fn push_enum(
     external: bool,
     choices: &NonEmpty<Eid>,
 ) -> Result<(), AllocError>
-    ensures { OnOk result (Adds out.old out.new (entity_end later external (put (codes "enum") (list_of (map choice_value choices.now)) no_members))) }
+    ensures { OnOk result (Adds out.old out.new
+        (entity_end later external (put (codes "enum") (list_of (map choice_value choices.now)) no_members))) }
 {
     push_later(out, later, "\"enum\":")?;
     push_choices(out, choices)?;

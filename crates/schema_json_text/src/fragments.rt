@@ -105,7 +105,8 @@ fn push_commons<N: NameText>(
     entries: &[(CommonTypeId, CommonType<N>)],
 ) -> Result<(), AllocError>
     requires { IsStrictlySortedBy (λ x y. text_cmp x.id.id.text y.id.id.text) (keys_of entries.now) }
-    ensures { OnOk result (Adds out.old out.new (ahead (codes "commonTypes") (object_value (map (common_entry N.components) entries.now)))) }
+    ensures { OnOk result (Adds out.old out.new
+        (ahead (codes "commonTypes") (object_value (map (common_entry N.components) entries.now)))) }
 {
     if entries.len() == 0 {
         return Ok(());
@@ -150,7 +151,8 @@ fn by_text<'a, N: NameText>(
     alloc: Global,
     entries: &'a [(Option<Name>, NamespaceDefinition<N>)],
 ) -> Result<Map<Text, &'a NamespaceDefinition<N>>, AllocError>
-    ensures { IfOk result (λ placed. ArePut (map (namespace_entry N.components) entries.now) (map (λ p. placed_entry N.components p.0 p.1.now) placed)) }
+    ensures { IfOk result (λ placed. ArePut (map (namespace_entry N.components) entries.now)
+        (map (λ p. placed_entry N.components p.0 p.1.now) placed)) }
 {
     let mut placed = Vec::with_capacity(alloc, entries.len())?;
     for (name, namespace) in entries {

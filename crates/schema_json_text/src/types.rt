@@ -3,10 +3,12 @@ ghost use Rattle.std.specs.Prelude.{◌≡◌, ◌∷◌, ◌++◌, ℕ, List, O
 ghost use Rattle.std.specs.Map.{keys_of};
 ghost use Rattle.std.specs.List.Sorted.{IsStrictlySortedBy};
 ghost use Rattle.cedar_data.specs.Text.{text_cmp};
-ghost use Rattle.schema_json_values.specs.TypeValues.{object_of, type_members, variant_members, attribute_entry, type_value, with_word};
+ghost use Rattle.schema_json_values.specs.TypeValues.{object_of, type_members, variant_members, attribute_entry};
+ghost use Rattle.schema_json_values.specs.TypeValues.{type_value, with_word};
 ghost use Rattle.schema_json_quotes.specs.Adds.{Adds};
 ghost use Rattle.schema_json_text.specs.AddsValue.{AddsValue};
-ghost use Rattle.schema_json_text.specs.Members.{ahead, annotations_ahead, member_behind, described, flag_value, named_type, record_start, word_end};
+ghost use Rattle.schema_json_text.specs.Members.{ahead, annotations_ahead, member_behind, described, flag_value};
+ghost use Rattle.schema_json_text.specs.Members.{named_type, record_start, word_end};
 
 use crate::annotations::push_annotations;
 use crate::leaves::push_key;
@@ -63,7 +65,8 @@ fn push_optional_ahead(out: &mut String, required: bool) -> Result<(), AllocErro
 
 // Adds that the attribute is not required, where it is not, behind another member.
 fn push_optional_behind(out: &mut String, required: bool) -> Result<(), AllocError>
-    ensures { OnOk result (Adds out.old out.new (member_behind true (codes "required") (flag_value (not required) false))) }
+    ensures { OnOk result (Adds out.old out.new
+        (member_behind true (codes "required") (flag_value (not required) false))) }
 {
     if required {
         return Ok(());
@@ -73,7 +76,8 @@ fn push_optional_behind(out: &mut String, required: bool) -> Result<(), AllocErr
 
 // Ends the object of a type behind its field: whether it is required, and its word.
 fn push_end(out: &mut String, required: bool, end: &str) -> Result<(), AllocError>
-    ensures { OnOk result (Adds out.old out.new (member_behind true (codes "required") (flag_value (not required) false) ++ end.now)) }
+    ensures { OnOk result (Adds out.old out.new (member_behind true (codes "required") (flag_value (not required) false)
+        ++ end.now)) }
 {
     push_optional_behind(out, required)?;
     push(out, end)
@@ -122,7 +126,8 @@ pub fn push_annotated<N: NameText>(
     annotations: &Annotations,
     required: bool,
 ) -> Result<(), AllocError>
-    ensures { OnOk result (AddsValue out.old out.new (described annotations.now.0 required (type_members N.components ty.now))) }
+    ensures { OnOk result (AddsValue out.old out.new
+        (described annotations.now.0 required (type_members N.components ty.now))) }
 {
     match ty {
         Type::Variant { ty, .. } => push_variant(out, alloc, ty, annotations, required),
@@ -141,7 +146,8 @@ fn push_variant<N: NameText>(
     annotations: &Annotations,
     required: bool,
 ) -> Result<(), AllocError>
-    ensures { OnOk result (AddsValue out.old out.new (described annotations.now.0 required (variant_members N.components ty.now))) }
+    ensures { OnOk result (AddsValue out.old out.new
+        (described annotations.now.0 required (variant_members N.components ty.now))) }
 {
     match ty {
         TypeVariant::String => push_word(out, annotations, required, "String"),

@@ -3,7 +3,9 @@ ghost use Rattle.std.specs.Prelude.{◌≡◌, IfOk, OnOk, map};
 ghost use Rattle.serde_json.specs.Data.{no_members};
 ghost use Rattle.serde_json.specs.View.{view, members_view};
 ghost use Rattle.schema_json_values.specs.TypeValues.{put_all};
-ghost use Rattle.schema_json_values.specs.FragmentValues.{with_attribute_names, attribute_name_entry, applies_to_value, with_applies_to, with_type, action_id_value, with_parents, list_of, action_value};
+ghost use Rattle.schema_json_values.specs.FragmentValues.{with_attribute_names, attribute_name_entry, applies_to_value};
+ghost use Rattle.schema_json_values.specs.FragmentValues.{with_applies_to, with_type, action_id_value, with_parents};
+ghost use Rattle.schema_json_values.specs.FragmentValues.{list_of, action_value};
 
 use crate::annotations::put_annotations;
 use crate::entity_types::put_shape;
@@ -20,7 +22,8 @@ fn put_attributes(
     alloc: Global,
     attributes: &Option<Set<Text>>,
 ) -> Result<(), AllocError>
-    ensures { OnOk result (members_view members.new.entries ≡ with_attribute_names attributes.now (members_view members.old.entries)) }
+    ensures { OnOk result (members_view members.new.entries
+        ≡ with_attribute_names attributes.now (members_view members.old.entries)) }
 {
     match attributes {
         Some(names) => {
@@ -61,7 +64,8 @@ fn put_applies_to<N: NameText>(
     alloc: Global,
     applies_to: &Option<ApplySpec<N>>,
 ) -> Result<(), AllocError>
-    ensures { OnOk result (members_view members.new.entries ≡ with_applies_to N.components applies_to.now (members_view members.old.entries)) }
+    ensures { OnOk result (members_view members.new.entries ≡ with_applies_to N.components applies_to.now
+        (members_view members.old.entries)) }
 {
     match applies_to {
         Some(applies_to) => {
@@ -78,7 +82,8 @@ fn put_type<N: NameText>(
     alloc: Global,
     ty: &Option<N>,
 ) -> Result<(), AllocError>
-    ensures { OnOk result (members_view members.new.entries ≡ with_type N.components ty.now (members_view members.old.entries)) }
+    ensures { OnOk result (members_view members.new.entries
+        ≡ with_type N.components ty.now (members_view members.old.entries)) }
 {
     match ty {
         Some(name) => {
@@ -120,7 +125,8 @@ fn put_parents<N: NameText>(
     alloc: Global,
     parents: &Option<List<ActionEntityUID<N>>>,
 ) -> Result<(), AllocError>
-    ensures { OnOk result (members_view members.new.entries ≡ with_parents N.components parents.now (members_view members.old.entries)) }
+    ensures { OnOk result (members_view members.new.entries ≡ with_parents N.components parents.now
+        (members_view members.old.entries)) }
 {
     match parents {
         Some(actions) => {

@@ -16,7 +16,8 @@ pub fn put_annotations(
     alloc: Global,
     annotations: &Annotations,
 ) -> Result<(), AllocError>
-    ensures { OnOk result (members_view members.new.entries ≡ with_annotations annotations.now.0 (members_view members.old.entries)) }
+    ensures { OnOk result (members_view members.new.entries
+        ≡ with_annotations annotations.now.0 (members_view members.old.entries)) }
 {
     let entries = annotations.0.as_slice();
     if entries.len() == 0 {

@@ -1,7 +1,8 @@
 // Common types and entity types.
 ghost use Rattle.std.specs.Prelude.{◌≡◌, IfOk, OnOk, map, codes};
 ghost use Rattle.serde_json.specs.View.{view, members_view};
-ghost use Rattle.schema_json_values.specs.FragmentValues.{common_type_value, with_shape, with_tags, with_list, list_of, name_value, choice_value, kind_members, entity_type_value};
+ghost use Rattle.schema_json_values.specs.FragmentValues.{common_type_value, with_shape, with_tags, with_list, list_of};
+ghost use Rattle.schema_json_values.specs.FragmentValues.{name_value, choice_value, kind_members, entity_type_value};
 
 use crate::annotations::put_annotations;
 use crate::leaves::{Members, names_value, put_flag, text_value};
@@ -31,7 +32,8 @@ pub fn put_shape<N: NameText>(
     key: &str,
     ty: &Type<N>,
 ) -> Result<(), AllocError>
-    ensures { OnOk result (members_view members.new.entries ≡ with_shape N.components key.now ty.now (members_view members.old.entries)) }
+    ensures { OnOk result (members_view members.new.entries ≡ with_shape N.components key.now ty.now
+        (members_view members.old.entries)) }
 {
     if ty.is_empty_record() {
         return Ok(());
@@ -45,7 +47,8 @@ fn put_tags<N: NameText>(
     alloc: Global,
     tags: &Option<Boxed<Type<N>>>,
 ) -> Result<(), AllocError>
-    ensures { OnOk result (members_view members.new.entries ≡ with_tags N.components tags.now (members_view members.old.entries)) }
+    ensures { OnOk result (members_view members.new.entries
+        ≡ with_tags N.components tags.now (members_view members.old.entries)) }
 {
     match tags {
         Some(ty) => {
@@ -61,7 +64,9 @@ fn put_parents<N: NameText>(
     alloc: Global,
     parents: &[N],
 ) -> Result<(), AllocError>
-    ensures { OnOk result (members_view members.new.entries ≡ with_list (codes "memberOfTypes") (map (name_value N.components) parents.now) (members_view members.old.entries)) }
+    ensures { OnOk result (members_view members.new.entries
+        ≡ with_list (codes "memberOfTypes") (map (name_value N.components) parents.now)
+        (members_view members.old.entries)) }
 {
     if parents.len() == 0 {
         return Ok(());
@@ -74,7 +79,8 @@ fn standard_members<N: NameText>(
     alloc: Global,
     standard: &StandardEntityType<N>,
 ) -> Result<Members, AllocError>
-    ensures { IfOk result (λ m. members_view m.entries ≡ kind_members N.components (EntityTypeKind.Standard standard.now)) }
+    ensures { IfOk result (λ m. members_view m.entries
+        ≡ kind_members N.components (EntityTypeKind.Standard standard.now)) }
 {
     let mut members = Map::new(alloc);
     put_parents(&mut members, alloc, standard.member_of_types.as_slice())?;

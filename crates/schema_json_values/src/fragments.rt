@@ -4,7 +4,9 @@ ghost use Rattle.std.specs.Str.{encode_utf8_all};
 ghost use Rattle.serde_json.specs.Data.{Data, no_members};
 ghost use Rattle.serde_json.specs.View.{view, members_view};
 ghost use Rattle.schema_json_values.specs.TypeValues.{put_all};
-ghost use Rattle.schema_json_values.specs.FragmentValues.{common_entry, entity_entry, action_entry, with_object, namespace_value, namespace_entry, namespace_bytes, json_value};
+ghost use Rattle.schema_json_values.specs.FragmentValues.{common_entry, entity_entry, action_entry, with_object};
+ghost use Rattle.schema_json_values.specs.FragmentValues.{namespace_value, namespace_entry, namespace_bytes};
+ghost use Rattle.schema_json_values.specs.FragmentValues.{json_value};
 
 use crate::actions::action_value;
 use crate::annotations::put_annotations;
@@ -22,7 +24,8 @@ fn common_members<N: NameText>(
     alloc: Global,
     entries: &[(CommonTypeId, CommonType<N>)],
 ) -> Result<Members, AllocError>
-    ensures { IfOk result (λ m. members_view m.entries ≡ put_all (map (common_entry N.components) entries.now) no_members) }
+    ensures { IfOk result (λ m. members_view m.entries
+        ≡ put_all (map (common_entry N.components) entries.now) no_members) }
 {
     let mut members = Map::new(alloc);
     for (id, common) in entries {
@@ -38,7 +41,9 @@ fn put_common_types<N: NameText>(
     alloc: Global,
     entries: &[(CommonTypeId, CommonType<N>)],
 ) -> Result<(), AllocError>
-    ensures { OnOk result (members_view members.new.entries ≡ with_object (codes "commonTypes") (map (common_entry N.components) entries.now) (members_view members.old.entries)) }
+    ensures { OnOk result (members_view members.new.entries
+        ≡ with_object (codes "commonTypes") (map (common_entry N.components) entries.now)
+        (members_view members.old.entries)) }
 {
     if entries.len() == 0 {
         return Ok(());
@@ -51,7 +56,8 @@ fn entity_members<N: NameText>(
     alloc: Global,
     entries: &[(UnreservedId, EntityType<N>)],
 ) -> Result<Members, AllocError>
-    ensures { IfOk result (λ m. members_view m.entries ≡ put_all (map (entity_entry N.components) entries.now) no_members) }
+    ensures { IfOk result (λ m. members_view m.entries
+        ≡ put_all (map (entity_entry N.components) entries.now) no_members) }
 {
     let mut members = Map::new(alloc);
     for (id, entity) in entries {
@@ -65,7 +71,8 @@ fn action_members<N: NameText>(
     alloc: Global,
     entries: &[(Text, ActionType<N>)],
 ) -> Result<Members, AllocError>
-    ensures { IfOk result (λ m. members_view m.entries ≡ put_all (map (action_entry N.components) entries.now) no_members) }
+    ensures { IfOk result (λ m. members_view m.entries
+        ≡ put_all (map (action_entry N.components) entries.now) no_members) }
 {
     let mut members = Map::new(alloc);
     for (id, action) in entries {
@@ -105,7 +112,8 @@ fn namespace_members<N: NameText>(
     alloc: Global,
     entries: &[(Option<Name>, NamespaceDefinition<N>)],
 ) -> Result<Members, AllocError>
-    ensures { IfOk result (λ m. members_view m.entries ≡ put_all (map (namespace_entry N.components) entries.now) no_members) }
+    ensures { IfOk result (λ m. members_view m.entries
+        ≡ put_all (map (namespace_entry N.components) entries.now) no_members) }
 {
     let mut members = Map::new(alloc);
     for (name, namespace) in entries {

@@ -45,7 +45,8 @@ pub fn put_flag(
     key: &str,
     flag: bool,
 ) -> Result<(), AllocError>
-    ensures { OnOk result (members_view members.new.entries ≡ with_flag asked key.now flag (members_view members.old.entries)) }
+    ensures { OnOk result (members_view members.new.entries
+        ≡ with_flag asked key.now flag (members_view members.old.entries)) }
 {
     if asked {
         put(members, alloc, key, Value::Bool(flag))?;

@@ -2,7 +2,8 @@
 ghost use Rattle.std.specs.Prelude.{◌≡◌, IfOk, map, true, codes};
 ghost use Rattle.serde_json.specs.Data.{object, no_members, put as put_in};
 ghost use Rattle.serde_json.specs.View.{view, members_view};
-ghost use Rattle.schema_json_values.specs.TypeValues.{put_all, type_members, variant_members, attribute_entry, with_flag, with_word};
+ghost use Rattle.schema_json_values.specs.TypeValues.{put_all, type_members, variant_members, attribute_entry};
+ghost use Rattle.schema_json_values.specs.TypeValues.{with_flag, with_word};
 
 use crate::annotations::put_annotations;
 use crate::leaves::{Members, name_value, put_flag, text_value, with_word};
@@ -63,7 +64,8 @@ fn attribute_entries<N: NameText>(
     alloc: Global,
     entries: &[(Text, TypeOfAttribute<N>)],
 ) -> Result<Members, AllocError>
-    ensures { IfOk result (λ m. members_view m.entries ≡ put_all (map (attribute_entry N.components) entries.now) no_members) }
+    ensures { IfOk result (λ m. members_view m.entries
+        ≡ put_all (map (attribute_entry N.components) entries.now) no_members) }
 {
     let mut members = Map::new(alloc);
     for (name, attribute) in entries {
@@ -86,7 +88,8 @@ fn with_field(alloc: Global, word: &str, key: &str, value: Value) -> Result<Memb
 
 // The object of a type of records.
 fn with_attributes(alloc: Global, entries: Members, is_open: bool) -> Result<Members, AllocError>
-    ensures { IfOk result (λ m. members_view m.entries ≡ with_flag is_open (codes "additionalAttributes") true (put_in (codes "attributes") (object (members_view entries.entries)) (with_word (codes "Record")))) }
+    ensures { IfOk result (λ m. members_view m.entries ≡ with_flag is_open (codes "additionalAttributes") true
+        (put_in (codes "attributes") (object (members_view entries.entries)) (with_word (codes "Record")))) }
 {
     let mut members = with_field(alloc, "Record", "attributes", Value::Object(entries))?;
     put_flag(&mut members, alloc, is_open, "additionalAttributes", true)?;

@@ -15,5 +15,6 @@ pub fn type_gives_what_its_parts_give<N, U>(ty: &Type<N>)
 
 /// What the walk of a fragment gives is what its parts give, one after another.
 pub fn fragment_gives_what_its_parts_give<N: NameText, U>(fragment: &Fragment<N>)
-    ensures { (visit : Option Name → Part N → List U) → of_fragment visit fragment.now ≡ flat_map (λ e. visit e.0 e.1) (fragment_parts fragment.now) }
+    ensures { (visit : Option Name → Part N → List U) → of_fragment visit fragment.now
+        ≡ flat_map (λ e. visit e.0 e.1) (fragment_parts fragment.now) }
 {}

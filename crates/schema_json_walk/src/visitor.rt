@@ -33,7 +33,8 @@ pub(crate) fn meet<'a, N, V: Visitor<N>>(
     part: LentPart<'a, N>,
 ) -> Result<(), V::Refusal>
     ensures taken { OnOk result (FoldsTo (V.takes ns.now) visitor.old (itself (part_of part.entry)) visitor.new) }
-    ensures refused { IfErr result (StopsAmong (V.takes ns.now) (V.refuses ns.now) visitor.old (itself (part_of part.entry))) }
+    ensures refused { IfErr result (StopsAmong (V.takes ns.now) (V.refuses ns.now) visitor.old
+        (itself (part_of part.entry))) }
 {
     visitor.visit(ns, part)
 }
@@ -46,8 +47,10 @@ pub(crate) fn meet_where<'a, N, V: Visitor<N>>(
     there: bool,
     part: LentPart<'a, N>,
 ) -> Result<(), V::Refusal>
-    ensures taken { OnOk result (FoldsTo (V.takes ns.now) visitor.old (visit_where itself there (part_of part.entry)) visitor.new) }
-    ensures refused { IfErr result (StopsAmong (V.takes ns.now) (V.refuses ns.now) visitor.old (visit_where itself there (part_of part.entry))) }
+    ensures taken { OnOk result (FoldsTo (V.takes ns.now) visitor.old
+        (visit_where itself there (part_of part.entry)) visitor.new) }
+    ensures refused { IfErr result (StopsAmong (V.takes ns.now) (V.refuses ns.now) visitor.old
+        (visit_where itself there (part_of part.entry))) }
 {
     if there {
         return meet(visitor, ns, part);

@@ -3,7 +3,9 @@ ghost use Rattle.std.specs.List.{FoldsTo};
 ghost use Rattle.std.specs.Option.{option_map_or};
 ghost use Rattle.schema_json_walk.specs.Parts.{action_attributes};
 ghost use Rattle.schema_json_walk.specs.Visits.{StopsAmong};
-ghost use Rattle.schema_json_walk.specs.Walk.{itself, of_type, of_context, of_common, of_parents, of_principals, of_resources, of_standard, of_kind, of_entity, of_apply, of_uids, of_relations, of_action_parts, of_action};
+ghost use Rattle.schema_json_walk.specs.Walk.{itself, of_type, of_context, of_common, of_parents, of_principals};
+ghost use Rattle.schema_json_walk.specs.Walk.{of_resources, of_standard, of_kind, of_entity, of_apply, of_uids};
+ghost use Rattle.schema_json_walk.specs.Walk.{of_relations, of_action_parts, of_action};
 
 use crate::bare::{is_bare_action, is_bare_entity};
 use crate::lent_part::LentPart;
@@ -23,7 +25,8 @@ pub fn walk_context<'a, N, V: Visitor<N>>(
     context: &'a AttributesOrContext<N>,
 ) -> Result<(), V::Refusal>
     ensures taken { OnOk result (FoldsTo (V.takes ns.now) visitor.old (of_context itself context.now) visitor.new) }
-    ensures refused { IfErr result (StopsAmong (V.takes ns.now) (V.refuses ns.now) visitor.old (of_context itself context.now)) }
+    ensures refused { IfErr result (StopsAmong (V.takes ns.now) (V.refuses ns.now) visitor.old
+        (of_context itself context.now)) }
 {
     match &context.0 {
         Type::Variant { ty, .. } => walk_variant(visitor, ns, ty),
@@ -41,7 +44,8 @@ pub fn walk_common<'a, N, V: Visitor<N>>(
     common: &'a CommonType<N>,
 ) -> Result<(), V::Refusal>
     ensures taken { OnOk result (FoldsTo (V.takes ns.now) visitor.old (of_common itself common.now) visitor.new) }
-    ensures refused { IfErr result (StopsAmong (V.takes ns.now) (V.refuses ns.now) visitor.old (of_common itself common.now)) }
+    ensures refused { IfErr result (StopsAmong (V.takes ns.now) (V.refuses ns.now) visitor.old
+        (of_common itself common.now)) }
 {
     walk_type(visitor, ns, &common.ty)
 }
@@ -53,7 +57,8 @@ fn walk_parents<'a, N, V: Visitor<N>>(
     names: &'a [N],
 ) -> Result<(), V::Refusal>
     ensures taken { OnOk result (FoldsTo (V.takes ns.now) visitor.old (of_parents itself names.now) visitor.new) }
-    ensures refused { IfErr result (StopsAmong (V.takes ns.now) (V.refuses ns.now) visitor.old (of_parents itself names.now)) }
+    ensures refused { IfErr result (StopsAmong (V.takes ns.now) (V.refuses ns.now) visitor.old
+        (of_parents itself names.now)) }
 {
     for name in names {
         meet(visitor, ns, LentPart::Parent { name })?;
@@ -68,7 +73,8 @@ fn walk_principals<'a, N, V: Visitor<N>>(
     names: &'a [N],
 ) -> Result<(), V::Refusal>
     ensures taken { OnOk result (FoldsTo (V.takes ns.now) visitor.old (of_principals itself names.now) visitor.new) }
-    ensures refused { IfErr result (StopsAmong (V.takes ns.now) (V.refuses ns.now) visitor.old (of_principals itself names.now)) }
+    ensures refused { IfErr result (StopsAmong (V.takes ns.now) (V.refuses ns.now) visitor.old
+        (of_principals itself names.now)) }
 {
     for name in names {
         meet(visitor, ns, LentPart::Principal { name })?;
@@ -83,7 +89,8 @@ fn walk_resources<'a, N, V: Visitor<N>>(
     names: &'a [N],
 ) -> Result<(), V::Refusal>
     ensures taken { OnOk result (FoldsTo (V.takes ns.now) visitor.old (of_resources itself names.now) visitor.new) }
-    ensures refused { IfErr result (StopsAmong (V.takes ns.now) (V.refuses ns.now) visitor.old (of_resources itself names.now)) }
+    ensures refused { IfErr result (StopsAmong (V.takes ns.now) (V.refuses ns.now) visitor.old
+        (of_resources itself names.now)) }
 {
     for name in names {
         meet(visitor, ns, LentPart::Resource { name })?;
@@ -97,8 +104,10 @@ fn walk_tags<'a, N, V: Visitor<N>>(
     ns: &'a Option<Name>,
     tags: &'a Option<Boxed<Type<N>>>,
 ) -> Result<(), V::Refusal>
-    ensures taken { OnOk result (FoldsTo (V.takes ns.now) visitor.old (option_map_or (of_type itself) tags.now []) visitor.new) }
-    ensures refused { IfErr result (StopsAmong (V.takes ns.now) (V.refuses ns.now) visitor.old (option_map_or (of_type itself) tags.now [])) }
+    ensures taken { OnOk result (FoldsTo (V.takes ns.now) visitor.old
+        (option_map_or (of_type itself) tags.now []) visitor.new) }
+    ensures refused { IfErr result (StopsAmong (V.takes ns.now) (V.refuses ns.now) visitor.old
+        (option_map_or (of_type itself) tags.now [])) }
 {
     match tags {
         Some(tags) => walk_type(visitor, ns, tags.get()),
@@ -113,7 +122,8 @@ fn walk_standard<'a, N, V: Visitor<N>>(
     standard: &'a StandardEntityType<N>,
 ) -> Result<(), V::Refusal>
     ensures taken { OnOk result (FoldsTo (V.takes ns.now) visitor.old (of_standard itself standard.now) visitor.new) }
-    ensures refused { IfErr result (StopsAmong (V.takes ns.now) (V.refuses ns.now) visitor.old (of_standard itself standard.now)) }
+    ensures refused { IfErr result (StopsAmong (V.takes ns.now) (V.refuses ns.now) visitor.old
+        (of_standard itself standard.now)) }
 {
     walk_parents(visitor, ns, standard.member_of_types.as_slice())?;
     walk_type(visitor, ns, &standard.shape.0)?;
@@ -127,7 +137,8 @@ fn walk_kind<'a, N, V: Visitor<N>>(
     kind: &'a EntityTypeKind<N>,
 ) -> Result<(), V::Refusal>
     ensures taken { OnOk result (FoldsTo (V.takes ns.now) visitor.old (of_kind itself kind.now) visitor.new) }
-    ensures refused { IfErr result (StopsAmong (V.takes ns.now) (V.refuses ns.now) visitor.old (of_kind itself kind.now)) }
+    ensures refused { IfErr result (StopsAmong (V.takes ns.now) (V.refuses ns.now) visitor.old
+        (of_kind itself kind.now)) }
 {
     match kind {
         EntityTypeKind::Standard(standard) => walk_standard(visitor, ns, standard.get()),
@@ -142,7 +153,8 @@ pub fn walk_entity<'a, N, V: Visitor<N>>(
     entity: &'a EntityType<N>,
 ) -> Result<(), V::Refusal>
     ensures taken { OnOk result (FoldsTo (V.takes ns.now) visitor.old (of_entity itself entity.now) visitor.new) }
-    ensures refused { IfErr result (StopsAmong (V.takes ns.now) (V.refuses ns.now) visitor.old (of_entity itself entity.now)) }
+    ensures refused { IfErr result (StopsAmong (V.takes ns.now) (V.refuses ns.now) visitor.old
+        (of_entity itself entity.now)) }
 {
     let excess = entity.external && !is_bare_entity(entity);
     meet_where(visitor, ns, excess, LentPart::ExternalNotBare)?;
@@ -156,7 +168,8 @@ fn walk_apply<'a, N, V: Visitor<N>>(
     spec: &'a ApplySpec<N>,
 ) -> Result<(), V::Refusal>
     ensures taken { OnOk result (FoldsTo (V.takes ns.now) visitor.old (of_apply itself spec.now) visitor.new) }
-    ensures refused { IfErr result (StopsAmong (V.takes ns.now) (V.refuses ns.now) visitor.old (of_apply itself spec.now)) }
+    ensures refused { IfErr result (StopsAmong (V.takes ns.now) (V.refuses ns.now) visitor.old
+        (of_apply itself spec.now)) }
 {
     walk_principals(visitor, ns, spec.principal_types.as_slice())?;
     walk_resources(visitor, ns, spec.resource_types.as_slice())?;
@@ -169,8 +182,10 @@ fn walk_attributes<'a, N, V: Visitor<N>>(
     ns: &'a Option<Name>,
     names: &'a Option<Set<Text>>,
 ) -> Result<(), V::Refusal>
-    ensures taken { OnOk result (FoldsTo (V.takes ns.now) visitor.old (option_map_or (λ names. itself (action_attributes names)) names.now []) visitor.new) }
-    ensures refused { IfErr result (StopsAmong (V.takes ns.now) (V.refuses ns.now) visitor.old (option_map_or (λ names. itself (action_attributes names)) names.now [])) }
+    ensures taken { OnOk result (FoldsTo (V.takes ns.now) visitor.old
+        (option_map_or (λ names. itself (action_attributes names)) names.now []) visitor.new) }
+    ensures refused { IfErr result (StopsAmong (V.takes ns.now) (V.refuses ns.now) visitor.old
+        (option_map_or (λ names. itself (action_attributes names)) names.now [])) }
 {
     match names {
         Some(names) => meet(visitor, ns, LentPart::ActionAttributes { names }),
@@ -185,7 +200,8 @@ fn walk_uids<'a, N: NameText, V: Visitor<N>>(
     uids: &'a [ActionEntityUID<N>],
 ) -> Result<(), V::Refusal>
     ensures taken { OnOk result (FoldsTo (V.takes ns.now) visitor.old (of_uids itself uids.now) visitor.new) }
-    ensures refused { IfErr result (StopsAmong (V.takes ns.now) (V.refuses ns.now) visitor.old (of_uids itself uids.now)) }
+    ensures refused { IfErr result (StopsAmong (V.takes ns.now) (V.refuses ns.now) visitor.old
+        (of_uids itself uids.now)) }
 {
     for uid in uids {
         let (id, ty) = (&uid.id, &uid.ty);
@@ -200,8 +216,10 @@ fn walk_action_parents<'a, N: NameText, V: Visitor<N>>(
     ns: &'a Option<Name>,
     parents: &'a Option<List<ActionEntityUID<N>>>,
 ) -> Result<(), V::Refusal>
-    ensures taken { OnOk result (FoldsTo (V.takes ns.now) visitor.old (option_map_or (of_uids itself) parents.now []) visitor.new) }
-    ensures refused { IfErr result (StopsAmong (V.takes ns.now) (V.refuses ns.now) visitor.old (option_map_or (of_uids itself) parents.now [])) }
+    ensures taken { OnOk result (FoldsTo (V.takes ns.now) visitor.old
+        (option_map_or (of_uids itself) parents.now []) visitor.new) }
+    ensures refused { IfErr result (StopsAmong (V.takes ns.now) (V.refuses ns.now) visitor.old
+        (option_map_or (of_uids itself) parents.now [])) }
 {
     match parents {
         Some(parents) => walk_uids(visitor, ns, parents.as_slice()),
@@ -215,8 +233,10 @@ fn walk_application<'a, N, V: Visitor<N>>(
     ns: &'a Option<Name>,
     spec: &'a Option<ApplySpec<N>>,
 ) -> Result<(), V::Refusal>
-    ensures taken { OnOk result (FoldsTo (V.takes ns.now) visitor.old (option_map_or (of_apply itself) spec.now []) visitor.new) }
-    ensures refused { IfErr result (StopsAmong (V.takes ns.now) (V.refuses ns.now) visitor.old (option_map_or (of_apply itself) spec.now [])) }
+    ensures taken { OnOk result (FoldsTo (V.takes ns.now) visitor.old
+        (option_map_or (of_apply itself) spec.now []) visitor.new) }
+    ensures refused { IfErr result (StopsAmong (V.takes ns.now) (V.refuses ns.now) visitor.old
+        (option_map_or (of_apply itself) spec.now [])) }
 {
     match spec {
         Some(spec) => walk_apply(visitor, ns, spec),
@@ -231,7 +251,8 @@ fn walk_relations<'a, N: NameText, V: Visitor<N>>(
     action: &'a ActionType<N>,
 ) -> Result<(), V::Refusal>
     ensures taken { OnOk result (FoldsTo (V.takes ns.now) visitor.old (of_relations itself action.now) visitor.new) }
-    ensures refused { IfErr result (StopsAmong (V.takes ns.now) (V.refuses ns.now) visitor.old (of_relations itself action.now)) }
+    ensures refused { IfErr result (StopsAmong (V.takes ns.now) (V.refuses ns.now) visitor.old
+        (of_relations itself action.now)) }
 {
     walk_action_parents(visitor, ns, &action.member_of)?;
     walk_application(visitor, ns, &action.applies_to)
@@ -244,7 +265,8 @@ fn walk_action_parts<'a, N: NameText, V: Visitor<N>>(
     action: &'a ActionType<N>,
 ) -> Result<(), V::Refusal>
     ensures taken { OnOk result (FoldsTo (V.takes ns.now) visitor.old (of_action_parts itself action.now) visitor.new) }
-    ensures refused { IfErr result (StopsAmong (V.takes ns.now) (V.refuses ns.now) visitor.old (of_action_parts itself action.now)) }
+    ensures refused { IfErr result (StopsAmong (V.takes ns.now) (V.refuses ns.now) visitor.old
+        (of_action_parts itself action.now)) }
 {
     walk_attributes(visitor, ns, &action.attributes)?;
     walk_relations(visitor, ns, action)
@@ -257,7 +279,8 @@ pub fn walk_action<'a, N: NameText, V: Visitor<N>>(
     action: &'a ActionType<N>,
 ) -> Result<(), V::Refusal>
     ensures taken { OnOk result (FoldsTo (V.takes ns.now) visitor.old (of_action itself action.now) visitor.new) }
-    ensures refused { IfErr result (StopsAmong (V.takes ns.now) (V.refuses ns.now) visitor.old (of_action itself action.now)) }
+    ensures refused { IfErr result (StopsAmong (V.takes ns.now) (V.refuses ns.now) visitor.old
+        (of_action itself action.now)) }
 {
     let excess = action.external && !is_bare_action(action);
     meet_where(visitor, ns, excess, LentPart::ExternalNotBare)?;

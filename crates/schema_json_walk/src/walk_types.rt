@@ -37,7 +37,8 @@ pub fn walk_variant<'a, N, V: Visitor<N>>(
     shape: &'a TypeVariant<N>,
 ) -> Result<(), V::Refusal>
     ensures taken { OnOk result (FoldsTo (V.takes ns.now) visitor.old (of_variant itself shape.now) visitor.new) }
-    ensures refused { IfErr result (StopsAmong (V.takes ns.now) (V.refuses ns.now) visitor.old (of_variant itself shape.now)) }
+    ensures refused { IfErr result (StopsAmong (V.takes ns.now) (V.refuses ns.now) visitor.old
+        (of_variant itself shape.now)) }
 {
     match shape {
         TypeVariant::Set { element } => walk_type(visitor, ns, element.get()),
@@ -64,7 +65,8 @@ fn walk_record<'a, N, V: Visitor<N>>(
     fields: &'a RecordType<N>,
 ) -> Result<(), V::Refusal>
     ensures taken { OnOk result (FoldsTo (V.takes ns.now) visitor.old (of_record itself fields.now) visitor.new) }
-    ensures refused { IfErr result (StopsAmong (V.takes ns.now) (V.refuses ns.now) visitor.old (of_record itself fields.now)) }
+    ensures refused { IfErr result (StopsAmong (V.takes ns.now) (V.refuses ns.now) visitor.old
+        (of_record itself fields.now)) }
 {
     meet_where(
         visitor,
@@ -83,7 +85,8 @@ fn walk_entries<'a, N, V: Visitor<N>>(
     entries: &'a [(Text, TypeOfAttribute<N>)],
 ) -> Result<(), V::Refusal>
     ensures taken { OnOk result (FoldsTo (V.takes ns.now) visitor.old (of_entries itself entries.now) visitor.new) }
-    ensures refused { IfErr result (StopsAmong (V.takes ns.now) (V.refuses ns.now) visitor.old (of_entries itself entries.now)) }
+    ensures refused { IfErr result (StopsAmong (V.takes ns.now) (V.refuses ns.now) visitor.old
+        (of_entries itself entries.now)) }
 {
     for (_, attribute) in entries {
         walk_type(visitor, ns, &attribute.ty)?;

@@ -5,7 +5,9 @@ ghost use Rattle.schema_readback.specs.PrintedDecls.{tags_pieces};
 ghost use Rattle.schema_print_text.specs.Adds.{Adds};
 ghost use Rattle.schema_print_text.specs.PrintedTypes.{printed_type};
 ghost use Rattle.schema_print.specs.RowsOfTexts.{names_line_text};
-ghost use Rattle.schema_print.specs.PrintedFragments.{paths_of_names, shape_type_pieces, context_type_pieces, standard_pieces, entity_body_pieces, spec_pieces, action_body_pieces};
+ghost use Rattle.schema_print.specs.PrintedFragments.{paths_of_names, shape_type_pieces, context_type_pieces};
+ghost use Rattle.schema_print.specs.PrintedFragments.{standard_pieces, entity_body_pieces, spec_pieces};
+ghost use Rattle.schema_print.specs.PrintedFragments.{action_body_pieces};
 
 use crate::lists::{push_action_parents, push_choices, push_names, push_parents};
 use cedar_data::{Boxed, Text};
@@ -21,7 +23,8 @@ fn push_shape<N: NameText>(
     base: usize,
     shape: &Type<N>,
 ) -> Result<(), AllocError>
-    ensures { OnOk result (Adds text.old text.new (laid (shape_type_pieces true base (printed_type N.components shape.now)))) }
+    ensures { OnOk result (Adds text.old text.new
+        (laid (shape_type_pieces true base (printed_type N.components shape.now)))) }
 {
     if has_no_attributes(shape) {
         return Ok(());
@@ -37,7 +40,8 @@ fn push_context<N: NameText>(
     base: usize,
     context: &Type<N>,
 ) -> Result<(), AllocError>
-    ensures { OnOk result (Adds text.old text.new (laid (context_type_pieces true base (printed_type N.components context.now)))) }
+    ensures { OnOk result (Adds text.old text.new
+        (laid (context_type_pieces true base (printed_type N.components context.now)))) }
 {
     if has_no_attributes(context) {
         push(text, "{}")
@@ -52,7 +56,8 @@ fn push_tags<N: NameText>(
     alloc: Global,
     tags: &Option<Boxed<Type<N>>>,
 ) -> Result<(), AllocError>
-    ensures { OnOk result (Adds text.old text.new (laid (tags_pieces true (option_map (printed_type N.components) tags.now)))) }
+    ensures { OnOk result (Adds text.old text.new
+        (laid (tags_pieces true (option_map (printed_type N.components) tags.now)))) }
 {
     match tags {
         None => Ok(()),
@@ -113,7 +118,8 @@ fn push_names_line<N: NameText>(
     head: &str,
     names: &[N],
 ) -> Result<(), AllocError>
-    ensures { OnOk result (Adds text.old text.new (names_line_text base head.now (paths_of_names N.components names.now))) }
+    ensures { OnOk result (Adds text.old text.new
+        (names_line_text base head.now (paths_of_names N.components names.now))) }
 {
     push_spaces(text, base)?;
     push(text, head)?;

@@ -1,6 +1,8 @@
 ghost use Rattle.std.specs.Prelude.{◌≡◌, ℕ, List, IfOk};
 ghost use Rattle.std.specs.Str.{encode_utf8_all};
-ghost use Rattle.schema_print.specs.PartTexts.{fragment_part_text, namespace_part_text, type_part_text, shape_part_text, record_part_text, entity_type_part_text, standard_part_text, action_part_text};
+ghost use Rattle.schema_print.specs.PartTexts.{fragment_part_text, namespace_part_text, type_part_text};
+ghost use Rattle.schema_print.specs.PartTexts.{shape_part_text, record_part_text, entity_type_part_text};
+ghost use Rattle.schema_print.specs.PartTexts.{standard_part_text, action_part_text};
 
 use crate::bodies::{push_action_body, push_entity_body, push_standard};
 use crate::fragments::print_fragment;

@@ -37,7 +37,8 @@ fn push_commons<N: NameText>(
     behind: bool,
     commons: &[(CommonTypeId, CommonType<N>)],
 ) -> Result<(), AllocError>
-    ensures { OnOk result (Adds text.old text.new (row_behind (codes "\n") behind (map (λ c. laid (common_type_pieces N.components true base c)) commons.now))) }
+    ensures { OnOk result (Adds text.old text.new
+        (row_behind (codes "\n") behind (map (λ c. laid (common_type_pieces N.components true base c)) commons.now))) }
 {
     let mut behind = behind;
     for (name, common) in commons {
@@ -60,7 +61,8 @@ fn push_entity_types<N: NameText>(
     behind: bool,
     entity_types: &[(UnreservedId, EntityType<N>)],
 ) -> Result<(), AllocError>
-    ensures { OnOk result (Adds text.old text.new (row_behind (codes "\n") behind (map (λ e. laid (entity_pieces N.components true base e)) entity_types.now))) }
+    ensures { OnOk result (Adds text.old text.new
+        (row_behind (codes "\n") behind (map (λ e. laid (entity_pieces N.components true base e)) entity_types.now))) }
 {
     let mut behind = behind;
     for (name, entity_type) in entity_types {
@@ -88,7 +90,8 @@ fn push_actions<N: NameText>(
     behind: bool,
     actions: &[(Text, ActionType<N>)],
 ) -> Result<(), AllocError>
-    ensures { OnOk result (Adds text.old text.new (row_behind (codes "\n") behind (map (λ a. laid (action_pieces N.components true base a)) actions.now))) }
+    ensures { OnOk result (Adds text.old text.new
+        (row_behind (codes "\n") behind (map (λ a. laid (action_pieces N.components true base a)) actions.now))) }
 {
     let mut behind = behind;
     for (id, action) in actions {

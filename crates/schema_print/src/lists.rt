@@ -29,7 +29,8 @@ pub fn push_names<N: NameText>(
     alloc: Global,
     names: &[N],
 ) -> Result<(), AllocError>
-    ensures { OnOk result (Adds text.old text.new (laid (bracketed path_pieces (paths_of_names N.components names.now)))) }
+    ensures { OnOk result (Adds text.old text.new
+        (laid (bracketed path_pieces (paths_of_names N.components names.now)))) }
 {
     push(text, "[")?;
     let mut behind = false;
@@ -47,7 +48,8 @@ pub fn push_parents<N: NameText>(
     alloc: Global,
     names: &[N],
 ) -> Result<(), AllocError>
-    ensures { OnOk result (Adds text.old text.new (laid (parents_pieces path_pieces (paths_of_names N.components names.now)))) }
+    ensures { OnOk result (Adds text.old text.new
+        (laid (parents_pieces path_pieces (paths_of_names N.components names.now)))) }
 {
     if names.is_empty() {
         return Ok(());
@@ -103,7 +105,8 @@ pub fn push_action_parents<N: NameText>(
     alloc: Global,
     parents: &Option<List<ActionEntityUID<N>>>,
 ) -> Result<(), AllocError>
-    ensures { OnOk result (Adds text.old text.new (laid (parents_pieces ref_pieces (printed_parents N.components parents.now)))) }
+    ensures { OnOk result (Adds text.old text.new
+        (laid (parents_pieces ref_pieces (printed_parents N.components parents.now)))) }
 {
     match parents {
         None => Ok(()),
@@ -117,7 +120,8 @@ fn push_actions<N: NameText>(
     alloc: Global,
     actions: &[ActionEntityUID<N>],
 ) -> Result<(), AllocError>
-    ensures { OnOk result (Adds text.old text.new (laid (parents_pieces ref_pieces (map (printed_parent N.components) actions.now)))) }
+    ensures { OnOk result (Adds text.old text.new
+        (laid (parents_pieces ref_pieces (map (printed_parent N.components) actions.now)))) }
 {
     if actions.is_empty() {
         return Ok(());

@@ -24,13 +24,16 @@ struct NotPrintable;
 impl<'a> Visitor<RawName> for PrintableParts<'a> {
     type Refusal = NotPrintable;
 
-    ghost takes = { λ ns before part after. (after ≡ before) × IsPrintablePart before.fragment.now before.table.now ns part };
+    ghost takes = { λ ns before part after. (after ≡ before)
+        × IsPrintablePart before.fragment.now before.table.now ns part };
 
     ghost refuses = { λ ns before part refusal. IsPrintablePart before.fragment.now before.table.now ns part → ⊥ };
 
     fn visit(&mut self, ns: &Option<Name>, part: LentPart<'_, RawName>) -> Result<(), NotPrintable>
-        ensures taken { OnOk result ((self.new ≡ self.old) × IsPrintablePart self.old.fragment.now self.old.table.now ns.now (part_of part.entry)) }
-        ensures refused { IfErr result (λ refusal. IsPrintablePart self.old.fragment.now self.old.table.now ns.now (part_of part.entry) → ⊥) }
+        ensures taken { OnOk result ((self.new ≡ self.old)
+            × IsPrintablePart self.old.fragment.now self.old.table.now ns.now (part_of part.entry)) }
+        ensures refused { IfErr result (λ refusal. IsPrintablePart self.old.fragment.now self.old.table.now ns.now
+            (part_of part.entry) → ⊥) }
     {
         if is_printable_part(self.fragment, self.table, ns, part) {
             Ok(())
@@ -63,7 +66,8 @@ fn is_printable_part(
 
 // Whether each part of the fragment is printable where it stands.
 pub(crate) fn are_printable_parts(fragment: &Fragment<RawName>, table: &ExtensionTable) -> bool
-    ensures { result ≡ true ↔ AllByRecursion (λ e. IsPrintablePart fragment.now table.now e.0 e.1) (fragment_parts fragment.now) }
+    ensures { result ≡ true ↔ AllByRecursion (λ e. IsPrintablePart fragment.now table.now e.0 e.1)
+        (fragment_parts fragment.now) }
 {
     match walk_fragment(&mut PrintableParts { fragment, table }, fragment) {
         Ok(()) => true,

@@ -3,7 +3,8 @@ ghost use Rattle.std.specs.List.{list_all, list_any};
 ghost use Rattle.schema_json.specs.Keywords.{is_keyword_name};
 ghost use Rattle.schema_print.specs.Collisions.{is_shapeless, names_entity_type};
 ghost use Rattle.schema_print.specs.Printable.{is_record_or_common, has_whole_targets, is_annotated_where_named};
-ghost use Rattle.schema_print.specs.PrintableTests.{passes_action, passes_names, passes_types, passes_items, passes_block, has_distinct_names};
+ghost use Rattle.schema_print.specs.PrintableTests.{passes_action, passes_names, passes_types, passes_items};
+ghost use Rattle.schema_print.specs.PrintableTests.{passes_block, has_distinct_names};
 
 use crate::unprintable::{is_entity_type, is_record, is_shapeless};
 use cedar_data::Text;

@@ -1,6 +1,9 @@
 ghost use Rattle.std.specs.Prelude.{◌≡◌, ℕ, List, IfOk, IfErr, true};
 ghost use Rattle.std.specs.Str.{encode_utf8_all};
-ghost use Rattle.schema_print_errors.specs.declared.syntax_error.ToCedarSchemaSyntaxError.{ToCedarSchemaSyntaxError as Refusal};
+ghost use Rattle.schema_print_errors.specs.declared.syntax_error.ToCedarSchemaSyntaxError.{
+  ToCedarSchemaSyntaxError as
+      Refusal,
+};
 ghost use Rattle.schema_print.specs.PartTexts.{fragment_part_text};
 ghost use Rattle.schema_print.specs.PrintedFragments.{fragment_text};
 ghost use Rattle.schema_print.specs.Collisions.{HasText, IsUnprintable};

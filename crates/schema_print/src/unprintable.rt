@@ -1,6 +1,8 @@
 ghost use Rattle.std.specs.Prelude.{◌≡◌, ◌++◌, [], map, IfOk, OnOk, MatchOption};
 ghost use Rattle.cedar_identifiers.specs.Names.{components_of};
-ghost use Rattle.schema_print.specs.Collisions.{AreSortedNames, declared_in, if_wanted, names_entity_type, repeated_in, collisions_in, collisions, shapeless_in, shapeless, is_shapeless, is_record_type};
+ghost use Rattle.schema_print.specs.Collisions.{AreSortedNames, declared_in, if_wanted, names_entity_type, repeated_in};
+ghost use Rattle.schema_print.specs.Collisions.{collisions_in, collisions, shapeless_in, shapeless, is_shapeless};
+ghost use Rattle.schema_print.specs.Collisions.{is_record_type};
 
 use cedar_data::{CloneIn, List, NonEmpty};
 use cedar_identifiers::{InternalName, Name, NameText, UnreservedId};
@@ -34,7 +36,8 @@ fn add_name(
     id: &UnreservedId,
     wanted: bool,
 ) -> Result<(), AllocError>
-    ensures { OnOk result (map components_of names.new.items ≡ map components_of names.old.items ++ if_wanted wanted (declared_in namespace.now id.now.id.text)) }
+    ensures { OnOk result (map components_of names.new.items ≡ map components_of names.old.items
+        ++ if_wanted wanted (declared_in namespace.now id.now.id.text)) }
 {
     if !wanted {
         return Ok(());
@@ -64,7 +67,8 @@ fn add_collisions<N: NameText>(
     name: &Option<Name>,
     namespace: &NamespaceDefinition<N>,
 ) -> Result<(), AllocError>
-    ensures { OnOk result (map components_of names.new.items ≡ map components_of names.old.items ++ collisions_in name.now namespace.now) }
+    ensures { OnOk result (map components_of names.new.items ≡ map components_of names.old.items
+        ++ collisions_in name.now namespace.now) }
 {
     match name {
         None => Ok(()),
@@ -79,7 +83,8 @@ fn add_repeated<N: NameText>(
     name: &Option<Name>,
     namespace: &NamespaceDefinition<N>,
 ) -> Result<(), AllocError>
-    ensures { OnOk result (map components_of names.new.items ≡ map components_of names.old.items ++ repeated_in name.now namespace.now) }
+    ensures { OnOk result (map components_of names.new.items ≡ map components_of names.old.items
+        ++ repeated_in name.now namespace.now) }
 {
     for (id, _) in namespace.common_types.as_slice() {
         let id = id.as_unreserved();
@@ -122,7 +127,8 @@ fn add_shapeless<N>(
     name: &Option<Name>,
     entity_types: &[(UnreservedId, EntityType<N>)],
 ) -> Result<(), AllocError>
-    ensures { OnOk result (map components_of names.new.items ≡ map components_of names.old.items ++ shapeless_in name.now entity_types.now) }
+    ensures { OnOk result (map components_of names.new.items ≡ map components_of names.old.items
+        ++ shapeless_in name.now entity_types.now) }
 {
     for (id, entity_type) in entity_types {
         add_name(alloc, names, name, id, is_shapeless(entity_type))?;
@@ -134,7 +140,8 @@ fn add_shapeless<N>(
 pub fn sorted_names(
     mut names: Vec<InternalName>,
 ) -> Result<Option<NonEmpty<InternalName>>, AllocError>
-    ensures { IfOk result (λ found. MatchOption found (names.items ≡ []) (AreSortedNames ⟦<InternalName as Ord>⟧.cmp (map components_of names.items))) }
+    ensures { IfOk result (λ found. MatchOption found (names.items ≡ [])
+        (AreSortedNames ⟦<InternalName as Ord>⟧.cmp (map components_of names.items))) }
 {
     names.sort()?;
     match NonEmpty::from_vec(names) {

@@ -12,8 +12,9 @@ ghost use Rattle.schema_print.specs.Printable.{IsPrintable};
 ghost use Rattle.schema_print_says.specs.CedarForm.{cedar_form};
 ghost use Rattle.schema_print_resolves.specs.Alike.{AreAlike, as_resolved};
 
-/// The form that the text of a fragment has defines what the fragment defines, whatever the table is. Where the fragment is
-/// printable, each reference of the one means something exactly where each of the other does, and then both resolve alike.
+/// The form that the text of a fragment has defines what the fragment defines, whatever the table is. Where the
+/// fragment is printable, each reference of the one means something exactly where each of the other does, and then both
+/// resolve alike.
 pub fn printable_fragments_resolve_alike()
     ensures same_defined { (f : Fragment RawName as_written) (table : ExtensionTable)
         → defined f table ≡ defined (cedar_form f) table }

@@ -3,7 +3,8 @@ ghost use Rattle.schema_syntax_tokens.specs.Laid.{laid};
 ghost use Rattle.schema_readback.specs.Printed.{type_pieces, lines_pieces};
 ghost use Rattle.schema_readback.specs.Written.{rec};
 ghost use Rattle.schema_print_text.specs.Adds.{Adds};
-ghost use Rattle.schema_print_text.specs.PrintedTypes.{is_bare_record, printed_type, printed_variant, printed_entries, printed_type_text};
+ghost use Rattle.schema_print_text.specs.PrintedTypes.{is_bare_record, printed_type, printed_variant, printed_entries};
+ghost use Rattle.schema_print_text.specs.PrintedTypes.{printed_type_text};
 
 use crate::notes::{push_attribute_name, push_colon, push_notes};
 use crate::pushing::{deeper, push, push_name, push_spaces};
@@ -36,7 +37,8 @@ fn push_variant<N: NameText>(
     base: usize,
     ty: &TypeVariant<N>,
 ) -> Result<(), AllocError>
-    ensures { OnOk result (Adds text.old text.new (laid (type_pieces true base (printed_variant N.components ty.now)))) }
+    ensures { OnOk result (Adds text.old text.new
+        (laid (type_pieces true base (printed_variant N.components ty.now)))) }
 {
     match ty {
         TypeVariant::String => push(text, "__cedar::String"),
@@ -65,7 +67,8 @@ pub fn push_record<N: NameText>(
     base: usize,
     entries: &[(Text, TypeOfAttribute<N>)],
 ) -> Result<(), AllocError>
-    ensures { OnOk result (Adds text.old text.new (laid (type_pieces true base (rec (printed_entries N.components entries.now))))) }
+    ensures { OnOk result (Adds text.old text.new
+        (laid (type_pieces true base (rec (printed_entries N.components entries.now))))) }
 {
     if entries.is_empty() {
         push(text, "{")?;
@@ -87,7 +90,8 @@ fn push_entries<N: NameText>(
     base: usize,
     entries: &[(Text, TypeOfAttribute<N>)],
 ) -> Result<(), AllocError>
-    ensures { OnOk result (Adds text.old text.new (laid (lines_pieces true base (printed_entries N.components entries.now)))) }
+    ensures { OnOk result (Adds text.old text.new
+        (laid (lines_pieces true base (printed_entries N.components entries.now)))) }
 {
     let inner = deeper(base)?;
     for (name, attribute) in entries {

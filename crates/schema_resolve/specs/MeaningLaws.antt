@@ -1,4 +1,5 @@
--- Laws of what a reference means: it is the first candidate that is defined, it is one, and the reference is resolved to it.
+-- Laws of what a reference means: it is the first candidate that is defined, it is one, and the reference is resolved
+-- to it.
 use Rattle.std.specs.Prelude.{◌≡◌, ◌↔◌, Bool, true, false, List, ◌∷◌, ◌++◌, Option, Some}
 use Rattle.std.specs.List.{list_any}
 use Rattle.cedar_data.specs.declared.loc.Loc.{Loc}

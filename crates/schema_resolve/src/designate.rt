@@ -26,9 +26,9 @@ pub trait Designate {
     // the names that stand where either kind may and are neither, in the order of the walk
     ghost undesignated: { Definitions → Self → List Undefined };
 
-    /// What is given, with each reference that may mean either kind of type as a reference to a common type where its name
-    /// is one, and else to an entity type. The error names the first whose name is neither. All else stays and is not
-    /// looked up.
+    /// What is given, with each reference that may mean either kind of type as a reference to a common type where its
+    /// name is one, and else to an entity type. The error names the first whose name is neither. All else stays and is
+    /// not looked up.
     fn resolve_entity_or_common_types(
         self,
         alloc: Global,

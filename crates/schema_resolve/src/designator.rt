@@ -69,7 +69,8 @@ impl<'a> Renamer<InternalName, InternalName> for Designator<'a> {
 fn look_up(alloc: Global, defs: &AllDefs, name: &InternalName) -> Result<bool, Stop>
     ensures found { IfOk result (λ is_common. is_common ≡ (tests_of defs.now).is_common (components_of name.now)) }
     ensures defined { OnOk result (undesignated_type (tests_of defs.now) ReferenceType.CommonOrEntity name.now ≡ []) }
-    ensures err { IfErr result (NamesFirst (undesignated_type (tests_of defs.now) ReferenceType.CommonOrEntity name.now)) }
+    ensures err { IfErr result (NamesFirst
+        (undesignated_type (tests_of defs.now) ReferenceType.CommonOrEntity name.now)) }
 {
     match kind_of(defs, name) {
         Some(is_common) => Ok(is_common),
@@ -90,7 +91,8 @@ fn kind_of(defs: &AllDefs, name: &InternalName) -> Option<bool>
 
 // The error of a name that is neither a common type nor an entity type.
 fn neither(alloc: Global, name: &InternalName) -> Result<TypeNotDefinedError, AllocError>
-    ensures { IfOk result (λ error. error.undefined_types ≡ in_namespace None ReferenceType.CommonOrEntity (record { name = name.now }) ∷ []) }
+    ensures { IfOk result (λ error. error.undefined_types ≡ in_namespace None ReferenceType.CommonOrEntity
+        (record { name = name.now }) ∷ []) }
 {
     let raw = RawName::from_internal(name.clone_in(alloc)?);
     let undefined = raw.conditionally_qualify_with(alloc, None, ReferenceType::CommonOrEntity)?;

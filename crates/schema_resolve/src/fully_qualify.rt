@@ -6,8 +6,11 @@ ghost use Rattle.schema_resolve.specs.Faults.{NamesFirst};
 ghost use Rattle.schema_resolve.specs.Renamings.{resolving};
 ghost use Rattle.schema_resolve_targets.specs.Targets.{action_target_name, untargeted};
 ghost use Rattle.schema_resolve_targets.specs.ReferenceParts.{by_reference};
-ghost use Rattle.schema_resolve.specs.Renamed.{renamed, renamed_variant, renamed_record, renamed_attribute, renamed_context, renamed_entity, renamed_apply, renamed_uid, renamed_action, renamed_namespace};
-ghost use Rattle.schema_json_walk.specs.Walk.{of_type, of_variant, of_record, of_attribute, of_entity, of_apply, of_uid, of_action, of_namespace};
+ghost use Rattle.schema_resolve.specs.Renamed.{renamed, renamed_variant, renamed_record, renamed_attribute};
+ghost use Rattle.schema_resolve.specs.Renamed.{renamed_context, renamed_entity, renamed_apply, renamed_uid};
+ghost use Rattle.schema_resolve.specs.Renamed.{renamed_action, renamed_namespace};
+ghost use Rattle.schema_json_walk.specs.Walk.{of_type, of_variant, of_record, of_attribute, of_entity, of_apply};
+ghost use Rattle.schema_json_walk.specs.Walk.{of_uid, of_action, of_namespace};
 
 use crate::rename_items::{rename_action, rename_apply, rename_context, rename_entity, rename_uid};
 use crate::rename_namespaces::rename_namespace;
@@ -32,8 +35,8 @@ pub trait FullyQualify {
     // the references that mean nothing, in the order of the walk
     ghost undefined: { Definitions → Self → List Undefined };
 
-    /// What is given, with each reference replaced by the name of what it means, or the first reference of the walk that means
-    /// nothing.
+    /// What is given, with each reference replaced by the name of what it means, or the first reference of the walk
+    /// that means nothing.
     fn fully_qualify_type_references(
         self,
         alloc: Global,

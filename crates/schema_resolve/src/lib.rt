@@ -1,4 +1,5 @@
-//! What the names of a fragment mean: names qualified by the namespace that they stand in, and resolved to what is defined.
+//! What the names of a fragment mean: names qualified by the namespace that they stand in, and resolved to what is
+//! defined.
 #![tactic(auto)]
 
 pub mod designate;

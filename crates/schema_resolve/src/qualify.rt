@@ -3,7 +3,9 @@ ghost use Rattle.std.specs.Option.{option_copied};
 ghost use Rattle.cedar_identifiers.specs.declared.internal_name.InternalName.{InternalName};
 ghost use Rattle.schema_resolve.specs.Renamings.{qualifying};
 ghost use Rattle.schema_resolve_targets.specs.Qualified.{type_in_namespace};
-ghost use Rattle.schema_resolve.specs.Renamed.{renamed, renamed_variant, renamed_record, renamed_attribute, renamed_context, renamed_entity, renamed_apply, renamed_uid, renamed_action, renamed_namespace};
+ghost use Rattle.schema_resolve.specs.Renamed.{renamed, renamed_variant, renamed_record, renamed_attribute};
+ghost use Rattle.schema_resolve.specs.Renamed.{renamed_context, renamed_entity, renamed_apply, renamed_uid};
+ghost use Rattle.schema_resolve.specs.Renamed.{renamed_action, renamed_namespace};
 
 use crate::rename_items::{rename_action, rename_apply, rename_context, rename_entity, rename_uid};
 use crate::rename_namespaces::rename_namespace;
@@ -23,7 +25,8 @@ pub trait Qualify {
 
     ghost qualified: { Option InternalName → Self → Self.Out };
 
-    /// What is given, with each name as a reference from this namespace, and with the type `Action` where an action has none.
+    /// What is given, with each name as a reference from this namespace, and with the type `Action` where an action has
+    /// none.
     fn conditionally_qualify_type_references(
         self,
         alloc: Global,

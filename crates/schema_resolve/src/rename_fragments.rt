@@ -26,9 +26,12 @@ pub(crate) trait FragmentRenamer<N: NameText, M: NameText> {
         ns: &Option<Name>,
         definition: &NamespaceDefinition<N>,
     ) -> Result<NamespaceDefinition<M>, Stop>
-        ensures out { IfOk result (λ out. out ≡ renamed_namespace (becomes_in self.now ns.now) (action_becomes_in self.now ns.now) definition.now) }
-        ensures defined { OnOk result (of_namespace (by_reference (untargeted_in self.now ns.now)) definition.now ≡ []) }
-        ensures err { IfErr result (NamesFirst (of_namespace (by_reference (untargeted_in self.now ns.now)) definition.now)) };
+        ensures out { IfOk result (λ out. out ≡ renamed_namespace (becomes_in self.now ns.now)
+            (action_becomes_in self.now ns.now) definition.now) }
+        ensures defined { OnOk result (of_namespace (by_reference (untargeted_in self.now ns.now)) definition.now
+            ≡ []) }
+        ensures err { IfErr result (NamesFirst
+            (of_namespace (by_reference (untargeted_in self.now ns.now)) definition.now)) };
 }
 
 // A fragment with each name that its declarations use replaced.
@@ -37,9 +40,12 @@ pub(crate) fn rename_fragment<N: NameText, M: NameText + Drop, R: FragmentRename
     renamer: &R,
     fragment: &Fragment<N>,
 ) -> Result<Fragment<M>, Stop>
-    ensures out { IfOk result (λ out. out ≡ renamed_fragment (R.becomes_in renamer.now) (R.action_becomes_in renamer.now) fragment.now) }
-    ensures defined { OnOk result (of_fragment (λ ns. by_reference (R.untargeted_in renamer.now ns)) fragment.now ≡ []) }
-    ensures err { IfErr result (NamesFirst (of_fragment (λ ns. by_reference (R.untargeted_in renamer.now ns)) fragment.now)) }
+    ensures out { IfOk result (λ out. out ≡ renamed_fragment (R.becomes_in renamer.now)
+        (R.action_becomes_in renamer.now) fragment.now) }
+    ensures defined { OnOk result (of_fragment (λ ns. by_reference (R.untargeted_in renamer.now ns)) fragment.now
+        ≡ []) }
+    ensures err { IfErr result (NamesFirst
+        (of_fragment (λ ns. by_reference (R.untargeted_in renamer.now ns)) fragment.now)) }
 {
     let mut out = Vec::with_capacity(alloc, fragment.0.as_slice().len())?;
     for (ns, definition) in fragment.0.as_slice() {

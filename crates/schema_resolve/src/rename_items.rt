@@ -1,9 +1,12 @@
 ghost use Rattle.std.specs.Prelude.{◌≡◌, [], map, IfOk, IfErr, OnOk};
 ghost use Rattle.schema_resolve.specs.Faults.{NamesFirst};
-ghost use Rattle.schema_resolve.specs.Renamed.{renamed, renamed_common, renamed_context, renamed_standard, renamed_kind, renamed_entity, renamed_apply, renamed_uid, renamed_action};
+ghost use Rattle.schema_resolve.specs.Renamed.{renamed, renamed_common, renamed_context, renamed_standard};
+ghost use Rattle.schema_resolve.specs.Renamed.{renamed_kind, renamed_entity, renamed_apply, renamed_uid};
+ghost use Rattle.schema_resolve.specs.Renamed.{renamed_action};
 ghost use Rattle.std.specs.List.{flat_map};
 ghost use Rattle.std.specs.Option.{option_map, option_map_or};
-ghost use Rattle.schema_json_walk.specs.Walk.{of_type, of_common, of_standard, of_kind, of_entity, of_apply, of_uid, of_action};
+ghost use Rattle.schema_json_walk.specs.Walk.{of_type, of_common, of_standard, of_kind, of_entity, of_apply, of_uid};
+ghost use Rattle.schema_json_walk.specs.Walk.{of_action};
 ghost use Rattle.schema_resolve_targets.specs.ReferenceParts.{by_reference};
 
 use crate::rename_types::rename_type;
@@ -25,7 +28,8 @@ fn rename_names<N: NameText, M: NameText + Drop, R: Renamer<N, M>>(
 ) -> Result<List<M>, Stop>
     ensures out { IfOk result (λ out. out ≡ map ((R.becomes renamer.now).name ReferenceType.Entity) names.now) }
     ensures defined { OnOk result (flat_map ((R.untargeted renamer.now).types ReferenceType.Entity) names.now ≡ []) }
-    ensures err { IfErr result (NamesFirst (flat_map ((R.untargeted renamer.now).types ReferenceType.Entity) names.now)) }
+    ensures err { IfErr result (NamesFirst
+        (flat_map ((R.untargeted renamer.now).types ReferenceType.Entity) names.now)) }
 {
     let mut out = Vec::with_capacity(alloc, names.len())?;
     for name in names {
@@ -73,7 +77,8 @@ fn rename_tags<N: NameText, M: NameText + Drop, R: Renamer<N, M>>(
 ) -> Result<Option<Boxed<Type<M>>>, Stop>
     ensures out { IfOk result (λ out. out ≡ option_map (renamed (R.becomes renamer.now)) tags.now) }
     ensures defined { OnOk result (option_map_or (of_type (by_reference (R.untargeted renamer.now))) tags.now [] ≡ []) }
-    ensures err { IfErr result (NamesFirst (option_map_or (of_type (by_reference (R.untargeted renamer.now))) tags.now [])) }
+    ensures err { IfErr result (NamesFirst
+        (option_map_or (of_type (by_reference (R.untargeted renamer.now))) tags.now [])) }
 {
     match tags {
         Some(tags) => {
@@ -171,7 +176,8 @@ pub(crate) fn rename_uid<N: NameText, M: NameText + Drop, R: Renamer<N, M>>(
     renamer: &R,
     uid: &ActionEntityUID<N>,
 ) -> Result<ActionEntityUID<M>, Stop>
-    ensures out { IfOk result (λ out. out ≡ renamed_uid (R.becomes renamer.now) (R.action_becomes renamer.now) uid.now) }
+    ensures out { IfOk result (λ out. out
+        ≡ renamed_uid (R.becomes renamer.now) (R.action_becomes renamer.now) uid.now) }
     ensures defined { OnOk result (of_uid (by_reference (R.untargeted renamer.now)) uid.now ≡ []) }
     ensures err { IfErr result (NamesFirst (of_uid (by_reference (R.untargeted renamer.now)) uid.now)) }
 {
@@ -185,7 +191,8 @@ fn rename_uids<N: NameText, M: NameText + Drop, R: Renamer<N, M>>(
     renamer: &R,
     uids: &[ActionEntityUID<N>],
 ) -> Result<List<ActionEntityUID<M>>, Stop>
-    ensures out { IfOk result (λ out. out ≡ map (renamed_uid (R.becomes renamer.now) (R.action_becomes renamer.now)) uids.now) }
+    ensures out { IfOk result (λ out. out
+        ≡ map (renamed_uid (R.becomes renamer.now) (R.action_becomes renamer.now)) uids.now) }
     ensures defined { OnOk result (flat_map (of_uid (by_reference (R.untargeted renamer.now))) uids.now ≡ []) }
     ensures err { IfErr result (NamesFirst (flat_map (of_uid (by_reference (R.untargeted renamer.now))) uids.now)) }
 {
@@ -203,9 +210,12 @@ fn rename_parents<N: NameText, M: NameText + Drop, R: Renamer<N, M>>(
     renamer: &R,
     parents: &Option<List<ActionEntityUID<N>>>,
 ) -> Result<Option<List<ActionEntityUID<M>>>, Stop>
-    ensures out { IfOk result (λ out. out ≡ option_map (map (renamed_uid (R.becomes renamer.now) (R.action_becomes renamer.now))) parents.now) }
-    ensures defined { OnOk result (option_map_or (flat_map (of_uid (by_reference (R.untargeted renamer.now)))) parents.now [] ≡ []) }
-    ensures err { IfErr result (NamesFirst (option_map_or (flat_map (of_uid (by_reference (R.untargeted renamer.now)))) parents.now [])) }
+    ensures out { IfOk result (λ out. out
+        ≡ option_map (map (renamed_uid (R.becomes renamer.now) (R.action_becomes renamer.now))) parents.now) }
+    ensures defined { OnOk result (option_map_or (flat_map (of_uid (by_reference (R.untargeted renamer.now))))
+        parents.now [] ≡ []) }
+    ensures err { IfErr result (NamesFirst
+        (option_map_or (flat_map (of_uid (by_reference (R.untargeted renamer.now)))) parents.now [])) }
 {
     match parents {
         Some(parents) => Ok(Some(rename_uids(alloc, renamer, parents.as_slice())?)),
@@ -220,8 +230,10 @@ fn rename_application<N: NameText, M: NameText + Drop, R: Renamer<N, M>>(
     spec: &Option<ApplySpec<N>>,
 ) -> Result<Option<ApplySpec<M>>, Stop>
     ensures out { IfOk result (λ out. out ≡ option_map (renamed_apply (R.becomes renamer.now)) spec.now) }
-    ensures defined { OnOk result (option_map_or (of_apply (by_reference (R.untargeted renamer.now))) spec.now [] ≡ []) }
-    ensures err { IfErr result (NamesFirst (option_map_or (of_apply (by_reference (R.untargeted renamer.now))) spec.now [])) }
+    ensures defined { OnOk result (option_map_or (of_apply (by_reference (R.untargeted renamer.now))) spec.now []
+        ≡ []) }
+    ensures err { IfErr result (NamesFirst
+        (option_map_or (of_apply (by_reference (R.untargeted renamer.now))) spec.now [])) }
 {
     match spec {
         Some(spec) => Ok(Some(rename_apply(alloc, renamer, spec)?)),
@@ -236,7 +248,8 @@ pub(crate) fn rename_action<N: NameText, M: NameText + Drop, R: Renamer<N, M>>(
     renamer: &R,
     action: &ActionType<N>,
 ) -> Result<ActionType<M>, Stop>
-    ensures out { IfOk result (λ out. out ≡ renamed_action (R.becomes renamer.now) (R.action_becomes renamer.now) action.now) }
+    ensures out { IfOk result (λ out. out ≡ renamed_action (R.becomes renamer.now)
+        (R.action_becomes renamer.now) action.now) }
     ensures defined { OnOk result (of_action (by_reference (R.untargeted renamer.now)) action.now ≡ []) }
     ensures err { IfErr result (NamesFirst (of_action (by_reference (R.untargeted renamer.now)) action.now)) }
 {

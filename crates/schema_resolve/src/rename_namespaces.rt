@@ -21,7 +21,8 @@ fn rename_entries<
     T: Renamed<N, M>,
     R: Renamer<N, M>,
 >(alloc: Global, renamer: &R, entries: &Map<K, T>) -> Result<Map<K, T::Output>, Stop>
-    ensures out { IfOk result (λ out. out ≡ map (on_value (T.output (R.becomes renamer.now) (R.action_becomes renamer.now))) entries.now) }
+    ensures out { IfOk result (λ out. out
+        ≡ map (on_value (T.output (R.becomes renamer.now) (R.action_becomes renamer.now))) entries.now) }
     ensures defined { OnOk result (each_value (T.undefined (R.untargeted renamer.now)) entries.now ≡ []) }
     ensures err { IfErr result (NamesFirst (each_value (T.undefined (R.untargeted renamer.now)) entries.now)) }
 {
@@ -40,7 +41,8 @@ pub(crate) fn rename_namespace<N: NameText, M: NameText + Drop, R: Renamer<N, M>
     renamer: &R,
     definition: &NamespaceDefinition<N>,
 ) -> Result<NamespaceDefinition<M>, Stop>
-    ensures out { IfOk result (λ out. out ≡ renamed_namespace (R.becomes renamer.now) (R.action_becomes renamer.now) definition.now) }
+    ensures out { IfOk result (λ out. out ≡ renamed_namespace (R.becomes renamer.now)
+        (R.action_becomes renamer.now) definition.now) }
     ensures defined { OnOk result (of_namespace (by_reference (R.untargeted renamer.now)) definition.now ≡ []) }
     ensures err { IfErr result (NamesFirst (of_namespace (by_reference (R.untargeted renamer.now)) definition.now)) }
 {

@@ -1,7 +1,8 @@
 ghost use Rattle.std.specs.Prelude.{◌≡◌, [], IfOk, IfErr, OnOk};
 ghost use Rattle.schema_json.specs.declared.types.Type.{Variant};
 ghost use Rattle.schema_resolve.specs.Faults.{NamesFirst};
-ghost use Rattle.schema_resolve.specs.Renamed.{renamed, renamed_at, renamed_variant, renamed_record, renamed_attribute, renamed_entries};
+ghost use Rattle.schema_resolve.specs.Renamed.{renamed, renamed_at, renamed_variant, renamed_record, renamed_attribute};
+ghost use Rattle.schema_resolve.specs.Renamed.{renamed_entries};
 ghost use Rattle.schema_json_walk.specs.Walk.{of_type, of_variant, of_record, of_attribute, of_entries};
 ghost use Rattle.schema_resolve_targets.specs.ReferenceParts.{by_reference};
 

@@ -22,7 +22,8 @@ pub(crate) trait Renamed<N: NameText, M: NameText> {
     ghost undefined: { GivenBy N Undefined → Self → List Undefined };
 
     fn renamed<R: Renamer<N, M>>(&self, alloc: Global, renamer: &R) -> Result<Self::Output, Stop>
-        ensures out { IfOk result (λ out. out ≡ output (R.becomes renamer.now) (R.action_becomes renamer.now) self.now) }
+        ensures out { IfOk result (λ out. out
+            ≡ output (R.becomes renamer.now) (R.action_becomes renamer.now) self.now) }
         ensures defined { OnOk result (undefined (R.untargeted renamer.now) self.now ≡ []) }
         ensures err { IfErr result (NamesFirst (undefined (R.untargeted renamer.now) self.now)) };
 }

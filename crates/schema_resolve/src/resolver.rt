@@ -66,7 +66,9 @@ fn no_action(
     ns: Option<&InternalName>,
     uid: &ActionEntityUID<RawName>,
 ) -> Result<ActionNotDefinedError, AllocError>
-    ensures { IfOk result (λ error. Names (action_reference uid.now.id (Some (type_in_namespace (option_copied ns.entry) uid.now.id uid.now.ty))) (ActionNotDefined error)) }
+    ensures { IfOk result (λ error. Names
+        (action_reference uid.now.id (Some (type_in_namespace (option_copied ns.entry) uid.now.id uid.now.ty)))
+        (ActionNotDefined error)) }
 {
     let ty = written(alloc, &uid.ty)?;
     let ty = ty.conditionally_qualify_with(alloc, ns, ReferenceType::Entity)?;

@@ -2,7 +2,8 @@ ghost use Rattle.std.specs.Prelude.{◌≡◌, ◌++◌, map, IfOk, OnOk};
 ghost use Rattle.std.specs.Option.{option_copied};
 ghost use Rattle.cedar_identifiers.specs.Names.{components_of};
 ghost use Rattle.cedar_names.specs.Definitions.{action_of};
-ghost use Rattle.schema_resolve_definitions.specs.Declarations.{name_of, alone, declared_name, action_type, commons_in, entities_in, actions_in, declared};
+ghost use Rattle.schema_resolve_definitions.specs.Declarations.{name_of, alone, declared_name, action_type, commons_in};
+ghost use Rattle.schema_resolve_definitions.specs.Declarations.{entities_in, actions_in, declared};
 ghost use Rattle.schema_resolve_definitions.specs.Tests.{tests_of};
 
 use cedar_data::{CloneIn, List, Text};
@@ -50,9 +51,12 @@ fn push_namespace(
     ns: &Option<Name>,
     definition: &NamespaceDefinition<RawName>,
 ) -> Result<(), AllocError>
-    ensures commons { OnOk result (map components_of names.new.commons.items ≡ map components_of names.old.commons.items ++ commons_in ns.now definition.now) }
-    ensures entities { OnOk result (map components_of names.new.entities.items ≡ map components_of names.old.entities.items ++ entities_in ns.now definition.now) }
-    ensures actions { OnOk result (map action_of names.new.actions.items ≡ map action_of names.old.actions.items ++ actions_in ns.now definition.now) }
+    ensures commons { OnOk result (map components_of names.new.commons.items ≡ map components_of names.old.commons.items
+        ++ commons_in ns.now definition.now) }
+    ensures entities { OnOk result (map components_of names.new.entities.items
+        ≡ map components_of names.old.entities.items ++ entities_in ns.now definition.now) }
+    ensures actions { OnOk result (map action_of names.new.actions.items ≡ map action_of names.old.actions.items
+        ++ actions_in ns.now definition.now) }
 {
     push_commons(
         alloc,
@@ -76,7 +80,8 @@ fn push_commons(
     ns: &Option<Name>,
     commons: &[(CommonTypeId, CommonType<RawName>)],
 ) -> Result<(), AllocError>
-    ensures { OnOk result (map components_of names.new.items ≡ map components_of names.old.items ++ map (λ e. components_of (declared_name ns.now e.0.id.id)) commons.now) }
+    ensures { OnOk result (map components_of names.new.items ≡ map components_of names.old.items
+        ++ map (λ e. components_of (declared_name ns.now e.0.id.id)) commons.now) }
 {
     for (id, _) in commons {
         names.push(declared_name(alloc, ns, &id.id.id)?)?;
@@ -91,7 +96,8 @@ fn push_entities(
     ns: &Option<Name>,
     entities: &[(UnreservedId, EntityType<RawName>)],
 ) -> Result<(), AllocError>
-    ensures { OnOk result (map components_of names.new.items ≡ map components_of names.old.items ++ map (λ e. components_of (declared_name ns.now e.0.id)) entities.now) }
+    ensures { OnOk result (map components_of names.new.items ≡ map components_of names.old.items
+        ++ map (λ e. components_of (declared_name ns.now e.0.id)) entities.now) }
 {
     for (id, _) in entities {
         names.push(declared_name(alloc, ns, &id.id)?)?;
@@ -106,7 +112,8 @@ fn push_actions(
     ns: &Option<Name>,
     actions: &[(Text, ActionType<RawName>)],
 ) -> Result<(), AllocError>
-    ensures { OnOk result (map action_of names.new.items ≡ map action_of names.old.items ++ map (λ e. (components_of (action_type ns.now), e.0)) actions.now) }
+    ensures { OnOk result (map action_of names.new.items ≡ map action_of names.old.items
+        ++ map (λ e. (components_of (action_type ns.now), e.0)) actions.now) }
 {
     for (id, _) in actions {
         names.push(action(alloc, ns, id)?)?;

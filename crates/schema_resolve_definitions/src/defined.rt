@@ -12,9 +12,9 @@ use cedar_names::{AllDefs, ExtensionTable};
 use schema_json::Fragment;
 use std::alloc::{AllocError, Global};
 
-/// All that is defined where the fragment stands alone: what it declares, the entity type `Action` of each namespace with
-/// an action, and the builtin common types. Those are `Bool`, `Long`, `String` and the names of the table, each behind
-/// `__cedar::`, and each by itself unless the empty namespace declares the name.
+/// All that is defined where the fragment stands alone: what it declares, the entity type `Action` of each namespace
+/// with an action, and the builtin common types. Those are `Bool`, `Long`, `String` and the names of the table, each
+/// behind `__cedar::`, and each by itself unless the empty namespace declares the name.
 pub fn all_definitions(
     alloc: Global,
     fragment: &Fragment<RawName>,
@@ -35,7 +35,8 @@ fn builtin_names(
     defs: &AllDefs,
     table: &ExtensionTable,
 ) -> Result<Vec<InternalName>, AllocError>
-    ensures { IfOk result (λ names. map components_of names.items ≡ names_of_builtins (tests_of defs.now) (builtins table.now)) }
+    ensures { IfOk result (λ names. map components_of names.items ≡ names_of_builtins (tests_of defs.now)
+        (builtins table.now)) }
 {
     let mut names = Vec::new(alloc);
     push_primitives(alloc, defs, &mut names)?;
@@ -49,7 +50,8 @@ fn push_primitives(
     defs: &AllDefs,
     names: &mut Vec<InternalName>,
 ) -> Result<(), AllocError>
-    ensures { OnOk result (map components_of names.new.items ≡ map components_of names.old.items ++ names_of_builtins (tests_of defs.now) (codes "Bool" ∷ codes "Long" ∷ codes "String" ∷ [])) }
+    ensures { OnOk result (map components_of names.new.items ≡ map components_of names.old.items
+        ++ names_of_builtins (tests_of defs.now) (codes "Bool" ∷ codes "Long" ∷ codes "String" ∷ [])) }
 {
     let bool = Text::from_str(alloc, "Bool")?;
     push_builtin(alloc, defs, names, Id { text: bool })?;
@@ -67,7 +69,8 @@ fn push_extensions(
     names: &mut Vec<InternalName>,
     extensions: &[UnreservedId],
 ) -> Result<(), AllocError>
-    ensures { OnOk result (map components_of names.new.items ≡ map components_of names.old.items ++ flat_map (λ n. names_of_builtin (tests_of defs.now) n.id.text) extensions.now) }
+    ensures { OnOk result (map components_of names.new.items ≡ map components_of names.old.items
+        ++ flat_map (λ n. names_of_builtin (tests_of defs.now) n.id.text) extensions.now) }
 {
     for extension in extensions {
         let id = extension.id.clone_in(alloc)?;
@@ -83,7 +86,8 @@ fn push_builtin(
     names: &mut Vec<InternalName>,
     id: Id,
 ) -> Result<(), AllocError>
-    ensures { OnOk result (map components_of names.new.items ≡ map components_of names.old.items ++ names_of_builtin (tests_of defs.now) id.text) }
+    ensures { OnOk result (map components_of names.new.items ≡ map components_of names.old.items
+        ++ names_of_builtin (tests_of defs.now) id.text) }
 {
     let full = under_cedar(alloc, &id)?;
     let plain = alone(alloc, id);
@@ -96,7 +100,8 @@ fn push_builtin(
 
 // Whether a common type or an entity type of this name is declared.
 fn is_hidden(defs: &AllDefs, name: &InternalName) -> bool
-    ensures { result ≡ (among defs.now.commons (components_of name.now) || among defs.now.entities (components_of name.now)) }
+    ensures { result ≡ (among defs.now.commons (components_of name.now) || among defs.now.entities
+        (components_of name.now)) }
 {
     defs.is_defined_as_common(name) || defs.is_defined_as_entity(name)
 }

@@ -1,5 +1,8 @@
 ghost use Rattle.std.specs.Prelude.{◌≡◌, ◌++◌, Ok, None, IfOk, IsSomeAnd, OnOk};
-ghost use Rattle.schema_resolve_errors.specs.ErrorTexts.{type_texts, action_texts, unresolved_text, undeclared_text, undeclared_actions_help, name_labels, type_labels, action_labels, resolve_error_text, resolve_error_help, resolve_error_labels};
+ghost use Rattle.schema_resolve_errors.specs.ErrorTexts.{type_texts, action_texts, unresolved_text, undeclared_text};
+ghost use Rattle.schema_resolve_errors.specs.ErrorTexts.{undeclared_actions_help, name_labels, type_labels};
+ghost use Rattle.schema_resolve_errors.specs.ErrorTexts.{action_labels, resolve_error_text, resolve_error_help};
+ghost use Rattle.schema_resolve_errors.specs.ErrorTexts.{resolve_error_labels};
 
 use crate::name_texts::name_texts;
 use crate::resolve_error::{ActionNotDefinedError, ResolveError, TypeNotDefinedError};
@@ -21,7 +24,7 @@ impl TypeNotDefinedError {
         Ok(text)
     }
 
-    /// Advice, of which it has none.
+    /// It has no advice.
     pub fn help(&self, _alloc: Global, _source: &str) -> Result<Option<Text>, AllocError>
         ensures none { result ≡ Ok None }
     {
@@ -39,7 +42,7 @@ impl TypeNotDefinedError {
         Ok(labels)
     }
 
-    /// How grave it is: an error.
+    /// Its severity: an error.
     pub fn severity(&self) -> Severity
         ensures error { result ≡ Severity.Error }
     {
@@ -60,7 +63,7 @@ impl ActionNotDefinedError {
         Ok(text)
     }
 
-    /// Advice, which it always has.
+    /// Its advice; it always has some.
     pub fn help(&self, alloc: Global, _source: &str) -> Result<Option<Text>, AllocError>
         ensures help { IfOk result (λ help. IsSomeAnd help (λ text. text ≡ undeclared_actions_help)) }
     {
@@ -82,7 +85,7 @@ impl ActionNotDefinedError {
         Ok(labels)
     }
 
-    /// How grave it is: an error.
+    /// Its severity: an error.
     pub fn severity(&self) -> Severity
         ensures error { result ≡ Severity.Error }
     {
@@ -102,7 +105,7 @@ impl ResolveError {
         }
     }
 
-    /// Advice, where it has any.
+    /// Its advice, if it has any.
     pub fn help(&self, alloc: Global, source: &str) -> Result<Option<Text>, AllocError>
         ensures help { IfOk result (λ help. help ≡ resolve_error_help self.now) }
     {
@@ -124,7 +127,7 @@ impl ResolveError {
         }
     }
 
-    /// How grave it is: an error.
+    /// Its severity: an error.
     pub fn severity(&self) -> Severity
         ensures error { result ≡ Severity.Error }
     {

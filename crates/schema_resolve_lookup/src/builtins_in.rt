@@ -16,16 +16,18 @@ use cedar_identifiers::{Id, UnreservedId, is_cedar};
 use cedar_names::ExtensionTable;
 use std::alloc::{AllocError, Global};
 
-// Whether the name is that of a builtin type: behind `__cedar`, or by itself where the empty namespace does not declare it.
-// Where none of these names may be hidden so, that is not looked up.
+// Whether the name is that of a builtin type: behind `__cedar`, or by itself where the empty namespace does not declare
+// it. Where none of these names may be hidden so, that is not looked up.
 pub(crate) fn names_builtin(
     searched: &Searched<'_>,
     table: &ExtensionTable,
     may_hide: bool,
     sought: Sought<'_>,
 ) -> bool
-    requires { may_hide ≡ false → list_any (is_hidden (tests_of (declared searched.now.fragment.now))) (builtins table.now) ≡ false }
-    ensures { result ≡ among (names_of_builtins (tests_of (declared searched.now.fragment.now)) (builtins table.now)) (name_sought sought.entry) }
+    requires { may_hide ≡ false → list_any (is_hidden (tests_of (declared searched.now.fragment.now)))
+        (builtins table.now) ≡ false }
+    ensures { result ≡ among (names_of_builtins (tests_of (declared searched.now.fragment.now)) (builtins table.now))
+        (name_sought sought.entry) }
 {
     is_builtin_word(table, sought.last.as_str())
         && match sought.namespace {
@@ -40,7 +42,8 @@ pub(crate) fn hides_builtin(
     searched: &Searched<'_>,
     table: &ExtensionTable,
 ) -> Result<bool, AllocError>
-    ensures { IfOk result (λ hides. hides ≡ list_any (is_hidden (tests_of (declared searched.now.fragment.now))) (builtins table.now)) }
+    ensures { IfOk result (λ hides. hides ≡ list_any (is_hidden (tests_of (declared searched.now.fragment.now)))
+        (builtins table.now)) }
 {
     if hides_primitive(alloc, searched)? {
         return Ok(true);
@@ -51,7 +54,8 @@ pub(crate) fn hides_builtin(
 // Whether the empty namespace declares the name of a primitive type.
 fn hides_primitive(alloc: Global, searched: &Searched<'_>) -> Result<bool, AllocError>
     ensures { IfOk result (λ hides. hides
-        ≡ list_any (is_hidden (tests_of (declared searched.now.fragment.now))) (codes "Bool" ∷ codes "Long" ∷ codes "String" ∷ [])) }
+        ≡ list_any (is_hidden (tests_of (declared searched.now.fragment.now))) (codes "Bool" ∷ codes "Long"
+        ∷ codes "String" ∷ [])) }
 {
     let bool = Text::from_str(alloc, "Bool")?;
     let long = Text::from_str(alloc, "Long")?;
@@ -64,7 +68,8 @@ fn is_one_hidden(searched: &Searched<'_>, first: Text, second: Text, third: Text
     requires first { is_id first ≡ true }
     requires second { is_id second ≡ true }
     requires third { is_id third ≡ true }
-    ensures { result ≡ list_any (is_hidden (tests_of (declared searched.now.fragment.now))) (first ∷ second ∷ third ∷ []) }
+    ensures { result ≡ list_any (is_hidden (tests_of (declared searched.now.fragment.now)))
+        (first ∷ second ∷ third ∷ []) }
 {
     let first = is_word_hidden(searched, first);
     let second = is_word_hidden(searched, second);

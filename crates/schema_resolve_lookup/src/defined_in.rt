@@ -30,7 +30,8 @@ pub fn is_common_behind(
     namespace: &InternalName,
     last: &Id,
 ) -> bool
-    ensures { result ≡ (tests_of (defined fragment.now table.now)).is_common (components_of namespace.now ++ last.now.text ∷ []) }
+    ensures { result ≡ (tests_of (defined fragment.now table.now)).is_common (components_of namespace.now
+        ++ last.now.text ∷ []) }
 {
     let searched = Searched::new(fragment);
     is_common_sought(&searched, table, true, behind(namespace, last))
@@ -43,7 +44,8 @@ pub(crate) fn is_common_sought(
     may_hide: bool,
     sought: Sought<'_>,
 ) -> bool
-    requires { may_hide ≡ false → list_any (is_hidden (tests_of (declared searched.now.fragment.now))) (builtins table.now) ≡ false }
+    requires { may_hide ≡ false → list_any (is_hidden (tests_of (declared searched.now.fragment.now)))
+        (builtins table.now) ≡ false }
     ensures { result ≡ (tests_of (defined searched.now.fragment.now table.now)).is_common (name_sought sought.entry) }
 {
     declares_common(searched, sought) || names_builtin(searched, table, may_hide, sought)
@@ -51,7 +53,8 @@ pub(crate) fn is_common_sought(
 
 /// Whether an entity type of this name is defined where the fragment stands alone, whatever the table is.
 pub fn is_entity(fragment: &Fragment<RawName>, name: &InternalName) -> bool
-    ensures { (table : ExtensionTable) → result ≡ (tests_of (defined fragment.now table)).is_entity (components_of name.now) }
+    ensures { (table : ExtensionTable)
+        → result ≡ (tests_of (defined fragment.now table)).is_entity (components_of name.now) }
 {
     let searched = Searched::new(fragment);
     is_entity_sought(&searched, as_written(name))
@@ -59,7 +62,9 @@ pub fn is_entity(fragment: &Fragment<RawName>, name: &InternalName) -> bool
 
 /// Whether an entity type with this last word is defined behind the namespace, whatever the table is.
 pub fn is_entity_behind(fragment: &Fragment<RawName>, namespace: &InternalName, last: &Id) -> bool
-    ensures { (table : ExtensionTable) → result ≡ (tests_of (defined fragment.now table)).is_entity (components_of namespace.now ++ last.now.text ∷ []) }
+    ensures { (table : ExtensionTable)
+        → result ≡ (tests_of (defined fragment.now table)).is_entity (components_of namespace.now ++ last.now.text
+        ∷ []) }
 {
     let searched = Searched::new(fragment);
     is_entity_sought(&searched, behind(namespace, last))
@@ -67,7 +72,8 @@ pub fn is_entity_behind(fragment: &Fragment<RawName>, namespace: &InternalName, 
 
 // Whether an entity type of this name is defined.
 pub(crate) fn is_entity_sought(searched: &Searched<'_>, sought: Sought<'_>) -> bool
-    ensures { (table : ExtensionTable) → result ≡ (tests_of (defined searched.now.fragment.now table)).is_entity (name_sought sought.entry) }
+    ensures { (table : ExtensionTable) → result ≡ (tests_of (defined searched.now.fragment.now table)).is_entity
+        (name_sought sought.entry) }
 {
     declares_entity(searched, sought) || is_type_of_action(searched, sought)
 }

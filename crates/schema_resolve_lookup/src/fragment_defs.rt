@@ -38,7 +38,8 @@ impl<'f> Model for FragmentDefs<'f> {
 
     ghost view = { λ d. defined d.searched.fragment.now d.table.now };
 
-    ghost invariant = { λ d. d.hides ≡ list_any (is_hidden (tests_of (declared d.searched.fragment.now))) (builtins d.table.now) };
+    ghost invariant = { λ d. d.hides ≡ list_any (is_hidden (tests_of (declared d.searched.fragment.now)))
+        (builtins d.table.now) };
 }
 
 impl<'f> FragmentDefs<'f> {

@@ -39,7 +39,8 @@ pub(crate) fn namespace_of<'a>(
     searched: &Searched<'a>,
     sought: Option<Before<'_>>,
 ) -> Option<&'a NamespaceDefinition<RawName>>
-    ensures { (test : _) → passes_in searched.now.fragment.now (words_before sought.entry) test ≡ passes (option_copied result) test }
+    ensures { (test : _) → passes_in searched.now.fragment.now (words_before sought.entry) test
+        ≡ passes (option_copied result) test }
 {
     if sought.is_none() {
         return outer_namespace(searched);
@@ -70,12 +71,14 @@ fn outer_namespace<'a>(searched: &Searched<'a>) -> Option<&'a NamespaceDefinitio
     }
 }
 
-// The namespace of these words, where it is the one that was found last or the one behind it: most are looked up in order.
+// The namespace of these words, where it is the one that was found last or the one behind it: most are looked up in
+// order.
 fn found_near<'a>(
     searched: &Searched<'a>,
     sought: Option<Before<'_>>,
 ) -> Option<&'a NamespaceDefinition<RawName>>
-    ensures { IfSome result (λ definition. (test : _) → passes_in searched.now.fragment.now (words_before sought.entry) test ≡ test definition.now) }
+    ensures { IfSome result (λ definition. (test : _)
+        → passes_in searched.now.fragment.now (words_before sought.entry) test ≡ test definition.now) }
 {
     let recent = searched.recent.get();
     if let Some(definition) = found_at(searched, recent, sought) {
@@ -93,7 +96,8 @@ fn found_at<'a>(
     at: usize,
     sought: Option<Before<'_>>,
 ) -> Option<&'a NamespaceDefinition<RawName>>
-    ensures { IfSome result (λ definition. (test : _) → passes_in searched.now.fragment.now (words_before sought.entry) test ≡ test definition.now) }
+    ensures { IfSome result (λ definition. (test : _)
+        → passes_in searched.now.fragment.now (words_before sought.entry) test ≡ test definition.now) }
 {
     let entries = searched.fragment.0.as_slice();
     if at >= entries.len() {

@@ -5,9 +5,9 @@ use std::cell::Cell;
 // How far it is looked from a recent place to each side.
 const NEAR: usize = 32;
 
-/// Where the last two were found of those that were looked up in a list. Most references come in turns, as the parent of an
-/// entity type and then an attribute of it, and the next of a kind is near the one before: so it is the one before the last
-/// near which the next is looked for first.
+/// Where the last two were found of those that were looked up in a list. Most references come in turns, as the parent
+/// of an entity type and then an attribute of it, and the next of a kind is near the one before: so it is the one
+/// before the last near which the next is looked for first.
 #[derive(Drop)]
 pub struct Recent {
     last: Cell<usize>,

@@ -19,7 +19,8 @@ use Rattle.schema_resolve_targets.specs.Targets.{unless}
 use Rattle.schema_resolve_targets.specs.Gathered.{uids, Gathers}
 use Rattle.schema_resolve_targets.specs.ReferenceParts.{by_reference}
 use Rattle.schema_resolve_targets.specs.Untargeted.{untargeted_in}
-use Rattle.schema_resolve_targets.specs.Undefined.{Undefined, type_reference, action_reference, types_among, actions_among}
+use Rattle.schema_resolve_targets.specs.Undefined.{Undefined, type_reference, action_reference, types_among}
+use Rattle.schema_resolve_targets.specs.Undefined.{actions_among}
 use Rattle.schema_resolve_targets.specs.declared.gather.Gatherer.{Gatherer}
 
 pub types_both : (us vs : List Undefined) → types_among (us ++ vs) ≡ types_among us ++ types_among vs

@@ -35,8 +35,10 @@ pub fn gather_undefined(
     fragment: &Fragment<RawName>,
     all_defs: &FragmentDefs<'_>,
 ) -> Result<UndefinedReferences, AllocError>
-    ensures types { IfOk result (λ found. found.types.items ≡ types_among (undefined (tests_of all_defs.now) fragment.now)) }
-    ensures actions { IfOk result (λ found. uids found.actions.items ≡ actions_among (undefined (tests_of all_defs.now) fragment.now)) }
+    ensures types { IfOk result (λ found. found.types.items
+        ≡ types_among (undefined (tests_of all_defs.now) fragment.now)) }
+    ensures actions { IfOk result (λ found. uids found.actions.items
+        ≡ actions_among (undefined (tests_of all_defs.now) fragment.now)) }
 {
     let mut gatherer = Gatherer {
         alloc,
@@ -55,8 +57,10 @@ pub fn gather_undefined_alone(
     fragment: &Fragment<RawName>,
     table: &ExtensionTable,
 ) -> Result<UndefinedReferences, AllocError>
-    ensures types { IfOk result (λ found. found.types.items ≡ types_among (undefined (tests_of (defined fragment.now table.now)) fragment.now)) }
-    ensures actions { IfOk result (λ found. uids found.actions.items ≡ actions_among (undefined (tests_of (defined fragment.now table.now)) fragment.now)) }
+    ensures types { IfOk result (λ found. found.types.items
+        ≡ types_among (undefined (tests_of (defined fragment.now table.now)) fragment.now)) }
+    ensures actions { IfOk result (λ found. uids found.actions.items
+        ≡ actions_among (undefined (tests_of (defined fragment.now table.now)) fragment.now)) }
 {
     let defs = FragmentDefs::new(alloc, fragment, table)?;
     gather_undefined(alloc, fragment, &defs)
@@ -74,12 +78,14 @@ struct Gatherer<'d, 'f> {
 impl<'d, 'f> Visitor<RawName> for Gatherer<'d, 'f> {
     type Refusal = AllocError;
 
-    ghost takes = { λ ns before part after. Gathers (by_reference (untargeted_in (tests_of before.defs.now) (name_of ns)) part) before after };
+    ghost takes = { λ ns before part after. Gathers
+        (by_reference (untargeted_in (tests_of before.defs.now) (name_of ns)) part) before after };
 
     ghost refuses = { λ _ _ _ _. ⊤ };
 
     fn visit(&mut self, ns: &Option<Name>, part: LentPart<'_, RawName>) -> Result<(), AllocError>
-        ensures taken { OnOk result (Gathers (by_reference (untargeted_in (tests_of self.old.defs.now) (name_of ns.now)) (part_of part.entry)) self.old self.new) }
+        ensures taken { OnOk result (Gathers (by_reference (untargeted_in (tests_of self.old.defs.now) (name_of ns.now))
+            (part_of part.entry)) self.old self.new) }
         ensures refused { IfErr result (λ _. ⊤) }
     {
         match part {
@@ -107,7 +113,8 @@ impl<'d, 'f> Gatherer<'d, 'f> {
         kind: ReferenceType,
         name: &RawName,
     ) -> Result<(), AllocError>
-        ensures { OnOk result (Gathers ((untargeted_in (tests_of self.old.defs.now) (name_of ns.now)).types kind name.now) self.old self.new) }
+        ensures { OnOk result (Gathers ((untargeted_in (tests_of self.old.defs.now) (name_of ns.now)).types kind
+            name.now) self.old self.new) }
     {
         let ns = name_of(ns);
         if find_type(self.defs, ns, kind, &name.name).is_none() {
@@ -125,7 +132,8 @@ impl<'d, 'f> Gatherer<'d, 'f> {
         id: &Text,
         ty: &Option<RawName>,
     ) -> Result<(), AllocError>
-        ensures { OnOk result (Gathers ((untargeted_in (tests_of self.old.defs.now) (name_of ns.now)).actions id.now ty.now) self.old self.new) }
+        ensures { OnOk result (Gathers ((untargeted_in (tests_of self.old.defs.now) (name_of ns.now)).actions id.now
+            ty.now) self.old self.new) }
     {
         let ns = name_of(ns);
         let ty = written(self.alloc, ty)?;

@@ -4,7 +4,8 @@ ghost use Rattle.cedar_identifiers.specs.Candidates.{candidates, is_unqualified}
 ghost use Rattle.cedar_identifiers.specs.Names.{components_of};
 ghost use Rattle.schema_resolve_definitions.specs.Tests.{tests_of};
 ghost use Rattle.schema_resolve_targets.specs.Targets.{is_defined, is_action};
-ghost use Rattle.schema_resolve_targets.specs.Tried.{kind_told, kind_found, own_kind, is_action_there, is_own_action, candidate};
+ghost use Rattle.schema_resolve_targets.specs.Tried.{kind_told, kind_found, own_kind, is_action_there, is_own_action};
+ghost use Rattle.schema_resolve_targets.specs.Tried.{candidate};
 
 use cedar_data::Text;
 use cedar_identifiers::{Id, InternalName, ReferenceType, is_cedar};
@@ -26,8 +27,12 @@ pub fn find_type(
     kind: ReferenceType,
     name: &InternalName,
 ) -> Option<Found>
-    ensures first { option_map (λ found. candidate (option_copied ns.entry) name.now found.is_own) result ≡ find (λ n. is_defined (tests_of defs.now) kind (components_of n)) (candidates (option_copied ns.entry) name.now) }
-    ensures kind { IfSome result (λ found. kind ≡ ReferenceType.CommonOrEntity → found.is_common ≡ (tests_of defs.now).is_common (components_of (candidate (option_copied ns.entry) name.now found.is_own))) }
+    ensures first { option_map (λ found. candidate (option_copied ns.entry) name.now found.is_own) result
+        ≡ find (λ n. is_defined (tests_of defs.now) kind (components_of n))
+        (candidates (option_copied ns.entry) name.now) }
+    ensures kind { IfSome result (λ found. kind ≡ ReferenceType.CommonOrEntity
+        → found.is_common ≡ (tests_of defs.now).is_common
+        (components_of (candidate (option_copied ns.entry) name.now found.is_own))) }
 {
     match own_kind(defs, ns, kind, name) {
         Some(is_common) => Some(Found {
@@ -93,8 +98,8 @@ fn kind_behind(
     }
 }
 
-/// What an unqualified name is behind its namespace, where it is defined there in the kind that is asked for: whether it is
-/// a common type. No name is built.
+/// What an unqualified name is behind its namespace, where it is defined there in the kind that is asked for: whether
+/// it is a common type. No name is built.
 pub fn own_kind(
     defs: &FragmentDefs<'_>,
     ns: Option<&InternalName>,
@@ -130,7 +135,8 @@ pub fn find_action(
     id: &Text,
     ty: &InternalName,
 ) -> Option<bool>
-    ensures { option_map (candidate (option_copied ns.entry) ty.now) result ≡ find (is_action (tests_of defs.now) id.now) (candidates (option_copied ns.entry) ty.now) }
+    ensures { option_map (candidate (option_copied ns.entry) ty.now) result
+        ≡ find (is_action (tests_of defs.now) id.now) (candidates (option_copied ns.entry) ty.now) }
 {
     if is_own_action(defs, id, ns, ty) {
         return Some(true);

@@ -32,7 +32,8 @@ use Rattle.schema_json.specs.declared.common_type.CommonType.{CommonType}
 use Rattle.schema_convert_types.specs.Names.{internal_name_of, raw_name_of}
 use Rattle.schema_convert_types.specs.Types.{type_of, attribute_of, record_of_attributes}
 use Rattle.schema_convert_fragments.specs.Declarations.{raw_names, nothing, choices_of, tags_of, entity_kind_of}
-use Rattle.schema_convert_fragments.specs.Declarations.{is_external, entity_type_of, with_types, with_member, with_members}
+use Rattle.schema_convert_fragments.specs.Declarations.{is_external, entity_type_of, with_types, with_member}
+use Rattle.schema_convert_fragments.specs.Declarations.{with_members}
 use Rattle.schema_convert_fragments.specs.Declarations.{applied_to_nothing, apply_spec_of, reference_of, references_of}
 use Rattle.schema_convert_fragments.specs.Declarations.{action_type_of, member_types}
 use Rattle.schema_convert_faults.specs.Members.{is_same_role}

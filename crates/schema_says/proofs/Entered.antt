@@ -32,7 +32,8 @@ use Rattle.schema_readback.specs.Shows.{SaysId, SaysName, SaysDecl, SaysDeclared
 use Rattle.schema_convert_types.specs.Types.{type_of}
 use Rattle.schema_convert_fragments.specs.Declarations.{entity_type_of, action_type_of, unreserved_so}
 use Rattle.schema_convert_fragments.specs.Declarations.{unreserved, declarable, each_with}
-use Rattle.schema_convert_fragments.specs.Fragments.{entity_entries_of, action_entries_of, common_entry, common_entries_of}
+use Rattle.schema_convert_fragments.specs.Fragments.{entity_entries_of, action_entries_of, common_entry}
+use Rattle.schema_convert_fragments.specs.Fragments.{common_entries_of}
 use Rattle.schema_convert_fragments.specs.Fragments.{entity_entries, action_entries, common_entries}
 use Rattle.schema_convert_faults.specs.NamesIn.{entities_of, actions_of, commons_of, entity_names_in, common_names_in}
 use Rattle.schema_convert_faults.specs.Translatable.{IsFreeCommon}

@@ -43,7 +43,8 @@ pub fn types_that_say_the_same()
     ensures { (s r : Shape RawName) (t : WrittenType) → TypeSays s t → TypeSays r t → bare s ≡ bare r }
 {}
 
-/// What a tree without faults says, its fragment says, where each name has a component and each declaration of actions a name.
+/// What a tree without faults says, its fragment says, where each name has a component and each declaration of actions
+/// a name.
 pub fn fragments_say_what_trees_say()
     ensures { (tree : List (Annotated Namespace)) (w : List WrittenItem) → AllZip SaysItem tree w
         → AllByRecursion IsWellNamed w → translation_faults tree ≡ [] → FragmentSays (translated tree) w }
@@ -51,8 +52,8 @@ pub fn fragments_say_what_trees_say()
     lawful_trees();
 }
 
-/// Whether a tree has faults depends on what it says alone, where each name has a component and each declaration of actions a
-/// name.
+/// Whether a tree has faults depends on what it says alone, where each name has a component and each declaration of
+/// actions a name.
 pub fn faults_depend_on_what_is_said()
     ensures { (tree : List (Annotated Namespace)) (w : List WrittenItem) → AllZip SaysItem tree w
         → AllByRecursion IsWellNamed w → translation_faults tree ≡ [] ↔ IsSayable w }
@@ -66,8 +67,8 @@ pub fn fragments_that_say_the_same()
         → bare_fragment f ≡ bare_fragment g }
 {}
 
-/// What a tree says decides whether it has faults, and else its fragment, places aside, where each name has a component and each
-/// declaration of actions a name.
+/// What a tree says decides whether it has faults, and else its fragment, places aside, where each name has a component
+/// and each declaration of actions a name.
 pub fn trees_that_say_the_same()
     ensures faults { (tree other : List (Annotated Namespace)) (w : List WrittenItem) → AllZip SaysItem tree w
         → AllZip SaysItem other w → AllByRecursion IsWellNamed w → translation_faults tree ≡ []
@@ -92,8 +93,8 @@ pub fn meanings_can_be_translated()
     ensures { (m : SchemaMeaning) → HasOpenNames m → IsSayable (flat_map group_items (groups_of_meaning m)) }
 {}
 
-/// A text that reads back as what can be translated has a fragment that says it, where each name has a component and each
-/// declaration of actions a name.
+/// A text that reads back as what can be translated has a fragment that says it, where each name has a component and
+/// each declaration of actions a name.
 pub fn texts_that_read_back_are_translated()
     ensures { (text : List ℕ) (w : List WrittenItem) → ReadsBack text w → AllByRecursion IsWellNamed w
         → IsSayable w → IsTranslatedAs text w }
@@ -107,8 +108,8 @@ pub fn meanings_may_be_printed()
     ensures { (m : SchemaMeaning) → IsOfWords m → AllByRecursion IsProperGroup (groups_of_meaning m) }
 {}
 
-/// The text of a meaning, in either layout, has a fragment that says what is written of the meaning, where its names are made of
-/// words and may be declared, and each enum has a choice.
+/// The text of a meaning, in either layout, has a fragment that says what is written of the meaning, where its names
+/// are made of words and may be declared, and each enum has a choice.
 pub fn texts_of_meanings_are_translated()
     ensures { (closing : Bool) (m : SchemaMeaning) → IsOfWords m → HasOpenNames m
         → IsTranslatedAs (schema_text closing m) (flat_map group_items (groups_of_meaning m)) }

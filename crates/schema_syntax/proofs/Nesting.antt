@@ -1,5 +1,6 @@
 -- The walk over kinds finds a place that is too deep exactly where there is one.
-use Rattle.std.proofs.Common.{◌≡◌, ◌+◌, ◌<◌, ◌≤◌, ◌++◌, ◌↔◌, ◌∙◌, ℕ, Bool, true, false, nat_lt, List, [], ◌∷◌, refl, sym, ap, arith}
+use Rattle.std.proofs.Common.{◌≡◌, ◌+◌, ◌<◌, ◌≤◌, ◌++◌, ◌↔◌, ◌∙◌, ℕ, Bool, true, false, nat_lt, List, [], ◌∷◌, refl}
+use Rattle.std.proofs.Common.{sym, ap, arith}
 use Rattle.std.proofs.Common.{inl, inr}
 use Rattle.std.proofs.lemmas.Bool.{cases_Bool, ltb-true, ltb-false, cond-true, cond-false, false≢true}
 use Rattle.std.specs.Prelude.{if◌then◌else◌}

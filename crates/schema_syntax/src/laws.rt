@@ -12,7 +12,8 @@ use schema_syntax_tokens::laws::one_scan;
 
 /// A text has at most one syntax fault: one place, one token and one list.
 pub fn one_syntax_fault()
-    ensures { (text : List ℕ) (fault other : SyntaxFault) → IsSyntaxFault text fault → IsSyntaxFault text other → fault ≡ other }
+    ensures { (text : List ℕ) (fault other : SyntaxFault) → IsSyntaxFault text fault → IsSyntaxFault text other
+        → fault ≡ other }
 {
     one_scan();
     one_fault();
@@ -28,7 +29,8 @@ pub fn faulty_or_sentence()
 
 /// A text that has a tree has no error.
 pub fn tree_or_error()
-    ensures { (text : List ℕ) (schema : List (Annotated Namespace)) (error : ParseError) → IsTreeOfText text schema → IsErrorOf text error → ⊥ }
+    ensures { (text : List ℕ) (schema : List (Annotated Namespace)) (error : ParseError) → IsTreeOfText text schema
+        → IsErrorOf text error → ⊥ }
 {
     faulty_or_sentence();
     one_scan();

@@ -7,8 +7,8 @@ ghost use Rattle.schema_syntax.specs.Nesting.{opens, closes, IsTooDeep};
 use schema_syntax_grammar::TokenKind;
 use schema_syntax_tokens::ShortToken;
 
-/// How many brackets a schema text may have open at one place. Functions that read, translate, build and print a type call
-/// themselves once for each bracket that is open there, so this bounds the stack that they take.
+/// How many brackets a schema text may have open at one place. Functions that read, translate, build and print a type
+/// call themselves once for each bracket that is open there, so this bounds the stack that they take.
 pub const DEEPEST: usize = 4096;
 
 // Whether it is an opening bracket.

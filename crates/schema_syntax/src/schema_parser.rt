@@ -55,7 +55,8 @@ pub fn refused(alloc: Global, why: Refused) -> ParseSchemaError
 
 /// The error of a text whose sites were not all read.
 pub fn stopped(alloc: Global, why: Stopped) -> ParseSchemaError
-    ensures { (text : List ℕ) (tokens : List Token) → AreTokensOf text tokens → IsStopOf text tokens why → IsRefusalOf text result }
+    ensures { (text : List ℕ) (tokens : List Token) → AreTokensOf text tokens → IsStopOf text tokens why
+        → IsRefusalOf text result }
 {
     match why {
         Stopped::Memory => ParseSchemaError::Memory,
@@ -63,8 +64,8 @@ pub fn stopped(alloc: Global, why: Stopped) -> ParseSchemaError
     }
 }
 
-/// The tree of a schema text whose tokens these are, which are those of a schema; or of its user faults the one that ends
-/// first.
+/// The tree of a schema text whose tokens these are, which are those of a schema; or of its user faults the one that
+/// ends first.
 pub fn parse_tokens<'a>(
     alloc: Global,
     text: &'a str,
@@ -82,7 +83,8 @@ pub fn parse_tokens<'a>(
     }
 }
 
-/// The tree of a schema text. A refused text has its one syntax fault, or else, of its user faults, the one that ends first.
+/// The tree of a schema text. A refused text has its one syntax fault, or else, of its user faults, the one that ends
+/// first.
 pub fn parse_schema<'a>(alloc: Global, text: &'a str) -> Result<Schema<'a>, ParseSchemaError>
     ensures tree { IfOk result (IsTreeOfText text.now) }
     ensures fault { IfErr result (IsRefusalOf text.now) }

@@ -17,10 +17,11 @@ use std::alloc::{AllocError, Global};
 pub enum SyntaxFault {
     /// No token stands at this place, behind tokens with which some schema begins.
     InvalidToken(usize),
-    /// The token from the first place to the second stands where no schema has it. The last part lists exactly the kinds that
-    /// some schema has there, `End` among them where the tokens before it are a schema.
+    /// The token from the first place to the second stands where no schema has it. The last part lists exactly the
+    /// kinds that some schema has there, `End` among them where the tokens before it are a schema.
     UnrecognizedToken(usize, Text, usize, cedar_data::List<TokenKind>),
-    /// The text ends where its last token does, and is no schema yet. The last part lists exactly the kinds that may come.
+    /// The text ends where its last token does, and is no schema yet. The last part lists exactly the kinds that may
+    /// come.
     UnrecognizedEof(usize, cedar_data::List<TokenKind>),
 }
 

@@ -26,7 +26,7 @@ impl AnnotationError {
         }
     }
 
-    /// Advice, of which it has none.
+    /// It has no advice.
     pub fn help(&self, _alloc: Global, _source: &str) -> Result<Option<Text>, AllocError>
         ensures none { result ≡ Ok None }
     {
@@ -43,7 +43,7 @@ impl AnnotationError {
         }
     }
 
-    /// How grave it is: an error.
+    /// Its severity: an error.
     pub fn severity(&self) -> Severity
         ensures error { result ≡ Severity.Error }
     {

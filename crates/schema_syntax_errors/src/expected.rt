@@ -1,13 +1,14 @@
 ghost use Rattle.std.specs.Prelude.{◌≡◌, ◌++◌, map, codes, IfOk, OnOk};
-ghost use Rattle.schema_syntax_errors.specs.ExpectedText.{kind_name, is_name_keyword, printed, expected_text_of, expects};
+ghost use Rattle.schema_syntax_errors.specs.ExpectedText.{kind_name, is_name_keyword, printed, expected_text_of};
+ghost use Rattle.schema_syntax_errors.specs.ExpectedText.{expects};
 ghost use Rattle.cedar_data.specs.Rows.{listed};
 
 use cedar_data::{Text, message, separator};
 use schema_syntax_grammar::TokenKind;
 use std::alloc::{AllocError, Global};
 
-/// What was expected: `expected` and the names of the kinds, with `, ` between two and ` or ` before the last. Where any
-/// identifier may stand, the keywords that may stand as one are not named.
+/// What was expected: `expected` and the names of the kinds, with `, ` between two and ` or ` before the last. Where
+/// any identifier may stand, the keywords that may stand as one are not named.
 pub fn expected_text(alloc: Global, expected: &[TokenKind]) -> Result<Text, AllocError>
     ensures text { IfOk result (λ text. text ≡ expected_text_of expected.now) }
 {

@@ -3,7 +3,8 @@ ghost use Rattle.std.specs.Char.{is_ascii};
 ghost use Rattle.std.specs.Prelude.{◌≡◌, true};
 ghost use Rattle.std.specs.Option.{option_copied};
 ghost use Rattle.std.specs.Str.{bytes_eq};
-ghost use Rattle.schema_syntax_errors.specs.FaultHelps.{misses_applies_to, ends_namespace, token_help, follows_brace, ends_in_brace};
+ghost use Rattle.schema_syntax_errors.specs.FaultHelps.{misses_applies_to, ends_namespace, token_help, follows_brace};
+ghost use Rattle.schema_syntax_errors.specs.FaultHelps.{ends_in_brace};
 
 use crate::expected::expects;
 use cedar_data::Text;

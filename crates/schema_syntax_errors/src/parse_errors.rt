@@ -84,7 +84,7 @@ impl ParseErrors {
         self.errors.first().labels(alloc)
     }
 
-    /// How grave the first fault is.
+    /// The severity of the first fault.
     pub fn severity(&self) -> Severity
         ensures error { result ≡ Severity.Error }
     {

@@ -49,7 +49,7 @@ impl UserError {
         }
     }
 
-    /// Advice, of which it has none.
+    /// It has no advice.
     pub fn help(&self, _alloc: Global, _source: &str) -> Result<Option<Text>, AllocError>
         ensures none { result ≡ Ok None }
     {
@@ -82,7 +82,7 @@ impl UserError {
         }
     }
 
-    /// How grave it is: an error.
+    /// Its severity: an error.
     pub fn severity(&self) -> Severity
         ensures error { result ≡ Severity.Error }
     {

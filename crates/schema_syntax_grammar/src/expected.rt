@@ -14,7 +14,8 @@ use std::alloc::{AllocError, Global};
 pub struct Fault {
     /// How many of the kinds begin a sentence: as many as possible.
     pub place: usize,
-    /// The kinds that may come next, in the order of all kinds, `End` last where the kinds before the place are a sentence.
+    /// The kinds that may come next, in the order of all kinds, `End` last where the kinds before the place are a
+    /// sentence.
     pub expected: Vec<TokenKind>,
 }
 
@@ -39,8 +40,8 @@ pub fn longest_viable(alloc: Global, kinds: &[TokenKind]) -> Result<usize, Alloc
     Ok(front.read)
 }
 
-/// The kinds that may come next, in the order of all kinds, `End` last where the kinds are a sentence; `None` exactly where no
-/// sentence begins so.
+/// The kinds that may come next, in the order of all kinds, `End` last where the kinds are a sentence; `None` exactly
+/// where no sentence begins so.
 pub fn expected_after(
     alloc: Global,
     kinds: &[TokenKind],
@@ -55,8 +56,8 @@ pub fn expected_after(
     Ok(Some(front.allowed(alloc)?))
 }
 
-/// Where the kinds of the tokens stop being the beginning of a sentence, or that they are no whole one, with what may come there;
-/// `None` exactly where they are a sentence.
+/// Where the kinds of the tokens stop being the beginning of a sentence, or that they are no whole one, with what may
+/// come there; `None` exactly where they are a sentence.
 pub fn fault_of<T: HasKind>(alloc: Global, tokens: &[T]) -> Result<Option<Fault>, AllocError>
     ensures { IfOk result (λ found. let kinds = map T.kind_of tokens.now in MatchOption found (Sentence kinds)
         (λ fault. IsFault ALL_KINDS kinds fault.place fault.expected.items)) }

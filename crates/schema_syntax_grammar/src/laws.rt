@@ -8,7 +8,8 @@ ghost use Rattle.schema_syntax_grammar.specs.declared.token_kind.TokenKind.{Toke
 
 /// Kinds have one list of what may come next.
 pub fn one_expected()
-    ensures { (kinds first second : List TokenKind) → IsExpected ALL_KINDS kinds first → IsExpected ALL_KINDS kinds second → first ≡ second }
+    ensures { (kinds first second : List TokenKind) → IsExpected ALL_KINDS kinds first
+        → IsExpected ALL_KINDS kinds second → first ≡ second }
 {}
 
 /// Where kinds begin a sentence, the list of what may come next is not empty.
@@ -18,7 +19,8 @@ pub fn expected_is_not_empty()
 
 /// Kinds have at most one fault.
 pub fn one_fault()
-    ensures { (kinds first second : List TokenKind) (p q : ℕ) → IsFault ALL_KINDS kinds p first → IsFault ALL_KINDS kinds q second → (p ≡ q) × (first ≡ second) }
+    ensures { (kinds first second : List TokenKind) (p q : ℕ) → IsFault ALL_KINDS kinds p first
+        → IsFault ALL_KINDS kinds q second → (p ≡ q) × (first ≡ second) }
 {}
 
 /// Where a sentence begins with kinds, one begins with each front of them.
@@ -33,5 +35,6 @@ pub fn sentences_are_viable()
 
 /// Where the fault is at the end, all the kinds begin a sentence.
 pub fn viable_at_end()
-    ensures { (kinds list : List TokenKind) (place : ℕ) → IsFault ALL_KINDS kinds place list → length kinds ≤ place → Viable kinds }
+    ensures { (kinds list : List TokenKind) (place : ℕ) → IsFault ALL_KINDS kinds place list → length kinds ≤ place
+        → Viable kinds }
 {}

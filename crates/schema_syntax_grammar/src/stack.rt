@@ -60,10 +60,11 @@ fn put_behind(stack: &mut Vec<Symbol>, left: usize, symbols: &[Symbol]) -> Resul
     push_all(stack, above)
 }
 
-/// Takes a token of the kind, where one may come; else the stack stays as it is. It goes down the stack as `taker` does, by
-/// itself, since it is called for each token.
+/// Takes a token of the kind, where one may come; else the stack stays as it is. It goes down the stack as `taker`
+/// does, by itself, since it is called for each token.
 pub fn advance(stack: &mut Vec<Symbol>, kind: TokenKind) -> Result<bool, AllocError>
-    ensures step { IfOk result (λ taken. MatchBool taken (step (reverse stack.old.items) kind ≡ Some (reverse stack.new.items))
+    ensures step { IfOk result (λ taken. MatchBool taken (step (reverse stack.old.items) kind
+        ≡ Some (reverse stack.new.items))
         (step (reverse stack.old.items) kind ≡ None)) }
     ensures kept { IfOk result (λ taken. OnFalse taken (stack.new.items ≡ stack.old.items)) }
 {
@@ -164,8 +165,10 @@ pub fn longest_front<T: HasKind>(alloc: Global, tokens: &[T]) -> Result<Front, A
 // The longest front of the kinds that begins a sentence.
 pub fn front_of_kinds(alloc: Global, kinds: &[TokenKind]) -> Result<Front, AllocError>
     ensures within { IfOk result (λ front. front.read ≤ length kinds.now) }
-    ensures stack { IfOk result (λ front. run (Symbol.Schema ∷ []) (take front.read kinds.now) ≡ Some (reverse front.stack.items)) }
-    ensures stops { IfOk result (λ front. (k : TokenKind) → slice_get kinds.now front.read ≡ Some k → step (reverse front.stack.items) k ≡ None) }
+    ensures stack { IfOk result (λ front. run (Symbol.Schema ∷ []) (take front.read kinds.now)
+        ≡ Some (reverse front.stack.items)) }
+    ensures stops { IfOk result (λ front. (k : TokenKind) → slice_get kinds.now front.read ≡ Some k
+        → step (reverse front.stack.items) k ≡ None) }
 {
     longest_front(alloc, kinds)
 }

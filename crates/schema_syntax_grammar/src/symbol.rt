@@ -6,7 +6,8 @@ ghost use Rattle.schema_syntax_grammar.specs.Table.{is_nullable, after_front, fi
 
 use crate::token_kind::TokenKind;
 
-/// A part of a sentence that may still come. A symbol whose name ends in `Tail` may stand for nothing, but for `EntityTail`.
+/// A part of a sentence that may still come. A symbol whose name ends in `Tail` may stand for nothing, but for
+/// `EntityTail`.
 #[derive(Clone, Copy, PartialEq, Eq)]
 pub enum Symbol {
     /// One token of the kind.

@@ -13,8 +13,8 @@ pub trait HasKind {
         ensures { result ≡ kind_of self.now };
 }
 
-/// What kind of token it is. Each of the words that are variants `Kw..` is a kind for itself; all the others are identifiers.
-/// `End` is no token, but the end of the input.
+/// What kind of token it is. Each of the words that are variants `Kw..` is a kind for itself; all the others are
+/// identifiers. `End` is no token, but the end of the input.
 #[derive(Clone, Copy, PartialEq, Eq)]
 pub enum TokenKind {
     /// `namespace`

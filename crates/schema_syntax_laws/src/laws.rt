@@ -17,7 +17,8 @@ use schema_syntax_tokens::laws::{one_scan, one_value};
 
 /// A text has at most one tree.
 pub fn one_tree()
-    ensures { (text : List ℕ) (tree other : List (Annotated Namespace)) → IsTreeOfText text tree → IsTreeOfText text other → tree ≡ other }
+    ensures { (text : List ℕ) (tree other : List (Annotated Namespace)) → IsTreeOfText text tree
+        → IsTreeOfText text other → tree ≡ other }
 {
     one_scan();
     one_syntax();

@@ -1,4 +1,6 @@
-ghost use Rattle.schema_syntax_parser.specs.Reading.{Gives, enum_at, standard_at, entity_body_at, entity_at, external_entity_at, external_action_at, action_at, common_at, external_at, decl_at};
+ghost use Rattle.schema_syntax_parser.specs.Reading.{Gives, enum_at, standard_at, entity_body_at, entity_at};
+ghost use Rattle.schema_syntax_parser.specs.Reading.{external_entity_at, external_action_at, action_at, common_at};
+ghost use Rattle.schema_syntax_parser.specs.Reading.{external_at, decl_at};
 
 use crate::actions::applies;
 use crate::front::{any, ident, is_of, place, token};

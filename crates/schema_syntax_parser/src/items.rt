@@ -1,5 +1,6 @@
 ghost use Rattle.std.specs.Prelude.{◌≤◌, length};
-ghost use Rattle.schema_syntax_parser.specs.Reading.{Gives, declared_at, decl_turn, namespace_at, outside_at, item_body_at, item_at};
+ghost use Rattle.schema_syntax_parser.specs.Reading.{Gives, declared_at, decl_turn, namespace_at, outside_at};
+ghost use Rattle.schema_syntax_parser.specs.Reading.{item_body_at, item_at};
 
 use crate::annotations::annotations;
 use crate::decls::decl;

@@ -8,7 +8,8 @@ ghost use Rattle.schema_syntax_tokens.specs.TokenLists.{kinds_of};
 
 /// A list of tokens has at most one syntax.
 pub fn one_syntax()
-    ensures { (tokens : List Token) (items others : List ItemSyntax) → IsSyntax tokens items → IsSyntax tokens others → items ≡ others }
+    ensures { (tokens : List Token) (items others : List ItemSyntax) → IsSyntax tokens items → IsSyntax tokens others
+        → items ≡ others }
 {}
 
 /// Tokens with a syntax have the kinds of a schema.
@@ -18,5 +19,6 @@ pub fn syntax_is_sentence()
 
 /// Tokens have a syntax exactly where their kinds are those of a schema.
 pub fn sentences_have_a_syntax()
-    ensures { (tokens : List Token) → (Sentence (kinds_of tokens) ↔ ((items : List ItemSyntax) × IsSyntax tokens items)) }
+    ensures { (tokens : List Token) → (Sentence (kinds_of tokens)
+        ↔ ((items : List ItemSyntax) × IsSyntax tokens items)) }
 {}

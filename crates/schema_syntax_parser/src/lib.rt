@@ -1,5 +1,5 @@
-//! The syntax of the tokens of Cedar schemas: which declarations they are, with every part's place, and nothing read of words and
-//! strings.
+//! The syntax of the tokens of Cedar schemas: which declarations they are, with every part's place, and nothing read of
+//! words and strings.
 #![tactic(auto)]
 
 mod actions;

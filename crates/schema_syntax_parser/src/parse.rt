@@ -9,8 +9,8 @@ use crate::syntax::ItemSyntax;
 use schema_syntax_tokens::ShortToken;
 use std::alloc::{AllocError, Global};
 
-/// The first item of the tokens, whose kinds are those of a schema, and the tokens behind it; `None` exactly where there is no
-/// token.
+/// The first item of the tokens, whose kinds are those of a schema, and the tokens behind it; `None` exactly where
+/// there is no token.
 pub fn next_item(
     alloc: Global,
     tokens: &[ShortToken],

@@ -1,7 +1,8 @@
 ghost use Rattle.std.specs.Prelude.{[], ◌∷◌, Some};
 ghost use Rattle.schema_syntax_grammar.specs.Grammar.{is_ident, is_name_kind};
 ghost use Rattle.schema_syntax_grammar.specs.declared.token_kind.TokenKind.TheVariants.{Comma, PathSep, RBracket};
-ghost use Rattle.schema_syntax_parser.specs.Reading.{Gives, chain_turn, separated_turn, path_at, ref_at, types_at, refs_at, parents_at, string_at};
+ghost use Rattle.schema_syntax_parser.specs.Reading.{Gives, chain_turn, separated_turn, path_at, ref_at, types_at};
+ghost use Rattle.schema_syntax_parser.specs.Reading.{refs_at, parents_at, string_at};
 
 use crate::front::{ident, is_of, name, place, token};
 use crate::stop::Stop;

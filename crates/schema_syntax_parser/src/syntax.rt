@@ -81,7 +81,8 @@ pub enum AppSyntax {
 /// A declaration without its annotations.
 #[derive(Drop)]
 pub enum DeclSyntax {
-    /// An entity type: its names, its parents, its attributes with their place, where a record stands, and the type of its tags.
+    /// An entity type: its names, its parents, its attributes with their place, where a record stands, and the type of
+    /// its tags.
     Entity {
         names: NonEmpty<ShortToken>,
         parents: List<PathSyntax>,
@@ -99,7 +100,8 @@ pub enum DeclSyntax {
         names: NonEmpty<ShortToken>,
         parents: List<PathSyntax>,
     },
-    /// An action: its names, its parents, and the members of its `appliesTo` block, with the place of the braces around them.
+    /// An action: its names, its parents, and the members of its `appliesTo` block, with the place of the braces around
+    /// them.
     Action {
         names: NonEmpty<ShortToken>,
         parents: List<PathSyntax>,

@@ -1,5 +1,6 @@
 ghost use Rattle.std.specs.Prelude.{◌≡◌, ◌∷◌, length};
-ghost use Rattle.schema_syntax_parser.specs.Reading.{Gives, mark_at, set_step, whole_type_step, type_at, attr_step, attrs_at, separated_turn, record_at, shape_at, tags_at};
+ghost use Rattle.schema_syntax_parser.specs.Reading.{Gives, mark_at, set_step, whole_type_step, type_at, attr_step};
+ghost use Rattle.schema_syntax_parser.specs.Reading.{attrs_at, separated_turn, record_at, shape_at, tags_at};
 ghost use Rattle.schema_syntax_parser.specs.Turns.{turn_of};
 ghost use Rattle.schema_syntax_grammar.specs.declared.token_kind.TokenKind.TheVariants.{RBrace};
 

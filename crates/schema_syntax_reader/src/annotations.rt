@@ -84,8 +84,8 @@ fn without_places<'a>(
     SrcAnnotations::from_map(alloc, Map::from_sorted_vec(notes))
 }
 
-/// The item with these annotations, unless a key stands twice: then the place of its first annotation is named, and that of the
-/// first one whose key stood before.
+/// The item with these annotations, unless a key stands twice: then the place of its first annotation is named, and
+/// that of the first one whose key stood before.
 pub fn deduplicate_annotations<'a, T: Drop>(
     alloc: Global,
     item: T,

@@ -30,7 +30,8 @@ fn entity<'a>(
     tags_raw: Option<Boxed<TypeSyntax>>,
 ) -> Result<Declaration<'a>, Stopped>
     requires { IsScanned IsDecl text.now (syntax.Entity names parents shape_raw tags_raw) }
-    ensures { let raw = syntax.Entity names parents shape_raw tags_raw in Reads text.now (decl_sites raw) (IsDeclOf text.now raw) result }
+    ensures { let raw = syntax.Entity names parents shape_raw tags_raw in Reads text.now (decl_sites raw)
+        (IsDeclOf text.now raw) result }
 {
     let names = some::<Ids>(alloc, text, names)?;
     let parents = all::<Paths>(alloc, text, parents)?;
@@ -54,7 +55,8 @@ fn listed<'a>(
     brackets: Loc,
 ) -> Result<Declaration<'a>, Stopped>
     requires { IsScanned IsDecl text.now (syntax.Enum names choices brackets) }
-    ensures { let raw = syntax.Enum names choices brackets in Reads text.now (decl_sites raw) (IsDeclOf text.now raw) result }
+    ensures { let raw = syntax.Enum names choices brackets in Reads text.now (decl_sites raw)
+        (IsDeclOf text.now raw) result }
 {
     let names = some::<Ids>(alloc, text, names)?;
     let Some(choices) = NonEmpty::from_vec(choices.into_vec()) else {
@@ -73,7 +75,8 @@ fn external_entity<'a>(
     parents: List<PathSyntax>,
 ) -> Result<Declaration<'a>, Stopped>
     requires { IsScanned IsDecl text.now (syntax.ExternalEntity names parents) }
-    ensures { let raw = syntax.ExternalEntity names parents in Reads text.now (decl_sites raw) (IsDeclOf text.now raw) result }
+    ensures { let raw = syntax.ExternalEntity names parents in Reads text.now (decl_sites raw)
+        (IsDeclOf text.now raw) result }
 {
     let names = some::<Ids>(alloc, text, names)?;
     let parents = all::<Paths>(alloc, text, parents)?;
@@ -93,7 +96,8 @@ fn action<'a>(
     applies_raw: Option<(List<AppSyntax>, Loc)>,
 ) -> Result<Declaration<'a>, Stopped>
     requires { IsScanned IsDecl text.now (syntax.Action names parents applies_raw) }
-    ensures { let raw = syntax.Action names parents applies_raw in Reads text.now (decl_sites raw) (IsDeclOf text.now raw) result }
+    ensures { let raw = syntax.Action names parents applies_raw in Reads text.now (decl_sites raw)
+        (IsDeclOf text.now raw) result }
 {
     let names = some::<Names>(alloc, text, names)?;
     let parents = optional::<References>(alloc, text, parents)?;
@@ -116,7 +120,8 @@ fn external_action<'a>(
     parents: List<PathSyntax>,
 ) -> Result<Declaration<'a>, Stopped>
     requires { IsScanned IsDecl text.now (syntax.ExternalAction names parents) }
-    ensures { let raw = syntax.ExternalAction names parents in Reads text.now (decl_sites raw) (IsDeclOf text.now raw) result }
+    ensures { let raw = syntax.ExternalAction names parents in Reads text.now (decl_sites raw)
+        (IsDeclOf text.now raw) result }
 {
     let names = some::<Names>(alloc, text, names)?;
     let parents = optional::<References>(alloc, text, parents)?;
@@ -141,8 +146,8 @@ fn common<'a>(
     Ok(Declaration::Common(TypeDecl { name, def }))
 }
 
-// A declaration without its annotations. Each kind but the most frequent stands by itself, so that no other needs room for
-// it.
+// A declaration without its annotations. Each kind but the most frequent stands by itself, so that no other needs room
+// for it.
 pub fn decl<'a>(alloc: Global, text: &'a str, raw: DeclSyntax) -> Result<Declaration<'a>, Stopped>
     requires { IsScanned IsDecl text.now raw }
     ensures { Reads text.now (decl_sites raw) (IsDeclOf text.now raw) result }

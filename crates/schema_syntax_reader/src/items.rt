@@ -67,7 +67,8 @@ fn namespace<'a>(
     loc: Loc,
 ) -> Result<Annotated<'a, Namespace<'a>>, Stopped>
     requires { IsScanned IsItem text.now (syntax.Namespace list name decls loc) }
-    ensures { let raw = syntax.Namespace list name decls loc in Reads text.now (item_sites raw) (IsItemOf text.now raw) result }
+    ensures { let raw = syntax.Namespace list name decls loc in Reads text.now (item_sites raw)
+        (IsItemOf text.now raw) result }
 {
     let annotations = notes(alloc, text, list.as_slice())?;
     let name = path(alloc, text, name)?;

@@ -23,7 +23,8 @@ fn next_from(
 ) -> Result<Option<(ItemSyntax, usize)>, AllocError>
     requires in_range { at ≤ length tokens.now }
     requires sentence { Sentence (kinds_of (drop at tokens.now)) }
-    ensures item { IfOk result (λ next. MatchOption next (drop at tokens.now ≡ []) (λ n. IsFirstItem (drop at tokens.now) n.0 (drop n.1 tokens.now))) }
+    ensures item { IfOk result (λ next. MatchOption next (drop at tokens.now ≡ [])
+        (λ n. IsFirstItem (drop at tokens.now) n.0 (drop n.1 tokens.now))) }
     ensures behind { IfOk result (λ next. IfSome next (λ n. (at < n.1) × (n.1 ≤ length tokens.now))) }
 {
     let (_, rest) = tokens.split_at(at);
@@ -33,8 +34,8 @@ fn next_from(
     }
 }
 
-// The tokens from a place on, and where they begin among those that are kept: once they are less than a quarter of these,
-// the others are let go. So moving them takes a third of the room of all, and not as much again.
+// The tokens from a place on, and where they begin among those that are kept: once they are less than a quarter of
+// these, the others are let go. So moving them takes a third of the room of all, and not as much again.
 fn kept_from(mut tokens: Vec<ShortToken>, at: usize) -> Result<(Vec<ShortToken>, usize), AllocError>
     requires { at ≤ length tokens.items }
     ensures same { IfOk result (λ r. drop r.1 r.0.items ≡ drop at tokens.items) }

@@ -109,8 +109,8 @@ fn read_notes<'a>(
     Ok(ReadNotes { notes, fault: None })
 }
 
-/// What the annotations stand for, of which there are some, or the first of their faults. Most items have none, and need no
-/// room for these.
+/// What the annotations stand for, of which there are some, or the first of their faults. Most items have none, and
+/// need no room for these.
 #[inline(never)]
 pub fn some_notes<'a>(
     alloc: Global,

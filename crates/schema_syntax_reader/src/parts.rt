@@ -38,7 +38,8 @@ fn each<'a, P: Part<'a>>(
     raws: Vec<P::Raw>,
 ) -> Result<Vec<P::Item>, Stopped>
     requires { All (P.fits text.now) raws.items }
-    ensures { Reads text.now (flat_map P.sites raws.items) (λ items. AllZip (P.stands_for text.now) raws.items items.items) result }
+    ensures { Reads text.now (flat_map P.sites raws.items)
+        (λ items. AllZip (P.stands_for text.now) raws.items items.items) result }
 {
     let mut items = Vec::with_capacity(alloc, raws.len())?;
     for raw in raws {
@@ -85,7 +86,8 @@ pub fn optional<'a, P: Part<'a>>(
     raws: List<P::Raw>,
 ) -> Result<Option<NonEmpty<P::Item>>, Stopped>
     requires { All (P.fits text.now) raws }
-    ensures { Reads text.now (flat_map P.sites raws) (λ items. IsOptional text.now (AllZip (P.stands_for text.now)) raws items) result }
+    ensures { Reads text.now (flat_map P.sites raws)
+        (λ items. IsOptional text.now (AllZip (P.stands_for text.now)) raws items) result }
 {
     match NonEmpty::from_vec(raws.into_vec()) {
         None => Ok(None),

@@ -24,13 +24,15 @@ fn path_of_names<'a>(
     loc: Loc,
 ) -> Result<Path<'a>, Stopped>
     requires { All (λ t. IsPlacedSite text.now (word t)) names }
-    ensures { Reads text.now (names_sites names) (λ path. AllZip (IsId text.now) names path.ids × (path.loc ≡ Some loc)) result }
+    ensures { Reads text.now (names_sites names) (λ path. AllZip (IsId text.now) names path.ids
+        × (path.loc ≡ Some loc)) result }
 {
     let ids = some::<BareIds>(alloc, text, names)?;
     Ok(Path::of_ids(ids, Some(loc)))
 }
 
-/// The path that a syntax of it stands for, which was scanned from the text, or the fault of the first of its sites that has one.
+/// The path that a syntax of it stands for, which was scanned from the text, or the fault of the first of its sites
+/// that has one.
 pub fn path<'a>(alloc: Global, text: &'a str, raw: PathSyntax) -> Result<Path<'a>, Stopped>
     requires { IsScanned IsPath text.now raw }
     ensures { Reads text.now (path_sites raw) (IsPathOf text.now raw) result }

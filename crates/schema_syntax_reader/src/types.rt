@@ -1,7 +1,8 @@
 ghost use Rattle.std.specs.Prelude.{◌≡◌};
 ghost use Rattle.std.specs.List.{All};
 ghost use Rattle.schema_syntax_parser.specs.Syntax.{IsType, IsAttr, IsShape, AreTags};
-ghost use Rattle.schema_syntax_reader.specs.Sites.{sites_of_type, sites_of_attr, sites_of_attrs, shape_sites, tags_sites};
+ghost use Rattle.schema_syntax_reader.specs.Sites.{sites_of_type, sites_of_attr, sites_of_attrs, shape_sites};
+ghost use Rattle.schema_syntax_reader.specs.Sites.{tags_sites};
 ghost use Rattle.schema_syntax_reader.specs.Placed.{IsScanned};
 ghost use Rattle.schema_syntax_reader.specs.Readings.{Reads, IsAttrOf};
 ghost use Rattle.schema_syntax_reader.specs.Trees.{IsTypeOf, AreAttrsOf, IsShapeOf, AreTagsOf};

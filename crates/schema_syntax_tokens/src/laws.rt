@@ -11,7 +11,8 @@ ghost use Rattle.schema_syntax_tokens.specs.Quotes.{quoted, quoted_body};
 
 /// A text has at most one list of tokens, and one place where they stop.
 pub fn one_scan()
-    ensures { (text : List ℕ) (ts us : List Token) (at bt : ℕ) → Scans text ts at → Scans text us bt → (ts ≡ us) × (at ≡ bt) }
+    ensures { (text : List ℕ) (ts us : List Token) (at bt : ℕ) → Scans text ts at → Scans text us bt
+        → (ts ≡ us) × (at ≡ bt) }
 {}
 
 /// A body has at most one value, or a first bad escape, and only one.
@@ -32,8 +33,8 @@ pub fn pieces_by_characters()
     ensures { (cs : List ℕ) → (IsBody (encode_utf8_all cs) ↔ IsBody cs) }
 {}
 
-/// A text that is laid out from lexemes, none of which merges with the next, is read as these lexemes. A text written as a string
-/// is such a lexeme.
+/// A text that is laid out from lexemes, none of which merges with the next, is read as these lexemes. A text written
+/// as a string is such a lexeme.
 pub fn laid_text_is_read()
     ensures read { (ps : List Piece) → Follow free ps → HasLexemes (laid ps) (lexemes_of ps) }
     ensures string { (cs : List ℕ) → IsForm (quoted cs) StringLit }

@@ -8,7 +8,8 @@ use std::alloc::AllocError;
 
 /// How a character of one byte is written in a string where it must be escaped.
 fn escape_text(byte: u8) -> Option<&'static str>
-    ensures { MatchOption result (is_escaped byte ≡ false) (λ text. (is_escaped byte ≡ true) × (text.now ≡ quoted_char byte)) }
+    ensures { MatchOption result (is_escaped byte ≡ false) (λ text. (is_escaped byte ≡ true)
+        × (text.now ≡ quoted_char byte)) }
 {
     match byte {
         0x00 => Some("\\0"),
@@ -89,7 +90,8 @@ fn push_whole(text: &mut Text, value: &str) -> Result<(), AllocError>
     text.push_str("\"")
 }
 
-/// Writes the text as a string: `"`, each character, escaped where it must be, and `"`. When out of memory, nothing is written.
+/// Writes the text as a string: `"`, each character, escaped where it must be, and `"`. When out of memory, nothing is
+/// written.
 pub fn push_quoted(text: &mut Text, value: &str) -> Result<(), AllocError>
     ensures ok { OnOk result (text.new ≡ text.old ++ chars (quoted (chars value.now))) }
     ensures err { OnErr result (text.new ≡ text.old) }

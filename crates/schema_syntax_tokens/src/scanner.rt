@@ -94,8 +94,8 @@ pub fn token_of(rest: &str) -> Option<(TokenKind, usize)>
     mark_of(bytes)
 }
 
-/// The tokens of the text in little room, as far as there are any: `at` is the end of the text, or the place where neither a
-/// blank nor a token stands. A text of 4 GiB or more is answered by out of memory.
+/// The tokens of the text in little room, as far as there are any: `at` is the end of the text, or the place where
+/// neither a blank nor a token stands. A text of 4 GiB or more is answered by out of memory.
 pub fn scan_short(alloc: Global, text: &str) -> Result<ShortScan, AllocError>
     ensures scans { IfOk result (λ s. Scans text.now s.tokens.items s.at) }
     ensures placed { IfOk result (λ s. All (IsPlaced text.now) s.tokens.items) }
@@ -121,8 +121,8 @@ pub fn scan_short(alloc: Global, text: &str) -> Result<ShortScan, AllocError>
     }
 }
 
-/// The tokens of the text as far as there are any: `at` is the end of the text, or the place where neither a blank nor a token
-/// stands.
+/// The tokens of the text as far as there are any: `at` is the end of the text, or the place where neither a blank nor
+/// a token stands.
 pub fn scan(alloc: Global, text: &str) -> Result<Scanned, AllocError>
     ensures scans { IfOk result (λ s. Scans text.now s.tokens.items s.at) }
     ensures placed { IfOk result (λ s. All (IsPlaced text.now) s.tokens.items) }

@@ -146,10 +146,12 @@ fn between_quotes(part: &str) -> Option<&str>
     Some(body)
 }
 
-/// What stands between the quotes of the string at the token's place: there for each string that the text was scanned into.
+/// What stands between the quotes of the string at the token's place: there for each string that the text was scanned
+/// into.
 pub fn string_body<'a>(token: &ShortToken, text: &'a str) -> Option<&'a str>
     ensures placed { IsPlaced text.now token.now → token.now.kind ≡ StringLit → IsSome result }
-    ensures value { IfSome result (λ body. slice_range text.now token.now.loc.start token.now.loc.end ≡ 34 ∷ (body.now ++ 34 ∷ [])) }
+    ensures value { IfSome result (λ body. slice_range text.now token.now.loc.start token.now.loc.end
+        ≡ 34 ∷ (body.now ++ 34 ∷ [])) }
 {
     match token_text(token, text) {
         None => None,

@@ -21,8 +21,8 @@ impl<'a> Drop for PRAppDecl<'a> {
     }
 }
 
-/// What an action says of its principals, its resources or its context. The context is a type's name or the attributes of
-/// a record.
+/// What an action says of its principals, its resources or its context. The context is a type's name or the attributes
+/// of a record.
 pub enum AppDecl<'a> {
     PR(PRAppDecl<'a>),
     Context(Either<Path<'a>, Node<List<Node<Annotated<'a, AttrDecl<'a>>>>>>),

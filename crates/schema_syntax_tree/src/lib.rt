@@ -1,4 +1,5 @@
-//! The tree of a Cedar schema text: what each declaration says, with its places. Its words and strings are slices of the text.
+//! The tree of a Cedar schema text: what each declaration says, with its places. Its words and strings are slices of
+//! the text.
 #![tactic(auto)]
 
 pub mod action_decl;

@@ -1,12 +1,14 @@
 ghost use Rattle.std.specs.Prelude.{◌≡◌, [], IfOk};
 ghost use Rattle.std.specs.Cmp.Lexicographic.{slice_cmp};
 ghost use Rattle.std.specs.Ordering.{on};
-ghost use Rattle.std.specs.Cmp.{on_per, and_per, on_equiv, and_equiv, on_total, then_total, partial_order_from_own_ties, partial_order_from_total};
+ghost use Rattle.std.specs.Cmp.{on_per, and_per, on_equiv, and_equiv, on_total, then_total};
+ghost use Rattle.std.specs.Cmp.{partial_order_from_own_ties, partial_order_from_total};
 ghost use Rattle.std.specs.Cmp.Rules.{comparing};
 ghost use Rattle.std.specs.Cmp.Lexicographic.{pointwise, slice_cmp, lists_per, lists_equiv, lists_total};
 ghost use Rattle.std.specs.Ordering.{on, as_partial_cmp};
 ghost use Rattle.std.proofs.Common.{rules};
-ghost use Rattle.schema_syntax_tree.specs.LentWords.{note_key, note_value, note_key_eq, note_value_eq, note_key_cmp, note_value_cmp, note_eq, note_cmp};
+ghost use Rattle.schema_syntax_tree.specs.LentWords.{note_key, note_value, note_key_eq, note_value_eq, note_key_cmp};
+ghost use Rattle.schema_syntax_tree.specs.LentWords.{note_value_cmp, note_eq, note_cmp};
 ghost use Rattle.schema_syntax_tree.specs.LentNotes.{notes_of, ties_of_notes, note_fed, notes_fed_alike};
 ghost use Rattle.std.specs.Hash as fed;
 
@@ -100,7 +102,9 @@ fn own_value(value: &Option<SrcStr<'_>>, alloc: Global) -> Result<Option<Text>, 
 impl<'a> PartialEq for SrcAnnotations<'a> {
     ghost eq = { on notes_of (pointwise note_eq) };
 
-    ghost laws = { on_per notes_of (lists_per (and_per (on_per note_key {E = note_key_eq} (Prim.search (comparing, rules))) (on_per note_value {E = note_value_eq} (Prim.search (comparing, rules))))) };
+    ghost laws = { on_per notes_of (lists_per
+        (and_per (on_per note_key {E = note_key_eq} (Prim.search (comparing, rules)))
+        (on_per note_value {E = note_value_eq} (Prim.search (comparing, rules))))) };
 
     fn eq(&self, other: &SrcAnnotations<'a>) -> bool {
         self.notes == other.notes
@@ -108,13 +112,19 @@ impl<'a> PartialEq for SrcAnnotations<'a> {
 }
 
 impl<'a> Eq for SrcAnnotations<'a> {
-    ghost laws = { on_equiv notes_of (lists_equiv (and_equiv (on_equiv note_key {E = note_key_eq} (Prim.search (comparing, rules))) (on_equiv note_value {E = note_value_eq} (Prim.search (comparing, rules))))) };
+    ghost laws = { on_equiv notes_of (lists_equiv
+        (and_equiv (on_equiv note_key {E = note_key_eq} (Prim.search (comparing, rules)))
+        (on_equiv note_value {E = note_value_eq} (Prim.search (comparing, rules))))) };
 }
 
 impl<'a> PartialOrd for SrcAnnotations<'a> {
     ghost partial_cmp = { as_partial_cmp (on notes_of (slice_cmp note_cmp)) };
 
-    ghost laws = { partial_order_from_own_ties (partial_order_from_total (on_total notes_of (lists_total (then_total (on_total note_key {R = note_key_cmp} (Prim.search (comparing, rules))) (on_total note_value {R = note_value_cmp} (Prim.search (comparing, rules))))))) (λ a b. ties_of_notes a.0 b.0) };
+    ghost laws = { partial_order_from_own_ties
+        (partial_order_from_total (on_total notes_of
+        (lists_total (then_total (on_total note_key {R = note_key_cmp} (Prim.search (comparing, rules)))
+        (on_total note_value {R = note_value_cmp} (Prim.search (comparing, rules)))))))
+        (λ a b. ties_of_notes a.0 b.0) };
 
     fn partial_cmp(&self, other: &SrcAnnotations<'a>) -> Option<Ordering> {
         Some(self.cmp(other))
@@ -124,7 +134,9 @@ impl<'a> PartialOrd for SrcAnnotations<'a> {
 impl<'a> Ord for SrcAnnotations<'a> {
     ghost cmp = { on notes_of (slice_cmp note_cmp) };
 
-    ghost total = { on_total notes_of (lists_total (then_total (on_total note_key {R = note_key_cmp} (Prim.search (comparing, rules))) (on_total note_value {R = note_value_cmp} (Prim.search (comparing, rules))))) };
+    ghost total = { on_total notes_of (lists_total
+        (then_total (on_total note_key {R = note_key_cmp} (Prim.search (comparing, rules)))
+        (on_total note_value {R = note_value_cmp} (Prim.search (comparing, rules))))) };
 
     ghost matches_partial_cmp = { Prim.search (comparing, rules) };
 

@@ -14,7 +14,8 @@ use Rattle.schema_build_recovered_types.specs.RecoveredTypes.{IsRecoveredType}
 use Rattle.schema_build_recovered_types.proofs.Rows.{zip_more, rows_recovered, row_keys, lacks_at, lacks_more, IsRow}
 use Rattle.schema_build_recovered_types.proofs.Rows.{all_whole}
 use Rattle.schema_build_recovered_types.proofs.Lacking.{refused}
-use Rattle.schema_build_recovered_types.proofs.Variants.{bool_is, bool_whole, long_is, long_whole, string_is, string_whole}
+use Rattle.schema_build_recovered_types.proofs.Variants.{bool_is, bool_whole, long_is, long_whole, string_is}
+use Rattle.schema_build_recovered_types.proofs.Variants.{string_whole}
 use Rattle.schema_build_recovered_types.proofs.Variants.{set_is, set_whole, unknown_lacking}
 use Rattle.schema_build_recovered_types.proofs.Variants.{open_lacking, entity_is, extension_is}
 use Rattle.schema_build_recovered_types.proofs.types.+recover.Goals as goal

@@ -17,6 +17,6 @@ returns-then-closed-opened c =
 pub returns : goal.returns
 returns c =
     let none : false ≡ deep_from 0 0 (kinds_of c.args.tokens.now) =
-      sym (at_drop_all (λ ts. deep_from c.loop-token.opened c.loop-token.closed (kinds_of ts)) c.args.tokens.now c.loop-token.token-index
-      c.loop-token-test.false) ∙ c.loop-token.invariant.0 in
+    sym (at_drop_all (λ ts. deep_from c.loop-token.opened c.loop-token.closed (kinds_of ts)) c.args.tokens.now c.loop-token.token-index
+    c.loop-token-test.false) ∙ c.loop-token.invariant.0 in
     (λ e. deep_found (kinds_of c.args.tokens.now) (sym none ∙ e), λ d. none ∙ deep_finds (kinds_of c.args.tokens.now) d)
