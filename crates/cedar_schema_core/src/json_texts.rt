@@ -3,8 +3,9 @@ ghost use Rattle.std.specs.Prelude.{◌≡◌, ◌≢◌, ◌↔◌, true, IfOk,
 ghost use Rattle.std.specs.Str.{encode_utf8_all};
 ghost use Rattle.serde_json.specs.Written.{compact_text};
 ghost use Rattle.cedar_names.specs.Meaning.{SchemaMeaning};
-ghost use Rattle.schema_build_closed.specs.HalfFilled.{IsHalfFilled};
-ghost use Rattle.cedar_schema_core.specs.Json.{written_value, SaysIn, IsJsonOfText, JsonMeaning, IsErrorIn, IsValidJson, IsRecoveredJson, IsRefusalOfJson};
+ghost use Rattle.laws_build.specs.Closure.HalfFilled.{IsHalfFilled};
+ghost use Rattle.cedar_schema_core.specs.Json.{written_value, SaysIn, IsJsonOfText, JsonMeaning, IsErrorIn};
+ghost use Rattle.cedar_schema_core.specs.Json.{IsValidJson, IsRecoveredJson, IsRefusalOfJson};
 ghost use Rattle.cedar_schema_core.specs.Meanings.{TextMeaning};
 ghost use Rattle.cedar_schema_core.specs.Steps.{IsUnparsed, IsUnread};
 
@@ -88,8 +89,8 @@ fn read(alloc: Global, text: &str, form: JsonForm) -> Result<Fragment<RawName>, 
 }
 
 /// The canonical text of what a JSON text means under a table of extension types, with its counts. It has no warnings.
-/// It means what the JSON text means exactly where no action of this meaning is half filled. Refused are a text that says no
-/// fragment, one whose fragment has a build fault, and one whose canonical text would be read otherwise.
+/// It means what the JSON text means exactly where no action of this meaning is half filled. Refused are a text that
+/// says no fragment, one whose fragment has a build fault, and one whose canonical text would be read otherwise.
 pub fn recover_json(
     alloc: Global,
     text: &str,
@@ -97,7 +98,8 @@ pub fn recover_json(
     form: JsonForm,
 ) -> Result<Recovered, RecoverError>
     ensures recovered { IfOk result (IsRecoveredJson form text.now table.now) }
-    ensures keeps { IfOk result (λ recovered. (m : SchemaMeaning) → JsonMeaning form text.now table.now m → TextMeaning (encode_utf8_all recovered.text) table.now m ↔ (¬ IsHalfFilled m)) }
+    ensures keeps { IfOk result (λ recovered. (m : SchemaMeaning) → JsonMeaning form text.now table.now m
+        → TextMeaning (encode_utf8_all recovered.text) table.now m ↔ (¬ IsHalfFilled m)) }
     ensures refused { IfErr result (IsRefusalOfJson form text.now table.now) }
     ensures invalid { IfErr result (λ fault. fault ≢ RecoverError.Memory → IsValidJson form text.now table.now → ⊥) }
 {

@@ -15,8 +15,8 @@ ghost use Rattle.schema_convert.specs.Translated.{IsTranslationOfText};
 ghost use Rattle.cedar_schema_core.specs.Json.{JsonMeaning, IsValidJson, IsRecoveredJson, IsRefusalOfJson};
 ghost use Rattle.cedar_schema_core.specs.Meanings.{TextMeaning, IsValid};
 ghost use Rattle.schema_build.specs.Texts.{IsParseRefusal};
-ghost use Rattle.schema_build_closed.specs.Closed.{IsClosed};
-ghost use Rattle.schema_build_closed.specs.HalfFilled.{IsHalfFilled};
+ghost use Rattle.laws_build.specs.Closure.Closed.{IsClosed};
+ghost use Rattle.laws_build.specs.Closure.HalfFilled.{IsHalfFilled};
 ghost use Rattle.cedar_schema_core.specs.Recovery.{IsRecovered, IsRefusal};
 ghost use Rattle.cedar_schema_core.specs.declared.recover.Recovered.{Recovered};
 ghost use Rattle.cedar_schema_core.specs.Plan.{Report, IsPlan};
@@ -24,29 +24,31 @@ ghost use Rattle.cedar_schema_core_faults.specs.Told.{fault_text};
 
 use crate::json_texts::JsonForm;
 use cedar_schema_core_faults::RecoverError;
-use schema_build::{one_build_fault, one_fragment_meaning};
-use schema_build_closed::laws::{
+use laws_build::closed_meanings::{
     meanings_of_json_are_closed, meanings_of_old_json_are_closed, meanings_of_texts_are_closed,
 };
-use schema_build_says::laws::what_says_a_closed_meaning_means_it;
-use schema_generate_valid::laws::{
+use laws_build::generated_texts::{
     generated_texts_are_translated, what_is_generated_means_something,
 };
-use schema_says::laws::texts_of_meanings_are_translated;
+use laws_build::said_meanings::what_says_a_closed_meaning_means_it;
+use laws_syntax::trees::{one_error, one_tree};
+use laws_translate::laws::texts_of_meanings_are_translated;
+use schema_build::{one_build_fault, one_fragment_meaning};
 use schema_syntax::laws::tree_or_error;
-use schema_syntax_laws::{one_error, one_tree};
 use schema_syntax_parser::syntax_is_sentence;
 
 /// Under a table a text is translated to at most one fragment, with one list of warnings.
 pub fn one_translation()
-    ensures { (text : List ℕ) (table : ExtensionTable) (f g : Fragment Raw as_written) (v w : List SchemaWarning) → IsTranslationOfText text table f v → IsTranslationOfText text table g w → (f ≡ g) × (v ≡ w) }
+    ensures { (text : List ℕ) (table : ExtensionTable) (f g : Fragment Raw as_written) (v w : List SchemaWarning)
+        → IsTranslationOfText text table f v → IsTranslationOfText text table g w → (f ≡ g) × (v ≡ w) }
 {
     one_tree();
 }
 
 /// A text that is refused by the parser or by the translation is not translated.
 pub fn refused_or_translated()
-    ensures { (text : List ℕ) (table : ExtensionTable) (e : CedarSchemaParseErrors) (f : Fragment Raw as_written) (w : List SchemaWarning) → IsParseRefusal text e → IsTranslationOfText text table f w → ⊥ }
+    ensures { (text : List ℕ) (table : ExtensionTable) (e : CedarSchemaParseErrors) (f : Fragment Raw as_written) (w : List SchemaWarning)
+        → IsParseRefusal text e → IsTranslationOfText text table f w → ⊥ }
 {
     one_tree();
     tree_or_error();
@@ -54,7 +56,8 @@ pub fn refused_or_translated()
 
 /// A text has at most one meaning under a table.
 pub fn one_text_meaning()
-    ensures { (text : List ℕ) (table : ExtensionTable) (m n : SchemaMeaning) → TextMeaning text table m → TextMeaning text table n → m ≡ n }
+    ensures { (text : List ℕ) (table : ExtensionTable) (m n : SchemaMeaning) → TextMeaning text table m
+        → TextMeaning text table n → m ≡ n }
 {
     one_translation();
     one_fragment_meaning();
@@ -62,15 +65,16 @@ pub fn one_text_meaning()
 
 /// A text that is refused is not valid. Being out of memory is no refusal.
 pub fn refused_or_valid()
-    ensures { (text : List ℕ) (table : ExtensionTable) (e : RecoverError) → IsRefusal text table e → e ≢ RecoverError.Memory → IsValid text table → ⊥ }
+    ensures { (text : List ℕ) (table : ExtensionTable) (e : RecoverError) → IsRefusal text table e
+        → e ≢ RecoverError.Memory → IsValid text table → ⊥ }
 {
     one_translation();
     refused_or_translated();
     one_fragment_meaning();
 }
 
-/// What is told of the refusals of a text in UTF-8 is one: it is refused for one reason, at one place. Being out of memory is no
-/// refusal.
+/// What is told of the refusals of a text in UTF-8 is one: it is refused for one reason, at one place. Being out of
+/// memory is no refusal.
 pub fn one_refusal()
     ensures { (text : List ℕ) (table : ExtensionTable) (e other : RecoverError) → IsUtf8 text → e ≢ RecoverError.Memory
         → other ≢ RecoverError.Memory → IsRefusal text table e → IsRefusal text table other
@@ -85,8 +89,8 @@ pub fn one_refusal()
     one_build_fault();
 }
 
-/// A JSON text in either form has at most one meaning under a table, what is told of its refusals is one, and a text that
-/// is refused is not valid. Being out of memory is no refusal.
+/// A JSON text in either form has at most one meaning under a table, what is told of its refusals is one, and a text
+/// that is refused is not valid. Being out of memory is no refusal.
 pub fn one_json_reading()
     ensures meaning { (form : JsonForm) (text : List ℕ) (table : ExtensionTable) (m n : SchemaMeaning)
         → JsonMeaning form text table m → JsonMeaning form text table n → m ≡ n }
@@ -102,7 +106,8 @@ pub fn one_json_reading()
 
 /// For the same words and the same input there is one report at most.
 pub fn one_plan()
-    ensures { (words : List (List ℕ)) (bytes : List ℕ) (report other : Report) → IsPlan words bytes report → IsPlan words bytes other → report ≡ other }
+    ensures { (words : List (List ℕ)) (bytes : List ℕ) (report other : Report) → IsPlan words bytes report
+        → IsPlan words bytes other → report ≡ other }
 {
     one_text_meaning();
     one_translation();
@@ -131,7 +136,8 @@ pub fn canonical_texts_mean_the_same()
     texts_of_closed_meanings_mean_them();
 }
 
-/// The text of what a JSON text means in its form, in either layout, means the same exactly where that is not half filled.
+/// The text of what a JSON text means in its form, in either layout, means the same exactly where that is not half
+/// filled.
 pub fn texts_of_json_mean_the_same()
     ensures { (closing : Bool) (form : JsonForm) (text : List ℕ) (table : ExtensionTable) (m : SchemaMeaning)
         → JsonMeaning form text table m → TextMeaning (schema_text closing m) table m ↔ (¬ IsHalfFilled m) }
@@ -151,8 +157,8 @@ pub fn canonical_texts_tell_meanings_apart()
     one_text_meaning();
 }
 
-/// What is recovered of a recovered text, under the same table, is that text, with as many entity types and actions; and a
-/// recovered text is valid.
+/// What is recovered of a recovered text, under the same table, is that text, with as many entity types and actions;
+/// and a recovered text is valid.
 pub fn recovered_texts_recover_themselves()
     ensures text { (text : List ℕ) (table : ExtensionTable) (first second : Recovered) → IsRecovered text table first
         → IsRecovered (encode_utf8_all first.text) table second → second.text ≡ first.text }

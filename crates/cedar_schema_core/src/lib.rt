@@ -1,5 +1,5 @@
-//! What the program does, as calls: a schema recovered from its text or its JSON, and a run of the program over any source and
-//! any two sinks.
+//! What the program does, as calls: a schema recovered from its text or its JSON, and a run of the program over any
+//! source and any two sinks.
 #![tactic(auto)]
 
 pub mod command;

@@ -69,7 +69,8 @@ pub(crate) fn build(
 
 /// The canonical text of the schema, which stands for a meaning.
 pub(crate) fn print(alloc: Global, schema: &ValidatorSchema) -> Result<Text, RecoverError>
-    ensures text { IfOk result (λ text. (m : SchemaMeaning) → StandsFor schema.now m → encode_utf8_all text ≡ canonical_text m) }
+    ensures text { IfOk result (λ text. (m : SchemaMeaning) → StandsFor schema.now m
+        → encode_utf8_all text ≡ canonical_text m) }
     ensures uncaptured { OnOk result ((m : SchemaMeaning) → StandsFor schema.now m → IsUncaptured m) }
     ensures refused { IfErr result (λ e. (m : SchemaMeaning) → StandsFor schema.now m → IsUnprinted m e) }
 {
@@ -80,8 +81,9 @@ pub(crate) fn print(alloc: Global, schema: &ValidatorSchema) -> Result<Text, Rec
     }
 }
 
-/// The canonical text of what a schema text means under a table of extension types, with its warnings and counts. Refused are a
-/// text that has no fragment, one whose fragment has a build fault, and one whose canonical text would be read otherwise.
+/// The canonical text of what a schema text means under a table of extension types, with its warnings and counts.
+/// Refused are a text that has no fragment, one whose fragment has a build fault, and one whose canonical text would be
+/// read otherwise.
 pub fn recover_schema(
     alloc: Global,
     text: &str,

@@ -4,8 +4,10 @@ ghost use Rattle.std.specs.Str.{encode_utf8_all};
 ghost use Rattle.cedar_io.specs.Outside.{Rose};
 ghost use Rattle.cedar_io.specs.Input.{TookAtMost, max_input};
 ghost use Rattle.cedar_schema_core.specs.Commands.{Asks, ReadsInput, own_text};
-ghost use Rattle.cedar_schema_core.specs.Plan.{Report, IsPlan, IsInputPlan, IsAnswer, done_report, refused_report, read_fault_report};
-ghost use Rattle.cedar_schema_core.specs.Run.{device, IsReported, IsDelivered, IsRun, Completed, KeepsMeaning, NoneCounted};
+ghost use Rattle.cedar_schema_core.specs.Plan.{Report, IsPlan, IsInputPlan, IsAnswer, done_report, refused_report};
+ghost use Rattle.cedar_schema_core.specs.Plan.{read_fault_report};
+ghost use Rattle.cedar_schema_core.specs.Run.{device, IsReported, IsDelivered, IsRun, Completed, KeepsMeaning};
+ghost use Rattle.cedar_schema_core.specs.Run.{NoneCounted};
 ghost use Rattle.cedar_schema_core.specs.Replies.{report_of};
 
 use crate::command::Command;
@@ -79,7 +81,8 @@ fn input_reply(alloc: Global, command: &Command, bytes: &[u8]) -> Result<Reply, 
 // The reply for the text that a command makes for itself, which is never refused.
 fn own_reply(alloc: Global, command: &Command, text: &str) -> Result<Reply, AllocError>
     requires own { own_text command.now ≡ Some text.now }
-    ensures { (words : List (List ℕ)) (bytes : List ℕ) → Asks words command.now → IfOk result (λ reply. IsPlan words bytes (report_of reply)) }
+    ensures { (words : List (List ℕ)) (bytes : List ℕ) → Asks words command.now
+        → IfOk result (λ reply. IsPlan words bytes (report_of reply)) }
 {
     generated_texts_are_valid();
     refused_or_valid();
@@ -137,8 +140,8 @@ fn deliver<O: Sink, E: Sink>(reply: &Reply, out: &mut O, err: &mut E) -> Status
     reply.status
 }
 
-/// Runs the program: reads the source where the words ask for it, and writes to the two sinks. `words` are those after the
-/// program's name. Nothing is written before all memory is taken.
+/// Runs the program: reads the source where the words ask for it, and writes to the two sinks. `words` are those after
+/// the program's name. Nothing is written before all memory is taken.
 pub fn run_tool<S: Source, O: Sink, E: Sink>(
     alloc: Global,
     words: &[String],
@@ -149,21 +152,31 @@ pub fn run_tool<S: Source, O: Sink, E: Sink>(
     // How the run ended, by its cause.
     ensures run { IsRun (map string_bytes words.now) (device S.left S.faults source.old source.new) (device O.taken O.faults out.old out.new) (device E.taken E.faults err.old err.new) result }
 
-    // Done: the words ask for a command, the input, or the text that the command makes, is valid, what the command writes of
-    // its meaning was written, and nothing else.
-    ensures completed { result ≡ Status.Done → (c : Command) × Asks (map string_bytes words.now) c × Completed c (device S.left S.faults source.old source.new) (device O.taken O.faults out.old out.new) (device E.taken E.faults err.old err.new) }
+    // Done: the words ask for a command, the input, or the text that the command makes, is valid, what the command
+    // writes of its meaning was written, and nothing else.
+    ensures completed { result ≡ Status.Done
+        → (c : Command) × Asks (map string_bytes words.now) c × Completed c (device S.left S.faults source.old source.new) (device O.taken O.faults out.old out.new) (device E.taken E.faults err.old err.new) }
 
-    // Done by a recovery: the text that was written is valid under the same table, and means what the input means; of JSON, in
-    // the form that the command names, exactly where that is not half filled.
-    ensures recovers { result ≡ Status.Done → (c : Command) × Asks (map string_bytes words.now) c × KeepsMeaning c (device S.left S.faults source.old source.new) (device O.taken O.faults out.old out.new) }
+    // Done by a recovery: the text that was written is valid under the same table, and means what the input means; of
+    // JSON, in the form that the command names, exactly where that is not half filled.
+    ensures recovers { result ≡ Status.Done
+        → (c : Command) × Asks (map string_bytes words.now) c × KeepsMeaning c (device S.left S.faults source.old source.new) (device O.taken O.faults out.old out.new) }
 
     // With no fault counted, the status is the one planned for the words and the input, or out of memory.
-    ensures completes { (bytes : List ℕ) (plan : Report) → S.left source.old ≡ Some bytes → IsPlan (map string_bytes words.now) bytes plan → NoneCounted (device S.left S.faults source.old source.new) (device O.taken O.faults out.old out.new) (device E.taken E.faults err.old err.new) → (result ≡ plan.status) ⊎ (result ≡ Status.Memory) }
+    ensures completes { (bytes : List ℕ) (plan : Report) → S.left source.old ≡ Some bytes
+        → IsPlan (map string_bytes words.now) bytes plan
+        → NoneCounted (device S.left S.faults source.old source.new) (device O.taken O.faults out.old out.new) (device E.taken E.faults err.old err.new)
+        → (result ≡ plan.status) ⊎ (result ≡ Status.Memory) }
 
-    // A sink that surely takes what is planned for it counts no fault; of the error output this asks for room for a read fault's
-    // line where a read failed.
-    ensures out_sure { (bytes : List ℕ) (plan : Report) → S.left source.old ≡ Some bytes → IsPlan (map string_bytes words.now) bytes plan → length plan.out ≤ O.sure out.old → O.faults out.new ≡ O.faults out.old }
-    ensures err_sure { (bytes : List ℕ) (plan : Report) → S.left source.old ≡ Some bytes → IsPlan (map string_bytes words.now) bytes plan → length plan.err ≤ E.sure err.old → (Rose (S.faults source.old) (S.faults source.new) → length read_fault_report.err ≤ E.sure err.old) → E.faults err.new ≡ E.faults err.old }
+    // A sink that surely takes what is planned for it counts no fault; of the error output this asks for room for a
+    // read fault's line where a read failed.
+    ensures out_sure { (bytes : List ℕ) (plan : Report) → S.left source.old ≡ Some bytes
+        → IsPlan (map string_bytes words.now) bytes plan → length plan.out ≤ O.sure out.old
+        → O.faults out.new ≡ O.faults out.old }
+    ensures err_sure { (bytes : List ℕ) (plan : Report) → S.left source.old ≡ Some bytes
+        → IsPlan (map string_bytes words.now) bytes plan → length plan.err ≤ E.sure err.old
+        → (Rose (S.faults source.old) (S.faults source.new) → length read_fault_report.err ≤ E.sure err.old)
+        → E.faults err.new ≡ E.faults err.old }
 
     // No more of the source is taken than one byte past what an input may have, and no count of faults falls.
     ensures taken { TookAtMost (max_input + 1) (S.left source.old) (S.left source.new) }

@@ -36,8 +36,8 @@ impl<R: Read + Drop> Source for StdSource<R> {
     }
 }
 
-/// Standard output or standard error, which tell no content. A fault is counted at each error, and where nothing is taken of
-/// bytes that are there.
+/// Standard output or standard error, which tell no content. A fault is counted at each error, and where nothing is
+/// taken of bytes that are there.
 #[derive(Drop)]
 pub struct StdSink<W: Drop> {
     output: W,

@@ -12,42 +12,42 @@ ghost use Rattle.schema_json.specs.AsWritten.{as_written};
 ghost use Rattle.schema_convert_faults.specs.Faults.{translation_faults};
 ghost use Rattle.schema_convert_faults.specs.Translatable.{IsTranslatable};
 ghost use Rattle.schema_convert_plain.specs.Translation.{translated};
-ghost use Rattle.schema_readback.specs.PrintedDecls.{Group, group_items, schema_pieces};
-ghost use Rattle.schema_readback.specs.Shows.{SaysItem};
-ghost use Rattle.schema_readback.specs.Written.{WrittenItem};
-ghost use Rattle.schema_says.specs.BareFragments.{bare_fragment};
-ghost use Rattle.schema_says.specs.Named.{IsWellNamed};
-ghost use Rattle.schema_says.specs.TranslatedAs.{IsTranslatedAs};
+ghost use Rattle.laws_written.specs.PrintedDecls.{Group, group_items, schema_pieces};
+ghost use Rattle.laws_written.specs.Shows.{SaysItem};
+ghost use Rattle.laws_written.specs.Written.{WrittenItem};
+ghost use Rattle.laws_translate.specs.BareFragments.{bare_fragment};
+ghost use Rattle.laws_translate.specs.Named.{IsWellNamed};
+ghost use Rattle.laws_translate.specs.TranslatedAs.{IsTranslatedAs};
 ghost use Rattle.schema_print.specs.FragmentGroups.{AreGroupsOf};
 ghost use Rattle.schema_print.specs.Printable.{IsPrintable};
-ghost use Rattle.schema_print_says.specs.CedarForm.{cedar_form};
-ghost use Rattle.schema_print_says.specs.Plain.{components_written, IsPlainFragment};
-ghost use Rattle.schema_print_plain.specs.Orderly.{IsOrderly};
-ghost use Rattle.schema_print_plain.specs.ReadAs.{IsReadAs, ResolveAlike};
+ghost use Rattle.laws_print.specs.Printed.CedarForm.{cedar_form};
+ghost use Rattle.laws_print.specs.Printed.Textual.{components_written, IsTextualFragment};
+ghost use Rattle.laws_print.specs.Printable.Orderly.{IsOrderly};
+ghost use Rattle.laws_print.specs.Printable.ReadAs.{IsReadAs, ResolveAlike};
 ghost use Rattle.schema_build_errors.specs.declared.schema_error.SchemaError.{SchemaError};
 ghost use Rattle.schema_build_parts.specs.BuildFaults.{BuildFault};
 ghost use Rattle.schema_build.specs.FaultsTold.{AreToldAlike, IsInOrder};
 ghost use Rattle.schema_build.specs.Meaning.{FragmentMeaning};
 
 use cedar_identifiers::RawName;
+use laws_print::printable_fragments::printable_fragments_read_back;
+use laws_print::printed_fragments::printed_fragments_read_back;
+use laws_translate::laws::trees_that_say_the_same;
 use schema_build::{one_build_fault, one_fragment_meaning};
 use schema_convert::laws::lawful_trees;
 use schema_json::Fragment;
 use schema_print::ToCedarSchema;
-use schema_print_plain::laws::printable_fragments_read_back;
-use schema_print_says::laws::printed_fragments_read_back;
-use schema_says::laws::trees_that_say_the_same;
 
-/// A tree has no fault of translation exactly where it can be translated: no name is reserved, none is declared twice in its
-/// kind and namespace, and each block of an action is whole.
+/// A tree has no fault of translation exactly where it can be translated: no name is reserved, none is declared twice
+/// in its kind and namespace, and each block of an action is whole.
 pub fn a_tree_is_translated_where_it_can_be()
     ensures { (tree : List (Annotated Namespace)) → translation_faults tree ≡ [] ↔ IsTranslatable tree }
 {
     lawful_trees();
 }
 
-/// Of two trees that say the same, with a component in each name and a name in each declaration of actions, the other has no
-/// fault where one has none, and then their fragments are the same, places aside.
+/// Of two trees that say the same, with a component in each name and a name in each declaration of actions, the other
+/// has no fault where one has none, and then their fragments are the same, places aside.
 pub fn what_is_said_decides()
     ensures { (tree other : List (Annotated Namespace)) (w : List WrittenItem) → AllZip SaysItem tree w
         → AllZip SaysItem other w → AllByRecursion IsWellNamed w → translation_faults tree ≡ []
@@ -56,11 +56,11 @@ pub fn what_is_said_decides()
     trees_that_say_the_same();
 }
 
-/// The printed text of a fragment that a text can say has no fault, and its fragment is that one in the form that its text has,
-/// places aside.
+/// The printed text of a fragment that a text can say has no fault, and its fragment is that one in the form that its
+/// text has, places aside.
 pub fn printed_fragments_say_the_same()
     ensures { (closing : Bool) (f : Fragments Raw as_written) (groups : List Group)
-        → AreGroupsOf components_written f groups → IsPlainFragment f
+        → AreGroupsOf components_written f groups → IsTextualFragment f
         → (t : IsTranslatedAs (laid (schema_pieces closing groups)) (flat_map group_items groups))
         × (bare_fragment (translated t.reads.tree) ≡ bare_fragment (cedar_form f)) }
 {
@@ -86,8 +86,8 @@ pub fn a_fragment_has_one_meaning()
     one_fragment_meaning();
 }
 
-/// What is told of the fault that keeps a fragment from being a schema is one: its text, its advice and its places. The entries
-/// of the fragment are to be in the order of their names, as those of each fragment in memory are.
+/// What is told of the fault that keeps a fragment from being a schema is one: its text, its advice and its places. The
+/// entries of the fragment are to be in the order of their names, as those of each fragment in memory are.
 pub fn faults_are_told_alike()
     ensures { (f : Fragments Raw as_written) (table : ExtensionTable) (error other : SchemaError) → IsInOrder f
         → BuildFault f table error → BuildFault f table other → AreToldAlike error other }

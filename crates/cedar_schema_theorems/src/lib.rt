@@ -1,7 +1,7 @@
-//! The page of theorems: what is proved of schema texts, fragments and schemas, one sentence each. Each theorem is what its
-//! function ensures, over definitions alone, and each function does nothing but cite the laws that it follows from.
-//! A text is the list of its bytes; a meaning is what a schema is about: entity types and actions, each with all that is
-//! above it, and no common type.
+//! The page of theorems: what is proved of schema texts, fragments and schemas, one sentence each. Each theorem is what
+//! its function ensures, over definitions alone, and each function does nothing but cite the laws that it follows from.
+//! A text is the list of its bytes; a meaning is what a schema is about: entity types and actions, each with all that
+//! is above it, and no common type.
 #![tactic(auto)]
 
 pub mod fragments;
@@ -13,7 +13,10 @@ pub use fragments::{
     a_fragment_has_one_meaning, a_tree_is_translated_where_it_can_be, faults_are_told_alike,
     printed_fragments_say_the_same, texts_of_printable_fragments_say_them, what_is_said_decides,
 };
-pub use orders::{blanks_change_no_meaning, divisions_change_no_meaning, order_changes_no_meaning};
+pub use orders::{
+    blanks_do_not_matter, divisions_do_not_matter, order_does_not_matter,
+    rearranged_texts_mean_the_same, valid_texts_are_written, valid_together,
+};
 pub use runs::{
     a_made_text_is_valid, a_run_has_one_plan, a_text_has_one_meaning, a_text_has_one_refusal,
     canonical_texts_stand_for_meanings, recovering_again_changes_nothing, refused_is_not_valid,

@@ -5,7 +5,7 @@ ghost use Rattle.cedar_names.specs.CanonicalText.{schema_text, canonical_text};
 ghost use Rattle.cedar_names.specs.Meaning.{SchemaMeaning};
 ghost use Rattle.cedar_names.specs.declared.extension_table.ExtensionTable.{ExtensionTable};
 ghost use Rattle.schema_generate.specs.Generated.{max_size, generated};
-ghost use Rattle.schema_build_closed.specs.HalfFilled.{IsHalfFilled};
+ghost use Rattle.laws_build.specs.Closure.HalfFilled.{IsHalfFilled};
 ghost use Rattle.cedar_schema_core.specs.Json.{JsonMeaning};
 ghost use Rattle.cedar_schema_core.specs.Meanings.{TextMeaning, IsValid};
 ghost use Rattle.cedar_schema_core.specs.Recovery.{IsRecovered, IsRefusal};
@@ -27,8 +27,8 @@ pub fn a_text_has_one_meaning()
     one_text_meaning();
 }
 
-/// What is recovered means the same: the text of what a valid text means, with a comma behind every member or between members,
-/// is valid under the same table, and means the same.
+/// What is recovered means the same: the text of what a valid text means, with a comma behind every member or between
+/// members, is valid under the same table, and means the same.
 pub fn what_is_recovered_means_the_same()
     ensures { (closing : Bool) (text : List ℕ) (table : ExtensionTable) (m : SchemaMeaning) → TextMeaning text table m
         → TextMeaning (schema_text closing m) table m }
@@ -36,9 +36,9 @@ pub fn what_is_recovered_means_the_same()
     canonical_texts_mean_the_same();
 }
 
-/// What is recovered from JSON means the same: the text of what a JSON text means in its form, the one of today or the deprecated
-/// one, is valid under the same table, and means the same, exactly where no action has principals alone, resources alone or a
-/// context alone.
+/// What is recovered from JSON means the same: the text of what a JSON text means in its form, the one of today or the
+/// deprecated one, is valid under the same table, and means the same, exactly where no action has principals alone,
+/// resources alone or a context alone.
 pub fn what_is_recovered_from_json_means_the_same()
     ensures { (closing : Bool) (form : JsonForm) (text : List ℕ) (table : ExtensionTable) (m : SchemaMeaning)
         → JsonMeaning form text table m → TextMeaning (schema_text closing m) table m ↔ (¬ IsHalfFilled m) }
@@ -70,8 +70,8 @@ pub fn refused_is_not_valid()
     refused_or_valid();
 }
 
-/// A text in UTF-8 is refused for one reason, at one place: what is told of its refusals under a table is one text. Being out of
-/// memory is no refusal.
+/// A text in UTF-8 is refused for one reason, at one place: what is told of its refusals under a table is one text.
+/// Being out of memory is no refusal.
 pub fn a_text_has_one_refusal()
     ensures { (text : List ℕ) (table : ExtensionTable) (e other : RecoverError) → IsUtf8 text
         → e ≢ RecoverError.Memory → other ≢ RecoverError.Memory → IsRefusal text table e → IsRefusal text table other

@@ -11,8 +11,8 @@ ghost use Rattle.schema_syntax_tokens.specs.TokenLists.{kinds_of};
 ghost use Rattle.schema_syntax_parser.specs.declared.syntax.ItemSyntax.{ItemSyntax};
 ghost use Rattle.schema_syntax_parser.specs.Syntax.{IsSyntax};
 ghost use Rattle.schema_syntax_reader.specs.Sites.{sites_of};
-ghost use Rattle.schema_syntax_sites.specs.Readings.{picked, reads};
-ghost use Rattle.schema_syntax_sites.specs.SiteTokens.{tokens_of_sites};
+ghost use Rattle.laws_syntax.specs.Sites.Readings.{picked, reads};
+ghost use Rattle.laws_syntax.specs.Sites.SiteTokens.{tokens_of_sites};
 ghost use Rattle.schema_syntax_tree.specs.declared.annotated.Annotated.{Annotated};
 ghost use Rattle.schema_syntax_tree.specs.declared.namespace.Namespace.{Namespace};
 ghost use Rattle.schema_syntax_errors.specs.declared.parse_error.ParseError.{ParseError};
@@ -23,27 +23,28 @@ ghost use Rattle.schema_json.specs.declared.fragment.Fragment.{Fragment};
 ghost use Rattle.schema_json.specs.AsWritten.{as_written};
 ghost use Rattle.schema_convert_errors.specs.declared.warnings.SchemaWarning.{SchemaWarning};
 ghost use Rattle.schema_convert.specs.Translated.{IsTranslationOfText};
-ghost use Rattle.schema_readback.specs.Meant.{groups_of_meaning};
-ghost use Rattle.schema_readback.specs.PrintedDecls.{group_items};
-ghost use Rattle.schema_says.specs.MeantNames.{HasOpenNames, IsOfWords};
-ghost use Rattle.schema_says.specs.TranslatedAs.{IsTranslatedAs};
+ghost use Rattle.laws_written.specs.Meant.{groups_of_meaning};
+ghost use Rattle.laws_written.specs.PrintedDecls.{group_items};
+ghost use Rattle.laws_translate.specs.MeantNames.{HasOpenNames, IsOfWords};
+ghost use Rattle.laws_translate.specs.TranslatedAs.{IsTranslatedAs};
 
 use cedar_schema_core::one_translation;
-use schema_says::laws::texts_of_meanings_are_translated;
+use laws_syntax::site_tokens::sites_are_names_and_strings;
+use laws_syntax::trees::{one_error, one_tree};
+use laws_translate::laws::texts_of_meanings_are_translated;
 use schema_syntax::laws::{one_syntax_fault, tree_or_error};
-use schema_syntax_laws::{one_error, one_tree};
-use schema_syntax_sites::sites_are_names_and_strings;
 
 /// A text has at most one tree.
 pub fn a_text_has_one_tree()
-    ensures { (text : List ℕ) (tree other : List (Annotated Namespace)) → IsTreeOfText text tree → IsTreeOfText text other
+    ensures { (text : List ℕ) (tree other : List (Annotated Namespace)) → IsTreeOfText text tree
+        → IsTreeOfText text other
         → tree ≡ other }
 {
     one_tree();
 }
 
-/// A text has at most one syntax fault: one leftmost place, one token there, and one list of the kinds of tokens that could
-/// stand there.
+/// A text has at most one syntax fault: one leftmost place, one token there, and one list of the kinds of tokens that
+/// could stand there.
 pub fn a_text_has_one_syntax_fault()
     ensures { (text : List ℕ) (fault other : SyntaxFault) → IsSyntaxFault text fault → IsSyntaxFault text other
         → fault ≡ other }
@@ -51,8 +52,8 @@ pub fn a_text_has_one_syntax_fault()
     one_syntax_fault();
 }
 
-/// The words and strings of a syntax are exactly the tokens that the grammar reads as such: the kinds of the tokens have a
-/// derivation, and each derivation that they have reads these tokens so, and no others.
+/// The words and strings of a syntax are exactly the tokens that the grammar reads as such: the kinds of the tokens
+/// have a derivation, and each derivation that they have reads these tokens so, and no others.
 pub fn the_grammar_says_what_is_read()
     ensures { (tokens : List Token) (items : List ItemSyntax) → IsSyntax tokens items
         → Sentence (kinds_of tokens)
@@ -85,10 +86,10 @@ pub fn a_text_has_one_translation()
     one_translation();
 }
 
-/// The text of a meaning, with a comma behind every member or between members, has a tree and no fault, and its fragment says
-/// what is written of the meaning. Each name in the meaning is to be made of words, and each enum to have a choice; the entity
-/// types and the actions are to be in the order of their names, no name may be reserved, and the type of each action is to be
-/// the `Action` of a namespace.
+/// The text of a meaning, with a comma behind every member or between members, has a tree and no fault, and its
+/// fragment says what is written of the meaning. Each name in the meaning is to be made of words, and each enum to have
+/// a choice; the entity types and the actions are to be in the order of their names, no name may be reserved, and the
+/// type of each action is to be the `Action` of a namespace.
 pub fn texts_of_meanings_say_them()
     ensures { (closing : Bool) (m : SchemaMeaning) → IsOfWords m → HasOpenNames m
         → IsTranslatedAs (schema_text closing m) (flat_map group_items (groups_of_meaning m)) }

@@ -1,0 +1,4 @@
+pub mod Closure
+pub mod Said
+pub mod Orders
+pub mod Generated

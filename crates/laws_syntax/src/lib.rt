@@ -1,0 +1,6 @@
+//! Laws of schema texts: a text has at most one tree or one error, and the tokens of the sites of a syntax are the
+//! names and strings that the grammar reads.
+#![tactic(auto)]
+
+pub mod site_tokens;
+pub mod trees;
