@@ -2,3 +2,4 @@ pub mod Closure
 pub mod Said
 pub mod Orders
 pub mod Generated
+pub mod Existence
