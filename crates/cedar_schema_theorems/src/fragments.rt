@@ -1,5 +1,5 @@
 //! What is proved of trees, of the fragments that they stand for, and of what fragments mean.
-ghost use Rattle.std.specs.Prelude.{◌≡◌, ◌↔◌, Bool, List, []};
+ghost use Rattle.std.specs.Prelude.{◌≡◌, ◌↔◌, ◌⊎◌, Bool, List, []};
 ghost use Rattle.std.specs.List.{AllZip, AllByRecursion, flat_map};
 ghost use Rattle.cedar_identifiers.specs.declared.raw_name.RawName.{RawName as Raw};
 ghost use Rattle.cedar_names.specs.Meaning.{SchemaMeaning};
@@ -24,12 +24,14 @@ ghost use Rattle.laws_print.specs.Printed.CedarForm.{cedar_form};
 ghost use Rattle.laws_print.specs.Printed.Textual.{components_written, IsTextualFragment};
 ghost use Rattle.laws_print.specs.Printable.Orderly.{IsOrderly};
 ghost use Rattle.laws_print.specs.Printable.ReadAs.{IsReadAs, ResolveAlike};
+ghost use Rattle.schema_build_checks.specs.Rows.{Never};
 ghost use Rattle.schema_build_errors.specs.declared.schema_error.SchemaError.{SchemaError};
 ghost use Rattle.schema_build_parts.specs.BuildFaults.{BuildFault};
 ghost use Rattle.schema_build.specs.FaultsTold.{AreToldAlike, IsInOrder};
 ghost use Rattle.schema_build.specs.Meaning.{FragmentMeaning};
 
 use cedar_identifiers::RawName;
+use laws_build::existing_meanings::fragments_have_a_fault_or_a_meaning;
 use laws_print::printable_fragments::printable_fragments_read_back;
 use laws_print::printed_fragments::printed_fragments_read_back;
 use laws_translate::laws::trees_that_say_the_same;
@@ -84,6 +86,16 @@ pub fn a_fragment_has_one_meaning()
         → FragmentMeaning f table n → m ≡ n }
 {
     one_fragment_meaning();
+}
+
+/// A fragment has a fault of building under a table, or it has none and means something: there is no third case. The
+/// entries of the fragment are to be in the order of their names, as those of each fragment in memory are.
+pub fn a_fragment_has_a_fault_or_a_meaning()
+    ensures { (f : Fragments Raw as_written) (table : ExtensionTable) → IsInOrder f
+        → ((error : SchemaError) × BuildFault f table error)
+        ⊎ (Never (BuildFault f table) × ((m : SchemaMeaning) × FragmentMeaning f table m)) }
+{
+    fragments_have_a_fault_or_a_meaning();
 }
 
 /// What is told of the fault that keeps a fragment from being a schema is one: its text, its advice and its places. The
