@@ -17,14 +17,14 @@ use Rattle.schema_json_io.specs.Texts.{TextShape}
 use Rattle.schema_compat.specs.Causes.{OldText}
 use Rattle.schema_convert_faults.specs.Shadowings.{shadowings}
 use Rattle.schema_convert_plain.specs.Translation.{translated}
-use Rattle.schema_readback.specs.Written.{WrittenItem}
+use Rattle.laws_written.specs.Written.{WrittenItem}
 use Rattle.schema_build_checks.specs.Rows.{Never}
 use Rattle.schema_build_parts.specs.BuildFaults.{BuildFault}
 use Rattle.schema_build.specs.Meaning.{FragmentMeaning}
 use Rattle.schema_build_text.specs.Captured.{IsUncaptured}
-use Rattle.schema_says.specs.TranslatedAs.{IsTranslatedAs}
-use Rattle.schema_build_closed.specs.Closed.{IsClosed}
-use Rattle.schema_build_closed.specs.HalfFilled.{IsHalfFilled}
+use Rattle.laws_translate.specs.TranslatedAs.{IsTranslatedAs}
+use Rattle.laws_build.specs.Closure.Closed.{IsClosed}
+use Rattle.laws_build.specs.Closure.HalfFilled.{IsHalfFilled}
 use Rattle.cedar_schema_core.specs.declared.json_texts.JsonForm.{JsonForm}
 use Rattle.cedar_schema_core.specs.declared.json_texts.JsonForm.TheVariants.{Current, Deprecated}
 use Rattle.cedar_schema_core.specs.Json.{JsonMeaning, IsRecoveredJson}

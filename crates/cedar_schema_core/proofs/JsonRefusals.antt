@@ -8,8 +8,8 @@ use Rattle.schema_json.specs.declared.fragment.Fragment.{Fragment}
 use Rattle.schema_json.specs.AsWritten.{as_written}
 use Rattle.schema_json_errors.specs.declared.json_error.JsonDeserializationError.{JsonDeserializationError}
 use Rattle.schema_json_errors.specs.declared.json_fault.JsonFault.TheVariants as cause
-use Rattle.schema_json_laws.proofs.OneReading.{one_text_fragment, one_error, said_or_refused}
-use Rattle.schema_compat_laws.proofs.OneOldReading.{one_old_text, one_old_error, old_said_or_refused}
+use Rattle.laws_json.proofs.Current.OneReading.{one_text_fragment, one_error, said_or_refused}
+use Rattle.laws_json.proofs.Deprecated.OneOldReading.{one_old_text, one_old_error, old_said_or_refused}
 use Rattle.schema_build.specs.FaultsTold.{AreToldAlike, IsInOrder}
 use Rattle.schema_build.specs.Meaning.{FragmentMeaning}
 use Rattle.schema_build_errors.specs.declared.captured.ReferenceCaptured.{ReferenceCaptured}

@@ -3,7 +3,7 @@ use Rattle.std.proofs.Common.{◌↔◌, ℕ, List, Bool, true, sym, subst}
 use Rattle.cedar_names.specs.CanonicalText.{schema_text}
 use Rattle.cedar_names.specs.Meaning.{SchemaMeaning}
 use Rattle.cedar_names.specs.declared.extension_table.ExtensionTable.{ExtensionTable}
-use Rattle.schema_build_closed.specs.HalfFilled.{IsHalfFilled}
+use Rattle.laws_build.specs.Closure.HalfFilled.{IsHalfFilled}
 use Rattle.cedar_schema_core.specs.declared.command.Command.{Command}
 use Rattle.cedar_schema_core.specs.declared.command.Command.TheVariants.{Recover, Check, ToJson, FromJson, Generate}
 use Rattle.cedar_schema_core.specs.declared.json_texts.JsonForm.{JsonForm}

@@ -18,3 +18,5 @@ mod JsonRefusals
 mod OneOutput
 mod Canonical
 mod Kept
+mod Constructed
+mod Headline

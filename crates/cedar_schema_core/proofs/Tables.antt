@@ -14,7 +14,7 @@ use Rattle.cedar_identifiers.proofs.Same.{unreserved_id_same}
 use Rattle.cedar_names.specs.TableNames.{is_builtin}
 use Rattle.cedar_names.specs.Tables.{table_names}
 use Rattle.cedar_names.specs.declared.extension_table.ExtensionTable.{ExtensionTable}
-use Rattle.schema_syntax_laws.proofs.Members.{In, same_rising}
+use Rattle.laws_syntax.proofs.OneTree.Members.{In, same_rising}
 use Rattle.cedar_schema_core.specs.Commands.{IsTableInOrder}
 
 id_total : IsTotalOrder (λ (a b : UnreservedId). text_cmp a.id.text b.id.text)

@@ -8,3 +8,4 @@ pub mod Answers
 pub mod Plan
 pub mod Run
 pub mod Replies
+pub mod Headline

@@ -12,7 +12,7 @@ use Rattle.cedar_names.specs.declared.extension_table.ExtensionTable.{ExtensionT
 use Rattle.cedar_schema_core.specs.declared.command.Command.{Command}
 use Rattle.cedar_schema_core.specs.declared.command.Command.TheVariants.{Recover, Check, ToJson, FromJson, Generate}
 use Rattle.cedar_schema_core.specs.declared.json_texts.JsonForm.{JsonForm}
-use Rattle.schema_build_closed.specs.HalfFilled.{IsHalfFilled}
+use Rattle.laws_build.specs.Closure.HalfFilled.{IsHalfFilled}
 use Rattle.cedar_schema_core.specs.Json.{JsonMeaning}
 use Rattle.cedar_schema_core.specs.Meanings.{TextMeaning}
 use Rattle.cedar_schema_core.specs.Commands.{Asks, own_text, ReadsInput}

@@ -30,8 +30,8 @@ pub enum Command {
 impl Command {
     /// The command that the words after the program's name ask for, where they ask for one.
     pub fn of_words(alloc: Global, words: &[String]) -> Result<Option<Command>, AllocError>
-        ensures { IfOk result (λ command. MatchOption command ((c : Command) → Asks (map string_bytes words.now) c
-            → ⊥) (Asks (map string_bytes words.now))) }
+        ensures { IfOk result (λ command. MatchOption command
+            ((c : Command) → Asks (map string_bytes words.now) c → ⊥) (Asks (map string_bytes words.now))) }
     {
         let Some((first, names)) = words.split_first() else {
             return Ok(None);
@@ -78,9 +78,10 @@ impl Command {
 
 // The command under the table of these names, where they make one.
 fn recover_with(alloc: Global, names: &[String]) -> Result<Option<Command>, AllocError>
-    ensures { IfOk result (λ command. MatchOption command ((table : ExtensionTable)
-        → IsTableInOrder (map string_bytes names.now) table → ⊥) (λ c. (table : ExtensionTable)
-        × (c ≡ Command.Recover table) × IsTableInOrder (map string_bytes names.now) table)) }
+    ensures { IfOk result (λ command. MatchOption command
+        ((table : ExtensionTable) → IsTableInOrder (map string_bytes names.now) table → ⊥)
+        (λ c. (table : ExtensionTable) × (c ≡ Command.Recover table)
+        × IsTableInOrder (map string_bytes names.now) table)) }
 {
     match ExtensionTable::new(alloc, names) {
         Ok(table) => {

@@ -3,7 +3,7 @@ ghost use Rattle.std.specs.Prelude.{◌≡◌, ◌≢◌, ◌↔◌, true, IfOk,
 ghost use Rattle.std.specs.Str.{encode_utf8_all};
 ghost use Rattle.serde_json.specs.Written.{compact_text};
 ghost use Rattle.cedar_names.specs.Meaning.{SchemaMeaning};
-ghost use Rattle.schema_build_closed.specs.HalfFilled.{IsHalfFilled};
+ghost use Rattle.laws_build.specs.Closure.HalfFilled.{IsHalfFilled};
 ghost use Rattle.cedar_schema_core.specs.Json.{written_value, SaysIn, IsJsonOfText, JsonMeaning, IsErrorIn};
 ghost use Rattle.cedar_schema_core.specs.Json.{IsValidJson, IsRecoveredJson, IsRefusalOfJson};
 ghost use Rattle.cedar_schema_core.specs.Meanings.{TextMeaning};

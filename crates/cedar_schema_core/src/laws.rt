@@ -1,6 +1,6 @@
 //! Laws of what a text means and of what the program is to do. Each law is what its function ensures; the functions do
 //! nothing but cite laws below them.
-ghost use Rattle.std.specs.Prelude.{◌≡◌, ◌≢◌, ◌↔◌, ◌≤◌, ℕ, Bool, List, IsUtf8};
+ghost use Rattle.std.specs.Prelude.{◌≡◌, ◌≢◌, ◌↔◌, ◌≤◌, ℕ, Bool, List, length, IsUtf8};
 ghost use Rattle.std.specs.Str.{encode_utf8_all};
 ghost use Rattle.cedar_identifiers.specs.declared.raw_name.RawName.{RawName as Raw};
 ghost use Rattle.cedar_names.specs.CanonicalText.{schema_text, canonical_text};
@@ -13,28 +13,31 @@ ghost use Rattle.schema_convert_errors.specs.declared.error_list.CedarSchemaPars
 ghost use Rattle.schema_convert_errors.specs.declared.warnings.SchemaWarning.{SchemaWarning};
 ghost use Rattle.schema_convert.specs.Translated.{IsTranslationOfText};
 ghost use Rattle.cedar_schema_core.specs.Json.{JsonMeaning, IsValidJson, IsRecoveredJson, IsRefusalOfJson};
-ghost use Rattle.cedar_schema_core.specs.Meanings.{TextMeaning, IsValid};
+ghost use Rattle.cedar_io.specs.Input.{max_input};
+ghost use Rattle.cedar_schema_core.specs.Commands.{Asks};
+ghost use Rattle.cedar_schema_core.specs.Meanings.{TextMeaning, IsValid, Warns};
 ghost use Rattle.schema_build.specs.Texts.{IsParseRefusal};
-ghost use Rattle.schema_build_closed.specs.Closed.{IsClosed};
-ghost use Rattle.schema_build_closed.specs.HalfFilled.{IsHalfFilled};
+ghost use Rattle.laws_build.specs.Closure.Closed.{IsClosed};
+ghost use Rattle.laws_build.specs.Closure.HalfFilled.{IsHalfFilled};
 ghost use Rattle.cedar_schema_core.specs.Recovery.{IsRecovered, IsRefusal};
 ghost use Rattle.cedar_schema_core.specs.declared.recover.Recovered.{Recovered};
-ghost use Rattle.cedar_schema_core.specs.Plan.{Report, IsPlan};
+ghost use Rattle.cedar_schema_core.specs.Plan.{Report, IsPlan, done_report};
 ghost use Rattle.cedar_schema_core_faults.specs.Told.{fault_text};
 
+use crate::command::Command;
 use crate::json_texts::JsonForm;
 use cedar_schema_core_faults::RecoverError;
-use schema_build::{one_build_fault, one_fragment_meaning};
-use schema_build_closed::laws::{
+use laws_build::closed_meanings::{
     meanings_of_json_are_closed, meanings_of_old_json_are_closed, meanings_of_texts_are_closed,
 };
-use schema_build_says::laws::what_says_a_closed_meaning_means_it;
-use schema_generate_valid::laws::{
+use laws_build::generated_texts::{
     generated_texts_are_translated, what_is_generated_means_something,
 };
-use schema_says::laws::texts_of_meanings_are_translated;
+use laws_build::said_meanings::what_says_a_closed_meaning_means_it;
+use laws_syntax::trees::{one_error, one_tree};
+use laws_translate::laws::texts_of_meanings_are_translated;
+use schema_build::{one_build_fault, one_fragment_meaning};
 use schema_syntax::laws::tree_or_error;
-use schema_syntax_laws::{one_error, one_tree};
 use schema_syntax_parser::syntax_is_sentence;
 
 /// Under a table a text is translated to at most one fragment, with one list of warnings.
@@ -48,7 +51,8 @@ pub fn one_translation()
 /// A text that is refused by the parser or by the translation is not translated.
 pub fn refused_or_translated()
     ensures { (text : List ℕ) (table : ExtensionTable) (e : CedarSchemaParseErrors) (f : Fragment Raw as_written)
-        (w : List SchemaWarning) → IsParseRefusal text e → IsTranslationOfText text table f w → ⊥ }
+        (w : List SchemaWarning)
+        → IsParseRefusal text e → IsTranslationOfText text table f w → ⊥ }
 {
     one_tree();
     tree_or_error();
@@ -103,6 +107,17 @@ pub fn one_json_reading()
     one_fragment_meaning();
     one_build_fault();
 }
+
+/// An input that is a text, is not too long and means something has a plan, and whatever means something has its
+/// warnings: planned are the canonical text of the meaning and a line for each warning.
+pub fn valid_texts_are_planned()
+    ensures planned { (words : List (List ℕ)) (bytes : List ℕ) (table : ExtensionTable) (m : SchemaMeaning)
+        (warnings : List SchemaWarning) → Asks words (Command.Recover table) → IsUtf8 bytes
+        → length bytes ≤ max_input → TextMeaning bytes table m → Warns bytes table warnings
+        → IsPlan words bytes (done_report (canonical_text m) warnings) }
+    ensures warned { (bytes : List ℕ) (table : ExtensionTable) (m : SchemaMeaning) → TextMeaning bytes table m
+        → (warnings : List SchemaWarning) × Warns bytes table warnings }
+{}
 
 /// For the same words and the same input there is one report at most.
 pub fn one_plan()

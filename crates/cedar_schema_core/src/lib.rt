@@ -20,7 +20,7 @@ pub use laws::{
     canonical_texts_mean_the_same, canonical_texts_tell_meanings_apart, generated_texts_are_valid,
     one_json_reading, one_plan, one_refusal, one_text_meaning, one_translation,
     recovered_json_recovers_itself, recovered_texts_recover_themselves, refused_or_valid,
-    texts_of_closed_meanings_mean_them, texts_of_json_mean_the_same,
+    texts_of_closed_meanings_mean_them, texts_of_json_mean_the_same, valid_texts_are_planned,
 };
 pub use recover::{Recovered, recover_schema};
 pub use run::run_tool;

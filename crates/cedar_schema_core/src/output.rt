@@ -24,8 +24,8 @@ pub(crate) struct Output {
 
 // How many entity types and actions there are.
 fn count_line(alloc: Global, entity_types: usize, actions: usize) -> Result<Text, AllocError>
-    ensures { IfOk result (λ text. encode_utf8_all text ≡ decimal entity_types
-        ++ (codes " entity types, " ++ (decimal actions ++ codes " actions\n"))) }
+    ensures { IfOk result (λ text. encode_utf8_all text
+        ≡ decimal entity_types ++ (codes " entity types, " ++ (decimal actions ++ codes " actions\n"))) }
 {
     let types = number_text(alloc, entity_types)?;
     let actions = number_text(alloc, actions)?;
@@ -55,8 +55,9 @@ fn made_line(alloc: Global, read: usize, recovered: &Recovered) -> Result<Text, 
 // The canonical text of the text's meaning.
 #[tactic(auto, using(crate::proofs::Answered::text_written))]
 fn recovery(alloc: Global, text: &str, table: &ExtensionTable) -> Result<Output, RecoverError>
-    ensures { MatchResult result (λ o. IsWrittenBy (Command.Recover table.now) text.now
-        (encode_utf8_all o.text) o.warnings.items) (IsRefusedBy (Command.Recover table.now) text.now) }
+    ensures { MatchResult result
+        (λ o. IsWrittenBy (Command.Recover table.now) text.now (encode_utf8_all o.text) o.warnings.items)
+        (IsRefusedBy (Command.Recover table.now) text.now) }
 {
     let recovered = recover_schema(alloc, text, table)?;
     Ok(Output {
@@ -68,8 +69,9 @@ fn recovery(alloc: Global, text: &str, table: &ExtensionTable) -> Result<Output,
 // The counts of the text's meaning.
 #[tactic(auto, using(crate::proofs::Answered::counts_written))]
 fn counts(alloc: Global, text: &str, table: &ExtensionTable) -> Result<Output, RecoverError>
-    ensures { MatchResult result (λ o. IsWrittenBy (Command.Check table.now) text.now
-        (encode_utf8_all o.text) o.warnings.items) (IsRefusedBy (Command.Check table.now) text.now) }
+    ensures { MatchResult result
+        (λ o. IsWrittenBy (Command.Check table.now) text.now (encode_utf8_all o.text) o.warnings.items)
+        (IsRefusedBy (Command.Check table.now) text.now) }
 {
     let recovered = recover_schema(alloc, text, table)?;
     match count_line(alloc, recovered.entity_types, recovered.actions) {
@@ -84,8 +86,9 @@ fn counts(alloc: Global, text: &str, table: &ExtensionTable) -> Result<Output, R
 // The JSON of the text's fragment, and the end of the line.
 #[tactic(auto, using(crate::proofs::Answered::json_written))]
 fn json_line(alloc: Global, text: &str, table: &ExtensionTable) -> Result<Output, RecoverError>
-    ensures { MatchResult result (λ o. IsWrittenBy (Command.ToJson table.now) text.now
-        (encode_utf8_all o.text) o.warnings.items) (IsRefusedBy (Command.ToJson table.now) text.now) }
+    ensures { MatchResult result
+        (λ o. IsWrittenBy (Command.ToJson table.now) text.now (encode_utf8_all o.text) o.warnings.items)
+        (IsRefusedBy (Command.ToJson table.now) text.now) }
 {
     let mut json = to_json_text(alloc, text, table)?;
     match json.push_str("\n") {
@@ -105,8 +108,9 @@ fn json_recovery(
     form: JsonForm,
     table: &ExtensionTable,
 ) -> Result<Output, RecoverError>
-    ensures { MatchResult result (λ o. IsWrittenBy (Command.FromJson form table.now) text.now
-        (encode_utf8_all o.text) o.warnings.items) (IsRefusedBy (Command.FromJson form table.now) text.now) }
+    ensures { MatchResult result
+        (λ o. IsWrittenBy (Command.FromJson form table.now) text.now (encode_utf8_all o.text) o.warnings.items)
+        (IsRefusedBy (Command.FromJson form table.now) text.now) }
 {
     let recovered = recover_json(alloc, text, table, form)?;
     Ok(Output {
@@ -143,7 +147,8 @@ pub(crate) fn output_of(
     command: &Command,
     text: &str,
 ) -> Result<Output, RecoverError>
-    ensures { MatchResult result (λ o. IsWrittenBy command.now text.now (encode_utf8_all o.text) o.warnings.items)
+    ensures { MatchResult result
+        (λ o. IsWrittenBy command.now text.now (encode_utf8_all o.text) o.warnings.items)
         (IsRefusedBy command.now text.now) }
 {
     match command {

@@ -1,9 +1,12 @@
-ghost use Rattle.std.specs.Prelude.{◌≡◌, ◌≢◌, ◌+◌, ◌≤◌, ◌⊎◌, ℕ, List, Some, IfOk, length, map};
+ghost use Rattle.std.specs.Prelude.{◌≡◌, ◌≢◌, ◌↔◌, ◌+◌, ◌≤◌, ◌⊎◌, ℕ, List, Some, IfOk, length, map};
 ghost use Rattle.std.specs.String.{string_bytes};
 ghost use Rattle.std.specs.Str.{encode_utf8_all};
 ghost use Rattle.cedar_io.specs.Outside.{Rose};
 ghost use Rattle.cedar_io.specs.Input.{TookAtMost, max_input};
+ghost use Rattle.cedar_names.specs.Meaning.{SchemaMeaning};
+ghost use Rattle.cedar_names.specs.declared.extension_table.ExtensionTable.{ExtensionTable};
 ghost use Rattle.cedar_schema_core.specs.Commands.{Asks, ReadsInput, own_text};
+ghost use Rattle.cedar_schema_core.specs.Headline.{InputMeans, WroteMeaning, WroteNothing};
 ghost use Rattle.cedar_schema_core.specs.Plan.{Report, IsPlan, IsInputPlan, IsAnswer, done_report, refused_report};
 ghost use Rattle.cedar_schema_core.specs.Plan.{read_fault_report};
 ghost use Rattle.cedar_schema_core.specs.Run.{device, IsReported, IsDelivered, IsRun, Completed, KeepsMeaning};
@@ -12,8 +15,8 @@ ghost use Rattle.cedar_schema_core.specs.Replies.{report_of};
 
 use crate::command::Command;
 use crate::laws::{
-    canonical_texts_mean_the_same, generated_texts_are_valid, one_plan, refused_or_valid,
-    texts_of_json_mean_the_same,
+    canonical_texts_mean_the_same, canonical_texts_tell_meanings_apart, generated_texts_are_valid,
+    one_plan, refused_or_valid, texts_of_json_mean_the_same,
 };
 use crate::output::{Output, output_of, own_text_of};
 use crate::reply::{Reply, warning_lines};
@@ -111,8 +114,8 @@ fn read_reply<S: Source>(
 
 // Reads the input where the words ask for a command that reads it, and takes all memory that the run needs.
 fn prepare<S: Source>(alloc: Global, words: &[String], source: &mut S) -> Result<Reply, AllocError>
-    ensures reported { IfOk result (λ reply. IsReported (map string_bytes words.now)
-        (device S.left S.faults source.old source.new) (report_of reply)) }
+    ensures reported { let source_device = device S.left S.faults source.old source.new in
+        IfOk result (λ reply. IsReported (map string_bytes words.now) source_device (report_of reply)) }
     ensures taken { TookAtMost (max_input + 1) (S.left source.old) (S.left source.new) }
     ensures later { S.faults source.old ≤ S.faults source.new }
 {
@@ -127,8 +130,9 @@ fn prepare<S: Source>(alloc: Global, words: &[String], source: &mut S) -> Result
 
 // Writes what the reply says. The first sink that fails ends the run.
 fn deliver<O: Sink, E: Sink>(reply: &Reply, out: &mut O, err: &mut E) -> Status
-    ensures delivered { IsDelivered (device O.taken O.faults out.old out.new) (device E.taken E.faults err.old err.new)
-        (report_of reply.now) result }
+    ensures delivered { let out_device = device O.taken O.faults out.old out.new in
+        let err_device = device E.taken E.faults err.old err.new in
+        IsDelivered out_device err_device (report_of reply.now) result }
     ensures out_later { O.faults out.old ≤ O.faults out.new }
     ensures err_later { E.faults err.old ≤ E.faults err.new }
     ensures out_sure { length (report_of reply.now).out ≤ O.sure out.old → O.faults out.new ≡ O.faults out.old }
@@ -152,26 +156,47 @@ pub fn run_tool<S: Source, O: Sink, E: Sink>(
     out: &mut O,
     err: &mut E,
 ) -> Status
+    // A recovery in which no device failed and the source and the output tell what they hold: memory was out and
+    // nothing was written; or the run is done exactly where the input is valid, and then the output took the canonical
+    // text of what the input means, which means the same.
+    ensures headline { let source_device = device S.left S.faults source.old source.new in
+        let out_device = device O.taken O.faults out.old out.new in
+        let err_device = device E.taken E.faults err.old err.new in
+        (table : ExtensionTable) (bytes taken : List ℕ) → Asks (map string_bytes words.now) (Command.Recover table)
+        → S.left source.old ≡ Some bytes → O.taken out.old ≡ Some taken
+        → NoneCounted source_device out_device err_device
+        → WroteNothing out_device err_device result
+        ⊎ (((m : SchemaMeaning) → InputMeans bytes table m ↔ WroteMeaning table m out_device result)
+        × (result ≡ Status.Done → (m : SchemaMeaning) × InputMeans bytes table m)) }
+
     // How the run ended, by its cause.
-    ensures run { IsRun (map string_bytes words.now) (device S.left S.faults source.old source.new)
-        (device O.taken O.faults out.old out.new) (device E.taken E.faults err.old err.new) result }
+    ensures run { let source_device = device S.left S.faults source.old source.new in
+        let out_device = device O.taken O.faults out.old out.new in
+        let err_device = device E.taken E.faults err.old err.new in
+        IsRun (map string_bytes words.now) source_device out_device err_device result }
 
     // Done: the words ask for a command, the input, or the text that the command makes, is valid, what the command
     // writes of its meaning was written, and nothing else.
-    ensures completed { result ≡ Status.Done → (c : Command) × Asks (map string_bytes words.now) c
-        × Completed c (device S.left S.faults source.old source.new) (device O.taken O.faults out.old out.new)
-        (device E.taken E.faults err.old err.new) }
+    ensures completed { let source_device = device S.left S.faults source.old source.new in
+        let out_device = device O.taken O.faults out.old out.new in
+        let err_device = device E.taken E.faults err.old err.new in
+        result ≡ Status.Done
+        → (c : Command) × Asks (map string_bytes words.now) c × Completed c source_device out_device err_device }
 
     // Done by a recovery: the text that was written is valid under the same table, and means what the input means; of
     // JSON, in the form that the command names, exactly where that is not half filled.
-    ensures recovers { result ≡ Status.Done → (c : Command) × Asks (map string_bytes words.now) c
-        × KeepsMeaning c (device S.left S.faults source.old source.new) (device O.taken O.faults out.old out.new) }
+    ensures recovers { let source_device = device S.left S.faults source.old source.new in
+        let out_device = device O.taken O.faults out.old out.new in
+        result ≡ Status.Done
+        → (c : Command) × Asks (map string_bytes words.now) c × KeepsMeaning c source_device out_device }
 
     // With no fault counted, the status is the one planned for the words and the input, or out of memory.
-    ensures completes { (bytes : List ℕ) (plan : Report) → S.left source.old ≡ Some bytes
-        → IsPlan (map string_bytes words.now) bytes plan
-        → NoneCounted (device S.left S.faults source.old source.new) (device O.taken O.faults out.old out.new)
-        (device E.taken E.faults err.old err.new) → (result ≡ plan.status) ⊎ (result ≡ Status.Memory) }
+    ensures completes { let source_device = device S.left S.faults source.old source.new in
+        let out_device = device O.taken O.faults out.old out.new in
+        let err_device = device E.taken E.faults err.old err.new in
+        (bytes : List ℕ) (plan : Report) → S.left source.old ≡ Some bytes
+        → IsPlan (map string_bytes words.now) bytes plan → NoneCounted source_device out_device err_device
+        → (result ≡ plan.status) ⊎ (result ≡ Status.Memory) }
 
     // A sink that surely takes what is planned for it counts no fault; of the error output this asks for room for a
     // read fault's line where a read failed.
@@ -191,6 +216,7 @@ pub fn run_tool<S: Source, O: Sink, E: Sink>(
 {
     one_plan();
     canonical_texts_mean_the_same();
+    canonical_texts_tell_meanings_apart();
     texts_of_json_mean_the_same();
     match prepare(alloc, words, source) {
         Ok(reply) => deliver(&reply, out, err),

@@ -1,5 +1,5 @@
 //! What is proved of trees, of the fragments that they stand for, and of what fragments mean.
-ghost use Rattle.std.specs.Prelude.{◌≡◌, ◌↔◌, Bool, List, []};
+ghost use Rattle.std.specs.Prelude.{◌≡◌, ◌↔◌, ◌⊎◌, Bool, List, []};
 ghost use Rattle.std.specs.List.{AllZip, AllByRecursion, flat_map};
 ghost use Rattle.cedar_identifiers.specs.declared.raw_name.RawName.{RawName as Raw};
 ghost use Rattle.cedar_names.specs.Meaning.{SchemaMeaning};
@@ -12,31 +12,33 @@ ghost use Rattle.schema_json.specs.AsWritten.{as_written};
 ghost use Rattle.schema_convert_faults.specs.Faults.{translation_faults};
 ghost use Rattle.schema_convert_faults.specs.Translatable.{IsTranslatable};
 ghost use Rattle.schema_convert_plain.specs.Translation.{translated};
-ghost use Rattle.schema_readback.specs.PrintedDecls.{Group, group_items, schema_pieces};
-ghost use Rattle.schema_readback.specs.Shows.{SaysItem};
-ghost use Rattle.schema_readback.specs.Written.{WrittenItem};
-ghost use Rattle.schema_says.specs.BareFragments.{bare_fragment};
-ghost use Rattle.schema_says.specs.Named.{IsWellNamed};
-ghost use Rattle.schema_says.specs.TranslatedAs.{IsTranslatedAs};
+ghost use Rattle.laws_written.specs.PrintedDecls.{Group, group_items, schema_pieces};
+ghost use Rattle.laws_written.specs.Shows.{SaysItem};
+ghost use Rattle.laws_written.specs.Written.{WrittenItem};
+ghost use Rattle.laws_translate.specs.BareFragments.{bare_fragment};
+ghost use Rattle.laws_translate.specs.Named.{IsWellNamed};
+ghost use Rattle.laws_translate.specs.TranslatedAs.{IsTranslatedAs};
 ghost use Rattle.schema_print.specs.FragmentGroups.{AreGroupsOf};
 ghost use Rattle.schema_print.specs.Printable.{IsPrintable};
-ghost use Rattle.schema_print_says.specs.CedarForm.{cedar_form};
-ghost use Rattle.schema_print_says.specs.Plain.{components_written, IsPlainFragment};
-ghost use Rattle.schema_print_plain.specs.Orderly.{IsOrderly};
-ghost use Rattle.schema_print_plain.specs.ReadAs.{IsReadAs, ResolveAlike};
+ghost use Rattle.laws_print.specs.Printed.CedarForm.{cedar_form};
+ghost use Rattle.laws_print.specs.Printed.Textual.{components_written, IsTextualFragment};
+ghost use Rattle.laws_print.specs.Printable.Orderly.{IsOrderly};
+ghost use Rattle.laws_print.specs.Printable.ReadAs.{IsReadAs, ResolveAlike};
+ghost use Rattle.schema_build_checks.specs.Rows.{Never};
 ghost use Rattle.schema_build_errors.specs.declared.schema_error.SchemaError.{SchemaError};
 ghost use Rattle.schema_build_parts.specs.BuildFaults.{BuildFault};
 ghost use Rattle.schema_build.specs.FaultsTold.{AreToldAlike, IsInOrder};
 ghost use Rattle.schema_build.specs.Meaning.{FragmentMeaning};
 
 use cedar_identifiers::RawName;
+use laws_build::existing_meanings::fragments_have_a_fault_or_a_meaning;
+use laws_print::printable_fragments::printable_fragments_read_back;
+use laws_print::printed_fragments::printed_fragments_read_back;
+use laws_translate::laws::trees_that_say_the_same;
 use schema_build::{one_build_fault, one_fragment_meaning};
 use schema_convert::laws::lawful_trees;
 use schema_json::Fragment;
 use schema_print::ToCedarSchema;
-use schema_print_plain::laws::printable_fragments_read_back;
-use schema_print_says::laws::printed_fragments_read_back;
-use schema_says::laws::trees_that_say_the_same;
 
 /// A tree has no fault of translation exactly where it can be translated: no name is reserved, none is declared twice
 /// in its kind and namespace, and each block of an action is whole.
@@ -60,7 +62,7 @@ pub fn what_is_said_decides()
 /// text has, places aside.
 pub fn printed_fragments_say_the_same()
     ensures { (closing : Bool) (f : Fragments Raw as_written) (groups : List Group)
-        → AreGroupsOf components_written f groups → IsPlainFragment f
+        → AreGroupsOf components_written f groups → IsTextualFragment f
         → (t : IsTranslatedAs (laid (schema_pieces closing groups)) (flat_map group_items groups))
         × (bare_fragment (translated t.reads.tree) ≡ bare_fragment (cedar_form f)) }
 {
@@ -84,6 +86,16 @@ pub fn a_fragment_has_one_meaning()
         → FragmentMeaning f table n → m ≡ n }
 {
     one_fragment_meaning();
+}
+
+/// A fragment has a fault of building under a table, or it has none and means something: there is no third case. The
+/// entries of the fragment are to be in the order of their names, as those of each fragment in memory are.
+pub fn a_fragment_has_a_fault_or_a_meaning()
+    ensures { (f : Fragments Raw as_written) (table : ExtensionTable) → IsInOrder f
+        → ((error : SchemaError) × BuildFault f table error)
+        ⊎ (Never (BuildFault f table) × ((m : SchemaMeaning) × FragmentMeaning f table m)) }
+{
+    fragments_have_a_fault_or_a_meaning();
 }
 
 /// What is told of the fault that keeps a fragment from being a schema is one: its text, its advice and its places. The

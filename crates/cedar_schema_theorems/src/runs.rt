@@ -1,23 +1,66 @@
 //! What is proved of what a text means, and of what the program does with it.
-ghost use Rattle.std.specs.Prelude.{◌≡◌, ◌≢◌, ◌↔◌, ◌≤◌, ℕ, Bool, List, IsUtf8};
+ghost use Rattle.std.specs.Prelude.{◌≡◌, ◌≢◌, ◌↔◌, ◌≤◌, ◌⊎◌, ℕ, Bool, List, Some, IsUtf8, length, map};
+ghost use Rattle.std.specs.String.{string_bytes};
 ghost use Rattle.std.specs.Str.{encode_utf8_all};
+ghost use Rattle.cedar_io.specs.Input.{max_input};
 ghost use Rattle.cedar_names.specs.CanonicalText.{schema_text, canonical_text};
 ghost use Rattle.cedar_names.specs.Meaning.{SchemaMeaning};
 ghost use Rattle.cedar_names.specs.declared.extension_table.ExtensionTable.{ExtensionTable};
 ghost use Rattle.schema_generate.specs.Generated.{max_size, generated};
-ghost use Rattle.schema_build_closed.specs.HalfFilled.{IsHalfFilled};
+ghost use Rattle.laws_build.specs.Closure.HalfFilled.{IsHalfFilled};
 ghost use Rattle.cedar_schema_core.specs.Json.{JsonMeaning};
-ghost use Rattle.cedar_schema_core.specs.Meanings.{TextMeaning, IsValid};
+ghost use Rattle.schema_convert_errors.specs.declared.warnings.SchemaWarning.{SchemaWarning};
+ghost use Rattle.cedar_schema_core.specs.Commands.{Asks};
+ghost use Rattle.cedar_schema_core.specs.Headline.{InputMeans, WroteMeaning, WroteNothing};
+ghost use Rattle.cedar_schema_core.specs.Meanings.{TextMeaning, IsValid, Warns};
 ghost use Rattle.cedar_schema_core.specs.Recovery.{IsRecovered, IsRefusal};
 ghost use Rattle.cedar_schema_core.specs.declared.recover.Recovered.{Recovered};
-ghost use Rattle.cedar_schema_core.specs.Plan.{Report, IsPlan};
+ghost use Rattle.cedar_schema_core.specs.Plan.{Report, IsPlan, done_report};
+ghost use Rattle.cedar_schema_core.specs.Run.{device, NoneCounted};
 ghost use Rattle.cedar_schema_core_faults.specs.Told.{fault_text};
 
+use cedar_io::{Sink, Source};
 use cedar_schema_core::{
-    JsonForm, RecoverError, canonical_texts_mean_the_same, canonical_texts_tell_meanings_apart,
-    generated_texts_are_valid, one_plan, one_refusal, one_text_meaning,
-    recovered_texts_recover_themselves, refused_or_valid, texts_of_json_mean_the_same,
+    Command, JsonForm, RecoverError, Status, canonical_texts_mean_the_same,
+    canonical_texts_tell_meanings_apart, generated_texts_are_valid, one_plan, one_refusal,
+    one_text_meaning, recovered_texts_recover_themselves, refused_or_valid, run_tool,
+    texts_of_json_mean_the_same, valid_texts_are_planned,
 };
+use std::alloc::Global;
+
+/// Runs the program, and says of a recovery in which no device failed, where the source and the output tell what they
+/// hold: memory was out and nothing was written; or the run is done exactly where the input is valid, and then the
+/// output took the canonical text of what the input means, which means the same.
+pub fn a_recovery_writes_what_its_input_means<S: Source, O: Sink, E: Sink>(
+    alloc: Global,
+    words: &[String],
+    source: &mut S,
+    out: &mut O,
+    err: &mut E,
+) -> Status
+    ensures { let source_device = device S.left S.faults source.old source.new in
+        let out_device = device O.taken O.faults out.old out.new in
+        let err_device = device E.taken E.faults err.old err.new in
+        (table : ExtensionTable) (bytes taken : List ℕ) → Asks (map string_bytes words.now) (Command.Recover table)
+        → S.left source.old ≡ Some bytes → O.taken out.old ≡ Some taken
+        → NoneCounted source_device out_device err_device
+        → WroteNothing out_device err_device result
+        ⊎ (((m : SchemaMeaning) → InputMeans bytes table m ↔ WroteMeaning table m out_device result)
+        × (result ≡ Status.Done → (m : SchemaMeaning) × InputMeans bytes table m)) }
+{
+    run_tool(alloc, words, source, out, err)
+}
+
+/// An input in UTF-8 that is no longer than an input may be and means something is planned to be answered by its
+/// canonical text, with a line for each warning.
+pub fn a_valid_text_is_planned()
+    ensures { (words : List (List ℕ)) (bytes : List ℕ) (table : ExtensionTable) (m : SchemaMeaning)
+        (warnings : List SchemaWarning) → Asks words (Command.Recover table) → IsUtf8 bytes
+        → length bytes ≤ max_input → TextMeaning bytes table m → Warns bytes table warnings
+        → IsPlan words bytes (done_report (canonical_text m) warnings) }
+{
+    valid_texts_are_planned();
+}
 
 /// A text has at most one meaning under a table.
 pub fn a_text_has_one_meaning()

@@ -1,18 +1,22 @@
 //! What is proved of schema texts and their trees.
-ghost use Rattle.std.specs.Prelude.{◌≡◌, ℕ, Bool, List, IsUtf8};
+ghost use Rattle.std.specs.Prelude.{◌≡◌, ◌≤◌, ◌⊎◌, ℕ, Bool, List, length, IsUtf8};
 ghost use Rattle.std.specs.List.{flat_map};
 ghost use Rattle.cedar_identifiers.specs.declared.raw_name.RawName.{RawName};
 ghost use Rattle.cedar_names.specs.Meaning.{SchemaMeaning};
 ghost use Rattle.cedar_names.specs.CanonicalText.{schema_text};
 ghost use Rattle.cedar_names.specs.declared.extension_table.ExtensionTable.{ExtensionTable};
+ghost use Rattle.schema_syntax_grammar.specs.declared.token_kind.TokenKind.{TokenKind};
+ghost use Rattle.schema_syntax_grammar.specs.declared.token_kind.TheConstants.{ALL_KINDS};
+ghost use Rattle.schema_syntax_grammar.specs.Fault.{IsFault};
 ghost use Rattle.schema_syntax_grammar.specs.Grammar.{Sentence};
 ghost use Rattle.schema_syntax_tokens.specs.declared.token.Token.{Token};
+ghost use Rattle.schema_syntax_tokens.specs.Scans.{Scans};
 ghost use Rattle.schema_syntax_tokens.specs.TokenLists.{kinds_of};
 ghost use Rattle.schema_syntax_parser.specs.declared.syntax.ItemSyntax.{ItemSyntax};
 ghost use Rattle.schema_syntax_parser.specs.Syntax.{IsSyntax};
 ghost use Rattle.schema_syntax_reader.specs.Sites.{sites_of};
-ghost use Rattle.schema_syntax_sites.specs.Readings.{picked, reads};
-ghost use Rattle.schema_syntax_sites.specs.SiteTokens.{tokens_of_sites};
+ghost use Rattle.laws_syntax.specs.Sites.Readings.{picked, reads};
+ghost use Rattle.laws_syntax.specs.Sites.SiteTokens.{tokens_of_sites};
 ghost use Rattle.schema_syntax_tree.specs.declared.annotated.Annotated.{Annotated};
 ghost use Rattle.schema_syntax_tree.specs.declared.namespace.Namespace.{Namespace};
 ghost use Rattle.schema_syntax_errors.specs.declared.parse_error.ParseError.{ParseError};
@@ -23,16 +27,34 @@ ghost use Rattle.schema_json.specs.declared.fragment.Fragment.{Fragment};
 ghost use Rattle.schema_json.specs.AsWritten.{as_written};
 ghost use Rattle.schema_convert_errors.specs.declared.warnings.SchemaWarning.{SchemaWarning};
 ghost use Rattle.schema_convert.specs.Translated.{IsTranslationOfText};
-ghost use Rattle.schema_readback.specs.Meant.{groups_of_meaning};
-ghost use Rattle.schema_readback.specs.PrintedDecls.{group_items};
-ghost use Rattle.schema_says.specs.MeantNames.{HasOpenNames, IsOfWords};
-ghost use Rattle.schema_says.specs.TranslatedAs.{IsTranslatedAs};
+ghost use Rattle.laws_written.specs.Meant.{groups_of_meaning};
+ghost use Rattle.laws_written.specs.PrintedDecls.{group_items};
+ghost use Rattle.laws_translate.specs.MeantNames.{HasOpenNames, IsOfWords};
+ghost use Rattle.laws_translate.specs.TranslatedAs.{IsTranslatedAs};
 
 use cedar_schema_core::one_translation;
-use schema_says::laws::texts_of_meanings_are_translated;
+use laws_syntax::scanning::{kinds_have_a_fault_or_none, texts_are_scanned};
+use laws_syntax::site_tokens::sites_are_names_and_strings;
+use laws_syntax::trees::{one_error, one_tree};
+use laws_translate::laws::texts_of_meanings_are_translated;
 use schema_syntax::laws::{one_syntax_fault, tree_or_error};
-use schema_syntax_laws::{one_error, one_tree};
-use schema_syntax_sites::sites_are_names_and_strings;
+
+/// Each text in UTF-8 is scanned: it has tokens, up to a place in it.
+pub fn a_text_is_scanned()
+    ensures { (text : List ℕ) → IsUtf8 text
+        → (tokens : List Token) × (at : ℕ) × Scans text tokens at × (at ≤ length text) }
+{
+    texts_are_scanned();
+}
+
+/// Kinds of tokens are those of a schema, or they have a fault: a place where they stop being the beginning of one,
+/// with the kinds that could stand there.
+pub fn kinds_are_a_schema_or_have_a_fault()
+    ensures { (kinds : List TokenKind) → Sentence kinds
+        ⊎ ((place : ℕ) × (list : List TokenKind) × IsFault ALL_KINDS kinds place list) }
+{
+    kinds_have_a_fault_or_none();
+}
 
 /// A text has at most one tree.
 pub fn a_text_has_one_tree()

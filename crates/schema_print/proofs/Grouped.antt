@@ -18,12 +18,12 @@ use Rattle.schema_syntax_grammar.specs.declared.token_kind.TokenKind.TheVariants
 use Rattle.schema_syntax_reader.specs.Leaves.{Notes}
 use Rattle.schema_syntax_tokens.specs.Laid.{Piece, gap}
 use Rattle.schema_syntax_tree.specs.declared.pr.PR.TheVariants.{Principal, Resource}
-use Rattle.schema_readback.specs.Written.{WrittenType, path, set, rec, WrittenRef, WrittenMember, types, WrittenDecl}
-use Rattle.schema_readback.specs.Written.{WrittenDeclared}
-use Rattle.schema_readback.specs.Printed.{word, mark, string, space, line_break, path_pieces, notes_pieces}
-use Rattle.schema_readback.specs.PrintedDecls.{Group, list_pieces, applies_pieces, decl_pieces, declared_pieces}
-use Rattle.schema_readback.specs.PrintedDecls.{joined_pieces, parents_pieces, ref_pieces, shape_pieces, tags_pieces}
-use Rattle.schema_readback.specs.PrintedDecls.{context_pieces, ended, namespace_pieces, group_pieces, schema_pieces}
+use Rattle.laws_written.specs.Written.{WrittenType, path, set, rec, WrittenRef, WrittenMember, types, WrittenDecl}
+use Rattle.laws_written.specs.Written.{WrittenDeclared}
+use Rattle.laws_written.specs.Printed.{word, mark, string, space, line_break, path_pieces, notes_pieces}
+use Rattle.laws_written.specs.PrintedDecls.{Group, list_pieces, applies_pieces, decl_pieces, declared_pieces}
+use Rattle.laws_written.specs.PrintedDecls.{joined_pieces, parents_pieces, ref_pieces, shape_pieces, tags_pieces}
+use Rattle.laws_written.specs.PrintedDecls.{context_pieces, ended, namespace_pieces, group_pieces, schema_pieces}
 use Rattle.schema_print_text.specs.PrintedTypes.{printed_name, printed_type}
 use Rattle.schema_print.specs.FragmentGroups.{ContextAs, TargetsAs, KindAs, EntityAs, CommonAs, SpecAs, AppliedAs}
 use Rattle.schema_print.specs.FragmentGroups.{ActionAs, AreItemsOf, IsGroupOf, AreGroupsOf, written_name}

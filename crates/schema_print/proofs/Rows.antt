@@ -10,8 +10,8 @@ use Rattle.cedar_data.proofs.Lists.{map-map}
 use Rattle.schema_syntax_grammar.specs.declared.token_kind.TokenKind.TheVariants.{Comma, RBracket, PathSep}
 use Rattle.schema_syntax_tokens.specs.Laid.{Piece, laid}
 use Rattle.schema_syntax_tokens.specs.Quotes.{quoted}
-use Rattle.schema_readback.specs.Printed.{mark, string, space, line_break, path_pieces}
-use Rattle.schema_readback.specs.PrintedDecls.{list_pieces, bracketed, joined_pieces, parents_pieces, typed_pieces}
+use Rattle.laws_written.specs.Printed.{mark, string, space, line_break, path_pieces}
+use Rattle.laws_written.specs.PrintedDecls.{list_pieces, bracketed, joined_pieces, parents_pieces, typed_pieces}
 use Rattle.schema_print_text.specs.Growing.{laid_append, Leaves}
 
 -- one more text, and those after it

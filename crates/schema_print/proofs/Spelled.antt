@@ -8,9 +8,9 @@ use Rattle.schema_syntax_tokens.specs.Quotes.{quoted}
 use Rattle.cedar_names.specs.CanonicalText.{spaces}
 use Rattle.schema_syntax_reader.specs.Leaves.{Notes}
 use Rattle.schema_json.specs.declared.action_type.ApplySpec.{ApplySpec}
-use Rattle.schema_readback.specs.Written.{WrittenType, path, set, rec, no_more, attribute}
-use Rattle.schema_readback.specs.Printed.{word, mark, string, space, line_break, path_pieces, notes_pieces}
-use Rattle.schema_readback.specs.Printed.{type_pieces}
+use Rattle.laws_written.specs.Written.{WrittenType, path, set, rec, no_more, attribute}
+use Rattle.laws_written.specs.Printed.{word, mark, string, space, line_break, path_pieces, notes_pieces}
+use Rattle.laws_written.specs.Printed.{type_pieces}
 use Rattle.schema_print_text.specs.Growing.{laid_append}
 use Rattle.schema_print_text.specs.PrintedTypes.{is_bare_record}
 use Rattle.schema_print.specs.RowsOfTexts.{names_line_text, head_text}

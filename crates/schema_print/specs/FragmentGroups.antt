@@ -17,10 +17,10 @@ use Rattle.schema_json.specs.declared.action_type.ApplySpec.{ApplySpec}
 use Rattle.schema_json.specs.declared.fragment.Fragment.{Fragment}
 use Rattle.schema_json.specs.declared.fragment.NamespaceDefinition.{NamespaceDefinition}
 use Rattle.schema_syntax_tree.specs.declared.pr.PR.TheVariants.{Principal, Resource}
-use Rattle.schema_readback.specs.Written.{WrittenType, WrittenAttributes, path, set, rec, WrittenRef, WrittenMember}
-use Rattle.schema_readback.specs.Written.{types, context_path, context_record, WrittenDecl, entity, enum}
-use Rattle.schema_readback.specs.Written.{external_entity, action, external_action, common, WrittenDeclared}
-use Rattle.schema_readback.specs.PrintedDecls.{Group}
+use Rattle.laws_written.specs.Written.{WrittenType, WrittenAttributes, path, set, rec, WrittenRef, WrittenMember}
+use Rattle.laws_written.specs.Written.{types, context_path, context_record, WrittenDecl, entity, enum}
+use Rattle.laws_written.specs.Written.{external_entity, action, external_action, common, WrittenDeclared}
+use Rattle.laws_written.specs.PrintedDecls.{Group}
 use Rattle.schema_print_text.specs.PrintedTypes.{printed_name, printed_type}
 use Rattle.schema_print.specs.PrintedFragments.{paths_of_names, printed_parents}
 

@@ -11,8 +11,8 @@ use Rattle.schema_json.specs.declared.fragment.Fragment.{Fragment}
 use Rattle.schema_json.specs.declared.fragment.NamespaceDefinition.{NamespaceDefinition}
 use Rattle.schema_json.specs.Shapes.{attributes_of}
 use Rattle.schema_syntax_tokens.specs.Laid.{laid}
-use Rattle.schema_readback.specs.Written.{rec}
-use Rattle.schema_readback.specs.Printed.{type_pieces}
+use Rattle.laws_written.specs.Written.{rec}
+use Rattle.laws_written.specs.Printed.{type_pieces}
 use Rattle.schema_print_text.specs.PrintedTypes.{printed_entries, printed_type_text}
 use Rattle.schema_print.specs.PrintedFragments.{standard_pieces, entity_body_pieces, action_body_pieces, items_pieces}
 use Rattle.schema_print.specs.PrintedFragments.{fragment_text}

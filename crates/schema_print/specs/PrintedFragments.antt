@@ -20,10 +20,10 @@ use Rattle.schema_json.specs.declared.fragment.NamespaceDefinition.{NamespaceDef
 use Rattle.schema_syntax_grammar.specs.declared.token_kind.TokenKind.TheVariants.{Comma, Colon, Equals, LBrace, RBrace}
 use Rattle.schema_syntax_reader.specs.Leaves.{Notes}
 use Rattle.schema_syntax_tokens.specs.Laid.{Piece, gap, laid}
-use Rattle.schema_readback.specs.Written.{WrittenType, path, set, rec, WrittenRef}
-use Rattle.schema_readback.specs.Printed.{word, mark, string, space, line_break, notes_pieces, path_pieces, type_pieces}
-use Rattle.schema_readback.specs.PrintedDecls.{bracketed, parents_pieces, string_pieces, ref_pieces, shape_pieces}
-use Rattle.schema_readback.specs.PrintedDecls.{tags_pieces, context_pieces, comma_behind_member, ended, joined_pieces}
+use Rattle.laws_written.specs.Written.{WrittenType, path, set, rec, WrittenRef}
+use Rattle.laws_written.specs.Printed.{word, mark, string, space, line_break, notes_pieces, path_pieces, type_pieces}
+use Rattle.laws_written.specs.PrintedDecls.{bracketed, parents_pieces, string_pieces, ref_pieces, shape_pieces}
+use Rattle.laws_written.specs.PrintedDecls.{tags_pieces, context_pieces, comma_behind_member, ended, joined_pieces}
 use Rattle.schema_print_text.specs.PrintedTypes.{printed_name, printed_type}
 
 -- ` = ` and the record where it has attributes; another type stands in the record's place

@@ -4,8 +4,8 @@ use Rattle.cedar_data.specs.Rows.{separator_where}
 use Rattle.schema_syntax_tokens.specs.Laid.{laid}
 use Rattle.cedar_names.specs.CanonicalText.{spaces}
 use Rattle.schema_syntax_reader.specs.Leaves.{Notes}
-use Rattle.schema_readback.specs.Printed.{notes_pieces, path_pieces}
-use Rattle.schema_readback.specs.PrintedDecls.{bracketed}
+use Rattle.laws_written.specs.Printed.{notes_pieces, path_pieces}
+use Rattle.laws_written.specs.PrintedDecls.{bracketed}
 
 -- the annotations on lines of their own, and how the line below them begins
 abbrev pub head_text : ℕ → Notes → Bool → List ℕ → List ℕ

@@ -1,7 +1,7 @@
 ghost use Rattle.std.specs.Prelude.{Some, OnOk, true};
 ghost use Rattle.std.specs.Option.{option_map};
 ghost use Rattle.schema_syntax_tokens.specs.Laid.{laid};
-ghost use Rattle.schema_readback.specs.PrintedDecls.{tags_pieces};
+ghost use Rattle.laws_written.specs.PrintedDecls.{tags_pieces};
 ghost use Rattle.schema_print_text.specs.Adds.{Adds};
 ghost use Rattle.schema_print_text.specs.PrintedTypes.{printed_type};
 ghost use Rattle.schema_print.specs.RowsOfTexts.{names_line_text};

@@ -1,7 +1,7 @@
 //! Laws of printed fragments. Each law is what its function ensures; the functions do nothing.
 ghost use Rattle.std.specs.Prelude.{◌≡◌, Bool, List};
 ghost use Rattle.schema_syntax_tokens.specs.Laid.{laid};
-ghost use Rattle.schema_readback.specs.PrintedDecls.{Group, schema_pieces};
+ghost use Rattle.laws_written.specs.PrintedDecls.{Group, schema_pieces};
 ghost use Rattle.schema_print.specs.PrintedFragments.{fragment_text};
 ghost use Rattle.schema_print.specs.FragmentGroups.{AreGroupsOf};
 

@@ -1,8 +1,8 @@
 ghost use Rattle.std.specs.Prelude.{OnOk, map};
 ghost use Rattle.cedar_data.specs.Rows.{separator_where};
 ghost use Rattle.schema_syntax_tokens.specs.Laid.{laid};
-ghost use Rattle.schema_readback.specs.Printed.{path_pieces};
-ghost use Rattle.schema_readback.specs.PrintedDecls.{bracketed, parents_pieces, string_pieces, ref_pieces};
+ghost use Rattle.laws_written.specs.Printed.{path_pieces};
+ghost use Rattle.laws_written.specs.PrintedDecls.{bracketed, parents_pieces, string_pieces, ref_pieces};
 ghost use Rattle.schema_print_text.specs.Adds.{Adds};
 ghost use Rattle.schema_print.specs.PrintedFragments.{paths_of_names, parent_type, printed_parent, printed_parents};
 

@@ -9,8 +9,8 @@ use Rattle.schema_json.specs.declared.common_type.CommonTypeId.{CommonTypeId}
 use Rattle.schema_json.specs.declared.entity_type.EntityType.{EntityType}
 use Rattle.schema_json.specs.declared.fragment.NamespaceDefinition.{NamespaceDefinition}
 use Rattle.schema_json.specs.AsWritten.{as_written}
-use Rattle.schema_readback.specs.Printed.{AreProperNotes}
-use Rattle.schema_print_plain.specs.Orderly.{IsOrderlyType, IsOrderlyKind, HasOrderlyContext, IsOrderlyNamespace}
+use Rattle.laws_written.specs.Printed.{AreProperNotes}
+use Rattle.laws_print.specs.Printable.Orderly.{IsOrderlyType, IsOrderlyKind, HasOrderlyContext, IsOrderlyNamespace}
 
 abbrev pub IsOrderlyCommon : CommonTypeId × CommonType RawName → Type 0
 IsOrderlyCommon e = AreProperNotes e.1.annotations.0 × IsOrderlyType e.1.ty

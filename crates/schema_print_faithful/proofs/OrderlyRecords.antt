@@ -6,12 +6,12 @@ use Rattle.std.specs.Map.{keys_of}
 use Rattle.cedar_data.specs.Text.{text_cmp}
 use Rattle.cedar_identifiers.specs.declared.raw_name.RawName.{RawName}
 use Rattle.schema_json.specs.declared.types.TypeOfAttribute.{TypeOfAttribute, out-TypeOfAttribute}
-use Rattle.schema_readback.specs.Printed.{AreProperNotes}
-use Rattle.schema_readback.specs.Written.{rec}
+use Rattle.laws_written.specs.Printed.{AreProperNotes}
+use Rattle.laws_written.specs.Written.{rec}
 use Rattle.schema_print_text.specs.PrintedTypes.{PrintedAttribute, printed_entries}
 use Rattle.schema_print_text.proofs.Layers.{attribute_out}
-use Rattle.schema_print_says.specs.Plain.{components_written, attribute_names, IsRisingType, AreRisingAttributes}
-use Rattle.schema_print_plain.specs.Orderly.{IsOrderlyType}
+use Rattle.laws_print.specs.Printed.Textual.{components_written, attribute_names, IsRisingType, AreRisingAttributes}
+use Rattle.laws_print.specs.Printable.Orderly.{IsOrderlyType}
 
 abbrev pub Entry : Type 0
 Entry = List ℕ × TypeOfAttribute RawName

@@ -9,7 +9,7 @@ use Rattle.cedar_data.proofs.Lists.{map-map}
 use Rattle.cedar_identifiers.specs.declared.name.Name.{Name}
 use Rattle.cedar_identifiers.proofs.Ordered.{ids_cmp}
 use Rattle.cedar_names.specs.Orders.{id_text_order, ids_of, names_in_order}
-use Rattle.schema_says.specs.FragmentsSay.{namespace_order, name_components}
+use Rattle.laws_translate.specs.FragmentsSay.{namespace_order, name_components}
 
 module _ {K A J : Type 0} (R : K → K → Ordering) (S : J → J → Ordering) (see : K → J)
     (same : (a b : K) → R a b ≡ S (see a) (see b)) where

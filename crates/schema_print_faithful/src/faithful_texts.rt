@@ -2,9 +2,9 @@ ghost use Rattle.std.specs.Prelude.{◌≡◌, true, IfOk, IfSome, IfNone};
 ghost use Rattle.std.specs.Str.{encode_utf8_all};
 ghost use Rattle.schema_print.specs.Printable.{IsPrintable};
 ghost use Rattle.schema_print.specs.PrintedFragments.{fragment_text};
-ghost use Rattle.schema_print_says.specs.CedarForm.{cedar_form};
-ghost use Rattle.schema_print_says.specs.Plain.{components_written};
-ghost use Rattle.schema_print_plain.specs.ReadAs.{IsReadAs, ResolveAlike};
+ghost use Rattle.laws_print.specs.Printed.CedarForm.{cedar_form};
+ghost use Rattle.laws_print.specs.Printed.Textual.{components_written};
+ghost use Rattle.laws_print.specs.Printable.ReadAs.{IsReadAs, ResolveAlike};
 
 use crate::orderly_fragments::fragment_is_orderly;
 use cedar_data::Text;
@@ -12,7 +12,7 @@ use cedar_identifiers::RawName;
 use cedar_names::ExtensionTable;
 use schema_json::Fragment;
 use schema_print::{is_printable, print_fragment};
-use schema_print_plain::laws::printable_fragments_read_back;
+use laws_print::printable_fragments::printable_fragments_read_back;
 use std::alloc::{AllocError, Global};
 
 /// The text of the fragment where the text says the fragment under this table, and else none. Such a text has no

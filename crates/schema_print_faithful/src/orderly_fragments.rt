@@ -1,4 +1,4 @@
-ghost use Rattle.schema_print_plain.specs.Orderly.{IsOrderlyNamespace, IsOrderly};
+ghost use Rattle.laws_print.specs.Printable.Orderly.{IsOrderlyNamespace, IsOrderly};
 
 use crate::orderly_items::{actions_are_orderly, commons_are_orderly, entities_are_orderly};
 use crate::orderly_types::annotations_rise;

@@ -1,6 +1,6 @@
 ghost use Rattle.std.specs.List.{AllByRecursion};
-ghost use Rattle.schema_readback.specs.Printed.{AreProperNotes};
-ghost use Rattle.schema_print_plain.specs.Orderly.{IsOrderlyType, IsOrderlyKind, HasOrderlyContext};
+ghost use Rattle.laws_written.specs.Printed.{AreProperNotes};
+ghost use Rattle.laws_print.specs.Printable.Orderly.{IsOrderlyType, IsOrderlyKind, HasOrderlyContext};
 
 use crate::orderly_types::{annotations_rise, tags_are_orderly, type_is_orderly};
 use cedar_data::Text;

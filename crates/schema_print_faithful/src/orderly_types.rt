@@ -1,7 +1,7 @@
-ghost use Rattle.schema_readback.specs.Printed.{AreProperNotes};
+ghost use Rattle.laws_written.specs.Printed.{AreProperNotes};
 ghost use Rattle.schema_print_text.specs.PrintedTypes.{printed_variant, printed_entries};
-ghost use Rattle.schema_print_says.specs.Plain.{components_written, IsRisingType, AreRisingAttributes};
-ghost use Rattle.schema_print_plain.specs.Orderly.{IsOrderlyType, AreOrderlyTags};
+ghost use Rattle.laws_print.specs.Printed.Textual.{components_written, IsRisingType, AreRisingAttributes};
+ghost use Rattle.laws_print.specs.Printable.Orderly.{IsOrderlyType, AreOrderlyTags};
 
 use cedar_data::{Boxed, Text};
 use cedar_identifiers::{Annotations, RawName};

@@ -13,7 +13,7 @@ use Rattle.schema_syntax_tokens.proofs.Quoted.{quoted_utf8}
 use Rattle.cedar_identifiers.specs.Words.{is_id}
 use Rattle.cedar_identifiers.proofs.Ids.{id_bytes}
 use Rattle.cedar_names.specs.CanonicalText.{spaces}
-use Rattle.schema_readback.specs.Printed.{path_pieces, name_piece}
+use Rattle.laws_written.specs.Printed.{path_pieces, name_piece}
 use Rattle.schema_print_text.specs.Adds.{Adds}
 use Rattle.schema_print_text.specs.PrintedTypes.{printed_name}
 use Rattle.schema_print_text.specs.Growing.{so}

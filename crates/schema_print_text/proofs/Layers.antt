@@ -16,9 +16,9 @@ use Rattle.schema_json.specs.declared.types.TypeOfAttribute.{TypeOfAttribute, ou
 use Rattle.schema_json.specs.declared.types.TypeOfAttribute.{fold_out-TypeOfAttribute}
 use Rattle.schema_json.proofs.Layers.{variant_made, reference_made, string_made, long_made, boolean_made, set_made}
 use Rattle.schema_json.proofs.Layers.{record_made, entity_made, either_made, extension_made}
-use Rattle.schema_readback.specs.Written.{WrittenType, WrittenAttributes, path, set, rec, attribute}
-use Rattle.schema_readback.specs.Meant.{under_cedar}
-use Rattle.schema_readback.specs.Printed.{path_pieces, type_pieces}
+use Rattle.laws_written.specs.Written.{WrittenType, WrittenAttributes, path, set, rec, attribute}
+use Rattle.laws_written.specs.Meant.{under_cedar}
+use Rattle.laws_written.specs.Printed.{path_pieces, type_pieces}
 use Rattle.schema_print_text.specs.PrintedTypes.{is_bare_record, PrintedAttribute, printed_name, printed_attributes}
 use Rattle.schema_print_text.specs.PrintedTypes.{type_layer, variant_layer, record_layer, attribute_layer}
 use Rattle.schema_print_text.specs.PrintedTypes.{printed_type}

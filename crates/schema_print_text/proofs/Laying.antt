@@ -8,10 +8,10 @@ use Rattle.schema_json.specs.declared.types.TypeOfAttribute.{TypeOfAttribute, ou
 use Rattle.schema_syntax_grammar.specs.declared.token_kind.TokenKind.TheVariants.{Greater, RBrace}
 use Rattle.schema_syntax_reader.specs.Leaves.{Notes}
 use Rattle.schema_syntax_tokens.specs.Laid.{Piece, gap, piece_text, laid}
-use Rattle.schema_readback.specs.Meant.{under_cedar}
-use Rattle.schema_readback.specs.Written.{WrittenType, WrittenAttributes, set, rec, no_more, attribute}
-use Rattle.schema_readback.specs.Printed.{mark, line_break, name_piece, value_pieces, notes_pieces, type_pieces}
-use Rattle.schema_readback.specs.Printed.{lines_pieces, comma_pieces}
+use Rattle.laws_written.specs.Meant.{under_cedar}
+use Rattle.laws_written.specs.Written.{WrittenType, WrittenAttributes, set, rec, no_more, attribute}
+use Rattle.laws_written.specs.Printed.{mark, line_break, name_piece, value_pieces, notes_pieces, type_pieces}
+use Rattle.laws_written.specs.Printed.{lines_pieces, comma_pieces}
 use Rattle.schema_print_text.specs.PrintedTypes.{colon_pieces, PrintedAttribute, printed_type, printed_entries}
 use Rattle.schema_print_text.specs.PrintedTypes.{printed_type_text}
 use Rattle.schema_print_text.specs.Growing.{laid_append}

@@ -8,9 +8,9 @@ use Rattle.schema_json.specs.declared.types.TypeOfAttribute.{TypeOfAttribute, Ty
 use Rattle.schema_syntax_grammar.specs.declared.token_kind.TokenKind.TheVariants.{Colon}
 use Rattle.schema_syntax_reader.specs.Leaves.{Notes}
 use Rattle.schema_syntax_tokens.specs.Laid.{Piece, laid}
-use Rattle.schema_readback.specs.Written.{WrittenType, WrittenAttributes, path, set, rec, no_more, attribute}
-use Rattle.schema_readback.specs.Meant.{under_cedar}
-use Rattle.schema_readback.specs.Printed.{mark, space, mark_pieces, type_pieces}
+use Rattle.laws_written.specs.Written.{WrittenType, WrittenAttributes, path, set, rec, no_more, attribute}
+use Rattle.laws_written.specs.Meant.{under_cedar}
+use Rattle.laws_written.specs.Printed.{mark, space, mark_pieces, type_pieces}
 
 -- the bytes of a name's components
 abbrev pub printed_name : List (List ℕ) → List (List ℕ)

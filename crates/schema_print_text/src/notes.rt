@@ -1,7 +1,7 @@
 ghost use Rattle.std.specs.Prelude.{◌≡◌, [], OnOk};
 ghost use Rattle.schema_syntax_tokens.specs.Laid.{laid, piece_text};
 ghost use Rattle.cedar_identifiers.specs.Words.{is_id};
-ghost use Rattle.schema_readback.specs.Printed.{notes_pieces, value_pieces, name_piece};
+ghost use Rattle.laws_written.specs.Printed.{notes_pieces, value_pieces, name_piece};
 ghost use Rattle.schema_print_text.specs.Adds.{Adds};
 ghost use Rattle.schema_print_text.specs.PrintedTypes.{colon_pieces};
 

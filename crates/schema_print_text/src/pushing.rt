@@ -2,7 +2,7 @@ ghost use Rattle.std.specs.Prelude.{◌≡◌, ◌+◌, IfOk, OnOk};
 ghost use Rattle.cedar_names.specs.CanonicalText.{spaces};
 ghost use Rattle.schema_syntax_tokens.specs.Laid.{laid};
 ghost use Rattle.schema_syntax_tokens.specs.Quotes.{quoted};
-ghost use Rattle.schema_readback.specs.Printed.{path_pieces};
+ghost use Rattle.laws_written.specs.Printed.{path_pieces};
 ghost use Rattle.schema_print_text.specs.Adds.{Adds};
 ghost use Rattle.schema_print_text.specs.PrintedTypes.{printed_name};
 

@@ -1,7 +1,7 @@
 ghost use Rattle.std.specs.Prelude.{◌≡◌, OnOk, true};
 ghost use Rattle.schema_syntax_tokens.specs.Laid.{laid};
-ghost use Rattle.schema_readback.specs.Printed.{type_pieces, lines_pieces};
-ghost use Rattle.schema_readback.specs.Written.{rec};
+ghost use Rattle.laws_written.specs.Printed.{type_pieces, lines_pieces};
+ghost use Rattle.laws_written.specs.Written.{rec};
 ghost use Rattle.schema_print_text.specs.Adds.{Adds};
 ghost use Rattle.schema_print_text.specs.PrintedTypes.{is_bare_record, printed_type, printed_variant, printed_entries};
 ghost use Rattle.schema_print_text.specs.PrintedTypes.{printed_type_text};

@@ -1,6 +1,6 @@
 use Rattle.schema_convert_plain.specs.Translation.{translated}
 use Rattle.schema_generate.specs.Generated.{generated}
-use Rattle.schema_generate_valid.specs.Declares.{generated_items}
+use Rattle.laws_build.specs.Generated.Declares.{generated_items}
 use Rattle.cedar_schema_core.proofs.Canonical.{text_means}
 use Rattle.cedar_schema_core.proofs.laws.generated_texts_are_valid.Goals as goal
 

@@ -1,8 +1,8 @@
 use Rattle.std.specs.List.{flat_map}
 use Rattle.cedar_names.specs.CanonicalText.{schema_text}
 use Rattle.schema_convert_plain.specs.Translation.{translated}
-use Rattle.schema_readback.specs.Meant.{groups_of_meaning}
-use Rattle.schema_readback.specs.PrintedDecls.{group_items}
+use Rattle.laws_written.specs.Meant.{groups_of_meaning}
+use Rattle.laws_written.specs.PrintedDecls.{group_items}
 use Rattle.cedar_schema_core.proofs.Canonical.{text_means}
 use Rattle.cedar_schema_core.proofs.laws.texts_of_closed_meanings_mean_them.Goals as goal
 

@@ -1,6 +1,6 @@
 use Rattle.std.proofs.Common.{◌≡◌, false}
 use Rattle.std.proofs.lemmas.Result.{on_ok_weaker}
-use Rattle.schema_readback.specs.PrintedDecls.{parents_pieces, ref_pieces}
+use Rattle.laws_written.specs.PrintedDecls.{parents_pieces, ref_pieces}
 use Rattle.schema_print_text.specs.Growing.{then, so}
 use Rattle.schema_print.specs.PrintedFragments.{printed_parents}
 use Rattle.schema_print.proofs.Spelled.{applied_shown}

@@ -2,8 +2,8 @@ use Rattle.std.proofs.Common.{ap, true}
 use Rattle.std.proofs.lemmas.Result.{on_ok_weaker}
 use Rattle.std.specs.Option.{option_map}
 use Rattle.schema_syntax_tokens.specs.Laid.{laid}
-use Rattle.schema_readback.specs.Printed.{path_pieces}
-use Rattle.schema_readback.specs.PrintedDecls.{parents_pieces, tags_pieces}
+use Rattle.laws_written.specs.Printed.{path_pieces}
+use Rattle.laws_written.specs.PrintedDecls.{parents_pieces, tags_pieces}
 use Rattle.schema_print_text.specs.Growing.{then, so}
 use Rattle.schema_print_text.specs.PrintedTypes.{printed_type}
 use Rattle.schema_print.specs.PrintedFragments.{paths_of_names, shape_type_pieces}

@@ -1,7 +1,7 @@
 use Rattle.std.proofs.Common.{ap, sym, true, rules}
 use Rattle.std.specs.Option.{option_map}
 use Rattle.schema_syntax_tokens.specs.Laid.{laid}
-use Rattle.schema_readback.specs.PrintedDecls.{tags_pieces}
+use Rattle.laws_written.specs.PrintedDecls.{tags_pieces}
 use Rattle.schema_print_text.specs.Growing.{adds_nothing, so}
 use Rattle.schema_print_text.specs.PrintedTypes.{printed_type}
 use Rattle.schema_print.proofs.bodies.push_tags.Goals as goal

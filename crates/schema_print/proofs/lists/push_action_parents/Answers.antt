@@ -1,7 +1,7 @@
 use Rattle.std.proofs.Common.{ap, sym, map}
 use Rattle.std.proofs.lemmas.Result.{on_ok_weaker}
 use Rattle.schema_syntax_tokens.specs.Laid.{laid}
-use Rattle.schema_readback.specs.PrintedDecls.{parents_pieces, ref_pieces}
+use Rattle.laws_written.specs.PrintedDecls.{parents_pieces, ref_pieces}
 use Rattle.schema_print_text.specs.Growing.{adds_nothing, so}
 use Rattle.schema_print.specs.PrintedFragments.{printed_parent, printed_parents}
 use Rattle.schema_print.proofs.lists.push_action_parents.Goals as goal

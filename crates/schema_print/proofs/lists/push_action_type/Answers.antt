@@ -1,7 +1,7 @@
 use Rattle.std.proofs.Common.{ap, sym}
 use Rattle.std.proofs.lemmas.Result.{on_ok_weaker}
 use Rattle.schema_syntax_tokens.specs.Laid.{laid}
-use Rattle.schema_readback.specs.Printed.{path_pieces}
+use Rattle.laws_written.specs.Printed.{path_pieces}
 use Rattle.schema_print_text.specs.Growing.{so}
 use Rattle.schema_print.specs.PrintedFragments.{parent_type}
 use Rattle.schema_print.proofs.lists.push_action_type.Goals as goal

@@ -6,7 +6,7 @@ use Rattle.cedar_data.specs.Rows.{separator_where, row_behind}
 use Rattle.schema_syntax_tokens.specs.Laid.{laid}
 use Rattle.schema_syntax_tokens.specs.Quotes.{quoted}
 use Rattle.cedar_identifiers.specs.declared.eid.Eid.{Eid}
-use Rattle.schema_readback.specs.PrintedDecls.{string_pieces}
+use Rattle.laws_written.specs.PrintedDecls.{string_pieces}
 use Rattle.schema_print_text.specs.Growing.{then, so, round, adds_all}
 use Rattle.schema_print.proofs.Rows.{begun_as, brackets_made}
 use Rattle.schema_print.proofs.lists.push_choices.Goals as goal

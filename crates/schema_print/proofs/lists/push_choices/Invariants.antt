@@ -2,7 +2,7 @@ use Rattle.std.proofs.Common.{codes, map}
 use Rattle.cedar_data.specs.NonEmpty.{items_left}
 use Rattle.cedar_data.specs.Rows.{row_behind}
 use Rattle.schema_syntax_tokens.specs.Laid.{laid}
-use Rattle.schema_readback.specs.PrintedDecls.{string_pieces}
+use Rattle.laws_written.specs.PrintedDecls.{string_pieces}
 use Rattle.schema_print_text.specs.Growing.{Leaves}
 use Rattle.schema_print.proofs.lists.push_choices.Given as goal
 

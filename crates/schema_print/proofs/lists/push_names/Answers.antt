@@ -3,7 +3,7 @@ use Rattle.std.proofs.lemmas.List.{at_drop_all}
 use Rattle.std.proofs.lemmas.Result.{on_ok_weaker}
 use Rattle.cedar_data.specs.Rows.{row_behind}
 use Rattle.schema_syntax_tokens.specs.Laid.{laid}
-use Rattle.schema_readback.specs.Printed.{path_pieces}
+use Rattle.laws_written.specs.Printed.{path_pieces}
 use Rattle.schema_print_text.specs.Growing.{then, so, begun, round, adds_all}
 use Rattle.schema_print_text.specs.PrintedTypes.{printed_name}
 use Rattle.schema_print.proofs.Rows.{row_step, brackets_made}

@@ -1,7 +1,7 @@
 use Rattle.std.proofs.Common.{codes, map, drop}
 use Rattle.cedar_data.specs.Rows.{row_behind}
 use Rattle.schema_syntax_tokens.specs.Laid.{laid}
-use Rattle.schema_readback.specs.Printed.{path_pieces}
+use Rattle.laws_written.specs.Printed.{path_pieces}
 use Rattle.schema_print_text.specs.Growing.{Leaves}
 use Rattle.schema_print_text.specs.PrintedTypes.{printed_name}
 use Rattle.schema_print.proofs.lists.push_names.Given as goal

@@ -1,6 +1,6 @@
 use Rattle.std.proofs.Common.{sym, ◌∙◌}
 use Rattle.std.proofs.lemmas.Result.{on_ok_weaker}
-use Rattle.schema_readback.specs.Printed.{path_pieces}
+use Rattle.laws_written.specs.Printed.{path_pieces}
 use Rattle.schema_print_text.specs.Growing.{adds_nothing, then, so}
 use Rattle.schema_print_text.specs.PrintedTypes.{printed_name}
 use Rattle.schema_print.proofs.Rows.{parents_none, parents_some}

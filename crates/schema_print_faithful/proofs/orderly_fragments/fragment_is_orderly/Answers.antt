@@ -1,6 +1,6 @@
 use Rattle.std.proofs.Common.{◌∙◌, subst, take_all, All}
 use Rattle.std.proofs.lemmas.List.Elements.{All-more, recursion_from_All}
-use Rattle.schema_says.specs.FragmentsSay.{namespace_order, name_components}
+use Rattle.laws_translate.specs.FragmentsSay.{namespace_order, name_components}
 use Rattle.schema_print_faithful.proofs.OrderlyItems.{IsOrderlyBlock}
 use Rattle.schema_print_faithful.proofs.Rising.{rise_as, order_of_names, as_namespaces}
 use Rattle.schema_print_faithful.proofs.orderly_fragments.fragment_is_orderly.Goals as goal

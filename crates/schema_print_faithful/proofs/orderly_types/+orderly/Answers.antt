@@ -7,7 +7,7 @@ use Rattle.cedar_data.proofs.Sizes.{most_at}
 use Rattle.cedar_identifiers.specs.declared.raw_name.RawName.{RawName}
 use Rattle.schema_json.specs.declared.types.TypeOfAttribute.{size-TypeOfAttribute, size_is-TypeOfAttribute}
 use Rattle.schema_print_text.proofs.Layers.{type_variant, type_common, variant_set, variant_record}
-use Rattle.schema_print_says.specs.Plain.{components_written}
+use Rattle.laws_print.specs.Printed.Textual.{components_written}
 use Rattle.schema_print_faithful.proofs.OrderlyRecords.{IsOrderlyEntry, attributes_rising, record_rising}
 use Rattle.schema_print_faithful.proofs.orderly_types.+orderly.Goals as goal
 

@@ -1,7 +1,7 @@
 use Rattle.std.proofs.Common.{ap}
 use Rattle.std.proofs.lemmas.List.{at_drop_all}
 use Rattle.schema_syntax_tokens.specs.Laid.{laid}
-use Rattle.schema_readback.specs.Printed.{notes_pieces}
+use Rattle.laws_written.specs.Printed.{notes_pieces}
 use Rattle.schema_print_text.specs.Growing.{then, so, begun, round, adds_all}
 use Rattle.schema_print_text.proofs.Laying.{note_step}
 use Rattle.schema_print_text.proofs.notes.push_notes.Goals as goal

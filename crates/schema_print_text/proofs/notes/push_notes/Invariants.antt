@@ -1,6 +1,6 @@
 use Rattle.std.proofs.Common.{drop}
 use Rattle.schema_syntax_tokens.specs.Laid.{laid}
-use Rattle.schema_readback.specs.Printed.{notes_pieces}
+use Rattle.laws_written.specs.Printed.{notes_pieces}
 use Rattle.schema_print_text.specs.Growing.{Leaves}
 use Rattle.schema_print_text.proofs.notes.push_notes.Given as goal
 

@@ -1,6 +1,6 @@
 use Rattle.std.proofs.Common.{ap, sym}
 use Rattle.schema_syntax_tokens.specs.Laid.{laid}
-use Rattle.schema_readback.specs.Printed.{value_pieces}
+use Rattle.laws_written.specs.Printed.{value_pieces}
 use Rattle.schema_print_text.specs.Growing.{adds_nothing, so}
 use Rattle.schema_print_text.proofs.notes.push_value.Goals as goal
 

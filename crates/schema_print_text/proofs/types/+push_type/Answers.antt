@@ -8,9 +8,9 @@ use Rattle.schema_json.specs.declared.types.TypeOfAttribute.{size-TypeOfAttribut
 use Rattle.schema_json.specs.declared.types.TypeVariant.TheVariants.{Set, Record, Entity, EntityOrCommon, Extension}
 use Rattle.schema_json.specs.declared.types.TypeVariant.TheVariants.{String, Long, Boolean}
 use Rattle.schema_json.specs.declared.types.RecordType.{out-RecordType}
-use Rattle.schema_readback.specs.Printed.{lines_pieces, type_pieces}
-use Rattle.schema_readback.specs.Written.{path, set, rec}
-use Rattle.schema_readback.specs.Meant.{under_cedar}
+use Rattle.laws_written.specs.Printed.{lines_pieces, type_pieces}
+use Rattle.laws_written.specs.Written.{path, set, rec}
+use Rattle.laws_written.specs.Meant.{under_cedar}
 use Rattle.schema_print_text.specs.Growing.{then, so, begun, round, adds_all}
 use Rattle.schema_print_text.specs.PrintedTypes.{printed_name, printed_type, printed_type_text, printed_entries}
 use Rattle.schema_print_text.proofs.Layers.{variant_shown, common_shown, shown, variant_set, variant_record}

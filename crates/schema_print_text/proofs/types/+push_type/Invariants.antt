@@ -3,7 +3,7 @@ use Rattle.std.specs.Map.{values_of}
 use denote.Param.Weighed.{most}
 use Rattle.schema_json.specs.declared.types.TypeOfAttribute.{size-TypeOfAttribute}
 use Rattle.schema_syntax_tokens.specs.Laid.{laid}
-use Rattle.schema_readback.specs.Printed.{lines_pieces}
+use Rattle.laws_written.specs.Printed.{lines_pieces}
 use Rattle.schema_print_text.specs.Growing.{Leaves}
 use Rattle.schema_print_text.specs.PrintedTypes.{printed_entries}
 use Rattle.schema_print_text.proofs.types.+push_type.Given as goal

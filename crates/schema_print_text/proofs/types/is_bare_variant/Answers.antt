@@ -1,7 +1,7 @@
 use Rattle.std.proofs.Common.{◌∙◌, ap, length, ◌==◌}
 use Rattle.schema_json.specs.declared.types.RecordType.{out-RecordType}
 use Rattle.schema_json.specs.declared.types.TypeVariant.TheVariants.{Record}
-use Rattle.schema_readback.specs.Written.{rec}
+use Rattle.laws_written.specs.Written.{rec}
 use Rattle.schema_print_text.specs.PrintedTypes.{printed_entries}
 use Rattle.schema_print_text.proofs.Layers.{bare, variant_record, entries_bare}
 use Rattle.schema_print_text.proofs.types.is_bare_variant.Goals as goal

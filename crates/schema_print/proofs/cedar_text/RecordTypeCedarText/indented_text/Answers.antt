@@ -1,8 +1,8 @@
 use Rattle.std.proofs.Common.{ap, true, ◌++◌, ◌∙◌}
 use Rattle.std.specs.Str.{encode_utf8_all}
 use Rattle.schema_syntax_tokens.specs.Laid.{laid}
-use Rattle.schema_readback.specs.Written.{rec}
-use Rattle.schema_readback.specs.Printed.{type_pieces}
+use Rattle.laws_written.specs.Written.{rec}
+use Rattle.laws_written.specs.Printed.{type_pieces}
 use Rattle.schema_json.specs.Shapes.{attributes_of}
 use Rattle.schema_print_text.specs.Growing.{so}
 use Rattle.schema_print_text.specs.PrintedTypes.{printed_entries}

@@ -1,0 +1,16 @@
+pub mod Complete
+pub mod Decided
+pub mod DecidedFaults
+pub mod DecidedMeanings
+pub mod DecidedRows
+pub mod Expanding
+pub mod FirstUses
+pub mod Known
+pub mod Least
+pub mod Meanings
+pub mod Parents
+pub mod Reached
+pub mod Records
+pub mod Rising
+pub mod Rows
+pub mod Scoped

@@ -1,0 +1,12 @@
+pub mod Ancestors
+pub mod Declared
+pub mod Defined
+pub mod Expanding
+pub mod Faultless
+pub mod Given
+pub mod Meant
+pub mod Records
+pub mod Sayable
+pub mod Spelled
+pub mod Walked
+pub mod Words

@@ -1,0 +1,14 @@
+pub mod Blocks
+pub mod DeclaredActions
+pub mod DeclaredEntities
+pub mod Defining
+pub mod EntryMeans
+pub mod Expanding
+pub mod Faultless
+pub mod Just
+pub mod Meant
+pub mod Members
+pub mod Parents
+pub mod Themselves
+pub mod Uncaptured
+pub mod Walking

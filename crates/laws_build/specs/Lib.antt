@@ -1,0 +1,5 @@
+pub mod Closure
+pub mod Said
+pub mod Orders
+pub mod Generated
+pub mod Existence

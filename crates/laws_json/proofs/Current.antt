@@ -1,0 +1,9 @@
+pub mod OneShape
+pub mod OneFragment
+pub mod OneReading
+pub mod Tidied
+pub mod Tidy
+pub mod NoFloats
+pub mod Compact
+pub mod Written
+pub mod NamesRead

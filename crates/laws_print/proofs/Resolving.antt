@@ -1,0 +1,9 @@
+pub mod ActionsAlike
+pub mod BlocksAlike
+pub mod FragmentsAlike
+pub mod ItemsAlike
+pub mod Layers
+pub mod Printables
+pub mod Printed
+pub mod References
+pub mod TypesAlike

@@ -1,0 +1,2 @@
+pub mod CedarForm
+pub mod Textual

@@ -1,0 +1,3 @@
+pub mod OneTree
+pub mod Sites
+pub mod Scans

@@ -1,0 +1,4 @@
+pub mod Blanks
+pub mod FirstFault
+pub mod Scanned
+pub mod Tokens

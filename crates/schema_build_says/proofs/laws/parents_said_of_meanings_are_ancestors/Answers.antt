@@ -1,8 +1,0 @@
-use Rattle.schema_build_says.proofs.Parents.{entity_parents_are, action_parents_are}
-use Rattle.schema_build_says.proofs.laws.parents_said_of_meanings_are_ancestors.Goals as goal
-
-pub returns : goal.returns
-returns c = record {
-  entities = λ t ns x k e h p a. entity_parents_are t ns x k e h p a;
-  actions = λ t ns x spec parents a h k. action_parents_are t ns x spec parents a h k;
-}

@@ -1,6 +1,0 @@
-use Rattle.schema_build_says.proofs.Just.{declares_just}
-use Rattle.schema_build_says.proofs.laws.what_says_a_meaning_declares_it.Goals as goal
-
-pub returns : goal.returns
-returns c = λ g m says names. declares_just m (c.namespaces_of_meanings_are_written.ensures.of m)
-    (c.namespaces_of_meanings_are_written.ensures.all m) names g says

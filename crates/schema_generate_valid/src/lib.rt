@@ -1,4 +1,0 @@
-//! Laws alone: that a text which is made by rule is valid.
-#![tactic(auto)]
-
-pub mod laws;

@@ -1,9 +1,0 @@
-use Rattle.schema_json_laws.proofs.OneReading.{one_text_fragment, one_error, said_or_refused}
-use Rattle.schema_json_laws.proofs.laws.one_fragment_or_error.Goals as goal
-
-pub returns : goal.returns
-returns c = record {
-  fragment = λ text f g h k. one_text_fragment text f g h k;
-  error = one_error;
-  never_both = λ text f e h n k. said_or_refused text f e h n k;
-}

@@ -1,9 +1,0 @@
-mod ActionsAlike
-mod BlocksAlike
-mod FragmentsAlike
-mod ItemsAlike
-mod Layers
-mod Printables
-mod Printed
-mod References
-mod TypesAlike

@@ -1,6 +1,0 @@
-pub mod CedarDecls
-mod CedarFragments
-mod CedarProper
-mod CedarSayable
-mod CedarTypes
-mod Folds

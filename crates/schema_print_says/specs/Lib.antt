@@ -1,2 +1,0 @@
-pub mod CedarForm
-pub mod Plain

@@ -1,5 +1,0 @@
-use Rattle.schema_readback.proofs.ReadingNotes.{read_notes}
-use Rattle.schema_readback.proofs.laws.spelled_notes_are_read.Goals as goal
-
-pub returns : goal.returns
-returns c = λ source u written notes h a ts s. read_notes source c.one_value.ensures.value_or_bad h a ts s

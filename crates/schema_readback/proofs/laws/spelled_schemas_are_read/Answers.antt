@@ -1,5 +1,0 @@
-use Rattle.schema_readback.proofs.Decls.{read_schema}
-use Rattle.schema_readback.proofs.laws.spelled_schemas_are_read.Goals as goal
-
-pub returns : goal.returns
-returns c = λ source u w h ts s. read_schema source c.one_value.ensures.value_or_bad h ts s

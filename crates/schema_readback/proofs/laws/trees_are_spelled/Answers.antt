@@ -1,5 +1,0 @@
-use Rattle.schema_readback.proofs.SaidDecls.{back_schema}
-use Rattle.schema_readback.proofs.laws.trees_are_spelled.Goals as goal
-
-pub returns : goal.returns
-returns c = λ source ts items tree u h is f s. back_schema source h tree is f u s

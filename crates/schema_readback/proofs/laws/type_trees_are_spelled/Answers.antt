@@ -1,6 +1,0 @@
-use Rattle.schema_readback.proofs.SaidNotes.{back_notes}
-use Rattle.schema_readback.proofs.SaidTypes.{back_type}
-use Rattle.schema_readback.proofs.laws.type_trees_are_spelled.Goals as goal
-
-pub returns : goal.returns
-returns c = λ source ts t n u h is f s. back_type source (back_notes source) h n is f u s

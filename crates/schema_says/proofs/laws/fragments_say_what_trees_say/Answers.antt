@@ -1,5 +1,0 @@
-use Rattle.schema_says.proofs.Fragments.{fragment_says}
-use Rattle.schema_says.proofs.laws.fragments_say_what_trees_say.Goals as goal
-
-pub returns : goal.returns
-returns c = λ tree w h k e. fragment_says tree w h k ((c.lawful_trees.ensures tree).0 e)

@@ -1,5 +1,0 @@
-use Rattle.schema_says.proofs.MeantProper.{meaning_proper}
-use Rattle.schema_says.proofs.laws.meanings_may_be_printed.Goals as goal
-
-pub returns : goal.returns
-returns c = λ m h. meaning_proper m h

@@ -1,5 +1,0 @@
-use Rattle.schema_says.proofs.Proper.{groups_named}
-use Rattle.schema_says.proofs.laws.proper_groups_are_named.Goals as goal
-
-pub returns : goal.returns
-returns c = λ groups h. groups_named groups h

@@ -1,5 +1,0 @@
-use Rattle.schema_says.proofs.Types.{type_says}
-use Rattle.schema_says.proofs.laws.types_say_what_trees_say.Goals as goal
-
-pub returns : goal.returns
-returns c = λ n t h p loc. type_says h p loc

@@ -1,5 +1,0 @@
-mod ExactSites
-mod KeywordReadings
-mod OneReading
-mod ReadParts
-mod ReadingForms
