@@ -7,7 +7,10 @@ ghost use Rattle.cedar_identifiers.specs.declared.raw_name.RawName.{RawName as R
 ghost use Rattle.schema_json.specs.declared.fragment.Fragment.{Fragment};
 ghost use Rattle.laws_translate.specs.BareFragments.{bare_fragment};
 ghost use Rattle.laws_json.specs.Back.Sayable.{IsSayableFragment};
-ghost use Rattle.schema_json_errors.specs.declared.json_error.JsonDeserializationError.{JsonDeserializationError as Error};
+ghost use Rattle.schema_json_errors.specs.declared.json_error.JsonDeserializationError.{
+  JsonDeserializationError as
+      Error,
+};
 ghost use Rattle.schema_json_errors.specs.declared.json_fault.JsonFault.TheVariants.{Memory};
 ghost use Rattle.schema_json_io.specs.Causes.{IsJsonTextError, IsValueError};
 ghost use Rattle.schema_json_io.specs.Texts.{Holds, TextShape, ValueShape};

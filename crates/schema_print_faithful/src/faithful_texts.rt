@@ -10,9 +10,9 @@ use crate::orderly_fragments::fragment_is_orderly;
 use cedar_data::Text;
 use cedar_identifiers::RawName;
 use cedar_names::ExtensionTable;
+use laws_print::printable_fragments::printable_fragments_read_back;
 use schema_json::Fragment;
 use schema_print::{is_printable, print_fragment};
-use laws_print::printable_fragments::printable_fragments_read_back;
 use std::alloc::{AllocError, Global};
 
 /// The text of the fragment where the text says the fragment under this table, and else none. Such a text has no
