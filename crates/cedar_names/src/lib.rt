@@ -1,5 +1,5 @@
-//! What every part of the front end speaks of: plain data, where bytes come from and go to, names, which names are defined,
-//! and the meaning of a schema with its canonical text.
+//! What every part of the front end speaks of: plain data, where bytes come from and go to, names, which names are
+//! defined, and the meaning of a schema with its canonical text.
 #![tactic(auto)]
 
 pub mod all_defs;
@@ -15,8 +15,8 @@ mod table_words;
 
 pub use all_defs::AllDefs;
 pub use cedar_data::{
-    Boxed, CloneIn, Label, List, Loc, Map, Node, NonEmpty, NonEmptyIntoIter, NonEmptyIter, Set,
-    Severity, Text, lawful,
+    Boxed, CloneIn, Diagnostic, Label, List, Loc, Map, Node, NonEmpty, NonEmptyIntoIter,
+    NonEmptyIter, Set, Severity, Text, lawful,
 };
 pub use cedar_identifiers::{
     Annotations, AnyId, ConditionalName, Eid, Id, InternalName, Name, NameFault, NameKind,

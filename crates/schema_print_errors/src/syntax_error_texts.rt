@@ -1,5 +1,6 @@
 ghost use Rattle.std.specs.Prelude.{◌≡◌, IfOk, Some};
-ghost use Rattle.schema_print_errors.specs.SyntaxErrorTexts.{texts_of_names, collisions_text, shapes_text, shapes_help, syntax_error_text, syntax_error_help};
+ghost use Rattle.schema_print_errors.specs.SyntaxErrorTexts.{texts_of_names, collisions_text, shapes_text, shapes_help};
+ghost use Rattle.schema_print_errors.specs.SyntaxErrorTexts.{syntax_error_text, syntax_error_help};
 
 use crate::syntax_error::{
     NameCollisionsError, ToCedarSchemaSyntaxError, UnconvertibleEntityTypeShapeError,
