@@ -1,5 +1,5 @@
-//! What the program does, as calls: a schema recovered from its text or its JSON, and a run of the program over any source and
-//! any two sinks.
+//! What the program does, as calls: a schema recovered from its text or its JSON, and a run of the program over any
+//! source and any two sinks.
 #![tactic(auto)]
 
 pub mod command;
@@ -12,6 +12,7 @@ pub mod run;
 pub mod status;
 pub mod std_streams;
 
+pub use cedar_data::Diagnostic;
 pub use cedar_io::{MAX_INPUT, ReadEnd, read_input, write_text};
 pub use cedar_schema_core_faults::{RecoverError, fault_text};
 pub use command::Command;

@@ -1,7 +1,7 @@
-ghost use Rattle.std.specs.Prelude.{◌≡◌, Ok, None, [], IfOk, IsOkAnd};
+ghost use Rattle.std.specs.Prelude.{◌≡◌, [], IsOkAnd};
 ghost use Rattle.schema_json.specs.Keywords.{reserved_text};
 
-use cedar_data::{CloneIn, Label, Severity, Text};
+use cedar_data::{CloneIn, Diagnostic, Label, Severity, Text};
 use cedar_identifiers::{InternalName, UnreservedId};
 use std::alloc::{AllocError, Global};
 
@@ -11,11 +11,10 @@ pub struct ReservedCommonTypeBasenameError {
     pub id: UnreservedId,
 }
 
-impl ReservedCommonTypeBasenameError {
-    /// What the error says.
-    pub fn text(&self, alloc: Global) -> Result<Text, AllocError>
-        ensures text { IfOk result (λ text. text ≡ reserved_text self.now.id.id.text) }
-    {
+impl Diagnostic for ReservedCommonTypeBasenameError {
+    ghost text = { λ e. reserved_text e.id.id.text };
+
+    fn text(&self, alloc: Global) -> Result<Text, AllocError> {
         let mut text = Text::from_str(
             alloc,
             "this is reserved and cannot be the basename of a common-type declaration: ",
@@ -24,24 +23,18 @@ impl ReservedCommonTypeBasenameError {
         Ok(text)
     }
 
-    /// Advice, of which it has none.
-    pub fn help(&self, _alloc: Global, _source: &str) -> Result<Option<Text>, AllocError>
-        ensures none { result ≡ Ok None }
-    {
+    fn help(&self, _alloc: Global, _source: &str) -> Result<Option<Text>, AllocError> {
         Ok(None)
     }
 
-    /// The places that it points to, of which it has none.
-    pub fn labels(&self, alloc: Global) -> Result<Vec<Label>, AllocError>
+    /// It takes no memory.
+    fn labels(&self, alloc: Global) -> Result<Vec<Label>, AllocError>
         ensures none { IsOkAnd result (λ labels. labels.items ≡ []) }
     {
         Ok(Vec::new(alloc))
     }
 
-    /// How grave it is: an error.
-    pub fn severity(&self) -> Severity
-        ensures error { result ≡ Severity.Error }
-    {
+    fn severity(&self) -> Severity {
         Severity::Error
     }
 }

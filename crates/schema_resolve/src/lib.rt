@@ -1,4 +1,5 @@
-//! What the names of a fragment mean: names qualified by the namespace that they stand in, and resolved to what is defined.
+//! What the names of a fragment mean: names qualified by the namespace that they stand in, and resolved to what is
+//! defined.
 #![tactic(auto)]
 
 pub mod designate;
@@ -18,6 +19,7 @@ mod scope;
 mod stop;
 mod target_names;
 
+pub use cedar_data::Diagnostic;
 pub use designate::Designate;
 pub use fully_qualify::FullyQualify;
 pub use qualify::Qualify;

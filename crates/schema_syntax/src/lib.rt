@@ -5,6 +5,7 @@ pub mod laws;
 pub mod schema_parser;
 pub mod syntax_fault;
 
+pub use cedar_data::Diagnostic;
 pub use laws::{faulty_or_sentence, one_syntax_fault, tree_or_error};
 pub use schema_parser::{parse_schema, parse_tokens, refused, stopped};
 pub use schema_syntax_errors::{

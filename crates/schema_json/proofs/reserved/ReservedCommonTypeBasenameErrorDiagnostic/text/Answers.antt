@@ -1,6 +1,6 @@
 use Rattle.std.proofs.Common.{◌++◌, ap, ◌∙◌, refl, codes}
 use Rattle.cedar_data.proofs.Ascii.{chars-from_test}
-use Rattle.schema_json.proofs.reserved.ReservedCommonTypeBasenameError.text.Goals as goal
+use Rattle.schema_json.proofs.reserved.ReservedCommonTypeBasenameErrorDiagnostic.text.Goals as goal
 
 pub returns : goal.returns
 returns c = record {
