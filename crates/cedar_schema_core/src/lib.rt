@@ -12,6 +12,7 @@ pub mod run;
 pub mod status;
 pub mod std_streams;
 
+pub use cedar_data::Diagnostic;
 pub use cedar_io::{MAX_INPUT, ReadEnd, read_input, write_text};
 pub use cedar_schema_core_faults::{RecoverError, fault_text};
 pub use command::Command;

@@ -3,7 +3,7 @@ ghost use Rattle.std.specs.List.{flat_map};
 ghost use Rattle.cedar_schema_core.specs.Plan.{warning_line};
 
 use crate::status::Status;
-use cedar_data::{Text, around};
+use cedar_data::{Diagnostic, Text, around};
 use schema_convert::SchemaWarning;
 use std::alloc::{AllocError, Global};
 

@@ -1,1 +1,2 @@
+pub mod RecoverTexts
 pub mod Told

@@ -45,6 +45,11 @@ help_line (Some help) = codes "  help: " ++ (help ++ codes "\n")
 abbrev pub told_lines : Told → List ℕ
 told_lines t = (codes "error: " ++ (t.text ++ codes "\n")) ++ (flat_map label_line t.labels ++ help_line t.help)
 
+-- what is told of a fault with this text, these labels and this help
+abbrev pub told : {T : Type 0} → (T → List ℕ) → (T → List Label) → (T → List ℕ → Option (List ℕ)) → List ℕ → T
+    → Told
+told text labels help source fault = record { text = text fault; labels = labels fault; help = help fault source }
+
 -- a fault of the syntax or of a declaration
 abbrev pub told_parse : List ℕ → ParseError → Told
 told_parse source e =

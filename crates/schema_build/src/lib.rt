@@ -8,6 +8,7 @@ pub mod laws;
 pub mod schema;
 pub mod text_errors;
 
+pub use cedar_data::Diagnostic;
 pub use from_text::FromCedarSchema;
 pub use laws::{one_build_fault, one_fragment_meaning};
 pub use schema::ValidatorSchema;

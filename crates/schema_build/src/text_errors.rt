@@ -3,7 +3,7 @@ ghost use Rattle.schema_convert_errors.specs.ErrorPlaces.{text_failure_labels};
 ghost use Rattle.schema_build.specs.TextErrorTexts.{with_json_help, schema_parse_error_text, schema_parse_error_help};
 ghost use Rattle.schema_build.specs.TextErrorTexts.{text_error_text, text_error_help, text_error_labels};
 
-use cedar_data::{Label, Severity, Text, message};
+use cedar_data::{CloneIn, Diagnostic, Label, Severity, Text, message};
 use schema_build_errors::SchemaError;
 use schema_convert_errors::CedarSchemaParseErrors;
 use std::alloc::{AllocError, Global};
@@ -31,11 +31,16 @@ impl CedarSchemaParseError {
     {
         &self.errs
     }
+}
 
-    /// What the error says.
-    pub fn text(&self, alloc: Global) -> Result<Text, AllocError>
-        ensures text { IfOk result (λ text. text ≡ schema_parse_error_text self.now) }
-    {
+impl Diagnostic for CedarSchemaParseError {
+    ghost text = { schema_parse_error_text };
+
+    ghost help = { schema_parse_error_help };
+
+    ghost labels = { λ e. text_failure_labels e.errs };
+
+    fn text(&self, alloc: Global) -> Result<Text, AllocError> {
         let inner = self.errs.text(alloc)?;
         let mut text = message(alloc, "error parsing schema: ")?;
         text.push_text(&inner)?;
@@ -43,9 +48,7 @@ impl CedarSchemaParseError {
     }
 
     /// Advice, where it has any. The source is the text that was read.
-    pub fn help(&self, alloc: Global, source: &str) -> Result<Option<Text>, AllocError>
-        ensures help { IfOk result (λ help. help ≡ schema_parse_error_help self.now source.now) }
-    {
+    fn help(&self, alloc: Global, source: &str) -> Result<Option<Text>, AllocError> {
         let help = self.errs.help(alloc, source)?;
         if self.suspect_json {
             with_json_help(alloc, help)
@@ -54,18 +57,21 @@ impl CedarSchemaParseError {
         }
     }
 
-    /// The places that it points to, in order.
-    pub fn labels(&self, alloc: Global) -> Result<Vec<Label>, AllocError>
-        ensures labels { IfOk result (λ labels. labels.items ≡ text_failure_labels self.now.errs) }
-    {
+    fn labels(&self, alloc: Global) -> Result<Vec<Label>, AllocError> {
         self.errs.labels(alloc)
     }
 
-    /// Its severity: an error.
-    pub fn severity(&self) -> Severity
-        ensures error { result ≡ Severity.Error }
-    {
+    fn severity(&self) -> Severity {
         Severity::Error
+    }
+}
+
+impl CloneIn for CedarSchemaParseError {
+    fn clone_in(&self, alloc: Global) -> Result<Self, AllocError> {
+        Ok(CedarSchemaParseError {
+            errs: self.errs.clone_in(alloc)?,
+            suspect_json: self.suspect_json,
+        })
     }
 }
 
@@ -100,11 +106,14 @@ pub enum CedarSchemaError {
     Memory,
 }
 
-impl CedarSchemaError {
-    /// What the error says.
-    pub fn text(&self, alloc: Global) -> Result<Text, AllocError>
-        ensures text { IfOk result (λ text. text ≡ text_error_text self.now) }
-    {
+impl Diagnostic for CedarSchemaError {
+    ghost text = { text_error_text };
+
+    ghost help = { text_error_help };
+
+    ghost labels = { text_error_labels };
+
+    fn text(&self, alloc: Global) -> Result<Text, AllocError> {
         match self {
             CedarSchemaError::Schema(error) => error.text(alloc),
             CedarSchemaError::Parsing(error) => error.text(alloc),
@@ -113,9 +122,7 @@ impl CedarSchemaError {
     }
 
     /// Advice, where it has any. The source is the text that was read.
-    pub fn help(&self, alloc: Global, source: &str) -> Result<Option<Text>, AllocError>
-        ensures help { IfOk result (λ help. help ≡ text_error_help self.now source.now) }
-    {
+    fn help(&self, alloc: Global, source: &str) -> Result<Option<Text>, AllocError> {
         match self {
             CedarSchemaError::Schema(error) => error.help(alloc, source),
             CedarSchemaError::Parsing(error) => error.help(alloc, source),
@@ -123,10 +130,7 @@ impl CedarSchemaError {
         }
     }
 
-    /// The places that it points to, in order.
-    pub fn labels(&self, alloc: Global) -> Result<Vec<Label>, AllocError>
-        ensures labels { IfOk result (λ labels. labels.items ≡ text_error_labels self.now) }
-    {
+    fn labels(&self, alloc: Global) -> Result<Vec<Label>, AllocError> {
         match self {
             CedarSchemaError::Schema(error) => error.labels(alloc),
             CedarSchemaError::Parsing(error) => error.labels(alloc),
@@ -134,10 +138,19 @@ impl CedarSchemaError {
         }
     }
 
-    /// Its severity: an error.
-    pub fn severity(&self) -> Severity
-        ensures error { result ≡ Severity.Error }
-    {
+    fn severity(&self) -> Severity {
         Severity::Error
+    }
+}
+
+impl CloneIn for CedarSchemaError {
+    fn clone_in(&self, alloc: Global) -> Result<Self, AllocError> {
+        match self {
+            CedarSchemaError::Schema(error) => Ok(CedarSchemaError::Schema(error.clone_in(alloc)?)),
+            CedarSchemaError::Parsing(error) => {
+                Ok(CedarSchemaError::Parsing(error.clone_in(alloc)?))
+            }
+            CedarSchemaError::Memory => Ok(CedarSchemaError::Memory),
+        }
     }
 }

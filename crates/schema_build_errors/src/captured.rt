@@ -1,9 +1,9 @@
-ghost use Rattle.std.specs.Prelude.{◌≡◌, [], Ok, None, IfOk};
+ghost use Rattle.std.specs.Prelude.{◌≡◌, IfOk};
 ghost use Rattle.std.specs.Str.{chars};
 ghost use Rattle.schema_syntax_tokens.specs.Quotes.{quoted};
 ghost use Rattle.schema_build_errors.specs.CapturedTexts.{user_text, captured_text, captured_message};
 
-use cedar_data::{CloneIn, Label, Severity, Text, around, push_both};
+use cedar_data::{CloneIn, Diagnostic, Label, Severity, Text, around, push_both};
 use cedar_identifiers::{Name, NameText, UnreservedId};
 use schema_syntax_tokens::push_quoted;
 use std::alloc::{AllocError, Global};
@@ -46,8 +46,8 @@ impl CloneIn for CapturedItem {
     }
 }
 
-/// A schema that cannot be printed: something in a named namespace that has actions speaks of the type `Action` of the
-/// empty namespace, which would be read there as the type of the namespace's own actions.
+/// A schema that cannot be printed: something in a named namespace that has actions speaks of the type `Action` of
+/// the empty namespace, which would be read there as the type of the namespace's own actions.
 pub struct ReferenceCaptured {
     /// The namespace.
     pub namespace: Name,
@@ -64,34 +64,24 @@ impl Drop for ReferenceCaptured {
     }
 }
 
-impl ReferenceCaptured {
-    /// What the error says.
-    pub fn text(&self, alloc: Global) -> Result<Text, AllocError>
-        ensures text { IfOk result (λ text. text ≡ captured_text self.now) }
-    {
+impl Diagnostic for ReferenceCaptured {
+    ghost text = { captured_text };
+
+    fn text(&self, alloc: Global) -> Result<Text, AllocError> {
         let namespace = self.namespace.text(alloc)?;
         let user = self.item.user(alloc)?;
         captured_message(alloc, &namespace, &user)
     }
 
-    /// It has no advice.
-    pub fn help(&self, _alloc: Global, _source: &str) -> Result<Option<Text>, AllocError>
-        ensures none { result ≡ Ok None }
-    {
+    fn help(&self, _alloc: Global, _source: &str) -> Result<Option<Text>, AllocError> {
         Ok(None)
     }
 
-    /// It points to no place.
-    pub fn labels(&self, alloc: Global) -> Result<Vec<Label>, AllocError>
-        ensures none { IfOk result (λ labels. labels.items ≡ []) }
-    {
+    fn labels(&self, alloc: Global) -> Result<Vec<Label>, AllocError> {
         Ok(Vec::new(alloc))
     }
 
-    /// Its severity: an error.
-    pub fn severity(&self) -> Severity
-        ensures error { result ≡ Severity.Error }
-    {
+    fn severity(&self) -> Severity {
         Severity::Error
     }
 }

@@ -1,10 +1,9 @@
-ghost use Rattle.std.specs.Prelude.{◌≡◌, Ok, None, IfOk};
 ghost use Rattle.schema_resolve_errors.specs.ErrorTexts.{label_at};
 ghost use Rattle.schema_resolve_errors.specs.Gathered.{if_there};
 ghost use Rattle.schema_build_errors.specs.CycleTexts.{common_cycle_text, action_cycle_text};
 
 use crate::places::place_labels;
-use cedar_data::{CloneIn, Label, Severity, Text, around};
+use cedar_data::{CloneIn, Diagnostic, Label, Severity, Text, around};
 use cedar_identifiers::{InternalName, NameText};
 use cedar_names::EntityUID;
 use std::alloc::{AllocError, Global};
@@ -21,11 +20,12 @@ impl Drop for CycleInCommonTypeReferencesError {
     }
 }
 
-impl CycleInCommonTypeReferencesError {
-    /// What the error says.
-    pub fn text(&self, alloc: Global) -> Result<Text, AllocError>
-        ensures text { IfOk result (λ text. text ≡ common_cycle_text self.now) }
-    {
+impl Diagnostic for CycleInCommonTypeReferencesError {
+    ghost text = { common_cycle_text };
+
+    ghost labels = { λ e. if_there label_at e.ty.loc };
+
+    fn text(&self, alloc: Global) -> Result<Text, AllocError> {
         let name = self.ty.text(alloc)?;
         around(
             alloc,
@@ -35,24 +35,16 @@ impl CycleInCommonTypeReferencesError {
         )
     }
 
-    /// It has no advice.
-    pub fn help(&self, _alloc: Global, _source: &str) -> Result<Option<Text>, AllocError>
-        ensures none { result ≡ Ok None }
-    {
+    fn help(&self, _alloc: Global, _source: &str) -> Result<Option<Text>, AllocError> {
         Ok(None)
     }
 
     /// The place of the declaration.
-    pub fn labels(&self, alloc: Global) -> Result<Vec<Label>, AllocError>
-        ensures labels { IfOk result (λ labels. labels.items ≡ if_there label_at self.now.ty.loc) }
-    {
+    fn labels(&self, alloc: Global) -> Result<Vec<Label>, AllocError> {
         place_labels(alloc, self.ty.loc)
     }
 
-    /// Its severity: an error.
-    pub fn severity(&self) -> Severity
-        ensures error { result ≡ Severity.Error }
-    {
+    fn severity(&self) -> Severity {
         Severity::Error
     }
 }
@@ -77,11 +69,12 @@ impl Drop for CycleInActionHierarchyError {
     }
 }
 
-impl CycleInActionHierarchyError {
-    /// What the error says.
-    pub fn text(&self, alloc: Global) -> Result<Text, AllocError>
-        ensures text { IfOk result (λ text. text ≡ action_cycle_text self.now) }
-    {
+impl Diagnostic for CycleInActionHierarchyError {
+    ghost text = { action_cycle_text };
+
+    ghost labels = { λ e. if_there label_at e.uid.loc };
+
+    fn text(&self, alloc: Global) -> Result<Text, AllocError> {
         let action = self.uid.text(alloc)?;
         around(
             alloc,
@@ -91,24 +84,16 @@ impl CycleInActionHierarchyError {
         )
     }
 
-    /// It has no advice.
-    pub fn help(&self, _alloc: Global, _source: &str) -> Result<Option<Text>, AllocError>
-        ensures none { result ≡ Ok None }
-    {
+    fn help(&self, _alloc: Global, _source: &str) -> Result<Option<Text>, AllocError> {
         Ok(None)
     }
 
     /// The place of the declaration.
-    pub fn labels(&self, alloc: Global) -> Result<Vec<Label>, AllocError>
-        ensures labels { IfOk result (λ labels. labels.items ≡ if_there label_at self.now.uid.loc) }
-    {
+    fn labels(&self, alloc: Global) -> Result<Vec<Label>, AllocError> {
         place_labels(alloc, self.uid.loc)
     }
 
-    /// Its severity: an error.
-    pub fn severity(&self) -> Severity
-        ensures error { result ≡ Severity.Error }
-    {
+    fn severity(&self) -> Severity {
         Severity::Error
     }
 }

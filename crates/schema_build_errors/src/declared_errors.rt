@@ -1,4 +1,4 @@
-ghost use Rattle.std.specs.Prelude.{◌≡◌, Ok, None, IfOk, IsSomeAnd};
+ghost use Rattle.std.specs.Prelude.{◌≡◌, IfOk, Some};
 ghost use Rattle.schema_resolve_errors.specs.ErrorTexts.{label_at};
 ghost use Rattle.schema_resolve_errors.specs.Gathered.{if_there};
 ghost use Rattle.schema_build_errors.specs.DeclaredTexts.{action_type_declared_text, type_shadowing_text};
@@ -6,7 +6,7 @@ ghost use Rattle.schema_build_errors.specs.DeclaredTexts.{type_shadowing_help, a
 ghost use Rattle.schema_build_errors.specs.DeclaredTexts.{action_shadowing_help, hidden_text};
 
 use crate::places::place_labels;
-use cedar_data::{CloneIn, Label, Loc, Severity, Text, around, message, push_both};
+use cedar_data::{CloneIn, Diagnostic, Label, Loc, Severity, Text, around, message, push_both};
 use cedar_identifiers::{InternalName, NameText};
 use cedar_names::EntityUID;
 use std::alloc::{AllocError, Global};
@@ -23,32 +23,25 @@ impl Drop for ActionEntityTypeDeclaredError {
     }
 }
 
-impl ActionEntityTypeDeclaredError {
-    /// What the error says.
-    pub fn text(&self, alloc: Global) -> Result<Text, AllocError>
-        ensures text { IfOk result (λ text. text ≡ action_type_declared_text self.now) }
-    {
+impl Diagnostic for ActionEntityTypeDeclaredError {
+    ghost text = { action_type_declared_text };
+
+    ghost labels = { λ e. if_there label_at e.loc };
+
+    fn text(&self, alloc: Global) -> Result<Text, AllocError> {
         message(alloc, "entity type `Action` declared in `entityTypes` list")
     }
 
-    /// It has no advice.
-    pub fn help(&self, _alloc: Global, _source: &str) -> Result<Option<Text>, AllocError>
-        ensures none { result ≡ Ok None }
-    {
+    fn help(&self, _alloc: Global, _source: &str) -> Result<Option<Text>, AllocError> {
         Ok(None)
     }
 
     /// The place of the declaration.
-    pub fn labels(&self, alloc: Global) -> Result<Vec<Label>, AllocError>
-        ensures labels { IfOk result (λ labels. labels.items ≡ if_there label_at self.now.loc) }
-    {
+    fn labels(&self, alloc: Global) -> Result<Vec<Label>, AllocError> {
         place_labels(alloc, self.loc)
     }
 
-    /// Its severity: an error.
-    pub fn severity(&self) -> Severity
-        ensures error { result ≡ Severity.Error }
-    {
+    fn severity(&self) -> Severity {
         Severity::Error
     }
 }
@@ -76,36 +69,31 @@ impl Drop for TypeShadowingError {
     }
 }
 
-impl TypeShadowingError {
-    /// What the error says.
-    pub fn text(&self, alloc: Global) -> Result<Text, AllocError>
-        ensures text { IfOk result (λ text. text ≡ type_shadowing_text self.now) }
-    {
+impl Diagnostic for TypeShadowingError {
+    ghost text = { type_shadowing_text };
+
+    ghost help = { λ e _. Some (type_shadowing_help e) };
+
+    ghost labels = { λ e. if_there label_at e.shadowing_def.loc };
+
+    fn text(&self, alloc: Global) -> Result<Text, AllocError> {
         let shadowing = self.shadowing_def.text(alloc)?;
         let shadowed = self.shadowed_def.text(alloc)?;
         shadowing_text(alloc, &shadowing, &shadowed)
     }
 
-    /// Its advice; it always has some.
-    pub fn help(&self, alloc: Global, _source: &str) -> Result<Option<Text>, AllocError>
-        ensures help { IfOk result (λ help. IsSomeAnd help (λ text. text ≡ type_shadowing_help self.now)) }
-    {
+    fn help(&self, alloc: Global, _source: &str) -> Result<Option<Text>, AllocError> {
         let shadowed = self.shadowed_def.text(alloc)?;
         let before = "try renaming one of the definitions, or moving `";
         Ok(Some(around(alloc, before, &shadowed, "` to a different namespace")?))
     }
 
     /// The place of the declaration that hides the other.
-    pub fn labels(&self, alloc: Global) -> Result<Vec<Label>, AllocError>
-        ensures labels { IfOk result (λ labels. labels.items ≡ if_there label_at self.now.shadowing_def.loc) }
-    {
+    fn labels(&self, alloc: Global) -> Result<Vec<Label>, AllocError> {
         place_labels(alloc, self.shadowing_def.loc)
     }
 
-    /// Its severity: an error.
-    pub fn severity(&self) -> Severity
-        ensures error { result ≡ Severity.Error }
-    {
+    fn severity(&self) -> Severity {
         Severity::Error
     }
 }
@@ -136,36 +124,31 @@ impl Drop for ActionShadowingError {
     }
 }
 
-impl ActionShadowingError {
-    /// What the error says.
-    pub fn text(&self, alloc: Global) -> Result<Text, AllocError>
-        ensures text { IfOk result (λ text. text ≡ action_shadowing_text self.now) }
-    {
+impl Diagnostic for ActionShadowingError {
+    ghost text = { action_shadowing_text };
+
+    ghost help = { λ e _. Some (action_shadowing_help e) };
+
+    ghost labels = { λ e. if_there label_at e.shadowing_def.loc };
+
+    fn text(&self, alloc: Global) -> Result<Text, AllocError> {
         let shadowing = self.shadowing_def.text(alloc)?;
         let shadowed = self.shadowed_def.text(alloc)?;
         shadowing_text(alloc, &shadowing, &shadowed)
     }
 
-    /// Its advice; it always has some.
-    pub fn help(&self, alloc: Global, _source: &str) -> Result<Option<Text>, AllocError>
-        ensures help { IfOk result (λ help. IsSomeAnd help (λ text. text ≡ action_shadowing_help self.now)) }
-    {
+    fn help(&self, alloc: Global, _source: &str) -> Result<Option<Text>, AllocError> {
         let shadowed = self.shadowed_def.text(alloc)?;
         let before = "try renaming one of the actions, or moving `";
         Ok(Some(around(alloc, before, &shadowed, "` to a different namespace")?))
     }
 
     /// The place of the declaration that hides the other.
-    pub fn labels(&self, alloc: Global) -> Result<Vec<Label>, AllocError>
-        ensures labels { IfOk result (λ labels. labels.items ≡ if_there label_at self.now.shadowing_def.loc) }
-    {
+    fn labels(&self, alloc: Global) -> Result<Vec<Label>, AllocError> {
         place_labels(alloc, self.shadowing_def.loc)
     }
 
-    /// Its severity: an error.
-    pub fn severity(&self) -> Severity
-        ensures error { result ≡ Severity.Error }
-    {
+    fn severity(&self) -> Severity {
         Severity::Error
     }
 }

@@ -1,4 +1,4 @@
-ghost use Rattle.std.specs.Prelude.{◌≡◌, [], Ok, None, IfOk, IsSomeAnd};
+ghost use Rattle.std.specs.Prelude.{◌≡◌, IfOk, Some};
 ghost use Rattle.schema_resolve_errors.specs.ErrorTexts.{label_at};
 ghost use Rattle.schema_resolve_errors.specs.Gathered.{if_there};
 ghost use Rattle.schema_build_errors.specs.HierarchyTexts.{enum_ancestor_text, enum_ancestor_help, action_type_text};
@@ -6,7 +6,7 @@ ghost use Rattle.schema_build_errors.specs.HierarchyTexts.{enum_parent_text, enu
 ghost use Rattle.schema_build_errors.specs.HierarchyTexts.{action_message};
 
 use crate::places::place_labels;
-use cedar_data::{CloneIn, Label, Severity, Text, around, message, push_both};
+use cedar_data::{CloneIn, Diagnostic, Label, Severity, Text, around, message, push_both};
 use cedar_identifiers::{Name, NameText};
 use cedar_names::EntityUID;
 use std::alloc::{AllocError, Global};
@@ -28,20 +28,20 @@ impl Drop for ExternalWithEnumAncestorError {
     }
 }
 
-impl ExternalWithEnumAncestorError {
-    /// What the error says.
-    pub fn text(&self, alloc: Global) -> Result<Text, AllocError>
-        ensures text { IfOk result (λ text. text ≡ enum_ancestor_text self.now) }
-    {
+impl Diagnostic for ExternalWithEnumAncestorError {
+    ghost text = { enum_ancestor_text };
+
+    ghost help = { λ _ _. Some enum_ancestor_help };
+
+    ghost labels = { λ e. if_there label_at e.external_type.name.loc };
+
+    fn text(&self, alloc: Global) -> Result<Text, AllocError> {
         let external = self.external_type.text(alloc)?;
         let ancestor = self.enum_type.text(alloc)?;
         ancestor_message(alloc, &external, &ancestor)
     }
 
-    /// Its advice; it always has some.
-    pub fn help(&self, alloc: Global, _source: &str) -> Result<Option<Text>, AllocError>
-        ensures help { IfOk result (λ help. IsSomeAnd help (λ text. text ≡ enum_ancestor_help)) }
-    {
+    fn help(&self, alloc: Global, _source: &str) -> Result<Option<Text>, AllocError> {
         let advice = message(
             alloc,
             "external entity types cannot have any enum entity type as an ancestor",
@@ -50,16 +50,11 @@ impl ExternalWithEnumAncestorError {
     }
 
     /// The place of the declaration of the external type.
-    pub fn labels(&self, alloc: Global) -> Result<Vec<Label>, AllocError>
-        ensures labels { IfOk result (λ labels. labels.items ≡ if_there label_at self.now.external_type.name.loc) }
-    {
+    fn labels(&self, alloc: Global) -> Result<Vec<Label>, AllocError> {
         place_labels(alloc, self.external_type.name.loc)
     }
 
-    /// Its severity: an error.
-    pub fn severity(&self) -> Severity
-        ensures error { result ≡ Severity.Error }
-    {
+    fn severity(&self) -> Severity {
         Severity::Error
     }
 }
@@ -85,33 +80,23 @@ impl Drop for InvalidActionTypeError {
     }
 }
 
-impl InvalidActionTypeError {
-    /// What the error says.
-    pub fn text(&self, alloc: Global) -> Result<Text, AllocError>
-        ensures text { IfOk result (λ text. text ≡ action_type_text self.now) }
-    {
+impl Diagnostic for InvalidActionTypeError {
+    ghost text = { action_type_text };
+
+    fn text(&self, alloc: Global) -> Result<Text, AllocError> {
         let action = self.uid.text(alloc)?;
         action_message(alloc, &action)
     }
 
-    /// It has no advice.
-    pub fn help(&self, _alloc: Global, _source: &str) -> Result<Option<Text>, AllocError>
-        ensures none { result ≡ Ok None }
-    {
+    fn help(&self, _alloc: Global, _source: &str) -> Result<Option<Text>, AllocError> {
         Ok(None)
     }
 
-    /// It points to no place.
-    pub fn labels(&self, alloc: Global) -> Result<Vec<Label>, AllocError>
-        ensures none { IfOk result (λ labels. labels.items ≡ []) }
-    {
+    fn labels(&self, alloc: Global) -> Result<Vec<Label>, AllocError> {
         Ok(Vec::new(alloc))
     }
 
-    /// Its severity: an error.
-    pub fn severity(&self) -> Severity
-        ensures error { result ≡ Severity.Error }
-    {
+    fn severity(&self) -> Severity {
         Severity::Error
     }
 }
@@ -141,11 +126,12 @@ impl Drop for EnumEntityInHierarchyError {
     }
 }
 
-impl EnumEntityInHierarchyError {
-    /// What the error says.
-    pub fn text(&self, alloc: Global) -> Result<Text, AllocError>
-        ensures text { IfOk result (λ text. text ≡ enum_parent_text self.now) }
-    {
+impl Diagnostic for EnumEntityInHierarchyError {
+    ghost text = { enum_parent_text };
+
+    ghost help = { λ _ _. Some enum_parent_help };
+
+    fn text(&self, alloc: Global) -> Result<Text, AllocError> {
         let child = self.enum_type.text(alloc)?;
         let parent = self.parent_type.text(alloc)?;
         let between = "` cannot be a descendant of `";
@@ -154,10 +140,7 @@ impl EnumEntityInHierarchyError {
         Ok(text)
     }
 
-    /// Its advice; it always has some.
-    pub fn help(&self, alloc: Global, _source: &str) -> Result<Option<Text>, AllocError>
-        ensures help { IfOk result (λ help. IsSomeAnd help (λ text. text ≡ enum_parent_help)) }
-    {
+    fn help(&self, alloc: Global, _source: &str) -> Result<Option<Text>, AllocError> {
         let advice = message(
             alloc,
             "enum entity types cannot have parents in the entity hierarchy",
@@ -165,17 +148,11 @@ impl EnumEntityInHierarchyError {
         Ok(Some(advice))
     }
 
-    /// It points to no place.
-    pub fn labels(&self, alloc: Global) -> Result<Vec<Label>, AllocError>
-        ensures none { IfOk result (λ labels. labels.items ≡ []) }
-    {
+    fn labels(&self, alloc: Global) -> Result<Vec<Label>, AllocError> {
         Ok(Vec::new(alloc))
     }
 
-    /// Its severity: an error.
-    pub fn severity(&self) -> Severity
-        ensures error { result ≡ Severity.Error }
-    {
+    fn severity(&self) -> Severity {
         Severity::Error
     }
 }

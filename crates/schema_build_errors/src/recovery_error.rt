@@ -1,8 +1,8 @@
-ghost use Rattle.std.specs.Prelude.{◌≡◌, [], Ok, None, IfOk};
+ghost use Rattle.std.specs.Prelude.{◌≡◌};
 ghost use Rattle.schema_build_errors.specs.RecoveryTexts.{recovery_text, to_text_error_text};
 
 use crate::captured::ReferenceCaptured;
-use cedar_data::{CloneIn, Label, Severity, Text, message};
+use cedar_data::{CloneIn, Diagnostic, Label, Severity, Text, message};
 use std::alloc::{AllocError, AllocFailed, Global};
 
 /// Why no fragment stands for a schema: the first type of the walk that is none of a fragment; or out of memory.
@@ -18,11 +18,10 @@ pub enum RecoveryError {
     Memory,
 }
 
-impl RecoveryError {
-    /// What the error says.
-    pub fn text(&self, alloc: Global) -> Result<Text, AllocError>
-        ensures text { IfOk result (λ text. text ≡ recovery_text self.now) }
-    {
+impl Diagnostic for RecoveryError {
+    ghost text = { recovery_text };
+
+    fn text(&self, alloc: Global) -> Result<Text, AllocError> {
         let said = match self {
             RecoveryError::UnknownElement => "Set with unknown element type not supported",
             RecoveryError::JoinedEntities => "Entity LUB with multiple types not supported",
@@ -32,24 +31,15 @@ impl RecoveryError {
         message(alloc, said)
     }
 
-    /// It has no advice.
-    pub fn help(&self, _alloc: Global, _source: &str) -> Result<Option<Text>, AllocError>
-        ensures none { result ≡ Ok None }
-    {
+    fn help(&self, _alloc: Global, _source: &str) -> Result<Option<Text>, AllocError> {
         Ok(None)
     }
 
-    /// It points to no place.
-    pub fn labels(&self, alloc: Global) -> Result<Vec<Label>, AllocError>
-        ensures none { IfOk result (λ labels. labels.items ≡ []) }
-    {
+    fn labels(&self, alloc: Global) -> Result<Vec<Label>, AllocError> {
         Ok(Vec::new(alloc))
     }
 
-    /// Its severity: an error.
-    pub fn severity(&self) -> Severity
-        ensures error { result ≡ Severity.Error }
-    {
+    fn severity(&self) -> Severity {
         Severity::Error
     }
 }
@@ -65,11 +55,10 @@ pub enum ToTextError {
     Memory,
 }
 
-impl ToTextError {
-    /// What the error says.
-    pub fn text(&self, alloc: Global) -> Result<Text, AllocError>
-        ensures text { IfOk result (λ text. text ≡ to_text_error_text self.now) }
-    {
+impl Diagnostic for ToTextError {
+    ghost text = { to_text_error_text };
+
+    fn text(&self, alloc: Global) -> Result<Text, AllocError> {
         match self {
             ToTextError::Recovery(error) => error.text(alloc),
             ToTextError::Captured(error) => error.text(alloc),
@@ -77,24 +66,15 @@ impl ToTextError {
         }
     }
 
-    /// It has no advice.
-    pub fn help(&self, _alloc: Global, _source: &str) -> Result<Option<Text>, AllocError>
-        ensures none { result ≡ Ok None }
-    {
+    fn help(&self, _alloc: Global, _source: &str) -> Result<Option<Text>, AllocError> {
         Ok(None)
     }
 
-    /// It points to no place.
-    pub fn labels(&self, alloc: Global) -> Result<Vec<Label>, AllocError>
-        ensures none { IfOk result (λ labels. labels.items ≡ []) }
-    {
+    fn labels(&self, alloc: Global) -> Result<Vec<Label>, AllocError> {
         Ok(Vec::new(alloc))
     }
 
-    /// Its severity: an error.
-    pub fn severity(&self) -> Severity
-        ensures error { result ≡ Severity.Error }
-    {
+    fn severity(&self) -> Severity {
         Severity::Error
     }
 }

@@ -1,4 +1,4 @@
-ghost use Rattle.std.specs.Prelude.{◌≡◌, IfOk};
+ghost use Rattle.std.specs.Prelude.{◌≡◌};
 ghost use Rattle.schema_build_errors.specs.SchemaErrorTexts.{schema_error_text, schema_error_help, schema_error_labels};
 
 use crate::cycle_errors::{CycleInActionHierarchyError, CycleInCommonTypeReferencesError};
@@ -12,7 +12,7 @@ use crate::shape_errors::ContextOrShapeNotRecordError;
 use crate::use_errors::{
     UndeclaredEntityTypesError, UnknownExtensionTypeError, UnsupportedFeatureError,
 };
-use cedar_data::{CloneIn, Label, Severity, Text, message};
+use cedar_data::{CloneIn, Diagnostic, Label, Severity, Text, message};
 use schema_json_errors::JsonDeserializationError;
 use schema_resolve_errors::{ActionNotDefinedError, TypeNotDefinedError};
 use std::alloc::{AllocError, AllocFailed, Global};
@@ -55,11 +55,14 @@ pub enum SchemaError {
     Memory,
 }
 
-impl SchemaError {
-    /// What the error says.
-    pub fn text(&self, alloc: Global) -> Result<Text, AllocError>
-        ensures text { IfOk result (λ text. text ≡ schema_error_text self.now) }
-    {
+impl Diagnostic for SchemaError {
+    ghost text = { schema_error_text };
+
+    ghost help = { λ e _. schema_error_help e };
+
+    ghost labels = { schema_error_labels };
+
+    fn text(&self, alloc: Global) -> Result<Text, AllocError> {
         match self {
             SchemaError::JsonDeserialization(error) => error.text(alloc),
             SchemaError::ActionEntityTypeDeclared(error) => error.text(alloc),
@@ -80,10 +83,7 @@ impl SchemaError {
         }
     }
 
-    /// Its advice, if it has any.
-    pub fn help(&self, alloc: Global, source: &str) -> Result<Option<Text>, AllocError>
-        ensures help { IfOk result (λ help. help ≡ schema_error_help self.now) }
-    {
+    fn help(&self, alloc: Global, source: &str) -> Result<Option<Text>, AllocError> {
         match self {
             SchemaError::JsonDeserialization(error) => error.help(alloc, source),
             SchemaError::ActionEntityTypeDeclared(error) => error.help(alloc, source),
@@ -104,10 +104,7 @@ impl SchemaError {
         }
     }
 
-    /// The places that it points to, in order.
-    pub fn labels(&self, alloc: Global) -> Result<Vec<Label>, AllocError>
-        ensures labels { IfOk result (λ labels. labels.items ≡ schema_error_labels self.now) }
-    {
+    fn labels(&self, alloc: Global) -> Result<Vec<Label>, AllocError> {
         match self {
             SchemaError::JsonDeserialization(error) => error.labels(alloc),
             SchemaError::ActionEntityTypeDeclared(error) => error.labels(alloc),
@@ -128,10 +125,7 @@ impl SchemaError {
         }
     }
 
-    /// Its severity: an error.
-    pub fn severity(&self) -> Severity
-        ensures error { result ≡ Severity.Error }
-    {
+    fn severity(&self) -> Severity {
         Severity::Error
     }
 }

@@ -1,11 +1,11 @@
-ghost use Rattle.std.specs.Prelude.{◌≡◌, Ok, IfOk, IsSomeAnd};
+ghost use Rattle.std.specs.Prelude.{◌≡◌, IfOk, Some};
 ghost use Rattle.schema_resolve_errors.specs.ErrorTexts.{label_at};
 ghost use Rattle.schema_resolve_errors.specs.Gathered.{if_there};
 ghost use Rattle.schema_build_errors.specs.ShapeTexts.{shape_subject, no_record_text, no_record_help, subject_place};
 ghost use Rattle.schema_build_errors.specs.ShapeTexts.{type_message};
 
 use crate::places::place_labels;
-use cedar_data::{CloneIn, Label, Loc, Severity, Text, around, message};
+use cedar_data::{CloneIn, Diagnostic, Label, Loc, Severity, Text, around, message};
 use cedar_identifiers::{Name, NameText};
 use cedar_names::EntityUID;
 use std::alloc::{AllocError, Global};
@@ -86,19 +86,19 @@ impl Drop for ContextOrShapeNotRecordError {
     }
 }
 
-impl ContextOrShapeNotRecordError {
-    /// What the error says.
-    pub fn text(&self, alloc: Global) -> Result<Text, AllocError>
-        ensures text { IfOk result (λ text. text ≡ no_record_text self.now) }
-    {
+impl Diagnostic for ContextOrShapeNotRecordError {
+    ghost text = { no_record_text };
+
+    ghost help = { λ e _. Some (no_record_help e.ctx_or_shape) };
+
+    ghost labels = { λ e. if_there label_at (subject_place e.ctx_or_shape) };
+
+    fn text(&self, alloc: Global) -> Result<Text, AllocError> {
         let subject = self.ctx_or_shape.subject(alloc)?;
         type_message(alloc, &subject)
     }
 
-    /// Its advice; it always has some.
-    pub fn help(&self, alloc: Global, _source: &str) -> Result<Option<Text>, AllocError>
-        ensures help { IfOk result (λ help. IsSomeAnd help (λ text. text ≡ no_record_help self.now.ctx_or_shape)) }
-    {
+    fn help(&self, alloc: Global, _source: &str) -> Result<Option<Text>, AllocError> {
         let advice = match self.ctx_or_shape {
             ContextOrShape::ActionContext(_) => "action contexts must have type `Record`",
             ContextOrShape::EntityTypeShape(_) => "entity type shapes must have type `Record`",
@@ -107,17 +107,11 @@ impl ContextOrShapeNotRecordError {
     }
 
     /// The place of the declaration.
-    pub fn labels(&self, alloc: Global) -> Result<Vec<Label>, AllocError>
-        ensures labels { IfOk result (λ labels. labels.items
-            ≡ if_there label_at (subject_place self.now.ctx_or_shape)) }
-    {
+    fn labels(&self, alloc: Global) -> Result<Vec<Label>, AllocError> {
         place_labels(alloc, self.ctx_or_shape.loc().copied())
     }
 
-    /// Its severity: an error.
-    pub fn severity(&self) -> Severity
-        ensures error { result ≡ Severity.Error }
-    {
+    fn severity(&self) -> Severity {
         Severity::Error
     }
 }

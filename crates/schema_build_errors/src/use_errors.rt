@@ -1,10 +1,11 @@
-ghost use Rattle.std.specs.Prelude.{◌≡◌, [], Ok, None, IfOk, IsSomeAnd};
+ghost use Rattle.std.specs.Prelude.{Some};
 ghost use Rattle.schema_build_errors.specs.UseTexts.{unknown_extension_text, unsupported_text, undeclared_types_text};
 ghost use Rattle.schema_build_errors.specs.UseTexts.{undeclared_types_help, undeclared_labels};
 
 use crate::places::add_place;
 use cedar_data::{
-    CloneIn, Label, List, NonEmpty, Severity, Text, and_list, around, by_number, message,
+    CloneIn, Diagnostic, Label, List, NonEmpty, Severity, Text, and_list, around, by_number,
+    message,
 };
 use cedar_identifiers::{Name, NameText};
 use schema_resolve_errors::name_texts::name_texts;
@@ -22,33 +23,23 @@ impl Drop for UnknownExtensionTypeError {
     }
 }
 
-impl UnknownExtensionTypeError {
-    /// What the error says.
-    pub fn text(&self, alloc: Global) -> Result<Text, AllocError>
-        ensures text { IfOk result (λ text. text ≡ unknown_extension_text self.now) }
-    {
+impl Diagnostic for UnknownExtensionTypeError {
+    ghost text = { unknown_extension_text };
+
+    fn text(&self, alloc: Global) -> Result<Text, AllocError> {
         let name = self.actual.text(alloc)?;
         around(alloc, "unknown extension type `", &name, "`")
     }
 
-    /// It has no advice.
-    pub fn help(&self, _alloc: Global, _source: &str) -> Result<Option<Text>, AllocError>
-        ensures none { result ≡ Ok None }
-    {
+    fn help(&self, _alloc: Global, _source: &str) -> Result<Option<Text>, AllocError> {
         Ok(None)
     }
 
-    /// It points to no place.
-    pub fn labels(&self, alloc: Global) -> Result<Vec<Label>, AllocError>
-        ensures none { IfOk result (λ labels. labels.items ≡ []) }
-    {
+    fn labels(&self, alloc: Global) -> Result<Vec<Label>, AllocError> {
         Ok(Vec::new(alloc))
     }
 
-    /// Its severity: an error.
-    pub fn severity(&self) -> Severity
-        ensures error { result ≡ Severity.Error }
-    {
+    fn severity(&self) -> Severity {
         Severity::Error
     }
 }
@@ -104,32 +95,22 @@ impl Drop for UnsupportedFeatureError {
     }
 }
 
-impl UnsupportedFeatureError {
-    /// What the error says.
-    pub fn text(&self, alloc: Global) -> Result<Text, AllocError>
-        ensures text { IfOk result (λ text. text ≡ unsupported_text self.now) }
-    {
+impl Diagnostic for UnsupportedFeatureError {
+    ghost text = { unsupported_text };
+
+    fn text(&self, alloc: Global) -> Result<Text, AllocError> {
         message(alloc, "unsupported feature used in schema")
     }
 
-    /// It has no advice.
-    pub fn help(&self, _alloc: Global, _source: &str) -> Result<Option<Text>, AllocError>
-        ensures none { result ≡ Ok None }
-    {
+    fn help(&self, _alloc: Global, _source: &str) -> Result<Option<Text>, AllocError> {
         Ok(None)
     }
 
-    /// It points to no place.
-    pub fn labels(&self, alloc: Global) -> Result<Vec<Label>, AllocError>
-        ensures none { IfOk result (λ labels. labels.items ≡ []) }
-    {
+    fn labels(&self, alloc: Global) -> Result<Vec<Label>, AllocError> {
         Ok(Vec::new(alloc))
     }
 
-    /// Its severity: an error.
-    pub fn severity(&self) -> Severity
-        ensures error { result ≡ Severity.Error }
-    {
+    fn severity(&self) -> Severity {
         Severity::Error
     }
 }
@@ -152,11 +133,14 @@ impl Drop for UndeclaredEntityTypesError {
     }
 }
 
-impl UndeclaredEntityTypesError {
-    /// What the error says.
-    pub fn text(&self, alloc: Global) -> Result<Text, AllocError>
-        ensures text { IfOk result (λ text. text ≡ undeclared_types_text self.now) }
-    {
+impl Diagnostic for UndeclaredEntityTypesError {
+    ghost text = { undeclared_types_text };
+
+    ghost help = { λ _ _. Some undeclared_types_help };
+
+    ghost labels = { λ e. undeclared_labels e.types };
+
+    fn text(&self, alloc: Global) -> Result<Text, AllocError> {
         let names = name_texts(alloc, &self.types)?;
         let one = "undeclared entity type: ";
         let several = "undeclared entity types: ";
@@ -165,10 +149,7 @@ impl UndeclaredEntityTypesError {
         Ok(text)
     }
 
-    /// Its advice; it always has some.
-    pub fn help(&self, alloc: Global, _source: &str) -> Result<Option<Text>, AllocError>
-        ensures help { IfOk result (λ help. IsSomeAnd help (λ text. text ≡ undeclared_types_help)) }
-    {
+    fn help(&self, alloc: Global, _source: &str) -> Result<Option<Text>, AllocError> {
         let advice = message(
             alloc,
             "any entity types appearing anywhere in a schema need to be declared in `entityTypes`",
@@ -177,9 +158,7 @@ impl UndeclaredEntityTypesError {
     }
 
     /// The places of the first uses, in order. A name without a place gives none.
-    pub fn labels(&self, alloc: Global) -> Result<Vec<Label>, AllocError>
-        ensures labels { IfOk result (λ labels. labels.items ≡ undeclared_labels self.now.types) }
-    {
+    fn labels(&self, alloc: Global) -> Result<Vec<Label>, AllocError> {
         let mut labels = Vec::new(alloc);
         for name in self.types.iter() {
             add_place(&mut labels, name.name.loc)?;
@@ -187,10 +166,7 @@ impl UndeclaredEntityTypesError {
         Ok(labels)
     }
 
-    /// Its severity: an error.
-    pub fn severity(&self) -> Severity
-        ensures error { result ≡ Severity.Error }
-    {
+    fn severity(&self) -> Severity {
         Severity::Error
     }
 }

@@ -4,6 +4,7 @@
 pub mod convert;
 pub mod laws;
 
+pub use cedar_data::Diagnostic;
 pub use convert::{cedar_schema_to_json_schema, parse_cedar_schema_fragment};
 pub use laws::{
     first_openings_have_values, lawful_trees, names_are_own, plain_trees, repeats_are_first,

@@ -1,13 +1,12 @@
-ghost use Rattle.std.specs.Prelude.{◌≡◌, [], ◌∷◌, IfOk};
+ghost use Rattle.std.specs.Prelude.{◌≡◌, [], ◌∷◌};
 ghost use Rattle.cedar_data.specs.NonEmpty.{items_left, items_to_come};
 ghost use Rattle.schema_convert_errors.specs.ErrorTexts.{first_fault_text, failure_text, text_failure_text};
 ghost use Rattle.schema_convert_errors.specs.ErrorPlaces.{first_fault_help, failure_help, text_failure_help};
 ghost use Rattle.schema_convert_errors.specs.ErrorPlaces.{first_fault_labels, failure_labels, text_failure_labels};
 
 use crate::errors::ToJsonSchemaError;
-use crate::parse_help::parse_error_help;
 use cedar_data::{
-    CloneIn, Label, NonEmpty, NonEmptyIntoIter, NonEmptyIter, Severity, Text, message,
+    CloneIn, Diagnostic, Label, NonEmpty, NonEmptyIntoIter, NonEmptyIter, Severity, Text, message,
 };
 use schema_syntax_errors::ParseErrors;
 use std::alloc::{AllocError, Global};
@@ -56,32 +55,31 @@ impl ToJsonSchemaErrors {
         let ToJsonSchemaErrors { errors } = self;
         errors.into_iter()
     }
+}
+
+impl Diagnostic for ToJsonSchemaErrors {
+    ghost text = { λ e. first_fault_text e.errors };
+
+    ghost help = { λ e _. first_fault_help e.errors };
+
+    ghost labels = { λ e. first_fault_labels e.errors };
 
     /// What the first fault says.
-    pub fn text(&self, alloc: Global) -> Result<Text, AllocError>
-        ensures text { IfOk result (λ text. text ≡ first_fault_text self.now.errors) }
-    {
+    fn text(&self, alloc: Global) -> Result<Text, AllocError> {
         self.errors.first().text(alloc)
     }
 
     /// The advice of the first fault.
-    pub fn help(&self, alloc: Global, source: &str) -> Result<Option<Text>, AllocError>
-        ensures help { IfOk result (λ help. help ≡ first_fault_help self.now.errors) }
-    {
+    fn help(&self, alloc: Global, source: &str) -> Result<Option<Text>, AllocError> {
         self.errors.first().help(alloc, source)
     }
 
     /// The places that the first fault points to, in order.
-    pub fn labels(&self, alloc: Global) -> Result<Vec<Label>, AllocError>
-        ensures labels { IfOk result (λ labels. labels.items ≡ first_fault_labels self.now.errors) }
-    {
+    fn labels(&self, alloc: Global) -> Result<Vec<Label>, AllocError> {
         self.errors.first().labels(alloc)
     }
 
-    /// The severity of the first fault.
-    pub fn severity(&self) -> Severity
-        ensures error { result ≡ Severity.Error }
-    {
+    fn severity(&self) -> Severity {
         Severity::Error
     }
 }
@@ -103,41 +101,35 @@ pub enum ToJsonSchemaFailure {
     Memory,
 }
 
-impl ToJsonSchemaFailure {
-    /// What it says.
-    pub fn text(&self, alloc: Global) -> Result<Text, AllocError>
-        ensures text { IfOk result (λ text. text ≡ failure_text self.now) }
-    {
+impl Diagnostic for ToJsonSchemaFailure {
+    ghost text = { failure_text };
+
+    ghost help = { λ e _. failure_help e };
+
+    ghost labels = { failure_labels };
+
+    fn text(&self, alloc: Global) -> Result<Text, AllocError> {
         match self {
             ToJsonSchemaFailure::Errors(errors) => errors.text(alloc),
             ToJsonSchemaFailure::Memory => message(alloc, "out of memory"),
         }
     }
 
-    /// Its advice, if it has any.
-    pub fn help(&self, alloc: Global, source: &str) -> Result<Option<Text>, AllocError>
-        ensures help { IfOk result (λ help. help ≡ failure_help self.now) }
-    {
+    fn help(&self, alloc: Global, source: &str) -> Result<Option<Text>, AllocError> {
         match self {
             ToJsonSchemaFailure::Errors(errors) => errors.help(alloc, source),
             ToJsonSchemaFailure::Memory => Ok(None),
         }
     }
 
-    /// The places that it points to, in order.
-    pub fn labels(&self, alloc: Global) -> Result<Vec<Label>, AllocError>
-        ensures labels { IfOk result (λ labels. labels.items ≡ failure_labels self.now) }
-    {
+    fn labels(&self, alloc: Global) -> Result<Vec<Label>, AllocError> {
         match self {
             ToJsonSchemaFailure::Errors(errors) => errors.labels(alloc),
             ToJsonSchemaFailure::Memory => Ok(Vec::new(alloc)),
         }
     }
 
-    /// Its severity: an error.
-    pub fn severity(&self) -> Severity
-        ensures error { result ≡ Severity.Error }
-    {
+    fn severity(&self) -> Severity {
         Severity::Error
     }
 }
@@ -164,11 +156,14 @@ pub enum CedarSchemaParseErrors {
     Memory,
 }
 
-impl CedarSchemaParseErrors {
-    /// What it says.
-    pub fn text(&self, alloc: Global) -> Result<Text, AllocError>
-        ensures text { IfOk result (λ text. text ≡ text_failure_text self.now) }
-    {
+impl Diagnostic for CedarSchemaParseErrors {
+    ghost text = { text_failure_text };
+
+    ghost help = { text_failure_help };
+
+    ghost labels = { text_failure_labels };
+
+    fn text(&self, alloc: Global) -> Result<Text, AllocError> {
         match self {
             CedarSchemaParseErrors::SyntaxError(errors) => errors.text(alloc),
             CedarSchemaParseErrors::JsonError(errors) => errors.text(alloc),
@@ -176,23 +171,15 @@ impl CedarSchemaParseErrors {
         }
     }
 
-    /// Its advice, if it has any.
-    pub fn help(&self, alloc: Global, source: &str) -> Result<Option<Text>, AllocError>
-        ensures help { IfOk result (λ help. help ≡ text_failure_help self.now source.now) }
-    {
+    fn help(&self, alloc: Global, source: &str) -> Result<Option<Text>, AllocError> {
         match self {
-            CedarSchemaParseErrors::SyntaxError(errors) => {
-                parse_error_help(alloc, source, errors.errors.first())
-            }
+            CedarSchemaParseErrors::SyntaxError(errors) => Diagnostic::help(errors, alloc, source),
             CedarSchemaParseErrors::JsonError(errors) => errors.help(alloc, source),
             CedarSchemaParseErrors::Memory => Ok(None),
         }
     }
 
-    /// The places that it points to, in order.
-    pub fn labels(&self, alloc: Global) -> Result<Vec<Label>, AllocError>
-        ensures labels { IfOk result (λ labels. labels.items ≡ text_failure_labels self.now) }
-    {
+    fn labels(&self, alloc: Global) -> Result<Vec<Label>, AllocError> {
         match self {
             CedarSchemaParseErrors::SyntaxError(errors) => errors.labels(alloc),
             CedarSchemaParseErrors::JsonError(errors) => errors.labels(alloc),
@@ -200,10 +187,7 @@ impl CedarSchemaParseErrors {
         }
     }
 
-    /// Its severity: an error.
-    pub fn severity(&self) -> Severity
-        ensures error { result ≡ Severity.Error }
-    {
+    fn severity(&self) -> Severity {
         Severity::Error
     }
 }

@@ -1,5 +1,5 @@
 //! What the faults of translation say, advise and point to.
-ghost use Rattle.std.specs.Prelude.{◌≡◌, ◌++◌, [], Ok, Some, None, IfOk};
+ghost use Rattle.std.specs.Prelude.{◌≡◌, ◌++◌, Some, IfOk};
 ghost use Rattle.schema_syntax_errors.specs.FaultLabels.{unnamed_label};
 ghost use Rattle.schema_convert_errors.specs.declared.errors.MissingOrEmpty.TheVariants.{Empty};
 ghost use Rattle.schema_convert_errors.specs.ErrorTexts.{second_text, absent_text, empty_text, declared_twice_text};
@@ -18,7 +18,7 @@ use crate::errors::{
     UnknownTypeName,
 };
 use crate::labels::push_saying;
-use cedar_data::{Label, Loc, Severity, Text, around, message};
+use cedar_data::{Diagnostic, Label, Loc, Severity, Text, around, message};
 use schema_syntax_errors::labels::{bare_label, bare_labels};
 use schema_syntax_tree::PR;
 use std::alloc::{AllocError, Global};
@@ -42,42 +42,36 @@ const RESERVED_NAME_HELP: &str =
 const KEYWORD_HELP: &str =
     "Keywords such as `entity`, `extension`, `set` and `record` cannot be used as common type names";
 
-impl DuplicateDeclarations {
-    /// What the fault says.
-    pub fn text(&self, alloc: Global) -> Result<Text, AllocError>
-        ensures text { IfOk result (λ text. text ≡ declared_twice_text self.now) }
-    {
+impl Diagnostic for DuplicateDeclarations {
+    ghost text = { declared_twice_text };
+
+    ghost labels = { λ e. unnamed_label e.loc1 ++ unnamed_label e.loc2 };
+
+    fn text(&self, alloc: Global) -> Result<Text, AllocError> {
         around(alloc, "`", &self.decl, "` is declared twice")
     }
 
-    /// It has no advice.
-    pub fn help(&self, _alloc: Global, _source: &str) -> Result<Option<Text>, AllocError>
-        ensures none { result ≡ Ok None }
-    {
+    fn help(&self, _alloc: Global, _source: &str) -> Result<Option<Text>, AllocError> {
         Ok(None)
     }
 
-    /// The places that it points to.
-    pub fn labels(&self, alloc: Global) -> Result<Vec<Label>, AllocError>
-        ensures labels { IfOk result (λ labels. labels.items ≡ unnamed_label self.now.loc1
-            ++ unnamed_label self.now.loc2) }
-    {
+    fn labels(&self, alloc: Global) -> Result<Vec<Label>, AllocError> {
         bare_labels(alloc, self.loc1, self.loc2)
     }
 
-    /// Its severity: an error.
-    pub fn severity(&self) -> Severity
-        ensures error { result ≡ Severity.Error }
-    {
+    fn severity(&self) -> Severity {
         Severity::Error
     }
 }
 
-impl DuplicateContext {
-    /// What the fault says.
-    pub fn text(&self, alloc: Global) -> Result<Text, AllocError>
-        ensures text { IfOk result (λ text. text ≡ second_context_text self.now) }
-    {
+impl Diagnostic for DuplicateContext {
+    ghost text = { second_context_text };
+
+    ghost help = { λ _ _. Some second_context_help };
+
+    ghost labels = { λ e. unnamed_label e.loc1 ++ unnamed_label e.loc2 };
+
+    fn text(&self, alloc: Global) -> Result<Text, AllocError> {
         around(
             alloc,
             "duplicate context declaration in action `",
@@ -86,198 +80,157 @@ impl DuplicateContext {
         )
     }
 
-    /// How to mend it.
-    pub fn help(&self, alloc: Global, _source: &str) -> Result<Option<Text>, AllocError>
-        ensures help { IfOk result (λ help. help ≡ Some second_context_help) }
-    {
+    fn help(&self, alloc: Global, _source: &str) -> Result<Option<Text>, AllocError> {
         Ok(Some(message(alloc, SECOND_CONTEXT_HELP)?))
     }
 
-    /// The places that it points to.
-    pub fn labels(&self, alloc: Global) -> Result<Vec<Label>, AllocError>
-        ensures labels { IfOk result (λ labels. labels.items ≡ unnamed_label self.now.loc1
-            ++ unnamed_label self.now.loc2) }
-    {
+    fn labels(&self, alloc: Global) -> Result<Vec<Label>, AllocError> {
         bare_labels(alloc, self.loc1, self.loc2)
     }
 
-    /// Its severity: an error.
-    pub fn severity(&self) -> Severity
-        ensures error { result ≡ Severity.Error }
-    {
+    fn severity(&self) -> Severity {
         Severity::Error
     }
 }
 
-impl DuplicatePrincipalOrResource {
-    /// What the fault says.
-    pub fn text(&self, alloc: Global) -> Result<Text, AllocError>
-        ensures text { IfOk result (λ text. text ≡ second_targets_text self.now) }
-    {
+impl Diagnostic for DuplicatePrincipalOrResource {
+    ghost text = { second_targets_text };
+
+    ghost help = { λ e _. Some (second_targets_help e.kind) };
+
+    ghost labels = { λ e. unnamed_label e.loc1 ++ unnamed_label e.loc2 };
+
+    fn text(&self, alloc: Global) -> Result<Text, AllocError> {
         second_text(alloc, self.kind, &self.name)
     }
 
-    /// How to mend it.
-    pub fn help(&self, alloc: Global, _source: &str) -> Result<Option<Text>, AllocError>
-        ensures help { IfOk result (λ help. help ≡ Some (second_targets_help self.now.kind)) }
-    {
+    fn help(&self, alloc: Global, _source: &str) -> Result<Option<Text>, AllocError> {
         match self.kind {
             PR::Principal => Ok(Some(message(alloc, SECOND_PRINCIPAL_HELP)?)),
             PR::Resource => Ok(Some(message(alloc, SECOND_RESOURCE_HELP)?)),
         }
     }
 
-    /// The places that it points to.
-    pub fn labels(&self, alloc: Global) -> Result<Vec<Label>, AllocError>
-        ensures labels { IfOk result (λ labels. labels.items ≡ unnamed_label self.now.loc1
-            ++ unnamed_label self.now.loc2) }
-    {
+    fn labels(&self, alloc: Global) -> Result<Vec<Label>, AllocError> {
         bare_labels(alloc, self.loc1, self.loc2)
     }
 
-    /// Its severity: an error.
-    pub fn severity(&self) -> Severity
-        ensures error { result ≡ Severity.Error }
-    {
+    fn severity(&self) -> Severity {
         Severity::Error
     }
 }
 
-impl NoPrincipalOrResource {
-    /// What the fault says.
-    pub fn text(&self, alloc: Global) -> Result<Text, AllocError>
-        ensures text { IfOk result (λ text. text ≡ no_targets_text self.now) }
-    {
+impl Diagnostic for NoPrincipalOrResource {
+    ghost text = { no_targets_text };
+
+    ghost help = { λ _ _. Some no_targets_help };
+
+    ghost labels = { λ e. missing_labels e.missing_or_empty e.name_loc };
+
+    fn text(&self, alloc: Global) -> Result<Text, AllocError> {
         match self.missing_or_empty {
             MissingOrEmpty::Missing => absent_text(alloc, self.kind, &self.name),
             MissingOrEmpty::Empty { .. } => empty_text(alloc, self.kind, &self.name),
         }
     }
 
-    /// How to mend it.
-    pub fn help(&self, alloc: Global, _source: &str) -> Result<Option<Text>, AllocError>
-        ensures help { IfOk result (λ help. help ≡ Some no_targets_help) }
-    {
+    fn help(&self, alloc: Global, _source: &str) -> Result<Option<Text>, AllocError> {
         Ok(Some(message(alloc, NO_PR_HELP_MSG)?))
     }
 
-    /// The places that it points to.
-    pub fn labels(&self, alloc: Global) -> Result<Vec<Label>, AllocError>
-        ensures labels { IfOk result (λ labels. labels.items
-            ≡ missing_labels self.now.missing_or_empty self.now.name_loc) }
-    {
+    fn labels(&self, alloc: Global) -> Result<Vec<Label>, AllocError> {
         match self.missing_or_empty {
             MissingOrEmpty::Missing => bare_label(alloc, self.name_loc),
             MissingOrEmpty::Empty { loc } => empty_labels(alloc, self.name_loc, loc),
         }
     }
 
-    /// Its severity: an error.
-    pub fn severity(&self) -> Severity
-        ensures error { result ≡ Severity.Error }
-    {
+    fn severity(&self) -> Severity {
         Severity::Error
     }
 }
 
-impl DuplicateNamespace {
-    /// What the fault says.
-    pub fn text(&self, alloc: Global) -> Result<Text, AllocError>
-        ensures text { IfOk result (λ text. text ≡ namespace_twice_text self.now) }
-    {
+impl Diagnostic for DuplicateNamespace {
+    ghost text = { namespace_twice_text };
+
+    ghost labels = { λ e. unnamed_label e.loc1 ++ unnamed_label e.loc2 };
+
+    fn text(&self, alloc: Global) -> Result<Text, AllocError> {
         around(alloc, "duplicate namespace id: `", &self.namespace_id, "`")
     }
 
-    /// It has no advice.
-    pub fn help(&self, _alloc: Global, _source: &str) -> Result<Option<Text>, AllocError>
-        ensures none { result ≡ Ok None }
-    {
+    fn help(&self, _alloc: Global, _source: &str) -> Result<Option<Text>, AllocError> {
         Ok(None)
     }
 
-    /// The places that it points to.
-    pub fn labels(&self, alloc: Global) -> Result<Vec<Label>, AllocError>
-        ensures labels { IfOk result (λ labels. labels.items ≡ unnamed_label self.now.loc1
-            ++ unnamed_label self.now.loc2) }
-    {
+    fn labels(&self, alloc: Global) -> Result<Vec<Label>, AllocError> {
         bare_labels(alloc, self.loc1, self.loc2)
     }
 
-    /// Its severity: an error.
-    pub fn severity(&self) -> Severity
-        ensures error { result ≡ Severity.Error }
-    {
+    fn severity(&self) -> Severity {
         Severity::Error
     }
 }
 
-impl UnknownTypeName {
-    /// What the fault says.
-    pub fn text(&self, alloc: Global) -> Result<Text, AllocError>
-        ensures text { IfOk result (λ text. text ≡ unknown_name_text self.now) }
-    {
+impl Diagnostic for UnknownTypeName {
+    ghost text = { unknown_name_text };
+
+    ghost help = { λ e _. Some (unknown_name_help e.name) };
+
+    ghost labels = { λ e. unnamed_label e.loc };
+
+    fn text(&self, alloc: Global) -> Result<Text, AllocError> {
         around(alloc, "unknown type name: `", &self.name, "`")
     }
 
     /// What the name may be meant to be.
-    pub fn help(&self, alloc: Global, _source: &str) -> Result<Option<Text>, AllocError>
-        ensures help { IfOk result (λ help. help ≡ Some (unknown_name_help self.now.name)) }
-    {
+    fn help(&self, alloc: Global, _source: &str) -> Result<Option<Text>, AllocError> {
         let before = "Did you mean to define `";
         let after = "` as an entity type or common type?";
         Ok(Some(around(alloc, before, &self.name, after)?))
     }
 
-    /// The places that it points to.
-    pub fn labels(&self, alloc: Global) -> Result<Vec<Label>, AllocError>
-        ensures labels { IfOk result (λ labels. labels.items ≡ unnamed_label self.now.loc) }
-    {
+    fn labels(&self, alloc: Global) -> Result<Vec<Label>, AllocError> {
         bare_label(alloc, self.loc)
     }
 
-    /// Its severity: an error.
-    pub fn severity(&self) -> Severity
-        ensures error { result ≡ Severity.Error }
-    {
+    fn severity(&self) -> Severity {
         Severity::Error
     }
 }
 
-impl ReservedName {
-    /// What the fault says.
-    pub fn text(&self, alloc: Global) -> Result<Text, AllocError>
-        ensures text { IfOk result (λ text. text ≡ reserved_name_text self.now) }
-    {
+impl Diagnostic for ReservedName {
+    ghost text = { reserved_name_text };
+
+    ghost help = { λ _ _. Some reserved_name_help };
+
+    ghost labels = { λ e. unnamed_label e.loc };
+
+    fn text(&self, alloc: Global) -> Result<Text, AllocError> {
         message(alloc, "use of the reserved `__cedar` namespace")
     }
 
-    /// How to mend it.
-    pub fn help(&self, alloc: Global, _source: &str) -> Result<Option<Text>, AllocError>
-        ensures help { IfOk result (λ help. help ≡ Some reserved_name_help) }
-    {
+    fn help(&self, alloc: Global, _source: &str) -> Result<Option<Text>, AllocError> {
         Ok(Some(message(alloc, RESERVED_NAME_HELP)?))
     }
 
-    /// The places that it points to.
-    pub fn labels(&self, alloc: Global) -> Result<Vec<Label>, AllocError>
-        ensures labels { IfOk result (λ labels. labels.items ≡ unnamed_label self.now.loc) }
-    {
+    fn labels(&self, alloc: Global) -> Result<Vec<Label>, AllocError> {
         bare_label(alloc, self.loc)
     }
 
-    /// Its severity: an error.
-    pub fn severity(&self) -> Severity
-        ensures error { result ≡ Severity.Error }
-    {
+    fn severity(&self) -> Severity {
         Severity::Error
     }
 }
 
-impl ReservedSchemaKeyword {
-    /// What the fault says.
-    pub fn text(&self, alloc: Global) -> Result<Text, AllocError>
-        ensures text { IfOk result (λ text. text ≡ keyword_text self.now) }
-    {
+impl Diagnostic for ReservedSchemaKeyword {
+    ghost text = { keyword_text };
+
+    ghost help = { λ _ _. Some keyword_help };
+
+    ghost labels = { λ e. unnamed_label e.loc };
+
+    fn text(&self, alloc: Global) -> Result<Text, AllocError> {
         around(
             alloc,
             "this uses a reserved schema keyword: `",
@@ -286,24 +239,15 @@ impl ReservedSchemaKeyword {
         )
     }
 
-    /// How to mend it.
-    pub fn help(&self, alloc: Global, _source: &str) -> Result<Option<Text>, AllocError>
-        ensures help { IfOk result (λ help. help ≡ Some keyword_help) }
-    {
+    fn help(&self, alloc: Global, _source: &str) -> Result<Option<Text>, AllocError> {
         Ok(Some(message(alloc, KEYWORD_HELP)?))
     }
 
-    /// The places that it points to.
-    pub fn labels(&self, alloc: Global) -> Result<Vec<Label>, AllocError>
-        ensures labels { IfOk result (λ labels. labels.items ≡ unnamed_label self.now.loc) }
-    {
+    fn labels(&self, alloc: Global) -> Result<Vec<Label>, AllocError> {
         bare_label(alloc, self.loc)
     }
 
-    /// Its severity: an error.
-    pub fn severity(&self) -> Severity
-        ensures error { result ≡ Severity.Error }
-    {
+    fn severity(&self) -> Severity {
         Severity::Error
     }
 }
@@ -372,11 +316,14 @@ fn empty_labels(
     Ok(labels)
 }
 
-impl ToJsonSchemaError {
-    /// What the fault says.
-    pub fn text(&self, alloc: Global) -> Result<Text, AllocError>
-        ensures text { IfOk result (λ text. text ≡ translation_fault_text self.now) }
-    {
+impl Diagnostic for ToJsonSchemaError {
+    ghost text = { translation_fault_text };
+
+    ghost help = { λ e _. translation_fault_help e };
+
+    ghost labels = { translation_fault_labels };
+
+    fn text(&self, alloc: Global) -> Result<Text, AllocError> {
         match self {
             ToJsonSchemaError::DuplicateDeclarations(fault) => fault.text(alloc),
             ToJsonSchemaError::DuplicateContext(fault) => fault.text(alloc),
@@ -389,10 +336,7 @@ impl ToJsonSchemaError {
         }
     }
 
-    /// Its advice, if it has any.
-    pub fn help(&self, alloc: Global, source: &str) -> Result<Option<Text>, AllocError>
-        ensures help { IfOk result (λ help. help ≡ translation_fault_help self.now) }
-    {
+    fn help(&self, alloc: Global, source: &str) -> Result<Option<Text>, AllocError> {
         match self {
             ToJsonSchemaError::DuplicateDeclarations(fault) => fault.help(alloc, source),
             ToJsonSchemaError::DuplicateContext(fault) => fault.help(alloc, source),
@@ -405,10 +349,7 @@ impl ToJsonSchemaError {
         }
     }
 
-    /// The places that it points to, in order.
-    pub fn labels(&self, alloc: Global) -> Result<Vec<Label>, AllocError>
-        ensures labels { IfOk result (λ labels. labels.items ≡ translation_fault_labels self.now) }
-    {
+    fn labels(&self, alloc: Global) -> Result<Vec<Label>, AllocError> {
         match self {
             ToJsonSchemaError::DuplicateDeclarations(fault) => fault.labels(alloc),
             ToJsonSchemaError::DuplicateContext(fault) => fault.labels(alloc),
@@ -421,10 +362,7 @@ impl ToJsonSchemaError {
         }
     }
 
-    /// Its severity: an error.
-    pub fn severity(&self) -> Severity
-        ensures error { result ≡ Severity.Error }
-    {
+    fn severity(&self) -> Severity {
         Severity::Error
     }
 }

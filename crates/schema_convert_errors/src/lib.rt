@@ -6,7 +6,6 @@ mod error_texts;
 pub mod errors;
 mod labels;
 pub mod laws;
-pub mod parse_help;
 pub mod warnings;
 
 pub use error_list::{CedarSchemaParseErrors, ToJsonSchemaErrors, ToJsonSchemaFailure};
@@ -16,5 +15,4 @@ pub use errors::{
     MissingOrEmpty, NoPrincipalOrResource, ReservedName, ReservedSchemaKeyword, ToJsonSchemaError,
     UnknownTypeName,
 };
-pub use parse_help::parse_error_help;
 pub use warnings::{SchemaWarning, ShadowsBuiltinWarning, ShadowsEntityWarning};

@@ -1,8 +1,8 @@
-ghost use Rattle.std.specs.Prelude.{◌≡◌, Ok, None, IfOk};
+ghost use Rattle.cedar_data.specs.declared.severity.Severity.TheVariants.{Warning};
 ghost use Rattle.schema_convert_errors.specs.WarningTexts.{shadows_builtin_text, shadows_entity_text, warning_text};
 ghost use Rattle.schema_convert_errors.specs.WarningTexts.{builtin_labels, entity_labels, warning_labels};
 
-use cedar_data::{CloneIn, Label, Loc, Severity, Text, message, push_both};
+use cedar_data::{CloneIn, Diagnostic, Label, Loc, Severity, Text, message, push_both};
 use schema_syntax_errors::labels::{bare_label, bare_labels};
 use std::alloc::{AllocError, Global};
 
@@ -61,11 +61,14 @@ impl Drop for SchemaWarning {
     }
 }
 
-impl ShadowsBuiltinWarning {
-    /// What the warning says.
-    pub fn text(&self, alloc: Global) -> Result<Text, AllocError>
-        ensures { IfOk result (λ text. text ≡ shadows_builtin_text self.now) }
-    {
+impl Diagnostic for ShadowsBuiltinWarning {
+    ghost text = { shadows_builtin_text };
+
+    ghost labels = { builtin_labels };
+
+    ghost severity = { λ _. Warning };
+
+    fn text(&self, alloc: Global) -> Result<Text, AllocError> {
         let mut text = message(alloc, "The name `")?;
         let middle =
             "` shadows a builtin Cedar name. You'll have to refer to the builtin as `__cedar::";
@@ -74,92 +77,71 @@ impl ShadowsBuiltinWarning {
         Ok(text)
     }
 
-    /// It has no advice.
-    pub fn help(&self, _alloc: Global, _source: &str) -> Result<Option<Text>, AllocError>
-        ensures { result ≡ Ok None }
-    {
+    fn help(&self, _alloc: Global, _source: &str) -> Result<Option<Text>, AllocError> {
         Ok(None)
     }
 
-    /// The places that it points to.
-    pub fn labels(&self, alloc: Global) -> Result<Vec<Label>, AllocError>
-        ensures { IfOk result (λ labels. labels.items ≡ builtin_labels self.now) }
-    {
+    fn labels(&self, alloc: Global) -> Result<Vec<Label>, AllocError> {
         bare_label(alloc, self.loc)
     }
 
-    /// Its severity: a warning.
-    pub fn severity(&self) -> Severity
-        ensures { result ≡ Severity.Warning }
-    {
+    fn severity(&self) -> Severity {
         Severity::Warning
     }
 }
 
-impl ShadowsEntityWarning {
-    /// What the warning says.
-    pub fn text(&self, alloc: Global) -> Result<Text, AllocError>
-        ensures { IfOk result (λ text. text ≡ shadows_entity_text self.now) }
-    {
+impl Diagnostic for ShadowsEntityWarning {
+    ghost text = { shadows_entity_text };
+
+    ghost labels = { entity_labels };
+
+    ghost severity = { λ _. Warning };
+
+    fn text(&self, alloc: Global) -> Result<Text, AllocError> {
         let mut text = message(alloc, "The common type name ")?;
         push_both(&mut text, &self.name, " shadows an entity name")?;
         Ok(text)
     }
 
-    /// It has no advice.
-    pub fn help(&self, _alloc: Global, _source: &str) -> Result<Option<Text>, AllocError>
-        ensures { result ≡ Ok None }
-    {
+    fn help(&self, _alloc: Global, _source: &str) -> Result<Option<Text>, AllocError> {
         Ok(None)
     }
 
-    /// The places that it points to.
-    pub fn labels(&self, alloc: Global) -> Result<Vec<Label>, AllocError>
-        ensures { IfOk result (λ labels. labels.items ≡ entity_labels self.now) }
-    {
+    fn labels(&self, alloc: Global) -> Result<Vec<Label>, AllocError> {
         bare_labels(alloc, self.entity_loc, self.common_loc)
     }
 
-    /// Its severity: a warning.
-    pub fn severity(&self) -> Severity
-        ensures { result ≡ Severity.Warning }
-    {
+    fn severity(&self) -> Severity {
         Severity::Warning
     }
 }
 
-impl SchemaWarning {
-    /// What the warning says.
-    pub fn text(&self, alloc: Global) -> Result<Text, AllocError>
-        ensures { IfOk result (λ text. text ≡ warning_text self.now) }
-    {
+impl Diagnostic for SchemaWarning {
+    ghost text = { warning_text };
+
+    ghost labels = { warning_labels };
+
+    ghost severity = { λ _. Warning };
+
+    fn text(&self, alloc: Global) -> Result<Text, AllocError> {
         match self {
             SchemaWarning::ShadowsBuiltin(warning) => warning.text(alloc),
             SchemaWarning::ShadowsEntity(warning) => warning.text(alloc),
         }
     }
 
-    /// It has no advice.
-    pub fn help(&self, _alloc: Global, _source: &str) -> Result<Option<Text>, AllocError>
-        ensures { result ≡ Ok None }
-    {
+    fn help(&self, _alloc: Global, _source: &str) -> Result<Option<Text>, AllocError> {
         Ok(None)
     }
 
-    /// The places that it points to.
-    pub fn labels(&self, alloc: Global) -> Result<Vec<Label>, AllocError>
-        ensures { IfOk result (λ labels. labels.items ≡ warning_labels self.now) }
-    {
+    fn labels(&self, alloc: Global) -> Result<Vec<Label>, AllocError> {
         match self {
             SchemaWarning::ShadowsBuiltin(warning) => warning.labels(alloc),
             SchemaWarning::ShadowsEntity(warning) => warning.labels(alloc),
         }
     }
 
-    /// Its severity: a warning.
-    pub fn severity(&self) -> Severity
-        ensures { result ≡ Severity.Warning }
-    {
+    fn severity(&self) -> Severity {
         Severity::Warning
     }
 }

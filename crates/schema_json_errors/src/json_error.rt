@@ -1,8 +1,8 @@
-ghost use Rattle.std.specs.Prelude.{◌≡◌, [], IfOk};
+ghost use Rattle.std.specs.Prelude.{◌≡◌, IfOk};
 ghost use Rattle.schema_json_errors.specs.JsonTexts.{advice_text, json_fault_text, json_error_help};
 
 use crate::json_fault::JsonFault;
-use cedar_data::{CloneIn, Label, Severity, Text, message};
+use cedar_data::{CloneIn, Diagnostic, Label, Severity, Text, message};
 use std::alloc::{AllocError, Global};
 
 /// What may help where no fragment was read.
@@ -48,35 +48,28 @@ impl JsonAdvice {
     }
 }
 
-impl JsonDeserializationError {
+impl Diagnostic for JsonDeserializationError {
+    ghost text = { λ e. json_fault_text e.fault };
+
+    ghost help = { λ e _. json_error_help e };
+
     /// What the error says: what its fault says.
-    pub fn text(&self, alloc: Global) -> Result<Text, AllocError>
-        ensures text { IfOk result (λ text. text ≡ json_fault_text self.now.fault) }
-    {
+    fn text(&self, alloc: Global) -> Result<Text, AllocError> {
         self.fault.text(alloc)
     }
 
-    /// Its advice, if it has any.
-    pub fn help(&self, alloc: Global, _source: &str) -> Result<Option<Text>, AllocError>
-        ensures help { IfOk result (λ help. help ≡ json_error_help self.now) }
-    {
+    fn help(&self, alloc: Global, _source: &str) -> Result<Option<Text>, AllocError> {
         match self.advice {
             Some(advice) => Ok(Some(advice.text(alloc)?)),
             None => Ok(None),
         }
     }
 
-    /// It points to no place.
-    pub fn labels(&self, alloc: Global) -> Result<Vec<Label>, AllocError>
-        ensures none { IfOk result (λ labels. labels.items ≡ []) }
-    {
+    fn labels(&self, alloc: Global) -> Result<Vec<Label>, AllocError> {
         Ok(Vec::new(alloc))
     }
 
-    /// Its severity: an error.
-    pub fn severity(&self) -> Severity
-        ensures error { result ≡ Severity.Error }
-    {
+    fn severity(&self) -> Severity {
         Severity::Error
     }
 }

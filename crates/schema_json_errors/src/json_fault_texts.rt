@@ -1,22 +1,21 @@
 ghost use Rattle.std.specs.List.{list_all};
 ghost use Rattle.std.specs.Char.{is_ascii};
-ghost use Rattle.std.specs.Prelude.{◌≡◌, ◌++◌, true, [], codes, Ok, None, IfOk};
+ghost use Rattle.std.specs.Prelude.{◌≡◌, ◌++◌, true, codes, IfOk};
 ghost use Rattle.cedar_data.specs.Rows.{joined_by};
 ghost use Rattle.schema_json_errors.specs.JsonTexts.{is_of_action, external_lead, bad_name_text, json_fault_text};
 
 use crate::json_fault::JsonFault;
 use cedar_data::{
-    CloneIn, Label, NonEmpty, Severity, Text, around, comma_list, message, push_both,
+    CloneIn, Diagnostic, Label, NonEmpty, Severity, Text, around, comma_list, message, push_both,
 };
 use cedar_identifiers::NameFault;
 use schema_json::ReservedCommonTypeBasenameError;
 use std::alloc::{AllocError, Global};
 
-impl JsonFault {
-    /// What the fault says.
-    pub fn text(&self, alloc: Global) -> Result<Text, AllocError>
-        ensures text { IfOk result (λ text. text ≡ json_fault_text self.now) }
-    {
+impl Diagnostic for JsonFault {
+    ghost text = { json_fault_text };
+
+    fn text(&self, alloc: Global) -> Result<Text, AllocError> {
         match self {
             JsonFault::NotJson => message(alloc, "the text is not JSON"),
             JsonFault::RepeatedKey(_) => message(alloc, "invalid entry: found duplicate key"),
@@ -41,24 +40,15 @@ impl JsonFault {
         }
     }
 
-    /// It has no advice.
-    pub fn help(&self, _alloc: Global, _source: &str) -> Result<Option<Text>, AllocError>
-        ensures none { result ≡ Ok None }
-    {
+    fn help(&self, _alloc: Global, _source: &str) -> Result<Option<Text>, AllocError> {
         Ok(None)
     }
 
-    /// It points to no place.
-    pub fn labels(&self, alloc: Global) -> Result<Vec<Label>, AllocError>
-        ensures none { IfOk result (λ labels. labels.items ≡ []) }
-    {
+    fn labels(&self, alloc: Global) -> Result<Vec<Label>, AllocError> {
         Ok(Vec::new(alloc))
     }
 
-    /// Its severity: an error.
-    pub fn severity(&self) -> Severity
-        ensures error { result ≡ Severity.Error }
-    {
+    fn severity(&self) -> Severity {
         Severity::Error
     }
 }

@@ -14,6 +14,7 @@ mod printable_items;
 pub mod to_cedar_schema;
 mod unprintable;
 
+pub use cedar_data::Diagnostic;
 pub use cedar_text::CedarText;
 pub use fragments::print_fragment;
 pub use laws::fragments_are_laid_out;

@@ -19,6 +19,7 @@ mod scope;
 mod stop;
 mod target_names;
 
+pub use cedar_data::Diagnostic;
 pub use designate::Designate;
 pub use fully_qualify::FullyQualify;
 pub use qualify::Qualify;

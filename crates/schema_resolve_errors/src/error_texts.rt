@@ -1,4 +1,4 @@
-ghost use Rattle.std.specs.Prelude.{◌≡◌, ◌++◌, Ok, None, IfOk, IsSomeAnd, OnOk};
+ghost use Rattle.std.specs.Prelude.{◌≡◌, ◌++◌, IfOk, OnOk, Some};
 ghost use Rattle.schema_resolve_errors.specs.ErrorTexts.{type_texts, action_texts, unresolved_text, undeclared_text};
 ghost use Rattle.schema_resolve_errors.specs.ErrorTexts.{undeclared_actions_help, name_labels, type_labels};
 ghost use Rattle.schema_resolve_errors.specs.ErrorTexts.{action_labels, resolve_error_text, resolve_error_help};
@@ -6,16 +6,20 @@ ghost use Rattle.schema_resolve_errors.specs.ErrorTexts.{resolve_error_labels};
 
 use crate::name_texts::name_texts;
 use crate::resolve_error::{ActionNotDefinedError, ResolveError, TypeNotDefinedError};
-use cedar_data::{Label, NonEmpty, Severity, Text, and_list, by_number, comma_list, message};
+use cedar_data::{
+    Diagnostic, Label, NonEmpty, Severity, Text, and_list, by_number, comma_list, message,
+};
 use cedar_identifiers::{ConditionalName, InternalName};
 use schema_json::ActionEntityUID;
 use std::alloc::{AllocError, Global};
 
-impl TypeNotDefinedError {
+impl Diagnostic for TypeNotDefinedError {
+    ghost text = { λ e. unresolved_text (type_texts e.undefined_types) };
+
+    ghost labels = { λ e. type_labels e.undefined_types };
+
     /// What the error says, with the names as they were written.
-    pub fn text(&self, alloc: Global) -> Result<Text, AllocError>
-        ensures text { IfOk result (λ text. text ≡ unresolved_text (type_texts self.now.undefined_types)) }
-    {
+    fn text(&self, alloc: Global) -> Result<Text, AllocError> {
         let names = name_texts(alloc, &self.undefined_types)?;
         let one = "failed to resolve type: ";
         let several = "failed to resolve types: ";
@@ -24,17 +28,12 @@ impl TypeNotDefinedError {
         Ok(text)
     }
 
-    /// It has no advice.
-    pub fn help(&self, _alloc: Global, _source: &str) -> Result<Option<Text>, AllocError>
-        ensures none { result ≡ Ok None }
-    {
+    fn help(&self, _alloc: Global, _source: &str) -> Result<Option<Text>, AllocError> {
         Ok(None)
     }
 
     /// The places of the references, in order. One without a place gives none.
-    pub fn labels(&self, alloc: Global) -> Result<Vec<Label>, AllocError>
-        ensures labels { IfOk result (λ labels. labels.items ≡ type_labels self.now.undefined_types) }
-    {
+    fn labels(&self, alloc: Global) -> Result<Vec<Label>, AllocError> {
         let mut labels = Vec::new(alloc);
         for reference in self.undefined_types.iter() {
             add_label(&mut labels, &reference.raw.name)?;
@@ -42,19 +41,20 @@ impl TypeNotDefinedError {
         Ok(labels)
     }
 
-    /// Its severity: an error.
-    pub fn severity(&self) -> Severity
-        ensures error { result ≡ Severity.Error }
-    {
+    fn severity(&self) -> Severity {
         Severity::Error
     }
 }
 
-impl ActionNotDefinedError {
+impl Diagnostic for ActionNotDefinedError {
+    ghost text = { λ e. undeclared_text (action_texts e.0) };
+
+    ghost help = { λ _ _. Some undeclared_actions_help };
+
+    ghost labels = { λ e. action_labels e.0 };
+
     /// What the error says, with the type of each action as it was written, or `Action` where none was.
-    pub fn text(&self, alloc: Global) -> Result<Text, AllocError>
-        ensures text { IfOk result (λ text. text ≡ undeclared_text (action_texts self.now.0)) }
-    {
+    fn text(&self, alloc: Global) -> Result<Text, AllocError> {
         let actions = action_texts(alloc, &self.0)?;
         let one = "undeclared action: ";
         let several = "undeclared actions: ";
@@ -63,10 +63,7 @@ impl ActionNotDefinedError {
         Ok(text)
     }
 
-    /// Its advice; it always has some.
-    pub fn help(&self, alloc: Global, _source: &str) -> Result<Option<Text>, AllocError>
-        ensures help { IfOk result (λ help. IsSomeAnd help (λ text. text ≡ undeclared_actions_help)) }
-    {
+    fn help(&self, alloc: Global, _source: &str) -> Result<Option<Text>, AllocError> {
         let advice = message(
             alloc,
             "any actions appearing as parents need to be declared as actions",
@@ -75,9 +72,7 @@ impl ActionNotDefinedError {
     }
 
     /// The places of the types of the references, in order. One that was not written, or has no place, gives none.
-    pub fn labels(&self, alloc: Global) -> Result<Vec<Label>, AllocError>
-        ensures labels { IfOk result (λ labels. labels.items ≡ action_labels self.now.0) }
-    {
+    fn labels(&self, alloc: Global) -> Result<Vec<Label>, AllocError> {
         let mut labels = Vec::new(alloc);
         for reference in self.0.iter() {
             add_label(&mut labels, &reference.ty().raw.name)?;
@@ -85,19 +80,19 @@ impl ActionNotDefinedError {
         Ok(labels)
     }
 
-    /// Its severity: an error.
-    pub fn severity(&self) -> Severity
-        ensures error { result ≡ Severity.Error }
-    {
+    fn severity(&self) -> Severity {
         Severity::Error
     }
 }
 
-impl ResolveError {
-    /// What the error says.
-    pub fn text(&self, alloc: Global) -> Result<Text, AllocError>
-        ensures text { IfOk result (λ text. text ≡ resolve_error_text self.now) }
-    {
+impl Diagnostic for ResolveError {
+    ghost text = { resolve_error_text };
+
+    ghost help = { λ e _. resolve_error_help e };
+
+    ghost labels = { resolve_error_labels };
+
+    fn text(&self, alloc: Global) -> Result<Text, AllocError> {
         match self {
             ResolveError::TypeNotDefined(error) => error.text(alloc),
             ResolveError::ActionNotDefined(error) => error.text(alloc),
@@ -105,10 +100,7 @@ impl ResolveError {
         }
     }
 
-    /// Its advice, if it has any.
-    pub fn help(&self, alloc: Global, source: &str) -> Result<Option<Text>, AllocError>
-        ensures help { IfOk result (λ help. help ≡ resolve_error_help self.now) }
-    {
+    fn help(&self, alloc: Global, source: &str) -> Result<Option<Text>, AllocError> {
         match self {
             ResolveError::TypeNotDefined(error) => error.help(alloc, source),
             ResolveError::ActionNotDefined(error) => error.help(alloc, source),
@@ -116,10 +108,7 @@ impl ResolveError {
         }
     }
 
-    /// The places that it points to, in order.
-    pub fn labels(&self, alloc: Global) -> Result<Vec<Label>, AllocError>
-        ensures labels { IfOk result (λ labels. labels.items ≡ resolve_error_labels self.now) }
-    {
+    fn labels(&self, alloc: Global) -> Result<Vec<Label>, AllocError> {
         match self {
             ResolveError::TypeNotDefined(error) => error.labels(alloc),
             ResolveError::ActionNotDefined(error) => error.labels(alloc),
@@ -127,10 +116,7 @@ impl ResolveError {
         }
     }
 
-    /// Its severity: an error.
-    pub fn severity(&self) -> Severity
-        ensures error { result ≡ Severity.Error }
-    {
+    fn severity(&self) -> Severity {
         match self {
             ResolveError::TypeNotDefined(error) => error.severity(),
             ResolveError::ActionNotDefined(error) => error.severity(),

@@ -6,6 +6,7 @@ pub mod nesting;
 pub mod schema_parser;
 pub mod syntax_fault;
 
+pub use cedar_data::Diagnostic;
 pub use laws::{faulty_or_sentence, one_syntax_fault, tree_or_error};
 pub use nesting::{DEEPEST, is_too_deep};
 pub use schema_parser::{parse_schema, parse_tokens, refused, stopped};

@@ -1,5 +1,5 @@
 -- What is advised is ASCII: its characters are its bytes.
-use Rattle.std.proofs.Common.{◌≡◌, ℕ, Bool, true, false, List, [], ◌∷◌, Option, Some, None, refl, sym, subst, cond}
+use Rattle.std.proofs.Common.{◌≡◌, ℕ, Bool, true, false, List, Option, Some, None, refl, sym, subst, cond}
 use Rattle.std.specs.Option.{MatchOption}
 use Rattle.std.specs.Prelude.{⊤}
 use Rattle.std.specs.Str.{chars}
@@ -8,7 +8,7 @@ use Rattle.schema_syntax_errors.specs.declared.parse_error.ParseError.{ParseErro
 use Rattle.schema_syntax_errors.specs.declared.parse_error.ParseError.TheVariants.{InvalidToken, UnrecognizedEof}
 use Rattle.schema_syntax_errors.specs.declared.parse_error.ParseError.TheVariants.{UnrecognizedToken, ExtraToken, User}
 use Rattle.schema_syntax_errors.specs.FaultHelps.{missing_applies_to, trailing_namespace_semicolon, misses_applies_to}
-use Rattle.schema_syntax_errors.specs.FaultHelps.{ends_namespace, parse_error_help, first_error_help}
+use Rattle.schema_syntax_errors.specs.FaultHelps.{ends_namespace, parse_error_help}
 
 abbrev Plain : Option (List ℕ) → Type 0
 Plain help = MatchOption help ⊤ (λ text. chars text ≡ text)
@@ -30,8 +30,3 @@ plain_fault (User fault) source = tt
 pub advice_characters : (fault : ParseError) (source help : List ℕ) → Some help ≡ parse_error_help fault source
     → chars help ≡ help
 advice_characters fault source help e = subst Plain (sym e) (plain_fault fault source)
-
-pub help_characters : (faults : List ParseError) (source help : List ℕ) → Some help ≡ first_error_help faults source
-    → chars help ≡ help
-help_characters [] source help e = absurd (cc)
-help_characters (first ∷ others) source help e = advice_characters first source help e

@@ -1,9 +1,9 @@
-ghost use Rattle.std.specs.Prelude.{◌≡◌, Ok, None, IfOk};
+ghost use Rattle.std.specs.Prelude.{◌≡◌};
 ghost use Rattle.schema_syntax_errors.specs.FaultTexts.{annotation_error_text};
 ghost use Rattle.schema_syntax_errors.specs.FaultLabels.{annotation_error_labels};
 
 use crate::user_error::UserError;
-use cedar_data::{CloneIn, Label, Severity, Text, message};
+use cedar_data::{CloneIn, Diagnostic, Label, Severity, Text, message};
 use std::alloc::{AllocError, AllocFailed, Global};
 
 /// Why annotations were not put on an item: a key stands twice, or out of memory.
@@ -15,38 +15,30 @@ pub enum AnnotationError {
     Memory,
 }
 
-impl AnnotationError {
-    /// What it says.
-    pub fn text(&self, alloc: Global) -> Result<Text, AllocError>
-        ensures text { IfOk result (λ text. text ≡ annotation_error_text self.now) }
-    {
+impl Diagnostic for AnnotationError {
+    ghost text = { annotation_error_text };
+
+    ghost labels = { annotation_error_labels };
+
+    fn text(&self, alloc: Global) -> Result<Text, AllocError> {
         match self {
             AnnotationError::User(fault) => fault.text(alloc),
             AnnotationError::Memory => message(alloc, "out of memory"),
         }
     }
 
-    /// It has no advice.
-    pub fn help(&self, _alloc: Global, _source: &str) -> Result<Option<Text>, AllocError>
-        ensures none { result ≡ Ok None }
-    {
+    fn help(&self, _alloc: Global, _source: &str) -> Result<Option<Text>, AllocError> {
         Ok(None)
     }
 
-    /// The places that it points to.
-    pub fn labels(&self, alloc: Global) -> Result<Vec<Label>, AllocError>
-        ensures labels { IfOk result (λ labels. labels.items ≡ annotation_error_labels self.now) }
-    {
+    fn labels(&self, alloc: Global) -> Result<Vec<Label>, AllocError> {
         match self {
             AnnotationError::User(fault) => fault.labels(alloc),
             AnnotationError::Memory => Ok(Vec::new(alloc)),
         }
     }
 
-    /// Its severity: an error.
-    pub fn severity(&self) -> Severity
-        ensures error { result ≡ Severity.Error }
-    {
+    fn severity(&self) -> Severity {
         Severity::Error
     }
 }

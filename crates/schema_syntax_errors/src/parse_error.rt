@@ -7,7 +7,7 @@ ghost use Rattle.schema_syntax_errors.specs.FaultLabels.{parse_error_labels, pri
 use crate::help::help_on_token;
 use crate::labels::{bare_label, expected_label, place};
 use crate::user_error::UserError;
-use cedar_data::{CloneIn, Label, List, Loc, Severity, Text, around, message};
+use cedar_data::{CloneIn, Diagnostic, Label, List, Loc, Severity, Text, around, message};
 use schema_syntax_grammar::TokenKind;
 use std::alloc::{AllocError, Global};
 
@@ -80,21 +80,6 @@ impl ParseError {
         }
     }
 
-    /// What the fault says.
-    pub fn text(&self, alloc: Global) -> Result<Text, AllocError>
-        ensures text { IfOk result (λ text. text ≡ parse_error_text self.now) }
-    {
-        match self {
-            ParseError::InvalidToken { .. } => message(alloc, "invalid token"),
-            ParseError::UnrecognizedEof { .. } => message(alloc, "unexpected end of input"),
-            ParseError::UnrecognizedToken { token, .. } => {
-                around(alloc, "unexpected token `", token, "`")
-            }
-            ParseError::ExtraToken { token, .. } => around(alloc, "extra token `", token, "`"),
-            ParseError::User(fault) => fault.text(alloc),
-        }
-    }
-
     /// Advice on the source in which the fault is.
     pub fn help(&self, source: &str) -> Option<&'static str>
         ensures help { option_copied result ≡ parse_error_help self.now source.now }
@@ -109,11 +94,35 @@ impl ParseError {
             _ => None,
         }
     }
+}
 
-    /// The places that it points to.
-    pub fn labels(&self, alloc: Global) -> Result<Vec<Label>, AllocError>
-        ensures labels { IfOk result (λ labels. labels.items ≡ parse_error_labels self.now) }
-    {
+impl Diagnostic for ParseError {
+    ghost text = { parse_error_text };
+
+    ghost help = { parse_error_help };
+
+    ghost labels = { parse_error_labels };
+
+    fn text(&self, alloc: Global) -> Result<Text, AllocError> {
+        match self {
+            ParseError::InvalidToken { .. } => message(alloc, "invalid token"),
+            ParseError::UnrecognizedEof { .. } => message(alloc, "unexpected end of input"),
+            ParseError::UnrecognizedToken { token, .. } => {
+                around(alloc, "unexpected token `", token, "`")
+            }
+            ParseError::ExtraToken { token, .. } => around(alloc, "extra token `", token, "`"),
+            ParseError::User(fault) => fault.text(alloc),
+        }
+    }
+
+    fn help(&self, alloc: Global, source: &str) -> Result<Option<Text>, AllocError> {
+        match self.help(source) {
+            Some(help) => Ok(Some(Text::from_str(alloc, help)?)),
+            None => Ok(None),
+        }
+    }
+
+    fn labels(&self, alloc: Global) -> Result<Vec<Label>, AllocError> {
         match self {
             ParseError::InvalidToken { location } => {
                 bare_label(alloc, Some(place(*location, *location)))
@@ -134,10 +143,7 @@ impl ParseError {
         }
     }
 
-    /// Its severity: an error.
-    pub fn severity(&self) -> Severity
-        ensures error { result ≡ Severity.Error }
-    {
+    fn severity(&self) -> Severity {
         Severity::Error
     }
 }

@@ -1,4 +1,4 @@
-ghost use Rattle.std.specs.Prelude.{◌≡◌, ◌<◌, ◌∷◌, [], length, IfOk, IfSome, IfNone};
+ghost use Rattle.std.specs.Prelude.{◌≡◌, ◌<◌, ◌∷◌, [], length, IfSome, IfNone};
 ghost use Rattle.std.specs.Option.{option_copied};
 ghost use Rattle.cedar_data.specs.NonEmpty.{items_left, items_to_come};
 ghost use Rattle.schema_syntax_errors.specs.FaultTexts.{first_error_text};
@@ -6,7 +6,9 @@ ghost use Rattle.schema_syntax_errors.specs.FaultHelps.{first_error_help};
 ghost use Rattle.schema_syntax_errors.specs.FaultLabels.{first_error_labels, primary_span};
 
 use crate::parse_error::ParseError;
-use cedar_data::{CloneIn, Label, Loc, NonEmpty, NonEmptyIntoIter, NonEmptyIter, Severity, Text};
+use cedar_data::{
+    CloneIn, Diagnostic, Label, Loc, NonEmpty, NonEmptyIntoIter, NonEmptyIter, Severity, Text,
+};
 use std::alloc::{AllocError, Global};
 
 /// The faults of a text, at least one. They speak by the first.
@@ -63,31 +65,34 @@ impl ParseErrors {
         self.errors.first().primary_source_span()
     }
 
-    /// What the first fault says.
-    pub fn text(&self, alloc: Global) -> Result<Text, AllocError>
-        ensures text { IfOk result (λ text. text ≡ first_error_text self.now.errors) }
-    {
-        self.errors.first().text(alloc)
-    }
-
     /// Advice on the source in which the first fault is.
     pub fn help(&self, source: &str) -> Option<&'static str>
         ensures help { option_copied result ≡ first_error_help self.now.errors source.now }
     {
         self.errors.first().help(source)
     }
+}
 
-    /// The places that the first fault points to.
-    pub fn labels(&self, alloc: Global) -> Result<Vec<Label>, AllocError>
-        ensures labels { IfOk result (λ labels. labels.items ≡ first_error_labels self.now.errors) }
-    {
+impl Diagnostic for ParseErrors {
+    ghost text = { λ e. first_error_text e.errors };
+
+    ghost help = { λ e source. first_error_help e.errors source };
+
+    ghost labels = { λ e. first_error_labels e.errors };
+
+    fn text(&self, alloc: Global) -> Result<Text, AllocError> {
+        self.errors.first().text(alloc)
+    }
+
+    fn help(&self, alloc: Global, source: &str) -> Result<Option<Text>, AllocError> {
+        Diagnostic::help(self.errors.first(), alloc, source)
+    }
+
+    fn labels(&self, alloc: Global) -> Result<Vec<Label>, AllocError> {
         self.errors.first().labels(alloc)
     }
 
-    /// The severity of the first fault.
-    pub fn severity(&self) -> Severity
-        ensures error { result ≡ Severity.Error }
-    {
+    fn severity(&self) -> Severity {
         self.errors.first().severity()
     }
 }

@@ -1,10 +1,10 @@
-ghost use Rattle.std.specs.Prelude.{◌≡◌, IfOk};
+ghost use Rattle.std.specs.Prelude.{◌≡◌};
 ghost use Rattle.schema_syntax_errors.specs.FaultTexts.{parse_schema_error_text};
 ghost use Rattle.schema_syntax_errors.specs.FaultHelps.{parse_schema_error_help};
 ghost use Rattle.schema_syntax_errors.specs.FaultLabels.{parse_schema_error_labels};
 
 use crate::parse_errors::ParseErrors;
-use cedar_data::{CloneIn, Label, Severity, Text, message};
+use cedar_data::{CloneIn, Diagnostic, Label, Severity, Text, message};
 use std::alloc::{AllocError, AllocFailed, Global};
 
 /// Why a text was not read as a schema: its faults, or out of memory.
@@ -16,11 +16,14 @@ pub enum ParseSchemaError {
     Memory,
 }
 
-impl ParseSchemaError {
-    /// What it says.
-    pub fn text(&self, alloc: Global) -> Result<Text, AllocError>
-        ensures text { IfOk result (λ text. text ≡ parse_schema_error_text self.now) }
-    {
+impl Diagnostic for ParseSchemaError {
+    ghost text = { parse_schema_error_text };
+
+    ghost help = { parse_schema_error_help };
+
+    ghost labels = { parse_schema_error_labels };
+
+    fn text(&self, alloc: Global) -> Result<Text, AllocError> {
         match self {
             ParseSchemaError::Errors(errors) => errors.text(alloc),
             ParseSchemaError::Memory => message(alloc, "out of memory"),
@@ -28,32 +31,21 @@ impl ParseSchemaError {
     }
 
     /// Advice on the source in which it came.
-    pub fn help(&self, alloc: Global, source: &str) -> Result<Option<Text>, AllocError>
-        ensures help { IfOk result (λ help. help ≡ parse_schema_error_help self.now source.now) }
-    {
+    fn help(&self, alloc: Global, source: &str) -> Result<Option<Text>, AllocError> {
         match self {
-            ParseSchemaError::Errors(errors) => match errors.help(source) {
-                None => Ok(None),
-                Some(help) => Ok(Some(Text::from_str(alloc, help)?)),
-            },
+            ParseSchemaError::Errors(errors) => Diagnostic::help(errors, alloc, source),
             ParseSchemaError::Memory => Ok(None),
         }
     }
 
-    /// The places that it points to.
-    pub fn labels(&self, alloc: Global) -> Result<Vec<Label>, AllocError>
-        ensures labels { IfOk result (λ labels. labels.items ≡ parse_schema_error_labels self.now) }
-    {
+    fn labels(&self, alloc: Global) -> Result<Vec<Label>, AllocError> {
         match self {
             ParseSchemaError::Errors(errors) => errors.labels(alloc),
             ParseSchemaError::Memory => Ok(Vec::new(alloc)),
         }
     }
 
-    /// Its severity: an error.
-    pub fn severity(&self) -> Severity
-        ensures error { result ≡ Severity.Error }
-    {
+    fn severity(&self) -> Severity {
         Severity::Error
     }
 }

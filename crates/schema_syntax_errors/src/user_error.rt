@@ -1,11 +1,13 @@
-ghost use Rattle.std.specs.Prelude.{◌≡◌, Ok, None, IfOk};
+ghost use Rattle.std.specs.Prelude.{◌≡◌};
 ghost use Rattle.schema_syntax_errors.specs.FaultTexts.{user_error_text};
 ghost use Rattle.schema_syntax_errors.specs.FaultLabels.{user_error_labels, primary_span};
 ghost use Rattle.schema_syntax_errors.specs.SameFaults.{user_errors_agree, user_errors_per, user_errors_equiv};
 
 use crate::labels::{bare_label, bare_labels};
 use crate::unescape_error::UnescapeError;
-use cedar_data::{CloneIn, Label, Loc, Node, NonEmpty, Severity, Text, around, message};
+use cedar_data::{
+    CloneIn, Diagnostic, Label, Loc, Node, NonEmpty, Severity, Text, around, message,
+};
 use cedar_identifiers::AnyId;
 use std::alloc::{AllocError, Global};
 
@@ -33,10 +35,25 @@ impl Drop for UserError {
 }
 
 impl UserError {
-    /// What the fault says.
-    pub fn text(&self, alloc: Global) -> Result<Text, AllocError>
-        ensures text { IfOk result (λ text. text ≡ user_error_text self.now) }
+    /// The place of the first label.
+    pub(crate) fn primary_source_span(&self) -> Option<Loc>
+        ensures first_label { result ≡ primary_span (user_error_labels self.now) }
     {
+        match self {
+            UserError::EmptyList(place) => place.loc,
+            UserError::StringEscape(faults) => faults.loc,
+            UserError::ReservedIdentifierUsed(word) => word.loc,
+            UserError::DuplicateAnnotations(_, first, second) => first.loc.or(second.loc),
+        }
+    }
+}
+
+impl Diagnostic for UserError {
+    ghost text = { user_error_text };
+
+    ghost labels = { user_error_labels };
+
+    fn text(&self, alloc: Global) -> Result<Text, AllocError> {
         match self {
             UserError::EmptyList(_) => message(alloc, "An empty list was passed"),
             UserError::StringEscape(_) => message(alloc, "Invalid escape codes"),
@@ -49,29 +66,11 @@ impl UserError {
         }
     }
 
-    /// It has no advice.
-    pub fn help(&self, _alloc: Global, _source: &str) -> Result<Option<Text>, AllocError>
-        ensures none { result ≡ Ok None }
-    {
+    fn help(&self, _alloc: Global, _source: &str) -> Result<Option<Text>, AllocError> {
         Ok(None)
     }
 
-    /// The place of the first label.
-    pub(crate) fn primary_source_span(&self) -> Option<Loc>
-        ensures first_label { result ≡ primary_span (user_error_labels self.now) }
-    {
-        match self {
-            UserError::EmptyList(place) => place.loc,
-            UserError::StringEscape(faults) => faults.loc,
-            UserError::ReservedIdentifierUsed(word) => word.loc,
-            UserError::DuplicateAnnotations(_, first, second) => first.loc.or(second.loc),
-        }
-    }
-
-    /// The places that it points to.
-    pub fn labels(&self, alloc: Global) -> Result<Vec<Label>, AllocError>
-        ensures labels { IfOk result (λ labels. labels.items ≡ user_error_labels self.now) }
-    {
+    fn labels(&self, alloc: Global) -> Result<Vec<Label>, AllocError> {
         match self {
             UserError::EmptyList(place) => bare_label(alloc, place.loc),
             UserError::StringEscape(faults) => bare_label(alloc, faults.loc),
@@ -82,10 +81,7 @@ impl UserError {
         }
     }
 
-    /// Its severity: an error.
-    pub fn severity(&self) -> Severity
-        ensures error { result ≡ Severity.Error }
-    {
+    fn severity(&self) -> Severity {
         Severity::Error
     }
 }

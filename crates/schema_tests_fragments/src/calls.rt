@@ -1,6 +1,6 @@
 // Calls that take memory on warnings, paths, types, actions and refused names.
 
-use cedar_data::{CloneIn, Label, Loc, Node, Text};
+use cedar_data::{CloneIn, Diagnostic, Label, Loc, Node, Text};
 use cedar_identifiers::{InternalName, NameText, RawName, UnreservedId};
 use schema_convert::{
     SchemaWarning, ShadowsBuiltinWarning, ShadowsEntityWarning, cedar_type_to_json_type,

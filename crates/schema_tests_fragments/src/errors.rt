@@ -1,14 +1,14 @@
 // What errors of resolution tell. A place of 0 stands for no place.
 
-use cedar_data::{Label, Loc, NonEmpty, Text};
+use cedar_data::{Diagnostic, Label, Loc, NonEmpty, Text};
 use cedar_identifiers::{ConditionalName, RawName, ReferenceType};
 use schema_json::ActionEntityUID;
 use schema_resolve::{ActionNotDefinedError, ResolveError, TypeNotDefinedError};
 use schema_tests_lines::{Wanted, answer_and_text};
 use std::alloc::{AllocError, Global};
 
-// What is told, then behind `|` the types as they are written, each with its place. The lines were written by hand, from the
-// wording of the messages.
+// What is told, then behind `|` the types as they are written, each with its place. The lines were written by hand,
+// from the wording of the messages.
 const TYPES: &str = "\
 failed to resolve type: X at 14|X@14
 failed to resolve types: X, N::Y at 14 at 20|X@14 N::Y@20

@@ -1,5 +1,5 @@
 use crate::json_shape_table::TEXTS;
-use cedar_data::{NonEmpty, Text};
+use cedar_data::{Diagnostic, NonEmpty, Text};
 use cedar_identifiers::RawName;
 use schema_json::Fragment;
 use schema_json_io::{FragmentJson, JsonAdvice, JsonDeserializationError, JsonFault};

@@ -1,5 +1,5 @@
 use crate::json_told_table::TOLD;
-use cedar_data::Text;
+use cedar_data::{Diagnostic, Text};
 use cedar_identifiers::RawName;
 use schema_json::Fragment;
 use schema_json_io::{FragmentJson, JsonDeserializationError};

@@ -1,7 +1,7 @@
 // How fragments of texts are printed, against a table.
 
 use crate::printed_table::printed_lines;
-use cedar_data::CloneIn;
+use cedar_data::{CloneIn, Diagnostic};
 use cedar_identifiers::RawName;
 use cedar_names::ExtensionTable;
 use schema_convert::parse_cedar_schema_fragment;

@@ -1,7 +1,7 @@
 // What the readers of names say of texts, and names made, compared, qualified, copied and written.
 
 use crate::name_table::{alike_lines, apart_lines, word_and_name_lines};
-use cedar_data::{CloneIn, Loc, Map, SharedMap, Text, lawful};
+use cedar_data::{CloneIn, Diagnostic, Loc, Map, SharedMap, Text, lawful};
 use cedar_identifiers::{
     Annotations, AnyId, ConditionalName, Eid, Id, InternalName, Name, NameFault, NameText, RawName,
     ReferenceType, UnreservedId,
@@ -20,8 +20,8 @@ fn says<T: Drop>(alloc: Global, answer: Result<T, NameFault>, wanted: &str) -> b
     }
 }
 
-// Is this what the reader with this number says: of any word, an id, an unreserved id, a name, a name without `__cedar`, and
-// a name as written?
+// Is this what the reader with this number says: of any word, an id, an unreserved id, a name, a name without
+// `__cedar`, and a name as written?
 fn reader_says(alloc: Global, reader: usize, s: &str, wanted: &str) -> bool {
     match reader {
         0 => says(alloc, AnyId::from_normalized_str(alloc, s), wanted),

@@ -2,7 +2,7 @@
 
 use crate::error_lines::find_user_error;
 use crate::message_table::message_lines;
-use cedar_data::{CloneIn, Loc, Node};
+use cedar_data::{CloneIn, Diagnostic, Loc, Node};
 use schema_syntax::{deduplicate_annotations, parse_schema};
 use schema_syntax_errors::{
     AnnotationError, ParseError, ParseErrors, ParseSchemaError, UserError, expected_text,

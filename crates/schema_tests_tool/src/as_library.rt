@@ -1,7 +1,7 @@
-// The front end used as a library. A schema is read, its fragment is printed, so is the fragment that is recovered of the
-// built schema, the types above a type are asked for, and a text that is no schema is refused.
+// The front end used as a library. A schema is read, its fragment is printed, so is the fragment that is recovered of
+// the built schema, the types above a type are asked for, and a text that is no schema is refused.
 
-use cedar_data::{Shared, Text};
+use cedar_data::{Diagnostic, Shared, Text};
 use cedar_identifiers::{Name, NameText, RawName};
 use cedar_names::ExtensionTable;
 use schema_build::{CedarSchemaError, FromCedarSchema, ValidatorSchema};
@@ -74,8 +74,8 @@ fn printed(alloc: Global, table: &ExtensionTable) -> Option<Text> {
     fragment.to_cedarschema(alloc).ok()
 }
 
-// The fragment that is recovered of the schema, printed: names in full, and no common type. There is none where memory is
-// wanted.
+// The fragment that is recovered of the schema, printed: names in full, and no common type. There is none where
+// memory is wanted.
 fn recovered(alloc: Global, table: &ExtensionTable) -> Option<Text> {
     let (schema, _) = ValidatorSchema::from_cedarschema_str(alloc, SCHEMA, table).ok()?;
     let fragment = schema.to_json_schema(alloc).ok()?;

@@ -1,8 +1,8 @@
-// Calls of the builder that no run of the program makes: schemas of parts, copies of parts and of faults, and what is told of a text
-// that is no schema.
+// Calls of the builder that no run of the program makes: schemas of parts, copies of parts and of faults, and what is
+// told of a text that is no schema.
 
 use crate::fault_table::{fault_lines, refusal_lines};
-use cedar_data::{Boxed, CloneIn, List, Map, NonEmpty, Shared, Text};
+use cedar_data::{Boxed, CloneIn, Diagnostic, List, Map, NonEmpty, Shared, Text};
 use cedar_identifiers::{Eid, Name, RawName};
 use cedar_names::{EntityUID, ExtensionTable};
 use schema_build::{CedarSchemaError, RecoveryError, SchemaError, ToTextError, ValidatorSchema};

@@ -1,5 +1,7 @@
-// What a text is recovered as, and why others are not. What errors say was told by the second program that the table is from.
+// What a text is recovered as, and why others are not. What errors say was told by the second program that the table
+// is from.
 
+use cedar_data::Diagnostic;
 use cedar_names::ExtensionTable;
 use cedar_schema_core::{RecoverError, Recovered, recover_schema};
 use schema_tests_lines::says;
